@@ -1,0 +1,15 @@
+//! The values that all parts of rvgprof speak of: records of a profile, lists, limits, and numbers
+//! as little-endian bytes.
+#![tactic(auto)]
+
+pub mod bytes;
+pub mod items;
+pub mod limits;
+pub mod records;
+
+pub use bytes::{le2, le4};
+pub use items::{BlockList, Counts, Items, Name, RecList, Totals};
+pub use records::{Form, RawArc, RawBlock, RawHist, Rec, Records, Span, Unit};
+
+#[cfg(test)]
+mod tests;
