@@ -1,0 +1,4 @@
+pub mod Laws
+pub mod Piecewise
+pub mod LoadLemmas
+pub mod EntryLemmas

@@ -1,0 +1,88 @@
+-- What a program does on the outside, and what that leaves in files and on the two outputs.
+use Rattle.std.specs.Prelude.{ℕ, Bool, true, false, List, [], ◌∷◌, ◌++◌, Option, Some, None, bytes_eq, if◌then◌else◌}
+
+-- a file: its name and its bytes
+abbrev pub File : Type 0
+File = List ℕ × List ℕ
+
+-- the bytes of the named file, none where there is no such file
+abbrev pub content_of : List ℕ → List File → List ℕ
+content_of name [] = []
+content_of name (file ∷ files) = if bytes_eq file.0 name then file.1 else content_of name files
+
+abbrev pub has_file : List ℕ → List File → Bool
+has_file name [] = false
+has_file name (file ∷ files) = if bytes_eq file.0 name then true else has_file name files
+
+-- the files once the named one has these bytes
+abbrev pub with_file : List ℕ → List ℕ → List File → List File
+with_file name bytes [] = (name, bytes) ∷ []
+with_file name bytes (file ∷ files) = if bytes_eq file.0 name then (file.0, bytes) ∷ files else file ∷ with_file name bytes files
+
+-- the files once the named one has these bytes more
+abbrev pub with_more : List ℕ → List ℕ → List File → List File
+with_more name bytes [] = []
+with_more name bytes (file ∷ files) = if bytes_eq file.0 name then (file.0, file.1 ++ bytes) ∷ files else file ∷ with_more name bytes files
+
+-- the files, and the name of the one that is being written
+pub record Disk : Type 0 where
+  pub files : List File
+  pub writing : Option (List ℕ)
+
+pub data Act : Type 0 where
+  -- make the named file empty, and begin to write it
+  Create : List ℕ → Act
+  -- write bytes at the end of the file that is being written
+  Write : List ℕ → Act
+  -- end the writing
+  Close : Act
+  -- print bytes on the output
+  Out : List ℕ → Act
+  -- print bytes on the error output
+  Err : List ℕ → Act
+
+-- the files once bytes were written to the one that is being written, if any is
+abbrev pub written : List ℕ → Option (List ℕ) → List File → List File
+written bytes None files = files
+written bytes (Some name) files = with_more name bytes files
+
+abbrev pub disk_after_act : Act → Disk → Disk
+disk_after_act (Create name) d = record { files = with_file name [] d.files; writing = Some name }
+disk_after_act (Write bytes) d = record { files = written bytes d.writing d.files; writing = d.writing }
+disk_after_act Close d = record { files = d.files; writing = None }
+disk_after_act (Out bytes) d = d
+disk_after_act (Err bytes) d = d
+
+abbrev pub disk_after : List Act → Disk → Disk
+disk_after [] d = d
+disk_after (act ∷ acts) d = disk_after acts (disk_after_act act d)
+
+-- what acts print on the output
+abbrev pub printed : List Act → List ℕ
+printed [] = []
+printed (Out bytes ∷ acts) = bytes ++ printed acts
+printed (Create name ∷ acts) = printed acts
+printed (Write bytes ∷ acts) = printed acts
+printed (Close ∷ acts) = printed acts
+printed (Err bytes ∷ acts) = printed acts
+
+-- what acts print on the error output
+abbrev pub complained : List Act → List ℕ
+complained [] = []
+complained (Err bytes ∷ acts) = bytes ++ complained acts
+complained (Create name ∷ acts) = complained acts
+complained (Write bytes ∷ acts) = complained acts
+complained (Close ∷ acts) = complained acts
+complained (Out bytes ∷ acts) = complained acts
+
+-- whether a file is being written after acts
+abbrev pub writes_after_act : Act → Bool → Bool
+writes_after_act (Create name) before = true
+writes_after_act (Write bytes) before = before
+writes_after_act Close before = false
+writes_after_act (Out bytes) before = before
+writes_after_act (Err bytes) before = before
+
+abbrev pub writes_after : List Act → Bool → Bool
+writes_after [] before = before
+writes_after (act ∷ acts) before = writes_after acts (writes_after_act act before)

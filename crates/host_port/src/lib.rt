@@ -1,0 +1,20 @@
+//! The outside of the program: a port that hosts implement, two hosts in memory, and the loops that
+//! load a file and that write or print a whole piece.
+#![tactic(auto)]
+
+pub mod acts;
+mod files;
+pub mod host;
+pub mod loading;
+pub mod mem_host;
+pub mod never_fails;
+pub mod pieces;
+
+pub use host::{Failed, Host};
+pub use loading::{LoadRefusal, load};
+pub use mem_host::MemHost;
+pub use never_fails::NeverFails;
+pub use pieces::{err_all_of, out_all_of, write_all_of};
+
+#[cfg(test)]
+mod tests;

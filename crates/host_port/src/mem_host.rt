@@ -1,0 +1,352 @@
+//! A host in memory.
+
+ghost use Rattle.std.specs.Prelude.{◌≡◌, ◌<◌, ◌↔◌, ◌⊎◌, [], ◌∷◌, ◌++◌, true, false, length, min, take, drop, Some, None, unwrap_or, option_map, if◌then◌else◌, Contains, IsErr, IsTrue, OnOk, OnErr, MatchOption};
+ghost use Rattle.host_port.specs.Act.{Write, Out, Err as Complain, content_of, has_file, with_file, written};
+ghost use Rattle.host_port.specs.Outside.{Rose};
+ghost use Rattle.host_port.specs.Host.{Opens, Moves, Creates, Takes, Closes, Reads, Writes, Complains};
+ghost use Rattle.host_port.specs.Memory.{empty_memory, outside_of, is_consistent, next_count, IsMarked, Called, Tallies};
+
+use crate::files;
+use crate::files::{Entry, Place};
+use crate::host::{Failed, Host};
+use std::alloc::{AllocError, Global};
+use std::marker::Model;
+
+/// What a host does with files at the moment.
+#[derive(Drop)]
+pub enum Stage {
+    Idle,
+    Reading(Place),
+    Writing(String),
+}
+
+/// Files and outputs in memory, and a list of calls that are to fail.
+///
+/// Calls of the trait fail exactly where their number is on that list or the file to be opened is
+/// missing, besides want of memory, which counts as a fault of the call. `open_input`, `read` and
+/// `close_output` take no memory.
+#[derive(Drop)]
+pub struct MemHost {
+    alloc: Global,
+    entries: Vec<Entry>,
+    stage: Stage,
+    out: Vec<u8>,
+    err: Vec<u8>,
+    calls: u64,
+    marks: Vec<u64>,
+    read_faults: u64,
+    write_faults: u64,
+    err_faults: u64,
+}
+
+impl Model for MemHost {
+    ghost use Rattle.host_port.specs.Memory.{Memory, rest_of, writing_of};
+    ghost use Rattle.host_port.specs.Entries.{files_of};
+
+    ghost Value = { Memory };
+
+    ghost view = { λ a. record {
+      files = files_of a.entries.items;
+      rest = rest_of (files_of a.entries.items) a.stage;
+      writing = writing_of a.stage;
+      out = a.out.items;
+      err = a.err.items;
+      calls = a.calls;
+      marks = a.marks.items;
+      read_faults = a.read_faults;
+      write_faults = a.write_faults;
+      err_faults = a.err_faults;
+    } };
+}
+
+fn is_marked(marks: &[u64], call: u64) -> bool
+    ensures { IsTrue result ↔ Contains marks.now call }
+{
+    marks.contains(&call)
+}
+
+impl MemHost {
+    /// A host with no files, which takes no memory yet.
+    pub fn new(alloc: Global) -> MemHost
+        ensures { result ≡ empty_memory }
+    {
+        MemHost {
+            alloc,
+            entries: Vec::new(alloc),
+            stage: Stage::Idle,
+            out: Vec::new(alloc),
+            err: Vec::new(alloc),
+            calls: 0,
+            marks: Vec::new(alloc),
+            read_faults: 0,
+            write_faults: 0,
+            err_faults: 0,
+        }
+    }
+
+    /// Gives the named file these bytes. An input that is open is closed.
+    pub fn put(&mut self, name: &str, bytes: &[u8]) -> Result<(), AllocError>
+        ensures done { OnOk result
+            (self.new ≡ record self.old { files = with_file name.now bytes.now self.old.files; rest = None }) }
+        ensures unchanged { OnErr result (self.new ≡ self.old) }
+    {
+        let bytes = Vec::from_slice(self.alloc, bytes)?;
+        files::set(self.alloc, &mut self.entries, name, bytes)?;
+        if let Stage::Reading(_) = &self.stage {
+            self.stage = Stage::Idle;
+        }
+        Ok(())
+    }
+
+    /// Marks a call of the trait that is to fail, by its number: all calls are counted together, from 0.
+    pub fn fail_at(&mut self, call: u64) -> Result<(), AllocError>
+        ensures marked { OnOk result
+            (self.new ≡ record self.old { marks = self.old.marks ++ call ∷ [] }) }
+        ensures unchanged { OnErr result (self.new ≡ self.old) }
+    {
+        self.marks.push(call)?;
+        Ok(())
+    }
+
+    /// The bytes of the named file, `None` exactly where there is no such file.
+    pub fn file(&self, name: &str) -> Option<&[u8]>
+        ensures { MatchOption result
+            (has_file name.now self.now.files ≡ false)
+            (λ bytes. (has_file name.now self.now.files ≡ true) × (bytes.now ≡ content_of name.now self.now.files)) }
+    {
+        files::content(self.entries.as_slice(), name)
+    }
+
+    /// What was printed on the output.
+    pub fn printed(&self) -> &[u8]
+        ensures { result.now ≡ self.now.out }
+    {
+        self.out.as_slice()
+    }
+
+    /// What was printed on the error output.
+    pub fn errors(&self) -> &[u8]
+        ensures { result.now ≡ self.now.err }
+    {
+        self.err.as_slice()
+    }
+
+    /// Counts a call, and answers whether it is to fail.
+    fn starts_call(&mut self) -> bool
+        ensures fails { IsTrue result ↔ IsMarked self.old }
+        ensures counted { self.new ≡ record self.old { calls = next_count self.old.calls } }
+    {
+        let fails = is_marked(self.marks.as_slice(), self.calls);
+        self.calls = self.calls.saturating_add(1);
+        fails
+    }
+
+    fn read_failed(&mut self) -> Failed
+        ensures counted { self.new ≡ record self.old { read_faults = next_count self.old.read_faults } }
+        ensures rose { Rose self.old.read_faults self.new.read_faults }
+    {
+        self.read_faults = self.read_faults.saturating_add(1);
+        Failed
+    }
+
+    fn write_failed(&mut self) -> Failed
+        ensures counted { self.new ≡ record self.old { write_faults = next_count self.old.write_faults } }
+        ensures rose { Rose self.old.write_faults self.new.write_faults }
+    {
+        self.write_faults = self.write_faults.saturating_add(1);
+        Failed
+    }
+
+    fn err_failed(&mut self) -> Failed
+        ensures counted { self.new ≡ record self.old { err_faults = next_count self.old.err_faults } }
+        ensures rose { Rose self.old.err_faults self.new.err_faults }
+    {
+        self.err_faults = self.err_faults.saturating_add(1);
+        Failed
+    }
+
+    /// Closes the input, if one is open.
+    fn close_input(&mut self)
+        ensures { self.new ≡ record self.old { rest = None } }
+    {
+        if let Stage::Reading(_) = &self.stage {
+            self.stage = Stage::Idle;
+        }
+    }
+
+    /// Opens the named file, if there is one, and answers whether there is.
+    fn begin_reading(&mut self, name: &str) -> bool
+        requires { self.old.writing ≡ None }
+        ensures found { result ≡ has_file name.now self.old.files }
+        ensures after { self.new ≡ record self.old {
+          rest = if has_file name.now self.old.files then Some (content_of name.now self.old.files) else None;
+        } }
+    {
+        match files::find(self.entries.as_slice(), name) {
+            Some(file) => {
+                self.stage = Stage::Reading(Place { file, at: 0 });
+                true
+            }
+            None => {
+                self.stage = Stage::Idle;
+                false
+            }
+        }
+    }
+
+    fn take_rest(&mut self, buf: &mut [u8]) -> usize
+        ensures number { result ≡ min (length buf.old) (length (unwrap_or self.old.rest [])) }
+        ensures bytes { take result buf.new ≡ take result (unwrap_or self.old.rest []) }
+        ensures after { self.new ≡ record self.old { rest = option_map (drop result) self.old.rest } }
+    {
+        match &mut self.stage {
+            Stage::Reading(place) => files::read_from(self.entries.as_slice(), place, buf),
+            _ => 0,
+        }
+    }
+
+    fn begin_writing(&mut self, name: &str) -> Result<(), AllocError>
+        ensures done { OnOk result (self.new ≡ record self.old {
+          files = with_file name.now [] self.old.files;
+          rest = None;
+          writing = Some name.now;
+        }) }
+        ensures unchanged { OnErr result (self.new ≡ self.old) }
+    {
+        let writing = String::from_str(self.alloc, name)?;
+        files::set(self.alloc, &mut self.entries, name, Vec::new(self.alloc))?;
+        self.stage = Stage::Writing(writing);
+        Ok(())
+    }
+
+    fn append(&mut self, piece: &[u8]) -> Result<(), AllocError>
+        ensures done { OnOk result (self.new ≡ record self.old {
+          files = written piece.now self.old.writing self.old.files;
+        }) }
+        ensures unchanged { OnErr result (self.new ≡ self.old) }
+    {
+        match &self.stage {
+            Stage::Writing(name) => files::append(&mut self.entries, name.as_str(), piece),
+            _ => Ok(()),
+        }
+    }
+
+    fn end_writing(&mut self)
+        ensures { self.new ≡ record self.old { writing = None } }
+    {
+        if let Stage::Writing(_) = &self.stage {
+            self.stage = Stage::Idle;
+        }
+    }
+}
+
+impl Host for MemHost {
+    ghost outside = { outside_of };
+
+    ghost consistent = { is_consistent };
+
+    fn open_input(&mut self, name: &str) -> Result<(), Failed>
+        requires { (outside_of self.old).is_writing ≡ false }
+        ensures opens { Opens name.now (outside_of self.old) (outside_of self.new) result }
+        ensures counts { Reads (outside_of self.old) (outside_of self.new) result }
+        ensures fails { IsErr result ↔ (IsMarked self.old ⊎ (has_file name.now self.old.files ≡ false)) }
+        ensures called { Called self.old self.new }
+        ensures tally { Tallies (λ m. m.read_faults) self.old self.new result }
+    {
+        let fails = self.starts_call();
+        self.close_input();
+        if fails || !self.begin_reading(name) {
+            return Err(self.read_failed());
+        }
+        Ok(())
+    }
+
+    fn read(&mut self, buf: &mut [u8]) -> Result<usize, Failed>
+        requires is_open { (outside_of self.old).is_open ≡ true }
+        requires some_room { 0 < length buf.old }
+        ensures moves { Moves buf.old buf.new (outside_of self.old) (outside_of self.new) result }
+        ensures counts { Reads (outside_of self.old) (outside_of self.new) result }
+        ensures fails { IsErr result ↔ IsMarked self.old }
+        ensures called { Called self.old self.new }
+        ensures tally { Tallies (λ m. m.read_faults) self.old self.new result }
+    {
+        if self.starts_call() {
+            return Err(self.read_failed());
+        }
+        Ok(self.take_rest(buf))
+    }
+
+    fn create_output(&mut self, name: &str) -> Result<(), Failed>
+        requires { (outside_of self.old).is_writing ≡ false }
+        ensures creates { Creates name.now (outside_of self.old) (outside_of self.new) result }
+        ensures counts { Writes (outside_of self.old) (outside_of self.new) result }
+        ensures fails { IsMarked self.old → IsErr result }
+        ensures called { Called self.old self.new }
+        ensures tally { Tallies (λ m. m.write_faults) self.old self.new result }
+    {
+        let fails = self.starts_call();
+        self.close_input();
+        if fails || self.begin_writing(name).is_err() {
+            return Err(self.write_failed());
+        }
+        Ok(())
+    }
+
+    fn write(&mut self, piece: &[u8]) -> Result<usize, Failed>
+        requires is_writing { (outside_of self.old).is_writing ≡ true }
+        requires some_bytes { 0 < length piece.now }
+        ensures takes { Takes Write piece.now (outside_of self.old) (outside_of self.new) result }
+        ensures counts { Writes (outside_of self.old) (outside_of self.new) result }
+        ensures fails { IsMarked self.old → IsErr result }
+        ensures called { Called self.old self.new }
+        ensures tally { Tallies (λ m. m.write_faults) self.old self.new result }
+    {
+        if self.starts_call() || self.append(piece).is_err() {
+            return Err(self.write_failed());
+        }
+        Ok(piece.len())
+    }
+
+    fn close_output(&mut self) -> Result<(), Failed>
+        ensures closes { Closes (outside_of self.old) (outside_of self.new) }
+        ensures counts { Writes (outside_of self.old) (outside_of self.new) result }
+        ensures fails { IsErr result ↔ IsMarked self.old }
+        ensures called { Called self.old self.new }
+        ensures tally { Tallies (λ m. m.write_faults) self.old self.new result }
+    {
+        let fails = self.starts_call();
+        self.end_writing();
+        if fails {
+            return Err(self.write_failed());
+        }
+        Ok(())
+    }
+
+    fn out(&mut self, piece: &[u8]) -> Result<usize, Failed>
+        requires { 0 < length piece.now }
+        ensures takes { Takes Out piece.now (outside_of self.old) (outside_of self.new) result }
+        ensures counts { Writes (outside_of self.old) (outside_of self.new) result }
+        ensures fails { IsMarked self.old → IsErr result }
+        ensures called { Called self.old self.new }
+        ensures tally { Tallies (λ m. m.write_faults) self.old self.new result }
+    {
+        if self.starts_call() || self.out.extend_from_slice(piece).is_err() {
+            return Err(self.write_failed());
+        }
+        Ok(piece.len())
+    }
+
+    fn err(&mut self, piece: &[u8]) -> Result<usize, Failed>
+        requires { 0 < length piece.now }
+        ensures takes { Takes Complain piece.now (outside_of self.old) (outside_of self.new) result }
+        ensures counts { Complains (outside_of self.old) (outside_of self.new) result }
+        ensures fails { IsMarked self.old → IsErr result }
+        ensures called { Called self.old self.new }
+        ensures tally { Tallies (λ m. m.err_faults) self.old self.new result }
+    {
+        if self.starts_call() || self.err.extend_from_slice(piece).is_err() {
+            return Err(self.err_failed());
+        }
+        Ok(piece.len())
+    }
+}

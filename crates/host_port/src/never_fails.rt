@@ -1,0 +1,146 @@
+//! A host that never fails.
+
+ghost use Rattle.std.specs.Prelude.{◌≡◌, ◌<◌, [], true, false, length, None, IsOk, OnOk, OnErr};
+ghost use Rattle.host_port.specs.Act.{Write, Out, Err as Complain, with_file};
+ghost use Rattle.host_port.specs.Host.{Opens, Moves, Creates, Takes, Closes, Reads, Writes, Complains};
+ghost use Rattle.host_port.specs.Never.{outside_of, is_consistent};
+
+use crate::files;
+use crate::files::{Entry, Place};
+use crate::host::{Failed, Host};
+use std::alloc::{AllocError, Global};
+use std::marker::Model;
+
+/// Input files in memory. A missing file reads as an empty one, what is written or printed is dropped,
+/// and no call fails. It tells its files until its first `create_output`, and no output. The seven
+/// calls of the trait take no memory.
+#[derive(Drop)]
+pub struct NeverFails {
+    alloc: Global,
+    entries: Vec<Entry>,
+    input: Option<Place>,
+    tells: bool,
+    is_writing: bool,
+}
+
+impl Model for NeverFails {
+    ghost use Rattle.host_port.specs.Never.{Never, rest_in};
+    ghost use Rattle.host_port.specs.Entries.{files_of};
+
+    ghost Value = { Never };
+
+    ghost view = { λ a. record {
+      files = files_of a.entries.items;
+      rest = rest_in (files_of a.entries.items) a.input;
+      tells = a.tells;
+      is_writing = a.is_writing;
+    } };
+}
+
+impl NeverFails {
+    /// A host with no files, which takes no memory yet.
+    pub fn new(alloc: Global) -> NeverFails
+        ensures { result ≡ record { files = []; rest = None; tells = true; is_writing = false } }
+    {
+        NeverFails {
+            alloc,
+            entries: Vec::new(alloc),
+            input: None,
+            tells: true,
+            is_writing: false,
+        }
+    }
+
+    /// Gives the named file these bytes. An input that is open is closed.
+    pub fn put(&mut self, name: &str, bytes: &[u8]) -> Result<(), AllocError>
+        ensures done { OnOk result
+            (self.new ≡ record self.old { files = with_file name.now bytes.now self.old.files; rest = None }) }
+        ensures unchanged { OnErr result (self.new ≡ self.old) }
+    {
+        let bytes = Vec::from_slice(self.alloc, bytes)?;
+        files::set(self.alloc, &mut self.entries, name, bytes)?;
+        self.input = None;
+        Ok(())
+    }
+}
+
+impl Host for NeverFails {
+    ghost outside = { outside_of };
+
+    ghost consistent = { is_consistent };
+
+    fn open_input(&mut self, name: &str) -> Result<(), Failed>
+        requires { (outside_of self.old).is_writing ≡ false }
+        ensures opens { Opens name.now (outside_of self.old) (outside_of self.new) result }
+        ensures counts { Reads (outside_of self.old) (outside_of self.new) result }
+        ensures succeeds { IsOk result }
+    {
+        self.input = Some(files::start_of(self.entries.as_slice(), name));
+        Ok(())
+    }
+
+    fn read(&mut self, buf: &mut [u8]) -> Result<usize, Failed>
+        requires is_open { (outside_of self.old).is_open ≡ true }
+        requires some_room { 0 < length buf.old }
+        ensures moves { Moves buf.old buf.new (outside_of self.old) (outside_of self.new) result }
+        ensures counts { Reads (outside_of self.old) (outside_of self.new) result }
+        ensures succeeds { IsOk result }
+    {
+        match &mut self.input {
+            Some(place) => Ok(files::read_from(self.entries.as_slice(), place, buf)),
+            None => Ok(0),
+        }
+    }
+
+    fn create_output(&mut self, _name: &str) -> Result<(), Failed>
+        requires { (outside_of self.old).is_writing ≡ false }
+        ensures creates { Creates _name.now (outside_of self.old) (outside_of self.new) result }
+        ensures counts { Writes (outside_of self.old) (outside_of self.new) result }
+        ensures succeeds { IsOk result }
+    {
+        self.input = None;
+        self.tells = false;
+        self.is_writing = true;
+        Ok(())
+    }
+
+    fn write(&mut self, piece: &[u8]) -> Result<usize, Failed>
+        requires is_writing { (outside_of self.old).is_writing ≡ true }
+        requires some_bytes { 0 < length piece.now }
+        ensures takes { Takes Write piece.now (outside_of self.old) (outside_of self.new) result }
+        ensures counts { Writes (outside_of self.old) (outside_of self.new) result }
+        ensures succeeds { IsOk result }
+    {
+        let _ = &self.tells;
+        Ok(piece.len())
+    }
+
+    fn close_output(&mut self) -> Result<(), Failed>
+        ensures closes { Closes (outside_of self.old) (outside_of self.new) }
+        ensures counts { Writes (outside_of self.old) (outside_of self.new) result }
+        ensures succeeds { IsOk result }
+    {
+        self.is_writing = false;
+        Ok(())
+    }
+
+    fn out(&mut self, piece: &[u8]) -> Result<usize, Failed>
+        requires { 0 < length piece.now }
+        ensures takes { Takes Out piece.now (outside_of self.old) (outside_of self.new) result }
+        ensures counts { Writes (outside_of self.old) (outside_of self.new) result }
+        ensures succeeds { IsOk result }
+    {
+        let _ = &self.tells;
+        Ok(piece.len())
+    }
+
+    fn err(&mut self, piece: &[u8]) -> Result<usize, Failed>
+        requires { 0 < length piece.now }
+        ensures takes { Takes Complain piece.now (outside_of self.old) (outside_of self.new) result }
+        ensures counts { Complains (outside_of self.old) (outside_of self.new) result }
+        ensures succeeds { IsOk result }
+    {
+        let _ = &self.tells;
+        Ok(piece.len())
+    }
+}
