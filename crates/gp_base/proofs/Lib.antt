@@ -1,1 +1,2 @@
 pub mod LittleEndian
+pub mod Cutting

@@ -1,5 +1,5 @@
 -- Numbers as lists of bytes, the lowest byte first.
-use Rattle.std.specs.Prelude.{ℕ, zero, suc, ◌+◌, ◌*◌, ◌/◌, ◌%◌, ◌<◌, List, [], ◌∷◌, slice_index}
+use Rattle.std.specs.Prelude.{ℕ, zero, suc, ◌+◌, ◌*◌, ◌/◌, ◌%◌, ◌<◌, List, [], ◌∷◌, take, drop, slice_index}
 
 -- the number that bytes stand for: the sum of byte j times 256 ^ j
 abbrev pub value_of : List ℕ → ℕ
@@ -14,3 +14,15 @@ le n (suc k) = n % 256 ∷ le (n / 256) k
 -- each item is a byte
 abbrev pub IsBytes : List ℕ → Type 0
 IsBytes bs = (i : ℕ) → slice_index bs i < 256
+
+-- the numbers in the two and in the four bytes at an offset
+abbrev pub half_at : List ℕ → ℕ → ℕ
+half_at bs at = value_of (take 2 (drop at bs))
+
+abbrev pub word_at : List ℕ → ℕ → ℕ
+word_at bs at = value_of (take 4 (drop at bs))
+
+-- the first n items of a text in which each takes w bytes
+abbrev pub cut : {X : Type 0} → ℕ → (List ℕ → X) → ℕ → List ℕ → List X
+cut w item zero bs = []
+cut w item (suc n) bs = item (take w bs) ∷ cut w item n (drop w bs)

@@ -6,10 +6,12 @@ pub mod bytes;
 pub mod items;
 pub mod limits;
 pub mod records;
+pub mod refusal;
 
 pub use bytes::{le2, le4};
 pub use items::{BlockList, Counts, Items, Name, RecList, Totals};
 pub use records::{Form, RawArc, RawBlock, RawHist, Rec, Records, Span, Unit};
+pub use refusal::GmonRefusal;
 
 #[cfg(test)]
 mod tests;

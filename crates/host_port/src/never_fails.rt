@@ -109,7 +109,7 @@ impl Host for NeverFails {
         requires some_bytes { 0 < length piece.now }
         ensures takes { Takes Write piece.now (outside_of self.old) (outside_of self.new) result }
         ensures counts { Writes (outside_of self.old) (outside_of self.new) result }
-        ensures succeeds { IsOk result }
+        ensures succeeds { result ≡ Ok (length piece.now) }
     {
         let _ = &self.tells;
         Ok(piece.len())
@@ -128,7 +128,7 @@ impl Host for NeverFails {
         requires { 0 < length piece.now }
         ensures takes { Takes Out piece.now (outside_of self.old) (outside_of self.new) result }
         ensures counts { Writes (outside_of self.old) (outside_of self.new) result }
-        ensures succeeds { IsOk result }
+        ensures succeeds { result ≡ Ok (length piece.now) }
     {
         let _ = &self.tells;
         Ok(piece.len())
@@ -138,7 +138,7 @@ impl Host for NeverFails {
         requires { 0 < length piece.now }
         ensures takes { Takes Complain piece.now (outside_of self.old) (outside_of self.new) result }
         ensures counts { Complains (outside_of self.old) (outside_of self.new) result }
-        ensures succeeds { IsOk result }
+        ensures succeeds { result ≡ Ok (length piece.now) }
     {
         let _ = &self.tells;
         Ok(piece.len())
