@@ -1,7 +1,7 @@
 -- Items of one width, one after the other.
-use Rattle.std.proofs.Common.{◌≡◌, ℕ, zero, suc, ◌+◌, ◌*◌, ◌≤◌, List, [], ◌∷◌, ◌++◌, length, take, drop, length-take, length-drop, length-append, refl, sym, ap, ◌∙◌, append_assoc, arith}
+use Rattle.std.proofs.Common.{◌≡◌, ◌-◌, ℕ, zero, suc, ◌+◌, ◌*◌, ◌≤◌, List, [], ◌∷◌, ◌++◌, length, take, drop, map, length-take, length-drop, length-append, refl, sym, ap, ◌∙◌, append_assoc, arith}
 use Rattle.std.specs.List.{flat_map, AllByRecursion}
-use Rattle.std.proofs.lemmas.List.{take_at, drop_at}
+use Rattle.std.proofs.lemmas.List.{take_at, drop_at, append-nil, take-take, drop-take}
 use Rattle.gp_base.specs.Bytes.{cut, IsBytes}
 use Rattle.gp_base.proofs.LittleEndian.{IsBytes-take, IsBytes-drop}
 
@@ -46,3 +46,32 @@ pub length-spelled : {X : Type 0} (w : ℕ) (spelling : X → List ℕ) → ((x 
 length-spelled w spelling long [] = omega arith
 length-spelled w spelling long (x ∷ xs) =
     omega (arith, length-append (spelling x) (flat_map spelling xs), long x, length-spelled w spelling long xs)
+
+-- one item more was cut
+pub cut_step : {X : Type 0} (w : ℕ) (item : List ℕ → X) (front all : List X) (x : X) (bs after : List ℕ) (n m : ℕ) → n ≡ suc m → after ≡ drop w bs → x ≡ item (take w bs) → front ++ cut w item n bs ≡ all → (front ++ x ∷ []) ++ cut w item m after ≡ all
+cut_step {X} w item front all x bs after n m more after_is x_is so_far =
+    ap (λ (v : List ℕ). (front ++ x ∷ []) ++ cut w item m v) after_is
+    ∙ append_assoc front (x ∷ []) (cut w item m (drop w bs))
+    ∙ ap (λ (v : X). front ++ v ∷ cut w item m (drop w bs)) x_is
+    ∙ ap (λ (k : ℕ). front ++ cut w item k bs) (sym more)
+    ∙ so_far
+
+-- nothing is left to be cut
+pub cut_end : {X : Type 0} (w : ℕ) (item : List ℕ → X) (front all : List X) (bs : List ℕ) (n : ℕ) → n ≡ 0 → front ++ cut w item n bs ≡ all → front ≡ all
+cut_end w item front all bs n none so_far =
+    sym (append-nil front) ∙ ap (λ (k : ℕ). front ++ cut w item k bs) (sym none) ∙ so_far
+
+pub map-cut : {X Y : Type 0} (f : X → Y) (w : ℕ) (item : List ℕ → X) (n : ℕ) (bs : List ℕ) → map f (cut w item n bs) ≡ cut w (λ b. f (item b)) n bs
+map-cut f w item zero bs = refl
+map-cut {X} {Y} f w item (suc n) bs = ap (λ (v : List Y). f (item (take w bs)) ∷ v) (map-cut f w item n (drop w bs))
+
+-- items within a front are those of the whole
+pub cut-take : {X : Type 0} (w : ℕ) (item : List ℕ → X) (n k : ℕ) (bs : List ℕ) → n * w ≤ k → cut w item n (take k bs) ≡ cut w item n bs
+cut-take w item zero k bs le = refl
+cut-take {X} w item (suc n) k bs le =
+    let e : suc n * w ≡ w + n * w = omega arith in
+    let split : k ≡ w + (k - w) = omega arith in
+    let rest : drop w (take k bs) ≡ take (k - w) (drop w bs) = ap (λ (m : ℕ). drop w (take m bs)) split ∙ drop-take w (k - w) bs in
+    ap (λ (v : List ℕ). item v ∷ cut w item n (drop w (take k bs))) (take-take w k bs (omega arith))
+    ∙ ap (λ (v : List ℕ). item (take w bs) ∷ cut w item n v) rest
+    ∙ ap (λ (v : List X). item (take w bs) ∷ v) (cut-take w item n (k - w) (drop w bs) (omega arith))

@@ -1,0 +1,4 @@
+pub mod Accepting
+pub mod Meaning
+pub mod Spelled
+pub mod WholeFile
