@@ -1,0 +1,157 @@
+//! A line that is filled from left to right.
+
+ghost use Rattle.std.specs.Prelude.{◌≡◌, ◌+◌, ◌-◌, ◌*◌, ◌^◌, ◌<◌, ◌≤◌, max, [], ◌++◌, length, decimal};
+ghost use Rattle.text_cols.specs.Columns.{hex8_of, hex_digit_of, hundredths_of, left_of, right_of, spaces};
+
+use itoa::Buffer;
+use std::marker::Model;
+
+/// A line of text: up to 256 bytes, held in place. Contracts see the list of its bytes.
+#[derive(Drop)]
+pub struct Line {
+    buffer: [u8; 256],
+    len: usize,
+}
+
+impl Model for Line {
+    ghost use Rattle.std.specs.Prelude.{ℕ, ◌≤◌, List, take};
+
+    ghost Value = { List ℕ };
+
+    ghost view = { λ a. take a.len a.buffer };
+
+    ghost invariant = { λ a. a.len ≤ 256 };
+}
+
+impl Line {
+    /// The empty line.
+    pub fn new() -> Line
+        ensures { result ≡ [] }
+    {
+        Line {
+            buffer: [0; 256],
+            len: 0,
+        }
+    }
+
+    /// How many bytes still fit.
+    pub fn room(&self) -> usize
+        ensures room { result ≡ 256 - length self.now }
+        ensures within { length self.now ≤ 256 }
+    {
+        256 - self.len
+    }
+
+    /// What the line holds.
+    pub fn bytes(&self) -> &[u8]
+        ensures bytes { result.now ≡ self.now }
+        ensures within { length self.now ≤ 256 }
+    {
+        &self.buffer[..self.len]
+    }
+
+    /// Makes the line empty.
+    pub fn clear(&mut self)
+        ensures { self.new ≡ [] }
+    {
+        self.len = 0;
+    }
+
+    /// Adds the text. It needs to fit.
+    pub fn put(&mut self, text: &[u8])
+        requires { length self.old + length text.now ≤ 256 }
+        ensures { self.new ≡ self.old ++ text.now }
+    {
+        let start = self.len;
+        let end = start + text.len();
+        self.buffer[start..end].copy_from_slice(text);
+        self.len = end;
+    }
+
+    /// Adds the text and then spaces, up to `width` bytes together. A text of `width` bytes or more
+    /// has none after it.
+    pub fn left(&mut self, text: &[u8], width: usize)
+        requires { length self.old + max width (length text.now) ≤ 256 }
+        ensures { self.new ≡ self.old ++ left_of text.now width }
+    {
+        self.put(text);
+        self.put_spaces(width.saturating_sub(text.len()));
+    }
+
+    /// Adds spaces and then the text, up to `width` bytes together. A text of `width` bytes or more
+    /// has one space before it.
+    pub fn right(&mut self, text: &[u8], width: usize)
+        requires { length self.old + max width (length text.now + 1) ≤ 256 }
+        ensures { self.new ≡ self.old ++ right_of text.now width }
+    {
+        self.put_spaces(width.saturating_sub(text.len()).max(1));
+        self.put(text);
+    }
+
+    /// Adds the decimal digits of the number: at most 39, and `0` for 0.
+    pub fn decimal(&mut self, n: u128)
+        requires { length self.old + length (decimal n) ≤ 256 }
+        ensures { self.new ≡ self.old ++ decimal n }
+    {
+        let mut digits = Buffer::new();
+        self.put(digits.format(n).as_bytes());
+    }
+
+    /// Adds the eight hexadecimal digits of the number, in lower case.
+    pub fn hex8(&mut self, n: u32)
+        requires { length self.old + 8 ≤ 256 }
+        ensures { self.new ≡ self.old ++ hex8_of n }
+    {
+        self.put(&hex_digits(n));
+    }
+
+    /// Adds `num / den` with two digits after the point, rounded to the nearest, a half up: 5 / 100
+    /// is `0.05`.
+    pub fn hundredths(&mut self, num: u128, den: u128)
+        requires divisor { 0 < den }
+        requires sum { 200 * num + den < 2 ^ 128 }
+        requires double { 2 * den < 2 ^ 128 }
+        requires room { length self.old + length (hundredths_of num den) ≤ 256 }
+        ensures { self.new ≡ self.old ++ hundredths_of num den }
+    {
+        let rounded = (200 * num + den) / (2 * den);
+        self.decimal(rounded / 100);
+        let tenths = (rounded % 100 / 10) as u8;
+        let rest = (rounded % 100 % 10) as u8;
+        self.put(&[b'.', b'0' + tenths, b'0' + rest]);
+    }
+
+    fn put_spaces(&mut self, n: usize)
+        requires { length self.old + n ≤ 256 }
+        ensures { self.new ≡ self.old ++ spaces n }
+    {
+        self.put(&[b' '; 256][..n]);
+    }
+}
+
+fn hex_digits(n: u32) -> [u8; 8]
+    ensures { result ≡ hex8_of n }
+{
+    [
+        hex_digit((n >> 28) % 16),
+        hex_digit((n >> 24) % 16),
+        hex_digit((n >> 20) % 16),
+        hex_digit((n >> 16) % 16),
+        hex_digit((n >> 12) % 16),
+        hex_digit((n >> 8) % 16),
+        hex_digit((n >> 4) % 16),
+        hex_digit(n % 16),
+    ]
+}
+
+fn hex_digit(digit: u32) -> u8
+    requires { digit < 16 }
+    ensures { result ≡ hex_digit_of digit }
+{
+    let digit = digit as u8;
+    if digit < 10 {
+        b'0' + digit
+    } else {
+        b'a' + (digit - 10)
+    }
+}

@@ -1,0 +1,9 @@
+//! A line of text with columns and numbers, in fixed room.
+#![tactic(auto)]
+
+pub mod columns;
+
+pub use columns::Line;
+
+#[cfg(test)]
+mod tests;
