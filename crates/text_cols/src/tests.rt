@@ -1,1 +1,62 @@
 use super::*;
+
+#[test]
+fn quotients_in_hundredths(rt: HostRuntime) {
+    for (num, den, want) in [
+        (5, 100, b"0.05".as_slice()),
+        (0, 7, b"0.00".as_slice()),
+        (1, 3, b"0.33".as_slice()),
+        (2, 3, b"0.67".as_slice()),
+        (1, 200, b"0.01".as_slice()),
+        (1, 201, b"0.00".as_slice()),
+        (12_345, 100, b"123.45".as_slice()),
+        (
+            1 << 120,
+            1,
+            b"1329227995784915872903807060280344576.00".as_slice(),
+        ),
+        (1, 1 << 126, b"0.00".as_slice()),
+    ] {
+        let mut line = Line::new();
+        line.hundredths(num, den);
+        assert_eq!(rt; line.bytes(), want, "{num} / {den}");
+    }
+}
+
+#[test]
+fn columns_of_text(rt: HostRuntime) {
+    for (text, at_left, at_right) in [
+        (b"".as_slice(), b"    ".as_slice(), b"    ".as_slice()),
+        (b"ab".as_slice(), b"ab  ".as_slice(), b"  ab".as_slice()),
+        (b"abcd".as_slice(), b"abcd".as_slice(), b" abcd".as_slice()),
+        (
+            b"abcdef".as_slice(),
+            b"abcdef".as_slice(),
+            b" abcdef".as_slice(),
+        ),
+    ] {
+        let mut line = Line::new();
+        line.left(text, 4);
+        assert_eq!(rt; line.bytes(), at_left, "at the left");
+        line.clear();
+        line.right(text, 4);
+        assert_eq!(rt; line.bytes(), at_right, "at the right");
+    }
+}
+
+#[test]
+fn numbers_and_room(rt: HostRuntime) {
+    let mut line = Line::new();
+    line.put(b"n ");
+    line.decimal(0);
+    line.put(b" ");
+    line.hex8(0x0abc_def9);
+    assert_eq!(rt; line.bytes(), b"n 0 0abcdef9".as_slice());
+    assert_eq!(rt; line.room(), 244);
+    line.clear();
+    line.decimal(u128::MAX);
+    assert_eq!(rt;
+        line.bytes(),
+        b"340282366920938463463374607431768211455".as_slice()
+    );
+}

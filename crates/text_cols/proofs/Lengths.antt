@@ -1,0 +1,42 @@
+-- How many bytes a column or a number takes.
+use Rattle.std.proofs.Common.{◌≡◌, ℕ, ◌+◌, ◌-◌, ◌*◌, ◌/◌, ◌%◌, ◌^◌, ◌<◌, ◌≤◌, max, List, [], ◌∷◌, ◌++◌, length, decimal, refl, arith, length-append, lit≤}
+use Rattle.std.proofs.lemmas.List.{length-replicate}
+use Rattle.std.proofs.lemmas.Fmt.{length-decimal-le_wide}
+use Rattle.text_cols.specs.Columns.{left_of, right_of, spaces, hex8_of, hundredths_of, rounded, pointed}
+
+pub length-spaces : (n : ℕ) → length (spaces n) ≡ n
+length-spaces n = length-replicate n 32
+
+-- a column takes its width, or what the text needs
+pub length-left_of : (text : List ℕ) (width : ℕ) → length (left_of text width) ≡ max width (length text)
+unfolding left_of
+length-left_of text width =
+    omega (arith, length-append text (spaces (width - length text)), length-spaces (width - length text))
+
+pub length-right_of : (text : List ℕ) (width : ℕ) → length (right_of text width) ≡ max width (length text + 1)
+unfolding right_of
+length-right_of text width =
+    let n = max (width - length text) 1 in
+    omega (arith, length-append (spaces (max (width - length text) 1)) text, length-spaces (max (width - length text) 1))
+
+pub length-hex8_of : (n : ℕ) → length (hex8_of n) ≡ 8
+unfolding hex8_of
+length-hex8_of n = refl
+
+-- decimal digits of numbers of 16, 32, 64 and 128 bits
+pub length-decimal_16 : (n : ℕ) → n < 2 ^ 16 → length (decimal n) ≤ 5
+length-decimal_16 n h = length-decimal-le_wide 5 n (omega arith) (omega arith) (omega arith)
+
+pub length-decimal_32 : (n : ℕ) → n < 2 ^ 32 → length (decimal n) ≤ 10
+length-decimal_32 n h = length-decimal-le_wide 10 n (omega arith) (omega arith) (omega arith)
+
+pub length-decimal_64 : (n : ℕ) → n < 2 ^ 64 → length (decimal n) ≤ 20
+length-decimal_64 n h = length-decimal-le_wide 20 n (omega arith) (omega arith) (omega arith)
+
+pub length-decimal_128 : (n : ℕ) → n < 2 ^ 128 → length (decimal n) ≤ 39
+length-decimal_128 n h = length-decimal-le_wide 39 n (omega arith) (omega arith) (omega arith)
+
+-- a point and two digits follow the whole ones
+pub length-hundredths_of : (num den : ℕ) → length (hundredths_of num den) ≡ length (decimal (rounded num den / 100)) + 3
+unfolding hundredths_of
+length-hundredths_of num den = length-append (decimal (rounded num den / 100)) _
