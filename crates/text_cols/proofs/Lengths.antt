@@ -1,8 +1,9 @@
 -- How many bytes a column or a number takes.
-use Rattle.std.proofs.Common.{◌≡◌, ℕ, ◌+◌, ◌-◌, ◌*◌, ◌/◌, ◌%◌, ◌^◌, ◌<◌, ◌≤◌, max, List, [], ◌∷◌, ◌++◌, length, decimal, refl, arith, length-append, lit≤}
+use Rattle.std.proofs.Common.{◌≡◌, ℕ, ◌+◌, ◌-◌, ◌*◌, ◌/◌, ◌^◌, ◌<◌, ◌≤◌, max, List, length, decimal, refl, arith, length-append}
 use Rattle.std.proofs.lemmas.List.{length-replicate}
+use Rattle.std.proofs.Math.Nat.{div-le_self}
 use Rattle.std.proofs.lemmas.Fmt.{length-decimal-le_wide}
-use Rattle.text_cols.specs.Columns.{left_of, right_of, spaces, hex8_of, hundredths_of, rounded, pointed}
+use Rattle.text_cols.specs.Columns.{left_of, right_of, spaces, hex8_of, hundredths_of, rounded}
 
 pub length-spaces : (n : ℕ) → length (spaces n) ≡ n
 length-spaces n = length-replicate n 32
@@ -40,3 +41,12 @@ length-decimal_128 n h = length-decimal-le_wide 39 n (omega arith) (omega arith)
 pub length-hundredths_of : (num den : ℕ) → length (hundredths_of num den) ≡ length (decimal (rounded num den / 100)) + 3
 unfolding hundredths_of
 length-hundredths_of num den = length-append (decimal (rounded num den / 100)) _
+
+-- what a quotient that meets the conditions of `hundredths` takes at most
+pub length-hundredths_of-le : (num den : ℕ) → 200 * num + den < 2 ^ 128 → length (hundredths_of num den) ≤ 42
+length-hundredths_of-le num den h =
+    let small : rounded num den / 100 < 2 ^ 128 = omega (arith, div-le_self (200 * num + den) (2 * den)) in
+    omega (arith, length-hundredths_of num den, length-decimal_128 (rounded num den / 100) small)
+
+-- what the calls of a line ask of its room
+pub ruleset lengths = (length-left_of, length-right_of, length-hex8_of, length-decimal_16, length-decimal_32, length-decimal_64, length-decimal_128, length-hundredths_of-le)

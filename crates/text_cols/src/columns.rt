@@ -60,7 +60,8 @@ impl Line {
     /// Adds the text. It needs to fit.
     pub fn put(&mut self, text: &[u8])
         requires { length self.old + length text.now ≤ 256 }
-        ensures { self.new ≡ self.old ++ text.now }
+        ensures bytes { self.new ≡ self.old ++ text.now }
+        ensures len { length self.new ≡ length self.old + length text.now }
     {
         let start = self.len;
         let end = start + text.len();
@@ -72,7 +73,8 @@ impl Line {
     /// has none after it.
     pub fn left(&mut self, text: &[u8], width: usize)
         requires { length self.old + max width (length text.now) ≤ 256 }
-        ensures { self.new ≡ self.old ++ left_of text.now width }
+        ensures bytes { self.new ≡ self.old ++ left_of text.now width }
+        ensures len { length self.new ≡ length self.old + max width (length text.now) }
     {
         self.put(text);
         self.put_spaces(width.saturating_sub(text.len()));
@@ -82,7 +84,8 @@ impl Line {
     /// has one space before it.
     pub fn right(&mut self, text: &[u8], width: usize)
         requires { length self.old + max width (length text.now + 1) ≤ 256 }
-        ensures { self.new ≡ self.old ++ right_of text.now width }
+        ensures bytes { self.new ≡ self.old ++ right_of text.now width }
+        ensures len { length self.new ≡ length self.old + max width (length text.now + 1) }
     {
         self.put_spaces(width.saturating_sub(text.len()).max(1));
         self.put(text);
@@ -91,7 +94,8 @@ impl Line {
     /// Adds the decimal digits of the number: at most 39, and `0` for 0.
     pub fn decimal(&mut self, n: u128)
         requires { length self.old + length (decimal n) ≤ 256 }
-        ensures { self.new ≡ self.old ++ decimal n }
+        ensures bytes { self.new ≡ self.old ++ decimal n }
+        ensures len { length self.new ≡ length self.old + length (decimal n) }
     {
         let mut digits = Buffer::new();
         self.put(digits.format(n).as_bytes());
@@ -100,7 +104,8 @@ impl Line {
     /// Adds the eight hexadecimal digits of the number, in lower case.
     pub fn hex8(&mut self, n: u32)
         requires { length self.old + 8 ≤ 256 }
-        ensures { self.new ≡ self.old ++ hex8_of n }
+        ensures bytes { self.new ≡ self.old ++ hex8_of n }
+        ensures len { length self.new ≡ length self.old + 8 }
     {
         self.put(&hex_digits(n));
     }
@@ -112,7 +117,8 @@ impl Line {
         requires sum { 200 * num + den < 2 ^ 128 }
         requires double { 2 * den < 2 ^ 128 }
         requires room { length self.old + length (hundredths_of num den) ≤ 256 }
-        ensures { self.new ≡ self.old ++ hundredths_of num den }
+        ensures bytes { self.new ≡ self.old ++ hundredths_of num den }
+        ensures len { length self.new ≡ length self.old + length (hundredths_of num den) }
     {
         let rounded = (200 * num + den) / (2 * den);
         self.decimal(rounded / 100);
@@ -123,7 +129,8 @@ impl Line {
 
     fn put_spaces(&mut self, n: usize)
         requires { length self.old + n ≤ 256 }
-        ensures { self.new ≡ self.old ++ spaces n }
+        ensures bytes { self.new ≡ self.old ++ spaces n }
+        ensures len { length self.new ≡ length self.old + n }
     {
         self.put(&[b' '; 256][..n]);
     }

@@ -1,6 +1,7 @@
 use super::*;
 
 #[test]
+#[tactic(auto, using(crate::proofs::Lengths::lengths))]
 fn quotients_in_hundredths(rt: HostRuntime) {
     for (num, den, want) in [
         (5, 100, b"0.05".as_slice()),
@@ -45,6 +46,7 @@ fn columns_of_text(rt: HostRuntime) {
 }
 
 #[test]
+#[tactic(auto, using(crate::proofs::Lengths::lengths))]
 fn numbers_and_room(rt: HostRuntime) {
     let mut line = Line::new();
     line.put(b"n ");

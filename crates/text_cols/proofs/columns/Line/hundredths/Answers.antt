@@ -1,4 +1,4 @@
-use Rattle.std.proofs.Common.{append_assoc, length-append, refl, arith, ap, length}
+use Rattle.std.proofs.Common.{append_assoc, refl, arith}
 use Rattle.text_cols.specs.Columns.{hundredths_of}
 use Rattle.text_cols.proofs.Lengths.{length-hundredths_of}
 use Rattle.text_cols.proofs.columns.Line.hundredths.Goals as goal
@@ -7,9 +7,11 @@ pub decimal-requires : goal.decimal-requires
 decimal-requires c = omega (arith, length-hundredths_of c.args.num c.args.den)
 
 pub put-requires : goal.put-requires
-put-requires c =
-    omega (arith, length-hundredths_of c.args.num c.args.den, simp length-append at (ap length c.decimal.ensures))
+put-requires c = omega (arith, length-hundredths_of c.args.num c.args.den)
 
-pub returns : goal.returns
+pub returns-clause-bytes : goal.returns-clause-bytes
 unfolding hundredths_of
-returns c = rw (c.put.ensures, c.decimal.ensures, append_assoc) refl
+returns-clause-bytes c = rw (c.put.ensures.bytes, c.decimal.ensures.bytes, append_assoc) refl
+
+pub returns-clause-len : goal.returns-clause-len
+returns-clause-len c = omega (arith, length-hundredths_of c.args.num c.args.den)
