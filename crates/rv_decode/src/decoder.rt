@@ -119,17 +119,16 @@ fn with_registers_00(word: u32) -> Option<Instr>
     requires funct7 { field word 25 7 ≡ 0x00 }
     ensures { result ≡ instr_of word }
 {
-    let op = match funct3(word) {
-        0 => Op::Add,
-        1 => Op::Sll,
-        2 => Op::Slt,
-        3 => Op::Sltu,
-        4 => Op::Xor,
-        5 => Op::Srl,
-        6 => Op::Or,
-        _ => Op::And,
-    };
-    Some(register(op, word))
+    match funct3(word) {
+        0 => Some(register(Op::Add, word)),
+        1 => Some(register(Op::Sll, word)),
+        2 => Some(register(Op::Slt, word)),
+        3 => Some(register(Op::Sltu, word)),
+        4 => Some(register(Op::Xor, word)),
+        5 => Some(register(Op::Srl, word)),
+        6 => Some(register(Op::Or, word)),
+        _ => Some(register(Op::And, word)),
+    }
 }
 
 fn with_registers_20(word: u32) -> Option<Instr>
@@ -149,17 +148,16 @@ fn with_registers_01(word: u32) -> Option<Instr>
     requires funct7 { field word 25 7 ≡ 0x01 }
     ensures { result ≡ instr_of word }
 {
-    let op = match funct3(word) {
-        0 => Op::Mul,
-        1 => Op::Mulh,
-        2 => Op::Mulhsu,
-        3 => Op::Mulhu,
-        4 => Op::Div,
-        5 => Op::Divu,
-        6 => Op::Rem,
-        _ => Op::Remu,
-    };
-    Some(register(op, word))
+    match funct3(word) {
+        0 => Some(register(Op::Mul, word)),
+        1 => Some(register(Op::Mulh, word)),
+        2 => Some(register(Op::Mulhsu, word)),
+        3 => Some(register(Op::Mulhu, word)),
+        4 => Some(register(Op::Div, word)),
+        5 => Some(register(Op::Divu, word)),
+        6 => Some(register(Op::Rem, word)),
+        _ => Some(register(Op::Remu, word)),
+    }
 }
 
 fn fence(word: u32) -> Option<Instr>
