@@ -1,7 +1,7 @@
 -- The row of a word by its opcode, funct3 and funct7.
-use Rattle.std.proofs.Common.{◌≡◌, ℕ, ◌+◌, ◌*◌, ◌/◌, ◌%◌, ◌^◌, ◌-◌, ◌<◌, Bool, true, false, ◌&&◌, ◌==◌, cond, List, [], ◌∷◌, Option, Some, None, bit_and, option_map, find, refl, sym, ap, ◌∙◌, arith, eqb, lit<, subst, inl, inr, ◌≢◌}
+use Rattle.std.proofs.Common.{◌≡◌, ℕ, ◌+◌, ◌*◌, ◌/◌, ◌%◌, ◌^◌, ◌<◌, Bool, true, false, ◌&&◌, ◌==◌, cond, List, [], ◌∷◌, Option, Some, None, bit_and, option_map, find, refl, sym, ap, ◌∙◌, arith, lit<, subst, inl, inr, ◌≢◌}
 use Rattle.std.specs.List.{list_all}
-use Rattle.std.proofs.lemmas.Nat.{and_mask, and_block, mod_below}
+use Rattle.std.proofs.lemmas.Nat.{and_mask, and_block}
 use Rattle.std.proofs.lemmas.Bool.{and_parts, eqb-true, ne_eqb, cases_Bool}
 use Rattle.std.proofs.lemmas.Bool.Decides.{nat_tests}
 use Rattle.rv_decode.specs.Fields.{field}

@@ -71,7 +71,7 @@ abbrev pub offset_text : ℤ → ℕ → List ℕ
 offset_text imm r = signed_decimal imm ++ codes "(" ++ register_text r ++ codes ")"
 
 -- bits 31..12 of the immediate, in five digits
-abbrev pub upper_text : ℤ → List ℕ
+unfoldable pub upper_text : ℤ → List ℕ
 upper_text imm = codes "0x" ++ hex_of 5 (cast_unsigned w32 imm / 2 ^ 12)
 
 -- where a jump or a branch at pc goes, modulo 2 ^ 32

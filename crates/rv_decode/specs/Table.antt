@@ -1,6 +1,6 @@
 -- The instructions of RV32I, M and Zifencei: the table of the RISC-V unprivileged manual, "RV32/64G
 -- Instruction Set Listings".
-use Rattle.std.specs.Prelude.{◌≡◌, ℕ, ◌/◌, ◌%◌, ◌^◌, ◌<◌, Bool, List, [], ◌∷◌, ℤ, pos, ◌==◌, bit_and, Option}
+use Rattle.std.specs.Prelude.{◌≡◌, ℕ, ◌/◌, ◌%◌, ◌^◌, List, [], ◌∷◌, ℤ, pos, ◌==◌, bit_and, Option}
 use Rattle.std.specs.Option.{option_map}
 use Rattle.std.specs.List.{find}
 use Rattle.std.proofs.Common.{lit<}

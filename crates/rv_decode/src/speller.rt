@@ -11,6 +11,7 @@ use text_cols::Line;
 
 /// Adds the spelling of an instruction at `pc`: its name and, after a space, its operands, as in
 /// `lw x1, 12(x2)` and `bne x5, x0, 0x00010054`. It takes at most 48 bytes.
+#[tactic(auto, unfolding(crate::specs::Spelling::spelling_of))]
 pub fn spell(instr: &Instr, pc: u32, line: &mut Line)
     requires { length line.old + 48 ≤ 256 }
     ensures spelling { line.new ≡ line.old ++ spelling_of instr.now pc }
@@ -61,6 +62,7 @@ fn put_operands(instr: &Instr, pc: u32, line: &mut Line)
     }
 }
 
+#[tactic(auto, using(crate::proofs::Texts::length_register))]
 fn put_register(mark: &[u8], r: u32, line: &mut Line)
     requires register { r < 32 }
     requires room { length line.old + length mark.now + 3 ≤ 256 }
@@ -72,6 +74,7 @@ fn put_register(mark: &[u8], r: u32, line: &mut Line)
     line.decimal(u128::from(r));
 }
 
+#[tactic(auto, using(crate::proofs::Texts::length_constant))]
 fn put_constant(mark: &[u8], imm: i32, line: &mut Line)
     requires { length line.old + length mark.now + 11 ≤ 256 }
     ensures text { line.new ≡ line.old ++ (mark.now ++ signed_decimal imm) }
@@ -114,7 +117,8 @@ fn put_upper(mark: &[u8], imm: i32, line: &mut Line)
     digits.hex8(imm.cast_unsigned() >> 12);
     line.put(mark);
     line.put(b"0x");
-    line.put(&digits.bytes()[3..]);
+    let (_, low) = digits.bytes().split_at(3);
+    line.put(low);
 }
 
 fn name(op: Op) -> &'static [u8]

@@ -1,4 +1,4 @@
-use Rattle.std.proofs.Common.{Some, sym, ap, ◌∙◌, refl, arith}
+use Rattle.std.proofs.Common.{Some, sym, ap, ◌∙◌, arith}
 use Rattle.rv_decode.specs.Table.{table, row_of, instr_of}
 use Rattle.rv_decode.proofs.Rows.{at_opcode, no_system}
 use Rattle.rv_decode.proofs.decoder.system.Goals as goal

@@ -1,5 +1,4 @@
-use Rattle.std.proofs.Common.{Some, sym, ap, ◌∙◌, refl, arith}
-use Rattle.rv_decode.specs.Table.{table}
+use Rattle.std.proofs.Common.{sym, ◌∙◌, arith}
 use Rattle.rv_decode.proofs.Rows.{at_opcode, no_funct7}
 use Rattle.rv_decode.proofs.decoder.with_registers.Goals as goal
 

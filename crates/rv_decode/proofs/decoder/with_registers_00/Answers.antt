@@ -1,4 +1,4 @@
-use Rattle.std.proofs.Common.{Some, sym, ap, ◌∙◌, refl, arith}
+use Rattle.std.proofs.Common.{Some, sym, ap, ◌∙◌, arith}
 use Rattle.rv_decode.specs.Table.{table}
 use Rattle.rv_decode.proofs.Rows.{at_funct7}
 use Rattle.rv_decode.proofs.decoder.with_registers_00.Goals as goal
