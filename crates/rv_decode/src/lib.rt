@@ -6,6 +6,7 @@ mod fields;
 mod forms;
 pub mod instruction;
 pub mod speller;
+pub mod table;
 
 pub use decoder::decode;
 pub use instruction::{Instr, Op};
