@@ -1,9 +1,9 @@
 -- What the table as a whole says.
-use Rattle.std.proofs.Common.{◌≡◌, ℕ, zero, suc, ◌<◌, Bool, true, false, not, ◌&&◌, ◌==◌, List, [], ◌∷◌, Option, Some, None, bit_and, length, get_or, find, refl, sym, ap, ◌∙◌, arith, subst, inl, inr, All, AllPairs, Contains, MatchOption}
+use Rattle.std.proofs.Common.{◌≡◌, ℕ, zero, suc, ◌<◌, Bool, true, false, not, ◌&&◌, ◌==◌, List, [], ◌∷◌, Option, Some, None, bit_and, length, get_or, find, refl, sym, ap, ◌∙◌, arith, inl, inr, All, AllPairs, Contains, MatchOption}
 use Rattle.std.specs.List.{list_all}
 use Rattle.std.proofs.lemmas.Nat.{and_assoc, and_comm}
 use Rattle.std.proofs.lemmas.List.Sums.{AllPass-from_list_all}
-use Rattle.std.proofs.lemmas.Bool.{and_parts, eqb-true, eqb-false, eq-eqb, cases_Bool, both_ways, not-true}
+use Rattle.std.proofs.lemmas.Bool.{and_parts, eqb-true, eqb-false, cases_Bool, not-true}
 use Rattle.rv_decode.specs.Table.{Row, table, row_of, Matches}
 
 -- two rows differ in a bit that both masks have
