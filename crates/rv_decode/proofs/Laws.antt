@@ -1,0 +1,65 @@
+-- What the table as a whole says.
+use Rattle.std.proofs.Common.{◌≡◌, ℕ, zero, suc, ◌<◌, Bool, true, false, not, ◌&&◌, ◌==◌, List, [], ◌∷◌, Option, Some, None, bit_and, length, get_or, find, refl, sym, ap, ◌∙◌, arith, inl, inr, All, AllPairs, Contains, MatchOption}
+use Rattle.std.specs.List.{list_all}
+use Rattle.std.proofs.lemmas.Nat.{and_assoc, and_comm}
+use Rattle.std.proofs.lemmas.List.Sums.{AllPass-from_list_all}
+use Rattle.std.proofs.lemmas.Bool.{and_parts, eqb-true, eqb-false, cases_Bool, not-true}
+use Rattle.rv_decode.specs.Table.{Row, table, row_of, Matches}
+
+-- two rows differ in a bit that both masks have
+abbrev apart : Row → Row → Bool
+apart r s = not (bit_and r.bits s.mask == bit_and s.bits r.mask)
+
+abbrev all_apart : List Row → Bool
+all_apart [] = true
+all_apart (r ∷ rs) = list_all (apart r) rs && all_apart rs
+
+table_apart : all_apart table ≡ true
+unfolding table
+table_apart = refl
+
+apart_at : (rs : List Row) → all_apart rs ≡ true → (i j : ℕ) (d : Row) → i < j → j < length rs → apart (get_or rs i d) (get_or rs j d) ≡ true
+apart_at [] h i j d p q = absurd (omega arith)
+apart_at (r ∷ rs) h zero zero d p q = absurd (omega arith)
+apart_at (r ∷ rs) h zero (suc j) d p q =
+    AllPass-from_list_all (apart r) rs (and_parts (list_all (apart r) rs) (all_apart rs) h).0 j d (omega arith)
+apart_at (r ∷ rs) h (suc i) zero d p q = absurd (omega arith)
+apart_at (r ∷ rs) h (suc i) (suc j) d p q =
+    apart_at rs (and_parts (list_all (apart r) rs) (all_apart rs) h).1 i j d (omega arith) (omega arith)
+
+not_both : (w : ℕ) (r s : Row) → apart r s ≡ true → ¬ (Matches w r × Matches w s)
+not_both w r s h m =
+    let left : bit_and r.bits s.mask ≡ bit_and w (bit_and r.mask s.mask) = ap (λ n. bit_and n s.mask) (sym m.0) ∙ and_assoc s.mask w r.mask in
+    let right : bit_and s.bits r.mask ≡ bit_and w (bit_and s.mask r.mask) = ap (λ n. bit_and n r.mask) (sym m.1) ∙ and_assoc r.mask w s.mask in
+    let same : bit_and r.bits s.mask ≡ bit_and s.bits r.mask = left ∙ ap (λ n. bit_and w n) (and_comm r.mask s.mask) ∙ sym right in
+    eqb-false _ _ (not-true _ h) same
+
+-- no word matches two rows
+pub one_row : (w : ℕ) → AllPairs (λ r s. ¬ (Matches w r × Matches w s)) table
+one_row w i j d p q = not_both w (get_or table i d) (get_or table j d) (apart_at table table_apart i j d p q)
+
+-- what a search tells
+find_none : {X : Type 0} (p : X → Bool) (xs : List X) → find p xs ≡ None → (k : ℕ) (d : X) → k < length xs → p (get_or xs k d) ≡ false
+find_none p [] h k d l = absurd (omega arith)
+find_none p (x ∷ xs) h zero d l =
+    elim (cases_Bool (p x)) [ inl t ↦ let e = rw t at h in cc | inr f ↦ f ]
+find_none p (x ∷ xs) h (suc k) d l =
+    elim (cases_Bool (p x)) [ inl t ↦ let e = rw t at h in cc | inr f ↦ find_none p xs (rw f at h) k d (omega arith) ]
+
+find_some : {X : Type 0} (p : X → Bool) (xs : List X) (y : X) → find p xs ≡ Some y → Contains xs y × (p y ≡ true)
+find_some p [] y h = cc
+find_some p (x ∷ xs) y h =
+    elim (cases_Bool (p x)) [
+      | inl t ↦ let e : x ≡ y = (let e = rw t at h in cc) in ((zero, omega arith, e), ap p (sym e) ∙ t)
+      | inr f ↦ let rest = find_some p xs y (rw f at h) in ((suc rest.0.0, omega (arith, rest.0.1), rest.0.2), rest.1)
+    ]
+
+tells : (w : ℕ) (o : Option Row) → row_of w ≡ o → MatchOption o (All (λ r. ¬ (Matches w r)) table) (λ r. Contains table r × Matches w r)
+unfolding row_of
+tells w None e = λ k d l. eqb-false _ _ (find_none (λ r. bit_and w r.mask == r.bits) table e k d l)
+tells w (Some r) e =
+    let found = find_some (λ r. bit_and w r.mask == r.bits) table r e in (found.0, eqb-true _ _ found.1)
+
+-- the row of a word is one that it matches, and there is none only where it matches none
+pub row_tells : (w : ℕ) → MatchOption (row_of w) (All (λ r. ¬ (Matches w r)) table) (λ r. Contains table r × Matches w r)
+row_tells w = tells w (row_of w) refl

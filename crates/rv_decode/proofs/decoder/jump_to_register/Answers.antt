@@ -1,0 +1,12 @@
+use Rattle.std.proofs.Common.{Some, sym, ap, ◌∙◌, refl, arith}
+use Rattle.rv_decode.specs.Table.{table}
+use Rattle.rv_decode.proofs.Rows.{at_funct3, no_jump}
+use Rattle.rv_decode.proofs.decoder.jump_to_register.Goals as goal
+
+pub returns-in-0 : goal.returns-in-0
+unfolding table
+returns-in-0 c = ap Some c.immediate.ensures ∙ sym (at_funct3 c.args.word _ c.funct3.result 0 (omega arith) c.requires c.funct3.ensures.funct3 c.in-0.is)
+
+pub returns-in_default : goal.returns-in_default
+returns-in_default c =
+    sym (at_funct3 c.args.word _ c.funct3.result c.funct3.result (omega arith) c.requires c.funct3.ensures.funct3 refl ∙ no_jump c.args.word c.funct3.result _ (omega arith))
