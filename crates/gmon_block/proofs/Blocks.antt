@@ -1,15 +1,14 @@
 -- A block's three lists and its bytes.
-use Rattle.std.proofs.Common.{◌≡◌, ℕ, zero, suc, ◌+◌, ◌*◌, ◌^◌, ◌<◌, ◌≤◌, List, [], ◌∷◌, ◌++◌, length, take, drop, set, replicate, slice_get, Some, refl, sym, ap, ◌∙◌, subst, arith, append_assoc, length-append, length-set}
-use Rattle.std.proofs.lemmas.List.{take_at, drop_at, drop-drop, append-nil, replicate-append-replicate, length-replicate, take-append-le}
-use Rattle.std.specs.List.{flat_map, All}
-use Rattle.std.proofs.lemmas.List.Elements.{All-set, All-replicate}
-use Rattle.gp_base.specs.Bytes.{le, value_of}
+use Rattle.std.proofs.Common.{◌≡◌, ℕ, zero, suc, ◌+◌, ◌*◌, ◌^◌, ◌<◌, ◌≤◌, List, [], ◌∷◌, ◌++◌, length, take, drop, set, replicate, refl, sym, ap, ◌∙◌, arith, append_assoc, length-append}
+use Rattle.std.proofs.lemmas.List.{drop_at, append-nil, replicate-append-replicate}
+use Rattle.std.specs.List.{flat_map}
+use Rattle.gp_base.specs.Bytes.{value_of}
 use Rattle.byteorder.specs.Endian.{little_from}
 use Rattle.byteorder.specs.Numbers.{little_from-cons}
 use Rattle.gmon_block.specs.declared.entry.Tos.{Tos}
 use Rattle.gmon_block.specs.Layout.{Parts, EntryFits, WordFits, Fits, no_entry, entry_bytes, word_bytes, layout_of}
 use Rattle.gmon_block.specs.View.{items_of, overwritten, entry_of, word_of, parts_of}
-use Rattle.gmon_block.proofs.Items.{length-items_of, length-spelled, items_of-spelled, overwritten-item, spelled-replicate, length-overwritten, slice_get-items_of}
+use Rattle.gmon_block.proofs.Items.{length-spelled, items_of-spelled, overwritten-item, spelled-replicate}
 
 -- a number that `byteorder` reads is that of the bytes it reads
 pub little_from-is : (k : ℕ) (bs : List ℕ) → k ≤ length bs → little_from 0 k bs ≡ value_of (take k bs)

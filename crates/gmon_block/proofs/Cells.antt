@@ -1,5 +1,5 @@
 -- Bytes side by side in memory, and the machine values of the structs that point to them. Assumes `Logic`.
-use Rattle.std.proofs.Common.{◌≡◌, ℕ, suc, ◌+◌, ◌-◌, ◌*◌, ◌^◌, ◌<◌, List, [], ◌∷◌, ◌++◌, length, replicate, refl, sym, ap, ◌∙◌, arith, w64}
+use Rattle.std.proofs.Common.{◌≡◌, ℕ, ◌+◌, ◌*◌, ◌^◌, ◌<◌, List, [], ◌∷◌, ◌++◌, length, replicate, refl, ap, ◌∙◌, arith, w64}
 use Rattle.std.proofs.lemmas.List.{length-replicate, replicate_more}
 use seplogic.Ra.Ura.{Ura}
 use base.Fraction.{full_share}
@@ -10,8 +10,8 @@ use base.Fml.{Fml, ftrue, fsep, feq, fat, froom}
 use types.Logic.{Logic, sem}
 use prog.Capped.{capped_is}
 use prog.Memory.{size, align, capped}
-use prog.RawLaws.{size-raw, align-raw}
-use types.Kit.{‵, ◌$◌, ◌∵◌, !, qed, by, move, use1, use2, drop, rewrite, fsplit, fjoin, fpack, feq_i, feq_l, done}
+use prog.RawLaws.{size-raw}
+use types.Kit.{‵, ◌$◌, ◌∵◌, !, qed, by, move, use1, use2, rewrite, fsplit, fjoin, fpack, feq_i, feq_l, done}
 use denote.Array.{Array}
 use denote.ArrayMemory.{Array-apart}
 use denote.Builtin.{u8, usize}

@@ -1,6 +1,6 @@
 -- Items of one width, laid out one after another: how they are read, and what a write over one of them leaves.
-use Rattle.std.proofs.Common.{◌≡◌, ℕ, zero, suc, ◌+◌, ◌*◌, ◌<◌, ◌≤◌, List, [], ◌∷◌, ◌++◌, length, take, drop, get_or, set, replicate, slice_get, Some, refl, sym, ap, ◌∙◌, arith, append_assoc, length-append, drop-cons, add-one}
-use Rattle.std.proofs.lemmas.List.{set_split, take-append-drop, take_at, drop_at, drop-drop, length-take, length-drop, append-nil, replicate-append-replicate}
+use Rattle.std.proofs.Common.{◌≡◌, ℕ, zero, suc, ◌+◌, ◌*◌, ◌<◌, ◌≤◌, List, [], ◌∷◌, ◌++◌, length, take, drop, get_or, set, replicate, slice_get, Some, refl, sym, ap, ◌∙◌, arith, append_assoc, length-append, drop-cons}
+use Rattle.std.proofs.lemmas.List.{set_split, take-append-drop, take_at, drop_at, drop-drop, length-take, length-drop, replicate-append-replicate}
 use Rattle.std.specs.List.{flat_map, All}
 use Rattle.std.proofs.lemmas.List.Concat.{flat_map-append}
 use Rattle.std.proofs.lemmas.List.Elements.{All-head, All-tail}

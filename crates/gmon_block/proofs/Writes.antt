@@ -1,12 +1,12 @@
 -- What the fields of a block hold after a write, and that they still stand for three lists.
-use Rattle.std.proofs.Common.{◌≡◌, ℕ, ◌+◌, ◌*◌, ◌^◌, ◌<◌, ◌≤◌, List, length, drop, set, replicate, slice_get, Some, refl, sym, ap, ◌∙◌, subst, arith, length-set}
+use Rattle.std.proofs.Common.{◌≡◌, ℕ, ◌+◌, ◌*◌, ◌^◌, ◌<◌, ◌≤◌, List, length, drop, set, replicate, slice_get, Some, sym, ap, ◌∙◌, subst, arith, length-set}
 use Rattle.std.proofs.lemmas.List.{drop-drop, length-replicate, length-drop}
 use Rattle.std.proofs.lemmas.List.Elements.{All-set, All-replicate}
 use Rattle.byteorder.specs.Endian.{little_from}
 use Rattle.gmon_block.specs.declared.entry.Tos.{Tos}
 use Rattle.gmon_block.specs.declared.block.Block.TheInside.{Inside}
 use Rattle.gmon_block.specs.Layout.{Parts, EntryFits, WordFits, Fits, no_entry, entry_bytes, word_bytes, layout_of}
-use Rattle.gmon_block.specs.View.{items_of, overwritten, entry_of, word_of, parts_of}
+use Rattle.gmon_block.specs.View.{overwritten, entry_of, word_of, parts_of}
 use Rattle.gmon_block.specs.Held.{view_of, IsHeld}
 use Rattle.gmon_block.proofs.Items.{length-items_of, slice_get-items_of}
 use Rattle.gmon_block.proofs.Blocks.{Counts, little_from-is, length-layout_of, parts_of-layout_of, set_entry, set_counter, set_slot, layout_of-none}
@@ -17,6 +17,10 @@ counts a = record {
   counters = length-items_of word_of 2 a.counters (drop (12 * a.tos) a.raw);
   froms = length-items_of word_of 2 a.froms (drop (12 * a.tos + 2 * a.counters) a.raw);
 }
+
+-- what a value says of its fields' counts
+pub counted : (a : Inside) (p : Parts) → view_of a ≡ p → Counts p a.tos a.counters a.froms
+counted a p e = subst (λ (r : Parts). Counts r a.tos a.counters a.froms) e (counts a)
 
 -- the fields a hold the lists p
 pub record Holds (a : Inside) (p : Parts) : Type 0 where
@@ -87,8 +91,9 @@ pub word_at : (bs : List ℕ) (n i from at : ℕ) → i < n → from + 2 * i ≡
 word_at bs n i from at inside place fits =
     little_from-is 2 (drop at bs) (omega (arith, length-drop at bs)) ∙ ap word_of (ap (λ (k : ℕ). drop k bs) (sym place) ∙ sym (drop-drop (2 * i) from bs))
 
-pub get_entry : (a : Inside) (i : ℕ) → i < a.tos → slice_get (view_of a).tos i ≡ Some (entry_of (drop (12 * i) a.raw))
-get_entry a i inside = slice_get-items_of entry_of 12 a.tos i a.raw inside
+pub get_entry : (a : Inside) (i at : ℕ) → i < a.tos → 12 * i ≡ at → slice_get (view_of a).tos i ≡ Some (entry_of (drop at a.raw))
+get_entry a i at inside place =
+    slice_get-items_of entry_of 12 a.tos i a.raw inside ∙ ap (λ (k : ℕ). Some (entry_of (drop k a.raw))) place
 
 pub get_counter : (a : Inside) (i at : ℕ) → IsHeld a → i < a.counters → 12 * a.tos + 2 * i ≡ at → slice_get (view_of a).counters i ≡ Some (little_from 0 2 (drop at a.raw))
 get_counter a i at h inside place =

@@ -1,6 +1,6 @@
 //! The block that 4.4BSD's `monstartup` takes for the entries, the counters and the slots.
 
-ghost use Rattle.std.specs.Prelude.{◌≡◌, ◌≤◌, ◌<◌, length, slice_get, slice_set, slice_index, replicate, IfOk, Some};
+ghost use Rattle.std.specs.Prelude.{◌≡◌, ◌+◌, ◌*◌, ◌≤◌, ◌<◌, length, slice_get, slice_set, replicate, IfOk, Some};
 ghost use Rattle.gmon_block.specs.Layout.{no_entry};
 
 use crate::entry::{ENTRY_BYTES, Tos, read_entry, spell_entry};
@@ -59,13 +59,37 @@ impl Block {
         })
     }
 
+    // Where entry `i` begins.
+    fn entry_at(&self, i: u32) -> usize
+        requires { i < length self.now.tos }
+        ensures { result ≡ 12 * i }
+    {
+        i as usize * ENTRY_BYTES
+    }
+
+    // Where counter `i` begins.
+    fn counter_at(&self, i: u32) -> usize
+        requires { i < length self.now.counters }
+        ensures { result ≡ 12 * length self.now.tos + 2 * i }
+    {
+        self.tos as usize * ENTRY_BYTES + i as usize * WORD_BYTES
+    }
+
+    // Where slot `i` begins.
+    fn slot_at(&self, i: u32) -> usize
+        requires { i < length self.now.froms }
+        ensures { result ≡ 12 * length self.now.tos + 2 * length self.now.counters + 2 * i }
+    {
+        let words = self.counters as usize + i as usize;
+        self.tos as usize * ENTRY_BYTES + words * WORD_BYTES
+    }
+
     /// Entry `i`.
     pub fn tos(&self, i: u32) -> Tos
         requires { i < length self.now.tos }
         ensures { slice_get self.now.tos i ≡ Some result }
     {
-        let at = i as usize * ENTRY_BYTES;
-        read_entry(self.raw.as_slice().split_at(at).1)
+        read_entry(self.raw.rest(self.entry_at(i)))
     }
 
     /// Changes entry `i` alone.
@@ -73,7 +97,7 @@ impl Block {
         requires { i < length self.old.tos }
         ensures { self.new ≡ record self.old { tos = slice_set self.old.tos i t } }
     {
-        let at = i as usize * ENTRY_BYTES;
+        let at = self.entry_at(i);
         self.raw.put(at, &spell_entry(t));
     }
 
@@ -82,8 +106,7 @@ impl Block {
         requires { i < length self.now.counters }
         ensures { slice_get self.now.counters i ≡ Some result }
     {
-        let at = self.tos as usize * ENTRY_BYTES + i as usize * WORD_BYTES;
-        LittleEndian::read_u16(self.raw.as_slice().split_at(at).1)
+        LittleEndian::read_u16(self.raw.rest(self.counter_at(i)))
     }
 
     /// Changes counter `i` alone.
@@ -91,7 +114,7 @@ impl Block {
         requires { i < length self.old.counters }
         ensures { self.new ≡ record self.old { counters = slice_set self.old.counters i n } }
     {
-        let at = self.tos as usize * ENTRY_BYTES + i as usize * WORD_BYTES;
+        let at = self.counter_at(i);
         self.raw.put(at, &le2(n));
     }
 
@@ -100,9 +123,7 @@ impl Block {
         requires { i < length self.now.froms }
         ensures { slice_get self.now.froms i ≡ Some result }
     {
-        let words = self.counters as usize + i as usize;
-        let at = self.tos as usize * ENTRY_BYTES + words * WORD_BYTES;
-        LittleEndian::read_u16(self.raw.as_slice().split_at(at).1)
+        LittleEndian::read_u16(self.raw.rest(self.slot_at(i)))
     }
 
     /// Changes slot `i` alone.
@@ -110,8 +131,7 @@ impl Block {
         requires { i < length self.old.froms }
         ensures { self.new ≡ record self.old { froms = slice_set self.old.froms i n } }
     {
-        let words = self.counters as usize + i as usize;
-        let at = self.tos as usize * ENTRY_BYTES + words * WORD_BYTES;
+        let at = self.slot_at(i);
         self.raw.put(at, &le2(n));
     }
 
@@ -119,6 +139,7 @@ impl Block {
     /// each. Numbers have their lowest byte first; the last two bytes of an entry are 0.
     pub fn bytes(&self) -> &[u8]
         ensures layout { result.now ≡ layout_of self.now }
+        ensures size { length result.now ≡ 12 * length self.now.tos + 2 * length self.now.counters + 2 * length self.now.froms }
         ensures fits { Fits self.now }
     {
         self.raw.as_slice()

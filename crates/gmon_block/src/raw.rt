@@ -152,6 +152,14 @@ impl RawBytes {
         self.bytes.as_slice()
     }
 
+    // The bytes from `at` on.
+    pub(crate) fn rest(&self, at: usize) -> &[u8]
+        requires { at ≤ length self.now }
+        ensures { result.now ≡ drop at self.now }
+    {
+        self.as_slice().split_at(at).1
+    }
+
     // Writes `piece` over the bytes from `at` on.
     pub(crate) fn put(&mut self, at: usize, piece: &[u8])
         requires { at + length piece.now ≤ length self.old }

@@ -1,4 +1,4 @@
-use Rattle.std.proofs.Common.{◌≡◌, ℕ, ◌+◌, ◌*◌, ◌<◌, List, length, replicate, sym, ap, ◌∙◌, arith}
+use Rattle.std.proofs.Common.{◌≡◌, ℕ, ◌+◌, ◌*◌, replicate, ap, ◌∙◌, arith}
 use Rattle.gmon_block.specs.Layout.{Parts}
 use Rattle.gmon_block.proofs.Writes.{empty}
 use Rattle.gmon_block.proofs.block.Block.new.Goals as goal

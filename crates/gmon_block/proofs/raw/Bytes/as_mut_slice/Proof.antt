@@ -1,5 +1,5 @@
 -- `as_mut_slice` lends the bytes, and the struct follows them. Assumes `Logic`.
-use Rattle.std.proofs.Common.{◌≡◌, ℕ, ◌+◌, ◌*◌, ◌^◌, ◌<◌, List, [], ◌∷◌, ◌++◌, length, drop as drop_l, refl, sym, ap, ◌∙◌, subst, arith, w64, MutBor}
+use Rattle.std.proofs.Common.{◌≡◌, ℕ, ◌*◌, ◌^◌, ◌<◌, List, [], ◌∷◌, length, drop as drop_l, refl, sym, ap, ◌∙◌, arith, MutBor}
 use Rattle.std.proofs.lemmas.List.{take_at}
 use Rattle.std.proofs.raw_atomic.Walks.{proved}
 use Rattle.std.proofs.VecSteps.Shapes.{after}
@@ -8,12 +8,12 @@ use seplogic.Ra.Ura.{Ura}
 use base.Fraction.{full_share}
 use mir.Syntax.{named}
 use mir.Val.{Val}
-use base.Logic.{SProp, ent, sep, id⊢}
-use base.Fml.{Lft, GName, Share, Fml, ftrue, fsep, feq, flft}
+use base.Logic.{ent, sep, id⊢}
+use base.Fml.{GName, Fml, ftrue, fsep, feq, flft}
 use prog.Wp.{Env}
 use types.Logic.{Logic, sem}
 use contract.Running.{tables}
-use types.Kit.{‵, raw, ◌⊛◌, some, later, await, pick, at_ret, ◌$◌, ◌∵◌, !, qed, by, move, keep, use1, drop, split, join, group, rewrite, fsplit, fsplit3, fjoin, fpack, feq_l, feq_i, suffices, frame, done}
+use types.Kit.{‵, raw, ◌⊛◌, some, later, await, pick, at_ret, ◌$◌, ◌∵◌, !, qed, move, keep, use1, split, join, group, rewrite, fsplit, fsplit3, fjoin, fpack, feq_l, feq_i, suffices, frame, done}
 use types.Part.{whole, sub, look_in, agg}
 use types.Run.{stop, fld, load, of_opd, and_then, no_more, first, blocks, exec, returns, enter}
 use types.ByLocal.{alloc_all, pass_all, free_all, look_at, get, through, sets, sets_last, env}

@@ -1,23 +1,22 @@
 -- `as_slice` reads the pointer and the length through a `&`, and lends the bytes. Assumes `Logic`.
-use Rattle.std.proofs.Common.{◌≡◌, ℕ, ◌+◌, ◌*◌, ◌^◌, ◌<◌, List, [], ◌∷◌, length, refl, sym, ap, subst, arith, w64}
+use Rattle.std.proofs.Common.{ℕ, ◌+◌, ◌*◌, ◌^◌, List, [], ◌∷◌, length, refl, ap, arith, w64}
 use Rattle.std.proofs.raw_atomic.Walks.{proved}
 use Rattle.std.proofs.Words.{word_in, word_out, pointer_in, pointer_out}
 use Rattle.std.proofs.VecSteps.Shapes.{after}
 use seplogic.Ra.Ura.{Ura}
 use mir.Syntax.{named}
 use mir.Val.{Val}
-use base.Logic.{SProp, ent, sep}
-use base.Fml.{Lft, Share, Fml, ftrue, flft, fhide}
+use base.Logic.{ent, sep}
+use base.Fml.{Lft, Fml, ftrue, flft, fhide}
 use prog.Wp.{Env}
 use types.Logic.{Logic, sem}
 use contract.Monad.{fact}
 use contract.Running.{tables}
-use types.Kit.{‵, raw, ◌⊛◌, ⋆, at_ret, ◌$◌, ◌∵◌, !, qed, by, move, keep, use1, drop, split, join, fsplit, fjoin, feq_i, flt_i, suffices, frame, done}
+use types.Kit.{‵, raw, ◌⊛◌, at_ret, ◌$◌, ◌∵◌, !, qed, move, keep, use1, drop, split, join, fsplit, fjoin, feq_i, flt_i, suffices, frame, done}
 use types.Part.{agg}
 use types.Run.{look, stop, fld, load, no_more, and_then, of_opd, first, blocks, exec, returns, enter}
 use types.ByLocal.{alloc_all, pass_all, free_all, look_at, get, through, sets, sets_last, env}
-use denote.Array.{Array}
-use denote.Builtin.{u8, usize, RefOf}
+use denote.Builtin.{usize, RefOf}
 use denote.Exit.{yes}
 use denote.Memory.{hidden_shr}
 use denote.Opens.{shr_dup, unhide, hide}
@@ -26,7 +25,7 @@ use denote.RattleType.{RattleType, RowLaws}
 use denote.RawPtr.{RawPtr, InBlock, block_of, count_of, ptr_row_laws}
 use denote.Ref.{ShrRef, shr_vals, shr_Tells}
 use denote.Signature.{plain}
-use denote.Slice.{ShrSlice, slice_val, elements_shared}
+use denote.Slice.{slice_val}
 use denote.Steps.{heard, nothing}
 use denote.Struct.Struct.{Struct, Struct-row_laws}
 use denote.Struct.Owning.{shape}

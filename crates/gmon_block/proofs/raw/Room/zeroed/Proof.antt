@@ -1,8 +1,8 @@
 -- `zeroed` writes a 0 into each byte of the room, from the first on. Assumes `Logic`.
-use Rattle.std.proofs.Common.{◌≡◌, ℕ, suc, ◌+◌, ◌-◌, ◌*◌, ◌^◌, ◌<◌, ◌≤◌, List, [], ◌∷◌, ◌++◌, length, replicate, refl, sym, ap, ◌∙◌, arith, lit<, ltb→lt, nltb→le, w8, w64}
+use Rattle.std.proofs.Common.{◌≡◌, ℕ, suc, ◌+◌, ◌-◌, ◌^◌, ◌<◌, ◌≤◌, List, [], ◌∷◌, ◌++◌, length, replicate, refl, sym, ap, ◌∙◌, arith, lit<, ltb→lt, nltb→le, w8, w64}
 use Rattle.std.proofs.lemmas.List.{length-replicate}
 use Rattle.std.proofs.raw_atomic.Walks.{proved_at}
-use Rattle.std.proofs.VecSteps.Shapes.{after, head}
+use Rattle.std.proofs.VecSteps.Shapes.{after}
 use mathlib.Core.WellFounded.InvImage
 use lib.WfN.{lt-wf_rel}
 use seplogic.Ra.Ura.{Ura}
@@ -10,7 +10,7 @@ use base.Fraction.{full_share}
 use mir.Syntax.{Body, ty_int, ty_array}
 use mir.Val.{Val, vint, vptr}
 use base.Logic.{SProp, ent, sep, never, id⊢}
-use base.Fml.{Fml, ftrue, fat, froom}
+use base.Fml.{Fml, ftrue, froom}
 use prog.Wp.{Env, Out, Wp, Tables, WpFn, at_return, after_seq, after_block, after_turn}
 use types.Logic.{Logic, sem}
 use contract.Running.{tables, tables_of}
@@ -25,7 +25,7 @@ use denote.Exit.{yes}
 use denote.Index.{row}
 use denote.Memory.{part_at}
 use denote.Plain.{uint_in}
-use denote.RattleType.{RattleType, owns}
+use denote.RattleType.{owns}
 use denote.RawPtr.{Ptr, block_ptr, in_a_block}
 use denote.Signature.{plain, types_at}
 use denote.Steps.{nothing}
