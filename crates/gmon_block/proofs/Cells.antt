@@ -1,4 +1,4 @@
--- Bytes side by side in memory, and the machine values of the structs that point to them. Assumes `Logic`.
+-- Bytes side by side in memory, and the machine values of the structs that point to them.
 use Rattle.std.proofs.Common.{◌≡◌, ℕ, ◌+◌, ◌*◌, ◌^◌, ◌<◌, List, [], ◌∷◌, ◌++◌, length, replicate, refl, ap, ◌∙◌, arith, w64}
 use Rattle.std.proofs.lemmas.List.{length-replicate, replicate_more}
 use seplogic.Ra.Ura.{Ura}

@@ -1,4 +1,5 @@
-//! The block that 4.4BSD's `monstartup` takes for the entries, the counters and the slots.
+//! The block that 4.4BSD's `monstartup` takes: `tos`, `kcount` and `froms` of `struct gmonparam` in
+//! `gmon.h`, one after another.
 
 ghost use Rattle.std.specs.Prelude.{◌≡◌, ◌+◌, ◌*◌, ◌≤◌, ◌<◌, length, slice_get, slice_set, replicate, IfOk, Some};
 ghost use Rattle.gmon_block.specs.Layout.{no_entry};
@@ -39,7 +40,8 @@ impl Block {
     ghost use Rattle.gmon_block.specs.Layout.{layout_of, Fits};
 
     /// A block of `tos` entries, `counters` counters and `froms` slots, all 0: one allocation of
-    /// `12 * tos + 2 * counters + 2 * froms` bytes. Want of memory is the only other answer.
+    /// `12 * tos + 2 * counters + 2 * froms` bytes. There is at least one of each, and there are at
+    /// most 65,534 entries and 4,194,312 counters and slots. Want of memory is the only other answer.
     pub fn new(alloc: Global, tos: u32, counters: u32, froms: u32) -> Result<Block, AllocError>
         requires tos { (1 ≤ tos) × (tos ≤ 65534) }
         requires counters { (1 ≤ counters) × (counters ≤ 4194312) }
@@ -84,7 +86,7 @@ impl Block {
         self.tos as usize * ENTRY_BYTES + words * WORD_BYTES
     }
 
-    /// Entry `i`.
+    /// Entry `i`, counted from 0.
     pub fn tos(&self, i: u32) -> Tos
         requires { i < length self.now.tos }
         ensures { slice_get self.now.tos i ≡ Some result }
@@ -92,7 +94,7 @@ impl Block {
         read_entry(self.raw.rest(self.entry_at(i)))
     }
 
-    /// Changes entry `i` alone.
+    /// Changes entry `i`, and nothing else.
     pub fn set_tos(&mut self, i: u32, t: Tos)
         requires { i < length self.old.tos }
         ensures { self.new ≡ record self.old { tos = slice_set self.old.tos i t } }
@@ -101,7 +103,7 @@ impl Block {
         self.raw.put(at, &spell_entry(t));
     }
 
-    /// Counter `i`, a number of samples.
+    /// Counter `i`, counted from 0: a number of samples.
     pub fn kcount(&self, i: u32) -> u16
         requires { i < length self.now.counters }
         ensures { slice_get self.now.counters i ≡ Some result }
@@ -109,7 +111,7 @@ impl Block {
         LittleEndian::read_u16(self.raw.rest(self.counter_at(i)))
     }
 
-    /// Changes counter `i` alone.
+    /// Changes counter `i`, and nothing else.
     pub fn set_kcount(&mut self, i: u32, n: u16)
         requires { i < length self.old.counters }
         ensures { self.new ≡ record self.old { counters = slice_set self.old.counters i n } }
@@ -118,7 +120,7 @@ impl Block {
         self.raw.put(at, &le2(n));
     }
 
-    /// Slot `i`: the index of its first entry, or 0.
+    /// Slot `i`, counted from 0: the index of its first entry, or 0.
     pub fn froms(&self, i: u32) -> u16
         requires { i < length self.now.froms }
         ensures { slice_get self.now.froms i ≡ Some result }
@@ -126,7 +128,7 @@ impl Block {
         LittleEndian::read_u16(self.raw.rest(self.slot_at(i)))
     }
 
-    /// Changes slot `i` alone.
+    /// Changes slot `i`, and nothing else.
     pub fn set_froms(&mut self, i: u32, n: u16)
         requires { i < length self.old.froms }
         ensures { self.new ≡ record self.old { froms = slice_set self.old.froms i n } }

@@ -10,7 +10,8 @@ use gp_base::{le2, le4};
 /// Bytes of an entry in the block.
 pub(crate) const ENTRY_BYTES: usize = 12;
 
-/// A called function and how often one call site called it: `struct tostruct` of 4.4BSD `gmon.h`.
+/// A called function and how often one call site called it: `struct tostruct` of 4.4BSD `gmon.h`,
+/// without its padding.
 #[derive(Clone, Copy, Debug, PartialEq, Eq)]
 pub struct Tos {
     /// The callee's address.

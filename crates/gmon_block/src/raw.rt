@@ -1,6 +1,5 @@
-//! The memory of the block, by raw pointers: one allocation is made, filled with zeros, lent as one
-//! slice, and given back. All that is written here by hand is proved by hand; the block itself is safe
-//! code over the slices.
+//! The memory of the block, by raw pointers: one allocation is taken, filled with zeros, lent as one
+//! slice, and given back. Only this file has a pointer; the rest is safe code over the slices.
 
 ghost use Rattle.std.specs.Prelude.{◌≡◌, ℕ, ◌+◌, ◌*◌, ◌^◌, ◌<◌, ◌≤◌, ◌++◌, List, length, take, drop, replicate, IfOk};
 ghost use Rattle.std.specs.Borrow.{sem};
@@ -36,7 +35,8 @@ impl Model for Bytes {
     ghost also_shares = { λ b _ κ. bytes_lent b.start b.len b.items κ };
 }
 
-// The right to give `len` bytes from `start` on back to `alloc`, once. It takes no space.
+// The right to give `len` bytes from `start` on back to `alloc`, once. It takes no space. Neither it
+// nor `Bytes` may be dropped, so whoever has them has to call `free`.
 struct Lease<A: Allocator> {
     by: PhantomData<A>,
     ghost alloc: { A },
@@ -101,7 +101,7 @@ impl Bytes {
     }
 }
 
-// Bytes that lie in one allocation, which is given back at their end. Contracts see them as a list.
+// Bytes in one allocation, which is given back at their end. Contracts see them as a list.
 pub(crate) struct RawBytes {
     bytes: Bytes,
     lease: Lease<Global>,

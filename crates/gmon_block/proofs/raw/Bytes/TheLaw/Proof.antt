@@ -1,4 +1,4 @@
--- A `&` to the bytes is made of a borrow of them. Assumes `Logic`.
+-- A `&` to the bytes is made of a borrow of them.
 use base.Fraction.{full_share}
 use denote.Array.{Array, Array-row_laws}
 use denote.Builtin.{u8}

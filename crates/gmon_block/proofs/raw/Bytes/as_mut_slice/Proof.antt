@@ -1,4 +1,4 @@
--- `as_mut_slice` lends the bytes, and the struct follows them. Assumes `Logic`.
+-- `as_mut_slice` lends the bytes, and the struct follows them.
 use Rattle.std.proofs.Common.{◌≡◌, ℕ, ◌*◌, ◌^◌, ◌<◌, List, [], ◌∷◌, length, drop as drop_l, refl, sym, ap, ◌∙◌, arith, MutBor}
 use Rattle.std.proofs.lemmas.List.{take_at}
 use Rattle.std.proofs.raw_atomic.Walks.{proved}

@@ -1,4 +1,4 @@
--- `as_slice` reads the pointer and the length through a `&`, and lends the bytes. Assumes `Logic`.
+-- `as_slice` reads the pointer and the length through a `&`, and lends the bytes.
 use Rattle.std.proofs.Common.{ℕ, ◌+◌, ◌*◌, ◌^◌, List, [], ◌∷◌, length, refl, ap, arith, w64}
 use Rattle.std.proofs.raw_atomic.Walks.{proved}
 use Rattle.std.proofs.Words.{word_in, word_out, pointer_in, pointer_out}

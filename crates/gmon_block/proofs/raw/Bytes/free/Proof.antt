@@ -1,4 +1,4 @@
--- `free` gives the block and the right to free it back. Assumes `Logic`.
+-- `free` gives the block and the right to free it back.
 use Rattle.std.proofs.Common.{◌≡◌, ℕ, ◌^◌, ◌<◌, List, [], ◌∷◌, ◌++◌, refl, ap, ◌∙◌, arith, lit<}
 use Rattle.std.proofs.alloc.Calls.{Al, seen, Goes-blank, Gives, at_gives, Gives-goes, Gives-Gives}
 use Rattle.std.proofs.alloc.Shapes.{after}

@@ -1,4 +1,4 @@
--- `new` takes one block, and keeps the right to free it. Assumes `Logic`.
+-- `new` takes one block, and keeps the right to free it.
 use Rattle.std.proofs.Common.{◌≡◌, ◌^◌, ◌<◌, List, [], ◌∷◌, ◌++◌, Ok, Err, refl, arith, lit<, w64}
 use Rattle.std.proofs.alloc.Calls.{Al, seen, Answer-typed, Takes, at_takes, Answered, Takes-goes, Takes-gives, answers}
 use Rattle.std.proofs.alloc.Shapes.{after, head, arm_body}

@@ -1,4 +1,4 @@
--- `zeroed` writes a 0 into each byte of the room, from the first on. Assumes `Logic`.
+-- `zeroed` writes a 0 into each byte of the room, from the first on.
 use Rattle.std.proofs.Common.{◌≡◌, ℕ, suc, ◌+◌, ◌-◌, ◌^◌, ◌<◌, ◌≤◌, List, [], ◌∷◌, ◌++◌, length, replicate, refl, sym, ap, ◌∙◌, arith, lit<, ltb→lt, nltb→le, w8, w64}
 use Rattle.std.proofs.lemmas.List.{length-replicate}
 use Rattle.std.proofs.raw_atomic.Walks.{proved_at}
