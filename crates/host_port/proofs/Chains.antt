@@ -3,22 +3,22 @@ use Rattle.std.proofs.Common.{◌≡◌, ℕ, ◌+◌, ◌<◌, List, [], ◌∷
 use Rattle.std.proofs.Math.Seq.{take-append-add}
 use Rattle.std.proofs.lemmas.List.{take-append-le, take_all, append-nil}
 use Rattle.host_port.specs.Act.{Act}
-use Rattle.host_port.specs.Outside.{Outside, Did, Rose, KeepsInput}
-use Rattle.host_port.specs.Host.{Side, File, Output, ErrorOutput, act_of, CountsOf, TakesAll, Puts, Writes, Complains}
+use Rattle.host_port.specs.Outside.{Outside, Did, Rose, KeepsInput, KeepsCounts}
+use Rattle.host_port.specs.Host.{Side, File, Output, ErrorOutput, act_of, CountsOf, Takes, TakesAll, Puts, Writes, Complains}
 use Rattle.host_port.proofs.Laws.{KeepsInput-same, KeepsInput-then}
-use Rattle.host_port.proofs.Piecewise.{IsPiecewise, write_piecewise, out_piecewise, err_piecewise, Did-join, Did-none}
+use Rattle.host_port.proofs.Piecewise.{IsPiecewise, write_piecewise, out_piecewise, err_piecewise, Did-join, Did-none, Along, along_end, along_fail}
 
 side_piecewise : (side : Side) → IsPiecewise (act_of side)
 side_piecewise File = write_piecewise
 side_piecewise Output = out_piecewise
 side_piecewise ErrorOutput = err_piecewise
 
-counts_same : {T E : Type 0} (side : Side) (x : Outside) (u : T) → CountsOf {T} {E} side x x (Ok u)
-counts_same File x u = record { own = refl; read = refl; err = refl }
-counts_same Output x u = record { own = refl; read = refl; err = refl }
-counts_same ErrorOutput x u = record { own = refl; read = refl; write = refl }
+counts_same : (T E : Type 0) (side : Side) (x : Outside) (u : T) → CountsOf {T = T} {E = E} side x x (Ok u)
+counts_same T E File x u = record { own = refl; read = refl; err = refl }
+counts_same T E Output x u = record { own = refl; read = refl; err = refl }
+counts_same T E ErrorOutput x u = record { own = refl; read = refl; write = refl }
 
-counts_then : {T E : Type 0} (side : Side) (x y z : Outside) (u : T) (r : Result T E) → CountsOf {T} {E} side x y (Ok u) → CountsOf side y z r → CountsOf side x z r
+counts_then : {T E : Type 0} (side : Side) (x y z : Outside) (u : T) (r : Result T E) → CountsOf {T = T} {E = E} side x y (Ok u) → CountsOf side y z r → CountsOf side x z r
 counts_then File x y z u (Ok v) p q = record { own = q.own ∙ p.own; read = q.read ∙ p.read; err = q.err ∙ p.err }
 counts_then File x y z u (Err e) p q = record { own = subst (λ (k : ℕ). Rose k z.write_faults) p.own q.own; read = q.read ∙ p.read; err = q.err ∙ p.err }
 counts_then Output x y z u (Ok v) p q = record { own = q.own ∙ p.own; read = q.read ∙ p.read; err = q.err ∙ p.err }
@@ -26,7 +26,7 @@ counts_then Output x y z u (Err e) p q = record { own = subst (λ (k : ℕ). Ros
 counts_then ErrorOutput x y z u (Ok v) p q = record { own = q.own ∙ p.own; read = q.read ∙ p.read; write = q.write ∙ p.write }
 counts_then ErrorOutput x y z u (Err e) p q = record { own = subst (λ (k : ℕ). Rose k z.err_faults) p.own q.own; read = q.read ∙ p.read; write = q.write ∙ p.write }
 
-takes_then : {T E : Type 0} (act : List ℕ → Act) → IsPiecewise act → (a b : List ℕ) (x y z : Outside) (u : T) (r : Result T E) → TakesAll {T} {E} act a x y (Ok u) → TakesAll act b y z r → TakesAll act (a ++ b) x z r
+takes_then : {T E : Type 0} (act : List ℕ → Act) → IsPiecewise act → (a b : List ℕ) (x y z : Outside) (u : T) (r : Result T E) → TakesAll {T = T} {E = E} act a x y (Ok u) → TakesAll act b y z r → TakesAll act (a ++ b) x z r
 takes_then act pw a b x y z u (Ok v) p q = record {
   done = Did-join act pw a b x y z p.done q.done;
   part = tt;
@@ -46,21 +46,21 @@ takes_then act pw a b x y z u (Err e) p q =
     }
 
 -- no text went out
-pub puts_nothing : {T E : Type 0} (side : Side) (x : Outside) (u : T) → Puts {T} {E} side [] x x (Ok u)
-puts_nothing side x u = record {
+pub puts_nothing : {T E : Type 0} (side : Side) (x : Outside) (u : T) → Puts {T = T} {E = E} side [] x x (Ok u)
+puts_nothing {T} {E} side x u = record {
   takes = record { done = Did-none (act_of side) (side_piecewise side) x; part = tt; input = KeepsInput-same x };
-  counts = counts_same side x u;
+  counts = counts_same T E side x u;
 }
 
 -- one text, and then another, which may fail
-pub puts_then : {T E : Type 0} (side : Side) (a b : List ℕ) (x y z : Outside) (u : T) (r : Result T E) → Puts {T} {E} side a x y (Ok u) → Puts side b y z r → Puts side (a ++ b) x z r
+pub puts_then : {T E : Type 0} (side : Side) (a b : List ℕ) (x y z : Outside) (u : T) (r : Result T E) → Puts {T = T} {E = E} side a x y (Ok u) → Puts side b y z r → Puts side (a ++ b) x z r
 puts_then side a b x y z u r p q = record {
   takes = takes_then (act_of side) (side_piecewise side) a b x y z u r p.takes q.takes;
   counts = counts_then side x y z u r p.counts q.counts;
 }
 
 -- what failed within a front failed within the whole
-pub puts_front : {T E : Type 0} (side : Side) (a b : List ℕ) (x y : Outside) (e : E) → Puts {T} side a x y (Err e) → Puts {T} side (a ++ b) x y (Err e)
+pub puts_front : {T E : Type 0} (side : Side) (a b : List ℕ) (x y : Outside) (e : E) → Puts {T = T} side a x y (Err e) → Puts {T = T} side (a ++ b) x y (Err e)
 puts_front side a b x y e p =
     let n = p.takes.part.0 in
     let lt = p.takes.part.1 in
@@ -73,3 +73,28 @@ puts_front side a b x y e p =
       };
       counts = p.counts;
     }
+
+-- ---- a loop over the parts of one text
+
+counts_kept : (T E : Type 0) (side : Side) (x y : Outside) (u : T) → KeepsCounts x y → CountsOf {T = T} {E = E} side x y (Ok u)
+counts_kept T E File x y u k = record { own = k.write; read = k.read; err = k.err }
+counts_kept T E Output x y u k = record { own = k.write; read = k.read; err = k.err }
+counts_kept T E ErrorOutput x y u k = record { own = k.err; read = k.read; write = k.write }
+
+-- how a failure counts does not depend on what the call would have answered
+counts_fail : (S T E : Type 0) (side : Side) (x y : Outside) (e : E) → CountsOf {T = S} side x y (Err e) → CountsOf {T = T} side x y (Err e)
+counts_fail S T E File x y e k = record { own = k.own; read = k.read; err = k.err }
+counts_fail S T E Output x y e k = record { own = k.own; read = k.read; err = k.err }
+counts_fail S T E ErrorOutput x y e k = record { own = k.own; read = k.read; write = k.write }
+
+pub puts_end : {T E : Type 0} (side : Side) (piece rest : List ℕ) (old new : Outside) (u : T) → Along (act_of side) piece rest old new → rest ≡ [] → Puts {T = T} {E = E} side piece old new (Ok u)
+puts_end {T} {E} side piece rest old new u far none = record {
+  takes = along_end (act_of side) piece rest old new u far none;
+  counts = counts_kept T E side old new u far.counts;
+}
+
+pub puts_fail : {T E : Type 0} (side : Side) (piece rest : List ℕ) (old mid new : Outside) (u : T) (e : E) → Along (act_of side) piece rest old mid → 0 < length rest → Takes (act_of side) rest mid new (Err e) → CountsOf {T = ℕ} side mid new (Err e) → Puts {T = T} side piece old new (Err e)
+puts_fail {T} {E} side piece rest old mid new u e far some failed counts = record {
+  takes = along_fail (act_of side) (side_piecewise side) piece rest old mid new e far some failed;
+  counts = counts_then side old mid new u (Err e) (counts_kept T E side old mid u far.counts) (counts_fail ℕ T E side mid new e counts);
+}

@@ -1,6 +1,7 @@
 -- What each call on a host does, by the outside before and after it.
 use Rattle.std.specs.Prelude.{◌≡◌, ℕ, ◌<◌, ◌≤◌, true, false, List, [], ◌∷◌, length, take, drop, Some, Result, IfOk, OnOk, OnErr, IfSome, MatchResult, is_ok, ◌↔◌}
-use Rattle.host_port.specs.Act.{Act, Disk, content_of, Create, Close}
+use Rattle.host_port.specs.Act.{Act, Disk, content_of, Create, Write, Close, Out}
+use Rattle.host_port.specs.Act.{Err as Complain}
 use Rattle.host_port.specs.Outside.{Outside, Becomes, Did, KeepsInput, Rose}
 
 -- a call of the kind that reads: only read_faults may rise, and exactly where the call failed
@@ -68,3 +69,26 @@ pub record TakesAll {T E : Type 0} (act : List ℕ → Act) (piece : List ℕ) (
   pub done : OnOk result (Did (act piece ∷ []) old new)
   pub part : OnErr result ((n : ℕ) × (n < length piece) × Did (act (take n piece) ∷ []) old new)
   pub input : KeepsInput old new
+
+-- where bytes go
+pub data Side : Type 0 where
+  -- to the file that is being written
+  File : Side
+  Output : Side
+  ErrorOutput : Side
+
+abbrev pub act_of : Side → List ℕ → Act
+act_of File bytes = Write bytes
+act_of Output bytes = Out bytes
+act_of ErrorOutput bytes = Complain bytes
+
+-- only the side's own count may rise, and exactly after a failure
+abbrev pub CountsOf : {T E : Type 0} → Side → Outside → Outside → Result T E → Type 0
+CountsOf File old new result = Writes old new result
+CountsOf Output old new result = Writes old new result
+CountsOf ErrorOutput old new result = Complains old new result
+
+-- the whole text went to a side; after a failure a front of it that isn't the whole
+pub record Puts {T E : Type 0} (side : Side) (text : List ℕ) (old new : Outside) (result : Result T E) : Type 0 where
+  pub takes : TakesAll (act_of side) text old new result
+  pub counts : CountsOf side old new result

@@ -1,8 +1,7 @@
 //! Loops that write or print the whole of a piece.
 
 ghost use Rattle.std.specs.Prelude.{◌≡◌, true, length};
-ghost use Rattle.host_port.specs.Act.{Write, Out, Err as Complain};
-ghost use Rattle.host_port.specs.Host.{TakesAll, Writes, Complains};
+ghost use Rattle.host_port.specs.Host.{Puts, File, Output, ErrorOutput};
 
 use crate::host::{Failed, Host};
 
@@ -10,8 +9,7 @@ use crate::host::{Failed, Host};
 /// written, and not the whole. An empty piece makes no call on the host.
 pub fn write_all_of<H: Host>(host: &mut H, piece: &[u8]) -> Result<(), Failed>
     requires { (H.outside host.old).is_writing ≡ true }
-    ensures takes { TakesAll Write piece.now (H.outside host.old) (H.outside host.new) result }
-    ensures counts { Writes (H.outside host.old) (H.outside host.new) result }
+    ensures puts { Puts File piece.now (H.outside host.old) (H.outside host.new) result }
     ensures idle { length piece.now ≡ 0 → host.new ≡ host.old }
 {
     let mut rest = piece;
@@ -25,8 +23,7 @@ pub fn write_all_of<H: Host>(host: &mut H, piece: &[u8]) -> Result<(), Failed>
 /// Prints the whole piece on the output. After `Failed` a front of the piece was printed, and not the
 /// whole. An empty piece makes no call on the host.
 pub fn out_all_of<H: Host>(host: &mut H, piece: &[u8]) -> Result<(), Failed>
-    ensures takes { TakesAll Out piece.now (H.outside host.old) (H.outside host.new) result }
-    ensures counts { Writes (H.outside host.old) (H.outside host.new) result }
+    ensures puts { Puts Output piece.now (H.outside host.old) (H.outside host.new) result }
     ensures idle { length piece.now ≡ 0 → host.new ≡ host.old }
 {
     let mut rest = piece;
@@ -40,8 +37,7 @@ pub fn out_all_of<H: Host>(host: &mut H, piece: &[u8]) -> Result<(), Failed>
 /// Prints the whole piece on the error output. After `Failed` a front of the piece was printed, and not
 /// the whole. An empty piece makes no call on the host.
 pub fn err_all_of<H: Host>(host: &mut H, piece: &[u8]) -> Result<(), Failed>
-    ensures takes { TakesAll Complain piece.now (H.outside host.old) (H.outside host.new) result }
-    ensures counts { Complains (H.outside host.old) (H.outside host.new) result }
+    ensures puts { Puts ErrorOutput piece.now (H.outside host.old) (H.outside host.new) result }
     ensures idle { length piece.now ≡ 0 → host.new ≡ host.old }
 {
     let mut rest = piece;
