@@ -1,7 +1,9 @@
 -- Texts that go to one side, one after the other.
-use Rattle.std.proofs.Common.{◌≡◌, ℕ, ◌+◌, ◌<◌, List, [], ◌∷◌, ◌++◌, length, take, Result, Ok, Err, refl, sym, ap, subst, ◌∙◌, arith, length-append}
+use Rattle.std.proofs.Common.{◌≡◌, ℕ, ◌+◌, ◌<◌, ◌≤◌, List, [], ◌∷◌, ◌++◌, length, take, drop, get_or, Result, Ok, Err, refl, sym, ap, subst, ◌∙◌, arith, length-append}
 use Rattle.std.proofs.Math.Seq.{take-append-add}
-use Rattle.std.proofs.lemmas.List.{take-append-le, take_all, append-nil}
+use Rattle.std.proofs.lemmas.List.{take-append-le, take_all, take_more, take-append-drop, append-nil}
+use Rattle.std.specs.List.{flat_map}
+use Rattle.std.proofs.lemmas.List.Concat.{flat_map-append}
 use Rattle.host_port.specs.Act.{Act}
 use Rattle.host_port.specs.Outside.{Outside, Did, Rose, KeepsInput, KeepsCounts}
 use Rattle.host_port.specs.Host.{Side, File, Output, ErrorOutput, act_of, CountsOf, Takes, TakesAll, Puts, Writes, Complains}
@@ -98,3 +100,27 @@ puts_fail {T} {E} side piece rest old mid new u e far some failed counts = recor
   takes = along_fail (act_of side) (side_piecewise side) piece rest old mid new e far some failed;
   counts = counts_then side old mid new u (Err e) (counts_kept T E side old mid u far.counts) (counts_fail ℕ T E side mid new e counts);
 }
+
+-- ---- a loop over items, each with a text of its own
+
+more : {X : Type 0} (f : X → List ℕ) (xs : List X) (i : ℕ) (item : X) → i < length xs → item ≡ get_or xs i item → flat_map f (take (i + 1) xs) ≡ flat_map f (take i xs) ++ f item
+more {X} f xs i item lt is =
+    ap (flat_map f) (take_more xs i item lt ∙ ap (λ (x : X). take i xs ++ x ∷ []) (sym is))
+    ∙ flat_map-append f (take i xs) (item ∷ []) ∙ ap (λ (t : List ℕ). flat_map f (take i xs) ++ t) (append-nil (f item))
+
+pub puts_more : {X T E : Type 0} (side : Side) (f : X → List ℕ) (xs : List X) (i : ℕ) (item : X) (a b c : Outside) (u v : T) → i < length xs → item ≡ get_or xs i item
+    → Puts {T = T} {E = E} side (flat_map f (take i xs)) a b (Ok u) → Puts {T = T} {E = E} side (f item) b c (Ok v) → Puts {T = T} {E = E} side (flat_map f (take (i + 1) xs)) a c (Ok v)
+puts_more {X} {T} {E} side f xs i item a b c u v lt is so_far one =
+    subst (λ (t : List ℕ). Puts {T = T} {E = E} side t a c (Ok v)) (sym (more f xs i item lt is)) (puts_then side (flat_map f (take i xs)) (f item) a b c u (Ok v) so_far one)
+
+pub puts_stop : {X T E : Type 0} (side : Side) (f : X → List ℕ) (xs : List X) (i : ℕ) (item : X) (a b c : Outside) (u : T) (e : E) → i < length xs → item ≡ get_or xs i item
+    → Puts {T = T} {E = E} side (flat_map f (take i xs)) a b (Ok u) → Puts {T = T} {E = E} side (f item) b c (Err e) → Puts {T = T} {E = E} side (flat_map f xs) a c (Err e)
+puts_stop {X} {T} {E} side f xs i item a b c u e lt is so_far one =
+    let rest = flat_map f (drop (i + 1) xs) in
+    let whole : flat_map f (take (i + 1) xs) ++ rest ≡ flat_map f xs = sym (flat_map-append f (take (i + 1) xs) (drop (i + 1) xs)) ∙ ap (flat_map f) (take-append-drop (i + 1) xs) in
+    let front : Puts {T = T} side (flat_map f (take (i + 1) xs)) a c (Err e) =
+        subst (λ (t : List ℕ). Puts {T = T} side t a c (Err e)) (sym (more f xs i item lt is)) (puts_then side (flat_map f (take i xs)) (f item) a b c u (Err e) so_far one) in
+    subst (λ (t : List ℕ). Puts {T = T} side t a c (Err e)) whole (puts_front side (flat_map f (take (i + 1) xs)) rest a c e front)
+
+pub puts_all : {X T E : Type 0} (side : Side) (f : X → List ℕ) (xs : List X) (i : ℕ) (a b : Outside) (r : Result T E) → length xs ≤ i → Puts side (flat_map f (take i xs)) a b r → Puts side (flat_map f xs) a b r
+puts_all side f xs i a b r le so_far = subst (λ (t : List ℕ). Puts side t a b r) (ap (flat_map f) (take_all i xs le)) so_far

@@ -1,0 +1,50 @@
+-- The lines of `show`.
+use Rattle.std.specs.Prelude.{◌≡◌, ℕ, ◌+◌, ◌-◌, ◌*◌, ◌/◌, ◌<◌, ◌==◌, if◌then◌else◌, List, [], ◌∷◌, ◌++◌, length, codes, ⊤}
+use Rattle.std.specs.List.{flat_map, enumerate_from, All}
+use Rattle.text_cols.specs.Columns.{decimal, hex8_of}
+use Rattle.gp_base.specs.declared.records.RawArc.{RawArc}
+use Rattle.gp_base.specs.declared.records.RawHist.{RawHist}
+use Rattle.gp_base.specs.declared.records.Rec.{Rec}
+use Rattle.gp_base.specs.declared.records.Rec.TheVariants.{Hist, Arc, Blocks}
+use Rattle.gp_base.specs.declared.records.Records.{Records}
+use Rattle.gp_base.specs.declared.records.Form.TheVariants.{Bsd}
+
+-- what a histogram of the 4.4BSD form begins with
+unfoldable pub header_line : RawHist → List ℕ
+header_line hist =
+    codes "bsd low " ++ hex8_of hist.low ++ codes " high " ++ hex8_of hist.high ++ codes " counters " ++ decimal (length hist.counters) ++ codes " rate " ++ decimal hist.unit.rate ++ codes "\n"
+
+-- where counter i of a histogram begins
+abbrev pub address_of : RawHist → ℕ → ℕ
+address_of hist i = hist.low + i * (hist.high - hist.low) / length hist.counters
+
+unfoldable pub count_line : ℕ → ℕ → List ℕ
+count_line address counter = codes "count " ++ hex8_of address ++ codes " " ++ decimal counter ++ codes "\n"
+
+-- a counter that is 0 has no line
+abbrev pub count_text : RawHist → ℕ × ℕ → List ℕ
+count_text hist numbered = if numbered.1 == 0 then [] else count_line (address_of hist numbered.0) numbered.1
+
+unfoldable pub arc_line : RawArc → List ℕ
+arc_line arc = codes "arc " ++ hex8_of arc.from ++ codes " " ++ hex8_of arc.to ++ codes " " ++ decimal arc.count ++ codes "\n"
+
+-- the lines of a record of the 4.4BSD form, which has no counts of blocks
+unfoldable pub rec_text : Rec → List ℕ
+rec_text (Hist hist) = header_line hist ++ flat_map (count_text hist) (enumerate_from 0 hist.counters)
+rec_text (Arc arc) = arc_line arc
+rec_text (Blocks blocks) = []
+
+-- the lines of all records, in file order
+unfoldable pub show_text : Records → List ℕ
+show_text records = flat_map rec_text records.recs
+
+-- counters share a range that isn't empty
+abbrev pub HasRange : Rec → Type 0
+HasRange (Hist hist) = 0 < length hist.counters → hist.low < hist.high
+HasRange (Arc arc) = ⊤
+HasRange (Blocks blocks) = ⊤
+
+-- what can be shown: records of the 4.4BSD form, as far as reading that form gives them
+pub record IsShowable (records : Records) : Type 0 where
+  pub form : records.form ≡ Bsd
+  pub ranges : All HasRange records.recs
