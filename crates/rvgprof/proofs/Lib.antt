@@ -1,0 +1,4 @@
+pub mod Replies
+pub mod Endings
+pub mod LastLine
+pub mod Showable

@@ -1,0 +1,64 @@
+-- What the program answers: how it ends and what it does, from the words and the files alone. It knows
+-- neither want of memory nor faults of the host. A missing input counts as an empty file.
+use Rattle.std.specs.Prelude.{ℕ, nat_lt, List, [], ◌∷◌, length, take, Option, Some, None, Result, Ok, Err, bytes_eq, codes, if◌then◌else◌}
+use Rattle.gp_base.specs.declared.refusal.GmonRefusal.{GmonRefusal}
+use Rattle.gp_base.specs.declared.refusal.GmonRefusal.TheVariants.{Version}
+use Rattle.gp_base.specs.declared.refusal.GmonRefusal.TheVariants as refusals
+use Rattle.gp_base.specs.declared.limits.TheConstants.{MAX_PROFILE_BYTES}
+use Rattle.host_port.specs.declared.loading.LoadRefusal.{LoadRefusal}
+use Rattle.host_port.specs.declared.loading.LoadRefusal.TheVariants as loads
+use Rattle.host_port.specs.Act.{Act, Out, File, content_of}
+use Rattle.text_lines.specs.Lines.{show_text}
+use Rattle.gmon_bsd.specs.Reading.{bsd_refusal, bsd_records}
+use Rattle.rvgprof.specs.declared.outcome.Done.{Done}
+use Rattle.rvgprof.specs.declared.outcome.Fault.{Fault}
+use Rattle.rvgprof.specs.declared.outcome.Fault.TheVariants.{Usage, BadProfile, ReadFault, OutOfMemory, TooLarge}
+use Rattle.rvgprof.specs.declared.words.Command.{Command}
+use Rattle.rvgprof.specs.declared.words.Command.TheVariants.{Show}
+use Rattle.rvgprof.specs.Words.{command_of, name_of}
+
+pub record Reply : Type 0 where
+  pub ending : Result Done Fault
+  pub acts : List Act
+
+abbrev pub refused : Fault → Reply
+refused fault = record { ending = Err fault; acts = [] }
+
+abbrev pub ended : List Act → Reply
+ended acts = record { ending = Ok (record {}); acts = acts }
+
+-- the first fault of a profile file. A file that begins with `gmon` is of another form, which is read
+-- as another version.
+unfoldable pub file_refusal : List ℕ → Option GmonRefusal
+file_refusal bytes = if bytes_eq (take 4 bytes) (codes "gmon") then Some (Version 1852796263) else bsd_refusal bytes
+
+abbrev pub show_accepted : ℕ → List ℕ → Option GmonRefusal → Reply
+show_accepted word bytes (Some refusal) = refused (BadProfile refusal word)
+show_accepted word bytes None = ended (Out (show_text (bsd_records bytes)) ∷ [])
+
+-- the lines of one profile file
+unfoldable pub show_reply : ℕ → List ℕ → Reply
+show_reply word bytes =
+    if nat_lt MAX_PROFILE_BYTES (length bytes) then refused (TooLarge word MAX_PROFILE_BYTES) else show_accepted word bytes (file_refusal bytes)
+
+abbrev pub command_reply : List (List ℕ) → List File → Option Command → Reply
+command_reply words files None = refused Usage
+command_reply words files (Some (Show gmon)) = show_reply gmon (content_of (name_of words gmon) files)
+
+abbrev pub answer_of : List (List ℕ) → List File → Reply
+answer_of words files = command_reply words files (command_of words)
+
+-- what a refusal of a file is for the program
+abbrev pub load_fault_of : LoadRefusal → ℕ → ℕ → Fault
+load_fault_of loads.ReadFault word limit = ReadFault word
+load_fault_of loads.TooLarge word limit = TooLarge word limit
+load_fault_of loads.OutOfMemory word limit = OutOfMemory
+
+abbrev pub profile_fault_of : GmonRefusal → ℕ → Fault
+profile_fault_of refusals.OutOfMemory word = OutOfMemory
+profile_fault_of (refusals.Short at) word = BadProfile (refusals.Short at) word
+profile_fault_of (refusals.Version value) word = BadProfile (refusals.Version value) word
+profile_fault_of (refusals.Tag at value) word = BadProfile (refusals.Tag at value) word
+profile_fault_of (refusals.Range at low high) word = BadProfile (refusals.Range at low high) word
+profile_fault_of (refusals.Size value) word = BadProfile (refusals.Size value) word
+profile_fault_of (refusals.Rest at) word = BadProfile (refusals.Rest at) word

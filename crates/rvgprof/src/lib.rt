@@ -1,0 +1,15 @@
+//! The program: its words, its commands, its fault lines, and the one call that does all of it.
+#![tactic(auto)]
+
+mod complaints;
+pub mod outcome;
+mod profile_file;
+mod show;
+pub mod top;
+mod words;
+
+pub use outcome::{Done, Fault};
+pub use top::rvgprof;
+
+#[cfg(test)]
+mod tests;
