@@ -5,8 +5,8 @@ use Rattle.std.proofs.lemmas.List.{take-append-le, take_all, take_more, take-app
 use Rattle.std.specs.List.{flat_map}
 use Rattle.std.proofs.lemmas.List.Concat.{flat_map-append}
 use Rattle.host_port.specs.Act.{Act}
-use Rattle.host_port.specs.Outside.{Outside, Did, Rose, KeepsInput, KeepsCounts}
-use Rattle.host_port.specs.Host.{Side, File, Output, ErrorOutput, act_of, CountsOf, Takes, TakesAll, Puts, Writes, Complains}
+use Rattle.host_port.specs.Outside.{Outside, Did, Rose, KeepsCounts}
+use Rattle.host_port.specs.Host.{Side, File, Output, ErrorOutput, act_of, CountsOf, Takes, TakesAll, Puts}
 use Rattle.host_port.proofs.Laws.{KeepsInput-same, KeepsInput-then}
 use Rattle.host_port.proofs.Piecewise.{IsPiecewise, write_piecewise, out_piecewise, err_piecewise, Did-join, Did-none, Along, along_end, along_fail}
 
@@ -42,7 +42,7 @@ takes_then act pw a b x y z u (Err e) p q =
       part = (
         length a + n,
         omega (arith, length-append a b, q.part.1),
-        subst (λ (v : List ℕ). Did (act v ∷ []) x z) (sym front) (Did-join act pw a (take n b) x y z p.done q.part.2)
+        subst (λ (v : List ℕ). Did (act v ∷ []) x z) (sym front) (Did-join act pw a (take n b) x y z p.done q.part.2),
       );
       input = KeepsInput-then x y z p.input q.input;
     }
@@ -119,7 +119,7 @@ puts_stop {X} {T} {E} side f xs i item a b c u e lt is so_far one =
     let rest = flat_map f (drop (i + 1) xs) in
     let whole : flat_map f (take (i + 1) xs) ++ rest ≡ flat_map f xs = sym (flat_map-append f (take (i + 1) xs) (drop (i + 1) xs)) ∙ ap (flat_map f) (take-append-drop (i + 1) xs) in
     let front : Puts {T = T} side (flat_map f (take (i + 1) xs)) a c (Err e) =
-        subst (λ (t : List ℕ). Puts {T = T} side t a c (Err e)) (sym (more f xs i item lt is)) (puts_then side (flat_map f (take i xs)) (f item) a b c u (Err e) so_far one) in
+    subst (λ (t : List ℕ). Puts {T = T} side t a c (Err e)) (sym (more f xs i item lt is)) (puts_then side (flat_map f (take i xs)) (f item) a b c u (Err e) so_far one) in
     subst (λ (t : List ℕ). Puts {T = T} side t a c (Err e)) whole (puts_front side (flat_map f (take (i + 1) xs)) rest a c e front)
 
 pub puts_all : {X T E : Type 0} (side : Side) (f : X → List ℕ) (xs : List X) (i : ℕ) (a b : Outside) (r : Result T E) → length xs ≤ i → Puts side (flat_map f (take i xs)) a b r → Puts side (flat_map f xs) a b r

@@ -127,7 +127,7 @@ files_then f g (Some x) (Some y) (Some z) same p q =
 pub Shows-then-err : (front : List Act) (line : List ℕ) (x y z : Outside) → Shows front x y → Did (Err line ∷ []) y z → Shows (front ++ Err line ∷ []) x z
 Shows-then-err front line x y z shows did = record {
   files = files_then (λ d. (disk_after front d).files) (λ d. (disk_after (front ++ Err line ∷ []) d).files) x.disk y.disk z.disk
-    (λ d. ap (λ (e : Disk). e.files) (sym (disk_after-append front (Err line ∷ []) d))) shows.files did.disk;
+      (λ d. ap (λ (e : Disk). e.files) (sym (disk_after-append front (Err line ∷ []) d))) shows.files did.disk;
   out = Becomes-by _ _ x.out z.out (λ b. append_assoc b (printed front) (printed (Err line ∷ [])) ∙ ap (λ (v : List ℕ). b ++ v) (sym (printed-append front (Err line ∷ [])))) (Becomes-then (λ b. b ++ printed front) (λ b. b ++ printed (Err line ∷ [])) x.out y.out z.out shows.out did.out);
   err = Becomes-by _ _ x.err z.err (λ b. append_assoc b (complained front) (complained (Err line ∷ [])) ∙ ap (λ (v : List ℕ). b ++ v) (sym (complained-append front (Err line ∷ [])))) (Becomes-then (λ b. b ++ complained front) (λ b. b ++ complained (Err line ∷ [])) x.err y.err z.err shows.err did.err);
 }

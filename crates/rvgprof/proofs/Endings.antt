@@ -1,5 +1,5 @@
 -- Each way in which `show` ends.
-use Rattle.std.proofs.Common.{◌≡◌, ℕ, ◌<◌, ◌≤◌, Bool, false, List, [], ◌∷◌, ◌++◌, length, take, Option, Some, None, Result, Ok, Err, inl, inr, refl, sym, ap, subst, ◌∙◌, arith}
+use Rattle.std.proofs.Common.{◌≡◌, ℕ, ◌<◌, false, List, [], ◌∷◌, length, take, Option, Some, None, Result, Ok, Err, inr, refl, sym, ap, subst, ◌∙◌, arith}
 use Rattle.std.specs.Prelude.{IfSome, MatchOption, Contains, ⊤}
 use Rattle.std.specs.Global.{Vec}
 use Rattle.gp_base.specs.declared.refusal.GmonRefusal.{GmonRefusal}
@@ -22,7 +22,7 @@ use Rattle.rvgprof.specs.declared.words.Command.{Command}
 use Rattle.rvgprof.specs.declared.words.Command.TheVariants.{Show}
 use Rattle.rvgprof.specs.Words.{command_of, inputs_of, name_of}
 use Rattle.rvgprof.specs.Answer.{Reply, refused, ended, file_refusal, show_reply, answer_of, load_fault_of, profile_fault_of}
-use Rattle.rvgprof.specs.Contract.{IsFront, IsPart, Owes, NothingBefore, WhereTold, HasCause, Acted}
+use Rattle.rvgprof.specs.Contract.{IsPart, Owes, NothingBefore, Acted}
 use Rattle.rvgprof.proofs.Replies.{answer_at, too_large_reply, refused_reply, shown_reply, nothing_before}
 
 -- what holds of the files afterwards holds where they are told, if they are the same

@@ -1,7 +1,7 @@
 -- The last line, behind what was done.
-use Rattle.std.proofs.Common.{◌≡◌, ℕ, ◌<◌, List, [], ◌∷◌, ◌++◌, length, take, Option, Some, None, Result, Ok, Err, inl, inr, ◌⊎◌, ⊎_elim, refl, sym, ap, subst, ◌∙◌}
+use Rattle.std.proofs.Common.{◌≡◌, ℕ, List, [], ◌∷◌, take, Option, Some, None, Result, Ok, Err, inl, inr, refl, sym, subst, ◌∙◌}
 use Rattle.std.specs.Prelude.{IfSome, MatchOption, ⊤}
-use Rattle.host_port.specs.Act.{Act, Disk, File}
+use Rattle.host_port.specs.Act.{Disk, File}
 use Rattle.host_port.specs.Act.{Err as Complain}
 use Rattle.host_port.specs.Outside.{Outside, Becomes, Did, Rose}
 use Rattle.host_port.specs.Host.{Puts, ErrorOutput}
@@ -11,7 +11,7 @@ use Rattle.rvgprof.specs.declared.outcome.Done.{Done}
 use Rattle.rvgprof.specs.declared.outcome.Fault.{Fault}
 use Rattle.rvgprof.specs.declared.outcome.Fault.TheVariants.{Usage, BadProfile, ReadFault, WriteFault, OutOfMemory, TooLarge}
 use Rattle.rvgprof.specs.Texts.{fault_line}
-use Rattle.rvgprof.specs.Contract.{Owes, WhereTold, HasCause, NothingFailed, IsFront, LineEnds, Acted, Answered}
+use Rattle.rvgprof.specs.Contract.{Owes, HasCause, NothingFailed, LineEnds, Acted, Answered}
 
 -- what is owed where the files are told up to a moment is owed where they are told up to a later one
 told_on : (a b c : Option Disk) (P : List File → Type 0) → Becomes (λ d. d) b c → MatchOption b ⊤ (λ _. IfSome a (λ d. P d.files)) → MatchOption c ⊤ (λ _. IfSome a (λ d. P d.files))

@@ -3,15 +3,13 @@ use Rattle.std.proofs.Common.{◌≡◌, ℕ, ◌<◌, ◌≤◌, Bool, true, fa
 use Rattle.std.proofs.lemmas.Bool.{lt-ltb, le-ltb}
 use Rattle.gp_base.specs.declared.refusal.GmonRefusal.{GmonRefusal}
 use Rattle.gp_base.specs.declared.limits.TheConstants.{MAX_PROFILE_BYTES}
-use Rattle.host_port.specs.Act.{Act, Out, File, content_of}
+use Rattle.host_port.specs.Act.{Out, File, content_of}
 use Rattle.text_lines.specs.Lines.{show_text}
 use Rattle.gmon_bsd.specs.Reading.{bsd_records}
-use Rattle.rvgprof.specs.declared.outcome.Fault.{Fault}
 use Rattle.rvgprof.specs.declared.outcome.Fault.TheVariants.{BadProfile, TooLarge}
-use Rattle.rvgprof.specs.declared.words.Command.{Command}
 use Rattle.rvgprof.specs.declared.words.Command.TheVariants.{Show}
 use Rattle.rvgprof.specs.Words.{command_of, name_of}
-use Rattle.rvgprof.specs.Answer.{Reply, refused, ended, file_refusal, show_accepted, show_reply, command_reply, answer_of}
+use Rattle.rvgprof.specs.Answer.{refused, ended, file_refusal, show_accepted, show_reply, command_reply, answer_of}
 use Rattle.rvgprof.specs.Contract.{NothingBefore}
 
 pub answer_at : (words : List (List ℕ)) (files : List File) (gmon : ℕ) → command_of words ≡ Some (Show gmon) → answer_of words files ≡ show_reply gmon (content_of (name_of words gmon) files)

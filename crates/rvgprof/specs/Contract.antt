@@ -1,6 +1,6 @@
 -- What the program owes after each answer.
 use Rattle.std.specs.Prelude.{◌≡◌, ℕ, ◌<◌, ◌≤◌, false, List, [], ◌∷◌, ◌++◌, length, take, Result, Ok, Err, ◌⊎◌, MatchOption, IfSome, Contains, ⊤}
-use Rattle.host_port.specs.Act.{Act, Create, Write, Close, Out, File}
+use Rattle.host_port.specs.Act.{Act, Write, Out, File}
 use Rattle.host_port.specs.Act.{Err as Complain}
 use Rattle.host_port.specs.Outside.{Outside, Shows, Rose}
 use Rattle.rvgprof.specs.declared.outcome.Done.{Done}

@@ -1,5 +1,5 @@
 -- The fault lines.
-use Rattle.std.specs.Prelude.{ℕ, List, [], ◌∷◌, ◌++◌, codes, Result, Ok, Err}
+use Rattle.std.specs.Prelude.{ℕ, List, [], ◌++◌, codes, Result, Ok, Err}
 use Rattle.text_cols.specs.Columns.{decimal, hex8_of}
 use Rattle.gp_base.specs.declared.refusal.GmonRefusal.{GmonRefusal}
 use Rattle.gp_base.specs.declared.refusal.GmonRefusal.TheVariants as refusals

@@ -1,6 +1,5 @@
 -- The reading of the words of the command line.
-use Rattle.std.specs.Prelude.{ℕ, ◌==◌, Bool, true, false, List, [], ◌∷◌, map, Option, Some, None, bytes_eq, codes, string_bytes, get_or, String, if◌then◌else◌}
-use Rattle.std.specs.Global as global
+use Rattle.std.specs.Prelude.{ℕ, ◌==◌, Bool, true, false, List, [], ◌∷◌, Option, Some, None, bytes_eq, codes, get_or, if◌then◌else◌}
 use Rattle.rvgprof.specs.declared.words.Command.{Command}
 use Rattle.rvgprof.specs.declared.words.Command.TheVariants.{Show}
 

@@ -1,5 +1,5 @@
 -- The lines of `show`.
-use Rattle.std.specs.Prelude.{◌≡◌, ℕ, ◌+◌, ◌-◌, ◌*◌, ◌/◌, ◌<◌, ◌==◌, if◌then◌else◌, List, [], ◌∷◌, ◌++◌, length, codes, ⊤}
+use Rattle.std.specs.Prelude.{◌≡◌, ℕ, ◌+◌, ◌-◌, ◌*◌, ◌/◌, ◌<◌, ◌==◌, if◌then◌else◌, List, [], ◌++◌, length, codes, ⊤}
 use Rattle.std.specs.List.{flat_map, enumerate_from, All}
 use Rattle.text_cols.specs.Columns.{decimal, hex8_of}
 use Rattle.gp_base.specs.declared.records.RawArc.{RawArc}

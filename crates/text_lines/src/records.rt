@@ -47,12 +47,7 @@ fn show_counters<H: Host>(hist: &RawHist, host: &mut H) -> Result<(), Failed>
     Ok(())
 }
 
-fn show_counter<H: Host>(
-    hist: &RawHist,
-    i: usize,
-    counter: u16,
-    host: &mut H,
-) -> Result<(), Failed>
+fn show_counter<H: Host>(hist: &RawHist, i: usize, counter: u16, host: &mut H) -> Result<(), Failed>
     requires within { i < length hist.now.counters }
     requires range { hist.now.low < hist.now.high }
     ensures { Puts Output (count_text hist.now (i, counter)) (H.outside host.old) (H.outside host.new) result }

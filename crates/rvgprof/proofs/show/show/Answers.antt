@@ -1,4 +1,3 @@
-use Rattle.std.proofs.Common.{ap}
 use Rattle.std.specs.Prelude.{map, string_bytes}
 use Rattle.rvgprof.proofs.Endings.{not_loaded, not_read, shown, not_shown, load_understood, profile_understood}
 use Rattle.gp_base.specs.declared.limits.TheConstants.{MAX_PROFILE_BYTES}

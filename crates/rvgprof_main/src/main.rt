@@ -1,0 +1,42 @@
+//! The program: the words of the command line, the system as a host, and the exit status.
+#![tactic(auto)]
+
+mod real_host;
+
+use real_host::RealHost;
+use rvgprof::rvgprof;
+use std::process::ExitCode;
+use std::{env, io};
+
+/// The status where the words can't be had for want of memory.
+const NO_MEMORY: u8 = 7;
+
+/// The status where the words can't be had for another cause, as a word that is no UTF-8.
+const NO_WORDS: u8 = 12;
+
+fn main(rt: HostRuntime) -> ExitCode {
+    let alloc = rt.alloc();
+    let words = match words_of(&rt) {
+        Ok(words) => words,
+        Err(e) => return ExitCode::from(status_of(&e)),
+    };
+    let mut host = RealHost::new(rt);
+    match rvgprof(alloc, words.as_slice(), &mut host) {
+        Ok(done) => ExitCode::from(done.status()),
+        Err(fault) => ExitCode::from(fault.status()),
+    }
+}
+
+/// The words after the program's name.
+fn words_of(rt: &HostRuntime) -> io::Result<Vec<String>> {
+    let words = env::args(rt)?.skip(1).collect(rt.alloc())?;
+    Ok(words)
+}
+
+fn status_of(e: &io::Error) -> u8 {
+    if e.kind() == io::ErrorKind::OutOfMemory {
+        NO_MEMORY
+    } else {
+        NO_WORDS
+    }
+}
