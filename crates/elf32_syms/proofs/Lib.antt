@@ -1,0 +1,5 @@
+pub mod Numbers
+pub mod Ranges
+pub mod Text
+pub mod NameEnds
+pub mod Loading
