@@ -1,10 +1,16 @@
 -- The text, as a walk over the sections finds it.
-use Rattle.std.proofs.Common.{◌≡◌, ◌≢◌, ◌<◌, ◌≤◌, ℕ, zero, suc, ◌+◌, ◌-◌, min, max, Bool, true, false, cond, nat_eq, List, [], ◌∷◌, ◌++◌, length, refl, ap, sym, ◌∙◌, arith, map}
+use Rattle.std.proofs.Common.{◌||◌, ◌⊎◌, inl, nat_lt, if◌then◌else◌, Option, Some, None, ◌≡◌, ◌≢◌, ◌<◌, ◌≤◌, ℕ, zero, suc, ◌+◌, ◌-◌, min, max, Bool, true, false, cond, nat_eq, List, [], ◌∷◌, ◌++◌, length, refl, ap, sym, ◌∙◌, arith, map}
 use Rattle.std.specs.List.{filter}
 use Rattle.std.proofs.lemmas.Bool.Decides.{nat_tests}
 use Rattle.std.proofs.lemmas.List.{length-map}
 use Rattle.elf32_syms.specs.Fields.{numbers_below, has_flag}
-use Rattle.elf32_syms.specs.Sections.{sh_addr, sh_size, section_end, is_executable, lowest, highest}
+use Rattle.std.proofs.lemmas.Bool.{eq-eqb, ne_eqb}
+use Rattle.elf32_syms.specs.declared.refusal.ElfRefusal.{ElfRefusal}
+use Rattle.elf32_syms.specs.declared.refusal.ElfRefusal.TheVariants.{TextRange}
+use Rattle.elf32_syms.specs.Header.{e_shnum}
+use Rattle.elf32_syms.specs.Sections.{sh_addr, sh_size, section_end, is_executable, executables, lowest, highest, text_low, text_high}
+use Rattle.elf32_syms.specs.Refusals.{is_too_far, text_refusal}
+use Rattle.elf32_syms.proofs.In.{lowest_le, le_highest}
 use Rattle.elf32_syms.proofs.Ranges.{map_takes, filter_leaves}
 
 lowest_push : (x : ℕ) (xs : List ℕ) (y : ℕ) → lowest ((x ∷ xs) ++ y ∷ []) ≡ min y (lowest (x ∷ xs))
@@ -14,6 +20,12 @@ lowest_push x (z ∷ zs) y = let e = lowest_push z zs y in omega arith
 pub highest_push : (xs : List ℕ) (y : ℕ) → highest (xs ++ y ∷ []) ≡ max y (highest xs)
 highest_push [] y = refl
 highest_push (x ∷ xs) y = let e = highest_push xs y in omega arith
+
+cons_not_nil : (n : ℕ) (ns : List ℕ) → n ∷ ns ≡ [] → ⊥
+cons_not_nil n ns e = cc
+
+some_none : {r : ElfRefusal} → Some r ≡ None → ⊥
+some_none e = cc
 
 -- an executable section is not empty
 pub executable_end : (bs : List ℕ) (i : ℕ) → is_executable bs i ≡ true → 0 < section_end bs i
@@ -37,10 +49,7 @@ lowest_takes : (bs : List ℕ) (i high : ℕ) (ns : List ℕ) → high ≡ highe
     → ((high ≡ 0 → lowest (map (sh_addr bs) ns ++ sh_addr bs i ∷ []) ≡ sh_addr bs i) × (high ≢ 0 → lowest (map (sh_addr bs) ns ++ sh_addr bs i ∷ []) ≡ min (sh_addr bs i) (lowest (map (sh_addr bs) ns))))
 lowest_takes bs i high [] h none = (λ _. refl, λ some. absurd (some h))
 lowest_takes bs i high (n ∷ ns) h none =
-    (λ zero_high. absurd (cons_not_nil (none zero_high)), λ some. lowest_push (sh_addr bs n) (map (sh_addr bs) ns) (sh_addr bs i))
-  where
-  cons_not_nil : n ∷ ns ≡ [] → ⊥
-  cons_not_nil e = cc
+    (λ zero_high. absurd (cons_not_nil n ns (none zero_high)), λ some. lowest_push (sh_addr bs n) (map (sh_addr bs) ns) (sh_addr bs i))
 
 pub record TextTakes (bs : List ℕ) (i low high : ℕ) : Type 0 where
   pub first : high ≡ 0 → lowest (map (sh_addr bs) (filter (is_executable bs) (numbers_below (i + 1)))) ≡ sh_addr bs i
@@ -65,6 +74,57 @@ pub text_leaves : {X : Type 0} (bs : List ℕ) (g : List ℕ → X) (f : ℕ →
     → g (map f (filter (is_executable bs) (numbers_below (i + 1)))) ≡ g (map f (filter (is_executable bs) (numbers_below i)))
 text_leaves bs g f i left = ap (λ (ns : List ℕ). g (map f ns)) (filter_leaves (is_executable bs) i left)
 
--- the text's high end is 0 where there is no executable section, and only there
-pub text_none : (bs : List ℕ) (ns : List ℕ) → highest (map (section_end bs) (filter (is_executable bs) ns)) ≡ 0 → length (filter (is_executable bs) ns) ≡ 0
-text_none bs ns h = ap length (none_highest bs ns h)
+-- the text's high end is 0 exactly where there is no executable section
+pub no_text : (bs : List ℕ) → nat_eq (length (executables bs)) 0 ≡ nat_eq (text_high bs) 0
+unfolding text_high
+no_text bs = by (executables bs) refl
+  where
+  by : (ns : List ℕ) → executables bs ≡ ns → nat_eq (length (executables bs)) 0 ≡ nat_eq (highest (map (section_end bs) (executables bs))) 0
+  by [] e = rw e refl
+  by (n ∷ ns) e =
+      let some : highest (map (section_end bs) (executables bs)) ≢ 0 = λ none. cons_not_nil n ns (sym e ∙ none_highest bs (numbers_below (e_shnum bs)) none) in
+      rw (ne_eqb (highest (map (section_end bs) (executables bs))) 0 some, e) (ne_eqb (suc (length ns)) 0 (λ (q : suc (length ns) ≡ 0). omega arith))
+
+spans : (bs : List ℕ) (ns : List ℕ) → lowest (map (sh_addr bs) ns) ≤ highest (map (section_end bs) ns)
+spans bs [] = omega arith
+spans bs (n ∷ ns) =
+    let low = lowest_le (map (sh_addr bs) (n ∷ ns)) (sh_addr bs n) (inl refl) in
+    let high = le_highest (map (section_end bs) (n ∷ ns)) (section_end bs n) (inl refl) in
+    omega arith
+
+pub low_le_high : (bs : List ℕ) → text_low bs ≤ text_high bs
+unfolding text_low text_high
+low_le_high bs = spans bs (executables bs)
+
+-- the refusal, by the two ends
+pub text_judged : (bs : List ℕ) (low high : ℕ) → low ≡ text_low bs → high ≡ text_high bs
+    → text_refusal bs ≡ (if nat_eq high 0 || is_too_far low high then Some (TextRange low high) else None)
+unfolding text_refusal
+text_judged bs low high l h =
+    rw (no_text bs, l, h) refl
+
+-- what an accepted text's ends are
+pub text_limits : (bs : List ℕ) → text_refusal bs ≡ None → (text_low bs ≤ text_high bs) × (text_high bs - text_low bs ≤ 16777216) × (text_high bs ≤ 4294963200)
+text_limits bs none =
+    by (nat_eq (text_high bs) 0) (nat_lt 16777216 (text_high bs - text_low bs)) (nat_lt 4294963200 (text_high bs)) refl refl (sym (text_judged bs (text_low bs) (text_high bs) refl refl) ∙ none)
+  where
+  by : (a b c : Bool) → nat_lt 16777216 (text_high bs - text_low bs) ≡ b → nat_lt 4294963200 (text_high bs) ≡ c
+      → (if a || (b || c) then Some (TextRange (text_low bs) (text_high bs)) else None) ≡ None
+      → (text_low bs ≤ text_high bs) × (text_high bs - text_low bs ≤ 16777216) × (text_high bs ≤ 4294963200)
+  by false false false p q h = let le = low_le_high bs in (le, grind (arith, nat_tests), grind (arith, nat_tests))
+  by true b c p q h = absurd (some_none h)
+  by false true c p q h = absurd (some_none h)
+  by false false true p q h = absurd (some_none h)
+
+pub empty_refused : (bs : List ℕ) (low high : ℕ) → low ≡ text_low bs → high ≡ text_high bs → high ≡ 0 → text_refusal bs ≡ Some (TextRange low high)
+empty_refused bs low high l h none = text_judged bs low high l h ∙ rw (eq-eqb high 0 none) refl
+
+pub far_refused : (bs : List ℕ) (low high : ℕ) → low ≡ text_low bs → high ≡ text_high bs → is_too_far low high ≡ true → text_refusal bs ≡ Some (TextRange low high)
+far_refused bs low high l h far = text_judged bs low high l h ∙ by (nat_eq high 0) (is_too_far low high) far
+  where
+  by : (a b : Bool) → b ≡ true → (if a || b then Some (TextRange low high) else None) ≡ Some (TextRange low high)
+  by true b e = refl
+  by false b e = rw e refl
+
+pub text_accepted : (bs : List ℕ) (low high : ℕ) → low ≡ text_low bs → high ≡ text_high bs → high ≢ 0 → is_too_far low high ≡ false → text_refusal bs ≡ None
+text_accepted bs low high l h some near = text_judged bs low high l h ∙ rw (ne_eqb high 0 some, near) refl

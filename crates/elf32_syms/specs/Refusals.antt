@@ -39,10 +39,14 @@ is_cut_off bs i = is_segment bs i && nat_lt (length bs) (p_offset bs i + loaded 
 unfoldable pub segments_refusal : List ℕ → Option ElfRefusal
 segments_refusal bs = option_map (λ i. OutOfFile (p_offset bs i)) (find (is_cut_off bs) (numbers_below (e_phnum bs)))
 
--- no text, one that is too long, or one that ends too high
+-- a range that is too long for a text, or ends too high
+abbrev pub is_too_far : ℕ → ℕ → Bool
+is_too_far low high = nat_lt MAX_TEXT_BYTES (high - low) || nat_lt MAX_TEXT_END high
+
+-- no executable section, or sections that reach too far
 unfoldable pub text_refusal : List ℕ → Option ElfRefusal
 text_refusal bs =
-    if (length (executables bs) == 0) || nat_lt MAX_TEXT_BYTES (text_high bs - text_low bs) || nat_lt MAX_TEXT_END (text_high bs)
+    if (length (executables bs) == 0) || is_too_far (text_low bs) (text_high bs)
     then Some (TextRange (text_low bs) (text_high bs))
     else None
 

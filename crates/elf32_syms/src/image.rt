@@ -1,16 +1,20 @@
 //! The image of a program.
 
+ghost use Rattle.std.specs.Prelude.{◌≡◌, ◌≤◌, length, OnOk, IfOk, IfErr};
+ghost use Rattle.elf32_syms.specs.Refusals.{IsRefusal, elf_refusal};
+ghost use Rattle.elf32_syms.specs.Image.{image_of};
+
+use gp_base::limits::MAX_ELF_BYTES;
 use gp_base::{Items, Name, Span};
 use std::alloc::Global;
 
 use crate::header::{check_header, check_tables, entry};
-use crate::kept::{in_a_row_of, walk};
+use crate::kept::read_functions;
 use crate::owners::owner;
 use crate::refusal::ElfRefusal;
-use crate::sections::{read_text, symbol_table};
+use crate::sections::read_text;
 use crate::segments::read_segments;
-use crate::symbols::check_table;
-use gp_base::limits::MAX_SYMBOLS;
+
 
 /// A function of the program: the addresses from `addr` to below `end`.
 #[derive(Drop)]
@@ -53,8 +57,12 @@ pub struct Image {
 }
 
 impl Image {
+    ghost use Rattle.elf32_syms.specs.Owners.{IsAscending, owner_of};
+
     /// The index of the symbol that `pc` lies in, and None where there is none. Takes no memory.
     pub fn lookup(&self, pc: u32) -> Option<u32>
+        requires { IsAscending self.now.symbols }
+        ensures { result ≡ owner_of self.now.symbols pc }
     {
         owner(self.symbols.as_slice(), pc)
     }
@@ -62,29 +70,25 @@ impl Image {
 
 /// Reads a program's file.
 pub fn read(alloc: Global, bytes: &[u8]) -> Result<Image, ElfRefusal>
+    requires { length bytes.now ≤ MAX_ELF_BYTES }
+
+    // The first refusal whose conditions the bytes meet, or want of memory; and Ok only where none
+    // is met.
+    ensures refusal { IfErr result (λ e. IsRefusal e (elf_refusal bytes.now)) }
+    ensures accepted { OnOk result (elf_refusal bytes.now ≡ None) }
+    ensures image { IfOk result (λ image. image ≡ image_of bytes.now) }
 {
     check_header(bytes)?;
     check_tables(bytes)?;
     let segments = read_segments(alloc, bytes)?;
     let text = read_text(bytes)?;
-    let mut image = Image {
+    let functions = read_functions(alloc, bytes, text.high)?;
+    Ok(Image {
         entry: entry(bytes),
         segments,
         text,
-        symbols: SymbolList::new(alloc),
-        mcount: None,
-        moncontrol: None,
-    };
-    if let Some(table) = symbol_table(bytes) {
-        check_table(bytes, table)?;
-        let found = walk(alloc, bytes, table)?;
-        if found.first.len() > MAX_SYMBOLS as usize {
-            return Err(ElfRefusal::TooManySymbols { count: found.first.len() as u32 });
-        }
-        image.mcount = found.mcount;
-        image.moncontrol = found.moncontrol;
-        let numbers: Vec<u32> = found.first.into_values().collect(alloc)?;
-        image.symbols = in_a_row_of(alloc, bytes, table, &numbers, text.high)?;
-    }
-    Ok(image)
+        symbols: functions.symbols,
+        mcount: functions.mcount,
+        moncontrol: functions.moncontrol,
+    })
 }

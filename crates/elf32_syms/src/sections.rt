@@ -4,7 +4,7 @@ ghost use Rattle.std.specs.Prelude.{◌≡◌, ◌+◌, ◌<◌, ◌≤◌, leng
 ghost use Rattle.elf32_syms.specs.Fields.{u32_at};
 ghost use Rattle.elf32_syms.specs.Header.{e_shnum, section_header, HasTables};
 ghost use Rattle.elf32_syms.specs.Sections.{is_executable as is_executable_of, sh_addr, sh_size, section_end as section_end_of, text_low, text_high, symbol_table as symbol_table_of};
-ghost use Rattle.elf32_syms.specs.Refusals.{Judges, text_refusal};
+ghost use Rattle.elf32_syms.specs.Refusals.{Judges, is_too_far as is_too_far_of, text_refusal};
 
 use crate::fields::word;
 use crate::header::section_headers;
@@ -77,7 +77,7 @@ fn text_range(bytes: &[u8]) -> (u64, u64)
         if is_executable(bytes, index) {
             let addr = u64::from(section_word(bytes, index, SH_ADDR));
 
-            // A section that is executable is not empty, so its end is above 0.
+            // An end is above 0, since these sections are not empty.
             low = if high == 0 { addr } else { addr.min(low) };
             high = section_end(bytes, index).max(high);
         }
@@ -85,8 +85,15 @@ fn text_range(bytes: &[u8]) -> (u64, u64)
     (low, high)
 }
 
+/// Whether a range is too long for a text, or ends too high.
+fn is_too_far(low: u64, high: u64) -> bool
+    requires { low ≤ high }
+    ensures { result ≡ is_too_far_of low high }
+{
+    high - low > u64::from(MAX_TEXT_BYTES) || high > u64::from(MAX_TEXT_END)
+}
+
 /// The text.
-#[tactic(auto, unfolding(crate::specs::Refusals::text_refusal))]
 pub(crate) fn read_text(bytes: &[u8]) -> Result<Span, ElfRefusal>
     requires { HasTables bytes.now }
     ensures judged { Judges (text_refusal bytes.now) result }
@@ -94,7 +101,9 @@ pub(crate) fn read_text(bytes: &[u8]) -> Result<Span, ElfRefusal>
     ensures high { IfOk result (λ text. text.high ≡ text_high bytes.now) }
 {
     let (low, high) = text_range(bytes);
-    if high == 0 || high - low > u64::from(MAX_TEXT_BYTES) || high > u64::from(MAX_TEXT_END) {
+
+    // A section that is executable is not empty, so an end of 0 says that there is none.
+    if high == 0 || is_too_far(low, high) {
         return Err(ElfRefusal::TextRange { low, high });
     }
     Ok(Span { low: low as u32, high: high as u32 })
