@@ -1,5 +1,5 @@
 -- The functions of a program, where it has a symbol table and where it has none.
-use Rattle.std.proofs.Common.{◌≡◌, ◌<◌, ℕ, List, [], ◌∷◌, length, get_or, All, Option, Some, None, codes, refl, ap, sym, ◌∙◌, arith, true, IfOk, OnOk}
+use Rattle.std.proofs.Common.{◌≡◌, ◌<◌, ◌-◌, ℕ, Bool, ◌&&◌, nat_eq, List, [], ◌∷◌, length, get_or, All, Option, Some, None, codes, refl, ap, sym, ◌∙◌, arith, true, IfOk, OnOk}
 use Rattle.std.specs.Option.{option_or}
 use Rattle.std.specs.List.{filter_map, cons_option, find, range_with_len}
 use Rattle.std.proofs.lemmas.List.Elements.{All-cons, All-nil}
@@ -13,6 +13,8 @@ use Rattle.elf32_syms.specs.Refusals.{IsRefusal, table_refusal, names_refusal, c
 use Rattle.elf32_syms.specs.declared.image.Symbol.{Symbol}
 use Rattle.elf32_syms.specs.Image.{in_a_row, symbols_of, mcount_of, moncontrol_of}
 use Rattle.elf32_syms.proofs.In.{IsIn, below_in, found_passes, find_in}
+use Rattle.std.proofs.lemmas.Bool.{eqb-true}
+use Rattle.elf32_syms.proofs.Keeping.{both_first}
 use Rattle.elf32_syms.proofs.Refusing.{refusal_is, refusal_along}
 
 -- no symbol table, no functions
@@ -73,20 +75,27 @@ pub hook_all : (bs : List ℕ) (t : ℕ) (name : List ℕ) → hook_below bs t (
 unfolding hook_below hook_of
 hook_all bs t name = refl
 
-kept_at_below : (bs : List ℕ) (t a n : ℕ) → kept_at bs t a ≡ Some n → n < symbol_count bs t
+kept_at_passes : (bs : List ℕ) (t a n : ℕ) → kept_at bs t a ≡ Some n → (n < symbol_count bs t) × (is_candidate bs t n ≡ true) × (st_value bs t n ≡ a)
 unfolding kept_at
-kept_at_below bs t a n h =
-    let r = found_passes _ (is_candidate bs t) (numbers_below (symbol_count bs t)) n h in
-    below_in (symbol_count bs t) n r.0
+kept_at_passes bs t a n h =
+    let r = found_passes (λ k. nat_eq (st_value bs t k) a && is_first bs t k) (is_candidate bs t) (numbers_below (symbol_count bs t)) n h in
+    (below_in (symbol_count bs t) n r.0, r.1, eqb-true (st_value bs t n) a (both_first (nat_eq (st_value bs t n) a) (is_first bs t n) r.2))
 
-all_filter_map : (f : ℕ → Option ℕ) (m : ℕ) → ((a n : ℕ) → f a ≡ Some n → n < m) → (ns : List ℕ) → All (λ n. n < m) (filter_map f ns)
-all_filter_map f m h [] = All-nil (λ n. n < m)
-all_filter_map f m h (a ∷ ns) = by (f a) refl (all_filter_map f m h ns)
+pub kept_at_there : (bs : List ℕ) (t a n : ℕ) → kept_at bs t a ≡ Some n → st_value bs t n ≡ a
+kept_at_there bs t a n h = (kept_at_passes bs t a n h).2
+
+all_filter_map : (f : ℕ → Option ℕ) (P : ℕ → Type 0) → ((a n : ℕ) → f a ≡ Some n → P n) → (ns : List ℕ) → All P (filter_map f ns)
+all_filter_map f P h [] = All-nil P
+all_filter_map f P h (a ∷ ns) = by (f a) refl (all_filter_map f P h ns)
   where
-  by : (o : Option ℕ) → f a ≡ o → All (λ n. n < m) (filter_map f ns) → All (λ n. n < m) (cons_option o (filter_map f ns))
+  by : (o : Option ℕ) → f a ≡ o → All P (filter_map f ns) → All P (cons_option o (filter_map f ns))
   by None e rest = rest
-  by (Some n) e rest = All-cons (λ n. n < m) n (filter_map f ns) (h a n e) rest
+  by (Some n) e rest = All-cons P n (filter_map f ns) (h a n e) rest
 
 pub kept_below : (bs : List ℕ) (t : ℕ) → All (λ n. n < symbol_count bs t) (kept bs t)
 unfolding kept
-kept_below bs t = all_filter_map (kept_at bs t) (symbol_count bs t) (kept_at_below bs t) _
+kept_below bs t = all_filter_map (kept_at bs t) (λ n. n < symbol_count bs t) (λ a n h. (kept_at_passes bs t a n h).0) (range_with_len (text_low bs) (text_high bs - text_low bs))
+
+pub kept_candidates : (bs : List ℕ) (t : ℕ) → All (λ n. is_candidate bs t n ≡ true) (kept bs t)
+unfolding kept
+kept_candidates bs t = all_filter_map (kept_at bs t) (λ n. is_candidate bs t n ≡ true) (λ a n h. (kept_at_passes bs t a n h).1) (range_with_len (text_low bs) (text_high bs - text_low bs))

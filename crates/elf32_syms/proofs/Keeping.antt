@@ -102,11 +102,11 @@ range_values (suc n) f (e ∷ es) low sorted same inside =
       (cases_eq e.0 low)
 
 -- a candidate's address lies in the text
-both_first : (a b : Bool) → (a && b) ≡ true → a ≡ true
+pub both_first : (a b : Bool) → (a && b) ≡ true → a ≡ true
 both_first true b h = refl
 both_first false b h = h
 
-both_second : (a b : Bool) → (a && b) ≡ true → b ≡ true
+pub both_second : (a b : Bool) → (a && b) ≡ true → b ≡ true
 both_second true b h = h
 both_second false b h = absurd (false≢true h)
 

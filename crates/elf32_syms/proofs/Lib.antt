@@ -1,6 +1,7 @@
 pub mod Numbers
 pub mod Ranges
 pub mod Text
+pub mod Limits
 pub mod Parts
 pub mod Functions
 pub mod Owning

@@ -6,7 +6,7 @@ use Rattle.elf32_syms.specs.Symbols.{st_value, symbol_name}
 use Rattle.elf32_syms.specs.Image.{in_a_row, end_before}
 
 module _ (bs : List ℕ) (t high : ℕ) where
-  length_row : (ns : List ℕ) → length (in_a_row bs t high ns) ≡ length ns
+  pub length_row : (ns : List ℕ) → length (in_a_row bs t high ns) ≡ length ns
   length_row [] = refl
   length_row (n ∷ ns) = ap suc (length_row ns)
 

@@ -128,3 +128,27 @@ far_refused bs low high l h far = text_judged bs low high l h ∙ by (nat_eq hig
 
 pub text_accepted : (bs : List ℕ) (low high : ℕ) → low ≡ text_low bs → high ≡ text_high bs → high ≢ 0 → is_too_far low high ≡ false → text_refusal bs ≡ None
 text_accepted bs low high l h some near = text_judged bs low high l h ∙ rw (ne_eqb high 0 some, near) refl
+
+-- where there is an executable section, the text is not empty
+spans_some : (bs : List ℕ) (q : ℕ → Bool) (ns : List ℕ) → ((k : ℕ) → q k ≡ true → sh_addr bs k < section_end bs k)
+    → highest (map (section_end bs) (filter q ns)) ≢ 0 → lowest (map (sh_addr bs) (filter q ns)) < highest (map (section_end bs) (filter q ns))
+spans_some bs q [] some = λ h. absurd (h refl)
+spans_some bs q (n ∷ ns) some = by (spans_some bs q ns some) (q n) refl
+  where
+  by : (highest (map (section_end bs) (filter q ns)) ≢ 0 → lowest (map (sh_addr bs) (filter q ns)) < highest (map (section_end bs) (filter q ns))) → (b : Bool) → q n ≡ b
+      → highest (map (section_end bs) (cond b (n ∷ filter q ns) (filter q ns))) ≢ 0
+      → lowest (map (sh_addr bs) (cond b (n ∷ filter q ns) (filter q ns))) < highest (map (section_end bs) (cond b (n ∷ filter q ns) (filter q ns)))
+  by rest true e h =
+      let low = lowest_le (map (sh_addr bs) (n ∷ filter q ns)) (sh_addr bs n) (inl refl) in
+      let high = le_highest (map (section_end bs) (n ∷ filter q ns)) (section_end bs n) (inl refl) in
+      let one = some n e in
+      omega arith
+  by rest false e h = rest h
+
+executable_some : (bs : List ℕ) (i : ℕ) → is_executable bs i ≡ true → sh_addr bs i < section_end bs i
+unfolding is_executable
+executable_some bs i taken = grind (arith, nat_tests)
+
+pub low_below_high : (bs : List ℕ) → text_high bs ≢ 0 → text_low bs < text_high bs
+unfolding text_low text_high
+low_below_high bs h = spans_some bs (is_executable bs) (numbers_below (e_shnum bs)) (executable_some bs) h

@@ -1,5 +1,6 @@
 -- The ELF header and its two tables (System V ABI, "ELF Header"; flags: RISC-V ELF ABI).
 use Rattle.std.specs.Prelude.{ℕ, ◌+◌, ◌*◌, ◌≤◌, ◌<◌, Bool, ◌&&◌, ◌==◌, List, length}
+use Rattle.gp_base.specs.declared.limits.TheConstants.{MAX_PROGRAM_HEADERS}
 use Rattle.elf32_syms.specs.Fields.{u8_at, u16_at, u32_at}
 
 -- the fields of the header, under the names of the ABI
@@ -54,4 +55,5 @@ section_header bs i = e_shoff bs + 40 * i
 pub record HasTables (bs : List ℕ) : Type 0 where
   pub header : 52 ≤ length bs
   pub programs : (i : ℕ) → i < e_phnum bs → program_header bs i + 32 ≤ length bs
+  pub few : e_phnum bs ≤ MAX_PROGRAM_HEADERS
   pub sections : (i : ℕ) → i < e_shnum bs → section_header bs i + 40 ≤ length bs

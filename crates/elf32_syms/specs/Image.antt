@@ -1,13 +1,15 @@
 -- The image of a file: what a run and its reports need of the program.
-use Rattle.std.specs.Prelude.{ℕ, ◌<◌, ◌≤◌, List, [], ◌∷◌, length, All, codes, Option, Some, None}
+use Rattle.std.specs.Prelude.{ℕ, ◌+◌, ◌<◌, ◌≤◌, List, [], ◌∷◌, length, All, codes, Option, Some, None}
 use Rattle.std.specs.Option.{option_and_then, option_map_or}
-use Rattle.std.specs.List.{AllAdjacentBelow}
+use Rattle.gp_base.specs.declared.limits.TheConstants.{MAX_PROGRAM_HEADERS, MAX_SYMBOLS, MAX_NAME_BYTES, MAX_TEXT_BYTES, MAX_TEXT_END}
 use Rattle.elf32_syms.specs.declared.image.Symbol.{Symbol}
+use Rattle.elf32_syms.specs.declared.image.Segment.{Segment}
 use Rattle.elf32_syms.specs.declared.image.Image.{Image}
 use Rattle.elf32_syms.specs.Header.{e_entry}
 use Rattle.elf32_syms.specs.Segments.{segments_of}
 use Rattle.elf32_syms.specs.Sections.{text_low, text_high, symbol_table}
 use Rattle.elf32_syms.specs.Symbols.{st_value, symbol_name, kept, hook_of}
+use Rattle.elf32_syms.specs.Owners.{IsAscending}
 
 -- where a symbol ends: at the address of the first of those that follow it, and the last one at the end of the text
 abbrev pub end_before : List ℕ → ℕ → ℕ → List ℕ → ℕ
@@ -39,3 +41,19 @@ image_of bs = record {
   mcount = mcount_of bs;
   moncontrol = moncontrol_of bs
 }
+
+-- what every accepted image is, of a file of this length: its parts are within the limits, the segments lie in the file,
+-- and the symbols are in order and lie in the text
+pub record IsWithinLimits (len : ℕ) (image : Image) : Type 0 where
+  pub text : image.text.low < image.text.high
+  pub text_bytes : image.text.high ≤ image.text.low + MAX_TEXT_BYTES
+  pub text_end : image.text.high ≤ MAX_TEXT_END
+  pub segment_count : length image.segments ≤ MAX_PROGRAM_HEADERS
+  pub segments_in_file : All (λ (s : Segment). s.offset + s.filesz ≤ len) image.segments
+  pub segments_in_memory : All (λ (s : Segment). s.filesz ≤ s.memsz) image.segments
+  pub symbol_count : length image.symbols ≤ MAX_SYMBOLS
+  pub ascending : IsAscending image.symbols
+  pub symbols_from : All (λ (s : Symbol). image.text.low ≤ s.addr) image.symbols
+  pub symbols_to : All (λ (s : Symbol). s.end ≤ image.text.high) image.symbols
+  pub names : All (λ (s : Symbol). 0 < length s.name) image.symbols
+  pub name_bytes : All (λ (s : Symbol). length s.name ≤ MAX_NAME_BYTES) image.symbols

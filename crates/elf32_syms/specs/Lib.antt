@@ -6,5 +6,5 @@ pub mod Names
 pub mod Symbols
 pub mod Found
 pub mod Refusals
-pub mod Image
 pub mod Owners
+pub mod Image

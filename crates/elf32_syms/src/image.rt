@@ -2,7 +2,7 @@
 
 ghost use Rattle.std.specs.Prelude.{◌≡◌, ◌≤◌, length, OnOk, IfOk, IfErr};
 ghost use Rattle.elf32_syms.specs.Refusals.{IsRefusal, elf_refusal};
-ghost use Rattle.elf32_syms.specs.Image.{image_of};
+ghost use Rattle.elf32_syms.specs.Image.{IsWithinLimits, image_of};
 
 use gp_base::limits::MAX_ELF_BYTES;
 use gp_base::{Items, Name, Span};
@@ -77,6 +77,9 @@ pub fn read(alloc: Global, bytes: &[u8]) -> Result<Image, ElfRefusal>
     ensures refusal { IfErr result (λ e. IsRefusal e (elf_refusal bytes.now)) }
     ensures accepted { OnOk result (elf_refusal bytes.now ≡ None) }
     ensures image { IfOk result (λ image. image ≡ image_of bytes.now) }
+
+    // What callers rely on.
+    ensures limits { IfOk result (λ image. IsWithinLimits (length bytes.now) image) }
 {
     check_header(bytes)?;
     check_tables(bytes)?;

@@ -1,6 +1,7 @@
 use Rattle.std.proofs.Common.{◌≡◌, Some, None, sym, ap, ◌∙◌, arith}
 use Rattle.std.proofs.lemmas.Result.{err_from_is_err_and}
 use Rattle.elf32_syms.proofs.Parts.{header_refused, tables_refused, segments_refused, text_refused, functions_refused, all_accepted, image_is}
+use Rattle.elf32_syms.proofs.Limits.{within_limits}
 use Rattle.elf32_syms.proofs.image.read.Goals as goal
 
 pub returns-in_err-check_header-clause-refusal : goal.returns-in_err-check_header-clause-refusal
@@ -36,3 +37,8 @@ pub returns-clause-image : goal.returns-clause-image
 returns-clause-image c =
     let f = c.in_ok-functions.ensures in
     image_is c.args.bytes.now _ c.entry.ensures c.in_ok-segments.ensures.segments c.in_ok-text.ensures.low c.in_ok-text.ensures.high f.symbols f.mcount f.moncontrol
+
+pub returns-clause-limits : goal.returns-clause-limits
+returns-clause-limits c =
+    within_limits c.args.bytes.now _ c.in_ok-check_tables.ensures.inside c.in_ok-segments.ensures.accepted c.in_ok-text.ensures.judged c.in_ok-functions.ensures.accepted
+      c.in_ok-segments.ensures.segments c.in_ok-text.ensures.low c.in_ok-text.ensures.high c.in_ok-functions.ensures.symbols
