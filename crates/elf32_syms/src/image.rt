@@ -1,6 +1,7 @@
 //! The image of a program.
 
-ghost use Rattle.std.specs.Prelude.{◌≡◌, ◌≤◌, length, OnOk, IfOk, IfErr};
+ghost use Rattle.std.specs.Prelude.{◌≡◌, ◌<◌, ◌≤◌, length, OnOk, IfOk, IfErr, IfSome, IfNone, All};
+ghost use Rattle.std.specs.List.{HoldsAt};
 ghost use Rattle.elf32_syms.specs.Refusals.{IsRefusal, elf_refusal};
 ghost use Rattle.elf32_syms.specs.Image.{IsWithinLimits, image_of};
 
@@ -62,7 +63,10 @@ impl Image {
     /// The index of the symbol that `pc` lies in, and None where there is none. Takes no memory.
     pub fn lookup(&self, pc: u32) -> Option<u32>
         requires { IsAscending self.now.symbols }
-        ensures { result ≡ owner_of self.now.symbols pc }
+        ensures is { result ≡ owner_of self.now.symbols pc }
+        ensures inside { IfSome result (λ i. i < length self.now.symbols) }
+        ensures found { IfSome result (HoldsAt (λ s. (s.addr ≤ pc) × (pc < s.end)) self.now.symbols) }
+        ensures none { IfNone result (All (λ s. ¬ ((s.addr ≤ pc) × (pc < s.end))) self.now.symbols) }
     {
         owner(self.symbols.as_slice(), pc)
     }
