@@ -1,21 +1,20 @@
 -- The functions of a program, where it has a symbol table and where it has none.
-use Rattle.std.proofs.Common.{◌≡◌, ◌<◌, ◌-◌, ℕ, Bool, ◌&&◌, nat_eq, List, [], ◌∷◌, length, get_or, All, Option, Some, None, codes, refl, ap, sym, ◌∙◌, arith, true, IfOk, OnOk}
+use Rattle.std.proofs.Common.{◌≡◌, ◌<◌, ◌-◌, ℕ, ◌&&◌, nat_eq, List, [], ◌∷◌, All, Option, Some, None, codes, refl, ◌∙◌, true}
 use Rattle.std.specs.Option.{option_or}
-use Rattle.std.specs.List.{filter_map, cons_option, find, range_with_len}
+use Rattle.std.specs.List.{filter_map, cons_option, range_with_len}
 use Rattle.std.proofs.lemmas.List.Elements.{All-cons, All-nil}
 use Rattle.elf32_syms.specs.Fields.{numbers_below}
 use Rattle.elf32_syms.specs.Header.{e_shnum}
-use Rattle.elf32_syms.specs.Sections.{symbol_table, text_low, text_high, sh_type}
+use Rattle.elf32_syms.specs.Sections.{symbol_table, text_low, text_high}
 use Rattle.elf32_syms.specs.Symbols.{symbol_count, st_value, is_candidate, is_first, kept_at, kept, hook_of}
 use Rattle.elf32_syms.specs.Found.{hook_below}
 use Rattle.elf32_syms.specs.declared.refusal.ElfRefusal.{ElfRefusal}
 use Rattle.elf32_syms.specs.Refusals.{IsRefusal, table_refusal, names_refusal, count_refusal, symbols_refusal}
-use Rattle.elf32_syms.specs.declared.image.Symbol.{Symbol}
 use Rattle.elf32_syms.specs.Image.{in_a_row, symbols_of, mcount_of, moncontrol_of}
-use Rattle.elf32_syms.proofs.In.{IsIn, below_in, found_passes, find_in}
+use Rattle.elf32_syms.proofs.In.{below_in, found_passes, find_in}
 use Rattle.std.proofs.lemmas.Bool.{eqb-true}
 use Rattle.elf32_syms.proofs.Keeping.{both_first}
-use Rattle.elf32_syms.proofs.Refusing.{refusal_is, refusal_along}
+use Rattle.elf32_syms.proofs.Refusing.{refusal_is}
 
 -- no symbol table, no functions
 pub none_refused : (bs : List ℕ) → symbol_table bs ≡ None → symbols_refusal bs ≡ None
@@ -88,9 +87,9 @@ all_filter_map : (f : ℕ → Option ℕ) (P : ℕ → Type 0) → ((a n : ℕ) 
 all_filter_map f P h [] = All-nil P
 all_filter_map f P h (a ∷ ns) = by (f a) refl (all_filter_map f P h ns)
   where
-  by : (o : Option ℕ) → f a ≡ o → All P (filter_map f ns) → All P (cons_option o (filter_map f ns))
-  by None e rest = rest
-  by (Some n) e rest = All-cons P n (filter_map f ns) (h a n e) rest
+    by : (o : Option ℕ) → f a ≡ o → All P (filter_map f ns) → All P (cons_option o (filter_map f ns))
+    by None e rest = rest
+    by (Some n) e rest = All-cons P n (filter_map f ns) (h a n e) rest
 
 pub kept_below : (bs : List ℕ) (t : ℕ) → All (λ n. n < symbol_count bs t) (kept bs t)
 unfolding kept

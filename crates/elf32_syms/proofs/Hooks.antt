@@ -1,11 +1,10 @@
 -- The first candidate of a name, as a walk over the symbols finds it.
-use Rattle.std.proofs.Common.{◌≡◌, ◌<◌, ◌≤◌, ℕ, zero, suc, ◌+◌, Bool, true, false, ◌&&◌, cond, nat_eq, List, [], ◌∷◌, ◌++◌, length, take, Option, Some, None, is_some, option_map, refl, ap, sym, ◌∙◌, arith}
+use Rattle.std.proofs.Common.{◌≡◌, ◌<◌, ◌≤◌, ℕ, zero, suc, ◌+◌, Bool, true, false, ◌&&◌, cond, nat_eq, List, [], ◌∷◌, length, take, Option, Some, None, is_some, option_map, refl, ap, sym, ◌∙◌, arith}
 use Rattle.std.specs.Option.{option_or}
-use Rattle.std.specs.List.{find, filter}
+use Rattle.std.specs.List.{find}
 use Rattle.std.specs.Str.{bytes_eq}
 use Rattle.std.proofs.lemmas.Bool.{false≢true}
 use Rattle.std.proofs.lemmas.List.Folds.{find-append}
-use Rattle.elf32_syms.specs.Fields.{numbers_below}
 use Rattle.elf32_syms.specs.Names.{name_at}
 use Rattle.elf32_syms.specs.Symbols.{st_name, st_value, strings_of, symbol_name, is_candidate, candidates_below}
 use Rattle.elf32_syms.specs.Found.{hook_below}
@@ -32,7 +31,6 @@ module _ {X Y : Type 0} (f : X → Y) where
   next_option (Some x) p h = absurd (false≢true (sym h))
 
 module _ (bs : List ℕ) (t i : ℕ) (name : List ℕ) where
-
   hook_more : is_candidate bs t i ≡ true → hook_below bs t (i + 1) name ≡ option_map (st_value bs t) (option_or (find (λ n. bytes_eq (symbol_name bs t n) name) (candidates_below bs t i)) (cond (bytes_eq (symbol_name bs t i) name) (Some i) None))
   unfolding hook_below
   hook_more taken =

@@ -1,9 +1,8 @@
 -- The segments, as a walk over the program headers finds them.
-use Rattle.std.proofs.Common.{◌≡◌, ◌<◌, ◌≤◌, ℕ, ◌+◌, Bool, true, false, nat_lt, List, length, Option, Some, None, option_map, refl, ap, sym, ◌∙◌, arith}
+use Rattle.std.proofs.Common.{◌≡◌, ◌<◌, ◌≤◌, ℕ, ◌+◌, true, false, List, length, Some, None, refl, ap, arith}
 use Rattle.std.proofs.lemmas.Bool.Decides.{nat_tests}
 use Rattle.elf32_syms.specs.declared.image.Segment.{Segment}
 use Rattle.elf32_syms.specs.declared.refusal.ElfRefusal.TheVariants.{OutOfFile}
-use Rattle.elf32_syms.specs.declared.refusal.ElfRefusal.{ElfRefusal}
 use Rattle.elf32_syms.specs.Fields.{numbers_below}
 use Rattle.elf32_syms.specs.Header.{e_phnum}
 use Rattle.elf32_syms.specs.Segments.{is_segment, segment_at, p_offset, loaded}

@@ -1,6 +1,6 @@
 -- Bisection for the symbol in which an address lies.
-use Rattle.std.proofs.Common.{◌≡◌, ◌<◌, ◌≤◌, ℕ, zero, suc, ◌+◌, ◌-◌, Bool, true, false, not, ◌&&◌, cond, nat_lt, nat_le, List, [], length, get_or, Option, Some, None, refl, ap, sym, ◌∙◌, arith, ⊎_elim, All, position, MatchOption, IfSome, IfNone}
-use Rattle.std.specs.List.{AllAdjacentBelow, AllWithin, HoldsAt, position_or_len}
+use Rattle.std.proofs.Common.{◌≡◌, ◌<◌, ◌≤◌, ℕ, zero, suc, ◌+◌, Bool, true, false, cond, nat_lt, nat_le, List, [], length, get_or, Option, Some, None, refl, sym, ◌∙◌, arith, ⊎_elim, All, MatchOption, IfSome, IfNone}
+use Rattle.std.specs.List.{HoldsAt, position_or_len}
 use Rattle.std.specs.List.Sorted.{IsPartitionedBy, IsPartitionPoint, IsNonDecreasingBy}
 use Rattle.std.proofs.lemmas.Bool.{cases_lt, false≢true}
 use Rattle.std.proofs.lemmas.Bool.Decides.{nat_tests}
@@ -13,13 +13,13 @@ use Rattle.elf32_syms.specs.Owners.{IsAscending, owns, owner_of}
 ends_rise : (symbols : List Symbol) → IsAscending symbols → IsNonDecreasingBy (λ (s : Symbol). s.end) symbols
 ends_rise symbols h =
     IsNonDecreasingBy-from_all_adjacent (λ (s : Symbol). s.end) symbols
-      (λ k d below. let a = h.apart k d below in let e = h.each (k + 1) d below in omega arith)
+    (λ k d below. let a = h.apart k d below in let e = h.each (k + 1) d below in omega arith)
 
 -- so do the addresses
 addresses_rise : (symbols : List Symbol) → IsAscending symbols → IsNonDecreasingBy (λ (s : Symbol). s.addr) symbols
 addresses_rise symbols h =
     IsNonDecreasingBy-from_all_adjacent (λ (s : Symbol). s.addr) symbols
-      (λ k d below. let a = h.apart k d below in let e = h.each k d (omega arith) in omega arith)
+    (λ k d below. let a = h.apart k d below in let e = h.each k d (omega arith) in omega arith)
 
 -- a symbol's place is at most its address
 pub place_le_addr : (symbols : List Symbol) → IsAscending symbols → (i : ℕ) (d : Symbol) → i < length symbols → i ≤ (get_or symbols i d).addr
@@ -35,7 +35,7 @@ pub ended_front : (symbols : List Symbol) (pc : ℕ) → IsAscending symbols →
 ended_front symbols pc h = IsPartitionedBy-leb (λ (s : Symbol). s.end) symbols pc (ends_rise symbols h)
 
 module _ (symbols : List Symbol) (pc i : ℕ) (h : IsAscending symbols)
-  (point : IsPartitionPoint (λ (s : Symbol). nat_le s.end pc ≡ true) (λ (s : Symbol). nat_le s.end pc ≡ false) symbols i) where
+    (point : IsPartitionPoint (λ (s : Symbol). nat_le s.end pc ≡ true) (λ (s : Symbol). nat_le s.end pc ≡ false) symbols i) where
   not_before : (k : ℕ) (d : Symbol) → k < i → owns pc (get_or symbols k d) ≡ false
   not_before k d below = let ended = point.0 k d (omega arith) below in grind (arith, nat_tests)
 
@@ -57,8 +57,8 @@ module _ (symbols : List Symbol) (pc i : ℕ) (h : IsAscending symbols)
   none_all : (d : Symbol) → ((k : ℕ) → i ≤ k → k < length symbols → owns pc (get_or symbols k d) ≡ false) → None ≡ owner_of symbols pc
   none_all d none =
       let place : position_or_len (owns pc) symbols ≡ length symbols = position_or_len_is (owns pc) symbols (length symbols) d (omega arith)
-          (λ k less. ⊎_elim (λ (before : k < i). not_before k d before) (λ (from : i ≤ k). none k from less) (cases_lt k i))
-          (λ below. absurd (omega arith)) in
+      (λ k less. ⊎_elim (λ (before : k < i). not_before k d before) (λ (from : i ≤ k). none k from less) (cases_lt k i))
+      (λ below. absurd (omega arith)) in
       let past : nat_lt (length symbols) (length symbols) ≡ false = grind (arith, nat_tests) in
       rw (place, past) refl
 
@@ -86,14 +86,14 @@ pub record IsPlace (symbols : List Symbol) (pc i : ℕ) : Type 0 where
 pub owner_tells : (symbols : List Symbol) (pc : ℕ) → MatchOption (owner_of symbols pc) (All (λ (s : Symbol). ¬ ((s.addr ≤ pc) × (pc < s.end))) symbols) (λ i. IsPlace symbols pc i)
 owner_tells symbols pc = by (nat_lt (position_or_len (owns pc) symbols) (length symbols)) refl
   where
-  by : (b : Bool) → nat_lt (position_or_len (owns pc) symbols) (length symbols) ≡ b
-      → MatchOption (cond b (Some (position_or_len (owns pc) symbols)) None) (All (λ (s : Symbol). ¬ ((s.addr ≤ pc) × (pc < s.end))) symbols) (λ i. IsPlace symbols pc i)
-  by true e =
-      let below : position_or_len (owns pc) symbols < length symbols = grind (arith, nat_tests) in
-      record { inside = below; found = λ d. is_owner pc (get_or symbols (position_or_len (owns pc) symbols) d) (passes_at_first (owns pc) symbols d below) }
-  by false e = λ k d less.
-      let all : length symbols ≤ position_or_len (owns pc) symbols = grind (arith, nat_tests) in
-      is_no_owner pc (get_or symbols k d) (fails_before_first (owns pc) symbols k d (omega arith))
+    by : (b : Bool) → nat_lt (position_or_len (owns pc) symbols) (length symbols) ≡ b
+        → MatchOption (cond b (Some (position_or_len (owns pc) symbols)) None) (All (λ (s : Symbol). ¬ ((s.addr ≤ pc) × (pc < s.end))) symbols) (λ i. IsPlace symbols pc i)
+    by true e =
+        let below : position_or_len (owns pc) symbols < length symbols = grind (arith, nat_tests) in
+        record { inside = below; found = λ d. is_owner pc (get_or symbols (position_or_len (owns pc) symbols) d) (passes_at_first (owns pc) symbols d below) }
+    by false e = λ k d less.
+        let all : length symbols ≤ position_or_len (owns pc) symbols = grind (arith, nat_tests) in
+        is_no_owner pc (get_or symbols k d) (fails_before_first (owns pc) symbols k d (omega arith))
 
 module _ (symbols : List Symbol) (pc : ℕ) (r : Option ℕ) (is : r ≡ owner_of symbols pc) where
   tells : MatchOption r (All (λ (s : Symbol). ¬ ((s.addr ≤ pc) × (pc < s.end))) symbols) (λ i. IsPlace symbols pc i)
@@ -102,20 +102,20 @@ module _ (symbols : List Symbol) (pc : ℕ) (r : Option ℕ) (is : r ≡ owner_o
   pub owner_inside : IfSome r (λ i. i < length symbols)
   owner_inside = by r tells
     where
-    by : (o : Option ℕ) → MatchOption o (All (λ (s : Symbol). ¬ ((s.addr ≤ pc) × (pc < s.end))) symbols) (λ i. IsPlace symbols pc i) → IfSome o (λ i. i < length symbols)
-    by None h = tt
-    by (Some i) h = h.inside
+      by : (o : Option ℕ) → MatchOption o (All (λ (s : Symbol). ¬ ((s.addr ≤ pc) × (pc < s.end))) symbols) (λ i. IsPlace symbols pc i) → IfSome o (λ i. i < length symbols)
+      by None h = tt
+      by (Some i) h = h.inside
 
   pub owner_found : IfSome r (HoldsAt (λ (s : Symbol). (s.addr ≤ pc) × (pc < s.end)) symbols)
   owner_found = by r tells
     where
-    by : (o : Option ℕ) → MatchOption o (All (λ (s : Symbol). ¬ ((s.addr ≤ pc) × (pc < s.end))) symbols) (λ i. IsPlace symbols pc i) → IfSome o (HoldsAt (λ (s : Symbol). (s.addr ≤ pc) × (pc < s.end)) symbols)
-    by None h = tt
-    by (Some i) h = h.found
+      by : (o : Option ℕ) → MatchOption o (All (λ (s : Symbol). ¬ ((s.addr ≤ pc) × (pc < s.end))) symbols) (λ i. IsPlace symbols pc i) → IfSome o (HoldsAt (λ (s : Symbol). (s.addr ≤ pc) × (pc < s.end)) symbols)
+      by None h = tt
+      by (Some i) h = h.found
 
   pub owner_none : IfNone r (All (λ (s : Symbol). ¬ ((s.addr ≤ pc) × (pc < s.end))) symbols)
   owner_none = by r tells
     where
-    by : (o : Option ℕ) → MatchOption o (All (λ (s : Symbol). ¬ ((s.addr ≤ pc) × (pc < s.end))) symbols) (λ i. IsPlace symbols pc i) → IfNone o (All (λ (s : Symbol). ¬ ((s.addr ≤ pc) × (pc < s.end))) symbols)
-    by None h = h
-    by (Some i) h = tt
+      by : (o : Option ℕ) → MatchOption o (All (λ (s : Symbol). ¬ ((s.addr ≤ pc) × (pc < s.end))) symbols) (λ i. IsPlace symbols pc i) → IfNone o (All (λ (s : Symbol). ¬ ((s.addr ≤ pc) × (pc < s.end))) symbols)
+      by None h = h
+      by (Some i) h = tt

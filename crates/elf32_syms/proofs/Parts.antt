@@ -1,10 +1,7 @@
 -- The refusals of a file, and its image, from those of its parts.
-use Rattle.std.proofs.Common.{◌≡◌, ◌<◌, ◌≤◌, ℕ, List, length, Option, Some, None, refl, ap, sym, ◌∙◌, arith}
+use Rattle.std.proofs.Common.{◌≡◌, ℕ, List, Some, None, refl}
 use Rattle.std.specs.Option.{option_or}
-use Rattle.gp_base.specs.declared.records.Span.{Span}
 use Rattle.elf32_syms.specs.declared.refusal.ElfRefusal.{ElfRefusal}
-use Rattle.elf32_syms.specs.declared.image.Symbol.{Symbol}
-use Rattle.elf32_syms.specs.declared.image.Segment.{Segment}
 use Rattle.elf32_syms.specs.declared.image.Image.{Image}
 use Rattle.elf32_syms.specs.Header.{e_entry}
 use Rattle.elf32_syms.specs.Sections.{text_low, text_high}

@@ -1,6 +1,5 @@
 -- Loops over the numbers from 0 to below n.
-use Rattle.std.proofs.Common.{◌≡◌, ◌<◌, ◌≤◌, ℕ, zero, suc, ◌+◌, ◌-◌, Bool, true, false, cond, List, [], ◌∷◌, ◌++◌, Option, Some, None, refl, ap, sym, ◌∙◌, add-one, arith}
-use Rattle.std.specs.Option.{option_or}
+use Rattle.std.proofs.Common.{◌≡◌, ◌<◌, ℕ, zero, suc, ◌+◌, ◌-◌, Bool, true, false, List, [], ◌∷◌, ◌++◌, Some, None, refl, ap, ◌∙◌, add-one, arith}
 use Rattle.std.specs.Prelude.{map}
 use Rattle.std.specs.List.{range_with_len, find, filter}
 use Rattle.std.proofs.lemmas.List.{map-append, append-nil}

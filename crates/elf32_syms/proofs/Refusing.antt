@@ -1,5 +1,5 @@
 -- Refusals, from what is tested first to what is tested last.
-use Rattle.std.proofs.Common.{◌≡◌, ◌<◌, ℕ, Bool, true, false, cond, List, Option, Some, None, option_map, if◌then◌else◌, refl, ap, sym, ◌∙◌}
+use Rattle.std.proofs.Common.{◌≡◌, ◌<◌, ℕ, Bool, true, false, List, Option, Some, None, option_map, if◌then◌else◌, refl, ap, ◌∙◌}
 use Rattle.std.specs.List.{find}
 use Rattle.elf32_syms.specs.declared.refusal.ElfRefusal.{ElfRefusal}
 use Rattle.elf32_syms.specs.declared.refusal.ElfRefusal.TheVariants.{Short, Magic, Class, Order, Kind, Machine, Flags, TableSize, OutOfFile, Link, TextRange, TooManySymbols, OutOfMemory}
@@ -50,6 +50,6 @@ unfolding names_refusal
 name_refused bs t n e below none h =
     refusal_along e (if is_unnamed bs t n then Some (Link n) else None) (names_refusal bs t) (by (is_unnamed bs t n) refl) h
   where
-  by : (b : Bool) → is_unnamed bs t n ≡ b → (f : ElfRefusal) → (if b then Some (Link n) else None) ≡ Some f → option_map Link (find (is_unnamed bs t) (numbers_below (symbol_count bs t))) ≡ Some f
-  by true e f h = ap (option_map Link) (find_here (is_unnamed bs t) n (symbol_count bs t) below none e) ∙ h
-  by false e f h = absurd (nothing_refused f h)
+    by : (b : Bool) → is_unnamed bs t n ≡ b → (f : ElfRefusal) → (if b then Some (Link n) else None) ≡ Some f → option_map Link (find (is_unnamed bs t) (numbers_below (symbol_count bs t))) ≡ Some f
+    by true e f h = ap (option_map Link) (find_here (is_unnamed bs t) n (symbol_count bs t) below none e) ∙ h
+    by false e f h = absurd (nothing_refused f h)

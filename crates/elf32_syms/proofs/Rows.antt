@@ -1,5 +1,5 @@
 -- Symbols in a row: one after the other, each with its end.
-use Rattle.std.proofs.Common.{◌≡◌, ◌<◌, ◌≤◌, ℕ, zero, suc, ◌+◌, List, [], ◌∷◌, ◌++◌, length, take, drop, get_or, refl, ap, sym, ◌∙◌, arith, add-one}
+use Rattle.std.proofs.Common.{◌≡◌, ◌<◌, ◌≤◌, ℕ, zero, suc, ◌+◌, List, [], ◌∷◌, ◌++◌, length, take, drop, get_or, refl, ap, sym, ◌∙◌, arith}
 use Rattle.std.proofs.lemmas.List.{take_more, drop_more, drop_all, take_all}
 use Rattle.elf32_syms.specs.declared.image.Symbol.{Symbol}
 use Rattle.elf32_syms.specs.Symbols.{st_value, symbol_name}
@@ -33,8 +33,8 @@ module _ (bs : List ℕ) (t high : ℕ) where
       let long : i < length (in_a_row bs t high ns) = omega (arith, length_row ns) in
       ap (λ (x : Symbol). take i (in_a_row bs t high ns) ++ x ∷ []) same ∙ sym (take_more (in_a_row bs t high ns) i s long)
     where
-    same_symbol : (s : Symbol) (a e : ℕ) (n : List ℕ) → s.addr ≡ a → s.end ≡ e → s.name ≡ n → s ≡ record { addr = a; end = e; name = n }
-    same_symbol s a e n p q r = λ i. record { addr = p i; end = q i; name = r i }
+      same_symbol : (s : Symbol) (a e : ℕ) (n : List ℕ) → s.addr ≡ a → s.end ≡ e → s.name ≡ n → s ≡ record { addr = a; end = e; name = n }
+      same_symbol s a e n p q r = λ i. record { addr = p i; end = q i; name = r i }
 
   pub row_all : (ns : List ℕ) (i : ℕ) → length ns ≤ i → take i (in_a_row bs t high ns) ≡ in_a_row bs t high ns
   row_all ns i h = take_all i (in_a_row bs t high ns) (omega (arith, length_row ns))

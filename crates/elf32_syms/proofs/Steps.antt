@@ -1,12 +1,10 @@
 -- One symbol more of a walk over the symbol table.
-use Rattle.std.proofs.Common.{◌≡◌, ◌<◌, ◌≤◌, ℕ, zero, suc, ◌+◌, Bool, true, false, not, ◌&&◌, cond, nat_eq, nat_lt, List, [], ◌∷◌, length, take, drop, get_or, if◌then◌else◌, Option, Some, None, refl, ap, sym, ◌∙◌, arith, codes, lit<}
-use Rattle.std.specs.List.{before_first, find}
-use Rattle.std.proofs.lemmas.Bool.{false≢true, cases_lt}
+use Rattle.std.proofs.Common.{◌≡◌, ◌<◌, ℕ, zero, suc, ◌+◌, true, false, not, cond, nat_lt, List, [], ◌∷◌, length, take, drop, get_or, if◌then◌else◌, Some, None, refl, ap, ◌∙◌, arith, codes, lit<}
+use Rattle.std.specs.List.{before_first}
 use Rattle.std.proofs.lemmas.Bool.Decides.{nat_tests}
 use Rattle.std.proofs.lemmas.List.{drop_more}
 use Rattle.std.proofs.lemmas.List.Sums.{take_while-cons}
 use Rattle.elf32_syms.specs.declared.kept.Found.{Found}
-use Rattle.elf32_syms.specs.declared.refusal.ElfRefusal.{ElfRefusal}
 use Rattle.elf32_syms.specs.declared.refusal.ElfRefusal.TheVariants.{Link}
 use Rattle.elf32_syms.specs.Names.{is_zero, name_at, name_ends}
 use Rattle.elf32_syms.specs.Symbols.{fits, is_unnamed, is_candidate, symbol_name, strings_of, st_name}
@@ -26,8 +24,8 @@ length_some : (k x : ℕ) (xs : List ℕ) → 0 < k → nat_lt 0 (length (take k
 length_some zero x xs h = absurd (omega arith)
 length_some (suc k) x xs h = above (length (take k xs))
   where
-  above : (n : ℕ) → nat_lt 0 (suc n) ≡ true
-  above n = grind (arith, nat_tests)
+    above : (n : ℕ) → nat_lt 0 (suc n) ≡ true
+    above n = grind (arith, nat_tests)
 
 name_some : (strings : List ℕ) (at : ℕ) → at < length strings → (get_or strings at 0 ≡ 0 → ⊥) → nat_lt 0 (length (name_at strings at)) ≡ true
 name_some strings at h some =

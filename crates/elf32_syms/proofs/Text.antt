@@ -1,14 +1,13 @@
 -- The text, as a walk over the sections finds it.
-use Rattle.std.proofs.Common.{◌||◌, ◌⊎◌, inl, nat_lt, if◌then◌else◌, Option, Some, None, ◌≡◌, ◌≢◌, ◌<◌, ◌≤◌, ℕ, zero, suc, ◌+◌, ◌-◌, min, max, Bool, true, false, cond, nat_eq, List, [], ◌∷◌, ◌++◌, length, refl, ap, sym, ◌∙◌, arith, map}
+use Rattle.std.proofs.Common.{◌||◌, inl, nat_lt, if◌then◌else◌, Some, None, ◌≡◌, ◌≢◌, ◌<◌, ◌≤◌, ℕ, suc, ◌+◌, ◌-◌, min, max, Bool, true, false, cond, nat_eq, List, [], ◌∷◌, ◌++◌, length, refl, ap, sym, ◌∙◌, arith, map}
 use Rattle.std.specs.List.{filter}
 use Rattle.std.proofs.lemmas.Bool.Decides.{nat_tests}
-use Rattle.std.proofs.lemmas.List.{length-map}
-use Rattle.elf32_syms.specs.Fields.{numbers_below, has_flag}
+use Rattle.elf32_syms.specs.Fields.{numbers_below}
 use Rattle.std.proofs.lemmas.Bool.{eq-eqb, ne_eqb}
 use Rattle.elf32_syms.specs.declared.refusal.ElfRefusal.{ElfRefusal}
 use Rattle.elf32_syms.specs.declared.refusal.ElfRefusal.TheVariants.{TextRange}
 use Rattle.elf32_syms.specs.Header.{e_shnum}
-use Rattle.elf32_syms.specs.Sections.{sh_addr, sh_size, section_end, is_executable, executables, lowest, highest, text_low, text_high}
+use Rattle.elf32_syms.specs.Sections.{sh_addr, section_end, is_executable, executables, lowest, highest, text_low, text_high}
 use Rattle.elf32_syms.specs.Refusals.{is_too_far, text_refusal}
 use Rattle.elf32_syms.proofs.In.{lowest_le, le_highest}
 use Rattle.elf32_syms.proofs.Ranges.{map_takes, filter_leaves}
@@ -37,12 +36,12 @@ none_highest : (bs : List ℕ) (ns : List ℕ) → highest (map (section_end bs)
 none_highest bs [] = λ h. refl
 none_highest bs (n ∷ ns) =
     elim (is_executable bs n) as (λ b. is_executable bs n ≡ b → highest (map (section_end bs) (cond b (n ∷ filter (is_executable bs) ns) (filter (is_executable bs) ns))) ≡ 0 → cond b (n ∷ filter (is_executable bs) ns) (filter (is_executable bs) ns) ≡ []) [
-      true ↦ λ taken h. absurd (end_above _ _ (executable_end bs n taken) h)
+      | true ↦ λ taken h. absurd (end_above _ _ (executable_end bs n taken) h)
       | false ↦ λ left h. none_highest bs ns h
     ] refl
   where
-  end_above : (x y : ℕ) → 0 < x → max x y ≡ 0 → ⊥
-  end_above x y a h = omega arith
+    end_above : (x y : ℕ) → 0 < x → max x y ≡ 0 → ⊥
+    end_above x y a h = omega arith
 
 -- the lowest address and the highest end, where one more section is taken; the highest end so far says whether it is the first
 lowest_takes : (bs : List ℕ) (i high : ℕ) (ns : List ℕ) → high ≡ highest (map (section_end bs) ns) → (high ≡ 0 → ns ≡ [])
@@ -66,7 +65,7 @@ text_takes bs i low high taken l h =
     record {
       first = λ e. rw (map_takes (sh_addr bs) (is_executable bs) i taken) (t.0 e);
       later = λ e. rw (map_takes (sh_addr bs) (is_executable bs) i taken, l) (t.1 e);
-      highest = rw (map_takes (section_end bs) (is_executable bs) i taken, h) (highest_push (map (section_end bs) ns) (section_end bs i))
+      highest = rw (map_takes (section_end bs) (is_executable bs) i taken, h) (highest_push (map (section_end bs) ns) (section_end bs i));
     }
 
 -- a section that is not executable changes nothing
@@ -79,11 +78,11 @@ pub no_text : (bs : List ℕ) → nat_eq (length (executables bs)) 0 ≡ nat_eq 
 unfolding text_high
 no_text bs = by (executables bs) refl
   where
-  by : (ns : List ℕ) → executables bs ≡ ns → nat_eq (length (executables bs)) 0 ≡ nat_eq (highest (map (section_end bs) (executables bs))) 0
-  by [] e = rw e refl
-  by (n ∷ ns) e =
-      let some : highest (map (section_end bs) (executables bs)) ≢ 0 = λ none. cons_not_nil n ns (sym e ∙ none_highest bs (numbers_below (e_shnum bs)) none) in
-      rw (ne_eqb (highest (map (section_end bs) (executables bs))) 0 some, e) (ne_eqb (suc (length ns)) 0 (λ (q : suc (length ns) ≡ 0). omega arith))
+    by : (ns : List ℕ) → executables bs ≡ ns → nat_eq (length (executables bs)) 0 ≡ nat_eq (highest (map (section_end bs) (executables bs))) 0
+    by [] e = rw e refl
+    by (n ∷ ns) e =
+        let some : highest (map (section_end bs) (executables bs)) ≢ 0 = λ none. cons_not_nil n ns (sym e ∙ none_highest bs (numbers_below (e_shnum bs)) none) in
+        rw (ne_eqb (highest (map (section_end bs) (executables bs))) 0 some, e) (ne_eqb (suc (length ns)) 0 (λ (q : suc (length ns) ≡ 0). omega arith))
 
 spans : (bs : List ℕ) (ns : List ℕ) → lowest (map (sh_addr bs) ns) ≤ highest (map (section_end bs) ns)
 spans bs [] = omega arith
@@ -108,13 +107,13 @@ pub text_limits : (bs : List ℕ) → text_refusal bs ≡ None → (text_low bs 
 text_limits bs none =
     by (nat_eq (text_high bs) 0) (nat_lt 16777216 (text_high bs - text_low bs)) (nat_lt 4294963200 (text_high bs)) refl refl (sym (text_judged bs (text_low bs) (text_high bs) refl refl) ∙ none)
   where
-  by : (a b c : Bool) → nat_lt 16777216 (text_high bs - text_low bs) ≡ b → nat_lt 4294963200 (text_high bs) ≡ c
-      → (if a || (b || c) then Some (TextRange (text_low bs) (text_high bs)) else None) ≡ None
-      → (text_low bs ≤ text_high bs) × (text_high bs - text_low bs ≤ 16777216) × (text_high bs ≤ 4294963200)
-  by false false false p q h = let le = low_le_high bs in (le, grind (arith, nat_tests), grind (arith, nat_tests))
-  by true b c p q h = absurd (some_none h)
-  by false true c p q h = absurd (some_none h)
-  by false false true p q h = absurd (some_none h)
+    by : (a b c : Bool) → nat_lt 16777216 (text_high bs - text_low bs) ≡ b → nat_lt 4294963200 (text_high bs) ≡ c
+        → (if a || (b || c) then Some (TextRange (text_low bs) (text_high bs)) else None) ≡ None
+        → (text_low bs ≤ text_high bs) × (text_high bs - text_low bs ≤ 16777216) × (text_high bs ≤ 4294963200)
+    by false false false p q h = let le = low_le_high bs in (le, grind (arith, nat_tests), grind (arith, nat_tests))
+    by true b c p q h = absurd (some_none h)
+    by false true c p q h = absurd (some_none h)
+    by false false true p q h = absurd (some_none h)
 
 pub empty_refused : (bs : List ℕ) (low high : ℕ) → low ≡ text_low bs → high ≡ text_high bs → high ≡ 0 → text_refusal bs ≡ Some (TextRange low high)
 empty_refused bs low high l h none = text_judged bs low high l h ∙ rw (eq-eqb high 0 none) refl
@@ -122,9 +121,9 @@ empty_refused bs low high l h none = text_judged bs low high l h ∙ rw (eq-eqb 
 pub far_refused : (bs : List ℕ) (low high : ℕ) → low ≡ text_low bs → high ≡ text_high bs → is_too_far low high ≡ true → text_refusal bs ≡ Some (TextRange low high)
 far_refused bs low high l h far = text_judged bs low high l h ∙ by (nat_eq high 0) (is_too_far low high) far
   where
-  by : (a b : Bool) → b ≡ true → (if a || b then Some (TextRange low high) else None) ≡ Some (TextRange low high)
-  by true b e = refl
-  by false b e = rw e refl
+    by : (a b : Bool) → b ≡ true → (if a || b then Some (TextRange low high) else None) ≡ Some (TextRange low high)
+    by true b e = refl
+    by false b e = rw e refl
 
 pub text_accepted : (bs : List ℕ) (low high : ℕ) → low ≡ text_low bs → high ≡ text_high bs → high ≢ 0 → is_too_far low high ≡ false → text_refusal bs ≡ None
 text_accepted bs low high l h some near = text_judged bs low high l h ∙ rw (ne_eqb high 0 some, near) refl
@@ -135,15 +134,15 @@ spans_some : (bs : List ℕ) (q : ℕ → Bool) (ns : List ℕ) → ((k : ℕ) �
 spans_some bs q [] some = λ h. absurd (h refl)
 spans_some bs q (n ∷ ns) some = by (spans_some bs q ns some) (q n) refl
   where
-  by : (highest (map (section_end bs) (filter q ns)) ≢ 0 → lowest (map (sh_addr bs) (filter q ns)) < highest (map (section_end bs) (filter q ns))) → (b : Bool) → q n ≡ b
-      → highest (map (section_end bs) (cond b (n ∷ filter q ns) (filter q ns))) ≢ 0
-      → lowest (map (sh_addr bs) (cond b (n ∷ filter q ns) (filter q ns))) < highest (map (section_end bs) (cond b (n ∷ filter q ns) (filter q ns)))
-  by rest true e h =
-      let low = lowest_le (map (sh_addr bs) (n ∷ filter q ns)) (sh_addr bs n) (inl refl) in
-      let high = le_highest (map (section_end bs) (n ∷ filter q ns)) (section_end bs n) (inl refl) in
-      let one = some n e in
-      omega arith
-  by rest false e h = rest h
+    by : (highest (map (section_end bs) (filter q ns)) ≢ 0 → lowest (map (sh_addr bs) (filter q ns)) < highest (map (section_end bs) (filter q ns))) → (b : Bool) → q n ≡ b
+        → highest (map (section_end bs) (cond b (n ∷ filter q ns) (filter q ns))) ≢ 0
+        → lowest (map (sh_addr bs) (cond b (n ∷ filter q ns) (filter q ns))) < highest (map (section_end bs) (cond b (n ∷ filter q ns) (filter q ns)))
+    by rest true e h =
+        let low = lowest_le (map (sh_addr bs) (n ∷ filter q ns)) (sh_addr bs n) (inl refl) in
+        let high = le_highest (map (section_end bs) (n ∷ filter q ns)) (section_end bs n) (inl refl) in
+        let one = some n e in
+        omega arith
+    by rest false e h = rest h
 
 executable_some : (bs : List ℕ) (i : ℕ) → is_executable bs i ≡ true → sh_addr bs i < section_end bs i
 unfolding is_executable

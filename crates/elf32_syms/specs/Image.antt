@@ -1,5 +1,5 @@
 -- The image of a file: what a run and its reports need of the program.
-use Rattle.std.specs.Prelude.{ℕ, ◌+◌, ◌<◌, ◌≤◌, List, [], ◌∷◌, length, All, codes, Option, Some, None}
+use Rattle.std.specs.Prelude.{ℕ, ◌+◌, ◌<◌, ◌≤◌, List, [], ◌∷◌, length, All, codes, Option}
 use Rattle.std.specs.Option.{option_and_then, option_map_or}
 use Rattle.gp_base.specs.declared.limits.TheConstants.{MAX_PROGRAM_HEADERS, MAX_SYMBOLS, MAX_NAME_BYTES, MAX_TEXT_BYTES, MAX_TEXT_END}
 use Rattle.elf32_syms.specs.declared.image.Symbol.{Symbol}
@@ -39,7 +39,7 @@ image_of bs = record {
   text = record { low = text_low bs; high = text_high bs };
   symbols = symbols_of bs;
   mcount = mcount_of bs;
-  moncontrol = moncontrol_of bs
+  moncontrol = moncontrol_of bs;
 }
 
 -- what every accepted image is, of a file of this length: its parts are within the limits, the segments lie in the file,

@@ -1,5 +1,5 @@
 -- The refusals of a file, in the order in which they are looked for. Each is None where its conditions aren't met.
-use Rattle.std.specs.Prelude.{◌≡◌, ℕ, ◌+◌, ◌-◌, ◌*◌, Bool, not, ◌&&◌, ◌||◌, ◌==◌, nat_lt, if◌then◌else◌, List, [], ◌∷◌, length, find, Option, Some, None, option_map, Result, MatchResult}
+use Rattle.std.specs.Prelude.{◌≡◌, ℕ, ◌+◌, ◌-◌, ◌*◌, Bool, not, ◌&&◌, ◌||◌, ◌==◌, nat_lt, if◌then◌else◌, List, length, find, Option, Some, None, option_map, Result, MatchResult}
 use Rattle.std.specs.Option.{option_or, option_and_then}
 use Rattle.gp_base.specs.declared.limits.TheConstants.{MAX_PROGRAM_HEADERS, MAX_SYMBOLS, MAX_TEXT_BYTES, MAX_TEXT_END}
 use Rattle.elf32_syms.specs.declared.refusal.ElfRefusal.{ElfRefusal}

@@ -10,17 +10,23 @@ use gp_base::limits::MAX_PROGRAM_HEADERS;
 
 /// Bytes of the header, and of an entry of each of its tables.
 const HEADER_BYTES: usize = 52;
+
 const PROGRAM_HEADER_BYTES: u16 = 32;
+
 const SECTION_HEADER_BYTES: u16 = 40;
 
 /// The values that the header's fields must have.
 const CLASS_32: u8 = 1;
+
 const LOWEST_FIRST: u8 = 1;
+
 const EXECUTABLE_FILE: u16 = 2;
+
 const RISC_V: u16 = 243;
 
 /// Flags of the header: compressed instructions, and sixteen registers alone.
 const FLAG_RVC: u32 = 1;
+
 const FLAG_RVE: u32 = 8;
 
 /// The address of the first instruction.
@@ -54,7 +60,10 @@ fn has_magic(bytes: &[u8]) -> bool
     requires { 52 ≤ length bytes.now }
     ensures { result ≡ has_magic_of bytes.now }
 {
-    byte(bytes, 0) == 0x7F && byte(bytes, 1) == b'E' && byte(bytes, 2) == b'L' && byte(bytes, 3) == b'F'
+    byte(bytes, 0) == 0x7F
+        && byte(bytes, 1) == b'E'
+        && byte(bytes, 2) == b'L'
+        && byte(bytes, 3) == b'F'
 }
 
 /// Looks whether the header is that of a program for RV32 without compressed instructions.
@@ -65,26 +74,36 @@ pub(crate) fn check_header(bytes: &[u8]) -> Result<(), ElfRefusal>
     ensures whole { OnOk result (52 ≤ length bytes.now) }
 {
     if bytes.len() < HEADER_BYTES {
-        return Err(ElfRefusal::Short { len: bytes.len() as u32 });
+        return Err(ElfRefusal::Short {
+            len: bytes.len() as u32,
+        });
     }
     if !has_magic(bytes) {
         return Err(ElfRefusal::Magic);
     }
     let class = byte(bytes, 4);
     if class != CLASS_32 {
-        return Err(ElfRefusal::Class { value: u32::from(class) });
+        return Err(ElfRefusal::Class {
+            value: u32::from(class),
+        });
     }
     let order = byte(bytes, 5);
     if order != LOWEST_FIRST {
-        return Err(ElfRefusal::Order { value: u32::from(order) });
+        return Err(ElfRefusal::Order {
+            value: u32::from(order),
+        });
     }
     let kind = half(bytes, 16);
     if kind != EXECUTABLE_FILE {
-        return Err(ElfRefusal::Kind { value: u32::from(kind) });
+        return Err(ElfRefusal::Kind {
+            value: u32::from(kind),
+        });
     }
     let machine = half(bytes, 18);
     if machine != RISC_V {
-        return Err(ElfRefusal::Machine { value: u32::from(machine) });
+        return Err(ElfRefusal::Machine {
+            value: u32::from(machine),
+        });
     }
     let flags = word(bytes, 36);
     if flags & FLAG_RVC != 0 || flags & FLAG_RVE != 0 {
@@ -104,15 +123,21 @@ pub(crate) fn check_tables(bytes: &[u8]) -> Result<(), ElfRefusal>
     let (programs_at, programs) = program_headers(bytes);
     let program_bytes = half(bytes, 42);
     if programs != 0 && program_bytes != PROGRAM_HEADER_BYTES {
-        return Err(ElfRefusal::TableSize { value: u32::from(program_bytes) });
+        return Err(ElfRefusal::TableSize {
+            value: u32::from(program_bytes),
+        });
     }
     if u32::from(programs) > MAX_PROGRAM_HEADERS {
-        return Err(ElfRefusal::TableSize { value: u32::from(programs) });
+        return Err(ElfRefusal::TableSize {
+            value: u32::from(programs),
+        });
     }
     let (sections_at, sections) = section_headers(bytes);
     let section_bytes = half(bytes, 46);
     if sections != 0 && section_bytes != SECTION_HEADER_BYTES {
-        return Err(ElfRefusal::TableSize { value: u32::from(section_bytes) });
+        return Err(ElfRefusal::TableSize {
+            value: u32::from(section_bytes),
+        });
     }
     if programs != 0 && u64::from(programs_at) + 32 * u64::from(programs) > bytes.len() as u64 {
         return Err(ElfRefusal::OutOfFile { at: programs_at });

@@ -5,17 +5,15 @@ ghost use Rattle.std.specs.List.{HoldsAt};
 ghost use Rattle.elf32_syms.specs.Refusals.{IsRefusal, elf_refusal};
 ghost use Rattle.elf32_syms.specs.Image.{IsWithinLimits, image_of};
 
-use gp_base::limits::MAX_ELF_BYTES;
-use gp_base::{Items, Name, Span};
-use std::alloc::Global;
-
 use crate::header::{check_header, check_tables, entry};
 use crate::kept::read_functions;
 use crate::owners::owner;
 use crate::refusal::ElfRefusal;
 use crate::sections::read_text;
 use crate::segments::read_segments;
-
+use gp_base::limits::MAX_ELF_BYTES;
+use gp_base::{Items, Name, Span};
+use std::alloc::Global;
 
 /// A function of the program: the addresses from `addr` to below `end`.
 #[derive(Drop)]

@@ -17,7 +17,9 @@ use crate::image::{Symbol, SymbolList};
 use crate::names::{copied, front, names_end};
 use crate::refusal::ElfRefusal;
 use crate::sections::symbol_table;
-use crate::symbols::{address, check_table, comes_before, fits, name_offset, strings, symbol_count, symbol_name};
+use crate::symbols::{
+    address, check_table, comes_before, fits, name_offset, strings, symbol_count, symbol_name,
+};
 use gp_base::limits::MAX_SYMBOLS;
 use std::alloc::{AllocError, Global};
 use std::collections::BTreeMap;
@@ -53,7 +55,11 @@ fn hook(bytes: &[u8], table: u16, number: u32, name: &[u8], so_far: Option<u32>)
     }
 
     // The first 11 bytes tell a name of at most 10 from any other.
-    let found = front(strings(bytes, table), name_offset(bytes, table, number) as usize, 11);
+    let found = front(
+        strings(bytes, table),
+        name_offset(bytes, table, number) as usize,
+        11,
+    );
     if found == name {
         Some(address(bytes, table, number))
     } else {
@@ -76,7 +82,12 @@ fn is_first(first: &BTreeMap<u32, u32>, bytes: &[u8], table: u16, number: u32) -
 }
 
 /// Keeps a candidate where it comes before the one at its address so far.
-fn keep_first(first: &mut BTreeMap<u32, u32>, bytes: &[u8], table: u16, number: u32) -> Result<(), AllocError>
+fn keep_first(
+    first: &mut BTreeMap<u32, u32>,
+    bytes: &[u8],
+    table: u16,
+    number: u32,
+) -> Result<(), AllocError>
     requires table_in { HasSymbols bytes.now table }
     requires number_in { number < symbol_count_of bytes.now table }
     requires candidate { is_candidate bytes.now table number ≡ true }
@@ -104,7 +115,13 @@ fn add(found: &mut Found, bytes: &[u8], table: u16, number: u32) -> Result<(), A
 }
 
 /// Takes one more symbol into account. `end` is that of the names.
-fn step(found: &mut Found, bytes: &[u8], table: u16, end: usize, number: u32) -> Result<(), ElfRefusal>
+fn step(
+    found: &mut Found,
+    bytes: &[u8],
+    table: u16,
+    end: usize,
+    number: u32,
+) -> Result<(), ElfRefusal>
     requires table_in { HasSymbols bytes.now table }
     requires number_in { number < symbol_count_of bytes.now table }
     requires end_in { end ≤ length (strings_of bytes.now table) }
@@ -137,7 +154,11 @@ fn walk(alloc: Global, bytes: &[u8], table: u16) -> Result<Found, ElfRefusal>
 {
     let end = names_end(strings(bytes, table));
     let count = symbol_count(bytes, table);
-    let mut found = Found { first: BTreeMap::new(alloc), mcount: None, moncontrol: None };
+    let mut found = Found {
+        first: BTreeMap::new(alloc),
+        mcount: None,
+        moncontrol: None,
+    };
     for number in 0..count {
         step(&mut found, bytes, table, end, number)?;
     }
@@ -145,7 +166,12 @@ fn walk(alloc: Global, bytes: &[u8], table: u16) -> Result<Found, ElfRefusal>
 }
 
 /// The numbers of the kept symbols, in the order of their addresses.
-fn kept_numbers(alloc: Global, bytes: &[u8], table: u16, first: &BTreeMap<u32, u32>) -> Result<Vec<u32>, ElfRefusal>
+fn kept_numbers(
+    alloc: Global,
+    bytes: &[u8],
+    table: u16,
+    first: &BTreeMap<u32, u32>,
+) -> Result<Vec<u32>, ElfRefusal>
     requires all { KeepsFirst bytes.now table (symbol_count_of bytes.now table) first.now }
     requires text { text_high bytes.now - text_low bytes.now ≤ 16777216 }
     ensures refusal { IfErr result (λ e. IsRefusal e (count_refusal bytes.now table)) }
@@ -153,7 +179,9 @@ fn kept_numbers(alloc: Global, bytes: &[u8], table: u16, first: &BTreeMap<u32, u
     ensures numbers { IfOk result (λ numbers. numbers.items ≡ kept_of bytes.now table) }
 {
     if first.len() > MAX_SYMBOLS as usize {
-        return Err(ElfRefusal::TooManySymbols { count: first.len() as u32 });
+        return Err(ElfRefusal::TooManySymbols {
+            count: first.len() as u32,
+        });
     }
     let mut numbers = Vec::new(alloc);
     for number in first.values() {
@@ -163,16 +191,30 @@ fn kept_numbers(alloc: Global, bytes: &[u8], table: u16, first: &BTreeMap<u32, u
 }
 
 /// The symbols of these numbers, of which each reaches to the next and the last to `high`.
-fn in_a_row(alloc: Global, bytes: &[u8], table: u16, numbers: &[u32], high: u32) -> Result<SymbolList, AllocError>
+fn in_a_row(
+    alloc: Global,
+    bytes: &[u8],
+    table: u16,
+    numbers: &[u32],
+    high: u32,
+) -> Result<SymbolList, AllocError>
     requires table_in { HasSymbols bytes.now table }
     requires numbers_in { All (λ n. n < symbol_count_of bytes.now table) numbers.now }
     ensures { IfOk result (λ symbols. symbols ≡ in_a_row_of bytes.now table high numbers.now) }
 {
     let mut symbols = SymbolList::new(alloc);
     for (i, number) in numbers.iter().enumerate() {
-        let end = if i + 1 < numbers.len() { address(bytes, table, numbers[i + 1]) } else { high };
+        let end = if i + 1 < numbers.len() {
+            address(bytes, table, numbers[i + 1])
+        } else {
+            high
+        };
         let name = copied(alloc, symbol_name(bytes, table, *number))?;
-        symbols.push(Symbol { addr: address(bytes, table, *number), end, name })?;
+        symbols.push(Symbol {
+            addr: address(bytes, table, *number),
+            end,
+            name,
+        })?;
     }
     Ok(symbols)
 }
@@ -193,11 +235,19 @@ fn read_table(alloc: Global, bytes: &[u8], table: u16, high: u32) -> Result<Func
     let found = walk(alloc, bytes, table)?;
     let numbers = kept_numbers(alloc, bytes, table, &found.first)?;
     let symbols = in_a_row(alloc, bytes, table, &numbers, high)?;
-    Ok(Functions { symbols, mcount: found.mcount, moncontrol: found.moncontrol })
+    Ok(Functions {
+        symbols,
+        mcount: found.mcount,
+        moncontrol: found.moncontrol,
+    })
 }
 
 /// The functions of a program, and none where it has no symbol table.
-pub(crate) fn read_functions(alloc: Global, bytes: &[u8], high: u32) -> Result<Functions, ElfRefusal>
+pub(crate) fn read_functions(
+    alloc: Global,
+    bytes: &[u8],
+    high: u32,
+) -> Result<Functions, ElfRefusal>
     requires tables { HasTables bytes.now }
     requires text { text_refusal bytes.now ≡ None }
     requires high { high ≡ text_high bytes.now }
@@ -208,7 +258,11 @@ pub(crate) fn read_functions(alloc: Global, bytes: &[u8], high: u32) -> Result<F
     ensures moncontrol { IfOk result (λ f. f.moncontrol ≡ moncontrol_of bytes.now) }
 {
     let Some(table) = symbol_table(bytes) else {
-        return Ok(Functions { symbols: SymbolList::new(alloc), mcount: None, moncontrol: None });
+        return Ok(Functions {
+            symbols: SymbolList::new(alloc),
+            mcount: None,
+            moncontrol: None,
+        });
     };
     check_table(bytes, table)?;
     read_table(alloc, bytes, table, high)

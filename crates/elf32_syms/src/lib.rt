@@ -15,7 +15,7 @@ mod sections;
 mod segments;
 mod symbols;
 
-pub use image::{read, Image, Segment, SegmentList, Symbol, SymbolList};
+pub use image::{Image, Segment, SegmentList, Symbol, SymbolList, read};
 pub use owners::owner;
 pub use refusal::ElfRefusal;
 

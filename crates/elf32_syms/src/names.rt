@@ -4,8 +4,8 @@ ghost use Rattle.std.specs.Prelude.{◌≡◌, ℕ, ◌+◌, ◌<◌, ◌≤◌,
 ghost use Rattle.std.specs.List.{position_or_len};
 ghost use Rattle.elf32_syms.specs.Names.{is_zero, name_ends, name_at as name_at_of};
 
-use gp_base::limits::MAX_NAME_BYTES;
 use gp_base::Name;
+use gp_base::limits::MAX_NAME_BYTES;
 use std::alloc::{AllocError, Global};
 
 /// One more than the place of the last zero byte, or 0. So a zero byte follows an offset exactly

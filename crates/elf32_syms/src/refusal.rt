@@ -3,7 +3,6 @@
 ghost use Rattle.std.specs.Prelude.{◌≡◌};
 ghost use Rattle.elf32_syms.specs.declared.refusal.ElfRefusal.TheVariants.{OutOfMemory};
 
-
 use std::alloc::{AllocError, AllocFailed};
 
 /// Why a file is not a program that can be run here, or that memory ran out.

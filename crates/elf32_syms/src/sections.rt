@@ -9,24 +9,32 @@ ghost use Rattle.elf32_syms.specs.Refusals.{Judges, is_too_far as is_too_far_of,
 use crate::fields::word;
 use crate::header::section_headers;
 use crate::refusal::ElfRefusal;
-use gp_base::limits::{MAX_TEXT_BYTES, MAX_TEXT_END};
 use gp_base::Span;
+use gp_base::limits::{MAX_TEXT_BYTES, MAX_TEXT_END};
 
 /// Where the fields of a section header stand in it.
 pub(crate) const SH_TYPE: usize = 4;
+
 pub(crate) const SH_FLAGS: usize = 8;
+
 pub(crate) const SH_ADDR: usize = 12;
+
 pub(crate) const SH_OFFSET: usize = 16;
+
 pub(crate) const SH_SIZE: usize = 20;
+
 pub(crate) const SH_LINK: usize = 24;
 
 /// Types of sections.
 const SYMTAB: u32 = 2;
+
 pub(crate) const STRTAB: u32 = 3;
+
 const NOBITS: u32 = 8;
 
 /// Flags of sections.
 const ALLOC: u32 = 2;
+
 const EXECINSTR: u32 = 4;
 
 /// A field of four bytes of a section header.
@@ -106,7 +114,10 @@ pub(crate) fn read_text(bytes: &[u8]) -> Result<Span, ElfRefusal>
     if high == 0 || is_too_far(low, high) {
         return Err(ElfRefusal::TextRange { low, high });
     }
-    Ok(Span { low: low as u32, high: high as u32 })
+    Ok(Span {
+        low: low as u32,
+        high: high as u32,
+    })
 }
 
 /// The number of the symbol table among the sections: the first of type SYMTAB.

@@ -10,7 +10,9 @@ use crate::fields::{byte, half, word};
 use crate::header::section_headers;
 use crate::names::name_at;
 use crate::refusal::ElfRefusal;
-use crate::sections::{is_executable, section_end, section_word, SH_ADDR, SH_LINK, SH_OFFSET, SH_SIZE, SH_TYPE, STRTAB};
+use crate::sections::{
+    SH_ADDR, SH_LINK, SH_OFFSET, SH_SIZE, SH_TYPE, STRTAB, is_executable, section_end, section_word,
+};
 use std::cmp::Ordering;
 
 /// Bytes of a symbol.
@@ -18,8 +20,11 @@ const SYMBOL_BYTES: u32 = 16;
 
 /// Bindings and types of symbols.
 const GLOBAL: u8 = 1;
+
 const WEAK: u8 = 2;
+
 const NOTYPE: u8 = 0;
+
 const FUNC: u8 = 2;
 
 /// Looks whether the symbol table and its strings lie in the file.
@@ -169,7 +174,11 @@ fn type_rank(bytes: &[u8], table: u16, number: u32) -> u8
     requires number_in { number < symbol_count_of bytes.now table }
     ensures { result ≡ type_rank_of bytes.now table number }
 {
-    if info(bytes, table, number) % 16 == FUNC { 0 } else { 1 }
+    if info(bytes, table, number) % 16 == FUNC {
+        0
+    } else {
+        1
+    }
 }
 
 /// The name of a symbol.
@@ -179,7 +188,10 @@ pub(crate) fn symbol_name(bytes: &[u8], table: u16, number: u32) -> &[u8]
     requires number_in { number < symbol_count_of bytes.now table }
     ensures { result.now ≡ symbol_name_of bytes.now table number }
 {
-    name_at(strings(bytes, table), name_offset(bytes, table, number) as usize)
+    name_at(
+        strings(bytes, table),
+        name_offset(bytes, table, number) as usize,
+    )
 }
 
 /// Whether one symbol is kept rather than another at the same address.

@@ -1,4 +1,3 @@
-use Rattle.std.proofs.Common.{◌≡◌, Some, None, sym, ap, ◌∙◌, arith}
 use Rattle.std.proofs.lemmas.Result.{err_from_is_err_and}
 use Rattle.elf32_syms.proofs.Parts.{header_refused, tables_refused, segments_refused, text_refused, functions_refused, all_accepted, image_is}
 use Rattle.elf32_syms.proofs.Limits.{within_limits}
@@ -41,4 +40,4 @@ returns-clause-image c =
 pub returns-clause-limits : goal.returns-clause-limits
 returns-clause-limits c =
     within_limits c.args.bytes.now _ c.in_ok-check_tables.ensures.inside c.in_ok-segments.ensures.accepted c.in_ok-text.ensures.judged c.in_ok-functions.ensures.accepted
-      c.in_ok-segments.ensures.segments c.in_ok-text.ensures.low c.in_ok-text.ensures.high c.in_ok-functions.ensures.symbols
+    c.in_ok-segments.ensures.segments c.in_ok-text.ensures.low c.in_ok-text.ensures.high c.in_ok-functions.ensures.symbols

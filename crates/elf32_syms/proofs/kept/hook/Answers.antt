@@ -1,6 +1,6 @@
 use Rattle.std.proofs.Common.{◌≡◌, true, false, Some, sym, ap, ◌∙◌, is_some}
 use Rattle.std.specs.Str.{bytes_eq}
-use Rattle.elf32_syms.specs.Symbols.{symbol_name, st_value}
+use Rattle.elf32_syms.specs.Symbols.{symbol_name}
 use Rattle.elf32_syms.specs.Found.{hook_below}
 use Rattle.elf32_syms.proofs.Hooks.{is_named, hook_stays, hook_here, hook_not_here}
 use Rattle.elf32_syms.proofs.kept.hook.Goals as goal

@@ -1,4 +1,4 @@
-use Rattle.std.proofs.Common.{◌≡◌, ℕ, true, false, sym, ap, ◌∙◌, subst, Some}
+use Rattle.std.proofs.Common.{ℕ, sym, ◌∙◌, subst, Some}
 use Rattle.std.specs.Ordering.{nat_cmp}
 use Rattle.std.specs.BTreeMap.{Updates}
 use Rattle.elf32_syms.proofs.First.{first_stays, first_changes}

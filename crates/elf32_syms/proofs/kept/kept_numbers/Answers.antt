@@ -1,4 +1,4 @@
-use Rattle.std.proofs.Common.{◌≡◌, ◌<◌, ◌≤◌, nat_lt, true, false, sym, ap, ◌∙◌, arith, length, refl}
+use Rattle.std.proofs.Common.{◌≡◌, nat_lt, true, false, sym, ap, ◌∙◌, arith, length, refl}
 use Rattle.std.specs.BTreeMap.{values, btree_map_len}
 use Rattle.std.proofs.lemmas.Map.Entries.{length-values_of}
 use Rattle.std.specs.Map.Iter.{deref}

@@ -1,8 +1,5 @@
-use Rattle.std.proofs.Common.{◌≡◌, Option, Some, None, sym, ap, ◌∙◌, arith}
+use Rattle.std.proofs.Common.{sym, ◌∙◌}
 use Rattle.std.proofs.lemmas.Result.{err_from_is_err_and, IfErr-weaker, IfOk-weaker}
-use Rattle.elf32_syms.specs.declared.refusal.ElfRefusal.{ElfRefusal}
-use Rattle.elf32_syms.specs.declared.kept.Functions.{Functions}
-use Rattle.elf32_syms.specs.Sections.{symbol_table}
 use Rattle.elf32_syms.proofs.Functions.{none_refused, none_symbols, none_mcount, none_moncontrol, table_below, table_refused, symbols_refused, symbols_accepted, symbols_at, mcount_at, moncontrol_at}
 use Rattle.elf32_syms.proofs.kept.read_functions.Goals as goal
 
@@ -29,20 +26,20 @@ returns-in_err-check_table-clause-refusal c =
 pub returns-clause-refusal : goal.returns-clause-refusal
 returns-clause-refusal c =
     IfErr-weaker c.read_table.result _ _
-      (λ e h. symbols_refused c.args.bytes.now c.in-Some.table (sym c.in-Some.ensures) c.in_ok-check_table.ensures.judged e h)
-      c.read_table.ensures.refusal
+    (λ e h. symbols_refused c.args.bytes.now c.in-Some.table (sym c.in-Some.ensures) c.in_ok-check_table.ensures.judged e h)
+    c.read_table.ensures.refusal
 
 pub returns-clause-accepted : goal.returns-clause-accepted
 returns-clause-accepted c =
     IfOk-weaker c.read_table.result _ _
-      (λ f h. symbols_accepted c.args.bytes.now c.in-Some.table (sym c.in-Some.ensures) c.in_ok-check_table.ensures.judged h)
-      c.read_table.ensures.accepted
+    (λ f h. symbols_accepted c.args.bytes.now c.in-Some.table (sym c.in-Some.ensures) c.in_ok-check_table.ensures.judged h)
+    c.read_table.ensures.accepted
 
 pub returns-clause-symbols : goal.returns-clause-symbols
 returns-clause-symbols c =
     IfOk-weaker c.read_table.result _ _
-      (λ f h. rw c.requires.high at h ∙ symbols_at c.args.bytes.now c.in-Some.table (sym c.in-Some.ensures))
-      c.read_table.ensures.symbols
+    (λ f h. rw c.requires.high at h ∙ symbols_at c.args.bytes.now c.in-Some.table (sym c.in-Some.ensures))
+    c.read_table.ensures.symbols
 
 pub returns-clause-mcount : goal.returns-clause-mcount
 returns-clause-mcount c =

@@ -1,4 +1,4 @@
-use Rattle.std.proofs.Common.{◌≡◌, ◌<◌, ◌≤◌, ◌-◌, ℕ, List, All, codes, arith, subst, sym, ◌∙◌}
+use Rattle.std.proofs.Common.{◌<◌, ℕ, List, All, codes, subst, sym, ◌∙◌}
 use Rattle.elf32_syms.specs.Symbols.{symbol_count}
 use Rattle.elf32_syms.proofs.Text.{text_limits}
 use Rattle.elf32_syms.proofs.Functions.{hook_all, kept_below}

@@ -1,6 +1,5 @@
-use Rattle.std.proofs.Common.{◌≡◌, ◌≢◌, ◌<◌, ◌≤◌, length, get_or, nat_lt, true, false, sym, ap, ◌∙◌, arith}
+use Rattle.std.proofs.Common.{◌≡◌, ◌≢◌, ◌<◌, length, get_or, nat_lt, true, false, sym, ◌∙◌, arith}
 use Rattle.std.proofs.lemmas.Bool.Decides.{nat_tests}
-use Rattle.elf32_syms.specs.Names.{name_ends}
 use Rattle.elf32_syms.specs.Symbols.{fits, strings_of, st_name}
 use Rattle.elf32_syms.proofs.Steps.{unfit_named, unfit_candidate, unnamed_here, named_here, candidate_here, empty_here, found_skips, unnamed_refused}
 use Rattle.elf32_syms.proofs.kept.step.Goals as goal

@@ -1,4 +1,4 @@
-use Rattle.std.proofs.Common.{◌≡◌, ◌<◌, ℕ, Option, option_map, true, false, sym, ap, ◌∙◌, arith, refl}
+use Rattle.std.proofs.Common.{◌≡◌, ◌<◌, ℕ, Option, option_map, ap, arith, refl}
 use Rattle.std.proofs.lemmas.Result.{err_from_is_err_and}
 use Rattle.elf32_syms.specs.declared.refusal.ElfRefusal.{ElfRefusal}
 use Rattle.elf32_syms.specs.declared.refusal.ElfRefusal.TheVariants.{Link}

@@ -1,5 +1,5 @@
 use Rattle.elf32_syms.proofs.NameEnds.{front_is, front_past}
-use Rattle.std.proofs.Common.{arith, ◌≡◌, length, drop, take, min, ap, sym, ◌∙◌}
+use Rattle.std.proofs.Common.{◌≡◌, length, drop, take, min, ap, sym, ◌∙◌}
 use Rattle.std.specs.List.{before_first}
 use Rattle.elf32_syms.specs.Names.{is_zero}
 use Rattle.elf32_syms.proofs.names.front.Goals as goal

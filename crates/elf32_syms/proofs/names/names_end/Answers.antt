@@ -1,5 +1,5 @@
 use Rattle.elf32_syms.proofs.NameEnds.{name_ends_below}
-use Rattle.std.proofs.Common.{arith, ◌<◌}
+use Rattle.std.proofs.Common.{arith}
 use Rattle.elf32_syms.proofs.names.names_end.Goals as goal
 
 pub returns-else-strings-end-ne0-clause-ends : goal.returns-else-strings-end-ne0-clause-ends

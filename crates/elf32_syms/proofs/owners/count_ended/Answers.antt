@@ -1,4 +1,4 @@
-use Rattle.std.proofs.Common.{◌≡◌, ◌≤◌, nat_le, true, false, rules}
+use Rattle.std.proofs.Common.{nat_le, rules}
 use Rattle.std.proofs.lemmas.List.Sorted.{IsPartitionPoint-from_clause}
 use Rattle.elf32_syms.specs.declared.image.Symbol.{Symbol}
 use Rattle.elf32_syms.proofs.Owning.{ended_front}

@@ -1,4 +1,4 @@
-use Rattle.std.proofs.Common.{◌≡◌, ◌<◌, nat_eq, true, false, sym, rules, arith, ltb}
+use Rattle.std.proofs.Common.{◌≡◌, ◌<◌, nat_eq, true, false, sym, arith}
 use Rattle.elf32_syms.specs.Header.{e_shnum}
 use Rattle.elf32_syms.specs.Sections.{symbol_table, sh_type}
 use Rattle.elf32_syms.proofs.Ranges.{find_more, find_here}

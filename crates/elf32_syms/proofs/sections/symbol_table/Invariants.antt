@@ -1,4 +1,4 @@
-use Rattle.std.proofs.Common.{◌≡◌, ◌+◌, None, nat_eq}
+use Rattle.std.proofs.Common.{◌≡◌, None, nat_eq}
 use Rattle.std.specs.List.{find}
 use Rattle.elf32_syms.specs.Fields.{numbers_below}
 use Rattle.elf32_syms.specs.Sections.{sh_type}

@@ -1,4 +1,4 @@
-use Rattle.std.proofs.Common.{◌≡◌, ◌<◌, ◌≤◌, ◌+◌, length, true, false, sym, ap, refl, arith, Option, option_map, ℕ}
+use Rattle.std.proofs.Common.{◌≡◌, ◌<◌, true, false, ap, arith, Option, option_map, ℕ}
 use Rattle.elf32_syms.specs.declared.refusal.ElfRefusal.{ElfRefusal}
 use Rattle.elf32_syms.specs.declared.refusal.ElfRefusal.TheVariants.{OutOfFile}
 use Rattle.elf32_syms.specs.Header.{e_phnum}
@@ -21,19 +21,19 @@ pub loop-index-preserved : goal.loop-index-preserved
 loop-index-preserved c =
     let bs = c.args.bytes.now in
     elim c.if-is_segment.branch [
-      then-is_segment+else-from-bytes+in_ok-push w ↦
-        let taken : is_segment bs c.loop-index.index ≡ true = cc in
-        let whole = whole_here bs c.loop-index.index w.segment_at-segment.result taken w.segment_at-segment.ensures (omega arith) in
-        record {
-          so_far = rw (map_takes (segment_at bs) (is_segment bs) c.loop-index.index taken) (cc w.in_ok-push.ensures.added);
-          none_cut = find_more (is_cut_off bs) c.loop-index.index c.loop-index.invariant.none_cut whole
-        }
+      | then-is_segment+else-from-bytes+in_ok-push w ↦
+          let taken : is_segment bs c.loop-index.index ≡ true = cc in
+          let whole = whole_here bs c.loop-index.index w.segment_at-segment.result taken w.segment_at-segment.ensures (omega arith) in
+          record {
+            so_far = rw (map_takes (segment_at bs) (is_segment bs) c.loop-index.index taken) (cc w.in_ok-push.ensures.added);
+            none_cut = find_more (is_cut_off bs) c.loop-index.index c.loop-index.invariant.none_cut whole;
+          }
       | else-is_segment w ↦
-        let left : is_segment bs c.loop-index.index ≡ false = cc in
-        record {
-          so_far = rw (filter_leaves (is_segment bs) c.loop-index.index left) cc;
-          none_cut = find_more (is_cut_off bs) c.loop-index.index c.loop-index.invariant.none_cut (none_here bs c.loop-index.index left)
-        }
+          let left : is_segment bs c.loop-index.index ≡ false = cc in
+          record {
+            so_far = rw (filter_leaves (is_segment bs) c.loop-index.index left) cc;
+            none_cut = find_more (is_cut_off bs) c.loop-index.index c.loop-index.invariant.none_cut (none_here bs c.loop-index.index left);
+          }
     ]
 
 pub returns-clause-accepted : goal.returns-clause-accepted
