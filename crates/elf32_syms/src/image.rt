@@ -63,14 +63,26 @@ impl Image {
         requires { IsAscending self.now.symbols }
         ensures is { result ≡ owner_of self.now.symbols pc }
         ensures inside { IfSome result (λ i. i < length self.now.symbols) }
-        ensures found { IfSome result (HoldsAt (λ s. (s.addr ≤ pc) × (pc < s.end)) self.now.symbols) }
-        ensures none { IfNone result (All (λ s. ¬ ((s.addr ≤ pc) × (pc < s.end))) self.now.symbols) }
+        ensures found { IfSome result
+            (HoldsAt (λ s. (s.addr ≤ pc) × (pc < s.end)) self.now.symbols) }
+        ensures none { IfNone result
+            (All (λ s. ¬ ((s.addr ≤ pc) × (pc < s.end))) self.now.symbols) }
     {
         owner(self.symbols.as_slice(), pc)
     }
 }
 
-/// Reads a program's file.
+/// Reads a program's file, of at most 64 MiB (System V ABI, ELF; RISC-V ELF ABI).
+///
+/// Symbols are those of the first symbol table that are functions, or global or weak and of no
+/// type, in an executable section. Of several at one address the first is kept: by its binding
+/// (global, weak, any other), then a function before one of no type, then by the bytes of its name,
+/// then by its number. The hooks are the first such symbols of their names by number, kept or not.
+///
+/// A file that is refused is refused for the first reason in this order: its header; the sizes of
+/// its tables' entries, and their places; a segment that is cut off; the range of its text; the
+/// place of its symbol table, the link to its strings, and their place; a symbol with no name; too
+/// many kept symbols. `OutOfMemory` may come at any point.
 pub fn read(alloc: Global, bytes: &[u8]) -> Result<Image, ElfRefusal>
     requires { length bytes.now ≤ MAX_ELF_BYTES }
 

@@ -150,7 +150,8 @@ fn walk(alloc: Global, bytes: &[u8], table: u16) -> Result<Found, ElfRefusal>
     requires { HasSymbols bytes.now table }
     ensures refusal { IfErr result (λ e. IsRefusal e (names_refusal bytes.now table)) }
     ensures accepted { OnOk result (names_refusal bytes.now table ≡ None) }
-    ensures found { IfOk result (λ found. IsFound bytes.now table (symbol_count_of bytes.now table) found) }
+    ensures found { IfOk result
+        (λ found. IsFound bytes.now table (symbol_count_of bytes.now table) found) }
 {
     let end = names_end(strings(bytes, table));
     let count = symbol_count(bytes, table);
@@ -228,9 +229,11 @@ fn read_table(alloc: Global, bytes: &[u8], table: u16, high: u32) -> Result<Func
         (option_or (names_refusal bytes.now table) (count_refusal bytes.now table))) }
     ensures accepted { OnOk result
         (option_or (names_refusal bytes.now table) (count_refusal bytes.now table) ≡ None) }
-    ensures symbols { IfOk result (λ f. f.symbols ≡ in_a_row_of bytes.now table high (kept_of bytes.now table)) }
+    ensures symbols { IfOk result
+        (λ f. f.symbols ≡ in_a_row_of bytes.now table high (kept_of bytes.now table)) }
     ensures mcount { IfOk result (λ f. f.mcount ≡ hook_of bytes.now table (codes "_mcount")) }
-    ensures moncontrol { IfOk result (λ f. f.moncontrol ≡ hook_of bytes.now table (codes "moncontrol")) }
+    ensures moncontrol { IfOk result
+        (λ f. f.moncontrol ≡ hook_of bytes.now table (codes "moncontrol")) }
 {
     let found = walk(alloc, bytes, table)?;
     let numbers = kept_numbers(alloc, bytes, table, &found.first)?;

@@ -11,7 +11,8 @@ use crate::image::Symbol;
 fn count_ended(symbols: &[Symbol], pc: u32) -> usize
     requires { IsAscending symbols.now }
     ensures inside { result ≤ length symbols.now }
-    ensures point { IsPartitionPoint (λ s. nat_le s.end pc ≡ true) (λ s. nat_le s.end pc ≡ false) symbols.now result }
+    ensures point { IsPartitionPoint
+        (λ s. nat_le s.end pc ≡ true) (λ s. nat_le s.end pc ≡ false) symbols.now result }
 {
     symbols.partition_point(|symbol| symbol.end <= pc)
 }
