@@ -1,11 +1,13 @@
--- Each way in which `show` ends.
-use Rattle.std.proofs.Common.{◌≡◌, ℕ, ◌<◌, false, List, [], ◌∷◌, length, take, Option, Some, None, Result, Ok, Err, inr, refl, sym, ap, subst, ◌∙◌, arith}
-use Rattle.std.specs.Prelude.{IfSome, MatchOption, Contains, ⊤}
+-- Each way in which a command with one file ends.
+use Rattle.std.proofs.Common.{◌≡◌, ℕ, ◌<◌, ◌≤◌, false, List, [], ◌∷◌, length, take, Option, Some, None, Result, Ok, Err, inr, refl, sym, ap, subst, ◌∙◌}
+use Rattle.std.specs.Prelude.{IfSome, MatchOption, ⊤}
 use Rattle.std.specs.Global.{Vec}
 use Rattle.gp_base.specs.declared.refusal.GmonRefusal.{GmonRefusal}
 use Rattle.gp_base.specs.declared.refusal.GmonRefusal.TheVariants as refusals
-use Rattle.gp_base.specs.declared.limits.TheConstants.{MAX_PROFILE_BYTES}
 use Rattle.gp_base.specs.Refusal.{IsRefusal}
+use Rattle.elf32_syms.specs.declared.refusal.ElfRefusal.{ElfRefusal}
+use Rattle.elf32_syms.specs.declared.refusal.ElfRefusal.TheVariants as elf
+use Rattle.elf32_syms.specs.Refusals.{IsRefusal as IsElfRefusal}
 use Rattle.host_port.specs.declared.loading.LoadRefusal.{LoadRefusal}
 use Rattle.host_port.specs.declared.loading.LoadRefusal.TheVariants as loads
 use Rattle.host_port.specs.Act.{Act, Out, Disk, File, content_of}
@@ -13,17 +15,13 @@ use Rattle.host_port.specs.Outside.{Outside, Becomes, Did, Rose}
 use Rattle.host_port.specs.Host.{Puts, Output}
 use Rattle.host_port.specs.Load.{Loads}
 use Rattle.host_port.proofs.Laws.{Did-then, Shows-did, Becomes-then}
-use Rattle.text_lines.specs.Lines.{show_text}
-use Rattle.gmon_bsd.specs.Reading.{bsd_records}
 use Rattle.rvgprof.specs.declared.outcome.Done.{Done}
 use Rattle.rvgprof.specs.declared.outcome.Fault.{Fault}
-use Rattle.rvgprof.specs.declared.outcome.Fault.TheVariants.{Usage, BadProfile, ReadFault, WriteFault, OutOfMemory, TooLarge}
-use Rattle.rvgprof.specs.declared.words.Command.{Command}
-use Rattle.rvgprof.specs.declared.words.Command.TheVariants.{Show}
+use Rattle.rvgprof.specs.declared.outcome.Fault.TheVariants.{Usage, BadElf, BadProfile, ReadFault, WriteFault, OutOfMemory, TooLarge}
 use Rattle.rvgprof.specs.Words.{command_of, inputs_of, name_of}
-use Rattle.rvgprof.specs.Answer.{Reply, refused, ended, file_refusal, show_reply, answer_of, load_fault_of, profile_fault_of}
-use Rattle.rvgprof.specs.Contract.{IsPart, Owes, NothingBefore, Acted}
-use Rattle.rvgprof.proofs.Replies.{answer_at, too_large_reply, refused_reply, shown_reply, nothing_before}
+use Rattle.rvgprof.specs.Answer.{Reply, refused, ended, answer_of, load_fault_of, profile_fault_of, elf_fault_of}
+use Rattle.rvgprof.specs.Contract.{IsPart, Owes, NothingBefore, NothingFailed, HasCause, Acted}
+use Rattle.rvgprof.proofs.Replies.{OneFile}
 
 -- what holds of the files afterwards holds where they are told, if they are the same
 told_by : (a b : Option Disk) (P : List File → Type 0) → Becomes (λ d. d) a b → IfSome b (λ d. P d.files) → MatchOption b ⊤ (λ _. IfSome a (λ d. P d.files))
@@ -33,6 +31,14 @@ told_by (Some x) (Some y) P same h =
     let e : x ≡ y = cc in
     subst (λ (d : Disk). P d.files) (sym e) h
 
+-- what is known of the files as they were is known of them as they are still told
+told_still : (a b : Option Disk) (P : List File → Type 0) → Becomes (λ d. d) a b → IfSome a (λ d. P d.files) → IfSome b (λ d. P d.files)
+told_still a None P same h = tt
+told_still None (Some y) P same h = absurd cc
+told_still (Some x) (Some y) P same h =
+    let e : x ≡ y = cc in
+    subst (λ (d : Disk). P d.files) e h
+
 each : (b : Option Disk) (P : List File → Type 0) → ((files : List File) → P files) → IfSome b (λ d. P d.files)
 each None P h = tt
 each (Some d) P h = h d.files
@@ -41,126 +47,123 @@ weaken : (b : Option Disk) (P Q : List File → Type 0) → ((files : List File)
 weaken None P Q h p = tt
 weaken (Some d) P Q h p = h d.files p
 
--- the ending and the acts, read off the reply
-owed : (words : List (List ℕ)) (files : List File) (gmon : ℕ) (R : Reply) → command_of words ≡ Some (Show gmon) → show_reply gmon (content_of (name_of words gmon) files) ≡ R
-    → (R.ending ≡ (answer_of words files).ending) × (R.acts ≡ (answer_of words files).acts)
-owed words files gmon R said e =
-    let whole : answer_of words files ≡ R = answer_at words files gmon said ∙ e in
-    (ap (λ (r : Reply). r.ending) (sym whole), ap (λ (r : Reply). r.acts) (sym whole))
+-- the ending and the acts, read off the answer
+abbrev Agrees : List (List ℕ) → List File → Reply → Type 0
+Agrees words files R = (R.ending ≡ (answer_of words files).ending) × (R.acts ≡ (answer_of words files).acts)
+
+agrees : (words : List (List ℕ)) (files : List File) (R : Reply) → answer_of words files ≡ R → Agrees words files R
+agrees words files R e = (ap (λ (r : Reply). r.ending) (sym e), ap (λ (r : Reply). r.acts) (sym e))
+
+-- nothing was done before the answer
+undone : (words : List (List ℕ)) (old new : Outside) (fault : Fault) → old.is_writing ≡ false → Did [] old new → new.err_faults ≡ old.err_faults
+    → IfSome new.disk (λ d. Owes words d.files [] (Err fault)) → HasCause words old new (Err fault) → Acted words old new (Err fault)
+undone words old new fault idle did err owes cause = record {
+  done = [];
+  shows = Shows-did [] old new did;
+  owes = told_by old.disk new.disk (λ files. Owes words files [] (Err fault)) did.disk owes;
+  cause = cause;
+  err = err;
+  shut = did.writing ∙ idle;
+}
 
 -- the file wasn't loaded
-pub not_loaded : (words : List (List ℕ)) (gmon : ℕ) (old new : Outside) (refusal : LoadRefusal) → command_of words ≡ Some (Show gmon) → old.is_writing ≡ false
-    → Loads (name_of words gmon) MAX_PROFILE_BYTES old new (Err refusal) → Acted words old new (Err (load_fault_of refusal gmon MAX_PROFILE_BYTES))
-not_loaded words gmon old new loads.ReadFault said idle loads = record {
-  done = [];
-  shows = Shows-did [] old new loads.nothing_done;
-  owes = told_by old.disk new.disk (λ files. Owes words files [] (Err (ReadFault gmon))) loads.nothing_done.disk
-      (each new.disk (λ files. Owes words files [] (Err (ReadFault gmon)))
-      (λ files. (refl, subst (λ (r : Reply). NothingBefore gmon r.ending) (sym (answer_at words files gmon said)) (nothing_before gmon (content_of (name_of words gmon) files)))));
-  cause = (
-    subst (λ (o : Option Command). Contains (inputs_of o) gmon) (sym said) (0, omega arith, refl),
-    loads.counts.0,
-    loads.counts.1,
-  );
-  err = loads.counts.2;
-  shut = loads.nothing_done.writing ∙ idle;
-}
-not_loaded words gmon old new loads.TooLarge said idle loads = record {
-  done = [];
-  shows = Shows-did [] old new loads.nothing_done;
-  owes = told_by old.disk new.disk (λ files. Owes words files [] (Err (TooLarge gmon MAX_PROFILE_BYTES))) loads.nothing_done.disk
-      (weaken new.disk (λ files. MAX_PROFILE_BYTES < length (content_of (name_of words gmon) files)) (λ files. Owes words files [] (Err (TooLarge gmon MAX_PROFILE_BYTES)))
-      (λ files long. owed words files gmon (refused (TooLarge gmon MAX_PROFILE_BYTES)) said (too_large_reply gmon (content_of (name_of words gmon) files) long))
-      loads.answer);
-  cause = record { read = loads.counts.read; write = loads.counts.write };
-  err = loads.counts.err;
-  shut = loads.nothing_done.writing ∙ idle;
-}
-not_loaded words gmon old new loads.OutOfMemory said idle loads = record {
-  done = [];
-  shows = Shows-did [] old new loads.nothing_done;
-  owes = told_by old.disk new.disk (λ files. Owes words files [] (Err OutOfMemory)) loads.nothing_done.disk (each new.disk (λ files. Owes words files [] (Err OutOfMemory)) (λ files. refl));
-  cause = record { read = loads.counts.read; write = loads.counts.write };
-  err = loads.counts.err;
-  shut = loads.nothing_done.writing ∙ idle;
-}
+pub not_loaded : {reply : List ℕ → Reply} (words : List (List ℕ)) (word limit : ℕ) (old new : Outside) (refusal : LoadRefusal) → OneFile words word limit reply → old.is_writing ≡ false
+    → Loads (name_of words word) limit old new (Err refusal) → Acted words old new (Err (load_fault_of refusal word limit))
+not_loaded {reply} words word limit old new loads.ReadFault one idle loads =
+    undone words old new (ReadFault word) idle loads.nothing_done loads.counts.2
+    (each new.disk (λ files. Owes words files [] (Err (ReadFault word)))
+    (λ files. (refl, subst (λ (r : Reply). NothingBefore (inputs_of (command_of words)) word r.ending) (sym (one.answer files)) (one.first (content_of (name_of words word) files)))))
+    (one.input, loads.counts.0, loads.counts.1)
+not_loaded {reply} words word limit old new loads.TooLarge one idle loads =
+    undone words old new (TooLarge word limit) idle loads.nothing_done loads.counts.err
+    (weaken new.disk (λ files. limit < length (content_of (name_of words word) files)) (λ files. Owes words files [] (Err (TooLarge word limit)))
+    (λ files long. agrees words files (refused (TooLarge word limit)) (one.answer files ∙ one.large (content_of (name_of words word) files) long))
+    loads.answer)
+    (record { read = loads.counts.read; write = loads.counts.write })
+not_loaded words word limit old new loads.OutOfMemory one idle loads =
+    undone words old new OutOfMemory idle loads.nothing_done loads.counts.err
+    (each new.disk (λ files. Owes words files [] (Err OutOfMemory)) (λ files. refl))
+    (record { read = loads.counts.read; write = loads.counts.write })
 
--- a file that was loaded, and is refused
-bad_profile : (words : List (List ℕ)) (gmon : ℕ) (old new : Outside) (bytes : Vec ℕ) (refusal : GmonRefusal) → command_of words ≡ Some (Show gmon) → old.is_writing ≡ false
-    → Loads (name_of words gmon) MAX_PROFILE_BYTES old new (Ok bytes) → file_refusal bytes.items ≡ Some refusal → Acted words old new (Err (BadProfile refusal gmon))
-bad_profile words gmon old new bytes refusal said idle loads e = record {
-  done = [];
-  shows = Shows-did [] old new loads.nothing_done;
-  owes = told_by old.disk new.disk (λ files. Owes words files [] (Err (BadProfile refusal gmon))) loads.nothing_done.disk
-      (weaken new.disk (λ files. bytes.items ≡ content_of (name_of words gmon) files) (λ files. Owes words files [] (Err (BadProfile refusal gmon)))
-      (λ files is. owed words files gmon (refused (BadProfile refusal gmon)) said (ap (show_reply gmon) (sym is) ∙ refused_reply gmon bytes.items refusal loads.within e))
-      loads.answer);
-  cause = record { read = loads.counts.read; write = loads.counts.write };
-  err = loads.counts.err;
-  shut = loads.nothing_done.writing ∙ idle;
-}
+-- the file was loaded, and there was no memory for what it holds
+no_memory : (words : List (List ℕ)) (word limit : ℕ) (old new : Outside) (bytes : Vec ℕ) → old.is_writing ≡ false → Loads (name_of words word) limit old new (Ok bytes) → Acted words old new (Err OutOfMemory)
+no_memory words word limit old new bytes idle loads =
+    undone words old new OutOfMemory idle loads.nothing_done loads.counts.err
+    (each new.disk (λ files. Owes words files [] (Err OutOfMemory)) (λ files. refl))
+    (record { read = loads.counts.read; write = loads.counts.write })
 
-no_memory : (words : List (List ℕ)) (gmon : ℕ) (old new : Outside) (bytes : Vec ℕ) → old.is_writing ≡ false → Loads (name_of words gmon) MAX_PROFILE_BYTES old new (Ok bytes) → Acted words old new (Err OutOfMemory)
-no_memory words gmon old new bytes idle loads = record {
-  done = [];
-  shows = Shows-did [] old new loads.nothing_done;
-  owes = told_by old.disk new.disk (λ files. Owes words files [] (Err OutOfMemory)) loads.nothing_done.disk (each new.disk (λ files. Owes words files [] (Err OutOfMemory)) (λ files. refl));
-  cause = record { read = loads.counts.read; write = loads.counts.write };
-  err = loads.counts.err;
-  shut = loads.nothing_done.writing ∙ idle;
-}
+-- the file was loaded, and is refused
+refused_so : {reply : List ℕ → Reply} (words : List (List ℕ)) (word limit : ℕ) (old new : Outside) (bytes : Vec ℕ) (fault : Fault) → OneFile words word limit reply → old.is_writing ≡ false
+    → Loads (name_of words word) limit old new (Ok bytes) → reply bytes.items ≡ refused fault → ((files : List File) → Agrees words files (refused fault) → Owes words files [] (Err fault))
+    → (NothingFailed old new → HasCause words old new (Err fault)) → Acted words old new (Err fault)
+refused_so {reply} words word limit old new bytes fault one idle loads e owes cause =
+    undone words old new fault idle loads.nothing_done loads.counts.err
+    (weaken new.disk (λ files. bytes.items ≡ content_of (name_of words word) files) (λ files. Owes words files [] (Err fault))
+    (λ files is. owes files (agrees words files (refused fault) (one.answer files ∙ ap reply (sym is) ∙ e)))
+    loads.answer)
+    (cause (record { read = loads.counts.read; write = loads.counts.write }))
 
-pub not_read : (words : List (List ℕ)) (gmon : ℕ) (old new : Outside) (bytes : Vec ℕ) (refusal : GmonRefusal) → command_of words ≡ Some (Show gmon) → old.is_writing ≡ false
-    → Loads (name_of words gmon) MAX_PROFILE_BYTES old new (Ok bytes) → IsRefusal refusal (file_refusal bytes.items) → Acted words old new (Err (profile_fault_of refusal gmon))
-not_read words gmon old new bytes refusals.OutOfMemory said idle loads e = no_memory words gmon old new bytes idle loads
-not_read words gmon old new bytes (refusals.Short at) said idle loads e = bad_profile words gmon old new bytes (refusals.Short at) said idle loads e
-not_read words gmon old new bytes (refusals.Version value) said idle loads e = bad_profile words gmon old new bytes (refusals.Version value) said idle loads e
-not_read words gmon old new bytes (refusals.Tag at value) said idle loads e = bad_profile words gmon old new bytes (refusals.Tag at value) said idle loads e
-not_read words gmon old new bytes (refusals.Range at low high) said idle loads e = bad_profile words gmon old new bytes (refusals.Range at low high) said idle loads e
-not_read words gmon old new bytes (refusals.Size value) said idle loads e = bad_profile words gmon old new bytes (refusals.Size value) said idle loads e
-not_read words gmon old new bytes (refusals.Rest at) said idle loads e = bad_profile words gmon old new bytes (refusals.Rest at) said idle loads e
+bad_profile : {reply : List ℕ → Reply} (words : List (List ℕ)) (word limit : ℕ) (old new : Outside) (bytes : Vec ℕ) (refusal : GmonRefusal) → OneFile words word limit reply → old.is_writing ≡ false
+    → Loads (name_of words word) limit old new (Ok bytes) → reply bytes.items ≡ refused (BadProfile refusal word) → Acted words old new (Err (BadProfile refusal word))
+bad_profile words word limit old new bytes refusal one idle loads e = refused_so words word limit old new bytes (BadProfile refusal word) one idle loads e (λ files h. h) (λ h. h)
 
-same_files : (old mid new : Outside) (text : List ℕ) → Did [] old mid → Did (Out text ∷ []) mid new → Becomes (λ d. d) old.disk new.disk
-same_files old mid new text first second = Becomes-then (λ d. d) (λ d. d) old.disk mid.disk new.disk first.disk second.disk
+bad_elf : {reply : List ℕ → Reply} (words : List (List ℕ)) (word limit : ℕ) (old new : Outside) (bytes : Vec ℕ) (refusal : ElfRefusal) → OneFile words word limit reply → old.is_writing ≡ false
+    → Loads (name_of words word) limit old new (Ok bytes) → reply bytes.items ≡ refused (BadElf refusal) → Acted words old new (Err (BadElf refusal))
+bad_elf words word limit old new bytes refusal one idle loads e = refused_so words word limit old new bytes (BadElf refusal) one idle loads e (λ files h. h) (λ h. h)
 
--- the content of a file that was loaded, as far as it is still told
-content_stays : (a b : Option Disk) (P : List File → Type 0) → Becomes (λ d. d) a b → IfSome a (λ d. P d.files) → IfSome b (λ d. P d.files)
-content_stays a None P same h = tt
-content_stays None (Some y) P same h = absurd cc
-content_stays (Some x) (Some y) P same h =
-    let e : x ≡ y = cc in
-    subst (λ (d : Disk). P d.files) e h
+pub no_profile : {reply : List ℕ → Reply} (words : List (List ℕ)) (word limit : ℕ) (old new : Outside) (bytes : Vec ℕ) (refusal : GmonRefusal) (due : Option GmonRefusal) → OneFile words word limit reply → old.is_writing ≡ false
+    → Loads (name_of words word) limit old new (Ok bytes) → IsRefusal refusal due → ((r : GmonRefusal) → due ≡ Some r → reply bytes.items ≡ refused (BadProfile r word)) → Acted words old new (Err (profile_fault_of refusal word))
+no_profile words word limit old new bytes refusals.OutOfMemory due one idle loads e so = no_memory words word limit old new bytes idle loads
+no_profile words word limit old new bytes (refusals.Short at) due one idle loads e so = bad_profile words word limit old new bytes (refusals.Short at) one idle loads (so (refusals.Short at) e)
+no_profile words word limit old new bytes (refusals.Version value) due one idle loads e so = bad_profile words word limit old new bytes (refusals.Version value) one idle loads (so (refusals.Version value) e)
+no_profile words word limit old new bytes (refusals.Tag at value) due one idle loads e so = bad_profile words word limit old new bytes (refusals.Tag at value) one idle loads (so (refusals.Tag at value) e)
+no_profile words word limit old new bytes (refusals.Range at low high) due one idle loads e so = bad_profile words word limit old new bytes (refusals.Range at low high) one idle loads (so (refusals.Range at low high) e)
+no_profile words word limit old new bytes (refusals.Size value) due one idle loads e so = bad_profile words word limit old new bytes (refusals.Size value) one idle loads (so (refusals.Size value) e)
+no_profile words word limit old new bytes (refusals.Rest at) due one idle loads e so = bad_profile words word limit old new bytes (refusals.Rest at) one idle loads (so (refusals.Rest at) e)
+
+pub no_program : {reply : List ℕ → Reply} (words : List (List ℕ)) (word limit : ℕ) (old new : Outside) (bytes : Vec ℕ) (refusal : ElfRefusal) (due : Option ElfRefusal) → OneFile words word limit reply → old.is_writing ≡ false
+    → Loads (name_of words word) limit old new (Ok bytes) → IsElfRefusal refusal due → ((r : ElfRefusal) → due ≡ Some r → reply bytes.items ≡ refused (BadElf r)) → Acted words old new (Err (elf_fault_of refusal))
+no_program words word limit old new bytes elf.OutOfMemory due one idle loads e so = no_memory words word limit old new bytes idle loads
+no_program words word limit old new bytes (elf.Short len) due one idle loads e so = bad_elf words word limit old new bytes (elf.Short len) one idle loads (so (elf.Short len) e)
+no_program words word limit old new bytes elf.Magic due one idle loads e so = bad_elf words word limit old new bytes elf.Magic one idle loads (so elf.Magic e)
+no_program words word limit old new bytes (elf.Class value) due one idle loads e so = bad_elf words word limit old new bytes (elf.Class value) one idle loads (so (elf.Class value) e)
+no_program words word limit old new bytes (elf.Order value) due one idle loads e so = bad_elf words word limit old new bytes (elf.Order value) one idle loads (so (elf.Order value) e)
+no_program words word limit old new bytes (elf.Kind value) due one idle loads e so = bad_elf words word limit old new bytes (elf.Kind value) one idle loads (so (elf.Kind value) e)
+no_program words word limit old new bytes (elf.Machine value) due one idle loads e so = bad_elf words word limit old new bytes (elf.Machine value) one idle loads (so (elf.Machine value) e)
+no_program words word limit old new bytes (elf.Flags value) due one idle loads e so = bad_elf words word limit old new bytes (elf.Flags value) one idle loads (so (elf.Flags value) e)
+no_program words word limit old new bytes (elf.TableSize value) due one idle loads e so = bad_elf words word limit old new bytes (elf.TableSize value) one idle loads (so (elf.TableSize value) e)
+no_program words word limit old new bytes (elf.OutOfFile at) due one idle loads e so = bad_elf words word limit old new bytes (elf.OutOfFile at) one idle loads (so (elf.OutOfFile at) e)
+no_program words word limit old new bytes (elf.Link index) due one idle loads e so = bad_elf words word limit old new bytes (elf.Link index) one idle loads (so (elf.Link index) e)
+no_program words word limit old new bytes (elf.TextRange low high) due one idle loads e so = bad_elf words word limit old new bytes (elf.TextRange low high) one idle loads (so (elf.TextRange low high) e)
+no_program words word limit old new bytes (elf.TooManySymbols count) due one idle loads e so = bad_elf words word limit old new bytes (elf.TooManySymbols count) one idle loads (so (elf.TooManySymbols count) e)
 
 -- the lines were printed
-pub shown : {E : Type 0} (words : List (List ℕ)) (gmon : ℕ) (old mid new : Outside) (bytes : Vec ℕ) (d : Done) → command_of words ≡ Some (Show gmon) → old.is_writing ≡ false
-    → Loads (name_of words gmon) MAX_PROFILE_BYTES old mid (Ok bytes) → file_refusal bytes.items ≡ None
-    → Puts {T = Unit {0}} {E = E} Output (show_text (bsd_records bytes.items)) mid new (Ok tt) → Acted words old new (Ok d)
-shown words gmon old mid new bytes d said idle loads accepted puts =
-    let text = show_text (bsd_records bytes.items) in
+pub printed : {E : Type 0} {reply : List ℕ → Reply} (words : List (List ℕ)) (word limit : ℕ) (text : List ℕ) (old mid new : Outside) (bytes : Vec ℕ) (d : Done) → OneFile words word limit reply → old.is_writing ≡ false
+    → Loads (name_of words word) limit old mid (Ok bytes) → reply bytes.items ≡ ended (Out text ∷ [])
+    → Puts {T = Unit {0}} {E = E} Output text mid new (Ok tt) → Acted words old new (Ok d)
+printed {E} {reply} words word limit text old mid new bytes d one idle loads e puts =
     let did = Did-then [] (Out text ∷ []) old mid new loads.nothing_done puts.takes.done in
     record {
       done = Out text ∷ [];
       shows = Shows-did (Out text ∷ []) old new did;
-      owes = told_by old.disk new.disk (λ files. Owes words files (Out text ∷ []) (Ok d)) (same_files old mid new text loads.nothing_done puts.takes.done)
-          (weaken new.disk (λ files. bytes.items ≡ content_of (name_of words gmon) files) (λ files. Owes words files (Out text ∷ []) (Ok d))
-          (λ files is. owed words files gmon (ended (Out text ∷ [])) said (ap (show_reply gmon) (sym is) ∙ shown_reply gmon bytes.items loads.within accepted))
-          (content_stays mid.disk new.disk (λ files. bytes.items ≡ content_of (name_of words gmon) files) puts.takes.done.disk loads.answer));
+      owes = told_by old.disk new.disk (λ files. Owes words files (Out text ∷ []) (Ok d)) (Becomes-then (λ d. d) (λ d. d) old.disk mid.disk new.disk loads.nothing_done.disk puts.takes.done.disk)
+          (weaken new.disk (λ files. bytes.items ≡ content_of (name_of words word) files) (λ files. Owes words files (Out text ∷ []) (Ok d))
+          (λ files is. agrees words files (ended (Out text ∷ [])) (one.answer files ∙ ap reply (sym is) ∙ e))
+          (told_still mid.disk new.disk (λ files. bytes.items ≡ content_of (name_of words word) files) puts.takes.done.disk loads.answer));
       cause = record { read = puts.counts.read ∙ loads.counts.read; write = puts.counts.own ∙ loads.counts.write };
       err = puts.counts.err ∙ loads.counts.err;
       shut = did.writing ∙ idle;
     }
 
-part_owed : (words : List (List ℕ)) (files : List File) (gmon n : ℕ) (text : List ℕ) → command_of words ≡ Some (Show gmon) → n < length text → show_reply gmon (content_of (name_of words gmon) files) ≡ ended (Out text ∷ [])
-    → IsPart (Out (take n text) ∷ []) (answer_of words files).acts
-part_owed words files gmon n text said lt e =
-    subst (λ (acts : List Act). IsPart (Out (take n text) ∷ []) acts) (owed words files gmon (ended (Out text ∷ [])) said e).1 (inr ((n, lt, refl), refl))
+part_of : (words : List (List ℕ)) (files : List File) (n : ℕ) (text : List ℕ) → n < length text → answer_of words files ≡ ended (Out text ∷ []) → IsPart (Out (take n text) ∷ []) (answer_of words files).acts
+part_of words files n text lt e =
+    subst (λ (acts : List Act). IsPart (Out (take n text) ∷ []) acts) (agrees words files (ended (Out text ∷ [])) e).1 (inr ((n, lt, refl), refl))
 
 -- a print failed
-pub not_shown : {E : Type 0} (words : List (List ℕ)) (gmon : ℕ) (old mid new : Outside) (bytes : Vec ℕ) (e : E) → command_of words ≡ Some (Show gmon) → old.is_writing ≡ false
-    → Loads (name_of words gmon) MAX_PROFILE_BYTES old mid (Ok bytes) → file_refusal bytes.items ≡ None
-    → Puts {T = Unit {0}} Output (show_text (bsd_records bytes.items)) mid new (Err e) → Acted words old new (Err WriteFault)
-not_shown words gmon old mid new bytes e said idle loads accepted puts =
-    let text = show_text (bsd_records bytes.items) in
+pub not_printed : {E : Type 0} {reply : List ℕ → Reply} (words : List (List ℕ)) (word limit : ℕ) (text : List ℕ) (old mid new : Outside) (bytes : Vec ℕ) (failure : E) → OneFile words word limit reply → old.is_writing ≡ false
+    → Loads (name_of words word) limit old mid (Ok bytes) → reply bytes.items ≡ ended (Out text ∷ [])
+    → Puts {T = Unit {0}} Output text mid new (Err failure) → Acted words old new (Err WriteFault)
+not_printed {E} {reply} words word limit text old mid new bytes failure one idle loads e puts =
     let n = puts.takes.part.0 in
     let lt = puts.takes.part.1 in
     let front = take n text in
@@ -168,10 +171,10 @@ not_shown words gmon old mid new bytes e said idle loads accepted puts =
     record {
       done = Out front ∷ [];
       shows = Shows-did (Out front ∷ []) old new did;
-      owes = told_by old.disk new.disk (λ files. Owes words files (Out front ∷ []) (Err WriteFault)) (same_files old mid new front loads.nothing_done puts.takes.part.2)
-          (weaken new.disk (λ files. bytes.items ≡ content_of (name_of words gmon) files) (λ files. Owes words files (Out front ∷ []) (Err WriteFault))
-          (λ files is. part_owed words files gmon n text said lt (ap (show_reply gmon) (sym is) ∙ shown_reply gmon bytes.items loads.within accepted))
-          (content_stays mid.disk new.disk (λ files. bytes.items ≡ content_of (name_of words gmon) files) puts.takes.part.2.disk loads.answer));
+      owes = told_by old.disk new.disk (λ files. Owes words files (Out front ∷ []) (Err WriteFault)) (Becomes-then (λ d. d) (λ d. d) old.disk mid.disk new.disk loads.nothing_done.disk puts.takes.part.2.disk)
+          (weaken new.disk (λ files. bytes.items ≡ content_of (name_of words word) files) (λ files. Owes words files (Out front ∷ []) (Err WriteFault))
+          (λ files is. part_of words files n text lt (one.answer files ∙ ap reply (sym is) ∙ e))
+          (told_still mid.disk new.disk (λ files. bytes.items ≡ content_of (name_of words word) files) puts.takes.part.2.disk loads.answer));
       cause = (subst (λ (k : ℕ). Rose k new.write_faults) loads.counts.write puts.counts.own, puts.counts.read ∙ loads.counts.read);
       err = puts.counts.err ∙ loads.counts.err;
       shut = did.writing ∙ idle;
@@ -193,3 +196,18 @@ profile_understood (refusals.Tag at value) word e = absurd cc
 profile_understood (refusals.Range at low high) word e = absurd cc
 profile_understood (refusals.Size value) word e = absurd cc
 profile_understood (refusals.Rest at) word e = absurd cc
+
+pub elf_understood : (refusal : ElfRefusal) → failed (elf_fault_of refusal) ≡ failed Usage → ⊥
+elf_understood elf.OutOfMemory e = absurd cc
+elf_understood (elf.Short len) e = absurd cc
+elf_understood elf.Magic e = absurd cc
+elf_understood (elf.Class value) e = absurd cc
+elf_understood (elf.Order value) e = absurd cc
+elf_understood (elf.Kind value) e = absurd cc
+elf_understood (elf.Machine value) e = absurd cc
+elf_understood (elf.Flags value) e = absurd cc
+elf_understood (elf.TableSize value) e = absurd cc
+elf_understood (elf.OutOfFile at) e = absurd cc
+elf_understood (elf.Link index) e = absurd cc
+elf_understood (elf.TextRange low high) e = absurd cc
+elf_understood (elf.TooManySymbols count) e = absurd cc

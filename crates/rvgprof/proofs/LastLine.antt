@@ -9,7 +9,7 @@ use Rattle.host_port.proofs.Laws.{Shows-then-err}
 use Rattle.host_port.proofs.Piecewise.{err_piecewise, Did-none}
 use Rattle.rvgprof.specs.declared.outcome.Done.{Done}
 use Rattle.rvgprof.specs.declared.outcome.Fault.{Fault}
-use Rattle.rvgprof.specs.declared.outcome.Fault.TheVariants.{Usage, BadProfile, ReadFault, WriteFault, OutOfMemory, TooLarge}
+use Rattle.rvgprof.specs.declared.outcome.Fault.TheVariants.{Usage, BadElf, BadProfile, ReadFault, WriteFault, OutOfMemory, TooLarge}
 use Rattle.rvgprof.specs.Texts.{fault_line}
 use Rattle.rvgprof.specs.Contract.{Owes, HasCause, NothingFailed, LineEnds, Acted, Answered}
 
@@ -24,6 +24,7 @@ then_nothing old mid new p q = record { read = q.read ∙ p.read; write = q.writ
 
 cause_stays : (words : List (List ℕ)) (old mid new : Outside) (fault : Fault) → HasCause words old mid (Err fault) → NothingFailed mid new → HasCause words old new (Err fault)
 cause_stays words old mid new Usage p q = then_nothing old mid new p q
+cause_stays words old mid new (BadElf refusal) p q = then_nothing old mid new p q
 cause_stays words old mid new (BadProfile refusal word) p q = then_nothing old mid new p q
 cause_stays words old mid new (TooLarge word limit) p q = then_nothing old mid new p q
 cause_stays words old mid new OutOfMemory p q = then_nothing old mid new p q

@@ -4,17 +4,21 @@ use Rattle.std.specs.Prelude.{ℕ, nat_lt, List, [], ◌∷◌, length, take, Op
 use Rattle.gp_base.specs.declared.refusal.GmonRefusal.{GmonRefusal}
 use Rattle.gp_base.specs.declared.refusal.GmonRefusal.TheVariants.{Version}
 use Rattle.gp_base.specs.declared.refusal.GmonRefusal.TheVariants as refusals
-use Rattle.gp_base.specs.declared.limits.TheConstants.{MAX_PROFILE_BYTES}
+use Rattle.gp_base.specs.declared.limits.TheConstants.{MAX_PROFILE_BYTES, MAX_ELF_BYTES}
 use Rattle.host_port.specs.declared.loading.LoadRefusal.{LoadRefusal}
 use Rattle.host_port.specs.declared.loading.LoadRefusal.TheVariants as loads
 use Rattle.host_port.specs.Act.{Act, Out, File, content_of}
-use Rattle.text_lines.specs.Lines.{show_text}
+use Rattle.elf32_syms.specs.declared.refusal.ElfRefusal.{ElfRefusal}
+use Rattle.elf32_syms.specs.declared.refusal.ElfRefusal.TheVariants as elf
+use Rattle.elf32_syms.specs.Refusals.{elf_refusal}
+use Rattle.elf32_syms.specs.Image.{image_of}
+use Rattle.text_lines.specs.Lines.{show_text, image_text}
 use Rattle.gmon_bsd.specs.Reading.{bsd_refusal, bsd_records}
 use Rattle.rvgprof.specs.declared.outcome.Done.{Done}
 use Rattle.rvgprof.specs.declared.outcome.Fault.{Fault}
-use Rattle.rvgprof.specs.declared.outcome.Fault.TheVariants.{Usage, BadProfile, ReadFault, OutOfMemory, TooLarge}
+use Rattle.rvgprof.specs.declared.outcome.Fault.TheVariants.{Usage, BadElf, BadProfile, ReadFault, OutOfMemory, TooLarge}
 use Rattle.rvgprof.specs.declared.words.Command.{Command}
-use Rattle.rvgprof.specs.declared.words.Command.TheVariants.{Show}
+use Rattle.rvgprof.specs.declared.words.Command.TheVariants.{Show, Syms}
 use Rattle.rvgprof.specs.Words.{command_of, name_of}
 
 pub record Reply : Type 0 where
@@ -41,9 +45,19 @@ unfoldable pub show_reply : ℕ → List ℕ → Reply
 show_reply word bytes =
     if nat_lt MAX_PROFILE_BYTES (length bytes) then refused (TooLarge word MAX_PROFILE_BYTES) else show_accepted word bytes (file_refusal bytes)
 
+abbrev pub syms_accepted : List ℕ → Option ElfRefusal → Reply
+syms_accepted bytes (Some refusal) = refused (BadElf refusal)
+syms_accepted bytes None = ended (Out (image_text (image_of bytes)) ∷ [])
+
+-- the lines of a program's file
+unfoldable pub syms_reply : ℕ → List ℕ → Reply
+syms_reply word bytes =
+    if nat_lt MAX_ELF_BYTES (length bytes) then refused (TooLarge word MAX_ELF_BYTES) else syms_accepted bytes (elf_refusal bytes)
+
 abbrev pub command_reply : List (List ℕ) → List File → Option Command → Reply
 command_reply words files None = refused Usage
 command_reply words files (Some (Show gmon)) = show_reply gmon (content_of (name_of words gmon) files)
+command_reply words files (Some (Syms program)) = syms_reply program (content_of (name_of words program) files)
 
 abbrev pub answer_of : List (List ℕ) → List File → Reply
 answer_of words files = command_reply words files (command_of words)
@@ -62,3 +76,18 @@ profile_fault_of (refusals.Tag at value) word = BadProfile (refusals.Tag at valu
 profile_fault_of (refusals.Range at low high) word = BadProfile (refusals.Range at low high) word
 profile_fault_of (refusals.Size value) word = BadProfile (refusals.Size value) word
 profile_fault_of (refusals.Rest at) word = BadProfile (refusals.Rest at) word
+
+abbrev pub elf_fault_of : ElfRefusal → Fault
+elf_fault_of elf.OutOfMemory = OutOfMemory
+elf_fault_of (elf.Short len) = BadElf (elf.Short len)
+elf_fault_of elf.Magic = BadElf elf.Magic
+elf_fault_of (elf.Class value) = BadElf (elf.Class value)
+elf_fault_of (elf.Order value) = BadElf (elf.Order value)
+elf_fault_of (elf.Kind value) = BadElf (elf.Kind value)
+elf_fault_of (elf.Machine value) = BadElf (elf.Machine value)
+elf_fault_of (elf.Flags value) = BadElf (elf.Flags value)
+elf_fault_of (elf.TableSize value) = BadElf (elf.TableSize value)
+elf_fault_of (elf.OutOfFile at) = BadElf (elf.OutOfFile at)
+elf_fault_of (elf.Link index) = BadElf (elf.Link index)
+elf_fault_of (elf.TextRange low high) = BadElf (elf.TextRange low high)
+elf_fault_of (elf.TooManySymbols count) = BadElf (elf.TooManySymbols count)

@@ -1,11 +1,12 @@
 -- What the program owes after each answer.
 use Rattle.std.specs.Prelude.{◌≡◌, ℕ, ◌<◌, ◌≤◌, false, List, [], ◌∷◌, ◌++◌, length, take, Result, Ok, Err, ◌⊎◌, MatchOption, IfSome, Contains, ⊤}
+use Rattle.std.specs.List.{AllByRecursion}
 use Rattle.host_port.specs.Act.{Act, Write, Out, File}
 use Rattle.host_port.specs.Act.{Err as Complain}
 use Rattle.host_port.specs.Outside.{Outside, Shows, Rose}
 use Rattle.rvgprof.specs.declared.outcome.Done.{Done}
 use Rattle.rvgprof.specs.declared.outcome.Fault.{Fault}
-use Rattle.rvgprof.specs.declared.outcome.Fault.TheVariants.{Usage, BadProfile, ReadFault, WriteFault, OutOfMemory, TooLarge}
+use Rattle.rvgprof.specs.declared.outcome.Fault.TheVariants.{Usage, BadElf, BadProfile, ReadFault, WriteFault, OutOfMemory, TooLarge}
 use Rattle.rvgprof.specs.Words.{command_of, inputs_of}
 use Rattle.rvgprof.specs.Texts.{last_line}
 use Rattle.rvgprof.specs.Answer.{answer_of}
@@ -28,23 +29,26 @@ IsPart done [] = ⊥
 IsPart [] (act ∷ acts) = ⊤
 IsPart (done ∷ more) (act ∷ acts) = ((done ≡ act) × IsPart more acts) ⊎ (IsPartOf done act × (more ≡ []))
 
--- neither the words nor an earlier file are refused
-abbrev pub NothingBefore : ℕ → Result Done Fault → Type 0
-NothingBefore word (Ok done) = ⊤
-NothingBefore word (Err Usage) = ⊥
-NothingBefore word (Err (BadProfile refusal refused)) = word ≤ refused
-NothingBefore word (Err (TooLarge refused limit)) = word ≤ refused
-NothingBefore word (Err (ReadFault fault)) = ⊤
-NothingBefore word (Err WriteFault) = ⊤
-NothingBefore word (Err OutOfMemory) = ⊤
+-- Neither the words nor an earlier file are refused, given the input files. A program's file is the first
+-- of them.
+abbrev pub NothingBefore : List ℕ → ℕ → Result Done Fault → Type 0
+NothingBefore inputs word (Ok done) = ⊤
+NothingBefore inputs word (Err Usage) = ⊥
+NothingBefore inputs word (Err (BadElf refusal)) = AllByRecursion (λ input. word ≤ input) inputs
+NothingBefore inputs word (Err (BadProfile refusal refused)) = word ≤ refused
+NothingBefore inputs word (Err (TooLarge refused limit)) = word ≤ refused
+NothingBefore inputs word (Err (ReadFault fault)) = ⊤
+NothingBefore inputs word (Err WriteFault) = ⊤
+NothingBefore inputs word (Err OutOfMemory) = ⊤
 
 -- what was done, where the program answers so
 abbrev pub Owes : List (List ℕ) → List File → List Act → Result Done Fault → Type 0
-Owes words files done (Err (ReadFault word)) = (done ≡ []) × NothingBefore word (answer_of words files).ending
+Owes words files done (Err (ReadFault word)) = (done ≡ []) × NothingBefore (inputs_of (command_of words)) word (answer_of words files).ending
 Owes words files done (Err WriteFault) = IsPart done (answer_of words files).acts
 Owes words files done (Err OutOfMemory) = done ≡ []
 Owes words files done (Ok d) = (Ok d ≡ (answer_of words files).ending) × (done ≡ (answer_of words files).acts)
 Owes words files done (Err Usage) = (Err Usage ≡ (answer_of words files).ending) × (done ≡ (answer_of words files).acts)
+Owes words files done (Err (BadElf refusal)) = (Err (BadElf refusal) ≡ (answer_of words files).ending) × (done ≡ (answer_of words files).acts)
 Owes words files done (Err (BadProfile refusal word)) = (Err (BadProfile refusal word) ≡ (answer_of words files).ending) × (done ≡ (answer_of words files).acts)
 Owes words files done (Err (TooLarge word limit)) = (Err (TooLarge word limit) ≡ (answer_of words files).ending) × (done ≡ (answer_of words files).acts)
 
@@ -60,6 +64,7 @@ HasCause words old new (Err WriteFault) = Rose old.write_faults new.write_faults
 HasCause words old new (Err OutOfMemory) = NothingFailed old new
 HasCause words old new (Ok d) = NothingFailed old new
 HasCause words old new (Err Usage) = NothingFailed old new
+HasCause words old new (Err (BadElf refusal)) = NothingFailed old new
 HasCause words old new (Err (BadProfile refusal word)) = NothingFailed old new
 HasCause words old new (Err (TooLarge word limit)) = NothingFailed old new
 

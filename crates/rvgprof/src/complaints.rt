@@ -2,10 +2,11 @@
 
 ghost use Rattle.std.specs.Prelude.{◌≡◌, ◌+◌, ◌≤◌, ◌++◌, length, map, decimal, string_bytes};
 ghost use Rattle.host_port.specs.Host.{Puts, ErrorOutput};
-ghost use Rattle.rvgprof.specs.Texts.{fault_line, refusal_text, refusal_end};
+ghost use Rattle.rvgprof.specs.Texts.{fault_line, refusal_text, refusal_end, elf_text, elf_line};
 
 use crate::outcome::Fault;
 use crate::words::name_at;
+use elf32_syms::ElfRefusal;
 use gp_base::GmonRefusal;
 use host_port::{Failed, Host, err_all_of};
 use text_cols::Line;
@@ -18,6 +19,7 @@ pub fn complain<H: Host>(words: &[String], fault: &Fault, host: &mut H) -> Resul
 {
     match fault {
         Fault::Usage => err_all_of(host, b"rvgprof: words not understood\n"),
+        Fault::BadElf { refusal } => err_all_of(host, line_of_elf(*refusal).bytes()),
         Fault::BadProfile { refusal, word } => {
             let name = name_at(words, *word).as_bytes();
             complain_of(
@@ -84,6 +86,46 @@ fn put_refusal(line: &mut Line, refusal: GmonRefusal)
         GmonRefusal::Size { value } => put_number(line, b"size ", value),
         GmonRefusal::Rest { at } => put_number(line, b"rest at ", at),
         GmonRefusal::OutOfMemory => {}
+    }
+}
+
+/// The line of a program's file that is refused.
+#[tactic(auto, using(text_cols::proofs::Lengths::lengths), unfolding(crate::specs::Texts::elf_line))]
+fn line_of_elf(refusal: ElfRefusal) -> Line
+    ensures { result ≡ elf_line refusal }
+{
+    let mut line = Line::new();
+    line.put(b"rvgprof: bad elf: ");
+    put_elf_refusal(&mut line, refusal);
+    line.put(b"\n");
+    line
+}
+
+#[tactic(auto, using(text_cols::proofs::Lengths::lengths), unfolding(crate::specs::Texts::elf_text))]
+fn put_elf_refusal(line: &mut Line, refusal: ElfRefusal)
+    requires { length line.old + 64 ≤ 256 }
+    ensures text { line.new ≡ line.old ++ elf_text refusal }
+    ensures short { length line.new ≤ length line.old + 64 }
+{
+    match refusal {
+        ElfRefusal::Short { len } => put_number(line, b"short ", len),
+        ElfRefusal::Magic => line.put(b"magic"),
+        ElfRefusal::Class { value } => put_number(line, b"class ", value),
+        ElfRefusal::Order { value } => put_number(line, b"order ", value),
+        ElfRefusal::Kind { value } => put_number(line, b"kind ", value),
+        ElfRefusal::Machine { value } => put_number(line, b"machine ", value),
+        ElfRefusal::Flags { value } => put_number(line, b"flags ", value),
+        ElfRefusal::TableSize { value } => put_number(line, b"table size ", value),
+        ElfRefusal::OutOfFile { at } => put_number(line, b"out of file ", at),
+        ElfRefusal::Link { index } => put_number(line, b"link ", index),
+        ElfRefusal::TextRange { low, high } => {
+            line.put(b"text range ");
+            line.decimal(u128::from(low));
+            line.put(b" ");
+            line.decimal(u128::from(high));
+        }
+        ElfRefusal::TooManySymbols { count } => put_number(line, b"too many symbols ", count),
+        ElfRefusal::OutOfMemory => {}
     }
 }
 

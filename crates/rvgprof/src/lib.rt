@@ -4,7 +4,9 @@
 mod complaints;
 pub mod outcome;
 mod profile_file;
+mod refusals;
 mod show;
+mod syms;
 pub mod top;
 mod words;
 

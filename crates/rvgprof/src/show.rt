@@ -3,15 +3,14 @@
 ghost use Rattle.std.specs.Prelude.{◌≡◌, ◌≢◌, false, Err, map, string_bytes, Some};
 ghost use Rattle.rvgprof.specs.declared.words.Command.TheVariants.{Show};
 ghost use Rattle.rvgprof.specs.Words.{command_of};
-ghost use Rattle.rvgprof.specs.Answer.{load_fault_of, profile_fault_of};
 ghost use Rattle.rvgprof.specs.Contract.{Acted};
 
 use crate::outcome::{Done, Fault};
 use crate::profile_file::read_profile;
+use crate::refusals::{load_fault, profile_fault};
 use crate::words::name_at;
-use gp_base::GmonRefusal;
 use gp_base::limits::MAX_PROFILE_BYTES;
-use host_port::{Host, LoadRefusal, load};
+use host_port::{Host, load};
 use std::alloc::Global;
 use text_lines::show_records;
 
@@ -38,26 +37,5 @@ pub fn show<H: Host>(
     match show_records(&records, host) {
         Ok(()) => Ok(Done {}),
         Err(_) => Err(Fault::WriteFault),
-    }
-}
-
-/// What it means that a file is not loaded.
-fn load_fault(refusal: LoadRefusal, word: u32, limit: u32) -> Fault
-    ensures { result ≡ load_fault_of refusal word limit }
-{
-    match refusal {
-        LoadRefusal::ReadFault => Fault::ReadFault { word },
-        LoadRefusal::TooLarge => Fault::TooLarge { word, limit },
-        LoadRefusal::OutOfMemory => Fault::OutOfMemory,
-    }
-}
-
-/// What it means that a profile file is refused.
-fn profile_fault(refusal: GmonRefusal, word: u32) -> Fault
-    ensures { result ≡ profile_fault_of refusal word }
-{
-    match refusal {
-        GmonRefusal::OutOfMemory => Fault::OutOfMemory,
-        _ => Fault::BadProfile { refusal, word },
     }
 }

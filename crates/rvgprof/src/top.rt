@@ -7,6 +7,7 @@ ghost use Rattle.rvgprof.specs.Contract.{Acted, Answered};
 use crate::complaints::complain;
 use crate::outcome::{Done, Fault};
 use crate::show::show;
+use crate::syms::syms;
 use crate::words::{Command, read_command};
 use host_port::Host;
 use std::alloc::Global;
@@ -37,5 +38,6 @@ fn carry_out<H: Host>(alloc: Global, words: &[String], host: &mut H) -> Result<D
     match read_command(words) {
         None => Err(Fault::Usage),
         Some(Command::Show { gmon }) => show(alloc, words, gmon, host),
+        Some(Command::Syms { elf }) => syms(alloc, words, elf, host),
     }
 }

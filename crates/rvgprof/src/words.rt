@@ -1,13 +1,15 @@
 //! The reading of the words.
 
 ghost use Rattle.std.specs.Prelude.{◌≡◌, map, string_bytes};
-ghost use Rattle.rvgprof.specs.Words.{is_option, is_lone_operand, command_of, name_of};
+ghost use Rattle.rvgprof.specs.Words.{is_option, is_lone_operand, one_file_command, command_of, name_of};
 
 /// What the words ask for. A file is named by its position among the words, from 0.
 #[derive(Clone, Copy, Debug, PartialEq, Eq)]
 pub enum Command {
     /// Print the records of one profile file.
     Show { gmon: u32 },
+    /// Print the text, the hooks and the symbols of a program.
+    Syms { elf: u32 },
 }
 
 /// The command that the words say, `None` exactly where they are not understood. Takes no memory.
@@ -16,13 +18,26 @@ pub fn read_command(words: &[String]) -> Option<Command>
 {
     match words {
         [command, operands @ ..] => {
-            if command.as_str() == "show" && is_one_file(operands) {
-                return Some(Command::Show { gmon: 1 });
+            if is_one_file(operands) {
+                return command_on_one_file(command.as_str());
             }
             None
         }
         [] => None,
     }
+}
+
+/// The command of that name that takes one file, the second word.
+fn command_on_one_file(name: &str) -> Option<Command>
+    ensures { result ≡ one_file_command name.now }
+{
+    if name == "show" {
+        return Some(Command::Show { gmon: 1 });
+    }
+    if name == "syms" {
+        return Some(Command::Syms { elf: 1 });
+    }
+    None
 }
 
 /// Whether the words are one operand and no option.

@@ -1,7 +1,9 @@
--- The lines of `show`.
-use Rattle.std.specs.Prelude.{◌≡◌, ℕ, ◌+◌, ◌-◌, ◌*◌, ◌/◌, ◌<◌, ◌==◌, if◌then◌else◌, List, [], ◌++◌, length, codes, ⊤}
+-- The lines of `show` and `syms`.
+use Rattle.std.specs.Prelude.{◌≡◌, ℕ, ◌+◌, ◌-◌, ◌*◌, ◌/◌, ◌<◌, ◌==◌, if◌then◌else◌, List, [], ◌++◌, length, codes, Option, Some, None, ⊤}
 use Rattle.std.specs.List.{flat_map, enumerate_from, All}
 use Rattle.text_cols.specs.Columns.{decimal, hex8_of}
+use Rattle.elf32_syms.specs.declared.image.Symbol.{Symbol}
+use Rattle.elf32_syms.specs.declared.image.Image.{Image}
 use Rattle.gp_base.specs.declared.records.RawArc.{RawArc}
 use Rattle.gp_base.specs.declared.records.RawHist.{RawHist}
 use Rattle.gp_base.specs.declared.records.Rec.{Rec}
@@ -48,3 +50,25 @@ HasRange (Blocks blocks) = ⊤
 pub record IsShowable (records : Records) : Type 0 where
   pub form : records.form ≡ Bsd
   pub ranges : All HasRange records.recs
+
+-- ---- the lines of `syms`
+
+-- where a hook is, if the program has it
+abbrev pub hook_text : Option ℕ → List ℕ
+hook_text None = codes "-"
+hook_text (Some address) = hex8_of address
+
+unfoldable pub image_line : Image → List ℕ
+image_line image =
+    codes "text " ++ hex8_of image.text.low ++ codes " " ++ hex8_of image.text.high ++ codes " entry " ++ hex8_of image.entry ++ codes " mcount " ++ hook_text image.mcount ++ codes " moncontrol " ++ hook_text image.moncontrol ++ codes "\n"
+
+-- in front of a symbol's name: its address, and how many bytes it reaches over
+unfoldable pub symbol_front : Symbol → List ℕ
+symbol_front symbol = hex8_of symbol.addr ++ codes " " ++ decimal (symbol.end - symbol.addr) ++ codes " "
+
+unfoldable pub symbol_line : Symbol → List ℕ
+symbol_line symbol = symbol_front symbol ++ symbol.name ++ codes "\n"
+
+-- the lines of a program
+unfoldable pub image_text : Image → List ℕ
+image_text image = image_line image ++ flat_map symbol_line image.symbols

@@ -2,8 +2,10 @@
 #![tactic(auto)]
 
 mod lines;
+pub mod program;
 pub mod records;
 
+pub use program::show_image;
 pub use records::show_records;
 
 #[cfg(test)]

@@ -1,8 +1,9 @@
 //! Single lines, made in place.
 
-ghost use Rattle.std.specs.Prelude.{◌≡◌, ◌<◌, ◌^◌, length};
-ghost use Rattle.text_lines.specs.Lines.{header_line, count_line, arc_line};
+ghost use Rattle.std.specs.Prelude.{◌≡◌, ◌+◌, ◌<◌, ◌≤◌, ◌++◌, length};
+ghost use Rattle.text_lines.specs.Lines.{header_line, count_line, arc_line, image_line, symbol_front, hook_text};
 
+use elf32_syms::{Image, Symbol};
 use gp_base::{RawArc, RawHist};
 use text_cols::Line;
 
@@ -51,5 +52,52 @@ pub fn arc(arc: &RawArc) -> Line
     line.put(b" ");
     line.decimal(u128::from(arc.count));
     line.put(b"\n");
+    line
+}
+
+/// The first line of a program: its text, its entry and its hooks.
+#[tactic(auto, using(text_cols::proofs::Lengths::lengths), unfolding(crate::specs::Lines::image_line))]
+pub fn program(image: &Image) -> Line
+    ensures { result ≡ image_line image.now }
+{
+    let mut line = Line::new();
+    line.put(b"text ");
+    line.hex8(image.text.low);
+    line.put(b" ");
+    line.hex8(image.text.high);
+    line.put(b" entry ");
+    line.hex8(image.entry);
+    line.put(b" mcount ");
+    put_hook(&mut line, image.mcount);
+    line.put(b" moncontrol ");
+    put_hook(&mut line, image.moncontrol);
+    line.put(b"\n");
+    line
+}
+
+/// Adds the address of a hook, or a hyphen.
+#[tactic(auto, using(text_cols::proofs::Lengths::lengths))]
+fn put_hook(line: &mut Line, hook: Option<u32>)
+    requires { length line.old + 8 ≤ 256 }
+    ensures text { line.new ≡ line.old ++ hook_text hook }
+    ensures short { length line.new ≤ length line.old + 8 }
+{
+    match hook {
+        Some(address) => line.hex8(address),
+        None => line.put(b"-"),
+    }
+}
+
+/// What stands in front of a symbol's name.
+#[tactic(auto, using(text_cols::proofs::Lengths::lengths), unfolding(crate::specs::Lines::symbol_front))]
+pub fn symbol(symbol: &Symbol) -> Line
+    requires { symbol.now.addr < symbol.now.end }
+    ensures { result ≡ symbol_front symbol.now }
+{
+    let mut line = Line::new();
+    line.hex8(symbol.addr);
+    line.put(b" ");
+    line.decimal(u128::from(symbol.end - symbol.addr));
+    line.put(b" ");
     line
 }
