@@ -1,7 +1,8 @@
-ghost use Rattle.std.specs.Prelude.{◌≡◌, false};
+ghost use Rattle.std.specs.Prelude.{◌≡◌, ◌≤◌, false};
 ghost use Rattle.host_port.specs.Memory.{outside_of};
 
 use super::*;
+use gp_base::le4;
 use host_port::MemHost;
 use std::alloc::{AllocError, Global};
 use std::test::Fail;
@@ -34,6 +35,78 @@ fn profile(
         bytes[at] = byte;
     }
     Ok(bytes)
+}
+
+fn push_words(file: &mut Vec<u8>, words: &[u32]) -> Result<(), AllocError> {
+    for word in words {
+        file.extend_from_slice(&le4(*word))?;
+    }
+    Ok(())
+}
+
+fn pad(file: &mut Vec<u8>, len: usize) -> Result<(), AllocError> {
+    for _ in file.len()..len {
+        file.push(0)?;
+    }
+    Ok(())
+}
+
+/// The length of some bytes, of which a test's file has few.
+fn len_of(bytes: &[u8]) -> u32
+    ensures { result ≤ 1000000 }
+{
+    bytes.len().min(1_000_000) as u32
+}
+
+/// A program of `text_bytes` zeros at 0x10000, with global functions of these names and offsets. Its
+/// sections are nothing, `.text`, `.symtab` and `.strtab`, all without names.
+fn elf(alloc: Global, text_bytes: u16, functions: &[(&str, u16)]) -> Result<Vec<u8>, AllocError> {
+    let text_bytes = u32::from(text_bytes);
+    let mut symbols = Vec::new(alloc);
+    let mut strings = Vec::new(alloc);
+    pad(&mut symbols, 16)?;
+    strings.push(0u8)?;
+    for (name, offset) in functions {
+        push_words(
+            &mut symbols,
+            &[len_of(&strings), 0x10000 + u32::from(*offset), 0, 0x1_0012],
+        )?;
+        strings.extend_from_slice(name.as_bytes())?;
+        strings.push(0)?;
+    }
+    let sections_at = 84;
+    let text_at = sections_at + 160;
+    let symbols_at = text_at + text_bytes;
+    let strings_at = symbols_at + len_of(&symbols);
+    let mut file = Vec::new(alloc);
+    file.extend_from_slice(b"\x7fELF\x01\x01\x01")?;
+    pad(&mut file, 16)?;
+    push_words(
+        &mut file,
+        &[2 + 243 * 65536, 1, 0x10000, 52, sections_at, 0],
+    )?;
+    push_words(&mut file, &[52 + 32 * 65536, 1 + 40 * 65536, 4])?;
+    push_words(
+        &mut file,
+        &[1, text_at, 0x10000, 0, text_bytes, text_bytes, 5, 4],
+    )?;
+    push_words(&mut file, &[0, 0, 0, 0, 0, 0, 0, 0, 0, 0])?;
+    push_words(
+        &mut file,
+        &[0, 1, 6, 0x10000, text_at, text_bytes, 0, 0, 4, 0],
+    )?;
+    push_words(
+        &mut file,
+        &[0, 2, 0, 0, symbols_at, len_of(&symbols), 3, 1, 4, 16],
+    )?;
+    push_words(
+        &mut file,
+        &[0, 3, 0, 0, strings_at, len_of(&strings), 0, 0, 1, 0],
+    )?;
+    pad(&mut file, symbols_at as usize)?;
+    file.extend_from_slice(&symbols)?;
+    file.extend_from_slice(&strings)?;
+    Ok(file)
 }
 
 fn words_of(alloc: Global, texts: &[&str]) -> Result<Vec<String>, AllocError> {
@@ -75,19 +148,67 @@ fn records_are_shown(rt: HostRuntime) -> Result<(), Fail> {
         host.printed(),
         b"bsd low 00010000 high 00010010 counters 2 rate 250\ncount 00010008 7\narc 00010004 00010014 515\n".as_slice()
     );
+
+    let empty = [
+        0, 0, 0, 0, 0, 0, 0, 0, 32, 0, 0, 0, 0x79, 0x18, 5, 0, 0, 0, 0, 0,
+    ];
+    let mut host = MemHost::new(alloc);
+    host.put("g", &profile(alloc, &empty, 32, 32, 0)?)?;
+    assert_eq!(rt; status(alloc, &words, &mut host), 0);
+    assert_eq!(rt;
+        host.printed(),
+        b"bsd low 00000000 high 00000000 counters 0 rate 0\n".as_slice()
+    );
+    Ok(())
+}
+
+#[test]
+fn programs_are_shown(rt: HostRuntime) -> Result<(), Fail> {
+    let alloc = rt.alloc();
+    let words = words_of(alloc, &["syms", "e"])?;
+    let one = elf(alloc, 4, &[("_start", 0)])?;
+    let mut host = MemHost::new(alloc);
+    host.put("e", &one)?;
+    assert_eq!(rt; status(alloc, &words, &mut host), 0);
+    assert_eq!(rt;
+        host.printed(),
+        b"text 00010000 00010004 entry 00010000 mcount - moncontrol -\n00010000 4 _start\n".as_slice()
+    );
+    assert_eq!(rt; host.errors(), b"".as_slice());
+
+    let hooked = elf(alloc, 24, &[("f", 12), ("_start", 0), ("_mcount", 8)])?;
+    let mut host = MemHost::new(alloc);
+    host.put("e", &hooked)?;
+    assert_eq!(rt; status(alloc, &words, &mut host), 0);
+    assert_eq!(rt;
+        host.printed(),
+        b"text 00010000 00010018 entry 00010000 mcount 00010008 moncontrol -\n00010000 8 _start\n00010008 4 _mcount\n0001000c 12 f\n".as_slice()
+    );
+
+    let mut host = MemHost::new(alloc);
+    host.put("e", one.get(..51).unwrap_or(&[]))?;
+    assert_eq!(rt; status(alloc, &words, &mut host), 2);
+    assert_eq!(rt; host.errors(), b"rvgprof: bad elf: short 51\n".as_slice());
+    assert_eq!(rt; host.printed(), b"".as_slice());
+
+    let mut host = MemHost::new(alloc);
+    assert_eq!(rt; status(alloc, &words, &mut host), 5);
+    assert_eq!(rt; host.errors(), b"rvgprof: read fault on e\n".as_slice());
     Ok(())
 }
 
 #[test]
 fn words_are_refused_before_any_other_call(rt: HostRuntime) -> Result<(), Fail> {
     let alloc = rt.alloc();
-    let refused: [&[&str]; 6] = [
+    let refused: [&[&str]; 8] = [
         &[],
         &["show"],
         &["show", "a", "b"],
         &["show", "-x"],
         &["show", "-"],
         &["shown", "g"],
+        &["syms"],
+        &["syms", "--", "e"],
     ];
     for texts in refused {
         let words = words_of(alloc, texts)?;

@@ -1,5 +1,6 @@
 use super::*;
-use gp_base::{Counts, Form, RawArc, RawHist, Rec, RecList, Records, Unit};
+use elf32_syms::{Image, SegmentList, Symbol, SymbolList};
+use gp_base::{Counts, Form, Name, RawArc, RawHist, Rec, RecList, Records, Span, Unit};
 use host_port::MemHost;
 use std::test::Fail;
 
@@ -36,5 +37,35 @@ fn counters_that_are_0_have_no_line(rt: HostRuntime) -> Result<(), Fail> {
         host.printed(),
         b"bsd low fffffff0 high ffffffff counters 3 rate 0\ncount fffffff5 9\narc 00000001 00000002 4294967295\n".as_slice()
     );
+    Ok(())
+}
+
+#[test]
+fn hooks_and_long_names_are_shown_whole(rt: HostRuntime) -> Result<(), Fail> {
+    let mut name = Name::new(rt.alloc());
+    let mut line = Vec::new(rt.alloc());
+    line.extend_from_slice(b"text 00000000 00000008 entry 00000004 mcount 00000000 moncontrol ffffffff\n00000000 8 ")?;
+    for _ in 0..4095 {
+        name.push(b'x')?;
+        line.push(b'x')?;
+    }
+    line.push(b'\n')?;
+    let mut symbols = SymbolList::new(rt.alloc());
+    symbols.push(Symbol {
+        addr: 0,
+        end: 8,
+        name,
+    })?;
+    let image = Image {
+        entry: 4,
+        segments: SegmentList::new(rt.alloc()),
+        text: Span { low: 0, high: 8 },
+        symbols,
+        mcount: Some(0),
+        moncontrol: Some(u32::MAX),
+    };
+    let mut host = MemHost::new(rt.alloc());
+    show_image(&image, &mut host).map_err(|_| "shown")?;
+    assert_eq!(rt; host.printed(), line.as_slice());
     Ok(())
 }
