@@ -1,0 +1,16 @@
+pub mod Numbers
+pub mod Ranges
+pub mod Text
+pub mod Limits
+pub mod Parts
+pub mod Functions
+pub mod Owning
+pub mod Refusing
+pub mod Rows
+pub mod In
+pub mod Keeping
+pub mod Steps
+pub mod Hooks
+pub mod First
+pub mod NameEnds
+pub mod Loading

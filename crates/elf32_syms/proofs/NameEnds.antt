@@ -1,0 +1,76 @@
+-- Where names end.
+use Rattle.std.proofs.Common.{◌≡◌, ◌<◌, ◌≤◌, ℕ, zero, suc, ◌+◌, ◌-◌, min, Bool, true, false, not, cond, nat_eq, nat_lt, List, [], ◌∷◌, length, take, drop, get_or, refl, ap, sym, ◌∙◌, arith, ⊎_elim, All}
+use Rattle.std.specs.List.{before_first, list_any, position_or_len, take_while}
+use Rattle.std.proofs.lemmas.Bool.Decides.{nat_tests}
+use Rattle.std.proofs.lemmas.Bool.{cases_lt}
+use Rattle.std.proofs.lemmas.List.{length-drop, get_or-drop, take-take, take_min, drop_all, get_or_default}
+use Rattle.std.proofs.lemmas.List.Folds.{list_any_at, list_any_none}
+use Rattle.std.proofs.lemmas.List.Sums.{take_while-cons, position_or_len_is}
+use Rattle.elf32_syms.specs.Names.{is_zero, name_ends, name_at}
+
+pub is_zero_not : (b : ℕ) → (b ≡ 0 → ⊥) → is_zero b ≡ false
+is_zero_not b h = grind (arith, nat_tests)
+
+-- a loop that has passed no zero byte stops at one, or at the end
+pub first_zero : (bs : List ℕ) (i : ℕ) → i ≤ length bs → ((k : ℕ) → k < i → get_or bs k 0 ≡ 0 → ⊥) → (i < length bs → get_or bs i 0 ≡ 0)
+    → i ≡ position_or_len is_zero bs
+first_zero bs i inside before here =
+    sym (position_or_len_is is_zero bs i 0 inside (λ k below. is_zero_not (get_or bs k 0) (before k below)) (λ below. let e = here below in rw e refl))
+
+-- end is one more than the place of the last zero byte, or 0
+pub name_ends_below : (strings : List ℕ) (end : ℕ) → end ≤ length strings
+    → (0 < end → get_or strings (end - 1) 0 ≡ 0)
+    → ((k : ℕ) → end ≤ k → k < length strings → get_or strings k 0 ≡ 0 → ⊥)
+    → (at : ℕ) → name_ends strings at ≡ nat_lt at end
+unfolding name_ends
+name_ends_below strings end inside zero_there none_after at =
+    ⊎_elim
+      (λ (below : at < end).
+        let place : at + (end - 1 - at) ≡ end - 1 = omega arith in
+        let zero_here : get_or (drop at strings) (end - 1 - at) 0 ≡ 0 = get_or-drop at strings (end - 1 - at) 0 ∙ ap (λ (k : ℕ). get_or strings k 0) place ∙ zero_there (omega arith) in
+        let short : end - 1 - at < length (drop at strings) = rw (length-drop at strings) (omega arith) in
+        let there : is_zero (get_or (drop at strings) (end - 1 - at) 0) ≡ true = rw zero_here refl in
+        let less : nat_lt at end ≡ true = grind (arith, nat_tests) in
+        rw less (list_any_at is_zero (drop at strings) (end - 1 - at) 0 short there))
+      (λ (above : end ≤ at).
+        let more : nat_lt at end ≡ false = grind (arith, nat_tests) in
+        rw more (list_any_none is_zero (drop at strings) (not_zero above)))
+      (cases_lt at end)
+  where
+  not_zero : end ≤ at → (k d : ℕ) → k < length (drop at strings) → is_zero (get_or (drop at strings) k d) ≡ false
+  not_zero above k d short =
+      let here : get_or (drop at strings) k d ≡ get_or strings (at + k) 0 = get_or_default (drop at strings) k d 0 short ∙ get_or-drop at strings k 0 in
+      let inside : at + k < length strings = omega (arith, length-drop at strings) in
+      rw here (is_zero_not (get_or strings (at + k) 0) (none_after (at + k) (omega arith) inside))
+
+-- a front of what stands before the first that passes, looked for in that front alone
+before_first_front : (p : ℕ → Bool) (limit : ℕ) (xs : List ℕ) → take limit (before_first p xs) ≡ before_first p (take limit xs)
+before_first_front p zero xs = refl
+before_first_front p (suc n) [] = refl
+before_first_front p (suc n) (x ∷ xs) =
+    rw (take_while-cons (λ (y : ℕ). not (p y)) x xs, take_while-cons (λ (y : ℕ). not (p y)) x (take n xs))
+    (elim (p x) as (λ b. take (suc n) (cond (not b) (x ∷ before_first p xs) []) ≡ cond (not b) (x ∷ before_first p (take n xs)) []) [
+      true ↦ refl
+      | false ↦ ap (λ (ys : List ℕ). x ∷ ys) (before_first_front p n xs)
+    ])
+
+pub front_is : (strings : List ℕ) (at limit : ℕ) → limit ≤ 4095
+    → take limit (name_at strings at) ≡ before_first is_zero (take (min limit (length (drop at strings))) (drop at strings))
+unfolding name_at
+front_is strings at limit h =
+    take-take limit 4095 (before_first is_zero (drop at strings)) h
+    ∙ before_first_front is_zero limit (drop at strings)
+    ∙ ap (before_first is_zero) (sym (take_min limit (drop at strings)))
+
+-- there is no name past the end
+pub front_past : (strings : List ℕ) (at limit : ℕ) → length strings ≤ at → [] ≡ take limit (name_at strings at)
+unfolding name_at
+front_past strings at limit h = rw (drop_all at strings h) (sym (take_nil limit))
+  where
+  take_nil : (n : ℕ) → take n (take 4095 (before_first is_zero [])) ≡ []
+  take_nil zero = refl
+  take_nil (suc n) = refl
+
+pub whole_name : (strings : List ℕ) (at : ℕ) → take 4095 (name_at strings at) ≡ name_at strings at
+unfolding name_at
+whole_name strings at = take-take 4095 4095 (before_first is_zero (drop at strings)) (omega arith)

@@ -1,0 +1,101 @@
+//! The image of a program.
+
+ghost use Rattle.std.specs.Prelude.{◌≡◌, ◌<◌, ◌≤◌, length, OnOk, IfOk, IfErr, IfSome, IfNone, All};
+ghost use Rattle.std.specs.List.{HoldsAt};
+ghost use Rattle.elf32_syms.specs.Refusals.{IsRefusal, elf_refusal};
+ghost use Rattle.elf32_syms.specs.Image.{IsWithinLimits, image_of};
+
+use gp_base::limits::MAX_ELF_BYTES;
+use gp_base::{Items, Name, Span};
+use std::alloc::Global;
+
+use crate::header::{check_header, check_tables, entry};
+use crate::kept::read_functions;
+use crate::owners::owner;
+use crate::refusal::ElfRefusal;
+use crate::sections::read_text;
+use crate::segments::read_segments;
+
+
+/// A function of the program: the addresses from `addr` to below `end`.
+#[derive(Drop)]
+pub struct Symbol {
+    pub addr: u32,
+    pub end: u32,
+    /// The first 4,095 bytes of the name, of which there is at least one.
+    pub name: Name,
+}
+
+/// Memory from `addr` on: `filesz` bytes of the file from `offset` on, then zeros up to `memsz`
+/// bytes in all.
+#[derive(Clone, Copy, Debug, PartialEq, Eq)]
+pub struct Segment {
+    pub addr: u32,
+    pub offset: u32,
+    pub filesz: u32,
+    pub memsz: u32,
+}
+
+/// Symbols in ascending address order.
+pub type SymbolList = Items<Symbol>;
+
+/// Segments, in the order of the program header table.
+pub type SegmentList = Items<Segment>;
+
+/// What a run and its reports need of a program's file.
+#[derive(Drop)]
+pub struct Image {
+    /// The address of the first instruction.
+    pub entry: u32,
+    pub segments: SegmentList,
+    /// From the lowest address of an executable section to the highest end of one.
+    pub text: Span,
+    pub symbols: SymbolList,
+    /// Where the function `_mcount` begins.
+    pub mcount: Option<u32>,
+    /// Where the function `moncontrol` begins.
+    pub moncontrol: Option<u32>,
+}
+
+impl Image {
+    ghost use Rattle.elf32_syms.specs.Owners.{IsAscending, owner_of};
+
+    /// The index of the symbol that `pc` lies in, and None where there is none. Takes no memory.
+    pub fn lookup(&self, pc: u32) -> Option<u32>
+        requires { IsAscending self.now.symbols }
+        ensures is { result ≡ owner_of self.now.symbols pc }
+        ensures inside { IfSome result (λ i. i < length self.now.symbols) }
+        ensures found { IfSome result (HoldsAt (λ s. (s.addr ≤ pc) × (pc < s.end)) self.now.symbols) }
+        ensures none { IfNone result (All (λ s. ¬ ((s.addr ≤ pc) × (pc < s.end))) self.now.symbols) }
+    {
+        owner(self.symbols.as_slice(), pc)
+    }
+}
+
+/// Reads a program's file.
+pub fn read(alloc: Global, bytes: &[u8]) -> Result<Image, ElfRefusal>
+    requires { length bytes.now ≤ MAX_ELF_BYTES }
+
+    // The first refusal whose conditions the bytes meet, or want of memory; and Ok only where none
+    // is met.
+    ensures refusal { IfErr result (λ e. IsRefusal e (elf_refusal bytes.now)) }
+    ensures accepted { OnOk result (elf_refusal bytes.now ≡ None) }
+    ensures image { IfOk result (λ image. image ≡ image_of bytes.now) }
+
+    // What callers rely on.
+    ensures limits { IfOk result (λ image. IsWithinLimits (length bytes.now) image) }
+{
+    check_header(bytes)?;
+    check_tables(bytes)?;
+    let segments = read_segments(alloc, bytes)?;
+    let text = read_text(bytes)?;
+    let functions = read_functions(alloc, bytes, text.high)?;
+    Ok(Image {
+        entry: entry(bytes),
+        segments,
+        text,
+        symbols: functions.symbols,
+        mcount: functions.mcount,
+        moncontrol: functions.moncontrol,
+    })
+}

@@ -1,0 +1,66 @@
+//! Names in a string section (System V ABI, "String Table").
+
+ghost use Rattle.std.specs.Prelude.{◌≡◌, ℕ, ◌+◌, ◌<◌, ◌≤◌, take, length, nat_lt, IfOk};
+ghost use Rattle.std.specs.List.{position_or_len};
+ghost use Rattle.elf32_syms.specs.Names.{is_zero, name_ends, name_at as name_at_of};
+
+use gp_base::limits::MAX_NAME_BYTES;
+use gp_base::Name;
+use std::alloc::{AllocError, Global};
+
+/// One more than the place of the last zero byte, or 0. So a zero byte follows an offset exactly
+/// where the offset is below this.
+pub(crate) fn names_end(strings: &[u8]) -> usize
+    ensures inside { result ≤ length strings.now }
+    ensures ends { (at : ℕ) → name_ends strings.now at ≡ nat_lt at result }
+{
+    let mut end = strings.len();
+    while end > 0 && strings[end - 1] != 0 {
+        end -= 1;
+    }
+    end
+}
+
+/// The place of the first zero byte, and the length where there is none.
+fn zero_or_len(bytes: &[u8]) -> usize
+    ensures is { result ≡ position_or_len is_zero bytes.now }
+    ensures inside { result ≤ length bytes.now }
+{
+    for (i, b) in bytes.iter().enumerate() {
+        if *b == 0 {
+            return i;
+        }
+    }
+    bytes.len()
+}
+
+/// The bytes from an offset to the next zero byte, and at most `limit` of them.
+pub(crate) fn front(strings: &[u8], at: usize, limit: usize) -> &[u8]
+    requires { limit ≤ 4095 }
+    ensures { result.now ≡ take limit (name_at_of strings.now at) }
+{
+    if at >= strings.len() {
+        return &strings[..0];
+    }
+    let rest = strings.split_at(at).1;
+    let cut = rest.split_at(limit.min(rest.len())).0;
+    cut.split_at(zero_or_len(cut)).0
+}
+
+/// The name at an offset.
+pub(crate) fn name_at(strings: &[u8], at: usize) -> &[u8]
+    ensures { result.now ≡ name_at_of strings.now at }
+{
+    front(strings, at, MAX_NAME_BYTES as usize)
+}
+
+/// A copy of a name.
+pub(crate) fn copied(alloc: Global, name: &[u8]) -> Result<Name, AllocError>
+    ensures { IfOk result (λ copy. copy ≡ name.now) }
+{
+    let mut copy = Name::new(alloc);
+    for b in name {
+        copy.push(*b)?;
+    }
+    Ok(copy)
+}

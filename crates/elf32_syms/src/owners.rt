@@ -1,0 +1,33 @@
+//! The symbol that an address lies in.
+
+ghost use Rattle.std.specs.Prelude.{◌≡◌, ◌+◌, ◌<◌, ◌≤◌, true, false, length, nat_le, IfSome, IfNone, All};
+ghost use Rattle.std.specs.List.{HoldsAt};
+ghost use Rattle.std.specs.List.Sorted.{IsPartitionPoint};
+ghost use Rattle.elf32_syms.specs.Owners.{IsAscending, owner_of};
+
+use crate::image::Symbol;
+
+/// How many symbols end at or below an address, which are the first ones.
+fn count_ended(symbols: &[Symbol], pc: u32) -> usize
+    requires { IsAscending symbols.now }
+    ensures inside { result ≤ length symbols.now }
+    ensures point { IsPartitionPoint (λ s. nat_le s.end pc ≡ true) (λ s. nat_le s.end pc ≡ false) symbols.now result }
+{
+    symbols.partition_point(|symbol| symbol.end <= pc)
+}
+
+/// The index of the symbol with `addr <= pc < end`, and None where there is none. The symbols are
+/// in order, as those of an image are. Takes no memory.
+pub fn owner(symbols: &[Symbol], pc: u32) -> Option<u32>
+    requires { IsAscending symbols.now }
+    ensures is { result ≡ owner_of symbols.now pc }
+    ensures inside { IfSome result (λ i. i < length symbols.now) }
+    ensures found { IfSome result (HoldsAt (λ s. (s.addr ≤ pc) × (pc < s.end)) symbols.now) }
+    ensures none { IfNone result (All (λ s. ¬ ((s.addr ≤ pc) × (pc < s.end))) symbols.now) }
+{
+    let index = count_ended(symbols, pc);
+    if index >= symbols.len() || pc < symbols[index].addr {
+        return None;
+    }
+    Some(index as u32)
+}

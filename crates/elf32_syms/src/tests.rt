@@ -1,0 +1,247 @@
+use super::*;
+use gp_base::{le2, le4, Span};
+use std::alloc::{AllocError, Global};
+use std::test::Fail;
+
+/// A symbol of a test's file: name, offset in the text, `st_info` and `st_shndx`.
+#[derive(Clone, Copy)]
+struct Entry<'a> {
+    name: &'a str,
+    offset: u32,
+    info: u32,
+    section: u32,
+}
+
+/// A global function in `.text`.
+const FUNCTION: u32 = 0x12;
+
+fn function(name: &str, offset: u32) -> Entry<'_> {
+    Entry { name, offset, info: FUNCTION, section: 1 }
+}
+
+fn push_words(file: &mut Vec<u8>, words: &[u32]) -> Result<(), AllocError> {
+    for word in words {
+        file.extend_from_slice(&le4(*word))?;
+    }
+    Ok(())
+}
+
+fn pad(file: &mut Vec<u8>, len: usize) -> Result<(), AllocError> {
+    while file.len() < len {
+        file.push(0)?;
+    }
+    Ok(())
+}
+
+fn len_of(bytes: &[u8]) -> u32 {
+    bytes.len().min(1_000_000) as u32
+}
+
+/// A program of these words at 0x10000, with these symbols. Its sections are nothing, `.text`,
+/// `.symtab`, `.strtab` and `.shstrtab`.
+fn elf(alloc: Global, words: &[u32], symbols: &[Entry]) -> Result<Vec<u8>, AllocError> {
+    let mut entries = Vec::new(alloc);
+    let mut strings = Vec::new(alloc);
+    pad(&mut entries, 16)?;
+    strings.push(0u8)?;
+    for symbol in symbols {
+        let place = symbol.info.min(255) + 65536 * symbol.section.min(65535);
+        push_words(&mut entries, &[len_of(&strings), 0x10000 + symbol.offset.min(65535), 0, place])?;
+        strings.extend_from_slice(symbol.name.as_bytes())?;
+        strings.push(0)?;
+    }
+    let text_bytes = 4 * words.len().min(1000) as u32;
+    let symbols_at = 4096 + text_bytes;
+    let strings_at = symbols_at + len_of(&entries);
+    let names_at = strings_at + len_of(&strings);
+    let sections_at = (names_at + 33).div_ceil(4) * 4;
+    let mut file = Vec::new(alloc);
+    file.extend_from_slice(b"\x7fELF\x01\x01\x01")?;
+    pad(&mut file, 16)?;
+    push_words(&mut file, &[2 + 243 * 65536, 1, 0x10000, 52, sections_at, 0])?;
+    push_words(&mut file, &[52 + 32 * 65536, 1 + 40 * 65536, 5 + 4 * 65536])?;
+    push_words(&mut file, &[1, 4096, 0x10000, 0x10000, text_bytes, text_bytes, 5, 4096])?;
+    pad(&mut file, 4096)?;
+    push_words(&mut file, words)?;
+    file.extend_from_slice(&entries)?;
+    file.extend_from_slice(&strings)?;
+    file.extend_from_slice(b"\0.text\0.symtab\0.strtab\0.shstrtab\0")?;
+    pad(&mut file, sections_at as usize)?;
+    push_words(&mut file, &[0, 0, 0, 0, 0, 0, 0, 0, 0, 0])?;
+    push_words(&mut file, &[1, 1, 6, 0x10000, 4096, text_bytes, 0, 0, 4, 0])?;
+    push_words(&mut file, &[7, 2, 0, 0, symbols_at, len_of(&entries), 3, 1, 4, 16])?;
+    push_words(&mut file, &[15, 3, 0, 0, strings_at, len_of(&strings), 0, 0, 1, 0])?;
+    push_words(&mut file, &[23, 3, 0, 0, names_at, 33, 0, 0, 1, 0])?;
+    Ok(file)
+}
+
+/// Writes bytes over those at an offset.
+fn write(file: &mut Vec<u8>, at: usize, bytes: &[u8]) {
+    for (i, b) in bytes.iter().enumerate() {
+        if at < 1_000_000 && at + i < file.len() {
+            file[at + i] = *b;
+        }
+    }
+}
+
+/// The program of one jump to itself.
+fn one_instruction(alloc: Global) -> Result<Vec<u8>, AllocError> {
+    elf(alloc, &[0x0000_006F], &[function("_start", 0)])
+}
+
+/// What became of a file.
+fn refused(alloc: Global, file: &[u8]) -> Option<ElfRefusal> {
+    if file.len() > 1_000_000 {
+        return None;
+    }
+    read(alloc, file).err()
+}
+
+#[test]
+fn a_program_of_one_instruction(rt: HostRuntime) -> Result<(), Fail> {
+    let file = one_instruction(rt.alloc())?;
+    assert_eq!(rt; file.len(), 4376);
+    let image = read(rt.alloc(), &file)?;
+    assert_eq!(rt; image.entry, 0x10000);
+    assert_eq!(rt; image.text, Span { low: 0x10000, high: 0x10004 });
+    let segments = image.segments.as_slice();
+    let want = Segment { addr: 0x10000, offset: 4096, filesz: 4, memsz: 4 };
+    assert_eq!(rt; segments, [want].as_slice());
+    assert_eq!(rt; image.mcount, None);
+    assert_eq!(rt; image.moncontrol, None);
+    assert_eq!(rt; owner(image.symbols.as_slice(), 0xFFFF), None);
+    assert_eq!(rt; owner(image.symbols.as_slice(), 0x10000), Some(0));
+    assert_eq!(rt; image.lookup(0x10003), Some(0));
+    assert_eq!(rt; image.lookup(0x10004), None);
+    Ok(())
+}
+
+#[test]
+fn twisted_files_are_refused(rt: HostRuntime) -> Result<(), Fail> {
+    use ElfRefusal::*;
+    let changes = [
+        ("empty", 0, 0, b"".as_slice(), Some(Short { len: 0 })),
+        ("51 bytes", 51, 0, b"", Some(Short { len: 51 })),
+        ("the header alone", 52, 0, b"", Some(OutOfFile { at: 52 })),
+        ("byte 0 is 0", 4376, 0, b"\0", Some(Magic)),
+        ("64 bits", 4376, 4, b"\x02", Some(Class { value: 2 })),
+        ("highest byte first", 4376, 5, b"\x02", Some(Order { value: 2 })),
+        ("shared object", 4376, 16, b"\x03", Some(Kind { value: 3 })),
+        ("x86-64", 4376, 18, b"\x3e", Some(Machine { value: 62 })),
+        ("compressed", 4376, 36, b"\x01", Some(Flags { value: 1 })),
+        ("sixteen registers", 4376, 36, b"\x08", Some(Flags { value: 8 })),
+        ("hard floats", 4376, 36, b"\x04", None),
+        ("program headers of 31", 4376, 42, b"\x1f", Some(TableSize { value: 31 })),
+        ("65 program headers", 4376, 44, b"\x41", Some(TableSize { value: 65 })),
+        ("section headers of 64", 4376, 46, b"\x40", Some(TableSize { value: 64 })),
+        ("last byte missing", 4375, 0, b"", Some(OutOfFile { at: 4176 })),
+        ("a segment of 4400", 4376, 68, b"\x30\x11\0\0\x30\x11\0\0", Some(OutOfFile { at: 4096 })),
+        ("no text", 4376, 4224, b"\x02", Some(TextRange { low: 0, high: 0 })),
+        ("32 MiB of text", 4376, 4236, b"\0\0\0\x02", Some(TextRange { low: 65536, high: 33619968 })),
+        ("256 symbols", 4376, 4276, b"\0\x10", Some(OutOfFile { at: 4100 })),
+        ("strings in no section", 4376, 4280, b"\x09", Some(Link { index: 9 })),
+        ("strings in the text", 4376, 4280, b"\x01", Some(Link { index: 1 })),
+        ("4096 bytes of strings", 4376, 4316, b"\0\x10", Some(OutOfFile { at: 4132 })),
+        ("a name behind the strings", 4376, 4116, b"\x08", Some(Link { index: 1 })),
+        ("no change", 4376, 0, b"", None),
+    ];
+    for (what, len, at, bytes, want) in changes {
+        let mut file = one_instruction(rt.alloc())?;
+        file.truncate(len);
+        write(&mut file, at, bytes);
+        assert_eq!(rt; refused(rt.alloc(), &file), want, "{what}");
+    }
+    Ok(())
+}
+
+/// Whether the symbols have these addresses, ends and names.
+fn are(symbols: &[Symbol], want: &[(u32, u32, &str)]) -> bool {
+    if symbols.len() != want.len() {
+        return false;
+    }
+    for (symbol, (addr, end, name)) in symbols.iter().zip(want) {
+        if symbol.addr != *addr || symbol.end != *end || symbol.name.as_slice() != name.as_bytes() {
+            return false;
+        }
+    }
+    true
+}
+
+/// A symbol at offset 4 of the text.
+fn at_four(name: &str, info: u32) -> Entry<'_> {
+    Entry { name, offset: 4, info, section: 1 }
+}
+
+#[test]
+fn one_symbol_is_kept_at_each_address(rt: HostRuntime) -> Result<(), Fail> {
+    let words = [0x0000_0013; 6];
+    let cases = [
+        ("in any order", [function("f", 12), function("_start", 0), function("g", 8)],
+            [(0x10000, 0x10008, "_start"), (0x10008, 0x1000C, "g"), (0x1000C, 0x10018, "f")].as_slice()),
+        ("global before weak and local", [at_four("a", 0x02), at_four("b", 0x22), at_four("c", 0x12)],
+            &[(0x10004, 0x10018, "c")]),
+        ("weak before local", [at_four("a", 0x02), at_four("b", 0x22), at_four("c", 0x22)],
+            &[(0x10004, 0x10018, "b")]),
+        ("function before no type", [at_four("a", 0x10), at_four("c", 0x12), at_four("b", 0x12)],
+            &[(0x10004, 0x10018, "b")]),
+        ("the lesser name, then number", [at_four("ab", 0x12), at_four("a", 0x12), at_four("a", 0x12)],
+            &[(0x10004, 0x10018, "a")]),
+        ("weak and global symbols of no type", [function("f", 0), at_four("a", 0x20), Entry { name: "b", offset: 8, info: 0x10, section: 1 }],
+            &[(0x10000, 0x10004, "f"), (0x10004, 0x10008, "a"), (0x10008, 0x10018, "b")]),
+        ("neither local ones of no type nor objects", [function("f", 0), at_four("a", 0x00), at_four("b", 0x11)],
+            &[(0x10000, 0x10018, "f")]),
+        ("an empty name", [function("f", 0), at_four("", 0x12), function("g", 20)],
+            &[(0x10000, 0x10014, "f"), (0x10014, 0x10018, "g")]),
+        ("in no executable section", [function("f", 0), Entry { name: "a", offset: 4, info: 0x12, section: 2 }, Entry { name: "b", offset: 4, info: 0x12, section: 0xFFF1 }],
+            &[(0x10000, 0x10018, "f")]),
+        ("behind its section", [function("f", 0), function("a", 24), function("b", 23)],
+            &[(0x10000, 0x10017, "f"), (0x10017, 0x10018, "b")]),
+    ];
+    for (what, symbols, want) in cases {
+        let file = elf(rt.alloc(), &words, &symbols)?;
+        assert!(rt; file.len() < 10_000);
+        let image = read(rt.alloc(), &file)?;
+        assert!(rt; are(image.symbols.as_slice(), want), "{what}");
+    }
+    Ok(())
+}
+
+#[test]
+fn the_profiling_runtime_is_found(rt: HostRuntime) -> Result<(), Fail> {
+    let words = [0x0000_0013; 6];
+    let cases = [
+        ("kept", [function("_start", 0), function("_mcount", 8), function("f", 12)], Some(0x10008), None),
+        ("not kept", [at_four("a", 0x12), at_four("_mcount", 0x02), at_four("moncontrol", 0x02)], Some(0x10004), Some(0x10004)),
+        ("the first by number", [function("_mcount", 12), function("_mcount", 4), function("moncontrol", 8)], Some(0x1000C), Some(0x10008)),
+        ("longer and shorter names", [function("_mcount2", 0), function("_mcoun", 4), function("moncontrols", 8)], None, None),
+    ];
+    for (what, symbols, mcount, moncontrol) in cases {
+        let file = elf(rt.alloc(), &words, &symbols)?;
+        assert!(rt; file.len() < 10_000);
+        let image = read(rt.alloc(), &file)?;
+        assert_eq!(rt; image.mcount, mcount, "{what}");
+        assert_eq!(rt; image.moncontrol, moncontrol, "{what}");
+    }
+    Ok(())
+}
+
+#[test]
+fn odd_tables_are_read(rt: HostRuntime) -> Result<(), Fail> {
+    let mut file = one_instruction(rt.alloc())?;
+    write(&mut file, 68, b"\x30\x11\0\0");
+    assert!(rt; file.len() == 4376);
+    let long = Segment { addr: 0x10000, offset: 4096, filesz: 4, memsz: 4 };
+    let image = read(rt.alloc(), &file)?;
+    assert_eq!(rt; image.segments.as_slice(), [long].as_slice(), "more bytes in the file than in memory");
+
+    write(&mut file, 72, b"\0");
+    assert!(rt; file.len() == 4376);
+    let image = read(rt.alloc(), &file)?;
+    assert_eq!(rt; image.segments.as_slice().len(), 0, "no memory");
+
+    write(&mut file, 4260, b"\x01");
+    assert!(rt; file.len() == 4376);
+    let image = read(rt.alloc(), &file)?;
+    assert_eq!(rt; image.symbols.as_slice().len(), 0, "no symbol table");
+    Ok(())
+}
