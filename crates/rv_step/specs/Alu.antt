@@ -3,7 +3,7 @@ use Rattle.std.specs.Prelude.{ℕ, ◌+◌, ◌-◌, ◌*◌, ◌/◌, ◌%◌, 
 use Rattle.std.specs.Int.{w8, w16, w32, w64, cast_signed, cast_unsigned, int_shr}
 use Rattle.std.specs.Int.RustNames.{int_lt, int_div, int_rem}
 use Rattle.rv_decode.specs.declared.instruction.Op.{Op}
-use Rattle.rv_decode.specs.declared.instruction.Op.TheVariants.{Beq, Bne, Blt, Bge, Bltu, Bgeu, Lb, Lh, Lw, Lbu, Lhu, Sb, Sh, Sw, Addi, Slti, Sltiu, Xori, Ori, Andi, Slli, Srli, Srai, Add, Sub, Sll, Slt, Sltu, Xor, Srl, Sra, Or, And, Mul, Mulh, Mulhsu, Mulhu, Div, Divu, Rem, Remu}
+use Rattle.rv_decode.specs.declared.instruction.Op.TheVariants.{Beq, Bne, Blt, Bge, Bltu, Lb, Lh, Lbu, Lhu, Sb, Sh, Addi, Slti, Sltiu, Xori, Ori, Slli, Srli, Srai, Add, Sub, Sll, Slt, Sltu, Xor, Srl, Sra, Or, Mul, Mulh, Mulhsu, Mulhu, Div, Divu, Rem}
 
 -- the value in two's complement of a number below 2 ^ 32
 abbrev pub signed : ℕ → ℤ
@@ -79,16 +79,21 @@ taken_of Bltu a b = nat_lt a b
 -- `bgeu`
 taken_of _ a b = not (nat_lt a b)
 
--- how many bytes a load or a store moves
-unfoldable pub width_of : Op → ℕ
-width_of Lb = 1
-width_of Lbu = 1
-width_of Sb = 1
-width_of Lh = 2
-width_of Lhu = 2
-width_of Sh = 2
--- `lw`, `sw`
-width_of _ = 4
+-- how many bytes a load moves
+unfoldable pub load_width : Op → ℕ
+load_width Lb = 1
+load_width Lbu = 1
+load_width Lh = 2
+load_width Lhu = 2
+-- `lw`
+load_width _ = 4
+
+-- how many bytes a store moves
+unfoldable pub store_width : Op → ℕ
+store_width Sb = 1
+store_width Sh = 2
+-- `sw`
+store_width _ = 4
 
 -- the number that a load makes of the number in memory: `lb` and `lh` extend its sign
 unfoldable pub extended : Op → ℕ → ℕ

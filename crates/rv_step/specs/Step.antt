@@ -1,6 +1,6 @@
 -- One step of a hart: one case for each instruction of RV32I, M and Zifencei, as the RISC-V unprivileged manual
 -- describes it. When a step traps is this project's own choice.
-use Rattle.std.specs.Prelude.{ℕ, ◌+◌, ◌-◌, ◌%◌, ◌^◌, ◌==◌, Bool, not, if◌then◌else◌, List, Option, Some, None, ℤ}
+use Rattle.std.specs.Prelude.{ℕ, ◌+◌, ◌-◌, ◌%◌, ◌^◌, ◌==◌, not, if◌then◌else◌, Option, Some, None, ℤ}
 use Rattle.std.specs.Int.{w32, cast_unsigned}
 use Rattle.gp_base.specs.Bytes.{le}
 use Rattle.rv_decode.specs.declared.instruction.Op.{Op}
@@ -12,7 +12,7 @@ use Rattle.rv_step.specs.declared.stepped.Stepped.{Stepped}
 use Rattle.rv_step.specs.declared.stepped.Stepped.TheVariants.{Retired, Trap, Ecall as EnvironmentCall}
 use Rattle.rv_step.specs.declared.stepped.TrapKind.{TrapKind}
 use Rattle.rv_step.specs.declared.stepped.TrapKind.TheVariants.{Illegal, Breakpoint, FetchOutside, LoadOutside, StoreOutside, LoadMisaligned, StoreMisaligned, JumpMisaligned}
-use Rattle.rv_step.specs.Alu.{result_of, product_of, taken_of, width_of, extended}
+use Rattle.rv_step.specs.Alu.{result_of, product_of, taken_of, load_width, store_width, extended}
 use Rattle.rv_step.specs.Memory.{Memory, is_inside, value_at, write_at}
 use Rattle.rv_step.specs.Registers.{Registers, register, with_register}
 
@@ -81,7 +81,7 @@ address_of i s = (register s i.rs1 + constant i.imm) % 2 ^ 32
 unfoldable pub loads : Instr → Registers → Memory → Outcome
 loads i s m =
     let a = address_of i s in
-    let n = width_of i.op in
+    let n = load_width i.op in
     if not (a % n == 0) then trapped LoadMisaligned s m
     else (if not (is_inside m a n) then trapped LoadOutside s m
     else gives i (extended i.op (value_at m a n)) s m)
@@ -90,7 +90,7 @@ loads i s m =
 unfoldable pub stores : Instr → Registers → Memory → Outcome
 stores i s m =
     let a = address_of i s in
-    let n = width_of i.op in
+    let n = store_width i.op in
     if not (a % n == 0) then trapped StoreMisaligned s m
     else (if not (is_inside m a n) then trapped StoreOutside s m
     else retired (passed s) (write_at m a (le (register s i.rs2) n)))

@@ -3,7 +3,7 @@
 ghost use Rattle.std.specs.Prelude.{◌≡◌, ◌+◌, ◌%◌, ◌^◌, ◌<◌, ◌≤◌, length};
 ghost use Rattle.rv_decode.specs.Spelling.{target_of};
 ghost use Rattle.gp_base.specs.Bytes.{le};
-ghost use Rattle.rv_step.specs.Alu.{extended, width_of};
+ghost use Rattle.rv_step.specs.Alu.{extended, load_width, store_width};
 ghost use Rattle.rv_step.specs.Memory.{Memory, value_at, write_at};
 ghost use Rattle.rv_step.specs.Registers.{register, with_register};
 ghost use Rattle.rv_step.specs.Step.{address_of, branches, computes, computes_with, executed, given, gives, jumps, loads, multiplies, next_of, outcome, passed, register_target, stores};
@@ -17,7 +17,9 @@ use rv_decode::{Instr, Op};
 
 /// Executes an instruction.
 pub(crate) fn execute(instr: &Instr, regs: &mut Regs, ram: &mut Ram) -> Stepped
-    ensures { outcome result regs.new ram.new ≡ executed instr.now.op instr.now regs.old ram.old }
+    ensures outcome { outcome result regs.new ram.new ≡ executed instr.now.op instr.now regs.old ram.old }
+    ensures base { ram.new.base ≡ ram.old.base }
+    ensures size { length ram.new.bytes ≡ length ram.old.bytes }
 {
     match instr.op {
         Op::Lui => give(instr.rd, instr.imm.cast_unsigned(), regs),
@@ -117,15 +119,28 @@ fn address(instr: &Instr, regs: &Regs) -> u32
     target(regs.get(instr.rs1), instr.imm)
 }
 
-/// How many bytes a load or a store moves.
-#[tactic(auto, unfolding(crate::specs::Alu::width_of))]
-fn width(op: Op) -> u32
-    ensures width { result ≡ width_of op }
+/// How many bytes a load moves.
+#[tactic(auto, unfolding(crate::specs::Alu::load_width))]
+fn load_width(op: Op) -> u32
+    ensures width { result ≡ load_width op }
     ensures positive { 0 < result }
 {
     match op {
-        Op::Lb | Op::Lbu | Op::Sb => 1,
-        Op::Lh | Op::Lhu | Op::Sh => 2,
+        Op::Lb | Op::Lbu => 1,
+        Op::Lh | Op::Lhu => 2,
+        _ => 4,
+    }
+}
+
+/// How many bytes a store moves.
+#[tactic(auto, unfolding(crate::specs::Alu::store_width))]
+fn store_width(op: Op) -> u32
+    ensures width { result ≡ store_width op }
+    ensures positive { 0 < result }
+{
+    match op {
+        Op::Sb => 1,
+        Op::Sh => 2,
         _ => 4,
     }
 }
@@ -135,7 +150,7 @@ fn load(instr: &Instr, regs: &mut Regs, ram: &Ram) -> Stepped
     ensures { outcome result regs.new ram.now ≡ loads instr.now regs.old ram.now }
 {
     let addr = address(instr, regs);
-    let width = width(instr.op);
+    let width = load_width(instr.op);
     if addr % width != 0 {
         return Stepped::Trap(TrapKind::LoadMisaligned);
     }
@@ -146,10 +161,10 @@ fn load(instr: &Instr, regs: &mut Regs, ram: &Ram) -> Stepped
 }
 
 /// What a load makes of the bytes at a place.
-#[tactic(auto, unfolding(crate::specs::Alu::extended, crate::specs::Alu::width_of))]
+#[tactic(auto, unfolding(crate::specs::Alu::extended, crate::specs::Alu::load_width))]
 fn value(op: Op, ram: &Ram, at: usize) -> u32
-    requires { at + width_of op ≤ length ram.now.bytes }
-    ensures { result ≡ extended op (value_at ram.now (ram.now.base + at) (width_of op)) }
+    requires { at + load_width op ≤ length ram.now.bytes }
+    ensures { result ≡ extended op (value_at ram.now (ram.now.base + at) (load_width op)) }
 {
     match op {
         Op::Lb => i32::from(ram.byte(at).cast_signed()).cast_unsigned(),
@@ -162,10 +177,12 @@ fn value(op: Op, ram: &Ram, at: usize) -> u32
 
 #[tactic(auto, unfolding(crate::specs::Step::stores))]
 fn store(instr: &Instr, regs: &mut Regs, ram: &mut Ram) -> Stepped
-    ensures { outcome result regs.new ram.new ≡ stores instr.now regs.old ram.old }
+    ensures outcome { outcome result regs.new ram.new ≡ stores instr.now regs.old ram.old }
+    ensures base { ram.new.base ≡ ram.old.base }
+    ensures size { length ram.new.bytes ≡ length ram.old.bytes }
 {
     let addr = address(instr, regs);
-    let width = width(instr.op);
+    let width = store_width(instr.op);
     if addr % width != 0 {
         return Stepped::Trap(TrapKind::StoreMisaligned);
     }
@@ -179,10 +196,12 @@ fn store(instr: &Instr, regs: &mut Regs, ram: &mut Ram) -> Stepped
 }
 
 /// Stores the low bytes of a number at a place.
-#[tactic(auto, unfolding(crate::specs::Alu::width_of))]
+#[tactic(auto, unfolding(crate::specs::Alu::store_width))]
 fn put(op: Op, at: usize, value: u32, ram: &mut Ram)
-    requires { at + width_of op ≤ length ram.old.bytes }
-    ensures { ram.new ≡ write_at ram.old (ram.old.base + at) (le value (width_of op)) }
+    requires { at + store_width op ≤ length ram.old.bytes }
+    ensures stored { ram.new ≡ write_at ram.old (ram.old.base + at) (le value (store_width op)) }
+    ensures base { ram.new.base ≡ ram.old.base }
+    ensures size { length ram.new.bytes ≡ length ram.old.bytes }
 {
     match op {
         Op::Sb => ram.write(at, &[(value % 256) as u8]),

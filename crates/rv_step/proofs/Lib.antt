@@ -1,0 +1,6 @@
+pub mod Places
+pub mod Branching
+pub mod Accesses
+pub mod Products
+pub mod Rows
+pub mod Steps
