@@ -33,6 +33,7 @@ impl Ram {
         requires { base + size ≤ 2 ^ 32 }
         ensures base { IfOk result (λ ram. ram.base ≡ base) }
         ensures zeros { IfOk result (λ ram. ram.bytes ≡ replicate size 0) }
+        ensures size { IfOk result (λ ram. length ram.bytes ≡ size) }
     {
         let bytes = vec![in alloc; 0; size as usize]?;
         Ok(Ram { base, bytes })
