@@ -4,3 +4,5 @@ pub mod Accesses
 pub mod Products
 pub mod Rows
 pub mod Steps
+pub mod Keeping
+pub mod MemoryMap

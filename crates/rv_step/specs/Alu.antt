@@ -1,7 +1,7 @@
 -- Results of operations on numbers below 2 ^ 32, as the RISC-V unprivileged manual has them under "RV32I" and "M".
-use Rattle.std.specs.Prelude.{ℕ, ◌+◌, ◌-◌, ◌*◌, ◌/◌, ◌%◌, ◌^◌, ◌==◌, nat_lt, Bool, not, if◌then◌else◌, ℤ, pos, ◌*ℤ◌, bit_and, bit_or, bit_xor}
-use Rattle.std.specs.Int.{w8, w16, w32, w64, cast_signed, cast_unsigned, int_shr}
-use Rattle.std.specs.Int.RustNames.{int_lt, int_div, int_rem}
+use Rattle.std.specs.Prelude.{ℕ, ◌+◌, ◌-◌, ◌*◌, ◌/◌, ◌%◌, ◌^◌, ◌==◌, nat_lt, Bool, not, if◌then◌else◌, ℤ, pos, ◌-ℤ◌, ◌*ℤ◌, bit_and, bit_or, bit_xor}
+use Rattle.std.specs.Int.{w8, w16, w32, cast_signed, int_rem_euclid, int_shr}
+use Rattle.std.specs.Int.RustNames.{int_lt, int_div, int_rem, unsigned_abs}
 use Rattle.rv_decode.specs.declared.instruction.Op.{Op}
 use Rattle.rv_decode.specs.declared.instruction.Op.TheVariants.{Beq, Bne, Blt, Bge, Bltu, Lb, Lh, Lbu, Lhu, Sb, Sh, Addi, Slti, Sltiu, Xori, Ori, Slli, Srli, Srai, Add, Sub, Sll, Slt, Sltu, Xor, Srl, Sra, Or, Mul, Mulh, Mulhsu, Mulhu, Div, Divu, Rem}
 
@@ -11,7 +11,7 @@ signed n = cast_signed w32 n
 
 -- an integer modulo 2 ^ 32
 abbrev pub word_of : ℤ → ℕ
-word_of z = cast_unsigned w32 z
+word_of z = unsigned_abs (int_rem_euclid z (pos (2 ^ 32)))
 
 -- 1 if it holds, else 0
 abbrev pub flag : Bool → ℕ
@@ -21,7 +21,7 @@ flag b = if b then 1 else 0
 unfoldable pub result_of : Op → ℕ → ℕ → ℕ
 result_of Add a b = (a + b) % 2 ^ 32
 result_of Addi a b = (a + b) % 2 ^ 32
-result_of Sub a b = (a + (2 ^ 32 - b)) % 2 ^ 32
+result_of Sub a b = word_of (pos a -ℤ pos b)
 result_of Sll a b = a * 2 ^ (b % 32) % 2 ^ 32
 result_of Slli a b = a * 2 ^ (b % 32) % 2 ^ 32
 result_of Slt a b = flag (int_lt (signed a) (signed b))
@@ -41,7 +41,7 @@ result_of _ a b = bit_and a b
 
 -- bits 63 to 32 of an integer
 abbrev pub high_half : ℤ → ℕ
-high_half z = cast_unsigned w64 z / 2 ^ 32
+high_half z = word_of (int_shr z 32)
 
 -- Quotients are rounded toward zero, remainders have the dividend's sign. By 0 the quotient is all ones and the
 -- remainder the dividend. The one signed quotient that is too large, 2 ^ 31, is -2 ^ 31 modulo 2 ^ 32.
@@ -62,7 +62,7 @@ unfoldable pub product_of : Op → ℕ → ℕ → ℕ
 product_of Mul a b = a * b % 2 ^ 32
 product_of Mulh a b = high_half (signed a *ℤ signed b)
 product_of Mulhsu a b = high_half (signed a *ℤ pos b)
-product_of Mulhu a b = a * b / 2 ^ 32
+product_of Mulhu a b = high_half (pos (a * b))
 product_of Div a b = signed_quotient_of a b
 product_of Divu a b = quotient_of a b
 product_of Rem a b = signed_remainder_of a b

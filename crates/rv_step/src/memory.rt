@@ -1,7 +1,7 @@
 //! The memory of a machine.
 
-ghost use Rattle.std.specs.Prelude.{◌≡◌, ◌+◌, ◌-◌, ◌^◌, ◌<◌, ◌≤◌, ◌↔◌, length, replicate, IfOk, IfSome, IsSome, IsNone, All, if◌then◌else◌};
-ghost use Rattle.rv_step.specs.Memory.{IsInside, is_inside, read_at, value_at, write_at};
+ghost use Rattle.std.specs.Prelude.{◌≡◌, ◌⊎◌, ℕ, List, slice_get, ◌+◌, ◌-◌, ◌^◌, ◌<◌, ◌≤◌, ◌↔◌, length, replicate, IfOk, IfSome, IsSome, IsNone, All, if◌then◌else◌};
+ghost use Rattle.rv_step.specs.Memory.{IsInside, Memory, byte_at, is_inside, read_at, value_at, write_at};
 ghost use Rattle.rv_step.specs.Loading.{CanLoad, loaded, segment_bytes};
 
 use byteorder::{ByteOrder, LittleEndian};
@@ -127,3 +127,14 @@ impl Ram {
         self.bytes[at..at + piece.len()].copy_from_slice(piece);
     }
 }
+
+/// Memory is a map from addresses to bytes. To read is to look up one address after the other; to
+/// write changes the addresses that are written, and no other.
+pub fn memory_map()
+    ensures read { (m : Memory) (a n k : ℕ) → IsInside m a n → k < n
+        → slice_get (read_at m a n) k ≡ byte_at m (a + k) }
+    ensures written { (m : Memory) (a : ℕ) (bs : List ℕ) (k : ℕ) → IsInside m a (length bs) → k < length bs
+        → byte_at (write_at m a bs) (a + k) ≡ slice_get bs k }
+    ensures kept { (m : Memory) (a : ℕ) (bs : List ℕ) (p : ℕ) → IsInside m a (length bs) → (p < a) ⊎ (a + length bs ≤ p)
+        → byte_at (write_at m a bs) p ≡ byte_at m p }
+{}

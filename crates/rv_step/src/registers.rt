@@ -55,8 +55,7 @@ impl Regs {
 
     /// The program counter.
     pub fn pc(&self) -> u32
-        ensures value { result ≡ self.now.pc }
-        ensures hart { IsHart self.now }
+        ensures { result ≡ self.now.pc }
     {
         self.pc
     }

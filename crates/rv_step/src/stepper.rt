@@ -1,6 +1,6 @@
 //! One step.
 
-ghost use Rattle.std.specs.Prelude.{◌≡◌, length};
+ghost use Rattle.std.specs.Prelude.{◌≡◌, ◌⊎◌, ◌%◌, length};
 ghost use Rattle.rv_step.specs.Step.{fetched, outcome, step_of};
 
 use crate::execution::execute;
@@ -15,6 +15,10 @@ pub fn step(regs: &mut Regs, ram: &mut Ram) -> Stepped
     ensures answer { result ≡ (step_of regs.old ram.old).answer }
     ensures registers { regs.new ≡ (step_of regs.old ram.old).registers }
     ensures memory { ram.new ≡ (step_of regs.old ram.old).memory }
+
+    // What callers rely on.
+    ensures unchanged { (result ≡ Stepped.Retired) ⊎ ((regs.new ≡ regs.old) × (ram.new ≡ ram.old)) }
+    ensures aligned { regs.old.pc % 4 ≡ 0 → regs.new.pc % 4 ≡ 0 }
     ensures base { ram.new.base ≡ ram.old.base }
     ensures size { length ram.new.bytes ≡ length ram.old.bytes }
 {

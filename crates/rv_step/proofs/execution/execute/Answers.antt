@@ -18,14 +18,14 @@ pub returns-in-Auipc-clause-outcome : goal.returns-in-Auipc-clause-outcome
 unfolding executed
 returns-in-Auipc-clause-outcome c =
     let fits : FitsSigned w32 c.args.instr.now.imm = search rules in
-    rw (c.target.ensures, c.pc.ensures.value, to_z-of_z w32 c.args.instr.now.imm fits) at c.give-in-Auipc.ensures c.args.ram.now
+    rw (c.target.ensures, c.pc.ensures, to_z-of_z w32 c.args.instr.now.imm fits) at c.give-in-Auipc.ensures c.args.ram.now
     ∙ ap (λ (o : Op). executed o c.args.instr.now c.args.regs.now c.args.ram.now) (sym c.in-Auipc.is)
 
 pub returns-in-Jal-clause-outcome : goal.returns-in-Jal-clause-outcome
 unfolding executed
 returns-in-Jal-clause-outcome c =
     let fits : FitsSigned w32 c.args.instr.now.imm = search rules in
-    rw (c.target-in-Jal.ensures, c.pc-in-Jal.ensures.value, to_z-of_z w32 c.args.instr.now.imm fits) at c.jump.ensures c.args.ram.now
+    rw (c.target-in-Jal.ensures, c.pc-in-Jal.ensures, to_z-of_z w32 c.args.instr.now.imm fits) at c.jump.ensures c.args.ram.now
     ∙ ap (λ (o : Op). executed o c.args.instr.now c.args.regs.now c.args.ram.now) (sym c.in-Jal.is)
 
 pub returns-in-Jalr-clause-outcome : goal.returns-in-Jalr-clause-outcome

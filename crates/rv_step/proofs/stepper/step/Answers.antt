@@ -1,6 +1,7 @@
 use Rattle.std.proofs.Common.{sym, ap, ◌∙◌}
 use Rattle.rv_step.specs.Step.{Outcome}
 use Rattle.rv_step.proofs.Steps.{not_fetched, not_decoded, decoded}
+use Rattle.rv_step.proofs.Keeping.{keeps_executed}
 use Rattle.rv_step.proofs.stepper.step.Goals as goal
 
 pub returns-in_default-clause-answer : goal.returns-in_default-clause-answer
@@ -41,3 +42,15 @@ pub returns-clause-memory : goal.returns-clause-memory
 returns-clause-memory c =
     ap (λ (o : Outcome). o.memory) (c.execute.ensures.outcome
     ∙ sym (decoded c.args.regs.now c.args.ram.now c.in-Some.word c.in-Some-decode.instr (sym c.fetch.ensures ∙ c.in-Some.is) (sym c.decode.ensures ∙ c.in-Some-decode.is)))
+
+pub returns-clause-unchanged : goal.returns-clause-unchanged
+returns-clause-unchanged c =
+    let i = c.in-Some-decode.instr in
+    let keeps = rw (← c.execute.ensures.outcome) at (keeps_executed i.op i c.args.regs.now c.args.ram.now) in
+    keeps.unchanged
+
+pub returns-clause-aligned : goal.returns-clause-aligned
+returns-clause-aligned c =
+    let i = c.in-Some-decode.instr in
+    let keeps = rw (← c.execute.ensures.outcome) at (keeps_executed i.op i c.args.regs.now c.args.ram.now) in
+    keeps.aligned
