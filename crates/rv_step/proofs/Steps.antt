@@ -1,0 +1,20 @@
+-- The three ends of a step.
+use Rattle.std.proofs.Common.{◌≡◌, ℕ, Option, Some, None, ap, ◌∙◌}
+use Rattle.rv_decode.specs.declared.instruction.Instr.{Instr}
+use Rattle.rv_decode.specs.Table.{instr_of}
+use Rattle.rv_step.specs.declared.stepped.TrapKind.TheVariants.{Illegal, FetchOutside}
+use Rattle.rv_step.specs.Memory.{Memory}
+use Rattle.rv_step.specs.Registers.{Registers}
+use Rattle.rv_step.specs.Step.{executed, trapped, fetched, after_fetch, after_decode, step_of}
+
+pub not_fetched : (s : Registers) (m : Memory) → fetched s m ≡ None → step_of s m ≡ trapped FetchOutside s m
+unfolding step_of
+not_fetched s m h = ap (λ (w : Option ℕ). after_fetch w s m) h
+
+pub not_decoded : (s : Registers) (m : Memory) (word : ℕ) → fetched s m ≡ Some word → instr_of word ≡ None → step_of s m ≡ trapped Illegal s m
+unfolding step_of
+not_decoded s m word h none = ap (λ (w : Option ℕ). after_fetch w s m) h ∙ ap (λ (i : Option Instr). after_decode i s m) none
+
+pub decoded : (s : Registers) (m : Memory) (word : ℕ) (i : Instr) → fetched s m ≡ Some word → instr_of word ≡ Some i → step_of s m ≡ executed i.op i s m
+unfolding step_of
+decoded s m word i h is = ap (λ (w : Option ℕ). after_fetch w s m) h ∙ ap (λ (i : Option Instr). after_decode i s m) is

@@ -1,0 +1,9 @@
+use Rattle.rv_step.proofs.MemoryMap.{byte-read_at, byte-write_at, byte-write_at_other}
+use Rattle.rv_step.proofs.memory.memory_map.Goals as goal
+
+pub returns : goal.returns
+returns c = record {
+  read = byte-read_at;
+  written = byte-write_at;
+  kept = byte-write_at_other;
+}

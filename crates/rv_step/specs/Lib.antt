@@ -1,0 +1,5 @@
+pub mod Alu
+pub mod Loading
+pub mod Memory
+pub mod Registers
+pub mod Step
