@@ -8,6 +8,9 @@ use rvgprof::rvgprof;
 use std::process::ExitCode;
 use std::{env, io};
 
+#[cfg(test)]
+mod tests;
+
 /// The status where the words can't be had for want of memory.
 const NO_MEMORY: u8 = 7;
 
