@@ -14,12 +14,7 @@ use std::alloc::Global;
 use text_lines::show_image;
 
 /// Prints the text, the hooks and the symbols of a program.
-pub fn syms<H: Host>(
-    alloc: Global,
-    words: &[String],
-    elf: u32,
-    host: &mut H,
-) -> Result<Done, Fault>
+pub fn syms<H: Host>(alloc: Global, words: &[String], elf: u32, host: &mut H) -> Result<Done, Fault>
     requires idle { (H.outside host.old).is_writing ≡ false }
     requires said { command_of (map string_bytes words.now) ≡ Some (Syms elf) }
     ensures acted { Acted (map string_bytes words.now) (H.outside host.old) (H.outside host.new) result }

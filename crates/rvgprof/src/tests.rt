@@ -250,6 +250,14 @@ fn each_fault_has_its_line(rt: HostRuntime) -> Result<(), Fail> {
     }
 
     let mut host = MemHost::new(alloc);
+    host.put("g", &profile(alloc, &[0; 20], 160, 160, 0)?)?;
+    assert_eq!(rt; status(alloc, &words, &mut host), 3);
+    assert_eq!(rt;
+        host.errors(),
+        b"rvgprof: bad profile g: version 0\n".as_slice()
+    );
+
+    let mut host = MemHost::new(alloc);
     host.put("g", b"gmon")?;
     assert_eq!(rt; status(alloc, &words, &mut host), 3);
     assert_eq!(rt;

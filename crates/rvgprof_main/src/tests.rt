@@ -29,8 +29,7 @@ fn status(alloc: Global, host: &mut RealHost, texts: &[&str]) -> Result<u8, Allo
 fn a_file_that_was_written_is_shown(rt: HostRuntime) -> Result<(), Fail> {
     let alloc = rt.alloc();
     let mut host = RealHost::new(rt);
-    host.create_output("written.gmon")
-        .map_err(|_| "created")?;
+    host.create_output("written.gmon").map_err(|_| "created")?;
     write_all_of(&mut host, &EMPTY).map_err(|_| "written")?;
     host.close_output().map_err(|_| "closed")?;
     match status(alloc, &mut host, &["show", "written.gmon"])? {

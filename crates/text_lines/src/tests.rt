@@ -44,7 +44,9 @@ fn counters_that_are_0_have_no_line(rt: HostRuntime) -> Result<(), Fail> {
 fn hooks_and_long_names_are_shown_whole(rt: HostRuntime) -> Result<(), Fail> {
     let mut name = Name::new(rt.alloc());
     let mut line = Vec::new(rt.alloc());
-    line.extend_from_slice(b"text 00000000 00000008 entry 00000004 mcount 00000000 moncontrol ffffffff\n00000000 8 ")?;
+    line.extend_from_slice(
+        b"text 00000000 00000008 entry 00000004 mcount 00000000 moncontrol ffffffff\n00000000 8 ",
+    )?;
     for _ in 0..4095 {
         name.push(b'x')?;
         line.push(b'x')?;
