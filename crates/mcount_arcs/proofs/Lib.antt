@@ -1,0 +1,3 @@
+pub mod Logs
+pub mod Buckets
+pub mod Standing

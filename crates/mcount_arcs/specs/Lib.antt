@@ -1,0 +1,7 @@
+pub mod Arcs
+pub mod Held
+pub mod Lists
+pub mod Log
+pub mod Samples
+pub mod Sizes
+pub mod Value
