@@ -34,5 +34,5 @@ abbrev pub ticked : ℕ → GmonValue → GmonValue
 ticked pc v = if v.sampling && is_in (text_of v.sizes) pc then with_sample ((pc - v.sizes.low) / 4) v else v
 
 -- the arcs that are left to be given
-abbrev pub left : List RawArc → List RawArc
-left arcs = arcs
+abbrev pub rest : List RawArc → List RawArc
+rest arcs = arcs

@@ -22,13 +22,13 @@ impl<'a> Model for Arcs<'a> {
 
 impl<'a> Iterator for Arcs<'a> {
     ghost use Rattle.std.specs.Iterator.{YieldsFirst, item_count};
-    ghost use Rattle.mcount_arcs.specs.Value.{left};
+    ghost use Rattle.mcount_arcs.specs.Value.{rest};
 
     type Item = RawArc;
 
-    ghost next_gives = { YieldsFirst left };
+    ghost next_gives = { YieldsFirst rest };
 
-    ghost remaining = { item_count left };
+    ghost remaining = { item_count rest };
 
     fn next(&mut self) -> Option<RawArc> {
         let gmon = self.gmon;

@@ -2,7 +2,9 @@
 
 ghost use Rattle.std.specs.Prelude.{◌≡◌, ◌<◌, List, [], ◌∷◌, ◌++◌, Some, length, slice_get, IfOk};
 ghost use Rattle.mcount_arcs.specs.Sizes.{IsText, AreSizes, sizes_of};
-ghost use Rattle.mcount_arcs.specs.Log.{LogEntry, Sample};
+ghost use Rattle.mcount_arcs.specs.Log.{LogEntry, Sample, is_on, kept, state_of};
+ghost use Rattle.mcount_arcs.specs.Samples.{bucket_of};
+ghost use Rattle.mcount_arcs.specs.Arcs.{arcs_of};
 ghost use Rattle.mcount_arcs.specs.Value.{StandsFor, ticked};
 
 use crate::arcs::Arcs;
@@ -61,6 +63,7 @@ impl Gmon {
     pub fn tick(&mut self, pc: u32)
         ensures stands { (log : List LogEntry) → StandsFor log self.old → StandsFor (log ++ Sample pc ∷ []) self.new }
         ensures changed { self.new ≡ ticked pc self.old }
+        ensures others { self.new ≡ record self.old { counters = self.new.counters } }
     {
         if self.sampling && self.sizes.low <= pc && pc < self.sizes.high {
             let i = (pc - self.sizes.low) / GRAIN;
@@ -71,21 +74,24 @@ impl Gmon {
 
     /// The state of the arc table.
     pub fn state(&self) -> State
-        ensures { result ≡ self.now.state }
+        ensures value { result ≡ self.now.state }
+        ensures log { (log : List LogEntry) → StandsFor log self.now → result ≡ state_of self.now.sizes log }
     {
         self.state
     }
 
     /// Whether samples are counted.
     pub fn sampling(&self) -> bool
-        ensures { result ≡ self.now.sampling }
+        ensures value { result ≡ self.now.sampling }
+        ensures log { (log : List LogEntry) → StandsFor log self.now → result ≡ is_on log }
     {
         self.sampling
     }
 
     /// The number of calls that the arcs count.
     pub fn calls(&self) -> u32
-        ensures { result ≡ self.now.calls }
+        ensures value { result ≡ self.now.calls }
+        ensures log { (log : List LogEntry) → StandsFor log self.now → result ≡ length (kept self.now.sizes log) }
     {
         self.calls
     }
@@ -103,15 +109,19 @@ impl Gmon {
     /// where there are more.
     pub fn counter(&self, i: u32) -> u16
         requires { i < self.now.sizes.counters }
-        ensures { slice_get self.now.counters i ≡ Some result }
+        ensures value { slice_get self.now.counters i ≡ Some result }
+        ensures log { (log : List LogEntry) → StandsFor log self.now → result ≡ bucket_of self.now.sizes log i }
     {
         self.block.kcount(i)
     }
 
     /// The arcs, by call site in ascending order, and for each the callee that was called latest first.
     pub fn arcs(&self) -> Arcs<'_>
-        ensures { result ≡ self.now.arcs }
+        ensures value { result ≡ self.now.arcs }
+        ensures log { (log : List LogEntry) → StandsFor log self.now → result ≡ arcs_of self.now.sizes log }
+        ensures few { length result < self.now.sizes.tolimit }
     {
+        let _ = &self.sizes;
         Arcs { gmon: self }
     }
 }
