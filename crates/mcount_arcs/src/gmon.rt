@@ -1,6 +1,6 @@
 //! The runtime: `monstartup`, the clock's tick, and what can be read of it.
 
-ghost use Rattle.std.specs.Prelude.{◌≡◌, ◌<◌, List, [], ◌∷◌, ◌++◌, Some, length, slice_get, IfOk};
+ghost use Rattle.std.specs.Prelude.{◌≡◌, ◌<◌, ◌≤◌, List, [], ◌∷◌, ◌++◌, Some, length, slice_get, IfOk};
 ghost use Rattle.mcount_arcs.specs.Sizes.{IsText, AreSizes, sizes_of};
 ghost use Rattle.mcount_arcs.specs.Log.{LogEntry, Sample, is_on, kept, state_of};
 ghost use Rattle.mcount_arcs.specs.Samples.{bucket_of};
@@ -119,7 +119,7 @@ impl Gmon {
     pub fn arcs(&self) -> Arcs<'_>
         ensures value { result ≡ self.now.arcs }
         ensures log { (log : List LogEntry) → StandsFor log self.now → result ≡ arcs_of self.now.sizes log }
-        ensures few { length result < self.now.sizes.tolimit }
+        ensures few { (length result < self.now.sizes.tolimit) × (self.now.sizes.tolimit ≤ 65534) }
     {
         let _ = &self.sizes;
         Arcs { gmon: self }

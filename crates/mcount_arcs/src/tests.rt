@@ -1,9 +1,9 @@
-ghost use Rattle.std.specs.Prelude.{◌+◌};
+ghost use Rattle.std.specs.Prelude.{◌≡◌, ◌+◌, length, IfOk};
 ghost use Rattle.mcount_arcs.specs.Sizes.{IsText};
 
 use super::*;
-use gp_base::Span;
-use std::alloc::Global;
+use gp_base::{RawArc, Span};
+use std::alloc::{AllocError, Global};
 use std::process::Abort;
 use std::test::Fail;
 
@@ -133,10 +133,24 @@ fn a_new_runtime(rt: HostRuntime) -> Result<(), Fail> {
     assert_eq!(rt; gmon.state(), State::On);
     assert!(rt; gmon.sampling());
     assert_eq!(rt; gmon.calls(), 0);
-    let mut arcs = 0;
-    for _ in gmon.arcs() {
-        arcs += 1;
-    }
-    assert_eq!(rt; arcs, 0);
+    assert_eq!(rt; arc_count(&gmon), 0);
+    assert_eq!(rt; copied(rt.alloc(), &gmon)?.len(), 0);
     Ok(())
+}
+
+fn arc_count(gmon: &Gmon) -> usize
+    ensures { result ≡ length gmon.now.arcs }
+{
+    gmon.arcs().count()
+}
+
+// The arcs in a list.
+fn copied(alloc: Global, gmon: &Gmon) -> Result<Vec<RawArc>, AllocError>
+    ensures { IfOk result (λ arcs. arcs.items ≡ gmon.now.arcs) }
+{
+    let mut arcs = Vec::new(alloc);
+    for arc in gmon.arcs() {
+        arcs.push(arc)?;
+    }
+    Ok(arcs)
 }
