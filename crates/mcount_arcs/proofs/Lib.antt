@@ -1,3 +1,4 @@
 pub mod Logs
 pub mod Buckets
 pub mod Standing
+pub mod Meaning

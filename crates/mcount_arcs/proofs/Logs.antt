@@ -52,7 +52,7 @@ pub begun-sampled : (z : Sizes) (log : List LogEntry) (pc : ℕ) → begun z (sa
 begun-sampled z log pc =
     filter_map-append (pair_in z) log (Sample pc ∷ []) ∙ append-nil (filter_map (pair_in z) log)
 
-abbrev entered_of : Bool → List Pair → List Pair
+abbrev pub entered_of : Bool → List Pair → List Pair
 entered_of busy pairs = if busy then without_last pairs else pairs
 
 pub entered-sampled : (z : Sizes) (log : List LogEntry) (pc : ℕ) → entered z (sampled log pc) ≡ entered z log
@@ -65,7 +65,7 @@ pub kept-sampled : (z : Sizes) (log : List LogEntry) (pc : ℕ) → kept z (samp
 unfolding kept
 kept-sampled z log pc = ap (kept_of z) (entered-sampled z log pc)
 
-abbrev state_by : ℕ → Bool → List Pair → Bool → State
+abbrev pub state_by : ℕ → Bool → List Pair → Bool → State
 state_by limit busy pairs on = if busy then Busy else (if leb limit (distinct_count pairs) then Error else (if on then On else Off))
 
 pub state_of-sampled : (z : Sizes) (log : List LogEntry) (pc : ℕ) → state_of z (sampled log pc) ≡ state_of z log
@@ -75,9 +75,13 @@ state_of-sampled z log pc =
     ∙ ap (λ (ps : List Pair). state_by z.tolimit (is_busy log) ps (is_on (sampled log pc))) (entered-sampled z log pc)
     ∙ ap (state_by z.tolimit (is_busy log) (entered z log)) (is_on-sampled log pc)
 
-pub arcs_of-sampled : (z : Sizes) (log : List LogEntry) (pc : ℕ) → arcs_of z (sampled log pc) ≡ arcs_of z log
+-- the arcs are those of the calls that are kept
+pub arcs_of-kept : (z : Sizes) (log other : List LogEntry) → kept z log ≡ kept z other → arcs_of z log ≡ arcs_of z other
 unfolding arcs_of
-arcs_of-sampled z log pc = ap (arcs_in z) (kept-sampled z log pc)
+arcs_of-kept z log other same = ap (arcs_in z) same
+
+pub arcs_of-sampled : (z : Sizes) (log : List LogEntry) (pc : ℕ) → arcs_of z (sampled log pc) ≡ arcs_of z log
+arcs_of-sampled z log pc = arcs_of-kept z (sampled log pc) log (kept-sampled z log pc)
 
 -- the sample itself counts where sampling is on, and in the text
 abbrev pub counts : Sizes → List LogEntry → ℕ → List ℕ

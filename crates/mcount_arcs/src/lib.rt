@@ -4,6 +4,7 @@
 
 pub mod arcs;
 pub mod gmon;
+pub mod laws;
 pub mod sizes;
 pub mod state;
 
