@@ -2,16 +2,17 @@
 use Rattle.std.proofs.Common.{◌≡◌, ℕ, ◌+◌, ◌-◌, ◌/◌, min, slice_set, slice_index, slice_get, Some, ◌⊎◌, ◌≤◌, ◌<◌, Bool, true, false, ◌&&◌, leb, ltb, List, [], ◌∷◌, length, replicate, if◌then◌else◌, inl, inr, refl, sym, ap, ◌∙◌, arith}
 use Rattle.std.proofs.lemmas.Bool.{and_parts, and_from, and_left, and_right, leb-true, ltb-true, le-leb, lt-ltb, lt-leb, le-ltb}
 use Rattle.std.proofs.lemmas.Option.{get_or_from_slice_get}
-use Rattle.gmon_block.specs.Layout.{Parts}
+use Rattle.gmon_block.specs.Layout.{Parts, no_entry}
 use Rattle.mcount_arcs.specs.declared.gmon.Gmon.TheInside.{Inside}
 use Rattle.mcount_arcs.specs.declared.sizes.Sizes.{Sizes}
 use Rattle.mcount_arcs.specs.declared.state.State.TheVariants.{On}
 use Rattle.mcount_arcs.specs.Log.{LogEntry, Sample}
 use Rattle.mcount_arcs.specs.Samples.{buckets_of}
 use Rattle.mcount_arcs.specs.Sizes.{is_in, text_of, AreSizes}
-use Rattle.mcount_arcs.specs.Held.{value_of}
+use Rattle.mcount_arcs.specs.Held.{value_of, IsHeld}
 use Rattle.mcount_arcs.specs.Value.{GmonValue, StandsFor, with_sample, ticked}
 use Rattle.mcount_arcs.proofs.Logs.{sampled, counts, is_on-sampled, kept-sampled, state_of-sampled, arcs_of-sampled, IsLegal-push, IsLegal-nil, state_of-nil, kept-nil, arcs_of-nil}
+use Rattle.mcount_arcs.proofs.Images.{entries_of-sampled, fronts_of-sampled, entries_of-nil, fronts_of-nil, arcs_read-none}
 use Rattle.mcount_arcs.proofs.Buckets.{buckets_of-uncounted, buckets_of-counted, buckets_of-nil}
 
 abbrev raise : ℕ → List ℕ → List ℕ
@@ -21,7 +22,9 @@ raise i xs = slice_set xs i (min 65535 (slice_index xs i + 1))
 same_but_counters : (log : List LogEntry) (v : GmonValue) (pc : ℕ) (counters : List ℕ) → StandsFor log v → counters ≡ buckets_of v.sizes (sampled log pc) → StandsFor (sampled log pc) (record v { counters = counters })
 same_but_counters log v pc counters stands counted = record {
   legal = IsLegal-push v.sizes log (Sample pc) stands.legal tt;
+  tos = stands.tos ∙ sym (entries_of-sampled v.sizes log pc);
   counters = counted;
+  froms = stands.froms ∙ sym (fronts_of-sampled v.sizes log pc);
   state = stands.state ∙ sym (state_of-sampled v.sizes log pc);
   sampling = stands.sampling ∙ sym (is_on-sampled log pc);
   calls = stands.calls ∙ sym (ap length (kept-sampled v.sizes log pc));
@@ -44,14 +47,18 @@ pub StandsFor-ticked : (log : List LogEntry) (v : GmonValue) (pc : ℕ) → AreS
 StandsFor-ticked log v pc are stands =
     by_test log v pc (v.sampling && is_in (text_of v.sizes) pc) are stands refl
 
-pub StandsFor-nil : (z : Sizes) → AreSizes z → StandsFor [] (record { sizes = z; counters = replicate z.counters 0; state = On; sampling = true; calls = 0; arcs = [] })
-StandsFor-nil z are = record {
+-- a new one has no log
+pub StandsFor-nil : (z : Sizes) (block : Parts) → AreSizes z → block.tos ≡ replicate z.tolimit no_entry → block.counters ≡ replicate z.counters 0 → block.froms ≡ replicate z.slots 0
+    → StandsFor [] (value_of (record { block = block; sizes = z; state = On; sampling = true; calls = 0 }))
+StandsFor-nil z block are tos counters froms = record {
   legal = IsLegal-nil z;
-  counters = buckets_of-nil z;
+  tos = tos ∙ entries_of-nil z are.least;
+  counters = counters ∙ buckets_of-nil z;
+  froms = froms ∙ fronts_of-nil z;
   state = sym (state_of-nil z are.least);
   sampling = refl;
   calls = sym (ap length (kept-nil z));
-  arcs = sym (arcs_of-nil z);
+  arcs = arcs_read-none z block.tos block.froms z.slots froms ∙ sym (arcs_of-nil z);
 }
 
 -- a tick that counts
@@ -84,3 +91,8 @@ wrote a pc n m block on low high read more set =
     ap (λ (p : Parts). value_of (record a { block = p })) set
     ∙ ap (λ (x : ℕ). record (value_of a) { counters = slice_set a.block.counters k x }) value
     ∙ sym (ticked-in (value_of a) pc on low high)
+
+-- there are no arcs yet
+pub arcs_held : (a : Inside) (v : GmonValue) → IsHeld a → value_of a ≡ v → v.arcs ≡ []
+arcs_held a v held view_is =
+    ap (λ (w : GmonValue). w.arcs) (sym view_is) ∙ arcs_read-none a.sizes a.block.tos a.block.froms a.sizes.slots held.froms

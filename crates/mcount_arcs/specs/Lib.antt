@@ -1,5 +1,6 @@
 pub mod Arcs
 pub mod Held
+pub mod Image
 pub mod Lists
 pub mod Log
 pub mod Samples
