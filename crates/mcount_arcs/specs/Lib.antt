@@ -1,4 +1,5 @@
 pub mod Arcs
+pub mod Examples
 pub mod Held
 pub mod Image
 pub mod Lists

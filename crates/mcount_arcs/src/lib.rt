@@ -14,4 +14,6 @@ pub use sizes::Sizes;
 pub use state::State;
 
 #[cfg(test)]
+mod examples;
+#[cfg(test)]
 mod tests;
