@@ -32,7 +32,7 @@ impl<'a> Iterator for Arcs<'a> {
 
     fn next(&mut self) -> Option<RawArc> {
         let gmon = self.gmon;
-        let _ = &gmon.sizes;
+        let _ = &gmon.sizes; // no call was entered yet
         None
     }
 }

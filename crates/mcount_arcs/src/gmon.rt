@@ -119,9 +119,10 @@ impl Gmon {
     pub fn arcs(&self) -> Arcs<'_>
         ensures value { result ≡ self.now.arcs }
         ensures log { (log : List LogEntry) → StandsFor log self.now → result ≡ arcs_of self.now.sizes log }
-        ensures few { (length result < self.now.sizes.tolimit) × (self.now.sizes.tolimit ≤ 65534) }
+        ensures few { length result < self.now.sizes.tolimit }
+        ensures limit { self.now.sizes.tolimit ≤ 65534 }
     {
-        let _ = &self.sizes;
+        let _ = &self.sizes; // what is known of the sizes bounds the arcs
         Arcs { gmon: self }
     }
 }

@@ -8,5 +8,9 @@ pub returns-clause-few : goal.returns-clause-few
 returns-clause-few c =
     let A : GmonValue → Type 0 = λ v. AreSizes v.sizes in
     let are = subst A c.self.view_is c.self.invariant.sizes in
-    let none = ap length (arcs_held c.self.inside c.args.self.now c.self.invariant c.self.view_is) in
-    (omega (arith, none, are.least), are.most)
+    omega (arith, ap length (arcs_held c.self.inside c.args.self.now c.self.invariant c.self.view_is), are.least)
+
+pub returns-clause-limit : goal.returns-clause-limit
+returns-clause-limit c =
+    let A : GmonValue → Type 0 = λ v. AreSizes v.sizes in
+    (subst A c.self.view_is c.self.invariant.sizes).most
