@@ -1,0 +1,9 @@
+pub mod Arcs
+pub mod Examples
+pub mod Held
+pub mod Image
+pub mod Lists
+pub mod Log
+pub mod Samples
+pub mod Sizes
+pub mod Value
