@@ -14,6 +14,7 @@ const EMPTY: [u8; 32] = [
 
 fn status(alloc: Global, host: &mut RealHost, texts: &[&str]) -> Result<u8, AllocError>
     requires { (outside_of host.old).is_writing ≡ false }
+    ensures { (outside_of host.new).is_writing ≡ false }
 {
     let mut words = Vec::new(alloc);
     for text in texts {
