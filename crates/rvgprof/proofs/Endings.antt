@@ -1,5 +1,5 @@
 -- Each way in which a command with one file ends.
-use Rattle.std.proofs.Common.{◌≡◌, ℕ, ◌<◌, ◌≤◌, false, List, [], ◌∷◌, length, take, Option, Some, None, Result, Ok, Err, inr, refl, sym, ap, subst, ◌∙◌}
+use Rattle.std.proofs.Common.{◌≡◌, ℕ, ◌<◌, false, List, [], ◌∷◌, length, take, Option, Some, None, Result, Ok, Err, inr, refl, sym, ap, subst, ◌∙◌}
 use Rattle.std.specs.Prelude.{IfSome, MatchOption, ⊤}
 use Rattle.std.specs.Global.{Vec}
 use Rattle.gp_base.specs.declared.refusal.GmonRefusal.{GmonRefusal}
