@@ -5,9 +5,11 @@
 
 pub mod grammar;
 pub mod reading;
+pub mod writing;
 
 pub use gp_base::GmonRefusal;
 pub use reading::read;
+pub use writing::write_run;
 
 #[cfg(test)]
 mod tests;

@@ -82,7 +82,7 @@ Did-nothing x = record {
 }
 
 -- acts of which closing a file is the last show front those before it
-Shows-files : (f g : Disk → Disk) (a b : Option Disk) → ((d : Disk) → (f d).files ≡ (g d).files) → Becomes f a b → Becomes (λ files. files) (option_map (λ d. (g d).files) a) (option_map (λ d. d.files) b)
+pub Shows-files : (f g : Disk → Disk) (a b : Option Disk) → ((d : Disk) → (f d).files ≡ (g d).files) → Becomes f a b → Becomes (λ files. files) (option_map (λ d. (g d).files) a) (option_map (λ d. d.files) b)
 Shows-files f g a None same p = tt
 Shows-files f g None (Some y) same p = absurd cc
 Shows-files f g (Some x) (Some y) same p =

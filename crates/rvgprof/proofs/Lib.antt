@@ -1,4 +1,10 @@
+pub mod Completed
+pub mod Numerals
+pub mod Reader
+pub mod Readings
 pub mod Replies
+pub mod Performing
 pub mod Endings
+pub mod Running
 pub mod LastLine
 pub mod Showable

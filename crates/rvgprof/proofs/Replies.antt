@@ -1,5 +1,5 @@
 -- What a command with one file is to answer, by what its file holds.
-use Rattle.std.proofs.Common.{◌≡◌, ℕ, ◌<◌, ◌≤◌, Bool, true, false, cond, ltb, List, [], ◌∷◌, length, Option, Some, None, Result, refl, sym, subst, ap, ◌∙◌, arith}
+use Rattle.std.proofs.Common.{◌≡◌, ℕ, ◌<◌, ◌≤◌, Bool, true, false, cond, ltb, List, [], ◌∷◌, length, Option, Some, None, Result, Ok, refl, sym, subst, ap, ◌∙◌, arith}
 use Rattle.std.specs.Prelude.{Contains}
 use Rattle.std.proofs.lemmas.Bool.{lt-ltb, le-ltb}
 use Rattle.gp_base.specs.declared.refusal.GmonRefusal.{GmonRefusal}
@@ -7,6 +7,14 @@ use Rattle.gp_base.specs.declared.limits.TheConstants.{MAX_PROFILE_BYTES, MAX_EL
 use Rattle.elf32_syms.specs.declared.refusal.ElfRefusal.{ElfRefusal}
 use Rattle.elf32_syms.specs.Refusals.{elf_refusal}
 use Rattle.elf32_syms.specs.Image.{image_of}
+use Rattle.elf32_syms.specs.declared.image.Image.{Image}
+use Rattle.mcount_arcs.specs.Sizes.{sizes_of}
+use Rattle.prof_machine.specs.declared.ending.RunSummary.{RunSummary}
+use Rattle.prof_machine.specs.declared.ending.StartRefusal.{StartRefusal}
+use Rattle.prof_machine.specs.declared.ending.StartRefusal.TheVariants as starts
+use Rattle.prof_machine.specs.declared.setup.Setup.{Setup}
+use Rattle.prof_machine.specs.Start.{final_world, start_refusal}
+use Rattle.prof_machine.specs.Value.{summary_of}
 use Rattle.host_port.specs.Act.{Out, File, content_of}
 use Rattle.text_lines.specs.Lines.{show_text, image_text}
 use Rattle.gmon_bsd.specs.Reading.{bsd_records}
@@ -14,9 +22,10 @@ use Rattle.rvgprof.specs.declared.outcome.Done.{Done}
 use Rattle.rvgprof.specs.declared.outcome.Fault.{Fault}
 use Rattle.rvgprof.specs.declared.outcome.Fault.TheVariants.{BadElf, BadProfile, TooLarge}
 use Rattle.rvgprof.specs.declared.words.Command.{Command}
-use Rattle.rvgprof.specs.declared.words.Command.TheVariants.{Show, Syms}
+use Rattle.rvgprof.specs.declared.words.Command.TheVariants.{Show, Syms, Run}
+use Rattle.rvgprof.specs.declared.options.RunOptions.{RunOptions}
 use Rattle.rvgprof.specs.Words.{command_of, inputs_of, name_of}
-use Rattle.rvgprof.specs.Answer.{Reply, refused, ended, file_refusal, show_accepted, show_reply, syms_accepted, syms_reply, command_reply, answer_of}
+use Rattle.rvgprof.specs.Answer.{Reply, refused, ended, file_refusal, show_accepted, show_reply, syms_accepted, syms_reply, run_accepted, run_acts, run_reply, run_started, setup_of, start_fault_of, command_reply, answer_of}
 use Rattle.rvgprof.specs.Contract.{NothingBefore}
 
 -- The words name one file, of at most `limit` bytes, and what it holds decides the reply.
@@ -77,6 +86,48 @@ syms_refused word bytes refusal short e = syms_within word bytes short ∙ ap (s
 pub syms_ended : (word : ℕ) (bytes : List ℕ) → length bytes ≤ MAX_ELF_BYTES → elf_refusal bytes ≡ None → syms_reply word bytes ≡ ended (Out (image_text (image_of bytes)) ∷ [])
 syms_ended word bytes short e = syms_within word bytes short ∙ ap (syms_accepted bytes) e
 
+not_started : (o : Option StartRefusal) (name : List ℕ) (word : ℕ) (image : Image) (bytes : List ℕ) (setup : Setup) → NothingBefore (word ∷ []) word (run_started name image bytes setup o).ending
+not_started None name word image bytes setup = tt
+not_started (Some starts.OutOfMemory) name word image bytes setup = tt
+not_started (Some (starts.ProgramTooLarge need end)) name word image bytes setup = tt
+not_started (Some (starts.EntryOutside entry)) name word image bytes setup = tt
+
+no_run_refused : (b : Bool) (word : ℕ) (name bytes : List ℕ) (setup : Setup) (o : Option ElfRefusal) → NothingBefore (word ∷ []) word (cond b (refused (TooLarge word MAX_ELF_BYTES)) (run_accepted name bytes setup o)).ending
+no_run_refused true word name bytes setup o = omega arith
+no_run_refused false word name bytes setup None = not_started (start_refusal (image_of bytes) setup) name word (image_of bytes) bytes setup
+no_run_refused false word name bytes setup (Some refusal) = (omega arith, tt)
+
+run_first : (word : ℕ) (name : List ℕ) (setup : Setup) (bytes : List ℕ) → NothingBefore (word ∷ []) word (run_reply word name setup bytes).ending
+unfolding run_reply
+run_first word name setup bytes = no_run_refused (ltb MAX_ELF_BYTES (length bytes)) word name bytes setup (elf_refusal bytes)
+
+run_large : (word : ℕ) (name : List ℕ) (setup : Setup) (bytes : List ℕ) → MAX_ELF_BYTES < length bytes → run_reply word name setup bytes ≡ refused (TooLarge word MAX_ELF_BYTES)
+unfolding run_reply
+run_large word name setup bytes long =
+    ap (λ (b : Bool). cond b (refused (TooLarge word MAX_ELF_BYTES)) (run_accepted name bytes setup (elf_refusal bytes))) (lt-ltb MAX_ELF_BYTES (length bytes) long)
+
+run_within : (word : ℕ) (name : List ℕ) (setup : Setup) (bytes : List ℕ) → length bytes ≤ MAX_ELF_BYTES → run_reply word name setup bytes ≡ run_accepted name bytes setup (elf_refusal bytes)
+unfolding run_reply
+run_within word name setup bytes short =
+    ap (λ (b : Bool). cond b (refused (TooLarge word MAX_ELF_BYTES)) (run_accepted name bytes setup (elf_refusal bytes))) (le-ltb MAX_ELF_BYTES (length bytes) short)
+
+pub run_refused : (word : ℕ) (name : List ℕ) (setup : Setup) (bytes : List ℕ) (refusal : ElfRefusal) → length bytes ≤ MAX_ELF_BYTES → elf_refusal bytes ≡ Some refusal → run_reply word name setup bytes ≡ refused (BadElf refusal)
+run_refused word name setup bytes refusal short e = run_within word name setup bytes short ∙ ap (run_accepted name bytes setup) e
+
+run_by_start : (word : ℕ) (name : List ℕ) (setup : Setup) (bytes : List ℕ) → length bytes ≤ MAX_ELF_BYTES → elf_refusal bytes ≡ None → run_reply word name setup bytes ≡ run_started name (image_of bytes) bytes setup (start_refusal (image_of bytes) setup)
+run_by_start word name setup bytes short e = run_within word name setup bytes short ∙ ap (run_accepted name bytes setup) e
+
+pub run_unstarted : (word : ℕ) (name : List ℕ) (setup : Setup) (bytes : List ℕ) (refusal : StartRefusal) → length bytes ≤ MAX_ELF_BYTES → elf_refusal bytes ≡ None → start_refusal (image_of bytes) setup ≡ Some refusal
+    → run_reply word name setup bytes ≡ refused (start_fault_of refusal)
+run_unstarted word name setup bytes refusal short e s = run_by_start word name setup bytes short e ∙ ap (run_started name (image_of bytes) bytes setup) s
+
+pub run_finished : (word : ℕ) (name : List ℕ) (setup : Setup) (bytes : List ℕ) (d : Done) → length bytes ≤ MAX_ELF_BYTES → elf_refusal bytes ≡ None → start_refusal (image_of bytes) setup ≡ None
+    → summary_of (sizes_of (image_of bytes).text) (final_world (image_of bytes) bytes setup) ≡ d.run
+    → run_reply word name setup bytes ≡ record { ending = Ok d; acts = run_acts name setup.rate (sizes_of (image_of bytes).text) (final_world (image_of bytes) bytes setup) }
+run_finished word name setup bytes d short e s summary =
+    run_by_start word name setup bytes short e ∙ ap (run_started name (image_of bytes) bytes setup) s
+    ∙ ap (λ (r : Option RunSummary). record { ending = Ok (record { run = r }); acts = run_acts name setup.rate (sizes_of (image_of bytes).text) (final_world (image_of bytes) bytes setup) }) summary
+
 first_of : (words : List (List ℕ)) (command : Command) (word : ℕ) (ending : Result Done Fault) → command_of words ≡ Some command → inputs_of (Some command) ≡ word ∷ []
     → NothingBefore (word ∷ []) word ending → NothingBefore (inputs_of (command_of words)) word ending
 first_of words command word ending said is h =
@@ -96,4 +147,12 @@ syms_file words elf said = record {
   input = subst (λ (o : Option Command). Contains (inputs_of o) elf) (sym said) (0, omega arith, refl);
   first = λ bytes. first_of words (Syms elf) elf (syms_reply elf bytes).ending said refl (syms_first elf bytes);
   large = syms_large elf;
+}
+
+pub run_file : (words : List (List ℕ)) (elf gmon : ℕ) (options : RunOptions) → command_of words ≡ Some (Run elf gmon options) → OneFile words elf MAX_ELF_BYTES (run_reply elf (name_of words gmon) (setup_of options))
+run_file words elf gmon options said = record {
+  answer = λ files. ap (command_reply words files) said;
+  input = subst (λ (o : Option Command). Contains (inputs_of o) elf) (sym said) (0, omega arith, refl);
+  first = λ bytes. first_of words (Run elf gmon options) elf (run_reply elf (name_of words gmon) (setup_of options) bytes).ending said refl (run_first elf (name_of words gmon) (setup_of options) bytes);
+  large = run_large elf (name_of words gmon) (setup_of options);
 }

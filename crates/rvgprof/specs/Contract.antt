@@ -1,12 +1,13 @@
 -- What the program owes after each answer.
-use Rattle.std.specs.Prelude.{◌≡◌, ℕ, ◌<◌, ◌≤◌, false, List, [], ◌∷◌, ◌++◌, length, take, Result, Ok, Err, ◌⊎◌, MatchOption, IfSome, Contains, ⊤}
+use Rattle.std.specs.Prelude.{◌≡◌, ◌≢◌, ℕ, ◌<◌, ◌≤◌, false, List, [], ◌∷◌, ◌++◌, length, take, Result, Ok, Err, OnOk, OnErr, ◌⊎◌, MatchOption, IfSome, Contains, ⊤}
 use Rattle.std.specs.List.{AllByRecursion}
 use Rattle.host_port.specs.Act.{Act, Write, Out, File}
 use Rattle.host_port.specs.Act.{Err as Complain}
-use Rattle.host_port.specs.Outside.{Outside, Shows, Rose}
+use Rattle.host_port.specs.Outside.{Outside, Did, Shows, Rose}
+use Rattle.host_port.specs.Host.{Writes}
 use Rattle.rvgprof.specs.declared.outcome.Done.{Done}
 use Rattle.rvgprof.specs.declared.outcome.Fault.{Fault}
-use Rattle.rvgprof.specs.declared.outcome.Fault.TheVariants.{Usage, BadElf, BadProfile, ReadFault, WriteFault, OutOfMemory, TooLarge}
+use Rattle.rvgprof.specs.declared.outcome.Fault.TheVariants.{Usage, BadElf, BadProfile, ReadFault, WriteFault, OutOfMemory, TooLarge, ProgramTooLarge, EntryOutside}
 use Rattle.rvgprof.specs.Words.{command_of, inputs_of}
 use Rattle.rvgprof.specs.Texts.{last_line}
 use Rattle.rvgprof.specs.Answer.{answer_of}
@@ -40,6 +41,8 @@ NothingBefore inputs word (Err (TooLarge refused limit)) = word ≤ refused
 NothingBefore inputs word (Err (ReadFault fault)) = ⊤
 NothingBefore inputs word (Err WriteFault) = ⊤
 NothingBefore inputs word (Err OutOfMemory) = ⊤
+NothingBefore inputs word (Err (ProgramTooLarge need end)) = ⊤
+NothingBefore inputs word (Err (EntryOutside entry)) = ⊤
 
 -- what was done, where the program answers so
 abbrev pub Owes : List (List ℕ) → List File → List Act → Result Done Fault → Type 0
@@ -51,6 +54,8 @@ Owes words files done (Err Usage) = (Err Usage ≡ (answer_of words files).endin
 Owes words files done (Err (BadElf refusal)) = (Err (BadElf refusal) ≡ (answer_of words files).ending) × (done ≡ (answer_of words files).acts)
 Owes words files done (Err (BadProfile refusal word)) = (Err (BadProfile refusal word) ≡ (answer_of words files).ending) × (done ≡ (answer_of words files).acts)
 Owes words files done (Err (TooLarge word limit)) = (Err (TooLarge word limit) ≡ (answer_of words files).ending) × (done ≡ (answer_of words files).acts)
+Owes words files done (Err (ProgramTooLarge need end)) = (Err (ProgramTooLarge need end) ≡ (answer_of words files).ending) × (done ≡ (answer_of words files).acts)
+Owes words files done (Err (EntryOutside entry)) = (Err (EntryOutside entry) ≡ (answer_of words files).ending) × (done ≡ (answer_of words files).acts)
 
 -- no call of the kinds that read and write failed
 pub record NothingFailed (old new : Outside) : Type 0 where
@@ -67,6 +72,8 @@ HasCause words old new (Err Usage) = NothingFailed old new
 HasCause words old new (Err (BadElf refusal)) = NothingFailed old new
 HasCause words old new (Err (BadProfile refusal word)) = NothingFailed old new
 HasCause words old new (Err (TooLarge word limit)) = NothingFailed old new
+HasCause words old new (Err (ProgramTooLarge need end)) = NothingFailed old new
+HasCause words old new (Err (EntryOutside entry)) = NothingFailed old new
 
 -- the whole line, or a front of it where complaining failed
 abbrev pub LineEnds : List ℕ → List ℕ → Outside → Outside → Type 0
@@ -77,6 +84,16 @@ LineEnds line whole old new =
 abbrev pub WhereTold : Outside → Outside → (List File → Type 0) → Type 0
 WhereTold old new P = MatchOption new.disk ⊤ (λ _. IfSome old.disk (λ d. P d.files))
 
+-- no file is being written, after every answer but a write fault
+abbrev pub IsShut : Result Done Fault → Outside → Type 0
+IsShut result new = result ≢ Err WriteFault → new.is_writing ≡ false
+
+-- the acts were done in order and nothing else; after a failure a part of them
+pub record Performs {T E : Type 0} (acts : List Act) (old new : Outside) (result : Result T E) : Type 0 where
+  pub done : OnOk result (Did acts old new)
+  pub part : OnErr result ((done : List Act) × IsPart done acts × Shows done old new)
+  pub counts : Writes old new result
+
 -- what stands before the last line
 pub record Acted (words : List (List ℕ)) (old new : Outside) (result : Result Done Fault) : Type 0 where
   -- the acts that were done, the last perhaps in part
@@ -85,7 +102,7 @@ pub record Acted (words : List (List ℕ)) (old new : Outside) (result : Result 
   pub owes : WhereTold old new (λ files. Owes words files done result)
   pub cause : HasCause words old new result
   pub err : new.err_faults ≡ old.err_faults
-  pub shut : new.is_writing ≡ false
+  pub shut : IsShut result new
 
 pub record Answered (words : List (List ℕ)) (old new : Outside) (result : Result Done Fault) : Type 0 where
   pub done : List Act
@@ -95,5 +112,4 @@ pub record Answered (words : List (List ℕ)) (old new : Outside) (result : Resu
   pub owes : WhereTold old new (λ files. Owes words files done result)
   pub cause : HasCause words old new result
   pub ends : LineEnds line (last_line words result) old new
-  -- no file is being written
-  pub shut : new.is_writing ≡ false
+  pub shut : IsShut result new

@@ -2,9 +2,14 @@
 #![tactic(auto)]
 
 mod complaints;
+mod end_line;
+mod numbers;
+mod options;
 pub mod outcome;
 mod profile_file;
 mod refusals;
+mod run;
+mod run_words;
 mod show;
 mod syms;
 pub mod top;

@@ -35,7 +35,7 @@ pub fn show<H: Host>(
         Err(refusal) => return Err(profile_fault(refusal, gmon)),
     };
     match show_records(&records, host) {
-        Ok(()) => Ok(Done {}),
+        Ok(()) => Ok(Done { run: None }),
         Err(_) => Err(Fault::WriteFault),
     }
 }

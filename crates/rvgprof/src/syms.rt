@@ -29,7 +29,7 @@ pub fn syms<H: Host>(alloc: Global, words: &[String], elf: u32, host: &mut H) ->
         Err(refusal) => return Err(elf_fault(refusal)),
     };
     match show_image(&image, host) {
-        Ok(()) => Ok(Done {}),
+        Ok(()) => Ok(Done { run: None }),
         Err(_) => Err(Fault::WriteFault),
     }
 }

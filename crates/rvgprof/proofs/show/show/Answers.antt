@@ -4,7 +4,7 @@ use Rattle.text_lines.specs.Lines.{show_text}
 use Rattle.gmon_bsd.specs.Reading.{bsd_records}
 use Rattle.rvgprof.specs.Answer.{file_refusal}
 use Rattle.rvgprof.proofs.Replies.{show_file, show_refused, show_ended}
-use Rattle.rvgprof.proofs.Endings.{not_loaded, no_profile, printed, not_printed, load_understood, profile_understood}
+use Rattle.rvgprof.proofs.Endings.{not_loaded, no_profile, printed_all, not_printed, load_understood, profile_understood}
 use Rattle.rvgprof.proofs.show.show.Goals as goal
 
 pub returns-in-Err-clause-acted : goal.returns-in-Err-clause-acted
@@ -29,7 +29,7 @@ returns-in-Ok-show_records-clause-acted g c =
     let loads = rw c.name_at.ensures at c.in-Ok.ensures in
     let accepted = rw c.as_slice.ensures.value at c.in-Ok-read_profile.ensures.accepted in
     let puts = rw (c.in-Ok-read_profile.ensures.records, c.as_slice.ensures.value) at c.in-Ok-show_records.ensures in
-    printed words c.args.gmon MAX_PROFILE_BYTES (show_text (bsd_records bytes.items)) _ _ _ bytes _ (show_file words c.args.gmon c.requires.said)
+    printed_all words c.args.gmon MAX_PROFILE_BYTES (show_text (bsd_records bytes.items)) _ _ _ bytes (show_file words c.args.gmon c.requires.said)
     c.requires.idle loads (show_ended c.args.gmon bytes.items loads.within accepted) puts
 
 pub returns-clause-acted : goal.returns-clause-acted

@@ -4,7 +4,7 @@ use Rattle.text_lines.specs.Lines.{image_text}
 use Rattle.elf32_syms.specs.Refusals.{elf_refusal}
 use Rattle.elf32_syms.specs.Image.{image_of}
 use Rattle.rvgprof.proofs.Replies.{syms_file, syms_refused, syms_ended}
-use Rattle.rvgprof.proofs.Endings.{not_loaded, no_program, printed, not_printed, load_understood, elf_understood}
+use Rattle.rvgprof.proofs.Endings.{not_loaded, no_program, printed_all, not_printed, load_understood, elf_understood}
 use Rattle.rvgprof.proofs.syms.syms.Goals as goal
 
 pub returns-in-Err-clause-acted : goal.returns-in-Err-clause-acted
@@ -29,7 +29,7 @@ returns-in-Ok-show_image-clause-acted g c =
     let loads = rw c.name_at.ensures at c.in-Ok.ensures in
     let accepted = rw c.as_slice.ensures.value at c.in-Ok-read.ensures.accepted in
     let puts = rw (c.in-Ok-read.ensures.image, c.as_slice.ensures.value) at c.in-Ok-show_image.ensures in
-    printed words c.args.elf MAX_ELF_BYTES (image_text (image_of bytes.items)) _ _ _ bytes _ (syms_file words c.args.elf c.requires.said)
+    printed_all words c.args.elf MAX_ELF_BYTES (image_text (image_of bytes.items)) _ _ _ bytes (syms_file words c.args.elf c.requires.said)
     c.requires.idle loads (syms_ended c.args.elf bytes.items loads.within accepted) puts
 
 pub returns-clause-acted : goal.returns-clause-acted

@@ -1,0 +1,5 @@
+pub mod Starting
+pub mod Executing
+pub mod Turning
+pub mod Driving
+pub mod Meaning

@@ -1,0 +1,18 @@
+//! The machine that is profiled: harts that take turns on one memory under a budget of instructions,
+//! with the clock of the profiling runtime.
+#![tactic(auto)]
+
+pub mod ending;
+pub mod laws;
+mod layout;
+pub mod machine;
+pub mod setup;
+
+pub use ending::{End, RunSummary, StartRefusal, Turned};
+pub use machine::Run;
+pub use setup::{Plan, Setup};
+
+#[cfg(test)]
+mod examples;
+#[cfg(test)]
+mod tests;
