@@ -3,7 +3,7 @@
 ghost use Rattle.std.specs.Prelude.{◌≡◌, ◌+◌, ◌%◌, ◌^◌, ◌<◌, ◌≤◌, ◌==◌, ◌&&◌, ◌↔◌, ℕ, length, map, None, Some, IfOk, IfErr, OnOk, IsOk, IsSome, IsTrue, slice_set, if◌then◌else◌};
 ghost use Rattle.std.specs.List.{range_with_len};
 ghost use Rattle.elf32_syms.specs.Image.{IsWithinLimits};
-ghost use Rattle.host_port.specs.Outside.{Outside, Did, KeepsCounts};
+ghost use Rattle.host_port.specs.Outside.{Outside, Did, KeepsCounts, KeepsInput};
 ghost use Rattle.rv_step.specs.Registers.{Registers};
 ghost use Rattle.mcount_arcs.specs.Sizes.{is_in, sizes_of, text_of};
 ghost use Rattle.mcount_arcs.specs.Value.{ticked};
@@ -105,6 +105,7 @@ impl Run {
             → Did (turn_of self.old.setup w hart).prints first (H.outside host.new)) }
         ensures counts { OnOk result (KeepsCounts (H.outside host.old) (H.outside host.new)) }
         ensures writing { (H.outside host.new).is_writing ≡ (H.outside host.old).is_writing }
+        ensures input { KeepsInput (H.outside host.old) (H.outside host.new) }
         ensures keeps { Keeps self.old self.new }
 
         // No instruction prints, so that no call on the host can fail.
@@ -114,7 +115,7 @@ impl Run {
         ensures left { self.old.retired < self.old.setup.budget }
         ensures onward { IsLive self.new → self.new.retired ≡ self.old.retired + 1 }
     {
-        let _ = &host;
+        let _ = &host; // no instruction reaches it
         let regs = &mut self.harts[hart as usize];
         let trap = execute(regs, &mut self.ram);
         let pc = regs.pc();
@@ -134,6 +135,7 @@ impl Run {
             → Did (driven self.old.setup w).prints first (H.outside host.new)) }
         ensures counts { OnOk result (KeepsCounts (H.outside host.old) (H.outside host.new)) }
         ensures writing { (H.outside host.new).is_writing ≡ (H.outside host.old).is_writing }
+        ensures input { KeepsInput (H.outside host.old) (H.outside host.new) }
         ensures keeps { Keeps self.old self.new }
         ensures calm { IsOk result }
     {
@@ -163,7 +165,9 @@ impl Run {
     /// What is told of a run that has ended.
     pub fn summary(&self) -> RunSummary
         requires { IsSome self.now.ending }
-        ensures { (w : World) → StandsFor w self.now → summary_of self.now.gmon.sizes w ≡ Some result }
+        ensures told { (w : World) → StandsFor w self.now → summary_of self.now.gmon.sizes w ≡ Some result }
+        ensures end { self.now.ending ≡ Some result.end }
+        ensures retired { result.retired ≡ self.now.retired }
     {
         RunSummary {
             end: self.ending.unwrap(),

@@ -57,7 +57,7 @@ returns-in-Ok-perform-clause-acted g c =
       sizes = c.in-Ok-start.ensures.sizes;
     } in
     run_done words c.args.elf c.args.gmon c.args.options _ _ _ bytes c.in-Ok-read.image c.as_slice-2.result.now c.setup.result c.in-Ok-start.run' c.perform.new.run c.summary.result
-    c.requires.said c.requires.idle loads started (rw c.name_at-2.ensures at c.in-Ok-perform.ensures.performs) c.in-Ok-perform.ensures.stands c.in-Ok-perform.ensures.sizes c.summary.ensures
+    c.requires.said c.requires.idle loads started (rw c.name_at-2.ensures at c.in-Ok-perform.ensures.performs) c.in-Ok-perform.ensures.stands c.in-Ok-perform.ensures.sizes c.summary.ensures.told
 
 pub returns-clause-acted : goal.returns-clause-acted
 returns-clause-acted g c =

@@ -1,5 +1,5 @@
 use Rattle.std.proofs.Common.{◌≡◌, ◌+◌, ◌-◌, ◌<◌, ◌≤◌, None, refl, sym, ap, ◌∙◌, arith}
-use Rattle.host_port.proofs.Laws.{KeepsCounts-same, KeepsCounts-then}
+use Rattle.host_port.proofs.Laws.{KeepsCounts-same, KeepsCounts-then, KeepsInput-same, KeepsInput-then}
 use Rattle.prof_machine.specs.Value.{RunValue}
 use Rattle.prof_machine.proofs.Driving.{is_ended, is_going, says_first, says_last, says_more, stands_first, stands_last, stands_more}
 use Rattle.prof_machine.proofs.machine.Run.drive.Goals as goal
@@ -14,6 +14,7 @@ loop-end-init g c = record {
   says = λ w first stands did. says_first c.args.self.now.setup w first _ _ (omega arith) did;
   counts = KeepsCounts-same _;
   writing = refl;
+  input = KeepsInput-same _;
 }
 
 pub loop-end-preserved : goal.loop-end-preserved
@@ -34,6 +35,7 @@ loop-end-preserved g c =
       says = λ w first st did. says_more c.loop-end.self.setup setup w first _ _ _ i.keeps.setup i.one more (t.says _ first (i.stands w st) (i.says w first st did));
       counts = KeepsCounts-then _ _ _ i.counts t.counts;
       writing = t.writing ∙ i.writing;
+      input = KeepsInput-then _ _ _ i.input t.input;
     }
 
 pub returns-in-Ended-clause-stands : goal.returns-in-Ended-clause-stands

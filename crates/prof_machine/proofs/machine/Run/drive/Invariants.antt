@@ -1,5 +1,5 @@
 use Rattle.std.proofs.Common.{◌≡◌, ◌≤◌, ◌-◌}
-use Rattle.host_port.specs.Outside.{Outside, Did, KeepsCounts}
+use Rattle.host_port.specs.Outside.{Outside, Did, KeepsCounts, KeepsInput}
 use Rattle.prof_machine.specs.World.{World}
 use Rattle.prof_machine.specs.Plan.{planned}
 use Rattle.prof_machine.specs.Value.{IsLive, Keeps, StandsFor}
@@ -16,6 +16,7 @@ invariant-loop-end g l =
       says : (w : World) (first : Outside) → StandsFor w l.initial.self → Did w.prints first (g.H.Host.outside l.initial.host) → Did (planned l.initial.self.setup w (l.self.retired - l.initial.self.retired)).prints first (g.H.Host.outside l.host);
       counts : KeepsCounts (g.H.Host.outside l.initial.host) (g.H.Host.outside l.host);
       writing : (g.H.Host.outside l.host).is_writing ≡ (g.H.Host.outside l.initial.host).is_writing;
+      input : KeepsInput (g.H.Host.outside l.initial.host) (g.H.Host.outside l.host);
     }
 
 abbrev pub decreases-loop-end : goal.decreases-loop-end
