@@ -20,7 +20,9 @@ fn status(alloc: Global, host: &mut RealHost, texts: &[&str]) -> Result<u8, Allo
     for text in texts {
         words.push(String::from_str(alloc, text)?)?;
     }
-    Ok(match rvgprof(alloc, words.as_slice(), host) {
+    let outcome = rvgprof(alloc, words.as_slice(), host);
+    let _ = host.close_output(); // a write fault leaves a file in writing
+    Ok(match outcome {
         Ok(done) => done.status(),
         Err(fault) => fault.status(),
     })
