@@ -44,10 +44,6 @@ first_prints_none : (image : Image) (bytes : List ℕ) (setup : Setup) → (star
 unfolding start_of
 first_prints_none image bytes setup = refl
 
--- the first world of the run
-abbrev first_world : Image → List ℕ → Setup → World
-first_world image given setup = start_of image given setup
-
 -- the world in which it ends, and what it has done by then
 abbrev last_world : List ℕ → RunOptions → World
 last_world bytes options = final_world (image_of bytes) bytes (setup_of options)
