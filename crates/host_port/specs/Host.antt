@@ -3,6 +3,9 @@ use Rattle.std.specs.Prelude.{◌≡◌, ℕ, ◌<◌, ◌≤◌, true, false, L
 use Rattle.host_port.specs.Act.{Act, Disk, content_of, Create, Write, Close, Out}
 use Rattle.host_port.specs.Act.{Err as Complain}
 use Rattle.host_port.specs.Outside.{Outside, Becomes, Did, KeepsInput, Rose}
+-- where bytes go: to the file that is being written, or to one of the two outputs
+pub use Rattle.host_port.specs.declared.side.Side.{Side}
+pub use Rattle.host_port.specs.declared.side.Side.TheVariants.{File, Output, ErrorOutput}
 
 -- a call of the kind that reads: only read_faults may rise, and exactly where the call failed
 pub record Reads {T E : Type 0} (old new : Outside) (result : Result T E) : Type 0 where
@@ -51,7 +54,7 @@ pub record Creates {T E : Type 0} (name : List ℕ) (old new : Outside) (result 
   pub failed : OnErr result (Did [] old new)
   pub closed_input : new.is_open ≡ false
 
--- a front of the piece, of at least one byte; after a failure nothing
+-- a prefix of the piece, of at least one byte; after a failure nothing
 pub record Takes {E : Type 0} (act : List ℕ → Act) (piece : List ℕ) (old new : Outside) (result : Result ℕ E) : Type 0 where
   pub done : IfOk result (λ n. Did (act (take n piece) ∷ []) old new)
   pub some : IfOk result (λ n. 1 ≤ n)
@@ -64,19 +67,13 @@ pub record Closes (old new : Outside) : Type 0 where
   pub done : Did (Close ∷ []) old new
   pub input : KeepsInput old new
 
--- the whole piece; after a failure a front of it that isn't the whole
+-- the whole piece; after a failure a prefix of it that isn't the whole
 pub record TakesAll {T E : Type 0} (act : List ℕ → Act) (piece : List ℕ) (old new : Outside) (result : Result T E) : Type 0 where
   pub done : OnOk result (Did (act piece ∷ []) old new)
   pub part : OnErr result ((n : ℕ) × (n < length piece) × Did (act (take n piece) ∷ []) old new)
   pub input : KeepsInput old new
 
--- where bytes go
-pub data Side : Type 0 where
-  -- to the file that is being written
-  File : Side
-  Output : Side
-  ErrorOutput : Side
-
+-- the act by which bytes go to a side
 abbrev pub act_of : Side → List ℕ → Act
 act_of File bytes = Write bytes
 act_of Output bytes = Out bytes
@@ -88,7 +85,7 @@ CountsOf File old new result = Writes old new result
 CountsOf Output old new result = Writes old new result
 CountsOf ErrorOutput old new result = Complains old new result
 
--- the whole text went to a side; after a failure a front of it that isn't the whole
+-- the whole text went to a side; after a failure a prefix of it that isn't the whole
 pub record Puts {T E : Type 0} (side : Side) (text : List ℕ) (old new : Outside) (result : Result T E) : Type 0 where
   pub takes : TakesAll (act_of side) text old new result
   pub counts : CountsOf side old new result

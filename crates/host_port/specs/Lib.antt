@@ -1,6 +1,8 @@
 pub mod Act
 pub mod Outside
 pub mod Host
+pub mod Buffered
+pub mod Performing
 pub mod Load
 pub mod Entries
 pub mod Memory

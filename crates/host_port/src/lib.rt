@@ -1,15 +1,18 @@
-//! The outside of the program: a port that hosts implement, two hosts in memory, and the loops that
-//! load a file and that write or print a whole piece.
+//! The outside of the program: a port that hosts implement, two hosts in memory, the loops that load a
+//! file and that write or print a whole piece, and buffers for what is written and printed.
 #![tactic(auto)]
 
 pub mod acts;
+pub mod buffers;
 mod files;
 pub mod host;
 pub mod loading;
 pub mod mem_host;
 pub mod never_fails;
 pub mod pieces;
+pub mod side;
 
+pub use buffers::{OutBuf, PrintBuf};
 pub use host::{Failed, Host};
 pub use loading::{LoadRefusal, load};
 pub use mem_host::MemHost;

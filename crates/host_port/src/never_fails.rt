@@ -74,6 +74,8 @@ impl Host for NeverFails {
         ensures opens { Opens name.now (outside_of self.old) (outside_of self.new) result }
         ensures counts { Reads (outside_of self.old) (outside_of self.new) result }
         ensures succeeds { IsOk result }
+        ensures tells { self.new.tells ≡ self.old.tells }
+        ensures files { self.new.files ≡ self.old.files }
     {
         self.input = Some(files::start_of(self.entries.as_slice(), name));
         Ok(())
@@ -85,6 +87,8 @@ impl Host for NeverFails {
         ensures moves { Moves buf.old buf.new (outside_of self.old) (outside_of self.new) result }
         ensures counts { Reads (outside_of self.old) (outside_of self.new) result }
         ensures succeeds { IsOk result }
+        ensures tells { self.new.tells ≡ self.old.tells }
+        ensures files { self.new.files ≡ self.old.files }
     {
         match &mut self.input {
             Some(place) => Ok(files::read_from(self.entries.as_slice(), place, buf)),
@@ -97,6 +101,7 @@ impl Host for NeverFails {
         ensures creates { Creates _name.now (outside_of self.old) (outside_of self.new) result }
         ensures counts { Writes (outside_of self.old) (outside_of self.new) result }
         ensures succeeds { IsOk result }
+        ensures tells { self.new.tells ≡ false }
     {
         self.input = None;
         self.tells = false;
@@ -110,6 +115,8 @@ impl Host for NeverFails {
         ensures takes { Takes Write piece.now (outside_of self.old) (outside_of self.new) result }
         ensures counts { Writes (outside_of self.old) (outside_of self.new) result }
         ensures succeeds { result ≡ Ok (length piece.now) }
+        ensures tells { self.new.tells ≡ self.old.tells }
+        ensures files { self.new.files ≡ self.old.files }
     {
         let _ = &self.tells;
         Ok(piece.len())
@@ -119,6 +126,8 @@ impl Host for NeverFails {
         ensures closes { Closes (outside_of self.old) (outside_of self.new) }
         ensures counts { Writes (outside_of self.old) (outside_of self.new) result }
         ensures succeeds { IsOk result }
+        ensures tells { self.new.tells ≡ self.old.tells }
+        ensures files { self.new.files ≡ self.old.files }
     {
         self.is_writing = false;
         Ok(())
@@ -129,6 +138,8 @@ impl Host for NeverFails {
         ensures takes { Takes Out piece.now (outside_of self.old) (outside_of self.new) result }
         ensures counts { Writes (outside_of self.old) (outside_of self.new) result }
         ensures succeeds { result ≡ Ok (length piece.now) }
+        ensures tells { self.new.tells ≡ self.old.tells }
+        ensures files { self.new.files ≡ self.old.files }
     {
         let _ = &self.tells;
         Ok(piece.len())
@@ -139,6 +150,8 @@ impl Host for NeverFails {
         ensures takes { Takes Complain piece.now (outside_of self.old) (outside_of self.new) result }
         ensures counts { Complains (outside_of self.old) (outside_of self.new) result }
         ensures succeeds { result ≡ Ok (length piece.now) }
+        ensures tells { self.new.tells ≡ self.old.tells }
+        ensures files { self.new.files ≡ self.old.files }
     {
         let _ = &self.tells;
         Ok(piece.len())

@@ -1,4 +1,5 @@
 use super::*;
+use std::alloc::{AllocError, Global};
 use std::test::Fail;
 
 const TEN: [u8; 10] = *b"0123456789";
@@ -73,5 +74,118 @@ fn marked_calls_fail(rt: HostRuntime) -> Result<(), Fail> {
     assert_eq!(rt; host.close_output(), Err(Failed));
     assert_eq!(rt; host.printed(), b"zero".as_slice());
     assert_eq!(rt; host.errors(), b"two".as_slice());
+    Ok(())
+}
+
+/// A text of so many bytes, each of which tells where it stands.
+fn text_of(alloc: Global, len: usize) -> Result<Vec<u8>, AllocError> {
+    let mut text = Vec::new(alloc);
+    for i in 0..len {
+        text.push((i % 251) as u8)?;
+    }
+    Ok(text)
+}
+
+/// Puts pieces of a text that have these lengths, and answers how many bytes were left out.
+fn put_cut<H: Host>(
+    text: &[u8],
+    cut: &[usize],
+    buffer: &mut PrintBuf,
+    host: &mut H,
+) -> Result<usize, Failed> {
+    let mut rest = text;
+    for len in cut {
+        let (piece, behind) = rest.split_at((*len).min(rest.len()));
+        buffer.put(host, piece)?;
+        rest = behind;
+    }
+    Ok(rest.len())
+}
+
+#[test]
+fn bytes_are_printed_in_order_through_a_buffer(rt: HostRuntime) -> Result<(), Fail> {
+    let text = text_of(rt.alloc(), 100_000)?;
+    let cuts: [(&[usize], usize); 7] = [
+        (&[1], 0),
+        (&[4_095], 0),
+        (&[4_096], 0),
+        (&[4_097], 4_097),
+        (&[0], 0),
+        (&[4_000, 96], 0),
+        (&[4_000, 97, 5_000, 0, 90_000], 99_097),
+    ];
+    for (cut, gone) in cuts {
+        let mut host = MemHost::new(rt.alloc());
+        let mut buffer = PrintBuf::new();
+        let left = put_cut(text.as_slice(), cut, &mut buffer, &mut host).map_err(|_| "put")?;
+        assert_eq!(rt;
+            host.printed().len(),
+            gone,
+            "printed before the flush of {cut:?}"
+        );
+        buffer.flush(&mut host).map_err(|_| "flush")?;
+        assert_eq!(rt;
+            host.printed().len().checked_add(left),
+            Some(text.len()),
+            "length of {cut:?}"
+        );
+        assert!(rt;
+            text.as_slice().starts_with(host.printed()),
+            "bytes of {cut:?}"
+        );
+    }
+    Ok(())
+}
+
+#[test]
+fn a_file_is_written_through_a_buffer(rt: HostRuntime) -> Result<(), Fail> {
+    let mut host = MemHost::new(rt.alloc());
+    let mut buffer = OutBuf::new();
+    host.create_output("out").map_err(|_| "create")?;
+    buffer.put(&mut host, b"ab").map_err(|_| "put")?;
+    buffer.put(&mut host, b"c").map_err(|_| "put more")?;
+    buffer.flush(&mut host).map_err(|_| "flush")?;
+    assert_eq!(rt; host.file("out"), Some(b"abc".as_slice()));
+    Ok(())
+}
+
+/// Puts a text in pieces of 100 bytes, and flushes.
+fn put_in_pieces<H: Host>(text: &[u8], buffer: &mut PrintBuf, host: &mut H) -> Result<(), Failed> {
+    for piece in text.chunks(100) {
+        buffer.put(host, piece)?;
+    }
+    buffer.flush(host)
+}
+
+#[test]
+fn a_failed_call_leaves_a_prefix_and_nothing_pending(rt: HostRuntime) -> Result<(), Fail> {
+    let text = text_of(rt.alloc(), 12_000)?;
+    for call in 0..4 {
+        let mut host = MemHost::new(rt.alloc());
+        host.fail_at(call)?;
+        let mut buffer = PrintBuf::new();
+        let outcome = put_in_pieces(text.as_slice(), &mut buffer, &mut host);
+        let printed = host.printed().to_vec(rt.alloc())?;
+        assert_eq!(rt; outcome.is_ok(), call == 3, "call {call} fails, of three");
+        assert_eq!(rt;
+            printed.len() < text.len(),
+            call < 3,
+            "printed before call {call}"
+        );
+        assert!(rt;
+            text.as_slice().starts_with(printed.as_slice()),
+            "a prefix before call {call}"
+        );
+        assert_eq!(rt;
+            buffer.flush(&mut host),
+            Ok(()),
+            "nothing is pending after call {call}"
+        );
+        assert_eq!(rt;
+            host.printed().len(),
+            printed.len(),
+            "flushed after call {call}"
+        );
+    }
     Ok(())
 }

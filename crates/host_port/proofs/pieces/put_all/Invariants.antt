@@ -1,12 +1,12 @@
 use Rattle.std.proofs.Common.{◌≡◌, length}
-use Rattle.host_port.specs.Act.{Out}
+use Rattle.host_port.specs.Host.{act_of}
 use Rattle.host_port.proofs.Piecewise.{Along}
-use Rattle.host_port.proofs.pieces.out_all_of.Given as goal
+use Rattle.host_port.proofs.pieces.put_all.Given as goal
 
 abbrev pub invariant-loop-rest : goal.invariant-loop-rest
 invariant-loop-rest g l =
     record {
-      far : Along Out l.piece l.rest (g.H.Host.outside l.initial.host) (g.H.Host.outside l.host);
+      far : Along (act_of l.side) l.piece l.rest (g.H.Host.outside l.initial.host) (g.H.Host.outside l.host);
       idle : length l.piece ≡ 0 → l.host ≡ l.initial.host;
     }
 

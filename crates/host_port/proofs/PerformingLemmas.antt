@@ -1,0 +1,80 @@
+-- Acts that are done one after the other.
+use Rattle.std.proofs.Common.{ℕ, List, [], ◌∷◌, ◌++◌, take, Result, Ok, Err as Error, inl, inr, refl, subst, ◌∙◌}
+use Rattle.host_port.specs.Act.{Act, Create, Close, Err}
+use Rattle.host_port.specs.Outside.{Outside, Did, Rose, KeepsCounts}
+use Rattle.host_port.specs.Host.{Creates, Closes, Puts, Side, File, Output, ErrorOutput, act_of, Writes}
+use Rattle.host_port.specs.Performing.{FailedAt, FaultOf, ActFailed, Performs}
+use Rattle.host_port.proofs.Laws.{Did-then, KeepsCounts-then}
+
+-- acts that were done stand in front
+pub failed_behind : (act : Act) (front part acts : List Act) → FailedAt act part acts → FailedAt act (front ++ part) (front ++ acts)
+failed_behind act [] part acts h = h
+failed_behind act (first ∷ front) part acts h = inl (refl, failed_behind act front part acts h)
+
+-- and more are due behind
+pub failed_before : (act : Act) (part acts more : List Act) → FailedAt act part acts → FailedAt act part (acts ++ more)
+failed_before act part [] more h = absurd h
+failed_before act [] (due ∷ acts) more h = h
+failed_before act (first ∷ part) (due ∷ acts) more (inl h) = inl (h.0, failed_before act part acts more h.1)
+failed_before act (first ∷ part) (due ∷ acts) more (inr h) = inr h
+
+fault_since : (act : Act) (old mid new : Outside) (err : ℕ) → KeepsCounts old mid → FaultOf act mid new err → FaultOf act old new err
+fault_since (Err bytes) old mid new err k f = (subst (λ (n : ℕ). Rose n err) k.err f.0, f.1 ∙ k.write)
+fault_since act old mid new err k f = (subst (λ (n : ℕ). Rose n new.write_faults) k.write f.0, f.1 ∙ k.err)
+
+pub failed_since : (act : Act) (old mid new : Outside) (err : ℕ) → KeepsCounts old mid → ActFailed act mid new err → ActFailed act old new err
+failed_since act old mid new err k f = record { own = fault_since act old mid new err k f.own; read = f.read ∙ k.read }
+
+-- acts were done, and then others, or others failed
+pub performs_then : {T U E : Type 0} (front back : List Act) (x y z : Outside) (u : T) (r : Result U E) → Performs {T = T} {E = E} front x y (Ok u) → Performs back y z r → Performs (front ++ back) x z r
+performs_then front back x y z u (Ok v) p q = record {
+  done = Did-then front back x y z p.done q.done;
+  kept = KeepsCounts-then x y z p.kept q.kept;
+  failed = tt;
+}
+performs_then front back x y z u (Error e) p q =
+    let part = q.failed.0 in
+    let act = q.failed.1 in
+    record {
+      done = tt;
+      kept = tt;
+      failed = (front ++ part, act, failed_behind act front part back q.failed.2, Did-then front part x y z p.done q.failed.3, failed_since act x y z z.err_faults p.kept q.failed.4);
+    }
+
+-- acts failed that others follow
+pub performs_front : {T U E : Type 0} (front back : List Act) (x y : Outside) (e : E) → Performs {T = T} front x y (Error e) → Performs {T = U} (front ++ back) x y (Error e)
+performs_front front back x y e p =
+    let part = p.failed.0 in
+    let act = p.failed.1 in
+    record { done = tt; kept = tt; failed = (part, act, failed_before act part front back p.failed.2, p.failed.3, p.failed.4) }
+
+-- one act: a text that goes to a side, a file that is created, one that is closed
+
+put_failed : {T E : Type 0} (side : Side) (text : List ℕ) (x y : Outside) (e : E) → Puts {T = T} side text x y (Error e) → ActFailed (act_of side text) x y y.err_faults
+put_failed File text x y e puts = record { own = (puts.counts.own, puts.counts.err); read = puts.counts.read }
+put_failed Output text x y e puts = record { own = (puts.counts.own, puts.counts.err); read = puts.counts.read }
+put_failed ErrorOutput text x y e puts = record { own = (puts.counts.own, puts.counts.write); read = puts.counts.read }
+
+put_kept : {T E : Type 0} (side : Side) (text : List ℕ) (x y : Outside) (u : T) → Puts {T = T} {E = E} side text x y (Ok u) → KeepsCounts x y
+put_kept File text x y u puts = record { read = puts.counts.read; write = puts.counts.own; err = puts.counts.err }
+put_kept Output text x y u puts = record { read = puts.counts.read; write = puts.counts.own; err = puts.counts.err }
+put_kept ErrorOutput text x y u puts = record { read = puts.counts.read; write = puts.counts.write; err = puts.counts.own }
+
+put_part : {T E : Type 0} (side : Side) (text : List ℕ) (x y : Outside) (e : E) → Puts {T = T} side text x y (Error e) → (n : ℕ) × FailedAt (act_of side text) (act_of side (take n text) ∷ []) (act_of side text ∷ []) × Did (act_of side (take n text) ∷ []) x y
+put_part File text x y e puts = (puts.takes.part.0, inr ((puts.takes.part.0, puts.takes.part.1, refl), refl, refl), puts.takes.part.2)
+put_part Output text x y e puts = (puts.takes.part.0, inr ((puts.takes.part.0, puts.takes.part.1, refl), refl, refl), puts.takes.part.2)
+put_part ErrorOutput text x y e puts = (puts.takes.part.0, inr ((puts.takes.part.0, puts.takes.part.1, refl), refl, refl), puts.takes.part.2)
+
+pub puts_performs : {T E : Type 0} (side : Side) (text : List ℕ) (x y : Outside) (r : Result T E) → Puts side text x y r → Performs (act_of side text ∷ []) x y r
+puts_performs {T} {E} side text x y (Ok u) puts = record { done = puts.takes.done; kept = put_kept {T = T} {E = E} side text x y u puts; failed = tt }
+puts_performs {T} {E} side text x y (Error e) puts =
+    let part = put_part {T = T} {E = E} side text x y e puts in
+    record { done = tt; kept = tt; failed = (act_of side (take part.0 text) ∷ [], act_of side text, part.1, part.2, put_failed {T = T} {E = E} side text x y e puts) }
+
+pub create_performs : {T E : Type 0} (name : List ℕ) (x y : Outside) (r : Result T E) → Creates name x y r → Writes x y r → Performs (Create name ∷ []) x y r
+create_performs name x y (Ok u) creates counts = record { done = creates.done; kept = record { read = counts.read; write = counts.own; err = counts.err }; failed = tt }
+create_performs name x y (Error e) creates counts = record { done = tt; kept = tt; failed = ([], Create name, refl, creates.failed, record { own = (counts.own, counts.err); read = counts.read }) }
+
+pub close_performs : {T E : Type 0} (x y : Outside) (r : Result T E) → Closes x y → Writes x y r → Performs (Close ∷ []) x y r
+close_performs x y (Ok u) closes counts = record { done = closes.done; kept = record { read = counts.read; write = counts.own; err = counts.err }; failed = tt }
+close_performs x y (Error e) closes counts = record { done = tt; kept = tt; failed = (Close ∷ [], Close, inr (tt, refl, refl), closes.done, record { own = (counts.own, counts.err); read = counts.read }) }
