@@ -5,7 +5,8 @@ use Rattle.std.proofs.lemmas.List.{take-append-le, append-nil, take_all, take_mo
 use Rattle.std.specs.List.{flat_map}
 use Rattle.std.proofs.lemmas.List.Concat.{flat_map-append}
 use Rattle.host_port.specs.Outside.{Outside, Did}
-use Rattle.host_port.specs.Host.{Side, act_of, Puts}
+use Rattle.host_port.specs.Host.{act_of, Puts}
+use Rattle.host_port.specs.declared.side.Side.{Side}
 use Rattle.host_port.specs.Buffered.{Adds}
 use Rattle.host_port.proofs.Laws.{KeepsInput-same, KeepsInput-then}
 use Rattle.host_port.proofs.Piecewise.{Did-join, Did-none}
@@ -132,3 +133,13 @@ pub adds_flushed : {T E : Type 0} (side : Side) (bytes p q : List ℕ) (x y z : 
 adds_flushed {T} {E} side bytes p q x y z u r none first second =
     subst (λ (v : List ℕ). Adds side bytes p v x z r) (sym none)
     (adds_then side [] bytes p [] [] x y z u r (subst (λ (v : List ℕ). Adds {T = T} {E = E} side [] p v x y (Ok u)) none first) (puts_adds side bytes y z r second))
+
+-- a text was put where nothing was pending, and then what was pending went out
+pub flushed : {T E : Type 0} (side : Side) (text p q v : List ℕ) (x y z : Outside) (u : T) (r : Result T E) → p ≡ [] → v ≡ [] → Adds {T = T} {E = E} side text p q x y (Ok u) → Adds side [] q v y z r → Puts side text x z r
+flushed {T} {E} side text p q v x y z u r start none put out =
+    let all : Adds side text p v x z r = subst (λ (t : List ℕ). Adds side t p v x z r) (append-nil text) (adds_then side text [] p q v x y z u r put out) in
+    adds_puts side text x z r v none (subst (λ (w : List ℕ). Adds side text w v x z r) start all)
+
+-- a text was put where nothing was pending, and a call failed
+pub stopped : {T E : Type 0} (side : Side) (text p q : List ℕ) (x y : Outside) (e : E) → p ≡ [] → Adds {T = T} side text p q x y (Err e) → Puts {T = T} side text x y (Err e)
+stopped {T} {E} side text p q x y e start put = adds_puts {T = T} side text x y (Err e) q put.emptied (subst (λ (w : List ℕ). Adds {T = T} side text w q x y (Err e)) start put)

@@ -2,7 +2,8 @@
 use Rattle.std.proofs.Common.{◌≡◌, ℕ, ◌+◌, ◌<◌, ◌≤◌, List, [], ◌++◌, length, take, get_or, Result, Ok, Err, refl}
 use Rattle.std.specs.List.{flat_map}
 use Rattle.host_port.specs.Outside.{Outside}
-use Rattle.host_port.specs.Host.{Side, act_of, CountsOf, Takes, Puts}
+use Rattle.host_port.specs.Host.{act_of, CountsOf, Takes, Puts}
+use Rattle.host_port.specs.declared.side.Side.{Side}
 use Rattle.host_port.proofs.Piecewise.{Along, along_end, along_fail}
 use Rattle.host_port.proofs.SideLemmas.{side_piecewise, counts_then, counts_kept, counts_fail}
 use Rattle.host_port.proofs.BufferLemmas.{adds_nothing, adds_then, adds_front, adds_more, adds_stop, adds_all, adds_puts, puts_adds}

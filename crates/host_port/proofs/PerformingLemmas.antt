@@ -2,7 +2,9 @@
 use Rattle.std.proofs.Common.{ℕ, List, [], ◌∷◌, ◌++◌, take, Result, Ok, Err as Error, inl, inr, refl, subst, ◌∙◌}
 use Rattle.host_port.specs.Act.{Act, Create, Close, Err}
 use Rattle.host_port.specs.Outside.{Outside, Did, Rose, KeepsCounts}
-use Rattle.host_port.specs.Host.{Creates, Closes, Puts, Side, File, Output, ErrorOutput, act_of, Writes}
+use Rattle.host_port.specs.Host.{Creates, Closes, Puts, act_of, Writes}
+use Rattle.host_port.specs.declared.side.Side.{Side}
+use Rattle.host_port.specs.declared.side.Side.TheVariants.{File, Output, ErrorOutput}
 use Rattle.host_port.specs.Performing.{FailedAt, FaultOf, ActFailed, Performs}
 use Rattle.host_port.proofs.Laws.{Did-then, KeepsCounts-then}
 

@@ -2,7 +2,9 @@
 use Rattle.std.proofs.Common.{ℕ, List, [], ◌∷◌, Result, Ok, Err, refl, subst, ◌∙◌}
 use Rattle.host_port.specs.Outside.{Outside, Did, Rose, KeepsCounts}
 use Rattle.host_port.specs.Buffered.{IsReady}
-use Rattle.host_port.specs.Host.{Side, File, Output, ErrorOutput, act_of, CountsOf}
+use Rattle.host_port.specs.Host.{act_of, CountsOf}
+use Rattle.host_port.specs.declared.side.Side.{Side}
+use Rattle.host_port.specs.declared.side.Side.TheVariants.{File, Output, ErrorOutput}
 use Rattle.host_port.proofs.Piecewise.{IsPiecewise, write_piecewise, out_piecewise, err_piecewise}
 
 pub side_piecewise : (side : Side) → IsPiecewise (act_of side)

@@ -1,7 +1,9 @@
 -- Bytes that go to a side in pieces, of which some are pending.
 use Rattle.std.specs.Prelude.{◌≡◌, ℕ, ◌<◌, true, List, [], ◌∷◌, ◌++◌, length, take, Result, OnOk, OnErr, ⊤}
 use Rattle.host_port.specs.Outside.{Outside, Did, KeepsInput}
-use Rattle.host_port.specs.Host.{Side, File, Output, ErrorOutput, act_of, CountsOf}
+use Rattle.host_port.specs.Host.{act_of, CountsOf}
+use Rattle.host_port.specs.declared.side.Side.{Side}
+use Rattle.host_port.specs.declared.side.Side.TheVariants.{File, Output, ErrorOutput}
 
 -- bytes may go to the side: to a file where one is being written
 abbrev pub IsReady : Side → Outside → Type 0

@@ -4,8 +4,8 @@ use Rattle.host_port.specs.Act.{Act, Disk, content_of, Create, Write, Close, Out
 use Rattle.host_port.specs.Act.{Err as Complain}
 use Rattle.host_port.specs.Outside.{Outside, Becomes, Did, KeepsInput, Rose}
 -- where bytes go: to the file that is being written, or to one of the two outputs
-pub use Rattle.host_port.specs.declared.side.Side.{Side}
-pub use Rattle.host_port.specs.declared.side.Side.TheVariants.{File, Output, ErrorOutput}
+use Rattle.host_port.specs.declared.side.Side.{Side}
+use Rattle.host_port.specs.declared.side.Side.TheVariants.{File, Output, ErrorOutput}
 
 -- a call of the kind that reads: only read_faults may rise, and exactly where the call failed
 pub record Reads {T E : Type 0} (old new : Outside) (result : Result T E) : Type 0 where

@@ -15,7 +15,8 @@ use Rattle.prof_machine.specs.declared.ending.StartRefusal.TheVariants as starts
 use Rattle.prof_machine.specs.Start.{IsRefusal as IsStartRefusal}
 use Rattle.host_port.specs.Act.{Act, Out, Disk, File, content_of, disk_after, printed, complained, writes_after}
 use Rattle.host_port.specs.Outside.{Outside, Becomes, Did, Shows, Rose}
-use Rattle.host_port.specs.Host.{Puts, Output}
+use Rattle.host_port.specs.Host.{Puts}
+use Rattle.host_port.specs.declared.side.Side.TheVariants.{Output}
 use Rattle.host_port.specs.Load.{Loads}
 use Rattle.host_port.proofs.Laws.{Did-then, Shows-did, Becomes-by, Becomes-then}
 use Rattle.rvgprof.specs.declared.outcome.Done.{Done}

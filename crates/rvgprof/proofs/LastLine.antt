@@ -4,7 +4,8 @@ use Rattle.std.specs.Prelude.{IfSome, MatchOption, ⊤}
 use Rattle.host_port.specs.Act.{Disk, File}
 use Rattle.host_port.specs.Act.{Err as Complain}
 use Rattle.host_port.specs.Outside.{Outside, Becomes, Did, Rose}
-use Rattle.host_port.specs.Host.{Puts, ErrorOutput}
+use Rattle.host_port.specs.Host.{Puts}
+use Rattle.host_port.specs.declared.side.Side.TheVariants.{ErrorOutput}
 use Rattle.host_port.proofs.Laws.{Shows-then-err}
 use Rattle.rvgprof.specs.declared.outcome.Done.{Done}
 use Rattle.rvgprof.specs.declared.outcome.Fault.{Fault}

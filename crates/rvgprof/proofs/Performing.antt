@@ -4,7 +4,8 @@ use Rattle.std.proofs.Common.{append_assoc}
 use Rattle.std.proofs.lemmas.List.{append-nil}
 use Rattle.host_port.specs.Act.{Act, Create, Write, Close, Disk, disk_after, writes_after}
 use Rattle.host_port.specs.Outside.{Outside, Becomes, Did, Shows, Rose, KeepsCounts}
-use Rattle.host_port.specs.Host.{Creates, Closes, Puts, File, Writes}
+use Rattle.host_port.specs.Host.{Creates, Closes, Puts, Writes}
+use Rattle.host_port.specs.declared.side.Side.TheVariants.{File}
 use Rattle.host_port.proofs.Laws.{Did-then, Did-nothing, Shows-did, Shows-files, disk_after-append, printed-append, complained-append, writes_after-append}
 use Rattle.gmon_bsd.specs.Run.{run_text, text_of}
 use Rattle.mcount_arcs.specs.declared.sizes.Sizes.{Sizes}

@@ -1,7 +1,7 @@
 //! The lines that the commands print.
 #![tactic(auto)]
 
-mod lines;
+mod line;
 pub mod program;
 pub mod records;
 

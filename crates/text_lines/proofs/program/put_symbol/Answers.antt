@@ -1,0 +1,32 @@
+use Rattle.std.proofs.Common.{◌++◌}
+use Rattle.std.specs.Prelude.{codes}
+use Rattle.std.proofs.lemmas.Result.{err_from_is_err_and}
+use Rattle.host_port.specs.declared.side.Side.TheVariants.{Output}
+use Rattle.host_port.proofs.BufferLemmas.{adds_then, adds_front}
+use Rattle.text_lines.specs.Lines.{symbol_line, symbol_front}
+use Rattle.text_lines.proofs.program.put_symbol.Goals as goal
+
+pub returns-in_err-put : goal.returns-in_err-put
+unfolding symbol_line
+returns-in_err-put g c =
+    let p = err_from_is_err_and c.from_residual.result c.from_residual.ensures.1 in
+    let s = c.args.symbol.now in
+    let front = rw (c.bytes.ensures.bytes, c.symbol.ensures) at c.in_err-put.ensures.adds in
+    rw p.1 (adds_front Output (symbol_front s ++ s.name) (codes "\n") _ _ _ _ _ (adds_front Output (symbol_front s) s.name _ _ _ _ _ front))
+
+pub returns-in_err-put-2 : goal.returns-in_err-put-2
+unfolding symbol_line
+returns-in_err-put-2 g c =
+    let p = err_from_is_err_and c.from_residual-in_err-put-2.result c.from_residual-in_err-put-2.ensures.1 in
+    let s = c.args.symbol.now in
+    let front = rw (c.bytes.ensures.bytes, c.symbol.ensures) at c.in_ok-put.ensures.adds in
+    let name = rw c.as_slice.ensures at c.in_err-put-2.ensures.adds in
+    rw p.1 (adds_front Output (symbol_front s ++ s.name) (codes "\n") _ _ _ _ _ (adds_then Output (symbol_front s) s.name _ _ _ _ _ _ _ _ front name))
+
+pub returns : goal.returns
+unfolding symbol_line
+returns g c =
+    let s = c.args.symbol.now in
+    let front = rw (c.bytes.ensures.bytes, c.symbol.ensures) at c.in_ok-put.ensures.adds in
+    let name = rw c.as_slice.ensures at c.in_ok-put-2.ensures.adds in
+    adds_then Output (symbol_front s ++ s.name) (codes "\n") _ _ _ _ _ _ _ _ (adds_then Output (symbol_front s) s.name _ _ _ _ _ _ _ _ front name) c.put-3.ensures.adds
