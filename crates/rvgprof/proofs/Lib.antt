@@ -2,9 +2,9 @@ pub mod Completed
 pub mod Numerals
 pub mod Reader
 pub mod Readings
-pub mod Replies
+pub mod Standing
+pub mod Accepting
 pub mod Performing
-pub mod Endings
 pub mod Running
 pub mod LastLine
 pub mod Showable

@@ -3,5 +3,7 @@ pub mod Options
 pub mod Words
 pub mod HalfWay
 pub mod Texts
+pub mod Course
 pub mod Answer
 pub mod Contract
+pub mod Standing

@@ -3,6 +3,7 @@
 
 mod complaints;
 mod end_line;
+mod inputs;
 mod numbers;
 mod options;
 pub mod outcome;

@@ -1,23 +1,24 @@
 //! The command `run`.
 
-ghost use Rattle.std.specs.Prelude.{◌≡◌, ◌≢◌, ◌≤◌, [], false, Err, map, string_bytes, Some, IsSome, OnOk, length};
+ghost use Rattle.std.specs.Prelude.{◌≡◌, [], false, map, string_bytes, IsSome, OnOk};
 ghost use Rattle.prof_machine.specs.Plan.{driven};
 ghost use Rattle.prof_machine.specs.Setup.{IsSetup};
 ghost use Rattle.prof_machine.specs.Value.{IsLive, StandsFor};
 ghost use Rattle.prof_machine.specs.World.{World};
-ghost use Rattle.rvgprof.specs.declared.words.Command.TheVariants.{Run as RunCommand};
-ghost use Rattle.rvgprof.specs.Answer.{run_acts, setup_of};
+ghost use Rattle.rvgprof.specs.Answer.{run_acts, run_course, setup_of};
 ghost use Rattle.rvgprof.specs.Options.{AreWithinLimits};
-ghost use Rattle.rvgprof.specs.Words.{command_of};
-ghost use Rattle.rvgprof.specs.Contract.{Acted, Performs};
+ghost use Rattle.rvgprof.specs.Words.{name_of};
+ghost use Rattle.host_port.specs.Performing.{Performs};
+ghost use Rattle.rvgprof.specs.Contract.{Acted};
+ghost use Rattle.rvgprof.specs.Standing.{Stands};
 
 use crate::options::RunOptions;
 use crate::outcome::{Done, Fault};
-use crate::refusals::{elf_fault, load_fault, start_fault};
+use crate::inputs::read_program;
+use crate::refusals::start_fault;
 use crate::words::name_at;
 use gmon_bsd::write_run;
-use gp_base::limits::MAX_ELF_BYTES;
-use host_port::{Failed, Host, load};
+use host_port::{Failed, Host};
 use prof_machine::{Plan, Run, Setup};
 use std::alloc::Global;
 
@@ -30,18 +31,14 @@ pub fn run<H: Host>(
     options: RunOptions,
     host: &mut H,
 ) -> Result<Done, Fault>
-    requires idle { (H.outside host.old).is_writing ≡ false }
-    requires said { command_of (map string_bytes words.now) ≡ Some (RunCommand elf gmon options) }
-    ensures acted { Acted (map string_bytes words.now) (H.outside host.old) (H.outside host.new) result }
-    ensures understood { result ≢ Err Fault.Usage }
+    requires stands { Stands (map string_bytes words.now) (H.outside host.old) (H.outside host.old) 0 []
+        (run_course elf (name_of (map string_bytes words.now) gmon) (setup_of options)) }
+    requires within { AreWithinLimits options }
+    ensures { Acted (map string_bytes words.now) (H.outside host.old) (H.outside host.new) result }
 {
-    let bytes = match load(alloc, host, name_at(words, elf), MAX_ELF_BYTES) {
-        Ok(bytes) => bytes,
-        Err(refusal) => return Err(load_fault(refusal, elf, MAX_ELF_BYTES)),
-    };
-    let image = match elf32_syms::read(alloc, bytes.as_slice()) {
-        Ok(image) => image,
-        Err(refusal) => return Err(elf_fault(refusal)),
+    let (bytes, image) = match read_program(alloc, words, elf, host) {
+        Ok(read) => read,
+        Err(fault) => return Err(fault),
     };
     let mut run = match Run::start(alloc, &image, bytes.as_slice(), setup(options)) {
         Ok(run) => run,
