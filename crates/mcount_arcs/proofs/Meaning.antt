@@ -1,17 +1,19 @@
 -- What follows from the definitions on logs.
-use Rattle.std.proofs.Common.{◌≡◌, ℕ, zero, suc, ◌+◌, ◌-◌, ◌*◌, ◌/◌, ◌≤◌, ◌<◌, Bool, true, false, ◌&&◌, leb, ltb, List, [], ◌∷◌, ◌++◌, length, take, map, cond, Option, None, Some, if◌then◌else◌, inl, inr, refl, sym, ap, ◌∙◌, subst, arith, length-take}
+use Rattle.std.proofs.Common.{◌≡◌, ℕ, zero, suc, ◌+◌, ◌-◌, ◌*◌, ◌/◌, ◌≤◌, ◌<◌, Bool, true, false, ◌&&◌, leb, ltb, List, [], ◌∷◌, ◌++◌, length, take, map, cond, Option, None, Some, if◌then◌else◌, inl, inr, refl, sym, ap, ◌∙◌, subst, arith, length-take, length-append, get_or}
 use Rattle.std.specs.List.{filter, filter_map, cons_option}
-use Rattle.std.proofs.lemmas.Bool.{cases_Bool, cases_eq, and_parts, leb-true, ltb-true, le-leb, lt-leb, false≢true}
-use Rattle.std.proofs.lemmas.List.{map-append, take_all}
+use Rattle.std.proofs.lemmas.Bool.{cases_Bool, cases_eq, cases_lt, and_parts, leb-true, ltb-true, le-leb, lt-leb, false≢true}
+use Rattle.std.proofs.lemmas.List.{map-append, take_all, take_more}
 use Rattle.mcount_arcs.specs.declared.sizes.Sizes.{Sizes}
 use Rattle.mcount_arcs.specs.declared.state.State.TheVariants.{On, Error}
-use Rattle.mcount_arcs.specs.Lists.{gather, last_of, longest_front_within}
-use Rattle.mcount_arcs.specs.Log.{LogEntry, Sample, Pair, IsLegal, IsLegalAfter, is_on, is_busy, mode_in, walk_in, pair_in, begun, distinct_count, entered, kept, kept_of, state_of}
-use Rattle.mcount_arcs.specs.Samples.{counted, counted_in}
-use Rattle.mcount_arcs.specs.Sizes.{is_in, text_of, bucket_range, AreSizes}
+use Rattle.mcount_arcs.specs.Lists.{distinct, gather, last_of, longest_front_within}
+use Rattle.mcount_arcs.specs.Log.{LogEntry, Sample, Pair, same_pair, IsLegal, IsLegalAfter, is_on, is_busy, mode_in, walk_in, pair_in, begun_calls, distinct_count, entered_calls, kept_calls, kept_front, state_of}
+use Rattle.mcount_arcs.specs.Samples.{counted_samples, counted_in}
+use Rattle.mcount_arcs.specs.Sizes.{is_in, text_span, bucket_range, AreSizes}
 use Rattle.mcount_arcs.specs.Arcs.{arcs_of}
-use Rattle.mcount_arcs.proofs.Logs.{arcs_of-nil, kept-nil, entered_of, state_by, arcs_of-kept}
+use Rattle.mcount_arcs.proofs.Logs.{arcs_of-nil, kept_calls-nil, entered_of, state_by, arcs_of-kept_calls}
 use Rattle.mcount_arcs.proofs.Buckets.{in_bucket}
+use Rattle.mcount_arcs.proofs.Distinct.{has}
+use Rattle.mcount_arcs.proofs.Chains.{distinct-old, distinct-new}
 
 -- ---- samples alone
 
@@ -26,24 +28,24 @@ is_on-samples pcs = ap (last_of true) (no_other_entry mode_in (λ pc. refl) pcs)
 is_busy-samples : (pcs : List ℕ) → is_busy (map Sample pcs) ≡ false
 is_busy-samples pcs = ap (last_of false) (no_other_entry walk_in (λ pc. refl) pcs)
 
-pub entered-samples : (z : Sizes) (pcs : List ℕ) → entered z (map Sample pcs) ≡ []
-unfolding entered
-entered-samples z pcs =
-    ap (λ (b : Bool). entered_of b (begun z (map Sample pcs))) (is_busy-samples pcs) ∙ no_other_entry (pair_in z) (λ pc. refl) pcs
+pub entered_calls-samples : (z : Sizes) (pcs : List ℕ) → entered_calls z (map Sample pcs) ≡ []
+unfolding entered_calls
+entered_calls-samples z pcs =
+    ap (λ (b : Bool). entered_of b (begun_calls z (map Sample pcs))) (is_busy-samples pcs) ∙ no_other_entry (pair_in z) (λ pc. refl) pcs
 
-pub kept-samples : (z : Sizes) (pcs : List ℕ) → kept z (map Sample pcs) ≡ []
-unfolding kept
-kept-samples z pcs = ap (kept_of z) (entered-samples z pcs)
+pub kept_calls-samples : (z : Sizes) (pcs : List ℕ) → kept_calls z (map Sample pcs) ≡ []
+unfolding kept_calls
+kept_calls-samples z pcs = ap (kept_front z) (entered_calls-samples z pcs)
 
 pub arcs_of-samples : (z : Sizes) (pcs : List ℕ) → arcs_of z (map Sample pcs) ≡ []
 arcs_of-samples z pcs =
-    arcs_of-kept z (map Sample pcs) [] (kept-samples z pcs ∙ sym (kept-nil z)) ∙ arcs_of-nil z
+    arcs_of-kept_calls z (map Sample pcs) [] (kept_calls-samples z pcs ∙ sym (kept_calls-nil z)) ∙ arcs_of-nil z
 
 pub state_of-samples : (z : Sizes) (pcs : List ℕ) → 0 < z.tolimit → state_of z (map Sample pcs) ≡ On
 unfolding state_of
 state_of-samples z pcs some =
-    ap (λ (b : Bool). state_by z.tolimit b (entered z (map Sample pcs)) (is_on (map Sample pcs))) (is_busy-samples pcs)
-    ∙ ap (λ (ps : List Pair). state_by z.tolimit false ps (is_on (map Sample pcs))) (entered-samples z pcs)
+    ap (λ (b : Bool). state_by z.tolimit b (entered_calls z (map Sample pcs)) (is_on (map Sample pcs))) (is_busy-samples pcs)
+    ∙ ap (λ (ps : List Pair). state_by z.tolimit false ps (is_on (map Sample pcs))) (entered_calls-samples z pcs)
     ∙ ap (state_by z.tolimit false []) (is_on-samples pcs)
     ∙ ap (λ (b : Bool). if b then Error else On) (lt-leb z.tolimit 0 some)
 
@@ -59,23 +61,23 @@ cons_if : (b : Bool) (pc : ℕ) (pcs : List ℕ) → cons_option (if b then Some
 cons_if true pc pcs = refl
 cons_if false pc pcs = refl
 
-gather-samples : (z : Sizes) (before pcs : List ℕ) → gather (counted_in z) (map Sample before) (map Sample pcs) ≡ filter (is_in (text_of z)) pcs
+gather-samples : (z : Sizes) (before pcs : List ℕ) → gather (counted_in z) (map Sample before) (map Sample pcs) ≡ filter (is_in (text_span z)) pcs
 gather-samples z before [] = refl
 gather-samples z before (pc ∷ pcs) =
-    let test = is_in (text_of z) pc in
-    let others : gather (counted_in z) (map Sample before ++ Sample pc ∷ []) (map Sample pcs) ≡ filter (is_in (text_of z)) pcs =
+    let test = is_in (text_span z) pc in
+    let others : gather (counted_in z) (map Sample before ++ Sample pc ∷ []) (map Sample pcs) ≡ filter (is_in (text_span z)) pcs =
     ap (λ (log : List LogEntry). gather (counted_in z) log (map Sample pcs)) (sym (map-append Sample before (pc ∷ []))) ∙ gather-samples z (before ++ pc ∷ []) pcs in
     ap (λ (b : Bool). cons_option (if b && test then Some pc else None) (gather (counted_in z) (map Sample before ++ Sample pc ∷ []) (map Sample pcs))) (is_on-samples before)
     ∙ ap (cons_option (if test then Some pc else None)) others
-    ∙ cons_if test pc (filter (is_in (text_of z)) pcs)
+    ∙ cons_if test pc (filter (is_in (text_span z)) pcs)
 
-pub counted-samples : (z : Sizes) (pcs : List ℕ) → counted z (map Sample pcs) ≡ filter (is_in (text_of z)) pcs
-unfolding counted
-counted-samples z pcs = gather-samples z [] pcs
+pub counted_samples-samples : (z : Sizes) (pcs : List ℕ) → counted_samples z (map Sample pcs) ≡ filter (is_in (text_span z)) pcs
+unfolding counted_samples
+counted_samples-samples z pcs = gather-samples z [] pcs
 
 -- ---- buckets
 
-pub some_bucket : (z : Sizes) (pc : ℕ) → AreSizes z → is_in (text_of z) pc ≡ true → (i : ℕ) × (i < z.counters) × (is_in (bucket_range z i) pc ≡ true)
+pub some_bucket : (z : Sizes) (pc : ℕ) → AreSizes z → is_in (text_span z) pc ≡ true → (i : ℕ) × (i < z.counters) × (is_in (bucket_range z i) pc ≡ true)
 some_bucket z pc are inside =
     let ends = and_parts (leb z.low pc) (ltb pc z.high) inside in
     let low : z.low ≤ pc = leb-true z.low pc ends.0 in
@@ -132,26 +134,55 @@ is_longest {X} (suc n) test xs k le within ok =
 abbrev has_places : Sizes → List Pair → Bool
 has_places z pairs = leb (distinct_count pairs) (z.tolimit - 1)
 
-pub kept-front : (z : Sizes) (log : List LogEntry) → kept z log ≡ take (length (kept z log)) (entered z log)
-unfolding kept
-kept-front z log = is_front (length (entered z log)) (has_places z) (entered z log) (omega arith)
+pub kept_calls-front : (z : Sizes) (log : List LogEntry) → kept_calls z log ≡ take (length (kept_calls z log)) (entered_calls z log)
+unfolding kept_calls
+kept_calls-front z log = is_front (length (entered_calls z log)) (has_places z) (entered_calls z log) (omega arith)
 
-pub kept-places : (z : Sizes) (log : List LogEntry) → distinct_count (kept z log) ≤ z.tolimit - 1
-unfolding kept
-kept-places z log =
-    leb-true (distinct_count (kept z log)) (z.tolimit - 1) (passes (length (entered z log)) (has_places z) (entered z log) (le-leb 0 (z.tolimit - 1) (omega arith)))
+pub kept_calls-places : (z : Sizes) (log : List LogEntry) → distinct_count (kept_calls z log) ≤ z.tolimit - 1
+unfolding kept_calls
+kept_calls-places z log =
+    leb-true (distinct_count (kept_calls z log)) (z.tolimit - 1) (passes (length (entered_calls z log)) (has_places z) (entered_calls z log) (le-leb 0 (z.tolimit - 1) (omega arith)))
 
-pub kept-longest : (z : Sizes) (log : List LogEntry) (n : ℕ) → n ≤ length (entered z log) → distinct_count (take n (entered z log)) ≤ z.tolimit - 1 → n ≤ length (kept z log)
-unfolding kept
-kept-longest z log n within places =
-    is_longest (length (entered z log)) (has_places z) (entered z log) n within (omega arith) (le-leb (distinct_count (take n (entered z log))) (z.tolimit - 1) places)
+pub kept_calls-longest : (z : Sizes) (log : List LogEntry) (n : ℕ) → n ≤ length (entered_calls z log) → distinct_count (take n (entered_calls z log)) ≤ z.tolimit - 1 → n ≤ length (kept_calls z log)
+unfolding kept_calls
+kept_calls-longest z log n within places =
+    is_longest (length (entered_calls z log)) (has_places z) (entered_calls z log) n within (omega arith) (le-leb (distinct_count (take n (entered_calls z log))) (z.tolimit - 1) places)
 
-pub kept-all : (z : Sizes) (log : List LogEntry) → distinct_count (entered z log) < z.tolimit → kept z log ≡ entered z log
-kept-all z log places =
-    let ps = entered z log in
+pub kept_calls-all : (z : Sizes) (log : List LogEntry) → distinct_count (entered_calls z log) < z.tolimit → kept_calls z log ≡ entered_calls z log
+kept_calls-all z log places =
+    let ps = entered_calls z log in
     let whole : take (length ps) ps ≡ ps = take_all (length ps) ps (omega arith) in
     let P : List Pair → Type 0 = λ qs. distinct_count qs ≤ z.tolimit - 1 in
-    let long = kept-longest z log (length ps) (omega arith) (subst P (sym whole) (omega arith)) in
-    let short : length (kept z log) ≤ length ps = omega (arith, ap length (kept-front z log), length-take (length (kept z log)) ps) in
-    let same : length (kept z log) ≡ length ps = omega arith in
-    kept-front z log ∙ ap (λ (k : ℕ). take k ps) same ∙ whole
+    let long = kept_calls-longest z log (length ps) (omega arith) (subst P (sym whole) (omega arith)) in
+    let short : length (kept_calls z log) ≤ length ps = omega (arith, ap length (kept_calls-front z log), length-take (length (kept_calls z log)) ps) in
+    let same : length (kept_calls z log) ≡ length ps = omega arith in
+    kept_calls-front z log ∙ ap (λ (k : ℕ). take k ps) same ∙ whole
+
+-- where the arcs ran out, every place is taken
+distinct_count-push : (ps : List Pair) (p : Pair) → distinct_count (ps ++ p ∷ []) ≤ distinct_count ps + 1
+distinct_count-push ps p = elim (cases_Bool (has same_pair p ps)) [
+  | inl there ↦ omega (arith, ap length (distinct-old ps p.slot p.to there))
+  | inr absent ↦ omega (arith, ap length (distinct-new ps p.slot p.to absent), length-append (distinct same_pair ps) (p ∷ []))
+]
+
+pub kept_calls-full_places : (z : Sizes) (log : List LogEntry) → 0 < z.tolimit → z.tolimit ≤ distinct_count (entered_calls z log) → distinct_count (kept_calls z log) ≡ z.tolimit - 1
+kept_calls-full_places z log some full =
+    let e = entered_calls z log in
+    let k = length (kept_calls z log) in
+    let front = kept_calls-front z log in
+    let places = kept_calls-places z log in
+    let short : k < length e = elim (cases_lt k (length e)) [
+      | inl lt ↦ lt
+      | inr ge ↦
+          let whole : kept_calls z log ≡ e = front ∙ take_all k e ge in
+          absurd (omega (arith, ap distinct_count whole))
+    ] in
+    let none : Pair = record { slot = 0; to = 0 } in
+    let next : take (k + 1) e ≡ kept_calls z log ++ get_or e k none ∷ [] = take_more e k none short ∙ ap (λ (ps : List Pair). ps ++ get_or e k none ∷ []) (sym front) in
+    elim (cases_lt (distinct_count (kept_calls z log)) (z.tolimit - 1)) [
+      | inl lt ↦
+          let fits : distinct_count (take (k + 1) e) ≤ z.tolimit - 1 = omega (arith, ap distinct_count next, distinct_count-push (kept_calls z log) (get_or e k none)) in
+          let long : k + 1 ≤ k = kept_calls-longest z log (k + 1) (omega arith) fits in
+          absurd (omega arith)
+      | inr ge ↦ omega arith
+    ]

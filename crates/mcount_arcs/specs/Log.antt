@@ -67,29 +67,33 @@ pair_in z (CallLost from to) = None
 pair_in z (CallIgnored from to) = None
 
 -- the calls that began, in order
-abbrev pub begun : Sizes → List LogEntry → List Pair
-begun z log = filter_map (pair_in z) log
+abbrev pub begun_calls : Sizes → List LogEntry → List Pair
+begun_calls z log = filter_map (pair_in z) log
 
 -- the calls that were entered to their end, in order
-unfoldable pub entered : Sizes → List LogEntry → List Pair
-entered z log = if is_busy log then without_last (begun z log) else begun z log
+unfoldable pub entered_calls : Sizes → List LogEntry → List Pair
+entered_calls z log = if is_busy log then without_last (begun_calls z log) else begun_calls z log
+
+-- the call that is being entered, if one is
+unfoldable pub pending_call : Sizes → List LogEntry → Option Pair
+pending_call z log = if is_busy log then Some (last_of (record { slot = 0; to = 0 }) (begun_calls z log)) else None
 
 -- how many different calls there are
 abbrev pub distinct_count : List Pair → ℕ
 distinct_count pairs = length (distinct same_pair pairs)
 
 -- the calls that the arcs count: as many from the first on as have a place, where one entry is no arc
-abbrev pub kept_of : Sizes → List Pair → List Pair
-kept_of z pairs = longest_front (λ front. nat_le (distinct_count front) (z.tolimit - 1)) pairs
+abbrev pub kept_front : Sizes → List Pair → List Pair
+kept_front z pairs = longest_front (λ front. nat_le (distinct_count front) (z.tolimit - 1)) pairs
 
-unfoldable pub kept : Sizes → List LogEntry → List Pair
-kept z log = kept_of z (entered z log)
+unfoldable pub kept_calls : Sizes → List LogEntry → List Pair
+kept_calls z log = kept_front z (entered_calls z log)
 
 -- the state of the arc table after the log
 unfoldable pub state_of : Sizes → List LogEntry → State
 state_of z log =
     if is_busy log then Busy else (
-    if nat_le z.tolimit (distinct_count (entered z log)) then Error else (
+    if nat_le z.tolimit (distinct_count (entered_calls z log)) then Error else (
     if is_on log then On else Off))
 
 -- the call site lies in the text
