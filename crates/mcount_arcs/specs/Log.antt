@@ -23,12 +23,8 @@ pub data LogEntry : Type 0 where
 
 -- the modes that were set
 abbrev pub mode_in : LogEntry → Option Bool
-mode_in (Sample pc) = None
 mode_in (Mode on) = Some on
-mode_in (Enter from to) = None
-mode_in WalkDone = None
-mode_in (CallLost from to) = None
-mode_in (CallIgnored from to) = None
+mode_in entry = None
 
 abbrev pub modes : List LogEntry → List Bool
 modes log = filter_map mode_in log
@@ -39,12 +35,9 @@ is_on log = last_of true (modes log)
 
 -- the begins of calls, as true, and their ends, as false
 abbrev pub walk_in : LogEntry → Option Bool
-walk_in (Sample pc) = None
-walk_in (Mode on) = None
 walk_in (Enter from to) = Some true
 walk_in WalkDone = Some false
-walk_in (CallLost from to) = None
-walk_in (CallIgnored from to) = None
+walk_in entry = None
 
 -- whether a call is being entered after the log: the last begin or end is a begin
 abbrev pub is_busy : List LogEntry → Bool
@@ -59,12 +52,8 @@ abbrev pub same_pair : Pair → Pair → Bool
 same_pair p q = (p.slot == q.slot) && (p.to == q.to)
 
 abbrev pub pair_in : Sizes → LogEntry → Option Pair
-pair_in z (Sample pc) = None
-pair_in z (Mode on) = None
 pair_in z (Enter from to) = Some (record { slot = slot_of z from; to = to })
-pair_in z WalkDone = None
-pair_in z (CallLost from to) = None
-pair_in z (CallIgnored from to) = None
+pair_in z entry = None
 
 -- the calls that began, in order
 abbrev pub begun_calls : Sizes → List LogEntry → List Pair

@@ -14,7 +14,6 @@ use Rattle.mcount_arcs.specs.declared.walk.Looked.TheVariants.{More, Counted, Ov
 use Rattle.mcount_arcs.specs.Log.{LogEntry, Enter, WalkDone, CallLost, CallIgnored, Pair, distinct_count, is_on, kept_calls, pending_call, state_of, IsLegal}
 use Rattle.mcount_arcs.specs.Samples.{buckets_of}
 use Rattle.mcount_arcs.specs.Sizes.{is_in, offset_of, slot_of, text_span}
-use Rattle.mcount_arcs.specs.Moves.{idle}
 use Rattle.mcount_arcs.specs.Arcs.{arcs_of, looks_of}
 use Rattle.mcount_arcs.specs.Image.{entries_of, fronts_of, index_in}
 
@@ -32,8 +31,8 @@ pub record GmonValue : Type 0 where
   pub walk : Option Walk
 
 -- the block of a runtime
-abbrev pub parts_of : GmonValue → Parts
-parts_of v = record { tos = v.tos; counters = v.counters; froms = v.froms }
+abbrev pub block_parts : GmonValue → Parts
+block_parts v = record { tos = v.tos; counters = v.counters; froms = v.froms }
 
 abbrev pub call_of : Walk → Pair
 call_of w = record { slot = w.slot; to = w.to }
@@ -70,18 +69,22 @@ logged from to (Walking w) = Enter from to
 logged from to Lost = CallLost from to
 logged from to Ignored = CallIgnored from to
 
-abbrev pub entered_by : Entered → GmonValue → GmonValue
-entered_by (Walking w) v = record v { state = Busy; walk = Some w }
-entered_by Lost v = v
-entered_by Ignored v = v
+abbrev pub with_answer : Entered → GmonValue → GmonValue
+with_answer (Walking w) v = record v { state = Busy; walk = Some w }
+with_answer Lost v = v
+with_answer Ignored v = v
 
 -- ---- a mode is set
 
+-- the state of the table when no call is being entered, and not all arcs ran out
+abbrev pub idle_state : Bool → State
+idle_state sampling = if sampling then On else Off
+
 abbrev pub switched_state : Bool → State → State
-switched_state on On = idle on
+switched_state on On = idle_state on
 switched_state on Busy = Busy
 switched_state on Error = Error
-switched_state on Off = idle on
+switched_state on Off = idle_state on
 
 abbrev pub switched : Bool → GmonValue → GmonValue
 switched on v = record v { sampling = on; state = switched_state on v.state }

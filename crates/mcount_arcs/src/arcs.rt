@@ -23,7 +23,7 @@ impl<'a> Model for Arcs<'a> {
 
     ghost Value = { List RawArc };
 
-    ghost use Rattle.mcount_arcs.specs.Left.{arcs_left, IsAmong};
+    ghost use Rattle.mcount_arcs.specs.ArcsLeft.{arcs_left, IsAmong};
 
     ghost view = { arcs_left };
 

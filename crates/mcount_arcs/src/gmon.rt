@@ -4,14 +4,14 @@ ghost use Rattle.std.specs.Prelude.{◌≡◌, ◌+◌, ◌*◌, ◌<◌, ◌≤
 ghost use Rattle.gmon_block.specs.Layout.{layout_of};
 ghost use Rattle.mcount_arcs.specs.Image.{block_image};
 ghost use Rattle.mcount_arcs.specs.Sizes.{IsText, AreSizes, site_of, sizes_of};
-ghost use Rattle.mcount_arcs.specs.Left.{AreZero};
+ghost use Rattle.mcount_arcs.specs.ArcsLeft.{AreZero};
 ghost use Rattle.mcount_arcs.specs.Log.{distinct_count, LogEntry, Mode, Sample, is_on, kept_calls, state_of};
 ghost use Rattle.mcount_arcs.specs.Samples.{bucket_of};
 ghost use Rattle.mcount_arcs.specs.Arcs.{arcs_of};
-ghost use Rattle.mcount_arcs.specs.Value.{parts_of, StandsFor, Looks, GoesToNext, walk_after, calls_after, ticked, meets, switched, logged, entered_by};
+ghost use Rattle.mcount_arcs.specs.Value.{block_parts, StandsFor, Looks, GoesToNext, walk_after, calls_after, ticked, meets, switched, logged, with_answer};
 
 use crate::arcs::Arcs;
-use crate::moves::{add_entry, count_entry};
+use crate::entries::{add_entry, count_entry};
 use crate::sizes::{GRAIN, Sizes};
 use crate::state::State;
 use crate::walk::{Entered, Looked, Walk};
@@ -48,9 +48,9 @@ impl Model for Gmon {
 
     ghost Value = { GmonValue };
 
-    ghost use Rattle.mcount_arcs.specs.Held.{value_of, IsHeld};
+    ghost use Rattle.mcount_arcs.specs.Held.{view_of, IsHeld};
 
-    ghost view = { value_of };
+    ghost view = { view_of };
 
     ghost invariant = { IsHeld };
 }
@@ -102,7 +102,7 @@ impl Gmon {
     pub fn enter(&mut self, from: u32, to: u32) -> Entered
         requires { self.old.calls < 4294967295 }
         ensures answer { result ≡ meets self.old.sizes self.old.state from to }
-        ensures changed { self.new ≡ entered_by result self.old }
+        ensures changed { self.new ≡ with_answer result self.old }
         ensures stands { (log : List LogEntry) → StandsFor log self.old → StandsFor (log ++ logged from to result ∷ []) self.new }
     {
         match self.state {
@@ -284,7 +284,7 @@ impl Gmon {
 
     /// The bytes of its block: the entries, the counters and the slots.
     pub fn block_bytes(&self) -> &[u8]
-        ensures value { result.now ≡ layout_of (parts_of self.now) }
+        ensures value { result.now ≡ layout_of (block_parts self.now) }
         ensures log { (log : List LogEntry) → StandsFor log self.now → result.now ≡ layout_of (block_image self.now.sizes log) }
         ensures size { length result.now ≡ 12 * self.now.sizes.tolimit + 2 * self.now.sizes.counters + 2 * self.now.sizes.slots }
     {

@@ -1,4 +1,4 @@
-use Rattle.mcount_arcs.proofs.Meaning.{kept_calls-front, kept_calls-places, kept_calls-longest, kept_calls-all}
+use Rattle.mcount_arcs.proofs.KeptCallLemmas.{kept_calls-front, kept_calls-places, kept_calls-longest, kept_calls-all}
 use Rattle.mcount_arcs.proofs.laws.longest_front_is_kept.Goals as goal
 
 pub returns : goal.returns

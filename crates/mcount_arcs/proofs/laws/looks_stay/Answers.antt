@@ -1,9 +1,10 @@
 use Rattle.std.proofs.Common.{arith, refl}
 use Rattle.mcount_arcs.specs.Log.{Sample, Mode, Enter, CallLost, CallIgnored, kept_calls}
-use Rattle.mcount_arcs.proofs.Calls.{more, kept_calls-quiet, kept_calls-entered_calls, entered_calls-enter, looks_of-kept_calls, looks_of-chain}
-use Rattle.mcount_arcs.proofs.Meaning.{kept_calls-places}
-use Rattle.mcount_arcs.proofs.Reading.{chain_short}
-use Rattle.mcount_arcs.proofs.Walking.{looks_bounds}
+use Rattle.mcount_arcs.proofs.ChainLengths.{chain_short}
+use Rattle.mcount_arcs.proofs.LookLemmas.{looks_bounds}
+use Rattle.mcount_arcs.proofs.LogLemmas.{more, kept_calls-entered_calls, kept_calls-quiet, looks_of-chain, looks_of-kept_calls}
+use Rattle.mcount_arcs.proofs.CallLemmas.{entered_calls-enter}
+use Rattle.mcount_arcs.proofs.KeptCallLemmas.{kept_calls-places}
 use Rattle.mcount_arcs.proofs.laws.looks_stay.Goals as goal
 
 pub returns : goal.returns

@@ -1,7 +1,7 @@
 use Rattle.std.proofs.Common.{◌≡◌, [], ap, ◌∙◌, length}
 use Rattle.std.proofs.lemmas.Result.{IfOk-weaker}
 use Rattle.mcount_arcs.specs.Value.{StandsFor}
-use Rattle.mcount_arcs.proofs.Logs.{kept_calls-nil}
+use Rattle.mcount_arcs.proofs.EmptyLogLemmas.{kept_calls-nil}
 use Rattle.mcount_arcs.proofs.tests.started.Goals as goal
 
 pub returns : goal.returns

@@ -5,8 +5,8 @@ use Rattle.gmon_block.specs.declared.entry.Tos.{Tos}
 use Rattle.gmon_block.specs.Layout.{no_entry}
 use Rattle.mcount_arcs.specs.Log.{LogEntry, distinct_count, entered_calls}
 use Rattle.mcount_arcs.specs.Value.{GmonValue, StandsFor}
-use Rattle.mcount_arcs.proofs.Calls.{entries_of-by}
-use Rattle.mcount_arcs.proofs.Meaning.{kept_calls-all, kept_calls-full_places}
+use Rattle.mcount_arcs.proofs.LogLemmas.{entries_of-by}
+use Rattle.mcount_arcs.proofs.KeptCallLemmas.{kept_calls-all, kept_calls-full_places}
 use Rattle.mcount_arcs.proofs.gmon.Gmon.pairs.Goals as goal
 
 number : (v : GmonValue) (log : List LogEntry) (e : Tos) → StandsFor log v → slice_get v.tos 0 ≡ Some e → e.link ≡ distinct_count (entered_calls v.sizes log)

@@ -1,54 +1,40 @@
--- A call that arrives.
-use Rattle.std.proofs.Common.{◌≡◌, ℕ, ◌+◌, ◌-◌, ◌%◌, ◌<◌, ◌≤◌, ◌⊎◌, List, length, Some, None, refl, sym, ap, ◌∙◌, subst, arith}
-use Rattle.std.specs.List.{slice_get}
+-- A runtime after a call arrived.
+use Rattle.std.proofs.Common.{None, ◌≡◌, ℕ, ◌<◌, ◌≤◌, List, length, Some, refl, sym, ap, ◌∙◌, arith, ◌+◌, subst, ◌-◌, ◌⊎◌, ◌%◌}
 use Rattle.std.proofs.lemmas.Option.{slice_get_within, get_or_from_slice_get}
-use Rattle.mcount_arcs.specs.declared.gmon.Gmon.TheInside.{Inside}
+use Rattle.std.specs.List.{slice_get}
 use Rattle.mcount_arcs.specs.declared.sizes.Sizes.{Sizes}
 use Rattle.mcount_arcs.specs.declared.state.State.{State}
 use Rattle.mcount_arcs.specs.declared.state.State.TheVariants.{On, Busy, Error, Off}
-use Rattle.mcount_arcs.specs.Log.{LogEntry, Enter, CallLost, CallIgnored, MayFollow, IsSite, mode_in, kept_calls}
 use Rattle.mcount_arcs.specs.Samples.{counted_in}
-use Rattle.mcount_arcs.specs.Sizes.{AreSizes, offset_of, slot_of}
-use Rattle.mcount_arcs.specs.Held.{value_of, IsHeld}
-use Rattle.mcount_arcs.specs.Value.{GmonValue, StandsFor}
-use Rattle.mcount_arcs.proofs.Logs.{IsLegal-push}
-use Rattle.mcount_arcs.proofs.Walking.{looks_bounds}
-use Rattle.mcount_arcs.proofs.Calls.{more, IsQuiet, is_busy-other, is_busy-enter, entered_calls-quiet, kept_calls-quiet, entered_calls-enter, kept_calls-entered_calls, entries_of-entered_calls, fronts_of-entered_calls, arcs_of-entered_calls, buckets_of-same, is_on-same, state_of-quiet, state_of-busy, pending_call-quiet, pending_call-enter, looks_of-chain}
-use Rattle.mcount_arcs.proofs.Standing.{place-kept_calls}
+use Rattle.mcount_arcs.specs.Log.{mode_in, MayFollow, LogEntry, kept_calls, Enter, CallLost, CallIgnored, IsSite}
+use Rattle.mcount_arcs.specs.Sizes.{AreSizes, slot_of, offset_of}
+use Rattle.mcount_arcs.specs.declared.gmon.Gmon.TheInside.{Inside}
+use Rattle.mcount_arcs.specs.Held.{view_of, IsHeld}
+use Rattle.mcount_arcs.specs.Value.{StandsFor, GmonValue}
+use Rattle.mcount_arcs.proofs.LogLemmas.{IsQuiet, state_of-quiet, is_on-same, buckets_of-same, IsLegal-push, more, kept_calls-entered_calls, is_on-same, buckets_of-same, looks_of-chain, entries_of-entered_calls, fronts_of-entered_calls, arcs_of-entered_calls}
+use Rattle.mcount_arcs.proofs.LookLemmas.{looks_bounds}
+use Rattle.mcount_arcs.proofs.CallLemmas.{is_busy-enter, entered_calls-enter, pending_call-enter, state_of-busy, is_busy-other}
+use Rattle.mcount_arcs.proofs.QuietEntryLemmas.{StandsFor-quiet}
 
--- an entry that is no begin or end of a call, no mode and no sample leaves all as it was
-pub StandsFor-quiet : (log : List LogEntry) (entry : LogEntry) (v : GmonValue) → IsQuiet v.sizes entry → mode_in entry ≡ None → ((before : List LogEntry) → counted_in v.sizes before entry ≡ None) → MayFollow v.sizes log entry → StandsFor log v → StandsFor (more log entry) v
-StandsFor-quiet log entry v quiet no_mode no_sample may stands =
-    let z = v.sizes in
-    let same_calls = entered_calls-quiet z log entry quiet in
-    record {
-      legal = IsLegal-push z log entry stands.legal may;
-      tos = stands.tos ∙ sym (entries_of-entered_calls z (more log entry) log same_calls);
-      counters = stands.counters ∙ sym (buckets_of-same z log entry no_sample);
-      froms = stands.froms ∙ sym (fronts_of-entered_calls z (more log entry) log same_calls);
-      state = stands.state ∙ sym (state_of-quiet z log entry quiet no_mode);
-      sampling = stands.sampling ∙ sym (is_on-same log entry no_mode);
-      calls = stands.calls ∙ ap length (sym (kept_calls-quiet z log entry quiet));
-      arcs = stands.arcs ∙ sym (arcs_of-entered_calls z (more log entry) log same_calls);
-      walk = stands.walk ∙ sym (pending_call-quiet z log entry quiet);
-      place = place-kept_calls z log (more log entry) v.walk (kept_calls-quiet z log entry quiet) stands.place;
-    }
+-- a call that is turned away leaves all as it was
+StandsFor-turned_away : (log : List LogEntry) (entry : LogEntry) (v : GmonValue) → IsQuiet v.sizes entry → mode_in entry ≡ None → ((before : List LogEntry) → counted_in v.sizes before entry ≡ None) → MayFollow v.sizes log entry → StandsFor log v → StandsFor (more log entry) v
+StandsFor-turned_away log entry v quiet no_mode no_sample may stands =
+    StandsFor-quiet log entry v v.counters v.state v.sampling quiet may stands
+    (stands.counters ∙ sym (buckets_of-same v.sizes log entry no_sample)) (stands.state ∙ sym (state_of-quiet v.sizes log entry quiet no_mode)) (stands.sampling ∙ sym (is_on-same log entry no_mode))
 
 pub StandsFor-lost : (log : List LogEntry) (v : GmonValue) (from to : ℕ) → v.state ≡ Busy → StandsFor log v → StandsFor (more log (CallLost from to)) v
 StandsFor-lost log v from to busy stands =
-    StandsFor-quiet log (CallLost from to) v (record { walk = refl; pair = refl }) refl (λ before. refl) (sym stands.state ∙ busy) stands
+    StandsFor-turned_away log (CallLost from to) v (record { walk = refl; pair = refl }) refl (λ before. refl) (sym stands.state ∙ busy) stands
 
 pub StandsFor-ignored : (log : List LogEntry) (v : GmonValue) (from to : ℕ) → ((v.state ≡ Off) ⊎ (v.state ≡ Error) ⊎ ((v.state ≡ On) × (v.sizes.high - v.sizes.low ≤ offset_of v.sizes from))) → StandsFor log v → StandsFor (more log (CallIgnored from to)) v
 StandsFor-ignored log v from to why stands =
     let P : State → Type 0 = λ s. (s ≡ Off) ⊎ (s ≡ Error) ⊎ ((s ≡ On) × (v.sizes.high - v.sizes.low ≤ offset_of v.sizes from)) in
-    StandsFor-quiet log (CallIgnored from to) v (record { walk = refl; pair = refl }) refl (λ before. refl) (subst P stands.state why) stands
-
--- ---- a call is entered
+    StandsFor-turned_away log (CallIgnored from to) v (record { walk = refl; pair = refl }) refl (λ before. refl) (subst P stands.state why) stands
 
 abbrev pub entered_as : Inside → ℕ → ℕ → ℕ → Inside
 entered_as a slot to at = record a { state = Busy; cursor = record { slot = slot; to = to; place = 1; at = at; before = 0 } }
 
-pub stands_entered : (a : Inside) (log : List LogEntry) (from to slot at : ℕ) → a.state ≡ On → slot ≡ slot_of a.sizes from → IsSite a.sizes from → StandsFor log (value_of a) → StandsFor (more log (Enter from to)) (value_of (entered_as a slot to at))
+pub stands_entered : (a : Inside) (log : List LogEntry) (from to slot at : ℕ) → a.state ≡ On → slot ≡ slot_of a.sizes from → IsSite a.sizes from → StandsFor log (view_of a) → StandsFor (more log (Enter from to)) (view_of (entered_as a slot to at))
 stands_entered a log from to slot at on slot_is site stands =
     let z = a.sizes in
     let after = more log (Enter from to) in

@@ -1,26 +1,38 @@
--- A walk in flight: what its log says of it, what a look meets, and what it leaves.
-use Rattle.std.proofs.Common.{◌≡◌, ℕ, suc, ◌<◌, ◌≤◌, true, false, List, length, slice_index, Some, inl, inr, refl, sym, ap, ◌∙◌, subst, arith}
+-- A walk in flight: what its log says of it, and what a look meets.
+use Rattle.std.proofs.Common.{None, Bool, ◌≡◌, ℕ, suc, ◌<◌, ◌≤◌, true, false, List, length, Some, inl, inr, refl, sym, ap, ◌∙◌, arith, subst, slice_index}
+use Rattle.std.proofs.lemmas.Option.{none-some, same_Some, slice_get_within}
 use Rattle.std.specs.List.{slice_get}
 use Rattle.std.specs.Option.{option_map, IfSome}
-use Rattle.std.proofs.lemmas.Option.{none-some, same_Some, slice_get_within}
 use Rattle.gmon_block.specs.declared.entry.Tos.{Tos}
-use Rattle.mcount_arcs.specs.declared.gmon.Cursor.{Cursor}
-use Rattle.mcount_arcs.specs.declared.gmon.Gmon.TheInside.{Inside}
-use Rattle.mcount_arcs.specs.declared.state.State.{State}
-use Rattle.mcount_arcs.specs.declared.state.State.TheVariants.{On, Busy, Error, Off}
-use Rattle.mcount_arcs.specs.declared.walk.Walk.{Walk}
-use Rattle.mcount_arcs.specs.Log.{LogEntry, WalkDone, Pair, same_pair, distinct_count, entered_calls, kept_calls, pending_call, is_busy}
+use Rattle.mcount_arcs.specs.Log.{Pair, same_pair, distinct_count, LogEntry, is_busy, entered_calls, kept_calls, pending_call, WalkDone}
 use Rattle.mcount_arcs.specs.Arcs.{chain_in, looks_in, looks_of}
 use Rattle.mcount_arcs.specs.Image.{index_at, entry_in}
-use Rattle.mcount_arcs.specs.Held.{walk_at, flight, value_of, IsHeld}
-use Rattle.mcount_arcs.specs.Moves.{entry_of, followed, came_by}
-use Rattle.mcount_arcs.specs.Value.{StandsFor, call_of}
-use Rattle.mcount_arcs.proofs.Distinct.{has}
-use Rattle.mcount_arcs.proofs.Chains.{pair, pushed, chain-once, has-chain, in_chain, entry-at}
-use Rattle.mcount_arcs.proofs.Reading.{at_place, chain_short, meets_none, meets_last, meets_other}
-use Rattle.mcount_arcs.proofs.Walking.{IsBlockOf, entry_read, looks_bounds, followed-is, number_read, index_at_small, count_small}
-use Rattle.mcount_arcs.proofs.Meaning.{kept_calls-all}
-use Rattle.mcount_arcs.proofs.Calls.{more, looks_of-chain, entries_of-by, fronts_of-by, done-pending_call}
+use Rattle.mcount_arcs.specs.declared.state.State.{State}
+use Rattle.mcount_arcs.specs.declared.state.State.TheVariants.{On, Busy, Error, Off}
+use Rattle.mcount_arcs.specs.BlockChanges.{entry_at, index_after, index_before}
+use Rattle.mcount_arcs.specs.declared.gmon.Cursor.{Cursor}
+use Rattle.mcount_arcs.specs.declared.gmon.Gmon.TheInside.{Inside}
+use Rattle.mcount_arcs.specs.declared.walk.Walk.{Walk}
+use Rattle.mcount_arcs.specs.Held.{walk_at, flight, view_of, IsHeld}
+use Rattle.mcount_arcs.specs.Value.{idle_state, StandsFor, call_of}
+use Rattle.mcount_arcs.proofs.DistinctLemmas.{has}
+use Rattle.mcount_arcs.proofs.ChainLemmas.{pair, pushed, chain-once, has-chain, in_chain}
+use Rattle.mcount_arcs.proofs.EntryLemmas.{entry-at, count_small}
+use Rattle.mcount_arcs.proofs.ChainLengths.{chain_short}
+use Rattle.mcount_arcs.proofs.IndexLemmas.{at_place, index_at_small}
+use Rattle.mcount_arcs.proofs.LookLemmas.{meets_none, meets_last, meets_other, looks_bounds}
+use Rattle.mcount_arcs.proofs.BlockLemmas.{IsBlockOf, entry_read, index_after-is, number_read}
+use Rattle.mcount_arcs.proofs.LogLemmas.{more, looks_of-chain, entries_of-by, fronts_of-by}
+use Rattle.mcount_arcs.proofs.CallLemmas.{done-pending_call}
+use Rattle.mcount_arcs.proofs.KeptCallLemmas.{kept_calls-all}
+
+pub no_flight : (on : Bool) (c : Cursor) → flight (idle_state on) c ≡ None
+no_flight true c = refl
+no_flight false c = refl
+
+pub not_busy : (on : Bool) → idle_state on ≡ Busy → ⊥
+not_busy true e = cc
+not_busy false e = cc
 
 flight_is : (s : State) (c : Cursor) (w : Walk) → flight s c ≡ Some w → (s ≡ Busy) × (walk_at c ≡ w)
 flight_is On c w e = absurd (none-some w e)
@@ -41,11 +53,11 @@ pub record InFlight (a : Inside) (w : Walk) (log : List LogEntry) : Type 0 where
   pub next : entered_calls a.sizes (more log WalkDone) ≡ pushed (kept_calls a.sizes log) w.slot w.to
   pub looks : looks_of a.sizes log w.slot w.to ≡ looks_in (chain_in (kept_calls a.sizes log) w.slot) w.to
   pub within : suc step ≤ looks_in (chain_in (kept_calls a.sizes log) w.slot) w.to
-  pub at : a.cursor.at ≡ followed a.block.tos (slice_index a.block.froms w.slot) step
-  pub before : a.cursor.before ≡ came_by a.block.tos (slice_index a.block.froms w.slot) step
+  pub at : a.cursor.at ≡ index_after a.block.tos (slice_index a.block.froms w.slot) step
+  pub before : a.cursor.before ≡ index_before a.block.tos (slice_index a.block.froms w.slot) step
   pub index : a.cursor.at ≡ index_at (kept_calls a.sizes log) w.slot (slice_get (chain_in (kept_calls a.sizes log) w.slot) step)
 
-block_of : (a : Inside) (log : List LogEntry) → StandsFor log (value_of a) → IsBlockOf a.sizes.tolimit a.sizes.slots (entered_calls a.sizes log) (kept_calls a.sizes log) a.block
+block_of : (a : Inside) (log : List LogEntry) → StandsFor log (view_of a) → IsBlockOf a.sizes.tolimit a.sizes.slots (entered_calls a.sizes log) (kept_calls a.sizes log) a.block
 block_of a log stands = record {
   tos = stands.tos ∙ entries_of-by a.sizes log;
   froms = stands.froms ∙ fronts_of-by a.sizes log;
@@ -54,7 +66,7 @@ block_of a log stands = record {
 not_error : (s : State) → s ≡ Busy → s ≡ Error → ⊥
 not_error s busy error = let e : Busy ≡ Error = sym busy ∙ error in cc
 
-in_flight_at : (a : Inside) (log : List LogEntry) → IsHeld a → a.state ≡ Busy → StandsFor log (value_of a) → InFlight a (walk_at a.cursor) log
+in_flight_at : (a : Inside) (log : List LogEntry) → IsHeld a → a.state ≡ Busy → StandsFor log (view_of a) → InFlight a (walk_at a.cursor) log
 in_flight_at a log held busy stands =
     let z = a.sizes in
     let at = held.at busy in
@@ -85,16 +97,14 @@ in_flight_at a log held busy stands =
       within = within;
       at = at.at;
       before = at.before;
-      index = at.at ∙ followed-is z.tolimit z.slots (kept_calls z log) (kept_calls z log) a.block a.cursor.slot a.cursor.to at.looked block slot within;
+      index = at.at ∙ index_after-is z.tolimit z.slots (kept_calls z log) (kept_calls z log) a.block a.cursor.slot a.cursor.to at.looked block slot within;
     }
 
-pub in_flight : (a : Inside) (w : Walk) (log : List LogEntry) → IsHeld a → flight a.state a.cursor ≡ Some w → StandsFor log (value_of a) → InFlight a w log
+pub in_flight : (a : Inside) (w : Walk) (log : List LogEntry) → IsHeld a → flight a.state a.cursor ≡ Some w → StandsFor log (view_of a) → InFlight a w log
 in_flight a w log held e stands =
     let is = flight_is a.state a.cursor w e in
     let P : Walk → Type 0 = λ v. InFlight a v log in
     subst P is.1 (in_flight_at a log held is.0 stands)
-
--- ---- bounds
 
 pub at_bound : (a : Inside) (w : Walk) (log : List LogEntry) → IsHeld a → InFlight a w log → a.cursor.at < length a.block.tos
 at_bound a w log held f =
@@ -105,14 +115,12 @@ place_bound a w log held f =
     let bounds = looks_bounds (kept_calls a.sizes log) w.slot w.to in
     omega (arith, f.place, f.within, bounds.1, chain_short (kept_calls a.sizes log) w.slot, f.few, held.sizes.most)
 
--- ---- what is looked at
-
 -- the callee at the place, and its entry
 pub record IsHere (a : Inside) (w : Walk) (log : List LogEntry) (step : ℕ) : Type 0 where
   pub to : ℕ
   pub at : slice_get (chain_in (kept_calls a.sizes log) w.slot) step ≡ Some to
-  pub entry : entry_of a.block a.cursor.at ≡ entry_in (kept_calls a.sizes log) (pair w.slot to)
-  pub link : (entry_of a.block a.cursor.at).link ≡ index_at (kept_calls a.sizes log) w.slot (slice_get (chain_in (kept_calls a.sizes log) w.slot) (suc step))
+  pub entry : entry_at a.block a.cursor.at ≡ entry_in (kept_calls a.sizes log) (pair w.slot to)
+  pub link : (entry_at a.block a.cursor.at).link ≡ index_at (kept_calls a.sizes log) w.slot (slice_get (chain_in (kept_calls a.sizes log) w.slot) (suc step))
 
 pub is_here : (a : Inside) (w : Walk) (log : List LogEntry) (f : InFlight a w log) → (a.cursor.at ≡ 0 → ⊥) → IsHere a w log f.step
 is_here a w log f some =
@@ -120,8 +128,8 @@ is_here a w log f some =
     elim (at_place ps w.slot f.step) [
       | inl past ↦ absurd (some (f.index ∙ past.1))
       | inr here ↦
-          let entry : entry_of a.block a.cursor.at ≡ entry_in ps (pair w.slot here.0) =
-          ap (entry_of a.block) (f.index ∙ here.2) ∙ entry_read a.sizes.tolimit a.sizes.slots ps ps a.block (pair w.slot here.0) f.block (in_chain ps w.slot f.step here.0 here.1) in
+          let entry : entry_at a.block a.cursor.at ≡ entry_in ps (pair w.slot here.0) =
+          ap (entry_at a.block) (f.index ∙ here.2) ∙ entry_read a.sizes.tolimit a.sizes.slots ps ps a.block (pair w.slot here.0) f.block (in_chain ps w.slot f.step here.0 here.1) in
           record {
             to = here.0;
             at = here.1;
@@ -131,17 +139,17 @@ is_here a w log f some =
     ]
 
 -- its calls are among those that are counted
-pub count_bound : (a : Inside) (w : Walk) (log : List LogEntry) → InFlight a w log → StandsFor log (value_of a) → (a.cursor.at ≡ 0 → ⊥) → (entry_of a.block a.cursor.at).count ≤ a.calls
+pub count_bound : (a : Inside) (w : Walk) (log : List LogEntry) → InFlight a w log → StandsFor log (view_of a) → (a.cursor.at ≡ 0 → ⊥) → (entry_at a.block a.cursor.at).count ≤ a.calls
 count_bound a w log f stands some =
     let here = is_here a w log f some in
     omega (arith, ap (λ (e : Tos). e.count) here.entry, count_small (kept_calls a.sizes log) w.slot here.to, stands.calls)
 
-pub is_found : (a : Inside) (w : Walk) (log : List LogEntry) (f : InFlight a w log) → (a.cursor.at ≡ 0 → ⊥) → (entry_of a.block a.cursor.at).selfpc ≡ w.to → slice_get (chain_in (kept_calls a.sizes log) w.slot) f.step ≡ Some w.to
+pub is_found : (a : Inside) (w : Walk) (log : List LogEntry) (f : InFlight a w log) → (a.cursor.at ≡ 0 → ⊥) → (entry_at a.block a.cursor.at).selfpc ≡ w.to → slice_get (chain_in (kept_calls a.sizes log) w.slot) f.step ≡ Some w.to
 is_found a w log f some same =
     let here = is_here a w log f some in
     here.at ∙ ap (λ (t : ℕ). Some t) (ap (λ (e : Tos). e.selfpc) (sym here.entry) ∙ same)
 
-pub is_passed : (a : Inside) (w : Walk) (log : List LogEntry) (f : InFlight a w log) → (a.cursor.at ≡ 0 → ⊥) → ((entry_of a.block a.cursor.at).selfpc ≡ w.to → ⊥) → ((entry_of a.block a.cursor.at).link ≡ 0 → ⊥) → suc f.step < looks_in (chain_in (kept_calls a.sizes log) w.slot) w.to
+pub is_passed : (a : Inside) (w : Walk) (log : List LogEntry) (f : InFlight a w log) → (a.cursor.at ≡ 0 → ⊥) → ((entry_at a.block a.cursor.at).selfpc ≡ w.to → ⊥) → ((entry_at a.block a.cursor.at).link ≡ 0 → ⊥) → suc f.step < looks_in (chain_in (kept_calls a.sizes log) w.slot) w.to
 is_passed a w log f some other link =
     let ps = kept_calls a.sizes log in
     let c = chain_in ps w.slot in
@@ -166,7 +174,7 @@ is_new_empty a w log f none =
       | inr here ↦ absurd (omega (arith, f.index, here.2, here.3))
     ]
 
-pub is_new_last : (a : Inside) (w : Walk) (log : List LogEntry) (f : InFlight a w log) → (a.cursor.at ≡ 0 → ⊥) → ((entry_of a.block a.cursor.at).selfpc ≡ w.to → ⊥) → (entry_of a.block a.cursor.at).link ≡ 0 → IsNew a w log f.step
+pub is_new_last : (a : Inside) (w : Walk) (log : List LogEntry) (f : InFlight a w log) → (a.cursor.at ≡ 0 → ⊥) → ((entry_at a.block a.cursor.at).selfpc ≡ w.to → ⊥) → (entry_at a.block a.cursor.at).link ≡ 0 → IsNew a w log f.step
 is_new_last a w log f some other link =
     let ps = kept_calls a.sizes log in
     let here = is_here a w log f some in

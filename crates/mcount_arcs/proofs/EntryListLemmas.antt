@@ -1,19 +1,21 @@
--- The lists of the block after one call more.
-use Rattle.std.proofs.Common.{◌≡◌, ℕ, zero, suc, ◌+◌, ◌-◌, ◌<◌, Bool, true, false, not, cond, eqb, List, [], ◌∷◌, ◌++◌, length, get_or, set, map, replicate, Some, inl, inr, refl, sym, ap, ◌∙◌, subst, arith, length-append, get_or-set_other, get_or-set_same, length-set}
-use Rattle.std.specs.List.{slice_get}
-use Rattle.std.specs.Option.{option_map}
-use Rattle.std.proofs.lemmas.List.{append_assoc, length-map, set_at, map_push}
-use Rattle.std.proofs.lemmas.List.FromFn.{length-map-range_with_len, get_or-map-range_with_len, fill_by_all}
+-- The lists of entries and of fronts: what is read in them, and the writes that make those of one call more.
+use Rattle.std.proofs.Common.{◌≡◌, ℕ, zero, suc, ◌<◌, Bool, true, false, not, cond, eqb, List, [], ◌∷◌, ◌++◌, length, Some, inl, inr, refl, sym, ap, ◌∙◌, arith, ◌+◌, subst, ◌-◌, get_or, set, map, replicate, length-append, get_or-set_other, get_or-set_same, length-set}
 use Rattle.std.proofs.lemmas.Option.{none-some, same_Some, slice_get-map}
-use Rattle.std.proofs.lemmas.Bool.{cases_Bool, false≢true, false_from_ne_true, and_parts, and_from, or_left, or_right, not-true, eq-eqb, eqb-true, eqb-false}
-use Rattle.gmon_block.specs.declared.entry.Tos.{Tos}
-use Rattle.gmon_block.specs.Layout.{no_entry}
+use Rattle.std.specs.List.{slice_get}
+use Rattle.std.proofs.lemmas.Bool.{cases_Bool, false≢true, false_from_ne_true, and_parts, or_right, not-true, eq-eqb, eqb-true, and_from, or_left, eqb-false}
 use Rattle.mcount_arcs.specs.Lists.{distinct}
+use Rattle.std.specs.Option.{option_map}
+use Rattle.gmon_block.specs.declared.entry.Tos.{Tos}
 use Rattle.mcount_arcs.specs.Log.{Pair, same_pair, distinct_count}
 use Rattle.mcount_arcs.specs.Arcs.{chain_in}
-use Rattle.mcount_arcs.specs.Image.{index_in, index_at, entry_in, first_entry, entries_in, front_in, fronts_in}
-use Rattle.mcount_arcs.proofs.Distinct.{IsSame, has, once, has-distinct, once-distinct, at_has}
-use Rattle.mcount_arcs.proofs.Chains.{pair, pair-same, pushed, tos, count_of, chain_place, place_of, index-at, index-old, distinct-old, distinct-new, entry-other_slot, entry-unmoved, entry-before, entry-found, entry-front, entry-new, entry-old, front-own, front-other, first_at_zero, slice_get-append}
+use Rattle.mcount_arcs.specs.Image.{index_in, index_at, entry_in, front_in, first_entry, entries_in, fronts_in}
+use Rattle.std.proofs.lemmas.List.{append_assoc, length-map, set_at, map_push, length-replicate}
+use Rattle.std.proofs.lemmas.List.FromFn.{length-map-range_with_len, get_or-map-range_with_len, fill_by_all}
+use Rattle.gmon_block.specs.Layout.{no_entry}
+use Rattle.mcount_arcs.proofs.DistinctLemmas.{IsSame, has, once, once-distinct, has-distinct, at_has}
+use Rattle.mcount_arcs.proofs.ChainLemmas.{pair, pair-same, pushed, chain_place}
+use Rattle.mcount_arcs.proofs.IndexLemmas.{slice_get-append, index-at, place_of, distinct-old, distinct-new, index-old, count-new}
+use Rattle.mcount_arcs.proofs.EntryLemmas.{first_at_zero, count_of, tos, entry-other_slot, entry-unmoved, entry-before, entry-found, entry-front, entry-new, front-own, front-other, by_slot, agree-new}
 
 -- two functions that agree on what stands in a list
 map_agree : {X Y : Type 0} (same : X → X → Bool) → IsSame same → (f g : X → Y) (ds : List X) → ((q : X) → has same q ds ≡ true → f q ≡ g q) → map f ds ≡ map g ds
@@ -52,15 +54,6 @@ set_entry f g head ps rest p there agree =
 
 abbrev blank : ℕ → List Pair → List Tos
 blank limit ps = replicate (limit - 1 - distinct_count ps) no_entry
-
-pub by_slot : (P : Pair → Type 0) (s : ℕ) (q : Pair) → (eqb s q.slot ≡ false → P q) → ((x : ℕ) → q ≡ pair s x → P (pair s x)) → P q
-by_slot P s q other own = elim (cases_Bool (eqb s q.slot)) [
-  | inl e ↦
-      let same : q ≡ pair s q.to = ap (λ (n : ℕ). pair n q.to) (sym (eqb-true s q.slot e)) in subst P (sym same) (own q.to same)
-  | inr e ↦ other e
-]
-
--- ---- THE CALLEE IS FOUND
 
 -- another callee stands at another place
 not_same : (ps : List Pair) (s t x k i : ℕ) → slice_get (chain_in ps s) k ≡ Some t → slice_get (chain_in ps s) i ≡ Some x → same_pair (pair s t) (pair s x) ≡ false → i ≡ k → ⊥
@@ -127,26 +120,11 @@ fronts-front slots ps s t at there =
       | inr e ↦ sym (front-other ps s t k e)
     ])
 
--- ---- THE CALLEE IS NEW
-
-pub count-new : (ps : List Pair) (s t : ℕ) → has same_pair (pair s t) ps ≡ false → distinct_count (pushed ps s t) ≡ suc (distinct_count ps)
-count-new ps s t absent = ap length (distinct-new ps s t absent) ∙ omega (arith, length-append (distinct same_pair ps) (pair s t ∷ []))
-
-pub count-old : (ps : List Pair) (s t : ℕ) → has same_pair (pair s t) ps ≡ true → distinct_count (pushed ps s t) ≡ distinct_count ps
-count-old ps s t there = ap length (distinct-old ps s t there)
-
 -- the table is full: only the number of different pairs changes
 pub entries-over : (limit : ℕ) (ps : List Pair) (s t : ℕ) → has same_pair (pair s t) ps ≡ false
     → set (entries_in limit ps ps) 0 (record { selfpc = 0; count = 0; link = suc (distinct_count ps) }) ≡ entries_in limit (pushed ps s t) ps
 entries-over limit ps s t absent =
     ap (λ (n : ℕ). record { selfpc = 0; count = 0; link = n } ∷ map (entry_in ps) (distinct same_pair ps) ++ blank limit ps) (sym (count-new ps s t absent))
-
-pub agree-new : (ps : List Pair) (s t : ℕ) → has same_pair (pair s t) ps ≡ false → (q : Pair) → has same_pair q ps ≡ true → entry_in ps q ≡ entry_in (pushed ps s t) q
-agree-new ps s t absent q there =
-    by_slot (λ r. has same_pair r ps ≡ true → entry_in ps r ≡ entry_in (pushed ps s t) r) s q
-    (λ other h. sym (entry-other_slot ps s t q.slot q.to other h))
-    (λ x same h. let place = chain_place ps s x h in sym (entry-old ps s t place.0 x absent place.1))
-    there
 
 -- the next entry is its own
 pub entries-new : (limit : ℕ) (ps : List Pair) (s t : ℕ) → has same_pair (pair s t) ps ≡ false → suc (distinct_count ps) < limit
@@ -189,11 +167,6 @@ fronts-own slots ps s t within =
           ∙ sym (front-other ps s t k e)
     ])
 
--- ---- what is read
-
-pub read-head : (limit : ℕ) (all ps : List Pair) → slice_get (entries_in limit all ps) 0 ≡ Some (first_entry all)
-read-head limit all ps = refl
-
 pub read-entry : (limit : ℕ) (all ps : List Pair) (p : Pair) → has same_pair p ps ≡ true → slice_get (entries_in limit all ps) (index_in ps p) ≡ Some (entry_in ps p)
 read-entry limit all ps p there =
     let place = place_of ps p there in
@@ -203,3 +176,10 @@ read-entry limit all ps p there =
 
 pub read-front : (slots : ℕ) (ps : List Pair) (s : ℕ) → s < slots → get_or (fronts_in slots ps) s 0 ≡ front_in ps s
 read-front slots ps s lt = get_or-map-range_with_len (front_in ps) 0 slots s s 0 lt (omega arith)
+
+pub length-entries_in : (limit : ℕ) (all ps : List Pair) → distinct_count ps < limit → length (entries_in limit all ps) ≡ limit
+length-entries_in limit all ps places =
+    omega (arith, length-append (map (entry_in ps) (distinct same_pair ps)) (replicate (limit - 1 - distinct_count ps) no_entry), length-map (distinct same_pair ps) (entry_in ps), length-replicate (limit - 1 - distinct_count ps) no_entry)
+
+pub length-fronts : (slots : ℕ) (ps : List Pair) → length (fronts_in slots ps) ≡ slots
+length-fronts slots ps = length-map-range_with_len (front_in ps) 0 slots

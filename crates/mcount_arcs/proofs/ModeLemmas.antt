@@ -1,21 +1,19 @@
--- A mode is set.
-use Rattle.std.proofs.Common.{◌≡◌, Bool, true, false, leb, List, length, Option, None, if◌then◌else◌, refl, sym, ap, ◌∙◌, subst}
+-- A runtime after a mode was set.
+use Rattle.std.proofs.Common.{◌≡◌, Bool, true, false, List, refl, sym, ap, ◌∙◌, Option, subst, leb, if◌then◌else◌}
+use Rattle.mcount_arcs.specs.Log.{Pair, distinct_count, LogEntry, is_on, is_busy, mode_in, entered_calls, state_of, Mode}
 use Rattle.std.specs.List.{filter_map}
-use Rattle.mcount_arcs.specs.declared.gmon.Cursor.{Cursor}
-use Rattle.mcount_arcs.specs.declared.gmon.Gmon.TheInside.{Inside}
 use Rattle.mcount_arcs.specs.declared.sizes.Sizes.{Sizes}
 use Rattle.mcount_arcs.specs.declared.state.State.{State}
 use Rattle.mcount_arcs.specs.declared.state.State.TheVariants.{On, Busy, Error, Off}
-use Rattle.mcount_arcs.specs.declared.walk.Walk.{Walk}
-use Rattle.mcount_arcs.specs.Log.{LogEntry, Mode, Pair, distinct_count, entered_calls, is_on, is_busy, mode_in, state_of}
 use Rattle.mcount_arcs.specs.Lists.{last_of}
-use Rattle.mcount_arcs.specs.Moves.{idle}
-use Rattle.mcount_arcs.specs.Held.{flight, value_of, IsHeld}
-use Rattle.mcount_arcs.specs.Value.{GmonValue, StandsFor, switched_state, switched}
-use Rattle.mcount_arcs.proofs.Logs.{IsLegal-push, state_by}
-use Rattle.mcount_arcs.proofs.After.{not_busy}
-use Rattle.mcount_arcs.proofs.Calls.{more, IsQuiet, one_more, last_of-push, is_busy-quiet, entered_calls-quiet, kept_calls-quiet, entries_of-entered_calls, fronts_of-entered_calls, arcs_of-entered_calls, buckets_of-same, state_of-by, pending_call-quiet}
-use Rattle.mcount_arcs.proofs.Standing.{place-kept_calls}
+use Rattle.mcount_arcs.specs.declared.gmon.Cursor.{Cursor}
+use Rattle.mcount_arcs.specs.declared.gmon.Gmon.TheInside.{Inside}
+use Rattle.mcount_arcs.specs.declared.walk.Walk.{Walk}
+use Rattle.mcount_arcs.specs.Held.{flight, view_of, IsHeld}
+use Rattle.mcount_arcs.specs.Value.{idle_state, StandsFor, GmonValue, switched_state, switched}
+use Rattle.mcount_arcs.proofs.LogLemmas.{state_by, more, one_more, last_of-push, IsQuiet, is_busy-quiet, entered_calls-quiet, buckets_of-same, state_of-by}
+use Rattle.mcount_arcs.proofs.WalkLemmas.{no_flight, not_busy}
+use Rattle.mcount_arcs.proofs.QuietEntryLemmas.{StandsFor-quiet}
 
 is_on-mode : (log : List LogEntry) (on : Bool) → is_on (more log (Mode on)) ≡ on
 is_on-mode log on = ap (last_of true) (one_more mode_in log (Mode on) on refl) ∙ last_of-push true (filter_map mode_in log) on
@@ -23,7 +21,7 @@ is_on-mode log on = ap (last_of true) (one_more mode_in log (Mode on) on refl) �
 quiet : (z : Sizes) (on : Bool) → IsQuiet z (Mode on)
 quiet z on = record { walk = refl; pair = refl }
 
-by_test : (busy full was on : Bool) → switched_state on (if busy then Busy else (if full then Error else idle was)) ≡ (if busy then Busy else (if full then Error else idle on))
+pub by_test : (busy full was on : Bool) → switched_state on (if busy then Busy else (if full then Error else idle_state was)) ≡ (if busy then Busy else (if full then Error else idle_state on))
 by_test true full was on = refl
 by_test false true was on = refl
 by_test false false true on = refl
@@ -40,32 +38,14 @@ state_of-mode z log on =
 
 pub StandsFor-switched : (log : List LogEntry) (v : GmonValue) (on : Bool) → StandsFor log v → StandsFor (more log (Mode on)) (switched on v)
 StandsFor-switched log v on stands =
-    let z = v.sizes in
-    let same = entered_calls-quiet z log (Mode on) (quiet z on) in
-    record {
-      legal = IsLegal-push z log (Mode on) stands.legal tt;
-      tos = stands.tos ∙ sym (entries_of-entered_calls z (more log (Mode on)) log same);
-      counters = stands.counters ∙ sym (buckets_of-same z log (Mode on) (λ before. refl));
-      froms = stands.froms ∙ sym (fronts_of-entered_calls z (more log (Mode on)) log same);
-      state = ap (switched_state on) stands.state ∙ state_of-mode z log on;
-      sampling = sym (is_on-mode log on);
-      calls = stands.calls ∙ ap length (sym (kept_calls-quiet z log (Mode on) (quiet z on)));
-      arcs = stands.arcs ∙ sym (arcs_of-entered_calls z (more log (Mode on)) log same);
-      walk = stands.walk ∙ sym (pending_call-quiet z log (Mode on) (quiet z on));
-      place = place-kept_calls z log (more log (Mode on)) v.walk (kept_calls-quiet z log (Mode on) (quiet z on)) stands.place;
-    }
-
--- ---- the fields
-
-none_flies : (on : Bool) (c : Cursor) → flight (idle on) c ≡ None
-none_flies true c = refl
-none_flies false c = refl
+    StandsFor-quiet log (Mode on) v v.counters (switched_state on v.state) on (quiet v.sizes on) tt stands
+    (stands.counters ∙ sym (buckets_of-same v.sizes log (Mode on) (λ before. refl))) (ap (switched_state on) stands.state ∙ state_of-mode v.sizes log on) (sym (is_on-mode log on))
 
 flight_stays : (on : Bool) (s : State) (c : Cursor) → flight (switched_state on s) c ≡ flight s c
-flight_stays on On c = none_flies on c
+flight_stays on On c = no_flight on c
 flight_stays on Busy c = refl
 flight_stays on Error c = refl
-flight_stays on Off c = none_flies on c
+flight_stays on Off c = no_flight on c
 
 was_busy : (on : Bool) (s : State) → switched_state on s ≡ Busy → s ≡ Busy
 was_busy on On e = absurd (not_busy on e)
@@ -79,8 +59,8 @@ is_error on s e = ap (switched_state on) e
 abbrev pub switched_as : Bool → Inside → Inside
 switched_as on a = record a { sampling = on; state = switched_state on a.state }
 
-pub switched-value : (on : Bool) (a : Inside) → value_of (switched_as on a) ≡ switched on (value_of a)
-switched-value on a = ap (λ (o : Option Walk). record (value_of (switched_as on a)) { walk = o }) (flight_stays on a.state a.cursor)
+pub switched-value : (on : Bool) (a : Inside) → view_of (switched_as on a) ≡ switched on (view_of a)
+switched-value on a = ap (λ (o : Option Walk). record (view_of (switched_as on a)) { walk = o }) (flight_stays on a.state a.cursor)
 
 pub held_switched : (on : Bool) (a : Inside) → IsHeld a → IsHeld (switched_as on a)
 held_switched on a held =
@@ -91,7 +71,7 @@ held_switched on a held =
       counters = held.counters;
       froms = held.froms;
       log = more held.log (Mode on);
-      stands = subst P (sym (switched-value on a)) (StandsFor-switched held.log (value_of a) on held.stands);
+      stands = subst P (sym (switched-value on a)) (StandsFor-switched held.log (view_of a) on held.stands);
       free = λ other. held.free (λ e. other (is_error on a.state e));
       at = λ busy. held.at (was_busy on a.state busy);
       room = λ busy. held.room (was_busy on a.state busy);

@@ -11,13 +11,13 @@ use Rattle.mcount_arcs.specs.Sizes.{AreSizes, site_of}
 use Rattle.mcount_arcs.specs.Value.{GmonValue, StandsFor}
 
 -- those from an entry on, and those of the slots behind
-abbrev pub left_of : GmonValue → ℕ → ℕ → List RawArc
-left_of v slot next =
+abbrev pub arcs_from : GmonValue → ℕ → ℕ → List RawArc
+arcs_from v slot next =
     map (arc_read (site_of v.sizes slot)) (linked (length v.tos) v.tos next)
     ++ flat_map (slot_read v.sizes v.tos v.froms) (range_with_len (slot + 1) (v.sizes.slots - (slot + 1)))
 
 abbrev pub arcs_left : Inside → List RawArc
-arcs_left a = left_of a.gmon.now a.slot a.next
+arcs_left a = arcs_from a.gmon.now a.slot a.next
 
 -- the entry stands at a place of its slot's chain, or behind it
 pub record IsAmong (a : Inside) : Type 0 where
