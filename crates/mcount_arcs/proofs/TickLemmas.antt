@@ -1,8 +1,8 @@
 -- A runtime after a tick.
-use Rattle.std.proofs.Common.{◌≡◌, ℕ, ◌<◌, ◌≤◌, Bool, true, false, ◌&&◌, ltb, List, [], ◌∷◌, length, Some, inl, inr, refl, sym, ap, ◌∙◌, arith, ◌+◌, subst, ◌-◌, set, leb, if◌then◌else◌, ◌/◌, min, slice_index, ◌⊎◌, slice_index_or, slice_set}
+use Rattle.std.proofs.Common.{All, ◌≡◌, ℕ, ◌<◌, ◌≤◌, Bool, true, false, ◌&&◌, ltb, List, [], ◌∷◌, length, Some, inl, inr, refl, sym, ap, ◌∙◌, arith, ◌+◌, subst, ◌-◌, set, leb, if◌then◌else◌, ◌/◌, min, slice_index, ◌⊎◌, slice_index_or, slice_set}
 use Rattle.std.specs.List.{slice_get}
 use Rattle.std.proofs.lemmas.Bool.{and_parts, lt-ltb, le-ltb, and_from, and_left, and_right, lt-leb, le-leb, leb-true, ltb-true}
-use Rattle.gmon_block.specs.Layout.{no_entry, Parts}
+use Rattle.gmon_block.specs.Layout.{EntryFits, no_entry, Parts}
 use Rattle.mcount_arcs.specs.Log.{LogEntry, Sample}
 use Rattle.mcount_arcs.specs.Sizes.{is_in, text_span, AreSizes}
 use Rattle.mcount_arcs.specs.Samples.{buckets_of}
@@ -49,6 +49,7 @@ IsHeld-ticked a block counters log held same long stands = record {
   tos = ap (λ (p : Parts). length p.tos) same ∙ held.tos;
   counters = ap (λ (p : Parts). length p.counters) same ∙ long ∙ held.counters;
   froms = ap (λ (p : Parts). length p.froms) same ∙ held.froms;
+  fits = let P : Parts → Type 0 = λ p. All EntryFits p.tos in subst P (sym same) held.fits;
   log = log;
   stands = stands;
   free = λ other. omega (arith, ap (λ (p : Parts). (slice_index_or p.tos 0 no_entry).link) same, held.free other);

@@ -105,11 +105,10 @@ calls_after (More w) calls = calls
 calls_after Counted calls = calls + 1
 calls_after Overflowed calls = calls
 
--- where it goes on, it does so at the next place
-abbrev pub GoesToNext : Walk → Looked → Type 0
-GoesToNext w (More next) = (next ≡ next_of w) × (next.place ≤ 65534)
-GoesToNext w Counted = ⊤
-GoesToNext w Overflowed = ⊤
+-- where it goes on, it does so at the next place, and changes nothing else
+abbrev pub GoesToNext : Walk → GmonValue → GmonValue → Looked → Type 0
+GoesToNext w old new (More next) = (next ≡ next_of w) × (next.place ≤ 65534) × (new ≡ record old { walk = Some next })
+GoesToNext w old new result = ⊤
 
 -- it doesn't end the walk: the place alone changes
 pub record GoesOn (log : List LogEntry) (w : Walk) (old new : GmonValue) (result : Looked) : Type 0 where

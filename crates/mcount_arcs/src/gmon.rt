@@ -1,13 +1,13 @@
 //! The runtime: `monstartup`, the clock's tick, and what can be read of it.
 
-ghost use Rattle.std.specs.Prelude.{◌≡◌, ◌+◌, ◌*◌, ◌<◌, ◌≤◌, List, [], ◌∷◌, ◌++◌, Some, length, slice_get, slice_index, IfOk, MatchOption};
+ghost use Rattle.std.specs.Prelude.{◌≡◌, ◌+◌, ◌*◌, ◌<◌, ◌≤◌, List, [], ◌∷◌, ◌++◌, Some, length, slice_get, slice_index, All, IfOk, MatchOption};
 ghost use Rattle.gmon_block.specs.Layout.{layout_of};
 ghost use Rattle.mcount_arcs.specs.Image.{block_image};
 ghost use Rattle.mcount_arcs.specs.Sizes.{IsText, AreSizes, site_of, sizes_of};
 ghost use Rattle.mcount_arcs.specs.ArcsLeft.{AreZero};
 ghost use Rattle.mcount_arcs.specs.Log.{distinct_count, LogEntry, Mode, Sample, is_on, kept_calls, state_of};
 ghost use Rattle.mcount_arcs.specs.Samples.{bucket_of};
-ghost use Rattle.mcount_arcs.specs.Arcs.{arcs_of};
+ghost use Rattle.mcount_arcs.specs.Arcs.{CallFits, arcs_of};
 ghost use Rattle.mcount_arcs.specs.Value.{block_parts, StandsFor, Looks, GoesToNext, walk_after, calls_after, ticked, meets, switched, logged, with_answer};
 
 use crate::arcs::Arcs;
@@ -132,7 +132,7 @@ impl Gmon {
     pub fn look(&mut self, walk: Walk) -> Looked
         requires { self.old.walk ≡ Some walk }
         ensures looks { (log : List LogEntry) → StandsFor log self.old → Looks log walk self.old self.new result }
-        ensures next { GoesToNext walk result }
+        ensures next { GoesToNext walk self.old self.new result }
         ensures walk { self.new.walk ≡ walk_after result }
         ensures calls { self.new.calls ≡ calls_after result self.old.calls }
         ensures others { (self.new.sizes ≡ self.old.sizes) × (self.new.counters ≡ self.old.counters) × (self.new.sampling ≡ self.old.sampling) }
@@ -259,6 +259,7 @@ impl Gmon {
     pub fn arcs(&self) -> Arcs<'_>
         ensures value { result ≡ self.now.arcs }
         ensures log { (log : List LogEntry) → StandsFor log self.now → result ≡ arcs_of self.now.sizes log }
+        ensures fits { All CallFits result }
         ensures few { length result < self.now.sizes.tolimit }
         ensures limit { self.now.sizes.tolimit ≤ 65534 }
     {
