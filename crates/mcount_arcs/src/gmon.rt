@@ -1,9 +1,9 @@
 //! The runtime: `monstartup`, the clock's tick, and what can be read of it.
 
-ghost use Rattle.std.specs.Prelude.{◌≡◌, ◌+◌, ◌*◌, ◌<◌, ◌≤◌, List, [], ◌∷◌, ◌++◌, Some, length, slice_get, slice_index, All, IfOk, MatchOption};
+ghost use Rattle.std.specs.Prelude.{◌≡◌, ◌&&◌, ◌+◌, ◌*◌, ◌<◌, ◌≤◌, List, [], ◌∷◌, ◌++◌, Some, length, slice_get, slice_index, All, IfOk, MatchOption};
 ghost use Rattle.gmon_block.specs.Layout.{layout_of};
 ghost use Rattle.mcount_arcs.specs.Image.{block_image};
-ghost use Rattle.mcount_arcs.specs.Sizes.{IsText, AreSizes, site_of, sizes_of};
+ghost use Rattle.mcount_arcs.specs.Sizes.{IsText, AreSizes, is_in, site_of, sizes_of, text_span};
 ghost use Rattle.mcount_arcs.specs.ArcsLeft.{AreZero};
 ghost use Rattle.mcount_arcs.specs.Log.{distinct_count, LogEntry, Mode, Sample, is_on, kept_calls, state_of};
 ghost use Rattle.mcount_arcs.specs.Samples.{bucket_of};
@@ -82,6 +82,13 @@ impl Gmon {
         })
     }
 
+    // Whether a sample at `pc` counts.
+    fn counts(&self, pc: u32) -> bool
+        ensures { result ≡ (self.now.sampling && is_in (text_span self.now.sizes) pc) }
+    {
+        self.sampling && self.sizes.low <= pc && pc < self.sizes.high
+    }
+
     /// A sample of the clock at `pc`. Where sampling is on and `pc` is in the text, its counter rises
     /// by one unless it holds 65,535; nothing else changes.
     pub fn tick(&mut self, pc: u32)
@@ -89,7 +96,7 @@ impl Gmon {
         ensures changed { self.new ≡ ticked pc self.old }
         ensures others { self.new ≡ record self.old { counters = self.new.counters } }
     {
-        if self.sampling && self.sizes.low <= pc && pc < self.sizes.high {
+        if self.counts(pc) {
             let i = (pc - self.sizes.low) / GRAIN;
             let count = self.block.kcount(i);
             self.block.set_kcount(i, count.saturating_add(1));
