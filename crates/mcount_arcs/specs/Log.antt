@@ -23,12 +23,8 @@ pub data LogEntry : Type 0 where
 
 -- the modes that were set
 abbrev pub mode_in : LogEntry → Option Bool
-mode_in (Sample pc) = None
 mode_in (Mode on) = Some on
-mode_in (Enter from to) = None
-mode_in WalkDone = None
-mode_in (CallLost from to) = None
-mode_in (CallIgnored from to) = None
+mode_in entry = None
 
 abbrev pub modes : List LogEntry → List Bool
 modes log = filter_map mode_in log
@@ -39,12 +35,9 @@ is_on log = last_of true (modes log)
 
 -- the begins of calls, as true, and their ends, as false
 abbrev pub walk_in : LogEntry → Option Bool
-walk_in (Sample pc) = None
-walk_in (Mode on) = None
 walk_in (Enter from to) = Some true
 walk_in WalkDone = Some false
-walk_in (CallLost from to) = None
-walk_in (CallIgnored from to) = None
+walk_in entry = None
 
 -- whether a call is being entered after the log: the last begin or end is a begin
 abbrev pub is_busy : List LogEntry → Bool
@@ -59,37 +52,37 @@ abbrev pub same_pair : Pair → Pair → Bool
 same_pair p q = (p.slot == q.slot) && (p.to == q.to)
 
 abbrev pub pair_in : Sizes → LogEntry → Option Pair
-pair_in z (Sample pc) = None
-pair_in z (Mode on) = None
 pair_in z (Enter from to) = Some (record { slot = slot_of z from; to = to })
-pair_in z WalkDone = None
-pair_in z (CallLost from to) = None
-pair_in z (CallIgnored from to) = None
+pair_in z entry = None
 
 -- the calls that began, in order
-abbrev pub begun : Sizes → List LogEntry → List Pair
-begun z log = filter_map (pair_in z) log
+abbrev pub begun_calls : Sizes → List LogEntry → List Pair
+begun_calls z log = filter_map (pair_in z) log
 
 -- the calls that were entered to their end, in order
-unfoldable pub entered : Sizes → List LogEntry → List Pair
-entered z log = if is_busy log then without_last (begun z log) else begun z log
+unfoldable pub entered_calls : Sizes → List LogEntry → List Pair
+entered_calls z log = if is_busy log then without_last (begun_calls z log) else begun_calls z log
+
+-- the call that is being entered, if one is
+unfoldable pub pending_call : Sizes → List LogEntry → Option Pair
+pending_call z log = if is_busy log then Some (last_of (record { slot = 0; to = 0 }) (begun_calls z log)) else None
 
 -- how many different calls there are
 abbrev pub distinct_count : List Pair → ℕ
 distinct_count pairs = length (distinct same_pair pairs)
 
 -- the calls that the arcs count: as many from the first on as have a place, where one entry is no arc
-abbrev pub kept_of : Sizes → List Pair → List Pair
-kept_of z pairs = longest_front (λ front. nat_le (distinct_count front) (z.tolimit - 1)) pairs
+abbrev pub kept_front : Sizes → List Pair → List Pair
+kept_front z pairs = longest_front (λ front. nat_le (distinct_count front) (z.tolimit - 1)) pairs
 
-unfoldable pub kept : Sizes → List LogEntry → List Pair
-kept z log = kept_of z (entered z log)
+unfoldable pub kept_calls : Sizes → List LogEntry → List Pair
+kept_calls z log = kept_front z (entered_calls z log)
 
 -- the state of the arc table after the log
 unfoldable pub state_of : Sizes → List LogEntry → State
 state_of z log =
     if is_busy log then Busy else (
-    if nat_le z.tolimit (distinct_count (entered z log)) then Error else (
+    if nat_le z.tolimit (distinct_count (entered_calls z log)) then Error else (
     if is_on log then On else Off))
 
 -- the call site lies in the text
