@@ -1,7 +1,7 @@
 -- Items of one width, one after the other.
-use Rattle.std.proofs.Common.{◌≡◌, ◌-◌, ℕ, zero, suc, ◌+◌, ◌*◌, ◌≤◌, List, [], ◌∷◌, ◌++◌, length, take, drop, map, length-take, length-drop, length-append, refl, sym, ap, ◌∙◌, append_assoc, arith}
+use Rattle.std.proofs.Common.{◌≡◌, ◌-◌, ℕ, zero, suc, ◌+◌, ◌*◌, ◌<◌, ◌≤◌, slice_get, Some, List, [], ◌∷◌, ◌++◌, length, take, drop, map, length-take, length-drop, length-append, refl, sym, ap, ◌∙◌, append_assoc, arith}
 use Rattle.std.specs.List.{flat_map, AllByRecursion}
-use Rattle.std.proofs.lemmas.List.{take_at, drop_at, append-nil, take-take, drop-take}
+use Rattle.std.proofs.lemmas.List.{take_at, drop_at, append-nil, take-take, drop-take, drop-drop}
 use Rattle.gp_base.specs.Bytes.{cut, IsBytes}
 use Rattle.gp_base.proofs.LittleEndian.{IsBytes-take, IsBytes-drop}
 
@@ -75,3 +75,19 @@ cut-take {X} w item (suc n) k bs le =
     ap (λ (v : List ℕ). item v ∷ cut w item n (drop w (take k bs))) (take-take w k bs (omega arith))
     ∙ ap (λ (v : List ℕ). item (take w bs) ∷ cut w item n v) rest
     ∙ ap (λ (v : List X). item (take w bs) ∷ v) (cut-take w item n (k - w) (drop w bs) (omega arith))
+
+-- item i begins i * w bytes from the begin
+pub get_cut : {X : Type 0} (w : ℕ) (item : List ℕ → X) (n i : ℕ) (bs : List ℕ) → i < n → slice_get (cut w item n bs) i ≡ Some (item (take w (drop (i * w) bs)))
+get_cut w item zero i bs h = absurd (omega arith)
+get_cut w item (suc n) zero bs h = let start : 0 * w ≡ 0 = omega arith in rw start refl
+get_cut w item (suc n) (suc i) bs h =
+    let there : drop (i * w) (drop w bs) ≡ drop (suc i * w) bs = drop-drop (i * w) w bs ∙ ap (λ (k : ℕ). drop k bs) (omega arith) in
+    get_cut w item n i (drop w bs) (omega arith) ∙ ap (λ (v : List ℕ). Some (item (take w v))) there
+
+-- what holds of an item of w bytes holds of each
+pub all_cut : {X : Type 0} (P : X → Type 0) (w : ℕ) (item : List ℕ → X) → ((bs : List ℕ) → length bs ≡ w → IsBytes bs → P (item bs))
+    → (n : ℕ) (bs : List ℕ) → n * w ≤ length bs → IsBytes bs → AllByRecursion P (cut w item n bs)
+all_cut P w item each zero bs long bytes = tt
+all_cut P w item each (suc n) bs long bytes =
+    let e : suc n * w ≡ w + n * w = omega arith in
+    (each (take w bs) (omega (arith, length-take w bs)) (IsBytes-take w bs bytes), all_cut P w item each n (drop w bs) (omega (arith, length-drop w bs)) (IsBytes-drop w bs bytes))

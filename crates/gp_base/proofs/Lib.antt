@@ -1,2 +1,4 @@
 pub mod LittleEndian
 pub mod Cutting
+pub mod Overwriting
+pub mod Searching

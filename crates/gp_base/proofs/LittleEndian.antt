@@ -1,9 +1,9 @@
 -- Writing a number as bytes and reading it back.
-use Rattle.std.proofs.Common.{◌≡◌, ℕ, zero, suc, ◌+◌, ◌*◌, ◌/◌, ◌%◌, ◌^◌, ◌<◌, List, [], ◌∷◌, length, take, drop, get_or, length-take, inl, inr, refl, ap, arith, ◌≤◌}
+use Rattle.std.proofs.Common.{◌≡◌, ℕ, zero, suc, ◌+◌, ◌*◌, ◌/◌, ◌%◌, ◌^◌, ◌<◌, List, [], ◌∷◌, ◌++◌, length, take, drop, get_or, length-take, length-drop, inl, inr, refl, sym, ap, subst, ◌∙◌, arith, ◌≤◌}
 use Rattle.std.proofs.Math.Nat.{pow-succ'}
 use Rattle.std.proofs.Math.Seq.{drop-cons}
 use Rattle.std.proofs.lemmas.Bool.{cases_lt}
-use Rattle.std.proofs.lemmas.List.{get_or-drop, get_or-take, get_or_past}
+use Rattle.std.proofs.lemmas.List.{get_or-drop, get_or-take, get_or_past, take-append-drop, drop-drop}
 use Rattle.byteorder.specs.Endian.{little_from}
 use Rattle.gp_base.specs.Bytes.{value_of, le, IsBytes, cut}
 
@@ -13,6 +13,12 @@ length-le (suc k) n = ap suc (length-le k (n / 256))
 
 pub IsBytes-rest : (b : ℕ) (bs : List ℕ) → IsBytes (b ∷ bs) → IsBytes bs
 IsBytes-rest b bs h i = h (suc i)
+
+-- they are bytes
+pub IsBytes-le : (k n : ℕ) → IsBytes (le n k)
+IsBytes-le zero n i = omega arith
+IsBytes-le (suc k) n zero = omega arith
+IsBytes-le (suc k) n (suc i) = IsBytes-le k (n / 256) i
 
 -- k bytes hold each number below 256 ^ k
 pub value_of-le : (k n : ℕ) → n < 256 ^ k → value_of (le n k) ≡ n
@@ -56,3 +62,18 @@ IsBytes-take n bs h i =
       | inl lt ↦ rw (get_or-take n bs i 0 lt) (h i)
       | inr le ↦ rw (get_or_past (take n bs) i 0 (omega (arith, length-take n bs))) (omega arith)
     ]
+
+-- a number of k bytes at an offset has k bytes
+pub field_below : (k at : ℕ) (bs : List ℕ) → IsBytes bs → at + k ≤ length bs → value_of (take k (drop at bs)) < 256 ^ k
+field_below k at bs bytes long =
+    let field = take k (drop at bs) in
+    let len : length field ≡ k = omega (arith, length-take k (drop at bs), length-drop at bs) in
+    subst (λ (n : ℕ). value_of field < 256 ^ n) len (value_of-below field (IsBytes-take k (drop at bs) (IsBytes-drop at bs bytes)))
+
+-- what stands from an offset on is the number there, and what follows it
+pub field_then : (k at : ℕ) (bs : List ℕ) → IsBytes bs → at + k ≤ length bs → le (value_of (take k (drop at bs))) k ++ drop (at + k) bs ≡ drop at bs
+field_then k at bs bytes long =
+    let field = take k (drop at bs) in
+    let len : length field ≡ k = omega (arith, length-take k (drop at bs), length-drop at bs) in
+    let front : le (value_of field) k ≡ field = ap (le (value_of field)) (sym len) ∙ le-value_of field (IsBytes-take k (drop at bs) (IsBytes-drop at bs bytes)) in
+    ap (λ (v : List ℕ). v ++ drop (at + k) bs) front ∙ ap (λ (v : List ℕ). field ++ v) (sym (drop-drop k at bs)) ∙ take-append-drop k (drop at bs)

@@ -1,5 +1,5 @@
 -- Numbers as lists of bytes, the lowest byte first.
-use Rattle.std.specs.Prelude.{ℕ, zero, suc, ◌+◌, ◌*◌, ◌/◌, ◌%◌, ◌<◌, List, [], ◌∷◌, take, drop, slice_index}
+use Rattle.std.specs.Prelude.{ℕ, zero, suc, ◌+◌, ◌*◌, ◌/◌, ◌%◌, ◌<◌, List, [], ◌∷◌, ◌++◌, length, take, drop, slice_index}
 
 -- the number that bytes stand for: the sum of byte j times 256 ^ j
 abbrev pub value_of : List ℕ → ℕ
@@ -26,3 +26,7 @@ word_at bs at = value_of (take 4 (drop at bs))
 abbrev pub cut : {X : Type 0} → ℕ → (List ℕ → X) → ℕ → List ℕ → List X
 cut w item zero bs = []
 cut w item (suc n) bs = item (take w bs) ∷ cut w item n (drop w bs)
+
+-- a list with `piece` in place of as many items from `at` on
+abbrev pub overwritten : {X : Type 0} → ℕ → List X → List X → List X
+overwritten at piece xs = take at xs ++ (piece ++ drop (at + length piece) xs)

@@ -26,6 +26,7 @@ pub fn le4(n: u32) -> [u8; 4]
 /// Bytes and numbers stand for each other: k bytes for each number below 256 ^ k.
 pub fn little_endian()
     ensures length { (n k : ℕ) → length (le n k) ≡ k }
+    ensures bytes { (n k : ℕ) → IsBytes (le n k) }
     ensures reads_back { (n k : ℕ) → n < 256 ^ k → value_of (le n k) ≡ n }
     ensures one_spelling { (bs : List ℕ) → IsBytes bs → le (value_of bs) (length bs) ≡ bs }
     ensures below { (bs : List ℕ) → IsBytes bs → value_of bs < 256 ^ length bs }
