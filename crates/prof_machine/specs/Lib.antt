@@ -1,6 +1,11 @@
 pub mod Setup
 pub mod World
+pub mod Registers
+pub mod Ecalls
 pub mod Turn
 pub mod Plan
+pub mod Schedule
 pub mod Start
+pub mod Prints
 pub mod Value
+pub mod Stages

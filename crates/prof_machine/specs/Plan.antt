@@ -4,6 +4,7 @@ use Rattle.std.specs.List.{range_with_len}
 use Rattle.prof_machine.specs.declared.setup.Plan.{Plan}
 use Rattle.prof_machine.specs.declared.setup.Plan.TheVariants.{RoundRobin, Seeded}
 use Rattle.prof_machine.specs.declared.setup.Setup.{Setup}
+use Rattle.prof_machine.specs.declared.machine.Machine.{Machine}
 use Rattle.prof_machine.specs.World.{World}
 use Rattle.prof_machine.specs.Turn.{world_after}
 
@@ -33,8 +34,8 @@ unfoldable pub plan_of : Setup → ℕ → List ℕ
 plan_of setup n = map (taker_of setup.plan setup.harts) (range_with_len 0 n)
 
 -- the world after the first n turns
-abbrev pub planned : Setup → World → ℕ → World
-planned setup w n = world_after setup w (plan_of setup n)
+abbrev pub planned : Machine → World → ℕ → World
+planned m w n = world_after m w (plan_of m.setup n)
 
 -- More turns than this no run has: a turn that isn't one of the fewer than 65,535 looks of a call retires an
 -- instruction or ends the run.
@@ -42,5 +43,5 @@ abbrev pub most_turns : Setup → ℕ
 most_turns setup = setup.budget * 65535
 
 -- the world in which the planned turns end
-unfoldable pub driven : Setup → World → World
-driven setup w = planned setup w (most_turns setup)
+unfoldable pub driven : Machine → World → World
+driven m w = planned m w (most_turns m.setup)

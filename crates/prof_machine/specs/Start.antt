@@ -10,14 +10,15 @@ use Rattle.rv_step.specs.Registers.{Registers, with_register}
 use Rattle.prof_machine.specs.declared.ending.StartRefusal.{StartRefusal}
 use Rattle.prof_machine.specs.declared.ending.StartRefusal.TheVariants.{ProgramTooLarge, EntryOutside, OutOfMemory}
 use Rattle.prof_machine.specs.declared.layout.Layout.{Layout}
-use Rattle.prof_machine.specs.declared.layout.TheConstants.{PAGE, MIB, STACK_BYTES, STACKS_BYTES, BREAK_GRAIN, STACK_GAP}
+use Rattle.mcount_arcs.specs.Sizes.{sizes_of}
+use Rattle.prof_machine.specs.declared.machine.Machine.{Machine}
 use Rattle.prof_machine.specs.declared.setup.Setup.{Setup}
 use Rattle.prof_machine.specs.World.{World}
 use Rattle.prof_machine.specs.Plan.{driven}
 
--- memory begins at the lowest address of a segment, rounded down to a page, and at 0 where there is no segment
+-- memory begins at the lowest address of a segment, rounded down to a page of 4,096 bytes, and at 0 where there is no segment
 abbrev pub base_in : List Segment → ℕ
-base_in segments = lowest (map (λ (s : Segment). s.addr) segments) / PAGE * PAGE
+base_in segments = lowest (map (λ (s : Segment). s.addr) segments) / 4096 * 4096
 
 -- the address behind the last one of a segment, and 0 where there is no segment
 abbrev pub program_end_in : List Segment → ℕ
@@ -30,15 +31,22 @@ unfoldable pub program_end_of : Image → ℕ
 program_end_of image = program_end_in image.segments
 
 abbrev pub size_of : Setup → ℕ
-size_of setup = setup.ram_mib * MIB
+size_of setup = setup.ram_mib * 2 ^ 20
 
 -- the address behind memory
 abbrev pub end_of : Image → Setup → ℕ
 end_of image setup = base_of image + size_of setup
 
--- the program, and the stacks at the end of memory
+-- a stack has 262,144 bytes, and there are eight of them at the end of memory
+abbrev pub stack_bytes : ℕ
+stack_bytes = 262144
+
+abbrev pub stacks_bytes : ℕ
+stacks_bytes = 2097152
+
+-- the program and the stacks
 abbrev pub need_of : Image → ℕ
-need_of image = program_end_of image + STACKS_BYTES
+need_of image = program_end_of image + stacks_bytes
 
 -- memory ends too low for these, or too high
 abbrev pub is_too_small : ℕ → ℕ → Bool
@@ -62,12 +70,12 @@ IsRefusal (EntryOutside entry) refusal = refusal ≡ Some (EntryOutside entry)
 
 -- the stack of hart h lies below this address: the stacks lie one below the other at the end of memory
 abbrev pub stack_of : ℕ → ℕ → ℕ
-stack_of end h = end - STACK_BYTES * h
+stack_of end h = end - stack_bytes * h
 
 -- sp (x2) is the stack's end less 16, a0 (x10) the hart's number, a1 (x11) the number of harts, and all else 0
 abbrev pub first_registers : ℕ → ℕ → ℕ → ℕ → Registers
 first_registers entry end harts h = record {
-  x = with_register (with_register (with_register (replicate 32 0) 2 (stack_of end h - STACK_GAP)) 10 h) 11 harts;
+  x = with_register (with_register (with_register (replicate 32 0) 2 (stack_of end h - 16)) 10 h) 11 harts;
   pc = entry;
 }
 
@@ -78,12 +86,13 @@ first_memory image bytes setup =
 
 -- the break begins behind the program, at a multiple of 16
 abbrev pub break_behind : ℕ → ℕ
-break_behind program_end = (program_end + (BREAK_GRAIN - 1)) / BREAK_GRAIN * BREAK_GRAIN
+break_behind program_end = (program_end + 15) / 16 * 16
 
 -- before the first turn
 unfoldable pub start_of : Image → List ℕ → Setup → World
 start_of image bytes setup = record {
   harts = map (first_registers image.entry (end_of image setup) setup.harts) (range_with_len 0 setup.harts);
+  left = replicate setup.harts 0;
   memory = first_memory image bytes setup;
   break_at = break_behind (program_end_of image);
   retired = 0;
@@ -92,9 +101,20 @@ start_of image bytes setup = record {
   prints = [];
 }
 
+-- what never changes in a run
+unfoldable pub machine_of : Image → Setup → Machine
+machine_of image setup = record {
+  setup = setup;
+  mcount = image.mcount;
+  moncontrol = image.moncontrol;
+  sizes = sizes_of image.text;
+  first_break = break_behind (program_end_of image);
+  last_break = end_of image setup - stacks_bytes;
+}
+
 -- the world in which a run ends
 abbrev pub final_world : Image → List ℕ → Setup → World
-final_world image bytes setup = driven setup (start_of image bytes setup)
+final_world image bytes setup = driven (machine_of image setup) (start_of image bytes setup)
 
 -- where a program lies in memory
 pub record IsLayout (image : Image) (setup : Setup) (l : Layout) : Type 0 where
@@ -105,12 +125,12 @@ pub record IsLayout (image : Image) (setup : Setup) (l : Layout) : Type 0 where
   pub fits : l.program_end < 2 ^ 33
 
 abbrev pub is_too_small_of : Layout → Bool
-is_too_small_of l = is_too_small (l.program_end + STACKS_BYTES) l.end
+is_too_small_of l = is_too_small (l.program_end + stacks_bytes) l.end
 
 abbrev pub is_outside_of : Layout → ℕ → Bool
 is_outside_of l entry = is_outside l.base l.end entry
 
 -- the program and the stacks have room
 pub record HasRoom (l : Layout) : Type 0 where
-  pub stacks : l.program_end + STACKS_BYTES ≤ l.end
+  pub stacks : l.program_end + stacks_bytes ≤ l.end
   pub fits : l.end ≤ 2 ^ 32

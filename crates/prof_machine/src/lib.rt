@@ -1,15 +1,20 @@
 //! The machine that is profiled: harts that take turns on one memory under a budget of instructions,
-//! with the clock of the profiling runtime.
+//! with the hooks and the clock of the profiling runtime.
 #![tactic(auto)]
 
+mod ecalls;
 pub mod ending;
+mod flight;
 pub mod laws;
 mod layout;
-pub mod machine;
+mod machine;
+pub mod runs;
+mod schedule;
 pub mod setup;
+mod stages;
 
 pub use ending::{End, RunSummary, StartRefusal, Turned};
-pub use machine::Run;
+pub use runs::Run;
 pub use setup::{Plan, Setup};
 
 #[cfg(test)]

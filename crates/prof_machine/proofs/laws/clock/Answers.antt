@@ -1,5 +1,5 @@
-use Rattle.prof_machine.proofs.Meaning.{samples_in_time, within_budget, budget_ends}
+use Rattle.prof_machine.proofs.RunLemmas.{timed_budget, timed_exit, timed_going, timed_trap}
 use Rattle.prof_machine.proofs.laws.clock.Goals as goal
 
 pub returns : goal.returns
-returns c = record { samples = samples_in_time; within = within_budget; budget = budget_ends }
+returns c = record { going = timed_going; budget = timed_budget; exit = timed_exit; trap = timed_trap }
