@@ -1,7 +1,6 @@
-pub mod Completed
 pub mod Numerals
-pub mod Reader
-pub mod Readings
+pub mod ItemLemmas
+pub mod WordLemmas
 pub mod Standing
 pub mod Accepting
 pub mod Performing

@@ -1,47 +1,83 @@
--- Acts that are done one after the other.
-use Rattle.std.proofs.Common.{◌≡◌, ℕ, Bool, false, List, [], ◌∷◌, ◌++◌, take, Result, Ok, Err, inl, inr, refl, sym, ap, subst, ◌∙◌}
-use Rattle.host_port.specs.Act.{Act, Create, Write, Close, Out, writes_after}
-use Rattle.host_port.specs.Act.{Err as Complain}
+-- What a run prints and writes, as acts that are due.
+use Rattle.std.proofs.Common.{◌≡◌, ℕ, ◌+◌, ◌<◌, ◌≤◌, Bool, false, List, [], ◌∷◌, ◌++◌, append_assoc, take, Option, Some, None, Result, Ok, Err, refl, sym, ap, subst, ◌∙◌, arith}
+use Rattle.std.specs.Prelude.{⊤}
+use Rattle.gmon_block.specs.Layout.{layout_of}
+use Rattle.host_port.specs.Act.{Act, Create, Write, Close, writes_after}
 use Rattle.host_port.specs.Outside.{Outside, Did, KeepsCounts}
-use Rattle.host_port.specs.Host.{Creates, Closes, Puts, act_of, Writes}
-use Rattle.host_port.specs.declared.side.Side.{Side}
-use Rattle.host_port.specs.declared.side.Side.TheVariants.{File, Output, ErrorOutput}
-use Rattle.host_port.proofs.Laws.{Did-then, Did-nothing, KeepsCounts-then, writes_after-append}
+use Rattle.host_port.specs.Host.{act_of}
+use Rattle.host_port.specs.Performing.{FailedAt, Performs}
+use Rattle.host_port.proofs.Laws.{Did-nothing, KeepsCounts-same, writes_after-append}
+use Rattle.host_port.proofs.PerformingLemmas.{failed_behind, piece_failed, piece_part, performs_then, performs_front}
 use Rattle.gmon_bsd.specs.Run.{run_text, text_of}
 use Rattle.mcount_arcs.specs.declared.sizes.Sizes.{Sizes}
+use Rattle.mcount_arcs.specs.Image.{block_image}
 use Rattle.mcount_arcs.specs.Log.{LogEntry}
-use Rattle.mcount_arcs.specs.Value.{GmonValue, StandsFor as RuntimeStandsFor}
+use Rattle.mcount_arcs.specs.Value.{GmonValue, StandsFor as RuntimeStandsFor, block_parts}
+use Rattle.prof_machine.specs.declared.machine.Machine.{Machine}
+use Rattle.prof_machine.specs.Plan.{driven, planned, most_turns}
+use Rattle.prof_machine.specs.Prints.{ArePrinted, BreaksOff}
 use Rattle.prof_machine.specs.Value.{RunValue, StandsFor}
 use Rattle.prof_machine.specs.World.{World}
-use Rattle.rvgprof.specs.Answer.{file_acts}
-use Rattle.host_port.specs.Performing.{Performs}
-use Rattle.host_port.proofs.PerformingLemmas.{performs_then}
-use Rattle.rvgprof.specs.Contract.{Acted}
+use Rattle.prof_machine.proofs.ActLemmas.{breaks_front}
+use Rattle.rvgprof.specs.Answer.{RunFiles, file_acts, given_file_acts, run_acts}
 use Rattle.rvgprof.specs.declared.outcome.Done.{Done}
 use Rattle.rvgprof.specs.Course.{Ends, Does}
+use Rattle.rvgprof.specs.Contract.{Acted}
 use Rattle.rvgprof.specs.Standing.{Stands}
 use Rattle.rvgprof.proofs.Standing.{ends, does}
 
-pub shut_after : (prints : List Act) (name text : List ℕ) (w : Bool) → writes_after (prints ++ file_acts name text) w ≡ false
-shut_after prints name text w = writes_after-append prints (file_acts name text) w
+given_shut : (image : Option (List ℕ)) (bytes : List ℕ) → writes_after (given_file_acts image bytes) false ≡ false
+given_shut None bytes = refl
+given_shut (Some name) bytes = refl
 
--- nothing was printed before the run
-pub first_prints : (prints : List Act) (x : Outside) → prints ≡ [] → Did prints x x
-first_prints prints x none = subst (λ (acts : List Act). Did acts x x) (sym none) (Did-nothing x)
+-- no file is being written behind the acts of a run
+pub shut_after : (files : RunFiles) (rate : ℕ) (z : Sizes) (w : World) (b : Bool) → writes_after (run_acts files rate z w) b ≡ false
+shut_after files rate z w b =
+    let front = file_acts files.gmon (run_text z w.log rate) in
+    let back = given_file_acts files.image (layout_of (block_image z w.log)) in
+    writes_after-append w.prints (front ++ back) b ∙ writes_after-append front back (writes_after w.prints b) ∙ given_shut files.image (layout_of (block_image z w.log))
 
--- the text that was written, by the world in which the run ended
-pub file_text : (v : GmonValue) (r : RunValue) (z : Sizes) (w : World) (rate : ℕ) → v ≡ r.gmon → StandsFor w r → r.gmon.sizes ≡ z → ((log : List LogEntry) → RuntimeStandsFor log v → text_of v rate ≡ run_text v.sizes log rate)
-    → text_of v rate ≡ run_text z w.log rate
-file_text v r z w rate is stands sizes text =
-    let P : GmonValue → Type 0 = λ g. RuntimeStandsFor w.log g in
-    text w.log (subst P (sym is) stands.gmon) ∙ ap (λ (g : GmonValue). run_text g.sizes w.log rate) is ∙ ap (λ (x : Sizes). run_text x w.log rate) sizes
+-- ---- the prints
 
-pub puts_as : {T E : Type 0} (text whole : List ℕ) (x y : Outside) (r : Result T E) → text ≡ whole → Puts File text x y r → Puts File whole x y r
-puts_as text whole x y r is puts = subst (λ (t : List ℕ). Puts File t x y r) is puts
+-- all that a run prints was printed
+pub printed_performs : {T E : Type 0} (w v : World) (x y : Outside) (u : T) → w.prints ≡ [] → ArePrinted w v x y → KeepsCounts x y → Performs {T = T} {E = E} v.prints x y (Ok u)
+printed_performs {T} {E} w v x y u none p kept =
+    let all : v.prints ≡ p.more = p.behind ∙ ap (λ (front : List Act). front ++ p.more) none in
+    record { done = subst (λ (acts : List Act). Did acts x y) (sym all) p.did; kept = kept; failed = tt }
 
--- acts were done, and then others
-pub behind_prints : {E : Type 0} (prints acts : List Act) (x y z : Outside) (r : Result (Unit {0}) E) → Did prints x y → KeepsCounts x y → Performs acts y z r → Performs (prints ++ acts) x z r
-behind_prints prints acts x y z r did kept p = performs_then {T = Unit {0}} prints acts x y z tt r (record { done = did; kept = kept; failed = tt }) p
+-- a print failed in a turn of the plan
+pub breaks_performs : {T E : Type 0} (m : Machine) (w : World) (k n : ℕ) (x y : Outside) (e : E) → k ≤ n → w.prints ≡ [] → BreaksOff w (planned m w k) x y → Performs {T = T} (planned m w n).prints x y (Err e)
+breaks_performs {T} {E} m w k n x y e le none off =
+    let front = breaks_front m w k n x y le off in
+    let act = act_of off.side off.piece in
+    let part = act_of off.side (take off.n off.piece) in
+    let due : (planned m w n).prints ≡ off.before ++ act ∷ front.0 = front.1 ∙ ap (λ (acts : List Act). acts ++ (off.before ++ act ∷ front.0)) none in
+    record {
+      done = tt;
+      kept = tt;
+      failed = (
+        off.before ++ part ∷ [],
+        act,
+        subst (λ (acts : List Act). FailedAt act (off.before ++ part ∷ []) acts) (sym due) (failed_behind act off.before (part ∷ []) (act ∷ front.0) (piece_part off.side off.piece off.n front.0 off.part)),
+        off.did,
+        piece_failed ⊤ ⊤ off.side off.piece x y tt off.counts,
+      );
+    }
+
+-- the same in the words of the whole plan
+pub drive_fails : {T E : Type 0} (m : Machine) (w : World) (n : ℕ) (x y : Outside) (e : E) → n < most_turns m.setup → w.prints ≡ [] → BreaksOff w (planned m w (n + 1)) x y → Performs {T = T} (driven m w).prints x y (Err e)
+unfolding driven
+drive_fails {T} m w n x y e below none off = breaks_performs {T = T} m w (n + 1) (most_turns m.setup) x y e (omega arith) none off
+
+-- ---- the files
+
+-- the texts that were written, by the world in which the run ended
+pub profile_is : (v : GmonValue) (z : Sizes) (log : List LogEntry) (rate : ℕ) → RuntimeStandsFor log v → v.sizes ≡ z → ((log : List LogEntry) → RuntimeStandsFor log v → text_of v rate ≡ run_text v.sizes log rate) → text_of v rate ≡ run_text z log rate
+profile_is v z log rate stands sizes text = text log stands ∙ ap (λ (x : Sizes). run_text x log rate) sizes
+
+pub given_nothing : {T E : Type 0} (bytes : List ℕ) (image : Option (List ℕ)) (x : Outside) (u : T) → image ≡ None → Performs {T = T} {E = E} (given_file_acts image bytes) x x (Ok u)
+given_nothing {T} {E} bytes image x u none =
+    subst (λ (i : Option (List ℕ)). Performs {T = T} {E = E} (given_file_acts i bytes) x x (Ok u)) (sym none) (record { done = Did-nothing x; kept = KeepsCounts-same x; failed = tt })
 
 -- the last acts of a command were done
 pub last_acts : {T E : Type 0} (words : List (List ℕ)) (old mid new : Outside) (below : ℕ) (done acts : List Act) (d : Done) (u : T) → Stands words old mid below done (Does acts (Ends (Ok d)))

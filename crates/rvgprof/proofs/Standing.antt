@@ -15,7 +15,8 @@ use Rattle.rvgprof.specs.declared.outcome.Done.{Done}
 use Rattle.rvgprof.specs.declared.outcome.Fault.{Fault}
 use Rattle.rvgprof.specs.declared.outcome.Fault.TheVariants.{Usage, ReadFault, WriteFault, OutOfMemory, TooLarge}
 use Rattle.rvgprof.specs.declared.words.Command.{Command}
-use Rattle.rvgprof.specs.Words.{command_of, name_of}
+use Rattle.rvgprof.specs.Items.{name_of}
+use Rattle.rvgprof.specs.Words.{command_of}
 use Rattle.rvgprof.specs.Course.{Course, Ends, Input, Does, Reply, refused, unless, reply_to, behind, ComesTo, MayStop}
 use Rattle.rvgprof.specs.Answer.{command_course, course_of, contents_of, load_fault_of}
 use Rattle.host_port.specs.Performing.{FailedAt, Performs}

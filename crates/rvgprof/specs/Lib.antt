@@ -1,7 +1,7 @@
 pub mod Numbers
 pub mod Options
+pub mod Items
 pub mod Words
-pub mod HalfWay
 pub mod Texts
 pub mod Course
 pub mod Answer

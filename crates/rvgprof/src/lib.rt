@@ -4,13 +4,13 @@
 mod complaints;
 mod end_line;
 mod inputs;
+mod items;
 mod numbers;
 mod options;
 pub mod outcome;
 mod profile_file;
 mod refusals;
 mod run;
-mod run_words;
 mod show;
 mod syms;
 pub mod top;

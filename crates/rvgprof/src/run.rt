@@ -1,50 +1,60 @@
 //! The command `run`.
 
-ghost use Rattle.std.specs.Prelude.{◌≡◌, [], false, map, string_bytes, IsSome, OnOk};
+ghost use Rattle.std.specs.Prelude.{◌≡◌, [], false, map, string_bytes, IsSome, IfSome, OnOk, Some};
+ghost use Rattle.gmon_block.specs.Layout.{layout_of};
+ghost use Rattle.gmon_bsd.specs.Run.{text_of};
+ghost use Rattle.host_port.specs.Performing.{Performs};
+ghost use Rattle.mcount_arcs.specs.Value.{block_parts};
 ghost use Rattle.prof_machine.specs.Plan.{driven};
 ghost use Rattle.prof_machine.specs.Setup.{IsSetup};
 ghost use Rattle.prof_machine.specs.Value.{IsLive, StandsFor};
 ghost use Rattle.prof_machine.specs.World.{World};
-ghost use Rattle.rvgprof.specs.Answer.{run_acts, run_course, setup_of};
-ghost use Rattle.rvgprof.specs.Options.{AreWithinLimits};
-ghost use Rattle.rvgprof.specs.Words.{name_of};
-ghost use Rattle.host_port.specs.Performing.{Performs};
+ghost use Rattle.rvgprof.specs.Answer.{file_acts, files_named, given_file_acts, run_acts, run_course};
 ghost use Rattle.rvgprof.specs.Contract.{Acted};
+ghost use Rattle.rvgprof.specs.Items.{name_of};
 ghost use Rattle.rvgprof.specs.Standing.{Stands};
+ghost use Rattle.std.specs.Option.{option_map};
 
-use crate::options::RunOptions;
-use crate::outcome::{Done, Fault};
 use crate::inputs::read_program;
+use crate::items::name_at;
+use crate::outcome::{Done, Fault};
 use crate::refusals::start_fault;
-use crate::words::name_at;
 use gmon_bsd::write_run;
-use host_port::{Failed, Host};
-use prof_machine::{Plan, Run, Setup};
+use host_port::{Failed, Host, write_all_of};
+use mcount_arcs::Gmon;
+use prof_machine::{Run, Setup};
 use std::alloc::Global;
+
+/// The words that name what a run writes: its profile, and perhaps the memory of its runtime.
+#[derive(Clone, Copy)]
+pub struct RunOutputs {
+    pub gmon: u32,
+    pub image: Option<u32>,
+}
 
 /// Runs a program, and writes its profile.
 pub fn run<H: Host>(
     alloc: Global,
     words: &[String],
     elf: u32,
-    gmon: u32,
-    options: RunOptions,
+    outputs: RunOutputs,
+    setup: Setup,
     host: &mut H,
 ) -> Result<Done, Fault>
     requires stands { Stands (map string_bytes words.now) (H.outside host.old) (H.outside host.old) 0 []
-        (run_course elf (name_of (map string_bytes words.now) gmon) (setup_of options)) }
-    requires within { AreWithinLimits options }
+        (run_course elf (files_named (map string_bytes words.now) outputs.gmon outputs.image) setup) }
+    requires within { IsSetup setup }
     ensures { Acted (map string_bytes words.now) (H.outside host.old) (H.outside host.new) result }
 {
     let (bytes, image) = match read_program(alloc, words, elf, host) {
         Ok(read) => read,
         Err(fault) => return Err(fault),
     };
-    let mut run = match Run::start(alloc, &image, bytes.as_slice(), setup(options)) {
+    let mut run = match Run::start(alloc, &image, bytes.as_slice(), setup) {
         Ok(run) => run,
         Err(refusal) => return Err(start_fault(refusal)),
     };
-    match perform(&mut run, name_at(words, gmon), options.rate, host) {
+    match perform(&mut run, words, outputs, setup.rate, host) {
         Ok(()) => Ok(Done {
             run: Some(run.summary()),
         }),
@@ -52,34 +62,52 @@ pub fn run<H: Host>(
     }
 }
 
-/// The run that the options ask for.
-fn setup(options: RunOptions) -> Setup
-    requires { AreWithinLimits options }
-    ensures is { result ≡ setup_of options }
-    ensures valid { IsSetup result }
-{
-    Setup {
-        every: options.every,
-        budget: options.budget,
-        rate: options.rate,
-        ram_mib: options.ram_mib,
-        harts: 1,
-        plan: Plan::RoundRobin { quantum: 1 },
-    }
-}
-
-/// Drives a run to its end, and then writes its profile to the named file.
-fn perform<H: Host>(run: &mut Run, name: &str, rate: u32, host: &mut H) -> Result<(), Failed>
+/// Drives a run to its end, and then writes its files.
+fn perform<H: Host>(
+    run: &mut Run,
+    words: &[String],
+    outputs: RunOutputs,
+    rate: u32,
+    host: &mut H,
+) -> Result<(), Failed>
     requires live { IsLive run.old }
     requires idle { (H.outside host.old).is_writing ≡ false }
     ensures performs { (w : World) → StandsFor w run.old → w.prints ≡ []
-        → Performs (run_acts name.now rate run.old.gmon.sizes (driven run.old.setup w)) (H.outside host.old) (H.outside host.new) result }
-    ensures stands { OnOk result ((w : World) → StandsFor w run.old → StandsFor (driven run.old.setup w) run.new) }
-    ensures sizes { OnOk result (run.new.gmon.sizes ≡ run.old.gmon.sizes) }
+        → Performs (run_acts (files_named (map string_bytes words.now) outputs.gmon outputs.image) rate run.old.machine.sizes (driven run.old.machine w)) (H.outside host.old) (H.outside host.new) result }
+    ensures stands { OnOk result ((w : World) → StandsFor w run.old → StandsFor (driven run.old.machine w) run.new) }
+    ensures machine { OnOk result (run.new.machine ≡ run.old.machine) }
     ensures ended { OnOk result (IsSome run.new.ending) }
 {
     run.drive(host)?;
+    write_profile(run.gmon(), name_at(words, outputs.gmon), rate, host)?;
+    match outputs.image {
+        Some(image) => write_image(run.gmon(), name_at(words, image), host),
+        None => Ok(()),
+    }
+}
+
+/// Writes the profile of a runtime to the named file.
+fn write_profile<H: Host>(
+    gmon: &Gmon,
+    name: &str,
+    rate: u32,
+    host: &mut H,
+) -> Result<(), Failed>
+    requires { (H.outside host.old).is_writing ≡ false }
+    ensures performs { Performs (file_acts name.now (text_of gmon.now rate)) (H.outside host.old) (H.outside host.new) result }
+    ensures idle { OnOk result ((H.outside host.new).is_writing ≡ false) }
+{
     host.create_output(name)?;
-    write_run(run.gmon(), rate, host)?;
+    write_run(gmon, rate, host)?;
+    host.close_output()
+}
+
+/// Writes the memory of a runtime to the named file.
+fn write_image<H: Host>(gmon: &Gmon, name: &str, host: &mut H) -> Result<(), Failed>
+    requires { (H.outside host.old).is_writing ≡ false }
+    ensures { Performs (file_acts name.now (layout_of (block_parts gmon.now))) (H.outside host.old) (H.outside host.new) result }
+{
+    host.create_output(name)?;
+    write_all_of(host, gmon.block_bytes())?;
     host.close_output()
 }

@@ -1,0 +1,156 @@
+-- Items among the words, one after the other.
+use Rattle.std.proofs.Common.{◌≡◌, ◌<◌, ℕ, zero, suc, ◌+◌, ◌-◌, ◌≤◌, Bool, true, false, cond, eqb, List, [], ◌∷◌, length, get_or, take, drop, map, Option, Some, None, refl, ap, sym, ◌∙◌, arith, inl, inr, ◌⊎◌}
+use Rattle.std.proofs.lemmas.List.{take_all}
+use Rattle.std.proofs.lemmas.Bool.{lt-ltb, le-ltb}
+use Rattle.std.proofs.lemmas.Bool.Decides.{nat_tests}
+use Rattle.std.specs.List.{cons_option}
+use Rattle.std.specs.Option.{option_map, option_and_then, unwrap_or}
+use Rattle.rvgprof.specs.declared.options.Key.{Key}
+use Rattle.rvgprof.specs.declared.options.Kind.{Kind}
+use Rattle.rvgprof.specs.declared.options.Kind.TheVariants.{Number, File, Flag}
+use Rattle.rvgprof.specs.declared.options.Takes.{Takes}
+use Rattle.rvgprof.specs.declared.items.Wanted.{Wanted}
+use Rattle.rvgprof.specs.declared.items.Wanted.TheVariants.{AnOption}
+use Rattle.rvgprof.specs.Items.{Item, Operand, Given, is_option, with_item, items_from, items_of_option, place_of, places, nth, place_given, name_of, number_at, number_given, setting}
+use Rattle.rvgprof.specs.Numbers.{number_within}
+use Rattle.rvgprof.specs.Options.{option_of, kind_of, is_flag, most_times}
+
+-- what is found behind an item is what is found with it
+item_added : (wanted : Wanted) (skip : ℕ) (item : Item) (o : Option (List Item))
+    → option_map (λ items. nth skip (cons_option (place_of wanted item) (places wanted items))) o ≡ option_map (λ items. nth skip (places wanted items)) (with_item item o)
+item_added wanted skip item None = refl
+item_added wanted skip item (Some items) = refl
+
+flag_items : (takes : Takes) (i : ℕ) (key : Key) (items : Option (List Item)) (words : List (List ℕ)) → is_flag (kind_of key) ≡ true → items_of_option takes i (Some key) items words ≡ with_item (Given key i) items
+flag_items takes i key items [] flag = ap (λ (b : Bool). cond b (with_item (Given key i) items) None) flag
+flag_items takes i key items (value ∷ words) flag = ap (λ (b : Bool). cond b (with_item (Given key i) items) (with_item (Given key (i + 1)) (items_from takes (i + 2) words))) flag
+
+-- a list is its first element and the others
+first_and_rest : {A : Type 0} (xs : List A) (x : A) → 1 ≤ length xs → x ≡ get_or xs 0 x → xs ≡ x ∷ take (length xs - 1) (drop 1 xs)
+first_and_rest [] x some is = absurd (omega arith)
+first_and_rest (y ∷ ys) x some is = let rest = take_all (suc (length ys) - 1) ys (omega arith) in cc
+
+-- the words of a slice behind its first
+abbrev pub rest_of : {A : Type 0} → List A → List A
+rest_of xs = take (length xs - 1) (drop 1 xs)
+
+pub option_is : {A : Type 0} (text : A → List ℕ) (takes : Takes) (i : ℕ) (words : List A) (word : A) (key : Key) → 1 ≤ length words → word ≡ get_or words 0 word → is_option (text word) ≡ true → option_of takes (text word) ≡ Some key
+    → items_from takes i (map text words) ≡ items_of_option takes i (Some key) (items_from takes (i + 1) (map text (rest_of words))) (map text (rest_of words))
+option_is {A} text takes i words word key some first option is =
+    let rest = map text (rest_of words) in
+    ap (λ (ws : List A). items_from takes i (map text ws)) (first_and_rest words word some first)
+    ∙ ap (λ (b : Bool). cond b (items_of_option takes i (option_of takes (text word)) (items_from takes (i + 1) rest) rest) (with_item (Operand i) (items_from takes (i + 1) rest))) option
+    ∙ ap (λ (o : Option Key). items_of_option takes i o (items_from takes (i + 1) rest) rest) is
+
+pub find_flag : {A : Type 0} (text : A → List ℕ) (takes : Takes) (i : ℕ) (wanted : Wanted) (skip : ℕ) (words : List A) (word : A) (key : Key) → 1 ≤ length words → word ≡ get_or words 0 word → is_option (text word) ≡ true
+    → option_of takes (text word) ≡ Some key → is_flag (kind_of key) ≡ true
+    → option_map (λ items. nth skip (cons_option (place_of wanted (Given key i)) (places wanted items))) (items_from takes (i + 1) (map text (rest_of words))) ≡ option_map (λ items. nth skip (places wanted items)) (items_from takes i (map text words))
+find_flag text takes i wanted skip words word key some first option is flag =
+    item_added wanted skip (Given key i) (items_from takes (i + 1) (map text (rest_of words)))
+    ∙ ap (λ (o : Option (List Item)). option_map (λ items. nth skip (places wanted items)) o)
+    (sym (option_is text takes i words word key some first option is ∙ flag_items takes i key (items_from takes (i + 1) (map text (rest_of words))) (map text (rest_of words)) flag))
+
+pub find_valued : {A : Type 0} (text : A → List ℕ) (takes : Takes) (i : ℕ) (wanted : Wanted) (skip : ℕ) (words : List A) (word value : A) (key : Key) → 1 ≤ length words → word ≡ get_or words 0 word → is_option (text word) ≡ true
+    → option_of takes (text word) ≡ Some key → is_flag (kind_of key) ≡ false → 1 ≤ length (rest_of words)
+    → option_map (λ items. nth skip (cons_option (place_of wanted (Given key (i + 1))) (places wanted items))) (items_from takes (i + 2) (map text (rest_of (rest_of words))))
+    ≡ option_map (λ items. nth skip (places wanted items)) (items_from takes i (map text words))
+find_valued {A} text takes i wanted skip words word value key some first option is flag more =
+    item_added wanted skip (Given key (i + 1)) (items_from takes (i + 2) (map text (rest_of (rest_of words))))
+    ∙ ap (λ (o : Option (List Item)). option_map (λ items. nth skip (places wanted items)) o)
+    (sym (option_is text takes i words word key some first option is ∙ valued (rest_of words) more))
+  where
+    valued : (ws : List A) → 1 ≤ length ws → items_of_option takes i (Some key) (items_from takes (i + 1) (map text ws)) (map text ws) ≡ with_item (Given key (i + 1)) (items_from takes (i + 2) (map text (rest_of ws)))
+    valued [] none = absurd (omega arith)
+    valued (v ∷ ws) some = 
+        ap (λ (b : Bool). cond b (with_item (Given key i) (items_from takes (i + 1) (map text (v ∷ ws)))) (with_item (Given key (i + 1)) (items_from takes (i + 2) (map text ws)))) flag
+        ∙ ap (λ (xs : List A). with_item (Given key (i + 1)) (items_from takes (i + 2) (map text xs))) (sym (take_all (suc (length ws) - 1) ws (omega arith)))
+
+-- the first of them was found
+pub first_found : (o : Option (List Item)) (wanted : Wanted) (place : ℕ) (x : Option ℕ) → option_map (λ items. nth 0 (places wanted items)) o ≡ Some x → option_map (λ items. nth 0 (place ∷ places wanted items)) o ≡ Some (Some place)
+first_found None wanted place x e = absurd cc
+first_found (Some items) wanted place x e = refl
+
+not_zero : (n : ℕ) → 1 ≤ n → eqb n 0 ≡ false
+not_zero n some = grind (arith, nat_tests)
+
+is_zero : (n : ℕ) → ((n ≡ 0) × (eqb n 0 ≡ true)) ⊎ ((1 ≤ n) × (eqb n 0 ≡ false))
+is_zero zero = inl (refl, refl)
+is_zero (suc n) = inr (omega arith, not_zero (suc n) (omega arith))
+
+later : (skip place : ℕ) (xs : List ℕ) → 1 ≤ skip → nth skip (place ∷ xs) ≡ nth (skip - 1) xs
+later skip place xs some = ap (λ (b : Bool). cond b (Some place) (nth (skip - 1) xs)) (not_zero skip some)
+
+pub later_found : (o : Option (List Item)) (wanted : Wanted) (skip place : ℕ) → 1 ≤ skip → option_map (λ items. nth (skip - 1) (places wanted items)) o ≡ option_map (λ items. nth skip (place ∷ places wanted items)) o
+later_found None wanted skip place some = refl
+later_found (Some items) wanted skip place some = ap (λ (x : Option ℕ). Some x) (sym (later skip place (places wanted items) some))
+
+-- words that can't be read
+pub none_as : {X : Type 0} (f g : List Item → X) (o : Option (List Item)) → option_map f o ≡ None → option_map g o ≡ None
+none_as f g None e = refl
+none_as f g (Some items) e = absurd cc
+
+pub none_so : {X Y : Type 0} (f : List Item → X) (g : List Item → Option Y) (o : Option (List Item)) → option_map f o ≡ None → option_and_then g o ≡ None
+none_so f g None e = refl
+none_so f g (Some items) e = absurd cc
+
+-- there are more than k, exactly where there is one behind the first k
+nth_none : (k : ℕ) (xs : List ℕ) → nth k xs ≡ None → length xs ≤ k
+nth_none k [] e = omega arith
+nth_none k (x ∷ xs) e = elim (is_zero k) [
+  | inl none ↦ absurd (cc (e, ap (λ (b : Bool). cond b (Some x) (nth (k - 1) xs)) none.1))
+  | inr some ↦ let rest = nth_none (k - 1) xs (sym (ap (λ (b : Bool). cond b (Some x) (nth (k - 1) xs)) some.1) ∙ e) in omega (arith, rest, some.0)
+]
+
+nth_some : (k : ℕ) (xs : List ℕ) (y : ℕ) → nth k xs ≡ Some y → k < length xs
+nth_some k [] y e = absurd cc
+nth_some k (x ∷ xs) y e = elim (is_zero k) [
+  | inl none ↦ omega (arith, none.0)
+  | inr some ↦ let rest = nth_some (k - 1) xs y (sym (ap (λ (b : Bool). cond b (Some x) (nth (k - 1) xs)) some.1) ∙ e) in omega (arith, rest, some.0)
+]
+
+-- an option that is given as often as it may be
+pub given_found : (key : Key) (o : Option (List Item)) (first : Option ℕ) → option_map (λ items. nth 0 (places (AnOption key) items)) o ≡ Some first
+    → option_map (λ items. nth (most_times key) (places (AnOption key) items)) o ≡ Some None → option_and_then (place_given key) o ≡ Some first
+given_found key None first e n = absurd cc
+given_found key (Some items) first e n =
+    let ps = places (AnOption key) items in
+    let a : nth 0 ps ≡ first = cc in
+    let few : length ps ≤ most_times key = nth_none (most_times key) ps cc in
+    ap (λ (b : Bool). cond b None (Some (nth 0 ps))) (le-ltb (most_times key) (length ps) few) ∙ ap (λ (x : Option ℕ). Some x) a
+
+-- or more often
+pub given_too_often : (key : Key) (o : Option (List Item)) (next : ℕ) → option_map (λ items. nth (most_times key) (places (AnOption key) items)) o ≡ Some (Some next) → option_and_then (place_given key) o ≡ None
+given_too_often key None next e = absurd cc
+given_too_often key (Some items) next e =
+    let ps = places (AnOption key) items in
+    let many : most_times key < length ps = nth_some (most_times key) ps next cc in
+    ap (λ (b : Bool). cond b None (Some (nth 0 ps))) (lt-ltb (most_times key) (length ps) many)
+
+-- a step and then another
+pub in_steps : {A B : Type 0} (f : List Item → Option A) (g : A → Option B) (o : Option (List Item)) → option_and_then (λ items. option_and_then g (f items)) o ≡ option_and_then g (option_and_then f o)
+in_steps f g None = refl
+in_steps f g (Some items) = refl
+
+pub number_found : (words : List (List ℕ)) (key : Key) (o : Option (List Item)) (place : Option (Option ℕ)) → option_and_then (place_given key) o ≡ place → option_and_then (number_given words key) o ≡ option_and_then (number_at words (kind_of key)) place
+number_found words key o place e = in_steps (place_given key) (number_at words (kind_of key)) o ∙ ap (option_and_then (number_at words (kind_of key))) e
+
+-- an option without a number
+no_number : (words : List (List ℕ)) (k : Kind) (place : Option ℕ) → (k ≡ File) ⊎ (k ≡ Flag) → number_at words k place ≡ None
+no_number words k place (inl e) = ap (λ (x : Kind). number_at words x place) e
+no_number words k place (inr e) = ap (λ (x : Kind). number_at words x place) e
+
+pub no_number_found : (words : List (List ℕ)) (key : Key) (o : Option (List Item)) (place : Option ℕ) (k : Kind) → Some place ≡ option_and_then (place_given key) o → k ≡ kind_of key → (k ≡ File) ⊎ (k ≡ Flag)
+    → None ≡ option_and_then (number_given words key) o
+no_number_found words key o place k e is other =
+    sym (number_found words key o (Some place) (sym e) ∙ ap (λ (x : Kind). number_at words x place) (sym is) ∙ no_number words k place other)
+
+-- the default where no number is given, and else the number
+pub setting_found : (words : List (List ℕ)) (key : Key) (default : ℕ) (o : Option (List Item)) (given : Option (Option ℕ)) → option_and_then (number_given words key) o ≡ given
+    → option_and_then (setting words key default) o ≡ option_map (λ n. unwrap_or n default) given
+setting_found words key default None given e = ap (option_map (λ (n : Option ℕ). unwrap_or n default)) e
+setting_found words key default (Some items) given e = ap (option_map (λ (n : Option ℕ). unwrap_or n default)) e
+
+pub number_read : (words : List (List ℕ)) (key : Key) (o : Option (List Item)) (place least most : ℕ) (n : Option ℕ) → Some (Some place) ≡ option_and_then (place_given key) o → Number least most ≡ kind_of key
+    → n ≡ number_within least most (name_of words place) → option_and_then (number_given words key) o ≡ option_map Some n
+number_read words key o place least most n is kind read =
+    number_found words key o (Some (Some place)) (sym is) ∙ ap (λ (k : Kind). number_at words k (Some place)) (sym kind) ∙ ap (λ (m : Option ℕ). option_map Some m) (sym read)

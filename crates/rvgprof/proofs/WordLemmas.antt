@@ -1,0 +1,25 @@
+-- What the words say, item by item.
+use Rattle.std.proofs.Common.{◌≡◌, ℕ, List, Option, Some, None, refl}
+use Rattle.std.specs.Option.{option_map, option_and_then}
+use Rattle.rvgprof.specs.declared.options.Key.TheVariants.{Every, Budget, Rate, Ram, Harts, Quantum, Seed, Image}
+use Rattle.rvgprof.specs.Items.{Item, place_given, number_given, setting}
+use Rattle.rvgprof.specs.Words.{operand, file_from, file_of, plan_from, plan_of, setup_from, setup_of, run_from, run_of}
+
+pub file_by_items : (o : Option (List Item)) → file_from (option_map (operand 1) o) (option_map (operand 2) o) ≡ option_and_then file_of o
+file_by_items None = refl
+file_by_items (Some items) = refl
+
+pub plan_by_items : (words : List (List ℕ)) (o : Option (List Item)) → plan_from (option_and_then (number_given words Quantum) o) (option_and_then (number_given words Seed) o) ≡ option_and_then (plan_of words) o
+plan_by_items words None = refl
+plan_by_items words (Some items) = refl
+
+pub setup_by_items : (words : List (List ℕ)) (o : Option (List Item))
+    → setup_from (option_and_then (setting words Every 1000) o) (option_and_then (setting words Budget 100000000) o) (option_and_then (setting words Rate 100) o)
+    (option_and_then (setting words Ram 64) o) (option_and_then (setting words Harts 1) o) (option_and_then (plan_of words) o) ≡ option_and_then (setup_of words) o
+setup_by_items words None = refl
+setup_by_items words (Some items) = refl
+
+pub run_by_items : (words : List (List ℕ)) (o : Option (List Item))
+    → run_from (option_map (operand 1) o) (option_map (operand 2) o) (option_map (operand 3) o) (option_and_then (place_given Image) o) (option_and_then (setup_of words) o) ≡ option_and_then (run_of words) o
+run_by_items words None = refl
+run_by_items words (Some items) = refl

@@ -1,0 +1,173 @@
+//! Operands and options among the words.
+
+ghost use Rattle.std.specs.Prelude.{◌≡◌, ◌+◌, ◌<◌, ◌≤◌, ◌^◌, length, map, string_bytes, IfSome};
+ghost use Rattle.std.specs.Option.{option_map, option_and_then};
+ghost use Rattle.std.specs.List.{cons_option};
+ghost use Rattle.rvgprof.specs.Items.{Operand, Given, place_of, is_option, items_from, places, nth, place_given, name_of, number_given, setting, is_key};
+ghost use Rattle.rvgprof.specs.Options.{kind_of as kind_in, IsNumberOf};
+
+use crate::numbers::number_in;
+use crate::options::{Key, Kind, Takes, is_flag, key_number, kind_of, most_times, option_of};
+
+/// What is looked for.
+#[derive(Clone, Copy)]
+pub enum Wanted {
+    AnOperand,
+    AnOption(Key),
+}
+
+/// Whether a word begins with a hyphen, as options do.
+fn is_hyphenated(word: &[u8]) -> bool
+    ensures { result ≡ is_option word.now }
+{
+    match word {
+        [first, ..] => *first == b'-',
+        [] => false,
+    }
+}
+
+fn is_key(key: Key, other: Key) -> bool
+    ensures { result ≡ is_key key other }
+{
+    key_number(key) == key_number(other)
+}
+
+/// The position of an operand, where operands are looked for.
+fn place_of_operand(wanted: Wanted, position: u32) -> Option<u32>
+    ensures { result ≡ place_of wanted (Operand position) }
+{
+    match wanted {
+        Wanted::AnOperand => Some(position),
+        Wanted::AnOption(_) => None,
+    }
+}
+
+/// The position that is given to an option, where that option is looked for.
+fn place_of_option(wanted: Wanted, key: Key, position: u32) -> Option<u32>
+    ensures { result ≡ place_of wanted (Given key position) }
+{
+    match wanted {
+        Wanted::AnOption(other) if is_key(other, key) => Some(position),
+        _ => None,
+    }
+}
+
+/// Where the operand or the value stands that comes behind `skip` others; `None` where the words can't be
+/// read. They begin at `position` among all words.
+#[cycle(find)]
+fn find(
+    takes: Takes,
+    words: &[String],
+    position: u32,
+    wanted: Wanted,
+    skip: u32,
+) -> Option<Option<u32>>
+    requires { position + length words.now < 2 ^ 32 }
+    ensures { result ≡ option_map (λ items. nth skip (places wanted items)) (items_from takes position (map string_bytes words.now)) }
+{
+    match words {
+        [] => Some(None),
+        [word, rest @ ..] => {
+            if !is_hyphenated(word.as_bytes()) {
+                let place = place_of_operand(wanted, position);
+                return find_behind(takes, rest, position + 1, wanted, skip, place);
+            }
+            let key = option_of(takes, word.as_str())?;
+            if is_flag(kind_of(key)) {
+                let place = place_of_option(wanted, key, position);
+                return find_behind(takes, rest, position + 1, wanted, skip, place);
+            }
+            match rest {
+                [_, rest @ ..] => {
+                    let place = place_of_option(wanted, key, position + 1);
+                    find_behind(takes, rest, position + 2, wanted, skip, place)
+                }
+                [] => None,
+            }
+        }
+    }
+}
+
+/// The same behind an item, which may be one of them.
+#[cycle(find)]
+fn find_behind(
+    takes: Takes,
+    words: &[String],
+    position: u32,
+    wanted: Wanted,
+    skip: u32,
+    place: Option<u32>,
+) -> Option<Option<u32>>
+    requires { position + length words.now < 2 ^ 32 }
+    ensures { result ≡ option_map (λ items. nth skip (cons_option place (places wanted items))) (items_from takes position (map string_bytes words.now)) }
+{
+    match place {
+        None => find(takes, words, position, wanted, skip),
+        Some(place) => {
+            if skip == 0 {
+                find(takes, words, position, wanted, 0)?;
+                return Some(Some(place));
+            }
+            find(takes, words, position, wanted, skip - 1)
+        }
+    }
+}
+
+/// Where the operand stands that comes behind so many others.
+pub fn operand_at(takes: Takes, words: &[String], skip: u32) -> Option<Option<u32>>
+    requires { length words.now ≤ 200 }
+    ensures { result ≡ option_map (λ items. nth skip (places Wanted.AnOperand items)) (items_from takes 0 (map string_bytes words.now)) }
+{
+    find(takes, words, 0, Wanted::AnOperand, skip)
+}
+
+/// Where the first value of an option stands; `None` where the words can't be read or give it too often.
+pub fn place_given(takes: Takes, words: &[String], key: Key) -> Option<Option<u32>>
+    requires { length words.now ≤ 200 }
+    ensures { result ≡ option_and_then (place_given key) (items_from takes 0 (map string_bytes words.now)) }
+{
+    let first = find(takes, words, 0, Wanted::AnOption(key), 0)?;
+    match find(takes, words, 0, Wanted::AnOption(key), most_times(key))? {
+        Some(_) => None,
+        None => Some(first),
+    }
+}
+
+/// The number that is given to an option, if one is; `None` where it is none that the option may have.
+pub fn number_given(takes: Takes, words: &[String], key: Key) -> Option<Option<u32>>
+    requires { length words.now ≤ 200 }
+    ensures reads { result ≡ option_and_then (number_given (map string_bytes words.now) key) (items_from takes 0 (map string_bytes words.now)) }
+    ensures within { IfSome result (λ given. IfSome given (λ n. IsNumberOf (kind_in key) n)) }
+{
+    let place = place_given(takes, words, key)?;
+    match kind_of(key) {
+        Kind::Number { least, most } => match place {
+            None => Some(None),
+            Some(place) => Some(Some(number_in(name_at(words, place), least, most)?)),
+        },
+        Kind::File | Kind::Flag => None,
+    }
+}
+
+/// The same with a default.
+pub fn setting(takes: Takes, words: &[String], key: Key, default: u32) -> Option<u32>
+    requires few { length words.now ≤ 200 }
+    requires within { IsNumberOf (kind_in key) default }
+    ensures reads { result ≡ option_and_then (setting (map string_bytes words.now) key default) (items_from takes 0 (map string_bytes words.now)) }
+    ensures within { IfSome result (λ n. IsNumberOf (kind_in key) n) }
+{
+    match number_given(takes, words, key)? {
+        None => Some(default),
+        Some(number) => Some(number),
+    }
+}
+
+/// The word at a position, and no bytes where there is none.
+pub fn name_at(words: &[String], word: u32) -> &str
+    ensures { result.now ≡ name_of (map string_bytes words.now) word }
+{
+    match words.get(word as usize) {
+        Some(name) => name.as_str(),
+        None => "",
+    }
+}
