@@ -1,4 +1,4 @@
-//! The runtime: `monstartup`, the clock's tick, and what can be read of it.
+//! The runtime: `monstartup`, the clock's tick, calls, `moncontrol`, and what can be read of it.
 
 ghost use Rattle.std.specs.Prelude.{◌≡◌, ◌&&◌, ◌+◌, ◌*◌, ◌<◌, ◌≤◌, List, [], ◌∷◌, ◌++◌, Some, length, slice_get, slice_index, All, IfOk, MatchOption};
 ghost use Rattle.gmon_block.specs.Layout.{layout_of};
@@ -135,7 +135,9 @@ impl Gmon {
         }
     }
 
-    /// Looks at one arc of the slot of the walk in flight.
+    /// One turn of the loop of `mcount`: looks at one arc of the call's slot. It is counted where it is
+    /// the call's, and comes to the front; where it is another one and the last, or there is none, the
+    /// call gets a new arc in front, unless the arcs run out. The walk is the one in flight.
     pub fn look(&mut self, walk: Walk) -> Looked
         requires { self.old.walk ≡ Some walk }
         ensures looks { (log : List LogEntry) → StandsFor log self.old → Looks log walk self.old self.new result }
@@ -268,7 +270,6 @@ impl Gmon {
         ensures log { (log : List LogEntry) → StandsFor log self.now → result ≡ arcs_of self.now.sizes log }
         ensures fits { All CallFits result }
         ensures few { length result < self.now.sizes.tolimit }
-        ensures limit { self.now.sizes.tolimit ≤ 65534 }
     {
         let next = self.block.froms(0);
         Arcs {
