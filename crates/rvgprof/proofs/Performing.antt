@@ -1,5 +1,5 @@
 -- What a run prints and writes, as acts that are due.
-use Rattle.std.proofs.Common.{◌≡◌, ℕ, ◌+◌, ◌<◌, ◌≤◌, Bool, false, List, [], ◌∷◌, ◌++◌, append_assoc, take, Option, Some, None, Result, Ok, Err, refl, sym, ap, subst, ◌∙◌, arith}
+use Rattle.std.proofs.Common.{◌≡◌, ℕ, ◌+◌, ◌<◌, ◌≤◌, Bool, false, List, [], ◌∷◌, ◌++◌, append_assoc, take, Option, Some, None, option_map, Result, Ok, Err, refl, sym, ap, subst, ◌∙◌, arith}
 use Rattle.std.specs.Prelude.{⊤}
 use Rattle.gmon_block.specs.Layout.{layout_of}
 use Rattle.host_port.specs.Act.{Act, Create, Write, Close, writes_after}
@@ -8,7 +8,8 @@ use Rattle.host_port.specs.Host.{act_of}
 use Rattle.host_port.specs.Performing.{FailedAt, Performs}
 use Rattle.host_port.proofs.Laws.{Did-nothing, KeepsCounts-same, writes_after-append}
 use Rattle.host_port.proofs.PerformingLemmas.{failed_behind, piece_failed, piece_part, performs_then, performs_front}
-use Rattle.gmon_bsd.specs.Run.{run_text, text_of}
+use Rattle.gmon_bsd.specs.Run.{run_text, runtime_text}
+use Rattle.gmon_bsd.proofs.RunTextLemmas.{text_stands}
 use Rattle.mcount_arcs.specs.declared.sizes.Sizes.{Sizes}
 use Rattle.mcount_arcs.specs.Image.{block_image}
 use Rattle.mcount_arcs.specs.Log.{LogEntry}
@@ -19,6 +20,7 @@ use Rattle.prof_machine.specs.Prints.{ArePrinted, BreaksOff}
 use Rattle.prof_machine.specs.Value.{RunValue, StandsFor}
 use Rattle.prof_machine.specs.World.{World}
 use Rattle.prof_machine.proofs.ActLemmas.{breaks_front}
+use Rattle.rvgprof.specs.Items.{name_of}
 use Rattle.rvgprof.specs.Answer.{RunFiles, file_acts, given_file_acts, run_acts}
 use Rattle.rvgprof.specs.declared.outcome.Done.{Done}
 use Rattle.rvgprof.specs.Course.{Ends, Does}
@@ -71,13 +73,25 @@ drive_fails {T} m w n x y e below none off = breaks_performs {T = T} m w (n + 1)
 
 -- ---- the files
 
--- the texts that were written, by the world in which the run ended
-pub profile_is : (v : GmonValue) (z : Sizes) (log : List LogEntry) (rate : ℕ) → RuntimeStandsFor log v → v.sizes ≡ z → ((log : List LogEntry) → RuntimeStandsFor log v → text_of v rate ≡ run_text v.sizes log rate) → text_of v rate ≡ run_text z log rate
-profile_is v z log rate stands sizes text = text log stands ∙ ap (λ (x : Sizes). run_text x log rate) sizes
+-- the texts that were written, by what was logged
+pub profile_is : (v : GmonValue) (z : Sizes) (log : List LogEntry) (rate : ℕ) → RuntimeStandsFor log v → v.sizes ≡ z → runtime_text v rate ≡ run_text z log rate
+profile_is v z log rate stands sizes = text_stands v rate log stands ∙ ap (λ (x : Sizes). run_text x log rate) sizes
 
-pub given_nothing : {T E : Type 0} (bytes : List ℕ) (image : Option (List ℕ)) (x : Outside) (u : T) → image ≡ None → Performs {T = T} {E = E} (given_file_acts image bytes) x x (Ok u)
-given_nothing {T} {E} bytes image x u none =
-    subst (λ (i : Option (List ℕ)). Performs {T = T} {E = E} (given_file_acts i bytes) x x (Ok u)) (sym none) (record { done = Did-nothing x; kept = KeepsCounts-same x; failed = tt })
+pub image_is : (v : GmonValue) (z : Sizes) (log : List LogEntry) → RuntimeStandsFor log v → v.sizes ≡ z → layout_of (block_parts v) ≡ layout_of (block_image z log)
+image_is v z log stands sizes =
+    let parts : block_parts v ≡ block_image v.sizes log = cc (stands.tos, stands.counters, stands.froms) in
+    ap layout_of parts ∙ ap (λ (x : Sizes). layout_of (block_image x log)) sizes
+
+pub file_as : {T E : Type 0} (name text whole : List ℕ) (x y : Outside) (r : Result T E) → text ≡ whole → Performs (file_acts name text) x y r → Performs (file_acts name whole) x y r
+file_as name text whole x y r is p = subst (λ (t : List ℕ). Performs (file_acts name t) x y r) is p
+
+pub given_as : {T E : Type 0} (words : List (List ℕ)) (place : ℕ) (image : Option ℕ) (bytes : List ℕ) (x y : Outside) (r : Result T E) → image ≡ Some place → Performs (file_acts (name_of words place) bytes) x y r
+    → Performs (given_file_acts (option_map (name_of words) image) bytes) x y r
+given_as words place image bytes x y r is p = subst (λ (i : Option ℕ). Performs (given_file_acts (option_map (name_of words) i) bytes) x y r) (sym is) p
+
+pub given_nothing : {T E : Type 0} (words : List (List ℕ)) (image : Option ℕ) (bytes : List ℕ) (x : Outside) (u : T) → image ≡ None → Performs {T = T} {E = E} (given_file_acts (option_map (name_of words) image) bytes) x x (Ok u)
+given_nothing {T} {E} words image bytes x u none =
+    subst (λ (i : Option ℕ). Performs {T = T} {E = E} (given_file_acts (option_map (name_of words) i) bytes) x x (Ok u)) (sym none) (record { done = Did-nothing x; kept = KeepsCounts-same x; failed = tt })
 
 -- the last acts of a command were done
 pub last_acts : {T E : Type 0} (words : List (List ℕ)) (old mid new : Outside) (below : ℕ) (done acts : List Act) (d : Done) (u : T) → Stands words old mid below done (Does acts (Ends (Ok d)))

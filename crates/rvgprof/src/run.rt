@@ -2,7 +2,7 @@
 
 ghost use Rattle.std.specs.Prelude.{◌≡◌, [], false, map, string_bytes, IsSome, IfSome, OnOk, Some};
 ghost use Rattle.gmon_block.specs.Layout.{layout_of};
-ghost use Rattle.gmon_bsd.specs.Run.{text_of};
+ghost use Rattle.gmon_bsd.specs.Run.{runtime_text};
 ghost use Rattle.host_port.specs.Performing.{Performs};
 ghost use Rattle.mcount_arcs.specs.Value.{block_parts};
 ghost use Rattle.prof_machine.specs.Plan.{driven};
@@ -94,7 +94,7 @@ fn write_profile<H: Host>(
     host: &mut H,
 ) -> Result<(), Failed>
     requires { (H.outside host.old).is_writing ≡ false }
-    ensures performs { Performs (file_acts name.now (text_of gmon.now rate)) (H.outside host.old) (H.outside host.new) result }
+    ensures performs { Performs (file_acts name.now (runtime_text gmon.now rate)) (H.outside host.old) (H.outside host.new) result }
     ensures idle { OnOk result ((H.outside host.new).is_writing ≡ false) }
 {
     host.create_output(name)?;
