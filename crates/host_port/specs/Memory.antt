@@ -1,5 +1,6 @@
 -- A host that holds files and outputs in memory.
 use Rattle.std.specs.Prelude.{◌≡◌, ℕ, ◌+◌, ◌-◌, ◌^◌, min, true, List, [], Option, Some, None, Result, is_ok, is_some, Contains, string_bytes, ◌&&◌, refl, if◌then◌else◌}
+use Rattle.host_port.specs.declared.mem_host.HostCall.{HostCall}
 use Rattle.host_port.specs.declared.mem_host.Stage.{Stage}
 use Rattle.host_port.specs.declared.mem_host.Stage.TheVariants.{Idle, Reading, Writing}
 use Rattle.host_port.specs.Act.{File}
@@ -17,6 +18,10 @@ pub record Memory : Type 0 where
   -- how many calls were made, and the numbers of those that are to fail
   pub calls : ℕ
   pub marks : List ℕ
+  -- how many bytes a call moves at most
+  pub step : ℕ
+  -- the kind of the first call that failed
+  pub first_failed : Option HostCall
   pub read_faults : ℕ
   pub write_faults : ℕ
   pub err_faults : ℕ
@@ -44,6 +49,8 @@ empty_memory = record {
   err = [];
   calls = 0;
   marks = [];
+  step = 2 ^ 64 - 1;
+  first_failed = None;
   read_faults = 0;
   write_faults = 0;
   err_faults = 0;
@@ -74,10 +81,17 @@ next_count n = min (n + 1) (2 ^ 64 - 1)
 abbrev pub IsMarked : Memory → Type 0
 IsMarked m = Contains m.marks m.calls
 
--- one call was counted, and no mark changed
-pub record Called (old new : Memory) : Type 0 where
+-- the first call that failed, after one more that failed
+abbrev pub first_failure : Option HostCall → HostCall → Option HostCall
+first_failure None call = Some call
+first_failure (Some first) call = Some first
+
+-- one call was counted, and no mark changed; a call that failed is the first unless another was
+pub record Called {T E : Type 0} (call : HostCall) (old new : Memory) (result : Result T E) : Type 0 where
   pub calls : new.calls ≡ next_count old.calls
   pub marks : new.marks ≡ old.marks
+  pub step : new.step ≡ old.step
+  pub first_failed : new.first_failed ≡ (if is_ok result then old.first_failed else first_failure old.first_failed call)
 
 -- a count of faults has one more exactly after a failure
 abbrev pub Tallies : {T E : Type 0} → (Memory → ℕ) → Memory → Memory → Result T E → Type 0

@@ -15,7 +15,7 @@ pub mod side;
 pub use buffers::{OutBuf, PrintBuf};
 pub use host::{Failed, Host};
 pub use loading::{LoadRefusal, load};
-pub use mem_host::MemHost;
+pub use mem_host::{HostCall, MemHost};
 pub use never_fails::NeverFails;
 pub use pieces::{err_all_of, out_all_of, write_all_of};
 

@@ -1,10 +1,10 @@
 //! A host in memory.
 
-ghost use Rattle.std.specs.Prelude.{◌≡◌, ◌<◌, ◌↔◌, ◌⊎◌, [], ◌∷◌, ◌++◌, true, false, length, min, take, drop, Some, None, unwrap_or, option_map, if◌then◌else◌, Contains, IsErr, IsTrue, OnOk, OnErr, MatchOption};
+ghost use Rattle.std.specs.Prelude.{◌≡◌, ◌+◌, ◌-◌, ◌^◌, ◌<◌, ◌≤◌, ◌↔◌, ◌⊎◌, [], ◌∷◌, ◌++◌, true, false, length, min, take, drop, Some, None, unwrap_or, option_map, if◌then◌else◌, Contains, IsErr, IfOk, IfSome, IsTrue, OnOk, OnErr, MatchOption};
 ghost use Rattle.host_port.specs.Act.{Write, Out, Err as Complain, content_of, has_file, with_file, written};
 ghost use Rattle.host_port.specs.Outside.{Rose};
-ghost use Rattle.host_port.specs.Host.{Opens, Moves, Creates, Takes, Closes, Reads, Writes, Complains};
-ghost use Rattle.host_port.specs.Memory.{empty_memory, outside_of, is_consistent, next_count, IsMarked, Called, Tallies};
+ghost use Rattle.host_port.specs.Host.{Came, Opens, Moves, Creates, Takes, Closes, Reads, Writes, Complains};
+ghost use Rattle.host_port.specs.Memory.{empty_memory, first_failure, outside_of, is_consistent, next_count, IsMarked, Called, Tallies};
 
 use crate::files;
 use crate::files::{Entry, Place};
@@ -20,10 +20,22 @@ pub enum Stage {
     Writing(String),
 }
 
+/// A call of the trait, by its kind.
+#[derive(Clone, Copy, Debug, PartialEq, Eq)]
+pub enum HostCall {
+    OpenInput,
+    Read,
+    CreateOutput,
+    Write,
+    CloseOutput,
+    Out,
+    ErrOut,
+}
+
 /// Files and outputs in memory, and a list of calls that are to fail.
 ///
 /// Calls of the trait fail exactly where their number is on that list or the file to be opened is
-/// missing, besides want of memory, which counts as a fault of the call. `open_input`, `read` and
+/// missing, besides running out of memory, which counts as a fault of the call. `open_input`, `read` and
 /// `close_output` take no memory.
 #[derive(Drop)]
 pub struct MemHost {
@@ -34,6 +46,9 @@ pub struct MemHost {
     err: Vec<u8>,
     calls: u64,
     marks: Vec<u64>,
+    // How many bytes a call moves at most.
+    step: usize,
+    first_failed: Option<HostCall>,
     read_faults: u64,
     write_faults: u64,
     err_faults: u64,
@@ -53,10 +68,16 @@ impl Model for MemHost {
       err = a.err.items;
       calls = a.calls;
       marks = a.marks.items;
+      step = a.step;
+      first_failed = a.first_failed;
       read_faults = a.read_faults;
       write_faults = a.write_faults;
       err_faults = a.err_faults;
     } };
+
+    ghost use Rattle.std.specs.Prelude.{◌≤◌};
+
+    ghost invariant = { λ a. 1 ≤ a.step };
 }
 
 fn is_marked(marks: &[u64], call: u64) -> bool
@@ -78,6 +99,8 @@ impl MemHost {
             err: Vec::new(alloc),
             calls: 0,
             marks: Vec::new(alloc),
+            step: usize::MAX,
+            first_failed: None,
             read_faults: 0,
             write_faults: 0,
             err_faults: 0,
@@ -106,6 +129,30 @@ impl MemHost {
     {
         self.marks.push(call)?;
         Ok(())
+    }
+
+    /// From now on `read`, `write`, `out` and `err` move at most `n` bytes each, where `n` is at least 1.
+    pub fn set_step(&mut self, n: usize)
+        requires { 1 ≤ n }
+        ensures { self.new ≡ record self.old { step = n } }
+    {
+        self.step = n;
+    }
+
+    /// The kind of the first call of the trait that failed, `None` exactly where none did.
+    pub fn first_failed(&self) -> Option<HostCall>
+        ensures { result ≡ self.now.first_failed }
+    {
+        self.first_failed
+    }
+
+    /// How many calls of the trait failed; it stays at 2^64 - 1.
+    pub fn failures(&self) -> u64
+        ensures { result ≡ min (self.now.read_faults + self.now.write_faults + self.now.err_faults) (2 ^ 64 - 1) }
+    {
+        self.read_faults
+            .saturating_add(self.write_faults)
+            .saturating_add(self.err_faults)
     }
 
     /// The bytes of the named file, `None` exactly where there is no such file.
@@ -141,27 +188,39 @@ impl MemHost {
         fails
     }
 
-    fn read_failed(&mut self) -> Failed
-        ensures counted { self.new ≡ record self.old { read_faults = next_count self.old.read_faults } }
+    fn read_failed(&mut self, call: HostCall) -> Failed
+        ensures counted { self.new ≡ record self.old {
+          read_faults = next_count self.old.read_faults;
+          first_failed = first_failure self.old.first_failed call;
+        } }
         ensures rose { Rose self.old.read_faults self.new.read_faults }
     {
         self.read_faults = self.read_faults.saturating_add(1);
+        self.first_failed = self.first_failed.or(Some(call));
         Failed
     }
 
-    fn write_failed(&mut self) -> Failed
-        ensures counted { self.new ≡ record self.old { write_faults = next_count self.old.write_faults } }
+    fn write_failed(&mut self, call: HostCall) -> Failed
+        ensures counted { self.new ≡ record self.old {
+          write_faults = next_count self.old.write_faults;
+          first_failed = first_failure self.old.first_failed call;
+        } }
         ensures rose { Rose self.old.write_faults self.new.write_faults }
     {
         self.write_faults = self.write_faults.saturating_add(1);
+        self.first_failed = self.first_failed.or(Some(call));
         Failed
     }
 
-    fn err_failed(&mut self) -> Failed
-        ensures counted { self.new ≡ record self.old { err_faults = next_count self.old.err_faults } }
+    fn err_failed(&mut self, call: HostCall) -> Failed
+        ensures counted { self.new ≡ record self.old {
+          err_faults = next_count self.old.err_faults;
+          first_failed = first_failure self.old.first_failed call;
+        } }
         ensures rose { Rose self.old.err_faults self.new.err_faults }
     {
         self.err_faults = self.err_faults.saturating_add(1);
+        self.first_failed = self.first_failed.or(Some(call));
         Failed
     }
 
@@ -194,13 +253,28 @@ impl MemHost {
         }
     }
 
+    /// What of a piece one call moves.
+    fn front_of<'a>(&self, piece: &'a [u8]) -> &'a [u8]
+        requires { 0 < length piece.now }
+        ensures bytes { result.now ≡ take (length result.now) piece.now }
+        ensures len { length result.now ≡ min (length piece.now) self.now.step }
+        ensures some { 1 ≤ length result.now }
+    {
+        &piece[..piece.len().min(self.step)]
+    }
+
+    /// Moves bytes of the open input.
     fn take_rest(&mut self, buf: &mut [u8]) -> usize
-        ensures number { result ≡ min (length buf.old) (length (unwrap_or self.old.rest [])) }
-        ensures bytes { take result buf.new ≡ take result (unwrap_or self.old.rest []) }
+        requires { 0 < length buf.old }
+        ensures number { result ≡ min (min (length buf.old) self.old.step) (length (unwrap_or self.old.rest [])) }
+        ensures came { IfSome self.old.rest (λ rest. Came result rest buf.new) }
         ensures after { self.new ≡ record self.old { rest = option_map (drop result) self.old.rest } }
     {
+        let room = buf.len().min(self.step);
         match &mut self.stage {
-            Stage::Reading(place) => files::read_from(self.entries.as_slice(), place, buf),
+            Stage::Reading(place) => {
+                files::read_from(self.entries.as_slice(), place, &mut buf[..room])
+            }
             _ => 0,
         }
     }
@@ -250,13 +324,13 @@ impl Host for MemHost {
         ensures opens { Opens name.now (outside_of self.old) (outside_of self.new) result }
         ensures counts { Reads (outside_of self.old) (outside_of self.new) result }
         ensures fails { IsErr result ↔ (IsMarked self.old ⊎ (has_file name.now self.old.files ≡ false)) }
-        ensures called { Called self.old self.new }
+        ensures called { Called HostCall.OpenInput self.old self.new result }
         ensures tally { Tallies (λ m. m.read_faults) self.old self.new result }
     {
         let fails = self.starts_call();
         self.close_input();
         if fails || !self.begin_reading(name) {
-            return Err(self.read_failed());
+            return Err(self.read_failed(HostCall::OpenInput));
         }
         Ok(())
     }
@@ -267,11 +341,12 @@ impl Host for MemHost {
         ensures moves { Moves buf.old buf.new (outside_of self.old) (outside_of self.new) result }
         ensures counts { Reads (outside_of self.old) (outside_of self.new) result }
         ensures fails { IsErr result ↔ IsMarked self.old }
-        ensures called { Called self.old self.new }
+        ensures step { IfOk result (λ n. n ≡ min (min (length buf.old) self.old.step) (length (unwrap_or self.old.rest []))) }
+        ensures called { Called HostCall.Read self.old self.new result }
         ensures tally { Tallies (λ m. m.read_faults) self.old self.new result }
     {
         if self.starts_call() {
-            return Err(self.read_failed());
+            return Err(self.read_failed(HostCall::Read));
         }
         Ok(self.take_rest(buf))
     }
@@ -281,13 +356,13 @@ impl Host for MemHost {
         ensures creates { Creates name.now (outside_of self.old) (outside_of self.new) result }
         ensures counts { Writes (outside_of self.old) (outside_of self.new) result }
         ensures fails { IsMarked self.old → IsErr result }
-        ensures called { Called self.old self.new }
+        ensures called { Called HostCall.CreateOutput self.old self.new result }
         ensures tally { Tallies (λ m. m.write_faults) self.old self.new result }
     {
         let fails = self.starts_call();
         self.close_input();
         if fails || self.begin_writing(name).is_err() {
-            return Err(self.write_failed());
+            return Err(self.write_failed(HostCall::CreateOutput));
         }
         Ok(())
     }
@@ -298,11 +373,13 @@ impl Host for MemHost {
         ensures takes { Takes Write piece.now (outside_of self.old) (outside_of self.new) result }
         ensures counts { Writes (outside_of self.old) (outside_of self.new) result }
         ensures fails { IsMarked self.old → IsErr result }
-        ensures called { Called self.old self.new }
+        ensures step { IfOk result (λ n. n ≡ min (length piece.now) self.old.step) }
+        ensures called { Called HostCall.Write self.old self.new result }
         ensures tally { Tallies (λ m. m.write_faults) self.old self.new result }
     {
+        let piece = self.front_of(piece);
         if self.starts_call() || self.append(piece).is_err() {
-            return Err(self.write_failed());
+            return Err(self.write_failed(HostCall::Write));
         }
         Ok(piece.len())
     }
@@ -311,13 +388,13 @@ impl Host for MemHost {
         ensures closes { Closes (outside_of self.old) (outside_of self.new) }
         ensures counts { Writes (outside_of self.old) (outside_of self.new) result }
         ensures fails { IsErr result ↔ IsMarked self.old }
-        ensures called { Called self.old self.new }
+        ensures called { Called HostCall.CloseOutput self.old self.new result }
         ensures tally { Tallies (λ m. m.write_faults) self.old self.new result }
     {
         let fails = self.starts_call();
         self.end_writing();
         if fails {
-            return Err(self.write_failed());
+            return Err(self.write_failed(HostCall::CloseOutput));
         }
         Ok(())
     }
@@ -327,11 +404,13 @@ impl Host for MemHost {
         ensures takes { Takes Out piece.now (outside_of self.old) (outside_of self.new) result }
         ensures counts { Writes (outside_of self.old) (outside_of self.new) result }
         ensures fails { IsMarked self.old → IsErr result }
-        ensures called { Called self.old self.new }
+        ensures step { IfOk result (λ n. n ≡ min (length piece.now) self.old.step) }
+        ensures called { Called HostCall.Out self.old self.new result }
         ensures tally { Tallies (λ m. m.write_faults) self.old self.new result }
     {
+        let piece = self.front_of(piece);
         if self.starts_call() || self.out.extend_from_slice(piece).is_err() {
-            return Err(self.write_failed());
+            return Err(self.write_failed(HostCall::Out));
         }
         Ok(piece.len())
     }
@@ -341,11 +420,13 @@ impl Host for MemHost {
         ensures takes { Takes Complain piece.now (outside_of self.old) (outside_of self.new) result }
         ensures counts { Complains (outside_of self.old) (outside_of self.new) result }
         ensures fails { IsMarked self.old → IsErr result }
-        ensures called { Called self.old self.new }
+        ensures step { IfOk result (λ n. n ≡ min (length piece.now) self.old.step) }
+        ensures called { Called HostCall.ErrOut self.old self.new result }
         ensures tally { Tallies (λ m. m.err_faults) self.old self.new result }
     {
+        let piece = self.front_of(piece);
         if self.starts_call() || self.err.extend_from_slice(piece).is_err() {
-            return Err(self.err_failed());
+            return Err(self.err_failed(HostCall::ErrOut));
         }
         Ok(piece.len())
     }

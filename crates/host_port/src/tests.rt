@@ -189,3 +189,26 @@ fn a_failed_call_leaves_a_prefix_and_nothing_pending(rt: HostRuntime) -> Result<
     }
     Ok(())
 }
+
+#[test]
+fn a_host_in_memory_moves_at_most_its_step(rt: HostRuntime) -> Result<(), Fail> {
+    let mut host = MemHost::new(rt.alloc());
+    host.put("ten", &TEN)?;
+    host.set_step(3);
+
+    // One call opens the file, five read it, and three print eight bytes.
+    assert_eq!(rt;
+        load(rt.alloc(), &mut host, "ten", 10)?.as_slice(),
+        TEN.as_slice()
+    );
+    host.fail_at(9)?;
+    host.fail_at(10)?;
+    assert_eq!(rt; out_all_of(&mut host, b"abcdefgh"), Ok(()));
+    assert_eq!(rt; host.printed(), b"abcdefgh".as_slice());
+    assert_eq!(rt; host.first_failed(), None);
+    assert_eq!(rt; err_all_of(&mut host, b"x"), Err(Failed));
+    assert_eq!(rt; host.close_output(), Err(Failed));
+    assert_eq!(rt; host.first_failed(), Some(HostCall::ErrOut));
+    assert_eq!(rt; host.failures(), 2);
+    Ok(())
+}
