@@ -7,10 +7,10 @@ use Rattle.std.proofs.lemmas.List.Concat.{flat_map-append}
 use Rattle.host_port.specs.Outside.{Outside, Did}
 use Rattle.host_port.specs.Host.{act_of, Puts}
 use Rattle.host_port.specs.declared.side.Side.{Side}
-use Rattle.host_port.specs.Buffered.{Adds}
+use Rattle.host_port.specs.Buffered.{Adds, IsReady}
 use Rattle.host_port.proofs.Laws.{KeepsInput-same, KeepsInput-then}
 use Rattle.host_port.proofs.Piecewise.{Did-join, Did-none}
-use Rattle.host_port.proofs.SideLemmas.{side_piecewise, counts_same, counts_then}
+use Rattle.host_port.proofs.SideLemmas.{side_piecewise, counts_same, counts_then, still_ready}
 
 -- bytes stay pending
 pub adds_kept : {T E : Type 0} (side : Side) (bytes before after : List ℕ) (x : Outside) (u : T) → after ≡ before ++ bytes → Adds {T = T} {E = E} side bytes before after x x (Ok u)
@@ -143,3 +143,23 @@ flushed {T} {E} side text p q v x y z u r start none put out =
 -- a text was put where nothing was pending, and a call failed
 pub stopped : {T E : Type 0} (side : Side) (text p q : List ℕ) (x y : Outside) (e : E) → p ≡ [] → Adds {T = T} side text p q x y (Err e) → Puts {T = T} side text x y (Err e)
 stopped {T} {E} side text p q x y e start put = adds_puts {T = T} side text x y (Err e) q put.emptied (subst (λ (w : List ℕ). Adds {T = T} side text w q x y (Err e)) start put)
+
+-- ---- a loop over an iterator, each item with a text of its own
+
+pub adds_item : {X T E : Type 0} (side : Side) (f : X → List ℕ) (items : List X) (item : X) (p q r : List ℕ) (x y z : Outside) (u v : T)
+    → Adds {T = T} {E = E} side (flat_map f items) p q x y (Ok u) → Adds {T = T} {E = E} side (f item) q r y z (Ok v) → Adds {T = T} {E = E} side (flat_map f (items ++ item ∷ [])) p r x z (Ok v)
+adds_item {X} {T} {E} side f items item p q r x y z u v so_far one =
+    let texts : flat_map f items ++ f item ≡ flat_map f (items ++ item ∷ []) =
+    ap (λ (t : List ℕ). flat_map f items ++ t) (sym (append-nil (f item))) ∙ sym (flat_map-append f items (item ∷ [])) in
+    subst (λ (t : List ℕ). Adds {T = T} {E = E} side t p r x z (Ok v)) texts (adds_then side (flat_map f items) (f item) p q r x y z u (Ok v) so_far one)
+
+pub adds_until : {X T E : Type 0} (side : Side) (f : X → List ℕ) (items : List X) (item : X) (rest all : List X) (p q r : List ℕ) (x y z : Outside) (u : T) (e : E) → items ++ item ∷ rest ≡ all
+    → Adds {T = T} {E = E} side (flat_map f items) p q x y (Ok u) → Adds {T = T} {E = E} side (f item) q r y z (Err e) → Adds {T = T} {E = E} side (flat_map f all) p r x z (Err e)
+adds_until {X} {T} {E} side f items item rest all p q r x y z u e is so_far one =
+    let text : flat_map f items ++ (f item ++ flat_map f rest) ≡ flat_map f all = sym (flat_map-append f items (item ∷ rest)) ∙ ap (flat_map f) is in
+    subst (λ (t : List ℕ). Adds {T = T} {E = E} side t p r x z (Err e)) text
+    (adds_then side (flat_map f items) (f item ++ flat_map f rest) p q r x y z u (Err e) so_far (adds_front side (f item) (flat_map f rest) q r y z e one))
+
+-- a side to which bytes were put is as ready as before
+pub adds_ready : {T E : Type 0} (side : Side) (bytes p q : List ℕ) (x y : Outside) (u : T) → Adds {T = T} {E = E} side bytes p q x y (Ok u) → IsReady side x → IsReady side y
+adds_ready side bytes p q x y u adds ready = still_ready side adds.went.0 x y adds.went.2 ready
