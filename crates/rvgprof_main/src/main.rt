@@ -3,15 +3,18 @@
 
 mod real_host;
 
+ghost use Rattle.std.specs.Prelude.{◌≡◌};
+ghost use Rattle.rvgprof_main.specs.Exit.{exit_status};
+
 use real_host::RealHost;
-use rvgprof::rvgprof;
+use rvgprof::{Done, Fault, rvgprof};
 use std::process::ExitCode;
 use std::{env, io};
 
 #[cfg(test)]
 mod tests;
 
-/// The status where the words can't be had for want of memory.
+/// The status where the words can't be had because memory ran out.
 const NO_MEMORY: u8 = 7;
 
 /// The status where the words can't be had for another cause, as a word that is no UTF-8.
@@ -21,12 +24,19 @@ fn main(rt: HostRuntime) -> ExitCode {
     let alloc = rt.alloc();
     let words = match words_of(&rt) {
         Ok(words) => words,
-        Err(e) => return ExitCode::from(status_of(&e)),
+        Err(e) => return ExitCode::from(status_without_words(&e)),
     };
     let mut host = RealHost::new(rt);
-    match rvgprof(alloc, words.as_slice(), &mut host) {
-        Ok(done) => ExitCode::from(done.status()),
-        Err(fault) => ExitCode::from(fault.status()),
+    ExitCode::from(status_of(&rvgprof(alloc, words.as_slice(), &mut host)))
+}
+
+/// The exit status of an answer.
+fn status_of(answer: &Result<Done, Fault>) -> u8
+    ensures { result ≡ exit_status answer.now }
+{
+    match answer {
+        Ok(done) => done.status(),
+        Err(fault) => fault.status(),
     }
 }
 
@@ -36,7 +46,8 @@ fn words_of(rt: &HostRuntime) -> io::Result<Vec<String>> {
     Ok(words)
 }
 
-fn status_of(e: &io::Error) -> u8 {
+/// The exit status where the words can't be had.
+fn status_without_words(e: &io::Error) -> u8 {
     if e.kind() == io::ErrorKind::OutOfMemory {
         NO_MEMORY
     } else {

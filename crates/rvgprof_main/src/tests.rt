@@ -1,54 +1,28 @@
 ghost use Rattle.std.specs.Prelude.{◌≡◌, false};
-ghost use Rattle.rvgprof_main.specs.Real.{outside_of};
+ghost use Rattle.host_port.specs.Memory.{outside_of};
 
 use super::*;
-use host_port::{Host, write_all_of};
+use host_port::MemHost;
 use std::alloc::{AllocError, Global};
-use std::test::Fail;
 
-/// A file of the 4.4BSD form that has no counter and no arc.
-const EMPTY: [u8; 32] = [
-    0, 0, 0, 0, 0, 0, 0, 0, 32, 0, 0, 0, 0x79, 0x18, 5, 0, 0, 0, 0, 0, 0, 0, 0, 0, 0, 0, 0, 0, 0,
-    0, 0, 0,
-];
+mod faults;
+mod programs;
+mod runs;
+mod shows;
+mod system;
 
-fn status(alloc: Global, host: &mut RealHost, texts: &[&str]) -> Result<u8, AllocError>
-    requires { (outside_of host.old).is_writing ≡ false }
-    ensures { (outside_of host.new).is_writing ≡ false }
-{
+fn words_from(alloc: Global, texts: &[&str]) -> Result<Vec<String>, AllocError> {
     let mut words = Vec::new(alloc);
     for text in texts {
         words.push(String::from_str(alloc, text)?)?;
     }
-    let outcome = rvgprof(alloc, words.as_slice(), host);
-    let _ = host.close_output(); // a write fault leaves a file in writing
-    Ok(match outcome {
-        Ok(done) => done.status(),
-        Err(fault) => fault.status(),
-    })
+    Ok(words)
 }
 
-#[test]
-fn a_file_that_was_written_is_shown(rt: HostRuntime) -> Result<(), Fail> {
-    let alloc = rt.alloc();
-    let mut host = RealHost::new(rt);
-    host.create_output("written.gmon").map_err(|_| "created")?;
-    write_all_of(&mut host, &EMPTY).map_err(|_| "written")?;
-    host.close_output().map_err(|_| "closed")?;
-    match status(alloc, &mut host, &["show", "written.gmon"])? {
-        0 => {}
-        _ => return Err("not shown")?,
-    }
-    match status(alloc, &mut host, &["syms", "written.gmon"])? {
-        2 => {}
-        _ => return Err("not refused")?,
-    }
-    match status(alloc, &mut host, &["show", "missing.gmon"])? {
-        5 => {}
-        _ => return Err("not missed")?,
-    }
-    match status(alloc, &mut host, &["show", "."])? {
-        5 => Ok(()),
-        _ => Err("a folder is read")?,
-    }
+/// What the program answers, as its exit status.
+fn status(alloc: Global, texts: &[&str], host: &mut MemHost) -> Result<u8, AllocError>
+    requires { (outside_of host.old).is_writing ≡ false }
+{
+    let words = words_from(alloc, texts)?;
+    Ok(status_of(&rvgprof(alloc, words.as_slice(), host)))
 }

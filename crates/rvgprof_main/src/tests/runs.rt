@@ -1,0 +1,294 @@
+//! Programs that are run, what they print, and the files that they leave.
+
+use super::programs::{CALLS, LOOP, PRINTS, Program, elf};
+use super::status;
+use host_port::MemHost;
+use std::alloc::{AllocError, Global};
+use std::process::Abort;
+use std::test::Fail;
+
+/// A run, and what it leaves.
+#[derive(Clone, Copy)]
+struct Case<'a> {
+    program: &'a Program<'a>,
+    words: &'a [&'a str],
+    /// What is printed on the output, and on the error output.
+    out: &'a [u8],
+    err: &'a [u8],
+    /// The lines of its profile.
+    shown: &'a str,
+}
+
+/// A program that sets its break to 0, which is refused, and ends with the answer.
+const BREAKS: Program = Program {
+    words: &[0x0000_0513, 0x0D60_0893, 0x0000_0073, 0x05D0_0893, 0x0000_0073],
+    functions: &[("_start", 0)],
+};
+
+/// It switches profiling off and loops.
+const SWITCHES: Program = Program {
+    words: &[0x0000_0513, 0x0080_00EF, 0x0000_006F, 0x0000_8067],
+    functions: &[("_start", 0), ("moncontrol", 12)],
+};
+
+/// It ends with -1.
+const ENDS: Program = Program {
+    words: &[0xFFF0_0513, 0x05D0_0893, 0x0000_0073],
+    functions: &[("_start", 0)],
+};
+
+/// It writes to descriptor 3, and ends with the answer.
+const WRITES: Program = Program {
+    words: &[0x0030_0513, 0x0400_0893, 0x0000_0073, 0x05D0_0893, 0x0000_0073],
+    functions: &[("_start", 0)],
+};
+
+/// It makes an environment call that there is not, and ends with the answer.
+const ASKS: Program = Program {
+    words: &[0x0010_0893, 0x0000_0073, 0x05D0_0893, 0x0000_0073],
+    functions: &[("_start", 0)],
+};
+
+/// No instruction.
+const ZERO: Program = Program {
+    words: &[0],
+    functions: &[("_start", 0)],
+};
+
+/// Runs a program, and looks at what it leaves.
+fn leaves(rt: &impl Abort, alloc: Global, case: &Case) -> Result<(), Fail> {
+    let words = case.words;
+    let mut host = MemHost::new(alloc);
+    host.put("e", &elf(alloc, case.program)?)?;
+    assert_eq!(rt; status(alloc, words, &mut host)?, 0, "{words:?}");
+    assert_eq!(rt; host.printed(), case.out, "output of {words:?}");
+    assert_eq!(rt; host.errors(), case.err, "error output of {words:?}");
+    let file = host.file("g").ok_or("no profile")?;
+    assert_eq!(rt; lines_of(alloc, file)?.as_slice(), case.shown.as_bytes(), "profile of {words:?}");
+    Ok(())
+}
+
+/// What `show` prints of a profile.
+fn lines_of(alloc: Global, file: &[u8]) -> Result<Vec<u8>, AllocError> {
+    let mut host = MemHost::new(alloc);
+    host.put("g", file)?;
+    status(alloc, &["show", "g"], &mut host)?;
+    host.printed().to_vec(alloc)
+}
+
+#[test]
+fn samples_are_counted_by_the_options(rt: HostRuntime) -> Result<(), Fail> {
+    let cases = [
+        Case {
+            program: &LOOP,
+            words: &["run", "e", "g", "--every", "1", "--budget", "65536", "--ram", "4"],
+            out: b"",
+            err: b"rvgprof: budget after 65536 instructions: 65536 samples, 0 calls, 0 lost, arcs on\n",
+            shown: "bsd low 00010000 high 00010004 counters 1 rate 100\ncount 00010000 65535\n",
+        },
+        Case {
+            program: &LOOP,
+            words: &["run", "--budget", "1", "e", "--every", "1", "g", "--rate", "513", "--ram", "4"],
+            out: b"",
+            err: b"rvgprof: budget after 1 instructions: 1 samples, 0 calls, 0 lost, arcs on\n",
+            shown: "bsd low 00010000 high 00010004 counters 1 rate 513\ncount 00010000 1\n",
+        },
+        Case {
+            program: &LOOP,
+            words: &["run", "e", "g", "--budget", "2999", "--ram", "4"],
+            out: b"",
+            err: b"rvgprof: budget after 2999 instructions: 2 samples, 0 calls, 0 lost, arcs on\n",
+            shown: "bsd low 00010000 high 00010004 counters 1 rate 100\ncount 00010000 2\n",
+        },
+        Case {
+            program: &ZERO,
+            words: &["run", "e", "g", "--ram", "4"],
+            out: b"",
+            err: b"rvgprof: trap illegal at 00010000 after 0 instructions: 0 samples, 0 calls, 0 lost, arcs on\n",
+            shown: "bsd low 00010000 high 00010004 counters 1 rate 100\n",
+        },
+    ];
+    for case in &cases {
+        leaves(&rt, rt.alloc(), case)?;
+    }
+    Ok(())
+}
+
+#[test]
+fn programs_print_and_end(rt: HostRuntime) -> Result<(), Fail> {
+    let cases = [
+        Case {
+            program: &PRINTS,
+            words: &["run", "e", "g", "--every", "9", "--ram", "4"],
+            out: &[0x13, 0x05, 0x10, 0x00],
+            err: b"\x13\x05\x10\x00rvgprof: exit 4 after 9 instructions: 0 samples, 0 calls, 0 lost, arcs on\n",
+            shown: "bsd low 00010000 high 00010024 counters 9 rate 100\n",
+        },
+        Case {
+            program: &ENDS,
+            words: &["run", "e", "g", "--ram", "4"],
+            out: b"",
+            err: b"rvgprof: exit 4294967295 after 3 instructions: 0 samples, 0 calls, 0 lost, arcs on\n",
+            shown: "bsd low 00010000 high 0001000c counters 3 rate 100\n",
+        },
+        Case {
+            program: &WRITES,
+            words: &["run", "e", "g", "--ram", "4"],
+            out: b"",
+            err: b"rvgprof: exit 4294967287 after 5 instructions: 0 samples, 0 calls, 0 lost, arcs on\n",
+            shown: "bsd low 00010000 high 00010014 counters 5 rate 100\n",
+        },
+        Case {
+            program: &ASKS,
+            words: &["run", "e", "g", "--ram", "4"],
+            out: b"",
+            err: b"rvgprof: exit 4294967258 after 4 instructions: 0 samples, 0 calls, 0 lost, arcs on\n",
+            shown: "bsd low 00010000 high 00010010 counters 4 rate 100\n",
+        },
+        Case {
+            program: &BREAKS,
+            words: &["run", "e", "g", "--ram", "4"],
+            out: b"",
+            err: b"rvgprof: exit 65568 after 5 instructions: 0 samples, 0 calls, 0 lost, arcs on\n",
+            shown: "bsd low 00010000 high 00010014 counters 5 rate 100\n",
+        },
+    ];
+    for case in &cases {
+        leaves(&rt, rt.alloc(), case)?;
+    }
+    Ok(())
+}
+
+#[test]
+fn calls_are_counted_for_each_schedule(rt: HostRuntime) -> Result<(), Fail> {
+    let cases = [
+        Case {
+            program: &CALLS,
+            words: &["run", "e", "g", "--budget", "20", "--ram", "4"],
+            out: b"",
+            err: b"rvgprof: budget after 20 instructions: 0 samples, 1 calls, 0 lost, arcs on\n",
+            shown: "bsd low 00010000 high 00010018 counters 6 rate 100\narc 00010004 00010014 1\n",
+        },
+        Case {
+            program: &CALLS,
+            words: &["run", "e", "g", "--harts", "2", "--budget", "20", "--ram", "4"],
+            out: b"",
+            err: b"rvgprof: budget after 20 instructions: 0 samples, 1 calls, 1 lost, arcs on\n",
+            shown: "bsd low 00010000 high 00010018 counters 6 rate 100\narc 00010004 00010014 1\n",
+        },
+        Case {
+            program: &CALLS,
+            words: &["run", "e", "g", "--budget", "5", "--harts", "2", "--ram", "4"],
+            out: b"",
+            err: b"rvgprof: budget after 5 instructions: 0 samples, 1 calls, 0 lost, arcs on\n",
+            shown: "bsd low 00010000 high 00010018 counters 6 rate 100\narc 00010004 00010014 1\n",
+        },
+        Case {
+            program: &CALLS,
+            words: &["run", "--harts", "2", "e", "g", "--budget", "6", "--ram", "4"],
+            out: b"",
+            err: b"rvgprof: budget after 6 instructions: 0 samples, 1 calls, 1 lost, arcs on\n",
+            shown: "bsd low 00010000 high 00010018 counters 6 rate 100\narc 00010004 00010014 1\n",
+        },
+    ];
+    for case in &cases {
+        leaves(&rt, rt.alloc(), case)?;
+    }
+    Ok(())
+}
+
+#[test]
+fn profiling_is_switched_off(rt: HostRuntime) -> Result<(), Fail> {
+    let cases = [
+        Case {
+            program: &SWITCHES,
+            words: &["run", "e", "g", "--every", "1", "--budget", "10", "--ram", "4"],
+            out: b"",
+            err: b"rvgprof: budget after 10 instructions: 2 samples, 0 calls, 0 lost, arcs off\n",
+            shown: "bsd low 00010000 high 00010010 counters 4 rate 100\ncount 00010004 1\ncount 0001000c 1\n",
+        },
+    ];
+    for case in &cases {
+        leaves(&rt, rt.alloc(), case)?;
+    }
+    Ok(())
+}
+
+/// Whether the memory of a runtime has one arc, from slot 1 to 0x10014, called once, and nothing else.
+fn is_wanted(image: &[u8]) -> bool {
+    for (at, byte) in image.iter().enumerate() {
+        let wanted = match at {
+            8 | 14 | 16 | 614 => 1,
+            12 => 0x14,
+            _ => 0,
+        };
+        if *byte != wanted {
+            return false;
+        }
+    }
+    image.len() == 624
+}
+
+#[test]
+fn the_memory_of_the_runtime_is_written(rt: HostRuntime) -> Result<(), Fail> {
+    let alloc = rt.alloc();
+    let mut host = MemHost::new(alloc);
+    host.put("e", &elf(alloc, &CALLS)?)?;
+    let words = ["run", "e", "g", "--budget", "20", "--image", "i", "--ram", "4"];
+    assert_eq!(rt; status(alloc, &words, &mut host)?, 0);
+    let image = host.file("i").ok_or("no image")?;
+    assert!(rt; is_wanted(image));
+
+    // The image may take the place of the profile.
+    let words = ["run", "e", "g", "--budget", "20", "--image", "g", "--ram", "4"];
+    assert_eq!(rt; status(alloc, &words, &mut host)?, 0);
+    assert_eq!(rt; host.file("g"), host.file("i"));
+    Ok(())
+}
+
+/// A program that calls `_mcount` from one place for fifty callees.
+fn full(words: &mut [u32; 53]) {
+    words[0] = 0x0001_0537;
+    for i in 0..50u32 {
+        // jal x1 from 4 + 4i to 208, with the offset's bits 10 to 1 at bit 21
+        let offset = 204 - 4 * i;
+        words[1 + i as usize] = 0x0000_00EF + (offset / 2) * 0x0020_0000;
+    }
+    words[51] = 0x0000_006F;
+    words[52] = 0x0000_8067;
+}
+
+/// The lines of its profile.
+fn full_lines(alloc: Global) -> Result<Vec<u8>, AllocError> {
+    let mut lines = Vec::new(alloc);
+    lines.extend_from_slice(b"bsd low 00010000 high 000100d4 counters 53 rate 100\n")?;
+    for i in 0..49u32 {
+        let line = format!(in alloc; "arc 00010000 {:08x} 1\n", 0x1_00C8 - 4 * i)?;
+        lines.extend_from_slice(line.as_bytes())?;
+    }
+    Ok(lines)
+}
+
+#[test]
+fn arcs_run_out(rt: HostRuntime) -> Result<(), Fail> {
+    let alloc = rt.alloc();
+    let mut words = [0; 53];
+    full(&mut words);
+    let program = Program {
+        words: &words,
+        functions: &[("_start", 0), ("_mcount", 208)],
+    };
+    let mut host = MemHost::new(alloc);
+    host.put("e", &elf(alloc, &program)?)?;
+    assert_eq!(rt; status(alloc, &["run", "e", "g", "--budget", "60", "--ram", "4"], &mut host)?, 0);
+    assert_eq!(rt;
+        host.errors(),
+        b"rvgprof: budget after 60 instructions: 0 samples, 49 calls, 0 lost, arcs error\n".as_slice()
+    );
+
+    let lines = full_lines(alloc)?;
+    let file = host.file("g").ok_or("no profile")?;
+    assert_eq!(rt; file.len(), 726);
+    assert_eq!(rt; lines_of(alloc, file)?.as_slice(), lines.as_slice());
+    Ok(())
+}
