@@ -6,3 +6,4 @@ pub mod KeptLemmas
 pub mod RowLemmas
 pub mod RefusalLemmas
 pub mod OrderLemmas
+pub mod FirstLemmas
