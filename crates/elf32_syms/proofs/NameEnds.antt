@@ -1,9 +1,14 @@
 -- Where names end.
-use Rattle.std.proofs.Common.{◌≡◌, ◌<◌, ◌≤◌, ℕ, zero, suc, ◌+◌, ◌-◌, min, Bool, true, false, not, cond, nat_lt, List, [], ◌∷◌, length, take, drop, get_or, refl, ap, sym, ◌∙◌, arith, ⊎_elim}
+use Rattle.std.proofs.Common.{◌≡◌, ◌<◌, ◌≤◌, ℕ, zero, suc, ◌+◌, ◌-◌, min, Bool, true, false, not, cond, nat_lt, List, [], ◌∷◌, length, take, drop, get_or, refl, ap, sym, ◌∙◌, arith, ⊎_elim, lit<}
 use Rattle.std.specs.List.{before_first, position_or_len}
+use Rattle.std.specs.declared.cmp.Ordering.{Ordering}
+use Rattle.std.specs.declared.cmp.Ordering.TheVariants.{Less, Equal, Greater}
+use Rattle.std.specs.Ordering.{nat_cmp, ordering_reverse}
+use Rattle.std.proofs.lemmas.Cmp.{nat_list_cmp_total}
+use Rattle.std.specs.Cmp.Lexicographic.{slice_cmp}
 use Rattle.std.proofs.lemmas.Bool.Decides.{nat_tests}
 use Rattle.std.proofs.lemmas.Bool.{cases_lt}
-use Rattle.std.proofs.lemmas.List.{length-drop, get_or-drop, take-take, take_min, drop_all, get_or_default}
+use Rattle.std.proofs.lemmas.List.{length-drop, get_or-drop, take-take, take_min, drop_all, drop_more, get_or_default}
 use Rattle.std.proofs.lemmas.List.Folds.{list_any_at, list_any_none}
 use Rattle.std.proofs.lemmas.List.Sums.{take_while-cons, position_or_len_is}
 use Rattle.elf32_syms.specs.Names.{is_zero, name_ends, name_at}
@@ -74,3 +79,36 @@ front_past strings at limit h = rw (drop_all at strings h) (sym (take_nil limit)
 pub whole_name : (strings : List ℕ) (at : ℕ) → take 4095 (name_at strings at) ≡ name_at strings at
 unfolding name_at
 whole_name strings at = take-take 4095 4095 (before_first is_zero (drop at strings)) (omega arith)
+
+-- a name has the order of itself
+pub same_name : (xs ys : List ℕ) → xs ≡ ys → Equal ≡ slice_cmp nat_cmp xs ys
+same_name xs ys e = self_reversed (slice_cmp nat_cmp xs xs) (nat_list_cmp_total.antisymm xs xs) ∙ ap (slice_cmp nat_cmp xs) e
+  where
+    self_reversed : (a : Ordering) → a ≡ ordering_reverse a → Equal ≡ a
+    self_reversed Less h = cc
+    self_reversed Equal h = refl
+    self_reversed Greater h = cc
+
+-- the name at an offset is empty exactly where a zero byte stands there
+name_from : (strings : List ℕ) (at : ℕ) → at < length strings → name_at strings at ≡ take 4095 (cond (not (is_zero (get_or strings at 0))) (get_or strings at 0 ∷ before_first is_zero (drop (at + 1) strings)) [])
+unfolding name_at
+name_from strings at h =
+    rw (drop_more strings at 0 h) (ap (take 4095) (take_while-cons (λ (b : ℕ). not (is_zero b)) (get_or strings at 0) (drop (at + 1) strings)))
+
+length_some : (k x : ℕ) (xs : List ℕ) → 0 < k → true ≡ nat_lt 0 (length (take k (x ∷ xs)))
+length_some zero x xs h = absurd (omega arith)
+length_some (suc k) x xs h = above (length (take k xs))
+  where
+    above : (n : ℕ) → true ≡ nat_lt 0 (suc n)
+    above n = grind (arith, nat_tests)
+
+pub name_starts : (strings : List ℕ) (at : ℕ) → at < length strings → not (is_zero (get_or strings at 0)) ≡ nat_lt 0 (length (name_at strings at))
+name_starts strings at h = by (is_zero (get_or strings at 0)) ∙ sym (ap (λ (xs : List ℕ). nat_lt 0 (length xs)) (name_from strings at h))
+  where
+    by : (b : Bool) → not b ≡ nat_lt 0 (length (take 4095 (cond (not b) (get_or strings at 0 ∷ before_first is_zero (drop (at + 1) strings)) [])))
+    by true = refl
+    by false = length_some 4095 (get_or strings at 0) (before_first is_zero (drop (at + 1) strings)) (lit< tt)
+
+pub name_past : (strings : List ℕ) (at : ℕ) → length strings ≤ at → false ≡ nat_lt 0 (length (name_at strings at))
+unfolding name_at
+name_past strings at h = rw (drop_all at strings h) refl

@@ -1,10 +1,10 @@
 -- Bisection for the symbol in which an address lies.
-use Rattle.std.proofs.Common.{◌≡◌, ◌<◌, ◌≤◌, ℕ, zero, suc, ◌+◌, Bool, true, false, cond, nat_lt, nat_le, List, [], length, get_or, Option, Some, None, refl, sym, ◌∙◌, arith, ⊎_elim, All, MatchOption, IfSome, IfNone}
-use Rattle.std.specs.List.{HoldsAt, position_or_len}
+use Rattle.std.proofs.Common.{◌≡◌, ◌<◌, ◌≤◌, ℕ, zero, suc, ◌+◌, true, false, nat_lt, nat_le, List, [], length, get_or, Some, None, refl, arith, ⊎_elim}
+use Rattle.std.specs.List.{position_or_len}
 use Rattle.std.specs.List.Sorted.{IsPartitionedBy, IsPartitionPoint, IsNonDecreasingBy}
-use Rattle.std.proofs.lemmas.Bool.{cases_lt, false≢true}
+use Rattle.std.proofs.lemmas.Bool.{cases_lt}
 use Rattle.std.proofs.lemmas.Bool.Decides.{nat_tests}
-use Rattle.std.proofs.lemmas.List.Sums.{position_or_len_is, passes_at_first, fails_before_first}
+use Rattle.std.proofs.lemmas.List.Sums.{position_or_len_is}
 use Rattle.std.proofs.lemmas.List.Sorted.{IsPartitionedBy-leb, IsNonDecreasingBy-from_all_adjacent}
 use Rattle.elf32_syms.specs.declared.image.Symbol.{Symbol}
 use Rattle.elf32_syms.specs.Owners.{IsAscending, owns, owner_of}
@@ -67,55 +67,3 @@ module _ (symbols : List Symbol) (pc i : ℕ) (h : IsAscending symbols)
 
   pub no_owner_behind : length symbols ≤ i → None ≡ owner_of symbols pc
   no_owner_behind all = none_all (record { addr = 0; end = 0; name = [] }) (λ k above below. absurd (omega arith))
-
--- what the place of an owner is
-is_owner : (pc : ℕ) (s : Symbol) → owns pc s ≡ true → (s.addr ≤ pc) × (pc < s.end)
-is_owner pc s h = (grind (arith, nat_tests), grind (arith, nat_tests))
-
-is_no_owner : (pc : ℕ) (s : Symbol) → owns pc s ≡ false → ¬ ((s.addr ≤ pc) × (pc < s.end))
-is_no_owner pc s h p =
-    let from = p.0 in
-    let to = p.1 in
-    let yes' : owns pc s ≡ true = grind (arith, nat_tests) in
-    false≢true (sym h ∙ yes')
-
-pub record IsPlace (symbols : List Symbol) (pc i : ℕ) : Type 0 where
-  pub inside : i < length symbols
-  pub found : HoldsAt (λ (s : Symbol). (s.addr ≤ pc) × (pc < s.end)) symbols i
-
-pub owner_tells : (symbols : List Symbol) (pc : ℕ) → MatchOption (owner_of symbols pc) (All (λ (s : Symbol). ¬ ((s.addr ≤ pc) × (pc < s.end))) symbols) (λ i. IsPlace symbols pc i)
-owner_tells symbols pc = by (nat_lt (position_or_len (owns pc) symbols) (length symbols)) refl
-  where
-    by : (b : Bool) → nat_lt (position_or_len (owns pc) symbols) (length symbols) ≡ b
-        → MatchOption (cond b (Some (position_or_len (owns pc) symbols)) None) (All (λ (s : Symbol). ¬ ((s.addr ≤ pc) × (pc < s.end))) symbols) (λ i. IsPlace symbols pc i)
-    by true e =
-        let below : position_or_len (owns pc) symbols < length symbols = grind (arith, nat_tests) in
-        record { inside = below; found = λ d. is_owner pc (get_or symbols (position_or_len (owns pc) symbols) d) (passes_at_first (owns pc) symbols d below) }
-    by false e = λ k d less.
-        let all : length symbols ≤ position_or_len (owns pc) symbols = grind (arith, nat_tests) in
-        is_no_owner pc (get_or symbols k d) (fails_before_first (owns pc) symbols k d (omega arith))
-
-module _ (symbols : List Symbol) (pc : ℕ) (r : Option ℕ) (is : r ≡ owner_of symbols pc) where
-  tells : MatchOption r (All (λ (s : Symbol). ¬ ((s.addr ≤ pc) × (pc < s.end))) symbols) (λ i. IsPlace symbols pc i)
-  tells = rw is (owner_tells symbols pc)
-
-  pub owner_inside : IfSome r (λ i. i < length symbols)
-  owner_inside = by r tells
-    where
-      by : (o : Option ℕ) → MatchOption o (All (λ (s : Symbol). ¬ ((s.addr ≤ pc) × (pc < s.end))) symbols) (λ i. IsPlace symbols pc i) → IfSome o (λ i. i < length symbols)
-      by None h = tt
-      by (Some i) h = h.inside
-
-  pub owner_found : IfSome r (HoldsAt (λ (s : Symbol). (s.addr ≤ pc) × (pc < s.end)) symbols)
-  owner_found = by r tells
-    where
-      by : (o : Option ℕ) → MatchOption o (All (λ (s : Symbol). ¬ ((s.addr ≤ pc) × (pc < s.end))) symbols) (λ i. IsPlace symbols pc i) → IfSome o (HoldsAt (λ (s : Symbol). (s.addr ≤ pc) × (pc < s.end)) symbols)
-      by None h = tt
-      by (Some i) h = h.found
-
-  pub owner_none : IfNone r (All (λ (s : Symbol). ¬ ((s.addr ≤ pc) × (pc < s.end))) symbols)
-  owner_none = by r tells
-    where
-      by : (o : Option ℕ) → MatchOption o (All (λ (s : Symbol). ¬ ((s.addr ≤ pc) × (pc < s.end))) symbols) (λ i. IsPlace symbols pc i) → IfNone o (All (λ (s : Symbol). ¬ ((s.addr ≤ pc) × (pc < s.end))) symbols)
-      by None h = h
-      by (Some i) h = tt

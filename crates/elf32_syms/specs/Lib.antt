@@ -1,10 +1,8 @@
-pub mod Fields
 pub mod Header
-pub mod Sections
 pub mod Segments
+pub mod Sections
 pub mod Names
 pub mod Symbols
-pub mod Found
 pub mod Refusals
 pub mod Owners
 pub mod Image

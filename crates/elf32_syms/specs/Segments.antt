@@ -1,35 +1,26 @@
 -- Segments (System V ABI, "Program Header"): the program headers of type PT_LOAD that take memory, in table order.
-use Rattle.std.specs.Prelude.{ℕ, ◌+◌, min, Bool, ◌&&◌, ◌==◌, nat_lt, List, map, filter}
+use Rattle.std.specs.Prelude.{ℕ, ◌+◌, ◌*◌, min, Bool, ◌&&◌, ◌==◌, nat_lt, if◌then◌else◌, List, Option, Some, None}
+use Rattle.std.specs.List.{filter_map, range_with_len}
+use Rattle.gp_base.specs.Bytes.{word_at}
 use Rattle.elf32_syms.specs.declared.image.Segment.{Segment}
-use Rattle.elf32_syms.specs.Fields.{u32_at, numbers_below}
-use Rattle.elf32_syms.specs.Header.{e_phnum, program_header}
+use Rattle.elf32_syms.specs.Header.{header_of}
 
--- the fields of program header i, under the names of the ABI
-abbrev pub p_type : List ℕ → ℕ → ℕ
-p_type bs i = u32_at bs (program_header bs i)
-
-abbrev pub p_offset : List ℕ → ℕ → ℕ
-p_offset bs i = u32_at bs (program_header bs i + 4)
-
-abbrev pub p_vaddr : List ℕ → ℕ → ℕ
-p_vaddr bs i = u32_at bs (program_header bs i + 8)
-
-abbrev pub p_filesz : List ℕ → ℕ → ℕ
-p_filesz bs i = u32_at bs (program_header bs i + 16)
-
-abbrev pub p_memsz : List ℕ → ℕ → ℕ
-p_memsz bs i = u32_at bs (program_header bs i + 20)
-
-unfoldable pub is_segment : List ℕ → ℕ → Bool
-is_segment bs i = (p_type bs i == 1) && nat_lt 0 (p_memsz bs i)
-
--- how many of its bytes the file gives
-abbrev pub loaded : List ℕ → ℕ → ℕ
-loaded bs i = min (p_filesz bs i) (p_memsz bs i)
-
-unfoldable pub segment_at : List ℕ → ℕ → Segment
-segment_at bs i =
-    record { addr = p_vaddr bs i; offset = p_offset bs i; filesz = loaded bs i; memsz = p_memsz bs i }
+-- the segment of the program header at an offset: p_type, p_offset, p_vaddr, p_filesz and p_memsz are looked at
+unfoldable pub segment_at : List ℕ → ℕ → Option Segment
+segment_at bs at =
+    if (word_at bs at == 1) && nat_lt 0 (word_at bs (at + 20))
+    then Some (record {
+      addr = word_at bs (at + 8);
+      offset = word_at bs (at + 4);
+      filesz = min (word_at bs (at + 16)) (word_at bs (at + 20));
+      memsz = word_at bs (at + 20);
+    })
+    else None
 
 unfoldable pub segments_of : List ℕ → List Segment
-segments_of bs = map (segment_at bs) (filter (is_segment bs) (numbers_below (e_phnum bs)))
+segments_of bs =
+    filter_map (λ i. segment_at bs ((header_of bs).programs_at + 32 * i)) (range_with_len 0 (header_of bs).programs)
+
+-- its bytes do not all lie in a file of this length
+abbrev pub is_cut_off : ℕ → Segment → Bool
+is_cut_off len s = nat_lt len (s.offset + s.filesz)

@@ -1,15 +1,14 @@
 //! The image of a program.
 
-ghost use Rattle.std.specs.Prelude.{◌≡◌, ◌<◌, ◌≤◌, length, OnOk, IfOk, IfErr, IfSome, IfNone, All};
-ghost use Rattle.std.specs.List.{HoldsAt};
+ghost use Rattle.std.specs.Prelude.{◌≡◌, ◌≤◌, length, OnOk, IfOk, IfErr};
 ghost use Rattle.elf32_syms.specs.Refusals.{IsRefusal, elf_refusal};
 ghost use Rattle.elf32_syms.specs.Image.{IsWithinLimits, image_of};
 
-use crate::header::{check_header, check_tables, entry};
+use crate::header::read_header;
 use crate::kept::read_functions;
 use crate::owners::owner;
 use crate::refusal::ElfRefusal;
-use crate::sections::read_text;
+use crate::sections::{find_symbols, read_sections, read_text};
 use crate::segments::read_segments;
 use gp_base::limits::MAX_ELF_BYTES;
 use gp_base::{Items, Name, Span};
@@ -61,12 +60,7 @@ impl Image {
     /// The index of the symbol that `pc` lies in, and None where there is none. Takes no memory.
     pub fn lookup(&self, pc: u32) -> Option<u32>
         requires { IsAscending self.now.symbols }
-        ensures is { result ≡ owner_of self.now.symbols pc }
-        ensures inside { IfSome result (λ i. i < length self.now.symbols) }
-        ensures found { IfSome result
-            (HoldsAt (λ s. (s.addr ≤ pc) × (pc < s.end)) self.now.symbols) }
-        ensures none { IfNone result
-            (All (λ s. ¬ ((s.addr ≤ pc) × (pc < s.end))) self.now.symbols) }
+        ensures { result ≡ owner_of self.now.symbols pc }
     {
         owner(self.symbols.as_slice(), pc)
     }
@@ -95,13 +89,18 @@ pub fn read(alloc: Global, bytes: &[u8]) -> Result<Image, ElfRefusal>
     // What callers rely on.
     ensures limits { IfOk result (λ image. IsWithinLimits (length bytes.now) image) }
 {
-    check_header(bytes)?;
-    check_tables(bytes)?;
-    let segments = read_segments(alloc, bytes)?;
-    let text = read_text(bytes)?;
-    let functions = read_functions(alloc, bytes, text.high)?;
+    let header = read_header(bytes)?;
+    let segments = read_segments(alloc, bytes, &header)?;
+    let headers = read_sections(alloc, bytes, &header)?;
+    let sections = headers.as_slice();
+    let text = read_text(alloc, sections)?;
+    let (table, strings) = match find_symbols(bytes, sections) {
+        Ok(found) => found,
+        Err(refusal) => return Err(refusal),
+    };
+    let functions = read_functions(alloc, sections, table, strings, text.high)?;
     Ok(Image {
-        entry: entry(bytes),
+        entry: header.entry,
         segments,
         text,
         symbols: functions.symbols,

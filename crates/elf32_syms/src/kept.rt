@@ -1,37 +1,23 @@
 //! Which symbols are kept, and where the functions of the profiling runtime are.
 
-ghost use Rattle.std.specs.Prelude.{◌≡◌, ℕ, true, false, ◌-◌, ◌+◌, ◌<◌, ◌≤◌, length, nat_lt, nat_eq, None, Some, if◌then◌else◌, OnOk, IfOk, IfErr, All, codes};
-ghost use Rattle.std.specs.Option.{option_map_or, option_or};
+ghost use Rattle.std.specs.Prelude.{◌≡◌, ℕ, ◌∷◌, [], ◌++◌, ◌-◌, ◌≤◌, length, nat_le, find, option_map, true, None, OnOk, IfOk, IfErr, All, codes};
+ghost use Rattle.std.specs.Option.{option_map_or};
 ghost use Rattle.std.specs.Ordering.{nat_cmp};
-ghost use Rattle.std.specs.BTreeMap.{get};
+ghost use Rattle.std.specs.BTreeMap.{get, values as values_of_map, IsOrdered};
 ghost use Rattle.elf32_syms.specs.declared.refusal.ElfRefusal.TheVariants.{Link};
-ghost use Rattle.elf32_syms.specs.Header.{HasTables};
-ghost use Rattle.elf32_syms.specs.Names.{name_ends};
 ghost use Rattle.elf32_syms.specs.Sections.{text_low, text_high};
-ghost use Rattle.elf32_syms.specs.Symbols.{HasSymbols, kept as kept_of, hook_of, is_candidate, is_unnamed, comes_before as comes_before_of, st_value, strings_of, symbol_count as symbol_count_of};
-ghost use Rattle.elf32_syms.specs.Found.{IsFound, KeepsFirst, hook_below};
+ghost use Rattle.elf32_syms.specs.Symbols.{fitting as fitting_of, candidates as candidates_of, has_name as has_name_of, IsInText, comes_before as comes_before_of, kept_at, kept as kept_of, hook_of};
 ghost use Rattle.elf32_syms.specs.Refusals.{IsRefusal, text_refusal, names_refusal, count_refusal, symbols_refusal};
-ghost use Rattle.elf32_syms.specs.Image.{in_a_row as in_a_row_of, symbols_of, mcount_of, moncontrol_of};
+ghost use Rattle.elf32_syms.specs.Image.{in_a_row as in_a_row_of, AreFunctions};
 
 use crate::image::{Symbol, SymbolList};
-use crate::names::{copied, front, names_end};
+use crate::names::{copied, is_named, name_at, names_end};
 use crate::refusal::ElfRefusal;
-use crate::sections::symbol_table;
-use crate::symbols::{
-    address, check_table, comes_before, fits, name_offset, strings, symbol_count, symbol_name,
-};
+use crate::sections::Section;
+use crate::symbols::{Entry, comes_before, fitting};
 use gp_base::limits::MAX_SYMBOLS;
 use std::alloc::{AllocError, Global};
 use std::collections::BTreeMap;
-
-/// What a walk over the symbol table has found.
-#[derive(Drop)]
-pub(crate) struct Found {
-    /// At each address of a candidate, the number of the one that is kept.
-    pub(crate) first: BTreeMap<u32, u32>,
-    pub(crate) mcount: Option<u32>,
-    pub(crate) moncontrol: Option<u32>,
-}
 
 /// The functions of a program: its kept symbols, and where the profiling runtime begins.
 #[derive(Drop)]
@@ -41,178 +27,124 @@ pub(crate) struct Functions {
     pub(crate) moncontrol: Option<u32>,
 }
 
-/// The address of the first candidate of a name, where a symbol is one candidate more.
-fn hook(bytes: &[u8], table: u16, number: u32, name: &[u8], so_far: Option<u32>) -> Option<u32>
-    requires table_in { HasSymbols bytes.now table }
-    requires number_in { number < symbol_count_of bytes.now table }
-    requires candidate { is_candidate bytes.now table number ≡ true }
-    requires short { length name.now ≤ 10 }
-    requires before { so_far ≡ hook_below bytes.now table number name.now }
-    ensures { result ≡ hook_below bytes.now table (number + 1) name.now }
+/// The first symbol whose name begins at `end` or behind it.
+fn first_behind(entries: &[Entry], end: usize) -> Option<ElfRefusal>
+    ensures { result ≡ option_map (λ e. Link e.number) (find (λ e. nat_le end e.name) entries.now) }
 {
-    if so_far.is_some() {
-        return so_far;
-    }
+    entries
+        .iter()
+        .find(|e| e.name as usize >= end)
+        .map(|e| ElfRefusal::Link { index: e.number })
+}
 
-    // The first 11 bytes tell a name of at most 10 from any other.
-    let found = front(
-        strings(bytes, table),
-        name_offset(bytes, table, number) as usize,
-        11,
-    );
-    if found == name {
-        Some(address(bytes, table, number))
-    } else {
-        None
+/// The first symbol whose name has no end.
+fn first_unnamed(strings: &[u8], entries: &[Entry]) -> Option<ElfRefusal>
+    ensures { result ≡ names_refusal strings.now entries.now }
+{
+    first_behind(entries, names_end(strings))
+}
+
+/// Whether a symbol has a name of at least one byte.
+fn has_name(strings: &[u8], entry: Entry) -> bool
+    ensures { result ≡ has_name_of strings.now entry }
+{
+    let at = entry.name as usize;
+    if at >= strings.len() {
+        return false;
     }
+    strings[at] != 0
+}
+
+/// The symbols with a name of at least one byte.
+fn candidates(alloc: Global, strings: &[u8], entries: &[Entry]) -> Result<Vec<Entry>, AllocError>
+    ensures { IfOk result (λ v. v.items ≡ candidates_of strings.now entries.now) }
+{
+    entries
+        .iter()
+        .copied()
+        .filter(|e| has_name(strings, *e))
+        .collect(alloc)
+}
+
+/// The address of the first candidate of a name of at most 10 bytes.
+fn hook(strings: &[u8], candidates: &[Entry], name: &[u8]) -> Option<u32>
+    requires { length name.now ≤ 10 }
+    ensures { result ≡ hook_of strings.now candidates.now name.now }
+{
+    candidates
+        .iter()
+        .find(|e| is_named(strings, e.name as usize, name))
+        .map(|e| e.addr)
 }
 
 /// Whether a candidate comes before the one that is kept at its address so far.
-fn is_first(first: &BTreeMap<u32, u32>, bytes: &[u8], table: u16, number: u32) -> bool
-    requires table_in { HasSymbols bytes.now table }
-    requires number_in { number < symbol_count_of bytes.now table }
-    requires before { KeepsFirst bytes.now table number first.now }
-    ensures { result ≡ option_map_or (λ best. comes_before_of bytes.now table number best)
-        (get nat_cmp first.now (st_value bytes.now table number)) true }
+fn is_first(first: &BTreeMap<u32, Entry>, strings: &[u8], entry: Entry) -> bool
+    ensures { result ≡ option_map_or (comes_before_of strings.now entry) (get nat_cmp first.now entry.addr) true }
 {
-    match first.get(&address(bytes, table, number)) {
-        Some(best) => comes_before(bytes, table, number, *best),
+    match first.get(&entry.addr) {
+        Some(best) => comes_before(strings, entry, *best),
         None => true,
     }
 }
 
-/// Keeps a candidate where it comes before the one at its address so far.
-fn keep_first(
-    first: &mut BTreeMap<u32, u32>,
-    bytes: &[u8],
-    table: u16,
-    number: u32,
-) -> Result<(), AllocError>
-    requires table_in { HasSymbols bytes.now table }
-    requires number_in { number < symbol_count_of bytes.now table }
-    requires candidate { is_candidate bytes.now table number ≡ true }
-    requires before { KeepsFirst bytes.now table number first.old }
-    ensures { OnOk result (KeepsFirst bytes.now table (number + 1) first.new) }
-{
-    if is_first(first, bytes, table, number) {
-        first.insert(address(bytes, table, number), number)?;
-    }
-    Ok(())
-}
-
-/// Takes one more candidate into account.
-fn add(found: &mut Found, bytes: &[u8], table: u16, number: u32) -> Result<(), AllocError>
-    requires table_in { HasSymbols bytes.now table }
-    requires number_in { number < symbol_count_of bytes.now table }
-    requires candidate { is_candidate bytes.now table number ≡ true }
-    requires before { IsFound bytes.now table number found.old }
-    ensures { OnOk result (IsFound bytes.now table (number + 1) found.new) }
-{
-    keep_first(&mut found.first, bytes, table, number)?;
-    found.mcount = hook(bytes, table, number, b"_mcount", found.mcount);
-    found.moncontrol = hook(bytes, table, number, b"moncontrol", found.moncontrol);
-    Ok(())
-}
-
-/// Takes one more symbol into account. `end` is that of the names.
-fn step(
-    found: &mut Found,
-    bytes: &[u8],
-    table: u16,
-    end: usize,
-    number: u32,
-) -> Result<(), ElfRefusal>
-    requires table_in { HasSymbols bytes.now table }
-    requires number_in { number < symbol_count_of bytes.now table }
-    requires end_in { end ≤ length (strings_of bytes.now table) }
-    requires ends { (at : ℕ) → name_ends (strings_of bytes.now table) at ≡ nat_lt at end }
-    requires before { IsFound bytes.now table number found.old }
-    ensures refusal { IfErr result (λ e. IsRefusal e
-        (if is_unnamed bytes.now table number then Some (Link number) else None)) }
-    ensures accepted { OnOk result (is_unnamed bytes.now table number ≡ false) }
-    ensures found { OnOk result (IsFound bytes.now table (number + 1) found.new) }
-{
-    if !fits(bytes, table, number) {
-        return Ok(());
-    }
-    let at = name_offset(bytes, table, number) as usize;
-    if at >= end {
-        return Err(ElfRefusal::Link { index: number });
-    }
-    if strings(bytes, table)[at] != 0 {
-        add(found, bytes, table, number)?;
-    }
-    Ok(())
-}
-
-/// Walks the symbol table.
-fn walk(alloc: Global, bytes: &[u8], table: u16) -> Result<Found, ElfRefusal>
-    requires { HasSymbols bytes.now table }
-    ensures refusal { IfErr result (λ e. IsRefusal e (names_refusal bytes.now table)) }
-    ensures accepted { OnOk result (names_refusal bytes.now table ≡ None) }
-    ensures found { IfOk result
-        (λ found. IsFound bytes.now table (symbol_count_of bytes.now table) found) }
-{
-    let end = names_end(strings(bytes, table));
-    let count = symbol_count(bytes, table);
-    let mut found = Found {
-        first: BTreeMap::new(alloc),
-        mcount: None,
-        moncontrol: None,
-    };
-    for number in 0..count {
-        step(&mut found, bytes, table, end, number)?;
-    }
-    Ok(found)
-}
-
-/// The numbers of the kept symbols, in the order of their addresses.
-fn kept_numbers(
+/// The first candidate at each address.
+fn first_at_each(
     alloc: Global,
-    bytes: &[u8],
-    table: u16,
-    first: &BTreeMap<u32, u32>,
-) -> Result<Vec<u32>, ElfRefusal>
-    requires all { KeepsFirst bytes.now table (symbol_count_of bytes.now table) first.now }
-    requires text { text_high bytes.now - text_low bytes.now ≤ 16777216 }
-    ensures refusal { IfErr result (λ e. IsRefusal e (count_refusal bytes.now table)) }
-    ensures accepted { OnOk result (count_refusal bytes.now table ≡ None) }
-    ensures numbers { IfOk result (λ numbers. numbers.items ≡ kept_of bytes.now table) }
+    strings: &[u8],
+    candidates: &[Entry],
+) -> Result<BTreeMap<u32, Entry>, AllocError>
+    ensures { IfOk result (λ first. (addr : ℕ) → get nat_cmp first addr ≡ kept_at strings.now candidates.now addr) }
 {
-    if first.len() > MAX_SYMBOLS as usize {
-        return Err(ElfRefusal::TooManySymbols {
-            count: first.len() as u32,
-        });
+    let mut first = BTreeMap::new(alloc);
+    for entry in candidates {
+        if is_first(&first, strings, *entry) {
+            first.insert(entry.addr, *entry)?;
+        }
     }
-    let mut numbers = Vec::new(alloc);
-    for number in first.values() {
-        numbers.push(*number)?;
-    }
-    Ok(numbers)
+    Ok(first)
 }
 
-/// The symbols of these numbers, of which each reaches to the next and the last to `high`.
+/// The symbols that a map has, in the order of its keys.
+fn values(alloc: Global, first: &BTreeMap<u32, Entry>) -> Result<Vec<Entry>, AllocError>
+    ensures all { IfOk result (λ v. v.items ≡ values_of_map first.now) }
+    ensures ordered { IsOrdered nat_cmp first.now }
+{
+    first.values().copied().collect(alloc)
+}
+
+/// The kept symbols, in the order of their addresses.
+fn kept(
+    alloc: Global,
+    sections: &[Section],
+    strings: &[u8],
+    candidates: &[Entry],
+) -> Result<Vec<Entry>, AllocError>
+    requires { All (IsInText sections.now) candidates.now }
+    ensures { IfOk result (λ kept. kept.items ≡ kept_of sections.now strings.now candidates.now) }
+{
+    let first = first_at_each(alloc, strings, candidates)?;
+    values(alloc, &first)
+}
+
+/// These symbols, of which each reaches to the next and the last to `high`.
 fn in_a_row(
     alloc: Global,
-    bytes: &[u8],
-    table: u16,
-    numbers: &[u32],
+    strings: &[u8],
+    entries: &[Entry],
     high: u32,
 ) -> Result<SymbolList, AllocError>
-    requires table_in { HasSymbols bytes.now table }
-    requires numbers_in { All (λ n. n < symbol_count_of bytes.now table) numbers.now }
-    ensures { IfOk result (λ symbols. symbols ≡ in_a_row_of bytes.now table high numbers.now) }
+    ensures { IfOk result (λ symbols. symbols ≡ in_a_row_of strings.now high entries.now) }
 {
     let mut symbols = SymbolList::new(alloc);
-    for (i, number) in numbers.iter().enumerate() {
-        let end = if i + 1 < numbers.len() {
-            address(bytes, table, numbers[i + 1])
+    for (i, entry) in entries.iter().enumerate() {
+        let end = if i + 1 < entries.len() {
+            entries[i + 1].addr
         } else {
             high
         };
-        let name = copied(alloc, symbol_name(bytes, table, *number))?;
+        let name = copied(alloc, name_at(strings, entry.name as usize))?;
         symbols.push(Symbol {
-            addr: address(bytes, table, *number),
+            addr: entry.addr,
             end,
             name,
         })?;
@@ -220,53 +152,38 @@ fn in_a_row(
     Ok(symbols)
 }
 
-/// The functions that a symbol table names.
-fn read_table(alloc: Global, bytes: &[u8], table: u16, high: u32) -> Result<Functions, ElfRefusal>
-    requires table_in { HasSymbols bytes.now table }
-    requires text { text_refusal bytes.now ≡ None }
-    requires high { high ≡ text_high bytes.now }
-    ensures refusal { IfErr result (λ e. IsRefusal e
-        (option_or (names_refusal bytes.now table) (count_refusal bytes.now table))) }
-    ensures accepted { OnOk result
-        (option_or (names_refusal bytes.now table) (count_refusal bytes.now table) ≡ None) }
-    ensures symbols { IfOk result
-        (λ f. f.symbols ≡ in_a_row_of bytes.now table high (kept_of bytes.now table)) }
-    ensures mcount { IfOk result (λ f. f.mcount ≡ hook_of bytes.now table (codes "_mcount")) }
-    ensures moncontrol { IfOk result
-        (λ f. f.moncontrol ≡ hook_of bytes.now table (codes "moncontrol")) }
-{
-    let found = walk(alloc, bytes, table)?;
-    let numbers = kept_numbers(alloc, bytes, table, &found.first)?;
-    let symbols = in_a_row(alloc, bytes, table, &numbers, high)?;
-    Ok(Functions {
-        symbols,
-        mcount: found.mcount,
-        moncontrol: found.moncontrol,
-    })
-}
-
-/// The functions of a program, and none where it has no symbol table.
+/// The functions of a program, by the bytes of its symbol table and of its strings.
+#[tactic(auto, unfolding(crate::specs::Refusals::symbols_refusal))]
 pub(crate) fn read_functions(
     alloc: Global,
-    bytes: &[u8],
+    sections: &[Section],
+    table: &[u8],
+    strings: &[u8],
     high: u32,
 ) -> Result<Functions, ElfRefusal>
-    requires tables { HasTables bytes.now }
-    requires text { text_refusal bytes.now ≡ None }
-    requires high { high ≡ text_high bytes.now }
-    ensures refusal { IfErr result (λ e. IsRefusal e (symbols_refusal bytes.now)) }
-    ensures accepted { OnOk result (symbols_refusal bytes.now ≡ None) }
-    ensures symbols { IfOk result (λ f. f.symbols ≡ symbols_of bytes.now) }
-    ensures mcount { IfOk result (λ f. f.mcount ≡ mcount_of bytes.now) }
-    ensures moncontrol { IfOk result (λ f. f.moncontrol ≡ moncontrol_of bytes.now) }
+    requires table { length table.now ≤ 67108864 }
+    requires text { text_refusal sections.now ≡ None }
+    requires high { high ≡ text_high sections.now }
+    ensures refusal { IfErr result (λ e. IsRefusal e (symbols_refusal sections.now table.now strings.now)) }
+    ensures accepted { OnOk result (symbols_refusal sections.now table.now strings.now ≡ None) }
+    ensures functions { IfOk result (λ f. AreFunctions sections.now strings.now
+        (candidates_of strings.now (fitting_of sections.now table.now)) f) }
 {
-    let Some(table) = symbol_table(bytes) else {
-        return Ok(Functions {
-            symbols: SymbolList::new(alloc),
-            mcount: None,
-            moncontrol: None,
+    let entries = fitting(alloc, sections, table)?;
+    match first_unnamed(strings, &entries) {
+        Some(refusal) => return Err(refusal),
+        None => {}
+    }
+    let candidates = candidates(alloc, strings, &entries)?;
+    let kept = kept(alloc, sections, strings, &candidates)?;
+    if kept.len() > MAX_SYMBOLS as usize {
+        return Err(ElfRefusal::TooManySymbols {
+            count: kept.len() as u32,
         });
-    };
-    check_table(bytes, table)?;
-    read_table(alloc, bytes, table, high)
+    }
+    Ok(Functions {
+        symbols: in_a_row(alloc, strings, &kept, high)?,
+        mcount: hook(strings, &candidates, b"_mcount"),
+        moncontrol: hook(strings, &candidates, b"moncontrol"),
+    })
 }

@@ -8,6 +8,7 @@ mod fields;
 mod header;
 pub mod image;
 mod kept;
+pub mod laws;
 mod names;
 pub mod owners;
 pub mod refusal;

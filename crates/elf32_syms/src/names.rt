@@ -2,6 +2,7 @@
 
 ghost use Rattle.std.specs.Prelude.{◌≡◌, ℕ, ◌+◌, ◌<◌, ◌≤◌, take, length, nat_lt, IfOk};
 ghost use Rattle.std.specs.List.{position_or_len};
+ghost use Rattle.std.specs.Str.{bytes_eq};
 ghost use Rattle.elf32_syms.specs.Names.{is_zero, name_ends, name_at as name_at_of};
 
 use gp_base::Name;
@@ -35,7 +36,7 @@ fn zero_or_len(bytes: &[u8]) -> usize
 }
 
 /// The bytes from an offset to the next zero byte, and at most `limit` of them.
-pub(crate) fn front(strings: &[u8], at: usize, limit: usize) -> &[u8]
+fn front(strings: &[u8], at: usize, limit: usize) -> &[u8]
     requires { limit ≤ 4095 }
     ensures { result.now ≡ take limit (name_at_of strings.now at) }
 {
@@ -52,6 +53,15 @@ pub(crate) fn name_at(strings: &[u8], at: usize) -> &[u8]
     ensures { result.now ≡ name_at_of strings.now at }
 {
     front(strings, at, MAX_NAME_BYTES as usize)
+}
+
+/// Whether the name at an offset is this one, of at most 10 bytes.
+pub(crate) fn is_named(strings: &[u8], at: usize, name: &[u8]) -> bool
+    requires { length name.now ≤ 10 }
+    ensures { result ≡ bytes_eq (name_at_of strings.now at) name.now }
+{
+    // The first 11 bytes tell it from any other.
+    front(strings, at, 11) == name
 }
 
 /// A copy of a name.

@@ -1,7 +1,6 @@
 //! The symbol that an address lies in.
 
-ghost use Rattle.std.specs.Prelude.{◌≡◌, ◌+◌, ◌<◌, ◌≤◌, true, false, length, nat_le, IfSome, IfNone, All};
-ghost use Rattle.std.specs.List.{HoldsAt};
+ghost use Rattle.std.specs.Prelude.{◌≡◌, ◌≤◌, true, false, length, nat_le};
 ghost use Rattle.std.specs.List.Sorted.{IsPartitionPoint};
 ghost use Rattle.elf32_syms.specs.Owners.{IsAscending, owner_of};
 
@@ -21,10 +20,7 @@ fn count_ended(symbols: &[Symbol], pc: u32) -> usize
 /// in order, as those of an image are. Takes no memory.
 pub fn owner(symbols: &[Symbol], pc: u32) -> Option<u32>
     requires { IsAscending symbols.now }
-    ensures is { result ≡ owner_of symbols.now pc }
-    ensures inside { IfSome result (λ i. i < length symbols.now) }
-    ensures found { IfSome result (HoldsAt (λ s. (s.addr ≤ pc) × (pc < s.end)) symbols.now) }
-    ensures none { IfNone result (All (λ s. ¬ ((s.addr ≤ pc) × (pc < s.end))) symbols.now) }
+    ensures { result ≡ owner_of symbols.now pc }
 {
     let index = count_ended(symbols, pc);
     if index >= symbols.len() || pc < symbols[index].addr {

@@ -1,22 +1,18 @@
 //! The symbols of a program (System V ABI, "Symbol Table").
 
-ghost use Rattle.std.specs.Prelude.{◌≡◌, ◌+◌, ◌*◌, ◌/◌, ◌<◌, ◌≤◌, length, OnOk, IfOk, IfErr};
-ghost use Rattle.elf32_syms.specs.Fields.{u32_at};
-ghost use Rattle.elf32_syms.specs.Header.{e_shnum, section_header, HasTables};
-ghost use Rattle.elf32_syms.specs.Symbols.{HasSymbols, symbol_count as symbol_count_of, symbol_entry, st_name, st_value, st_info, st_shndx, may_be_function as may_be_function_of, fits as fits_of, is_in_text as is_in_text_of, symbol_name as symbol_name_of, strings_of, comes_before as comes_before_of, binding_rank as binding_rank_of, type_rank as type_rank_of, rank_cmp};
-ghost use Rattle.elf32_syms.specs.Refusals.{Judges, table_refusal};
+ghost use Rattle.std.specs.Prelude.{◌≡◌, ◌+◌, ◌*◌, ◌≤◌, ◌<◌, length, option_map, find, filter, OnOk, IfOk, All};
+ghost use Rattle.std.specs.Ordering.{nat_cmp};
+ghost use Rattle.std.specs.Cmp.Lexicographic.{slice_cmp};
+ghost use Rattle.elf32_syms.specs.Symbols.{entry_at as entry_at_of, fits as fits_of, may_be_function as may_be_function_of, fitting as fitting_of, symbol_name, comes_before as comes_before_of, binding_rank as binding_rank_of, type_rank as type_rank_of};
 
-use crate::fields::{byte, half, word};
-use crate::header::section_headers;
+use crate::fields::{half, word};
 use crate::names::name_at;
-use crate::refusal::ElfRefusal;
-use crate::sections::{
-    SH_ADDR, SH_LINK, SH_OFFSET, SH_SIZE, SH_TYPE, STRTAB, is_executable, section_end, section_word,
-};
+use crate::sections::Section;
+use std::alloc::{AllocError, Global};
 use std::cmp::Ordering;
 
 /// Bytes of a symbol.
-const SYMBOL_BYTES: u32 = 16;
+const SYMBOL_BYTES: usize = 16;
 
 /// Bindings and types of symbols.
 const GLOBAL: u8 = 1;
@@ -27,141 +23,83 @@ const NOTYPE: u8 = 0;
 
 const FUNC: u8 = 2;
 
-/// Looks whether the symbol table and its strings lie in the file.
-#[tactic(auto, unfolding(crate::specs::Refusals::table_refusal))]
-pub(crate) fn check_table(bytes: &[u8], table: u16) -> Result<(), ElfRefusal>
-    requires tables { HasTables bytes.now }
-    requires table_in { table < e_shnum bytes.now }
-    ensures judged { Judges (table_refusal bytes.now table) result }
-    ensures inside { OnOk result (HasSymbols bytes.now table) }
+/// A symbol of the table.
+#[derive(Clone, Copy, Drop)]
+pub(crate) struct Entry {
+    pub(crate) number: u32,
+    pub(crate) addr: u32,
+    pub(crate) binding: u8,
+    pub(crate) kind: u8,
+    pub(crate) section: u16,
+    /// The offset of its name in the strings.
+    pub(crate) name: u32,
+}
+
+/// The symbol of a number.
+#[tactic(auto, unfolding(crate::specs::Symbols::entry_at))]
+fn entry_at(table: &[u8], number: u32) -> Entry
+    requires { 16 * number + 16 ≤ length table.now }
+    ensures { result ≡ entry_at_of table.now number }
 {
-    let len = bytes.len() as u64;
-    let at = section_word(bytes, table, SH_OFFSET);
-    if u64::from(at) + u64::from(section_word(bytes, table, SH_SIZE)) > len {
-        return Err(ElfRefusal::OutOfFile { at });
+    let at = SYMBOL_BYTES * number as usize;
+    let info = table[at + 12];
+    Entry {
+        number,
+        addr: word(table, at + 4),
+        binding: info / 16,
+        kind: info % 16,
+        section: half(table, at + 14),
+        name: word(table, at),
     }
-    let (_, sections) = section_headers(bytes);
-    let link = section_word(bytes, table, SH_LINK);
-    if link >= u32::from(sections) || section_word(bytes, link as u16, SH_TYPE) != STRTAB {
-        return Err(ElfRefusal::Link { index: link });
-    }
-    let strings_at = section_word(bytes, link as u16, SH_OFFSET);
-    if u64::from(strings_at) + u64::from(section_word(bytes, link as u16, SH_SIZE)) > len {
-        return Err(ElfRefusal::OutOfFile { at: strings_at });
-    }
-    Ok(())
-}
-
-/// How many symbols the table has.
-pub(crate) fn symbol_count(bytes: &[u8], table: u16) -> u32
-    requires { HasSymbols bytes.now table }
-    ensures { result ≡ symbol_count_of bytes.now table }
-{
-    section_word(bytes, table, SH_SIZE) / SYMBOL_BYTES
-}
-
-/// The strings of the table.
-#[tactic(auto, unfolding(crate::specs::Symbols::strings_of))]
-pub(crate) fn strings(bytes: &[u8], table: u16) -> &[u8]
-    requires { HasSymbols bytes.now table }
-    ensures { result.now ≡ strings_of bytes.now table }
-{
-    let link = section_word(bytes, table, SH_LINK) as u16;
-    let at = section_word(bytes, link, SH_OFFSET) as usize;
-    let len = section_word(bytes, link, SH_SIZE) as usize;
-    bytes.split_at(at).1.split_at(len).0
-}
-
-/// Where a symbol stands in the file.
-fn symbol_at(bytes: &[u8], table: u16, number: u32) -> usize
-    requires table_in { HasSymbols bytes.now table }
-    requires number_in { number < symbol_count_of bytes.now table }
-    ensures is { result ≡ symbol_entry bytes.now table number }
-    ensures inside { result + 16 ≤ length bytes.now }
-{
-    section_word(bytes, table, SH_OFFSET) as usize + 16 * number as usize
-}
-
-/// The offset of a symbol's name in the strings.
-pub(crate) fn name_offset(bytes: &[u8], table: u16, number: u32) -> u32
-    requires table_in { HasSymbols bytes.now table }
-    requires number_in { number < symbol_count_of bytes.now table }
-    ensures { result ≡ st_name bytes.now table number }
-{
-    word(bytes, symbol_at(bytes, table, number))
-}
-
-/// The address of a symbol.
-pub(crate) fn address(bytes: &[u8], table: u16, number: u32) -> u32
-    requires table_in { HasSymbols bytes.now table }
-    requires number_in { number < symbol_count_of bytes.now table }
-    ensures { result ≡ st_value bytes.now table number }
-{
-    word(bytes, symbol_at(bytes, table, number) + 4)
-}
-
-/// The binding and the type of a symbol, in one byte.
-fn info(bytes: &[u8], table: u16, number: u32) -> u8
-    requires table_in { HasSymbols bytes.now table }
-    requires number_in { number < symbol_count_of bytes.now table }
-    ensures { result ≡ st_info bytes.now table number }
-{
-    byte(bytes, symbol_at(bytes, table, number) + 12)
-}
-
-/// The number of the section that a symbol stands in.
-fn section_of(bytes: &[u8], table: u16, number: u32) -> u16
-    requires table_in { HasSymbols bytes.now table }
-    requires number_in { number < symbol_count_of bytes.now table }
-    ensures { result ≡ st_shndx bytes.now table number }
-{
-    half(bytes, symbol_at(bytes, table, number) + 14)
 }
 
 /// Whether a symbol is a function, or a global or weak symbol of no type.
-fn may_be_function(bytes: &[u8], table: u16, number: u32) -> bool
-    requires table_in { HasSymbols bytes.now table }
-    requires number_in { number < symbol_count_of bytes.now table }
-    ensures { result ≡ may_be_function_of bytes.now table number }
+fn may_be_function(entry: Entry) -> bool
+    ensures { result ≡ may_be_function_of entry }
 {
-    let info = info(bytes, table, number);
-    let binding = info / 16;
-    let kind = info % 16;
-    kind == FUNC || (kind == NOTYPE && (binding == GLOBAL || binding == WEAK))
+    let is_visible = entry.binding == GLOBAL || entry.binding == WEAK;
+    entry.kind == FUNC || (entry.kind == NOTYPE && is_visible)
 }
 
-/// Whether a symbol's address lies in its section, which is executable.
-fn is_in_text(bytes: &[u8], table: u16, number: u32) -> bool
-    requires table_in { HasSymbols bytes.now table }
-    requires number_in { number < symbol_count_of bytes.now table }
-    ensures { result ≡ is_in_text_of bytes.now table number }
+/// Whether a symbol is one of the text: its section is executable and has its address. Symbol 0 is
+/// none.
+#[tactic(auto, unfolding(crate::specs::Symbols::fits))]
+fn fits(sections: &[Section], entry: Entry) -> bool
+    ensures { result ≡ fits_of sections.now entry }
 {
-    let section = section_of(bytes, table, number);
-    let (_, sections) = section_headers(bytes);
-    if section >= sections || !is_executable(bytes, section) {
+    if entry.number == 0 || !may_be_function(entry) {
         return false;
     }
-    let addr = address(bytes, table, number);
-    section_word(bytes, section, SH_ADDR) <= addr && u64::from(addr) < section_end(bytes, section)
+    match sections.get(usize::from(entry.section)) {
+        Some(s) => s.is_executable() && s.addr <= entry.addr && u64::from(entry.addr) < s.end(),
+        None => false,
+    }
 }
 
-/// Whether a symbol is one of the text. Symbol 0 is none.
-#[tactic(auto, unfolding(crate::specs::Symbols::fits))]
-pub(crate) fn fits(bytes: &[u8], table: u16, number: u32) -> bool
-    requires table_in { HasSymbols bytes.now table }
-    requires number_in { number < symbol_count_of bytes.now table }
-    ensures { result ≡ fits_of bytes.now table number }
+/// The symbols of the text.
+pub(crate) fn fitting(
+    alloc: Global,
+    sections: &[Section],
+    table: &[u8],
+) -> Result<Vec<Entry>, AllocError>
+    requires { length table.now ≤ 67108864 }
+    ensures { IfOk result (λ entries. entries.items ≡ fitting_of sections.now table.now) }
 {
-    number > 0 && may_be_function(bytes, table, number) && is_in_text(bytes, table, number)
+    let mut entries = Vec::new(alloc);
+    for number in 0..(table.len() / SYMBOL_BYTES) as u32 {
+        let entry = entry_at(table, number);
+        if fits(sections, entry) {
+            entries.push(entry)?;
+        }
+    }
+    Ok(entries)
 }
 
 /// A symbol's rank by its binding: global, weak, any other.
-fn binding_rank(bytes: &[u8], table: u16, number: u32) -> u8
-    requires table_in { HasSymbols bytes.now table }
-    requires number_in { number < symbol_count_of bytes.now table }
-    ensures { result ≡ binding_rank_of bytes.now table number }
+fn binding_rank(entry: Entry) -> u8
+    ensures { result ≡ binding_rank_of entry }
 {
-    match info(bytes, table, number) / 16 {
+    match entry.binding {
         GLOBAL => 0,
         WEAK => 1,
         _ => 2,
@@ -169,46 +107,34 @@ fn binding_rank(bytes: &[u8], table: u16, number: u32) -> u8
 }
 
 /// A symbol's rank by its type: function, any other.
-fn type_rank(bytes: &[u8], table: u16, number: u32) -> u8
-    requires table_in { HasSymbols bytes.now table }
-    requires number_in { number < symbol_count_of bytes.now table }
-    ensures { result ≡ type_rank_of bytes.now table number }
+fn type_rank(entry: Entry) -> u8
+    ensures { result ≡ type_rank_of entry }
 {
-    if info(bytes, table, number) % 16 == FUNC {
-        0
-    } else {
-        1
-    }
+    if entry.kind == FUNC { 0 } else { 1 }
 }
 
-/// The name of a symbol.
-#[tactic(auto, unfolding(crate::specs::Symbols::symbol_name))]
-pub(crate) fn symbol_name(bytes: &[u8], table: u16, number: u32) -> &[u8]
-    requires table_in { HasSymbols bytes.now table }
-    requires number_in { number < symbol_count_of bytes.now table }
-    ensures { result.now ≡ symbol_name_of bytes.now table number }
+/// The order of two symbols' names.
+fn by_name(strings: &[u8], one: Entry, other: Entry) -> Ordering
+    ensures { result ≡ slice_cmp nat_cmp (symbol_name strings.now one) (symbol_name strings.now other) }
 {
-    name_at(
-        strings(bytes, table),
-        name_offset(bytes, table, number) as usize,
-    )
+    // The same bytes of the file are the same name.
+    if one.name == other.name {
+        return Ordering::Equal;
+    }
+    let name = name_at(strings, one.name as usize);
+    name.cmp(&name_at(strings, other.name as usize))
 }
 
 /// Whether one symbol is kept rather than another at the same address.
 #[tactic(auto, unfolding(crate::specs::Symbols::comes_before))]
-pub(crate) fn comes_before(bytes: &[u8], table: u16, one: u32, other: u32) -> bool
-    requires table_in { HasSymbols bytes.now table }
-    requires one_in { one < symbol_count_of bytes.now table }
-    requires other_in { other < symbol_count_of bytes.now table }
-    ensures { result ≡ comes_before_of bytes.now table one other }
+pub(crate) fn comes_before(strings: &[u8], one: Entry, other: Entry) -> bool
+    ensures { result ≡ comes_before_of strings.now one other }
 {
-    let by_binding = binding_rank(bytes, table, one).cmp(&binding_rank(bytes, table, other));
-    let by_type = type_rank(bytes, table, one).cmp(&type_rank(bytes, table, other));
-    let by_rank = by_binding.then(by_type);
+    let by_binding = binding_rank(one).cmp(&binding_rank(other));
+    let by_rank = by_binding.then(type_rank(one).cmp(&type_rank(other)));
     if by_rank != Ordering::Equal {
         return by_rank == Ordering::Less;
     }
-    let name = symbol_name(bytes, table, one);
-    let by_name = name.cmp(&symbol_name(bytes, table, other));
-    by_name.then(one.cmp(&other)) == Ordering::Less
+    let by_name = by_name(strings, one, other);
+    by_name.then(one.number.cmp(&other.number)) == Ordering::Less
 }

@@ -126,7 +126,7 @@ fn six_nops(alloc: Global, symbols: [Entry; 3]) -> Result<Vec<u8>, AllocError> {
 
 /// What became of a file.
 fn refused(alloc: Global, file: &[u8]) -> Option<ElfRefusal> {
-    if file.len() > 1_000_000 {
+    if file.len() > 2_000_000 {
         return None;
     }
     read(alloc, file).err()
@@ -162,128 +162,94 @@ fn a_program_of_one_instruction(rt: HostRuntime) -> Result<(), Fail> {
     Ok(())
 }
 
+fn size(value: u32) -> Option<ElfRefusal> {
+    Some(ElfRefusal::TableSize { value })
+}
+
+fn out(at: u32) -> Option<ElfRefusal> {
+    Some(ElfRefusal::OutOfFile { at })
+}
+
+fn link(index: u32) -> Option<ElfRefusal> {
+    Some(ElfRefusal::Link { index })
+}
+
 #[test]
 fn twisted_files_are_refused(rt: HostRuntime) -> Result<(), Fail> {
     use ElfRefusal::*;
+    let far = TextRange {
+        low: 65536,
+        high: 33619968,
+    };
+
+    // The length that the file is cut to, an offset, the bytes that are written there.
     let changes = [
-        ("empty", 0, 0, b"".as_slice(), Some(Short { len: 0 })),
-        ("51 bytes", 51, 0, b"", Some(Short { len: 51 })),
-        ("the header alone", 52, 0, b"", Some(OutOfFile { at: 52 })),
-        ("byte 0 is 0", 4376, 0, b"\0", Some(Magic)),
-        ("64 bits", 4376, 4, b"\x02", Some(Class { value: 2 })),
-        (
-            "highest byte first",
-            4376,
-            5,
-            b"\x02",
-            Some(Order { value: 2 }),
-        ),
-        ("shared object", 4376, 16, b"\x03", Some(Kind { value: 3 })),
-        ("x86-64", 4376, 18, b"\x3e", Some(Machine { value: 62 })),
-        ("compressed", 4376, 36, b"\x01", Some(Flags { value: 1 })),
-        (
-            "sixteen registers",
-            4376,
-            36,
-            b"\x08",
-            Some(Flags { value: 8 }),
-        ),
-        ("hard floats", 4376, 36, b"\x04", None),
-        (
-            "program headers of 31",
-            4376,
-            42,
-            b"\x1f",
-            Some(TableSize { value: 31 }),
-        ),
-        (
-            "65 program headers",
-            4376,
-            44,
-            b"\x41",
-            Some(TableSize { value: 65 }),
-        ),
-        (
-            "section headers of 64",
-            4376,
-            46,
-            b"\x40",
-            Some(TableSize { value: 64 }),
-        ),
-        (
-            "last byte missing",
-            4375,
-            0,
-            b"",
-            Some(OutOfFile { at: 4176 }),
-        ),
-        (
-            "a segment of 4400",
-            4376,
-            68,
-            b"\x30\x11\0\0\x30\x11\0\0",
-            Some(OutOfFile { at: 4096 }),
-        ),
-        (
-            "no text",
-            4376,
-            4224,
-            b"\x02",
-            Some(TextRange { low: 0, high: 0 }),
-        ),
-        (
-            "32 MiB of text",
-            4376,
-            4236,
-            b"\0\0\0\x02",
-            Some(TextRange {
-                low: 65536,
-                high: 33619968,
-            }),
-        ),
-        (
-            "256 symbols",
-            4376,
-            4276,
-            b"\0\x10",
-            Some(OutOfFile { at: 4100 }),
-        ),
-        (
-            "strings in no section",
-            4376,
-            4280,
-            b"\x09",
-            Some(Link { index: 9 }),
-        ),
-        (
-            "strings in the text",
-            4376,
-            4280,
-            b"\x01",
-            Some(Link { index: 1 }),
-        ),
-        (
-            "4096 bytes of strings",
-            4376,
-            4316,
-            b"\0\x10",
-            Some(OutOfFile { at: 4132 }),
-        ),
-        (
-            "a name behind the strings",
-            4376,
-            4116,
-            b"\x08",
-            Some(Link { index: 1 }),
-        ),
-        ("no change", 4376, 0, b"", None),
+        (0, 0, b"".as_slice(), Some(Short { len: 0 })),
+        (51, 0, b"", Some(Short { len: 51 })),
+        (52, 0, b"", out(52)),
+        (4376, 0, b"\0", Some(Magic)),
+        (4376, 4, b"\x02", Some(Class { value: 2 })),
+        (4376, 5, b"\x02", Some(Order { value: 2 })),
+        (4376, 16, b"\x03", Some(Kind { value: 3 })),
+        (4376, 18, b"\x3e", Some(Machine { value: 62 })),
+        (4376, 36, b"\x01", Some(Flags { value: 1 })),
+        (4376, 36, b"\x08", Some(Flags { value: 8 })),
+        (4376, 36, b"\x04", None),
+        (4376, 42, b"\x1f", size(31)),
+        (4376, 44, b"\x40", None),
+        (4376, 44, b"\x41", size(65)),
+        (4376, 46, b"\x40", size(64)),
+        (4375, 0, b"", out(4176)),
+        (4376, 68, b"\x30\x11\0\0\x30\x11\0\0", out(4096)),
+        (4376, 4224, b"\x02", Some(TextRange { low: 0, high: 0 })),
+        (4376, 4236, b"\0\0\0\x02", Some(far)),
+        (4376, 4276, b"\0\x10", out(4100)),
+        (4376, 4280, b"\x09", link(9)),
+        (4376, 4280, b"\x01", link(1)),
+        (4376, 4316, b"\0\x10", out(4132)),
+        (4376, 4116, b"\x08", link(1)),
+        (4376, 0, b"", None),
     ];
-    for (what, len, at, bytes, want) in changes {
+    for (len, at, bytes, want) in changes {
         let mut file = one_instruction(rt.alloc())?;
         file.truncate(len);
         write(&mut file, at, bytes);
-        assert_eq!(rt; refused(rt.alloc(), &file), want, "{what}");
+        assert_eq!(rt;
+            refused(rt.alloc(), &file),
+            want,
+            "{bytes:?} at {at} of {len}"
+        );
     }
+    Ok(())
+}
+
+/// A program with so many symbols at as many addresses of a text of 128 KiB.
+fn with_symbols(alloc: Global, count: u32) -> Result<Vec<u8>, AllocError> {
+    let mut file = one_instruction(alloc)?;
+    let count = count.min(65_537);
+    write(&mut file, 4236, &le4(0x2_0000));
+    let symbols_at = len_of(&file);
+    write(&mut file, 4272, &le4(symbols_at));
+    write(&mut file, 4276, &le4(16 * count + 16));
+    push_words(&mut file, &[0, 0, 0, 0])?;
+    for number in 0..count {
+        push_words(&mut file, &[1, 0x10000 + number, 0, FUNCTION + 65536])?;
+    }
+    Ok(file)
+}
+
+#[test]
+fn as_many_symbols_as_the_limit(rt: HostRuntime) -> Result<(), Fail> {
+    let file = with_symbols(rt.alloc(), 65_536)?;
+    assert!(rt; file.len() < 2_000_000);
+    let image = read(rt.alloc(), &file)?;
+    let symbols = image.symbols.as_slice();
+    assert_eq!(rt; symbols.len(), 65_536);
+    assert_eq!(rt; symbols[65_535].addr, 0x1_FFFF);
+    assert_eq!(rt; symbols[65_535].end, 0x3_0000);
+    let file = with_symbols(rt.alloc(), 65_537)?;
+    let many = ElfRefusal::TooManySymbols { count: 65_537 };
+    assert_eq!(rt; refused(rt.alloc(), &file), Some(many));
     Ok(())
 }
 

@@ -1,21 +1,22 @@
 -- What the fields of a block hold after a write, and that they still stand for three lists.
-use Rattle.std.proofs.Common.{◌≡◌, ℕ, ◌+◌, ◌*◌, ◌^◌, ◌<◌, ◌≤◌, List, length, drop, set, replicate, slice_get, Some, sym, ap, ◌∙◌, subst, arith, length-set}
-use Rattle.std.proofs.lemmas.List.{drop-drop, length-replicate, length-drop}
+use Rattle.std.proofs.Common.{◌≡◌, ℕ, ◌+◌, ◌*◌, ◌^◌, ◌<◌, ◌≤◌, List, length, take, drop, set, replicate, slice_get, Some, sym, ap, ◌∙◌, subst, arith, length-set}
+use Rattle.std.proofs.lemmas.List.{drop-drop, length-replicate, length-drop, length-take}
 use Rattle.std.proofs.lemmas.List.Elements.{All-set, All-replicate}
-use Rattle.byteorder.specs.Endian.{little_from}
+use Rattle.gp_base.specs.Bytes.{value_of, cut, overwritten}
+use Rattle.gp_base.proofs.LittleEndian.{length-cut}
+use Rattle.gp_base.proofs.Cutting.{get_cut}
 use Rattle.gmon_block.specs.declared.entry.Tos.{Tos}
 use Rattle.gmon_block.specs.declared.block.Block.TheInside.{Inside}
 use Rattle.gmon_block.specs.Layout.{Parts, EntryFits, WordFits, Fits, no_entry, entry_bytes, word_bytes, layout_of}
-use Rattle.gmon_block.specs.View.{overwritten, entry_of, word_of, parts_of}
+use Rattle.gmon_block.specs.View.{entry_of, parts_of}
 use Rattle.gmon_block.specs.Held.{view_of, IsHeld}
-use Rattle.gmon_block.proofs.Items.{length-items_of, slice_get-items_of}
-use Rattle.gmon_block.proofs.Blocks.{Counts, little_from-is, length-layout_of, parts_of-layout_of, set_entry, set_counter, set_slot, layout_of-none}
+use Rattle.gmon_block.proofs.Blocks.{Counts, length-layout_of, parts_of-layout_of, set_entry, set_counter, set_slot, layout_of-none}
 
 pub counts : (a : Inside) → Counts (view_of a) a.tos a.counters a.froms
 counts a = record {
-  tos = length-items_of entry_of 12 a.tos a.raw;
-  counters = length-items_of word_of 2 a.counters (drop (12 * a.tos) a.raw);
-  froms = length-items_of word_of 2 a.froms (drop (12 * a.tos + 2 * a.counters) a.raw);
+  tos = length-cut 12 entry_of a.tos a.raw;
+  counters = length-cut 2 value_of a.counters (drop (12 * a.tos) a.raw);
+  froms = length-cut 2 value_of a.froms (drop (12 * a.tos + 2 * a.counters) a.raw);
 }
 
 -- what a value says of its fields' counts
@@ -86,20 +87,23 @@ empty a et ec ef e =
     (record { tos = length-replicate a.tos no_entry; counters = length-replicate {A = ℕ} a.counters 0; froms = length-replicate {A = ℕ} a.froms 0 })
     (record { tos = All-replicate EntryFits a.tos no_entry zero_entry; counters = All-replicate WordFits a.counters 0 zero_word; froms = All-replicate WordFits a.froms 0 zero_word })
 
--- the number read two bytes from the place of an item
-pub word_at : (bs : List ℕ) (n i from at : ℕ) → i < n → from + 2 * i ≡ at → from + 2 * n ≤ length bs → little_from 0 2 (drop at bs) ≡ word_of (drop (2 * i) (drop from bs))
-word_at bs n i from at inside place fits =
-    little_from-is 2 (drop at bs) (omega (arith, length-drop at bs)) ∙ ap word_of (ap (λ (k : ℕ). drop k bs) (sym place) ∙ sym (drop-drop (2 * i) from bs))
+-- a part of the bytes
+pub length_part : (bs : List ℕ) (at n : ℕ) → at + n ≤ length bs → length (take n (drop at bs)) ≡ n
+length_part bs at n h = omega (arith, length-take n (drop at bs), length-drop at bs)
 
-pub get_entry : (a : Inside) (i at : ℕ) → i < a.tos → 12 * i ≡ at → slice_get (view_of a).tos i ≡ Some (entry_of (drop at a.raw))
+-- the items, by the places of their bytes
+pub get_entry : (a : Inside) (i at : ℕ) → i < a.tos → 12 * i ≡ at → slice_get (view_of a).tos i ≡ Some (entry_of (take 12 (drop at a.raw)))
 get_entry a i at inside place =
-    slice_get-items_of entry_of 12 a.tos i a.raw inside ∙ ap (λ (k : ℕ). Some (entry_of (drop k a.raw))) place
+    let there : i * 12 ≡ at = omega arith in
+    get_cut 12 entry_of a.tos i a.raw inside ∙ ap (λ (k : ℕ). Some (entry_of (take 12 (drop k a.raw)))) there
 
-pub get_counter : (a : Inside) (i at : ℕ) → IsHeld a → i < a.counters → 12 * a.tos + 2 * i ≡ at → slice_get (view_of a).counters i ≡ Some (little_from 0 2 (drop at a.raw))
-get_counter a i at h inside place =
-    slice_get-items_of word_of 2 a.counters i (drop (12 * a.tos) a.raw) inside ∙ ap Some (sym (word_at a.raw a.counters i (12 * a.tos) at inside place (omega (arith, h.size))))
+get_word : (bs : List ℕ) (n i from at : ℕ) → i < n → from + 2 * i ≡ at → slice_get (cut 2 value_of n (drop from bs)) i ≡ Some (value_of (take 2 (drop at bs)))
+get_word bs n i from at inside place =
+    let there : drop (i * 2) (drop from bs) ≡ drop at bs = drop-drop (i * 2) from bs ∙ ap (λ (k : ℕ). drop k bs) (omega arith) in
+    get_cut 2 value_of n i (drop from bs) inside ∙ ap (λ (v : List ℕ). Some (value_of (take 2 v))) there
 
-pub get_slot : (a : Inside) (i at : ℕ) → IsHeld a → i < a.froms → 12 * a.tos + 2 * a.counters + 2 * i ≡ at → slice_get (view_of a).froms i ≡ Some (little_from 0 2 (drop at a.raw))
-get_slot a i at h inside place =
-    slice_get-items_of word_of 2 a.froms i (drop (12 * a.tos + 2 * a.counters) a.raw) inside
-    ∙ ap Some (sym (word_at a.raw a.froms i (12 * a.tos + 2 * a.counters) at inside place (omega (arith, h.size))))
+pub get_counter : (a : Inside) (i at : ℕ) → i < a.counters → 12 * a.tos + 2 * i ≡ at → slice_get (view_of a).counters i ≡ Some (value_of (take 2 (drop at a.raw)))
+get_counter a i at inside place = get_word a.raw a.counters i (12 * a.tos) at inside place
+
+pub get_slot : (a : Inside) (i at : ℕ) → i < a.froms → 12 * a.tos + 2 * a.counters + 2 * i ≡ at → slice_get (view_of a).froms i ≡ Some (value_of (take 2 (drop at a.raw)))
+get_slot a i at inside place = get_word a.raw a.froms i (12 * a.tos + 2 * a.counters) at inside place

@@ -19,8 +19,8 @@ abbrev pub room_of : Ptr → ℕ → Fml
 room_of p n = room_for (block_of n) p
 
 -- the bytes bs at p, n of them
-abbrev pub bytes_at : Ptr → ℕ → List ℕ → Fml
-bytes_at p n bs = lies_at (Array u8 n) full_share p bs
+abbrev pub bytes_owned : Ptr → ℕ → List ℕ → Fml
+bytes_owned p n bs = lies_at (Array u8 n) full_share p bs
 
 -- the same, lent
 abbrev pub bytes_lent : Ptr → ℕ → List ℕ → Lft → Fml

@@ -4,9 +4,8 @@
 ghost use Rattle.std.specs.Prelude.{◌≡◌, ◌+◌, ◌*◌, ◌≤◌, ◌<◌, length, slice_get, slice_set, replicate, IfOk, Some};
 ghost use Rattle.gmon_block.specs.Layout.{no_entry};
 
-use crate::entry::{ENTRY_BYTES, Tos, read_entry, spell_entry};
+use crate::entry::{ENTRY_BYTES, Tos, read_entry, read_word, spell_entry};
 use crate::raw::RawBytes;
-use byteorder::{ByteOrder, LittleEndian};
 use gp_base::le2;
 use std::alloc::{AllocError, Global};
 use std::marker::Model;
@@ -91,7 +90,7 @@ impl Block {
         requires { i < length self.now.tos }
         ensures { slice_get self.now.tos i ≡ Some result }
     {
-        read_entry(self.raw.rest(self.entry_at(i)))
+        read_entry(self.raw.part(self.entry_at(i), ENTRY_BYTES))
     }
 
     /// Changes entry `i`, and nothing else.
@@ -108,7 +107,7 @@ impl Block {
         requires { i < length self.now.counters }
         ensures { slice_get self.now.counters i ≡ Some result }
     {
-        LittleEndian::read_u16(self.raw.rest(self.counter_at(i)))
+        read_word(self.raw.part(self.counter_at(i), WORD_BYTES))
     }
 
     /// Changes counter `i`, and nothing else.
@@ -125,7 +124,7 @@ impl Block {
         requires { i < length self.now.froms }
         ensures { slice_get self.now.froms i ≡ Some result }
     {
-        LittleEndian::read_u16(self.raw.rest(self.slot_at(i)))
+        read_word(self.raw.part(self.slot_at(i), WORD_BYTES))
     }
 
     /// Changes slot `i`, and nothing else.

@@ -1,6 +1,7 @@
 //! An entry of the block, and its twelve bytes.
 
-ghost use Rattle.std.specs.Prelude.{◌≡◌, ◌≤◌, length};
+ghost use Rattle.std.specs.Prelude.{◌≡◌, length};
+ghost use Rattle.gp_base.specs.Bytes.{value_of};
 ghost use Rattle.gmon_block.specs.Layout.{entry_bytes, EntryFits};
 ghost use Rattle.gmon_block.specs.View.{entry_of};
 
@@ -33,9 +34,9 @@ pub(crate) fn spell_entry(t: Tos) -> [u8; 12]
     [s0, s1, s2, s3, c0, c1, c2, c3, l0, l1, 0, 0]
 }
 
-// The entry that the first bytes spell.
+// The entry that twelve bytes spell.
 pub(crate) fn read_entry(bytes: &[u8]) -> Tos
-    requires { 12 ≤ length bytes.now }
+    requires { length bytes.now ≡ 12 }
     ensures { result ≡ entry_of bytes.now }
 {
     Tos {
@@ -43,4 +44,12 @@ pub(crate) fn read_entry(bytes: &[u8]) -> Tos
         count: LittleEndian::read_u32(&bytes[4..]),
         link: LittleEndian::read_u16(&bytes[8..]),
     }
+}
+
+// The number that two bytes spell.
+pub(crate) fn read_word(bytes: &[u8]) -> u16
+    requires { length bytes.now ≡ 2 }
+    ensures { result ≡ value_of bytes.now }
+{
+    LittleEndian::read_u16(bytes)
 }

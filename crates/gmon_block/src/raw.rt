@@ -4,7 +4,7 @@
 ghost use Rattle.std.specs.Prelude.{◌≡◌, ℕ, ◌+◌, ◌*◌, ◌^◌, ◌<◌, ◌≤◌, ◌++◌, List, length, take, drop, replicate, IfOk};
 ghost use Rattle.std.specs.Borrow.{sem};
 ghost use denote.RawPtr.{Ptr};
-ghost use Rattle.gmon_block.specs.Memory.{block_of, room_of, bytes_at, bytes_lent};
+ghost use Rattle.gmon_block.specs.Memory.{block_of, room_of, bytes_owned, bytes_lent};
 
 use std::alloc::{AllocError, Allocator, Global};
 use std::marker::{Model, PhantomData};
@@ -30,7 +30,7 @@ struct Bytes {
 }
 
 impl Model for Bytes {
-    ghost also_owns = { λ b. bytes_at b.start b.len b.items };
+    ghost also_owns = { λ b. bytes_owned b.start b.len b.items };
 
     ghost also_shares = { λ b _ κ. bytes_lent b.start b.len b.items κ };
 }
@@ -130,7 +130,7 @@ impl Drop for RawBytes {
 }
 
 impl RawBytes {
-    ghost use Rattle.gmon_block.specs.View.{overwritten};
+    ghost use Rattle.gp_base.specs.Bytes.{overwritten};
 
     // `len` bytes that are 0, in one allocation.
     pub(crate) fn zeroed(alloc: Global, len: usize) -> Result<RawBytes, AllocError>
@@ -152,12 +152,12 @@ impl RawBytes {
         self.bytes.as_slice()
     }
 
-    // The bytes from `at` on.
-    pub(crate) fn rest(&self, at: usize) -> &[u8]
-        requires { at ≤ length self.now }
-        ensures { result.now ≡ drop at self.now }
+    // The `len` bytes from `at` on.
+    pub(crate) fn part(&self, at: usize, len: usize) -> &[u8]
+        requires { at + len ≤ length self.now }
+        ensures { result.now ≡ take len (drop at self.now) }
     {
-        self.as_slice().split_at(at).1
+        self.as_slice().split_at(at).1.split_at(len).0
     }
 
     // Writes `piece` over the bytes from `at` on.

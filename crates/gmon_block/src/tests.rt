@@ -1,7 +1,7 @@
 ghost use Rattle.std.specs.Prelude.{◌<◌, ◌≤◌};
 
 use super::*;
-use std::alloc::Global;
+use std::alloc::{AllocError, Global};
 use std::process::Abort;
 use std::test::Fail;
 
@@ -132,4 +132,24 @@ fn ends_with_its_last_slot(
 #[test]
 fn the_largest_block(rt: HostRuntime) -> Result<(), Fail> {
     ends_with_its_last_slot(&rt, rt.alloc(), 65_534, 4_194_312, 17_563_656)
+}
+
+// Whether a new block keeps what its last counter is set to.
+fn keeps_a_counter(alloc: Global, tos: u32, words: u32, n: u16) -> Result<bool, AllocError>
+    requires tos { (1 ≤ tos) × (tos ≤ 65534) }
+    requires words { (1 ≤ words) × (words ≤ 4194312) }
+{
+    let mut b = Block::new(alloc, tos, words, words)?;
+    b.set_kcount(words - 1, n);
+    Ok(b.kcount(words - 1) == n)
+}
+
+// Each block is given back at its end: together these take more than the memory of a machine.
+#[test]
+fn blocks_are_given_back(rt: HostRuntime) -> Result<(), Fail> {
+    for round in 0..3_000 {
+        let kept = keeps_a_counter(rt.alloc(), 65_534, 4_194_312, round)?;
+        assert!(rt; kept, "block {round}");
+    }
+    Ok(())
 }

@@ -20,11 +20,3 @@ module _ {X : Type 0} (p : X → Bool) where
         | inl t ↦ let e : x ≡ y = (let e = rw t at h in cc) in ((zero, omega arith, e), ap p (sym e) ∙ t)
         | inr f ↦ let rest = find_some xs y (rw f at h) in ((suc rest.0.0, omega (arith, rest.0.1), rest.0.2), rest.1)
       ]
-
-  pub length-filter-le : (xs : List X) → length (filter p xs) ≤ length xs
-  length-filter-le [] = omega arith
-  length-filter-le (x ∷ xs) = by (length-filter-le xs) (p x)
-    where
-      by : length (filter p xs) ≤ length xs → (b : Bool) → length (cond b (x ∷ filter p xs) (filter p xs)) ≤ suc (length xs)
-      by h true = omega arith
-      by h false = omega arith

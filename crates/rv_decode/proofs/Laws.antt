@@ -4,6 +4,7 @@ use Rattle.std.specs.List.{list_all}
 use Rattle.std.proofs.lemmas.Nat.{and_assoc, and_comm}
 use Rattle.std.proofs.lemmas.List.Sums.{AllPass-from_list_all}
 use Rattle.std.proofs.lemmas.Bool.{and_parts, eqb-true, eqb-false, cases_Bool, not-true}
+use Rattle.gp_base.proofs.Searching.{find_none, find_some}
 use Rattle.rv_decode.specs.Table.{Row, table, row_of, Matches}
 
 -- two rows differ in a bit that both masks have
@@ -39,21 +40,6 @@ pub one_row : (w : ℕ) → AllPairs (λ r s. ¬ (Matches w r × Matches w s)) t
 one_row w i j d p q = not_both w (get_or table i d) (get_or table j d) (apart_at table table_apart i j d p q)
 
 -- what a search tells
-find_none : {X : Type 0} (p : X → Bool) (xs : List X) → find p xs ≡ None → (k : ℕ) (d : X) → k < length xs → p (get_or xs k d) ≡ false
-find_none p [] h k d l = absurd (omega arith)
-find_none p (x ∷ xs) h zero d l =
-    elim (cases_Bool (p x)) [ inl t ↦ let e = rw t at h in cc | inr f ↦ f ]
-find_none p (x ∷ xs) h (suc k) d l =
-    elim (cases_Bool (p x)) [ inl t ↦ let e = rw t at h in cc | inr f ↦ find_none p xs (rw f at h) k d (omega arith) ]
-
-find_some : {X : Type 0} (p : X → Bool) (xs : List X) (y : X) → find p xs ≡ Some y → Contains xs y × (p y ≡ true)
-find_some p [] y h = cc
-find_some p (x ∷ xs) y h =
-    elim (cases_Bool (p x)) [
-      | inl t ↦ let e : x ≡ y = (let e = rw t at h in cc) in ((zero, omega arith, e), ap p (sym e) ∙ t)
-      | inr f ↦ let rest = find_some p xs y (rw f at h) in ((suc rest.0.0, omega (arith, rest.0.1), rest.0.2), rest.1)
-    ]
-
 tells : (w : ℕ) (o : Option Row) → row_of w ≡ o → MatchOption o (All (λ r. ¬ (Matches w r)) table) (λ r. Contains table r × Matches w r)
 unfolding row_of
 tells w None e = λ k d l. eqb-false _ _ (find_none (λ r. bit_and w r.mask == r.bits) table e k d l)

@@ -1,6 +1,7 @@
 -- Fields and immediates of a word, as the RISC-V unprivileged manual has them under "Base
 -- Instruction Formats" and "Immediate Encoding Variants".
 use Rattle.std.specs.Prelude.{ℕ, ◌+◌, ◌*◌, ◌/◌, ◌%◌, ◌^◌, ℤ, pos, ◌-ℤ◌, nat_lt, if◌then◌else◌}
+use Rattle.std.specs.Int.{cast_unsigned, w32}
 
 -- the n bits of a word from bit k on
 abbrev pub field : ℕ → ℕ → ℕ → ℕ
@@ -31,3 +32,7 @@ imm_u w = signed_of (2 ^ 31) (field w 12 20 * 2 ^ 12)
 abbrev pub imm_j : ℕ → ℤ
 imm_j w =
     signed_of (2 ^ 20) (field w 31 1 * 2 ^ 20 + field w 12 8 * 2 ^ 12 + field w 20 1 * 2 ^ 11 + field w 21 10 * 2)
+
+-- where a jump or a branch at pc goes by its constant, modulo 2 ^ 32
+abbrev pub target_of : ℕ → ℤ → ℕ
+target_of pc imm = (pc + cast_unsigned w32 imm) % 2 ^ 32

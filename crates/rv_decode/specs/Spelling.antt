@@ -1,8 +1,9 @@
 -- How instructions are spelled.
-use Rattle.std.specs.Prelude.{ℕ, ◌+◌, ◌/◌, ◌%◌, ◌^◌, ℤ, List, [], ◌∷◌, ◌++◌, codes}
+use Rattle.std.specs.Prelude.{ℕ, ◌/◌, ◌^◌, ℤ, List, [], ◌∷◌, ◌++◌, codes}
 use Rattle.std.specs.Fmt.{decimal, signed_decimal}
 use Rattle.std.specs.Int.{cast_unsigned, w32}
 use Rattle.text_cols.specs.Columns.{hex_of, hex8_of}
+use Rattle.rv_decode.specs.Fields.{target_of}
 use Rattle.rv_decode.specs.Table.{form_of}
 use Rattle.rv_decode.specs.declared.instruction.Op.{Op}
 use Rattle.rv_decode.specs.declared.instruction.Op.TheVariants.{Lui, Auipc, Jal, Jalr, Beq, Bne, Blt, Bge, Bltu, Bgeu, Lb, Lh, Lw, Lbu, Lhu, Sb, Sh, Sw, Addi, Slti, Sltiu, Xori, Ori, Andi, Slli, Srli, Srai, Add, Sub, Sll, Slt, Sltu, Xor, Srl, Sra, Or, And, Fence, FenceI, Ecall, Ebreak, Mul, Mulh, Mulhsu, Mulhu, Div, Divu, Rem, Remu}
@@ -73,10 +74,6 @@ offset_text imm r = signed_decimal imm ++ codes "(" ++ register_text r ++ codes 
 -- bits 31..12 of the immediate, in five digits
 unfoldable pub upper_text : ℤ → List ℕ
 upper_text imm = codes "0x" ++ hex_of 5 (cast_unsigned w32 imm / 2 ^ 12)
-
--- where a jump or a branch at pc goes, modulo 2 ^ 32
-abbrev pub target_of : ℕ → ℤ → ℕ
-target_of pc imm = (pc + cast_unsigned w32 imm) % 2 ^ 32
 
 abbrev pub target_text : ℕ → ℤ → List ℕ
 target_text pc imm = codes "0x" ++ hex8_of (target_of pc imm)

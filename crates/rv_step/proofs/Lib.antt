@@ -2,7 +2,7 @@ pub mod Places
 pub mod Branching
 pub mod Accesses
 pub mod Products
-pub mod Rows
-pub mod Steps
-pub mod Keeping
+pub mod OperationLemmas
+pub mod StepEnds
+pub mod KeptByStep
 pub mod MemoryMap

@@ -1,7 +1,7 @@
 //! What each instruction does.
 
 ghost use Rattle.std.specs.Prelude.{◌≡◌, ◌+◌, ◌%◌, ◌^◌, ◌<◌, ◌≤◌, length};
-ghost use Rattle.rv_decode.specs.Spelling.{target_of};
+ghost use Rattle.rv_decode.specs.Fields.{target_of};
 ghost use Rattle.gp_base.specs.Bytes.{le};
 ghost use Rattle.rv_step.specs.Alu.{extended, load_width, store_width};
 ghost use Rattle.rv_step.specs.Memory.{Memory, value_at, write_at};

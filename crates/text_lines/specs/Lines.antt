@@ -17,15 +17,15 @@ header_line hist =
     codes "bsd low " ++ hex8_of hist.low ++ codes " high " ++ hex8_of hist.high ++ codes " counters " ++ decimal (length hist.counters) ++ codes " rate " ++ decimal hist.unit.rate ++ codes "\n"
 
 -- where counter i of a histogram begins
-abbrev pub address_of : RawHist → ℕ → ℕ
-address_of hist i = hist.low + i * (hist.high - hist.low) / length hist.counters
+abbrev pub counter_address : RawHist → ℕ → ℕ
+counter_address hist i = hist.low + i * (hist.high - hist.low) / length hist.counters
 
 unfoldable pub count_line : ℕ → ℕ → List ℕ
 count_line address counter = codes "count " ++ hex8_of address ++ codes " " ++ decimal counter ++ codes "\n"
 
 -- a counter that is 0 has no line
 abbrev pub count_text : RawHist → ℕ × ℕ → List ℕ
-count_text hist numbered = if numbered.1 == 0 then [] else count_line (address_of hist numbered.0) numbered.1
+count_text hist numbered = if numbered.1 == 0 then [] else count_line (counter_address hist numbered.0) numbered.1
 
 unfoldable pub arc_line : RawArc → List ℕ
 arc_line arc = codes "arc " ++ hex8_of arc.from ++ codes " " ++ hex8_of arc.to ++ codes " " ++ decimal arc.count ++ codes "\n"

@@ -5,7 +5,7 @@ ghost use Rattle.std.specs.List.{flat_map, enumerate_from, All};
 ghost use Rattle.host_port.specs.Buffered.{Adds};
 ghost use Rattle.host_port.specs.Host.{Puts};
 ghost use Rattle.host_port.specs.declared.side.Side.TheVariants.{Output};
-ghost use Rattle.text_lines.specs.Lines.{IsShowable, HasRange, show_text, rec_text, count_text, address_of};
+ghost use Rattle.text_lines.specs.Lines.{IsShowable, HasRange, show_text, rec_text, count_text, counter_address};
 
 use crate::line;
 use gp_base::{RawHist, Rec, Records};
@@ -73,7 +73,7 @@ fn put_counter<H: Host>(hist: &RawHist, i: usize, counter: u16, lines: &mut Prin
 fn address(hist: &RawHist, i: usize) -> u32
     requires within { i < length hist.now.counters }
     requires range { hist.now.low < hist.now.high }
-    ensures { result ≡ address_of hist.now i }
+    ensures { result ≡ counter_address hist.now i }
 {
     let width = u128::from(hist.high - hist.low);
     let n = hist.counters.as_slice().len() as u128;

@@ -3,4 +3,4 @@ use Rattle.elf32_syms.specs.Image.{in_a_row}
 use Rattle.elf32_syms.proofs.kept.in_a_row.Given as goal
 
 abbrev pub invariant-loop-i : goal.invariant-loop-i
-invariant-loop-i l = l.symbols ≡ take l.i (in_a_row l.bytes l.table l.high l.numbers)
+invariant-loop-i l = l.symbols ≡ take l.i (in_a_row l.strings l.high l.entries)

@@ -1,50 +1,41 @@
-use Rattle.std.proofs.Common.{sym, ◌∙◌}
-use Rattle.std.proofs.lemmas.Result.{err_from_is_err_and, IfErr-weaker, IfOk-weaker}
-use Rattle.elf32_syms.proofs.Functions.{none_refused, none_symbols, none_mcount, none_moncontrol, table_below, table_refused, symbols_refused, symbols_accepted, symbols_at, mcount_at, moncontrol_at}
+use Rattle.std.proofs.Common.{◌≡◌, ◌<◌, ◌≤◌, ℕ, List, length, All, Some, sym, ap, subst, ◌∙◌, arith}
+use Rattle.elf32_syms.specs.declared.refusal.ElfRefusal.TheVariants.{TooManySymbols}
+use Rattle.elf32_syms.specs.declared.symbols.Entry.{Entry}
+use Rattle.elf32_syms.specs.Symbols.{IsInText, fitting, candidates}
+use Rattle.elf32_syms.specs.Refusals.{names_refusal}
+use Rattle.elf32_syms.proofs.KeptLemmas.{candidates_in_text, length_kept}
+use Rattle.elf32_syms.proofs.RefusalLemmas.{symbols_judged, too_many, few}
+use Rattle.elf32_syms.proofs.TextLemmas.{text_limits}
 use Rattle.elf32_syms.proofs.kept.read_functions.Goals as goal
 
-pub returns-in_default-clause-accepted : goal.returns-in_default-clause-accepted
-returns-in_default-clause-accepted c = none_refused c.args.bytes.now (sym c.symbol_table.ensures ∙ c.in_default.is)
+pub kept-requires : goal.kept-requires
+kept-requires c =
+    let P : List Entry → Type 0 = λ cs. All (IsInText c.args.sections.now) cs in
+    let are : c.deref-3.result.now ≡ candidates c.args.strings.now (fitting c.args.sections.now c.args.table.now) =
+    c.deref-3.ensures.value ∙ c.in_ok-candidates.ensures ∙ ap (candidates c.args.strings.now) (c.deref-2.ensures.value ∙ c.in_ok-entries.ensures) in
+    subst P (sym are) (candidates_in_text c.args.sections.now c.args.table.now c.args.strings.now)
 
-pub returns-in_default-clause-symbols : goal.returns-in_default-clause-symbols
-returns-in_default-clause-symbols c = c.new.ensures ∙ sym (none_symbols c.args.bytes.now (sym c.symbol_table.ensures ∙ c.in_default.is))
+pub overflow_cast-result : goal.overflow_cast-result
+overflow_cast-result c =
+    let long = length_kept c.args.sections.now c.args.strings.now c.deref-3.result.now in
+    let text = (text_limits c.args.sections.now c.requires.text).1 in
+    omega (arith, long, text, ap length c.in_ok-kept.ensures)
 
-pub returns-in_default-clause-mcount : goal.returns-in_default-clause-mcount
-returns-in_default-clause-mcount c = sym (none_mcount c.args.bytes.now (sym c.symbol_table.ensures ∙ c.in_default.is))
-
-pub returns-in_default-clause-moncontrol : goal.returns-in_default-clause-moncontrol
-returns-in_default-clause-moncontrol c = sym (none_moncontrol c.args.bytes.now (sym c.symbol_table.ensures ∙ c.in_default.is))
-
-pub check_table-requires-clause-table_in : goal.check_table-requires-clause-table_in
-check_table-requires-clause-table_in c = table_below c.args.bytes.now c.in-Some.table (sym c.in-Some.ensures)
-
-pub returns-in_err-check_table-clause-refusal : goal.returns-in_err-check_table-clause-refusal
-returns-in_err-check_table-clause-refusal c =
-    let p = err_from_is_err_and c.from_residual.result c.from_residual.ensures.1 in
-    rw (p.1, p.2) (table_refused c.args.bytes.now c.in-Some.table (sym c.in-Some.ensures) c.in_err-check_table.field-0.0 c.in_err-check_table.ensures.judged)
-
-pub returns-clause-refusal : goal.returns-clause-refusal
-returns-clause-refusal c =
-    IfErr-weaker c.read_table.result _ _
-    (λ e h. symbols_refused c.args.bytes.now c.in-Some.table (sym c.in-Some.ensures) c.in_ok-check_table.ensures.judged e h)
-    c.read_table.ensures.refusal
+pub returns-then-len-clause-refusal : goal.returns-then-len-clause-refusal
+returns-then-len-clause-refusal c =
+    let strings = c.args.strings.now in
+    let counted : length c.in_ok-kept.kept.items ≡ c.len-then-len.result = omega (arith, c.len-then-len.ensures) in
+    let many : 65536 < length c.in_ok-kept.kept.items = omega (arith, c.len.ensures) in
+    let named = ap (names_refusal strings) (sym c.deref.ensures.value) ∙ sym c.first_unnamed.ensures ∙ c.in-None.is in
+    symbols_judged c.args.sections.now c.args.table.now strings c.in_ok-entries.entries.items c.deref-3.result.now c.in_ok-kept.kept.items c.in_ok-entries.ensures
+    (c.deref-3.ensures.value ∙ c.in_ok-candidates.ensures ∙ ap (candidates strings) c.deref-2.ensures.value) c.in_ok-kept.ensures named
+    ∙ too_many c.in_ok-kept.kept.items many ∙ ap (λ (n : ℕ). Some (TooManySymbols n)) counted
 
 pub returns-clause-accepted : goal.returns-clause-accepted
 returns-clause-accepted c =
-    IfOk-weaker c.read_table.result _ _
-    (λ f h. symbols_accepted c.args.bytes.now c.in-Some.table (sym c.in-Some.ensures) c.in_ok-check_table.ensures.judged h)
-    c.read_table.ensures.accepted
-
-pub returns-clause-symbols : goal.returns-clause-symbols
-returns-clause-symbols c =
-    IfOk-weaker c.read_table.result _ _
-    (λ f h. rw c.requires.high at h ∙ symbols_at c.args.bytes.now c.in-Some.table (sym c.in-Some.ensures))
-    c.read_table.ensures.symbols
-
-pub returns-clause-mcount : goal.returns-clause-mcount
-returns-clause-mcount c =
-    IfOk-weaker c.read_table.result _ _ (λ f h. h ∙ mcount_at c.args.bytes.now c.in-Some.table (sym c.in-Some.ensures)) c.read_table.ensures.mcount
-
-pub returns-clause-moncontrol : goal.returns-clause-moncontrol
-returns-clause-moncontrol c =
-    IfOk-weaker c.read_table.result _ _ (λ f h. h ∙ moncontrol_at c.args.bytes.now c.in-Some.table (sym c.in-Some.ensures)) c.read_table.ensures.moncontrol
+    let strings = c.args.strings.now in
+    let within : length c.in_ok-kept.kept.items ≤ 65536 = omega (arith, c.len.ensures) in
+    let named = ap (names_refusal strings) (sym c.deref.ensures.value) ∙ sym c.first_unnamed.ensures ∙ c.in-None.is in
+    symbols_judged c.args.sections.now c.args.table.now strings c.in_ok-entries.entries.items c.deref-3.result.now c.in_ok-kept.kept.items c.in_ok-entries.ensures
+    (c.deref-3.ensures.value ∙ c.in_ok-candidates.ensures ∙ ap (candidates strings) c.deref-2.ensures.value) c.in_ok-kept.ensures named
+    ∙ few c.in_ok-kept.kept.items within

@@ -1,31 +1,25 @@
-use Rattle.std.proofs.Common.{◌≡◌, ◌≤◌, arith, false, sym, ◌∙◌}
+use Rattle.std.proofs.Common.{◌≡◌, ◌||◌, true, false, nat_le, refl, sym, ◌∙◌, arith}
 use Rattle.std.proofs.lemmas.Bool.Decides.{nat_tests}
 use Rattle.elf32_syms.specs.Refusals.{is_too_far}
-use Rattle.elf32_syms.proofs.Text.{low_le_high, empty_refused, far_refused, text_accepted}
+use Rattle.elf32_syms.proofs.TextLemmas.{text_refused, text_accepted}
 use Rattle.elf32_syms.proofs.sections.read_text.Goals as goal
-use Rattle.elf32_syms.proofs.sections.read_text.Goals.{then-high-eq0-via-then-high-eq0, then-high-eq0-via-else-high-eq0+then-is_too_far}
+use Rattle.elf32_syms.proofs.sections.read_text.Goals.{then-high-low-via-then-high-low, then-high-low-via-else-high-low+then-is_too_far}
 
-pub is_too_far-requires : goal.is_too_far-requires
-is_too_far-requires c = rw (c.text_range-low.ensures.low, c.text_range-low.ensures.high) (low_le_high c.args.bytes.now)
+pub returns-then-high-low-clause-refusal : goal.returns-then-high-low-clause-refusal
+returns-then-high-low-clause-refusal c =
+    let low = c.in_ok-low.low in
+    let high = c.in_ok-low.high in
+    let refused : (nat_le high low || is_too_far low high) ≡ true =
+    elim c.then-high-low.branch [
+      | then-high-low-via-then-high-low w ↦ let empty : nat_le high low ≡ true = grind (arith, nat_tests) in rw empty refl
+      | then-high-low-via-else-high-low+then-is_too_far w ↦
+          let some : nat_le high low ≡ false = grind (arith, nat_tests) in rw some (sym w.is_too_far.ensures ∙ w.if-is_too_far.true)
+    ] in
+    text_refused c.args.sections.now low high c.in_ok-low.ensures.low c.in_ok-low.ensures.high refused
 
-pub returns-then-high-eq0-clause-judged : goal.returns-then-high-eq0-clause-judged
-returns-then-high-eq0-clause-judged c =
-    let bs = c.args.bytes.now in
-    let r = c.text_range-low.result in
-    elim c.then-high-eq0.branch [
-      | then-high-eq0-via-then-high-eq0 w ↦ empty_refused bs r.0 r.1 c.text_range-low.ensures.low c.text_range-low.ensures.high w.if-high-eq0.true
-      | then-high-eq0-via-else-high-eq0+then-is_too_far w ↦
-          far_refused bs r.0 r.1 c.text_range-low.ensures.low c.text_range-low.ensures.high (sym w.is_too_far.ensures ∙ w.if-is_too_far.true)
-    ]
-
-pub overflow_cast-result : goal.overflow_cast-result
-overflow_cast-result c =
-    let near : is_too_far c.text_range-low.result.0 c.text_range-low.result.1 ≡ false = sym c.is_too_far.ensures ∙ c.if-is_too_far.false in
-    let low = low_le_high c.args.bytes.now in
-    let ends : c.text_range-low.result.0 ≤ c.text_range-low.result.1 = rw (c.text_range-low.ensures.low, c.text_range-low.ensures.high) low in
-    grind (arith, nat_tests)
-
-pub returns-clause-judged : goal.returns-clause-judged
-returns-clause-judged c =
-    let r = c.text_range-low.result in
-    text_accepted c.args.bytes.now r.0 r.1 c.text_range-low.ensures.low c.text_range-low.ensures.high c.if-high-eq0.false (sym c.is_too_far.ensures ∙ c.if-is_too_far.false)
+pub returns-clause-accepted : goal.returns-clause-accepted
+returns-clause-accepted c =
+    let low = c.in_ok-low.low in
+    let high = c.in_ok-low.high in
+    let some : nat_le high low ≡ false = grind (arith, nat_tests) in
+    text_accepted c.args.sections.now low high c.in_ok-low.ensures.low c.in_ok-low.ensures.high (rw some (sym c.is_too_far.ensures ∙ c.if-is_too_far.false))

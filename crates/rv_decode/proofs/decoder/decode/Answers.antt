@@ -1,6 +1,6 @@
 use Rattle.std.proofs.Common.{Some, sym, ap, ◌∙◌, refl, arith}
 use Rattle.rv_decode.specs.Table.{table}
-use Rattle.rv_decode.proofs.Rows.{at_opcode, no_opcode}
+use Rattle.rv_decode.proofs.RowLemmas.{at_opcode, no_opcode}
 use Rattle.rv_decode.proofs.decoder.decode.Goals as goal
 
 pub returns-in-23 : goal.returns-in-23

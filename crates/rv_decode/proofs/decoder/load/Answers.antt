@@ -1,6 +1,6 @@
 use Rattle.std.proofs.Common.{Some, sym, ap, ◌∙◌, refl, arith}
 use Rattle.rv_decode.specs.Table.{table}
-use Rattle.rv_decode.proofs.Rows.{at_funct3, no_load}
+use Rattle.rv_decode.proofs.RowLemmas.{at_funct3, no_load}
 use Rattle.rv_decode.proofs.decoder.load.Goals as goal
 
 pub returns-in-0 : goal.returns-in-0

@@ -1,6 +1,6 @@
 use Rattle.std.proofs.Common.{Some, sym, ap, ◌∙◌, arith}
 use Rattle.rv_decode.specs.Table.{table, row_of, instr_of}
-use Rattle.rv_decode.proofs.Rows.{at_opcode, no_system}
+use Rattle.rv_decode.proofs.RowLemmas.{at_opcode, no_system}
 use Rattle.rv_decode.proofs.decoder.system.Goals as goal
 
 pub returns-in-115 : goal.returns-in-115

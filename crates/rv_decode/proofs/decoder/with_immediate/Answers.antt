@@ -1,6 +1,6 @@
 use Rattle.std.proofs.Common.{Some, sym, ap, ◌∙◌, arith}
 use Rattle.rv_decode.specs.Table.{table}
-use Rattle.rv_decode.proofs.Rows.{at_funct3, at_funct7, no_left_shift, no_right_shift}
+use Rattle.rv_decode.proofs.RowLemmas.{at_funct3, at_funct7, no_left_shift, no_right_shift}
 use Rattle.rv_decode.proofs.decoder.with_immediate.Goals as goal
 
 pub returns-in-0 : goal.returns-in-0

@@ -1,5 +1,5 @@
 use Rattle.std.proofs.Common.{sym, ◌∙◌, arith}
-use Rattle.rv_decode.proofs.Rows.{at_opcode, no_funct7}
+use Rattle.rv_decode.proofs.RowLemmas.{at_opcode, no_funct7}
 use Rattle.rv_decode.proofs.decoder.with_registers.Goals as goal
 
 pub returns-in_default : goal.returns-in_default

@@ -4,7 +4,7 @@ use Rattle.std.specs.Int.RustNames.{FitsSigned}
 use Rattle.std.proofs.lemmas.Int.{to_z-of_z}
 use Rattle.rv_decode.specs.declared.instruction.Op.{Op}
 use Rattle.rv_step.specs.Step.{executed}
-use Rattle.rv_step.proofs.Rows.{branches_is, loads_is, stores_is, computes_with_is, computes_is, multiplies_is, passes_is}
+use Rattle.rv_step.proofs.OperationLemmas.{branches_is, loads_is, stores_is, computes_with_is, computes_is, multiplies_is, passes_is}
 use Rattle.rv_step.proofs.execution.execute.Goals as goal
 
 pub returns-in-Lui-clause-outcome : goal.returns-in-Lui-clause-outcome

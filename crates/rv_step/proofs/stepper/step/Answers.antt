@@ -1,7 +1,7 @@
 use Rattle.std.proofs.Common.{sym, ap, ◌∙◌}
 use Rattle.rv_step.specs.Step.{Outcome}
-use Rattle.rv_step.proofs.Steps.{not_fetched, not_decoded, decoded}
-use Rattle.rv_step.proofs.Keeping.{keeps_executed}
+use Rattle.rv_step.proofs.StepEnds.{not_fetched, not_decoded, decoded}
+use Rattle.rv_step.proofs.KeptByStep.{keeps_executed}
 use Rattle.rv_step.proofs.stepper.step.Goals as goal
 
 pub returns-in_default-clause-answer : goal.returns-in_default-clause-answer

@@ -1,6 +1,6 @@
 use Rattle.std.proofs.Common.{ℕ, ◌<◌, List, length, slice_set, ap, ◌∙◌, arith}
 use Rattle.gmon_block.specs.Layout.{Parts}
-use Rattle.gmon_block.specs.View.{overwritten}
+use Rattle.gp_base.specs.Bytes.{overwritten}
 use Rattle.gmon_block.proofs.Writes.{counted, with_slot}
 use Rattle.gmon_block.proofs.block.Block.set_froms.Goals as goal
 

@@ -38,7 +38,7 @@ use denote.Struct.Owning.{shape}
 use denote.Triple.Walked.{Stays, stay_dropped, walk_of, says, Goes-spent_ref, ends_at}
 use Rattle.gmon_block.specs.declared.raw.Bytes.{Bytes}
 use Rattle.gmon_block.specs.contracts.raw.Bytes as B
-use Rattle.gmon_block.specs.Memory.{bytes_at}
+use Rattle.gmon_block.specs.Memory.{bytes_owned}
 use Rattle.gmon_block.specs.Lends.{with_items}
 use Rattle.gmon_block.specs.contracts.raw.Bytes.as_mut_slice as f
 use Rattle.gmon_block.proofs.raw.Bytes.TheLaws.{lowers}
@@ -72,7 +72,7 @@ module _ {M : Type 1} {𝓤 : Ura M} (𝓛 : Logic 𝓤) (rb ro : ℕ) (h : Byte
       qed 𝓛 (‵ (cells (mem u8) ws b o) ∷ ‵ Rest ∷ []) ∵ use1 𝓛 (‵ (row u8 full_share ws b o)) (whole_out 𝓛 u8 ws b o) $
       feq_i ! ℕ (length ws) h.len count $ fjoin ! $ use1 𝓛 (‵ (part_at (Array u8 h.len) full_share ws b o)) (Array-whole 𝓛 u8 full_share h.len ws b o) $
       rewrite ! 0 (λ (zs : List ℕ). ‵ (part_at (Array u8 h.len) full_share zs b o)) (sym all) refl $
-      rewrite ! 0 (λ (p : Ptr). ‵ (bytes_at p h.len (refill h.len h.items ws))) (sym e) refl $
+      rewrite ! 0 (λ (p : Ptr). ‵ (bytes_owned p h.len (refill h.len h.items ws))) (sym e) refl $
       move ! (1 ∷ []) $ fsplit ! $ move ! (0 ∷ 2 ∷ []) $ fjoin ! $ move ! (1 ∷ 0 ∷ []) $ fjoin ! $
       fpack ! (List Val) (λ vs. fsep (cell_at full_share R.mir vs rb ro) (R.own_val (with_items h ws) vs)) us $ done !
 
@@ -92,7 +92,7 @@ as_mut_slice_spec 𝓤 𝓛 𝓜 𝓡 wired =
     let En : Env 𝓤 𝓛.H = env code.Mir.locals l in
     fsplit3 ! $ move ! (1 ∷ 2 ∷ 3 ∷ []) $ opens ! tt R {h = h} rb ro (λ us.
     move ! (1 ∷ []) $ peeks ! R _ (shows 𝓛 R) h us (λ is. fsplit ! $ move ! (1 ∷ []) $
-    in_a_block ! h.start (λ p. bytes_at p n xs) (id⊢ 𝓤 _) (λ b o e.
+    in_a_block ! h.start (λ p. bytes_owned p n xs) (id⊢ 𝓤 _) (λ b o e.
     let word = lowers.val_is h us is ∙ ap (λ (p : Ptr). lowers.lowered (record h { start = p }) ∷ []) e in
     rewrite ! 2 (λ (ws : List Val). ‵ (Cell 𝓛 rb ro h us b o ws)) word refl $
     -- [the bytes; the two words; their cell; the open borrow, in three entries]

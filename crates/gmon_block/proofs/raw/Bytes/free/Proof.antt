@@ -26,7 +26,7 @@ use denote.Triple.Entry.{alive}
 use denote.Triple.Call.{calls_at_last}
 use denote.Triple.Table.{framed}
 use denote.Triple.Walked.{Stays, stay_dropped, walk_of, Goes-dropped}
-use Rattle.gmon_block.specs.Memory.{block_of, bytes_at}
+use Rattle.gmon_block.specs.Memory.{block_of, bytes_owned}
 use Rattle.gmon_block.specs.contracts.raw.Bytes as bytes
 use Rattle.gmon_block.specs.contracts.raw.Lease as lease
 use Rattle.gmon_block.specs.contracts.raw.Bytes.free as f
@@ -59,7 +59,7 @@ free_spec 𝓤 𝓛 𝓜 𝓡 wired A L g d dd met md =
     qed 𝓛 ((raw (alive 𝓛 En₀.signature z.0.0 z.0.1) ⊛ ‵ (owns (types_at En₀.signature.params z.0.0) a vss)) ∷ (raw (fact 𝓤 (z.0.0.1.0 ⊑ A.lives)) ⊛ raw (fact 𝓤 Asked)) ∷ []) ∵
     move ! (1 ∷ []) $ split ! $ heard ! (z.0.0.1.0 ⊑ A.lives) (λ le. heard ! Asked (λ asked. split ! $ move ! (1 ∷ []) $
     fsplit3 ! $ fsplit ! $ drop ! $
-    in_a_block ! x.start (λ p. bytes_at p n x.items) (id⊢ 𝓤 (never 𝓤)) (λ b o place_is. use1 𝓛 (‵ (froom τ b o)) (block_room 𝓛 n x.items b o) $ move ! (1 ∷ []) $ fsplit ! $ drop ! $
+    in_a_block ! x.start (λ p. bytes_owned p n x.items) (id⊢ 𝓤 (never 𝓤)) (λ b o place_is. use1 𝓛 (‵ (froom τ b o)) (block_room 𝓛 n x.items b o) $ move ! (1 ∷ []) $ fsplit ! $ drop ! $
     rewrite ! 0 (λ (u : A.Denot × ℕ × Ptr). ‵ (g.dealloc_token u.0 (block_of u.1) u.2)) (λ i. (asked.0 i, asked.2 i, (asked.1 ∙ place_is) i)) refl $
     move ! (2 ∷ []) $ fsplit ! $ fsplit ! $ drop ! $ move ! (1 ∷ []) $ drop ! $ use1 𝓛 (‵ (seen Y κ at h)) (id⊢ 𝓤 _) $ move ! (3 ∷ []) $
     use1 𝓛 (‵ (flft κ q) ⊛ ‵ (flft z.0.0.1.0 z.0.1.1.0) ⊛ ‵ ftrue) (id⊢ 𝓤 _) $ split ! $ move ! (2 ∷ 0 ∷ []) $ join ! $ move ! (3 ∷ 2 ∷ []) $

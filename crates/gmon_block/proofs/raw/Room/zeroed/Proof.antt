@@ -33,7 +33,7 @@ use denote.Struct.Struct.{Struct}
 use denote.Struct.Owning.{shape}
 use denote.Triple.Entry.{alive}
 use denote.Triple.Walked.{Stays, stay_dropped, walk_of, says, Goes-dropped, ends_at}
-use Rattle.gmon_block.specs.Memory.{block_of, room_of, bytes_at}
+use Rattle.gmon_block.specs.Memory.{block_of, room_of, bytes_owned}
 use Rattle.gmon_block.specs.contracts.raw.Bytes as B
 use Rattle.gmon_block.specs.contracts.raw.Room as R
 use Rattle.gmon_block.specs.contracts.raw.Room.zeroed as f
@@ -125,6 +125,6 @@ zeroed_spec 𝓤 𝓛 𝓜 𝓡 wired =
     by ! (fills 𝓛 𝓣 (W.post z) Words b o n fn
     (qed 𝓛 (‵ (row u8 full_share (replicate n 0) b o) ∷ ‵ (Words (sized_val (block_ptr b o) n ∷ [])) ∷ []) ∵
     feq_i ! ℕ (length zeros) n count $ fjoin ! $ use1 𝓛 (‵ (part_at (Array u8 n) full_share zeros b o)) (Array-whole 𝓛 u8 full_share n zeros b o) $
-    rewrite ! 0 (λ (p : Ptr). ‵ (bytes_at p n zeros)) (sym e) refl $ move ! (1 ∷ 0 ∷ []) $ fjoin ! $
+    rewrite ! 0 (λ (p : Ptr). ‵ (bytes_owned p n zeros)) (sym e) refl $ move ! (1 ∷ 0 ∷ []) $ fjoin ! $
     suffices ! _ (ends_at 𝓛 f.ended stayed c z (sized_val (block_ptr b o) n) r (tt, tt) (tt, tt)) $ says ! (refl, refl, refl) $
     nothing ! $ nothing ! $ join ! $ nothing ! $ done !))))

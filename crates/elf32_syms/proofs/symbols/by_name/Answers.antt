@@ -1,0 +1,9 @@
+use Rattle.std.proofs.Common.{ap}
+use Rattle.elf32_syms.specs.Names.{name_at}
+use Rattle.elf32_syms.proofs.NameEnds.{same_name}
+use Rattle.elf32_syms.proofs.symbols.by_name.Goals as goal
+
+pub returns-then-one-other : goal.returns-then-one-other
+returns-then-one-other c =
+    let name = name_at c.args.strings.now in
+    same_name (name c.args.one.name) (name c.args.other.name) (ap name c.if-one-other.true)
