@@ -5,15 +5,16 @@
 mod ecalls;
 pub mod ending;
 mod flight;
-mod given;
 pub mod laws;
 mod layout;
-pub mod machine;
+mod machine;
+pub mod runs;
+mod schedule;
 pub mod setup;
-mod turns;
+mod stages;
 
 pub use ending::{End, RunSummary, StartRefusal, Turned};
-pub use machine::Run;
+pub use runs::Run;
 pub use setup::{Plan, Setup};
 
 #[cfg(test)]

@@ -1,0 +1,88 @@
+-- A runtime after a tick.
+use Rattle.std.proofs.Common.{◌≡◌, ℕ, ◌<◌, ◌≤◌, Bool, true, false, ◌&&◌, ltb, List, [], ◌∷◌, length, Some, inl, inr, refl, sym, ap, ◌∙◌, arith, ◌+◌, subst, ◌-◌, set, leb, if◌then◌else◌, ◌/◌, min, slice_index, ◌⊎◌, slice_index_or, slice_set}
+use Rattle.std.specs.List.{slice_get}
+use Rattle.std.proofs.lemmas.Bool.{and_parts, lt-ltb, le-ltb, and_from, and_left, and_right, lt-leb, le-leb, leb-true, ltb-true}
+use Rattle.gmon_block.specs.Layout.{no_entry, Parts}
+use Rattle.mcount_arcs.specs.Log.{LogEntry, Sample}
+use Rattle.mcount_arcs.specs.Sizes.{is_in, text_span, AreSizes}
+use Rattle.mcount_arcs.specs.Samples.{buckets_of}
+use Rattle.std.proofs.lemmas.Option.{get_or_from_slice_get}
+use Rattle.mcount_arcs.specs.declared.gmon.Gmon.TheInside.{Inside}
+use Rattle.mcount_arcs.specs.Held.{view_of, IsHeld, IsAt}
+use Rattle.mcount_arcs.specs.Value.{StandsFor, GmonValue, with_sample, ticked}
+use Rattle.mcount_arcs.proofs.LogLemmas.{more, counts, sample-quiet, state_of-quiet, is_on-same}
+use Rattle.mcount_arcs.proofs.BucketLemmas.{buckets_of-uncounted, buckets_of-counted_samples}
+use Rattle.mcount_arcs.proofs.QuietEntryLemmas.{StandsFor-quiet}
+
+abbrev raise : ℕ → List ℕ → List ℕ
+raise i xs = slice_set xs i (min 65535 (slice_index xs i + 1))
+
+-- a sample changes the counters alone
+StandsFor-sample : (log : List LogEntry) (v : GmonValue) (pc : ℕ) (counters : List ℕ) → StandsFor log v → counters ≡ buckets_of v.sizes (more log (Sample pc)) → StandsFor (more log (Sample pc)) (record v { counters = counters })
+StandsFor-sample log v pc counters stands counters_are =
+    StandsFor-quiet log (Sample pc) v counters v.state v.sampling (sample-quiet v.sizes pc) tt stands counters_are
+    (stands.state ∙ sym (state_of-quiet v.sizes log (Sample pc) (sample-quiet v.sizes pc) refl)) (stands.sampling ∙ sym (is_on-same log (Sample pc) refl))
+
+pub by_test : (log : List LogEntry) (v : GmonValue) (pc : ℕ) (b : Bool) → AreSizes v.sizes → StandsFor log v → (v.sampling && is_in (text_span v.sizes) pc) ≡ b → StandsFor (more log (Sample pc)) (if b then with_sample ((pc - v.sizes.low) / 4) v else v)
+by_test log v pc true are stands test =
+    let parts = and_parts v.sampling (is_in (text_span v.sizes) pc) test in
+    let ends = and_parts (leb v.sizes.low pc) (ltb pc v.sizes.high) parts.1 in
+    let one : counts v.sizes log pc ≡ pc ∷ [] = ap (λ (b : Bool). if b && is_in (text_span v.sizes) pc then pc ∷ [] else []) (sym stands.sampling) ∙ ap (λ (b : Bool). if b then pc ∷ [] else []) test in
+    let raised = buckets_of-counted_samples v.sizes log pc are one (leb-true v.sizes.low pc ends.0) (ltb-true pc v.sizes.high ends.1) in
+    StandsFor-sample log v pc (with_sample ((pc - v.sizes.low) / 4) v).counters stands (ap (raise ((pc - v.sizes.low) / 4)) stands.counters ∙ raised)
+by_test log v pc false are stands test =
+    let none : counts v.sizes log pc ≡ [] = ap (λ (b : Bool). if b && is_in (text_span v.sizes) pc then pc ∷ [] else []) (sym stands.sampling) ∙ ap (λ (b : Bool). if b then pc ∷ [] else []) test in
+    StandsFor-sample log v pc v.counters stands (stands.counters ∙ sym (buckets_of-uncounted v.sizes log pc none))
+
+-- a tick adds its sample
+pub StandsFor-ticked : (log : List LogEntry) (v : GmonValue) (pc : ℕ) → AreSizes v.sizes → StandsFor log v → StandsFor (more log (Sample pc)) (ticked pc v)
+StandsFor-ticked log v pc are stands =
+    by_test log v pc (v.sampling && is_in (text_span v.sizes) pc) are stands refl
+
+at_of : (a : Inside) (counters : List ℕ) → IsAt a.block a.cursor → IsAt (record a.block { counters = counters }) a.cursor
+at_of a counters at = record { slot = at.slot; looked = at.looked; place = at.place; at = at.at; before = at.before }
+
+-- a tick changes the counters alone
+pub IsHeld-ticked : (a : Inside) (block : Parts) (counters : List ℕ) (log : List LogEntry) → IsHeld a → block ≡ record a.block { counters = counters } → length counters ≡ length a.block.counters → StandsFor log (view_of (record a { block = block })) → IsHeld (record a { block = block })
+IsHeld-ticked a block counters log held same long stands = record {
+  sizes = held.sizes;
+  tos = ap (λ (p : Parts). length p.tos) same ∙ held.tos;
+  counters = ap (λ (p : Parts). length p.counters) same ∙ long ∙ held.counters;
+  froms = ap (λ (p : Parts). length p.froms) same ∙ held.froms;
+  log = log;
+  stands = stands;
+  free = λ other. omega (arith, ap (λ (p : Parts). (slice_index_or p.tos 0 no_entry).link) same, held.free other);
+  at = λ busy. let P : Parts → Type 0 = λ p. IsAt p a.cursor in subst P (sym same) (at_of a counters (held.at busy));
+  room = held.room;
+}
+
+-- a tick that counts
+pub ticked-in : (v : GmonValue) (pc : ℕ) → v.sampling ≡ true → v.sizes.low ≤ pc → pc < v.sizes.high → ticked pc v ≡ with_sample ((pc - v.sizes.low) / 4) v
+ticked-in v pc on low high =
+    ap (λ (b : Bool). if b then with_sample ((pc - v.sizes.low) / 4) v else v) (and_from v.sampling (is_in (text_span v.sizes) pc) on (and_from (leb v.sizes.low pc) (ltb pc v.sizes.high) (le-leb v.sizes.low pc low) (lt-ltb pc v.sizes.high high)))
+
+-- a tick that doesn't
+pub ticked-off : (v : GmonValue) (pc : ℕ) → v.sampling ≡ false → v ≡ ticked pc v
+ticked-off v pc off =
+    ap (λ (b : Bool). if b then with_sample ((pc - v.sizes.low) / 4) v else v) (sym (and_left v.sampling (is_in (text_span v.sizes) pc) off))
+
+pub ticked-out : (v : GmonValue) (pc : ℕ) → (pc < v.sizes.low) ⊎ (v.sizes.high ≤ pc) → v ≡ ticked pc v
+ticked-out v pc out =
+    let test : is_in (text_span v.sizes) pc ≡ false = elim out [
+      | inl under ↦ and_left (leb v.sizes.low pc) (ltb pc v.sizes.high) (lt-leb v.sizes.low pc under)
+      | inr over ↦ and_right (leb v.sizes.low pc) (ltb pc v.sizes.high) (le-ltb pc v.sizes.high over)
+    ] in
+    ap (λ (b : Bool). if b then with_sample ((pc - v.sizes.low) / 4) v else v) (sym (and_right v.sampling (is_in (text_span v.sizes) pc) test))
+
+-- the write that a tick makes
+pub wrote : (a : Inside) (pc n m : ℕ) (block : Parts) → a.sampling ≡ true → a.sizes.low ≤ pc → pc < a.sizes.high
+    → slice_get a.block.counters ((pc - a.sizes.low) / 4) ≡ Some n → m ≡ min (n + 1) 65535
+    → block ≡ record a.block { counters = slice_set a.block.counters ((pc - a.sizes.low) / 4) m }
+    → view_of (record a { block = block }) ≡ ticked pc (view_of a)
+wrote a pc n m block on low high read more set =
+    let k : ℕ = (pc - a.sizes.low) / 4 in
+    let was : slice_index a.block.counters k ≡ n = get_or_from_slice_get a.block.counters k n 0 read in
+    let value : m ≡ min 65535 (slice_index a.block.counters k + 1) = omega arith in
+    ap (λ (p : Parts). view_of (record a { block = p })) set
+    ∙ ap (λ (x : ℕ). record (view_of a) { counters = slice_set a.block.counters k x }) value
+    ∙ sym (ticked-in (view_of a) pc on low high)

@@ -1,0 +1,120 @@
+-- What a run's prints leave on the outside.
+use Rattle.std.proofs.Common.{◌++◌, Bool, List, [], ap, append_assoc, eqb, false, inl, inr, refl, subst, sym, take, true, ℕ, ◌∙◌, ◌∷◌, ◌≡◌, ◌≤◌, if◌then◌else◌}
+use Rattle.std.specs.Prelude.{Err, Result, ◌≢◌, ⊤}
+use Rattle.std.proofs.lemmas.List.{append-nil}
+use Rattle.host_port.proofs.Laws.{Did-nothing, Did-then}
+use Rattle.host_port.specs.Act.{Act}
+use Rattle.host_port.specs.Host.{CountsOf, ErrorOutput, File, Output, Puts, Side, act_of}
+use Rattle.host_port.specs.Outside.{Did, KeepsCounts, Outside, Rose}
+use Rattle.prof_machine.proofs.PrintLemmas.{prints_planned}
+use Rattle.prof_machine.specs.Ecalls.{print_to, side_of}
+use Rattle.prof_machine.specs.Plan.{planned}
+use Rattle.prof_machine.specs.Prints.{ArePrinted, BreaksOff, PrintFailed}
+use Rattle.prof_machine.specs.World.{World}
+use Rattle.prof_machine.specs.declared.machine.Machine.{Machine}
+
+-- what was printed is behind what had been printed
+pub printed_as : (w u v : World) (x y : Outside) → v.prints ≡ u.prints → ArePrinted w u x y → ArePrinted w v x y
+printed_as w u v x y same p = record { more = p.more; behind = same ∙ p.behind; did = p.did }
+
+pub breaks_as : (w u v : World) (x y : Outside) → v.prints ≡ u.prints → BreaksOff w u x y → BreaksOff w v x y
+breaks_as w u v x y same off = record {
+  before = off.before;
+  side = off.side;
+  piece = off.piece;
+  last = same ∙ off.last;
+  n = off.n;
+  part = off.part;
+  did = off.did;
+  counts = off.counts;
+  no_file = off.no_file;
+}
+
+-- nothing was printed
+pub nothing_printed : (w v : World) (x : Outside) → v.prints ≡ w.prints → ArePrinted w v x x
+nothing_printed w v x same = record { more = []; behind = same ∙ sym (append-nil w.prints); did = Did-nothing x }
+
+-- first these prints, and then those
+pub printed_then : (u v w : World) (x y z : Outside) → ArePrinted u v x y → ArePrinted v w y z → ArePrinted u w x z
+printed_then u v w x y z p q = record {
+  more = p.more ++ q.more;
+  behind = q.behind ∙ ap (λ (front : List Act). front ++ q.more) p.behind ∙ append_assoc u.prints p.more q.more;
+  did = Did-then p.more q.more x y z p.did q.did;
+}
+
+-- ---- prints that fail
+
+side_is : (d : ℕ) (b : Bool) → eqb d 1 ≡ b → side_of d ≢ File
+side_is d true is = λ same. absurd (cc (ap (λ (b : Bool). if b then Output else ErrorOutput) is, same))
+side_is d false is = λ same. absurd (cc (ap (λ (b : Bool). if b then Output else ErrorOutput) is, same))
+
+own_count : (T E : Type 0) (side : Side) (old new : Outside) (e : E) → CountsOf {T = T} {E = E} side old new (Err e) → CountsOf {T = ⊤} {E = ⊤} side old new (Err tt)
+own_count T E File old new e p = record { own = p.own; read = p.read; err = p.err }
+own_count T E Output old new e p = record { own = p.own; read = p.read; err = p.err }
+own_count T E ErrorOutput old new e p = record { own = p.own; read = p.read; write = p.write }
+
+pub breaks_off : {T E : Type 0} (result : Result T E) (e : E) (w v : World) (d : ℕ) (piece : List ℕ) (old new : Outside) → result ≡ Err e → v.prints ≡ w.prints ++ print_to d piece ∷ [] → Puts (side_of d) piece old new result
+    → BreaksOff w v old new
+breaks_off {T} {E} result e w v d piece old new is last puts =
+    let P : Result T E → Type 0 = λ x. Puts (side_of d) piece old new x in
+    let failed : Puts (side_of d) piece old new (Err e) = subst P is puts in
+    let part = failed.takes.part in
+    record {
+      before = [];
+      side = side_of d;
+      piece = piece;
+      last = last;
+      n = part.0;
+      part = part.1;
+      did = part.2;
+      counts = own_count T E (side_of d) old new e failed.counts;
+      no_file = side_is d (eqb d 1) refl;
+    }
+
+rose_after : (a b c : ℕ) → b ≡ a → Rose b c → Rose a c
+rose_after a b c same rose = let P : ℕ → Type 0 = λ n. Rose n c in subst P same rose
+
+-- the print that failed is the first one
+pub failed_after : (a b c : Outside) → KeepsCounts a b → PrintFailed b c → PrintFailed a c
+failed_after a b c keeps (inl p) = inl (record { own = rose_after _ _ _ keeps.write p.own; read = p.read ∙ keeps.read; err = p.err ∙ keeps.err })
+failed_after a b c keeps (inr p) = inr (record { own = rose_after _ _ _ keeps.err p.own; read = p.read ∙ keeps.read; write = p.write ∙ keeps.write })
+
+counts_after : (side : Side) (a b c : Outside) → KeepsCounts a b → CountsOf {T = ⊤} {E = ⊤} side b c (Err tt) → CountsOf {T = ⊤} {E = ⊤} side a c (Err tt)
+counts_after File a b c keeps p = record { own = rose_after _ _ _ keeps.write p.own; read = p.read ∙ keeps.read; err = p.err ∙ keeps.err }
+counts_after Output a b c keeps p = record { own = rose_after _ _ _ keeps.write p.own; read = p.read ∙ keeps.read; err = p.err ∙ keeps.err }
+counts_after ErrorOutput a b c keeps p = record { own = rose_after _ _ _ keeps.err p.own; read = p.read ∙ keeps.read; write = p.write ∙ keeps.write }
+
+-- what was printed before it stands in front
+pub breaks_after : (u v w : World) (x y z : Outside) → ArePrinted u v x y → KeepsCounts x y → BreaksOff v w y z → BreaksOff u w x z
+breaks_after u v w x y z p keeps off =
+    let whole = act_of off.side off.piece in
+    let part = act_of off.side (take off.n off.piece) in
+    record {
+      before = p.more ++ off.before;
+      side = off.side;
+      piece = off.piece;
+      last =
+          off.last
+          ∙ ap (λ (front : List Act). front ++ (off.before ++ whole ∷ [])) p.behind
+          ∙ append_assoc u.prints p.more (off.before ++ whole ∷ [])
+          ∙ ap (λ (back : List Act). u.prints ++ back) (sym (append_assoc p.more off.before (whole ∷ [])));
+      n = off.n;
+      part = off.part;
+      did =
+          let D : List Act → Type 0 = λ acts. Did acts x z in
+          subst D (sym (append_assoc p.more off.before (part ∷ []))) (Did-then p.more (off.before ++ part ∷ []) x y z p.did off.did);
+      counts = counts_after off.side x y z keeps off.counts;
+      no_file = off.no_file;
+    }
+
+-- of all that the turns of the plan print, what was printed is the front, and the piece that was cut comes next
+pub breaks_front : (m : Machine) (w : World) (k n : ℕ) (x y : Outside) → k ≤ n → (off : BreaksOff w (planned m w k) x y)
+    → (more : List Act) × ((planned m w n).prints ≡ w.prints ++ (off.before ++ act_of off.side off.piece ∷ more))
+breaks_front m w k n x y le off =
+    let p = prints_planned m w k n le in
+    let whole = act_of off.side off.piece in
+    (p.0,
+    p.1
+    ∙ ap (λ (front : List Act). front ++ p.0) off.last
+    ∙ append_assoc w.prints (off.before ++ whole ∷ []) p.0
+    ∙ ap (λ (back : List Act). w.prints ++ back) (append_assoc off.before (whole ∷ []) p.0))

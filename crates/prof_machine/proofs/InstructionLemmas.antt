@@ -1,0 +1,138 @@
+-- An instruction, in the world that a run stands for.
+use Rattle.std.proofs.Common.{◌&&◌, ◌++◌, Bool, List, Some, [], ap, arith, eqb, false, inl, inr, refl, set, subst, sym, true, ℕ, ◌∙◌, ◌∷◌, ◌≡◌, ◌≤◌, if◌then◌else◌}
+use Rattle.std.specs.Prelude.{nat_le, not, ◌||◌, ◌⊎◌}
+use Rattle.std.proofs.lemmas.Bool.Decides.{nat_tests}
+use Rattle.std.proofs.lemmas.List.{set-get_or}
+use Rattle.std.specs.Vec.{with_item}
+use Rattle.rv_step.specs.Memory.{IsInside, Memory, is_inside, read_at}
+use Rattle.rv_step.specs.Registers.{Registers, register}
+use Rattle.rv_step.specs.Step.{step_of}
+use Rattle.rv_step.specs.declared.stepped.Stepped.{Stepped}
+use Rattle.rv_step.specs.declared.stepped.Stepped.TheVariants.{Ecall, Retired, Trap as Trapped}
+use Rattle.rv_step.specs.declared.stepped.TrapKind.{TrapKind}
+use Rattle.prof_machine.proofs.StandingLemmas.{answers_stands, with_ending, with_harts, with_memory, with_retired}
+use Rattle.prof_machine.specs.Ecalls.{ecall_of, print_to, write_call}
+use Rattle.prof_machine.specs.Stages.{answers, retires}
+use Rattle.prof_machine.specs.Turn.{after_call, after_ecall, after_outcome, after_step, executed, retired_with}
+use Rattle.prof_machine.specs.Value.{RunValue, StandsFor, value_of}
+use Rattle.prof_machine.specs.World.{World, blank, hart_of}
+use Rattle.prof_machine.specs.declared.ecalls.Call.{Call}
+use Rattle.prof_machine.specs.declared.ecalls.Call.TheVariants.{Answers, Exits, Prints, SetsBreak}
+use Rattle.prof_machine.specs.declared.ending.End.TheVariants.{Trap}
+use Rattle.prof_machine.specs.declared.machine.Machine.{Machine}
+use Rattle.prof_machine.specs.declared.runs.Run.TheInside.{Inside}
+
+-- ---- the instruction
+
+executed_at : (w : World) (r : RunValue) (m : Machine) (h : ℕ) → StandsFor w r → executed m h w ≡ after_outcome m h (step_of (hart_of r.harts h) r.memory) w
+unfolding executed
+executed_at w r m h stands =
+    ap (λ (x : List Registers). after_outcome m h (step_of (hart_of x h) w.memory) w) (sym stands.harts) ∙ ap (λ (x : Memory). after_outcome m h (step_of (hart_of r.harts h) x) w) (sym stands.memory)
+
+-- what the step answered, and left
+pub executed_by : (w : World) (r : RunValue) (m : Machine) (h : ℕ) (answer : Stepped) (s : Registers) (memory : Memory) → StandsFor w r
+    → answer ≡ (step_of (hart_of r.harts h) r.memory).answer → s ≡ (step_of (hart_of r.harts h) r.memory).registers → memory ≡ (step_of (hart_of r.harts h) r.memory).memory → executed m h w ≡ after_step m h answer s memory w
+executed_by w r m h answer s memory stands a b c =
+    let o = step_of (hart_of r.harts h) r.memory in
+    executed_at w r m h stands
+    ∙ ap (λ (x : Stepped). after_step m h x o.registers o.memory w) (sym a)
+    ∙ ap (λ (x : Registers). after_step m h answer x o.memory w) (sym b)
+    ∙ ap (λ (x : Memory). after_step m h answer s x w) (sym c)
+
+pub retired_stands : (w : World) (r : RunValue) (h : ℕ) (s : Registers) (m : Memory) → StandsFor w r → StandsFor (retired_with h s (record w { memory = m })) (retires (record r { harts = set r.harts h s; memory = m }))
+retired_stands w r h s m stands =
+    with_retired (record w { harts = set w.harts h s; memory = m }) (record r { harts = set r.harts h s; memory = m })
+    (with_memory (record w { harts = set w.harts h s }) (record r { harts = set r.harts h s }) m (with_harts w r _ _ (ap (λ (x : List Registers). set x h s) stands.harts) stands))
+
+-- ---- an environment call
+
+pub ecall_as : (w : World) (r : RunValue) (h : ℕ) (s : Registers) (call : Call) → hart_of r.harts h ≡ s → call ≡ ecall_of r.machine s r.memory r.break_at → StandsFor w r → after_ecall r.machine h w ≡ after_call h call w
+unfolding after_ecall
+ecall_as w r h s call read is stands =
+    let hart : hart_of w.harts h ≡ s = ap (λ (x : List Registers). hart_of x h) (sym stands.harts) ∙ read in
+    ap (λ (x : Registers). after_call h (ecall_of r.machine x w.memory w.break_at) w) hart
+    ∙ ap (λ (x : Memory). after_call h (ecall_of r.machine s x w.break_at) w) (sym stands.memory)
+    ∙ ap (λ (x : ℕ). after_call h (ecall_of r.machine s r.memory x) w) (sym stands.break_at)
+    ∙ ap (λ (x : Call). after_call h x w) (sym is)
+
+pub printed_stands : (w : World) (r : RunValue) (h d from n : ℕ) → StandsFor w r → StandsFor (after_call h (Prints d from n) w) (answers h n r)
+printed_stands w r h d from n stands = answers_stands (record w { prints = w.prints ++ print_to d (read_at w.memory from n) ∷ [] }) r h n (record {
+  harts = stands.harts;
+  left = stands.left;
+  memory = stands.memory;
+  break_at = stands.break_at;
+  retired = stands.retired;
+  ending = stands.ending;
+  gmon = stands.gmon;
+  samples = stands.samples;
+  lost = stands.lost;
+})
+
+write_prints : (memory : Memory) (d f n x y : ℕ) (d' f' n' : ℕ) (b1 b2 b3 : Bool) → eqb n 0 ≡ b2 → is_inside memory f n ≡ b3
+    → (if not b1 then Answers x else (if b2 then Answers 0 else (if not b3 then Answers y else Prints d f n))) ≡ Prints d' f' n' → (1 ≤ n') × (is_inside memory f' n' ≡ true)
+write_prints memory d f n x y d' f' n' false b2 b3 e i is = absurd cc
+write_prints memory d f n x y d' f' n' true true b3 e i is = absurd cc
+write_prints memory d f n x y d' f' n' true false false e i is = absurd cc
+write_prints memory d f n x y d' f' n' true false true e i is =
+    let fs : f ≡ f' = cc in
+    let ns : n ≡ n' = cc in
+    (grind (arith, nat_tests), ap (λ (k : ℕ). is_inside memory k n') (sym fs) ∙ ap (λ (k : ℕ). is_inside memory f k) (sym ns) ∙ i)
+
+pub asked_prints : (m : Machine) (s : Registers) (memory : Memory) (b d f n : ℕ) → Prints d f n ≡ ecall_of m s memory b → (1 ≤ n) × (is_inside memory f n ≡ true)
+unfolding ecall_of
+asked_prints m s memory b d f n is = by_number (eqb (register s 17) 64) (eqb (register s 17) 93) (eqb (register s 17) 214) (nat_le m.first_break (register s 10) && nat_le (register s 10) m.last_break) (sym is)
+  where
+    by_number : (b1 b2 b3 b4 : Bool)
+        → (if b1 then write_call memory (register s 10) (register s 11) (register s 12) else (if b2 then Exits (register s 10) else (if b3 then (if b4 then SetsBreak (register s 10) else Answers b) else Answers 4294967258))) ≡ Prints d f n
+        → (1 ≤ n) × (is_inside memory f n ≡ true)
+    by_number true b2 b3 b4 is = write_prints memory (register s 10) (register s 11) (register s 12) _ _ d f n (eqb (register s 10) 1 || eqb (register s 10) 2) _ _ refl refl is
+    by_number false true b3 b4 is = absurd cc
+    by_number false false true true is = absurd cc
+    by_number false false true false is = absurd cc
+    by_number false false false b4 is = absurd cc
+
+pub inside_is : (m : Memory) (a n : ℕ) → is_inside m a n ≡ true → IsInside m a n
+inside_is m a n is = (grind (arith, nat_tests, is), grind (arith, nat_tests, is))
+
+-- ---- a step
+
+-- what was read is written back
+put_back : (a : Inside) (h : ℕ) (s0 s : Registers) (m : Memory) → hart_of a.harts.items h ≡ s0 → s ≡ s0 → m ≡ a.ram → value_of (record a { harts = with_item a.harts h s; ram = m }) ≡ value_of a
+put_back a h s0 s m read same memory =
+    ap (λ (x : List Registers). record (value_of a) { harts = x; memory = m }) (ap (set a.harts.items h) (same ∙ sym read) ∙ set-get_or a.harts.items h blank)
+    ∙ ap (λ (x : Memory). record (value_of a) { memory = x }) memory
+
+unchanged : (o : Stepped) (s0 s : Registers) (m0 m : Memory) → (o ≡ Retired → ⊥) → ((o ≡ Retired) ⊎ ((s ≡ s0) × (m ≡ m0))) → (s ≡ s0) × (m ≡ m0)
+unchanged o s0 s m0 m other (inl is) = absurd (other is)
+unchanged o s0 s m0 m other (inr same) = same
+
+step_as : (w : World) (a : Inside) (h : ℕ) (answer : Stepped) (s0 s : Registers) (m : Memory) → hart_of a.harts.items h ≡ s0 → answer ≡ (step_of s0 a.ram).answer → s ≡ (step_of s0 a.ram).registers → m ≡ (step_of s0 a.ram).memory → StandsFor w (value_of a)
+    → executed a.machine h w ≡ after_step a.machine h answer s m w
+step_as w a h answer s0 s m read x y z stands =
+    executed_by w (value_of a) a.machine h answer s m stands (x ∙ ap (λ (t : Registers). (step_of t a.ram).answer) (sym read)) (y ∙ ap (λ (t : Registers). (step_of t a.ram).registers) (sym read)) (z ∙ ap (λ (t : Registers). (step_of t a.ram).memory) (sym read))
+
+pub step_retired : (w : World) (a : Inside) (h : ℕ) (s0 s : Registers) (m : Memory) → hart_of a.harts.items h ≡ s0 → Retired ≡ (step_of s0 a.ram).answer → s ≡ (step_of s0 a.ram).registers → m ≡ (step_of s0 a.ram).memory → StandsFor w (value_of a)
+    → StandsFor (executed a.machine h w) (retires (value_of (record a { harts = with_item a.harts h s; ram = m }))) × ((executed a.machine h w).prints ≡ w.prints)
+step_retired w a h s0 s m read x y z stands =
+    let P : World → Type 0 = λ v. StandsFor v (retires (value_of (record a { harts = with_item a.harts h s; ram = m }))) × (v.prints ≡ w.prints) in
+    subst P (sym (step_as w a h Retired s0 s m read x y z stands)) (retired_stands w (value_of a) h s m stands, refl)
+
+pub step_trapped : (w : World) (a : Inside) (h : ℕ) (kind : TrapKind) (pc : ℕ) (s0 s : Registers) (m : Memory) → hart_of a.harts.items h ≡ s0 → Trapped kind ≡ (step_of s0 a.ram).answer → s ≡ (step_of s0 a.ram).registers → m ≡ (step_of s0 a.ram).memory
+    → ((Trapped kind ≡ Retired) ⊎ ((s ≡ s0) × (m ≡ a.ram))) → pc ≡ s.pc → StandsFor w (value_of a)
+    → StandsFor (executed a.machine h w) (value_of (record a { harts = with_item a.harts h s; ram = m; ending = Some (Trap kind pc) })) × ((executed a.machine h w).prints ≡ w.prints)
+step_trapped w a h kind pc s0 s m read x y z stays pc_is stands =
+    let same = unchanged (Trapped kind) s0 s a.ram m (λ is. absurd cc) stays in
+    let here : pc ≡ (hart_of w.harts h).pc = pc_is ∙ ap (λ (t : Registers). t.pc) (same.0 ∙ sym read) ∙ ap (λ (t : List Registers). (hart_of t h).pc) stands.harts in
+    let back : record (value_of (record a { harts = with_item a.harts h s; ram = m })) { ending = Some (Trap kind pc) } ≡ record (value_of a) { ending = Some (Trap kind pc) } =
+    ap (λ (r : RunValue). record r { ending = Some (Trap kind pc) }) (put_back a h s0 s m read same.0 same.1) in
+    let P : World → Type 0 = λ v. StandsFor v (value_of (record a { harts = with_item a.harts h s; ram = m; ending = Some (Trap kind pc) })) × (v.prints ≡ w.prints) in
+    let Q : RunValue → Type 0 = λ r. StandsFor (record w { ending = Some (Trap kind (hart_of w.harts h).pc) }) r in
+    let R : ℕ → Type 0 = λ n. StandsFor (record w { ending = Some (Trap kind n) }) (record (value_of a) { ending = Some (Trap kind pc) }) in
+    subst P (sym (step_as w a h (Trapped kind) s0 s m read x y z stands)) (subst Q (sym back) (subst R here (with_ending w (value_of a) (Trap kind pc) stands)), refl)
+
+pub step_called : (w : World) (a : Inside) (h : ℕ) (s0 s : Registers) (m : Memory) → hart_of a.harts.items h ≡ s0 → Ecall ≡ (step_of s0 a.ram).answer → s ≡ (step_of s0 a.ram).registers → m ≡ (step_of s0 a.ram).memory
+    → ((Ecall ≡ Retired) ⊎ ((s ≡ s0) × (m ≡ a.ram))) → StandsFor w (value_of a) → (executed a.machine h w ≡ after_ecall a.machine h w) × StandsFor w (value_of (record a { harts = with_item a.harts h s; ram = m }))
+step_called w a h s0 s m read x y z stays stands =
+    let same = unchanged Ecall s0 s a.ram m (λ is. absurd cc) stays in
+    let P : RunValue → Type 0 = λ r. StandsFor w r in
+    (step_as w a h Ecall s0 s m read x y z stands, subst P (sym (put_back a h s0 s m read same.0 same.1)) stands)

@@ -1,0 +1,141 @@
+-- How many turns a run takes at most.
+use Rattle.std.proofs.Common.{◌%◌, ◌&&◌, ◌*◌, ◌+◌, ◌-◌, ◌<◌, Bool, List, None, Option, Some, [], ap, arith, eqb, false, inl, inr, length, map, refl, replicate, set, suc, sym, true, zero, ℕ, ◌∙◌, ◌∷◌, ◌≡◌, ◌≤◌, if◌then◌else◌}
+use Rattle.std.specs.Prelude.{is_some, nat_lt}
+use Rattle.std.specs.List.{list_any}
+use Rattle.mcount_arcs.specs.Arcs.{looks_of}
+use Rattle.mcount_arcs.specs.Log.{LogEntry, Sample, WalkDone}
+use Rattle.prof_machine.proofs.ClockLemmas.{Timed, at_none, first, timed_turn}
+use Rattle.prof_machine.proofs.WorldLemmas.{by_arrived, by_executed, by_going, by_returned, closed_going, ended_stays, ended_turn, going_stage}
+use Rattle.prof_machine.specs.Turn.{arrived, closed, executed, instructed, sampled, spent, taken, turn_of, while_going, with_entry, world_after}
+use Rattle.prof_machine.specs.World.{World, hart_of, left_of}
+use Rattle.prof_machine.specs.declared.ending.End.{End}
+use Rattle.prof_machine.specs.declared.ending.End.TheVariants.{Budget, Exit, Trap}
+use Rattle.prof_machine.specs.declared.machine.Machine.{Machine}
+
+pub total : List ℕ → ℕ
+total [] = 0
+total (x ∷ xs) = x + total xs
+
+total_set : (xs : List ℕ) (h k : ℕ) → total (set xs h k) + left_of xs h ≤ total xs + k
+unfolding total
+total_set [] h k = omega arith
+total_set (x ∷ xs) zero k = omega arith
+total_set (x ∷ xs) (suc h) k = let rest = total_set xs h k in omega (arith, rest)
+
+pub total_zeros : (n : ℕ) → total (replicate n 0) ≡ 0
+unfolding total
+total_zeros zero = refl
+total_zeros (suc n) = let rest = total_zeros n in omega (arith, rest)
+
+-- no call takes more looks
+abbrev pub Short : Machine → Type 0
+Short m = (log : List LogEntry) (slot to : ℕ) → looks_of m.sizes log slot to ≤ 65533
+
+-- after an instruction, if the run goes on
+abbrev Untouched : World → World → Type 0
+Untouched w v = v.ending ≡ None → (v.retired ≡ w.retired + 1) × (v.left ≡ w.left)
+
+abbrev Longer : World → World → Type 0
+Longer w v = v.ending ≡ None → (v.retired ≡ w.retired + 1) × (total v.left ≤ total w.left + 65533)
+
+never : {A : Type 0} (o : Option End) (end : End) → o ≡ Some end → o ≡ None → A
+never o end is none = absurd cc
+
+untouched_executed : (m : Machine) (h : ℕ) (w : World) → Untouched w (executed m h w)
+untouched_executed m h w = elim (by_executed m h w) [
+    | inl p ↦ λ going. (p.0, p.3)
+    | inr q ↦ elim q [
+      | inl p ↦ λ going. never (executed m h w).ending (Exit p.1.0) p.1.1 going
+      | inr p ↦ λ going. never (executed m h w).ending (Trap p.1.0 p.1.1) p.1.2 going
+    ]
+  ]
+
+sampled_parts : (w : World) (pc : ℕ) (b : Bool) → ((if b then with_entry (Sample pc) w else w).retired ≡ w.retired) × ((if b then with_entry (Sample pc) w else w).left ≡ w.left)
+sampled_parts w pc true = (refl, refl)
+sampled_parts w pc false = (refl, refl)
+
+untouched_sampled : (m : Machine) (h : ℕ) (w v : World) → v.ending ≡ None → Untouched w v → Untouched w (sampled m h v)
+unfolding sampled
+untouched_sampled m h w v on so_far = λ going.
+    let p = sampled_parts v (hart_of v.harts h).pc (eqb (v.retired % m.setup.every) 0) in
+    let q = so_far on in
+    (p.0 ∙ q.0, p.1 ∙ q.1)
+
+longer_arrived : (m : Machine) (h : ℕ) (w v : World) → Short m → v.ending ≡ None → Untouched w v → Longer w (arrived m h v)
+longer_arrived m h w v short on so_far = λ going.
+    let p = by_arrived m h v in
+    let q = so_far on in
+    let left : total v.left ≡ total w.left = ap total q.1 in
+    (p.0 ∙ q.0, elim p.3 [
+      | inl is ↦ omega (arith, ap total is, left)
+      | inr t ↦ omega (arith, ap total t.2, left, total_set v.left h (looks_of m.sizes v.log t.0 t.1), short v.log t.0 t.1)
+    ])
+
+longer_spent : (m : Machine) (w v : World) → v.ending ≡ None → Longer w v → Longer w (spent m v)
+unfolding spent
+longer_spent m w v on so_far = by_test (eqb v.retired m.setup.budget)
+  where
+    by_test : (b : Bool) → Longer w (if b then record v { ending = Some Budget } else v)
+    by_test true = λ going. absurd cc
+    by_test false = so_far
+
+longer_instructed : (m : Machine) (h : ℕ) (w : World) → Short m → Longer w (instructed m h w)
+unfolding instructed
+longer_instructed m h w short =
+    let a = executed m h w in
+    let b = while_going (sampled m h) a in
+    let c = while_going (arrived m h) b in
+    let first : Untouched w b = by_going (sampled m h) a (λ v. Untouched w v) (λ on. untouched_sampled m h w a on (untouched_executed m h w)) (λ end off. λ going. never a.ending end off going) in
+    let second : Longer w c = by_going (arrived m h) b (λ v. Longer w v) (λ on. longer_arrived m h w b short on first) (λ end off. λ going. never b.ending end off going) in
+    by_going (spent m) c (λ v. Longer w v) (λ on. longer_spent m w c on second) (λ end off. λ going. never c.ending end off going)
+
+-- what is left of the budget, in turns
+unfoldable pub room_of : Machine → World → ℕ
+room_of m w = 65535 * (m.setup.budget - w.retired) + total w.left
+
+less_taken : (m : Machine) (h n : ℕ) (w : World) → Short m → w.retired < m.setup.budget → left_of w.left h ≡ n → (taken m h n w).ending ≡ None → room_of m (taken m h n w) < room_of m w
+unfolding room_of
+less_taken m h zero w short few is going = let p = longer_instructed m h w short going in omega (arith, p.0, p.1, few)
+less_taken m h (suc zero) w short few is going =
+    let v : World = record (with_entry WalkDone w) { left = set w.left h 0 } in
+    let r = by_returned h v in
+    omega (arith, r.0, ap total r.3, total_set w.left h 0, is)
+less_taken m h (suc (suc n)) w short few is going = omega (arith, total_set w.left h (suc n), is)
+
+closed_ending : (w : World) → (closed w).ending ≡ w.ending
+unfolding closed
+closed_ending w = by_test (is_some w.ending && list_any (λ n. nat_lt 0 n) w.left)
+  where
+    by_test : (b : Bool) → (if b then record (with_entry WalkDone w) { left = map (λ n. 0) w.left } else w).ending ≡ w.ending
+    by_test true = refl
+    by_test false = refl
+
+-- a turn after which the run goes on leaves fewer
+pub less_turn : (m : Machine) (w : World) (h : ℕ) → Short m → w.retired < m.setup.budget → w.ending ≡ None → (turn_of m w h).ending ≡ None → room_of m (turn_of m w h) < room_of m w
+unfolding turn_of
+less_turn m w h short few live going =
+    let f : World → World = λ v. closed (taken m h (left_of v.left h) v) in
+    let x = taken m h (left_of w.left h) w in
+    let turn : while_going f w ≡ closed x = going_stage f w live in
+    let x_going : x.ending ≡ None = sym (closed_ending x) ∙ ap (λ (v : World). v.ending) (sym turn) ∙ going in
+    let same : room_of m (while_going f w) ≡ room_of m x = ap (room_of m) (turn ∙ closed_going x x_going) in
+    omega (arith, same, less_taken m h (left_of w.left h) w short few refl x_going)
+
+-- turns after which the run goes on are not more than there was room for
+abbrev Fits : Machine → World → List ℕ → Type 0
+Fits m w turns = length turns + room_of m (world_after m w turns) ≤ room_of m w
+
+fits_live : (m : Machine) (w : World) (h : ℕ) (turns : List ℕ) → Short m → Timed m w w.ending → Fits m (turn_of m w h) turns → (turn_of m w h).ending ≡ None → (o : Option End) → w.ending ≡ o → Fits m w (h ∷ turns)
+fits_live m w h turns short timed rest is (Some end) ended = never (turn_of m w h).ending end (ap (λ (v : World). v.ending) (ended_turn m w h end ended) ∙ ended) is
+fits_live m w h turns short timed rest is None live =
+    let less = less_turn m w h short (at_none m w live timed).1 live is in
+    omega (arith, rest, less)
+
+fits_next : (m : Machine) (w : World) (h : ℕ) (turns : List ℕ) → Short m → Timed m w w.ending → Fits m (turn_of m w h) turns → (world_after m w (h ∷ turns)).ending ≡ None → (o : Option End) → (turn_of m w h).ending ≡ o → Fits m w (h ∷ turns)
+fits_next m w h turns short timed rest going (Some end) is = never (world_after m w (h ∷ turns)).ending end (ap (λ (v : World). v.ending) (ended_stays m (turn_of m w h) turns end is) ∙ is) going
+fits_next m w h turns short timed rest going None is = fits_live m w h turns short timed rest is w.ending refl
+
+pub room_after : (m : Machine) (w : World) (turns : List ℕ) → 1 ≤ m.setup.every → Short m → Timed m w w.ending → (world_after m w turns).ending ≡ None → length turns + room_of m (world_after m w turns) ≤ room_of m w
+room_after m w [] some short timed going = omega arith
+room_after m w (h ∷ turns) some short timed going =
+    fits_next m w h turns short timed (room_after m (turn_of m w h) turns some short (timed_turn m w h some timed) going) going (turn_of m w h).ending refl

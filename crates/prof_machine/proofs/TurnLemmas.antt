@@ -1,0 +1,51 @@
+-- A turn, stage by stage, in the world that a run stands for.
+use Rattle.std.specs.Prelude.{Err, Ok, OnErr, OnOk, Result}
+use Rattle.std.proofs.Common.{None, ap, false, refl, subst, sym, zero, ℕ, ◌∙◌, ◌≡◌}
+use Rattle.prof_machine.proofs.PrintLemmas.{prints_closed}
+use Rattle.prof_machine.proofs.StandingLemmas.{stands_going}
+use Rattle.prof_machine.proofs.WalkLemmas.{left_none, taken_by}
+use Rattle.prof_machine.proofs.WorldLemmas.{going_stage}
+use Rattle.prof_machine.specs.Stages.{holds}
+use Rattle.prof_machine.specs.Turn.{arrived, closed, executed, instructed, sampled, spent, taken, turn_of, while_going}
+use Rattle.prof_machine.specs.Value.{RunValue, StandsFor}
+use Rattle.prof_machine.specs.World.{World, left_of}
+use Rattle.prof_machine.specs.declared.machine.Machine.{Machine}
+
+-- ---- answers
+
+pub on_ok : (T E : Type 0) (r : Result T E) (P Q : Type 0) → (P → Q) → OnOk r P → OnOk r Q
+on_ok T E (Ok x) P Q f p = f p
+on_ok T E (Err e) P Q f p = tt
+
+pub on_err : (T E : Type 0) (r : Result T E) (P Q : Type 0) → (P → Q) → OnErr r P → OnErr r Q
+on_err T E (Ok x) P Q f p = tt
+on_err T E (Err e) P Q f p = f p
+
+pub on_err_any : (T E : Type 0) (r : Result T E) (P : Type 0) → P → OnErr r P
+on_err_any T E (Ok x) P p = tt
+on_err_any T E (Err e) P p = p
+
+-- ---- the stages one after the other
+
+pub instructed_stands : (m m1 m2 m3 : Machine) (h : ℕ) (w : World) (r : RunValue) → m1 ≡ m → m2 ≡ m → m3 ≡ m → StandsFor (while_going (spent m3) (while_going (arrived m2 h) (while_going (sampled m1 h) (executed m h w)))) r → StandsFor (instructed m h w) r
+unfolding instructed
+instructed_stands m m1 m2 m3 h w r p q s stands =
+    let P : Machine → Type 0 = λ x. StandsFor (while_going (spent x) (while_going (arrived m2 h) (while_going (sampled m1 h) (executed m h w)))) r in
+    let Q : Machine → Type 0 = λ x. StandsFor (while_going (spent m) (while_going (arrived x h) (while_going (sampled m1 h) (executed m h w)))) r in
+    let R : Machine → Type 0 = λ x. StandsFor (while_going (spent m) (while_going (arrived m h) (while_going (sampled x h) (executed m h w)))) r in
+    subst R p (subst Q q (subst P s stands))
+
+-- ---- the whole turn
+
+pub turn_stands : (m : Machine) (h : ℕ) (w : World) (old new : RunValue) → old.ending ≡ None → StandsFor w old → StandsFor (closed (taken m h (left_of w.left h) w)) new → StandsFor (turn_of m w h) new
+unfolding turn_of
+turn_stands m h w old new going stands after = stands_going (λ v. closed (taken m h (left_of v.left h) v)) w old new stands going after
+
+pub turn_prints : (m : Machine) (h : ℕ) (w : World) (old : RunValue) → old.ending ≡ None → StandsFor w old → (turn_of m w h).prints ≡ (taken m h (left_of w.left h) w).prints
+unfolding turn_of
+turn_prints m h w old going stands =
+    ap (λ (v : World). v.prints) (going_stage (λ v. closed (taken m h (left_of v.left h) v)) w (sym stands.ending ∙ going)) ∙ prints_closed (taken m h (left_of w.left h) w)
+
+-- of a hart that holds no walk
+pub taken_instructed : (m : Machine) (h : ℕ) (w : World) (r : RunValue) → holds r.flight h ≡ false → StandsFor w r → taken m h (left_of w.left h) w ≡ instructed m h w
+taken_instructed m h w r none stands = taken_by m h zero w (left_none w r h r.flight refl none stands)

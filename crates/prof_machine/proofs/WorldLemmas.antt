@@ -1,0 +1,146 @@
+-- The stages of a turn, on worlds alone: what each leaves, by cases.
+use Rattle.std.proofs.Common.{◌%◌, ◌&&◌, ◌+◌, ◌++◌, Bool, List, None, Option, Some, [], ap, arith, cond, eqb, false, inl, inr, map, refl, set, true, ℕ, ◌∙◌, ◌∷◌, ◌≡◌, if◌then◌else◌}
+use Rattle.std.specs.Option.{IsSome}
+use Rattle.std.specs.List.{count_by, list_any}
+use Rattle.std.specs.Prelude.{is_some, nat_lt, ◌⊎◌}
+use Rattle.std.proofs.lemmas.List.Sums.{sum_by_push}
+use Rattle.mcount_arcs.specs.Arcs.{looks_of}
+use Rattle.mcount_arcs.specs.Log.{CallIgnored, CallLost, Enter, LogEntry, Mode, WalkDone, state_of}
+use Rattle.mcount_arcs.specs.Value.{meets}
+use Rattle.mcount_arcs.specs.declared.walk.Entered.{Entered}
+use Rattle.mcount_arcs.specs.declared.walk.Entered.TheVariants.{Ignored, Lost, Walking}
+use Rattle.rv_step.specs.Memory.{Memory}
+use Rattle.rv_step.specs.Registers.{Registers, register}
+use Rattle.rv_step.specs.Step.{step_of}
+use Rattle.rv_step.specs.declared.stepped.Stepped.{Stepped}
+use Rattle.rv_step.specs.declared.stepped.Stepped.TheVariants.{Ecall, Retired, Trap as Trapped}
+use Rattle.rv_step.specs.declared.stepped.TrapKind.{TrapKind}
+use Rattle.rv_step.specs.declared.stepped.TrapKind.TheVariants.{JumpMisaligned}
+use Rattle.prof_machine.specs.Ecalls.{ecall_of}
+use Rattle.prof_machine.specs.Turn.{after_call, after_ecall, after_entering, after_step, arrived, closed, executed, is_at, returned, target_of, turn_of, while_going, with_entry, world_after}
+use Rattle.prof_machine.specs.Value.{is_sample}
+use Rattle.prof_machine.specs.World.{World, hart_of}
+use Rattle.prof_machine.specs.declared.ecalls.Call.{Call}
+use Rattle.prof_machine.specs.declared.ecalls.Call.TheVariants.{Answers, Exits, Prints, SetsBreak}
+use Rattle.prof_machine.specs.declared.ending.End.{End}
+use Rattle.prof_machine.specs.declared.ending.End.TheVariants.{Exit, Trap}
+use Rattle.prof_machine.specs.declared.machine.Machine.{Machine}
+
+-- how a run ended, where it has
+pub the_end : (o : Option End) → IsSome o → (end : End) × (o ≡ Some end)
+the_end None is = absurd cc
+the_end (Some end) is = (end, refl)
+
+pub going_stage : (f : World → World) (w : World) → w.ending ≡ None → while_going f w ≡ f w
+unfolding while_going
+going_stage f w is = ap (λ (o : Option End). if is_some o then w else f w) is
+
+pub ended_stage : (f : World → World) (w : World) → IsSome w.ending → while_going f w ≡ w
+unfolding while_going
+ended_stage f w is = ap (λ (o : Option End). if is_some o then w else f w) (the_end w.ending is).1
+
+-- it hasn't ended
+pub closed_going : (w : World) → w.ending ≡ None → closed w ≡ w
+unfolding closed
+closed_going w is = ap (λ (o : Option End). if is_some o && list_any (λ k. nat_lt 0 k) w.left then record (with_entry WalkDone w) { left = map (λ n. 0) w.left } else w) is
+
+
+going_by : (f : World → World) (w : World) (Q : World → Type 0) (o : Option End) → w.ending ≡ o → (w.ending ≡ None → Q (f w)) → ((end : End) → w.ending ≡ Some end → Q w) → Q (if is_some o then w else f w)
+going_by f w Q None is on off = on is
+going_by f w Q (Some end) is on off = off end is
+
+-- a stage, by whether the run goes on
+pub by_going : (f : World → World) (w : World) (Q : World → Type 0) → (w.ending ≡ None → Q (f w)) → ((end : End) → w.ending ≡ Some end → Q w) → Q (while_going f w)
+unfolding while_going
+by_going f w Q on off = going_by f w Q w.ending refl on off
+
+-- an instruction retires, traps or exits
+abbrev WentOn : World → World → Type 0
+WentOn w v = (v.retired ≡ w.retired + 1) × (v.ending ≡ w.ending) × (v.log ≡ w.log) × (v.left ≡ w.left)
+
+abbrev Exited : World → World → Type 0
+Exited w v = (v.retired ≡ w.retired + 1) × ((status : ℕ) × (v.ending ≡ Some (Exit status))) × (v.log ≡ w.log) × (v.left ≡ w.left)
+
+abbrev HasTrapped : World → World → Type 0
+HasTrapped w v = (v.retired ≡ w.retired) × ((kind : TrapKind) × (pc : ℕ) × (v.ending ≡ Some (Trap kind pc))) × (v.log ≡ w.log) × (v.left ≡ w.left)
+
+by_call : (h : ℕ) (w : World) (call : Call) → WentOn w (after_call h call w) ⊎ Exited w (after_call h call w)
+by_call h w (Answers n) = inl (refl, refl, refl, refl)
+by_call h w (SetsBreak to) = inl (refl, refl, refl, refl)
+by_call h w (Prints d from n) = inl (refl, refl, refl, refl)
+by_call h w (Exits status) = inr (refl, (status, refl), refl, refl)
+
+by_ecall : (m : Machine) (h : ℕ) (w : World) → WentOn w (after_ecall m h w) ⊎ Exited w (after_ecall m h w)
+unfolding after_ecall
+by_ecall m h w = by_call h w (ecall_of m (hart_of w.harts h) w.memory w.break_at)
+
+left_side : {A B C : Type 0} → A ⊎ B → A ⊎ (B ⊎ C)
+left_side (inl a) = inl a
+left_side (inr b) = inr (inl b)
+
+by_step : (m : Machine) (h : ℕ) (w : World) (answer : Stepped) (s : Registers) (memory : Memory)
+    → WentOn w (after_step m h answer s memory w) ⊎ (Exited w (after_step m h answer s memory w) ⊎ HasTrapped w (after_step m h answer s memory w))
+by_step m h w Retired s memory = inl (refl, refl, refl, refl)
+by_step m h w Ecall s memory = left_side (by_ecall m h w)
+by_step m h w (Trapped kind) s memory = inr (inr (refl, (kind, (hart_of w.harts h).pc, refl), refl, refl))
+
+pub by_executed : (m : Machine) (h : ℕ) (w : World) → WentOn w (executed m h w) ⊎ (Exited w (executed m h w) ⊎ HasTrapped w (executed m h w))
+unfolding executed
+by_executed m h w = let o = step_of (hart_of w.harts h) w.memory in by_step m h w o.answer o.registers o.memory
+
+-- a hart is at no hook, or returns from one, or begins to enter a call
+abbrev Returned : World → World → Type 0
+Returned w v = (v.retired ≡ w.retired) × ((v.ending ≡ w.ending) ⊎ ((kind : TrapKind) × (pc : ℕ) × (v.ending ≡ Some (Trap kind pc)))) × (v.log ≡ w.log) × (v.left ≡ w.left)
+
+returned_test : (h : ℕ) (w : World) (harts : List Registers) (pc : ℕ) (b : Bool) → Returned w (if b then record w { harts = harts } else record w { ending = Some (Trap JumpMisaligned pc) })
+returned_test h w harts pc true = (refl, inl refl, refl, refl)
+returned_test h w harts pc false = (refl, inr (JumpMisaligned, pc, refl), refl, refl)
+
+pub by_returned : (h : ℕ) (w : World) → Returned w (returned h w)
+unfolding returned
+by_returned h w = let s = hart_of w.harts h in returned_test h w (set w.harts h (record s { pc = target_of s })) s.pc (eqb (target_of s % 4) 0)
+
+-- what is served adds at most one entry, which is no sample
+abbrev Served : Machine → ℕ → World → World → Type 0
+Served m h w v =
+    (v.retired ≡ w.retired) × ((v.ending ≡ w.ending) ⊎ ((kind : TrapKind) × (pc : ℕ) × (v.ending ≡ Some (Trap kind pc)))) × (count_by is_sample v.log ≡ count_by is_sample w.log)
+    × ((v.left ≡ w.left) ⊎ ((slot : ℕ) × (to : ℕ) × (v.left ≡ set w.left h (looks_of m.sizes w.log slot to))))
+
+pub no_sample : (log : List LogEntry) (e : LogEntry) → is_sample e ≡ false → count_by is_sample (log ++ e ∷ []) ≡ count_by is_sample log
+no_sample log e is = sum_by_push (λ x. cond (is_sample x) 1 0) log e ∙ ap (λ (b : Bool). count_by is_sample log + cond b 1 0) is ∙ omega arith
+
+back_from : (m : Machine) (h : ℕ) (w : World) (e : LogEntry) → is_sample e ≡ false → Served m h w (returned h (with_entry e w))
+back_from m h w e is =
+    let r = by_returned h (with_entry e w) in
+    (r.0, r.1, ap (count_by is_sample) r.2 ∙ no_sample w.log e is, inl r.3)
+
+by_entering : (m : Machine) (h from to : ℕ) (w : World) (e : Entered) → Served m h w (after_entering m h from to e w)
+by_entering m h from to w (Walking walk) = (refl, inl refl, no_sample w.log (Enter from to) refl, inr (walk.slot, to, refl))
+by_entering m h from to w Lost = back_from m h w (CallLost from to) refl
+by_entering m h from to w Ignored = back_from m h w (CallIgnored from to) refl
+
+by_hooks : (m : Machine) (h : ℕ) (w u v : World) (b c : Bool) → Served m h w u → Served m h w v → Served m h w (if b then u else (if c then v else w))
+by_hooks m h w u v true c p q = p
+by_hooks m h w u v false true p q = q
+by_hooks m h w u v false false p q = (refl, inl refl, refl, inl refl)
+
+pub by_arrived : (m : Machine) (h : ℕ) (w : World) → Served m h w (arrived m h w)
+unfolding arrived
+by_arrived m h w =
+    let s = hart_of w.harts h in
+    by_hooks m h w _ _ (is_at m.mcount s.pc) (is_at m.moncontrol s.pc) (by_entering m h (register s 10) (register s 1) w (meets m.sizes (state_of m.sizes w.log) (register s 10) (register s 1))) (back_from m h w (Mode _) refl)
+
+-- ---- turns one after the other
+
+pub world_after-append : (m : Machine) (w : World) (front back : List ℕ) → world_after m w (front ++ back) ≡ world_after m (world_after m w front) back
+world_after-append m w [] back = refl
+world_after-append m w (h ∷ front) back = world_after-append m (turn_of m w h) front back
+
+-- a world in which the run has ended stays
+pub ended_turn : (m : Machine) (w : World) (h : ℕ) (end : End) → w.ending ≡ Some end → turn_of m w h ≡ w
+unfolding turn_of
+ended_turn m w h end is = ended_stage _ w cc
+
+pub ended_stays : (m : Machine) (w : World) (turns : List ℕ) (end : End) → w.ending ≡ Some end → world_after m w turns ≡ w
+ended_stays m w [] end is = refl
+ended_stays m w (h ∷ turns) end is = ap (λ (v : World). world_after m v turns) (ended_turn m w h end is) ∙ ended_stays m w turns end is

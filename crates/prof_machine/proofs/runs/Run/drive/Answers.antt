@@ -1,0 +1,85 @@
+use Rattle.std.proofs.Common.{◌≡◌, ◌∙◌, ◌+◌, ◌<◌, ◌≤◌, None, true, refl, sym, ap, subst, arith}
+use Rattle.host_port.proofs.Laws.{KeepsCounts-same, KeepsCounts-then, KeepsInput-same, KeepsInput-then}
+use Rattle.prof_machine.proofs.ActLemmas.{breaks_after, failed_after, nothing_printed, printed_then}
+use Rattle.prof_machine.proofs.DriveLemmas.{ended_answer, going_answer, in_first, in_last, in_next, work_bound}
+use Rattle.prof_machine.proofs.TurnLemmas.{on_err_any}
+use Rattle.prof_machine.specs.Plan.{most_turns}
+use Rattle.prof_machine.specs.Prints.{ArePrinted, BreaksOff}
+use Rattle.prof_machine.specs.Schedule.{Draws}
+use Rattle.prof_machine.specs.Value.{RunValue, StandsFor, work_left}
+use Rattle.prof_machine.specs.World.{World}
+use Rattle.prof_machine.proofs.runs.Run.drive.Goals as goal
+
+pub loop-end-init : goal.loop-end-init
+loop-end-init g c =
+    let m = c.args.self.now.machine in
+    let P : RunValue → Type 0 = λ v. work_left v ≤ most_turns v.machine.setup in
+    let bound = subst P c.self.view_is (work_bound c.self.inside c.self.invariant) in
+    let G : RunValue → Type 0 = λ v. v.live ≡ true → v.ending ≡ None in
+    record {
+      live = c.requires;
+      going = subst G c.self.view_is c.self.invariant.going c.requires;
+      machine = refl;
+      turns = 0;
+      draws = subst (λ (v : RunValue). Draws v.machine.setup 0 c.of-schedule.result) c.self.view_is c.of-schedule.ensures.draws;
+      within = c.of-schedule.ensures.within;
+      few = omega (arith, bound);
+      stands = λ w st. in_first (λ v. StandsFor v c.args.self.now) m w st;
+      prints = λ w st. (let o = g.H.Host.outside c.args.host.now in in_first (λ v. ArePrinted w v o o) m w (nothing_printed w w o refl));
+      counts = KeepsCounts-same _;
+      writing = refl;
+      input = KeepsInput-same _;
+    }
+
+pub loop-end-preserved : goal.loop-end-preserved
+loop-end-preserved g c =
+    let m = c.args.self.now.machine in
+    let i = c.loop-end.invariant in
+    let t = c.in_ok-turn.ensures in
+    let hart = c.next_hart-hart.ensures in
+    let live = t.live.1 cc in
+    record {
+      live = live;
+      going = going_answer c.turn.new.self.ending (sym t.answer ∙ c.in-Going.is);
+      machine = t.machine ∙ i.machine;
+      turns = i.turns + 1;
+      draws = hart.draws _ _ i.draws;
+      within = hart.within;
+      few = omega (arith, i.few, t.less live);
+      stands = λ w st. in_next (λ v. StandsFor v c.turn.new.self) m c.loop-end.self.machine w i.turns c.next_hart-hart.result i.machine (hart.taker _ _ i.draws) (t.stands _ (i.stands w st));
+      prints = λ w st. in_next (λ v. ArePrinted w v (g.H.Host.outside c.args.host.now) (g.H.Host.outside c.turn.new.host)) m c.loop-end.self.machine w i.turns c.next_hart-hart.result i.machine (hart.taker _ _ i.draws)
+          (printed_then w _ _ _ _ _ (i.prints w st) (t.prints _ (i.stands w st)));
+      counts = KeepsCounts-then _ _ _ i.counts t.counts;
+      writing = t.writing ∙ i.writing;
+      input = KeepsInput-then _ _ _ i.input t.input;
+    }
+
+pub returns-in-Ended-clause-stands : goal.returns-in-Ended-clause-stands
+returns-in-Ended-clause-stands g c = λ w st.
+    let m = c.args.self.now.machine in
+    let i = c.loop-end.invariant in
+    let t = c.in_ok-turn.ensures in
+    let P : World → Type 0 = λ v. StandsFor v c.turn.new.self in
+    let stands = in_next P m c.loop-end.self.machine w i.turns c.next_hart-hart.result i.machine (c.next_hart-hart.ensures.taker _ _ i.draws) (t.stands _ (i.stands w st)) in
+    in_last P m w c.turn.new.self (i.turns + 1) c.in-Ended.end (omega (arith, i.few, t.left)) (ended_answer c.turn.new.self.ending c.in-Ended.end (sym t.answer ∙ c.in-Ended.is)) stands stands
+
+pub returns-in-Ended-clause-prints : goal.returns-in-Ended-clause-prints
+returns-in-Ended-clause-prints g c = λ w st.
+    let m = c.args.self.now.machine in
+    let i = c.loop-end.invariant in
+    let t = c.in_ok-turn.ensures in
+    let P : World → Type 0 = λ v. StandsFor v c.turn.new.self in
+    let Q : World → Type 0 = λ v. ArePrinted w v (g.H.Host.outside c.args.host.now) (g.H.Host.outside c.turn.new.host) in
+    in_last Q m w c.turn.new.self (i.turns + 1) c.in-Ended.end (omega (arith, i.few, t.left)) (ended_answer c.turn.new.self.ending c.in-Ended.end (sym t.answer ∙ c.in-Ended.is))
+    (in_next P m c.loop-end.self.machine w i.turns c.next_hart-hart.result i.machine (c.next_hart-hart.ensures.taker _ _ i.draws) (t.stands _ (i.stands w st)))
+    (in_next Q m c.loop-end.self.machine w i.turns c.next_hart-hart.result i.machine (c.next_hart-hart.ensures.taker _ _ i.draws) (printed_then w _ _ _ _ _ (i.prints w st) (t.prints _ (i.stands w st))))
+
+pub returns-in_err-turn-clause-fails : goal.returns-in_err-turn-clause-fails
+returns-in_err-turn-clause-fails g c = on_err_any _ _ c.from_residual.result _ (λ w st.
+    let m = c.args.self.now.machine in
+    let i = c.loop-end.invariant in
+    let t = c.in_err-turn.ensures in
+    let Q : World → Type 0 = λ v. BreaksOff w v (g.H.Host.outside c.args.host.now) (g.H.Host.outside c.turn.new.host) in
+    (i.turns, omega (arith, i.few, t.left), sym (i.stands w st).ending ∙ i.going,
+    in_next Q m c.loop-end.self.machine w i.turns c.next_hart-hart.result i.machine (c.next_hart-hart.ensures.taker _ _ i.draws)
+    (breaks_after w _ _ _ _ _ (i.prints w st) i.counts (t.fails _ (i.stands w st)))))

@@ -1,0 +1,224 @@
+//! A run, from its start to its end.
+
+ghost use Rattle.std.specs.Prelude.{◌≡◌, ◌+◌, ◌^◌, ◌<◌, ◌≤◌, ◌↔◌, ℕ, length, map, None, Some, Ok, IfOk, IfErr, OnOk, OnErr, IsSome, IsTrue, MatchResult};
+ghost use Rattle.std.specs.List.{range_with_len};
+ghost use Rattle.elf32_syms.specs.Image.{IsWithinLimits};
+ghost use Rattle.host_port.specs.Outside.{KeepsCounts, KeepsInput};
+ghost use Rattle.mcount_arcs.specs.Value.{StandsFor as RuntimeStandsFor};
+ghost use Rattle.prof_machine.specs.declared.ending.Turned.TheVariants.{Going};
+ghost use Rattle.prof_machine.specs.Setup.{IsSetup};
+ghost use Rattle.prof_machine.specs.Start.{IsRefusal, first_registers as first_registers_of, machine_of, stacks_bytes, start_of, start_refusal};
+ghost use Rattle.prof_machine.specs.Turn.{turn_of};
+ghost use Rattle.prof_machine.specs.Plan.{driven, most_turns, planned};
+ghost use Rattle.prof_machine.specs.Prints.{ArePrinted, BreaksOff, PrintFailed};
+ghost use Rattle.prof_machine.specs.Value.{IsLive, StandsFor, summary_of, turned_of, work_left};
+ghost use Rattle.prof_machine.specs.World.{World};
+
+use crate::ending::{End, RunSummary, StartRefusal, Turned};
+use crate::flight::Flight;
+use crate::layout::{Layout, first_registers};
+use crate::machine::Machine;
+use crate::schedule::Schedule;
+use crate::setup::Setup;
+use elf32_syms::Image;
+use host_port::{Failed, Host};
+use mcount_arcs::Gmon;
+use rv_step::{Ram, Regs};
+use std::alloc::{AllocError, Global};
+use std::marker::Model;
+
+/// A run of a program: harts that take turns on one memory. Contracts see its parts, and the world that
+/// it stands for, which has besides all that has happened.
+#[derive(Drop)]
+pub struct Run {
+    pub(crate) machine: Machine,
+    pub(crate) harts: Vec<Regs>,
+    // The call that is being entered.
+    pub(crate) flight: Option<Flight>,
+    pub(crate) ram: Ram,
+    pub(crate) break_at: u32,
+    pub(crate) retired: u32,
+    // Instructions up to the next sample.
+    pub(crate) due: u32,
+    // Samples that counted, and calls that were lost.
+    pub(crate) samples: u32,
+    pub(crate) lost: u32,
+    pub(crate) ending: Option<End>,
+    // It can take a turn: false also within a turn, and so after one that failed.
+    pub(crate) live: bool,
+    pub(crate) gmon: Gmon,
+}
+
+impl Model for Run {
+    ghost use Rattle.prof_machine.specs.Value.{RunValue, value_of, IsHeld};
+
+    ghost Value = { RunValue };
+
+    ghost view = { value_of };
+
+    ghost invariant = { IsHeld };
+}
+
+impl Run {
+    /// A run of a program before its first turn. `image` is that of the file's `bytes`, and `setup` within
+    /// its limits.
+    ///
+    /// Memory begins at the lowest address of a segment, rounded down to 4,096 bytes. It is refused, in
+    /// this order, where the program and 2,097,152 bytes of stacks don't fit into it or it ends above
+    /// 2^32; and where the entry is no multiple of 4 or not in it. Only this call takes memory.
+    #[tactic(auto, using(crate::proofs::ClockLemmas::first))]
+    pub fn start(
+        alloc: Global,
+        image: &Image,
+        bytes: &[u8],
+        setup: Setup,
+    ) -> Result<Run, StartRefusal>
+        requires limits { IsWithinLimits (length bytes.now) image.now }
+        requires setup { IsSetup setup }
+        ensures refusal { IfErr result (λ e. IsRefusal e (start_refusal image.now setup)) }
+        ensures accepted { OnOk result (start_refusal image.now setup ≡ None) }
+        ensures stands { IfOk result (StandsFor (start_of image.now bytes.now setup)) }
+        ensures live { IfOk result IsLive }
+        ensures machine { IfOk result (λ run. run.machine ≡ machine_of image.now setup) }
+    {
+        let layout = Layout::of(image, setup)?;
+        let mut ram = Ram::new(alloc, layout.base, layout.size)?;
+        ram.load_image(image, bytes);
+        let machine = Machine::of(image, setup, layout);
+        Ok(Run {
+            machine,
+            harts: first_harts(alloc, image.entry, layout.end, setup.harts)?,
+            flight: None,
+            ram,
+            break_at: machine.first_break,
+            retired: 0,
+            due: setup.every,
+            samples: 0,
+            lost: 0,
+            ending: None,
+            live: true,
+            gmon: Gmon::startup(alloc, image.text)?,
+        })
+    }
+
+    /// One turn of a hart: a look of its walk, or one instruction with its sample and its hook. What the
+    /// program prints is printed. `Failed` comes only where this failed; then the run isn't live. Takes
+    /// no memory.
+    pub fn turn<H: Host>(&mut self, hart: u32, host: &mut H) -> Result<Turned, Failed>
+        requires live { IsLive self.old }
+        requires hart { hart < self.old.machine.setup.harts }
+        ensures stands { OnOk result ((w : World) → StandsFor w self.old → StandsFor (turn_of self.old.machine w hart) self.new) }
+        ensures answer { IfOk result (λ turned. turned ≡ turned_of self.new.ending) }
+        ensures live { IsLive self.new ↔ (result ≡ Ok Going) }
+        ensures machine { self.new.machine ≡ self.old.machine }
+
+        // What the outside has gained.
+        ensures prints { OnOk result ((w : World) → StandsFor w self.old
+            → ArePrinted w (turn_of self.old.machine w hart) (H.outside host.old) (H.outside host.new)) }
+        ensures fails { OnErr result ((w : World) → StandsFor w self.old
+            → BreaksOff w (turn_of self.old.machine w hart) (H.outside host.old) (H.outside host.new)) }
+        ensures counts { MatchResult result (λ _. KeepsCounts (H.outside host.old) (H.outside host.new)) (λ _. PrintFailed (H.outside host.old) (H.outside host.new)) }
+        ensures writing { (H.outside host.new).is_writing ≡ (H.outside host.old).is_writing }
+        ensures input { KeepsInput (H.outside host.old) (H.outside host.new) }
+
+        // A run has only so many turns left.
+        ensures left { 0 < work_left self.old }
+        ensures less { IsLive self.new → work_left self.new < work_left self.old }
+    {
+        self.live = false;
+        if self.holds_walk(hart) {
+            self.look(hart);
+        } else {
+            self.instruct(hart, host)?;
+        }
+        self.close();
+        self.live = self.ending.is_none();
+        Ok(self.turned())
+    }
+
+    /// The turns of the plan, from its first one on, up to the end of the run. What the program prints is
+    /// printed. `Failed` comes only where this failed; then the run isn't live. Takes no memory.
+    pub fn drive<H: Host>(&mut self, host: &mut H) -> Result<End, Failed>
+        requires { IsLive self.old }
+        ensures stands { OnOk result ((w : World) → StandsFor w self.old → StandsFor (driven self.old.machine w) self.new) }
+        ensures answer { IfOk result (λ end. self.new.ending ≡ Some end) }
+        ensures live { IsLive self.new → ⊥ }
+        ensures machine { self.new.machine ≡ self.old.machine }
+
+        // What the outside has gained. A print fails in a turn of the plan before which the run hasn't ended.
+        ensures prints { OnOk result ((w : World) → StandsFor w self.old
+            → ArePrinted w (driven self.old.machine w) (H.outside host.old) (H.outside host.new)) }
+        ensures fails { OnErr result ((w : World) → StandsFor w self.old
+            → (n : ℕ) × (n < most_turns self.old.machine.setup) × ((planned self.old.machine w n).ending ≡ None)
+            × BreaksOff w (planned self.old.machine w (n + 1)) (H.outside host.old) (H.outside host.new)) }
+        ensures counts { MatchResult result (λ _. KeepsCounts (H.outside host.old) (H.outside host.new)) (λ _. PrintFailed (H.outside host.old) (H.outside host.new)) }
+        ensures writing { (H.outside host.new).is_writing ≡ (H.outside host.old).is_writing }
+        ensures input { KeepsInput (H.outside host.old) (H.outside host.new) }
+    {
+        let mut schedule = Schedule::of(self.machine.setup);
+        loop {
+            let hart = schedule.next_hart();
+            match self.turn(hart, host)? {
+                Turned::Going => {}
+                Turned::Ended(end) => return Ok(end),
+            }
+        }
+    }
+
+    /// Whether the run can take a turn: true until it has ended, or a print has failed.
+    pub fn is_live(&self) -> bool
+        ensures { IsTrue result ↔ IsLive self.now }
+    {
+        self.live
+    }
+
+    /// The profiling runtime.
+    pub fn gmon(&self) -> &Gmon
+        ensures value { result.now ≡ self.now.gmon }
+        ensures log { (w : World) → StandsFor w self.now → RuntimeStandsFor w.log result.now }
+        ensures sizes { result.now.sizes ≡ self.now.machine.sizes }
+    {
+        &self.gmon
+    }
+
+    /// What is told of a run that has ended.
+    pub fn summary(&self) -> RunSummary
+        requires { IsSome self.now.ending }
+        ensures told { (w : World) → StandsFor w self.now → summary_of self.now.machine.sizes w ≡ Some result }
+        ensures end { self.now.ending ≡ Some result.end }
+        ensures retired { result.retired ≡ self.now.retired }
+    {
+        RunSummary {
+            end: self.ending.unwrap(),
+            retired: self.retired,
+            samples: self.samples,
+            calls: self.gmon.calls(),
+            lost: self.lost,
+            state: self.gmon.state(),
+        }
+    }
+
+    // How the run stands between two turns.
+    fn turned(&self) -> Turned
+        ensures { result ≡ turned_of self.now.ending }
+    {
+        match self.ending {
+            Some(end) => Turned::Ended(end),
+            None => Turned::Going,
+        }
+    }
+}
+
+/// The registers of all harts, before their first turns.
+fn first_harts(alloc: Global, entry: u32, end: u64, harts: u32) -> Result<Vec<Regs>, AllocError>
+    requires stacks { stacks_bytes ≤ end }
+    requires fits { end ≤ 2 ^ 32 }
+    requires harts { harts ≤ 8 }
+    ensures { IfOk result (λ list. list.items ≡ map (first_registers_of entry end harts) (range_with_len 0 harts)) }
+{
+    let mut list = Vec::new(alloc);
+    for hart in 0..harts {
+        list.push(first_registers(entry, end, harts, hart))?;
+    }
+    Ok(list)
+}

@@ -1,0 +1,99 @@
+//! Which hart takes the next turn.
+
+ghost use Rattle.std.specs.Prelude.{◌≡◌, ◌+◌, ◌%◌, ◌<◌, ◌≤◌, ℕ};
+ghost use Rattle.prof_machine.specs.declared.setup.Setup.{Setup as AnySetup};
+ghost use Rattle.prof_machine.specs.Plan.{shuffled as spec, taker_of};
+ghost use Rattle.prof_machine.specs.Schedule.{Draws, IsRound, IsWithin};
+ghost use Rattle.prof_machine.specs.Setup.{IsSetup};
+
+use crate::setup::{Plan, Setup};
+
+/// The turns of a plan that are not yet drawn.
+#[derive(Clone, Copy)]
+pub(crate) struct Schedule {
+    plan: Plan,
+    harts: u32,
+    // In a round: the hart whose quantum it is, and how many turns of it are left.
+    hart: u32,
+    left: u32,
+    // By a seed: the state that it has come to.
+    state: u64,
+}
+
+impl Schedule {
+    /// All turns of a plan.
+    pub(crate) fn of(setup: Setup) -> Schedule
+        requires { IsSetup setup }
+        ensures draws { Draws setup 0 result }
+        ensures within { IsWithin result }
+    {
+        let number = match setup.plan {
+            Plan::RoundRobin { quantum } => quantum,
+            Plan::Seeded { seed } => seed,
+        };
+        Schedule {
+            plan: setup.plan,
+            harts: setup.harts,
+            hart: 0,
+            left: number,
+            state: u64::from(number),
+        }
+    }
+
+    /// The hart that takes the next turn.
+    pub(crate) fn next_hart(&mut self) -> u32
+        requires { IsWithin self.old }
+        ensures taker { (setup : AnySetup) (n : ℕ) → Draws setup n self.old → result ≡ taker_of setup.plan setup.harts n }
+        ensures draws { (setup : AnySetup) (n : ℕ) → Draws setup n self.old → Draws setup (n + 1) self.new }
+        ensures within { IsWithin self.new }
+        ensures below { result < self.old.harts }
+        ensures harts { self.new.harts ≡ self.old.harts }
+    {
+        match self.plan {
+            Plan::RoundRobin { quantum } => self.next_in_round(quantum),
+            Plan::Seeded { seed: _ } => {
+                self.state = shuffled(self.state);
+                (self.state % u64::from(self.harts)) as u32
+            }
+        }
+    }
+
+    // The hart whose quantum it is. Behind the last turn of a quantum comes the next hart's first.
+    fn next_in_round(&mut self, quantum: u32) -> u32
+        requires some { 1 ≤ quantum }
+        requires hart { self.old.hart < self.old.harts }
+        requires left { 1 ≤ self.old.left }
+        ensures hart { result ≡ self.old.hart }
+        ensures round { (n : ℕ) → IsRound quantum n self.old → IsRound quantum (n + 1) self.new }
+        ensures others { self.new ≡ record self.old { hart = self.new.hart; left = self.new.left } }
+        ensures below { self.new.hart < self.new.harts }
+        ensures some { 1 ≤ self.new.left }
+    {
+        let hart = self.hart;
+        if self.left > 1 {
+            self.left -= 1;
+            return hart;
+        }
+        self.left = quantum;
+        self.hart = following(hart, self.harts);
+        hart
+    }
+}
+
+/// The hart behind this one: behind the last one it is the first.
+fn following(hart: u32, harts: u32) -> u32
+    requires { hart < harts }
+    ensures value { result ≡ (hart + 1) % harts }
+    ensures below { result < harts }
+{
+    if hart + 1 == harts { 0 } else { hart + 1 }
+}
+
+/// The next state of a seeded schedule.
+fn shuffled(x: u64) -> u64
+    ensures { result ≡ spec x }
+{
+    let x = x ^ (x << 13);
+    let x = x ^ (x >> 7);
+    x ^ (x << 17)
+}

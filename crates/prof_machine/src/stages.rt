@@ -1,0 +1,333 @@
+//! The stages of a turn.
+
+ghost use Rattle.std.specs.Prelude.{◌≡◌, ◌+◌, ◌<◌, ◌≤◌, ◌&&◌, ℕ, None, OnOk, OnErr, IsSome, true, false, MatchResult};
+ghost use Rattle.host_port.specs.Host.{Puts};
+ghost use Rattle.host_port.specs.Outside.{KeepsCounts, KeepsInput};
+ghost use Rattle.rv_step.specs.Memory.{IsInside, read_at};
+ghost use Rattle.mcount_arcs.specs.Sizes.{is_in, text_span};
+ghost use Rattle.prof_machine.specs.Ecalls.{side_of};
+ghost use Rattle.prof_machine.specs.Prints.{ArePrinted, BreaksOff, PrintFailed};
+ghost use Rattle.prof_machine.specs.Stages.{Executes, Serves, Steps, Ticks, answers, holds, retires, returns};
+ghost use Rattle.prof_machine.specs.Turn.{after_ecall, arrived, called, closed, executed, instructed, sampled, spent, switched, taken, while_going};
+ghost use Rattle.prof_machine.specs.Value.{StandsFor, calls_met, work_left};
+ghost use Rattle.prof_machine.specs.World.{World, hart_of, left_of};
+
+use crate::ecalls::{A0, Call, OUT, ecall_of};
+use crate::ending::End;
+use crate::flight::{Flight, finish_walk};
+use crate::runs::Run;
+use host_port::{Failed, Host, err_all_of, out_all_of};
+use mcount_arcs::{Entered, Gmon, Looked};
+use rv_step::{Ram, Stepped, TrapKind, step};
+
+/// The number of the register that says where a function returns to: ra of the RISC-V calling convention.
+const RA: u32 = 1;
+
+impl Run {
+    // Whether this hart holds the walk in flight.
+    pub(crate) fn holds_walk(&self, hart: u32) -> bool
+        ensures { result ≡ holds self.now.flight hart }
+    {
+        match &self.flight {
+            Some(flight) => flight.hart == hart,
+            None => false,
+        }
+    }
+
+    // One look of this hart's walk.
+    pub(crate) fn look(&mut self, hart: u32)
+        requires holds { holds self.old.flight hart ≡ true }
+        requires hart { hart < self.old.machine.setup.harts }
+        requires going { self.old.ending ≡ None }
+        requires dead { self.old.live ≡ false }
+        ensures stands { (w : World) → StandsFor w self.old → StandsFor (taken self.old.machine hart (left_of w.left hart) w) self.new }
+        ensures prints { (w : World) → StandsFor w self.old → (taken self.old.machine hart (left_of w.left hart) w).prints ≡ w.prints }
+        ensures same { Steps self.old self.new }
+        ensures retired { self.new.retired ≡ self.old.retired }
+        ensures due { self.new.due ≡ self.old.due }
+        ensures less { work_left self.new < work_left self.old }
+    {
+        if let Some(flight) = self.flight.take() {
+            match self.gmon.look(flight.walk) {
+                Looked::More(next) => self.flight = Some(Flight { hart, walk: next }),
+                Looked::Counted => self.return_from_hook(hart),
+                Looked::Overflowed => self.return_from_hook(hart),
+            }
+        }
+    }
+
+    // One instruction of this hart, with its tick and its hook.
+    pub(crate) fn instruct<H: Host>(&mut self, hart: u32, host: &mut H) -> Result<(), Failed>
+        requires none { holds self.old.flight hart ≡ false }
+        requires hart { hart < self.old.machine.setup.harts }
+        requires going { self.old.ending ≡ None }
+        requires left { self.old.retired < self.old.machine.setup.budget }
+        requires due { 1 ≤ self.old.due }
+        requires dead { self.old.live ≡ false }
+        ensures stands { OnOk result ((w : World) → StandsFor w self.old → StandsFor (instructed self.old.machine hart w) self.new) }
+        ensures prints { OnOk result ((w : World) → StandsFor w self.old
+            → ArePrinted w (instructed self.old.machine hart w) (H.outside host.old) (H.outside host.new)) }
+        ensures fails { OnErr result ((w : World) → StandsFor w self.old
+            → BreaksOff w (instructed self.old.machine hart w) (H.outside host.old) (H.outside host.new)) }
+        ensures counts { MatchResult result (λ _. KeepsCounts (H.outside host.old) (H.outside host.new)) (λ _. PrintFailed (H.outside host.old) (H.outside host.new)) }
+        ensures writing { (H.outside host.new).is_writing ≡ (H.outside host.old).is_writing }
+        ensures input { KeepsInput (H.outside host.old) (H.outside host.new) }
+        ensures same { Steps self.old self.new }
+        ensures left { OnOk result (self.new.ending ≡ None → self.new.retired < self.new.machine.setup.budget) }
+        ensures due { OnOk result (self.new.ending ≡ None → 1 ≤ self.new.due) }
+        ensures less { OnOk result (self.new.ending ≡ None → work_left self.new < work_left self.old) }
+    {
+        self.execute(hart, host)?;
+        self.sample(hart);
+        self.arrive(hart);
+        self.spend();
+        Ok(())
+    }
+
+    // The instruction.
+    fn execute<H: Host>(&mut self, hart: u32, host: &mut H) -> Result<(), Failed>
+        requires hart { hart < self.old.machine.setup.harts }
+        requires left { self.old.retired < self.old.machine.setup.budget }
+        requires due { 1 ≤ self.old.due }
+        requires going { self.old.ending ≡ None }
+        requires dead { self.old.live ≡ false }
+        ensures stands { OnOk result ((w : World) → StandsFor w self.old → StandsFor (executed self.old.machine hart w) self.new) }
+        ensures prints { OnOk result ((w : World) → StandsFor w self.old
+            → ArePrinted w (executed self.old.machine hart w) (H.outside host.old) (H.outside host.new)) }
+        ensures fails { OnErr result ((w : World) → StandsFor w self.old
+            → BreaksOff w (executed self.old.machine hart w) (H.outside host.old) (H.outside host.new)) }
+        ensures counts { MatchResult result (λ _. KeepsCounts (H.outside host.old) (H.outside host.new)) (λ _. PrintFailed (H.outside host.old) (H.outside host.new)) }
+        ensures writing { (H.outside host.new).is_writing ≡ (H.outside host.old).is_writing }
+        ensures input { KeepsInput (H.outside host.old) (H.outside host.new) }
+        ensures same { Steps self.old self.new }
+        ensures executes { OnOk result (Executes self.old self.new) }
+    {
+        let regs = &mut self.harts[hart as usize];
+        let answer = step(regs, &mut self.ram);
+        let pc = regs.pc();
+        match answer {
+            Stepped::Retired => {
+                self.retire();
+                Ok(())
+            }
+            Stepped::Ecall => self.call(hart, host),
+            Stepped::Trap(kind) => {
+                self.ending = Some(End::Trap(kind, pc));
+                Ok(())
+            }
+        }
+    }
+
+    // The environment call at the hart's pc is carried out.
+    fn call<H: Host>(&mut self, hart: u32, host: &mut H) -> Result<(), Failed>
+        requires hart { hart < self.old.machine.setup.harts }
+        requires left { self.old.retired < self.old.machine.setup.budget }
+        requires due { 1 ≤ self.old.due }
+        requires going { self.old.ending ≡ None }
+        requires dead { self.old.live ≡ false }
+        ensures stands { OnOk result ((w : World) → StandsFor w self.old → StandsFor (after_ecall self.old.machine hart w) self.new) }
+        ensures prints { OnOk result ((w : World) → StandsFor w self.old
+            → ArePrinted w (after_ecall self.old.machine hart w) (H.outside host.old) (H.outside host.new)) }
+        ensures fails { OnErr result ((w : World) → StandsFor w self.old
+            → BreaksOff w (after_ecall self.old.machine hart w) (H.outside host.old) (H.outside host.new)) }
+        ensures counts { MatchResult result (λ _. KeepsCounts (H.outside host.old) (H.outside host.new)) (λ _. PrintFailed (H.outside host.old) (H.outside host.new)) }
+        ensures writing { (H.outside host.new).is_writing ≡ (H.outside host.old).is_writing }
+        ensures input { KeepsInput (H.outside host.old) (H.outside host.new) }
+        ensures same { Steps self.old self.new }
+        ensures executes { OnOk result (Executes self.old self.new) }
+    {
+        match ecall_of(&self.machine, &self.harts[hart as usize], &self.ram, self.break_at) {
+            Call::Answers(n) => self.answer(hart, n),
+            Call::SetsBreak(to) => {
+                self.break_at = to;
+                self.answer(hart, to);
+            }
+            Call::Prints {
+                descriptor,
+                from,
+                count,
+            } => {
+                print(host, descriptor, &self.ram, from, count)?;
+                self.answer(hart, count);
+            }
+            Call::Exits(status) => {
+                self.retire();
+                self.ending = Some(End::Exit(status));
+            }
+        }
+        Ok(())
+    }
+
+    // An environment call answers n, and retires.
+    fn answer(&mut self, hart: u32, n: u32)
+        requires hart { hart < self.old.machine.setup.harts }
+        requires left { self.old.retired < self.old.machine.setup.budget }
+        requires due { 1 ≤ self.old.due }
+        requires dead { self.old.live ≡ false }
+        ensures { self.new ≡ answers hart n self.old }
+    {
+        let regs = &mut self.harts[hart as usize];
+        regs.set(A0, n);
+        regs.set_pc(regs.pc().wrapping_add(4));
+        self.retire();
+    }
+
+    // One more instruction has retired.
+    fn retire(&mut self)
+        requires left { self.old.retired < self.old.machine.setup.budget }
+        requires due { 1 ≤ self.old.due }
+        requires dead { self.old.live ≡ false }
+        ensures { self.new ≡ retires self.old }
+    {
+        self.retired += 1;
+        self.due -= 1;
+    }
+
+    // The clock's tick, if a sample is due.
+    #[tactic(auto, using(crate::proofs::ClockLemmas::again))]
+    fn sample(&mut self, hart: u32)
+        requires hart { hart < self.old.machine.setup.harts }
+        requires due { self.old.ending ≡ None → self.old.due < self.old.machine.setup.every }
+        requires samples { self.old.ending ≡ None → self.old.samples < self.old.retired }
+        requires dead { self.old.live ≡ false }
+        ensures stands { (w : World) → StandsFor w self.old → StandsFor (while_going (sampled self.old.machine hart) w) self.new }
+        ensures ticks { Ticks self.old self.new }
+    {
+        if self.ending.is_some() {
+            return;
+        }
+        if self.due != 0 {
+            return;
+        }
+        self.due = self.machine.setup.every;
+        let pc = self.harts[hart as usize].pc();
+        if counts(&self.gmon, pc) {
+            self.samples += 1;
+        }
+        self.gmon.tick(pc);
+    }
+
+    // Serves the hook at which the hart stands, if it does.
+    fn arrive(&mut self, hart: u32)
+        requires hart { hart < self.old.machine.setup.harts }
+        requires calls { self.old.ending ≡ None → calls_met self.old < self.old.retired }
+        requires dead { self.old.live ≡ false }
+        ensures stands { (w : World) → StandsFor w self.old → StandsFor (while_going (arrived self.old.machine hart) w) self.new }
+        ensures serves { Serves self.old self.new }
+    {
+        if self.ending.is_some() {
+            return;
+        }
+        let pc = self.harts[hart as usize].pc();
+        if self.machine.mcount == Some(pc) {
+            self.enter(hart);
+        } else if self.machine.moncontrol == Some(pc) {
+            self.switch(hart);
+        }
+    }
+
+    // The hart stands at `_mcount`.
+    fn enter(&mut self, hart: u32)
+        requires hart { hart < self.old.machine.setup.harts }
+        requires calls { calls_met self.old < self.old.retired }
+        requires going { self.old.ending ≡ None }
+        requires dead { self.old.live ≡ false }
+        ensures stands { (w : World) → StandsFor w self.old → StandsFor (called self.old.machine hart (hart_of w.harts hart) w) self.new }
+        ensures serves { Serves self.old self.new }
+    {
+        let regs = &self.harts[hart as usize];
+        match self.gmon.enter(regs.get(A0), regs.get(RA)) {
+            Entered::Walking(walk) => self.flight = Some(Flight { hart, walk }),
+            Entered::Lost => {
+                self.lost += 1;
+                self.return_from_hook(hart);
+            }
+            Entered::Ignored => self.return_from_hook(hart),
+        }
+    }
+
+    // The hart stands at `moncontrol`.
+    fn switch(&mut self, hart: u32)
+        requires hart { hart < self.old.machine.setup.harts }
+        requires going { self.old.ending ≡ None }
+        requires dead { self.old.live ≡ false }
+        ensures stands { (w : World) → StandsFor w self.old → StandsFor (switched hart (hart_of w.harts hart) w) self.new }
+        ensures serves { Serves self.old self.new }
+    {
+        let on = self.harts[hart as usize].get(A0) != 0;
+        self.gmon.moncontrol(on);
+        self.return_from_hook(hart);
+    }
+
+    // Goes on at ra.
+    fn return_from_hook(&mut self, hart: u32)
+        requires hart { hart < self.old.machine.setup.harts }
+        requires going { self.old.ending ≡ None }
+        requires dead { self.old.live ≡ false }
+        ensures { self.new ≡ returns hart self.old }
+    {
+        let regs = &mut self.harts[hart as usize];
+        let ra = regs.get(RA);
+        let target = ra - ra % 2;
+        if target % 4 == 0 {
+            regs.set_pc(target);
+        } else {
+            self.ending = Some(End::Trap(TrapKind::JumpMisaligned, regs.pc()));
+        }
+    }
+
+    // The end of the run, once the budget is used up.
+    fn spend(&mut self)
+        requires dead { self.old.live ≡ false }
+        ensures stands { (w : World) → StandsFor w self.old → StandsFor (while_going (spent self.old.machine) w) self.new }
+        ensures changed { self.new ≡ record self.old { ending = self.new.ending } }
+        ensures left { self.new.ending ≡ None → self.new.retired < self.new.machine.setup.budget }
+        ensures ended { IsSome self.old.ending → self.new.ending ≡ self.old.ending }
+    {
+        if self.ending.is_none() && self.retired == self.machine.setup.budget {
+            self.ending = Some(End::Budget);
+        }
+    }
+
+    // Once the run has ended, looks at the walk in flight to its end.
+    pub(crate) fn close(&mut self)
+        requires dead { self.old.live ≡ false }
+        ensures stands { (w : World) → StandsFor w self.old → StandsFor (closed w) self.new }
+        ensures going { self.old.ending ≡ None → self.new ≡ self.old }
+        ensures ending { self.new.ending ≡ self.old.ending }
+        ensures same { Steps self.old self.new }
+    {
+        if self.ending.is_none() {
+            return;
+        }
+        if let Some(flight) = self.flight.take() {
+            finish_walk(&mut self.gmon, flight.walk);
+        }
+    }
+}
+
+/// Prints bytes of memory on the output of a descriptor.
+fn print<H: Host>(host: &mut H, descriptor: u32, ram: &Ram, from: u32, count: u32) -> Result<(), Failed>
+    requires some { 1 ≤ count }
+    requires inside { IsInside ram.now from count }
+    ensures { Puts (side_of descriptor) (read_at ram.now from count) (H.outside host.old) (H.outside host.new) result }
+{
+    match ram.slice(from, count) {
+        Some(bytes) => {
+            if descriptor == OUT {
+                out_all_of(host, bytes)
+            } else {
+                err_all_of(host, bytes)
+            }
+        }
+        None => Ok(()),
+    }
+}
+
+/// Whether a sample at this address counts.
+fn counts(gmon: &Gmon, pc: u32) -> bool
+    ensures { result ≡ (gmon.now.sampling && is_in (text_span gmon.now.sizes) pc) }
+{
+    let sizes = gmon.sizes();
+    gmon.sampling() && sizes.low <= pc && pc < sizes.high
+}
