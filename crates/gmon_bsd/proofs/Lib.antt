@@ -1,7 +1,8 @@
-pub mod Accepting
-pub mod Meaning
-pub mod Spelled
+pub mod RefusalLemmas
+pub mod FieldLemmas
+pub mod SpellingLemmas
 pub mod WholeFile
-pub mod Pieces
-pub mod Written
-pub mod Runs
+pub mod CounterPieces
+pub mod WrittenParts
+pub mod RunTextLemmas
+pub mod RunReadBack

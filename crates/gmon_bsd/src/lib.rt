@@ -3,7 +3,7 @@
 //! Source: `gmon.h` of 4.4BSD (`struct gmonhdr`, `struct rawarc`), on a little-endian machine of 32 bits.
 #![tactic(auto)]
 
-pub mod grammar;
+pub mod laws;
 pub mod reading;
 pub mod writing;
 

@@ -1,5 +1,5 @@
 -- The arcs that are left to be given, one after another.
-use Rattle.std.proofs.Common.{◌≡◌, ℕ, suc, ◌<◌, ◌≤◌, List, [], ◌∷◌, ◌++◌, length, Some, refl, sym, ap, ◌∙◌, arith, ◌+◌, subst, ◌-◌, map, slice_index}
+use Rattle.std.proofs.Common.{All, zero, slice_index_or, inl, inr, ◌≡◌, ℕ, suc, ◌<◌, ◌≤◌, List, [], ◌∷◌, ◌++◌, length, Some, refl, sym, ap, ◌∙◌, arith, ◌+◌, subst, ◌-◌, map, slice_index}
 use Rattle.std.specs.List.{slice_get, flat_map, range_with_len}
 use Rattle.gmon_block.specs.declared.entry.Tos.{Tos}
 use Rattle.mcount_arcs.specs.Log.{distinct_count, LogEntry, entered_calls, kept_calls}
@@ -20,6 +20,11 @@ use Rattle.mcount_arcs.proofs.ChainLengths.{arcs_few}
 use Rattle.mcount_arcs.proofs.IndexLemmas.{index_at_small}
 use Rattle.mcount_arcs.proofs.LogLemmas.{entries_of-by, fronts_of-by, arcs_of-by}
 use Rattle.mcount_arcs.proofs.KeptCallLemmas.{kept_calls-places}
+use Rattle.std.proofs.lemmas.List.Elements.{All-nil, All-cons, All-append, All-map}
+use Rattle.std.proofs.lemmas.List.{get_or_past}
+use Rattle.std.proofs.lemmas.Bool.{cases_lt}
+use Rattle.gmon_block.specs.Layout.{EntryFits, no_entry}
+use Rattle.mcount_arcs.specs.Arcs.{CallFits}
 
 pub places : (z : Sizes) (log : List LogEntry) → AreSizes z → distinct_count (kept_calls z log) < z.tolimit
 places z log are = omega (arith, kept_calls-places z log, are.least)
@@ -154,3 +159,31 @@ among-given a b e ready read_a = let read = read_b a b e ready read_a in record 
   given = suc ready.among.given;
   next = (linked_on b e ready.among ready.some read).1;
 }
+
+-- ---- numbers of four bytes
+
+read_fits : (tos : List Tos) (i : ℕ) → All EntryFits tos → EntryFits (slice_index_or tos i no_entry)
+read_fits tos i all = elim (cases_lt i (length tos)) [
+  | inl lt ↦ all i no_entry lt
+  | inr past ↦ subst EntryFits (sym (get_or_past tos i no_entry past)) (record { selfpc = omega arith; count = omega arith; link = omega arith })
+]
+
+linked_fit : (n : ℕ) (tos : List Tos) (i : ℕ) → All EntryFits tos → All EntryFits (linked n tos i)
+linked_fit zero tos i all = All-nil EntryFits
+linked_fit (suc n) tos zero all = All-nil EntryFits
+linked_fit (suc n) tos (suc i) all =
+    let e = slice_index_or tos (suc i) no_entry in
+    All-cons EntryFits e (linked n tos e.link) (read_fits tos (suc i) all) (linked_fit n tos e.link all)
+
+slots_fit : (z : Sizes) (tos : List Tos) (froms : List ℕ) (a n : ℕ) → All EntryFits tos → All CallFits (flat_map (slot_read z tos froms) (range_with_len a n))
+slots_fit z tos froms a zero all = All-nil CallFits
+slots_fit z tos froms a (suc n) all =
+    let es = linked (length tos) tos (slice_index froms a) in
+    let fit = linked_fit (length tos) tos (slice_index froms a) all in
+    All-append CallFits (slot_read z tos froms a) (flat_map (slot_read z tos froms) (range_with_len (a + 1) n))
+    (All-map CallFits (arc_read (site_of z a)) es (λ k d lt. let e = fit k d lt in record { to = e.selfpc; count = e.count }))
+    (slots_fit z tos froms (a + 1) n all)
+
+-- the arcs that are read in entries of twelve bytes
+pub arcs_read-fit : (z : Sizes) (tos : List Tos) (froms : List ℕ) → All EntryFits tos → All CallFits (arcs_read z tos froms)
+arcs_read-fit z tos froms all = slots_fit z tos froms 0 z.slots all

@@ -1,9 +1,10 @@
 -- What follows from the empty log, and a new runtime, which stands for it.
-use Rattle.std.proofs.Common.{◌≡◌, ℕ, zero, suc, ◌≤◌, Bool, true, List, [], ◌∷◌, ◌++◌, length, refl, sym, ap, ◌∙◌, arith, ◌+◌, ◌-◌, map, replicate, if◌then◌else◌, slice_index, slice_index_or}
+use Rattle.std.proofs.lemmas.List.Elements.{All-replicate}
+use Rattle.std.proofs.Common.{All, subst, ◌≡◌, ℕ, zero, suc, ◌≤◌, Bool, true, List, [], ◌∷◌, ◌++◌, length, refl, sym, ap, ◌∙◌, arith, ◌+◌, ◌-◌, map, replicate, if◌then◌else◌, slice_index, slice_index_or}
 use Rattle.gmon_block.specs.declared.entry.Tos.{Tos}
 use Rattle.mcount_arcs.specs.Log.{Pair, entered_calls, kept_calls, state_of, IsLegal}
 use Rattle.mcount_arcs.specs.Image.{front_in, entries_in, fronts_in, entries_of, fronts_of}
-use Rattle.gmon_block.specs.Layout.{no_entry, Parts}
+use Rattle.gmon_block.specs.Layout.{EntryFits, EntryFits, no_entry, Parts}
 use Rattle.std.specs.List.{flat_map, range_with_len}
 use Rattle.std.proofs.lemmas.Bool.{lt-leb}
 use Rattle.mcount_arcs.specs.declared.sizes.Sizes.{Sizes}
@@ -93,6 +94,7 @@ IsHeld-nil z block cursor are tos counters froms = record {
   tos = ap length tos ∙ length-replicate z.tolimit no_entry;
   counters = ap length counters ∙ length-replicate z.counters 0;
   froms = ap length froms ∙ length-replicate z.slots 0;
+  fits = subst (All EntryFits) (sym tos) (All-replicate EntryFits z.tolimit no_entry (record { selfpc = omega arith; count = omega arith; link = omega arith }));
   log = [];
   stands = StandsFor-nil z block are tos counters froms cursor;
   free = λ _. omega (arith, ap (λ (es : List Tos). (slice_index_or es 0 no_entry).link) tos, ap (λ (e : Tos). e.link) (get_or-replicate z.tolimit 0 no_entry no_entry (omega (arith, are.least))), are.least);

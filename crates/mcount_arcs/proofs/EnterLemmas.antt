@@ -60,6 +60,7 @@ held_entered a from to slot at held on slot_is site read room = record {
   tos = held.tos;
   counters = held.counters;
   froms = held.froms;
+  fits = held.fits;
   log = more held.log (Enter from to);
   stands = stands_entered a held.log from to slot at on slot_is site held.stands;
   free = λ _. held.free (λ error. let e : On ≡ Error = sym on ∙ error in cc);

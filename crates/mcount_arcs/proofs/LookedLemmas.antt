@@ -1,5 +1,5 @@
 -- A runtime after a look.
-use Rattle.std.proofs.Common.{◌≡◌, ℕ, zero, suc, ◌<◌, ◌≤◌, Bool, true, false, cond, eqb, ltb, List, [], ◌∷◌, length, Some, None, inl, inr, refl, sym, ap, ◌∙◌, arith, ◌+◌, Option, subst, ◌-◌, length-append, if◌then◌else◌, ◌⊎◌}
+use Rattle.std.proofs.Common.{All, ◌≡◌, ℕ, zero, suc, ◌<◌, ◌≤◌, Bool, true, false, cond, eqb, ltb, List, [], ◌∷◌, length, Some, None, inl, inr, refl, sym, ap, ◌∙◌, arith, ◌+◌, Option, subst, ◌-◌, length-append, if◌then◌else◌, ◌⊎◌}
 use Rattle.std.proofs.lemmas.Option.{none-some, same_Some}
 use Rattle.std.specs.List.{slice_get}
 use Rattle.std.proofs.lemmas.Bool.{cases_Bool, eq-eqb, and_from, and_left, and_right, ne_eqb}
@@ -11,7 +11,7 @@ use Rattle.mcount_arcs.specs.Image.{index_in, entries_in, fronts_in}
 use Rattle.mcount_arcs.specs.declared.state.State.{State}
 use Rattle.mcount_arcs.specs.declared.state.State.TheVariants.{Busy, Error}
 use Rattle.mcount_arcs.specs.Held.{arcs_read, flight, view_of, IsHeld}
-use Rattle.gmon_block.specs.Layout.{Parts}
+use Rattle.gmon_block.specs.Layout.{EntryFits, Parts}
 use Rattle.mcount_arcs.specs.BlockChanges.{entry_at, with_call_found, with_next_index, with_new_front, with_call_added}
 use Rattle.mcount_arcs.specs.declared.gmon.Gmon.TheInside.{Inside}
 use Rattle.mcount_arcs.specs.declared.walk.Walk.{Walk}
@@ -127,9 +127,9 @@ ends log w old new result last e = record {
 }
 
 pub held_counted : (a : Inside) (w : Walk) (log : List LogEntry) (block : Parts) → IsHeld a → InFlight a w log → StandsFor log (view_of a)
-    → IsBlockOf a.sizes.tolimit a.sizes.slots (pushed (kept_calls a.sizes log) w.slot w.to) (pushed (kept_calls a.sizes log) w.slot w.to) block → block.counters ≡ a.block.counters
+    → IsBlockOf a.sizes.tolimit a.sizes.slots (pushed (kept_calls a.sizes log) w.slot w.to) (pushed (kept_calls a.sizes log) w.slot w.to) block → block.counters ≡ a.block.counters → All EntryFits block.tos
     → distinct_count (pushed (kept_calls a.sizes log) w.slot w.to) < a.sizes.tolimit → IsHeld (counted_as a block)
-held_counted a w log block held f stands is counters places =
+held_counted a w log block held f stands is counters fits places =
     let z = a.sizes in
     let ps = pushed (kept_calls z log) w.slot w.to in
     record {
@@ -137,6 +137,7 @@ held_counted a w log block held f stands is counters places =
       tos = ap length is.tos ∙ length-entries_in z.tolimit ps ps places;
       counters = ap length counters ∙ held.counters;
       froms = ap length is.froms ∙ length-fronts z.slots ps;
+      fits = fits;
       log = more log WalkDone;
       stands = stands_counted a w log block f stands is counters places;
       free = λ _. omega (arith, number_read z.tolimit z.slots ps ps block is);
@@ -145,9 +146,9 @@ held_counted a w log block held f stands is counters places =
     }
 
 pub held_filled : (a : Inside) (w : Walk) (log : List LogEntry) (block : Parts) → IsHeld a → InFlight a w log → StandsFor log (view_of a)
-    → IsBlockOf a.sizes.tolimit a.sizes.slots (pushed (kept_calls a.sizes log) w.slot w.to) (kept_calls a.sizes log) block → block.counters ≡ a.block.counters
+    → IsBlockOf a.sizes.tolimit a.sizes.slots (pushed (kept_calls a.sizes log) w.slot w.to) (kept_calls a.sizes log) block → block.counters ≡ a.block.counters → All EntryFits block.tos
     → a.sizes.tolimit ≤ distinct_count (pushed (kept_calls a.sizes log) w.slot w.to) → IsHeld (filled_as a block)
-held_filled a w log block held f stands is counters full =
+held_filled a w log block held f stands is counters fits full =
     let z = a.sizes in
     let ps = kept_calls z log in
     record {
@@ -155,6 +156,7 @@ held_filled a w log block held f stands is counters full =
       tos = ap length is.tos ∙ length-entries_in z.tolimit (pushed ps w.slot w.to) ps f.few;
       counters = ap length counters ∙ held.counters;
       froms = ap length is.froms ∙ length-fronts z.slots ps;
+      fits = fits;
       log = more log WalkDone;
       stands = stands_filled a w log block f stands is counters full;
       free = λ other. absurd (other refl);
@@ -191,12 +193,12 @@ found_looks a w log e held flying sees same stands =
       stands = stands_counted a w log block f stands (found_block a w log f at) (with_call_found-counters w.slot a.cursor.before a.cursor.at a.block) (found_places a w log f at);
     })
 
-pub found_held : (a : Inside) (w : Walk) (e : Tos) → IsHeld a → flight a.state a.cursor ≡ Some w → Sees a w e → e.selfpc ≡ w.to → IsHeld (counted_as a (with_call_found w.slot a.cursor.before a.cursor.at a.block))
-found_held a w e held flying sees same =
+pub found_held : (a : Inside) (w : Walk) (e : Tos) → IsHeld a → flight a.state a.cursor ≡ Some w → Sees a w e → e.selfpc ≡ w.to → All EntryFits (with_call_found w.slot a.cursor.before a.cursor.at a.block).tos → IsHeld (counted_as a (with_call_found w.slot a.cursor.before a.cursor.at a.block))
+found_held a w e held flying sees same fits =
     let log = held.log in
     let f = in_flight a w log held flying held.stands in
     let at = is_found a w log f sees.some (ap (λ (t : Tos). t.selfpc) sees.entry ∙ same) in
-    held_counted a w log (with_call_found w.slot a.cursor.before a.cursor.at a.block) held f held.stands (found_block a w log f at) (with_call_found-counters w.slot a.cursor.before a.cursor.at a.block) (found_places a w log f at)
+    held_counted a w log (with_call_found w.slot a.cursor.before a.cursor.at a.block) held f held.stands (found_block a w log f at) (with_call_found-counters w.slot a.cursor.before a.cursor.at a.block) fits (found_places a w log f at)
 
 pub with_call_added-counters : (s t : ℕ) (p : Parts) → (with_call_added s t p).counters ≡ p.counters
 with_call_added-counters s t p = elim (cases_Bool (ltb ((entry_at p 0).link + 1) (length p.tos))) [
@@ -236,8 +238,8 @@ added_looks a w log held flying none room stands =
       stands = stands_counted a w log (with_call_added w.slot w.to a.block) f stands block (with_call_added-counters w.slot w.to a.block) (omega (arith, count-new ps w.slot w.to new.absent));
     })
 
-pub added_held : (a : Inside) (w : Walk) → IsHeld a → flight a.state a.cursor ≡ Some w → EndsAtNew a w → HasRoom a → IsHeld (counted_as a (with_call_added w.slot w.to a.block))
-added_held a w held flying none room =
+pub added_held : (a : Inside) (w : Walk) → IsHeld a → flight a.state a.cursor ≡ Some w → EndsAtNew a w → HasRoom a → All EntryFits (with_call_added w.slot w.to a.block).tos → IsHeld (counted_as a (with_call_added w.slot w.to a.block))
+added_held a w held flying none room fits =
     let z = a.sizes in
     let log = held.log in
     let ps = kept_calls z log in
@@ -246,7 +248,7 @@ added_held a w held flying none room =
     let number = number_is a w log f in
     let more_room : suc (distinct_count ps) < z.tolimit = omega arith in
     let block = with_call_added-new z.tolimit z.slots ps a.block w.slot w.to f.block f.slot held.tos new.absent more_room in
-    held_counted a w log (with_call_added w.slot w.to a.block) held f held.stands block (with_call_added-counters w.slot w.to a.block) (omega (arith, count-new ps w.slot w.to new.absent))
+    held_counted a w log (with_call_added w.slot w.to a.block) held f held.stands block (with_call_added-counters w.slot w.to a.block) fits (omega (arith, count-new ps w.slot w.to new.absent))
 
 pub filled_looks : (a : Inside) (w : Walk) (log : List LogEntry) → IsHeld a → flight a.state a.cursor ≡ Some w → EndsAtNew a w → (HasRoom a → ⊥) → StandsFor log (view_of a)
     → Looks log w (view_of a) (view_of (filled_as a (with_call_added w.slot w.to a.block))) Overflowed
@@ -263,8 +265,8 @@ filled_looks a w log held flying none full stands =
       stands = stands_filled a w log (with_call_added w.slot w.to a.block) f stands block (with_call_added-counters w.slot w.to a.block) (omega (arith, count-new ps w.slot w.to new.absent));
     })
 
-pub filled_held : (a : Inside) (w : Walk) → IsHeld a → flight a.state a.cursor ≡ Some w → EndsAtNew a w → (HasRoom a → ⊥) → IsHeld (filled_as a (with_call_added w.slot w.to a.block))
-filled_held a w held flying none full =
+pub filled_held : (a : Inside) (w : Walk) → IsHeld a → flight a.state a.cursor ≡ Some w → EndsAtNew a w → (HasRoom a → ⊥) → All EntryFits (with_call_added w.slot w.to a.block).tos → IsHeld (filled_as a (with_call_added w.slot w.to a.block))
+filled_held a w held flying none full fits =
     let z = a.sizes in
     let log = held.log in
     let ps = kept_calls z log in
@@ -273,7 +275,7 @@ filled_held a w held flying none full =
     let number = number_is a w log f in
     let no_room : suc (distinct_count ps) ≡ z.tolimit = omega (arith, f.few) in
     let block = with_call_added-full z.tolimit z.slots ps a.block w.slot w.to f.block held.tos new.absent (omega arith) in
-    held_filled a w log (with_call_added w.slot w.to a.block) held f held.stands block (with_call_added-counters w.slot w.to a.block) (omega (arith, count-new ps w.slot w.to new.absent))
+    held_filled a w log (with_call_added w.slot w.to a.block) held f held.stands block (with_call_added-counters w.slot w.to a.block) fits (omega (arith, count-new ps w.slot w.to new.absent))
 
 abbrev pub moved_as : Inside → Walk → ℕ → Inside
 moved_as a w link = record a { cursor = record { slot = w.slot; to = w.to; place = w.place + 1; at = link; before = a.cursor.at } }
@@ -323,6 +325,7 @@ moved_held a w e held flying sees other link =
       tos = held.tos;
       counters = held.counters;
       froms = held.froms;
+      fits = held.fits;
       log = log;
       stands = stands_moved a w log e.link f flying held.stands more_looks;
       free = held.free;

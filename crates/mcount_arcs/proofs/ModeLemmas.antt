@@ -70,6 +70,7 @@ held_switched on a held =
       tos = held.tos;
       counters = held.counters;
       froms = held.froms;
+      fits = held.fits;
       log = more held.log (Mode on);
       stands = subst P (sym (switched-value on a)) (StandsFor-switched held.log (view_of a) on held.stands);
       free = λ other. held.free (λ e. other (is_error on a.state e));

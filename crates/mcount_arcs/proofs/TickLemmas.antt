@@ -1,8 +1,8 @@
 -- A runtime after a tick.
-use Rattle.std.proofs.Common.{◌≡◌, ℕ, ◌<◌, ◌≤◌, Bool, true, false, ◌&&◌, ltb, List, [], ◌∷◌, length, Some, inl, inr, refl, sym, ap, ◌∙◌, arith, ◌+◌, subst, ◌-◌, set, leb, if◌then◌else◌, ◌/◌, min, slice_index, ◌⊎◌, slice_index_or, slice_set}
+use Rattle.std.proofs.Common.{All, ◌≡◌, ℕ, ◌<◌, ◌≤◌, Bool, true, false, ◌&&◌, ltb, List, [], ◌∷◌, length, Some, inl, inr, refl, sym, ap, ◌∙◌, arith, ◌+◌, subst, ◌-◌, set, leb, if◌then◌else◌, ◌/◌, min, slice_index, ◌⊎◌, slice_index_or, slice_set}
 use Rattle.std.specs.List.{slice_get}
 use Rattle.std.proofs.lemmas.Bool.{and_parts, lt-ltb, le-ltb, and_from, and_left, and_right, lt-leb, le-leb, leb-true, ltb-true}
-use Rattle.gmon_block.specs.Layout.{no_entry, Parts}
+use Rattle.gmon_block.specs.Layout.{EntryFits, no_entry, Parts}
 use Rattle.mcount_arcs.specs.Log.{LogEntry, Sample}
 use Rattle.mcount_arcs.specs.Sizes.{is_in, text_span, AreSizes}
 use Rattle.mcount_arcs.specs.Samples.{buckets_of}
@@ -49,6 +49,7 @@ IsHeld-ticked a block counters log held same long stands = record {
   tos = ap (λ (p : Parts). length p.tos) same ∙ held.tos;
   counters = ap (λ (p : Parts). length p.counters) same ∙ long ∙ held.counters;
   froms = ap (λ (p : Parts). length p.froms) same ∙ held.froms;
+  fits = let P : Parts → Type 0 = λ p. All EntryFits p.tos in subst P (sym same) held.fits;
   log = log;
   stands = stands;
   free = λ other. omega (arith, ap (λ (p : Parts). (slice_index_or p.tos 0 no_entry).link) same, held.free other);
@@ -56,33 +57,19 @@ IsHeld-ticked a block counters log held same long stands = record {
   room = held.room;
 }
 
--- a tick that counts
-pub ticked-in : (v : GmonValue) (pc : ℕ) → v.sampling ≡ true → v.sizes.low ≤ pc → pc < v.sizes.high → ticked pc v ≡ with_sample ((pc - v.sizes.low) / 4) v
-ticked-in v pc on low high =
-    ap (λ (b : Bool). if b then with_sample ((pc - v.sizes.low) / 4) v else v) (and_from v.sampling (is_in (text_span v.sizes) pc) on (and_from (leb v.sizes.low pc) (ltb pc v.sizes.high) (le-leb v.sizes.low pc low) (lt-ltb pc v.sizes.high high)))
-
--- a tick that doesn't
-pub ticked-off : (v : GmonValue) (pc : ℕ) → v.sampling ≡ false → v ≡ ticked pc v
-ticked-off v pc off =
-    ap (λ (b : Bool). if b then with_sample ((pc - v.sizes.low) / 4) v else v) (sym (and_left v.sampling (is_in (text_span v.sizes) pc) off))
-
-pub ticked-out : (v : GmonValue) (pc : ℕ) → (pc < v.sizes.low) ⊎ (v.sizes.high ≤ pc) → v ≡ ticked pc v
-ticked-out v pc out =
-    let test : is_in (text_span v.sizes) pc ≡ false = elim out [
-      | inl under ↦ and_left (leb v.sizes.low pc) (ltb pc v.sizes.high) (lt-leb v.sizes.low pc under)
-      | inr over ↦ and_right (leb v.sizes.low pc) (ltb pc v.sizes.high) (le-ltb pc v.sizes.high over)
-    ] in
-    ap (λ (b : Bool). if b then with_sample ((pc - v.sizes.low) / 4) v else v) (sym (and_right v.sampling (is_in (text_span v.sizes) pc) test))
+-- the test of a tick, on the fields
+pub tested : (a : Inside) (v : GmonValue) (pc : ℕ) (b : Bool) → view_of a ≡ v → b ≡ (v.sampling && is_in (text_span v.sizes) pc) → b ≡ true → (a.sampling && is_in (text_span a.sizes) pc) ≡ true
+tested a v pc b same is yes_it = ap (λ (u : GmonValue). u.sampling && is_in (text_span u.sizes) pc) same ∙ sym is ∙ yes_it
 
 -- the write that a tick makes
-pub wrote : (a : Inside) (pc n m : ℕ) (block : Parts) → a.sampling ≡ true → a.sizes.low ≤ pc → pc < a.sizes.high
+pub wrote : (a : Inside) (pc n m : ℕ) (block : Parts) → (a.sampling && is_in (text_span a.sizes) pc) ≡ true
     → slice_get a.block.counters ((pc - a.sizes.low) / 4) ≡ Some n → m ≡ min (n + 1) 65535
     → block ≡ record a.block { counters = slice_set a.block.counters ((pc - a.sizes.low) / 4) m }
     → view_of (record a { block = block }) ≡ ticked pc (view_of a)
-wrote a pc n m block on low high read more set =
+wrote a pc n m block test read more_one set =
     let k : ℕ = (pc - a.sizes.low) / 4 in
     let was : slice_index a.block.counters k ≡ n = get_or_from_slice_get a.block.counters k n 0 read in
     let value : m ≡ min 65535 (slice_index a.block.counters k + 1) = omega arith in
     ap (λ (p : Parts). view_of (record a { block = p })) set
     ∙ ap (λ (x : ℕ). record (view_of a) { counters = slice_set a.block.counters k x }) value
-    ∙ sym (ticked-in (view_of a) pc on low high)
+    ∙ sym (ap (λ (b : Bool). if b then with_sample k (view_of a) else view_of a) test)
