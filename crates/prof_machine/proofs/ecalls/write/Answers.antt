@@ -3,7 +3,7 @@ use Rattle.std.proofs.lemmas.Bool.Decides.{nat_tests}
 use Rattle.host_port.specs.Act.{Act}
 use Rattle.rv_step.specs.Memory.{IsInside}
 use Rattle.prof_machine.proofs.ActLemmas.{cut_short, write_acts_are}
-use Rattle.prof_machine.proofs.TurnLemmas.{on_err_any}
+use Rattle.prof_machine.proofs.ResultLemmas.{on_err_any}
 use Rattle.prof_machine.specs.Ecalls.{is_output}
 use Rattle.prof_machine.specs.Prints.{IsCutShort}
 use Rattle.prof_machine.proofs.ecalls.write.Goals as goal

@@ -4,7 +4,7 @@ use Rattle.rv_step.specs.Memory.{Memory}
 use Rattle.prof_machine.proofs.ActLemmas.{nothing_printed}
 use Rattle.prof_machine.proofs.InstructionLemmas.{ecall_as, written_stands}
 use Rattle.prof_machine.proofs.StandingLemmas.{answers_stands, hart_read, there, with_break, with_ending, with_retired}
-use Rattle.prof_machine.proofs.TurnLemmas.{on_err_any}
+use Rattle.prof_machine.proofs.ResultLemmas.{on_err_any}
 use Rattle.prof_machine.specs.declared.ecalls.Call.TheVariants.{Answers, Writes, SetsBreak, Exits}
 use Rattle.prof_machine.specs.declared.ending.End.TheVariants.{Exit}
 use Rattle.prof_machine.specs.Ecalls.{write_acts}

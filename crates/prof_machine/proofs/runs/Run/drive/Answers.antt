@@ -2,7 +2,7 @@ use Rattle.std.proofs.Common.{◌≡◌, ◌∙◌, ◌+◌, ◌≤◌, None, tr
 use Rattle.host_port.proofs.Laws.{KeepsCounts-same, KeepsCounts-then, KeepsInput-same, KeepsInput-then}
 use Rattle.prof_machine.proofs.ActLemmas.{breaks_after, nothing_printed, printed_then}
 use Rattle.prof_machine.proofs.DriveLemmas.{ended_answer, going_answer, in_first, in_last, in_next, work_bound}
-use Rattle.prof_machine.proofs.TurnLemmas.{on_err_any}
+use Rattle.prof_machine.proofs.ResultLemmas.{on_err_any}
 use Rattle.prof_machine.specs.Plan.{most_turns}
 use Rattle.prof_machine.specs.Prints.{ArePrinted, BreaksOff}
 use Rattle.prof_machine.specs.Schedule.{Draws}

@@ -7,7 +7,7 @@ use Rattle.prof_machine.specs.World.{World}
 use Rattle.prof_machine.specs.Prints.{ArePrinted, BreaksOff}
 use Rattle.prof_machine.proofs.ActLemmas.{nothing_printed}
 use Rattle.prof_machine.proofs.StandingLemmas.{hart_read, there}
-use Rattle.prof_machine.proofs.TurnLemmas.{on_err, on_ok}
+use Rattle.prof_machine.proofs.ResultLemmas.{on_err, on_ok}
 use Rattle.prof_machine.proofs.InstructionLemmas.{step_called, step_retired, step_trapped}
 use Rattle.prof_machine.specs.Value.{RunValue, StandsFor, value_of}
 use Rattle.prof_machine.proofs.runs.Run.execute.Goals as goal
