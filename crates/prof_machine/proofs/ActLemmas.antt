@@ -1,5 +1,5 @@
 -- What a run's prints leave on the outside.
-use Rattle.std.proofs.Common.{◌++◌, Bool, List, [], ap, append_assoc, arith, eqb, false, inl, inr, refl, subst, sym, take, true, ℕ, ◌∙◌, ◌∷◌, ◌≡◌, ◌≤◌, if◌then◌else◌}
+use Rattle.std.proofs.Common.{◌+◌, ◌++◌, ◌<◌, Bool, List, [], ap, append_assoc, arith, eqb, false, inl, inr, refl, subst, sym, take, true, ℕ, ◌∙◌, ◌∷◌, ◌≡◌, ◌≤◌, if◌then◌else◌}
 use Rattle.std.specs.Prelude.{Err, Result, not, ◌≢◌, ⊤}
 use Rattle.std.proofs.lemmas.List.{append-nil}
 use Rattle.std.proofs.lemmas.Bool.Decides.{nat_tests}
@@ -10,7 +10,7 @@ use Rattle.host_port.specs.Outside.{Did, KeepsCounts, Outside, Rose}
 use Rattle.rv_step.specs.Memory.{IsInside, Memory, is_inside, read_at}
 use Rattle.prof_machine.proofs.PrintLemmas.{prints_planned}
 use Rattle.prof_machine.specs.Ecalls.{is_output, side_of, write_acts}
-use Rattle.prof_machine.specs.Plan.{planned}
+use Rattle.prof_machine.specs.Plan.{driven, most_turns, planned}
 use Rattle.prof_machine.specs.Prints.{ArePrinted, BreaksOff, IsCutShort, PrintFailed}
 use Rattle.prof_machine.specs.World.{World}
 use Rattle.prof_machine.specs.declared.machine.Machine.{Machine}
@@ -66,15 +66,15 @@ cut_short {T} {E} result e d piece old new is puts =
 rose_after : (a b c : ℕ) → b ≡ a → Rose b c → Rose a c
 rose_after a b c same rose = let P : ℕ → Type 0 = λ n. Rose n c in subst P same rose
 
--- the print that failed is the first one
-pub failed_after : (a b c : Outside) → KeepsCounts a b → PrintFailed b c → PrintFailed a c
-failed_after a b c keeps (inl p) = inl (record { own = rose_after _ _ _ keeps.write p.own; read = p.read ∙ keeps.read; err = p.err ∙ keeps.err })
-failed_after a b c keeps (inr p) = inr (record { own = rose_after _ _ _ keeps.err p.own; read = p.read ∙ keeps.read; write = p.write ∙ keeps.write })
-
 counts_after : (side : Side) (a b c : Outside) → KeepsCounts a b → CountsOf {T = ⊤} {E = ⊤} side b c (Err tt) → CountsOf {T = ⊤} {E = ⊤} side a c (Err tt)
 counts_after File a b c keeps p = record { own = rose_after _ _ _ keeps.write p.own; read = p.read ∙ keeps.read; err = p.err ∙ keeps.err }
 counts_after Output a b c keeps p = record { own = rose_after _ _ _ keeps.write p.own; read = p.read ∙ keeps.read; err = p.err ∙ keeps.err }
 counts_after ErrorOutput a b c keeps p = record { own = rose_after _ _ _ keeps.err p.own; read = p.read ∙ keeps.read; write = p.write ∙ keeps.write }
+
+-- the print that failed is the first one
+pub failed_after : (a b c : Outside) → KeepsCounts a b → PrintFailed b c → PrintFailed a c
+failed_after a b c keeps (inl p) = inl (counts_after Output a b c keeps p)
+failed_after a b c keeps (inr p) = inr (counts_after ErrorOutput a b c keeps p)
 
 cut_after : (front acts : List Act) (x y z : Outside) → Did front x y → KeepsCounts x y → IsCutShort acts y z → IsCutShort (front ++ acts) x z
 cut_after front acts x y z did keeps cut =
@@ -113,6 +113,13 @@ breaks_front m w k n x y le off =
           ∙ append_assoc w.prints (off.cut.before ++ whole ∷ []) p.0
           ∙ ap (λ (back : List Act). w.prints ++ back) (append_assoc off.cut.before (whole ∷ []) p.0),
     )
+
+-- The same of a run that was driven: a print failed in turn n of the plan, and this is what the whole run would
+-- have printed.
+pub driven_front : (m : Machine) (w : World) (n : ℕ) (x y : Outside) → n < most_turns m.setup → (off : BreaksOff w (planned m w (n + 1)) x y)
+    → (more : List Act) × ((driven m w).prints ≡ w.prints ++ (off.cut.before ++ act_of off.cut.side off.cut.piece ∷ more))
+unfolding driven
+driven_front m w n x y few off = breaks_front m w (n + 1) (most_turns m.setup) x y (omega (arith, few)) off
 
 -- ---- what a write prints
 
