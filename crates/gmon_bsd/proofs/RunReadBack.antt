@@ -1,10 +1,10 @@
 -- The file of a run spells what was logged.
-use Rattle.std.proofs.Common.{◌≡◌, ℕ, zero, suc, ◌+◌, ◌*◌, ◌^◌, ◌<◌, ◌≤◌, min, List, [], ◌∷◌, ◌++◌, length, map, refl, sym, arith}
-use Rattle.std.specs.List.{All, AllByRecursion, flat_map, range_with_len}
+use Rattle.std.proofs.Common.{ℕ, zero, suc, ◌+◌, ◌^◌, ◌<◌, List, refl, sym, arith}
+use Rattle.std.specs.List.{All, flat_map, range_with_len}
 use Rattle.std.proofs.lemmas.List.Elements.{recursion_from_All, All-nil, All-append, All-map}
 use Rattle.gp_base.specs.declared.records.RawArc.{RawArc}
 use Rattle.mcount_arcs.specs.declared.sizes.Sizes.{Sizes}
-use Rattle.mcount_arcs.specs.Arcs.{CallFits, arcs_of, arcs_in, slot_arcs, arc_in, chain_in}
+use Rattle.mcount_arcs.specs.Arcs.{CallFits, arcs_of, slot_arcs, arc_in, chain_in}
 use Rattle.mcount_arcs.specs.Log.{LogEntry, Pair, kept_calls}
 use Rattle.mcount_arcs.specs.Samples.{buckets_of, bucket_of}
 use Rattle.mcount_arcs.specs.Sizes.{AreSizes, site_of}

@@ -1,7 +1,7 @@
 -- A runtime after a tick.
-use Rattle.std.proofs.Common.{All, ◌≡◌, ℕ, ◌<◌, ◌≤◌, Bool, true, false, ◌&&◌, ltb, List, [], ◌∷◌, length, Some, inl, inr, refl, sym, ap, ◌∙◌, arith, ◌+◌, subst, ◌-◌, set, leb, if◌then◌else◌, ◌/◌, min, slice_index, ◌⊎◌, slice_index_or, slice_set}
+use Rattle.std.proofs.Common.{All, ◌≡◌, ℕ, Bool, true, false, ◌&&◌, ltb, List, [], ◌∷◌, length, Some, refl, sym, ap, ◌∙◌, arith, ◌+◌, subst, ◌-◌, set, leb, if◌then◌else◌, ◌/◌, min, slice_index, slice_index_or, slice_set}
 use Rattle.std.specs.List.{slice_get}
-use Rattle.std.proofs.lemmas.Bool.{and_parts, lt-ltb, le-ltb, and_from, and_left, and_right, lt-leb, le-leb, leb-true, ltb-true}
+use Rattle.std.proofs.lemmas.Bool.{and_parts, leb-true, ltb-true}
 use Rattle.gmon_block.specs.Layout.{EntryFits, no_entry, Parts}
 use Rattle.mcount_arcs.specs.Log.{LogEntry, Sample}
 use Rattle.mcount_arcs.specs.Sizes.{is_in, text_span, AreSizes}
