@@ -1,17 +1,19 @@
 -- What a run's prints leave on the outside.
-use Rattle.std.proofs.Common.{◌++◌, Bool, List, [], ap, append_assoc, eqb, false, inl, inr, refl, subst, sym, take, true, ℕ, ◌∙◌, ◌∷◌, ◌≡◌, ◌≤◌, if◌then◌else◌}
-use Rattle.std.specs.Prelude.{Err, Result, ◌≢◌, ⊤}
+use Rattle.std.proofs.Common.{◌+◌, ◌++◌, ◌<◌, Bool, List, [], ap, append_assoc, arith, eqb, false, inl, inr, refl, subst, sym, take, true, ℕ, ◌∙◌, ◌∷◌, ◌≡◌, ◌≤◌, if◌then◌else◌}
+use Rattle.std.specs.Prelude.{Err, Result, not, ◌≢◌, ⊤}
 use Rattle.std.proofs.lemmas.List.{append-nil}
+use Rattle.std.proofs.lemmas.Bool.Decides.{nat_tests}
 use Rattle.host_port.proofs.Laws.{Did-nothing, Did-then}
 use Rattle.host_port.specs.Act.{Act}
 use Rattle.host_port.specs.Host.{CountsOf, Puts, act_of}
 use Rattle.host_port.specs.declared.side.Side.{Side}
 use Rattle.host_port.specs.declared.side.Side.TheVariants.{ErrorOutput, File, Output}
 use Rattle.host_port.specs.Outside.{Did, KeepsCounts, Outside, Rose}
+use Rattle.rv_step.specs.Memory.{IsInside, Memory, is_inside, read_at}
 use Rattle.prof_machine.proofs.PrintLemmas.{prints_planned}
-use Rattle.prof_machine.specs.Ecalls.{print_to, side_of}
-use Rattle.prof_machine.specs.Plan.{planned}
-use Rattle.prof_machine.specs.Prints.{ArePrinted, BreaksOff, PrintFailed}
+use Rattle.prof_machine.specs.Ecalls.{is_output, side_of, write_acts}
+use Rattle.prof_machine.specs.Plan.{driven, most_turns, planned}
+use Rattle.prof_machine.specs.Prints.{ArePrinted, BreaksOff, IsCutShort, PrintFailed}
 use Rattle.prof_machine.specs.World.{World}
 use Rattle.prof_machine.specs.declared.machine.Machine.{Machine}
 
@@ -20,17 +22,7 @@ pub printed_as : (w u v : World) (x y : Outside) → v.prints ≡ u.prints → A
 printed_as w u v x y same p = record { more = p.more; behind = same ∙ p.behind; did = p.did }
 
 pub breaks_as : (w u v : World) (x y : Outside) → v.prints ≡ u.prints → BreaksOff w u x y → BreaksOff w v x y
-breaks_as w u v x y same off = record {
-  before = off.before;
-  side = off.side;
-  piece = off.piece;
-  last = same ∙ off.last;
-  n = off.n;
-  part = off.part;
-  did = off.did;
-  counts = off.counts;
-  no_file = off.no_file;
-}
+breaks_as w u v x y same off = record { more = off.more; behind = same ∙ off.behind; cut = off.cut }
 
 -- nothing was printed
 pub nothing_printed : (w v : World) (x : Outside) → v.prints ≡ w.prints → ArePrinted w v x x
@@ -55,9 +47,9 @@ own_count T E File old new e p = record { own = p.own; read = p.read; err = p.er
 own_count T E Output old new e p = record { own = p.own; read = p.read; err = p.err }
 own_count T E ErrorOutput old new e p = record { own = p.own; read = p.read; write = p.write }
 
-pub breaks_off : {T E : Type 0} (result : Result T E) (e : E) (w v : World) (d : ℕ) (piece : List ℕ) (old new : Outside) → result ≡ Err e → v.prints ≡ w.prints ++ print_to d piece ∷ [] → Puts (side_of d) piece old new result
-    → BreaksOff w v old new
-breaks_off {T} {E} result e w v d piece old new is last puts =
+-- one print, which failed
+pub cut_short : {T E : Type 0} (result : Result T E) (e : E) (d : ℕ) (piece : List ℕ) (old new : Outside) → result ≡ Err e → Puts (side_of d) piece old new result → IsCutShort (act_of (side_of d) piece ∷ []) old new
+cut_short {T} {E} result e d piece old new is puts =
     let P : Result T E → Type 0 = λ x. Puts (side_of d) piece old new x in
     let failed : Puts (side_of d) piece old new (Err e) = subst P is puts in
     let part = failed.takes.part in
@@ -65,7 +57,7 @@ breaks_off {T} {E} result e w v d piece old new is last puts =
       before = [];
       side = side_of d;
       piece = piece;
-      last = last;
+      last = refl;
       n = part.0;
       part = part.1;
       did = part.2;
@@ -76,47 +68,69 @@ breaks_off {T} {E} result e w v d piece old new is last puts =
 rose_after : (a b c : ℕ) → b ≡ a → Rose b c → Rose a c
 rose_after a b c same rose = let P : ℕ → Type 0 = λ n. Rose n c in subst P same rose
 
--- the print that failed is the first one
-pub failed_after : (a b c : Outside) → KeepsCounts a b → PrintFailed b c → PrintFailed a c
-failed_after a b c keeps (inl p) = inl (record { own = rose_after _ _ _ keeps.write p.own; read = p.read ∙ keeps.read; err = p.err ∙ keeps.err })
-failed_after a b c keeps (inr p) = inr (record { own = rose_after _ _ _ keeps.err p.own; read = p.read ∙ keeps.read; write = p.write ∙ keeps.write })
-
 counts_after : (side : Side) (a b c : Outside) → KeepsCounts a b → CountsOf {T = ⊤} {E = ⊤} side b c (Err tt) → CountsOf {T = ⊤} {E = ⊤} side a c (Err tt)
 counts_after File a b c keeps p = record { own = rose_after _ _ _ keeps.write p.own; read = p.read ∙ keeps.read; err = p.err ∙ keeps.err }
 counts_after Output a b c keeps p = record { own = rose_after _ _ _ keeps.write p.own; read = p.read ∙ keeps.read; err = p.err ∙ keeps.err }
 counts_after ErrorOutput a b c keeps p = record { own = rose_after _ _ _ keeps.err p.own; read = p.read ∙ keeps.read; write = p.write ∙ keeps.write }
 
+-- the print that failed is the first one
+pub failed_after : (a b c : Outside) → KeepsCounts a b → PrintFailed b c → PrintFailed a c
+failed_after a b c keeps (inl p) = inl (counts_after Output a b c keeps p)
+failed_after a b c keeps (inr p) = inr (counts_after ErrorOutput a b c keeps p)
+
+cut_after : (front acts : List Act) (x y z : Outside) → Did front x y → KeepsCounts x y → IsCutShort acts y z → IsCutShort (front ++ acts) x z
+cut_after front acts x y z did keeps cut =
+    let whole = act_of cut.side cut.piece in
+    let part = act_of cut.side (take cut.n cut.piece) in
+    let D : List Act → Type 0 = λ acts. Did acts x z in
+    record {
+      before = front ++ cut.before;
+      side = cut.side;
+      piece = cut.piece;
+      last = ap (λ (back : List Act). front ++ back) cut.last ∙ sym (append_assoc front cut.before (whole ∷ []));
+      n = cut.n;
+      part = cut.part;
+      did = subst D (sym (append_assoc front cut.before (part ∷ []))) (Did-then front (cut.before ++ part ∷ []) x y z did cut.did);
+      counts = counts_after cut.side x y z keeps cut.counts;
+      no_file = cut.no_file;
+    }
+
 -- what was printed before it stands in front
 pub breaks_after : (u v w : World) (x y z : Outside) → ArePrinted u v x y → KeepsCounts x y → BreaksOff v w y z → BreaksOff u w x z
-breaks_after u v w x y z p keeps off =
-    let whole = act_of off.side off.piece in
-    let part = act_of off.side (take off.n off.piece) in
-    record {
-      before = p.more ++ off.before;
-      side = off.side;
-      piece = off.piece;
-      last =
-          off.last
-          ∙ ap (λ (front : List Act). front ++ (off.before ++ whole ∷ [])) p.behind
-          ∙ append_assoc u.prints p.more (off.before ++ whole ∷ [])
-          ∙ ap (λ (back : List Act). u.prints ++ back) (sym (append_assoc p.more off.before (whole ∷ [])));
-      n = off.n;
-      part = off.part;
-      did =
-          let D : List Act → Type 0 = λ acts. Did acts x z in
-          subst D (sym (append_assoc p.more off.before (part ∷ []))) (Did-then p.more (off.before ++ part ∷ []) x y z p.did off.did);
-      counts = counts_after off.side x y z keeps off.counts;
-      no_file = off.no_file;
-    }
+breaks_after u v w x y z p keeps off = record {
+  more = p.more ++ off.more;
+  behind = off.behind ∙ ap (λ (front : List Act). front ++ off.more) p.behind ∙ append_assoc u.prints p.more off.more;
+  cut = cut_after p.more off.more x y z p.did keeps off.cut;
+}
 
 -- of all that the turns of the plan print, what was printed is the front, and the piece that was cut comes next
 pub breaks_front : (m : Machine) (w : World) (k n : ℕ) (x y : Outside) → k ≤ n → (off : BreaksOff w (planned m w k) x y)
-    → (more : List Act) × ((planned m w n).prints ≡ w.prints ++ (off.before ++ act_of off.side off.piece ∷ more))
+    → (more : List Act) × ((planned m w n).prints ≡ w.prints ++ (off.cut.before ++ act_of off.cut.side off.cut.piece ∷ more))
 breaks_front m w k n x y le off =
     let p = prints_planned m w k n le in
-    let whole = act_of off.side off.piece in
-    (p.0,
-    p.1
-    ∙ ap (λ (front : List Act). front ++ p.0) off.last
-    ∙ append_assoc w.prints (off.before ++ whole ∷ []) p.0
-    ∙ ap (λ (back : List Act). w.prints ++ back) (append_assoc off.before (whole ∷ []) p.0))
+    let whole = act_of off.cut.side off.cut.piece in (
+      p.0,
+      p.1
+          ∙ ap (λ (front : List Act). front ++ p.0) (off.behind ∙ ap (λ (back : List Act). w.prints ++ back) off.cut.last)
+          ∙ append_assoc w.prints (off.cut.before ++ whole ∷ []) p.0
+          ∙ ap (λ (back : List Act). w.prints ++ back) (append_assoc off.cut.before (whole ∷ []) p.0),
+    )
+
+-- The same of a run that was driven: a print failed in turn n of the plan, and this is what the whole run would
+-- have printed.
+pub driven_front : (m : Machine) (w : World) (n : ℕ) (x y : Outside) → n < most_turns m.setup → (off : BreaksOff w (planned m w (n + 1)) x y)
+    → (more : List Act) × ((driven m w).prints ≡ w.prints ++ (off.cut.before ++ act_of off.cut.side off.cut.piece ∷ more))
+unfolding driven
+driven_front m w n x y few off = breaks_front m w (n + 1) (most_turns m.setup) x y (omega (arith, few)) off
+
+-- ---- what a write prints
+
+-- bytes of memory, where it prints any
+pub write_acts_are : (m : Memory) (d from n : ℕ) (bytes : List ℕ) → is_output d ≡ true → eqb n 0 ≡ false → IsInside m from n → bytes ≡ read_at m from n → write_acts m d from n ≡ act_of (side_of d) bytes ∷ []
+write_acts_are m d from n bytes known some inside is =
+    let acts = act_of (side_of d) (read_at m from n) ∷ [] in
+    let test : is_inside m from n ≡ true = grind (arith, nat_tests, inside.0, inside.1) in
+    ap (λ (b : Bool). if not b then [] else (if eqb n 0 then [] else (if is_inside m from n then acts else []))) known
+    ∙ ap (λ (b : Bool). if b then [] else (if is_inside m from n then acts else [])) some
+    ∙ ap (λ (b : Bool). if b then acts else []) test
+    ∙ ap (λ (x : List ℕ). act_of (side_of d) x ∷ []) (sym is)

@@ -89,13 +89,13 @@ timed_as P m w end is within Q =
 
 timed_executed : (m : Machine) (h : ℕ) (w : World) → w.ending ≡ None → Timed m w None → Within Early m (executed m h w) (executed m h w).ending
 timed_executed m h w going timed = elim (by_executed m h w) [
-    | inl p ↦ (let A : Option End → Type 0 = λ o. Within Early m (executed m h w) o in subst A (sym (p.1 ∙ going)) (w.retired, p.0, timed.1, ap (count_by is_sample) p.2 ∙ timed.0))
-    | inr q ↦ elim q [
-      | inl p ↦ (let A : Option End → Type 0 = λ o. Within Early m (executed m h w) o in subst A (sym p.1.1) (w.retired, p.0, timed.1, ap (count_by is_sample) p.2 ∙ timed.0))
-      | inr p ↦ (let A : Option End → Type 0 = λ o. Within Early m (executed m h w) o in
-          subst A (sym p.1.2) (ap (count_by is_sample) p.2 ∙ timed.0 ∙ ap (λ (n : ℕ). n / m.setup.every) (sym p.0), omega (arith, p.0, timed.1)))
-    ]
+  | inl p ↦ (let A : Option End → Type 0 = λ o. Within Early m (executed m h w) o in subst A (sym (p.1 ∙ going)) (w.retired, p.0, timed.1, ap (count_by is_sample) p.2 ∙ timed.0))
+  | inr q ↦ elim q [
+    | inl p ↦ (let A : Option End → Type 0 = λ o. Within Early m (executed m h w) o in subst A (sym p.1.1) (w.retired, p.0, timed.1, ap (count_by is_sample) p.2 ∙ timed.0))
+    | inr p ↦ (let A : Option End → Type 0 = λ o. Within Early m (executed m h w) o in
+        subst A (sym p.1.2) (ap (count_by is_sample) p.2 ∙ timed.0 ∙ ap (λ (n : ℕ). n / m.setup.every) (sym p.0), omega (arith, p.0, timed.1)))
   ]
+]
 
 sampled_test : (m : Machine) (w : World) (pc : ℕ) (b : Bool) → eqb (w.retired % m.setup.every) 0 ≡ b → 1 ≤ m.setup.every → Early m w → OnTime m (if b then with_entry (Sample pc) w else w)
 sampled_test m w pc true is some (n, r, few, count) =

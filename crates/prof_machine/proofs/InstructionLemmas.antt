@@ -1,23 +1,23 @@
 -- An instruction, in the world that a run stands for.
-use Rattle.std.proofs.Common.{◌&&◌, ◌++◌, Bool, List, Some, [], ap, arith, eqb, false, inl, inr, refl, set, subst, sym, true, ℕ, ◌∙◌, ◌∷◌, ◌≡◌, ◌≤◌, if◌then◌else◌}
-use Rattle.std.specs.Prelude.{nat_le, not, ◌||◌, ◌⊎◌}
-use Rattle.std.proofs.lemmas.Bool.Decides.{nat_tests}
+use Rattle.std.proofs.Common.{◌++◌, List, Some, ap, inl, inr, refl, set, subst, sym, ℕ, ◌∙◌, ◌≡◌}
 use Rattle.std.proofs.lemmas.List.{set-get_or}
 use Rattle.std.specs.Vec.{with_item}
-use Rattle.rv_step.specs.Memory.{IsInside, Memory, is_inside, read_at}
-use Rattle.rv_step.specs.Registers.{Registers, register}
+use Rattle.std.specs.Prelude.{◌⊎◌}
+use Rattle.host_port.specs.Act.{Act}
+use Rattle.rv_step.specs.Memory.{Memory}
+use Rattle.rv_step.specs.Registers.{Registers}
 use Rattle.rv_step.specs.Step.{step_of}
 use Rattle.rv_step.specs.declared.stepped.Stepped.{Stepped}
 use Rattle.rv_step.specs.declared.stepped.Stepped.TheVariants.{Ecall, Retired, Trap as Trapped}
 use Rattle.rv_step.specs.declared.stepped.TrapKind.{TrapKind}
 use Rattle.prof_machine.proofs.StandingLemmas.{answers_stands, with_ending, with_harts, with_memory, with_retired}
-use Rattle.prof_machine.specs.Ecalls.{ecall_of, print_to, write_call}
+use Rattle.prof_machine.specs.Ecalls.{ecall_of, write_acts, write_answer}
 use Rattle.prof_machine.specs.Stages.{answers, retires}
 use Rattle.prof_machine.specs.Turn.{after_call, after_ecall, after_outcome, after_step, executed, retired_with}
 use Rattle.prof_machine.specs.Value.{RunValue, StandsFor, value_of}
 use Rattle.prof_machine.specs.World.{World, blank, hart_of}
 use Rattle.prof_machine.specs.declared.ecalls.Call.{Call}
-use Rattle.prof_machine.specs.declared.ecalls.Call.TheVariants.{Answers, Exits, Prints, SetsBreak}
+use Rattle.prof_machine.specs.declared.ecalls.Call.TheVariants.{Writes}
 use Rattle.prof_machine.specs.declared.ending.End.TheVariants.{Trap}
 use Rattle.prof_machine.specs.declared.machine.Machine.{Machine}
 use Rattle.prof_machine.specs.declared.runs.Run.TheInside.{Inside}
@@ -46,17 +46,16 @@ retired_stands w r h s m stands =
 
 -- ---- an environment call
 
-pub ecall_as : (w : World) (r : RunValue) (h : ℕ) (s : Registers) (call : Call) → hart_of r.harts h ≡ s → call ≡ ecall_of r.machine s r.memory r.break_at → StandsFor w r → after_ecall r.machine h w ≡ after_call h call w
+pub ecall_as : (w : World) (r : RunValue) (h : ℕ) (s : Registers) (call : Call) → hart_of r.harts h ≡ s → call ≡ ecall_of r.machine s r.break_at → StandsFor w r → after_ecall r.machine h w ≡ after_call h call w
 unfolding after_ecall
 ecall_as w r h s call read is stands =
     let hart : hart_of w.harts h ≡ s = ap (λ (x : List Registers). hart_of x h) (sym stands.harts) ∙ read in
-    ap (λ (x : Registers). after_call h (ecall_of r.machine x w.memory w.break_at) w) hart
-    ∙ ap (λ (x : Memory). after_call h (ecall_of r.machine s x w.break_at) w) (sym stands.memory)
-    ∙ ap (λ (x : ℕ). after_call h (ecall_of r.machine s r.memory x) w) (sym stands.break_at)
+    ap (λ (x : Registers). after_call h (ecall_of r.machine x w.break_at) w) hart
+    ∙ ap (λ (x : ℕ). after_call h (ecall_of r.machine s x) w) (sym stands.break_at)
     ∙ ap (λ (x : Call). after_call h x w) (sym is)
 
-pub printed_stands : (w : World) (r : RunValue) (h d from n : ℕ) → StandsFor w r → StandsFor (after_call h (Prints d from n) w) (answers h n r)
-printed_stands w r h d from n stands = answers_stands (record w { prints = w.prints ++ print_to d (read_at w.memory from n) ∷ [] }) r h n (record {
+with_prints : (w : World) (r : RunValue) (acts : List Act) → StandsFor w r → StandsFor (record w { prints = acts }) r
+with_prints w r acts stands = record {
   harts = stands.harts;
   left = stands.left;
   memory = stands.memory;
@@ -66,33 +65,13 @@ printed_stands w r h d from n stands = answers_stands (record w { prints = w.pri
   gmon = stands.gmon;
   samples = stands.samples;
   lost = stands.lost;
-})
+}
 
-write_prints : (memory : Memory) (d f n x y : ℕ) (d' f' n' : ℕ) (b1 b2 b3 : Bool) → eqb n 0 ≡ b2 → is_inside memory f n ≡ b3
-    → (if not b1 then Answers x else (if b2 then Answers 0 else (if not b3 then Answers y else Prints d f n))) ≡ Prints d' f' n' → (1 ≤ n') × (is_inside memory f' n' ≡ true)
-write_prints memory d f n x y d' f' n' false b2 b3 e i is = absurd cc
-write_prints memory d f n x y d' f' n' true true b3 e i is = absurd cc
-write_prints memory d f n x y d' f' n' true false false e i is = absurd cc
-write_prints memory d f n x y d' f' n' true false true e i is =
-    let fs : f ≡ f' = cc in
-    let ns : n ≡ n' = cc in
-    (grind (arith, nat_tests), ap (λ (k : ℕ). is_inside memory k n') (sym fs) ∙ ap (λ (k : ℕ). is_inside memory f k) (sym ns) ∙ i)
-
-pub asked_prints : (m : Machine) (s : Registers) (memory : Memory) (b d f n : ℕ) → Prints d f n ≡ ecall_of m s memory b → (1 ≤ n) × (is_inside memory f n ≡ true)
-unfolding ecall_of
-asked_prints m s memory b d f n is = by_number (eqb (register s 17) 64) (eqb (register s 17) 93) (eqb (register s 17) 214) (nat_le m.first_break (register s 10) && nat_le (register s 10) m.last_break) (sym is)
-  where
-    by_number : (b1 b2 b3 b4 : Bool)
-        → (if b1 then write_call memory (register s 10) (register s 11) (register s 12) else (if b2 then Exits (register s 10) else (if b3 then (if b4 then SetsBreak (register s 10) else Answers b) else Answers 4294967258))) ≡ Prints d f n
-        → (1 ≤ n) × (is_inside memory f n ≡ true)
-    by_number true b2 b3 b4 is = write_prints memory (register s 10) (register s 11) (register s 12) _ _ d f n (eqb (register s 10) 1 || eqb (register s 10) 2) _ _ refl refl is
-    by_number false true b3 b4 is = absurd cc
-    by_number false false true true is = absurd cc
-    by_number false false true false is = absurd cc
-    by_number false false false b4 is = absurd cc
-
-pub inside_is : (m : Memory) (a n : ℕ) → is_inside m a n ≡ true → IsInside m a n
-inside_is m a n is = (grind (arith, nat_tests, is), grind (arith, nat_tests, is))
+pub written_stands : (w : World) (r : RunValue) (h d from n answer : ℕ) → answer ≡ write_answer r.memory d from n → StandsFor w r → StandsFor (after_call h (Writes d from n) w) (answers h answer r)
+written_stands w r h d from n answer is stands =
+    let P : ℕ → Type 0 = λ k. StandsFor (after_call h (Writes d from n) w) (answers h k r) in
+    let same : answer ≡ write_answer w.memory d from n = is ∙ ap (λ (m : Memory). write_answer m d from n) stands.memory in
+    subst P (sym same) (answers_stands (record w { prints = w.prints ++ write_acts w.memory d from n }) r h (write_answer w.memory d from n) (with_prints w r _ stands))
 
 -- ---- a step
 

@@ -20,7 +20,7 @@ use Rattle.prof_machine.specs.Plan.{plan_of, planned}
 use Rattle.prof_machine.specs.Turn.{after_call, after_ecall, after_entering, after_step, arrived, closed, executed, instructed, is_at, returned, sampled, spent, taken, target_of, turn_of, while_going, with_entry, world_after}
 use Rattle.prof_machine.specs.World.{World, hart_of, left_of}
 use Rattle.prof_machine.specs.declared.ecalls.Call.{Call}
-use Rattle.prof_machine.specs.declared.ecalls.Call.TheVariants.{Answers, Exits, Prints, SetsBreak}
+use Rattle.prof_machine.specs.declared.ecalls.Call.TheVariants.{Answers, Exits, SetsBreak, Writes}
 use Rattle.prof_machine.specs.declared.ending.End.{End}
 use Rattle.prof_machine.specs.declared.machine.Machine.{Machine}
 
@@ -91,12 +91,12 @@ prints_call : (h : ℕ) (w : World) (call : Call) → Prints_on w (after_call h 
 unfolding Prints_on
 prints_call h w (Answers n) = nothing_more w (after_call h (Answers n) w) refl
 prints_call h w (SetsBreak to) = nothing_more w (after_call h (SetsBreak to) w) refl
-prints_call h w (Prints d from n) = (_, refl)
+prints_call h w (Writes d from n) = (_, refl)
 prints_call h w (Exits status) = nothing_more w (after_call h (Exits status) w) refl
 
 prints_ecall : (m : Machine) (h : ℕ) (w : World) → Prints_on w (after_ecall m h w)
 unfolding after_ecall
-prints_ecall m h w = prints_call h w (ecall_of m (hart_of w.harts h) w.memory w.break_at)
+prints_ecall m h w = prints_call h w (ecall_of m (hart_of w.harts h) w.break_at)
 
 prints_step : (m : Machine) (h : ℕ) (w : World) (answer : Stepped) (s : Registers) (memory : Memory) → Prints_on w (after_step m h answer s memory w)
 prints_step m h w Retired s memory = nothing_more w _ refl

@@ -54,31 +54,40 @@ length-plan_of : (setup : Setup) (n : ℕ) → length (plan_of setup n) ≡ n
 unfolding plan_of
 length-plan_of setup n = length-map-range_with_len (taker_of setup.plan setup.harts) 0 n
 
-no_room : (m : Machine) (w v : World) (turns : List ℕ) → length turns + room_of m w ≤ room_of m v → w.retired < m.setup.budget → length turns ≡ most_turns m.setup → room_of m v ≡ most_turns m.setup → ⊥
+no_room : (m : Machine) (w v : World) (turns : List ℕ) → length turns + room_of m w ≤ room_of m v → w.retired < m.setup.budget → most_turns m.setup ≤ length turns → room_of m v ≡ most_turns m.setup → ⊥
 unfolding room_of
-no_room m w v turns fits few is start = omega (arith, fits, few, is, start)
+no_room m w v turns fits few enough start = omega (arith, fits, few, enough, start)
 
-pub plan_ends : (image : Image) (bytes : List ℕ) (setup : Setup) → 1 ≤ setup.every → 1 ≤ setup.budget → IsSome (final_world image bytes setup).ending
-unfolding driven
-plan_ends image bytes setup every budget = by_end (final_world image bytes setup).ending refl
+-- whichever harts take the turns
+pub turns_end : (image : Image) (bytes : List ℕ) (setup : Setup) (turns : List ℕ) → 1 ≤ setup.every → 1 ≤ setup.budget → most_turns setup ≤ length turns → IsSome (world_after (machine_of image setup) (start_of image bytes setup) turns).ending
+turns_end image bytes setup turns every budget enough = by_end w.ending refl
   where
     m : Machine
     m = machine_of image setup
 
-    turns : List ℕ
-    turns = plan_of m.setup (most_turns m.setup)
+    w : World
+    w = world_after m (start_of image bytes setup) turns
 
     some : 1 ≤ m.setup.every
     some = subst (λ (s : Setup). 1 ≤ s.every) (sym (given_setup image setup)) every
 
-    by_end : (o : Option End) → (final_world image bytes setup).ending ≡ o → IsSome o
+    many : most_turns m.setup ≤ length turns
+    many = subst (λ (s : Setup). most_turns s ≤ length turns) (sym (given_setup image setup)) enough
+
+    by_end : (o : Option End) → w.ending ≡ o → IsSome o
     by_end (Some end) is = refl
     by_end None is =
-        let w = world_after m (start_of image bytes setup) turns in
         let fits = room_after m (start_of image bytes setup) turns some (looks_short image setup) (timed_start image bytes setup budget) is in
         let few = (at_none m w is (timed_run image bytes setup turns every budget)).1 in
         let start : room_of m (start_of image bytes setup) ≡ most_turns m.setup = room_start image bytes setup ∙ ap most_turns (sym (given_setup image setup)) in
-        absurd (no_room m w (start_of image bytes setup) turns fits few (length-plan_of m.setup (most_turns m.setup)) start)
+        absurd (no_room m w (start_of image bytes setup) turns fits few many start)
+
+pub plan_ends : (image : Image) (bytes : List ℕ) (setup : Setup) → 1 ≤ setup.every → 1 ≤ setup.budget → IsSome (final_world image bytes setup).ending
+unfolding driven
+plan_ends image bytes setup every budget =
+    let m = machine_of image setup in
+    let long : length (plan_of m.setup (most_turns m.setup)) ≡ most_turns setup = length-plan_of m.setup (most_turns m.setup) ∙ ap most_turns (given_setup image setup) in
+    turns_end image bytes setup (plan_of m.setup (most_turns m.setup)) every budget (omega (arith, long))
 
 pub plan_shortest : (image : Image) (bytes : List ℕ) (setup : Setup) (n : ℕ) → 1 ≤ setup.every → 1 ≤ setup.budget → IsSome (planned (machine_of image setup) (start_of image bytes setup) n).ending
     → planned (machine_of image setup) (start_of image bytes setup) n ≡ final_world image bytes setup

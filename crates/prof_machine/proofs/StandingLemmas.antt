@@ -46,7 +46,6 @@ pub is_ended : (o : Option End) → is_some o ≡ true → IsSome o
 is_ended None is = absurd cc
 is_ended (Some end) is = cc
 
-
 -- ---- what changes one part alone
 
 pub with_ending : (w : World) (r : RunValue) (end : End) → StandsFor w r → StandsFor (record w { ending = Some end }) (record r { ending = Some end })

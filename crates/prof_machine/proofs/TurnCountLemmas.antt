@@ -4,7 +4,7 @@ use Rattle.std.specs.Prelude.{is_some, nat_lt}
 use Rattle.std.specs.List.{list_any}
 use Rattle.mcount_arcs.specs.Arcs.{looks_of}
 use Rattle.mcount_arcs.specs.Log.{LogEntry, Sample, WalkDone}
-use Rattle.prof_machine.proofs.ClockLemmas.{Timed, at_none, first, timed_turn}
+use Rattle.prof_machine.proofs.ClockLemmas.{Timed, at_none, timed_turn}
 use Rattle.prof_machine.proofs.WorldLemmas.{by_arrived, by_executed, by_going, by_returned, closed_going, ended_stays, ended_turn, going_stage}
 use Rattle.prof_machine.specs.Turn.{arrived, closed, executed, instructed, sampled, spent, taken, turn_of, while_going, with_entry, world_after}
 use Rattle.prof_machine.specs.World.{World, hart_of, left_of}
@@ -43,12 +43,12 @@ never o end is none = absurd cc
 
 untouched_executed : (m : Machine) (h : ℕ) (w : World) → Untouched w (executed m h w)
 untouched_executed m h w = elim (by_executed m h w) [
-    | inl p ↦ λ going. (p.0, p.3)
-    | inr q ↦ elim q [
-      | inl p ↦ λ going. never (executed m h w).ending (Exit p.1.0) p.1.1 going
-      | inr p ↦ λ going. never (executed m h w).ending (Trap p.1.0 p.1.1) p.1.2 going
-    ]
+  | inl p ↦ λ going. (p.0, p.3)
+  | inr q ↦ elim q [
+    | inl p ↦ λ going. never (executed m h w).ending (Exit p.1.0) p.1.1 going
+    | inr p ↦ λ going. never (executed m h w).ending (Trap p.1.0 p.1.1) p.1.2 going
   ]
+]
 
 sampled_parts : (w : World) (pc : ℕ) (b : Bool) → ((if b then with_entry (Sample pc) w else w).retired ≡ w.retired) × ((if b then with_entry (Sample pc) w else w).left ≡ w.left)
 sampled_parts w pc true = (refl, refl)
@@ -65,11 +65,13 @@ longer_arrived : (m : Machine) (h : ℕ) (w v : World) → Short m → v.ending 
 longer_arrived m h w v short on so_far = λ going.
     let p = by_arrived m h v in
     let q = so_far on in
-    let left : total v.left ≡ total w.left = ap total q.1 in
-    (p.0 ∙ q.0, elim p.3 [
-      | inl is ↦ omega (arith, ap total is, left)
-      | inr t ↦ omega (arith, ap total t.2, left, total_set v.left h (looks_of m.sizes v.log t.0 t.1), short v.log t.0 t.1)
-    ])
+    let left : total v.left ≡ total w.left = ap total q.1 in (
+      p.0 ∙ q.0,
+      elim p.3 [
+        | inl is ↦ omega (arith, ap total is, left)
+        | inr t ↦ omega (arith, ap total t.2, left, total_set v.left h (looks_of m.sizes v.log t.0 t.1), short v.log t.0 t.1)
+      ],
+    )
 
 longer_spent : (m : Machine) (w v : World) → v.ending ≡ None → Longer w v → Longer w (spent m v)
 unfolding spent

@@ -1,5 +1,4 @@
 -- A turn, stage by stage, in the world that a run stands for.
-use Rattle.std.specs.Prelude.{Err, Ok, OnErr, OnOk, Result}
 use Rattle.std.proofs.Common.{None, ap, false, refl, subst, sym, zero, ℕ, ◌∙◌, ◌≡◌}
 use Rattle.prof_machine.proofs.PrintLemmas.{prints_closed}
 use Rattle.prof_machine.proofs.StandingLemmas.{stands_going}
@@ -10,20 +9,6 @@ use Rattle.prof_machine.specs.Turn.{arrived, closed, executed, instructed, sampl
 use Rattle.prof_machine.specs.Value.{RunValue, StandsFor}
 use Rattle.prof_machine.specs.World.{World, left_of}
 use Rattle.prof_machine.specs.declared.machine.Machine.{Machine}
-
--- ---- answers
-
-pub on_ok : (T E : Type 0) (r : Result T E) (P Q : Type 0) → (P → Q) → OnOk r P → OnOk r Q
-on_ok T E (Ok x) P Q f p = f p
-on_ok T E (Err e) P Q f p = tt
-
-pub on_err : (T E : Type 0) (r : Result T E) (P Q : Type 0) → (P → Q) → OnErr r P → OnErr r Q
-on_err T E (Ok x) P Q f p = tt
-on_err T E (Err e) P Q f p = f p
-
-pub on_err_any : (T E : Type 0) (r : Result T E) (P : Type 0) → P → OnErr r P
-on_err_any T E (Ok x) P p = tt
-on_err_any T E (Err e) P p = p
 
 -- ---- the stages one after the other
 

@@ -28,8 +28,6 @@ use Rattle.prof_machine.specs.declared.flight.Flight.{Flight}
 use Rattle.prof_machine.specs.declared.machine.Machine.{Machine}
 use Rattle.prof_machine.specs.declared.runs.Run.TheInside.{Inside}
 
--- ---- a call that is being entered
-
 -- no call, no walk
 pub no_walk : (o : Option Walk) → option_map call_of o ≡ None → o ≡ None
 no_walk None is = refl

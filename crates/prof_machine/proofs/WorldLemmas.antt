@@ -21,7 +21,7 @@ use Rattle.prof_machine.specs.Turn.{after_call, after_ecall, after_entering, aft
 use Rattle.prof_machine.specs.Value.{is_sample}
 use Rattle.prof_machine.specs.World.{World, hart_of}
 use Rattle.prof_machine.specs.declared.ecalls.Call.{Call}
-use Rattle.prof_machine.specs.declared.ecalls.Call.TheVariants.{Answers, Exits, Prints, SetsBreak}
+use Rattle.prof_machine.specs.declared.ecalls.Call.TheVariants.{Answers, Exits, SetsBreak, Writes}
 use Rattle.prof_machine.specs.declared.ending.End.{End}
 use Rattle.prof_machine.specs.declared.ending.End.TheVariants.{Exit, Trap}
 use Rattle.prof_machine.specs.declared.machine.Machine.{Machine}
@@ -43,7 +43,6 @@ ended_stage f w is = ap (λ (o : Option End). if is_some o then w else f w) (the
 pub closed_going : (w : World) → w.ending ≡ None → closed w ≡ w
 unfolding closed
 closed_going w is = ap (λ (o : Option End). if is_some o && list_any (λ k. nat_lt 0 k) w.left then record (with_entry WalkDone w) { left = map (λ n. 0) w.left } else w) is
-
 
 going_by : (f : World → World) (w : World) (Q : World → Type 0) (o : Option End) → w.ending ≡ o → (w.ending ≡ None → Q (f w)) → ((end : End) → w.ending ≡ Some end → Q w) → Q (if is_some o then w else f w)
 going_by f w Q None is on off = on is
@@ -67,12 +66,12 @@ HasTrapped w v = (v.retired ≡ w.retired) × ((kind : TrapKind) × (pc : ℕ) �
 by_call : (h : ℕ) (w : World) (call : Call) → WentOn w (after_call h call w) ⊎ Exited w (after_call h call w)
 by_call h w (Answers n) = inl (refl, refl, refl, refl)
 by_call h w (SetsBreak to) = inl (refl, refl, refl, refl)
-by_call h w (Prints d from n) = inl (refl, refl, refl, refl)
+by_call h w (Writes d from n) = inl (refl, refl, refl, refl)
 by_call h w (Exits status) = inr (refl, (status, refl), refl, refl)
 
 by_ecall : (m : Machine) (h : ℕ) (w : World) → WentOn w (after_ecall m h w) ⊎ Exited w (after_ecall m h w)
 unfolding after_ecall
-by_ecall m h w = by_call h w (ecall_of m (hart_of w.harts h) w.memory w.break_at)
+by_ecall m h w = by_call h w (ecall_of m (hart_of w.harts h) w.break_at)
 
 left_side : {A B C : Type 0} → A ⊎ B → A ⊎ (B ⊎ C)
 left_side (inl a) = inl a

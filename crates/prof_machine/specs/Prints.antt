@@ -13,18 +13,24 @@ pub record ArePrinted (w v : World) (old new : Outside) : Type 0 where
   pub behind : v.prints ≡ w.prints ++ more
   pub did : Did more old new
 
--- A print failed: what the later world has printed more was printed but for a rest of the last piece. Only the
--- count of faults of its side rose.
-pub record BreaksOff (w v : World) (old new : Outside) : Type 0 where
+-- The last act, a print on one of the two outputs, failed: of its piece a front was printed that isn't the whole.
+-- All acts before it were done, and only the count of faults of its side rose.
+pub record IsCutShort (acts : List Act) (old new : Outside) : Type 0 where
   pub before : List Act
   pub side : Side
   pub piece : List ℕ
-  pub last : v.prints ≡ w.prints ++ (before ++ act_of side piece ∷ [])
+  pub last : acts ≡ before ++ act_of side piece ∷ []
   pub n : ℕ
   pub part : n < length piece
   pub did : Did (before ++ act_of side (take n piece) ∷ []) old new
   pub counts : CountsOf {T = ⊤} {E = ⊤} side old new (Err tt)
   pub no_file : side ≢ File
+
+-- a print failed: what the later world has printed more was printed but for a rest of its last piece
+pub record BreaksOff (w v : World) (old new : Outside) : Type 0 where
+  pub more : List Act
+  pub behind : v.prints ≡ w.prints ++ more
+  pub cut : IsCutShort more old new
 
 -- a print on one of the two outputs failed, and only the count of faults of that side rose
 abbrev pub PrintFailed : Outside → Outside → Type 0

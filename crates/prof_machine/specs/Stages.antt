@@ -53,5 +53,6 @@ pub record Serves (old new : RunValue) : Type 0 where
   pub same : Steps old new
   pub retired : new.retired ≡ old.retired
   pub due : new.due ≡ old.due
+  pub samples : new.samples ≡ old.samples
   pub looks : looks_at_most new.flight ≤ looks_at_most old.flight + 65534
   pub ended : IsSome old.ending → new.ending ≡ old.ending

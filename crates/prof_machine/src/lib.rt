@@ -20,4 +20,6 @@ pub use setup::{Plan, Setup};
 #[cfg(test)]
 mod examples;
 #[cfg(test)]
+mod programs;
+#[cfg(test)]
 mod tests;

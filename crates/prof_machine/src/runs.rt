@@ -80,6 +80,7 @@ impl Run {
         ensures stands { IfOk result (StandsFor (start_of image.now bytes.now setup)) }
         ensures live { IfOk result IsLive }
         ensures machine { IfOk result (λ run. run.machine ≡ machine_of image.now setup) }
+        ensures setup { IfOk result (λ run. run.machine.setup ≡ setup) }
     {
         let layout = Layout::of(image, setup)?;
         let mut ram = Ram::new(alloc, layout.base, layout.size)?;

@@ -1,24 +1,21 @@
 //! The stages of a turn.
 
 ghost use Rattle.std.specs.Prelude.{◌≡◌, ◌+◌, ◌<◌, ◌≤◌, ◌&&◌, ℕ, None, OnOk, OnErr, IsSome, true, false, MatchResult};
-ghost use Rattle.host_port.specs.Host.{Puts};
 ghost use Rattle.host_port.specs.Outside.{KeepsCounts, KeepsInput};
-ghost use Rattle.rv_step.specs.Memory.{IsInside, read_at};
 ghost use Rattle.mcount_arcs.specs.Sizes.{is_in, text_span};
-ghost use Rattle.prof_machine.specs.Ecalls.{side_of};
 ghost use Rattle.prof_machine.specs.Prints.{ArePrinted, BreaksOff, PrintFailed};
 ghost use Rattle.prof_machine.specs.Stages.{Executes, Serves, Steps, Ticks, answers, holds, retires, returns};
 ghost use Rattle.prof_machine.specs.Turn.{after_ecall, arrived, called, closed, executed, instructed, sampled, spent, switched, taken, while_going};
 ghost use Rattle.prof_machine.specs.Value.{StandsFor, calls_met, work_left};
 ghost use Rattle.prof_machine.specs.World.{World, hart_of, left_of};
 
-use crate::ecalls::{A0, Call, OUT, ecall_of};
+use crate::ecalls::{A0, Call, ecall_of, write};
 use crate::ending::End;
 use crate::flight::{Flight, finish_walk};
 use crate::runs::Run;
-use host_port::{Failed, Host, err_all_of, out_all_of};
+use host_port::{Failed, Host};
 use mcount_arcs::{Entered, Gmon, Looked};
-use rv_step::{Ram, Stepped, TrapKind, step};
+use rv_step::{Stepped, TrapKind, step};
 
 /// The number of the register that says where a function returns to: ra of the RISC-V calling convention.
 const RA: u32 = 1;
@@ -136,19 +133,19 @@ impl Run {
         ensures same { Steps self.old self.new }
         ensures executes { OnOk result (Executes self.old self.new) }
     {
-        match ecall_of(&self.machine, &self.harts[hart as usize], &self.ram, self.break_at) {
+        match ecall_of(&self.machine, &self.harts[hart as usize], self.break_at) {
             Call::Answers(n) => self.answer(hart, n),
             Call::SetsBreak(to) => {
                 self.break_at = to;
                 self.answer(hart, to);
             }
-            Call::Prints {
+            Call::Writes {
                 descriptor,
                 from,
                 count,
             } => {
-                print(host, descriptor, &self.ram, from, count)?;
-                self.answer(hart, count);
+                let n = write(host, descriptor, &self.ram, from, count)?;
+                self.answer(hart, n);
             }
             Call::Exits(status) => {
                 self.retire();
@@ -303,24 +300,6 @@ impl Run {
         if let Some(flight) = self.flight.take() {
             finish_walk(&mut self.gmon, flight.walk);
         }
-    }
-}
-
-/// Prints bytes of memory on the output of a descriptor.
-fn print<H: Host>(host: &mut H, descriptor: u32, ram: &Ram, from: u32, count: u32) -> Result<(), Failed>
-    requires some { 1 ≤ count }
-    requires inside { IsInside ram.now from count }
-    ensures { Puts (side_of descriptor) (read_at ram.now from count) (H.outside host.old) (H.outside host.new) result }
-{
-    match ram.slice(from, count) {
-        Some(bytes) => {
-            if descriptor == OUT {
-                out_all_of(host, bytes)
-            } else {
-                err_all_of(host, bytes)
-            }
-        }
-        None => Ok(()),
     }
 }
 

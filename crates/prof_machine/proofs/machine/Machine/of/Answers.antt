@@ -1,5 +1,4 @@
-use Rattle.std.proofs.Common.{◌≡◌, sym, ap}
-use Rattle.prof_machine.specs.Start.{machine_of, program_end_of}
+use Rattle.prof_machine.specs.Start.{machine_of}
 use Rattle.prof_machine.proofs.machine.Machine.of.Goals as goal
 
 pub returns-clause-value : goal.returns-clause-value

@@ -1,4 +1,4 @@
-use Rattle.std.proofs.Common.{◌≡◌, ◌∙◌, true, false, Bool, sym, ap, subst, refl, if◌then◌else◌}
+use Rattle.std.proofs.Common.{true, false, sym, subst, refl}
 use Rattle.prof_machine.specs.Turn.{arrived, called, switched, while_going}
 use Rattle.prof_machine.specs.World.{World, hart_of}
 use Rattle.prof_machine.specs.Value.{RunValue, StandsFor, value_of}

@@ -1,4 +1,4 @@
-use Rattle.std.proofs.Common.{◌≡◌, ◌∙◌, ◌≤◌, sym, ap, subst, Some, None, refl}
+use Rattle.std.proofs.Common.{◌≡◌, ◌∙◌, sym, subst, Some, None}
 use Rattle.prof_machine.specs.Turn.{closed}
 use Rattle.prof_machine.specs.World.{World}
 use Rattle.prof_machine.specs.Value.{RunValue, StandsFor, value_of}

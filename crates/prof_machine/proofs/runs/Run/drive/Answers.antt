@@ -1,8 +1,8 @@
-use Rattle.std.proofs.Common.{◌≡◌, ◌∙◌, ◌+◌, ◌<◌, ◌≤◌, None, true, refl, sym, ap, subst, arith}
+use Rattle.std.proofs.Common.{◌≡◌, ◌∙◌, ◌+◌, ◌≤◌, None, true, refl, sym, subst, arith}
 use Rattle.host_port.proofs.Laws.{KeepsCounts-same, KeepsCounts-then, KeepsInput-same, KeepsInput-then}
-use Rattle.prof_machine.proofs.ActLemmas.{breaks_after, failed_after, nothing_printed, printed_then}
+use Rattle.prof_machine.proofs.ActLemmas.{breaks_after, nothing_printed, printed_then}
 use Rattle.prof_machine.proofs.DriveLemmas.{ended_answer, going_answer, in_first, in_last, in_next, work_bound}
-use Rattle.prof_machine.proofs.TurnLemmas.{on_err_any}
+use Rattle.prof_machine.proofs.ResultLemmas.{on_err_any}
 use Rattle.prof_machine.specs.Plan.{most_turns}
 use Rattle.prof_machine.specs.Prints.{ArePrinted, BreaksOff}
 use Rattle.prof_machine.specs.Schedule.{Draws}
@@ -79,7 +79,10 @@ returns-in_err-turn-clause-fails g c = on_err_any _ _ c.from_residual.result _ (
     let m = c.args.self.now.machine in
     let i = c.loop-end.invariant in
     let t = c.in_err-turn.ensures in
-    let Q : World → Type 0 = λ v. BreaksOff w v (g.H.Host.outside c.args.host.now) (g.H.Host.outside c.turn.new.host) in
-    (i.turns, omega (arith, i.few, t.left), sym (i.stands w st).ending ∙ i.going,
-    in_next Q m c.loop-end.self.machine w i.turns c.next_hart-hart.result i.machine (c.next_hart-hart.ensures.taker _ _ i.draws)
-    (breaks_after w _ _ _ _ _ (i.prints w st) i.counts (t.fails _ (i.stands w st)))))
+    let Q : World → Type 0 = λ v. BreaksOff w v (g.H.Host.outside c.args.host.now) (g.H.Host.outside c.turn.new.host) in (
+      i.turns,
+      omega (arith, i.few, t.left),
+      sym (i.stands w st).ending ∙ i.going,
+      in_next Q m c.loop-end.self.machine w i.turns c.next_hart-hart.result i.machine (c.next_hart-hart.ensures.taker _ _ i.draws)
+          (breaks_after w _ _ _ _ _ (i.prints w st) i.counts (t.fails _ (i.stands w st))),
+    ))

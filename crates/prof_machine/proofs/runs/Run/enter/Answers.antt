@@ -1,9 +1,8 @@
-use Rattle.std.proofs.Common.{◌≡◌, ◌∙◌, sym, ap, subst, Some, refl}
+use Rattle.std.proofs.Common.{sym, subst, Some}
 use Rattle.mcount_arcs.specs.declared.walk.Entered.TheVariants.{Ignored, Lost, Walking}
 use Rattle.prof_machine.specs.Turn.{after_entering, called}
 use Rattle.prof_machine.specs.World.{World, hart_of}
 use Rattle.prof_machine.specs.Value.{RunValue, StandsFor, value_of}
-use Rattle.prof_machine.specs.Stages.{returns}
 use Rattle.prof_machine.proofs.HookLemmas.{called_as, ignored_stands, lost_stands, walking_stands}
 use Rattle.prof_machine.proofs.StandingLemmas.{hart_read, there}
 use Rattle.prof_machine.proofs.runs.Run.enter.Goals as goal

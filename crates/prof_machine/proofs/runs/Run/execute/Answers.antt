@@ -1,17 +1,15 @@
-use Rattle.std.proofs.Common.{◌≡◌, ◌∙◌, sym, ap, subst, refl, List}
-use Rattle.std.specs.Prelude.{OnOk, OnErr}
+use Rattle.std.proofs.Common.{sym, subst}
 use Rattle.std.proofs.Common.{Some}
 use Rattle.std.specs.Vec.{with_item}
 use Rattle.prof_machine.specs.declared.ending.End.TheVariants.{Trap}
-use Rattle.prof_machine.specs.Turn.{executed, after_ecall}
-use Rattle.prof_machine.specs.World.{World, hart_of}
+use Rattle.prof_machine.specs.Turn.{executed}
+use Rattle.prof_machine.specs.World.{World}
 use Rattle.prof_machine.specs.Prints.{ArePrinted, BreaksOff}
 use Rattle.prof_machine.proofs.ActLemmas.{nothing_printed}
 use Rattle.prof_machine.proofs.StandingLemmas.{hart_read, there}
-use Rattle.prof_machine.proofs.TurnLemmas.{on_err, on_ok}
+use Rattle.prof_machine.proofs.ResultLemmas.{on_err, on_ok}
 use Rattle.prof_machine.proofs.InstructionLemmas.{step_called, step_retired, step_trapped}
 use Rattle.prof_machine.specs.Value.{RunValue, StandsFor, value_of}
-use Rattle.prof_machine.specs.Stages.{retires}
 use Rattle.prof_machine.proofs.runs.Run.execute.Goals as goal
 
 pub returns-in-Retired-clause-stands : goal.returns-in-Retired-clause-stands

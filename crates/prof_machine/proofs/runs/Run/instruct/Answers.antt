@@ -1,9 +1,8 @@
-use Rattle.std.proofs.Common.{◌≡◌, ◌∙◌, ◌<◌, sym, ap, subst, refl}
-use Rattle.prof_machine.specs.declared.machine.Machine.{Machine}
-use Rattle.prof_machine.specs.Value.{RunValue}
+use Rattle.std.proofs.Common.{◌≡◌, ◌∙◌}
 use Rattle.prof_machine.proofs.ActLemmas.{breaks_as, printed_as}
 use Rattle.prof_machine.proofs.PrintLemmas.{prints_instructed}
-use Rattle.prof_machine.proofs.TurnLemmas.{instructed_stands, on_err_any}
+use Rattle.prof_machine.proofs.ResultLemmas.{on_err_any}
+use Rattle.prof_machine.proofs.TurnLemmas.{instructed_stands}
 use Rattle.prof_machine.proofs.runs.Run.instruct.Goals as goal
 
 pub returns-in_err-execute-clause-fails : goal.returns-in_err-execute-clause-fails

@@ -1,9 +1,7 @@
-use Rattle.std.proofs.Common.{◌≡◌, ◌∙◌, true, sym, ap, subst, Some, None, refl, Option}
-use Rattle.mcount_arcs.specs.declared.walk.Looked.{Looked}
-use Rattle.mcount_arcs.specs.Value.{Looks}
+use Rattle.std.proofs.Common.{◌≡◌, ◌∙◌, true, sym, subst, Some, None, Option}
 use Rattle.prof_machine.specs.declared.flight.Flight.{Flight}
 use Rattle.prof_machine.specs.Turn.{taken}
-use Rattle.prof_machine.specs.World.{World, left_of}
+use Rattle.prof_machine.specs.World.{left_of}
 use Rattle.prof_machine.specs.Value.{RunValue, StandsFor, value_of}
 use Rattle.prof_machine.specs.Stages.{holds, returns}
 use Rattle.prof_machine.proofs.WalkLemmas.{moved_stands, over_stands}

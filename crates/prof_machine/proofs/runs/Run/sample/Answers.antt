@@ -1,8 +1,7 @@
-use Rattle.std.proofs.Common.{◌≡◌, ◌∙◌, ◌+◌, ◌<◌, None, arith, true, false, sym, ap, subst, refl}
+use Rattle.std.proofs.Common.{◌≡◌, ◌∙◌, ◌+◌, ◌<◌, None, arith, true, false, sym, subst, refl}
 use Rattle.prof_machine.specs.declared.runs.Run.TheInside.{Inside}
 use Rattle.mcount_arcs.specs.Value.{StandsFor as RuntimeStandsFor}
 use Rattle.prof_machine.specs.Turn.{sampled, while_going}
-use Rattle.prof_machine.specs.World.{World}
 use Rattle.prof_machine.specs.Value.{RunValue, StandsFor, value_of}
 use Rattle.prof_machine.proofs.StandingLemmas.{hart_read, is_ended, is_none, sampled_stands, stands_ended, stands_going, there, unsampled_stands}
 use Rattle.prof_machine.proofs.runs.Run.sample.Goals as goal

@@ -1,7 +1,6 @@
-use Rattle.std.proofs.Common.{◌≡◌, ◌∙◌, ℕ, sym, ap, subst, None, Some}
+use Rattle.std.proofs.Common.{subst, Some}
 use Rattle.prof_machine.specs.declared.ending.End.TheVariants.{Budget}
 use Rattle.prof_machine.specs.Turn.{spent, while_going}
-use Rattle.prof_machine.specs.World.{World}
 use Rattle.prof_machine.specs.Value.{RunValue, StandsFor, value_of}
 use Rattle.prof_machine.proofs.StandingLemmas.{is_ended, is_none, spent_stands, stands_ended, stands_going, unspent_stands}
 use Rattle.prof_machine.proofs.runs.Run.spend.Goals as goal

@@ -1,4 +1,4 @@
-use Rattle.std.proofs.Common.{◌∙◌, ℕ, map, length, ap, sym, refl}
+use Rattle.std.proofs.Common.{◌∙◌, length, ap, sym, refl}
 use Rattle.std.proofs.lemmas.List.FromFn.{length-map-range_with_len}
 use Rattle.prof_machine.specs.Start.{first_registers}
 use Rattle.prof_machine.proofs.StartLemmas.{can_load, layout_end, held_at_start, stands_at_start}

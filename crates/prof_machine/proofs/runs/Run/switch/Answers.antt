@@ -1,8 +1,7 @@
-use Rattle.std.proofs.Common.{◌≡◌, ◌∙◌, sym, ap, subst, refl, not, eqb}
+use Rattle.std.proofs.Common.{sym, ap, subst, not, eqb}
 use Rattle.prof_machine.specs.Turn.{switched}
-use Rattle.prof_machine.specs.World.{World, hart_of}
+use Rattle.prof_machine.specs.World.{hart_of}
 use Rattle.prof_machine.specs.Value.{RunValue, StandsFor, value_of}
-use Rattle.prof_machine.specs.Stages.{returns}
 use Rattle.prof_machine.proofs.StandingLemmas.{hart_read, there}
 use Rattle.prof_machine.proofs.HookLemmas.{switched_stands}
 use Rattle.prof_machine.proofs.runs.Run.switch.Goals as goal

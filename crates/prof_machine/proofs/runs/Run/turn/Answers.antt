@@ -1,12 +1,12 @@
-use Rattle.std.proofs.Common.{◌≡◌, ◌∙◌, true, false, sym, ap, subst, refl, List, None}
+use Rattle.std.proofs.Common.{◌≡◌, ◌∙◌, true, false, sym, ap, subst}
 use Rattle.prof_machine.specs.Turn.{closed, instructed, taken, turn_of}
 use Rattle.prof_machine.specs.World.{World, left_of}
 use Rattle.prof_machine.specs.Prints.{ArePrinted, BreaksOff}
 use Rattle.prof_machine.proofs.ActLemmas.{breaks_as, nothing_printed, printed_as}
-use Rattle.prof_machine.proofs.TurnLemmas.{on_err_any, taken_instructed, turn_prints, turn_stands}
+use Rattle.prof_machine.proofs.ResultLemmas.{on_err_any}
+use Rattle.prof_machine.proofs.TurnLemmas.{taken_instructed, turn_prints, turn_stands}
 use Rattle.prof_machine.proofs.StandingLemmas.{with_live}
 use Rattle.prof_machine.specs.Value.{RunValue, StandsFor, value_of}
-use Rattle.prof_machine.specs.Stages.{holds}
 use Rattle.prof_machine.proofs.runs.Run.turn.Goals as goal
 use Rattle.prof_machine.proofs.runs.Run.turn.Goals.{then-holds_walk, else-holds_walk+in_ok-instruct}
 
