@@ -19,7 +19,7 @@ use Rattle.prof_machine.specs.Plan.{driven, planned, most_turns}
 use Rattle.prof_machine.specs.Prints.{ArePrinted, BreaksOff}
 use Rattle.prof_machine.specs.Value.{RunValue, StandsFor}
 use Rattle.prof_machine.specs.World.{World}
-use Rattle.prof_machine.proofs.ActLemmas.{breaks_front}
+use Rattle.prof_machine.proofs.ActLemmas.{driven_front}
 use Rattle.rvgprof.specs.Items.{name_of}
 use Rattle.rvgprof.specs.Answer.{RunFiles, file_acts, given_file_acts, run_acts}
 use Rattle.rvgprof.specs.declared.outcome.Done.{Done}
@@ -48,28 +48,24 @@ printed_performs {T} {E} w v x y u none p kept =
     record { done = subst (λ (acts : List Act). Did acts x y) (sym all) p.did; kept = kept; failed = tt }
 
 -- a print failed in a turn of the plan
-pub breaks_performs : {T E : Type 0} (m : Machine) (w : World) (k n : ℕ) (x y : Outside) (e : E) → k ≤ n → w.prints ≡ [] → BreaksOff w (planned m w k) x y → Performs {T = T} (planned m w n).prints x y (Err e)
-breaks_performs {T} {E} m w k n x y e le none off =
-    let front = breaks_front m w k n x y le off in
-    let act = act_of off.side off.piece in
-    let part = act_of off.side (take off.n off.piece) in
-    let due : (planned m w n).prints ≡ off.before ++ act ∷ front.0 = front.1 ∙ ap (λ (acts : List Act). acts ++ (off.before ++ act ∷ front.0)) none in
+pub drive_fails : {T E : Type 0} (m : Machine) (w : World) (n : ℕ) (x y : Outside) (e : E) → n < most_turns m.setup → w.prints ≡ [] → BreaksOff w (planned m w (n + 1)) x y → Performs {T = T} (driven m w).prints x y (Err e)
+drive_fails {T} {E} m w n x y e below none off =
+    let front = driven_front m w n x y below off in
+    let cut = off.cut in
+    let act = act_of cut.side cut.piece in
+    let part = act_of cut.side (take cut.n cut.piece) in
+    let due : (driven m w).prints ≡ cut.before ++ act ∷ front.0 = front.1 ∙ ap (λ (acts : List Act). acts ++ (cut.before ++ act ∷ front.0)) none in
     record {
       done = tt;
       kept = tt;
       failed = (
-        off.before ++ part ∷ [],
+        cut.before ++ part ∷ [],
         act,
-        subst (λ (acts : List Act). FailedAt act (off.before ++ part ∷ []) acts) (sym due) (failed_behind act off.before (part ∷ []) (act ∷ front.0) (piece_part off.side off.piece off.n front.0 off.part)),
-        off.did,
-        piece_failed ⊤ ⊤ off.side off.piece x y tt off.counts,
+        subst (λ (acts : List Act). FailedAt act (cut.before ++ part ∷ []) acts) (sym due) (failed_behind act cut.before (part ∷ []) (act ∷ front.0) (piece_part cut.side cut.piece cut.n front.0 cut.part)),
+        cut.did,
+        piece_failed ⊤ ⊤ cut.side cut.piece x y tt cut.counts,
       );
     }
-
--- the same in the words of the whole plan
-pub drive_fails : {T E : Type 0} (m : Machine) (w : World) (n : ℕ) (x y : Outside) (e : E) → n < most_turns m.setup → w.prints ≡ [] → BreaksOff w (planned m w (n + 1)) x y → Performs {T = T} (driven m w).prints x y (Err e)
-unfolding driven
-drive_fails {T} m w n x y e below none off = breaks_performs {T = T} m w (n + 1) (most_turns m.setup) x y e (omega arith) none off
 
 -- ---- the files
 

@@ -87,7 +87,7 @@ fn tables(
 }
 
 /// The five section headers: nothing, the text, the symbols, the strings, and the sections' names.
-#[rustfmt::skip]
+#[rattlefmt::skip]
 fn sections(text: u32, symbols: u32, strings: u32) -> [u32; 50]
     requires text { text ≤ 1000000 }
     requires symbols { symbols ≤ 1000000 }
