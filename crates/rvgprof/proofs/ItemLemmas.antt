@@ -61,7 +61,7 @@ find_valued {A} text takes i wanted skip words word value key some first option 
   where
     valued : (ws : List A) → 1 ≤ length ws → items_of_option takes i (Some key) (items_from takes (i + 1) (map text ws)) (map text ws) ≡ with_item (Given key (i + 1)) (items_from takes (i + 2) (map text (rest_of ws)))
     valued [] none = absurd (omega arith)
-    valued (v ∷ ws) some = 
+    valued (v ∷ ws) some =
         ap (λ (b : Bool). cond b (with_item (Given key i) (items_from takes (i + 1) (map text (v ∷ ws)))) (with_item (Given key (i + 1)) (items_from takes (i + 2) (map text ws)))) flag
         ∙ ap (λ (xs : List A). with_item (Given key (i + 1)) (items_from takes (i + 2) (map text xs))) (sym (take_all (suc (length ws) - 1) ws (omega arith)))
 

@@ -76,7 +76,7 @@ itself contents course = record { reply = refl; comes = λ word h. h; may_stop =
 pub begun : (words : List (List ℕ)) (x : Outside) (command : Command) → command_of words ≡ Some command → x.is_writing ≡ false → Stands words x x 0 [] (command_course words (Some command))
 begun words x command said idle =
     let leads : (contents : ℕ → List ℕ) → LeadsTo contents (course_of words) [] (command_course words (Some command)) =
-        λ contents. subst (λ (o : Option Command). LeadsTo contents (course_of words) [] (command_course words o)) said (itself contents (course_of words)) in
+    λ contents. subst (λ (o : Option Command). LeadsTo contents (course_of words) [] (command_course words o)) said (itself contents (course_of words)) in
     record {
       did = Did-nothing x;
       counts = KeepsCounts-same x;
@@ -166,7 +166,7 @@ too_large : (words : List (List ℕ)) (contents : ℕ → List ℕ) (old new : O
     → NothingFailed old new err → Owes words contents old new err [] (Err (TooLarge word limit))
 too_large words contents old new err word limit next l long nothing =
     let due : reply_to contents (course_of words) ≡ record { ending = Err (TooLarge word limit); acts = [] } =
-        l.reply ∙ ap (λ (b : Bool). cond b (record { ending = Err (TooLarge word limit); acts = [] }) (reply_to contents (next (contents word)))) (lt-ltb limit (length (contents word)) long) in
+    l.reply ∙ ap (λ (b : Bool). cond b (record { ending = Err (TooLarge word limit); acts = [] }) (reply_to contents (next (contents word)))) (lt-ltb limit (length (contents word)) long) in
     (ap (λ (r : Reply). r.ending) (sym due), ap (λ (r : Reply). r.acts) (sym due), nothing)
 
 -- there was no memory for what comes next
@@ -174,7 +174,7 @@ pub no_memory : (words : List (List ℕ)) (old new : Outside) (below : ℕ) (don
     → Acted words old new (Err OutOfMemory)
 no_memory words old new below done rest s may =
     let owes : (contents : ℕ → List ℕ) → LeadsTo contents (course_of words) done rest → Owes words contents old new new.err_faults done (Err OutOfMemory) =
-        λ contents l. (subst (λ (acts : List Act). MayStop contents (course_of words) acts) (append-nil done) (l.may_stop [] (may contents)), nothing_failed old new s.counts) in
+    λ contents l. (subst (λ (acts : List Act). MayStop contents (course_of words) acts) (append-nil done) (l.may_stop [] (may contents)), nothing_failed old new s.counts) in
     record {
       done = done;
       did = s.did;
@@ -253,8 +253,8 @@ answer_owed words contents old new err done result is e a n = (e, a, n)
 pub ends : (words : List (List ℕ)) (old new : Outside) (below : ℕ) (done : List Act) (result : Result Done Fault) → Stands words old new below done (Ends result) → IsAnswer result → Acted words old new result
 ends words old new below done result s is =
     let owes : (contents : ℕ → List ℕ) → LeadsTo contents (course_of words) done (Ends result) → Owes words contents old new new.err_faults done result =
-        λ contents l. answer_owed words contents old new new.err_faults done result is
-        (sym (ap (λ (r : Reply). r.ending) l.reply)) (sym (ap (λ (r : Reply). r.acts) l.reply ∙ append-nil done)) (nothing_failed old new s.counts) in
+    λ contents l. answer_owed words contents old new new.err_faults done result is
+    (sym (ap (λ (r : Reply). r.ending) l.reply)) (sym (ap (λ (r : Reply). r.acts) l.reply ∙ append-nil done)) (nothing_failed old new s.counts) in
     record {
       done = done;
       did = s.did;
@@ -301,10 +301,11 @@ fails words old mid new below done acts next e s performs =
     let part = performs.failed.0 in
     let act = performs.failed.1 in
     let owes : (contents : ℕ → List ℕ) → LeadsTo contents (course_of words) done (Does acts next) → Owes words contents old new new.err_faults (done ++ part) (Err WriteFault) =
-        λ contents l.
-        (act,
-        subst (λ (r : Reply). FailedAt act (done ++ part) r.acts) (sym l.reply) (failed_behind act done part (acts ++ (reply_to contents next).acts) (failed_before act part acts (reply_to contents next).acts performs.failed.2)),
-        failed_since act old mid new new.err_faults s.counts performs.failed.4) in
+    λ contents l. (
+      act,
+      subst (λ (r : Reply). FailedAt act (done ++ part) r.acts) (sym l.reply) (failed_behind act done part (acts ++ (reply_to contents next).acts) (failed_before act part acts (reply_to contents next).acts performs.failed.2)),
+      failed_since act old mid new new.err_faults s.counts performs.failed.4,
+    ) in
     record {
       done = done ++ part;
       did = Did-then done part old mid new s.did performs.failed.3;

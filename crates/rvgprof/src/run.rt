@@ -87,12 +87,7 @@ fn perform<H: Host>(
 }
 
 /// Writes the profile of a runtime to the named file.
-fn write_profile<H: Host>(
-    gmon: &Gmon,
-    name: &str,
-    rate: u32,
-    host: &mut H,
-) -> Result<(), Failed>
+fn write_profile<H: Host>(gmon: &Gmon, name: &str, rate: u32, host: &mut H) -> Result<(), Failed>
     requires { (H.outside host.old).is_writing ≡ false }
     ensures performs { Performs (file_acts name.now (runtime_text gmon.now rate)) (H.outside host.old) (H.outside host.new) result }
     ensures idle { OnOk result ((H.outside host.new).is_writing ≡ false) }

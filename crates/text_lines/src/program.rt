@@ -31,7 +31,11 @@ fn put_image<H: Host>(image: &Image, lines: &mut PrintBuf, host: &mut H) -> Resu
     put_symbols(image.symbols.as_slice(), lines, host)
 }
 
-fn put_symbols<H: Host>(symbols: &[Symbol], lines: &mut PrintBuf, host: &mut H) -> Result<(), Failed>
+fn put_symbols<H: Host>(
+    symbols: &[Symbol],
+    lines: &mut PrintBuf,
+    host: &mut H,
+) -> Result<(), Failed>
     requires { All (λ s. s.addr < s.end) symbols.now }
     ensures { Adds Output (flat_map symbol_line symbols.now) lines.old lines.new (H.outside host.old) (H.outside host.new) result }
 {

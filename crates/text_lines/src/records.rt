@@ -58,7 +58,13 @@ fn put_counters<H: Host>(hist: &RawHist, lines: &mut PrintBuf, host: &mut H) -> 
     Ok(())
 }
 
-fn put_counter<H: Host>(hist: &RawHist, i: usize, counter: u16, lines: &mut PrintBuf, host: &mut H) -> Result<(), Failed>
+fn put_counter<H: Host>(
+    hist: &RawHist,
+    i: usize,
+    counter: u16,
+    lines: &mut PrintBuf,
+    host: &mut H,
+) -> Result<(), Failed>
     requires within { i < length hist.now.counters }
     requires range { hist.now.low < hist.now.high }
     ensures { Adds Output (count_text hist.now (i, counter)) lines.old lines.new (H.outside host.old) (H.outside host.new) result }

@@ -16,13 +16,36 @@ use std::test::Fail;
 fn each_answer_has_its_status(rt: HostRuntime) {
     let faults = [
         (1, Fault::Usage),
-        (2, Fault::BadElf { refusal: ElfRefusal::Magic }),
-        (3, Fault::BadProfile { refusal: GmonRefusal::Rest { at: 160 }, word: 1 }),
+        (
+            2,
+            Fault::BadElf {
+                refusal: ElfRefusal::Magic,
+            },
+        ),
+        (
+            3,
+            Fault::BadProfile {
+                refusal: GmonRefusal::Rest { at: 160 },
+                word: 1,
+            },
+        ),
         (5, Fault::ReadFault { word: 1 }),
         (6, Fault::WriteFault),
         (7, Fault::OutOfMemory),
-        (9, Fault::TooLarge { word: 1, limit: 67_108_864 }),
-        (10, Fault::ProgramTooLarge { need: 5_308_416, end: 4_259_840 }),
+        (
+            9,
+            Fault::TooLarge {
+                word: 1,
+                limit: 67_108_864,
+            },
+        ),
+        (
+            10,
+            Fault::ProgramTooLarge {
+                need: 5_308_416,
+                end: 4_259_840,
+            },
+        ),
         (11, Fault::EntryOutside { entry: 0x1_0002 }),
     ];
     for (wanted, fault) in faults {
@@ -46,14 +69,27 @@ fn words_are_refused_before_any_other_call(rt: HostRuntime) -> Result<(), Fail> 
         &["run", "e", "g", "--every", "0"],
         &["run", "e", "g", "--every", "5", "--every", "5"],
         &["run", "e", "g", "--harts", "9"],
-        &["run", "e", "g", "--harts", "2", "--quantum", "1", "--seed", "1"],
+        &[
+            "run",
+            "e",
+            "g",
+            "--harts",
+            "2",
+            "--quantum",
+            "1",
+            "--seed",
+            "1",
+        ],
         &["run", "e", "g", "--image"],
     ];
     for words in refused {
         let mut host = MemHost::new(alloc);
         host.fail_at(1)?;
         assert_eq!(rt; status(alloc, words, &mut host)?, 1, "{words:?}");
-        assert_eq!(rt; host.errors(), b"rvgprof: words not understood\n".as_slice());
+        assert_eq!(rt;
+            host.errors(),
+            b"rvgprof: words not understood\n".as_slice()
+        );
         assert_eq!(rt; host.failures(), 0, "{words:?}");
     }
     Ok(())
@@ -63,13 +99,43 @@ fn words_are_refused_before_any_other_call(rt: HostRuntime) -> Result<(), Fail> 
 fn files_and_programs_are_refused_with_their_lines(rt: HostRuntime) -> Result<(), Fail> {
     let alloc = rt.alloc();
     let cases: [(usize, u32, &[&str], u8, &str); 7] = [
-        (9_999, 0, &["show", "nope"], 5, "rvgprof: read fault on nope\n"),
+        (
+            9_999,
+            0,
+            &["show", "nope"],
+            5,
+            "rvgprof: read fault on nope\n",
+        ),
         (9_999, 0, &["syms", ""], 5, "rvgprof: read fault on \n"),
         (0, 0, &["run", "e", "g"], 2, "rvgprof: bad elf: magic\n"),
-        (72, 0x0030_0000, &["run", "e", "g", "--ram", "4"], 10, "rvgprof: program too large: needs 5308416, ram ends 4259840\n"),
-        (24, 0x1_0002, &["run", "e", "g"], 11, "rvgprof: entry outside 00010002\n"),
-        (24, 0, &["run", "e", "g"], 11, "rvgprof: entry outside 00000000\n"),
-        (9_999, 0, &["run", "nope", "g"], 5, "rvgprof: read fault on nope\n"),
+        (
+            72,
+            0x0030_0000,
+            &["run", "e", "g", "--ram", "4"],
+            10,
+            "rvgprof: program too large: needs 5308416, ram ends 4259840\n",
+        ),
+        (
+            24,
+            0x1_0002,
+            &["run", "e", "g"],
+            11,
+            "rvgprof: entry outside 00010002\n",
+        ),
+        (
+            24,
+            0,
+            &["run", "e", "g"],
+            11,
+            "rvgprof: entry outside 00000000\n",
+        ),
+        (
+            9_999,
+            0,
+            &["run", "nope", "g"],
+            5,
+            "rvgprof: read fault on nope\n",
+        ),
     ];
     for (at, word, words, answer, line) in cases {
         let mut file = elf(alloc, &LOOP)?;
@@ -137,10 +203,20 @@ fn fails_at(
     let answer = status(alloc, words, &mut host)?;
     let failed = host.first_failed();
     let has_profile = host.file("g").is_some();
-    assert_eq!(rt; answer, wanted_status(failed, has_profile), "call {call}, step {step}");
+    assert_eq!(rt;
+        answer,
+        wanted_status(failed, has_profile),
+        "call {call}, step {step}"
+    );
     let out = host.printed();
-    assert!(rt; [0x13, 0x05, 0x10, 0x00].starts_with(out), "output, call {call}");
-    assert!(rt; failed.is_some() || out.len() == 4, "whole output, call {call}");
+    assert!(rt;
+        [0x13, 0x05, 0x10, 0x00].starts_with(out),
+        "output, call {call}"
+    );
+    assert!(rt;
+        failed.is_some() || out.len() == 4,
+        "whole output, call {call}"
+    );
     Ok(failed.is_some())
 }
 
@@ -155,7 +231,11 @@ fn each_failing_call_has_its_answer(rt: HostRuntime) -> Result<(), Fail> {
             calls = call;
         }
     }
-    assert_eq!(rt; calls, 12, "open, three reads, two prints, two files of three calls, the last line");
+    assert_eq!(rt;
+        calls,
+        12,
+        "open, three reads, two prints, two files of three calls, the last line"
+    );
     Ok(())
 }
 
@@ -171,7 +251,10 @@ fn each_failing_call_has_its_answer_byte_by_byte(rt: HostRuntime) -> Result<(), 
             calls = call;
         }
     }
-    assert!(rt; calls > 60 && calls < 149, "the last call is {calls} behind the last byte that is read");
+    assert!(rt;
+        calls > 60 && calls < 149,
+        "the last call is {calls} behind the last byte that is read"
+    );
     Ok(())
 }
 

@@ -69,10 +69,7 @@ fn len_of(bytes: &[u8]) -> u32
 }
 
 /// The symbol table and the strings of some functions.
-fn tables(
-    alloc: Global,
-    functions: &[(&str, u16)],
-) -> Result<(Vec<u8>, Vec<u8>), AllocError> {
+fn tables(alloc: Global, functions: &[(&str, u16)]) -> Result<(Vec<u8>, Vec<u8>), AllocError> {
     let mut symbols = Vec::new(alloc);
     let mut strings = Vec::new(alloc);
     pad(&mut symbols, 16)?;

@@ -21,7 +21,13 @@ struct Case<'a> {
 
 /// A program that sets its break to 0, which is refused, and ends with the answer.
 const BREAKS: Program = Program {
-    words: &[0x0000_0513, 0x0D60_0893, 0x0000_0073, 0x05D0_0893, 0x0000_0073],
+    words: &[
+        0x0000_0513,
+        0x0D60_0893,
+        0x0000_0073,
+        0x05D0_0893,
+        0x0000_0073,
+    ],
     functions: &[("_start", 0)],
 };
 
@@ -39,7 +45,13 @@ const ENDS: Program = Program {
 
 /// It writes to descriptor 3, and ends with the answer.
 const WRITES: Program = Program {
-    words: &[0x0030_0513, 0x0400_0893, 0x0000_0073, 0x05D0_0893, 0x0000_0073],
+    words: &[
+        0x0030_0513,
+        0x0400_0893,
+        0x0000_0073,
+        0x05D0_0893,
+        0x0000_0073,
+    ],
     functions: &[("_start", 0)],
 };
 
@@ -64,7 +76,11 @@ fn leaves(rt: &impl Abort, alloc: Global, case: &Case) -> Result<(), Fail> {
     assert_eq!(rt; host.printed(), case.out, "output of {words:?}");
     assert_eq!(rt; host.errors(), case.err, "error output of {words:?}");
     let file = host.file("g").ok_or("no profile")?;
-    assert_eq!(rt; lines_of(alloc, file)?.as_slice(), case.shown.as_bytes(), "profile of {words:?}");
+    assert_eq!(rt;
+        lines_of(alloc, file)?.as_slice(),
+        case.shown.as_bytes(),
+        "profile of {words:?}"
+    );
     Ok(())
 }
 
@@ -81,14 +97,18 @@ fn samples_are_counted_by_the_options(rt: HostRuntime) -> Result<(), Fail> {
     let cases = [
         Case {
             program: &LOOP,
-            words: &["run", "e", "g", "--every", "1", "--budget", "65536", "--ram", "4"],
+            words: &[
+                "run", "e", "g", "--every", "1", "--budget", "65536", "--ram", "4",
+            ],
             out: b"",
             err: b"rvgprof: budget after 65536 instructions: 65536 samples, 0 calls, 0 lost, arcs on\n",
             shown: "bsd low 00010000 high 00010004 counters 1 rate 100\ncount 00010000 65535\n",
         },
         Case {
             program: &LOOP,
-            words: &["run", "--budget", "1", "e", "--every", "1", "g", "--rate", "513", "--ram", "4"],
+            words: &[
+                "run", "--budget", "1", "e", "--every", "1", "g", "--rate", "513", "--ram", "4",
+            ],
             out: b"",
             err: b"rvgprof: budget after 1 instructions: 1 samples, 0 calls, 0 lost, arcs on\n",
             shown: "bsd low 00010000 high 00010004 counters 1 rate 513\ncount 00010000 1\n",
@@ -171,21 +191,27 @@ fn calls_are_counted_for_each_schedule(rt: HostRuntime) -> Result<(), Fail> {
         },
         Case {
             program: &CALLS,
-            words: &["run", "e", "g", "--harts", "2", "--budget", "20", "--ram", "4"],
+            words: &[
+                "run", "e", "g", "--harts", "2", "--budget", "20", "--ram", "4",
+            ],
             out: b"",
             err: b"rvgprof: budget after 20 instructions: 0 samples, 1 calls, 1 lost, arcs on\n",
             shown: "bsd low 00010000 high 00010018 counters 6 rate 100\narc 00010004 00010014 1\n",
         },
         Case {
             program: &CALLS,
-            words: &["run", "e", "g", "--budget", "5", "--harts", "2", "--ram", "4"],
+            words: &[
+                "run", "e", "g", "--budget", "5", "--harts", "2", "--ram", "4",
+            ],
             out: b"",
             err: b"rvgprof: budget after 5 instructions: 0 samples, 1 calls, 0 lost, arcs on\n",
             shown: "bsd low 00010000 high 00010018 counters 6 rate 100\narc 00010004 00010014 1\n",
         },
         Case {
             program: &CALLS,
-            words: &["run", "--harts", "2", "e", "g", "--budget", "6", "--ram", "4"],
+            words: &[
+                "run", "--harts", "2", "e", "g", "--budget", "6", "--ram", "4",
+            ],
             out: b"",
             err: b"rvgprof: budget after 6 instructions: 0 samples, 1 calls, 1 lost, arcs on\n",
             shown: "bsd low 00010000 high 00010018 counters 6 rate 100\narc 00010004 00010014 1\n",
@@ -199,15 +225,15 @@ fn calls_are_counted_for_each_schedule(rt: HostRuntime) -> Result<(), Fail> {
 
 #[test]
 fn profiling_is_switched_off(rt: HostRuntime) -> Result<(), Fail> {
-    let cases = [
-        Case {
-            program: &SWITCHES,
-            words: &["run", "e", "g", "--every", "1", "--budget", "10", "--ram", "4"],
-            out: b"",
-            err: b"rvgprof: budget after 10 instructions: 2 samples, 0 calls, 0 lost, arcs off\n",
-            shown: "bsd low 00010000 high 00010010 counters 4 rate 100\ncount 00010004 1\ncount 0001000c 1\n",
-        },
-    ];
+    let cases = [Case {
+        program: &SWITCHES,
+        words: &[
+            "run", "e", "g", "--every", "1", "--budget", "10", "--ram", "4",
+        ],
+        out: b"",
+        err: b"rvgprof: budget after 10 instructions: 2 samples, 0 calls, 0 lost, arcs off\n",
+        shown: "bsd low 00010000 high 00010010 counters 4 rate 100\ncount 00010004 1\ncount 0001000c 1\n",
+    }];
     for case in &cases {
         leaves(&rt, rt.alloc(), case)?;
     }
@@ -234,13 +260,17 @@ fn the_memory_of_the_runtime_is_written(rt: HostRuntime) -> Result<(), Fail> {
     let alloc = rt.alloc();
     let mut host = MemHost::new(alloc);
     host.put("e", &elf(alloc, &CALLS)?)?;
-    let words = ["run", "e", "g", "--budget", "20", "--image", "i", "--ram", "4"];
+    let words = [
+        "run", "e", "g", "--budget", "20", "--image", "i", "--ram", "4",
+    ];
     assert_eq!(rt; status(alloc, &words, &mut host)?, 0);
     let image = host.file("i").ok_or("no image")?;
     assert!(rt; is_wanted(image));
 
     // The image may take the place of the profile.
-    let words = ["run", "e", "g", "--budget", "20", "--image", "g", "--ram", "4"];
+    let words = [
+        "run", "e", "g", "--budget", "20", "--image", "g", "--ram", "4",
+    ];
     assert_eq!(rt; status(alloc, &words, &mut host)?, 0);
     assert_eq!(rt; host.file("g"), host.file("i"));
     Ok(())
@@ -280,7 +310,14 @@ fn arcs_run_out(rt: HostRuntime) -> Result<(), Fail> {
     };
     let mut host = MemHost::new(alloc);
     host.put("e", &elf(alloc, &program)?)?;
-    assert_eq!(rt; status(alloc, &["run", "e", "g", "--budget", "60", "--ram", "4"], &mut host)?, 0);
+    assert_eq!(rt;
+        status(
+            alloc,
+            &["run", "e", "g", "--budget", "60", "--ram", "4"],
+            &mut host
+        )?,
+        0
+    );
     assert_eq!(rt;
         host.errors(),
         b"rvgprof: budget after 60 instructions: 0 samples, 49 calls, 0 lost, arcs error\n".as_slice()

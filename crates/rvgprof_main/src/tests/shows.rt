@@ -25,15 +25,33 @@ fn profile(alloc: Global, len: usize, at: usize, byte: u8) -> Result<Vec<u8>, Al
 fn profiles_are_shown_or_refused(rt: HostRuntime) -> Result<(), Fail> {
     let alloc = rt.alloc();
     let cases = [
-        (160, 999, 0, 0, "bsd low 00010000 high 00010100 counters 64 rate 100\n"),
-        (160, 34, 7, 0, "bsd low 00010000 high 00010100 counters 64 rate 100\ncount 00010004 7\n"),
+        (
+            160,
+            999,
+            0,
+            0,
+            "bsd low 00010000 high 00010100 counters 64 rate 100\n",
+        ),
+        (
+            160,
+            34,
+            7,
+            0,
+            "bsd low 00010000 high 00010100 counters 64 rate 100\ncount 00010004 7\n",
+        ),
         (161, 999, 0, 3, "rvgprof: bad profile g: rest at 160\n"),
         (159, 999, 0, 3, "rvgprof: bad profile g: short at 159\n"),
         (0, 999, 0, 3, "rvgprof: bad profile g: short at 0\n"),
         (160, 12, 0, 3, "rvgprof: bad profile g: version 333824\n"),
         (160, 8, 31, 3, "rvgprof: bad profile g: size 31\n"),
         (160, 8, 161, 3, "rvgprof: bad profile g: size 161\n"),
-        (160, 5, 0, 3, "rvgprof: bad profile g: range 00010000 00010000 at 0\n"),
+        (
+            160,
+            5,
+            0,
+            3,
+            "rvgprof: bad profile g: range 00010000 00010000 at 0\n",
+        ),
         (160, 8, 162, 3, "rvgprof: bad profile g: short at 160\n"),
         (160, 8, 32, 3, "rvgprof: bad profile g: rest at 152\n"),
     ];
@@ -72,16 +90,36 @@ fn programs_are_shown_or_refused(rt: HostRuntime) -> Result<(), Fail> {
     let hooked = elf(alloc, &CALLS)?;
     assert_eq!(rt; one.len(), 4_376);
     let cases = [
-        (one.as_slice(), 0, "text 00010000 00010004 entry 00010000 mcount - moncontrol -\n00010000 4 _start\n"),
-        (hooked.as_slice(), 0, "text 00010000 00010018 entry 00010000 mcount 00010008 moncontrol -\n00010000 8 _start\n00010008 4 _mcount\n0001000c 12 f\n"),
-        (one.get(..51).unwrap_or_default(), 2, "rvgprof: bad elf: short 51\n"),
-        (one.get(..4_375).unwrap_or_default(), 2, "rvgprof: bad elf: out of file 4176\n"),
+        (
+            one.as_slice(),
+            0,
+            "text 00010000 00010004 entry 00010000 mcount - moncontrol -\n00010000 4 _start\n",
+        ),
+        (
+            hooked.as_slice(),
+            0,
+            "text 00010000 00010018 entry 00010000 mcount 00010008 moncontrol -\n00010000 8 _start\n00010008 4 _mcount\n0001000c 12 f\n",
+        ),
+        (
+            one.get(..51).unwrap_or_default(),
+            2,
+            "rvgprof: bad elf: short 51\n",
+        ),
+        (
+            one.get(..4_375).unwrap_or_default(),
+            2,
+            "rvgprof: bad elf: out of file 4176\n",
+        ),
     ];
     for (file, answer, text) in cases {
         let mut host = MemHost::new(alloc);
         host.put("e", file)?;
         assert_eq!(rt; status(alloc, &["syms", "e"], &mut host)?, answer, "{text}");
-        let shown = if answer == 0 { host.printed() } else { host.errors() };
+        let shown = if answer == 0 {
+            host.printed()
+        } else {
+            host.errors()
+        };
         assert_eq!(rt; shown, text.as_bytes(), "{text}");
     }
     Ok(())
@@ -95,15 +133,28 @@ fn files_above_the_limit_are_too_large(rt: HostRuntime) -> Result<(), Fail> {
     host.put("limit", file.get(..67_108_864).unwrap_or_default())?;
     host.put("more", &file)?;
     let cases = [
-        ("show", "limit", 3, "rvgprof: bad profile limit: version 0\n"),
+        (
+            "show",
+            "limit",
+            3,
+            "rvgprof: bad profile limit: version 0\n",
+        ),
         ("show", "more", 9, "rvgprof: too large more\n"),
         ("syms", "limit", 2, "rvgprof: bad elf: magic\n"),
         ("syms", "more", 9, "rvgprof: too large more\n"),
     ];
     let mut told = 0;
     for (command, name, answer, line) in cases {
-        assert_eq!(rt; status(alloc, &[command, name], &mut host)?, answer, "{command} {name}");
-        assert_eq!(rt; host.errors().get(told..), Some(line.as_bytes()), "{command} {name}");
+        assert_eq!(rt;
+            status(alloc, &[command, name], &mut host)?,
+            answer,
+            "{command} {name}"
+        );
+        assert_eq!(rt;
+            host.errors().get(told..),
+            Some(line.as_bytes()),
+            "{command} {name}"
+        );
         told = host.errors().len();
     }
     Ok(())
