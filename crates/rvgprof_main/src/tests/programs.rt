@@ -101,25 +101,33 @@ fn sections(text: u32, symbols: u32, strings: u32) -> [u32; 50]
     ]
 }
 
-/// The ELF file of a program. Its text stands at offset 4,096.
-pub fn elf(alloc: Global, program: &Program) -> Result<Vec<u8>, AllocError> {
-    let mut text = Vec::new(alloc);
-    push_words(&mut text, program.words)?;
-    let (symbols, strings) = tables(alloc, program.functions)?;
-    let (text_len, symbols_len, strings_len) = (len_of(&text), len_of(&symbols), len_of(&strings));
-    let end = 4096 + text_len + symbols_len + strings_len + 33;
-    let sections_at = end + (4 - end % 4) % 4;
-
+/// The headers of a program's file: its own, and that of its one segment.
+fn headers(alloc: Global, text: u32, sections_at: u32) -> Result<Vec<u8>, AllocError> {
     let mut file = Vec::new(alloc);
     file.extend_from_slice(b"\x7fELF\x01\x01\x01")?;
     pad(&mut file, 16)?;
-    push_words(&mut file, &[2 + 243 * 65_536, 1, 0x1_0000, 52])?;
-    push_words(&mut file, &[sections_at, 0, 52 + 32 * 65_536])?;
-    push_words(&mut file, &[1 + 40 * 65_536, 5 + 4 * 65_536])?;
-    push_words(&mut file, &[1, 4096, 0x1_0000, 0x1_0000])?;
-    push_words(&mut file, &[text_len, text_len, 5, 4096])?;
+    push_words(&mut file, &[2 + 243 * 65_536, 1, 0x1_0000, 52, sections_at])?;
+    push_words(
+        &mut file,
+        &[0, 52 + 32 * 65_536, 1 + 40 * 65_536, 5 + 4 * 65_536],
+    )?;
+    push_words(
+        &mut file,
+        &[1, 4096, 0x1_0000, 0x1_0000, text, text, 5, 4096],
+    )?;
     pad(&mut file, 4096)?;
-    file.extend_from_slice(&text)?;
+    Ok(file)
+}
+
+/// The ELF file of a program. Its text stands at offset 4,096.
+pub fn elf(alloc: Global, program: &Program) -> Result<Vec<u8>, AllocError> {
+    let (symbols, strings) = tables(alloc, program.functions)?;
+    let text_len = (program.words.len().min(10_000) * 4) as u32;
+    let (symbols_len, strings_len) = (len_of(&symbols), len_of(&strings));
+    let end = 4096 + text_len + symbols_len + strings_len + 33;
+    let sections_at = end + (4 - end % 4) % 4;
+    let mut file = headers(alloc, text_len, sections_at)?;
+    push_words(&mut file, program.words)?;
     file.extend_from_slice(&symbols)?;
     file.extend_from_slice(&strings)?;
     file.extend_from_slice(b"\0.text\0.symtab\0.strtab\0.shstrtab\0")?;

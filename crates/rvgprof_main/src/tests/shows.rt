@@ -125,37 +125,38 @@ fn programs_are_shown_or_refused(rt: HostRuntime) -> Result<(), Fail> {
     Ok(())
 }
 
+/// So many bytes of a text, and no more than there are.
+fn front_of(text: &[u8], len: usize) -> &[u8] {
+    text.get(..len).unwrap_or_default()
+}
+
+/// A file of zeros that is one byte above the limit.
+fn too_large(alloc: Global, limit: usize) -> Result<Vec<u8>, AllocError> {
+    let mut file = vec![in alloc; 0; limit]?;
+    file.push(0)?;
+    Ok(file)
+}
+
 #[test]
 fn files_above_the_limit_are_too_large(rt: HostRuntime) -> Result<(), Fail> {
     let alloc = rt.alloc();
-    let file = vec![in alloc; 0u8; 67_108_865]?;
-    let mut host = MemHost::new(alloc);
-    host.put("limit", file.get(..67_108_864).unwrap_or_default())?;
-    host.put("more", &file)?;
+    let limit = 67_108_864;
+    let file = too_large(alloc, limit)?;
     let cases = [
-        (
-            "show",
-            "limit",
-            3,
-            "rvgprof: bad profile limit: version 0\n",
-        ),
-        ("show", "more", 9, "rvgprof: too large more\n"),
-        ("syms", "limit", 2, "rvgprof: bad elf: magic\n"),
-        ("syms", "more", 9, "rvgprof: too large more\n"),
+        ("show", limit, 3, "rvgprof: bad profile f: version 0\n"),
+        ("show", file.len(), 9, "rvgprof: too large f\n"),
+        ("syms", limit, 2, "rvgprof: bad elf: magic\n"),
+        ("syms", file.len(), 9, "rvgprof: too large f\n"),
     ];
-    let mut told = 0;
-    for (command, name, answer, line) in cases {
+    for (command, len, answer, line) in cases {
+        let mut host = MemHost::new(alloc);
+        host.put("f", front_of(&file, len))?;
         assert_eq!(rt;
-            status(alloc, &[command, name], &mut host)?,
+            status(alloc, &[command, "f"], &mut host)?,
             answer,
-            "{command} {name}"
+            "{command}, {len} bytes"
         );
-        assert_eq!(rt;
-            host.errors().get(told..),
-            Some(line.as_bytes()),
-            "{command} {name}"
-        );
-        told = host.errors().len();
+        assert_eq!(rt; host.errors(), line.as_bytes(), "{command}, {len} bytes");
     }
     Ok(())
 }
