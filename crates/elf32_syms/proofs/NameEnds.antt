@@ -48,7 +48,7 @@ name_ends_below strings end inside zero_there none_after at =
         let inside : at + k < length strings = omega (arith, length-drop at strings) in
         rw here (is_zero_not (get_or strings (at + k) 0) (none_after (at + k) (omega arith) inside))
 
--- a front of what stands before the first that passes, looked for in that front alone
+-- a prefix of what stands before the first that passes, looked for in that front alone
 before_first_front : (p : ℕ → Bool) (limit : ℕ) (xs : List ℕ) → take limit (before_first p xs) ≡ before_first p (take limit xs)
 before_first_front p zero xs = refl
 before_first_front p (suc n) [] = refl

@@ -80,7 +80,7 @@ impl Image {
 pub fn read(alloc: Global, bytes: &[u8]) -> Result<Image, ElfRefusal>
     requires { length bytes.now ≤ MAX_ELF_BYTES }
 
-    // The first refusal whose conditions the bytes meet, or want of memory; and Ok only where none
+    // The first refusal whose conditions the bytes meet, or running out of memory; and Ok only where none
     // is met.
     ensures refusal { IfErr result (λ e. IsRefusal e (elf_refusal bytes.now)) }
     ensures accepted { OnOk result (elf_refusal bytes.now ≡ None) }

@@ -40,7 +40,7 @@ impl Block {
 
     /// A block of `tos` entries, `counters` counters and `froms` slots, all 0: one allocation of
     /// `12 * tos + 2 * counters + 2 * froms` bytes. There is at least one of each, and there are at
-    /// most 65,534 entries and 4,194,312 counters and slots. Want of memory is the only other answer.
+    /// most 65,534 entries and 4,194,312 counters and slots. Running out of memory is the only other answer.
     pub fn new(alloc: Global, tos: u32, counters: u32, froms: u32) -> Result<Block, AllocError>
         requires tos { (1 ≤ tos) × (tos ≤ 65534) }
         requires counters { (1 ≤ counters) × (counters ≤ 4194312) }

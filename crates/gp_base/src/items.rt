@@ -30,7 +30,7 @@ impl<T> Items<T> {
         }
     }
 
-    /// Adds an item at the end. After want of memory the list is unchanged.
+    /// Adds an item at the end. After running out of memory the list is unchanged.
     pub fn push(&mut self, item: T) -> Result<(), AllocError>
     where
         T: Drop,

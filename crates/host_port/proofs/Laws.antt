@@ -3,7 +3,7 @@ use Rattle.std.proofs.Common.{◌≡◌, ℕ, Bool, List, [], ◌∷◌, ◌++�
 use Rattle.std.specs.Prelude.{option_map}
 use Rattle.std.proofs.lemmas.List.{append-nil}
 use Rattle.host_port.specs.Act.{Act, Create, Write, Close, Out, Err, Disk, File, disk_after_act, disk_after, printed, complained, writes_after_act, writes_after}
-use Rattle.host_port.specs.Outside.{Outside, Becomes, Did, Shows, KeepsInput, KeepsCounts}
+use Rattle.host_port.specs.Outside.{Outside, Becomes, Did, KeepsInput, KeepsCounts}
 
 -- what is told at last was told in between
 pub Becomes-then : {T : Type 0} (f g : T → T) (a b c : Option T) → Becomes f a b → Becomes g b c → Becomes (λ x. g (f x)) a c
@@ -81,21 +81,6 @@ Did-nothing x = record {
   writing = refl;
 }
 
--- acts of which closing a file is the last show front those before it
-pub Shows-files : (f g : Disk → Disk) (a b : Option Disk) → ((d : Disk) → (f d).files ≡ (g d).files) → Becomes f a b → Becomes (λ files. files) (option_map (λ d. (g d).files) a) (option_map (λ d. d.files) b)
-Shows-files f g a None same p = tt
-Shows-files f g None (Some y) same p = absurd cc
-Shows-files f g (Some x) (Some y) same p =
-    let e : f x ≡ y = cc in
-    ap (λ (v : List File). Some v) (sym (same x) ∙ ap (λ (d : Disk). d.files) e)
-
-pub Shows-did : (front : List Act) (x y : Outside) → Did front x y → Shows front x y
-Shows-did front x y did = record {
-  files = Shows-files (disk_after front) (disk_after front) x.disk y.disk (λ d. refl) did.disk;
-  out = did.out;
-  err = did.err;
-}
-
 pub KeepsInput-same : (x : Outside) → KeepsInput x x
 KeepsInput-same x = record { open_stays = refl; rest_stays = Becomes-same x.rest }
 
@@ -110,24 +95,3 @@ KeepsCounts-same x = record { read = refl; write = refl; err = refl }
 
 pub KeepsCounts-then : (x y z : Outside) → KeepsCounts x y → KeepsCounts y z → KeepsCounts x z
 KeepsCounts-then x y z p q = record { read = q.read ∙ p.read; write = q.write ∙ p.write; err = q.err ∙ p.err }
-
--- ---- a line at the end
-
-files_then : (f g : Disk → List File) (a b c : Option Disk) → ((d : Disk) → f d ≡ g d) → Becomes (λ files. files) (option_map f a) (option_map (λ d. d.files) b) → Becomes (λ d. d) b c
-    → Becomes (λ files. files) (option_map g a) (option_map (λ d. d.files) c)
-files_then f g a b None same p q = tt
-files_then f g a None (Some z) same p q = absurd cc
-files_then f g None (Some y) (Some z) same p q = absurd cc
-files_then f g (Some x) (Some y) (Some z) same p q =
-    let e : f x ≡ y.files = cc in
-    let y_is : y ≡ z = cc in
-    ap (λ (v : List File). Some v) (sym (same x) ∙ e ∙ ap (λ (d : Disk). d.files) y_is)
-
--- what shows, and then a print on the error output
-pub Shows-then-err : (front : List Act) (line : List ℕ) (x y z : Outside) → Shows front x y → Did (Err line ∷ []) y z → Shows (front ++ Err line ∷ []) x z
-Shows-then-err front line x y z shows did = record {
-  files = files_then (λ d. (disk_after front d).files) (λ d. (disk_after (front ++ Err line ∷ []) d).files) x.disk y.disk z.disk
-      (λ d. ap (λ (e : Disk). e.files) (sym (disk_after-append front (Err line ∷ []) d))) shows.files did.disk;
-  out = Becomes-by _ _ x.out z.out (λ b. append_assoc b (printed front) (printed (Err line ∷ [])) ∙ ap (λ (v : List ℕ). b ++ v) (sym (printed-append front (Err line ∷ [])))) (Becomes-then (λ b. b ++ printed front) (λ b. b ++ printed (Err line ∷ [])) x.out y.out z.out shows.out did.out);
-  err = Becomes-by _ _ x.err z.err (λ b. append_assoc b (complained front) (complained (Err line ∷ [])) ∙ ap (λ (v : List ℕ). b ++ v) (sym (complained-append front (Err line ∷ [])))) (Becomes-then (λ b. b ++ complained front) (λ b. b ++ complained (Err line ∷ [])) x.err y.err z.err shows.err did.err);
-}

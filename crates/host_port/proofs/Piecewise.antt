@@ -98,7 +98,7 @@ along_end act piece rest old new x far none = record {
   input = far.input;
 }
 
--- a front of it, where the next part failed
+-- a prefix of it, where the next part failed
 pub along_fail : {T E : Type 0} (act : List ℕ → Act) → IsPiecewise act → (piece rest : List ℕ) (old mid new : Outside) (e : E) → Along act piece rest old mid → 0 < length rest → Takes act rest mid new (Error e) → TakesAll {T = T} act piece old new (Error e)
 along_fail act p piece rest old mid new e far some failed = record {
   done = tt;

@@ -37,13 +37,6 @@ pub record Did (acts : List Act) (old new : Outside) : Type 0 where
   pub err : Becomes (λ bytes. bytes ++ complained acts) old.err new.err
   pub writing : new.is_writing ≡ writes_after acts old.is_writing
 
--- The acts show in files and on the outputs, whatever became of the writing: closing a file changes
--- no content.
-pub record Shows (acts : List Act) (old new : Outside) : Type 0 where
-  pub files : Becomes (λ files. files) (option_map (λ d. (disk_after acts d).files) old.disk) (option_map (λ d. d.files) new.disk)
-  pub out : Becomes (λ bytes. bytes ++ printed acts) old.out new.out
-  pub err : Becomes (λ bytes. bytes ++ complained acts) old.err new.err
-
 -- the input stays as it was
 pub record KeepsInput (old new : Outside) : Type 0 where
   pub open_stays : new.is_open ≡ old.is_open

@@ -37,7 +37,7 @@ pub trait Host {
         ensures creates { Creates name.now (outside self.old) (outside self.new) result }
         ensures counts { Writes (outside self.old) (outside self.new) result };
 
-    /// Writes a front of `piece` at the end of the file that is being written, and answers how many
+    /// Writes a prefix of `piece` at the end of the file that is being written, and answers how many
     /// bytes: at least one.
     fn write(&mut self, piece: &[u8]) -> Result<usize, Failed>
         requires is_writing { (outside self.old).is_writing ≡ true }
@@ -50,13 +50,13 @@ pub trait Host {
         ensures closes { Closes (outside self.old) (outside self.new) }
         ensures counts { Writes (outside self.old) (outside self.new) result };
 
-    /// Prints a front of `piece` on the output, and answers how many bytes: at least one.
+    /// Prints a prefix of `piece` on the output, and answers how many bytes: at least one.
     fn out(&mut self, piece: &[u8]) -> Result<usize, Failed>
         requires { 0 < length piece.now }
         ensures takes { Takes Out piece.now (outside self.old) (outside self.new) result }
         ensures counts { Writes (outside self.old) (outside self.new) result };
 
-    /// Prints a front of `piece` on the error output, and answers how many bytes: at least one.
+    /// Prints a prefix of `piece` on the error output, and answers how many bytes: at least one.
     fn err(&mut self, piece: &[u8]) -> Result<usize, Failed>
         requires { 0 < length piece.now }
         ensures takes { Takes Complain piece.now (outside self.old) (outside self.new) result }

@@ -52,7 +52,7 @@ with_line words old mid new result line acted did complains ends = record {
   shut = λ other. did.writing ∙ acted.shut other;
 }
 
--- the last line was printed, or a front of it
+-- the last line was printed, or a prefix of it
 pub answered : {E : Type 0} (words : List (List ℕ)) (old mid new : Outside) (result : Result Done Fault) (r : Result (Unit {0}) E) → Acted words old mid result → Puts ErrorOutput (last_line words result) mid new r → Answered words old new result
 answered words old mid new result (Ok u) acted puts =
     with_line words old mid new result (last_line words result) acted puts.takes.done (record { read = puts.counts.read; write = puts.counts.write }) (inl (refl, puts.counts.own))

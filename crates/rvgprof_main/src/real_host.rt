@@ -82,7 +82,7 @@ impl RealHost {
     }
 }
 
-/// A front of the piece, of at least one byte, or an error.
+/// A prefix of the piece, of at least one byte, or an error.
 fn some_of<W: Write>(writer: &mut W, piece: &[u8]) -> Option<usize>
     ensures { IfSome result (λ n. (1 ≤ n) × (n ≤ length piece.now)) }
 {
