@@ -1,4 +1,4 @@
-//! The limits of the program, and the defaults of its options.
+//! The limits of the program.
 
 /// Bytes of the largest ELF file.
 pub const MAX_ELF_BYTES: u32 = 67_108_864;
@@ -30,20 +30,8 @@ pub const MIN_RAM_MIB: u32 = 4;
 /// MiB of the largest RAM.
 pub const MAX_RAM_MIB: u32 = 256;
 
-/// MiB of the RAM where the words name none.
-pub const DEFAULT_RAM_MIB: u32 = 64;
-
 /// The largest value of `--every`, `--budget` and `--rate`, which begin at 1.
 pub const MAX_NUMBER: u32 = 2_147_483_647;
-
-/// Instructions from sample to sample where the words name none.
-pub const DEFAULT_EVERY: u32 = 1_000;
-
-/// Instructions of a run where the words name none.
-pub const DEFAULT_BUDGET: u32 = 100_000_000;
-
-/// Samples per second, as written into gmon.out, where the words name none.
-pub const DEFAULT_RATE: u32 = 100;
 
 /// Harts of a run.
 pub const MAX_HARTS: u32 = 8;

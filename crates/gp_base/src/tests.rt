@@ -19,7 +19,7 @@ fn lists_grow_and_change(rt: HostRuntime) -> Result<(), Fail> {
 }
 
 #[test]
-fn limits_and_defaults(rt: HostRuntime) {
+fn limits_are_those_numbers(rt: HostRuntime) {
     let rows = [
         (
             "bytes of an ELF file",
@@ -52,26 +52,10 @@ fn limits_and_defaults(rt: HostRuntime) {
         ("least MiB of RAM", u64::from(limits::MIN_RAM_MIB), 4),
         ("most MiB of RAM", u64::from(limits::MAX_RAM_MIB), 256),
         (
-            "MiB of RAM by default",
-            u64::from(limits::DEFAULT_RAM_MIB),
-            64,
-        ),
-        (
             "largest number",
             u64::from(limits::MAX_NUMBER),
             2_147_483_647,
         ),
-        (
-            "instructions to a sample",
-            u64::from(limits::DEFAULT_EVERY),
-            1_000,
-        ),
-        (
-            "instructions of a run",
-            u64::from(limits::DEFAULT_BUDGET),
-            100_000_000,
-        ),
-        ("samples per second", u64::from(limits::DEFAULT_RATE), 100),
         ("harts", u64::from(limits::MAX_HARTS), 8),
         ("functions of the demo", u64::from(limits::MAX_DEMO), 2_000),
     ];
