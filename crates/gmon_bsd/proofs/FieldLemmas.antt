@@ -1,10 +1,10 @@
 -- A text of the form has one meaning.
-use Rattle.std.proofs.Common.{◌≡◌, ℕ, zero, suc, ◌+◌, ◌-◌, ◌*◌, ◌^◌, ◌<◌, ◌≤◌, List, [], ◌++◌, length, take, drop, length-take, length-drop, None, refl, sym, ap, subst, ◌∙◌, arith}
-use Rattle.std.specs.List.{flat_map, AllByRecursion}
+use Rattle.std.proofs.Common.{◌≡◌, ℕ, ◌+◌, ◌-◌, ◌*◌, ◌^◌, ◌<◌, ◌≤◌, List, [], ◌++◌, length, take, drop, length-take, length-drop, None, refl, sym, ap, subst, ◌∙◌, arith}
+use Rattle.std.specs.List.{flat_map}
 use Rattle.std.proofs.lemmas.List.{take-append-drop, drop-drop, drop_all, take_all}
-use Rattle.gp_base.specs.Bytes.{value_of, le, word_at, cut, IsBytes}
-use Rattle.gp_base.proofs.LittleEndian.{le-value_of, value_of-below, length-cut, IsBytes-take, IsBytes-drop}
-use Rattle.gp_base.proofs.Cutting.{flat_map-cut}
+use Rattle.gp_base.specs.Bytes.{value_of, le, word_at, IsBytes}
+use Rattle.gp_base.proofs.LittleEndian.{le-value_of, value_of-below, length-cut, IsBytes-drop, field_below, field_then}
+use Rattle.gp_base.proofs.Cutting.{all_cut, flat_map-cut}
 use Rattle.gmon_bsd.specs.Fields.{version, arc_bytes, arc_of, counter_bytes, ArcFits, CounterFits}
 use Rattle.gmon_bsd.specs.Grammar.{spelling, BsdSpells}
 use Rattle.gmon_bsd.specs.Reading.{low_of, high_of, size_of, version_of, rate_of, counter_count, arc_count, file_counters, file_arcs, bsd_refusal, bsd_records}
@@ -12,47 +12,25 @@ use Rattle.gmon_bsd.proofs.RefusalLemmas.{Accepted, accepted_of}
 
 -- ---- from the bytes to their spelling
 
--- a field of four bytes at an offset, and what follows it
-pub field_then : (bs : List ℕ) (at : ℕ) → IsBytes bs → at + 4 ≤ length bs → le (word_at bs at) 4 ++ drop (at + 4) bs ≡ drop at bs
-field_then bs at bytes long =
-    let len : length (take 4 (drop at bs)) ≡ 4 = omega (arith, length-take 4 (drop at bs), length-drop at bs) in
-    let front : le (word_at bs at) 4 ≡ take 4 (drop at bs) = ap (le (word_at bs at)) (sym len) ∙ le-value_of (take 4 (drop at bs)) (IsBytes-take 4 (drop at bs) (IsBytes-drop at bs bytes)) in
-    let back : drop (at + 4) bs ≡ drop 4 (drop at bs) = sym (drop-drop 4 at bs) in
-    ap (λ (v : List ℕ). v ++ drop (at + 4) bs) front ∙ ap (λ (v : List ℕ). take 4 (drop at bs) ++ v) back ∙ take-append-drop 4 (drop at bs)
-
-value_below : (k : ℕ) (bs : List ℕ) → IsBytes bs → length bs ≡ k → value_of bs < 256 ^ k
-value_below k bs bytes len = subst (λ (m : ℕ). value_of bs < 256 ^ m) len (value_of-below bs bytes)
-
-pub word_fits : (bs : List ℕ) (at : ℕ) → IsBytes bs → at + 4 ≤ length bs → word_at bs at < 2 ^ 32
-word_fits bs at bytes long =
-    value_below 4 (take 4 (drop at bs)) (IsBytes-take 4 (drop at bs) (IsBytes-drop at bs bytes)) (omega (arith, length-take 4 (drop at bs), length-drop at bs))
-
 pub counter_spelled : (bs : List ℕ) → length bs ≡ 2 → IsBytes bs → counter_bytes (value_of bs) ≡ bs
 counter_spelled bs len bytes = ap (le (value_of bs)) (sym len) ∙ le-value_of bs bytes
 
 pub arc_spelled : (bs : List ℕ) → length bs ≡ 12 → IsBytes bs → arc_bytes (arc_of bs) ≡ bs
 arc_spelled bs len bytes =
     let ended : drop 12 bs ≡ [] = drop_all 12 bs (omega arith) in
-    let count : le (word_at bs 8) 4 ≡ drop 8 bs = ap (λ (v : List ℕ). le (word_at bs 8) 4 ++ v) (sym ended) ∙ field_then bs 8 bytes (omega arith) in
-    let to : le (word_at bs 4) 4 ++ le (word_at bs 8) 4 ≡ drop 4 bs = ap (λ (v : List ℕ). le (word_at bs 4) 4 ++ v) count ∙ field_then bs 4 bytes (omega arith) in
-    ap (λ (v : List ℕ). le (word_at bs 0) 4 ++ v) to ∙ field_then bs 0 bytes (omega arith)
-
--- all of the items fit, where their bytes are bytes
-pub all_fit : {X : Type 0} (Fits : X → Type 0) (w : ℕ) (item : List ℕ → X) → ((bs : List ℕ) → length bs ≡ w → IsBytes bs → Fits (item bs)) → (n : ℕ) (bs : List ℕ) → n * w ≤ length bs → IsBytes bs → AllByRecursion Fits (cut w item n bs)
-all_fit Fits w item each zero bs long bytes = tt
-all_fit Fits w item each (suc n) bs long bytes =
-    let e : suc n * w ≡ w + n * w = omega arith in
-    (each (take w bs) (omega (arith, length-take w bs)) (IsBytes-take w bs bytes), all_fit Fits w item each n (drop w bs) (omega (arith, length-drop w bs)) (IsBytes-drop w bs bytes))
+    let count : le (word_at bs 8) 4 ≡ drop 8 bs = ap (λ (v : List ℕ). le (word_at bs 8) 4 ++ v) (sym ended) ∙ field_then 4 8 bs bytes (omega arith) in
+    let to : le (word_at bs 4) 4 ++ le (word_at bs 8) 4 ≡ drop 4 bs = ap (λ (v : List ℕ). le (word_at bs 4) 4 ++ v) count ∙ field_then 4 4 bs bytes (omega arith) in
+    ap (λ (v : List ℕ). le (word_at bs 0) 4 ++ v) to ∙ field_then 4 0 bs bytes (omega arith)
 
 pub arc_fits : (bs : List ℕ) → length bs ≡ 12 → IsBytes bs → ArcFits (arc_of bs)
 arc_fits bs len bytes = record {
-  from = word_fits bs 0 bytes (omega arith);
-  to = word_fits bs 4 bytes (omega arith);
-  count = word_fits bs 8 bytes (omega arith);
+  from = field_below 4 0 bs bytes (omega arith);
+  to = field_below 4 4 bs bytes (omega arith);
+  count = field_below 4 8 bs bytes (omega arith);
 }
 
 pub counter_fits : (bs : List ℕ) → length bs ≡ 2 → IsBytes bs → CounterFits (value_of bs)
-counter_fits bs len bytes = value_below 2 bs bytes len
+counter_fits bs len bytes = subst (λ (m : ℕ). value_of bs < 256 ^ m) len (value_of-below bs bytes)
 
 -- the counters and the arcs are all that follows the header
 bodies : (bs : List ℕ) → IsBytes bs → Accepted bs → flat_map counter_bytes (file_counters bs) ++ flat_map arc_bytes (file_arcs bs) ≡ drop 32 bs
@@ -79,13 +57,13 @@ spells_text bs bytes a =
     let header = a.header in
     let even : 32 + length (file_counters bs) * 2 ≡ size_of bs = omega (arith, a.size_least, a.size_even, length-cut 2 value_of n (drop 32 bs)) in
     let t20 : spare ++ body ≡ drop 20 bs = ap (λ (v : List ℕ). spare ++ v) (bodies bs bytes a ∙ sym (drop-drop 12 20 bs)) ∙ take-append-drop 12 (drop 20 bs) in
-    let t16 : le (rate_of bs) 4 ++ (spare ++ body) ≡ drop 16 bs = ap (λ (v : List ℕ). le (rate_of bs) 4 ++ v) t20 ∙ field_then bs 16 bytes (omega arith) in
+    let t16 : le (rate_of bs) 4 ++ (spare ++ body) ≡ drop 16 bs = ap (λ (v : List ℕ). le (rate_of bs) 4 ++ v) t20 ∙ field_then 4 16 bs bytes (omega arith) in
     let t12 : le version 4 ++ (le (rate_of bs) 4 ++ (spare ++ body)) ≡ drop 12 bs =
-    ap (λ (k : ℕ). le k 4 ++ (le (rate_of bs) 4 ++ (spare ++ body))) (sym a.version_is) ∙ ap (λ (v : List ℕ). le (version_of bs) 4 ++ v) t16 ∙ field_then bs 12 bytes (omega arith) in
+    ap (λ (k : ℕ). le k 4 ++ (le (rate_of bs) 4 ++ (spare ++ body))) (sym a.version_is) ∙ ap (λ (v : List ℕ). le (version_of bs) 4 ++ v) t16 ∙ field_then 4 12 bs bytes (omega arith) in
     let t8 : le (32 + length (file_counters bs) * 2) 4 ++ (le version 4 ++ (le (rate_of bs) 4 ++ (spare ++ body))) ≡ drop 8 bs =
-    ap (λ (k : ℕ). le k 4 ++ (le version 4 ++ (le (rate_of bs) 4 ++ (spare ++ body)))) even ∙ ap (λ (v : List ℕ). le (size_of bs) 4 ++ v) t12 ∙ field_then bs 8 bytes (omega arith) in
-    let t4 = ap (λ (v : List ℕ). le (high_of bs) 4 ++ v) t8 ∙ field_then bs 4 bytes (omega arith) in
-    sym (ap (λ (v : List ℕ). le (low_of bs) 4 ++ v) t4 ∙ field_then bs 0 bytes (omega arith))
+    ap (λ (k : ℕ). le k 4 ++ (le version 4 ++ (le (rate_of bs) 4 ++ (spare ++ body)))) even ∙ ap (λ (v : List ℕ). le (size_of bs) 4 ++ v) t12 ∙ field_then 4 8 bs bytes (omega arith) in
+    let t4 = ap (λ (v : List ℕ). le (high_of bs) 4 ++ v) t8 ∙ field_then 4 4 bs bytes (omega arith) in
+    sym (ap (λ (v : List ℕ). le (low_of bs) 4 ++ v) t4 ∙ field_then 4 0 bs bytes (omega arith))
 
 pub spelled_of : (bs : List ℕ) → IsBytes bs → bsd_refusal bs ≡ None → BsdSpells bs (bsd_records bs)
 spelled_of bs bytes e =
@@ -105,11 +83,11 @@ spelled_of bs bytes e =
       records = refl;
       text = spells_text bs bytes a;
       range = λ some. a.range (omega arith);
-      low_fits = word_fits bs 0 bytes (omega arith);
-      high_fits = word_fits bs 4 bytes (omega arith);
-      rate_fits = word_fits bs 16 bytes (omega arith);
-      size_fits = omega (arith, word_fits bs 8 bytes (omega arith), a.size_least, a.size_even);
+      low_fits = field_below 4 0 bs bytes (omega arith);
+      high_fits = field_below 4 4 bs bytes (omega arith);
+      rate_fits = field_below 4 16 bs bytes (omega arith);
+      size_fits = omega (arith, field_below 4 8 bs bytes (omega arith), a.size_least, a.size_even);
       spare_fits = omega (arith, length-take 12 (drop 20 bs), length-drop 20 bs);
-      counters_fit = all_fit CounterFits 2 value_of counter_fits n (drop 32 bs) (omega (arith, a.counters, length-drop 32 bs)) (IsBytes-drop 32 bs bytes);
-      arcs_fit = all_fit ArcFits 12 arc_of arc_fits m (drop (size_of bs) bs) (omega (arith, length-drop (size_of bs) bs)) (IsBytes-drop (size_of bs) bs bytes);
+      counters_fit = all_cut CounterFits 2 value_of counter_fits n (drop 32 bs) (omega (arith, a.counters, length-drop 32 bs)) (IsBytes-drop 32 bs bytes);
+      arcs_fit = all_cut ArcFits 12 arc_of arc_fits m (drop (size_of bs) bs) (omega (arith, length-drop (size_of bs) bs)) (IsBytes-drop (size_of bs) bs bytes);
     }

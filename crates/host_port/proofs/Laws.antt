@@ -1,8 +1,7 @@
 -- How acts follow one another.
 use Rattle.std.proofs.Common.{◌≡◌, ℕ, Bool, List, [], ◌∷◌, ◌++◌, Option, Some, None, refl, sym, ap, subst, ◌∙◌, append_assoc}
-use Rattle.std.specs.Prelude.{option_map}
 use Rattle.std.proofs.lemmas.List.{append-nil}
-use Rattle.host_port.specs.Act.{Act, Create, Write, Close, Out, Err, Disk, File, disk_after_act, disk_after, printed, complained, writes_after_act, writes_after}
+use Rattle.host_port.specs.Act.{Act, Create, Write, Close, Out, Err, Disk, disk_after_act, disk_after, printed, complained, writes_after_act, writes_after}
 use Rattle.host_port.specs.Outside.{Outside, Becomes, Did, KeepsInput, KeepsCounts}
 
 -- what is told at last was told in between

@@ -1,7 +1,7 @@
 -- Acts that are done one after the other.
 use Rattle.std.proofs.Common.{ℕ, ◌<◌, List, [], ◌∷◌, ◌++◌, length, take, Result, Ok, Err as Error, inl, inr, refl, subst, ◌∙◌}
 use Rattle.host_port.specs.Act.{Act, Create, Write, Close, Err}
-use Rattle.host_port.specs.Outside.{Outside, Did, Rose, KeepsCounts}
+use Rattle.host_port.specs.Outside.{Outside, Rose, KeepsCounts}
 use Rattle.host_port.specs.Host.{Creates, Closes, CountsOf, Puts, act_of, Writes}
 use Rattle.host_port.specs.declared.side.Side.{Side}
 use Rattle.host_port.specs.declared.side.Side.TheVariants.{File, Output, ErrorOutput}

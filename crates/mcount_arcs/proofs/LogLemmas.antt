@@ -10,7 +10,8 @@ use Rattle.mcount_arcs.specs.declared.sizes.Sizes.{Sizes}
 use Rattle.mcount_arcs.specs.declared.state.State.{State}
 use Rattle.mcount_arcs.specs.declared.state.State.TheVariants.{On, Busy, Error, Off}
 use Rattle.mcount_arcs.specs.Lists.{gather, last_of, without_last}
-use Rattle.mcount_arcs.specs.Sizes.{is_in, text_span, bucket_range}
+use Rattle.gp_base.specs.Spans.{is_in}
+use Rattle.mcount_arcs.specs.Sizes.{text_span, bucket_range}
 use Rattle.mcount_arcs.specs.Samples.{counted_samples, counted_in, buckets_of}
 
 -- a log with one entry more

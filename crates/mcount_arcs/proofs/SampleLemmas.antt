@@ -7,7 +7,8 @@ use Rattle.std.proofs.lemmas.Bool.{lt-leb}
 use Rattle.mcount_arcs.specs.declared.sizes.Sizes.{Sizes}
 use Rattle.mcount_arcs.specs.declared.state.State.TheVariants.{On, Error}
 use Rattle.mcount_arcs.specs.Lists.{gather, last_of}
-use Rattle.mcount_arcs.specs.Sizes.{is_in, text_span}
+use Rattle.gp_base.specs.Spans.{is_in}
+use Rattle.mcount_arcs.specs.Sizes.{text_span}
 use Rattle.mcount_arcs.specs.Samples.{counted_samples, counted_in}
 use Rattle.mcount_arcs.specs.Arcs.{arcs_of}
 use Rattle.mcount_arcs.proofs.LogLemmas.{entered_of, state_by, arcs_of-kept_calls}

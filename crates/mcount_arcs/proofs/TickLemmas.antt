@@ -4,7 +4,8 @@ use Rattle.std.specs.List.{slice_get}
 use Rattle.std.proofs.lemmas.Bool.{and_parts, leb-true, ltb-true}
 use Rattle.gmon_block.specs.Layout.{EntryFits, no_entry, Parts}
 use Rattle.mcount_arcs.specs.Log.{LogEntry, Sample}
-use Rattle.mcount_arcs.specs.Sizes.{is_in, text_span, AreSizes}
+use Rattle.gp_base.specs.Spans.{is_in}
+use Rattle.mcount_arcs.specs.Sizes.{text_span, AreSizes}
 use Rattle.mcount_arcs.specs.Samples.{buckets_of}
 use Rattle.std.proofs.lemmas.Option.{get_or_from_slice_get}
 use Rattle.mcount_arcs.specs.declared.gmon.Gmon.TheInside.{Inside}

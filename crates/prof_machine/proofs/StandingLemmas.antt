@@ -9,7 +9,8 @@ use Rattle.std.proofs.lemmas.List.Sums.{sum_by_push}
 use Rattle.mcount_arcs.proofs.LogLemmas.{IsQuiet, counted_samples-same, counted_samples-sampled, kept_calls-quiet, looks_of-kept_calls}
 use Rattle.mcount_arcs.specs.Log.{LogEntry, Sample, is_on, kept_calls}
 use Rattle.mcount_arcs.specs.Samples.{counted_in, counted_samples}
-use Rattle.mcount_arcs.specs.Sizes.{is_in, text_span}
+use Rattle.gp_base.specs.Spans.{is_in}
+use Rattle.mcount_arcs.specs.Sizes.{text_span}
 use Rattle.mcount_arcs.specs.Value.{GmonValue, StandsFor as RuntimeStandsFor}
 use Rattle.mcount_arcs.specs.declared.sizes.Sizes.{Sizes}
 use Rattle.rv_step.specs.Memory.{Memory}

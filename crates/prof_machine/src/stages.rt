@@ -2,7 +2,8 @@
 
 ghost use Rattle.std.specs.Prelude.{◌≡◌, ◌+◌, ◌<◌, ◌≤◌, ◌&&◌, ℕ, None, OnOk, OnErr, IsSome, true, false, MatchResult};
 ghost use Rattle.host_port.specs.Outside.{KeepsCounts, KeepsInput};
-ghost use Rattle.mcount_arcs.specs.Sizes.{is_in, text_span};
+ghost use Rattle.gp_base.specs.Spans.{is_in};
+ghost use Rattle.mcount_arcs.specs.Sizes.{text_span};
 ghost use Rattle.prof_machine.specs.Prints.{ArePrinted, BreaksOff, PrintFailed};
 ghost use Rattle.prof_machine.specs.Stages.{Executes, Serves, Steps, Ticks, answers, holds, retires, returns};
 ghost use Rattle.prof_machine.specs.Turn.{after_ecall, arrived, called, closed, executed, instructed, sampled, spent, switched, taken, while_going};

@@ -1,6 +1,6 @@
 -- The last line, behind what was done.
-use Rattle.std.proofs.Common.{◌≡◌, ℕ, List, [], ◌∷◌, take, Option, Some, None, Result, Ok, Err, inl, inr, refl, sym, subst, ◌∙◌}
-use Rattle.host_port.specs.Act.{Act, Disk, File}
+use Rattle.std.proofs.Common.{◌≡◌, ℕ, List, [], ◌∷◌, take, Result, Ok, Err, inl, inr, refl, sym, subst, ◌∙◌}
+use Rattle.host_port.specs.Act.{Act}
 use Rattle.host_port.specs.Act.{Err as Complain}
 use Rattle.host_port.specs.Outside.{Outside, Did, Rose}
 use Rattle.host_port.specs.Host.{Puts}

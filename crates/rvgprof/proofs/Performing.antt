@@ -1,13 +1,13 @@
 -- What a run prints and writes, as acts that are due.
-use Rattle.std.proofs.Common.{◌≡◌, ℕ, ◌+◌, ◌<◌, ◌≤◌, Bool, false, List, [], ◌∷◌, ◌++◌, append_assoc, take, Option, Some, None, option_map, Result, Ok, Err, refl, sym, ap, subst, ◌∙◌, arith}
+use Rattle.std.proofs.Common.{◌≡◌, ℕ, ◌+◌, ◌<◌, Bool, false, List, [], ◌∷◌, ◌++◌, take, Option, Some, None, option_map, Result, Ok, Err, refl, sym, ap, subst, ◌∙◌}
 use Rattle.std.specs.Prelude.{⊤}
 use Rattle.gmon_block.specs.Layout.{layout_of}
-use Rattle.host_port.specs.Act.{Act, Create, Write, Close, writes_after}
+use Rattle.host_port.specs.Act.{Act, writes_after}
 use Rattle.host_port.specs.Outside.{Outside, Did, KeepsCounts}
 use Rattle.host_port.specs.Host.{act_of}
 use Rattle.host_port.specs.Performing.{FailedAt, Performs}
 use Rattle.host_port.proofs.Laws.{Did-nothing, KeepsCounts-same, writes_after-append}
-use Rattle.host_port.proofs.PerformingLemmas.{failed_behind, piece_failed, piece_part, performs_then, performs_front}
+use Rattle.host_port.proofs.PerformingLemmas.{failed_behind, piece_failed, piece_part}
 use Rattle.gmon_bsd.specs.Run.{run_text, runtime_text}
 use Rattle.gmon_bsd.proofs.RunTextLemmas.{text_stands}
 use Rattle.mcount_arcs.specs.declared.sizes.Sizes.{Sizes}
@@ -17,7 +17,6 @@ use Rattle.mcount_arcs.specs.Value.{GmonValue, StandsFor as RuntimeStandsFor, bl
 use Rattle.prof_machine.specs.declared.machine.Machine.{Machine}
 use Rattle.prof_machine.specs.Plan.{driven, planned, most_turns}
 use Rattle.prof_machine.specs.Prints.{ArePrinted, BreaksOff}
-use Rattle.prof_machine.specs.Value.{RunValue, StandsFor}
 use Rattle.prof_machine.specs.World.{World}
 use Rattle.prof_machine.proofs.ActLemmas.{driven_front}
 use Rattle.rvgprof.specs.Items.{name_of}

@@ -1,5 +1,5 @@
 -- How a command goes on along its course, and each way in which it ends.
-use Rattle.std.proofs.Common.{◌≡◌, ℕ, ◌+◌, ◌<◌, ◌≤◌, Bool, true, false, cond, eqb, ltb, List, [], ◌∷◌, ◌++◌, append_assoc, length, replicate, Option, Some, None, Result, Ok, Err, inl, inr, refl, sym, ap, subst, ◌∙◌, arith}
+use Rattle.std.proofs.Common.{◌≡◌, ℕ, ◌+◌, ◌<◌, ◌≤◌, Bool, true, false, cond, eqb, List, [], ◌++◌, append_assoc, length, replicate, Option, Some, None, Result, Ok, Err, inl, inr, refl, sym, ap, subst, ◌∙◌, arith}
 use Rattle.std.specs.Prelude.{IfSome, MatchOption, ⊤}
 use Rattle.std.specs.Global.{Vec}
 use Rattle.std.proofs.lemmas.Bool.{lt-ltb, le-ltb}
@@ -17,7 +17,7 @@ use Rattle.rvgprof.specs.declared.outcome.Fault.TheVariants.{Usage, ReadFault, W
 use Rattle.rvgprof.specs.declared.words.Command.{Command}
 use Rattle.rvgprof.specs.Items.{name_of}
 use Rattle.rvgprof.specs.Words.{command_of}
-use Rattle.rvgprof.specs.Course.{Course, Ends, Input, Does, Reply, refused, unless, reply_to, behind, ComesTo, MayStop}
+use Rattle.rvgprof.specs.Course.{Course, Ends, Input, Does, Reply, unless, reply_to, ComesTo, MayStop}
 use Rattle.rvgprof.specs.Answer.{command_course, course_of, contents_of, load_fault_of}
 use Rattle.host_port.specs.Performing.{FailedAt, Performs}
 use Rattle.host_port.proofs.PerformingLemmas.{failed_behind, failed_before, failed_since}

@@ -1,5 +1,5 @@
 -- What the program owes after each answer.
-use Rattle.std.specs.Prelude.{◌≡◌, ◌≢◌, ℕ, false, List, [], ◌∷◌, ◌++◌, Option, None, Result, Ok, Err, ◌⊎◌, MatchOption, IfSome, ⊤}
+use Rattle.std.specs.Prelude.{◌≡◌, ◌≢◌, ℕ, false, List, [], ◌∷◌, ◌++◌, None, Result, Err, ◌⊎◌, MatchOption, IfSome, ⊤}
 use Rattle.host_port.specs.Act.{Act, File}
 use Rattle.host_port.specs.Act.{Err as Complain}
 use Rattle.host_port.specs.Outside.{Outside, Did, Rose}

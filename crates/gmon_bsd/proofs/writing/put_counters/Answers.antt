@@ -1,8 +1,8 @@
-use Rattle.std.proofs.Common.{◌≤◌, ◌<◌, length, sym, arith}
+use Rattle.std.proofs.Common.{◌<◌, length, sym, arith}
 use Rattle.std.proofs.lemmas.Option.{get_or_from_slice_get}
 use Rattle.std.proofs.lemmas.Result.{err_from_is_err_and}
 use Rattle.host_port.specs.declared.side.Side.TheVariants.{File}
-use Rattle.host_port.proofs.BufferLemmas.{adds_nothing, adds_more, adds_stop, adds_all, adds_ready}
+use Rattle.host_port.proofs.BufferLemmas.{adds_nothing, adds_more, adds_stop, adds_ready}
 use Rattle.gmon_bsd.specs.Fields.{counter_bytes}
 use Rattle.gmon_bsd.proofs.writing.put_counters.Goals as goal
 

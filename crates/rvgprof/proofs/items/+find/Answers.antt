@@ -1,4 +1,4 @@
-use Rattle.std.proofs.Common.{◌≡◌, ◌∙◌, ap, sym, map, string_bytes, Some, true, false, Option, List, ℕ, arith, length, ◌∷◌}
+use Rattle.std.proofs.Common.{◌≡◌, ◌∙◌, ap, sym, map, string_bytes, Some, true, false, Option, List, ℕ, arith, ◌∷◌}
 use Rattle.std.specs.Option.{option_map}
 use Rattle.std.specs.List.{cons_option}
 use Rattle.rvgprof.specs.Items.{Item, is_option, items_from, nth, places}

@@ -1,4 +1,4 @@
-use Rattle.std.proofs.Common.{◌≡◌, ◌∙◌, ap, sym, map, string_bytes, Some, None, Option, ℕ}
+use Rattle.std.proofs.Common.{◌∙◌, ap, sym, map, string_bytes, Some, None, Option, ℕ}
 use Rattle.rvgprof.specs.declared.options.Kind.{Kind}
 use Rattle.rvgprof.specs.Items.{items_from, number_at}
 use Rattle.rvgprof.specs.Options.{kind_of}

@@ -1,4 +1,4 @@
-use Rattle.std.proofs.Common.{◌≡◌, ◌∙◌, ap, sym, map, string_bytes, Some, Option, ℕ}
+use Rattle.std.proofs.Common.{◌∙◌, ap, sym, map, string_bytes, Some, Option, ℕ}
 use Rattle.rvgprof.specs.Items.{items_from}
 use Rattle.rvgprof.proofs.ItemLemmas.{none_so, given_found, given_too_often}
 use Rattle.rvgprof.proofs.items.place_given.Goals as goal

@@ -1,5 +1,5 @@
-use Rattle.std.proofs.Common.{◌≡◌, ◌∙◌, ap, sym, map, string_bytes, Some, Option, ℕ}
-use Rattle.std.specs.Option.{option_map, unwrap_or}
+use Rattle.std.proofs.Common.{◌∙◌, ap, sym, map, string_bytes, Some, Option, ℕ}
+use Rattle.std.specs.Option.{unwrap_or}
 use Rattle.rvgprof.specs.Items.{items_from}
 use Rattle.rvgprof.proofs.ItemLemmas.{setting_found}
 use Rattle.rvgprof.proofs.items.setting.Goals as goal

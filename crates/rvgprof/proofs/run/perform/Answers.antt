@@ -1,4 +1,4 @@
-use Rattle.std.proofs.Common.{◌++◌, ◌∙◌, ap, sym, map, string_bytes}
+use Rattle.std.proofs.Common.{◌++◌, ◌∙◌, ap, map, string_bytes}
 use Rattle.std.proofs.lemmas.Result.{err_from_is_err_and}
 use Rattle.gmon_block.specs.Layout.{layout_of}
 use Rattle.gmon_bsd.specs.Run.{run_text}
