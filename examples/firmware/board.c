@@ -1,0 +1,46 @@
+// What picolibc asks of a board: a console of two outputs, a heap, and an end.
+#include <errno.h>
+#include <stddef.h>
+#include <stdio.h>
+#include <unistd.h>
+
+enum { WRITE = 64, EXIT = 93, SET_BREAK = 214 };
+
+static long call(long number, long first, long second, long third) {
+    register long a0 asm("a0") = first;
+    register long a1 asm("a1") = second;
+    register long a2 asm("a2") = third;
+    register long a7 asm("a7") = number;
+    asm volatile("ecall" : "+r"(a0) : "r"(a1), "r"(a2), "r"(a7) : "memory");
+    return a0;
+}
+
+static int put_out(char c, FILE *file) {
+    (void)file;
+    return call(WRITE, 1, (long)&c, 1) == 1 ? c : EOF;
+}
+
+static int put_err(char c, FILE *file) {
+    (void)file;
+    return call(WRITE, 2, (long)&c, 1) == 1 ? c : EOF;
+}
+
+static FILE out = FDEV_SETUP_STREAM(put_out, NULL, NULL, _FDEV_SETUP_WRITE);
+static FILE err = FDEV_SETUP_STREAM(put_err, NULL, NULL, _FDEV_SETUP_WRITE);
+FILE *const stdout = &out;
+FILE *const stderr = &err;
+
+// A break that can't be set is answered with the one that stands, so 0 asks for it.
+void *sbrk(ptrdiff_t more) {
+    long old = call(SET_BREAK, 0, 0, 0);
+    if (call(SET_BREAK, old + more, 0, 0) != old + more) {
+        errno = ENOMEM;
+        return (void *)-1;
+    }
+    return (void *)old;
+}
+
+_Noreturn void _exit(int status) {
+    for (;;)
+        call(EXIT, status, 0, 0);
+}
