@@ -1,0 +1,5 @@
+pub mod TallyLemmas
+pub mod CounterLemmas
+pub mod HistLemmas
+pub mod ContentLemmas
+pub mod RecordLemmas
