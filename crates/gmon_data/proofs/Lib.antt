@@ -3,3 +3,4 @@ pub mod CounterLemmas
 pub mod HistLemmas
 pub mod ContentLemmas
 pub mod RecordLemmas
+pub mod BoundLemmas
