@@ -1,5 +1,5 @@
 -- What a profile holds at most, after what was added.
-use Rattle.std.proofs.Common.{◌≡◌, ℕ, ◌+◌, ◌≤◌, ◌<◌, Bool, true, false, ltb, eqb, List, [], ◌∷◌, Some, unwrap_or, length, sum, refl, if◌then◌else◌, arith}
+use Rattle.std.proofs.Common.{ℕ, ◌+◌, ◌≤◌, Bool, true, false, ltb, eqb, List, [], ◌∷◌, Some, unwrap_or, length, sum, if◌then◌else◌, arith}
 use Rattle.std.specs.List.{sum_by}
 use Rattle.std.proofs.lemmas.List.Sums.{sum_by-cons}
 use Rattle.gp_base.specs.declared.records.Unit as units

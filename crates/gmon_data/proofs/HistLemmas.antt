@@ -1,6 +1,6 @@
 -- A histogram takes its place.
-use Rattle.std.proofs.Common.{◌≡◌, ◌↔◌, ℕ, zero, suc, ◌<◌, ◌≤◌, Bool, true, false, cond, ltb, eqb, List, [], ◌∷◌, length, sum, set, insert, slice_get, get_or, fold, Option, Some, None, unwrap_or, refl, sym, ap, ◌∙◌, if◌then◌else◌, true≢false, not, ◌&&◌, ◌+◌, arith}
-use Rattle.std.proofs.lemmas.Bool.{le-ltb, lt-ltb, ltb-false, ltb-true, eq-eqb, eqb-true}
+use Rattle.std.proofs.Common.{◌≡◌, ◌↔◌, ℕ, zero, suc, ◌<◌, ◌≤◌, Bool, true, false, ltb, eqb, List, [], ◌∷◌, length, sum, set, insert, slice_get, get_or, fold, Option, Some, None, unwrap_or, refl, sym, ap, ◌∙◌, if◌then◌else◌, true≢false, not, ◌&&◌, ◌+◌, arith}
+use Rattle.std.proofs.lemmas.Bool.{lt-ltb, ltb-false, ltb-true, eq-eqb, eqb-true}
 use Rattle.gmon_data.specs.declared.hist.Hist.{Hist}
 use Rattle.gmon_data.specs.declared.hist.HistRange.{HistRange}
 use Rattle.gmon_data.specs.declared.refusal.Unlike.{Unlike}

@@ -1,9 +1,9 @@
 -- Records, added one after the other.
-use Rattle.std.proofs.Common.{◌≡◌, ℕ, ◌+◌, ◌≤◌, ◌<◌, ◌^◌, Bool, true, false, zero, suc, List, [], ◌∷◌, ◌++◌, length, map, drop, get_or, slice_get, add-one, Option, Some, None, unwrap_or, nat_eq, ltb, eqb, append_assoc, refl, sym, ap, subst, ◌∙◌, if◌then◌else◌, Result, Ok, Err, arith}
+use Rattle.std.proofs.Common.{◌≡◌, ℕ, ◌+◌, ◌≤◌, ◌<◌, Bool, true, false, zero, suc, List, [], ◌∷◌, ◌++◌, length, map, drop, get_or, add-one, Option, Some, None, unwrap_or, nat_eq, ltb, eqb, append_assoc, refl, sym, ap, subst, ◌∙◌, if◌then◌else◌, Result, Ok, Err, arith}
 use Rattle.std.proofs.Math.Seq.{drop-cons}
 use Rattle.std.proofs.lemmas.List.Concat.{flat_map-cons}
 use Rattle.gp_base.specs.declared.records.Rec.{Rec}
-use Rattle.std.specs.List.{sum_by, flat_map}
+use Rattle.std.specs.List.{sum_by}
 use Rattle.std.specs.Option.{option_or}
 use Rattle.std.specs.Result.{IfErr}
 use Rattle.std.proofs.lemmas.List.{append-nil}
@@ -15,7 +15,7 @@ use Rattle.gmon_data.specs.declared.refusal.Unlike.{Unlike}
 use Rattle.gmon_data.specs.declared.refusal.AddRefusal.{AddRefusal}
 use Rattle.gmon_data.specs.declared.refusal.AddRefusal.TheVariants as answers
 use Rattle.gmon_data.specs.Hists.{put_hist, hist_sum, has_counters, kept_unit, pointwise_sum, IsUnlike}
-use Rattle.gmon_data.specs.Tally.{tally, total_of}
+use Rattle.gmon_data.specs.Tally.{tally}
 use Rattle.gmon_data.specs.Content.{Content, WideRec, WideHist, WideArc, WideBlock, same_pair, with_hist, with_record, with_records, record_conflict, conflict_of, content_of, wide_block, wide_record, wide_records, IsWithin, IsAdded, IsStopped, IsRefusedFirst}
 use Rattle.gmon_data.proofs.TallyLemmas.{sum-tally}
 use Rattle.gmon_data.proofs.HistLemmas.{samples-put}

@@ -1,6 +1,6 @@
 -- Numbers by key: adding one is adding it to the sum of its key.
-use Rattle.std.proofs.Common.{◌≡◌, ℕ, ◌+◌, ◌≤◌, Bool, true, false, ◌||◌, cond, List, [], ◌∷◌, ◌++◌, map, fold, Option, Some, None, unwrap_or, append_assoc, refl, sym, ap, subst, ◌∙◌, true≢false, if◌then◌else◌, zero, suc, slice_get, drop, add-one, arith}
-use Rattle.std.specs.List.{list_any, sum_by, AllByRecursion, IsDistinct}
+use Rattle.std.proofs.Common.{◌≡◌, ℕ, ◌+◌, ◌≤◌, Bool, true, false, ◌||◌, cond, List, [], ◌∷◌, ◌++◌, map, fold, Option, Some, None, unwrap_or, append_assoc, refl, sym, ap, ◌∙◌, true≢false, if◌then◌else◌, zero, suc, slice_get, drop, add-one, arith}
+use Rattle.std.specs.List.{list_any, AllByRecursion, IsDistinct}
 use Rattle.std.specs.Map.{lookup}
 use Rattle.std.proofs.lemmas.List.{append-nil, map-append}
 use Rattle.std.proofs.lemmas.List.Sums.{fold-append, sum_by-append, sum_by-cons}

@@ -1,5 +1,5 @@
 -- What a list of records adds up to.
-use Rattle.std.specs.Prelude.{◌≡◌, ℕ, ◌+◌, ◌^◌, ◌<◌, ◌==◌, Bool, ◌&&◌, nat_eq, List, [], ◌∷◌, ◌++◌, length, slice_get, fold, unwrap_or, filter_map, map, Option, Some, None, ⊤, if◌then◌else◌}
+use Rattle.std.specs.Prelude.{◌≡◌, ℕ, ◌^◌, ◌<◌, Bool, ◌&&◌, nat_eq, List, [], ◌∷◌, ◌++◌, length, slice_get, fold, unwrap_or, filter_map, map, Option, Some, None, ⊤, if◌then◌else◌}
 use Rattle.gp_base.specs.declared.records.Unit as units
 use Rattle.gp_base.specs.declared.records.RawHist.{RawHist}
 use Rattle.gp_base.specs.declared.records.RawBlock.{RawBlock}

@@ -1,4 +1,4 @@
-use Rattle.std.proofs.Common.{◌≡◌, ◌≤◌, ◌<◌, eqb, false, Some, slice_get, set, insert, arith, ◌∙◌, ap, sym, length}
+use Rattle.std.proofs.Common.{◌≡◌, ◌<◌, eqb, false, Some, slice_get, set, insert, arith, ◌∙◌, ap, sym, length}
 use Rattle.std.proofs.lemmas.Option.{slice_get-get_or}
 use Rattle.gmon_data.specs.declared.hist.Hist.{Hist}
 use Rattle.gmon_data.specs.Hists.{place_of, pointwise_sum}

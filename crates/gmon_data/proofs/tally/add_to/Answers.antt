@@ -1,4 +1,4 @@
-use Rattle.std.proofs.Common.{◌≡◌, ◌+◌, unwrap_or, sym, ap, ◌∙◌, arith}
+use Rattle.std.proofs.Common.{◌≡◌, ◌+◌, unwrap_or, ap, ◌∙◌, arith}
 use Rattle.std.specs.Map.{lookup}
 use Rattle.gmon_data.proofs.TallyLemmas.{insert-tally, lookup-within}
 use Rattle.gmon_data.proofs.tally.add_to.Goals as goal

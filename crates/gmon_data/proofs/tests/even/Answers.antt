@@ -1,4 +1,4 @@
-use Rattle.std.proofs.Common.{◌≡◌, ◌++◌, ◌∷◌, [], length, sum, arith, ap, length-append}
+use Rattle.std.proofs.Common.{◌∷◌, [], length, arith, ap, length-append}
 use Rattle.std.proofs.lemmas.List.Sums.{sum_by-append}
 use Rattle.gmon_data.proofs.tests.even.Goals as goal
 

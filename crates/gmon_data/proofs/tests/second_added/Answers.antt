@@ -1,5 +1,5 @@
 use Rattle.std.proofs.Common.{◌+◌, subst, sym, arith}
-use Rattle.gmon_data.specs.Content.{Content, with_hist, IsWithin}
+use Rattle.gmon_data.specs.Content.{Content, with_hist}
 use Rattle.gmon_data.proofs.BoundLemmas.{IsAtMost, at_most_none, one_hist_more, within_at_most}
 use Rattle.gmon_data.proofs.tests.second_added.Goals as goal
 

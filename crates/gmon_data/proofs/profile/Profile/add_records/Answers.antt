@@ -1,4 +1,4 @@
-use Rattle.gmon_data.specs.Content.{wide_records, IsStopped}
+use Rattle.gmon_data.specs.Content.{wide_records}
 use Rattle.gmon_data.proofs.ContentLemmas.{on_ok}
 use Rattle.gmon_data.proofs.RecordLemmas.{on_err, records_stand, stopped_conflict}
 use Rattle.gmon_data.proofs.profile.Profile.add_records.Goals as goal

@@ -1,9 +1,8 @@
-use Rattle.std.proofs.Common.{◌≡◌, ◌<◌, ◌+◌, ◌^◌, true, false, None, Some, ltb, length, sum, slice_get, unwrap_or, refl, ap, sym, ◌∙◌, arith}
-use Rattle.std.specs.List.{sum_by}
+use Rattle.std.proofs.Common.{◌≡◌, ◌<◌, true, None, length, slice_get, unwrap_or, refl, ap, sym, ◌∙◌, arith}
 use Rattle.std.proofs.lemmas.Bool.{lt-ltb, le-ltb}
 use Rattle.gmon_data.specs.declared.hist.Hist.{Hist}
-use Rattle.gmon_data.specs.Hists.{put_hist, samples_of, has_counters, range_of, range_conflict}
-use Rattle.gmon_data.specs.Content.{Content, IsWithin}
+use Rattle.gmon_data.specs.Hists.{has_counters, range_of, range_conflict}
+use Rattle.gmon_data.specs.Content.{Content}
 use Rattle.gmon_data.proofs.HistLemmas.{samples-put, counters-put, counters-at, all_kept, alike_counters, first_none, apart_put, unit_put}
 use Rattle.gmon_data.proofs.ContentLemmas.{hist_stands, hist_within, with_hist_is, with_none}
 use Rattle.gmon_data.proofs.profile.Profile.add_wide.Goals as goal

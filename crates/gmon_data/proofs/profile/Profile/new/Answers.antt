@@ -1,5 +1,5 @@
-use Rattle.std.proofs.Common.{rules, refl, sym, ◌∙◌}
-use Rattle.gmon_data.specs.Content.{empty_content, content_of}
+use Rattle.std.proofs.Common.{rules}
+use Rattle.gmon_data.specs.Content.{content_of}
 use Rattle.gmon_data.proofs.profile.Profile.new.Goals as goal
 
 pub returns-clause-stands : goal.returns-clause-stands
