@@ -1,0 +1,6 @@
+pub mod TallyLemmas
+pub mod CounterLemmas
+pub mod HistLemmas
+pub mod ContentLemmas
+pub mod RecordLemmas
+pub mod BoundLemmas

@@ -1,0 +1,221 @@
+-- Records, added one after the other.
+use Rattle.std.proofs.Common.{◌≡◌, ℕ, ◌+◌, ◌≤◌, ◌<◌, Bool, true, false, zero, suc, List, [], ◌∷◌, ◌++◌, length, map, drop, get_or, add-one, Option, Some, None, unwrap_or, nat_eq, ltb, eqb, append_assoc, refl, sym, ap, subst, ◌∙◌, if◌then◌else◌, Result, Ok, Err, arith}
+use Rattle.std.proofs.Math.Seq.{drop-cons}
+use Rattle.std.proofs.lemmas.List.Concat.{flat_map-cons}
+use Rattle.gp_base.specs.declared.records.Rec.{Rec}
+use Rattle.std.specs.List.{sum_by}
+use Rattle.std.specs.Option.{option_or}
+use Rattle.std.specs.Result.{IfErr}
+use Rattle.std.proofs.lemmas.List.{append-nil}
+use Rattle.std.proofs.lemmas.List.Sums.{sum_by-cons}
+use Rattle.gp_base.specs.declared.records.Unit as units
+use Rattle.gp_base.specs.declared.records.RawBlock.{RawBlock}
+use Rattle.gmon_data.specs.declared.hist.Hist.{Hist}
+use Rattle.gmon_data.specs.declared.refusal.Unlike.{Unlike}
+use Rattle.gmon_data.specs.declared.refusal.AddRefusal.{AddRefusal}
+use Rattle.gmon_data.specs.declared.refusal.AddRefusal.TheVariants as answers
+use Rattle.gmon_data.specs.Hists.{put_hist, hist_sum, has_counters, kept_unit, pointwise_sum, IsUnlike}
+use Rattle.gmon_data.specs.Tally.{tally}
+use Rattle.gmon_data.specs.Content.{Content, WideRec, WideHist, WideArc, WideBlock, same_pair, with_hist, with_record, with_records, record_conflict, conflict_of, content_of, wide_block, wide_record, wide_records, IsWithin, IsAdded, IsStopped, IsRefusedFirst}
+use Rattle.gmon_data.proofs.TallyLemmas.{sum-tally}
+use Rattle.gmon_data.proofs.HistLemmas.{samples-put}
+use Rattle.gmon_data.proofs.ContentLemmas.{content-hist, content-arc, content-block}
+
+pub with_records-append : (xs ys : List WideRec) (c : Content) → with_records (xs ++ ys) c ≡ with_records ys (with_records xs c)
+with_records-append [] ys c = refl
+with_records-append (x ∷ xs) ys c = with_records-append xs ys (with_record x c)
+
+or_next : (o p : Option Unlike) → o ≡ None → option_or o p ≡ p
+or_next None p e = refl
+or_next (Some u) p e = absurd cc
+
+parts_none : (o p : Option Unlike) → option_or o p ≡ None → (o ≡ None) × (p ≡ None)
+parts_none None p e = (refl, e)
+parts_none (Some u) p e = absurd cc
+
+-- where some are accepted, the conflict is that of those after them
+pub conflict-append : (xs ys : List WideRec) (c : Content) → conflict_of c xs ≡ None → conflict_of c (xs ++ ys) ≡ conflict_of (with_records xs c) ys
+conflict-append [] ys c e = refl
+conflict-append (x ∷ xs) ys c e =
+    let parts = parts_none (record_conflict c x) (conflict_of (with_record x c) xs) e in
+    or_next (record_conflict c x) _ parts.0 ∙ conflict-append xs ys (with_record x c) parts.1
+
+-- ---- content and records
+
+content_one_more : (r : WideRec) (recs : List WideRec) → content_of (recs ++ r ∷ []) ≡ with_record r (content_of recs)
+content_one_more (WideHist hist u) recs = content-hist hist u recs
+content_one_more (WideArc from to count) recs = content-arc from to count recs
+content_one_more (WideBlock addr count) recs = content-block addr count recs
+
+pub content-more : (recs more : List WideRec) → content_of (recs ++ more) ≡ with_records more (content_of recs)
+content-more recs [] = ap content_of (append-nil recs)
+content-more recs (r ∷ more) =
+    ap content_of (sym (append_assoc recs (r ∷ []) more)) ∙ content-more (recs ++ r ∷ []) more ∙ ap (with_records more) (content_one_more r recs)
+
+pub records_stand : (more : List WideRec) (old new : Content) → new ≡ with_records more old → (recs : List WideRec) → old ≡ content_of recs → new ≡ content_of (recs ++ more)
+records_stand more old new added recs before = added ∙ ap (with_records more) before ∙ sym (content-more recs more)
+
+-- ---- what was within before more was added
+
+longer_sum : (xs ys : List ℕ) → length xs ≤ length (pointwise_sum xs ys)
+longer_sum [] ys = omega arith
+longer_sum (x ∷ xs) [] = omega arith
+longer_sum (x ∷ xs) (y ∷ ys) = omega (arith, longer_sum xs ys)
+
+counters_grow : (h : Hist) (hs : List Hist) → sum_by (λ k. length k.counters) hs ≤ sum_by (λ k. length k.counters) (put_hist h hs)
+counters_grow h [] = omega arith
+counters_grow h (k ∷ ks) = by (ltb k.low h.low) (eqb k.low h.low) (counters_grow h ks)
+  where
+    f : Hist → ℕ
+    f k = length k.counters
+
+    by : (b e : Bool) → sum_by f ks ≤ sum_by f (put_hist h ks) → sum_by f (k ∷ ks) ≤ sum_by f (if b then k ∷ put_hist h ks else (if e then hist_sum k h ∷ ks else h ∷ k ∷ ks))
+    by true e others = omega (arith, others, sum_by-cons f k (put_hist h ks), sum_by-cons f k ks)
+    by false true others = omega (arith, longer_sum k.counters h.counters, sum_by-cons f (hist_sum k h) ks, sum_by-cons f k ks)
+    by false false others = omega (arith, sum_by-cons f h (k ∷ ks), sum_by-cons f k ks)
+
+tally_grows : {K : Type 0} (same : K → K → Bool) (k : K) (n : ℕ) (es : List (K × ℕ)) → length es ≤ length (tally same k n es)
+tally_grows same k n [] = omega arith
+tally_grows {K} same k n (e ∷ es) = by (same k e.0) (tally_grows same k n es)
+  where
+    by : (b : Bool) → length es ≤ length (tally same k n es) → length (e ∷ es) ≤ length (if b then (e.0, e.1 + n) ∷ es else e ∷ tally same k n es)
+    by true h = omega arith
+    by false h = omega (arith, h)
+
+within_hist : (h : Hist) (u : units.Unit) (c : Content) → IsWithin (with_hist h u c) → IsWithin c
+within_hist h u c w = by (has_counters h) w
+  where
+    by : (b : Bool) → IsWithin (if b then record c { hists = put_hist h c.hists; «unit» = Some (unwrap_or c.«unit» (kept_unit u)) } else c) → IsWithin c
+    by true w = record {
+      samples = omega (arith, w.samples, samples-put h c.hists);
+      counters = omega (arith, w.counters, counters_grow h c.hists);
+      calls = w.calls;
+      runs = w.runs;
+      pairs = w.pairs;
+      addresses = w.addresses;
+    }
+    by false w = w
+
+within_record : (r : WideRec) (c : Content) → IsWithin (with_record r c) → IsWithin c
+within_record (WideHist hist u) c w = within_hist hist u c w
+within_record (WideArc from to count) c w = record {
+  samples = w.samples;
+  counters = w.counters;
+  runs = w.runs;
+  addresses = w.addresses;
+  calls = omega (arith, w.calls, sum-tally same_pair (from, to) count c.arcs);
+  pairs = omega (arith, w.pairs, tally_grows same_pair (from, to) count c.arcs);
+}
+within_record (WideBlock addr count) c w = record {
+  samples = w.samples;
+  counters = w.counters;
+  calls = w.calls;
+  pairs = w.pairs;
+  runs = omega (arith, w.runs, sum-tally nat_eq addr count c.blocks);
+  addresses = omega (arith, w.addresses, tally_grows nat_eq addr count c.blocks);
+}
+
+pub within_records : (recs : List WideRec) (c : Content) → IsWithin (with_records recs c) → IsWithin c
+within_records [] c w = w
+within_records (r ∷ recs) c w = within_record r c (within_records recs (with_record r c) w)
+
+-- ---- a loop over records: some first ones are added
+
+pub record IsUnderway (all rest : List WideRec) (old now : Content) : Type 0 where
+  pub done : List WideRec
+  pub split : all ≡ done ++ rest
+  pub added : now ≡ with_records done old
+  pub accepted : conflict_of old done ≡ None
+
+pub at_begin : (all : List WideRec) (old : Content) → IsUnderway all all old old
+at_begin all old = record { done = []; split = refl; added = refl; accepted = refl }
+
+module _ (all more rest : List WideRec) (old now : Content) (w : IsUnderway all (more ++ rest) old now) where
+  pub within_next : IsWithin (with_records all old) → IsWithin (with_records more now)
+  within_next fits =
+      let is : with_records all old ≡ with_records rest (with_records more now) =
+      ap (λ l. with_records l old) w.split ∙ with_records-append w.done (more ++ rest) old ∙ ap (with_records (more ++ rest)) (sym w.added) ∙ with_records-append more rest now in
+      within_records rest (with_records more now) (subst (λ (c : Content). IsWithin c) is fits)
+
+  pub one_more : (next : Content) → IsAdded more now next → IsUnderway all rest old next
+  one_more next a = record {
+    done = w.done ++ more;
+    split = w.split ∙ sym (append_assoc w.done more rest);
+    added = a.added ∙ ap (with_records more) w.added ∙ sym (with_records-append w.done more old);
+    accepted = conflict-append w.done more old w.accepted ∙ ap (λ c. conflict_of c more) (sym w.added) ∙ a.accepted;
+  }
+
+  pub stop : (refusal : AddRefusal) (next : Content) → IsStopped refusal more now next → IsStopped refusal all old next
+  stop refusal next s = record {
+    done = w.done ++ s.done;
+    rest = s.rest ++ rest;
+    split = w.split ∙ ap (λ l. w.done ++ (l ++ rest)) s.split ∙ ap (λ l. w.done ++ l) (append_assoc s.done s.rest rest) ∙ sym (append_assoc w.done s.done (s.rest ++ rest));
+    added = s.added ∙ ap (with_records s.done) w.added ∙ sym (with_records-append w.done s.done old);
+    accepted = conflict-append w.done s.done old w.accepted ∙ ap (λ c. conflict_of c s.done) (sym w.added) ∙ s.accepted;
+    refused = first_stays refusal next s.rest s.refused;
+  }
+    where
+      first_stays : (refusal : AddRefusal) (c : Content) (recs : List WideRec) → IsRefusedFirst refusal c recs → IsRefusedFirst refusal c (recs ++ rest)
+      first_stays answers.OutOfMemory c recs h = tt
+      first_stays (answers.Unlike u) c [] h = absurd h
+      first_stays (answers.Unlike u) c (r ∷ recs) h = h
+
+at_end : (all : List WideRec) (old now : Content) → IsUnderway all [] old now → IsAdded all old now
+at_end all old now w =
+    let is : all ≡ w.done = w.split ∙ append-nil w.done in
+    record { added = w.added ∙ ap (λ l. with_records l old) (sym is); accepted = ap (conflict_of old) is ∙ w.accepted }
+
+-- ---- what a stop says of the conflict
+
+conflict_first : (u : Unlike) (c : Content) (recs : List WideRec) → IsRefusedFirst (answers.Unlike u) c recs → conflict_of c recs ≡ Some u
+conflict_first u c [] h = absurd h
+conflict_first u c (r ∷ recs) h = rw h refl
+
+pub stopped_conflict : (refusal : AddRefusal) (recs : List WideRec) (old new : Content) → IsStopped refusal recs old new → IsUnlike refusal (conflict_of old recs)
+stopped_conflict answers.OutOfMemory recs old new s = tt
+stopped_conflict (answers.Unlike u) recs old new s =
+    ap (conflict_of old) s.split ∙ conflict-append s.done s.rest old s.accepted ∙ ap (λ c. conflict_of c s.rest) (sym s.added) ∙ conflict_first u new s.rest s.refused
+
+-- ---- single records
+
+pub stopped_before : (refusal : AddRefusal) (r : WideRec) (old new : Content) → new ≡ old → IsUnlike refusal (record_conflict old r) → IsStopped refusal (r ∷ []) old new
+stopped_before refusal r old new same h = record { done = []; rest = r ∷ []; split = refl; added = same; accepted = refl; refused = by refusal h }
+  where
+    by : (refusal : AddRefusal) → IsUnlike refusal (record_conflict old r) → IsRefusedFirst refusal new (r ∷ [])
+    by answers.OutOfMemory h = tt
+    by (answers.Unlike u) h = ap (λ c. record_conflict c r) same ∙ h
+
+pub one_added : (r : WideRec) (old new : Content) → record_conflict old r ≡ None → new ≡ with_record r old → IsAdded (r ∷ []) old new
+one_added r old new none is = record { added = is; accepted = rw none refl }
+
+-- ---- the records of a file one by one
+
+cut_at : {A : Type 0} (xs : List A) (i : ℕ) (x d : A) → i < length xs → x ≡ get_or xs i d → drop i xs ≡ x ∷ drop (i + 1) xs
+cut_at xs i x d lt is = drop-cons xs i d lt ∙ ap (λ y. y ∷ drop (suc i) xs) (sym is) ∙ ap (λ k. x ∷ drop k xs) (sym (add-one i))
+
+past_end : {A : Type 0} (xs : List A) (i : ℕ) → length xs ≤ i → drop i xs ≡ []
+past_end [] zero le = refl
+past_end [] (suc i) le = refl
+past_end (x ∷ xs) zero le = absurd (let f : suc (length xs) ≤ 0 = le in omega (arith, f))
+past_end (x ∷ xs) (suc i) le = past_end xs i (omega (arith, le))
+
+pub next_of_records : (all : List WideRec) (recs : List Rec) (i : ℕ) (rec d : Rec) (old now : Content) → i < length recs → rec ≡ get_or recs i d
+    → IsUnderway all (wide_records (drop i recs)) old now → IsUnderway all (wide_record rec ++ wide_records (drop (i + 1) recs)) old now
+next_of_records all recs i rec d old now lt is w =
+    subst (λ (l : List WideRec). IsUnderway all l old now) (ap wide_records (cut_at recs i rec d lt is) ∙ flat_map-cons wide_record rec (drop (i + 1) recs)) w
+
+pub next_of_blocks : (all : List WideRec) (blocks : List RawBlock) (i : ℕ) (block d : RawBlock) (old now : Content) → i < length blocks → block ≡ get_or blocks i d
+    → IsUnderway all (map wide_block (drop i blocks)) old now → IsUnderway all ((wide_block block ∷ []) ++ map wide_block (drop (i + 1) blocks)) old now
+next_of_blocks all blocks i block d old now lt is w =
+    subst (λ (l : List WideRec). IsUnderway all l old now) (ap (map wide_block) (cut_at blocks i block d lt is)) w
+
+pub end_of_records : (recs : List Rec) (i : ℕ) (old now : Content) → length recs ≤ i → IsUnderway (wide_records recs) (wide_records (drop i recs)) old now → IsAdded (wide_records recs) old now
+end_of_records recs i old now le w = at_end (wide_records recs) old now (subst (λ (l : List WideRec). IsUnderway (wide_records recs) l old now) (ap wide_records (past_end recs i le)) w)
+
+pub end_of_blocks : (blocks : List RawBlock) (i : ℕ) (old now : Content) → length blocks ≤ i → IsUnderway (map wide_block blocks) (map wide_block (drop i blocks)) old now → IsAdded (map wide_block blocks) old now
+end_of_blocks blocks i old now le w = at_end (map wide_block blocks) old now (subst (λ (l : List WideRec). IsUnderway (map wide_block blocks) l old now) (ap (map wide_block) (past_end blocks i le)) w)
+
+-- what follows from a clause on an `Err`
+pub on_err : {A E : Type 0} {P Q : E → Type 0} (r : Result A E) → IfErr r P → ((e : E) → P e → Q e) → IfErr r Q
+on_err (Ok a) p f = p
+on_err (Err e) p f = f e p

@@ -1,0 +1,5 @@
+use Rattle.gmon_data.proofs.RecordLemmas.{content-more}
+use Rattle.gmon_data.proofs.laws.records_add_up.Goals as goal
+
+pub returns : goal.returns
+returns c = content-more

@@ -1,0 +1,168 @@
+-- What a list of records adds up to.
+use Rattle.std.specs.Prelude.{◌≡◌, ℕ, ◌^◌, ◌<◌, Bool, ◌&&◌, nat_eq, List, [], ◌∷◌, ◌++◌, length, slice_get, fold, unwrap_or, filter_map, map, Option, Some, None, ⊤, if◌then◌else◌}
+use Rattle.gp_base.specs.declared.records.Unit as units
+use Rattle.gp_base.specs.declared.records.RawHist.{RawHist}
+use Rattle.gp_base.specs.declared.records.RawBlock.{RawBlock}
+use Rattle.gp_base.specs.declared.records.Rec.{Rec}
+use Rattle.gp_base.specs.declared.records.Rec.TheVariants as raw
+use Rattle.gmon_data.specs.declared.hist.Hist.{Hist}
+use Rattle.std.specs.List.{sum_by, flat_map, AllByRecursion, IsDistinct}
+use Rattle.std.specs.Option.{option_or}
+use Rattle.std.specs.Map.{keys_of}
+use Rattle.gmon_data.specs.declared.refusal.Unlike.{Unlike}
+use Rattle.gmon_data.specs.declared.refusal.AddRefusal.{AddRefusal}
+use Rattle.gmon_data.specs.declared.refusal.AddRefusal.TheVariants as answers
+use Rattle.gmon_data.specs.Hists.{range_of, put_hist, kept_unit, has_counters, conflict_with, samples_of, IsKept, IsApart, IsUnitOf}
+use Rattle.gmon_data.specs.Tally.{tally, sums_by_key, total_of}
+
+-- a record whose numbers have 64 bits
+pub data WideRec : Type 0 where
+  WideHist : Hist → units.Unit → WideRec
+  WideArc : ℕ → ℕ → ℕ → WideRec
+  WideBlock : ℕ → ℕ → WideRec
+
+pub record Content : Type 0 where
+  -- in ascending order of their low addresses
+  pub hists : List Hist
+  -- by pair of call site and callee, and by address, as they came first
+  pub arcs : List ((ℕ × ℕ) × ℕ)
+  pub blocks : List (ℕ × ℕ)
+  -- that of the histograms
+  pub «unit» : Option units.Unit
+
+abbrev pub empty_content : Content
+empty_content = record { hists = []; arcs = []; blocks = []; «unit» = None }
+
+abbrev pub same_pair : ℕ × ℕ → ℕ × ℕ → Bool
+same_pair p q = nat_eq p.0 q.0 && nat_eq p.1 q.1
+
+abbrev pub arc_in : WideRec → Option ((ℕ × ℕ) × ℕ)
+arc_in (WideHist h u) = None
+arc_in (WideArc from to count) = Some ((from, to), count)
+arc_in (WideBlock addr count) = None
+
+abbrev pub block_in : WideRec → Option (ℕ × ℕ)
+block_in (WideHist h u) = None
+block_in (WideArc from to count) = None
+block_in (WideBlock addr count) = Some (addr, count)
+
+-- a histogram without counters gives nothing
+abbrev pub hist_in : WideRec → Option Hist
+hist_in (WideHist h u) = if has_counters h then Some h else None
+hist_in (WideArc from to count) = None
+hist_in (WideBlock addr count) = None
+
+abbrev pub unit_in : WideRec → Option units.Unit
+unit_in (WideHist h u) = if has_counters h then Some (kept_unit u) else None
+unit_in (WideArc from to count) = None
+unit_in (WideBlock addr count) = None
+
+abbrev pub hists_of : List WideRec → List Hist
+hists_of recs = fold (λ done h. put_hist h done) [] (filter_map hist_in recs)
+
+abbrev pub unit_of : List WideRec → Option units.Unit
+unit_of recs = slice_get (filter_map unit_in recs) 0
+
+abbrev pub arcs_of : List WideRec → List ((ℕ × ℕ) × ℕ)
+arcs_of recs = sums_by_key same_pair (filter_map arc_in recs)
+
+abbrev pub blocks_of : List WideRec → List (ℕ × ℕ)
+blocks_of recs = sums_by_key nat_eq (filter_map block_in recs)
+
+unfoldable pub content_of : List WideRec → Content
+content_of recs = record { hists = hists_of recs; arcs = arcs_of recs; blocks = blocks_of recs; «unit» = unit_of recs }
+
+abbrev pub with_hist : Hist → units.Unit → Content → Content
+with_hist h u c = if has_counters h then record c { hists = put_hist h c.hists; «unit» = Some (unwrap_or c.«unit» (kept_unit u)) } else c
+
+-- why a histogram can't be added
+abbrev pub hist_conflict : Content → Hist → units.Unit → Option Unlike
+hist_conflict c h u = if has_counters h then conflict_with c.hists c.«unit» (range_of h) (kept_unit u) else None
+
+abbrev pub with_arc : ℕ → ℕ → ℕ → Content → Content
+with_arc from to count c = record c { arcs = tally same_pair (from, to) count c.arcs }
+
+abbrev pub with_block : ℕ → ℕ → Content → Content
+with_block addr count c = record c { blocks = tally nat_eq addr count c.blocks }
+
+-- ---- the records of a file
+
+abbrev pub wide_hist : RawHist → Hist
+wide_hist hist = record { low = hist.low; high = hist.high; counters = hist.counters }
+
+abbrev pub wide_block : RawBlock → WideRec
+wide_block block = WideBlock block.addr block.count
+
+-- a record of a file as records of 64 bits: one for each pair of a blocks record
+abbrev pub wide_record : Rec → List WideRec
+wide_record (raw.Hist hist) = WideHist (wide_hist hist) hist.«unit» ∷ []
+wide_record (raw.Arc arc) = WideArc arc.from arc.to arc.count ∷ []
+wide_record (raw.Blocks blocks) = map wide_block blocks
+
+abbrev pub wide_records : List Rec → List WideRec
+wide_records recs = flat_map wide_record recs
+
+-- a histogram with counters has a range
+abbrev pub HasRange : Rec → Type 0
+HasRange (raw.Hist hist) = 0 < length hist.counters → hist.low < hist.high
+HasRange (raw.Arc arc) = ⊤
+HasRange (raw.Blocks blocks) = ⊤
+
+-- ---- many records
+
+abbrev pub with_record : WideRec → Content → Content
+with_record (WideHist hist u) c = with_hist hist u c
+with_record (WideArc from to count) c = with_arc from to count c
+with_record (WideBlock addr count) c = with_block addr count c
+
+abbrev pub with_records : List WideRec → Content → Content
+with_records [] c = c
+with_records (r ∷ recs) c = with_records recs (with_record r c)
+
+abbrev pub record_conflict : Content → WideRec → Option Unlike
+record_conflict c (WideHist hist u) = hist_conflict c hist u
+record_conflict c (WideArc from to count) = None
+record_conflict c (WideBlock addr count) = None
+
+-- the first record that can't be added after those before it
+abbrev pub conflict_of : Content → List WideRec → Option Unlike
+conflict_of c [] = None
+conflict_of c (r ∷ recs) = option_or (record_conflict c r) (conflict_of (with_record r c) recs)
+
+-- the first record is the refused one; want of memory may come at any
+abbrev pub IsRefusedFirst : AddRefusal → Content → List WideRec → Type 0
+IsRefusedFirst answers.OutOfMemory c recs = ⊤
+IsRefusedFirst (answers.Unlike unlike) c [] = ⊥
+IsRefusedFirst (answers.Unlike unlike) c (r ∷ recs) = record_conflict c r ≡ Some unlike
+
+-- the records before the refused one were added, and none after them
+pub record IsStopped (refusal : AddRefusal) (recs : List WideRec) (old new : Content) : Type 0 where
+  pub done : List WideRec
+  pub rest : List WideRec
+  pub split : recs ≡ done ++ rest
+  pub added : new ≡ with_records done old
+  pub accepted : conflict_of old done ≡ None
+  pub refused : IsRefusedFirst refusal new rest
+
+-- all were added
+pub record IsAdded (recs : List WideRec) (old new : Content) : Type 0 where
+  pub added : new ≡ with_records recs old
+  pub accepted : conflict_of old recs ≡ None
+
+-- what a profile holds at most
+pub record IsWithin (c : Content) : Type 0 where
+  pub samples : samples_of c.hists < 2 ^ 45
+  pub counters : sum_by (λ h. length h.counters) c.hists < 2 ^ 26
+  pub calls : total_of c.arcs < 2 ^ 59
+  pub runs : total_of c.blocks < 2 ^ 59
+  pub pairs : length c.arcs < 2 ^ 26
+  pub addresses : length c.blocks < 2 ^ 26
+
+-- what holds of each profile
+pub record IsProfile (c : Content) : Type 0 where
+  pub within : IsWithin c
+  pub hists : AllByRecursion IsKept c.hists
+  pub apart : IsApart c.hists
+  pub «unit» : IsUnitOf c.hists c.«unit»
+  pub arcs : IsDistinct same_pair (keys_of c.arcs)
+  pub blocks : IsDistinct nat_eq (keys_of c.blocks)

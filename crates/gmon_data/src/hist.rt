@@ -1,0 +1,115 @@
+//! A histogram whose counters can hold the sum of many.
+
+ghost use Rattle.std.specs.Prelude.{◌≡◌, ◌+◌, ◌^◌, ◌<◌, length, sum, IfOk};
+ghost use Rattle.gmon_data.specs.Content.{wide_hist};
+ghost use Rattle.gmon_data.specs.Hists.{range_of, pointwise_sum, samples_of};
+
+use gp_base::{RawHist, Totals};
+use std::alloc::{AllocError, Global};
+
+/// A histogram: `counters` share the addresses from `low` to below `high` evenly.
+#[derive(Drop)]
+pub struct Hist {
+    pub low: u32,
+    pub high: u32,
+    pub counters: Totals,
+}
+
+/// The addresses that so many counters share.
+#[derive(Clone, Copy, Debug, PartialEq, Eq)]
+pub struct HistRange {
+    pub low: u32,
+    pub high: u32,
+    pub count: u32,
+}
+
+impl Hist {
+    /// What the counters share.
+    pub fn range(&self) -> HistRange
+        requires { length self.now.counters < 2 ^ 32 }
+        ensures { result ≡ range_of self.now }
+    {
+        HistRange {
+            low: self.low,
+            high: self.high,
+            count: self.counters.as_slice().len() as u32,
+        }
+    }
+
+    /// A histogram of the same numbers.
+    pub(crate) fn try_clone(&self, alloc: Global) -> Result<Hist, AllocError>
+        ensures { IfOk result (λ h. h ≡ self.now) }
+    {
+        let mut counters = Totals::new(alloc);
+        for counter in self.counters.as_slice() {
+            counters.push(*counter)?;
+        }
+        Ok(Hist {
+            low: self.low,
+            high: self.high,
+            counters,
+        })
+    }
+}
+
+/// Adds counters to as many others.
+pub(crate) fn add_counters(counters: &mut Totals, more: &[u64])
+    requires same { length counters.old ≡ length more.now }
+    requires fits { sum counters.old + sum more.now < 2 ^ 64 }
+    ensures { counters.new ≡ pointwise_sum counters.old more.now }
+{
+    for i in 0..more.len() {
+        let total = counters.as_slice()[i] + more[i];
+        counters.set(i, total);
+    }
+}
+
+/// Histograms of the same numbers.
+pub(crate) fn clone_hists(alloc: Global, hists: &[Hist]) -> Result<Vec<Hist>, AllocError>
+    ensures { IfOk result (λ copies. copies.items ≡ hists.now) }
+{
+    let mut copies = Vec::new(alloc);
+    for hist in hists {
+        copies.push(hist.try_clone(alloc)?)?;
+    }
+    Ok(copies)
+}
+
+/// The histogram of a file, with counters that can hold the sum of many.
+pub(crate) fn widened(alloc: Global, raw: &RawHist) -> Result<Hist, AllocError>
+    ensures { IfOk result (λ hist. hist ≡ wide_hist raw.now) }
+{
+    let mut counters = Totals::new(alloc);
+    for counter in raw.counters.as_slice() {
+        counters.push(u64::from(*counter))?;
+    }
+    Ok(Hist {
+        low: raw.low,
+        high: raw.high,
+        counters,
+    })
+}
+
+/// The sum of counters.
+fn total(counters: &[u64]) -> u64
+    requires { sum counters.now < 2 ^ 64 }
+    ensures { result ≡ sum counters.now }
+{
+    let mut total = 0;
+    for counter in counters {
+        total += *counter;
+    }
+    total
+}
+
+/// The samples of histograms.
+pub(crate) fn samples(hists: &[Hist]) -> u64
+    requires { samples_of hists.now < 2 ^ 64 }
+    ensures { result ≡ samples_of hists.now }
+{
+    let mut samples = 0;
+    for hist in hists {
+        samples += total(hist.counters.as_slice());
+    }
+    samples
+}

@@ -1,0 +1,99 @@
+//! Kept histograms, in ascending order of their low addresses.
+
+ghost use Rattle.std.specs.Prelude.{◌≡◌, ◌+◌, ◌^◌, ◌<◌, ℕ, Some, length, slice_get, sum, OnOk, OnErr};
+ghost use Rattle.gmon_data.specs.declared.hist.Hist.{Hist as AnyHist};
+ghost use Rattle.gmon_data.specs.Hists.{range_conflict, put_hist, place_of, samples_of, kept_unit, unit_conflict, conflict_with};
+
+use crate::hist::{Hist, HistRange, add_counters};
+use crate::refusal::Unlike;
+use gp_base::Unit;
+use std::alloc::{AllocError, Global};
+
+/// The lowest kept histogram that overlaps the new range and differs from it, beside that range.
+fn find_range_conflict(hists: &[Hist], new: HistRange) -> Option<Unlike>
+    requires { (i : ℕ) (k : AnyHist) → slice_get hists.now i ≡ Some k → length k.counters < 2 ^ 32 }
+    ensures { result ≡ range_conflict hists.now new }
+{
+    for hist in hists {
+        let old = hist.range();
+        let overlap = old.low < new.high && new.low < old.high;
+        if overlap && old != new {
+            return Some(Unlike::Range { old, new });
+        }
+    }
+    None
+}
+
+/// The unit as it is kept: a rate of 0 stands for 100.
+pub(crate) fn normal_unit(unit: Unit) -> Unit
+    ensures { result ≡ kept_unit «unit» }
+{
+    if unit.rate == 0 {
+        Unit { rate: 100, ..unit }
+    } else {
+        unit
+    }
+}
+
+/// The kept unit, where it differs from the new one.
+fn find_unit_conflict(kept: Option<Unit>, new: Unit) -> Option<Unlike>
+    ensures { result ≡ unit_conflict kept new }
+{
+    let old = kept?;
+    if old.rate != new.rate {
+        return Some(Unlike::Rate {
+            old: old.rate,
+            new: new.rate,
+        });
+    }
+    if old.dim != new.dim || old.abbrev != new.abbrev {
+        return Some(Unlike::Dimension { old, new });
+    }
+    None
+}
+
+/// Why a histogram with counters can't be added to those that are kept.
+pub(crate) fn conflict(
+    hists: &[Hist],
+    kept: Option<Unit>,
+    range: HistRange,
+    unit: Unit,
+) -> Option<Unlike>
+    requires { (i : ℕ) (k : AnyHist) → slice_get hists.now i ≡ Some k → length k.counters < 2 ^ 32 }
+    ensures { result ≡ conflict_with hists.now kept range «unit» }
+{
+    match find_range_conflict(hists, range) {
+        Some(unlike) => Some(unlike),
+        None => find_unit_conflict(kept, unit),
+    }
+}
+
+/// How many kept histograms lie lower.
+fn place(hists: &[Hist], low: u32) -> usize
+    ensures { result ≡ place_of low hists.now }
+{
+    let mut lower = 0;
+    for hist in hists {
+        if hist.low >= low {
+            return lower;
+        }
+        lower += 1;
+    }
+    lower
+}
+
+/// Adds a histogram to the one with its low address, which has as many counters; else it takes its place.
+pub(crate) fn put(alloc: Global, hists: &mut Vec<Hist>, new: &Hist) -> Result<(), AllocError>
+    requires same { (i : ℕ) (k : AnyHist) → slice_get hists.old.items i ≡ Some k → k.low ≡ new.now.low → length k.counters ≡ length new.now.counters }
+    requires fits { samples_of hists.old.items + sum new.now.counters < 2 ^ 64 }
+    ensures added { OnOk result (hists.new.items ≡ put_hist new.now hists.old.items) }
+    ensures unchanged { OnErr result (hists.new.items ≡ hists.old.items) }
+{
+    let i = place(hists.as_slice(), new.low);
+    if i < hists.len() && hists[i].low == new.low {
+        add_counters(&mut hists[i].counters, new.counters.as_slice());
+    } else {
+        hists.insert(i, new.try_clone(alloc)?)?;
+    }
+    Ok(())
+}

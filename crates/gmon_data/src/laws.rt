@@ -1,0 +1,17 @@
+//! What follows from the definitions of a content.
+
+ghost use Rattle.std.specs.Prelude.{◌≡◌, ◌++◌, ℕ, List, filter_map};
+ghost use Rattle.std.specs.List.{sum_by};
+ghost use Rattle.gmon_data.specs.Content.{WideRec, content_of, hist_in, with_records};
+ghost use Rattle.gmon_data.specs.Hists.{count_at};
+
+/// Each counter is the sum of that counter: for every low address and every place, the histograms of a
+/// content together count there what the histograms among its records count.
+pub fn counters_add_up()
+    ensures { (recs : List WideRec) (low i : ℕ) → sum_by (count_at low i) (content_of recs).hists ≡ sum_by (count_at low i) (filter_map hist_in recs) }
+{}
+
+/// The content of records and more records is that of the first ones, with the others added one by one.
+pub fn records_add_up()
+    ensures { (recs more : List WideRec) → content_of (recs ++ more) ≡ with_records more (content_of recs) }
+{}

@@ -1,0 +1,16 @@
+//! A profile: the sum of what was counted, whatever files it came from.
+#![tactic(auto)]
+
+pub mod hist;
+mod hists;
+pub mod laws;
+pub mod profile;
+pub mod refusal;
+mod tally;
+
+pub use hist::{Hist, HistRange};
+pub use profile::Profile;
+pub use refusal::{AddRefusal, Unlike};
+
+#[cfg(test)]
+mod tests;

@@ -1,0 +1,277 @@
+//! A profile, and what is added to it.
+
+ghost use Rattle.std.specs.Prelude.{◌≡◌, ◌↔◌, ◌<◌, ℕ, List, ◌++◌, ◌∷◌, [], length, map, slice_get, Some, None, IfOk, IfErr, OnOk, OnErr};
+ghost use Rattle.std.specs.List.{All};
+ghost use Rattle.gmon_data.specs.Content.{IsProfile, WideRec, WideHist, WideArc, WideBlock, empty_content, with_hist, with_arc, hist_conflict, with_block, content_of, IsWithin, HasRange, IsAdded, IsStopped, conflict_of, wide_block, wide_hist, wide_record, wide_records, with_records};
+ghost use Rattle.gmon_data.specs.Hists.{IsUnlike, samples_of};
+ghost use Rattle.gmon_data.specs.Tally.{total_of};
+
+use crate::hist::{Hist, clone_hists, samples, widened};
+use crate::hists::{conflict, normal_unit, put};
+use crate::refusal::AddRefusal;
+use crate::tally::{add_to, total};
+use gp_base::{RawArc, RawBlock, RawHist, Rec, Records, Unit};
+use indexmap::IndexMap;
+use std::alloc::{AllocError, Global};
+use std::marker::Model;
+
+/// The sum of profiles. Contracts see its content.
+#[derive(Drop)]
+pub struct Profile {
+    alloc: Global,
+    hists: Vec<Hist>,
+    arcs: IndexMap<(u32, u32), u64>,
+    blocks: IndexMap<u32, u64>,
+    unit: Option<Unit>,
+}
+
+impl Model for Profile {
+    ghost use Rattle.gmon_data.specs.Content.{Content, IsProfile};
+
+    ghost Value = { Content };
+
+    ghost view = { λ a. record { hists = a.hists.items; arcs = a.arcs.entries; blocks = a.blocks.entries; «unit» = a.«unit» } };
+
+    ghost invariant = { λ a. IsProfile (record { hists = a.hists.items; arcs = a.arcs.entries; blocks = a.blocks.entries; «unit» = a.«unit» }) };
+}
+
+impl Profile {
+    /// The empty profile, which takes no memory yet.
+    pub fn new(alloc: Global) -> Profile
+        ensures content { result ≡ empty_content }
+        ensures stands { result ≡ content_of [] }
+    {
+        Profile {
+            alloc,
+            hists: Vec::new(alloc),
+            arcs: IndexMap::new(alloc),
+            blocks: IndexMap::new(alloc),
+            unit: None,
+        }
+    }
+
+    /// Adds a histogram of a file. One without counters gives nothing and is accepted, whatever its other
+    /// fields. A rate of 0 stands for 100. The refusals are those of `add_wide`.
+    pub fn add_hist(&mut self, h: &RawHist) -> Result<(), AddRefusal>
+        requires range { 0 < length h.now.counters → h.now.low < h.now.high }
+        requires within { IsWithin (with_hist (wide_hist h.now) h.now.«unit» self.old) }
+        ensures refusal { IfErr result (λ refusal. IsUnlike refusal (hist_conflict self.old (wide_hist h.now) h.now.«unit»)) }
+        ensures accepted { OnOk result (hist_conflict self.old (wide_hist h.now) h.now.«unit» ≡ None) }
+        ensures added { OnOk result (self.new ≡ with_hist (wide_hist h.now) h.now.«unit» self.old) }
+        ensures stands { OnOk result ((recs : List WideRec) → self.old ≡ content_of recs → self.new ≡ content_of (recs ++ WideHist (wide_hist h.now) h.now.«unit» ∷ [])) }
+        ensures unchanged { OnErr result (self.new ≡ self.old) }
+    {
+        let hist = widened(self.alloc, h)?;
+        self.add_wide(&hist, h.unit)
+    }
+
+    /// Adds a histogram. One without counters gives nothing and is accepted, whatever its other fields.
+    /// A rate of 0 stands for 100.
+    ///
+    /// Refusals, in this order: `Range` where a kept histogram overlaps this one and differs from it in
+    /// range or number of counters; `Rate` where the kept rate differs; `Dimension` where the kept
+    /// dimension or abbreviation differs. After a refusal the profile is unchanged.
+    pub fn add_wide(&mut self, h: &Hist, unit: Unit) -> Result<(), AddRefusal>
+        requires range { 0 < length h.now.counters → h.now.low < h.now.high }
+        requires within { IsWithin (with_hist h.now «unit» self.old) }
+        ensures refusal { IfErr result (λ refusal. IsUnlike refusal (hist_conflict self.old h.now «unit»)) }
+        ensures accepted { OnOk result (hist_conflict self.old h.now «unit» ≡ None) }
+        ensures added { OnOk result (self.new ≡ with_hist h.now «unit» self.old) }
+        ensures stands { OnOk result ((recs : List WideRec) → self.old ≡ content_of recs → self.new ≡ content_of (recs ++ WideHist h.now «unit» ∷ [])) }
+        ensures unchanged { OnErr result (self.new ≡ self.old) }
+    {
+        if h.counters.as_slice().is_empty() {
+            return Ok(());
+        }
+        let unit = normal_unit(unit);
+        if let Some(unlike) = conflict(self.hists.as_slice(), self.unit, h.range(), unit) {
+            return Err(AddRefusal::Unlike(unlike));
+        }
+        put(self.alloc, &mut self.hists, h)?;
+        self.unit = Some(self.unit.unwrap_or(unit));
+        Ok(())
+    }
+
+    /// Adds calls to those of their pair.
+    pub fn add_calls(&mut self, from: u32, to: u32, count: u64) -> Result<(), AllocError>
+        requires { IsWithin (with_arc from to count self.old) }
+        ensures added { OnOk result (self.new ≡ with_arc from to count self.old) }
+        ensures stands { OnOk result ((recs : List WideRec) → self.old ≡ content_of recs → self.new ≡ content_of (recs ++ WideArc from to count ∷ [])) }
+        ensures unchanged { OnErr result (self.new ≡ self.old) }
+    {
+        add_to(&mut self.arcs, (from, to), count)
+    }
+
+    /// Adds executions to those of their address.
+    pub fn add_runs(&mut self, addr: u32, count: u64) -> Result<(), AllocError>
+        requires { IsWithin (with_block addr count self.old) }
+        ensures added { OnOk result (self.new ≡ with_block addr count self.old) }
+        ensures stands { OnOk result ((recs : List WideRec) → self.old ≡ content_of recs → self.new ≡ content_of (recs ++ WideBlock addr count ∷ [])) }
+        ensures unchanged { OnErr result (self.new ≡ self.old) }
+    {
+        add_to(&mut self.blocks, addr, count)
+    }
+
+    /// Adds calls to those of their pair; an arc of count 0 is kept.
+    pub fn add_arc(&mut self, a: RawArc) -> Result<(), AllocError>
+        requires { IsWithin (with_arc a.from a.to a.count self.old) }
+        ensures added { OnOk result (self.new ≡ with_arc a.from a.to a.count self.old) }
+        ensures stands { OnOk result ((recs : List WideRec) → self.old ≡ content_of recs → self.new ≡ content_of (recs ++ WideArc a.from a.to a.count ∷ [])) }
+        ensures unchanged { OnErr result (self.new ≡ self.old) }
+    {
+        self.add_calls(a.from, a.to, u64::from(a.count))
+    }
+
+    /// Adds executions to those of their address.
+    pub fn add_block(&mut self, b: RawBlock) -> Result<(), AllocError>
+        requires { IsWithin (with_block b.addr b.count self.old) }
+        ensures added { OnOk result (self.new ≡ with_block b.addr b.count self.old) }
+        ensures stands { OnOk result ((recs : List WideRec) → self.old ≡ content_of recs → self.new ≡ content_of (recs ++ WideBlock b.addr b.count ∷ [])) }
+        ensures unchanged { OnErr result (self.new ≡ self.old) }
+    {
+        self.add_runs(b.addr, u64::from(b.count))
+    }
+
+    /// Adds the records of a file in order.
+    ///
+    /// Refusals: those of `add_hist` for the first refused histogram. After a refusal the records before
+    /// the refused one are added, and none after it; after want of memory some first records are added,
+    /// of a blocks record a prefix.
+    pub fn add_records(&mut self, r: &Records) -> Result<(), AddRefusal>
+        requires ranges { All HasRange r.now.recs }
+        requires within { IsWithin (with_records (wide_records r.now.recs) self.old) }
+        ensures refusal { IfErr result (λ refusal. IsUnlike refusal (conflict_of self.old (wide_records r.now.recs))) }
+        ensures accepted { OnOk result (conflict_of self.old (wide_records r.now.recs) ≡ None) }
+        ensures added { OnOk result (self.new ≡ with_records (wide_records r.now.recs) self.old) }
+        ensures stands { OnOk result ((recs : List WideRec) → self.old ≡ content_of recs → self.new ≡ content_of (recs ++ wide_records r.now.recs)) }
+        ensures stopped { IfErr result (λ refusal. IsStopped refusal (wide_records r.now.recs) self.old self.new) }
+    {
+        self.add_each(r.recs.as_slice())
+    }
+
+    fn add_each(&mut self, recs: &[Rec]) -> Result<(), AddRefusal>
+        requires ranges { All HasRange recs.now }
+        requires within { IsWithin (with_records (wide_records recs.now) self.old) }
+        ensures added { OnOk result (IsAdded (wide_records recs.now) self.old self.new) }
+        ensures stopped { IfErr result (λ refusal. IsStopped refusal (wide_records recs.now) self.old self.new) }
+    {
+        for rec in recs {
+            self.add_record(rec)?;
+        }
+        Ok(())
+    }
+
+    fn add_record(&mut self, rec: &Rec) -> Result<(), AddRefusal>
+        requires range { HasRange rec.now }
+        requires within { IsWithin (with_records (wide_record rec.now) self.old) }
+        ensures added { OnOk result (IsAdded (wide_record rec.now) self.old self.new) }
+        ensures stopped { IfErr result (λ refusal. IsStopped refusal (wide_record rec.now) self.old self.new) }
+    {
+        match rec {
+            Rec::Hist(hist) => self.add_hist(hist),
+            Rec::Arc(arc) => Ok(self.add_arc(*arc)?),
+            Rec::Blocks(blocks) => self.add_blocks(blocks.as_slice()),
+        }
+    }
+
+    fn add_blocks(&mut self, blocks: &[RawBlock]) -> Result<(), AddRefusal>
+        requires within { IsWithin (with_records (map wide_block blocks.now) self.old) }
+        ensures added { OnOk result (IsAdded (map wide_block blocks.now) self.old self.new) }
+        ensures stopped { IfErr result (λ refusal. IsStopped refusal (map wide_block blocks.now) self.old self.new) }
+    {
+        for block in blocks {
+            self.add_block(*block)?;
+        }
+        Ok(())
+    }
+
+    /// The samples of all histograms.
+    pub fn samples(&self) -> u64
+        ensures { result ≡ samples_of self.now.hists }
+    {
+        samples(self.hists.as_slice())
+    }
+
+    /// The calls of all pairs.
+    pub fn calls(&self) -> u64
+        ensures { result ≡ total_of self.now.arcs }
+    {
+        total(&self.arcs)
+    }
+
+    /// The executions of all basic blocks.
+    pub fn blocks(&self) -> u64
+        ensures { result ≡ total_of self.now.blocks }
+    {
+        total(&self.blocks)
+    }
+
+    /// The number of block addresses.
+    pub fn block_count(&self) -> usize
+        ensures { result ≡ length self.now.blocks }
+    {
+        self.blocks.len()
+    }
+
+    /// The block address with the given number, and its executions.
+    pub fn block(&self, i: usize) -> (u32, u64)
+        requires { i < length self.now.blocks }
+        ensures { slice_get self.now.blocks i ≡ Some (result.0, result.1) }
+    {
+        let (addr, count) = self.blocks.get_index(i).unwrap();
+        (*addr, *count)
+    }
+
+    /// The pair with the given number, and its calls.
+    pub fn arc(&self, i: usize) -> (u32, u32, u64)
+        requires { i < length self.now.arcs }
+        ensures { slice_get self.now.arcs i ≡ Some ((result.0, result.1), result.2) }
+    {
+        let (pair, count) = self.arcs.get_index(i).unwrap();
+        (pair.0, pair.1, *count)
+    }
+
+    /// A profile of the same content.
+    pub fn try_clone(&self) -> Result<Profile, AllocError>
+        ensures { IfOk result (λ p. p ≡ self.now) }
+    {
+        Ok(Profile {
+            alloc: self.alloc,
+            hists: clone_hists(self.alloc, self.hists.as_slice())?,
+            arcs: self.arcs.clone()?,
+            blocks: self.blocks.clone()?,
+            unit: self.unit,
+        })
+    }
+
+    /// The number of histograms.
+    pub fn hist_count(&self) -> usize
+        ensures { result ≡ length self.now.hists }
+    {
+        self.hists.len()
+    }
+
+    /// The histogram with the given number.
+    pub fn hist(&self, i: usize) -> &Hist
+        requires { i < length self.now.hists }
+        ensures { slice_get self.now.hists i ≡ Some result.now }
+    {
+        &self.hists[i]
+    }
+
+    /// The unit of the histograms: None exactly where there is no histogram.
+    pub fn unit(&self) -> Option<Unit>
+        ensures unit { result ≡ self.now.«unit» }
+        ensures none { (result ≡ None) ↔ (self.now.hists ≡ []) }
+        ensures profile { IsProfile self.now }
+    {
+        self.unit
+    }
+
+    /// The number of pairs.
+    pub fn arc_count(&self) -> usize
+        ensures { result ≡ length self.now.arcs }
+    {
+        self.arcs.len()
+    }
+}

@@ -1,0 +1,39 @@
+//! Numbers by key, in the order in which the keys came first.
+
+ghost use Rattle.std.specs.Prelude.{◌≡◌, ◌+◌, ◌^◌, ◌<◌, OnOk, OnErr};
+ghost use Rattle.std.specs.List.{IsDistinct};
+ghost use Rattle.std.specs.Map.{keys_of};
+ghost use Rattle.gmon_data.specs.Tally.{tally, total_of};
+
+use indexmap::IndexMap;
+use std::alloc::AllocError;
+use std::hash::Hash;
+
+/// Adds `n` to the number of a key; a new key goes last. After want of memory the numbers are unchanged.
+pub(crate) fn add_to<K: Eq + Hash + Copy + Drop>(
+    numbers: &mut IndexMap<K, u64>,
+    key: K,
+    n: u64,
+) -> Result<(), AllocError>
+    requires { total_of numbers.old.entries + n < 2 ^ 64 }
+    ensures added { OnOk result (numbers.new.entries ≡ tally K.eq key n numbers.old.entries) }
+    ensures distinct { IsDistinct K.eq (keys_of numbers.new.entries) }
+    ensures unchanged { OnErr result (numbers.new.entries ≡ numbers.old.entries) }
+{
+    let before = numbers.get(&key).copied().unwrap_or(0);
+    numbers.insert(key, before + n)?;
+    Ok(())
+}
+
+/// The sum of all numbers.
+pub(crate) fn total<K: Eq + Hash>(numbers: &IndexMap<K, u64>) -> u64
+    requires { total_of numbers.now.entries < 2 ^ 64 }
+    ensures { result ≡ total_of numbers.now.entries }
+{
+    let mut sum = 0;
+    for i in 0..numbers.len() {
+        let (_, number) = numbers.get_index(i).unwrap();
+        sum += *number;
+    }
+    sum
+}

@@ -1,0 +1,273 @@
+ghost use Rattle.std.specs.Prelude.{◌≡◌, ◌≤◌, [], ◌∷◌, length, sum, IfOk};
+ghost use Rattle.std.specs.List.{All};
+ghost use Rattle.gmon_data.specs.Content.{empty_content, wide_records, with_records, HasRange, IsWithin};
+
+use super::*;
+use gp_base::{
+    BlockList, Counts, Form, RawArc, RawBlock, RawHist, Rec, RecList, Records, Totals, Unit,
+};
+use std::alloc::{AllocError, Global};
+use std::test::Fail;
+
+/// A unit of the given rate, with the dimension `seconds` and its abbreviation `s`.
+fn seconds(rate: u32) -> Unit {
+    Unit {
+        rate,
+        dim: *b"seconds\0\0\0\0\0\0\0\0",
+        abbrev: b's',
+    }
+}
+
+/// A histogram of the counters 1, 2, 0 and 0.
+fn histogram(alloc: Global, rate: u32) -> Result<RawHist, AllocError>
+    ensures low { IfOk result (λ hist. hist.low ≡ 65536) }
+    ensures high { IfOk result (λ hist. hist.high ≡ 65552) }
+    ensures counters { IfOk result (λ hist. hist.counters ≡ 1 ∷ 2 ∷ 0 ∷ 0 ∷ []) }
+{
+    let mut counters = Counts::new(alloc);
+    counters.push(1)?;
+    counters.push(2)?;
+    counters.push(0)?;
+    counters.push(0)?;
+    Ok(RawHist {
+        low: 0x1_0000,
+        high: 0x1_0010,
+        unit: seconds(rate),
+        counters,
+    })
+}
+
+/// Two histograms of one range, the second of the given rate, an arc and a blocks record.
+fn file(alloc: Global, rate: u32) -> Result<Records, AllocError>
+    ensures ranges { IfOk result (λ records. All HasRange records.recs) }
+    ensures within { IfOk result (λ records. IsWithin (with_records (wide_records records.recs) empty_content)) }
+{
+    let mut blocks = BlockList::new(alloc);
+    blocks.push(RawBlock {
+        addr: 0x1_0000,
+        count: 9,
+    })?;
+    let mut recs = RecList::new(alloc);
+    recs.push(Rec::Hist(histogram(alloc, 100)?))?;
+    recs.push(Rec::Hist(histogram(alloc, rate)?))?;
+    recs.push(Rec::Arc(RawArc {
+        from: 0x1_0004,
+        to: 0x1_0008,
+        count: 0,
+    }))?;
+    recs.push(Rec::Blocks(blocks))?;
+    Ok(Records {
+        form: Form::Gnu,
+        recs,
+    })
+}
+
+/// A histogram of so many samples, one in each counter.
+fn even(alloc: Global, low: u32, high: u32, count: u8) -> Result<Hist, AllocError>
+    ensures low { IfOk result (λ hist. hist.low ≡ low) }
+    ensures high { IfOk result (λ hist. hist.high ≡ high) }
+    ensures counters { IfOk result (λ hist. length hist.counters ≤ 255) }
+    ensures samples { IfOk result (λ hist. sum hist.counters ≤ 255) }
+{
+    let mut counters = Totals::new(alloc);
+    while counters.as_slice().len() < usize::from(count) {
+        counters.push(1)?;
+    }
+    Ok(Hist {
+        low,
+        high,
+        counters,
+    })
+}
+
+/// The counters of the first histogram, if there is one.
+fn first_counters(profile: &Profile) -> &[u64] {
+    if profile.hist_count() == 0 {
+        return &[];
+    }
+    profile.hist(0).counters.as_slice()
+}
+
+#[test]
+fn the_profile_of_a_file(rt: HostRuntime) -> Result<(), Fail> {
+    let rate = |new| Err(AddRefusal::Unlike(Unlike::Rate { old: 100, new }));
+    let rows = [
+        ("the same rate", 100, Ok(())),
+        ("a rate of 0", 0, Ok(())),
+        ("another rate", 50, rate(50)),
+    ];
+    for (name, second, answer) in rows {
+        let mut profile = Profile::new(rt.alloc());
+        let records = file(rt.alloc(), second)?;
+        let added = profile.add_records(&records);
+        assert_eq!(rt; added, answer, "{name}");
+        assert_eq!(rt; profile.unit(), Some(seconds(100)), "{name}");
+        assert_eq!(rt; profile.hist_count(), 1, "{name}");
+        if added.is_err() {
+            assert_eq!(rt; first_counters(&profile), [1, 2, 0, 0].as_slice(), "{name}");
+            assert_eq!(rt; profile.arc_count(), 0, "{name}");
+            assert_eq!(rt; profile.block_count(), 0, "{name}");
+        } else {
+            assert_eq!(rt; first_counters(&profile), [2, 4, 0, 0].as_slice(), "{name}");
+            assert_eq!(rt; profile.arc_count(), 1, "{name}");
+            assert_eq!(rt; profile.block_count(), 1, "{name}");
+            assert_eq!(rt; profile.samples(), 6, "{name}");
+            assert_eq!(rt; profile.calls(), 0, "{name}");
+            assert_eq!(rt; profile.blocks(), 9, "{name}");
+        }
+    }
+    Ok(())
+}
+
+/// What adding a second histogram to a first one answers.
+fn second_added(
+    alloc: Global,
+    first: (u32, u32, u8, Unit),
+    second: (u32, u32, u8, Unit),
+) -> Result<(), AddRefusal> {
+    let mut profile = Profile::new(alloc);
+    let before = even(alloc, first.0, first.1, first.2)?;
+    let after = even(alloc, second.0, second.1, second.2)?;
+    if first.0 < first.1 && second.0 < second.1 {
+        profile.add_wide(&before, first.3)?;
+        profile.add_wide(&after, second.3)?;
+    }
+    Ok(())
+}
+
+#[test]
+fn histograms_that_are_unlike(rt: HostRuntime) {
+    let old = HistRange {
+        low: 0x1_0000,
+        high: 0x1_0010,
+        count: 4,
+    };
+    let range = |low, high, count| {
+        Err(AddRefusal::Unlike(Unlike::Range {
+            old,
+            new: HistRange { low, high, count },
+        }))
+    };
+    let minutes = Unit {
+        abbrev: b'm',
+        ..seconds(100)
+    };
+    let beats = Unit {
+        dim: *b"beats\0\0\0\0\0\0\0\0\0\0",
+        ..seconds(100)
+    };
+    let dimension = |new| {
+        Err(AddRefusal::Unlike(Unlike::Dimension {
+            old: seconds(100),
+            new,
+        }))
+    };
+    let rows = [
+        ("the same", 0x1_0000, 0x1_0010, 4, seconds(0), Ok(())),
+        ("above", 0x1_0010, 0x1_0020, 4, seconds(100), Ok(())),
+        ("below", 0xFFF0, 0x1_0000, 4, seconds(100), Ok(())),
+        ("no counters", 0x1_0008, 0x1_0018, 0, minutes, Ok(())),
+        (
+            "one address too low",
+            0xFFF0,
+            0x1_0001,
+            4,
+            seconds(100),
+            range(0xFFF0, 0x1_0001, 4),
+        ),
+        (
+            "one address too high",
+            0x1_000F,
+            0x1_0020,
+            4,
+            minutes,
+            range(0x1_000F, 0x1_0020, 4),
+        ),
+        (
+            "one counter more",
+            0x1_0000,
+            0x1_0010,
+            5,
+            seconds(50),
+            range(0x1_0000, 0x1_0010, 5),
+        ),
+        (
+            "another rate",
+            0x1_0010,
+            0x1_0020,
+            4,
+            seconds(50),
+            Err(AddRefusal::Unlike(Unlike::Rate { old: 100, new: 50 })),
+        ),
+        (
+            "another abbreviation",
+            0x1_0000,
+            0x1_0010,
+            4,
+            minutes,
+            dimension(minutes),
+        ),
+        (
+            "another dimension",
+            0x1_0010,
+            0x1_0020,
+            1,
+            beats,
+            dimension(beats),
+        ),
+    ];
+    for (name, low, high, count, unit, answer) in rows {
+        let added = second_added(
+            rt.alloc(),
+            (0x1_0000, 0x1_0010, 4, seconds(100)),
+            (low, high, count, unit),
+        );
+        assert_eq!(rt; added, answer, "{name}");
+    }
+}
+
+#[test]
+fn numbers_of_64_bits(rt: HostRuntime) -> Result<(), Fail> {
+    let mut profile = Profile::new(rt.alloc());
+    profile.add_calls(0x1_0004, 0x1_0008, 1 << 58)?;
+    profile.add_arc(RawArc {
+        from: 0x1_0004,
+        to: 0x1_0008,
+        count: 5,
+    })?;
+    profile.add_runs(0x1_0000, 1 << 57)?;
+    profile.add_block(RawBlock {
+        addr: 0x1_0000,
+        count: 9,
+    })?;
+    assert_eq!(rt; profile.arc(0), (0x1_0004, 0x1_0008, (1 << 58) + 5));
+    assert_eq!(rt; profile.block(0), (0x1_0000, (1 << 57) + 9));
+    Ok(())
+}
+
+/// A profile of so many arcs of one call each, from the highest call site down.
+fn large(alloc: Global, count: u16) -> Result<Profile, AllocError> {
+    let mut profile = Profile::new(alloc);
+    for i in 0..count {
+        profile.add_arc(RawArc {
+            from: 0x8_0000 - u32::from(i),
+            to: 0x1_0000,
+            count: 1,
+        })?;
+    }
+    Ok(profile)
+}
+
+#[test]
+fn a_thousand_arcs(rt: HostRuntime) -> Result<(), Fail> {
+    let profile = large(rt.alloc(), 1000)?.try_clone()?;
+    assert_eq!(rt; profile.unit(), None);
+    assert_eq!(rt; profile.calls(), 1000);
+    assert_eq!(rt; profile.arc_count(), 1000);
+    for i in 0..profile.arc_count() {
+        let (from, to, count) = profile.arc(i);
+        assert_eq!(rt; from as usize + i, 0x8_0000, "{i}");
+        assert_eq!(rt; (to, count), (0x1_0000, 1), "{i}");
+    }
+    Ok(())
+}
