@@ -1,20 +1,36 @@
 -- The lines of `show` and `syms`.
-use Rattle.std.specs.Prelude.{◌≡◌, ℕ, ◌+◌, ◌-◌, ◌*◌, ◌/◌, ◌<◌, ◌==◌, if◌then◌else◌, List, [], ◌++◌, length, codes, Option, Some, None, ⊤}
+use Rattle.std.specs.Prelude.{ℕ, ◌+◌, ◌-◌, ◌*◌, ◌/◌, ◌%◌, ◌<◌, ◌==◌, if◌then◌else◌, List, [], ◌∷◌, ◌++◌, length, codes, Option, Some, None, ⊤}
 use Rattle.std.specs.List.{flat_map, enumerate_from, All}
-use Rattle.text_cols.specs.Columns.{decimal, hex8_of}
+use Rattle.text_cols.specs.Columns.{decimal, hex_digit_of, hex8_of}
 use Rattle.elf32_syms.specs.declared.image.Symbol.{Symbol}
 use Rattle.elf32_syms.specs.declared.image.Image.{Image}
 use Rattle.gp_base.specs.declared.records.RawArc.{RawArc}
+use Rattle.gp_base.specs.declared.records.RawBlock.{RawBlock}
 use Rattle.gp_base.specs.declared.records.RawHist.{RawHist}
+use Rattle.gp_base.specs.declared.records.Unit.{Unit}
+use Rattle.gp_base.specs.declared.records.Form.{Form}
 use Rattle.gp_base.specs.declared.records.Rec.{Rec}
 use Rattle.gp_base.specs.declared.records.Rec.TheVariants.{Hist, Arc, Blocks}
 use Rattle.gp_base.specs.declared.records.Records.{Records}
-use Rattle.gp_base.specs.declared.records.Form.TheVariants.{Bsd}
+use Rattle.gp_base.specs.declared.records.Form.TheVariants.{Bsd, Gnu}
 
--- what a histogram of the 4.4BSD form begins with
-unfoldable pub header_line : RawHist → List ℕ
-header_line hist =
-    codes "bsd low " ++ hex8_of hist.low ++ codes " high " ++ hex8_of hist.high ++ codes " counters " ++ decimal (length hist.counters) ++ codes " rate " ++ decimal hist.unit.rate ++ codes "\n"
+-- the range of a histogram, its number of counters and its rate
+abbrev pub hist_fields : RawHist → List ℕ
+hist_fields hist =
+    codes "low " ++ hex8_of hist.low ++ codes " high " ++ hex8_of hist.high ++ codes " counters " ++ decimal (length hist.counters) ++ codes " rate " ++ decimal hist.unit.rate
+
+-- the two hexadecimal digits of a byte
+abbrev pub byte_digits : ℕ → List ℕ
+byte_digits byte = hex_digit_of (byte / 16) ∷ hex_digit_of (byte % 16) ∷ []
+
+-- the digits of dimension and abbreviation, which are 16 bytes
+unfoldable pub unit_text : Unit → List ℕ
+unit_text «unit» = flat_map byte_digits («unit».dim ++ «unit».«abbrev» ∷ [])
+
+-- what a histogram begins with
+unfoldable pub hist_line : Form → RawHist → List ℕ
+hist_line Bsd hist = codes "bsd " ++ hist_fields hist ++ codes "\n"
+hist_line Gnu hist = codes "hist " ++ hist_fields hist ++ codes " unit " ++ unit_text hist.unit ++ codes "\n"
 
 -- where counter i of a histogram begins
 abbrev pub counter_address : RawHist → ℕ → ℕ
@@ -30,15 +46,26 @@ count_text hist numbered = if numbered.1 == 0 then [] else count_line (counter_a
 unfoldable pub arc_line : RawArc → List ℕ
 arc_line arc = codes "arc " ++ hex8_of arc.from ++ codes " " ++ hex8_of arc.to ++ codes " " ++ decimal arc.count ++ codes "\n"
 
--- the lines of a record of the 4.4BSD form, which has no counts of blocks
-unfoldable pub rec_text : Rec → List ℕ
-rec_text (Hist hist) = header_line hist ++ flat_map (count_text hist) (enumerate_from 0 hist.counters)
-rec_text (Arc arc) = arc_line arc
-rec_text (Blocks blocks) = []
+unfoldable pub blocks_line : List RawBlock → List ℕ
+blocks_line blocks = codes "blocks " ++ decimal (length blocks) ++ codes "\n"
+
+unfoldable pub block_line : RawBlock → List ℕ
+block_line block = codes "block " ++ hex8_of block.addr ++ codes " " ++ decimal block.count ++ codes "\n"
+
+-- the lines of a record of a file of a form
+unfoldable pub rec_text : Form → Rec → List ℕ
+rec_text form (Hist hist) = hist_line form hist ++ flat_map (count_text hist) (enumerate_from 0 hist.counters)
+rec_text form (Arc arc) = arc_line arc
+rec_text form (Blocks blocks) = blocks_line blocks ++ flat_map block_line blocks
+
+-- the lines of a file of the GNU form begin with one that says so
+abbrev pub form_line : Form → List ℕ
+form_line Bsd = []
+form_line Gnu = codes "gnu\n"
 
 -- the lines of all records, in file order
 unfoldable pub show_text : Records → List ℕ
-show_text records = flat_map rec_text records.recs
+show_text records = form_line records.form ++ flat_map (rec_text records.form) records.recs
 
 -- counters share a range that isn't empty
 abbrev pub HasRange : Rec → Type 0
@@ -46,10 +73,9 @@ HasRange (Hist hist) = 0 < length hist.counters → hist.low < hist.high
 HasRange (Arc arc) = ⊤
 HasRange (Blocks blocks) = ⊤
 
--- what can be shown: records of the 4.4BSD form, as far as reading that form gives them
-pub record IsShowable (records : Records) : Type 0 where
-  pub form : records.form ≡ Bsd
-  pub ranges : All HasRange records.recs
+-- what can be shown, as reading a file of either form gives it
+abbrev pub IsShowable : Records → Type 0
+IsShowable records = All HasRange records.recs
 
 -- ---- the lines of `syms`
 

@@ -5,46 +5,93 @@ ghost use Rattle.std.specs.List.{flat_map, enumerate_from, All};
 ghost use Rattle.host_port.specs.Buffered.{Adds};
 ghost use Rattle.host_port.specs.Host.{Puts};
 ghost use Rattle.host_port.specs.declared.side.Side.TheVariants.{Output};
-ghost use Rattle.text_lines.specs.Lines.{IsShowable, HasRange, show_text, rec_text, count_text, counter_address};
+ghost use Rattle.text_lines.specs.Lines.{IsShowable, HasRange, show_text, form_line, rec_text, block_line, count_text, counter_address};
 
 use crate::line;
-use gp_base::{RawHist, Rec, Records};
+use gp_base::{Form, RawBlock, RawHist, Rec, Records};
 use host_port::{Failed, Host, PrintBuf};
 
-/// Prints the lines of records of the 4.4BSD form on the output: the histogram's header, a line for
-/// each counter that isn't 0, and a line for each arc. Takes no memory. After `Failed` a prefix of the
-/// lines is printed, and not all of them.
+/// Prints the lines of records on the output, as each form has them: a line for each histogram and for
+/// each of its counters that isn't 0, for each arc, and for counts of basic blocks. Takes no memory.
+/// After `Failed` a prefix of the lines is printed, and not all of them.
 pub fn show_records<H: Host>(records: &Records, host: &mut H) -> Result<(), Failed>
     requires { IsShowable records.now }
     ensures { Puts Output (show_text records.now) (H.outside host.old) (H.outside host.new) result }
 {
     let mut lines = PrintBuf::new();
-    put_recs(records.recs.as_slice(), &mut lines, host)?;
+    put_records(records, &mut lines, host)?;
     lines.flush(host)
 }
 
-fn put_recs<H: Host>(recs: &[Rec], lines: &mut PrintBuf, host: &mut H) -> Result<(), Failed>
+fn put_records<H: Host>(
+    records: &Records,
+    lines: &mut PrintBuf,
+    host: &mut H,
+) -> Result<(), Failed>
+    requires { IsShowable records.now }
+    ensures { Adds Output (show_text records.now) lines.old lines.new (H.outside host.old) (H.outside host.new) result }
+{
+    put_form(records.form, lines, host)?;
+    put_recs(records.form, records.recs.as_slice(), lines, host)
+}
+
+fn put_form<H: Host>(form: Form, lines: &mut PrintBuf, host: &mut H) -> Result<(), Failed>
+    ensures { Adds Output (form_line form) lines.old lines.new (H.outside host.old) (H.outside host.new) result }
+{
+    match form {
+        Form::Bsd => Ok(()),
+        Form::Gnu => lines.put(host, b"gnu\n"),
+    }
+}
+
+fn put_recs<H: Host>(
+    form: Form,
+    recs: &[Rec],
+    lines: &mut PrintBuf,
+    host: &mut H,
+) -> Result<(), Failed>
     requires { All HasRange recs.now }
-    ensures { Adds Output (flat_map rec_text recs.now) lines.old lines.new (H.outside host.old) (H.outside host.new) result }
+    ensures { Adds Output (flat_map (rec_text form) recs.now) lines.old lines.new (H.outside host.old) (H.outside host.new) result }
 {
     for rec in recs {
-        put_rec(rec, lines, host)?;
+        put_rec(form, rec, lines, host)?;
     }
     Ok(())
 }
 
-fn put_rec<H: Host>(rec: &Rec, lines: &mut PrintBuf, host: &mut H) -> Result<(), Failed>
+fn put_rec<H: Host>(
+    form: Form,
+    rec: &Rec,
+    lines: &mut PrintBuf,
+    host: &mut H,
+) -> Result<(), Failed>
     requires { HasRange rec.now }
-    ensures { Adds Output (rec_text rec.now) lines.old lines.new (H.outside host.old) (H.outside host.new) result }
+    ensures { Adds Output (rec_text form rec.now) lines.old lines.new (H.outside host.old) (H.outside host.new) result }
 {
     match rec {
         Rec::Hist(hist) => {
-            lines.put(host, line::histogram(hist).bytes())?;
+            lines.put(host, line::histogram(form, hist).bytes())?;
             put_counters(hist, lines, host)
         }
         Rec::Arc(arc) => lines.put(host, line::arc(arc).bytes()),
-        Rec::Blocks(_) => Ok(()),
+        Rec::Blocks(blocks) => {
+            lines.put(host, line::blocks(blocks).bytes())?;
+            put_blocks(blocks.as_slice(), lines, host)
+        }
     }
+}
+
+fn put_blocks<H: Host>(
+    blocks: &[RawBlock],
+    lines: &mut PrintBuf,
+    host: &mut H,
+) -> Result<(), Failed>
+    ensures { Adds Output (flat_map block_line blocks.now) lines.old lines.new (H.outside host.old) (H.outside host.new) result }
+{
+    for block in blocks {
+        lines.put(host, line::block(block).bytes())?;
+    }
+    Ok(())
 }
 
 fn put_counters<H: Host>(hist: &RawHist, lines: &mut PrintBuf, host: &mut H) -> Result<(), Failed>

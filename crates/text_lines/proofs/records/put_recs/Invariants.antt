@@ -9,4 +9,4 @@ use Rattle.text_lines.proofs.records.put_recs.Given as goal
 -- the lines of the records so far are put
 abbrev pub invariant-loop-rec : goal.invariant-loop-rec
 invariant-loop-rec g l =
-    Adds {E = Failed} Output (flat_map rec_text (take l.rec-index l.recs)) l.initial.lines l.lines (g.H.Host.outside l.initial.host) (g.H.Host.outside l.host) (Ok (tt {0}))
+    Adds {E = Failed} Output (flat_map (rec_text l.form) (take l.rec-index l.recs)) l.initial.lines l.lines (g.H.Host.outside l.initial.host) (g.H.Host.outside l.host) (Ok (tt {0}))
