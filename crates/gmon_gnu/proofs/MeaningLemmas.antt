@@ -1,0 +1,191 @@
+-- What was read is what the text spells.
+use Rattle.std.proofs.Common.{◌≡◌, ℕ, zero, suc, ◌+◌, ◌-◌, ◌*◌, ◌^◌, ◌<◌, ◌≤◌, Bool, true, false, ltb, leb, ◌&&◌, not, eqb, List, [], ◌∷◌, ◌++◌, length, take, drop, slice_index, length-take, length-drop, Option, Some, None, Result, Ok, Err, if◌then◌else◌, refl, sym, ap, subst, ◌∙◌, arith}
+use Rattle.std.specs.List.{flat_map, AllByRecursion}
+use Rattle.std.proofs.lemmas.Bool.{ltb-false, leb-false, lt-ltb, eqb-true, not-false}
+use Rattle.std.proofs.lemmas.List.{take-append-drop, drop-drop}
+use Rattle.gp_base.specs.declared.records.RawHist.{RawHist}
+use Rattle.gp_base.specs.declared.records.Rec.{Rec}
+use Rattle.gp_base.specs.declared.records.Rec.TheVariants.{Hist, Arc, Blocks}
+use Rattle.gp_base.specs.declared.records.Records.{Records}
+use Rattle.gp_base.specs.declared.refusal.GmonRefusal.{GmonRefusal}
+use Rattle.gp_base.specs.Bytes.{value_of, le, cut, word_at, IsBytes}
+use Rattle.gp_base.proofs.LittleEndian.{length-cut, IsBytes-take, IsBytes-drop, IsBytes-rest, field_below, field_then}
+use Rattle.gp_base.proofs.Cutting.{flat_map-cut, all_cut}
+use Rattle.gmon_gnu.specs.Fields.{version, arc_of, block_bytes, block_of, counter_bytes, ArcFits, BlockFits, CounterFits}
+use Rattle.gmon_gnu.specs.Grammar.{rec_bytes, spelling, RecFits, GnuSpells}
+use Rattle.gmon_gnu.specs.Reading.{Front, Found, Refused, body_front, behind, recs_from, after_front, file_recs, refusal_in, recs_in, gnu_refusal, gnu_records}
+use Rattle.gmon_gnu.proofs.FieldLemmas.{counter_spelled, counter_fits, arc_spelled, arc_fits, block_spelled, block_fits}
+use Rattle.gmon_gnu.proofs.FrontLemmas.{found_then, same_found}
+use Rattle.gmon_gnu.proofs.SpellingLemmas.{Whole, whole_accepted, gnu, rec_text, rec_then, shorter}
+
+-- ---- one record
+
+-- a record and what follows are spelled by the text
+record Spelled (text : List ℕ) (r : Rec) (rest : List ℕ) : Type 0 where
+  pub text_is : text ≡ rec_text r rest
+  pub fits : RecFits r
+  pub bytes : IsBytes rest
+
+moved : (text : List ℕ) (r s : Rec) (rest more : List ℕ) → Found r rest ≡ Found s more → Spelled text r rest → Spelled text s more
+moved text r s rest more e spelled =
+    let parts = same_found r s rest more e in
+    subst (λ (x : Rec). Spelled text x more) parts.0 (subst (λ (l : List ℕ). Spelled text r l) parts.1 spelled)
+
+head_tail : (xs : List ℕ) → 0 < length xs → slice_index xs 0 ∷ drop 1 xs ≡ xs
+head_tail [] lt = absurd (let f : 1 ≤ 0 = lt in omega (arith, f))
+head_tail (x ∷ xs) lt = refl
+
+right_of : (a b : Bool) → (a && b) ≡ false → a ≡ true → b ≡ false
+right_of true b h e = h
+right_of false b h e = absurd cc
+
+hist_spelled : (len at : ℕ) (body : List ℕ) (r : Rec) (rest : List ℕ) → IsBytes body → body_front len at 0 body ≡ Found r rest → Spelled (0 ∷ body) r rest
+hist_spelled len at body r rest bytes is =
+    let name_on = drop 16 body in
+    let short_on = drop 15 name_on in
+    let after = drop 1 short_on in
+    let low = word_at body 0 in
+    let high = word_at body 4 in
+    let n = word_at body 8 in
+    let rate = word_at body 12 in
+    let a = found_then (ltb (length body) 32) _ _ r rest is in
+    let b = found_then (ltb 0 n && leb high low) _ _ r rest a.1 in
+    let d = found_then (ltb (length after) (n * 2)) _ _ r rest b.1 in
+    let long = ltb-false (length body) 32 a.0 in
+    let enough = ltb-false (length after) (n * 2) d.0 in
+    let cs = cut 2 value_of n after in
+    let count : length cs ≡ n = length-cut 2 value_of n after in
+    let short_bytes = IsBytes-drop 15 name_on (IsBytes-drop 16 body bytes) in
+    let after_bytes = IsBytes-drop 1 short_on short_bytes in
+    let name_long : length name_on ≡ length body - 16 = length-drop 16 body in
+    let short_long : length short_on ≡ length name_on - 15 = length-drop 15 name_on in
+    let counters : flat_map counter_bytes cs ++ drop (n * 2) after ≡ after = ap (λ (v : List ℕ). v ++ drop (n * 2) after) (flat_map-cut 2 value_of counter_bytes counter_spelled n after enough after_bytes) ∙ take-append-drop (n * 2) after in
+    let t31 : slice_index short_on 0 ∷ (flat_map counter_bytes cs ++ drop (n * 2) after) ≡ short_on = ap (λ (v : List ℕ). slice_index short_on 0 ∷ v) counters ∙ head_tail short_on (omega (arith, long, name_long, short_long)) in
+    let t16 = ap (λ (v : List ℕ). take 15 name_on ++ v) t31 ∙ take-append-drop 15 name_on in
+    let t12 = ap (λ (v : List ℕ). le rate 4 ++ v) t16 ∙ field_then 4 12 body bytes (omega (arith, long)) in
+    let t8 = ap (λ (v : List ℕ). le n 4 ++ v) t12 ∙ field_then 4 8 body bytes (omega (arith, long)) in
+    let t4 = ap (λ (v : List ℕ). le high 4 ++ v) t8 ∙ field_then 4 4 body bytes (omega (arith, long)) in
+    let t0 = ap (λ (v : List ℕ). le low 4 ++ v) t4 ∙ field_then 4 0 body bytes (omega (arith, long)) in
+    let h : RawHist = record { low = low; high = high; unit = record { rate = rate; dim = take 15 name_on; «abbrev» = slice_index short_on 0 }; counters = cs } in
+    let same : rec_text (Hist h) (drop (n * 2) after) ≡ 0 ∷ body =
+    ap (λ (k : ℕ). 0 ∷ (le low 4 ++ (le high 4 ++ (le k 4 ++ (le rate 4 ++ (take 15 name_on ++ (slice_index short_on 0 ∷ (flat_map counter_bytes cs ++ drop (n * 2) after)))))))) count
+    ∙ ap (λ (v : List ℕ). 0 ∷ v) t0 in
+    moved (0 ∷ body) (Hist h) r (drop (n * 2) after) rest d.1
+    (record {
+      text_is = sym same;
+      fits = record {
+        low = field_below 4 0 body bytes (omega (arith, long));
+        high = field_below 4 4 body bytes (omega (arith, long));
+        number = omega (arith, count, field_below 4 8 body bytes (omega (arith, long)));
+        rate = field_below 4 12 body bytes (omega (arith, long));
+        dim = omega (arith, long, name_long, length-take 15 name_on);
+        counters = all_cut CounterFits 2 value_of counter_fits n after enough after_bytes;
+        range = λ some. leb-false high low (right_of (ltb 0 n) (leb high low) b.0 (lt-ltb 0 n (omega (arith, some, count))));
+      };
+      bytes = IsBytes-drop (n * 2) after after_bytes;
+    })
+
+arc_spelled_here : (len at : ℕ) (body : List ℕ) (r : Rec) (rest : List ℕ) → IsBytes body → body_front len at 1 body ≡ Found r rest → Spelled (1 ∷ body) r rest
+arc_spelled_here len at body r rest bytes is =
+    let a = found_then (ltb (length body) 12) _ _ r rest is in
+    let long = ltb-false (length body) 12 a.0 in
+    let len12 : length (take 12 body) ≡ 12 = omega (arith, long, length-take 12 body) in
+    let same = ap (λ (v : List ℕ). v ++ drop 12 body) (arc_spelled (take 12 body) len12 (IsBytes-take 12 body bytes)) ∙ take-append-drop 12 body in
+    moved (1 ∷ body) (Arc (arc_of (take 12 body))) r (drop 12 body) rest a.1
+    (record { text_is = sym (ap (λ (v : List ℕ). 1 ∷ v) same); fits = arc_fits (take 12 body) len12 (IsBytes-take 12 body bytes); bytes = IsBytes-drop 12 body bytes })
+
+blocks_spelled : (len at : ℕ) (body : List ℕ) (r : Rec) (rest : List ℕ) → IsBytes body → body_front len at 2 body ≡ Found r rest → Spelled (2 ∷ body) r rest
+blocks_spelled len at body r rest bytes is =
+    let n = word_at body 0 in
+    let after = drop 4 body in
+    let a = found_then (ltb (length body) 4) _ _ r rest is in
+    let d = found_then (ltb (length after) (n * 8)) _ _ r rest a.1 in
+    let long = ltb-false (length body) 4 a.0 in
+    let enough = ltb-false (length after) (n * 8) d.0 in
+    let blocks = cut 8 block_of n after in
+    let count : length blocks ≡ n = length-cut 8 block_of n after in
+    let after_bytes = IsBytes-drop 4 body bytes in
+    let pairs : flat_map block_bytes blocks ++ drop (n * 8) after ≡ after = ap (λ (v : List ℕ). v ++ drop (n * 8) after) (flat_map-cut 8 block_of block_bytes block_spelled n after enough after_bytes) ∙ take-append-drop (n * 8) after in
+    let same : rec_text (Blocks blocks) (drop (n * 8) after) ≡ 2 ∷ body =
+    ap (λ (k : ℕ). 2 ∷ (le k 4 ++ (flat_map block_bytes blocks ++ drop (n * 8) after))) count
+    ∙ ap (λ (v : List ℕ). 2 ∷ (le n 4 ++ v)) pairs
+    ∙ ap (λ (v : List ℕ). 2 ∷ v) (field_then 4 0 body bytes (omega (arith, long))) in
+    moved (2 ∷ body) (Blocks blocks) r (drop (n * 8) after) rest d.1
+    (record {
+      text_is = sym same;
+      fits = record { number = omega (arith, count, field_below 4 0 body bytes (omega (arith, long))); each = all_cut BlockFits 8 block_of block_fits n after enough after_bytes };
+      bytes = IsBytes-drop (n * 8) after after_bytes;
+    })
+
+front_spelled : (len at tag : ℕ) (body : List ℕ) (r : Rec) (rest : List ℕ) → IsBytes body → body_front len at tag body ≡ Found r rest → Spelled (tag ∷ body) r rest
+front_spelled len at zero body r rest bytes is = hist_spelled len at body r rest bytes is
+front_spelled len at (suc zero) body r rest bytes is = arc_spelled_here len at body r rest bytes is
+front_spelled len at (suc (suc zero)) body r rest bytes is = blocks_spelled len at body r rest bytes is
+front_spelled len at (suc (suc (suc tag))) body r rest bytes is = absurd cc
+
+-- ---- all records
+
+record AllSpelled (text : List ℕ) (rs : List Rec) : Type 0 where
+  pub text_is : text ≡ flat_map rec_bytes rs
+  pub fits : AllByRecursion RecFits rs
+
+abbrev read_ok : List Rec → Result (List Rec) GmonRefusal
+read_ok rs = Ok rs
+
+same_ok : (xs ys : List Rec) → read_ok xs ≡ Ok ys → xs ≡ ys
+same_ok xs ys e = cc
+
+recs_spelled : (len n : ℕ) (bs : List ℕ) (rs : List Rec) → length bs ≤ n → IsBytes bs → recs_from len n bs ≡ Ok rs → AllSpelled bs rs
+recs_spelled len n [] rs le bytes is = subst (λ (x : List Rec). AllSpelled [] x) (same_ok [] rs is) (record { text_is = refl; fits = tt })
+recs_spelled len zero (tag ∷ body) rs le bytes is = absurd (let f : suc (length body) ≤ 0 = le in omega (arith, f))
+recs_spelled len (suc n) (tag ∷ body) rs le bytes is = by (body_front len (len - length (tag ∷ body)) tag body) refl is (recs_spelled len n)
+  where
+    go : (r : Rec) (rest : List ℕ) → Spelled (tag ∷ body) r rest → (o : Result (List Rec) GmonRefusal) → behind (r ∷ []) o ≡ Ok rs → ((more : List Rec) → o ≡ Ok more → AllSpelled rest more) → AllSpelled (tag ∷ body) rs
+    go r rest spelled (Err e) is others = absurd cc
+    go r rest spelled (Ok more) is others =
+        let tail = others more refl in
+        subst (λ (x : List Rec). AllSpelled (tag ∷ body) x) (same_ok (r ∷ more) rs is)
+        (record { text_is = spelled.text_is ∙ ap (rec_text r) tail.text_is ∙ sym (rec_then r (flat_map rec_bytes more)); fits = (spelled.fits, tail.fits) })
+
+    by : (f : Front) → body_front len (len - length (tag ∷ body)) tag body ≡ f → after_front (λ rest. recs_from len n rest) f ≡ Ok rs
+        → ((bs : List ℕ) (rs : List Rec) → length bs ≤ n → IsBytes bs → recs_from len n bs ≡ Ok rs → AllSpelled bs rs) → AllSpelled (tag ∷ body) rs
+    by (Refused e) f_is is others = absurd cc
+    by (Found r rest) f_is is others =
+        let spelled = front_spelled len (len - length (tag ∷ body)) tag body r rest (IsBytes-rest tag body bytes) f_is in
+        go r rest spelled (recs_from len n rest) is (λ more e. others rest more (omega (arith, le, shorter r rest, ap length spelled.text_is)) spelled.bytes e)
+
+-- ---- the whole text
+
+none_then : (b : Bool) (x : GmonRefusal) (o : Option GmonRefusal) → (if b then Some x else o) ≡ None → (b ≡ false) × (o ≡ None)
+none_then true x o e = absurd cc
+none_then false x o e = (refl, e)
+
+ok_where_accepted : (o : Result (List Rec) GmonRefusal) → refusal_in o ≡ None → o ≡ Ok (recs_in o)
+ok_where_accepted (Ok rs) e = refl
+ok_where_accepted (Err refusal) e = absurd cc
+
+pub spelled_of : (bytes : List ℕ) → IsBytes bytes → gnu_refusal bytes ≡ None → GnuSpells bytes (gnu_records bytes)
+spelled_of bs bytes e =
+    let a = none_then (ltb (length bs) 20) _ _ e in
+    let b = none_then (not (eqb (word_at bs 4) version)) _ _ a.1 in
+    let long = ltb-false (length bs) 20 a.0 in
+    let version_is : word_at bs 4 ≡ version = eqb-true (word_at bs 4) version (not-false (eqb (word_at bs 4) version) b.0) in
+    let recs = recs_in (file_recs bs) in
+    let text = flat_map rec_bytes recs in
+    let all = recs_spelled (length bs) (length bs) (drop 20 bs) recs (omega (arith, length-drop 20 bs)) (IsBytes-drop 20 bs bytes) (ok_where_accepted (file_recs bs) b.1) in
+    let spare = take 12 (drop 8 bs) in
+    let t8 : spare ++ text ≡ drop 8 bs = ap (λ (v : List ℕ). spare ++ v) (sym all.text_is ∙ sym (drop-drop 12 8 bs)) ∙ take-append-drop 12 (drop 8 bs) in
+    let t4 : le version 4 ++ (spare ++ text) ≡ drop 4 bs = ap (λ (k : ℕ). le k 4 ++ (spare ++ text)) (sym version_is) ∙ ap (λ (v : List ℕ). le (word_at bs 4) 4 ++ v) t8 ∙ field_then 4 4 bs bytes (omega (arith, long)) in
+    record {
+      first = take 4 bs;
+      spare = spare;
+      form = refl;
+      text = sym (ap (λ (v : List ℕ). take 4 bs ++ v) t4 ∙ take-append-drop 4 bs);
+      first_fits = omega (arith, long, length-take 4 bs);
+      spare_fits = omega (arith, long, length-take 12 (drop 8 bs), length-drop 8 bs);
+      recs_fit = all.fits;
+    }
+
+pub spelled_where_read : (bytes : List ℕ) (recs : List Rec) → IsBytes bytes → Whole bytes recs → GnuSpells bytes (gnu recs)
+spelled_where_read bs recs bytes whole =
+    subst (λ (r : Records). GnuSpells bs r) (ap gnu (ap recs_in whole.recs_are)) (spelled_of bs bytes (whole_accepted bs recs whole))

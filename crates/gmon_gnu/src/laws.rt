@@ -1,0 +1,23 @@
+//! What follows from the form and from the definitions on runs.
+
+ghost use Rattle.std.specs.Prelude.{◌≡◌, List, ℕ, None};
+ghost use Rattle.gp_base.specs.Bytes.{IsBytes};
+ghost use Rattle.gp_base.specs.declared.records.Records.{Records};
+ghost use Rattle.gmon_gnu.specs.Grammar.{GnuSpells};
+ghost use Rattle.gmon_gnu.specs.Reading.{gnu_refusal, gnu_records};
+ghost use Rattle.gmon_gnu.specs.Run.{RunsAreSpelled, RunsAreReadBack};
+
+/// A text has exactly one meaning, exactly where nothing is refused.
+pub fn one_meaning()
+    ensures spelled { (bytes : List ℕ) → IsBytes bytes → gnu_refusal bytes ≡ None → GnuSpells bytes (gnu_records bytes) }
+    ensures accepted { (bytes : List ℕ) (r : Records) → GnuSpells bytes r → gnu_refusal bytes ≡ None }
+    ensures only { (bytes : List ℕ) (r : Records) → GnuSpells bytes r → r ≡ gnu_records bytes }
+{}
+
+/// The file of a run is read as what was logged: its counters and its arcs, in order. It holds for the
+/// sizes of every text, every log and every rate of four bytes, where the callees and the counts of the
+/// log's arcs have four bytes each; those of every log that a `Gmon` stands for do.
+pub fn run_read_back()
+    ensures spelled { RunsAreSpelled }
+    ensures read { RunsAreReadBack }
+{}

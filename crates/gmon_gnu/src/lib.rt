@@ -1,0 +1,17 @@
+//! The GNU form of gmon.out, version 1: a header, and tagged records, which are histograms, arcs and
+//! counts of basic blocks.
+//!
+//! Source: `gmon_out.h` of GNU gprof and of glibc (`struct gmon_hdr`, `GMON_Record_Tag`), on a
+//! little-endian machine of 32 bits.
+#![tactic(auto)]
+
+pub mod laws;
+pub mod reading;
+pub mod writing;
+
+pub use gp_base::GmonRefusal;
+pub use reading::read;
+pub use writing::write_run;
+
+#[cfg(test)]
+mod tests;

@@ -1,0 +1,308 @@
+ghost use Rattle.std.specs.Prelude.{◌≡◌, ◌+◌, length, IfOk};
+
+use super::*;
+use gp_base::{RawArc, RawBlock, Rec, Span, le2, le4};
+use host_port::{Failed, Host, MemHost};
+use mcount_arcs::{Entered, Gmon, Looked};
+use std::alloc::{AllocError, Global};
+use std::test::Fail;
+
+/// Two histograms from 0x10000 to below 0x10010, an arc that was never called, and the count of a block.
+const RECORDS: [u8; 108] = [
+    0, 0, 0, 1, 0, 0x10, 0, 1, 0, 4, 0, 0, 0, 100, 0, 0, 0, // tag, low, high, number, rate
+    0x73, 0x65, 0x63, 0x6F, 0x6E, 0x64, 0x73, 0, 0, 0, 0, 0, 0, 0, 0, 0x73, // seconds, s
+    1, 0, 2, 0, 0, 0, 0, 0, // counters
+    0, 0, 0, 1, 0, 0x10, 0, 1, 0, 4, 0, 0, 0, 100, 0, 0, 0, // the same again
+    0x73, 0x65, 0x63, 0x6F, 0x6E, 0x64, 0x73, 0, 0, 0, 0, 0, 0, 0, 0, 0x73, //
+    1, 0, 2, 0, 0, 0, 0, 0, //
+    1, 4, 0, 1, 0, 8, 0, 1, 0, 0, 0, 0, 0, // from 0x10004 to 0x10008
+    2, 1, 0, 0, 0, 0, 0, 1, 0, 9, 0, 0, 0, // 9 at 0x10000
+];
+
+/// A histogram from 0x10000 to below 0x10000 with one counter, which may not be.
+const EMPTY_RANGE: [u8; 35] = [
+    0, 0, 0, 1, 0, 0, 0, 1, 0, 1, 0, 0, 0, 100, 0, 0, 0, //
+    0x73, 0x65, 0x63, 0x6F, 0x6E, 0x64, 0x73, 0, 0, 0, 0, 0, 0, 0, 0, 0x73, //
+    5, 0,
+];
+
+/// A file of a version, with spare bytes that are not zeros.
+fn file(alloc: Global, version: u8, records: &[u8]) -> Result<Vec<u8>, AllocError>
+    ensures { IfOk result (λ bytes. length bytes.items ≡ 20 + length records.now) }
+{
+    let mut bytes = [
+        0x67, 0x6D, 0x6F, 0x6E, version, 0, 0, 0, 1, 2, 3, 4, 5, 6, 7, 8, 9, 10, 11, 12,
+    ]
+    .to_vec(alloc)?;
+    bytes.extend_from_slice(records)?;
+    Ok(bytes)
+}
+
+#[test]
+fn the_first_fault_is_answered(rt: HostRuntime) -> Result<(), Fail> {
+    let short = |at| GmonRefusal::Short { at };
+    let range = GmonRefusal::Range {
+        at: 20,
+        low: 0x1_0000,
+        high: 0x1_0000,
+    };
+    let cases: [(&str, u8, &[u8], GmonRefusal); 14] = [
+        ("another version", 2, &[], GmonRefusal::Version { value: 2 }),
+        (
+            "version before tag",
+            0,
+            &[3],
+            GmonRefusal::Version { value: 0 },
+        ),
+        ("tag 3", 1, &[3], GmonRefusal::Tag { at: 20, value: 3 }),
+        (
+            "tag 255",
+            1,
+            &[255, 0, 0],
+            GmonRefusal::Tag { at: 20, value: 255 },
+        ),
+        ("a histogram's tag", 1, &[0], short(21)),
+        (
+            "a histogram's fields less a byte",
+            1,
+            &EMPTY_RANGE[..32],
+            short(52),
+        ),
+        ("an empty range", 1, &EMPTY_RANGE, range),
+        ("a range before its counters", 1, &EMPTY_RANGE[..34], range),
+        ("a counter less a byte", 1, &RECORDS[..40], short(60)),
+        ("an arc's tag", 1, &[1], short(21)),
+        ("an arc less a byte", 1, &RECORDS[82..94], short(32)),
+        ("a number less a byte", 1, &[2, 0, 0, 0], short(24)),
+        (
+            "more pairs than there are bytes",
+            1,
+            &[2, 255, 255, 255, 255],
+            short(25),
+        ),
+        ("a pair less a byte", 1, &RECORDS[..107], short(127)),
+    ];
+    for (name, version, records, refusal) in cases {
+        let bytes = file(rt.alloc(), version, records)?;
+        if bytes.len() < 1_000 {
+            assert_eq!(rt; read(rt.alloc(), &bytes).err(), Some(refusal), "{name}");
+        }
+    }
+    let header = file(rt.alloc(), 2, &[])?;
+    for len in 0..20 {
+        let refusal = read(rt.alloc(), &header[..len]).err();
+        assert_eq!(rt;
+            refusal,
+            Some(short(len as u32)),
+            "{len} bytes of the header"
+        );
+    }
+    Ok(())
+}
+
+#[test]
+fn records_are_read_in_order(rt: HostRuntime) -> Result<(), Fail> {
+    let bytes = file(rt.alloc(), 1, &RECORDS)?;
+    assert_eq!(rt; bytes.len(), 128);
+    let records = read(rt.alloc(), &bytes)?;
+    let recs = records.recs.as_slice();
+    assert_eq!(rt; recs.len(), 4);
+    for rec in &recs[..2] {
+        match rec {
+            Rec::Hist(hist) => {
+                assert_eq!(rt;
+                    (hist.low, hist.high, hist.unit.rate, hist.unit.abbrev),
+                    (0x1_0000, 0x1_0010, 100, 0x73)
+                );
+                assert_eq!(rt; hist.unit.dim, *b"seconds\0\0\0\0\0\0\0\0");
+                assert_eq!(rt; hist.counters.as_slice(), [1, 2, 0, 0].as_slice());
+            }
+            _ => assert!(rt; false, "a histogram"),
+        }
+    }
+    match &recs[2] {
+        Rec::Arc(arc) => assert_eq!(rt;
+            *arc,
+            RawArc {
+                from: 0x1_0004,
+                to: 0x1_0008,
+                count: 0
+            }
+        ),
+        _ => assert!(rt; false, "an arc"),
+    }
+    match &recs[3] {
+        Rec::Blocks(blocks) => {
+            let block = RawBlock {
+                addr: 0x1_0000,
+                count: 9,
+            };
+            assert_eq!(rt; blocks.as_slice(), [block].as_slice());
+        }
+        _ => assert!(rt; false, "counts of blocks"),
+    }
+    Ok(())
+}
+
+#[test]
+fn a_file_of_100_000_bytes_is_read(rt: HostRuntime) -> Result<(), Fail> {
+    let mut bytes = file(rt.alloc(), 1, &RECORDS[..33])?;
+    bytes[29] = 0xA0;
+    bytes[30] = 0x0F;
+    for i in 0..4_000 {
+        bytes.extend_from_slice(&le2(i))?;
+    }
+    for i in 0..4_006 {
+        bytes.push(1)?;
+        bytes.extend_from_slice(&le4(i))?;
+        bytes.extend_from_slice(&le4(i + 1))?;
+        bytes.extend_from_slice(&le4(i + 2))?;
+    }
+    bytes.push(2)?;
+    bytes.extend_from_slice(&le4(4_983))?;
+    for i in 0..4_983 {
+        bytes.extend_from_slice(&le4(i))?;
+        bytes.extend_from_slice(&le4(i + 1))?;
+    }
+    assert_eq!(rt; bytes.len(), 100_000);
+    let records = read(rt.alloc(), &bytes)?;
+    let recs = records.recs.as_slice();
+    assert_eq!(rt; recs.len(), 4_008);
+    match &recs[0] {
+        Rec::Hist(hist) => {
+            assert_eq!(rt; hist.counters.as_slice().len(), 4_000);
+            for (counter, i) in hist.counters.as_slice().iter().zip(0..4_000) {
+                assert_eq!(rt; *counter, i);
+            }
+        }
+        _ => assert!(rt; false, "a histogram"),
+    }
+    for (rec, from) in recs[1..4_007].iter().zip(0..4_006) {
+        match rec {
+            Rec::Arc(arc) => assert_eq!(rt;
+                *arc,
+                RawArc {
+                    from,
+                    to: from.wrapping_add(1),
+                    count: from.wrapping_add(2),
+                }
+            ),
+            _ => assert!(rt; false, "an arc"),
+        }
+    }
+    match &recs[4_007] {
+        Rec::Blocks(blocks) => {
+            assert_eq!(rt; blocks.as_slice().len(), 4_983);
+            for (block, addr) in blocks.as_slice().iter().zip(0..4_983) {
+                assert_eq!(rt;
+                    *block,
+                    RawBlock {
+                        addr,
+                        count: addr.wrapping_add(1),
+                    }
+                );
+            }
+        }
+        _ => assert!(rt; false, "counts of blocks"),
+    }
+    Ok(())
+}
+
+/// The file of the small run at rate 100: its header, a histogram of four counters, and three arcs.
+const SMALL: [u8; 100] = [
+    0x67, 0x6D, 0x6F, 0x6E, 1, 0, 0, 0, 0, 0, 0, 0, 0, 0, 0, 0, 0, 0, 0, 0, // header
+    0, 0, 0, 1, 0, 0x10, 0, 1, 0, 4, 0, 0, 0, 100, 0, 0, 0, // tag, low, high, number, rate
+    0x73, 0x65, 0x63, 0x6F, 0x6E, 0x64, 0x73, 0, 0, 0, 0, 0, 0, 0, 0, 0x73, // seconds, s
+    1, 0, 2, 0, 0x2C, 0x01, 1, 0, // counters
+    1, 4, 0, 1, 0, 0x14, 0, 1, 0, 1, 0, 0, 0, // from 0x10004
+    1, 8, 0, 1, 0, 0x20, 0, 1, 0, 2, 0, 0, 0, // from 0x10008, the callee called latest first
+    1, 8, 0, 1, 0, 0x30, 0, 1, 0, 1, 0, 0, 0,
+];
+
+/// A call, entered to its end.
+fn call(gmon: &mut Gmon, from: u32, to: u32) {
+    if gmon.calls() == u32::MAX {
+        return;
+    }
+    if let Entered::Walking(first) = gmon.enter(from, to) {
+        let mut walk = first;
+        for _ in 0..65_536 {
+            match gmon.look(walk) {
+                Looked::More(next) => walk = next,
+                _ => return,
+            }
+        }
+    }
+}
+
+/// A run of the text from 0x10000 to below 0x10010, with 1, 2, 300 and 1 samples in its words, one
+/// sample behind it, and four calls.
+fn small_run(alloc: Global) -> Result<Gmon, AllocError> {
+    let mut gmon = Gmon::startup(
+        alloc,
+        Span {
+            low: 0x1_0000,
+            high: 0x1_0010,
+        },
+    )?;
+    gmon.tick(0x1_0000);
+    gmon.tick(0x1_0004);
+    gmon.tick(0x1_0007);
+    for _ in 0..300 {
+        gmon.tick(0x1_0008);
+    }
+    gmon.tick(0x1_000F);
+    gmon.tick(0x1_0010);
+    call(&mut gmon, 0x1_0008, 0x1_0020);
+    call(&mut gmon, 0x1_0008, 0x1_0030);
+    call(&mut gmon, 0x1_0008, 0x1_0020);
+    call(&mut gmon, 0x1_0004, 0x1_0014);
+    Ok(gmon)
+}
+
+#[test]
+fn a_run_is_written_to_the_byte_and_read_back(rt: HostRuntime) -> Result<(), Fail> {
+    let gmon = small_run(rt.alloc())?;
+    let mut host = MemHost::new(rt.alloc());
+    host.create_output("gmon.out").map_err(|_| "create")?;
+    write_run(&gmon, 100, &mut host).map_err(|_| "write")?;
+    assert_eq!(rt; host.file("gmon.out"), Some(SMALL.as_slice()));
+    let records = read(rt.alloc(), &SMALL)?;
+    let recs = records.recs.as_slice();
+    assert_eq!(rt; recs.len(), 4);
+    match &recs[0] {
+        Rec::Hist(hist) => {
+            assert_eq!(rt; hist.counters.as_slice(), [1, 2, 300, 1].as_slice());
+        }
+        _ => assert!(rt; false, "a histogram"),
+    }
+    for (rec, written) in recs[1..].iter().zip(gmon.arcs()) {
+        match rec {
+            Rec::Arc(arc) => assert_eq!(rt; *arc, written),
+            _ => assert!(rt; false, "an arc"),
+        }
+    }
+    Ok(())
+}
+
+#[test]
+fn a_failed_call_leaves_a_part_that_is_not_the_whole(rt: HostRuntime) -> Result<(), Fail> {
+    let gmon = small_run(rt.alloc())?;
+    let mut failures = 0;
+    for call in 1..80 {
+        let mut host = MemHost::new(rt.alloc());
+        host.fail_at(call)?;
+        host.create_output("gmon.out").map_err(|_| "create")?;
+        let result = write_run(&gmon, 100, &mut host);
+        let written = host.file("gmon.out").unwrap_or_default();
+        if result == Err(Failed) {
+            failures = call;
+            assert!(rt; written.len() < SMALL.len(), "call {call}");
+            assert_eq!(rt; SMALL.get(..written.len()), Some(written), "call {call}");
+        } else {
+            assert_eq!(rt; written, SMALL.as_slice(), "call {call}");
+        }
+    }
+    assert!(rt; failures > 0, "some call fails");
+    Ok(())
+}
