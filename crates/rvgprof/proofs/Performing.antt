@@ -8,8 +8,10 @@ use Rattle.host_port.specs.Host.{act_of}
 use Rattle.host_port.specs.Performing.{FailedAt, Performs}
 use Rattle.host_port.proofs.Laws.{Did-nothing, KeepsCounts-same, writes_after-append}
 use Rattle.host_port.proofs.PerformingLemmas.{failed_behind, piece_failed, piece_part}
-use Rattle.gmon_bsd.specs.Run.{run_text, runtime_text}
-use Rattle.gmon_bsd.proofs.RunTextLemmas.{text_stands}
+use Rattle.gp_base.specs.declared.records.Form.{Form}
+use Rattle.gp_base.specs.declared.records.Form.TheVariants.{Bsd, Gnu}
+use Rattle.gmon_bsd.proofs.RunTextLemmas.{text_stands as bsd_text_stands}
+use Rattle.gmon_gnu.proofs.RunTextLemmas.{text_stands as gnu_text_stands}
 use Rattle.mcount_arcs.specs.declared.sizes.Sizes.{Sizes}
 use Rattle.mcount_arcs.specs.Image.{block_image}
 use Rattle.mcount_arcs.specs.Log.{LogEntry}
@@ -20,7 +22,7 @@ use Rattle.prof_machine.specs.Prints.{ArePrinted, BreaksOff}
 use Rattle.prof_machine.specs.World.{World}
 use Rattle.prof_machine.proofs.ActLemmas.{driven_front}
 use Rattle.rvgprof.specs.Items.{name_of}
-use Rattle.rvgprof.specs.Answer.{RunFiles, file_acts, given_file_acts, run_acts}
+use Rattle.rvgprof.specs.Answer.{RunFiles, file_acts, given_file_acts, run_acts, run_text, runtime_text}
 use Rattle.rvgprof.specs.declared.outcome.Done.{Done}
 use Rattle.rvgprof.specs.Course.{Ends, Does}
 use Rattle.rvgprof.specs.Contract.{Acted}
@@ -34,7 +36,7 @@ given_shut (Some name) bytes = refl
 -- no file is being written behind the acts of a run
 pub shut_after : (files : RunFiles) (rate : ℕ) (z : Sizes) (w : World) (b : Bool) → writes_after (run_acts files rate z w) b ≡ false
 shut_after files rate z w b =
-    let front = file_acts files.gmon (run_text z w.log rate) in
+    let front = file_acts files.gmon (run_text files.form z w.log rate) in
     let back = given_file_acts files.image (layout_of (block_image z w.log)) in
     writes_after-append w.prints (front ++ back) b ∙ writes_after-append front back (writes_after w.prints b) ∙ given_shut files.image (layout_of (block_image z w.log))
 
@@ -69,8 +71,12 @@ drive_fails {T} {E} m w n x y e below none off =
 -- ---- the files
 
 -- the texts that were written, by what was logged
-pub profile_is : (v : GmonValue) (z : Sizes) (log : List LogEntry) (rate : ℕ) → RuntimeStandsFor log v → v.sizes ≡ z → runtime_text v rate ≡ run_text z log rate
-profile_is v z log rate stands sizes = text_stands v rate log stands ∙ ap (λ (x : Sizes). run_text x log rate) sizes
+profile_stands : (form : Form) (v : GmonValue) (rate : ℕ) (log : List LogEntry) → RuntimeStandsFor log v → runtime_text form v rate ≡ run_text form v.sizes log rate
+profile_stands Bsd v rate log stands = bsd_text_stands v rate log stands
+profile_stands Gnu v rate log stands = gnu_text_stands v rate log stands
+
+pub profile_is : (form : Form) (v : GmonValue) (z : Sizes) (log : List LogEntry) (rate : ℕ) → RuntimeStandsFor log v → v.sizes ≡ z → runtime_text form v rate ≡ run_text form z log rate
+profile_is form v z log rate stands sizes = profile_stands form v rate log stands ∙ ap (λ (x : Sizes). run_text form x log rate) sizes
 
 pub image_is : (v : GmonValue) (z : Sizes) (log : List LogEntry) → RuntimeStandsFor log v → v.sizes ≡ z → layout_of (block_parts v) ≡ layout_of (block_image z log)
 image_is v z log stands sizes =

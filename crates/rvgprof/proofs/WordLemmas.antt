@@ -1,7 +1,7 @@
 -- What the words say, item by item.
 use Rattle.std.proofs.Common.{◌≡◌, ℕ, List, Option, Some, None, refl}
 use Rattle.std.specs.Option.{option_map, option_and_then}
-use Rattle.rvgprof.specs.declared.options.Key.TheVariants.{Every, Budget, Rate, Ram, Harts, Quantum, Seed, Image}
+use Rattle.rvgprof.specs.declared.options.Key.TheVariants.{Every, Budget, Rate, Ram, Harts, Quantum, Seed, Image, Gnu}
 use Rattle.rvgprof.specs.Items.{Item, place_given, number_given, setting}
 use Rattle.rvgprof.specs.Words.{operand, file_from, file_of, plan_from, plan_of, setup_from, setup_of, run_from, run_of}
 
@@ -20,6 +20,6 @@ setup_by_items words None = refl
 setup_by_items words (Some items) = refl
 
 pub run_by_items : (words : List (List ℕ)) (o : Option (List Item))
-    → run_from (option_map (operand 1) o) (option_map (operand 2) o) (option_map (operand 3) o) (option_and_then (place_given Image) o) (option_and_then (setup_of words) o) ≡ option_and_then (run_of words) o
+    → run_from (option_map (operand 1) o) (option_map (operand 2) o) (option_map (operand 3) o) (option_and_then (place_given Gnu) o) (option_and_then (place_given Image) o) (option_and_then (setup_of words) o) ≡ option_and_then (run_of words) o
 run_by_items words None = refl
 run_by_items words (Some items) = refl

@@ -1,15 +1,16 @@
 //! The command `run`.
 
-ghost use Rattle.std.specs.Prelude.{◌≡◌, [], false, map, string_bytes, IsSome, IfSome, OnOk, Some};
+ghost use Rattle.std.specs.Prelude.{◌≡◌, [], true, false, map, string_bytes, IsSome, IfSome, OnOk, Some};
 ghost use Rattle.gmon_block.specs.Layout.{layout_of};
-ghost use Rattle.gmon_bsd.specs.Run.{runtime_text};
+ghost use Rattle.host_port.specs.Host.{Puts};
+ghost use Rattle.host_port.specs.declared.side.Side.TheVariants.{File};
 ghost use Rattle.host_port.specs.Performing.{Performs};
 ghost use Rattle.mcount_arcs.specs.Value.{block_parts};
 ghost use Rattle.prof_machine.specs.Plan.{driven};
 ghost use Rattle.prof_machine.specs.Setup.{IsSetup};
 ghost use Rattle.prof_machine.specs.Value.{IsLive, StandsFor};
 ghost use Rattle.prof_machine.specs.World.{World};
-ghost use Rattle.rvgprof.specs.Answer.{file_acts, files_named, given_file_acts, run_acts, run_course};
+ghost use Rattle.rvgprof.specs.Answer.{file_acts, files_named, given_file_acts, run_acts, run_course, runtime_text};
 ghost use Rattle.rvgprof.specs.Contract.{Acted};
 ghost use Rattle.rvgprof.specs.Items.{name_of};
 ghost use Rattle.rvgprof.specs.Standing.{Stands};
@@ -19,16 +20,17 @@ use crate::inputs::read_program;
 use crate::items::name_at;
 use crate::outcome::{Done, Fault};
 use crate::refusals::start_fault;
-use gmon_bsd::write_run;
+use gp_base::Form;
 use host_port::{Failed, Host, write_all_of};
 use mcount_arcs::Gmon;
 use prof_machine::{Run, Setup};
 use std::alloc::Global;
 
-/// The words that name what a run writes: its profile, and perhaps the memory of its runtime.
+/// What a run writes: its profile in a form, and perhaps the memory of its runtime, named by words.
 #[derive(Clone, Copy)]
 pub struct RunOutputs {
     pub gmon: u32,
+    pub form: Form,
     pub image: Option<u32>,
 }
 
@@ -42,7 +44,7 @@ pub fn run<H: Host>(
     host: &mut H,
 ) -> Result<Done, Fault>
     requires stands { Stands (map string_bytes words.now) (H.outside host.old) (H.outside host.old) 0 []
-        (run_course elf (files_named (map string_bytes words.now) outputs.gmon outputs.image) setup) }
+        (run_course elf (files_named (map string_bytes words.now) outputs.gmon outputs.form outputs.image) setup) }
     requires within { IsSetup setup }
     ensures { Acted (map string_bytes words.now) (H.outside host.old) (H.outside host.new) result }
 {
@@ -73,28 +75,46 @@ fn perform<H: Host>(
     requires live { IsLive run.old }
     requires idle { (H.outside host.old).is_writing ≡ false }
     ensures performs { (w : World) → StandsFor w run.old → w.prints ≡ []
-        → Performs (run_acts (files_named (map string_bytes words.now) outputs.gmon outputs.image) rate run.old.machine.sizes (driven run.old.machine w)) (H.outside host.old) (H.outside host.new) result }
+        → Performs (run_acts (files_named (map string_bytes words.now) outputs.gmon outputs.form outputs.image) rate run.old.machine.sizes (driven run.old.machine w)) (H.outside host.old) (H.outside host.new) result }
     ensures stands { OnOk result ((w : World) → StandsFor w run.old → StandsFor (driven run.old.machine w) run.new) }
     ensures machine { OnOk result (run.new.machine ≡ run.old.machine) }
     ensures ended { OnOk result (IsSome run.new.ending) }
 {
     run.drive(host)?;
-    write_profile(run.gmon(), name_at(words, outputs.gmon), rate, host)?;
+    let name = name_at(words, outputs.gmon);
+    write_profile(run.gmon(), outputs.form, name, rate, host)?;
     match outputs.image {
         Some(image) => write_image(run.gmon(), name_at(words, image), host),
         None => Ok(()),
     }
 }
 
-/// Writes the profile of a runtime to the named file.
-fn write_profile<H: Host>(gmon: &Gmon, name: &str, rate: u32, host: &mut H) -> Result<(), Failed>
+/// Writes the profile of a runtime in a form to the named file.
+fn write_profile<H: Host>(
+    gmon: &Gmon,
+    form: Form,
+    name: &str,
+    rate: u32,
+    host: &mut H,
+) -> Result<(), Failed>
     requires { (H.outside host.old).is_writing ≡ false }
-    ensures performs { Performs (file_acts name.now (runtime_text gmon.now rate)) (H.outside host.old) (H.outside host.new) result }
+    ensures performs { Performs (file_acts name.now (runtime_text form gmon.now rate)) (H.outside host.old) (H.outside host.new) result }
     ensures idle { OnOk result ((H.outside host.new).is_writing ≡ false) }
 {
     host.create_output(name)?;
-    write_run(gmon, rate, host)?;
+    write_run(gmon, form, rate, host)?;
     host.close_output()
+}
+
+/// Writes the profile of a runtime in a form to the file that is being written.
+fn write_run<H: Host>(gmon: &Gmon, form: Form, rate: u32, host: &mut H) -> Result<(), Failed>
+    requires { (H.outside host.old).is_writing ≡ true }
+    ensures { Puts File (runtime_text form gmon.now rate) (H.outside host.old) (H.outside host.new) result }
+{
+    match form {
+        Form::Bsd => gmon_bsd::write_run(gmon, rate, host),
+        Form::Gnu => gmon_gnu::write_run(gmon, rate, host),
+    }
 }
 
 /// Writes the memory of a runtime to the named file.

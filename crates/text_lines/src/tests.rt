@@ -1,6 +1,6 @@
 use super::*;
 use elf32_syms::{Image, SegmentList, Symbol, SymbolList};
-use gp_base::{Counts, Form, Name, RawArc, RawHist, Rec, RecList, Records, Span, Unit};
+use gp_base::{BlockList, Counts, Form, Name, RawArc, RawBlock, RawHist, Rec, RecList, Records, Span, Unit};
 use host_port::MemHost;
 use std::test::Fail;
 
@@ -36,6 +36,40 @@ fn counters_that_are_0_have_no_line(rt: HostRuntime) -> Result<(), Fail> {
     assert_eq!(rt;
         host.printed(),
         b"bsd low fffffff0 high ffffffff counters 3 rate 0\ncount fffffff5 9\narc 00000001 00000002 4294967295\n".as_slice()
+    );
+    Ok(())
+}
+
+#[test]
+fn records_of_the_gnu_form_are_shown(rt: HostRuntime) -> Result<(), Fail> {
+    let mut counters = Counts::new(rt.alloc());
+    counters.push(65_535)?;
+    let unit = Unit {
+        rate: 50,
+        dim: *b"\x00\x0f\xa0seconds\xff\0\0\0\0",
+        abbrev: b's',
+    };
+    let mut blocks = BlockList::new(rt.alloc());
+    for (addr, count) in [(1, 0), (u32::MAX, u32::MAX)] {
+        blocks.push(RawBlock { addr, count })?;
+    }
+    let mut recs = RecList::new(rt.alloc());
+    recs.push(Rec::Blocks(blocks))?;
+    recs.push(Rec::Hist(RawHist {
+        low: 1,
+        high: 2,
+        unit,
+        counters,
+    }))?;
+    let records = Records {
+        form: Form::Gnu,
+        recs,
+    };
+    let mut host = MemHost::new(rt.alloc());
+    show_records(&records, &mut host).map_err(|_| "shown")?;
+    assert_eq!(rt;
+        host.printed(),
+        b"gnu\nblocks 2\nblock 00000001 0\nblock ffffffff 4294967295\nhist low 00000001 high 00000002 counters 1 rate 50 unit 000fa07365636f6e6473ff0000000073\ncount 00000001 65535\n".as_slice()
     );
     Ok(())
 }

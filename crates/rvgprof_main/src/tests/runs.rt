@@ -210,6 +210,15 @@ fn calls_are_counted_for_each_schedule(rt: HostRuntime) -> Result<(), Fail> {
         Case {
             program: &CALLS,
             words: &[
+                "run", "e", "g", "--gnu", "--every", "7", "--budget", "20", "--ram", "4",
+            ],
+            out: b"",
+            err: b"rvgprof: budget after 20 instructions: 2 samples, 1 calls, 0 lost, arcs on\n",
+            shown: "gnu\nhist low 00010000 high 00010018 counters 6 rate 100 unit 7365636f6e6473000000000000000073\ncount 00010014 2\narc 00010004 00010014 1\n",
+        },
+        Case {
+            program: &CALLS,
+            words: &[
                 "run", "--harts", "2", "e", "g", "--budget", "6", "--ram", "4",
             ],
             out: b"",

@@ -4,6 +4,7 @@ use super::programs::{CALLS, LOOP, elf};
 use super::status;
 use host_port::MemHost;
 use std::alloc::{AllocError, Global};
+use std::process::Abort;
 use std::test::Fail;
 
 /// The header of a file whose range is from 0x10000 to 0x10100, with 64 counters, at rate 100.
@@ -70,16 +71,68 @@ fn profiles_are_shown_or_refused(rt: HostRuntime) -> Result<(), Fail> {
     Ok(())
 }
 
-#[test]
-fn a_file_of_the_other_form_is_another_version(rt: HostRuntime) -> Result<(), Fail> {
-    let alloc = rt.alloc();
+/// A file of the GNU form: a histogram from 0x10000 to below 0x10010, an arc that was never called, and
+/// a block that was run 9 times.
+const GNU: [u8; 87] = [
+    0x67, 0x6D, 0x6F, 0x6E, 1, 0, 0, 0, 0, 0, 0, 0, 0, 0, 0, 0, 0, 0, 0, 0, // header
+    0, 0, 0, 1, 0, 0x10, 0, 1, 0, 4, 0, 0, 0, 100, 0, 0, 0, // tag, low, high, number, rate
+    0x73, 0x65, 0x63, 0x6F, 0x6E, 0x64, 0x73, 0, 0, 0, 0, 0, 0, 0, 0, 0x73, // seconds, s
+    1, 0, 2, 0, 0, 0, 0, 0, // counters
+    1, 4, 0, 1, 0, 8, 0, 1, 0, 0, 0, 0, 0, // from 0x10004 to 0x10008
+    2, 1, 0, 0, 0, 0, 0, 1, 0, 9, 0, 0, 0, // 9 at 0x10000
+];
+
+const GNU_LINES: &str = "gnu\nhist low 00010000 high 00010010 counters 4 rate 100 unit 7365636f6e6473000000000000000073\ncount 00010000 1\ncount 00010004 2\narc 00010004 00010008 0\nblocks 1\nblock 00010000 9\n";
+
+/// What is shown of the first bytes of that file, with the version or the first tag changed.
+fn is_shown(
+    rt: &impl Abort,
+    alloc: Global,
+    len: usize,
+    at: usize,
+    byte: u8,
+    wanted: (u8, &str),
+) -> Result<(), Fail> {
+    let (answer, text) = wanted;
+    let mut bytes = Vec::new(alloc);
+    for i in 0..len {
+        let whole = GNU.get(i).copied().unwrap_or(0);
+        bytes.push(if i == at { byte } else { whole })?;
+    }
     let mut host = MemHost::new(alloc);
-    host.put("g", b"gmon")?;
-    assert_eq!(rt; status(alloc, &["show", "g"], &mut host)?, 3);
-    assert_eq!(rt;
-        host.errors(),
-        b"rvgprof: bad profile g: version 1852796263\n".as_slice()
-    );
+    host.put("g", &bytes)?;
+    assert_eq!(rt; status(alloc, &["show", "g"], &mut host)?, answer, "{text}");
+    let shown = if answer == 0 {
+        host.printed()
+    } else {
+        host.errors()
+    };
+    assert_eq!(rt; shown, text.as_bytes(), "{text}");
+    Ok(())
+}
+
+#[test]
+fn files_of_the_gnu_form_are_shown_or_refused(rt: HostRuntime) -> Result<(), Fail> {
+    let cases = [
+        (87, 999, 0, (0, GNU_LINES)),
+        (20, 999, 0, (0, "gnu\n")),
+        (4, 999, 0, (3, "rvgprof: bad profile g: short at 4\n")),
+        (86, 999, 0, (3, "rvgprof: bad profile g: short at 86\n")),
+        (87, 4, 2, (3, "rvgprof: bad profile g: version 2\n")),
+        (87, 20, 3, (3, "rvgprof: bad profile g: tag 3 at 20\n")),
+        (
+            87,
+            27,
+            0,
+            (
+                3,
+                "rvgprof: bad profile g: range 00010000 00000010 at 20\n",
+            ),
+        ),
+    ];
+    for (len, at, byte, wanted) in cases {
+        is_shown(&rt, rt.alloc(), len, at, byte, wanted)?;
+    }
     Ok(())
 }
 

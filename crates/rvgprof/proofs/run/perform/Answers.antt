@@ -1,12 +1,11 @@
 use Rattle.std.proofs.Common.{◌++◌, ◌∙◌, ap, map, string_bytes}
 use Rattle.std.proofs.lemmas.Result.{err_from_is_err_and}
 use Rattle.gmon_block.specs.Layout.{layout_of}
-use Rattle.gmon_bsd.specs.Run.{run_text}
 use Rattle.host_port.proofs.PerformingLemmas.{performs_then, performs_front}
 use Rattle.mcount_arcs.specs.Image.{block_image}
 use Rattle.prof_machine.specs.declared.machine.Machine.{Machine}
 use Rattle.prof_machine.specs.Plan.{driven}
-use Rattle.rvgprof.specs.Answer.{file_acts, files_named, given_file_acts}
+use Rattle.rvgprof.specs.Answer.{file_acts, files_named, given_file_acts, run_text}
 use Rattle.rvgprof.proofs.Performing.{printed_performs, drive_fails, profile_is, image_is, file_as, given_as, given_nothing}
 use Rattle.rvgprof.proofs.run.perform.Goals as goal
 
@@ -15,9 +14,9 @@ returns-in_err-drive-clause-performs g c = λ w stands none.
     let p = err_from_is_err_and c.from_residual.result c.from_residual.ensures.1 in
     let m = c.args.run.now.machine in
     let last = driven m w in
-    let files = files_named (map string_bytes c.args.words.now) c.args.outputs.gmon c.args.outputs.image in
+    let files = files_named (map string_bytes c.args.words.now) c.args.outputs.gmon c.args.outputs.form c.args.outputs.image in
     let off = c.in_err-drive.ensures.fails w stands in
-    rw p.1 (performs_front {T = Unit {0}} last.prints (file_acts files.gmon (run_text m.sizes last.log c.args.rate) ++ given_file_acts files.image (layout_of (block_image m.sizes last.log))) _ _ _
+    rw p.1 (performs_front {T = Unit {0}} last.prints (file_acts files.gmon (run_text files.form m.sizes last.log c.args.rate) ++ given_file_acts files.image (layout_of (block_image m.sizes last.log))) _ _ _
     (drive_fails {T = Unit {0}} m w off.0 _ _ _ off.1 none off.3))
 
 pub returns-in_err-write_profile-clause-performs : goal.returns-in_err-write_profile-clause-performs
@@ -26,12 +25,12 @@ returns-in_err-write_profile-clause-performs g c = λ w stands none.
     let m = c.args.run.now.machine in
     let last = driven m w in
     let d = c.in_ok-drive.ensures in
-    let files = files_named (map string_bytes c.args.words.now) c.args.outputs.gmon c.args.outputs.image in
-    let text = run_text m.sizes last.log c.args.rate in
+    let files = files_named (map string_bytes c.args.words.now) c.args.outputs.gmon c.args.outputs.form c.args.outputs.image in
+    let text = run_text files.form m.sizes last.log c.args.rate in
     let back = given_file_acts files.image (layout_of (block_image m.sizes last.log)) in
     let sizes = c.gmon.ensures.sizes ∙ ap (λ (x : Machine). x.sizes) d.machine in
-    let is = profile_is c.gmon.result.now m.sizes last.log c.args.rate (c.gmon.ensures.log last (d.stands w stands)) sizes in
-    let written = rw c.name_at.ensures at c.in_err-write_profile.ensures.performs in
+    let is = profile_is files.form c.gmon.result.now m.sizes last.log c.args.rate (c.gmon.ensures.log last (d.stands w stands)) sizes in
+    let written = rw c.name_at-name.ensures at c.in_err-write_profile.ensures.performs in
     rw p.1 (performs_then last.prints (file_acts files.gmon text ++ back) _ _ _ (tt {0}) _ (printed_performs {T = Unit {0}} w last _ _ (tt {0}) none (d.prints w stands) d.counts)
     (performs_front {T = Unit {0}} (file_acts files.gmon text) back _ _ _ (file_as {T = Unit {0}} files.gmon _ text _ _ _ is written)))
 
@@ -41,15 +40,15 @@ returns-in-Some-clause-performs g c = λ w stands none.
     let last = driven m w in
     let d = c.in_ok-drive.ensures in
     let words = map string_bytes c.args.words.now in
-    let files = files_named words c.args.outputs.gmon c.args.outputs.image in
-    let text = run_text m.sizes last.log c.args.rate in
+    let files = files_named words c.args.outputs.gmon c.args.outputs.form c.args.outputs.image in
+    let text = run_text files.form m.sizes last.log c.args.rate in
     let bytes = layout_of (block_image m.sizes last.log) in
     let sizes = c.gmon.ensures.sizes ∙ ap (λ (x : Machine). x.sizes) d.machine in
     let sizes2 = c.gmon-in-Some.ensures.sizes ∙ ap (λ (x : Machine). x.sizes) d.machine in
-    let is = profile_is c.gmon.result.now m.sizes last.log c.args.rate (c.gmon.ensures.log last (d.stands w stands)) sizes in
+    let is = profile_is files.form c.gmon.result.now m.sizes last.log c.args.rate (c.gmon.ensures.log last (d.stands w stands)) sizes in
     let image = image_is c.gmon-in-Some.result.now m.sizes last.log (c.gmon-in-Some.ensures.log last (d.stands w stands)) sizes2 in
-    let written = rw c.name_at.ensures at c.in_ok-write_profile.ensures.performs in
-    let more = rw c.name_at-in-Some.ensures at c.write_image.ensures in
+    let written = rw c.name_at-name.ensures at c.in_ok-write_profile.ensures.performs in
+    let more = rw c.name_at.ensures at c.write_image.ensures in
     performs_then last.prints (file_acts files.gmon text ++ given_file_acts files.image bytes) _ _ _ (tt {0}) _ (printed_performs {T = Unit {0}} w last _ _ (tt {0}) none (d.prints w stands) d.counts)
     (performs_then (file_acts files.gmon text) (given_file_acts files.image bytes) _ _ _ (tt {0}) _ (file_as {T = Unit {0}} files.gmon _ text _ _ _ is written)
     (given_as words c.in-Some.image c.args.outputs.image bytes _ _ _ c.in-Some.is (file_as _ _ bytes _ _ _ image more)))
@@ -60,12 +59,12 @@ returns-in-None-clause-performs g c = λ w stands none.
     let last = driven m w in
     let d = c.in_ok-drive.ensures in
     let words = map string_bytes c.args.words.now in
-    let files = files_named words c.args.outputs.gmon c.args.outputs.image in
-    let text = run_text m.sizes last.log c.args.rate in
+    let files = files_named words c.args.outputs.gmon c.args.outputs.form c.args.outputs.image in
+    let text = run_text files.form m.sizes last.log c.args.rate in
     let bytes = layout_of (block_image m.sizes last.log) in
     let sizes = c.gmon.ensures.sizes ∙ ap (λ (x : Machine). x.sizes) d.machine in
-    let is = profile_is c.gmon.result.now m.sizes last.log c.args.rate (c.gmon.ensures.log last (d.stands w stands)) sizes in
-    let written = rw c.name_at.ensures at c.in_ok-write_profile.ensures.performs in
+    let is = profile_is files.form c.gmon.result.now m.sizes last.log c.args.rate (c.gmon.ensures.log last (d.stands w stands)) sizes in
+    let written = rw c.name_at-name.ensures at c.in_ok-write_profile.ensures.performs in
     performs_then last.prints (file_acts files.gmon text ++ given_file_acts files.image bytes) _ _ _ (tt {0}) _ (printed_performs {T = Unit {0}} w last _ _ (tt {0}) none (d.prints w stands) d.counts)
     (performs_then (file_acts files.gmon text) (given_file_acts files.image bytes) _ _ _ (tt {0}) _ (file_as {T = Unit {0}} files.gmon _ text _ _ _ is written)
     (given_nothing words c.args.outputs.image bytes _ (tt {0}) c.in-None.is))

@@ -7,5 +7,5 @@ use Rattle.rvgprof.proofs.words.read_run.Goals as goal
 pub returns-clause-reading : goal.returns-clause-reading
 returns-clause-reading c =
     let words = map string_bytes c.args.words.now in
-    rw (c.operand_at.ensures, c.operand_at-2.ensures, c.operand_at-3.ensures, c.place_given.ensures, c.read_setup.ensures.reading) at c.run_from.ensures.reading
+    rw (c.operand_at.ensures, c.operand_at-2.ensures, c.operand_at-3.ensures, c.place_given.ensures, c.place_given-2.ensures, c.read_setup.ensures.reading) at c.run_from.ensures.reading
     ∙ run_by_items words (items_from RunOptions 0 words)
