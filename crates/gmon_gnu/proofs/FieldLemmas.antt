@@ -1,5 +1,5 @@
 -- Fields are spelled by their bytes, and read from them.
-use Rattle.std.proofs.Common.{◌≡◌, ℕ, ◌^◌, ◌<◌, List, [], ◌++◌, length, take, drop, refl, sym, ap, subst, ◌∙◌, arith}
+use Rattle.std.proofs.Common.{◌≡◌, ℕ, ◌^◌, ◌<◌, List, [], ◌++◌, length, drop, refl, sym, ap, subst, ◌∙◌, arith}
 use Rattle.std.proofs.lemmas.List.{drop_all}
 use Rattle.gp_base.specs.declared.records.RawArc.{RawArc}
 use Rattle.gp_base.specs.declared.records.RawBlock.{RawBlock}

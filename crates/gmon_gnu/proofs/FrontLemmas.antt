@@ -1,5 +1,5 @@
 -- What stands at the front of a text.
-use Rattle.std.proofs.Common.{◌≡◌, ℕ, zero, suc, ◌*◌, ◌<◌, ◌≤◌, Bool, true, false, ltb, leb, ◌&&◌, List, [], length, drop, length-drop, Option, Some, None, if◌then◌else◌, refl, ap, subst, arith}
+use Rattle.std.proofs.Common.{◌≡◌, ℕ, zero, suc, ◌*◌, ◌≤◌, Bool, true, false, ltb, leb, ◌&&◌, List, [], length, drop, length-drop, Option, Some, if◌then◌else◌, refl, ap, subst, arith}
 use Rattle.gp_base.specs.declared.records.Rec.{Rec}
 use Rattle.gp_base.specs.declared.refusal.GmonRefusal.{GmonRefusal}
 use Rattle.gp_base.specs.declared.refusal.GmonRefusal.TheVariants.{Short, Version, Tag, Range, Size, Rest, OutOfMemory}

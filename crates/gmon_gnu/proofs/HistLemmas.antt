@@ -1,5 +1,5 @@
 -- Histograms and counts of blocks that were read field by field.
-use Rattle.std.proofs.Common.{◌≡◌, ℕ, ◌*◌, ◌/◌, ◌<◌, ◌≤◌, Bool, true, false, ltb, leb, ◌&&◌, List, [], ◌∷◌, length, take, drop, slice_index, length-take, refl, sym, ap, ◌∙◌, ◌⊎◌, inl, inr, arith}
+use Rattle.std.proofs.Common.{◌≡◌, ℕ, ◌*◌, ◌/◌, ◌<◌, ◌≤◌, false, ltb, leb, ◌&&◌, List, [], ◌∷◌, length, take, drop, slice_index, length-take, refl, sym, ap, ◌∙◌, ◌⊎◌, inl, inr, arith}
 use Rattle.std.proofs.lemmas.Bool.{le-ltb, lt-leb, and_left, and_right}
 use Rattle.gp_base.specs.declared.records.RawBlock.{RawBlock}
 use Rattle.gp_base.specs.declared.records.Rec.TheVariants.{Hist, Blocks}

@@ -3,6 +3,7 @@ pub mod FrontLemmas
 pub mod RecordLemmas
 pub mod HistLemmas
 pub mod SpellingLemmas
+pub mod FaultLemmas
 pub mod MeaningLemmas
 pub mod RunTextLemmas
 pub mod RunReadBack

@@ -1,5 +1,5 @@
 -- What was read is what the text spells.
-use Rattle.std.proofs.Common.{◌≡◌, ℕ, zero, suc, ◌+◌, ◌-◌, ◌*◌, ◌^◌, ◌<◌, ◌≤◌, Bool, true, false, ltb, leb, ◌&&◌, not, eqb, List, [], ◌∷◌, ◌++◌, length, take, drop, slice_index, length-take, length-drop, Option, Some, None, Result, Ok, Err, if◌then◌else◌, refl, sym, ap, subst, ◌∙◌, arith}
+use Rattle.std.proofs.Common.{◌≡◌, ℕ, zero, suc, ◌-◌, ◌*◌, ◌<◌, ◌≤◌, Bool, true, false, ltb, leb, ◌&&◌, not, eqb, List, [], ◌∷◌, ◌++◌, length, take, drop, slice_index, length-take, length-drop, Option, Some, None, Result, Ok, Err, if◌then◌else◌, refl, sym, ap, subst, ◌∙◌, arith}
 use Rattle.std.specs.List.{flat_map, AllByRecursion}
 use Rattle.std.proofs.lemmas.Bool.{ltb-false, leb-false, lt-ltb, eqb-true, not-false}
 use Rattle.std.proofs.lemmas.List.{take-append-drop, drop-drop}
@@ -11,8 +11,8 @@ use Rattle.gp_base.specs.declared.refusal.GmonRefusal.{GmonRefusal}
 use Rattle.gp_base.specs.Bytes.{value_of, le, cut, word_at, IsBytes}
 use Rattle.gp_base.proofs.LittleEndian.{length-cut, IsBytes-take, IsBytes-drop, IsBytes-rest, field_below, field_then}
 use Rattle.gp_base.proofs.Cutting.{flat_map-cut, all_cut}
-use Rattle.gmon_gnu.specs.Fields.{version, arc_of, block_bytes, block_of, counter_bytes, ArcFits, BlockFits, CounterFits}
-use Rattle.gmon_gnu.specs.Grammar.{rec_bytes, spelling, RecFits, GnuSpells}
+use Rattle.gmon_gnu.specs.Fields.{version, arc_of, block_bytes, block_of, counter_bytes, BlockFits, CounterFits}
+use Rattle.gmon_gnu.specs.Grammar.{rec_bytes, RecFits, GnuSpells}
 use Rattle.gmon_gnu.specs.Reading.{Front, Found, Refused, body_front, behind, recs_from, after_front, file_recs, refusal_in, recs_in, gnu_refusal, gnu_records}
 use Rattle.gmon_gnu.proofs.FieldLemmas.{counter_spelled, counter_fits, arc_spelled, arc_fits, block_spelled, block_fits}
 use Rattle.gmon_gnu.proofs.FrontLemmas.{found_then, same_found}
@@ -39,8 +39,8 @@ right_of : (a b : Bool) → (a && b) ≡ false → a ≡ true → b ≡ false
 right_of true b h e = h
 right_of false b h e = absurd cc
 
-hist_spelled : (len at : ℕ) (body : List ℕ) (r : Rec) (rest : List ℕ) → IsBytes body → body_front len at 0 body ≡ Found r rest → Spelled (0 ∷ body) r rest
-hist_spelled len at body r rest bytes is =
+hist_front_spelled : (len at : ℕ) (body : List ℕ) (r : Rec) (rest : List ℕ) → IsBytes body → body_front len at 0 body ≡ Found r rest → Spelled (0 ∷ body) r rest
+hist_front_spelled len at body r rest bytes is =
     let name_on = drop 16 body in
     let short_on = drop 15 name_on in
     let after = drop 1 short_on in
@@ -85,8 +85,8 @@ hist_spelled len at body r rest bytes is =
       bytes = IsBytes-drop (n * 2) after after_bytes;
     })
 
-arc_spelled_here : (len at : ℕ) (body : List ℕ) (r : Rec) (rest : List ℕ) → IsBytes body → body_front len at 1 body ≡ Found r rest → Spelled (1 ∷ body) r rest
-arc_spelled_here len at body r rest bytes is =
+arc_front_spelled : (len at : ℕ) (body : List ℕ) (r : Rec) (rest : List ℕ) → IsBytes body → body_front len at 1 body ≡ Found r rest → Spelled (1 ∷ body) r rest
+arc_front_spelled len at body r rest bytes is =
     let a = found_then (ltb (length body) 12) _ _ r rest is in
     let long = ltb-false (length body) 12 a.0 in
     let len12 : length (take 12 body) ≡ 12 = omega (arith, long, length-take 12 body) in
@@ -94,8 +94,8 @@ arc_spelled_here len at body r rest bytes is =
     moved (1 ∷ body) (Arc (arc_of (take 12 body))) r (drop 12 body) rest a.1
     (record { text_is = sym (ap (λ (v : List ℕ). 1 ∷ v) same); fits = arc_fits (take 12 body) len12 (IsBytes-take 12 body bytes); bytes = IsBytes-drop 12 body bytes })
 
-blocks_spelled : (len at : ℕ) (body : List ℕ) (r : Rec) (rest : List ℕ) → IsBytes body → body_front len at 2 body ≡ Found r rest → Spelled (2 ∷ body) r rest
-blocks_spelled len at body r rest bytes is =
+blocks_front_spelled : (len at : ℕ) (body : List ℕ) (r : Rec) (rest : List ℕ) → IsBytes body → body_front len at 2 body ≡ Found r rest → Spelled (2 ∷ body) r rest
+blocks_front_spelled len at body r rest bytes is =
     let n = word_at body 0 in
     let after = drop 4 body in
     let a = found_then (ltb (length body) 4) _ _ r rest is in
@@ -118,9 +118,9 @@ blocks_spelled len at body r rest bytes is =
     })
 
 front_spelled : (len at tag : ℕ) (body : List ℕ) (r : Rec) (rest : List ℕ) → IsBytes body → body_front len at tag body ≡ Found r rest → Spelled (tag ∷ body) r rest
-front_spelled len at zero body r rest bytes is = hist_spelled len at body r rest bytes is
-front_spelled len at (suc zero) body r rest bytes is = arc_spelled_here len at body r rest bytes is
-front_spelled len at (suc (suc zero)) body r rest bytes is = blocks_spelled len at body r rest bytes is
+front_spelled len at zero body r rest bytes is = hist_front_spelled len at body r rest bytes is
+front_spelled len at (suc zero) body r rest bytes is = arc_front_spelled len at body r rest bytes is
+front_spelled len at (suc (suc zero)) body r rest bytes is = blocks_front_spelled len at body r rest bytes is
 front_spelled len at (suc (suc (suc tag))) body r rest bytes is = absurd cc
 
 -- ---- all records

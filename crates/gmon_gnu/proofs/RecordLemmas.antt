@@ -1,6 +1,6 @@
 -- The records of a text, one by one. How many bytes are allowed for doesn't matter where they are no fewer than
 -- the text's.
-use Rattle.std.proofs.Common.{◌≡◌, ℕ, zero, suc, ◌+◌, ◌-◌, ◌<◌, ◌≤◌, List, [], ◌∷◌, ◌++◌, length, take, drop, slice_index, length-drop, Option, Some, None, Result, Ok, Err, refl, sym, ap, ◌∙◌, append_assoc, append-nil, arith}
+use Rattle.std.proofs.Common.{◌≡◌, ℕ, zero, suc, ◌-◌, ◌<◌, ◌≤◌, List, [], ◌∷◌, ◌++◌, length, take, drop, slice_index, length-drop, Some, Result, Ok, Err, refl, sym, ap, ◌∙◌, append_assoc, arith}
 use Rattle.gp_base.specs.declared.records.Rec.{Rec}
 use Rattle.gp_base.specs.declared.refusal.GmonRefusal.{GmonRefusal}
 use Rattle.gp_base.specs.Refusal.{IsRefusal}
@@ -33,11 +33,6 @@ behind_one recs r (Err e) = refl
 pub behind_none : (o : Result (List Rec) GmonRefusal) → behind [] o ≡ o
 behind_none (Ok rs) = refl
 behind_none (Err e) = refl
-
--- at the end of the text, all records are read
-pub read_all : (len : ℕ) (recs : List Rec) (all : Result (List Rec) GmonRefusal) (rest : List ℕ) → length rest ≡ 0 → behind recs (recs_from len len rest) ≡ all → all ≡ Ok recs
-read_all len recs all [] none so_far = sym so_far ∙ ap (λ (l : List Rec). let x : Result (List Rec) GmonRefusal = Ok l in x) (append-nil recs)
-read_all len recs all (x ∷ xs) none so_far = absurd (let f : suc (length xs) ≡ 0 = none in omega (arith, f))
 
 -- one record more is read
 pub read_more : (len : ℕ) (recs : List Rec) (all : Result (List Rec) GmonRefusal) (rest tags body after : List ℕ) (r : Rec) → 0 < length rest → length rest ≤ len → tags ≡ take 1 rest → body ≡ drop 1 rest

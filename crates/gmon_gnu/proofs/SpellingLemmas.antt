@@ -1,5 +1,5 @@
 -- What a spelling is read as.
-use Rattle.std.proofs.Common.{◌≡◌, ℕ, zero, suc, ◌+◌, ◌-◌, ◌*◌, ◌^◌, ◌<◌, ◌≤◌, Bool, true, false, ltb, leb, eqb, not, ◌&&◌, List, [], ◌∷◌, ◌++◌, length, take, drop, slice_index, length-append, append_assoc, Option, None, Result, Ok, Err, refl, sym, ap, ◌∙◌, inl, inr, arith}
+use Rattle.std.proofs.Common.{◌≡◌, ℕ, zero, suc, ◌+◌, ◌-◌, ◌*◌, ◌<◌, ◌≤◌, false, ltb, leb, eqb, not, ◌&&◌, List, [], ◌∷◌, ◌++◌, length, take, drop, slice_index, length-append, append_assoc, None, Ok, refl, sym, ap, ◌∙◌, inl, inr, arith}
 use Rattle.std.specs.List.{flat_map, AllByRecursion}
 use Rattle.std.proofs.lemmas.Bool.{le-ltb, lt-leb, cases_lt, and_left, and_right, eq-eqb}
 use Rattle.std.proofs.lemmas.List.{take_at, drop_at, drop-drop}
@@ -11,13 +11,12 @@ use Rattle.gp_base.specs.declared.records.Rec.TheVariants.{Hist, Arc, Blocks}
 use Rattle.gp_base.specs.declared.records.Records.{Records}
 use Rattle.gp_base.specs.declared.records.Form.{Form}
 use Rattle.gp_base.specs.declared.records.Form.TheVariants.{Gnu}
-use Rattle.gp_base.specs.declared.refusal.GmonRefusal.{GmonRefusal}
-use Rattle.gp_base.specs.Bytes.{value_of, le, cut, word_at}
+use Rattle.gp_base.specs.Bytes.{value_of, le, word_at}
 use Rattle.gp_base.proofs.LittleEndian.{value_of-le}
 use Rattle.gp_base.proofs.Cutting.{cut-flat_map, length-spelled}
 use Rattle.gmon_gnu.specs.Fields.{version, arc_bytes, block_bytes, block_of, counter_bytes, ArcFits, BlockFits, CounterFits}
 use Rattle.gmon_gnu.specs.Grammar.{rec_bytes, spelling, RecFits, HistFits, BlocksFit, GnuSpells}
-use Rattle.gmon_gnu.specs.Reading.{Front, Found, hist_of_fields, pairs_front, body_front, behind, recs_from, after_front, file_recs, refusal_in, recs_in, gnu_refusal, gnu_records}
+use Rattle.gmon_gnu.specs.Reading.{Found, hist_of_fields, pairs_front, body_front, behind, recs_from, after_front, file_recs, refusal_in, recs_in, gnu_refusal, gnu_records}
 use Rattle.gmon_gnu.proofs.FieldLemmas.{counter_length, block_length, arc_back, block_back}
 
 -- ---- a record with the text behind it
@@ -88,7 +87,7 @@ shorter (Hist h) rest =
 shorter (Arc arc) rest = omega (arith, length-append (arc_bytes arc) rest)
 shorter (Blocks blocks) rest = omega (arith, length-append (flat_map block_bytes blocks) rest)
 
-front_read : (len n : ℕ) (r : Rec) (rest : List ℕ) → RecFits r → recs_from len (suc n) (rec_text r rest) ≡ behind (r ∷ []) (recs_from len n rest)
+pub front_read : (len n : ℕ) (r : Rec) (rest : List ℕ) → RecFits r → recs_from len (suc n) (rec_text r rest) ≡ behind (r ∷ []) (recs_from len n rest)
 front_read len n (Hist h) rest fits = ap (after_front (λ rest. recs_from len n rest)) (hist_read len (len - length (rec_text (Hist h) rest)) h rest fits)
 front_read len n (Arc arc) rest fits = ap (after_front (λ rest. recs_from len n rest)) (arc_read len (len - length (rec_text (Arc arc) rest)) arc rest fits)
 front_read len n (Blocks blocks) rest fits = ap (after_front (λ rest. recs_from len n rest)) (blocks_read len (len - length (rec_text (Blocks blocks) rest)) blocks rest fits)

@@ -3,6 +3,7 @@
 ghost use Rattle.std.specs.Prelude.{◌≡◌, List, ℕ, None};
 ghost use Rattle.gp_base.specs.Bytes.{IsBytes};
 ghost use Rattle.gp_base.specs.declared.records.Records.{Records};
+ghost use Rattle.gmon_gnu.specs.Faults.{FirstFaultsAreAnswered};
 ghost use Rattle.gmon_gnu.specs.Grammar.{GnuSpells};
 ghost use Rattle.gmon_gnu.specs.Reading.{gnu_refusal, gnu_records};
 ghost use Rattle.gmon_gnu.specs.Run.{RunsAreSpelled, RunsAreReadBack};
@@ -12,6 +13,11 @@ pub fn one_meaning()
     ensures spelled { (bytes : List ℕ) → IsBytes bytes → gnu_refusal bytes ≡ None → GnuSpells bytes (gnu_records bytes) }
     ensures accepted { (bytes : List ℕ) (r : Records) → GnuSpells bytes r → gnu_refusal bytes ≡ None }
     ensures only { (bytes : List ℕ) (r : Records) → GnuSpells bytes r → r ≡ gnu_records bytes }
+{}
+
+/// Behind records without a fault, what is refused of the next record is refused of the file.
+pub fn first_fault()
+    ensures { FirstFaultsAreAnswered }
 {}
 
 /// The file of a run is read as what was logged: its counters and its arcs, in order. It holds for the

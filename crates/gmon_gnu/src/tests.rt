@@ -84,9 +84,8 @@ fn the_first_fault_is_answered(rt: HostRuntime) -> Result<(), Fail> {
     ];
     for (name, version, records, refusal) in cases {
         let bytes = file(rt.alloc(), version, records)?;
-        if bytes.len() < 1_000 {
-            assert_eq!(rt; read(rt.alloc(), &bytes).err(), Some(refusal), "{name}");
-        }
+        assert!(rt; bytes.len() <= 128, "{name}");
+        assert_eq!(rt; read(rt.alloc(), &bytes).err(), Some(refusal), "{name}");
     }
     let header = file(rt.alloc(), 2, &[])?;
     for len in 0..20 {

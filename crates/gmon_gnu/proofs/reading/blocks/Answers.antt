@@ -1,4 +1,4 @@
-use Rattle.std.proofs.Common.{◌≡◌, ℕ, List, suc, ◌/◌, length, ap, ◌∙◌, length-drop, arith}
+use Rattle.std.proofs.Common.{◌≡◌, ℕ, suc, ◌/◌, length, ap, ◌∙◌, length-drop, arith}
 use Rattle.gp_base.specs.declared.records.RawBlock.{RawBlock}
 use Rattle.gp_base.proofs.Cutting.{cut_step}
 use Rattle.gmon_gnu.specs.Fields.{block_of}

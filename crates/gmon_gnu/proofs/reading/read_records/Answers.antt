@@ -1,4 +1,4 @@
-use Rattle.std.proofs.Common.{◌≡◌, ◌<◌, length, ap, ◌∙◌, sym, arith}
+use Rattle.std.proofs.Common.{◌<◌, length, ap, ◌∙◌, arith}
 use Rattle.std.proofs.lemmas.Result.{err_from_is_err_and}
 use Rattle.gmon_gnu.specs.Reading.{recs_from, behind}
 use Rattle.gmon_gnu.proofs.RecordLemmas.{behind_none, read_more, read_less, read_stops}
