@@ -23,11 +23,7 @@ pub fn show_records<H: Host>(records: &Records, host: &mut H) -> Result<(), Fail
     lines.flush(host)
 }
 
-fn put_records<H: Host>(
-    records: &Records,
-    lines: &mut PrintBuf,
-    host: &mut H,
-) -> Result<(), Failed>
+fn put_records<H: Host>(records: &Records, lines: &mut PrintBuf, host: &mut H) -> Result<(), Failed>
     requires { IsShowable records.now }
     ensures { Adds Output (show_text records.now) lines.old lines.new (H.outside host.old) (H.outside host.new) result }
 {
@@ -59,12 +55,7 @@ fn put_recs<H: Host>(
     Ok(())
 }
 
-fn put_rec<H: Host>(
-    form: Form,
-    rec: &Rec,
-    lines: &mut PrintBuf,
-    host: &mut H,
-) -> Result<(), Failed>
+fn put_rec<H: Host>(form: Form, rec: &Rec, lines: &mut PrintBuf, host: &mut H) -> Result<(), Failed>
     requires { HasRange rec.now }
     ensures { Adds Output (rec_text form rec.now) lines.old lines.new (H.outside host.old) (H.outside host.new) result }
 {

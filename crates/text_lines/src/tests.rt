@@ -1,6 +1,8 @@
 use super::*;
 use elf32_syms::{Image, SegmentList, Symbol, SymbolList};
-use gp_base::{BlockList, Counts, Form, Name, RawArc, RawBlock, RawHist, Rec, RecList, Records, Span, Unit};
+use gp_base::{
+    BlockList, Counts, Form, Name, RawArc, RawBlock, RawHist, Rec, RecList, Records, Span, Unit,
+};
 use host_port::MemHost;
 use std::test::Fail;
 

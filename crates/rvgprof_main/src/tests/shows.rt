@@ -82,7 +82,8 @@ const GNU: [u8; 87] = [
     2, 1, 0, 0, 0, 0, 0, 1, 0, 9, 0, 0, 0, // 9 at 0x10000
 ];
 
-const GNU_LINES: &str = "gnu\nhist low 00010000 high 00010010 counters 4 rate 100 unit 7365636f6e6473000000000000000073\ncount 00010000 1\ncount 00010004 2\narc 00010004 00010008 0\nblocks 1\nblock 00010000 9\n";
+const GNU_LINES: &str =
+    "gnu\nhist low 00010000 high 00010010 counters 4 rate 100 unit 7365636f6e6473000000000000000073\ncount 00010000 1\ncount 00010004 2\narc 00010004 00010008 0\nblocks 1\nblock 00010000 9\n";
 
 /// What is shown of the first bytes of that file, with the version or the first tag changed.
 fn is_shown(
@@ -124,10 +125,7 @@ fn files_of_the_gnu_form_are_shown_or_refused(rt: HostRuntime) -> Result<(), Fai
             87,
             27,
             0,
-            (
-                3,
-                "rvgprof: bad profile g: range 00010000 00000010 at 20\n",
-            ),
+            (3, "rvgprof: bad profile g: range 00010000 00000010 at 20\n"),
         ),
     ];
     for (len, at, byte, wanted) in cases {

@@ -1,4 +1,4 @@
-use Rattle.std.proofs.Common.{List, ℕ, ◌≡◌, ◌++◌, ◌+◌, ◌*◌, ◌<◌, ◌≤◌, ◌∙◌, length, take, get_or, sym, ap, arith, append-nil, append_assoc}
+use Rattle.std.proofs.Common.{List, ℕ, ◌++◌, ◌∙◌, take, get_or, sym, ap, arith, append-nil, append_assoc}
 use Rattle.std.specs.List.{flat_map}
 use Rattle.std.proofs.lemmas.List.{get_or_default, take_all}
 use Rattle.host_port.proofs.BufferLemmas.{one_more}
@@ -19,10 +19,11 @@ loop-byte-preserved c =
     let byte = get_or xs i 0 in
     let so_far = flat_map byte_digits (take i xs) in
     let put = rw (c.hex_digit.ensures, c.hex_digit-in-loop-byte.ensures) at c.put.ensures.bytes in
-    let more = one_more byte_digits xs i byte lt (get_or_default xs i 0 byte lt) in
-    ( put ∙ ap (λ (t : List ℕ). t ++ byte_digits byte) c.loop-byte.invariant.0 ∙ append_assoc c.args.line.now so_far (byte_digits byte)
-      ∙ ap (λ (t : List ℕ). c.args.line.now ++ t) (sym more)
-    , omega (arith, c.put.ensures.len, c.loop-byte.invariant.1) )
+    let more = one_more byte_digits xs i byte lt (get_or_default xs i 0 byte lt) in (
+      put ∙ ap (λ (t : List ℕ). t ++ byte_digits byte) c.loop-byte.invariant.0 ∙ append_assoc c.args.line.now so_far (byte_digits byte)
+          ∙ ap (λ (t : List ℕ). c.args.line.now ++ t) (sym more),
+      omega (arith, c.put.ensures.len, c.loop-byte.invariant.1),
+    )
 
 pub returns-clause-text : goal.returns-clause-text
 returns-clause-text c =
