@@ -187,7 +187,8 @@ impl Profile {
 
     /// The samples of all histograms.
     pub fn samples(&self) -> u64
-        ensures { result ≡ samples_of self.now.hists }
+        ensures value { result ≡ samples_of self.now.hists }
+        ensures profile { IsProfile self.now }
     {
         samples(self.hists.as_slice())
     }
@@ -208,7 +209,8 @@ impl Profile {
 
     /// The number of block addresses.
     pub fn block_count(&self) -> usize
-        ensures { result ≡ length self.now.blocks }
+        ensures value { result ≡ length self.now.blocks }
+        ensures profile { IsProfile self.now }
     {
         self.blocks.len()
     }
@@ -246,7 +248,8 @@ impl Profile {
 
     /// The number of histograms.
     pub fn hist_count(&self) -> usize
-        ensures { result ≡ length self.now.hists }
+        ensures value { result ≡ length self.now.hists }
+        ensures profile { IsProfile self.now }
     {
         self.hists.len()
     }
@@ -270,7 +273,8 @@ impl Profile {
 
     /// The number of pairs.
     pub fn arc_count(&self) -> usize
-        ensures { result ≡ length self.now.arcs }
+        ensures value { result ≡ length self.now.arcs }
+        ensures profile { IsProfile self.now }
     {
         self.arcs.len()
     }
