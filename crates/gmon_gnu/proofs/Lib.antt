@@ -7,3 +7,8 @@ pub mod FaultLemmas
 pub mod MeaningLemmas
 pub mod RunTextLemmas
 pub mod RunReadBack
+pub mod PieceLemmas
+pub mod ProfileTextLemmas
+pub mod SplitLemmas
+pub mod ProfileSpelling
+pub mod ProfileReadBack

@@ -6,6 +6,7 @@ ghost use Rattle.gp_base.specs.declared.records.Records.{Records};
 ghost use Rattle.gmon_gnu.specs.Faults.{FirstFaultsAreAnswered};
 ghost use Rattle.gmon_gnu.specs.Grammar.{GnuSpells};
 ghost use Rattle.gmon_gnu.specs.Reading.{gnu_refusal, gnu_records};
+ghost use Rattle.gmon_gnu.specs.ProfileText.{ProfilesAreSpelled, ProfilesAreReadBack};
 ghost use Rattle.gmon_gnu.specs.Run.{RunsAreSpelled, RunsAreReadBack};
 
 /// A text has exactly one meaning, exactly where nothing is refused.
@@ -26,4 +27,12 @@ pub fn first_fault()
 pub fn run_read_back()
     ensures spelled { RunsAreSpelled }
     ensures read { RunsAreReadBack }
+{}
+
+/// The file of a profile is read as what has the profile's content: a counter, calls and executions that
+/// were split over records are put together again. It holds for every content of a profile whose numbers
+/// have the bytes of their fields; those of every `Profile` do.
+pub fn profile_read_back()
+    ensures spelled { ProfilesAreSpelled }
+    ensures read { ProfilesAreReadBack }
 {}

@@ -6,10 +6,13 @@
 #![tactic(auto)]
 
 pub mod laws;
+pub mod profile_writing;
 pub mod reading;
+mod splitting;
 pub mod writing;
 
 pub use gp_base::GmonRefusal;
+pub use profile_writing::write;
 pub use reading::read;
 pub use writing::write_run;
 

@@ -1,7 +1,8 @@
 ghost use Rattle.std.specs.Prelude.{◌≡◌, ◌+◌, length, IfOk};
 
 use super::*;
-use gp_base::{RawArc, RawBlock, Rec, Span, le2, le4};
+use gmon_data::{AddRefusal, Hist, Profile};
+use gp_base::{RawArc, RawBlock, Rec, Span, Totals, Unit, le2, le4};
 use host_port::{Failed, Host, MemHost};
 use mcount_arcs::{Entered, Gmon, Looked};
 use std::alloc::{AllocError, Global};
@@ -303,5 +304,120 @@ fn a_failed_call_leaves_a_part_that_is_not_the_whole(rt: HostRuntime) -> Result<
         }
     }
     assert!(rt; failures > 0, "some call fails");
+    Ok(())
+}
+
+/// A profile with a counter of 200,000, with 2^33 calls of a pair and none of another, and with 5 and 2^33
+/// executions of basic blocks.
+fn profile_of_large_numbers(alloc: Global) -> Result<Profile, AddRefusal> {
+    let mut counters = Totals::new(alloc);
+    counters.push(200_000)?;
+    counters.push(65_535)?;
+    counters.push(0)?;
+    let hist = Hist {
+        low: 0x1_0000,
+        high: 0x1_000C,
+        counters,
+    };
+    let unit = Unit {
+        rate: 100,
+        dim: *b"seconds\0\0\0\0\0\0\0\0",
+        abbrev: b's',
+    };
+    let mut profile = Profile::new(alloc);
+    profile.add_wide(&hist, unit)?;
+    profile.add_calls(0x1_0000, 0x1_0008, 1 << 33)?;
+    profile.add_calls(0x1_0004, 0x1_0008, 0)?;
+    profile.add_runs(0x1_0000, 5)?;
+    profile.add_runs(0x1_0004, 1 << 33)?;
+    Ok(profile)
+}
+
+/// The tag, the range, the number of counters and the unit of its histograms.
+const RANGE: [u8; 33] = [
+    0, 0, 0, 1, 0, 0x0C, 0, 1, 0, 3, 0, 0, 0, 100, 0, 0, 0, // tag, low, high, number, rate
+    0x73, 0x65, 0x63, 0x6F, 0x6E, 0x64, 0x73, 0, 0, 0, 0, 0, 0, 0, 0, 0x73, // seconds, s
+];
+
+/// Its counters: 200,000 is 3 times 65,535 and 3,395.
+const LAYERS: [[u8; 6]; 4] = [
+    [0xFF, 0xFF, 0xFF, 0xFF, 0, 0],
+    [0xFF, 0xFF, 0, 0, 0, 0],
+    [0xFF, 0xFF, 0, 0, 0, 0],
+    [0x43, 0x0D, 0, 0, 0, 0],
+];
+
+/// Its arcs and its block counts: 2^33 is 2 times 4,294,967,295 and 2.
+const COUNTS: [u8; 99] = [
+    1, 0, 0, 1, 0, 8, 0, 1, 0, 0xFF, 0xFF, 0xFF, 0xFF, // from 0x10000
+    1, 0, 0, 1, 0, 8, 0, 1, 0, 0xFF, 0xFF, 0xFF, 0xFF, //
+    1, 0, 0, 1, 0, 8, 0, 1, 0, 2, 0, 0, 0, //
+    1, 4, 0, 1, 0, 8, 0, 1, 0, 0, 0, 0, 0, // from 0x10004
+    2, 2, 0, 0, 0, 0, 0, 1, 0, 5, 0, 0, 0, 4, 0, 1, 0, 0xFF, 0xFF, 0xFF, 0xFF, // both addresses
+    2, 1, 0, 0, 0, 4, 0, 1, 0, 0xFF, 0xFF, 0xFF, 0xFF, // what is left
+    2, 1, 0, 0, 0, 4, 0, 1, 0, 2, 0, 0, 0, //
+];
+
+/// The file of that profile.
+fn file_of_large_numbers(alloc: Global) -> Result<Vec<u8>, AllocError> {
+    let mut file = [
+        0x67, 0x6D, 0x6F, 0x6E, 1, 0, 0, 0, 0, 0, 0, 0, 0, 0, 0, 0, 0, 0, 0, 0,
+    ]
+    .to_vec(alloc)?;
+    for layer in &LAYERS {
+        file.extend_from_slice(&RANGE)?;
+        file.extend_from_slice(layer)?;
+    }
+    file.extend_from_slice(&COUNTS)?;
+    Ok(file)
+}
+
+#[test]
+fn large_numbers_are_split_over_records(rt: HostRuntime) -> Result<(), Fail> {
+    let profile = profile_of_large_numbers(rt.alloc()).map_err(|_| "a profile")?;
+    let file = file_of_large_numbers(rt.alloc())?;
+    let mut host = MemHost::new(rt.alloc());
+    host.create_output("gmon.out").map_err(|_| "create")?;
+    write(&profile, &mut host).map_err(|_| "write")?;
+    assert_eq!(rt; host.file("gmon.out"), Some(file.as_slice()));
+    Ok(())
+}
+
+#[test]
+fn an_empty_profile_is_a_header(rt: HostRuntime) -> Result<(), Fail> {
+    let profile = Profile::new(rt.alloc());
+    let mut host = MemHost::new(rt.alloc());
+    host.create_output("gmon.out").map_err(|_| "create")?;
+    write(&profile, &mut host).map_err(|_| "write")?;
+    let header: &[u8] = b"gmon\x01\0\0\0\0\0\0\0\0\0\0\0\0\0\0\0";
+    assert_eq!(rt; host.file("gmon.out"), Some(header));
+    Ok(())
+}
+
+#[test]
+fn numbers_are_put_together_again(rt: HostRuntime) -> Result<(), Fail> {
+    let file = file_of_large_numbers(rt.alloc())?;
+    assert!(rt;
+        file.len() == 275,
+        "a header, four histograms, and the counts"
+    );
+    let records = read(rt.alloc(), file.as_slice())?;
+    let (mut samples, mut calls, mut runs) = (0u64, 0u64, 0u64);
+    for rec in records.recs.as_slice() {
+        match rec {
+            Rec::Hist(hist) => {
+                let first = hist.counters.as_slice().first().copied().unwrap_or(0);
+                samples = samples.wrapping_add(u64::from(first));
+            }
+            Rec::Arc(arc) => calls = calls.wrapping_add(u64::from(arc.count)),
+            Rec::Blocks(blocks) => {
+                let last = blocks.as_slice().last().map_or(0, |block| block.count);
+                runs = runs.wrapping_add(u64::from(last));
+            }
+        }
+    }
+    assert_eq!(rt; samples, 200_000);
+    assert_eq!(rt; calls, 1 << 33);
+    assert_eq!(rt; runs, 1 << 33);
     Ok(())
 }

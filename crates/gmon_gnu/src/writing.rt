@@ -63,16 +63,19 @@ fn put_header<H: Host>(
     ensures ready { OnOk result ((H.outside host.new).is_writing ≡ true) }
 {
     out.put(host, &HEADER_AND_TAG)?;
-    out.put(host, &hist_text(sizes, rate))?;
+    out.put(
+        host,
+        &hist_text(sizes.low, sizes.high, sizes.counters, rate),
+    )?;
     out.put(host, &SECONDS)
 }
 
 /// The numbers of a histogram.
-fn hist_text(sizes: Sizes, rate: u32) -> [u8; 16]
-    ensures { result ≡ hist_words sizes.low sizes.high sizes.counters rate }
+pub(crate) fn hist_text(low: u32, high: u32, counters: u32, rate: u32) -> [u8; 16]
+    ensures { result ≡ hist_words low high counters rate }
 {
     let mut bytes = [0; 16];
-    LittleEndian::write_u32_into(&[sizes.low, sizes.high, sizes.counters, rate], &mut bytes);
+    LittleEndian::write_u32_into(&[low, high, counters, rate], &mut bytes);
     bytes
 }
 
@@ -98,7 +101,7 @@ fn put_arcs<H: Host>(gmon: &Gmon, out: &mut OutBuf, host: &mut H) -> Result<(), 
     Ok(())
 }
 
-fn put_arc<H: Host>(arc: RawArc, out: &mut OutBuf, host: &mut H) -> Result<(), Failed>
+pub(crate) fn put_arc<H: Host>(arc: RawArc, out: &mut OutBuf, host: &mut H) -> Result<(), Failed>
     requires { (H.outside host.old).is_writing ≡ true }
     ensures adds { Adds File (tagged_arc arc) out.old out.new (H.outside host.old) (H.outside host.new) result }
     ensures ready { OnOk result ((H.outside host.new).is_writing ≡ true) }

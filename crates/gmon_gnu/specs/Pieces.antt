@@ -1,0 +1,31 @@
+-- The bytes of a profile's pieces, as they are written one after the other.
+use Rattle.std.specs.Prelude.{ℕ, List, [], ◌∷◌, ◌++◌, length, map, if◌then◌else◌}
+use Rattle.std.specs.List.{flat_map, range_with_len}
+use Rattle.gp_base.specs.declared.records.Unit as units
+use Rattle.gp_base.specs.Bytes.{le}
+use Rattle.gmon_data.specs.declared.hist.Hist.{Hist}
+use Rattle.gmon_gnu.specs.Fields.{magic, version, spare_bytes, block_bytes}
+use Rattle.gmon_gnu.specs.Grammar.{hist_bytes, rec_bytes, blocks_bytes}
+use Rattle.gmon_gnu.specs.Run.{hist_words}
+use Rattle.gmon_gnu.specs.Splitting.{most_samples, most_calls, piece, pieces_of, largest, layer_of, raw_hist, arc_piece, arc_rec, has_left, raw_block, round_of}
+
+-- the header, with its spare bytes
+abbrev pub header : List ℕ
+header = magic ++ (le version 4 ++ spare_bytes)
+
+-- a histogram's tag and fields up to its counters
+abbrev pub layer_header : units.Unit → Hist → List ℕ
+layer_header u h = 0 ∷ (hist_words h.low h.high (length h.counters) u.rate ++ (u.dim ++ u.«abbrev» ∷ []))
+
+abbrev pub layers_text : units.Unit → Hist → List ℕ
+layers_text u h = flat_map (λ j. hist_bytes (raw_hist u (layer_of h j))) (range_with_len 0 (pieces_of most_samples (largest h.counters)))
+
+abbrev pub arc_text_of : (ℕ × ℕ) × ℕ → List ℕ
+arc_text_of e = flat_map (λ j. rec_bytes (arc_rec (arc_piece e j))) (range_with_len 0 (pieces_of most_calls e.1))
+
+-- nothing where nothing is left
+abbrev pub left_bytes : ℕ → ℕ × ℕ → List ℕ
+left_bytes j e = if has_left j e.1 then block_bytes (raw_block (e.0, piece most_calls j e.1)) else []
+
+abbrev pub rounds_text : ℕ → List (ℕ × ℕ) → List ℕ
+rounds_text rounds blocks = flat_map (λ j. blocks_bytes (map raw_block (round_of blocks j))) (range_with_len 0 rounds)

@@ -1,0 +1,290 @@
+//! Writing the file of a profile.
+
+ghost use Rattle.std.specs.Prelude.{◌≡◌, ◌*◌, ◌-◌, ◌^◌, ◌<◌, true, length, map, OnOk, unwrap_or};
+ghost use Rattle.std.specs.List.{flat_map};
+ghost use Rattle.host_port.specs.Buffered.{Adds};
+ghost use Rattle.host_port.specs.Host.{Puts};
+ghost use Rattle.host_port.specs.declared.side.Side.TheVariants.{File};
+ghost use Rattle.gmon_gnu.specs.Fields.{counter_bytes};
+ghost use Rattle.gmon_gnu.specs.Grammar.{rec_bytes, hist_bytes, blocks_bytes};
+ghost use Rattle.gmon_gnu.specs.ProfileText.{profile_text};
+ghost use Rattle.gmon_gnu.specs.Splitting.{piece as spec_piece, largest as spec_largest, layer_of, raw_hist, hist_recs, arc_rec, arc_pieces, raw_block, blocks_rec, round_of, rounds_of};
+ghost use Rattle.gmon_gnu.specs.Pieces.{layer_header, layers_text, arc_text_of, left_bytes, rounds_text};
+
+use crate::splitting::{MOST_CALLS, MOST_SAMPLES, has_left, largest, piece, pieces};
+use crate::writing::{hist_text, put_arc};
+use gmon_data::{Hist, Profile};
+use gp_base::{RawArc, Unit, le2, le4};
+use host_port::{Failed, Host, OutBuf};
+
+/// The header with its spare bytes.
+const HEADER: [u8; 20] = *b"gmon\x01\0\0\0\0\0\0\0\0\0\0\0\0\0\0\0";
+
+/// The tag of a histogram.
+const HIST_TAG: u8 = 0;
+
+/// The tag of counts of basic blocks.
+const BLOCKS_TAG: u8 = 2;
+
+/// Writes a profile to the file that is being written: the header, its histograms, its arcs and its block
+/// counts, each in the profile's order. A counter above 65,535 is split over histograms of the same range,
+/// calls and executions above 4,294,967,295 over several records. After `Failed` a prefix of that text was
+/// written, and not the whole. Takes no memory.
+pub fn write<H: Host>(profile: &Profile, host: &mut H) -> Result<(), Failed>
+    requires { (H.outside host.old).is_writing ≡ true }
+    ensures { Puts File (profile_text profile.now) (H.outside host.old) (H.outside host.new) result }
+{
+    let mut out = OutBuf::new();
+    put_profile(profile, &mut out, host)?;
+    out.flush(host)
+}
+
+fn put_profile<H: Host>(profile: &Profile, out: &mut OutBuf, host: &mut H) -> Result<(), Failed>
+    requires { (H.outside host.old).is_writing ≡ true }
+    ensures adds { Adds File (profile_text profile.now) out.old out.new (H.outside host.old) (H.outside host.new) result }
+    ensures ready { OnOk result ((H.outside host.new).is_writing ≡ true) }
+{
+    out.put(host, &HEADER)?;
+    put_hists(profile, out, host)?;
+    put_calls(profile, out, host)?;
+    put_runs(profile, out, host)
+}
+
+fn put_hists<H: Host>(profile: &Profile, out: &mut OutBuf, host: &mut H) -> Result<(), Failed>
+    requires { (H.outside host.old).is_writing ≡ true }
+    ensures adds { Adds File (flat_map rec_bytes (hist_recs profile.now.«unit» profile.now.hists)) out.old out.new (H.outside host.old) (H.outside host.new) result }
+    ensures ready { OnOk result ((H.outside host.new).is_writing ≡ true) }
+{
+    match profile.unit() {
+        None => Ok(()),
+        Some(unit) => put_hists_in(unit, profile, out, host),
+    }
+}
+
+fn put_hists_in<H: Host>(
+    unit: Unit,
+    profile: &Profile,
+    out: &mut OutBuf,
+    host: &mut H,
+) -> Result<(), Failed>
+    requires { (H.outside host.old).is_writing ≡ true }
+    ensures adds { Adds File (flat_map (layers_text «unit») profile.now.hists) out.old out.new (H.outside host.old) (H.outside host.new) result }
+    ensures ready { OnOk result ((H.outside host.new).is_writing ≡ true) }
+{
+    for i in 0..profile.hist_count() {
+        put_layers(profile.hist(i), unit, out, host)?;
+    }
+    Ok(())
+}
+
+/// A histogram, as many times as its largest counter has pieces.
+fn put_layers<H: Host>(
+    hist: &Hist,
+    unit: Unit,
+    out: &mut OutBuf,
+    host: &mut H,
+) -> Result<(), Failed>
+    requires few { length hist.now.counters < 2 ^ 32 }
+    requires ready { (H.outside host.old).is_writing ≡ true }
+    ensures adds { Adds File (layers_text «unit» hist.now) out.old out.new (H.outside host.old) (H.outside host.new) result }
+    ensures ready { OnOk result ((H.outside host.new).is_writing ≡ true) }
+{
+    for j in 0..pieces(MOST_SAMPLES, largest(hist.counters.as_slice())) {
+        put_layer(j, hist, unit, out, host)?;
+    }
+    Ok(())
+}
+
+/// A histogram with piece `j` of each counter.
+fn put_layer<H: Host>(
+    j: u64,
+    hist: &Hist,
+    unit: Unit,
+    out: &mut OutBuf,
+    host: &mut H,
+) -> Result<(), Failed>
+    requires few { length hist.now.counters < 2 ^ 32 }
+    requires within { j * 65535 < 2 ^ 64 }
+    requires ready { (H.outside host.old).is_writing ≡ true }
+    ensures adds { Adds File (hist_bytes (raw_hist «unit» (layer_of hist.now j))) out.old out.new (H.outside host.old) (H.outside host.new) result }
+    ensures ready { OnOk result ((H.outside host.new).is_writing ≡ true) }
+{
+    put_layer_header(hist, unit, out, host)?;
+    put_counters(j, hist.counters.as_slice(), out, host)
+}
+
+fn put_layer_header<H: Host>(
+    hist: &Hist,
+    unit: Unit,
+    out: &mut OutBuf,
+    host: &mut H,
+) -> Result<(), Failed>
+    requires few { length hist.now.counters < 2 ^ 32 }
+    requires ready { (H.outside host.old).is_writing ≡ true }
+    ensures adds { Adds File (layer_header «unit» hist.now) out.old out.new (H.outside host.old) (H.outside host.new) result }
+    ensures ready { OnOk result ((H.outside host.new).is_writing ≡ true) }
+{
+    let counters = hist.counters.as_slice().len() as u32;
+    out.put(host, &[HIST_TAG])?;
+    out.put(host, &hist_text(hist.low, hist.high, counters, unit.rate))?;
+    out.put(host, &unit.dim)?;
+    out.put(host, &[unit.abbrev])
+}
+
+/// Piece `j` of each counter.
+fn put_counters<H: Host>(
+    j: u64,
+    counters: &[u64],
+    out: &mut OutBuf,
+    host: &mut H,
+) -> Result<(), Failed>
+    requires within { j * 65535 < 2 ^ 64 }
+    requires ready { (H.outside host.old).is_writing ≡ true }
+    ensures adds { Adds File (flat_map (λ n. counter_bytes (spec_piece 65535 j n)) counters.now) out.old out.new (H.outside host.old) (H.outside host.new) result }
+    ensures ready { OnOk result ((H.outside host.new).is_writing ≡ true) }
+{
+    for i in 0..counters.len() {
+        out.put(host, &le2(piece(MOST_SAMPLES, j, counters[i]) as u16))?;
+    }
+    Ok(())
+}
+
+fn put_calls<H: Host>(profile: &Profile, out: &mut OutBuf, host: &mut H) -> Result<(), Failed>
+    requires { (H.outside host.old).is_writing ≡ true }
+    ensures adds { Adds File (flat_map arc_text_of profile.now.arcs) out.old out.new (H.outside host.old) (H.outside host.new) result }
+    ensures ready { OnOk result ((H.outside host.new).is_writing ≡ true) }
+{
+    for i in 0..profile.arc_count() {
+        let (from, to, calls) = profile.arc(i);
+        put_pair(from, to, calls, out, host)?;
+    }
+    Ok(())
+}
+
+/// The calls of a pair, in arcs of as many as four bytes hold.
+fn put_pair<H: Host>(
+    from: u32,
+    to: u32,
+    calls: u64,
+    out: &mut OutBuf,
+    host: &mut H,
+) -> Result<(), Failed>
+    requires { (H.outside host.old).is_writing ≡ true }
+    ensures adds { Adds File (arc_text_of ((from, to), calls)) out.old out.new (H.outside host.old) (H.outside host.new) result }
+    ensures ready { OnOk result ((H.outside host.new).is_writing ≡ true) }
+{
+    for j in 0..pieces(MOST_CALLS, calls) {
+        let count = piece(MOST_CALLS, j, calls) as u32;
+        put_arc(RawArc { from, to, count }, out, host)?;
+    }
+    Ok(())
+}
+
+fn put_runs<H: Host>(profile: &Profile, out: &mut OutBuf, host: &mut H) -> Result<(), Failed>
+    requires { (H.outside host.old).is_writing ≡ true }
+    ensures adds { Adds File (flat_map (λ es. blocks_bytes (map raw_block es)) (rounds_of profile.now.blocks)) out.old out.new (H.outside host.old) (H.outside host.new) result }
+    ensures ready { OnOk result ((H.outside host.new).is_writing ≡ true) }
+{
+    if profile.block_count() == 0 {
+        return Ok(());
+    }
+    put_rounds(pieces(MOST_CALLS, largest_run(profile)), profile, out, host)
+}
+
+/// The counts of basic blocks in so many rounds.
+fn put_rounds<H: Host>(
+    rounds: u64,
+    profile: &Profile,
+    out: &mut OutBuf,
+    host: &mut H,
+) -> Result<(), Failed>
+    requires within { (rounds - 1) * 4294967295 < 2 ^ 64 }
+    requires ready { (H.outside host.old).is_writing ≡ true }
+    ensures adds { Adds File (rounds_text rounds profile.now.blocks) out.old out.new (H.outside host.old) (H.outside host.new) result }
+    ensures ready { OnOk result ((H.outside host.new).is_writing ≡ true) }
+{
+    for j in 0..rounds {
+        put_round(j, profile, out, host)?;
+    }
+    Ok(())
+}
+
+/// The addresses that have something left for round `j`, with their piece.
+fn put_round<H: Host>(
+    j: u64,
+    profile: &Profile,
+    out: &mut OutBuf,
+    host: &mut H,
+) -> Result<(), Failed>
+    requires within { j * 4294967295 < 2 ^ 64 }
+    requires ready { (H.outside host.old).is_writing ≡ true }
+    ensures adds { Adds File (blocks_bytes (map raw_block (round_of profile.now.blocks j))) out.old out.new (H.outside host.old) (H.outside host.new) result }
+    ensures ready { OnOk result ((H.outside host.new).is_writing ≡ true) }
+{
+    out.put(host, &[BLOCKS_TAG])?;
+    out.put(host, &le4(count_left(j, profile)))?;
+    put_left(j, profile, out, host)
+}
+
+/// How many addresses have something left for round `j`.
+fn count_left(j: u64, profile: &Profile) -> u32
+    requires { j * 4294967295 < 2 ^ 64 }
+    ensures { result ≡ length (round_of profile.now.blocks j) }
+{
+    let mut left = 0;
+    for i in 0..profile.block_count() {
+        let (_, runs) = profile.block(i);
+        left += u32::from(has_left(j, runs));
+    }
+    left
+}
+
+fn put_left<H: Host>(
+    j: u64,
+    profile: &Profile,
+    out: &mut OutBuf,
+    host: &mut H,
+) -> Result<(), Failed>
+    requires within { j * 4294967295 < 2 ^ 64 }
+    requires ready { (H.outside host.old).is_writing ≡ true }
+    ensures adds { Adds File (flat_map (left_bytes j) profile.now.blocks) out.old out.new (H.outside host.old) (H.outside host.new) result }
+    ensures ready { OnOk result ((H.outside host.new).is_writing ≡ true) }
+{
+    for i in 0..profile.block_count() {
+        let (addr, runs) = profile.block(i);
+        put_block(j, addr, runs, out, host)?;
+    }
+    Ok(())
+}
+
+/// The piece of an address for round `j`, if something is left.
+fn put_block<H: Host>(
+    j: u64,
+    addr: u32,
+    runs: u64,
+    out: &mut OutBuf,
+    host: &mut H,
+) -> Result<(), Failed>
+    requires within { j * 4294967295 < 2 ^ 64 }
+    requires ready { (H.outside host.old).is_writing ≡ true }
+    ensures adds { Adds File (left_bytes j (addr, runs)) out.old out.new (H.outside host.old) (H.outside host.new) result }
+    ensures ready { OnOk result ((H.outside host.new).is_writing ≡ true) }
+{
+    if !has_left(j, runs) {
+        return Ok(());
+    }
+    out.put(host, &le4(addr))?;
+    out.put(host, &le4(piece(MOST_CALLS, j, runs) as u32))
+}
+
+/// The largest number of executions of a basic block, or 0.
+fn largest_run(profile: &Profile) -> u64
+    ensures { result ≡ spec_largest (map (λ e. e.1) profile.now.blocks) }
+{
+    let mut most = 0;
+    for i in 0..profile.block_count() {
+        let (_, runs) = profile.block(i);
+        most = most.max(runs);
+    }
+    most
+}
