@@ -1,0 +1,4 @@
+pub mod BucketLemmas
+pub mod OrderLemmas
+pub mod SumLemmas
+pub mod WalkLemmas
