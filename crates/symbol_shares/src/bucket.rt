@@ -8,7 +8,7 @@ use elf32_syms::Symbol;
 use gmon_data::Hist;
 
 /// Grains of a sample.
-const GRAINS: u128 = 1_000_000;
+pub(crate) const GRAINS: u128 = 1_000_000;
 
 /// The addresses of all buckets.
 fn width(hist: &Hist) -> u32

@@ -8,6 +8,7 @@ use std::marker::Model;
 /// The grains of each symbol, and of none.
 #[derive(Drop)]
 pub struct Shares {
+    function_count: u32,
     of: Vec<u128>,
     attributed: u128,
     outside: u128,
@@ -21,18 +22,24 @@ impl Model for Shares {
 
     ghost view = { λ a. record { of = a.of.items; outside = a.outside } };
 
-    ghost invariant = { λ a. (a.attributed ≡ sum a.of.items) × (length a.of.items < 2 ^ 32) × (a.attributed + a.outside < 2 ^ 65) };
+    ghost invariant = { λ a. (a.function_count ≡ length a.of.items) × (a.attributed ≡ sum a.of.items) × (a.attributed + a.outside < 2 ^ 65) };
 }
 
 impl Shares {
-    /// The shares of which the symbols have `attributed`.
-    pub(crate) fn new(of: Vec<u128>, attributed: u128, outside: u128) -> Shares
+    /// The shares of so many symbols, which have `attributed` together.
+    pub(crate) fn new(
+        function_count: u32,
+        of: Vec<u128>,
+        attributed: u128,
+        outside: u128,
+    ) -> Shares
+        requires count { function_count ≡ length of.items }
         requires sum { attributed ≡ sum of.items }
-        requires few { length of.items < 2 ^ 32 }
         requires within { attributed + outside < 2 ^ 65 }
         ensures { result ≡ record { of = of.items; outside = outside } }
     {
         Shares {
+            function_count,
             of,
             attributed,
             outside,
@@ -43,7 +50,7 @@ impl Shares {
     pub fn function_count(&self) -> u32
         ensures { result ≡ length self.now.of }
     {
-        self.of.len() as u32
+        self.function_count
     }
 
     /// The grains of symbol `f`.

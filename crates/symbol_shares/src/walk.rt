@@ -6,7 +6,7 @@ ghost use Rattle.elf32_syms.specs.Owners.{IsAscending};
 ghost use Rattle.gmon_data.specs.Hists.{IsKept, pointwise_sum, samples_of};
 ghost use Rattle.symbol_shares.specs.Shares.{attributed_of, bucket_begin, share_in_hist, share_of_bucket as bucket_share_of, shares_of};
 
-use crate::bucket::{is_above, share_of_bucket};
+use crate::bucket::{GRAINS, is_above, share_of_bucket};
 use crate::table::Shares;
 use elf32_syms::Symbol;
 use gmon_data::{Hist, Profile};
@@ -87,6 +87,26 @@ fn total(numbers: &[u128]) -> u128
     total
 }
 
+/// The number of symbols of which the last has this place, below its end.
+fn count_to(last: usize, end: u32) -> u32
+    requires { last < end }
+    ensures { result ≡ last + 1 }
+{
+    last as u32 + 1
+}
+
+/// The number of symbols.
+fn count(symbols: &[Symbol]) -> u32
+    requires { IsAscending symbols.now }
+    ensures { result ≡ length symbols.now }
+{
+    if symbols.is_empty() {
+        return 0;
+    }
+    let last = symbols.len() - 1;
+    count_to(last, symbols[last].end)
+}
+
 /// What each symbol gets of a profile's histograms, and what is left. The symbols are in order, as
 /// those of an image are.
 ///
@@ -104,7 +124,8 @@ pub fn shares(
     ensures within { IfOk result (λ s. attributed_of s < 2 ^ 65) }
 {
     let of = shares_of_symbols(alloc, profile, symbols)?;
+    let grains = u128::from(profile.samples()) * GRAINS;
     let attributed = total(of.as_slice());
-    let outside = u128::from(profile.samples()) * 1_000_000 - attributed;
-    Ok(Shares::new(of, attributed, outside))
+    let outside = grains - attributed;
+    Ok(Shares::new(count(symbols), of, attributed, outside))
 }

@@ -1,4 +1,4 @@
-use Rattle.std.proofs.Common.{◌≡◌, ◌≤◌, length, ap, sym, refl, ◌∙◌, arith}
+use Rattle.std.proofs.Common.{◌≡◌, ◌≤◌, [], replicate, length, ap, sym, refl, ◌∙◌, arith, rules}
 use Rattle.gmon_data.specs.declared.hist.Hist.{Hist}
 use Rattle.gmon_data.specs.Hists.{IsKept}
 use Rattle.symbol_shares.specs.Shares.{share_of}
@@ -11,7 +11,7 @@ pub loop-k-init : goal.loop-k-init
 loop-k-init c =
     record {
       inside = omega arith;
-      added = ?;
+      added = (let items : c.in_ok-of.of.items ≡ replicate (length c.args.symbols.now) 0 = search rules in items) ∙ zeros (share_of []) c.args.symbols.now (λ s. refl);
       ended = λ j h from at k d below. absurd (omega arith);
     }
 
@@ -30,6 +30,6 @@ pub loop-k-preserved : goal.loop-k-preserved
 loop-k-preserved c =
     record {
       inside = c.add_hist-from.ensures.inside;
-      added = written-back c.add_hist-from.new.of c.loop-k.of.items c.loop-k.of.len ? ∙ hist-added c.args.profile.now.hists c.loop-k.k c.hist.result.now c.args.symbols.now c.as_mut_slice.result.now c.add_hist-from.new.of c.hist.ensures (c.as_mut_slice.ensures.value ∙ c.loop-k.invariant.added) c.add_hist-from.ensures.added;
+      added = written-back c.add_hist-from.new.of c.loop-k.of.items c.loop-k.of.len (omega (arith, c.add_hist-from.auto.of, c.as_mut_slice.ensures.len)) ∙ hist-added c.args.profile.now.hists c.loop-k.k c.hist.result.now c.args.symbols.now c.as_mut_slice.result.now c.add_hist-from.new.of c.hist.ensures (c.as_mut_slice.ensures.value ∙ c.loop-k.invariant.added) c.add_hist-from.ensures.added;
       ended = λ j next from at. hist-passed c.args.profile.now.hists c.args.symbols.now c.loop-k.k j c.add_hist-from.result c.hist.result.now next c.hist_count-k-end.ensures.profile.apart (omega (arith, from)) c.hist.ensures at c.add_hist-from.ensures.ended;
     }
