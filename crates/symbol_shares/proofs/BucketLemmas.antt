@@ -1,5 +1,5 @@
 -- The grains of one bucket: none below it, all above it, and more from address to address.
-use Rattle.std.proofs.Common.{◌≡◌, ℕ, zero, suc, ◌+◌, ◌-◌, ◌*◌, ◌/◌, ◌<◌, ◌≤◌, min, List, length, get_or, ap, ◌∙◌, arith}
+use Rattle.std.proofs.Common.{◌≡◌, ℕ, ◌+◌, ◌-◌, ◌*◌, ◌/◌, ◌<◌, ◌≤◌, min, length, get_or, ap, ◌∙◌, arith}
 use Rattle.std.proofs.Math.Nat.{zero-div, mul-div_left, div-mul-le_self, div-le_of_le-mul, mul-le-mul_left, mul-le-mul_right, min-le_left}
 use Rattle.std.proofs.lemmas.Nat.{le-div}
 use Rattle.gmon_data.specs.declared.hist.Hist.{Hist}

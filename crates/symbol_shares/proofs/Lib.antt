@@ -2,3 +2,4 @@ pub mod BucketLemmas
 pub mod OrderLemmas
 pub mod SumLemmas
 pub mod WalkLemmas
+pub mod ProfileLemmas

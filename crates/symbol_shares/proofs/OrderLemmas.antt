@@ -1,6 +1,6 @@
 -- Symbols and histograms in order.
-use Rattle.std.proofs.Common.{◌≡◌, ℕ, zero, suc, ◌+◌, ◌<◌, ◌≤◌, List, [], ◌∷◌, length, get_or, Some, slice_get, subst, refl, sym, ap, ◌∙◌, arith, ⊎_elim}
-use Rattle.std.specs.List.{All, AllByRecursion}
+use Rattle.std.proofs.Common.{◌≡◌, ℕ, zero, suc, ◌+◌, ◌<◌, ◌≤◌, List, [], ◌∷◌, length, get_or, Some, slice_get, subst, arith, ⊎_elim}
+use Rattle.std.specs.List.{AllByRecursion}
 use Rattle.std.proofs.lemmas.Bool.{cases_lt}
 use Rattle.gmon_data.specs.declared.hist.Hist.{Hist}
 use Rattle.gmon_data.specs.Hists.{IsApart}
@@ -15,10 +15,10 @@ ends-below symbols h k (suc j) d less below =
     let next = rw one at (h.apart j d (omega arith)) in
     let each = h.each j d (omega arith) in
     ⊎_elim
-      (λ (before : k < j). let e = ends-below symbols h k j d before (omega arith) in
-        let g : (get_or symbols k d).end ≤ (get_or symbols (suc j) d).addr = omega (arith, e, next, each) in g)
-      (λ (here : j ≤ k). let same : k ≡ j = omega arith in rw same next)
-      (cases_lt k j)
+    (λ (before : k < j). let e = ends-below symbols h k j d before (omega arith) in
+    let g : (get_or symbols k d).end ≤ (get_or symbols (suc j) d).addr = omega (arith, e, next, each) in g)
+    (λ (here : j ≤ k). let same : k ≡ j = omega arith in rw same next)
+    (cases_lt k j)
 
 -- a symbol's place is below its end
 pub place-below-end : (symbols : List Symbol) → IsAscending symbols → (i : ℕ) (d : Symbol) → i < length symbols → i < (get_or symbols i d).end

@@ -1,16 +1,16 @@
 -- Sums of shares over symbols, buckets and histograms.
-use Rattle.std.proofs.Common.{◌≡◌, ℕ, zero, suc, ◌+◌, ◌-◌, ◌*◌, ◌<◌, ◌≤◌, List, [], ◌∷◌, ◌++◌, length, map, take, sum, get_or, replicate, refl, sym, ap, ◌∙◌, add-one, arith}
+use Rattle.std.proofs.Common.{◌≡◌, ℕ, zero, suc, ◌+◌, ◌-◌, ◌*◌, ◌<◌, ◌≤◌, List, [], ◌∷◌, ◌++◌, length, map, take, sum, get_or, replicate, refl, sym, ap, ◌∙◌, arith}
 use Rattle.std.specs.List.{All, AllByRecursion, sum_by, range_with_len}
 use Rattle.std.proofs.lemmas.List.{map-id, take_all}
 use Rattle.std.proofs.lemmas.List.FromFn.{map-range_with_len_more}
-use Rattle.std.proofs.lemmas.List.Sums.{sum_by-cons, sum_by_push, sum_by_more, sum-map}
+use Rattle.std.proofs.lemmas.List.Sums.{sum_by-cons, sum_by_push, sum_by_more}
 use Rattle.std.proofs.lemmas.List.Elements.{All-head, All-tail}
 use Rattle.gmon_data.specs.declared.hist.Hist.{Hist}
 use Rattle.gmon_data.specs.Hists.{IsKept, pointwise_sum, samples_of}
 use Rattle.gmon_data.proofs.CounterLemmas.{sum-none}
 use Rattle.elf32_syms.specs.declared.image.Symbol.{Symbol}
 use Rattle.elf32_syms.specs.Owners.{IsAscending}
-use Rattle.symbol_shares.specs.Shares.{bucket_begin, grains_up_to, share_of_bucket, share_of_buckets, share_in_hist, share_of}
+use Rattle.symbol_shares.specs.Shares.{grains_up_to, share_of_bucket, share_of_buckets, share_in_hist, share_of}
 use Rattle.symbol_shares.proofs.BucketLemmas.{grains-rise, grains-within}
 use Rattle.symbol_shares.proofs.OrderLemmas.{ascending-tail}
 

@@ -1,8 +1,7 @@
 -- One bucket's walk over the symbols.
-use Rattle.std.proofs.Common.{◌≡◌, ℕ, zero, suc, ◌+◌, ◌-◌, ◌*◌, ◌<◌, ◌≤◌, List, [], ◌∷◌, ◌++◌, Some, slice_get, length, drop, get_or, map, set, take, sum, sym, ap, ◌∙◌, add-one, subst, arith, ⊎_elim}
+use Rattle.std.proofs.Common.{◌≡◌, ℕ, zero, suc, ◌+◌, ◌-◌, ◌*◌, ◌<◌, ◌≤◌, List, [], ◌∷◌, ◌++◌, Some, slice_get, length, drop, get_or, map, set, take, sum, sym, ap, ◌∙◌, add-one, subst, arith}
 use Rattle.std.specs.List.{All, AllByRecursion, sum_by}
 use Rattle.std.proofs.Math.Nat.{mul-le-mul_right, le_of_mul-le-mul_left}
-use Rattle.std.proofs.lemmas.Bool.{cases_lt}
 use Rattle.std.proofs.lemmas.List.{get_or-map, length-map, get_or_read, take_at}
 use Rattle.std.proofs.lemmas.List.Sums.{get_or-le-sum_by, sum-map, sum_by_more_le}
 use Rattle.std.proofs.lemmas.List.Elements.{All-take, All-more}
@@ -27,7 +26,7 @@ module _ (h : Hist) (i : ℕ) (symbols : List Symbol) (ns : List ℕ) (same : le
   pub begun-added : (k : ℕ) → HaveEnded symbols k (length h.counters) (bucket_begin h i) → ns ≡ pointwise_sum ns (take k (map (share_of_bucket h i) symbols))
   begun-added k ended =
       sym (none-in-front (share_of_bucket h i) ns symbols k same (λ j d below.
-          share-below h i (get_or (take k symbols) j d) (All-take (λ (s : Symbol). s.addr < s.end) k symbols ascending.each j d below) (ended j d below)))
+      share-below h i (get_or (take k symbols) j d) (All-take (λ (s : Symbol). s.addr < s.end) k symbols ascending.each j d below) (ended j d below)))
 
   pub more-added : (k n : ℕ) (s : Symbol) (of : List ℕ) → k < length symbols → s ≡ get_or symbols k s → of ≡ pointwise_sum ns (take k (map (share_of_bucket h i) symbols)) → n ≡ share_of_bucket h i s
       → set of k (get_or of k 0 + n) ≡ pointwise_sum ns (take (k + 1) (map (share_of_bucket h i) symbols))
@@ -46,11 +45,11 @@ module _ (h : Hist) (i : ℕ) (symbols : List Symbol) (ns : List ℕ) (same : le
       → pointwise_sum ns (take (k + 1) (map (share_of_bucket h i) symbols)) ≡ pointwise_sum ns (map (share_of_bucket h i) symbols)
   ended-added k s below is above =
       none-behind (share_of_bucket h i) ns symbols (k + 1) same (λ j d from within.
-          let before = ends-below symbols ascending k j d (omega (arith, from)) within in
-          let here : s.end ≡ (get_or symbols k d).end = ap (λ (s : Symbol). s.end) (get_or_read symbols k s below is d) in
-          let rise : s.end ≤ (get_or symbols j d).addr = omega (arith, before, here) in
-          let product = mul-le-mul_right (length h.counters) rise in
-          share-above h i (get_or symbols j d) (ascending.each j d within) range (omega (arith, product, above)))
+      let before = ends-below symbols ascending k j d (omega (arith, from)) within in
+      let here : s.end ≡ (get_or symbols k d).end = ap (λ (s : Symbol). s.end) (get_or_read symbols k s below is d) in
+      let rise : s.end ≤ (get_or symbols j d).addr = omega (arith, before, here) in
+      let product = mul-le-mul_right (length h.counters) rise in
+      share-above h i (get_or symbols j d) (ascending.each j d within) range (omega (arith, product, above)))
 
 pub fits-more : (h : Hist) (i k n : ℕ) (s : Symbol) (parts ns of : List ℕ) (most : ℕ) → k < length ns → of ≡ pointwise_sum ns (take k parts) → n ≡ share_of_bucket h i s → sum ns + 1000000 * get_or h.counters i 0 < most → get_or of k 0 + n < most
 fits-more h i k n s parts ns of most below added share fits =

@@ -27,12 +27,7 @@ impl Model for Shares {
 
 impl Shares {
     /// The shares of so many symbols, which have `attributed` together.
-    pub(crate) fn new(
-        function_count: u32,
-        of: Vec<u128>,
-        attributed: u128,
-        outside: u128,
-    ) -> Shares
+    pub(crate) fn new(function_count: u32, of: Vec<u128>, attributed: u128, outside: u128) -> Shares
         requires count { function_count ≡ length of.items }
         requires sum { attributed ≡ sum of.items }
         requires within { attributed + outside < 2 ^ 65 }

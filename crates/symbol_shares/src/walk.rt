@@ -113,11 +113,7 @@ fn count(symbols: &[Symbol]) -> u32
 /// A bucket reaches from `low + i * width / n` to `low + (i + 1) * width / n`, where `width` is
 /// `high - low` and `n` the number of counters; these bounds are fractions. Up to an address `x`
 /// within it, it has `floor(count * 1,000,000 * (x * n - low * n - i * width) / width)` grains.
-pub fn shares(
-    alloc: Global,
-    profile: &Profile,
-    symbols: &[Symbol],
-) -> Result<Shares, AllocError>
+pub fn shares(alloc: Global, profile: &Profile, symbols: &[Symbol]) -> Result<Shares, AllocError>
     requires { IsAscending symbols.now }
     ensures shares { IfOk result (λ s. s ≡ shares_of profile.now.hists symbols.now) }
     ensures whole { IfOk result (λ s. attributed_of s + s.outside ≡ 1000000 * samples_of profile.now.hists) }

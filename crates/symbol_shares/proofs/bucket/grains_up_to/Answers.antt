@@ -1,5 +1,5 @@
 use Rattle.std.proofs.Common.{◌≡◌, ◌+◌, ◌-◌, ◌*◌, ◌≤◌, ◌<◌, ◌^◌, length, get_or, sym, ap, ◌∙◌, arith, rules}
-use Rattle.symbol_shares.specs.Shares.{bucket_begin, grains_up_to}
+use Rattle.symbol_shares.specs.Shares.{bucket_begin}
 use Rattle.std.proofs.lemmas.Nat.{mul-lt}
 use Rattle.symbol_shares.proofs.BucketLemmas.{grains-none, grains-all, grains-inside}
 use Rattle.symbol_shares.proofs.bucket.grains_up_to.Goals as goal

@@ -1,5 +1,4 @@
-use Rattle.std.proofs.Common.{◌≡◌, ◌≤◌, arith}
-use Rattle.symbol_shares.specs.Shares.{grains_up_to}
+use Rattle.std.proofs.Common.{arith}
 use Rattle.symbol_shares.proofs.BucketLemmas.{grains-rise}
 use Rattle.symbol_shares.proofs.bucket.share_of_bucket.Goals as goal
 

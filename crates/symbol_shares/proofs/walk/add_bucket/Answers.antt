@@ -1,4 +1,4 @@
-use Rattle.std.proofs.Common.{◌≡◌, ◌+◌, ◌*◌, ◌<◌, ◌≤◌, length, map, ◌∙◌, arith, rules}
+use Rattle.std.proofs.Common.{◌+◌, ◌*◌, ◌<◌, ◌≤◌, length, map, ◌∙◌, arith, rules}
 use Rattle.symbol_shares.specs.Shares.{bucket_begin, share_of_bucket}
 use Rattle.symbol_shares.proofs.WalkLemmas.{begun-added, more-added, ended-added, fits-more, ended-more, ended-later}
 use Rattle.symbol_shares.proofs.walk.add_bucket.Goals as goal

@@ -25,9 +25,9 @@ loop-i-preserved c =
     record {
       inside = c.add_bucket-from.ensures.inside;
       added =
-        c.add_bucket-from.ensures.added
-        ∙ ap (λ l. pointwise_sum l (map (share_of_bucket h i) c.args.symbols.now)) c.loop-i.invariant.added
-        ∙ added-twice c.args.of.now (share_of_buckets h i) (share_of_bucket h i) (share_of_buckets h (i + 1)) c.args.symbols.now (buckets-more h i);
+          c.add_bucket-from.ensures.added
+          ∙ ap (λ l. pointwise_sum l (map (share_of_bucket h i) c.args.symbols.now)) c.loop-i.invariant.added
+          ∙ added-twice c.args.of.now (share_of_buckets h i) (share_of_bucket h i) (share_of_buckets h (i + 1)) c.args.symbols.now (buckets-more h i);
       ended = c.add_bucket-from.ensures.ended;
     }
 

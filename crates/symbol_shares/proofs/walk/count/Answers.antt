@@ -1,4 +1,4 @@
-use Rattle.std.proofs.Common.{◌≡◌, ◌-◌, ◌<◌, length, arith, rules}
+use Rattle.std.proofs.Common.{◌-◌, ◌<◌, length, arith}
 use Rattle.symbol_shares.proofs.OrderLemmas.{place-below-end}
 use Rattle.symbol_shares.proofs.walk.count.Goals as goal
 

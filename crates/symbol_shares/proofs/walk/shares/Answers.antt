@@ -1,7 +1,6 @@
-use Rattle.std.proofs.Common.{◌≡◌, ◌+◌, ◌*◌, ◌≤◌, length, map, sum, ap, ◌∙◌, arith}
+use Rattle.std.proofs.Common.{◌≡◌, length, map, sum, ap, ◌∙◌, arith}
 use Rattle.std.proofs.lemmas.List.{length-map}
 use Rattle.std.proofs.lemmas.List.Sums.{sum-map}
-use Rattle.gmon_data.specs.Hists.{samples_of}
 use Rattle.symbol_shares.specs.Shares.{ShareTable, attributed_of, share_of}
 use Rattle.symbol_shares.proofs.SumLemmas.{hists-within}
 use Rattle.symbol_shares.proofs.walk.shares.Goals as goal

@@ -1,5 +1,4 @@
-use Rattle.std.proofs.Common.{◌≡◌, ◌≤◌, [], replicate, length, ap, sym, refl, ◌∙◌, arith, rules}
-use Rattle.gmon_data.specs.declared.hist.Hist.{Hist}
+use Rattle.std.proofs.Common.{◌≡◌, [], replicate, length, refl, ◌∙◌, arith, rules}
 use Rattle.gmon_data.specs.Hists.{IsKept}
 use Rattle.symbol_shares.specs.Shares.{share_of}
 use Rattle.symbol_shares.proofs.OrderLemmas.{hist-kept}
