@@ -3,3 +3,5 @@ pub mod OrderLemmas
 pub mod SumLemmas
 pub mod WalkLemmas
 pub mod ProfileLemmas
+pub mod PartLemmas
+pub mod CoverLemmas

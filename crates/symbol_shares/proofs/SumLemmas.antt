@@ -60,12 +60,12 @@ zeros f (x ∷ xs) each = ap (λ m. m ∷ replicate (length xs) 0) (sym (each x)
 pub zeros-added : {X : Type 0} (f : X → ℕ) (ns : List ℕ) (xs : List X) → length ns ≡ length xs → ((x : X) → f x ≡ 0) → pointwise_sum ns (map f xs) ≡ ns
 zeros-added f ns xs same each = sym (none-behind f ns xs 0 same (λ j d from below. each (get_or xs j d))) ∙ sum-none ns
 
-sums-added : {X : Type 0} (f g h : X → ℕ) (xs : List X) → ((x : X) → h x ≡ f x + g x) → sum_by h xs ≡ sum_by f xs + sum_by g xs
+pub sums-added : {X : Type 0} (f g h : X → ℕ) (xs : List X) → ((x : X) → h x ≡ f x + g x) → sum_by h xs ≡ sum_by f xs + sum_by g xs
 sums-added f g h [] each = refl
 sums-added f g h (x ∷ xs) each =
     omega (arith, sum_by-cons f x xs, sum_by-cons g x xs, sum_by-cons h x xs, each x, sums-added f g h xs each)
 
-sums-of-none : {X : Type 0} (f : X → ℕ) (xs : List X) → ((x : X) → f x ≡ 0) → sum_by f xs ≡ 0
+pub sums-of-none : {X : Type 0} (f : X → ℕ) (xs : List X) → ((x : X) → f x ≡ 0) → sum_by f xs ≡ 0
 sums-of-none f [] each = refl
 sums-of-none f (x ∷ xs) each = omega (arith, sum_by-cons f x xs, each x, sums-of-none f xs each)
 

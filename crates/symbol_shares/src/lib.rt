@@ -7,6 +7,7 @@
 #![tactic(auto)]
 
 mod bucket;
+pub mod laws;
 pub mod table;
 pub mod walk;
 
