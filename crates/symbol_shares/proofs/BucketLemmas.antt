@@ -4,7 +4,7 @@ use Rattle.std.proofs.Math.Nat.{zero-div, mul-div_left, div-mul-le_self, div-le_
 use Rattle.std.proofs.lemmas.Nat.{le-div}
 use Rattle.gmon_data.specs.declared.hist.Hist.{Hist}
 use Rattle.elf32_syms.specs.declared.image.Symbol.{Symbol}
-use Rattle.symbol_shares.specs.Shares.{bucket_begin, grains_up_to, share_of_bucket}
+use Rattle.symbol_shares.specs.Shares.{bucket_begin, place_in_bucket, grains_up_to, share_of_bucket}
 
 -- ---- a part of the grains c, of y out of w
 
@@ -19,12 +19,11 @@ all_of c w y some le =
     let least : min w y ≡ w = omega arith in
     ap (λ m. c * m / w) least ∙ mul-div_left c some
 
-part_rises : (c w y z : ℕ) → 0 < w → y ≤ z → c * min w y / w ≤ c * min w z / w
-part_rises c w y z some le =
-    let rise : min w y ≤ min w z = omega arith in
-    let more = mul-le-mul_left c rise in
-    let down = div-mul-le_self (c * min w y) w in
-    le-div (c * min w y / w) (c * min w z) w some (omega (arith, more, down))
+pub quotients_rise : (c y z w : ℕ) → 0 < w → y ≤ z → c * y / w ≤ c * z / w
+quotients_rise c y z w some le =
+    let more = mul-le-mul_left c le in
+    let down = div-mul-le_self (c * y) w in
+    le-div (c * y / w) (c * z) w some (omega (arith, more, down))
 
 part_within : (c w y : ℕ) → c * min w y / w ≤ c
 part_within c w y =
@@ -45,18 +44,12 @@ pub grains-rise : (h : Hist) (i x y : ℕ) → h.low < h.high → x ≤ y → gr
 unfolding grains_up_to
 grains-rise h i x y range le =
     let more = mul-le-mul_right (length h.counters) le in
-    part_rises (get_or h.counters i 0 * 1000000) (h.high - h.low) (x * length h.counters - bucket_begin h i) (y * length h.counters - bucket_begin h i) (omega arith) (omega (arith, more))
+    let places : place_in_bucket h i x ≤ place_in_bucket h i y = omega (arith, more) in
+    quotients_rise (get_or h.counters i 0 * 1000000) (place_in_bucket h i x) (place_in_bucket h i y) (h.high - h.low) (omega arith) places
 
 pub grains-within : (h : Hist) (i x : ℕ) → grains_up_to h i x ≤ get_or h.counters i 0 * 1000000
 unfolding grains_up_to
 grains-within h i x = part_within (get_or h.counters i 0 * 1000000) (h.high - h.low) (x * length h.counters - bucket_begin h i)
-
--- between the bounds nothing is cut
-pub grains-inside : (h : Hist) (i x y : ℕ) → y ≡ x * length h.counters - bucket_begin h i → y ≤ h.high - h.low → grains_up_to h i x ≡ get_or h.counters i 0 * 1000000 * y / (h.high - h.low)
-unfolding grains_up_to
-grains-inside h i x y e le =
-    let least : min (h.high - h.low) (x * length h.counters - bucket_begin h i) ≡ y = omega arith in
-    ap (λ m. get_or h.counters i 0 * 1000000 * m / (h.high - h.low)) least
 
 -- ---- a symbol's share
 

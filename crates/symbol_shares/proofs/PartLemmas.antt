@@ -5,7 +5,7 @@ use Rattle.std.proofs.lemmas.Nat.{div-add-mod', le-div, mod_below}
 use Rattle.gmon_data.specs.declared.hist.Hist.{Hist}
 use Rattle.gmon_data.specs.Hists.{IsKept}
 use Rattle.elf32_syms.specs.declared.image.Symbol.{Symbol}
-use Rattle.symbol_shares.specs.Shares.{bucket_begin, grains_up_to, share_of_bucket}
+use Rattle.symbol_shares.specs.Shares.{bucket_begin, place_in_bucket, grains_up_to, share_of_bucket}
 use Rattle.symbol_shares.specs.Parts.{IsInside, overlap_of}
 use Rattle.symbol_shares.proofs.BucketLemmas.{grains-none, grains-all}
 
@@ -51,10 +51,10 @@ module _ (h : Hist) (i : ℕ) (s : Symbol) (kept : IsKept h) (le : s.addr ≤ s.
 
   -- places in the bucket
   abbrev from : ℕ
-  from = min width (s.addr * length h.counters - bucket_begin h i)
+  from = place_in_bucket h i s.addr
 
   abbrev to : ℕ
-  to = min width (s.end * length h.counters - bucket_begin h i)
+  to = place_in_bucket h i s.end
 
   from-le-to : from ≤ to
   from-le-to = let more = mul-le-mul_right (length h.counters) le in omega (arith, more)

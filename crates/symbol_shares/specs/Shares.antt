@@ -9,10 +9,13 @@ use Rattle.elf32_syms.specs.declared.image.Symbol.{Symbol}
 abbrev pub bucket_begin : Hist → ℕ → ℕ
 bucket_begin h i = h.low * length h.counters + i * (h.high - h.low)
 
--- the grains of bucket i up to the address x, which is moved into the bucket: they are spread evenly over it, and rounded down
+-- how far the address x lies in bucket i, in the same units; an address outside is moved to the nearest bound
+abbrev pub place_in_bucket : Hist → ℕ → ℕ → ℕ
+place_in_bucket h i x = min (h.high - h.low) (x * length h.counters - bucket_begin h i)
+
+-- the grains of bucket i up to the address x: they are spread evenly over the bucket, and rounded down
 unfoldable pub grains_up_to : Hist → ℕ → ℕ → ℕ
-grains_up_to h i x =
-    slice_index h.counters i * 1000000 * min (h.high - h.low) (x * length h.counters - bucket_begin h i) / (h.high - h.low)
+grains_up_to h i x = slice_index h.counters i * 1000000 * place_in_bucket h i x / (h.high - h.low)
 
 -- what a symbol gets of bucket i (GNU gprof gives each function the part of a bucket that it overlaps)
 abbrev pub share_of_bucket : Hist → ℕ → Symbol → ℕ
