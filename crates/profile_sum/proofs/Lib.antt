@@ -1,4 +1,5 @@
 pub mod LoopLemmas
 pub mod ClashLemmas
 pub mod SumLemmas
-pub mod ContentSums
+pub mod ContentLemmas
+pub mod BoundLemmas

@@ -1,4 +1,4 @@
-use Rattle.profile_sum.proofs.ContentSums.{content_sum}
+use Rattle.profile_sum.proofs.ContentLemmas.{content_sum}
 use Rattle.profile_sum.proofs.laws.sum_of_contents.Goals as goal
 
 pub returns : goal.returns
