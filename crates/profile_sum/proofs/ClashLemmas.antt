@@ -44,7 +44,7 @@ unit_more None u is =
     ap (λ (v : units.Unit). unit_conflict (Some v) u) is
     ∙ none_differ (eqb u.rate u.rate) (bytes_eq u.dim u.dim) (eqb u.«abbrev» u.«abbrev») _ _ (eq-eqb u.rate u.rate refl) (bytes_self u.dim) (eq-eqb u.«abbrev» u.«abbrev» refl)
 
-some_counters : (h : Hist) → IsKept h → has_counters h ≡ true
+pub some_counters : (h : Hist) → IsKept h → has_counters h ≡ true
 some_counters h kept = lt-ltb 0 (length h.counters) kept.some
 
 module _ (u : units.Unit) (is : kept_unit u ≡ u) where

@@ -156,11 +156,11 @@ fold_above h (k ∷ ks) l above =
     ap (λ (x : List Hist). fold put x ks) (put_swap h k l above.0) ∙ fold_above h ks (put_hist k l) above.1
 
 -- the low addresses rise
-abbrev IsRising : List Hist → Type 0
+abbrev pub IsRising : List Hist → Type 0
 IsRising [] = ⊤
 IsRising (h ∷ hs) = AllByRecursion (λ k. h.low < k.low) hs × IsRising hs
 
-rising_put : (h : Hist) (hs : List Hist) → IsRising hs → IsRising (put_hist h hs)
+pub rising_put : (h : Hist) (hs : List Hist) → IsRising hs → IsRising (put_hist h hs)
 rising_put h [] rising = (tt, tt)
 rising_put h (k ∷ ks) rising = by (ltb k.low h.low) (eqb k.low h.low) refl refl (rising_put h ks rising.1)
   where
@@ -173,7 +173,7 @@ rising_put h (k ∷ ks) rising = by (ltb k.low h.low) (eqb k.low h.low) refl ref
         let above : h.low < k.low = omega (arith, le, ne) in
         ((above, higher (suc h.low) (suc k.low) ks (omega (arith, above)) rising.0), rising)
 
-fold_put : (h : Hist) (hs l : List Hist) → IsRising hs → fold put l (put_hist h hs) ≡ put_hist h (fold put l hs)
+pub fold_put : (h : Hist) (hs l : List Hist) → IsRising hs → fold put l (put_hist h hs) ≡ put_hist h (fold put l hs)
 fold_put h [] l rising = refl
 fold_put h (k ∷ ks) l rising = by (ltb k.low h.low) (eqb k.low h.low) refl refl (fold_put h ks (put_hist k l) rising.1)
   where
@@ -216,7 +216,7 @@ rising_with (WideHist h u) q rising = by (has_counters h)
 rising_with (WideArc from to count) q rising = rising
 rising_with (WideBlock addr count) q rising = rising
 
-record_later : (r : WideRec) (p q : Content) → IsRising q.hists → sum_of p (with_record r q) ≡ with_record r (sum_of p q)
+pub record_later : (r : WideRec) (p q : Content) → IsRising q.hists → sum_of p (with_record r q) ≡ with_record r (sum_of p q)
 record_later (WideHist h u) p q rising = hist_later h u p q rising
 record_later (WideArc from to count) p q rising = ap (λ l. record (sum_of p q) { arcs = l }) (fold_tally same_pair pair-self pair-equal (from, to) count q.arcs p.arcs)
 record_later (WideBlock addr count) p q rising = ap (λ l. record (sum_of p q) { blocks = l }) (fold_tally nat_eq same-self eqb-true addr count q.blocks p.blocks)
@@ -229,7 +229,7 @@ or_none : (o : Option units.Unit) → option_or o None ≡ o
 or_none None = refl
 or_none (Some v) = refl
 
-sum_none : (p : Content) → sum_of p empty_content ≡ p
+pub sum_none : (p : Content) → sum_of p empty_content ≡ p
 sum_none p = λ i. record p { «unit» = or_none p.«unit» i }
 
 pub content_is_added : (recs : List WideRec) → content_of recs ≡ with_records recs empty_content

@@ -1,5 +1,5 @@
 -- The sum of two profiles, and why they have none.
-use Rattle.std.specs.Prelude.{◌≡◌, ℕ, nat_eq, List, [], map, fold, filter_map, slice_get, option_and_then, Option, Some, None, ⊤}
+use Rattle.std.specs.Prelude.{◌≡◌, ℕ, ◌<◌, nat_eq, List, [], length, map, fold, filter_map, slice_get, option_and_then, Option, Some, None, ⊤}
 use Rattle.std.specs.Option.{option_or}
 use Rattle.gp_base.specs.declared.records.Unit as units
 use Rattle.gmon_data.specs.declared.hist.Hist.{Hist}
@@ -34,6 +34,12 @@ IsClash (answers.Unlike unlike) given = given ≡ Some unlike
 abbrev pub sum_refusal : AddRefusal → SumRefusal
 sum_refusal adding.OutOfMemory = answers.OutOfMemory
 sum_refusal (adding.Unlike unlike) = answers.Unlike unlike
+
+-- a histogram with counters has a range
+abbrev pub HasSpan : WideRec → Type 0
+HasSpan (WideHist h u) = 0 < length h.counters → h.low < h.high
+HasSpan (WideArc from to count) = ⊤
+HasSpan (WideBlock addr count) = ⊤
 
 -- ---- a profile as records
 
