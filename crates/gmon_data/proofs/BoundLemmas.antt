@@ -32,7 +32,8 @@ within_at_most c n a le = record {
 pub at_most_none : IsAtMost empty_content 0
 at_most_none = record { samples = omega arith; counters = omega arith; calls = omega arith; runs = omega arith; pairs = omega arith; addresses = omega arith }
 
-tally_at_most : {K : Type 0} (same : K → K → Bool) (k : K) (n : ℕ) (es : List (K × ℕ)) → length (tally same k n es) ≤ length es + 1
+-- a number more makes at most one entry more
+pub tally_at_most : {K : Type 0} (same : K → K → Bool) (k : K) (n : ℕ) (es : List (K × ℕ)) → length (tally same k n es) ≤ length es + 1
 tally_at_most same k n [] = omega arith
 tally_at_most {K} same k n (e ∷ es) = by (same k e.0) (tally_at_most same k n es)
   where
@@ -55,7 +56,7 @@ sum_at_most [] ys = omega arith
 sum_at_most (x ∷ xs) [] = omega arith
 sum_at_most (x ∷ xs) (y ∷ ys) = omega (arith, sum_at_most xs ys)
 
-counters_at_most : (h : Hist) (hs : List Hist) → sum_by (λ k. length k.counters) (put_hist h hs) ≤ sum_by (λ k. length k.counters) hs + length h.counters
+pub counters_at_most : (h : Hist) (hs : List Hist) → sum_by (λ k. length k.counters) (put_hist h hs) ≤ sum_by (λ k. length k.counters) hs + length h.counters
 counters_at_most h [] = omega (arith, sum_by-cons (λ (k : Hist). length k.counters) h [])
 counters_at_most h (k ∷ ks) = by (ltb k.low h.low) (eqb k.low h.low) (counters_at_most h ks)
   where

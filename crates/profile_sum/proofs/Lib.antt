@@ -1,0 +1,6 @@
+pub mod LoopLemmas
+pub mod ClashLemmas
+pub mod SumLemmas
+pub mod ContentLemmas
+pub mod BoundLemmas
+pub mod SplitLemmas
