@@ -12,3 +12,4 @@ pub mod EnteringLemmas
 pub mod CallLemmas
 pub mod PairLemmas
 pub mod ArcLemmas
+pub mod ProfileLemmas
