@@ -19,4 +19,4 @@ returns c =
     let b = c.in-Some-owner.callee in
     let before : c.unwrap_or-before.result ≡ calls_at c.args.sums.now a b = c.unwrap_or-before.ensures ∙ ap (λ (o : Option ℕ). unwrap_or o 0) (c.copied.ensures ∙ c.get.ensures.value) in
     let updates = subst (λ (x : ℕ). Updates pair_cmp c.args.sums.now c.insert.new.self (a, b) (Some (x + c.args.count))) before c.in_ok-insert.ensures.updates in
-    record { added = one_arc_more c.args.sums.now c.insert.new.self c.args.symbols.now c.args.from c.args.to c.args.count a b (omega arith) (sym c.in-Some.ensures) (sym c.in-Some-owner.ensures) updates }
+    record { added = one_arc_more c.args.sums.now c.insert.new.self c.args.symbols.now c.args.from c.args.to c.args.count a b (omega arith) (sym c.owner.ensures ∙ c.in-Some.is) (sym c.owner-2.ensures ∙ c.in-Some-owner.is) updates }
