@@ -1,12 +1,12 @@
 -- The arcs between functions: those that a map of sums makes, where they lie, and how many calls they have.
-use Rattle.std.proofs.Common.{◌≡◌, ◌≢◌, ◌<◌, ◌≤◌, ℕ, ◌+◌, ◌&&◌, ◌||◌, Bool, true, false, not, cond, List, [], ◌∷◌, ◌++◌, length, Option, Some, None, refl, ap, sym, ◌∙◌, subst, ⊎_elim, arith, append-nil}
+use Rattle.std.proofs.Common.{◌≡◌, ◌≢◌, ◌<◌, ◌≤◌, ℕ, zero, suc, ◌+◌, get_or, ◌&&◌, ◌||◌, Bool, true, false, not, cond, List, [], ◌∷◌, ◌++◌, length, Option, Some, None, refl, ap, sym, ◌∙◌, subst, ⊎_elim, arith, append-nil, length-append, ◌-◌}
 use Rattle.std.specs.Prelude.{◌==◌, nat_lt, slice_index, if◌then◌else◌}
 use Rattle.std.specs.List.{All, flat_map, sum_by, position_or_len}
 use Rattle.std.specs.Option.{option_map_or}
 use Rattle.std.specs.BTreeMap.{BTreeMap, IsOrdered}
 use Rattle.std.proofs.lemmas.Bool.{cases_lt, eqb-true, eqb-false, ne_eqb}
 use Rattle.std.proofs.lemmas.Bool.Decides.{nat_tests}
-use Rattle.std.proofs.lemmas.List.{take_all}
+use Rattle.std.proofs.lemmas.List.{take_all, get_or_append_left, get_or-append_right}
 use Rattle.std.proofs.lemmas.List.Concat.{flat_map-append}
 use Rattle.std.proofs.lemmas.List.Elements.{All-nil, All-cons}
 use Rattle.std.proofs.lemmas.List.Sums.{sum_by-cons}
@@ -18,8 +18,8 @@ use Rattle.call_cycles.specs.Sums.{sum_below, when, numbers_below, list_of}
 use Rattle.call_cycles.specs.Graph.{no_arc}
 use Rattle.call_cycles.specs.Parts.{AreCalled, arcs_calls}
 use Rattle.call_cycles.specs.Calls.{pair_cmp, some_calls, HasCalls, lies_in, calls_of, calls_between, arc_between, arcs_among, function_arcs, own_calls, calls_at, arc_in}
-use Rattle.call_cycles.proofs.SumLemmas.{sum_ext, sum_add, sum_zero, sum_none, sum_mono, sum_at, sum_flat, sum_places, all_flat}
-use Rattle.call_cycles.specs.Marks.{AreWithin}
+use Rattle.call_cycles.proofs.SumLemmas.{sum_ext, sum_add, sum_zero, sum_none, sum_mono, sum_at, sum_flat, sum_places, all_flat, flat_more}
+use Rattle.call_cycles.specs.Marks.{AreByCaller, AreWithin}
 use Rattle.call_cycles.proofs.CallLemmas.{calls_at_is}
 use Rattle.call_cycles.proofs.ListLemmas.{list_at}
 use Rattle.call_cycles.proofs.PairLemmas.{entry_of, pair_entry, entries_in_order}
@@ -78,6 +78,54 @@ unfolding arcs_among
 arcs_below calls n =
     all_flat (IsArcBelow n) (λ f. flat_map (arc_between calls f) (numbers_below n)) n (λ f low_f.
     all_flat (IsArcBelow n) (arc_between calls f) n (λ g low_g. all_between calls n f g low_f low_g))
+
+-- ---- in order of caller
+
+own_arcs : (calls : ℕ → ℕ → ℕ) (f g : ℕ) → All (λ (a : FunArc). a.caller ≡ f) (arc_between calls f g)
+own_arcs calls f g = by (f == g || calls f g == 0)
+  where
+    by : (none : Bool) → All (λ (a : FunArc). a.caller ≡ f) (if none then [] else record { caller = f; callee = g; count = calls f g } ∷ [])
+    by true = All-nil (λ (a : FunArc). a.caller ≡ f)
+    by false = All-cons (λ (a : FunArc). a.caller ≡ f) (record { caller = f; callee = g; count = calls f g }) [] refl (All-nil (λ (a : FunArc). a.caller ≡ f))
+
+abbrev row_of : (ℕ → ℕ → ℕ) → ℕ → ℕ → List FunArc
+row_of calls n f = flat_map (arc_between calls f) (numbers_below n)
+
+own_row : (calls : ℕ → ℕ → ℕ) (n f : ℕ) → All (λ (a : FunArc). a.caller ≡ f) (row_of calls n f)
+own_row calls n f = all_flat (λ (a : FunArc). a.caller ≡ f) (arc_between calls f) n (λ g low. own_arcs calls f g)
+
+rows_below : (calls : ℕ → ℕ → ℕ) (n k : ℕ) → All (λ (a : FunArc). a.caller < k) (flat_map (row_of calls n) (numbers_below k))
+rows_below calls n k = all_flat (λ (a : FunArc). a.caller < k) (row_of calls n) k (λ f low i d inside. let at = own_row calls n f i d inside in omega arith)
+
+row_after : (xs ys : List FunArc) (m : ℕ) → AreByCaller xs → All (λ (a : FunArc). a.caller < m) xs → All (λ (a : FunArc). a.caller ≡ m) ys → AreByCaller (xs ++ ys)
+row_after xs ys m rising lower same i j d le below =
+    ⊎_elim
+    (λ (front : j < length xs). rw (get_or_append_left xs ys d i (omega arith), get_or_append_left xs ys d j front) (rising i j d le front))
+    (λ (back : length xs ≤ j).
+    let at = later j back below in
+    ⊎_elim
+    (λ (front : i < length xs).
+    let less = lower i d front in
+    let is : (get_or (xs ++ ys) i d).caller ≡ (get_or xs i d).caller = ap (λ (a : FunArc). a.caller) (get_or_append_left xs ys d i front) in
+    omega arith)
+    (λ (past : length xs ≤ i). let too = later i past (omega arith) in omega arith)
+    (cases_lt i (length xs)))
+    (cases_lt j (length xs))
+  where
+    later : (k : ℕ) → length xs ≤ k → k < length (xs ++ ys) → (get_or (xs ++ ys) k d).caller ≡ m
+    later k past inside =
+        let long = length-append xs ys in
+        ap (λ (a : FunArc). a.caller) (get_or-append_right xs ys (length xs) k d refl past) ∙ same (k - length xs) d (omega arith)
+
+rows_rise : (calls : ℕ → ℕ → ℕ) (n k : ℕ) → AreByCaller (flat_map (row_of calls n) (numbers_below k))
+rows_rise calls n zero = λ i j d le below. absurd (omega arith)
+rows_rise calls n (suc k) =
+    subst AreByCaller (sym (flat_more (row_of calls n) k))
+    (row_after (flat_map (row_of calls n) (numbers_below k)) (row_of calls n k) k (rows_rise calls n k) (rows_below calls n k) (own_row calls n k))
+
+pub by_caller : (calls : ℕ → ℕ → ℕ) (n : ℕ) → AreByCaller (arcs_among n calls)
+unfolding arcs_among
+by_caller calls n = rows_rise calls n n
 
 -- ---- the functions of a profile's calls
 
@@ -229,3 +277,6 @@ pub are_called : (es : List ((ℕ × ℕ) × ℕ)) (symbols : List Symbol) (arcs
 are_called es symbols arcs is i below =
     let all = subst (All (IsArcBelow (length symbols))) (sym is) (arcs_below (calls_between es symbols) (length symbols)) in
     (all i no_arc below).called
+
+pub are_by_caller : (es : List ((ℕ × ℕ) × ℕ)) (symbols : List Symbol) (arcs : List FunArc) → arcs ≡ function_arcs es symbols → AreByCaller arcs
+are_by_caller es symbols arcs is = subst AreByCaller (sym is) (by_caller (calls_between es symbols) (length symbols))

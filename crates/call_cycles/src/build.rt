@@ -4,7 +4,7 @@ ghost use Rattle.std.specs.Prelude.{◌≡◌, ◌<◌, ◌≤◌, ◌^◌, ◌+
 ghost use Rattle.elf32_syms.specs.Owners.{IsAscending};
 ghost use Rattle.call_cycles.specs.Calls.{function_arcs, own_calls};
 ghost use Rattle.call_cycles.specs.Graph.{IsGraph, AreComponents, all_calls, entering_of};
-ghost use Rattle.call_cycles.specs.Marks.{AreWithin};
+ghost use Rattle.call_cycles.specs.Marks.{AreByCaller, AreWithin};
 ghost use Rattle.call_cycles.specs.Parts.{bare, graph_of_parts, AreCalled, arcs_calls};
 ghost use Rattle.call_cycles.specs.Sums.{list_of, sum_below};
 
@@ -47,6 +47,7 @@ struct Found {
 /// The components in their order.
 fn found_components(alloc: Global, functions: u32, arcs: &[FunArc]) -> Result<Found, AllocError>
     requires within { AreWithin functions arcs.now }
+    requires ordered { AreByCaller arcs.now }
     ensures components { IfOk result (λ f. (self_calls : List ℕ) → AreComponents (graph_of_parts functions arcs.now self_calls f.component.items f.heads.items)) }
     ensures few { IfOk result (λ f. length f.heads.items ≤ functions) }
 {
@@ -68,6 +69,7 @@ fn graph_of(
     self_calls: Vec<u64>,
 ) -> Result<Graph, AllocError>
     requires within { AreWithin functions arcs.items }
+    requires ordered { AreByCaller arcs.items }
     requires called { AreCalled arcs.items }
     requires few { arcs_calls arcs.items < 2 ^ 59 }
     requires self_calls { length self_calls.items ≡ functions }

@@ -1,34 +1,50 @@
 //! Which functions are reached from a function.
 
-ghost use Rattle.std.specs.Prelude.{◌≡◌, ◌<◌, ◌≤◌, ◌↔◌, ◌==◌, ◌&&◌, if◌then◌else◌, ℕ, true, false, length, slice_index, slice_index_or, IfOk};
+ghost use Rattle.std.specs.Prelude.{◌≡◌, ◌<◌, ◌≤◌, ◌↔◌, ◌==◌, ◌&&◌, if◌then◌else◌, ℕ, true, false, length, slice_index, slice_index_or, nat_lt, ◌+◌, ◌^◌, IfOk, OnOk};
 ghost use Rattle.std.specs.List.{count_by};
+ghost use Rattle.std.specs.List.Sorted.{IsPartitionPoint};
 ghost use Rattle.call_cycles.specs.Walks.{Reaches, IsReached, IsCount, IsRank};
 ghost use Rattle.call_cycles.specs.Leaders.{AreJoined, AreLeaders};
-ghost use Rattle.call_cycles.specs.Marks.{AreWithin, is_marked, unmarked, MarksReach, IsClosedUnder};
+ghost use Rattle.call_cycles.specs.Marks.{AreWithin, AreByCaller, AreSpread};
 
 use crate::graphs::FunArc;
 use std::alloc::{AllocError, Global};
 
-/// Marks what one arc more reaches; says whether it marked any.
-fn spread(arcs: &[FunArc], marks: &mut [bool]) -> bool
-    requires within { AreWithin (length marks.old) arcs.now }
-    ensures len { length marks.new ≡ length marks.old }
-    ensures kept { (f : ℕ) → is_marked marks.old f ≡ true → is_marked marks.new f ≡ true }
-    ensures reached { (f : ℕ) → MarksReach arcs.now f marks.old → MarksReach arcs.now f marks.new }
-    ensures fewer { result ≡ true → unmarked marks.new < unmarked marks.old }
-    ensures closed { result ≡ false → IsClosedUnder arcs.now marks.new }
+/// How many arcs have callers below a function; they are the first ones.
+fn callers_below(arcs: &[FunArc], f: u32) -> usize
+    requires { AreByCaller arcs.now }
+    ensures inside { result ≤ length arcs.now }
+    ensures point { IsPartitionPoint
+        (λ a. nat_lt a.caller f ≡ true) (λ a. nat_lt a.caller f ≡ false) arcs.now result }
 {
-    let mut changed = false;
-    for a in arcs {
-        if marks[a.caller as usize] && !marks[a.callee as usize] {
-            marks[a.callee as usize] = true;
-            changed = true;
-        }
-    }
-    changed
+    arcs.partition_point(|arc| arc.caller < f)
 }
 
-/// Marks the functions that `from` reaches.
+/// Marks the callees of a function; those that were not marked become pending.
+fn spread(
+    arcs: &[FunArc],
+    f: u32,
+    marks: &mut Vec<bool>,
+    pending: &mut Vec<u32>,
+) -> Result<(), AllocError>
+    requires ordered { AreByCaller arcs.now }
+    requires within { AreWithin (length marks.old.items) arcs.now }
+    requires next { f + 1 < 2 ^ 32 }
+    ensures spread { OnOk result (AreSpread arcs.now f marks.old.items pending.old.items marks.new.items pending.new.items) }
+{
+    let first = callers_below(arcs, f);
+    for i in first..callers_below(arcs, f + 1) {
+        let callee = arcs[i].callee;
+        if !marks[callee as usize] {
+            marks[callee as usize] = true;
+            pending.push(callee)?;
+        }
+    }
+    Ok(())
+}
+
+/// Marks the functions that `from` reaches. Each of them is pending once, and each
+/// arc is followed once.
 fn reached(
     alloc: Global,
     functions: u32,
@@ -37,11 +53,15 @@ fn reached(
 ) -> Result<Vec<bool>, AllocError>
     requires from { from < functions }
     requires within { AreWithin functions arcs.now }
+    requires ordered { AreByCaller arcs.now }
     ensures reached { IfOk result (λ v. IsReached functions arcs.now from v.items) }
 {
     let mut marks = vec![in alloc; false; functions as usize]?;
     marks[from as usize] = true;
-    while spread(arcs, &mut marks) {}
+    let mut pending = vec![in alloc; from]?;
+    while let Some(f) = pending.pop() {
+        spread(arcs, f, &mut marks, &mut pending)?;
+    }
     Ok(marks)
 }
 
@@ -59,6 +79,7 @@ pub(crate) fn ranks(
     arcs: &[FunArc],
 ) -> Result<Vec<usize>, AllocError>
     requires within { AreWithin functions arcs.now }
+    requires ordered { AreByCaller arcs.now }
     ensures ranks { IfOk result (λ v. IsRank functions arcs.now v.items) }
 {
     let mut counts = Vec::new(alloc);
@@ -93,6 +114,7 @@ pub(crate) fn leaders(
     ranks: &[usize],
 ) -> Result<Vec<u32>, AllocError>
     requires within { AreWithin functions arcs.now }
+    requires ordered { AreByCaller arcs.now }
     requires ranks { IsRank functions arcs.now ranks.now }
     ensures leaders { IfOk result (λ v. AreLeaders functions arcs.now v.items) }
 {

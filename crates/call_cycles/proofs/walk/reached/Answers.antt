@@ -1,34 +1,44 @@
-use Rattle.std.proofs.Common.{◌≡◌, ℕ, Bool, true, false, List, length, replicate, slice_set, refl, ap, sym, ◌∙◌, subst, arith, rules, length-set, get_or-set_same}
-use Rattle.call_cycles.specs.Walks.{Reaches, IsReached}
-use Rattle.call_cycles.specs.Marks.{is_marked}
-use Rattle.call_cycles.proofs.MarkLemmas.{one_mark}
-use Rattle.call_cycles.proofs.ListLemmas.{whole_back}
-use Rattle.call_cycles.proofs.WalkLemmas.{reaches_itself, reached_marked}
+use Rattle.std.proofs.Common.{◌≡◌, Bool, List, [], true, false, replicate, slice_set, sym, subst, arith, rules}
+use Rattle.call_cycles.proofs.MarkLemmas.{IsSearch, search_begins, search_goes_on, search_ends, next_within}
+use Rattle.call_cycles.proofs.WalkLemmas.{reached_marked}
 use Rattle.call_cycles.proofs.walk.reached.Goals as goal
 
-pub loop-init : goal.loop-init
-loop-init c =
-    let fresh : c.in_ok-marks.marks.items ≡ replicate c.args.functions false = search rules in
-    let long : length c.in_ok-marks.marks.items ≡ c.args.functions = search rules in
-    let from = c.requires.from in
-    record {
-      len = length-set c.in_ok-marks.marks.items c.args.from true ∙ long;
-      from = get_or-set_same c.in_ok-marks.marks.items c.args.from true false (omega arith);
-      reached = λ h marked. subst (Reaches c.args.arcs.now c.args.from) (sym (one_mark c.args.functions c.args.from h from (subst (λ (xs : List Bool). is_marked (slice_set xs c.args.from true) h ≡ true) fresh marked))) (reaches_itself c.args.arcs.now c.args.from);
-    }
+pub loop-f-init : goal.loop-f-init
+loop-f-init c =
+    let n = c.args.functions in
+    let arcs = c.args.arcs.now in
+    let from = c.args.from in
+    let fresh : c.in_ok-marks.marks.items ≡ replicate n false = search rules in
+    subst (λ (xs : List Bool). IsSearch n arcs from (slice_set xs from true) c.in_ok-pending.pending.items) (sym fresh)
+    (subst (IsSearch n arcs from (slice_set (replicate n false) from true)) (sym c.in_ok-pending.ensures.items) (search_begins n arcs from c.requires.from))
+
+pub spread-requires-clause-next : goal.spread-requires-clause-next
+spread-requires-clause-next c =
+    let n = c.args.functions in
+    let arcs = c.args.arcs.now in
+    let search_now = subst (IsSearch n arcs c.args.from c.loop-f.marks.items) c.in-Some.ensures.items c.loop-f.invariant in
+    let within = next_within n arcs c.args.from c.loop-f.marks.items c.pop.new.self.items c.in-Some.f search_now in
+    let fits = c.ranges.functions.fits in
+    omega arith
+
+pub loop-f-preserved : goal.loop-f-preserved
+loop-f-preserved c =
+    let n = c.args.functions in
+    let arcs = c.args.arcs.now in
+    let search_now = subst (IsSearch n arcs c.args.from c.loop-f.marks.items) c.in-Some.ensures.items c.loop-f.invariant in
+    search_goes_on n arcs c.args.from c.loop-f.marks.items c.pop.new.self.items c.in-Some.f search_now c.spread.new.marks.items c.spread.new.pending.items c.in_ok-spread.ensures.spread
 
 pub returns : goal.returns
 returns c =
-    let len : length c.spread.new.marks ≡ length c.loop.marks.items = c.spread.ensures.len ∙ ap length c.deref_mut.ensures.value in
-    let long = c.loop.invariant.len in
-    let back = whole_back c.spread.new.marks c.loop.marks.items c.loop.marks.len len (c.loop.marks.ok.0 ∙ sym len) in
-    let same = c.deref_mut.ensures.value in
+    let n = c.args.functions in
+    let arcs = c.args.arcs.now in
+    let from = c.args.from in
+    let marks = c.loop-f.marks.items in
+    let none : c.loop-f.pending.items ≡ [] = search rules in
+    let ended = subst (IsSearch n arcs from marks) none c.loop-f.invariant in
     record {
-      reached = subst (IsReached c.args.functions c.args.arcs.now c.args.from) (sym back) (record {
-        len = len ∙ long;
-        each = λ h below. (
-          c.spread.ensures.reached c.args.from (subst (λ (xs : List Bool). (k : ℕ) → is_marked xs k ≡ true → Reaches c.args.arcs.now c.args.from k) (sym same) c.loop.invariant.reached) h,
-          λ r. reached_marked c.args.arcs.now c.spread.new.marks (c.loop-test.ensures.closed refl) c.args.from h (c.spread.ensures.kept c.args.from (ap (λ (xs : List Bool). is_marked xs c.args.from) same ∙ c.loop.invariant.from)) r,
-        );
-      });
+      reached = record {
+        len = ended.len;
+        each = λ h below. (ended.reached h, λ r. reached_marked arcs marks (search_ends n arcs from marks ended) from h ended.from_marked r);
+      };
     }
