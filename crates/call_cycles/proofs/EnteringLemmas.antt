@@ -5,7 +5,7 @@ use Rattle.std.proofs.lemmas.Bool.{cases_eq, eq-eqb, ne_eqb}
 use Rattle.call_cycles.specs.declared.graphs.FunArc.{FunArc}
 use Rattle.call_cycles.specs.Sums.{when}
 use Rattle.call_cycles.specs.Graph.{GraphValue, no_arc, arc_at, calls_into, target_of, source_of, is_outside, enters, entering_of}
-use Rattle.call_cycles.specs.Parts.{bare, arcs_calls}
+use Rattle.call_cycles.specs.Parts.{headless_graph, arcs_calls}
 use Rattle.call_cycles.proofs.SumLemmas.{sum_mono, sum_front_le, when_le}
 
 -- one more arc
@@ -37,17 +37,17 @@ seen_more g n i t xs x is_target apart within seen below is d low =
     rw add-one (omega arith))
     (cases_eq t d)
 
-pub arcs_fit : (component : List ℕ) (arcs : List FunArc) (d i : ℕ) → i < length arcs → calls_into (bare component arcs) d i + (get_or arcs i no_arc).count ≤ arcs_calls arcs
+pub arcs_fit : (component : List ℕ) (arcs : List FunArc) (d i : ℕ) → i < length arcs → calls_into (headless_graph component arcs) d i + (get_or arcs i no_arc).count ≤ arcs_calls arcs
 unfolding arcs_calls
 arcs_fit component arcs d i below =
-    let those = sum_mono i (λ j. when (enters (bare component arcs) d j) (get_or arcs j no_arc).count) (λ j. (get_or arcs j no_arc).count) (λ j k. when_le (enters (bare component arcs) d j) (get_or arcs j no_arc).count) in
+    let those = sum_mono i (λ j. when (enters (headless_graph component arcs) d j) (get_or arcs j no_arc).count) (λ j. (get_or arcs j no_arc).count) (λ j k. when_le (enters (headless_graph component arcs) d j) (get_or arcs j no_arc).count) in
     let all = sum_front_le (suc i) (length arcs) (λ j. (get_or arcs j no_arc).count) (omega arith) in
     omega arith
 
-pub entered_all : (component : List ℕ) (arcs : List FunArc) (d i : ℕ) → i ≡ length arcs → calls_into (bare component arcs) d i ≡ entering_of (bare component arcs) d
+pub entered_all : (component : List ℕ) (arcs : List FunArc) (d i : ℕ) → i ≡ length arcs → calls_into (headless_graph component arcs) d i ≡ entering_of (headless_graph component arcs) d
 unfolding entering_of
-entered_all component arcs d i last = ap (λ (k : ℕ). calls_into (bare component arcs) d k) last
+entered_all component arcs d i last = ap (λ (k : ℕ). calls_into (headless_graph component arcs) d k) last
 
-pub entering_same : (g : GraphValue) (d : ℕ) → entering_of (bare g.component g.arcs) d ≡ entering_of g d
+pub entering_same : (g : GraphValue) (d : ℕ) → entering_of (headless_graph g.component g.arcs) d ≡ entering_of g d
 unfolding entering_of
 entering_same g d = refl

@@ -13,3 +13,4 @@ pub mod CallLemmas
 pub mod PairLemmas
 pub mod ArcLemmas
 pub mod ProfileLemmas
+pub mod MemberLemmas

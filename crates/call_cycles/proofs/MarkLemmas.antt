@@ -9,7 +9,7 @@ use Rattle.std.proofs.lemmas.List.Sums.{sum_by-set}
 use Rattle.call_cycles.specs.declared.graphs.FunArc.{FunArc}
 use Rattle.call_cycles.specs.Graph.{no_arc}
 use Rattle.call_cycles.specs.Walks.{Reaches}
-use Rattle.call_cycles.specs.Marks.{is_marked, is_pending, unmarked, MarksReach, IsClosedUnder, AreSpread}
+use Rattle.call_cycles.specs.Marks.{is_marked, is_pending, unmarked_count, MarksReach, IsClosedUnder, AreSpread}
 use Rattle.call_cycles.proofs.WalkLemmas.{reaches_by, reaches_itself, reaches_on}
 
 -- ---- pending functions
@@ -56,21 +56,8 @@ pub record IsSpreading (arcs : List FunArc) (f first : ℕ) (start : List Bool) 
   pub opened : (h : ℕ) → is_marked marks h ≡ true → (is_marked start h ≡ true) ⊎ (is_pending pending h ≡ true)
   pub stays : (h : ℕ) → is_pending start_pending h ≡ true → is_pending pending h ≡ true
   pub pending_marked : ((h : ℕ) → is_pending start_pending h ≡ true → is_marked start h ≡ true) → (h : ℕ) → is_pending pending h ≡ true → is_marked marks h ≡ true
-  pub same : unmarked marks + length pending ≡ unmarked start + length start_pending
-  pub fewer : unmarked marks ≤ unmarked start
-
-pub spreading_none : (arcs : List FunArc) (f first : ℕ) (marks : List Bool) (pending : List ℕ) → IsSpreading arcs f first marks pending marks pending first
-spreading_none arcs f first marks pending = record {
-  len = refl;
-  kept = λ h on. on;
-  reached = λ g there all. all;
-  found = λ i from below. absurd (omega arith);
-  opened = λ h on. inl on;
-  stays = λ h on. on;
-  pending_marked = λ all. all;
-  same = refl;
-  fewer = omega arith;
-}
+  pub same : unmarked_count marks + length pending ≡ unmarked_count start + length start_pending
+  pub fewer : unmarked_count marks ≤ unmarked_count start
 
 module _ (arcs : List FunArc) (f first : ℕ) (start : List Bool) (start_pending : List ℕ) (marks : List Bool) (pending : List ℕ) (n : ℕ)
     (is : IsSpreading arcs f first start start_pending marks pending n) where
@@ -111,10 +98,10 @@ module _ (arcs : List FunArc) (f first : ℕ) (start : List Bool) (start_pending
         (λ (apart : h ≢ callee). inl (sym (get_or-set_other marks callee h true false apart) ∙ on))
         (cases_eq h callee)
 
-    one_fewer : unmarked (slice_set marks callee true) + 1 ≡ unmarked marks
+    one_fewer : unmarked_count (slice_set marks callee true) + 1 ≡ unmarked_count marks
     unfolding callee
     one_fewer =
-        let all : unmarked (slice_set marks callee true) + cond (not (get_or marks callee false)) 1 0 ≡ unmarked marks + 0 = sum_by-set (λ (b : Bool). cond (not b) 1 0) marks callee true false inside in
+        let all : unmarked_count (slice_set marks callee true) + cond (not (get_or marks callee false)) 1 0 ≡ unmarked_count marks + 0 = sum_by-set (λ (b : Bool). cond (not b) 1 0) marks callee true false inside in
         let one : ◌≡◌ {A = ℕ} (cond (not (get_or marks callee false)) 1 0) 1 = ap (λ (b : Bool). cond {A = ℕ} (not b) 1 0) new in
         omega arith
 

@@ -26,14 +26,6 @@ sum_zero (suc n) = let ih = sum_zero n in omega arith
 pub sum_none : (n : ℕ) (f : ℕ → ℕ) → ((i : ℕ) → i < n → f i ≡ 0) → sum_below n f ≡ 0
 sum_none n f none = sum_ext n f (λ i. 0) none ∙ sum_zero n
 
-pub when_add : (b : Bool) (x y : ℕ) → when b (x + y) ≡ when b x + when b y
-when_add true x y = refl
-when_add false x y = refl
-
-pub when_zero : (b : Bool) → when b 0 ≡ 0
-when_zero true = refl
-when_zero false = refl
-
 when_here : (b o : Bool) (k c x : ℕ) → k ≡ c → when b (when (o && k == c) x) ≡ when (o && b) x
 when_here true true k c x at = rw (eq-eqb k c at) refl
 when_here true false k c x at = refl
@@ -62,30 +54,12 @@ sum_at (suc n) set o k x below =
     omega arith)
     (cases_eq k n)
 
--- the terms of a sum, put together by their keys
-pub sum_by_key : (m n : ℕ) (set : ℕ → Bool) (o : ℕ → Bool) (key x : ℕ → ℕ) → ((i : ℕ) → i < m → key i < n)
-    → sum_below n (λ c. when (set c) (sum_below m (λ i. when (o i && key i == c) (x i)))) ≡ sum_below m (λ i. when (o i && set (key i)) (x i))
-sum_by_key zero n set o key x within = sum_none n _ (λ c h. when_zero (set c))
-sum_by_key (suc m) n set o key x within =
-    let rest = sum_by_key m n set o key x (λ i h. within i (omega arith)) in
-    let last = sum_at n set (o m) (key m) (x m) (within m (omega arith)) in
-    let parts = sum_ext n _ (λ c. when (set c) (sum_below m (λ i. when (o i && key i == c) (x i))) + when (set c) (when (o m && key m == c) (x m))) (λ c h. when_add (set c) _ _) in
-    parts ∙ sum_add n _ _ ∙ omega (arith, rest, last)
-
 pub sum_mono : (n : ℕ) (f g : ℕ → ℕ) → ((i : ℕ) → i < n → f i ≤ g i) → sum_below n f ≤ sum_below n g
 sum_mono zero f g below = omega arith
 sum_mono (suc n) f g below =
     let ih = sum_mono n f g (λ i h. below i (omega arith)) in
     let last = below n (omega arith) in
     omega arith
-
-pub term_le_sum : (n : ℕ) (f : ℕ → ℕ) (i : ℕ) → i < n → f i ≤ sum_below n f
-term_le_sum zero f i below = absurd (omega arith)
-term_le_sum (suc n) f i below =
-    ⊎_elim
-    (λ (at : i ≡ n). let same : f i ≡ f n = ap f at in omega arith)
-    (λ (apart : i ≢ n). let ih = term_le_sum n f i (omega arith) in omega arith)
-    (cases_eq i n)
 
 pub when_le : (b : Bool) (x : ℕ) → when b x ≤ x
 when_le true x = omega arith

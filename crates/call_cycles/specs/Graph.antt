@@ -1,5 +1,5 @@
 -- The function graph: components, heads, levels and their order.
-use Rattle.std.specs.Prelude.{◌≡◌, ◌<◌, ◌≤◌, ◌↔◌, ◌==◌, ◌&&◌, ◌+◌, not, nat_lt, ℕ, suc, Bool, List, length, slice_index, slice_index_or}
+use Rattle.std.specs.Prelude.{◌≡◌, ◌≢◌, ◌<◌, ◌≤◌, ◌↔◌, ◌==◌, ◌&&◌, ◌+◌, not, nat_lt, ℕ, suc, Bool, List, length, slice_index, slice_index_or}
 use Rattle.std.specs.List.{count_by}
 use Rattle.std.proofs.Common.{◌⊎◌}
 use Rattle.call_cycles.specs.declared.graphs.FunArc.{FunArc}
@@ -62,13 +62,17 @@ calls_into g d i = sum_below i (λ j. when (enters g d j) (arc_at g j).count)
 unfoldable pub entering_of : GraphValue → ℕ → ℕ
 entering_of g d = calls_into g d (arc_count g)
 
--- the functions of a component
+-- how many functions a component has
 abbrev pub member_count : GraphValue → ℕ → ℕ
 member_count g c = count_by (λ d. d == c) g.component
 
 -- a component of two or more functions
 abbrev pub is_cycle : GraphValue → ℕ → Bool
 is_cycle g c = nat_lt 1 (member_count g c)
+
+-- the component has a member besides its head
+abbrev pub HasOtherMember : GraphValue → ℕ → Type 0
+HasOtherMember g c = (f : ℕ) × (f < g.functions) × (component_of g f ≡ c) × (f ≢ head_of g c)
 
 -- all calls of the graph, those of functions by themselves too
 unfoldable pub all_calls : GraphValue → ℕ
@@ -82,6 +86,7 @@ pub record IsLevel (g : GraphValue) (level : ℕ → ℕ) : Type 0 where
 abbrev pub ComesBefore : GraphValue → (ℕ → ℕ) → ℕ → ℕ → Type 0
 ComesBefore g level c d = (level c < level d) ⊎ ((level c ≡ level d) × (head_of g c < head_of g d))
 
+-- components, their heads, and their order by levels
 pub record AreComponents (g : GraphValue) : Type 0 where
   pub each : length g.component ≡ g.functions
   pub within : (f : ℕ) → f < g.functions → component_of g f < component_count g

@@ -16,6 +16,7 @@ pub record IsLeader (n : ℕ) (arcs : List FunArc) (k f leader : ℕ) : Type 0 w
   pub joined : AreJoined arcs f leader
   pub least : (h : ℕ) → k ≤ h → h < n → AreJoined arcs f h → leader ≤ h
 
+-- the leader of each of n functions is the least of those joined with it
 pub record AreLeaders (n : ℕ) (arcs : List FunArc) (leaders : List ℕ) : Type 0 where
   pub len : length leaders ≡ n
   pub each : (f : ℕ) → f < n → IsLeader n arcs 0 f (slice_index leaders f)
@@ -46,5 +47,6 @@ pub record IsRising (n : ℕ) (arcs : List FunArc) (leaders ranks levels : List 
 abbrev pub slack : ℕ → List ℕ → List ℕ → ℕ
 slack n ranks levels = sum_below n (λ h. slice_index ranks h - slice_index levels h)
 
+-- each outside arc goes to a lower level
 abbrev pub AreStable : List FunArc → List ℕ → List ℕ → Type 0
 AreStable arcs leaders levels = (i : ℕ) → i < length arcs → caller_leader arcs leaders i ≢ callee_leader arcs leaders i → slice_index levels (callee_leader arcs leaders i) < slice_index levels (caller_leader arcs leaders i)

@@ -18,8 +18,8 @@ AreByCaller arcs = IsNonDecreasingBy (λ (a : FunArc). a.caller) arcs
 abbrev pub is_marked : List Bool → ℕ → Bool
 is_marked marks f = slice_index_or marks f false
 
-abbrev pub unmarked : List Bool → ℕ
-unmarked marks = count_by not marks
+abbrev pub unmarked_count : List Bool → ℕ
+unmarked_count marks = count_by not marks
 
 -- the function is one of those whose arcs are still to be followed
 abbrev pub is_pending : List ℕ → ℕ → Bool
@@ -41,5 +41,5 @@ pub record AreSpread (arcs : List FunArc) (f : ℕ) (start : List Bool) (start_p
   pub opened : (h : ℕ) → is_marked marks h ≡ true → (is_marked start h ≡ true) ⊎ (is_pending pending h ≡ true)
   pub stays : (h : ℕ) → is_pending start_pending h ≡ true → is_pending pending h ≡ true
   pub pending_marked : ((h : ℕ) → is_pending start_pending h ≡ true → is_marked start h ≡ true) → (h : ℕ) → is_pending pending h ≡ true → is_marked marks h ≡ true
-  pub same : unmarked marks + length pending ≡ unmarked start + length start_pending
-  pub fewer : unmarked marks ≤ unmarked start
+  pub same : unmarked_count marks + length pending ≡ unmarked_count start + length start_pending
+  pub fewer : unmarked_count marks ≤ unmarked_count start

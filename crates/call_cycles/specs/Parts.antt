@@ -9,8 +9,8 @@ abbrev pub graph_of_parts : ℕ → List FunArc → List ℕ → List ℕ → Li
 graph_of_parts n arcs self_calls component heads = record { functions = n; arcs = arcs; self_calls = self_calls; component = component; heads = heads }
 
 -- a graph with components and arcs alone
-abbrev pub bare : List ℕ → List FunArc → GraphValue
-bare component arcs = record { functions = 0; arcs = arcs; self_calls = []; component = component; heads = [] }
+abbrev pub headless_graph : List ℕ → List FunArc → GraphValue
+headless_graph component arcs = record { functions = 0; arcs = arcs; self_calls = []; component = component; heads = [] }
 
 -- each arc has calls
 abbrev pub AreCalled : List FunArc → Type 0

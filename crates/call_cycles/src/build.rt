@@ -5,7 +5,7 @@ ghost use Rattle.elf32_syms.specs.Owners.{IsAscending};
 ghost use Rattle.call_cycles.specs.Calls.{function_arcs, own_calls};
 ghost use Rattle.call_cycles.specs.Graph.{IsGraph, AreComponents, all_calls, entering_of};
 ghost use Rattle.call_cycles.specs.Marks.{AreByCaller, AreWithin};
-ghost use Rattle.call_cycles.specs.Parts.{bare, graph_of_parts, AreCalled, arcs_calls};
+ghost use Rattle.call_cycles.specs.Parts.{headless_graph, graph_of_parts, AreCalled, arcs_calls};
 ghost use Rattle.call_cycles.specs.Sums.{list_of, sum_below};
 
 use crate::graphs::{FunArc, Graph};
@@ -24,7 +24,7 @@ fn entering(
     requires within { AreWithin (length component.now) arcs.now }
     requires components { (f : ℕ) → f < length component.now → slice_index component.now f < count }
     requires few { arcs_calls arcs.now < 2 ^ 59 }
-    ensures each { IfOk result (λ v. v.items ≡ list_of count (entering_of (bare component.now arcs.now))) }
+    ensures each { IfOk result (λ v. v.items ≡ list_of count (entering_of (headless_graph component.now arcs.now))) }
 {
     let mut calls = vec![in alloc; 0u64; count]?;
     for a in arcs {
@@ -114,8 +114,9 @@ fn count_of(symbols: &[Symbol]) -> u32
 /// caller, then callee.
 ///
 /// The level of a component that no arc leaves is 0, that of any other one more than the highest level
-/// that it calls. Components are numbered by level, those of one level by their heads. Takes time of
-/// the order of functions times arcs, and memory of the order of functions and arcs.
+/// that it calls. Components are numbered by level, those of one level by their heads.
+///
+/// The time grows as the functions times the functions and arcs, the memory as the functions and arcs.
 pub fn graph(alloc: Global, profile: &Profile, symbols: &[Symbol]) -> Result<Graph, AllocError>
     requires ordered { IsAscending symbols.now }
     ensures functions { IfOk result (λ g. g.functions ≡ length symbols.now) }

@@ -43,8 +43,8 @@ fn spread(
     Ok(())
 }
 
-/// Marks the functions that `from` reaches. Each of them is pending once, and each
-/// arc is followed once.
+/// Marks the functions that `from` reaches. Each of them is pending once, and each of their arcs is
+/// followed once.
 fn reached(
     alloc: Global,
     functions: u32,

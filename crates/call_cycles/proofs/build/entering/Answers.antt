@@ -2,14 +2,14 @@ use Rattle.std.proofs.Common.{◌≡◌, ◌<◌, ℕ, ◌+◌, length, slice_in
 use Rattle.std.proofs.lemmas.Grind.{get_or_default_zero}
 use Rattle.std.proofs.lemmas.List.FromFn.{fill_by_all}
 use Rattle.call_cycles.specs.Graph.{no_arc, target_of, entering_of}
-use Rattle.call_cycles.specs.Parts.{bare}
+use Rattle.call_cycles.specs.Parts.{headless_graph}
 use Rattle.call_cycles.proofs.EnteringLemmas.{arcs_fit, entered_all, seen_same, seen_more}
 use Rattle.call_cycles.proofs.build.entering.Goals as goal
 use Rattle.call_cycles.proofs.build.entering.Goals.{then-c-d, else-c-d}
 
 pub overflow_add-index_mut : goal.overflow_add-index_mut
 overflow_add-index_mut c =
-    let g = bare c.args.component.now c.args.arcs.now in
+    let g = headless_graph c.args.component.now c.args.arcs.now in
     let d = target_of g c.loop-a.a-index in
     let few = c.requires.few in
     let fits = arcs_fit c.args.component.now c.args.arcs.now d c.loop-a.a-index c.loop-a-test.true in
@@ -22,7 +22,7 @@ overflow_add-index_mut c =
 
 pub loop-a-preserved : goal.loop-a-preserved
 loop-a-preserved c =
-    let g = bare c.args.component.now c.args.arcs.now in
+    let g = headless_graph c.args.component.now c.args.arcs.now in
     let i = c.loop-a.a-index in
     let d = target_of g i in
     let len = c.loop-a.invariant.len in
@@ -43,5 +43,5 @@ loop-a-preserved c =
 
 pub returns : goal.returns
 returns c = record {
-  each = fill_by_all (entering_of (bare c.args.component.now c.args.arcs.now)) c.loop-a.calls.items c.args.count 0 c.loop-a.invariant.len (λ d h. c.loop-a.invariant.each d h ∙ entered_all c.args.component.now c.args.arcs.now d c.loop-a.a-index (omega arith));
+  each = fill_by_all (entering_of (headless_graph c.args.component.now c.args.arcs.now)) c.loop-a.calls.items c.args.count 0 c.loop-a.invariant.len (λ d h. c.loop-a.invariant.each d h ∙ entered_all c.args.component.now c.args.arcs.now d c.loop-a.a-index (omega arith));
 }

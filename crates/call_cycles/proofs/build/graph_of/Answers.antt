@@ -4,7 +4,7 @@ use Rattle.std.specs.List.{count_by}
 use Rattle.call_cycles.specs.declared.graphs.FunArc.{FunArc}
 use Rattle.call_cycles.specs.Graph.{entering_of, all_calls, AreComponents}
 use Rattle.call_cycles.specs.Marks.{AreWithin}
-use Rattle.call_cycles.specs.Parts.{bare, graph_of_parts, arcs_calls}
+use Rattle.call_cycles.specs.Parts.{headless_graph, graph_of_parts, arcs_calls}
 use Rattle.call_cycles.specs.Sums.{list_of}
 use Rattle.call_cycles.proofs.ListLemmas.{list_long, list_at}
 use Rattle.call_cycles.proofs.EnteringLemmas.{entering_same}
@@ -56,11 +56,11 @@ invariant_of-result c =
     let arcs = c.deref.ensures.value in
     let are = subst (λ (xs : List FunArc). AreComponents (graph_of_parts c.args.functions xs c.args.self_calls.items c.in_ok-found.found.component.items c.in_ok-found.found.heads.items)) arcs (c.in_ok-found.ensures.components c.args.self_calls.items) in
     let len : c.len.result ≡ length c.in_ok-found.found.heads.items = c.len.ensures ∙ c.in_ok-found.found.heads.ok.0 in
-    let entered : c.in_ok-entering.entering.items ≡ list_of (length c.in_ok-found.found.heads.items) (entering_of (bare c.in_ok-found.found.component.items c.args.arcs.items)) =
+    let entered : c.in_ok-entering.entering.items ≡ list_of (length c.in_ok-found.found.heads.items) (entering_of (headless_graph c.in_ok-found.found.component.items c.args.arcs.items)) =
     c.in_ok-entering.ensures.each
-    ∙ ap (λ (k : ℕ). list_of k (entering_of (bare c.deref-2.result.now c.deref-3.result.now))) len
-    ∙ ap (λ (xs : List ℕ). list_of (length c.in_ok-found.found.heads.items) (entering_of (bare xs c.deref-3.result.now))) c.deref-2.ensures.value
-    ∙ ap (λ (xs : List FunArc). list_of (length c.in_ok-found.found.heads.items) (entering_of (bare c.in_ok-found.found.component.items xs))) c.deref-3.ensures.value in
+    ∙ ap (λ (k : ℕ). list_of k (entering_of (headless_graph c.deref-2.result.now c.deref-3.result.now))) len
+    ∙ ap (λ (xs : List ℕ). list_of (length c.in_ok-found.found.heads.items) (entering_of (headless_graph xs c.deref-3.result.now))) c.deref-2.ensures.value
+    ∙ ap (λ (xs : List FunArc). list_of (length c.in_ok-found.found.heads.items) (entering_of (headless_graph c.in_ok-found.found.component.items xs))) c.deref-3.ensures.value in
     let len_again : c.len-2.result ≡ length c.in_ok-found.found.heads.items = c.len-2.ensures ∙ c.in_ok-found.found.heads.ok.0 in
     let counted : c.in_ok-members.members.items ≡ list_of (length c.in_ok-found.found.heads.items) (λ k. count_by (λ d. d == k) c.in_ok-found.found.component.items) =
     c.in_ok-members.ensures.each
