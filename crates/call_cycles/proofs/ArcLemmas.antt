@@ -1,0 +1,282 @@
+-- The arcs between functions: those that a map of sums makes, where they lie, and how many calls they have.
+use Rattle.std.proofs.Common.{◌≡◌, ◌≢◌, ◌<◌, ◌≤◌, ℕ, zero, suc, ◌+◌, get_or, ◌&&◌, ◌||◌, Bool, true, false, not, cond, List, [], ◌∷◌, ◌++◌, length, Option, Some, None, refl, ap, sym, ◌∙◌, subst, ⊎_elim, arith, append-nil, length-append, ◌-◌}
+use Rattle.std.specs.Prelude.{◌==◌, nat_lt, slice_index, if◌then◌else◌}
+use Rattle.std.specs.List.{All, flat_map, sum_by, position_or_len}
+use Rattle.std.specs.Option.{option_map_or}
+use Rattle.std.specs.BTreeMap.{BTreeMap, IsOrdered}
+use Rattle.std.proofs.lemmas.Bool.{cases_lt, eqb-true, eqb-false, ne_eqb}
+use Rattle.std.proofs.lemmas.Bool.Decides.{nat_tests}
+use Rattle.std.proofs.lemmas.List.{take_all, get_or_append_left, get_or-append_right}
+use Rattle.std.proofs.lemmas.List.Concat.{flat_map-append}
+use Rattle.std.proofs.lemmas.List.Elements.{All-nil, All-cons}
+use Rattle.std.proofs.lemmas.List.Sums.{sum_by-cons}
+use Rattle.elf32_syms.specs.declared.image.Symbol.{Symbol}
+use Rattle.elf32_syms.specs.Owners.{owns, owner_of}
+use Rattle.gmon_data.specs.Tally.{total_of}
+use Rattle.call_cycles.specs.declared.graphs.FunArc.{FunArc}
+use Rattle.call_cycles.specs.Sums.{sum_below, when, numbers_below, list_of}
+use Rattle.call_cycles.specs.Graph.{no_arc}
+use Rattle.call_cycles.specs.Parts.{AreCalled, arcs_calls}
+use Rattle.call_cycles.specs.Calls.{pair_cmp, some_calls, HasCalls, lies_in, calls_of, calls_between, arc_between, arcs_among, function_arcs, own_calls, calls_at, arc_in}
+use Rattle.call_cycles.proofs.SumLemmas.{sum_ext, sum_add, sum_zero, sum_none, sum_mono, sum_at, sum_flat, sum_places, all_flat, flat_more}
+use Rattle.call_cycles.specs.Marks.{AreByCaller, AreWithin}
+use Rattle.call_cycles.proofs.CallLemmas.{calls_at_is}
+use Rattle.call_cycles.proofs.ListLemmas.{list_at}
+use Rattle.call_cycles.proofs.PairLemmas.{entry_of, pair_entry, entries_in_order}
+
+-- ---- the arcs that a map makes
+
+flat_flat : {A B C : Type 0} (h : B → List C) (k : A → List B) (xs : List A) → flat_map h (flat_map k xs) ≡ flat_map (λ x. flat_map h (k x)) xs
+flat_flat h k [] = refl
+flat_flat {A} {B} {C} h k (x ∷ xs) = flat_map-append h (k x) (flat_map k xs) ∙ ap (λ (ys : List C). flat_map h (k x) ++ ys) (flat_flat h k xs)
+
+flat_same : {A C : Type 0} (h k : A → List C) → ((x : A) → h x ≡ k x) → (xs : List A) → flat_map h xs ≡ flat_map k xs
+flat_same h k same [] = refl
+flat_same {A} {C} h k same (x ∷ xs) = ap (λ (ys : List C). ys ++ flat_map h xs) (same x) ∙ ap (λ (ys : List C). k x ++ ys) (flat_same h k same xs)
+
+arc_of_pair : (f g n : ℕ) (none same : Bool) → flat_map arc_in (entry_of (f, g) (if none then None else Some n)) ≡ (if none then [] else (if f == g then [] else record { caller = f; callee = g; count = n } ∷ []))
+arc_of_pair f g n true same = refl
+arc_of_pair f g n false same = append-nil (arc_in ((f, g), n))
+
+either : (a b : Bool) (xs : List FunArc) → (if b then [] else (if a then [] else xs)) ≡ (if a || b then [] else xs)
+either true true xs = refl
+either true false xs = refl
+either false true xs = refl
+either false false xs = refl
+
+pub made_arcs : (m : BTreeMap (ℕ × ℕ) ℕ) → IsOrdered pair_cmp m → (calls : ℕ → ℕ → ℕ) → HasCalls m calls → (n : ℕ) → ((f g : ℕ) → calls f g ≢ 0 → (f < n) × (g < n))
+    → flat_map arc_in m.entries ≡ arcs_among n calls
+unfolding arcs_among
+made_arcs m ordered calls has n within =
+    ap (flat_map arc_in) (entries_in_order m ordered calls has n within)
+    ∙ flat_flat arc_in (λ f. flat_map (pair_entry m ordered calls has n within f) (numbers_below n)) (numbers_below n)
+    ∙ flat_same _ _ (λ f. flat_flat arc_in (pair_entry m ordered calls has n within f) (numbers_below n) ∙ flat_same _ _ (one f) (numbers_below n)) (numbers_below n)
+  where
+    one : (f g : ℕ) → flat_map arc_in (entry_of (f, g) (some_calls (calls f g))) ≡ arc_between calls f g
+    one f g = arc_of_pair f g (calls f g) (calls f g == 0) (f == g) ∙ either (f == g) (calls f g == 0) (record { caller = f; callee = g; count = calls f g } ∷ [])
+
+-- ---- where they lie
+
+-- between two of n functions, with calls
+pub record IsArcBelow (n : ℕ) (a : FunArc) : Type 0 where
+  pub caller : a.caller < n
+  pub callee : a.callee < n
+  pub called : 0 < a.count
+
+all_between : (calls : ℕ → ℕ → ℕ) (n f g : ℕ) → f < n → g < n → All (IsArcBelow n) (arc_between calls f g)
+all_between calls n f g low_f low_g = by (f == g) (calls f g == 0) refl
+  where
+    by : (same none : Bool) → (calls f g == 0) ≡ none → All (IsArcBelow n) (if same || none then [] else record { caller = f; callee = g; count = calls f g } ∷ [])
+    by true none is = All-nil (IsArcBelow n)
+    by false true is = All-nil (IsArcBelow n)
+    by false false is =
+        let some : calls f g ≢ 0 = eqb-false _ _ is in
+        All-cons (IsArcBelow n) (record { caller = f; callee = g; count = calls f g }) [] (record { caller = low_f; callee = low_g; called = omega arith }) (All-nil (IsArcBelow n))
+
+pub arcs_below : (calls : ℕ → ℕ → ℕ) (n : ℕ) → All (IsArcBelow n) (arcs_among n calls)
+unfolding arcs_among
+arcs_below calls n =
+    all_flat (IsArcBelow n) (λ f. flat_map (arc_between calls f) (numbers_below n)) n (λ f low_f.
+    all_flat (IsArcBelow n) (arc_between calls f) n (λ g low_g. all_between calls n f g low_f low_g))
+
+-- ---- in order of caller
+
+own_arcs : (calls : ℕ → ℕ → ℕ) (f g : ℕ) → All (λ (a : FunArc). a.caller ≡ f) (arc_between calls f g)
+own_arcs calls f g = by (f == g || calls f g == 0)
+  where
+    by : (none : Bool) → All (λ (a : FunArc). a.caller ≡ f) (if none then [] else record { caller = f; callee = g; count = calls f g } ∷ [])
+    by true = All-nil (λ (a : FunArc). a.caller ≡ f)
+    by false = All-cons (λ (a : FunArc). a.caller ≡ f) (record { caller = f; callee = g; count = calls f g }) [] refl (All-nil (λ (a : FunArc). a.caller ≡ f))
+
+abbrev row_of : (ℕ → ℕ → ℕ) → ℕ → ℕ → List FunArc
+row_of calls n f = flat_map (arc_between calls f) (numbers_below n)
+
+own_row : (calls : ℕ → ℕ → ℕ) (n f : ℕ) → All (λ (a : FunArc). a.caller ≡ f) (row_of calls n f)
+own_row calls n f = all_flat (λ (a : FunArc). a.caller ≡ f) (arc_between calls f) n (λ g low. own_arcs calls f g)
+
+rows_below : (calls : ℕ → ℕ → ℕ) (n k : ℕ) → All (λ (a : FunArc). a.caller < k) (flat_map (row_of calls n) (numbers_below k))
+rows_below calls n k = all_flat (λ (a : FunArc). a.caller < k) (row_of calls n) k (λ f low i d inside. let at = own_row calls n f i d inside in omega arith)
+
+row_after : (xs ys : List FunArc) (m : ℕ) → AreByCaller xs → All (λ (a : FunArc). a.caller < m) xs → All (λ (a : FunArc). a.caller ≡ m) ys → AreByCaller (xs ++ ys)
+row_after xs ys m rising lower same i j d le below =
+    ⊎_elim
+    (λ (front : j < length xs). rw (get_or_append_left xs ys d i (omega arith), get_or_append_left xs ys d j front) (rising i j d le front))
+    (λ (back : length xs ≤ j).
+    let at = later j back below in
+    ⊎_elim
+    (λ (front : i < length xs).
+    let less = lower i d front in
+    let is : (get_or (xs ++ ys) i d).caller ≡ (get_or xs i d).caller = ap (λ (a : FunArc). a.caller) (get_or_append_left xs ys d i front) in
+    omega arith)
+    (λ (past : length xs ≤ i). let too = later i past (omega arith) in omega arith)
+    (cases_lt i (length xs)))
+    (cases_lt j (length xs))
+  where
+    later : (k : ℕ) → length xs ≤ k → k < length (xs ++ ys) → (get_or (xs ++ ys) k d).caller ≡ m
+    later k past inside =
+        let long = length-append xs ys in
+        ap (λ (a : FunArc). a.caller) (get_or-append_right xs ys (length xs) k d refl past) ∙ same (k - length xs) d (omega arith)
+
+rows_rise : (calls : ℕ → ℕ → ℕ) (n k : ℕ) → AreByCaller (flat_map (row_of calls n) (numbers_below k))
+rows_rise calls n zero = λ i j d le below. absurd (omega arith)
+rows_rise calls n (suc k) =
+    subst AreByCaller (sym (flat_more (row_of calls n) k))
+    (row_after (flat_map (row_of calls n) (numbers_below k)) (row_of calls n k) k (rows_rise calls n k) (rows_below calls n k) (own_row calls n k))
+
+pub by_caller : (calls : ℕ → ℕ → ℕ) (n : ℕ) → AreByCaller (arcs_among n calls)
+unfolding arcs_among
+by_caller calls n = rows_rise calls n n
+
+-- ---- the functions of a profile's calls
+
+owner_within : (n k f : ℕ) (inside : Bool) → nat_lt k n ≡ inside → n ≤ f → option_map_or (λ (o : ℕ). o == f) (cond inside (Some k) None) false ≡ false
+owner_within n k f true inside past = ne_eqb k f (λ q. grind (arith, nat_tests))
+owner_within n k f false inside past = refl
+
+lies_in_none : (symbols : List Symbol) (f address : ℕ) → length symbols ≤ f → lies_in symbols f address ≡ false
+lies_in_none symbols f address past = owner_within (length symbols) (position_or_len (owns address) symbols) f (nat_lt (position_or_len (owns address) symbols) (length symbols)) refl past
+
+none_left : (a b : Bool) (x : ℕ) → a ≡ false → when (a && b) x ≡ 0
+none_left a b x off = ap (λ (t : Bool). when (t && b) x) off
+
+none_right : (a b : Bool) (x : ℕ) → b ≡ false → when (a && b) x ≡ 0
+none_right true b x off = ap (λ (t : Bool). when t x) off
+none_right false b x off = refl
+
+between_cons : (e : (ℕ × ℕ) × ℕ) (es : List ((ℕ × ℕ) × ℕ)) (symbols : List Symbol) (f g : ℕ) → calls_between (e ∷ es) symbols f g ≡ calls_of symbols e f g + calls_between es symbols f g
+unfolding calls_between
+between_cons e es symbols f g = sum_by-cons (λ (x : (ℕ × ℕ) × ℕ). calls_of symbols x f g) e es
+
+between_nil : (symbols : List Symbol) (f g : ℕ) → calls_between [] symbols f g ≡ 0
+unfolding calls_between
+between_nil symbols f g = refl
+
+none_past : (es : List ((ℕ × ℕ) × ℕ)) (symbols : List Symbol) (f g : ℕ) → ((e : (ℕ × ℕ) × ℕ) → calls_of symbols e f g ≡ 0) → calls_between es symbols f g ≡ 0
+none_past [] symbols f g none = between_nil symbols f g
+none_past (e ∷ es) symbols f g none =
+    let first = none e in
+    let rest = none_past es symbols f g none in
+    let both = between_cons e es symbols f g in
+    omega arith
+
+pub calls_within : (es : List ((ℕ × ℕ) × ℕ)) (symbols : List Symbol) (f g : ℕ) → calls_between es symbols f g ≢ 0 → (f < length symbols) × (g < length symbols)
+calls_within es symbols f g some = (
+  ⊎_elim
+      (λ (low : f < length symbols). low)
+      (λ (past : length symbols ≤ f). absurd (some (none_past es symbols f g (λ e. none_left (lies_in symbols f e.0.0) (lies_in symbols g e.0.1) e.1 (lies_in_none symbols f e.0.0 past)))))
+      (cases_lt f (length symbols)),
+  ⊎_elim
+      (λ (low : g < length symbols). low)
+      (λ (past : length symbols ≤ g). absurd (some (none_past es symbols f g (λ e. none_right (lies_in symbols f e.0.0) (lies_in symbols g e.0.1) e.1 (lies_in_none symbols g e.0.1 past)))))
+      (cases_lt g (length symbols)),
+)
+
+-- ---- how many calls
+
+-- one function at most owns an address
+one_owner : (n : ℕ) (owner : Option ℕ) (x : ℕ) → sum_below n (λ f. when (option_map_or (λ (o : ℕ). o == f) owner false) x) ≤ x
+one_owner n None x = let none = sum_zero n in omega arith
+one_owner n (Some k) x =
+    ⊎_elim
+    (λ (low : k < n). let at : sum_below n (λ f. when (k == f) x) ≡ x = sum_at n (λ f. true) true k x low in omega arith)
+    (λ (past : n ≤ k).
+    let none : sum_below n (λ f. when (k == f) x) ≡ 0 = sum_none n (λ f. when (k == f) x) (λ f low. ap (λ (t : Bool). when t x) (ne_eqb k f (λ q. omega arith))) in
+    omega arith)
+    (cases_lt k n)
+
+one_callee : (n : ℕ) (on : Bool) (owner : Option ℕ) (x : ℕ) → sum_below n (λ g. when (on && option_map_or (λ (o : ℕ). o == g) owner false) x) ≤ when on x
+one_callee n true owner x = one_owner n owner x
+one_callee n false owner x = let none = sum_zero n in omega arith
+
+one_pair : (n : ℕ) (symbols : List Symbol) (e : (ℕ × ℕ) × ℕ) → sum_below n (λ f. sum_below n (calls_of symbols e f)) ≤ e.1
+one_pair n symbols e =
+    let callers = sum_mono n (λ f. sum_below n (calls_of symbols e f)) (λ f. when (lies_in symbols f e.0.0) e.1) (λ f low. one_callee n (lies_in symbols f e.0.0) (owner_of symbols e.0.1) e.1) in
+    let one = one_owner n (owner_of symbols e.0.0) e.1 in
+    omega arith
+
+all_pairs : (n : ℕ) (es : List ((ℕ × ℕ) × ℕ)) (symbols : List Symbol) → sum_below n (λ f. sum_below n (calls_between es symbols f)) ≤ total_of es
+all_pairs n [] symbols =
+    let none : sum_below n (λ f. sum_below n (calls_between [] symbols f)) ≡ 0 = sum_none n (λ f. sum_below n (calls_between [] symbols f)) (λ f low. sum_none n (calls_between [] symbols f) (λ g at. between_nil symbols f g)) in
+    omega arith
+all_pairs n (e ∷ es) symbols =
+    let split = sum_ext n (λ f. sum_below n (calls_between (e ∷ es) symbols f)) (λ f. sum_below n (calls_of symbols e f) + sum_below n (calls_between es symbols f))
+    (λ f low. sum_ext n (calls_between (e ∷ es) symbols f) (λ g. calls_of symbols e f g + calls_between es symbols f g) (λ g at. between_cons e es symbols f g) ∙ sum_add n (calls_of symbols e f) (calls_between es symbols f)) in
+    let both = sum_add n (λ f. sum_below n (calls_of symbols e f)) (λ f. sum_below n (calls_between es symbols f)) in
+    let first = one_pair n symbols e in
+    let rest = all_pairs n es symbols in
+    let total = sum_by-cons (λ (x : (ℕ × ℕ) × ℕ). x.1) e es in
+    omega arith
+
+-- the calls of the arc between two functions
+arc_calls : (calls : ℕ → ℕ → ℕ) (f g : ℕ) → sum_by (λ (a : FunArc). a.count) (arc_between calls f g) ≡ when (not (f == g)) (calls f g)
+arc_calls calls f g = by (f == g) (calls f g == 0) refl
+  where
+    by : (same none : Bool) → (calls f g == 0) ≡ none → sum_by (λ (a : FunArc). a.count) (if same || none then [] else record { caller = f; callee = g; count = calls f g } ∷ []) ≡ when (not same) (calls f g)
+    by true none is = refl
+    by false true is = sym (eqb-true _ _ is)
+    by false false is = omega arith
+
+others_and_self : (n f : ℕ) (row : ℕ → ℕ) → f < n → sum_below n (λ g. when (not (f == g)) (row g)) + row f ≡ sum_below n row
+others_and_self n f row low =
+    let self : sum_below n (λ g. when (f == g) (row f)) ≡ row f = sum_at n (λ g. true) true f (row f) low in
+    let both = sum_add n (λ g. when (not (f == g)) (row g)) (λ g. when (f == g) (row f)) in
+    let all = sum_ext n (λ g. when (not (f == g)) (row g) + when (f == g) (row f)) row (λ g at. one g (f == g) refl) in
+    omega arith
+  where
+    one : (g : ℕ) (same : Bool) → (f == g) ≡ same → when (not same) (row g) + when same (row f) ≡ row g
+    one g true is = let e : row f ≡ row g = ap row (eqb-true f g is) in omega arith
+    one g false is = omega arith
+
+pub arcs_and_selves : (calls : ℕ → ℕ → ℕ) (n : ℕ) → sum_by (λ (a : FunArc). a.count) (arcs_among n calls) + sum_below n (λ f. calls f f) ≡ sum_below n (λ f. sum_below n (calls f))
+unfolding arcs_among
+arcs_and_selves calls n =
+    let rows = sum_flat (λ (a : FunArc). a.count) (λ f. flat_map (arc_between calls f) (numbers_below n)) n in
+    let others = sum_ext n (λ f. sum_by (λ (a : FunArc). a.count) (flat_map (arc_between calls f) (numbers_below n))) (λ f. sum_below n (λ g. when (not (f == g)) (calls f g)))
+    (λ f low. sum_flat (λ (a : FunArc). a.count) (arc_between calls f) n ∙ sum_ext n _ _ (λ g at. arc_calls calls f g)) in
+    let both = sum_add n (λ f. sum_below n (λ g. when (not (f == g)) (calls f g))) (λ f. calls f f) in
+    let all = sum_ext n (λ f. sum_below n (λ g. when (not (f == g)) (calls f g)) + calls f f) (λ f. sum_below n (calls f)) (λ f low. others_and_self n f (calls f) low) in
+    omega arith
+
+pub arcs_calls_is : (arcs : List FunArc) → arcs_calls arcs ≡ sum_by (λ (a : FunArc). a.count) arcs
+unfolding arcs_calls
+arcs_calls_is arcs = sum_places (λ (a : FunArc). a.count) arcs no_arc (length arcs) (omega arith) ∙ ap (sum_by (λ (a : FunArc). a.count)) (take_all (length arcs) arcs (omega arith))
+
+-- all calls of the functions are calls of the profile
+pub calls_few : (es : List ((ℕ × ℕ) × ℕ)) (symbols : List Symbol)
+    → arcs_calls (arcs_among (length symbols) (calls_between es symbols)) + sum_below (length symbols) (λ f. calls_between es symbols f f) ≤ total_of es
+calls_few es symbols =
+    let is = arcs_calls_is (arcs_among (length symbols) (calls_between es symbols)) in
+    let all = arcs_and_selves (calls_between es symbols) (length symbols) in
+    let le = all_pairs (length symbols) es symbols in
+    omega arith
+
+-- ---- the parts of a graph that a map of sums makes
+
+module _ (m : BTreeMap (ℕ × ℕ) ℕ) (es : List ((ℕ × ℕ) × ℕ)) (symbols : List Symbol) (has : HasCalls m (calls_between es symbols)) where
+  pub made_function_arcs : IsOrdered pair_cmp m → (arcs : List FunArc) → arcs ≡ flat_map arc_in m.entries → arcs ≡ function_arcs es symbols
+  made_function_arcs ordered arcs is = is ∙ made_arcs m ordered (calls_between es symbols) has (length symbols) (calls_within es symbols)
+
+  pub made_own_calls : (n : ℕ) → n ≡ length symbols → (selves : List ℕ) → selves ≡ list_of n (λ f. calls_at m f f) → selves ≡ own_calls es symbols
+  made_own_calls n is_n selves is = is ∙ ap (λ (k : ℕ). list_of k (λ f. calls_at m f f)) is_n ∙ (λ i. list_of (length symbols) (λ f. calls_at_is m (calls_between es symbols) has f f i))
+
+  pub made_few : (arcs : List FunArc) (n : ℕ) (selves : List ℕ) → arcs ≡ function_arcs es symbols → n ≡ length symbols → selves ≡ own_calls es symbols → arcs_calls arcs + sum_below n (slice_index selves) ≤ total_of es
+  made_few arcs n selves is is_n is_selves =
+      let few = calls_few es symbols in
+      let one : arcs_calls arcs ≡ arcs_calls (function_arcs es symbols) = ap arcs_calls is in
+      let two : sum_below n (slice_index selves) ≡ sum_below (length symbols) (slice_index selves) = ap (λ (k : ℕ). sum_below k (slice_index selves)) is_n in
+      let three = sum_ext (length symbols) (slice_index selves) (λ f. calls_between es symbols f f) (λ f low. list_at (length symbols) (λ k. calls_between es symbols k k) selves is_selves f low) in
+      omega arith
+
+pub are_within : (es : List ((ℕ × ℕ) × ℕ)) (symbols : List Symbol) (arcs : List FunArc) (n : ℕ) → arcs ≡ function_arcs es symbols → n ≡ length symbols → AreWithin n arcs
+are_within es symbols arcs n is is_n i below =
+    let all = subst (All (IsArcBelow n)) (sym is) (subst (λ (k : ℕ). All (IsArcBelow k) (function_arcs es symbols)) (sym is_n) (arcs_below (calls_between es symbols) (length symbols))) in
+    let a = all i no_arc below in
+    (a.caller, a.callee)
+
+pub are_called : (es : List ((ℕ × ℕ) × ℕ)) (symbols : List Symbol) (arcs : List FunArc) → arcs ≡ function_arcs es symbols → AreCalled arcs
+are_called es symbols arcs is i below =
+    let all = subst (All (IsArcBelow (length symbols))) (sym is) (arcs_below (calls_between es symbols) (length symbols)) in
+    (all i no_arc below).called
+
+pub are_by_caller : (es : List ((ℕ × ℕ) × ℕ)) (symbols : List Symbol) (arcs : List FunArc) → arcs ≡ function_arcs es symbols → AreByCaller arcs
+are_by_caller es symbols arcs is = subst AreByCaller (sym is) (by_caller (calls_between es symbols) (length symbols))

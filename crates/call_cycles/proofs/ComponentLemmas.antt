@@ -1,0 +1,167 @@
+-- The numbered components are those of the graph.
+use Rattle.std.proofs.Common.{◌≡◌, ◌≢◌, ◌<◌, ◌↔◌, ℕ, zero, suc, ◌&&◌, Bool, not, List, [], ◌∷◌, length, map, get_or, inl, inr, refl, ap, sym, ◌∙◌, subst, ⊎_elim, arith}
+use Rattle.std.specs.Prelude.{◌==◌, slice_index, slice_index_or}
+use Rattle.std.proofs.lemmas.Bool.{cases_eq, eq-eqb, ne_eqb}
+use Rattle.call_cycles.specs.declared.graphs.FunArc.{FunArc}
+use Rattle.call_cycles.specs.Sums.{max_below, when}
+use Rattle.call_cycles.specs.Graph.{GraphValue, no_arc, IsLevel, AreComponents, component_of, target_of, leaves}
+use Rattle.call_cycles.specs.Walks.{Reaches}
+use Rattle.call_cycles.specs.Marks.{AreWithin}
+use Rattle.call_cycles.specs.Leaders.{AreLeaders, AreLevels, callee_leader, leaves_leader}
+use Rattle.call_cycles.specs.Heads.{IsHeadOrder}
+use Rattle.call_cycles.specs.Sums.{list_of}
+use Rattle.call_cycles.proofs.SumLemmas.{max_ext}
+use Rattle.call_cycles.proofs.WalkLemmas.{reaches_itself, reaches_on}
+use Rattle.call_cycles.proofs.LevelLemmas.{joined_same}
+use Rattle.call_cycles.proofs.ListLemmas.{list_long, list_at}
+
+pub same_test : (a b x y : ℕ) → (a ≡ b → x ≡ y) → (x ≡ y → a ≡ b) → (a == b) ≡ (x == y)
+same_test a b x y to back =
+    ⊎_elim
+    (λ (same : a ≡ b). eq-eqb a b same ∙ sym (eq-eqb x y (to same)))
+    (λ (apart : a ≢ b). ne_eqb a b apart ∙ sym (ne_eqb x y (λ q. apart (back q))))
+    (cases_eq a b)
+
+heads_at : (order : List (ℕ × ℕ)) (c : ℕ) → slice_index (map (λ (p : ℕ × ℕ). p.1) order) c ≡ (get_or order c (0, 0)).1
+heads_at [] c = refl
+heads_at (p ∷ order) zero = refl
+heads_at (p ∷ order) (suc c) = heads_at order c
+
+heads_long : (order : List (ℕ × ℕ)) → length (map (λ (p : ℕ × ℕ). p.1) order) ≡ length order
+heads_long [] = refl
+heads_long (p ∷ order) = ap suc (heads_long order)
+
+module _ (n : ℕ) (arcs : List FunArc) (self_calls leaders levels places component heads : List ℕ) (order : List (ℕ × ℕ))
+    (within : AreWithin n arcs) (led : AreLeaders n arcs leaders) (lev : AreLevels n arcs leaders levels) (ord : IsHeadOrder n leaders levels order)
+    (placed : (c : ℕ) → c < length order → slice_index places (slice_index_or order c (0, 0)).1 ≡ c)
+    (is_component : component ≡ list_of n (λ f. slice_index places (slice_index leaders f))) (is_heads : heads ≡ map (λ (p : ℕ × ℕ). p.1) order) where
+  abbrev g : GraphValue
+  g = record { functions = n; arcs = arcs; self_calls = self_calls; component = component; heads = heads }
+
+  abbrev H : ℕ → ℕ
+  H c = slice_index heads c
+
+  abbrev L : ℕ → ℕ
+  L f = slice_index leaders f
+
+  pub count : length heads ≡ length order
+  count = ap length is_heads ∙ heads_long order
+
+  head_at : (c : ℕ) → H c ≡ (get_or order c (0, 0)).1
+  head_at c = ap (λ (xs : List ℕ). slice_index xs c) is_heads ∙ heads_at order c
+
+  is_head : (c : ℕ) → c < length heads → (H c < n) × (L (H c) ≡ H c) × ((get_or order c (0, 0)).0 ≡ slice_index levels (H c))
+  is_head c below =
+      let long = count in
+      let p = ord.those c (0, 0) (omega arith) in
+      let at = head_at c in
+      subst (λ (h : ℕ). (h < n) × (L h ≡ h) × ((get_or order c (0, 0)).0 ≡ slice_index levels h)) (sym at) p
+
+  leader_leads : (f : ℕ) → f < n → L (L f) ≡ L f
+  leader_leads f below = let l = led.each f below in sym (joined_same n arcs leaders within led f (L f) below l.within l.joined)
+
+  place_of : (h : ℕ) → h < n → L h ≡ h → (slice_index places h < length heads) × (H (slice_index places h) ≡ h)
+  place_of h below leads =
+      let long = count in
+      let r = ord.each h below leads in
+      let at = placed r.0 r.1 in
+      let same : slice_index places h ≡ r.0 = ap (slice_index places) (sym r.2) ∙ at in
+      let r1 = r.1 in
+      (omega arith, ap H same ∙ head_at r.0 ∙ r.2)
+
+  component_at : (f : ℕ) → f < n → component_of g f ≡ slice_index places (L f)
+  component_at f below = list_at n (λ k. slice_index places (L k)) component is_component f below
+
+  pub component_within : (f : ℕ) → f < n → component_of g f < length heads
+  component_within f below =
+      let l = led.each f below in
+      let p = place_of (L f) l.within (leader_leads f below) in
+      let p0 = p.0 in
+      let at = component_at f below in
+      omega arith
+
+  -- the head of a function's component is its leader
+  head_is : (f : ℕ) → f < n → H (component_of g f) ≡ L f
+  head_is f below =
+      let l = led.each f below in
+      ap H (component_at f below) ∙ (place_of (L f) l.within (leader_leads f below)).1
+
+  same_leader : (f h : ℕ) → f < n → h < n → component_of g f ≡ component_of g h → L f ≡ L h
+  same_leader f h fb hb same = sym (head_is f fb) ∙ ap H same ∙ head_is h hb
+
+  same_component : (f h : ℕ) → f < n → h < n → L f ≡ L h → component_of g f ≡ component_of g h
+  same_component f h fb hb same = component_at f fb ∙ ap (slice_index places) same ∙ sym (component_at h hb)
+
+  head_component : (c : ℕ) → c < length heads → component_of g (H c) ≡ c
+  head_component c below =
+      let long = count in
+      let head = is_head c below in
+      component_at (H c) head.0 ∙ ap (slice_index places) (head.1 ∙ head_at c) ∙ placed c (omega arith)
+
+  pub are_joined : (f h : ℕ) → f < n → h < n → (component_of g f ≡ component_of g h) ↔ (Reaches arcs f h × Reaches arcs h f)
+  are_joined f h fb hb = (
+    λ same.
+        let one = (led.each f fb).joined in
+        let two = (led.each h hb).joined in
+        let l : L f ≡ L h = same_leader f h fb hb same in (
+          reaches_on arcs f (L f) h one.0 (subst (λ (x : ℕ). Reaches arcs x h) (sym l) two.1),
+          reaches_on arcs h (L h) f two.0 (subst (λ (x : ℕ). Reaches arcs x f) l one.1),
+        ),
+    λ joined. same_component f h fb hb (joined_same n arcs leaders within led f h fb hb joined),
+  )
+
+  level : ℕ → ℕ
+  level c = slice_index levels (H c)
+
+  -- an arc leaves a component where it leaves what the head leads
+  leaves_same : (c i : ℕ) → c < length heads → i < length arcs → leaves g c i ≡ leaves_leader arcs leaders (H c) i
+  leaves_same c i below inside =
+      let f : ℕ = (get_or arcs i no_arc).caller in
+      let h : ℕ = (get_or arcs i no_arc).callee in
+      let fb : f < n = (within i inside).0 in
+      let hb : h < n = (within i inside).1 in
+      let ends : (component_of g f == component_of g h) ≡ (L f == L h) = same_test (component_of g f) (component_of g h) (L f) (L h) (same_leader f h fb hb) (same_component f h fb hb) in
+      let here : (component_of g f == c) ≡ (L f == H c) = same_test (component_of g f) c (L f) (H c)
+      (λ at. sym (head_is f fb) ∙ ap H at)
+      (λ at. sym (head_component (component_of g f) (component_within f fb)) ∙ ap (component_of g) (head_is f fb ∙ at) ∙ head_component c below) in
+      ap (λ (b : Bool). not b && component_of g f == c) ends ∙ ap (λ (b : Bool). not (L f == L h) && b) here
+
+  levels_are : IsLevel g level
+  unfolding level
+  levels_are = record { highest = high }
+    where
+      high : (c : ℕ) → c < length heads → slice_index levels (H c) ≡ max_below (length arcs) (λ i. when (leaves g c i) (suc (slice_index levels (H (target_of g i)))))
+      high c below =
+          lev.highest (H c) (is_head c below).0
+          ∙ max_ext (length arcs) _ _ (λ i inside.
+          ap (λ (b : Bool). when b (suc (slice_index levels (callee_leader arcs leaders i)))) (sym (leaves_same c i below inside))
+          ∙ ap (λ (x : ℕ). when (leaves g c i) (suc (slice_index levels x))) (sym (head_is (get_or arcs i no_arc).callee (within i inside).1)))
+
+  pub are_components : AreComponents g
+  unfolding level
+  are_components = record {
+    each = list_long n _ component is_component;
+    within = component_within;
+    joined = are_joined;
+    heads_below = λ c below. (is_head c below).0;
+    heads_in = head_component;
+    heads_least = λ f below.
+        let at = head_is f below in
+        let least = (led.each f below).least f (omega arith) below (reaches_itself arcs f, reaches_itself arcs f) in
+        omega arith;
+    level = level;
+    levels = levels_are;
+    ordered = λ c d less below.
+        let long = count in
+        let r = ord.rising c d less (omega arith) in
+        let hc = is_head c (omega arith) in
+        let hd = is_head d below in
+        let ac = head_at c in
+        let ad = head_at d in
+        let c2 = hc.2 in
+        let d2 = hd.2 in
+        ⊎_elim
+        (λ (lower : (get_or order c (0, 0)).0 < (get_or order d (0, 0)).0). inl (omega arith))
+        (λ (same : ((get_or order c (0, 0)).0 ≡ (get_or order d (0, 0)).0) × ((get_or order c (0, 0)).1 < (get_or order d (0, 0)).1)). let s0 = same.0 in let s1 = same.1 in inr (omega arith, omega arith))
+        r;
+  }

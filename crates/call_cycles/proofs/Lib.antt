@@ -1,0 +1,16 @@
+pub mod SumLemmas
+pub mod ListLemmas
+pub mod WalkLemmas
+pub mod MarkLemmas
+pub mod RankLemmas
+pub mod LeaderLemmas
+pub mod LevelLemmas
+pub mod HeadLemmas
+pub mod ComponentLemmas
+pub mod NumberingLemmas
+pub mod EnteringLemmas
+pub mod CallLemmas
+pub mod PairLemmas
+pub mod ArcLemmas
+pub mod ProfileLemmas
+pub mod MemberLemmas

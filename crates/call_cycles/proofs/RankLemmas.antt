@@ -1,0 +1,98 @@
+-- How many functions are reached.
+use Rattle.std.proofs.Common.{◌≡◌, ◌≢◌, ◌<◌, ◌≤◌, ◌↔◌, ℕ, zero, suc, ◌+◌, Bool, true, false, cond, List, [], ◌∷◌, ◌++◌, length, get_or, refl, ap, sym, ◌∙◌, subst, ⊎_elim, arith}
+use Rattle.std.specs.List.{count_by}
+use Rattle.std.proofs.lemmas.Bool.{true≢false, cases_Bool, cases_eq}
+use Rattle.std.proofs.lemmas.List.Sums.{sum_by-cons}
+use Rattle.std.proofs.lemmas.List.{get_or_push, get_or_append_left}
+use Rattle.call_cycles.specs.declared.graphs.FunArc.{FunArc}
+use Rattle.call_cycles.specs.Walks.{Reaches, IsCount, IsRank}
+use Rattle.call_cycles.proofs.WalkLemmas.{reaches_itself, reaches_on}
+
+count : List Bool → ℕ
+count xs = count_by (λ (b : Bool). b) xs
+
+count_cons : (b : Bool) (xs : List Bool) → count (b ∷ xs) ≡ cond b 1 0 + count xs
+unfolding count
+count_cons b xs = sum_by-cons (λ (c : Bool). cond c 1 0) b xs
+
+bit_le : (a b : Bool) → (a ≡ true → b ≡ true) → cond a 1 0 ≤ cond b 1 0
+bit_le true true h = omega arith
+bit_le true false h = absurd (true≢false (sym (h refl)))
+bit_le false b h = omega arith
+
+count_le : (xs ys : List Bool) → length xs ≡ length ys → ((i : ℕ) → i < length xs → get_or xs i false ≡ true → get_or ys i false ≡ true) → count xs ≤ count ys
+unfolding count
+count_le [] [] len h = omega arith
+count_le [] (y ∷ ys) len h = absurd (omega arith)
+count_le (x ∷ xs) [] len h = absurd (omega arith)
+count_le (x ∷ xs) (y ∷ ys) len h =
+    let ih = count_le xs ys (omega arith) (λ i below. h (suc i) (omega arith)) in
+    let b = bit_le x y (h 0 (omega arith)) in
+    let one = count_cons x xs in
+    let two = count_cons y ys in
+    omega arith
+
+count_lt : (xs ys : List Bool) (k : ℕ) → length xs ≡ length ys → ((i : ℕ) → i < length xs → get_or xs i false ≡ true → get_or ys i false ≡ true)
+    → k < length xs → get_or xs k false ≡ false → get_or ys k false ≡ true → count xs < count ys
+count_lt [] ys k len h below off on = absurd (omega arith)
+count_lt (x ∷ xs) [] k len h below off on = absurd (omega arith)
+count_lt (x ∷ xs) (y ∷ ys) zero len h below off on =
+    let ih = count_le xs ys (omega arith) (λ i b. h (suc i) (omega arith)) in
+    let one = count_cons x xs in
+    let two = count_cons y ys in
+    let bx : ◌≡◌ {A = ℕ} (cond x 1 0) 0 = ap (λ (b : Bool). cond {A = ℕ} b 1 0) off in
+    let by : ◌≡◌ {A = ℕ} (cond y 1 0) 1 = ap (λ (b : Bool). cond {A = ℕ} b 1 0) on in
+    omega arith
+count_lt (x ∷ xs) (y ∷ ys) (suc k) len h below off on =
+    let ih = count_lt xs ys k (omega arith) (λ i b. h (suc i) (omega arith)) (omega arith) off on in
+    let b = bit_le x y (h 0 (omega arith)) in
+    let one = count_cons x xs in
+    let two = count_cons y ys in
+    omega arith
+
+module _ (n : ℕ) (arcs : List FunArc) (f h a b : ℕ) (f_below : f < n) (h_below : h < n) (at_f : IsCount n arcs f a) (at_h : IsCount n arcs h b) where
+  subset : Reaches arcs f h → (i : ℕ) → i < length at_h.0 → get_or at_h.0 i false ≡ true → get_or at_f.0 i false ≡ true
+  subset r i below on =
+      let len = at_h.1.len in
+      (at_f.1.each i (omega arith)).1 (reaches_on arcs f h i r ((at_h.1.each i (omega arith)).0 on))
+
+  pub rank_falls : Reaches arcs f h → b ≤ a
+  unfolding count
+  rank_falls r = let le = count_le at_h.0 at_f.0 (at_h.1.len ∙ sym at_f.1.len) (subset r) in let p = at_f.2 in let q = at_h.2 in omega arith
+
+  pub rank_same_back : Reaches arcs f h → b ≡ a → Reaches arcs h f
+  unfolding count
+  rank_same_back r same =
+      ⊎_elim
+      (λ (on : get_or at_h.0 f false ≡ true). (at_h.1.each f f_below).0 on)
+      (λ (off : get_or at_h.0 f false ≡ false).
+      let len = at_h.1.len in
+      let less = count_lt at_h.0 at_f.0 f (at_h.1.len ∙ sym at_f.1.len) (subset r) (omega arith) off ((at_f.1.each f f_below).1 (reaches_itself arcs f)) in
+      let p = at_f.2 in
+      let q = at_h.2 in
+      absurd (omega arith))
+      (cases_Bool (get_or at_h.0 f false))
+
+pub rank_stays : (n : ℕ) (arcs : List FunArc) (f h a b : ℕ) → f < n → h < n → IsCount n arcs f a → IsCount n arcs h b → Reaches arcs f h → (b ≡ a) ↔ Reaches arcs h f
+rank_stays n arcs f h a b f_below h_below at_f at_h r = (
+  rank_same_back n arcs f h a b f_below h_below at_f at_h r,
+  λ back.
+      let one = rank_falls n arcs f h a b f_below h_below at_f at_h r in
+      let two = rank_falls n arcs h f b a h_below f_below at_h at_f back in
+      omega arith,
+)
+
+pub are_ranks : (n : ℕ) (arcs : List FunArc) (rank : List ℕ) → length rank ≡ n → ((f : ℕ) → f < n → IsCount n arcs f (get_or rank f 0)) → IsRank n arcs rank
+are_ranks n arcs rank len counts = record {
+  len = len;
+  falls = λ f h fb hb r. rank_falls n arcs f h _ _ fb hb (counts f fb) (counts h hb) r;
+  stays = λ f h fb hb r. rank_stays n arcs f h _ _ fb hb (counts f fb) (counts h hb) r;
+}
+
+pub counts_more : (n : ℕ) (arcs : List FunArc) (counts : List ℕ) (f x : ℕ) → length counts ≡ f → ((k : ℕ) → k < f → IsCount n arcs k (get_or counts k 0)) → IsCount n arcs f x
+    → (k : ℕ) → k < f + 1 → IsCount n arcs k (get_or (counts ++ x ∷ []) k 0)
+counts_more n arcs counts f x len before here k below =
+    ⊎_elim
+    (λ (at : k ≡ f). subst (IsCount n arcs k) (sym (get_or_push counts x 0 k (len ∙ sym at))) (subst (λ (j : ℕ). IsCount n arcs j x) (sym at) here))
+    (λ (apart : k ≢ f). subst (IsCount n arcs k) (sym (get_or_append_left counts (x ∷ []) 0 k (omega arith))) (before k (omega arith)))
+    (cases_eq k f)

@@ -1,0 +1,133 @@
+//! The graph of a profile.
+
+ghost use Rattle.std.specs.Prelude.{◌≡◌, ◌<◌, ◌≤◌, ◌^◌, ◌+◌, ℕ, List, length, slice_index, IfOk};
+ghost use Rattle.elf32_syms.specs.Owners.{IsAscending};
+ghost use Rattle.call_cycles.specs.Calls.{function_arcs, own_calls};
+ghost use Rattle.call_cycles.specs.Graph.{IsGraph, AreComponents, all_calls, entering_of};
+ghost use Rattle.call_cycles.specs.Marks.{AreByCaller, AreWithin};
+ghost use Rattle.call_cycles.specs.Parts.{headless_graph, graph_of_parts, AreCalled, arcs_calls};
+ghost use Rattle.call_cycles.specs.Sums.{list_of, sum_below};
+
+use crate::graphs::{FunArc, Graph};
+use crate::{calls, level, number, walk};
+use elf32_syms::Symbol;
+use gmon_data::Profile;
+use std::alloc::{AllocError, Global};
+
+/// The calls of outside arcs that enter each component.
+fn entering(
+    alloc: Global,
+    component: &[u32],
+    count: usize,
+    arcs: &[FunArc],
+) -> Result<Vec<u64>, AllocError>
+    requires within { AreWithin (length component.now) arcs.now }
+    requires components { (f : ℕ) → f < length component.now → slice_index component.now f < count }
+    requires few { arcs_calls arcs.now < 2 ^ 59 }
+    ensures each { IfOk result (λ v. v.items ≡ list_of count (entering_of (headless_graph component.now arcs.now))) }
+{
+    let mut calls = vec![in alloc; 0u64; count]?;
+    for a in arcs {
+        let c = component[a.caller as usize] as usize;
+        let d = component[a.callee as usize] as usize;
+        if c != d {
+            calls[d] += a.count;
+        }
+    }
+    Ok(calls)
+}
+
+/// The component of each function, and the head of each component.
+#[derive(Drop)]
+struct Found {
+    component: Vec<u32>,
+    heads: Vec<u32>,
+}
+
+/// The components in their order.
+fn found_components(alloc: Global, functions: u32, arcs: &[FunArc]) -> Result<Found, AllocError>
+    requires within { AreWithin functions arcs.now }
+    requires ordered { AreByCaller arcs.now }
+    ensures components { IfOk result (λ f. (self_calls : List ℕ) → AreComponents (graph_of_parts functions arcs.now self_calls f.component.items f.heads.items)) }
+    ensures few { IfOk result (λ f. length f.heads.items ≤ functions) }
+{
+    let ranks = walk::ranks(alloc, functions, arcs)?;
+    let leaders = walk::leaders(alloc, functions, arcs, &ranks)?;
+    let levels = level::levels(alloc, functions, arcs, &leaders, &ranks)?;
+    let order = number::heads_in_order(alloc, &leaders, &levels)?;
+    let places = number::places(alloc, functions as usize, &order)?;
+    let component = number::components(alloc, &leaders, &places)?;
+    let heads = number::heads(alloc, &order)?;
+    Ok(Found { component, heads })
+}
+
+/// The graph of functions, their arcs and the calls of each by itself.
+fn graph_of(
+    alloc: Global,
+    functions: u32,
+    arcs: Vec<FunArc>,
+    self_calls: Vec<u64>,
+) -> Result<Graph, AllocError>
+    requires within { AreWithin functions arcs.items }
+    requires ordered { AreByCaller arcs.items }
+    requires called { AreCalled arcs.items }
+    requires few { arcs_calls arcs.items < 2 ^ 59 }
+    requires self_calls { length self_calls.items ≡ functions }
+    ensures functions { IfOk result (λ g. g.functions ≡ functions) }
+    ensures arcs { IfOk result (λ g. g.arcs ≡ arcs.items) }
+    ensures self_calls { IfOk result (λ g. g.self_calls ≡ self_calls.items) }
+    ensures components { IfOk result IsGraph }
+    ensures calls { IfOk result (λ g. all_calls g ≡ arcs_calls arcs.items + sum_below functions (slice_index self_calls.items)) }
+{
+    let found = found_components(alloc, functions, &arcs)?;
+    let entering = entering(alloc, &found.component, found.heads.len(), &arcs)?;
+    let members = number::member_counts(alloc, &found.component, found.heads.len())?;
+    Ok(Graph {
+        functions,
+        arcs,
+        self_calls,
+        component: found.component,
+        heads: found.heads,
+        members,
+        entering,
+    })
+}
+
+/// How many functions symbols name.
+fn count_of(symbols: &[Symbol]) -> u32
+    requires { IsAscending symbols.now }
+    ensures { result ≡ length symbols.now }
+{
+    if symbols.is_empty() {
+        return 0;
+    }
+    // Each symbol has an address of its own, so their number is at most the last end.
+    let _last_end = symbols[symbols.len() - 1].end;
+    symbols.len() as u32
+}
+
+/// The graph of the functions that symbols name and of a profile's calls between them.
+///
+/// An arc of the profile whose call site or callee lies in no symbol, or whose count is 0, is left
+/// out. The others are summed by function pair: that in which the call site lies, and that in which
+/// the callee lies. Calls of a function to itself are its self calls and no arc. Arcs are in order of
+/// caller, then callee.
+///
+/// The level of a component that no arc leaves is 0, that of any other one more than the highest level
+/// that it calls. Components are numbered by level, those of one level by their heads.
+///
+/// The time grows as the functions times the functions and arcs, the memory as the functions and arcs.
+pub fn graph(alloc: Global, profile: &Profile, symbols: &[Symbol]) -> Result<Graph, AllocError>
+    requires ordered { IsAscending symbols.now }
+    ensures functions { IfOk result (λ g. g.functions ≡ length symbols.now) }
+    ensures arcs { IfOk result (λ g. g.arcs ≡ function_arcs profile.now.arcs symbols.now) }
+    ensures self_calls { IfOk result (λ g. g.self_calls ≡ own_calls profile.now.arcs symbols.now) }
+    ensures components { IfOk result IsGraph }
+    ensures few { IfOk result (λ g. all_calls g < 2 ^ 59) }
+{
+    let sums = calls::pair_sums(alloc, profile, symbols)?;
+    let functions = count_of(symbols);
+    let arcs = calls::arcs_of(alloc, &sums)?;
+    let self_calls = calls::self_calls_of(alloc, functions, &sums)?;
+    graph_of(alloc, functions, arcs, self_calls)
+}
