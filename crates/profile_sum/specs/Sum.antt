@@ -22,7 +22,7 @@ sum_of p q = record {
   «unit» = option_or p.«unit» q.«unit»;
 }
 
--- why the first histogram of q, in ascending order, that can't be added to p alone can't be
+-- of q's histograms, in ascending order, the first that can't be added to p alone: why it can't
 abbrev pub clash_of : Content → Content → Option Unlike
 clash_of p q = slice_get (filter_map (λ h. option_and_then (hist_conflict p h) q.«unit») q.hists) 0
 
