@@ -77,7 +77,7 @@ is_zero : (n : ℕ) → ((n ≡ 0) × (eqb n 0 ≡ true)) ⊎ ((1 ≤ n) × (eqb
 is_zero zero = inl (refl, refl)
 is_zero (suc n) = inr (omega arith, not_zero (suc n) (omega arith))
 
-later : (skip place : ℕ) (xs : List ℕ) → 1 ≤ skip → nth skip (place ∷ xs) ≡ nth (skip - 1) xs
+pub later : (skip place : ℕ) (xs : List ℕ) → 1 ≤ skip → nth skip (place ∷ xs) ≡ nth (skip - 1) xs
 later skip place xs some = ap (λ (b : Bool). cond b (Some place) (nth (skip - 1) xs)) (not_zero skip some)
 
 pub later_found : (o : Option (List Item)) (wanted : Wanted) (skip place : ℕ) → 1 ≤ skip → option_map (λ items. nth (skip - 1) (places wanted items)) o ≡ option_map (λ items. nth skip (place ∷ places wanted items)) o
@@ -94,14 +94,14 @@ none_so f g None e = refl
 none_so f g (Some items) e = absurd cc
 
 -- there are more than k, exactly where there is one behind the first k
-nth_none : (k : ℕ) (xs : List ℕ) → nth k xs ≡ None → length xs ≤ k
+pub nth_none : (k : ℕ) (xs : List ℕ) → nth k xs ≡ None → length xs ≤ k
 nth_none k [] e = omega arith
 nth_none k (x ∷ xs) e = elim (is_zero k) [
   | inl none ↦ absurd (cc (e, ap (λ (b : Bool). cond b (Some x) (nth (k - 1) xs)) none.1))
   | inr some ↦ let rest = nth_none (k - 1) xs (sym (ap (λ (b : Bool). cond b (Some x) (nth (k - 1) xs)) some.1) ∙ e) in omega (arith, rest, some.0)
 ]
 
-nth_some : (k : ℕ) (xs : List ℕ) (y : ℕ) → nth k xs ≡ Some y → k < length xs
+pub nth_some : (k : ℕ) (xs : List ℕ) (y : ℕ) → nth k xs ≡ Some y → k < length xs
 nth_some k [] y e = absurd cc
 nth_some k (x ∷ xs) y e = elim (is_zero k) [
   | inl none ↦ omega (arith, none.0)

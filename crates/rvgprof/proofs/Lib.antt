@@ -1,9 +1,12 @@
 pub mod Numerals
 pub mod ItemLemmas
 pub mod WordLemmas
+pub mod PlaceLemmas
 pub mod Standing
 pub mod Accepting
 pub mod Performing
+pub mod ProfileSizeLemmas
+pub mod Summing
 pub mod Running
 pub mod LastLine
 pub mod Showable

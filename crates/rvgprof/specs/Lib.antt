@@ -7,3 +7,4 @@ pub mod Course
 pub mod Answer
 pub mod Contract
 pub mod Standing
+pub mod ProfileSizes

@@ -9,6 +9,7 @@ mod faults;
 mod programs;
 mod runs;
 mod shows;
+mod sums;
 mod system;
 
 fn words_from(alloc: Global, texts: &[&str]) -> Result<Vec<String>, AllocError> {

@@ -1,0 +1,82 @@
+-- Profile files were read and added up, as the words ask for it.
+use Rattle.std.proofs.Common.{◌≡◌, ℕ, ◌+◌, ◌-◌, ◌<◌, ◌≤◌, List, [], ◌∷◌, Option, None, Err, inl, refl, sym, ap, subst, ◌∙◌, arith}
+use Rattle.std.specs.List.{AllByRecursion}
+use Rattle.gmon_data.specs.Content.{Content, empty_content, conflict_of, wide_records, with_records}
+use Rattle.gmon_data.specs.declared.refusal.AddRefusal.{AddRefusal}
+use Rattle.gmon_data.specs.declared.refusal.AddRefusal.TheVariants as adding
+use Rattle.gmon_data.specs.declared.refusal.Unlike.{Unlike as Difference}
+use Rattle.gmon_data.specs.Hists.{IsUnlike}
+use Rattle.gp_base.specs.declared.records.Records.{Records}
+use Rattle.host_port.specs.Outside.{Outside}
+use Rattle.profile_sum.specs.Sum.{sum_of, clash_of, IsClash}
+use Rattle.profile_sum.specs.declared.refusal.SumRefusal.{SumRefusal}
+use Rattle.profile_sum.specs.declared.refusal.SumRefusal.TheVariants as summing
+use Rattle.rvgprof.specs.declared.outcome.Fault.{Fault}
+use Rattle.rvgprof.specs.declared.outcome.Fault.TheVariants.{Unlike}
+use Rattle.rvgprof.specs.Course.{Course, MayStop, unless}
+use Rattle.rvgprof.specs.Answer.{profiles, profile_in, add_fault_of, sum_fault_of}
+use Rattle.rvgprof.specs.Contract.{Acted}
+use Rattle.rvgprof.specs.Standing.{Stands, MayYetStop}
+use Rattle.profile_sum.proofs.ContentLemmas.{content_is_added}
+use Rattle.rvgprof.proofs.Standing.{no_memory, may_stop_unless, refuses, goes_on}
+
+-- what the command does with a file's records
+abbrev pub added : ℕ → ℕ → Content → List ℕ → (Content → Course) → ℕ → Records → Course
+added word left total more next len records =
+    unless (λ unlike. Unlike unlike word) (conflict_of empty_content (wide_records records.recs))
+    (unless (λ unlike. Unlike unlike word) (clash_of total (profile_in records))
+    (profiles more (left - len) (sum_of total (profile_in records)) next))
+
+may_stop_profiles : (contents : ℕ → List ℕ) (more : List ℕ) (left : ℕ) (total : Content) (next : Content → Course) → MayYetStop next → MayStop contents (profiles more left total next) []
+may_stop_profiles contents [] left total next may = may contents total
+may_stop_profiles contents (word ∷ more) left total next may = inl refl
+
+module _ (words : List (List ℕ)) (start new : Outside) (below word left : ℕ) (total : Content) (more : List ℕ) (next : Content → Course) (len : ℕ) (records : Records) (may : MayYetStop next)
+    (s : Stands words start new below [] (added word left total more next len records)) where
+  abbrev fault : Difference → Fault
+  fault unlike = Unlike unlike word
+
+  abbrev conflict : Option Difference
+  conflict = conflict_of empty_content (wide_records records.recs)
+
+  abbrev clash : Option Difference
+  clash = clash_of total (profile_in records)
+
+  abbrev rest : Course
+  rest = profiles more (left - len) (sum_of total (profile_in records)) next
+
+  may_stop : (contents : ℕ → List ℕ) → MayStop contents (unless fault clash rest) []
+  may_stop contents = may_stop_unless fault clash rest contents (may_stop_profiles contents more (left - len) (sum_of total (profile_in records)) next may)
+
+  -- its own histograms can't be added up
+  pub not_added : (refusal : AddRefusal) → IsUnlike refusal conflict → Acted words start new (Err (add_fault_of refusal word))
+  not_added adding.OutOfMemory is =
+      no_memory words start new below [] (added word left total more next len records) s (λ contents. may_stop_unless fault conflict (unless fault clash rest) contents (may_stop contents))
+  not_added (adding.Unlike unlike) is = refuses words start new below [] fault conflict (unless fault clash rest) unlike s is tt
+
+  module _ (accepted : conflict ≡ None) (profile : Content) (is : profile ≡ with_records (wide_records records.recs) empty_content) where
+    one_profile : profile ≡ profile_in records
+    one_profile = is ∙ sym (content_is_added (wide_records records.recs))
+
+    s2 : Stands words start new below [] (unless fault clash rest)
+    s2 = goes_on words start new below [] fault conflict (unless fault clash rest) s accepted
+
+    -- they can't be added to those of earlier files
+    pub not_summed : (refusal : SumRefusal) → IsClash refusal (clash_of total profile) → Acted words start new (Err (sum_fault_of refusal word))
+    not_summed summing.OutOfMemory due = no_memory words start new below [] (unless fault clash rest) s2 may_stop
+    not_summed (summing.Unlike unlike) due = refuses words start new below [] fault clash rest unlike s2 (ap (clash_of total) (sym one_profile) ∙ due) tt
+
+    pub summed : (sum : Content) → clash_of total profile ≡ None → sum ≡ sum_of total profile → Stands words start new below [] (profiles more (left - len) sum next)
+    summed sum none added =
+        subst (λ (c : Content). Stands words start new below [] (profiles more (left - len) c next)) (sym (added ∙ ap (sum_of total) one_profile))
+        (goes_on words start new below [] fault clash rest s2 (ap (clash_of total) (sym one_profile) ∙ none))
+
+-- ---- words that are left
+
+pub all_from_0 : (gmons : List ℕ) → AllByRecursion (λ word. 0 ≤ word) gmons
+all_from_0 [] = tt
+all_from_0 (word ∷ gmons) = (omega arith, all_from_0 gmons)
+
+pub all_behind : (word : ℕ) (gmons : List ℕ) → AllByRecursion (λ y. word < y) gmons → AllByRecursion (λ y. word + 1 ≤ y) gmons
+all_behind word [] all = tt
+all_behind word (y ∷ gmons) all = (omega (arith, all.0), all_behind word gmons all.1)

@@ -1,0 +1,53 @@
+use Rattle.std.proofs.Common.{◌+◌, ◌-◌, sym, subst, arith}
+use Rattle.std.specs.Prelude.{map, string_bytes}
+use Rattle.gp_base.specs.declared.limits.TheConstants.{MAX_PROFILE_BYTES}
+use Rattle.gmon_data.specs.Content.{Content}
+use Rattle.rvgprof.specs.ProfileSizes.{IsOfBytes}
+use Rattle.rvgprof.proofs.ProfileSizeLemmas.{of_sum, within_limits}
+use Rattle.rvgprof.proofs.Summing.{added, not_added, not_summed, summed}
+use Rattle.rvgprof.proofs.inputs.add_profile.Goals as goal
+
+pub profile_of-requires-clause-within : goal.profile_of-requires-clause-within
+profile_of-requires-clause-within g c = within_limits c.in-Ok.read.1 _ c.in-Ok.ensures.size (omega (arith, c.in-Ok.ensures.within, c.requires.limit))
+
+pub add_all-requires : goal.add_all-requires
+add_all-requires g c =
+    let more : IsOfBytes c.in-Ok.read.1 c.in-Ok-profile_of.more = subst (λ (p : Content). IsOfBytes c.in-Ok.read.1 p) (sym c.in-Ok-profile_of.ensures.content) c.in-Ok.ensures.size in
+    record {
+      within = within_limits (MAX_PROFILE_BYTES - c.args.left + c.in-Ok.read.1) _ (of_sum (MAX_PROFILE_BYTES - c.args.left) c.in-Ok.read.1 c.args.total.now c.in-Ok-profile_of.more c.requires.size more)
+          (omega (arith, c.in-Ok.ensures.within, c.requires.limit));
+    }
+
+pub returns-in-Err-clause-adds : goal.returns-in-Err-clause-adds
+returns-in-Err-clause-adds g c = λ start below more next may later s.
+    c.in-Err.ensures.reads start below (added c.args.word c.args.left c.args.total.now more next) later s
+
+pub returns-in-Err-profile_of-clause-adds : goal.returns-in-Err-profile_of-clause-adds
+returns-in-Err-profile_of-clause-adds g c = λ start below more next may later s.
+    let words = map string_bytes c.args.words.now in
+    let word = c.args.word in
+    let stands = c.in-Ok.ensures.reads start below (added word c.args.left c.args.total.now more next) later s in
+    rw c.add_fault.ensures (not_added words start _ (word + 1) word c.args.left c.args.total.now more next c.in-Ok.read.1 c.in-Ok.read.0 may stands c.in-Err-profile_of.refusal c.in-Err-profile_of.ensures.refusal)
+
+pub returns-in-Ok-add_all-clause-adds : goal.returns-in-Ok-add_all-clause-adds
+returns-in-Ok-add_all-clause-adds g c = λ start below more next may later s.
+    let words = map string_bytes c.args.words.now in
+    let word = c.args.word in
+    let stands = c.in-Ok.ensures.reads start below (added word c.args.left c.args.total.now more next) later s in
+    let one = c.in-Ok-profile_of.ensures in
+    let all = c.in-Ok-add_all.ensures in
+    summed words start _ (word + 1) word c.args.left c.args.total.now more next c.in-Ok.read.1 c.in-Ok.read.0 may stands one.accepted c.in-Ok-profile_of.more one.content c.add_all.new.total all.accepted all.added
+
+pub returns-in-Ok-add_all-clause-size : goal.returns-in-Ok-add_all-clause-size
+returns-in-Ok-add_all-clause-size g c =
+    let more : IsOfBytes c.in-Ok.read.1 c.in-Ok-profile_of.more = subst (λ (p : Content). IsOfBytes c.in-Ok.read.1 p) (sym c.in-Ok-profile_of.ensures.content) c.in-Ok.ensures.size in
+    subst (λ (p : Content). IsOfBytes (MAX_PROFILE_BYTES - c.args.left + c.in-Ok.read.1) p) (sym c.in-Ok-add_all.ensures.added)
+    (of_sum (MAX_PROFILE_BYTES - c.args.left) c.in-Ok.read.1 c.args.total.now c.in-Ok-profile_of.more c.requires.size more)
+
+pub returns-clause-adds : goal.returns-clause-adds
+returns-clause-adds g c = λ start below more next may later s.
+    let words = map string_bytes c.args.words.now in
+    let word = c.args.word in
+    let stands = c.in-Ok.ensures.reads start below (added word c.args.left c.args.total.now more next) later s in
+    let one = c.in-Ok-profile_of.ensures in
+    rw c.sum_fault.ensures (not_summed words start _ (word + 1) word c.args.left c.args.total.now more next c.in-Ok.read.1 c.in-Ok.read.0 may stands one.accepted c.in-Ok-profile_of.more one.content c.in-Err-add_all.refusal c.in-Err-add_all.ensures.refusal)

@@ -1,0 +1,70 @@
+use Rattle.std.proofs.Common.{◌≡◌, ℕ, ◌+◌, ◌-◌, ◌≤◌, List, [], ◌∷◌, drop, get_or, sym, subst, arith}
+use Rattle.std.specs.Prelude.{map, string_bytes}
+use Rattle.std.specs.List.{AllByRecursion}
+use Rattle.std.proofs.lemmas.List.{drop_more, drop_all}
+use Rattle.gmon_data.specs.Content.{Content}
+use Rattle.gp_base.specs.declared.limits.TheConstants.{MAX_PROFILE_BYTES}
+use Rattle.rvgprof.specs.Answer.{profiles}
+use Rattle.rvgprof.specs.ProfileSizes.{IsOfBytes}
+use Rattle.rvgprof.specs.Standing.{Stands}
+use Rattle.rvgprof.specs.Words.{AreRising}
+use Rattle.rvgprof.proofs.ProfileSizeLemmas.{of_nothing}
+use Rattle.rvgprof.proofs.PlaceLemmas.{rising_drop}
+use Rattle.rvgprof.proofs.Summing.{all_behind}
+use Rattle.rvgprof.proofs.inputs.read_profiles.Goals as goal
+
+pub loop-i-init : goal.loop-i-init
+loop-i-init g c =
+    let words = map string_bytes c.args.words.now in
+    let gmons = c.args.gmons.now in
+    let host = g.H.Host.outside c.args.host.now in
+    record {
+      reads = λ start below next may all s. (below, all, subst (λ (t : Content). Stands words start host below [] (profiles gmons MAX_PROFILE_BYTES t next)) (sym c.new-total.ensures.content) s);
+      idle = c.requires.idle;
+      size = subst (λ (t : Content). IsOfBytes 0 t) (sym c.new-total.ensures.content) of_nothing;
+      limit = omega arith;
+    }
+
+pub loop-i-preserved : goal.loop-i-preserved
+loop-i-preserved g c =
+    let words = map string_bytes c.args.words.now in
+    let gmons = c.args.gmons.now in
+    let i = c.loop-i.i in
+    let word = get_or gmons i 0 in
+    let more = drop (i + 1) gmons in
+    let front : drop i gmons ≡ word ∷ more = drop_more gmons i 0 c.loop-i-test.true in
+    let rising : AreRising (word ∷ more) = subst (λ (ws : List ℕ). AreRising ws) front (rising_drop i gmons c.requires.rising) in
+    let was = c.loop-i.invariant in
+    let one = c.in-Ok.ensures in
+    let less : MAX_PROFILE_BYTES - c.loop-i.left + c.in-Ok.len ≡ MAX_PROFILE_BYTES - (c.loop-i.left - c.in-Ok.len) = omega (arith, one.within, was.limit) in
+    record {
+      reads = λ start below next may all s.
+          let before = was.reads start below next may all s in
+          let behind : AllByRecursion (λ w. before.0 ≤ w) (word ∷ more) = subst (λ (ws : List ℕ). AllByRecursion (λ w. before.0 ≤ w) ws) front before.1 in
+          let stands = subst (λ (ws : List ℕ). Stands words start (g.H.Host.outside c.loop-i.host) before.0 [] (profiles ws c.loop-i.left c.loop-i.total next)) front before.2 in
+          (word + 1, all_behind word more rising.0, one.adds start before.0 more next may behind.0 stands);
+      idle = one.still_idle;
+      size = subst (λ (n : ℕ). IsOfBytes n c.add_profile.new.total) less one.size;
+      limit = omega (arith, was.limit);
+    }
+
+pub returns-in-Err-clause-reads : goal.returns-in-Err-clause-reads
+returns-in-Err-clause-reads g c = λ start below next may all s.
+    let words = map string_bytes c.args.words.now in
+    let gmons = c.args.gmons.now in
+    let i = c.loop-i.i in
+    let word = get_or gmons i 0 in
+    let more = drop (i + 1) gmons in
+    let front : drop i gmons ≡ word ∷ more = drop_more gmons i 0 c.loop-i-test.true in
+    let before = c.loop-i.invariant.reads start below next may all s in
+    let behind : AllByRecursion (λ w. before.0 ≤ w) (word ∷ more) = subst (λ (ws : List ℕ). AllByRecursion (λ w. before.0 ≤ w) ws) front before.1 in
+    let stands = subst (λ (ws : List ℕ). Stands words start (g.H.Host.outside c.loop-i.host) before.0 [] (profiles ws c.loop-i.left c.loop-i.total next)) front before.2 in
+    c.in-Err.ensures.adds start before.0 more next may behind.0 stands
+
+pub returns-clause-reads : goal.returns-clause-reads
+returns-clause-reads g c = λ start below next may all s.
+    let words = map string_bytes c.args.words.now in
+    let gmons = c.args.gmons.now in
+    let none : drop c.loop-i.i gmons ≡ [] = drop_all c.loop-i.i gmons c.loop-i-test.false in
+    let before = c.loop-i.invariant.reads start below next may all s in
+    (before.0, subst (λ (ws : List ℕ). Stands words start (g.H.Host.outside c.loop-i.host) before.0 [] (profiles ws c.loop-i.left c.loop-i.total next)) none before.2)

@@ -1,0 +1,24 @@
+use Rattle.std.proofs.Common.{◌∙◌, Some, ap}
+use Rattle.std.specs.Prelude.{map, string_bytes}
+use Rattle.rvgprof.specs.declared.words.Command.{Command}
+use Rattle.rvgprof.specs.declared.words.Command.TheVariants.{Show, Syms, Run, Sum}
+use Rattle.rvgprof.proofs.Standing.{begun}
+use Rattle.rvgprof.proofs.top.perform.Goals as goal
+
+pub show-requires : goal.show-requires
+show-requires g c =
+    begun (map string_bytes c.args.words.now) (g.H.Host.outside c.args.host.now) (Show c.in-Show.gmon) (c.requires.said ∙ ap (λ (x : Command). Some x) c.in-Show.is) c.requires.idle
+
+pub syms-requires : goal.syms-requires
+syms-requires g c =
+    begun (map string_bytes c.args.words.now) (g.H.Host.outside c.args.host.now) (Syms c.in-Syms.elf) (c.requires.said ∙ ap (λ (x : Command). Some x) c.in-Syms.is) c.requires.idle
+
+pub sum-requires-clause-stands : goal.sum-requires-clause-stands
+sum-requires-clause-stands g c =
+    let places = c.as_slice.ensures in
+    rw places (begun (map string_bytes c.args.words.now) (g.H.Host.outside c.args.host.now) (Sum c.in-Sum.out c.in-Sum.gmons) (c.requires.said ∙ ap (λ (x : Command). Some x) c.in-Sum.is) c.requires.idle)
+
+pub run-requires-clause-stands : goal.run-requires-clause-stands
+run-requires-clause-stands g c =
+    let command = Run c.in-Run.elf c.in-Run.gmon c.in-Run.form c.in-Run.image c.in-Run.setup in
+    begun (map string_bytes c.args.words.now) (g.H.Host.outside c.args.host.now) command (c.requires.said ∙ ap (λ (x : Command). Some x) c.in-Run.is) c.requires.idle

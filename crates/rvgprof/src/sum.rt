@@ -1,0 +1,49 @@
+//! The command `sum`.
+
+ghost use Rattle.std.specs.Prelude.{◌≡◌, [], false, map, string_bytes};
+ghost use Rattle.gmon_gnu.specs.ProfileText.{profile_text};
+ghost use Rattle.host_port.specs.Performing.{Performs};
+ghost use Rattle.rvgprof.specs.Answer.{file_acts, sum_course};
+ghost use Rattle.rvgprof.specs.Contract.{Acted};
+ghost use Rattle.rvgprof.specs.Items.{name_of};
+ghost use Rattle.rvgprof.specs.Standing.{Stands};
+ghost use Rattle.rvgprof.specs.Words.{AreRising};
+
+use crate::inputs::read_profiles;
+use crate::items::name_at;
+use crate::outcome::{Done, Fault};
+use gmon_data::Profile;
+use host_port::{Failed, Host};
+use std::alloc::Global;
+
+/// Adds up profile files, and writes their sum in the GNU form.
+pub fn sum<H: Host>(
+    alloc: Global,
+    words: &[String],
+    out: u32,
+    gmons: &[u32],
+    host: &mut H,
+) -> Result<Done, Fault>
+    requires stands { Stands (map string_bytes words.now) (H.outside host.old) (H.outside host.old) 0 [] (sum_course (name_of (map string_bytes words.now) out) gmons.now) }
+    requires rising { AreRising gmons.now }
+    ensures { Acted (map string_bytes words.now) (H.outside host.old) (H.outside host.new) result }
+{
+    let total = match read_profiles(alloc, words, gmons, host) {
+        Ok(total) => total,
+        Err(fault) => return Err(fault),
+    };
+    match write_profile(&total, name_at(words, out), host) {
+        Ok(()) => Ok(Done { run: None }),
+        Err(_) => Err(Fault::WriteFault),
+    }
+}
+
+/// Writes a profile to the named file.
+fn write_profile<H: Host>(profile: &Profile, name: &str, host: &mut H) -> Result<(), Failed>
+    requires { (H.outside host.old).is_writing ≡ false }
+    ensures { Performs (file_acts name.now (profile_text profile.now)) (H.outside host.old) (H.outside host.new) result }
+{
+    host.create_output(name)?;
+    gmon_gnu::write(profile, host)?;
+    host.close_output()
+}

@@ -1,0 +1,256 @@
+//! Sums of profile files.
+
+ghost use Rattle.std.specs.Prelude.{◌≡◌, false, IfOk};
+ghost use Rattle.host_port.specs.Memory.{outside_of};
+
+use super::status;
+use host_port::MemHost;
+use std::alloc::{AllocError, Global};
+use std::process::Abort;
+use std::test::Fail;
+
+/// A file of the 4.4BSD form with the counter 40,000 from 0x10000 to below 0x10004, at rate 100.
+const BSD: [u8; 34] = [
+    0, 0, 1, 0, 4, 0, 1, 0, 34, 0, 0, 0, 0x79, 0x18, 5, 0, 100, 0, 0, 0, //
+    0, 0, 0, 0, 0, 0, 0, 0, 0, 0, 0, 0, 0x40, 0x9C,
+];
+
+/// The sum of two such files: 80,000 is 65,535 and 14,465.
+const SUM: [u8; 90] = [
+    0x67, 0x6D, 0x6F, 0x6E, 1, 0, 0, 0, 0, 0, 0, 0, 0, 0, 0, 0, 0, 0, 0, 0, // header
+    0, 0, 0, 1, 0, 4, 0, 1, 0, 1, 0, 0, 0, 100, 0, 0, 0, // tag, low, high, number, rate
+    0x73, 0x65, 0x63, 0x6F, 0x6E, 0x64, 0x73, 0, 0, 0, 0, 0, 0, 0, 0, 0x73, // seconds, s
+    0xFF, 0xFF, //
+    0, 0, 0, 1, 0, 4, 0, 1, 0, 1, 0, 0, 0, 100, 0, 0, 0, //
+    0x73, 0x65, 0x63, 0x6F, 0x6E, 0x64, 0x73, 0, 0, 0, 0, 0, 0, 0, 0, 0x73, //
+    0x81, 0x38,
+];
+
+/// The file with its byte at a place changed.
+fn changed(alloc: Global, at: usize, byte: u8) -> Result<Vec<u8>, AllocError> {
+    let mut bytes = Vec::new(alloc);
+    for i in 0..BSD.len() {
+        bytes.push(if i == at { byte } else { BSD[i] })?;
+    }
+    Ok(bytes)
+}
+
+/// A host with the file under the names `a` and `b`, where b has its byte at a place changed.
+fn host_of_two(alloc: Global, at: usize, byte: u8) -> Result<MemHost, AllocError>
+    ensures { IfOk result (λ host. (outside_of host).is_writing ≡ false) }
+{
+    let mut host = MemHost::new(alloc);
+    host.put("a", &BSD)?;
+    host.put("b", &changed(alloc, at, byte)?)?;
+    Ok(host)
+}
+
+#[test]
+fn a_sum_has_no_end_at_16_bits(rt: HostRuntime) -> Result<(), Fail> {
+    let alloc = rt.alloc();
+    let mut host = host_of_two(alloc, 99, 0)?;
+    assert_eq!(rt; status(alloc, &["sum", "s", "a", "b"], &mut host)?, 0);
+    assert_eq!(rt; host.file("s"), Some(SUM.as_slice()));
+    assert_eq!(rt; host.printed().len(), 0);
+    assert_eq!(rt; host.errors().len(), 0);
+    Ok(())
+}
+
+#[test]
+fn a_sum_may_take_the_name_of_an_input(rt: HostRuntime) -> Result<(), Fail> {
+    let alloc = rt.alloc();
+    let mut host = host_of_two(alloc, 99, 0)?;
+    assert_eq!(rt; status(alloc, &["sum", "a", "b", "a"], &mut host)?, 0);
+    assert_eq!(rt; host.file("a"), Some(SUM.as_slice()));
+    Ok(())
+}
+
+#[test]
+fn a_sum_is_shown_and_added_up_again(rt: HostRuntime) -> Result<(), Fail> {
+    let alloc = rt.alloc();
+    let mut host = MemHost::new(alloc);
+    host.put("s", &SUM)?;
+    assert_eq!(rt; status(alloc, &["show", "s"], &mut host)?, 0);
+    let line =
+        "hist low 00010000 high 00010004 counters 1 rate 100 unit 7365636f6e6473000000000000000073\n";
+    let mut lines = String::new(alloc);
+    for text in [
+        "gnu\n",
+        line,
+        "count 00010000 65535\n",
+        line,
+        "count 00010000 14465\n",
+    ] {
+        lines.push_str(text)?;
+    }
+    assert_eq!(rt; host.printed(), lines.as_bytes());
+    let mut host = MemHost::new(alloc);
+    host.put("s", &SUM)?;
+    assert_eq!(rt; status(alloc, &["sum", "t", "s"], &mut host)?, 0);
+    assert_eq!(rt; host.file("t"), Some(SUM.as_slice()));
+    Ok(())
+}
+
+#[test]
+fn files_of_both_forms_are_added(rt: HostRuntime) -> Result<(), Fail> {
+    let alloc = rt.alloc();
+    let mut host = MemHost::new(alloc);
+    host.put("s", &SUM)?;
+    host.put("a", &BSD)?;
+    assert_eq!(rt; status(alloc, &["sum", "t", "a", "s"], &mut host)?, 0);
+    let sum = host.file("t").unwrap_or_default();
+    assert_eq!(rt; sum.len(), 90, "120,000 is 65,535 and 54,465");
+    assert_eq!(rt; sum.get(..88), SUM.get(..88));
+    assert_eq!(rt; sum.get(88..), Some([0xC1, 0xD4].as_slice()));
+    Ok(())
+}
+
+#[test]
+fn profiles_that_are_unlike_have_no_sum(rt: HostRuntime) -> Result<(), Fail> {
+    let alloc = rt.alloc();
+    let cases: [(usize, u8, &[&str], u8, &str); 7] = [
+        (
+            4,
+            8,
+            &["sum", "s", "a", "b"],
+            4,
+            "rvgprof: unlike b: range\n",
+        ),
+        (
+            4,
+            8,
+            &["sum", "s", "b", "a"],
+            4,
+            "rvgprof: unlike a: range\n",
+        ),
+        (
+            16,
+            50,
+            &["sum", "s", "a", "a", "b"],
+            4,
+            "rvgprof: unlike b: rate\n",
+        ),
+        (16, 0, &["sum", "s", "a", "b"], 0, ""),
+        (
+            12,
+            0,
+            &["sum", "s", "a", "b", "nope"],
+            3,
+            "rvgprof: bad profile b: version 333824\n",
+        ),
+        (
+            99,
+            0,
+            &["sum", "s", "a", "nope", "b"],
+            5,
+            "rvgprof: read fault on nope\n",
+        ),
+        (99, 0, &["sum", "s", ""], 5, "rvgprof: read fault on \n"),
+    ];
+    for (at, byte, words, answer, line) in cases {
+        let mut host = host_of_two(alloc, at, byte)?;
+        assert_eq!(rt; status(alloc, words, &mut host)?, answer, "{words:?}");
+        assert_eq!(rt; host.errors(), line.as_bytes(), "{words:?}");
+        assert_eq!(rt; host.file("s").is_some(), answer == 0, "{words:?}");
+    }
+    Ok(())
+}
+
+#[test]
+fn a_file_of_unlike_histograms_has_no_sum(rt: HostRuntime) -> Result<(), Fail> {
+    let alloc = rt.alloc();
+    let mut bytes = SUM.to_vec(alloc)?;
+    if let Some(dimension) = bytes.get_mut(72) {
+        *dimension = b'S';
+    }
+    let mut host = MemHost::new(alloc);
+    host.put("g", &bytes)?;
+    assert_eq!(rt; status(alloc, &["sum", "s", "g"], &mut host)?, 4);
+    assert_eq!(rt; host.errors(), b"rvgprof: unlike g: dimension\n".as_slice());
+    assert!(rt; host.file("s").is_none());
+    Ok(())
+}
+
+#[test]
+fn one_to_sixteen_files_are_added(rt: HostRuntime) -> Result<(), Fail> {
+    let alloc = rt.alloc();
+    let sixteen = [
+        "sum", "s", "a", "a", "a", "a", "a", "a", "a", "a", "b", "b", "b", "b", "b", "b", "b", "b",
+    ];
+    let seventeen = [
+        "sum", "s", "a", "a", "a", "a", "a", "a", "a", "a", "b", "b", "b", "b", "b", "b", "b", "b",
+        "b",
+    ];
+    let cases: [(&[&str], u8); 4] = [
+        (&sixteen, 0),
+        (&seventeen, 1),
+        (&["sum", "s"], 1),
+        (&["sum", "s", "a", "--gnu"], 1),
+    ];
+    for (words, answer) in cases {
+        let mut host = host_of_two(alloc, 99, 0)?;
+        assert_eq!(rt; status(alloc, words, &mut host)?, answer, "{words:?}");
+        let sum = host.file("s").unwrap_or_default();
+        if answer == 0 {
+            assert_eq!(rt;
+                sum.len(),
+                20 + 10 * 35,
+                "640,000 is 9 times 65,535 and 50,185"
+            );
+            assert_eq!(rt; sum.get(368..), Some([0x09, 0xC4].as_slice()));
+        } else {
+            assert_eq!(rt; sum.len(), 0, "{words:?}");
+        }
+    }
+    Ok(())
+}
+
+/// Adds up two files with one call that fails, and looks at the answer.
+fn fails_at(rt: &impl Abort, alloc: Global, call: u64) -> Result<(), Fail> {
+    let mut host = host_of_two(alloc, 99, 0)?;
+    host.fail_at(call)?;
+    let answer = status(alloc, &["sum", "s", "a", "b"], &mut host)?;
+    let (wanted, line): (u8, &[u8]) = match call {
+        0..=2 => (5, b"rvgprof: read fault on a\n"),
+        3..=5 => (5, b"rvgprof: read fault on b\n"),
+        6..=8 => (6, b"rvgprof: write fault\n"),
+        _ => (0, b""),
+    };
+    assert_eq!(rt; answer, wanted, "call {call}");
+    assert_eq!(rt; host.errors(), line, "call {call}");
+    let sum = host.file("s").unwrap_or_default();
+    assert_eq!(rt; SUM.get(..sum.len()), Some(sum), "call {call}");
+    Ok(())
+}
+
+#[test]
+fn a_failing_call_is_told_of_its_file(rt: HostRuntime) -> Result<(), Fail> {
+    for call in 0..12 {
+        fails_at(&rt, rt.alloc(), call)?;
+    }
+    Ok(())
+}
+
+/// A file of the most bytes that are read.
+fn largest(alloc: Global) -> Result<Vec<u8>, AllocError> {
+    let mut bytes = vec![in alloc; 0u8; 67_108_864]?;
+    let header = [
+        0, 0, 1, 0, 0, 0, 2, 0, 0, 0, 0, 4, 0x79, 0x18, 5, 0, 100, 0, 0, 0,
+    ];
+    for (byte, wanted) in bytes.iter_mut().zip(header) {
+        *byte = wanted;
+    }
+    Ok(bytes)
+}
+
+#[test]
+fn a_file_of_the_most_bytes_leaves_nothing(rt: HostRuntime) -> Result<(), Fail> {
+    let alloc = rt.alloc();
+    let mut host = MemHost::new(alloc);
+    host.put("a", &largest(alloc)?)?;
+    host.put("b", &BSD)?;
+    assert_eq!(rt; status(alloc, &["sum", "s", "a", "b"], &mut host)?, 9);
+    assert_eq!(rt; host.errors(), b"rvgprof: too large b\n".as_slice());
+    assert!(rt; host.file("s").is_none());
+    Ok(())
+}
