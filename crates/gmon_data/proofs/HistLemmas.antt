@@ -166,7 +166,7 @@ apart_high a b none lt = ltb-false a.low b.high (sym (and_true (ltb a.low b.high
     and_true true = refl
     and_true false = refl
 
-above_put : (n : ℕ) (h : Hist) (hs : List Hist) → n ≤ h.low → AllByRecursion (λ k. n ≤ k.low) hs → AllByRecursion (λ k. n ≤ k.low) (put_hist h hs)
+pub above_put : (n : ℕ) (h : Hist) (hs : List Hist) → n ≤ h.low → AllByRecursion (λ k. n ≤ k.low) hs → AllByRecursion (λ k. n ≤ k.low) (put_hist h hs)
 above_put n h [] mine all = (mine, tt)
 above_put n h (k ∷ ks) mine all = by (ltb k.low h.low) (eqb k.low h.low) (above_put n h ks mine all.1)
   where
@@ -175,7 +175,7 @@ above_put n h (k ∷ ks) mine all = by (ltb k.low h.low) (eqb k.low h.low) (abov
     by false true others = all
     by false false others = (mine, all)
 
-higher : (n m : ℕ) (hs : List Hist) → n ≤ m → AllByRecursion (λ k. m ≤ k.low) hs → AllByRecursion (λ k. n ≤ k.low) hs
+pub higher : (n m : ℕ) (hs : List Hist) → n ≤ m → AllByRecursion (λ k. m ≤ k.low) hs → AllByRecursion (λ k. n ≤ k.low) hs
 higher n m [] le all = tt
 higher n m (h ∷ hs) le all = (omega (arith, le, all.0), higher n m hs le all.1)
 

@@ -1,25 +1,38 @@
 //! Kept histograms, in ascending order of their low addresses.
 
-ghost use Rattle.std.specs.Prelude.{◌≡◌, ◌+◌, ◌^◌, ◌<◌, ℕ, Some, length, slice_get, sum, OnOk, OnErr};
+ghost use Rattle.std.specs.Prelude.{◌≡◌, ◌+◌, ◌^◌, ◌<◌, ◌≤◌, ℕ, true, false, nat_le, Some, length, slice_get, sum, OnOk, OnErr};
+ghost use Rattle.std.specs.List.{AllByRecursion};
+ghost use Rattle.std.specs.List.Sorted.{IsPartitionPoint};
 ghost use Rattle.gmon_data.specs.declared.hist.Hist.{Hist as AnyHist};
-ghost use Rattle.gmon_data.specs.Hists.{range_conflict, put_hist, place_of, samples_of, kept_unit, unit_conflict, conflict_with};
+ghost use Rattle.gmon_data.specs.Hists.{range_conflict, put_hist, place_of, samples_of, kept_unit, unit_conflict, conflict_with, IsKept, IsApart};
 
 use crate::hist::{Hist, HistRange, add_counters};
 use crate::refusal::Unlike;
 use gp_base::Unit;
 use std::alloc::{AllocError, Global};
 
-/// The lowest kept histogram that overlaps the new range and differs from it, beside that range.
+/// How many kept histograms end at or below an address: they are the first ones.
+fn count_ended(hists: &[Hist], address: u32) -> usize
+    requires kept { AllByRecursion IsKept hists.now }
+    requires apart { IsApart hists.now }
+    ensures inside { result ≤ length hists.now }
+    ensures point { IsPartitionPoint (λ h. nat_le h.high address ≡ true) (λ h. nat_le h.high address ≡ false) hists.now result }
+{
+    hists.partition_point(|hist| hist.high <= address)
+}
+
+/// The lowest kept histogram that overlaps the new range and differs from it, beside that range. Only the
+/// first one that ends above the new low address can be: of those behind it none overlaps where it is the
+/// new range itself, and none where it lies above.
 fn find_range_conflict(hists: &[Hist], new: HistRange) -> Option<Unlike>
-    requires { (i : ℕ) (k : AnyHist) → slice_get hists.now i ≡ Some k → length k.counters < 2 ^ 32 }
+    requires counters { (i : ℕ) (k : AnyHist) → slice_get hists.now i ≡ Some k → length k.counters < 2 ^ 32 }
+    requires kept { AllByRecursion IsKept hists.now }
+    requires apart { IsApart hists.now }
     ensures { result ≡ range_conflict hists.now new }
 {
-    for hist in hists {
-        let old = hist.range();
-        let overlap = old.low < new.high && new.low < old.high;
-        if overlap && old != new {
-            return Some(Unlike::Range { old, new });
-        }
+    let old = hists.get(count_ended(hists, new.low))?.range();
+    if old.low < new.high && old != new {
+        return Some(Unlike::Range { old, new });
     }
     None
 }
@@ -59,7 +72,9 @@ pub(crate) fn conflict(
     range: HistRange,
     unit: Unit,
 ) -> Option<Unlike>
-    requires { (i : ℕ) (k : AnyHist) → slice_get hists.now i ≡ Some k → length k.counters < 2 ^ 32 }
+    requires counters { (i : ℕ) (k : AnyHist) → slice_get hists.now i ≡ Some k → length k.counters < 2 ^ 32 }
+    requires kept { AllByRecursion IsKept hists.now }
+    requires apart { IsApart hists.now }
     ensures { result ≡ conflict_with hists.now kept range «unit» }
 {
     match find_range_conflict(hists, range) {
@@ -70,20 +85,17 @@ pub(crate) fn conflict(
 
 /// How many kept histograms lie lower.
 fn place(hists: &[Hist], low: u32) -> usize
+    requires kept { AllByRecursion IsKept hists.now }
+    requires apart { IsApart hists.now }
     ensures { result ≡ place_of low hists.now }
 {
-    let mut lower = 0;
-    for hist in hists {
-        if hist.low >= low {
-            return lower;
-        }
-        lower += 1;
-    }
-    lower
+    hists.partition_point(|hist| hist.low < low)
 }
 
 /// Adds a histogram to the one with its low address, which has as many counters; else it takes its place.
 pub(crate) fn put(alloc: Global, hists: &mut Vec<Hist>, new: &Hist) -> Result<(), AllocError>
+    requires kept { AllByRecursion IsKept hists.old.items }
+    requires apart { IsApart hists.old.items }
     requires same { (i : ℕ) (k : AnyHist) → slice_get hists.old.items i ≡ Some k → k.low ≡ new.now.low → length k.counters ≡ length new.now.counters }
     requires fits { samples_of hists.old.items + sum new.now.counters < 2 ^ 64 }
     ensures added { OnOk result (hists.new.items ≡ put_hist new.now hists.old.items) }

@@ -22,8 +22,8 @@ range-requires c =
     let w = hist_within c.args.h.now c.args.«unit» _ c.args.self.now c.self.view_is (some c.args.h.now lt) c.requires.within in
     omega (arith, w.counters, counters-put c.args.h.now c.self.inside.hists.items)
 
-pub conflict-requires : goal.conflict-requires
-conflict-requires c = λ i k at.
+pub conflict-requires-clause-counters : goal.conflict-requires-clause-counters
+conflict-requires-clause-counters c = λ i k at.
     let at' = sym (ap (λ l. slice_get l i) c.as_slice-2.ensures.value) ∙ at in
     omega (arith, counters-at c.self.inside.hists.items i k at', c.self.invariant.within.counters)
 

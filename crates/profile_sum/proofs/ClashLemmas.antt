@@ -1,0 +1,107 @@
+-- Of histograms that are apart and of one unit, what was added doesn't stand in the way of the rest.
+use Rattle.std.proofs.Common.{◌≡◌, ℕ, suc, ◌≤◌, Bool, true, false, ltb, eqb, ◌&&◌, not, List, [], ◌∷◌, length, map, slice_get, filter_map, option_and_then, Option, Some, None, unwrap_or, refl, sym, ap, subst, ◌∙◌, if◌then◌else◌}
+use Rattle.std.specs.List.{AllByRecursion}
+use Rattle.std.specs.Option.{option_or}
+use Rattle.std.specs.Str.{bytes_eq}
+use Rattle.std.proofs.lemmas.Bool.{le-ltb, lt-ltb, eqb-true, eq-eqb, and_right}
+use Rattle.gp_base.specs.declared.records.Unit as units
+use Rattle.gmon_data.specs.declared.hist.Hist.{Hist}
+use Rattle.gmon_data.specs.declared.hist.HistRange.{HistRange}
+use Rattle.gmon_data.specs.declared.refusal.Unlike.{Unlike}
+use Rattle.gmon_data.specs.declared.refusal.Unlike.TheVariants.{Range}
+use Rattle.gmon_data.specs.Hists.{put_hist, hist_sum, range_of, range_conflict, overlap, same_range, unit_conflict, kept_unit, has_counters, IsKept, IsApart, IsUnitOf}
+use Rattle.gmon_data.specs.Content.{Content, with_hist, hist_conflict, conflict_of, IsProfile}
+use Rattle.gmon_data.proofs.CounterLemmas.{length-pointwise}
+use Rattle.gmon_data.proofs.HistLemmas.{alike_counters, all_kept, first_none}
+use Rattle.profile_sum.specs.Sum.{hist_record, clash_of}
+
+-- a histogram that was put in changes no conflict of a range that it doesn't overlap
+skip_put : (h : Hist) (hs : List Hist) (new : HistRange) → overlap (range_of h) new ≡ false
+    → ((i : ℕ) (k : Hist) → slice_get hs i ≡ Some k → k.low ≡ h.low → length k.counters ≡ length h.counters)
+    → range_conflict (put_hist h hs) new ≡ range_conflict hs new
+skip_put h [] new free alike = rw free refl
+skip_put h (k ∷ ks) new free alike = by (ltb k.low h.low) (eqb k.low h.low) refl (skip_put h ks new free (λ i x at. alike (suc i) x at))
+  where
+    by : (b e : Bool) → eqb k.low h.low ≡ e → range_conflict (put_hist h ks) new ≡ range_conflict ks new
+        → range_conflict (if b then k ∷ put_hist h ks else (if e then hist_sum k h ∷ ks else h ∷ k ∷ ks)) new ≡ range_conflict (k ∷ ks) new
+    by true e eq others = ap (λ (o : Option Unlike). if overlap (range_of k) new && not (same_range (range_of k) new) then Some (Range (range_of k) new) else o) others
+    by false true eq others =
+        let count : length (hist_sum k h).counters ≡ length k.counters = length-pointwise k.counters h.counters (alike 0 k refl (eqb-true k.low h.low eq)) in
+        let range : range_of (hist_sum k h) ≡ range_of k = λ i. record { low = k.low; high = k.high; count = count i } in
+        ap (λ (r : HistRange). if overlap r new && not (same_range r new) then Some (Range r new) else range_conflict ks new) range
+    by false false eq others = rw free refl
+
+bytes_self : (xs : List ℕ) → bytes_eq xs xs ≡ true
+bytes_self [] = refl
+bytes_self (x ∷ xs) = rw (eq-eqb x x refl) (bytes_self xs)
+
+none_differ : (a b c : Bool) (x y : Unlike) → a ≡ true → b ≡ true → c ≡ true → (if not a then Some x else (if not (b && c) then Some y else None)) ≡ None
+none_differ a b c x y e f g = rw (e, f, g) refl
+
+unit_more : (o : Option units.Unit) (u : units.Unit) → kept_unit u ≡ u → unit_conflict (Some (unwrap_or o (kept_unit u))) u ≡ unit_conflict o u
+unit_more (Some v) u is = refl
+unit_more None u is =
+    ap (λ (v : units.Unit). unit_conflict (Some v) u) is
+    ∙ none_differ (eqb u.rate u.rate) (bytes_eq u.dim u.dim) (eqb u.«abbrev» u.«abbrev») _ _ (eq-eqb u.rate u.rate refl) (bytes_self u.dim) (eq-eqb u.«abbrev» u.«abbrev» refl)
+
+some_counters : (h : Hist) → IsKept h → has_counters h ≡ true
+some_counters h kept = lt-ltb 0 (length h.counters) kept.some
+
+module _ (u : units.Unit) (is : kept_unit u ≡ u) where
+  -- a kept histogram has a conflict of range or of unit
+  conflict_is : (c : Content) (h : Hist) → IsKept h → hist_conflict c h u ≡ option_or (range_conflict c.hists (range_of h)) (unit_conflict c.«unit» u)
+  conflict_is c h kept = rw (some_counters h kept, is) refl
+
+  with_is : (c : Content) (h : Hist) → IsKept h → with_hist h u c ≡ record c { hists = put_hist h c.hists; «unit» = Some (unwrap_or c.«unit» (kept_unit u)) }
+  with_is c h kept = rw (some_counters h kept) refl
+
+  -- adding h changes no conflict of those above it
+  same_conflict : (c : Content) (h x : Hist) → AllByRecursion IsKept c.hists → IsKept h → IsKept x → h.high ≤ x.low → hist_conflict c h u ≡ None
+      → hist_conflict (with_hist h u c) x u ≡ hist_conflict c x u
+  same_conflict c h x all kept kept' above none =
+      let free : overlap (range_of h) (range_of x) ≡ false = and_right (ltb h.low x.high) (ltb x.low h.high) (le-ltb x.low h.high above) in
+      let alike = alike_counters h c.hists (first_none (range_conflict c.hists (range_of h)) (unit_conflict c.«unit» u) (sym (conflict_is c h kept) ∙ none)) all kept.range in
+      let range = skip_put h c.hists (range_of x) free alike in
+      ap (λ (d : Content). hist_conflict d x u) (with_is c h kept)
+      ∙ conflict_is (record c { hists = put_hist h c.hists; «unit» = Some (unwrap_or c.«unit» (kept_unit u)) }) x kept'
+      ∙ (λ j. option_or (range j) (unit_more c.«unit» u is j))
+      ∙ sym (conflict_is c x kept')
+
+  kept_with : (c : Content) (h : Hist) → IsKept h → AllByRecursion IsKept c.hists → AllByRecursion IsKept (with_hist h u c).hists
+  kept_with c h kept all = rw (some_counters h kept) (all_kept h c.hists kept all)
+
+  -- one after the other they have the first conflict that one of them has alone
+  module _ (old : Content) where
+    abbrev alone : Hist → Option Unlike
+    alone h = hist_conflict old h u
+
+    rest_same : (c : Content) (h : Hist) (xs : List Hist) → AllByRecursion IsKept c.hists → IsKept h → hist_conflict c h u ≡ None → AllByRecursion IsKept xs
+        → AllByRecursion (λ k. h.high ≤ k.low) xs → AllByRecursion (λ x. hist_conflict c x u ≡ alone x) xs → AllByRecursion (λ x. hist_conflict (with_hist h u c) x u ≡ alone x) xs
+    rest_same c h [] all kept none kepts above same = tt
+    rest_same c h (x ∷ xs) all kept none kepts above same =
+        (same_conflict c h x all kept kepts.0 above.0 none ∙ same.0, rest_same c h xs all kept none kepts.1 above.1 same.1)
+
+    in_turn : (hs : List Hist) (c : Content) → AllByRecursion IsKept hs → IsApart hs → AllByRecursion IsKept c.hists → AllByRecursion (λ h. hist_conflict c h u ≡ alone h) hs
+        → conflict_of c (map (hist_record u) hs) ≡ slice_get (filter_map alone hs) 0
+    in_turn [] c kept apart all same = refl
+    in_turn (h ∷ hs) c kept apart all same =
+        by (hist_conflict c h u) refl (λ none. in_turn hs (with_hist h u c) kept.1 apart.1 (kept_with c h kept.0 all) (rest_same c h hs all kept.0 none kept.1 apart.0 same.1))
+      where
+        by : (o : Option Unlike) → hist_conflict c h u ≡ o → (hist_conflict c h u ≡ None → conflict_of (with_hist h u c) (map (hist_record u) hs) ≡ slice_get (filter_map alone hs) 0)
+            → conflict_of c (map (hist_record u) (h ∷ hs)) ≡ slice_get (filter_map alone (h ∷ hs)) 0
+        by (Some x) e others = let mine : alone h ≡ Some x = sym same.0 ∙ e in rw (e, mine) refl
+        by None e others = let mine : alone h ≡ None = sym same.0 ∙ e in rw (e, mine) (others e)
+
+all_same : (u : units.Unit) (c : Content) (hs : List Hist) → AllByRecursion (λ h. hist_conflict c h u ≡ hist_conflict c h u) hs
+all_same u c [] = tt
+all_same u c (h ∷ hs) = (refl, all_same u c hs)
+
+-- a profile's unit is a kept one
+unit_is_kept : (hs : List Hist) (o : Option units.Unit) (u : units.Unit) → IsUnitOf hs o → o ≡ Some u → kept_unit u ≡ u
+unit_is_kept [] o u is e = absurd (let f : None ≡ Some u = sym is ∙ e in cc)
+unit_is_kept (h ∷ hs) o u is e = let same : is.0 ≡ u = cc in subst (λ (v : units.Unit). kept_unit v ≡ v) same is.2
+
+pub clash_in_turn : (p q : Content) (u : units.Unit) → IsProfile p → IsProfile q → q.«unit» ≡ Some u → conflict_of p (map (hist_record u) q.hists) ≡ clash_of p q
+clash_in_turn p q u is is' e =
+    in_turn u (unit_is_kept q.hists q.«unit» u is'.«unit» e) p q.hists p is'.hists is'.apart is.hists (all_same u p q.hists)
+    ∙ ap (λ (o : Option units.Unit). slice_get (filter_map (λ h. option_and_then (hist_conflict p h) o) q.hists) 0) (sym e)

@@ -1,0 +1,244 @@
+-- The sum of contents is the content of both lists of records.
+use Rattle.std.proofs.Common.{◌≡◌, ℕ, suc, ◌+◌, ◌<◌, Bool, true, false, ◌||◌, ltb, eqb, nat_eq, List, [], ◌∷◌, ◌++◌, fold, Option, Some, None, unwrap_or, true≢false, refl, sym, ap, ◌∙◌, if◌then◌else◌, arith}
+use Rattle.std.specs.Prelude.{⊤}
+use Rattle.std.specs.List.{list_any, AllByRecursion}
+use Rattle.std.specs.Option.{option_or}
+use Rattle.std.proofs.lemmas.Bool.{ltb-true, ltb-false, lt-ltb, le-ltb, eqb-true, eqb-false, eq-eqb, ne_eqb}
+use Rattle.gp_base.specs.declared.records.Unit as units
+use Rattle.gmon_data.specs.declared.hist.Hist.{Hist}
+use Rattle.gmon_data.specs.Hists.{put_hist, hist_sum, pointwise_sum, has_counters, kept_unit}
+use Rattle.gmon_data.specs.Tally.{tally}
+use Rattle.gmon_data.specs.Content.{Content, WideRec, WideHist, WideArc, WideBlock, empty_content, same_pair, content_of, with_hist, with_record, with_records}
+use Rattle.gmon_data.proofs.ContentLemmas.{same-self, pair-self, pair-equal}
+use Rattle.gmon_data.proofs.HistLemmas.{above_put, higher}
+use Rattle.gmon_data.proofs.RecordLemmas.{content-more}
+use Rattle.profile_sum.specs.Sum.{sum_of}
+
+-- ---- numbers by key: a number can be added to what is added, or after it
+
+module _ {K : Type 0} (same : K → K → Bool) (self : (k : K) → same k k ≡ true) (equal : (x y : K) → same x y ≡ true → x ≡ y) where
+  abbrev has : K → List (K × ℕ) → Bool
+  has k es = list_any (λ e. same k e.0) es
+
+  abbrev added : List (K × ℕ) → K × ℕ → List (K × ℕ)
+  added done e = tally same e.0 e.1 done
+
+  tally_twice : (k : K) (m n : ℕ) (es : List (K × ℕ)) → tally same k n (tally same k m es) ≡ tally same k (m + n) es
+  tally_twice k m n [] = rw self refl
+  tally_twice k m n (e ∷ es) = by (same k e.0) refl (tally_twice k m n es)
+    where
+      by : (b : Bool) → same k e.0 ≡ b → tally same k n (tally same k m es) ≡ tally same k (m + n) es → tally same k n (tally same k m (e ∷ es)) ≡ tally same k (m + n) (e ∷ es)
+      by true p others =
+          let assoc : (e.1 + m) + n ≡ e.1 + (m + n) = omega arith in
+          rw p (rw p (ap (λ (x : ℕ). (e.0, x) ∷ es) assoc))
+      by false p others = rw p (rw p (ap (λ (l : List (K × ℕ)). e ∷ l) others))
+
+  has_own : (k : K) (n : ℕ) (es : List (K × ℕ)) → has k (tally same k n es) ≡ true
+  has_own k n [] = rw self refl
+  has_own k n (e ∷ es) = by (same k e.0) refl (has_own k n es)
+    where
+      by : (b : Bool) → same k e.0 ≡ b → has k (tally same k n es) ≡ true → has k (if b then (e.0, e.1 + n) ∷ es else e ∷ tally same k n es) ≡ true
+      by true p others = rw p refl
+      by false p others = rw p others
+
+  has_still : (k d : K) (n : ℕ) (es : List (K × ℕ)) → has k es ≡ true → has k (tally same d n es) ≡ true
+  has_still k d n [] h = absurd (true≢false (sym h))
+  has_still k d n (e ∷ es) h = by (same d e.0) (same k e.0) h (has_still k d n es)
+    where
+      or_rest : (b : Bool) (x y : Bool) → (b || x) ≡ true → (x ≡ true → y ≡ true) → (b || y) ≡ true
+      or_rest true x y h f = refl
+      or_rest false x y h f = f h
+
+      by : (c b : Bool) → (same k e.0 || has k es) ≡ true → (has k es ≡ true → has k (tally same d n es) ≡ true) → has k (if c then (e.0, e.1 + n) ∷ es else e ∷ tally same d n es) ≡ true
+      by true b h others = h
+      by false b h others = or_rest (same k e.0) (has k es) (has k (tally same d n es)) h others
+
+  -- where a key stands, the order of two additions makes no difference
+  tally_swap : (k d : K) (n m : ℕ) (es : List (K × ℕ)) → has k es ≡ true → tally same d m (tally same k n es) ≡ tally same k n (tally same d m es)
+  tally_swap k d n m [] h = absurd (true≢false (sym h))
+  tally_swap k d n m (e ∷ es) h = by (same k e.0) (same d e.0) refl refl h (tally_swap k d n m es)
+    where
+      by : (b c : Bool) → same k e.0 ≡ b → same d e.0 ≡ c → (b || has k es) ≡ true → (has k es ≡ true → tally same d m (tally same k n es) ≡ tally same k n (tally same d m es))
+          → tally same d m (tally same k n (e ∷ es)) ≡ tally same k n (tally same d m (e ∷ es))
+      by true true p q h others =
+          let swap : (e.1 + n) + m ≡ (e.1 + m) + n = omega arith in
+          rw (p, q) (rw p (ap (λ (x : ℕ). (e.0, x) ∷ es) swap))
+      by true false p q h others = rw (p, q) (rw p refl)
+      by false true p q h others = rw (p, q) (rw p refl)
+      by false false p q h others = rw (p, q) (rw p (ap (λ (l : List (K × ℕ)). e ∷ l) (others h)))
+
+  fold_swap : (k : K) (n : ℕ) (es l : List (K × ℕ)) → has k l ≡ true → fold added (tally same k n l) es ≡ tally same k n (fold added l es)
+  fold_swap k n [] l h = refl
+  fold_swap k n (e ∷ es) l h =
+      ap (λ (x : List (K × ℕ)). fold added x es) (tally_swap k e.0 n e.1 l h) ∙ fold_swap k n es (tally same e.0 e.1 l) (has_still k e.0 e.1 l h)
+
+  pub fold_tally : (k : K) (n : ℕ) (es l : List (K × ℕ)) → fold added l (tally same k n es) ≡ tally same k n (fold added l es)
+  fold_tally k n [] l = refl
+  fold_tally k n (e ∷ es) l = by (same k e.0) refl (fold_tally k n es (tally same e.0 e.1 l))
+    where
+      by : (b : Bool) → same k e.0 ≡ b → fold added (tally same e.0 e.1 l) (tally same k n es) ≡ tally same k n (fold added (tally same e.0 e.1 l) es)
+          → fold added l (if b then (e.0, e.1 + n) ∷ es else e ∷ tally same k n es) ≡ tally same k n (fold added (tally same e.0 e.1 l) es)
+      by true p others =
+          ap (λ (x : List (K × ℕ)). fold added x es) (sym (tally_twice e.0 e.1 n l))
+          ∙ fold_swap e.0 n es (tally same e.0 e.1 l) (has_own e.0 e.1 l)
+          ∙ ap (λ (z : K). tally same z n (fold added (tally same e.0 e.1 l) es)) (sym (equal k e.0 p))
+      by false p others = others
+
+-- ---- histograms: the same
+
+assoc : (xs ys zs : List ℕ) → pointwise_sum xs (pointwise_sum ys zs) ≡ pointwise_sum (pointwise_sum xs ys) zs
+assoc [] ys zs = refl
+assoc (x ∷ xs) [] zs = refl
+assoc (x ∷ xs) (y ∷ ys) [] = refl
+assoc (x ∷ xs) (y ∷ ys) (z ∷ zs) =
+    let head : x + (y + z) ≡ (x + y) + z = omega arith in
+    λ i. head i ∷ assoc xs ys zs i
+
+abbrev put : List Hist → Hist → List Hist
+put done h = put_hist h done
+
+sum_assoc : (x k h : Hist) → hist_sum x (hist_sum k h) ≡ hist_sum (hist_sum x k) h
+sum_assoc x k h = λ i. record x { counters = assoc x.counters k.counters h.counters i }
+
+put_twice : (k h : Hist) (hs : List Hist) → k.low ≡ h.low → put_hist (hist_sum k h) hs ≡ put_hist h (put_hist k hs)
+put_twice k h [] same = let here = eq-eqb k.low h.low same in let not_less : ltb k.low h.low ≡ false = le-ltb k.low h.low (omega (arith, same)) in rw (not_less, here) refl
+put_twice k h (x ∷ xs) same = by (ltb x.low k.low) (eqb x.low k.low) refl refl (put_twice k h xs same)
+  where
+    by : (b e : Bool) → ltb x.low k.low ≡ b → eqb x.low k.low ≡ e → put_hist (hist_sum k h) xs ≡ put_hist h (put_hist k xs)
+        → (if b then x ∷ put_hist (hist_sum k h) xs else (if e then hist_sum x (hist_sum k h) ∷ xs else hist_sum k h ∷ x ∷ xs))
+        ≡ put_hist h (if b then x ∷ put_hist k xs else (if e then hist_sum x k ∷ xs else k ∷ x ∷ xs))
+    by true e lt eq others =
+        let less : ltb x.low h.low ≡ true = sym (ap (ltb x.low) same) ∙ lt in
+        rw less (ap (λ (l : List Hist). x ∷ l) others)
+    by false true lt eq others =
+        let not_less : ltb x.low h.low ≡ false = sym (ap (ltb x.low) same) ∙ lt in
+        let here : eqb x.low h.low ≡ true = sym (ap (eqb x.low) same) ∙ eq in
+        rw (not_less, here) (ap (λ (z : Hist). z ∷ xs) (sum_assoc x k h))
+    by false false lt eq others =
+        let here = eq-eqb k.low h.low same in
+        let not_less : ltb k.low h.low ≡ false = le-ltb k.low h.low (omega (arith, same)) in
+        rw (not_less, here) refl
+
+-- below the first one
+put_lowest : (a y : Hist) (ys : List Hist) → a.low < y.low → put_hist a (y ∷ ys) ≡ a ∷ y ∷ ys
+put_lowest a y ys below =
+    let not_less : ltb y.low a.low ≡ false = le-ltb y.low a.low (omega (arith, below)) in
+    let other : eqb y.low a.low ≡ false = ne_eqb y.low a.low (λ e. let f : a.low < a.low = omega (arith, below, e) in omega (arith, f)) in
+    rw (not_less, other) refl
+
+put_swap : (a b : Hist) (hs : List Hist) → a.low < b.low → put_hist b (put_hist a hs) ≡ put_hist a (put_hist b hs)
+put_swap a b [] below = rw (lt-ltb a.low b.low below) (sym (put_lowest a b [] below))
+put_swap a b (x ∷ xs) below = by (ltb x.low a.low) (eqb x.low a.low) refl refl (put_swap a b xs below)
+  where
+    by : (c e : Bool) → ltb x.low a.low ≡ c → eqb x.low a.low ≡ e → put_hist b (put_hist a xs) ≡ put_hist a (put_hist b xs)
+        → put_hist b (if c then x ∷ put_hist a xs else (if e then hist_sum x a ∷ xs else a ∷ x ∷ xs)) ≡ put_hist a (put_hist b (x ∷ xs))
+    by true e lt eq others =
+        let less : ltb x.low b.low ≡ true = lt-ltb x.low b.low (omega (arith, ltb-true x.low a.low lt, below)) in
+        rw (less, lt) (ap (λ (l : List Hist). x ∷ l) others)
+    by false true lt eq others =
+        let less : ltb x.low b.low ≡ true = lt-ltb x.low b.low (omega (arith, eqb-true x.low a.low eq, below)) in
+        rw (less, lt, eq) refl
+    by false false lt eq others =
+        let le = ltb-false x.low a.low lt in
+        let ne = eqb-false x.low a.low eq in
+        let above : a.low < x.low = omega (arith, le, ne) in
+        rw (lt-ltb a.low b.low below) (high (ltb x.low b.low) (eqb x.low b.low) above)
+      where
+        high : (d f : Bool) → a.low < x.low
+            → a ∷ (if d then x ∷ put_hist b xs else (if f then hist_sum x b ∷ xs else b ∷ x ∷ xs)) ≡ put_hist a (if d then x ∷ put_hist b xs else (if f then hist_sum x b ∷ xs else b ∷ x ∷ xs))
+        high true f above = sym (put_lowest a x (put_hist b xs) above)
+        high false true above = sym (put_lowest a (hist_sum x b) xs above)
+        high false false above = sym (put_lowest a b (x ∷ xs) below)
+
+fold_above : (h : Hist) (ks l : List Hist) → AllByRecursion (λ k. h.low < k.low) ks → fold put (put_hist h l) ks ≡ put_hist h (fold put l ks)
+fold_above h [] l above = refl
+fold_above h (k ∷ ks) l above =
+    ap (λ (x : List Hist). fold put x ks) (put_swap h k l above.0) ∙ fold_above h ks (put_hist k l) above.1
+
+-- the low addresses rise
+abbrev IsRising : List Hist → Type 0
+IsRising [] = ⊤
+IsRising (h ∷ hs) = AllByRecursion (λ k. h.low < k.low) hs × IsRising hs
+
+rising_put : (h : Hist) (hs : List Hist) → IsRising hs → IsRising (put_hist h hs)
+rising_put h [] rising = (tt, tt)
+rising_put h (k ∷ ks) rising = by (ltb k.low h.low) (eqb k.low h.low) refl refl (rising_put h ks rising.1)
+  where
+    by : (b e : Bool) → ltb k.low h.low ≡ b → eqb k.low h.low ≡ e → IsRising (put_hist h ks) → IsRising (if b then k ∷ put_hist h ks else (if e then hist_sum k h ∷ ks else h ∷ k ∷ ks))
+    by true e lt eq others = (above_put (suc k.low) h ks (ltb-true k.low h.low lt) rising.0, others)
+    by false true lt eq others = rising
+    by false false lt eq others =
+        let le = ltb-false k.low h.low lt in
+        let ne = eqb-false k.low h.low eq in
+        let above : h.low < k.low = omega (arith, le, ne) in
+        ((above, higher (suc h.low) (suc k.low) ks (omega (arith, above)) rising.0), rising)
+
+fold_put : (h : Hist) (hs l : List Hist) → IsRising hs → fold put l (put_hist h hs) ≡ put_hist h (fold put l hs)
+fold_put h [] l rising = refl
+fold_put h (k ∷ ks) l rising = by (ltb k.low h.low) (eqb k.low h.low) refl refl (fold_put h ks (put_hist k l) rising.1)
+  where
+    by : (b e : Bool) → ltb k.low h.low ≡ b → eqb k.low h.low ≡ e → fold put (put_hist k l) (put_hist h ks) ≡ put_hist h (fold put (put_hist k l) ks)
+        → fold put l (if b then k ∷ put_hist h ks else (if e then hist_sum k h ∷ ks else h ∷ k ∷ ks)) ≡ put_hist h (fold put (put_hist k l) ks)
+    by true e lt eq others = others
+    by false true lt eq others =
+        let same = eqb-true k.low h.low eq in
+        ap (λ (x : List Hist). fold put x ks) (put_twice k h l same) ∙ fold_above h ks (put_hist k l) (higher (suc h.low) (suc k.low) ks (omega (arith, same)) rising.0)
+    by false false lt eq others =
+        let le = ltb-false k.low h.low lt in
+        let ne = eqb-false k.low h.low eq in
+        let above : h.low < k.low = omega (arith, le, ne) in
+        fold_above h (k ∷ ks) l (above, higher (suc h.low) (suc k.low) ks (omega (arith, above)) rising.0)
+
+-- ---- contents: a record can be added to what is added, or after it
+
+unit_later : (p q : Option units.Unit) (u : units.Unit) → option_or p (Some (unwrap_or q u)) ≡ Some (unwrap_or (option_or p q) u)
+unit_later None q u = refl
+unit_later (Some v) q u = refl
+
+hist_later : (h : Hist) (u : units.Unit) (p q : Content) → IsRising q.hists → sum_of p (with_hist h u q) ≡ with_hist h u (sum_of p q)
+hist_later h u p q rising = by (has_counters h)
+  where
+    by : (b : Bool)
+        → sum_of p (if b then record q { hists = put_hist h q.hists; «unit» = Some (unwrap_or q.«unit» (kept_unit u)) } else q)
+        ≡ (if b then record (sum_of p q) { hists = put_hist h (sum_of p q).hists; «unit» = Some (unwrap_or (sum_of p q).«unit» (kept_unit u)) } else sum_of p q)
+    by true =
+        let hists = fold_put h q.hists p.hists rising in
+        let un = unit_later p.«unit» q.«unit» (kept_unit u) in
+        λ i. record (sum_of p q) { hists = hists i; «unit» = un i }
+    by false = refl
+
+rising_with : (r : WideRec) (q : Content) → IsRising q.hists → IsRising (with_record r q).hists
+rising_with (WideHist h u) q rising = by (has_counters h)
+  where
+    by : (b : Bool) → IsRising (if b then record q { hists = put_hist h q.hists; «unit» = Some (unwrap_or q.«unit» (kept_unit u)) } else q).hists
+    by true = rising_put h q.hists rising
+    by false = rising
+rising_with (WideArc from to count) q rising = rising
+rising_with (WideBlock addr count) q rising = rising
+
+record_later : (r : WideRec) (p q : Content) → IsRising q.hists → sum_of p (with_record r q) ≡ with_record r (sum_of p q)
+record_later (WideHist h u) p q rising = hist_later h u p q rising
+record_later (WideArc from to count) p q rising = ap (λ l. record (sum_of p q) { arcs = l }) (fold_tally same_pair pair-self pair-equal (from, to) count q.arcs p.arcs)
+record_later (WideBlock addr count) p q rising = ap (λ l. record (sum_of p q) { blocks = l }) (fold_tally nat_eq same-self eqb-true addr count q.blocks p.blocks)
+
+records_later : (recs : List WideRec) (p q : Content) → IsRising q.hists → sum_of p (with_records recs q) ≡ with_records recs (sum_of p q)
+records_later [] p q rising = refl
+records_later (r ∷ recs) p q rising = records_later recs p (with_record r q) (rising_with r q rising) ∙ ap (with_records recs) (record_later r p q rising)
+
+or_none : (o : Option units.Unit) → option_or o None ≡ o
+or_none None = refl
+or_none (Some v) = refl
+
+sum_none : (p : Content) → sum_of p empty_content ≡ p
+sum_none p = λ i. record p { «unit» = or_none p.«unit» i }
+
+pub content_is_added : (recs : List WideRec) → content_of recs ≡ with_records recs empty_content
+unfolding content_of
+content_is_added recs = content-more [] recs
+
+pub content_sum : (a b : List WideRec) → sum_of (content_of a) (content_of b) ≡ content_of (a ++ b)
+content_sum a b =
+    ap (sum_of (content_of a)) (content_is_added b)
+    ∙ records_later b (content_of a) empty_content tt
+    ∙ ap (with_records b) (sum_none (content_of a))
+    ∙ sym (content-more a b)

@@ -1,0 +1,4 @@
+pub mod LoopLemmas
+pub mod ClashLemmas
+pub mod SumLemmas
+pub mod ContentSums

@@ -1,0 +1,55 @@
+-- A loop that adds items one by one, each as a record.
+use Rattle.std.proofs.Common.{◌≡◌, ℕ, zero, suc, ◌+◌, ◌≤◌, List, [], ◌∷◌, ◌++◌, length, map, drop, slice_get, add-one, Some, None, refl, sym, ap, subst, ◌∙◌, arith}
+use Rattle.std.specs.List.{AllByRecursion}
+use Rattle.std.proofs.lemmas.List.{append-nil}
+use Rattle.gmon_data.specs.declared.refusal.AddRefusal.{AddRefusal}
+use Rattle.gmon_data.specs.Hists.{IsUnlike}
+use Rattle.gmon_data.specs.Content.{Content, WideRec, with_record, with_records, record_conflict, conflict_of, IsAdded, IsWithin}
+use Rattle.gmon_data.proofs.HistLemmas.{some_same}
+use Rattle.gmon_data.proofs.RecordLemmas.{IsUnderway, one_added, one_more, stop, stopped_before, stopped_conflict, within_next}
+
+-- what holds of all holds of each
+pub at_all : {A : Type 0} (P : A → Type 0) (xs : List A) (i : ℕ) (x : A) → AllByRecursion P xs → slice_get xs i ≡ Some x → P x
+at_all P [] i x all at = absurd cc
+at_all P (y ∷ ys) zero x all at = subst P (some_same y x at) all.0
+at_all P (y ∷ ys) (suc i) x all at = at_all P ys i x all.1 at
+
+cut_at : {A : Type 0} (xs : List A) (i : ℕ) (x : A) → slice_get xs i ≡ Some x → drop i xs ≡ x ∷ drop (i + 1) xs
+cut_at {A} xs i x at = rw add-one (go xs i at)
+  where
+    go : (ys : List A) (k : ℕ) → slice_get ys k ≡ Some x → drop k ys ≡ x ∷ drop (suc k) ys
+    go [] k e = absurd cc
+    go (y ∷ ys) zero e = ap (λ (z : A). z ∷ ys) (some_same y x e)
+    go (y ∷ ys) (suc k) e = go ys k e
+
+past_end : {A : Type 0} (xs : List A) (i : ℕ) → length xs ≤ i → drop i xs ≡ []
+past_end [] zero le = refl
+past_end [] (suc i) le = refl
+past_end (x ∷ xs) zero le = absurd (let f : suc (length xs) ≤ 0 = le in omega (arith, f))
+past_end (x ∷ xs) (suc i) le = past_end xs i (omega (arith, le))
+
+module _ {A : Type 0} (as_record : A → WideRec) (xs : List A) (i : ℕ) (old now : Content) (w : IsUnderway (map as_record xs) (map as_record (drop i xs)) old now) where
+  -- all were added
+  pub items_done : length xs ≤ i → IsAdded (map as_record xs) old now
+  items_done le =
+      let none : map as_record (drop i xs) ≡ [] = ap (map as_record) (past_end xs i le) in
+      let is : map as_record xs ≡ w.done = w.split ∙ ap (λ l. w.done ++ l) none ∙ append-nil w.done in
+      record { added = w.added ∙ ap (λ l. with_records l old) (sym is); accepted = ap (conflict_of old) is ∙ w.accepted }
+
+  module _ (x : A) (at : slice_get xs i ≡ Some x) where
+    next : IsUnderway (map as_record xs) ((as_record x ∷ []) ++ map as_record (drop (i + 1) xs)) old now
+    next = subst (λ (l : List WideRec). IsUnderway (map as_record xs) l old now) (ap (map as_record) (cut_at xs i x at)) w
+
+    -- the next one can be added
+    pub item_within : IsWithin (with_records (map as_record xs) old) → IsWithin (with_record (as_record x) now)
+    item_within fits = within_next (map as_record xs) (as_record x ∷ []) (map as_record (drop (i + 1) xs)) old now next fits
+
+    -- it was added
+    pub item_added : (new : Content) → record_conflict now (as_record x) ≡ None → new ≡ with_record (as_record x) now → IsUnderway (map as_record xs) (map as_record (drop (i + 1) xs)) old new
+    item_added new none is = one_more (map as_record xs) (as_record x ∷ []) (map as_record (drop (i + 1) xs)) old now next new (one_added (as_record x) now new none is)
+
+    -- it was refused
+    pub item_refused : (refusal : AddRefusal) → IsUnlike refusal (record_conflict now (as_record x)) → IsUnlike refusal (conflict_of old (map as_record xs))
+    item_refused refusal h =
+        stopped_conflict refusal (map as_record xs) old now
+        (stop (map as_record xs) (as_record x ∷ []) (map as_record (drop (i + 1) xs)) old now next refusal now (stopped_before refusal (as_record x) now now refl h))

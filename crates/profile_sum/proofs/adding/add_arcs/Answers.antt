@@ -1,0 +1,18 @@
+use Rattle.std.proofs.Common.{map, refl, arith}
+use Rattle.gmon_data.proofs.RecordLemmas.{at_begin}
+use Rattle.profile_sum.specs.Sum.{arc_record}
+use Rattle.profile_sum.proofs.LoopLemmas.{item_added, item_within, items_done}
+use Rattle.profile_sum.proofs.adding.add_arcs.Goals as goal
+
+pub loop-i-init : goal.loop-i-init
+loop-i-init c = at_begin (map arc_record c.args.more.now.arcs) c.args.total.now
+
+pub add_calls-requires : goal.add_calls-requires
+add_calls-requires c = item_within arc_record c.args.more.now.arcs c.loop-i.i c.args.total.now c.loop-i.total c.loop-i.invariant ((c.arc-from.result.0, c.arc-from.result.1), c.arc-from.result.2) c.arc-from.ensures c.requires
+
+pub loop-i-preserved : goal.loop-i-preserved
+loop-i-preserved c =
+    item_added arc_record c.args.more.now.arcs c.loop-i.i c.args.total.now c.loop-i.total c.loop-i.invariant ((c.arc-from.result.0, c.arc-from.result.1), c.arc-from.result.2) c.arc-from.ensures _ refl c.in_ok-add_calls.ensures.added
+
+pub returns : goal.returns
+returns c = (items_done arc_record c.args.more.now.arcs c.loop-i.i c.args.total.now c.loop-i.total c.loop-i.invariant (omega (arith, c.loop-i-test.false, c.arc_count-i-end.ensures.value))).added

@@ -1,0 +1,18 @@
+use Rattle.std.proofs.Common.{map, refl, arith}
+use Rattle.gmon_data.proofs.RecordLemmas.{at_begin}
+use Rattle.profile_sum.specs.Sum.{block_record}
+use Rattle.profile_sum.proofs.LoopLemmas.{item_added, item_within, items_done}
+use Rattle.profile_sum.proofs.adding.add_blocks.Goals as goal
+
+pub loop-i-init : goal.loop-i-init
+loop-i-init c = at_begin (map block_record c.args.more.now.blocks) c.args.total.now
+
+pub add_runs-requires : goal.add_runs-requires
+add_runs-requires c = item_within block_record c.args.more.now.blocks c.loop-i.i c.args.total.now c.loop-i.total c.loop-i.invariant (c.block-addr.result.0, c.block-addr.result.1) c.block-addr.ensures c.requires
+
+pub loop-i-preserved : goal.loop-i-preserved
+loop-i-preserved c =
+    item_added block_record c.args.more.now.blocks c.loop-i.i c.args.total.now c.loop-i.total c.loop-i.invariant (c.block-addr.result.0, c.block-addr.result.1) c.block-addr.ensures _ refl c.in_ok-add_runs.ensures.added
+
+pub returns : goal.returns
+returns c = (items_done block_record c.args.more.now.blocks c.loop-i.i c.args.total.now c.loop-i.total c.loop-i.invariant (omega (arith, c.loop-i-test.false, c.block_count-i-end.ensures.value))).added

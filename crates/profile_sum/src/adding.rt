@@ -1,0 +1,94 @@
+//! A profile, added to another.
+
+ghost use Rattle.std.specs.Prelude.{◌≡◌, map, Some, None, IfErr, OnOk, OnErr};
+ghost use Rattle.gmon_data.specs.Content.{IsProfile, IsWithin, conflict_of, with_records};
+ghost use Rattle.gmon_data.specs.Hists.{IsUnlike};
+ghost use Rattle.profile_sum.specs.Sum.{arc_record, block_record, clash_of, hist_record, hist_records, sum_of, IsClash};
+
+use crate::refusal::SumRefusal;
+use gmon_data::{AddRefusal, Profile};
+use gp_base::Unit;
+use std::alloc::AllocError;
+
+/// Adds a profile to a total: the pointwise sum. Histograms stand in ascending order of their low
+/// addresses; new arcs and new block addresses follow the old ones in the order of `more`; the unit is
+/// that of `total`, or that of `more` where `total` has none.
+///
+/// Refusals: `Unlike` for the first histogram of `more` that `Profile::add_wide` refuses, each tried on
+/// `total` alone. After a refusal `total` is unchanged, want of memory included.
+pub fn add_all(total: &mut Profile, more: &Profile) -> Result<(), SumRefusal>
+    requires within { IsWithin (sum_of total.old more.now) }
+    ensures refusal { IfErr result (λ refusal. IsClash refusal (clash_of total.old more.now)) }
+    ensures accepted { OnOk result (clash_of total.old more.now ≡ None) }
+    ensures added { OnOk result (total.new ≡ sum_of total.old more.now) }
+    ensures unchanged { OnErr result (total.new ≡ total.old) }
+{
+    profile_holds(total);
+    profile_holds(more);
+    let mut sum = total.try_clone()?;
+    add_hists(&mut sum, more)?;
+    add_arcs(&mut sum, more)?;
+    add_blocks(&mut sum, more)?;
+    *total = sum;
+    Ok(())
+}
+
+/// A profile has what each profile has. Only the contract is wanted.
+fn profile_holds(profile: &Profile)
+    ensures { IsProfile profile.now }
+{
+    let _unit = profile.unit();
+}
+
+/// Adds the histograms. After a refusal some first ones are added.
+fn add_hists(total: &mut Profile, more: &Profile) -> Result<(), AddRefusal>
+    requires total { IsProfile total.old }
+    requires more { IsProfile more.now }
+    requires within { IsWithin (with_records (hist_records more.now) total.old) }
+    ensures refusal { IfErr result (λ refusal. IsUnlike refusal (clash_of total.old more.now)) }
+    ensures accepted { OnOk result (clash_of total.old more.now ≡ None) }
+    ensures added { OnOk result (total.new ≡ with_records (hist_records more.now) total.old) }
+{
+    match more.unit() {
+        Some(unit) => add_hists_of(total, more, unit),
+        None => Ok(()),
+    }
+}
+
+/// Adds the histograms, which are of one unit. After a refusal those before the refused one are added.
+fn add_hists_of(total: &mut Profile, more: &Profile, unit: Unit) -> Result<(), AddRefusal>
+    requires more { IsProfile more.now }
+    requires within { IsWithin (with_records (map (hist_record «unit») more.now.hists) total.old) }
+    ensures refusal { IfErr result (λ refusal. IsUnlike refusal (conflict_of total.old (map (hist_record «unit») more.now.hists))) }
+    ensures accepted { OnOk result (conflict_of total.old (map (hist_record «unit») more.now.hists) ≡ None) }
+    ensures added { OnOk result (total.new ≡ with_records (map (hist_record «unit») more.now.hists) total.old) }
+{
+    for i in 0..more.hist_count() {
+        total.add_wide(more.hist(i), unit)?;
+    }
+    Ok(())
+}
+
+/// Adds the calls of each pair. After want of memory those of some first pairs are added.
+fn add_arcs(total: &mut Profile, more: &Profile) -> Result<(), AllocError>
+    requires { IsWithin (with_records (map arc_record more.now.arcs) total.old) }
+    ensures { OnOk result (total.new ≡ with_records (map arc_record more.now.arcs) total.old) }
+{
+    for i in 0..more.arc_count() {
+        let (from, to, count) = more.arc(i);
+        total.add_calls(from, to, count)?;
+    }
+    Ok(())
+}
+
+/// Adds the executions of each block address. After want of memory those of some first ones are added.
+fn add_blocks(total: &mut Profile, more: &Profile) -> Result<(), AllocError>
+    requires { IsWithin (with_records (map block_record more.now.blocks) total.old) }
+    ensures { OnOk result (total.new ≡ with_records (map block_record more.now.blocks) total.old) }
+{
+    for i in 0..more.block_count() {
+        let (addr, count) = more.block(i);
+        total.add_runs(addr, count)?;
+    }
+    Ok(())
+}

@@ -1,0 +1,12 @@
+//! The sum of two profiles.
+#![tactic(auto)]
+
+pub mod adding;
+pub mod laws;
+pub mod refusal;
+
+pub use adding::add_all;
+pub use refusal::SumRefusal;
+
+#[cfg(test)]
+mod tests;
