@@ -1,0 +1,127 @@
+//! One walk over the buckets of all histograms, and over the symbols beside them.
+
+ghost use Rattle.std.specs.Prelude.{◌≡◌, ◌+◌, ◌*◌, ◌^◌, ◌<◌, ◌≤◌, length, map, sum, slice_index, take, IfOk};
+ghost use Rattle.std.specs.List.{All};
+ghost use Rattle.elf32_syms.specs.Owners.{IsAscending};
+ghost use Rattle.gmon_data.specs.Hists.{IsKept, pointwise_sum, samples_of};
+ghost use Rattle.symbol_shares.specs.Shares.{attributed_of, bucket_begin, share_in_hist, share_of_bucket as bucket_share_of, shares_of};
+
+use crate::bucket::{GRAINS, is_above, share_of_bucket};
+use crate::table::Shares;
+use elf32_syms::Symbol;
+use gmon_data::{Hist, Profile};
+use std::alloc::{AllocError, Global};
+
+/// Adds what each symbol gets of bucket `i`, where the first `from` symbols end at or below its
+/// begin. Answers how many symbols have ended at its end, at least.
+fn add_bucket(of: &mut [u128], symbols: &[Symbol], from: usize, hist: &Hist, i: usize) -> usize
+    requires same { length of.old ≡ length symbols.now }
+    requires ascending { IsAscending symbols.now }
+    requires kept { IsKept hist.now }
+    requires few { length hist.now.counters < 2 ^ 26 }
+    requires inside { i < length hist.now.counters }
+    requires from { from ≤ length symbols.now }
+    requires ended { All (λ s. s.end * length hist.now.counters ≤ bucket_begin hist.now i) (take from symbols.now) }
+    requires fits { sum of.old + 1000000 * slice_index hist.now.counters i < 2 ^ 128 }
+    ensures added { of.new ≡ pointwise_sum of.old (map (bucket_share_of hist.now i) symbols.now) }
+    ensures inside { result ≤ length symbols.now }
+    ensures ended { All (λ s. s.end * length hist.now.counters ≤ bucket_begin hist.now (i + 1)) (take result symbols.now) }
+{
+    for k in from..symbols.len() {
+        let symbol = &symbols[k];
+        of[k] += share_of_bucket(hist, i, symbol);
+        if is_above(hist, i, symbol.end) {
+            return k;
+        }
+    }
+    symbols.len()
+}
+
+/// Adds what each symbol gets of a histogram, where the first `from` symbols end at or below its
+/// low address. Answers how many symbols have ended at its high address, at least.
+fn add_hist(of: &mut [u128], symbols: &[Symbol], from: usize, hist: &Hist) -> usize
+    requires same { length of.old ≡ length symbols.now }
+    requires ascending { IsAscending symbols.now }
+    requires kept { IsKept hist.now }
+    requires few { length hist.now.counters < 2 ^ 26 }
+    requires from { from ≤ length symbols.now }
+    requires ended { All (λ s. s.end ≤ hist.now.low) (take from symbols.now) }
+    requires fits { sum of.old + 1000000 * sum hist.now.counters < 2 ^ 128 }
+    ensures added { of.new ≡ pointwise_sum of.old (map (share_in_hist hist.now) symbols.now) }
+    ensures inside { result ≤ length symbols.now }
+    ensures ended { All (λ s. s.end ≤ hist.now.high) (take result symbols.now) }
+{
+    let mut from = from;
+    for i in 0..hist.counters.as_slice().len() {
+        from = add_bucket(of, symbols, from, hist, i);
+    }
+    from
+}
+
+/// What each symbol gets of all histograms.
+fn shares_of_symbols(
+    alloc: Global,
+    profile: &Profile,
+    symbols: &[Symbol],
+) -> Result<Vec<u128>, AllocError>
+    requires { IsAscending symbols.now }
+    ensures { IfOk result (λ of. of.items ≡ (shares_of profile.now.hists symbols.now).of) }
+{
+    let mut of = vec![in alloc; 0; symbols.len()]?;
+    let mut from = 0;
+    for k in 0..profile.hist_count() {
+        from = add_hist(of.as_mut_slice(), symbols, from, profile.hist(k));
+    }
+    Ok(of)
+}
+
+/// The sum of numbers.
+fn total(numbers: &[u128]) -> u128
+    requires { sum numbers.now < 2 ^ 128 }
+    ensures { result ≡ sum numbers.now }
+{
+    let mut total = 0;
+    for number in numbers {
+        total += *number;
+    }
+    total
+}
+
+/// The number of symbols of which the last has this place, below its end.
+fn count_to(last: usize, end: u32) -> u32
+    requires { last < end }
+    ensures { result ≡ last + 1 }
+{
+    last as u32 + 1
+}
+
+/// The number of symbols.
+fn count(symbols: &[Symbol]) -> u32
+    requires { IsAscending symbols.now }
+    ensures { result ≡ length symbols.now }
+{
+    if symbols.is_empty() {
+        return 0;
+    }
+    let last = symbols.len() - 1;
+    count_to(last, symbols[last].end)
+}
+
+/// What each symbol gets of a profile's histograms, and what is left. The symbols are in order, as
+/// those of an image are.
+///
+/// A bucket reaches from `low + i * width / n` to `low + (i + 1) * width / n`, where `width` is
+/// `high - low` and `n` the number of counters; these bounds are fractions. Up to an address `x`
+/// within it, it has `floor(count * 1,000,000 * (x * n - low * n - i * width) / width)` grains.
+pub fn shares(alloc: Global, profile: &Profile, symbols: &[Symbol]) -> Result<Shares, AllocError>
+    requires { IsAscending symbols.now }
+    ensures shares { IfOk result (λ s. s ≡ shares_of profile.now.hists symbols.now) }
+    ensures whole { IfOk result (λ s. attributed_of s + s.outside ≡ 1000000 * samples_of profile.now.hists) }
+    ensures within { IfOk result (λ s. attributed_of s < 2 ^ 65) }
+{
+    let of = shares_of_symbols(alloc, profile, symbols)?;
+    let grains = u128::from(profile.samples()) * GRAINS;
+    let attributed = total(of.as_slice());
+    let outside = grains - attributed;
+    Ok(Shares::new(count(symbols), of, attributed, outside))
+}
