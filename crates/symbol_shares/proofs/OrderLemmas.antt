@@ -37,10 +37,11 @@ ascending-tail s symbols h = record {
   apart = λ k d below. let one : suc k + 1 ≡ suc (k + 1) = omega arith in rw one at (h.apart (suc k) d (omega arith));
 }
 
-all_at : (P : Hist → Type 0) (hists : List Hist) (j : ℕ) (k : Hist) → AllByRecursion P hists → slice_get hists j ≡ Some k → P k
-all_at P [] j k a at = absurd cc
-all_at P (h ∷ hists) zero k a at = let same : h ≡ k = cc in subst P same a.0
-all_at P (h ∷ hists) (suc j) k a at = all_at P hists j k a.1 at
+-- what holds of each histogram holds of the one at a place
+pub hist-at : (P : Hist → Type 0) (hists : List Hist) (j : ℕ) (k : Hist) → AllByRecursion P hists → slice_get hists j ≡ Some k → P k
+hist-at P [] j k a at = absurd cc
+hist-at P (h ∷ hists) zero k a at = let same : h ≡ k = cc in subst P same a.0
+hist-at P (h ∷ hists) (suc j) k a at = hist-at P hists j k a.1 at
 
 -- each histogram ends at or below the begin of those behind it
 pub hists-apart : (hists : List Hist) (i j : ℕ) (h k : Hist) → IsApart hists → i < j → slice_get hists i ≡ Some h → slice_get hists j ≡ Some k → h.high ≤ k.low
@@ -48,8 +49,5 @@ hists-apart [] i j h k apart less at at' = absurd cc
 hists-apart (g ∷ hists) i zero h k apart less at at' = absurd (omega arith)
 hists-apart (g ∷ hists) zero (suc j) h k apart less at at' =
     let same : g ≡ h = cc in
-    subst (λ (g : Hist). g.high ≤ k.low) same (all_at (λ k. g.high ≤ k.low) hists j k apart.0 at')
+    subst (λ (g : Hist). g.high ≤ k.low) same (hist-at (λ k. g.high ≤ k.low) hists j k apart.0 at')
 hists-apart (g ∷ hists) (suc i) (suc j) h k apart less at at' = hists-apart hists i j h k apart.1 (omega arith) at at'
-
-pub hist-kept : (P : Hist → Type 0) (hists : List Hist) (j : ℕ) (k : Hist) → AllByRecursion P hists → slice_get hists j ≡ Some k → P k
-hist-kept P hists j k a at = all_at P hists j k a at

@@ -83,10 +83,6 @@ pub hists-more : (hists : List Hist) (k : ℕ) (h : Hist) (s : Symbol) → k < l
 hists-more hists k h s below is =
     sum_by_more (λ h. share_in_hist h s) hists k h below ∙ ap (λ (h : Hist). share_of (take k hists) s + share_in_hist h s) (sym is)
 
-pub samples-more : (hists : List Hist) (k : ℕ) (h : Hist) → k < length hists → h ≡ get_or hists k h → samples_of (take (k + 1) hists) ≡ samples_of (take k hists) + sum h.counters
-samples-more hists k h below is =
-    sum_by_more (λ (h : Hist). sum h.counters) hists k h below ∙ ap (λ (h : Hist). samples_of (take k hists) + sum h.counters) (sym is)
-
 -- ---- no grain goes to two symbols
 
 -- of grains that rise to at most c, symbols in order have at most c together

@@ -25,12 +25,15 @@ share_of_bucket h i s = grains_up_to h i s.end - grains_up_to h i s.addr
 abbrev pub share_of_buckets : Hist → ℕ → Symbol → ℕ
 share_of_buckets h m s = sum_by (λ i. share_of_bucket h i s) (range_with_len 0 m)
 
+-- what a symbol gets of all buckets of a histogram
 abbrev pub share_in_hist : Hist → Symbol → ℕ
 share_in_hist h s = share_of_buckets h (length h.counters) s
 
+-- what a symbol gets of all histograms
 abbrev pub share_of : List Hist → Symbol → ℕ
 share_of hists s = sum_by (λ h. share_in_hist h s) hists
 
+-- how all grains are shared out
 pub record ShareTable : Type 0 where
   -- the grains of each symbol
   pub of : List ℕ
@@ -41,6 +44,7 @@ pub record ShareTable : Type 0 where
 abbrev pub attributed_of : ShareTable → ℕ
 attributed_of t = sum t.of
 
+-- each symbol's share; what no symbol gets is outside
 abbrev pub shares_of : List Hist → List Symbol → ShareTable
 shares_of hists symbols =
     record {

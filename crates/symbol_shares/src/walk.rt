@@ -3,6 +3,7 @@
 ghost use Rattle.std.specs.Prelude.{◌≡◌, ◌+◌, ◌*◌, ◌^◌, ◌<◌, ◌≤◌, length, map, sum, slice_index, take, IfOk};
 ghost use Rattle.std.specs.List.{All};
 ghost use Rattle.elf32_syms.specs.Owners.{IsAscending};
+ghost use Rattle.gmon_data.specs.Content.{IsProfile};
 ghost use Rattle.gmon_data.specs.Hists.{IsKept, pointwise_sum, samples_of};
 ghost use Rattle.symbol_shares.specs.Shares.{attributed_of, bucket_begin, share_in_hist, share_of_bucket as bucket_share_of, shares_of};
 
@@ -64,7 +65,8 @@ fn shares_of_symbols(
     profile: &Profile,
     symbols: &[Symbol],
 ) -> Result<Vec<u128>, AllocError>
-    requires { IsAscending symbols.now }
+    requires profile { IsProfile profile.now }
+    requires ascending { IsAscending symbols.now }
     ensures { IfOk result (λ of. of.items ≡ (shares_of profile.now.hists symbols.now).of) }
 {
     let mut of = vec![in alloc; 0; symbols.len()]?;
@@ -119,8 +121,8 @@ pub fn shares(alloc: Global, profile: &Profile, symbols: &[Symbol]) -> Result<Sh
     ensures whole { IfOk result (λ s. attributed_of s + s.outside ≡ 1000000 * samples_of profile.now.hists) }
     ensures within { IfOk result (λ s. attributed_of s < 2 ^ 65) }
 {
-    let of = shares_of_symbols(alloc, profile, symbols)?;
     let grains = u128::from(profile.samples()) * GRAINS;
+    let of = shares_of_symbols(alloc, profile, symbols)?;
     let attributed = total(of.as_slice());
     let outside = grains - attributed;
     Ok(Shares::new(count(symbols), of, attributed, outside))

@@ -1,7 +1,7 @@
 use Rattle.std.proofs.Common.{◌≡◌, [], replicate, length, refl, ◌∙◌, arith, rules}
 use Rattle.gmon_data.specs.Hists.{IsKept}
 use Rattle.symbol_shares.specs.Shares.{share_of}
-use Rattle.symbol_shares.proofs.OrderLemmas.{hist-kept}
+use Rattle.symbol_shares.proofs.OrderLemmas.{hist-at}
 use Rattle.symbol_shares.proofs.SumLemmas.{zeros}
 use Rattle.symbol_shares.proofs.WalkLemmas.{hist-few, hist-fits, hist-added, hist-passed, written-back}
 use Rattle.symbol_shares.proofs.walk.shares_of_symbols.Goals as goal
@@ -15,20 +15,20 @@ loop-k-init c =
     }
 
 pub add_hist-from-requires-clause-kept : goal.add_hist-from-requires-clause-kept
-add_hist-from-requires-clause-kept c = hist-kept IsKept c.args.profile.now.hists c.loop-k.k c.hist.result.now c.hist_count-k-end.ensures.profile.hists c.hist.ensures
+add_hist-from-requires-clause-kept c = hist-at IsKept c.args.profile.now.hists c.loop-k.k c.hist.result.now c.requires.profile.hists c.hist.ensures
 
 pub add_hist-from-requires-clause-few : goal.add_hist-from-requires-clause-few
-add_hist-from-requires-clause-few c = hist-few c.args.profile.now.hists c.loop-k.k _ c.hist.result.now c.hist.ensures c.hist_count-k-end.ensures.profile.within.counters
+add_hist-from-requires-clause-few c = hist-few c.args.profile.now.hists c.loop-k.k _ c.hist.result.now c.hist.ensures c.requires.profile.within.counters
 
 pub add_hist-from-requires-clause-fits : goal.add_hist-from-requires-clause-fits
 add_hist-from-requires-clause-fits c =
-    let fits = hist-fits c.args.profile.now.hists c.loop-k.k c.hist.result.now c.args.symbols.now c.as_mut_slice.result.now c.hist_count-k-end.ensures.profile.hists c.requires c.hist.ensures (c.as_mut_slice.ensures.value ∙ c.loop-k.invariant.added) in
-    omega (arith, fits, c.hist_count-k-end.ensures.profile.within.samples)
+    let fits = hist-fits c.args.profile.now.hists c.loop-k.k c.hist.result.now c.args.symbols.now c.as_mut_slice.result.now c.requires.profile.hists c.requires.ascending c.hist.ensures (c.as_mut_slice.ensures.value ∙ c.loop-k.invariant.added) in
+    omega (arith, fits, c.requires.profile.within.samples)
 
 pub loop-k-preserved : goal.loop-k-preserved
 loop-k-preserved c =
     record {
       inside = c.add_hist-from.ensures.inside;
       added = written-back c.add_hist-from.new.of c.loop-k.of.items c.loop-k.of.len (omega (arith, c.add_hist-from.auto.of, c.as_mut_slice.ensures.len)) ∙ hist-added c.args.profile.now.hists c.loop-k.k c.hist.result.now c.args.symbols.now c.as_mut_slice.result.now c.add_hist-from.new.of c.hist.ensures (c.as_mut_slice.ensures.value ∙ c.loop-k.invariant.added) c.add_hist-from.ensures.added;
-      ended = λ j next from at. hist-passed c.args.profile.now.hists c.args.symbols.now c.loop-k.k j c.add_hist-from.result c.hist.result.now next c.hist_count-k-end.ensures.profile.apart (omega (arith, from)) c.hist.ensures at c.add_hist-from.ensures.ended;
+      ended = λ j next from at. hist-passed c.args.profile.now.hists c.args.symbols.now c.loop-k.k j c.add_hist-from.result c.hist.result.now next c.requires.profile.apart (omega (arith, from)) c.hist.ensures at c.add_hist-from.ensures.ended;
     }
