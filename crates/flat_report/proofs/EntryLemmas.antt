@@ -1,18 +1,14 @@
 -- The functions with a share, and their lines.
-use Rattle.std.proofs.Common.{◌≡◌, ℕ, ◌+◌, ◌<◌, ◌≤◌, Bool, not, true, false, cond, List, [], ◌∷◌, ◌++◌, length, map, take, get_or, slice_index, sum, append-nil, refl, sym, ap, subst, ◌∙◌, arith}
+use Rattle.std.proofs.Common.{◌≡◌, ℕ, ◌+◌, ◌<◌, ◌≤◌, Bool, true, false, cond, List, [], ◌∷◌, ◌++◌, length, map, take, get_or, slice_index, sum, append-nil, refl, sym, ap, ◌∙◌, arith}
 use Rattle.std.specs.Prelude.{nat_lt}
 use Rattle.std.specs.List.{All, sum_by, filter, enumerate_from}
-use Rattle.std.proofs.lemmas.List.{take_all, map_more, get_or_default, get_or-map, length-map}
+use Rattle.std.proofs.lemmas.List.{take_all, map_more, get_or_default}
 use Rattle.std.proofs.lemmas.List.Elements.{filter_passes, filter-append, All-weaker, All-from_recursion, recursion_from_All}
-use Rattle.std.proofs.lemmas.List.Filters.{sum_by-filter_both}
 use Rattle.std.proofs.lemmas.List.FromFn.{get_or-enumerate_from, length-enumerate_from}
-use Rattle.std.proofs.lemmas.List.Sums.{sum_by-cons, sum_by_more, sum_by-take-le}
+use Rattle.std.proofs.lemmas.List.Sums.{sum_by-cons, sum_by_more}
 use Rattle.elf32_syms.specs.declared.image.Symbol.{Symbol}
 use Rattle.symbol_shares.specs.Shares.{ShareTable, attributed_of}
 use Rattle.flat_report.specs.Entries.{Entry, has_share, entry_of, entries_of, in_order}
-use Rattle.flat_report.specs.FlatText.{cumulative_of}
-use Rattle.flat_report.specs.Rows.{entry_of_row, entries_of_rows}
-use Rattle.flat_report.specs.declared.rows.Row.{Row}
 use Rattle.flat_report.proofs.OrderLemmas.{all_in_order, sum_in_order}
 
 abbrev share : Entry → ℕ
@@ -28,24 +24,30 @@ shares_from t (s ∷ symbols) k whole =
       sum_by-cons share (entry_of t (k, s)) (map (entry_of t) (enumerate_from (k + 1) symbols)),
     )
 
--- the functions with a share have what all functions have, and no more
-shares_within : (symbols : List Symbol) (t : ShareTable) → length t.of ≡ length symbols → sum_by share (entries_of symbols t) ≤ attributed_of t
+without_share : (n : ℕ) → nat_lt 0 n ≡ false → n ≡ 0
+without_share n h = grind arith
+
+-- functions without a share add nothing
+shares_filtered : (es : List Entry) → sum_by share (filter has_share es) ≡ sum_by share es
+shares_filtered [] = refl
+shares_filtered (e ∷ es) = by (shares_filtered es) (has_share e) refl
+  where
+    by : sum_by share (filter has_share es) ≡ sum_by share es → (b : Bool) → has_share e ≡ b → sum_by share (cond b (e ∷ filter has_share es) (filter has_share es)) ≡ sum_by share (e ∷ es)
+    by rest true is = omega (arith, rest, sum_by-cons share e (filter has_share es), sum_by-cons share e es)
+    by rest false is = omega (arith, rest, sum_by-cons share e es, without_share e.share is)
+
+-- the functions with a share have what all functions have
+pub ordered_shares : (symbols : List Symbol) (t : ShareTable) → length t.of ≡ length symbols → sum_by (λ (e : Entry). e.share) (in_order (entries_of symbols t)) ≡ attributed_of t
 unfolding entries_of
-shares_within symbols t each =
+ordered_shares symbols t each =
     let all = map (entry_of t) (enumerate_from 0 symbols) in
-    omega (arith, sum_by-filter_both has_share (λ e. not (has_share e)) (λ e. refl) share all, shares_from t symbols 0 (omega arith))
+    omega (arith, sum_in_order share (filter has_share all), shares_filtered all, shares_from t symbols 0 (omega arith))
 
 pub ordered_within : (symbols : List Symbol) (t : ShareTable) → length t.of ≡ length symbols → sum_by (λ (e : Entry). e.share) (in_order (entries_of symbols t)) ≤ attributed_of t
-ordered_within symbols t each = omega (arith, sum_in_order share (entries_of symbols t), shares_within symbols t each)
+ordered_within symbols t each = omega (arith, ordered_shares symbols t each)
 
 some_share : (n : ℕ) → nat_lt 0 n ≡ true → 0 < n
 some_share n h = grind arith
-
-passes_share : (n : ℕ) → 0 < n → nat_lt 0 n ≡ true
-passes_share n h = grind arith
-
-fails_share : (n : ℕ) → n ≤ 0 → nat_lt 0 n ≡ false
-fails_share n h = grind arith
 
 shares_positive : (symbols : List Symbol) (t : ShareTable) → All (λ (e : Entry). 0 < e.share) (entries_of symbols t)
 unfolding entries_of
@@ -74,18 +76,18 @@ entry_more symbols t k s below at =
     ∙ ap (λ (p : ℕ × Symbol). map (entry_of t) (take k all) ++ entry_of t p ∷ []) here
 
 -- a symbol with a share
-pub entry_added : (symbols : List Symbol) (t : ShareTable) (k n : ℕ) (s : Symbol) → k < length symbols → s ≡ get_or symbols k s → n ≡ slice_index t.of k → 0 < n
+pub entry_added : (symbols : List Symbol) (t : ShareTable) (k n : ℕ) (s : Symbol) → k < length symbols → s ≡ get_or symbols k s → n ≡ slice_index t.of k → nat_lt 0 n ≡ true
     → entries_to symbols t k ++ record { share = n; name = s.name; addr = s.addr } ∷ [] ≡ entries_to symbols t (k + 1)
 entry_added symbols t k n s below at is some =
     let before = map (entry_of t) (take k (enumerate_from 0 symbols)) in
-    let passes : has_share (entry_of t (k, s)) ≡ true = ap (nat_lt 0) (sym is) ∙ passes_share n some in
+    let passes : has_share (entry_of t (k, s)) ≡ true = ap (nat_lt 0) (sym is) ∙ some in
     ap (λ (m : ℕ). entries_to symbols t k ++ record { share = m; name = s.name; addr = s.addr } ∷ []) is
     ∙ ap (λ (b : Bool). filter has_share before ++ cond b (entry_of t (k, s) ∷ []) []) (sym passes)
     ∙ sym (filter-append has_share before (entry_of t (k, s) ∷ []))
     ∙ ap (filter has_share) (sym (entry_more symbols t k s below at))
 
 -- a symbol without one
-pub none_added : (symbols : List Symbol) (t : ShareTable) (k n : ℕ) → k < length symbols → n ≡ slice_index t.of k → n ≤ 0 → entries_to symbols t k ≡ entries_to symbols t (k + 1)
+pub none_added : (symbols : List Symbol) (t : ShareTable) (k n : ℕ) → k < length symbols → n ≡ slice_index t.of k → nat_lt 0 n ≡ false → entries_to symbols t k ≡ entries_to symbols t (k + 1)
 none_added symbols t k n below is none = at_symbol symbols refl
   where
     at_symbol : (xs : List Symbol) → xs ≡ symbols → entries_to symbols t k ≡ entries_to symbols t (k + 1)
@@ -93,7 +95,7 @@ none_added symbols t k n below is none = at_symbol symbols refl
     at_symbol (d ∷ ds) same =
         let s = get_or symbols k d in
         let before = map (entry_of t) (take k (enumerate_from 0 symbols)) in
-        let fails : has_share (entry_of t (k, s)) ≡ false = ap (nat_lt 0) (sym is) ∙ fails_share n none in
+        let fails : has_share (entry_of t (k, s)) ≡ false = ap (nat_lt 0) (sym is) ∙ none in
         sym (append-nil (filter has_share before))
         ∙ ap (λ (b : Bool). filter has_share before ++ cond b (entry_of t (k, s) ∷ []) []) (sym fails)
         ∙ sym (filter-append has_share before (entry_of t (k, s) ∷ []))
@@ -103,29 +105,3 @@ pub entries_to_all : (symbols : List Symbol) (t : ShareTable) (k : ℕ) → leng
 unfolding entries_of
 entries_to_all symbols t k all =
     ap (λ (xs : List (ℕ × Symbol)). filter has_share (map (entry_of t) xs)) (take_all k (enumerate_from 0 symbols) (omega (arith, all, length-enumerate_from 0 symbols)))
-
--- ---- the lines
-
--- an entry with its number is at that number
-pub numbered : (entries : List Entry) (k : ℕ) (e : Entry) → k < length entries → e ≡ get_or entries k e → (k, e) ≡ get_or (enumerate_from 0 entries) k (k, e)
-numbered entries k e below at =
-    let number : 0 + k ≡ k = omega arith in
-    sym (get_or-enumerate_from 0 entries k (k, e) below ∙ ap (λ (x : Entry). (0 + k, x)) (sym at) ∙ ap (λ (n : ℕ). (n, e)) number)
-
--- the entry of a row is at the row's number
-pub row_at : (rows : List Row) (k : ℕ) (row : Row) → k < length rows → row ≡ get_or rows k row → entry_of_row row ≡ get_or (entries_of_rows rows) k (entry_of_row row)
-row_at rows k row below at = ap entry_of_row at ∙ sym (get_or-map entry_of_row rows k row (entry_of_row row) below)
-
-pub rows_long : (rows : List Row) → length (entries_of_rows rows) ≡ length rows
-rows_long rows = length-map rows entry_of_row
-
--- the grains up to an entry, and with its own
-pub cumulative_more : (entries : List Entry) (k : ℕ) (e : Entry) → k < length entries → e ≡ get_or entries k e → cumulative_of entries k + e.share ≡ cumulative_of entries (k + 1)
-cumulative_more entries k e below at = ap (λ (x : Entry). cumulative_of entries k + x.share) at ∙ sym (sum_by_more share entries k e below)
-
--- which are no more than all, of which there are some
-pub cumulative_within : (entries : List Entry) (k : ℕ) → cumulative_of entries k ≤ sum_by (λ (e : Entry). e.share) entries
-cumulative_within entries k = sum_by-take-le share entries k
-
-pub share_at : (entries : List Entry) (k : ℕ) (e : Entry) → k < length entries → e ≡ get_or entries k e → All (λ (e : Entry). 0 < e.share) entries → 0 < e.share
-share_at entries k e below at positive = subst (λ (x : Entry). 0 < x.share) (sym at) (positive k e below)

@@ -3,6 +3,7 @@
 //! Its columns are those of GNU gprof. How they are laid out is this project's own choice.
 #![tactic(auto)]
 
+pub mod laws;
 mod line;
 pub mod refusal;
 pub mod report;

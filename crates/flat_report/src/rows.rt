@@ -1,6 +1,6 @@
 //! The functions that have a line, in their order.
 
-ghost use Rattle.std.specs.Prelude.{◌≡◌, length, IfOk};
+ghost use Rattle.std.specs.Prelude.{◌≡◌, nat_lt, length, IfOk};
 ghost use Rattle.flat_report.specs.Entries.{entries_of, entry_cmp, in_order};
 ghost use Rattle.flat_report.specs.Rows.{entry_of_row, entries_of_rows};
 
@@ -30,6 +30,13 @@ fn order(one: &Row<'_>, other: &Row<'_>) -> Ordering
     by_name.then(one.symbol.addr.cmp(&other.symbol.addr))
 }
 
+/// Whether a function with so many grains has a line.
+fn is_shown(share: u128) -> bool
+    ensures { result ≡ nat_lt 0 share }
+{
+    share > 0
+}
+
 /// The functions with a share, in the order of the symbols.
 fn rows_with_shares<'a>(
     alloc: Global,
@@ -42,7 +49,7 @@ fn rows_with_shares<'a>(
     let mut rows = Vec::new(alloc);
     for f in 0..shares.function_count() {
         let share = shares.of(f);
-        if share > 0 {
+        if is_shown(share) {
             let symbol = &symbols[f as usize];
             rows.push(Row { share, symbol })?;
         }
