@@ -7,6 +7,7 @@ pub mod Accepting
 pub mod Performing
 pub mod ProfileSizeLemmas
 pub mod Summing
+pub mod Reporting
 pub mod Running
 pub mod LastLine
 pub mod Showable

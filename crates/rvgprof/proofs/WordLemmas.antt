@@ -1,9 +1,9 @@
 -- What the words say, item by item.
 use Rattle.std.proofs.Common.{◌≡◌, ℕ, List, Option, Some, None, refl}
 use Rattle.std.specs.Option.{option_map, option_and_then}
-use Rattle.rvgprof.specs.declared.options.Key.TheVariants.{Every, Budget, Rate, Ram, Harts, Quantum, Seed, Image, Gnu}
+use Rattle.rvgprof.specs.declared.options.Key.TheVariants.{Every, Budget, Rate, Ram, Harts, Quantum, Seed, Image, Gnu, Flat}
 use Rattle.rvgprof.specs.Items.{Item, place_given, number_given, setting}
-use Rattle.rvgprof.specs.Words.{operand, file_from, file_of, plan_from, plan_of, setup_from, setup_of, run_from, run_of, sum_from, sum_said, files_from}
+use Rattle.rvgprof.specs.Words.{operand, file_from, file_of, plan_from, plan_of, setup_from, setup_of, run_from, run_of, report_from, report_said, sum_from, sum_said, files_from}
 
 pub file_by_items : (o : Option (List Item)) → file_from (option_map (operand 1) o) (option_map (operand 2) o) ≡ option_and_then file_of o
 file_by_items None = refl
@@ -27,3 +27,7 @@ run_by_items words (Some items) = refl
 pub sum_by_items : (o : Option (List Item)) → sum_from (option_map (operand 1) o) (option_and_then (files_from 2) o) ≡ option_and_then sum_said o
 sum_by_items None = refl
 sum_by_items (Some items) = refl
+
+pub report_by_items : (o : Option (List Item)) → report_from (option_map (operand 1) o) (option_and_then (files_from 2) o) (option_and_then (place_given Flat) o) ≡ option_and_then report_said o
+report_by_items None = refl
+report_by_items (Some items) = refl

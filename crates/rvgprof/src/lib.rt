@@ -11,6 +11,7 @@ pub mod outcome;
 mod places;
 mod profile_file;
 mod refusals;
+mod report;
 mod run;
 mod show;
 mod sum;

@@ -7,6 +7,7 @@ use std::alloc::{AllocError, Global};
 
 mod faults;
 mod programs;
+mod reports;
 mod runs;
 mod shows;
 mod sums;

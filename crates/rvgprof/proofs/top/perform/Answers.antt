@@ -1,7 +1,7 @@
 use Rattle.std.proofs.Common.{◌∙◌, Some, ap}
 use Rattle.std.specs.Prelude.{map, string_bytes}
 use Rattle.rvgprof.specs.declared.words.Command.{Command}
-use Rattle.rvgprof.specs.declared.words.Command.TheVariants.{Show, Syms, Run, Sum}
+use Rattle.rvgprof.specs.declared.words.Command.TheVariants.{Show, Syms, Run, Sum, Report}
 use Rattle.rvgprof.proofs.Standing.{begun}
 use Rattle.rvgprof.proofs.top.perform.Goals as goal
 
@@ -22,3 +22,8 @@ pub run-requires-clause-stands : goal.run-requires-clause-stands
 run-requires-clause-stands g c =
     let command = Run c.in-Run.elf c.in-Run.gmon c.in-Run.form c.in-Run.image c.in-Run.setup in
     begun (map string_bytes c.args.words.now) (g.H.Host.outside c.args.host.now) command (c.requires.said ∙ ap (λ (x : Command). Some x) c.in-Run.is) c.requires.idle
+
+pub report-requires-clause-stands : goal.report-requires-clause-stands
+report-requires-clause-stands g c =
+    let places = c.as_slice-in-Report.ensures in
+    rw places (begun (map string_bytes c.args.words.now) (g.H.Host.outside c.args.host.now) (Report c.in-Report.elf c.in-Report.gmons) (c.requires.said ∙ ap (λ (x : Command). Some x) c.in-Report.is) c.requires.idle)

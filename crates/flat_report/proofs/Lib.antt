@@ -1,0 +1,4 @@
+pub mod OrderLemmas
+pub mod EntryLemmas
+pub mod RowLemmas
+pub mod ReportLemmas

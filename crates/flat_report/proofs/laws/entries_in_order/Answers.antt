@@ -1,0 +1,8 @@
+use Rattle.flat_report.proofs.OrderLemmas.{moved_in_order, order_is_sorted}
+use Rattle.flat_report.proofs.laws.entries_in_order.Goals as goal
+
+pub returns-clause-all : goal.returns-clause-all
+returns-clause-all c = moved_in_order
+
+pub returns-clause-ascending : goal.returns-clause-ascending
+returns-clause-ascending c = order_is_sorted

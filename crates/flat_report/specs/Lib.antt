@@ -1,0 +1,4 @@
+pub mod Entries
+pub mod FlatText
+pub mod Reports
+pub mod Rows

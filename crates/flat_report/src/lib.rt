@@ -1,0 +1,16 @@
+//! The flat profile: how much of the time each function of a program took itself.
+//!
+//! Its columns are those of GNU gprof. How they are laid out is this project's own choice.
+#![tactic(auto)]
+
+pub mod laws;
+mod line;
+pub mod refusal;
+pub mod report;
+mod rows;
+
+pub use refusal::ReportRefusal;
+pub use report::write;
+
+#[cfg(test)]
+mod tests;

@@ -1,0 +1,132 @@
+//! The whole flat profile.
+
+ghost use Rattle.std.specs.Prelude.{◌≡◌, ◌^◌, ◌<◌, ◌≤◌, ◌++◌, Err, length};
+ghost use Rattle.std.specs.List.{All, sum_by};
+ghost use Rattle.host_port.specs.Buffered.{Adds};
+ghost use Rattle.host_port.specs.Host.{Puts};
+ghost use Rattle.host_port.specs.declared.side.Side.TheVariants.{Output};
+ghost use Rattle.symbol_shares.specs.Shares.{attributed_of};
+ghost use Rattle.flat_report.specs.FlatText.{flat_text, header_text, lines_of, line_of};
+ghost use Rattle.flat_report.specs.Reports.{Reports};
+ghost use Rattle.flat_report.specs.Rows.{entry_of_row, entries_of_rows};
+ghost use Rattle.flat_report.specs.declared.refusal.ReportRefusal.TheVariants.{OutOfMemory};
+
+use crate::line;
+use crate::refusal::ReportRefusal;
+use crate::rows::{Row, rows_in_order};
+use elf32_syms::Symbol;
+use host_port::{Failed, Host, PrintBuf};
+use std::alloc::Global;
+use symbol_shares::Shares;
+
+/// What stands above the columns.
+const HEADINGS: &[u8] =
+    b"  %time   cumulative       self      calls  self ms/call  total ms/call  name\n";
+
+/// Prints the flat profile on the output: the grains of all functions and of none, and a line for
+/// each function with a share, that with the greatest share first. `rate` is the number of samples a
+/// second, and a sample has 1,000,000 grains. All memory is taken before the first byte is printed.
+pub fn write<H: Host>(
+    alloc: Global,
+    symbols: &[Symbol],
+    shares: &Shares,
+    rate: u32,
+    host: &mut H,
+) -> Result<(), ReportRefusal>
+    requires each { length shares.now.of ≡ length symbols.now }
+    requires rate { 1 ≤ rate }
+    ensures printed { Reports (flat_text symbols.now shares.now rate) (H.outside host.old) (H.outside host.new) result }
+    ensures idle { result ≡ Err OutOfMemory → host.new ≡ host.old }
+{
+    let rows = rows_in_order(alloc, symbols, shares)?;
+    print(rows.as_slice(), shares, rate, host)?;
+    Ok(())
+}
+
+fn print<H: Host>(rows: &[Row<'_>], shares: &Shares, rate: u32, host: &mut H) -> Result<(), Failed>
+    requires positive { All (λ e. 0 < e.share) (entries_of_rows rows.now) }
+    requires sum { sum_by (λ e. e.share) (entries_of_rows rows.now) ≤ attributed_of shares.now }
+    requires rate { 1 ≤ rate }
+    ensures { Puts Output (header_text shares.now rate ++ lines_of (attributed_of shares.now) rate (entries_of_rows rows.now))
+        (H.outside host.old) (H.outside host.new) result }
+{
+    let mut lines = PrintBuf::new();
+    put_report(rows, shares, rate, &mut lines, host)?;
+    lines.flush(host)
+}
+
+fn put_report<H: Host>(
+    rows: &[Row<'_>],
+    shares: &Shares,
+    rate: u32,
+    lines: &mut PrintBuf,
+    host: &mut H,
+) -> Result<(), Failed>
+    requires positive { All (λ e. 0 < e.share) (entries_of_rows rows.now) }
+    requires sum { sum_by (λ e. e.share) (entries_of_rows rows.now) ≤ attributed_of shares.now }
+    requires rate { 1 ≤ rate }
+    ensures { Adds Output (header_text shares.now rate ++ lines_of (attributed_of shares.now) rate (entries_of_rows rows.now))
+        lines.old lines.new (H.outside host.old) (H.outside host.new) result }
+{
+    put_header(shares, rate, lines, host)?;
+    put_rows(rows, shares.attributed(), rate, lines, host)
+}
+
+fn put_header<H: Host>(
+    shares: &Shares,
+    rate: u32,
+    lines: &mut PrintBuf,
+    host: &mut H,
+) -> Result<(), Failed>
+    ensures { Adds Output (header_text shares.now rate) lines.old lines.new (H.outside host.old) (H.outside host.new) result }
+{
+    lines.put(host, b"flat profile\n")?;
+    lines.put(host, line::totals(shares, rate).bytes())?;
+    lines.put(host, HEADINGS)
+}
+
+fn put_rows<H: Host>(
+    rows: &[Row<'_>],
+    total: u128,
+    rate: u32,
+    lines: &mut PrintBuf,
+    host: &mut H,
+) -> Result<(), Failed>
+    requires positive { All (λ e. 0 < e.share) (entries_of_rows rows.now) }
+    requires sum { sum_by (λ e. e.share) (entries_of_rows rows.now) ≤ total }
+    requires within { total < 2 ^ 65 }
+    requires rate { 1 ≤ rate }
+    ensures { Adds Output (lines_of total rate (entries_of_rows rows.now)) lines.old lines.new
+        (H.outside host.old) (H.outside host.new) result }
+{
+    let mut cumulative = 0;
+    for row in rows {
+        cumulative += row.share;
+        put_row(row, total, rate, cumulative, lines, host)?;
+    }
+    Ok(())
+}
+
+fn put_row<H: Host>(
+    row: &Row<'_>,
+    total: u128,
+    rate: u32,
+    cumulative: u128,
+    lines: &mut PrintBuf,
+    host: &mut H,
+) -> Result<(), Failed>
+    requires some { 0 < total }
+    requires within { total < 2 ^ 65 }
+    requires rate { 1 ≤ rate }
+    requires cumulative { cumulative ≤ total }
+    requires share { row.now.share ≤ total }
+    ensures { Adds Output (line_of total rate cumulative (entry_of_row row.now)) lines.old lines.new
+        (H.outside host.old) (H.outside host.new) result }
+{
+    lines.put(
+        host,
+        line::columns(total, rate, cumulative, row.share).bytes(),
+    )?;
+    lines.put(host, row.symbol.name.as_slice())?;
+    lines.put(host, b"\n")
+}
