@@ -20,7 +20,7 @@ unfoldable pub header_text : ShareTable → ℕ → List ℕ
 header_text t rate =
     codes "flat profile\n" ++ totals_line t rate ++ codes "  %time   cumulative       self      calls  self ms/call  total ms/call  name\n"
 
--- In front of a function's name: the part of all time that is its own, in percent, the seconds of the lines up to this
+-- In front of a function's name: its part of what all functions have, in percent, the seconds of the lines up to this
 -- one, and its own. The three columns on calls are empty.
 unfoldable pub columns_of : ℕ → ℕ → ℕ → ℕ → List ℕ
 columns_of total rate cumulative share =

@@ -23,9 +23,13 @@ use symbol_shares::Shares;
 const HEADINGS: &[u8] =
     b"  %time   cumulative       self      calls  self ms/call  total ms/call  name\n";
 
-/// Prints the flat profile on the output: the grains of all functions and of none, and a line for
-/// each function with a share, that with the greatest share first. `rate` is the number of samples a
-/// second, and a sample has 1,000,000 grains. All memory is taken before the first byte is printed.
+/// Prints the flat profile on the output, after that of GNU gprof: the grains of all functions and of
+/// none, and a line for each function with a share, that with the greatest share first. A line has the
+/// function's part of what all functions have, in percent; the seconds of the lines up to it; its own
+/// seconds; and its name. `rate` is the number of samples a second, and a sample has 1,000,000 grains.
+///
+/// After `WriteFault` a prefix of the text is printed, and not all of it. `OutOfMemory` comes before the
+/// first byte.
 pub fn write<H: Host>(
     alloc: Global,
     symbols: &[Symbol],
