@@ -174,16 +174,21 @@ fn a_file_of_unlike_histograms_has_no_sum(rt: HostRuntime) -> Result<(), Fail> {
 #[test]
 fn one_to_sixteen_files_are_added(rt: HostRuntime) -> Result<(), Fail> {
     let alloc = rt.alloc();
-    let sixteen = [
-        "sum", "s", "a", "a", "a", "a", "a", "a", "a", "a", "b", "b", "b", "b", "b", "b", "b", "b",
-    ];
-    let seventeen = [
-        "sum", "s", "a", "a", "a", "a", "a", "a", "a", "a", "b", "b", "b", "b", "b", "b", "b", "b",
-        "b",
-    ];
     let cases: [(&[&str], u8); 4] = [
-        (&sixteen, 0),
-        (&seventeen, 1),
+        (
+            &[
+                "sum", "s", "a", "a", "a", "a", "a", "a", "a", "a", "b", "b", "b", "b", "b", "b",
+                "b", "b",
+            ],
+            0,
+        ),
+        (
+            &[
+                "sum", "s", "a", "a", "a", "a", "a", "a", "a", "a", "b", "b", "b", "b", "b", "b",
+                "b", "b", "b",
+            ],
+            1,
+        ),
         (&["sum", "s"], 1),
         (&["sum", "s", "a", "--gnu"], 1),
     ];
