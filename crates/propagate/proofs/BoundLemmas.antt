@@ -1,8 +1,8 @@
 -- The roots have all shares, and no component or function has more.
-use Rattle.std.proofs.Common.{◌≡◌, ◌<◌, ◌≤◌, ℕ, ◌+◌, Bool, true, false, not, ◌&&◌, List, length, sum, refl, ap, ◌∙◌, ⊎_elim, arith, leb}
+use Rattle.std.proofs.Common.{◌≡◌, ◌<◌, ◌≤◌, ℕ, ◌+◌, Bool, true, false, not, ◌&&◌, List, length, sum, refl, ap, ⊎_elim, arith, leb}
 use Rattle.std.specs.Prelude.{◌==◌, slice_index}
 use Rattle.std.proofs.lemmas.Bool.{and_parts, and_from, eqb-true, eq-eqb, leb-true, le-leb, lt-leb, cases_Bool}
-use Rattle.call_cycles.specs.Sums.{sum_below, when, list_of}
+use Rattle.call_cycles.specs.Sums.{sum_below, when}
 use Rattle.call_cycles.specs.Graph.{GraphValue, IsGraph, arc_at, arc_count, component_count, component_of, is_outside, enters, leaves, source_of, target_of}
 use Rattle.call_cycles.specs.Flow.{FlowValue, IsFlow, IsClosed, is_root, carried_by, carried_from, carried_from_function, leaves_function, time_of, time_of_roots, self_in}
 use Rattle.propagate.specs.Solution.{child_in, flow_in}
@@ -13,7 +13,7 @@ use Rattle.propagate.proofs.UniqueLemmas.{goes_down}
 use Rattle.propagate.proofs.SolutionLemmas.{at_list_of, solution}
 
 when_fewer : (a b : Bool) (x : ℕ) → (a ≡ true → b ≡ true) → when a x ≤ when b x
-when_fewer true b x within = ap (λ (c : Bool). when c x) (within refl)
+when_fewer true b x within = let same : when b x ≡ x = ap (λ (c : Bool). when c x) (within refl) in omega arith
 when_fewer false b x within = omega arith
 
 module _ (g : GraphValue) (shares : List ℕ) (is : IsGraph g) (each : length shares ≡ g.functions) where
@@ -59,16 +59,16 @@ module _ (g : GraphValue) (shares : List ℕ) (is : IsGraph g) (each : length sh
       enters_from_outside i h =
           ⊎_elim
           (λ (yes_it : enters g c i ≡ true).
-            let both = and_parts (is_outside g i) (target_of g i == c) yes_it in
-            let down = goes_down g is i h both.0 in
-            let at : target_of g i ≡ c = eqb-true _ _ both.1 in
-            let taken : when (enters g c i) (carried_by t i) ≡ carried_by t i = ap (λ (b : Bool). when b (carried_by t i)) yes_it in
-            let there : when (not (leb (source_of g i) c) && leb (target_of g i) c) (carried_by t i) ≡ carried_by t i =
-            rw (lt-leb (source_of g i) c (omega arith), le-leb (target_of g i) c (omega arith)) refl in
-            omega arith)
+          let both = and_parts (is_outside g i) (target_of g i == c) yes_it in
+          let down = goes_down g is i h both.0 in
+          let at : target_of g i ≡ c = eqb-true _ _ both.1 in
+          let taken : when (enters g c i) (carried_by t i) ≡ carried_by t i = ap (λ (b : Bool). when b (carried_by t i)) yes_it in
+          let there : when (not (leb (source_of g i) c) && leb (target_of g i) c) (carried_by t i) ≡ carried_by t i =
+          rw (lt-leb (source_of g i) c (omega arith), le-leb (target_of g i) c (omega arith)) refl in
+          omega arith)
           (λ (not_it : enters g c i ≡ false).
-            let none : when (enters g c i) (carried_by t i) ≡ 0 = ap (λ (b : Bool). when b (carried_by t i)) not_it in
-            omega arith)
+          let none : when (enters g c i) (carried_by t i) ≡ 0 = ap (λ (b : Bool). when b (carried_by t i)) not_it in
+          omega arith)
           (cases_Bool (enters g c i))
 
       as_callee : is_root g c ≡ false → time_of t c ≤ sum_below (arc_count g) (λ i. when (not (leb (source_of g i) c) && leb (target_of g i) c) (carried_by t i))

@@ -1,10 +1,10 @@
 -- What the arcs that enter a component carry: together all of its time.
-use Rattle.std.proofs.Common.{◌≡◌, ◌≢◌, ◌<◌, ◌≤◌, ℕ, zero, suc, ◌+◌, ◌-◌, ◌*◌, ◌/◌, ◌%◌, Bool, true, false, not, ◌&&◌, refl, ap, sym, ◌∙◌, subst, add-zero, ⊎_elim, arith}
+use Rattle.std.proofs.Common.{◌≡◌, ◌≢◌, ◌≤◌, ℕ, zero, suc, ◌+◌, ◌-◌, ◌*◌, ◌/◌, Bool, true, false, not, ◌&&◌, refl, ap, sym, ◌∙◌, subst, add-zero, ⊎_elim, arith}
 use Rattle.std.specs.Prelude.{◌==◌}
 use Rattle.std.proofs.Math.Nat.{div-zero, zero-div, mul-div-le, mul-le-mul_left, mul-div_cancel}
 use Rattle.std.proofs.lemmas.Nat.{le-div}
-use Rattle.std.proofs.lemmas.Bool.{cases_eq, eqb-true, eq-eqb, ne_eqb, cases_Bool}
-use Rattle.call_cycles.specs.Sums.{sum_below, max_below, when}
+use Rattle.std.proofs.lemmas.Bool.{cases_eq, eq-eqb, ne_eqb}
+use Rattle.call_cycles.specs.Sums.{sum_below, when}
 use Rattle.call_cycles.specs.Graph.{GraphValue, arc_at, arc_count, is_outside, enters, target_of, calls_into, entering_of}
 use Rattle.call_cycles.specs.Flow.{is_root, part_of}
 
@@ -12,11 +12,11 @@ pub div_mono : (a b n : ℕ) → a ≤ b → a / n ≤ b / n
 div_mono a b n le =
     ⊎_elim
     (λ (none : n ≡ 0).
-      let x : a / n ≡ 0 = ap (λ (k : ℕ). a / k) none ∙ div-zero a in
-      omega arith)
+    let x : a / n ≡ 0 = ap (λ (k : ℕ). a / k) none ∙ div-zero a in
+    omega arith)
     (λ (some : n ≢ 0).
-      let low = mul-div-le a n in
-      le-div (a / n) b n (omega arith) (omega arith))
+    let low = mul-div-le a n in
+    le-div (a / n) b n (omega arith) (omega arith))
     (cases_eq n 0)
 
 -- one more arc, which goes to t with x calls
@@ -56,8 +56,8 @@ cut_whole : (t n : ℕ) → t * n / n ≡ when (not (n == 0)) t
 cut_whole t n =
     ⊎_elim
     (λ (none : n ≡ 0).
-      let x : t * n / n ≡ 0 = ap (λ (k : ℕ). t * n / k) none ∙ div-zero (t * n) in
-      rw (eq-eqb n 0 none) x)
+    let x : t * n / n ≡ 0 = ap (λ (k : ℕ). t * n / k) none ∙ div-zero (t * n) in
+    rw (eq-eqb n 0 none) x)
     (λ (some : n ≢ 0). rw (ne_eqb n 0 some) (mul-div_cancel t (omega arith)))
     (cases_eq n 0)
 

@@ -1,9 +1,9 @@
 -- No time is lost: what the roots of a set have, and what comes in from outside, are the set's shares.
-use Rattle.std.proofs.Common.{◌≡◌, ◌≢◌, ◌<◌, ◌≤◌, ℕ, zero, suc, ◌+◌, Bool, true, false, not, ◌&&◌, List, length, refl, ap, sym, ◌∙◌, subst, arith}
-use Rattle.std.specs.Prelude.{◌==◌, slice_index}
+use Rattle.std.proofs.Common.{◌≡◌, ◌<◌, ℕ, ◌+◌, Bool, true, false, not, ◌&&◌, List, refl, ap, sym, ◌∙◌, arith}
+use Rattle.std.specs.Prelude.{slice_index}
 use Rattle.std.proofs.lemmas.Bool.{eqb-true, not-false, true≢false}
 use Rattle.call_cycles.specs.Sums.{sum_below, when}
-use Rattle.call_cycles.specs.Graph.{GraphValue, IsGraph, AreArcs, AreComponents, arc_at, arc_count, component_count, component_of, is_outside, leaves, enters, source_of, target_of, entering_of}
+use Rattle.call_cycles.specs.Graph.{GraphValue, IsGraph, arc_at, arc_count, component_count, is_outside, enters, source_of, target_of}
 use Rattle.call_cycles.specs.Flow.{FlowValue, IsFlow, IsClosed, IsConserved, is_root, part_of, carried_from, carried_by, time_of}
 use Rattle.call_cycles.proofs.SumLemmas.{sum_ext, sum_add}
 use Rattle.propagate.proofs.SumLemmas.{sum_by_key, when_add}
@@ -44,6 +44,7 @@ module _ (g : GraphValue) (shares : List ℕ) (t : FlowValue) (is : IsGraph g) (
     where
       by_parts : (i : ℕ) → i < arc_count g → when (enters g c i) (carried_by t i) ≡ when (enters g c i) (part_of g (slice_index t.self) i) + when (enters g c i) (part_of g (slice_index t.child) i)
       by_parts i below = rw (flow.arc_self i below, flow.arc_child i below) (when_add (enters g c i) _ _)
+
       two : sum_below (arc_count g) (λ i. when (enters g c i) (part_of g (slice_index t.self) i)) + sum_below (arc_count g) (λ i. when (enters g c i) (part_of g (slice_index t.child) i)) ≡ when (not (is_root g c)) (time_of t c)
       two = rw (carried_into g (slice_index t.self) c, carried_into g (slice_index t.child) c) (sym (when_add (not (is_root g c)) _ _))
 

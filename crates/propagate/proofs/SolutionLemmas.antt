@@ -1,10 +1,10 @@
 -- The equations of the flow have a solution.
-use Rattle.std.proofs.Common.{◌≡◌, ◌≢◌, ◌<◌, ◌≤◌, ℕ, zero, suc, ◌+◌, Bool, true, false, List, length, map, refl, ap, sym, ◌∙◌, arith, get_or}
+use Rattle.std.proofs.Common.{◌≡◌, ◌<◌, ℕ, zero, suc, ◌+◌, List, refl, ap, sym, ◌∙◌, arith}
 use Rattle.std.specs.Prelude.{slice_index}
 use Rattle.std.proofs.lemmas.List.FromFn.{length-map-range_with_len}
-use Rattle.call_cycles.specs.Sums.{sum_below, when, list_of}
+use Rattle.call_cycles.specs.Sums.{when, list_of}
 use Rattle.call_cycles.specs.Graph.{GraphValue, IsGraph, arc_count, component_count, target_of, leaves}
-use Rattle.call_cycles.specs.Flow.{FlowValue, IsFlow, part_of, carried_from, carried_from_function, leaves_function, self_in}
+use Rattle.call_cycles.specs.Flow.{IsFlow, part_of, carried_from, leaves_function, self_in}
 use Rattle.propagate.specs.Solution.{child_after, child_in, carried_in, flow_in}
 use Rattle.call_cycles.proofs.SumLemmas.{sum_ext}
 use Rattle.call_cycles.proofs.ListLemmas.{list_at}
@@ -41,12 +41,15 @@ solution g shares is = record {
   where
     m : ℕ
     m = arc_count g
+
     n : ℕ
     n = component_count g
+
     arc_part : (time : ℕ → ℕ) (i : ℕ) → i < arc_count g → slice_index (list_of (arc_count g) (part_of g time)) i ≡ part_of g (slice_index (list_of (component_count g) time)) i
     arc_part time i h =
         at_list_of (arc_count g) (part_of g time) i h
         ∙ part_same g time (slice_index (list_of (component_count g) time)) i (sym (at_list_of (component_count g) time (target_of g i) (target_within g is i h)))
+
     both : (i : ℕ) → i < arc_count g
         → part_of g (self_in g shares) i + part_of g (child_in g shares) i
         ≡ slice_index (list_of (arc_count g) (part_of g (self_in g shares))) i + slice_index (list_of (arc_count g) (part_of g (child_in g shares))) i

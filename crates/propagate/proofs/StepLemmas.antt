@@ -1,23 +1,20 @@
 -- Steps of the loops over functions and arcs.
-use Rattle.std.proofs.Common.{◌≡◌, ◌≢◌, ◌<◌, ◌≤◌, ℕ, zero, suc, ◌+◌, ◌-◌, ◌*◌, ◌/◌, Bool, true, false, not, ◌&&◌, List, length, refl, ap, sym, ◌∙◌, ⊎_elim, arith, add-one, get_or, get_or-set_same, get_or-set_other}
-use Rattle.std.specs.Prelude.{◌==◌, slice_index, slice_set}
-use Rattle.std.proofs.lemmas.Bool.{cases_eq, eq-eqb, ne_eqb}
-use Rattle.call_cycles.specs.Sums.{sum_below, when}
-use Rattle.call_cycles.specs.Graph.{GraphValue, no_arc, arc_at, arc_count, component_count, calls_into, target_of, source_of, is_outside, enters, entering_of}
+use Rattle.std.proofs.Common.{◌≡◌, ◌≢◌, ◌<◌, ◌≤◌, ℕ, suc, ◌+◌, ◌-◌, ◌*◌, ◌/◌, true, false, List, length, sum, refl, ap, arith}
+use Rattle.std.specs.Prelude.{◌==◌, slice_index}
+use Rattle.std.proofs.lemmas.Bool.{eq-eqb, ne_eqb}
+use Rattle.call_cycles.specs.Sums.{when}
+use Rattle.call_cycles.specs.Graph.{GraphValue, arc_at, arc_count, component_of, calls_into, target_of, source_of, is_outside, enters, entering_of, all_calls}
 use Rattle.call_cycles.specs.Flow.{self_below, part_of}
-use Rattle.call_cycles.specs.Limits.{all_calls, all_shares}
-use Rattle.call_cycles.specs.declared.graphs.FunArc.{FunArc}
-use Rattle.call_cycles.specs.Built.{bare, arcs_calls}
-use Rattle.std.proofs.lemmas.List.FromFn.{length-map-range_with_len}
-use Rattle.propagate.specs.Solution.{list_of}
+use Rattle.propagate.specs.Arcs.{earlier_calls}
 use Rattle.call_cycles.proofs.SumLemmas.{sum_mono, sum_front_le, when_le}
-use Rattle.propagate.proofs.SolutionLemmas.{at_list_of}
+use Rattle.call_cycles.proofs.ListLemmas.{list_at, list_long}
+use Rattle.propagate.proofs.SumLemmas.{sum_of_places}
 
-pub self_fits : (g : GraphValue) (shares : List ℕ) (f c : ℕ) → f < g.functions → self_below g shares c f + slice_index shares f ≤ all_shares g shares
-unfolding all_shares
-self_fits g shares f c below =
-    let those = sum_mono f (λ h. when (Rattle.call_cycles.specs.Graph.component_of g h == c) (slice_index shares h)) (slice_index shares) (λ h k. when_le _ (slice_index shares h)) in
+pub self_fits : (g : GraphValue) (shares : List ℕ) (f c : ℕ) → length shares ≡ g.functions → f < g.functions → self_below g shares c f + slice_index shares f ≤ sum shares
+self_fits g shares f c each below =
+    let those = sum_mono f (λ h. when (component_of g h == c) (slice_index shares h)) (slice_index shares) (λ h k. when_le _ (slice_index shares h)) in
     let all = sum_front_le (suc f) g.functions (slice_index shares) (omega arith) in
+    let whole = sum_of_places g.functions shares each in
     omega arith
 
 pub calls_fit : (g : GraphValue) (d i : ℕ) → i < arc_count g → calls_into g d i + (arc_at g i).count ≤ all_calls g
@@ -59,12 +56,13 @@ part_inside g time i same =
 pub is_outside_from : (g : GraphValue) (i : ℕ) → source_of g i ≢ target_of g i → is_outside g i ≡ true
 is_outside_from g i apart = rw (ne_eqb (source_of g i) (target_of g i) apart) refl
 
-pub before_at : (g : GraphValue) (before : List ℕ) (i : ℕ) → before ≡ list_of (arc_count g) (λ j. calls_into g (target_of g j) j) → i < arc_count g
-    → slice_index before i ≡ calls_into g (target_of g i) i
-before_at g before i is below = ap (λ (xs : List ℕ). slice_index xs i) is ∙ at_list_of (arc_count g) (λ j. calls_into g (target_of g j) j) i below
+pub before_at : (g : GraphValue) (before : List ℕ) (i : ℕ) → before ≡ earlier_calls g → i < arc_count g → slice_index before i ≡ calls_into g (target_of g i) i
+unfolding earlier_calls
+before_at g before i is below = list_at _ _ before is i below
 
-pub before_long : (g : GraphValue) (before : List ℕ) → before ≡ list_of (arc_count g) (λ j. calls_into g (target_of g j) j) → length before ≡ arc_count g
-before_long g before is = ap length is ∙ length-map-range_with_len _ 0 (arc_count g)
+pub before_long : (g : GraphValue) (before : List ℕ) → before ≡ earlier_calls g → length before ≡ arc_count g
+unfolding earlier_calls
+before_long g before is = list_long _ _ before is
 
 pub arc_calls : (g : GraphValue) (i d p count whole : ℕ) → i < arc_count g → is_outside g i ≡ true → d ≡ target_of g i → p ≡ calls_into g (target_of g i) i
     → count ≡ (arc_at g i).count → 0 < count → whole ≡ entering_of g d → (p + count ≤ whole) × (0 < whole) × (whole ≤ all_calls g)

@@ -1,11 +1,11 @@
 -- The equations of the flow have one solution.
-use Rattle.std.proofs.Common.{◌≡◌, ◌≢◌, ◌<◌, ◌≤◌, ℕ, zero, suc, ◌+◌, ◌-◌, ◌*◌, ◌/◌, max, Bool, true, false, not, ◌&&◌, List, length, refl, ap, sym, ◌∙◌, subst, inl, inr, arith, get_or}
+use Rattle.std.proofs.Common.{◌≡◌, ◌≢◌, ◌<◌, ℕ, zero, suc, ◌+◌, ◌-◌, ◌*◌, ◌/◌, Bool, true, false, List, refl, ap, sym, ◌∙◌, inl, inr, arith}
 use Rattle.std.specs.Prelude.{◌==◌, slice_index}
-use Rattle.std.proofs.lemmas.Bool.{eqb-true, eqb-false, eq-eqb, not-true, true≢false, false≢true, and_parts, and_from, cases_order, cases_Bool}
+use Rattle.std.proofs.lemmas.Bool.{eqb-true, eqb-false, eq-eqb, not-true, and_parts, and_from, cases_order}
 use Rattle.std.proofs.lemmas.Grind.{same_number_lists}
-use Rattle.call_cycles.specs.Sums.{sum_below, max_below, when}
-use Rattle.call_cycles.specs.Graph.{GraphValue, IsGraph, AreArcs, AreComponents, IsLevel, arc_at, arc_count, component_count, component_of, is_outside, leaves, enters, source_of, target_of, calls_into, entering_of}
-use Rattle.call_cycles.specs.Flow.{FlowValue, IsFlow, part_of, carried_by, carried_from, carried_from_function, leaves_function, self_in}
+use Rattle.call_cycles.specs.Sums.{when}
+use Rattle.call_cycles.specs.Graph.{GraphValue, IsGraph, arc_count, component_count, is_outside, leaves, source_of, target_of, calls_into, entering_of}
+use Rattle.call_cycles.specs.Flow.{FlowValue, IsFlow, part_of, carried_by, carried_from, leaves_function, self_in}
 use Rattle.call_cycles.proofs.SumLemmas.{sum_ext, le_max_below}
 use Rattle.propagate.specs.Solution.{carried_in}
 use Rattle.propagate.proofs.ConservationLemmas.{source_within, target_within}
@@ -23,12 +23,12 @@ goes_down g is i below out =
     let this : when (leaves g s i) (suc (level t)) ≡ suc (level t) = ap (λ (b : Bool). when b (suc (level t))) mine in
     let lower : level t < level s = omega arith in
     elim (cases_order t s) [
-      inl at ↦ absurd (apart (sym at))
-    | inr other ↦ elim other [
-        inl less ↦ less
-      | inr more ↦ elim (is.components.ordered s t more (target_within g is i below)) [
-          inl l ↦ absurd (omega arith)
-        | inr both ↦ let l = both.0 in absurd (omega arith)
+      | inl at ↦ absurd (apart (sym at))
+      | inr other ↦ elim other [
+        | inl less ↦ less
+        | inr more ↦ elim (is.components.ordered s t more (target_within g is i below)) [
+          | inl l ↦ absurd (omega arith)
+          | inr both ↦ let l = both.0 in absurd (omega arith)
         ]
       ]
     ]

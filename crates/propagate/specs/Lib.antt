@@ -1,3 +1,3 @@
 pub mod Fields
 pub mod Solution
-pub mod Order
+pub mod Arcs
