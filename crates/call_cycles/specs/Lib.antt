@@ -7,3 +7,4 @@ pub mod Marks
 pub mod Leaders
 pub mod Heads
 pub mod Parts
+pub mod Values
