@@ -1,6 +1,7 @@
 -- The numbered components are those of the graph.
 use Rattle.std.proofs.Common.{◌≡◌, ◌≢◌, ◌<◌, ◌↔◌, ℕ, zero, suc, ◌&&◌, Bool, not, List, [], ◌∷◌, length, map, get_or, inl, inr, refl, ap, sym, ◌∙◌, subst, ⊎_elim, arith}
 use Rattle.std.specs.Prelude.{◌==◌, slice_index, slice_index_or}
+use Rattle.std.specs.List.{All}
 use Rattle.std.proofs.lemmas.Bool.{cases_eq, eq-eqb, ne_eqb}
 use Rattle.call_cycles.specs.declared.graphs.FunArc.{FunArc}
 use Rattle.call_cycles.specs.Sums.{max_below, when}
@@ -8,7 +9,7 @@ use Rattle.call_cycles.specs.Graph.{GraphValue, no_arc, IsLevel, AreComponents, 
 use Rattle.call_cycles.specs.Walks.{Reaches}
 use Rattle.call_cycles.specs.Marks.{AreWithin}
 use Rattle.call_cycles.specs.Leaders.{AreLeaders, AreLevels, callee_leader, leaves_leader}
-use Rattle.call_cycles.specs.Heads.{IsHeadOrder}
+use Rattle.call_cycles.specs.Heads.{IsHead, IsBefore}
 use Rattle.call_cycles.specs.Sums.{list_of}
 use Rattle.call_cycles.proofs.SumLemmas.{max_ext}
 use Rattle.call_cycles.proofs.WalkLemmas.{reaches_itself, reaches_on}
@@ -32,7 +33,9 @@ heads_long [] = refl
 heads_long (p ∷ order) = ap suc (heads_long order)
 
 module _ (n : ℕ) (arcs : List FunArc) (self_calls leaders levels places component heads : List ℕ) (order : List (ℕ × ℕ))
-    (within : AreWithin n arcs) (led : AreLeaders n arcs leaders) (lev : AreLevels n arcs leaders levels) (ord : IsHeadOrder n leaders levels order)
+    (within : AreWithin n arcs) (led : AreLeaders n arcs leaders) (lev : AreLevels n arcs leaders levels)
+    (those : All (IsHead n leaders levels) order) (each : (h : ℕ) → h < n → slice_index leaders h ≡ h → (c : ℕ) × (c < length order) × ((slice_index_or order c (0, 0)).1 ≡ h))
+    (rising : (c d : ℕ) → c < d → d < length order → IsBefore (slice_index_or order c (0, 0)) (slice_index_or order d (0, 0)))
     (placed : (c : ℕ) → c < length order → slice_index places (slice_index_or order c (0, 0)).1 ≡ c)
     (is_component : component ≡ list_of n (λ f. slice_index places (slice_index leaders f))) (is_heads : heads ≡ map (λ (p : ℕ × ℕ). p.1) order) where
   abbrev g : GraphValue
@@ -53,7 +56,7 @@ module _ (n : ℕ) (arcs : List FunArc) (self_calls leaders levels places compon
   is_head : (c : ℕ) → c < length heads → (H c < n) × (L (H c) ≡ H c) × ((get_or order c (0, 0)).0 ≡ slice_index levels (H c))
   is_head c below =
       let long = count in
-      let p = ord.those c (0, 0) (omega arith) in
+      let p = those c (0, 0) (omega arith) in
       let at = head_at c in
       subst (λ (h : ℕ). (h < n) × (L h ≡ h) × ((get_or order c (0, 0)).0 ≡ slice_index levels h)) (sym at) p
 
@@ -63,7 +66,7 @@ module _ (n : ℕ) (arcs : List FunArc) (self_calls leaders levels places compon
   place_of : (h : ℕ) → h < n → L h ≡ h → (slice_index places h < length heads) × (H (slice_index places h) ≡ h)
   place_of h below leads =
       let long = count in
-      let r = ord.each h below leads in
+      let r = each h below leads in
       let at = placed r.0 r.1 in
       let same : slice_index places h ≡ r.0 = ap (slice_index places) (sym r.2) ∙ at in
       let r1 = r.1 in
@@ -153,7 +156,7 @@ module _ (n : ℕ) (arcs : List FunArc) (self_calls leaders levels places compon
     levels = levels_are;
     ordered = λ c d less below.
         let long = count in
-        let r = ord.rising c d less (omega arith) in
+        let r = rising c d less (omega arith) in
         let hc = is_head c (omega arith) in
         let hd = is_head d below in
         let ac = head_at c in

@@ -1,6 +1,8 @@
 pub mod SumLemmas
 pub mod ListLemmas
+pub mod RowLemmas
 pub mod WalkLemmas
+pub mod ReachLemmas
 pub mod MarkLemmas
 pub mod RankLemmas
 pub mod LeaderLemmas
@@ -12,5 +14,6 @@ pub mod EnteringLemmas
 pub mod CallLemmas
 pub mod PairLemmas
 pub mod ArcLemmas
+pub mod ValueLemmas
 pub mod ProfileLemmas
 pub mod MemberLemmas

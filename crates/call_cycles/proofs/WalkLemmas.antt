@@ -26,7 +26,7 @@ pub reaches_by : (arcs : List FunArc) (i : ℕ) → i < length arcs → Reaches 
 unfolding Reaches
 reaches_by arcs i below = (get_or arcs i no_arc ∷ [], (at_is_one arcs i below, refl, refl))
 
-one_is_at : (arcs : List FunArc) (a : FunArc) → Contains arcs a → (i : ℕ) × (i < length arcs) × (get_or arcs i no_arc ≡ a)
+pub one_is_at : (arcs : List FunArc) (a : FunArc) → Contains arcs a → (i : ℕ) × (i < length arcs) × (get_or arcs i no_arc ≡ a)
 one_is_at arcs a one = (one.0, one.1, get_or_default arcs one.0 _ _ one.1 ∙ one.2)
 
 walk_marked : (arcs : List FunArc) (marks : List Bool) → IsClosedUnder arcs marks → (f g : ℕ) (w : List FunArc) → IsWalk arcs f w g → is_marked marks f ≡ true → is_marked marks g ≡ true

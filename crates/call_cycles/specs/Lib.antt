@@ -7,4 +7,5 @@ pub mod Marks
 pub mod Leaders
 pub mod Heads
 pub mod Parts
+pub mod Values
 pub mod Flow

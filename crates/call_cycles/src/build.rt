@@ -7,6 +7,7 @@ ghost use Rattle.call_cycles.specs.Graph.{IsGraph, AreComponents, all_calls, ent
 ghost use Rattle.call_cycles.specs.Marks.{AreByCaller, AreWithin};
 ghost use Rattle.call_cycles.specs.Parts.{headless_graph, graph_of_parts, AreCalled, arcs_calls};
 ghost use Rattle.call_cycles.specs.Sums.{list_of, sum_below};
+ghost use Rattle.call_cycles.specs.Values.{profile_graph};
 
 use crate::graphs::{FunArc, Graph};
 use crate::{calls, level, number, walk};
@@ -124,6 +125,7 @@ pub fn graph(alloc: Global, profile: &Profile, symbols: &[Symbol]) -> Result<Gra
     ensures self_calls { IfOk result (λ g. g.self_calls ≡ own_calls profile.now.arcs symbols.now) }
     ensures components { IfOk result IsGraph }
     ensures few { IfOk result (λ g. all_calls g < 2 ^ 59) }
+    ensures value { IfOk result (λ g. g ≡ profile_graph profile.now.arcs symbols.now) }
 {
     let sums = calls::pair_sums(alloc, profile, symbols)?;
     let functions = count_of(symbols);

@@ -24,4 +24,4 @@ returns-clause-components c =
     ∙ ap (λ (xs : List ℕ). list_of (length leaders) (λ f. slice_index xs (slice_index leaders f))) c.deref-8.ensures.value
     ∙ ap (λ (k : ℕ). list_of k (λ f. slice_index places (slice_index leaders f))) led.len in
     let heads = c.in_ok-heads.ensures.each ∙ ap (map (λ (p : ℕ × ℕ). p.1)) c.deref-9.ensures.value in
-    λ self_calls. are_components n arcs self_calls leaders levels places c.in_ok-component.component.items c.in_ok-heads.heads.items order c.requires.within led lev ord2 placed component heads
+    λ self_calls. are_components n arcs self_calls leaders levels places c.in_ok-component.component.items c.in_ok-heads.heads.items order c.requires.within led lev ord2.those ord2.each ord2.rising placed component heads

@@ -2,6 +2,7 @@ use Rattle.std.proofs.Common.{◌∙◌, arith}
 use Rattle.std.proofs.lemmas.Result.{IfOk-weaker}
 use Rattle.call_cycles.proofs.ArcLemmas.{made_function_arcs, made_own_calls, made_few, are_within, are_called, are_by_caller}
 use Rattle.call_cycles.proofs.ListLemmas.{list_long}
+use Rattle.call_cycles.proofs.ValueLemmas.{ok_value}
 use Rattle.call_cycles.proofs.build.graph.Goals as goal
 
 pub graph_of-requires-clause-within : goal.graph_of-requires-clause-within
@@ -59,3 +60,14 @@ returns-clause-few c =
     let few = made_few c.in_ok-sums.sums es symbols c.in_ok-sums.ensures.sums c.in_ok-arcs.arcs.items c.count_of-functions.result c.in_ok-self_calls.self_calls.items arcs c.count_of-functions.ensures selves in
     let total = c.in_ok-sums.ensures.few in
     IfOk-weaker c.graph_of.result _ _ (λ g is. omega arith) c.graph_of.ensures.calls
+
+pub returns-clause-value : goal.returns-clause-value
+returns-clause-value c =
+    let es = c.args.profile.now.arcs in
+    let symbols = c.args.symbols.now in
+    let arcs = made_function_arcs c.in_ok-sums.sums es symbols c.in_ok-sums.ensures.sums c.in_ok-arcs.ensures.ordered c.in_ok-arcs.arcs.items c.in_ok-arcs.ensures.arcs in
+    let selves = made_own_calls c.in_ok-sums.sums es symbols c.in_ok-sums.ensures.sums c.count_of-functions.result c.count_of-functions.ensures c.in_ok-self_calls.self_calls.items c.in_ok-self_calls.ensures in
+    ok_value es symbols c.graph_of.result c.graph_of.ensures.components
+    (IfOk-weaker c.graph_of.result _ _ (λ g is. is ∙ c.count_of-functions.ensures) c.graph_of.ensures.functions)
+    (IfOk-weaker c.graph_of.result _ _ (λ g is. is ∙ arcs) c.graph_of.ensures.arcs)
+    (IfOk-weaker c.graph_of.result _ _ (λ g is. is ∙ selves) c.graph_of.ensures.self_calls)
