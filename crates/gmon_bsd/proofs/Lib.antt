@@ -4,3 +4,4 @@ pub mod SpellingLemmas
 pub mod WholeFile
 pub mod RunTextLemmas
 pub mod RunReadBack
+pub mod ProfileLemmas

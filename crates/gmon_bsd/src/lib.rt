@@ -4,10 +4,12 @@
 #![tactic(auto)]
 
 pub mod laws;
+pub mod profile;
 pub mod reading;
 pub mod writing;
 
 pub use gp_base::GmonRefusal;
+pub use profile::run_profile;
 pub use reading::read;
 pub use writing::write_run;
 

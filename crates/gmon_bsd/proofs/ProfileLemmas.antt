@@ -1,0 +1,93 @@
+-- The profile of a run: that it is small enough, and that it is what the run's file gives.
+use Rattle.std.proofs.Common.{◌≡◌, ℕ, ◌+◌, ◌*◌, ◌^◌, ◌<◌, ◌≤◌, Bool, true, false, nat_eq, List, [], ◌∷◌, ◌++◌, length, map, sum, unwrap_or, Some, refl, sym, ap, subst, ◌∙◌, if◌then◌else◌, arith}
+use Rattle.std.specs.List.{All, flat_map, sum_by}
+use Rattle.std.proofs.lemmas.List.Elements.{All-head, All-tail}
+use Rattle.std.proofs.lemmas.List.Sums.{sum_by-cons}
+use Rattle.gp_base.specs.declared.records.RawArc.{RawArc}
+use Rattle.gp_base.specs.declared.records.Rec.TheVariants.{Arc}
+use Rattle.gp_base.specs.declared.records.Records.{Records}
+use Rattle.gp_base.specs.declared.records.Unit as units
+use Rattle.gmon_data.specs.declared.hist.Hist.{Hist}
+use Rattle.gmon_data.specs.Hists.{has_counters, kept_unit, put_hist}
+use Rattle.gmon_data.specs.Content.{Content, WideRec, WideHist, IsWithin, content_of, empty_content, same_pair, wide_record, wide_records, with_arc, with_hist}
+use Rattle.gmon_data.proofs.BoundLemmas.{counters_at_most, tally_at_most}
+use Rattle.gmon_data.proofs.HistLemmas.{samples-put}
+use Rattle.gmon_data.proofs.TallyLemmas.{sum-tally}
+use Rattle.mcount_arcs.specs.declared.sizes.Sizes.{Sizes}
+use Rattle.mcount_arcs.specs.Arcs.{CallFits, arcs_of}
+use Rattle.mcount_arcs.specs.Log.{LogEntry}
+use Rattle.mcount_arcs.specs.Samples.{buckets_of}
+use Rattle.mcount_arcs.specs.Sizes.{AreSizes}
+use Rattle.mcount_arcs.specs.Value.{GmonValue, StandsFor}
+use Rattle.gmon_bsd.specs.Fields.{seconds}
+use Rattle.gmon_bsd.specs.Profile.{IsOfRun, run_profile, runtime_hist, runtime_records, wide_arc}
+use Rattle.gmon_bsd.proofs.RunReadBack.{run_read_back}
+
+pub counters_sum : (counters : List ℕ) → All (λ n. n < 2 ^ 16) counters → sum counters ≤ length counters * 65536
+counters_sum [] small = omega arith
+counters_sum (n ∷ counters) small =
+    let here = All-head (λ n. n < 2 ^ 16) n counters small in
+    omega (arith, here, counters_sum counters (All-tail (λ n. n < 2 ^ 16) n counters small), sum_by-cons (λ (k : ℕ). k) n counters)
+
+-- the profile of a run's counters alone
+pub one_hist : (h : Hist) (u : units.Unit) → All (λ n. n < 2 ^ 16) h.counters → length h.counters ≤ 2 ^ 23 → IsOfRun 0 (with_hist h u empty_content)
+one_hist h u small few = by (has_counters h)
+  where
+    by : (b : Bool) → IsOfRun 0 (if b then record empty_content { hists = put_hist h []; «unit» = Some (unwrap_or empty_content.«unit» (kept_unit u)) } else empty_content)
+    by true = record {
+      samples = omega (arith, counters_sum h.counters small, few, samples-put h []);
+      counters = omega (arith, few, counters_at_most h []);
+      calls = omega arith;
+      pairs = omega arith;
+      runs = refl;
+      addresses = refl;
+    }
+    by false = record { samples = omega arith; counters = omega arith; calls = omega arith; pairs = omega arith; runs = refl; addresses = refl }
+
+-- one arc more
+pub one_arc : (from to count : ℕ) (c : Content) (n : ℕ) → count < 2 ^ 32 → IsOfRun n c → IsOfRun (n + 1) (with_arc from to count c)
+one_arc from to count c n few of = record {
+  samples = of.samples;
+  counters = of.counters;
+  calls = omega (arith, of.calls, few, sum-tally same_pair (from, to) count c.arcs);
+  pairs = omega (arith, of.pairs, tally_at_most same_pair (from, to) count c.arcs);
+  runs = of.runs;
+  addresses = of.addresses;
+}
+
+-- the arcs of a run are few
+pub within_bounds : (n : ℕ) (c : Content) → n ≤ 65535 → IsOfRun n c → IsWithin c
+within_bounds n c few of = record {
+  samples = omega (arith, of.samples);
+  counters = omega (arith, of.counters);
+  calls = omega (arith, of.calls, few);
+  runs = omega (arith, of.runs);
+  pairs = omega (arith, of.pairs, few);
+  addresses = omega (arith, of.addresses);
+}
+
+wide_arcs : (arcs : List RawArc) → flat_map wide_record (map Arc arcs) ≡ map wide_arc arcs
+wide_arcs [] = refl
+wide_arcs (a ∷ arcs) = ap (λ (rs : List WideRec). wide_arc a ∷ rs) (wide_arcs arcs)
+
+-- it is the profile that the run's file gives
+pub of_its_file : (v : GmonValue) (log : List LogEntry) (rate : ℕ) → AreSizes v.sizes → rate < 2 ^ 32 → All CallFits v.arcs → StandsFor log v
+    → content_of (runtime_records v rate) ≡ run_profile v.sizes log rate
+of_its_file v log rate sizes small fits stands =
+    let z = v.sizes in
+    let hist : List ℕ → WideRec = λ counters. WideHist (record { low = z.low; high = z.high; counters = counters }) (seconds rate) in
+    let read = (run_read_back z log rate sizes small (subst (All CallFits) stands.arcs fits)).1 in
+    ap (λ (counters : List ℕ). content_of (hist counters ∷ map wide_arc v.arcs)) stands.counters
+    ∙ ap (λ (arcs : List RawArc). content_of (hist (buckets_of z log) ∷ map wide_arc arcs)) stands.arcs
+    ∙ ap (λ (rs : List WideRec). content_of (hist (buckets_of z log) ∷ rs)) (sym (wide_arcs (arcs_of z log)))
+    ∙ ap (λ (r : Records). content_of (wide_records r.recs)) (sym read)
+
+last_fit : (done rest : List RawArc) → All CallFits (done ++ rest) → All CallFits rest
+last_fit [] rest fits = fits
+last_fit (a ∷ done) rest fits = last_fit done rest (All-tail CallFits a (done ++ rest) fits)
+
+-- the next arc of a runtime fits
+pub arc_fits : (done rest left all given : List RawArc) (arc : RawArc) → done ++ rest ≡ all → rest ≡ arc ∷ left → given ≡ all → All CallFits given → arc.count < 2 ^ 32
+arc_fits done rest left all given arc whole next same fits =
+    let here = ap (λ (xs : List RawArc). done ++ xs) (sym next) ∙ whole ∙ sym same in
+    (All-head CallFits arc left (last_fit done (arc ∷ left) (subst (All CallFits) (sym here) fits))).count
