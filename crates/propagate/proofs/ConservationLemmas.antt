@@ -1,7 +1,7 @@
 -- No time is lost: what the roots of a set have, and what comes in from outside, are the set's shares.
-use Rattle.std.proofs.Common.{◌≡◌, ◌<◌, ℕ, ◌+◌, Bool, true, false, not, ◌&&◌, List, refl, ap, sym, ◌∙◌, arith}
+use Rattle.std.proofs.Common.{◌≡◌, ◌≢◌, ◌≢◌, ◌<◌, ℕ, ◌+◌, Bool, true, false, not, ◌&&◌, List, refl, ap, sym, ◌∙◌, arith}
 use Rattle.std.specs.Prelude.{slice_index}
-use Rattle.std.proofs.lemmas.Bool.{eqb-true, not-false, true≢false}
+use Rattle.std.proofs.lemmas.Bool.{eqb-true, not-false, true≢false, eqb-false, not-true}
 use Rattle.call_cycles.specs.Sums.{sum_below, when}
 use Rattle.call_cycles.specs.Graph.{GraphValue, IsGraph, arc_at, arc_count, component_count, is_outside, enters, source_of, target_of}
 use Rattle.call_cycles.specs.Flow.{FlowValue, IsFlow, IsClosed, IsConserved, is_root, part_of, carried_from, carried_by, time_of}
@@ -18,6 +18,9 @@ target_within g is i below = is.components.within (arc_at g i).callee (is.arcs.c
 
 pub one_component : (g : GraphValue) (i : ℕ) → is_outside g i ≡ false → source_of g i ≡ target_of g i
 one_component g i inside = eqb-true _ _ (not-false _ inside)
+
+pub two_components : (g : GraphValue) (i : ℕ) → is_outside g i ≡ true → source_of g i ≢ target_of g i
+two_components g i out = eqb-false _ _ (not-true _ out)
 
 -- an arc into the set comes from it or from outside it
 split_arc : (o s t : Bool) (x : ℕ) → (s ≡ true → t ≡ true) → (o ≡ false → s ≡ t) → when (o && t) x ≡ when (o && s) x + when (not s && t) x

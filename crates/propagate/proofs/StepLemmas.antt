@@ -1,9 +1,9 @@
 -- Steps of the loops over functions and arcs.
-use Rattle.std.proofs.Common.{◌≡◌, ◌≢◌, ◌<◌, ◌≤◌, ℕ, suc, ◌+◌, ◌-◌, ◌*◌, ◌/◌, true, false, List, length, sum, refl, ap, arith}
+use Rattle.std.proofs.Common.{◌≡◌, ◌<◌, ◌≤◌, ℕ, suc, ◌+◌, ◌-◌, ◌*◌, ◌/◌, true, false, List, length, sum, refl, ap, arith}
 use Rattle.std.specs.Prelude.{◌==◌, slice_index}
-use Rattle.std.proofs.lemmas.Bool.{eq-eqb, ne_eqb}
+use Rattle.std.proofs.lemmas.Bool.{eq-eqb}
 use Rattle.call_cycles.specs.Sums.{when}
-use Rattle.call_cycles.specs.Graph.{GraphValue, arc_at, arc_count, component_of, calls_into, target_of, source_of, is_outside, enters, entering_of, all_calls}
+use Rattle.call_cycles.specs.Graph.{GraphValue, arc_at, arc_count, component_of, calls_into, target_of, is_outside, enters, entering_of, all_calls}
 use Rattle.call_cycles.specs.Flow.{self_below, part_of}
 use Rattle.propagate.specs.Arcs.{earlier_calls}
 use Rattle.call_cycles.proofs.SumLemmas.{sum_mono, sum_front_le, when_le}
@@ -48,13 +48,8 @@ pub part_is : (g : GraphValue) (time : ℕ → ℕ) (i x p count whole : ℕ) �
     → x * (p + count) / whole - x * p / whole ≡ part_of g time i
 part_is g time i x p count whole out is_time is_calls is_count is_whole = rw (is_time, is_calls, is_count, is_whole, ← calls_through g i out, out) refl
 
-pub part_inside : (g : GraphValue) (time : ℕ → ℕ) (i : ℕ) → source_of g i ≡ target_of g i → part_of g time i ≡ 0
-part_inside g time i same =
-    let inside : is_outside g i ≡ false = rw (eq-eqb (source_of g i) (target_of g i) same) refl in
-    rw inside refl
-
-pub is_outside_from : (g : GraphValue) (i : ℕ) → source_of g i ≢ target_of g i → is_outside g i ≡ true
-is_outside_from g i apart = rw (ne_eqb (source_of g i) (target_of g i) apart) refl
+pub part_inside : (g : GraphValue) (time : ℕ → ℕ) (i : ℕ) → is_outside g i ≡ false → part_of g time i ≡ 0
+part_inside g time i inside = rw inside refl
 
 pub before_at : (g : GraphValue) (before : List ℕ) (i : ℕ) → before ≡ earlier_calls g → i < arc_count g → slice_index before i ≡ calls_into g (target_of g i) i
 unfolding earlier_calls
