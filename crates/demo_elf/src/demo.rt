@@ -1,6 +1,6 @@
 //! The whole program.
 
-ghost use Rattle.std.specs.Prelude.{◌≡◌, ◌≤◌, IfOk};
+ghost use Rattle.std.specs.Prelude.{◌≡◌, ◌≤◌, ◌^◌, length, IfOk};
 ghost use Rattle.demo_elf.specs.Elf.{demo_program};
 
 use crate::{code, elf};
@@ -12,7 +12,8 @@ use std::alloc::{AllocError, Global};
 pub fn program(alloc: Global, n: u32) -> Result<Vec<u8>, AllocError>
     requires some { 1 ≤ n }
     requires few { n ≤ 2000 }
-    ensures { IfOk result (λ v. v.items ≡ demo_program n) }
+    ensures file { IfOk result (λ v. v.items ≡ demo_program n) }
+    ensures short { IfOk result (λ v. length v.items ≤ 2 ^ 22) }
 {
     let words = code::demo_words(alloc, n)?;
     let symbols = code::demo_symbols(alloc, n)?;

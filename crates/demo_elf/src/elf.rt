@@ -226,7 +226,8 @@ pub(crate) fn elf_file(
 ) -> Result<Vec<u8>, AllocError>
     requires words { length words.now ≤ 2 ^ 18 }
     requires small { AreSmall symbols.now }
-    ensures { IfOk result (λ v. v.items ≡ spec.elf_file words.now (map symbol_of symbols.now)) }
+    ensures file { IfOk result (λ v. v.items ≡ spec.elf_file words.now (map symbol_of symbols.now)) }
+    ensures short { IfOk result (λ v. length v.items ≤ 2 ^ 22) }
 {
     let mut strings = Vec::new(alloc);
     put_strings(&mut strings, symbols)?;

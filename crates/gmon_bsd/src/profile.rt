@@ -3,6 +3,7 @@
 ghost use Rattle.std.specs.Prelude.{◌≡◌, ◌^◌, ◌<◌, ◌≤◌, List, length, ◌∷◌, [], IfOk};
 ghost use Rattle.std.specs.List.{All};
 ghost use Rattle.gmon_data.specs.Content.{WideHist, content_of};
+ghost use Rattle.mcount_arcs.specs.Arcs.{CallFits};
 ghost use Rattle.mcount_arcs.specs.Log.{LogEntry};
 ghost use Rattle.mcount_arcs.specs.Sizes.{AreSizes};
 ghost use Rattle.mcount_arcs.specs.Value.{StandsFor};
@@ -19,6 +20,7 @@ use std::alloc::{AllocError, Global};
 pub fn run_profile(alloc: Global, gmon: &Gmon, rate: u32) -> Result<Profile, AllocError>
     ensures records { IfOk result (λ p. p ≡ content_of (runtime_records gmon.now rate)) }
     ensures log { (log : List LogEntry) → StandsFor log gmon.now → IfOk result (λ p. p ≡ run_content gmon.now.sizes log rate) }
+    ensures fits { IfOk result (λ _. AreSizes gmon.now.sizes × All CallFits gmon.now.arcs) }
 {
     let mut profile = hist_profile(alloc, gmon, rate)?;
     for arc in gmon.arcs() {

@@ -11,3 +11,8 @@ pub mod Reporting
 pub mod Running
 pub mod LastLine
 pub mod Showable
+pub mod SourceLemmas
+pub mod Profiling
+pub mod DemoLemmas
+pub mod LineLemmas
+pub mod Demonstrating

@@ -29,7 +29,7 @@ use Rattle.rvgprof.specs.Contract.{Acted}
 use Rattle.rvgprof.specs.Standing.{Stands}
 use Rattle.rvgprof.proofs.Standing.{ends, does}
 
-given_shut : (image : Option (List ℕ)) (bytes : List ℕ) → writes_after (given_file_acts image bytes) false ≡ false
+pub given_shut : (image : Option (List ℕ)) (bytes : List ℕ) → writes_after (given_file_acts image bytes) false ≡ false
 given_shut None bytes = refl
 given_shut (Some name) bytes = refl
 

@@ -11,8 +11,8 @@ use Rattle.rvgprof.specs.declared.items.Wanted.TheVariants.{AnOperand}
 use Rattle.rvgprof.specs.Items.{Item, Operand, Given, is_option, with_item, items_from, items_of_option, places, nth, place_given}
 use Rattle.rvgprof.specs.Options.{option_of, kind_of, is_flag}
 use Rattle.rvgprof.specs.declared.words.Command.{Command}
-use Rattle.rvgprof.specs.declared.options.Key.TheVariants.{Flat}
-use Rattle.rvgprof.specs.Words.{few_files, files_from, report_from, report_said, AreRising, IsWithinLimits}
+use Rattle.rvgprof.specs.declared.words.Shown.{Shown}
+use Rattle.rvgprof.specs.Words.{few_files, files_from, report_from, report_said, shown_of, AreRising, IsWithinLimits}
 use Rattle.rvgprof.proofs.ItemLemmas.{later, nth_none, nth_some}
 
 -- they stand from i on, each behind those before it
@@ -115,15 +115,15 @@ files_rising takes first words r e = by (items_from takes 0 words) refl e
     by (Some items) is e = few_rising (drop first (places AnOperand items)) r (rising_drop first (places AnOperand items) (items_ordered takes 0 words items is).rising) e
 
 -- a report's program stands before its profiles
-report_in_order : (ps : List ℕ) (flat : Option (Option ℕ)) → AreRising ps → IfSome (report_from (Some (nth 1 ps)) (few_files (drop 2 ps)) flat) (λ command. IsWithinLimits command)
-report_in_order [] flat rising = tt
-report_in_order (p ∷ []) flat rising = tt
-report_in_order (p ∷ q ∷ ps) flat rising = by (nat_lt 0 (length ps) && nat_le (length ps) 16) flat
+report_in_order : (ps : List ℕ) (shown : Option Shown) → AreRising ps → IfSome (report_from (Some (nth 1 ps)) (few_files (drop 2 ps)) shown) (λ command. IsWithinLimits command)
+report_in_order [] shown rising = tt
+report_in_order (p ∷ []) shown rising = tt
+report_in_order (p ∷ q ∷ ps) shown rising = by (nat_lt 0 (length ps) && nat_le (length ps) 16) shown
   where
-    by : (b : Bool) (flat : Option (Option ℕ)) → IfSome (report_from (Some (Some q)) (if b then Some ps else None) flat) (λ command. IsWithinLimits command)
+    by : (b : Bool) (shown : Option Shown) → IfSome (report_from (Some (Some q)) (if b then Some ps else None) shown) (λ command. IsWithinLimits command)
     by true (Some given) = rising.1
     by true None = tt
-    by false flat = tt
+    by false shown = tt
 
 pub report_rising : (takes : Takes) (words : List (List ℕ)) (r : Option Command) → r ≡ option_and_then report_said (items_from takes 0 words) → IfSome r (λ command. IsWithinLimits command)
 report_rising takes words r e = by (items_from takes 0 words) refl e
@@ -132,7 +132,7 @@ report_rising takes words r e = by (items_from takes 0 words) refl e
     by None is e = subst (λ (o : Option Command). IfSome o (λ command. IsWithinLimits command)) (sym e) tt
     by (Some items) is e =
         subst (λ (o : Option Command). IfSome o (λ command. IsWithinLimits command)) (sym e)
-        (report_in_order (places AnOperand items) (place_given Flat items) (items_ordered takes 0 words items is).rising)
+        (report_in_order (places AnOperand items) (shown_of items) (items_ordered takes 0 words items is).rising)
 
 -- ---- the operands from one on
 

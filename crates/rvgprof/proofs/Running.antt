@@ -1,7 +1,8 @@
 -- A run that was started, as the words ask for it.
-use Rattle.std.proofs.Common.{◌≡◌, ℕ, false, List, [], Option, Some, None, Result, Ok, Err, inl, refl, sym, ap, subst, ◌∙◌}
+use Rattle.std.proofs.Common.{◌≡◌, ℕ, ◌++◌, false, List, [], Option, Some, None, Result, Ok, Err, inl, refl, sym, ap, subst, ◌∙◌}
+use Rattle.std.specs.Prelude.{IsSome}
 use Rattle.elf32_syms.specs.declared.image.Image.{Image}
-use Rattle.host_port.specs.Act.{Act}
+use Rattle.host_port.specs.Act.{Act, writes_after}
 use Rattle.host_port.specs.Outside.{Outside}
 use Rattle.mcount_arcs.specs.declared.sizes.Sizes.{Sizes}
 use Rattle.mcount_arcs.specs.Sizes.{sizes_of}
@@ -16,19 +17,18 @@ use Rattle.prof_machine.specs.Value.{RunValue, StandsFor, summary_of}
 use Rattle.prof_machine.specs.World.{World}
 use Rattle.rvgprof.specs.declared.outcome.Fault.TheVariants.{WriteFault}
 use Rattle.rvgprof.specs.Course.{Course, Ends, Does, unless}
-use Rattle.rvgprof.specs.Answer.{RunFiles, run_acts, run_program, start_fault_of}
+use Rattle.rvgprof.specs.Answer.{RunActs, run_program, start_fault_of, told}
 use Rattle.host_port.specs.Performing.{Performs}
 use Rattle.rvgprof.specs.Contract.{Acted}
-use Rattle.rvgprof.specs.Standing.{Stands}
-use Rattle.rvgprof.proofs.Standing.{no_memory, may_stop_unless, refuses, goes_on, fails}
-use Rattle.rvgprof.proofs.Performing.{last_acts, shut_after}
+use Rattle.rvgprof.specs.Standing.{IsRunOf, Stands}
+use Rattle.rvgprof.proofs.Standing.{no_memory, may_stop_unless, refuses, goes_on, does, ends, fails}
 
 -- the run doesn't start
-pub no_start : (words : List (List ℕ)) (old new : Outside) (below : ℕ) (due : Option StartRefusal) (acts : List Act) (next : Course) (refusal : StartRefusal)
-    → Stands words old new below [] (unless start_fault_of due (Does acts next)) → IsRefusal refusal due → Acted words old new (Err (start_fault_of refusal))
-no_start words old new below due acts next starts.OutOfMemory s is =
-    no_memory words old new below [] (unless start_fault_of due (Does acts next)) s (λ contents. may_stop_unless start_fault_of due (Does acts next) contents (inl refl))
-no_start words old new below due acts next refusal s is = refuses words old new below [] start_fault_of due (Does acts next) refusal s is tt
+pub no_start : (words : List (List ℕ)) (old new : Outside) (below : ℕ) (done : List Act) (due : Option StartRefusal) (acts : List Act) (next : Course) (refusal : StartRefusal)
+    → Stands words old new below done (unless start_fault_of due (Does acts next)) → IsRefusal refusal due → Acted words old new (Err (start_fault_of refusal))
+no_start words old new below done due acts next starts.OutOfMemory s is =
+    no_memory words old new below done (unless start_fault_of due (Does acts next)) s (λ contents. may_stop_unless start_fault_of due (Does acts next) contents (inl refl))
+no_start words old new below done due acts next refusal s is = refuses words old new below done start_fault_of due (Does acts next) refusal s is tt
 
 machine_sizes : (image : Image) (setup : Setup) → (machine_of image setup).sizes ≡ sizes_of image.text
 unfolding machine_of
@@ -62,45 +62,59 @@ module _ (image : Image) (bytes : List ℕ) (setup : Setup) (given : List ℕ) (
   starts_is = ap (start_refusal image) (sym s.used_is) ∙ s.starts
 
   -- what was done is what is due
-  pub performs_due : {T E : Type 0} (files : RunFiles) (rate : ℕ) (x y : Outside) (r : Result T E)
-      → ((w : World) → StandsFor w v → w.prints ≡ [] → Performs (run_acts files rate v.machine.sizes (driven v.machine w)) x y r)
-      → Performs (run_acts files rate (sizes_of image.text) (final_world image bytes setup)) x y r
-  performs_due files rate x y r performs =
+  pub performs_due : {T E : Type 0} (acts : RunActs) (x y : Outside) (r : Result T E)
+      → ((w : World) → StandsFor w v → w.prints ≡ [] → Performs (acts v.machine.sizes (driven v.machine w)) x y r)
+      → Performs (acts (sizes_of image.text) (final_world image bytes setup)) x y r
+  performs_due acts x y r performs =
       subst (λ (acts : List Act). Performs acts x y r)
-      (ap (λ (z : Sizes). run_acts files rate z (driven v.machine (start_of image given used))) sizes_are ∙ ap (run_acts files rate (sizes_of image.text)) last_is)
+      (ap (λ (z : Sizes). acts z (driven v.machine (start_of image given used))) sizes_are ∙ ap (acts (sizes_of image.text)) last_is)
       (performs (start_of image given used) s.stands (first_prints_none image given used))
 
-  -- what is told is what is to be told
-  pub summary_due : (v' : RunValue) (summary : RunSummary) → ((w : World) → StandsFor w v → StandsFor (driven v.machine w) v') → v'.machine ≡ v.machine
-      → ((w : World) → StandsFor w v' → summary_of v'.machine.sizes w ≡ Some summary) → summary_of (sizes_of image.text) (final_world image bytes setup) ≡ Some summary
-  summary_due v' summary stands same told =
-      ap (λ (z : Sizes). summary_of z (final_world image bytes setup)) (sym (ap (λ (m : Machine). m.sizes) same ∙ sizes_are)) ∙ ap (summary_of v'.machine.sizes) (sym last_is)
-      ∙ told (driven v.machine (start_of image given used)) (stands (start_of image given used) s.stands)
+  -- it stands for the world in which it ends
+  pub run_of : (v' : RunValue) → ((w : World) → StandsFor w v → StandsFor (driven v.machine w) v') → v'.machine ≡ v.machine → IsSome v'.ending → IsRunOf image bytes setup v'
+  run_of v' stands same ended = record {
+    stands = subst (λ (w : World). StandsFor w v') last_is (stands (start_of image given used) s.stands);
+    ended = ended;
+    sizes = ap (λ (m : Machine). m.sizes) same ∙ sizes_are;
+  }
 
--- it was driven and its file written
-pub run_done : {E : Type 0} (words : List (List ℕ)) (old mid new : Outside) (below : ℕ) (files : RunFiles) (image : Image) (bytes : List ℕ) (setup : Setup) (given : List ℕ) (used : Setup) (v v' : RunValue) (summary : RunSummary)
-    → Stands words old mid below [] (run_program files setup bytes image) → Started image bytes setup given used v
-    → ((w : World) → StandsFor w v → w.prints ≡ [] → Performs {T = Unit {0}} {E = E} (run_acts files setup.rate v.machine.sizes (driven v.machine w)) mid new (Ok tt))
-    → ((w : World) → StandsFor w v → StandsFor (driven v.machine w) v') → v'.machine ≡ v.machine → ((w : World) → StandsFor w v' → summary_of v'.machine.sizes w ≡ Some summary)
-    → Acted words old new (Ok (record { run = Some summary }))
-run_done {E} words old mid new below files image bytes setup given used v v' summary s started performs stands sizes told =
+-- it was driven and its acts done
+pub run_done : {E : Type 0} (words : List (List ℕ)) (old mid new : Outside) (below : ℕ) (done : List Act) (acts : RunActs) (next : Sizes → World → Course) (image : Image) (bytes : List ℕ) (setup : Setup) (given : List ℕ) (used : Setup) (v : RunValue)
+    → (Performs {T = Unit {0}} {E = E} (acts (sizes_of image.text) (final_world image bytes setup)) mid new (Ok tt) → mid.is_writing ≡ false → writes_after (acts (sizes_of image.text) (final_world image bytes setup)) false ≡ false)
+    → Stands words old mid below done (run_program acts setup next bytes image) → Started image bytes setup given used v
+    → ((w : World) → StandsFor w v → w.prints ≡ [] → Performs {T = Unit {0}} {E = E} (acts v.machine.sizes (driven v.machine w)) mid new (Ok tt))
+    → (all : List Act) × Stands words old new below all (next (sizes_of image.text) (final_world image bytes setup))
+run_done {E} words old mid new below done acts next image bytes setup given used v shut s started performs =
     let z = sizes_of image.text in
     let w = final_world image bytes setup in
-    let next = goes_on words old mid below [] start_fault_of (start_refusal image setup) (Does (run_acts files setup.rate z w) (Ends (Ok (record { run = summary_of z w })))) s (starts_is image bytes setup given used v started) in
-    let due = summary_due image bytes setup given used v started v' summary stands sizes told in
-    last_acts {T = Unit {0}} {E = E} words old mid new below [] (run_acts files setup.rate z w) (record { run = Some summary }) tt
-    (subst (λ (r : Option RunSummary). Stands words old mid below [] (Does (run_acts files setup.rate z w) (Ends (Ok (record { run = r }))))) due next)
-    (performs_due image bytes setup given used v started {T = Unit {0}} {E = E} files setup.rate mid new (Ok tt) performs) (shut_after files setup.rate z w false)
+    let p = performs_due image bytes setup given used v started {T = Unit {0}} {E = E} acts mid new (Ok tt) performs in (
+      done ++ acts z w,
+      does {T = Unit {0}} {E = E} words old mid new below done (acts z w) (next z w) tt
+          (goes_on words old mid below done start_fault_of (start_refusal image setup) (Does (acts z w) (next z w)) s (starts_is image bytes setup given used v started))
+          p (shut p s.shut),
+    )
 
 -- a call on the host failed
-pub run_failed : {E : Type 0} (words : List (List ℕ)) (old mid new : Outside) (below : ℕ) (files : RunFiles) (image : Image) (bytes : List ℕ) (setup : Setup) (given : List ℕ) (used : Setup) (v : RunValue) (e : E)
-    → Stands words old mid below [] (run_program files setup bytes image) → Started image bytes setup given used v
-    → ((w : World) → StandsFor w v → w.prints ≡ [] → Performs {T = Unit {0}} (run_acts files setup.rate v.machine.sizes (driven v.machine w)) mid new (Err e))
+pub run_failed : {E : Type 0} (words : List (List ℕ)) (old mid new : Outside) (below : ℕ) (done : List Act) (acts : RunActs) (next : Sizes → World → Course) (image : Image) (bytes : List ℕ) (setup : Setup) (given : List ℕ) (used : Setup) (v : RunValue) (e : E)
+    → Stands words old mid below done (run_program acts setup next bytes image) → Started image bytes setup given used v
+    → ((w : World) → StandsFor w v → w.prints ≡ [] → Performs {T = Unit {0}} (acts v.machine.sizes (driven v.machine w)) mid new (Err e))
     → Acted words old new (Err WriteFault)
-run_failed {E} words old mid new below files image bytes setup given used v e s started performs =
+run_failed {E} words old mid new below done acts next image bytes setup given used v e s started performs =
     let z = sizes_of image.text in
     let w = final_world image bytes setup in
-    let last = Ends (Ok (record { run = summary_of z w })) in
-    fails {T = Unit {0}} words old mid new below [] (run_acts files setup.rate z w) last e
-    (goes_on words old mid below [] start_fault_of (start_refusal image setup) (Does (run_acts files setup.rate z w) last) s (starts_is image bytes setup given used v started))
-    (performs_due image bytes setup given used v started {T = Unit {0}} {E = E} files setup.rate mid new (Err e) performs)
+    fails {T = Unit {0}} words old mid new below done (acts z w) (next z w) e
+    (goes_on words old mid below done start_fault_of (start_refusal image setup) (Does (acts z w) (next z w)) s (starts_is image bytes setup given used v started))
+    (performs_due image bytes setup given used v started {T = Unit {0}} {E = E} acts mid new (Err e) performs)
+
+-- how a run went is what is to be told
+pub summary_is : (image : Image) (bytes : List ℕ) (setup : Setup) (v : RunValue) (summary : RunSummary) → IsRunOf image bytes setup v → ((w : World) → StandsFor w v → summary_of v.machine.sizes w ≡ Some summary)
+    → summary_of (sizes_of image.text) (final_world image bytes setup) ≡ Some summary
+summary_is image bytes setup v summary is told =
+    ap (λ (z : Sizes). summary_of z (final_world image bytes setup)) (sym is.sizes) ∙ told (final_world image bytes setup) is.stands
+
+-- it is told
+pub run_told : (words : List (List ℕ)) (old new : Outside) (below : ℕ) (done : List Act) (image : Image) (bytes : List ℕ) (setup : Setup) (v : RunValue) (summary : RunSummary) → IsRunOf image bytes setup v
+    → ((w : World) → StandsFor w v → summary_of v.machine.sizes w ≡ Some summary) → Stands words old new below done (told (sizes_of image.text) (final_world image bytes setup)) → Acted words old new (Ok (record { run = Some summary }))
+run_told words old new below done image bytes setup v summary is tells s =
+    ends words old new below done (Ok (record { run = Some summary }))
+    (subst (λ (r : Option RunSummary). Stands words old new below done (Ends (Ok (record { run = r })))) (summary_is image bytes setup v summary is tells) s) tt

@@ -4,6 +4,8 @@ pub mod Items
 pub mod Words
 pub mod Texts
 pub mod Course
+pub mod Reports
+pub mod Found
 pub mod Answer
 pub mod Contract
 pub mod Standing

@@ -2,6 +2,7 @@
 #![tactic(auto)]
 
 mod complaints;
+mod demo;
 mod end_line;
 mod inputs;
 mod items;
@@ -9,11 +10,15 @@ mod numbers;
 mod options;
 pub mod outcome;
 mod places;
+mod printing;
+mod profile;
 mod profile_file;
 mod refusals;
 mod report;
 mod run;
+mod runs;
 mod show;
+mod sources;
 mod sum;
 mod syms;
 pub mod top;

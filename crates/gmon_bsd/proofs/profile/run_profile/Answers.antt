@@ -45,3 +45,6 @@ returns-clause-log c = λ log stands.
     sym (append-nil c.loop-arc.yielded) ∙ ap (λ (rest : List RawArc). c.loop-arc.yielded ++ rest) (sym c.in-None.ensures.steps.0) ∙ c.loop-arc.invariant.left in
     c.loop-arc.invariant.those ∙ ap (λ (arcs : List RawArc). content_of (WideHist (runtime_hist c.args.gmon.now) (seconds c.args.rate) ∷ map wide_arc arcs)) all
     ∙ of_its_file c.args.gmon.now log c.args.rate c.in_ok-profile.ensures.sizes c.ranges.rate.fits given stands
+
+pub returns-clause-fits : goal.returns-clause-fits
+returns-clause-fits c = (c.in_ok-profile.ensures.sizes, subst (All CallFits) c.arcs-arc-items.ensures.value c.arcs-arc-items.ensures.fits)

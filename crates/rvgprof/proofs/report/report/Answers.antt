@@ -1,33 +1,35 @@
-use Rattle.std.proofs.Common.{[], ◌+◌, inl, refl, arith, ap}
+use Rattle.std.proofs.Common.{[], ◌+◌, None, Ok, arith}
 use Rattle.std.specs.Prelude.{map, string_bytes}
-use Rattle.rvgprof.specs.Answer.{report_lines, report_profiles}
-use Rattle.rvgprof.proofs.Reporting.{printed, not_printed}
+use Rattle.gmon_data.specs.Content.{Content}
+use Rattle.rvgprof.specs.Course.{Course}
+use Rattle.rvgprof.specs.Answer.{ended, print_reports, report_profiles}
+use Rattle.rvgprof.proofs.Reporting.{may_stop_reports}
+use Rattle.rvgprof.proofs.Standing.{ends}
 use Rattle.rvgprof.proofs.Summing.{all_behind}
 use Rattle.rvgprof.proofs.report.report.Goals as goal
 
 pub returns-in-Err : goal.returns-in-Err
-returns-in-Err g c = c.in-Err.ensures.reads _ 0 (report_profiles c.args.gmons.now) (omega arith) c.requires.stands
+returns-in-Err g c = c.in-Err.ensures.reads _ 0 (report_profiles c.args.gmons.now c.args.shown) (omega arith) c.requires.stands
 
 pub returns-in-Err-read_profiles : goal.returns-in-Err-read_profiles
 returns-in-Err-read_profiles g c =
-    let elf = c.args.elf in
-    let image = c.in-Ok.read.1 in
-    let s = c.in-Ok.ensures.reads _ 0 (report_profiles c.args.gmons.now) (omega arith) c.requires.stands in
-    c.in-Err-read_profiles.ensures.reads _ (elf + 1) (report_lines image) (λ contents total. inl refl) (all_behind elf c.args.gmons.now c.requires.rising.0) s
+    let next : Content → Course = λ total. print_reports c.args.shown c.in-Ok.read.1 total ended in
+    let s = c.in-Ok.ensures.reads _ 0 (report_profiles c.args.gmons.now c.args.shown) (omega arith) c.requires.stands in
+    c.in-Err-read_profiles.ensures.reads _ (c.args.elf + 1) next (λ contents total. may_stop_reports c.args.shown c.in-Ok.read.1 total ended contents) (all_behind c.args.elf c.args.gmons.now c.requires.rising.0) s
 
-pub returns-in-Ok-print_report : goal.returns-in-Ok-print_report
-returns-in-Ok-print_report g c =
-    let elf = c.args.elf in
-    let image = c.in-Ok.read.1 in
-    let s = c.in-Ok.ensures.reads _ 0 (report_profiles c.args.gmons.now) (omega arith) c.requires.stands in
-    let t = c.in-Ok-read_profiles.ensures.reads _ (elf + 1) (report_lines image) (λ contents total. inl refl) (all_behind elf c.args.gmons.now c.requires.rising.0) s in
-    printed (map string_bytes c.args.words.now) _ _ _ t.0 image c.in-Ok-read_profiles.total t.1 (tt {0}) c.in-Ok-print_report.ensures.printed
+pub returns-in-Ok-print_reports : goal.returns-in-Ok-print_reports
+returns-in-Ok-print_reports g c =
+    let words = map string_bytes c.args.words.now in
+    let next : Content → Course = λ total. print_reports c.args.shown c.in-Ok.read.1 total ended in
+    let s = c.in-Ok.ensures.reads _ 0 (report_profiles c.args.gmons.now c.args.shown) (omega arith) c.requires.stands in
+    let t = c.in-Ok-read_profiles.ensures.reads _ (c.args.elf + 1) next (λ contents total. may_stop_reports c.args.shown c.in-Ok.read.1 total ended contents) (all_behind c.args.elf c.args.gmons.now c.requires.rising.0) s in
+    let p = c.in-Ok-print_reports.ensures words _ t.0 [] ended t.1 in
+    ends words _ _ t.0 p.0 (Ok (record { run = None })) p.1 tt
 
 pub returns : goal.returns
 returns g c =
-    let elf = c.args.elf in
-    let image = c.in-Ok.read.1 in
-    let s = c.in-Ok.ensures.reads _ 0 (report_profiles c.args.gmons.now) (omega arith) c.requires.stands in
-    let t = c.in-Ok-read_profiles.ensures.reads _ (elf + 1) (report_lines image) (λ contents total. inl refl) (all_behind elf c.args.gmons.now c.requires.rising.0) s in
-    rw c.report_fault.ensures (not_printed (map string_bytes c.args.words.now) _ _ _ t.0 image c.in-Ok-read_profiles.total t.1 c.in-Err-print_report.refusal c.in-Err-print_report.ensures.printed
-    (λ e. ap g.H.Host.outside (c.in-Err-print_report.ensures.idle e)))
+    let words = map string_bytes c.args.words.now in
+    let next : Content → Course = λ total. print_reports c.args.shown c.in-Ok.read.1 total ended in
+    let s = c.in-Ok.ensures.reads _ 0 (report_profiles c.args.gmons.now c.args.shown) (omega arith) c.requires.stands in
+    let t = c.in-Ok-read_profiles.ensures.reads _ (c.args.elf + 1) next (λ contents total. may_stop_reports c.args.shown c.in-Ok.read.1 total ended contents) (all_behind c.args.elf c.args.gmons.now c.requires.rising.0) s in
+    rw c.report_fault.ensures (c.in-Err-print_reports.ensures words _ t.0 [] ended t.1)

@@ -1,7 +1,7 @@
 use Rattle.std.proofs.Common.{◌∙◌, Some, ap}
 use Rattle.std.specs.Prelude.{map, string_bytes}
 use Rattle.rvgprof.specs.declared.words.Command.{Command}
-use Rattle.rvgprof.specs.declared.words.Command.TheVariants.{Show, Syms, Run, Sum, Report}
+use Rattle.rvgprof.specs.declared.words.Command.TheVariants.{Show, Syms, Run, Sum, Report, Profile, Demo}
 use Rattle.rvgprof.proofs.Standing.{begun}
 use Rattle.rvgprof.proofs.top.perform.Goals as goal
 
@@ -26,4 +26,14 @@ run-requires-clause-stands g c =
 pub report-requires-clause-stands : goal.report-requires-clause-stands
 report-requires-clause-stands g c =
     let places = c.as_slice-in-Report.ensures in
-    rw places (begun (map string_bytes c.args.words.now) (g.H.Host.outside c.args.host.now) (Report c.in-Report.elf c.in-Report.gmons) (c.requires.said ∙ ap (λ (x : Command). Some x) c.in-Report.is) c.requires.idle)
+    rw places (begun (map string_bytes c.args.words.now) (g.H.Host.outside c.args.host.now) (Report c.in-Report.elf c.in-Report.gmons c.in-Report.shown) (c.requires.said ∙ ap (λ (x : Command). Some x) c.in-Report.is) c.requires.idle)
+
+pub profile-requires-clause-stands : goal.profile-requires-clause-stands
+profile-requires-clause-stands g c =
+    let command = Profile c.in-Profile.elf c.in-Profile.gmon c.in-Profile.form c.in-Profile.image c.in-Profile.setup c.in-Profile.shown in
+    begun (map string_bytes c.args.words.now) (g.H.Host.outside c.args.host.now) command (c.requires.said ∙ ap (λ (x : Command). Some x) c.in-Profile.is) c.requires.idle
+
+pub demo-requires-clause-stands : goal.demo-requires-clause-stands
+demo-requires-clause-stands g c =
+    let command = Demo c.in-Demo.functions c.in-Demo.elf c.in-Demo.setup in
+    begun (map string_bytes c.args.words.now) (g.H.Host.outside c.args.host.now) command (c.requires.said ∙ ap (λ (x : Command). Some x) c.in-Demo.is) c.requires.idle

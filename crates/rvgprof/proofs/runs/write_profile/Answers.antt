@@ -1,7 +1,7 @@
 use Rattle.std.proofs.lemmas.Result.{err_from_is_err_and}
 use Rattle.host_port.proofs.PerformingLemmas.{create_failed, write_failed, file_performs}
 use Rattle.rvgprof.specs.Answer.{runtime_text}
-use Rattle.rvgprof.proofs.run.write_profile.Goals as goal
+use Rattle.rvgprof.proofs.runs.write_profile.Goals as goal
 
 pub returns-in_err-create_output-clause-performs : goal.returns-in_err-create_output-clause-performs
 returns-in_err-create_output-clause-performs g c =

@@ -7,7 +7,7 @@ use Rattle.prof_machine.specs.declared.machine.Machine.{Machine}
 use Rattle.prof_machine.specs.Plan.{driven}
 use Rattle.rvgprof.specs.Answer.{file_acts, files_named, given_file_acts, run_text}
 use Rattle.rvgprof.proofs.Performing.{printed_performs, drive_fails, profile_is, image_is, file_as, given_as, given_nothing}
-use Rattle.rvgprof.proofs.run.perform.Goals as goal
+use Rattle.rvgprof.proofs.runs.perform.Goals as goal
 
 pub returns-in_err-drive-clause-performs : goal.returns-in_err-drive-clause-performs
 returns-in_err-drive-clause-performs g c = λ w stands none.

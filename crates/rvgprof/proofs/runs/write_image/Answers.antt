@@ -2,7 +2,7 @@ use Rattle.std.proofs.lemmas.Result.{err_from_is_err_and}
 use Rattle.gmon_block.specs.Layout.{layout_of}
 use Rattle.mcount_arcs.specs.Value.{block_parts}
 use Rattle.host_port.proofs.PerformingLemmas.{create_failed, write_failed, file_performs}
-use Rattle.rvgprof.proofs.run.write_image.Goals as goal
+use Rattle.rvgprof.proofs.runs.write_image.Goals as goal
 
 pub returns-in_err-create_output : goal.returns-in_err-create_output
 returns-in_err-create_output g c =

@@ -1,0 +1,85 @@
+-- The numbers of a demo's summary.
+use Rattle.std.proofs.Common.{◌≡◌, ◌≢◌, ◌<◌, ◌≤◌, ◌+◌, ℕ, suc, Bool, true, false, cond, List, [], ◌∷◌, ◌++◌, length, map, sum, slice_index, Option, Some, None, refl, sym, ap, ◌∙◌, arith, add-one}
+use Rattle.std.proofs.lemmas.Bool.{eq-eqb, ne_eqb}
+use Rattle.std.specs.List.{count_by, sum_by, range_with_len}
+use Rattle.std.proofs.lemmas.List.{map-id}
+use Rattle.std.proofs.lemmas.List.Sums.{sum_by_push}
+use Rattle.std.proofs.lemmas.List.FromFn.{map-range_with_len_more}
+use Rattle.call_cycles.specs.Graph.{GraphValue, IsGraph, component_count, entering_of, is_cycle}
+use Rattle.call_cycles.specs.Flow.{FlowValue, IsFlow, is_root, time_of, time_of_roots}
+use Rattle.call_cycles.specs.Sums.{numbers_below, sum_below, when}
+use Rattle.call_cycles.proofs.SumLemmas.{sum_front_le}
+use Rattle.propagate.proofs.BoundLemmas.{roots_have_all}
+use Rattle.elf32_syms.specs.declared.image.Image.{Image}
+use Rattle.elf32_syms.specs.declared.image.Symbol.{Symbol}
+use Rattle.gp_base.specs.declared.records.Form.TheVariants.{Bsd}
+use Rattle.gmon_data.specs.Content.{Content}
+use Rattle.symbol_shares.specs.Shares.{ShareTable}
+use Rattle.flat_report.specs.Sources.{Sources as ReportSources}
+use Rattle.mcount_arcs.specs.declared.sizes.Sizes.{Sizes}
+use Rattle.mcount_arcs.specs.Log.{distinct_count, kept_calls}
+use Rattle.prof_machine.specs.declared.ending.RunSummary.{RunSummary}
+use Rattle.prof_machine.specs.Value.{RunValue, StandsFor, summary_of}
+use Rattle.prof_machine.specs.World.{World}
+use Rattle.rvgprof.specs.declared.sources.Sources.{Sources}
+use Rattle.rvgprof.specs.Answer.{written_profile}
+use Rattle.rvgprof.specs.Found.{AreSources}
+use Rattle.rvgprof.specs.Reports.{demo_summary, sources_of}
+use Rattle.rvgprof.specs.Standing.{SumsUp}
+
+numbers_more : (n : ℕ) → numbers_below (n + 1) ≡ numbers_below n ++ n ∷ []
+numbers_more n = sym (map-id (numbers_below (n + 1))) ∙ map-range_with_len_more (λ (k : ℕ). k) 0 n n (omega arith) ∙ ap (λ (ks : List ℕ). ks ++ n ∷ []) (map-id (numbers_below n))
+
+-- how many of the numbers up to n pass
+pub count_more : (p : ℕ → Bool) (n : ℕ) → count_by p (numbers_below (n + 1)) ≡ count_by p (numbers_below n) + cond (p n) 1 0
+count_more p n = ap (count_by p) (numbers_more n) ∙ sum_by_push (λ (k : ℕ). cond (p k) 1 0) (numbers_below n) n
+
+pub count_yes : (p : ℕ → Bool) (n count : ℕ) → count ≡ count_by p (numbers_below n) → p n ≡ true → count + 1 ≡ count_by p (numbers_below (n + 1))
+count_yes p n count is yes_it = let one : ◌≡◌ {A = ℕ} (cond (p n) 1 0) 1 = ap (λ (b : Bool). cond {A = ℕ} b 1 0) yes_it in omega (arith, is, one, count_more p n)
+
+pub count_no : (p : ℕ → Bool) (n count : ℕ) → count ≡ count_by p (numbers_below n) → p n ≡ false → count ≡ count_by p (numbers_below (n + 1))
+count_no p n count is no_it = let none : ◌≡◌ {A = ℕ} (cond (p n) 1 0) 0 = ap (λ (b : Bool). cond {A = ℕ} b 1 0) no_it in omega (arith, is, none, count_more p n)
+
+-- the roots up to one more have no more than all
+pub root_fits : (g : GraphValue) (shares : List ℕ) (t : FlowValue) (c : ℕ) → IsGraph g → length shares ≡ g.functions → IsFlow g shares t → c < component_count g → is_root g c ≡ true
+    → sum_below c (λ d. when (is_root g d) (time_of t d)) + time_of t c ≤ sum shares
+root_fits g shares t c is each flow below root =
+    let f : ℕ → ℕ = λ d. when (is_root g d) (time_of t d) in
+    let here : f c ≡ time_of t c = ap (λ (b : Bool). when b (time_of t c)) root in
+    omega (arith, here, sum_front_le (suc c) (component_count g) f (omega arith), roots_have_all g shares is each t flow)
+
+module _ (g : GraphValue) (t : FlowValue) (c grains entering : ℕ) (so_far : grains ≡ sum_below c (λ d. when (is_root g d) (time_of t d))) (calls : entering ≡ entering_of g c) where
+  abbrev part : ℕ → ℕ
+  part d = when (is_root g d) (time_of t d)
+
+  one_more : sum_below (c + 1) part ≡ sum_below c part + part c
+  one_more = ap (λ (k : ℕ). sum_below k part) (add-one c)
+
+  root : entering ≡ 0 → is_root g c ≡ true
+  root none = eq-eqb (entering_of g c) 0 (sym calls ∙ none)
+
+  pub a_root : (self child : ℕ) → entering ≡ 0 → self ≡ slice_index t.self c → child ≡ slice_index t.child c → grains + (self + child) ≡ sum_below (c + 1) part
+  a_root self child none is_self is_child = let here : part c ≡ time_of t c = ap (λ (b : Bool). when b (time_of t c)) (root none) in omega (arith, one_more, here, so_far, is_self, is_child)
+
+  pub no_root : entering ≢ 0 → grains ≡ sum_below (c + 1) part
+  no_root some =
+      let here : part c ≡ 0 = ap (λ (b : Bool). when b (time_of t c)) (ne_eqb (entering_of g c) 0 (λ none. some (calls ∙ none))) in
+      omega (arith, one_more, here, so_far)
+
+  pub grains_fit : (shares : List ℕ) (self child : ℕ) → IsGraph g → length shares ≡ g.functions → IsFlow g shares t → c < component_count g → entering ≡ 0 → self ≡ slice_index t.self c → child ≡ slice_index t.child c → grains + (self + child) ≤ sum shares
+  grains_fit shares self child is each flow below none is_self is_child = omega (arith, so_far, is_self, is_child, root_fits g shares t c is each flow below (root none))
+
+-- a summary names no symbol
+pub any_symbols : (functions pairs : ℕ) (xs ys : List Symbol) (g : GraphValue) (t : FlowValue) (shares : ShareTable) (rate : ℕ) (run : Option RunSummary)
+    → demo_summary functions pairs (record { symbols = xs; graph = g; flow = t; shares = shares; rate = rate }) run ≡ demo_summary functions pairs (record { symbols = ys; graph = g; flow = t; shares = shares; rate = rate }) run
+any_symbols functions pairs xs ys g t shares rate None = refl
+any_symbols functions pairs xs ys g t shares rate (Some run) = refl
+
+-- the summary of a run that stands for a world is the one that is due
+pub summary_due : (functions : ℕ) (image : Image) (run : RunValue) (s : Sources) (total : Content) (rate : ℕ) (line : List ℕ) (z : Sizes) (w : World) → AreSources image total s → SumsUp functions run s line → StandsFor w run → run.machine.sizes ≡ z
+    → total ≡ written_profile Bsd z w.log rate → line ≡ demo_summary functions (distinct_count (kept_calls z w.log)) (sources_of image (written_profile Bsd z w.log rate)) (summary_of z w)
+summary_due functions image run s total rate line z w are sums stands same written =
+    sums w stands
+    ∙ ap (λ (y : Sizes). demo_summary functions (distinct_count (kept_calls y w.log)) (record { symbols = []; graph = s.graph; flow = s.flow; shares = s.shares; rate = s.rate }) (summary_of y w)) same
+    ∙ any_symbols functions (distinct_count (kept_calls z w.log)) [] image.symbols s.graph s.flow s.shares s.rate (summary_of z w)
+    ∙ ap (λ (x : ReportSources). demo_summary functions (distinct_count (kept_calls z w.log)) x (summary_of z w)) (are.value ∙ ap (sources_of image) written)

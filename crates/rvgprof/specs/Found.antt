@@ -1,0 +1,22 @@
+-- What the reports of a profile are made from, as it was found.
+use Rattle.std.specs.Prelude.{◌≡◌, ◌<◌, ◌≤◌, ◌^◌, length}
+use Rattle.elf32_syms.specs.declared.image.Image.{Image}
+use Rattle.gmon_data.specs.Content.{Content}
+use Rattle.call_cycles.specs.Graph.{IsGraph, all_calls}
+use Rattle.call_cycles.specs.Flow.{IsFlow}
+use Rattle.flat_report.specs.Sources.{Sources as ReportSources}
+use Rattle.rvgprof.specs.declared.sources.Sources.{Sources}
+use Rattle.rvgprof.specs.Reports.{sources_of}
+
+-- what a report of them is made from
+abbrev pub given_sources : Image → Sources → ReportSources
+given_sources image s = record { symbols = image.symbols; graph = s.graph; flow = s.flow; shares = s.shares; rate = s.rate }
+
+pub record AreSources (image : Image) (total : Content) (s : Sources) : Type 0 where
+  pub value : given_sources image s ≡ sources_of image total
+  pub functions : s.graph.functions ≡ length image.symbols
+  pub each : length s.shares.of ≡ length image.symbols
+  pub graph : IsGraph s.graph
+  pub flow : IsFlow s.graph s.shares.of s.flow
+  pub few : all_calls s.graph < 2 ^ 59
+  pub rate : 1 ≤ s.rate

@@ -1,0 +1,60 @@
+-- The reports of a profile, for a program.
+use Rattle.std.specs.Prelude.{ℕ, ◌+◌, List, ◌++◌, length, codes, Option, Some, None}
+use Rattle.std.specs.List.{count_by}
+use Rattle.std.specs.Option.{option_map_or}
+use Rattle.text_cols.specs.Columns.{decimal}
+use Rattle.elf32_syms.specs.declared.image.Image.{Image}
+use Rattle.gmon_data.specs.Content.{Content}
+use Rattle.symbol_shares.specs.Shares.{attributed_of, shares_of}
+use Rattle.call_cycles.specs.Graph.{GraphValue, component_count, is_cycle}
+use Rattle.call_cycles.specs.Flow.{time_of_roots}
+use Rattle.call_cycles.specs.Sums.{numbers_below}
+use Rattle.call_cycles.specs.Values.{profile_graph}
+use Rattle.propagate.specs.Solution.{flow_in}
+use Rattle.flat_report.specs.Sources.{Sources}
+use Rattle.flat_report.specs.FlatText.{flat_of}
+use Rattle.graph_report.specs.GraphText.{graph_text}
+use Rattle.prof_machine.specs.declared.ending.RunSummary.{RunSummary}
+
+-- the samples per second of a profile, and 100 where it has no unit
+abbrev pub rate_of : Content → ℕ
+rate_of p = option_map_or (λ u. u.rate) p.«unit» 100
+
+-- what its reports are made from: how its samples are shared among the symbols, and how time flows over the graph of
+-- its calls
+unfoldable pub sources_of : Image → Content → Sources
+sources_of image total =
+    let shares = shares_of total.hists image.symbols in
+    let graph = profile_graph total.arcs image.symbols in
+    record { symbols = image.symbols; graph = graph; flow = flow_in graph shares.of; shares = shares; rate = rate_of total }
+
+-- the flat profile, and the call graph
+abbrev pub flat_report_text : Image → Content → List ℕ
+flat_report_text image total = flat_of (sources_of image total)
+
+abbrev pub graph_report_text : Image → Content → List ℕ
+graph_report_text image total = graph_text (sources_of image total)
+
+-- ---- the summary of a demo
+
+-- how many components of a graph are cycles
+abbrev pub cycle_count : GraphValue → ℕ
+cycle_count g = count_by (is_cycle g) (numbers_below (component_count g))
+
+-- the functions of the demo, how its run went, the pairs of call site and callee that were counted, and the cycles
+unfoldable pub demo_run_line : ℕ → RunSummary → ℕ → ℕ → List ℕ
+demo_run_line functions run pairs cycles =
+    codes "demo " ++ decimal functions ++ codes ": " ++ decimal run.retired ++ codes " instructions, " ++ decimal run.samples ++ codes " samples, "
+    ++ decimal run.calls ++ codes " calls, " ++ decimal run.lost ++ codes " lost, " ++ decimal pairs ++ codes " arcs, " ++ decimal cycles ++ codes " cycles\n"
+
+-- the grains of all functions, and those of the components that no other one calls
+unfoldable pub grains_line : ℕ → ℕ → List ℕ
+grains_line attributed roots = codes "attributed " ++ decimal attributed ++ codes " grains, roots " ++ decimal roots ++ codes " grains\n"
+
+abbrev pub demo_text : ℕ → RunSummary → ℕ → Sources → List ℕ
+demo_text functions run pairs s = demo_run_line functions run pairs (cycle_count s.graph) ++ grains_line (attributed_of s.shares) (time_of_roots s.graph s.flow)
+
+-- the same of a run that ended
+abbrev pub demo_summary : ℕ → ℕ → Sources → Option RunSummary → List ℕ
+demo_summary functions pairs s None = codes ""
+demo_summary functions pairs s (Some run) = demo_text functions run pairs s

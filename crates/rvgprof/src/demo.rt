@@ -1,0 +1,244 @@
+//! The command `demo`.
+
+ghost use Rattle.std.specs.Prelude.{◌≡◌, ◌+◌, ◌<◌, ◌≤◌, ◌^◌, ◌++◌, [], false, Err, codes, decimal, length, map, string_bytes, sum, IfOk, IfErr, IsSome, OnOk};
+ghost use Rattle.std.specs.Option.{option_map};
+ghost use Rattle.call_cycles.specs.Graph.{GraphValue, IsGraph};
+ghost use Rattle.call_cycles.specs.Flow.{IsFlow, time_of_roots};
+ghost use Rattle.elf32_syms.specs.Image.{IsWithinLimits};
+ghost use Rattle.elf32_syms.specs.Owners.{IsAscending};
+ghost use Rattle.host_port.specs.Performing.{Performs};
+ghost use Rattle.prof_machine.specs.Setup.{IsSetup};
+ghost use Rattle.rvgprof.specs.Answer.{demo_course, file_acts, given_file_acts};
+ghost use Rattle.rvgprof.specs.Contract.{Acted};
+ghost use Rattle.rvgprof.specs.Items.{name_of};
+ghost use Rattle.rvgprof.specs.Reports.{cycle_count, demo_run_line, grains_line};
+ghost use Rattle.rvgprof.specs.Standing.{IsDemoRead, IsDemoRefused, RunsDemo, Stands, SumsUp, TellsDemo};
+
+use crate::items::name_at;
+use crate::outcome::{Done, Fault};
+use crate::printing::print_text;
+use crate::refusals::{elf_fault, report_fault};
+use crate::runs::run_alone;
+use crate::sources::{Sources, sources_of};
+use call_cycles::Graph;
+use elf32_syms::Image;
+use flat_report::ReportRefusal;
+use gmon_bsd::run_profile;
+use host_port::{Failed, Host, write_all_of};
+use prof_machine::{Run, RunSummary, Setup};
+use propagate::Flow;
+use std::alloc::Global;
+use symbol_shares::Shares;
+use text_cols::Line;
+
+/// Makes the demo program of so many functions, writes it to the file that a word names where one does,
+/// runs it, and prints a summary of its run.
+pub fn demo<H: Host>(
+    alloc: Global,
+    words: &[String],
+    functions: u32,
+    elf: Option<u32>,
+    setup: Setup,
+    host: &mut H,
+) -> Result<Done, Fault>
+    requires stands { Stands (map string_bytes words.now) (H.outside host.old) (H.outside host.old) 0 []
+        (demo_course functions (option_map (name_of (map string_bytes words.now)) elf) setup) }
+    requires some { 1 ≤ functions }
+    requires few { functions ≤ 2000 }
+    requires within { IsSetup setup }
+    ensures { Acted (map string_bytes words.now) (H.outside host.old) (H.outside host.new) result }
+{
+    let (bytes, image) = match made_program(alloc, functions) {
+        Ok(made) => made,
+        Err(fault) => return Err(fault),
+    };
+    match write_program(words, elf, bytes.as_slice(), host) {
+        Ok(()) => run_demo(
+            alloc,
+            words,
+            functions,
+            &image,
+            bytes.as_slice(),
+            setup,
+            host,
+        ),
+        Err(_) => Err(Fault::WriteFault),
+    }
+}
+
+/// Runs the demo program, and prints a summary of its run.
+fn run_demo<H: Host>(
+    alloc: Global,
+    words: &[String],
+    functions: u32,
+    image: &Image,
+    bytes: &[u8],
+    setup: Setup,
+    host: &mut H,
+) -> Result<Done, Fault>
+    requires limits { IsWithinLimits (length bytes.now) image.now }
+    requires within { IsSetup setup }
+    ensures { RunsDemo (map string_bytes words.now) functions setup image.now bytes.now (H.outside host.old) (H.outside host.new) result }
+{
+    let run = match run_alone(alloc, words, image, bytes, setup, host) {
+        Ok(run) => run,
+        Err(fault) => return Err(fault),
+    };
+    match tell_demo(alloc, functions, image, &run, setup.rate, host) {
+        Ok(()) => Ok(Done {
+            run: Some(run.summary()),
+        }),
+        Err(refusal) => Err(report_fault(refusal)),
+    }
+}
+
+/// The demo program: its bytes and its image.
+fn made_program(alloc: Global, functions: u32) -> Result<(Vec<u8>, Image), Fault>
+    requires some { 1 ≤ functions }
+    requires few { functions ≤ 2000 }
+    ensures read { IfOk result (λ made. IsDemoRead functions made.0.items made.1) }
+    ensures refused { IfErr result (IsDemoRefused functions) }
+{
+    let Ok(bytes) = demo_elf::program(alloc, functions) else {
+        return Err(Fault::OutOfMemory);
+    };
+    match elf32_syms::read(alloc, bytes.as_slice()) {
+        Ok(image) => Ok((bytes, image)),
+        Err(refusal) => Err(elf_fault(refusal)),
+    }
+}
+
+/// Writes the program to the file that a word names, where one does.
+fn write_program<H: Host>(
+    words: &[String],
+    elf: Option<u32>,
+    bytes: &[u8],
+    host: &mut H,
+) -> Result<(), Failed>
+    requires { (H.outside host.old).is_writing ≡ false }
+    ensures { Performs (given_file_acts (option_map (name_of (map string_bytes words.now)) elf) bytes.now) (H.outside host.old) (H.outside host.new) result }
+{
+    match elf {
+        None => Ok(()),
+        Some(word) => write_file(name_at(words, word), bytes, host),
+    }
+}
+
+/// Writes a file.
+fn write_file<H: Host>(name: &str, bytes: &[u8], host: &mut H) -> Result<(), Failed>
+    requires { (H.outside host.old).is_writing ≡ false }
+    ensures { Performs (file_acts name.now bytes.now) (H.outside host.old) (H.outside host.new) result }
+{
+    host.create_output(name)?;
+    write_all_of(host, bytes)?;
+    host.close_output()
+}
+
+/// Prints the summary of a run.
+fn tell_demo<H: Host>(
+    alloc: Global,
+    functions: u32,
+    image: &Image,
+    run: &Run,
+    rate: u32,
+    host: &mut H,
+) -> Result<(), ReportRefusal>
+    requires ascending { IsAscending image.now.symbols }
+    requires ended { IsSome run.now.ending }
+    ensures { TellsDemo functions image.now run.now rate (H.outside host.old) (H.outside host.new) result }
+{
+    let total = run_profile(alloc, run.gmon(), rate)?;
+    let sources = sources_of(alloc, image, &total)?;
+    print_text(summary_of(functions, run, &sources).bytes(), host)
+}
+
+/// The two lines of a demo's summary: how its run went, and how its samples were attributed.
+#[tactic(auto, using(text_cols::proofs::Lengths::lengths))]
+fn summary_of(functions: u32, run: &Run, sources: &Sources) -> Line
+    requires ended { IsSome run.now.ending }
+    requires few { length sources.now.shares.of ≡ sources.now.graph.functions }
+    requires flow { IsFlow sources.now.graph sources.now.shares.of sources.now.flow }
+    requires graph { IsGraph sources.now.graph }
+    ensures { SumsUp functions run.now sources.now result }
+{
+    let pairs = run.gmon().pairs();
+    let cycles = cycles_of(&sources.graph);
+    let attributed = sources.shares.attributed();
+    let roots = roots_of(&sources.graph, &sources.flow, &sources.shares);
+    let mut line = Line::new();
+    put_run(&mut line, functions, run.summary(), pairs, cycles);
+    put_grains(&mut line, attributed, roots);
+    line
+}
+
+/// How a demo's run went.
+#[tactic(auto, using(text_cols::proofs::Lengths::lengths), unfolding(crate::specs::Reports::demo_run_line))]
+fn put_run(line: &mut Line, functions: u32, run: RunSummary, pairs: u32, cycles: u32)
+    requires { line.old ≡ [] }
+    ensures text { line.new ≡ demo_run_line functions run pairs cycles }
+    ensures short { length line.new ≤ 140 }
+{
+    put_count(line, b"demo ", functions);
+    put_count(line, b": ", run.retired);
+    put_count(line, b" instructions, ", run.samples);
+    put_count(line, b" samples, ", run.calls);
+    put_count(line, b" calls, ", run.lost);
+    put_count(line, b" lost, ", pairs);
+    put_count(line, b" arcs, ", cycles);
+    line.put(b" cycles\n");
+}
+
+/// Adds a text and a number.
+#[tactic(auto, using(text_cols::proofs::Lengths::lengths))]
+fn put_count(line: &mut Line, text: &[u8], count: u32)
+    requires { length line.old + length text.now + 10 ≤ 256 }
+    ensures text { line.new ≡ line.old ++ (text.now ++ decimal count) }
+    ensures short { length line.new ≤ length line.old + length text.now + 10 }
+{
+    line.put(text);
+    line.decimal(u128::from(count));
+}
+
+/// How the samples of a demo's run were attributed: all grains of functions, and those of the components
+/// that no other one calls.
+#[tactic(auto, using(text_cols::proofs::Lengths::lengths), unfolding(crate::specs::Reports::grains_line))]
+fn put_grains(line: &mut Line, attributed: u128, roots: u128)
+    requires room { length line.old ≤ 140 }
+    ensures { line.new ≡ line.old ++ grains_line attributed roots }
+{
+    line.put(b"attributed ");
+    line.decimal(attributed);
+    line.put(b" grains, roots ");
+    line.decimal(roots);
+    line.put(b" grains\n");
+}
+
+/// How many components are cycles.
+fn cycles_of(graph: &Graph) -> u32
+    ensures { result ≡ cycle_count graph.now }
+{
+    let mut cycles = 0;
+    for c in 0..graph.component_count() {
+        if graph.is_cycle(c) {
+            cycles += 1;
+        }
+    }
+    cycles
+}
+
+/// The grains of the components that no other one calls, with what they call.
+fn roots_of(graph: &Graph, flow: &Flow, _shares: &Shares) -> u128
+    requires each { length _shares.now.of ≡ graph.now.functions }
+    requires flow { IsFlow graph.now _shares.now.of flow.now }
+    requires few { sum _shares.now.of < 2 ^ 65 }
+    ensures roots { result ≡ time_of_roots graph.now flow.now }
+    ensures within { result < 2 ^ 65 }
+{
+    let mut grains = 0;
+    for c in 0..graph.component_count() {
+        if graph.entering(c) == 0 {
+            grains += flow.self_of(c) + flow.child_of(c);
+        }
+    }
+    grains
+}

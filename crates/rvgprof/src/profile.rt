@@ -1,0 +1,53 @@
+//! The command `profile`.
+
+ghost use Rattle.std.specs.Prelude.{◌≡◌, [], map, string_bytes, IfOk};
+ghost use Rattle.elf32_syms.specs.Owners.{IsAscending};
+ghost use Rattle.prof_machine.specs.Setup.{IsSetup};
+ghost use Rattle.rvgprof.specs.Answer.{files_named, profile_course};
+ghost use Rattle.rvgprof.specs.Contract.{Acted};
+ghost use Rattle.rvgprof.specs.Standing.{Stands};
+
+use crate::inputs::read_program;
+use crate::outcome::{Done, Fault};
+use crate::printing::print_reports;
+use crate::refusals::report_fault;
+use crate::runs::{RunOutputs, run_program};
+use crate::words::Shown;
+use gmon_bsd::run_profile;
+use host_port::Host;
+use prof_machine::Setup;
+use std::alloc::Global;
+
+/// Runs a program, writes its profile, and prints reports of it. The file is not read again.
+pub fn profile<H: Host>(
+    alloc: Global,
+    words: &[String],
+    elf: u32,
+    outputs: RunOutputs,
+    setup: Setup,
+    shown: Shown,
+    host: &mut H,
+) -> Result<Done, Fault>
+    requires stands { Stands (map string_bytes words.now) (H.outside host.old) (H.outside host.old) 0 []
+        (profile_course elf (files_named (map string_bytes words.now) outputs.gmon outputs.form outputs.image) setup shown) }
+    requires within { IsSetup setup }
+    ensures { Acted (map string_bytes words.now) (H.outside host.old) (H.outside host.new) result }
+{
+    let (bytes, image) = match read_program(alloc, words, elf, host) {
+        Ok(read) => read,
+        Err(fault) => return Err(fault),
+    };
+    let run = match run_program(alloc, words, &image, bytes.as_slice(), outputs, setup, host) {
+        Ok(run) => run,
+        Err(fault) => return Err(fault),
+    };
+    let Ok(total) = run_profile(alloc, run.gmon(), setup.rate) else {
+        return Err(Fault::OutOfMemory);
+    };
+    match print_reports(alloc, shown, &image, &total, host) {
+        Ok(()) => Ok(Done {
+            run: Some(run.summary()),
+        }),
+        Err(refusal) => Err(report_fault(refusal)),
+    }
+}

@@ -1,0 +1,151 @@
+//! Runs of programs, and what they write.
+
+ghost use Rattle.std.specs.Prelude.{◌≡◌, [], true, false, length, map, string_bytes, IsSome, IfOk, IfSome, OnOk, Some};
+ghost use Rattle.elf32_syms.specs.Image.{IsWithinLimits};
+ghost use Rattle.gmon_block.specs.Layout.{layout_of};
+ghost use Rattle.host_port.specs.Host.{Puts};
+ghost use Rattle.host_port.specs.declared.side.Side.TheVariants.{File};
+ghost use Rattle.host_port.specs.Performing.{Performs};
+ghost use Rattle.mcount_arcs.specs.Value.{block_parts};
+ghost use Rattle.prof_machine.specs.Plan.{driven};
+ghost use Rattle.prof_machine.specs.Setup.{IsSetup};
+ghost use Rattle.prof_machine.specs.Value.{IsLive, StandsFor};
+ghost use Rattle.prof_machine.specs.World.{World};
+ghost use Rattle.rvgprof.specs.Answer.{file_acts, files_named, given_file_acts, run_acts, runtime_text};
+ghost use Rattle.rvgprof.specs.Items.{name_of};
+ghost use Rattle.rvgprof.specs.Standing.{IsRunOf, RunsProgram};
+ghost use Rattle.std.specs.Option.{option_map};
+
+use crate::items::name_at;
+use crate::outcome::Fault;
+use crate::refusals::start_fault;
+use elf32_syms::Image;
+use gp_base::Form;
+use host_port::{Failed, Host, write_all_of};
+use mcount_arcs::Gmon;
+use prof_machine::{Run, Setup};
+use std::alloc::Global;
+
+/// What a run writes: its profile in a form, and perhaps the memory of its runtime, named by words.
+#[derive(Clone, Copy)]
+pub struct RunOutputs {
+    pub gmon: u32,
+    pub form: Form,
+    pub image: Option<u32>,
+}
+
+/// Runs a program to its end, and writes its files.
+pub fn run_program<H: Host>(
+    alloc: Global,
+    words: &[String],
+    image: &Image,
+    bytes: &[u8],
+    outputs: RunOutputs,
+    setup: Setup,
+    host: &mut H,
+) -> Result<Run, Fault>
+    requires limits { IsWithinLimits (length bytes.now) image.now }
+    requires setup { IsSetup setup }
+    requires idle { (H.outside host.old).is_writing ≡ false }
+    ensures runs { RunsProgram (map string_bytes words.now)
+        (run_acts (files_named (map string_bytes words.now) outputs.gmon outputs.form outputs.image) setup.rate) setup image.now bytes.now
+        (H.outside host.old) (H.outside host.new) result }
+    ensures ended { IfOk result (IsRunOf image.now bytes.now setup) }
+{
+    let mut run = match Run::start(alloc, image, bytes, setup) {
+        Ok(run) => run,
+        Err(refusal) => return Err(start_fault(refusal)),
+    };
+    match perform(&mut run, words, outputs, setup.rate, host) {
+        Ok(()) => Ok(run),
+        Err(_) => Err(Fault::WriteFault),
+    }
+}
+
+/// Runs a program to its end, and writes nothing.
+pub fn run_alone<H: Host>(
+    alloc: Global,
+    words: &[String],
+    image: &Image,
+    bytes: &[u8],
+    setup: Setup,
+    host: &mut H,
+) -> Result<Run, Fault>
+    requires limits { IsWithinLimits (length bytes.now) image.now }
+    requires setup { IsSetup setup }
+    ensures runs { RunsProgram (map string_bytes words.now) (λ z w. w.prints) setup image.now bytes.now
+        (H.outside host.old) (H.outside host.new) result }
+    ensures ended { IfOk result (IsRunOf image.now bytes.now setup) }
+{
+    let mut run = match Run::start(alloc, image, bytes, setup) {
+        Ok(run) => run,
+        Err(refusal) => return Err(start_fault(refusal)),
+    };
+    match run.drive(host) {
+        Ok(_) => Ok(run),
+        Err(_) => Err(Fault::WriteFault),
+    }
+}
+
+/// Drives a run to its end, and then writes its files.
+fn perform<H: Host>(
+    run: &mut Run,
+    words: &[String],
+    outputs: RunOutputs,
+    rate: u32,
+    host: &mut H,
+) -> Result<(), Failed>
+    requires live { IsLive run.old }
+    requires idle { (H.outside host.old).is_writing ≡ false }
+    ensures performs { (w : World) → StandsFor w run.old → w.prints ≡ []
+        → Performs (run_acts (files_named (map string_bytes words.now) outputs.gmon outputs.form outputs.image) rate run.old.machine.sizes (driven run.old.machine w)) (H.outside host.old) (H.outside host.new) result }
+    ensures stands { OnOk result ((w : World) → StandsFor w run.old → StandsFor (driven run.old.machine w) run.new) }
+    ensures machine { OnOk result (run.new.machine ≡ run.old.machine) }
+    ensures ended { OnOk result (IsSome run.new.ending) }
+{
+    run.drive(host)?;
+    let name = name_at(words, outputs.gmon);
+    write_profile(run.gmon(), outputs.form, name, rate, host)?;
+    match outputs.image {
+        Some(image) => write_image(run.gmon(), name_at(words, image), host),
+        None => Ok(()),
+    }
+}
+
+/// Writes the profile of a runtime in a form to the named file.
+fn write_profile<H: Host>(
+    gmon: &Gmon,
+    form: Form,
+    name: &str,
+    rate: u32,
+    host: &mut H,
+) -> Result<(), Failed>
+    requires { (H.outside host.old).is_writing ≡ false }
+    ensures performs { Performs (file_acts name.now (runtime_text form gmon.now rate)) (H.outside host.old) (H.outside host.new) result }
+    ensures idle { OnOk result ((H.outside host.new).is_writing ≡ false) }
+{
+    host.create_output(name)?;
+    write_run(gmon, form, rate, host)?;
+    host.close_output()
+}
+
+/// Writes the profile of a runtime in a form to the file that is being written.
+fn write_run<H: Host>(gmon: &Gmon, form: Form, rate: u32, host: &mut H) -> Result<(), Failed>
+    requires { (H.outside host.old).is_writing ≡ true }
+    ensures { Puts File (runtime_text form gmon.now rate) (H.outside host.old) (H.outside host.new) result }
+{
+    match form {
+        Form::Bsd => gmon_bsd::write_run(gmon, rate, host),
+        Form::Gnu => gmon_gnu::write_run(gmon, rate, host),
+    }
+}
+
+/// Writes the memory of a runtime to the named file.
+fn write_image<H: Host>(gmon: &Gmon, name: &str, host: &mut H) -> Result<(), Failed>
+    requires { (H.outside host.old).is_writing ≡ false }
+    ensures { Performs (file_acts name.now (layout_of (block_parts gmon.now))) (H.outside host.old) (H.outside host.new) result }
+{
+    host.create_output(name)?;
+    write_all_of(host, gmon.block_bytes())?;
+    host.close_output()
+}
