@@ -1,29 +1,59 @@
--- The order of entries: those that compare alike are one.
-use Rattle.std.proofs.Common.{◌≡◌, ℕ, List, sym, ap}
+-- The order of functions by their entries: there is one order only.
+use Rattle.std.proofs.Common.{◌≡◌, ℕ, Bool, ap, ◌∙◌}
 use Rattle.std.specs.declared.cmp.Ordering.{Ordering}
-use Rattle.std.specs.Ordering.{nat_cmp, is_lt}
-use Rattle.std.specs.Cmp.{IsTotalOrder, nat_cmp_total, then_total, on_total}
+use Rattle.std.specs.declared.cmp.Ordering.TheVariants.{Less, Equal, Greater}
+use Rattle.std.specs.Ordering.{nat_cmp, ordering_then, is_lt}
 use Rattle.std.specs.Cmp.Lexicographic.{slice_cmp}
+use Rattle.std.specs.Cmp.{IsTotalOrder, IsStrictWeakOrder, nat_cmp_total, then_total, on_total}
 use Rattle.std.proofs.lemmas.Cmp.{nat_list_cmp_total, back_total}
-use Rattle.std.proofs.lemmas.Map.Lookups.{CmpEqualImpliesEq, exact_unsigned, exact_bytes, exact_pairs}
-use Rattle.flat_report.specs.Entries.{Entry, entry_cmp, comes_before}
+use Rattle.std.proofs.lemmas.List.Sorted.{ranks_by}
+use Rattle.std.proofs.lemmas.Map.Lookups.{CmpEqualImpliesEq, exact_unsigned}
+use Rattle.flat_report.specs.Sources.{Sources, name_of, share_of, calls_of}
+use Rattle.flat_report.specs.Entries.{Entry, entry_of, entry_cmp, comes_before}
+use Rattle.flat_report.specs.Rows.{entry_of_row, IsRowOf}
+use Rattle.flat_report.specs.declared.rows.Row.{Row}
 use Rattle.flat_report.proofs.OrderLemmas.{IsExactOrder, order_of}
 
 entry_total : IsTotalOrder entry_cmp
 entry_total =
-    then_total (on_total (λ (e : Entry). e.share) (back_total nat_cmp_total))
-    (then_total (on_total (λ (e : Entry). e.name) nat_list_cmp_total) (on_total (λ (e : Entry). e.addr) nat_cmp_total))
+    then_total (on_total (λ (p : ℕ × Entry). p.1.share) (back_total nat_cmp_total))
+    (then_total (on_total (λ (p : ℕ × Entry). p.1.calls) (back_total nat_cmp_total))
+    (then_total (on_total (λ (p : ℕ × Entry). p.1.name) nat_list_cmp_total) (on_total (λ (p : ℕ × Entry). p.0) nat_cmp_total)))
 
-entry_exact : CmpEqualImpliesEq entry_cmp
-entry_exact a b h =
-    ap (λ (p : ℕ × (List ℕ × ℕ)). record { share = p.0; name = p.1.0; addr = p.1.1 })
-    (exact_pairs (λ x y. nat_cmp y x) _ (λ x y e. sym (exact_unsigned y x e)) (exact_pairs (slice_cmp nat_cmp) nat_cmp exact_bytes exact_unsigned) (a.share, (a.name, a.addr)) (b.share, (b.name, b.addr)) h)
+then_equal : (first second : Ordering) → ordering_then first second ≡ Equal → second ≡ Equal
+then_equal Less second h = absurd cc
+then_equal Equal second h = h
+then_equal Greater second h = absurd cc
 
-pub entry_order : IsExactOrder comes_before
+abbrev function_cmp : Sources → ℕ → ℕ → Ordering
+function_cmp s f h = entry_cmp (f, entry_of s f) (h, entry_of s h)
+
+-- functions that compare alike are one
+function_exact : (s : Sources) → CmpEqualImpliesEq (function_cmp s)
+function_exact s f h same =
+    let by_number = nat_cmp f h in
+    let by_name = ordering_then (slice_cmp nat_cmp (name_of s f) (name_of s h)) by_number in
+    let by_calls = ordering_then (nat_cmp (calls_of s.graph h) (calls_of s.graph f)) by_name in
+    exact_unsigned f h (then_equal _ by_number (then_equal _ by_name (then_equal (nat_cmp (share_of s h) (share_of s f)) by_calls same)))
+
+pub function_order : (s : Sources) → IsExactOrder (comes_before s)
 unfolding comes_before
-entry_order = order_of entry_cmp entry_total entry_exact
+function_order s = order_of (function_cmp s) (on_total (λ (f : ℕ). (f, entry_of s f)) entry_total) (function_exact s)
+
+-- ---- rows
+
+abbrev pub row_before : Row → Row → Bool
+row_before a b = is_lt (entry_cmp (a.number, entry_of_row a) (b.number, entry_of_row b))
+
+pub row_order : IsStrictWeakOrder row_before
+row_order = ranks_by entry_total (λ (row : Row). (row.number, entry_of_row row))
 
 -- what a comparison says of it
-pub compared : (a b : Entry) (o : Ordering) → o ≡ entry_cmp a b → is_lt o ≡ comes_before a b
-unfolding comes_before
+pub compared : (a b : Row) (o : Ordering) → o ≡ entry_cmp (a.number, entry_of_row a) (b.number, entry_of_row b) → is_lt o ≡ row_before a b
 compared a b o h = ap is_lt h
+
+-- rows of functions are ordered as these
+pub rows_before : (s : Sources) (a b : Row) → IsRowOf s a → IsRowOf s b → row_before a b ≡ comes_before s a.number b.number
+unfolding comes_before
+rows_before s a b is_a is_b =
+    ap (λ (e : Entry). is_lt (entry_cmp (a.number, e) (b.number, entry_of_row b))) is_a ∙ ap (λ (e : Entry). is_lt (entry_cmp (a.number, entry_of s a.number) (b.number, e))) is_b

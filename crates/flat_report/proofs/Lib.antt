@@ -1,5 +1,6 @@
 pub mod OrderLemmas
 pub mod EntryOrder
-pub mod EntryLemmas
+pub mod FunctionLemmas
+pub mod CallLemmas
 pub mod RowLemmas
 pub mod ReportLemmas

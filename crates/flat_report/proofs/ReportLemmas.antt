@@ -1,14 +1,13 @@
 -- A report is what was printed.
-use Rattle.std.proofs.Common.{◌≡◌, ℕ, List, ◌++◌, Ok, Err, ap, subst}
+use Rattle.std.proofs.Common.{◌≡◌, ℕ, List, Ok, Err, ap, subst}
 use Rattle.host_port.specs.Outside.{Outside}
 use Rattle.host_port.specs.Host.{Puts}
 use Rattle.host_port.specs.declared.side.Side.TheVariants.{Output}
 use Rattle.host_port.specs.declared.host.Failed.{Failed}
-use Rattle.elf32_syms.specs.declared.image.Symbol.{Symbol}
-use Rattle.symbol_shares.specs.Shares.{ShareTable, attributed_of}
 use Rattle.flat_report.specs.declared.refusal.ReportRefusal.TheVariants.{WriteFault}
-use Rattle.flat_report.specs.Entries.{Entry, entries_of, ordered}
-use Rattle.flat_report.specs.FlatText.{flat_text, header_text, lines_of}
+use Rattle.flat_report.specs.Sources.{Sources}
+use Rattle.flat_report.specs.Entries.{Entry, entries_of}
+use Rattle.flat_report.specs.FlatText.{flat_text, text_of}
 use Rattle.flat_report.specs.Reports.{Reports}
 
 -- what was printed whole is the report
@@ -19,7 +18,7 @@ report_whole text whole x y u v same puts = subst (λ (t : List ℕ). Reports t 
 pub report_cut : (text whole : List ℕ) (x y : Outside) (e : Failed) → text ≡ whole → Puts {T = Unit {0}} {E = Failed} Output text x y (Err e) → Reports whole x y (Err WriteFault)
 report_cut text whole x y e same puts = subst (λ (t : List ℕ). Reports t x y (Err WriteFault)) same (record { takes = record { done = tt; part = puts.takes.part; input = puts.takes.input }; counts = record { own = puts.counts.own; read = puts.counts.read; err = puts.counts.err } })
 
--- the text of the entries in order is the flat profile
-pub text_in_order : (symbols : List Symbol) (t : ShareTable) (rate : ℕ) (entries : List Entry) → entries ≡ ordered (entries_of symbols t) → header_text t rate ++ lines_of (attributed_of t) rate entries ≡ flat_text symbols t rate
+-- the text of the entries is the flat profile
+pub text_of_entries : (s : Sources) (entries : List Entry) → entries ≡ entries_of s → text_of s entries ≡ flat_text s
 unfolding flat_text
-text_in_order symbols t rate entries same = ap (λ (es : List Entry). header_text t rate ++ lines_of (attributed_of t) rate es) same
+text_of_entries s entries same = ap (text_of s) same

@@ -1,38 +1,43 @@
--- The functions that have a line in a report, and their order.
-use Rattle.std.specs.Prelude.{ℕ, Bool, nat_lt, List, map, filter, slice_index}
-use Rattle.std.specs.List.{enumerate_from}
+-- The functions that have a line in the flat profile, their order, and what the lines show of them.
+use Rattle.std.specs.Prelude.{ℕ, Bool, ◌||◌, nat_lt, List, map, filter}
 use Rattle.std.specs.declared.cmp.Ordering.{Ordering}
 use Rattle.std.specs.Ordering.{nat_cmp, ordering_then, is_lt}
 use Rattle.std.specs.Cmp.Lexicographic.{slice_cmp}
-use Rattle.elf32_syms.specs.declared.image.Symbol.{Symbol}
-use Rattle.symbol_shares.specs.Shares.{ShareTable}
+use Rattle.call_cycles.specs.Sums.{numbers_below}
 use Rattle.flat_report.specs.Order.{in_order}
+use Rattle.flat_report.specs.Sources.{Sources, name_of, share_of, total_of, calls_of}
 
--- a function: its grains, its name and its address
+-- what a line shows of a function: its grains, those with what it gets from those that it calls, its calls and its name
 pub record Entry : Type 0 where
   pub share : ℕ
+  pub total : ℕ
+  pub calls : ℕ
   pub name : List ℕ
-  pub addr : ℕ
 
-abbrev pub has_share : Entry → Bool
-has_share e = nat_lt 0 e.share
+abbrev pub entry_of : Sources → ℕ → Entry
+entry_of s f = record { share = share_of s f; total = total_of s f; calls = calls_of s.graph f; name = name_of s f }
 
--- a symbol, given with its number, and its share
-abbrev pub entry_of : ShareTable → ℕ × Symbol → Entry
-entry_of t numbered = record { share = slice_index t.of numbered.0; name = numbered.1.name; addr = numbered.1.addr }
+-- a function has a line where it has a share or is called
+abbrev pub has_line : Entry → Bool
+has_line e = nat_lt 0 e.share || nat_lt 0 e.calls
 
--- the functions with a share, in the order of the symbols
-unfoldable pub entries_of : List Symbol → ShareTable → List Entry
-entries_of symbols t = filter has_share (map (entry_of t) (enumerate_from 0 symbols))
+-- the functions that have a line, in the order of their addresses
+unfoldable pub functions_of : Sources → List ℕ
+functions_of s = filter (λ f. has_line (entry_of s f)) (numbers_below s.graph.functions)
 
--- the greater share comes first, then the lesser name by its bytes, then the lesser address
-abbrev pub entry_cmp : Entry → Entry → Ordering
+-- Entries, each given with its function: the greater share comes first, then the more calls, then the lesser name by its
+-- bytes, then the lesser address.
+abbrev pub entry_cmp : ℕ × Entry → ℕ × Entry → Ordering
 entry_cmp a b =
-    ordering_then (nat_cmp b.share a.share) (ordering_then (slice_cmp nat_cmp a.name b.name) (nat_cmp a.addr b.addr))
+    ordering_then (nat_cmp b.1.share a.1.share)
+    (ordering_then (nat_cmp b.1.calls a.1.calls) (ordering_then (slice_cmp nat_cmp a.1.name b.1.name) (nat_cmp a.0 b.0)))
 
-unfoldable pub comes_before : Entry → Entry → Bool
-comes_before a b = is_lt (entry_cmp a b)
+unfoldable pub comes_before : Sources → ℕ → ℕ → Bool
+comes_before s f h = is_lt (entry_cmp (f, entry_of s f) (h, entry_of s h))
 
--- each entry in its place
-abbrev pub ordered : List Entry → List Entry
-ordered entries = in_order comes_before entries
+-- the functions that have a line, in the order of their lines
+abbrev pub ordered : Sources → List ℕ
+ordered s = in_order (comes_before s) (functions_of s)
+
+abbrev pub entries_of : Sources → List Entry
+entries_of s = map (entry_of s) (ordered s)

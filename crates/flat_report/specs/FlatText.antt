@@ -1,14 +1,18 @@
 -- The text of the flat profile: where the time went, function by function.
-use Rattle.std.specs.Prelude.{ℕ, ◌+◌, ◌*◌, List, ◌++◌, take, codes}
+use Rattle.std.specs.Prelude.{ℕ, ◌+◌, ◌*◌, ◌==◌, List, ◌++◌, take, codes, if◌then◌else◌}
 use Rattle.std.specs.List.{flat_map, enumerate_from, sum_by}
 use Rattle.text_cols.specs.Columns.{decimal, hundredths_of, right_of, spaces}
-use Rattle.elf32_syms.specs.declared.image.Symbol.{Symbol}
 use Rattle.symbol_shares.specs.Shares.{ShareTable, attributed_of}
-use Rattle.flat_report.specs.Entries.{Entry, entries_of, ordered}
+use Rattle.flat_report.specs.Sources.{Sources}
+use Rattle.flat_report.specs.Entries.{Entry, entries_of}
 
 -- grains in seconds, at so many samples of 1,000,000 grains a second
 abbrev pub seconds_of : ℕ → ℕ → List ℕ
 seconds_of rate grains = hundredths_of grains (1000000 * rate)
+
+-- grains in milliseconds a call
+abbrev pub milliseconds_of : ℕ → ℕ → ℕ → List ℕ
+milliseconds_of rate grains calls = hundredths_of (1000 * grains) (1000000 * rate * calls)
 
 -- the grains of all functions and of none, and the rate
 unfoldable pub totals_line : ShareTable → ℕ → List ℕ
@@ -20,14 +24,20 @@ unfoldable pub header_text : ShareTable → ℕ → List ℕ
 header_text t rate =
     codes "flat profile\n" ++ totals_line t rate ++ codes "  %time   cumulative       self      calls  self ms/call  total ms/call  name\n"
 
+-- the calls of a function, and a call's part of its own time and of its total; without calls nothing
+unfoldable pub call_columns_of : ℕ → Entry → List ℕ
+call_columns_of rate e =
+    if e.calls == 0 then spaces 40
+    else right_of (decimal e.calls) 11 ++ right_of (milliseconds_of rate e.share e.calls) 14 ++ right_of (milliseconds_of rate e.total e.calls) 15
+
 -- In front of a function's name: its part of what all functions have, in percent, the seconds of the lines up to this
--- one, and its own. The three columns on calls are empty.
-unfoldable pub columns_of : ℕ → ℕ → ℕ → ℕ → List ℕ
-columns_of total rate cumulative share =
-    right_of (hundredths_of (100 * share) total) 7 ++ right_of (seconds_of rate cumulative) 13 ++ right_of (seconds_of rate share) 11 ++ spaces 40 ++ codes "  "
+-- one, and its own, and the columns on its calls. Where no function has anything, the part is 0.
+unfoldable pub columns_of : ℕ → ℕ → ℕ → Entry → List ℕ
+columns_of total rate cumulative e =
+    right_of (hundredths_of (100 * e.share) total) 7 ++ right_of (seconds_of rate cumulative) 13 ++ right_of (seconds_of rate e.share) 11 ++ call_columns_of rate e ++ codes "  "
 
 unfoldable pub line_of : ℕ → ℕ → ℕ → Entry → List ℕ
-line_of total rate cumulative e = columns_of total rate cumulative e.share ++ e.name ++ codes "\n"
+line_of total rate cumulative e = columns_of total rate cumulative e ++ e.name ++ codes "\n"
 
 -- the grains of the first n entries
 abbrev pub cumulative_of : List Entry → ℕ → ℕ
@@ -41,6 +51,10 @@ line_at total rate entries numbered = line_of total rate (cumulative_of entries 
 abbrev pub lines_of : ℕ → ℕ → List Entry → List ℕ
 lines_of total rate entries = flat_map (line_at total rate entries) (enumerate_from 0 entries)
 
--- the flat profile: a line for each function with a share, in order
-unfoldable pub flat_text : List Symbol → ShareTable → ℕ → List ℕ
-flat_text symbols t rate = header_text t rate ++ lines_of (attributed_of t) rate (ordered (entries_of symbols t))
+-- the header, and a line for each of these entries
+abbrev pub text_of : Sources → List Entry → List ℕ
+text_of s entries = header_text s.shares s.rate ++ lines_of (attributed_of s.shares) s.rate entries
+
+-- the flat profile: a line for each function that has a share or is called, in order
+unfoldable pub flat_text : Sources → List ℕ
+flat_text s = text_of s (entries_of s)

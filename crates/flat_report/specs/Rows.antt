@@ -1,11 +1,36 @@
 -- The rows from which a report is printed.
-use Rattle.std.specs.Prelude.{List, map}
+use Rattle.std.specs.Prelude.{◌≡◌, ℕ, ◌^◌, ◌<◌, ◌≤◌, List, length, map}
+use Rattle.call_cycles.specs.Flow.{IsFlow}
+use Rattle.call_cycles.specs.Graph.{all_calls}
+use Rattle.flat_report.specs.declared.sources.Sources as declared
 use Rattle.flat_report.specs.declared.rows.Row.{Row}
-use Rattle.flat_report.specs.Entries.{Entry}
+use Rattle.flat_report.specs.Sources.{Sources}
+use Rattle.flat_report.specs.Entries.{Entry, entry_of}
+
+-- the sources that references lead to
+abbrev pub sources_of : declared.Sources → Sources
+sources_of a = record { symbols = a.symbols.now; graph = a.graph.now; flow = a.flow.now; shares = a.shares.now; rate = a.rate }
+
+-- the sources are of one program
+pub record FitTogether (s : Sources) : Type 0 where
+  pub functions : s.graph.functions ≡ length s.symbols
+  pub each : length s.shares.of ≡ length s.symbols
+  pub flow : IsFlow s.graph s.shares.of s.flow
+  pub few : all_calls s.graph < 2 ^ 59
 
 -- the entry that a row stands for
 abbrev pub entry_of_row : Row → Entry
-entry_of_row row = record { share = row.share; name = row.symbol.now.name; addr = row.symbol.now.addr }
+entry_of_row row = record { share = row.share; total = row.total; calls = row.calls; name = row.symbol.now.name }
 
 abbrev pub entries_of_rows : List Row → List Entry
 entries_of_rows rows = map entry_of_row rows
+
+-- the row is that of its function
+abbrev pub IsRowOf : Sources → Row → Type 0
+IsRowOf s row = entry_of_row row ≡ entry_of s row.number
+
+-- the entry's times are at most so many grains, and its calls are few
+pub record FitsIn (total : ℕ) (e : Entry) : Type 0 where
+  pub share : e.share ≤ total
+  pub whole : e.total ≤ total
+  pub calls : e.calls < 2 ^ 59

@@ -1,11 +1,12 @@
--- What a report is made from, and the times of functions. Functions are counted from 0, in the order of their addresses.
-use Rattle.std.specs.Prelude.{ℕ, ◌+◌, List, slice_index}
+-- What a report is made from, and the times and calls of functions. Functions are counted from 0, in the order of their
+-- addresses.
+use Rattle.std.specs.Prelude.{ℕ, ◌+◌, ◌==◌, List, [], slice_get, slice_index}
+use Rattle.std.specs.Option.{option_map_or}
 use Rattle.elf32_syms.specs.declared.image.Symbol.{Symbol}
 use Rattle.call_cycles.specs.Graph.{GraphValue, arc_at, arc_count}
 use Rattle.call_cycles.specs.Flow.{FlowValue}
 use Rattle.call_cycles.specs.Sums.{sum_below, when}
 use Rattle.symbol_shares.specs.Shares.{ShareTable}
-use Rattle.std.specs.Prelude.{◌==◌}
 
 pub record Sources : Type 0 where
   pub symbols : List Symbol
@@ -14,6 +15,10 @@ pub record Sources : Type 0 where
   pub shares : ShareTable
   -- samples per second
   pub rate : ℕ
+
+-- the name of a function
+abbrev pub name_of : Sources → ℕ → List ℕ
+name_of s f = option_map_or (λ (symbol : Symbol). symbol.name) (slice_get s.symbols f) []
 
 -- the grains of a function itself
 abbrev pub share_of : Sources → ℕ → ℕ
@@ -34,3 +39,7 @@ calls_by_others g f = sum_below (arc_count g) (λ i. when ((arc_at g i).callee =
 -- the calls of a function by itself
 abbrev pub calls_by_itself : GraphValue → ℕ → ℕ
 calls_by_itself g f = slice_index g.self_calls f
+
+-- both together
+abbrev pub calls_of : GraphValue → ℕ → ℕ
+calls_of g f = calls_by_others g f + calls_by_itself g f

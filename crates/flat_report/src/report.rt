@@ -5,18 +5,23 @@ ghost use Rattle.std.specs.List.{All, sum_by};
 ghost use Rattle.host_port.specs.Buffered.{Adds};
 ghost use Rattle.host_port.specs.Host.{Puts};
 ghost use Rattle.host_port.specs.declared.side.Side.TheVariants.{Output};
+ghost use Rattle.call_cycles.specs.Flow.{IsFlow};
+ghost use Rattle.call_cycles.specs.Graph.{all_calls};
 ghost use Rattle.symbol_shares.specs.Shares.{attributed_of};
-ghost use Rattle.flat_report.specs.FlatText.{flat_text, header_text, lines_of, line_of};
+ghost use Rattle.flat_report.specs.FlatText.{flat_text, header_text, lines_of, line_of, text_of};
 ghost use Rattle.flat_report.specs.Reports.{Reports};
-ghost use Rattle.flat_report.specs.Rows.{entry_of_row, entries_of_rows};
+ghost use Rattle.flat_report.specs.Rows.{FitsIn, entry_of_row, entries_of_rows, sources_of};
 ghost use Rattle.flat_report.specs.declared.refusal.ReportRefusal.TheVariants.{OutOfMemory};
 
 use crate::line;
 use crate::refusal::ReportRefusal;
 use crate::rows::{Row, rows_in_order};
+use crate::sources::Sources;
+use call_cycles::Graph;
 use elf32_syms::Symbol;
 use host_port::{Failed, Host, PrintBuf};
-use std::alloc::Global;
+use propagate::Flow;
+use std::alloc::{AllocError, Global};
 use symbol_shares::Shares;
 
 /// What stands above the columns.
@@ -24,54 +29,69 @@ const HEADINGS: &[u8] =
     b"  %time   cumulative       self      calls  self ms/call  total ms/call  name\n";
 
 /// Prints the flat profile on the output, after that of GNU gprof: the grains of all functions and of
-/// none, and a line for each function with a share, that with the greatest share first. A line has the
-/// function's part of what all functions have, in percent; the seconds of the lines up to it; its own
-/// seconds; and its name. `rate` is the number of samples a second, and a sample has 1,000,000 grains.
+/// none, and a line for each function that has a share or is called, that with the greatest share
+/// first. A line has the function's part of what all functions have, in percent; the seconds of the
+/// lines up to it; its own seconds; and its name. Of a function that is called it also has the calls,
+/// those by itself and inside its cycle included, and the milliseconds of each call, its own and with
+/// what the function gets from those that it calls. `rate` is the number of samples a second, and a
+/// sample has 1,000,000 grains.
 ///
 /// After `WriteFault` a prefix of the text is printed, and not all of it. `OutOfMemory` comes before the
 /// first byte.
 pub fn write<H: Host>(
     alloc: Global,
     symbols: &[Symbol],
+    graph: &Graph,
+    flow: &Flow,
     shares: &Shares,
     rate: u32,
     host: &mut H,
 ) -> Result<(), ReportRefusal>
+    requires functions { graph.now.functions ≡ length symbols.now }
     requires each { length shares.now.of ≡ length symbols.now }
+    requires flow { IsFlow graph.now shares.now.of flow.now }
+    requires few { all_calls graph.now < 2 ^ 59 }
     requires rate { 1 ≤ rate }
-    ensures printed { Reports (flat_text symbols.now shares.now rate) (H.outside host.old) (H.outside host.new) result }
+    ensures printed { Reports (flat_text (record { symbols = symbols.now; graph = graph.now; flow = flow.now; shares = shares.now; rate = rate })) (H.outside host.old) (H.outside host.new) result }
     ensures idle { result ≡ Err OutOfMemory → host.new ≡ host.old }
 {
-    let rows = rows_in_order(alloc, symbols, shares)?;
-    print(rows.as_slice(), shares, rate, host)?;
+    let sources = Sources {
+        symbols,
+        graph,
+        flow,
+        shares,
+        rate,
+    };
+    let rows = rows_in_order(alloc, &sources)?;
+    print(rows.as_slice(), &sources, host)?;
     Ok(())
 }
 
-fn print<H: Host>(rows: &[Row<'_>], shares: &Shares, rate: u32, host: &mut H) -> Result<(), Failed>
-    requires positive { All (λ e. 0 < e.share) (entries_of_rows rows.now) }
-    requires sum { sum_by (λ e. e.share) (entries_of_rows rows.now) ≤ attributed_of shares.now }
-    requires rate { 1 ≤ rate }
-    ensures { Puts Output (header_text shares.now rate ++ lines_of (attributed_of shares.now) rate (entries_of_rows rows.now))
-        (H.outside host.old) (H.outside host.new) result }
+fn print<H: Host>(rows: &[Row<'_>], sources: &Sources<'_>, host: &mut H) -> Result<(), Failed>
+    requires fit { All (FitsIn (attributed_of sources.now.shares.now)) (entries_of_rows rows.now) }
+    requires sum { sum_by (λ e. e.share) (entries_of_rows rows.now) ≤ attributed_of sources.now.shares.now }
+    requires rate { 1 ≤ sources.now.rate }
+    ensures { Puts Output (text_of (sources_of sources.now) (entries_of_rows rows.now)) (H.outside host.old) (H.outside host.new) result }
 {
     let mut lines = PrintBuf::new();
-    put_report(rows, shares, rate, &mut lines, host)?;
+    put_report(rows, sources, &mut lines, host)?;
     lines.flush(host)
 }
 
 fn put_report<H: Host>(
     rows: &[Row<'_>],
-    shares: &Shares,
-    rate: u32,
+    sources: &Sources<'_>,
     lines: &mut PrintBuf,
     host: &mut H,
 ) -> Result<(), Failed>
-    requires positive { All (λ e. 0 < e.share) (entries_of_rows rows.now) }
-    requires sum { sum_by (λ e. e.share) (entries_of_rows rows.now) ≤ attributed_of shares.now }
-    requires rate { 1 ≤ rate }
-    ensures { Adds Output (header_text shares.now rate ++ lines_of (attributed_of shares.now) rate (entries_of_rows rows.now))
-        lines.old lines.new (H.outside host.old) (H.outside host.new) result }
+    requires fit { All (FitsIn (attributed_of sources.now.shares.now)) (entries_of_rows rows.now) }
+    requires sum { sum_by (λ e. e.share) (entries_of_rows rows.now) ≤ attributed_of sources.now.shares.now }
+    requires rate { 1 ≤ sources.now.rate }
+    ensures { Adds Output (text_of (sources_of sources.now) (entries_of_rows rows.now)) lines.old lines.new
+        (H.outside host.old) (H.outside host.new) result }
 {
+    let shares = sources.shares;
+    let rate = sources.rate;
     put_header(shares, rate, lines, host)?;
     put_rows(rows, shares.attributed(), rate, lines, host)
 }
@@ -96,7 +116,7 @@ fn put_rows<H: Host>(
     lines: &mut PrintBuf,
     host: &mut H,
 ) -> Result<(), Failed>
-    requires positive { All (λ e. 0 < e.share) (entries_of_rows rows.now) }
+    requires fit { All (FitsIn total) (entries_of_rows rows.now) }
     requires sum { sum_by (λ e. e.share) (entries_of_rows rows.now) ≤ total }
     requires within { total < 2 ^ 65 }
     requires rate { 1 ≤ rate }
@@ -119,18 +139,14 @@ fn put_row<H: Host>(
     lines: &mut PrintBuf,
     host: &mut H,
 ) -> Result<(), Failed>
-    requires some { 0 < total }
     requires within { total < 2 ^ 65 }
     requires rate { 1 ≤ rate }
     requires cumulative { cumulative ≤ total }
-    requires share { row.now.share ≤ total }
+    requires fits { FitsIn total (entry_of_row row.now) }
     ensures { Adds Output (line_of total rate cumulative (entry_of_row row.now)) lines.old lines.new
         (H.outside host.old) (H.outside host.new) result }
 {
-    lines.put(
-        host,
-        line::columns(total, rate, cumulative, row.share).bytes(),
-    )?;
+    lines.put(host, line::columns(total, rate, cumulative, row).bytes())?;
     lines.put(host, row.symbol.name.as_slice())?;
     lines.put(host, b"\n")
 }

@@ -3,10 +3,12 @@ ghost use Rattle.std.specs.List.{All};
 ghost use Rattle.elf32_syms.specs.Owners.{IsAscending};
 
 use super::*;
+use call_cycles::graph;
 use elf32_syms::{Symbol, SymbolList};
 use gmon_data::{AddRefusal, Hist, Profile};
 use gp_base::{Name, Totals, Unit};
 use host_port::{HostCall, MemHost};
+use propagate::flow;
 use std::alloc::{AllocError, Global};
 use std::test::Fail;
 use symbol_shares::shares;
@@ -14,6 +16,10 @@ use symbol_shares::shares;
 /// A function's name, and its samples, of which 2^40 are taken at most. Without a name there are
 /// samples and no function.
 type Function<'a> = (&'a str, u64);
+
+/// Calls of one function by another: caller, callee and count. Functions have numbers, in the order
+/// of their addresses.
+type Calls = (u16, u16, u64);
 
 /// One histogram of these counters, of 16 addresses each, from 0x10000 on.
 fn profile_of(alloc: Global, counters: Totals) -> Result<Profile, AddRefusal>
@@ -34,6 +40,17 @@ fn profile_of(alloc: Global, counters: Totals) -> Result<Profile, AddRefusal>
     let mut profile = Profile::new(alloc);
     if hist.low < hist.high {
         profile.add_wide(&hist, unit)?;
+    }
+    Ok(profile)
+}
+
+/// A profile of the first 2000 of these calls, of 255 each at most.
+fn profile_of_calls(alloc: Global, calls: &[Calls]) -> Result<Profile, AllocError> {
+    let mut profile = Profile::new(alloc);
+    for (caller, callee, count) in &calls[..calls.len().min(2000)] {
+        let from = 0x1_0004 + 16 * u32::from(*caller);
+        let to = 0x1_0000 + 16 * u32::from(*callee);
+        profile.add_calls(from, to, (*count).min(255))?;
     }
     Ok(profile)
 }
@@ -92,11 +109,12 @@ fn symbols_of(alloc: Global, functions: &[Function<'_>]) -> Result<SymbolList, A
     Ok(symbols)
 }
 
-/// Prints the flat profile of these counters.
+/// Prints the flat profile of these counters and calls.
 fn print_counters(
     alloc: Global,
     counters: Totals,
     symbols: &[Symbol],
+    calls: &[Calls],
     rate: u32,
     host: &mut MemHost,
 ) -> Result<Result<(), ReportRefusal>, AddRefusal>
@@ -107,19 +125,30 @@ fn print_counters(
 {
     let profile = profile_of(alloc, counters)?;
     let shares = shares(alloc, &profile, symbols)?;
-    Ok(write(alloc, symbols, &shares, rate, host))
+    let calls = profile_of_calls(alloc, calls)?;
+    let graph = graph(alloc, &calls, symbols)?;
+    let flow = flow(alloc, &graph, &shares)?;
+    Ok(write(alloc, symbols, &graph, &flow, &shares, rate, host))
 }
 
-/// Prints the flat profile of these functions.
+/// Prints the flat profile of these functions and calls.
 fn print(
     alloc: Global,
     functions: &[Function<'_>],
+    calls: &[Calls],
     rate: u32,
     host: &mut MemHost,
 ) -> Result<Result<(), ReportRefusal>, AddRefusal> {
     let counters = samples_of(alloc, functions)?;
     let symbols = symbols_of(alloc, functions)?;
-    print_counters(alloc, counters, symbols.as_slice(), rate.max(1), host)
+    print_counters(
+        alloc,
+        counters,
+        symbols.as_slice(),
+        calls,
+        rate.max(1),
+        host,
+    )
 }
 
 /// The text with these lines.
@@ -137,10 +166,11 @@ fn text(alloc: Global, totals: &str, lines: &[&str]) -> Result<Vec<u8>, AllocErr
     Ok(text)
 }
 
-/// A message, functions, a rate, and the text that is printed: totals and lines.
+/// A message, functions, calls, a rate, and the text that is printed: totals and lines.
 type Row = (
     &'static str,
     &'static [Function<'static>],
+    &'static [Calls],
     u32,
     &'static str,
     &'static [&'static str],
@@ -148,21 +178,24 @@ type Row = (
 
 const THREE: [Function<'static>; 3] = [("main", 1), ("a", 2), ("b", 3)];
 
+/// `a` and `b` call each other, and `b` itself.
+const CYCLE: [Calls; 4] = [(0, 1, 1), (1, 2, 5), (2, 1, 4), (2, 2, 2)];
+
 const THREE_TOTALS: &str = "attributed 6000000, outside 0, rate 100";
 
 const THREE_LINES: [&str; 3] = [
-    "  50.00         0.03       0.03                                          b",
-    "  33.33         0.05       0.02                                          a",
+    "  50.00         0.03       0.03          7          4.29           4.29  b",
+    "  33.33         0.05       0.02          5          4.00           4.00  a",
     "  16.67         0.06       0.01                                          main",
 ];
 
 #[test]
 fn lines_of_functions(rt: HostRuntime) -> Result<(), Fail> {
-    let rows: [Row; 11] = [
-        ("three functions", &THREE, 100, THREE_TOTALS, &THREE_LINES),
+    let rows: [Row; 10] = [
         (
             "equal shares are ordered by the bytes of the names",
             &[("b", 1), ("ab", 1), ("a", 1), ("Z", 1)],
+            &[],
             100,
             "attributed 4000000, outside 0, rate 100",
             &[
@@ -175,6 +208,7 @@ fn lines_of_functions(rt: HostRuntime) -> Result<(), Fail> {
         (
             "two functions of one name",
             &[("f", 2), ("e", 1), ("f", 2)],
+            &[],
             100,
             "attributed 5000000, outside 0, rate 100",
             &[
@@ -186,6 +220,7 @@ fn lines_of_functions(rt: HostRuntime) -> Result<(), Fail> {
         (
             "a function without samples",
             &[("main", 1), ("idle", 0), ("b", 2)],
+            &[],
             100,
             "attributed 3000000, outside 0, rate 100",
             &[
@@ -196,12 +231,14 @@ fn lines_of_functions(rt: HostRuntime) -> Result<(), Fail> {
         (
             "no functions",
             &[("", 7)],
+            &[],
             100,
             "attributed 0, outside 7000000, rate 100",
             &[],
         ),
         (
             "no samples",
+            &[],
             &[],
             100,
             "attributed 0, outside 0, rate 100",
@@ -210,6 +247,7 @@ fn lines_of_functions(rt: HostRuntime) -> Result<(), Fail> {
         (
             "a rate of 1",
             &[("main", 200)],
+            &[],
             1,
             "attributed 200000000, outside 0, rate 1",
             &[" 100.00       200.00     200.00                                          main"],
@@ -217,6 +255,7 @@ fn lines_of_functions(rt: HostRuntime) -> Result<(), Fail> {
         (
             "the highest rate of a profile",
             &[("main", 200)],
+            &[],
             2_147_483_647,
             "attributed 200000000, outside 0, rate 2147483647",
             &[" 100.00         0.00       0.00                                          main"],
@@ -224,6 +263,7 @@ fn lines_of_functions(rt: HostRuntime) -> Result<(), Fail> {
         (
             "percentages are of what functions have",
             &[("main", 1), ("a", 3), ("", 4)],
+            &[],
             100,
             "attributed 4000000, outside 4000000, rate 100",
             &[
@@ -235,6 +275,7 @@ fn lines_of_functions(rt: HostRuntime) -> Result<(), Fail> {
         (
             "a half is rounded up",
             &[("a", 1), ("b", 31)],
+            &[],
             200,
             "attributed 32000000, outside 0, rate 200",
             &[
@@ -245,6 +286,7 @@ fn lines_of_functions(rt: HostRuntime) -> Result<(), Fail> {
         (
             "times that are wider than their columns",
             &[("main", 1_099_511_627_776)],
+            &[],
             1,
             "attributed 1099511627776000000, outside 0, rate 1",
             &[
@@ -252,10 +294,111 @@ fn lines_of_functions(rt: HostRuntime) -> Result<(), Fail> {
             ],
         ),
     ];
-    for (message, functions, rate, totals, lines) in rows {
+    for (message, functions, calls, rate, totals, lines) in rows {
         let mut host = MemHost::new(rt.alloc());
         assert_eq!(rt;
-            print(rt.alloc(), functions, rate, &mut host)?,
+            print(rt.alloc(), functions, calls, rate, &mut host)?,
+            Ok(()),
+            "{message}"
+        );
+        let want = text(rt.alloc(), totals, lines)?;
+        assert_eq!(rt; host.printed(), want.as_slice(), "{message}");
+    }
+    Ok(())
+}
+
+#[test]
+fn columns_on_calls(rt: HostRuntime) -> Result<(), Fail> {
+    let rows: [Row; 9] = [
+        ("a cycle", &THREE, &CYCLE, 100, THREE_TOTALS, &THREE_LINES),
+        (
+            "a chain",
+            &[("main", 1), ("a", 2), ("b", 4)],
+            &[(0, 1, 2), (1, 2, 4)],
+            100,
+            "attributed 7000000, outside 0, rate 100",
+            &[
+                "  57.14         0.04       0.04          4         10.00          10.00  b",
+                "  28.57         0.06       0.02          2         10.00          30.00  a",
+                "  14.29         0.07       0.01                                          main",
+            ],
+        ),
+        (
+            "functions without time: one is called, one isn't",
+            &[("main", 1), ("idle", 0), ("leaf", 2), ("unused", 0)],
+            &[(0, 1, 2), (1, 2, 1)],
+            100,
+            "attributed 3000000, outside 0, rate 100",
+            &[
+                "  66.67         0.02       0.02          1         20.00          20.00  leaf",
+                "  33.33         0.03       0.01                                          main",
+                "   0.00         0.03       0.00          2          0.00          10.00  idle",
+            ],
+        ),
+        (
+            "equal shares are ordered by calls, more calls first",
+            &[("main", 0), ("a", 1), ("b", 1)],
+            &[(0, 1, 1), (0, 2, 2)],
+            100,
+            "attributed 2000000, outside 0, rate 100",
+            &[
+                "  50.00         0.01       0.01          2          5.00           5.00  b",
+                "  50.00         0.02       0.01          1         10.00          10.00  a",
+            ],
+        ),
+        (
+            "equal shares and calls are ordered by names",
+            &[("main", 0), ("b", 1), ("a", 1)],
+            &[(0, 1, 3), (0, 2, 3)],
+            100,
+            "attributed 2000000, outside 0, rate 100",
+            &[
+                "  50.00         0.01       0.01          3          3.33           3.33  a",
+                "  50.00         0.02       0.01          3          3.33           3.33  b",
+            ],
+        ),
+        (
+            "functions that are alike but in their total are ordered by addresses",
+            &[("main", 0), ("f", 1), ("f", 1), ("leaf", 3)],
+            &[(0, 1, 1), (0, 2, 1), (2, 3, 1)],
+            100,
+            "attributed 5000000, outside 0, rate 100",
+            &[
+                "  60.00         0.03       0.03          1         30.00          30.00  leaf",
+                "  20.00         0.04       0.01          1         10.00          10.00  f",
+                "  20.00         0.05       0.01          1         10.00          40.00  f",
+            ],
+        ),
+        (
+            "calls without samples",
+            &[("main", 0), ("a", 0)],
+            &[(0, 1, 2), (1, 1, 1)],
+            100,
+            "attributed 0, outside 0, rate 100",
+            &["   0.00         0.00       0.00          3          0.00           0.00  a"],
+        ),
+        (
+            "a function that calls itself alone",
+            &[("main", 3)],
+            &[(0, 0, 4)],
+            100,
+            "attributed 3000000, outside 0, rate 100",
+            &[" 100.00         0.03       0.03          4          7.50           7.50  main"],
+        ),
+        // 5 milliseconds in 8 calls are 0.625 each.
+        (
+            "a half of a hundredth of a millisecond is rounded up",
+            &[("main", 0), ("a", 1)],
+            &[(0, 1, 8)],
+            200,
+            "attributed 1000000, outside 0, rate 200",
+            &[" 100.00         0.01       0.01          8          0.63           0.63  a"],
+        ),
+    ];
+    for (message, functions, calls, rate, totals, lines) in rows {
+        let mut host = MemHost::new(rt.alloc());
+        assert_eq!(rt;
+            print(rt.alloc(), functions, calls, rate, &mut host)?,
             Ok(()),
             "{message}"
         );
@@ -278,7 +421,7 @@ fn a_long_name_is_printed_whole(rt: HostRuntime) -> Result<(), Fail> {
     line.push_str(name.as_str())?;
     let mut host = MemHost::new(rt.alloc());
     let functions = [(name.as_str(), 1)];
-    assert_eq!(rt; print(rt.alloc(), &functions, 100, &mut host)?, Ok(()));
+    assert_eq!(rt; print(rt.alloc(), &functions, &[], 100, &mut host)?, Ok(()));
     let want = text(
         rt.alloc(),
         "attributed 1000000, outside 0, rate 100",
@@ -296,7 +439,7 @@ fn a_failed_call_leaves_a_part_that_is_not_the_whole(rt: HostRuntime) -> Result<
         let mut host = MemHost::new(rt.alloc());
         host.set_step(50);
         host.fail_at(call)?;
-        let result = print(rt.alloc(), &THREE, 100, &mut host)?;
+        let result = print(rt.alloc(), &THREE, &CYCLE, 100, &mut host)?;
         if call < 8 {
             assert_eq!(rt; result, Err(ReportRefusal::WriteFault), "call {call}");
             assert_eq!(rt; host.first_failed(), Some(HostCall::Out), "call {call}");
@@ -334,36 +477,54 @@ fn even_counters(alloc: Global, count: u32) -> Result<Totals, AllocError>
     Ok(counters)
 }
 
-/// The symbols of 65,536 functions, of which the last has the first name.
+/// The symbols of 4,096 functions, of which the last has the first name.
 fn symbols_in_reverse(alloc: Global) -> Result<SymbolList, AllocError>
     ensures { IfOk result IsAscending }
 {
     let mut symbols = SymbolList::new(alloc);
-    for i in 0..65_536 {
-        push_symbol(&mut symbols, i, hex4(alloc, (65_535 - i) as u16)?)?;
+    for i in 0..4096 {
+        push_symbol(&mut symbols, i, hex4(alloc, (4095 - i) as u16)?)?;
     }
     Ok(symbols)
 }
 
+/// One call of the first function by each of the next 2,000.
+fn calls_of_the_first(alloc: Global) -> Result<Vec<Calls>, AllocError> {
+    let mut calls = Vec::new(alloc);
+    for caller in 1..=2000u16 {
+        calls.push((caller, 0, 1))?;
+    }
+    Ok(calls)
+}
+
 #[test]
 fn many_functions(rt: HostRuntime) -> Result<(), Fail> {
-    let counters = even_counters(rt.alloc(), 65_536)?;
+    let counters = even_counters(rt.alloc(), 4096)?;
     let symbols = symbols_in_reverse(rt.alloc())?;
+    let calls = calls_of_the_first(rt.alloc())?;
     let mut host = MemHost::new(rt.alloc());
-    let printed = print_counters(rt.alloc(), counters, symbols.as_slice(), 1, &mut host)?;
+    let printed = print_counters(
+        rt.alloc(),
+        counters,
+        symbols.as_slice(),
+        calls.as_slice(),
+        1,
+        &mut host,
+    )?;
     assert_eq!(rt; printed, Ok(()));
     let first = text(
         rt.alloc(),
-        "attributed 65536000000, outside 0, rate 1",
+        "attributed 4096000000, outside 0, rate 1",
         &[
-            "   0.00         1.00       1.00                                          0000",
-            "   0.00         2.00       1.00                                          0001",
+            "   0.02         1.00       1.00       2000          0.50           0.50  0fff",
+            "   0.02         2.00       1.00                                          0000",
+            "   0.02         3.00       1.00                                          0001",
         ],
     )?;
     assert!(rt; host.printed().starts_with(first.as_slice()));
     let last =
-        b"   0.00     65535.00       1.00                                          fffe\n   0.00     65536.00       1.00                                          ffff\n";
+        b"   0.02      4095.00       1.00                                          0ffd\n   0.02      4096.00       1.00                                          0ffe\n";
     assert!(rt; host.printed().ends_with(last));
-    assert_eq!(rt; host.printed().len(), 133 + 65_536 * 78);
+    assert_eq!(rt; host.printed().len(), 132 + 4096 * 78);
     Ok(())
 }

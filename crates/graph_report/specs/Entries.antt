@@ -1,5 +1,5 @@
 -- The entries of a call graph: the cycles as a whole, and the functions that took time or have calls; and their order.
-use Rattle.std.specs.Prelude.{ℕ, ◌==◌, ◌||◌, Bool, nat_lt, false, true, List, [], ◌++◌, map, filter, slice_get}
+use Rattle.std.specs.Prelude.{ℕ, ◌==◌, ◌||◌, Bool, nat_lt, false, List, [], ◌++◌, map, filter, slice_get}
 use Rattle.std.specs.List.{position}
 use Rattle.std.specs.Option.{option_map_or}
 use Rattle.std.specs.declared.cmp.Ordering.{Ordering}

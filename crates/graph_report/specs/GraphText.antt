@@ -1,12 +1,11 @@
 -- The text of the call graph: for each function and each cycle who called it and whom it called, and how much time went
 -- from callees to callers.
-use Rattle.std.specs.Prelude.{ℕ, ◌+◌, ◌*◌, ◌==◌, ◌&&◌, Bool, List, [], ◌∷◌, ◌++◌, filter, replicate, slice_index, codes, if◌then◌else◌}
+use Rattle.std.specs.Prelude.{ℕ, ◌*◌, ◌==◌, ◌&&◌, List, [], ◌∷◌, ◌++◌, filter, replicate, slice_index, codes, if◌then◌else◌}
 use Rattle.std.specs.List.{flat_map}
 use Rattle.text_cols.specs.Columns.{decimal, hundredths_of, left_of, right_of, spaces}
-use Rattle.elf32_syms.specs.declared.image.Symbol.{Symbol}
-use Rattle.symbol_shares.specs.Shares.{ShareTable, attributed_of}
+use Rattle.symbol_shares.specs.Shares.{attributed_of}
 use Rattle.call_cycles.specs.Graph.{GraphValue, arc_at, arc_count, component_of, is_outside, enters, target_of, entering_of}
-use Rattle.call_cycles.specs.Flow.{FlowValue, time_of}
+use Rattle.call_cycles.specs.Flow.{time_of}
 use Rattle.call_cycles.specs.Sums.{numbers_below}
 use Rattle.flat_report.specs.FlatText.{seconds_of}
 use Rattle.flat_report.specs.Sources.{Sources, share_of, child_of, total_of, calls_by_others, calls_by_itself}

@@ -1,3 +1,9 @@
 pub mod Cycles
 pub mod Entries
 pub mod GraphText
+pub mod Tables
+pub mod Prepared
+pub mod Inputs
+pub mod Rows
+pub mod Numbers
+pub mod Subjects

@@ -4,8 +4,20 @@
 //! below, and each cycle as a whole. How they are laid out is this project's own choice.
 #![tactic(auto)]
 
+mod columns;
+mod cycles;
+mod entries;
+mod groups;
+mod inputs;
+mod keys;
+mod line;
+mod lines;
+mod names;
+mod numbers;
 pub mod report;
+mod rows;
 mod subjects;
+mod tables;
 
 pub use flat_report::ReportRefusal;
 pub use report::write;

@@ -1,19 +1,37 @@
 //! The whole call graph.
 
 ghost use Rattle.std.specs.Prelude.{◌≡◌, ◌^◌, ◌<◌, ◌≤◌, Err, length};
+ghost use Rattle.std.specs.List.{flat_map};
+ghost use Rattle.host_port.specs.Buffered.{Adds};
+ghost use Rattle.host_port.specs.Host.{Puts};
+ghost use Rattle.host_port.specs.declared.side.Side.TheVariants.{Output};
 ghost use Rattle.call_cycles.specs.Flow.{IsFlow};
 ghost use Rattle.call_cycles.specs.Graph.{all_calls};
 ghost use Rattle.flat_report.specs.Reports.{Reports};
 ghost use Rattle.flat_report.specs.declared.refusal.ReportRefusal.TheVariants.{OutOfMemory};
+ghost use Rattle.graph_report.specs.Entries.{ordered};
 ghost use Rattle.graph_report.specs.GraphText.{graph_text};
+ghost use Rattle.graph_report.specs.Inputs.{sources_of};
+ghost use Rattle.graph_report.specs.Numbers.{IsReport};
+ghost use Rattle.graph_report.specs.Rows.{entries_of_rows};
+ghost use Rattle.graph_report.specs.Subjects.{entry_text};
 
+use crate::entries::put_entry;
+use crate::inputs::Inputs;
+use crate::numbers::{Report, entry_numbers};
+use crate::rows::{Row, rows_in_order};
+use crate::tables::Tables;
 use call_cycles::Graph;
 use elf32_syms::Symbol;
 use flat_report::ReportRefusal;
-use host_port::Host;
+use host_port::{Failed, Host, PrintBuf};
 use propagate::Flow;
 use std::alloc::Global;
 use symbol_shares::Shares;
+
+/// What stands above the entries.
+const HEADER: &[u8] =
+    b"call graph\nindex     %time        self    children                called  name\n";
 
 /// Prints the call graph on the output, after that of GNU gprof: an entry for each cycle, and for each
 /// function that took time, itself or in what it calls, or that calls or is called; that with the most
@@ -38,5 +56,60 @@ pub fn write<H: Host>(
     ensures printed { Reports (graph_text (record { symbols = symbols.now; graph = graph.now; flow = flow.now; shares = shares.now; rate = rate })) (H.outside host.old) (H.outside host.new) result }
     ensures idle { result ≡ Err OutOfMemory → host.new ≡ host.old }
 {
-    todo!()
+    // No time is greater than this one, which its clause bounds.
+    let _all = shares.attributed();
+    let tables = Tables::new(alloc, graph)?;
+    let inputs = Inputs {
+        symbols,
+        graph,
+        flow,
+        shares,
+        rate,
+        tables: &tables,
+    };
+    let rows = rows_in_order(alloc, &inputs)?;
+    let numbers = entry_numbers(alloc, &inputs, &rows)?;
+    print(&Report { inputs, numbers }, &rows, host)?;
+    Ok(())
+}
+
+fn print<H: Host>(report: &Report<'_>, rows: &[Row<'_>], host: &mut H) -> Result<(), Failed>
+    requires report { IsReport report.now }
+    requires rows { entries_of_rows rows.now ≡ ordered (sources_of report.now.inputs) }
+    ensures { Puts Output (graph_text (sources_of report.now.inputs)) (H.outside host.old) (H.outside host.new) result }
+{
+    let mut lines = PrintBuf::new();
+    put_report(report, rows, &mut lines, host)?;
+    lines.flush(host)
+}
+
+fn put_report<H: Host>(
+    report: &Report<'_>,
+    rows: &[Row<'_>],
+    lines: &mut PrintBuf,
+    host: &mut H,
+) -> Result<(), Failed>
+    requires report { IsReport report.now }
+    requires rows { entries_of_rows rows.now ≡ ordered (sources_of report.now.inputs) }
+    ensures { Adds Output (graph_text (sources_of report.now.inputs)) lines.old lines.new (H.outside host.old) (H.outside host.new) result }
+{
+    lines.put(host, HEADER)?;
+    put_entries(report, rows, lines, host)
+}
+
+fn put_entries<H: Host>(
+    report: &Report<'_>,
+    rows: &[Row<'_>],
+    lines: &mut PrintBuf,
+    host: &mut H,
+) -> Result<(), Failed>
+    requires report { IsReport report.now }
+    requires rows { entries_of_rows rows.now ≡ ordered (sources_of report.now.inputs) }
+    ensures { let s = sources_of report.now.inputs in
+        Adds Output (flat_map (entry_text s) (ordered s)) lines.old lines.new (H.outside host.old) (H.outside host.new) result }
+{
+    for row in rows {
+        put_entry(report, row.subject, lines, host)?;
+    }
+    Ok(())
 }

@@ -5,7 +5,7 @@ use Rattle.host_port.specs.declared.side.Side.TheVariants.{Output}
 use Rattle.host_port.proofs.BufferLemmas.{adds_nothing, adds_more, adds_stop, adds_all}
 use Rattle.flat_report.specs.FlatText.{line_at}
 use Rattle.flat_report.specs.Rows.{entry_of_row, entries_of_rows}
-use Rattle.flat_report.proofs.RowLemmas.{IsRowAt, numbered_long, numbered_inside, numbered_at, cumulative_more, cumulative_within, share_positive}
+use Rattle.flat_report.proofs.RowLemmas.{IsRowAt, numbered_long, numbered_inside, numbered_at, cumulative_more, cumulative_within, row_fits}
 use Rattle.flat_report.proofs.report.put_rows.Goals as goal
 
 pub loop-row-init : goal.loop-row-init
@@ -16,20 +16,15 @@ overflow_add-cumulative g c =
     let here : IsRowAt c.args.rows.now c.loop-row.row-index c.loop-row.cumulative c.row-item.result = record { inside = c.loop-row-test.true; at = c.row-item.is; before = c.loop-row.invariant.cumulative } in
     omega (arith, cumulative_within _ _ _ _ here c.args.total c.requires.sum, c.requires.within)
 
-pub put_row-requires-clause-some : goal.put_row-requires-clause-some
-put_row-requires-clause-some g c =
-    let here : IsRowAt c.args.rows.now c.loop-row.row-index c.loop-row.cumulative c.row-item.result = record { inside = c.loop-row-test.true; at = c.row-item.is; before = c.loop-row.invariant.cumulative } in
-    omega (arith, cumulative_within _ _ _ _ here c.args.total c.requires.sum, share_positive _ _ _ _ here c.requires.positive)
-
 pub put_row-requires-clause-cumulative : goal.put_row-requires-clause-cumulative
 put_row-requires-clause-cumulative g c =
     let here : IsRowAt c.args.rows.now c.loop-row.row-index c.loop-row.cumulative c.row-item.result = record { inside = c.loop-row-test.true; at = c.row-item.is; before = c.loop-row.invariant.cumulative } in
     cumulative_within _ _ _ _ here c.args.total c.requires.sum
 
-pub put_row-requires-clause-share : goal.put_row-requires-clause-share
-put_row-requires-clause-share g c =
+pub put_row-requires-clause-fits : goal.put_row-requires-clause-fits
+put_row-requires-clause-fits g c =
     let here : IsRowAt c.args.rows.now c.loop-row.row-index c.loop-row.cumulative c.row-item.result = record { inside = c.loop-row-test.true; at = c.row-item.is; before = c.loop-row.invariant.cumulative } in
-    omega (arith, cumulative_within _ _ _ _ here c.args.total c.requires.sum)
+    row_fits _ _ _ _ here c.args.total c.requires.fit
 
 pub returns-in_err-put_row : goal.returns-in_err-put_row
 returns-in_err-put_row g c =

@@ -1,15 +1,22 @@
-use Rattle.std.proofs.Common.{◌≡◌, ap, ◌∙◌, rules}
+use Rattle.std.proofs.Common.{◌≡◌, List, sym, subst, rules}
+use Rattle.std.specs.List.{All}
 use Rattle.std.specs.Ordering.{is_lt}
 use Rattle.std.proofs.lemmas.List.Sorted.{answers_always}
-use Rattle.flat_report.specs.Entries.{comes_before, ordered}
-use Rattle.flat_report.specs.Rows.{entry_of_row}
-use Rattle.flat_report.proofs.OrderLemmas.{by_key, sorted_in_order}
-use Rattle.flat_report.proofs.EntryOrder.{entry_order, compared}
+use Rattle.symbol_shares.specs.Shares.{attributed_of}
+use Rattle.flat_report.specs.Entries.{Entry}
+use Rattle.flat_report.specs.Rows.{FitsIn, sources_of}
+use Rattle.flat_report.proofs.EntryOrder.{row_before, row_order, compared}
+use Rattle.flat_report.proofs.FunctionLemmas.{entries_fit}
+use Rattle.flat_report.proofs.RowLemmas.{rows_in_order}
 use Rattle.flat_report.proofs.rows.rows_in_order.Goals as goal
 
-pub returns : goal.returns
-returns c =
-    let compares = answers_always _ (λ a r. is_lt r ≡ comes_before (entry_of_row a.0.now) (entry_of_row a.1.0.now)) _ (λ f a r f' k. compared (entry_of_row a.0.now) (entry_of_row a.1.0.now) r (search rules)) in
-    sorted_in_order comes_before entry_order entry_of_row c.in_ok-rows.rows.items c.sort_unstable_by.new.self.items c.sort_unstable_by.ensures.permutation
-    (c.sort_unstable_by.ensures.sorted (λ a b. comes_before (entry_of_row a) (entry_of_row b)) (by_key comes_before entry_of_row entry_order.order) compares)
-    ∙ ap ordered c.in_ok-rows.ensures
+pub returns-clause-entries : goal.returns-clause-entries
+returns-clause-entries c =
+    let compares = answers_always _ (λ a r. is_lt r ≡ row_before a.0.now a.1.0.now) _ (λ f a r f' k. compared a.0.now a.1.0.now r (search rules)) in
+    rows_in_order (sources_of c.args.sources.now) c.in_ok-rows.rows.items c.sort_unstable_by.new.self.items c.in_ok-rows.ensures.rows c.in_ok-rows.ensures.functions
+    c.sort_unstable_by.ensures.permutation (c.sort_unstable_by.ensures.sorted row_before row_order compares)
+
+pub returns-clause-fit : goal.returns-clause-fit
+returns-clause-fit c =
+    subst (λ (es : List Entry). All (FitsIn (attributed_of c.args.sources.now.shares.now)) es) (sym (returns-clause-entries c))
+    (entries_fit (sources_of c.args.sources.now) c.in_ok-rows.ensures.graph c.requires)

@@ -1,0 +1,11 @@
+pub mod LineLemmas
+pub mod GroupLemmas
+pub mod CycleLemmas
+pub mod TableLemmas
+pub mod TimeLemmas
+pub mod EntryOrder
+pub mod RowLemmas
+pub mod NumberLemmas
+pub mod PrintLemmas
+pub mod TextLemmas
+pub mod ReportLemmas

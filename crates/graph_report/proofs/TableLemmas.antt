@@ -1,0 +1,86 @@
+-- What the tables hold, from the keys of arcs.
+use Rattle.std.proofs.Common.{◌≡◌, ◌<◌, ℕ, zero, suc, Bool, true, false, cond, ◌&&◌, not, List, [], ◌∷◌, ◌++◌, refl, ap, sym, ◌∙◌, arith, add-one}
+use Rattle.std.specs.Prelude.{◌==◌, filter, slice_index, if◌then◌else◌}
+use Rattle.std.specs.Global.{Vec}
+use Rattle.std.proofs.lemmas.Bool.{ne_eqb}
+use Rattle.std.proofs.lemmas.List.FromFn.{fill_by_all, length-map-range_with_len, get_or-map-range_with_len}
+use Rattle.call_cycles.specs.Graph.{GraphValue, arc_at, arc_count, component_count, component_of, is_outside, target_of, enters}
+use Rattle.call_cycles.specs.Sums.{sum_below, when, list_of, numbers_below}
+use Rattle.call_cycles.proofs.SumLemmas.{sum_ext}
+use Rattle.call_cycles.proofs.ListLemmas.{list_long, list_at}
+use Rattle.flat_report.specs.Sources.{calls_by_others}
+use Rattle.graph_report.specs.Cycles.{inner_calls, is_inside}
+use Rattle.graph_report.specs.Entries.{calls_of_others}
+use Rattle.graph_report.specs.GraphText.{arcs_from, arcs_into, arcs_to, members_of}
+use Rattle.graph_report.specs.Tables.{AreGroups, arc_key, calls_with, places_with}
+use Rattle.graph_report.specs.Prepared.{AreLists}
+use Rattle.graph_report.specs.declared.keys.ArcKey.TheVariants.{Caller, Callee, Entered, Inner}
+use Rattle.graph_report.proofs.GroupLemmas.{filter_next}
+
+-- tests that agree below an end
+filter_same : (p q : ℕ → Bool) (n : ℕ) → ((i : ℕ) → i < n → p i ≡ q i) → filter p (numbers_below n) ≡ filter q (numbers_below n)
+filter_same p q zero same = refl
+filter_same p q (suc n) same =
+    ap (λ (m : ℕ). filter p (numbers_below m)) (sym (add-one n)) ∙ filter_next p n
+    ∙ ap (λ (xs : List ℕ). xs ++ cond (p n) (n ∷ []) []) (filter_same p q n (λ i h. same i (omega arith)))
+    ∙ ap (λ (b : Bool). filter q (numbers_below n) ++ cond b (n ∷ []) []) (same n (omega arith))
+    ∙ sym (filter_next q n) ∙ ap (λ (m : ℕ). filter q (numbers_below m)) (add-one n)
+
+-- functions that agree below an end
+list_same : (n : ℕ) (f h : ℕ → ℕ) → ((k : ℕ) → k < n → f k ≡ h k) → list_of n f ≡ list_of n h
+list_same n f h same = fill_by_all h (list_of n f) n 0 (length-map-range_with_len f 0 n) (λ k low. get_or-map-range_with_len f 0 n k k 0 low (omega arith) ∙ same k low)
+
+-- groups by a function of the places
+module _ (n : ℕ) (key : ℕ → ℕ) (keys : List ℕ) (are : keys ≡ list_of n key) where
+  pub places_are : (k : ℕ) → places_with keys k ≡ filter (λ i. key i == k) (numbers_below n)
+  places_are k =
+      ap (λ (m : ℕ). filter (λ i. slice_index keys i == k) (numbers_below m)) (list_long n key keys are)
+      ∙ filter_same (λ i. slice_index keys i == k) (λ i. key i == k) n (λ i h. ap (λ (x : ℕ). x == k) (list_at n key keys are i h))
+
+  pub lists_are : (count : ℕ) (test : ℕ → ℕ → Bool) (groups : List (Vec ℕ)) → AreGroups count keys groups → ((k : ℕ) → k < count → (i : ℕ) → i < n → (key i == k) ≡ test k i) → AreLists count (λ k. filter (test k) (numbers_below n)) groups
+  lists_are count test groups are_groups tests = record {
+    len = are_groups.len;
+    each = λ k d low. are_groups.each k d low ∙ places_are k ∙ filter_same (λ i. key i == k) (test k) n (tests k low);
+  }
+
+-- outside arcs by what they enter, inside ones by where they stay
+entered_key : (b : Bool) (t n k : ℕ) → k < n → ((let x : ℕ = if b then t else n in x) == k) ≡ (b && (t == k))
+entered_key true t n k low = refl
+entered_key false t n k low = ne_eqb n k (λ q. omega arith)
+
+inner_key : (b : Bool) (t n k : ℕ) → k < n → ((let x : ℕ = if b then n else t in x) == k) ≡ (not b && (t == k))
+inner_key true t n k low = ne_eqb n k (λ q. omega arith)
+inner_key false t n k low = refl
+
+module _ (g : GraphValue) (keys : List ℕ) where
+  pub lists_to : (groups : List (Vec ℕ)) → keys ≡ list_of (arc_count g) (arc_key g Callee) → AreGroups g.functions keys groups → AreLists g.functions (arcs_to g) groups
+  lists_to groups are are_groups = lists_are (arc_count g) (arc_key g Callee) keys are g.functions (λ f i. (arc_at g i).callee == f) groups are_groups (λ k low i h. refl)
+
+  pub lists_from : (groups : List (Vec ℕ)) → keys ≡ list_of (arc_count g) (arc_key g Caller) → AreGroups g.functions keys groups → AreLists g.functions (arcs_from g) groups
+  lists_from groups are are_groups = lists_are (arc_count g) (arc_key g Caller) keys are g.functions (λ f i. (arc_at g i).caller == f) groups are_groups (λ k low i h. refl)
+
+  pub lists_into : (groups : List (Vec ℕ)) → keys ≡ list_of (arc_count g) (arc_key g Entered) → AreGroups (component_count g) keys groups → AreLists (component_count g) (arcs_into g) groups
+  lists_into groups are are_groups =
+      lists_are (arc_count g) (arc_key g Entered) keys are (component_count g) (enters g) groups are_groups (λ k low i h. entered_key (is_outside g i) (target_of g i) (component_count g) k low)
+
+  pub lists_members : (groups : List (Vec ℕ)) → keys ≡ list_of g.functions (component_of g) → AreGroups (component_count g) keys groups → AreLists (component_count g) (members_of g) groups
+  lists_members groups are are_groups = lists_are g.functions (component_of g) keys are (component_count g) (λ c f. component_of g f == c) groups are_groups (λ k low i h. refl)
+
+  calls_same : (key : ℕ → ℕ) (test : ℕ → ℕ → Bool) (count : ℕ) (sums : List ℕ) → keys ≡ list_of (arc_count g) key → ((k : ℕ) → k < count → (i : ℕ) → i < arc_count g → (key i == k) ≡ test k i)
+      → (k : ℕ) → k < count → calls_with g keys k ≡ sum_below (arc_count g) (λ i. when (test k i) (arc_at g i).count)
+  calls_same key test count sums are tests k low =
+      sum_ext (arc_count g) (λ i. when (slice_index keys i == k) (arc_at g i).count) (λ i. when (test k i) (arc_at g i).count)
+      (λ i h. ap (λ (b : Bool). when b (arc_at g i).count) (ap (λ (x : ℕ). x == k) (list_at (arc_count g) key keys are i h) ∙ tests k low i h))
+
+  pub sums_to : (sums : List ℕ) → keys ≡ list_of (arc_count g) (arc_key g Callee) → sums ≡ list_of g.functions (calls_with g keys) → sums ≡ list_of g.functions (calls_by_others g)
+  sums_to sums are is = is ∙ list_same g.functions (calls_with g keys) (calls_by_others g) (calls_same (arc_key g Callee) (λ f i. (arc_at g i).callee == f) g.functions sums are (λ k low i h. refl))
+
+  pub sums_from : (sums : List ℕ) → keys ≡ list_of (arc_count g) (arc_key g Caller) → sums ≡ list_of g.functions (calls_with g keys) → sums ≡ list_of g.functions (calls_of_others g)
+  sums_from sums are is = is ∙ list_same g.functions (calls_with g keys) (calls_of_others g) (calls_same (arc_key g Caller) (λ f i. (arc_at g i).caller == f) g.functions sums are (λ k low i h. refl))
+
+  pub sums_inside : (sums : List ℕ) → keys ≡ list_of (arc_count g) (arc_key g Inner) → sums ≡ list_of (component_count g) (calls_with g keys) → sums ≡ list_of (component_count g) (inner_calls g)
+  unfolding inner_calls
+  sums_inside sums are is =
+      is
+      ∙ list_same (component_count g) (calls_with g keys) (inner_calls g)
+      (calls_same (arc_key g Inner) (is_inside g) (component_count g) sums are (λ k low i h. inner_key (is_outside g i) (target_of g i) (component_count g) k low))

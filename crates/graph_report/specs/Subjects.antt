@@ -1,0 +1,33 @@
+-- The lines of the subjects of entries.
+use Rattle.std.specs.Prelude.{◌≡◌, ◌<◌, ◌++◌, ◌*◌, ℕ, true, List, codes}
+use Rattle.text_cols.specs.Columns.{hundredths_of, left_of, right_of, spaces}
+use Rattle.symbol_shares.specs.Shares.{attributed_of}
+use Rattle.call_cycles.specs.Flow.{time_of}
+use Rattle.call_cycles.specs.Graph.{GraphValue, component_of, is_cycle}
+use Rattle.flat_report.specs.Sources.{Sources, total_of}
+use Rattle.graph_report.specs.Cycles.{cycle_name}
+use Rattle.graph_report.specs.Entries.{Entry, number_in, ordered}
+use Rattle.graph_report.specs.GraphText.{bracketed, cycle_columns, function_columns, function_name, primary_line, subject_text}
+use Rattle.graph_report.specs.declared.subjects.Subject.{Subject}
+use Rattle.graph_report.specs.declared.subjects.Subject.TheVariants.{Cycle, Function}
+
+-- a function of the graph, or the head of a cycle
+abbrev pub IsSubject : GraphValue → Subject → Type 0
+IsSubject g (Cycle head) = (head < g.functions) × (is_cycle g (component_of g head) ≡ true)
+IsSubject g (Function f) = f < g.functions
+
+-- what stands in front of the name of an entry's subject
+abbrev pub front_text : Sources → ℕ → ℕ → List ℕ → List ℕ
+front_text s number total columns = left_of (bracketed number) 8 ++ right_of (hundredths_of (100 * total) (attributed_of s.shares)) 7 ++ columns ++ spaces 2
+
+abbrev pub function_line : Sources → (Subject → ℕ) → ℕ → List ℕ
+function_line s number f = primary_line s (number (Function f)) (total_of s f) (function_columns s f) (function_name s number f)
+
+abbrev pub cycle_line : Sources → (Subject → ℕ) → ℕ → List ℕ
+cycle_line s number head =
+    let c = component_of s.graph head in
+    primary_line s (number (Cycle head)) (time_of s.flow c) (cycle_columns s c) (cycle_name s.graph c ++ codes " " ++ bracketed (number (Cycle head)))
+
+-- the text of an entry
+abbrev pub entry_text : Sources → Entry → List ℕ
+entry_text s e = subject_text s (number_in (ordered s)) e.subject

@@ -1,0 +1,144 @@
+//! The entries of a report.
+
+ghost use Rattle.std.specs.Prelude.{◌≡◌, ◌<◌, true};
+ghost use Rattle.host_port.specs.Buffered.{Adds};
+ghost use Rattle.host_port.specs.declared.side.Side.TheVariants.{Output};
+ghost use Rattle.call_cycles.specs.Flow.{time_of};
+ghost use Rattle.call_cycles.specs.Graph.{component_of, is_cycle};
+ghost use Rattle.flat_report.specs.Sources.{total_of};
+ghost use Rattle.graph_report.specs.GraphText.{cycle_columns, cycle_text, function_columns, function_text, subject_text};
+ghost use Rattle.graph_report.specs.Inputs.{sources_of};
+ghost use Rattle.graph_report.specs.Numbers.{IsReport, number_of};
+ghost use Rattle.graph_report.specs.Subjects.{IsSubject, cycle_line, front_text, function_line};
+ghost use Rattle.graph_report.specs.declared.subjects.Subject.TheVariants.{Cycle, Function};
+
+use crate::lines::{put_callees, put_callers, put_members};
+use crate::names::{put_cycle_name, put_function_name};
+use crate::numbers::Report;
+use crate::subjects::Subject;
+use crate::{columns, line};
+use host_port::{Failed, Host, PrintBuf};
+use text_cols::Line;
+
+/// What stands below each entry.
+const RULE: &[u8] = b"------------------------------------------------------------------------\n";
+
+/// What stands in front of the name of the function that an entry is of.
+fn function_front(report: &Report<'_>, f: u32) -> Line
+    requires report { IsReport report.now }
+    requires function { f < report.now.inputs.graph.now.functions }
+    ensures { let s = sources_of report.now.inputs in
+        result ≡ front_text s (number_of report.now (Function f)) (total_of s f) (function_columns s f) }
+{
+    let all = report.inputs.shares.attributed();
+    let columns = columns::of_function(&report.inputs, f);
+    line::primary(
+        report.function_number(f),
+        report.inputs.total(f),
+        all,
+        &columns,
+    )
+}
+
+/// Puts the line of the function that an entry is of.
+fn put_function_line<H: Host>(
+    report: &Report<'_>,
+    f: u32,
+    lines: &mut PrintBuf,
+    host: &mut H,
+) -> Result<(), Failed>
+    requires report { IsReport report.now }
+    requires function { f < report.now.inputs.graph.now.functions }
+    ensures { Adds Output (function_line (sources_of report.now.inputs) (number_of report.now) f) lines.old lines.new (H.outside host.old) (H.outside host.new) result }
+{
+    lines.put(host, function_front(report, f).bytes())?;
+    put_function_name(report, f, lines, host)
+}
+
+/// What stands in front of the name of the cycle that an entry is of, given by its head.
+fn cycle_front(report: &Report<'_>, head: u32) -> Line
+    requires report { IsReport report.now }
+    requires function { head < report.now.inputs.graph.now.functions }
+    ensures { let s = sources_of report.now.inputs in
+        let c = component_of s.graph head in
+        result ≡ front_text s (number_of report.now (Cycle head)) (time_of s.flow c) (cycle_columns s c) }
+{
+    let all = report.inputs.shares.attributed();
+    let c = report.inputs.graph.component(head);
+    let columns = columns::of_cycle(&report.inputs, c);
+    line::primary(
+        report.cycle_number(head),
+        report.inputs.component_total(c),
+        all,
+        &columns,
+    )
+}
+
+/// Puts the line of the cycle that an entry is of, given by its head.
+fn put_cycle_line<H: Host>(
+    report: &Report<'_>,
+    head: u32,
+    lines: &mut PrintBuf,
+    host: &mut H,
+) -> Result<(), Failed>
+    requires report { IsReport report.now }
+    requires function { head < report.now.inputs.graph.now.functions }
+    requires cycle { is_cycle report.now.inputs.graph.now (component_of report.now.inputs.graph.now head) ≡ true }
+    ensures { Adds Output (cycle_line (sources_of report.now.inputs) (number_of report.now) head) lines.old lines.new (H.outside host.old) (H.outside host.new) result }
+{
+    lines.put(host, cycle_front(report, head).bytes())?;
+    put_cycle_name(report, head, lines, host)
+}
+
+/// Puts the entry of a function: its callers, its own line, and its callees.
+fn put_function<H: Host>(
+    report: &Report<'_>,
+    f: u32,
+    lines: &mut PrintBuf,
+    host: &mut H,
+) -> Result<(), Failed>
+    requires report { IsReport report.now }
+    requires function { f < report.now.inputs.graph.now.functions }
+    ensures { Adds Output (function_text (sources_of report.now.inputs) (number_of report.now) f) lines.old lines.new (H.outside host.old) (H.outside host.new) result }
+{
+    put_callers(report, report.inputs.arcs_to(f), lines, host)?;
+    put_function_line(report, f, lines, host)?;
+    put_callees(report, report.inputs.arcs_from(f), lines, host)?;
+    lines.put(host, RULE)
+}
+
+/// Puts the entry of a cycle, given by its head: its callers from outside, its own line, and its members.
+fn put_cycle<H: Host>(
+    report: &Report<'_>,
+    head: u32,
+    lines: &mut PrintBuf,
+    host: &mut H,
+) -> Result<(), Failed>
+    requires report { IsReport report.now }
+    requires function { head < report.now.inputs.graph.now.functions }
+    requires cycle { is_cycle report.now.inputs.graph.now (component_of report.now.inputs.graph.now head) ≡ true }
+    ensures { Adds Output (cycle_text (sources_of report.now.inputs) (number_of report.now) head) lines.old lines.new (H.outside host.old) (H.outside host.new) result }
+{
+    let c = report.inputs.graph.component(head);
+    put_callers(report, report.inputs.arcs_into(c), lines, host)?;
+    put_cycle_line(report, head, lines, host)?;
+    put_members(report, report.inputs.members(c), lines, host)?;
+    lines.put(host, RULE)
+}
+
+/// Puts an entry.
+pub(crate) fn put_entry<H: Host>(
+    report: &Report<'_>,
+    subject: Subject,
+    lines: &mut PrintBuf,
+    host: &mut H,
+) -> Result<(), Failed>
+    requires report { IsReport report.now }
+    requires subject { IsSubject report.now.inputs.graph.now subject }
+    ensures { Adds Output (subject_text (sources_of report.now.inputs) (number_of report.now) subject) lines.old lines.new (H.outside host.old) (H.outside host.new) result }
+{
+    match subject {
+        Subject::Cycle(head) => put_cycle(report, head, lines, host),
+        Subject::Function(f) => put_function(report, f, lines, host),
+    }
+}

@@ -1,0 +1,59 @@
+//! By what arcs are put together.
+
+ghost use Rattle.std.specs.Prelude.{◌≡◌, ◌<◌, IfOk};
+ghost use Rattle.call_cycles.specs.Graph.{arc_count, component_of};
+ghost use Rattle.call_cycles.specs.Sums.{list_of};
+ghost use Rattle.graph_report.specs.Tables.{arc_key};
+
+use call_cycles::Graph;
+use std::alloc::{AllocError, Global};
+
+/// What is the same for the arcs of a group.
+#[derive(Clone, Copy)]
+pub(crate) enum ArcKey {
+    Caller,
+    Callee,
+    /// The component that an outside arc enters. An arc inside a component has one more than the last.
+    Entered,
+    /// The component in which an arc stays. An outside arc has one more than the last.
+    Inner,
+}
+
+/// The key of arc `i`.
+fn key_of(graph: &Graph, i: usize, key: ArcKey) -> u32
+    requires { i < arc_count graph.now }
+    ensures { result ≡ arc_key graph.now key i }
+{
+    let a = graph.arc(i);
+    let c = graph.component(a.caller);
+    let d = graph.component(a.callee);
+    let none = graph.component_count();
+    match key {
+        ArcKey::Caller => a.caller,
+        ArcKey::Callee => a.callee,
+        ArcKey::Entered => if c == d { none } else { d },
+        ArcKey::Inner => if c == d { d } else { none },
+    }
+}
+
+/// The key of each arc.
+pub(crate) fn keys(alloc: Global, graph: &Graph, key: ArcKey) -> Result<Vec<u32>, AllocError>
+    ensures { IfOk result (λ v. v.items ≡ list_of (arc_count graph.now) (arc_key graph.now key)) }
+{
+    let mut keys = Vec::new(alloc);
+    for i in 0..graph.arc_count() {
+        keys.push(key_of(graph, i, key))?;
+    }
+    Ok(keys)
+}
+
+/// The component of each function.
+pub(crate) fn components(alloc: Global, graph: &Graph) -> Result<Vec<u32>, AllocError>
+    ensures { IfOk result (λ v. v.items ≡ list_of graph.now.functions (component_of graph.now)) }
+{
+    let mut components = Vec::new(alloc);
+    for f in 0..graph.function_count() {
+        components.push(graph.component(f))?;
+    }
+    Ok(components)
+}

@@ -1,0 +1,85 @@
+//! The numbers of entries.
+
+ghost use Rattle.std.specs.Prelude.{◌≡◌, ◌<◌, ℕ, IfOk, length, slice_index, if◌then◌else◌};
+ghost use Rattle.graph_report.specs.Entries.{first_function, is_same, ordered};
+ghost use Rattle.graph_report.specs.Inputs.{AreInputs, sources_of};
+ghost use Rattle.graph_report.specs.Numbers.{AreNumbers, IsReport, number_of};
+ghost use Rattle.graph_report.specs.Rows.{entries_of_rows};
+ghost use Rattle.graph_report.specs.declared.subjects.Subject.TheVariants.{Cycle, Function};
+
+use crate::inputs::Inputs;
+use crate::rows::Row;
+use crate::subjects::Subject;
+use std::alloc::{AllocError, Global};
+
+/// The number of each entry, from 1 on. What has no entry has 0.
+#[derive(Drop)]
+pub(crate) struct Numbers {
+    /// By function.
+    pub functions: Vec<usize>,
+    /// By the head of the cycle.
+    pub cycles: Vec<usize>,
+}
+
+/// What is printed, with the numbers of the entries.
+#[derive(Drop)]
+pub(crate) struct Report<'a> {
+    pub inputs: Inputs<'a>,
+    pub numbers: Numbers,
+}
+
+impl Report<'_> {
+    /// The number of a function's entry.
+    pub fn function_number(&self, f: u32) -> usize
+        requires report { IsReport self.now }
+        requires function { f < self.now.inputs.graph.now.functions }
+        ensures { result ≡ number_of self.now (Function f) }
+    {
+        self.numbers.functions[f as usize]
+    }
+
+    /// The number of a cycle's entry, given by its head.
+    pub fn cycle_number(&self, head: u32) -> usize
+        requires report { IsReport self.now }
+        requires function { head < self.now.inputs.graph.now.functions }
+        ensures { result ≡ number_of self.now (Cycle head) }
+    {
+        self.numbers.cycles[head as usize]
+    }
+}
+
+/// Gives the entry of a subject its number.
+fn put_number(numbers: &mut Numbers, subject: Subject, number: usize)
+    requires functions { first_function subject < length numbers.old.functions.items }
+    requires cycles { first_function subject < length numbers.old.cycles.items }
+    ensures function_count { length numbers.new.functions.items ≡ length numbers.old.functions.items }
+    ensures cycle_count { length numbers.new.cycles.items ≡ length numbers.old.cycles.items }
+    ensures functions { (f : ℕ) → f < length numbers.old.functions.items → slice_index numbers.new.functions.items f ≡ (if is_same subject (Function f) then number else slice_index numbers.old.functions.items f) }
+    ensures cycles { (head : ℕ) → head < length numbers.old.cycles.items → slice_index numbers.new.cycles.items head ≡ (if is_same subject (Cycle head) then number else slice_index numbers.old.cycles.items head) }
+{
+    match subject {
+        Subject::Cycle(head) => numbers.cycles[head as usize] = number,
+        Subject::Function(f) => numbers.functions[f as usize] = number,
+    }
+}
+
+/// The numbers of the entries of these rows. Of several with one subject the first counts.
+pub(crate) fn entry_numbers(
+    alloc: Global,
+    inputs: &Inputs<'_>,
+    rows: &[Row<'_>],
+) -> Result<Numbers, AllocError>
+    requires inputs { AreInputs inputs.now }
+    requires rows { entries_of_rows rows.now ≡ ordered (sources_of inputs.now) }
+    ensures { IfOk result (AreNumbers (sources_of inputs.now)) }
+{
+    let count = inputs.graph.function_count() as usize;
+    let mut numbers = Numbers {
+        functions: vec![in alloc; 0usize; count]?,
+        cycles: vec![in alloc; 0usize; count]?,
+    };
+    for i in (0..rows.len()).rev() {
+        put_number(&mut numbers, rows[i].subject, i + 1);
+    }
+    Ok(numbers)
+}

@@ -1,0 +1,98 @@
+//! The entries, in their order.
+
+ghost use Rattle.std.specs.Prelude.{◌≡◌, ◌<◌, ◌++◌, IfOk, OnOk};
+ghost use Rattle.graph_report.specs.Entries.{entry_cmp, ordered};
+ghost use Rattle.graph_report.specs.Entries.{has_entry as has};
+ghost use Rattle.graph_report.specs.Inputs.{AreInputs, sources_of};
+ghost use Rattle.graph_report.specs.Rows.{cycle_entries, entries_of_rows, entry_of_row, function_entries};
+
+use crate::inputs::Inputs;
+use crate::subjects::{Subject, first_of, rank_of};
+use std::alloc::{AllocError, Global};
+use std::cmp::Ordering;
+
+/// An entry: what it is of, its grains and its name.
+#[derive(Drop)]
+pub(crate) struct Row<'a> {
+    pub subject: Subject,
+    pub total: u128,
+    pub name: &'a [u8],
+}
+
+/// Which of two entries stands first: that with the greater total, then by the bytes of their names, then
+/// by their addresses, and then a cycle before a function.
+fn order(one: &Row<'_>, other: &Row<'_>) -> Ordering
+    ensures { result ≡ entry_cmp (entry_of_row one.now) (entry_of_row other.now) }
+{
+    let by_total = other.total.cmp(&one.total);
+    if by_total != Ordering::Equal {
+        return by_total;
+    }
+    let by_name = one.name.cmp(other.name);
+    if by_name != Ordering::Equal {
+        return by_name;
+    }
+    let by_address = first_of(one.subject).cmp(&first_of(other.subject));
+    by_address.then(rank_of(one.subject).cmp(&rank_of(other.subject)))
+}
+
+/// Whether a function took time, itself or in what it calls, or calls or is called.
+fn has_entry(inputs: &Inputs<'_>, f: u32) -> bool
+    requires inputs { AreInputs inputs.now }
+    requires function { f < inputs.now.graph.now.functions }
+    ensures { result ≡ has (sources_of inputs.now) f }
+{
+    let called = inputs.calls_to(f);
+    let calls = inputs.calls_from(f);
+    let own = inputs.graph.self_calls(f);
+    inputs.total(f) > 0 || called > 0 || calls > 0 || own > 0
+}
+
+/// Adds the cycles, in the order of components.
+fn put_cycles<'a>(inputs: &Inputs<'a>, rows: &mut Vec<Row<'a>>) -> Result<(), AllocError>
+    requires { AreInputs inputs.now }
+    ensures { OnOk result (entries_of_rows rows.new.items ≡ entries_of_rows rows.old.items ++ cycle_entries (sources_of inputs.now)) }
+{
+    for c in 0..inputs.graph.component_count() {
+        if inputs.graph.is_cycle(c) {
+            rows.push(Row {
+                subject: Subject::Cycle(inputs.graph.head(c)),
+                total: inputs.component_total(c),
+                name: inputs.cycle_name(c),
+            })?;
+        }
+    }
+    Ok(())
+}
+
+/// Adds the functions that have an entry, in the order of their addresses.
+fn put_functions<'a>(inputs: &Inputs<'a>, rows: &mut Vec<Row<'a>>) -> Result<(), AllocError>
+    requires { AreInputs inputs.now }
+    ensures { OnOk result (entries_of_rows rows.new.items ≡ entries_of_rows rows.old.items ++ function_entries (sources_of inputs.now)) }
+{
+    for f in 0..inputs.graph.function_count() {
+        if has_entry(inputs, f) {
+            rows.push(Row {
+                subject: Subject::Function(f),
+                total: inputs.total(f),
+                name: inputs.name(f),
+            })?;
+        }
+    }
+    Ok(())
+}
+
+/// All entries, in their order.
+pub(crate) fn rows_in_order<'a>(
+    alloc: Global,
+    inputs: &Inputs<'a>,
+) -> Result<Vec<Row<'a>>, AllocError>
+    requires { AreInputs inputs.now }
+    ensures { IfOk result (λ rows. entries_of_rows rows.items ≡ ordered (sources_of inputs.now)) }
+{
+    let mut rows = Vec::new(alloc);
+    put_cycles(inputs, &mut rows)?;
+    put_functions(inputs, &mut rows)?;
+    rows.sort_unstable_by(|one, other| order(one, other));
+    Ok(rows)
+}
