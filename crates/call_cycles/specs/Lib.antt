@@ -9,3 +9,4 @@ pub mod Heads
 pub mod Parts
 pub mod Passes
 pub mod Values
+pub mod Flow

@@ -8,7 +8,7 @@ use Rattle.std.proofs.lemmas.List.FromFn.{get_or-enumerate_from, length-enumerat
 use Rattle.std.proofs.lemmas.List.Sums.{sum_by-cons, sum_by_more}
 use Rattle.elf32_syms.specs.declared.image.Symbol.{Symbol}
 use Rattle.symbol_shares.specs.Shares.{ShareTable, attributed_of}
-use Rattle.flat_report.specs.Entries.{Entry, has_share, entry_of, entries_of, in_order}
+use Rattle.flat_report.specs.Entries.{Entry, comes_before, has_share, entry_of, entries_of, ordered}
 use Rattle.flat_report.proofs.OrderLemmas.{all_in_order, sum_in_order}
 
 abbrev share : Entry → ℕ
@@ -37,13 +37,13 @@ shares_filtered (e ∷ es) = by (shares_filtered es) (has_share e) refl
     by rest false is = omega (arith, rest, sum_by-cons share e es, without_share e.share is)
 
 -- the functions with a share have what all functions have
-pub ordered_shares : (symbols : List Symbol) (t : ShareTable) → length t.of ≡ length symbols → sum_by (λ (e : Entry). e.share) (in_order (entries_of symbols t)) ≡ attributed_of t
+pub ordered_shares : (symbols : List Symbol) (t : ShareTable) → length t.of ≡ length symbols → sum_by (λ (e : Entry). e.share) (ordered (entries_of symbols t)) ≡ attributed_of t
 unfolding entries_of
 ordered_shares symbols t each =
     let all = map (entry_of t) (enumerate_from 0 symbols) in
-    omega (arith, sum_in_order share (filter has_share all), shares_filtered all, shares_from t symbols 0 (omega arith))
+    omega (arith, sum_in_order comes_before share (filter has_share all), shares_filtered all, shares_from t symbols 0 (omega arith))
 
-pub ordered_within : (symbols : List Symbol) (t : ShareTable) → length t.of ≡ length symbols → sum_by (λ (e : Entry). e.share) (in_order (entries_of symbols t)) ≤ attributed_of t
+pub ordered_within : (symbols : List Symbol) (t : ShareTable) → length t.of ≡ length symbols → sum_by (λ (e : Entry). e.share) (ordered (entries_of symbols t)) ≤ attributed_of t
 ordered_within symbols t each = omega (arith, ordered_shares symbols t each)
 
 some_share : (n : ℕ) → nat_lt 0 n ≡ true → 0 < n
@@ -55,10 +55,10 @@ shares_positive symbols t =
     let all = map (entry_of t) (enumerate_from 0 symbols) in
     All-weaker (λ e. has_share e ≡ true) (λ e. 0 < e.share) (λ e h. some_share e.share h) (filter has_share all) (filter_passes has_share all)
 
-pub ordered_positive : (symbols : List Symbol) (t : ShareTable) → All (λ (e : Entry). 0 < e.share) (in_order (entries_of symbols t))
+pub ordered_positive : (symbols : List Symbol) (t : ShareTable) → All (λ (e : Entry). 0 < e.share) (ordered (entries_of symbols t))
 ordered_positive symbols t =
-    All-from_recursion (λ e. 0 < e.share) (in_order (entries_of symbols t))
-    (all_in_order (λ e. 0 < e.share) (entries_of symbols t) (recursion_from_All (λ e. 0 < e.share) (entries_of symbols t) (shares_positive symbols t)))
+    All-from_recursion (λ e. 0 < e.share) (ordered (entries_of symbols t))
+    (all_in_order comes_before (λ e. 0 < e.share) (entries_of symbols t) (recursion_from_All (λ e. 0 < e.share) (entries_of symbols t) (shares_positive symbols t)))
 
 -- ---- the functions of the first symbols
 

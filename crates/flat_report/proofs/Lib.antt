@@ -1,4 +1,5 @@
 pub mod OrderLemmas
+pub mod EntryOrder
 pub mod EntryLemmas
 pub mod RowLemmas
 pub mod ReportLemmas

@@ -7,7 +7,7 @@ use Rattle.host_port.specs.declared.host.Failed.{Failed}
 use Rattle.elf32_syms.specs.declared.image.Symbol.{Symbol}
 use Rattle.symbol_shares.specs.Shares.{ShareTable, attributed_of}
 use Rattle.flat_report.specs.declared.refusal.ReportRefusal.TheVariants.{WriteFault}
-use Rattle.flat_report.specs.Entries.{Entry, entries_of, in_order}
+use Rattle.flat_report.specs.Entries.{Entry, entries_of, ordered}
 use Rattle.flat_report.specs.FlatText.{flat_text, header_text, lines_of}
 use Rattle.flat_report.specs.Reports.{Reports}
 
@@ -20,6 +20,6 @@ pub report_cut : (text whole : List ℕ) (x y : Outside) (e : Failed) → text �
 report_cut text whole x y e same puts = subst (λ (t : List ℕ). Reports t x y (Err WriteFault)) same (record { takes = record { done = tt; part = puts.takes.part; input = puts.takes.input }; counts = record { own = puts.counts.own; read = puts.counts.read; err = puts.counts.err } })
 
 -- the text of the entries in order is the flat profile
-pub text_in_order : (symbols : List Symbol) (t : ShareTable) (rate : ℕ) (entries : List Entry) → entries ≡ in_order (entries_of symbols t) → header_text t rate ++ lines_of (attributed_of t) rate entries ≡ flat_text symbols t rate
+pub text_in_order : (symbols : List Symbol) (t : ShareTable) (rate : ℕ) (entries : List Entry) → entries ≡ ordered (entries_of symbols t) → header_text t rate ++ lines_of (attributed_of t) rate entries ≡ flat_text symbols t rate
 unfolding flat_text
 text_in_order symbols t rate entries same = ap (λ (es : List Entry). header_text t rate ++ lines_of (attributed_of t) rate es) same

@@ -1,11 +1,12 @@
 -- The functions that have a line in a report, and their order.
-use Rattle.std.specs.Prelude.{ℕ, Bool, nat_lt, List, [], ◌∷◌, map, filter, fold, slice_index, if◌then◌else◌}
+use Rattle.std.specs.Prelude.{ℕ, Bool, nat_lt, List, map, filter, slice_index}
 use Rattle.std.specs.List.{enumerate_from}
 use Rattle.std.specs.declared.cmp.Ordering.{Ordering}
 use Rattle.std.specs.Ordering.{nat_cmp, ordering_then, is_lt}
 use Rattle.std.specs.Cmp.Lexicographic.{slice_cmp}
 use Rattle.elf32_syms.specs.declared.image.Symbol.{Symbol}
 use Rattle.symbol_shares.specs.Shares.{ShareTable}
+use Rattle.flat_report.specs.Order.{in_order}
 
 -- a function: its grains, its name and its address
 pub record Entry : Type 0 where
@@ -32,11 +33,6 @@ entry_cmp a b =
 unfoldable pub comes_before : Entry → Entry → Bool
 comes_before a b = is_lt (entry_cmp a b)
 
--- the entries with one more, which stands behind those that come before it
-abbrev pub placed : List Entry → Entry → List Entry
-placed [] e = e ∷ []
-placed (first ∷ more) e = if comes_before first e then first ∷ placed more e else e ∷ first ∷ more
-
 -- each entry in its place
-unfoldable pub in_order : List Entry → List Entry
-in_order entries = fold placed [] entries
+abbrev pub ordered : List Entry → List Entry
+ordered entries = in_order comes_before entries

@@ -4,7 +4,7 @@ use Rattle.std.specs.List.{flat_map, enumerate_from, sum_by}
 use Rattle.text_cols.specs.Columns.{decimal, hundredths_of, right_of, spaces}
 use Rattle.elf32_syms.specs.declared.image.Symbol.{Symbol}
 use Rattle.symbol_shares.specs.Shares.{ShareTable, attributed_of}
-use Rattle.flat_report.specs.Entries.{Entry, entries_of, in_order}
+use Rattle.flat_report.specs.Entries.{Entry, entries_of, ordered}
 
 -- grains in seconds, at so many samples of 1,000,000 grains a second
 abbrev pub seconds_of : ℕ → ℕ → List ℕ
@@ -43,4 +43,4 @@ lines_of total rate entries = flat_map (line_at total rate entries) (enumerate_f
 
 -- the flat profile: a line for each function with a share, in order
 unfoldable pub flat_text : List Symbol → ShareTable → ℕ → List ℕ
-flat_text symbols t rate = header_text t rate ++ lines_of (attributed_of t) rate (in_order (entries_of symbols t))
+flat_text symbols t rate = header_text t rate ++ lines_of (attributed_of t) rate (ordered (entries_of symbols t))

@@ -1,3 +1,5 @@
+pub mod Sources
+pub mod Order
 pub mod Entries
 pub mod FlatText
 pub mod Reports

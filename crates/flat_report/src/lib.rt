@@ -4,7 +4,7 @@
 #![tactic(auto)]
 
 pub mod laws;
-mod line;
+pub mod line;
 pub mod refusal;
 pub mod report;
 mod rows;

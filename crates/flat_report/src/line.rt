@@ -8,7 +8,7 @@ use symbol_shares::Shares;
 use text_cols::Line;
 
 /// Grains of a sample.
-const GRAINS: u128 = 1_000_000;
+pub const GRAINS: u128 = 1_000_000;
 
 /// The line with the grains of all functions and of none, and the rate.
 #[tactic(auto, using(text_cols::proofs::Lengths::lengths), unfolding(crate::specs::FlatText::totals_line))]
@@ -28,7 +28,7 @@ pub fn totals(shares: &Shares, rate: u32) -> Line
 
 /// Adds a quotient with two digits after the point, at the right of its column.
 #[tactic(auto, using(text_cols::proofs::Lengths::lengths))]
-fn put_quotient(line: &mut Line, num: u128, den: u128, width: usize)
+pub fn put_quotient(line: &mut Line, num: u128, den: u128, width: usize)
     requires divisor { 0 < den }
     requires sum { 200 * num + den < 2 ^ 128 }
     requires double { 2 * den < 2 ^ 128 }

@@ -1,7 +1,7 @@
 //! The functions that have a line, in their order.
 
 ghost use Rattle.std.specs.Prelude.{◌≡◌, nat_lt, length, IfOk};
-ghost use Rattle.flat_report.specs.Entries.{entries_of, entry_cmp, in_order};
+ghost use Rattle.flat_report.specs.Entries.{entries_of, entry_cmp, ordered};
 ghost use Rattle.flat_report.specs.Rows.{entry_of_row, entries_of_rows};
 
 use elf32_syms::Symbol;
@@ -64,7 +64,7 @@ pub(crate) fn rows_in_order<'a>(
     shares: &Shares,
 ) -> Result<Vec<Row<'a>>, AllocError>
     requires { length shares.now.of ≡ length symbols.now }
-    ensures { IfOk result (λ rows. entries_of_rows rows.items ≡ in_order (entries_of symbols.now shares.now)) }
+    ensures { IfOk result (λ rows. entries_of_rows rows.items ≡ ordered (entries_of symbols.now shares.now)) }
 {
     let mut rows = rows_with_shares(alloc, symbols, shares)?;
     rows.sort_unstable_by(|one, other| order(one, other));

@@ -1,0 +1,11 @@
+//! The call graph: who called whom, and how much time went from callees to callers.
+//!
+//! Its entries and lines are those of GNU gprof: a function with its callers above it and its callees
+//! below, and each cycle as a whole. How they are laid out is this project's own choice.
+#![tactic(auto)]
+
+pub mod report;
+mod subjects;
+
+pub use flat_report::ReportRefusal;
+pub use report::write;

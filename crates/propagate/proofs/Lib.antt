@@ -1,0 +1,11 @@
+pub mod SumLemmas
+pub mod CarryLemmas
+pub mod ConservationLemmas
+pub mod UniqueLemmas
+pub mod SolutionLemmas
+pub mod BoundLemmas
+pub mod StepLemmas
+pub mod OrderLemmas
+pub mod TimeLemmas
+pub mod FlowLemmas
+pub mod MemberLemmas

@@ -1,0 +1,24 @@
+//! What the equations of the flow say, in other words.
+
+ghost use Rattle.std.specs.Prelude.{◌≡◌, ◌<◌, ◌≤◌, ◌+◌, ℕ, Bool, List, length, slice_index, sum};
+ghost use Rattle.call_cycles.specs.Graph.{GraphValue, IsGraph, component_count, component_of};
+ghost use Rattle.call_cycles.specs.Flow.{FlowValue, IsFlow, IsClosed, IsConserved, time_of, time_of_roots};
+ghost use Rattle.propagate.specs.Solution.{flow_in};
+
+/// The equations of a graph's flow have one solution and no other.
+pub fn one_flow()
+    ensures solved { (g : GraphValue) (shares : List ℕ) → IsGraph g → IsFlow g shares (flow_in g shares) }
+    ensures one { (g : GraphValue) (shares : List ℕ) (t u : FlowValue) → IsGraph g → IsFlow g shares t → IsFlow g shares u → t ≡ u }
+{}
+
+/// No time is lost: over each set of components that has with each all that it calls, and so over all.
+pub fn conservation()
+    ensures closed { (g : GraphValue) (shares : List ℕ) (t : FlowValue) (set : ℕ → Bool) → IsGraph g → IsFlow g shares t → IsClosed g set → IsConserved g t set }
+    ensures whole { (g : GraphValue) (shares : List ℕ) (t : FlowValue) → IsGraph g → length shares ≡ g.functions → IsFlow g shares t → time_of_roots g t ≡ sum shares }
+{}
+
+/// Nothing has more than all shares together: no component, and no function with what it gets over its arcs.
+pub fn no_more_than_all()
+    ensures components { (g : GraphValue) (shares : List ℕ) (t : FlowValue) (c : ℕ) → IsGraph g → length shares ≡ g.functions → IsFlow g shares t → c < component_count g → time_of t c ≤ sum shares }
+    ensures functions { (g : GraphValue) (shares : List ℕ) (t : FlowValue) (f : ℕ) → IsGraph g → length shares ≡ g.functions → IsFlow g shares t → f < g.functions → slice_index shares f + slice_index t.member_child f ≤ time_of t (component_of g f) }
+{}

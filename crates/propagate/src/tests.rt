@@ -1,0 +1,278 @@
+ghost use Rattle.std.specs.Prelude.{◌≡◌, ◌+◌, ◌*◌, ◌^◌, ◌<◌, ◌≤◌, IfOk, OnOk, length, sum};
+ghost use Rattle.std.specs.List.{All};
+ghost use Rattle.elf32_syms.specs.Owners.{IsAscending};
+ghost use Rattle.call_cycles.specs.Graph.{all_calls, arc_count, component_count};
+
+use super::*;
+use call_cycles::{Graph, graph};
+use elf32_syms::{Symbol, SymbolList};
+use gmon_data::{AddRefusal, Hist, Profile};
+use gp_base::{Name, Totals, Unit};
+use std::alloc::{AllocError, Global};
+use std::test::Fail;
+use symbol_shares::{Shares, shares};
+
+/// Calls of one function by another: caller, callee and count, by their numbers.
+type Calls = (u16, u16, u64);
+
+/// Adds function `i`, which has 16 addresses.
+fn push_symbol(symbols: &mut SymbolList, i: u32, name: Name) -> Result<(), AllocError>
+    requires few { i < 65536 }
+    requires ascending { IsAscending symbols.old }
+    requires ended { All (λ s. s.end ≤ 65536 + 16 * i) symbols.old }
+    ensures ascending { OnOk result (IsAscending symbols.new) }
+    ensures ended { OnOk result (All (λ s. s.end ≤ 65552 + 16 * i) symbols.new) }
+{
+    symbols.push(Symbol {
+        addr: 0x1_0000 + 16 * i,
+        end: 0x1_0010 + 16 * i,
+        name,
+    })
+}
+
+/// So many functions in a row, from 0x10000 on.
+fn symbols_of(alloc: Global, count: u16) -> Result<SymbolList, AllocError>
+    ensures { IfOk result IsAscending }
+{
+    let mut symbols = SymbolList::new(alloc);
+    for i in 0..u32::from(count) {
+        push_symbol(&mut symbols, i, Name::new(alloc))?;
+    }
+    Ok(symbols)
+}
+
+/// The samples of the first 65,535 functions.
+fn counters_of(alloc: Global, samples: &[u16]) -> Result<Totals, AllocError>
+    ensures samples { IfOk result (λ counters. sum counters < 2 ^ 45) }
+    ensures few { IfOk result (λ counters. length counters ≤ 65536) }
+{
+    let mut counters = Totals::new(alloc);
+    for count in samples {
+        if counters.as_slice().len() < 65535 {
+            counters.push(u64::from(*count))?;
+        }
+    }
+    Ok(counters)
+}
+
+/// One histogram of these counters, each of which has the addresses of one function.
+fn profile_of_samples(alloc: Global, counters: Totals) -> Result<Profile, AddRefusal>
+    requires samples { sum counters < 2 ^ 45 }
+    requires few { length counters ≤ 65536 }
+{
+    let unit = Unit {
+        rate: 100,
+        dim: *b"seconds\0\0\0\0\0\0\0\0",
+        abbrev: b's',
+    };
+    let count = counters.as_slice().len() as u32;
+    let hist = Hist {
+        low: 0x1_0000,
+        high: 0x1_0000 + 16 * count,
+        counters,
+    };
+    let mut profile = Profile::new(alloc);
+    if hist.low < hist.high {
+        profile.add_wide(&hist, unit)?;
+    }
+    Ok(profile)
+}
+
+/// A profile of the first 2000 of these calls, of 255 each at most.
+fn profile_of_calls(alloc: Global, calls: &[Calls]) -> Result<Profile, AllocError> {
+    let mut profile = Profile::new(alloc);
+    for (caller, callee, count) in &calls[..calls.len().min(2000)] {
+        let from = 0x1_0004 + 16 * u32::from(*caller);
+        let to = 0x1_0000 + 16 * u32::from(*callee);
+        profile.add_calls(from, to, (*count).min(255))?;
+    }
+    Ok(profile)
+}
+
+/// A graph of functions, and their shares.
+#[derive(Drop)]
+struct Program {
+    graph: Graph,
+    shares: Shares,
+}
+
+/// The program of functions with these samples and calls.
+fn program_of(alloc: Global, samples: &[u16], calls: &[Calls]) -> Result<Program, AddRefusal>
+    ensures each { IfOk result (λ p. length p.shares.of ≡ p.graph.functions) }
+    ensures few { IfOk result (λ p. all_calls p.graph < 2 ^ 59) }
+{
+    let symbols = symbols_of(alloc, samples.len().min(65535) as u16)?;
+    let calls = profile_of_calls(alloc, calls)?;
+    let samples = profile_of_samples(alloc, counters_of(alloc, samples)?)?;
+    Ok(Program {
+        graph: graph(alloc, &calls, symbols.as_slice())?,
+        shares: shares(alloc, &samples, symbols.as_slice())?,
+    })
+}
+
+/// Head, self time and child time of each component.
+fn components_text(alloc: Global, graph: &Graph, flow: &Flow) -> Result<String, AllocError>
+    requires selves { length flow.now.self ≡ component_count graph.now }
+    requires children { length flow.now.child ≡ component_count graph.now }
+{
+    let mut text = String::new(alloc);
+    for c in 0..graph.component_count() {
+        let head = graph.head(c);
+        let own = flow.self_of(c);
+        let child = flow.child_of(c);
+        write!(&mut text, "{head}={own}+{child} ")?;
+    }
+    Ok(text)
+}
+
+/// Caller, callee and the two parts of each arc.
+fn arcs_text(alloc: Global, graph: &Graph, flow: &Flow) -> Result<String, AllocError>
+    requires selves { length flow.now.arc_self ≡ arc_count graph.now }
+    requires children { length flow.now.arc_child ≡ arc_count graph.now }
+{
+    let mut text = String::new(alloc);
+    for i in 0..graph.arc_count() {
+        let arc = graph.arc(i);
+        let caller = arc.caller;
+        let callee = arc.callee;
+        let own = flow.arc_self(i);
+        let child = flow.arc_child(i);
+        write!(&mut text, "{caller}>{callee}={own}+{child} ")?;
+    }
+    Ok(text)
+}
+
+/// What each function gets over its arcs.
+fn functions_text(alloc: Global, graph: &Graph, flow: &Flow) -> Result<String, AllocError>
+    requires { length flow.now.member_child ≡ graph.now.functions }
+{
+    let mut text = String::new(alloc);
+    for f in 0..graph.function_count() {
+        let child = flow.member_child(f);
+        write!(&mut text, "{f}={child} ")?;
+    }
+    Ok(text)
+}
+
+/// The times of components, arcs and functions.
+fn flow_text(alloc: Global, samples: &[u16], calls: &[Calls]) -> Result<String, AddRefusal> {
+    let Program { graph, shares } = program_of(alloc, samples, calls)?;
+    let flow = flow(alloc, &graph, &shares)?;
+    let components = components_text(alloc, &graph, &flow)?;
+    let arcs = arcs_text(alloc, &graph, &flow)?;
+    let functions = functions_text(alloc, &graph, &flow)?;
+    let text = format!(in alloc; "{components}| {arcs}| {functions}")?;
+    Ok(text)
+}
+
+/// What a row shows, the samples of its functions, their calls, and the times.
+type Row = (&'static str, &'static [u16], &'static [Calls], &'static str);
+
+#[test]
+fn times_of_components_arcs_and_functions(rt: HostRuntime) -> Result<(), Fail> {
+    let rows: [Row; 10] = [
+        (
+            "three callers share a sample, the last has what is left over",
+            &[0, 0, 0, 1],
+            &[(0, 3, 1), (1, 3, 1), (2, 3, 1)],
+            "3=1000000+0 0=0+333333 1=0+333333 2=0+333334 | 0>3=333333+0 1>3=333333+0 2>3=333334+0 | 0=333333 1=333333 2=333334 3=0 ",
+        ),
+        (
+            "a cycle, and a function of it that calls itself",
+            &[1, 2, 3],
+            &[(0, 1, 1), (1, 2, 5), (2, 1, 4), (2, 2, 2)],
+            "1=5000000+0 0=1000000+5000000 | 0>1=5000000+0 1>2=0+0 2>1=0+0 | 0=5000000 1=0 2=0 ",
+        ),
+        (
+            "a chain",
+            &[1, 2, 4],
+            &[(0, 1, 3), (1, 2, 7)],
+            "2=4000000+0 1=2000000+4000000 0=1000000+6000000 | 0>1=2000000+4000000 1>2=4000000+0 | 0=6000000 1=4000000 2=0 ",
+        ),
+        (
+            "a cycle without callers",
+            &[1, 2, 4],
+            &[(0, 1, 1), (1, 0, 1), (1, 2, 3)],
+            "2=4000000+0 0=3000000+4000000 | 0>1=0+0 1>0=0+0 1>2=4000000+0 | 0=0 1=4000000 2=0 ",
+        ),
+        (
+            "two ways, and a root that has all",
+            &[1, 2, 4, 9],
+            &[(0, 1, 1), (0, 2, 1), (1, 3, 1), (2, 3, 2)],
+            "3=9000000+0 1=2000000+3000000 2=4000000+6000000 0=1000000+15000000 | 0>1=2000000+3000000 0>2=4000000+6000000 1>3=3000000+0 2>3=6000000+0 | 0=15000000 1=3000000 2=6000000 3=0 ",
+        ),
+        // A third of 1,000,000 and of 2,000,000, each rounded down, is 333,333 and 666,666.
+        (
+            "self time and child time are cut apart",
+            &[0, 0, 1, 2],
+            &[(0, 2, 1), (1, 2, 2), (2, 3, 5)],
+            "3=2000000+0 2=1000000+2000000 0=0+999999 1=0+2000001 | 0>2=333333+666666 1>2=666667+1333334 2>3=2000000+0 | 0=999999 1=2000001 2=2000000 3=0 ",
+        ),
+        (
+            "a cycle that is entered and left at both members",
+            &[0, 0, 1, 1, 4],
+            &[
+                (0, 2, 1),
+                (1, 3, 3),
+                (2, 3, 9),
+                (3, 2, 9),
+                (2, 4, 1),
+                (3, 4, 1),
+            ],
+            "4=4000000+0 2=2000000+4000000 0=0+1500000 1=0+4500000 | 0>2=500000+1000000 1>3=1500000+3000000 2>3=0+0 2>4=2000000+0 3>2=0+0 3>4=2000000+0 | 0=1500000 1=4500000 2=2000000 3=2000000 4=0 ",
+        ),
+        (
+            "a function that calls itself alone",
+            &[1],
+            &[(0, 0, 3)],
+            "0=1000000+0 | | 0=0 ",
+        ),
+        (
+            "no calls",
+            &[1, 0, 2],
+            &[],
+            "0=1000000+0 1=0+0 2=2000000+0 | | 0=0 1=0 2=0 ",
+        ),
+        ("no functions", &[], &[], "| | "),
+    ];
+    for (name, samples, calls, want) in rows {
+        let text = flow_text(rt.alloc(), samples, calls)?;
+        assert_eq!(rt; text.as_str(), want, "{name}");
+    }
+    Ok(())
+}
+
+/// A chain of 1,500 functions, each of which calls the next one; the last has 3 samples.
+fn chain(alloc: Global) -> Result<Program, AddRefusal>
+    ensures each { IfOk result (λ p. length p.shares.of ≡ p.graph.functions) }
+    ensures few { IfOk result (λ p. all_calls p.graph < 2 ^ 59) }
+{
+    let mut calls = Vec::new(alloc);
+    for f in 0..1499u16 {
+        calls.push((f, f + 1, 2))?;
+    }
+    let mut samples = vec![in alloc; 0u16; 1499]?;
+    samples.push(3)?;
+    program_of(alloc, &samples, calls.as_slice())
+}
+
+#[test]
+fn a_chain_of_1500(rt: HostRuntime) -> Result<(), Fail> {
+    let Program { graph, shares } = chain(rt.alloc())?;
+    let flow = flow(rt.alloc(), &graph, &shares)?;
+    assert_eq!(rt; graph.component_count(), 1500);
+    assert_eq!(rt; graph.arc_count(), 1499);
+    for i in 0..graph.arc_count() {
+        let want = if i == 1498 {
+            (3_000_000, 0)
+        } else {
+            (0, 3_000_000)
+        };
+        assert_eq!(rt; (flow.arc_self(i), flow.arc_child(i)), want, "{i}");
+    }
+    for f in 0..graph.function_count() {
+        let want = if f == 1499 { 0 } else { 3_000_000 };
+        assert_eq!(rt; flow.member_child(f), want, "{f}");
+    }
+    Ok(())
+}
