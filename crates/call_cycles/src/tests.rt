@@ -44,12 +44,8 @@ fn profile(alloc: Global, arcs: &[(u32, u32, u64)]) -> Result<Profile, AllocErro
 fn arcs_text(alloc: Global, graph: &Graph) -> Result<String, AllocError> {
     let mut text = String::new(alloc);
     for i in 0..graph.arc_count() {
-        let FunArc {
-            caller,
-            callee,
-            count,
-        } = graph.arc(i);
-        write!(&mut text, "{caller}>{callee}:{count} ")?;
+        let arc = graph.arc(i);
+        write!(&mut text, "{}>{}:{} ", arc.caller, arc.callee, arc.count)?;
     }
     Ok(text)
 }
@@ -166,13 +162,18 @@ fn arcs_of_a_profile(rt: HostRuntime) -> Result<(), Fail> {
     Ok(())
 }
 
+/// The address of a function of 16 addresses.
+fn address(f: u16) -> u32
+    ensures { result ≤ 1114112 }
+{
+    0x1_0000 + 16 * u32::from(f)
+}
+
 /// Arcs of a profile that have these calls: caller, callee and count, by the functions' numbers.
 fn addresses(alloc: Global, calls: &[(u16, u16, u64)]) -> Result<Vec<(u32, u32, u64)>, AllocError> {
     let mut arcs = Vec::new(alloc);
     for (caller, callee, count) in calls {
-        let from = 0x1_0004 + 16 * u32::from(*caller);
-        let to = 0x1_0000 + 16 * u32::from(*callee);
-        arcs.push((from, to, *count))?;
+        arcs.push((address(*caller) + 4, address(*callee), *count))?;
     }
     Ok(arcs)
 }

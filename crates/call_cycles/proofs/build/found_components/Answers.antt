@@ -1,10 +1,34 @@
-use Rattle.std.proofs.Common.{◌≡◌, ◌<◌, ℕ, List, length, map, slice_index, slice_index_or, ◌∙◌, ap, subst}
-use Rattle.call_cycles.specs.Leaders.{AreLeast, AreLeaders, AreLevels}
+use Rattle.std.proofs.Common.{◌≡◌, ◌<◌, ℕ, List, length, map, slice_index, slice_index_or, ◌∙◌, sym, ap, subst, arith}
+use Rattle.call_cycles.specs.Arcs.{AreWithin}
+use Rattle.call_cycles.specs.Passes.{AreFirst}
+use Rattle.call_cycles.specs.Leaders.{AreRanks, IsRankOrder, AreLeast, AreLeaders, AreLevels}
 use Rattle.call_cycles.specs.Heads.{IsHeadOrder}
 use Rattle.call_cycles.specs.Sums.{list_of}
 use Rattle.call_cycles.proofs.LeaderLemmas.{are_leaders}
 use Rattle.call_cycles.proofs.ComponentLemmas.{are_components}
 use Rattle.call_cycles.proofs.build.found_components.Goals as goal
+
+pub levels-requires : goal.levels-requires
+levels-requires c =
+    let n = c.args.functions in
+    let arcs = c.args.arcs.now in
+    let ranks = c.in_ok-ranking.ranking.ranks.items in
+    let leaders = c.in_ok-leaders.leaders.items in
+    let same = c.deref-4.ensures.value in
+    let least : AreLeast n ranks leaders = subst (λ (xs : List ℕ). AreLeast n xs leaders) c.deref-2.ensures.value c.in_ok-leaders.ensures.least in
+    let len : length c.deref-4.result.now ≡ n = ap length same ∙ least.len in
+    let led : AreLeaders n arcs leaders = are_leaders n arcs ranks leaders c.in_ok-ranking.ensures.ranks least in
+    let first : AreFirst n arcs c.deref-3.result.now = subst (AreFirst n arcs) (sym c.deref-3.ensures.value) c.in_ok-first.ensures.first in
+    let fits = c.ranges.functions.fits in
+    record {
+      functions = omega arith;
+      within = subst (λ (k : ℕ). AreWithin k arcs) (sym len) c.requires.within;
+      ordered = c.requires.ordered;
+      first = subst (λ (k : ℕ). AreFirst k arcs c.deref-3.result.now) (sym len) first;
+      leaders = subst (λ (k : ℕ). AreLeaders k arcs c.deref-4.result.now) (sym len) (subst (AreLeaders n arcs) (sym same) led);
+      ranks = subst (λ (k : ℕ). AreRanks k arcs ranks) (sym len) c.in_ok-ranking.ensures.ranks;
+      order = subst (λ (k : ℕ). IsRankOrder k ranks c.in_ok-ranking.ranking.order.items) (sym len) c.in_ok-ranking.ensures.order;
+    }
 
 pub returns-clause-components : goal.returns-clause-components
 returns-clause-components c =

@@ -6,6 +6,9 @@ use Rattle.call_cycles.proofs.tests.symbols.Goals as goal
 pub loop-i-init : goal.loop-i-init
 loop-i-init c = record { low = omega arith; row = subst (IsRow 65536) (sym c.new-symbols.ensures.items) (row_none 65536) }
 
+pub overflow_add-end : goal.overflow_add-end
+overflow_add-end c = let low = c.loop-i.invariant.low in omega arith
+
 pub loop-i-preserved : goal.loop-i-preserved
 loop-i-preserved c =
     let size = c.args.size in
