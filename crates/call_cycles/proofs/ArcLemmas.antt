@@ -19,7 +19,7 @@ use Rattle.call_cycles.specs.Graph.{no_arc}
 use Rattle.call_cycles.specs.Parts.{AreCalled, arcs_calls}
 use Rattle.call_cycles.specs.Calls.{pair_cmp, some_calls, HasCalls, lies_in, calls_of, calls_between, arc_between, arcs_among, function_arcs, own_calls, calls_at, arc_in}
 use Rattle.call_cycles.proofs.SumLemmas.{sum_ext, sum_add, sum_zero, sum_none, sum_mono, sum_at, sum_flat, sum_places, all_flat, flat_more}
-use Rattle.call_cycles.specs.Marks.{AreByCaller, AreWithin}
+use Rattle.call_cycles.specs.Arcs.{AreByCaller, AreWithin}
 use Rattle.call_cycles.proofs.CallLemmas.{calls_at_is}
 use Rattle.call_cycles.proofs.ListLemmas.{list_at}
 use Rattle.call_cycles.proofs.PairLemmas.{entry_of, pair_entry, entries_in_order}

@@ -1,27 +1,19 @@
 -- The numbered components are those of the graph.
-use Rattle.std.proofs.Common.{◌≡◌, ◌≢◌, ◌<◌, ◌↔◌, ℕ, zero, suc, ◌&&◌, Bool, not, List, [], ◌∷◌, length, map, get_or, inl, inr, refl, ap, sym, ◌∙◌, subst, ⊎_elim, arith}
+use Rattle.std.proofs.Common.{◌≡◌, ◌<◌, ◌↔◌, ℕ, zero, suc, ◌&&◌, Bool, not, List, [], ◌∷◌, length, map, get_or, inl, inr, refl, ap, sym, ◌∙◌, subst, ⊎_elim, arith}
 use Rattle.std.specs.Prelude.{◌==◌, slice_index, slice_index_or}
 use Rattle.std.specs.List.{All}
-use Rattle.std.proofs.lemmas.Bool.{cases_eq, eq-eqb, ne_eqb}
 use Rattle.call_cycles.specs.declared.graphs.FunArc.{FunArc}
 use Rattle.call_cycles.specs.Sums.{max_below, when}
 use Rattle.call_cycles.specs.Graph.{GraphValue, no_arc, IsLevel, AreComponents, component_of, target_of, leaves}
 use Rattle.call_cycles.specs.Walks.{Reaches}
-use Rattle.call_cycles.specs.Marks.{AreWithin}
+use Rattle.call_cycles.specs.Arcs.{AreWithin}
 use Rattle.call_cycles.specs.Leaders.{AreLeaders, AreLevels, callee_leader, leaves_leader}
 use Rattle.call_cycles.specs.Heads.{IsHead, IsBefore}
 use Rattle.call_cycles.specs.Sums.{list_of}
 use Rattle.call_cycles.proofs.SumLemmas.{max_ext}
 use Rattle.call_cycles.proofs.WalkLemmas.{reaches_itself, reaches_on}
 use Rattle.call_cycles.proofs.LevelLemmas.{joined_same}
-use Rattle.call_cycles.proofs.ListLemmas.{list_long, list_at}
-
-pub same_test : (a b x y : ℕ) → (a ≡ b → x ≡ y) → (x ≡ y → a ≡ b) → (a == b) ≡ (x == y)
-same_test a b x y to back =
-    ⊎_elim
-    (λ (same : a ≡ b). eq-eqb a b same ∙ sym (eq-eqb x y (to same)))
-    (λ (apart : a ≢ b). ne_eqb a b apart ∙ sym (ne_eqb x y (λ q. apart (back q))))
-    (cases_eq a b)
+use Rattle.call_cycles.proofs.ListLemmas.{list_long, list_at, same_test}
 
 heads_at : (order : List (ℕ × ℕ)) (c : ℕ) → slice_index (map (λ (p : ℕ × ℕ). p.1) order) c ≡ (get_or order c (0, 0)).1
 heads_at [] c = refl

@@ -1,15 +1,21 @@
--- Levels raised arc by arc.
-use Rattle.std.proofs.Common.{◌≡◌, ◌≢◌, ◌<◌, ◌≤◌, ℕ, suc, ◌+◌, Bool, true, false, not, List, length, inl, inr, refl, ap, sym, ◌∙◌, subst, ⊎_elim, arith, length-set, get_or-set_same, get_or-set_other}
-use Rattle.std.specs.Prelude.{◌==◌, slice_index, slice_index_or, slice_set}
-use Rattle.std.proofs.lemmas.Bool.{true≢false, cases_eq, eqb-true, eqb-false, eq-eqb, ne_eqb, not-true, and_parts, and_from}
+-- Levels, known from those of lesser ranks.
+use Rattle.std.proofs.Common.{◌≡◌, ◌≢◌, ◌<◌, ◌≤◌, ℕ, zero, suc, max, ◌+◌, ◌&&◌, ◌||◌, Bool, true, false, not, List, length, take, replicate, refl, ap, sym, ◌∙◌, subst, ⊎_elim, arith}
+use Rattle.std.specs.Prelude.{◌==◌, slice_index, slice_index_or}
+use Rattle.std.specs.List.{list_any}
+use Rattle.std.proofs.lemmas.Bool.{cases_eq, eqb-true, eqb-false, eq-eqb, ne_eqb, not-true, or_right, and_parts}
+use Rattle.std.proofs.lemmas.List.{get_or_default, get_or-take, length-take, length-replicate, take_all}
+use Rattle.std.proofs.lemmas.List.Folds.{Any-from_list_any, list_any_at, list_any_more}
 use Rattle.call_cycles.specs.declared.graphs.FunArc.{FunArc}
 use Rattle.call_cycles.specs.Sums.{max_below, when}
 use Rattle.call_cycles.specs.Graph.{no_arc}
-use Rattle.call_cycles.specs.Walks.{Reaches, IsRank}
-use Rattle.call_cycles.specs.Marks.{AreWithin}
-use Rattle.call_cycles.specs.Leaders.{AreJoined, AreLeaders, AreLevels, IsRising, AreStable, slack, caller_leader, callee_leader, leaves_leader}
-use Rattle.call_cycles.proofs.SumLemmas.{sum_less, max_least, le_max_below}
+use Rattle.call_cycles.specs.Walks.{Reaches}
+use Rattle.call_cycles.specs.Arcs.{AreWithin}
+use Rattle.call_cycles.specs.Leaders.{AreJoined, AreRanks, IsRankOrder, AreLeaders, AreLevels, caller_leader, callee_leader, leaves_leader, leaves_by, level_over}
+use Rattle.call_cycles.specs.Passes.{caller_at}
+use Rattle.call_cycles.proofs.SumLemmas.{when_le, max_ext, max_least}
+use Rattle.call_cycles.proofs.ListLemmas.{same_test}
 use Rattle.call_cycles.proofs.WalkLemmas.{reaches_by, reaches_on}
+use Rattle.call_cycles.proofs.RankLemmas.{IsRank, rank_of_ranks}
 
 module _ (n : ℕ) (arcs : List FunArc) (leaders : List ℕ) (within : AreWithin n arcs) (led : AreLeaders n arcs leaders) where
   pub joined_same : (f h : ℕ) → f < n → h < n → AreJoined arcs f h → slice_index leaders f ≡ slice_index leaders h
@@ -19,12 +25,6 @@ module _ (n : ℕ) (arcs : List FunArc) (leaders : List ℕ) (within : AreWithin
       let one = lf.least (slice_index leaders h) (omega arith) lh.within (reaches_on arcs f h _ joined.0 lh.joined.0, reaches_on arcs _ h f lh.joined.1 joined.1) in
       let two = lh.least (slice_index leaders f) (omega arith) lf.within (reaches_on arcs h f _ joined.1 lf.joined.0, reaches_on arcs _ f h lf.joined.1 joined.0) in
       omega arith
-
-  pub caller_leads : (i : ℕ) → i < length arcs → caller_leader arcs leaders i < n
-  caller_leads i below = (led.each _ (within i below).0).within
-
-  pub callee_leads : (i : ℕ) → i < length arcs → callee_leader arcs leaders i < n
-  callee_leads i below = (led.each _ (within i below).1).within
 
   -- the rank falls from component to component
   pub rank_drops : (ranks : List ℕ) → IsRank n arcs ranks → (i : ℕ) → i < length arcs → caller_leader arcs leaders i ≢ callee_leader arcs leaders i
@@ -47,125 +47,230 @@ module _ (n : ℕ) (arcs : List FunArc) (leaders : List ℕ) (within : AreWithin
       apart (joined_same f h fb hb (arc, home)) in
       omega arith
 
-pub record IsRaised (n : ℕ) (arcs : List FunArc) (leaders ranks start levels : List ℕ) (changed : Bool) (k : ℕ) : Type 0 where
-  pub rising : IsRising n arcs leaders ranks levels
-  pub fewer : changed ≡ true → slack n ranks levels < slack n ranks start
-  pub most : slack n ranks levels ≤ slack n ranks start
-  pub stable : changed ≡ false → (i : ℕ) → i < k → caller_leader arcs leaders i ≢ callee_leader arcs leaders i → slice_index levels (callee_leader arcs leaders i) < slice_index levels (caller_leader arcs leaders i)
+-- ---- greatest values
 
-module _ (n : ℕ) (arcs : List FunArc) (leaders ranks : List ℕ) (within : AreWithin n arcs) (led : AreLeaders n arcs leaders) (ranked : IsRank n arcs ranks)
-    (start levels : List ℕ) (changed : Bool) (k : ℕ) (is : IsRaised n arcs leaders ranks start levels changed k) where
-  pub raised_same : (caller_leader arcs leaders k ≢ callee_leader arcs leaders k → slice_index levels (callee_leader arcs leaders k) < slice_index levels (caller_leader arcs leaders k)) → IsRaised n arcs leaders ranks start levels changed (k + 1)
-  raised_same here = record {
-    rising = is.rising;
-    fewer = is.fewer;
-    most = is.most;
-    stable = λ same i below. ⊎_elim
-        (λ (at : i ≡ k). subst (λ (j : ℕ). caller_leader arcs leaders j ≢ callee_leader arcs leaders j → slice_index levels (callee_leader arcs leaders j) < slice_index levels (caller_leader arcs leaders j)) (sym at) here)
-        (λ (apart : i ≢ k). is.stable same i (omega arith))
-        (cases_eq i k);
-  }
+max_none : (n : ℕ) (f : ℕ → ℕ) → ((i : ℕ) → i < n → f i ≡ 0) → max_below n f ≡ 0
+max_none zero f none = refl
+max_none (suc n) f none =
+    let ih = max_none n f (λ i below. none i (omega arith)) in
+    let last = none n (omega arith) in
+    omega arith
 
-  module _ (below : k < length arcs) (apart : caller_leader arcs leaders k ≢ callee_leader arcs leaders k)
-      (too_low : slice_index levels (caller_leader arcs leaders k) ≤ slice_index levels (callee_leader arcs leaders k)) (x : ℕ) (is_x : x ≡ slice_index levels (callee_leader arcs leaders k) + 1) where
-    abbrev c : ℕ
-    c = caller_leader arcs leaders k
+max_stop : (k m : ℕ) (f : ℕ → ℕ) → k ≤ m → ((i : ℕ) → k ≤ i → i < m → f i ≡ 0) → max_below m f ≡ max_below k f
+max_stop k zero f le none = let e : k ≡ 0 = omega arith in rw e refl
+max_stop k (suc m) f le none =
+    ⊎_elim
+    (λ (at : k ≡ suc m). rw at refl)
+    (λ (apart : k ≢ suc m).
+    let ih = max_stop k m f (omega arith) (λ i from below. none i from (omega arith)) in
+    let last = none m (omega arith) (omega arith) in
+    omega arith)
+    (cases_eq k (suc m))
 
-    abbrev d : ℕ
-    d = callee_leader arcs leaders k
+max_both : (n : ℕ) (f g : ℕ → ℕ) → max (max_below n f) (max_below n g) ≡ max_below n (λ i. max (f i) (g i))
+max_both zero f g = refl
+max_both (suc n) f g = let ih = max_both n f g in omega arith
 
-    c_low : c < length levels
-    c_low = let l = is.rising.len in let b = caller_leads n arcs leaders within led k below in omega arith
+-- ---- the arcs of one function
 
-    at_c : slice_index (slice_set levels c x) c ≡ x
-    at_c = get_or-set_same levels c x 0 c_low
+module _ (arcs : List FunArc) (leaders : List ℕ) (f : ℕ) (old : List ℕ) where
+  over_other : (i : ℕ) → caller_at arcs i ≢ f → level_over arcs leaders f old i ≡ 0
+  over_other i apart = rw (ne_eqb (caller_at arcs i) f apart) refl
 
-    at_other : (h : ℕ) → h ≢ c → slice_index (slice_set levels c x) h ≡ slice_index levels h
-    at_other h differ = get_or-set_other levels c h x 0 differ
+  pub none_before : (k : ℕ) → ((i : ℕ) → i < k → caller_at arcs i ≢ f) → max_below k (level_over arcs leaders f old) ≡ 0
+  none_before k other = max_none k (level_over arcs leaders f old) (λ i below. over_other i (other i below))
 
-    pub x_low : x ≤ slice_index ranks c
-    x_low =
-        let drop = rank_drops n arcs leaders within led ranks ranked k below apart in
-        let low = is.rising.low (callee_leader arcs leaders k) (callee_leads n arcs leaders within led k below) in
-        omega arith
+  pub none_after : (k : ℕ) → k ≤ length arcs → ((i : ℕ) → k ≤ i → i < length arcs → caller_at arcs i ≢ f) → max_below (length arcs) (level_over arcs leaders f old) ≡ max_below k (level_over arcs leaders f old)
+  none_after k le other = max_stop k (length arcs) (level_over arcs leaders f old) le (λ i from below. over_other i (other i from below))
 
-    grown : (h : ℕ) → slice_index levels h ≤ slice_index (slice_set levels c x) h
-    grown h =
-        ⊎_elim
-        (λ (at : h ≡ c). let a = at_c in let e : slice_index (slice_set levels c x) h ≡ x = ap (slice_index (slice_set levels c x)) at ∙ at_c in let l : slice_index levels h ≡ slice_index levels c = ap (slice_index levels) at in omega arith)
-        (λ (differ : h ≢ c). let a = at_other h differ in omega arith)
-        (cases_eq h c)
+-- ---- the functions in the order of their ranks, one after another
 
-    low_still : (h : ℕ) → h < n → slice_index (slice_set levels c x) h ≤ slice_index ranks h
-    low_still h hb =
-        ⊎_elim
-        (λ (at : h ≡ c). subst (λ (j : ℕ). slice_index (slice_set levels c x) j ≤ slice_index ranks j) (sym at) (rw at_c x_low))
-        (λ (differ : h ≢ c). rw (at_other h differ) (is.rising.low h hb))
-        (cases_eq h c)
+-- the arc's caller is one of these functions
+abbrev pub is_by : List FunArc → List ℕ → ℕ → Bool
+is_by arcs functions i = list_any (λ x. x == caller_at arcs i) functions
 
-    slack_less : slack n ranks (slice_set levels c x) < slack n ranks levels
-    slack_less =
-        sum_less n _ _ c (λ h hb. let g = grown h in omega arith) (caller_leads n arcs leaders within led k below)
-        (let a = at_c in let l = x_low in omega arith)
+-- levels as far as the arcs of the first k functions tell
+pub record AreLevelsOf (n : ℕ) (arcs : List FunArc) (leaders order : List ℕ) (k : ℕ) (levels : List ℕ) : Type 0 where
+  pub len : length levels ≡ n
+  pub low : (h : ℕ) → slice_index levels h ≤ k
+  pub highest : (h : ℕ) → h < n → slice_index levels h ≡ max_below (length arcs) (λ i. when (leaves_leader arcs leaders h i && is_by arcs (take k order) i) (suc (slice_index levels (callee_leader arcs leaders i))))
 
-    pub raised_more : IsRaised n arcs leaders ranks start (slice_set levels (caller_leader arcs leaders k) x) true (k + 1)
-    raised_more = record {
-      rising = record {
-        len = length-set levels c x ∙ is.rising.len;
-        low = low_still;
-        called = λ h hb. ⊎_elim
-            (λ (at : h ≡ c). inr (
-              k,
-              below,
-              and_from _ _ (rw (ne_eqb c d apart) refl) (eq-eqb c h (sym at)),
-              (
-                  let a : slice_index (slice_set levels c x) h ≡ x = ap (slice_index (slice_set levels c x)) at ∙ at_c in
-                  let g = grown d in
-                  omega arith),
-            ))
-            (λ (differ : h ≢ c). ⊎_elim
-            (λ (none : slice_index levels h ≡ 0). inl (at_other h differ ∙ none))
-            (λ (some : (i : ℕ) × (i < length arcs) × (leaves_leader arcs leaders h i ≡ true) × (slice_index levels h ≤ suc (slice_index levels (callee_leader arcs leaders i)))).
-            inr (
-              some.0,
-              some.1,
-              some.2,
-              (
-                  let a = at_other h differ in
-                  let g = grown (callee_leader arcs leaders some.0) in
-                  let s = some.3 in
-                  omega arith),
-            ))
-            (is.rising.called h hb))
-            (cases_eq h c);
-      };
-      fewer = λ _. let s = slack_less in let m = is.most in omega arith;
-      most = let s = slack_less in let m = is.most in omega arith;
-      stable = λ q. absurd (true≢false q);
+pub no_levels : (n : ℕ) (arcs : List FunArc) (leaders order : List ℕ) → AreLevelsOf n arcs leaders order 0 (replicate n 0)
+no_levels n arcs leaders order = record {
+  len = length-replicate n 0;
+  low = λ h. (let e = zeros n h in omega arith);
+  highest = λ h below. zeros n h ∙ sym (max_none (length arcs) _ (λ i inside. none (leaves_leader arcs leaders h i) (suc (slice_index (replicate n 0) (callee_leader arcs leaders i)))));
+}
+  where
+    zeros : (m h : ℕ) → slice_index (replicate m 0) h ≡ 0
+    zeros zero h = refl
+    zeros (suc m) zero = refl
+    zeros (suc m) (suc h) = zeros m h
+
+    none : (b : Bool) (x : ℕ) → when (b && false) x ≡ 0
+    none true x = refl
+    none false x = refl
+
+module _ (n : ℕ) (arcs : List FunArc) (leaders ranks order : List ℕ) (within : AreWithin n arcs) (led : AreLeaders n arcs leaders) (are : AreRanks n arcs ranks) (ordered : IsRankOrder n ranks order) where
+  rank_leads : (f : ℕ) → f < n → slice_index ranks (slice_index leaders f) ≡ slice_index ranks f
+  rank_leads f below = let l = led.each f below in (are.joined (slice_index leaders f) f l.within below).1 (l.joined.1, l.joined.0)
+
+  -- an arc that leaves the component of one of these functions goes to a lesser rank than theirs
+  not_back : (k : ℕ) → k < length order → (i : ℕ) → i < length arcs → caller_leader arcs leaders i ≢ callee_leader arcs leaders i
+      → is_by arcs (take (k + 1) order) i ≡ true → callee_leader arcs leaders i ≢ slice_index leaders (slice_index order k)
+  not_back k inside i below apart by same =
+      let f = slice_index order k in
+      let low : f < n = ordered.within k 0 inside in
+      let a = Any-from_list_any (λ x. x == caller_at arcs i) (take (k + 1) order) by in
+      let long = length-take (k + 1) order in
+      let a2 = a.2 in
+      let at : slice_index order a.0 ≡ caller_at arcs i =
+      get_or_default order a.0 0 a.1 (omega arith) ∙ sym (get_or-take (k + 1) order a.0 a.1 (omega arith)) ∙ a.3 ∙ eqb-true _ _ a.4 in
+      let up : slice_index ranks (slice_index order a.0) ≤ slice_index ranks f = ⊎_elim
+      (λ (here : a.0 ≡ k). let e : slice_index ranks (slice_index order a.0) ≡ slice_index ranks f = ap (λ (j : ℕ). slice_index ranks (slice_index order j)) here in omega arith)
+      (λ (before : a.0 ≢ k). ordered.rises a.0 k 0 (omega arith) inside)
+      (cases_eq a.0 k) in
+      let e : slice_index ranks (slice_index order a.0) ≡ slice_index ranks (caller_at arcs i) = ap (slice_index ranks) at in
+      let drop = rank_drops n arcs leaders within led ranks (rank_of_ranks n arcs ranks are) i below apart in
+      let from = rank_leads (caller_at arcs i) (within i below).0 in
+      let back : slice_index ranks (callee_leader arcs leaders i) ≡ slice_index ranks (slice_index leaders f) = ap (slice_index ranks) same in
+      let home = rank_leads f low in
+      omega arith
+
+  module _ (k : ℕ) (inside : k < length order) (old : List ℕ) (before : AreLevelsOf n arcs leaders order k old) (new : List ℕ) (long : length new ≡ n)
+      (raised : slice_index new (slice_index leaders (slice_index order k)) ≡ max (slice_index old (slice_index leaders (slice_index order k))) (max_below (length arcs) (level_over arcs leaders (slice_index order k) old)))
+      (others : (h : ℕ) → h ≢ slice_index leaders (slice_index order k) → slice_index new h ≡ slice_index old h) where
+    f : ℕ
+    f = slice_index order k
+
+    -- what an arc tells, before and now
+    abbrev told : ℕ → ℕ → ℕ
+    told h i = when (leaves_leader arcs leaders h i && is_by arcs (take k order) i) (suc (slice_index old (callee_leader arcs leaders i)))
+
+    abbrev tells : ℕ → ℕ → ℕ
+    tells h i = when (leaves_leader arcs leaders h i && is_by arcs (take (k + 1) order) i) (suc (slice_index new (callee_leader arcs leaders i)))
+
+    by_more : (i : ℕ) → is_by arcs (take (k + 1) order) i ≡ (is_by arcs (take k order) i || f == caller_at arcs i)
+    unfolding f
+    by_more i = list_any_more (λ x. x == caller_at arcs i) order k 0 inside
+
+    -- the callee's level is as before
+    same_callee : (h i : ℕ) → i < length arcs → (b : Bool) → (leaves_leader arcs leaders h i && is_by arcs (take (k + 1) order) i) ≡ b
+        → when b (suc (slice_index new (callee_leader arcs leaders i))) ≡ when b (suc (slice_index old (callee_leader arcs leaders i)))
+    same_callee h i below true on =
+        let parts = and_parts (leaves_leader arcs leaders h i) (is_by arcs (take (k + 1) order) i) on in
+        let out = (and_parts (not (caller_leader arcs leaders i == callee_leader arcs leaders i)) (caller_leader arcs leaders i == h) parts.0).0 in
+        ap suc (others (callee_leader arcs leaders i) (not_back k inside i below (eqb-false _ _ (not-true _ out)) parts.1))
+    same_callee h i below false on = refl
+
+    -- an arc of another function tells what it told
+    told_other : (h i : ℕ) → i < length arcs → caller_at arcs i ≢ f → told h i ≡ tells h i
+    unfolding f
+    told_other h i below apart =
+        let same : is_by arcs (take (k + 1) order) i ≡ is_by arcs (take k order) i = by_more i ∙ ap (λ (b : Bool). is_by arcs (take k order) i || b) (ne_eqb f (caller_at arcs i) (λ q. apart (sym q))) ∙ or_none (is_by arcs (take k order) i) in
+        ap (λ (b : Bool). when (leaves_leader arcs leaders h i && b) (suc (slice_index old (callee_leader arcs leaders i)))) (sym same)
+        ∙ sym (same_callee h i below (leaves_leader arcs leaders h i && is_by arcs (take (k + 1) order) i) refl)
+      where
+        or_none : (b : Bool) → (b || false) ≡ b
+        or_none true = refl
+        or_none false = refl
+
+    -- at another leader
+    at_other : (h : ℕ) → h < n → h ≢ slice_index leaders f → slice_index new h ≡ max_below (length arcs) (tells h)
+    unfolding f
+    at_other h below apart =
+        others h apart
+        ∙ before.highest h below
+        ∙ max_ext (length arcs) (told h) (tells h) (λ i inner. ⊎_elim
+        (λ (mine : caller_at arcs i ≡ f). none_leaves i (ap (slice_index leaders) mine))
+        (λ (other : caller_at arcs i ≢ f). told_other h i inner other)
+        (cases_eq (caller_at arcs i) f))
+      where
+        off : (a b : Bool) (x : ℕ) → when ((a && false) && b) x ≡ 0
+        off true b x = refl
+        off false b x = refl
+
+        none_leaves : (i : ℕ) → caller_leader arcs leaders i ≡ slice_index leaders (slice_index order k) → told h i ≡ tells h i
+        none_leaves i led_by =
+            let no : (caller_leader arcs leaders i == h) ≡ false = ne_eqb (caller_leader arcs leaders i) h (λ q. apart (sym q ∙ led_by)) in
+            rw no (off (not (caller_leader arcs leaders i == callee_leader arcs leaders i)) (is_by arcs (take k order) i) (suc (slice_index old (callee_leader arcs leaders i)))
+            ∙ sym (off (not (caller_leader arcs leaders i == callee_leader arcs leaders i)) (is_by arcs (take (k + 1) order) i) (suc (slice_index new (callee_leader arcs leaders i)))))
+
+    -- at f's own
+    at_own : slice_index new (slice_index leaders f) ≡ max_below (length arcs) (tells (slice_index leaders f))
+    unfolding f
+    at_own =
+        let low : f < n = ordered.within k 0 inside in
+        raised
+        ∙ ap (λ (x : ℕ). max x (max_below (length arcs) (level_over arcs leaders f old))) (before.highest (slice_index leaders f) (led.each f low).within)
+        ∙ max_both (length arcs) (told (slice_index leaders f)) (level_over arcs leaders f old)
+        ∙ max_ext (length arcs) (λ i. max (told (slice_index leaders f) i) (level_over arcs leaders f old i)) (tells (slice_index leaders f)) (λ i inner. ⊎_elim
+        (λ (mine : caller_at arcs i ≡ f). own_arc i inner mine)
+        (λ (other : caller_at arcs i ≢ f).
+        let none = over_other arcs leaders f old i other in
+        let same = told_other (slice_index leaders f) i inner other in
+        omega arith)
+        (cases_eq (caller_at arcs i) f))
+      where
+        joined : (leaving outer done : Bool) (x : ℕ) → outer ≡ leaving → max (when (leaving && done) x) (when outer x) ≡ when (leaving && true) x
+        joined true outer true x same = rw same (omega arith)
+        joined true outer false x same = rw same (omega arith)
+        joined false outer done x same = rw same refl
+
+        own_arc : (i : ℕ) → i < length arcs → caller_at arcs i ≡ slice_index order k
+            → max (told (slice_index leaders (slice_index order k)) i) (level_over arcs leaders (slice_index order k) old i) ≡ tells (slice_index leaders (slice_index order k)) i
+        own_arc i inner mine =
+            let f' : ℕ = slice_index order k in
+            let c : ℕ = slice_index leaders f' in
+            let d : ℕ = callee_leader arcs leaders i in
+            let from : caller_leader arcs leaders i ≡ c = ap (slice_index leaders) mine in
+            let leaving : leaves_leader arcs leaders c i ≡ not (c == d) = ap (λ (x : ℕ). not (x == d) && x == c) from ∙ ap (λ (b : Bool). not (c == d) && b) (eq-eqb c c refl) ∙ and_all (not (c == d)) in
+            let outer : leaves_by arcs leaders f' i ≡ not (d == c) = ap (λ (b : Bool). b && not (d == c)) (eq-eqb (caller_at arcs i) f' mine) in
+            let turned : (d == c) ≡ (c == d) = same_test d c c d (λ q. sym q) (λ q. sym q) in
+            let done : is_by arcs (take (k + 1) order) i ≡ true = by_more i ∙ or_right (is_by arcs (take k order) i) (f' == caller_at arcs i) (eq-eqb f' (caller_at arcs i) (sym mine)) in
+            joined (leaves_leader arcs leaders c i) (leaves_by arcs leaders f' i) (is_by arcs (take k order) i) (suc (slice_index old d)) (outer ∙ ap not turned ∙ sym leaving)
+            ∙ ap (λ (b : Bool). when (leaves_leader arcs leaders c i && b) (suc (slice_index old d))) (sym done)
+            ∙ sym (same_callee c i inner (leaves_leader arcs leaders c i && is_by arcs (take (k + 1) order) i) refl)
+          where
+            and_all : (b : Bool) → (b && true) ≡ b
+            and_all true = refl
+            and_all false = refl
+
+    over_low : (i : ℕ) → level_over arcs leaders f old i ≤ k + 1
+    over_low i = let l = before.low (callee_leader arcs leaders i) in let le = when_le (leaves_by arcs leaders f i) (suc (slice_index old (callee_leader arcs leaders i))) in omega arith
+
+    pub levels_more : AreLevelsOf n arcs leaders order (k + 1) new
+    unfolding f
+    levels_more = record {
+      len = long;
+      low = λ h. ⊎_elim
+          (λ (own : h ≡ slice_index leaders f).
+          let e : slice_index new h ≡ slice_index new (slice_index leaders f) = ap (slice_index new) own in
+          let l = before.low (slice_index leaders f) in
+          let m = max_least (length arcs) (level_over arcs leaders f old) (k + 1) (λ i inner. over_low i) in
+          omega arith)
+          (λ (other : h ≢ slice_index leaders f). let e = others h other in let l = before.low h in omega arith)
+          (cases_eq h (slice_index leaders f));
+      highest = λ h below. ⊎_elim
+          (λ (own : h ≡ slice_index leaders f). subst (λ (x : ℕ). slice_index new x ≡ max_below (length arcs) (tells x)) (sym own) at_own)
+          (λ (other : h ≢ slice_index leaders f). at_other h below other)
+          (cases_eq h (slice_index leaders f));
     }
 
-pub stable_levels : (n : ℕ) (arcs : List FunArc) (leaders ranks levels : List ℕ) → AreWithin n arcs → IsRising n arcs leaders ranks levels → AreStable arcs leaders levels → AreLevels n arcs leaders levels
-stable_levels n arcs leaders ranks levels within rising stable = record { len = rising.len; highest = high }
-  where
-    weight : ℕ → ℕ → ℕ
-    weight h i = when (leaves_leader arcs leaders h i) (suc (slice_index levels (callee_leader arcs leaders i)))
-
-    bound : (h i : ℕ) → i < length arcs → (b : Bool) → leaves_leader arcs leaders h i ≡ b → when b (suc (slice_index levels (callee_leader arcs leaders i))) ≤ slice_index levels h
-    bound h i below true leaving =
-        let both = and_parts (not (caller_leader arcs leaders i == callee_leader arcs leaders i)) (caller_leader arcs leaders i == h) leaving in
-        let up = stable i below (eqb-false _ _ (not-true _ both.0)) in
-        let at : slice_index levels (caller_leader arcs leaders i) ≡ slice_index levels h = ap (slice_index levels) (eqb-true _ _ both.1) in
-        omega arith
-    bound h i below false leaving = omega arith
-
-    high : (h : ℕ) → h < n → slice_index levels h ≡ max_below (length arcs) (λ i. when (leaves_leader arcs leaders h i) (suc (slice_index levels (callee_leader arcs leaders i))))
-    high h hb =
-        let most = max_least (length arcs) (λ i. when (leaves_leader arcs leaders h i) (suc (slice_index levels (callee_leader arcs leaders i)))) (slice_index levels h) (λ i below. bound h i below (leaves_leader arcs leaders h i) refl) in
-        ⊎_elim
-        (λ (none : slice_index levels h ≡ 0). omega arith)
-        (λ (some : (i : ℕ) × (i < length arcs) × (leaves_leader arcs leaders h i ≡ true) × (slice_index levels h ≤ suc (slice_index levels (callee_leader arcs leaders i)))).
-        let there = le_max_below (length arcs) (λ i. when (leaves_leader arcs leaders h i) (suc (slice_index levels (callee_leader arcs leaders i)))) some.0 some.1 in
-        let is : when (leaves_leader arcs leaders h some.0) (suc (slice_index levels (callee_leader arcs leaders some.0))) ≡ suc (slice_index levels (callee_leader arcs leaders some.0)) = ap (λ (b : Bool). when b (suc (slice_index levels (callee_leader arcs leaders some.0)))) some.2 in
-        let s = some.3 in
-        omega arith)
-        (rising.called h hb)
+  pub all_levels : (levels : List ℕ) (k : ℕ) → length order ≤ k → AreLevelsOf n arcs leaders order k levels → AreLevels n arcs leaders levels
+  all_levels levels k end is = record {
+    len = is.len;
+    highest = λ h below.
+        is.highest h below
+        ∙ max_ext (length arcs) _ _ (λ i inside. (
+        let has = ordered.each (caller_at arcs i) (within i inside).0 in
+        let done : is_by arcs (take k order) i ≡ true =
+        ap (λ (xs : List ℕ). is_by arcs xs i) (take_all k order end)
+        ∙ list_any_at (λ x. x == caller_at arcs i) order has.0 (caller_at arcs i) has.1 (eq-eqb _ _ has.2) in
+        ap (λ (b : Bool). when (leaves_leader arcs leaders h i && b) (suc (slice_index levels (callee_leader arcs leaders i)))) done
+        ∙ ap (λ (b : Bool). when b (suc (slice_index levels (callee_leader arcs leaders i)))) (and_all (leaves_leader arcs leaders h i))));
+  }
+    where
+      and_all : (b : Bool) → (b && true) ≡ b
+      and_all true = refl
+      and_all false = refl

@@ -3,8 +3,9 @@ pub mod ListLemmas
 pub mod RowLemmas
 pub mod WalkLemmas
 pub mod ReachLemmas
-pub mod MarkLemmas
 pub mod RankLemmas
+pub mod SearchLemmas
+pub mod PassLemmas
 pub mod LeaderLemmas
 pub mod LevelLemmas
 pub mod HeadLemmas

@@ -8,7 +8,7 @@ use Rattle.call_cycles.specs.Sums.{when}
 use Rattle.call_cycles.specs.Graph.{GraphValue, no_arc, IsGraph, component_of, component_count, head_of, source_of, target_of, is_outside, leaves, arc_count, arc_at}
 use Rattle.call_cycles.specs.Parts.{graph_of_parts}
 use Rattle.call_cycles.proofs.SumLemmas.{max_ext, le_max_below}
-use Rattle.call_cycles.proofs.ComponentLemmas.{same_test}
+use Rattle.call_cycles.proofs.ListLemmas.{same_test}
 
 -- the ends of arcs are components of the graph
 source_within : (g : GraphValue) → IsGraph g → (i : ℕ) → i < arc_count g → source_of g i < component_count g

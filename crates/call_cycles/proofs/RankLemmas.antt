@@ -1,12 +1,29 @@
--- How many functions are reached.
-use Rattle.std.proofs.Common.{◌≡◌, ◌≢◌, ◌<◌, ◌≤◌, ◌↔◌, ℕ, zero, suc, ◌+◌, Bool, true, false, cond, List, [], ◌∷◌, ◌++◌, length, get_or, refl, ap, sym, ◌∙◌, subst, ⊎_elim, arith}
+-- How many functions are reached, and ranks that never rise along arcs.
+use Rattle.std.proofs.Common.{◌≡◌, ◌<◌, ◌≤◌, ◌↔◌, ℕ, zero, suc, ◌+◌, Bool, true, false, cond, List, [], ◌∷◌, length, get_or, refl, ap, sym, ◌∙◌, ⊎_elim, arith}
 use Rattle.std.specs.List.{count_by}
-use Rattle.std.proofs.lemmas.Bool.{true≢false, cases_Bool, cases_eq}
+use Rattle.std.proofs.lemmas.Bool.{true≢false, cases_Bool}
 use Rattle.std.proofs.lemmas.List.Sums.{sum_by-cons}
-use Rattle.std.proofs.lemmas.List.{get_or_push, get_or_append_left}
 use Rattle.call_cycles.specs.declared.graphs.FunArc.{FunArc}
-use Rattle.call_cycles.specs.Walks.{Reaches, IsCount, IsRank}
-use Rattle.call_cycles.proofs.WalkLemmas.{reaches_itself, reaches_on}
+use Rattle.std.specs.Prelude.{slice_index}
+use Rattle.call_cycles.specs.Graph.{no_arc}
+use Rattle.call_cycles.specs.Walks.{IsWalk, Reaches}
+use Rattle.call_cycles.specs.Leaders.{AreRanks}
+use Rattle.call_cycles.proofs.WalkLemmas.{reaches_itself, reaches_on, one_is_at}
+
+-- the list says of each of n functions whether f reaches it
+pub record IsReached (n : ℕ) (arcs : List FunArc) (f : ℕ) (marks : List Bool) : Type 0 where
+  pub len : length marks ≡ n
+  pub each : (h : ℕ) → h < n → (get_or marks h false ≡ true) ↔ Reaches arcs f h
+
+-- f reaches k of n functions
+abbrev pub IsCount : ℕ → List FunArc → ℕ → ℕ → Type 0
+IsCount n arcs f k = (marks : List Bool) × IsReached n arcs f marks × (k ≡ count_by (λ b. b) marks)
+
+-- a rank falls from a function to those that it reaches, but for those that reach it too
+pub record IsRank (n : ℕ) (arcs : List FunArc) (rank : List ℕ) : Type 0 where
+  pub len : length rank ≡ n
+  pub falls : (f h : ℕ) → f < n → h < n → Reaches arcs f h → slice_index rank h ≤ slice_index rank f
+  pub stays : (f h : ℕ) → f < n → h < n → Reaches arcs f h → (slice_index rank h ≡ slice_index rank f) ↔ Reaches arcs h f
 
 count : List Bool → ℕ
 count xs = count_by (λ (b : Bool). b) xs
@@ -56,11 +73,11 @@ module _ (n : ℕ) (arcs : List FunArc) (f h a b : ℕ) (f_below : f < n) (h_bel
       let len = at_h.1.len in
       (at_f.1.each i (omega arith)).1 (reaches_on arcs f h i r ((at_h.1.each i (omega arith)).0 on))
 
-  pub rank_falls : Reaches arcs f h → b ≤ a
+  rank_falls : Reaches arcs f h → b ≤ a
   unfolding count
   rank_falls r = let le = count_le at_h.0 at_f.0 (at_h.1.len ∙ sym at_f.1.len) (subset r) in let p = at_f.2 in let q = at_h.2 in omega arith
 
-  pub rank_same_back : Reaches arcs f h → b ≡ a → Reaches arcs h f
+  rank_same_back : Reaches arcs f h → b ≡ a → Reaches arcs h f
   unfolding count
   rank_same_back r same =
       ⊎_elim
@@ -73,7 +90,7 @@ module _ (n : ℕ) (arcs : List FunArc) (f h a b : ℕ) (f_below : f < n) (h_bel
       absurd (omega arith))
       (cases_Bool (get_or at_h.0 f false))
 
-pub rank_stays : (n : ℕ) (arcs : List FunArc) (f h a b : ℕ) → f < n → h < n → IsCount n arcs f a → IsCount n arcs h b → Reaches arcs f h → (b ≡ a) ↔ Reaches arcs h f
+rank_stays : (n : ℕ) (arcs : List FunArc) (f h a b : ℕ) → f < n → h < n → IsCount n arcs f a → IsCount n arcs h b → Reaches arcs f h → (b ≡ a) ↔ Reaches arcs h f
 rank_stays n arcs f h a b f_below h_below at_f at_h r = (
   rank_same_back n arcs f h a b f_below h_below at_f at_h r,
   λ back.
@@ -89,10 +106,25 @@ are_ranks n arcs rank len counts = record {
   stays = λ f h fb hb r. rank_stays n arcs f h _ _ fb hb (counts f fb) (counts h hb) r;
 }
 
-pub counts_more : (n : ℕ) (arcs : List FunArc) (counts : List ℕ) (f x : ℕ) → length counts ≡ f → ((k : ℕ) → k < f → IsCount n arcs k (get_or counts k 0)) → IsCount n arcs f x
-    → (k : ℕ) → k < f + 1 → IsCount n arcs k (get_or (counts ++ x ∷ []) k 0)
-counts_more n arcs counts f x len before here k below =
-    ⊎_elim
-    (λ (at : k ≡ f). subst (IsCount n arcs k) (sym (get_or_push counts x 0 k (len ∙ sym at))) (subst (λ (j : ℕ). IsCount n arcs j x) (sym at) here))
-    (λ (apart : k ≢ f). subst (IsCount n arcs k) (sym (get_or_append_left counts (x ∷ []) 0 k (omega arith))) (before k (omega arith)))
-    (cases_eq k f)
+-- ---- ranks that never rise along arcs
+
+walk_falls : (arcs : List FunArc) (rank : ℕ → ℕ) → ((i : ℕ) → i < length arcs → rank (get_or arcs i no_arc).callee ≤ rank (get_or arcs i no_arc).caller) → (f g : ℕ) (w : List FunArc) → IsWalk arcs f w g → rank g ≤ rank f
+walk_falls arcs rank falls f g [] walk = let e : rank f ≡ rank g = ap rank walk in omega arith
+walk_falls arcs rank falls f g (a ∷ w) walk =
+    let at = one_is_at arcs a walk.0 in
+    let rest = walk_falls arcs rank falls a.callee g w walk.2 in
+    let here = falls at.0 at.1 in
+    let from : rank (get_or arcs at.0 no_arc).caller ≡ rank f = ap rank (ap (λ (b : FunArc). b.caller) at.2 ∙ walk.1) in
+    let to : rank (get_or arcs at.0 no_arc).callee ≡ rank a.callee = ap (λ (b : FunArc). rank b.callee) at.2 in
+    omega arith
+
+pub falls_along : (arcs : List FunArc) (rank : ℕ → ℕ) → ((i : ℕ) → i < length arcs → rank (get_or arcs i no_arc).callee ≤ rank (get_or arcs i no_arc).caller) → (f g : ℕ) → Reaches arcs f g → rank g ≤ rank f
+unfolding Reaches
+falls_along arcs rank falls f g r = walk_falls arcs rank falls f g r.0 r.1
+
+pub rank_of_ranks : (n : ℕ) (arcs : List FunArc) (ranks : List ℕ) → AreRanks n arcs ranks → IsRank n arcs ranks
+rank_of_ranks n arcs ranks are = record {
+  len = are.len;
+  falls = λ f h fb hb r. falls_along arcs (slice_index ranks) are.falls f h r;
+  stays = λ f h fb hb r. (λ same. ((are.joined h f hb fb).0 same).0, λ back. (are.joined h f hb fb).1 (back, r));
+}

@@ -7,7 +7,7 @@ use Rattle.std.proofs.lemmas.List.Folds.{Any-from_list_any, list_any_at}
 use Rattle.call_cycles.specs.declared.graphs.FunArc.{FunArc}
 use Rattle.call_cycles.specs.Graph.{no_arc}
 use Rattle.call_cycles.specs.Walks.{IsWalk, Reaches}
-use Rattle.call_cycles.specs.Marks.{AreWithin}
+use Rattle.call_cycles.specs.Arcs.{AreWithin}
 use Rattle.call_cycles.specs.Leaders.{AreJoined}
 use Rattle.call_cycles.specs.Values.{has_arc, reaches_over, are_joined}
 use Rattle.call_cycles.proofs.WalkLemmas.{reaches_itself, reaches_on, reaches_by, one_is_at}

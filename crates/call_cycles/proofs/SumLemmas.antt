@@ -73,21 +73,6 @@ sum_front_le n (suc m) f le =
     (λ (apart : n ≢ suc m). let ih = sum_front_le n m f (omega arith) in omega arith)
     (cases_eq n (suc m))
 
-pub sum_less : (n : ℕ) (f g : ℕ → ℕ) (k : ℕ) → ((i : ℕ) → i < n → f i ≤ g i) → k < n → f k < g k → sum_below n f < sum_below n g
-sum_less zero f g k le below less = absurd (omega arith)
-sum_less (suc n) f g k le below less =
-    ⊎_elim
-    (λ (at : k ≡ n).
-    let rest = sum_mono n f g (λ i h. le i (omega arith)) in
-    let one : f k ≡ f n = ap f at in
-    let two : g k ≡ g n = ap g at in
-    omega arith)
-    (λ (apart : k ≢ n).
-    let ih = sum_less n f g k (λ i h. le i (omega arith)) (omega arith) less in
-    let last = le n (omega arith) in
-    omega arith)
-    (cases_eq k n)
-
 pub max_least : (n : ℕ) (f : ℕ → ℕ) (most : ℕ) → ((i : ℕ) → i < n → f i ≤ most) → max_below n f ≤ most
 max_least zero f most le = omega arith
 max_least (suc n) f most le =

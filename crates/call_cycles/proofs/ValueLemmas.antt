@@ -11,8 +11,7 @@ use Rattle.std.proofs.lemmas.List.Sums.{count_by-le-length, fails_before_first, 
 use Rattle.call_cycles.specs.declared.graphs.FunArc.{FunArc}
 use Rattle.call_cycles.specs.Sums.{when, numbers_below, list_of}
 use Rattle.call_cycles.specs.Graph.{GraphValue, IsGraph, AreComponents}
-use Rattle.call_cycles.specs.Walks.{IsReached, IsCount, IsRank}
-use Rattle.call_cycles.specs.Marks.{AreWithin}
+use Rattle.call_cycles.specs.Arcs.{AreWithin}
 use Rattle.call_cycles.specs.Leaders.{IsLeader, AreLeaders, AreLevels, caller_leader, callee_leader, leaves_leader}
 use Rattle.call_cycles.specs.Heads.{IsHead, IsBefore}
 use Rattle.call_cycles.specs.Parts.{AreCalled, graph_of_parts}
@@ -24,7 +23,7 @@ use Rattle.call_cycles.proofs.ListLemmas.{list_long, list_at}
 use Rattle.call_cycles.proofs.RowLemmas.{numbers_contain, numbers_low, numbers_rise, row_contains, rows_contain, rows_rise}
 use Rattle.call_cycles.proofs.WalkLemmas.{reaches_itself}
 use Rattle.call_cycles.proofs.ReachLemmas.{reaches_is, joined_is}
-use Rattle.call_cycles.proofs.RankLemmas.{are_ranks}
+use Rattle.call_cycles.proofs.RankLemmas.{IsReached, IsCount, IsRank, are_ranks}
 use Rattle.call_cycles.proofs.LevelLemmas.{rank_drops}
 use Rattle.call_cycles.proofs.ComponentLemmas.{are_components}
 use Rattle.call_cycles.proofs.NumberingLemmas.{one_numbering_of}

@@ -3,9 +3,10 @@ pub mod Walks
 pub mod Graph
 pub mod Calls
 pub mod Fields
-pub mod Marks
+pub mod Arcs
 pub mod Leaders
 pub mod Heads
 pub mod Parts
+pub mod Passes
 pub mod Values
 pub mod Flow

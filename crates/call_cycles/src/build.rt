@@ -4,13 +4,13 @@ ghost use Rattle.std.specs.Prelude.{◌≡◌, ◌<◌, ◌≤◌, ◌^◌, ◌+
 ghost use Rattle.elf32_syms.specs.Owners.{IsAscending};
 ghost use Rattle.call_cycles.specs.Calls.{function_arcs, own_calls};
 ghost use Rattle.call_cycles.specs.Graph.{IsGraph, AreComponents, all_calls, entering_of};
-ghost use Rattle.call_cycles.specs.Marks.{AreByCaller, AreWithin};
+ghost use Rattle.call_cycles.specs.Arcs.{AreByCaller, AreWithin};
 ghost use Rattle.call_cycles.specs.Parts.{headless_graph, graph_of_parts, AreCalled, arcs_calls};
 ghost use Rattle.call_cycles.specs.Sums.{list_of, sum_below};
 ghost use Rattle.call_cycles.specs.Values.{profile_graph};
 
 use crate::graphs::{FunArc, Graph};
-use crate::{calls, level, number, walk};
+use crate::{calls, depth, level, number};
 use elf32_syms::Symbol;
 use gmon_data::Profile;
 use std::alloc::{AllocError, Global};
@@ -52,9 +52,10 @@ fn found_components(alloc: Global, functions: u32, arcs: &[FunArc]) -> Result<Fo
     ensures components { IfOk result (λ f. (self_calls : List ℕ) → AreComponents (graph_of_parts functions arcs.now self_calls f.component.items f.heads.items)) }
     ensures few { IfOk result (λ f. length f.heads.items ≤ functions) }
 {
-    let ranks = walk::ranks(alloc, functions, arcs)?;
-    let leaders = walk::leaders(alloc, functions, arcs, &ranks)?;
-    let levels = level::levels(alloc, functions, arcs, &leaders, &ranks)?;
+    let first = depth::first_arcs(alloc, functions, arcs)?;
+    let ranking = depth::rank_functions(alloc, functions, arcs, &first)?;
+    let leaders = level::leaders(alloc, functions, &ranking.ranks)?;
+    let levels = level::levels(alloc, arcs, &first, &leaders, &ranking)?;
     let order = number::heads_in_order(alloc, &leaders, &levels)?;
     let places = number::places(alloc, functions as usize, &order)?;
     let component = number::components(alloc, &leaders, &places)?;
@@ -117,7 +118,9 @@ fn count_of(symbols: &[Symbol]) -> u32
 /// The level of a component that no arc leaves is 0, that of any other one more than the highest level
 /// that it calls. Components are numbered by level, those of one level by their heads.
 ///
-/// The time grows as the functions times the functions and arcs, the memory as the functions and arcs.
+/// The time grows as the functions and arcs, but for a sort of the heads, and for the profile's arcs,
+/// whose addresses are looked up among the symbols, and whose calls are summed in a map. The memory
+/// grows as the functions and arcs.
 pub fn graph(alloc: Global, profile: &Profile, symbols: &[Symbol]) -> Result<Graph, AllocError>
     requires ordered { IsAscending symbols.now }
     ensures functions { IfOk result (λ g. g.functions ≡ length symbols.now) }

@@ -1,6 +1,6 @@
 //! The calls of a profile by caller and callee.
 
-ghost use Rattle.std.specs.Prelude.{◌≡◌, ◌<◌, ◌^◌, ◌+◌, ℕ, length, slice_get, Some, IfOk, OnOk};
+ghost use Rattle.std.specs.Prelude.{◌≡◌, ◌<◌, ◌^◌, ◌+◌, ℕ, Some, IfOk, OnOk};
 ghost use Rattle.std.specs.List.{flat_map};
 ghost use Rattle.elf32_syms.specs.Owners.{IsAscending};
 ghost use Rattle.call_cycles.specs.Sums.{list_of};

@@ -1,6 +1,6 @@
 //! A graph of functions: arcs, components and their order.
 
-ghost use Rattle.std.specs.Prelude.{◌≡◌, ◌<◌, length, slice_index};
+ghost use Rattle.std.specs.Prelude.{◌≡◌, ◌<◌, slice_index};
 ghost use Rattle.call_cycles.specs.Graph.{IsGraph, arc_count, arc_at, component_count, component_of, head_of, entering_of, is_cycle};
 
 use std::marker::Model;

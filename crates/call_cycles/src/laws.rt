@@ -4,7 +4,7 @@ ghost use Rattle.std.specs.Prelude.{◌≡◌, ◌<◌, ◌↔◌, ℕ, IsTrue, 
 ghost use Rattle.elf32_syms.specs.declared.image.Symbol.{Symbol};
 ghost use Rattle.call_cycles.specs.declared.graphs.FunArc.{FunArc};
 ghost use Rattle.call_cycles.specs.Graph.{GraphValue, IsGraph, HasOtherMember, component_count, is_cycle};
-ghost use Rattle.call_cycles.specs.Marks.{AreWithin};
+ghost use Rattle.call_cycles.specs.Arcs.{AreWithin};
 ghost use Rattle.call_cycles.specs.Parts.{AreCalled};
 ghost use Rattle.call_cycles.specs.Values.{graph_in, profile_graph};
 

@@ -1,49 +1,88 @@
-//! The levels of components.
+//! The heads of components, and their levels.
 
-ghost use Rattle.std.specs.Prelude.{◌≡◌, ◌<◌, ◌≤◌, ℕ, true, false, length, slice_index, IfOk};
-ghost use Rattle.call_cycles.specs.Walks.{IsRank};
-ghost use Rattle.call_cycles.specs.Marks.{AreWithin};
-ghost use Rattle.call_cycles.specs.Leaders.{AreLeaders, AreLevels, IsRising, AreStable, slack};
+ghost use Rattle.std.specs.Prelude.{◌≡◌, ◌≢◌, ◌<◌, ◌≤◌, ◌+◌, ◌^◌, max, ℕ, length, slice_index, IfOk};
+ghost use Rattle.call_cycles.specs.Leaders.{AreRanks, IsRankOrder, IsLeast, AreLeast, AreLeaders, AreLevels, level_over};
+ghost use Rattle.call_cycles.specs.Arcs.{AreWithin, AreByCaller};
+ghost use Rattle.call_cycles.specs.Passes.{AreFirst};
+ghost use Rattle.call_cycles.specs.Sums.{max_below};
 
+use crate::depth::Ranking;
 use crate::graphs::FunArc;
 use std::alloc::{AllocError, Global};
 
-/// Raises levels that are not above those they call; says whether it raised any. The ranks bound them.
-fn raise(arcs: &[FunArc], leaders: &[u32], ranks: &[usize], levels: &mut [usize]) -> bool
-    requires within { AreWithin (length levels.old) arcs.now }
-    requires leaders { AreLeaders (length levels.old) arcs.now leaders.now }
-    requires ranks { IsRank (length levels.old) arcs.now ranks.now }
-    requires rising { IsRising (length levels.old) arcs.now leaders.now ranks.now levels.old }
-    ensures rising { IsRising (length levels.old) arcs.now leaders.now ranks.now levels.new }
-    ensures fewer { result ≡ true → slack (length levels.old) ranks.now levels.new < slack (length levels.old) ranks.now levels.old }
-    ensures stable { result ≡ false → AreStable arcs.now leaders.now levels.new }
+/// The least function of each rank.
+fn least_functions(alloc: Global, functions: u32, ranks: &[u32]) -> Result<Vec<u32>, AllocError>
+    requires functions { length ranks.now ≡ functions }
+    requires within { (f : ℕ) → f < functions → slice_index ranks.now f ≤ functions }
+    ensures len { IfOk result (λ v. length v.items ≡ functions + 1) }
+    ensures least { IfOk result (λ v. (f : ℕ) → f < functions → IsLeast functions ranks.now 0 f (slice_index v.items (slice_index ranks.now f))) }
 {
-    let mut changed = false;
-    for a in arcs {
-        let c = leaders[a.caller as usize] as usize;
-        let d = leaders[a.callee as usize] as usize;
-        if c != d && levels[c] <= levels[d] {
-            levels[c] = levels[d] + 1;
-            changed = true;
-        }
+    let mut least = vec![in alloc; 0u32; functions as usize + 1]?;
+    for f in (0..functions).rev() {
+        least[ranks[f as usize] as usize] = f;
     }
-    changed
+    Ok(least)
 }
 
-/// The level of each component, at its leader.
+/// The least function of each function's rank.
+pub(crate) fn leaders(alloc: Global, functions: u32, ranks: &[u32]) -> Result<Vec<u32>, AllocError>
+    requires functions { length ranks.now ≡ functions }
+    requires within { (f : ℕ) → f < functions → slice_index ranks.now f ≤ functions }
+    ensures least { IfOk result (λ v. AreLeast functions ranks.now v.items) }
+{
+    let least = least_functions(alloc, functions, ranks)?;
+    let mut leaders = Vec::new(alloc);
+    for r in ranks {
+        leaders.push(least[*r as usize])?;
+    }
+    Ok(leaders)
+}
+
+/// Raises the level of a function's component above those that the function calls.
+fn raise(arcs: &[FunArc], first: &[usize], leaders: &[u32], f: u32, levels: &mut [usize])
+    requires function { f < length levels.old }
+    requires leaders { length leaders.now ≡ length levels.old }
+    requires led { (h : ℕ) → h < length levels.old → slice_index leaders.now h < length levels.old }
+    requires within { AreWithin (length levels.old) arcs.now }
+    requires ordered { AreByCaller arcs.now }
+    requires first { AreFirst (length levels.old) arcs.now first.now }
+    requires few { (h : ℕ) → slice_index levels.old h < 2 ^ 32 }
+    ensures raised { slice_index levels.new (slice_index leaders.now f) ≡ max (slice_index levels.old (slice_index leaders.now f)) (max_below (length arcs.now) (level_over arcs.now leaders.now f levels.old)) }
+    ensures others { (h : ℕ) → h ≢ slice_index leaders.now f → slice_index levels.new h ≡ slice_index levels.old h }
+{
+    let c = leaders[f as usize] as usize;
+    for i in first[f as usize]..arcs.len() {
+        if arcs[i].caller != f {
+            return;
+        }
+        let d = leaders[arcs[i].callee as usize] as usize;
+        if d != c && levels[c] <= levels[d] {
+            levels[c] = levels[d] + 1;
+        }
+    }
+}
+
+/// The level of each component, at its leader. Functions come in the order of their ranks, so the
+/// levels of those that a component calls are known before its own.
 pub(crate) fn levels(
     alloc: Global,
-    functions: u32,
     arcs: &[FunArc],
+    first: &[usize],
     leaders: &[u32],
-    ranks: &[usize],
+    ranking: &Ranking,
 ) -> Result<Vec<usize>, AllocError>
-    requires within { AreWithin functions arcs.now }
-    requires leaders { AreLeaders functions arcs.now leaders.now }
-    requires ranks { IsRank functions arcs.now ranks.now }
-    ensures levels { IfOk result (λ v. AreLevels functions arcs.now leaders.now v.items) }
+    requires functions { length leaders.now < 2 ^ 32 }
+    requires within { AreWithin (length leaders.now) arcs.now }
+    requires ordered { AreByCaller arcs.now }
+    requires first { AreFirst (length leaders.now) arcs.now first.now }
+    requires leaders { AreLeaders (length leaders.now) arcs.now leaders.now }
+    requires ranks { AreRanks (length leaders.now) arcs.now ranking.now.ranks.items }
+    requires order { IsRankOrder (length leaders.now) ranking.now.ranks.items ranking.now.order.items }
+    ensures levels { IfOk result (λ v. AreLevels (length leaders.now) arcs.now leaders.now v.items) }
 {
-    let mut levels = vec![in alloc; 0usize; functions as usize]?;
-    while raise(arcs, leaders, ranks, &mut levels) {}
+    let mut levels = vec![in alloc; 0usize; leaders.len()]?;
+    for f in &ranking.order {
+        raise(arcs, first, leaders, *f, &mut levels);
+    }
     Ok(levels)
 }

@@ -8,11 +8,11 @@
 
 mod build;
 mod calls;
+mod depth;
 pub mod graphs;
 pub mod laws;
 mod level;
 mod number;
-mod walk;
 
 pub use build::graph;
 pub use graphs::{FunArc, Graph};

@@ -1,5 +1,7 @@
-ghost use Rattle.std.specs.Prelude.{IfOk};
+ghost use Rattle.std.specs.Prelude.{◌<◌, ◌≤◌, IfOk};
 ghost use Rattle.elf32_syms.specs.Owners.{IsAscending};
+
+mod plain;
 
 use super::*;
 use elf32_syms::Symbol;
@@ -8,18 +10,23 @@ use gp_base::Name;
 use std::alloc::{AllocError, Global};
 use std::test::Fail;
 
-/// So many functions of 16 addresses each, in a row from 0x1_0000 on.
-fn symbols(alloc: Global, count: u16) -> Result<Vec<Symbol>, AllocError>
+/// So many functions of so many addresses each, in a row from 0x1_0000 on.
+fn symbols(alloc: Global, count: u32, size: u32) -> Result<Vec<Symbol>, AllocError>
+    requires count { count ≤ 65536 }
+    requires least { 0 < size }
+    requires most { size ≤ 256 }
     ensures ordered { IfOk result (λ v. IsAscending v.items) }
 {
     let mut symbols = Vec::new(alloc);
-    for i in 0..count {
-        let addr = 0x1_0000 + 16 * u32::from(i);
+    let mut addr = 0x1_0000;
+    for _i in 0..count {
+        let end = addr + size;
         symbols.push(Symbol {
             addr,
-            end: addr + 16,
+            end,
             name: Name::new(alloc),
         })?;
+        addr = end;
     }
     Ok(symbols)
 }
@@ -37,12 +44,8 @@ fn profile(alloc: Global, arcs: &[(u32, u32, u64)]) -> Result<Profile, AllocErro
 fn arcs_text(alloc: Global, graph: &Graph) -> Result<String, AllocError> {
     let mut text = String::new(alloc);
     for i in 0..graph.arc_count() {
-        let FunArc {
-            caller,
-            callee,
-            count,
-        } = graph.arc(i);
-        write!(&mut text, "{caller}>{callee}:{count} ")?;
+        let arc = graph.arc(i);
+        write!(&mut text, "{}>{}:{} ", arc.caller, arc.callee, arc.count)?;
     }
     Ok(text)
 }
@@ -89,7 +92,7 @@ fn graph_text(
     functions: u16,
     arcs: &[(u32, u32, u64)],
 ) -> Result<String, AllocError> {
-    let symbols = symbols(alloc, functions)?;
+    let symbols = symbols(alloc, u32::from(functions), 16)?;
     let profile = profile(alloc, arcs)?;
     let found = graph(alloc, &profile, symbols.as_slice())?;
     let arcs = arcs_text(alloc, &found)?;
@@ -159,13 +162,18 @@ fn arcs_of_a_profile(rt: HostRuntime) -> Result<(), Fail> {
     Ok(())
 }
 
+/// The address of a function of 16 addresses.
+fn address(f: u16) -> u32
+    ensures { result ≤ 1114112 }
+{
+    0x1_0000 + 16 * u32::from(f)
+}
+
 /// Arcs of a profile that have these calls: caller, callee and count, by the functions' numbers.
 fn addresses(alloc: Global, calls: &[(u16, u16, u64)]) -> Result<Vec<(u32, u32, u64)>, AllocError> {
     let mut arcs = Vec::new(alloc);
     for (caller, callee, count) in calls {
-        let from = 0x1_0004 + 16 * u32::from(*caller);
-        let to = 0x1_0000 + 16 * u32::from(*callee);
-        arcs.push((from, to, *count))?;
+        arcs.push((address(*caller) + 4, address(*callee), *count))?;
     }
     Ok(arcs)
 }
@@ -236,7 +244,7 @@ fn ring(alloc: Global) -> Result<Graph, AllocError> {
     calls.push((500, 250, 7))?;
     let arcs = addresses(alloc, calls.as_slice())?;
     let profile = profile(alloc, arcs.as_slice())?;
-    let symbols = symbols(alloc, 501)?;
+    let symbols = symbols(alloc, 501, 16)?;
     graph(alloc, &profile, symbols.as_slice())
 }
 
@@ -259,6 +267,103 @@ fn a_ring_of_500(rt: HostRuntime) -> Result<(), Fail> {
     }
     for f in 0..found.function_count() {
         assert_eq!(rt; found.component(f), f / 500, "{f}");
+    }
+    Ok(())
+}
+
+/// Numbers that follow from a state other than 0.
+#[derive(Drop)]
+struct Random {
+    state: u64,
+}
+
+impl Random {
+    /// The next number, below an end.
+    fn below(&mut self, end: u16) -> u16
+        requires { 0 < end }
+        ensures { result < end }
+    {
+        let x = self.state ^ (self.state << 13);
+        let x = x ^ (x >> 7);
+        self.state = x ^ (x << 17);
+        (self.state % u64::from(end)) as u16
+    }
+}
+
+/// Calls between so many functions: few or many, of counts from 0 on.
+fn random_calls(
+    alloc: Global,
+    random: &mut Random,
+    functions: u16,
+) -> Result<Vec<(u16, u16, u64)>, AllocError>
+    requires least { 0 < functions }
+    requires most { functions ≤ 12 }
+{
+    let mut calls = Vec::new(alloc);
+    for _ in 0..random.below(3 * functions) {
+        let caller = random.below(functions);
+        let callee = random.below(functions);
+        calls.push((caller, callee, u64::from(random.below(4))))?;
+    }
+    Ok(calls)
+}
+
+#[test]
+fn random_graphs_are_those_of_a_plain_search(rt: HostRuntime) -> Result<(), Fail> {
+    let alloc = rt.alloc();
+    let mut random = Random { state: 1 };
+    for k in 0..1000u32 {
+        let functions = random.below(12) + 1;
+        let calls = random_calls(alloc, &mut random, functions)?;
+        let arcs = addresses(alloc, calls.as_slice())?;
+        let text = graph_text(alloc, functions, arcs.as_slice())?;
+        let want = plain::text(alloc, usize::from(functions), calls.as_slice())?;
+        assert_eq!(rt; text, want, "{k}");
+    }
+    Ok(())
+}
+
+/// 65,536 functions, each of which calls the 32 that follow it in a ring; or, cut, only those of them
+/// that have greater numbers.
+fn wide_ring(alloc: Global, cut: bool) -> Result<Graph, AllocError> {
+    let mut profile = Profile::new(alloc);
+    for k in 0..2_097_152u32 {
+        let caller = k / 32;
+        let callee = caller + 1 + k % 32;
+        if !cut || callee < 65_536 {
+            let from = 0x1_0000 + 256 * caller;
+            let to = 0x1_0000 + 256 * (callee % 65_536);
+            profile.add_calls(from, to, 1)?;
+        }
+    }
+    let symbols = symbols(alloc, 65_536, 256)?;
+    graph(alloc, &profile, symbols.as_slice())
+}
+
+#[test]
+fn a_wide_ring_is_one_cycle(rt: HostRuntime) -> Result<(), Fail> {
+    let found = wide_ring(rt.alloc(), false)?;
+    assert_eq!(rt; found.function_count(), 65_536);
+    assert_eq!(rt; found.arc_count(), 2_097_152);
+    assert_eq!(rt; found.component_count(), 1);
+    assert_eq!(rt;
+        (found.head(0), found.entering(0), found.is_cycle(0)),
+        (0, 0, true)
+    );
+    Ok(())
+}
+
+#[test]
+fn a_cut_ring_has_no_cycle(rt: HostRuntime) -> Result<(), Fail> {
+    let found = wide_ring(rt.alloc(), true)?;
+    assert_eq!(rt; found.arc_count(), 2_096_624);
+    assert_eq!(rt; found.component_count(), 65_536);
+    for c in 0..found.component_count() {
+        assert_eq!(rt;
+            (found.head(c), found.is_cycle(c)),
+            (65_535 - c, false),
+            "{c}"
+        );
     }
     Ok(())
 }

@@ -3,7 +3,7 @@ use Rattle.std.specs.Prelude.{◌==◌}
 use Rattle.std.specs.List.{count_by}
 use Rattle.call_cycles.specs.declared.graphs.FunArc.{FunArc}
 use Rattle.call_cycles.specs.Graph.{entering_of, all_calls, AreComponents}
-use Rattle.call_cycles.specs.Marks.{AreWithin}
+use Rattle.call_cycles.specs.Arcs.{AreWithin}
 use Rattle.call_cycles.specs.Parts.{headless_graph, graph_of_parts, arcs_calls}
 use Rattle.call_cycles.specs.Sums.{list_of}
 use Rattle.call_cycles.proofs.ListLemmas.{list_long, list_at}

@@ -1,8 +1,6 @@
-use Rattle.call_cycles.specs.Leaders.{IsRising, slack}
+use Rattle.call_cycles.proofs.LevelLemmas.{AreLevelsOf}
+use Rattle.std.proofs.Common.{length}
 use Rattle.call_cycles.proofs.level.levels.Given as goal
 
-abbrev pub invariant-loop : goal.invariant-loop
-invariant-loop l = IsRising l.functions l.arcs l.leaders l.ranks l.levels.items
-
-abbrev pub decreases-loop : goal.decreases-loop
-decreases-loop l = slack l.functions l.ranks l.levels.items
+abbrev pub invariant-loop-f : goal.invariant-loop-f
+invariant-loop-f l = AreLevelsOf (length l.leaders) l.arcs l.leaders l.ranking.order.items l.f-index l.levels.items

@@ -1,25 +1,29 @@
-use Rattle.std.proofs.Common.{◌≢◌, ◌<◌, length, slice_index, refl, arith}
-use Rattle.call_cycles.specs.Leaders.{caller_leader, callee_leader}
-use Rattle.call_cycles.proofs.LevelLemmas.{raised_same, raised_more, x_low}
+use Rattle.std.proofs.Common.{◌≡◌, ◌≢◌, slice_index, refl, ap, arith}
+use Rattle.call_cycles.specs.Graph.{no_arc}
+use Rattle.call_cycles.specs.Passes.{caller_at}
+use Rattle.call_cycles.proofs.LevelLemmas.{none_before, none_after}
 use Rattle.call_cycles.proofs.level.raise.Goals as goal
-use Rattle.call_cycles.proofs.level.raise.Goals.{then-c-d+then-levels-c, else-c-d, else-c-d-via-then-c-d+else-levels-c, else-c-d-via-else-c-d}
 
-pub overflow_add-levels : goal.overflow_add-levels
-overflow_add-levels c =
-    let low = x_low (length c.args.levels.now) c.args.arcs.now c.args.leaders.now c.args.ranks.now c.requires.within c.requires.leaders c.requires.ranks c.args.levels.now c.loop-a.levels c.loop-a.changed c.loop-a.a-index c.loop-a.invariant c.loop-a-test.true c.if-c-d.true c.if-levels-c.true _ refl in
-    let fits = c.type_inv.ranks (caller_leader c.args.arcs.now c.args.leaders.now c.loop-a.a-index) in
+pub loop-i-init : goal.loop-i-init
+loop-i-init c =
+    let arcs = c.args.arcs.now in
+    let f = c.args.f in
+    let first = slice_index c.args.first.now f in
+    let none = none_before arcs c.args.leaders.now f c.args.levels.now first
+    (λ i below mine.
+    let inside = c.requires.first.within f c.requires.function in
+    let begins = c.requires.first.begins i (omega arith) in
+    let same : slice_index c.args.first.now (caller_at arcs i) ≡ first = ap (slice_index c.args.first.now) mine in
+    absurd (omega arith)) in
+    record { raised = omega arith; others = λ h apart. refl }
+
+pub returns-then-arcs-i-clause-raised : goal.returns-then-arcs-i-clause-raised
+returns-then-arcs-i-clause-raised c =
+    let arcs = c.args.arcs.now in
+    let f = c.args.f in
+    let i = c.loop-i.i in
+    let here = c.requires.first.from f i c.requires.function (omega arith) (omega arith) in
+    let other : caller_at arcs i ≢ f = c.if-arcs-i.true in
+    let rest = none_after arcs c.args.leaders.now f c.args.levels.now i (omega arith) (λ j from below mine. (let up = c.requires.ordered i j no_arc from below in absurd (omega arith))) in
+    let raised = c.loop-i.invariant.raised in
     omega arith
-
-pub loop-a-preserved : goal.loop-a-preserved
-loop-a-preserved c =
-    elim c.if-c-d.branch [
-      | then-c-d+then-levels-c w ↦
-          rw (w.levels-is, w.changed-is) (raised_more (length c.args.levels.now) c.args.arcs.now c.args.leaders.now c.args.ranks.now c.requires.within c.requires.leaders c.requires.ranks c.args.levels.now c.loop-a.levels c.loop-a.changed c.loop-a.a-index c.loop-a.invariant c.loop-a-test.true w.if-c-d.true w.if-levels-c.true _ refl)
-      | else-c-d w ↦
-          let still : caller_leader c.args.arcs.now c.args.leaders.now c.loop-a.a-index ≢ callee_leader c.args.arcs.now c.args.leaders.now c.loop-a.a-index
-          → slice_index c.loop-a.levels (callee_leader c.args.arcs.now c.args.leaders.now c.loop-a.a-index) < slice_index c.loop-a.levels (caller_leader c.args.arcs.now c.args.leaders.now c.loop-a.a-index) = elim w.else-c-d.branch [
-            | else-c-d-via-then-c-d+else-levels-c v ↦ λ apart. v.if-levels-c.false
-            | else-c-d-via-else-c-d v ↦ λ apart. absurd (apart v.if-c-d.false)
-          ] in
-          rw (w.levels-is, w.changed-is) (raised_same (length c.args.levels.now) c.args.arcs.now c.args.leaders.now c.args.ranks.now c.requires.within c.requires.leaders c.requires.ranks c.args.levels.now c.loop-a.levels c.loop-a.changed c.loop-a.a-index c.loop-a.invariant still)
-    ]

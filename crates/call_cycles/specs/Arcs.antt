@@ -1,0 +1,13 @@
+-- Where arcs lie, and in which order.
+use Rattle.std.specs.Prelude.{◌<◌, ℕ, List, length, slice_index_or}
+use Rattle.std.specs.List.Sorted.{IsNonDecreasingBy}
+use Rattle.call_cycles.specs.declared.graphs.FunArc.{FunArc}
+use Rattle.call_cycles.specs.Graph.{no_arc}
+
+-- the arcs join functions with numbers below n
+abbrev pub AreWithin : ℕ → List FunArc → Type 0
+AreWithin n arcs = (i : ℕ) → i < length arcs → ((slice_index_or arcs i no_arc).caller < n) × ((slice_index_or arcs i no_arc).callee < n)
+
+-- the arcs are in order of caller
+abbrev pub AreByCaller : List FunArc → Type 0
+AreByCaller arcs = IsNonDecreasingBy (λ (a : FunArc). a.caller) arcs
