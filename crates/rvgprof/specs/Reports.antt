@@ -12,7 +12,7 @@ use Rattle.call_cycles.specs.Sums.{numbers_below}
 use Rattle.call_cycles.specs.Values.{profile_graph}
 use Rattle.propagate.specs.Solution.{flow_in}
 use Rattle.flat_report.specs.Sources.{Sources}
-use Rattle.flat_report.specs.FlatText.{flat_of}
+use Rattle.flat_report.specs.FlatText.{flat_text}
 use Rattle.graph_report.specs.GraphText.{graph_text}
 use Rattle.prof_machine.specs.declared.ending.RunSummary.{RunSummary}
 
@@ -30,7 +30,7 @@ sources_of image total =
 
 -- the flat profile, and the call graph
 abbrev pub flat_report_text : Image → Content → List ℕ
-flat_report_text image total = flat_of (sources_of image total)
+flat_report_text image total = flat_text (sources_of image total)
 
 abbrev pub graph_report_text : Image → Content → List ℕ
 graph_report_text image total = graph_text (sources_of image total)

@@ -51,7 +51,7 @@ fn print_flat<H: Host>(
     ensures printed { Reports (flat_report_text image.now _total.now) (H.outside host.old) (H.outside host.new) result }
     ensures idle { result ≡ Err OutOfMemory → host.new ≡ host.old }
 {
-    flat_report::write_flat(
+    flat_report::write(
         alloc,
         image.symbols.as_slice(),
         &sources.graph,
