@@ -5,6 +5,7 @@ use super::*;
 use host_port::MemHost;
 use std::alloc::{AllocError, Global};
 
+mod demos;
 mod faults;
 mod programs;
 mod reports;

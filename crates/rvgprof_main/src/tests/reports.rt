@@ -1,4 +1,4 @@
-//! Flat reports.
+//! Reports.
 
 ghost use Rattle.std.specs.Prelude.{◌≡◌, ◌≤◌, false, IfOk};
 ghost use Rattle.host_port.specs.Memory.{outside_of};
@@ -76,37 +76,78 @@ fn host_of_all(alloc: Global) -> Result<MemHost, AllocError>
 const HEADING: &str =
     "  %time   cumulative       self      calls  self ms/call  total ms/call  name\n";
 
-/// The report of `g`.
-const REPORT: &str = "flat profile
+/// The two lines at the front of a call graph.
+const HEADINGS: &str =
+    "call graph\nindex     %time        self    children                called  name\n";
+
+/// The flat profile of `g`.
+const FLAT: &str = "flat profile
 attributed 6000000, outside 0, rate 100
   %time   cumulative       self      calls  self ms/call  total ms/call  name
-  50.00         0.03       0.03                                          b
-  33.33         0.05       0.02                                          a
+  50.00         0.03       0.03          7          4.29           4.29  b
+  33.33         0.05       0.02          5          4.00           4.00  a
   16.67         0.06       0.01                                          main
 ";
 
-/// That of `g` added to itself.
+/// The call graph of `g`.
+const GRAPH: &str = "call graph
+index     %time        self    children                called  name
+                                                                   <spontaneous>
+[1]      100.00        0.01        0.05                        main [1]
+                       0.05        0.00                   1/1      a <cycle 1> [4]
+------------------------------------------------------------------------
+                       0.05        0.00                   1/1      main [1]
+[2]       83.33        0.05        0.00                   1+9  <cycle 1 as a whole> [2]
+                       0.02        0.00                     5      a <cycle 1> [4]
+                       0.03        0.00                   5+2      b <cycle 1> [3]
+------------------------------------------------------------------------
+                                                            5      a <cycle 1> [4]
+[3]       50.00        0.03        0.00                   5+2  b <cycle 1> [3]
+                                                            4      a <cycle 1> [4]
+------------------------------------------------------------------------
+                       0.05        0.00                   1/1      main [1]
+                                                            4      b <cycle 1> [3]
+[4]       33.33        0.02        0.00                     5  a <cycle 1> [4]
+                                                            5      b <cycle 1> [3]
+------------------------------------------------------------------------
+";
+
+/// The flat profile of `g` added to itself.
 const TWICE: &str = "flat profile
 attributed 12000000, outside 0, rate 100
   %time   cumulative       self      calls  self ms/call  total ms/call  name
-  50.00         0.06       0.06                                          b
-  33.33         0.10       0.04                                          a
+  50.00         0.06       0.06         14          4.29           4.29  b
+  33.33         0.10       0.04         10          4.00           4.00  a
   16.67         0.12       0.02                                          main
 ";
+
+/// Both reports of `g`, with an empty line between them.
+fn both(alloc: Global) -> Result<Vec<u8>, AllocError> {
+    let mut text = Vec::new(alloc);
+    for part in [FLAT, "\n", GRAPH] {
+        text.extend_from_slice(part.as_bytes())?;
+    }
+    Ok(text)
+}
 
 #[test]
 fn a_report_is_printed(rt: HostRuntime) -> Result<(), Fail> {
     let alloc = rt.alloc();
-    let cases: [(&[&str], &str); 4] = [
-        (&["report", "e", "g"], REPORT),
-        (&["report", "--flat", "e", "g"], REPORT),
-        (&["report", "e", "g", "g", "--flat"], TWICE),
-        (&["report", "e", "z", "g"], REPORT),
+    let whole = both(alloc)?;
+    let cases: [(&[&str], &[u8]); 8] = [
+        (&["report", "e", "g"], whole.as_slice()),
+        (&["report", "e", "--graph", "g", "--flat"], whole.as_slice()),
+        (&["report", "e", "z", "g"], whole.as_slice()),
+        (&["report", "--flat", "e", "g"], FLAT.as_bytes()),
+        (&["report", "e", "g", "g", "--flat"], TWICE.as_bytes()),
+        (&["report", "e", "--graph", "g"], GRAPH.as_bytes()),
+        (&["report", "e", "z", "g", "--graph"], GRAPH.as_bytes()),
+        (&["report", "--graph", "n", "z"], HEADINGS.as_bytes()),
     ];
     for (words, text) in cases {
         let mut host = host_of_all(alloc)?;
         assert_eq!(rt; status(alloc, words, &mut host)?, 0, "{words:?}");
-        assert_eq!(rt; host.printed(), text.as_bytes(), "{words:?}");
+        assert_eq!(rt; host.printed(), text, "{words:?}");
         assert_eq!(rt; host.errors().len(), 0, "{words:?}");
     }
     Ok(())
@@ -117,19 +158,19 @@ fn samples_in_no_function_are_outside(rt: HostRuntime) -> Result<(), Fail> {
     let alloc = rt.alloc();
     let cases: [(&[&str], &str); 4] = [
         (
-            &["report", "e", "z"],
+            &["report", "--flat", "e", "z"],
             "flat profile\nattributed 0, outside 0, rate 100\n",
         ),
         (
-            &["report", "e", "r"],
+            &["report", "--flat", "e", "r"],
             "flat profile\nattributed 0, outside 5000000, rate 50\n",
         ),
         (
-            &["report", "n", "g"],
+            &["report", "--flat", "n", "g"],
             "flat profile\nattributed 0, outside 6000000, rate 100\n",
         ),
         (
-            &["report", "n", "g", "o"],
+            &["report", "--flat", "n", "g", "o"],
             "flat profile\nattributed 0, outside 11000000, rate 100\n",
         ),
     ];
@@ -154,15 +195,10 @@ fn samples_in_no_function_are_outside(rt: HostRuntime) -> Result<(), Fail> {
 #[test]
 fn reports_are_refused_in_order(rt: HostRuntime) -> Result<(), Fail> {
     let alloc = rt.alloc();
-    let cases: [(&[&str], u8, &str); 9] = [
+    let cases: [(&[&str], u8, &str); 8] = [
         (&["report", "e"], 1, "rvgprof: words not understood\n"),
         (
-            &["report", "e", "g", "--graph"],
-            1,
-            "rvgprof: words not understood\n",
-        ),
-        (
-            &["report", "e", "g", "--flat", "--flat"],
+            &["report", "e", "g", "--graph", "--graph"],
             1,
             "rvgprof: words not understood\n",
         ),
@@ -221,12 +257,10 @@ fn fails_at(rt: &impl Abort, alloc: Global, step: usize, call: u64) -> Result<bo
     };
     assert_eq!(rt; answer, wanted, "call {call}, step {step}");
     let printed = host.printed();
+    let whole = both(alloc)?;
+    assert!(rt; whole.starts_with(printed), "call {call}, step {step}");
     assert!(rt;
-        REPORT.as_bytes().starts_with(printed),
-        "call {call}, step {step}"
-    );
-    assert!(rt;
-        failed.is_none() == (printed.len() == REPORT.len()),
+        failed.is_none() == (printed.len() == whole.len()),
         "call {call}, step {step}"
     );
     Ok(failed.is_some())
@@ -243,8 +277,8 @@ fn each_failing_call_of_a_report_has_its_answer(rt: HostRuntime) -> Result<(), F
     }
     assert_eq!(rt;
         calls,
-        7,
-        "open and three reads, open and two reads, a print"
+        9,
+        "open and three reads, open and two reads, three prints"
     );
     Ok(())
 }
