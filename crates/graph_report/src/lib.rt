@@ -21,3 +21,6 @@ mod tables;
 
 pub use flat_report::ReportRefusal;
 pub use report::write;
+
+#[cfg(test)]
+mod tests;

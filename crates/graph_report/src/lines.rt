@@ -1,6 +1,6 @@
 //! Lines and runs of lines.
 
-ghost use Rattle.std.specs.Prelude.{◌≡◌, ◌<◌, ◌≤◌, codes, length};
+ghost use Rattle.std.specs.Prelude.{◌≡◌, ◌==◌, ◌<◌, ◌≤◌, codes, length};
 ghost use Rattle.std.specs.List.{All, flat_map};
 ghost use Rattle.host_port.specs.Buffered.{Adds};
 ghost use Rattle.host_port.specs.declared.side.Side.TheVariants.{Output};
@@ -98,6 +98,13 @@ fn put_member<H: Host>(
     )
 }
 
+/// Whether there are no callers.
+fn is_spontaneous(arcs: &[usize]) -> bool
+    ensures { result ≡ (length arcs.now == 0) }
+{
+    arcs.is_empty()
+}
+
 /// Puts the line that stands in place of callers.
 #[tactic(auto, unfolding(crate::specs::GraphText::other_line))]
 fn put_spontaneous<H: Host>(lines: &mut PrintBuf, host: &mut H) -> Result<(), Failed>
@@ -117,7 +124,7 @@ pub(crate) fn put_callers<H: Host>(
     requires arcs { All (λ i. i < arc_count report.now.inputs.graph.now) arcs.now }
     ensures { Adds Output (callers_text (sources_of report.now.inputs) (number_of report.now) arcs.now) lines.old lines.new (H.outside host.old) (H.outside host.new) result }
 {
-    if arcs.is_empty() {
+    if is_spontaneous(arcs) {
         return put_spontaneous(lines, host);
     }
     for i in arcs {

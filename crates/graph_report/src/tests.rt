@@ -1,0 +1,534 @@
+ghost use Rattle.std.specs.Prelude.{◌≡◌, ◌+◌, ◌*◌, ◌^◌, ◌<◌, ◌≤◌, IfOk, OnOk, length, sum};
+ghost use Rattle.std.specs.List.{All};
+ghost use Rattle.elf32_syms.specs.Owners.{IsAscending};
+
+use super::*;
+use call_cycles::graph;
+use elf32_syms::{Symbol, SymbolList};
+use gmon_data::{AddRefusal, Hist, Profile};
+use gp_base::{Name, Totals, Unit};
+use host_port::{HostCall, MemHost};
+use propagate::flow;
+use std::alloc::{AllocError, Global};
+use std::test::Fail;
+use symbol_shares::shares;
+
+/// A function's name, and its samples.
+type Function<'a> = (&'a str, u16);
+
+/// Calls of one function by another: caller, callee and count, by their numbers.
+type Calls = (u16, u16, u64);
+
+/// Adds function `i`, which has 16 addresses.
+fn push_symbol(symbols: &mut SymbolList, i: u32, name: Name) -> Result<(), AllocError>
+    requires few { i < 65536 }
+    requires ascending { IsAscending symbols.old }
+    requires ended { All (λ s. s.end ≤ 65536 + 16 * i) symbols.old }
+    ensures ascending { OnOk result (IsAscending symbols.new) }
+    ensures ended { OnOk result (All (λ s. s.end ≤ 65552 + 16 * i) symbols.new) }
+{
+    symbols.push(Symbol {
+        addr: 0x1_0000 + 16 * i,
+        end: 0x1_0010 + 16 * i,
+        name,
+    })
+}
+
+fn name_of(alloc: Global, text: &str) -> Result<Name, AllocError> {
+    let mut name = Name::new(alloc);
+    for byte in text.as_bytes() {
+        name.push(*byte)?;
+    }
+    Ok(name)
+}
+
+/// The first 16 functions in a row, from 0x10000 on.
+fn symbols_of(alloc: Global, functions: &[Function<'_>]) -> Result<SymbolList, AllocError>
+    ensures { IfOk result IsAscending }
+{
+    let mut symbols = SymbolList::new(alloc);
+    let mut i = 0;
+    for function in functions {
+        if i < 16 {
+            push_symbol(&mut symbols, i, name_of(alloc, function.0)?)?;
+            i += 1;
+        }
+    }
+    Ok(symbols)
+}
+
+/// The samples of the first 65,535 functions.
+fn counters_of(alloc: Global, samples: &[u16]) -> Result<Totals, AllocError>
+    ensures samples { IfOk result (λ counters. sum counters < 2 ^ 45) }
+    ensures few { IfOk result (λ counters. length counters ≤ 65536) }
+{
+    let mut counters = Totals::new(alloc);
+    for count in samples {
+        if counters.as_slice().len() < 65535 {
+            counters.push(u64::from(*count))?;
+        }
+    }
+    Ok(counters)
+}
+
+/// One histogram of these counters, each of which has the addresses of one function.
+fn profile_of_samples(alloc: Global, counters: Totals) -> Result<Profile, AddRefusal>
+    requires samples { sum counters < 2 ^ 45 }
+    requires few { length counters ≤ 65536 }
+{
+    let unit = Unit {
+        rate: 100,
+        dim: *b"seconds\0\0\0\0\0\0\0\0",
+        abbrev: b's',
+    };
+    let count = counters.as_slice().len() as u32;
+    let hist = Hist {
+        low: 0x1_0000,
+        high: 0x1_0000 + 16 * count,
+        counters,
+    };
+    let mut profile = Profile::new(alloc);
+    if hist.low < hist.high {
+        profile.add_wide(&hist, unit)?;
+    }
+    Ok(profile)
+}
+
+/// A profile of the first 2000 of these calls, of 255 each at most.
+fn profile_of_calls(alloc: Global, calls: &[Calls]) -> Result<Profile, AllocError> {
+    let mut profile = Profile::new(alloc);
+    for (caller, callee, count) in &calls[..calls.len().min(2000)] {
+        let from = 0x1_0004 + 16 * u32::from(*caller);
+        let to = 0x1_0000 + 16 * u32::from(*callee);
+        profile.add_calls(from, to, (*count).min(255))?;
+    }
+    Ok(profile)
+}
+
+/// Prints the call graph of the functions that symbols name.
+fn print_symbols(
+    alloc: Global,
+    symbols: &[Symbol],
+    samples: &[u16],
+    calls: &[Calls],
+    rate: u32,
+    host: &mut MemHost,
+) -> Result<Result<(), ReportRefusal>, AddRefusal>
+    requires { IsAscending symbols.now }
+{
+    let calls = profile_of_calls(alloc, calls)?;
+    let samples = profile_of_samples(alloc, counters_of(alloc, samples)?)?;
+    let graph = graph(alloc, &calls, symbols)?;
+    let shares = shares(alloc, &samples, symbols)?;
+    let flow = flow(alloc, &graph, &shares)?;
+    Ok(write(alloc, symbols, &graph, &flow, &shares, rate.max(1), host))
+}
+
+/// Prints the call graph of these functions.
+fn print(
+    alloc: Global,
+    functions: &[Function<'_>],
+    calls: &[Calls],
+    rate: u32,
+    host: &mut MemHost,
+) -> Result<Result<(), ReportRefusal>, AddRefusal> {
+    let symbols = symbols_of(alloc, functions)?;
+    let mut samples = Vec::new(alloc);
+    for function in functions {
+        samples.push(function.1)?;
+    }
+    print_symbols(alloc, symbols.as_slice(), &samples, calls, rate, host)
+}
+
+/// The text with these lines.
+fn text(alloc: Global, lines: &[&str]) -> Result<Vec<u8>, AllocError> {
+    let mut text = Vec::new(alloc);
+    text.extend_from_slice(
+        b"call graph\nindex     %time        self    children                called  name\n",
+    )?;
+    for line in lines {
+        text.extend_from_slice(line.as_bytes())?;
+        text.push(b'\n')?;
+    }
+    Ok(text)
+}
+
+/// What stands below each entry.
+const RULE: &str = "------------------------------------------------------------------------";
+
+/// What stands in place of callers.
+const SPONTANEOUS: &str =
+    "                                                                   <spontaneous>";
+
+/// Three functions, of which the last two call each other, and the last itself too.
+const THREE: [Function<'static>; 3] = [("main", 1), ("a", 2), ("b", 3)];
+
+const THREE_CALLS: [Calls; 4] = [(0, 1, 1), (1, 2, 5), (2, 1, 4), (2, 2, 2)];
+
+const THREE_LINES: [&str; 18] = [
+    SPONTANEOUS,
+    "[1]      100.00        0.01        0.05                        main [1]",
+    "                       0.05        0.00                   1/1      a <cycle 1> [4]",
+    RULE,
+    "                       0.05        0.00                   1/1      main [1]",
+    "[2]       83.33        0.05        0.00                   1+9  <cycle 1 as a whole> [2]",
+    "                       0.02        0.00                     5      a <cycle 1> [4]",
+    "                       0.03        0.00                   5+2      b <cycle 1> [3]",
+    RULE,
+    "                                                            5      a <cycle 1> [4]",
+    "[3]       50.00        0.03        0.00                   5+2  b <cycle 1> [3]",
+    "                                                            4      a <cycle 1> [4]",
+    RULE,
+    "                       0.05        0.00                   1/1      main [1]",
+    "                                                            4      b <cycle 1> [3]",
+    "[4]       33.33        0.02        0.00                     5  a <cycle 1> [4]",
+    "                                                            5      b <cycle 1> [3]",
+    RULE,
+];
+
+/// A message, functions, calls, a rate, and the lines that are printed.
+type Row = (
+    &'static str,
+    &'static [Function<'static>],
+    &'static [Calls],
+    u32,
+    &'static [&'static str],
+);
+
+#[test]
+fn entries_of_functions_and_cycles(rt: HostRuntime) -> Result<(), Fail> {
+    let rows: [Row; 12] = [
+        (
+            "a cycle of two, and a function of it that calls itself",
+            &THREE,
+            &THREE_CALLS,
+            100,
+            &THREE_LINES,
+        ),
+        (
+            "a cycle without callers",
+            &[("a", 1), ("b", 2)],
+            &[(0, 1, 3), (1, 0, 4)],
+            100,
+            &[
+                SPONTANEOUS,
+                "[1]      100.00        0.03        0.00                   0+7  <cycle 1 as a whole> [1]",
+                "                       0.01        0.00                     4      a <cycle 1> [3]",
+                "                       0.02        0.00                     3      b <cycle 1> [2]",
+                RULE,
+                "                                                            3      a <cycle 1> [3]",
+                "[2]       66.67        0.02        0.00                     3  b <cycle 1> [2]",
+                "                                                            4      a <cycle 1> [3]",
+                RULE,
+                "                                                            4      b <cycle 1> [2]",
+                "[3]       33.33        0.01        0.00                     4  a <cycle 1> [3]",
+                "                                                            3      b <cycle 1> [2]",
+                RULE,
+            ],
+        ),
+        (
+            "a function that is called by itself alone",
+            &[("f", 1)],
+            &[(0, 0, 3)],
+            100,
+            &[
+                SPONTANEOUS,
+                "[1]      100.00        0.01        0.00                   0+3  f [1]",
+                RULE,
+            ],
+        ),
+        (
+            "two functions of one name",
+            &[("f", 1), ("f", 1), ("main", 0)],
+            &[(2, 0, 1), (2, 1, 2)],
+            100,
+            &[
+                SPONTANEOUS,
+                "[1]      100.00        0.00        0.02                        main [1]",
+                "                       0.01        0.00                   1/1      f [2]",
+                "                       0.01        0.00                   2/2      f [3]",
+                RULE,
+                "                       0.01        0.00                   1/1      main [1]",
+                "[2]       50.00        0.01        0.00                     1  f [2]",
+                RULE,
+                "                       0.01        0.00                   2/2      main [1]",
+                "[3]       50.00        0.01        0.00                     2  f [3]",
+                RULE,
+            ],
+        ),
+        (
+            "equal totals are ordered by the bytes of the names",
+            &[("b", 1), ("a", 1), ("B", 1)],
+            &[],
+            100,
+            &[
+                SPONTANEOUS,
+                "[1]       33.33        0.01        0.00                        B [1]",
+                RULE,
+                SPONTANEOUS,
+                "[2]       33.33        0.01        0.00                        a [2]",
+                RULE,
+                SPONTANEOUS,
+                "[3]       33.33        0.01        0.00                        b [3]",
+                RULE,
+            ],
+        ),
+        (
+            "a function that took no time and is called, and one that isn't called",
+            &[("main", 1), ("idle", 0), ("gone", 0)],
+            &[(0, 1, 2)],
+            1,
+            &[
+                SPONTANEOUS,
+                "[1]      100.00        1.00        0.00                        main [1]",
+                "                       0.00        0.00                   2/2      idle [2]",
+                RULE,
+                "                       0.00        0.00                   2/2      main [1]",
+                "[2]        0.00        0.00        0.00                     2  idle [2]",
+                RULE,
+            ],
+        ),
+        (
+            "calls without samples",
+            &[("a", 0), ("b", 0)],
+            &[(0, 1, 1)],
+            100,
+            &[
+                SPONTANEOUS,
+                "[1]        0.00        0.00        0.00                        a [1]",
+                "                       0.00        0.00                   1/1      b [2]",
+                RULE,
+                "                       0.00        0.00                   1/1      a [1]",
+                "[2]        0.00        0.00        0.00                     1  b [2]",
+                RULE,
+            ],
+        ),
+        (
+            "no samples and no calls",
+            &[("a", 0), ("b", 0)],
+            &[],
+            100,
+            &[],
+        ),
+        ("no functions", &[], &[], 100, &[]),
+        (
+            "callers by address, and the calls of all of them",
+            &[("y", 0), ("x", 0), ("d", 4)],
+            &[(0, 2, 1), (1, 2, 3)],
+            100,
+            &[
+                "                       0.01        0.00                   1/4      y [3]",
+                "                       0.03        0.00                   3/4      x [2]",
+                "[1]      100.00        0.04        0.00                     4  d [1]",
+                RULE,
+                SPONTANEOUS,
+                "[2]       75.00        0.00        0.03                        x [2]",
+                "                       0.03        0.00                   3/4      d [1]",
+                RULE,
+                SPONTANEOUS,
+                "[3]       25.00        0.00        0.01                        y [3]",
+                "                       0.01        0.00                   1/4      d [1]",
+                RULE,
+            ],
+        ),
+        (
+            "a cycle stands before its head of the same name and total",
+            &[("<cycle 1 as a whole>", 1), ("b", 0)],
+            &[(0, 1, 1), (1, 0, 1)],
+            100,
+            &[
+                SPONTANEOUS,
+                "[1]      100.00        0.01        0.00                   0+2  <cycle 1 as a whole> [1]",
+                "                       0.01        0.00                     1      <cycle 1 as a whole> <cycle 1> [2]",
+                "                       0.00        0.00                     1      b <cycle 1> [3]",
+                RULE,
+                "                                                            1      b <cycle 1> [3]",
+                "[2]      100.00        0.01        0.00                     1  <cycle 1 as a whole> <cycle 1> [2]",
+                "                                                            1      b <cycle 1> [3]",
+                RULE,
+                "                                                            1      <cycle 1 as a whole> <cycle 1> [2]",
+                "[3]        0.00        0.00        0.00                     1  b <cycle 1> [3]",
+                "                                                            1      <cycle 1 as a whole> <cycle 1> [2]",
+                RULE,
+            ],
+        ),
+        (
+            "three cycles, each calling the next, numbered by their heads",
+            &[("p", 1), ("q", 0), ("r", 2), ("s", 0), ("t", 0), ("u", 1)],
+            &[
+                (0, 5, 1),
+                (5, 0, 2),
+                (1, 4, 3),
+                (4, 1, 4),
+                (2, 3, 5),
+                (3, 2, 6),
+                (0, 1, 7),
+                (1, 2, 8),
+            ],
+            100,
+            &[
+                SPONTANEOUS,
+                "[1]      100.00        0.02        0.02                   0+3  <cycle 1 as a whole> [1]",
+                "                       0.01        0.02                     2      p <cycle 1> [2]",
+                "                       0.01        0.00                     1      u <cycle 1> [7]",
+                RULE,
+                "                                                            2      u <cycle 1> [7]",
+                "[2]       75.00        0.01        0.02                     2  p <cycle 1> [2]",
+                "                       0.00        0.02                   7/7      q <cycle 2> [5]",
+                "                                                            1      u <cycle 1> [7]",
+                RULE,
+                "                       0.00        0.02                   7/7      p <cycle 1> [2]",
+                "[3]       50.00        0.00        0.02                   7+7  <cycle 2 as a whole> [3]",
+                "                       0.00        0.02                    11      q <cycle 2> [5]",
+                "                       0.00        0.00                     3      t <cycle 2> [9]",
+                RULE,
+                "                       0.02        0.00                   8/8      q <cycle 2> [5]",
+                "[4]       50.00        0.02        0.00                  8+11  <cycle 3 as a whole> [4]",
+                "                       0.02        0.00                    14      r <cycle 3> [6]",
+                "                       0.00        0.00                     5      s <cycle 3> [8]",
+                RULE,
+                "                       0.00        0.02                   7/7      p <cycle 1> [2]",
+                "                                                            4      t <cycle 2> [9]",
+                "[5]       50.00        0.00        0.02                    11  q <cycle 2> [5]",
+                "                       0.02        0.00                   8/8      r <cycle 3> [6]",
+                "                                                            3      t <cycle 2> [9]",
+                RULE,
+                "                       0.02        0.00                   8/8      q <cycle 2> [5]",
+                "                                                            6      s <cycle 3> [8]",
+                "[6]       50.00        0.02        0.00                    14  r <cycle 3> [6]",
+                "                                                            5      s <cycle 3> [8]",
+                RULE,
+                "                                                            1      p <cycle 1> [2]",
+                "[7]       25.00        0.01        0.00                     1  u <cycle 1> [7]",
+                "                                                            2      p <cycle 1> [2]",
+                RULE,
+                "                                                            5      r <cycle 3> [6]",
+                "[8]        0.00        0.00        0.00                     5  s <cycle 3> [8]",
+                "                                                            6      r <cycle 3> [6]",
+                RULE,
+                "                                                            3      q <cycle 2> [5]",
+                "[9]        0.00        0.00        0.00                     3  t <cycle 2> [9]",
+                "                                                            4      q <cycle 2> [5]",
+                RULE,
+            ],
+        ),
+    ];
+    for (message, functions, calls, rate, lines) in rows {
+        let mut host = MemHost::new(rt.alloc());
+        assert_eq!(rt;
+            print(rt.alloc(), functions, calls, rate, &mut host)?,
+            Ok(()),
+            "{message}"
+        );
+        let want = text(rt.alloc(), lines)?;
+        assert_eq!(rt; host.printed(), want.as_slice(), "{message}");
+    }
+    Ok(())
+}
+
+#[test]
+fn a_long_name_is_printed_whole(rt: HostRuntime) -> Result<(), Fail> {
+    let mut name = String::new(rt.alloc());
+    for _ in 0..4095 {
+        name.push('x')?;
+    }
+    let mut line = String::from_str(
+        rt.alloc(),
+        "[1]      100.00        0.01        0.00                        ",
+    )?;
+    line.push_str(name.as_str())?;
+    line.push_str(" [1]")?;
+    let mut host = MemHost::new(rt.alloc());
+    let functions = [(name.as_str(), 1)];
+    assert_eq!(rt; print(rt.alloc(), &functions, &[], 100, &mut host)?, Ok(()));
+    let want = text(rt.alloc(), &[SPONTANEOUS, line.as_str(), RULE])?;
+    assert_eq!(rt; host.printed(), want.as_slice());
+    Ok(())
+}
+
+#[test]
+fn a_failed_call_leaves_a_part_that_is_not_the_whole(rt: HostRuntime) -> Result<(), Fail> {
+    let want = text(rt.alloc(), &THREE_LINES)?;
+    assert_eq!(rt; want.len(), 1503);
+    for call in 0..33 {
+        let mut host = MemHost::new(rt.alloc());
+        host.set_step(50);
+        host.fail_at(call)?;
+        let result = print(rt.alloc(), &THREE, &THREE_CALLS, 100, &mut host)?;
+        if call < 31 {
+            assert_eq!(rt; result, Err(ReportRefusal::WriteFault), "call {call}");
+            assert_eq!(rt; host.first_failed(), Some(HostCall::Out), "call {call}");
+            assert_eq!(rt; host.printed().len() as u64, 50 * call, "call {call}");
+            assert!(rt; want.as_slice().starts_with(host.printed()), "call {call}");
+        } else {
+            assert_eq!(rt; result, Ok(()), "call {call}");
+            assert_eq!(rt; host.printed(), want.as_slice(), "call {call}");
+        }
+    }
+    Ok(())
+}
+
+/// Four hexadecimal digits.
+fn hex4(alloc: Global, n: u16) -> Result<Name, AllocError> {
+    let mut name = Name::new(alloc);
+    for shift in [12, 8, 4, 0] {
+        let digit = (n >> shift) % 16;
+        let first = if digit < 10 { b'0' } else { b'a' - 10 };
+        name.push(first + digit as u8)?;
+    }
+    Ok(name)
+}
+
+/// The symbols of 1,200 functions, of which the last has the first name.
+fn symbols_in_reverse(alloc: Global) -> Result<SymbolList, AllocError>
+    ensures { IfOk result IsAscending }
+{
+    let mut symbols = SymbolList::new(alloc);
+    for i in 0..1_200 {
+        push_symbol(&mut symbols, i, hex4(alloc, (1_199 - i) as u16)?)?;
+    }
+    Ok(symbols)
+}
+
+/// A chain of 1,200 functions, each of which calls the next one; the last has 3 samples.
+#[test]
+fn many_functions(rt: HostRuntime) -> Result<(), Fail> {
+    let symbols = symbols_in_reverse(rt.alloc())?;
+    let mut calls = Vec::new(rt.alloc());
+    for f in 0..1_199u16 {
+        calls.push((f, f + 1, 2))?;
+    }
+    let mut samples = vec![in rt.alloc(); 0u16; 1_199]?;
+    samples.push(3)?;
+    let mut host = MemHost::new(rt.alloc());
+    let printed = print_symbols(
+        rt.alloc(),
+        symbols.as_slice(),
+        &samples,
+        calls.as_slice(),
+        100,
+        &mut host,
+    )?;
+    assert_eq!(rt; printed, Ok(()));
+    let first = text(
+        rt.alloc(),
+        &[
+            "                       0.03        0.00                   2/2      0001 [2]",
+            "[1]      100.00        0.03        0.00                     2  0000 [1]",
+            RULE,
+            "                       0.00        0.03                   2/2      0002 [3]",
+            "[2]      100.00        0.00        0.03                     2  0001 [2]",
+            "                       0.03        0.00                   2/2      0000 [1]",
+            RULE,
+            "                       0.00        0.03                   2/2      0003 [4]",
+        ],
+    )?;
+    assert!(rt; host.printed().starts_with(first.as_slice()));
+    let last =
+        b"[1200]   100.00        0.00        0.03                        04af [1200]\n                       0.00        0.03                   2/2      04ae [1199]\n------------------------------------------------------------------------\n";
+    assert!(rt; host.printed().ends_with(last));
+    // The two first lines, 1,200 own lines, 1,199 callers, 1,199 callees, one without callers, 1,200 rules.
+    let len = 79 + 88_893 + 93_617 + 93_614 + 81 + 87_600;
+    assert_eq!(rt; host.printed().len(), len);
+    Ok(())
+}
