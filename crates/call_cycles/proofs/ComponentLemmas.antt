@@ -142,7 +142,7 @@ module _ (n : ℕ) (arcs : List FunArc) (self_calls leaders levels places compon
     heads_in = head_component;
     heads_least = λ f below.
         let at = head_is f below in
-        let least = (led.each f below).least f (omega arith) below (reaches_itself arcs f, reaches_itself arcs f) in
+        let least = (led.each f below).least f below (reaches_itself arcs f, reaches_itself arcs f) in
         omega arith;
     level = level;
     levels = levels_are;

@@ -1,5 +1,5 @@
 -- The least function of each rank leads those of this rank.
-use Rattle.std.proofs.Common.{◌<◌, ◌≡◌, ℕ, List, sym, subst}
+use Rattle.std.proofs.Common.{◌<◌, ◌≡◌, ℕ, List, sym, subst, arith}
 use Rattle.std.specs.Prelude.{slice_index}
 use Rattle.call_cycles.specs.declared.graphs.FunArc.{FunArc}
 use Rattle.call_cycles.specs.Sums.{list_of}
@@ -20,6 +20,6 @@ are_leaders n arcs ranks leaders are least = record {
       record {
         within = l.within;
         joined = (are.joined f (slice_index leaders f) below l.within).0 (sym l.same);
-        least = λ h from low joined. l.lowest h from low (sym ((are.joined f h below low).1 joined));
+        least = λ h low joined. l.lowest h (omega arith) low (sym ((are.joined f h below low).1 joined));
       };
 }

@@ -22,8 +22,8 @@ module _ (n : ℕ) (arcs : List FunArc) (leaders : List ℕ) (within : AreWithin
   joined_same f h fb hb joined =
       let lf = led.each f fb in
       let lh = led.each h hb in
-      let one = lf.least (slice_index leaders h) (omega arith) lh.within (reaches_on arcs f h _ joined.0 lh.joined.0, reaches_on arcs _ h f lh.joined.1 joined.1) in
-      let two = lh.least (slice_index leaders f) (omega arith) lf.within (reaches_on arcs h f _ joined.1 lf.joined.0, reaches_on arcs _ f h lf.joined.1 joined.0) in
+      let one = lf.least (slice_index leaders h) lh.within (reaches_on arcs f h _ joined.0 lh.joined.0, reaches_on arcs _ h f lh.joined.1 joined.1) in
+      let two = lh.least (slice_index leaders f) lf.within (reaches_on arcs h f _ joined.1 lf.joined.0, reaches_on arcs _ f h lf.joined.1 joined.0) in
       omega arith
 
   -- the rank falls from component to component

@@ -55,13 +55,13 @@ first_number n p f below passes =
 module _ (n : ℕ) (arcs : List FunArc) (within : AreWithin n arcs) where
   -- ---- leaders
 
-  leader_is : (f : ℕ) → f < n → IsLeader n arcs 0 f (leader_of n arcs f)
+  leader_is : (f : ℕ) → f < n → IsLeader n arcs f (leader_of n arcs f)
   leader_is f below =
       let first = first_number n (are_joined n arcs f) f below ((joined_is n arcs within f f).1 (reaches_itself arcs f, reaches_itself arcs f)) in
       record {
         within = first.0;
         joined = (joined_is n arcs within f (leader_of n arcs f)).0 first.1;
-        least = λ h from inside joined. first.2 h inside ((joined_is n arcs within f h).1 joined);
+        least = λ h inside joined. first.2 h inside ((joined_is n arcs within f h).1 joined);
       }
 
   leader_at : (f : ℕ) → f < n → slice_index (leaders_of n arcs) f ≡ leader_of n arcs f
@@ -72,7 +72,7 @@ module _ (n : ℕ) (arcs : List FunArc) (within : AreWithin n arcs) where
   unfolding leaders_of
   leaders_are = record {
     len = list_long n (leader_of n arcs) (leaders_of n arcs) refl;
-    each = λ f below. subst (IsLeader n arcs 0 f) (sym (leader_at f below)) (leader_is f below);
+    each = λ f below. subst (IsLeader n arcs f) (sym (leader_at f below)) (leader_is f below);
   }
 
   -- ---- ranks: how many functions each one reaches

@@ -1,4 +1,4 @@
--- The least member of each function's component.
+-- The leader of each function, the least member of its component, and the levels of components at their leaders.
 use Rattle.std.specs.List.{All, AllPairs, Contains}
 use Rattle.std.specs.Prelude.{◌≡◌, ◌<◌, ◌≤◌, ◌↔◌, ◌==◌, ◌&&◌, not, Bool, ℕ, suc, List, length, slice_index, slice_index_or}
 use Rattle.call_cycles.specs.Sums.{max_below, when}
@@ -10,16 +10,16 @@ use Rattle.call_cycles.specs.Walks.{Reaches}
 abbrev pub AreJoined : List FunArc → ℕ → ℕ → Type 0
 AreJoined arcs f h = Reaches arcs f h × Reaches arcs h f
 
--- the leader of f is the least of those joined with it, among those from k on
-pub record IsLeader (n : ℕ) (arcs : List FunArc) (k f leader : ℕ) : Type 0 where
+-- the leader of f is the least of those joined with it
+pub record IsLeader (n : ℕ) (arcs : List FunArc) (f leader : ℕ) : Type 0 where
   pub within : leader < n
   pub joined : AreJoined arcs f leader
-  pub least : (h : ℕ) → k ≤ h → h < n → AreJoined arcs f h → leader ≤ h
+  pub least : (h : ℕ) → h < n → AreJoined arcs f h → leader ≤ h
 
 -- the leader of each of n functions is the least of those joined with it
 pub record AreLeaders (n : ℕ) (arcs : List FunArc) (leaders : List ℕ) : Type 0 where
   pub len : length leaders ≡ n
-  pub each : (f : ℕ) → f < n → IsLeader n arcs 0 f (slice_index leaders f)
+  pub each : (f : ℕ) → f < n → IsLeader n arcs f (slice_index leaders f)
 
 -- ranks never rise along arcs, and two functions have one rank exactly where each reaches the other
 pub record AreRanks (n : ℕ) (arcs : List FunArc) (ranks : List ℕ) : Type 0 where

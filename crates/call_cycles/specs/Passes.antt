@@ -50,7 +50,7 @@ pub record IsSearch (arcs : List FunArc) (place rank next : ℕ → ℕ) (parts 
   pub calls_rise : AllPairs (λ u w. place u < place w) calls
   pub finished : (w : ℕ) → IsOpen place rank w → (Contains calls w → ⊥) → AllFollowed arcs next w
 
--- the first arc of each of n functions; no number is below it where the function has none
+-- where the arcs of each of n functions begin: its own are not below this number, and from it on there are only its own and those of later functions
 pub record AreFirst (n : ℕ) (arcs : List FunArc) (first : List ℕ) : Type 0 where
   pub len : length first ≡ n
   pub within : (w : ℕ) → w < n → slice_index first w ≤ length arcs
@@ -81,6 +81,7 @@ place_in p = slice_index p.places
 abbrev pub unseen_count : PassValue → ℕ
 unseen_count p = count_by (λ k. k == 0) p.places
 
+-- what a pass over n functions keeps
 pub record IsPass (n : ℕ) (arcs : List FunArc) (p : PassValue) : Type 0 where
   pub search : IsSearch arcs (place_in p) (rank_in p) (slice_index p.next) p.parts p.calls (length p.order)
   pub places : length p.places ≡ n
@@ -90,6 +91,7 @@ pub record IsPass (n : ℕ) (arcs : List FunArc) (p : PassValue) : Type 0 where
   pub fresh : (i : ℕ) → i < length arcs → place_in p (caller_at arcs i) ≡ 0 → slice_index p.next (caller_at arcs i) ≤ i
   -- from the next arc of a function on there are only its own and those of later functions
   pub from : (w i : ℕ) → w < n → i < length arcs → slice_index p.next w ≤ i → w ≤ caller_at arcs i
+  -- the path has just the open functions, each at its place
   pub path_open : (k : ℕ) → k < length p.path → (slice_index p.path k < n) × IsOpen (place_in p) (rank_in p) (slice_index p.path k) × (place_in p (slice_index p.path k) ≡ suc k)
   pub open_path : (w : ℕ) → IsOpen (place_in p) (rank_in p) w → (k : ℕ) × (k < length p.path) × (place_in p w ≡ suc k) × (slice_index p.path k ≡ w)
   pub parts_rise : AllPairs (λ a b. a < b) p.parts
@@ -97,6 +99,7 @@ pub record IsPass (n : ℕ) (arcs : List FunArc) (p : PassValue) : Type 0 where
   pub order_ranked : All (λ f. rank_in p f ≢ 0) p.order
   pub order_rises : AllPairs (λ f g. rank_in p f ≤ rank_in p g) p.order
   pub ranked : (w : ℕ) → rank_in p w ≢ 0 → Contains p.order w
+  -- each function is unseen, on the path or in the order
   pub all : unseen_count p + length p.path + length p.order ≡ n
 
 -- ---- its steps
@@ -150,6 +153,7 @@ left p f =
     let q : PassValue = record p { calls = take (length p.calls - 1) p.calls } in
     if slice_index p.parts (length p.parts - 1) == place_in p f then completed q (place_in p f - 1) else q
 
+-- what leaving a function takes
 pub record CanLeave (p : PassValue) (f : ℕ) : Type 0 where
   pub within : f < length p.places
   pub seen : 0 < place_in p f
@@ -162,7 +166,7 @@ pub record CanLeave (p : PassValue) (f : ℕ) : Type 0 where
 abbrev pub EndsIn : List ℕ → ℕ → Type 0
 EndsIn xs x = (front : List ℕ) × (xs ≡ front ++ x ∷ [])
 
--- how much is left to do
+-- how much is left to do: functions to be seen, arcs to be followed, and functions to be left
 abbrev pub work_left : List FunArc → PassValue → ℕ
 work_left arcs p = 2 * unseen_count p + sum_by (λ i. length arcs - i) p.next + length p.calls
 
