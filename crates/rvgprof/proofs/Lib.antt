@@ -10,6 +10,7 @@ pub mod Summing
 pub mod Reporting
 pub mod Running
 pub mod LastLine
+pub mod CompletenessLemmas
 pub mod Showable
 pub mod SourceLemmas
 pub mod Profiling

@@ -8,5 +8,6 @@ pub mod Reports
 pub mod Found
 pub mod Answer
 pub mod Contract
+pub mod Completeness
 pub mod Standing
 pub mod ProfileSizes

@@ -6,6 +6,7 @@ mod demo;
 mod end_line;
 mod inputs;
 mod items;
+pub mod laws;
 mod numbers;
 mod options;
 pub mod outcome;

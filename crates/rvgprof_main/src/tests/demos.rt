@@ -76,27 +76,28 @@ fn a_profile_is_of_its_run(rt: HostRuntime) -> Result<(), Fail> {
     Ok(())
 }
 
+/// A host on which a command ran a program.
+fn ran(rt: &impl Abort, alloc: Global, command: &str) -> Result<MemHost, Fail> {
+    let words = [
+        command, "e", "g", "--image", "i", "--budget", "4000", "--ram", "4",
+    ];
+    let mut host = MemHost::new(alloc);
+    host.put("e", &elf(alloc, &CALLS)?)?;
+    assert_eq!(rt; status(alloc, &words, &mut host)?, 0, "{command}");
+    Ok(host)
+}
+
 #[test]
 fn a_profile_leaves_what_a_run_leaves(rt: HostRuntime) -> Result<(), Fail> {
     let alloc = rt.alloc();
-    let mut ran = MemHost::new(alloc);
-    let mut profiled = MemHost::new(alloc);
-    let program = elf(alloc, &CALLS)?;
-    ran.put("e", &program)?;
-    profiled.put("e", &program)?;
-    let options = ["e", "g", "--image", "i", "--budget", "4000", "--ram", "4"];
-    for (command, host) in [("run", &mut ran), ("profile", &mut profiled)] {
-        let mut words = Vec::new(alloc);
-        words.push(command)?;
-        words.extend_from_slice(&options)?;
-        assert_eq!(rt; status(alloc, words.as_slice(), host)?, 0, "{command}");
-    }
+    let run = ran(&rt, alloc, "run")?;
+    let profiled = ran(&rt, alloc, "profile")?;
     for name in ["g", "i"] {
-        let file = ran.file(name).ok_or("no file")?;
-        assert!(rt; file.len() > 0, "{name}");
+        let file = run.file(name).ok_or("no file")?;
+        assert!(rt; !file.is_empty(), "{name}");
         assert!(rt; profiled.file(name) == Some(file), "{name}");
     }
-    assert_eq!(rt; profiled.errors(), ran.errors());
+    assert_eq!(rt; profiled.errors(), run.errors());
     Ok(())
 }
 

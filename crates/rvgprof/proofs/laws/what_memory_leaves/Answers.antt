@@ -1,0 +1,5 @@
+use Rattle.rvgprof.proofs.CompletenessLemmas.{memory_leaves}
+use Rattle.rvgprof.proofs.laws.what_memory_leaves.Goals as goal
+
+pub returns : goal.returns
+returns c = memory_leaves

@@ -1,0 +1,29 @@
+-- All that is due was done.
+use Rattle.std.specs.Prelude.{◌≡◌, ℕ, ◌-◌, ◌^◌, ◌<◌, List, [], ◌∷◌, ◌++◌, Result}
+use Rattle.host_port.specs.Act.{Err as Complain}
+use Rattle.host_port.specs.Outside.{Outside, Did}
+use Rattle.rvgprof.specs.declared.outcome.Done.{Done}
+use Rattle.rvgprof.specs.declared.outcome.Fault.{Fault}
+use Rattle.rvgprof.specs.Texts.{last_line}
+use Rattle.rvgprof.specs.Course.{reply_to}
+use Rattle.rvgprof.specs.Answer.{course_of, contents_of}
+use Rattle.rvgprof.specs.Contract.{WhereTold}
+
+-- A count of faults stayed, and doesn't stand at its end, where it stays after a fault too.
+pub record Stayed (before now : ℕ) : Type 0 where
+  pub same : now ≡ before
+  pub below : before < 2 ^ 64 - 1
+
+-- no call on the host failed
+pub record NoneFailed (old new : Outside) : Type 0 where
+  pub read : Stayed old.read_faults new.read_faults
+  pub write : Stayed old.write_faults new.write_faults
+  pub err : Stayed old.err_faults new.err_faults
+
+-- All that is due was done, and the answer is the definition's, for inputs with some contents: for those of the files
+-- that are told before and after, where they are.
+pub record Complete (words : List (List ℕ)) (old new : Outside) (result : Result Done Fault) : Type 0 where
+  pub contents : ℕ → List ℕ
+  pub told : WhereTold old new (λ files. contents ≡ contents_of words files)
+  pub ending : result ≡ (reply_to contents (course_of words)).ending
+  pub did : Did ((reply_to contents (course_of words)).acts ++ Complain (last_line words result) ∷ []) old new
