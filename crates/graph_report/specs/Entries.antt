@@ -1,20 +1,18 @@
 -- The entries of a call graph: the cycles as a whole, and the functions that took time or have calls; and their order.
-use Rattle.std.specs.Prelude.{ℕ, ◌==◌, ◌||◌, Bool, nat_lt, false, List, [], ◌++◌, map, filter, slice_get}
+use Rattle.std.specs.Prelude.{ℕ, ◌+◌, ◌==◌, ◌||◌, Bool, nat_lt, false, List, ◌++◌, map, filter}
 use Rattle.std.specs.List.{position}
 use Rattle.std.specs.Option.{option_map_or}
 use Rattle.std.specs.declared.cmp.Ordering.{Ordering}
 use Rattle.std.specs.Ordering.{nat_cmp, ordering_then, is_lt}
 use Rattle.std.specs.Cmp.Lexicographic.{slice_cmp}
-use Rattle.elf32_syms.specs.declared.image.Symbol.{Symbol}
 use Rattle.call_cycles.specs.Graph.{GraphValue, arc_at, arc_count, component_count, head_of, is_cycle}
 use Rattle.call_cycles.specs.Flow.{time_of}
 use Rattle.call_cycles.specs.Sums.{sum_below, when, numbers_below}
-use Rattle.flat_report.specs.Sources.{Sources, total_of, calls_by_others, calls_by_itself}
+use Rattle.flat_report.specs.Sources.{Sources, name_of, total_of, calls_by_others, calls_by_itself}
 use Rattle.flat_report.specs.Order.{in_order}
 use Rattle.graph_report.specs.Cycles.{cycle_name}
 use Rattle.graph_report.specs.declared.subjects.Subject.{Subject}
 use Rattle.graph_report.specs.declared.subjects.Subject.TheVariants.{Cycle, Function}
-use Rattle.std.specs.Prelude.{◌+◌}
 
 -- an entry: what it is of, the grains of that with what it calls, and its name
 pub record Entry : Type 0 where
@@ -30,10 +28,6 @@ calls_of_others g f = sum_below (arc_count g) (λ i. when ((arc_at g i).caller =
 abbrev pub has_entry : Sources → ℕ → Bool
 has_entry s f =
     nat_lt 0 (total_of s f) || nat_lt 0 (calls_by_others s.graph f) || nat_lt 0 (calls_of_others s.graph f) || nat_lt 0 (calls_by_itself s.graph f)
-
--- the name of a function
-abbrev pub name_of : Sources → ℕ → List ℕ
-name_of s f = option_map_or (λ (symbol : Symbol). symbol.name) (slice_get s.symbols f) []
 
 abbrev pub function_entry : Sources → ℕ → Entry
 function_entry s f = record { subject = Function f; total = total_of s f; name = name_of s f }

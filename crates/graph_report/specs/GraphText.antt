@@ -8,9 +8,9 @@ use Rattle.call_cycles.specs.Graph.{GraphValue, arc_at, arc_count, component_of,
 use Rattle.call_cycles.specs.Flow.{time_of}
 use Rattle.call_cycles.specs.Sums.{numbers_below}
 use Rattle.flat_report.specs.FlatText.{seconds_of}
-use Rattle.flat_report.specs.Sources.{Sources, share_of, child_of, total_of, calls_by_others, calls_by_itself}
+use Rattle.flat_report.specs.Sources.{Sources, name_of, share_of, child_of, total_of, calls_by_others, calls_by_itself}
 use Rattle.graph_report.specs.Cycles.{is_member, cycle_number, inner_calls, cycle_name}
-use Rattle.graph_report.specs.Entries.{Entry, name_of, ordered, number_in}
+use Rattle.graph_report.specs.Entries.{Entry, ordered, number_in}
 use Rattle.graph_report.specs.declared.subjects.Subject.{Subject}
 use Rattle.graph_report.specs.declared.subjects.Subject.TheVariants.{Cycle, Function}
 

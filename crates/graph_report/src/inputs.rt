@@ -3,9 +3,9 @@
 ghost use Rattle.std.specs.Prelude.{◌≡◌, ◌^◌, ◌<◌, ◌+◌, true, length, slice_index};
 ghost use Rattle.call_cycles.specs.Flow.{carried_by, time_of};
 ghost use Rattle.call_cycles.specs.Graph.{arc_count, component_count, is_cycle as is_a_cycle, is_outside};
-ghost use Rattle.flat_report.specs.Sources.{calls_by_others, child_of, share_of, total_of};
+ghost use Rattle.flat_report.specs.Sources.{calls_by_others, child_of, name_of, share_of, total_of};
 ghost use Rattle.graph_report.specs.Cycles.{cycle_name as name_of_cycle, cycle_number as number_of_cycle, inner_calls};
-ghost use Rattle.graph_report.specs.Entries.{calls_of_others, name_of};
+ghost use Rattle.graph_report.specs.Entries.{calls_of_others};
 ghost use Rattle.graph_report.specs.GraphText.{arcs_from as arcs_that_leave, arcs_into as arcs_that_enter, arcs_to as arcs_that_call, members_of};
 ghost use Rattle.graph_report.specs.Inputs.{AreInputs, sources_of};
 
