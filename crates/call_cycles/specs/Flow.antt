@@ -30,7 +30,7 @@ abbrev pub part_of : GraphValue → (ℕ → ℕ) → ℕ → ℕ
 part_of g time i = when (is_outside g i) (
     time (target_of g i) * calls_into g (target_of g i) (suc i) / entering_of g (target_of g i)
     - time (target_of g i) * calls_into g (target_of g i) i / entering_of g (target_of g i)
-  )
+    )
 
 -- what the outside arcs that leave a component carry
 abbrev pub carried_from : GraphValue → (ℕ → ℕ) → ℕ → ℕ
