@@ -1,10 +1,11 @@
 -- Where no call on the host failed, all that is due was done; and where memory ran out, a prefix of it.
-use Rattle.std.proofs.Common.{◌≡◌, ℕ, ◌≤◌, Bool, cond, List, [], ◌∷◌, ◌++◌, append_assoc, length, Option, Result, Ok, Err, ◌⊎◌, inl, inr, refl, sym, ap, subst, ◌∙◌, arith}
+use Rattle.std.proofs.Common.{◌≡◌, ℕ, ◌≤◌, Bool, true, false, true≢false, cond, List, [], ◌∷◌, ◌++◌, append_assoc, length, Option, Result, Ok, Err, ◌⊎◌, inl, inr, refl, sym, ap, subst, ◌∙◌, arith}
+use Rattle.std.specs.List.{AllByRecursion}
 use Rattle.std.proofs.lemmas.Bool.{le-ltb}
 use Rattle.host_port.specs.Act.{Act}
 use Rattle.host_port.specs.Act.{Err as Complain}
 use Rattle.host_port.specs.Outside.{Outside, Did, Rose}
-use Rattle.host_port.specs.Performing.{ActFailed}
+use Rattle.host_port.specs.Performing.{ActFailed, FailedAt}
 use Rattle.rvgprof.specs.declared.outcome.Done.{Done}
 use Rattle.rvgprof.specs.declared.outcome.Fault.{Fault}
 use Rattle.rvgprof.specs.declared.outcome.Fault.TheVariants.{Usage, ReadFault, WriteFault, OutOfMemory, TooLarge}
@@ -13,7 +14,7 @@ use Rattle.rvgprof.specs.Texts.{last_line}
 use Rattle.rvgprof.specs.Course.{Course, Ends, Input, Does, Reply, reply_to, MayStop}
 use Rattle.rvgprof.specs.Answer.{command_course, course_of, contents_of}
 use Rattle.rvgprof.specs.Contract.{NothingFailed, Owes, WhereTold, LineEnds, Answered}
-use Rattle.rvgprof.specs.Completeness.{Stayed, NoneFailed, Complete}
+use Rattle.rvgprof.specs.Completeness.{Stayed, is_complaint, IsSilent, NoneFailed, Complete}
 
 -- a count that stayed didn't rise on the way
 not_risen : (before mid now : ℕ) → Stayed before now → Rose before mid → mid ≤ now → ⊥
@@ -30,41 +31,58 @@ line_counts line whole before after (inl h) =
     omega arith
 line_counts line whole before after (inr h) = h.1.kept
 
--- the last line was printed as a whole
-whole_line : (line whole : List ℕ) (start before after : ℕ) → LineEnds line whole before after → before ≡ start → Stayed start after → line ≡ whole
-whole_line line whole start before after (inl h) same stayed = h.0
-whole_line line whole start before after (inr h) same stayed = absurd (not_risen start after after stayed (subst (λ (n : ℕ). Rose n after) same h.1) (omega arith))
+-- where complaining didn't fail, the last line was printed as a whole
+pub whole_line : (line whole : List ℕ) (before after : ℕ) → LineEnds line whole before after → Stayed before after → line ≡ whole
+whole_line line whole before after (inl h) stayed = h.0
+whole_line line whole before after (inr h) stayed = absurd (not_risen before after after stayed h.1 (omega arith))
+
+-- what holds of all that is due holds of what failed
+failed_too : (P : Act → Type 0) (failed : Act) (done acts : List Act) → FailedAt failed done acts → AllByRecursion P acts → P failed
+failed_too P failed done [] at all = absurd at
+failed_too P failed [] (act ∷ acts) at all = subst P at all.0
+failed_too P failed (first ∷ more) (act ∷ acts) (inl at) all = failed_too P failed more acts at.1 all.1
+failed_too P failed (first ∷ more) (act ∷ acts) (inr at) all = subst P at.2 all.0
 
 -- no act failed
-no_act_failed : (act : Act) (old new : Outside) (err : ℕ) → NoneFailed old new → ActFailed act old new err → err ≤ new.err_faults → ⊥
-no_act_failed (Complain bytes) old new err none failed within = not_risen old.err_faults err new.err_faults none.err failed.own.0 within
-no_act_failed act old new err none failed within = not_risen old.write_faults new.write_faults new.write_faults none.write failed.own.0 (omega arith)
+module _ (words : List (List ℕ)) (old new : Outside) (contents : ℕ → List ℕ) where
+  abbrev due : List Act
+  due = (reply_to contents (course_of words)).acts
+
+  no_complaint_failed : (bytes : List ℕ) (err : ℕ) (done : List Act) → WhereTold old new (λ files. contents ≡ contents_of words files) → FailedAt (Complain bytes) done due → Rose old.err_faults err → err ≤ new.err_faults
+      → Stayed old.err_faults new.err_faults ⊎ IsSilent words old new → ⊥
+  no_complaint_failed bytes err done told failed rose within (inl stayed) = not_risen old.err_faults err new.err_faults stayed rose within
+  no_complaint_failed bytes err done told failed rose within (inr silent) =
+      true≢false (failed_too (λ (act : Act). is_complaint act ≡ false) (Complain bytes) done due failed (silent contents told))
+
+  no_act_failed : (act : Act) (err : ℕ) (done : List Act) → WhereTold old new (λ files. contents ≡ contents_of words files) → NoneFailed words old new → FailedAt act done due → ActFailed act old new err → err ≤ new.err_faults → ⊥
+  no_act_failed (Complain bytes) err done told none failed at within = no_complaint_failed bytes err done told failed at.own.0 within none.complain
+  no_act_failed act err done told none failed at within = not_risen old.write_faults new.write_faults new.write_faults none.write at.own.0 (omega arith)
 
 -- what was done is what is due, and the last line stands behind it
 all_done : (words : List (List ℕ)) (contents : ℕ → List ℕ) (old new : Outside) (err : ℕ) (done : List Act) (line : List ℕ) (result : Result Done Fault) → WhereTold old new (λ files. contents ≡ contents_of words files)
-    → Did (done ++ Complain line ∷ []) old new → LineEnds line (last_line words result) err new.err_faults → NoneFailed old new → result ≡ (reply_to contents (course_of words)).ending → done ≡ (reply_to contents (course_of words)).acts
+    → Did (done ++ Complain line ∷ []) old new → LineEnds line (last_line words result) err new.err_faults → result ≡ (reply_to contents (course_of words)).ending → done ≡ (reply_to contents (course_of words)).acts
     → NothingFailed old new err → Complete words old new result
-all_done words contents old new err done line result told did ends none ending acts nothing =
-    let whole = whole_line line (last_line words result) old.err_faults err new.err_faults ends nothing.complain none.err in
-    record {
-      contents = contents;
-      told = told;
-      ending = ending;
-      did = subst (λ (due : List Act). Did (due ++ Complain (last_line words result) ∷ []) old new) acts (subst (λ (bytes : List ℕ). Did (done ++ Complain bytes ∷ []) old new) whole did);
-    }
+all_done words contents old new err done line result told did ends ending acts nothing = record {
+  contents = contents;
+  told = told;
+  ending = ending;
+  line = line;
+  did = subst (λ (due : List Act). Did (due ++ Complain line ∷ []) old new) acts did;
+  ends = subst (λ (n : ℕ). LineEnds line (last_line words result) n new.err_faults) nothing.complain ends;
+}
 
 complete_by : (words : List (List ℕ)) (contents : ℕ → List ℕ) (old new : Outside) (err : ℕ) (done : List Act) (line : List ℕ) (result : Result Done Fault) → WhereTold old new (λ files. contents ≡ contents_of words files)
-    → Did (done ++ Complain line ∷ []) old new → LineEnds line (last_line words result) err new.err_faults → NoneFailed old new → Owes words contents old new err done result → (result ≡ Err OutOfMemory) ⊎ Complete words old new result
+    → Did (done ++ Complain line ∷ []) old new → LineEnds line (last_line words result) err new.err_faults → NoneFailed words old new → Owes words contents old new err done result → (result ≡ Err OutOfMemory) ⊎ Complete words old new result
 complete_by words contents old new err done line (Err Usage) told did ends none owes =
     let due : reply_to contents (course_of words) ≡ record { ending = Err Usage; acts = [] } = ap (λ (o : Option Command). reply_to contents (command_course words o)) owes.0 in
-    inr (all_done words contents old new err done line (Err Usage) told did ends none (ap (λ (r : Reply). r.ending) (sym due)) (owes.1 ∙ ap (λ (r : Reply). r.acts) (sym due)) owes.2)
+    inr (all_done words contents old new err done line (Err Usage) told did ends (ap (λ (r : Reply). r.ending) (sym due)) (owes.1 ∙ ap (λ (r : Reply). r.acts) (sym due)) owes.2)
 complete_by words contents old new err done line (Err (ReadFault word)) told did ends none owes = absurd (not_risen old.read_faults new.read_faults new.read_faults none.read owes.2.read (omega arith))
 complete_by words contents old new err done line (Err WriteFault) told did ends none owes =
-    absurd (no_act_failed owes.0 old new err none owes.2 (line_counts line (last_line words (Err WriteFault)) err new.err_faults ends))
+    absurd (no_act_failed words old new contents owes.0 err done told none owes.1 owes.2 (line_counts line (last_line words (Err WriteFault)) err new.err_faults ends))
 complete_by words contents old new err done line (Err OutOfMemory) told did ends none owes = inl refl
-complete_by words contents old new err done line result told did ends none owes = inr (all_done words contents old new err done line result told did ends none owes.0 owes.1 owes.2)
+complete_by words contents old new err done line result told did ends none owes = inr (all_done words contents old new err done line result told did ends owes.0 owes.1 owes.2)
 
-pub complete : (words : List (List ℕ)) (old new : Outside) (result : Result Done Fault) → Answered words old new result → NoneFailed old new → (result ≡ Err OutOfMemory) ⊎ Complete words old new result
+pub complete : (words : List (List ℕ)) (old new : Outside) (result : Result Done Fault) → Answered words old new result → NoneFailed words old new → (result ≡ Err OutOfMemory) ⊎ Complete words old new result
 complete words old new result answered none =
     complete_by words answered.owed.contents old new answered.err answered.done answered.line result answered.owed.told answered.did answered.ends none answered.owed.owes
 

@@ -5,11 +5,10 @@ use Rattle.std.specs.List.{count_by, sum_by, range_with_len}
 use Rattle.std.proofs.lemmas.List.{map-id}
 use Rattle.std.proofs.lemmas.List.Sums.{sum_by_push}
 use Rattle.std.proofs.lemmas.List.FromFn.{map-range_with_len_more}
-use Rattle.call_cycles.specs.Graph.{GraphValue, IsGraph, component_count, entering_of, is_cycle}
-use Rattle.call_cycles.specs.Flow.{FlowValue, IsFlow, is_root, time_of, time_of_roots}
+use Rattle.call_cycles.specs.Graph.{GraphValue, component_count, entering_of, is_cycle}
+use Rattle.call_cycles.specs.Flow.{FlowValue, is_root, time_of, time_of_roots}
 use Rattle.call_cycles.specs.Sums.{numbers_below, sum_below, when}
 use Rattle.call_cycles.proofs.SumLemmas.{sum_front_le}
-use Rattle.propagate.proofs.BoundLemmas.{roots_have_all}
 use Rattle.elf32_syms.specs.declared.image.Image.{Image}
 use Rattle.elf32_syms.specs.declared.image.Symbol.{Symbol}
 use Rattle.gp_base.specs.declared.records.Form.TheVariants.{Bsd}
@@ -40,13 +39,12 @@ count_yes p n count is yes_it = let one : ◌≡◌ {A = ℕ} (cond (p n) 1 0) 1
 pub count_no : (p : ℕ → Bool) (n count : ℕ) → count ≡ count_by p (numbers_below n) → p n ≡ false → count ≡ count_by p (numbers_below (n + 1))
 count_no p n count is no_it = let none : ◌≡◌ {A = ℕ} (cond (p n) 1 0) 0 = ap (λ (b : Bool). cond {A = ℕ} b 1 0) no_it in omega (arith, is, none, count_more p n)
 
--- the roots up to one more have no more than all
-pub root_fits : (g : GraphValue) (shares : List ℕ) (t : FlowValue) (c : ℕ) → IsGraph g → length shares ≡ g.functions → IsFlow g shares t → c < component_count g → is_root g c ≡ true
-    → sum_below c (λ d. when (is_root g d) (time_of t d)) + time_of t c ≤ sum shares
-root_fits g shares t c is each flow below root =
+-- the roots up to one more have no more than all roots
+root_fits : (g : GraphValue) (t : FlowValue) (c : ℕ) → c < component_count g → is_root g c ≡ true → sum_below c (λ d. when (is_root g d) (time_of t d)) + time_of t c ≤ time_of_roots g t
+root_fits g t c below root =
     let f : ℕ → ℕ = λ d. when (is_root g d) (time_of t d) in
     let here : f c ≡ time_of t c = ap (λ (b : Bool). when b (time_of t c)) root in
-    omega (arith, here, sum_front_le (suc c) (component_count g) f (omega arith), roots_have_all g shares is each t flow)
+    omega (arith, here, sum_front_le (suc c) (component_count g) f (omega arith))
 
 module _ (g : GraphValue) (t : FlowValue) (c grains entering : ℕ) (so_far : grains ≡ sum_below c (λ d. when (is_root g d) (time_of t d))) (calls : entering ≡ entering_of g c) where
   abbrev part : ℕ → ℕ
@@ -66,8 +64,8 @@ module _ (g : GraphValue) (t : FlowValue) (c grains entering : ℕ) (so_far : gr
       let here : part c ≡ 0 = ap (λ (b : Bool). when b (time_of t c)) (ne_eqb (entering_of g c) 0 (λ none. some (calls ∙ none))) in
       omega (arith, one_more, here, so_far)
 
-  pub grains_fit : (shares : List ℕ) (self child : ℕ) → IsGraph g → length shares ≡ g.functions → IsFlow g shares t → c < component_count g → entering ≡ 0 → self ≡ slice_index t.self c → child ≡ slice_index t.child c → grains + (self + child) ≤ sum shares
-  grains_fit shares self child is each flow below none is_self is_child = omega (arith, so_far, is_self, is_child, root_fits g shares t c is each flow below (root none))
+  pub grains_fit : (self child : ℕ) → c < component_count g → entering ≡ 0 → self ≡ slice_index t.self c → child ≡ slice_index t.child c → grains + (self + child) ≤ time_of_roots g t
+  grains_fit self child below none is_self is_child = omega (arith, so_far, is_self, is_child, root_fits g t c below (root none))
 
 -- a summary names no symbol
 pub any_symbols : (functions pairs : ℕ) (xs ys : List Symbol) (g : GraphValue) (t : FlowValue) (shares : ShareTable) (rate : ℕ) (run : Option RunSummary)

@@ -11,6 +11,10 @@ pub mod Reporting
 pub mod Running
 pub mod LastLine
 pub mod CompletenessLemmas
+pub mod AcceptanceLemmas
+pub mod TellingLemmas
+pub mod FileLemmas
+pub mod HeadlineLemmas
 pub mod Showable
 pub mod SourceLemmas
 pub mod Profiling

@@ -8,6 +8,7 @@ use Rattle.gmon_data.specs.Content.{Content}
 use Rattle.gmon_data.specs.Hists.{kept_unit, IsUnitOf}
 use Rattle.elf32_syms.specs.declared.image.Image.{Image}
 use Rattle.flat_report.specs.Reports.{Reports}
+use Rattle.flat_report.specs.Sources.{Sources as ReportSources}
 use Rattle.flat_report.specs.declared.refusal.ReportRefusal.{ReportRefusal}
 use Rattle.flat_report.specs.declared.refusal.ReportRefusal.TheVariants as reports
 use Rattle.host_port.specs.Act.{Act, Out}
@@ -17,8 +18,10 @@ use Rattle.rvgprof.specs.declared.words.Shown.TheVariants as shows
 use Rattle.host_port.specs.Outside.{Outside}
 use Rattle.host_port.specs.declared.side.Side.TheVariants.{Output}
 use Rattle.host_port.proofs.PerformingLemmas.{puts_performs}
-use Rattle.rvgprof.specs.Answer.{print_reports, report_fault_of}
+use Rattle.rvgprof.specs.Answer.{print_reports, report_fault_of, shown_reports}
 use Rattle.rvgprof.specs.Contract.{Acted}
+use Rattle.rvgprof.specs.Found.{AreSources, given_sources}
+use Rattle.rvgprof.specs.declared.sources.Sources.{Sources}
 use Rattle.rvgprof.specs.Standing.{Stands}
 use Rattle.rvgprof.proofs.Standing.{no_memory, fails, does}
 
@@ -39,6 +42,11 @@ after_text words start mid new below done text next (Err reports.WriteFault) s p
     fails {T = Unit {0}} words start mid new below done (Out text ∷ []) next reports.WriteFault s (puts_performs {T = Unit {0}} Output text mid new (Err reports.WriteFault) puts)
 after_text words start mid new below done text next (Err reports.OutOfMemory) s puts idle =
     no_memory words start new below done (Does (Out text ∷ []) next) (subst (λ (x : Outside). Stands words start x below done (Does (Out text ∷ []) next)) (sym (idle refl)) s) (λ contents. inl refl)
+
+-- the reports of what was found are those of the profile
+pub of_sources : (words : List (List ℕ)) (start old : Outside) (below : ℕ) (done : List Act) (shown : Shown) (image : Image) (total : Content) (s : Sources) (next : Course) → AreSources image total s
+    → Stands words start old below done (print_reports shown image total next) → Stands words start old below done (shown_reports shown (given_sources image s) next)
+of_sources words start old below done shown image total s next are = subst (λ (x : ReportSources). Stands words start old below done (shown_reports shown x next)) (sym are.value)
 
 -- memory may be wanted before the first report
 pub may_stop_reports : (shown : Shown) (image : Image) (total : Content) (next : Course) (contents : ℕ → List ℕ) → MayStop contents (print_reports shown image total next) []

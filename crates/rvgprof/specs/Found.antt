@@ -12,11 +12,16 @@ use Rattle.rvgprof.specs.Reports.{sources_of}
 abbrev pub given_sources : Image → Sources → ReportSources
 given_sources image s = record { symbols = image.symbols; graph = s.graph; flow = s.flow; shares = s.shares; rate = s.rate }
 
-pub record AreSources (image : Image) (total : Content) (s : Sources) : Type 0 where
-  pub value : given_sources image s ≡ sources_of image total
+-- they are of one program, and few enough for a report
+pub record FitTogether (image : Image) (s : Sources) : Type 0 where
   pub functions : s.graph.functions ≡ length image.symbols
   pub each : length s.shares.of ≡ length image.symbols
   pub graph : IsGraph s.graph
   pub flow : IsFlow s.graph s.shares.of s.flow
   pub few : all_calls s.graph < 2 ^ 59
   pub rate : 1 ≤ s.rate
+
+-- and those of a profile
+pub record AreSources (image : Image) (total : Content) (s : Sources) : Type 0 where
+  pub value : given_sources image s ≡ sources_of image total
+  pub fit : FitTogether image s

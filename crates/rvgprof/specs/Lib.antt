@@ -9,5 +9,7 @@ pub mod Found
 pub mod Answer
 pub mod Contract
 pub mod Completeness
+pub mod Acceptance
+pub mod Headline
 pub mod Standing
 pub mod ProfileSizes

@@ -12,8 +12,6 @@ use Rattle.call_cycles.specs.Sums.{numbers_below}
 use Rattle.call_cycles.specs.Values.{profile_graph}
 use Rattle.propagate.specs.Solution.{flow_in}
 use Rattle.flat_report.specs.Sources.{Sources}
-use Rattle.flat_report.specs.FlatText.{flat_text}
-use Rattle.graph_report.specs.GraphText.{graph_text}
 use Rattle.prof_machine.specs.declared.ending.RunSummary.{RunSummary}
 
 -- the samples per second of a profile, and 100 where it has no unit
@@ -27,13 +25,6 @@ sources_of image total =
     let shares = shares_of total.hists image.symbols in
     let graph = profile_graph total.arcs image.symbols in
     record { symbols = image.symbols; graph = graph; flow = flow_in graph shares.of; shares = shares; rate = rate_of total }
-
--- the flat profile, and the call graph
-abbrev pub flat_report_text : Image → Content → List ℕ
-flat_report_text image total = flat_text (sources_of image total)
-
-abbrev pub graph_report_text : Image → Content → List ℕ
-graph_report_text image total = graph_text (sources_of image total)
 
 -- ---- the summary of a demo
 

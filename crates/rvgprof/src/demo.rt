@@ -2,18 +2,19 @@
 
 ghost use Rattle.std.specs.Prelude.{◌≡◌, ◌+◌, ◌<◌, ◌≤◌, ◌^◌, ◌++◌, [], false, Err, codes, decimal, length, map, string_bytes, sum, IfOk, IfErr, IsSome, OnOk};
 ghost use Rattle.std.specs.Option.{option_map};
-ghost use Rattle.call_cycles.specs.Graph.{GraphValue, IsGraph};
+ghost use Rattle.call_cycles.specs.Graph.{GraphValue, IsGraph, component_count};
 ghost use Rattle.call_cycles.specs.Flow.{IsFlow, time_of_roots};
 ghost use Rattle.elf32_syms.specs.Image.{IsWithinLimits};
 ghost use Rattle.elf32_syms.specs.Owners.{IsAscending};
 ghost use Rattle.host_port.specs.Performing.{Performs};
 ghost use Rattle.prof_machine.specs.Setup.{IsSetup};
-ghost use Rattle.rvgprof.specs.Answer.{demo_course, file_acts, given_file_acts};
+ghost use Rattle.rvgprof.specs.Answer.{demo_course, given_file_acts};
 ghost use Rattle.rvgprof.specs.Contract.{Acted};
 ghost use Rattle.rvgprof.specs.Items.{name_of};
 ghost use Rattle.rvgprof.specs.Reports.{cycle_count, demo_run_line, grains_line};
 ghost use Rattle.rvgprof.specs.Standing.{IsDemoRead, IsDemoRefused, RunsDemo, Stands, SumsUp, TellsDemo};
 
+use crate::files::write_file;
 use crate::items::name_at;
 use crate::outcome::{Done, Fault};
 use crate::printing::print_text;
@@ -24,11 +25,10 @@ use call_cycles::Graph;
 use elf32_syms::Image;
 use flat_report::ReportRefusal;
 use gmon_bsd::run_profile;
-use host_port::{Failed, Host, write_all_of};
+use host_port::{Failed, Host};
 use prof_machine::{Run, RunSummary, Setup};
 use propagate::Flow;
 use std::alloc::Global;
-use symbol_shares::Shares;
 use text_cols::Line;
 
 /// Makes the demo program of so many functions, writes it to the file that a word names where one does,
@@ -124,16 +124,6 @@ fn write_program<H: Host>(
     }
 }
 
-/// Writes a file.
-fn write_file<H: Host>(name: &str, bytes: &[u8], host: &mut H) -> Result<(), Failed>
-    requires { (H.outside host.old).is_writing ≡ false }
-    ensures { Performs (file_acts name.now bytes.now) (H.outside host.old) (H.outside host.new) result }
-{
-    host.create_output(name)?;
-    write_all_of(host, bytes)?;
-    host.close_output()
-}
-
 /// Prints the summary of a run.
 fn tell_demo<H: Host>(
     alloc: Global,
@@ -164,7 +154,7 @@ fn summary_of(functions: u32, run: &Run, sources: &Sources) -> Line
     let pairs = run.gmon().pairs();
     let cycles = cycles_of(&sources.graph);
     let attributed = sources.shares.attributed();
-    let roots = roots_of(&sources.graph, &sources.flow, &sources.shares);
+    let roots = roots_of(&sources.graph, &sources.flow);
     let mut line = Line::new();
     put_run(&mut line, functions, run.summary(), pairs, cycles);
     put_grains(&mut line, attributed, roots);
@@ -227,10 +217,10 @@ fn cycles_of(graph: &Graph) -> u32
 }
 
 /// The grains of the components that no other one calls, with what they call.
-fn roots_of(graph: &Graph, flow: &Flow, _shares: &Shares) -> u128
-    requires each { length _shares.now.of ≡ graph.now.functions }
-    requires flow { IsFlow graph.now _shares.now.of flow.now }
-    requires few { sum _shares.now.of < 2 ^ 65 }
+fn roots_of(graph: &Graph, flow: &Flow) -> u128
+    requires selves { length flow.now.self ≡ component_count graph.now }
+    requires children { length flow.now.child ≡ component_count graph.now }
+    requires few { time_of_roots graph.now flow.now < 2 ^ 65 }
     ensures roots { result ≡ time_of_roots graph.now flow.now }
     ensures within { result < 2 ^ 65 }
 {

@@ -4,6 +4,7 @@
 mod complaints;
 mod demo;
 mod end_line;
+mod files;
 mod inputs;
 mod items;
 pub mod laws;

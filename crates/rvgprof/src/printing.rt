@@ -4,8 +4,9 @@ ghost use Rattle.std.specs.Prelude.{◌≡◌, Err};
 ghost use Rattle.elf32_syms.specs.Owners.{IsAscending};
 ghost use Rattle.flat_report.specs.Reports.{Reports};
 ghost use Rattle.flat_report.specs.declared.refusal.ReportRefusal.TheVariants.{OutOfMemory};
-ghost use Rattle.rvgprof.specs.Found.{AreSources};
-ghost use Rattle.rvgprof.specs.Reports.{flat_report_text, graph_report_text};
+ghost use Rattle.flat_report.specs.FlatText.{flat_text};
+ghost use Rattle.graph_report.specs.GraphText.{graph_text};
+ghost use Rattle.rvgprof.specs.Found.{FitTogether, given_sources};
 ghost use Rattle.rvgprof.specs.Standing.{PrintsReports};
 
 use crate::sources::{Sources, sources_of};
@@ -29,12 +30,12 @@ pub fn print_reports<H: Host>(
 {
     let sources = sources_of(alloc, image, total)?;
     match shown {
-        Shown::Flat => print_flat(alloc, image, total, &sources, host),
-        Shown::Graph => print_graph(alloc, image, total, &sources, host),
+        Shown::Flat => print_flat(alloc, image, &sources, host),
+        Shown::Graph => print_graph(alloc, image, &sources, host),
         Shown::Both => {
-            print_flat(alloc, image, total, &sources, host)?;
+            print_flat(alloc, image, &sources, host)?;
             print_text(b"\n", host)?;
-            print_graph(alloc, image, total, &sources, host)
+            print_graph(alloc, image, &sources, host)
         }
     }
 }
@@ -43,12 +44,11 @@ pub fn print_reports<H: Host>(
 fn print_flat<H: Host>(
     alloc: Global,
     image: &Image,
-    _total: &Profile,
     sources: &Sources,
     host: &mut H,
 ) -> Result<(), ReportRefusal>
-    requires { AreSources image.now _total.now sources.now }
-    ensures printed { Reports (flat_report_text image.now _total.now) (H.outside host.old) (H.outside host.new) result }
+    requires { FitTogether image.now sources.now }
+    ensures printed { Reports (flat_text (given_sources image.now sources.now)) (H.outside host.old) (H.outside host.new) result }
     ensures idle { result ≡ Err OutOfMemory → host.new ≡ host.old }
 {
     flat_report::write(
@@ -66,12 +66,11 @@ fn print_flat<H: Host>(
 fn print_graph<H: Host>(
     alloc: Global,
     image: &Image,
-    _total: &Profile,
     sources: &Sources,
     host: &mut H,
 ) -> Result<(), ReportRefusal>
-    requires { AreSources image.now _total.now sources.now }
-    ensures printed { Reports (graph_report_text image.now _total.now) (H.outside host.old) (H.outside host.new) result }
+    requires { FitTogether image.now sources.now }
+    ensures printed { Reports (graph_text (given_sources image.now sources.now)) (H.outside host.old) (H.outside host.new) result }
     ensures idle { result ≡ Err OutOfMemory → host.new ≡ host.old }
 {
     graph_report::write(

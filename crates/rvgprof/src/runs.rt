@@ -16,12 +16,13 @@ ghost use Rattle.rvgprof.specs.Items.{name_of};
 ghost use Rattle.rvgprof.specs.Standing.{IsRunOf, RunsProgram};
 ghost use Rattle.std.specs.Option.{option_map};
 
+use crate::files::write_file;
 use crate::items::name_at;
 use crate::outcome::Fault;
 use crate::refusals::start_fault;
 use elf32_syms::Image;
 use gp_base::Form;
-use host_port::{Failed, Host, write_all_of};
+use host_port::{Failed, Host};
 use mcount_arcs::Gmon;
 use prof_machine::{Run, Setup};
 use std::alloc::Global;
@@ -145,7 +146,5 @@ fn write_image<H: Host>(gmon: &Gmon, name: &str, host: &mut H) -> Result<(), Fai
     requires { (H.outside host.old).is_writing ≡ false }
     ensures { Performs (file_acts name.now (layout_of (block_parts gmon.now))) (H.outside host.old) (H.outside host.new) result }
 {
-    host.create_output(name)?;
-    write_all_of(host, gmon.block_bytes())?;
-    host.close_output()
+    write_file(name, gmon.block_bytes(), host)
 }

@@ -3,7 +3,6 @@ use Rattle.call_cycles.specs.Graph.{component_count}
 use Rattle.call_cycles.specs.Flow.{is_root, time_of}
 use Rattle.call_cycles.specs.Sums.{sum_below, when}
 use Rattle.rvgprof.proofs.DemoLemmas.{a_root, no_root, grains_fit}
-use Rattle.propagate.proofs.BoundLemmas.{roots_have_all}
 use Rattle.rvgprof.proofs.demo.roots_of.Goals as goal
 use Rattle.rvgprof.proofs.demo.roots_of.Goals.{then-entering-eq0, else-entering-eq0}
 
@@ -12,8 +11,8 @@ fits c =
     let few = c.requires.few in
     omega (
       arith,
-      grains_fit c.args.graph.now c.args.flow.now c.loop-c.c c.loop-c.grains c.entering.result c.loop-c.invariant c.entering.ensures c.args._shares.now.of c.self_of.result c.child_of.result
-          c.component_count-c-end.ensures.graph c.requires.each c.requires.flow (omega arith) c.if-entering-eq0.true c.self_of.ensures c.child_of.ensures,
+      grains_fit c.args.graph.now c.args.flow.now c.loop-c.c c.loop-c.grains c.entering.result c.loop-c.invariant c.entering.ensures c.self_of.result c.child_of.result (omega arith) c.if-entering-eq0.true
+          c.self_of.ensures c.child_of.ensures,
     )
 
 pub overflow_add-grains : goal.overflow_add-grains
@@ -35,5 +34,4 @@ returns c =
     let t = c.args.flow.now in
     let last : c.loop-c.c ≡ component_count g = omega arith in
     let all = c.loop-c.invariant ∙ ap (λ (k : ℕ). sum_below k (λ d. when (is_root g d) (time_of t d))) last in
-    let whole = roots_have_all g c.args._shares.now.of c.component_count-c-end.ensures.graph c.requires.each t c.requires.flow in
-    record { roots = all; within = let few = c.requires.few in omega (arith, all, whole) }
+    record { roots = all; within = let few = c.requires.few in omega (arith, all) }

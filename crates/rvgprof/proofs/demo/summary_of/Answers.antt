@@ -1,10 +1,17 @@
-use Rattle.std.proofs.Common.{◌≡◌, ◌++◌, ◌∙◌, ℕ, List, [], Option, sym, ap}
+use Rattle.std.proofs.Common.{◌≡◌, ◌++◌, ◌∙◌, ℕ, List, [], Option, sym, ap, arith}
 use Rattle.symbol_shares.specs.Shares.{attributed_of}
 use Rattle.mcount_arcs.specs.declared.sizes.Sizes.{Sizes}
 use Rattle.mcount_arcs.specs.Log.{distinct_count, kept_calls}
 use Rattle.prof_machine.specs.declared.ending.RunSummary.{RunSummary}
 use Rattle.rvgprof.specs.Reports.{cycle_count, demo_run_line, demo_summary, grains_line}
+use Rattle.propagate.proofs.BoundLemmas.{roots_have_all}
 use Rattle.rvgprof.proofs.demo.summary_of.Goals as goal
+
+pub roots_of-roots-requires-clause-few : goal.roots_of-roots-requires-clause-few
+roots_of-roots-requires-clause-few c =
+    let s = c.args.sources.now in
+    let few = c.attributed-attributed.ensures in
+    omega (arith, few, roots_have_all s.graph s.shares.of c.requires.graph c.requires.few s.flow c.requires.flow)
 
 pub returns : goal.returns
 returns c = λ w stands.

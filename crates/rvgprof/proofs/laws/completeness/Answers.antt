@@ -1,5 +1,5 @@
-use Rattle.rvgprof.proofs.CompletenessLemmas.{complete}
+use Rattle.rvgprof.proofs.CompletenessLemmas.{complete, whole_line}
 use Rattle.rvgprof.proofs.laws.completeness.Goals as goal
 
 pub returns : goal.returns
-returns c = complete
+returns c = record { answer = complete; line = whole_line }

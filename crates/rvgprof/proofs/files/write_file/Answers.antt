@@ -1,6 +1,6 @@
 use Rattle.std.proofs.lemmas.Result.{err_from_is_err_and}
 use Rattle.host_port.proofs.PerformingLemmas.{create_failed, write_failed, file_performs}
-use Rattle.rvgprof.proofs.demo.write_file.Goals as goal
+use Rattle.rvgprof.proofs.files.write_file.Goals as goal
 
 pub returns-in_err-create_output : goal.returns-in_err-create_output
 returns-in_err-create_output g c =

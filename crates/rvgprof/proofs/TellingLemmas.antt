@@ -1,0 +1,126 @@
+-- What is told of a run: something exactly where a command starts one.
+use Rattle.std.proofs.Common.{◌≡◌, ℕ, ◌-◌, Bool, true, false, cond, ltb, List, [], ◌∷◌, length, Option, Some, None, Result, Ok, Err, refl, sym, ap, subst, ◌∙◌}
+use Rattle.std.specs.Prelude.{is_some, IsSome, IfOk}
+use Rattle.std.specs.Option.{option_map}
+use Rattle.gp_base.specs.declared.records.Records.{Records}
+use Rattle.host_port.specs.Outside.{Outside}
+use Rattle.elf32_syms.specs.declared.image.Image.{Image}
+use Rattle.elf32_syms.specs.Refusals.{elf_refusal}
+use Rattle.elf32_syms.specs.Image.{image_of}
+use Rattle.gmon_data.specs.Content.{Content, conflict_of, empty_content, wide_records}
+use Rattle.gmon_data.specs.declared.refusal.Unlike.{Unlike as Difference}
+use Rattle.gp_base.specs.declared.limits.TheConstants.{MAX_PROFILE_BYTES, MAX_ELF_BYTES}
+use Rattle.profile_sum.specs.Sum.{sum_of, clash_of}
+use Rattle.demo_elf.specs.Elf.{demo_program}
+use Rattle.mcount_arcs.specs.declared.sizes.Sizes.{Sizes}
+use Rattle.mcount_arcs.specs.Sizes.{sizes_of}
+use Rattle.prof_machine.specs.declared.ending.End.{End}
+use Rattle.prof_machine.specs.declared.ending.RunSummary.{RunSummary}
+use Rattle.prof_machine.specs.declared.setup.Setup.{Setup}
+use Rattle.prof_machine.specs.Setup.{IsSetup}
+use Rattle.prof_machine.specs.Start.{final_world, start_refusal}
+use Rattle.prof_machine.specs.World.{World}
+use Rattle.prof_machine.proofs.RunLemmas.{plan_ends}
+use Rattle.rvgprof.specs.declared.outcome.Done.{Done}
+use Rattle.rvgprof.specs.declared.outcome.Fault.{Fault}
+use Rattle.rvgprof.specs.declared.outcome.Fault.TheVariants.{BadElf, BadProfile, Unlike, TooLarge}
+use Rattle.rvgprof.specs.declared.words.Command.{Command}
+use Rattle.rvgprof.specs.declared.words.Command.TheVariants.{Show, Syms, Run, Sum, Report, Profile, Demo}
+use Rattle.rvgprof.specs.declared.words.Shown.{Shown}
+use Rattle.rvgprof.specs.declared.words.Shown.TheVariants as shows
+use Rattle.rvgprof.specs.Words.{command_of, IsWithinLimits}
+use Rattle.rvgprof.specs.Course.{Course, Ends, Input, Does, unless, reply_to}
+use Rattle.rvgprof.specs.Items.{name_of}
+use Rattle.rvgprof.specs.Answer.{RunActs, command_course, course_of, demo_lines, ended, file_refusal, file_records, files_named, given_file_acts, print_reports, profile_file, profile_in, profiles, program, report_profiles, report_run, run_acts, run_program, show_lines, start_fault_of, sum_file, syms_lines, told, written_profile}
+use Rattle.rvgprof.specs.Contract.{Acted, Owes}
+use Rattle.rvgprof.specs.Acceptance.{starts_run}
+
+module _ (contents : ℕ → List ℕ) (some : Bool) where
+  -- where it ends well, something is told of a run or nothing is
+  abbrev Tells : Course → Type 0
+  Tells course = (done : Done) → (reply_to contents course).ending ≡ Ok done → is_some done.run ≡ some
+
+  tells_unless : {R : Type 0} (fault : R → Fault) (refusal : Option R) (next : Course) → Tells next → Tells (unless fault refusal next)
+  tells_unless fault None next tells = tells
+  tells_unless fault (Some r) next tells = λ done e. absurd cc
+
+  tells_input : (word limit : ℕ) (next : List ℕ → Course) → ((bytes : List ℕ) → Tells (next bytes)) → Tells (Input word limit next)
+  tells_input word limit next tells = by (ltb limit (length (contents word)))
+    where
+      by : (b : Bool) (done : Done) → (cond b (record { ending = Err (TooLarge word limit); acts = [] }) (reply_to contents (next (contents word)))).ending ≡ Ok done → is_some done.run ≡ some
+      by true done e = absurd cc
+      by false done e = tells (contents word) done e
+
+  tells_end : (run : Option RunSummary) → is_some run ≡ some → Tells (Ends (Ok (record { run = run })))
+  tells_end run is done e =
+      let same : record { run = run } ≡ done = cc in
+      ap (λ (d : Done). is_some d.run) (sym same) ∙ is
+
+  tells_program : (word : ℕ) (next : List ℕ → Image → Course) → ((bytes : List ℕ) (image : Image) → Tells (next bytes image)) → Tells (program word next)
+  tells_program word next tells =
+      tells_input word MAX_ELF_BYTES (λ bytes. unless BadElf (elf_refusal bytes) (next bytes (image_of bytes))) (λ bytes. tells_unless BadElf (elf_refusal bytes) (next bytes (image_of bytes)) (tells bytes (image_of bytes)))
+
+  tells_file : (word limit : ℕ) (next : ℕ → Records → Course) → ((len : ℕ) (records : Records) → Tells (next len records)) → Tells (profile_file word limit next)
+  tells_file word limit next tells =
+      tells_input word limit (λ bytes. unless (λ refusal. BadProfile refusal word) (file_refusal bytes) (next (length bytes) (file_records bytes)))
+      (λ bytes. tells_unless (λ refusal. BadProfile refusal word) (file_refusal bytes) (next (length bytes) (file_records bytes)) (tells (length bytes) (file_records bytes)))
+
+  tells_profiles : (words : List ℕ) (left : ℕ) (total : Content) (next : Content → Course) → ((t : Content) → Tells (next t)) → Tells (profiles words left total next)
+  tells_profiles [] left total next tells = tells total
+  tells_profiles (word ∷ words) left total next tells =
+      let fault : Difference → Fault = λ unlike. Unlike unlike word in
+      let rest : ℕ → Records → Course = λ len records. profiles words (left - len) (sum_of total (profile_in records)) next in
+      let second : ℕ → Records → Course = λ len records. unless fault (clash_of total (profile_in records)) (rest len records) in
+      tells_file word left (λ len records. unless fault (conflict_of empty_content (wide_records records.recs)) (second len records)) (λ len records.
+      tells_unless fault (conflict_of empty_content (wide_records records.recs)) (second len records)
+      (tells_unless fault (clash_of total (profile_in records)) (rest len records) (tells_profiles words (left - len) (sum_of total (profile_in records)) next tells)))
+
+  tells_reports : (shown : Shown) (image : Image) (total : Content) (next : Course) → Tells next → Tells (print_reports shown image total next)
+  tells_reports shows.Flat image total next tells = tells
+  tells_reports shows.Graph image total next tells = tells
+  tells_reports shows.Both image total next tells = tells
+
+  tells_run : (acts : RunActs) (setup : Setup) (next : Sizes → World → Course) (bytes : List ℕ) (image : Image) → Tells (next (sizes_of image.text) (final_world image bytes setup)) → Tells (run_program acts setup next bytes image)
+  tells_run acts setup next bytes image tells = tells_unless start_fault_of (start_refusal image setup) (Does (acts (sizes_of image.text) (final_world image bytes setup)) (next (sizes_of image.text) (final_world image bytes setup))) tells
+
+-- a run that ended has a summary
+told_of : {A : Type 0} (f : End → A) (ending : Option End) → IsSome ending → is_some (option_map f ending) ≡ true
+told_of f None h = absurd cc
+told_of f (Some end) h = refl
+
+summed_up : (contents : ℕ → List ℕ) (image : Image) (bytes : List ℕ) (setup : Setup) → IsSetup setup → Tells contents true (told (sizes_of image.text) (final_world image bytes setup))
+summed_up contents image bytes setup is = tells_end contents true _ (told_of _ (final_world image bytes setup).ending (plan_ends image bytes setup is.some_every is.some_budget))
+
+-- where nothing is told of a run, none was started
+tells_by : (words : List (List ℕ)) (contents : ℕ → List ℕ) (command : Command) → IsWithinLimits command → Tells contents (starts_run (Some command)) (command_course words (Some command))
+tells_by words contents (Show gmon) within = tells_file contents false gmon MAX_PROFILE_BYTES show_lines (λ len records. tells_end contents false None refl)
+tells_by words contents (Syms elf) within = tells_program contents false elf syms_lines (λ bytes image. tells_end contents false None refl)
+tells_by words contents (Sum out gmons) within = tells_profiles contents false gmons MAX_PROFILE_BYTES empty_content (sum_file (name_of words out)) (λ t. tells_end contents false None refl)
+tells_by words contents (Report elf gmons shown) within =
+    tells_program contents false elf (report_profiles gmons shown) (λ bytes image.
+    tells_profiles contents false gmons MAX_PROFILE_BYTES empty_content (λ total. print_reports shown image total ended) (λ t. tells_reports contents false shown image t ended (tells_end contents false None refl)))
+tells_by words contents (Run elf gmon form image setup) within =
+    let acts = run_acts (files_named words gmon form image) setup.rate in
+    tells_program contents true elf (run_program acts setup told) (λ bytes program. tells_run contents true acts setup told bytes program (summed_up contents program bytes setup within))
+tells_by words contents (Profile elf gmon form image setup shown) within =
+    let acts = run_acts (files_named words gmon form image) setup.rate in
+    let next : Image → Sizes → World → Course = report_run form setup.rate shown in
+    tells_program contents true elf (λ b i. run_program acts setup (next i) b i) (λ bytes program.
+    let z = sizes_of program.text in
+    let w = final_world program bytes setup in
+    tells_run contents true acts setup (next program) bytes program (tells_reports contents true shown program (written_profile form z w.log setup.rate) (told z w) (summed_up contents program bytes setup within)))
+tells_by words contents (Demo functions elf setup) within =
+    let bytes = demo_program functions in
+    let program = image_of bytes in
+    let acts : RunActs = λ z w. w.prints in
+    let next : Sizes → World → Course = demo_lines functions setup.rate program in
+    tells_unless contents true BadElf (elf_refusal bytes) (Does (given_file_acts (option_map (name_of words) elf) bytes) (run_program acts setup next bytes program))
+    (tells_run contents true acts setup next bytes program (summed_up contents program bytes setup within.2))
+
+by_command : (words : List (List ℕ)) (contents : ℕ → List ℕ) (command : Command) (o : Option Command) → o ≡ Some command → IsWithinLimits command → Tells contents (starts_run o) (command_course words o)
+by_command words contents command o is within = subst (λ (c : Option Command). Tells contents (starts_run c) (command_course words c)) (sym is) (tells_by words contents command within)
+
+pub told_where_run : (words : List (List ℕ)) (command : Command) (old new : Outside) (result : Result Done Fault) → command_of words ≡ Some command → IsWithinLimits command → Acted words old new result
+    → IfOk result (λ done. is_some done.run ≡ starts_run (command_of words))
+told_where_run words command old new (Ok done) said within acted = by_command words acted.owed.contents command (command_of words) said within done (sym acted.owed.owes.0)
+told_where_run words command old new (Err fault) said within acted = tt

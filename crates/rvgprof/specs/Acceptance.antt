@@ -1,0 +1,70 @@
+-- What is accepted: where a command is carried out, unless memory runs out or the host fails.
+use Rattle.std.specs.Prelude.{◌≡◌, ℕ, ◌≤◌, List, ◌∷◌, ◌++◌, length, Bool, true, false, Option, Some, None}
+use Rattle.std.specs.List.{AllByRecursion, flat_map, sum_by}
+use Rattle.gp_base.specs.declared.limits.TheConstants.{MAX_PROFILE_BYTES, MAX_ELF_BYTES}
+use Rattle.elf32_syms.specs.Refusals.{elf_refusal}
+use Rattle.elf32_syms.specs.Image.{image_of}
+use Rattle.gmon_data.specs.Content.{WideRec, content_of, conflict_of, empty_content, wide_records}
+use Rattle.profile_sum.specs.Sum.{clash_of}
+use Rattle.demo_elf.specs.Elf.{demo_program}
+use Rattle.prof_machine.specs.declared.setup.Setup.{Setup}
+use Rattle.prof_machine.specs.Start.{start_refusal}
+use Rattle.rvgprof.specs.declared.words.Command.{Command}
+use Rattle.rvgprof.specs.declared.words.Command.TheVariants.{Show, Syms, Run, Sum, Report, Profile, Demo}
+use Rattle.rvgprof.specs.Answer.{file_refusal, file_records}
+
+-- a program's file isn't refused
+pub record IsProgramFile (bytes : List ℕ) : Type 0 where
+  pub limit : length bytes ≤ MAX_ELF_BYTES
+  pub accepted : elf_refusal bytes ≡ None
+
+-- nor is a profile file
+pub record IsProfileFile (bytes : List ℕ) : Type 0 where
+  pub limit : length bytes ≤ MAX_PROFILE_BYTES
+  pub accepted : file_refusal bytes ≡ None
+
+-- the records of a profile file
+abbrev pub records_of : List ℕ → List WideRec
+records_of bytes = wide_records (file_records bytes).recs
+
+-- A file's histograms can be added up, and then added to those of the files before it.
+pub record IsLike (before : List WideRec) (file : List WideRec) : Type 0 where
+  pub itself : conflict_of empty_content file ≡ None
+  pub others : clash_of (content_of before) (content_of file) ≡ None
+
+-- files by the words that name them: they are small enough together, none is refused, and each is like those before it
+pub record AreProfileFiles (contents : ℕ → List ℕ) (words : List ℕ) : Type 0 where
+  pub limit : sum_by (λ word. length (contents word)) words ≤ MAX_PROFILE_BYTES
+  pub accepted : AllByRecursion (λ word. file_refusal (contents word) ≡ None) words
+  pub alike : (before : List ℕ) (word : ℕ) (after : List ℕ) → words ≡ before ++ word ∷ after
+      → IsLike (flat_map (λ earlier. records_of (contents earlier)) before) (records_of (contents word))
+
+-- a run of a program isn't refused
+abbrev pub Starts : List ℕ → Setup → Type 0
+Starts bytes setup = start_refusal (image_of bytes) setup ≡ None
+
+-- The words have a reading, and what its command needs of its inputs holds.
+abbrev pub IsAccepted : (ℕ → List ℕ) → Option Command → Type 0
+IsAccepted contents None = ⊥
+IsAccepted contents (Some (Show gmon)) = IsProfileFile (contents gmon)
+IsAccepted contents (Some (Syms elf)) = IsProgramFile (contents elf)
+IsAccepted contents (Some (Sum out gmons)) = AreProfileFiles contents gmons
+IsAccepted contents (Some (Report elf gmons shown)) = IsProgramFile (contents elf) × AreProfileFiles contents gmons
+IsAccepted contents (Some (Run elf gmon form image setup)) = IsProgramFile (contents elf) × Starts (contents elf) setup
+IsAccepted contents (Some (Profile elf gmon form image setup shown)) = IsProgramFile (contents elf) × Starts (contents elf) setup
+IsAccepted contents (Some (Demo functions elf setup)) = (elf_refusal (demo_program functions) ≡ None) × Starts (demo_program functions) setup
+
+-- whether a command starts a run
+abbrev pub starts_run : Option Command → Bool
+starts_run (Some (Run elf gmon form image setup)) = true
+starts_run (Some (Profile elf gmon form image setup shown)) = true
+starts_run (Some (Demo functions elf setup)) = true
+starts_run command = false
+
+-- whether a command does all its acts at once, so that memory runs out before them all
+abbrev pub acts_at_once : Option Command → Bool
+acts_at_once (Some (Show gmon)) = true
+acts_at_once (Some (Syms elf)) = true
+acts_at_once (Some (Run elf gmon form image setup)) = true
+acts_at_once (Some (Sum out gmons)) = true
+acts_at_once command = false

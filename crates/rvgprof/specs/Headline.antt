@@ -1,0 +1,67 @@
+-- What the command `profile` leaves, in one sentence of several parts: the file, the output, and the time in the report.
+use Rattle.std.specs.Prelude.{◌≡◌, ◌≢◌, ℕ, List, ◌++◌, codes, Option, Some, option_map, IfSome}
+use Rattle.elf32_syms.specs.Image.{image_of}
+use Rattle.gp_base.specs.declared.records.Form.{Form}
+use Rattle.host_port.specs.Act.{content_of}
+use Rattle.host_port.specs.Act.{printed as prints_of}
+use Rattle.host_port.specs.Outside.{Outside, Becomes}
+use Rattle.symbol_shares.specs.Shares.{attributed_of}
+use Rattle.call_cycles.specs.Graph.{IsGraph}
+use Rattle.call_cycles.specs.Flow.{IsFlow, time_of_roots}
+use Rattle.flat_report.specs.Sources.{Sources}
+use Rattle.flat_report.specs.FlatText.{flat_text}
+use Rattle.graph_report.specs.GraphText.{graph_text}
+use Rattle.mcount_arcs.specs.declared.sizes.Sizes.{Sizes}
+use Rattle.mcount_arcs.specs.Sizes.{sizes_of}
+use Rattle.prof_machine.specs.declared.setup.Setup.{Setup}
+use Rattle.prof_machine.specs.Start.{final_world}
+use Rattle.prof_machine.specs.World.{World}
+use Rattle.rvgprof.specs.declared.words.Shown.{Shown}
+use Rattle.rvgprof.specs.declared.words.Shown.TheVariants as shows
+use Rattle.rvgprof.specs.Items.{name_of}
+use Rattle.rvgprof.specs.Answer.{run_text, written_profile}
+use Rattle.rvgprof.specs.Reports.{sources_of}
+use Rattle.rvgprof.specs.Contract.{WhereTold}
+use Rattle.rvgprof.specs.Acceptance.{IsProgramFile, Starts}
+
+-- the world in which the run of a program ends
+abbrev pub world_of : List ℕ → Setup → World
+world_of program setup = final_world (image_of program) program setup
+
+abbrev pub text_sizes : List ℕ → Sizes
+text_sizes program = sizes_of (image_of program).text
+
+-- the gmon.out file of that run, in a form
+abbrev pub gmon_text : Form → List ℕ → Setup → List ℕ
+gmon_text form program setup = run_text form (text_sizes program) (world_of program setup).log setup.rate
+
+-- what is reported: what that file says
+abbrev pub reported : Form → List ℕ → Setup → Sources
+reported form program setup = sources_of (image_of program) (written_profile form (text_sizes program) (world_of program setup).log setup.rate)
+
+-- the reports that are asked for
+abbrev pub reports_of : Shown → Sources → List ℕ
+reports_of shows.Flat s = flat_text s
+reports_of shows.Graph s = graph_text s
+reports_of shows.Both s = flat_text s ++ (codes "\n" ++ graph_text s)
+
+-- The program's file is accepted and its run starts, for some bytes of it: for those that are told before and after,
+-- where they are.
+pub record Headline (words : List (List ℕ)) (old new : Outside) (elf gmon : ℕ) (form : Form) (setup : Setup) (shown : Shown) : Type 0 where
+  pub program : List ℕ
+  pub told : WhereTold old new (λ files. program ≡ content_of (name_of words elf) files)
+  pub accepted : IsProgramFile program
+  pub starts : Starts program setup
+  -- GMON holds the file of the run
+  pub file : IfSome new.disk (λ d. content_of (name_of words gmon) d.files ≡ gmon_text form program setup)
+  -- what the program prints, and then the reports, were printed
+  pub output : Becomes (λ bytes. bytes ++ (prints_of (world_of program setup).prints ++ reports_of shown (reported form program setup))) old.out new.out
+  -- each caller gets of its callee's time what its calls are of all that enter the callee's component
+  pub graph : IsGraph (reported form program setup).graph
+  pub shares : IsFlow (reported form program setup).graph (reported form program setup).shares.of (reported form program setup).flow
+  -- those without callers from outside have together all that is attributed
+  pub conserved : time_of_roots (reported form program setup).graph (reported form program setup).flow ≡ attributed_of (reported form program setup).shares
+
+-- the memory of the runtime isn't written into the file of the profile
+abbrev pub IsApart : List (List ℕ) → ℕ → Option ℕ → Type 0
+IsApart words gmon image = option_map (name_of words) image ≢ Some (name_of words gmon)
