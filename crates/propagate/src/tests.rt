@@ -1,6 +1,7 @@
 ghost use Rattle.std.specs.Prelude.{◌≡◌, ◌+◌, ◌*◌, ◌^◌, ◌<◌, ◌≤◌, IfOk, OnOk, length, sum};
 ghost use Rattle.std.specs.List.{All};
 ghost use Rattle.elf32_syms.specs.Owners.{IsAscending};
+ghost use Rattle.gmon_data.proofs.BoundLemmas.{IsAtMost};
 ghost use Rattle.call_cycles.specs.Graph.{all_calls, arc_count, component_count};
 
 use super::*;
@@ -55,16 +56,21 @@ fn counters_of(alloc: Global, samples: &[u16]) -> Result<Totals, AllocError>
     Ok(counters)
 }
 
+/// Seconds, of which each has 100 samples.
+fn seconds() -> Unit {
+    Unit {
+        rate: 100,
+        dim: *b"seconds\0\0\0\0\0\0\0\0",
+        abbrev: b's',
+    }
+}
+
 /// One histogram of these counters, each of which has the addresses of one function.
 fn profile_of_samples(alloc: Global, counters: Totals) -> Result<Profile, AddRefusal>
     requires samples { sum counters < 2 ^ 45 }
     requires few { length counters ≤ 65536 }
 {
-    let unit = Unit {
-        rate: 100,
-        dim: *b"seconds\0\0\0\0\0\0\0\0",
-        abbrev: b's',
-    };
+    let unit = seconds();
     let count = counters.as_slice().len() as u32;
     let hist = Hist {
         low: 0x1_0000,
@@ -274,5 +280,114 @@ fn a_chain_of_1500(rt: HostRuntime) -> Result<(), Fail> {
         let want = if f == 1499 { 0 } else { 3_000_000 };
         assert_eq!(rt; flow.member_child(f), want, "{f}");
     }
+    Ok(())
+}
+
+/// 65,536 functions of 256 addresses each, in a row from 0x10000 on.
+fn wide_symbols(alloc: Global) -> Result<SymbolList, AllocError>
+    ensures { IfOk result IsAscending }
+{
+    let mut symbols = SymbolList::new(alloc);
+    for i in 0..65_536 {
+        symbols.push(Symbol {
+            addr: 0x1_0000 + 256 * i,
+            end: 0x1_0100 + 256 * i,
+            name: Name::new(alloc),
+        })?;
+    }
+    Ok(symbols)
+}
+
+/// A sample in each 4 addresses of these functions.
+fn wide_samples(alloc: Global) -> Result<Profile, AddRefusal>
+    ensures { IfOk result (λ p. IsAtMost p 4194304) }
+{
+    let mut counters = Totals::new(alloc);
+    for _i in 0..4_194_304u32 {
+        counters.push(1)?;
+    }
+    let hist = Hist {
+        low: 0x1_0000,
+        high: 0x101_0000,
+        counters,
+    };
+    let mut profile = Profile::new(alloc);
+    profile.add_wide(&hist, seconds())?;
+    Ok(profile)
+}
+
+/// These samples, and a call of each function to each of the 32 that follow it in a ring; or, cut, only
+/// to those of them that have greater numbers.
+fn wide_profile(alloc: Global, cut: bool) -> Result<Profile, AddRefusal> {
+    let mut profile = wide_samples(alloc)?;
+    for k in 0..2_097_152u32 {
+        let caller = k / 32;
+        let callee = caller + 1 + k % 32;
+        if !cut || callee < 65_536 {
+            let from = 0x1_0000 + 256 * caller;
+            let to = 0x1_0000 + 256 * (callee % 65_536);
+            profile.add_calls(from, to, 1)?;
+        }
+    }
+    Ok(profile)
+}
+
+/// The graph and the shares of this profile.
+fn wide_ring(alloc: Global, cut: bool) -> Result<Program, AddRefusal>
+    ensures each { IfOk result (λ p. length p.shares.of ≡ p.graph.functions) }
+    ensures few { IfOk result (λ p. all_calls p.graph < 2 ^ 59) }
+{
+    let symbols = wide_symbols(alloc)?;
+    let profile = wide_profile(alloc, cut)?;
+    Ok(Program {
+        graph: graph(alloc, &profile, symbols.as_slice())?,
+        shares: shares(alloc, &profile, symbols.as_slice())?,
+    })
+}
+
+#[test]
+fn a_wide_ring_has_all_time_in_its_cycle(rt: HostRuntime) -> Result<(), Fail> {
+    let Program { graph, shares } = wide_ring(rt.alloc(), false)?;
+    assert_eq!(rt;
+        (shares.attributed(), shares.outside()),
+        (4_194_304_000_000, 0)
+    );
+    for f in 0..shares.function_count() {
+        assert_eq!(rt; shares.of(f), 64_000_000, "{f}");
+    }
+    let flow = flow(rt.alloc(), &graph, &shares)?;
+    assert_eq!(rt; graph.function_count(), 65_536);
+    assert_eq!(rt; graph.arc_count(), 2_097_152);
+    assert_eq!(rt; graph.component_count(), 1);
+    assert_eq!(rt;
+        (graph.head(0), graph.entering(0), graph.is_cycle(0)),
+        (0, 0, true)
+    );
+    assert_eq!(rt; (flow.self_of(0), flow.child_of(0)), (4_194_304_000_000, 0));
+    Ok(())
+}
+
+#[test]
+fn a_cut_ring_has_all_time_at_its_root(rt: HostRuntime) -> Result<(), Fail> {
+    let Program { graph, shares } = wide_ring(rt.alloc(), true)?;
+    assert_eq!(rt;
+        (shares.attributed(), shares.outside()),
+        (4_194_304_000_000, 0)
+    );
+    let flow = flow(rt.alloc(), &graph, &shares)?;
+    assert_eq!(rt; graph.arc_count(), 2_096_624);
+    assert_eq!(rt; graph.component_count(), 65_536);
+    assert_eq!(rt;
+        (
+            graph.head(65_535),
+            graph.entering(65_535),
+            graph.is_cycle(65_535)
+        ),
+        (0, 0, false)
+    );
+    assert_eq!(rt;
+        (flow.self_of(65_535), flow.child_of(65_535)),
+        (64_000_000, 4_194_240_000_000)
+    );
     Ok(())
 }
