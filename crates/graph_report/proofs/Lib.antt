@@ -6,6 +6,8 @@ pub mod TimeLemmas
 pub mod EntryOrder
 pub mod RowLemmas
 pub mod NumberLemmas
+pub mod PlaceLemmas
+pub mod NamedLemmas
 pub mod PrintLemmas
 pub mod TextLemmas
 pub mod ReportLemmas

@@ -11,8 +11,8 @@ use Rattle.call_cycles.specs.Sums.{numbers_below}
 use Rattle.call_cycles.specs.declared.graphs.FunArc.{FunArc}
 use Rattle.call_cycles.specs.Graph.{arc_at, component_of, entering_of, is_outside, source_of, target_of}
 use Rattle.flat_report.specs.Sources.{Sources, name_of}
-use Rattle.graph_report.specs.GraphText.{arc_columns, arcs_from, arcs_into, arcs_to, bracketed, callee_line, caller_line, callers_text, calls_of_all, cycle_mark, cycle_text, function_columns, function_name, function_text, member_line, members_of, other_line, rule, primary_line, timed_columns, untimed_columns}
-use Rattle.graph_report.specs.Subjects.{cycle_line, front_text, function_line}
+use Rattle.graph_report.specs.GraphText.{arc_columns, arcs_from, arcs_into, arcs_to, bracketed, callee_line, caller_line, callers_text, calls_of_all, cycle_mark, cycle_text, front_text, function_columns, function_name, function_text, member_line, members_of, other_line, rule, primary_line, timed_columns, untimed_columns}
+use Rattle.graph_report.specs.Subjects.{cycle_line, function_line}
 use Rattle.graph_report.specs.declared.subjects.Subject.{Subject}
 use Rattle.graph_report.specs.declared.subjects.Subject.TheVariants.{Function}
 

@@ -53,10 +53,15 @@ calls_with_inner entering inner = decimal entering ++ codes "+" ++ decimal inner
 
 -- ---- lines
 
--- the line of the subject of an entry: the number of the entry, and the part of all time that the subject's is, in percent
+-- what stands in front of the name of an entry's subject: the number of the entry, the part of all time that the subject's
+-- is, in percent, and its columns
+abbrev pub front_text : Sources → ℕ → ℕ → List ℕ → List ℕ
+front_text s number total columns =
+    left_of (bracketed number) 8 ++ right_of (hundredths_of (100 * total) (attributed_of s.shares)) 7 ++ columns ++ spaces 2
+
+-- the line of the subject of an entry
 unfoldable pub primary_line : Sources → ℕ → ℕ → List ℕ → List ℕ → List ℕ
-primary_line s number total columns name =
-    left_of (bracketed number) 8 ++ right_of (hundredths_of (100 * total) (attributed_of s.shares)) 7 ++ columns ++ spaces 2 ++ name ++ codes "\n"
+primary_line s number total columns name = front_text s number total columns ++ name ++ codes "\n"
 
 -- any other line
 unfoldable pub other_line : List ℕ → List ℕ → List ℕ

@@ -1,7 +1,5 @@
 -- The lines of the subjects of entries.
-use Rattle.std.specs.Prelude.{◌≡◌, ◌<◌, ◌++◌, ◌*◌, ℕ, true, List, codes}
-use Rattle.text_cols.specs.Columns.{hundredths_of, left_of, right_of, spaces}
-use Rattle.symbol_shares.specs.Shares.{attributed_of}
+use Rattle.std.specs.Prelude.{◌≡◌, ◌<◌, ◌++◌, ℕ, true, List, codes}
 use Rattle.call_cycles.specs.Flow.{time_of}
 use Rattle.call_cycles.specs.Graph.{GraphValue, component_of, is_cycle}
 use Rattle.flat_report.specs.Sources.{Sources, total_of}
@@ -15,10 +13,6 @@ use Rattle.graph_report.specs.declared.subjects.Subject.TheVariants.{Cycle, Func
 abbrev pub IsSubject : GraphValue → Subject → Type 0
 IsSubject g (Cycle head) = (head < g.functions) × (is_cycle g (component_of g head) ≡ true)
 IsSubject g (Function f) = f < g.functions
-
--- what stands in front of the name of an entry's subject
-abbrev pub front_text : Sources → ℕ → ℕ → List ℕ → List ℕ
-front_text s number total columns = left_of (bracketed number) 8 ++ right_of (hundredths_of (100 * total) (attributed_of s.shares)) 7 ++ columns ++ spaces 2
 
 abbrev pub function_line : Sources → (Subject → ℕ) → ℕ → List ℕ
 function_line s number f = primary_line s (number (Function f)) (total_of s f) (function_columns s f) (function_name s number f)

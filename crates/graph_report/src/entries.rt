@@ -6,10 +6,10 @@ ghost use Rattle.host_port.specs.declared.side.Side.TheVariants.{Output};
 ghost use Rattle.call_cycles.specs.Flow.{time_of};
 ghost use Rattle.call_cycles.specs.Graph.{component_of, is_cycle};
 ghost use Rattle.flat_report.specs.Sources.{total_of};
-ghost use Rattle.graph_report.specs.GraphText.{cycle_columns, cycle_text, function_columns, function_text, subject_text};
+ghost use Rattle.graph_report.specs.GraphText.{cycle_columns, cycle_text, front_text, function_columns, function_text, subject_text};
 ghost use Rattle.graph_report.specs.Inputs.{sources_of};
 ghost use Rattle.graph_report.specs.Numbers.{IsReport, number_of};
-ghost use Rattle.graph_report.specs.Subjects.{IsSubject, cycle_line, front_text, function_line};
+ghost use Rattle.graph_report.specs.Subjects.{IsSubject, cycle_line, function_line};
 ghost use Rattle.graph_report.specs.declared.subjects.Subject.TheVariants.{Cycle, Function};
 
 use crate::lines::{put_callees, put_callers, put_members};

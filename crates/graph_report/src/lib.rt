@@ -10,6 +10,7 @@ mod entries;
 mod groups;
 mod inputs;
 mod keys;
+pub mod laws;
 mod line;
 mod lines;
 mod names;

@@ -1,0 +1,132 @@
+-- What a line names has an entry.
+use Rattle.std.proofs.Common.{◌≡◌, ◌≢◌, ◌<◌, ◌≤◌, ℕ, zero, suc, ◌+◌, Bool, true, false, cond, List, [], ◌∷◌, refl, ap, sym, subst, ◌∙◌, arith}
+use Rattle.std.specs.Prelude.{◌==◌, ◌||◌, nat_lt, if◌then◌else◌}
+use Rattle.std.specs.List.{Contains, sum_by}
+use Rattle.std.proofs.lemmas.Bool.{eq-eqb, eqb-true, eqb-false, lt-ltb, ltb-true, ltb-false}
+use Rattle.std.proofs.lemmas.List.{get_or_default}
+use Rattle.std.proofs.lemmas.List.Sums.{sum_by-cons, sum_by-append}
+use Rattle.call_cycles.specs.declared.graphs.FunArc.{FunArc}
+use Rattle.call_cycles.specs.Graph.{GraphValue, HasOtherMember, IsGraph, arc_at, arc_count, component_of, head_of, is_cycle, no_arc}
+use Rattle.call_cycles.specs.Sums.{sum_below, when}
+use Rattle.call_cycles.specs.Walks.{IsWalk, Reaches}
+use Rattle.call_cycles.proofs.MemberLemmas.{cycles_are}
+use Rattle.call_cycles.proofs.SumLemmas.{sum_front_le}
+use Rattle.flat_report.specs.Sources.{Sources, calls_by_itself, calls_by_others, total_of}
+use Rattle.flat_report.proofs.OrderLemmas.{sum_in_order}
+use Rattle.graph_report.specs.Entries.{Entry, calls_of_others, comes_before, entries_of, function_entry, has_entry, is_same, number_in, ordered}
+use Rattle.graph_report.specs.Rows.{cycle_entries, function_entries}
+use Rattle.graph_report.specs.declared.subjects.Subject.{Subject}
+use Rattle.graph_report.specs.declared.subjects.Subject.TheVariants.{Function}
+use Rattle.graph_report.proofs.NumberLemmas.{first_number, first_of_all}
+use Rattle.graph_report.proofs.PlaceLemmas.{count_below, count_one, next_counted, one_counted}
+
+-- a subject that has an entry has a number
+numbered : (subject : Subject) (base : ℕ) (es : List Entry) → 1 ≤ sum_by (count_one subject) es → 0 < first_number base es subject
+numbered subject base [] some = absurd (omega (arith, some))
+numbered subject base (e ∷ es) some = by (λ more. numbered subject (base + 1) es more) (is_same e.subject subject) refl
+  where
+    by : (1 ≤ sum_by (count_one subject) es → 0 < first_number (base + 1) es subject) → (b : Bool) → is_same e.subject subject ≡ b → 0 < (if b then base + 1 else first_number (base + 1) es subject)
+    by rest true here = omega arith
+    by rest false other =
+        let none : count_one subject e ≡ 0 = ap (λ (b : Bool). cond b 1 0) other in
+        rest (omega (arith, some, sum_by-cons (count_one subject) e es, none))
+
+module _ (subject : Subject) (make : ℕ → Entry) (p : ℕ → Bool) where
+  some_below : (n k : ℕ) → k < n → p k ≡ true → is_same (make k).subject subject ≡ true → 1 ≤ count_below subject make p n
+  some_below zero k low passes same = absurd (omega (arith, low))
+  some_below (suc n) k low passes same = by (λ lower. some_below n k lower passes same) (nat_lt k n) refl
+    where
+      by : (k < n → 1 ≤ count_below subject make p n) → (b : Bool) → nat_lt k n ≡ b → 1 ≤ count_below subject make p (suc n)
+      by rest true lower = omega (arith, next_counted subject make p n, rest (ltb-true k n lower))
+      by rest false higher =
+          let last : k ≡ n = omega (arith, low, ltb-false k n higher) in
+          let one : cond (p n) (count_one subject (make n)) 0 ≡ 1 =
+          ap (λ (j : ℕ). cond (p j) (count_one subject (make j)) 0) (sym last)
+          ∙ ap (λ (b : Bool). cond b (count_one subject (make k)) 0) passes
+          ∙ one_counted subject (make k) same in
+          omega (arith, next_counted subject make p n, one)
+
+some_entry : (s : Sources) (f : ℕ) → f < s.graph.functions → has_entry s f ≡ true → 1 ≤ sum_by (count_one (Function f)) (entries_of s)
+unfolding entries_of
+some_entry s f low has =
+    omega (
+      arith,
+      sum_by-append (count_one (Function f)) (cycle_entries s) (function_entries s),
+      some_below (Function f) (function_entry s) (has_entry s) s.graph.functions f low has (eq-eqb f f refl),
+    )
+
+some_ordered : (s : Sources) (f : ℕ) → f < s.graph.functions → has_entry s f ≡ true → 1 ≤ sum_by (count_one (Function f)) (ordered s)
+unfolding ordered
+some_ordered s f low has = omega (arith, some_entry s f low has, sum_in_order comes_before (count_one (Function f)) (entries_of s))
+
+function_numbered : (s : Sources) (f : ℕ) → f < s.graph.functions → has_entry s f ≡ true → 0 < number_in (ordered s) (Function f)
+function_numbered s f low has = subst (λ (n : ℕ). 0 < n) (first_of_all (ordered s) (Function f)) (numbered (Function f) 0 (ordered s) (some_ordered s f low has))
+
+second_holds : (a b c d : Bool) → b ≡ true → (a || b || c || d) ≡ true
+second_holds true b c d holds = refl
+second_holds false true c d holds = refl
+second_holds false false c d holds = absurd (cc)
+
+third_holds : (a b c d : Bool) → c ≡ true → (a || b || c || d) ≡ true
+third_holds true b c d holds = refl
+third_holds false true c d holds = refl
+third_holds false false true d holds = refl
+third_holds false false false d holds = absurd (cc)
+
+some_calls : (g : GraphValue) (p : ℕ → Bool) (i : ℕ) → IsGraph g → i < arc_count g → p i ≡ true → 0 < sum_below (arc_count g) (λ j. when (p j) (arc_at g j).count)
+some_calls g p i is low passes =
+    let here : when (p i) (arc_at g i).count ≡ (arc_at g i).count = ap (λ (b : Bool). when b (arc_at g i).count) passes in
+    let part : sum_below i (λ j. when (p j) (arc_at g j).count) + when (p i) (arc_at g i).count ≤ sum_below (arc_count g) (λ j. when (p j) (arc_at g j).count) =
+    sum_front_le (suc i) (arc_count g) (λ j. when (p j) (arc_at g j).count) (omega arith) in
+    omega (arith, is.arcs.called i low, here, part)
+
+pub caller_named : (s : Sources) (i : ℕ) → IsGraph s.graph → i < arc_count s.graph → 0 < number_in (ordered s) (Function (arc_at s.graph i).caller)
+caller_named s i is low =
+    let f = (arc_at s.graph i).caller in
+    let calls : 0 < calls_of_others s.graph f = some_calls s.graph (λ j. (arc_at s.graph j).caller == f) i is low (eq-eqb f f refl) in
+    function_numbered s f (is.arcs.callers i low)
+    (third_holds (nat_lt 0 (total_of s f)) (nat_lt 0 (calls_by_others s.graph f)) (nat_lt 0 (calls_of_others s.graph f)) (nat_lt 0 (calls_by_itself s.graph f)) (lt-ltb 0 (calls_of_others s.graph f) calls))
+
+pub callee_named : (s : Sources) (i : ℕ) → IsGraph s.graph → i < arc_count s.graph → 0 < number_in (ordered s) (Function (arc_at s.graph i).callee)
+callee_named s i is low =
+    let f = (arc_at s.graph i).callee in
+    let calls : 0 < calls_by_others s.graph f = some_calls s.graph (λ j. (arc_at s.graph j).callee == f) i is low (eq-eqb f f refl) in
+    function_numbered s f (is.arcs.callees i low)
+    (second_holds (nat_lt 0 (total_of s f)) (nat_lt 0 (calls_by_others s.graph f)) (nat_lt 0 (calls_of_others s.graph f)) (nat_lt 0 (calls_by_itself s.graph f)) (lt-ltb 0 (calls_by_others s.graph f) calls))
+
+-- ---- a member of a cycle calls another one
+
+abbrev CallsSome : GraphValue → ℕ → Type 0
+CallsSome g f = (i : ℕ) × (i < arc_count g) × ((arc_at g i).caller ≡ f)
+
+calls_of_arc : (g : GraphValue) (f : ℕ) (a : FunArc) → Contains g.arcs a → a.caller ≡ f → CallsSome g f
+calls_of_arc g f a holds from = (holds.0, holds.1, ap (λ (b : FunArc). b.caller) (get_or_default g.arcs holds.0 no_arc a holds.1 ∙ holds.2) ∙ from)
+
+calls_of_walk : (g : GraphValue) (f h : ℕ) (walk : List FunArc) → f ≢ h → IsWalk g.arcs f walk h → CallsSome g f
+calls_of_walk g f h [] apart leads = absurd (apart leads)
+calls_of_walk g f h (a ∷ more) apart leads = calls_of_arc g f a leads.0 leads.1
+
+calls_of_member : (g : GraphValue) (f h : ℕ) → IsGraph g → f < g.functions → h < g.functions → component_of g f ≡ component_of g h → f ≢ h → CallsSome g f
+unfolding Reaches
+calls_of_member g f h is low below same apart =
+    let reaches = ((is.components.joined f h low below).0 same).0 in
+    calls_of_walk g f h reaches.0 apart reaches.1
+
+member_calls : (g : GraphValue) (f : ℕ) → IsGraph g → f < g.functions → is_cycle g (component_of g f) ≡ true → CallsSome g f
+member_calls g f is low cycle =
+    let c = component_of g f in
+    let inside = is.components.within f low in
+    let other : HasOtherMember g c = (cycles_are g c is inside).0 cycle in
+    by other (f == head_of g c) refl
+  where
+    by : HasOtherMember g (component_of g f) → (b : Bool) → (f == head_of g (component_of g f)) ≡ b → CallsSome g f
+    by other true is_head =
+        calls_of_member g f other.0 is low other.1 (sym other.2) (λ same. other.3 (sym same ∙ eqb-true f (head_of g (component_of g f)) is_head))
+    by other false not_head =
+        let inside = is.components.within f low in
+        calls_of_member g f (head_of g (component_of g f)) is low (is.components.heads_below (component_of g f) inside) (sym (is.components.heads_in (component_of g f) inside)) (eqb-false f (head_of g (component_of g f)) not_head)
+
+pub member_named : (s : Sources) (f : ℕ) → IsGraph s.graph → f < s.graph.functions → is_cycle s.graph (component_of s.graph f) ≡ true → 0 < number_in (ordered s) (Function f)
+member_named s f is low cycle =
+    let call = member_calls s.graph f is low cycle in
+    subst (λ (h : ℕ). 0 < number_in (ordered s) (Function h)) call.2 (caller_named s call.0 is call.1)

@@ -1,0 +1,151 @@
+-- The order of entries, and that the number of an entry is its place.
+use Rattle.std.proofs.Common.{◌≡◌, ◌<◌, ◌≤◌, ℕ, zero, suc, ◌+◌, Bool, true, false, cond, List, [], ◌∷◌, ◌++◌, map, refl, ap, sym, ◌∙◌, arith, add-one}
+use Rattle.std.specs.Prelude.{Some, ◌==◌, filter, slice_get, if◌then◌else◌}
+use Rattle.std.specs.List.{sum_by}
+use Rattle.std.specs.List.Sorted.{IsPermutation, IsSortedBy}
+use Rattle.std.proofs.lemmas.Bool.{eq-eqb, eqb-true}
+use Rattle.std.proofs.lemmas.List.{map-append}
+use Rattle.std.proofs.lemmas.List.Sums.{sum_by-cons, sum_by-append}
+use Rattle.call_cycles.specs.Graph.{GraphValue, IsGraph, component_count, component_of, head_of, is_cycle}
+use Rattle.call_cycles.specs.Sums.{numbers_below}
+use Rattle.flat_report.specs.Sources.{Sources}
+use Rattle.flat_report.proofs.OrderLemmas.{moved_in_order, order_is_sorted, sum_in_order}
+use Rattle.graph_report.specs.Entries.{Entry, comes_before, cycle_entry, entries_of, function_entry, has_entry, is_same, number_in, ordered}
+use Rattle.graph_report.specs.Rows.{cycle_entries, function_entries}
+use Rattle.graph_report.specs.declared.subjects.Subject.{Subject}
+use Rattle.graph_report.specs.declared.subjects.Subject.TheVariants.{Cycle, Function}
+use Rattle.graph_report.proofs.EntryOrder.{entry_order}
+use Rattle.graph_report.proofs.GroupLemmas.{filter_next}
+use Rattle.graph_report.proofs.NumberLemmas.{first_number, first_of_all}
+
+pub all_ordered : (s : Sources) → IsPermutation (cycle_entries s ++ function_entries s) (ordered s)
+unfolding entries_of ordered
+all_ordered s = moved_in_order comes_before (entries_of s)
+
+pub ascending_ordered : (s : Sources) → IsSortedBy comes_before (ordered s)
+unfolding ordered
+ascending_ordered s = order_is_sorted comes_before entry_order (entries_of s)
+
+-- ---- how many entries are of a subject
+
+-- 1 for an entry of the subject
+abbrev pub count_one : Subject → Entry → ℕ
+count_one subject e = cond (is_same e.subject subject) 1 0
+
+pub one_counted : (subject : Subject) (e : Entry) → is_same e.subject subject ≡ true → count_one subject e ≡ 1
+one_counted subject e is = ap (λ (b : Bool). cond b 1 0) is
+
+-- an entry of the subject is counted
+counted : (subject : Subject) (es : List Entry) (place : ℕ) (e : Entry) → slice_get es place ≡ Some e → is_same e.subject subject ≡ true → 1 ≤ sum_by (count_one subject) es
+counted subject [] place e at is = absurd (cc)
+counted subject (f ∷ fs) zero e at is =
+    let same : f ≡ e = cc in
+    let one : count_one subject f ≡ 1 = ap (count_one subject) same ∙ one_counted subject e is in
+    omega (arith, sum_by-cons (count_one subject) f fs, one)
+counted subject (f ∷ fs) (suc k) e at is = omega (arith, sum_by-cons (count_one subject) f fs, counted subject fs k e at is)
+
+-- where a subject has one entry only, its number is the place of that
+only_number : (subject : Subject) (base : ℕ) (es : List Entry) (place : ℕ) (e : Entry) → sum_by (count_one subject) es ≤ 1
+    → slice_get es place ≡ Some e → is_same e.subject subject ≡ true → first_number base es subject ≡ base + place + 1
+only_number subject base [] place e few at is = absurd (cc)
+only_number subject base (f ∷ fs) zero e few at is =
+    let same : f ≡ e = cc in
+    let here : is_same f.subject subject ≡ true = ap (λ (g : Entry). is_same g.subject subject) same ∙ is in
+    let first : base + 1 ≡ base + 0 + 1 = omega arith in
+    ap (λ (b : Bool). if b then base + 1 else first_number (base + 1) fs subject) here ∙ first
+only_number subject base (f ∷ fs) (suc k) e few at is =
+    by (only_number subject (base + 1) fs k e (omega (arith, few, sum_by-cons (count_one subject) f fs)) at is) (is_same f.subject subject) refl
+  where
+    by : first_number (base + 1) fs subject ≡ base + 1 + k + 1 → (b : Bool) → is_same f.subject subject ≡ b → (if b then base + 1 else first_number (base + 1) fs subject) ≡ base + suc k + 1
+    by rest true here =
+        let one : count_one subject f ≡ 1 = one_counted subject f here in
+        absurd (omega (arith, few, sum_by-cons (count_one subject) f fs, one, counted subject fs k e at is))
+    by rest false other = omega (arith, rest)
+
+not_true : (b : Bool) → (b ≡ true → ⊥) → b ≡ false
+not_true true is_not = absurd (is_not refl)
+not_true false is_not = refl
+
+module _ (subject : Subject) (make : ℕ → Entry) (p : ℕ → Bool) where
+  -- the entries of the subject among those that are made from numbers below n
+  abbrev pub count_below : ℕ → ℕ
+  count_below n = sum_by (count_one subject) (map make (filter p (numbers_below n)))
+
+  last_counted : (b : Bool) (n : ℕ) → sum_by (count_one subject) (map make (cond b (n ∷ []) [])) ≡ cond b (count_one subject (make n)) 0
+  last_counted true n = omega arith
+  last_counted false n = refl
+
+  pub next_counted : (n : ℕ) → count_below (suc n) ≡ count_below n + cond (p n) (count_one subject (make n)) 0
+  next_counted n =
+      ap count_below (sym (add-one n))
+      ∙ ap (λ (ks : List ℕ). sum_by (count_one subject) (map make ks)) (filter_next p n)
+      ∙ ap (sum_by (count_one subject)) (map-append make (filter p (numbers_below n)) (cond (p n) (n ∷ []) []))
+      ∙ sum_by-append (count_one subject) (map make (filter p (numbers_below n))) (map make (cond (p n) (n ∷ []) []))
+      ∙ ap (λ (x : ℕ). count_below n + x) (last_counted (p n) n)
+
+  none_below : (n : ℕ) → ((k : ℕ) → k < n → p k ≡ true → is_same (make k).subject subject ≡ false) → count_below n ≡ 0
+  none_below zero none = refl
+  none_below (suc n) none = omega (arith, next_counted n, none_below n (λ k low. none k (omega arith)), last (p n) refl)
+    where
+      last : (b : Bool) → p n ≡ b → cond b (count_one subject (make n)) 0 ≡ 0
+      last true passes = ap (λ (b : Bool). cond b 1 0) (none n (omega arith) passes)
+      last false fails = refl
+
+  one_below : (n : ℕ) → ((k l : ℕ) → k < l → l < n → is_same (make k).subject subject ≡ true → is_same (make l).subject subject ≡ true → ⊥) → count_below n ≤ 1
+  one_below zero apart = omega arith
+  one_below (suc n) apart = by (one_below n (λ k l lower low. apart k l lower (omega arith))) (is_same (make n).subject subject) refl (p n) refl
+    where
+      last : (b : Bool) → p n ≡ b → cond (p n) (count_one subject (make n)) 0 ≡ cond b (count_one subject (make n)) 0
+      last b passes = ap (λ (a : Bool). cond a (count_one subject (make n)) 0) passes
+
+      by : count_below n ≤ 1 → (a : Bool) → is_same (make n).subject subject ≡ a → (b : Bool) → p n ≡ b → count_below (suc n) ≤ 1
+      by rest true here true passes =
+          let none : count_below n ≡ 0 = none_below n (λ k low other. not_true (is_same (make k).subject subject) (λ same. apart k n low (omega arith) same here)) in
+          let one : cond (p n) (count_one subject (make n)) 0 ≡ 1 = last true passes ∙ one_counted subject (make n) here in
+          omega (arith, next_counted n, none, one)
+      by rest false here true passes =
+          let no : cond (p n) (count_one subject (make n)) 0 ≡ 0 = last true passes ∙ ap (λ (a : Bool). cond a 1 0) here in
+          omega (arith, next_counted n, rest, no)
+      by rest a here false fails =
+          let no : cond (p n) (count_one subject (make n)) 0 ≡ 0 = last false fails in
+          omega (arith, next_counted n, rest, no)
+
+-- two components have two heads
+two_heads : (g : GraphValue) → IsGraph g → (head k l : ℕ) → k < l → l < component_count g → (head_of g k == head) ≡ true → (head_of g l == head) ≡ true → ⊥
+two_heads g is head k l lower low here there =
+    let one : head_of g k ≡ head_of g l = eqb-true (head_of g k) head here ∙ sym (eqb-true (head_of g l) head there) in
+    let same : k ≡ l = sym (is.components.heads_in k (omega arith)) ∙ ap (component_of g) one ∙ is.components.heads_in l low in
+    omega (arith, same)
+
+two_functions : (f k l : ℕ) → k < l → (k == f) ≡ true → (l == f) ≡ true → ⊥
+two_functions f k l lower here there = omega (arith, eqb-true k f here, eqb-true l f there)
+
+one_of_each : (s : Sources) → IsGraph s.graph → (subject : Subject) → sum_by (count_one subject) (entries_of s) ≤ 1
+unfolding entries_of
+one_of_each s is (Cycle head) =
+    omega (
+      arith,
+      sum_by-append (count_one (Cycle head)) (cycle_entries s) (function_entries s),
+      one_below (Cycle head) (cycle_entry s) (is_cycle s.graph) (component_count s.graph) (two_heads s.graph is head),
+      none_below (Cycle head) (function_entry s) (has_entry s) s.graph.functions (λ f low has. refl),
+    )
+one_of_each s is (Function f) =
+    omega (
+      arith,
+      sum_by-append (count_one (Function f)) (cycle_entries s) (function_entries s),
+      none_below (Function f) (cycle_entry s) (is_cycle s.graph) (component_count s.graph) (λ c low cycle. refl),
+      one_below (Function f) (function_entry s) (has_entry s) s.graph.functions (λ k l lower low. two_functions f k l lower),
+    )
+
+one_ordered : (s : Sources) → IsGraph s.graph → (subject : Subject) → sum_by (count_one subject) (ordered s) ≤ 1
+unfolding ordered
+one_ordered s is subject = omega (arith, one_of_each s is subject, sum_in_order comes_before (count_one subject) (entries_of s))
+
+same_itself : (subject : Subject) → is_same subject subject ≡ true
+same_itself (Cycle head) = eq-eqb head head refl
+same_itself (Function f) = eq-eqb f f refl
+
+pub number_of_place : (s : Sources) (place : ℕ) (e : Entry) → IsGraph s.graph → slice_get (ordered s) place ≡ Some e → number_in (ordered s) e.subject ≡ place + 1
+number_of_place s place e is at =
+    let count : 0 + place + 1 ≡ place + 1 = omega arith in
+    sym (first_of_all (ordered s) e.subject) ∙ only_number e.subject 0 (ordered s) place e (one_ordered s is e.subject) at (same_itself e.subject) ∙ count

@@ -1,0 +1,25 @@
+//! What the definition of the call graph says, in other words.
+
+ghost use Rattle.std.specs.Prelude.{◌≡◌, ◌<◌, ◌+◌, ◌++◌, ℕ, true, slice_get};
+ghost use Rattle.std.specs.List.Sorted.{IsPermutation, IsSortedBy};
+ghost use Rattle.call_cycles.specs.Graph.{IsGraph, arc_at, arc_count, component_of, is_cycle};
+ghost use Rattle.flat_report.specs.Sources.{Sources as AnySources};
+ghost use Rattle.graph_report.specs.Entries.{Entry, comes_before, number_in, ordered};
+ghost use Rattle.graph_report.specs.Rows.{cycle_entries, function_entries};
+ghost use Rattle.graph_report.specs.declared.subjects.Subject.TheVariants.{Function};
+
+/// Each cycle, and each function that has an entry, has its place in the order once, and none stands
+/// behind one that it comes before. The number of an entry, as lines give it, is its place, counted from 1.
+pub fn entries_in_order()
+    ensures all { (s : AnySources) → IsPermutation (cycle_entries s ++ function_entries s) (ordered s) }
+    ensures ascending { (s : AnySources) → IsSortedBy comes_before (ordered s) }
+    ensures numbers { (s : AnySources) (place : ℕ) (e : Entry) → IsGraph s.graph → slice_get (ordered s) place ≡ Some e → number_in (ordered s) e.subject ≡ place + 1 }
+{}
+
+/// Each function that a line names has an entry, so that the number behind its name is never 0: those
+/// that call, those that are called, and the members of cycles.
+pub fn names_have_entries()
+    ensures callers { (s : AnySources) (i : ℕ) → IsGraph s.graph → i < arc_count s.graph → 0 < number_in (ordered s) (Function (arc_at s.graph i).caller) }
+    ensures callees { (s : AnySources) (i : ℕ) → IsGraph s.graph → i < arc_count s.graph → 0 < number_in (ordered s) (Function (arc_at s.graph i).callee) }
+    ensures members { (s : AnySources) (f : ℕ) → IsGraph s.graph → f < s.graph.functions → is_cycle s.graph (component_of s.graph f) ≡ true → 0 < number_in (ordered s) (Function f) }
+{}
