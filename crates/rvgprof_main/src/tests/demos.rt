@@ -130,14 +130,14 @@ fn words_of_a_profile_and_a_demo_are_refused(rt: HostRuntime) -> Result<(), Fail
     Ok(())
 }
 
-/// Profiles with one call that fails, looks at the answer, and tells whether the call was made.
+/// Profiles with one call that fails, looks at the answer, and tells the kind of the call, if it was made.
 fn fails_at(
     rt: &impl Abort,
     alloc: Global,
     program: &Program,
     step: usize,
     call: u64,
-) -> Result<bool, Fail>
+) -> Result<Option<HostCall>, Fail>
     requires { 1 ≤ step }
 {
     let mut host = MemHost::new(alloc);
@@ -162,24 +162,65 @@ fn fails_at(
         answer != 0 || host.printed().len() == whole.len(),
         "call {call}, step {step}"
     );
-    Ok(failed.is_some())
+    Ok(failed)
+}
+
+/// Lets each call of a profile fail in turn: so many of each kind, in their order, and no others.
+fn fail_in_turn(
+    rt: &impl Abort,
+    alloc: Global,
+    step: usize,
+    kinds: &[(usize, HostCall)],
+) -> Result<(), Fail>
+    requires { 1 ≤ step }
+{
+    let mut call = 0u64;
+    for (calls, kind) in kinds {
+        for _ in 0..*calls {
+            let failed = fails_at(rt, alloc, &PRINTS, step, call)?;
+            assert_eq!(rt; failed, Some(*kind), "call {call}, step {step}");
+            call = call.saturating_add(1);
+        }
+    }
+    let failed = fails_at(rt, alloc, &PRINTS, step, call)?;
+    assert_eq!(rt; failed, None, "call {call}, step {step}");
+    Ok(())
 }
 
 #[test]
 fn each_failing_call_of_a_profile_has_its_answer(rt: HostRuntime) -> Result<(), Fail> {
+    let kinds = [
+        (1, HostCall::OpenInput),
+        (3, HostCall::Read),
+        (1, HostCall::Out),
+        (1, HostCall::ErrOut),
+        (1, HostCall::CreateOutput),
+        (1, HostCall::Write),
+        (1, HostCall::CloseOutput),
+        (3, HostCall::Out),
+        (1, HostCall::ErrOut),
+    ];
+    fail_in_turn(&rt, rt.alloc(), usize::MAX, &kinds)
+}
+
+#[test]
+fn each_failing_call_of_a_profile_has_its_answer_byte_by_byte(rt: HostRuntime) -> Result<(), Fail> {
     let alloc = rt.alloc();
-    let mut calls = 0;
-    for call in 0..20 {
-        if fails_at(&rt, alloc, &PRINTS, usize::MAX, call)? {
-            calls = call;
-        }
-    }
-    assert_eq!(rt;
-        calls,
-        12,
-        "open, three reads, two prints, a file of three calls, three prints, the last line"
-    );
-    Ok(())
+    let program = elf(alloc, &PRINTS)?;
+    let line = "rvgprof: exit 4 after 9 instructions: 0 samples, 0 calls, 0 lost, arcs on\n";
+    // The bytes of the program and its end, its prints, the file of nine counters, the reports, the last line.
+    let kinds = [
+        (1, HostCall::OpenInput),
+        (program.len().saturating_add(1), HostCall::Read),
+        (4, HostCall::Out),
+        (4, HostCall::ErrOut),
+        (1, HostCall::CreateOutput),
+        (32 + 2 * 9, HostCall::Write),
+        (1, HostCall::CloseOutput),
+        (EMPTY.len(), HostCall::Out),
+        (line.len(), HostCall::ErrOut),
+    ];
+    fail_in_turn(&rt, alloc, 1, &kinds)
 }
 
 #[test]
