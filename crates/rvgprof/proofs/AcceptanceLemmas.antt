@@ -37,16 +37,13 @@ use Rattle.rvgprof.specs.Items.{name_of}
 use Rattle.rvgprof.specs.Words.{command_of}
 use Rattle.rvgprof.specs.Course.{Course, Ends, Input, Does, Reply, unless, reply_to, MayStop}
 use Rattle.rvgprof.specs.Answer.{RunActs, command_course, course_of, demo_lines, ended, file_acts, file_refusal, file_records, files_named, given_file_acts, print_reports, profile_file, profile_in, profiles, program, report_profiles, report_run, run_acts, run_program, show_lines, start_fault_of, sum_file, syms_lines, told, written_profile}
+use Rattle.rvgprof.proofs.Summing.{nothing_added}
 use Rattle.rvgprof.specs.Acceptance.{IsProgramFile, IsProfileFile, IsLike, AreProfileFiles, IsAccepted, Starts, records_of, acts_at_once}
 
 -- no list with an item in it is empty
 never_empty : {T : Type 0} (before : List T) (x : T) (after : List T) → [] ≡ before ++ x ∷ after → ⊥
 never_empty [] x after e = absurd cc
 never_empty (y ∷ before) x after e = absurd cc
-
-nothing_yet : empty_content ≡ content_of []
-unfolding content_of
-nothing_yet = refl
 
 module _ (contents : ℕ → List ℕ) where
   abbrev IsDone : Course → Type 0
@@ -177,7 +174,7 @@ module _ (contents : ℕ → List ℕ) where
 
   files_done : (words : List ℕ) (next : Content → Course) → ((t : Content) → IsDone (next t)) → IsDone (profiles words MAX_PROFILE_BYTES empty_content next) ↔ AreProfileFiles contents words
   files_done words next ends =
-      let done = profiles_done [] words MAX_PROFILE_BYTES empty_content next nothing_yet ends in (
+      let done = profiles_done [] words MAX_PROFILE_BYTES empty_content next nothing_added ends in (
         (λ h.
             let taken = done.0 h in
             record { limit = taken.0; accepted = taken.1; alike = taken.2 }),

@@ -1,11 +1,13 @@
 -- Profile files were read and added up, as the words ask for it.
-use Rattle.std.proofs.Common.{◌≡◌, ℕ, ◌+◌, ◌-◌, ◌<◌, ◌≤◌, List, [], ◌∷◌, Option, None, Err, inl, refl, sym, ap, subst, ◌∙◌, arith}
+use Rattle.std.proofs.Common.{◌≡◌, ℕ, ◌+◌, ◌-◌, ◌<◌, ◌≤◌, Bool, true, false, List, [], ◌∷◌, length, filter_map, slice_get, option_and_then, Option, Some, None, Err, inl, refl, sym, ap, subst, ◌∙◌, if◌then◌else◌, arith}
 use Rattle.std.specs.List.{AllByRecursion}
-use Rattle.gmon_data.specs.Content.{Content, empty_content, conflict_of, wide_records, with_records}
+use Rattle.gp_base.specs.declared.records.Unit as units
+use Rattle.gmon_data.specs.declared.hist.Hist.{Hist}
+use Rattle.gmon_data.specs.Content.{Content, IsProfile, WideRec, content_of, empty_content, conflict_of, hist_conflict, wide_records, with_records}
 use Rattle.gmon_data.specs.declared.refusal.AddRefusal.{AddRefusal}
 use Rattle.gmon_data.specs.declared.refusal.AddRefusal.TheVariants as adding
 use Rattle.gmon_data.specs.declared.refusal.Unlike.{Unlike as Difference}
-use Rattle.gmon_data.specs.Hists.{IsUnlike}
+use Rattle.gmon_data.specs.Hists.{IsUnitOf, IsUnlike, conflict_with, has_counters, kept_unit, range_of}
 use Rattle.gp_base.specs.declared.records.Records.{Records}
 use Rattle.host_port.specs.Outside.{Outside}
 use Rattle.profile_sum.specs.Sum.{sum_of, clash_of, IsClash}
@@ -17,7 +19,7 @@ use Rattle.rvgprof.specs.Course.{Course, MayStop, unless}
 use Rattle.rvgprof.specs.Answer.{profiles, profile_in, add_fault_of, sum_fault_of}
 use Rattle.rvgprof.specs.Contract.{Acted}
 use Rattle.rvgprof.specs.Standing.{Stands, MayYetStop}
-use Rattle.profile_sum.proofs.ContentLemmas.{content_is_added}
+use Rattle.profile_sum.proofs.ContentLemmas.{content_is_added, content_sum}
 use Rattle.rvgprof.proofs.Standing.{no_memory, may_stop_unless, refuses, goes_on}
 
 -- what the command does with a file's records
@@ -70,6 +72,46 @@ module _ (words : List (List ℕ)) (start new : Outside) (below word left : ℕ)
     summed sum none added =
         subst (λ (c : Content). Stands words start new below [] (profiles more (left - len) c next)) (sym (added ∙ ap (sum_of total) one_profile))
         (goes_on words start new below [] fault clash rest s2 (ap (clash_of total) (sym one_profile) ∙ none))
+
+-- ---- a total that holds nothing
+
+no_hists : {A : Type 0} (xs : List A) → length xs ≡ 0 → xs ≡ []
+no_hists [] none = refl
+no_hists (x ∷ xs) none = absurd (omega (arith, none))
+
+no_unit : (hists : List Hist) (o : Option units.Unit) → hists ≡ [] → IsUnitOf hists o → o ≡ None
+no_unit [] o none is = is
+no_unit (h ∷ hists) o none is = absurd cc
+
+pub holds_nothing : (p : Content) → IsProfile p → length p.hists ≡ 0 → length p.arcs ≡ 0 → length p.blocks ≡ 0 → p ≡ empty_content
+holds_nothing p is hists arcs blocks =
+    let none = no_hists p.hists hists in
+    let unit = no_unit p.hists p.«unit» none is.«unit» in
+    λ i. record { hists = none i; arcs = no_hists p.arcs arcs i; blocks = no_hists p.blocks blocks i; «unit» = unit i }
+
+all_gone : (f : Hist → Option Difference) → ((h : Hist) → f h ≡ None) → (hists : List Hist) → filter_map f hists ≡ []
+all_gone f none [] = refl
+all_gone f none (h ∷ hists) = rw (none h, all_gone f none hists) refl
+
+free : (h : Hist) (o : Option units.Unit) → option_and_then (hist_conflict empty_content h) o ≡ None
+free h None = refl
+free h (Some u) = by (has_counters h)
+  where
+    by : (b : Bool) → (if b then conflict_with [] None (range_of h) (kept_unit u) else None) ≡ None
+    by true = refl
+    by false = refl
+
+pub no_clash : (q : Content) → clash_of empty_content q ≡ None
+no_clash q = ap (λ (hs : List Difference). slice_get hs 0) (all_gone (λ h. option_and_then (hist_conflict empty_content h) q.«unit») (λ h. free h q.«unit») q.hists)
+
+pub nothing_added : empty_content ≡ content_of []
+unfolding content_of
+nothing_added = refl
+
+pub first_sum : (recs : List WideRec) → sum_of empty_content (with_records recs empty_content) ≡ with_records recs empty_content
+first_sum recs =
+    let same = content_is_added recs in
+    ap (λ (p : Content). sum_of p (with_records recs empty_content)) nothing_added ∙ ap (sum_of (content_of [])) (sym same) ∙ content_sum [] recs ∙ same
 
 -- ---- words that are left
 

@@ -1,10 +1,11 @@
-use Rattle.std.proofs.Common.{◌+◌, ◌-◌, sym, subst, arith}
+use Rattle.std.proofs.Common.{◌+◌, ◌-◌, ◌∙◌, sym, ap, subst, arith}
 use Rattle.std.specs.Prelude.{map, string_bytes}
 use Rattle.gp_base.specs.declared.limits.TheConstants.{MAX_PROFILE_BYTES}
-use Rattle.gmon_data.specs.Content.{Content}
+use Rattle.gmon_data.specs.Content.{Content, empty_content, wide_records}
+use Rattle.profile_sum.specs.Sum.{clash_of, sum_of}
 use Rattle.rvgprof.specs.ProfileSizes.{IsOfBytes}
 use Rattle.rvgprof.proofs.ProfileSizeLemmas.{of_sum, within_limits}
-use Rattle.rvgprof.proofs.Summing.{added, not_added, not_summed, summed}
+use Rattle.rvgprof.proofs.Summing.{added, first_sum, no_clash, not_added, not_summed, summed}
 use Rattle.rvgprof.proofs.inputs.add_profile.Goals as goal
 
 pub profile_of-requires-clause-within : goal.profile_of-requires-clause-within
@@ -28,6 +29,18 @@ returns-in-Err-profile_of-clause-adds g c = λ start below more next may later s
     let word = c.args.word in
     let stands = c.in-Ok.ensures.reads start below (added word c.args.left c.args.total.now more next) later s in
     rw c.add_fault.ensures (not_added words start _ (word + 1) word c.args.left c.args.total.now more next c.in-Ok.read.1 c.in-Ok.read.0 may stands c.in-Err-profile_of.refusal c.in-Err-profile_of.ensures.refusal)
+
+pub returns-then-is_empty-clause-adds : goal.returns-then-is_empty-clause-adds
+returns-then-is_empty-clause-adds g c = λ start below more next may later s.
+    let words = map string_bytes c.args.words.now in
+    let word = c.args.word in
+    let stands = c.in-Ok.ensures.reads start below (added word c.args.left c.args.total.now more next) later s in
+    let one = c.in-Ok-profile_of.ensures in
+    let empty = c.is_empty.ensures c.if-is_empty.true in
+    let profile = c.in-Ok-profile_of.more in
+    let none = ap (λ (p : Content). clash_of p profile) empty ∙ no_clash profile in
+    let sum = one.content ∙ sym (first_sum (wide_records c.in-Ok.read.0.recs)) ∙ ap (sum_of empty_content) (sym one.content) ∙ ap (λ (p : Content). sum_of p profile) (sym empty) in
+    summed words start _ (word + 1) word c.args.left c.args.total.now more next c.in-Ok.read.1 c.in-Ok.read.0 may stands one.accepted profile one.content profile none sum
 
 pub returns-in-Ok-add_all-clause-adds : goal.returns-in-Ok-add_all-clause-adds
 returns-in-Ok-add_all-clause-adds g c = λ start below more next may later s.
