@@ -8,10 +8,11 @@ use Rattle.gmon_block.specs.Layout.{EntryFits, EntryFits, no_entry, Parts}
 use Rattle.std.specs.List.{flat_map, range_with_len}
 use Rattle.std.proofs.lemmas.Bool.{lt-leb}
 use Rattle.mcount_arcs.specs.declared.sizes.Sizes.{Sizes}
+use Rattle.mcount_arcs.specs.declared.sizes.Width.{Width}
 use Rattle.mcount_arcs.specs.declared.state.State.TheVariants.{On, Busy, Error}
 use Rattle.mcount_arcs.specs.Arcs.{arcs_of, slot_arcs}
 use Rattle.std.proofs.lemmas.List.{length-replicate, get_or-replicate}
-use Rattle.mcount_arcs.specs.Sizes.{AreSizes, site_of}
+use Rattle.mcount_arcs.specs.Sizes.{AreSizes, IsWidth, site_of}
 use Rattle.mcount_arcs.specs.Held.{linked, arc_read, slot_read, arcs_read, view_of, IsHeld}
 use Rattle.mcount_arcs.specs.declared.gmon.Cursor.{Cursor}
 use Rattle.mcount_arcs.specs.Value.{StandsFor}
@@ -73,8 +74,8 @@ arcs_read-none z tos froms n none =
 
 -- a new one has no log
 pub StandsFor-nil : (z : Sizes) (block : Parts) → AreSizes z → block.tos ≡ replicate z.tolimit no_entry → block.counters ≡ replicate z.counters 0 → block.froms ≡ replicate z.slots 0
-    → (cursor : Cursor) → StandsFor [] (view_of (record { block = block; sizes = z; state = On; sampling = true; calls = 0; cursor = cursor }))
-StandsFor-nil z block are tos counters froms cursor = record {
+    → (by_hist by_hash : Width) (cursor : Cursor) → StandsFor [] (view_of (record { block = block; sizes = z; counter_width = by_hist; slot_width = by_hash; state = On; sampling = true; calls = 0; cursor = cursor }))
+StandsFor-nil z block are tos counters froms by_hist by_hash cursor = record {
   legal = IsLegal-nil z;
   tos = tos ∙ entries_of-nil z are.least;
   counters = counters ∙ buckets_of-nil z;
@@ -87,16 +88,18 @@ StandsFor-nil z block are tos counters froms cursor = record {
   place = tt;
 }
 
-pub IsHeld-nil : (z : Sizes) (block : Parts) (cursor : Cursor) → AreSizes z → block.tos ≡ replicate z.tolimit no_entry → block.counters ≡ replicate z.counters 0 → block.froms ≡ replicate z.slots 0
-    → IsHeld (record { block = block; sizes = z; state = On; sampling = true; calls = 0; cursor = cursor })
-IsHeld-nil z block cursor are tos counters froms = record {
+pub IsHeld-nil : (z : Sizes) (block : Parts) (by_hist by_hash : Width) (cursor : Cursor) → AreSizes z → IsWidth z.hist by_hist → IsWidth z.hash by_hash → block.tos ≡ replicate z.tolimit no_entry → block.counters ≡ replicate z.counters 0 → block.froms ≡ replicate z.slots 0
+    → IsHeld (record { block = block; sizes = z; counter_width = by_hist; slot_width = by_hash; state = On; sampling = true; calls = 0; cursor = cursor })
+IsHeld-nil z block by_hist by_hash cursor are is_hist is_hash tos counters froms = record {
   sizes = are;
+  counter_width = is_hist;
+  slot_width = is_hash;
   tos = ap length tos ∙ length-replicate z.tolimit no_entry;
   counters = ap length counters ∙ length-replicate z.counters 0;
   froms = ap length froms ∙ length-replicate z.slots 0;
   fits = subst (All EntryFits) (sym tos) (All-replicate EntryFits z.tolimit no_entry (record { selfpc = omega arith; count = omega arith; link = omega arith }));
   log = [];
-  stands = StandsFor-nil z block are tos counters froms cursor;
+  stands = StandsFor-nil z block are tos counters froms by_hist by_hash cursor;
   free = λ _. omega (arith, ap (λ (es : List Tos). (slice_index_or es 0 no_entry).link) tos, ap (λ (e : Tos). e.link) (get_or-replicate z.tolimit 0 no_entry no_entry (omega (arith, are.least))), are.least);
   at = λ busy. let e : On ≡ Busy = busy in cc;
   room = λ busy. let e : On ≡ Busy = busy in cc;

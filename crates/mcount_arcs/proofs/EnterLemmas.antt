@@ -1,13 +1,14 @@
 -- A runtime after a call arrived.
-use Rattle.std.proofs.Common.{None, ◌≡◌, ℕ, ◌<◌, ◌≤◌, List, length, Some, refl, sym, ap, ◌∙◌, arith, ◌+◌, subst, ◌-◌, ◌⊎◌, ◌%◌}
+use Rattle.std.proofs.Common.{None, ◌≡◌, ℕ, ◌<◌, ◌≤◌, List, length, Some, refl, sym, ap, ◌∙◌, arith, ◌+◌, subst, ◌-◌, ◌⊎◌, ◌/◌, ◌%◌, ◌^◌}
 use Rattle.std.proofs.lemmas.Option.{slice_get_within, get_or_from_slice_get}
 use Rattle.std.specs.List.{slice_get}
 use Rattle.mcount_arcs.specs.declared.sizes.Sizes.{Sizes}
+use Rattle.mcount_arcs.specs.declared.sizes.Width.{Width}
 use Rattle.mcount_arcs.specs.declared.state.State.{State}
 use Rattle.mcount_arcs.specs.declared.state.State.TheVariants.{On, Busy, Error, Off}
 use Rattle.mcount_arcs.specs.Samples.{counted_in}
 use Rattle.mcount_arcs.specs.Log.{mode_in, MayFollow, LogEntry, kept_calls, Enter, CallLost, CallIgnored, IsSite}
-use Rattle.mcount_arcs.specs.Sizes.{AreSizes, slot_of, offset_of}
+use Rattle.mcount_arcs.specs.Sizes.{AreSizes, IsWidth, slot_of, offset_of}
 use Rattle.mcount_arcs.specs.declared.gmon.Gmon.TheInside.{Inside}
 use Rattle.mcount_arcs.specs.Held.{view_of, IsHeld}
 use Rattle.mcount_arcs.specs.Value.{StandsFor, GmonValue}
@@ -15,6 +16,7 @@ use Rattle.mcount_arcs.proofs.LogLemmas.{IsQuiet, state_of-quiet, is_on-same, bu
 use Rattle.mcount_arcs.proofs.LookLemmas.{looks_bounds}
 use Rattle.mcount_arcs.proofs.CallLemmas.{is_busy-enter, entered_calls-enter, pending_call-enter, state_of-busy, is_busy-other}
 use Rattle.mcount_arcs.proofs.QuietEntryLemmas.{StandsFor-quiet}
+use Rattle.mcount_arcs.proofs.SizeLemmas.{part_is}
 
 -- a call that is turned away leaves all as it was
 StandsFor-turned_away : (log : List LogEntry) (entry : LogEntry) (v : GmonValue) → IsQuiet v.sizes entry → mode_in entry ≡ None → ((before : List LogEntry) → counted_in v.sizes before entry ≡ None) → MayFollow v.sizes log entry → StandsFor log v → StandsFor (more log entry) v
@@ -57,6 +59,8 @@ stands_entered a log from to slot at on slot_is site stands =
 pub held_entered : (a : Inside) (from to slot at : ℕ) → IsHeld a → a.state ≡ On → slot ≡ slot_of a.sizes from → IsSite a.sizes from → slice_get a.block.froms slot ≡ Some at → a.calls < 4294967295 → IsHeld (entered_as a slot to at)
 held_entered a from to slot at held on slot_is site read room = record {
   sizes = held.sizes;
+  counter_width = held.counter_width;
+  slot_width = held.slot_width;
   tos = held.tos;
   counters = held.counters;
   froms = held.froms;
@@ -77,5 +81,10 @@ held_entered a from to slot at held on slot_is site read room = record {
 -- the offset as the code has it
 pub offset_is : (z : Sizes) (from : ℕ) → AreSizes z → (from + (4294967296 - z.low)) % 4294967296 ≡ offset_of z from
 offset_is z from are =
-    let same : from + (4294967296 - z.low) ≡ from + 4294967296 - z.low = omega (arith, are.spans, are.end) in
+    let same : from + (4294967296 - z.low) ≡ from + 4294967296 - z.low = omega (arith, are.counters, are.end) in
     ap (λ (n : ℕ). n % 4294967296) same
+
+-- and the slot
+pub slot_is : (z : Sizes) (from : ℕ) (w : Width) → AreSizes z → IsWidth z.hash w → (from + (4294967296 - z.low)) % 4294967296 / 2 ^ w.bits ≡ slot_of z from
+slot_is z from w are is =
+    ap (λ (n : ℕ). n / 2 ^ w.bits) (offset_is z from are) ∙ part_is z.hash (offset_of z from) w is

@@ -134,6 +134,8 @@ held_counted a w log block held f stands is counters fits places =
     let ps = pushed (kept_calls z log) w.slot w.to in
     record {
       sizes = held.sizes;
+      counter_width = held.counter_width;
+      slot_width = held.slot_width;
       tos = ap length is.tos ∙ length-entries_in z.tolimit ps ps places;
       counters = ap length counters ∙ held.counters;
       froms = ap length is.froms ∙ length-fronts z.slots ps;
@@ -153,6 +155,8 @@ held_filled a w log block held f stands is counters fits full =
     let ps = kept_calls z log in
     record {
       sizes = held.sizes;
+      counter_width = held.counter_width;
+      slot_width = held.slot_width;
       tos = ap length is.tos ∙ length-entries_in z.tolimit (pushed ps w.slot w.to) ps f.few;
       counters = ap length counters ∙ held.counters;
       froms = ap length is.froms ∙ length-fronts z.slots ps;
@@ -322,6 +326,8 @@ moved_held a w e held flying sees other link =
     let more_looks = is_passed a w log f sees.some (λ same. other (ap (λ (t : Tos). t.selfpc) (sym sees.entry) ∙ same)) (λ none. link (ap (λ (t : Tos). t.link) (sym sees.entry) ∙ none)) in
     record {
       sizes = held.sizes;
+      counter_width = held.counter_width;
+      slot_width = held.slot_width;
       tos = held.tos;
       counters = held.counters;
       froms = held.froms;

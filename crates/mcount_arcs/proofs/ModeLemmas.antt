@@ -67,6 +67,8 @@ held_switched on a held =
     let P : GmonValue → Type 0 = λ v. StandsFor (more held.log (Mode on)) v in
     record {
       sizes = held.sizes;
+      counter_width = held.counter_width;
+      slot_width = held.slot_width;
       tos = held.tos;
       counters = held.counters;
       froms = held.froms;

@@ -1,11 +1,11 @@
 -- A runtime after a tick.
-use Rattle.std.proofs.Common.{All, ◌≡◌, ℕ, Bool, true, false, ◌&&◌, ltb, List, [], ◌∷◌, length, Some, refl, sym, ap, ◌∙◌, arith, ◌+◌, subst, ◌-◌, set, leb, if◌then◌else◌, ◌/◌, min, slice_index, slice_index_or, slice_set}
+use Rattle.std.proofs.Common.{All, ◌≡◌, ℕ, Bool, true, false, ◌&&◌, ltb, List, [], ◌∷◌, length, Some, refl, sym, ap, ◌∙◌, arith, ◌+◌, subst, set, leb, if◌then◌else◌, min, slice_index, slice_index_or, slice_set}
 use Rattle.std.specs.List.{slice_get}
 use Rattle.std.proofs.lemmas.Bool.{and_parts, leb-true, ltb-true}
 use Rattle.gmon_block.specs.Layout.{EntryFits, no_entry, Parts}
 use Rattle.mcount_arcs.specs.Log.{LogEntry, Sample}
 use Rattle.gp_base.specs.Spans.{is_in}
-use Rattle.mcount_arcs.specs.Sizes.{text_span, AreSizes}
+use Rattle.mcount_arcs.specs.Sizes.{AreSizes, counter_of, text_span}
 use Rattle.mcount_arcs.specs.Samples.{buckets_of}
 use Rattle.std.proofs.lemmas.Option.{get_or_from_slice_get}
 use Rattle.mcount_arcs.specs.declared.gmon.Gmon.TheInside.{Inside}
@@ -24,13 +24,13 @@ StandsFor-sample log v pc counters stands counters_are =
     StandsFor-quiet log (Sample pc) v counters v.state v.sampling (sample-quiet v.sizes pc) tt stands counters_are
     (stands.state ∙ sym (state_of-quiet v.sizes log (Sample pc) (sample-quiet v.sizes pc) refl)) (stands.sampling ∙ sym (is_on-same log (Sample pc) refl))
 
-pub by_test : (log : List LogEntry) (v : GmonValue) (pc : ℕ) (b : Bool) → AreSizes v.sizes → StandsFor log v → (v.sampling && is_in (text_span v.sizes) pc) ≡ b → StandsFor (more log (Sample pc)) (if b then with_sample ((pc - v.sizes.low) / 4) v else v)
+pub by_test : (log : List LogEntry) (v : GmonValue) (pc : ℕ) (b : Bool) → AreSizes v.sizes → StandsFor log v → (v.sampling && is_in (text_span v.sizes) pc) ≡ b → StandsFor (more log (Sample pc)) (if b then with_sample (counter_of v.sizes pc) v else v)
 by_test log v pc true are stands test =
     let parts = and_parts v.sampling (is_in (text_span v.sizes) pc) test in
     let ends = and_parts (leb v.sizes.low pc) (ltb pc v.sizes.high) parts.1 in
     let one : counts v.sizes log pc ≡ pc ∷ [] = ap (λ (b : Bool). if b && is_in (text_span v.sizes) pc then pc ∷ [] else []) (sym stands.sampling) ∙ ap (λ (b : Bool). if b then pc ∷ [] else []) test in
     let raised = buckets_of-counted_samples v.sizes log pc are one (leb-true v.sizes.low pc ends.0) (ltb-true pc v.sizes.high ends.1) in
-    StandsFor-sample log v pc (with_sample ((pc - v.sizes.low) / 4) v).counters stands (ap (raise ((pc - v.sizes.low) / 4)) stands.counters ∙ raised)
+    StandsFor-sample log v pc (with_sample (counter_of v.sizes pc) v).counters stands (ap (raise (counter_of v.sizes pc)) stands.counters ∙ raised)
 by_test log v pc false are stands test =
     let none : counts v.sizes log pc ≡ [] = ap (λ (b : Bool). if b && is_in (text_span v.sizes) pc then pc ∷ [] else []) (sym stands.sampling) ∙ ap (λ (b : Bool). if b then pc ∷ [] else []) test in
     StandsFor-sample log v pc v.counters stands (stands.counters ∙ sym (buckets_of-uncounted v.sizes log pc none))
@@ -47,6 +47,8 @@ at_of a counters at = record { slot = at.slot; looked = at.looked; place = at.pl
 pub IsHeld-ticked : (a : Inside) (block : Parts) (counters : List ℕ) (log : List LogEntry) → IsHeld a → block ≡ record a.block { counters = counters } → length counters ≡ length a.block.counters → StandsFor log (view_of (record a { block = block })) → IsHeld (record a { block = block })
 IsHeld-ticked a block counters log held same long stands = record {
   sizes = held.sizes;
+  counter_width = held.counter_width;
+  slot_width = held.slot_width;
   tos = ap (λ (p : Parts). length p.tos) same ∙ held.tos;
   counters = ap (λ (p : Parts). length p.counters) same ∙ long ∙ held.counters;
   froms = ap (λ (p : Parts). length p.froms) same ∙ held.froms;
@@ -63,14 +65,14 @@ pub tested : (a : Inside) (v : GmonValue) (pc : ℕ) (b : Bool) → view_of a �
 tested a v pc b same is yes_it = ap (λ (u : GmonValue). u.sampling && is_in (text_span u.sizes) pc) same ∙ sym is ∙ yes_it
 
 -- the write that a tick makes
-pub wrote : (a : Inside) (pc n m : ℕ) (block : Parts) → (a.sampling && is_in (text_span a.sizes) pc) ≡ true
-    → slice_get a.block.counters ((pc - a.sizes.low) / 4) ≡ Some n → m ≡ min (n + 1) 65535
-    → block ≡ record a.block { counters = slice_set a.block.counters ((pc - a.sizes.low) / 4) m }
+pub wrote : (a : Inside) (pc k n m : ℕ) (block : Parts) → k ≡ counter_of a.sizes pc → (a.sampling && is_in (text_span a.sizes) pc) ≡ true
+    → slice_get a.block.counters k ≡ Some n → m ≡ min (n + 1) 65535
+    → block ≡ record a.block { counters = slice_set a.block.counters k m }
     → view_of (record a { block = block }) ≡ ticked pc (view_of a)
-wrote a pc n m block test read more_one set =
-    let k : ℕ = (pc - a.sizes.low) / 4 in
+wrote a pc k n m block is test read more_one set =
     let was : slice_index a.block.counters k ≡ n = get_or_from_slice_get a.block.counters k n 0 read in
     let value : m ≡ min 65535 (slice_index a.block.counters k + 1) = omega arith in
     ap (λ (p : Parts). view_of (record a { block = p })) set
     ∙ ap (λ (x : ℕ). record (view_of a) { counters = slice_set a.block.counters k x }) value
-    ∙ sym (ap (λ (b : Bool). if b then with_sample k (view_of a) else view_of a) test)
+    ∙ ap (λ (i : ℕ). with_sample i (view_of a)) is
+    ∙ sym (ap (λ (b : Bool). if b then with_sample (counter_of a.sizes pc) (view_of a) else view_of a) test)
