@@ -13,7 +13,7 @@ use Rattle.rv_step.specs.declared.stepped.TrapKind.{TrapKind}
 use Rattle.prof_machine.proofs.StandingLemmas.{answers_stands, with_ending, with_harts, with_memory, with_retired}
 use Rattle.prof_machine.specs.Ecalls.{ecall_of, write_acts, write_answer}
 use Rattle.prof_machine.specs.Stages.{answers, retires}
-use Rattle.prof_machine.specs.Turn.{after_call, after_ecall, after_outcome, after_step, executed, retired_with}
+use Rattle.prof_machine.specs.Turn.{after_call, after_ecall, after_outcome, after_step, executed, one_retired, retired_with}
 use Rattle.prof_machine.specs.Value.{RunValue, StandsFor, value_of}
 use Rattle.prof_machine.specs.World.{World, blank, hart_of}
 use Rattle.prof_machine.specs.declared.ecalls.Call.{Call}
@@ -39,10 +39,10 @@ executed_by w r m h answer s memory stands a b c =
     ∙ ap (λ (x : Registers). after_step m h answer x o.memory w) (sym b)
     ∙ ap (λ (x : Memory). after_step m h answer s x w) (sym c)
 
-pub retired_stands : (w : World) (r : RunValue) (h : ℕ) (s : Registers) (m : Memory) → StandsFor w r → StandsFor (retired_with h s (record w { memory = m })) (retires (record r { harts = set r.harts h s; memory = m }))
-retired_stands w r h s m stands =
-    with_retired (record w { harts = set w.harts h s; memory = m }) (record r { harts = set r.harts h s; memory = m })
-    (with_memory (record w { harts = set w.harts h s }) (record r { harts = set r.harts h s }) m (with_harts w r _ _ (ap (λ (x : List Registers). set x h s) stands.harts) stands))
+pub retired_stands : (w : World) (r : RunValue) (h pc : ℕ) (s : Registers) (m : Memory) → pc ≡ (hart_of r.harts h).pc → StandsFor w r → StandsFor (retired_with h s (record w { memory = m })) (retires pc (record r { harts = set r.harts h s; memory = m }))
+retired_stands w r h pc s m is stands =
+    with_harts (one_retired h (record w { memory = m })) (retires pc (record r { memory = m })) _ _ (ap (λ (x : List Registers). set x h s) stands.harts)
+    (with_retired (record w { memory = m }) (record r { memory = m }) h pc is (with_memory w r m stands))
 
 -- ---- an environment call
 
@@ -65,6 +65,7 @@ with_prints w r acts stands = record {
   gmon = stands.gmon;
   samples = stands.samples;
   lost = stands.lost;
+  counts = stands.counts;
 }
 
 pub written_stands : (w : World) (r : RunValue) (h d from n answer : ℕ) → answer ≡ write_answer r.memory d from n → StandsFor w r → StandsFor (after_call h (Writes d from n) w) (answers h answer r)
@@ -90,18 +91,18 @@ step_as : (w : World) (a : Inside) (h : ℕ) (answer : Stepped) (s0 s : Register
 step_as w a h answer s0 s m read x y z stands =
     executed_by w (value_of a) a.machine h answer s m stands (x ∙ ap (λ (t : Registers). (step_of t a.ram).answer) (sym read)) (y ∙ ap (λ (t : Registers). (step_of t a.ram).registers) (sym read)) (z ∙ ap (λ (t : Registers). (step_of t a.ram).memory) (sym read))
 
-pub step_retired : (w : World) (a : Inside) (h : ℕ) (s0 s : Registers) (m : Memory) → hart_of a.harts.items h ≡ s0 → Retired ≡ (step_of s0 a.ram).answer → s ≡ (step_of s0 a.ram).registers → m ≡ (step_of s0 a.ram).memory → StandsFor w (value_of a)
-    → StandsFor (executed a.machine h w) (retires (value_of (record a { harts = with_item a.harts h s; ram = m }))) × ((executed a.machine h w).prints ≡ w.prints)
-step_retired w a h s0 s m read x y z stands =
-    let P : World → Type 0 = λ v. StandsFor v (retires (value_of (record a { harts = with_item a.harts h s; ram = m }))) × (v.prints ≡ w.prints) in
-    subst P (sym (step_as w a h Retired s0 s m read x y z stands)) (retired_stands w (value_of a) h s m stands, refl)
+pub step_retired : (w : World) (a : Inside) (h pc : ℕ) (s0 s : Registers) (m : Memory) → hart_of a.harts.items h ≡ s0 → pc ≡ s0.pc → Retired ≡ (step_of s0 a.ram).answer → s ≡ (step_of s0 a.ram).registers → m ≡ (step_of s0 a.ram).memory → StandsFor w (value_of a)
+    → StandsFor (executed a.machine h w) (retires pc (value_of (record a { harts = with_item a.harts h s; ram = m }))) × ((executed a.machine h w).prints ≡ w.prints)
+step_retired w a h pc s0 s m read at x y z stands =
+    let P : World → Type 0 = λ v. StandsFor v (retires pc (value_of (record a { harts = with_item a.harts h s; ram = m }))) × (v.prints ≡ w.prints) in
+    subst P (sym (step_as w a h Retired s0 s m read x y z stands)) (retired_stands w (value_of a) h pc s m (at ∙ ap (λ (t : Registers). t.pc) (sym read)) stands, refl)
 
 pub step_trapped : (w : World) (a : Inside) (h : ℕ) (kind : TrapKind) (pc : ℕ) (s0 s : Registers) (m : Memory) → hart_of a.harts.items h ≡ s0 → Trapped kind ≡ (step_of s0 a.ram).answer → s ≡ (step_of s0 a.ram).registers → m ≡ (step_of s0 a.ram).memory
-    → ((Trapped kind ≡ Retired) ⊎ ((s ≡ s0) × (m ≡ a.ram))) → pc ≡ s.pc → StandsFor w (value_of a)
+    → ((Trapped kind ≡ Retired) ⊎ ((s ≡ s0) × (m ≡ a.ram))) → pc ≡ s0.pc → StandsFor w (value_of a)
     → StandsFor (executed a.machine h w) (value_of (record a { harts = with_item a.harts h s; ram = m; ending = Some (Trap kind pc) })) × ((executed a.machine h w).prints ≡ w.prints)
 step_trapped w a h kind pc s0 s m read x y z stays pc_is stands =
     let same = unchanged (Trapped kind) s0 s a.ram m (λ is. absurd cc) stays in
-    let here : pc ≡ (hart_of w.harts h).pc = pc_is ∙ ap (λ (t : Registers). t.pc) (same.0 ∙ sym read) ∙ ap (λ (t : List Registers). (hart_of t h).pc) stands.harts in
+    let here : pc ≡ (hart_of w.harts h).pc = pc_is ∙ ap (λ (t : Registers). t.pc) (sym read) ∙ ap (λ (t : List Registers). (hart_of t h).pc) stands.harts in
     let back : record (value_of (record a { harts = with_item a.harts h s; ram = m })) { ending = Some (Trap kind pc) } ≡ record (value_of a) { ending = Some (Trap kind pc) } =
     ap (λ (r : RunValue). record r { ending = Some (Trap kind pc) }) (put_back a h s0 s m read same.0 same.1) in
     let P : World → Type 0 = λ v. StandsFor v (value_of (record a { harts = with_item a.harts h s; ram = m; ending = Some (Trap kind pc) })) × (v.prints ≡ w.prints) in

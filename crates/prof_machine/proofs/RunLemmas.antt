@@ -31,7 +31,7 @@ use Rattle.prof_machine.specs.declared.setup.Setup.{Setup}
 looks_short : (image : Image) (setup : Setup) → Short (machine_of image setup)
 unfolding machine_of
 looks_short image setup log slot to =
-    let z = sizes_of image.text in
+    let z = sizes_of image.text setup.hist setup.hash in
     omega (arith, looks_of-chain z log slot to, (looks_bounds (kept_calls z log) slot to).1, chain_short (kept_calls z log) slot, kept_calls-places z log)
 
 timed_start : (image : Image) (bytes : List ℕ) (setup : Setup) → 1 ≤ setup.budget → Timed (machine_of image setup) (start_of image bytes setup) (start_of image bytes setup).ending

@@ -16,10 +16,12 @@ use Rattle.mcount_arcs.specs.declared.sizes.Sizes.{Sizes}
 use Rattle.rv_step.specs.Memory.{Memory}
 use Rattle.rv_step.specs.Registers.{Registers}
 use Rattle.rv_step.specs.declared.stepped.TrapKind.TheVariants.{JumpMisaligned}
-use Rattle.prof_machine.proofs.ClockLemmas.{due_now, not_due}
+use Rattle.prof_machine.proofs.ClockLemmas.{again, due_now, not_due}
+use Rattle.prof_machine.proofs.ExecutionLemmas.{exec_counts_of-push}
 use Rattle.prof_machine.proofs.WorldLemmas.{ended_stage, going_stage}
+use Rattle.prof_machine.specs.Executions.{exec_counts_of}
 use Rattle.prof_machine.specs.Stages.{answers, retires, returns}
-use Rattle.prof_machine.specs.Turn.{answered, returned, returned_by, sampled, spent, target_of, while_going, with_answer, with_entry, with_hart}
+use Rattle.prof_machine.specs.Turn.{answered, one_retired, returned, returned_by, sampled, spent, target_of, while_going, with_answer, with_entry, with_hart}
 use Rattle.prof_machine.specs.Value.{IsHeld, RunValue, StandsFor, is_lost, left_by, value_of}
 use Rattle.prof_machine.specs.World.{World, blank, hart_of}
 use Rattle.prof_machine.specs.declared.ending.End.{End}
@@ -60,10 +62,12 @@ with_ending w r end stands = record {
   gmon = stands.gmon;
   samples = stands.samples;
   lost = stands.lost;
+  counts = stands.counts;
 }
 
-pub with_retired : (w : World) (r : RunValue) → StandsFor w r → StandsFor (record w { retired = w.retired + 1 }) (retires r)
-with_retired w r stands = record {
+-- the instruction retires at which the hart stands
+pub with_retired : (w : World) (r : RunValue) (h pc : ℕ) → pc ≡ (hart_of r.harts h).pc → StandsFor w r → StandsFor (one_retired h w) (retires pc r)
+with_retired w r h pc is stands = record {
   harts = stands.harts;
   left = stands.left;
   memory = stands.memory;
@@ -73,6 +77,8 @@ with_retired w r stands = record {
   gmon = stands.gmon;
   samples = stands.samples;
   lost = stands.lost;
+  counts = exec_counts_of-push r.machine w.ran r.counts pc stands.counts
+      ∙ ap (λ (a : ℕ). exec_counts_of r.machine (w.ran ++ a ∷ [])) (is ∙ ap (λ (x : List Registers). (hart_of x h).pc) stands.harts);
 }
 
 pub with_harts : (w : World) (r : RunValue) (harts other : List Registers) → harts ≡ other → StandsFor w r → StandsFor (record w { harts = other }) (record r { harts = harts })
@@ -86,6 +92,7 @@ with_harts w r harts other same stands = record {
   gmon = stands.gmon;
   samples = stands.samples;
   lost = stands.lost;
+  counts = stands.counts;
 }
 
 pub with_memory : (w : World) (r : RunValue) (m : Memory) → StandsFor w r → StandsFor (record w { memory = m }) (record r { memory = m })
@@ -99,6 +106,7 @@ with_memory w r m stands = record {
   gmon = stands.gmon;
   samples = stands.samples;
   lost = stands.lost;
+  counts = stands.counts;
 }
 
 pub with_break : (w : World) (r : RunValue) (to : ℕ) → StandsFor w r → StandsFor (record w { break_at = to }) (record r { break_at = to })
@@ -112,14 +120,15 @@ with_break w r to stands = record {
   gmon = stands.gmon;
   samples = stands.samples;
   lost = stands.lost;
+  counts = stands.counts;
 }
 
 -- ---- an answer, and a return
 
 pub answers_stands : (w : World) (r : RunValue) (h n : ℕ) → StandsFor w r → StandsFor (answered h n w) (answers h n r)
 answers_stands w r h n stands =
-    with_retired (record w { harts = set w.harts h (with_answer (hart_of w.harts h) n) }) (record r { harts = set r.harts h (with_answer (hart_of r.harts h) n) })
-    (with_harts w r _ _ (ap (λ (x : List Registers). set x h (with_answer (hart_of x h) n)) stands.harts) stands)
+    let pc = (hart_of r.harts h).pc in
+    with_harts (one_retired h w) (retires pc r) _ _ (ap (λ (x : List Registers). set x h (with_answer (hart_of x h) n)) stands.harts) (with_retired w r h pc refl stands)
 
 by_target : (w : World) (r : RunValue) (h : ℕ) (s : Registers) (b : Bool) → StandsFor w r
     → StandsFor (if b then with_hart h (record s { pc = target_of s }) w else record w { ending = Some (Trap JumpMisaligned s.pc) })
@@ -155,6 +164,7 @@ quiet_stands w r g l e quiet none lost gmon stands = record {
   gmon = gmon;
   samples = stands.samples ∙ ap length (sym (counted_samples-same r.machine.sizes w.log e none));
   lost = lost ∙ ap (λ (n : ℕ). n + cond (is_lost e) 1 0) stands.lost ∙ sym (lost_more w.log e);
+  counts = stands.counts;
 }
 
 -- a sample
@@ -176,6 +186,7 @@ sample_stands w r g k d pc b may count gmon stands = record {
   gmon = gmon;
   samples = count ∙ ap (λ (n : ℕ). n + (if b then 1 else 0)) stands.samples ∙ sym (counted_more r.machine.sizes w.log pc b may);
   lost = stands.lost ∙ omega arith ∙ sym (lost_more w.log (Sample pc));
+  counts = stands.counts;
 }
 
 pub with_live : (w : World) (r : RunValue) (b : Bool) → StandsFor w r → StandsFor w (record r { live = b })
@@ -189,6 +200,7 @@ with_live w r b stands = record {
   gmon = stands.gmon;
   samples = stands.samples;
   lost = stands.lost;
+  counts = stands.counts;
 }
 
 -- ---- registers that were read
@@ -223,6 +235,29 @@ unsampled_stands w a h held some most stands =
     let test : eqb (w.retired % m.setup.every) 0 ≡ false = ap (λ (n : ℕ). eqb (n % m.setup.every) 0) (sym stands.retired) ∙ not_due a.retired a.due m.setup.every held.clock one most in
     let P : Bool → Type 0 = λ x. StandsFor (if x then with_entry (Sample (hart_of w.harts h).pc) w else w) (value_of a) in
     subst P (sym test) stands
+
+-- what is true of a run stays true where the clock has ticked
+pub held_sampled : (a : Inside) (k : ℕ) (g : GmonValue) → IsHeld a → a.live ≡ false → a.due ≡ 0 → k ≤ a.retired → g ≡ record a.gmon { counters = g.counters }
+    → IsHeld (record a { due = a.machine.setup.every; samples = k; gmon = g })
+held_sampled a k g held dead none few others =
+    let calls : g.calls ≡ a.gmon.calls = ap (λ (v : GmonValue). v.calls) others in
+    record {
+      setup = held.setup;
+      sizes = ap (λ (v : GmonValue). v.sizes) others ∙ held.sizes;
+      harts = held.harts;
+      walk = ap (λ (v : GmonValue). v.walk) others ∙ held.walk;
+      holder = held.holder;
+      place = held.place;
+      retired = held.retired;
+      due = omega arith;
+      clock = again a.retired a.due a.machine.setup.every held.clock none;
+      samples = few;
+      calls = omega (arith, held.calls, calls);
+      counts = held.counts;
+      going = λ live. let e : true ≡ false = sym live ∙ dead in cc;
+      left = λ live. let e : true ≡ false = sym live ∙ dead in cc;
+      some_due = λ live. let e : true ≡ false = sym live ∙ dead in cc;
+    }
 
 -- ---- the budget
 

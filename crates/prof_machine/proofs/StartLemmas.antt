@@ -13,7 +13,9 @@ use Rattle.mcount_arcs.specs.Value.{StandsFor as RuntimeStandsFor}
 use Rattle.rv_step.specs.Loading.{CanLoad, loaded}
 use Rattle.rv_step.specs.Memory.{Memory}
 use Rattle.prof_machine.proofs.ClockLemmas.{first}
+use Rattle.prof_machine.proofs.ExecutionLemmas.{exec_counts_of-nil, zeros_bound}
 use Rattle.prof_machine.proofs.WalkLemmas.{no_walk}
+use Rattle.prof_machine.specs.Executions.{instructions_of}
 use Rattle.prof_machine.specs.Setup.{IsSetup}
 use Rattle.prof_machine.specs.Start.{HasRoom, IsLayout, base_in, base_of, first_registers, is_outside_of, is_too_small_of, machine_of, program_end_in, program_end_of, size_of, start_of, start_refusal}
 use Rattle.prof_machine.specs.Value.{IsHeld, RunValue, StandsFor, calls_met, flights, left_by, value_of}
@@ -80,9 +82,9 @@ layout_end image setup l h = h.end ∙ ap (λ (b : ℕ). b + size_of setup) (sym
 -- the first world, as the code makes it
 pub stands_at_start : (image : Image) (bytes : List ℕ) (setup : Setup) (l : Layout) (empty : Memory) (r : RunValue) → IsLayout image setup l → r.machine ≡ machine_of image setup
     → r.harts ≡ map (first_registers image.entry l.end setup.harts) (range_with_len 0 setup.harts) → r.flight ≡ None → empty.base ≡ l.base → empty.bytes ≡ replicate l.size 0 → r.memory ≡ loaded image.segments bytes empty → r.break_at ≡ (machine_of image setup).first_break
-    → r.retired ≡ 0 → r.samples ≡ 0 → r.lost ≡ 0 → r.ending ≡ None → RuntimeStandsFor [] r.gmon → StandsFor (start_of image bytes setup) r
+    → r.retired ≡ 0 → r.samples ≡ 0 → r.lost ≡ 0 → r.counts ≡ (if setup.blocks then replicate (instructions_of r.machine.sizes) 0 else []) → r.ending ≡ None → RuntimeStandsFor [] r.gmon → StandsFor (start_of image bytes setup) r
 unfolding start_of counted_samples machine_of
-stands_at_start image bytes setup l empty r h machine harts flight base zeros memory break_at retired samples lost ending gmon = record {
+stands_at_start image bytes setup l empty r h machine harts flight base zeros memory break_at retired samples lost counts ending gmon = record {
   harts = harts ∙ ap (λ (n : ℕ). map (first_registers image.entry n setup.harts) (range_with_len 0 setup.harts)) h.end;
   left = ap (λ (f : Option Flight). left_by r.machine.sizes [] r.machine.setup.harts f) flight ∙ ap (λ (m : Machine). replicate m.setup.harts 0) machine;
   memory = memory ∙ ap (λ (m : Memory). loaded image.segments bytes m)
@@ -93,13 +95,14 @@ stands_at_start image bytes setup l empty r h machine harts flight base zeros me
   gmon = gmon;
   samples = samples;
   lost = lost;
+  counts = counts ∙ exec_counts_of-nil r.machine r.machine.sizes setup.blocks refl (ap (λ (m : Machine). m.setup.blocks) machine);
 }
 
 -- ---- what is true of a run at its start
 
 pub held_at_start : (a : Inside) (setup : Setup) → IsSetup setup → a.machine.setup ≡ setup → a.gmon.sizes ≡ a.machine.sizes → length a.harts.items ≡ setup.harts → a.flight ≡ None → RuntimeStandsFor [] a.gmon
-    → a.retired ≡ 0 → a.due ≡ setup.every → a.samples ≡ 0 → a.lost ≡ 0 → a.ending ≡ None → IsHeld a
-held_at_start a setup h same sizes harts flight gmon retired due samples lost ending =
+    → a.retired ≡ 0 → a.due ≡ setup.every → a.samples ≡ 0 → a.lost ≡ 0 → a.counts.items ≡ (if setup.blocks then replicate (instructions_of a.machine.sizes) 0 else []) → a.ending ≡ None → IsHeld a
+held_at_start a setup h same sizes harts flight gmon retired due samples lost counts ending =
     let none : a.gmon.walk ≡ None = no_walk a.gmon.walk (gmon.walk ∙ pending_call-idle a.gmon.sizes [] refl) in
     let calls : a.gmon.calls ≡ 0 = gmon.calls ∙ ap length (kept_calls-nil a.gmon.sizes) in
     let every : a.due ≡ a.machine.setup.every = due ∙ ap (λ (s : Setup). s.every) (sym same) in
@@ -118,6 +121,7 @@ held_at_start a setup h same sizes harts flight gmon retired due samples lost en
       clock = ap (λ (n : ℕ). (n + a.due) % a.machine.setup.every) retired ∙ ap (λ (n : ℕ). (0 + n) % a.machine.setup.every) every ∙ first a.machine.setup.every;
       samples = omega (arith, samples);
       calls = omega (arith, met);
+      counts = subst (All (λ n. n ≤ a.retired)) (sym counts) (zeros_bound a.retired (instructions_of a.machine.sizes) setup.blocks);
       going = λ live. ending;
       left = λ live. omega (arith, retired, budget);
       some_due = λ live. omega (arith, every, some);

@@ -66,6 +66,7 @@ enter_stands w r g h from to on sizes walk gmon stands =
       gmon = gmon;
       samples = stands.samples ∙ ap length (sym (counted_samples-same z w.log (Enter from to) (λ before. refl)));
       lost = stands.lost ∙ omega arith ∙ sym (lost_more w.log (Enter from to));
+      counts = stands.counts;
     }
 
 left_is : (w : World) (r : RunValue) (f : Flight) → r.flight ≡ Some f → StandsFor w r → set (replicate r.machine.setup.harts 0) f.hart (looks_left r.machine.sizes w.log f.walk) ≡ w.left
@@ -109,6 +110,7 @@ over w r g left gmon zeros stands = record {
   gmon = gmon;
   samples = stands.samples ∙ ap length (sym (counted_samples-same r.machine.sizes w.log WalkDone (λ before. refl)));
   lost = stands.lost ∙ omega arith ∙ sym (lost_more w.log WalkDone);
+  counts = stands.counts;
 }
 
 pub over_here : (w : World) (r : RunValue) (g : GmonValue) (f : Flight) → f.hart < r.machine.setup.harts → r.flight ≡ Some f → RuntimeStandsFor (w.log ++ WalkDone ∷ []) g → StandsFor w r
@@ -134,6 +136,7 @@ moved_here w r g f n is gmon fewer stands =
       gmon = gmon;
       samples = stands.samples;
       lost = stands.lost;
+      counts = stands.counts;
     }
 
 -- ---- the end of the run

@@ -4,6 +4,7 @@ use Rattle.rv_step.specs.declared.stepped.TrapKind.TheVariants.{JumpMisaligned}
 use Rattle.rv_step.specs.Registers.{Registers}
 use Rattle.prof_machine.specs.declared.ending.End.TheVariants.{Trap}
 use Rattle.prof_machine.specs.declared.flight.Flight.{Flight}
+use Rattle.prof_machine.specs.Executions.{with_execution}
 use Rattle.prof_machine.specs.Turn.{target_of, with_answer}
 use Rattle.prof_machine.specs.Value.{RunValue, calls_met, looks_at_most}
 use Rattle.prof_machine.specs.World.{hart_of}
@@ -13,11 +14,12 @@ abbrev pub holds : Option Flight → ℕ → Bool
 holds None h = false
 holds (Some f) h = f.hart == h
 
-abbrev pub retires : RunValue → RunValue
-retires r = record r { retired = r.retired + 1; due = r.due - 1 }
+-- the instruction at a pc retires
+abbrev pub retires : ℕ → RunValue → RunValue
+retires pc r = record r { retired = r.retired + 1; due = r.due - 1; counts = with_execution r.machine.sizes.low pc r.counts }
 
 abbrev pub answers : ℕ → ℕ → RunValue → RunValue
-answers h n r = retires (record r { harts = slice_set r.harts h (with_answer (hart_of r.harts h) n) })
+answers h n r = retires (hart_of r.harts h).pc (record r { harts = slice_set r.harts h (with_answer (hart_of r.harts h) n) })
 
 abbrev pub returns_by : ℕ → Registers → RunValue → RunValue
 returns_by h s r =

@@ -1,11 +1,13 @@
 //! A run, from its start to its end.
 
-ghost use Rattle.std.specs.Prelude.{◌≡◌, ◌+◌, ◌^◌, ◌<◌, ◌≤◌, ◌↔◌, ℕ, length, map, None, Some, Ok, IfOk, IfErr, OnOk, OnErr, IsSome, IsTrue, MatchResult};
+ghost use Rattle.std.specs.Prelude.{◌≡◌, ◌+◌, ◌^◌, ◌<◌, ◌≤◌, ◌↔◌, ℕ, length, map, None, Some, Ok, IfOk, IfErr, OnOk, OnErr, IsSome, IsTrue, MatchResult, [], replicate, if◌then◌else◌};
 ghost use Rattle.std.specs.List.{range_with_len};
 ghost use Rattle.elf32_syms.specs.Image.{IsWithinLimits};
 ghost use Rattle.host_port.specs.Outside.{KeepsCounts, KeepsInput};
+ghost use Rattle.mcount_arcs.specs.Sizes.{AreSizes};
 ghost use Rattle.mcount_arcs.specs.Value.{StandsFor as RuntimeStandsFor};
 ghost use Rattle.prof_machine.specs.declared.ending.Turned.TheVariants.{Going};
+ghost use Rattle.prof_machine.specs.Executions.{exec_counts_of, instructions_of};
 ghost use Rattle.prof_machine.specs.Setup.{IsSetup};
 ghost use Rattle.prof_machine.specs.Start.{IsRefusal, first_registers as first_registers_of, machine_of, stacks_bytes, start_of, start_refusal};
 ghost use Rattle.prof_machine.specs.Turn.{turn_of};
@@ -22,7 +24,7 @@ use crate::schedule::Schedule;
 use crate::setup::Setup;
 use elf32_syms::Image;
 use host_port::{Failed, Host};
-use mcount_arcs::Gmon;
+use mcount_arcs::{Gmon, Sizes};
 use rv_step::{Ram, Regs};
 use std::alloc::{AllocError, Global};
 use std::marker::Model;
@@ -43,6 +45,8 @@ pub struct Run {
     // Samples that counted, and calls that were lost.
     pub(crate) samples: u32,
     pub(crate) lost: u32,
+    // How often each instruction of the text was executed, if that is counted.
+    pub(crate) counts: Vec<u32>,
     pub(crate) ending: Option<End>,
     // It can take a turn: false also within a turn, and so after one that failed.
     pub(crate) live: bool,
@@ -96,9 +100,10 @@ impl Run {
             due: setup.every,
             samples: 0,
             lost: 0,
+            counts: first_counts(alloc, machine.sizes, setup.blocks)?,
             ending: None,
             live: true,
-            gmon: Gmon::startup(alloc, image.text)?,
+            gmon: Gmon::startup(alloc, image.text, setup.hist, setup.hash)?,
         })
     }
 
@@ -182,6 +187,15 @@ impl Run {
         &self.gmon
     }
 
+    /// How often each instruction of the text was executed, from the lowest on; nothing where the setup
+    /// doesn't ask for it. An instruction that traps isn't executed, one that exits is.
+    pub fn exec_counts(&self) -> &[u32]
+        ensures value { result.now ≡ self.now.counts }
+        ensures log { (w : World) → StandsFor w self.now → result.now ≡ exec_counts_of self.now.machine w.ran }
+    {
+        &self.counts
+    }
+
     /// What is told of a run that has ended.
     pub fn summary(&self) -> RunSummary
         requires { IsSome self.now.ending }
@@ -222,4 +236,17 @@ fn first_harts(alloc: Global, entry: u32, end: u64, harts: u32) -> Result<Vec<Re
         list.push(first_registers(entry, end, harts, hart))?;
     }
     Ok(list)
+}
+
+/// A count for each instruction of the text, if they are asked for.
+fn first_counts(alloc: Global, sizes: Sizes, asked: bool) -> Result<Vec<u32>, AllocError>
+    requires { AreSizes sizes }
+    ensures { IfOk result (λ counts. counts.items ≡ (if asked then replicate (instructions_of sizes) 0 else [])) }
+{
+    if asked {
+        let instructions = (sizes.high - sizes.low) / 4;
+        Ok(vec![in alloc; 0; instructions as usize]?)
+    } else {
+        Ok(Vec::new(alloc))
+    }
 }

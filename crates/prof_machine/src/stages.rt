@@ -1,9 +1,10 @@
 //! The stages of a turn.
 
-ghost use Rattle.std.specs.Prelude.{◌≡◌, ◌+◌, ◌<◌, ◌≤◌, ◌&&◌, ℕ, None, OnOk, OnErr, IsSome, true, false, MatchResult};
+ghost use Rattle.std.specs.Prelude.{◌≡◌, ◌+◌, ◌<◌, ◌≤◌, ◌&&◌, ℕ, None, OnOk, OnErr, IsSome, true, false, MatchResult, All};
 ghost use Rattle.host_port.specs.Outside.{KeepsCounts, KeepsInput};
 ghost use Rattle.gp_base.specs.Spans.{is_in};
 ghost use Rattle.mcount_arcs.specs.Sizes.{text_span};
+ghost use Rattle.prof_machine.specs.Executions.{with_execution};
 ghost use Rattle.prof_machine.specs.Prints.{ArePrinted, BreaksOff, PrintFailed};
 ghost use Rattle.prof_machine.specs.Stages.{Executes, Serves, Steps, Ticks, answers, holds, retires, returns};
 ghost use Rattle.prof_machine.specs.Turn.{after_ecall, arrived, called, closed, executed, instructed, sampled, spent, switched, taken, while_going};
@@ -101,11 +102,11 @@ impl Run {
         ensures executes { OnOk result (Executes self.old self.new) }
     {
         let regs = &mut self.harts[hart as usize];
-        let answer = step(regs, &mut self.ram);
         let pc = regs.pc();
+        let answer = step(regs, &mut self.ram);
         match answer {
             Stepped::Retired => {
-                self.retire();
+                self.retire(pc);
                 Ok(())
             }
             Stepped::Ecall => self.call(hart, host),
@@ -149,7 +150,8 @@ impl Run {
                 self.answer(hart, n);
             }
             Call::Exits(status) => {
-                self.retire();
+                let pc = self.harts[hart as usize].pc();
+                self.retire(pc);
                 self.ending = Some(End::Exit(status));
             }
         }
@@ -165,18 +167,20 @@ impl Run {
         ensures { self.new ≡ answers hart n self.old }
     {
         let regs = &mut self.harts[hart as usize];
+        let pc = regs.pc();
         regs.set(A0, n);
-        regs.set_pc(regs.pc().wrapping_add(4));
-        self.retire();
+        regs.set_pc(pc.wrapping_add(4));
+        self.retire(pc);
     }
 
-    // One more instruction has retired.
-    fn retire(&mut self)
+    // The instruction at `pc` has retired.
+    fn retire(&mut self, pc: u32)
         requires left { self.old.retired < self.old.machine.setup.budget }
         requires due { 1 ≤ self.old.due }
         requires dead { self.old.live ≡ false }
-        ensures { self.new ≡ retires self.old }
+        ensures { self.new ≡ retires pc self.old }
     {
+        count_execution(&mut self.counts, self.machine.sizes.low, pc);
         self.retired += 1;
         self.due -= 1;
     }
@@ -310,4 +314,18 @@ fn counts(gmon: &Gmon, pc: u32) -> bool
 {
     let sizes = gmon.sizes();
     gmon.sampling() && sizes.low <= pc && pc < sizes.high
+}
+
+/// Counts that the instruction at `pc` was executed, if it is one of those from `low` on that are counted.
+fn count_execution(counts: &mut [u32], low: u32, pc: u32)
+    requires { All (λ n. n < 4294967295) counts.old }
+    ensures { counts.new ≡ with_execution low pc counts.old }
+{
+    if counts.is_empty() || pc < low || (pc - low) % 4 != 0 {
+        return;
+    }
+    let i = ((pc - low) / 4) as usize;
+    if i < counts.len() {
+        counts[i] += 1;
+    }
 }

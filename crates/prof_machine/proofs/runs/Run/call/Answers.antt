@@ -1,6 +1,7 @@
-use Rattle.std.proofs.Common.{◌∙◌, sym, subst, refl, Some}
+use Rattle.std.proofs.Common.{ap, ◌∙◌, sym, subst, refl, Some}
 use Rattle.host_port.specs.Outside.{Did}
 use Rattle.rv_step.specs.Memory.{Memory}
+use Rattle.rv_step.specs.Registers.{Registers}
 use Rattle.prof_machine.proofs.ActLemmas.{nothing_printed}
 use Rattle.prof_machine.proofs.InstructionLemmas.{ecall_as, written_stands}
 use Rattle.prof_machine.proofs.StandingLemmas.{answers_stands, hart_read, there, with_break, with_ending, with_retired}
@@ -10,7 +11,7 @@ use Rattle.prof_machine.specs.declared.ending.End.TheVariants.{Exit}
 use Rattle.prof_machine.specs.Ecalls.{write_acts}
 use Rattle.prof_machine.specs.Prints.{ArePrinted, BreaksOff, IsCutShort}
 use Rattle.prof_machine.specs.Stages.{answers, retires}
-use Rattle.prof_machine.specs.Turn.{after_ecall}
+use Rattle.prof_machine.specs.Turn.{after_ecall, one_retired}
 use Rattle.prof_machine.specs.Value.{RunValue, StandsFor, value_of}
 use Rattle.prof_machine.specs.World.{World}
 use Rattle.prof_machine.proofs.runs.Run.call.Goals as goal
@@ -113,11 +114,11 @@ returns-in-Exits-clause-stands g c = λ w st.
     let h = c.args.hart in
     let e = Exit c.in-Exits.status in
     let read = hart_read a.harts.items h _ (there a c.args.self.now h c.self.invariant c.self.view_is c.requires.hart) c.index.ensures in
-    let P : RunValue → Type 0 = λ v. StandsFor w v → StandsFor (after_ecall v.machine h w) (record (retires v) { ending = Some e }) in
+    let P : RunValue → Type 0 = λ v. StandsFor w v → StandsFor (after_ecall v.machine h w) (record (retires c.pc-pc.result v) { ending = Some e }) in
     let R : RunValue → Type 0 = λ v. StandsFor (after_ecall c.args.self.now.machine h w) (record v { ending = Some e }) in
     subst R (sym (c.self-in-Exits.view_is ∙ c.retire.ensures)) (subst P c.self.view_is (λ (s : StandsFor w (value_of a)).
-    let Q : World → Type 0 = λ v. StandsFor v (record (retires (value_of a)) { ending = Some e }) in
-    subst Q (sym (ecall_as w (value_of a) h _ (Exits c.in-Exits.status) read c.in-Exits.ensures s)) (with_ending (record w { retired = _ }) (retires (value_of a)) e (with_retired w (value_of a) s))) st)
+    let Q : World → Type 0 = λ v. StandsFor v (record (retires c.pc-pc.result (value_of a)) { ending = Some e }) in
+    subst Q (sym (ecall_as w (value_of a) h _ (Exits c.in-Exits.status) read c.in-Exits.ensures s)) (with_ending (one_retired h w) (retires c.pc-pc.result (value_of a)) e (with_retired w (value_of a) h c.pc-pc.result (c.pc-pc.ensures ∙ ap (λ (t : Registers). t.pc) (sym (hart_read a.harts.items h _ (there a c.args.self.now h c.self.invariant c.self.view_is c.requires.hart) c.index-in-Exits.ensures))) s))) st)
 
 pub returns-in-Exits-clause-prints : goal.returns-in-Exits-clause-prints
 returns-in-Exits-clause-prints g c = λ w st.

@@ -20,7 +20,7 @@ returns-in-Retired-clause-stands g c = λ w st.
     let P : RunValue → Type 0 = λ v. StandsFor w v → StandsFor (executed v.machine h w) c.retire.new.self in
     subst P c.self.view_is (λ (s : StandsFor w (value_of a)).
     let R : RunValue → Type 0 = λ v. StandsFor (executed a.machine h w) v in
-    subst R (sym c.retire.ensures) (step_retired w a h _ _ _ read c.in-Retired.ensures.answer c.step-answer.ensures.registers c.step-answer.ensures.memory s).0) st
+    subst R (sym c.retire.ensures) (step_retired w a h c.pc-pc.result _ _ _ read c.pc-pc.ensures c.in-Retired.ensures.answer c.step-answer.ensures.registers c.step-answer.ensures.memory s).0) st
 
 pub returns-in-Retired-clause-prints : goal.returns-in-Retired-clause-prints
 returns-in-Retired-clause-prints g c = λ w st.
@@ -29,7 +29,7 @@ returns-in-Retired-clause-prints g c = λ w st.
     let read = hart_read a.harts.items h _ (there a c.args.self.now h c.self.invariant c.self.view_is c.requires.hart) c.index_mut-regs.ensures.value in
     let P : RunValue → Type 0 = λ v. StandsFor w v → ArePrinted w (executed v.machine h w) (g.H.Host.outside c.args.host.now) (g.H.Host.outside c.args.host.now) in
     subst P c.self.view_is (λ (s : StandsFor w (value_of a)).
-    nothing_printed w _ _ (step_retired w a h _ _ _ read c.in-Retired.ensures.answer c.step-answer.ensures.registers c.step-answer.ensures.memory s).1) st
+    nothing_printed w _ _ (step_retired w a h c.pc-pc.result _ _ _ read c.pc-pc.ensures c.in-Retired.ensures.answer c.step-answer.ensures.registers c.step-answer.ensures.memory s).1) st
 
 pub returns-in-Ecall-clause-stands : goal.returns-in-Ecall-clause-stands
 returns-in-Ecall-clause-stands g c = on_ok _ _ c.call.result _ _ (λ after w st.

@@ -1,9 +1,9 @@
-use Rattle.std.proofs.Common.{◌≡◌, ◌∙◌, ◌+◌, ◌<◌, None, arith, true, false, sym, subst, refl}
+use Rattle.std.proofs.Common.{◌≡◌, ◌∙◌, ◌+◌, ◌<◌, None, ap, arith, true, false, sym, subst, refl}
 use Rattle.prof_machine.specs.declared.runs.Run.TheInside.{Inside}
 use Rattle.mcount_arcs.specs.Value.{StandsFor as RuntimeStandsFor}
 use Rattle.prof_machine.specs.Turn.{sampled, while_going}
-use Rattle.prof_machine.specs.Value.{RunValue, StandsFor, value_of}
-use Rattle.prof_machine.proofs.StandingLemmas.{hart_read, is_ended, is_none, sampled_stands, stands_ended, stands_going, there, unsampled_stands}
+use Rattle.prof_machine.specs.Value.{IsHeld, RunValue, StandsFor, value_of}
+use Rattle.prof_machine.proofs.StandingLemmas.{hart_read, held_sampled, is_ended, is_none, sampled_stands, stands_ended, stands_going, there, unsampled_stands}
 use Rattle.prof_machine.proofs.runs.Run.sample.Goals as goal
 use Rattle.prof_machine.proofs.runs.Run.sample.Goals.{then-counts, else-counts}
 
@@ -37,3 +37,18 @@ returns-clause-stands c = λ w st.
       | else-counts b ↦ subst R (sym b.self-inside-is) (stands_going _ w (value_of a) _ s going
           (sampled_stands w a new h c.pc-pc.result a.samples a.machine.setup.every _ false c.self.invariant read c.pc-pc.ensures c.if-self-ne0.false (sym b.if-counts.false ∙ c.counts.ensures) (omega arith) (c.tick.ensures.stands w.log (subst G (sym b.self-inside-is) s.gmon)) s))
     ]) st
+
+pub invariant_of-self : goal.invariant_of-self
+invariant_of-self c =
+    let a = c.self.inside in
+    let g = c.tick.new.self in
+    let v = c.args.self.now in
+    let dead : a.live ≡ false = ap (λ (v : RunValue). v.live) c.self.view_is ∙ c.requires.dead in
+    let going = is_none a.ending (sym c.if-is_some.ensures) in
+    let few : a.samples < a.retired = subst (λ (v : RunValue). v.ending ≡ None → v.samples < v.retired) (sym c.self.view_is) c.requires.samples going in
+    let R : Inside → Type 0 = λ x. IsHeld (record x { gmon = g }) in
+    let O : Inside → Type 0 = λ x. g ≡ record x.gmon { counters = g.counters } in
+    elim c.if-counts.branch [
+      | then-counts b ↦ subst R (sym b.self-inside-is) (held_sampled a (a.samples + 1) g c.self.invariant dead c.if-self-ne0.false (omega arith) (subst O b.self-inside-is c.tick.ensures.others))
+      | else-counts b ↦ subst R (sym b.self-inside-is) (held_sampled a a.samples g c.self.invariant dead c.if-self-ne0.false (omega arith) (subst O b.self-inside-is c.tick.ensures.others))
+    ]

@@ -1,0 +1,124 @@
+-- What one more instruction does to the counts of executed instructions.
+use Rattle.std.proofs.Common.{All, Bool, List, [], ap, arith, cond, eqb, false, get_or, get_or-set_other, get_or-set_same, inl, inr, leb, length, length-set, ltb, refl, replicate, set, sym, true, ℕ, ◌%◌, ◌&&◌, ◌*◌, ◌++◌, ◌+◌, ◌-◌, ◌/◌, ◌<◌, ◌∙◌, ◌∷◌, ◌≡◌, ◌≤◌, if◌then◌else◌}
+use Rattle.std.proofs.lemmas.Bool.{and_from, and_parts, cases_eq, eq-eqb, eqb-true, le-leb, leb-true, lt-ltb, ltb-true, ne_eqb}
+use Rattle.std.proofs.lemmas.List.{get_or-replicate, length-replicate}
+use Rattle.std.proofs.lemmas.List.FromFn.{fill_by_all, get_or-map-range_with_len, length-map-range_with_len}
+use Rattle.std.proofs.lemmas.List.Sums.{sum_by_push}
+use Rattle.mcount_arcs.specs.declared.sizes.Sizes.{Sizes}
+use Rattle.prof_machine.specs.declared.machine.Machine.{Machine}
+use Rattle.prof_machine.specs.Executions.{exec_counts_of, executions_at, executions_in, instructions_of, with_execution}
+
+executions_at-push : (ran : List ℕ) (pc a : ℕ) → executions_at (ran ++ pc ∷ []) a ≡ executions_at ran a + cond (eqb pc a) 1 0
+executions_at-push ran pc a = sum_by_push (λ x. cond (eqb x a) 1 0) ran pc
+
+at_own : (ran : List ℕ) (pc a : ℕ) → pc ≡ a → executions_at (ran ++ pc ∷ []) a ≡ executions_at ran a + 1
+at_own ran pc a is = executions_at-push ran pc a ∙ ap (λ (b : Bool). executions_at ran a + cond b 1 0) (eq-eqb pc a is)
+
+at_other : (ran : List ℕ) (pc a : ℕ) → (pc ≡ a → ⊥) → executions_at (ran ++ pc ∷ []) a ≡ executions_at ran a
+at_other ran pc a other = executions_at-push ran pc a ∙ ap (λ (b : Bool). executions_at ran a + cond b 1 0) (ne_eqb pc a other) ∙ omega arith
+
+-- ---- the counts, one by one
+
+count_at : (z : Sizes) (ran : List ℕ) (i d : ℕ) → i < instructions_of z → get_or (executions_in z ran) i d ≡ executions_at ran (z.low + 4 * i)
+count_at z ran i d inside = get_or-map-range_with_len (λ i. executions_at ran (z.low + 4 * i)) 0 (instructions_of z) i i d inside (omega arith)
+
+counts_of_all : (z : Sizes) (ran xs : List ℕ) → length xs ≡ instructions_of z → ((i : ℕ) → i < instructions_of z → get_or xs i 0 ≡ executions_at ran (z.low + 4 * i)) → xs ≡ executions_in z ran
+counts_of_all z ran xs long each = fill_by_all (λ i. executions_at ran (z.low + 4 * i)) xs (instructions_of z) 0 long each
+
+length-counts : (z : Sizes) (ran : List ℕ) → length (executions_in z ran) ≡ instructions_of z
+length-counts z ran = length-map-range_with_len (λ i. executions_at ran (z.low + 4 * i)) 0 (instructions_of z)
+
+-- the test of a count, as the definition has it
+abbrev is_counted : ℕ → ℕ → ℕ → Bool
+is_counted low pc n = leb low pc && eqb ((pc - low) % 4) 0 && ltb ((pc - low) / 4) n
+
+record HasCount (low pc n : ℕ) : Type 0 where
+  pub below : (pc - low) / 4 < n
+  pub place : pc ≡ low + 4 * ((pc - low) / 4)
+
+has_count : (low pc n : ℕ) → is_counted low pc n ≡ true → HasCount low pc n
+has_count low pc n is =
+    let outer = and_parts (leb low pc && eqb ((pc - low) % 4) 0) (ltb ((pc - low) / 4) n) is in
+    let inner = and_parts (leb low pc) (eqb ((pc - low) % 4) 0) outer.0 in
+    let order = leb-true low pc inner.0 in
+    let whole = eqb-true ((pc - low) % 4) 0 inner.1 in
+    record { below = ltb-true ((pc - low) / 4) n outer.1; place = omega arith }
+
+no_count : (low pc n i : ℕ) → is_counted low pc n ≡ false → i < n → pc ≡ low + 4 * i → ⊥
+no_count low pc n i is below same =
+    let yes_it : is_counted low pc n ≡ true =
+    and_from (leb low pc && eqb ((pc - low) % 4) 0) (ltb ((pc - low) / 4) n)
+    (and_from (leb low pc) (eqb ((pc - low) % 4) 0) (le-leb low pc (omega arith)) (eq-eqb ((pc - low) % 4) 0 (omega arith)))
+    (lt-ltb ((pc - low) / 4) n (omega arith)) in
+    cc
+
+by_count : (z : Sizes) (ran : List ℕ) (pc : ℕ) (b : Bool) → is_counted z.low pc (instructions_of z) ≡ b
+    → (let xs = executions_in z ran in if b then set xs ((pc - z.low) / 4) (get_or xs ((pc - z.low) / 4) 0 + 1) else xs) ≡ executions_in z (ran ++ pc ∷ [])
+by_count z ran pc true is =
+    let xs = executions_in z ran in
+    let k : ℕ = (pc - z.low) / 4 in
+    let has = has_count z.low pc (instructions_of z) is in
+    let v : ℕ = get_or xs k 0 + 1 in
+    let long = length-counts z ran in
+    counts_of_all z (ran ++ pc ∷ []) (set xs k v) (length-set xs k v ∙ long) (λ i lt.
+    elim (cases_eq i k) [
+      | inl e ↦ ap (λ (j : ℕ). get_or (set xs k v) j 0) e ∙ get_or-set_same xs k v 0 (omega (arith, has.below, long))
+          ∙ ap (λ (n : ℕ). n + 1) (count_at z ran k 0 has.below) ∙ sym (at_own ran pc (z.low + 4 * k) has.place)
+          ∙ ap (λ (j : ℕ). executions_at (ran ++ pc ∷ []) (z.low + 4 * j)) (sym e)
+      | inr ne ↦ get_or-set_other xs k i v 0 ne ∙ count_at z ran i 0 lt
+          ∙ sym (at_other ran pc (z.low + 4 * i) (λ same. ne (omega (arith, has.place, same))))
+    ])
+by_count z ran pc false is =
+    let xs = executions_in z ran in
+    counts_of_all z (ran ++ pc ∷ []) xs (length-counts z ran) (λ i lt.
+    count_at z ran i 0 lt ∙ sym (at_other ran pc (z.low + 4 * i) (no_count z.low pc (instructions_of z) i is lt)))
+
+none_counted : (low pc : ℕ) (b : Bool) → (if b then set [] ((pc - low) / 4) (get_or [] ((pc - low) / 4) 0 + 1) else []) ≡ []
+none_counted low pc true = refl
+none_counted low pc false = refl
+
+by_asked : (z : Sizes) (ran : List ℕ) (pc : ℕ) (asked : Bool) → with_execution z.low pc (if asked then executions_in z ran else []) ≡ (if asked then executions_in z (ran ++ pc ∷ []) else [])
+by_asked z ran pc true =
+    let xs = executions_in z ran in
+    ap (λ (n : ℕ). if is_counted z.low pc n then set xs ((pc - z.low) / 4) (get_or xs ((pc - z.low) / 4) 0 + 1) else xs) (length-counts z ran)
+    ∙ by_count z ran pc (is_counted z.low pc (instructions_of z)) refl
+by_asked z ran pc false = none_counted z.low pc (is_counted z.low pc 0)
+
+-- one more instruction has retired
+pub exec_counts_of-push : (m : Machine) (ran counts : List ℕ) (pc : ℕ) → counts ≡ exec_counts_of m ran → with_execution m.sizes.low pc counts ≡ exec_counts_of m (ran ++ pc ∷ [])
+unfolding exec_counts_of
+exec_counts_of-push m ran counts pc is =
+    ap (with_execution m.sizes.low pc) is ∙ by_asked m.sizes ran pc m.setup.blocks
+
+-- none has
+zeros_by : (z : Sizes) (asked : Bool) → (if asked then replicate (instructions_of z) 0 else []) ≡ (if asked then executions_in z [] else [])
+zeros_by z true = counts_of_all z [] (replicate (instructions_of z) 0) (length-replicate (instructions_of z) 0) (λ i lt. get_or-replicate (instructions_of z) i 0 0 lt)
+zeros_by z false = refl
+
+pub exec_counts_of-nil : (m : Machine) (z : Sizes) (asked : Bool) → m.sizes ≡ z → m.setup.blocks ≡ asked → (if asked then replicate (instructions_of z) 0 else []) ≡ exec_counts_of m []
+unfolding exec_counts_of
+exec_counts_of-nil m z asked sizes blocks =
+    zeros_by z asked ∙ ap (λ (b : Bool). if b then executions_in z [] else []) (sym blocks) ∙ ap (λ (y : Sizes). if m.setup.blocks then executions_in y [] else []) (sym sizes)
+
+-- ---- no count is above the number of instructions
+
+bound_by : (low pc n : ℕ) (xs : List ℕ) (b : Bool) → All (λ x. x ≤ n) xs → All (λ x. x ≤ n + 1) (if b then set xs ((pc - low) / 4) (get_or xs ((pc - low) / 4) 0 + 1) else xs)
+bound_by low pc n xs true all = λ k d inside.
+    let i : ℕ = (pc - low) / 4 in
+    let v : ℕ = get_or xs i 0 + 1 in
+    let within : k < length xs = omega (arith, length-set xs i v, inside) in
+    elim (cases_eq k i) [
+      | inl e ↦
+          let here : i < length xs = omega arith in
+          let same : get_or (set xs i v) k d ≡ v = ap (λ (j : ℕ). get_or (set xs i v) j d) e ∙ get_or-set_same xs i v d here in
+          omega (arith, same, all i 0 here)
+      | inr ne ↦ omega (arith, get_or-set_other xs i k v d ne, all k d within)
+    ]
+bound_by low pc n xs false all = λ k d inside. omega (arith, all k d inside)
+
+pub counts_bound : (low pc n : ℕ) (xs : List ℕ) → All (λ x. x ≤ n) xs → All (λ x. x ≤ n + 1) (with_execution low pc xs)
+counts_bound low pc n xs all = bound_by low pc n xs (is_counted low pc (length xs)) all
+
+pub zeros_bound : (n count : ℕ) (asked : Bool) → All (λ x. x ≤ n) (if asked then replicate count 0 else [])
+zeros_bound n count true = λ k d inside. omega (arith, get_or-replicate count k 0 d (omega (arith, length-replicate {A = ℕ} count 0, inside)))
+zeros_bound n count false = λ k d inside. absurd (omega (arith, inside))
