@@ -1,6 +1,6 @@
 -- The profile of a run: that it is small enough, and that it is what the run's file gives.
-use Rattle.std.proofs.Common.{◌≡◌, ℕ, ◌+◌, ◌*◌, ◌^◌, ◌<◌, ◌≤◌, Bool, true, false, nat_eq, List, [], ◌∷◌, ◌++◌, length, map, sum, unwrap_or, Some, refl, sym, ap, subst, ◌∙◌, if◌then◌else◌, arith}
-use Rattle.std.specs.List.{All, flat_map, sum_by}
+use Rattle.std.proofs.Common.{◌≡◌, ℕ, ◌+◌, ◌*◌, ◌^◌, ◌<◌, ◌≤◌, Bool, true, false, List, [], ◌∷◌, ◌++◌, length, map, sum, unwrap_or, Some, refl, sym, ap, subst, ◌∙◌, if◌then◌else◌, arith}
+use Rattle.std.specs.List.{All, flat_map}
 use Rattle.std.proofs.lemmas.List.Elements.{All-head, All-tail}
 use Rattle.std.proofs.lemmas.List.Sums.{sum_by-cons}
 use Rattle.gp_base.specs.declared.records.RawArc.{RawArc}
@@ -13,14 +13,13 @@ use Rattle.gmon_data.specs.Content.{Content, WideRec, WideHist, IsWithin, conten
 use Rattle.gmon_data.proofs.BoundLemmas.{counters_at_most, tally_at_most}
 use Rattle.gmon_data.proofs.HistLemmas.{samples-put}
 use Rattle.gmon_data.proofs.TallyLemmas.{sum-tally}
-use Rattle.mcount_arcs.specs.declared.sizes.Sizes.{Sizes}
 use Rattle.mcount_arcs.specs.Arcs.{CallFits, arcs_of}
 use Rattle.mcount_arcs.specs.Log.{LogEntry}
 use Rattle.mcount_arcs.specs.Samples.{buckets_of}
 use Rattle.mcount_arcs.specs.Sizes.{AreSizes}
 use Rattle.mcount_arcs.specs.Value.{GmonValue, StandsFor}
 use Rattle.gmon_bsd.specs.Fields.{seconds}
-use Rattle.gmon_bsd.specs.Profile.{IsOfRun, run_profile, runtime_hist, runtime_records, wide_arc}
+use Rattle.gmon_bsd.specs.Profile.{IsOfRun, run_profile, runtime_records, wide_arc}
 use Rattle.gmon_bsd.proofs.RunReadBack.{run_read_back}
 
 pub counters_sum : (counters : List ℕ) → All (λ n. n < 2 ^ 16) counters → sum counters ≤ length counters * 65536

@@ -9,6 +9,7 @@ use Rattle.mcount_arcs.specs.Log.{LogEntry, Pair, kept_calls}
 use Rattle.mcount_arcs.specs.Samples.{buckets_of, bucket_of}
 use Rattle.mcount_arcs.specs.Sizes.{AreSizes, site_of}
 use Rattle.mcount_arcs.proofs.BucketLemmas.{length-buckets_of}
+use Rattle.mcount_arcs.proofs.SizeLemmas.{sites_in_order, some_text}
 use Rattle.gmon_bsd.specs.Fields.{ArcFits, CounterFits}
 use Rattle.gmon_bsd.specs.Run.{run_text, spare_words, RunsAreSpelled, RunsAreReadBack}
 use Rattle.gmon_bsd.proofs.SpellingLemmas.{accepted_where_spelled, only_where_spelled}
@@ -26,12 +27,12 @@ slots_fit : (z : Sizes) (pairs : List Pair) (a n : ℕ) → site_of z (a + n) < 
 slots_fit z pairs a zero fits = All-nil SiteFits
 slots_fit z pairs a (suc n) fits =
     All-append SiteFits (slot_arcs z pairs a) (flat_map (slot_arcs z pairs) (range_with_len (a + 1) n))
-    (All-map SiteFits (arc_in z pairs a) (chain_in pairs a) (λ k d lt. omega arith))
-    (slots_fit z pairs (a + 1) n (omega arith))
+    (All-map SiteFits (arc_in z pairs a) (chain_in pairs a) (λ k d lt. omega (arith, fits, sites_in_order z a (a + suc n) (omega arith))))
+    (slots_fit z pairs (a + 1) n (omega (arith, fits, sites_in_order z (a + 1 + n) (a + suc n) (omega arith))))
 
 sites_fit : (z : Sizes) (log : List LogEntry) → AreSizes z → All SiteFits (arcs_of z log)
 unfolding arcs_of
-sites_fit z log sizes = slots_fit z (kept_calls z log) 0 z.slots (omega (arith, sizes.spans, sizes.slots, sizes.end))
+sites_fit z log sizes = slots_fit z (kept_calls z log) 0 z.slots (omega (arith, sizes.slots, sizes.end, sites_in_order z (0 + z.slots) z.slots (omega arith)))
 
 arcs_fit : (arcs : List RawArc) → All SiteFits arcs → All CallFits arcs → All ArcFits arcs
 arcs_fit arcs sites calls k d lt =
@@ -49,11 +50,11 @@ run_spelled z log rate sizes rate_fits calls = record {
   form = refl;
   records = refl;
   text = refl;
-  range = λ some. omega (arith, sizes.spans, sizes.some);
-  low_fits = omega (arith, sizes.spans, sizes.end);
+  range = λ some. some_text z sizes;
+  low_fits = omega (arith, some_text z sizes, sizes.end);
   high_fits = omega (arith, sizes.end);
   rate_fits = rate_fits;
-  size_fits = omega (arith, length-buckets_of z log, sizes.size);
+  size_fits = omega (arith, length-buckets_of z log, sizes.few_counters);
   spare_fits = refl;
   counters_fit = recursion_from_All CounterFits (buckets_of z log) (counters_fit z log);
   arcs_fit = recursion_from_All ArcFits (arcs_of z log) (arcs_fit (arcs_of z log) (sites_fit z log sizes) calls);

@@ -1,5 +1,5 @@
 -- The profile that the file of a run gives.
-use Rattle.std.specs.Prelude.{◌≡◌, ℕ, ◌+◌, ◌*◌, ◌^◌, ◌≤◌, List, ◌∷◌, length, map}
+use Rattle.std.specs.Prelude.{◌≡◌, ℕ, ◌*◌, ◌^◌, ◌≤◌, List, ◌∷◌, length, map}
 use Rattle.std.specs.List.{sum_by}
 use Rattle.gp_base.specs.declared.records.RawArc.{RawArc}
 use Rattle.gmon_data.specs.declared.hist.Hist as hists

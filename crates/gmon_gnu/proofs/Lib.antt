@@ -7,6 +7,7 @@ pub mod FaultLemmas
 pub mod MeaningLemmas
 pub mod RunTextLemmas
 pub mod RunReadBack
+pub mod BlockTextLemmas
 pub mod PieceLemmas
 pub mod ProfileTextLemmas
 pub mod SplitLemmas

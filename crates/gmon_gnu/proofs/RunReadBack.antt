@@ -10,6 +10,7 @@ use Rattle.mcount_arcs.specs.Log.{LogEntry, Pair, kept_calls}
 use Rattle.mcount_arcs.specs.Samples.{buckets_of, bucket_of}
 use Rattle.mcount_arcs.specs.Sizes.{AreSizes, site_of}
 use Rattle.mcount_arcs.proofs.BucketLemmas.{length-buckets_of}
+use Rattle.mcount_arcs.proofs.SizeLemmas.{sites_in_order, some_text}
 use Rattle.gmon_gnu.specs.Fields.{magic, spare_bytes, ArcFits, CounterFits}
 use Rattle.gmon_gnu.specs.Grammar.{RecFits}
 use Rattle.gmon_gnu.specs.Run.{run_text, RunsAreSpelled, RunsAreReadBack}
@@ -28,12 +29,12 @@ slots_fit : (z : Sizes) (pairs : List Pair) (a n : ℕ) → site_of z (a + n) < 
 slots_fit z pairs a zero fits = All-nil SiteFits
 slots_fit z pairs a (suc n) fits =
     All-append SiteFits (slot_arcs z pairs a) (flat_map (slot_arcs z pairs) (range_with_len (a + 1) n))
-    (All-map SiteFits (arc_in z pairs a) (chain_in pairs a) (λ k d lt. omega arith))
-    (slots_fit z pairs (a + 1) n (omega arith))
+    (All-map SiteFits (arc_in z pairs a) (chain_in pairs a) (λ k d lt. omega (arith, fits, sites_in_order z a (a + suc n) (omega arith))))
+    (slots_fit z pairs (a + 1) n (omega (arith, fits, sites_in_order z (a + 1 + n) (a + suc n) (omega arith))))
 
 sites_fit : (z : Sizes) (log : List LogEntry) → AreSizes z → All SiteFits (arcs_of z log)
 unfolding arcs_of
-sites_fit z log sizes = slots_fit z (kept_calls z log) 0 z.slots (omega (arith, sizes.spans, sizes.slots, sizes.end))
+sites_fit z log sizes = slots_fit z (kept_calls z log) 0 z.slots (omega (arith, sizes.slots, sizes.end, sites_in_order z (0 + z.slots) z.slots (omega arith)))
 
 arcs_fit : (arcs : List RawArc) → All SiteFits arcs → All CallFits arcs → All ArcFits arcs
 arcs_fit arcs sites calls k d lt =
@@ -54,13 +55,13 @@ run_spelled z log rate sizes rate_fits calls = record {
   spare_fits = refl;
   recs_fit = (
     record {
-      low = omega (arith, sizes.spans, sizes.end);
+      low = omega (arith, some_text z sizes, sizes.end);
       high = omega (arith, sizes.end);
-      number = omega (arith, length-buckets_of z log, sizes.size);
+      number = omega (arith, length-buckets_of z log, sizes.few_counters);
       rate = rate_fits;
       dim = refl;
       counters = recursion_from_All CounterFits (buckets_of z log) (counters_fit z log);
-      range = λ some. omega (arith, sizes.spans, sizes.some);
+      range = λ some. some_text z sizes;
     },
     recs_fit (arcs_of z log) (recursion_from_All ArcFits (arcs_of z log) (arcs_fit (arcs_of z log) (sites_fit z log sizes) calls)),
   );

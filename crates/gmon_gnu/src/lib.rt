@@ -5,12 +5,14 @@
 //! little-endian machine of 32 bits.
 #![tactic(auto)]
 
+pub mod block_writing;
 pub mod laws;
 pub mod profile_writing;
 pub mod reading;
 mod splitting;
 pub mod writing;
 
+pub use block_writing::write_blocks;
 pub use gp_base::GmonRefusal;
 pub use profile_writing::write;
 pub use reading::read;

@@ -24,7 +24,7 @@ const HEADER: [u8; 20] = *b"gmon\x01\0\0\0\0\0\0\0\0\0\0\0\0\0\0\0";
 const HIST_TAG: u8 = 0;
 
 /// The tag of counts of basic blocks.
-const BLOCKS_TAG: u8 = 2;
+pub(crate) const BLOCKS_TAG: u8 = 2;
 
 /// Writes a profile to the file that is being written: the header, its histograms, its arcs and its block
 /// counts, each in the profile's order. A counter above 65,535 is split over histograms of the same range,

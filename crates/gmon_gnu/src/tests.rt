@@ -244,6 +244,8 @@ fn small_run(alloc: Global) -> Result<Gmon, AllocError> {
             low: 0x1_0000,
             high: 0x1_0010,
         },
+        2,
+        2,
     )?;
     gmon.tick(0x1_0000);
     gmon.tick(0x1_0004);
@@ -304,6 +306,29 @@ fn a_failed_call_leaves_a_part_that_is_not_the_whole(rt: HostRuntime) -> Result<
         }
     }
     assert!(rt; failures > 0, "some call fails");
+    Ok(())
+}
+
+/// The record of 1, 0, 258 and 0 executions from 0x10000 on: the addresses that have some.
+const EXECUTED: [u8; 21] = [
+    2, 2, 0, 0, 0, // two pairs
+    0, 0, 1, 0, 1, 0, 0, 0, //
+    8, 0, 1, 0, 2, 1, 0, 0,
+];
+
+#[test]
+fn executed_instructions_are_written_to_the_byte(rt: HostRuntime) -> Result<(), Fail> {
+    let mut host = MemHost::new(rt.alloc());
+    host.create_output("blocks").map_err(|_| "create")?;
+    write_blocks(0x1_0000, &[1, 0, 258, 0], &mut host).map_err(|_| "write")?;
+    assert_eq!(rt; host.file("blocks"), Some(EXECUTED.as_slice()));
+    write_blocks(0x1_0000, &[0, 0], &mut host).map_err(|_| "write")?;
+    write_blocks(0xFFFF_FFFC, &[], &mut host).map_err(|_| "write")?;
+    assert_eq!(rt;
+        host.file("blocks"),
+        Some(EXECUTED.as_slice()),
+        "no record of none"
+    );
     Ok(())
 }
 

@@ -1,12 +1,11 @@
-use Rattle.std.proofs.Common.{◌≡◌, ◌<◌, ◌≤◌, ◌^◌, ◌+◌, ℕ, List, [], ◌∷◌, ◌++◌, append-nil, map, length, append_assoc, refl, sym, ap, subst, ◌∙◌, arith, length-append}
+use Rattle.std.proofs.Common.{◌≡◌, ◌<◌, ◌^◌, ◌+◌, ℕ, List, [], ◌∷◌, ◌++◌, append-nil, map, length, append_assoc, sym, ap, subst, ◌∙◌, arith, length-append}
 use Rattle.std.specs.List.{All}
 use Rattle.std.proofs.lemmas.List.{map_push, length_push}
 use Rattle.gp_base.specs.declared.records.RawArc.{RawArc}
-use Rattle.gmon_data.specs.Content.{Content, WideRec, WideHist, WideArc, content_of, with_arc}
+use Rattle.gmon_data.specs.Content.{WideRec, WideHist, WideArc, content_of}
 use Rattle.gmon_bsd.specs.Fields.{seconds}
-use Rattle.gmon_bsd.specs.Profile.{IsOfRun, runtime_hist, runtime_records, wide_arc}
+use Rattle.gmon_bsd.specs.Profile.{IsOfRun, runtime_hist, wide_arc}
 use Rattle.mcount_arcs.specs.Arcs.{CallFits}
-use Rattle.mcount_arcs.specs.Sizes.{AreSizes}
 use Rattle.gmon_bsd.proofs.ProfileLemmas.{one_arc, within_bounds, of_its_file, arc_fits}
 use Rattle.gmon_bsd.proofs.profile.run_profile.Goals as goal
 
