@@ -90,7 +90,7 @@ module _ (contents : ℕ → List ℕ) where
   run_done : (acts : RunActs) (setup : Setup) (next : Sizes → World → Course) (bytes : List ℕ) (image : Image) → ((z : Sizes) (w : World) → IsDone (next z w))
       → IsDone (run_program acts setup next bytes image) ↔ (start_refusal image setup ≡ None)
   run_done acts setup next bytes image ends =
-      let z = sizes_of image.text in
+      let z = sizes_of image.text setup.hist setup.hash in
       let w = final_world image bytes setup in
       let judged = unless_done start_fault_of (start_refusal image setup) (Does (acts z w) (next z w)) in
       ((λ h. (judged.0 h).0), (λ h. judged.1 (h, ends z w)))
@@ -283,7 +283,7 @@ module _ (contents : ℕ → List ℕ) where
   idle_by words (Some (Run elf gmon form image setup)) at_once =
       let acts = run_acts (files_named words gmon form image) setup.rate in
       idle_program elf (run_program acts setup told) (λ bytes program.
-      let z = sizes_of program.text in
+      let z = sizes_of program.text setup.hist setup.hash in
       let w = final_world program bytes setup in
       idle_unless start_fault_of (start_refusal program setup) (Does (acts z w) (told z w)) (idle_does (acts z w) (record { run = summary_of z w })))
   idle_by words (Some (Profile elf gmon form image setup shown)) at_once = absurd cc

@@ -116,26 +116,26 @@ module _ (words : List (List ℕ)) (contents : ℕ → List ℕ) (elf gmon : ℕ
   files = files_named words gmon form image
 
   abbrev profile_in_file : Content
-  profile_in_file = written_profile form (text_sizes bytes) (world_of bytes setup).log setup.rate
+  profile_in_file = written_profile form (text_sizes bytes setup) (world_of bytes setup).log setup.rate
 
   -- how the answer goes on behind the run
   abbrev last_course : Course
-  last_course = report_run form setup.rate shown (image_of bytes) (text_sizes bytes) (world_of bytes setup)
+  last_course = report_run form setup.rate shown (image_of bytes) (text_sizes bytes setup) (world_of bytes setup)
 
-  profile_reply : IsProgramFile bytes → Starts bytes setup → reply_to contents (profile_course elf files setup shown) ≡ behind (run_acts files setup.rate (text_sizes bytes) (world_of bytes setup)) (reply_to contents last_course)
+  profile_reply : IsProgramFile bytes → Starts bytes setup → reply_to contents (profile_course elf files setup shown) ≡ behind (run_acts files setup.rate (text_sizes bytes setup) (world_of bytes setup)) (reply_to contents last_course)
   profile_reply is starts =
       let acts = run_acts files setup.rate in
       program_reply contents elf (λ b i. run_program acts setup (report_run form setup.rate shown i) b i) is
-      ∙ unless_reply contents start_fault_of (start_refusal (image_of bytes) setup) (Does (acts (text_sizes bytes) (world_of bytes setup)) last_course) starts
+      ∙ unless_reply contents start_fault_of (start_refusal (image_of bytes) setup) (Does (acts (text_sizes bytes setup) (world_of bytes setup)) last_course) starts
 
   -- of these acts, the file that is left
   profile_file_holds : (line : List ℕ) (d : Disk) → IsApart words gmon image
-      → content_of (name_of words gmon) (disk_after ((run_acts files setup.rate (text_sizes bytes) (world_of bytes setup) ++ (reply_to contents last_course).acts) ++ Complain line ∷ []) d).files ≡ gmon_text form bytes setup
+      → content_of (name_of words gmon) (disk_after ((run_acts files setup.rate (text_sizes bytes setup) (world_of bytes setup) ++ (reply_to contents last_course).acts) ++ Complain line ∷ []) d).files ≡ gmon_text form bytes setup
   profile_file_holds line d apart =
       let prints = (world_of bytes setup).prints in
       let text = gmon_text form bytes setup in
       let one = file_acts (name_of words gmon) text in
-      let memory = layout_of (block_image (text_sizes bytes) (world_of bytes setup).log) in
+      let memory = layout_of (block_image (text_sizes bytes setup) (world_of bytes setup).log) in
       let two = given_file_acts (option_map (name_of words) image) memory in
       let reports = (reply_to contents last_course).acts in
       let last = reports ++ Complain line ∷ [] in
@@ -152,12 +152,12 @@ module _ (words : List (List ℕ)) (contents : ℕ → List ℕ) (elf gmon : ℕ
 
   -- and what is printed
   profile_prints : (line : List ℕ)
-      → prints_of ((run_acts files setup.rate (text_sizes bytes) (world_of bytes setup) ++ (reply_to contents last_course).acts) ++ Complain line ∷ [])
+      → prints_of ((run_acts files setup.rate (text_sizes bytes setup) (world_of bytes setup) ++ (reply_to contents last_course).acts) ++ Complain line ∷ [])
       ≡ prints_of (world_of bytes setup).prints ++ reports_of shown (reported form bytes setup)
   profile_prints line =
       let prints = (world_of bytes setup).prints in
       let one = file_acts (name_of words gmon) (gmon_text form bytes setup) in
-      let memory = layout_of (block_image (text_sizes bytes) (world_of bytes setup).log) in
+      let memory = layout_of (block_image (text_sizes bytes setup) (world_of bytes setup).log) in
       let two = given_file_acts (option_map (name_of words) image) memory in
       let reports = (reply_to contents last_course).acts in
       let last = reports ++ Complain line ∷ [] in
@@ -181,7 +181,7 @@ headline words old new done elf gmon form image setup shown answered said apart 
     let reply = ap (reply_to contents) course ∙ profile_reply words contents elf gmon form image setup shown taken.0 taken.1 in
     let due = owes.1 ∙ ap (λ (r : Reply). r.acts) reply in
     let did = subst (λ (acts : List Act). Did (acts ++ Complain answered.line ∷ []) old new) due answered.did in
-    let total = written_profile form (text_sizes program) (world_of program setup).log setup.rate in
+    let total = written_profile form (text_sizes program setup) (world_of program setup).log setup.rate in
     record {
       program = program;
       told = told_word old new words contents elf answered.owed.told;

@@ -30,7 +30,7 @@ no_start words old new below done due acts next starts.OutOfMemory s is =
     no_memory words old new below done (unless start_fault_of due (Does acts next)) s (λ contents. may_stop_unless start_fault_of due (Does acts next) contents (inl refl))
 no_start words old new below done due acts next refusal s is = refuses words old new below done start_fault_of due (Does acts next) refusal s is tt
 
-machine_sizes : (image : Image) (setup : Setup) → (machine_of image setup).sizes ≡ sizes_of image.text
+machine_sizes : (image : Image) (setup : Setup) → (machine_of image setup).sizes ≡ sizes_of image.text setup.hist setup.hash
 unfolding machine_of
 machine_sizes image setup = refl
 
@@ -55,7 +55,7 @@ module _ (image : Image) (bytes : List ℕ) (setup : Setup) (given : List ℕ) (
       ap (λ (m : Machine). driven m (start_of image given used)) machine_is
       ∙ ap (λ (x : List ℕ). driven (machine_of image setup) (start_of image x used)) s.given_is ∙ ap (λ (x : Setup). driven (machine_of image setup) (start_of image bytes x)) s.used_is
 
-  sizes_are : v.machine.sizes ≡ sizes_of image.text
+  sizes_are : v.machine.sizes ≡ sizes_of image.text setup.hist setup.hash
   sizes_are = ap (λ (m : Machine). m.sizes) machine_is ∙ machine_sizes image setup
 
   starts_is : start_refusal image setup ≡ None
@@ -64,10 +64,10 @@ module _ (image : Image) (bytes : List ℕ) (setup : Setup) (given : List ℕ) (
   -- what was done is what is due
   pub performs_due : {T E : Type 0} (acts : RunActs) (x y : Outside) (r : Result T E)
       → ((w : World) → StandsFor w v → w.prints ≡ [] → Performs (acts v.machine.sizes (driven v.machine w)) x y r)
-      → Performs (acts (sizes_of image.text) (final_world image bytes setup)) x y r
+      → Performs (acts (sizes_of image.text setup.hist setup.hash) (final_world image bytes setup)) x y r
   performs_due acts x y r performs =
       subst (λ (acts : List Act). Performs acts x y r)
-      (ap (λ (z : Sizes). acts z (driven v.machine (start_of image given used))) sizes_are ∙ ap (acts (sizes_of image.text)) last_is)
+      (ap (λ (z : Sizes). acts z (driven v.machine (start_of image given used))) sizes_are ∙ ap (acts (sizes_of image.text setup.hist setup.hash)) last_is)
       (performs (start_of image given used) s.stands (first_prints_none image given used))
 
   -- it stands for the world in which it ends
@@ -80,12 +80,12 @@ module _ (image : Image) (bytes : List ℕ) (setup : Setup) (given : List ℕ) (
 
 -- it was driven and its acts done
 pub run_done : {E : Type 0} (words : List (List ℕ)) (old mid new : Outside) (below : ℕ) (done : List Act) (acts : RunActs) (next : Sizes → World → Course) (image : Image) (bytes : List ℕ) (setup : Setup) (given : List ℕ) (used : Setup) (v : RunValue)
-    → (Performs {T = Unit {0}} {E = E} (acts (sizes_of image.text) (final_world image bytes setup)) mid new (Ok tt) → mid.is_writing ≡ false → writes_after (acts (sizes_of image.text) (final_world image bytes setup)) false ≡ false)
+    → (Performs {T = Unit {0}} {E = E} (acts (sizes_of image.text setup.hist setup.hash) (final_world image bytes setup)) mid new (Ok tt) → mid.is_writing ≡ false → writes_after (acts (sizes_of image.text setup.hist setup.hash) (final_world image bytes setup)) false ≡ false)
     → Stands words old mid below done (run_program acts setup next bytes image) → Started image bytes setup given used v
     → ((w : World) → StandsFor w v → w.prints ≡ [] → Performs {T = Unit {0}} {E = E} (acts v.machine.sizes (driven v.machine w)) mid new (Ok tt))
-    → (all : List Act) × Stands words old new below all (next (sizes_of image.text) (final_world image bytes setup))
+    → (all : List Act) × Stands words old new below all (next (sizes_of image.text setup.hist setup.hash) (final_world image bytes setup))
 run_done {E} words old mid new below done acts next image bytes setup given used v shut s started performs =
-    let z = sizes_of image.text in
+    let z = sizes_of image.text setup.hist setup.hash in
     let w = final_world image bytes setup in
     let p = performs_due image bytes setup given used v started {T = Unit {0}} {E = E} acts mid new (Ok tt) performs in (
       done ++ acts z w,
@@ -100,7 +100,7 @@ pub run_failed : {E : Type 0} (words : List (List ℕ)) (old mid new : Outside) 
     → ((w : World) → StandsFor w v → w.prints ≡ [] → Performs {T = Unit {0}} (acts v.machine.sizes (driven v.machine w)) mid new (Err e))
     → Acted words old new (Err WriteFault)
 run_failed {E} words old mid new below done acts next image bytes setup given used v e s started performs =
-    let z = sizes_of image.text in
+    let z = sizes_of image.text setup.hist setup.hash in
     let w = final_world image bytes setup in
     fails {T = Unit {0}} words old mid new below done (acts z w) (next z w) e
     (goes_on words old mid below done start_fault_of (start_refusal image setup) (Does (acts z w) (next z w)) s (starts_is image bytes setup given used v started))
@@ -108,13 +108,13 @@ run_failed {E} words old mid new below done acts next image bytes setup given us
 
 -- how a run went is what is to be told
 pub summary_is : (image : Image) (bytes : List ℕ) (setup : Setup) (v : RunValue) (summary : RunSummary) → IsRunOf image bytes setup v → ((w : World) → StandsFor w v → summary_of v.machine.sizes w ≡ Some summary)
-    → summary_of (sizes_of image.text) (final_world image bytes setup) ≡ Some summary
+    → summary_of (sizes_of image.text setup.hist setup.hash) (final_world image bytes setup) ≡ Some summary
 summary_is image bytes setup v summary is told =
     ap (λ (z : Sizes). summary_of z (final_world image bytes setup)) (sym is.sizes) ∙ told (final_world image bytes setup) is.stands
 
 -- it is told
 pub run_told : (words : List (List ℕ)) (old new : Outside) (below : ℕ) (done : List Act) (image : Image) (bytes : List ℕ) (setup : Setup) (v : RunValue) (summary : RunSummary) → IsRunOf image bytes setup v
-    → ((w : World) → StandsFor w v → summary_of v.machine.sizes w ≡ Some summary) → Stands words old new below done (told (sizes_of image.text) (final_world image bytes setup)) → Acted words old new (Ok (record { run = Some summary }))
+    → ((w : World) → StandsFor w v → summary_of v.machine.sizes w ≡ Some summary) → Stands words old new below done (told (sizes_of image.text setup.hist setup.hash) (final_world image bytes setup)) → Acted words old new (Ok (record { run = Some summary }))
 run_told words old new below done image bytes setup v summary is tells s =
     ends words old new below done (Ok (record { run = Some summary }))
     (subst (λ (r : Option RunSummary). Stands words old new below done (Ends (Ok (record { run = r })))) (summary_is image bytes setup v summary is tells) s) tt

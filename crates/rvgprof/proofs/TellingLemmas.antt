@@ -80,15 +80,15 @@ module _ (contents : ℕ → List ℕ) (some : Bool) where
   tells_reports shows.Graph image total next tells = tells
   tells_reports shows.Both image total next tells = tells
 
-  tells_run : (acts : RunActs) (setup : Setup) (next : Sizes → World → Course) (bytes : List ℕ) (image : Image) → Tells (next (sizes_of image.text) (final_world image bytes setup)) → Tells (run_program acts setup next bytes image)
-  tells_run acts setup next bytes image tells = tells_unless start_fault_of (start_refusal image setup) (Does (acts (sizes_of image.text) (final_world image bytes setup)) (next (sizes_of image.text) (final_world image bytes setup))) tells
+  tells_run : (acts : RunActs) (setup : Setup) (next : Sizes → World → Course) (bytes : List ℕ) (image : Image) → Tells (next (sizes_of image.text setup.hist setup.hash) (final_world image bytes setup)) → Tells (run_program acts setup next bytes image)
+  tells_run acts setup next bytes image tells = tells_unless start_fault_of (start_refusal image setup) (Does (acts (sizes_of image.text setup.hist setup.hash) (final_world image bytes setup)) (next (sizes_of image.text setup.hist setup.hash) (final_world image bytes setup))) tells
 
 -- a run that ended has a summary
 told_of : {A : Type 0} (f : End → A) (ending : Option End) → IsSome ending → is_some (option_map f ending) ≡ true
 told_of f None h = absurd cc
 told_of f (Some end) h = refl
 
-summed_up : (contents : ℕ → List ℕ) (image : Image) (bytes : List ℕ) (setup : Setup) → IsSetup setup → Tells contents true (told (sizes_of image.text) (final_world image bytes setup))
+summed_up : (contents : ℕ → List ℕ) (image : Image) (bytes : List ℕ) (setup : Setup) → IsSetup setup → Tells contents true (told (sizes_of image.text setup.hist setup.hash) (final_world image bytes setup))
 summed_up contents image bytes setup is = tells_end contents true _ (told_of _ (final_world image bytes setup).ending (plan_ends image bytes setup is.some_every is.some_budget))
 
 -- where nothing is told of a run, none was started
@@ -106,7 +106,7 @@ tells_by words contents (Profile elf gmon form image setup shown) within =
     let acts = run_acts (files_named words gmon form image) setup.rate in
     let next : Image → Sizes → World → Course = report_run form setup.rate shown in
     tells_program contents true elf (λ b i. run_program acts setup (next i) b i) (λ bytes program.
-    let z = sizes_of program.text in
+    let z = sizes_of program.text setup.hist setup.hash in
     let w = final_world program bytes setup in
     tells_run contents true acts setup (next program) bytes program (tells_reports contents true shown program (written_profile form z w.log setup.rate) (told z w) (summed_up contents program bytes setup within)))
 tells_by words contents (Demo functions elf setup) within =

@@ -28,16 +28,16 @@ use Rattle.rvgprof.specs.Acceptance.{IsProgramFile, Starts}
 abbrev pub world_of : List ℕ → Setup → World
 world_of program setup = final_world (image_of program) program setup
 
-abbrev pub text_sizes : List ℕ → Sizes
-text_sizes program = sizes_of (image_of program).text
+abbrev pub text_sizes : List ℕ → Setup → Sizes
+text_sizes program setup = sizes_of (image_of program).text setup.hist setup.hash
 
 -- the gmon.out file of that run, in a form
 abbrev pub gmon_text : Form → List ℕ → Setup → List ℕ
-gmon_text form program setup = run_text form (text_sizes program) (world_of program setup).log setup.rate
+gmon_text form program setup = run_text form (text_sizes program setup) (world_of program setup).log setup.rate
 
 -- what is reported: what that file says
 abbrev pub reported : Form → List ℕ → Setup → Sources
-reported form program setup = sources_of (image_of program) (written_profile form (text_sizes program) (world_of program setup).log setup.rate)
+reported form program setup = sources_of (image_of program) (written_profile form (text_sizes program setup) (world_of program setup).log setup.rate)
 
 -- the reports that are asked for
 abbrev pub reports_of : Shown → Sources → List ℕ

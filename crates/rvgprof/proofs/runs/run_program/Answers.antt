@@ -23,7 +23,7 @@ returns-in-Ok-perform-clause-runs g c = λ start below done next s.
       machine = c.in-Ok.ensures.machine;
     } in
     run_done words start _ _ below done (run_acts files c.args.setup.rate) next c.args.image.now c.args.bytes.now c.args.setup c.args.bytes.now c.args.setup c.in-Ok.run'
-    (λ p idle. shut_after files c.args.setup.rate (sizes_of c.args.image.now.text) (final_world c.args.image.now c.args.bytes.now c.args.setup) false) s started c.in-Ok-perform.ensures.performs
+    (λ p idle. shut_after files c.args.setup.rate (sizes_of c.args.image.now.text c.args.setup.hist c.args.setup.hash) (final_world c.args.image.now c.args.bytes.now c.args.setup) false) s started c.in-Ok-perform.ensures.performs
 
 pub returns-in-Ok-perform-clause-ended : goal.returns-in-Ok-perform-clause-ended
 returns-in-Ok-perform-clause-ended g c =
