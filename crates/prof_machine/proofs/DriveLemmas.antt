@@ -5,7 +5,7 @@ use Rattle.host_port.specs.Outside.{KeepsCounts, KeepsInput, Outside}
 use Rattle.prof_machine.proofs.PlanLemmas.{driven_at, next_turn}
 use Rattle.prof_machine.specs.Plan.{driven, most_turns, plan_of, planned, taker_of}
 use Rattle.prof_machine.specs.Prints.{ArePrinted}
-use Rattle.prof_machine.specs.Schedule.{Draws, IsWithin}
+use Rattle.prof_machine.specs.Schedule.{Draws, PlanPlace}
 use Rattle.prof_machine.specs.Turn.{turn_of}
 use Rattle.prof_machine.specs.Value.{IsHeld, IsLive, RunValue, StandsFor, flights, looks_at_most, turned_of, value_of, work_left}
 use Rattle.prof_machine.specs.World.{World}
@@ -14,16 +14,14 @@ use Rattle.prof_machine.specs.declared.ending.Turned.TheVariants.{Ended, Going}
 use Rattle.prof_machine.specs.declared.flight.Flight.{Flight}
 use Rattle.prof_machine.specs.declared.machine.Machine.{Machine}
 use Rattle.prof_machine.specs.declared.runs.Run.TheInside.{Inside}
-use Rattle.prof_machine.specs.declared.schedule.Schedule.{Schedule}
 
 -- so many turns of the plan are made, and the run goes on
-pub record Drives (old new : RunValue) (before now : Outside) (next : Schedule) : Type 0 where
+pub record Drives (old new : RunValue) (before now : Outside) (next : PlanPlace) : Type 0 where
   pub live : IsLive new
   pub going : new.ending ≡ None
   pub machine : new.machine ≡ old.machine
   pub turns : ℕ
   pub draws : Draws old.machine.setup turns next
-  pub within : IsWithin next
   pub few : turns + work_left new ≤ most_turns old.machine.setup
   pub stands : (w : World) → StandsFor w old → StandsFor (planned old.machine w turns) new
   pub prints : (w : World) → StandsFor w old → ArePrinted w (planned old.machine w turns) before now

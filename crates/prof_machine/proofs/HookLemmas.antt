@@ -67,7 +67,7 @@ switched_stands w r g h on s read is gmon stands =
     subst P same (returns_stands (with_entry (Mode on) w) (record r { gmon = g }) h (quiet_stands w r g r.lost (Mode on) (record { walk = refl; pair = refl }) (λ before. refl) (omega arith) gmon stands))
 
 -- whether the hart stands at a hook
-at_is : (hook : Option ℕ) (pc : ℕ) → option_eq eqb hook (Some pc) ≡ is_at hook pc
+pub at_is : (hook : Option ℕ) (pc : ℕ) → option_eq eqb hook (Some pc) ≡ is_at hook pc
 at_is None pc = refl
 at_is (Some a) pc = refl
 

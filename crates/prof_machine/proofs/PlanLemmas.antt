@@ -11,7 +11,7 @@ use Rattle.prof_machine.specs.declared.ending.End.{End}
 use Rattle.prof_machine.specs.declared.machine.Machine.{Machine}
 use Rattle.prof_machine.specs.declared.setup.Setup.{Setup}
 
-plan_more : (setup : Setup) (n : ℕ) → plan_of setup (n + 1) ≡ plan_of setup n ++ taker_of setup.plan setup.harts n ∷ []
+pub plan_more : (setup : Setup) (n : ℕ) → plan_of setup (n + 1) ≡ plan_of setup n ++ taker_of setup.plan setup.harts n ∷ []
 unfolding plan_of
 plan_more setup n = map-range_with_len_more (taker_of setup.plan setup.harts) 0 n n (omega arith)
 
@@ -20,7 +20,7 @@ pub planned_more : (m : Machine) (w : World) (n : ℕ) → turn_of m (planned m 
 planned_more m w n =
     sym (ap (λ (turns : List ℕ). world_after m w turns) (plan_more m.setup n) ∙ world_after-append m w (plan_of m.setup n) (taker_of m.setup.plan m.setup.harts n ∷ []))
 
-plan_front : (setup : Setup) (k n : ℕ) → k ≤ n → plan_of setup k ++ drop k (plan_of setup n) ≡ plan_of setup n
+pub plan_front : (setup : Setup) (k n : ℕ) → k ≤ n → plan_of setup k ++ drop k (plan_of setup n) ≡ plan_of setup n
 unfolding plan_of
 plan_front setup k n le =
     ap (λ (front : List ℕ). front ++ drop k (map (taker_of setup.plan setup.harts) (range_with_len 0 n))) (sym (take-map-range_with_len (taker_of setup.plan setup.harts) 0 n k le))

@@ -27,6 +27,7 @@ use Rattle.prof_machine.specs.World.{World, blank, hart_of}
 use Rattle.prof_machine.specs.declared.ending.End.{End}
 use Rattle.prof_machine.specs.declared.ending.End.TheVariants.{Budget, Trap}
 use Rattle.prof_machine.specs.declared.flight.Flight.{Flight}
+use Rattle.prof_machine.specs.declared.notes.TurnNote.{TurnNote}
 use Rattle.prof_machine.specs.declared.runs.Run.TheInside.{Inside}
 
 pub stands_going : (f : World → World) (w : World) (old new : RunValue) → StandsFor w old → old.ending ≡ None → StandsFor (f w) new → StandsFor (while_going f w) new
@@ -191,6 +192,20 @@ sample_stands w r g k d pc b may count gmon stands = record {
 
 pub with_live : (w : World) (r : RunValue) (b : Bool) → StandsFor w r → StandsFor w (record r { live = b })
 with_live w r b stands = record {
+  harts = stands.harts;
+  left = stands.left;
+  memory = stands.memory;
+  break_at = stands.break_at;
+  retired = stands.retired;
+  ending = stands.ending;
+  gmon = stands.gmon;
+  samples = stands.samples;
+  lost = stands.lost;
+  counts = stands.counts;
+}
+
+pub with_note : (w : World) (r : RunValue) (b : Bool) (note : TurnNote) → StandsFor w r → StandsFor w (record r { note = note; live = b })
+with_note w r b note stands = record {
   harts = stands.harts;
   left = stands.left;
   memory = stands.memory;

@@ -8,13 +8,16 @@ mod flight;
 pub mod laws;
 mod layout;
 mod machine;
+pub mod notes;
 pub mod runs;
-mod schedule;
+pub mod schedule;
 pub mod setup;
 mod stages;
 
 pub use ending::{End, RunSummary, StartRefusal, Turned};
+pub use notes::{Ran, TurnNote};
 pub use runs::Run;
+pub use schedule::PlanWalk;
 pub use setup::{Plan, Setup};
 
 #[cfg(test)]

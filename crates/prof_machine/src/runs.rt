@@ -8,6 +8,7 @@ ghost use Rattle.mcount_arcs.specs.Sizes.{AreSizes};
 ghost use Rattle.mcount_arcs.specs.Value.{StandsFor as RuntimeStandsFor};
 ghost use Rattle.prof_machine.specs.declared.ending.Turned.TheVariants.{Going};
 ghost use Rattle.prof_machine.specs.Executions.{exec_counts_of, instructions_of};
+ghost use Rattle.prof_machine.specs.Notes.{note_of};
 ghost use Rattle.prof_machine.specs.Setup.{IsSetup};
 ghost use Rattle.prof_machine.specs.Start.{IsRefusal, first_registers as first_registers_of, machine_of, stacks_bytes, start_of, start_refusal};
 ghost use Rattle.prof_machine.specs.Turn.{turn_of};
@@ -20,7 +21,8 @@ use crate::ending::{End, RunSummary, StartRefusal, Turned};
 use crate::flight::Flight;
 use crate::layout::{Layout, first_registers};
 use crate::machine::Machine;
-use crate::schedule::Schedule;
+use crate::notes::{Trace, TurnNote};
+use crate::schedule::PlanWalk;
 use crate::setup::Setup;
 use elf32_syms::Image;
 use host_port::{Failed, Host};
@@ -51,6 +53,8 @@ pub struct Run {
     // It can take a turn: false also within a turn, and so after one that failed.
     pub(crate) live: bool,
     pub(crate) gmon: Gmon,
+    // What the last turn did.
+    pub(crate) trace: Trace,
 }
 
 impl Model for Run {
@@ -104,6 +108,7 @@ impl Run {
             ending: None,
             live: true,
             gmon: Gmon::startup(alloc, image.text, setup.hist, setup.hash)?,
+            trace: Trace::of_look(None),
         })
     }
 
@@ -117,6 +122,7 @@ impl Run {
         ensures answer { IfOk result (λ turned. turned ≡ turned_of self.new.ending) }
         ensures live { IsLive self.new ↔ (result ≡ Ok Going) }
         ensures machine { self.new.machine ≡ self.old.machine }
+        ensures note { OnOk result ((w : World) → StandsFor w self.old → self.new.note ≡ note_of self.old.machine w hart) }
 
         // What the outside has gained.
         ensures prints { OnOk result ((w : World) → StandsFor w self.old
@@ -127,17 +133,20 @@ impl Run {
         ensures writing { (H.outside host.new).is_writing ≡ (H.outside host.old).is_writing }
         ensures input { KeepsInput (H.outside host.old) (H.outside host.new) }
 
-        // A run has only so many turns left.
+        // A run has only so many turns left, and one that has ended has none.
+        ensures going { self.old.ending ≡ None }
         ensures left { 0 < work_left self.old }
+        ensures few { work_left self.old ≤ most_turns self.old.machine.setup }
         ensures less { IsLive self.new → work_left self.new < work_left self.old }
     {
         self.live = false;
-        if self.holds_walk(hart) {
-            self.look(hart);
+        let trace = if self.holds_walk(hart) {
+            Trace::of_look(self.look(hart))
         } else {
-            self.instruct(hart, host)?;
-        }
+            self.instruct(hart, host)?
+        };
         self.close();
+        self.trace = trace;
         self.live = self.ending.is_none();
         Ok(self.turned())
     }
@@ -161,14 +170,21 @@ impl Run {
         ensures writing { (H.outside host.new).is_writing ≡ (H.outside host.old).is_writing }
         ensures input { KeepsInput (H.outside host.old) (H.outside host.new) }
     {
-        let mut schedule = Schedule::of(self.machine.setup);
+        let mut plan = PlanWalk::new(&self.machine.setup);
         loop {
-            let hart = schedule.next_hart();
+            let hart = plan.next_hart();
             match self.turn(hart, host)? {
                 Turned::Going => {}
                 Turned::Ended(end) => return Ok(end),
             }
         }
+    }
+
+    /// What the last turn did, if one was made and answered Ok. Takes no memory.
+    pub fn last_turn(&self) -> TurnNote
+        ensures { result ≡ self.now.note }
+    {
+        self.trace.note()
     }
 
     /// Whether the run can take a turn: true until it has ended, or a print has failed.

@@ -3,14 +3,15 @@
 ghost use Rattle.std.specs.Prelude.{◌≡◌, ◌+◌, ◌%◌, ◌<◌, ◌≤◌, ℕ};
 ghost use Rattle.prof_machine.specs.declared.setup.Setup.{Setup as AnySetup};
 ghost use Rattle.prof_machine.specs.Plan.{shuffled as spec, taker_of};
-ghost use Rattle.prof_machine.specs.Schedule.{Draws, IsRound, IsWithin};
+ghost use Rattle.prof_machine.specs.Schedule.{Draws, IsRound};
 ghost use Rattle.prof_machine.specs.Setup.{IsSetup};
 
 use crate::setup::{Plan, Setup};
+use std::marker::Model;
 
-/// The turns of a plan that are not yet drawn.
-#[derive(Clone, Copy)]
-pub(crate) struct Schedule {
+/// A walk through the turns of a plan, from its first one on. Contracts see how far it has come.
+#[derive(Drop)]
+pub struct PlanWalk {
     plan: Plan,
     harts: u32,
     // In a round: the hart whose quantum it is, and how many turns of it are left.
@@ -20,18 +21,27 @@ pub(crate) struct Schedule {
     state: u64,
 }
 
-impl Schedule {
-    /// All turns of a plan.
-    pub(crate) fn of(setup: Setup) -> Schedule
-        requires { IsSetup setup }
-        ensures draws { Draws setup 0 result }
-        ensures within { IsWithin result }
+impl Model for PlanWalk {
+    ghost use Rattle.prof_machine.specs.Schedule.{IsWithin, PlanPlace, place_of};
+
+    ghost Value = { PlanPlace };
+
+    ghost view = { place_of };
+
+    ghost invariant = { IsWithin };
+}
+
+impl PlanWalk {
+    /// A walk before the first turn. Takes no memory.
+    pub fn new(setup: &Setup) -> PlanWalk
+        requires { IsSetup setup.now }
+        ensures { Draws setup.now 0 result }
     {
         let number = match setup.plan {
             Plan::RoundRobin { quantum } => quantum,
             Plan::Seeded { seed } => seed,
         };
-        Schedule {
+        PlanWalk {
             plan: setup.plan,
             harts: setup.harts,
             hart: 0,
@@ -40,12 +50,10 @@ impl Schedule {
         }
     }
 
-    /// The hart that takes the next turn.
-    pub(crate) fn next_hart(&mut self) -> u32
-        requires { IsWithin self.old }
+    /// The hart that takes the next turn. Takes no memory.
+    pub fn next_hart(&mut self) -> u32
         ensures taker { (setup : AnySetup) (n : ℕ) → Draws setup n self.old → result ≡ taker_of setup.plan setup.harts n }
         ensures draws { (setup : AnySetup) (n : ℕ) → Draws setup n self.old → Draws setup (n + 1) self.new }
-        ensures within { IsWithin self.new }
         ensures below { result < self.old.harts }
         ensures harts { self.new.harts ≡ self.old.harts }
     {
@@ -61,13 +69,10 @@ impl Schedule {
     // The hart whose quantum it is. Behind the last turn of a quantum comes the next hart's first.
     fn next_in_round(&mut self, quantum: u32) -> u32
         requires some { 1 ≤ quantum }
-        requires hart { self.old.hart < self.old.harts }
-        requires left { 1 ≤ self.old.left }
         ensures hart { result ≡ self.old.hart }
         ensures round { (n : ℕ) → IsRound quantum n self.old → IsRound quantum (n + 1) self.new }
         ensures others { self.new ≡ record self.old { hart = self.new.hart; left = self.new.left } }
-        ensures below { self.new.hart < self.new.harts }
-        ensures some { 1 ≤ self.new.left }
+        ensures below { result < self.old.harts }
     {
         let hart = self.hart;
         if self.left > 1 {

@@ -1,12 +1,13 @@
 //! The stages of a turn.
 
-ghost use Rattle.std.specs.Prelude.{◌≡◌, ◌+◌, ◌<◌, ◌≤◌, ◌&&◌, ℕ, None, OnOk, OnErr, IsSome, true, false, MatchResult, All};
+ghost use Rattle.std.specs.Prelude.{◌≡◌, ◌+◌, ◌<◌, ◌≤◌, ◌&&◌, ℕ, None, IfOk, OnOk, OnErr, IsSome, true, false, MatchResult, All};
 ghost use Rattle.host_port.specs.Outside.{KeepsCounts, KeepsInput};
 ghost use Rattle.gp_base.specs.Spans.{is_in};
 ghost use Rattle.mcount_arcs.specs.Sizes.{text_span};
 ghost use Rattle.prof_machine.specs.Executions.{with_execution};
+ghost use Rattle.prof_machine.specs.Notes.{decoded, if_going, instruction_note, look_note, note_by, note_in, return_from_call, return_in, return_of, sample_in, word_in};
 ghost use Rattle.prof_machine.specs.Prints.{ArePrinted, BreaksOff, PrintFailed};
-ghost use Rattle.prof_machine.specs.Stages.{Executes, Serves, Steps, Ticks, answers, holds, retires, returns};
+ghost use Rattle.prof_machine.specs.Stages.{Executes, Serves, Steps, Ticks, answers, begin_of, holds, ran_since, retires, returns};
 ghost use Rattle.prof_machine.specs.Turn.{after_ecall, arrived, called, closed, executed, instructed, sampled, spent, switched, taken, while_going};
 ghost use Rattle.prof_machine.specs.Value.{StandsFor, calls_met, work_left};
 ghost use Rattle.prof_machine.specs.World.{World, hart_of, left_of};
@@ -14,10 +15,22 @@ ghost use Rattle.prof_machine.specs.World.{World, hart_of, left_of};
 use crate::ecalls::{A0, Call, ecall_of, write};
 use crate::ending::End;
 use crate::flight::{Flight, finish_walk};
+use crate::notes::{RanWord, Trace};
 use crate::runs::Run;
+use byteorder::{ByteOrder, LittleEndian};
 use host_port::{Failed, Host};
 use mcount_arcs::{Entered, Gmon, Looked};
-use rv_step::{Stepped, TrapKind, step};
+use rv_step::{Ram, Stepped, TrapKind, step};
+
+/// Where a turn begins.
+#[derive(Clone, Copy)]
+struct Begin {
+    pc: u32,
+    // The word that stands there, if memory has it.
+    word: Option<u32>,
+    // How many instructions have retired.
+    retired: u32,
+}
 
 /// The number of the register that says where a function returns to: ra of the RISC-V calling convention.
 const RA: u32 = 1;
@@ -33,8 +46,8 @@ impl Run {
         }
     }
 
-    // One look of this hart's walk.
-    pub(crate) fn look(&mut self, hart: u32)
+    // One look of this hart's walk. Behind the last one the hart goes on at the address that is answered.
+    pub(crate) fn look(&mut self, hart: u32) -> Option<u32>
         requires holds { holds self.old.flight hart ≡ true }
         requires hart { hart < self.old.machine.setup.harts }
         requires going { self.old.ending ≡ None }
@@ -45,18 +58,23 @@ impl Run {
         ensures retired { self.new.retired ≡ self.old.retired }
         ensures due { self.new.due ≡ self.old.due }
         ensures less { work_left self.new < work_left self.old }
+        ensures note { (w : World) → StandsFor w self.old → look_note result ≡ note_by self.old.machine hart (left_of w.left hart) w }
     {
-        if let Some(flight) = self.flight.take() {
-            match self.gmon.look(flight.walk) {
-                Looked::More(next) => self.flight = Some(Flight { hart, walk: next }),
-                Looked::Counted => self.return_from_hook(hart),
-                Looked::Overflowed => self.return_from_hook(hart),
+        let Some(flight) = self.flight.take() else {
+            return None;
+        };
+        match self.gmon.look(flight.walk) {
+            Looked::More(next) => {
+                self.flight = Some(Flight { hart, walk: next });
+                None
             }
+            Looked::Counted => self.return_from_hook(hart),
+            Looked::Overflowed => self.return_from_hook(hart),
         }
     }
 
     // One instruction of this hart, with its tick and its hook.
-    pub(crate) fn instruct<H: Host>(&mut self, hart: u32, host: &mut H) -> Result<(), Failed>
+    pub(crate) fn instruct<H: Host>(&mut self, hart: u32, host: &mut H) -> Result<Trace, Failed>
         requires none { holds self.old.flight hart ≡ false }
         requires hart { hart < self.old.machine.setup.harts }
         requires going { self.old.ending ≡ None }
@@ -75,12 +93,47 @@ impl Run {
         ensures left { OnOk result (self.new.ending ≡ None → self.new.retired < self.new.machine.setup.budget) }
         ensures due { OnOk result (self.new.ending ≡ None → 1 ≤ self.new.due) }
         ensures less { OnOk result (self.new.ending ≡ None → work_left self.new < work_left self.old) }
+        ensures note { IfOk result (λ t. (w : World) → StandsFor w self.old → note_in t ≡ instruction_note self.old.machine hart w) }
     {
+        let begin = self.begin(hart);
         self.execute(hart, host)?;
-        self.sample(hart);
-        self.arrive(hart);
+        let ran = self.ran_since(hart, begin);
+        let sample = self.sample(hart);
+        let returned = self.arrive(hart);
         self.spend();
-        Ok(())
+        Ok(Trace {
+            ran,
+            sample,
+            returned,
+        })
+    }
+
+    // Where a hart's turn begins.
+    fn begin(&self, hart: u32) -> Begin
+        requires { hart < self.now.machine.setup.harts }
+        ensures { result ≡ begin_of hart self.now }
+    {
+        let pc = self.harts[hart as usize].pc();
+        Begin {
+            pc,
+            word: word_at(&self.ram, pc),
+            retired: self.retired,
+        }
+    }
+
+    // The instruction that has retired since then.
+    fn ran_since(&self, hart: u32, begin: Begin) -> Option<RanWord>
+        requires { hart < self.now.machine.setup.harts }
+        ensures { decoded result ≡ ran_since hart begin self.now }
+    {
+        if self.retired == begin.retired {
+            return None;
+        }
+        Some(RanWord {
+            pc: begin.pc,
+            word: begin.word?,
+            next: self.harts[hart as usize].pc(),
+        })
     }
 
     // The instruction.
@@ -185,96 +238,111 @@ impl Run {
         self.due -= 1;
     }
 
-    // The clock's tick, if a sample is due.
+    // The clock's tick, if a sample is due. The address is answered if the sample counts.
     #[tactic(auto, using(crate::proofs::ClockLemmas::again))]
-    fn sample(&mut self, hart: u32)
+    fn sample(&mut self, hart: u32) -> Option<u32>
         requires hart { hart < self.old.machine.setup.harts }
         requires due { self.old.ending ≡ None → self.old.due < self.old.machine.setup.every }
         requires samples { self.old.ending ≡ None → self.old.samples < self.old.retired }
         requires dead { self.old.live ≡ false }
         ensures stands { (w : World) → StandsFor w self.old → StandsFor (while_going (sampled self.old.machine hart) w) self.new }
         ensures ticks { Ticks self.old self.new }
+        ensures note { (w : World) → StandsFor w self.old → result ≡ if_going (sample_in self.old.machine hart) w }
     {
         if self.ending.is_some() {
-            return;
+            return None;
         }
         if self.due != 0 {
-            return;
+            return None;
         }
         self.due = self.machine.setup.every;
         let pc = self.harts[hart as usize].pc();
-        if counts(&self.gmon, pc) {
+        let counts = counts(&self.gmon, pc);
+        if counts {
             self.samples += 1;
         }
         self.gmon.tick(pc);
+        counts.then_some(pc)
     }
 
-    // Serves the hook at which the hart stands, if it does.
-    fn arrive(&mut self, hart: u32)
+    // Serves the hook at which the hart stands, if it does. It may go on at once, at the address that is
+    // answered.
+    fn arrive(&mut self, hart: u32) -> Option<u32>
         requires hart { hart < self.old.machine.setup.harts }
         requires calls { self.old.ending ≡ None → calls_met self.old < self.old.retired }
         requires dead { self.old.live ≡ false }
         ensures stands { (w : World) → StandsFor w self.old → StandsFor (while_going (arrived self.old.machine hart) w) self.new }
         ensures serves { Serves self.old self.new }
+        ensures note { (w : World) → StandsFor w self.old → result ≡ if_going (return_in self.old.machine hart) w }
     {
         if self.ending.is_some() {
-            return;
+            return None;
         }
         let pc = self.harts[hart as usize].pc();
         if self.machine.mcount == Some(pc) {
-            self.enter(hart);
+            self.enter(hart)
         } else if self.machine.moncontrol == Some(pc) {
-            self.switch(hart);
+            self.switch(hart)
+        } else {
+            None
         }
     }
 
     // The hart stands at `_mcount`.
-    fn enter(&mut self, hart: u32)
+    fn enter(&mut self, hart: u32) -> Option<u32>
         requires hart { hart < self.old.machine.setup.harts }
         requires calls { calls_met self.old < self.old.retired }
         requires going { self.old.ending ≡ None }
         requires dead { self.old.live ≡ false }
         ensures stands { (w : World) → StandsFor w self.old → StandsFor (called self.old.machine hart (hart_of w.harts hart) w) self.new }
         ensures serves { Serves self.old self.new }
+        ensures note { (w : World) → StandsFor w self.old → result ≡ return_from_call self.old.machine w.log (hart_of w.harts hart) }
     {
         let regs = &self.harts[hart as usize];
         match self.gmon.enter(regs.get(A0), regs.get(RA)) {
-            Entered::Walking(walk) => self.flight = Some(Flight { hart, walk }),
+            Entered::Walking(walk) => {
+                self.flight = Some(Flight { hart, walk });
+                None
+            }
             Entered::Lost => {
                 self.lost += 1;
-                self.return_from_hook(hart);
+                self.return_from_hook(hart)
             }
             Entered::Ignored => self.return_from_hook(hart),
         }
     }
 
     // The hart stands at `moncontrol`.
-    fn switch(&mut self, hart: u32)
+    fn switch(&mut self, hart: u32) -> Option<u32>
         requires hart { hart < self.old.machine.setup.harts }
         requires going { self.old.ending ≡ None }
         requires dead { self.old.live ≡ false }
         ensures stands { (w : World) → StandsFor w self.old → StandsFor (switched hart (hart_of w.harts hart) w) self.new }
         ensures serves { Serves self.old self.new }
+        ensures note { (w : World) → StandsFor w self.old → result ≡ return_of (hart_of w.harts hart) }
     {
         let on = self.harts[hart as usize].get(A0) != 0;
         self.gmon.moncontrol(on);
-        self.return_from_hook(hart);
+        self.return_from_hook(hart)
     }
 
-    // Goes on at ra.
-    fn return_from_hook(&mut self, hart: u32)
+    // Goes on at ra, which is answered, unless that traps.
+    fn return_from_hook(&mut self, hart: u32) -> Option<u32>
         requires hart { hart < self.old.machine.setup.harts }
         requires going { self.old.ending ≡ None }
         requires dead { self.old.live ≡ false }
-        ensures { self.new ≡ returns hart self.old }
+        ensures run { self.new ≡ returns hart self.old }
+        ensures to { result ≡ return_of (hart_of self.old.harts hart) }
     {
         let regs = &mut self.harts[hart as usize];
         let ra = regs.get(RA);
         let target = ra - ra % 2;
         if target % 4 == 0 {
             regs.set_pc(target);
+            Some(target)
         } else {
             self.ending = Some(End::Trap(TrapKind::JumpMisaligned, regs.pc()));
+            None
         }
     }
 
@@ -328,4 +396,12 @@ fn count_execution(counts: &mut [u32], low: u32, pc: u32)
     if i < counts.len() {
         counts[i] += 1;
     }
+}
+
+/// The word at an address, if its four bytes are all in memory.
+fn word_at(ram: &Ram, pc: u32) -> Option<u32>
+    ensures { result ≡ word_in ram.now pc }
+{
+    let bytes = ram.slice(pc, 4)?;
+    Some(LittleEndian::read_u32(bytes))
 }

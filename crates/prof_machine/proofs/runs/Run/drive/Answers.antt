@@ -21,8 +21,7 @@ loop-end-init g c =
       going = subst G c.self.view_is c.self.invariant.going c.requires;
       machine = refl;
       turns = 0;
-      draws = subst (λ (v : RunValue). Draws v.machine.setup 0 c.of-schedule.result) c.self.view_is c.of-schedule.ensures.draws;
-      within = c.of-schedule.ensures.within;
+      draws = subst (λ (v : RunValue). Draws v.machine.setup 0 c.new-plan.result) c.self.view_is c.new-plan.ensures;
       few = omega (arith, bound);
       stands = λ w st. in_first (λ v. StandsFor v c.args.self.now) m w st;
       prints = λ w st. (let o = g.H.Host.outside c.args.host.now in in_first (λ v. ArePrinted w v o o) m w (nothing_printed w w o refl));
@@ -44,7 +43,6 @@ loop-end-preserved g c =
       machine = t.machine ∙ i.machine;
       turns = i.turns + 1;
       draws = hart.draws _ _ i.draws;
-      within = hart.within;
       few = omega (arith, i.few, t.less live);
       stands = λ w st. in_next (λ v. StandsFor v c.turn.new.self) m c.loop-end.self.machine w i.turns c.next_hart-hart.result i.machine (hart.taker _ _ i.draws) (t.stands _ (i.stands w st));
       prints = λ w st. in_next (λ v. ArePrinted w v (g.H.Host.outside c.args.host.now) (g.H.Host.outside c.turn.new.host)) m c.loop-end.self.machine w i.turns c.next_hart-hart.result i.machine (hart.taker _ _ i.draws)
