@@ -1,0 +1,131 @@
+-- One more turn, in the shadows and samples that are kept.
+use Rattle.std.proofs.Common.{◌≡◌, ◌∙◌, ◌+◌, ◌-◌, ◌<◌, ◌≤◌, ◌++◌, ℕ, zero, suc, Bool, true, false, List, [], ◌∷◌, length, append-nil, map, take, ap, arith, get_or, set, refl, sym, subst, Option, Some, None, nat_lt, if◌then◌else◌}
+use Rattle.std.specs.List.{cons_option}
+use Rattle.std.specs.Option.{IfSome, option_map}
+use Rattle.std.proofs.lemmas.List.{get_or_default, map-append, take_more}
+use Rattle.std.proofs.lemmas.List.Elements.{filter_map-append}
+use Rattle.std.proofs.lemmas.List.Quantifiers.{position-Some}
+use Rattle.elf32_syms.specs.declared.image.Symbol.{Symbol}
+use Rattle.elf32_syms.specs.Owners.{owner_of, owns}
+use Rattle.rv_step.specs.Step.{next_of}
+use Rattle.prof_machine.specs.declared.notes.Ran.{Ran}
+use Rattle.prof_machine.specs.declared.notes.TurnNote.{TurnNote}
+use Rattle.folded.specs.Folding.{Follows, HasRoom}
+use Rattle.folded.specs.Shadow.{Shadow, after_hook, after_instruction, after_ran, empty_shadow, frames_before, is_call, is_return, with_call, with_return}
+use Rattle.folded.specs.Stacks.{caller_in, site_before, stack_at, stack_of, stacks_of}
+use Rattle.folded.specs.Tally.{AreBelow, Folds}
+use Rattle.folded.specs.Trail.{StackSample, Trail, followed, followed_by, samples_of, shadow_of}
+use Rattle.folded.specs.declared.trail.Tracker.{Tracker}
+
+pub shadow_read : (shadows : List Shadow) (h : ℕ) (s : Shadow) → h < length shadows → s ≡ get_or shadows h s → shadow_of shadows h ≡ s
+shadow_read shadows h s inside is = get_or_default shadows h empty_shadow s inside ∙ sym is
+
+pub followed_follows : (symbols : List Symbol) (h : ℕ) (note : TurnNote) (t : Trail) (s : Shadow) (v : Tracker) → after_ran note.ran (shadow_of t.shadows h) ≡ s → v.shadows.items ≡ set t.shadows h (after_hook note.returned s)
+    → Folds (length symbols) (stacks_of symbols (t.samples ++ samples_of note.sample s.frames)) v.folded → Follows symbols (followed h note t) v
+unfolding followed
+followed_follows symbols h note t s v was shadows folds =
+    let P : Shadow → Type 0 = λ x. Follows symbols (followed_by h note x t) v in
+    subst P (sym was) (record { shadows = shadows; folds = folds })
+
+-- ---- calls without room
+
+call_room : (to : ℕ) (s : Shadow) → (with_call to s).over ≤ s.over + 1
+unfolding with_call
+call_room to s = by_case (nat_lt (length s.frames) 128)
+  where
+    by_case : (b : Bool) → (if b then record s { frames = s.frames ++ to ∷ [] } else record s { over = s.over + 1 }).over ≤ s.over + 1
+    by_case true = omega arith
+    by_case false = omega arith
+
+return_room : (to : ℕ) (s : Shadow) → (with_return to s).over ≤ s.over
+unfolding with_return
+return_room to s = by_case (nat_lt 0 s.over)
+  where
+    by_case : (b : Bool) → (if b then record s { over = s.over - 1 } else record s { frames = frames_before to s.frames }).over ≤ s.over
+    by_case true = omega arith
+    by_case false = omega arith
+
+instruction_room : (r : Ran) (s : Shadow) → (after_instruction r s).over ≤ s.over + 1
+unfolding after_instruction
+instruction_room r s = by_case (is_call r.instr) (is_return r.instr)
+  where
+    by_case : (b c : Bool) → (if b then with_call (next_of r.pc) s else (if c then with_return r.next s else s)).over ≤ s.over + 1
+    by_case true c = call_room (next_of r.pc) s
+    by_case false true = omega (arith, return_room r.next s)
+    by_case false false = omega arith
+
+pub ran_room : (ran : Option Ran) (s : Shadow) → (after_ran ran s).over ≤ s.over + 1
+ran_room None s = omega arith
+ran_room (Some r) s = instruction_room r s
+
+pub hook_room : (to : Option ℕ) (s : Shadow) → (after_hook to s).over ≤ s.over
+hook_room None s = omega arith
+hook_room (Some to) s = return_room to s
+
+pub room_set : (n : ℕ) (xs : List Shadow) (h : ℕ) (y : Shadow) → HasRoom n xs → y.over ≤ n + 1 → HasRoom (n + 1) (set xs h y)
+room_set n [] h y room le = λ k d inside. absurd (omega (arith, inside))
+room_set n (x ∷ xs) zero y room le = λ k d inside. by_place k d inside
+  where
+    by_place : (k : ℕ) (d : Shadow) → k < length (y ∷ xs) → (get_or (y ∷ xs) k d).over ≤ n + 1
+    by_place zero d inside = le
+    by_place (suc k) d inside = omega (arith, room (suc k) d inside)
+room_set n (x ∷ xs) (suc h) y room le = by_place (room_set n xs h y (λ j e within. room (suc j) e (omega (arith, within))) le)
+  where
+    by_place : HasRoom (n + 1) (set xs h y) → (k : ℕ) (d : Shadow) → k < length (x ∷ set xs h y) → (get_or (x ∷ set xs h y) k d).over ≤ n + 1
+    by_place later zero d inside = omega (arith, room zero d (omega arith))
+    by_place later (suc k) d inside = later k d (omega (arith, inside))
+
+-- ---- one more sample
+
+pub stacks-more : (symbols : List Symbol) (samples : List StackSample) (s : StackSample) → stacks_of symbols (samples ++ s ∷ []) ≡ stacks_of symbols samples ++ cons_option (stack_of symbols s) []
+stacks-more symbols samples s = filter_map-append (stack_of symbols) samples (s ∷ [])
+
+pub stacks-none : (symbols : List Symbol) (samples : List StackSample) (frames : List ℕ) (pc : ℕ) → owner_of symbols pc ≡ None → stacks_of symbols (samples ++ samples_of (Some pc) frames) ≡ stacks_of symbols samples
+stacks-none symbols samples frames pc is =
+    stacks-more symbols samples (record { frames = frames; pc = pc })
+    ∙ ap (λ (o : Option ℕ). stacks_of symbols samples ++ cons_option (option_map (stack_at symbols frames) o) []) is
+    ∙ append-nil (stacks_of symbols samples)
+
+pub stacks-some : (symbols : List Symbol) (samples : List StackSample) (frames : List ℕ) (pc f : ℕ) → owner_of symbols pc ≡ Some f → stacks_of symbols (samples ++ samples_of (Some pc) frames) ≡ stacks_of symbols samples ++ stack_at symbols frames f ∷ []
+stacks-some symbols samples frames pc f is =
+    stacks-more symbols samples (record { frames = frames; pc = pc })
+    ∙ ap (λ (o : Option ℕ). stacks_of symbols samples ++ cons_option (option_map (stack_at symbols frames) o) []) is
+
+-- ---- an owner is a symbol
+
+owner_by : (symbols : List Symbol) (pc : ℕ) (o : Option ℕ) → owner_of symbols pc ≡ o → IfSome o (λ f. f < length symbols)
+owner_by symbols pc None is = tt
+owner_by symbols pc (Some f) is = (position-Some (owns pc) symbols f (record { addr = 0; end = 0; name = [] }) is).0
+
+pub owner_below : (symbols : List Symbol) (pc : ℕ) → IfSome (owner_of symbols pc) (λ f. f < length symbols)
+owner_below symbols pc = owner_by symbols pc (owner_of symbols pc) refl
+
+-- ---- a stack
+
+pub caller_more : (symbols : List Symbol) (frames : List ℕ) (i : ℕ) (xs : List (Option ℕ)) (o : Option ℕ) → i < length frames → xs ≡ map (caller_in symbols) (take i frames) → o ≡ caller_in symbols (get_or frames i 0)
+    → xs ++ o ∷ [] ≡ map (caller_in symbols) (take (i + 1) frames)
+caller_more symbols frames i xs o inside is here =
+    ap (λ (x : List (Option ℕ)). x ++ o ∷ []) is
+    ∙ ap (λ (x : Option ℕ). map (caller_in symbols) (take i frames) ++ x ∷ []) here
+    ∙ sym (map-append (caller_in symbols) (take i frames) (get_or frames i 0 ∷ []))
+    ∙ ap (map (caller_in symbols)) (sym (take_more frames i 0 inside))
+
+pub stack_below : (symbols : List Symbol) (frames : List ℕ) (f : ℕ) → f < length symbols → AreBelow (length symbols) (map (caller_in symbols) frames ++ Some f ∷ [])
+stack_below symbols [] f below = by_place
+  where
+    by_place : (k : ℕ) (d : Option ℕ) → k < 1 → IfSome (get_or (Some f ∷ []) k d) (λ g. g < length symbols)
+    by_place zero d inside = below
+    by_place (suc k) d inside = absurd (omega (arith, inside))
+stack_below symbols (to ∷ frames) f below = by_place (stack_below symbols frames f below)
+  where
+    by_place : AreBelow (length symbols) (map (caller_in symbols) frames ++ Some f ∷ []) → (k : ℕ) (d : Option ℕ) → k < length (caller_in symbols to ∷ (map (caller_in symbols) frames ++ Some f ∷ []))
+        → IfSome (get_or (caller_in symbols to ∷ (map (caller_in symbols) frames ++ Some f ∷ [])) k d) (λ g. g < length symbols)
+    by_place later zero d inside = owner_below symbols (site_before to)
+    by_place later (suc k) d inside = later k d (omega (arith, inside))
+
+stack_ends_by : (symbols : List Symbol) (frames : List ℕ) (o : Option ℕ) (stack : List (Option ℕ)) → option_map (stack_at symbols frames) o ≡ Some stack → (f : ℕ) × (o ≡ Some f) × (stack ≡ map (caller_in symbols) frames ++ Some f ∷ [])
+stack_ends_by symbols frames None stack is = absurd cc
+stack_ends_by symbols frames (Some f) stack is = (f, refl, cc)
+
+pub stack_ends : (symbols : List Symbol) (s : StackSample) (stack : List (Option ℕ)) → stack_of symbols s ≡ Some stack → (f : ℕ) × (owner_of symbols s.pc ≡ Some f) × (stack ≡ map (caller_in symbols) s.frames ++ Some f ∷ [])
+stack_ends symbols s stack is = stack_ends_by symbols s.frames (owner_of symbols s.pc) stack is

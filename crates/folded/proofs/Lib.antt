@@ -1,0 +1,5 @@
+pub mod ShadowLemmas
+pub mod TrailLemmas
+pub mod TallyLemmas
+pub mod FoldLemmas
+pub mod FollowLemmas

@@ -1,0 +1,56 @@
+-- The shadows and the samples of turns one after the other.
+use Rattle.std.proofs.Common.{◌≡◌, ◌∙◌, ◌+◌, ◌≤◌, ℕ, List, [], ◌∷◌, ◌++◌, Some, None, Option, if◌then◌else◌, append-nil, ap, drop, refl, sym}
+use Rattle.std.proofs.lemmas.List.{set-get_or}
+use Rattle.prof_machine.proofs.PlanLemmas.{plan_front, plan_more}
+use Rattle.prof_machine.proofs.WorldLemmas.{ended_turn}
+use Rattle.prof_machine.specs.Notes.{look_note, note_by, note_of}
+use Rattle.prof_machine.specs.Plan.{most_turns, plan_of, planned, taker_of}
+use Rattle.prof_machine.specs.Turn.{turn_of, world_after}
+use Rattle.prof_machine.specs.World.{World, left_of}
+use Rattle.prof_machine.specs.declared.ending.End.{End}
+use Rattle.prof_machine.specs.declared.machine.Machine.{Machine}
+use Rattle.prof_machine.specs.declared.notes.TurnNote.{TurnNote}
+use Rattle.std.specs.Prelude.{is_some}
+use Rattle.folded.specs.Shadow.{empty_shadow}
+use Rattle.folded.specs.Trail.{StackSample, Trail, first_trail, followed, run_samples, samples_after, trail_after, trail_from}
+
+pub trail_from-append : (m : Machine) (w : World) (t : Trail) (front back : List ℕ) → trail_from m w t (front ++ back) ≡ trail_from m (world_after m w front) (trail_from m w t front) back
+trail_from-append m w t [] back = refl
+trail_from-append m w t (h ∷ front) back = trail_from-append m (turn_of m w h) (followed h (note_of m w h) t) front back
+
+-- one more turn of the plan
+pub trail_next : (m v : Machine) (w : World) (n h : ℕ) → v ≡ m → h ≡ taker_of m.setup.plan m.setup.harts n
+    → followed h (note_of v (planned m w n) h) (trail_after m w (plan_of m.setup n)) ≡ trail_after m w (plan_of m.setup (n + 1))
+trail_next m v w n h same taker =
+    let t = trail_after m w (plan_of m.setup n) in
+    ap (λ (x : Machine). followed h (note_of x (planned m w n) h) t) same
+    ∙ ap (λ (k : ℕ). followed k (note_of m (planned m w n) k) t) taker
+    ∙ sym (ap (λ (turns : List ℕ). trail_after m w turns) (plan_more m.setup n) ∙ trail_from-append m w (first_trail m.setup.harts) (plan_of m.setup n) (taker_of m.setup.plan m.setup.harts n ∷ []))
+
+-- a turn of a run that has ended tells nothing
+ended_note : (m : Machine) (w : World) (h : ℕ) (end : End) → w.ending ≡ Some end → note_of m w h ≡ look_note None
+unfolding note_of
+ended_note m w h end is = ap (λ (o : Option End). if is_some o then look_note None else note_by m h (left_of w.left h) w) is
+
+nothing_followed : (h : ℕ) (t : Trail) → followed h (look_note None) t ≡ t
+unfolding followed
+nothing_followed h t =
+    ap (λ x. record { shadows = x; samples = t.samples ++ [] }) (set-get_or t.shadows h empty_shadow)
+    ∙ ap (λ (x : List StackSample). record { shadows = t.shadows; samples = x }) (append-nil t.samples)
+
+trail_ended : (m : Machine) (w : World) (t : Trail) (turns : List ℕ) (end : End) → w.ending ≡ Some end → trail_from m w t turns ≡ t
+trail_ended m w t [] end is = refl
+trail_ended m w t (h ∷ turns) end is =
+    ap (λ (v : World). trail_from m v (followed h (note_of m w h) t) turns) (ended_turn m w h end is)
+    ∙ ap (λ (note : TurnNote). trail_from m w (followed h note t) turns) (ended_note m w h end is)
+    ∙ ap (λ (x : Trail). trail_from m w x turns) (nothing_followed h t)
+    ∙ trail_ended m w t turns end is
+
+-- the turn in which the run ends is the last
+pub run_samples_at : (m : Machine) (w : World) (n : ℕ) (end : End) → n ≤ most_turns m.setup → (planned m w n).ending ≡ Some end → samples_after m w (plan_of m.setup n) ≡ run_samples m w
+unfolding run_samples
+run_samples_at m w n end enough is =
+    ap (λ (t : Trail). t.samples) (sym (
+    ap (λ (turns : List ℕ). trail_after m w turns) (sym (plan_front m.setup n (most_turns m.setup) enough))
+    ∙ trail_from-append m w (first_trail m.setup.harts) (plan_of m.setup n) (drop n (plan_of m.setup (most_turns m.setup)))
+    ∙ trail_ended m (planned m w n) (trail_after m w (plan_of m.setup n)) (drop n (plan_of m.setup (most_turns m.setup))) end is))

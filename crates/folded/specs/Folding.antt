@@ -1,0 +1,36 @@
+-- How a run that is folded ends.
+use Rattle.std.specs.Prelude.{◌≡◌, ℕ, ◌+◌, ◌<◌, ◌≤◌, List, length, None, All}
+use Rattle.elf32_syms.specs.declared.image.Symbol.{Symbol}
+use Rattle.host_port.specs.Outside.{KeepsCounts, Outside}
+use Rattle.prof_machine.specs.declared.machine.Machine.{Machine}
+use Rattle.prof_machine.specs.Plan.{most_turns, planned}
+use Rattle.prof_machine.specs.Prints.{ArePrinted, BreaksOff, PrintFailed}
+use Rattle.prof_machine.specs.World.{World}
+use Rattle.folded.specs.declared.trail.Tracker.{Tracker}
+use Rattle.folded.specs.Shadow.{Shadow}
+use Rattle.folded.specs.Stacks.{stacks_of}
+use Rattle.folded.specs.Tally.{Folds}
+use Rattle.folded.specs.Trail.{Trail}
+use Rattle.folded.specs.declared.refusal.FoldRefusal.{FoldRefusal}
+use Rattle.folded.specs.declared.refusal.FoldRefusal.TheVariants.{HostFailed, OutOfMemory}
+
+-- what is printed: where a print failed all but a rest of its last piece, and where memory was short all of the turns
+-- that were made
+abbrev pub StopsShort : Machine → World → Outside → Outside → FoldRefusal → Type 0
+StopsShort m w old new HostFailed =
+    (n : ℕ) × (n < most_turns m.setup) × ((planned m w n).ending ≡ None) × BreaksOff w (planned m w (n + 1)) old new
+StopsShort m w old new OutOfMemory = (n : ℕ) × (n ≤ most_turns m.setup) × ArePrinted w (planned m w n) old new
+
+-- only a print that failed raises a count of faults
+abbrev pub HasCause : Outside → Outside → FoldRefusal → Type 0
+HasCause old new HostFailed = PrintFailed old new
+HasCause old new OutOfMemory = KeepsCounts old new
+
+-- shadows and samples that were followed stand for those of the definitions
+pub record Follows (symbols : List Symbol) (t : Trail) (v : Tracker) : Type 0 where
+  pub shadows : v.shadows.items ≡ t.shadows
+  pub folds : Folds (length symbols) (stacks_of symbols t.samples) v.folded
+
+-- no shadow has more calls without room than there were turns
+abbrev pub HasRoom : ℕ → List Shadow → Type 0
+HasRoom turns shadows = All (λ (s : Shadow). s.over ≤ turns) shadows

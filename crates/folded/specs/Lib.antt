@@ -1,0 +1,6 @@
+pub mod Shadow
+pub mod Trail
+pub mod Stacks
+pub mod Tally
+pub mod Text
+pub mod Folding

@@ -1,0 +1,46 @@
+-- What contracts see of folded stacks.
+use Rattle.std.specs.Prelude.{◌≡◌, ℕ, ◌+◌, ◌<◌, ◌≤◌, List, length, map, slice_index, slice_index_or, Bool, Option, IfSome, All, if◌then◌else◌}
+use Rattle.std.specs.BTreeMap.{values}
+use Rattle.folded.specs.declared.tally.Folded.TheInside.{Inside}
+use Rattle.folded.specs.declared.tally.Mark.{Mark}
+use Rattle.folded.specs.Stacks.{inclusive_of, lines_of}
+
+pub record FoldedValue : Type 0 where
+  -- each stack with its number of samples, in the stacks' order
+  pub lines : List (List (Option ℕ) × ℕ)
+  -- the number of samples
+  pub total : ℕ
+  -- and of those that have a function, by its number
+  pub inclusive : List ℕ
+
+abbrev pub value_of : Inside → FoldedValue
+value_of a = record {
+  lines = map (λ e. (e.0.items, e.1)) a.lines.entries;
+  total = a.total;
+  inclusive = map (λ m. m.count) a.marks.items;
+}
+
+-- what keeps its numbers within their ranges: none is above the number of samples
+pub record IsMarked (a : Inside) : Type 0 where
+  pub counts : All (λ m. m.count ≤ a.total) a.marks.items
+  pub lasts : All (λ m. m.last ≤ a.total) a.marks.items
+  pub lines : All (λ n. n ≤ a.total) (values a.lines)
+
+-- it has these stacks, of so many functions
+pub record Folds (functions : ℕ) (stacks : List (List (Option ℕ))) (f : FoldedValue) : Type 0 where
+  pub lines : f.lines ≡ lines_of stacks
+  pub total : f.total ≡ length stacks
+  pub functions_are : length f.inclusive ≡ functions
+  pub inclusive : (g : ℕ) → g < functions → slice_index f.inclusive g ≡ inclusive_of stacks g
+
+-- the mark of a function
+abbrev pub mark_at : List Mark → ℕ → Mark
+mark_at marks g = slice_index_or marks g (record { count = 0; last = 0 })
+
+-- once a sample has the function
+abbrev pub marked_if : Bool → ℕ → Mark → Mark
+marked_if has sample m = if has then record { count = m.count + 1; last = sample } else m
+
+-- the functions of a stack, each below a number
+abbrev pub AreBelow : ℕ → List (Option ℕ) → Type 0
+AreBelow functions stack = All (λ (o : Option ℕ). IfSome o (λ f. f < functions)) stack

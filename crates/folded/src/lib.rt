@@ -1,0 +1,18 @@
+//! The call stacks that a run is sampled in, with the number of samples of each.
+#![tactic(auto)]
+
+pub mod folding;
+pub mod laws;
+pub mod refusal;
+mod shadow;
+pub mod tally;
+mod trail;
+pub mod writer;
+
+pub use folding::fold;
+pub use refusal::FoldRefusal;
+pub use tally::Folded;
+pub use writer::write;
+
+#[cfg(test)]
+mod tests;
