@@ -10,3 +10,4 @@ pub mod Parts
 pub mod Passes
 pub mod Values
 pub mod Flow
+pub mod ExactFlow

@@ -12,13 +12,13 @@ use Rattle.propagate.proofs.ConservationLemmas.{one_component, conserved, all_in
 use Rattle.propagate.proofs.UniqueLemmas.{goes_down}
 use Rattle.propagate.proofs.SolutionLemmas.{at_list_of, solution}
 
-when_fewer : (a b : Bool) (x : ℕ) → (a ≡ true → b ≡ true) → when a x ≤ when b x
+pub when_fewer : (a b : Bool) (x : ℕ) → (a ≡ true → b ≡ true) → when a x ≤ when b x
 when_fewer true b x within = let same : when b x ≡ x = ap (λ (c : Bool). when c x) (within refl) in omega arith
 when_fewer false b x within = omega arith
 
 module _ (g : GraphValue) (shares : List ℕ) (is : IsGraph g) (each : length shares ≡ g.functions) where
   -- the shares of a set's components are those of its members
-  shares_in : (set : ℕ → Bool) → sum_below (component_count g) (λ c. when (set c) (self_in g shares c)) ≡ sum_below g.functions (λ f. when (set (component_of g f)) (slice_index shares f))
+  pub shares_in : (set : ℕ → Bool) → sum_below (component_count g) (λ c. when (set c) (self_in g shares c)) ≡ sum_below g.functions (λ f. when (set (component_of g f)) (slice_index shares f))
   shares_in set = sum_by_key g.functions (component_count g) set (λ f. true) (component_of g) (slice_index shares) is.components.within
 
   shares_within : (set : ℕ → Bool) → sum_below (component_count g) (λ c. when (set c) (self_in g shares c)) ≤ sum shares

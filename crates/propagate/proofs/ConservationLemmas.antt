@@ -23,7 +23,7 @@ pub two_components : (g : GraphValue) (i : ℕ) → is_outside g i ≡ true → 
 two_components g i out = eqb-false _ _ (not-true _ out)
 
 -- an arc into the set comes from it or from outside it
-split_arc : (o s t : Bool) (x : ℕ) → (s ≡ true → t ≡ true) → (o ≡ false → s ≡ t) → when (o && t) x ≡ when (o && s) x + when (not s && t) x
+pub split_arc : (o s t : Bool) (x : ℕ) → (s ≡ true → t ≡ true) → (o ≡ false → s ≡ t) → when (o && t) x ≡ when (o && s) x + when (not s && t) x
 split_arc true true true x closed same = omega arith
 split_arc true true false x closed same = absurd (true≢false (sym (closed refl)))
 split_arc true false true x closed same = omega arith

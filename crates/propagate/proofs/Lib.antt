@@ -9,3 +9,6 @@ pub mod OrderLemmas
 pub mod TimeLemmas
 pub mod FlowLemmas
 pub mod MemberLemmas
+pub mod ExactLemmas
+pub mod NearLemmas
+pub mod ExactRootLemmas

@@ -33,7 +33,7 @@ goes_down g is i below out =
       ]
     ]
 
-when_ext : (b : Bool) (x y : ℕ) → (b ≡ true → x ≡ y) → when b x ≡ when b y
+pub when_ext : (b : Bool) (x y : ℕ) → (b ≡ true → x ≡ y) → when b x ≡ when b y
 when_ext true x y same = same refl
 when_ext false x y same = refl
 

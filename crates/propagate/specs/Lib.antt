@@ -1,3 +1,4 @@
 pub mod Fields
 pub mod Solution
 pub mod Arcs
+pub mod ExactSolution
