@@ -1,0 +1,3 @@
+pub mod DivisorLemmas
+pub mod OrderLemmas
+pub mod ValueLemmas
