@@ -1,0 +1,115 @@
+//! The exact times of a graph, from callees to callers.
+
+ghost use Rattle.std.specs.Prelude.{◌≡◌, ◌<◌, ◌↔◌, ◌*◌, ℕ, true, length, IfOk, IfErr, IfSome, IsSome};
+ghost use Rattle.call_cycles.specs.Graph.{arc_at, arc_count, component_count, source_of, target_of, is_outside, entering_of};
+ghost use Rattle.call_cycles.specs.ExactFlow.{ExactTimes, IsExactFlow, exact_time_of_roots};
+ghost use Rattle.symbol_shares.specs.Shares.{attributed_of};
+ghost use Rattle.fraction128.specs.Fractions.{fraction, lowest};
+ghost use Rattle.fraction128.specs.Values.{value_of};
+ghost use Rattle.exact_flow.specs.Times.{IsSized, AreExactTimes, time_at};
+ghost use Rattle.exact_flow.specs.Steps.{FitsStep, self_part, child_part, with_both, IsNoneWide};
+ghost use Rattle.exact_flow.specs.Answers.{step_in, IsWideAnswer, put_at};
+
+use crate::flows::ExactFlow;
+use crate::refusal::ExactRefusal;
+use crate::step::{Given, Handed, hand_on, whole};
+use call_cycles::Graph;
+use fraction128::Frac;
+use propagate::solve::{outside_arcs, selves};
+use std::alloc::{AllocError, Global};
+use symbol_shares::Shares;
+
+/// Of the calls that enter the component of an outside arc's callee, those of the arc.
+fn calls(graph: &Graph, i: usize) -> Frac
+    requires arc { i < arc_count graph.now }
+    requires outside { is_outside graph.now i ≡ true }
+    ensures { value_of result ≡ lowest (arc_at graph.now i).count (entering_of graph.now (target_of graph.now i)) }
+{
+    let arc = graph.arc(i);
+    let all = graph.entering(graph.component(arc.callee));
+    let _count = graph.arc_count();
+    Frac::new(u128::from(arc.count), u128::from(all)).unwrap()
+}
+
+/// The step of outside arc `i`, where the arcs before it are done.
+fn step(graph: &Graph, flow: &ExactFlow, i: usize) -> Option<Handed>
+    requires arc { i < arc_count graph.now }
+    requires outside { is_outside graph.now i ≡ true }
+    requires selves { length flow.now.self ≡ component_count graph.now }
+    requires children { length flow.now.child ≡ component_count graph.now }
+    ensures arc_self { IfSome result (λ h. value_of h.arc_self ≡ self_part (step_in graph.now flow.now i)) }
+    ensures arc_child { IfSome result (λ h. value_of h.arc_child ≡ child_part (step_in graph.now flow.now i)) }
+    ensures after { IfSome result (λ h. value_of h.after ≡ with_both (step_in graph.now flow.now i)) }
+    ensures fits { IsSome result ↔ FitsStep (step_in graph.now flow.now i) }
+{
+    let arc = graph.arc(i);
+    let callee = graph.component(arc.callee);
+    let given = Given {
+        self_time: flow.self_of(callee),
+        child_time: flow.child_of(callee),
+        calls: calls(graph, i),
+        before: flow.child_of(graph.component(arc.caller)),
+    };
+    hand_on(&given)
+}
+
+/// Puts down what came of the step of arc `i`, which leaves component `c`.
+fn put(flow: &mut ExactFlow, c: u32, i: usize, handed: &Handed)
+    requires child { c < length flow.old.child }
+    requires arc_self { i < length flow.old.arc_self }
+    requires arc_child { i < length flow.old.arc_child }
+    ensures { flow.new ≡ put_at flow.old c i (value_of handed.now.arc_self) (value_of handed.now.arc_child) (value_of handed.now.after) }
+{
+    flow.arc_selves[i] = handed.arc_self;
+    flow.arc_children[i] = handed.arc_child;
+    flow.children[c as usize] = handed.after;
+}
+
+/// The flow before any arc is done: all times are 0 but those of functions themselves.
+fn start(alloc: Global, graph: &Graph, shares: &Shares) -> Result<ExactFlow, AllocError>
+    requires each { length shares.now.of ≡ graph.now.functions }
+    ensures sized { IfOk result (IsSized graph.now shares.now.of) }
+    ensures none { IfOk result (λ e. (c : ℕ) → time_at e.child c ≡ fraction 0 1) }
+{
+    // The shares together are less than 2^65, as its clause says.
+    let _all = shares.attributed();
+    let none = whole(0);
+    Ok(ExactFlow {
+        selves: selves(alloc, graph, shares)?,
+        children: vec![in alloc; none; graph.component_count() as usize]?,
+        arc_selves: vec![in alloc; none; graph.arc_count()]?,
+        arc_children: vec![in alloc; none; graph.arc_count()]?,
+    })
+}
+
+/// The exact times of a graph of functions with these shares: those of the one flow in which nothing is rounded,
+/// in lowest terms, or the first step at which a fraction does not fit.
+///
+/// Without memory for it, and for a graph of more than 2^32 - 1 arcs, the answer is `OutOfMemory`.
+pub fn exact(alloc: Global, graph: &Graph, shares: &Shares) -> Result<ExactFlow, ExactRefusal>
+    requires each { length shares.now.of ≡ graph.now.functions }
+    ensures sized { IfOk result (IsSized graph.now shares.now.of) }
+    ensures times { IfOk result (λ e. (x : ExactTimes) → IsExactFlow graph.now shares.now.of x → AreExactTimes graph.now x e) }
+    ensures fits { IfOk result (λ e. (x : ExactTimes) → IsExactFlow graph.now shares.now.of x → IsNoneWide graph.now shares.now.of x) }
+    ensures whole { IfOk result (λ e. (x : ExactTimes) → IsExactFlow graph.now shares.now.of x → exact_time_of_roots graph.now shares.now.of x ≡ x.grain * attributed_of shares.now) }
+    ensures wide { IfErr result (λ r. (x : ExactTimes) → IsExactFlow graph.now shares.now.of x → IsWideAnswer graph.now shares.now.of x r) }
+{
+    if graph.arc_count() > u32::MAX as usize {
+        return Err(ExactRefusal::OutOfMemory);
+    }
+    let order = outside_arcs(alloc, graph)?;
+    let mut flow = start(alloc, graph, shares)?;
+    for p in order.iter() {
+        let (c, i) = *p;
+        match step(graph, &flow, i) {
+            Some(handed) => put(&mut flow, c, i, &handed),
+            None => {
+                return Err(ExactRefusal::TooWide {
+                    head: graph.head(c),
+                    arc: i as u32,
+                });
+            }
+        }
+    }
+    Ok(flow)
+}
