@@ -5,3 +5,4 @@ pub mod SearchLemmas
 pub mod ContentLemmas
 pub mod RecordLemmas
 pub mod BoundLemmas
+pub mod RunLemmas

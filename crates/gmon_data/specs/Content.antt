@@ -8,7 +8,7 @@ use Rattle.gp_base.specs.declared.records.Rec.TheVariants as raw
 use Rattle.gmon_data.specs.declared.hist.Hist.{Hist}
 use Rattle.std.specs.List.{sum_by, flat_map, AllByRecursion, IsDistinct}
 use Rattle.std.specs.Option.{option_or}
-use Rattle.std.specs.Map.{keys_of}
+use Rattle.std.specs.Map.{keys_of, lookup}
 use Rattle.gmon_data.specs.declared.refusal.Unlike.{Unlike}
 use Rattle.gmon_data.specs.declared.refusal.AddRefusal.{AddRefusal}
 use Rattle.gmon_data.specs.declared.refusal.AddRefusal.TheVariants as answers
@@ -32,6 +32,10 @@ pub record Content : Type 0 where
 
 abbrev pub empty_content : Content
 empty_content = record { hists = []; arcs = []; blocks = []; «unit» = None }
+
+-- the executions at an address, 0 where it has none
+abbrev pub runs_at : ℕ → List (ℕ × ℕ) → ℕ
+runs_at addr blocks = unwrap_or (lookup (nat_eq addr) blocks) 0
 
 abbrev pub same_pair : ℕ × ℕ → ℕ × ℕ → Bool
 same_pair p q = nat_eq p.0 q.0 && nat_eq p.1 q.1

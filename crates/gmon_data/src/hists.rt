@@ -12,7 +12,7 @@ use gp_base::Unit;
 use std::alloc::{AllocError, Global};
 
 /// How many kept histograms end at or below an address: they are the first ones.
-fn count_ended(hists: &[Hist], address: u32) -> usize
+pub(crate) fn count_ended(hists: &[Hist], address: u32) -> usize
     requires kept { AllByRecursion IsKept hists.now }
     requires apart { IsApart hists.now }
     ensures inside { result ≤ length hists.now }

@@ -1,9 +1,10 @@
 //! What follows from the definitions of a content.
 
-ghost use Rattle.std.specs.Prelude.{◌≡◌, ◌++◌, ℕ, List, filter_map};
+ghost use Rattle.std.specs.Prelude.{◌≡◌, ◌++◌, ℕ, List, filter_map, nat_eq};
 ghost use Rattle.std.specs.List.{sum_by};
-ghost use Rattle.gmon_data.specs.Content.{WideRec, content_of, hist_in, with_records};
+ghost use Rattle.gmon_data.specs.Content.{WideRec, block_in, content_of, hist_in, runs_at, with_records};
 ghost use Rattle.gmon_data.specs.Hists.{count_at};
+ghost use Rattle.gmon_data.specs.Tally.{sum_at};
 
 /// Each counter is the sum of that counter: for every low address and every place, the histograms of a
 /// content together count there what the histograms among its records count.
@@ -14,4 +15,9 @@ pub fn counters_add_up()
 /// The content of records and more records is that of the first ones, with the others added one by one.
 pub fn records_add_up()
     ensures { (recs more : List WideRec) → content_of (recs ++ more) ≡ with_records more (content_of recs) }
+{}
+
+/// The executions at an address are all that the records have there.
+pub fn executions_add_up()
+    ensures { (recs : List WideRec) (addr : ℕ) → runs_at addr (content_of recs).blocks ≡ sum_at nat_eq addr (filter_map block_in recs) }
 {}

@@ -1,13 +1,14 @@
 //! A profile, and what is added to it.
 
-ghost use Rattle.std.specs.Prelude.{◌≡◌, ◌↔◌, ◌<◌, ℕ, List, ◌++◌, ◌∷◌, [], length, map, slice_get, Some, None, IfOk, IfErr, OnOk, OnErr};
+ghost use Rattle.std.specs.Prelude.{◌≡◌, ◌↔◌, ◌<◌, ℕ, List, ◌++◌, ◌∷◌, [], ◌≤◌, true, false, nat_le, length, map, slice_get, Some, None, IfOk, IfErr, OnOk, OnErr};
 ghost use Rattle.std.specs.List.{All};
-ghost use Rattle.gmon_data.specs.Content.{IsProfile, WideRec, WideHist, WideArc, WideBlock, empty_content, with_hist, with_arc, hist_conflict, with_block, content_of, IsWithin, HasRange, IsAdded, IsStopped, conflict_of, wide_block, wide_hist, wide_record, wide_records, with_records};
+ghost use Rattle.std.specs.List.Sorted.{IsPartitionPoint};
+ghost use Rattle.gmon_data.specs.Content.{IsProfile, WideRec, WideHist, WideArc, WideBlock, empty_content, with_hist, with_arc, hist_conflict, with_block, content_of, IsWithin, HasRange, IsAdded, IsStopped, conflict_of, runs_at, wide_block, wide_hist, wide_record, wide_records, with_records};
 ghost use Rattle.gmon_data.specs.Hists.{IsUnlike, samples_of};
 ghost use Rattle.gmon_data.specs.Tally.{total_of};
 
 use crate::hist::{Hist, clone_hists, samples, widened};
-use crate::hists::{conflict, normal_unit, put};
+use crate::hists::{conflict, count_ended, normal_unit, put};
 use crate::refusal::AddRefusal;
 use crate::tally::{add_to, total};
 use gp_base::{RawArc, RawBlock, RawHist, Rec, Records, Unit};
@@ -224,6 +225,13 @@ impl Profile {
         (*addr, *count)
     }
 
+    /// The executions at an address, 0 where it has none. Takes no memory.
+    pub fn block_of(&self, addr: u32) -> u64
+        ensures { result ≡ runs_at addr self.now.blocks }
+    {
+        self.blocks.get(&addr).copied().unwrap_or(0)
+    }
+
     /// The pair with the given number, and its calls.
     pub fn arc(&self, i: usize) -> (u32, u32, u64)
         requires { i < length self.now.arcs }
@@ -260,6 +268,16 @@ impl Profile {
         ensures { slice_get self.now.hists i ≡ Some result.now }
     {
         &self.hists[i]
+    }
+
+    /// How many histograms end at or below an address: they are the first ones. Takes time in the
+    /// logarithm of the number of histograms.
+    pub fn ended_hists(&self, address: u32) -> usize
+        ensures inside { result ≤ length self.now.hists }
+        ensures point { IsPartitionPoint (λ h. nat_le h.high address ≡ true) (λ h. nat_le h.high address ≡ false) self.now.hists result }
+        ensures profile { IsProfile self.now }
+    {
+        count_ended(self.hists.as_slice(), address)
     }
 
     /// The unit of the histograms: None exactly where there is no histogram.

@@ -242,6 +242,8 @@ fn numbers_of_64_bits(rt: HostRuntime) -> Result<(), Fail> {
     })?;
     assert_eq!(rt; profile.arc(0), (0x1_0004, 0x1_0008, (1 << 58) + 5));
     assert_eq!(rt; profile.block(0), (0x1_0000, (1 << 57) + 9));
+    assert_eq!(rt; profile.block_of(0x1_0000), (1 << 57) + 9);
+    assert_eq!(rt; profile.block_of(0x1_0004), 0);
     Ok(())
 }
 
