@@ -5,3 +5,4 @@ pub mod WalkLemmas
 pub mod ProfileLemmas
 pub mod PartLemmas
 pub mod CoverLemmas
+pub mod RangeLemmas

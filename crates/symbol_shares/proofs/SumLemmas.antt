@@ -71,7 +71,7 @@ sums-of-none f (x ∷ xs) each = omega (arith, sum_by-cons f x xs, each x, sums-
 
 -- ---- one bucket more, one histogram more
 
-range-more : (m : ℕ) → range_with_len 0 (m + 1) ≡ range_with_len 0 m ++ m ∷ []
+pub range-more : (m : ℕ) → range_with_len 0 (m + 1) ≡ range_with_len 0 m ++ m ∷ []
 range-more m =
     sym (map-id (range_with_len 0 (m + 1))) ∙ map-range_with_len_more (λ (i : ℕ). i) 0 m m (omega arith) ∙ ap (λ l. l ++ m ∷ []) (map-id (range_with_len 0 m))
 

@@ -2,6 +2,7 @@
 
 ghost use Rattle.std.specs.Prelude.{◌≡◌, ◌+◌, ◌-◌, ◌*◌, ◌/◌, ◌^◌, ◌<◌, ◌≤◌, ◌↔◌, IsTrue, length, slice_index};
 ghost use Rattle.symbol_shares.specs.Shares.{bucket_begin as begin_of, place_in_bucket as place_in, share_of_bucket as share_of};
+ghost use Rattle.symbol_shares.specs.Ranges.{grains_of_bucket as grains_of};
 
 use elf32_syms::Symbol;
 use gmon_data::Hist;
@@ -10,7 +11,7 @@ use gmon_data::Hist;
 pub(crate) const GRAINS: u128 = 1_000_000;
 
 /// The addresses of all buckets.
-fn width(hist: &Hist) -> u32
+pub(crate) fn width(hist: &Hist) -> u32
     requires { hist.now.low < hist.now.high }
     ensures { result ≡ hist.now.high - hist.now.low }
 {
@@ -73,8 +74,21 @@ fn grains_between(hist: &Hist, i: usize, from: u64, to: u64) -> u128
     grains_up_to(hist, i, to) - grains_up_to(hist, i, from)
 }
 
-/// What a symbol gets of bucket `i`.
+/// What the addresses from `low` to below `high` get of bucket `i`.
 #[tactic(auto, unfolding(crate::specs::Shares::grains_up_to))]
+pub(crate) fn grains_of_bucket(hist: &Hist, i: usize, low: u32, high: u32) -> u128
+    requires range { hist.now.low < hist.now.high }
+    requires few { length hist.now.counters < 2 ^ 26 }
+    requires inside { i < length hist.now.counters }
+    requires order { low ≤ high }
+    ensures { result ≡ grains_of hist.now low high i }
+{
+    let from = place_in_bucket(hist, i, low);
+    let to = place_in_bucket(hist, i, high);
+    grains_between(hist, i, from, to)
+}
+
+/// What a symbol gets of bucket `i`.
 pub(crate) fn share_of_bucket(hist: &Hist, i: usize, symbol: &Symbol) -> u128
     requires range { hist.now.low < hist.now.high }
     requires few { length hist.now.counters < 2 ^ 26 }
@@ -82,9 +96,7 @@ pub(crate) fn share_of_bucket(hist: &Hist, i: usize, symbol: &Symbol) -> u128
     requires symbol { symbol.now.addr < symbol.now.end }
     ensures { result ≡ share_of hist.now i symbol.now }
 {
-    let from = place_in_bucket(hist, i, symbol.addr);
-    let to = place_in_bucket(hist, i, symbol.end);
-    grains_between(hist, i, from, to)
+    grains_of_bucket(hist, i, symbol.addr, symbol.end)
 }
 
 /// Whether an address lies above the end of bucket `i`.

@@ -6,7 +6,8 @@ ghost use Rattle.elf32_syms.specs.declared.image.Symbol.{Symbol as AnySymbol};
 ghost use Rattle.elf32_syms.specs.Owners.{IsAscending};
 ghost use Rattle.gmon_data.specs.declared.hist.Hist.{Hist as AnyHist};
 ghost use Rattle.gmon_data.specs.Hists.{IsKept, samples_of};
-ghost use Rattle.symbol_shares.specs.Shares.{attributed_of, share_of_bucket, shares_of};
+ghost use Rattle.symbol_shares.specs.Shares.{attributed_of, share_of, share_of_bucket, shares_of};
+ghost use Rattle.symbol_shares.specs.Ranges.{grains_of_range};
 ghost use Rattle.symbol_shares.specs.Parts.{IsCovered, IsInside, overlap_of};
 
 /// A bucket that lies in one symbol gives it all of its grains: nothing is lost to rounding.
@@ -26,4 +27,11 @@ pub fn parts_of_buckets()
 pub fn covered_ranges()
     ensures attributed { (hists : List AnyHist) (symbols : List AnySymbol) → AllByRecursion IsKept hists → IsAscending symbols → AllByRecursion (IsCovered symbols) hists → attributed_of (shares_of hists symbols) ≡ 1000000 * samples_of hists }
     ensures outside { (hists : List AnyHist) (symbols : List AnySymbol) → AllByRecursion IsKept hists → IsAscending symbols → AllByRecursion (IsCovered symbols) hists → (shares_of hists symbols).outside ≡ 0 }
+{}
+
+/// Ranges of addresses that follow one another have together what the whole range has: no grain is
+/// lost between them. And a symbol's share is what its addresses have.
+pub fn ranges_add_up()
+    ensures follow { (hists : List AnyHist) (a b c : ℕ) → AllByRecursion IsKept hists → a ≤ b → b ≤ c → grains_of_range hists a b + grains_of_range hists b c ≡ grains_of_range hists a c }
+    ensures share { (hists : List AnyHist) (s : AnySymbol) → share_of hists s ≡ grains_of_range hists s.addr s.end }
 {}

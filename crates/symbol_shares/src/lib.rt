@@ -8,9 +8,11 @@
 
 mod bucket;
 pub mod laws;
+pub mod ranges;
 pub mod table;
 pub mod walk;
 
+pub use ranges::range_grains;
 pub use table::Shares;
 pub use walk::shares;
 

@@ -257,3 +257,56 @@ fn many_symbols(rt: HostRuntime) -> Result<(), Fail> {
     }
     Ok(())
 }
+
+/// The grains of a range, where its low address is not above its high one.
+fn grains(profile: &Profile, low: u32, high: u32) -> Option<u128> {
+    if low <= high {
+        Some(range_grains(profile, low, high))
+    } else {
+        None
+    }
+}
+
+#[test]
+fn grains_of_ranges(rt: HostRuntime) -> Result<(), Fail> {
+    let two = profile_of(
+        rt.alloc(),
+        (0x1010, 0x1020, b"\x02\x04".as_slice()),
+        (0x1000, 0x1010, b"\x07".as_slice()),
+    )?;
+    let odd = profile_of(
+        rt.alloc(),
+        (0x1000, 0x1007, b"\x02\x05\x01".as_slice()),
+        (0, 1, b"".as_slice()),
+    )?;
+    let none = Profile::new(rt.alloc());
+    for (name, profile, low, high, want) in [
+        ("part of a bucket", &two, 0x1000, 0x1004, 1_750_000),
+        ("within a bucket", &two, 0x1003, 0x100B, 3_500_000),
+        ("the end of a bucket", &two, 0x100C, 0x1010, 1_750_000),
+        ("over two histograms", &two, 0x100C, 0x1014, 2_750_000),
+        ("over three buckets", &two, 0x1008, 0x101C, 7_500_000),
+        ("all", &two, 0, 0xFFFF_FFFF, 13_000_000),
+        ("no address", &two, 0x1004, 0x1004, 0),
+        ("below", &two, 0, 0x1000, 0),
+        ("above", &two, 0x1020, 0xFFFF_FFFF, 0),
+        // The floors are those of symbols that begin within buckets.
+        ("the first of three", &odd, 0x1001, 0x1003, 2_571_429),
+        ("the second of three", &odd, 0x1003, 0x1004, 2_142_857),
+        ("the third of three", &odd, 0x1005, 0x1009, 857_143),
+        ("no histogram", &none, 0, 0xFFFF_FFFF, 0),
+    ] {
+        assert_eq!(rt; grains(profile, low, high), Some(want), "{name}");
+    }
+    Ok(())
+}
+
+#[test]
+fn many_ranges(rt: HostRuntime) -> Result<(), Fail> {
+    let profile = even_profile(rt.alloc(), 4_194_304)?;
+    for f in 0..65_536 {
+        let low = 0x1_0000 + 256 * f;
+        assert_eq!(rt; grains(&profile, low, low + 16), Some(4_000_000), "{f}");
+    }
+    Ok(())
+}
