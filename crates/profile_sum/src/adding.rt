@@ -41,7 +41,7 @@ fn profile_holds(profile: &Profile)
 }
 
 /// Adds the histograms. After a refusal some first ones are added.
-fn add_hists(total: &mut Profile, more: &Profile) -> Result<(), AddRefusal>
+pub fn add_hists(total: &mut Profile, more: &Profile) -> Result<(), AddRefusal>
     requires total { IsProfile total.old }
     requires more { IsProfile more.now }
     requires within { IsWithin (with_records (hist_records more.now) total.old) }
@@ -82,7 +82,7 @@ fn add_arcs(total: &mut Profile, more: &Profile) -> Result<(), AllocError>
 }
 
 /// Adds the executions of each block address. After want of memory those of some first ones are added.
-fn add_blocks(total: &mut Profile, more: &Profile) -> Result<(), AllocError>
+pub fn add_blocks(total: &mut Profile, more: &Profile) -> Result<(), AllocError>
     requires { IsWithin (with_records (map block_record more.now.blocks) total.old) }
     ensures { OnOk result (total.new ≡ with_records (map block_record more.now.blocks) total.old) }
 {

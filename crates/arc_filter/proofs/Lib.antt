@@ -1,0 +1,3 @@
+pub mod ProfileLemmas
+pub mod PairLemmas
+pub mod MarkLemmas

@@ -1,0 +1,81 @@
+-- Marks say what the words say.
+use Rattle.std.proofs.Common.{◌≡◌, ℕ, zero, suc, Bool, true, false, ◌&&◌, ◌||◌, List, [], ◌∷◌, length, map, Some, None, refl, sym, ap, ◌∙◌}
+use Rattle.std.specs.Prelude.{slice_index_or}
+use Rattle.std.specs.List.{list_any}
+use Rattle.std.proofs.lemmas.List.{length-map}
+use Rattle.std.proofs.lemmas.List.Elements.{All-cons, All-nil}
+use Rattle.std.specs.Str.{bytes_eq}
+use Rattle.elf32_syms.specs.declared.image.Symbol.{Symbol}
+use Rattle.elf32_syms.specs.Owners.{owner_of}
+use Rattle.arc_filter.specs.declared.marks.Marks.{Marks}
+use Rattle.arc_filter.specs.Cuts.{from_of, has_name, is_cut, is_cut_pair, to_of}
+use Rattle.arc_filter.specs.Marks.{AreMarks, AreOf, is_marked, named, sides_named, sides_of}
+use Rattle.arc_filter.proofs.PairLemmas.{cut_by_owners, cut_of_functions}
+
+abbrev IsOf : ℕ → Marks → Type 0
+IsOf n m = (length m.from.items ≡ n) × (length m.to.items ≡ n)
+
+abbrev Sides : Type 0
+Sides = List Bool × List Bool
+
+first_same : (x y : Sides) (xs ys : List Sides) → x ∷ xs ≡ y ∷ ys → x ≡ y
+first_same x y xs ys e = cc
+
+rest_same : (x y : Sides) (xs ys : List Sides) → x ∷ xs ≡ y ∷ ys → xs ≡ ys
+rest_same x y xs ys e = cc
+
+module _ (symbols : List Symbol) where
+  named_long : (name : List ℕ) → length (named symbols name) ≡ length symbols
+  named_long name = length-map symbols (λ (s : Symbol). bytes_eq s.name name)
+
+  pub marks_long : (words : List (List ℕ)) (marks : List Marks) → AreMarks symbols words marks → AreOf (length symbols) marks
+  marks_long words [] are = All-nil (IsOf (length symbols))
+  marks_long [] (m ∷ ms) are = absurd cc
+  marks_long (w ∷ ws) (m ∷ ms) are =
+      let here = first_same (sides_of m) (sides_named symbols w) (map sides_of ms) (map (sides_named symbols) ws) are in
+      let rest = rest_same (sides_of m) (sides_named symbols w) (map sides_of ms) (map (sides_named symbols) ws) are in
+      All-cons (IsOf (length symbols)) m ms
+      (ap (λ (p : Sides). length p.0) here ∙ named_long (from_of w), ap (λ (p : Sides). length p.1) here ∙ named_long (to_of w))
+      (marks_long ws ms rest)
+
+named_at : (symbols : List Symbol) (name : List ℕ) (f : ℕ) → slice_index_or (named symbols name) f false ≡ has_name symbols name f
+named_at [] name f = refl
+named_at (s ∷ ss) name zero = refl
+named_at (s ∷ ss) name (suc f) = named_at ss name f
+
+module _ (symbols : List Symbol) (f g : ℕ) where
+  abbrev has_both : Sides → Bool
+  has_both p = slice_index_or p.0 f false && slice_index_or p.1 g false
+
+  marked_each : (words : List (List ℕ)) (marks : List Marks) → AreMarks symbols words marks → is_marked marks f g ≡ is_cut_pair symbols words f g
+  unfolding is_cut_pair
+  marked_each [] [] are = refl
+  marked_each [] (m ∷ ms) are = absurd cc
+  marked_each (w ∷ ws) [] are = absurd cc
+  marked_each (w ∷ ws) (m ∷ ms) are =
+      let here = first_same (sides_of m) (sides_named symbols w) (map sides_of ms) (map (sides_named symbols) ws) are in
+      let rest = marked_each ws ms (rest_same (sides_of m) (sides_named symbols w) (map sides_of ms) (map (sides_named symbols) ws) are) in
+      let both = ap has_both here ∙ (λ i. named_at symbols (from_of w) f i && named_at symbols (to_of w) g i) in
+      λ i. both i || rest i
+
+  -- calls between two functions that own the addresses
+  pub pair_marked : (words : List (List ℕ)) (marks : List Marks) (from to : ℕ) → AreMarks symbols words marks → owner_of symbols from ≡ Some f → owner_of symbols to ≡ Some g → is_marked marks f g ≡ is_cut symbols words from to
+  pair_marked words marks from to are caller callee =
+      marked_each words marks are ∙ sym (cut_by_owners symbols words from to (Some f) (Some g) caller callee ∙ cut_of_functions symbols words f g)
+
+none_passes : {X : Type 0} (test : X → Bool) → ((x : X) → test x ≡ false) → (xs : List X) → list_any test xs ≡ false
+none_passes test none [] = refl
+none_passes test none (x ∷ xs) = rw (none x) (none_passes test none xs)
+
+and_false : (b : Bool) → (b && false) ≡ false
+and_false true = refl
+and_false false = refl
+
+-- an address that no function owns
+pub caller_unknown : (symbols : List Symbol) (words : List (List ℕ)) (from to : ℕ) → owner_of symbols from ≡ None → false ≡ is_cut symbols words from to
+caller_unknown symbols words from to none =
+    sym (cut_by_owners symbols words from to None (owner_of symbols to) none refl ∙ none_passes _ (λ word. refl) words)
+
+pub callee_unknown : (symbols : List Symbol) (words : List (List ℕ)) (from to : ℕ) → owner_of symbols to ≡ None → false ≡ is_cut symbols words from to
+callee_unknown symbols words from to none =
+    sym (cut_by_owners symbols words from to (owner_of symbols from) None refl none ∙ none_passes _ (λ word. and_false _) words)

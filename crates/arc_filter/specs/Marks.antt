@@ -1,0 +1,29 @@
+-- Which functions the words of cuts name, function by function.
+use Rattle.std.specs.Prelude.{◌≡◌, ℕ, ◌&&◌, false, Bool, List, map, length, slice_index_or}
+use Rattle.std.specs.List.{All, list_any}
+use Rattle.std.specs.Str.{bytes_eq}
+use Rattle.elf32_syms.specs.declared.image.Symbol.{Symbol}
+use Rattle.arc_filter.specs.declared.marks.Marks.{Marks}
+use Rattle.arc_filter.specs.Cuts.{from_of, to_of}
+
+-- of each symbol, whether it has the name
+abbrev pub named : List Symbol → List ℕ → List Bool
+named symbols name = map (λ (s : Symbol). bytes_eq s.name name) symbols
+
+abbrev pub sides_of : Marks → List Bool × List Bool
+sides_of m = (m.from.items, m.to.items)
+
+abbrev pub sides_named : List Symbol → List ℕ → List Bool × List Bool
+sides_named symbols word = (named symbols (from_of word), named symbols (to_of word))
+
+-- the marks are those of these words, one after the other
+abbrev pub AreMarks : List Symbol → List (List ℕ) → List Marks → Type 0
+AreMarks symbols words marks = map sides_of marks ≡ map (sides_named symbols) words
+
+-- the marks are of n functions
+abbrev pub AreOf : ℕ → List Marks → Type 0
+AreOf n marks = All (λ (m : Marks). (length m.from.items ≡ n) × (length m.to.items ≡ n)) marks
+
+-- some marks have both functions, the one as FROM and the other as TO
+abbrev pub is_marked : List Marks → ℕ → ℕ → Bool
+is_marked marks f g = list_any (λ (m : Marks). slice_index_or m.from.items f false && slice_index_or m.to.items g false) marks
