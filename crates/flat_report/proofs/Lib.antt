@@ -4,3 +4,4 @@ pub mod FunctionLemmas
 pub mod CallLemmas
 pub mod RowLemmas
 pub mod ReportLemmas
+pub mod HiddenLemmas

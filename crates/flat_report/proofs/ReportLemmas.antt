@@ -19,6 +19,6 @@ pub report_cut : (text whole : List ℕ) (x y : Outside) (e : Failed) → text �
 report_cut text whole x y e same puts = subst (λ (t : List ℕ). Reports t x y (Err WriteFault)) same (record { takes = record { done = tt; part = puts.takes.part; input = puts.takes.input }; counts = record { own = puts.counts.own; read = puts.counts.read; err = puts.counts.err } })
 
 -- the text of the entries is the flat profile
-pub text_of_entries : (s : Sources) (entries : List Entry) → entries ≡ entries_of s → text_of s entries ≡ flat_text s
+pub text_of_entries : (s : Sources) (hidden : List (List ℕ)) (entries : List Entry) → entries ≡ entries_of s → text_of s hidden entries ≡ flat_text s hidden
 unfolding flat_text
-text_of_entries s entries same = ap (text_of s) same
+text_of_entries s hidden entries same = ap (text_of s hidden) same

@@ -5,6 +5,7 @@ use Rattle.text_cols.specs.Columns.{decimal, hundredths_of, right_of, spaces}
 use Rattle.symbol_shares.specs.Shares.{ShareTable, attributed_of}
 use Rattle.flat_report.specs.Sources.{Sources}
 use Rattle.flat_report.specs.Entries.{Entry, entries_of}
+use Rattle.flat_report.specs.Hidden.{shown}
 
 -- grains in seconds, at so many samples of 1,000,000 grains a second
 abbrev pub seconds_of : ℕ → ℕ → List ℕ
@@ -47,14 +48,15 @@ cumulative_of entries n = sum_by (λ (e : Entry). e.share) (take n entries)
 abbrev pub line_at : ℕ → ℕ → List Entry → ℕ × Entry → List ℕ
 line_at total rate entries numbered = line_of total rate (cumulative_of entries (numbered.0 + 1)) numbered.1
 
--- a line for each entry
-abbrev pub lines_of : ℕ → ℕ → List Entry → List ℕ
-lines_of total rate entries = flat_map (line_at total rate entries) (enumerate_from 0 entries)
+-- a line for each entry but those of hidden functions
+abbrev pub lines_of : ℕ → ℕ → List (List ℕ) → List Entry → List ℕ
+lines_of total rate hidden entries = flat_map (line_at total rate entries) (shown hidden (enumerate_from 0 entries))
 
--- the header, and a line for each of these entries
-abbrev pub text_of : Sources → List Entry → List ℕ
-text_of s entries = header_text s.shares s.rate ++ lines_of (attributed_of s.shares) s.rate entries
+-- the header, and a line for each of these entries but those of hidden functions
+abbrev pub text_of : Sources → List (List ℕ) → List Entry → List ℕ
+text_of s hidden entries = header_text s.shares s.rate ++ lines_of (attributed_of s.shares) s.rate hidden entries
 
--- the flat profile: a line for each function that has a share or is called, in order
-unfoldable pub flat_text : Sources → List ℕ
-flat_text s = text_of s (entries_of s)
+-- The flat profile: a line for each function that has a share or is called, in order, but for functions with a hidden
+-- name. The others have the lines that they have where none is hidden.
+unfoldable pub flat_text : Sources → List (List ℕ) → List ℕ
+flat_text s hidden = text_of s hidden (entries_of s)

@@ -1,6 +1,7 @@
 pub mod Sources
 pub mod Order
 pub mod Entries
+pub mod Hidden
 pub mod FlatText
 pub mod Reports
 pub mod Rows

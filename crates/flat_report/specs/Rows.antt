@@ -1,11 +1,13 @@
 -- The rows from which a report is printed.
-use Rattle.std.specs.Prelude.{◌≡◌, ℕ, ◌^◌, ◌<◌, ◌≤◌, List, length, map}
+use Rattle.std.specs.Prelude.{◌≡◌, ℕ, ◌^◌, ◌<◌, ◌≤◌, List, [], length, map, if◌then◌else◌}
 use Rattle.call_cycles.specs.Flow.{IsFlow}
 use Rattle.call_cycles.specs.Graph.{all_calls}
 use Rattle.flat_report.specs.declared.sources.Sources as declared
 use Rattle.flat_report.specs.declared.rows.Row.{Row}
 use Rattle.flat_report.specs.Sources.{Sources}
 use Rattle.flat_report.specs.Entries.{Entry, entry_of}
+use Rattle.flat_report.specs.FlatText.{line_of}
+use Rattle.flat_report.specs.Hidden.{is_hidden}
 
 -- the sources that references lead to
 abbrev pub sources_of : declared.Sources → Sources
@@ -34,3 +36,7 @@ pub record FitsIn (total : ℕ) (e : Entry) : Type 0 where
   pub share : e.share ≤ total
   pub whole : e.total ≤ total
   pub calls : e.calls < 2 ^ 59
+
+-- the line of an entry, unless its function is hidden
+abbrev pub shown_line : List (List ℕ) → ℕ → ℕ → ℕ → Entry → List ℕ
+shown_line hidden total rate cumulative e = if is_hidden hidden e.name then [] else line_of total rate cumulative e

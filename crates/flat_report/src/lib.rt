@@ -4,6 +4,7 @@
 #![tactic(auto)]
 
 mod calls;
+pub mod hidden;
 pub mod laws;
 pub mod line;
 pub mod refusal;

@@ -1,6 +1,6 @@
 //! The whole flat profile.
 
-ghost use Rattle.std.specs.Prelude.{◌≡◌, ◌^◌, ◌<◌, ◌≤◌, ◌++◌, Err, length};
+ghost use Rattle.std.specs.Prelude.{◌≡◌, ◌^◌, ◌<◌, ◌≤◌, ◌++◌, Err, length, map, string_bytes};
 ghost use Rattle.std.specs.List.{All, sum_by};
 ghost use Rattle.host_port.specs.Buffered.{Adds};
 ghost use Rattle.host_port.specs.Host.{Puts};
@@ -10,9 +10,10 @@ ghost use Rattle.call_cycles.specs.Graph.{all_calls};
 ghost use Rattle.symbol_shares.specs.Shares.{attributed_of};
 ghost use Rattle.flat_report.specs.FlatText.{flat_text, header_text, lines_of, line_of, text_of};
 ghost use Rattle.flat_report.specs.Reports.{Reports};
-ghost use Rattle.flat_report.specs.Rows.{FitsIn, entry_of_row, entries_of_rows, sources_of};
+ghost use Rattle.flat_report.specs.Rows.{FitsIn, entry_of_row, entries_of_rows, shown_line, sources_of};
 ghost use Rattle.flat_report.specs.declared.refusal.ReportRefusal.TheVariants.{OutOfMemory};
 
+use crate::hidden::is_hidden;
 use crate::line;
 use crate::refusal::ReportRefusal;
 use crate::rows::{Row, rows_in_order};
@@ -36,6 +37,9 @@ const HEADINGS: &[u8] =
 /// what the function gets from those that it calls. `rate` is the number of samples a second, and a
 /// sample has 1,000,000 grains.
 ///
+/// A function whose name is among `hidden` has no line. The seconds of the lines up to another one count it
+/// as if it had.
+///
 /// After `WriteFault` a prefix of the text is printed, and not all of it. `OutOfMemory` comes before the
 /// first byte.
 pub fn write<H: Host>(
@@ -45,6 +49,7 @@ pub fn write<H: Host>(
     flow: &Flow,
     shares: &Shares,
     rate: u32,
+    hidden: &[String],
     host: &mut H,
 ) -> Result<(), ReportRefusal>
     requires functions { graph.now.functions ≡ length symbols.now }
@@ -52,7 +57,7 @@ pub fn write<H: Host>(
     requires flow { IsFlow graph.now shares.now.of flow.now }
     requires few { all_calls graph.now < 2 ^ 59 }
     requires rate { 1 ≤ rate }
-    ensures printed { Reports (flat_text (record { symbols = symbols.now; graph = graph.now; flow = flow.now; shares = shares.now; rate = rate })) (H.outside host.old) (H.outside host.new) result }
+    ensures printed { Reports (flat_text (record { symbols = symbols.now; graph = graph.now; flow = flow.now; shares = shares.now; rate = rate }) (map string_bytes hidden.now)) (H.outside host.old) (H.outside host.new) result }
     ensures idle { result ≡ Err OutOfMemory → host.new ≡ host.old }
 {
     let sources = Sources {
@@ -63,37 +68,43 @@ pub fn write<H: Host>(
         rate,
     };
     let rows = rows_in_order(alloc, &sources)?;
-    print(rows.as_slice(), &sources, host)?;
+    print(rows.as_slice(), &sources, hidden, host)?;
     Ok(())
 }
 
-fn print<H: Host>(rows: &[Row<'_>], sources: &Sources<'_>, host: &mut H) -> Result<(), Failed>
+fn print<H: Host>(
+    rows: &[Row<'_>],
+    sources: &Sources<'_>,
+    hidden: &[String],
+    host: &mut H,
+) -> Result<(), Failed>
     requires fit { All (FitsIn (attributed_of sources.now.shares.now)) (entries_of_rows rows.now) }
     requires sum { sum_by (λ e. e.share) (entries_of_rows rows.now) ≤ attributed_of sources.now.shares.now }
     requires rate { 1 ≤ sources.now.rate }
-    ensures { Puts Output (text_of (sources_of sources.now) (entries_of_rows rows.now)) (H.outside host.old) (H.outside host.new) result }
+    ensures { Puts Output (text_of (sources_of sources.now) (map string_bytes hidden.now) (entries_of_rows rows.now)) (H.outside host.old) (H.outside host.new) result }
 {
     let mut lines = PrintBuf::new();
-    put_report(rows, sources, &mut lines, host)?;
+    put_report(rows, sources, hidden, &mut lines, host)?;
     lines.flush(host)
 }
 
 fn put_report<H: Host>(
     rows: &[Row<'_>],
     sources: &Sources<'_>,
+    hidden: &[String],
     lines: &mut PrintBuf,
     host: &mut H,
 ) -> Result<(), Failed>
     requires fit { All (FitsIn (attributed_of sources.now.shares.now)) (entries_of_rows rows.now) }
     requires sum { sum_by (λ e. e.share) (entries_of_rows rows.now) ≤ attributed_of sources.now.shares.now }
     requires rate { 1 ≤ sources.now.rate }
-    ensures { Adds Output (text_of (sources_of sources.now) (entries_of_rows rows.now)) lines.old lines.new
+    ensures { Adds Output (text_of (sources_of sources.now) (map string_bytes hidden.now) (entries_of_rows rows.now)) lines.old lines.new
         (H.outside host.old) (H.outside host.new) result }
 {
     let shares = sources.shares;
     let rate = sources.rate;
     put_header(shares, rate, lines, host)?;
-    put_rows(rows, shares.attributed(), rate, lines, host)
+    put_rows(rows, hidden, shares.attributed(), rate, lines, host)
 }
 
 fn put_header<H: Host>(
@@ -111,6 +122,7 @@ fn put_header<H: Host>(
 
 fn put_rows<H: Host>(
     rows: &[Row<'_>],
+    hidden: &[String],
     total: u128,
     rate: u32,
     lines: &mut PrintBuf,
@@ -120,18 +132,42 @@ fn put_rows<H: Host>(
     requires sum { sum_by (λ e. e.share) (entries_of_rows rows.now) ≤ total }
     requires within { total < 2 ^ 65 }
     requires rate { 1 ≤ rate }
-    ensures { Adds Output (lines_of total rate (entries_of_rows rows.now)) lines.old lines.new
+    ensures { Adds Output (lines_of total rate (map string_bytes hidden.now) (entries_of_rows rows.now)) lines.old lines.new
         (H.outside host.old) (H.outside host.new) result }
 {
     let mut cumulative = 0;
     for row in rows {
         cumulative += row.share;
-        put_row(row, total, rate, cumulative, lines, host)?;
+        put_row(row, hidden, total, rate, cumulative, lines, host)?;
     }
     Ok(())
 }
 
+/// Puts the line of a function, unless it is hidden.
 fn put_row<H: Host>(
+    row: &Row<'_>,
+    hidden: &[String],
+    total: u128,
+    rate: u32,
+    cumulative: u128,
+    lines: &mut PrintBuf,
+    host: &mut H,
+) -> Result<(), Failed>
+    requires within { total < 2 ^ 65 }
+    requires rate { 1 ≤ rate }
+    requires cumulative { cumulative ≤ total }
+    requires fits { FitsIn total (entry_of_row row.now) }
+    ensures { Adds Output (shown_line (map string_bytes hidden.now) total rate cumulative (entry_of_row row.now)) lines.old lines.new
+        (H.outside host.old) (H.outside host.new) result }
+{
+    if is_hidden(hidden, row.symbol.name.as_slice()) {
+        return Ok(());
+    }
+    put_line(row, total, rate, cumulative, lines, host)
+}
+
+/// Puts the line of a function.
+fn put_line<H: Host>(
     row: &Row<'_>,
     total: u128,
     rate: u32,

@@ -116,6 +116,7 @@ fn print_counters(
     symbols: &[Symbol],
     calls: &[Calls],
     rate: u32,
+    hidden: &[String],
     host: &mut MemHost,
 ) -> Result<Result<(), ReportRefusal>, AddRefusal>
     requires samples { sum counters < 2 ^ 45 }
@@ -128,15 +129,16 @@ fn print_counters(
     let calls = profile_of_calls(alloc, calls)?;
     let graph = graph(alloc, &calls, symbols)?;
     let flow = flow(alloc, &graph, &shares)?;
-    Ok(write(alloc, symbols, &graph, &flow, &shares, rate, host))
+    Ok(write(alloc, symbols, &graph, &flow, &shares, rate, hidden, host))
 }
 
-/// Prints the flat profile of these functions and calls.
-fn print(
+/// Prints the flat profile of these functions and calls, without the functions of hidden names.
+fn print_hidden(
     alloc: Global,
     functions: &[Function<'_>],
     calls: &[Calls],
     rate: u32,
+    hidden: &[String],
     host: &mut MemHost,
 ) -> Result<Result<(), ReportRefusal>, AddRefusal> {
     let counters = samples_of(alloc, functions)?;
@@ -147,8 +149,20 @@ fn print(
         symbols.as_slice(),
         calls,
         rate.max(1),
+        hidden,
         host,
     )
+}
+
+/// Prints the flat profile of these functions and calls.
+fn print(
+    alloc: Global,
+    functions: &[Function<'_>],
+    calls: &[Calls],
+    rate: u32,
+    host: &mut MemHost,
+) -> Result<Result<(), ReportRefusal>, AddRefusal> {
+    print_hidden(alloc, functions, calls, rate, &[], host)
 }
 
 /// The text with these lines.
@@ -408,6 +422,77 @@ fn columns_on_calls(rt: HostRuntime) -> Result<(), Fail> {
     Ok(())
 }
 
+/// These names, as they are given.
+fn names_of(alloc: Global, names: &[&str]) -> Result<Vec<String>, AllocError> {
+    let mut given = Vec::new(alloc);
+    for name in names {
+        given.push(String::from_str(alloc, name)?)?;
+    }
+    Ok(given)
+}
+
+/// A message, functions, calls, hidden names, and the lines that are printed.
+type HiddenRow = (
+    &'static str,
+    &'static [Function<'static>],
+    &'static [Calls],
+    &'static [&'static str],
+    &'static [&'static str],
+);
+
+#[test]
+fn hidden_functions_have_no_line(rt: HostRuntime) -> Result<(), Fail> {
+    let rows: [HiddenRow; 5] = [
+        (
+            "the time of a hidden function counts",
+            &THREE,
+            &CYCLE,
+            &["a"],
+            &[THREE_LINES[0], THREE_LINES[2]],
+        ),
+        (
+            "each of the names",
+            &THREE,
+            &CYCLE,
+            &["main", "b"],
+            &[THREE_LINES[1]],
+        ),
+        (
+            "all functions",
+            &THREE,
+            &CYCLE,
+            &["b", "a", "main", "a"],
+            &[],
+        ),
+        (
+            "names that no function has",
+            &THREE,
+            &CYCLE,
+            &["mai", "main2", "", "A"],
+            &THREE_LINES,
+        ),
+        (
+            "all functions of a name",
+            &[("f", 2), ("e", 1), ("f", 3)],
+            &[],
+            &["f"],
+            &["  16.67         0.06       0.01                                          e"],
+        ),
+    ];
+    for (message, functions, calls, hidden, lines) in rows {
+        let mut host = MemHost::new(rt.alloc());
+        let hidden = names_of(rt.alloc(), hidden)?;
+        assert_eq!(rt;
+            print_hidden(rt.alloc(), functions, calls, 100, &hidden, &mut host)?,
+            Ok(()),
+            "{message}"
+        );
+        let want = text(rt.alloc(), THREE_TOTALS, lines)?;
+        assert_eq!(rt; host.printed(), want.as_slice(), "{message}");
+    }
+    Ok(())
+}
+
 #[test]
 fn a_long_name_is_printed_whole(rt: HostRuntime) -> Result<(), Fail> {
     let mut name = String::new(rt.alloc());
@@ -509,6 +594,7 @@ fn many_functions(rt: HostRuntime) -> Result<(), Fail> {
         symbols.as_slice(),
         calls.as_slice(),
         1,
+        &[],
         &mut host,
     )?;
     assert_eq!(rt; printed, Ok(()));

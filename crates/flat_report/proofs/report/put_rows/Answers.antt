@@ -1,10 +1,10 @@
-use Rattle.std.proofs.Common.{◌≤◌, length, refl, arith}
+use Rattle.std.proofs.Common.{◌≤◌, length, map, string_bytes, refl, arith}
 use Rattle.std.specs.List.{enumerate_from}
 use Rattle.std.proofs.lemmas.Result.{err_from_is_err_and}
 use Rattle.host_port.specs.declared.side.Side.TheVariants.{Output}
 use Rattle.host_port.proofs.BufferLemmas.{adds_nothing, adds_more, adds_stop, adds_all}
-use Rattle.flat_report.specs.FlatText.{line_at}
 use Rattle.flat_report.specs.Rows.{entry_of_row, entries_of_rows}
+use Rattle.flat_report.proofs.HiddenLemmas.{put_shown, shown_at}
 use Rattle.flat_report.proofs.RowLemmas.{IsRowAt, numbered_long, numbered_inside, numbered_at, cumulative_more, cumulative_within, row_fits}
 use Rattle.flat_report.proofs.report.put_rows.Goals as goal
 
@@ -33,7 +33,9 @@ returns-in_err-put_row g c =
     let k = c.loop-row.row-index in
     let here : IsRowAt c.args.rows.now k c.loop-row.cumulative c.row-item.result = record { inside = c.loop-row-test.true; at = c.row-item.is; before = c.loop-row.invariant.cumulative } in
     let line = rw (cumulative_more _ _ _ _ here) at c.in_err-put_row.ensures in
-    rw p.1 (adds_stop Output (line_at c.args.total c.args.rate entries) (enumerate_from 0 entries) k (k, entry_of_row c.row-item.result) _ _ _ _ _ _ tt _ (numbered_inside _ _ _ _ here) (numbered_at _ _ _ _ here) c.loop-row.invariant.lines line)
+    let hidden = map string_bytes c.args.hidden.now in
+    rw p.1 (put_shown c.args.total c.args.rate hidden entries _ _ _ _ _
+    (adds_stop Output (shown_at c.args.total c.args.rate hidden entries) (enumerate_from 0 entries) k (k, entry_of_row c.row-item.result) _ _ _ _ _ _ tt _ (numbered_inside _ _ _ _ here) (numbered_at _ _ _ _ here) c.loop-row.invariant.lines line))
 
 pub loop-row-preserved : goal.loop-row-preserved
 loop-row-preserved g c =
@@ -44,11 +46,12 @@ loop-row-preserved g c =
     let line = rw more at c.in_ok-put_row.ensures in
     record {
       cumulative = more;
-      lines = adds_more Output (line_at c.args.total c.args.rate entries) (enumerate_from 0 entries) k (k, entry_of_row c.row-item.result) _ _ _ _ _ _ tt _ (numbered_inside _ _ _ _ here) (numbered_at _ _ _ _ here) c.loop-row.invariant.lines line;
+      lines = adds_more Output (shown_at c.args.total c.args.rate (map string_bytes c.args.hidden.now) entries) (enumerate_from 0 entries) k (k, entry_of_row c.row-item.result) _ _ _ _ _ _ tt _ (numbered_inside _ _ _ _ here) (numbered_at _ _ _ _ here) c.loop-row.invariant.lines line;
     }
 
 pub returns : goal.returns
 returns g c =
     let entries = entries_of_rows c.args.rows.now in
     let all : length (enumerate_from 0 entries) ≤ c.loop-row.row-index = omega (arith, c.loop-row-test.false, numbered_long c.args.rows.now) in
-    adds_all Output (line_at c.args.total c.args.rate entries) (enumerate_from 0 entries) c.loop-row.row-index _ _ _ _ _ all c.loop-row.invariant.lines
+    let hidden = map string_bytes c.args.hidden.now in
+    put_shown c.args.total c.args.rate hidden entries _ _ _ _ _ (adds_all Output (shown_at c.args.total c.args.rate hidden entries) (enumerate_from 0 entries) c.loop-row.row-index _ _ _ _ _ all c.loop-row.invariant.lines)

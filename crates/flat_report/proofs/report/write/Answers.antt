@@ -1,4 +1,4 @@
-use Rattle.std.proofs.Common.{List, ap, sym, ◌∙◌, arith}
+use Rattle.std.proofs.Common.{List, map, string_bytes, ap, sym, ◌∙◌, arith}
 use Rattle.std.specs.List.{sum_by}
 use Rattle.std.proofs.lemmas.Result.{err_from_is_err_and}
 use Rattle.flat_report.specs.Sources.{Sources}
@@ -19,9 +19,9 @@ pub returns-in_err-print-clause-printed : goal.returns-in_err-print-clause-print
 returns-in_err-print-clause-printed g c =
     let p = err_from_is_err_and c.from_residual-in_err-print.result c.from_residual-in_err-print.ensures.1 in
     let same = ap entries_of_rows c.as_slice.ensures.value ∙ c.in_ok-rows.ensures.entries in
-    rw (p.1, p.2) (report_cut _ _ _ _ _ (text_of_entries _ (entries_of_rows c.as_slice.result.now) same) c.in_err-print.ensures)
+    rw (p.1, p.2) (report_cut _ _ _ _ _ (text_of_entries _ (map string_bytes c.args.hidden.now) (entries_of_rows c.as_slice.result.now) same) c.in_err-print.ensures)
 
 pub returns-clause-printed : goal.returns-clause-printed
 returns-clause-printed g c =
     let same = ap entries_of_rows c.as_slice.ensures.value ∙ c.in_ok-rows.ensures.entries in
-    report_whole _ _ _ _ _ (tt {0}) (text_of_entries _ (entries_of_rows c.as_slice.result.now) same) c.in_ok-print.ensures
+    report_whole _ _ _ _ _ (tt {0}) (text_of_entries _ (map string_bytes c.args.hidden.now) (entries_of_rows c.as_slice.result.now) same) c.in_ok-print.ensures

@@ -5,7 +5,7 @@ use Rattle.host_port.specs.declared.side.Side.TheVariants.{Output}
 use Rattle.host_port.proofs.BufferLemmas.{adds_then, adds_front}
 use Rattle.flat_report.specs.FlatText.{line_of, columns_of}
 use Rattle.flat_report.specs.Rows.{entry_of_row}
-use Rattle.flat_report.proofs.report.put_row.Goals as goal
+use Rattle.flat_report.proofs.report.put_line.Goals as goal
 
 pub returns-in_err-put : goal.returns-in_err-put
 unfolding line_of
