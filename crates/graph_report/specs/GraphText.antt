@@ -1,6 +1,6 @@
 -- The text of the call graph: for each function and each cycle who called it and whom it called, and how much time went
 -- from callees to callers.
-use Rattle.std.specs.Prelude.{ℕ, ◌*◌, ◌==◌, ◌&&◌, List, [], ◌∷◌, ◌++◌, filter, replicate, slice_index, codes, if◌then◌else◌}
+use Rattle.std.specs.Prelude.{ℕ, ◌*◌, ◌==◌, ◌&&◌, not, true, Bool, List, [], ◌∷◌, ◌++◌, filter, replicate, slice_index, codes, if◌then◌else◌}
 use Rattle.std.specs.List.{flat_map}
 use Rattle.text_cols.specs.Columns.{decimal, hundredths_of, left_of, right_of, spaces}
 use Rattle.symbol_shares.specs.Shares.{attributed_of}
@@ -8,6 +8,7 @@ use Rattle.call_cycles.specs.Graph.{GraphValue, arc_at, arc_count, component_of,
 use Rattle.call_cycles.specs.Flow.{time_of}
 use Rattle.call_cycles.specs.Sums.{numbers_below}
 use Rattle.flat_report.specs.FlatText.{seconds_of}
+use Rattle.flat_report.specs.Hidden.{is_hidden}
 use Rattle.flat_report.specs.Sources.{Sources, name_of, share_of, child_of, total_of, calls_by_others, calls_by_itself}
 use Rattle.graph_report.specs.Cycles.{is_member, cycle_number, inner_calls, cycle_name}
 use Rattle.graph_report.specs.Entries.{Entry, ordered, number_in}
@@ -143,6 +144,12 @@ subject_text s number (Function f) = function_text s number f
 abbrev pub header_text : List ℕ
 header_text = codes "call graph\nindex     %time        self    children                called  name\n"
 
--- the call graph: an entry for each cycle and each function that took time or has calls, in order
-unfoldable pub graph_text : Sources → List ℕ
-graph_text s = header_text ++ flat_map (λ (e : Entry). subject_text s (number_in (ordered s)) e.subject) (ordered s)
+-- an entry is shown, unless it is that of a function with a hidden name; the entry of a cycle can't be hidden
+abbrev pub is_shown : List (List ℕ) → Subject → List ℕ → Bool
+is_shown hidden (Cycle head) name = true
+is_shown hidden (Function f) name = not (is_hidden hidden name)
+
+-- The call graph: an entry for each cycle and each function that took time or has calls, in order, but for functions with
+-- a hidden name. The others have the entries, with their numbers and lines, that they have where none is hidden.
+unfoldable pub graph_text : Sources → List (List ℕ) → List ℕ
+graph_text s hidden = header_text ++ flat_map (λ (e : Entry). subject_text s (number_in (ordered s)) e.subject) (filter (λ (e : Entry). is_shown hidden e.subject e.name) (ordered s))

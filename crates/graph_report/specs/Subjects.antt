@@ -1,11 +1,11 @@
 -- The lines of the subjects of entries.
-use Rattle.std.specs.Prelude.{◌≡◌, ◌<◌, ◌++◌, ℕ, true, List, codes}
+use Rattle.std.specs.Prelude.{◌≡◌, ◌<◌, ◌++◌, ℕ, true, List, [], codes, if◌then◌else◌}
 use Rattle.call_cycles.specs.Flow.{time_of}
 use Rattle.call_cycles.specs.Graph.{GraphValue, component_of, is_cycle}
 use Rattle.flat_report.specs.Sources.{Sources, total_of}
 use Rattle.graph_report.specs.Cycles.{cycle_name}
 use Rattle.graph_report.specs.Entries.{Entry, number_in, ordered}
-use Rattle.graph_report.specs.GraphText.{bracketed, cycle_columns, function_columns, function_name, primary_line, subject_text}
+use Rattle.graph_report.specs.GraphText.{bracketed, cycle_columns, function_columns, function_name, is_shown, primary_line, subject_text}
 use Rattle.graph_report.specs.declared.subjects.Subject.{Subject}
 use Rattle.graph_report.specs.declared.subjects.Subject.TheVariants.{Cycle, Function}
 
@@ -25,3 +25,7 @@ cycle_line s number head =
 -- the text of an entry
 abbrev pub entry_text : Sources → Entry → List ℕ
 entry_text s e = subject_text s (number_in (ordered s)) e.subject
+
+-- the same, and nothing where the entry isn't shown
+abbrev pub shown_text : Sources → List (List ℕ) → Entry → List ℕ
+shown_text s hidden e = if is_shown hidden e.subject e.name then entry_text s e else []

@@ -1,11 +1,14 @@
 //! What the definition of the call graph says, in other words.
 
-ghost use Rattle.std.specs.Prelude.{◌≡◌, ◌<◌, ◌+◌, ◌++◌, ℕ, true, slice_get};
+ghost use Rattle.std.specs.Prelude.{◌≡◌, ◌<◌, ◌+◌, ◌++◌, ℕ, true, List, [], filter, slice_get};
+ghost use Rattle.std.specs.List.{flat_map};
 ghost use Rattle.std.specs.List.Sorted.{IsPermutation, IsSortedBy};
 ghost use Rattle.call_cycles.specs.Graph.{IsGraph, arc_at, arc_count, component_of, is_cycle};
 ghost use Rattle.flat_report.specs.Sources.{Sources as AnySources};
 ghost use Rattle.graph_report.specs.Entries.{Entry, comes_before, number_in, ordered};
+ghost use Rattle.graph_report.specs.GraphText.{graph_text, header_text, is_shown};
 ghost use Rattle.graph_report.specs.Rows.{cycle_entries, function_entries};
+ghost use Rattle.graph_report.specs.Subjects.{entry_text};
 ghost use Rattle.graph_report.specs.declared.subjects.Subject.TheVariants.{Function};
 
 /// Each cycle, and each function that has an entry, has its place in the order once, and none stands
@@ -22,4 +25,12 @@ pub fn names_have_entries()
     ensures callers { (s : AnySources) (i : ℕ) → IsGraph s.graph → i < arc_count s.graph → 0 < number_in (ordered s) (Function (arc_at s.graph i).caller) }
     ensures callees { (s : AnySources) (i : ℕ) → IsGraph s.graph → i < arc_count s.graph → 0 < number_in (ordered s) (Function (arc_at s.graph i).callee) }
     ensures members { (s : AnySources) (f : ℕ) → IsGraph s.graph → f < s.graph.functions → is_cycle s.graph (component_of s.graph f) ≡ true → 0 < number_in (ordered s) (Function f) }
+{}
+
+/// The report is its header and its entries. With hidden names it is the same less the entries of the
+/// functions that have them, each with the line below it: the other entries, with their numbers and all
+/// their lines, stay as they are.
+pub fn entries_that_are_shown()
+    ensures whole { (s : AnySources) → graph_text s [] ≡ header_text ++ flat_map (entry_text s) (ordered s) }
+    ensures less { (s : AnySources) (hidden : List (List ℕ)) → graph_text s hidden ≡ header_text ++ flat_map (entry_text s) (filter (λ e. is_shown hidden e.subject e.name) (ordered s)) }
 {}

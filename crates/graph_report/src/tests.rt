@@ -112,6 +112,7 @@ fn print_symbols(
     samples: &[u16],
     calls: &[Calls],
     rate: u32,
+    hidden: &[String],
     host: &mut MemHost,
 ) -> Result<Result<(), ReportRefusal>, AddRefusal>
     requires { IsAscending symbols.now }
@@ -121,7 +122,16 @@ fn print_symbols(
     let graph = graph(alloc, &calls, symbols)?;
     let shares = shares(alloc, &samples, symbols)?;
     let flow = flow(alloc, &graph, &shares)?;
-    Ok(write(alloc, symbols, &graph, &flow, &shares, rate.max(1), host))
+    Ok(write(
+        alloc,
+        symbols,
+        &graph,
+        &flow,
+        &shares,
+        rate.max(1),
+        hidden,
+        host,
+    ))
 }
 
 /// Prints the call graph of these functions.
@@ -130,6 +140,7 @@ fn print(
     functions: &[Function<'_>],
     calls: &[Calls],
     rate: u32,
+    hidden: &[String],
     host: &mut MemHost,
 ) -> Result<Result<(), ReportRefusal>, AddRefusal> {
     let symbols = symbols_of(alloc, functions)?;
@@ -137,7 +148,15 @@ fn print(
     for function in functions {
         samples.push(function.1)?;
     }
-    print_symbols(alloc, symbols.as_slice(), &samples, calls, rate, host)
+    print_symbols(
+        alloc,
+        symbols.as_slice(),
+        &samples,
+        calls,
+        rate,
+        hidden,
+        host,
+    )
 }
 
 /// The text with these lines.
@@ -197,13 +216,32 @@ type Row = (
 
 #[test]
 fn entries_of_functions_and_cycles(rt: HostRuntime) -> Result<(), Fail> {
-    let rows: [Row; 12] = [
+    let rows: [Row; 13] = [
         (
             "a cycle of two, and a function of it that calls itself",
             &THREE,
             &THREE_CALLS,
             100,
             &THREE_LINES,
+        ),
+        (
+            "the same, where the calls of the first by the last are cut",
+            &THREE,
+            &[(0, 1, 1), (1, 2, 5), (2, 2, 2)],
+            100,
+            &[
+                SPONTANEOUS,
+                "[1]      100.00        0.01        0.05                        main [1]",
+                "                       0.02        0.03                   1/1      a [2]",
+                RULE,
+                "                       0.02        0.03                   1/1      main [1]",
+                "[2]       83.33        0.02        0.03                     1  a [2]",
+                "                       0.03        0.00                   5/5      b [3]",
+                RULE,
+                "                       0.03        0.00                   5/5      a [2]",
+                "[3]       50.00        0.03        0.00                   5+2  b [3]",
+                RULE,
+            ],
         ),
         (
             "a cycle without callers",
@@ -416,13 +454,101 @@ fn entries_of_functions_and_cycles(rt: HostRuntime) -> Result<(), Fail> {
     for (message, functions, calls, rate, lines) in rows {
         let mut host = MemHost::new(rt.alloc());
         assert_eq!(rt;
-            print(rt.alloc(), functions, calls, rate, &mut host)?,
+            print(rt.alloc(), functions, calls, rate, &[], &mut host)?,
             Ok(()),
             "{message}"
         );
         let want = text(rt.alloc(), lines)?;
         assert_eq!(rt; host.printed(), want.as_slice(), "{message}");
     }
+    Ok(())
+}
+
+/// These names, as they are given.
+fn names_of(alloc: Global, names: &[&str]) -> Result<Vec<String>, AllocError> {
+    let mut given = Vec::new(alloc);
+    for name in names {
+        given.push(String::from_str(alloc, name)?)?;
+    }
+    Ok(given)
+}
+
+/// A message, hidden names, and which of `THREE_LINES` aren't printed then.
+type HiddenRow = (&'static str, &'static [&'static str], &'static [usize]);
+
+#[test]
+fn hidden_functions_have_no_entry(rt: HostRuntime) -> Result<(), Fail> {
+    let rows: [HiddenRow; 5] = [
+        (
+            "numbers and lines in other entries stay",
+            &["b"],
+            &[9, 10, 11, 12],
+        ),
+        (
+            "the first and the last entry",
+            &["a", "main"],
+            &[0, 1, 2, 3, 13, 14, 15, 16, 17],
+        ),
+        (
+            "all functions, and not the cycle",
+            &["b", "a", "main", "<cycle 1 as a whole>", "<cycle 1>"],
+            &[0, 1, 2, 3, 9, 10, 11, 12, 13, 14, 15, 16, 17],
+        ),
+        (
+            "names that no function has",
+            &["mai", "main [1]", "", "b <cycle 1>", "A"],
+            &[],
+        ),
+        ("no names", &[], &[]),
+    ];
+    for (message, hidden, gone) in rows {
+        let mut host = MemHost::new(rt.alloc());
+        let hidden = names_of(rt.alloc(), hidden)?;
+        assert_eq!(rt;
+            print(rt.alloc(), &THREE, &THREE_CALLS, 100, &hidden, &mut host)?,
+            Ok(()),
+            "{message}"
+        );
+        let mut lines = Vec::new(rt.alloc());
+        for (i, line) in THREE_LINES.iter().enumerate() {
+            if !gone.contains(&i) {
+                lines.push(*line)?;
+            }
+        }
+        let want = text(rt.alloc(), lines.as_slice())?;
+        assert_eq!(rt; host.printed(), want.as_slice(), "{message}");
+    }
+    Ok(())
+}
+
+/// A function with the name that the cycle has as a whole, and another function of one name with `main`.
+#[test]
+fn hidden_names_are_those_of_functions(rt: HostRuntime) -> Result<(), Fail> {
+    let functions = [("b", 1), ("<cycle 1 as a whole>", 2), ("b", 3)];
+    let mut host = MemHost::new(rt.alloc());
+    let hidden = names_of(rt.alloc(), &["<cycle 1 as a whole>", "b"])?;
+    assert_eq!(rt;
+        print(
+            rt.alloc(),
+            &functions,
+            &THREE_CALLS,
+            100,
+            &hidden,
+            &mut host
+        )?,
+        Ok(())
+    );
+    let want = text(
+        rt.alloc(),
+        &[
+            "                       0.05        0.00                   1/1      b [1]",
+            "[2]       83.33        0.05        0.00                   1+9  <cycle 1 as a whole> [2]",
+            "                       0.02        0.00                     5      <cycle 1 as a whole> <cycle 1> [4]",
+            "                       0.03        0.00                   5+2      b <cycle 1> [3]",
+            RULE,
+        ],
+    )?;
+    assert_eq!(rt; host.printed(), want.as_slice());
     Ok(())
 }
 
@@ -440,7 +566,10 @@ fn a_long_name_is_printed_whole(rt: HostRuntime) -> Result<(), Fail> {
     line.push_str(" [1]")?;
     let mut host = MemHost::new(rt.alloc());
     let functions = [(name.as_str(), 1)];
-    assert_eq!(rt; print(rt.alloc(), &functions, &[], 100, &mut host)?, Ok(()));
+    assert_eq!(rt;
+        print(rt.alloc(), &functions, &[], 100, &[], &mut host)?,
+        Ok(())
+    );
     let want = text(rt.alloc(), &[SPONTANEOUS, line.as_str(), RULE])?;
     assert_eq!(rt; host.printed(), want.as_slice());
     Ok(())
@@ -454,7 +583,7 @@ fn a_failed_call_leaves_a_part_that_is_not_the_whole(rt: HostRuntime) -> Result<
         let mut host = MemHost::new(rt.alloc());
         host.set_step(50);
         host.fail_at(call)?;
-        let result = print(rt.alloc(), &THREE, &THREE_CALLS, 100, &mut host)?;
+        let result = print(rt.alloc(), &THREE, &THREE_CALLS, 100, &[], &mut host)?;
         if call < 31 {
             assert_eq!(rt; result, Err(ReportRefusal::WriteFault), "call {call}");
             assert_eq!(rt; host.first_failed(), Some(HostCall::Out), "call {call}");
@@ -507,6 +636,7 @@ fn many_functions(rt: HostRuntime) -> Result<(), Fail> {
         &samples,
         calls.as_slice(),
         100,
+        &[],
         &mut host,
     )?;
     assert_eq!(rt; printed, Ok(()));
