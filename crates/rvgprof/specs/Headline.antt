@@ -1,5 +1,5 @@
 -- What the command `profile` leaves, in one sentence of several parts: the file, the output, and the time in the report.
-use Rattle.std.specs.Prelude.{◌≡◌, ◌≢◌, ℕ, List, ◌++◌, codes, Option, Some, option_map, IfSome}
+use Rattle.std.specs.Prelude.{◌≡◌, ◌≢◌, ℕ, List, [], ◌++◌, codes, Option, Some, option_map, IfSome}
 use Rattle.elf32_syms.specs.Image.{image_of}
 use Rattle.gp_base.specs.declared.records.Form.{Form}
 use Rattle.host_port.specs.Act.{content_of}
@@ -41,9 +41,9 @@ reported form program setup = sources_of (image_of program) (written_profile for
 
 -- the reports that are asked for
 abbrev pub reports_of : Shown → Sources → List ℕ
-reports_of shows.Flat s = flat_text s
-reports_of shows.Graph s = graph_text s
-reports_of shows.Both s = flat_text s ++ (codes "\n" ++ graph_text s)
+reports_of shows.Flat s = flat_text s []
+reports_of shows.Graph s = graph_text s []
+reports_of shows.Both s = flat_text s [] ++ (codes "\n" ++ graph_text s [])
 
 -- The program's file is accepted and its run starts, for some bytes of it: for those that are told before and after,
 -- where they are.

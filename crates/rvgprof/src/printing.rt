@@ -1,6 +1,6 @@
 //! Printing the reports of a profile.
 
-ghost use Rattle.std.specs.Prelude.{◌≡◌, Err};
+ghost use Rattle.std.specs.Prelude.{◌≡◌, [], Err};
 ghost use Rattle.elf32_syms.specs.Owners.{IsAscending};
 ghost use Rattle.flat_report.specs.Reports.{Reports};
 ghost use Rattle.flat_report.specs.declared.refusal.ReportRefusal.TheVariants.{OutOfMemory};
@@ -48,7 +48,7 @@ fn print_flat<H: Host>(
     host: &mut H,
 ) -> Result<(), ReportRefusal>
     requires { FitTogether image.now sources.now }
-    ensures printed { Reports (flat_text (given_sources image.now sources.now)) (H.outside host.old) (H.outside host.new) result }
+    ensures printed { Reports (flat_text (given_sources image.now sources.now) []) (H.outside host.old) (H.outside host.new) result }
     ensures idle { result ≡ Err OutOfMemory → host.new ≡ host.old }
 {
     flat_report::write(
@@ -58,6 +58,7 @@ fn print_flat<H: Host>(
         &sources.flow,
         &sources.shares,
         sources.rate,
+        &[],
         host,
     )
 }
@@ -70,7 +71,7 @@ fn print_graph<H: Host>(
     host: &mut H,
 ) -> Result<(), ReportRefusal>
     requires { FitTogether image.now sources.now }
-    ensures printed { Reports (graph_text (given_sources image.now sources.now)) (H.outside host.old) (H.outside host.new) result }
+    ensures printed { Reports (graph_text (given_sources image.now sources.now) []) (H.outside host.old) (H.outside host.new) result }
     ensures idle { result ≡ Err OutOfMemory → host.new ≡ host.old }
 {
     graph_report::write(
@@ -80,6 +81,7 @@ fn print_graph<H: Host>(
         &sources.flow,
         &sources.shares,
         sources.rate,
+        &[],
         host,
     )
 }

@@ -22,42 +22,42 @@ pub returns-in-Flat : goal.returns-in-Flat
 returns-in-Flat g c = λ words start below done next s.
     let found = given_sources c.args.image.now c.in_ok-sources.sources in
     let here = subst (λ (x : Shown). Stands words start (g.H.Host.outside c.args.host.now) below done (shown_reports x found next)) c.in-Flat.is (of_sources words start _ below done c.args.shown c.args.image.now c.args.total.now c.in_ok-sources.sources next c.in_ok-sources.ensures s) in
-    goes_on_anyhow words start _ below (done ++ Out (flat_text found) ∷ []) next c.print_flat.result
-    (after_text words start _ _ below done (flat_text found) next c.print_flat.result here c.print_flat.ensures.printed (λ e. ap g.H.Host.outside (c.print_flat.ensures.idle e)))
+    goes_on_anyhow words start _ below (done ++ Out (flat_text found []) ∷ []) next c.print_flat.result
+    (after_text words start _ _ below done (flat_text found []) next c.print_flat.result here c.print_flat.ensures.printed (λ e. ap g.H.Host.outside (c.print_flat.ensures.idle e)))
 
 pub returns-in-Graph : goal.returns-in-Graph
 returns-in-Graph g c = λ words start below done next s.
     let found = given_sources c.args.image.now c.in_ok-sources.sources in
     let here = subst (λ (x : Shown). Stands words start (g.H.Host.outside c.args.host.now) below done (shown_reports x found next)) c.in-Graph.is (of_sources words start _ below done c.args.shown c.args.image.now c.args.total.now c.in_ok-sources.sources next c.in_ok-sources.ensures s) in
-    goes_on_anyhow words start _ below (done ++ Out (graph_text found) ∷ []) next c.print_graph.result
-    (after_text words start _ _ below done (graph_text found) next c.print_graph.result here c.print_graph.ensures.printed (λ e. ap g.H.Host.outside (c.print_graph.ensures.idle e)))
+    goes_on_anyhow words start _ below (done ++ Out (graph_text found []) ∷ []) next c.print_graph.result
+    (after_text words start _ _ below done (graph_text found []) next c.print_graph.result here c.print_graph.ensures.printed (λ e. ap g.H.Host.outside (c.print_graph.ensures.idle e)))
 
 pub returns-in_err-print_flat-in-Both : goal.returns-in_err-print_flat-in-Both
 returns-in_err-print_flat-in-Both g c = λ words start below done next s.
     let found = given_sources c.args.image.now c.in_ok-sources.sources in
-    let last = Does (Out (graph_text found) ∷ []) next in
+    let last = Does (Out (graph_text found []) ∷ []) next in
     let line = Does (Out (codes "\n") ∷ []) last in
     let here = subst (λ (x : Shown). Stands words start (g.H.Host.outside c.args.host.now) below done (shown_reports x found next)) c.in-Both.is (of_sources words start _ below done c.args.shown c.args.image.now c.args.total.now c.in_ok-sources.sources next c.in_ok-sources.ensures s) in
     let p = err_from_is_err_and c.from_residual-in_err-print_flat-in-Both.result c.from_residual-in_err-print_flat-in-Both.ensures.1 in
-    rw (p.1, p.2) (after_text words start _ _ below done (flat_text found) line _ here c.in_err-print_flat-in-Both.ensures.printed (λ e. ap g.H.Host.outside (c.in_err-print_flat-in-Both.ensures.idle e)))
+    rw (p.1, p.2) (after_text words start _ _ below done (flat_text found []) line _ here c.in_err-print_flat-in-Both.ensures.printed (λ e. ap g.H.Host.outside (c.in_err-print_flat-in-Both.ensures.idle e)))
 
 pub returns-in_err-print_text-in-Both : goal.returns-in_err-print_text-in-Both
 returns-in_err-print_text-in-Both g c = λ words start below done next s.
     let found = given_sources c.args.image.now c.in_ok-sources.sources in
-    let last = Does (Out (graph_text found) ∷ []) next in
+    let last = Does (Out (graph_text found []) ∷ []) next in
     let line = Does (Out (codes "\n") ∷ []) last in
     let here = subst (λ (x : Shown). Stands words start (g.H.Host.outside c.args.host.now) below done (shown_reports x found next)) c.in-Both.is (of_sources words start _ below done c.args.shown c.args.image.now c.args.total.now c.in_ok-sources.sources next c.in_ok-sources.ensures s) in
-    let one = after_text words start _ _ below done (flat_text found) line _ here c.in_ok-print_flat-in-Both.ensures.printed (λ e. ap g.H.Host.outside (c.in_ok-print_flat-in-Both.ensures.idle e)) in
+    let one = after_text words start _ _ below done (flat_text found []) line _ here c.in_ok-print_flat-in-Both.ensures.printed (λ e. ap g.H.Host.outside (c.in_ok-print_flat-in-Both.ensures.idle e)) in
     let p = err_from_is_err_and c.from_residual-in_err-print_text-in-Both.result c.from_residual-in_err-print_text-in-Both.ensures.1 in
-    rw (p.1, p.2) (after_text words start _ _ below (done ++ Out (flat_text found) ∷ []) (codes "\n") last _ one c.in_err-print_text-in-Both.ensures.printed (λ e. ap g.H.Host.outside (c.in_err-print_text-in-Both.ensures.idle e)))
+    rw (p.1, p.2) (after_text words start _ _ below (done ++ Out (flat_text found []) ∷ []) (codes "\n") last _ one c.in_err-print_text-in-Both.ensures.printed (λ e. ap g.H.Host.outside (c.in_err-print_text-in-Both.ensures.idle e)))
 
 pub returns : goal.returns
 returns g c = λ words start below done next s.
     let found = given_sources c.args.image.now c.in_ok-sources.sources in
-    let last = Does (Out (graph_text found) ∷ []) next in
+    let last = Does (Out (graph_text found []) ∷ []) next in
     let line = Does (Out (codes "\n") ∷ []) last in
     let here = subst (λ (x : Shown). Stands words start (g.H.Host.outside c.args.host.now) below done (shown_reports x found next)) c.in-Both.is (of_sources words start _ below done c.args.shown c.args.image.now c.args.total.now c.in_ok-sources.sources next c.in_ok-sources.ensures s) in
-    let one = after_text words start _ _ below done (flat_text found) line _ here c.in_ok-print_flat-in-Both.ensures.printed (λ e. ap g.H.Host.outside (c.in_ok-print_flat-in-Both.ensures.idle e)) in
-    let two = after_text words start _ _ below (done ++ Out (flat_text found) ∷ []) (codes "\n") last _ one c.in_ok-print_text-in-Both.ensures.printed (λ e. ap g.H.Host.outside (c.in_ok-print_text-in-Both.ensures.idle e)) in
+    let one = after_text words start _ _ below done (flat_text found []) line _ here c.in_ok-print_flat-in-Both.ensures.printed (λ e. ap g.H.Host.outside (c.in_ok-print_flat-in-Both.ensures.idle e)) in
+    let two = after_text words start _ _ below (done ++ Out (flat_text found []) ∷ []) (codes "\n") last _ one c.in_ok-print_text-in-Both.ensures.printed (λ e. ap g.H.Host.outside (c.in_ok-print_text-in-Both.ensures.idle e)) in
     goes_on_anyhow words start _ below _ next c.print_graph-in-Both.result
-    (after_text words start _ _ below _ (graph_text found) next c.print_graph-in-Both.result two c.print_graph-in-Both.ensures.printed (λ e. ap g.H.Host.outside (c.print_graph-in-Both.ensures.idle e)))
+    (after_text words start _ _ below _ (graph_text found []) next c.print_graph-in-Both.result two c.print_graph-in-Both.ensures.printed (λ e. ap g.H.Host.outside (c.print_graph-in-Both.ensures.idle e)))
