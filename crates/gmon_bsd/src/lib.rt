@@ -5,11 +5,13 @@
 
 pub mod laws;
 pub mod profile;
+pub mod reader;
 pub mod reading;
 pub mod writing;
 
 pub use gp_base::GmonRefusal;
 pub use profile::run_profile;
+pub use reader::Reader;
 pub use reading::read;
 pub use writing::write_run;
 

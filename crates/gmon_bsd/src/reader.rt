@@ -1,0 +1,144 @@
+//! Reading in pieces.
+
+ghost use Rattle.std.specs.Prelude.{◌≡◌, ℕ, List, [], ◌+◌, ◌^◌, ◌<◌, ◌≤◌, ◌++◌, length, map, None, IfOk, OnOk, OnErr, IfErr};
+ghost use Rattle.gp_base.specs.Refusal.{IsRefusal};
+ghost use Rattle.gp_base.specs.declared.records.Rec.TheVariants.{Arc};
+ghost use Rattle.gmon_bsd.specs.Grammar.{BsdSpells};
+ghost use Rattle.gmon_bsd.specs.Reading.{bsd_refusal, bsd_records};
+ghost use Rattle.gmon_bsd.specs.Fed.{StandsFor, counter_part, arc_part};
+
+use crate::reading::{HEADER, SECONDS, header_fault, read_header, word};
+use gmon_cells::{Column, Remnant};
+use gp_base::{Counts, Form, GmonRefusal, RawArc, RawHist, Rec, RecList, Records, Unit};
+use std::alloc::{AllocError, Global};
+use std::marker::Model;
+
+/// A reader of a file that comes in pieces. It keeps the header, and the counters and arcs so far, but not
+/// the file. It stands for the bytes that were fed to it.
+#[derive(Drop)]
+pub struct Reader {
+    alloc: Global,
+    len: u32,
+    header: Remnant,
+    counters: Column<u16>,
+    arcs: Column<RawArc>,
+}
+
+impl Model for Reader {
+    ghost use Rattle.gmon_bsd.specs.Fed.{Kept};
+
+    ghost Value = { Kept };
+
+    ghost use Rattle.gmon_bsd.specs.Held.{view_of, IsHeld};
+
+    ghost view = { view_of };
+
+    ghost invariant = { IsHeld };
+}
+
+impl Reader {
+    /// A reader to which nothing was fed. Takes no memory yet.
+    pub fn new(alloc: Global) -> Reader
+        ensures stands { StandsFor [] result }
+        ensures len { result.len ≡ 0 }
+    {
+        Reader {
+            alloc,
+            len: 0,
+            header: Remnant::new(),
+            counters: Column::new(alloc),
+            arcs: Column::new(alloc),
+        }
+    }
+
+    /// Takes the next piece of the file. Where memory runs out the reader is unchanged. All pieces together
+    /// have fewer than 2^32 bytes. A refusal is kept until `finish`.
+    pub fn feed(&mut self, piece: &[u8]) -> Result<(), AllocError>
+        requires { self.old.len + length piece.now < 2 ^ 32 }
+        ensures stands { OnOk result ((bytes : List ℕ) → StandsFor bytes self.old → StandsFor (bytes ++ piece.now) self.new) }
+        ensures len { OnOk result (self.new.len ≡ self.old.len + length piece.now) }
+        ensures unchanged { OnErr result (self.new ≡ self.old) }
+    {
+        let mut header = Remnant::new();
+        header.put(self.header.as_slice());
+        let body = header.fill(HEADER, piece);
+        let at = self.len.max(HEADER as u32);
+        let (counters, arcs) = parts(header.as_slice(), at, body);
+        self.counters.reserve(counters.len())?;
+        self.arcs.reserve(arcs.len())?;
+        self.counters.feed(counters);
+        self.arcs.feed(arcs);
+        self.header = header;
+        self.len += piece.len() as u32;
+        Ok(())
+    }
+
+    /// What the bytes that were fed are: the records that they spell, or their first refusal, in the order
+    /// of `read`.
+    pub fn finish(self) -> Result<Records, GmonRefusal>
+        ensures refusal { (bytes : List ℕ) → StandsFor bytes self → IfErr result (λ refusal. IsRefusal refusal (bsd_refusal bytes)) }
+        ensures accepted { (bytes : List ℕ) → StandsFor bytes self → OnOk result (bsd_refusal bytes ≡ None) }
+        ensures records { (bytes : List ℕ) → StandsFor bytes self → IfOk result (λ records. records ≡ bsd_records bytes) }
+        ensures spelled { (bytes : List ℕ) → StandsFor bytes self → IfOk result (λ records. BsdSpells bytes records) }
+    {
+        let Reader {
+            alloc,
+            len,
+            header,
+            counters,
+            arcs,
+        } = self;
+        let header = read_header(header.as_slice(), len)?;
+        let mut recs = RecList::new(alloc);
+        recs.push(Rec::Hist(RawHist {
+            low: header.low,
+            high: header.high,
+            unit: Unit {
+                rate: header.rate,
+                dim: SECONDS,
+                abbrev: b's',
+            },
+            counters: counts_of(alloc, counters.cells.as_slice())?,
+        }))?;
+        push_arcs(&mut recs, arcs.cells.as_slice())?;
+        Ok(Records {
+            form: Form::Bsd,
+            recs,
+        })
+    }
+}
+
+/// What of the bytes that stand at `at` are counters, and what are arcs; neither where the header isn't
+/// whole or is refused.
+fn parts<'b>(header: &[u8], at: u32, body: &'b [u8]) -> (&'b [u8], &'b [u8])
+    ensures counters { result.0.now ≡ counter_part header.now at body.now }
+    ensures arcs { result.1.now ≡ arc_part header.now at body.now }
+{
+    if header.len() < HEADER || header_fault(header).is_some() {
+        let none = body.split_at(0).0;
+        return (none, none);
+    }
+    let due = word(header, 8).saturating_sub(at) as usize;
+    body.split_at(due.min(body.len()))
+}
+
+/// The counters as a list of its own.
+fn counts_of(alloc: Global, counters: &[u16]) -> Result<Counts, AllocError>
+    ensures { IfOk result (λ counts. counts ≡ counters.now) }
+{
+    let mut counts = Counts::new(alloc);
+    for counter in counters {
+        counts.push(*counter)?;
+    }
+    Ok(counts)
+}
+
+/// Adds the arcs as records.
+fn push_arcs(recs: &mut RecList, arcs: &[RawArc]) -> Result<(), AllocError>
+    ensures { OnOk result (recs.new ≡ recs.old ++ map Arc arcs.now) }
+{
+    for arc in arcs {
+        recs.push(Rec::Arc(*arc))?;
+    }
+    Ok(())
+}
