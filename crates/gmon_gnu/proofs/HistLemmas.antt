@@ -12,7 +12,7 @@ first_of_one : (xs : List ℕ) → slice_index (take 1 xs) 0 ≡ slice_index xs 
 first_of_one [] = refl
 first_of_one (x ∷ xs) = refl
 
-ranged : (n low high : ℕ) → (0 < n × low < high) ⊎ (n ≤ 0) → (ltb 0 n && leb high low) ≡ false
+pub ranged : (n low high : ℕ) → (0 < n × low < high) ⊎ (n ≤ 0) → (ltb 0 n && leb high low) ≡ false
 ranged n low high (inl some) = and_right (ltb 0 n) (leb high low) (lt-leb high low some.1)
 ranged n low high (inr none) = and_left (ltb 0 n) (leb high low) (le-ltb 0 n none)
 

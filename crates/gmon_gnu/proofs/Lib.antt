@@ -1,6 +1,9 @@
 pub mod FieldLemmas
 pub mod FrontLemmas
 pub mod RecordLemmas
+pub mod GoingLemmas
+pub mod StateLemmas
+pub mod FedLemmas
 pub mod HistLemmas
 pub mod SpellingLemmas
 pub mod FaultLemmas

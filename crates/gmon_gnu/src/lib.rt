@@ -6,15 +6,20 @@
 #![tactic(auto)]
 
 pub mod block_writing;
+pub(crate) mod building;
 pub mod laws;
 pub mod profile_writing;
+pub mod reader;
 pub mod reading;
 mod splitting;
+pub(crate) mod state;
+pub(crate) mod taking;
 pub mod writing;
 
 pub use block_writing::write_blocks;
 pub use gp_base::GmonRefusal;
 pub use profile_writing::write;
+pub use reader::Reader;
 pub use reading::read;
 pub use writing::write_run;
 

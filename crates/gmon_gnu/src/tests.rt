@@ -1,8 +1,8 @@
-ghost use Rattle.std.specs.Prelude.{◌≡◌, ◌+◌, length, IfOk};
+ghost use Rattle.std.specs.Prelude.{◌≡◌, ◌+◌, ◌<◌, ◌^◌, length, IfOk};
 
 use super::*;
 use gmon_data::{AddRefusal, Hist, Profile};
-use gp_base::{RawArc, RawBlock, Rec, Span, Totals, Unit, le2, le4};
+use gp_base::{RawArc, RawBlock, Rec, Records, Span, Totals, Unit, le2, le4};
 use host_port::{Failed, Host, MemHost};
 use mcount_arcs::{Entered, Gmon, Looked};
 use std::alloc::{AllocError, Global};
@@ -444,5 +444,50 @@ fn numbers_are_put_together_again(rt: HostRuntime) -> Result<(), Fail> {
     assert_eq!(rt; samples, 200_000);
     assert_eq!(rt; calls, 1 << 33);
     assert_eq!(rt; runs, 1 << 33);
+    Ok(())
+}
+
+/// What a reader answers that is fed the bytes in pieces of at most `size`.
+fn in_pieces(alloc: Global, bytes: &[u8], size: usize) -> Result<Records, GmonRefusal>
+    requires some { 0 < size }
+    requires small { length bytes.now < 2 ^ 32 }
+{
+    let mut reader = Reader::new(alloc);
+    let mut rest = bytes;
+    while !rest.is_empty() {
+        let (piece, behind) = rest.split_at(size.min(rest.len()));
+        reader.feed(piece)?;
+        rest = behind;
+    }
+    reader.finish()
+}
+
+#[test]
+fn pieces_of_any_size_give_the_same(rt: HostRuntime) -> Result<(), Fail> {
+    let mut bytes = file(rt.alloc(), 1, &RECORDS)?;
+    for at in [5, 20, 28, 53, 61, 128] {
+        for size in 1..40usize {
+            for len in 0..129usize {
+                let front = bytes.as_slice().split_at(len.min(bytes.len())).0;
+                if front.len() > 1_000 {
+                    continue;
+                }
+                let whole = read(rt.alloc(), front);
+                let pieces = in_pieces(rt.alloc(), front, size);
+                match (whole, pieces) {
+                    (Ok(whole), Ok(pieces)) => {
+                        assert_eq!(rt; whole.recs.as_slice().len(), pieces.recs.as_slice().len());
+                    }
+                    (whole, pieces) => {
+                        assert_eq!(rt; whole.err(), pieces.err(), "{len} bytes, {size} at a time");
+                    }
+                }
+            }
+        }
+        // and then with a byte changed
+        if at < bytes.len() {
+            bytes[at] = 3;
+        }
+    }
     Ok(())
 }

@@ -1,14 +1,14 @@
-use Rattle.std.proofs.Common.{length, sym, ap, ◌∙◌, arith}
-use Rattle.gmon_gnu.specs.Reading.{recs_from}
-use Rattle.gmon_gnu.proofs.MeaningLemmas.{spelled_where_read}
+use Rattle.std.proofs.Common.{[]}
 use Rattle.gmon_gnu.proofs.reading.read.Goals as goal
 
+pub returns-clause-refusal : goal.returns-clause-refusal
+returns-clause-refusal c = c.finish.ensures.refusal c.args.bytes.now (c.in_ok-feed.ensures.stands [] c.new-reader.ensures.stands)
+
+pub returns-clause-accepted : goal.returns-clause-accepted
+returns-clause-accepted c = c.finish.ensures.accepted c.args.bytes.now (c.in_ok-feed.ensures.stands [] c.new-reader.ensures.stands)
+
+pub returns-clause-records : goal.returns-clause-records
+returns-clause-records c = c.finish.ensures.records c.args.bytes.now (c.in_ok-feed.ensures.stands [] c.new-reader.ensures.stands)
+
 pub returns-clause-spelled : goal.returns-clause-spelled
-returns-clause-spelled c =
-    let bytes = c.args.bytes.now in
-    spelled_where_read bytes c.in_ok-recs.recs (λ i. omega (arith, c.type_inv.bytes i))
-    (record {
-      header = omega (arith, c.if-bytes-lt-HEADER.false);
-      version_is = sym c.word-version.ensures ∙ c.if-version-ne-VERSION.false;
-      recs_are = ap (recs_from (length bytes) (length bytes)) (sym c.split_at.ensures.back) ∙ c.in_ok-recs.ensures.records;
-    })
+returns-clause-spelled c = c.finish.ensures.spelled c.args.bytes.now (c.in_ok-feed.ensures.stands [] c.new-reader.ensures.stands)

@@ -1,0 +1,81 @@
+-- What the bytes that were fed are.
+use Rattle.std.proofs.Common.{◌≡◌, ℕ, zero, suc, Bool, true, false, not, eqb, ltb, List, [], ◌∷◌, ◌++◌, length, drop, length-drop, Option, Some, None, Result, Ok, Err, if◌then◌else◌, refl, sym, ap, ◌∙◌, arith}
+use Rattle.std.proofs.lemmas.List.{append-nil}
+use Rattle.gp_base.specs.declared.records.Rec.{Rec}
+use Rattle.gp_base.specs.declared.records.Records.{Records}
+use Rattle.gp_base.specs.declared.records.Form.TheVariants.{Gnu}
+use Rattle.gp_base.specs.declared.refusal.GmonRefusal.{GmonRefusal}
+use Rattle.gp_base.specs.declared.refusal.GmonRefusal.TheVariants.{Short, Version, Tag, Range, Size, Rest, OutOfMemory}
+use Rattle.gp_base.specs.Bytes.{word_at, IsBytes}
+use Rattle.gp_base.specs.Refusal.{IsRefusal}
+use Rattle.gp_base.proofs.LittleEndian.{IsBytes-rest}
+use Rattle.gmon_gnu.specs.Fields.{version}
+use Rattle.gmon_gnu.specs.Reading.{behind, file_recs, refusal_in, recs_in, gnu_refusal, gnu_records}
+use Rattle.gmon_gnu.specs.Going.{records_on, header_on, resume}
+use Rattle.gmon_gnu.specs.Ending.{ended}
+use Rattle.gmon_gnu.specs.Fed.{Kept, StandsFor}
+use Rattle.gmon_gnu.proofs.RecordLemmas.{allowance}
+
+pub IsBytes-append : (bs more : List ℕ) → IsBytes bs → IsBytes more → IsBytes (bs ++ more)
+IsBytes-append [] more h m i = m i
+IsBytes-append (b ∷ bs) more h m zero = h 0
+IsBytes-append (b ∷ bs) more h m (suc i) = IsBytes-append bs more (IsBytes-rest b bs h) m i
+
+-- ---- the whole file
+
+records_of : (bytes : List ℕ) → file_recs bytes ≡ records_on (length bytes) (drop 20 bytes)
+records_of bytes = allowance (length bytes) (length bytes) (length (drop 20 bytes)) (drop 20 bytes) (omega (arith, length-drop 20 bytes)) (omega arith)
+
+two_tests : (a b : Bool) (x y : GmonRefusal) (o : Result (List Rec) GmonRefusal) → (if a then Some x else (if b then Some y else refusal_in o)) ≡ refusal_in (if a then Err x else (if b then Err y else o))
+two_tests true b x y o = refl
+two_tests false true x y o = refl
+two_tests false false x y o = refl
+
+both_pass : (a b : Bool) (x y : GmonRefusal) (o : Result (List Rec) GmonRefusal) (recs : List Rec) → (if a then Err x else (if b then Err y else o)) ≡ Ok recs → o ≡ Ok recs
+both_pass true b x y o recs is = absurd cc
+both_pass false true x y o recs is = absurd cc
+both_pass false false x y o recs is = is
+
+pub refusal_on : (bytes : List ℕ) → gnu_refusal bytes ≡ refusal_in (header_on (length bytes) bytes)
+refusal_on bytes =
+    (λ i. if ltb (length bytes) 20 then Some (Short (length bytes)) else (if not (eqb (word_at bytes 4) version) then Some (Version (word_at bytes 4)) else refusal_in (records_of bytes i)))
+    ∙ two_tests (ltb (length bytes) 20) (not (eqb (word_at bytes 4) version)) (Short (length bytes)) (Version (word_at bytes 4)) (records_on (length bytes) (drop 20 bytes))
+
+pub records_are : (bytes : List ℕ) (recs : List Rec) → header_on (length bytes) bytes ≡ Ok recs → file_recs bytes ≡ Ok recs
+records_are bytes recs is =
+    records_of bytes ∙ both_pass (ltb (length bytes) 20) (not (eqb (word_at bytes 4) version)) (Short (length bytes)) (Version (word_at bytes 4)) (records_on (length bytes) (drop 20 bytes)) recs is
+
+-- ---- it ends here
+
+pub read_out : (bytes : List ℕ) (kept : Kept) (o : Option GmonRefusal) → StandsFor bytes kept → resume kept.len kept.open_now kept.rest ≡ ended o → header_on (length bytes) bytes ≡ behind kept.recs (ended o)
+read_out bytes kept o s is =
+    let none : bytes ++ [] ≡ bytes = append-nil bytes in
+    sym (λ i. header_on (length (none i)) (none i))
+    ∙ s.reads []
+    ∙ (λ i. behind kept.recs (resume (length (none i)) kept.open_now (append-nil kept.rest i)))
+    ∙ ap (λ (n : ℕ). behind kept.recs (resume n kept.open_now kept.rest)) (sym s.len)
+    ∙ ap (behind kept.recs) is
+
+pub is_refusal : (e : GmonRefusal) (given : Option GmonRefusal) → given ≡ Some e → IsRefusal e given
+is_refusal (Short at) given is = is
+is_refusal (Version value) given is = is
+is_refusal (Tag at value) given is = is
+is_refusal (Range at low high) given is = is
+is_refusal (Size value) given is = is
+is_refusal (Rest at) given is = is
+is_refusal OutOfMemory given is = tt
+
+pub refused_out : (bytes : List ℕ) (kept : Kept) (e : GmonRefusal) → StandsFor bytes kept → resume kept.len kept.open_now kept.rest ≡ Err e → IsRefusal e (gnu_refusal bytes)
+refused_out bytes kept e s is = is_refusal e (gnu_refusal bytes) (refusal_on bytes ∙ ap refusal_in (read_out bytes kept (Some e) s is))
+
+all_out : (bytes : List ℕ) (kept : Kept) → StandsFor bytes kept → resume kept.len kept.open_now kept.rest ≡ Ok [] → header_on (length bytes) bytes ≡ Ok kept.recs
+all_out bytes kept s is = read_out bytes kept None s is ∙ ap (λ (v : List Rec). let x : Result (List Rec) GmonRefusal = Ok v in x) (append-nil kept.recs)
+
+pub accepted_out : (bytes : List ℕ) (kept : Kept) → StandsFor bytes kept → resume kept.len kept.open_now kept.rest ≡ Ok [] → gnu_refusal bytes ≡ None
+accepted_out bytes kept s is = refusal_on bytes ∙ ap refusal_in (all_out bytes kept s is)
+
+pub records_out : (bytes : List ℕ) (kept : Kept) (recs : List Rec) → StandsFor bytes kept → resume kept.len kept.open_now kept.rest ≡ Ok [] → recs ≡ kept.recs
+    → (let x : Records = record { form = Gnu; recs = recs } in x) ≡ gnu_records bytes
+records_out bytes kept recs s is recs_are =
+    let recs_is : recs ≡ recs_in (file_recs bytes) = recs_are ∙ sym (ap recs_in (records_are bytes kept.recs (all_out bytes kept s is))) in
+    ap (λ (v : List Rec). let x : Records = record { form = Gnu; recs = v } in x) recs_is

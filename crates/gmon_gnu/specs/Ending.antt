@@ -1,0 +1,9 @@
+-- How reading ends.
+use Rattle.std.specs.Prelude.{List, [], Option, Some, None, Result, Ok, Err}
+use Rattle.gp_base.specs.declared.records.Rec.{Rec}
+use Rattle.gp_base.specs.declared.refusal.GmonRefusal.{GmonRefusal}
+
+-- by a refusal, or with no record more
+abbrev pub ended : Option GmonRefusal → Result (List Rec) GmonRefusal
+ended None = Ok []
+ended (Some refusal) = Err refusal

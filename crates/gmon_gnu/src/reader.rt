@@ -1,0 +1,83 @@
+//! Reading in pieces.
+
+ghost use Rattle.std.specs.Prelude.{◌≡◌, ℕ, List, [], ◌+◌, ◌^◌, ◌<◌, ◌++◌, length, None, IfOk, OnOk, OnErr, IfErr};
+ghost use Rattle.gp_base.specs.Refusal.{IsRefusal};
+ghost use Rattle.gmon_gnu.specs.Grammar.{GnuSpells};
+ghost use Rattle.gmon_gnu.specs.Reading.{gnu_refusal, gnu_records};
+ghost use Rattle.gmon_gnu.specs.Fed.{StandsFor};
+
+use crate::state::State;
+use gp_base::{Form, GmonRefusal, Records};
+use std::alloc::{AllocError, Global};
+use std::marker::Model;
+
+/// A reader of a file that comes in pieces. It keeps the records so far, but not the file. It stands for the
+/// bytes that were fed to it.
+#[derive(Drop)]
+pub struct Reader {
+    alloc: Global,
+    len: u32,
+    state: State,
+}
+
+impl Model for Reader {
+    ghost use Rattle.gmon_gnu.specs.Fed.{Kept};
+
+    ghost Value = { Kept };
+
+    ghost use Rattle.gmon_gnu.specs.Shown.{view_of, IsKept};
+
+    ghost view = { view_of };
+
+    ghost invariant = { IsKept };
+}
+
+impl Reader {
+    /// A reader to which nothing was fed. Takes no memory yet.
+    pub fn new(alloc: Global) -> Reader
+        ensures stands { StandsFor [] result }
+        ensures len { result.len ≡ 0 }
+    {
+        Reader {
+            alloc,
+            len: 0,
+            state: State::new(alloc),
+        }
+    }
+
+    /// Takes the next piece of the file. Where memory runs out the reader is unchanged. All pieces together
+    /// have fewer than 2^32 bytes. A refusal is kept until `finish`.
+    pub fn feed(&mut self, piece: &[u8]) -> Result<(), AllocError>
+        requires { self.old.len + length piece.now < 2 ^ 32 }
+        ensures stands { OnOk result ((bytes : List ℕ) → StandsFor bytes self.old → StandsFor (bytes ++ piece.now) self.new) }
+        ensures len { OnOk result (self.new.len ≡ self.old.len + length piece.now) }
+        ensures unchanged { OnErr result (self.new ≡ self.old) }
+    {
+        self.state.reserve(piece.len())?;
+        let total = self.len + piece.len() as u32;
+        self.state.take(total, piece);
+        self.len = total;
+        Ok(())
+    }
+
+    /// What the bytes that were fed are: the records that they spell, or their first refusal, in the order
+    /// of `read`.
+    pub fn finish(self) -> Result<Records, GmonRefusal>
+        ensures refusal { (bytes : List ℕ) → StandsFor bytes self → IfErr result (λ refusal. IsRefusal refusal (gnu_refusal bytes)) }
+        ensures accepted { (bytes : List ℕ) → StandsFor bytes self → OnOk result (gnu_refusal bytes ≡ None) }
+        ensures records { (bytes : List ℕ) → StandsFor bytes self → IfOk result (λ records. records ≡ gnu_records bytes) }
+        ensures spelled { (bytes : List ℕ) → StandsFor bytes self → IfOk result (λ records. GnuSpells bytes records) }
+    {
+        let Reader { alloc, len, state } = self;
+        match state.end_fault(len) {
+            Some(refusal) => Err(refusal),
+            None => {
+                let recs = state.build(alloc)?;
+                Ok(Records {
+                    form: Form::Gnu,
+                    recs,
+                })
+            }
+        }
+    }
+}

@@ -1,0 +1,359 @@
+//! Taking the next bytes of a file.
+
+ghost use Rattle.std.specs.Prelude.{◌≡◌, ℕ, List, [], ◌+◌, ◌-◌, ◌*◌, ◌^◌, ◌<◌, ◌≤◌, ◌++◌, length, drop, OnOk, slice_index, vec_len, vec_capacity};
+ghost use Rattle.gmon_gnu.specs.Held.{width_of, IsFront, IsHeld, HasRoom, AreWithin, Goes, recs_of, hist_with, owed};
+ghost use Rattle.gmon_gnu.specs.Begun.{begun_on, cost_of, Follows};
+ghost use Rattle.gmon_gnu.specs.Going.{InHist, InBlocks, Reads, records_on};
+ghost use Rattle.gmon_gnu.specs.declared.state.Part.TheVariants as part;
+
+use crate::reading::{VERSION, word};
+use crate::state::{Begun, Entry, HEADER, HistFields, Part, State};
+use gmon_cells::{Column, Remnant};
+use gp_base::{GmonRefusal, RawArc, Unit};
+use std::alloc::{AllocError, Global};
+
+impl State {
+    /// Nothing has come yet.
+    pub(crate) fn new(alloc: Global) -> State
+        ensures held { IsHeld result }
+        ensures goes { Goes [] result [] }
+        ensures torn { result.torn ≡ [] }
+    {
+        State {
+            part: Part::Header,
+            torn: Remnant::new(),
+            counters: Column::new(alloc),
+            pairs: Column::new(alloc),
+            entries: Vec::new(alloc),
+        }
+    }
+
+    /// Takes room for what `len` bytes more can make whole. Nothing else changes.
+    pub(crate) fn reserve(&mut self, len: usize) -> Result<(), AllocError>
+        requires { len < 2 ^ 32 }
+        ensures room { OnOk result (HasRoom len self.new) }
+        ensures part { self.new.part ≡ self.old.part }
+        ensures torn { self.new.torn ≡ self.old.torn }
+        ensures counters { self.new.counters.cells.items ≡ self.old.counters.cells.items }
+        ensures half { self.new.counters.torn ≡ self.old.counters.torn }
+        ensures pairs { self.new.pairs.cells.items ≡ self.old.pairs.cells.items }
+        ensures pair { self.new.pairs.torn ≡ self.old.pairs.torn }
+        ensures entries { self.new.entries.items ≡ self.old.entries.items }
+    {
+        self.counters.reserve(len)?;
+        self.pairs.reserve(len)?;
+        self.entries.reserve(1 + (self.torn.len() + len) / 5)
+    }
+
+    /// Takes a piece. `total` is how many bytes the file has with it.
+    pub(crate) fn take(&mut self, total: u32, piece: &[u8])
+        requires held { IsHeld self.old }
+        requires room { HasRoom (length piece.now) self.old }
+        requires within { length self.old.torn + length piece.now ≤ total }
+        ensures held { IsHeld self.new }
+        ensures goes { (whole : List ℕ) → length whole ≡ total → Goes whole self.old piece.now → Goes whole self.new [] }
+        ensures within { length self.new.torn ≤ total }
+    {
+        let mut rest = piece;
+        while !rest.is_empty() {
+            rest = self.take_some(total, rest);
+        }
+    }
+
+    /// Takes some of the piece: one item, or as much of the counters or pairs as there is. The rest of it.
+    fn take_some<'p>(&mut self, total: u32, piece: &'p [u8]) -> &'p [u8]
+        requires held { IsHeld self.old }
+        requires room { HasRoom (length piece.now) self.old }
+        requires within { length self.old.torn + length piece.now ≤ total }
+        requires some { 0 < length piece.now }
+        ensures held { IsHeld self.new }
+        ensures room { HasRoom (length result.now) self.new }
+        ensures within { length self.new.torn + length result.now ≤ total }
+        ensures goes { (whole : List ℕ) → length whole ≡ total → Goes whole self.old piece.now → Goes whole self.new result.now }
+        ensures less { length result.now < length piece.now }
+    {
+        match self.part {
+            Part::Header => self.take_header(total, piece),
+            Part::Between => self.take_front(total, piece),
+            Part::Hist {
+                fields,
+                start,
+                left,
+            } => self.take_counters(total, fields, start, left, piece),
+            Part::Blocks { start, left } => self.take_pairs(total, start, left, piece),
+            Part::Refused(_) => piece.split_at(piece.len()).1,
+        }
+    }
+
+    fn take_header<'p>(&mut self, total: u32, piece: &'p [u8]) -> &'p [u8]
+        requires held { IsHeld self.old }
+        requires room { HasRoom (length piece.now) self.old }
+        requires within { length self.old.torn + length piece.now ≤ total }
+        requires some { 0 < length piece.now }
+        requires part { self.old.part ≡ part.Header }
+        ensures held { IsHeld self.new }
+        ensures room { HasRoom (length result.now) self.new }
+        ensures within { length self.new.torn + length result.now ≤ total }
+        ensures goes { (whole : List ℕ) → length whole ≡ total → Goes whole self.old piece.now → Goes whole self.new result.now }
+        ensures less { length result.now < length piece.now }
+    {
+        let rest = self.torn.fill(HEADER, piece);
+        if self.torn.len() < HEADER {
+            return rest;
+        }
+        let version = word(self.torn.as_slice(), 4);
+        self.torn.clear();
+        self.part = if version == VERSION {
+            Part::Between
+        } else {
+            Part::Refused(GmonRefusal::Version { value: version })
+        };
+        rest
+    }
+
+    fn take_front<'p>(&mut self, total: u32, piece: &'p [u8]) -> &'p [u8]
+        requires held { IsHeld self.old }
+        requires room { HasRoom (length piece.now) self.old }
+        requires within { length self.old.torn + length piece.now ≤ total }
+        requires some { 0 < length piece.now }
+        requires part { self.old.part ≡ part.Between }
+        ensures held { IsHeld self.new }
+        ensures room { HasRoom (length result.now) self.new }
+        ensures within { length self.new.torn + length result.now ≤ total }
+        ensures goes { (whole : List ℕ) → length whole ≡ total → Goes whole self.old piece.now → Goes whole self.new result.now }
+        ensures less { length result.now < length piece.now }
+    {
+        if self.torn.len() == 0 {
+            let width = width_of(piece[0]);
+            if piece.len() >= width {
+                let (front, rest) = piece.split_at(width);
+                self.begin(front_of(total - piece.len() as u32, front));
+                return rest;
+            }
+            self.torn.put(piece);
+            return piece.split_at(piece.len()).1;
+        }
+        let width = width_of(self.torn.as_slice()[0]);
+        let rest = self.torn.fill(width, piece);
+        if self.torn.len() < width {
+            return rest;
+        }
+        let begun = front_of(
+            total - width as u32 - rest.len() as u32,
+            self.torn.as_slice(),
+        );
+        self.torn.clear();
+        self.begin(begun);
+        rest
+    }
+
+    /// Goes on behind the front of a record, of which nothing is held any more.
+    fn begin(&mut self, begun: Begun)
+        requires spans { AreWithin self.old }
+        requires torn { self.old.torn ≡ [] }
+        requires half { length self.old.counters.torn ≤ 2 }
+        requires pair { length self.old.pairs.torn ≤ 8 }
+        requires part { self.old.part ≡ part.Between }
+        requires room { vec_len self.old.entries + cost_of begun ≤ vec_capacity self.old.entries }
+        ensures held { IsHeld self.new }
+        ensures goes { (whole rest : List ℕ) → Follows whole (recs_of self.old) begun rest → Goes whole self.new rest }
+        ensures torn { self.new.torn ≡ [] }
+        ensures counters { self.new.counters.cells ≡ self.old.counters.cells }
+        ensures half { length self.new.counters.torn ≤ length self.old.counters.torn }
+        ensures pairs { self.new.pairs.cells ≡ self.old.pairs.cells }
+        ensures pair { length self.new.pairs.torn ≤ length self.old.pairs.torn }
+        ensures entries { vec_len self.new.entries + owed self.new.part ≤ vec_len self.old.entries + cost_of begun }
+        ensures capacity { vec_capacity self.new.entries ≡ vec_capacity self.old.entries }
+    {
+        match begun {
+            Begun::Hist { fields, count } => {
+                self.counters.torn.clear();
+                let start = self.counters.cells.len();
+                self.go_on_hist(fields, start, count);
+            }
+            Begun::Arc(arc) => self.entries.push_reserved(Entry::Arc(arc)),
+            Begun::Blocks { count } => {
+                self.pairs.torn.clear();
+                let start = self.pairs.cells.len();
+                self.go_on_blocks(start, count);
+            }
+            Begun::Refused(refusal) => self.part = Part::Refused(refusal),
+        }
+    }
+
+    /// Goes on with the histogram whose counters begin at `start`; it ends where no counter is still to come.
+    fn go_on_hist(&mut self, fields: HistFields, start: usize, left: u32)
+        requires spans { AreWithin self.old }
+        requires torn { self.old.torn ≡ [] }
+        requires half { length self.old.counters.torn < 2 }
+        requires pair { length self.old.pairs.torn ≤ 8 }
+        requires ended { left ≡ 0 → self.old.counters.torn ≡ [] }
+        requires start { start ≤ length self.old.counters.cells.items }
+        requires room { vec_len self.old.entries + 1 ≤ vec_capacity self.old.entries }
+        ensures held { IsHeld self.new }
+        ensures goes { (whole rest : List ℕ) → Reads whole (recs_of self.old) (InHist (hist_with fields (drop start self.old.counters.cells.items)) left) (self.old.counters.torn ++ rest) → Goes whole self.new rest }
+        ensures torn { self.new.torn ≡ [] }
+        ensures counters { self.new.counters ≡ self.old.counters }
+        ensures pairs { self.new.pairs ≡ self.old.pairs }
+        ensures entries { vec_len self.new.entries + owed self.new.part ≤ vec_len self.old.entries + 1 }
+        ensures capacity { vec_capacity self.new.entries ≡ vec_capacity self.old.entries }
+    {
+        if left > 0 {
+            self.part = Part::Hist {
+                fields,
+                start,
+                left,
+            };
+            return;
+        }
+        let end = self.counters.cells.len();
+        self.entries
+            .push_reserved(Entry::Hist { fields, start, end });
+        self.part = Part::Between;
+    }
+
+    /// The same with counts of blocks.
+    fn go_on_blocks(&mut self, start: usize, left: u32)
+        requires spans { AreWithin self.old }
+        requires torn { self.old.torn ≡ [] }
+        requires half { length self.old.counters.torn ≤ 2 }
+        requires pair { length self.old.pairs.torn < 8 }
+        requires ended { left ≡ 0 → self.old.pairs.torn ≡ [] }
+        requires start { start ≤ length self.old.pairs.cells.items }
+        requires room { vec_len self.old.entries + 1 ≤ vec_capacity self.old.entries }
+        ensures held { IsHeld self.new }
+        ensures goes { (whole rest : List ℕ) → Reads whole (recs_of self.old) (InBlocks (drop start self.old.pairs.cells.items) left) (self.old.pairs.torn ++ rest) → Goes whole self.new rest }
+        ensures torn { self.new.torn ≡ [] }
+        ensures counters { self.new.counters ≡ self.old.counters }
+        ensures pairs { self.new.pairs ≡ self.old.pairs }
+        ensures entries { vec_len self.new.entries + owed self.new.part ≤ vec_len self.old.entries + 1 }
+        ensures capacity { vec_capacity self.new.entries ≡ vec_capacity self.old.entries }
+    {
+        if left > 0 {
+            self.part = Part::Blocks { start, left };
+            return;
+        }
+        let end = self.pairs.cells.len();
+        self.entries.push_reserved(Entry::Blocks { start, end });
+        self.part = Part::Between;
+    }
+
+    fn take_counters<'p>(
+        &mut self,
+        total: u32,
+        fields: HistFields,
+        start: usize,
+        left: u32,
+        piece: &'p [u8],
+    ) -> &'p [u8]
+        requires held { IsHeld self.old }
+        requires room { HasRoom (length piece.now) self.old }
+        requires within { length self.old.torn + length piece.now ≤ total }
+        requires some { 0 < length piece.now }
+        requires part { self.old.part ≡ part.Hist fields start left }
+        requires left { 0 < left }
+        requires half { length self.old.counters.torn < 2 }
+        requires torn { self.old.torn ≡ [] }
+        requires start { start ≤ length self.old.counters.cells.items }
+        ensures held { IsHeld self.new }
+        ensures room { HasRoom (length result.now) self.new }
+        ensures within { length self.new.torn + length result.now ≤ total }
+        ensures goes { (whole : List ℕ) → length whole ≡ total → Goes whole self.old piece.now → Goes whole self.new result.now }
+        ensures less { length result.now < length piece.now }
+    {
+        let due = left as usize * 2 - self.counters.torn.len();
+        let (mine, rest) = piece.split_at(due.min(piece.len()));
+        let came = (self.counters.torn.len() + mine.len()) / 2;
+        self.counters.feed(mine);
+        self.go_on_hist(fields, start, left - came as u32);
+        rest
+    }
+
+    fn take_pairs<'p>(&mut self, total: u32, start: usize, left: u32, piece: &'p [u8]) -> &'p [u8]
+        requires held { IsHeld self.old }
+        requires room { HasRoom (length piece.now) self.old }
+        requires within { length self.old.torn + length piece.now ≤ total }
+        requires some { 0 < length piece.now }
+        requires part { self.old.part ≡ part.Blocks start left }
+        requires left { 0 < left }
+        requires pair { length self.old.pairs.torn < 8 }
+        requires torn { self.old.torn ≡ [] }
+        requires start { start ≤ length self.old.pairs.cells.items }
+        ensures held { IsHeld self.new }
+        ensures room { HasRoom (length result.now) self.new }
+        ensures within { length self.new.torn + length result.now ≤ total }
+        ensures goes { (whole : List ℕ) → length whole ≡ total → Goes whole self.old piece.now → Goes whole self.new result.now }
+        ensures less { length result.now < length piece.now }
+    {
+        let due = left as usize * 8 - self.pairs.torn.len();
+        let (mine, rest) = piece.split_at(due.min(piece.len()));
+        let came = (self.pairs.torn.len() + mine.len()) / 8;
+        self.pairs.feed(mine);
+        self.go_on_blocks(start, left - came as u32);
+        rest
+    }
+}
+
+/// How many bytes a record takes up to its counters or pairs, by its tag; of one that is none only the tag
+/// is read.
+fn width_of(tag: u8) -> usize
+    ensures width { result ≡ width_of tag }
+    ensures some { 0 < result }
+    ensures fits { result ≤ 33 }
+{
+    match tag {
+        0 => 33,
+        1 => 13,
+        2 => 5,
+        _ => 1,
+    }
+}
+
+/// What the front of a record that stands at `at` says.
+fn front_of(at: u32, front: &[u8]) -> Begun
+    requires { IsFront front.now }
+    ensures says { (len : ℕ) (rest : List ℕ) → at ≡ len - length (front.now ++ rest) → records_on len (front.now ++ rest) ≡ begun_on len result rest }
+    ensures cost { 5 * cost_of result ≤ length front.now }
+{
+    match front[0] {
+        0 => hist_front(at, front),
+        1 => Begun::Arc(RawArc {
+            from: word(front, 1),
+            to: word(front, 5),
+            count: word(front, 9),
+        }),
+        2 => Begun::Blocks {
+            count: word(front, 1),
+        },
+        tag => Begun::Refused(GmonRefusal::Tag { at, value: tag }),
+    }
+}
+
+/// What the front of a histogram says.
+fn hist_front(at: u32, front: &[u8]) -> Begun
+    requires width { length front.now ≡ 33 }
+    requires tag { slice_index front.now 0 ≡ 0 }
+    ensures says { (len : ℕ) (rest : List ℕ) → at ≡ len - length (front.now ++ rest) → records_on len (front.now ++ rest) ≡ begun_on len result rest }
+    ensures cost { cost_of result ≤ 1 }
+{
+    let low = word(front, 1);
+    let high = word(front, 5);
+    let count = word(front, 9);
+    if count > 0 && high <= low {
+        return Begun::Refused(GmonRefusal::Range { at, low, high });
+    }
+    let mut dim = [0; 15];
+    dim.copy_from_slice(&front[17..32]);
+    Begun::Hist {
+        fields: HistFields {
+            low,
+            high,
+            unit: Unit {
+                rate: word(front, 13),
+                dim,
+                abbrev: front[32],
+            },
+        },
+        count,
+    }
+}
