@@ -1,3 +1,4 @@
+pub mod FileReading
 pub mod Numerals
 pub mod ItemLemmas
 pub mod WordLemmas

@@ -8,6 +8,7 @@ use Rattle.std.proofs.lemmas.List.{append-nil, length-replicate}
 use Rattle.host_port.specs.Act.{Act, Disk, File, content_of, writes_after}
 use Rattle.host_port.specs.Outside.{Outside, Becomes, Did, Rose, KeepsCounts}
 use Rattle.host_port.specs.Load.{Loads}
+use Rattle.rvgprof.specs.FileRead.{IsContent}
 use Rattle.host_port.specs.declared.loading.LoadRefusal.{LoadRefusal}
 use Rattle.host_port.specs.declared.loading.LoadRefusal.TheVariants as loads
 use Rattle.host_port.proofs.Laws.{Did-nothing, Did-then, KeepsCounts-same, KeepsCounts-then}
@@ -142,8 +143,8 @@ input_read contents whole word limit next bytes l is short =
       may_stop = λ more h. l.may_stop more (inr (fits, subst (λ (bs : List ℕ). MayStop contents (next bs) more) (sym is) h));
     }
 
-pub loaded : (words : List (List ℕ)) (old mid new : Outside) (below word limit : ℕ) (next : List ℕ → Course) (bytes : Vec ℕ) → Stands words old mid below [] (Input word limit next) → below ≤ word
-    → Loads (name_of words word) limit mid new (Ok bytes) → Stands words old new (word + 1) [] (next bytes.items)
+pub loaded : (words : List (List ℕ)) (old mid new : Outside) (below word limit : ℕ) (next : List ℕ → Course) (bytes : List ℕ) → Stands words old mid below [] (Input word limit next) → below ≤ word
+    → IsContent (name_of words word) limit mid new bytes → Stands words old new (word + 1) [] (next bytes)
 loaded words old mid new below word limit next bytes s later loads =
     let here = still words old mid new below [] (Input word limit next) s loads.nothing_done loads.counts in
     record {
@@ -151,15 +152,15 @@ loaded words old mid new below word limit next bytes s later loads =
       counts = here.counts;
       idle = here.idle;
       shut = here.shut;
-      read = with_read word bytes.items s.read;
+      read = with_read word bytes s.read;
       leads = λ contents agrees.
-          input_read contents (course_of words) word limit next bytes.items
-          (s.leads contents (λ w less. agrees w (omega arith) ∙ read_before word bytes.items s.read w (omega arith)))
-          (agrees word (omega arith) ∙ read_at word bytes.items s.read) loads.within;
-      told = both old.disk new.disk (λ files. LeadsTo (contents_of words files) (course_of words) [] (Input word limit next)) (λ files. bytes.items ≡ content_of (name_of words word) files)
-          (λ files. LeadsTo (contents_of words files) (course_of words) [] (next bytes.items))
-          (λ files l is. input_read (contents_of words files) (course_of words) word limit next bytes.items l (sym is) loads.within)
-          here.told (told_back old.disk new.disk (λ files. bytes.items ≡ content_of (name_of words word) files) here.did.disk loads.answer);
+          input_read contents (course_of words) word limit next bytes
+          (s.leads contents (λ w less. agrees w (omega arith) ∙ read_before word bytes s.read w (omega arith)))
+          (agrees word (omega arith) ∙ read_at word bytes s.read) loads.within;
+      told = both old.disk new.disk (λ files. LeadsTo (contents_of words files) (course_of words) [] (Input word limit next)) (λ files. bytes ≡ content_of (name_of words word) files)
+          (λ files. LeadsTo (contents_of words files) (course_of words) [] (next bytes))
+          (λ files l is. input_read (contents_of words files) (course_of words) word limit next bytes l (sym is) loads.within)
+          here.told (told_back old.disk new.disk (λ files. bytes ≡ content_of (name_of words word) files) here.did.disk loads.answer);
     }
 
 too_large : (words : List (List ℕ)) (contents : ℕ → List ℕ) (old new : Outside) (err word limit : ℕ) (next : List ℕ → Course) → LeadsTo contents (course_of words) [] (Input word limit next) → limit < length (contents word)

@@ -13,3 +13,4 @@ pub mod Acceptance
 pub mod Headline
 pub mod Standing
 pub mod ProfileSizes
+pub mod FileRead

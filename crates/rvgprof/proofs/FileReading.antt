@@ -1,0 +1,90 @@
+-- A profile file's form, and its bytes as they come.
+use Rattle.std.proofs.Common.{◌≡◌, ◌≢◌, ℕ, ◌+◌, ◌<◌, ◌≤◌, Bool, true, false, cond, ◌&&◌, List, [], ◌∷◌, ◌++◌, length, take, drop, length-take, length-append, append_assoc, Option, Some, None, Err, refl, sym, ap, ◌∙◌, if◌then◌else◌, arith}
+use Rattle.std.specs.Prelude.{bytes_eq, codes, is_some, IfSome}
+use Rattle.std.proofs.lemmas.Slice.Eq.{bytes_eq-Decides}
+use Rattle.std.proofs.lemmas.List.{take-append-le, take-append-drop}
+use Rattle.gp_base.specs.declared.records.Form.{Form}
+use Rattle.gp_base.specs.declared.records.Form.TheVariants.{Bsd, Gnu}
+use Rattle.host_port.specs.Act.{Disk, content_of}
+use Rattle.host_port.specs.Outside.{Outside, IsConsistent, Becomes, Did, KeepsCounts}
+use Rattle.host_port.specs.Host.{Came}
+use Rattle.host_port.specs.Load.{Loads}
+use Rattle.host_port.specs.declared.loading.LoadRefusal.TheVariants.{TooLarge}
+use Rattle.host_port.proofs.Laws.{Did-then}
+use Rattle.host_port.proofs.LoadLemmas.{Joins, Loading}
+use Rattle.gp_base.specs.declared.records.Records.{Records}
+use Rattle.text_lines.specs.Lines.{IsShowable}
+use Rattle.rvgprof.specs.ProfileSizes.{SpellsIn, FileSpells}
+use Rattle.rvgprof.proofs.Showable.{bsd_showable, gnu_showable}
+use Rattle.rvgprof.specs.Answer.{form_of}
+
+pub form_goes_on : (bytes piece : List ℕ) → 4 ≤ length bytes → form_of (bytes ++ piece) ≡ form_of bytes
+unfolding form_of
+form_goes_on bytes piece long = ap (λ (v : List ℕ). if bytes_eq v (codes "gmon") then Gnu else Bsd) (take-append-le 4 bytes piece long)
+
+pub form_short : (bytes : List ℕ) → length bytes < 4 → form_of bytes ≡ Bsd
+unfolding form_of
+form_short bytes short = by (bytes_eq (take 4 bytes) (codes "gmon")) refl
+  where
+    by : (b : Bool) → bytes_eq (take 4 bytes) (codes "gmon") ≡ b → (if bytes_eq (take 4 bytes) (codes "gmon") then Gnu else Bsd) ≡ Bsd
+    by true is = absurd (let same : length (take 4 bytes) ≡ 4 = ap length ((bytes_eq-Decides (take 4 bytes) (codes "gmon")).0 is) in omega (arith, same, length-take 4 bytes, short))
+    by false is = ap (λ (b : Bool). if b then Gnu else Bsd) is
+
+-- ---- one piece more of the input
+
+same_some : {A : Type 0} (x y : A) → Some x ≡ Some y → x ≡ y
+same_some x y e = cc
+
+joins_more : (name bytes buf : List ℕ) (n : ℕ) (d0 d1 : Option Disk) (r0 r1 : Option (List ℕ)) → Becomes (λ d. d) d0 d1 → Becomes (drop n) r0 r1 → IfSome r0 (λ rest. Came n rest buf) → Joins name bytes d0 r0
+    → Joins name (bytes ++ take n buf) d1 r1
+joins_more name bytes buf n d0 None r0 r1 disk rest came joins = tt
+joins_more name bytes buf n d0 (Some d) r0 None disk rest came joins = tt
+joins_more name bytes buf n None (Some d) r0 (Some r) disk rest came joins = absurd cc
+joins_more name bytes buf n (Some d') (Some d) None (Some r) disk rest came joins = absurd cc
+joins_more name bytes buf n (Some d') (Some d) (Some r') (Some r) disk rest came joins =
+    let d_is : d' ≡ d = same_some d' d disk in
+    let r_is : drop n r' ≡ r = same_some (drop n r') r rest in
+    append_assoc bytes (take n buf) r
+    ∙ (λ i. bytes ++ (came.bytes i ++ sym r_is i))
+    ∙ ap (λ (v : List ℕ). bytes ++ v) (take-append-drop n r')
+    ∙ joins
+    ∙ ap (λ (x : Disk). content_of name x.files) d_is
+
+pub loading_more : (name : List ℕ) (limit n : ℕ) (bytes before buf : List ℕ) (old mid new : Outside) → Loading name limit bytes old mid → Did [] mid new → new.is_open ≡ true → KeepsCounts mid new
+    → IfSome mid.rest (λ rest. Came n rest buf) → Becomes (drop n) mid.rest new.rest → length bytes + n ≤ limit → Loading name limit (bytes ++ take n buf) old new
+loading_more name limit n bytes before buf old mid new far did open_still counts came rest fits = record {
+  did = Did-then [] [] old mid new far.did did;
+  counts = record { read = counts.read ∙ far.counts.read; write = counts.write ∙ far.counts.write; err = counts.err ∙ far.counts.err };
+  is_open = open_still;
+  within = omega (arith, length-append bytes (take n buf), length-take n buf, fits);
+  joins = joins_more name bytes buf n mid.disk new.disk mid.rest new.rest did.disk rest came far.joins;
+}
+
+longer : (name bytes buf : List ℕ) (limit n : ℕ) (d0 d1 : Option Disk) (r0 : Option (List ℕ)) → is_some r0 ≡ is_some d0 → Becomes (λ d. d) d0 d1 → IfSome r0 (λ rest. Came n rest buf) → Joins name bytes d0 r0 → limit < length bytes + n
+    → IfSome d1 (λ d. limit < length (content_of name d.files))
+longer name bytes buf limit n d0 None r0 told disk came joins long = tt
+longer name bytes buf limit n None (Some d) r0 told disk came joins long = absurd cc
+longer name bytes buf limit n (Some d') (Some d) None told disk came joins long = absurd cc
+longer name bytes buf limit n (Some d') (Some d) (Some r') told disk came joins long =
+    let whole : length bytes + length r' ≡ length (content_of name d.files) = sym (length-append bytes r') ∙ ap length (joins ∙ ap (λ (x : Disk). content_of name x.files) (same_some d' d disk)) in
+    omega (arith, whole, came.available, long)
+
+pub loading_long : (name : List ℕ) (limit n : ℕ) (bytes buf : List ℕ) (old mid new : Outside) → Loading name limit bytes old mid → IsConsistent mid → Did [] mid new → KeepsCounts mid new
+    → IfSome mid.rest (λ rest. Came n rest buf) → limit < length bytes + n → Loads name limit old new (Err TooLarge)
+loading_long name limit n bytes buf old mid new far consistent did counts came long =
+    let told : is_some mid.rest ≡ is_some mid.disk = consistent.rest ∙ ap (λ (b : Bool). b && is_some mid.disk) far.is_open in
+    record {
+      nothing_done = Did-then [] [] old mid new far.did did;
+      answer = longer name bytes buf limit n mid.disk new.disk mid.rest told did.disk came far.joins long;
+      within = tt;
+      counts = record { read = counts.read ∙ far.counts.read; write = counts.write ∙ far.counts.write; err = counts.err ∙ far.counts.err };
+    }
+
+-- ---- what is spelled can be shown
+
+pub showable_of : (bytes : List ℕ) (r : Records) → FileSpells bytes r → IsShowable r
+showable_of bytes r spells = by (form_of bytes) spells
+  where
+    by : (f : Form) → SpellsIn f bytes r → IsShowable r
+    by Bsd s = bsd_showable bytes r s
+    by Gnu s = gnu_showable bytes r s

@@ -1,0 +1,45 @@
+-- What it means that a profile file was read in pieces.
+use Rattle.std.specs.Prelude.{◌≡◌, ℕ, ◌<◌, ◌≤◌, List, [], length, Result, Ok, Err, ⊤}
+use Rattle.gp_base.specs.declared.records.Form.TheVariants.{Bsd, Gnu}
+use Rattle.gp_base.specs.Bytes.{IsBytes}
+use Rattle.gmon_bsd.specs.Fed as bsd
+use Rattle.gmon_gnu.specs.Fed as gnu
+use Rattle.host_port.specs.declared.loading.LoadRefusal.{LoadRefusal}
+use Rattle.host_port.specs.Act.{content_of}
+use Rattle.host_port.specs.Outside.{Outside, Did, KeepsCounts}
+use Rattle.host_port.specs.Host.{IfTold}
+use Rattle.host_port.specs.Load.{Loads}
+use Rattle.rvgprof.specs.declared.profile_file.FileReader.{FileReader}
+use Rattle.rvgprof.specs.declared.profile_file.FileReader.TheVariants as reader
+use Rattle.rvgprof.specs.Answer.{form_of}
+
+-- how many bytes were fed
+abbrev pub len_of : FileReader → ℕ
+len_of (reader.Front front) = length front
+len_of (reader.Bsd r) = r.len
+len_of (reader.Gnu r) = r.len
+
+-- fewer than four bytes are kept while they don't tell the form
+abbrev pub IsFed : FileReader → Type 0
+IsFed (reader.Front front) = length front < 4
+IsFed (reader.Bsd r) = ⊤
+IsFed (reader.Gnu r) = ⊤
+
+-- a reader stands for the bytes that were fed to it: while they are fewer than four they are kept, and then they
+-- tell the form
+abbrev pub StandsFor : List ℕ → FileReader → Type 0
+StandsFor bytes (reader.Front front) = (front ≡ bytes) × (length bytes < 4)
+StandsFor bytes (reader.Bsd r) = bsd.StandsFor bytes r × (form_of bytes ≡ Bsd) × (4 ≤ length bytes)
+StandsFor bytes (reader.Gnu r) = gnu.StandsFor bytes r × (form_of bytes ≡ Gnu) × (4 ≤ length bytes)
+
+-- the named file was read to its end, and these are its bytes, as far as it is told
+pub record IsContent (name : List ℕ) (limit : ℕ) (old new : Outside) (bytes : List ℕ) : Type 0 where
+  pub nothing_done : Did [] old new
+  pub answer : IfTold new (λ d. bytes ≡ content_of name d.files)
+  pub within : length bytes ≤ limit
+  pub counts : KeepsCounts old new
+
+-- a reader stands for some bytes, of which the number is known, and they are the file's; or it was not read
+abbrev pub IsReadFrom : List ℕ → ℕ → Outside → Outside → Result (FileReader × ℕ) LoadRefusal → Type 0
+IsReadFrom name limit old new (Ok pair) = (bytes : List ℕ) × IsContent name limit old new bytes × StandsFor bytes pair.0 × (pair.1 ≡ length bytes)
+IsReadFrom name limit old new (Err refusal) = Loads name limit old new (Err refusal)
