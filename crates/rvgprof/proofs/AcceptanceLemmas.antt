@@ -1,5 +1,5 @@
 -- Where a command is carried out: exactly where all is accepted. And which commands do all their acts at once.
-use Rattle.std.proofs.Common.{◌≡◌, ◌↔◌, ℕ, ◌+◌, ◌-◌, ◌≤◌, Bool, true, false, cond, ltb, true≢false, List, [], ◌∷◌, ◌++◌, append-nil, append_assoc, length, Option, Some, None, Result, Ok, Err, inl, inr, refl, sym, ap, subst, ◌∙◌, arith}
+use Rattle.std.proofs.Common.{◌≡◌, ◌↔◌, ℕ, ◌-◌, ◌≤◌, Bool, true, false, cond, ltb, true≢false, List, [], ◌∷◌, ◌++◌, append-nil, append_assoc, length, Option, Some, None, Ok, Err, inl, inr, refl, sym, ap, subst, ◌∙◌, arith}
 use Rattle.std.specs.List.{AllByRecursion, flat_map, sum_by}
 use Rattle.std.specs.Result.{IsOk}
 use Rattle.std.specs.Option.{option_map}
@@ -35,10 +35,10 @@ use Rattle.rvgprof.specs.declared.words.Shown.{Shown}
 use Rattle.rvgprof.specs.declared.words.Shown.TheVariants as shows
 use Rattle.rvgprof.specs.Items.{name_of}
 use Rattle.rvgprof.specs.Words.{command_of}
-use Rattle.rvgprof.specs.Course.{Course, Ends, Input, Does, Reply, unless, reply_to, MayStop}
+use Rattle.rvgprof.specs.Course.{Course, Ends, Input, Does, unless, reply_to, MayStop}
 use Rattle.rvgprof.specs.Answer.{RunActs, command_course, course_of, demo_lines, ended, file_acts, file_refusal, file_records, files_named, given_file_acts, print_reports, profile_file, profile_in, profiles, program, report_profiles, report_run, run_acts, run_program, show_lines, start_fault_of, sum_file, syms_lines, told, written_profile}
 use Rattle.rvgprof.proofs.Summing.{nothing_added}
-use Rattle.rvgprof.specs.Acceptance.{IsProgramFile, IsProfileFile, IsLike, AreProfileFiles, IsAccepted, Starts, records_of, acts_at_once}
+use Rattle.rvgprof.specs.Acceptance.{IsProgramFile, IsLike, AreProfileFiles, IsAccepted, records_of, acts_at_once}
 
 -- no list with an item in it is empty
 never_empty : {T : Type 0} (before : List T) (x : T) (after : List T) → [] ≡ before ++ x ∷ after → ⊥

@@ -1,11 +1,11 @@
 -- The numbers of a demo's summary.
-use Rattle.std.proofs.Common.{◌≡◌, ◌≢◌, ◌<◌, ◌≤◌, ◌+◌, ℕ, suc, Bool, true, false, cond, List, [], ◌∷◌, ◌++◌, length, map, sum, slice_index, Option, Some, None, refl, sym, ap, ◌∙◌, arith, add-one}
+use Rattle.std.proofs.Common.{◌≡◌, ◌≢◌, ◌<◌, ◌≤◌, ◌+◌, ℕ, suc, Bool, true, false, cond, List, [], ◌∷◌, ◌++◌, slice_index, Option, Some, None, refl, sym, ap, ◌∙◌, arith, add-one}
 use Rattle.std.proofs.lemmas.Bool.{eq-eqb, ne_eqb}
-use Rattle.std.specs.List.{count_by, sum_by, range_with_len}
+use Rattle.std.specs.List.{count_by}
 use Rattle.std.proofs.lemmas.List.{map-id}
 use Rattle.std.proofs.lemmas.List.Sums.{sum_by_push}
 use Rattle.std.proofs.lemmas.List.FromFn.{map-range_with_len_more}
-use Rattle.call_cycles.specs.Graph.{GraphValue, component_count, entering_of, is_cycle}
+use Rattle.call_cycles.specs.Graph.{GraphValue, component_count, entering_of}
 use Rattle.call_cycles.specs.Flow.{FlowValue, is_root, time_of, time_of_roots}
 use Rattle.call_cycles.specs.Sums.{numbers_below, sum_below, when}
 use Rattle.call_cycles.proofs.SumLemmas.{sum_front_le}

@@ -1,7 +1,6 @@
 -- The demo program was written, and its run goes on; or it was not.
-use Rattle.std.proofs.Common.{◌≡◌, ◌∙◌, ◌++◌, ℕ, List, [], Option, None, Result, Ok, Err, sym, ap, subst}
+use Rattle.std.proofs.Common.{◌≡◌, ◌∙◌, ◌++◌, ℕ, List, [], Option, None, Result, Ok, Err, ap, subst}
 use Rattle.elf32_syms.specs.declared.image.Image.{Image}
-use Rattle.elf32_syms.specs.declared.refusal.ElfRefusal.{ElfRefusal}
 use Rattle.elf32_syms.specs.Image.{image_of}
 use Rattle.elf32_syms.specs.Refusals.{elf_refusal}
 use Rattle.demo_elf.specs.Elf.{demo_program}

@@ -1,8 +1,8 @@
 -- What a file holds once it was written as a whole.
-use Rattle.std.proofs.Common.{◌≡◌, ◌≢◌, ℕ, Bool, true, false, cond, true≢false, List, [], ◌∷◌, ◌++◌, Option, Some, None, refl, sym, ap, subst, ◌∙◌}
+use Rattle.std.proofs.Common.{◌≡◌, ◌≢◌, ℕ, Bool, true, false, cond, List, [], ◌∷◌, ◌++◌, Option, Some, None, refl, sym, ap, ◌∙◌}
 use Rattle.std.specs.Prelude.{bytes_eq}
 use Rattle.std.proofs.lemmas.Slice.Eq.{bytes_eq-Decides}
-use Rattle.host_port.specs.Act.{Act, Create, Write, Close, Disk, File, content_of, with_file, with_more, disk_after}
+use Rattle.host_port.specs.Act.{Disk, File, content_of, with_file, with_more, disk_after}
 use Rattle.rvgprof.specs.Answer.{file_acts, given_file_acts}
 
 same_name : (name : List ℕ) → bytes_eq name name ≡ true

@@ -1,5 +1,5 @@
 -- A profile file's form, and its bytes as they come.
-use Rattle.std.proofs.Common.{◌≡◌, ◌≢◌, ℕ, ◌+◌, ◌<◌, ◌≤◌, Bool, true, false, cond, ◌&&◌, List, [], ◌∷◌, ◌++◌, length, take, drop, length-take, length-append, append_assoc, Option, Some, None, Err, refl, sym, ap, ◌∙◌, if◌then◌else◌, arith}
+use Rattle.std.proofs.Common.{◌≡◌, ℕ, ◌+◌, ◌<◌, ◌≤◌, Bool, true, false, ◌&&◌, List, [], ◌++◌, length, take, drop, length-take, length-append, append_assoc, Option, Some, None, Err, refl, sym, ap, ◌∙◌, if◌then◌else◌, arith}
 use Rattle.std.specs.Prelude.{bytes_eq, codes, is_some, IfSome}
 use Rattle.std.proofs.lemmas.Slice.Eq.{bytes_eq-Decides}
 use Rattle.std.proofs.lemmas.List.{take-append-le, take-append-drop}

@@ -1,5 +1,5 @@
 -- What the command `profile` leaves where it is carried out.
-use Rattle.std.proofs.Common.{◌≡◌, ◌≢◌, ℕ, ◌≤◌, Bool, true, cond, List, [], ◌∷◌, ◌++◌, append-nil, append_assoc, length, Option, Some, None, Result, Ok, Err, refl, sym, ap, subst, ◌∙◌}
+use Rattle.std.proofs.Common.{◌≡◌, ℕ, Bool, cond, List, [], ◌∷◌, ◌++◌, append-nil, append_assoc, length, Option, Some, None, Ok, Err, refl, sym, ap, subst, ◌∙◌}
 use Rattle.std.specs.Prelude.{codes, is_ok, option_map, IfSome, MatchOption, ⊤}
 use Rattle.std.specs.Result.{IsOk}
 use Rattle.std.proofs.lemmas.Bool.{le-ltb}
@@ -11,7 +11,7 @@ use Rattle.elf32_syms.specs.Refusals.{elf_refusal}
 use Rattle.elf32_syms.specs.Image.{image_of}
 use Rattle.gmon_block.specs.Layout.{layout_of}
 use Rattle.gmon_data.specs.Content.{Content}
-use Rattle.host_port.specs.Act.{Act, Out, Disk, File, content_of, disk_after}
+use Rattle.host_port.specs.Act.{Act, Disk, content_of, disk_after}
 use Rattle.host_port.specs.Act.{printed as prints_of, Err as Complain}
 use Rattle.host_port.specs.Outside.{Outside, Becomes, Did}
 use Rattle.host_port.proofs.Laws.{Becomes-by, disk_after-append, printed-append}
@@ -29,13 +29,12 @@ use Rattle.prof_machine.specs.Start.{start_refusal}
 use Rattle.rvgprof.specs.declared.outcome.Done.{Done}
 use Rattle.rvgprof.specs.declared.outcome.Fault.{Fault}
 use Rattle.rvgprof.specs.declared.outcome.Fault.TheVariants.{BadElf, TooLarge}
-use Rattle.rvgprof.specs.declared.words.Command.{Command}
 use Rattle.rvgprof.specs.declared.words.Command.TheVariants.{Profile}
 use Rattle.rvgprof.specs.declared.words.Shown.{Shown}
 use Rattle.rvgprof.specs.declared.words.Shown.TheVariants as shows
 use Rattle.rvgprof.specs.Items.{name_of}
 use Rattle.rvgprof.specs.Words.{command_of}
-use Rattle.rvgprof.specs.Course.{Course, Ends, Input, Does, Reply, unless, behind, reply_to}
+use Rattle.rvgprof.specs.Course.{Course, Ends, Does, Reply, unless, behind, reply_to}
 use Rattle.rvgprof.specs.Answer.{RunFiles, command_course, contents_of, course_of, file_acts, files_named, given_file_acts, print_reports, profile_course, program, report_run, run_acts, run_program, start_fault_of, told, written_profile}
 use Rattle.rvgprof.specs.Reports.{sources_of}
 use Rattle.rvgprof.specs.Contract.{WhereTold, Answered}

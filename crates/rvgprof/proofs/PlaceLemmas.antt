@@ -8,7 +8,7 @@ use Rattle.std.proofs.lemmas.Bool.Decides.{nat_tests}
 use Rattle.rvgprof.specs.declared.options.Key.{Key}
 use Rattle.rvgprof.specs.declared.options.Takes.{Takes}
 use Rattle.rvgprof.specs.declared.items.Wanted.TheVariants.{AnOperand}
-use Rattle.rvgprof.specs.Items.{Item, Operand, Given, is_option, with_item, items_from, items_of_option, places, nth, place_given}
+use Rattle.rvgprof.specs.Items.{Item, Operand, Given, is_option, with_item, items_from, items_of_option, places, nth}
 use Rattle.rvgprof.specs.Options.{option_of, kind_of, is_flag}
 use Rattle.rvgprof.specs.declared.words.Command.{Command}
 use Rattle.rvgprof.specs.declared.words.Shown.{Shown}

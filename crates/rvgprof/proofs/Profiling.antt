@@ -4,7 +4,6 @@ use Rattle.std.specs.List.{All}
 use Rattle.gp_base.specs.declared.records.Form.{Form}
 use Rattle.gp_base.specs.declared.records.Form.TheVariants.{Bsd, Gnu}
 use Rattle.gp_base.specs.declared.records.Records.{Records}
-use Rattle.gp_base.specs.declared.records.RawArc.{RawArc}
 use Rattle.mcount_arcs.specs.declared.sizes.Sizes.{Sizes}
 use Rattle.mcount_arcs.specs.Arcs.{CallFits, arcs_of}
 use Rattle.mcount_arcs.specs.Log.{LogEntry}

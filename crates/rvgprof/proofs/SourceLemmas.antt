@@ -1,5 +1,5 @@
 -- What the reports of a profile are made from is what was found.
-use Rattle.std.proofs.Common.{◌≡◌, ◌<◌, ◌≤◌, ◌^◌, ℕ, List, length, map, refl, sym, ap, subst, ◌∙◌}
+use Rattle.std.proofs.Common.{◌≡◌, ◌<◌, ◌≤◌, ◌^◌, ℕ, length, sym, ap, ◌∙◌}
 use Rattle.std.proofs.lemmas.List.{length-map}
 use Rattle.elf32_syms.specs.declared.image.Image.{Image}
 use Rattle.gmon_data.specs.Content.{Content}
@@ -9,10 +9,9 @@ use Rattle.call_cycles.specs.Flow.{FlowValue, IsFlow}
 use Rattle.call_cycles.specs.Values.{profile_graph}
 use Rattle.propagate.specs.Solution.{flow_in}
 use Rattle.propagate.proofs.SolutionLemmas.{solution}
-use Rattle.flat_report.specs.Sources.{Sources as ReportSources}
 use Rattle.rvgprof.specs.declared.sources.Sources.{Sources}
 use Rattle.rvgprof.specs.Reports.{rate_of, sources_of}
-use Rattle.rvgprof.specs.Found.{AreSources, given_sources}
+use Rattle.rvgprof.specs.Found.{AreSources}
 
 -- how many shares there are
 pub shares_long : (image : Image) (total : Content) (t : ShareTable) → t ≡ shares_of total.hists image.symbols → length t.of ≡ length image.symbols

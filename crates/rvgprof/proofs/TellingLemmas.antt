@@ -31,8 +31,8 @@ use Rattle.rvgprof.specs.declared.words.Shown.TheVariants as shows
 use Rattle.rvgprof.specs.Words.{command_of, IsWithinLimits}
 use Rattle.rvgprof.specs.Course.{Course, Ends, Input, Does, unless, reply_to}
 use Rattle.rvgprof.specs.Items.{name_of}
-use Rattle.rvgprof.specs.Answer.{RunActs, command_course, course_of, demo_lines, ended, file_refusal, file_records, files_named, given_file_acts, print_reports, profile_file, profile_in, profiles, program, report_profiles, report_run, run_acts, run_program, show_lines, start_fault_of, sum_file, syms_lines, told, written_profile}
-use Rattle.rvgprof.specs.Contract.{Acted, Owes}
+use Rattle.rvgprof.specs.Answer.{RunActs, command_course, demo_lines, ended, file_refusal, file_records, files_named, given_file_acts, print_reports, profile_file, profile_in, profiles, program, report_profiles, report_run, run_acts, run_program, show_lines, start_fault_of, sum_file, syms_lines, told, written_profile}
+use Rattle.rvgprof.specs.Contract.{Acted}
 use Rattle.rvgprof.specs.Acceptance.{starts_run}
 
 module _ (contents : ℕ → List ℕ) (some : Bool) where

@@ -1,4 +1,4 @@
-use Rattle.std.proofs.Common.{◌≡◌, ◌≤◌, ◌∙◌, sym, arith}
+use Rattle.std.proofs.Common.{◌∙◌, sym, arith}
 use Rattle.call_cycles.specs.Graph.{is_cycle}
 use Rattle.rvgprof.proofs.DemoLemmas.{count_yes, count_no}
 use Rattle.rvgprof.proofs.demo.cycles_of.Goals as goal

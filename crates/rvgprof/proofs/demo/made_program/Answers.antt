@@ -1,4 +1,4 @@
-use Rattle.std.proofs.Common.{◌≡◌, List, ℕ, refl, sym, ap, subst, ◌∙◌}
+use Rattle.std.proofs.Common.{List, ℕ, refl, subst, ◌∙◌}
 use Rattle.elf32_syms.specs.declared.refusal.ElfRefusal.TheVariants as elf
 use Rattle.elf32_syms.specs.Refusals.{elf_refusal, IsRefusal}
 use Rattle.rvgprof.proofs.demo.made_program.Goals as goal

@@ -1,4 +1,4 @@
-use Rattle.std.proofs.Common.{◌≡◌, ◌++◌, ◌∷◌, ◌∙◌, ℕ, List, decimal, ap, append_assoc}
+use Rattle.std.proofs.Common.{decimal}
 use Rattle.std.specs.Prelude.{codes}
 use Rattle.rvgprof.specs.Reports.{grains_line}
 use Rattle.rvgprof.proofs.LineLemmas.{five_parts}

@@ -1,4 +1,4 @@
-use Rattle.std.proofs.Common.{◌≡◌, ◌<◌, ◌≤◌, ◌+◌, ◌^◌, ℕ, ◌∙◌, sym, ap, arith}
+use Rattle.std.proofs.Common.{◌≡◌, ◌<◌, ◌+◌, ◌^◌, ℕ, ◌∙◌, ap, arith}
 use Rattle.call_cycles.specs.Graph.{component_count}
 use Rattle.call_cycles.specs.Flow.{is_root, time_of}
 use Rattle.call_cycles.specs.Sums.{sum_below, when}

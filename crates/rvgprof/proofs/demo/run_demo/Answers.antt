@@ -1,7 +1,5 @@
 use Rattle.std.proofs.Common.{refl}
 use Rattle.std.specs.Prelude.{map, string_bytes}
-use Rattle.mcount_arcs.specs.Sizes.{sizes_of}
-use Rattle.prof_machine.specs.Start.{final_world}
 use Rattle.rvgprof.specs.Answer.{demo_lines}
 use Rattle.rvgprof.proofs.Running.{run_told}
 use Rattle.rvgprof.proofs.demo.run_demo.Goals as goal

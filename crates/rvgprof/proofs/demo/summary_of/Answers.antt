@@ -1,4 +1,4 @@
-use Rattle.std.proofs.Common.{◌≡◌, ◌++◌, ◌∙◌, ℕ, List, [], Option, sym, ap, arith}
+use Rattle.std.proofs.Common.{◌++◌, ◌∙◌, ℕ, List, [], Option, sym, ap, arith}
 use Rattle.symbol_shares.specs.Shares.{attributed_of}
 use Rattle.mcount_arcs.specs.declared.sizes.Sizes.{Sizes}
 use Rattle.mcount_arcs.specs.Log.{distinct_count, kept_calls}

@@ -1,10 +1,10 @@
-use Rattle.std.proofs.Common.{◌≡◌, ℕ, List, ◌++◌, ◌∷◌, [], ap, subst}
+use Rattle.std.proofs.Common.{◌++◌, ◌∷◌, [], ap, subst}
 use Rattle.std.specs.Prelude.{codes}
 use Rattle.std.proofs.lemmas.Result.{err_from_is_err_and}
-use Rattle.host_port.specs.Act.{Act, Out}
+use Rattle.host_port.specs.Act.{Out}
 use Rattle.rvgprof.specs.declared.words.Shown.{Shown}
 use Rattle.rvgprof.specs.Answer.{print_reports, shown_reports}
-use Rattle.rvgprof.specs.Course.{Course, Does}
+use Rattle.rvgprof.specs.Course.{Does}
 use Rattle.flat_report.specs.FlatText.{flat_text}
 use Rattle.graph_report.specs.GraphText.{graph_text}
 use Rattle.rvgprof.specs.Found.{given_sources}

@@ -1,12 +1,10 @@
-use Rattle.std.proofs.Common.{◌≡◌, [], ◌+◌, ℕ, List, Ok, arith, ap, sym, subst, ◌∙◌}
+use Rattle.std.proofs.Common.{◌≡◌, [], ◌+◌, ℕ, List, arith, ◌∙◌}
 use Rattle.std.specs.Prelude.{map, string_bytes}
 use Rattle.elf32_syms.specs.declared.image.Image.{Image}
-use Rattle.gmon_data.specs.Content.{Content}
 use Rattle.mcount_arcs.specs.Sizes.{sizes_of}
 use Rattle.prof_machine.specs.Start.{final_world}
-use Rattle.rvgprof.specs.Answer.{files_named, print_reports, report_run, run_acts, run_program, told, written_profile}
+use Rattle.rvgprof.specs.Answer.{files_named, report_run, run_acts, run_program, told, written_profile}
 use Rattle.rvgprof.specs.Course.{Course}
-use Rattle.rvgprof.specs.Standing.{Stands}
 use Rattle.rvgprof.proofs.Profiling.{profile_written}
 use Rattle.rvgprof.proofs.Reporting.{may_stop_reports, of_the_same}
 use Rattle.rvgprof.proofs.Running.{run_told}

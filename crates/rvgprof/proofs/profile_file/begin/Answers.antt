@@ -1,4 +1,4 @@
-use Rattle.std.proofs.Common.{◌≡◌, ◌≤◌, [], ◌++◌, length, length-append, sym, ◌∙◌, arith}
+use Rattle.std.proofs.Common.{◌≤◌, [], length, length-append, sym, ◌∙◌, arith}
 use Rattle.rvgprof.proofs.FileReading.{form_goes_on}
 use Rattle.rvgprof.proofs.profile_file.begin.Goals as goal
 

@@ -1,7 +1,5 @@
-use Rattle.std.proofs.Common.{◌≡◌, ◌+◌, ◌-◌, ◌<◌, ◌≤◌, ◌++◌, ℕ, List, length, take, length-append, length-take, sym, ap, subst, ◌∙◌, arith}
-use Rattle.host_port.specs.Outside.{KeepsCounts}
+use Rattle.std.proofs.Common.{◌≡◌, ◌+◌, ◌≤◌, ◌++◌, ℕ, List, length, length-append, sym, subst, arith}
 use Rattle.host_port.proofs.LoadLemmas.{Loading}
-use Rattle.rvgprof.specs.FileRead.{StandsFor}
 use Rattle.rvgprof.proofs.FileReading.{loading_more, loading_long}
 use Rattle.rvgprof.proofs.profile_file.read_pieces.Goals as goal
 

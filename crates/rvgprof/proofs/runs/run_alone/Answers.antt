@@ -1,13 +1,11 @@
-use Rattle.std.proofs.Common.{[], ◌≡◌, ◌++◌, refl, sym, ap, subst, ◌∙◌}
+use Rattle.std.proofs.Common.{refl, sym, ap, subst, ◌∙◌}
 use Rattle.host_port.specs.Act.{writes_after}
 use Rattle.host_port.specs.declared.host.Failed.{Failed}
 use Rattle.std.specs.Prelude.{map, string_bytes, IsSome}
 use Rattle.prof_machine.specs.Plan.{driven}
 use Rattle.prof_machine.specs.Start.{final_world, start_refusal}
-use Rattle.prof_machine.specs.World.{World}
 use Rattle.prof_machine.specs.declared.ending.End.{End}
 use Rattle.std.proofs.Common.{Option}
-use Rattle.rvgprof.specs.Answer.{RunActs}
 use Rattle.rvgprof.proofs.Performing.{printed_performs, drive_fails}
 use Rattle.rvgprof.proofs.Running.{Started, no_start, run_done, run_failed, run_of}
 use Rattle.rvgprof.proofs.runs.run_alone.Goals as goal

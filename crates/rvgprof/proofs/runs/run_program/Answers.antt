@@ -1,8 +1,8 @@
-use Rattle.std.proofs.Common.{[], false, refl}
+use Rattle.std.proofs.Common.{false, refl}
 use Rattle.std.specs.Prelude.{map, string_bytes}
 use Rattle.prof_machine.specs.Start.{final_world, start_refusal}
 use Rattle.mcount_arcs.specs.Sizes.{sizes_of}
-use Rattle.rvgprof.specs.Answer.{RunActs, files_named, run_acts}
+use Rattle.rvgprof.specs.Answer.{files_named, run_acts}
 use Rattle.rvgprof.proofs.Performing.{shut_after}
 use Rattle.rvgprof.proofs.Running.{Started, no_start, run_done, run_failed, run_of}
 use Rattle.rvgprof.proofs.runs.run_program.Goals as goal

@@ -1,4 +1,4 @@
-use Rattle.std.proofs.Common.{◌≡◌, ◌∙◌, Some, sym}
+use Rattle.std.proofs.Common.{◌∙◌, sym}
 use Rattle.rvgprof.proofs.Reporting.{some_rate}
 use Rattle.rvgprof.proofs.sources.rate_of.Goals as goal
 

@@ -1,4 +1,4 @@
-use Rattle.std.proofs.Common.{◌≡◌, ◌+◌, ◌-◌, ◌<◌, ◌≤◌, ◌++◌, ℕ, List, length, length-append, sym, ap, subst, ◌∙◌, arith}
+use Rattle.std.proofs.Common.{length-append, subst, ◌∙◌, arith}
 use Rattle.rvgprof.specs.declared.profile_file.FileReader.{FileReader}
 use Rattle.rvgprof.specs.FileRead.{StandsFor}
 use Rattle.rvgprof.proofs.FileReading.{form_goes_on}

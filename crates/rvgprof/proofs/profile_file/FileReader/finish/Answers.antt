@@ -1,9 +1,9 @@
-use Rattle.std.proofs.Common.{◌≡◌, List, ℕ, [], None, OnOk, IfOk, IfErr, sym, ap, subst, ◌∙◌}
+use Rattle.std.proofs.Common.{◌≡◌, List, ℕ, [], None, OnOk, IfOk, IfErr, sym, subst, ◌∙◌}
 use Rattle.gp_base.specs.declared.records.Form.{Form}
 use Rattle.gp_base.specs.Refusal.{IsRefusal}
 use Rattle.gmon_bsd.specs.Fed as bsd
 use Rattle.rvgprof.specs.declared.profile_file.FileReader.{FileReader}
-use Rattle.rvgprof.specs.Answer.{form_of, refusal_in, records_in}
+use Rattle.rvgprof.specs.Answer.{refusal_in, records_in}
 use Rattle.rvgprof.specs.ProfileSizes.{SpellsIn}
 use Rattle.rvgprof.specs.FileRead.{StandsFor}
 use Rattle.rvgprof.proofs.FileReading.{form_short}
