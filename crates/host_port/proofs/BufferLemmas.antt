@@ -20,6 +20,7 @@ adds_kept {T} {E} side bytes before after x u is = record {
   emptied = tt;
   input = KeepsInput-same x;
   counts = counts_same T E side x u;
+  last = λ _. refl;
 }
 
 -- nothing was put
@@ -51,6 +52,7 @@ adds_then {T} {E} side a b p q r x y z u (Ok v) first second = record {
   emptied = tt;
   input = KeepsInput-then x y z first.input second.input;
   counts = counts_then {T = T} {E = E} side x y z u (Ok v) first.counts second.counts;
+  last = λ is. second.last is ∙ first.last is;
 }
 adds_then {T} {E} side a b p q r x y z u (Err e) first second =
     let gone = first.went.0 in
@@ -66,6 +68,7 @@ adds_then {T} {E} side a b p q r x y z u (Err e) first second =
       emptied = second.emptied;
       input = KeepsInput-then x y z first.input second.input;
       counts = counts_then {T = T} {E = E} side x y z u (Err e) first.counts second.counts;
+      last = λ is. second.last is ∙ first.last is;
     }
 
 -- what failed within a prefix failed within the whole
@@ -84,6 +87,7 @@ adds_front {T} {E} side a b p q x y e first =
       emptied = first.emptied;
       input = first.input;
       counts = first.counts;
+      last = first.last;
     }
 
 -- where nothing is pending before and after, the bytes went to the side
@@ -95,13 +99,14 @@ adds_puts {T} {E} side text x y (Ok u) after none adds = record {
     input = adds.input;
   };
   counts = adds.counts;
+  last = adds.last;
 }
-adds_puts {T} {E} side text x y (Err e) after none adds = record { takes = record { done = tt; part = adds.part; input = adds.input }; counts = adds.counts }
+adds_puts {T} {E} side text x y (Err e) after none adds = record { takes = record { done = tt; part = adds.part; input = adds.input }; counts = adds.counts; last = adds.last }
 
 -- what went to the side at once was put behind nothing
 pub puts_adds : {T E : Type 0} (side : Side) (text : List ℕ) (x y : Outside) (result : Result T E) → Puts side text x y result → Adds side text [] [] x y result
-puts_adds {T} {E} side text x y (Ok u) puts = record { went = (text, sym (append-nil text), puts.takes.done); part = tt; emptied = tt; input = puts.takes.input; counts = puts.counts }
-puts_adds {T} {E} side text x y (Err e) puts = record { went = tt; part = puts.takes.part; emptied = refl; input = puts.takes.input; counts = puts.counts }
+puts_adds {T} {E} side text x y (Ok u) puts = record { went = (text, sym (append-nil text), puts.takes.done); part = tt; emptied = tt; input = puts.takes.input; counts = puts.counts; last = puts.last }
+puts_adds {T} {E} side text x y (Err e) puts = record { went = tt; part = puts.takes.part; emptied = refl; input = puts.takes.input; counts = puts.counts; last = puts.last }
 
 -- ---- a loop over items, each with a text of its own
 

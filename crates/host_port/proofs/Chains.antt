@@ -2,7 +2,7 @@
 use Rattle.std.proofs.Common.{◌≡◌, ℕ, ◌+◌, ◌<◌, ◌≤◌, List, [], ◌++◌, length, take, get_or, Result, Ok, Err, refl}
 use Rattle.std.specs.List.{flat_map}
 use Rattle.host_port.specs.Outside.{Outside}
-use Rattle.host_port.specs.Host.{act_of, CountsOf, Takes, Puts}
+use Rattle.host_port.specs.Host.{act_of, CountsOf, KeepsLast, Takes, Puts}
 use Rattle.host_port.specs.declared.side.Side.{Side}
 use Rattle.host_port.proofs.Piecewise.{Along, along_end, along_fail}
 use Rattle.host_port.proofs.SideLemmas.{side_piecewise, counts_then, counts_kept, counts_fail}
@@ -22,16 +22,18 @@ puts_front {T} {E} side a b x y e p = adds_puts {T = T} side (a ++ b) x y (Err e
 
 -- ---- a loop over the parts of one text
 
-pub puts_end : {T E : Type 0} (side : Side) (piece rest : List ℕ) (old new : Outside) (u : T) → Along (act_of side) piece rest old new → rest ≡ [] → Puts {T = T} {E = E} side piece old new (Ok u)
-puts_end {T} {E} side piece rest old new u far none = record {
+pub puts_end : {T E : Type 0} (side : Side) (piece rest : List ℕ) (old new : Outside) (u : T) → Along (act_of side) piece rest old new → rest ≡ [] → KeepsLast side old new → Puts {T = T} {E = E} side piece old new (Ok u)
+puts_end {T} {E} side piece rest old new u far none last = record {
   takes = along_end (act_of side) piece rest old new u far none;
   counts = counts_kept T E side old new u far.counts;
+  last = last;
 }
 
-pub puts_fail : {T E : Type 0} (side : Side) (piece rest : List ℕ) (old mid new : Outside) (u : T) (e : E) → Along (act_of side) piece rest old mid → 0 < length rest → Takes (act_of side) rest mid new (Err e) → CountsOf {T = ℕ} side mid new (Err e) → Puts {T = T} side piece old new (Err e)
-puts_fail {T} {E} side piece rest old mid new u e far some failed counts = record {
+pub puts_fail : {T E : Type 0} (side : Side) (piece rest : List ℕ) (old mid new : Outside) (u : T) (e : E) → Along (act_of side) piece rest old mid → 0 < length rest → Takes (act_of side) rest mid new (Err e) → CountsOf {T = ℕ} side mid new (Err e) → KeepsLast side old new → Puts {T = T} side piece old new (Err e)
+puts_fail {T} {E} side piece rest old mid new u e far some failed counts last = record {
   takes = along_fail (act_of side) (side_piecewise side) piece rest old mid new e far some failed;
   counts = counts_then side old mid new u (Err e) (counts_kept T E side old mid u far.counts) (counts_fail ℕ T E side mid new e counts);
+  last = last;
 }
 
 -- ---- a loop over items, each with a text of its own

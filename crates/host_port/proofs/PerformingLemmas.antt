@@ -23,7 +23,7 @@ failed_before act (first ∷ part) (due ∷ acts) more (inr h) = inr h
 
 fault_since : (act : Act) (old mid new : Outside) (err : ℕ) → KeepsCounts old mid → FaultOf act mid new err → FaultOf act old new err
 fault_since (Err bytes) old mid new err k f = (subst (λ (n : ℕ). Rose n err) k.err f.0, f.1 ∙ k.write)
-fault_since act old mid new err k f = (subst (λ (n : ℕ). Rose n new.write_faults) k.write f.0, f.1 ∙ k.err)
+fault_since act old mid new err k f = (subst (λ (n : ℕ). Rose n new.write_faults) k.write f.0, f.1 ∙ k.err, f.2)
 
 pub failed_since : (act : Act) (old mid new : Outside) (err : ℕ) → KeepsCounts old mid → ActFailed act mid new err → ActFailed act old new err
 failed_since act old mid new err k f = record { own = fault_since act old mid new err k f.own; read = f.read ∙ k.read }
@@ -55,8 +55,8 @@ performs_front front back x y e p =
 
 -- a call that put a piece to a side failed
 pub piece_failed : (T E : Type 0) (side : Side) (piece : List ℕ) (x y : Outside) (e : E) → CountsOf {T = T} {E = E} side x y (Error e) → ActFailed (act_of side piece) x y y.err_faults
-piece_failed T E File piece x y e counts = record { own = (counts.own, counts.err); read = counts.read }
-piece_failed T E Output piece x y e counts = record { own = (counts.own, counts.err); read = counts.read }
+piece_failed T E File piece x y e counts = record { own = (counts.own, counts.err, counts.last); read = counts.read }
+piece_failed T E Output piece x y e counts = record { own = (counts.own, counts.err, counts.last); read = counts.read }
 piece_failed T E ErrorOutput piece x y e counts = record { own = (counts.own, counts.write); read = counts.read }
 
 -- where a part of it went out
@@ -77,11 +77,11 @@ puts_performs {T} {E} side text x y (Error e) puts =
 
 pub create_performs : {T E : Type 0} (name : List ℕ) (x y : Outside) (r : Result T E) → Creates name x y r → Writes x y r → Performs (Create name ∷ []) x y r
 create_performs name x y (Ok u) creates counts = record { done = creates.done; kept = record { read = counts.read; write = counts.own; err = counts.err }; failed = tt }
-create_performs name x y (Error e) creates counts = record { done = tt; kept = tt; failed = ([], Create name, refl, creates.failed, record { own = (counts.own, counts.err); read = counts.read }) }
+create_performs name x y (Error e) creates counts = record { done = tt; kept = tt; failed = ([], Create name, refl, creates.failed, record { own = (counts.own, counts.err, counts.last); read = counts.read }) }
 
 pub close_performs : {T E : Type 0} (x y : Outside) (r : Result T E) → Closes x y → Writes x y r → Performs (Close ∷ []) x y r
 close_performs x y (Ok u) closes counts = record { done = closes.done; kept = record { read = counts.read; write = counts.own; err = counts.err }; failed = tt }
-close_performs x y (Error e) closes counts = record { done = tt; kept = tt; failed = (Close ∷ [], Close, inr (tt, refl, refl), closes.done, record { own = (counts.own, counts.err); read = counts.read }) }
+close_performs x y (Error e) closes counts = record { done = tt; kept = tt; failed = (Close ∷ [], Close, inr (tt, refl, refl), closes.done, record { own = (counts.own, counts.err, counts.last); read = counts.read }) }
 
 -- a file is created, a text written to it, and closed
 pub create_failed : {T E : Type 0} (name text : List ℕ) (x y : Outside) (e : E) → Creates {T = T} name x y (Error e) → Writes {T = T} x y (Error e) → Performs {T = T} (Create name ∷ Write text ∷ Close ∷ []) x y (Error e)

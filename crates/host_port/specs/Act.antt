@@ -1,5 +1,5 @@
 -- What a program does on the outside, and what that leaves in files and on the two outputs.
-use Rattle.std.specs.Prelude.{ℕ, Bool, true, false, List, [], ◌∷◌, ◌++◌, Option, Some, None, bytes_eq, if◌then◌else◌}
+use Rattle.std.specs.Prelude.{ℕ, ◌+◌, ◌-◌, ◌^◌, min, Bool, true, false, List, [], ◌∷◌, ◌++◌, Option, Some, None, bytes_eq, if◌then◌else◌}
 
 -- a file: its name and its bytes
 abbrev pub File : Type 0
@@ -86,3 +86,19 @@ writes_after_act (Err bytes) before = before
 abbrev pub writes_after : List Act → Bool → Bool
 writes_after [] before = before
 writes_after (act ∷ acts) before = writes_after acts (writes_after_act act before)
+
+-- one more, up to the largest number of 64 bits
+abbrev pub next_count : ℕ → ℕ
+next_count n = min (n + 1) (2 ^ 64 - 1)
+
+-- how many files were created after acts
+abbrev pub created_after_act : Act → ℕ → ℕ
+created_after_act (Create name) before = next_count before
+created_after_act (Write bytes) before = before
+created_after_act Close before = before
+created_after_act (Out bytes) before = before
+created_after_act (Err bytes) before = before
+
+abbrev pub created_after : List Act → ℕ → ℕ
+created_after [] before = before
+created_after (act ∷ acts) before = created_after acts (created_after_act act before)

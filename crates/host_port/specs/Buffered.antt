@@ -1,7 +1,7 @@
 -- Bytes that go to a side in pieces, of which some are pending.
 use Rattle.std.specs.Prelude.{◌≡◌, ℕ, ◌<◌, true, List, [], ◌∷◌, ◌++◌, length, take, Result, OnOk, OnErr, ⊤}
 use Rattle.host_port.specs.Outside.{Outside, Did, KeepsInput}
-use Rattle.host_port.specs.Host.{act_of, CountsOf}
+use Rattle.host_port.specs.Host.{act_of, CountsOf, KeepsLast}
 use Rattle.host_port.specs.declared.side.Side.{Side}
 use Rattle.host_port.specs.declared.side.Side.TheVariants.{File, Output, ErrorOutput}
 
@@ -20,3 +20,4 @@ pub record Adds {T E : Type 0} (side : Side) (bytes before after : List ℕ) (ol
   pub emptied : OnErr result (after ≡ [])
   pub input : KeepsInput old new
   pub counts : CountsOf side old new result
+  pub last : KeepsLast side old new

@@ -1,8 +1,8 @@
 -- What each call on a host does, by the outside before and after it.
-use Rattle.std.specs.Prelude.{◌≡◌, ℕ, ◌<◌, ◌≤◌, true, false, List, [], ◌∷◌, length, take, drop, Some, Result, IfOk, OnOk, OnErr, IfSome, MatchResult, is_ok, ◌↔◌}
+use Rattle.std.specs.Prelude.{◌≡◌, ℕ, ◌<◌, ◌≤◌, true, false, List, [], ◌∷◌, length, take, drop, Some, Result, IfOk, OnOk, OnErr, IfSome, MatchResult, is_ok, is_err, ◌↔◌}
 use Rattle.host_port.specs.Act.{Act, Disk, content_of, Create, Write, Close, Out}
 use Rattle.host_port.specs.Act.{Err as Complain}
-use Rattle.host_port.specs.Outside.{Outside, Becomes, Did, KeepsInput, Rose}
+use Rattle.host_port.specs.Outside.{Outside, Becomes, Did, KeepsInput, Rose, opening}
 -- where bytes go: to the file that is being written, or to one of the two outputs
 use Rattle.host_port.specs.declared.side.Side.{Side}
 use Rattle.host_port.specs.declared.side.Side.TheVariants.{File, Output, ErrorOutput}
@@ -10,16 +10,25 @@ use Rattle.host_port.specs.declared.side.Side.TheVariants.{File, Output, ErrorOu
 -- a call of the kind that reads: only read_faults may rise, and exactly where the call failed
 pub record Reads {T E : Type 0} (old new : Outside) (result : Result T E) : Type 0 where
   pub own : MatchResult result (λ _. new.read_faults ≡ old.read_faults) (λ _. Rose old.read_faults new.read_faults)
+  pub last : new.last_failed ≡ is_err result
   pub write : new.write_faults ≡ old.write_faults
   pub err : new.err_faults ≡ old.err_faults
 
 -- a call of the kind that writes or prints
 pub record Writes {T E : Type 0} (old new : Outside) (result : Result T E) : Type 0 where
   pub own : MatchResult result (λ _. new.write_faults ≡ old.write_faults) (λ _. Rose old.write_faults new.write_faults)
+  pub last : new.last_failed ≡ is_err result
   pub read : new.read_faults ≡ old.read_faults
   pub err : new.err_faults ≡ old.err_faults
 
--- a call that prints on the error output
+-- calls of that kind, or none, of which the last may have failed
+pub record WritesAll {T E : Type 0} (old new : Outside) (result : Result T E) : Type 0 where
+  pub own : MatchResult result (λ _. new.write_faults ≡ old.write_faults) (λ _. Rose old.write_faults new.write_faults)
+  pub last : OnErr result (new.last_failed ≡ true)
+  pub read : new.read_faults ≡ old.read_faults
+  pub err : new.err_faults ≡ old.err_faults
+
+-- calls that print on the error output
 pub record Complains {T E : Type 0} (old new : Outside) (result : Result T E) : Type 0 where
   pub own : MatchResult result (λ _. new.err_faults ≡ old.err_faults) (λ _. Rose old.err_faults new.err_faults)
   pub read : new.read_faults ≡ old.read_faults
@@ -31,7 +40,7 @@ IfTold o P = IfSome o.disk P
 
 -- the named file is open, and all of it is left; after a failure no input is open
 pub record Opens {T E : Type 0} (name : List ℕ) (old new : Outside) (result : Result T E) : Type 0 where
-  pub nothing_done : Did [] old new
+  pub nothing_done : Did [] (opening 1 old) new
   pub opened : new.is_open ≡ is_ok result
   pub rest : OnOk result (IfTold new (λ d. new.rest ≡ Some (content_of name d.files)))
 
@@ -81,11 +90,16 @@ act_of ErrorOutput bytes = Complain bytes
 
 -- only the side's own count may rise, and exactly after a failure
 abbrev pub CountsOf : {T E : Type 0} → Side → Outside → Outside → Result T E → Type 0
-CountsOf File old new result = Writes old new result
-CountsOf Output old new result = Writes old new result
+CountsOf File old new result = WritesAll old new result
+CountsOf Output old new result = WritesAll old new result
 CountsOf ErrorOutput old new result = Complains old new result
+
+-- what goes to the error output leaves last_failed as it is
+abbrev pub KeepsLast : Side → Outside → Outside → Type 0
+KeepsLast side old new = side ≡ ErrorOutput → new.last_failed ≡ old.last_failed
 
 -- the whole text went to a side; after a failure a prefix of it that isn't the whole
 pub record Puts {T E : Type 0} (side : Side) (text : List ℕ) (old new : Outside) (result : Result T E) : Type 0 where
   pub takes : TakesAll (act_of side) text old new result
   pub counts : CountsOf side old new result
+  pub last : KeepsLast side old new

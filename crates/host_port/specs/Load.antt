@@ -1,10 +1,10 @@
 -- What loading a file answers.
-use Rattle.std.specs.Prelude.{◌≡◌, ℕ, ◌<◌, ◌≤◌, List, [], length, Result, Ok, Err, IfOk, ⊤}
+use Rattle.std.specs.Prelude.{◌≡◌, ℕ, ◌<◌, ◌≤◌, true, List, [], length, Result, Ok, Err, IfOk, ⊤}
 use Rattle.std.specs.Global.{Vec}
 use Rattle.host_port.specs.declared.loading.LoadRefusal.{LoadRefusal}
 use Rattle.host_port.specs.declared.loading.LoadRefusal.TheVariants.{ReadFault, TooLarge, OutOfMemory}
 use Rattle.host_port.specs.Act.{content_of}
-use Rattle.host_port.specs.Outside.{Outside, Did, Rose, KeepsCounts}
+use Rattle.host_port.specs.Outside.{Outside, Did, Rose, KeepsCounts, opening}
 use Rattle.host_port.specs.Host.{IfTold}
 
 -- what is answered for a file with this content
@@ -14,15 +14,16 @@ AnswersFor content limit (Err TooLarge) = limit < length content
 AnswersFor content limit (Err ReadFault) = ⊤
 AnswersFor content limit (Err OutOfMemory) = ⊤
 
--- read_faults rises exactly at ReadFault
+-- read_faults rises exactly at ReadFault, and no call follows the one that failed
 abbrev pub LoadCounts : {T : Type 0} → Outside → Outside → Result T LoadRefusal → Type 0
 LoadCounts old new (Ok bytes) = KeepsCounts old new
 LoadCounts old new (Err TooLarge) = KeepsCounts old new
 LoadCounts old new (Err OutOfMemory) = KeepsCounts old new
-LoadCounts old new (Err ReadFault) = Rose old.read_faults new.read_faults × (new.write_faults ≡ old.write_faults) × (new.err_faults ≡ old.err_faults)
+LoadCounts old new (Err ReadFault) = Rose old.read_faults new.read_faults × (new.write_faults ≡ old.write_faults) × (new.err_faults ≡ old.err_faults) × (new.last_failed ≡ true)
 
 pub record Loads (name : List ℕ) (limit : ℕ) (old new : Outside) (result : Result (Vec ℕ) LoadRefusal) : Type 0 where
-  pub nothing_done : Did [] old new
+  -- one input was opened
+  pub nothing_done : Did [] (opening 1 old) new
   pub answer : IfTold new (λ d. AnswersFor (content_of name d.files) limit result)
   pub within : IfOk result (λ bytes. length bytes.items ≤ limit)
   pub counts : LoadCounts old new result

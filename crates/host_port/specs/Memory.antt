@@ -1,9 +1,9 @@
 -- A host that holds files and outputs in memory.
-use Rattle.std.specs.Prelude.{◌≡◌, ℕ, ◌+◌, ◌-◌, ◌^◌, min, true, List, [], Option, Some, None, Result, is_ok, is_some, Contains, string_bytes, ◌&&◌, refl, if◌then◌else◌}
+use Rattle.std.specs.Prelude.{◌≡◌, ℕ, ◌-◌, ◌^◌, Bool, true, false, List, [], Option, Some, None, Result, is_ok, is_some, Contains, string_bytes, ◌&&◌, refl, if◌then◌else◌}
 use Rattle.host_port.specs.declared.mem_host.HostCall.{HostCall}
 use Rattle.host_port.specs.declared.mem_host.Stage.{Stage}
 use Rattle.host_port.specs.declared.mem_host.Stage.TheVariants.{Idle, Reading, Writing}
-use Rattle.host_port.specs.Act.{File}
+use Rattle.host_port.specs.Act.{File, next_count}
 use Rattle.host_port.specs.Outside.{Outside, IsConsistent}
 use Rattle.host_port.specs.Entries.{rest_at}
 
@@ -25,6 +25,9 @@ pub record Memory : Type 0 where
   pub read_faults : ℕ
   pub write_faults : ℕ
   pub err_faults : ℕ
+  pub opened : ℕ
+  pub created : ℕ
+  pub last_failed : Bool
 
 -- it tells everything
 abbrev pub outside_of : Memory → Outside
@@ -38,6 +41,9 @@ outside_of m = record {
   read_faults = m.read_faults;
   write_faults = m.write_faults;
   err_faults = m.err_faults;
+  opened = m.opened;
+  created = m.created;
+  last_failed = m.last_failed;
 }
 
 abbrev pub empty_memory : Memory
@@ -54,6 +60,9 @@ empty_memory = record {
   read_faults = 0;
   write_faults = 0;
   err_faults = 0;
+  opened = 0;
+  created = 0;
+  last_failed = false;
 }
 
 rest_told : (rest : Option (List ℕ)) → is_some rest ≡ (is_some rest && true)
@@ -72,10 +81,6 @@ abbrev pub writing_of : Stage → Option (List ℕ)
 writing_of Idle = None
 writing_of (Reading place) = None
 writing_of (Writing name) = Some (string_bytes name)
-
--- one more, up to the largest number of 64 bits
-abbrev pub next_count : ℕ → ℕ
-next_count n = min (n + 1) (2 ^ 64 - 1)
 
 -- the call that comes is to fail
 abbrev pub IsMarked : Memory → Type 0

@@ -11,6 +11,8 @@ pub record Never : Type 0 where
   -- whether it still tells its files
   pub tells : Bool
   pub is_writing : Bool
+  pub opened : ℕ
+  pub created : ℕ
 
 -- it tells its files, and no output
 abbrev pub outside_of : Never → Outside
@@ -24,6 +26,9 @@ outside_of n = record {
   read_faults = 0;
   write_faults = 0;
   err_faults = 0;
+  opened = n.opened;
+  created = n.created;
+  last_failed = false;
 }
 
 rest_told : (tells : Bool) (rest : Option (List ℕ)) (d : Disk) → is_some (if tells then rest else None) ≡ (is_some rest && is_some (if tells then Some d else None))

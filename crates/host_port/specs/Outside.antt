@@ -1,6 +1,6 @@
 -- The outside of a program, as far as a host tells it, before and after calls on it.
-use Rattle.std.specs.Prelude.{◌≡◌, ℕ, ◌+◌, ◌-◌, ◌^◌, ◌≤◌, min, Bool, ◌&&◌, List, ◌++◌, Option, Some, None, option_map, is_some, IfSome, ⊤}
-use Rattle.host_port.specs.Act.{Act, Disk, disk_after, printed, complained, writes_after}
+use Rattle.std.specs.Prelude.{◌≡◌, ℕ, zero, suc, ◌+◌, ◌-◌, ◌^◌, ◌≤◌, min, Bool, ◌&&◌, List, ◌++◌, Option, Some, None, option_map, is_some, IfSome, ⊤}
+use Rattle.host_port.specs.Act.{Act, Disk, disk_after, printed, complained, writes_after, next_count, created_after}
 
 -- what a host tells of the outside. Each content is there only where the host tells it.
 pub record Outside : Type 0 where
@@ -17,6 +17,19 @@ pub record Outside : Type 0 where
   pub read_faults : ℕ
   pub write_faults : ℕ
   pub err_faults : ℕ
+  -- how many calls were made to open an input, and how many files were created
+  pub opened : ℕ
+  pub created : ℕ
+  -- whether the last call failed. A call that complains leaves it as it is.
+  pub last_failed : Bool
+
+-- the same once so many calls more were made to open an input
+abbrev pub counted : ℕ → ℕ → ℕ
+counted zero before = before
+counted (suc n) before = next_count (counted n before)
+
+abbrev pub opening : ℕ → Outside → Outside
+opening n o = record o { opened = counted n o.opened }
 
 -- What is left of the input is told exactly while one is open and the files are told. With the files
 -- the name of the file that is being written is told.
@@ -30,12 +43,14 @@ abbrev pub Becomes : {T : Type 0} → (T → T) → Option T → Option T → Ty
 Becomes f old None = ⊤
 Becomes f old (Some new) = option_map f old ≡ Some new
 
--- the acts were done, and nothing else was done to files and outputs
+-- the acts were done, nothing else was done to files and outputs, and no input was opened
 pub record Did (acts : List Act) (old new : Outside) : Type 0 where
   pub disk : Becomes (disk_after acts) old.disk new.disk
   pub out : Becomes (λ bytes. bytes ++ printed acts) old.out new.out
   pub err : Becomes (λ bytes. bytes ++ complained acts) old.err new.err
   pub writing : new.is_writing ≡ writes_after acts old.is_writing
+  pub created : new.created ≡ created_after acts old.created
+  pub opened : new.opened ≡ old.opened
 
 -- the input stays as it was
 pub record KeepsInput (old new : Outside) : Type 0 where
@@ -47,7 +62,7 @@ pub record Rose (before now : ℕ) : Type 0 where
   pub kept : before ≤ now
   pub more : min (before + 1) (2 ^ 64 - 1) ≤ now
 
--- no count changed
+-- no count of faults changed
 pub record KeepsCounts (old new : Outside) : Type 0 where
   pub read : new.read_faults ≡ old.read_faults
   pub write : new.write_faults ≡ old.write_faults

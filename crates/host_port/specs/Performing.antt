@@ -1,5 +1,5 @@
 -- Acts that are due one after the other, of which one may fail.
-use Rattle.std.specs.Prelude.{◌≡◌, ℕ, ◌<◌, List, [], ◌∷◌, length, take, Result, OnOk, OnErr, ◌⊎◌, ⊤}
+use Rattle.std.specs.Prelude.{◌≡◌, ℕ, ◌<◌, true, List, [], ◌∷◌, length, take, Result, OnOk, OnErr, ◌⊎◌, ⊤}
 use Rattle.host_port.specs.Act.{Act, Write, Close, Out, Err}
 use Rattle.host_port.specs.Outside.{Outside, Did, Rose, KeepsCounts}
 
@@ -21,11 +21,11 @@ FailedAt failed done [] = ⊥
 FailedAt failed [] (act ∷ acts) = act ≡ failed
 FailedAt failed (first ∷ more) (act ∷ acts) = ((first ≡ act) × FailedAt failed more acts) ⊎ (IsPartOf first act × (more ≡ []) × (act ≡ failed))
 
--- The call that an act takes failed, and no other that writes or complains. The number is how often complaining
--- had failed by then.
+-- The call that an act takes failed, and no other that writes or complains; none followed it but calls that
+-- complain. The number is how often complaining had failed by then.
 abbrev pub FaultOf : Act → Outside → Outside → ℕ → Type 0
 FaultOf (Err bytes) old new err = Rose old.err_faults err × (new.write_faults ≡ old.write_faults)
-FaultOf act old new err = Rose old.write_faults new.write_faults × (err ≡ old.err_faults)
+FaultOf act old new err = Rose old.write_faults new.write_faults × (err ≡ old.err_faults) × (new.last_failed ≡ true)
 
 -- the same, and none that reads
 pub record ActFailed (act : Act) (old new : Outside) (err : ℕ) : Type 0 where

@@ -12,8 +12,9 @@ pub struct Failed;
 /// The outside of a program: one input that is read, one file that is written, and two outputs.
 ///
 /// Contracts see it as an `Outside`: what the host tells of its files, of the open input and of both
-/// outputs, and how often reading, writing and complaining failed. A host need not tell a content, and
-/// may stop telling it at any call.
+/// outputs, how often reading, writing and complaining failed, how often an input was to be opened and a
+/// file was created, and whether the last call failed that doesn't complain. A host need not tell a
+/// content, and may stop telling it at any call.
 pub trait Host {
     ghost outside: { Self → Outside };
 
@@ -60,7 +61,8 @@ pub trait Host {
     fn err(&mut self, piece: &[u8]) -> Result<usize, Failed>
         requires { 0 < length piece.now }
         ensures takes { Takes Complain piece.now (outside self.old) (outside self.new) result }
-        ensures counts { Complains (outside self.old) (outside self.new) result };
+        ensures counts { Complains (outside self.old) (outside self.new) result }
+        ensures last { (outside self.new).last_failed ≡ (outside self.old).last_failed };
 
     /// At every moment.
     ghost consistent: { (host : Self) → IsConsistent (outside host) };

@@ -1,10 +1,10 @@
 //! A host in memory.
 
 ghost use Rattle.std.specs.Prelude.{◌≡◌, ◌+◌, ◌-◌, ◌^◌, ◌<◌, ◌≤◌, ◌↔◌, ◌⊎◌, [], ◌∷◌, ◌++◌, true, false, length, min, take, drop, Some, None, unwrap_or, option_map, if◌then◌else◌, Contains, IsErr, IfOk, IfSome, IsTrue, OnOk, OnErr, MatchOption};
-ghost use Rattle.host_port.specs.Act.{Write, Out, Err as Complain, content_of, has_file, with_file, written};
+ghost use Rattle.host_port.specs.Act.{Write, Out, Err as Complain, content_of, has_file, with_file, written, next_count};
 ghost use Rattle.host_port.specs.Outside.{Rose};
 ghost use Rattle.host_port.specs.Host.{Came, Opens, Moves, Creates, Takes, Closes, Reads, Writes, Complains};
-ghost use Rattle.host_port.specs.Memory.{empty_memory, first_failure, outside_of, is_consistent, next_count, IsMarked, Called, Tallies};
+ghost use Rattle.host_port.specs.Memory.{empty_memory, first_failure, outside_of, is_consistent, IsMarked, Called, Tallies};
 
 use crate::files;
 use crate::files::{Entry, Place};
@@ -52,6 +52,9 @@ pub struct MemHost {
     read_faults: u64,
     write_faults: u64,
     err_faults: u64,
+    opened: u64,
+    created: u64,
+    last_failed: bool,
 }
 
 impl Model for MemHost {
@@ -73,6 +76,9 @@ impl Model for MemHost {
       read_faults = a.read_faults;
       write_faults = a.write_faults;
       err_faults = a.err_faults;
+      opened = a.opened;
+      created = a.created;
+      last_failed = a.last_failed;
     } };
 
     ghost use Rattle.std.specs.Prelude.{◌≤◌};
@@ -104,6 +110,9 @@ impl MemHost {
             read_faults: 0,
             write_faults: 0,
             err_faults: 0,
+            opened: 0,
+            created: 0,
+            last_failed: false,
         }
     }
 
@@ -188,14 +197,26 @@ impl MemHost {
         fails
     }
 
+    /// The same of a call that doesn't complain.
+    fn starts_work(&mut self) -> bool
+        ensures fails { IsTrue result ↔ IsMarked self.old }
+        ensures counted { self.new ≡ record self.old { calls = next_count self.old.calls; last_failed = false } }
+    {
+        let fails = self.starts_call();
+        self.last_failed = false;
+        fails
+    }
+
     fn read_failed(&mut self, call: HostCall) -> Failed
         ensures counted { self.new ≡ record self.old {
           read_faults = next_count self.old.read_faults;
+          last_failed = true;
           first_failed = first_failure self.old.first_failed call;
         } }
         ensures rose { Rose self.old.read_faults self.new.read_faults }
     {
         self.read_faults = self.read_faults.saturating_add(1);
+        self.last_failed = true;
         self.first_failed = self.first_failed.or(Some(call));
         Failed
     }
@@ -203,11 +224,13 @@ impl MemHost {
     fn write_failed(&mut self, call: HostCall) -> Failed
         ensures counted { self.new ≡ record self.old {
           write_faults = next_count self.old.write_faults;
+          last_failed = true;
           first_failed = first_failure self.old.first_failed call;
         } }
         ensures rose { Rose self.old.write_faults self.new.write_faults }
     {
         self.write_faults = self.write_faults.saturating_add(1);
+        self.last_failed = true;
         self.first_failed = self.first_failed.or(Some(call));
         Failed
     }
@@ -284,12 +307,14 @@ impl MemHost {
           files = with_file name.now [] self.old.files;
           rest = None;
           writing = Some name.now;
+          created = next_count self.old.created;
         }) }
         ensures unchanged { OnErr result (self.new ≡ self.old) }
     {
         let writing = String::from_str(self.alloc, name)?;
         files::set(self.alloc, &mut self.entries, name, Vec::new(self.alloc))?;
         self.stage = Stage::Writing(writing);
+        self.created = self.created.saturating_add(1);
         Ok(())
     }
 
@@ -327,7 +352,8 @@ impl Host for MemHost {
         ensures called { Called HostCall.OpenInput self.old self.new result }
         ensures tally { Tallies (λ m. m.read_faults) self.old self.new result }
     {
-        let fails = self.starts_call();
+        let fails = self.starts_work();
+        self.opened = self.opened.saturating_add(1);
         self.close_input();
         if fails || !self.begin_reading(name) {
             return Err(self.read_failed(HostCall::OpenInput));
@@ -345,7 +371,7 @@ impl Host for MemHost {
         ensures called { Called HostCall.Read self.old self.new result }
         ensures tally { Tallies (λ m. m.read_faults) self.old self.new result }
     {
-        if self.starts_call() {
+        if self.starts_work() {
             return Err(self.read_failed(HostCall::Read));
         }
         Ok(self.take_rest(buf))
@@ -359,7 +385,7 @@ impl Host for MemHost {
         ensures called { Called HostCall.CreateOutput self.old self.new result }
         ensures tally { Tallies (λ m. m.write_faults) self.old self.new result }
     {
-        let fails = self.starts_call();
+        let fails = self.starts_work();
         self.close_input();
         if fails || self.begin_writing(name).is_err() {
             return Err(self.write_failed(HostCall::CreateOutput));
@@ -378,7 +404,7 @@ impl Host for MemHost {
         ensures tally { Tallies (λ m. m.write_faults) self.old self.new result }
     {
         let piece = self.front_of(piece);
-        if self.starts_call() || self.append(piece).is_err() {
+        if self.starts_work() || self.append(piece).is_err() {
             return Err(self.write_failed(HostCall::Write));
         }
         Ok(piece.len())
@@ -391,7 +417,7 @@ impl Host for MemHost {
         ensures called { Called HostCall.CloseOutput self.old self.new result }
         ensures tally { Tallies (λ m. m.write_faults) self.old self.new result }
     {
-        let fails = self.starts_call();
+        let fails = self.starts_work();
         self.end_writing();
         if fails {
             return Err(self.write_failed(HostCall::CloseOutput));
@@ -409,7 +435,7 @@ impl Host for MemHost {
         ensures tally { Tallies (λ m. m.write_faults) self.old self.new result }
     {
         let piece = self.front_of(piece);
-        if self.starts_call() || self.out.extend_from_slice(piece).is_err() {
+        if self.starts_work() || self.out.extend_from_slice(piece).is_err() {
             return Err(self.write_failed(HostCall::Out));
         }
         Ok(piece.len())
@@ -419,6 +445,7 @@ impl Host for MemHost {
         requires { 0 < length piece.now }
         ensures takes { Takes Complain piece.now (outside_of self.old) (outside_of self.new) result }
         ensures counts { Complains (outside_of self.old) (outside_of self.new) result }
+        ensures last { (outside_of self.new).last_failed ≡ (outside_of self.old).last_failed }
         ensures fails { IsMarked self.old → IsErr result }
         ensures step { IfOk result (λ n. n ≡ min (length piece.now) self.old.step) }
         ensures called { Called HostCall.ErrOut self.old self.new result }

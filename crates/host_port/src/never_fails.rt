@@ -21,6 +21,8 @@ pub struct NeverFails {
     input: Option<Place>,
     tells: bool,
     is_writing: bool,
+    opened: u64,
+    created: u64,
 }
 
 impl Model for NeverFails {
@@ -34,13 +36,15 @@ impl Model for NeverFails {
       rest = rest_in (files_of a.entries.items) a.input;
       tells = a.tells;
       is_writing = a.is_writing;
+      opened = a.opened;
+      created = a.created;
     } };
 }
 
 impl NeverFails {
     /// A host with no files, which takes no memory yet.
     pub fn new(alloc: Global) -> NeverFails
-        ensures { result ≡ record { files = []; rest = None; tells = true; is_writing = false } }
+        ensures { result ≡ record { files = []; rest = None; tells = true; is_writing = false; opened = 0; created = 0 } }
     {
         NeverFails {
             alloc,
@@ -48,6 +52,8 @@ impl NeverFails {
             input: None,
             tells: true,
             is_writing: false,
+            opened: 0,
+            created: 0,
         }
     }
 
@@ -77,6 +83,7 @@ impl Host for NeverFails {
         ensures tells { self.new.tells ≡ self.old.tells }
         ensures files { self.new.files ≡ self.old.files }
     {
+        self.opened = self.opened.saturating_add(1);
         self.input = Some(files::start_of(self.entries.as_slice(), name));
         Ok(())
     }
@@ -106,6 +113,7 @@ impl Host for NeverFails {
         self.input = None;
         self.tells = false;
         self.is_writing = true;
+        self.created = self.created.saturating_add(1);
         Ok(())
     }
 
@@ -149,6 +157,7 @@ impl Host for NeverFails {
         requires { 0 < length piece.now }
         ensures takes { Takes Complain piece.now (outside_of self.old) (outside_of self.new) result }
         ensures counts { Complains (outside_of self.old) (outside_of self.new) result }
+        ensures last { (outside_of self.new).last_failed ≡ (outside_of self.old).last_failed }
         ensures succeeds { result ≡ Ok (length piece.now) }
         ensures tells { self.new.tells ≡ self.old.tells }
         ensures files { self.new.files ≡ self.old.files }

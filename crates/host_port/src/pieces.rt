@@ -1,7 +1,7 @@
 //! A whole piece goes to a side.
 
 ghost use Rattle.std.specs.Prelude.{◌≡◌, ◌<◌, true, length};
-ghost use Rattle.host_port.specs.Host.{act_of, CountsOf, Puts, Takes};
+ghost use Rattle.host_port.specs.Host.{act_of, CountsOf, KeepsLast, Puts, Takes};
 ghost use Rattle.host_port.specs.Buffered.{IsReady};
 
 use crate::host::{Failed, Host};
@@ -55,6 +55,7 @@ fn put_some<H: Host>(side: Side, host: &mut H, piece: &[u8]) -> Result<usize, Fa
     requires some_bytes { 0 < length piece.now }
     ensures takes { Takes (act_of side) piece.now (H.outside host.old) (H.outside host.new) result }
     ensures counts { CountsOf side (H.outside host.old) (H.outside host.new) result }
+    ensures last { KeepsLast side (H.outside host.old) (H.outside host.new) }
 {
     match side {
         Side::File => host.write(piece),

@@ -1,4 +1,4 @@
-use Rattle.std.proofs.Common.{length, refl, ap, arith, length-append}
+use Rattle.std.proofs.Common.{length, refl, ap, ◌∙◌, arith, length-append}
 use Rattle.std.proofs.lemmas.Result.{err_from_is_err_and}
 use Rattle.host_port.specs.Host.{act_of}
 use Rattle.host_port.proofs.Piecewise.{along_start, along_more, some_left}
@@ -9,6 +9,7 @@ use Rattle.host_port.proofs.pieces.put_all.Goals as goal
 pub loop-rest-init : goal.loop-rest-init
 loop-rest-init g c = record {
   far = along_start (act_of c.args.side) (side_piecewise c.args.side) _ _;
+  last = λ _. refl;
   idle = λ _. refl;
 }
 
@@ -22,6 +23,7 @@ loop-rest-preserved g c =
     let some = some_left c.loop-rest.rest.now c.is_empty.result c.is_empty.ensures c.loop-rest-test.true in
     record {
       far = rw c.split_at.ensures.back (along_more (act_of side) (side_piecewise side) _ _ _ _ _ _ far c.in_ok-n.ensures.takes (kept_by _ _ side _ _ _ c.in_ok-n.ensures.counts));
+      last = λ is. c.in_ok-n.ensures.last is ∙ c.loop-rest.invariant.last is;
       idle = λ none. absurd (omega (arith, ap length far.parts, length-append far.front c.loop-rest.rest.now));
     }
 
@@ -29,4 +31,4 @@ pub returns-in_err-n-clause-puts : goal.returns-in_err-n-clause-puts
 returns-in_err-n-clause-puts g c =
     let p = err_from_is_err_and c.from_residual.result c.from_residual.ensures.1 in
     let some = some_left c.loop-rest.rest.now c.is_empty.result c.is_empty.ensures c.loop-rest-test.true in
-    rw p.1 (puts_fail c.args.side c.args.piece.now c.loop-rest.rest.now _ _ _ tt _ c.loop-rest.invariant.far some c.in_err-n.ensures.takes c.in_err-n.ensures.counts)
+    rw p.1 (puts_fail c.args.side c.args.piece.now c.loop-rest.rest.now _ _ _ tt _ c.loop-rest.invariant.far some c.in_err-n.ensures.takes c.in_err-n.ensures.counts (λ is. c.in_err-n.ensures.last is ∙ c.loop-rest.invariant.last is))
