@@ -43,8 +43,8 @@ side_is d true is = λ same. absurd (cc (ap (λ (b : Bool). if b then Output els
 side_is d false is = λ same. absurd (cc (ap (λ (b : Bool). if b then Output else ErrorOutput) is, same))
 
 own_count : (T E : Type 0) (side : Side) (old new : Outside) (e : E) → CountsOf {T = T} {E = E} side old new (Err e) → CountsOf {T = ⊤} {E = ⊤} side old new (Err tt)
-own_count T E File old new e p = record { own = p.own; read = p.read; err = p.err }
-own_count T E Output old new e p = record { own = p.own; read = p.read; err = p.err }
+own_count T E File old new e p = record { own = p.own; last = p.last; read = p.read; err = p.err }
+own_count T E Output old new e p = record { own = p.own; last = p.last; read = p.read; err = p.err }
 own_count T E ErrorOutput old new e p = record { own = p.own; read = p.read; write = p.write }
 
 -- one print, which failed
@@ -69,8 +69,8 @@ rose_after : (a b c : ℕ) → b ≡ a → Rose b c → Rose a c
 rose_after a b c same rose = let P : ℕ → Type 0 = λ n. Rose n c in subst P same rose
 
 counts_after : (side : Side) (a b c : Outside) → KeepsCounts a b → CountsOf {T = ⊤} {E = ⊤} side b c (Err tt) → CountsOf {T = ⊤} {E = ⊤} side a c (Err tt)
-counts_after File a b c keeps p = record { own = rose_after _ _ _ keeps.write p.own; read = p.read ∙ keeps.read; err = p.err ∙ keeps.err }
-counts_after Output a b c keeps p = record { own = rose_after _ _ _ keeps.write p.own; read = p.read ∙ keeps.read; err = p.err ∙ keeps.err }
+counts_after File a b c keeps p = record { own = rose_after _ _ _ keeps.write p.own; last = p.last; read = p.read ∙ keeps.read; err = p.err ∙ keeps.err }
+counts_after Output a b c keeps p = record { own = rose_after _ _ _ keeps.write p.own; last = p.last; read = p.read ∙ keeps.read; err = p.err ∙ keeps.err }
 counts_after ErrorOutput a b c keeps p = record { own = rose_after _ _ _ keeps.err p.own; read = p.read ∙ keeps.read; write = p.write ∙ keeps.write }
 
 -- the print that failed is the first one
