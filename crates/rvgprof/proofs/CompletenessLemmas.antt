@@ -4,14 +4,14 @@ use Rattle.std.specs.List.{AllByRecursion}
 use Rattle.std.proofs.lemmas.Bool.{le-ltb}
 use Rattle.host_port.specs.Act.{Act}
 use Rattle.host_port.specs.Act.{Err as Complain}
-use Rattle.host_port.specs.Outside.{Outside, Did, Rose}
+use Rattle.host_port.specs.Outside.{Outside, Did, Rose, opening}
 use Rattle.host_port.specs.Performing.{ActFailed, FailedAt}
 use Rattle.rvgprof.specs.declared.outcome.Done.{Done}
 use Rattle.rvgprof.specs.declared.outcome.Fault.{Fault}
 use Rattle.rvgprof.specs.declared.outcome.Fault.TheVariants.{Usage, ReadFault, WriteFault, OutOfMemory, TooLarge}
 use Rattle.rvgprof.specs.declared.words.Command.{Command}
 use Rattle.rvgprof.specs.Texts.{last_line}
-use Rattle.rvgprof.specs.Course.{Course, Ends, Input, Does, Reply, reply_to, MayStop}
+use Rattle.rvgprof.specs.Course.{Course, Ends, Input, Does, Reply, reply_to, inputs_of, MayStop}
 use Rattle.rvgprof.specs.Answer.{command_course, course_of, contents_of}
 use Rattle.rvgprof.specs.Contract.{NothingFailed, Owes, WhereTold, LineEnds, Answered}
 use Rattle.rvgprof.specs.Completeness.{Stayed, is_complaint, IsSilent, NoneFailed, Complete}
@@ -59,32 +59,33 @@ module _ (words : List (List ℕ)) (old new : Outside) (contents : ℕ → List 
   no_act_failed act err done told none failed at within = not_risen old.write_faults new.write_faults new.write_faults none.write at.own.0 (omega arith)
 
 -- what was done is what is due, and the last line stands behind it
-all_done : (words : List (List ℕ)) (contents : ℕ → List ℕ) (old new : Outside) (err : ℕ) (done : List Act) (line : List ℕ) (result : Result Done Fault) → WhereTold old new (λ files. contents ≡ contents_of words files)
-    → Did (done ++ Complain line ∷ []) old new → LineEnds line (last_line words result) err new.err_faults → result ≡ (reply_to contents (course_of words)).ending → done ≡ (reply_to contents (course_of words)).acts
-    → NothingFailed old new err → Complete words old new result
-all_done words contents old new err done line result told did ends ending acts nothing = record {
+all_done : (words : List (List ℕ)) (contents : ℕ → List ℕ) (old new : Outside) (err opens : ℕ) (done : List Act) (line : List ℕ) (result : Result Done Fault) → WhereTold old new (λ files. contents ≡ contents_of words files)
+    → Did (done ++ Complain line ∷ []) (opening opens old) new → LineEnds line (last_line words result) err new.err_faults → result ≡ (reply_to contents (course_of words)).ending → done ≡ (reply_to contents (course_of words)).acts
+    → NothingFailed old new err → opens ≡ inputs_of contents (course_of words) → Complete words old new result
+all_done words contents old new err opens done line result told did ends ending acts nothing inputs = record {
   contents = contents;
   told = told;
   ending = ending;
   line = line;
-  did = subst (λ (due : List Act). Did (due ++ Complain line ∷ []) old new) acts did;
+  did = subst (λ (due : List Act). Did (due ++ Complain line ∷ []) (opening (inputs_of contents (course_of words)) old) new) acts (subst (λ (n : ℕ). Did (done ++ Complain line ∷ []) (opening n old) new) inputs did);
   ends = subst (λ (n : ℕ). LineEnds line (last_line words result) n new.err_faults) nothing.complain ends;
 }
 
-complete_by : (words : List (List ℕ)) (contents : ℕ → List ℕ) (old new : Outside) (err : ℕ) (done : List Act) (line : List ℕ) (result : Result Done Fault) → WhereTold old new (λ files. contents ≡ contents_of words files)
-    → Did (done ++ Complain line ∷ []) old new → LineEnds line (last_line words result) err new.err_faults → NoneFailed words old new → Owes words contents old new err done result → (result ≡ Err OutOfMemory) ⊎ Complete words old new result
-complete_by words contents old new err done line (Err Usage) told did ends none owes =
+complete_by : (words : List (List ℕ)) (contents : ℕ → List ℕ) (old new : Outside) (err opens : ℕ) (done : List Act) (line : List ℕ) (result : Result Done Fault) → WhereTold old new (λ files. contents ≡ contents_of words files)
+    → Did (done ++ Complain line ∷ []) (opening opens old) new → LineEnds line (last_line words result) err new.err_faults → NoneFailed words old new → Owes words contents old new err opens done result → (result ≡ Err OutOfMemory) ⊎ Complete words old new result
+complete_by words contents old new err opens done line (Err Usage) told did ends none owes =
     let due : reply_to contents (course_of words) ≡ record { ending = Err Usage; acts = [] } = ap (λ (o : Option Command). reply_to contents (command_course words o)) owes.0 in
-    inr (all_done words contents old new err done line (Err Usage) told did ends (ap (λ (r : Reply). r.ending) (sym due)) (owes.1 ∙ ap (λ (r : Reply). r.acts) (sym due)) owes.2)
-complete_by words contents old new err done line (Err (ReadFault word)) told did ends none owes = absurd (not_risen old.read_faults new.read_faults new.read_faults none.read owes.2.read (omega arith))
-complete_by words contents old new err done line (Err WriteFault) told did ends none owes =
+    let none_read : inputs_of contents (course_of words) ≡ 0 = ap (λ (o : Option Command). inputs_of contents (command_course words o)) owes.0 in
+    inr (all_done words contents old new err opens done line (Err Usage) told did ends (ap (λ (r : Reply). r.ending) (sym due)) (owes.1 ∙ ap (λ (r : Reply). r.acts) (sym due)) owes.2 (owes.3 ∙ sym none_read))
+complete_by words contents old new err opens done line (Err (ReadFault word)) told did ends none owes = absurd (not_risen old.read_faults new.read_faults new.read_faults none.read owes.2.read (omega arith))
+complete_by words contents old new err opens done line (Err WriteFault) told did ends none owes =
     absurd (no_act_failed words old new contents owes.0 err done told none owes.1 owes.2 (line_counts line (last_line words (Err WriteFault)) err new.err_faults ends))
-complete_by words contents old new err done line (Err OutOfMemory) told did ends none owes = inl refl
-complete_by words contents old new err done line result told did ends none owes = inr (all_done words contents old new err done line result told did ends owes.0 owes.1 owes.2)
+complete_by words contents old new err opens done line (Err OutOfMemory) told did ends none owes = inl refl
+complete_by words contents old new err opens done line result told did ends none owes = inr (all_done words contents old new err opens done line result told did ends owes.0 owes.1 owes.2 owes.3)
 
 pub complete : (words : List (List ℕ)) (old new : Outside) (result : Result Done Fault) → Answered words old new result → NoneFailed words old new → (result ≡ Err OutOfMemory) ⊎ Complete words old new result
 complete words old new result answered none =
-    complete_by words answered.owed.contents old new answered.err answered.done answered.line result answered.owed.told answered.did answered.ends none answered.owed.owes
+    complete_by words answered.owed.contents old new answered.err answered.opens answered.done answered.line result answered.owed.told answered.did answered.ends none answered.owed.owes
 
 -- where nothing was done, all is left
 all_left : (acts due : List Act) → acts ≡ [] → (rest : List Act) × (due ≡ acts ++ rest)

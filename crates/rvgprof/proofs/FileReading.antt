@@ -6,7 +6,7 @@ use Rattle.std.proofs.lemmas.List.{take-append-le, take-append-drop}
 use Rattle.gp_base.specs.declared.records.Form.{Form}
 use Rattle.gp_base.specs.declared.records.Form.TheVariants.{Bsd, Gnu}
 use Rattle.host_port.specs.Act.{Disk, content_of}
-use Rattle.host_port.specs.Outside.{Outside, IsConsistent, Becomes, Did, KeepsCounts}
+use Rattle.host_port.specs.Outside.{Outside, IsConsistent, Becomes, Did, KeepsCounts, opening}
 use Rattle.host_port.specs.Host.{Came}
 use Rattle.host_port.specs.Load.{Loads}
 use Rattle.host_port.specs.declared.loading.LoadRefusal.TheVariants.{TooLarge}
@@ -53,7 +53,7 @@ joins_more name bytes buf n (Some d') (Some d) (Some r') (Some r) disk rest came
 pub loading_more : (name : List ℕ) (limit n : ℕ) (bytes before buf : List ℕ) (old mid new : Outside) → Loading name limit bytes old mid → Did [] mid new → new.is_open ≡ true → KeepsCounts mid new
     → IfSome mid.rest (λ rest. Came n rest buf) → Becomes (drop n) mid.rest new.rest → length bytes + n ≤ limit → Loading name limit (bytes ++ take n buf) old new
 loading_more name limit n bytes before buf old mid new far did open_still counts came rest fits = record {
-  did = Did-then [] [] old mid new far.did did;
+  did = Did-then [] [] (opening 1 old) mid new far.did did;
   counts = record { read = counts.read ∙ far.counts.read; write = counts.write ∙ far.counts.write; err = counts.err ∙ far.counts.err };
   is_open = open_still;
   within = omega (arith, length-append bytes (take n buf), length-take n buf, fits);
@@ -74,7 +74,7 @@ pub loading_long : (name : List ℕ) (limit n : ℕ) (bytes buf : List ℕ) (old
 loading_long name limit n bytes buf old mid new far consistent did counts came long =
     let told : is_some mid.rest ≡ is_some mid.disk = consistent.rest ∙ ap (λ (b : Bool). b && is_some mid.disk) far.is_open in
     record {
-      nothing_done = Did-then [] [] old mid new far.did did;
+      nothing_done = Did-then [] [] (opening 1 old) mid new far.did did;
       answer = longer name bytes buf limit n mid.disk new.disk mid.rest told did.disk came far.joins long;
       within = tt;
       counts = record { read = counts.read ∙ far.counts.read; write = counts.write ∙ far.counts.write; err = counts.err ∙ far.counts.err };

@@ -13,7 +13,7 @@ use Rattle.gmon_block.specs.Layout.{layout_of}
 use Rattle.gmon_data.specs.Content.{Content}
 use Rattle.host_port.specs.Act.{Act, Disk, content_of, disk_after}
 use Rattle.host_port.specs.Act.{printed as prints_of, Err as Complain}
-use Rattle.host_port.specs.Outside.{Outside, Becomes, Did}
+use Rattle.host_port.specs.Outside.{Outside, Becomes, Did, opening}
 use Rattle.host_port.proofs.Laws.{Becomes-by, disk_after-append, printed-append}
 use Rattle.symbol_shares.specs.Shares.{attributed_of, share_of, shares_of}
 use Rattle.call_cycles.specs.Graph.{IsGraph}
@@ -179,7 +179,7 @@ headline words old new done elf gmon form image setup shown answered said apart 
     let taken : IsAccepted contents (Some (Profile elf gmon form image setup shown)) = subst (IsAccepted contents) said ((accepted words contents).0 well) in
     let reply = ap (reply_to contents) course ∙ profile_reply words contents elf gmon form image setup shown taken.0 taken.1 in
     let due = owes.1 ∙ ap (λ (r : Reply). r.acts) reply in
-    let did = subst (λ (acts : List Act). Did (acts ++ Complain answered.line ∷ []) old new) due answered.did in
+    let did = subst (λ (acts : List Act). Did (acts ++ Complain answered.line ∷ []) (opening answered.opens old) new) due answered.did in
     let total = written_profile form (text_sizes program setup) (world_of program setup).log setup.rate in
     record {
       program = program;

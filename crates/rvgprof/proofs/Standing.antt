@@ -1,11 +1,11 @@
 -- How a command goes on along its course, and each way in which it ends.
-use Rattle.std.proofs.Common.{◌≡◌, ℕ, ◌+◌, ◌<◌, ◌≤◌, Bool, true, false, cond, eqb, List, [], ◌++◌, append_assoc, length, replicate, Option, Some, None, Result, Ok, Err, inl, inr, refl, sym, ap, subst, ◌∙◌, arith}
+use Rattle.std.proofs.Common.{◌≡◌, ℕ, suc, ◌+◌, ◌<◌, ◌≤◌, Bool, true, false, cond, eqb, List, [], ◌++◌, append_assoc, length, replicate, Option, Some, None, Result, Ok, Err, inl, inr, refl, sym, ap, subst, ◌∙◌, arith}
 use Rattle.std.specs.Prelude.{IfSome, MatchOption, ⊤}
 use Rattle.std.proofs.lemmas.Bool.{lt-ltb, le-ltb}
 use Rattle.std.proofs.lemmas.Bool.Decides.{nat_tests}
 use Rattle.std.proofs.lemmas.List.{append-nil, length-replicate}
-use Rattle.host_port.specs.Act.{Act, Disk, File, content_of, writes_after}
-use Rattle.host_port.specs.Outside.{Outside, Becomes, Did, Rose, KeepsCounts}
+use Rattle.host_port.specs.Act.{Act, Disk, File, content_of, writes_after, next_count}
+use Rattle.host_port.specs.Outside.{Outside, Becomes, Did, Rose, KeepsCounts, opening}
 use Rattle.host_port.specs.Load.{Loads}
 use Rattle.rvgprof.specs.FileRead.{IsContent}
 use Rattle.host_port.specs.declared.loading.LoadRefusal.{LoadRefusal}
@@ -17,7 +17,7 @@ use Rattle.rvgprof.specs.declared.outcome.Fault.TheVariants.{Usage, ReadFault, W
 use Rattle.rvgprof.specs.declared.words.Command.{Command}
 use Rattle.rvgprof.specs.Items.{name_of}
 use Rattle.rvgprof.specs.Words.{command_of}
-use Rattle.rvgprof.specs.Course.{Course, Ends, Input, Does, Reply, unless, reply_to, ComesTo, MayStop}
+use Rattle.rvgprof.specs.Course.{Course, Ends, Input, Does, Reply, unless, reply_to, inputs_of, ComesTo, MayStop}
 use Rattle.rvgprof.specs.Answer.{command_course, course_of, contents_of, load_fault_of}
 use Rattle.host_port.specs.Performing.{FailedAt, Performs}
 use Rattle.host_port.proofs.PerformingLemmas.{failed_behind, failed_before, failed_since}
@@ -62,54 +62,55 @@ choose words a None P some p q = (some, tt, p)
 choose words None (Some z) P some p q = (some, tt, p)
 choose words (Some x) (Some z) P some p q = (contents_of words x.files, refl, q)
 
-owed_by : (words : List (List ℕ)) (old new : Outside) (err : ℕ) (done : List Act) (result : Result Done Fault) (some : ℕ → List ℕ) → Owes words some old new err done result
-    → WhereTold old new (λ files. Owes words (contents_of words files) old new err done result) → Owed words old new err done result
-owed_by words old new err done result some p q =
-    let h = choose words old.disk new.disk (λ contents. Owes words contents old new err done result) some p q in
+owed_by : (words : List (List ℕ)) (old new : Outside) (err opens : ℕ) (done : List Act) (result : Result Done Fault) (some : ℕ → List ℕ) → Owes words some old new err opens done result
+    → WhereTold old new (λ files. Owes words (contents_of words files) old new err opens done result) → Owed words old new err opens done result
+owed_by words old new err opens done result some p q =
+    let h = choose words old.disk new.disk (λ contents. Owes words contents old new err opens done result) some p q in
     record { contents = h.0; told = h.1; owes = h.2 }
 
 -- a course leads to itself
-itself : (contents : ℕ → List ℕ) (course : Course) → LeadsTo contents course [] course
-itself contents course = record { reply = refl; comes = λ word h. h; may_stop = λ more h. h }
+itself : (contents : ℕ → List ℕ) (course : Course) → LeadsTo contents course 0 [] course
+itself contents course = record {
+  reply = refl;
+  inputs = omega arith;
+  comes = λ n word h. (let same : n ≡ 0 + n = omega arith in subst (λ (k : ℕ). ComesTo contents course k word) same h);
+  may_stop = λ more h. h;
+}
 
 -- a command begins
 pub begun : (words : List (List ℕ)) (x : Outside) (command : Command) → command_of words ≡ Some command → x.is_writing ≡ false → Stands words x x 0 [] (command_course words (Some command))
 begun words x command said idle =
-    let leads : (contents : ℕ → List ℕ) → LeadsTo contents (course_of words) [] (command_course words (Some command)) =
-    λ contents. subst (λ (o : Option Command). LeadsTo contents (course_of words) [] (command_course words o)) said (itself contents (course_of words)) in
+    let leads : (contents : ℕ → List ℕ) → LeadsTo contents (course_of words) 0 [] (command_course words (Some command)) =
+    λ contents. subst (λ (o : Option Command). LeadsTo contents (course_of words) 0 [] (command_course words o)) said (itself contents (course_of words)) in
     record {
+      opens = 0;
       did = Did-nothing x;
       counts = KeepsCounts-same x;
       idle = idle;
       shut = idle;
       read = λ word. [];
       leads = λ contents agrees. leads contents;
-      told = everywhere x.disk x.disk (λ files. LeadsTo (contents_of words files) (course_of words) [] (command_course words (Some command))) (λ files. leads (contents_of words files));
+      told = everywhere x.disk x.disk (λ files. LeadsTo (contents_of words files) (course_of words) 0 [] (command_course words (Some command))) (λ files. leads (contents_of words files));
     }
 
 -- the words were not understood
 pub not_understood : (words : List (List ℕ)) (x : Outside) → x.is_writing ≡ false → command_of words ≡ None → Acted words x x (Err Usage)
 not_understood words x idle none =
-    let owes : (contents : ℕ → List ℕ) → Owes words contents x x x.err_faults [] (Err Usage) = λ contents. (none, refl, record { read = refl; write = refl; complain = refl }) in
+    let owes : (contents : ℕ → List ℕ) → Owes words contents x x x.err_faults 0 [] (Err Usage) = λ contents. (none, refl, record { read = refl; write = refl; complain = refl }, refl) in
     record {
       done = [];
+      opens = 0;
       did = Did-nothing x;
-      owed = owed_by words x x x.err_faults [] (Err Usage) (λ word. []) (owes (λ word. []))
-          (everywhere x.disk x.disk (λ files. Owes words (contents_of words files) x x x.err_faults [] (Err Usage)) (λ files. owes (contents_of words files)));
+      owed = owed_by words x x x.err_faults 0 [] (Err Usage) (λ word. []) (owes (λ word. []))
+          (everywhere x.disk x.disk (λ files. Owes words (contents_of words files) x x x.err_faults 0 [] (Err Usage)) (λ files. owes (contents_of words files)));
       shut = λ _. idle;
     }
 
--- it stands where it stood, though calls were made that do nothing
-pub still : (words : List (List ℕ)) (old mid new : Outside) (below : ℕ) (done : List Act) (rest : Course) → Stands words old mid below done rest → Did [] mid new → KeepsCounts mid new → Stands words old new below done rest
-still words old mid new below done rest s did counts = record {
-  did = subst (λ (acts : List Act). Did acts old new) (append-nil done) (Did-then done [] old mid new s.did did);
-  counts = KeepsCounts-then old mid new s.counts counts;
-  idle = s.idle;
-  shut = did.writing ∙ s.shut;
-  read = s.read;
-  leads = s.leads;
-  told = further (λ d. d) old.disk mid.disk new.disk (λ files. LeadsTo (contents_of words files) (course_of words) done rest) did.disk s.told;
-}
+-- one input more was opened
+opened_more : (n : ℕ) (old mid new : Outside) → Did [] (opening n old) mid → Did [] (opening 1 mid) new → Did [] (opening (suc n) old) new
+opened_more n old mid new p q =
+    let before : Did [] (opening (suc n) old) (opening 1 mid) = record { disk = p.disk; out = p.out; err = p.err; writing = p.writing; created = p.created; opened = ap next_count p.opened } in
+    Did-then [] [] (opening (suc n) old) (opening 1 mid) new before q
 
 nothing_failed : (old new : Outside) → KeepsCounts old new → NothingFailed old new new.err_faults
 nothing_failed old new counts = record { read = counts.read; write = counts.write; complain = counts.err }
@@ -131,58 +132,87 @@ read_before : (word : ℕ) (bytes : List ℕ) (read : ℕ → List ℕ) (w : ℕ
 read_before word bytes read w less = ap (λ (b : Bool). cond b bytes (read w)) (less_eqb w word less)
 
 -- an input was read, and isn't too large
-input_read : (contents : ℕ → List ℕ) (whole : Course) (word limit : ℕ) (next : List ℕ → Course) (bytes : List ℕ) → LeadsTo contents whole [] (Input word limit next) → contents word ≡ bytes → length bytes ≤ limit
-    → LeadsTo contents whole [] (next bytes)
-input_read contents whole word limit next bytes l is short =
+input_read : (contents : ℕ → List ℕ) (whole : Course) (opens word limit : ℕ) (next : List ℕ → Course) (bytes : List ℕ) → LeadsTo contents whole opens [] (Input word limit next) → contents word ≡ bytes → length bytes ≤ limit
+    → LeadsTo contents whole (suc opens) [] (next bytes)
+input_read contents whole opens word limit next bytes l is short =
     let fits : length (contents word) ≤ limit = subst (λ (bs : List ℕ). length bs ≤ limit) (sym is) short in
+    let more : inputs_of contents whole ≡ opens + suc (inputs_of contents (next bytes)) =
+    l.inputs ∙ ap (λ (b : Bool). opens + suc (cond b 0 (inputs_of contents (next (contents word))))) (le-ltb limit (length (contents word)) fits)
+    ∙ ap (λ (bs : List ℕ). opens + suc (inputs_of contents (next bs))) is in
     record {
       reply = l.reply ∙ ap (λ (b : Bool). cond b (record { ending = Err (TooLarge word limit); acts = [] }) (reply_to contents (next (contents word)))) (le-ltb limit (length (contents word)) fits)
           ∙ ap (λ (bs : List ℕ). reply_to contents (next bs)) is;
-      comes = λ w h. l.comes w (inr (fits, subst (λ (bs : List ℕ). ComesTo contents (next bs) w) (sym is) h));
+      inputs = omega (arith, more);
+      comes = λ n w h. (let later : opens + suc n ≡ suc opens + n = omega arith in
+          subst (λ (k : ℕ). ComesTo contents whole k w) later (l.comes (suc n) w (fits, subst (λ (bs : List ℕ). ComesTo contents (next bs) n w) (sym is) h)));
       may_stop = λ more h. l.may_stop more (inr (fits, subst (λ (bs : List ℕ). MayStop contents (next bs) more) (sym is) h));
     }
 
 pub loaded : (words : List (List ℕ)) (old mid new : Outside) (below word limit : ℕ) (next : List ℕ → Course) (bytes : List ℕ) → Stands words old mid below [] (Input word limit next) → below ≤ word
     → IsContent (name_of words word) limit mid new bytes → Stands words old new (word + 1) [] (next bytes)
 loaded words old mid new below word limit next bytes s later loads =
-    let here = still words old mid new below [] (Input word limit next) s loads.nothing_done loads.counts in
+    let did = opened_more s.opens old mid new s.did loads.nothing_done in
     record {
-      did = here.did;
-      counts = here.counts;
-      idle = here.idle;
-      shut = here.shut;
+      opens = suc s.opens;
+      did = did;
+      counts = KeepsCounts-then old mid new s.counts loads.counts;
+      idle = s.idle;
+      shut = loads.nothing_done.writing ∙ s.shut;
       read = with_read word bytes s.read;
       leads = λ contents agrees.
-          input_read contents (course_of words) word limit next bytes
+          input_read contents (course_of words) s.opens word limit next bytes
           (s.leads contents (λ w less. agrees w (omega arith) ∙ read_before word bytes s.read w (omega arith)))
           (agrees word (omega arith) ∙ read_at word bytes s.read) loads.within;
-      told = both old.disk new.disk (λ files. LeadsTo (contents_of words files) (course_of words) [] (Input word limit next)) (λ files. bytes ≡ content_of (name_of words word) files)
-          (λ files. LeadsTo (contents_of words files) (course_of words) [] (next bytes))
-          (λ files l is. input_read (contents_of words files) (course_of words) word limit next bytes l (sym is) loads.within)
-          here.told (told_back old.disk new.disk (λ files. bytes ≡ content_of (name_of words word) files) here.did.disk loads.answer);
+      told = both old.disk new.disk (λ files. LeadsTo (contents_of words files) (course_of words) s.opens [] (Input word limit next)) (λ files. bytes ≡ content_of (name_of words word) files)
+          (λ files. LeadsTo (contents_of words files) (course_of words) (suc s.opens) [] (next bytes))
+          (λ files l is. input_read (contents_of words files) (course_of words) s.opens word limit next bytes l (sym is) loads.within)
+          (further (λ d. d) old.disk mid.disk new.disk (λ files. LeadsTo (contents_of words files) (course_of words) s.opens [] (Input word limit next)) loads.nothing_done.disk s.told)
+          (told_back old.disk new.disk (λ files. bytes ≡ content_of (name_of words word) files) did.disk loads.answer);
     }
 
-too_large : (words : List (List ℕ)) (contents : ℕ → List ℕ) (old new : Outside) (err word limit : ℕ) (next : List ℕ → Course) → LeadsTo contents (course_of words) [] (Input word limit next) → limit < length (contents word)
-    → NothingFailed old new err → Owes words contents old new err [] (Err (TooLarge word limit))
-too_large words contents old new err word limit next l long nothing =
+too_large : (words : List (List ℕ)) (contents : ℕ → List ℕ) (old new : Outside) (err opens word limit : ℕ) (next : List ℕ → Course) → LeadsTo contents (course_of words) opens [] (Input word limit next) → limit < length (contents word)
+    → NothingFailed old new err → Owes words contents old new err (suc opens) [] (Err (TooLarge word limit))
+too_large words contents old new err opens word limit next l long nothing =
+    let test = lt-ltb limit (length (contents word)) long in
     let due : reply_to contents (course_of words) ≡ record { ending = Err (TooLarge word limit); acts = [] } =
-    l.reply ∙ ap (λ (b : Bool). cond b (record { ending = Err (TooLarge word limit); acts = [] }) (reply_to contents (next (contents word)))) (lt-ltb limit (length (contents word)) long) in
-    (ap (λ (r : Reply). r.ending) (sym due), ap (λ (r : Reply). r.acts) (sym due), nothing)
+    l.reply ∙ ap (λ (b : Bool). cond b (record { ending = Err (TooLarge word limit); acts = [] }) (reply_to contents (next (contents word)))) test in
+    let inputs : inputs_of contents (course_of words) ≡ opens + 1 = l.inputs ∙ ap (λ (b : Bool). opens + suc (cond b 0 (inputs_of contents (next (contents word))))) test in
+    (ap (λ (r : Reply). r.ending) (sym due), ap (λ (r : Reply). r.acts) (sym due), nothing, omega (arith, inputs))
 
--- there was no memory for what comes next
-pub no_memory : (words : List (List ℕ)) (old new : Outside) (below : ℕ) (done : List Act) (rest : Course) → Stands words old new below done rest → ((contents : ℕ → List ℕ) → MayStop contents rest [])
+-- there was no memory for what comes next, where so many inputs were opened
+memory_out : (words : List (List ℕ)) (old new : Outside) (opens opened : ℕ) (done : List Act) (rest : Course) (read : ℕ → List ℕ) → Did done (opening opened old) new → KeepsCounts old new → new.is_writing ≡ false
+    → LeadsTo read (course_of words) opens done rest → WhereTold old new (λ files. LeadsTo (contents_of words files) (course_of words) opens done rest) → ((contents : ℕ → List ℕ) → MayStop contents rest [])
     → Acted words old new (Err OutOfMemory)
-no_memory words old new below done rest s may =
-    let owes : (contents : ℕ → List ℕ) → LeadsTo contents (course_of words) done rest → Owes words contents old new new.err_faults done (Err OutOfMemory) =
-    λ contents l. (subst (λ (acts : List Act). MayStop contents (course_of words) acts) (append-nil done) (l.may_stop [] (may contents)), nothing_failed old new s.counts) in
+memory_out words old new opens opened done rest read did counts shut leads told may =
+    let owes : (contents : ℕ → List ℕ) → LeadsTo contents (course_of words) opens done rest → Owes words contents old new new.err_faults opened done (Err OutOfMemory) =
+    λ contents l. (subst (λ (acts : List Act). MayStop contents (course_of words) acts) (append-nil done) (l.may_stop [] (may contents)), nothing_failed old new counts) in
     record {
       done = done;
-      did = s.did;
-      owed = owed_by words old new new.err_faults done (Err OutOfMemory) s.read (owes s.read (s.leads s.read (λ w less. refl)))
-          (weaker old.disk new.disk (λ files. LeadsTo (contents_of words files) (course_of words) done rest) (λ files. Owes words (contents_of words files) old new new.err_faults done (Err OutOfMemory))
-          (λ files. owes (contents_of words files)) s.told);
-      shut = λ _. s.shut;
+      opens = opened;
+      did = did;
+      owed = owed_by words old new new.err_faults opened done (Err OutOfMemory) read (owes read leads)
+          (weaker old.disk new.disk (λ files. LeadsTo (contents_of words files) (course_of words) opens done rest) (λ files. Owes words (contents_of words files) old new new.err_faults opened done (Err OutOfMemory))
+          (λ files. owes (contents_of words files)) told);
+      shut = λ _. shut;
     }
+
+-- there was none for what comes next
+pub no_memory : (words : List (List ℕ)) (old new : Outside) (below : ℕ) (done : List Act) (rest : Course) → Stands words old new below done rest → ((contents : ℕ → List ℕ) → MayStop contents rest [])
+    → Acted words old new (Err OutOfMemory)
+no_memory words old new below done rest s may = memory_out words old new s.opens s.opens done rest s.read s.did s.counts s.shut (s.leads s.read (λ w less. refl)) s.told may
+
+-- there was none once the next input was opened
+pub no_memory_opened : (words : List (List ℕ)) (old mid new : Outside) (below : ℕ) (rest : Course) → Stands words old mid below [] rest → Did [] (opening 1 mid) new → KeepsCounts mid new → ((contents : ℕ → List ℕ) → MayStop contents rest [])
+    → Acted words old new (Err OutOfMemory)
+no_memory_opened words old mid new below rest s did counts may =
+    memory_out words old new s.opens (suc s.opens) [] rest s.read (opened_more s.opens old mid new s.did did) (KeepsCounts-then old mid new s.counts counts) (did.writing ∙ s.shut) (s.leads s.read (λ w less. refl))
+    (further (λ d. d) old.disk mid.disk new.disk (λ files. LeadsTo (contents_of words files) (course_of words) s.opens [] rest) did.disk s.told) may
+
+-- the next input is the one behind those that were opened
+comes_next : (contents : ℕ → List ℕ) (whole : Course) (opens word limit : ℕ) (next : List ℕ → Course) → LeadsTo contents whole opens [] (Input word limit next) → ComesTo contents whole opens word
+comes_next contents whole opens word limit next l =
+    let same : opens + 0 ≡ opens = omega arith in
+    subst (λ (k : ℕ). ComesTo contents whole k word) same (l.comes 0 word refl)
 
 -- the input couldn't be loaded
 pub not_loaded : (words : List (List ℕ)) (old mid new : Outside) (below word limit : ℕ) (next : List ℕ → Course) (refusal : LoadRefusal) → Stands words old mid below [] (Input word limit next) → below ≤ word
@@ -192,36 +222,42 @@ not_loaded words old mid new below word limit next loads.ReadFault s later loads
       read = subst (λ (k : ℕ). Rose k new.read_faults) s.counts.read loads.counts.0;
       write = loads.counts.1 ∙ s.counts.write;
       complain = loads.counts.2 ∙ s.counts.err;
+      last = loads.counts.3;
     } in
-    let did = Did-then [] [] old mid new s.did loads.nothing_done in
+    let did = opened_more s.opens old mid new s.did loads.nothing_done in
+    let comes : (contents : ℕ → List ℕ) → LeadsTo contents (course_of words) s.opens [] (Input word limit next) → Owes words contents old new new.err_faults (suc s.opens) [] (Err (ReadFault word)) =
+    λ contents l. ((s.opens, refl, comes_next contents (course_of words) s.opens word limit next l), refl, failed) in
     record {
       done = [];
+      opens = suc s.opens;
       did = did;
-      owed = owed_by words old new new.err_faults [] (Err (ReadFault word)) s.read ((s.leads s.read (λ w less. refl)).comes word (inl refl), refl, failed)
-          (weaker old.disk new.disk (λ files. LeadsTo (contents_of words files) (course_of words) [] (Input word limit next)) (λ files. Owes words (contents_of words files) old new new.err_faults [] (Err (ReadFault word)))
-          (λ files l. (l.comes word (inl refl), refl, failed))
-          (further (λ d. d) old.disk mid.disk new.disk (λ files. LeadsTo (contents_of words files) (course_of words) [] (Input word limit next)) loads.nothing_done.disk s.told));
+      owed = owed_by words old new new.err_faults (suc s.opens) [] (Err (ReadFault word)) s.read (comes s.read (s.leads s.read (λ w less. refl)))
+          (weaker old.disk new.disk (λ files. LeadsTo (contents_of words files) (course_of words) s.opens [] (Input word limit next)) (λ files. Owes words (contents_of words files) old new new.err_faults (suc s.opens) [] (Err (ReadFault word)))
+          (λ files. comes (contents_of words files))
+          (further (λ d. d) old.disk mid.disk new.disk (λ files. LeadsTo (contents_of words files) (course_of words) s.opens [] (Input word limit next)) loads.nothing_done.disk s.told));
       shut = λ _. loads.nothing_done.writing ∙ s.shut;
     }
 not_loaded words old mid new below word limit next loads.TooLarge s later loads =
-    let here = still words old mid new below [] (Input word limit next) s loads.nothing_done loads.counts in
-    let nothing = nothing_failed old new here.counts in
+    let did = opened_more s.opens old mid new s.did loads.nothing_done in
+    let nothing = nothing_failed old new (KeepsCounts-then old mid new s.counts loads.counts) in
     let zeros : List ℕ = replicate (limit + 1) 0 in
     let some = with_read word zeros s.read in
     let long : limit < length (some word) = subst (λ (bs : List ℕ). limit < length bs) (sym (read_at word zeros s.read)) (subst (λ (n : ℕ). limit < n) (sym (length-replicate (limit + 1) 0)) (omega arith)) in
     record {
       done = [];
-      did = here.did;
-      owed = owed_by words old new new.err_faults [] (Err (TooLarge word limit)) some
-          (too_large words some old new new.err_faults word limit next (s.leads some (λ w less. read_before word zeros s.read w (omega arith))) long nothing)
-          (both old.disk new.disk (λ files. LeadsTo (contents_of words files) (course_of words) [] (Input word limit next)) (λ files. limit < length (content_of (name_of words word) files))
-          (λ files. Owes words (contents_of words files) old new new.err_faults [] (Err (TooLarge word limit)))
-          (λ files l more. too_large words (contents_of words files) old new new.err_faults word limit next l more nothing)
-          here.told (told_back old.disk new.disk (λ files. limit < length (content_of (name_of words word) files)) here.did.disk loads.answer));
-      shut = λ _. here.shut;
+      opens = suc s.opens;
+      did = did;
+      owed = owed_by words old new new.err_faults (suc s.opens) [] (Err (TooLarge word limit)) some
+          (too_large words some old new new.err_faults s.opens word limit next (s.leads some (λ w less. read_before word zeros s.read w (omega arith))) long nothing)
+          (both old.disk new.disk (λ files. LeadsTo (contents_of words files) (course_of words) s.opens [] (Input word limit next)) (λ files. limit < length (content_of (name_of words word) files))
+          (λ files. Owes words (contents_of words files) old new new.err_faults (suc s.opens) [] (Err (TooLarge word limit)))
+          (λ files l more. too_large words (contents_of words files) old new new.err_faults s.opens word limit next l more nothing)
+          (further (λ d. d) old.disk mid.disk new.disk (λ files. LeadsTo (contents_of words files) (course_of words) s.opens [] (Input word limit next)) loads.nothing_done.disk s.told)
+          (told_back old.disk new.disk (λ files. limit < length (content_of (name_of words word) files)) did.disk loads.answer));
+      shut = λ _. loads.nothing_done.writing ∙ s.shut;
     }
 not_loaded words old mid new below word limit next loads.OutOfMemory s later loads =
-    no_memory words old new below [] (Input word limit next) (still words old mid new below [] (Input word limit next) s loads.nothing_done loads.counts) (λ contents. inl refl)
+    no_memory_opened words old mid new below (Input word limit next) s loads.nothing_done loads.counts (λ contents. inl refl)
 
 -- memory may be wanted before a refusal is found
 pub may_stop_unless : {R : Type 0} (fault : R → Fault) (due : Option R) (next : Course) (contents : ℕ → List ℕ) → MayStop contents next [] → MayStop contents (unless fault due next) []
@@ -241,25 +277,26 @@ IsAnswer (Err WriteFault) = ⊥
 IsAnswer (Err OutOfMemory) = ⊥
 IsAnswer result = ⊤
 
-answer_owed : (words : List (List ℕ)) (contents : ℕ → List ℕ) (old new : Outside) (err : ℕ) (done : List Act) (result : Result Done Fault) → IsAnswer result
-    → result ≡ (reply_to contents (course_of words)).ending → done ≡ (reply_to contents (course_of words)).acts → NothingFailed old new err → Owes words contents old new err done result
-answer_owed words contents old new err done (Err Usage) is e a n = absurd is
-answer_owed words contents old new err done (Err (ReadFault word)) is e a n = absurd is
-answer_owed words contents old new err done (Err WriteFault) is e a n = absurd is
-answer_owed words contents old new err done (Err OutOfMemory) is e a n = absurd is
-answer_owed words contents old new err done result is e a n = (e, a, n)
+answer_owed : (words : List (List ℕ)) (contents : ℕ → List ℕ) (old new : Outside) (err opens : ℕ) (done : List Act) (result : Result Done Fault) → IsAnswer result
+    → result ≡ (reply_to contents (course_of words)).ending → done ≡ (reply_to contents (course_of words)).acts → NothingFailed old new err → opens ≡ inputs_of contents (course_of words) → Owes words contents old new err opens done result
+answer_owed words contents old new err opens done (Err Usage) is e a n o = absurd is
+answer_owed words contents old new err opens done (Err (ReadFault word)) is e a n o = absurd is
+answer_owed words contents old new err opens done (Err WriteFault) is e a n o = absurd is
+answer_owed words contents old new err opens done (Err OutOfMemory) is e a n o = absurd is
+answer_owed words contents old new err opens done result is e a n o = (e, a, n, o)
 
 -- it ends
 pub ends : (words : List (List ℕ)) (old new : Outside) (below : ℕ) (done : List Act) (result : Result Done Fault) → Stands words old new below done (Ends result) → IsAnswer result → Acted words old new result
 ends words old new below done result s is =
-    let owes : (contents : ℕ → List ℕ) → LeadsTo contents (course_of words) done (Ends result) → Owes words contents old new new.err_faults done result =
-    λ contents l. answer_owed words contents old new new.err_faults done result is
-    (sym (ap (λ (r : Reply). r.ending) l.reply)) (sym (ap (λ (r : Reply). r.acts) l.reply ∙ append-nil done)) (nothing_failed old new s.counts) in
+    let owes : (contents : ℕ → List ℕ) → LeadsTo contents (course_of words) s.opens done (Ends result) → Owes words contents old new new.err_faults s.opens done result =
+    λ contents l. answer_owed words contents old new new.err_faults s.opens done result is
+    (sym (ap (λ (r : Reply). r.ending) l.reply)) (sym (ap (λ (r : Reply). r.acts) l.reply ∙ append-nil done)) (nothing_failed old new s.counts) (omega (arith, l.inputs)) in
     record {
       done = done;
+      opens = s.opens;
       did = s.did;
-      owed = owed_by words old new new.err_faults done result s.read (owes s.read (s.leads s.read (λ w less. refl)))
-          (weaker old.disk new.disk (λ files. LeadsTo (contents_of words files) (course_of words) done (Ends result)) (λ files. Owes words (contents_of words files) old new new.err_faults done result)
+      owed = owed_by words old new new.err_faults s.opens done result s.read (owes s.read (s.leads s.read (λ w less. refl)))
+          (weaker old.disk new.disk (λ files. LeadsTo (contents_of words files) (course_of words) s.opens done (Ends result)) (λ files. Owes words (contents_of words files) old new new.err_faults s.opens done result)
           (λ files. owes (contents_of words files)) s.told);
       shut = λ _. s.shut;
     }
@@ -271,11 +308,12 @@ refuses {R} words old new below done fault due next refusal s e is =
     ends words old new below done (Err (fault refusal)) (subst (λ (o : Option R). Stands words old new below done (unless fault o next)) e s) is
 
 -- acts were done
-does_lead : (contents : ℕ → List ℕ) (whole : Course) (done acts : List Act) (next : Course) → LeadsTo contents whole done (Does acts next) → LeadsTo contents whole (done ++ acts) next
-does_lead contents whole done acts next l =
+does_lead : (contents : ℕ → List ℕ) (whole : Course) (opens : ℕ) (done acts : List Act) (next : Course) → LeadsTo contents whole opens done (Does acts next) → LeadsTo contents whole opens (done ++ acts) next
+does_lead contents whole opens done acts next l =
     let r = reply_to contents next in
     record {
       reply = l.reply ∙ ap (λ (due : List Act). record { ending = r.ending; acts = due }) (sym (append_assoc done acts r.acts));
+      inputs = l.inputs;
       comes = l.comes;
       may_stop = λ more h. subst (λ (due : List Act). MayStop contents whole due) (sym (append_assoc done acts more)) (l.may_stop (acts ++ more) (inr (more, refl, h)));
     }
@@ -283,15 +321,16 @@ does_lead contents whole done acts next l =
 pub does : {T E : Type 0} (words : List (List ℕ)) (old mid new : Outside) (below : ℕ) (done acts : List Act) (next : Course) (u : T) → Stands words old mid below done (Does acts next)
     → Performs {T = T} {E = E} acts mid new (Ok u) → writes_after acts false ≡ false → Stands words old new below (done ++ acts) next
 does words old mid new below done acts next u s performs shut = record {
-  did = Did-then done acts old mid new s.did performs.done;
+  opens = s.opens;
+  did = Did-then done acts (opening s.opens old) mid new s.did performs.done;
   counts = KeepsCounts-then old mid new s.counts performs.kept;
   idle = s.idle;
   shut = performs.done.writing ∙ ap (writes_after acts) s.shut ∙ shut;
   read = s.read;
-  leads = λ contents agrees. does_lead contents (course_of words) done acts next (s.leads contents agrees);
-  told = weaker old.disk new.disk (λ files. LeadsTo (contents_of words files) (course_of words) done (Does acts next)) (λ files. LeadsTo (contents_of words files) (course_of words) (done ++ acts) next)
-      (λ files. does_lead (contents_of words files) (course_of words) done acts next)
-      (further _ old.disk mid.disk new.disk (λ files. LeadsTo (contents_of words files) (course_of words) done (Does acts next)) performs.done.disk s.told);
+  leads = λ contents agrees. does_lead contents (course_of words) s.opens done acts next (s.leads contents agrees);
+  told = weaker old.disk new.disk (λ files. LeadsTo (contents_of words files) (course_of words) s.opens done (Does acts next)) (λ files. LeadsTo (contents_of words files) (course_of words) s.opens (done ++ acts) next)
+      (λ files. does_lead (contents_of words files) (course_of words) s.opens done acts next)
+      (further _ old.disk mid.disk new.disk (λ files. LeadsTo (contents_of words files) (course_of words) s.opens done (Does acts next)) performs.done.disk s.told);
 }
 
 -- an act failed
@@ -300,7 +339,7 @@ pub fails : {T E : Type 0} (words : List (List ℕ)) (old mid new : Outside) (be
 fails words old mid new below done acts next e s performs =
     let part = performs.failed.0 in
     let act = performs.failed.1 in
-    let owes : (contents : ℕ → List ℕ) → LeadsTo contents (course_of words) done (Does acts next) → Owes words contents old new new.err_faults (done ++ part) (Err WriteFault) =
+    let owes : (contents : ℕ → List ℕ) → LeadsTo contents (course_of words) s.opens done (Does acts next) → Owes words contents old new new.err_faults s.opens (done ++ part) (Err WriteFault) =
     λ contents l. (
       act,
       subst (λ (r : Reply). FailedAt act (done ++ part) r.acts) (sym l.reply) (failed_behind act done part (acts ++ (reply_to contents next).acts) (failed_before act part acts (reply_to contents next).acts performs.failed.2)),
@@ -308,10 +347,11 @@ fails words old mid new below done acts next e s performs =
     ) in
     record {
       done = done ++ part;
-      did = Did-then done part old mid new s.did performs.failed.3;
-      owed = owed_by words old new new.err_faults (done ++ part) (Err WriteFault) s.read (owes s.read (s.leads s.read (λ w less. refl)))
-          (weaker old.disk new.disk (λ files. LeadsTo (contents_of words files) (course_of words) done (Does acts next)) (λ files. Owes words (contents_of words files) old new new.err_faults (done ++ part) (Err WriteFault))
+      opens = s.opens;
+      did = Did-then done part (opening s.opens old) mid new s.did performs.failed.3;
+      owed = owed_by words old new new.err_faults s.opens (done ++ part) (Err WriteFault) s.read (owes s.read (s.leads s.read (λ w less. refl)))
+          (weaker old.disk new.disk (λ files. LeadsTo (contents_of words files) (course_of words) s.opens done (Does acts next)) (λ files. Owes words (contents_of words files) old new new.err_faults s.opens (done ++ part) (Err WriteFault))
           (λ files. owes (contents_of words files))
-          (further _ old.disk mid.disk new.disk (λ files. LeadsTo (contents_of words files) (course_of words) done (Does acts next)) performs.failed.3.disk s.told));
+          (further _ old.disk mid.disk new.disk (λ files. LeadsTo (contents_of words files) (course_of words) s.opens done (Does acts next)) performs.failed.3.disk s.told));
       shut = λ other. absurd (other refl);
     }

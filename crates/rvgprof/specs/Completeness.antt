@@ -3,11 +3,11 @@ use Rattle.std.specs.Prelude.{◌≡◌, ℕ, ◌-◌, ◌^◌, ◌<◌, Bool, t
 use Rattle.std.specs.List.{AllByRecursion}
 use Rattle.host_port.specs.Act.{Act}
 use Rattle.host_port.specs.Act.{Err as Complain}
-use Rattle.host_port.specs.Outside.{Outside, Did}
+use Rattle.host_port.specs.Outside.{Outside, Did, opening}
 use Rattle.rvgprof.specs.declared.outcome.Done.{Done}
 use Rattle.rvgprof.specs.declared.outcome.Fault.{Fault}
 use Rattle.rvgprof.specs.Texts.{last_line}
-use Rattle.rvgprof.specs.Course.{reply_to}
+use Rattle.rvgprof.specs.Course.{reply_to, inputs_of}
 use Rattle.rvgprof.specs.Answer.{course_of, contents_of}
 use Rattle.rvgprof.specs.Contract.{WhereTold, LineEnds}
 
@@ -41,5 +41,6 @@ pub record Complete (words : List (List ℕ)) (old new : Outside) (result : Resu
   pub ending : result ≡ (reply_to contents (course_of words)).ending
   -- what was printed of the last line
   pub line : List ℕ
-  pub did : Did ((reply_to contents (course_of words)).acts ++ Complain line ∷ []) old new
+  -- each input was opened once
+  pub did : Did ((reply_to contents (course_of words)).acts ++ Complain line ∷ []) (opening (inputs_of contents (course_of words)) old) new
   pub ends : LineEnds line (last_line words result) old.err_faults new.err_faults

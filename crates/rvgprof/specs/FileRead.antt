@@ -5,7 +5,7 @@ use Rattle.gmon_bsd.specs.Fed as bsd
 use Rattle.gmon_gnu.specs.Fed as gnu
 use Rattle.host_port.specs.declared.loading.LoadRefusal.{LoadRefusal}
 use Rattle.host_port.specs.Act.{content_of}
-use Rattle.host_port.specs.Outside.{Outside, Did, KeepsCounts}
+use Rattle.host_port.specs.Outside.{Outside, Did, KeepsCounts, opening}
 use Rattle.host_port.specs.Host.{IfTold}
 use Rattle.host_port.specs.Load.{Loads}
 use Rattle.rvgprof.specs.declared.profile_file.FileReader.{FileReader}
@@ -33,7 +33,7 @@ StandsFor bytes (reader.Gnu r) = gnu.StandsFor bytes r × (form_of bytes ≡ Gnu
 
 -- the named file was read to its end, and these are its bytes, as far as it is told
 pub record IsContent (name : List ℕ) (limit : ℕ) (old new : Outside) (bytes : List ℕ) : Type 0 where
-  pub nothing_done : Did [] old new
+  pub nothing_done : Did [] (opening 1 old) new
   pub answer : IfTold new (λ d. bytes ≡ content_of name d.files)
   pub within : length bytes ≤ limit
   pub counts : KeepsCounts old new
