@@ -8,6 +8,9 @@ pub record Real : Type 0 where
   pub read_faults : ℕ
   pub write_faults : ℕ
   pub err_faults : ℕ
+  pub opened : ℕ
+  pub created : ℕ
+  pub last_failed : Bool
 
 abbrev pub outside_of : Real → Outside
 outside_of real = record {
@@ -20,4 +23,7 @@ outside_of real = record {
   read_faults = real.read_faults;
   write_faults = real.write_faults;
   err_faults = real.err_faults;
+  opened = real.opened;
+  created = real.created;
+  last_failed = real.last_failed;
 }

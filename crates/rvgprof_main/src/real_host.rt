@@ -23,6 +23,10 @@ pub struct RealHost {
     read_faults: u64,
     write_faults: u64,
     err_faults: u64,
+    opened: u64,
+    created: u64,
+    // Whether the last call failed that doesn't complain.
+    last_failed: bool,
 }
 
 impl Model for RealHost {
@@ -37,12 +41,15 @@ impl Model for RealHost {
       read_faults = a.read_faults;
       write_faults = a.write_faults;
       err_faults = a.err_faults;
+      opened = a.opened;
+      created = a.created;
+      last_failed = a.last_failed;
     } };
 }
 
 impl RealHost {
     pub fn new(rt: HostRuntime) -> RealHost
-        ensures { result ≡ record { is_open = false; is_writing = false; read_faults = 0; write_faults = 0; err_faults = 0 } }
+        ensures { result ≡ record { is_open = false; is_writing = false; read_faults = 0; write_faults = 0; err_faults = 0; opened = 0; created = 0; last_failed = false } }
     {
         RealHost {
             rt,
@@ -51,30 +58,38 @@ impl RealHost {
             read_faults: 0,
             write_faults: 0,
             err_faults: 0,
+            opened: 0,
+            created: 0,
+            last_failed: false,
         }
     }
 
     fn read_failed(&mut self) -> Failed
-        ensures kept { (self.new.is_open ≡ self.old.is_open) × (self.new.is_writing ≡ self.old.is_writing) }
+        ensures kept { (self.new.is_open ≡ self.old.is_open) × (self.new.is_writing ≡ self.old.is_writing) × (self.new.opened ≡ self.old.opened) × (self.new.created ≡ self.old.created) }
         ensures rose { Rose self.old.read_faults self.new.read_faults }
+        ensures last { self.new.last_failed ≡ true }
         ensures others { (self.new.write_faults ≡ self.old.write_faults) × (self.new.err_faults ≡ self.old.err_faults) }
     {
         self.read_faults = self.read_faults.saturating_add(1);
+        self.last_failed = true;
         Failed
     }
 
     fn write_failed(&mut self) -> Failed
-        ensures kept { (self.new.is_open ≡ self.old.is_open) × (self.new.is_writing ≡ self.old.is_writing) }
+        ensures kept { (self.new.is_open ≡ self.old.is_open) × (self.new.is_writing ≡ self.old.is_writing) × (self.new.opened ≡ self.old.opened) × (self.new.created ≡ self.old.created) }
         ensures rose { Rose self.old.write_faults self.new.write_faults }
+        ensures last { self.new.last_failed ≡ true }
         ensures others { (self.new.read_faults ≡ self.old.read_faults) × (self.new.err_faults ≡ self.old.err_faults) }
     {
         self.write_faults = self.write_faults.saturating_add(1);
+        self.last_failed = true;
         Failed
     }
 
     fn err_failed(&mut self) -> Failed
-        ensures kept { (self.new.is_open ≡ self.old.is_open) × (self.new.is_writing ≡ self.old.is_writing) }
+        ensures kept { (self.new.is_open ≡ self.old.is_open) × (self.new.is_writing ≡ self.old.is_writing) × (self.new.opened ≡ self.old.opened) × (self.new.created ≡ self.old.created) }
         ensures rose { Rose self.old.err_faults self.new.err_faults }
+        ensures last { self.new.last_failed ≡ self.old.last_failed }
         ensures others { (self.new.read_faults ≡ self.old.read_faults) × (self.new.write_faults ≡ self.old.write_faults) }
     {
         self.err_faults = self.err_faults.saturating_add(1);
@@ -99,6 +114,8 @@ impl Host for RealHost {
 
     fn open_input(&mut self, name: &str) -> Result<(), Failed> {
         self.input = None;
+        self.opened = self.opened.saturating_add(1);
+        self.last_failed = false;
         match fs::open(&self.rt, name) {
             Ok(file) => {
                 self.input = Some(file);
@@ -109,6 +126,7 @@ impl Host for RealHost {
     }
 
     fn read(&mut self, buf: &mut [u8]) -> Result<usize, Failed> {
+        self.last_failed = false;
         let moved = match &mut self.input {
             Some(file) => file.read(buf).ok(),
             None => None,
@@ -121,9 +139,11 @@ impl Host for RealHost {
 
     fn create_output(&mut self, name: &str) -> Result<(), Failed> {
         self.input = None;
+        self.last_failed = false;
         match fs::create(&self.rt, name) {
             Ok(file) => {
                 self.output = Some(file);
+                self.created = self.created.saturating_add(1);
                 Ok(())
             }
             Err(_) => Err(self.write_failed()),
@@ -131,6 +151,7 @@ impl Host for RealHost {
     }
 
     fn write(&mut self, piece: &[u8]) -> Result<usize, Failed> {
+        self.last_failed = false;
         let taken = match &mut self.output {
             Some(file) => some_of(file, piece),
             None => None,
@@ -142,6 +163,7 @@ impl Host for RealHost {
     }
 
     fn close_output(&mut self) -> Result<(), Failed> {
+        self.last_failed = false;
         let flushed = match &mut self.output {
             Some(file) => file.flush().is_ok(),
             None => true,
@@ -155,6 +177,7 @@ impl Host for RealHost {
     }
 
     fn out(&mut self, piece: &[u8]) -> Result<usize, Failed> {
+        self.last_failed = false;
         match some_of(&mut self.rt.stdout(), piece) {
             Some(n) => Ok(n),
             None => Err(self.write_failed()),
