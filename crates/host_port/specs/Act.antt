@@ -91,14 +91,14 @@ writes_after (act ∷ acts) before = writes_after acts (writes_after_act act bef
 abbrev pub next_count : ℕ → ℕ
 next_count n = min (n + 1) (2 ^ 64 - 1)
 
--- how many files were created after acts
-abbrev pub created_after_act : Act → ℕ → ℕ
-created_after_act (Create name) before = next_count before
-created_after_act (Write bytes) before = before
-created_after_act Close before = before
-created_after_act (Out bytes) before = before
-created_after_act (Err bytes) before = before
+-- how often files were created and closed after acts
+abbrev pub turns_after_act : Act → ℕ → ℕ
+turns_after_act (Create name) before = next_count before
+turns_after_act (Write bytes) before = before
+turns_after_act Close before = next_count before
+turns_after_act (Out bytes) before = before
+turns_after_act (Err bytes) before = before
 
-abbrev pub created_after : List Act → ℕ → ℕ
-created_after [] before = before
-created_after (act ∷ acts) before = created_after acts (created_after_act act before)
+abbrev pub turns_after : List Act → ℕ → ℕ
+turns_after [] before = before
+turns_after (act ∷ acts) before = turns_after acts (turns_after_act act before)

@@ -1,6 +1,6 @@
 -- The outside of a program, as far as a host tells it, before and after calls on it.
 use Rattle.std.specs.Prelude.{◌≡◌, ℕ, zero, suc, ◌+◌, ◌-◌, ◌^◌, ◌≤◌, min, Bool, ◌&&◌, List, ◌++◌, Option, Some, None, option_map, is_some, IfSome, ⊤}
-use Rattle.host_port.specs.Act.{Act, Disk, disk_after, printed, complained, writes_after, next_count, created_after}
+use Rattle.host_port.specs.Act.{Act, Disk, disk_after, printed, complained, writes_after, next_count, turns_after}
 
 -- what a host tells of the outside. Each content is there only where the host tells it.
 pub record Outside : Type 0 where
@@ -17,9 +17,9 @@ pub record Outside : Type 0 where
   pub read_faults : ℕ
   pub write_faults : ℕ
   pub err_faults : ℕ
-  -- how many calls were made to open an input, and how many files were created
+  -- how many calls were made to open an input, and how often files were created and closed
   pub opened : ℕ
-  pub created : ℕ
+  pub turns : ℕ
   -- whether the last call failed. A call that complains leaves it as it is.
   pub last_failed : Bool
 
@@ -49,7 +49,7 @@ pub record Did (acts : List Act) (old new : Outside) : Type 0 where
   pub out : Becomes (λ bytes. bytes ++ printed acts) old.out new.out
   pub err : Becomes (λ bytes. bytes ++ complained acts) old.err new.err
   pub writing : new.is_writing ≡ writes_after acts old.is_writing
-  pub created : new.created ≡ created_after acts old.created
+  pub turns : new.turns ≡ turns_after acts old.turns
   pub opened : new.opened ≡ old.opened
 
 -- the input stays as it was

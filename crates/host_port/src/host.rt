@@ -12,9 +12,9 @@ pub struct Failed;
 /// The outside of a program: one input that is read, one file that is written, and two outputs.
 ///
 /// Contracts see it as an `Outside`: what the host tells of its files, of the open input and of both
-/// outputs, how often reading, writing and complaining failed, how often an input was to be opened and a
-/// file was created, and whether the last call failed that doesn't complain. A host need not tell a
-/// content, and may stop telling it at any call.
+/// outputs, how often reading, writing and complaining failed, how often an input was to be opened and
+/// files were created and closed, and whether the last call failed that doesn't complain. A host need not
+/// tell a content, and may stop telling it at any call.
 pub trait Host {
     ghost outside: { Self → Outside };
 

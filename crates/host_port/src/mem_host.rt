@@ -53,7 +53,7 @@ pub struct MemHost {
     write_faults: u64,
     err_faults: u64,
     opened: u64,
-    created: u64,
+    turns: u64,
     last_failed: bool,
 }
 
@@ -77,7 +77,7 @@ impl Model for MemHost {
       write_faults = a.write_faults;
       err_faults = a.err_faults;
       opened = a.opened;
-      created = a.created;
+      turns = a.turns;
       last_failed = a.last_failed;
     } };
 
@@ -111,7 +111,7 @@ impl MemHost {
             write_faults: 0,
             err_faults: 0,
             opened: 0,
-            created: 0,
+            turns: 0,
             last_failed: false,
         }
     }
@@ -307,14 +307,14 @@ impl MemHost {
           files = with_file name.now [] self.old.files;
           rest = None;
           writing = Some name.now;
-          created = next_count self.old.created;
+          turns = next_count self.old.turns;
         }) }
         ensures unchanged { OnErr result (self.new ≡ self.old) }
     {
         let writing = String::from_str(self.alloc, name)?;
         files::set(self.alloc, &mut self.entries, name, Vec::new(self.alloc))?;
         self.stage = Stage::Writing(writing);
-        self.created = self.created.saturating_add(1);
+        self.turns = self.turns.saturating_add(1);
         Ok(())
     }
 
@@ -331,8 +331,9 @@ impl MemHost {
     }
 
     fn end_writing(&mut self)
-        ensures { self.new ≡ record self.old { writing = None } }
+        ensures { self.new ≡ record self.old { writing = None; turns = next_count self.old.turns } }
     {
+        self.turns = self.turns.saturating_add(1);
         if let Stage::Writing(_) = &self.stage {
             self.stage = Stage::Idle;
         }

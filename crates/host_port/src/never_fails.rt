@@ -22,7 +22,7 @@ pub struct NeverFails {
     tells: bool,
     is_writing: bool,
     opened: u64,
-    created: u64,
+    turns: u64,
 }
 
 impl Model for NeverFails {
@@ -37,14 +37,14 @@ impl Model for NeverFails {
       tells = a.tells;
       is_writing = a.is_writing;
       opened = a.opened;
-      created = a.created;
+      turns = a.turns;
     } };
 }
 
 impl NeverFails {
     /// A host with no files, which takes no memory yet.
     pub fn new(alloc: Global) -> NeverFails
-        ensures { result ≡ record { files = []; rest = None; tells = true; is_writing = false; opened = 0; created = 0 } }
+        ensures { result ≡ record { files = []; rest = None; tells = true; is_writing = false; opened = 0; turns = 0 } }
     {
         NeverFails {
             alloc,
@@ -53,7 +53,7 @@ impl NeverFails {
             tells: true,
             is_writing: false,
             opened: 0,
-            created: 0,
+            turns: 0,
         }
     }
 
@@ -113,7 +113,7 @@ impl Host for NeverFails {
         self.input = None;
         self.tells = false;
         self.is_writing = true;
-        self.created = self.created.saturating_add(1);
+        self.turns = self.turns.saturating_add(1);
         Ok(())
     }
 
@@ -138,6 +138,7 @@ impl Host for NeverFails {
         ensures files { self.new.files ≡ self.old.files }
     {
         self.is_writing = false;
+        self.turns = self.turns.saturating_add(1);
         Ok(())
     }
 
