@@ -17,7 +17,7 @@ mod segments;
 mod symbols;
 
 pub use image::{Image, Segment, SegmentList, Symbol, SymbolList, read};
-pub use owners::owner;
+pub use owners::{owner, symbol_count};
 pub use refusal::ElfRefusal;
 
 #[cfg(test)]
