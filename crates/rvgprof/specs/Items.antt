@@ -4,12 +4,10 @@ use Rattle.std.specs.List.{filter_map}
 use Rattle.std.specs.Option.{option_map, option_and_then, unwrap_or}
 use Rattle.rvgprof.specs.declared.options.Key.{Key}
 use Rattle.rvgprof.specs.declared.options.Kind.{Kind}
-use Rattle.rvgprof.specs.declared.options.Kind.TheVariants.{Number}
 use Rattle.rvgprof.specs.declared.options.Takes.{Takes}
 use Rattle.rvgprof.specs.declared.items.Wanted.{Wanted}
 use Rattle.rvgprof.specs.declared.items.Wanted.TheVariants.{AnOperand, AnOption}
-use Rattle.rvgprof.specs.Numbers.{number_within}
-use Rattle.rvgprof.specs.Options.{option_of, kind_of, key_number, is_flag, most_times}
+use Rattle.rvgprof.specs.Options.{option_of, kind_of, key_number, is_flag, most_times, number_of_kind}
 
 -- an operand by its position, or an option by that of its value; a flag by its own
 pub data Item : Type 0 where
@@ -67,11 +65,18 @@ place_given key items = first_within (most_times key) (places (AnOption key) ite
 abbrev pub name_of : List (List ℕ) → ℕ → List ℕ
 name_of words i = get_or words i []
 
--- the number that the word at a position writes
+-- at most so many
+abbrev pub up_to : ℕ → List ℕ → Option (List ℕ)
+up_to most places = if nat_lt most (length places) then None else Some places
+
+-- those that are given to an option
+abbrev pub places_given : Key → List Item → Option (List ℕ)
+places_given key items = up_to (most_times key) (places (AnOption key) items)
+
+-- the number that the word at a position writes for an option of a kind
 abbrev pub number_at : List (List ℕ) → Kind → Option ℕ → Option (Option ℕ)
-number_at words (Number least most) None = Some None
-number_at words (Number least most) (Some place) = option_map Some (number_within least most (name_of words place))
-number_at words kind place = None
+number_at words kind None = Some None
+number_at words kind (Some place) = option_map Some (number_of_kind kind (name_of words place))
 
 -- the number that is given to an option, if one is
 abbrev pub number_given : List (List ℕ) → Key → List Item → Option (Option ℕ)

@@ -6,6 +6,8 @@ pub mod Texts
 pub mod Course
 pub mod Reports
 pub mod Found
+pub mod Help
+pub mod FoldedReport
 pub mod Answer
 pub mod Contract
 pub mod Completeness

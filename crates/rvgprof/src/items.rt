@@ -1,13 +1,13 @@
 //! Operands and options among the words.
 
-ghost use Rattle.std.specs.Prelude.{◌≡◌, ◌+◌, ◌<◌, ◌≤◌, ◌^◌, length, map, string_bytes, IfSome};
+ghost use Rattle.std.specs.Prelude.{◌≡◌, ◌+◌, ◌<◌, ◌≤◌, ◌^◌, drop, length, map, string_bytes, IfSome};
 ghost use Rattle.std.specs.Option.{option_map, option_and_then};
 ghost use Rattle.std.specs.List.{cons_option};
-ghost use Rattle.rvgprof.specs.Items.{Operand, Given, place_of, is_option, items_from, places, nth, place_given, name_of, number_given, setting, is_key};
+ghost use Rattle.rvgprof.specs.Items.{Operand, Given, place_of, is_option, items_from, places, nth, place_given, places_given, up_to, name_of, number_given, setting, is_key};
 ghost use Rattle.rvgprof.specs.Options.{kind_of as kind_in, IsNumberOf};
 
-use crate::numbers::number_in;
-use crate::options::{Key, Kind, Takes, is_flag, key_number, kind_of, most_times, option_of};
+use crate::options::{Key, Takes, is_flag, key_number, kind_of, most_times, number_of_kind, option_of};
+use crate::places::Places;
 
 /// What is looked for.
 #[derive(Clone, Copy)]
@@ -133,19 +133,50 @@ pub fn place_given(takes: Takes, words: &[String], key: Key) -> Option<Option<u3
     }
 }
 
+/// Where the operands or the values of an option stand, from the one on that comes behind `first` others;
+/// `None` where the words can't be read, or there are more than `most`.
+pub fn places_from(
+    takes: Takes,
+    words: &[String],
+    wanted: Wanted,
+    first: u32,
+    most: u32,
+) -> Option<Places>
+    requires few { length words.now ≤ 200 }
+    requires first { first ≤ 200 }
+    requires most { most ≤ 18 }
+    ensures { result ≡ option_and_then (λ items. up_to most (drop first (places wanted items))) (items_from takes 0 (map string_bytes words.now)) }
+{
+    let mut found = Places::new();
+    for n in 0..most {
+        let Some(place) = find(takes, words, 0, wanted, first + n)? else {
+            return Some(found);
+        };
+        found.push(place);
+    }
+    match find(takes, words, 0, wanted, first + most)? {
+        Some(_) => None,
+        None => Some(found),
+    }
+}
+
+/// Where the values of an option stand; `None` where the words can't be read or give it too often.
+pub fn places_given(takes: Takes, words: &[String], key: Key) -> Option<Places>
+    requires { length words.now ≤ 200 }
+    ensures { result ≡ option_and_then (places_given key) (items_from takes 0 (map string_bytes words.now)) }
+{
+    places_from(takes, words, Wanted::AnOption(key), 0, most_times(key))
+}
+
 /// The number that is given to an option, if one is; `None` where it is none that the option may have.
 pub fn number_given(takes: Takes, words: &[String], key: Key) -> Option<Option<u32>>
     requires { length words.now ≤ 200 }
     ensures reads { result ≡ option_and_then (number_given (map string_bytes words.now) key) (items_from takes 0 (map string_bytes words.now)) }
     ensures within { IfSome result (λ given. IfSome given (λ n. IsNumberOf (kind_in key) n)) }
 {
-    let place = place_given(takes, words, key)?;
-    match kind_of(key) {
-        Kind::Number { least, most } => match place {
-            None => Some(None),
-            Some(place) => Some(Some(number_in(name_at(words, place), least, most)?)),
-        },
-        Kind::File | Kind::Flag => None,
+    match place_given(takes, words, key)? {
+        None => Some(None),
+        Some(place) => Some(Some(number_of_kind(kind_of(key), name_at(words, place))?)),
     }
 }
 

@@ -1,14 +1,16 @@
 //! Some words, by their positions.
 
-ghost use Rattle.std.specs.Prelude.{◌≡◌, ◌<◌, ◌++◌, ◌∷◌, [], length};
+ghost use Rattle.std.specs.Prelude.{◌≡◌, ◌<◌, ◌≤◌, ◌++◌, ◌∷◌, [], length};
 
-use gp_base::limits::MAX_PROFILE_FILES;
 use std::marker::Model;
 
-/// The positions of at most sixteen words, from 0. Contracts see their list.
+/// How many words there is room for: a command, a file, and sixteen profiles.
+pub const MAX_PLACES: usize = 18;
+
+/// The positions of at most eighteen words, from 0. Contracts see their list.
 #[derive(Drop)]
 pub struct Places {
-    at: [u32; MAX_PROFILE_FILES],
+    at: [u32; MAX_PLACES],
     len: usize,
 }
 
@@ -19,7 +21,7 @@ impl Model for Places {
 
     ghost view = { λ a. take a.len a.at };
 
-    ghost invariant = { λ a. a.len ≤ 16 };
+    ghost invariant = { λ a. a.len ≤ 18 };
 }
 
 impl Places {
@@ -28,14 +30,27 @@ impl Places {
         ensures { result ≡ [] }
     {
         Places {
-            at: [0; MAX_PROFILE_FILES],
+            at: [0; MAX_PLACES],
             len: 0,
+        }
+    }
+
+    /// These words.
+    pub fn of(places: &[u32]) -> Places
+        requires { length places.now ≤ 18 }
+        ensures { result ≡ places.now }
+    {
+        let mut at = [0; MAX_PLACES];
+        at[..places.len()].copy_from_slice(places);
+        Places {
+            at,
+            len: places.len(),
         }
     }
 
     /// One word more.
     pub fn push(&mut self, place: u32)
-        requires { length self.old < 16 }
+        requires { length self.old < 18 }
         ensures { self.new ≡ self.old ++ place ∷ [] }
     {
         self.at[self.len] = place;
