@@ -1,7 +1,7 @@
 //! A graph of functions: arcs, components and their order.
 
-ghost use Rattle.std.specs.Prelude.{◌≡◌, ◌<◌, slice_index};
-ghost use Rattle.call_cycles.specs.Graph.{IsGraph, arc_count, arc_at, component_count, component_of, head_of, entering_of, is_cycle};
+ghost use Rattle.std.specs.Prelude.{◌≡◌, ◌≢◌, ◌<◌, ℕ, slice_index};
+ghost use Rattle.call_cycles.specs.Graph.{IsGraph, IsArcBefore, arc_count, arc_at, component_count, component_of, head_of, entering_of, is_cycle};
 
 use std::marker::Model;
 
@@ -64,6 +64,8 @@ impl Graph {
         ensures callers { result.caller < self.now.functions }
         ensures callees { result.callee < self.now.functions }
         ensures called { 0 < result.count }
+        ensures apart { result.caller ≢ result.callee }
+        ensures rising { (j : ℕ) → j < i → IsArcBefore (arc_at self.now j) result }
     {
         self.arcs[i]
     }
