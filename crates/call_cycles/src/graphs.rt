@@ -41,6 +41,13 @@ impl Model for Graph {
 }
 
 impl Graph {
+    /// What is true of each graph.
+    pub fn holds(&self)
+        ensures { IsGraph self.now }
+    {
+        let _functions = self.functions;
+    }
+
     /// The number of functions.
     pub fn function_count(&self) -> u32
         ensures value { result ≡ self.now.functions }
