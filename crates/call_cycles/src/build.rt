@@ -4,7 +4,7 @@ ghost use Rattle.std.specs.Prelude.{◌≡◌, ◌<◌, ◌≤◌, ◌^◌, ◌+
 ghost use Rattle.elf32_syms.specs.Owners.{IsAscending};
 ghost use Rattle.call_cycles.specs.Calls.{function_arcs, own_calls};
 ghost use Rattle.call_cycles.specs.Graph.{IsGraph, AreComponents, all_calls, entering_of};
-ghost use Rattle.call_cycles.specs.Arcs.{AreByCaller, AreWithin};
+ghost use Rattle.call_cycles.specs.Arcs.{AreByCaller, AreInOrder, AreWithin};
 ghost use Rattle.call_cycles.specs.Parts.{headless_graph, graph_of_parts, AreCalled, arcs_calls};
 ghost use Rattle.call_cycles.specs.Sums.{list_of, sum_below};
 ghost use Rattle.call_cycles.specs.Values.{profile_graph};
@@ -71,7 +71,7 @@ fn graph_of(
     self_calls: Vec<u64>,
 ) -> Result<Graph, AllocError>
     requires within { AreWithin functions arcs.items }
-    requires ordered { AreByCaller arcs.items }
+    requires ordered { AreInOrder arcs.items }
     requires called { AreCalled arcs.items }
     requires few { arcs_calls arcs.items < 2 ^ 59 }
     requires self_calls { length self_calls.items ≡ functions }

@@ -8,13 +8,12 @@ use Rattle.call_cycles.specs.Sums.{sum_below, when}
 use Rattle.call_cycles.specs.Graph.{GraphValue, IsGraph, arc_at, arc_count, component_count, head_of, source_of, target_of, is_outside, leaves, entering_of}
 use Rattle.call_cycles.specs.Flow.{self_in}
 use Rattle.call_cycles.specs.ExactFlow.{ExactTimes, IsExactFlow, carried_exactly}
+use Rattle.call_cycles.proofs.NumberingLemmas.{source_within, target_within, goes_down}
 use Rattle.fraction128.specs.Fractions.{Fraction, fraction, lowest, sum_of, IsValue}
 use Rattle.fraction128.specs.declared.fracs.Frac.{Frac}
 use Rattle.fraction128.specs.Values.{value_of}
 use Rattle.fraction128.proofs.ValueLemmas.{lowest_is, lowest_same, whole_is, whole_lowest, product_value, sum_value}
 use Rattle.propagate.specs.Arcs.{IsCallerOrder, IsLeaving, carried_by_first}
-use Rattle.propagate.proofs.ConservationLemmas.{source_within, target_within}
-use Rattle.propagate.proofs.UniqueLemmas.{goes_down}
 use Rattle.propagate.proofs.ExactLemmas.{entered}
 use Rattle.propagate.proofs.TimeLemmas.{arc_here, all_done, one_more}
 use Rattle.exact_flow.specs.Times.{ExactFlowValue, IsSized, AreExactTimes, time_at, in_grains}

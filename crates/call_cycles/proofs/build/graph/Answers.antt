@@ -1,6 +1,6 @@
 use Rattle.std.proofs.Common.{◌∙◌, arith}
 use Rattle.std.proofs.lemmas.Result.{IfOk-weaker}
-use Rattle.call_cycles.proofs.ArcLemmas.{made_function_arcs, made_own_calls, made_few, are_within, are_called, are_by_caller}
+use Rattle.call_cycles.proofs.ArcLemmas.{made_function_arcs, made_own_calls, made_few, are_within, are_called, are_in_order}
 use Rattle.call_cycles.proofs.ListLemmas.{list_long}
 use Rattle.call_cycles.proofs.ValueLemmas.{ok_value}
 use Rattle.call_cycles.proofs.build.graph.Goals as goal
@@ -16,7 +16,7 @@ pub graph_of-requires-clause-ordered : goal.graph_of-requires-clause-ordered
 graph_of-requires-clause-ordered c =
     let es = c.args.profile.now.arcs in
     let symbols = c.args.symbols.now in
-    are_by_caller es symbols c.in_ok-arcs.arcs.items (made_function_arcs c.in_ok-sums.sums es symbols c.in_ok-sums.ensures.sums c.in_ok-arcs.ensures.ordered c.in_ok-arcs.arcs.items c.in_ok-arcs.ensures.arcs)
+    are_in_order es symbols c.in_ok-arcs.arcs.items (made_function_arcs c.in_ok-sums.sums es symbols c.in_ok-sums.ensures.sums c.in_ok-arcs.ensures.ordered c.in_ok-arcs.arcs.items c.in_ok-arcs.ensures.arcs)
 
 pub graph_of-requires-clause-called : goal.graph_of-requires-clause-called
 graph_of-requires-clause-called c =
