@@ -52,6 +52,18 @@ impl Hist {
     }
 }
 
+/// What the counters of a file's histogram share.
+pub(crate) fn raw_range(raw: &RawHist) -> HistRange
+    requires { length raw.now.counters < 2 ^ 32 }
+    ensures { result ≡ range_of (wide_hist raw.now) }
+{
+    HistRange {
+        low: raw.low,
+        high: raw.high,
+        count: raw.counters.as_slice().len() as u32,
+    }
+}
+
 /// Adds counters to as many others.
 pub(crate) fn add_counters(counters: &mut Totals, more: &[u64])
     requires same { length counters.old ≡ length more.now }
@@ -95,11 +107,7 @@ fn total(counters: &[u64]) -> u64
     requires { sum counters.now < 2 ^ 64 }
     ensures { result ≡ sum counters.now }
 {
-    let mut total = 0;
-    for counter in counters {
-        total += *counter;
-    }
-    total
+    counters.iter().sum()
 }
 
 /// The samples of histograms.
