@@ -1,4 +1,5 @@
 pub mod LittleEndian
 pub mod Cutting
+pub mod FieldLemmas
 pub mod Overwriting
 pub mod Searching

@@ -49,6 +49,25 @@ impl<T> Items<T> {
     }
 }
 
+impl<T> From<Vec<T>> for Items<T> {
+    ghost from_gives = { λ items list. list ≡ items.items };
+
+    /// The items of a vector, with its memory.
+    fn from(items: Vec<T>) -> Items<T> {
+        Items { items }
+    }
+}
+
+impl<T: Copy> Clone for Items<T> {
+    ghost is_clone = { λ list copy. copy ≡ list };
+
+    /// The same items, in memory of their own.
+    fn clone(&self) -> Result<Items<T>, AllocError> {
+        let items = Vec::from_slice(*self.items.allocator(), &self.items)?;
+        Ok(Items { items })
+    }
+}
+
 impl Items<u64> {
     /// Changes item `i` alone.
     pub fn set(&mut self, i: usize, n: u64)

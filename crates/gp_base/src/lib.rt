@@ -7,8 +7,9 @@ pub mod items;
 pub mod limits;
 pub mod records;
 pub mod refusal;
+pub mod values;
 
-pub use bytes::{le2, le4};
+pub use bytes::{arc_text, half, le2, le4, word};
 pub use items::{BlockList, Counts, Items, Name, RecList, Totals};
 pub use records::{Form, RawArc, RawBlock, RawHist, Rec, Records, Span, Unit};
 pub use refusal::GmonRefusal;

@@ -1,6 +1,6 @@
 //! Why a profile file was refused.
 
-ghost use Rattle.std.specs.Prelude.{◌≡◌};
+ghost use Rattle.std.specs.Prelude.{◌≡◌, ◌↔◌, IsTrue, IfOk};
 ghost use Rattle.gp_base.specs.declared.refusal.GmonRefusal.TheVariants.{OutOfMemory};
 
 use std::alloc::{AllocError, AllocFailed};
@@ -22,6 +22,20 @@ pub enum GmonRefusal {
     /// The arc that begins at `at` is torn.
     Rest { at: u32 },
     OutOfMemory,
+}
+
+/// Whether two refusals are the same.
+pub fn is_same(a: &GmonRefusal, b: &GmonRefusal) -> bool
+    ensures { IsTrue result ↔ (a.now ≡ b.now) }
+{
+    a == b
+}
+
+/// The same refusal.
+pub fn copied(a: &GmonRefusal) -> Result<GmonRefusal, AllocError>
+    ensures { IfOk result (λ b. b ≡ a.now) }
+{
+    a.clone()
 }
 
 impl From<AllocError> for GmonRefusal {

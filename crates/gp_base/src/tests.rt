@@ -5,6 +5,15 @@ use std::test::Fail;
 fn numbers_as_bytes(rt: HostRuntime) {
     assert_eq!(rt; le2(0x1234), [0x34, 0x12]);
     assert_eq!(rt; le4(0x0005_1879), [0x79, 0x18, 0x05, 0x00]);
+    let bytes = [0xFF, 0x79, 0x18, 0x05, 0x00, 0x34, 0x12];
+    assert_eq!(rt; word(&bytes, 1), 0x0005_1879);
+    assert_eq!(rt; half(&bytes, 5), 0x1234);
+    let arc = RawArc {
+        from: 0x0001_0010,
+        to: 0x0001_0000,
+        count: 0x0203_0405,
+    };
+    assert_eq!(rt; arc_text(arc), [0x10, 0, 1, 0, 0, 0, 1, 0, 5, 4, 3, 2]);
 }
 
 #[test]
@@ -15,7 +24,24 @@ fn lists_grow_and_change(rt: HostRuntime) -> Result<(), Fail> {
     assert_eq!(rt; totals.as_slice().len(), 2);
     totals.set(1, 40);
     assert_eq!(rt; totals.as_slice(), [7, 40].as_slice());
+    let copy = totals.clone()?;
+    totals.set(0, 1);
+    assert_eq!(rt;
+        copy.as_slice(),
+        [7, 40].as_slice(),
+        "a copy has memory of its own"
+    );
+    let counts = Counts::from([1, 2, 3].to_vec(rt.alloc())?);
+    assert_eq!(rt; counts.as_slice(), [1, 2, 3].as_slice());
     Ok(())
+}
+
+#[test]
+fn refusals_are_compared_by_their_parts(rt: HostRuntime) {
+    let torn = GmonRefusal::Rest { at: 40 };
+    assert!(rt; torn == GmonRefusal::Rest { at: 40 });
+    assert!(rt; torn != GmonRefusal::Rest { at: 52 });
+    assert!(rt; torn != GmonRefusal::Short { at: 40 });
 }
 
 #[test]
