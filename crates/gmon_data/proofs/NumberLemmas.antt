@@ -1,5 +1,5 @@
 -- The numbers of a profile have the bytes of their fields, whatever is added.
-use Rattle.std.proofs.Common.{◌≡◌, ℕ, Result, Ok, Err, OnOk, OnErr, sym, subst, ◌+◌, ◌^◌, ◌<◌, Bool, true, false, ltb, eqb, nat_eq, lit<, ◌-◌, ◌≤◌, List, [], ◌∷◌, length, Option, Some, None, unwrap_or, refl, if◌then◌else◌, arith}
+use Rattle.std.proofs.Common.{◌≡◌, ℕ, Result, Ok, Err, OnOk, OnErr, sym, subst, ◌+◌, ◌^◌, ◌<◌, Bool, true, false, ltb, eqb, nat_eq, ◌-◌, ◌≤◌, List, [], ◌∷◌, length, Some, unwrap_or, refl, if◌then◌else◌, arith}
 use Rattle.std.specs.List.{AllByRecursion, IsDistinct}
 use Rattle.std.specs.Map.{keys_of}
 use Rattle.std.specs.declared.alloc.AllocError.{AllocError}

@@ -105,11 +105,11 @@ wide_record (raw.Blocks blocks) = map wide_block blocks
 abbrev pub wide_records : List Rec → List WideRec
 wide_records recs = flat_map wide_record recs
 
--- a histogram with counters has a range
-abbrev pub HasRange : Rec → Type 0
-HasRange (raw.Hist hist) = 0 < length hist.counters → hist.low < hist.high
-HasRange (raw.Arc arc) = ⊤
-HasRange (raw.Blocks blocks) = ⊤
+-- the counters of a histogram, if there are any, share a range that isn't empty
+abbrev pub HasSpan : WideRec → Type 0
+HasSpan (WideHist h u) = 0 < length h.counters → h.low < h.high
+HasSpan (WideArc from to count) = ⊤
+HasSpan (WideBlock addr count) = ⊤
 
 -- ---- many records
 

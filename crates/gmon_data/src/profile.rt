@@ -3,7 +3,8 @@
 ghost use Rattle.std.specs.Prelude.{◌≡◌, ◌↔◌, ◌^◌, ◌<◌, ℕ, List, ◌++◌, ◌∷◌, [], ◌≤◌, true, false, nat_le, length, map, slice_get, Some, None, IfOk, IfErr, OnOk, OnErr};
 ghost use Rattle.std.specs.List.{All};
 ghost use Rattle.std.specs.List.Sorted.{IsPartitionPoint};
-ghost use Rattle.gmon_data.specs.Content.{HistNumbersFit, IsProfile, WideRec, WideHist, WideArc, WideBlock, empty_content, with_hist, with_arc, hist_conflict, with_block, content_of, IsWithin, HasRange, IsAdded, IsStopped, conflict_of, runs_at, wide_block, wide_hist, wide_record, wide_records, with_records};
+ghost use Rattle.gp_base.specs.Spans.{HasRange};
+ghost use Rattle.gmon_data.specs.Content.{HistNumbersFit, IsProfile, WideRec, WideHist, WideArc, WideBlock, empty_content, with_hist, with_arc, hist_conflict, with_block, content_of, IsWithin, IsAdded, IsStopped, conflict_of, runs_at, wide_block, wide_hist, wide_record, wide_records, with_records};
 ghost use Rattle.gmon_data.specs.Hists.{IsKept, IsUnlike, conflict_with, kept_unit, range_of, samples_of, unlike_in};
 ghost use Rattle.gmon_data.specs.Tally.{total_of};
 
@@ -107,7 +108,7 @@ impl Profile {
             return Ok(());
         }
         self.compare(h.range(), unit)?;
-        let hist = h.try_clone(self.alloc)?;
+        let hist = h.try_clone()?;
         self.keep(hist, unit)?;
         Ok(())
     }
