@@ -1,19 +1,17 @@
 -- Items among the words, one after the other.
-use Rattle.std.proofs.Common.{◌≡◌, ◌<◌, ℕ, zero, suc, ◌+◌, ◌-◌, ◌≤◌, Bool, true, false, cond, eqb, List, [], ◌∷◌, length, get_or, take, drop, map, Option, Some, None, refl, ap, sym, ◌∙◌, arith, inl, inr, ◌⊎◌}
-use Rattle.std.proofs.lemmas.List.{take_all}
+use Rattle.std.proofs.Common.{◌≡◌, ◌<◌, ℕ, zero, suc, ◌+◌, ◌-◌, ◌≤◌, Bool, true, false, cond, eqb, List, [], ◌∷◌, ◌++◌, length, get_or, take, drop, map, Option, Some, None, refl, ap, sym, ◌∙◌, arith, inl, inr, ◌⊎◌}
+use Rattle.std.proofs.lemmas.List.{take_all, take_more, length-drop, get_or-drop}
 use Rattle.std.proofs.lemmas.Bool.{lt-ltb, le-ltb}
 use Rattle.std.proofs.lemmas.Bool.Decides.{nat_tests}
 use Rattle.std.specs.List.{cons_option}
 use Rattle.std.specs.Option.{option_map, option_and_then, unwrap_or}
 use Rattle.rvgprof.specs.declared.options.Key.{Key}
 use Rattle.rvgprof.specs.declared.options.Kind.{Kind}
-use Rattle.rvgprof.specs.declared.options.Kind.TheVariants.{Number, File, Flag}
 use Rattle.rvgprof.specs.declared.options.Takes.{Takes}
 use Rattle.rvgprof.specs.declared.items.Wanted.{Wanted}
 use Rattle.rvgprof.specs.declared.items.Wanted.TheVariants.{AnOption}
-use Rattle.rvgprof.specs.Items.{Item, Operand, Given, is_option, with_item, items_from, items_of_option, place_of, places, nth, place_given, name_of, number_at, number_given, setting}
-use Rattle.rvgprof.specs.Numbers.{number_within}
-use Rattle.rvgprof.specs.Options.{option_of, kind_of, is_flag, most_times}
+use Rattle.rvgprof.specs.Items.{Item, Operand, Given, is_option, with_item, items_from, items_of_option, place_of, places, nth, place_given, name_of, number_at, number_given, setting, up_to}
+use Rattle.rvgprof.specs.Options.{option_of, kind_of, is_flag, most_times, number_of_kind}
 
 -- what is found behind an item is what is found with it
 item_added : (wanted : Wanted) (skip : ℕ) (item : Item) (o : Option (List Item))
@@ -134,23 +132,62 @@ in_steps f g (Some items) = refl
 pub number_found : (words : List (List ℕ)) (key : Key) (o : Option (List Item)) (place : Option (Option ℕ)) → option_and_then (place_given key) o ≡ place → option_and_then (number_given words key) o ≡ option_and_then (number_at words (kind_of key)) place
 number_found words key o place e = in_steps (place_given key) (number_at words (kind_of key)) o ∙ ap (option_and_then (number_at words (kind_of key))) e
 
--- an option without a number
-no_number : (words : List (List ℕ)) (k : Kind) (place : Option ℕ) → (k ≡ File) ⊎ (k ≡ Flag) → number_at words k place ≡ None
-no_number words k place (inl e) = ap (λ (x : Kind). number_at words x place) e
-no_number words k place (inr e) = ap (λ (x : Kind). number_at words x place) e
-
-pub no_number_found : (words : List (List ℕ)) (key : Key) (o : Option (List Item)) (place : Option ℕ) (k : Kind) → Some place ≡ option_and_then (place_given key) o → k ≡ kind_of key → (k ≡ File) ⊎ (k ≡ Flag)
-    → None ≡ option_and_then (number_given words key) o
-no_number_found words key o place k e is other =
-    sym (number_found words key o (Some place) (sym e) ∙ ap (λ (x : Kind). number_at words x place) (sym is) ∙ no_number words k place other)
-
 -- the default where no number is given, and else the number
 pub setting_found : (words : List (List ℕ)) (key : Key) (default : ℕ) (o : Option (List Item)) (given : Option (Option ℕ)) → option_and_then (number_given words key) o ≡ given
     → option_and_then (setting words key default) o ≡ option_map (λ n. unwrap_or n default) given
 setting_found words key default None given e = ap (option_map (λ (n : Option ℕ). unwrap_or n default)) e
 setting_found words key default (Some items) given e = ap (option_map (λ (n : Option ℕ). unwrap_or n default)) e
 
-pub number_read : (words : List (List ℕ)) (key : Key) (o : Option (List Item)) (place least most : ℕ) (n : Option ℕ) → Some (Some place) ≡ option_and_then (place_given key) o → Number least most ≡ kind_of key
-    → n ≡ number_within least most (name_of words place) → option_and_then (number_given words key) o ≡ option_map Some n
-number_read words key o place least most n is kind read =
-    number_found words key o (Some (Some place)) (sym is) ∙ ap (λ (k : Kind). number_at words k (Some place)) (sym kind) ∙ ap (λ (m : Option ℕ). option_map Some m) (sym read)
+pub number_read : (words : List (List ℕ)) (key : Key) (o : Option (List Item)) (place : ℕ) (n : Option ℕ) → Some (Some place) ≡ option_and_then (place_given key) o
+    → n ≡ number_of_kind (kind_of key) (name_of words place) → option_and_then (number_given words key) o ≡ option_map Some n
+number_read words key o place n is read =
+    number_found words key o (Some (Some place)) (sym is) ∙ ap (λ (m : Option ℕ). option_map Some m) (sym read)
+
+-- ---- those from one on
+
+nth_at : (k : ℕ) (xs : List ℕ) (y : ℕ) → nth k xs ≡ Some y → get_or xs k y ≡ y
+nth_at k [] y e = absurd cc
+nth_at zero (x ∷ xs) y e = let same : x ≡ y = cc in same
+nth_at (suc k) (x ∷ xs) y e =
+    let some : 1 ≤ suc k = omega arith in
+    let same : suc k - 1 ≡ k = omega arith in
+    nth_at k xs y (ap (λ (j : ℕ). nth j xs) (sym same) ∙ sym (later (suc k) x xs some) ∙ e)
+
+module _ (wanted : Wanted) (first : ℕ) where
+  -- those behind the first ones
+  abbrev behind : List Item → List ℕ
+  behind items = drop first (places wanted items)
+
+  pub place_more : (n place : ℕ) (o : Option (List Item)) (found : List ℕ) → option_map (λ items. nth (first + n) (places wanted items)) o ≡ Some (Some place)
+      → ((items : List Item) → o ≡ Some items → found ≡ take n (behind items))
+      → (items : List Item) → o ≡ Some items → found ++ place ∷ [] ≡ take (n + 1) (behind items)
+  place_more n place o found here so_far items is =
+      let ps = places wanted items in
+      let at : nth (first + n) ps ≡ Some place = let f = sym (ap (option_map (λ items. nth (first + n) (places wanted items))) is) ∙ here in cc in
+      let below = nth_some (first + n) ps place at in
+      let within : n < length (drop first ps) = omega (arith, below, length-drop first ps) in
+      ap (λ (xs : List ℕ). xs ++ place ∷ []) (so_far items is)
+      ∙ ap (λ (x : ℕ). take n (drop first ps) ++ x ∷ []) (sym (get_or-drop first ps n place ∙ nth_at (first + n) ps place at))
+      ∙ sym (take_more (drop first ps) n place within)
+
+  pub places_end : (n most : ℕ) (o : Option (List Item)) (found : List ℕ) → n ≤ most → option_map (λ items. nth (first + n) (places wanted items)) o ≡ Some None
+      → ((items : List Item) → o ≡ Some items → found ≡ take n (behind items))
+      → Some found ≡ option_and_then (λ items. up_to most (behind items)) o
+  places_end n most None found within here so_far = absurd cc
+  places_end n most (Some items) found within here so_far =
+      let ps = places wanted items in
+      let none : nth (first + n) ps ≡ None = cc in
+      let few = nth_none (first + n) ps none in
+      let short : length (drop first ps) ≤ n = omega (arith, few, length-drop first ps) in
+      ap (λ (xs : List ℕ). Some xs) (so_far items refl ∙ take_all n (drop first ps) short)
+      ∙ sym (ap (λ (b : Bool). cond b None (Some (drop first ps))) (le-ltb most (length (drop first ps)) (omega (arith, short, within))))
+
+  pub places_many : (most place : ℕ) (o : Option (List Item)) → option_map (λ items. nth (first + most) (places wanted items)) o ≡ Some (Some place)
+      → None ≡ option_and_then (λ items. up_to most (behind items)) o
+  places_many most place None here = absurd cc
+  places_many most place (Some items) here =
+      let ps = places wanted items in
+      let at : nth (first + most) ps ≡ Some place = cc in
+      let many = nth_some (first + most) ps place at in
+      let above : most < length (drop first ps) = omega (arith, many, length-drop first ps) in
+      sym (ap (λ (b : Bool). cond b None (Some (drop first ps))) (lt-ltb most (length (drop first ps)) above))

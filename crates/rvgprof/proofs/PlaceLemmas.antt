@@ -3,17 +3,17 @@ use Rattle.std.proofs.Common.{◌≡◌, ℕ, zero, suc, ◌+◌, ◌-◌, ◌<�
 use Rattle.std.specs.Prelude.{IfSome, nat_lt, nat_le, if◌then◌else◌}
 use Rattle.std.specs.List.{AllByRecursion}
 use Rattle.std.specs.Option.{option_map, option_and_then}
-use Rattle.std.proofs.lemmas.List.{take_more, take_all, length-drop, get_or-drop}
-use Rattle.std.proofs.lemmas.Bool.Decides.{nat_tests}
 use Rattle.rvgprof.specs.declared.options.Key.{Key}
 use Rattle.rvgprof.specs.declared.options.Takes.{Takes}
 use Rattle.rvgprof.specs.declared.items.Wanted.TheVariants.{AnOperand}
-use Rattle.rvgprof.specs.Items.{Item, Operand, Given, is_option, with_item, items_from, items_of_option, places, nth}
+use Rattle.rvgprof.specs.Items.{Item, Operand, Given, is_option, with_item, items_from, items_of_option, places, up_to}
 use Rattle.rvgprof.specs.Options.{option_of, kind_of, is_flag}
 use Rattle.rvgprof.specs.declared.words.Command.{Command}
-use Rattle.rvgprof.specs.declared.words.Shown.{Shown}
-use Rattle.rvgprof.specs.Words.{few_files, files_from, report_from, report_said, shown_of, AreRising, IsWithinLimits}
-use Rattle.rvgprof.proofs.ItemLemmas.{later, nth_none, nth_some}
+use Rattle.rvgprof.specs.declared.words.Command.TheVariants.{Show, Syms, Run, Sum, Report, Profile, Demo, Annotate, Folded, Help, Version}
+use Rattle.rvgprof.specs.declared.words.Selection.{Selection}
+use Rattle.prof_machine.specs.declared.setup.Setup.{Setup}
+use Rattle.prof_machine.specs.Setup.{IsSetup}
+use Rattle.rvgprof.specs.Words.{annotate_from, are_cuts, demo_from, few, folded_from, form_asked, may_count, operands_of, profile_from, report_from, run_from, selection_from, shown_asked, sum_from, AreCuts, AreRising, IsCommandOf}
 
 -- they stand from i on, each behind those before it
 pub record IsOrdered (i : ℕ) (ps : List ℕ) : Type 0 where
@@ -95,89 +95,107 @@ items_ordered takes i (word ∷ value ∷ words) items e =
     record { from = weaker (i + 1) (i + 2) (places AnOperand more) (omega arith) later.from; rising = later.rising })
     e
 
-pub rising_drop : (n : ℕ) (ps : List ℕ) → AreRising ps → AreRising (drop n ps)
-rising_drop zero ps rising = rising
-rising_drop (suc n) [] rising = tt
-rising_drop (suc n) (p ∷ ps) rising = rising_drop n ps rising.1
-
-few_rising : (ps : List ℕ) (r : Option (List ℕ)) → AreRising ps → r ≡ few_files ps → IfSome r (λ places. AreRising places)
-few_rising ps r rising e = subst (λ (o : Option (List ℕ)). IfSome o (λ places. AreRising places)) (sym e) (by (nat_lt 0 (length ps) && nat_le (length ps) 16))
+-- the operands stand in order
+pub rising_operands : (takes : Takes) (words : List (List ℕ)) (r : Option (List ℕ)) → r ≡ option_and_then (λ items. up_to 18 (operands_of items)) (items_from takes 0 words) → IfSome r AreRising
+rising_operands takes words r e = subst (λ (o : Option (List ℕ)). IfSome o AreRising) (sym e) (by (items_from takes 0 words) refl)
   where
-    by : (b : Bool) → IfSome (if b then Some ps else None) (λ places. AreRising places)
-    by true = rising
+    within : (ps : List ℕ) (b : Bool) → AreRising ps → IfSome (cond b None (Some ps)) AreRising
+    within ps true rising = tt
+    within ps false rising = rising
+
+    by : (o : Option (List Item)) → items_from takes 0 words ≡ o → IfSome (option_and_then (λ items. up_to 18 (operands_of items)) o) AreRising
+    by None is = tt
+    by (Some items) is = within (operands_of items) (nat_lt 18 (length (operands_of items))) (items_ordered takes 0 words items is).rising
+
+few_rising : (files : List ℕ) (P : List ℕ → Type 0) → P files → IfSome (few files) P
+few_rising files P holds = by (nat_lt 0 (length files) && nat_le (length files) 16)
+  where
+    by : (b : Bool) → IfSome (if b then Some files else None) P
+    by true = holds
     by false = tt
 
-pub files_rising : (takes : Takes) (first : ℕ) (words : List (List ℕ)) (r : Option (List ℕ)) → r ≡ option_and_then (files_from first) (items_from takes 0 words) → IfSome r (λ places. AreRising places)
-files_rising takes first words r e = by (items_from takes 0 words) refl e
-  where
-    by : (o : Option (List Item)) → items_from takes 0 words ≡ o → r ≡ option_and_then (files_from first) o → IfSome r (λ places. AreRising places)
-    by None is e = subst (λ (o : Option (List ℕ)). IfSome o (λ places. AreRising places)) (sym e) tt
-    by (Some items) is e = few_rising (drop first (places AnOperand items)) r (rising_drop first (places AnOperand items) (items_ordered takes 0 words items is).rising) e
+mapped : {A B : Type 0} (f : A → B) (P : B → Type 0) (o : Option A) → IfSome o (λ a. P (f a)) → IfSome (option_map f o) P
+mapped f P None holds = tt
+mapped f P (Some a) holds = holds
 
--- a report's program stands before its profiles
-report_in_order : (ps : List ℕ) (shown : Option Shown) → AreRising ps → IfSome (report_from (Some (nth 1 ps)) (few_files (drop 2 ps)) shown) (λ command. IsWithinLimits command)
-report_in_order [] shown rising = tt
-report_in_order (p ∷ []) shown rising = tt
-report_in_order (p ∷ q ∷ ps) shown rising = by (nat_lt 0 (length ps) && nat_le (length ps) 16) shown
-  where
-    by : (b : Bool) (shown : Option Shown) → IfSome (report_from (Some (Some q)) (if b then Some ps else None) shown) (λ command. IsWithinLimits command)
-    by true (Some given) = rising.1
-    by true None = tt
-    by false shown = tt
+-- ---- what commands hold, by what they are made of
 
-pub report_rising : (takes : Takes) (words : List (List ℕ)) (r : Option Command) → r ≡ option_and_then report_said (items_from takes 0 words) → IfSome r (λ command. IsWithinLimits command)
-report_rising takes words r e = by (items_from takes 0 words) refl e
-  where
-    by : (o : Option (List Item)) → items_from takes 0 words ≡ o → r ≡ option_and_then report_said o → IfSome r (λ command. IsWithinLimits command)
-    by None is e = subst (λ (o : Option Command). IfSome o (λ command. IsWithinLimits command)) (sym e) tt
-    by (Some items) is e =
-        subst (λ (o : Option Command). IfSome o (λ command. IsWithinLimits command)) (sym e)
-        (report_in_order (places AnOperand items) (shown_of items) (items_ordered takes 0 words items is).rising)
+module _ (words : List (List ℕ)) where
+  pub sum_holds : (operands : Option (List ℕ)) → IfSome operands AreRising → IfSome (sum_from operands) (IsCommandOf words)
+  sum_holds None rising = tt
+  sum_holds (Some []) rising = tt
+  sum_holds (Some (command ∷ [])) rising = tt
+  sum_holds (Some (command ∷ out ∷ gmons)) rising = mapped (Sum out) (IsCommandOf words) (few gmons) (few_rising gmons (λ files. AreRising files) rising.1.1)
 
--- ---- the operands from one on
+  pub report_holds : (operands : Option (List ℕ)) (selection : Option Selection) → IfSome operands AreRising → IfSome selection (AreCuts words) → IfSome (report_from operands selection) (IsCommandOf words)
+  report_holds None selection rising cuts = tt
+  report_holds (Some []) selection rising cuts = tt
+  report_holds (Some (command ∷ [])) selection rising cuts = tt
+  report_holds (Some (command ∷ elf ∷ gmons)) None rising cuts = tt
+  report_holds (Some (command ∷ elf ∷ gmons)) (Some selection) rising cuts =
+      mapped (λ files. Report elf files selection) (IsCommandOf words) (few gmons) (few_rising gmons (λ files. AreRising (elf ∷ files) × AreCuts words selection) (rising.1, cuts))
 
-nth_at : (k : ℕ) (xs : List ℕ) (y : ℕ) → nth k xs ≡ Some y → get_or xs k y ≡ y
-nth_at k [] y e = absurd cc
-nth_at zero (x ∷ xs) y e = let same : x ≡ y = cc in same
-nth_at (suc k) (x ∷ xs) y e =
-    let some : 1 ≤ suc k = omega arith in
-    let same : suc k - 1 ≡ k = omega arith in
-    nth_at k xs y (ap (λ (j : ℕ). nth j xs) (sym same) ∙ sym (later (suc k) x xs some) ∙ e)
+  pub annotate_holds : (operands : Option (List ℕ)) → IfSome operands AreRising → IfSome (annotate_from operands) (IsCommandOf words)
+  annotate_holds None rising = tt
+  annotate_holds (Some []) rising = tt
+  annotate_holds (Some (command ∷ [])) rising = tt
+  annotate_holds (Some (command ∷ elf ∷ gmons)) rising = mapped (Annotate elf) (IsCommandOf words) (few gmons) (few_rising gmons (λ files. AreRising (elf ∷ files)) rising.1)
 
-pub file_more : (first n place : ℕ) (o : Option (List Item)) (files : List ℕ) → option_map (λ items. nth (first + n) (places AnOperand items)) o ≡ Some (Some place)
-    → ((items : List Item) → o ≡ Some items → files ≡ take n (drop first (places AnOperand items)))
-    → (items : List Item) → o ≡ Some items → files ++ place ∷ [] ≡ take (n + 1) (drop first (places AnOperand items))
-file_more first n place o files found so_far items is =
-    let ps = places AnOperand items in
-    let here : nth (first + n) ps ≡ Some place = let f = sym (ap (option_map (λ items. nth (first + n) (places AnOperand items))) is) ∙ found in cc in
-    let below = nth_some (first + n) ps place here in
-    let within : n < length (drop first ps) = omega (arith, below, length-drop first ps) in
-    ap (λ (xs : List ℕ). xs ++ place ∷ []) (so_far items is)
-    ∙ ap (λ (x : ℕ). take n (drop first ps) ++ x ∷ []) (sym (get_or-drop first ps n place ∙ nth_at (first + n) ps place here))
-    ∙ sym (take_more (drop first ps) n place within)
+  pub run_holds : (operands : Option (List ℕ)) (gnu : Option Bool) (image : Option (Option ℕ)) (setup : Option Setup) → IfSome setup IsSetup → IfSome (run_from operands gnu image setup) (IsCommandOf words)
+  run_holds None gnu image setup is = tt
+  run_holds (Some []) gnu image setup is = tt
+  run_holds (Some (a ∷ [])) gnu image setup is = tt
+  run_holds (Some (a ∷ b ∷ [])) gnu image setup is = tt
+  run_holds (Some (a ∷ b ∷ c ∷ d ∷ ps)) gnu image setup is = tt
+  run_holds (Some (a ∷ b ∷ c ∷ [])) None image setup is = tt
+  run_holds (Some (a ∷ b ∷ c ∷ [])) (Some gnu) None setup is = tt
+  run_holds (Some (a ∷ b ∷ c ∷ [])) (Some gnu) (Some image) None is = tt
+  run_holds (Some (a ∷ b ∷ c ∷ [])) (Some gnu) (Some image) (Some setup) is = by (may_count (form_asked gnu) setup.blocks)
+    where
+      by : (x : Bool) → IfSome (if x then Some (Run b c (form_asked gnu) image setup) else None) (IsCommandOf words)
+      by true = is
+      by false = tt
 
-pub files_end : (first n : ℕ) (o : Option (List Item)) (files : List ℕ) → option_map (λ items. nth (first + n) (places AnOperand items)) o ≡ Some None
-    → ((items : List Item) → o ≡ Some items → files ≡ take n (drop first (places AnOperand items)))
-    → few_files files ≡ option_and_then (files_from first) o
-files_end first n None files found so_far = absurd cc
-files_end first n (Some items) files found so_far =
-    let ps = places AnOperand items in
-    let none : nth (first + n) ps ≡ None = cc in
-    let few = nth_none (first + n) ps none in
-    ap few_files (so_far items refl ∙ take_all n (drop first ps) (omega (arith, few, length-drop first ps)))
+  pub profile_holds : (run : Option Command) (selection : Option Selection) → IfSome run (IsCommandOf words) → IfSome selection (AreCuts words) → IfSome (profile_from run selection) (IsCommandOf words)
+  profile_holds None selection is cuts = tt
+  profile_holds (Some (Run elf gmon form image setup)) None is cuts = tt
+  profile_holds (Some (Run elf gmon form image setup)) (Some selection) is cuts = (is, cuts)
+  profile_holds (Some (Show gmon)) selection is cuts = tt
+  profile_holds (Some (Syms elf)) selection is cuts = tt
+  profile_holds (Some (Sum out gmons)) selection is cuts = tt
+  profile_holds (Some (Report elf gmons other)) selection is cuts = tt
+  profile_holds (Some (Profile elf gmon form image setup other)) selection is cuts = tt
+  profile_holds (Some (Demo functions elf setup)) selection is cuts = tt
+  profile_holds (Some (Annotate elf gmons)) selection is cuts = tt
+  profile_holds (Some (Folded elf inclusive setup)) selection is cuts = tt
+  profile_holds (Some Help) selection is cuts = tt
+  profile_holds (Some Version) selection is cuts = tt
 
-pub files_many : (first : ℕ) (o : Option (List Item)) (place : ℕ) → option_map (λ items. nth (first + 16) (places AnOperand items)) o ≡ Some (Some place) → None ≡ option_and_then (files_from first) o
-files_many first None place found = absurd cc
-files_many first (Some items) place found =
-    let ps = places AnOperand items in
-    let here : nth (first + 16) ps ≡ Some place = cc in
-    let many = nth_some (first + 16) ps place here in
-    let above : 16 < length (drop first ps) = omega (arith, many, length-drop first ps) in
-    sym (ap (λ (b : Bool). if nat_lt 0 (length (drop first ps)) && b then Some (drop first ps) else None) (not_le (length (drop first ps)) above) ∙ and_none (nat_lt 0 (length (drop first ps))) (drop first ps))
-  where
-    not_le : (n : ℕ) → 16 < n → nat_le n 16 ≡ false
-    not_le n lt = grind (arith, nat_tests)
+  pub folded_holds : (operands : Option (List ℕ)) (inclusive : Option Bool) (setup : Option Setup) → IfSome setup IsSetup → IfSome (folded_from operands inclusive setup) (IsCommandOf words)
+  folded_holds None inclusive setup is = tt
+  folded_holds (Some []) inclusive setup is = tt
+  folded_holds (Some (a ∷ [])) inclusive setup is = tt
+  folded_holds (Some (a ∷ b ∷ c ∷ ps)) inclusive setup is = tt
+  folded_holds (Some (a ∷ b ∷ [])) None setup is = tt
+  folded_holds (Some (a ∷ b ∷ [])) (Some inclusive) None is = tt
+  folded_holds (Some (a ∷ b ∷ [])) (Some inclusive) (Some setup) is = is
 
-    and_none : (b : Bool) (xs : List ℕ) → (if b && false then Some xs else None) ≡ None
-    and_none true xs = refl
-    and_none false xs = refl
+  pub demo_holds : (functions : Option ℕ) (elf : Option (Option ℕ)) (setup : Option Setup) → IfSome functions (λ n. (1 ≤ n) × (n ≤ 2000)) → IfSome setup IsSetup → IfSome (demo_from functions elf setup) (IsCommandOf words)
+  demo_holds None elf setup numbers is = tt
+  demo_holds (Some n) None setup numbers is = tt
+  demo_holds (Some n) (Some elf) None numbers is = tt
+  demo_holds (Some n) (Some elf) (Some setup) numbers is = (numbers.0, numbers.1, is)
+
+  -- what is cut is words FROM/TO
+  pub selection_holds : (flat graph exact : Option Bool) (cuts hidden : Option (List ℕ)) → IfSome (selection_from words flat graph exact cuts hidden) (AreCuts words)
+  selection_holds None graph exact cuts hidden = tt
+  selection_holds (Some flat) None exact cuts hidden = tt
+  selection_holds (Some flat) (Some graph) None cuts hidden = tt
+  selection_holds (Some flat) (Some graph) (Some exact) None hidden = tt
+  selection_holds (Some flat) (Some graph) (Some exact) (Some cuts) None = tt
+  selection_holds (Some flat) (Some graph) (Some exact) (Some cuts) (Some hidden) = by (are_cuts words cuts) refl
+    where
+      by : (b : Bool) → are_cuts words cuts ≡ b
+          → IfSome (if b then Some (record { shown = shown_asked flat graph; exact = exact; cuts = cuts; hidden = hidden }) else None) (AreCuts words)
+      by true is = is
+      by false is = tt

@@ -1,5 +1,8 @@
 -- What the reports of a profile are made from, as it was found.
-use Rattle.std.specs.Prelude.{◌≡◌, ◌<◌, ◌≤◌, ◌^◌, length}
+use Rattle.std.specs.Prelude.{◌≡◌, ◌<◌, ◌≤◌, ◌^◌, Bool, true, false, Option, Some, None, length}
+use Rattle.exact_flow.specs.Solution.{exact_flow_in}
+use Rattle.exact_flow.specs.Times.{ExactFlowValue, HasTimes}
+use Rattle.exact_flow.specs.Wide.{first_wide}
 use Rattle.elf32_syms.specs.declared.image.Image.{Image}
 use Rattle.gmon_data.specs.Content.{Content}
 use Rattle.call_cycles.specs.Graph.{IsGraph, all_calls}
@@ -25,3 +28,8 @@ pub record FitTogether (image : Image) (s : Sources) : Type 0 where
 pub record AreSources (image : Image) (total : Content) (s : Sources) : Type 0 where
   pub value : given_sources image s ≡ sources_of image total
   pub fit : FitTogether image s
+
+-- the exact times were found where they were asked for, and no step of theirs is too wide
+abbrev pub IsAsked : Bool → Sources → Option ExactFlowValue → Type 0
+IsAsked false s found = found ≡ None
+IsAsked true s found = (e : ExactFlowValue) × (found ≡ Some e) × (e ≡ exact_flow_in s.graph s.shares.of) × HasTimes s.graph e × (first_wide s.graph s.shares.of ≡ None)

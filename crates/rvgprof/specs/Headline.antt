@@ -1,5 +1,5 @@
 -- What the command `profile` leaves, in one sentence of several parts: the file, the output, and the time in the report.
-use Rattle.std.specs.Prelude.{◌≡◌, ◌≢◌, ℕ, List, [], ◌++◌, codes, Option, Some, option_map, IfSome}
+use Rattle.std.specs.Prelude.{◌≡◌, ◌≢◌, ℕ, Bool, true, false, List, [], ◌++◌, codes, Option, Some, None, option_map, IfSome}
 use Rattle.elf32_syms.specs.Image.{image_of}
 use Rattle.gp_base.specs.declared.records.Form.{Form}
 use Rattle.host_port.specs.Act.{content_of}
@@ -11,6 +11,8 @@ use Rattle.call_cycles.specs.Flow.{IsFlow, time_of_roots}
 use Rattle.flat_report.specs.Sources.{Sources}
 use Rattle.flat_report.specs.FlatText.{flat_text}
 use Rattle.graph_report.specs.GraphText.{graph_text}
+use Rattle.graph_report.specs.ExactText.{exact_text}
+use Rattle.exact_flow.specs.Solution.{exact_flow_in}
 use Rattle.mcount_arcs.specs.declared.sizes.Sizes.{Sizes}
 use Rattle.mcount_arcs.specs.Sizes.{sizes_of}
 use Rattle.prof_machine.specs.declared.setup.Setup.{Setup}
@@ -19,8 +21,7 @@ use Rattle.prof_machine.specs.World.{World}
 use Rattle.rvgprof.specs.declared.words.Shown.{Shown}
 use Rattle.rvgprof.specs.declared.words.Shown.TheVariants as shows
 use Rattle.rvgprof.specs.Items.{name_of}
-use Rattle.rvgprof.specs.Answer.{run_text, written_profile}
-use Rattle.rvgprof.specs.Reports.{sources_of}
+use Rattle.rvgprof.specs.Answer.{Chosen, chosen_sources, profile_bytes, wide_step, written_profile}
 use Rattle.rvgprof.specs.Contract.{WhereTold}
 use Rattle.rvgprof.specs.Acceptance.{IsProgramFile, Starts}
 
@@ -33,21 +34,29 @@ text_sizes program setup = sizes_of (image_of program).text setup.hist setup.has
 
 -- the gmon.out file of that run, in a form
 abbrev pub gmon_text : Form → List ℕ → Setup → List ℕ
-gmon_text form program setup = run_text form (text_sizes program setup) (world_of program setup).log setup.rate
+gmon_text form program setup = profile_bytes form setup (text_sizes program setup) (world_of program setup)
 
--- what is reported: what that file says
-abbrev pub reported : Form → List ℕ → Setup → Sources
-reported form program setup = sources_of (image_of program) (written_profile form (text_sizes program setup) (world_of program setup).log setup.rate)
+-- what is reported: what that file says, without the calls that are cut
+abbrev pub reported : Chosen → Form → List ℕ → Setup → Sources
+reported chosen form program setup = chosen_sources chosen (image_of program) (written_profile form (text_sizes program setup) (world_of program setup).log setup.rate)
 
 -- the reports that are asked for
-abbrev pub reports_of : Shown → Sources → List ℕ
-reports_of shows.Flat s = flat_text s []
-reports_of shows.Graph s = graph_text s []
-reports_of shows.Both s = flat_text s [] ++ (codes "\n" ++ graph_text s [])
+abbrev pub reports_of : Shown → List (List ℕ) → Sources → List ℕ
+reports_of shows.Flat hidden s = flat_text s hidden
+reports_of shows.Graph hidden s = graph_text s hidden
+reports_of shows.Both hidden s = flat_text s hidden ++ (codes "\n" ++ graph_text s hidden)
+
+-- the times with nothing rounded, behind an empty line
+abbrev pub exact_of : Bool → Sources → List ℕ
+exact_of false s = []
+exact_of true s = codes "\n" ++ exact_text s.symbols s.graph (exact_flow_in s.graph s.shares.of) (attributed_of s.shares)
+
+abbrev pub printed_of : Chosen → Sources → List ℕ
+printed_of chosen s = reports_of chosen.shown chosen.hidden s ++ exact_of chosen.exact s
 
 -- The program's file is accepted and its run starts, for some bytes of it: for those that are told before and after,
 -- where they are.
-pub record Headline (words : List (List ℕ)) (old new : Outside) (elf gmon : ℕ) (form : Form) (setup : Setup) (shown : Shown) : Type 0 where
+pub record Headline (words : List (List ℕ)) (old new : Outside) (elf gmon : ℕ) (form : Form) (setup : Setup) (chosen : Chosen) : Type 0 where
   pub program : List ℕ
   pub told : WhereTold old new (λ files. program ≡ content_of (name_of words elf) files)
   pub accepted : IsProgramFile program
@@ -55,12 +64,14 @@ pub record Headline (words : List (List ℕ)) (old new : Outside) (elf gmon : �
   -- GMON holds the file of the run
   pub file : IfSome new.disk (λ d. content_of (name_of words gmon) d.files ≡ gmon_text form program setup)
   -- what the program prints, and then the reports, were printed
-  pub output : Becomes (λ bytes. bytes ++ (prints_of (world_of program setup).prints ++ reports_of shown (reported form program setup))) old.out new.out
+  pub output : Becomes (λ bytes. bytes ++ (prints_of (world_of program setup).prints ++ printed_of chosen (reported chosen form program setup))) old.out new.out
   -- each caller gets of its callee's time what its calls are of all that enter the callee's component
-  pub graph : IsGraph (reported form program setup).graph
-  pub shares : IsFlow (reported form program setup).graph (reported form program setup).shares.of (reported form program setup).flow
+  pub graph : IsGraph (reported chosen form program setup).graph
+  pub flow : IsFlow (reported chosen form program setup).graph (reported chosen form program setup).shares.of (reported chosen form program setup).flow
+  -- no step of the exact times is too wide, where these are asked for
+  pub fits : wide_step chosen.exact (reported chosen form program setup) ≡ None
   -- those without callers from outside have together all that is attributed
-  pub conserved : time_of_roots (reported form program setup).graph (reported form program setup).flow ≡ attributed_of (reported form program setup).shares
+  pub conserved : time_of_roots (reported chosen form program setup).graph (reported chosen form program setup).flow ≡ attributed_of (reported chosen form program setup).shares
 
 -- the memory of the runtime isn't written into the file of the profile
 abbrev pub IsApart : List (List ℕ) → ℕ → Option ℕ → Type 0

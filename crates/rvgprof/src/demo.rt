@@ -16,6 +16,7 @@ ghost use Rattle.rvgprof.specs.Standing.{IsDemoRead, IsDemoRefused, RunsDemo, St
 
 use crate::files::write_file;
 use crate::items::name_at;
+use crate::lines::put_number;
 use crate::outcome::{Done, Fault};
 use crate::printing::print_text;
 use crate::refusals::{elf_fault, report_fault};
@@ -168,25 +169,14 @@ fn put_run(line: &mut Line, functions: u32, run: RunSummary, pairs: u32, cycles:
     ensures text { line.new ≡ demo_run_line functions run pairs cycles }
     ensures short { length line.new ≤ 140 }
 {
-    put_count(line, b"demo ", functions);
-    put_count(line, b": ", run.retired);
-    put_count(line, b" instructions, ", run.samples);
-    put_count(line, b" samples, ", run.calls);
-    put_count(line, b" calls, ", run.lost);
-    put_count(line, b" lost, ", pairs);
-    put_count(line, b" arcs, ", cycles);
+    put_number(line, b"demo ", functions);
+    put_number(line, b": ", run.retired);
+    put_number(line, b" instructions, ", run.samples);
+    put_number(line, b" samples, ", run.calls);
+    put_number(line, b" calls, ", run.lost);
+    put_number(line, b" lost, ", pairs);
+    put_number(line, b" arcs, ", cycles);
     line.put(b" cycles\n");
-}
-
-/// Adds a text and a number.
-#[tactic(auto, using(text_cols::proofs::Lengths::lengths))]
-fn put_count(line: &mut Line, text: &[u8], count: u32)
-    requires { length line.old + length text.now + 10 ≤ 256 }
-    ensures text { line.new ≡ line.old ++ (text.now ++ decimal count) }
-    ensures short { length line.new ≤ length line.old + length text.now + 10 }
-{
-    line.put(text);
-    line.decimal(u128::from(count));
 }
 
 /// How the samples of a demo's run were attributed: all grains of functions, and those of the components

@@ -9,10 +9,10 @@ ghost use Rattle.rvgprof.specs.declared.outcome.Done.{Done};
 ghost use Rattle.rvgprof.specs.declared.outcome.Fault.{Fault};
 ghost use Rattle.rvgprof.specs.declared.outcome.Fault.TheVariants.{OutOfMemory};
 ghost use Rattle.rvgprof.specs.declared.words.Command.TheVariants.{Profile};
-ghost use Rattle.rvgprof.specs.declared.words.Shown.{Shown as AnyShown};
+ghost use Rattle.rvgprof.specs.declared.words.Selection.{Selection as AnySelection};
 ghost use Rattle.rvgprof.specs.Words.{command_of};
 ghost use Rattle.rvgprof.specs.Course.{Course, reply_to, MayStop};
-ghost use Rattle.rvgprof.specs.Answer.{course_of};
+ghost use Rattle.rvgprof.specs.Answer.{chosen_by, course_of};
 ghost use Rattle.rvgprof.specs.Contract.{Answered, LineEnds};
 ghost use Rattle.rvgprof.specs.Completeness.{Stayed, NoneFailed, Complete};
 ghost use Rattle.rvgprof.specs.Acceptance.{IsAccepted, acts_at_once};
@@ -23,8 +23,8 @@ ghost use Rattle.rvgprof.specs.Headline.{Headline, IsApart};
 /// call site. The reports were printed of what this file says: every caller's share is its callee's time
 /// in proportion to calls, and the entries without outside callers together hold every attributed sample.
 pub fn headline()
-    ensures { (words : List (List ℕ)) (old new : Outside) (done : Done) (elf gmon : ℕ) (form : AnyForm) (image : Option ℕ) (setup : AnySetup) (shown : AnyShown) → Answered words old new (Ok done)
-        → command_of words ≡ Some (Profile elf gmon form image setup shown) → IsApart words gmon image → Headline words old new elf gmon form setup shown }
+    ensures { (words : List (List ℕ)) (old new : Outside) (done : Done) (elf gmon : ℕ) (form : AnyForm) (image : Option ℕ) (setup : AnySetup) (selection : AnySelection) → Answered words old new (Ok done)
+        → command_of words ≡ Some (Profile elf gmon form image setup selection) → IsApart words gmon image → Headline words old new elf gmon form setup (chosen_by words selection) }
 {}
 
 /// Where no call on the host failed, the program answers what the definition says, having done all that
@@ -40,7 +40,7 @@ pub fn completeness()
 /// have a reading, each input file is within its limit and not refused, the profiles are alike, and a run
 /// can start.
 pub fn acceptance()
-    ensures { (words : List (List ℕ)) (contents : ℕ → List ℕ) → IsOk (reply_to contents (course_of words)).ending ↔ IsAccepted contents (command_of words) }
+    ensures { (words : List (List ℕ)) (contents : ℕ → List ℕ) → IsOk (reply_to contents (course_of words)).ending ↔ IsAccepted words contents (command_of words) }
 {}
 
 /// Where memory ran out, what was done is a prefix of what is due, and nothing for the commands that do

@@ -1,43 +1,165 @@
 //! Printing the reports of a profile.
 
-ghost use Rattle.std.specs.Prelude.{◌≡◌, [], Err};
+ghost use Rattle.std.specs.Prelude.{◌≡◌, true, Err, length, map, string_bytes, is_some, IfOk, IfErr, IfSome};
+ghost use Rattle.arc_filter.specs.Cuts.{without_cuts};
 ghost use Rattle.elf32_syms.specs.Owners.{IsAscending};
+ghost use Rattle.exact_flow.specs.Answers.{IsWideAnswer};
+ghost use Rattle.exact_flow.specs.Solution.{exact_flow_in};
+ghost use Rattle.exact_flow.specs.Times.{HasTimes};
 ghost use Rattle.flat_report.specs.Reports.{Reports};
 ghost use Rattle.flat_report.specs.declared.refusal.ReportRefusal.TheVariants.{OutOfMemory};
 ghost use Rattle.flat_report.specs.FlatText.{flat_text};
 ghost use Rattle.graph_report.specs.GraphText.{graph_text};
-ghost use Rattle.rvgprof.specs.Found.{FitTogether, given_sources};
-ghost use Rattle.rvgprof.specs.Standing.{PrintsReports};
+ghost use Rattle.rvgprof.specs.Answer.{chosen_by, names_at};
+ghost use Rattle.rvgprof.specs.Found.{AreSources, FitTogether, IsAsked, given_sources};
+ghost use Rattle.rvgprof.specs.Standing.{PrintsAll, PrintsExact, PrintsReports, PrintsShown};
+ghost use Rattle.rvgprof.specs.Words.{AreCuts};
 
+use crate::names::names_at;
+use crate::outcome::Fault;
+use crate::refusals::{exact_fault, report_fault};
 use crate::sources::{Sources, sources_of};
-use crate::words::Shown;
+use crate::words::{Selection, Shown};
+use arc_filter::cut;
 use elf32_syms::Image;
+use exact_flow::{ExactFlow, ExactRefusal, exact};
 use flat_report::ReportRefusal;
 use gmon_data::Profile;
+use graph_report::write_exact;
 use host_port::{Host, out_all_of};
-use std::alloc::Global;
+use std::alloc::{AllocError, Global};
 
 /// Prints the reports that are asked for, of a profile and by the symbols of a program.
 pub fn print_reports<H: Host>(
     alloc: Global,
-    shown: Shown,
+    words: &[String],
+    selection: &Selection,
     image: &Image,
     total: &Profile,
     host: &mut H,
-) -> Result<(), ReportRefusal>
-    requires { IsAscending image.now.symbols }
-    ensures { PrintsReports shown image.now total.now (H.outside host.old) (H.outside host.new) result }
+) -> Result<(), Fault>
+    requires ascending { IsAscending image.now.symbols }
+    requires cuts { AreCuts (map string_bytes words.now) selection.now }
+    ensures { PrintsReports (chosen_by (map string_bytes words.now) selection.now) image.now total.now (H.outside host.old) (H.outside host.new) result }
 {
-    let sources = sources_of(alloc, image, total)?;
+    let Ok(hidden) = names_at(alloc, words, selection.hidden.as_slice()) else {
+        return Err(Fault::OutOfMemory);
+    };
+    let Ok(sources) = chosen_sources(alloc, words, selection, image, total) else {
+        return Err(Fault::OutOfMemory);
+    };
+    let exact = match exact_asked(alloc, selection.exact, &sources) {
+        Ok(exact) => exact,
+        Err(refusal) => return Err(exact_fault(refusal)),
+    };
+    match print_all(alloc, selection.shown, image, &sources, &hidden, &exact, host) {
+        Ok(()) => Ok(()),
+        Err(refusal) => Err(report_fault(refusal)),
+    }
+}
+
+/// What the reports of a profile are made from, without the calls that are cut.
+fn chosen_sources(
+    alloc: Global,
+    words: &[String],
+    selection: &Selection,
+    image: &Image,
+    total: &Profile,
+) -> Result<Sources, AllocError>
+    requires ascending { IsAscending image.now.symbols }
+    requires cuts { AreCuts (map string_bytes words.now) selection.now }
+    ensures { IfOk result (λ s. AreSources image.now (without_cuts total.now image.now.symbols (names_at (map string_bytes words.now) selection.now.cuts)) s) }
+{
+    let cuts = names_at(alloc, words, selection.cuts.as_slice())?;
+    let left = cut(alloc, total, image.symbols.as_slice(), &cuts)?;
+    sources_of(alloc, image, &left)
+}
+
+/// The times with nothing rounded, where they are asked for.
+fn exact_asked(
+    alloc: Global,
+    asked: bool,
+    sources: &Sources,
+) -> Result<Option<ExactFlow>, ExactRefusal>
+    requires { length sources.now.shares.of ≡ sources.now.graph.functions }
+    ensures found { IfOk result (IsAsked asked sources.now) }
+    ensures refused { IfErr result (λ refusal. (asked ≡ true) × IsWideAnswer sources.now.graph sources.now.shares.of refusal) }
+{
+    if !asked {
+        return Ok(None);
+    }
+    match exact(alloc, &sources.graph, &sources.shares) {
+        Ok(exact) => Ok(Some(exact)),
+        Err(refusal) => Err(refusal),
+    }
+}
+
+/// Prints the reports that are asked for, and then the times with nothing rounded, if they are given.
+fn print_all<H: Host>(
+    alloc: Global,
+    shown: Shown,
+    image: &Image,
+    sources: &Sources,
+    hidden: &[String],
+    exact: &Option<ExactFlow>,
+    host: &mut H,
+) -> Result<(), ReportRefusal>
+    requires fit { FitTogether image.now sources.now }
+    requires exact { IfSome exact.now (λ e. e ≡ exact_flow_in sources.now.graph sources.now.shares.of) }
+    requires times { IfSome exact.now (HasTimes sources.now.graph) }
+    ensures { PrintsAll shown (map string_bytes hidden.now) (is_some exact.now) (given_sources image.now sources.now) (H.outside host.old) (H.outside host.new) result }
+{
+    print_shown(alloc, shown, image, sources, hidden, host)?;
+    match exact {
+        None => Ok(()),
+        Some(exact) => print_exact(image, sources, exact, host),
+    }
+}
+
+/// Prints the reports that are asked for.
+fn print_shown<H: Host>(
+    alloc: Global,
+    shown: Shown,
+    image: &Image,
+    sources: &Sources,
+    hidden: &[String],
+    host: &mut H,
+) -> Result<(), ReportRefusal>
+    requires { FitTogether image.now sources.now }
+    ensures { PrintsShown shown (map string_bytes hidden.now) (given_sources image.now sources.now) (H.outside host.old) (H.outside host.new) result }
+{
     match shown {
-        Shown::Flat => print_flat(alloc, image, &sources, host),
-        Shown::Graph => print_graph(alloc, image, &sources, host),
+        Shown::Flat => print_flat(alloc, image, sources, hidden, host),
+        Shown::Graph => print_graph(alloc, image, sources, hidden, host),
         Shown::Both => {
-            print_flat(alloc, image, &sources, host)?;
+            print_flat(alloc, image, sources, hidden, host)?;
             print_text(b"\n", host)?;
-            print_graph(alloc, image, &sources, host)
+            print_graph(alloc, image, sources, hidden, host)
         }
     }
+}
+
+/// Prints the times with nothing rounded, behind an empty line.
+fn print_exact<H: Host>(
+    image: &Image,
+    sources: &Sources,
+    exact: &ExactFlow,
+    host: &mut H,
+) -> Result<(), ReportRefusal>
+    requires fit { FitTogether image.now sources.now }
+    requires exact { exact.now ≡ exact_flow_in sources.now.graph sources.now.shares.of }
+    requires times { HasTimes sources.now.graph exact.now }
+    ensures { PrintsExact (given_sources image.now sources.now) (H.outside host.old) (H.outside host.new) result }
+{
+    print_text(b"\n", host)?;
+    write_exact(
+        image.symbols.as_slice(),
+        &sources.graph,
+        exact,
+        sources.shares.attributed(),
+        host,
+    )?;
+    Ok(())
 }
 
 /// Prints the flat profile.
@@ -45,10 +167,11 @@ fn print_flat<H: Host>(
     alloc: Global,
     image: &Image,
     sources: &Sources,
+    hidden: &[String],
     host: &mut H,
 ) -> Result<(), ReportRefusal>
     requires { FitTogether image.now sources.now }
-    ensures printed { Reports (flat_text (given_sources image.now sources.now) []) (H.outside host.old) (H.outside host.new) result }
+    ensures printed { Reports (flat_text (given_sources image.now sources.now) (map string_bytes hidden.now)) (H.outside host.old) (H.outside host.new) result }
     ensures idle { result ≡ Err OutOfMemory → host.new ≡ host.old }
 {
     flat_report::write(
@@ -58,7 +181,7 @@ fn print_flat<H: Host>(
         &sources.flow,
         &sources.shares,
         sources.rate,
-        &[],
+        hidden,
         host,
     )
 }
@@ -68,10 +191,11 @@ fn print_graph<H: Host>(
     alloc: Global,
     image: &Image,
     sources: &Sources,
+    hidden: &[String],
     host: &mut H,
 ) -> Result<(), ReportRefusal>
     requires { FitTogether image.now sources.now }
-    ensures printed { Reports (graph_text (given_sources image.now sources.now) []) (H.outside host.old) (H.outside host.new) result }
+    ensures printed { Reports (graph_text (given_sources image.now sources.now) (map string_bytes hidden.now)) (H.outside host.old) (H.outside host.new) result }
     ensures idle { result ≡ Err OutOfMemory → host.new ≡ host.old }
 {
     graph_report::write(
@@ -81,7 +205,7 @@ fn print_graph<H: Host>(
         &sources.flow,
         &sources.shares,
         sources.rate,
-        &[],
+        hidden,
         host,
     )
 }

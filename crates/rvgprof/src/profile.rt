@@ -3,16 +3,16 @@
 ghost use Rattle.std.specs.Prelude.{◌≡◌, [], map, string_bytes, IfOk};
 ghost use Rattle.elf32_syms.specs.Owners.{IsAscending};
 ghost use Rattle.prof_machine.specs.Setup.{IsSetup};
-ghost use Rattle.rvgprof.specs.Answer.{files_named, profile_course};
+ghost use Rattle.rvgprof.specs.Answer.{chosen_by, files_named, profile_course};
 ghost use Rattle.rvgprof.specs.Contract.{Acted};
 ghost use Rattle.rvgprof.specs.Standing.{Stands};
+ghost use Rattle.rvgprof.specs.Words.{AreCuts};
 
 use crate::inputs::read_program;
 use crate::outcome::{Done, Fault};
 use crate::printing::print_reports;
-use crate::refusals::report_fault;
 use crate::runs::{RunOutputs, run_program};
-use crate::words::Shown;
+use crate::words::Selection;
 use gmon_bsd::run_profile;
 use host_port::Host;
 use prof_machine::Setup;
@@ -25,12 +25,13 @@ pub fn profile<H: Host>(
     elf: u32,
     outputs: RunOutputs,
     setup: Setup,
-    shown: Shown,
+    selection: &Selection,
     host: &mut H,
 ) -> Result<Done, Fault>
     requires stands { Stands (map string_bytes words.now) (H.outside host.old) (H.outside host.old) 0 []
-        (profile_course elf (files_named (map string_bytes words.now) outputs.gmon outputs.form outputs.image) setup shown) }
+        (profile_course elf (files_named (map string_bytes words.now) outputs.gmon outputs.form outputs.image) setup (chosen_by (map string_bytes words.now) selection.now)) }
     requires within { IsSetup setup }
+    requires cuts { AreCuts (map string_bytes words.now) selection.now }
     ensures { Acted (map string_bytes words.now) (H.outside host.old) (H.outside host.new) result }
 {
     let (bytes, image) = match read_program(alloc, words, elf, host) {
@@ -44,10 +45,10 @@ pub fn profile<H: Host>(
     let Ok(total) = run_profile(alloc, run.gmon(), setup.rate) else {
         return Err(Fault::OutOfMemory);
     };
-    match print_reports(alloc, shown, &image, &total, host) {
+    match print_reports(alloc, words, selection, &image, &total, host) {
         Ok(()) => Ok(Done {
             run: Some(run.summary()),
         }),
-        Err(refusal) => Err(report_fault(refusal)),
+        Err(fault) => Err(fault),
     }
 }

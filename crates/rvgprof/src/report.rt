@@ -1,16 +1,15 @@
 //! The command `report`.
 
 ghost use Rattle.std.specs.Prelude.{[], ◌∷◌, map, string_bytes};
-ghost use Rattle.rvgprof.specs.Answer.{report_course};
+ghost use Rattle.rvgprof.specs.Answer.{chosen_by, report_course};
 ghost use Rattle.rvgprof.specs.Contract.{Acted};
 ghost use Rattle.rvgprof.specs.Standing.{Stands};
-ghost use Rattle.rvgprof.specs.Words.{AreRising};
+ghost use Rattle.rvgprof.specs.Words.{AreCuts, AreRising};
 
 use crate::inputs::{read_profiles, read_program};
 use crate::outcome::{Done, Fault};
 use crate::printing::print_reports;
-use crate::refusals::report_fault;
-use crate::words::Shown;
+use crate::words::Selection;
 use host_port::Host;
 use std::alloc::Global;
 
@@ -20,11 +19,13 @@ pub fn report<H: Host>(
     words: &[String],
     elf: u32,
     gmons: &[u32],
-    shown: Shown,
+    selection: &Selection,
     host: &mut H,
 ) -> Result<Done, Fault>
-    requires stands { Stands (map string_bytes words.now) (H.outside host.old) (H.outside host.old) 0 [] (report_course elf gmons.now shown) }
+    requires stands { Stands (map string_bytes words.now) (H.outside host.old) (H.outside host.old) 0 [] 
+        (report_course elf gmons.now (chosen_by (map string_bytes words.now) selection.now)) }
     requires rising { AreRising (elf ∷ gmons.now) }
+    requires cuts { AreCuts (map string_bytes words.now) selection.now }
     ensures { Acted (map string_bytes words.now) (H.outside host.old) (H.outside host.new) result }
 {
     let (_, image) = match read_program(alloc, words, elf, host) {
@@ -35,8 +36,8 @@ pub fn report<H: Host>(
         Ok(total) => total,
         Err(fault) => return Err(fault),
     };
-    match print_reports(alloc, shown, &image, &total, host) {
+    match print_reports(alloc, words, selection, &image, &total, host) {
         Ok(()) => Ok(Done { run: None }),
-        Err(refusal) => Err(report_fault(refusal)),
+        Err(fault) => Err(fault),
     }
 }

@@ -11,7 +11,7 @@ ghost use Rattle.prof_machine.specs.Plan.{driven};
 ghost use Rattle.prof_machine.specs.Setup.{IsSetup};
 ghost use Rattle.prof_machine.specs.Value.{IsLive, StandsFor};
 ghost use Rattle.prof_machine.specs.World.{World};
-ghost use Rattle.rvgprof.specs.Answer.{file_acts, files_named, given_file_acts, run_acts, runtime_text};
+ghost use Rattle.rvgprof.specs.Answer.{file_acts, files_named, given_file_acts, held_text, run_acts, runtime_text};
 ghost use Rattle.rvgprof.specs.Items.{name_of};
 ghost use Rattle.rvgprof.specs.Standing.{IsRunOf, RunsProgram};
 ghost use Rattle.std.specs.Option.{option_map};
@@ -49,7 +49,7 @@ pub fn run_program<H: Host>(
     requires setup { IsSetup setup }
     requires idle { (H.outside host.old).is_writing ≡ false }
     ensures runs { RunsProgram (map string_bytes words.now)
-        (run_acts (files_named (map string_bytes words.now) outputs.gmon outputs.form outputs.image) setup.rate) setup image.now bytes.now
+        (run_acts (files_named (map string_bytes words.now) outputs.gmon outputs.form outputs.image) setup) setup image.now bytes.now
         (H.outside host.old) (H.outside host.new) result }
     ensures ended { IfOk result (IsRunOf image.now bytes.now setup) }
 {
@@ -57,7 +57,7 @@ pub fn run_program<H: Host>(
         Ok(run) => run,
         Err(refusal) => return Err(start_fault(refusal)),
     };
-    match perform(&mut run, words, outputs, setup.rate, host) {
+    match perform(&mut run, words, outputs, setup, host) {
         Ok(()) => Ok(run),
         Err(_) => Err(Fault::WriteFault),
     }
@@ -93,47 +93,64 @@ fn perform<H: Host>(
     run: &mut Run,
     words: &[String],
     outputs: RunOutputs,
-    rate: u32,
+    setup: Setup,
     host: &mut H,
 ) -> Result<(), Failed>
     requires live { IsLive run.old }
+    requires setup { run.old.machine.setup ≡ setup }
     requires idle { (H.outside host.old).is_writing ≡ false }
     ensures performs { (w : World) → StandsFor w run.old → w.prints ≡ []
-        → Performs (run_acts (files_named (map string_bytes words.now) outputs.gmon outputs.form outputs.image) rate run.old.machine.sizes (driven run.old.machine w)) (H.outside host.old) (H.outside host.new) result }
+        → Performs (run_acts (files_named (map string_bytes words.now) outputs.gmon outputs.form outputs.image) setup run.old.machine.sizes (driven run.old.machine w)) (H.outside host.old) (H.outside host.new) result }
     ensures stands { OnOk result ((w : World) → StandsFor w run.old → StandsFor (driven run.old.machine w) run.new) }
     ensures machine { OnOk result (run.new.machine ≡ run.old.machine) }
     ensures ended { OnOk result (IsSome run.new.ending) }
 {
     run.drive(host)?;
     let name = name_at(words, outputs.gmon);
-    write_profile(run.gmon(), outputs.form, name, rate, host)?;
+    write_profile(run, outputs.form, name, setup.rate, host)?;
     match outputs.image {
         Some(image) => write_image(run.gmon(), name_at(words, image), host),
         None => Ok(()),
     }
 }
 
-/// Writes the profile of a runtime in a form to the named file.
+/// Writes the profile of a run in a form to the named file.
 fn write_profile<H: Host>(
-    gmon: &Gmon,
+    run: &Run,
     form: Form,
     name: &str,
     rate: u32,
     host: &mut H,
 ) -> Result<(), Failed>
     requires { (H.outside host.old).is_writing ≡ false }
-    ensures performs { Performs (file_acts name.now (runtime_text form gmon.now rate)) (H.outside host.old) (H.outside host.new) result }
+    ensures performs { Performs (file_acts name.now (held_text form rate run.now)) (H.outside host.old) (H.outside host.new) result }
     ensures idle { OnOk result ((H.outside host.new).is_writing ≡ false) }
 {
     host.create_output(name)?;
-    write_run(gmon, form, rate, host)?;
+    write_run(run, form, rate, host)?;
     host.close_output()
 }
 
-/// Writes the profile of a runtime in a form to the file that is being written.
-fn write_run<H: Host>(gmon: &Gmon, form: Form, rate: u32, host: &mut H) -> Result<(), Failed>
+/// Writes the profile of a run in a form to the file that is being written: what its runtime holds, and
+/// how often instructions were executed, where that was counted.
+fn write_run<H: Host>(run: &Run, form: Form, rate: u32, host: &mut H) -> Result<(), Failed>
     requires { (H.outside host.old).is_writing ≡ true }
-    ensures { Puts File (runtime_text form gmon.now rate) (H.outside host.old) (H.outside host.new) result }
+    ensures { Puts File (held_text form rate run.now) (H.outside host.old) (H.outside host.new) result }
+{
+    write_runtime(run.gmon(), form, rate, host)?;
+    gmon_gnu::write_blocks(run.gmon().sizes().low, run.exec_counts(), host)
+}
+
+/// Writes the profile of a runtime in a form to the file that is being written.
+fn write_runtime<H: Host>(
+    gmon: &Gmon,
+    form: Form,
+    rate: u32,
+    host: &mut H,
+) -> Result<(), Failed>
+    requires { (H.outside host.old).is_writing ≡ true }
+    ensures puts { Puts File (runtime_text form gmon.now rate) (H.outside host.old) (H.outside host.new) result }
+    ensures ready { OnOk result ((H.outside host.new).is_writing ≡ true) }
 {
     match form {
         Form::Bsd => gmon_bsd::write_run(gmon, rate, host),

@@ -1,4 +1,4 @@
-use Rattle.std.proofs.Common.{◌∙◌, map, string_bytes}
+use Rattle.std.proofs.Common.{◌≡◌, ◌∙◌, map, string_bytes, sym, subst, Option, Some, ap, ℕ}
 use Rattle.rvgprof.specs.Items.{items_from}
 use Rattle.rvgprof.proofs.WordLemmas.{functions_by_items}
 use Rattle.rvgprof.proofs.words.read_functions.Goals as goal
@@ -6,4 +6,5 @@ use Rattle.rvgprof.proofs.words.read_functions.Goals as goal
 pub returns-clause-reading : goal.returns-clause-reading
 returns-clause-reading c =
     let words = map string_bytes c.args.words.now in
-    rw c.operand_at.ensures at c.functions_from.ensures.reading ∙ functions_by_items words (items_from c.args.takes 0 words)
+    rw (c.operands.ensures.reading) at c.functions_from.ensures.reading
+    ∙ functions_by_items words (items_from c.args.takes 0 words)

@@ -1,10 +1,19 @@
-use Rattle.std.proofs.Common.{◌∙◌, map, string_bytes}
+use Rattle.std.proofs.Common.{◌≡◌, ◌∙◌, map, string_bytes, sym, subst, Option, Some, ap, ℕ}
 use Rattle.rvgprof.specs.Items.{items_from}
 use Rattle.rvgprof.proofs.WordLemmas.{run_by_items}
+use Rattle.std.specs.Prelude.{IfSome}
+use Rattle.rvgprof.specs.declared.words.Command.{Command}
+use Rattle.rvgprof.specs.Words.{IsCommandOf}
+use Rattle.rvgprof.proofs.PlaceLemmas.{run_holds}
 use Rattle.rvgprof.proofs.words.read_run.Goals as goal
 
 pub returns-clause-reading : goal.returns-clause-reading
 returns-clause-reading c =
     let words = map string_bytes c.args.words.now in
-    rw (c.operand_at.ensures, c.operand_at-2.ensures, c.operand_at-3.ensures, c.place_given.ensures, c.place_given-2.ensures, c.read_setup.ensures.reading) at c.run_from.ensures.reading
+    rw (c.operands.ensures.reading, c.is_given.ensures, c.place_given.ensures, c.read_setup.ensures.reading) at c.run_from.ensures
     ∙ run_by_items words (items_from c.args.takes 0 words)
+
+pub returns-clause-within : goal.returns-clause-within
+returns-clause-within c =
+    let words = map string_bytes c.args.words.now in
+    subst (λ (o : Option Command). IfSome o (IsCommandOf words)) (sym c.run_from.ensures) (run_holds words c.operands.result c.is_given.result c.place_given.result c.read_setup.result c.read_setup.ensures.within)

@@ -1,0 +1,69 @@
+//! The command `folded`.
+
+ghost use Rattle.std.specs.Prelude.{◌≡◌, [], length, map, string_bytes, IfOk, IsSome};
+ghost use Rattle.elf32_syms.specs.Image.{IsWithinLimits};
+ghost use Rattle.prof_machine.specs.Setup.{IsSetup};
+ghost use Rattle.rvgprof.specs.Answer.{folded_course};
+ghost use Rattle.rvgprof.specs.Contract.{Acted};
+ghost use Rattle.rvgprof.specs.Standing.{FoldsProgram, IsRunOf, Stands};
+
+use crate::inputs::read_program;
+use crate::outcome::{Done, Fault};
+use crate::refusals::{fold_fault, start_fault};
+use elf32_syms::Image;
+use folded::{Folded, fold};
+use host_port::Host;
+use prof_machine::{Run, Setup};
+use std::alloc::Global;
+
+/// Runs a program, and prints the stacks that it was sampled in, or with `inclusive` its functions.
+pub fn print_stacks<H: Host>(
+    alloc: Global,
+    words: &[String],
+    elf: u32,
+    inclusive: bool,
+    setup: Setup,
+    host: &mut H,
+) -> Result<Done, Fault>
+    requires stands { Stands (map string_bytes words.now) (H.outside host.old) (H.outside host.old) 0 [] (folded_course elf inclusive setup) }
+    requires within { IsSetup setup }
+    ensures { Acted (map string_bytes words.now) (H.outside host.old) (H.outside host.new) result }
+{
+    let (bytes, image) = match read_program(alloc, words, elf, host) {
+        Ok(read) => read,
+        Err(fault) => return Err(fault),
+    };
+    let (run, folded) = match fold_program(alloc, &image, bytes.as_slice(), setup, host) {
+        Ok(done) => done,
+        Err(fault) => return Err(fault),
+    };
+    match folded::write(&folded, image.symbols.as_slice(), inclusive, host) {
+        Ok(()) => Ok(Done {
+            run: Some(run.summary()),
+        }),
+        Err(_) => Err(Fault::WriteFault),
+    }
+}
+
+/// Runs a program to its end, and folds the stacks of its samples.
+fn fold_program<H: Host>(
+    alloc: Global,
+    image: &Image,
+    bytes: &[u8],
+    setup: Setup,
+    host: &mut H,
+) -> Result<(Run, Folded), Fault>
+    requires limits { IsWithinLimits (length bytes.now) image.now }
+    requires setup { IsSetup setup }
+    ensures folds { FoldsProgram image.now bytes.now setup (H.outside host.old) (H.outside host.new) result }
+    ensures ended { IfOk result (λ done. IsRunOf image.now bytes.now setup done.0) }
+{
+    let mut run = match Run::start(alloc, image, bytes, setup) {
+        Ok(run) => run,
+        Err(refusal) => return Err(start_fault(refusal)),
+    };
+    match fold(alloc, &mut run, image, &setup, host) {
+        Ok(folded) => Ok((run, folded)),
+        Err(refusal) => Err(fold_fault(refusal)),
+    }
+}
