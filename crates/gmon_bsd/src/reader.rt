@@ -100,7 +100,7 @@ impl Reader {
             },
             counters: Counts::from(counters.cells),
         }));
-        push_arcs(&mut recs, arcs.cells.as_slice());
+        push_arcs(&mut recs, arcs.cells.as_slice())?;
         Ok(Records {
             form: Form::Bsd,
             recs: RecList::from(recs),

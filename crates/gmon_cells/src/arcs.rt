@@ -1,18 +1,18 @@
 //! Arcs as records.
 
-ghost use Rattle.std.specs.Prelude.{◌≡◌, ◌+◌, ◌≤◌, ◌++◌, length, map, vec_len, vec_capacity};
+ghost use Rattle.std.specs.Prelude.{◌≡◌, ◌++◌, map, OnOk};
 ghost use Rattle.gp_base.specs.declared.records.Rec.TheVariants.{Arc};
 
 use gp_base::{RawArc, Rec};
+use std::alloc::AllocError;
 
-/// Adds the arcs as records. There needs to be room for them.
-pub fn push_arcs(recs: &mut Vec<Rec>, arcs: &[RawArc])
-    requires { vec_len recs.old + length arcs.now ≤ vec_capacity recs.old }
-    ensures recs { recs.new.items ≡ recs.old.items ++ map Arc arcs.now }
-    ensures len { vec_len recs.new ≡ vec_len recs.old + length arcs.now }
-    ensures capacity { vec_capacity recs.new ≡ vec_capacity recs.old }
+/// Adds the arcs as records. Room for them is taken first.
+pub fn push_arcs(recs: &mut Vec<Rec>, arcs: &[RawArc]) -> Result<(), AllocError>
+    ensures { OnOk result (recs.new.items ≡ recs.old.items ++ map Arc arcs.now) }
 {
+    recs.reserve(arcs.len())?;
     for arc in arcs {
         recs.push_reserved(Rec::Arc(*arc));
     }
+    Ok(())
 }

@@ -42,6 +42,11 @@ returns-in_err-recs-clause-refused c = λ bytes stands.
     let s : StandsFor bytes (view_of c.self.inside) = subst (λ (k : Kept). StandsFor bytes k) (sym c.self.view_is) stands in
     nothing_refused (bsd_refusal bytes) c.from_residual-in_err-recs.result (sym (given bytes c.as_slice.result.now (view_of c.self.inside) s c.as_slice.ensures) ∙ c.in_ok-header.ensures.accepted)
 
+pub returns-in_err-push_arcs-clause-refused : goal.returns-in_err-push_arcs-clause-refused
+returns-in_err-push_arcs-clause-refused c = λ bytes stands.
+    let s : StandsFor bytes (view_of c.self.inside) = subst (λ (k : Kept). StandsFor bytes k) (sym c.self.view_is) stands in
+    nothing_refused (bsd_refusal bytes) c.from_residual-in_err-push_arcs.result (sym (given bytes c.as_slice.result.now (view_of c.self.inside) s c.as_slice.ensures) ∙ c.in_ok-header.ensures.accepted)
+
 pub returns-clause-refused : goal.returns-clause-refused
 returns-clause-refused c = λ bytes stands. nothing_refused (bsd_refusal bytes) _ (returns-clause-accepted c bytes stands)
 
@@ -54,7 +59,7 @@ returns-clause-records c = λ bytes stands.
     let header = c.as_slice.ensures in
     let accepted = sym (given bytes c.as_slice.result.now kept s header) ∙ c.in_ok-header.ensures.accepted in
     let one = c.push_reserved.ensures.items ∙ ap (λ (v : List ℕ). c.in_ok-recs.recs.items ++ hist h.low h.high h.rate v ∷ []) c.from.ensures in
-    let both = c.push_arcs.ensures.recs ∙ ap (λ (v : List RawArc). c.push_reserved.new.self.items ++ map Arc v) c.as_slice-2.ensures.value in
+    let both = c.in_ok-push_arcs.ensures ∙ ap (λ (v : List RawArc). c.push_reserved.new.self.items ++ map Arc v) c.as_slice-2.ensures.value in
     whole_file bytes kept s accepted h.low h.high h.rate c.in_ok-recs.recs.items c.push_reserved.new.self.items c.from-2.result
     (ap (λ (x : Header). x.low) words ∙ ap low_of header) (ap (λ (x : Header). x.high) words ∙ ap high_of header) (ap (λ (x : Header). x.rate) words ∙ ap rate_of header)
     c.in_ok-recs.ensures.items one (c.from-2.ensures ∙ both)
