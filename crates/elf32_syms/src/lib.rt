@@ -4,7 +4,6 @@
 //! Which of its symbols are kept, and how far each of them reaches, is this project's own choice.
 #![tactic(auto)]
 
-mod fields;
 mod header;
 pub mod image;
 mod kept;
@@ -17,7 +16,7 @@ mod segments;
 mod symbols;
 
 pub use image::{Image, Segment, SegmentList, Symbol, SymbolList, read};
-pub use owners::owner;
+pub use owners::{owner, symbol_count};
 pub use refusal::ElfRefusal;
 
 #[cfg(test)]

@@ -28,3 +28,16 @@ pub fn owner(symbols: &[Symbol], pc: u32) -> Option<u32>
     }
     Some(index as u32)
 }
+
+/// How many symbols there are. Each has an address of its own, so that their number has 32 bits. The
+/// symbols are in order, as those of an image are. Takes no memory.
+pub fn symbol_count(symbols: &[Symbol]) -> u32
+    requires { IsAscending symbols.now }
+    ensures { result ≡ length symbols.now }
+{
+    if symbols.is_empty() {
+        return 0;
+    }
+    let _last_end = symbols[symbols.len() - 1].end;
+    symbols.len() as u32
+}

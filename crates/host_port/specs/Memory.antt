@@ -1,5 +1,5 @@
 -- A host that holds files and outputs in memory.
-use Rattle.std.specs.Prelude.{◌≡◌, ℕ, ◌-◌, ◌^◌, Bool, true, false, List, [], Option, Some, None, Result, is_ok, is_some, Contains, string_bytes, ◌&&◌, refl, if◌then◌else◌}
+use Rattle.std.specs.Prelude.{◌≡◌, ◌↔◌, ℕ, ◌-◌, ◌^◌, Bool, true, false, List, [], Option, Some, None, Result, is_ok, is_some, Contains, string_bytes, ◌&&◌, refl, if◌then◌else◌}
 use Rattle.host_port.specs.declared.mem_host.HostCall.{HostCall}
 use Rattle.host_port.specs.declared.mem_host.Stage.{Stage}
 use Rattle.host_port.specs.declared.mem_host.Stage.TheVariants.{Idle, Reading, Writing}
@@ -90,6 +90,10 @@ IsMarked m = Contains m.marks m.calls
 abbrev pub first_failure : Option HostCall → HostCall → Option HostCall
 first_failure None call = Some call
 first_failure (Some first) call = Some first
+
+-- none is the first exactly where none failed
+abbrev pub IsFirstOf : Option HostCall → ℕ → Type 0
+IsFirstOf first faults = (first ≡ None) ↔ (faults ≡ 0)
 
 -- one call was counted, and no mark changed; a call that failed is the first unless another was
 pub record Called {T E : Type 0} (call : HostCall) (old new : Memory) (result : Result T E) : Type 0 where

@@ -4,7 +4,7 @@ ghost use Rattle.std.specs.Prelude.{◌≡◌, ◌+◌, ◌-◌, ◌^◌, ◌<�
 ghost use Rattle.host_port.specs.Act.{Write, Out, Err as Complain, content_of, has_file, with_file, written, next_count};
 ghost use Rattle.host_port.specs.Outside.{Rose};
 ghost use Rattle.host_port.specs.Host.{Came, Opens, Moves, Creates, Takes, Closes, Reads, Writes, Complains};
-ghost use Rattle.host_port.specs.Memory.{empty_memory, first_failure, outside_of, is_consistent, IsMarked, Called, Tallies};
+ghost use Rattle.host_port.specs.Memory.{empty_memory, first_failure, outside_of, is_consistent, IsFirstOf, IsMarked, Called, Tallies};
 
 use crate::files;
 use crate::files::{Entry, Place};
@@ -14,7 +14,7 @@ use std::marker::Model;
 
 /// What a host does with files at the moment.
 #[derive(Drop)]
-pub enum Stage {
+pub(crate) enum Stage {
     Idle,
     Reading(Place),
     Writing(String),
@@ -81,9 +81,10 @@ impl Model for MemHost {
       last_failed = a.last_failed;
     } };
 
-    ghost use Rattle.std.specs.Prelude.{◌≤◌};
+    ghost use Rattle.std.specs.Prelude.{◌≤◌, ◌+◌};
+    ghost use Rattle.host_port.specs.Memory.{IsFirstOf};
 
-    ghost invariant = { λ a. 1 ≤ a.step };
+    ghost invariant = { λ a. (1 ≤ a.step) × IsFirstOf a.first_failed (a.read_faults + a.write_faults + a.err_faults) };
 }
 
 fn is_marked(marks: &[u64], call: u64) -> bool
@@ -150,7 +151,8 @@ impl MemHost {
 
     /// The kind of the first call of the trait that failed, `None` exactly where none did.
     pub fn first_failed(&self) -> Option<HostCall>
-        ensures { result ≡ self.now.first_failed }
+        ensures first { result ≡ self.now.first_failed }
+        ensures some { IsFirstOf result (self.now.read_faults + self.now.write_faults + self.now.err_faults) }
     {
         self.first_failed
     }

@@ -1,6 +1,6 @@
 //! A host that never fails.
 
-ghost use Rattle.std.specs.Prelude.{◌≡◌, ◌<◌, [], true, false, length, None, IsOk, OnOk, OnErr};
+ghost use Rattle.std.specs.Prelude.{◌≡◌, ◌<◌, [], true, false, length, min, unwrap_or, None, IsOk, IfOk, OnOk, OnErr};
 ghost use Rattle.host_port.specs.Act.{Write, Out, Err as Complain, with_file};
 ghost use Rattle.host_port.specs.Host.{Opens, Moves, Creates, Takes, Closes, Reads, Writes, Complains};
 ghost use Rattle.host_port.specs.Never.{outside_of, is_consistent};
@@ -94,6 +94,7 @@ impl Host for NeverFails {
         ensures moves { Moves buf.old buf.new (outside_of self.old) (outside_of self.new) result }
         ensures counts { Reads (outside_of self.old) (outside_of self.new) result }
         ensures succeeds { IsOk result }
+        ensures whole { IfOk result (λ n. n ≡ min (length buf.old) (length (unwrap_or self.old.rest []))) }
         ensures tells { self.new.tells ≡ self.old.tells }
         ensures files { self.new.files ≡ self.old.files }
     {

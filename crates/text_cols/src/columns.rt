@@ -151,7 +151,8 @@ fn hex_digits(n: u32) -> [u8; 8]
     ]
 }
 
-fn hex_digit(digit: u32) -> u8
+/// The character of a hexadecimal digit, in lower case.
+pub fn hex_digit(digit: u32) -> u8
     requires { digit < 16 }
     ensures { result ≡ hex_digit_of digit }
 {

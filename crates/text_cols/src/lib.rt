@@ -3,7 +3,7 @@
 
 pub mod columns;
 
-pub use columns::Line;
+pub use columns::{Line, hex_digit};
 
 #[cfg(test)]
 mod tests;

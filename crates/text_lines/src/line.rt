@@ -7,7 +7,7 @@ ghost use Rattle.text_lines.specs.Lines.{hist_line, hist_fields, byte_digits, un
 
 use elf32_syms::{Image, Symbol};
 use gp_base::{BlockList, Form, RawArc, RawBlock, RawHist, Unit};
-use text_cols::Line;
+use text_cols::{Line, hex_digit};
 
 /// The line that a histogram of a form begins with.
 #[tactic(auto, using(text_cols::proofs::Lengths::lengths), unfolding(crate::specs::Lines::hist_line))]
@@ -66,18 +66,8 @@ fn put_hex(line: &mut Line, bytes: &[u8])
     ensures short { length line.new ≡ length line.old + 2 * length bytes.now }
 {
     for byte in bytes {
-        line.put(&[hex_digit(*byte / 16), hex_digit(*byte % 16)]);
-    }
-}
-
-fn hex_digit(digit: u8) -> u8
-    requires { digit < 16 }
-    ensures { result ≡ hex_digit_of digit }
-{
-    if digit < 10 {
-        b'0' + digit
-    } else {
-        b'a' + (digit - 10)
+        let byte = u32::from(*byte);
+        line.put(&[hex_digit(byte / 16), hex_digit(byte % 16)]);
     }
 }
 
