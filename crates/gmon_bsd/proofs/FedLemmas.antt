@@ -2,16 +2,9 @@
 use Rattle.std.proofs.Common.{◌≡◌, ℕ, zero, suc, ◌-◌, ◌≤◌, Bool, true, false, cond, List, [], ◌∷◌, ◌++◌, length, take, drop, length-take, length-drop, refl, sym, ap, subst, ◌∙◌, inl, inr, arith}
 use Rattle.std.proofs.lemmas.Bool.{cases_lt}
 use Rattle.std.proofs.lemmas.List.{append-nil, take_all, drop_all, take-append-le, drop-append-le}
-use Rattle.gp_base.specs.Bytes.{IsBytes}
-use Rattle.gp_base.proofs.LittleEndian.{IsBytes-rest}
 use Rattle.gmon_cells.specs.Cells as columns
 use Rattle.gmon_bsd.specs.Reading.{size_of}
 use Rattle.gmon_bsd.specs.Fed.{is_kept, counter_part, arc_part}
-
-pub IsBytes-append : (bs more : List ℕ) → IsBytes bs → IsBytes more → IsBytes (bs ++ more)
-IsBytes-append [] more h m i = m i
-IsBytes-append (b ∷ bs) more h m zero = h 0
-IsBytes-append (b ∷ bs) more h m (suc i) = IsBytes-append bs more (IsBytes-rest b bs h) m i
 
 -- ---- a front and a rest of two lists, one after the other
 

@@ -1,36 +1,16 @@
 -- A text of the form has one meaning.
-use Rattle.std.proofs.Common.{◌≡◌, ℕ, ◌+◌, ◌-◌, ◌*◌, ◌^◌, ◌<◌, ◌≤◌, List, [], ◌++◌, length, take, drop, length-take, length-drop, None, refl, sym, ap, subst, ◌∙◌, arith}
+use Rattle.std.proofs.Common.{◌≡◌, ℕ, ◌+◌, ◌-◌, ◌*◌, ◌≤◌, List, ◌++◌, length, take, drop, length-take, length-drop, None, refl, sym, ap, ◌∙◌, arith}
 use Rattle.std.specs.List.{flat_map}
-use Rattle.std.proofs.lemmas.List.{take-append-drop, drop-drop, drop_all, take_all}
-use Rattle.gp_base.specs.Bytes.{value_of, le, word_at, IsBytes}
-use Rattle.gp_base.proofs.LittleEndian.{le-value_of, value_of-below, length-cut, IsBytes-drop, field_below, field_then}
+use Rattle.std.proofs.lemmas.List.{take-append-drop, drop-drop, take_all}
+use Rattle.gp_base.specs.Bytes.{value_of, le, IsBytes}
+use Rattle.gp_base.proofs.LittleEndian.{length-cut, IsBytes-drop, field_below, field_then}
 use Rattle.gp_base.proofs.Cutting.{all_cut, flat_map-cut}
-use Rattle.gmon_bsd.specs.Fields.{version, arc_bytes, arc_of, counter_bytes, ArcFits, CounterFits}
+use Rattle.gp_base.specs.Fields.{arc_bytes, arc_of, counter_bytes, ArcFits, CounterFits}
+use Rattle.gmon_bsd.specs.Fields.{version}
+use Rattle.gp_base.proofs.FieldLemmas.{counter_spelled, counter_fits, arc_spelled, arc_fits}
 use Rattle.gmon_bsd.specs.Grammar.{spelling, BsdSpells}
 use Rattle.gmon_bsd.specs.Reading.{low_of, high_of, size_of, version_of, rate_of, counter_count, arc_count, file_counters, file_arcs, bsd_refusal, bsd_records}
 use Rattle.gmon_bsd.proofs.RefusalLemmas.{Accepted, accepted_of}
-
--- ---- from the bytes to their spelling
-
-pub counter_spelled : (bs : List ℕ) → length bs ≡ 2 → IsBytes bs → counter_bytes (value_of bs) ≡ bs
-counter_spelled bs len bytes = ap (le (value_of bs)) (sym len) ∙ le-value_of bs bytes
-
-pub arc_spelled : (bs : List ℕ) → length bs ≡ 12 → IsBytes bs → arc_bytes (arc_of bs) ≡ bs
-arc_spelled bs len bytes =
-    let ended : drop 12 bs ≡ [] = drop_all 12 bs (omega arith) in
-    let count : le (word_at bs 8) 4 ≡ drop 8 bs = ap (λ (v : List ℕ). le (word_at bs 8) 4 ++ v) (sym ended) ∙ field_then 4 8 bs bytes (omega arith) in
-    let to : le (word_at bs 4) 4 ++ le (word_at bs 8) 4 ≡ drop 4 bs = ap (λ (v : List ℕ). le (word_at bs 4) 4 ++ v) count ∙ field_then 4 4 bs bytes (omega arith) in
-    ap (λ (v : List ℕ). le (word_at bs 0) 4 ++ v) to ∙ field_then 4 0 bs bytes (omega arith)
-
-pub arc_fits : (bs : List ℕ) → length bs ≡ 12 → IsBytes bs → ArcFits (arc_of bs)
-arc_fits bs len bytes = record {
-  from = field_below 4 0 bs bytes (omega arith);
-  to = field_below 4 4 bs bytes (omega arith);
-  count = field_below 4 8 bs bytes (omega arith);
-}
-
-pub counter_fits : (bs : List ℕ) → length bs ≡ 2 → IsBytes bs → CounterFits (value_of bs)
-counter_fits bs len bytes = subst (λ (m : ℕ). value_of bs < 256 ^ m) len (value_of-below bs bytes)
 
 -- the counters and the arcs are all that follows the header
 bodies : (bs : List ℕ) → IsBytes bs → Accepted bs → flat_map counter_bytes (file_counters bs) ++ flat_map arc_bytes (file_arcs bs) ≡ drop 32 bs

@@ -18,7 +18,7 @@ use Rattle.mcount_arcs.specs.Log.{LogEntry}
 use Rattle.mcount_arcs.specs.Samples.{buckets_of}
 use Rattle.mcount_arcs.specs.Sizes.{AreSizes}
 use Rattle.mcount_arcs.specs.Value.{GmonValue, StandsFor}
-use Rattle.gmon_bsd.specs.Fields.{seconds}
+use Rattle.gp_base.specs.Fields.{seconds}
 use Rattle.gmon_bsd.specs.Profile.{IsOfRun, run_profile, runtime_records, wide_arc}
 use Rattle.gmon_bsd.proofs.RunReadBack.{run_read_back}
 

@@ -10,7 +10,7 @@ use Rattle.mcount_arcs.specs.Samples.{buckets_of, bucket_of}
 use Rattle.mcount_arcs.specs.Sizes.{AreSizes, site_of}
 use Rattle.mcount_arcs.proofs.BucketLemmas.{length-buckets_of}
 use Rattle.mcount_arcs.proofs.SizeLemmas.{sites_in_order, some_text}
-use Rattle.gmon_bsd.specs.Fields.{ArcFits, CounterFits}
+use Rattle.gp_base.specs.Fields.{ArcFits, CounterFits}
 use Rattle.gmon_bsd.specs.Run.{run_text, spare_words, RunsAreSpelled, RunsAreReadBack}
 use Rattle.gmon_bsd.proofs.SpellingLemmas.{accepted_where_spelled, only_where_spelled}
 

@@ -3,7 +3,7 @@ use Rattle.std.specs.Prelude.{◌≡◌, ℕ, ◌-◌, Bool, nat_le, ◌&&◌, L
 use Rattle.gp_base.specs.declared.records.RawArc.{RawArc}
 use Rattle.gp_base.specs.Bytes.{value_of, IsBytes}
 use Rattle.gmon_cells.specs.Cells as columns
-use Rattle.gmon_bsd.specs.Fields.{arc_of}
+use Rattle.gp_base.specs.Fields.{arc_of}
 use Rattle.gmon_bsd.specs.Reading.{size_of, header_refusal}
 
 -- what a reader has kept: how many bytes were fed, the header as far as it has come, the counters and arcs, and

@@ -9,7 +9,7 @@ use Rattle.gmon_data.specs.Tally.{total_of}
 use Rattle.mcount_arcs.specs.declared.sizes.Sizes.{Sizes}
 use Rattle.mcount_arcs.specs.Log.{LogEntry}
 use Rattle.mcount_arcs.specs.Value.{GmonValue}
-use Rattle.gmon_bsd.specs.Fields.{seconds}
+use Rattle.gp_base.specs.Fields.{seconds}
 use Rattle.gmon_bsd.specs.Reading.{bsd_records}
 use Rattle.gmon_bsd.specs.Run.{run_text}
 

@@ -7,7 +7,7 @@ ghost use Rattle.mcount_arcs.specs.Arcs.{CallFits};
 ghost use Rattle.mcount_arcs.specs.Log.{LogEntry};
 ghost use Rattle.mcount_arcs.specs.Sizes.{AreSizes};
 ghost use Rattle.mcount_arcs.specs.Value.{StandsFor};
-ghost use Rattle.gmon_bsd.specs.Fields.{seconds};
+ghost use Rattle.gp_base.specs.Fields.{seconds};
 ghost use Rattle.gmon_bsd.specs.Profile.{run_profile as run_content, runtime_hist, runtime_records, IsOfRun};
 
 use gmon_data::{AddRefusal, Hist, Profile};

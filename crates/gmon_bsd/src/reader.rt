@@ -1,15 +1,14 @@
 //! Reading in pieces.
 
-ghost use Rattle.std.specs.Prelude.{◌≡◌, ℕ, List, [], ◌+◌, ◌^◌, ◌<◌, ◌≤◌, ◌++◌, length, map, None, IfOk, OnOk, OnErr, IfErr};
+ghost use Rattle.std.specs.Prelude.{◌≡◌, ℕ, List, [], ◌+◌, ◌^◌, ◌<◌, ◌≤◌, ◌++◌, length, None, Err, IfOk, OnOk, OnErr, IfErr, IfSome};
 ghost use Rattle.gp_base.specs.Refusal.{IsRefusal};
-ghost use Rattle.gp_base.specs.declared.records.Rec.TheVariants.{Arc};
 ghost use Rattle.gmon_bsd.specs.Grammar.{BsdSpells};
 ghost use Rattle.gmon_bsd.specs.Reading.{bsd_refusal, bsd_records};
 ghost use Rattle.gmon_bsd.specs.Fed.{StandsFor, counter_part, arc_part};
 
-use crate::reading::{HEADER, SECONDS, header_fault, read_header, word};
-use gmon_cells::{Column, Remnant};
-use gp_base::{Counts, Form, GmonRefusal, RawArc, RawHist, Rec, RecList, Records, Unit};
+use crate::reading::{HEADER, SECONDS, header_fault, read_header};
+use gmon_cells::{Column, Remnant, push_arcs};
+use gp_base::{Counts, Form, GmonRefusal, RawArc, RawHist, Rec, RecList, Records, Unit, word};
 use std::alloc::{AllocError, Global};
 use std::marker::Model;
 
@@ -74,8 +73,9 @@ impl Reader {
     }
 
     /// What the bytes that were fed are: the records that they spell, or their first refusal, in the order
-    /// of `read`.
+    /// of `read`. A refusal takes no memory, so that want of it doesn't stand in for one.
     pub fn finish(self) -> Result<Records, GmonRefusal>
+        ensures refused { (bytes : List ℕ) → StandsFor bytes self → IfSome (bsd_refusal bytes) (λ refusal. result ≡ Err refusal) }
         ensures refusal { (bytes : List ℕ) → StandsFor bytes self → IfErr result (λ refusal. IsRefusal refusal (bsd_refusal bytes)) }
         ensures accepted { (bytes : List ℕ) → StandsFor bytes self → OnOk result (bsd_refusal bytes ≡ None) }
         ensures records { (bytes : List ℕ) → StandsFor bytes self → IfOk result (λ records. records ≡ bsd_records bytes) }
@@ -89,8 +89,8 @@ impl Reader {
             arcs,
         } = self;
         let header = read_header(header.as_slice(), len)?;
-        let mut recs = RecList::new(alloc);
-        recs.push(Rec::Hist(RawHist {
+        let mut recs = Vec::with_capacity(alloc, arcs.cells.len() + 1)?;
+        recs.push_reserved(Rec::Hist(RawHist {
             low: header.low,
             high: header.high,
             unit: Unit {
@@ -98,12 +98,12 @@ impl Reader {
                 dim: SECONDS,
                 abbrev: b's',
             },
-            counters: counts_of(alloc, counters.cells.as_slice())?,
-        }))?;
+            counters: Counts::from(counters.cells),
+        }));
         push_arcs(&mut recs, arcs.cells.as_slice())?;
         Ok(Records {
             form: Form::Bsd,
-            recs,
+            recs: RecList::from(recs),
         })
     }
 }
@@ -120,25 +120,4 @@ fn parts<'b>(header: &[u8], at: u32, body: &'b [u8]) -> (&'b [u8], &'b [u8])
     }
     let due = word(header, 8).saturating_sub(at) as usize;
     body.split_at(due.min(body.len()))
-}
-
-/// The counters as a list of its own.
-fn counts_of(alloc: Global, counters: &[u16]) -> Result<Counts, AllocError>
-    ensures { IfOk result (λ counts. counts ≡ counters.now) }
-{
-    let mut counts = Counts::new(alloc);
-    for counter in counters {
-        counts.push(*counter)?;
-    }
-    Ok(counts)
-}
-
-/// Adds the arcs as records.
-fn push_arcs(recs: &mut RecList, arcs: &[RawArc]) -> Result<(), AllocError>
-    ensures { OnOk result (recs.new ≡ recs.old ++ map Arc arcs.now) }
-{
-    for arc in arcs {
-        recs.push(Rec::Arc(*arc))?;
-    }
-    Ok(())
 }

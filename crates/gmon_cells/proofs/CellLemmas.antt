@@ -2,7 +2,8 @@
 use Rattle.std.proofs.Common.{◌≡◌, ℕ, zero, suc, ◌+◌, ◌-◌, ◌*◌, ◌/◌, ◌%◌, ◌<◌, ◌≤◌, List, [], ◌∷◌, ◌++◌, length, take, drop, length-take, length-drop, length-append, refl, sym, ap, ◌∙◌, append_assoc, arith}
 use Rattle.std.proofs.lemmas.Nat.{div-add-mod', div-mul-add, mod_below}
 use Rattle.std.proofs.lemmas.List.{take_at, drop_at, take_all, take-append-drop, drop-drop}
-use Rattle.gp_base.specs.Bytes.{cut}
+use Rattle.gp_base.specs.Bytes.{cut, IsBytes}
+use Rattle.gp_base.proofs.LittleEndian.{IsBytes-rest}
 use Rattle.gmon_cells.specs.Cells.{cells_of, torn_of, StandsFor}
 
 -- ---- how many cells there are
@@ -182,3 +183,9 @@ stands_more {X} w cell bytes piece cells cells1 torn torn1 some cells_are torn_i
       ∙ sym (cells_more w cell bytes piece some);
   rest = torn_is ∙ ap (λ (v : List ℕ). torn_of w (v ++ piece)) s.rest ∙ sym (torn_more w bytes piece some);
 }
+
+-- a text of bytes that goes on by bytes
+pub IsBytes-append : (bs more : List ℕ) → IsBytes bs → IsBytes more → IsBytes (bs ++ more)
+IsBytes-append [] more h m i = m i
+IsBytes-append (b ∷ bs) more h m zero = h 0
+IsBytes-append (b ∷ bs) more h m (suc i) = IsBytes-append bs more (IsBytes-rest b bs h) m i

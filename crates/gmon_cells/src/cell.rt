@@ -1,11 +1,10 @@
 //! Values that take a fixed number of bytes each.
 
-ghost use Rattle.std.specs.Prelude.{◌≡◌, ℕ, List, ◌<◌, ◌≤◌, ◌+◌, length};
-ghost use Rattle.gp_base.specs.Bytes.{value_of, word_at, half_at};
-ghost use Rattle.gmon_cells.specs.Fields.{arc_of, block_of};
+ghost use Rattle.std.specs.Prelude.{◌≡◌, ℕ, List, ◌<◌, ◌≤◌, length};
+ghost use Rattle.gp_base.specs.Bytes.{value_of};
+ghost use Rattle.gp_base.specs.Fields.{arc_of, block_of};
 
-use byteorder::{ByteOrder, LittleEndian};
-use gp_base::{RawArc, RawBlock};
+use gp_base::{RawArc, RawBlock, half, word};
 
 /// A value that takes as many bytes wherever it stands.
 pub trait Cell: Copy {
@@ -38,7 +37,7 @@ impl Cell for u16 {
     }
 
     fn read(bytes: &[u8]) -> u16 {
-        LittleEndian::read_u16(bytes)
+        half(bytes, 0)
     }
 }
 
@@ -76,12 +75,4 @@ impl Cell for RawBlock {
             count: word(bytes, 4),
         }
     }
-}
-
-/// The number in the four bytes at an offset.
-pub fn word(bytes: &[u8], at: usize) -> u32
-    requires { at + 4 ≤ length bytes.now }
-    ensures { result ≡ word_at bytes.now at }
-{
-    LittleEndian::read_u32(bytes.split_at(at).1)
 }

@@ -1,11 +1,19 @@
-//! Cells of one width that come in pieces, as the counters, arcs and block counts of gmon.out do: whole
-//! ones are kept in a column, and beside them the few bytes of a cell that isn't whole yet.
+//! What the readers and writers of both forms of gmon.out share. Cells of one width come in pieces, as
+//! counters, arcs and block counts do: whole ones are kept in a column, and beside them the few bytes of a
+//! cell that isn't whole yet. The counters of a run are written in one loop.
 #![tactic(auto)]
 
+pub mod arcs;
 pub mod cell;
 pub mod column;
 pub mod remnant;
+pub mod writing;
 
+pub use arcs::push_arcs;
 pub use cell::Cell;
 pub use column::Column;
 pub use remnant::Remnant;
+pub use writing::put_counters;
+
+#[cfg(test)]
+mod tests;

@@ -7,7 +7,7 @@ use Rattle.std.proofs.lemmas.List.Elements.{filter_map-append}
 use Rattle.std.proofs.lemmas.List.FromFn.{length-range_with_len, get_or-range_with_len}
 use Rattle.gp_base.specs.Bytes.{le}
 use Rattle.gp_base.specs.declared.records.RawBlock.{RawBlock}
-use Rattle.gmon_gnu.specs.Fields.{block_bytes}
+use Rattle.gp_base.specs.Fields.{block_bytes}
 use Rattle.gmon_gnu.specs.Blocks.{block_at, block_record, executed_blocks, pair_bytes, record_of}
 
 -- an instruction that was executed, and one that wasn't

@@ -1,25 +1,19 @@
 -- What the bytes that were fed are.
-use Rattle.std.proofs.Common.{◌≡◌, ℕ, zero, suc, Bool, true, false, not, eqb, ltb, List, [], ◌∷◌, ◌++◌, length, drop, length-drop, Option, Some, None, Result, Ok, Err, if◌then◌else◌, refl, sym, ap, ◌∙◌, arith}
+use Rattle.std.proofs.Common.{◌≡◌, ℕ, Bool, true, false, not, eqb, ltb, List, [], ◌++◌, length, drop, length-drop, Option, Some, None, Result, Ok, Err, if◌then◌else◌, refl, sym, ap, ◌∙◌, arith}
 use Rattle.std.proofs.lemmas.List.{append-nil}
 use Rattle.gp_base.specs.declared.records.Rec.{Rec}
 use Rattle.gp_base.specs.declared.records.Records.{Records}
 use Rattle.gp_base.specs.declared.records.Form.TheVariants.{Gnu}
 use Rattle.gp_base.specs.declared.refusal.GmonRefusal.{GmonRefusal}
 use Rattle.gp_base.specs.declared.refusal.GmonRefusal.TheVariants.{Short, Version, Tag, Range, Size, Rest, OutOfMemory}
-use Rattle.gp_base.specs.Bytes.{word_at, IsBytes}
+use Rattle.gp_base.specs.Bytes.{word_at}
 use Rattle.gp_base.specs.Refusal.{IsRefusal}
-use Rattle.gp_base.proofs.LittleEndian.{IsBytes-rest}
 use Rattle.gmon_gnu.specs.Fields.{version}
 use Rattle.gmon_gnu.specs.Reading.{behind, file_recs, refusal_in, recs_in, gnu_refusal, gnu_records}
 use Rattle.gmon_gnu.specs.Going.{records_on, header_on, resume}
 use Rattle.gmon_gnu.specs.Ending.{ended}
 use Rattle.gmon_gnu.specs.Fed.{Kept, StandsFor}
 use Rattle.gmon_gnu.proofs.RecordLemmas.{allowance}
-
-pub IsBytes-append : (bs more : List ℕ) → IsBytes bs → IsBytes more → IsBytes (bs ++ more)
-IsBytes-append [] more h m i = m i
-IsBytes-append (b ∷ bs) more h m zero = h 0
-IsBytes-append (b ∷ bs) more h m (suc i) = IsBytes-append bs more (IsBytes-rest b bs h) m i
 
 -- ---- the whole file
 

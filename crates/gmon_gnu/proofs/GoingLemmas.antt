@@ -10,7 +10,8 @@ use Rattle.gp_base.specs.declared.records.Rec.TheVariants.{Hist, Arc, Blocks}
 use Rattle.gp_base.specs.declared.refusal.GmonRefusal.{GmonRefusal}
 use Rattle.gp_base.specs.declared.refusal.GmonRefusal.TheVariants.{Short, Version, Tag, Range}
 use Rattle.gp_base.specs.Bytes.{value_of, word_at, cut}
-use Rattle.gmon_gnu.specs.Fields.{version, arc_of, block_of}
+use Rattle.gp_base.specs.Fields.{arc_of, block_of}
+use Rattle.gmon_gnu.specs.Fields.{version}
 use Rattle.gmon_gnu.specs.Reading.{Front, Refused, Found, hist_of_fields, pairs_front, behind, after_front, recs_from}
 use Rattle.gmon_gnu.specs.Going.{Open, records_on, header_on, hist_on, blocks_on, resume, Reads}
 use Rattle.gmon_gnu.proofs.RecordLemmas.{allowance}

@@ -5,7 +5,7 @@ use Rattle.gp_base.specs.declared.records.RawBlock.{RawBlock}
 use Rattle.gp_base.specs.declared.records.Rec.TheVariants.{Hist, Blocks}
 use Rattle.gp_base.specs.Bytes.{value_of, cut, word_at}
 use Rattle.gp_base.proofs.Cutting.{cut-take}
-use Rattle.gmon_gnu.specs.Fields.{block_of}
+use Rattle.gp_base.specs.Fields.{block_of}
 use Rattle.gmon_gnu.specs.Reading.{Found, hist_of_fields, hist_front, pairs_front, blocks_front}
 
 first_of_one : (xs : List ℕ) → slice_index (take 1 xs) 0 ≡ slice_index xs 0

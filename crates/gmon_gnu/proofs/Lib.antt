@@ -1,4 +1,3 @@
-pub mod FieldLemmas
 pub mod FrontLemmas
 pub mod RecordLemmas
 pub mod GoingLemmas

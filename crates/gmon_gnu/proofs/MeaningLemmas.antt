@@ -11,10 +11,11 @@ use Rattle.gp_base.specs.declared.refusal.GmonRefusal.{GmonRefusal}
 use Rattle.gp_base.specs.Bytes.{value_of, le, cut, word_at, IsBytes}
 use Rattle.gp_base.proofs.LittleEndian.{length-cut, IsBytes-take, IsBytes-drop, IsBytes-rest, field_below, field_then}
 use Rattle.gp_base.proofs.Cutting.{flat_map-cut, all_cut}
-use Rattle.gmon_gnu.specs.Fields.{version, arc_of, block_bytes, block_of, counter_bytes, BlockFits, CounterFits}
+use Rattle.gp_base.specs.Fields.{arc_of, block_bytes, block_of, counter_bytes, BlockFits, CounterFits}
+use Rattle.gmon_gnu.specs.Fields.{version}
 use Rattle.gmon_gnu.specs.Grammar.{rec_bytes, RecFits, GnuSpells}
 use Rattle.gmon_gnu.specs.Reading.{Front, Found, Refused, body_front, behind, recs_from, after_front, file_recs, refusal_in, recs_in, gnu_refusal, gnu_records}
-use Rattle.gmon_gnu.proofs.FieldLemmas.{counter_spelled, counter_fits, arc_spelled, arc_fits, block_spelled, block_fits}
+use Rattle.gp_base.proofs.FieldLemmas.{counter_spelled, counter_fits, arc_spelled, arc_fits, block_spelled, block_fits}
 use Rattle.gmon_gnu.proofs.FrontLemmas.{found_then, same_found}
 use Rattle.gmon_gnu.proofs.SpellingLemmas.{Whole, whole_accepted, gnu, rec_text, rec_then, shorter}
 

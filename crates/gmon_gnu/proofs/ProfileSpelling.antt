@@ -5,7 +5,8 @@ use Rattle.std.proofs.lemmas.List.{length-map}
 use Rattle.gp_base.specs.declared.records.Unit as units
 use Rattle.gmon_data.specs.declared.hist.Hist.{Hist}
 use Rattle.gmon_data.specs.Hists.{IsKept}
-use Rattle.gmon_gnu.specs.Fields.{magic, spare_bytes, CounterFits, BlockFits}
+use Rattle.gp_base.specs.Fields.{CounterFits, BlockFits}
+use Rattle.gmon_gnu.specs.Fields.{magic, spare_bytes}
 use Rattle.gmon_gnu.specs.Grammar.{RecFits}
 use Rattle.gmon_gnu.specs.Splitting.{piece, pieces_of, most_samples, most_calls, largest, each_piece, layer_of, layers_of, arc_piece, arc_pieces, piece_left, round_of, rounds_of, hist_rec, hist_recs, arc_rec, raw_block, blocks_rec}
 use Rattle.gmon_gnu.specs.ProfileText.{profile_text, HistNumbersFit, PairFits, AddressFits, UnitFits, ProfilesAreSpelled}

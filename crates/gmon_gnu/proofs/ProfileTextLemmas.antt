@@ -9,7 +9,7 @@ use Rattle.gp_base.specs.declared.records.Rec.{Rec}
 use Rattle.gp_base.specs.Bytes.{le}
 use Rattle.gmon_data.specs.declared.hist.Hist.{Hist}
 use Rattle.gmon_data.specs.Content.{Content}
-use Rattle.gmon_gnu.specs.Fields.{counter_bytes, block_bytes}
+use Rattle.gp_base.specs.Fields.{counter_bytes, block_bytes}
 use Rattle.gmon_gnu.specs.Grammar.{rec_bytes, hist_bytes, blocks_bytes}
 use Rattle.gmon_gnu.specs.Pieces.{header, layer_header, layers_text, arc_text_of, left_bytes, rounds_text}
 use Rattle.gmon_gnu.specs.ProfileText.{profile_text}

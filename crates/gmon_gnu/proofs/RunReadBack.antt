@@ -11,7 +11,8 @@ use Rattle.mcount_arcs.specs.Samples.{buckets_of, bucket_of}
 use Rattle.mcount_arcs.specs.Sizes.{AreSizes, site_of}
 use Rattle.mcount_arcs.proofs.BucketLemmas.{length-buckets_of}
 use Rattle.mcount_arcs.proofs.SizeLemmas.{sites_in_order, some_text}
-use Rattle.gmon_gnu.specs.Fields.{magic, spare_bytes, ArcFits, CounterFits}
+use Rattle.gp_base.specs.Fields.{ArcFits, CounterFits}
+use Rattle.gmon_gnu.specs.Fields.{magic, spare_bytes}
 use Rattle.gmon_gnu.specs.Grammar.{RecFits}
 use Rattle.gmon_gnu.specs.Run.{run_text, RunsAreSpelled, RunsAreReadBack}
 use Rattle.gmon_gnu.proofs.SpellingLemmas.{accepted_where_spelled, only_where_spelled}

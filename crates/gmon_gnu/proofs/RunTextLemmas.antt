@@ -9,7 +9,8 @@ use Rattle.mcount_arcs.specs.Samples.{buckets_of}
 use Rattle.mcount_arcs.specs.Value.{GmonValue, StandsFor}
 use Rattle.gmon_gnu.specs.Fields.{magic, spare_bytes}
 use Rattle.gmon_gnu.specs.Grammar.{rec_bytes, tagged_arc, spelling}
-use Rattle.gmon_gnu.specs.Run.{run_recs, run_text, runtime_text, header_of, counters_text}
+use Rattle.gp_base.specs.Fields.{counters_text}
+use Rattle.gmon_gnu.specs.Run.{run_recs, run_text, runtime_text, header_of}
 
 arcs_tagged : (arcs : List RawArc) → flat_map tagged_arc arcs ≡ flat_map rec_bytes (map Arc arcs)
 arcs_tagged [] = refl

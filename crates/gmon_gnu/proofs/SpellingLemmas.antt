@@ -14,10 +14,11 @@ use Rattle.gp_base.specs.declared.records.Form.TheVariants.{Gnu}
 use Rattle.gp_base.specs.Bytes.{value_of, le, word_at}
 use Rattle.gp_base.proofs.LittleEndian.{value_of-le}
 use Rattle.gp_base.proofs.Cutting.{cut-flat_map, length-spelled}
-use Rattle.gmon_gnu.specs.Fields.{version, arc_bytes, block_bytes, block_of, counter_bytes, ArcFits, BlockFits, CounterFits}
+use Rattle.gp_base.specs.Fields.{arc_bytes, block_bytes, block_of, counter_bytes, ArcFits, BlockFits, CounterFits}
+use Rattle.gmon_gnu.specs.Fields.{version}
 use Rattle.gmon_gnu.specs.Grammar.{rec_bytes, spelling, RecFits, HistFits, BlocksFit, GnuSpells}
 use Rattle.gmon_gnu.specs.Reading.{Found, hist_of_fields, pairs_front, body_front, behind, recs_from, after_front, file_recs, refusal_in, recs_in, gnu_refusal, gnu_records}
-use Rattle.gmon_gnu.proofs.FieldLemmas.{counter_length, block_length, arc_back, block_back}
+use Rattle.gp_base.proofs.FieldLemmas.{counter_length, block_length, arc_back, block_back}
 
 -- ---- a record with the text behind it
 

@@ -1,26 +1,31 @@
 -- What a reader has read, as it takes one item after the other.
 use Rattle.std.proofs.Common.{◌≡◌, ℕ, ◌+◌, ◌-◌, ◌*◌, ◌/◌, ◌<◌, ◌≤◌, List, [], ◌∷◌, ◌++◌, length, take, drop, map, slice_index, length-drop, length-append, refl, sym, ap, subst, ◌∙◌, append_assoc, arith}
-use Rattle.std.specs.List.{AllByRecursion}
-use Rattle.std.proofs.lemmas.List.{map-append, take_all, drop_all, take-append-le, drop-append-le, take-append-drop}
+use Rattle.std.specs.List.{AllByRecursion, flat_map}
+use Rattle.std.proofs.lemmas.List.Concat.{flat_map-append}
+use Rattle.gp_base.specs.declared.records.RawArc.{RawArc}
+use Rattle.std.proofs.lemmas.List.{append-nil, map-append, take_all, drop_all, take-append-le, drop-append-le, take-append-drop}
 use Rattle.gp_base.specs.declared.records.RawBlock.{RawBlock}
 use Rattle.gp_base.specs.declared.records.Rec.{Rec}
 use Rattle.gp_base.specs.declared.records.Rec.TheVariants.{Hist, Arc, Blocks}
 use Rattle.gp_base.specs.declared.refusal.GmonRefusal.TheVariants.{Version}
 use Rattle.gp_base.specs.Bytes.{value_of, word_at, cut}
 use Rattle.gmon_cells.specs.Cells.{cells_of, torn_of}
-use Rattle.gmon_gnu.specs.Fields.{version, block_of}
+use Rattle.gp_base.specs.Fields.{block_of}
+use Rattle.gmon_gnu.specs.Fields.{version}
 use Rattle.gmon_gnu.specs.declared.state.HistFields.{HistFields}
 use Rattle.gmon_gnu.specs.declared.state.Entry.{Entry}
-use Rattle.gmon_gnu.specs.declared.state.Entry.TheVariants as entry
+use Rattle.gmon_gnu.specs.declared.state.Body.{Body}
+use Rattle.gmon_gnu.specs.declared.state.Body.TheVariants as body
 use Rattle.gmon_gnu.specs.declared.state.Part.{Part}
+use Rattle.gmon_gnu.specs.declared.state.Part.TheVariants as part
 use Rattle.gmon_gnu.specs.declared.state.State.{State}
 use Rattle.gmon_gnu.specs.declared.state.Begun.{Begun}
 use Rattle.gmon_gnu.specs.declared.state.Begun.TheVariants as begun
 use Rattle.gmon_gnu.specs.Reading.{behind}
 use Rattle.gmon_gnu.specs.Going.{Open, InHeader, Between, InHist, InBlocks, Stopped, records_on, header_on, hist_on, blocks_on, resume, Reads}
-use Rattle.gmon_gnu.specs.Held.{hist_with, rec_of, IsWithin, recs_of, open_of, rest_of, width_of, IsFront, IsPartial, Goes}
+use Rattle.gmon_gnu.specs.Held.{hist_with, rec_of, entry_recs, recs_in, IsBodyWithin, IsWithin, recs_of, open_of, rest_of, width_of, IsFront, IsPartial, Goes}
 use Rattle.gmon_gnu.specs.Begun.{begun_on, Follows}
-use Rattle.gmon_gnu.proofs.GoingLemmas.{reads_then, reads_same, header_read, header_refused, hist_ends, blocks_end, counters_on, pairs_on}
+use Rattle.gmon_gnu.proofs.GoingLemmas.{behind_both, reads_then, reads_same, header_read, header_refused, hist_ends, blocks_end, counters_on, pairs_on}
 
 -- ---- by the part
 
@@ -28,6 +33,11 @@ pub goes_at : (whole : List ℕ) (s : State) (rest : List ℕ) (p : Part) → s.
     → Reads whole (recs_of s) (open_of p s.counters.cells.items s.pairs.cells.items) (rest_of p s.torn s.counters.torn s.pairs.torn ++ rest)
 goes_at whole s rest p is goes =
     subst (λ (q : Part). Reads whole (recs_of s) (open_of q s.counters.cells.items s.pairs.cells.items) (rest_of q s.torn s.counters.torn s.pairs.torn ++ rest)) is goes
+
+-- between records only what has come of the next one counts
+pub goes_between : (whole : List ℕ) (s : State) (rest : List ℕ) → s.part ≡ part.Between → Reads whole (recs_of s) Between (s.torn ++ rest) → Goes whole s rest
+goes_between whole s rest is reads =
+    subst (λ (q : Part). Reads whole (recs_of s) (open_of q s.counters.cells.items s.pairs.cells.items) (rest_of q s.torn s.counters.torn s.pairs.torn ++ rest)) (sym is) reads
 
 pub reads_rest : (whole : List ℕ) (recs : List Rec) (now : Open) (rest left : List ℕ) → rest ≡ left → Reads whole recs now rest → Reads whole recs now left
 reads_rest whole recs now rest left is reads = subst (λ (v : List ℕ). Reads whole recs now v) is reads
@@ -81,31 +91,54 @@ begins_blocks whole recs start count pairs pair rest pair_is start_is follows = 
 all_of : {X : Type 0} (start end : ℕ) (xs : List X) → end ≡ length xs → take (end - start) (drop start xs) ≡ drop start xs
 all_of start end xs end_is = take_all (end - start) (drop start xs) (omega (arith, length-drop start xs, end_is))
 
-pub hist_ended : (whole counters : List ℕ) (pairs : List RawBlock) (es es1 : List Entry) (f : HistFields) (start end left : ℕ) (half torn rest : List ℕ)
-    → left ≡ 0 → half ≡ [] → torn ≡ [] → end ≡ length counters → es1 ≡ es ++ entry.Hist f start end ∷ []
-    → Reads whole (map (rec_of counters pairs) es) (InHist (hist_with f (drop start counters)) left) (half ++ rest) → Reads whole (map (rec_of counters pairs) es1) Between (torn ++ rest)
-hist_ended whole counters pairs es es1 f start end left half torn rest none half_is torn_is end_is es_are reads =
+-- an entry more, with the arcs that have come since the last one
+entry_more : (counters : List ℕ) (pairs : List RawBlock) (arcs : List RawArc) (es es1 : List Entry) (run run1 last : ℕ) (b : Body) (rec : Rec)
+    → last ≡ length arcs → run1 ≡ length arcs → es1 ≡ es ++ record { first = run; last = last; body = b } ∷ [] → rec ≡ rec_of counters pairs b
+    → recs_in counters pairs arcs es run ++ rec ∷ [] ≡ recs_in counters pairs arcs es1 run1
+entry_more counters pairs arcs es es1 run run1 last b rec last_is run1_is es_are rec_is =
+    let records = entry_recs counters pairs arcs in
+    let e : Entry = record { first = run; last = last; body = b } in
+    let none : drop run1 arcs ≡ [] = drop_all run1 arcs (omega (arith, run1_is)) in
+    append_assoc (flat_map records es) (map Arc (drop run arcs)) (rec ∷ [])
+    ∙ (λ i. flat_map records es ++ (map Arc (sym (all_of run last arcs last_is) i) ++ rec_is i ∷ []))
+    ∙ ap (λ (v : List Rec). flat_map records es ++ v) (sym (append-nil (records e)))
+    ∙ sym (flat_map-append records es (e ∷ []))
+    ∙ ap (flat_map records) (sym es_are)
+    ∙ sym (append-nil (flat_map records es1))
+    ∙ ap (λ (v : List RawArc). flat_map records es1 ++ map Arc v) (sym none)
+
+pub hist_ended : (whole counters : List ℕ) (pairs : List RawBlock) (arcs : List RawArc) (es es1 : List Entry) (run run1 last : ℕ) (f : HistFields) (start end left : ℕ) (half torn rest : List ℕ)
+    → left ≡ 0 → half ≡ [] → torn ≡ [] → end ≡ length counters → last ≡ length arcs → run1 ≡ length arcs → es1 ≡ es ++ record { first = run; last = last; body = body.Hist f start end } ∷ []
+    → Reads whole (recs_in counters pairs arcs es run) (InHist (hist_with f (drop start counters)) left) (half ++ rest) → Reads whole (recs_in counters pairs arcs es1 run1) Between (torn ++ rest)
+hist_ended whole counters pairs arcs es es1 run run1 last f start end left half torn rest none half_is torn_is end_is last_is run1_is es_are reads =
     let h = hist_with f (drop start counters) in
-    let recs = map (rec_of counters pairs) es in
-    let more_recs : recs ++ Hist h ∷ [] ≡ map (rec_of counters pairs) es1 =
-    ap (λ (v : List ℕ). recs ++ Hist (hist_with f v) ∷ []) (sym (all_of start end counters end_is)) ∙ sym (map-append (rec_of counters pairs) es (entry.Hist f start end ∷ [])) ∙ ap (map (rec_of counters pairs)) (sym es_are) in
+    let recs = recs_in counters pairs arcs es run in
+    let same : Hist h ≡ rec_of counters pairs (body.Hist f start end) = ap (λ (v : List ℕ). Hist (hist_with f v)) (sym (all_of start end counters end_is)) in
+    let more_recs : recs ++ Hist h ∷ [] ≡ recs_in counters pairs arcs es1 run1 = entry_more counters pairs arcs es es1 run run1 last (body.Hist f start end) (Hist h) last_is run1_is es_are same in
     subst (λ (v : List Rec). Reads whole v Between (torn ++ rest)) more_recs
     (reads_then whole recs (Hist h ∷ []) (InHist h left) Between (half ++ rest) (torn ++ rest)
     (λ more. (λ i. hist_on (length (whole ++ more)) h (none i) ((half_is i ++ rest) ++ more)) ∙ hist_ends (length (whole ++ more)) h (rest ++ more) ∙ (λ i. behind (Hist h ∷ []) (records_on (length (whole ++ more)) ((sym torn_is i ++ rest) ++ more))))
     reads)
 
-pub blocks_ended : (whole counters : List ℕ) (pairs : List RawBlock) (es es1 : List Entry) (start end left : ℕ) (pair torn rest : List ℕ)
-    → left ≡ 0 → pair ≡ [] → torn ≡ [] → end ≡ length pairs → es1 ≡ es ++ entry.Blocks start end ∷ []
-    → Reads whole (map (rec_of counters pairs) es) (InBlocks (drop start pairs) left) (pair ++ rest) → Reads whole (map (rec_of counters pairs) es1) Between (torn ++ rest)
-blocks_ended whole counters pairs es es1 start end left pair torn rest none pair_is torn_is end_is es_are reads =
+pub blocks_ended : (whole counters : List ℕ) (pairs : List RawBlock) (arcs : List RawArc) (es es1 : List Entry) (run run1 last start end left : ℕ) (pair torn rest : List ℕ)
+    → left ≡ 0 → pair ≡ [] → torn ≡ [] → end ≡ length pairs → last ≡ length arcs → run1 ≡ length arcs → es1 ≡ es ++ record { first = run; last = last; body = body.Blocks start end } ∷ []
+    → Reads whole (recs_in counters pairs arcs es run) (InBlocks (drop start pairs) left) (pair ++ rest) → Reads whole (recs_in counters pairs arcs es1 run1) Between (torn ++ rest)
+blocks_ended whole counters pairs arcs es es1 run run1 last start end left pair torn rest none pair_is torn_is end_is last_is run1_is es_are reads =
     let blocks = drop start pairs in
-    let recs = map (rec_of counters pairs) es in
-    let more_recs : recs ++ Blocks blocks ∷ [] ≡ map (rec_of counters pairs) es1 =
-    ap (λ (v : List RawBlock). recs ++ Blocks v ∷ []) (sym (all_of start end pairs end_is)) ∙ sym (map-append (rec_of counters pairs) es (entry.Blocks start end ∷ [])) ∙ ap (map (rec_of counters pairs)) (sym es_are) in
+    let recs = recs_in counters pairs arcs es run in
+    let same : Blocks blocks ≡ rec_of counters pairs (body.Blocks start end) = ap (λ (v : List RawBlock). Blocks v) (sym (all_of start end pairs end_is)) in
+    let more_recs : recs ++ Blocks blocks ∷ [] ≡ recs_in counters pairs arcs es1 run1 = entry_more counters pairs arcs es es1 run run1 last (body.Blocks start end) (Blocks blocks) last_is run1_is es_are same in
     subst (λ (v : List Rec). Reads whole v Between (torn ++ rest)) more_recs
     (reads_then whole recs (Blocks blocks ∷ []) (InBlocks blocks left) Between (pair ++ rest) (torn ++ rest)
     (λ more. (λ i. blocks_on (length (whole ++ more)) blocks (none i) ((pair_is i ++ rest) ++ more)) ∙ blocks_end (length (whole ++ more)) blocks (rest ++ more) ∙ (λ i. behind (Blocks blocks ∷ []) (records_on (length (whole ++ more)) ((sym torn_is i ++ rest) ++ more))))
     reads)
+
+-- the entry was added, and all else is as before
+pub added_goes : (whole rest : List ℕ) (s n : State) → n.counters ≡ s.counters → n.pairs ≡ s.pairs → n.arcs ≡ s.arcs → n.torn ≡ s.torn
+    → Reads whole (recs_in s.counters.cells.items s.pairs.cells.items s.arcs.items n.entries.items n.run) Between (s.torn ++ rest) → Reads whole (recs_of n) Between (n.torn ++ rest)
+added_goes whole rest s n counters_is pairs_is arcs_is torn_is reads = λ more.
+    reads more
+    ∙ (λ i. behind (recs_in (sym counters_is i).cells.items (sym pairs_is i).cells.items (sym arcs_is i).items n.entries.items n.run) (records_on (length (whole ++ more)) ((sym torn_is i ++ rest) ++ more)))
 
 -- ---- cells come
 
@@ -113,19 +146,45 @@ part_stays : {X : Type 0} (start end : ℕ) (xs more : List X) → start ≤ end
 part_stays start end xs more order within =
     ap (take (end - start)) (drop-append-le start xs more (omega arith)) ∙ take-append-le (end - start) (drop start xs) more (omega (arith, length-drop start xs))
 
-counters_stay : (counters more : List ℕ) (pairs : List RawBlock) (es : List Entry) → AllByRecursion (IsWithin (length counters) (length pairs)) es → map (rec_of (counters ++ more) pairs) es ≡ map (rec_of counters pairs) es
-counters_stay counters more pairs [] within = refl
-counters_stay counters more pairs (entry.Hist f start end ∷ es) within =
-    λ i. Hist (hist_with f (part_stays start end counters more within.0.0 within.0.1 i)) ∷ counters_stay counters more pairs es within.1 i
-counters_stay counters more pairs (entry.Arc arc ∷ es) within = λ i. Arc arc ∷ counters_stay counters more pairs es within.1 i
-counters_stay counters more pairs (entry.Blocks start end ∷ es) within = λ i. Blocks (take (end - start) (drop start pairs)) ∷ counters_stay counters more pairs es within.1 i
+-- each part of a list is the same part of a longer one
+record Stays {X : Type 0} (xs ys : List X) : Type 0 where
+  part : (start end : ℕ) → start ≤ end → end ≤ length xs → take (end - start) (drop start ys) ≡ take (end - start) (drop start xs)
 
-pairs_stay : (counters : List ℕ) (pairs more : List RawBlock) (es : List Entry) → AllByRecursion (IsWithin (length counters) (length pairs)) es → map (rec_of counters (pairs ++ more)) es ≡ map (rec_of counters pairs) es
-pairs_stay counters pairs more [] within = refl
-pairs_stay counters pairs more (entry.Hist f start end ∷ es) within = λ i. Hist (hist_with f (take (end - start) (drop start counters))) ∷ pairs_stay counters pairs more es within.1 i
-pairs_stay counters pairs more (entry.Arc arc ∷ es) within = λ i. Arc arc ∷ pairs_stay counters pairs more es within.1 i
-pairs_stay counters pairs more (entry.Blocks start end ∷ es) within =
-    λ i. Blocks (part_stays start end pairs more within.0.0 within.0.1 i) ∷ pairs_stay counters pairs more es within.1 i
+same_stays : {X : Type 0} (xs : List X) → Stays xs xs
+same_stays xs = record { part = λ start end order within. refl }
+
+more_stays : {X : Type 0} (xs ys more : List X) → ys ≡ xs ++ more → Stays xs ys
+more_stays {X} xs ys more is = subst (λ (v : List X). Stays xs v) (sym is) (record { part = λ start end order within. part_stays start end xs more order within })
+
+body_stays : (counters counters1 : List ℕ) (pairs pairs1 : List RawBlock) → Stays counters counters1 → Stays pairs pairs1 → (b : Body) → IsBodyWithin (length counters) (length pairs) b → rec_of counters1 pairs1 b ≡ rec_of counters pairs b
+body_stays counters counters1 pairs pairs1 c p (body.Hist f start end) within = ap (λ (v : List ℕ). Hist (hist_with f v)) (c.part start end within.0 within.1)
+body_stays counters counters1 pairs pairs1 c p (body.Blocks start end) within = ap (λ (v : List RawBlock). Blocks v) (p.part start end within.0 within.1)
+
+entries_stay : (counters counters1 : List ℕ) (pairs pairs1 : List RawBlock) (arcs arcs1 : List RawArc) → Stays counters counters1 → Stays pairs pairs1 → Stays arcs arcs1
+    → (es : List Entry) → AllByRecursion (IsWithin (length counters) (length pairs) (length arcs)) es → flat_map (entry_recs counters1 pairs1 arcs1) es ≡ flat_map (entry_recs counters pairs arcs) es
+entries_stay counters counters1 pairs pairs1 arcs arcs1 c p a [] within = refl
+entries_stay counters counters1 pairs pairs1 arcs arcs1 c p a (e ∷ es) within =
+    let w = within.0 in
+    λ i. (map Arc (a.part e.first e.last w.0 w.1 i) ++ body_stays counters counters1 pairs pairs1 c p e.body w.2 i ∷ []) ++ entries_stay counters counters1 pairs pairs1 arcs arcs1 c p a es within.1 i
+
+-- an arc comes
+pub arc_came : (whole counters : List ℕ) (pairs : List RawBlock) (arcs arcs1 : List RawArc) (es : List Entry) (run : ℕ) (arc : RawArc) (torn rest : List ℕ)
+    → AllByRecursion (IsWithin (length counters) (length pairs) (length arcs)) es → run ≤ length arcs → arcs1 ≡ arcs ++ arc ∷ [] → torn ≡ []
+    → Follows whole (recs_in counters pairs arcs es run) (begun.Arc arc) rest → Reads whole (recs_in counters pairs arcs1 es run) Between (torn ++ rest)
+arc_came whole counters pairs arcs arcs1 es run arc torn rest within order arcs_are torn_is follows = λ more.
+    let recs = recs_in counters pairs arcs es run in
+    let records = entry_recs counters pairs arcs in
+    let entries = entries_stay counters counters pairs pairs arcs arcs1 (same_stays counters) (same_stays pairs) (more_stays arcs arcs1 (arc ∷ []) arcs_are) es within in
+    let now : recs ++ Arc arc ∷ [] ≡ recs_in counters pairs arcs1 es run =
+    append_assoc (flat_map records es) (map Arc (drop run arcs)) (Arc arc ∷ [])
+    ∙ ap (λ (v : List Rec). flat_map records es ++ v) (sym (map-append Arc (drop run arcs) (arc ∷ [])))
+    ∙ ap (λ (v : List RawArc). flat_map records es ++ map Arc v) (sym (drop-append-le run arcs (arc ∷ []) order))
+    ∙ ap (λ (v : List RawArc). flat_map records es ++ map Arc (drop run v)) (sym arcs_are)
+    ∙ ap (λ (v : List Rec). v ++ map Arc (drop run arcs1)) (sym entries) in
+    let l = length (whole ++ more) in
+    follows more
+    ∙ behind_both recs (Arc arc ∷ []) (records_on l (rest ++ more))
+    ∙ (λ i. behind (now i) (records_on l ((sym torn_is i ++ rest) ++ more)))
 
 -- the piece, behind what had come before
 in_two : (n : ℕ) (before piece mine rest more : List ℕ) → mine ≡ take n piece → rest ≡ drop n piece → (before ++ piece) ++ more ≡ (before ++ mine) ++ (rest ++ more)
@@ -133,22 +192,23 @@ in_two n before piece mine rest more mine_is rest_is =
     let parts : mine ++ rest ≡ piece = (λ i. mine_is i ++ rest_is i) ∙ take-append-drop n piece in
     ap (λ (v : List ℕ). (before ++ v) ++ more) (sym parts) ∙ ap (λ (v : List ℕ). v ++ more) (sym (append_assoc before mine rest)) ∙ append_assoc (before ++ mine) rest more
 
-pub counters_came : (whole counters counters1 : List ℕ) (pairs : List RawBlock) (es : List Entry) (f : HistFields) (n start left came : ℕ) (half half1 piece mine rest : List ℕ)
-    → AllByRecursion (IsWithin (length counters) (length pairs)) es → start ≤ length counters → counters1 ≡ counters ++ cells_of 2 value_of (half ++ mine) → half1 ≡ torn_of 2 (half ++ mine)
+pub counters_came : (whole counters counters1 : List ℕ) (pairs : List RawBlock) (arcs : List RawArc) (es : List Entry) (run : ℕ) (f : HistFields) (n start left came : ℕ) (half half1 piece mine rest : List ℕ)
+    → AllByRecursion (IsWithin (length counters) (length pairs) (length arcs)) es → start ≤ length counters → counters1 ≡ counters ++ cells_of 2 value_of (half ++ mine) → half1 ≡ torn_of 2 (half ++ mine)
     → mine ≡ take n piece → rest ≡ drop n piece → came ≡ (length half + length mine) / 2 → came ≤ left
-    → Reads whole (map (rec_of counters pairs) es) (InHist (hist_with f (drop start counters)) left) (half ++ piece)
-    → Reads whole (map (rec_of counters1 pairs) es) (InHist (hist_with f (drop start counters1)) (left - came)) (half1 ++ rest)
-counters_came whole counters counters1 pairs es f n start left came half half1 piece mine rest within order counters_are half_is mine_is rest_is came_is few reads =
+    → Reads whole (recs_in counters pairs arcs es run) (InHist (hist_with f (drop start counters)) left) (half ++ piece)
+    → Reads whole (recs_in counters1 pairs arcs es run) (InHist (hist_with f (drop start counters1)) (left - came)) (half1 ++ rest)
+counters_came whole counters counters1 pairs arcs es run f n start left came half half1 piece mine rest within order counters_are half_is mine_is rest_is came_is few reads =
     let t = half ++ mine in
     let k : length t / 2 ≡ came = ap (λ (m : ℕ). m / 2) (length-append half mine) ∙ sym came_is in
     let cells : counters1 ≡ counters ++ cut 2 value_of came t = counters_are ∙ ap (λ (m : ℕ). counters ++ cut 2 value_of m t) k in
     let torn : half1 ≡ drop (came * 2) t = half_is ∙ ap (λ (m : ℕ). drop (m * 2) t) k in
     let now : drop start counters1 ≡ drop start counters ++ cut 2 value_of came t = ap (drop start) cells ∙ drop-append-le start counters (cut 2 value_of came t) order in
-    let recs : map (rec_of counters pairs) es ≡ map (rec_of counters1 pairs) es = sym (ap (λ (v : List ℕ). map (rec_of v pairs) es) cells ∙ counters_stay counters (cut 2 value_of came t) pairs es within) in
+    let entries = entries_stay counters counters1 pairs pairs arcs arcs (more_stays counters counters1 (cut 2 value_of came t) cells) (same_stays pairs) (same_stays arcs) es within in
+    let recs : recs_in counters pairs arcs es run ≡ recs_in counters1 pairs arcs es run = ap (λ (v : List Rec). v ++ map Arc (drop run arcs)) (sym entries) in
     let long : came * 2 ≤ length t = omega (arith, k) in
     let h = hist_with f (drop start counters) in
     subst (λ (v : List Rec). Reads whole v (InHist (hist_with f (drop start counters1)) (left - came)) (half1 ++ rest)) recs
-    (reads_same whole (map (rec_of counters pairs) es) (InHist h left) (InHist (hist_with f (drop start counters1)) (left - came)) (half ++ piece) (half1 ++ rest)
+    (reads_same whole (recs_in counters pairs arcs es run) (InHist h left) (InHist (hist_with f (drop start counters1)) (left - came)) (half ++ piece) (half1 ++ rest)
     (λ more.
     let l = length (whole ++ more) in
     ap (hist_on l h left) (in_two n half piece mine rest more mine_is rest_is)
@@ -157,22 +217,23 @@ counters_came whole counters counters1 pairs es f n start left came half half1 p
     ∙ ap (hist_on l (hist_with f (drop start counters1)) (left - came)) (sym (append_assoc half1 rest more)))
     reads)
 
-pub pairs_came : (whole counters : List ℕ) (pairs pairs1 : List RawBlock) (es : List Entry) (n start left came : ℕ) (pair pair1 piece mine rest : List ℕ)
-    → AllByRecursion (IsWithin (length counters) (length pairs)) es → start ≤ length pairs → pairs1 ≡ pairs ++ cells_of 8 block_of (pair ++ mine) → pair1 ≡ torn_of 8 (pair ++ mine)
+pub pairs_came : (whole counters : List ℕ) (pairs pairs1 : List RawBlock) (arcs : List RawArc) (es : List Entry) (run n start left came : ℕ) (pair pair1 piece mine rest : List ℕ)
+    → AllByRecursion (IsWithin (length counters) (length pairs) (length arcs)) es → start ≤ length pairs → pairs1 ≡ pairs ++ cells_of 8 block_of (pair ++ mine) → pair1 ≡ torn_of 8 (pair ++ mine)
     → mine ≡ take n piece → rest ≡ drop n piece → came ≡ (length pair + length mine) / 8 → came ≤ left
-    → Reads whole (map (rec_of counters pairs) es) (InBlocks (drop start pairs) left) (pair ++ piece)
-    → Reads whole (map (rec_of counters pairs1) es) (InBlocks (drop start pairs1) (left - came)) (pair1 ++ rest)
-pairs_came whole counters pairs pairs1 es n start left came pair pair1 piece mine rest within order pairs_are pair_is mine_is rest_is came_is few reads =
+    → Reads whole (recs_in counters pairs arcs es run) (InBlocks (drop start pairs) left) (pair ++ piece)
+    → Reads whole (recs_in counters pairs1 arcs es run) (InBlocks (drop start pairs1) (left - came)) (pair1 ++ rest)
+pairs_came whole counters pairs pairs1 arcs es run n start left came pair pair1 piece mine rest within order pairs_are pair_is mine_is rest_is came_is few reads =
     let t = pair ++ mine in
     let k : length t / 8 ≡ came = ap (λ (m : ℕ). m / 8) (length-append pair mine) ∙ sym came_is in
     let cells : pairs1 ≡ pairs ++ cut 8 block_of came t = pairs_are ∙ ap (λ (m : ℕ). pairs ++ cut 8 block_of m t) k in
     let torn : pair1 ≡ drop (came * 8) t = pair_is ∙ ap (λ (m : ℕ). drop (m * 8) t) k in
     let now : drop start pairs1 ≡ drop start pairs ++ cut 8 block_of came t = ap (drop start) cells ∙ drop-append-le start pairs (cut 8 block_of came t) order in
-    let recs : map (rec_of counters pairs) es ≡ map (rec_of counters pairs1) es = sym (ap (λ (v : List RawBlock). map (rec_of counters v) es) cells ∙ pairs_stay counters pairs (cut 8 block_of came t) es within) in
+    let entries = entries_stay counters counters pairs pairs1 arcs arcs (same_stays counters) (more_stays pairs pairs1 (cut 8 block_of came t) cells) (same_stays arcs) es within in
+    let recs : recs_in counters pairs arcs es run ≡ recs_in counters pairs1 arcs es run = ap (λ (v : List Rec). v ++ map Arc (drop run arcs)) (sym entries) in
     let long : came * 8 ≤ length t = omega (arith, k) in
     let blocks = drop start pairs in
     subst (λ (v : List Rec). Reads whole v (InBlocks (drop start pairs1) (left - came)) (pair1 ++ rest)) recs
-    (reads_same whole (map (rec_of counters pairs) es) (InBlocks blocks left) (InBlocks (drop start pairs1) (left - came)) (pair ++ piece) (pair1 ++ rest)
+    (reads_same whole (recs_in counters pairs arcs es run) (InBlocks blocks left) (InBlocks (drop start pairs1) (left - came)) (pair ++ piece) (pair1 ++ rest)
     (λ more.
     let l = length (whole ++ more) in
     ap (blocks_on l blocks left) (in_two n pair piece mine rest more mine_is rest_is)
@@ -188,7 +249,7 @@ partial_less (tag ∷ body) partial some = partial
 -- ---- a state that holds the same
 
 pub goes_moved : (whole rest : List ℕ) (a b : State) → b.part ≡ a.part → b.torn ≡ a.torn → b.counters.cells.items ≡ a.counters.cells.items → b.counters.torn ≡ a.counters.torn
-    → b.pairs.cells.items ≡ a.pairs.cells.items → b.pairs.torn ≡ a.pairs.torn → b.entries.items ≡ a.entries.items → Goes whole a rest → Goes whole b rest
-goes_moved whole rest a b part_is torn_is counters_is half_is pairs_is pair_is entries_is goes = λ more.
+    → b.pairs.cells.items ≡ a.pairs.cells.items → b.pairs.torn ≡ a.pairs.torn → b.arcs.items ≡ a.arcs.items → b.entries.items ≡ a.entries.items → b.run ≡ a.run → Goes whole a rest → Goes whole b rest
+goes_moved whole rest a b part_is torn_is counters_is half_is pairs_is pair_is arcs_is entries_is run_is goes = λ more.
     goes more
-    ∙ sym (λ i. behind (map (rec_of (counters_is i) (pairs_is i)) (entries_is i)) (resume (length (whole ++ more)) (open_of (part_is i) (counters_is i) (pairs_is i)) ((rest_of (part_is i) (torn_is i) (half_is i) (pair_is i) ++ rest) ++ more)))
+    ∙ sym (λ i. behind (recs_in (counters_is i) (pairs_is i) (arcs_is i) (entries_is i) (run_is i)) (resume (length (whole ++ more)) (open_of (part_is i) (counters_is i) (pairs_is i)) ((rest_of (part_is i) (torn_is i) (half_is i) (pair_is i) ++ rest) ++ more)))

@@ -15,12 +15,18 @@ begun_on len (begun.Arc arc) rest = behind (Arc arc ∷ []) (records_on len rest
 begun_on len (begun.Blocks count) rest = blocks_on len [] count rest
 begun_on len (begun.Refused refusal) rest = Err refusal
 
--- what it takes of the room for records
+-- what it takes of the room for entries, and of that for arcs
 abbrev pub cost_of : Begun → ℕ
 cost_of (begun.Hist f count) = 1
-cost_of (begun.Arc arc) = 1
+cost_of (begun.Arc arc) = 0
 cost_of (begun.Blocks count) = 1
 cost_of (begun.Refused refusal) = 0
+
+abbrev pub arcs_of : Begun → ℕ
+arcs_of (begun.Hist f count) = 0
+arcs_of (begun.Arc arc) = 1
+arcs_of (begun.Blocks count) = 0
+arcs_of (begun.Refused refusal) = 0
 
 -- However the file goes on: what is read of it is the records so far, and what is read on behind that front.
 abbrev pub Follows : List ℕ → List Rec → Begun → List ℕ → Type 0

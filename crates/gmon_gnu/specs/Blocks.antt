@@ -2,7 +2,7 @@
 use Rattle.std.specs.Prelude.{ℕ, ◌+◌, ◌*◌, ◌==◌, List, [], ◌∷◌, length, slice_index, filter_map, Option, Some, None, if◌then◌else◌}
 use Rattle.std.specs.List.{range_with_len}
 use Rattle.gp_base.specs.declared.records.RawBlock.{RawBlock}
-use Rattle.gmon_gnu.specs.Fields.{block_bytes}
+use Rattle.gp_base.specs.Fields.{block_bytes}
 use Rattle.gmon_gnu.specs.Grammar.{blocks_bytes}
 
 -- an address and its count, which are no block where the count is 0

@@ -7,7 +7,8 @@ use Rattle.gp_base.specs.declared.records.Rec.TheVariants.{Hist, Blocks}
 use Rattle.gp_base.specs.declared.refusal.GmonRefusal.{GmonRefusal}
 use Rattle.gp_base.specs.declared.refusal.GmonRefusal.TheVariants.{Short, Version}
 use Rattle.gp_base.specs.Bytes.{value_of, word_at, cut}
-use Rattle.gmon_gnu.specs.Fields.{version, block_of}
+use Rattle.gp_base.specs.Fields.{block_of}
+use Rattle.gmon_gnu.specs.Fields.{version}
 use Rattle.gmon_gnu.specs.Reading.{behind, recs_from}
 
 -- what a reader is in the midst of

@@ -9,7 +9,8 @@ use Rattle.gp_base.specs.declared.records.Rec.TheVariants.{Hist, Arc, Blocks}
 use Rattle.gp_base.specs.declared.records.Records.{Records}
 use Rattle.gp_base.specs.declared.records.Form.TheVariants.{Gnu}
 use Rattle.gp_base.specs.Bytes.{le}
-use Rattle.gmon_gnu.specs.Fields.{version, arc_bytes, block_bytes, counter_bytes, ArcFits, BlockFits, CounterFits}
+use Rattle.gp_base.specs.Fields.{arc_bytes, block_bytes, counter_bytes, ArcFits, BlockFits, CounterFits}
+use Rattle.gmon_gnu.specs.Fields.{version}
 
 -- a histogram, behind its tag 0: its fields, and its counters
 abbrev pub hist_bytes : RawHist → List ℕ

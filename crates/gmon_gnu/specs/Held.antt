@@ -1,13 +1,15 @@
 -- How a reader holds what it has read.
 use Rattle.std.specs.Prelude.{◌≡◌, ℕ, zero, suc, ◌+◌, ◌-◌, ◌/◌, ◌<◌, ◌≤◌, List, [], ◌∷◌, ◌++◌, map, take, drop, length, vec_len, vec_capacity, ⊤}
-use Rattle.std.specs.List.{AllByRecursion}
+use Rattle.std.specs.List.{AllByRecursion, flat_map}
+use Rattle.gp_base.specs.declared.records.RawArc.{RawArc}
 use Rattle.gp_base.specs.declared.records.RawBlock.{RawBlock}
 use Rattle.gp_base.specs.declared.records.RawHist.{RawHist}
 use Rattle.gp_base.specs.declared.records.Rec.{Rec}
 use Rattle.gp_base.specs.declared.records.Rec.TheVariants.{Hist, Arc, Blocks}
 use Rattle.gmon_gnu.specs.declared.state.HistFields.{HistFields}
 use Rattle.gmon_gnu.specs.declared.state.Entry.{Entry}
-use Rattle.gmon_gnu.specs.declared.state.Entry.TheVariants as entry
+use Rattle.gmon_gnu.specs.declared.state.Body.{Body}
+use Rattle.gmon_gnu.specs.declared.state.Body.TheVariants as body
 use Rattle.gmon_gnu.specs.declared.state.Part.{Part}
 use Rattle.gmon_gnu.specs.declared.state.Part.TheVariants as part
 use Rattle.gmon_gnu.specs.declared.state.State.{State}
@@ -17,19 +19,32 @@ abbrev pub hist_with : HistFields → List ℕ → RawHist
 hist_with f counters = record { low = f.low; high = f.high; unit = f.unit; counters = counters }
 
 -- a record by its span of the counters or of the pairs
-abbrev pub rec_of : List ℕ → List RawBlock → Entry → Rec
-rec_of counters pairs (entry.Hist f start end) = Hist (hist_with f (take (end - start) (drop start counters)))
-rec_of counters pairs (entry.Arc arc) = Arc arc
-rec_of counters pairs (entry.Blocks start end) = Blocks (take (end - start) (drop start pairs))
+abbrev pub rec_of : List ℕ → List RawBlock → Body → Rec
+rec_of counters pairs (body.Hist f start end) = Hist (hist_with f (take (end - start) (drop start counters)))
+rec_of counters pairs (body.Blocks start end) = Blocks (take (end - start) (drop start pairs))
 
--- a span lies within what there is
-abbrev pub IsWithin : ℕ → ℕ → Entry → Type 0
-IsWithin counters pairs (entry.Hist f start end) = (start ≤ end) × (end ≤ counters)
-IsWithin counters pairs (entry.Arc arc) = ⊤
-IsWithin counters pairs (entry.Blocks start end) = (start ≤ end) × (end ≤ pairs)
+-- arcs, and the record behind them
+abbrev pub entry_recs : List ℕ → List RawBlock → List RawArc → Entry → List Rec
+entry_recs counters pairs arcs e = map Arc (take (e.last - e.first) (drop e.first arcs)) ++ rec_of counters pairs e.body ∷ []
+
+-- the records of entries, and behind them the arcs from a number on
+abbrev pub recs_in : List ℕ → List RawBlock → List RawArc → List Entry → ℕ → List Rec
+recs_in counters pairs arcs entries run = flat_map (entry_recs counters pairs arcs) entries ++ map Arc (drop run arcs)
 
 abbrev pub recs_of : State → List Rec
-recs_of s = map (rec_of s.counters.cells.items s.pairs.cells.items) s.entries.items
+recs_of s = recs_in s.counters.cells.items s.pairs.cells.items s.arcs.items s.entries.items s.run
+
+-- a span lies within what there is
+abbrev pub IsBodyWithin : ℕ → ℕ → Body → Type 0
+IsBodyWithin counters pairs (body.Hist f start end) = (start ≤ end) × (end ≤ counters)
+IsBodyWithin counters pairs (body.Blocks start end) = (start ≤ end) × (end ≤ pairs)
+
+abbrev pub IsWithin : ℕ → ℕ → ℕ → Entry → Type 0
+IsWithin counters pairs arcs e = (e.first ≤ e.last) × (e.last ≤ arcs) × IsBodyWithin counters pairs e.body
+
+-- all spans lie within what there is
+abbrev pub AreWithin : State → Type 0
+AreWithin s = AllByRecursion (IsWithin (length s.counters.cells.items) (length s.pairs.cells.items) (length s.arcs.items)) s.entries.items
 
 abbrev pub open_of : Part → List ℕ → List RawBlock → Open
 open_of part.Header counters pairs = InHeader
@@ -76,7 +91,8 @@ IsPart (part.Blocks start left) counters pairs torn half pair = (torn ≡ []) ×
 IsPart (part.Refused refusal) counters pairs torn half pair = ⊤
 
 pub record IsHeld (s : State) : Type 0 where
-  pub spans : AllByRecursion (IsWithin (length s.counters.cells.items) (length s.pairs.cells.items)) s.entries.items
+  pub spans : AreWithin s
+  pub run : s.run ≤ length s.arcs.items
   pub torn : length s.torn ≤ 33
   pub half : length s.counters.torn ≤ 2
   pub pair : length s.pairs.torn ≤ 8
@@ -90,12 +106,9 @@ owed (part.Hist f start left) = 1
 owed (part.Blocks start left) = 1
 owed (part.Refused refusal) = 0
 
--- all spans lie within what there is
-abbrev pub AreWithin : State → Type 0
-AreWithin s = AllByRecursion (IsWithin (length s.counters.cells.items) (length s.pairs.cells.items)) s.entries.items
-
 -- there is room for what n bytes more can make whole
 pub record HasRoom (n : ℕ) (s : State) : Type 0 where
   pub counters : vec_len s.counters.cells + (length s.counters.torn + n) / 2 ≤ vec_capacity s.counters.cells
   pub pairs : vec_len s.pairs.cells + (length s.pairs.torn + n) / 8 ≤ vec_capacity s.pairs.cells
+  pub arcs : vec_len s.arcs + (length s.torn + n) / 13 ≤ vec_capacity s.arcs
   pub entries : vec_len s.entries + (owed s.part + (length s.torn + n) / 5) ≤ vec_capacity s.entries

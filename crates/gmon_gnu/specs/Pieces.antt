@@ -4,7 +4,8 @@ use Rattle.std.specs.List.{flat_map, range_with_len}
 use Rattle.gp_base.specs.declared.records.Unit as units
 use Rattle.gp_base.specs.Bytes.{le}
 use Rattle.gmon_data.specs.declared.hist.Hist.{Hist}
-use Rattle.gmon_gnu.specs.Fields.{magic, version, spare_bytes, block_bytes}
+use Rattle.gp_base.specs.Fields.{block_bytes}
+use Rattle.gmon_gnu.specs.Fields.{magic, version, spare_bytes}
 use Rattle.gmon_gnu.specs.Grammar.{hist_bytes, rec_bytes, blocks_bytes}
 use Rattle.gmon_gnu.specs.Run.{hist_words}
 use Rattle.gmon_gnu.specs.Splitting.{most_samples, most_calls, piece, pieces_of, largest, layer_of, raw_hist, arc_piece, arc_rec, has_left, raw_block, round_of}

@@ -7,7 +7,8 @@ use Rattle.gp_base.specs.declared.records.Form.TheVariants.{Gnu}
 use Rattle.gp_base.specs.declared.refusal.GmonRefusal.{GmonRefusal}
 use Rattle.gp_base.specs.declared.refusal.GmonRefusal.TheVariants.{Short, Version, Tag, Range}
 use Rattle.gp_base.specs.Bytes.{value_of, word_at, cut}
-use Rattle.gmon_gnu.specs.Fields.{version, arc_of, block_of}
+use Rattle.gp_base.specs.Fields.{arc_of, block_of}
+use Rattle.gmon_gnu.specs.Fields.{version}
 
 -- what stands at the front of a text: a refusal, or a record and the text behind it
 pub data Front : Type 0 where
@@ -79,6 +80,12 @@ refusal_in (Err refusal) = Some refusal
 abbrev pub recs_in : Result (List Rec) GmonRefusal → List Rec
 recs_in (Ok recs) = recs
 recs_in (Err refusal) = []
+
+-- what is wrong with the header
+abbrev pub header_refusal : List ℕ → Option GmonRefusal
+header_refusal bytes =
+    if nat_lt (length bytes) 20 then Some (Short (length bytes)) else (
+    if not (word_at bytes 4 == version) then Some (Version (word_at bytes 4)) else None)
 
 -- the first fault, in the order in which faults are looked for: the header's, and then those of each record in file order
 abbrev pub gnu_refusal : List ℕ → Option GmonRefusal

@@ -1,6 +1,6 @@
 -- The file that a run of the profiling runtime writes in the GNU form.
 use Rattle.std.specs.Prelude.{◌≡◌, ℕ, ◌^◌, ◌<◌, List, [], ◌∷◌, ◌++◌, map, None}
-use Rattle.std.specs.List.{All, flat_map}
+use Rattle.std.specs.List.{All}
 use Rattle.gp_base.specs.declared.records.RawArc.{RawArc}
 use Rattle.gp_base.specs.declared.records.Rec.{Rec}
 use Rattle.gp_base.specs.declared.records.Rec.TheVariants.{Hist, Arc}
@@ -13,7 +13,8 @@ use Rattle.mcount_arcs.specs.Samples.{buckets_of}
 use Rattle.mcount_arcs.specs.Sizes.{AreSizes}
 use Rattle.mcount_arcs.specs.Arcs.{CallFits, arcs_of}
 use Rattle.mcount_arcs.specs.Value.{GmonValue}
-use Rattle.gmon_gnu.specs.Fields.{version, magic, spare_bytes, seconds, counter_bytes}
+use Rattle.gp_base.specs.Fields.{seconds}
+use Rattle.gmon_gnu.specs.Fields.{version, magic, spare_bytes}
 use Rattle.gmon_gnu.specs.Grammar.{spelling, GnuSpells}
 use Rattle.gmon_gnu.specs.Reading.{gnu_refusal, gnu_records}
 
@@ -57,7 +58,3 @@ dimension_bytes = (seconds 0).dim ++ (seconds 0).«abbrev» ∷ []
 -- the header, and the histogram up to its counters
 abbrev pub header_of : ℕ → ℕ → ℕ → ℕ → List ℕ
 header_of low high counters rate = header_and_tag ++ (hist_words low high counters rate ++ dimension_bytes)
-
--- the counters, two bytes each
-abbrev pub counters_text : List ℕ → List ℕ
-counters_text counters = flat_map counter_bytes counters

@@ -1,13 +1,13 @@
 //! The records of a file, made from what was read of it.
 
-ghost use Rattle.std.specs.Prelude.{◌≡◌, ℕ, List, [], ◌++◌, length, Some, Ok, IfOk};
-ghost use Rattle.gp_base.specs.declared.refusal.GmonRefusal.{GmonRefusal};
+ghost use Rattle.std.specs.Prelude.{◌≡◌, ◌≤◌, ◌++◌, length, IfOk, OnOk};
 ghost use Rattle.gmon_gnu.specs.Going.{resume};
-ghost use Rattle.gmon_gnu.specs.Held.{IsHeld, IsWithin, AreWithin, recs_of, rec_of, open_of, rest_of};
+ghost use Rattle.gmon_gnu.specs.Held.{IsHeld, IsWithin, AreWithin, recs_of, entry_recs, rec_of, IsBodyWithin, open_of, rest_of};
 ghost use Rattle.gmon_gnu.specs.Ending.{ended};
 
-use crate::state::{Entry, Part, State};
-use gp_base::{BlockList, Counts, GmonRefusal, RawBlock, RawHist, Rec, RecList};
+use crate::state::{Body, Entry, Part, State};
+use gmon_cells::push_arcs;
+use gp_base::{BlockList, Counts, GmonRefusal, RawArc, RawBlock, RawHist, Rec, RecList};
 use std::alloc::{AllocError, Global};
 
 impl State {
@@ -29,62 +29,62 @@ impl State {
         }
     }
 
-    /// The records, each with a list of its own.
+    /// The records, each with a list of its own. Room for them is taken once.
     pub(crate) fn build(&self, alloc: Global) -> Result<RecList, AllocError>
-        requires { AreWithin self.now }
+        requires held { AreWithin self.now }
+        requires run { self.now.run ≤ length self.now.arcs.items }
         ensures { IfOk result (λ recs. recs ≡ recs_of self.now) }
     {
         let counters = self.counters.cells.as_slice();
         let pairs = self.pairs.cells.as_slice();
+        let arcs = self.arcs.as_slice();
         let entries = self.entries.as_slice();
-        let mut recs = RecList::new(alloc);
+        let mut recs = Vec::with_capacity(alloc, entries.len() + arcs.len())?;
         for i in 0..entries.len() {
-            recs.push(record_of(alloc, entries[i], counters, pairs)?)?;
+            push_entry(alloc, &mut recs, entries[i], counters, pairs, arcs)?;
         }
-        Ok(recs)
+        push_arcs(&mut recs, &arcs[self.run..])?;
+        Ok(RecList::from(recs))
     }
 }
 
-/// The record that an entry stands for.
-fn record_of(
+/// Adds the records of an entry: the arcs before it, and what it stands for.
+fn push_entry(
     alloc: Global,
+    recs: &mut Vec<Rec>,
     entry: Entry,
     counters: &[u16],
     pairs: &[RawBlock],
-) -> Result<Rec, AllocError>
-    requires { IsWithin (length counters.now) (length pairs.now) entry }
-    ensures { IfOk result (λ rec. rec ≡ rec_of counters.now pairs.now entry) }
+    arcs: &[RawArc],
+) -> Result<(), AllocError>
+    requires { IsWithin (length counters.now) (length pairs.now) (length arcs.now) entry }
+    ensures { OnOk result (recs.new.items ≡ recs.old.items ++ entry_recs counters.now pairs.now arcs.now entry) }
 {
-    match entry {
-        Entry::Hist { fields, start, end } => Ok(Rec::Hist(RawHist {
+    push_arcs(recs, &arcs[entry.first..entry.last])?;
+    recs.push(record_of(alloc, entry.body, counters, pairs)?)?;
+    Ok(())
+}
+
+/// The record that counters or pairs belong to.
+fn record_of(
+    alloc: Global,
+    body: Body,
+    counters: &[u16],
+    pairs: &[RawBlock],
+) -> Result<Rec, AllocError>
+    requires { IsBodyWithin (length counters.now) (length pairs.now) body }
+    ensures { IfOk result (λ rec. rec ≡ rec_of counters.now pairs.now body) }
+{
+    match body {
+        Body::Hist { fields, start, end } => Ok(Rec::Hist(RawHist {
             low: fields.low,
             high: fields.high,
             unit: fields.unit,
-            counters: counts_of(alloc, &counters[start..end])?,
+            counters: Counts::from(Vec::from_slice(alloc, &counters[start..end])?),
         })),
-        Entry::Arc(arc) => Ok(Rec::Arc(arc)),
-        Entry::Blocks { start, end } => Ok(Rec::Blocks(blocks_of(alloc, &pairs[start..end])?)),
+        Body::Blocks { start, end } => {
+            let blocks = Vec::from_slice(alloc, &pairs[start..end])?;
+            Ok(Rec::Blocks(BlockList::from(blocks)))
+        }
     }
-}
-
-/// The counters as a list of its own.
-fn counts_of(alloc: Global, counters: &[u16]) -> Result<Counts, AllocError>
-    ensures { IfOk result (λ counts. counts ≡ counters.now) }
-{
-    let mut counts = Counts::new(alloc);
-    for counter in counters {
-        counts.push(*counter)?;
-    }
-    Ok(counts)
-}
-
-/// The counts of blocks as a list of its own.
-fn blocks_of(alloc: Global, pairs: &[RawBlock]) -> Result<BlockList, AllocError>
-    ensures { IfOk result (λ blocks. blocks ≡ pairs.now) }
-{
-    let mut blocks = BlockList::new(alloc);
-    for pair in pairs {
-        blocks.push(*pair)?;
-    }
-    Ok(blocks)
 }

@@ -5,7 +5,7 @@ ghost use Rattle.std.specs.List.{flat_map};
 ghost use Rattle.host_port.specs.Buffered.{Adds};
 ghost use Rattle.host_port.specs.Host.{Puts};
 ghost use Rattle.host_port.specs.declared.side.Side.TheVariants.{File};
-ghost use Rattle.gmon_gnu.specs.Fields.{counter_bytes};
+ghost use Rattle.gp_base.specs.Fields.{counter_bytes};
 ghost use Rattle.gmon_gnu.specs.Grammar.{rec_bytes, hist_bytes, blocks_bytes};
 ghost use Rattle.gmon_gnu.specs.ProfileText.{profile_text};
 ghost use Rattle.gmon_gnu.specs.Splitting.{piece as spec_piece, largest as spec_largest, layer_of, raw_hist, hist_recs, arc_rec, arc_pieces, raw_block, blocks_rec, round_of, rounds_of};

@@ -1,6 +1,6 @@
 //! Reading in pieces.
 
-ghost use Rattle.std.specs.Prelude.{◌≡◌, ℕ, List, [], ◌+◌, ◌^◌, ◌<◌, ◌++◌, length, None, IfOk, OnOk, OnErr, IfErr};
+ghost use Rattle.std.specs.Prelude.{◌≡◌, ℕ, List, [], ◌+◌, ◌^◌, ◌<◌, ◌++◌, length, None, Err, IfOk, OnOk, OnErr, IfErr, IfSome};
 ghost use Rattle.gp_base.specs.Refusal.{IsRefusal};
 ghost use Rattle.gmon_gnu.specs.Grammar.{GnuSpells};
 ghost use Rattle.gmon_gnu.specs.Reading.{gnu_refusal, gnu_records};
@@ -61,8 +61,9 @@ impl Reader {
     }
 
     /// What the bytes that were fed are: the records that they spell, or their first refusal, in the order
-    /// of `read`.
+    /// of `read`. A refusal takes no memory, so that want of it doesn't stand in for one.
     pub fn finish(self) -> Result<Records, GmonRefusal>
+        ensures refused { (bytes : List ℕ) → StandsFor bytes self → IfSome (gnu_refusal bytes) (λ refusal. result ≡ Err refusal) }
         ensures refusal { (bytes : List ℕ) → StandsFor bytes self → IfErr result (λ refusal. IsRefusal refusal (gnu_refusal bytes)) }
         ensures accepted { (bytes : List ℕ) → StandsFor bytes self → OnOk result (gnu_refusal bytes ≡ None) }
         ensures records { (bytes : List ℕ) → StandsFor bytes self → IfOk result (λ records. records ≡ gnu_records bytes) }

@@ -3,9 +3,6 @@
 use gmon_cells::{Column, Remnant};
 use gp_base::{GmonRefusal, RawArc, RawBlock, Unit};
 
-/// Bytes of the header.
-pub(crate) const HEADER: usize = 20;
-
 /// The fields of a histogram before its counters.
 #[derive(Clone, Copy)]
 pub(crate) struct HistFields {
@@ -14,19 +11,26 @@ pub(crate) struct HistFields {
     pub(crate) unit: Unit,
 }
 
-/// A record: an arc, or the fields of another one and its span of the counters or of the pairs.
+/// A histogram by its fields and its span of the counters, or counts of blocks by their span of the pairs.
 #[derive(Clone, Copy)]
-pub(crate) enum Entry {
+pub(crate) enum Body {
     Hist {
         fields: HistFields,
         start: usize,
         end: usize,
     },
-    Arc(RawArc),
     Blocks {
         start: usize,
         end: usize,
     },
+}
+
+/// Arcs that follow one another, from `first` to below `last`, and the record behind them.
+#[derive(Clone, Copy)]
+pub(crate) struct Entry {
+    pub(crate) first: usize,
+    pub(crate) last: usize,
+    pub(crate) body: Body,
 }
 
 /// What the next bytes belong to.
@@ -59,13 +63,15 @@ pub(crate) enum Begun {
     Refused(GmonRefusal),
 }
 
-/// The records so far, in flat lists; what the next bytes belong to; and what has come of an item that
-/// isn't whole.
+/// The records so far, in flat lists: the arcs from `run` on stand behind all entries. What the next bytes
+/// belong to, and what has come of an item that isn't whole.
 #[derive(Drop)]
 pub(crate) struct State {
     pub(crate) part: Part,
     pub(crate) torn: Remnant,
     pub(crate) counters: Column<u16>,
     pub(crate) pairs: Column<RawBlock>,
+    pub(crate) arcs: Vec<RawArc>,
     pub(crate) entries: Vec<Entry>,
+    pub(crate) run: usize,
 }

@@ -1,16 +1,19 @@
 //! Taking the next bytes of a file.
 
-ghost use Rattle.std.specs.Prelude.{◌≡◌, ℕ, List, [], ◌+◌, ◌-◌, ◌*◌, ◌^◌, ◌<◌, ◌≤◌, ◌++◌, length, drop, OnOk, slice_index, vec_len, vec_capacity};
+ghost use Rattle.std.specs.Prelude.{◌≡◌, ℕ, List, [], ◌∷◌, ◌+◌, ◌-◌, ◌*◌, ◌^◌, ◌<◌, ◌≤◌, ◌++◌, length, drop, OnOk, slice_index, vec_len, vec_capacity};
 ghost use Rattle.gmon_gnu.specs.Held.{width_of, IsFront, IsHeld, HasRoom, AreWithin, Goes, recs_of, hist_with, owed};
-ghost use Rattle.gmon_gnu.specs.Begun.{begun_on, cost_of, Follows};
+ghost use Rattle.gmon_gnu.specs.Begun.{begun_on, cost_of, arcs_of, Follows};
 ghost use Rattle.gmon_gnu.specs.Going.{InHist, InBlocks, Reads, records_on};
 ghost use Rattle.gmon_gnu.specs.declared.state.Part.TheVariants as part;
 
-use crate::reading::{VERSION, word};
-use crate::state::{Begun, Entry, HEADER, HistFields, Part, State};
+use crate::reading::{HEADER, VERSION};
+use crate::state::{Begun, Body, Entry, HistFields, Part, State};
 use gmon_cells::{Column, Remnant};
-use gp_base::{GmonRefusal, RawArc, Unit};
+use gp_base::{GmonRefusal, RawArc, Unit, word};
 use std::alloc::{AllocError, Global};
+
+/// Bytes of an arc with its tag.
+const ARC_FRONT: usize = 13;
 
 impl State {
     /// Nothing has come yet.
@@ -24,7 +27,9 @@ impl State {
             torn: Remnant::new(),
             counters: Column::new(alloc),
             pairs: Column::new(alloc),
+            arcs: Vec::new(alloc),
             entries: Vec::new(alloc),
+            run: 0,
         }
     }
 
@@ -38,10 +43,13 @@ impl State {
         ensures half { self.new.counters.torn ≡ self.old.counters.torn }
         ensures pairs { self.new.pairs.cells.items ≡ self.old.pairs.cells.items }
         ensures pair { self.new.pairs.torn ≡ self.old.pairs.torn }
+        ensures arcs { self.new.arcs.items ≡ self.old.arcs.items }
         ensures entries { self.new.entries.items ≡ self.old.entries.items }
+        ensures run { self.new.run ≡ self.old.run }
     {
         self.counters.reserve(len)?;
         self.pairs.reserve(len)?;
+        self.arcs.reserve((self.torn.len() + len) / ARC_FRONT)?;
         self.entries.reserve(1 + (self.torn.len() + len) / 5)
     }
 
@@ -154,6 +162,8 @@ impl State {
         requires half { length self.old.counters.torn ≤ 2 }
         requires pair { length self.old.pairs.torn ≤ 8 }
         requires part { self.old.part ≡ part.Between }
+        requires run { self.old.run ≤ length self.old.arcs.items }
+        requires arcs_room { vec_len self.old.arcs + arcs_of begun ≤ vec_capacity self.old.arcs }
         requires room { vec_len self.old.entries + cost_of begun ≤ vec_capacity self.old.entries }
         ensures held { IsHeld self.new }
         ensures goes { (whole rest : List ℕ) → Follows whole (recs_of self.old) begun rest → Goes whole self.new rest }
@@ -162,6 +172,8 @@ impl State {
         ensures half { length self.new.counters.torn ≤ length self.old.counters.torn }
         ensures pairs { self.new.pairs.cells ≡ self.old.pairs.cells }
         ensures pair { length self.new.pairs.torn ≤ length self.old.pairs.torn }
+        ensures arcs { vec_len self.new.arcs ≡ vec_len self.old.arcs + arcs_of begun }
+        ensures arcs_room { vec_capacity self.new.arcs ≡ vec_capacity self.old.arcs }
         ensures entries { vec_len self.new.entries + owed self.new.part ≤ vec_len self.old.entries + cost_of begun }
         ensures capacity { vec_capacity self.new.entries ≡ vec_capacity self.old.entries }
     {
@@ -171,7 +183,7 @@ impl State {
                 let start = self.counters.cells.len();
                 self.go_on_hist(fields, start, count);
             }
-            Begun::Arc(arc) => self.entries.push_reserved(Entry::Arc(arc)),
+            Begun::Arc(arc) => self.arcs.push_reserved(arc),
             Begun::Blocks { count } => {
                 self.pairs.torn.clear();
                 let start = self.pairs.cells.len();
@@ -189,12 +201,14 @@ impl State {
         requires pair { length self.old.pairs.torn ≤ 8 }
         requires ended { left ≡ 0 → self.old.counters.torn ≡ [] }
         requires start { start ≤ length self.old.counters.cells.items }
+        requires run { self.old.run ≤ length self.old.arcs.items }
         requires room { vec_len self.old.entries + 1 ≤ vec_capacity self.old.entries }
         ensures held { IsHeld self.new }
         ensures goes { (whole rest : List ℕ) → Reads whole (recs_of self.old) (InHist (hist_with fields (drop start self.old.counters.cells.items)) left) (self.old.counters.torn ++ rest) → Goes whole self.new rest }
         ensures torn { self.new.torn ≡ [] }
         ensures counters { self.new.counters ≡ self.old.counters }
         ensures pairs { self.new.pairs ≡ self.old.pairs }
+        ensures arcs { self.new.arcs ≡ self.old.arcs }
         ensures entries { vec_len self.new.entries + owed self.new.part ≤ vec_len self.old.entries + 1 }
         ensures capacity { vec_capacity self.new.entries ≡ vec_capacity self.old.entries }
     {
@@ -207,8 +221,7 @@ impl State {
             return;
         }
         let end = self.counters.cells.len();
-        self.entries
-            .push_reserved(Entry::Hist { fields, start, end });
+        self.add(Body::Hist { fields, start, end });
         self.part = Part::Between;
     }
 
@@ -220,12 +233,14 @@ impl State {
         requires pair { length self.old.pairs.torn < 8 }
         requires ended { left ≡ 0 → self.old.pairs.torn ≡ [] }
         requires start { start ≤ length self.old.pairs.cells.items }
+        requires run { self.old.run ≤ length self.old.arcs.items }
         requires room { vec_len self.old.entries + 1 ≤ vec_capacity self.old.entries }
         ensures held { IsHeld self.new }
         ensures goes { (whole rest : List ℕ) → Reads whole (recs_of self.old) (InBlocks (drop start self.old.pairs.cells.items) left) (self.old.pairs.torn ++ rest) → Goes whole self.new rest }
         ensures torn { self.new.torn ≡ [] }
         ensures counters { self.new.counters ≡ self.old.counters }
         ensures pairs { self.new.pairs ≡ self.old.pairs }
+        ensures arcs { self.new.arcs ≡ self.old.arcs }
         ensures entries { vec_len self.new.entries + owed self.new.part ≤ vec_len self.old.entries + 1 }
         ensures capacity { vec_capacity self.new.entries ≡ vec_capacity self.old.entries }
     {
@@ -234,8 +249,30 @@ impl State {
             return;
         }
         let end = self.pairs.cells.len();
-        self.entries.push_reserved(Entry::Blocks { start, end });
+        self.add(Body::Blocks { start, end });
         self.part = Part::Between;
+    }
+
+    /// Adds a record behind the arcs that have come since the last one.
+    fn add(&mut self, body: Body)
+        requires { vec_len self.old.entries < vec_capacity self.old.entries }
+        ensures entries { self.new.entries.items ≡ self.old.entries.items ++ record { first = self.old.run; last = length self.old.arcs.items; body = body } ∷ [] }
+        ensures len { vec_len self.new.entries ≡ vec_len self.old.entries + 1 }
+        ensures capacity { vec_capacity self.new.entries ≡ vec_capacity self.old.entries }
+        ensures run { self.new.run ≡ length self.old.arcs.items }
+        ensures part { self.new.part ≡ self.old.part }
+        ensures torn { self.new.torn ≡ self.old.torn }
+        ensures counters { self.new.counters ≡ self.old.counters }
+        ensures pairs { self.new.pairs ≡ self.old.pairs }
+        ensures arcs { self.new.arcs ≡ self.old.arcs }
+    {
+        let last = self.arcs.len();
+        self.entries.push_reserved(Entry {
+            first: self.run,
+            last,
+            body,
+        });
+        self.run = last;
     }
 
     fn take_counters<'p>(
@@ -314,6 +351,7 @@ fn front_of(at: u32, front: &[u8]) -> Begun
     requires { IsFront front.now }
     ensures says { (len : ℕ) (rest : List ℕ) → at ≡ len - length (front.now ++ rest) → records_on len (front.now ++ rest) ≡ begun_on len result rest }
     ensures cost { 5 * cost_of result ≤ length front.now }
+    ensures arcs { 13 * arcs_of result ≤ length front.now }
 {
     match front[0] {
         0 => hist_front(at, front),
@@ -335,6 +373,7 @@ fn hist_front(at: u32, front: &[u8]) -> Begun
     requires tag { slice_index front.now 0 ≡ 0 }
     ensures says { (len : ℕ) (rest : List ℕ) → at ≡ len - length (front.now ++ rest) → records_on len (front.now ++ rest) ≡ begun_on len result rest }
     ensures cost { cost_of result ≤ 1 }
+    ensures arcs { arcs_of result ≡ 0 }
 {
     let low = word(front, 1);
     let high = word(front, 5);

@@ -8,13 +8,14 @@ ghost use Rattle.host_port.specs.declared.side.Side.TheVariants.{File};
 ghost use Rattle.mcount_arcs.specs.Log.{LogEntry};
 ghost use Rattle.mcount_arcs.specs.Value.{StandsFor};
 ghost use Rattle.gp_base.specs.Bytes.{le};
-ghost use Rattle.gmon_gnu.specs.Fields.{arc_bytes};
+ghost use Rattle.gp_base.specs.Fields.{arc_bytes};
 ghost use Rattle.gmon_gnu.specs.Grammar.{tagged_arc};
-ghost use Rattle.gmon_gnu.specs.Run.{run_text, runtime_text, header_of, hist_words, counters_text};
+ghost use Rattle.gp_base.specs.Fields.{counters_text};
+ghost use Rattle.gmon_gnu.specs.Run.{run_text, runtime_text, header_of, hist_words};
 
-use crate::reading::ARC;
 use byteorder::{ByteOrder, LittleEndian};
-use gp_base::{RawArc, le2};
+use gmon_cells::put_counters;
+use gp_base::{RawArc, arc_text};
 use host_port::{Failed, Host, OutBuf};
 use mcount_arcs::{Gmon, Sizes};
 
@@ -79,17 +80,6 @@ pub(crate) fn hist_text(low: u32, high: u32, counters: u32, rate: u32) -> [u8; 1
     bytes
 }
 
-fn put_counters<H: Host>(gmon: &Gmon, out: &mut OutBuf, host: &mut H) -> Result<(), Failed>
-    requires { (H.outside host.old).is_writing ≡ true }
-    ensures adds { Adds File (counters_text gmon.now.counters) out.old out.new (H.outside host.old) (H.outside host.new) result }
-    ensures ready { OnOk result ((H.outside host.new).is_writing ≡ true) }
-{
-    for i in 0..gmon.sizes().counters {
-        out.put(host, &le2(gmon.counter(i)))?;
-    }
-    Ok(())
-}
-
 fn put_arcs<H: Host>(gmon: &Gmon, out: &mut OutBuf, host: &mut H) -> Result<(), Failed>
     requires { (H.outside host.old).is_writing ≡ true }
     ensures adds { Adds File (flat_map tagged_arc gmon.now.arcs) out.old out.new (H.outside host.old) (H.outside host.new) result }
@@ -108,12 +98,4 @@ pub(crate) fn put_arc<H: Host>(arc: RawArc, out: &mut OutBuf, host: &mut H) -> R
 {
     out.put(host, &[ARC_TAG])?;
     out.put(host, &arc_text(arc))
-}
-
-fn arc_text(arc: RawArc) -> [u8; ARC]
-    ensures { result ≡ arc_bytes arc }
-{
-    let mut bytes = [0; ARC];
-    LittleEndian::write_u32_into(&[arc.from, arc.to, arc.count], &mut bytes);
-    bytes
 }

@@ -1,7 +1,7 @@
 use Rattle.std.proofs.Common.{sym, subst, arith}
 use Rattle.gmon_data.specs.Content.{Content, IsWithin, with_hist}
 use Rattle.gmon_data.specs.declared.hist.Hist.{Hist}
-use Rattle.gmon_bsd.specs.Fields.{seconds}
+use Rattle.gp_base.specs.Fields.{seconds}
 use Rattle.gmon_bsd.specs.Profile.{IsOfRun}
 use Rattle.gmon_bsd.proofs.ProfileLemmas.{one_hist, within_bounds}
 use Rattle.gmon_bsd.proofs.profile.hist_profile.Goals as goal

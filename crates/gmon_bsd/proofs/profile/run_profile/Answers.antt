@@ -3,7 +3,7 @@ use Rattle.std.specs.List.{All}
 use Rattle.std.proofs.lemmas.List.{map_push, length_push}
 use Rattle.gp_base.specs.declared.records.RawArc.{RawArc}
 use Rattle.gmon_data.specs.Content.{WideRec, WideHist, WideArc, content_of}
-use Rattle.gmon_bsd.specs.Fields.{seconds}
+use Rattle.gp_base.specs.Fields.{seconds}
 use Rattle.gmon_bsd.specs.Profile.{IsOfRun, runtime_hist, wide_arc}
 use Rattle.mcount_arcs.specs.Arcs.{CallFits}
 use Rattle.gmon_bsd.proofs.ProfileLemmas.{one_arc, within_bounds, of_its_file, arc_fits}

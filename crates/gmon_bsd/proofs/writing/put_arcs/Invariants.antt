@@ -3,7 +3,7 @@ use Rattle.std.specs.List.{flat_map}
 use Rattle.host_port.specs.declared.side.Side.TheVariants.{File}
 use Rattle.host_port.specs.Buffered.{Adds}
 use Rattle.host_port.specs.declared.host.Failed.{Failed}
-use Rattle.gmon_bsd.specs.Fields.{arc_bytes}
+use Rattle.gp_base.specs.Fields.{arc_bytes}
 use Rattle.gmon_bsd.proofs.writing.put_arcs.Given as goal
 
 -- the arcs so far are put

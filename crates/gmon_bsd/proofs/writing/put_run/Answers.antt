@@ -3,8 +3,9 @@ use Rattle.std.specs.List.{flat_map}
 use Rattle.std.proofs.lemmas.Result.{err_from_is_err_and}
 use Rattle.host_port.specs.declared.side.Side.TheVariants.{File}
 use Rattle.host_port.proofs.BufferLemmas.{adds_then, adds_front}
-use Rattle.gmon_bsd.specs.Fields.{arc_bytes}
-use Rattle.gmon_bsd.specs.Run.{header_of, counters_text}
+use Rattle.gp_base.specs.Fields.{arc_bytes}
+use Rattle.gp_base.specs.Fields.{counters_text}
+use Rattle.gmon_bsd.specs.Run.{header_of}
 use Rattle.gmon_bsd.proofs.RunTextLemmas.{text_parts}
 use Rattle.gmon_bsd.proofs.writing.put_run.Goals as goal
 

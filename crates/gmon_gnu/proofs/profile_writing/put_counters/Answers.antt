@@ -3,7 +3,7 @@ use Rattle.std.proofs.lemmas.List.{get_or_default}
 use Rattle.std.proofs.lemmas.Result.{err_from_is_err_and}
 use Rattle.host_port.specs.declared.side.Side.TheVariants.{File}
 use Rattle.host_port.proofs.BufferLemmas.{adds_nothing, adds_more, adds_stop, adds_ready}
-use Rattle.gmon_gnu.specs.Fields.{counter_bytes}
+use Rattle.gp_base.specs.Fields.{counter_bytes}
 use Rattle.gmon_gnu.specs.Splitting.{most_samples, piece}
 use Rattle.gmon_gnu.proofs.profile_writing.put_counters.Goals as goal
 

@@ -3,7 +3,7 @@ use Rattle.std.specs.List.{flat_map}
 use Rattle.host_port.specs.declared.side.Side.TheVariants.{File}
 use Rattle.host_port.specs.Buffered.{Adds}
 use Rattle.host_port.specs.declared.host.Failed.{Failed}
-use Rattle.gmon_gnu.specs.Fields.{counter_bytes}
+use Rattle.gp_base.specs.Fields.{counter_bytes}
 use Rattle.gmon_gnu.specs.Splitting.{most_samples, piece}
 use Rattle.gmon_gnu.proofs.profile_writing.put_counters.Given as goal
 

@@ -1,7 +1,7 @@
 use Rattle.std.proofs.Common.{[], ◌∷◌}
 use Rattle.host_port.specs.declared.side.Side.TheVariants.{File}
 use Rattle.host_port.proofs.BufferLemmas.{adds_then}
-use Rattle.gmon_gnu.specs.Fields.{arc_bytes}
+use Rattle.gp_base.specs.Fields.{arc_bytes}
 use Rattle.gmon_gnu.proofs.writing.put_arc.Goals as goal
 
 pub returns-clause-adds : goal.returns-clause-adds

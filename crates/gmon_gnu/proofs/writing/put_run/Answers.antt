@@ -4,7 +4,8 @@ use Rattle.std.proofs.lemmas.Result.{err_from_is_err_and}
 use Rattle.host_port.specs.declared.side.Side.TheVariants.{File}
 use Rattle.host_port.proofs.BufferLemmas.{adds_then, adds_front}
 use Rattle.gmon_gnu.specs.Grammar.{tagged_arc}
-use Rattle.gmon_gnu.specs.Run.{header_of, counters_text}
+use Rattle.gp_base.specs.Fields.{counters_text}
+use Rattle.gmon_gnu.specs.Run.{header_of}
 use Rattle.gmon_gnu.proofs.RunTextLemmas.{text_parts}
 use Rattle.gmon_gnu.proofs.writing.put_run.Goals as goal
 

@@ -1,9 +1,10 @@
 use Rattle.std.proofs.Common.{◌≡◌, ◌≤◌, ◌++◌, ℕ, List, length, take, drop, length-append, sym, ap, subst, ◌∙◌, arith}
 use Rattle.gp_base.specs.Bytes.{value_of}
-use Rattle.gmon_bsd.specs.Fields.{arc_of}
+use Rattle.gp_base.specs.Fields.{arc_of}
+use Rattle.gmon_cells.proofs.CellLemmas.{IsBytes-append}
 use Rattle.gmon_bsd.specs.Fed.{Kept, StandsFor, counter_part, arc_part}
 use Rattle.gmon_bsd.specs.Held.{view_of}
-use Rattle.gmon_bsd.proofs.FedLemmas.{IsBytes-append, fed_parts, column_on}
+use Rattle.gmon_bsd.proofs.FedLemmas.{fed_parts, column_on}
 use Rattle.gmon_bsd.proofs.reader.Reader.feed.Goals as goal
 
 pub returns-clause-stands : goal.returns-clause-stands

@@ -5,7 +5,7 @@ use Rattle.gmon_gnu.specs.Shown.{view_of}
 use Rattle.gmon_gnu.specs.Held.{Goes, recs_of, open_of, rest_of}
 use Rattle.gmon_gnu.proofs.GoingLemmas.{reads_more}
 use Rattle.gmon_gnu.proofs.StateLemmas.{goes_moved, reads_rest}
-use Rattle.gmon_gnu.proofs.FedLemmas.{IsBytes-append}
+use Rattle.gmon_cells.proofs.CellLemmas.{IsBytes-append}
 use Rattle.gmon_gnu.proofs.reader.Reader.feed.Goals as goal
 
 pub returns-clause-stands : goal.returns-clause-stands
@@ -17,7 +17,7 @@ returns-clause-stands c = λ bytes stands.
     let len = s.len in
     let same = c.in_ok-reserve.ensures in
     let before : Goes whole c.self.inside.state piece = reads_more bytes piece kept.recs kept.open_now kept.rest s.reads in
-    let now = goes_moved whole piece c.self.inside.state c.reserve.new.self same.part same.torn same.counters same.half same.pairs same.pair same.entries before in
+    let now = goes_moved whole piece c.self.inside.state c.reserve.new.self same.part same.torn same.counters same.half same.pairs same.pair same.arcs same.entries same.run before in
     let total : length whole ≡ c.self.inside.len + length piece = omega (arith, len, length-append bytes piece) in
     let n = c.take.new.self in
     let after = c.take.ensures.goes whole total now in

@@ -13,5 +13,5 @@ returns-clause-goes c = λ whole long goes.
     let was = goes_at whole s piece (part.Hist c.args.fields c.args.start c.args.left) c.requires.part goes in
     let few : came ≤ c.args.left = omega (arith, ap length c.split_at.ensures.front, length-take c.min.result piece, c.min.ensures, c.len.ensures.len, c.len-2.ensures.len, c.requires.half) in
     c.go_on_hist.ensures.goes whole rest
-    (counters_came whole s.counters.cells.items c.feed.new.self.cells.items s.pairs.cells.items s.entries.items c.args.fields c.min.result c.args.start c.args.left came s.counters.torn c.feed.new.self.torn piece mine rest
+    (counters_came whole s.counters.cells.items c.feed.new.self.cells.items s.pairs.cells.items s.arcs.items s.entries.items s.run c.args.fields c.min.result c.args.start c.args.left came s.counters.torn c.feed.new.self.torn piece mine rest
     c.requires.held.spans c.requires.start c.feed.ensures.cells c.feed.ensures.torn c.split_at.ensures.front c.split_at.ensures.back (ap (λ n. (n + length mine) / 2) c.len-2.ensures.len) few was)

@@ -13,5 +13,5 @@ returns-clause-goes c = λ whole long goes.
     let was = goes_at whole s piece (part.Blocks c.args.start c.args.left) c.requires.part goes in
     let few : came ≤ c.args.left = omega (arith, ap length c.split_at.ensures.front, length-take c.min.result piece, c.min.ensures, c.len.ensures.len, c.len-2.ensures.len, c.requires.pair) in
     c.go_on_blocks.ensures.goes whole rest
-    (pairs_came whole s.counters.cells.items s.pairs.cells.items c.feed.new.self.cells.items s.entries.items c.min.result c.args.start c.args.left came s.pairs.torn c.feed.new.self.torn piece mine rest
+    (pairs_came whole s.counters.cells.items s.pairs.cells.items c.feed.new.self.cells.items s.arcs.items s.entries.items s.run c.min.result c.args.start c.args.left came s.pairs.torn c.feed.new.self.torn piece mine rest
     c.requires.held.spans c.requires.start c.feed.ensures.cells c.feed.ensures.torn c.split_at.ensures.front c.split_at.ensures.back (ap (λ n. (n + length mine) / 8) c.len-2.ensures.len) few was)

@@ -3,8 +3,8 @@ use Rattle.std.proofs.lemmas.Option.{get_or_from_slice_get}
 use Rattle.std.proofs.lemmas.Result.{err_from_is_err_and}
 use Rattle.host_port.specs.declared.side.Side.TheVariants.{File}
 use Rattle.host_port.proofs.BufferLemmas.{adds_nothing, adds_more, adds_stop, adds_ready}
-use Rattle.gmon_bsd.specs.Fields.{counter_bytes}
-use Rattle.gmon_bsd.proofs.writing.put_counters.Goals as goal
+use Rattle.gp_base.specs.Fields.{counter_bytes}
+use Rattle.gmon_cells.proofs.writing.put_counters.Goals as goal
 
 pub loop-i-init : goal.loop-i-init
 loop-i-init g c = record { put = adds_nothing File _ _ (tt {0}); ready = c.requires }

@@ -2,8 +2,8 @@ use Rattle.std.proofs.Common.{◌≡◌, take, true, Ok}
 use Rattle.host_port.specs.declared.side.Side.TheVariants.{File}
 use Rattle.host_port.specs.Buffered.{Adds}
 use Rattle.host_port.specs.declared.host.Failed.{Failed}
-use Rattle.gmon_bsd.specs.Run.{counters_text}
-use Rattle.gmon_bsd.proofs.writing.put_counters.Given as goal
+use Rattle.gp_base.specs.Fields.{counters_text}
+use Rattle.gmon_cells.proofs.writing.put_counters.Given as goal
 
 -- the counters so far are put
 abbrev pub invariant-loop-i : goal.invariant-loop-i
