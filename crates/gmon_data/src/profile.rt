@@ -241,6 +241,13 @@ impl Profile {
         Ok(())
     }
 
+    /// What holds of each profile. Does nothing.
+    pub fn holds(&self)
+        ensures { IsProfile self.now }
+    {
+        let _ = &self.unit;
+    }
+
     /// The unit of the histograms: None exactly where there is no histogram.
     pub fn unit(&self) -> Option<Unit>
         ensures unit { result ≡ self.now.«unit» }
