@@ -4,9 +4,9 @@ ghost use Rattle.std.specs.Prelude.{◌≡◌, ◌<◌, ◌≤◌, ◌^◌, leng
 ghost use Rattle.elf32_syms.specs.Header.{AreInFile, has_magic as has_magic_of, header_of};
 ghost use Rattle.elf32_syms.specs.Refusals.{Judges, header_refusal, kind_refusal as kind_refusal_of, tables_refusal as tables_refusal_of};
 
-use crate::fields::{half, word};
 use crate::refusal::ElfRefusal;
 use gp_base::limits::MAX_PROGRAM_HEADERS;
+use gp_base::{half, word};
 
 /// Bytes of the header, and of an entry of each of its tables.
 const HEADER_BYTES: usize = 52;

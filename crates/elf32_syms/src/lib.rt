@@ -4,7 +4,6 @@
 //! Which of its symbols are kept, and how far each of them reaches, is this project's own choice.
 #![tactic(auto)]
 
-mod fields;
 mod header;
 pub mod image;
 mod kept;

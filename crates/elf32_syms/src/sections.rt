@@ -6,11 +6,10 @@ ghost use Rattle.elf32_syms.specs.Header.{AreInFile, header_of};
 ghost use Rattle.elf32_syms.specs.Sections.{section_at as section_at_of, sections_of, contents as contents_of, executables as executables_of, section_end, text_low, text_high, symbol_table as symbol_table_of, table_of, strings_of};
 ghost use Rattle.elf32_syms.specs.Refusals.{IsRefusal, Judges, is_too_far as is_too_far_of, text_refusal, table_refusal};
 
-use crate::fields::word;
 use crate::header::Header;
 use crate::refusal::ElfRefusal;
-use gp_base::Span;
 use gp_base::limits::{MAX_TEXT_BYTES, MAX_TEXT_END};
+use gp_base::{Span, word};
 use std::alloc::{AllocError, Global};
 
 /// Types of sections.

@@ -6,10 +6,10 @@ ghost use Rattle.elf32_syms.specs.Header.{AreInFile, header_of};
 ghost use Rattle.elf32_syms.specs.Segments.{segment_at as segment_at_of, segments_of, is_cut_off};
 ghost use Rattle.elf32_syms.specs.Refusals.{IsRefusal, segments_refusal};
 
-use crate::fields::word;
 use crate::header::Header;
 use crate::image::{Segment, SegmentList};
 use crate::refusal::ElfRefusal;
+use gp_base::word;
 use std::alloc::{AllocError, Global};
 
 /// The type of a program header whose bytes are loaded.

@@ -5,9 +5,9 @@ ghost use Rattle.std.specs.Ordering.{nat_cmp};
 ghost use Rattle.std.specs.Cmp.Lexicographic.{slice_cmp};
 ghost use Rattle.elf32_syms.specs.Symbols.{entry_at as entry_at_of, fits as fits_of, may_be_function as may_be_function_of, fitting as fitting_of, symbol_name, comes_before as comes_before_of, binding_rank as binding_rank_of, type_rank as type_rank_of};
 
-use crate::fields::{half, word};
 use crate::names::name_at;
 use crate::sections::Section;
+use gp_base::{half, word};
 use std::alloc::{AllocError, Global};
 use std::cmp::Ordering;
 

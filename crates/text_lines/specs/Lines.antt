@@ -1,5 +1,5 @@
 -- The lines of `show` and `syms`.
-use Rattle.std.specs.Prelude.{ℕ, ◌+◌, ◌-◌, ◌*◌, ◌/◌, ◌%◌, ◌<◌, ◌==◌, if◌then◌else◌, List, [], ◌∷◌, ◌++◌, length, codes, Option, Some, None, ⊤}
+use Rattle.std.specs.Prelude.{ℕ, ◌+◌, ◌-◌, ◌*◌, ◌/◌, ◌%◌, ◌==◌, if◌then◌else◌, List, [], ◌∷◌, ◌++◌, length, codes, Option, Some, None}
 use Rattle.std.specs.List.{flat_map, enumerate_from, All}
 use Rattle.text_cols.specs.Columns.{decimal, hex_digit_of, hex8_of}
 use Rattle.elf32_syms.specs.declared.image.Symbol.{Symbol}
@@ -13,6 +13,7 @@ use Rattle.gp_base.specs.declared.records.Rec.{Rec}
 use Rattle.gp_base.specs.declared.records.Rec.TheVariants.{Hist, Arc, Blocks}
 use Rattle.gp_base.specs.declared.records.Records.{Records}
 use Rattle.gp_base.specs.declared.records.Form.TheVariants.{Bsd, Gnu}
+use Rattle.gp_base.specs.Spans.{HasRange}
 
 -- the range of a histogram, its number of counters and its rate
 abbrev pub hist_fields : RawHist → List ℕ
@@ -66,12 +67,6 @@ form_line Gnu = codes "gnu\n"
 -- the lines of all records, in file order
 unfoldable pub show_text : Records → List ℕ
 show_text records = form_line records.form ++ flat_map (rec_text records.form) records.recs
-
--- counters share a range that isn't empty
-abbrev pub HasRange : Rec → Type 0
-HasRange (Hist hist) = 0 < length hist.counters → hist.low < hist.high
-HasRange (Arc arc) = ⊤
-HasRange (Blocks blocks) = ⊤
 
 -- what can be shown, as reading a file of either form gives it
 abbrev pub IsShowable : Records → Type 0

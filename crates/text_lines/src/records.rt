@@ -5,7 +5,8 @@ ghost use Rattle.std.specs.List.{flat_map, enumerate_from, All};
 ghost use Rattle.host_port.specs.Buffered.{Adds};
 ghost use Rattle.host_port.specs.Host.{Puts};
 ghost use Rattle.host_port.specs.declared.side.Side.TheVariants.{Output};
-ghost use Rattle.text_lines.specs.Lines.{IsShowable, HasRange, show_text, form_line, rec_text, block_line, count_text, counter_address};
+ghost use Rattle.gp_base.specs.Spans.{HasRange};
+ghost use Rattle.text_lines.specs.Lines.{IsShowable, show_text, form_line, rec_text, block_line, count_text, counter_address};
 
 use crate::line;
 use gp_base::{Form, RawBlock, RawHist, Rec, Records};

@@ -18,7 +18,7 @@ loop-byte-preserved c =
     let lt = c.loop-byte-test.true in
     let byte = get_or xs i 0 in
     let so_far = flat_map byte_digits (take i xs) in
-    let put = rw (c.hex_digit.ensures, c.hex_digit-in-loop-byte.ensures) at c.put.ensures.bytes in
+    let put = rw (c.hex_digit.ensures, c.hex_digit-in-loop-byte.ensures, c.from-byte.ensures) at c.put.ensures.bytes in
     let more = one_more byte_digits xs i byte lt (get_or_default xs i 0 byte lt) in (
       put ∙ ap (λ (t : List ℕ). t ++ byte_digits byte) c.loop-byte.invariant.0 ∙ append_assoc c.args.line.now so_far (byte_digits byte)
           ∙ ap (λ (t : List ℕ). c.args.line.now ++ t) (sym more),
