@@ -1,17 +1,14 @@
 -- The note of a turn, in the world that a run stands for.
-use Rattle.std.proofs.Common.{◌&&◌, ◌+◌, ◌<◌, ◌-◌, ◌≤◌, ◌%◌, Bool, List, None, Option, Some, ap, arith, drop, eqb, false, length, length-drop, length-take, refl, subst, suc, sym, take, true, zero, ℕ, ◌∙◌, ◌≡◌, if◌then◌else◌}
-use Rattle.std.specs.Option.{IsSome, option_and_then, option_eq}
+use Rattle.std.proofs.Common.{◌&&◌, ◌+◌, ◌<◌, ◌≤◌, ◌%◌, Bool, List, None, Option, Some, ap, arith, eqb, false, refl, subst, suc, sym, true, zero, ℕ, ◌∙◌, ◌≡◌, if◌then◌else◌}
+use Rattle.std.specs.Option.{IsSome, option_eq}
 use Rattle.std.specs.Prelude.{is_some}
 use Rattle.std.specs.Bool.{then_some}
-use Rattle.std.proofs.lemmas.Bool.{eqb-true, le-leb}
-use Rattle.std.proofs.lemmas.List.{take-take}
-use Rattle.gp_base.specs.Bytes.{value_of as number_of}
+use Rattle.std.proofs.lemmas.Bool.{eqb-true}
 use Rattle.gp_base.specs.Spans.{is_in}
-use Rattle.gp_base.proofs.LittleEndian.{field_is}
-use Rattle.byteorder.specs.Endian.{little_from}
-use Rattle.rv_decode.specs.Table.{instr_of}
-use Rattle.rv_step.specs.Memory.{IsInside, Memory, is_inside, read_at, value_at}
+use Rattle.rv_decode.specs.declared.instruction.Instr.{Instr}
+use Rattle.rv_step.specs.Memory.{Memory}
 use Rattle.rv_step.specs.Registers.{Registers, register}
+use Rattle.rv_step.specs.Step.{instruction_at}
 use Rattle.mcount_arcs.specs.Log.{is_on, state_of}
 use Rattle.mcount_arcs.specs.Sizes.{text_span}
 use Rattle.mcount_arcs.specs.Value.{GmonValue, Looks, meets}
@@ -24,7 +21,7 @@ use Rattle.mcount_arcs.specs.declared.walk.Walk.{Walk}
 use Rattle.prof_machine.proofs.ClockLemmas.{due_now, not_due}
 use Rattle.prof_machine.proofs.HookLemmas.{at_is}
 use Rattle.prof_machine.proofs.WalkLemmas.{goes_on_left, held_inside, left_here, left_none, more_left}
-use Rattle.prof_machine.specs.Notes.{decoded, if_going, instruction_note, look_note, note_by, note_in, note_of, ran_from, ran_of, return_after, return_from_call, return_in, return_of, sample_in, word_in}
+use Rattle.prof_machine.specs.Notes.{if_going, instruction_note, look_note, note_by, note_of, ran_from, ran_of, return_after, return_from_call, return_in, return_of, sample_in}
 use Rattle.prof_machine.specs.Stages.{begin_of, holds, ran_since}
 use Rattle.prof_machine.specs.Turn.{executed, is_at, sampled, while_going}
 use Rattle.prof_machine.specs.Value.{IsHeld, RunValue, StandsFor, value_of}
@@ -32,7 +29,7 @@ use Rattle.prof_machine.specs.World.{World, hart_of, left_of}
 use Rattle.prof_machine.specs.declared.ending.End.{End}
 use Rattle.prof_machine.specs.declared.flight.Flight.{Flight}
 use Rattle.prof_machine.specs.declared.machine.Machine.{Machine}
-use Rattle.prof_machine.specs.declared.notes.Trace.{Trace}
+use Rattle.prof_machine.specs.declared.notes.Ran.{Ran}
 use Rattle.prof_machine.specs.declared.notes.TurnNote.{TurnNote}
 use Rattle.prof_machine.specs.declared.runs.Run.TheInside.{Inside}
 use Rattle.prof_machine.specs.declared.stages.Begin.{Begin}
@@ -50,22 +47,6 @@ pub ended_part : (part : World → Option ℕ) (w : World) (r : RunValue) → St
 ended_part part w r stands ended =
     let E : Option End → Type 0 = λ o. IsSome o in
     ended_by w.ending (part w) (subst E stands.ending ended)
-
--- ---- the word at an address
-
-inside_true : (m : Memory) (a : ℕ) → IsInside m a 4 → is_inside m a 4 ≡ true
-inside_true m a inside = rw (le-leb m.base a inside.0, le-leb (a + 4) (m.base + length m.bytes) inside.1) refl
-
-length-read : (m : Memory) (a : ℕ) → IsInside m a 4 → 4 ≤ length (read_at m a 4)
-length-read m a inside = simp (length-take, length-drop) (omega (arith, inside.0, inside.1))
-
-pub word_read : (m : Memory) (a : ℕ) (bytes : List ℕ) (word : ℕ) → IsInside m a 4 → bytes ≡ read_at m a 4 → word ≡ little_from 0 4 bytes → Some word ≡ word_in m a
-unfolding value_at
-word_read m a bytes word inside read is =
-    let four : 0 + 4 ≤ length bytes = subst (λ (bs : List ℕ). 4 ≤ length bs) (sym read) (length-read m a inside) in
-    let again : take 4 bytes ≡ read_at m a 4 = ap (take 4) read ∙ take-take 4 4 (drop (a - m.base) m.bytes) (omega arith) in
-    let number : word ≡ number_of (read_at m a 4) = is ∙ field_is 4 0 bytes four ∙ ap number_of again in
-    ap (λ (n : ℕ). Some n) number ∙ sym (ap (λ (b : Bool). if b then Some (number_of (read_at m a 4)) else None) (inside_true m a inside))
 
 -- ---- the sample
 
@@ -148,26 +129,29 @@ over_note w a f g h result held is mine looks over stands =
 
 -- ---- an instruction
 
-ran_as : (h : ℕ) (w v : World) (old new : RunValue) → StandsFor w old → StandsFor v new → ran_since h (begin_of h old) new ≡ ran_of h w v
+ran_as : (h : ℕ) (w v : World) (old new : RunValue) → StandsFor w old → StandsFor v new → ran_since h (begin_of h old) (instruction_at old.memory (hart_of old.harts h).pc) new ≡ ran_of h w v
 ran_as h w v old new first last =
-    ap (λ (n : ℕ). if eqb n old.retired then None else ran_from (hart_of old.harts h).pc (hart_of new.harts h).pc (option_and_then instr_of (word_in old.memory (hart_of old.harts h).pc))) last.retired
-    ∙ ap (λ (n : ℕ). if eqb v.retired n then None else ran_from (hart_of old.harts h).pc (hart_of new.harts h).pc (option_and_then instr_of (word_in old.memory (hart_of old.harts h).pc))) first.retired
-    ∙ ap (λ (x : List Registers). if eqb v.retired w.retired then None else ran_from (hart_of x h).pc (hart_of new.harts h).pc (option_and_then instr_of (word_in old.memory (hart_of x h).pc))) first.harts
-    ∙ ap (λ (x : List Registers). if eqb v.retired w.retired then None else ran_from (hart_of w.harts h).pc (hart_of x h).pc (option_and_then instr_of (word_in old.memory (hart_of w.harts h).pc))) last.harts
-    ∙ ap (λ (x : Memory). if eqb v.retired w.retired then None else ran_from (hart_of w.harts h).pc (hart_of v.harts h).pc (option_and_then instr_of (word_in x (hart_of w.harts h).pc))) first.memory
+    ap (λ (n : ℕ). if eqb n old.retired then None else ran_from (hart_of old.harts h).pc (hart_of new.harts h).pc (instruction_at old.memory (hart_of old.harts h).pc)) last.retired
+    ∙ ap (λ (n : ℕ). if eqb v.retired n then None else ran_from (hart_of old.harts h).pc (hart_of new.harts h).pc (instruction_at old.memory (hart_of old.harts h).pc)) first.retired
+    ∙ ap (λ (x : List Registers). if eqb v.retired w.retired then None else ran_from (hart_of x h).pc (hart_of new.harts h).pc (instruction_at old.memory (hart_of x h).pc)) first.harts
+    ∙ ap (λ (x : List Registers). if eqb v.retired w.retired then None else ran_from (hart_of w.harts h).pc (hart_of x h).pc (instruction_at old.memory (hart_of w.harts h).pc)) last.harts
+    ∙ ap (λ (x : Memory). if eqb v.retired w.retired then None else ran_from (hart_of w.harts h).pc (hart_of v.harts h).pc (instruction_at x (hart_of w.harts h).pc)) first.memory
 
-pub instruction_noted : (m m1 m2 : Machine) (h : ℕ) (w : World) (old new : RunValue) (t : Trace) (b : Begin) → m1 ≡ m → m2 ≡ m → StandsFor w old → StandsFor (executed m h w) new → b ≡ begin_of h old → decoded t.ran ≡ ran_since h b new
-    → t.sample ≡ if_going (sample_in m1 h) (executed m h w) → t.returned ≡ if_going (return_in m2 h) (while_going (sampled m1 h) (executed m h w)) → note_in t ≡ instruction_note m h w
+pub instruction_noted : (m m1 m2 : Machine) (h : ℕ) (w : World) (old new : RunValue) (t : TurnNote) (b : Begin) (instr : Option Instr) → m1 ≡ m → m2 ≡ m → StandsFor w old → StandsFor (executed m h w) new
+    → b ≡ begin_of h old → instr ≡ instruction_at old.memory (hart_of old.harts h).pc → t.ran ≡ ran_since h b instr new
+    → t.sample ≡ if_going (sample_in m1 h) (executed m h w) → t.returned ≡ if_going (return_in m2 h) (while_going (sampled m1 h) (executed m h w)) → t ≡ instruction_note m h w
 unfolding instruction_note
-instruction_noted m m1 m2 h w old new t b p q first last begin ran sample returned =
+instruction_noted m m1 m2 h w old new t b instr p q first last begin told ran sample returned =
     let v = executed m h w in
-    let ran_is : decoded t.ran ≡ ran_of h w v = ran ∙ ap (λ (x : Begin). ran_since h x new) begin ∙ ran_as h w v old new first last in
+    let ran_is : t.ran ≡ ran_of h w v =
+    ran ∙ ap (λ (x : Begin). ran_since h x instr new) begin ∙ ap (λ (x : Option Instr). ran_since h (begin_of h old) x new) told ∙ ran_as h w v old new first last in
     let sample_is : t.sample ≡ if_going (sample_in m h) v = sample ∙ ap (λ (x : Machine). if_going (sample_in x h) v) p in
     let returned_is : t.returned ≡ if_going (return_in m h) (while_going (sampled m h) v) =
     returned ∙ ap (λ (x : Machine). if_going (return_in x h) (while_going (sampled m1 h) v)) q ∙ ap (λ (x : Machine). if_going (return_in m h) (while_going (sampled x h) v)) p in
-    ap (λ x. record { ran = x; sample = t.sample; returned = t.returned }) ran_is
-    ∙ ap (λ x. record { ran = ran_of h w v; sample = x; returned = t.returned }) sample_is
-    ∙ ap (λ x. record { ran = ran_of h w v; sample = if_going (sample_in m h) v; returned = x }) returned_is
+    let R : Option Ran → TurnNote = λ x. record { ran = x; sample = t.sample; returned = t.returned } in
+    let S : Option ℕ → TurnNote = λ x. record { ran = ran_of h w v; sample = x; returned = t.returned } in
+    let B : Option ℕ → TurnNote = λ x. record { ran = ran_of h w v; sample = if_going (sample_in m h) v; returned = x } in
+    ap R ran_is ∙ ap S sample_is ∙ ap B returned_is
 
 -- ---- a turn
 

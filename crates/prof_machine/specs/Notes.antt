@@ -1,10 +1,9 @@
 -- What a turn does besides the world that it leaves: the instruction that retired, the sample that counts, and the
 -- return from a hook.
-use Rattle.std.specs.Prelude.{ℕ, zero, suc, ◌%◌, ◌==◌, List, Option, Some, None, is_some, option_and_then, if◌then◌else◌}
+use Rattle.std.specs.Prelude.{ℕ, zero, suc, ◌%◌, ◌==◌, List, Option, Some, None, is_some, if◌then◌else◌}
 use Rattle.rv_decode.specs.declared.instruction.Instr.{Instr}
-use Rattle.rv_decode.specs.Table.{instr_of}
-use Rattle.rv_step.specs.Memory.{Memory, is_inside, value_at}
 use Rattle.rv_step.specs.Registers.{Registers}
+use Rattle.rv_step.specs.Step.{instruction_at}
 use Rattle.mcount_arcs.specs.declared.walk.Entered.{Entered}
 use Rattle.mcount_arcs.specs.declared.walk.Entered.TheVariants.{Ignored, Lost, Walking}
 use Rattle.mcount_arcs.specs.Log.{LogEntry, Sample, state_of}
@@ -12,22 +11,12 @@ use Rattle.mcount_arcs.specs.Samples.{counted_in}
 use Rattle.mcount_arcs.specs.Value.{meets}
 use Rattle.prof_machine.specs.declared.machine.Machine.{Machine}
 use Rattle.prof_machine.specs.declared.notes.Ran.{Ran}
-use Rattle.prof_machine.specs.declared.notes.RanWord.{RanWord}
-use Rattle.prof_machine.specs.declared.notes.Trace.{Trace}
 use Rattle.prof_machine.specs.declared.notes.TurnNote.{TurnNote}
 use Rattle.prof_machine.specs.Registers.{a0, ra}
 use Rattle.prof_machine.specs.Turn.{executed, is_at, sampled, target_of, while_going}
 use Rattle.prof_machine.specs.World.{World, hart_of, left_of}
 
 -- ---- the instruction
-
--- the word at an address, if its four bytes are all in memory
-abbrev pub word_in : Memory → ℕ → Option ℕ
-word_in memory pc = if is_inside memory pc 4 then Some (value_at memory pc 4) else None
-
--- the instruction at an address, if there is one
-abbrev pub instruction_at : Memory → ℕ → Option Instr
-instruction_at memory pc = option_and_then instr_of (word_in memory pc)
 
 abbrev pub ran_from : ℕ → ℕ → Option Instr → Option Ran
 ran_from pc next None = None
@@ -97,12 +86,3 @@ note_by m h (suc (suc more)) w = look_note None
 -- of hart h in world w. A run that has ended has none
 unfoldable pub note_of : Machine → World → ℕ → TurnNote
 note_of m w h = if is_some w.ending then look_note None else note_by m h (left_of w.left h) w
-
--- ---- as a run keeps it
-
-abbrev pub decoded : Option RanWord → Option Ran
-decoded None = None
-decoded (Some r) = ran_from r.pc r.next (instr_of r.word)
-
-abbrev pub note_in : Trace → TurnNote
-note_in t = record { ran = decoded t.ran; sample = t.sample; returned = t.returned }

@@ -1,6 +1,6 @@
 -- What the stages of a turn leave of a run's parts.
-use Rattle.std.specs.Prelude.{◌≡◌, ℕ, ◌+◌, ◌-◌, ◌%◌, ◌<◌, ◌≤◌, ◌==◌, Bool, false, Option, Some, None, slice_set, if◌then◌else◌, IsSome, option_and_then}
-use Rattle.rv_decode.specs.Table.{instr_of}
+use Rattle.std.specs.Prelude.{◌≡◌, ℕ, ◌+◌, ◌-◌, ◌%◌, ◌<◌, ◌≤◌, ◌==◌, Bool, false, Option, Some, None, slice_set, if◌then◌else◌, IsSome}
+use Rattle.rv_decode.specs.declared.instruction.Instr.{Instr}
 use Rattle.rv_step.specs.declared.stepped.TrapKind.TheVariants.{JumpMisaligned}
 use Rattle.rv_step.specs.Registers.{Registers}
 use Rattle.prof_machine.specs.declared.ending.End.TheVariants.{Trap}
@@ -8,7 +8,7 @@ use Rattle.prof_machine.specs.declared.flight.Flight.{Flight}
 use Rattle.prof_machine.specs.Executions.{with_execution}
 use Rattle.prof_machine.specs.declared.notes.Ran.{Ran}
 use Rattle.prof_machine.specs.declared.stages.Begin.{Begin}
-use Rattle.prof_machine.specs.Notes.{ran_from, word_in}
+use Rattle.prof_machine.specs.Notes.{ran_from}
 use Rattle.prof_machine.specs.Turn.{target_of, with_answer}
 use Rattle.prof_machine.specs.Value.{RunValue, calls_met, looks_at_most}
 use Rattle.prof_machine.specs.World.{hart_of}
@@ -63,9 +63,9 @@ pub record Serves (old new : RunValue) : Type 0 where
   pub looks : looks_at_most new.flight ≤ looks_at_most old.flight + 65534
   pub ended : IsSome old.ending → new.ending ≡ old.ending
 
--- where a turn of hart h begins, and the instruction that has retired since then
+-- where a turn of hart h begins, and the instruction that stood there, if it has retired since then
 abbrev pub begin_of : ℕ → RunValue → Begin
-begin_of h r = record { pc = (hart_of r.harts h).pc; word = word_in r.memory (hart_of r.harts h).pc; retired = r.retired }
+begin_of h r = record { pc = (hart_of r.harts h).pc; retired = r.retired }
 
-abbrev pub ran_since : ℕ → Begin → RunValue → Option Ran
-ran_since h b r = if r.retired == b.retired then None else ran_from b.pc (hart_of r.harts h).pc (option_and_then instr_of b.word)
+abbrev pub ran_since : ℕ → Begin → Option Instr → RunValue → Option Ran
+ran_since h b instr r = if r.retired == b.retired then None else ran_from b.pc (hart_of r.harts h).pc instr

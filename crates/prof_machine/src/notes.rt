@@ -1,9 +1,9 @@
 //! What a turn did.
 
 ghost use Rattle.std.specs.Prelude.{◌≡◌};
-ghost use Rattle.prof_machine.specs.Notes.{decoded as spec, note_in};
+ghost use Rattle.prof_machine.specs.Notes.{look_note};
 
-use rv_decode::{Instr, decode};
+use rv_decode::Instr;
 
 /// What a turn did, besides the world that it left. A part is None where the turn had no such thing.
 #[derive(Clone, Copy, Debug, PartialEq, Eq)]
@@ -26,51 +26,15 @@ pub struct Ran {
     pub next: u32,
 }
 
-/// What a turn did, as a run keeps it. Most turns are never asked for it, so the instruction is kept as
-/// its word.
-#[derive(Clone, Copy)]
-pub struct Trace {
-    pub(crate) ran: Option<RanWord>,
-    pub(crate) sample: Option<u32>,
-    pub(crate) returned: Option<u32>,
-}
-
-/// The word of an instruction that retired, where it stands, and where it led.
-#[derive(Clone, Copy)]
-pub struct RanWord {
-    pub(crate) pc: u32,
-    pub(crate) word: u32,
-    pub(crate) next: u32,
-}
-
-impl Trace {
+impl TurnNote {
     /// What a turn did that was a look of a walk: at most it has returned from the hook.
-    pub(crate) fn of_look(returned: Option<u32>) -> Trace
-        ensures { result ≡ record { ran = None; sample = None; returned = returned } }
+    pub(crate) fn of_look(returned: Option<u32>) -> TurnNote
+        ensures { result ≡ look_note returned }
     {
-        Trace {
+        TurnNote {
             ran: None,
             sample: None,
             returned,
         }
     }
-
-    /// What is told of it.
-    pub(crate) fn note(self) -> TurnNote
-        ensures { result ≡ note_in self }
-    {
-        TurnNote {
-            ran: decoded(self.ran),
-            sample: self.sample,
-            returned: self.returned,
-        }
-    }
-}
-
-fn decoded(ran: Option<RanWord>) -> Option<Ran>
-    ensures { result ≡ spec ran }
-{
-    let RanWord { pc, word, next } = ran?;
-    let instr = decode(word)?;
-    Some(Ran { pc, instr, next })
 }

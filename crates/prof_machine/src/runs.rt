@@ -21,7 +21,7 @@ use crate::ending::{End, RunSummary, StartRefusal, Turned};
 use crate::flight::Flight;
 use crate::layout::{Layout, first_registers};
 use crate::machine::Machine;
-use crate::notes::{Trace, TurnNote};
+use crate::notes::TurnNote;
 use crate::schedule::PlanWalk;
 use crate::setup::Setup;
 use elf32_syms::Image;
@@ -54,7 +54,7 @@ pub struct Run {
     pub(crate) live: bool,
     pub(crate) gmon: Gmon,
     // What the last turn did.
-    pub(crate) trace: Trace,
+    pub(crate) note: TurnNote,
 }
 
 impl Model for Run {
@@ -108,7 +108,7 @@ impl Run {
             ending: None,
             live: true,
             gmon: Gmon::startup(alloc, image.text, setup.hist, setup.hash)?,
-            trace: Trace::of_look(None),
+            note: TurnNote::of_look(None),
         })
     }
 
@@ -140,13 +140,13 @@ impl Run {
         ensures less { IsLive self.new → work_left self.new < work_left self.old }
     {
         self.live = false;
-        let trace = if self.holds_walk(hart) {
-            Trace::of_look(self.look(hart))
+        let note = if self.holds_walk(hart) {
+            TurnNote::of_look(self.look(hart))
         } else {
             self.instruct(hart, host)?
         };
         self.close();
-        self.trace = trace;
+        self.note = note;
         self.live = self.ending.is_none();
         Ok(self.turned())
     }
@@ -184,7 +184,7 @@ impl Run {
     pub fn last_turn(&self) -> TurnNote
         ensures { result ≡ self.now.note }
     {
-        self.trace.note()
+        self.note
     }
 
     /// Whether the run can take a turn: true until it has ended, or a print has failed.

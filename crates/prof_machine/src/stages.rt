@@ -5,29 +5,28 @@ ghost use Rattle.host_port.specs.Outside.{KeepsCounts, KeepsInput};
 ghost use Rattle.gp_base.specs.Spans.{is_in};
 ghost use Rattle.mcount_arcs.specs.Sizes.{text_span};
 ghost use Rattle.prof_machine.specs.Executions.{with_execution};
-ghost use Rattle.prof_machine.specs.Notes.{decoded, if_going, instruction_note, look_note, note_by, note_in, return_from_call, return_in, return_of, sample_in, word_in};
+ghost use Rattle.prof_machine.specs.Notes.{if_going, instruction_note, look_note, note_by, return_from_call, return_in, return_of, sample_in};
 ghost use Rattle.prof_machine.specs.Prints.{ArePrinted, BreaksOff, PrintFailed};
 ghost use Rattle.prof_machine.specs.Stages.{Executes, Serves, Steps, Ticks, answers, begin_of, holds, ran_since, retires, returns};
 ghost use Rattle.prof_machine.specs.Turn.{after_ecall, arrived, called, closed, executed, instructed, sampled, spent, switched, taken, while_going};
 ghost use Rattle.prof_machine.specs.Value.{StandsFor, calls_met, work_left};
 ghost use Rattle.prof_machine.specs.World.{World, hart_of, left_of};
+ghost use Rattle.rv_step.specs.Step.{instruction_at};
 
 use crate::ecalls::{A0, Call, ecall_of, write};
 use crate::ending::End;
 use crate::flight::{Flight, finish_walk};
-use crate::notes::{RanWord, Trace};
+use crate::notes::{Ran, TurnNote};
 use crate::runs::Run;
-use byteorder::{ByteOrder, LittleEndian};
 use host_port::{Failed, Host};
 use mcount_arcs::{Entered, Gmon, Looked};
-use rv_step::{Ram, Stepped, TrapKind, step};
+use rv_decode::Instr;
+use rv_step::{Stepped, TracedStep, TrapKind, traced_step};
 
 /// Where a turn begins.
 #[derive(Clone, Copy)]
 struct Begin {
     pc: u32,
-    // The word that stands there, if memory has it.
-    word: Option<u32>,
     // How many instructions have retired.
     retired: u32,
 }
@@ -74,7 +73,7 @@ impl Run {
     }
 
     // One instruction of this hart, with its tick and its hook.
-    pub(crate) fn instruct<H: Host>(&mut self, hart: u32, host: &mut H) -> Result<Trace, Failed>
+    pub(crate) fn instruct<H: Host>(&mut self, hart: u32, host: &mut H) -> Result<TurnNote, Failed>
         requires none { holds self.old.flight hart ≡ false }
         requires hart { hart < self.old.machine.setup.harts }
         requires going { self.old.ending ≡ None }
@@ -93,15 +92,15 @@ impl Run {
         ensures left { OnOk result (self.new.ending ≡ None → self.new.retired < self.new.machine.setup.budget) }
         ensures due { OnOk result (self.new.ending ≡ None → 1 ≤ self.new.due) }
         ensures less { OnOk result (self.new.ending ≡ None → work_left self.new < work_left self.old) }
-        ensures note { IfOk result (λ t. (w : World) → StandsFor w self.old → note_in t ≡ instruction_note self.old.machine hart w) }
+        ensures note { IfOk result (λ note. (w : World) → StandsFor w self.old → note ≡ instruction_note self.old.machine hart w) }
     {
         let begin = self.begin(hart);
-        self.execute(hart, host)?;
-        let ran = self.ran_since(hart, begin);
+        let instr = self.execute(hart, host)?;
+        let ran = self.ran_since(hart, begin, instr);
         let sample = self.sample(hart);
         let returned = self.arrive(hart);
         self.spend();
-        Ok(Trace {
+        Ok(TurnNote {
             ran,
             sample,
             returned,
@@ -113,31 +112,29 @@ impl Run {
         requires { hart < self.now.machine.setup.harts }
         ensures { result ≡ begin_of hart self.now }
     {
-        let pc = self.harts[hart as usize].pc();
         Begin {
-            pc,
-            word: word_at(&self.ram, pc),
+            pc: self.harts[hart as usize].pc(),
             retired: self.retired,
         }
     }
 
-    // The instruction that has retired since then.
-    fn ran_since(&self, hart: u32, begin: Begin) -> Option<RanWord>
+    // The instruction that stood there, if it has retired since then.
+    fn ran_since(&self, hart: u32, begin: Begin, instr: Option<Instr>) -> Option<Ran>
         requires { hart < self.now.machine.setup.harts }
-        ensures { decoded result ≡ ran_since hart begin self.now }
+        ensures { result ≡ ran_since hart begin instr self.now }
     {
         if self.retired == begin.retired {
             return None;
         }
-        Some(RanWord {
+        Some(Ran {
             pc: begin.pc,
-            word: begin.word?,
+            instr: instr?,
             next: self.harts[hart as usize].pc(),
         })
     }
 
-    // The instruction.
-    fn execute<H: Host>(&mut self, hart: u32, host: &mut H) -> Result<(), Failed>
+    // The instruction, which is answered if there is one.
+    fn execute<H: Host>(&mut self, hart: u32, host: &mut H) -> Result<Option<Instr>, Failed>
         requires hart { hart < self.old.machine.setup.harts }
         requires left { self.old.retired < self.old.machine.setup.budget }
         requires due { 1 ≤ self.old.due }
@@ -153,19 +150,23 @@ impl Run {
         ensures input { KeepsInput (H.outside host.old) (H.outside host.new) }
         ensures same { Steps self.old self.new }
         ensures executes { OnOk result (Executes self.old self.new) }
+        ensures instr { IfOk result (λ instr. instr ≡ instruction_at self.old.memory (hart_of self.old.harts hart).pc) }
     {
         let regs = &mut self.harts[hart as usize];
         let pc = regs.pc();
-        let answer = step(regs, &mut self.ram);
+        let TracedStep { answer, instr } = traced_step(regs, &mut self.ram);
         match answer {
             Stepped::Retired => {
                 self.retire(pc);
-                Ok(())
+                Ok(instr)
             }
-            Stepped::Ecall => self.call(hart, host),
+            Stepped::Ecall => {
+                self.call(hart, host)?;
+                Ok(instr)
+            }
             Stepped::Trap(kind) => {
                 self.ending = Some(End::Trap(kind, pc));
-                Ok(())
+                Ok(instr)
             }
         }
     }
@@ -396,12 +397,4 @@ fn count_execution(counts: &mut [u32], low: u32, pc: u32)
     if i < counts.len() {
         counts[i] += 1;
     }
-}
-
-/// The word at an address, if its four bytes are all in memory.
-fn word_at(ram: &Ram, pc: u32) -> Option<u32>
-    ensures { result ≡ word_in ram.now pc }
-{
-    let bytes = ram.slice(pc, 4)?;
-    Some(LittleEndian::read_u32(bytes))
 }

@@ -1,6 +1,6 @@
 -- One step of a hart: one case for each instruction of RV32I, M and Zifencei, as the RISC-V unprivileged manual
 -- describes it. When a step traps is this project's own choice.
-use Rattle.std.specs.Prelude.{ℕ, ◌+◌, ◌-◌, ◌%◌, ◌^◌, ◌==◌, not, if◌then◌else◌, Option, Some, None, ℤ}
+use Rattle.std.specs.Prelude.{ℕ, ◌+◌, ◌-◌, ◌%◌, ◌^◌, ◌==◌, not, if◌then◌else◌, Option, Some, None, option_and_then, ℤ}
 use Rattle.std.specs.Int.{w32, cast_unsigned}
 use Rattle.gp_base.specs.Bytes.{le}
 use Rattle.rv_decode.specs.declared.instruction.Op.{Op}
@@ -158,9 +158,17 @@ executed Divu i s m = multiplies i s m
 executed Rem i s m = multiplies i s m
 executed Remu i s m = multiplies i s m
 
--- the word at pc, if its four bytes are all in memory
+-- the word at an address, if its four bytes are all in memory
+abbrev pub word_in : Memory → ℕ → Option ℕ
+word_in m pc = if is_inside m pc 4 then Some (value_at m pc 4) else None
+
+-- the instruction at an address, if there is one
+abbrev pub instruction_at : Memory → ℕ → Option Instr
+instruction_at m pc = option_and_then instr_of (word_in m pc)
+
+-- the word at pc
 abbrev pub fetched : Registers → Memory → Option ℕ
-fetched s m = if is_inside m s.pc 4 then Some (value_at m s.pc 4) else None
+fetched s m = word_in m s.pc
 
 abbrev pub after_decode : Option Instr → Registers → Memory → Outcome
 after_decode None s m = trapped Illegal s m

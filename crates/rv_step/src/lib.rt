@@ -10,8 +10,8 @@ pub mod stepper;
 
 pub use memory::Ram;
 pub use registers::Regs;
-pub use stepped::{Stepped, TrapKind};
-pub use stepper::step;
+pub use stepped::{Stepped, TracedStep, TrapKind};
+pub use stepper::{step, traced_step};
 
 #[cfg(test)]
 mod tests;

@@ -1,0 +1,35 @@
+//! That equality and copies of the values that are told say what they seem to: each is pinned by a clause.
+
+ghost use Rattle.std.specs.Prelude.{◌≡◌, ◌↔◌, IsTrue, IfOk};
+
+use crate::sizes::Sizes;
+use crate::state::State;
+use std::alloc::AllocError;
+
+/// Whether two sizes are the same.
+pub fn same_sizes(a: &Sizes, b: &Sizes) -> bool
+    ensures { IsTrue result ↔ (a.now ≡ b.now) }
+{
+    a == b
+}
+
+/// The same sizes.
+pub fn copied_sizes(a: &Sizes) -> Result<Sizes, AllocError>
+    ensures { IfOk result (λ b. b ≡ a.now) }
+{
+    a.clone()
+}
+
+/// Whether two states are the same.
+pub fn same_states(a: &State, b: &State) -> bool
+    ensures { IsTrue result ↔ (a.now ≡ b.now) }
+{
+    a == b
+}
+
+/// The same state.
+pub fn copied_states(a: &State) -> Result<State, AllocError>
+    ensures { IfOk result (λ b. b ≡ a.now) }
+{
+    a.clone()
+}
