@@ -30,15 +30,18 @@ use Rattle.rvgprof.specs.declared.outcome.Done.{Done}
 use Rattle.rvgprof.specs.declared.outcome.Fault.{Fault}
 use Rattle.rvgprof.specs.declared.outcome.Fault.TheVariants.{BadElf, BadProfile, Unlike, TooLarge}
 use Rattle.rvgprof.specs.declared.words.Command.{Command}
-use Rattle.rvgprof.specs.declared.words.Command.TheVariants.{Show, Syms, Run, Sum, Report, Profile, Demo}
+use Rattle.rvgprof.specs.declared.words.Command.TheVariants.{Show, Syms, Run, Sum, Report, Profile, Demo, Annotate, Folded, Help, Version}
 use Rattle.rvgprof.specs.declared.words.Shown.{Shown}
 use Rattle.rvgprof.specs.declared.words.Shown.TheVariants as shows
 use Rattle.rvgprof.specs.Items.{name_of}
 use Rattle.rvgprof.specs.Words.{command_of}
-use Rattle.rvgprof.specs.Course.{Course, Ends, Input, Does, unless, reply_to, MayStop}
-use Rattle.rvgprof.specs.Answer.{RunActs, command_course, course_of, demo_lines, ended, file_acts, file_refusal, file_records, files_named, given_file_acts, print_reports, profile_file, profile_in, profiles, program, report_profiles, report_run, run_acts, run_program, show_lines, start_fault_of, sum_file, syms_lines, told, written_profile}
+use Rattle.rvgprof.specs.Course.{Course, Ends, Input, Does, one_by_one, unless, reply_to, MayStop}
+use Rattle.annotate.specs.Listing.{annotated_text}
+use Rattle.flat_report.specs.Sources.{Sources as ReportSources}
+use Rattle.rvgprof.specs.Help.{help_text, version_text}
+use Rattle.rvgprof.specs.Answer.{Chosen, RunActs, chosen_by, chosen_sources, command_course, course_of, demo_lines, ended, exact_report, file_acts, file_refusal, file_records, files_named, fold_program, given_file_acts, list_profiles, print_reports, profile_file, profile_in, profiles, program, report_profiles, report_run, run_acts, run_program, show_lines, shown_reports, stacks_told, start_fault_of, sum_file, syms_lines, told, too_wide, wide_step, written_profile}
 use Rattle.rvgprof.proofs.Summing.{nothing_added}
-use Rattle.rvgprof.specs.Acceptance.{IsProgramFile, IsLike, AreProfileFiles, IsAccepted, records_of, acts_at_once}
+use Rattle.rvgprof.specs.Acceptance.{IsProgramFile, IsLike, AreProfileFiles, IsAccepted, records_of, total_of, acts_at_once}
 
 -- no list with an item in it is empty
 never_empty : {T : Type 0} (before : List T) (x : T) (after : List T) → [] ≡ before ++ x ∷ after → ⊥
@@ -87,18 +90,31 @@ module _ (contents : ℕ → List ℕ) where
         (λ h. read.1 (h.0, judged.1 (h.1, h.2))),
       )
 
-  run_done : (acts : RunActs) (setup : Setup) (next : Sizes → World → Course) (bytes : List ℕ) (image : Image) → ((z : Sizes) (w : World) → IsDone (next z w))
-      → IsDone (run_program acts setup next bytes image) ↔ (start_refusal image setup ≡ None)
-  run_done acts setup next bytes image ends =
+  run_done : (acts : RunActs) (setup : Setup) (next : Sizes → World → Course) (bytes : List ℕ) (image : Image)
+      → IsDone (run_program acts setup next bytes image) ↔ ((start_refusal image setup ≡ None) × IsDone (next (sizes_of image.text setup.hist setup.hash) (final_world image bytes setup)))
+  run_done acts setup next bytes image =
       let z = sizes_of image.text setup.hist setup.hash in
       let w = final_world image bytes setup in
-      let judged = unless_done start_fault_of (start_refusal image setup) (Does (acts z w) (next z w)) in
-      ((λ h. (judged.0 h).0), (λ h. judged.1 (h, ends z w)))
+      unless_done start_fault_of (start_refusal image setup) (Does (acts z w) (next z w))
 
-  reports_done : (shown : Shown) (image : Image) (total : Content) (next : Course) → IsDone next → IsDone (print_reports shown image total next)
-  reports_done shows.Flat image total next h = h
-  reports_done shows.Graph image total next h = h
-  reports_done shows.Both image total next h = h
+  one_by_one_done : (acts : List Act) (next : Course) → IsDone next → IsDone (one_by_one acts next)
+  one_by_one_done [] next h = h
+  one_by_one_done (act ∷ acts) next h = one_by_one_done acts next h
+
+  exact_done : (exact : Bool) (s : ReportSources) (next : Course) → IsDone next → IsDone (exact_report exact s next)
+  exact_done false s next h = h
+  exact_done true s next h = h
+
+  shown_done : (shown : Shown) (hidden : List (List ℕ)) (s : ReportSources) (next : Course) → IsDone next → IsDone (shown_reports shown hidden s next)
+  shown_done shows.Flat hidden s next h = h
+  shown_done shows.Graph hidden s next h = h
+  shown_done shows.Both hidden s next h = h
+
+  reports_done : (chosen : Chosen) (image : Image) (total : Content) (next : Course) → IsDone next → IsDone (print_reports chosen image total next) ↔ (wide_step chosen.exact (chosen_sources chosen image total) ≡ None)
+  reports_done chosen image total next h =
+      let s = chosen_sources chosen image total in
+      let judged = unless_done too_wide (wide_step chosen.exact s) (shown_reports chosen.shown chosen.hidden s (exact_report chosen.exact s next)) in
+      ((λ d. (judged.0 d).0), (λ none. judged.1 (none, shown_done chosen.shown chosen.hidden s (exact_report chosen.exact s next) (exact_done chosen.exact s next h))))
 
   -- ---- files that are added up
 
@@ -144,9 +160,14 @@ module _ (contents : ℕ → List ℕ) where
   abbrev AreTaken : List ℕ → ℕ → List ℕ → Type 0
   AreTaken earlier left words = (sum_by bytes_in words ≤ left) × AllByRecursion is_taken words × AreAlike earlier words
 
-  profiles_done : (earlier words : List ℕ) (left : ℕ) (total : Content) (next : Content → Course) → total ≡ content_of (all_records earlier) → ((t : Content) → IsDone (next t)) → IsDone (profiles words left total next) ↔ AreTaken earlier left words
-  profiles_done earlier [] left total next is ends = ((λ h. (omega arith, tt, λ before word after e. absurd (never_empty before word after e))), (λ h. ends total))
-  profiles_done earlier (word ∷ words) left total next is ends =
+  profiles_done : (earlier words : List ℕ) (left : ℕ) (total : Content) (next : Content → Course) → total ≡ content_of (all_records earlier)
+      → IsDone (profiles words left total next) ↔ (AreTaken earlier left words × IsDone (next (content_of (all_records (earlier ++ words)))))
+  profiles_done earlier [] left total next is =
+      let whole : total ≡ content_of (all_records (earlier ++ [])) = is ∙ ap (λ (ws : List ℕ). content_of (all_records ws)) (sym (append-nil earlier)) in (
+        (λ h. ((omega arith, tt, λ before word after e. absurd (never_empty before word after e)), subst (λ (t : Content). IsDone (next t)) whole h)),
+        (λ h. subst (λ (t : Content). IsDone (next t)) (sym whole) h.1),
+      )
+  profiles_done earlier (word ∷ words) left total next is =
       let records = file_records (contents word) in
       let fault : Difference → Fault = λ unlike. Unlike unlike word in
       let len = length (contents word) in
@@ -155,35 +176,47 @@ module _ (contents : ℕ → List ℕ) where
       let first = unless_done fault (conflict_of empty_content (records_at word)) second in
       let other = unless_done fault (clash_of total (profile_in records)) rest in
       let read = profile_done word left (λ n rs. unless fault (conflict_of empty_content (wide_records rs.recs)) (unless fault (clash_of total (profile_in rs)) (profiles words (left - n) (sum_of total (profile_in rs)) next))) in
-      let later = profiles_done (earlier ++ word ∷ []) words (left - len) (sum_of total (profile_in records)) next (total_more earlier word total is) ends in
-      let sums = sum_by-cons bytes_in word words in (
+      let later = profiles_done (earlier ++ word ∷ []) words (left - len) (sum_of total (profile_in records)) next (total_more earlier word total is) in
+      let sums = sum_by-cons bytes_in word words in
+      let grouped : (earlier ++ word ∷ []) ++ words ≡ earlier ++ word ∷ words = append_assoc earlier (word ∷ []) words in
+      let at_end : List ℕ → Type 0 = λ ws. IsDone (next (content_of (all_records ws))) in (
         (λ h.
             let one = read.0 h in
             let two = first.0 one.2 in
             let three = other.0 two.1 in
             let four = later.0 three.1 in
             let here : IsLike (all_records earlier) (records_at word) = record { itself = two.0; others = subst (λ (t : Content). clash_of t (content_of (records_at word)) ≡ None) is three.0 } in
-            (omega (arith, sums, one.0, four.0), (one.1, four.1), alike_more earlier word words here four.2)),
+            ((omega (arith, sums, one.0, four.0.0), (one.1, four.0.1), alike_more earlier word words here four.0.2), subst at_end grouped four.1)),
         (λ h.
-            let here = alike_first earlier word words h.2 in
-            let fits : sum_by bytes_in words ≤ left - len = omega (arith, sums, h.0) in
-            let four = later.1 (fits, h.1.1, alike_others earlier word words h.2) in
+            let here = alike_first earlier word words h.0.2 in
+            let fits : sum_by bytes_in words ≤ left - len = omega (arith, sums, h.0.0) in
+            let four = later.1 ((fits, h.0.1.1, alike_others earlier word words h.0.2), subst at_end (sym grouped) h.1) in
             let three = other.1 (subst (λ (t : Content). clash_of t (content_of (records_at word)) ≡ None) (sym is) here.others, four) in
-            read.1 (omega (arith, sums, h.0), h.1.0, first.1 (here.itself, three))),
+            read.1 (omega (arith, sums, h.0.0), h.0.1.0, first.1 (here.itself, three))),
       )
 
-  files_done : (words : List ℕ) (next : Content → Course) → ((t : Content) → IsDone (next t)) → IsDone (profiles words MAX_PROFILE_BYTES empty_content next) ↔ AreProfileFiles contents words
-  files_done words next ends =
-      let done = profiles_done [] words MAX_PROFILE_BYTES empty_content next nothing_added ends in (
+  files_done : (words : List ℕ) (next : Content → Course) → IsDone (profiles words MAX_PROFILE_BYTES empty_content next) ↔ (AreProfileFiles contents words × IsDone (next (total_of contents words)))
+  files_done words next =
+      let done = profiles_done [] words MAX_PROFILE_BYTES empty_content next nothing_added in (
         (λ h.
             let taken = done.0 h in
-            record { limit = taken.0; accepted = taken.1; alike = taken.2 }),
-        (λ h. done.1 (h.limit, h.accepted, h.alike)),
+            (record { limit = taken.0.0; accepted = taken.0.1; alike = taken.0.2 }, taken.1)),
+        (λ h. done.1 ((h.0.limit, h.0.accepted, h.0.alike), h.1)),
       )
+
+  -- files alone, where all else is done
+  files_alone : (words : List ℕ) (next : Content → Course) → IsDone (next (total_of contents words)) → IsDone (profiles words MAX_PROFILE_BYTES empty_content next) ↔ AreProfileFiles contents words
+  files_alone words next ends = let done = files_done words next in ((λ h. (done.0 h).0), (λ h. done.1 (h, ends)))
+
+  started_alone : (acts : RunActs) (setup : Setup) (next : Sizes → World → Course) (bytes : List ℕ) (image : Image) → ((z : Sizes) (w : World) → IsDone (next z w))
+      → IsDone (run_program acts setup next bytes image) ↔ (start_refusal image setup ≡ None)
+  started_alone acts setup next bytes image ends =
+      let done = run_done acts setup next bytes image in
+      ((λ h. (done.0 h).0), (λ h. done.1 (h, ends (sizes_of image.text setup.hist setup.hash) (final_world image bytes setup))))
 
   -- ---- commands
 
-  accepted_by : (words : List (List ℕ)) (command : Option Command) → IsDone (command_course words command) ↔ IsAccepted contents command
+  accepted_by : (words : List (List ℕ)) (command : Option Command) → IsDone (command_course words command) ↔ IsAccepted words contents command
   accepted_by words None = ((λ h. absurd cc), (λ h. absurd h))
   accepted_by words (Some (Show gmon)) =
       let read = profile_done gmon MAX_PROFILE_BYTES show_lines in (
@@ -195,36 +228,44 @@ module _ (contents : ℕ → List ℕ) where
   accepted_by words (Some (Syms elf)) =
       let read = program_done elf syms_lines in
       ((λ h. (read.0 h).0), (λ h. read.1 (h, refl)))
-  accepted_by words (Some (Sum out gmons)) = files_done gmons (sum_file (name_of words out)) (λ t. refl)
-  accepted_by words (Some (Report elf gmons shown)) =
+  accepted_by words (Some (Sum out gmons)) = files_alone gmons (sum_file (name_of words out)) refl
+  accepted_by words (Some (Report elf gmons selection)) =
       let bytes = contents elf in
-      let read = program_done elf (report_profiles gmons shown) in
-      let files = files_done gmons (λ total. print_reports shown (image_of bytes) total ended) (λ t. reports_done shown (image_of bytes) t ended refl) in (
+      let chosen = chosen_by words selection in
+      let read = program_done elf (report_profiles gmons chosen) in
+      let files = files_done gmons (λ total. print_reports chosen (image_of bytes) total ended) in
+      let narrow = reports_done chosen (image_of bytes) (total_of contents gmons) ended refl in (
         (λ h.
             let one = read.0 h in
-            (one.0, files.0 one.1)),
-        (λ h. read.1 (h.0, files.1 h.1)),
+            let two = files.0 one.1 in
+            (one.0, two.0, narrow.0 two.1)),
+        (λ h. read.1 (h.0, files.1 (h.1, narrow.1 h.2))),
       )
   accepted_by words (Some (Run elf gmon form image setup)) =
       let bytes = contents elf in
-      let acts = run_acts (files_named words gmon form image) setup.rate in
+      let acts = run_acts (files_named words gmon form image) setup in
       let read = program_done elf (run_program acts setup told) in
-      let starts = run_done acts setup told bytes (image_of bytes) (λ z w. refl) in (
+      let starts = started_alone acts setup told bytes (image_of bytes) (λ z w. refl) in (
         (λ h.
             let one = read.0 h in
             (one.0, starts.0 one.1)),
         (λ h. read.1 (h.0, starts.1 h.1)),
       )
-  accepted_by words (Some (Profile elf gmon form image setup shown)) =
+  accepted_by words (Some (Profile elf gmon form image setup selection)) =
       let bytes = contents elf in
-      let acts = run_acts (files_named words gmon form image) setup.rate in
-      let next : Image → Sizes → World → Course = report_run form setup.rate shown in
+      let chosen = chosen_by words selection in
+      let z = sizes_of (image_of bytes).text setup.hist setup.hash in
+      let w = final_world (image_of bytes) bytes setup in
+      let acts = run_acts (files_named words gmon form image) setup in
+      let next : Image → Sizes → World → Course = report_run form setup.rate chosen in
       let read = program_done elf (λ b i. run_program acts setup (next i) b i) in
-      let starts = run_done acts setup (next (image_of bytes)) bytes (image_of bytes) (λ z w. reports_done shown (image_of bytes) (written_profile form z w.log setup.rate) (told z w) refl) in (
+      let starts = run_done acts setup (next (image_of bytes)) bytes (image_of bytes) in
+      let narrow = reports_done chosen (image_of bytes) (written_profile form z w.log setup.rate) (told z w) refl in (
         (λ h.
             let one = read.0 h in
-            (one.0, starts.0 one.1)),
-        (λ h. read.1 (h.0, starts.1 h.1)),
+            let two = starts.0 one.1 in
+            (one.0, two.0, narrow.0 two.1)),
+        (λ h. read.1 (h.0, starts.1 (h.1, narrow.1 h.2))),
       )
   accepted_by words (Some (Demo functions elf setup)) =
       let bytes = demo_program functions in
@@ -232,12 +273,35 @@ module _ (contents : ℕ → List ℕ) where
       let acts : RunActs = λ z w. w.prints in
       let run = run_program acts setup (demo_lines functions setup.rate image) bytes image in
       let judged = unless_done BadElf (elf_refusal bytes) (Does (given_file_acts (option_map (name_of words) elf) bytes) run) in
-      let starts = run_done acts setup (demo_lines functions setup.rate image) bytes image (λ z w. refl) in (
+      let starts = started_alone acts setup (demo_lines functions setup.rate image) bytes image (λ z w. refl) in (
         (λ h.
             let one = judged.0 h in
             (one.0, starts.0 one.1)),
         (λ h. judged.1 (h.0, starts.1 h.1)),
       )
+  accepted_by words (Some (Annotate elf gmons)) =
+      let bytes = contents elf in
+      let read = program_done elf (list_profiles gmons) in
+      let files = files_alone gmons (λ total. Does (Out (annotated_text (image_of bytes) bytes total) ∷ []) ended) refl in (
+        (λ h.
+            let one = read.0 h in
+            (one.0, files.0 one.1)),
+        (λ h. read.1 (h.0, files.1 h.1)),
+      )
+  accepted_by words (Some (Folded elf inclusive setup)) =
+      let bytes = contents elf in
+      let image = image_of bytes in
+      let after = one_by_one (final_world image bytes setup).prints (stacks_told inclusive image bytes setup) in
+      let read = program_done elf (fold_program inclusive setup) in
+      let starts = unless_done start_fault_of (start_refusal image setup) after in
+      let ends = one_by_one_done (final_world image bytes setup).prints (stacks_told inclusive image bytes setup) refl in (
+        (λ h.
+            let one = read.0 h in
+            (one.0, (starts.0 one.1).0)),
+        (λ h. read.1 (h.0, starts.1 (h.1, ends))),
+      )
+  accepted_by words (Some Help) = ((λ h. tt), (λ h. refl))
+  accepted_by words (Some Version) = ((λ h. tt), (λ h. refl))
 
   -- ---- running out of memory before anything is done
 
@@ -279,17 +343,23 @@ module _ (contents : ℕ → List ℕ) where
   idle_by words (Some (Syms elf)) at_once = idle_program elf syms_lines (λ bytes image. idle_does (Out (image_text image) ∷ []) (record { run = None }))
   idle_by words (Some (Sum out gmons)) at_once =
       idle_profiles gmons MAX_PROFILE_BYTES empty_content (sum_file (name_of words out)) (λ t. idle_does (file_acts (name_of words out) (profile_text t)) (record { run = None }))
-  idle_by words (Some (Report elf gmons shown)) at_once = absurd cc
+  idle_by words (Some (Report elf gmons selection)) at_once = absurd cc
   idle_by words (Some (Run elf gmon form image setup)) at_once =
-      let acts = run_acts (files_named words gmon form image) setup.rate in
+      let acts = run_acts (files_named words gmon form image) setup in
       idle_program elf (run_program acts setup told) (λ bytes program.
       let z = sizes_of program.text setup.hist setup.hash in
       let w = final_world program bytes setup in
       idle_unless start_fault_of (start_refusal program setup) (Does (acts z w) (told z w)) (idle_does (acts z w) (record { run = summary_of z w })))
-  idle_by words (Some (Profile elf gmon form image setup shown)) at_once = absurd cc
+  idle_by words (Some (Profile elf gmon form image setup selection)) at_once = absurd cc
   idle_by words (Some (Demo functions elf setup)) at_once = absurd cc
+  idle_by words (Some (Annotate elf gmons)) at_once =
+      idle_program elf (list_profiles gmons) (λ bytes image.
+      idle_profiles gmons MAX_PROFILE_BYTES empty_content (λ total. Does (Out (annotated_text image bytes total) ∷ []) ended) (λ t. idle_does (Out (annotated_text image bytes t) ∷ []) (record { run = None })))
+  idle_by words (Some (Folded elf inclusive setup)) at_once = absurd cc
+  idle_by words (Some Help) at_once = idle_does (Out help_text ∷ []) (record { run = None })
+  idle_by words (Some Version) at_once = idle_does (Out version_text ∷ []) (record { run = None })
 
-pub accepted : (words : List (List ℕ)) (contents : ℕ → List ℕ) → IsOk (reply_to contents (course_of words)).ending ↔ IsAccepted contents (command_of words)
+pub accepted : (words : List (List ℕ)) (contents : ℕ → List ℕ) → IsOk (reply_to contents (course_of words)).ending ↔ IsAccepted words contents (command_of words)
 accepted words contents = accepted_by contents words (command_of words)
 
 pub idle : (words : List (List ℕ)) (contents : ℕ → List ℕ) (acts : List Act) → acts_at_once (command_of words) ≡ true → MayStop contents (course_of words) acts → acts ≡ []

@@ -1,5 +1,5 @@
 -- What the command `profile` leaves where it is carried out.
-use Rattle.std.proofs.Common.{◌≡◌, ℕ, Bool, cond, List, [], ◌∷◌, ◌++◌, append-nil, append_assoc, length, Option, Some, None, Ok, Err, refl, sym, ap, subst, ◌∙◌}
+use Rattle.std.proofs.Common.{◌≡◌, ℕ, Bool, true, false, cond, List, [], ◌∷◌, ◌++◌, append-nil, append_assoc, length, Option, Some, None, Ok, Err, refl, sym, ap, subst, ◌∙◌}
 use Rattle.std.specs.Prelude.{codes, is_ok, option_map, IfSome, MatchOption, ⊤}
 use Rattle.std.specs.Result.{IsOk}
 use Rattle.std.proofs.lemmas.Bool.{le-ltb}
@@ -30,16 +30,21 @@ use Rattle.rvgprof.specs.declared.outcome.Done.{Done}
 use Rattle.rvgprof.specs.declared.outcome.Fault.{Fault}
 use Rattle.rvgprof.specs.declared.outcome.Fault.TheVariants.{BadElf, TooLarge}
 use Rattle.rvgprof.specs.declared.words.Command.TheVariants.{Profile}
+use Rattle.arc_filter.specs.Cuts.{without_cuts}
+use Rattle.exact_flow.specs.Solution.{exact_flow_in}
+use Rattle.flat_report.specs.Sources.{Sources}
+use Rattle.graph_report.specs.ExactText.{exact_text}
+use Rattle.rvgprof.specs.declared.words.Selection.{Selection}
 use Rattle.rvgprof.specs.declared.words.Shown.{Shown}
 use Rattle.rvgprof.specs.declared.words.Shown.TheVariants as shows
 use Rattle.rvgprof.specs.Items.{name_of}
 use Rattle.rvgprof.specs.Words.{command_of}
 use Rattle.rvgprof.specs.Course.{Course, Ends, Does, Reply, unless, behind, reply_to}
-use Rattle.rvgprof.specs.Answer.{RunFiles, command_course, contents_of, course_of, file_acts, files_named, given_file_acts, print_reports, profile_course, program, report_run, run_acts, run_program, start_fault_of, told, written_profile}
+use Rattle.rvgprof.specs.Answer.{Chosen, RunFiles, chosen_by, command_course, contents_of, course_of, exact_report, file_acts, files_named, given_file_acts, profile_course, program, report_run, run_acts, run_program, shown_reports, start_fault_of, told, too_wide, wide_step, written_profile}
 use Rattle.rvgprof.specs.Reports.{sources_of}
 use Rattle.rvgprof.specs.Contract.{WhereTold, Answered}
 use Rattle.rvgprof.specs.Acceptance.{IsProgramFile, IsAccepted, Starts}
-use Rattle.rvgprof.specs.Headline.{Headline, IsApart, gmon_text, reported, reports_of, text_sizes, world_of}
+use Rattle.rvgprof.specs.Headline.{Headline, IsApart, exact_of, gmon_text, printed_of, reported, reports_of, text_sizes, world_of}
 use Rattle.rvgprof.proofs.AcceptanceLemmas.{accepted}
 use Rattle.rvgprof.proofs.FileLemmas.{file_written, file_stays}
 
@@ -73,20 +78,33 @@ program_reply contents word next is =
     ap (λ (b : Bool). cond b (record { ending = Err (TooLarge word MAX_ELF_BYTES); acts = [] }) (reply_to contents (unless BadElf (elf_refusal bytes) (next bytes (image_of bytes))))) (le-ltb MAX_ELF_BYTES (length bytes) is.limit)
     ∙ unless_reply contents BadElf (elf_refusal bytes) (next bytes (image_of bytes)) is.accepted
 
--- what the reports print
-module _ (contents : ℕ → List ℕ) (image : Image) (total : Content) (done : Done) where
-  abbrev report_acts : Shown → List Act
-  report_acts shown = (reply_to contents (print_reports shown image total (Ends (Ok done)))).acts
+-- what the reports print, and that they leave the files as they are
+module _ (contents : ℕ → List ℕ) (s : Sources) where
+  abbrev acts_along : Course → List Act
+  acts_along course = (reply_to contents course).acts
 
-  reports_print : (shown : Shown) (line : List ℕ) → prints_of (report_acts shown ++ Complain line ∷ []) ≡ reports_of shown (sources_of image total)
-  reports_print shows.Flat line = append-nil (reports_of shows.Flat (sources_of image total))
-  reports_print shows.Graph line = append-nil (reports_of shows.Graph (sources_of image total))
-  reports_print shows.Both line = ap (λ (text : List ℕ). reports_of shows.Flat (sources_of image total) ++ (codes "\n" ++ text)) (append-nil (reports_of shows.Graph (sources_of image total)))
+  shown_print : (shown : Shown) (hidden : List (List ℕ)) (next : Course) (behind_it : List Act) → prints_of (acts_along (shown_reports shown hidden s next) ++ behind_it) ≡ reports_of shown hidden s ++ prints_of (acts_along next ++ behind_it)
+  shown_print shows.Flat hidden next behind_it = refl
+  shown_print shows.Graph hidden next behind_it = refl
+  shown_print shows.Both hidden next behind_it =
+      let flat = reports_of shows.Flat hidden s in
+      let graph = reports_of shows.Graph hidden s in
+      let rest = prints_of (acts_along next ++ behind_it) in
+      ap (λ (text : List ℕ). flat ++ text) (sym (append_assoc (codes "\n") graph rest)) ∙ sym (append_assoc flat (codes "\n" ++ graph) rest)
 
-  reports_keep : (shown : Shown) (line : List ℕ) (d : Disk) → disk_after (report_acts shown ++ Complain line ∷ []) d ≡ d
-  reports_keep shows.Flat line d = refl
-  reports_keep shows.Graph line d = refl
-  reports_keep shows.Both line d = refl
+  exact_print : (exact : Bool) (done : Done) (line : List ℕ) → prints_of (acts_along (exact_report exact s (Ends (Ok done))) ++ Complain line ∷ []) ≡ exact_of exact s
+  exact_print false done line = refl
+  exact_print true done line =
+      ap (λ (text : List ℕ). codes "\n" ++ text) (append-nil (exact_text s.symbols s.graph (exact_flow_in s.graph s.shares.of) (attributed_of s.shares)))
+
+  shown_keep : (shown : Shown) (hidden : List (List ℕ)) (next : Course) (behind_it : List Act) (d : Disk) → disk_after (acts_along (shown_reports shown hidden s next) ++ behind_it) d ≡ disk_after (acts_along next ++ behind_it) d
+  shown_keep shows.Flat hidden next behind_it d = refl
+  shown_keep shows.Graph hidden next behind_it d = refl
+  shown_keep shows.Both hidden next behind_it d = refl
+
+  exact_keep : (exact : Bool) (done : Done) (line : List ℕ) (d : Disk) → disk_after (acts_along (exact_report exact s (Ends (Ok done))) ++ Complain line ∷ []) d ≡ d
+  exact_keep false done line d = refl
+  exact_keep true done line d = refl
 
 no_prints : (name : Option (List ℕ)) (bytes : List ℕ) → prints_of (given_file_acts name bytes) ≡ []
 no_prints None bytes = refl
@@ -107,29 +125,37 @@ told_word old new words contents word told = by old.disk new.disk told
     by None (Some z) h = tt
     by (Some x) (Some z) h = ap (λ (c : ℕ → List ℕ). c word) h
 
-module _ (words : List (List ℕ)) (contents : ℕ → List ℕ) (elf gmon : ℕ) (form : Form) (image : Option ℕ) (setup : Setup) (shown : Shown) where
+module _ (words : List (List ℕ)) (contents : ℕ → List ℕ) (elf gmon : ℕ) (form : Form) (image : Option ℕ) (setup : Setup) (chosen : Chosen) where
   abbrev bytes : List ℕ
   bytes = contents elf
 
   abbrev files : RunFiles
   files = files_named words gmon form image
 
-  abbrev profile_in_file : Content
-  profile_in_file = written_profile form (text_sizes bytes setup) (world_of bytes setup).log setup.rate
+  abbrev due : List Act
+  due = run_acts files setup (text_sizes bytes setup) (world_of bytes setup)
+
+  abbrev sources : Sources
+  sources = reported chosen form bytes setup
 
   -- how the answer goes on behind the run
-  abbrev last_course : Course
-  last_course = report_run form setup.rate shown (image_of bytes) (text_sizes bytes setup) (world_of bytes setup)
+  abbrev end_course : Course
+  end_course = exact_report chosen.exact sources (told (text_sizes bytes setup) (world_of bytes setup))
 
-  profile_reply : IsProgramFile bytes → Starts bytes setup → reply_to contents (profile_course elf files setup shown) ≡ behind (run_acts files setup.rate (text_sizes bytes setup) (world_of bytes setup)) (reply_to contents last_course)
-  profile_reply is starts =
-      let acts = run_acts files setup.rate in
-      program_reply contents elf (λ b i. run_program acts setup (report_run form setup.rate shown i) b i) is
-      ∙ unless_reply contents start_fault_of (start_refusal (image_of bytes) setup) (Does (acts (text_sizes bytes setup) (world_of bytes setup)) last_course) starts
+  abbrev last_course : Course
+  last_course = shown_reports chosen.shown chosen.hidden sources end_course
+
+  profile_reply : IsProgramFile bytes → Starts bytes setup → wide_step chosen.exact sources ≡ None → reply_to contents (profile_course elf files setup chosen) ≡ behind due (reply_to contents last_course)
+  profile_reply is starts narrow =
+      let acts = run_acts files setup in
+      let reports = unless too_wide (wide_step chosen.exact sources) last_course in
+      program_reply contents elf (λ b i. run_program acts setup (report_run form setup.rate chosen i) b i) is
+      ∙ unless_reply contents start_fault_of (start_refusal (image_of bytes) setup) (Does due reports) starts
+      ∙ ap (behind due) (unless_reply contents too_wide (wide_step chosen.exact sources) last_course narrow)
 
   -- of these acts, the file that is left
   profile_file_holds : (line : List ℕ) (d : Disk) → IsApart words gmon image
-      → content_of (name_of words gmon) (disk_after ((run_acts files setup.rate (text_sizes bytes setup) (world_of bytes setup) ++ (reply_to contents last_course).acts) ++ Complain line ∷ []) d).files ≡ gmon_text form bytes setup
+      → content_of (name_of words gmon) (disk_after ((due ++ (reply_to contents last_course).acts) ++ Complain line ∷ []) d).files ≡ gmon_text form bytes setup
   profile_file_holds line d apart =
       let prints = (world_of bytes setup).prints in
       let text = gmon_text form bytes setup in
@@ -145,14 +171,14 @@ module _ (words : List (List ℕ)) (contents : ℕ → List ℕ) (elf gmon : ℕ
       ap (λ (acts : List Act). content (disk_after acts d)) (append_assoc (prints ++ (one ++ two)) reports (Complain line ∷ []))
       ∙ ap content (disk_after-append (prints ++ (one ++ two)) last d)
       ∙ ap (λ (x : Disk). content (disk_after last x)) (disk_after-append prints (one ++ two) d ∙ disk_after-append one two behind_prints)
-      ∙ ap content (reports_keep contents (image_of bytes) profile_in_file _ shown line behind_memory)
+      ∙ ap content (shown_keep contents sources chosen.shown chosen.hidden end_course (Complain line ∷ []) behind_memory ∙ exact_keep contents sources chosen.exact _ line behind_memory)
       ∙ file_stays (name_of words gmon) memory (option_map (name_of words) image) behind_file apart
       ∙ file_written (name_of words gmon) text behind_prints
 
   -- and what is printed
   profile_prints : (line : List ℕ)
-      → prints_of ((run_acts files setup.rate (text_sizes bytes setup) (world_of bytes setup) ++ (reply_to contents last_course).acts) ++ Complain line ∷ [])
-      ≡ prints_of (world_of bytes setup).prints ++ reports_of shown (reported form bytes setup)
+      → prints_of ((due ++ (reply_to contents last_course).acts) ++ Complain line ∷ [])
+      ≡ prints_of (world_of bytes setup).prints ++ printed_of chosen sources
   profile_prints line =
       let prints = (world_of bytes setup).prints in
       let one = file_acts (name_of words gmon) (gmon_text form bytes setup) in
@@ -165,30 +191,34 @@ module _ (words : List (List ℕ)) (contents : ℕ → List ℕ) (elf gmon : ℕ
       ap prints_of (append_assoc (prints ++ (one ++ two)) reports (Complain line ∷ []))
       ∙ printed-append (prints ++ (one ++ two)) last
       ∙ ap (λ (text : List ℕ). text ++ prints_of last) run
-      ∙ ap (λ (text : List ℕ). prints_of prints ++ text) (reports_print contents (image_of bytes) profile_in_file _ shown line)
+      ∙ ap (λ (text : List ℕ). prints_of prints ++ text)
+      (shown_print contents sources chosen.shown chosen.hidden end_course (Complain line ∷ [])
+      ∙ ap (λ (text : List ℕ). reports_of chosen.shown chosen.hidden sources ++ text) (exact_print contents sources chosen.exact _ line))
 
-pub headline : (words : List (List ℕ)) (old new : Outside) (done : Done) (elf gmon : ℕ) (form : Form) (image : Option ℕ) (setup : Setup) (shown : Shown) → Answered words old new (Ok done)
-    → command_of words ≡ Some (Profile elf gmon form image setup shown) → IsApart words gmon image → Headline words old new elf gmon form setup shown
-headline words old new done elf gmon form image setup shown answered said apart =
+pub headline : (words : List (List ℕ)) (old new : Outside) (done : Done) (elf gmon : ℕ) (form : Form) (image : Option ℕ) (setup : Setup) (selection : Selection) → Answered words old new (Ok done)
+    → command_of words ≡ Some (Profile elf gmon form image setup selection) → IsApart words gmon image → Headline words old new elf gmon form setup (chosen_by words selection)
+headline words old new done elf gmon form image setup selection answered said apart =
     let contents = answered.owed.contents in
     let owes = answered.owed.owes in
     let program = contents elf in
     let files = files_named words gmon form image in
-    let course : course_of words ≡ profile_course elf files setup shown = ap (command_course words) said in
+    let chosen = chosen_by words selection in
+    let course : course_of words ≡ profile_course elf files setup chosen = ap (command_course words) said in
     let well : IsOk (reply_to contents (course_of words)).ending = ap is_ok (sym owes.0) in
-    let taken : IsAccepted contents (Some (Profile elf gmon form image setup shown)) = subst (IsAccepted contents) said ((accepted words contents).0 well) in
-    let reply = ap (reply_to contents) course ∙ profile_reply words contents elf gmon form image setup shown taken.0 taken.1 in
-    let due = owes.1 ∙ ap (λ (r : Reply). r.acts) reply in
-    let did = subst (λ (acts : List Act). Did (acts ++ Complain answered.line ∷ []) (opening answered.opens old) new) due answered.did in
-    let total = written_profile form (text_sizes program setup) (world_of program setup).log setup.rate in
+    let taken : IsAccepted words contents (Some (Profile elf gmon form image setup selection)) = subst (IsAccepted words contents) said ((accepted words contents).0 well) in
+    let reply = ap (reply_to contents) course ∙ profile_reply words contents elf gmon form image setup chosen taken.0 taken.1 taken.2 in
+    let acts = owes.1 ∙ ap (λ (r : Reply). r.acts) reply in
+    let did = subst (λ (acts : List Act). Did (acts ++ Complain answered.line ∷ []) (opening answered.opens old) new) acts answered.did in
+    let total = without_cuts (written_profile form (text_sizes program setup) (world_of program setup).log setup.rate) (image_of program).symbols chosen.cuts in
     record {
       program = program;
       told = told_word old new words contents elf answered.owed.told;
       accepted = taken.0;
       starts = taken.1;
-      file = told_file old.disk new.disk _ (name_of words gmon) (gmon_text form program setup) did.disk (λ d. profile_file_holds words contents elf gmon form image setup shown answered.line d apart);
-      output = Becomes-by _ _ old.out new.out (λ b. ap (λ (text : List ℕ). b ++ text) (profile_prints words contents elf gmon form image setup shown answered.line)) did.out;
+      file = told_file old.disk new.disk _ (name_of words gmon) (gmon_text form program setup) did.disk (λ d. profile_file_holds words contents elf gmon form image setup chosen answered.line d apart);
+      output = Becomes-by _ _ old.out new.out (λ b. ap (λ (text : List ℕ). b ++ text) (profile_prints words contents elf gmon form image setup chosen answered.line)) did.out;
       graph = graph_of_sources (image_of program) total;
-      shares = flow_of_sources (image_of program) total;
+      flow = flow_of_sources (image_of program) total;
+      fits = taken.2;
       conserved = all_attributed (image_of program) total;
     }

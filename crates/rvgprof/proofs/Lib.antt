@@ -10,6 +10,7 @@ pub mod ProfileSizeLemmas
 pub mod Summing
 pub mod Reporting
 pub mod Running
+pub mod Folding
 pub mod LastLine
 pub mod CompletenessLemmas
 pub mod AcceptanceLemmas

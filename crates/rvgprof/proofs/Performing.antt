@@ -1,6 +1,6 @@
 -- What a run prints and writes, as acts that are due.
-use Rattle.std.proofs.Common.{◌≡◌, ℕ, ◌+◌, ◌<◌, Bool, false, List, [], ◌∷◌, ◌++◌, take, Option, Some, None, option_map, Result, Ok, Err, refl, sym, ap, subst, ◌∙◌}
-use Rattle.std.specs.Prelude.{⊤}
+use Rattle.std.proofs.Common.{◌≡◌, ℕ, ◌+◌, ◌<◌, Bool, true, false, List, [], ◌∷◌, ◌++◌, take, Option, Some, None, option_map, Result, Ok, Err, refl, sym, ap, subst, ◌∙◌}
+use Rattle.std.specs.Prelude.{⊤, if◌then◌else◌}
 use Rattle.gmon_block.specs.Layout.{layout_of}
 use Rattle.host_port.specs.Act.{Act, writes_after}
 use Rattle.host_port.specs.Outside.{Outside, Did, KeepsCounts}
@@ -20,9 +20,12 @@ use Rattle.prof_machine.specs.declared.machine.Machine.{Machine}
 use Rattle.prof_machine.specs.Plan.{driven, planned, most_turns}
 use Rattle.prof_machine.specs.Prints.{ArePrinted, BreaksOff}
 use Rattle.prof_machine.specs.World.{World}
+use Rattle.prof_machine.specs.Executions.{exec_counts_of, executions_in}
+use Rattle.prof_machine.specs.declared.setup.Setup.{Setup}
+use Rattle.gmon_gnu.specs.Blocks.{block_record, executed_blocks, record_of}
 use Rattle.prof_machine.proofs.ActLemmas.{driven_front}
 use Rattle.rvgprof.specs.Items.{name_of}
-use Rattle.rvgprof.specs.Answer.{RunFiles, file_acts, given_file_acts, run_acts, run_text, runtime_text}
+use Rattle.rvgprof.specs.Answer.{RunFiles, counts_text, file_acts, given_file_acts, held_text, profile_bytes, run_acts, run_text, runtime_text}
 use Rattle.rvgprof.specs.declared.outcome.Done.{Done}
 use Rattle.rvgprof.specs.Course.{Ends, Does}
 use Rattle.rvgprof.specs.Contract.{Acted}
@@ -34,9 +37,9 @@ given_shut None bytes = refl
 given_shut (Some name) bytes = refl
 
 -- no file is being written behind the acts of a run
-pub shut_after : (files : RunFiles) (rate : ℕ) (z : Sizes) (w : World) (b : Bool) → writes_after (run_acts files rate z w) b ≡ false
-shut_after files rate z w b =
-    let front = file_acts files.gmon (run_text files.form z w.log rate) in
+pub shut_after : (files : RunFiles) (setup : Setup) (z : Sizes) (w : World) (b : Bool) → writes_after (run_acts files setup z w) b ≡ false
+shut_after files setup z w b =
+    let front = file_acts files.gmon (profile_bytes files.form setup z w) in
     let back = given_file_acts files.image (layout_of (block_image z w.log)) in
     writes_after-append w.prints (front ++ back) b ∙ writes_after-append front back (writes_after w.prints b) ∙ given_shut files.image (layout_of (block_image z w.log))
 
@@ -77,6 +80,23 @@ profile_stands Gnu v rate log stands = gnu_text_stands v rate log stands
 
 pub profile_is : (form : Form) (v : GmonValue) (z : Sizes) (log : List LogEntry) (rate : ℕ) → RuntimeStandsFor log v → v.sizes ≡ z → runtime_text form v rate ≡ run_text form z log rate
 profile_is form v z log rate stands sizes = profile_stands form v rate log stands ∙ ap (λ (x : Sizes). run_text form x log rate) sizes
+
+-- the record of executions
+counts_are : (m : Machine) (w : World) → block_record m.sizes.low (exec_counts_of m w.ran) ≡ counts_text m.setup.blocks m.sizes w
+unfolding exec_counts_of, block_record
+counts_are m w = by m.setup.blocks
+  where
+    by : (b : Bool) → record_of (executed_blocks m.sizes.low (if b then executions_in m.sizes w.ran else [])) ≡ counts_text b m.sizes w
+    by true = refl
+    by false = refl
+
+-- the file of a run, by the world in which it ends
+pub held_is : (form : Form) (setup : Setup) (v : GmonValue) (counts : List ℕ) (m : Machine) (w : World) → RuntimeStandsFor w.log v → v.sizes ≡ m.sizes → counts ≡ exec_counts_of m w.ran → m.setup ≡ setup
+    → held_text form setup.rate v counts ≡ profile_bytes form setup m.sizes w
+held_is form setup v counts m w stands sizes counted same =
+    ap (λ (front : List ℕ). front ++ block_record v.sizes.low counts) (profile_is form v m.sizes w.log setup.rate stands sizes)
+    ∙ ap (λ (back : List ℕ). run_text form m.sizes w.log setup.rate ++ back)
+    (ap (λ (z : Sizes). block_record z.low counts) sizes ∙ ap (block_record m.sizes.low) counted ∙ counts_are m w ∙ ap (λ (u : Setup). counts_text u.blocks m.sizes w) same)
 
 pub image_is : (v : GmonValue) (z : Sizes) (log : List LogEntry) → RuntimeStandsFor log v → v.sizes ≡ z → layout_of (block_parts v) ≡ layout_of (block_image z log)
 image_is v z log stands sizes =

@@ -1,6 +1,6 @@
 -- A report was printed, or not, as the words ask for it.
 use Rattle.std.proofs.Common.{◌≡◌, ◌≢◌, ℕ, ◌≤◌, Bool, true, false, eqb, List, [], ◌∷◌, ◌++◌, Option, Some, None, Result, Ok, Err, inl, refl, sym, ap, subst, ◌∙◌, true≢false, if◌then◌else◌, arith}
-use Rattle.std.specs.Prelude.{MatchResult}
+use Rattle.std.specs.Prelude.{MatchResult, is_some}
 use Rattle.std.proofs.lemmas.Bool.{eq-eqb}
 use Rattle.gp_base.specs.declared.records.Unit as units
 use Rattle.gmon_data.specs.declared.hist.Hist.{Hist}
@@ -18,12 +18,17 @@ use Rattle.rvgprof.specs.declared.words.Shown.TheVariants as shows
 use Rattle.host_port.specs.Outside.{Outside}
 use Rattle.host_port.specs.declared.side.Side.TheVariants.{Output}
 use Rattle.host_port.proofs.PerformingLemmas.{puts_performs}
-use Rattle.rvgprof.specs.Answer.{print_reports, report_fault_of, shown_reports}
+use Rattle.arc_filter.specs.Cuts.{without_cuts}
+use Rattle.exact_flow.specs.Answers.{IsWideAnswer}
+use Rattle.exact_flow.specs.Times.{ExactFlowValue}
+use Rattle.exact_flow.specs.declared.refusal.ExactRefusal.{ExactRefusal}
+use Rattle.exact_flow.specs.declared.refusal.ExactRefusal.TheVariants as exacts
+use Rattle.rvgprof.specs.Answer.{Chosen, all_reports, chosen_sources, exact_fault_of, exact_report, print_reports, report_fault_of, shown_reports, too_wide, wide_step}
 use Rattle.rvgprof.specs.Contract.{Acted}
-use Rattle.rvgprof.specs.Found.{AreSources, given_sources}
+use Rattle.rvgprof.specs.Found.{AreSources, IsAsked, given_sources}
 use Rattle.rvgprof.specs.declared.sources.Sources.{Sources}
 use Rattle.rvgprof.specs.Standing.{Stands}
-use Rattle.rvgprof.proofs.Standing.{no_memory, fails, does}
+use Rattle.rvgprof.proofs.Standing.{no_memory, fails, does, goes_on, may_stop_unless, refuses}
 
 abbrev refused : ReportRefusal → Result (Unit {0}) ReportRefusal
 refused refusal = Err refusal
@@ -44,15 +49,49 @@ after_text words start mid new below done text next (Err reports.OutOfMemory) s 
     no_memory words start new below done (Does (Out text ∷ []) next) (subst (λ (x : Outside). Stands words start x below done (Does (Out text ∷ []) next)) (sym (idle refl)) s) (λ contents. inl refl)
 
 -- the reports of what was found are those of the profile
-pub of_sources : (words : List (List ℕ)) (start old : Outside) (below : ℕ) (done : List Act) (shown : Shown) (image : Image) (total : Content) (s : Sources) (next : Course) → AreSources image total s
-    → Stands words start old below done (print_reports shown image total next) → Stands words start old below done (shown_reports shown (given_sources image s) next)
-of_sources words start old below done shown image total s next are = subst (λ (x : ReportSources). Stands words start old below done (shown_reports shown x next)) (sym are.value)
+pub of_sources : (words : List (List ℕ)) (start old : Outside) (below : ℕ) (done : List Act) (chosen : Chosen) (image : Image) (total : Content) (s : Sources) (next : Course) → AreSources image (without_cuts total image.symbols chosen.cuts) s
+    → Stands words start old below done (print_reports chosen image total next) → Stands words start old below done (all_reports chosen (given_sources image s) next)
+of_sources words start old below done chosen image total s next are = subst (λ (x : ReportSources). Stands words start old below done (all_reports chosen x next)) (sym are.value)
+
+shown_may_stop : (shown : Shown) (hidden : List (List ℕ)) (s : ReportSources) (next : Course) (contents : ℕ → List ℕ) → MayStop contents (shown_reports shown hidden s next) []
+shown_may_stop shows.Flat hidden s next contents = inl refl
+shown_may_stop shows.Graph hidden s next contents = inl refl
+shown_may_stop shows.Both hidden s next contents = inl refl
 
 -- memory may be wanted before the first report
-pub may_stop_reports : (shown : Shown) (image : Image) (total : Content) (next : Course) (contents : ℕ → List ℕ) → MayStop contents (print_reports shown image total next) []
-may_stop_reports shows.Flat image total next contents = inl refl
-may_stop_reports shows.Graph image total next contents = inl refl
-may_stop_reports shows.Both image total next contents = inl refl
+may_stop_all : (chosen : Chosen) (s : ReportSources) (next : Course) (contents : ℕ → List ℕ) → MayStop contents (all_reports chosen s next) []
+may_stop_all chosen s next contents =
+    may_stop_unless too_wide (wide_step chosen.exact s) (shown_reports chosen.shown chosen.hidden s (exact_report chosen.exact s next)) contents
+    (shown_may_stop chosen.shown chosen.hidden s (exact_report chosen.exact s next) contents)
+
+pub may_stop_reports : (chosen : Chosen) (image : Image) (total : Content) (next : Course) (contents : ℕ → List ℕ) → MayStop contents (print_reports chosen image total next) []
+may_stop_reports chosen image total next contents = may_stop_all chosen (chosen_sources chosen image total) next contents
+
+-- a step of the exact times is too wide, or memory was wanted for them
+pub no_exact : (words : List (List ℕ)) (start new : Outside) (below : ℕ) (done : List Act) (chosen : Chosen) (s : ReportSources) (next : Course) (refusal : ExactRefusal) → chosen.exact ≡ true → IsWideAnswer s.graph s.shares.of refusal
+    → Stands words start new below done (all_reports chosen s next) → Acted words start new (Err (exact_fault_of refusal))
+no_exact words start new below done chosen s next exacts.OutOfMemory asked wide stands =
+    no_memory words start new below done (all_reports chosen s next) stands (may_stop_all chosen s next)
+no_exact words start new below done chosen s next (exacts.TooWide head arc) asked wide stands =
+    refuses words start new below done too_wide (wide_step chosen.exact s) (shown_reports chosen.shown chosen.hidden s (exact_report chosen.exact s next)) (record { head = head; arc = arc }) stands
+    (ap (λ (b : Bool). wide_step b s) asked ∙ wide) tt
+
+-- none is, where they are asked for
+pub narrow : (words : List (List ℕ)) (start new : Outside) (below : ℕ) (done : List Act) (chosen : Chosen) (image : Image) (s : Sources) (next : Course) (found : Option ExactFlowValue) → IsAsked chosen.exact s found
+    → Stands words start new below done (all_reports chosen (given_sources image s) next)
+    → Stands words start new below done (shown_reports chosen.shown chosen.hidden (given_sources image s) (exact_report (is_some found) (given_sources image s) next))
+narrow words start new below done chosen image s next found asked stands =
+    let given = given_sources image s in
+    subst (λ (b : Bool). Stands words start new below done (shown_reports chosen.shown chosen.hidden given (exact_report b given next))) (sym (asked_is chosen.exact asked))
+    (goes_on words start new below done too_wide (wide_step chosen.exact given) (shown_reports chosen.shown chosen.hidden given (exact_report chosen.exact given next)) stands (none_wide chosen.exact asked))
+  where
+    asked_is : (b : Bool) → IsAsked b s found → is_some found ≡ b
+    asked_is false none = ap is_some none
+    asked_is true is = ap is_some is.1
+
+    none_wide : (b : Bool) → IsAsked b s found → wide_step b (given_sources image s) ≡ None
+    none_wide false none = refl
+    none_wide true is = is.4
 
 -- whatever was done
 pub goes_on_anyhow : (words : List (List ℕ)) (start new : Outside) (below : ℕ) (done : List Act) (next : Course) (result : Result (Unit {0}) ReportRefusal) → GoesOn words start new below done next result
@@ -61,9 +100,9 @@ goes_on_anyhow words start new below done next (Ok u) s = (done, s)
 goes_on_anyhow words start new below done next (Err refusal) a = a
 
 -- the reports of the same profile
-pub of_the_same : (words : List (List ℕ)) (start new : Outside) (below : ℕ) (done : List Act) (shown : Shown) (image : Image) (total due : Content) (next : Course) → total ≡ due
-    → Stands words start new below done (print_reports shown image due next) → Stands words start new below done (print_reports shown image total next)
-of_the_same words start new below done shown image total due next same s = subst (λ (p : Content). Stands words start new below done (print_reports shown image p next)) (sym same) s
+pub of_the_same : (words : List (List ℕ)) (start new : Outside) (below : ℕ) (done : List Act) (chosen : Chosen) (image : Image) (total due : Content) (next : Course) → total ≡ due
+    → Stands words start new below done (print_reports chosen image due next) → Stands words start new below done (print_reports chosen image total next)
+of_the_same words start new below done chosen image total due next same s = subst (λ (p : Content). Stands words start new below done (print_reports chosen image p next)) (sym same) s
 
 -- a kept rate is not 0
 kept_rate : (u : units.Unit) → kept_unit u ≡ u → 1 ≤ u.rate

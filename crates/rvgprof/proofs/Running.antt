@@ -16,7 +16,7 @@ use Rattle.prof_machine.specs.Start.{IsRefusal, final_world, machine_of, start_o
 use Rattle.prof_machine.specs.Value.{RunValue, StandsFor, summary_of}
 use Rattle.prof_machine.specs.World.{World}
 use Rattle.rvgprof.specs.declared.outcome.Fault.TheVariants.{WriteFault}
-use Rattle.rvgprof.specs.Course.{Course, Ends, Does, unless}
+use Rattle.rvgprof.specs.Course.{Course, Ends, Does, MayStop, unless}
 use Rattle.rvgprof.specs.Answer.{RunActs, run_program, start_fault_of, told}
 use Rattle.host_port.specs.Performing.{Performs}
 use Rattle.rvgprof.specs.Contract.{Acted}
@@ -24,11 +24,15 @@ use Rattle.rvgprof.specs.Standing.{IsRunOf, Stands}
 use Rattle.rvgprof.proofs.Standing.{no_memory, may_stop_unless, refuses, goes_on, does, ends, fails}
 
 -- the run doesn't start
+pub not_started : (words : List (List ℕ)) (old new : Outside) (below : ℕ) (done : List Act) (due : Option StartRefusal) (next : Course) (refusal : StartRefusal) → ((contents : ℕ → List ℕ) → MayStop contents next [])
+    → Stands words old new below done (unless start_fault_of due next) → IsRefusal refusal due → Acted words old new (Err (start_fault_of refusal))
+not_started words old new below done due next starts.OutOfMemory may s is =
+    no_memory words old new below done (unless start_fault_of due next) s (λ contents. may_stop_unless start_fault_of due next contents (may contents))
+not_started words old new below done due next refusal may s is = refuses words old new below done start_fault_of due next refusal s is tt
+
 pub no_start : (words : List (List ℕ)) (old new : Outside) (below : ℕ) (done : List Act) (due : Option StartRefusal) (acts : List Act) (next : Course) (refusal : StartRefusal)
     → Stands words old new below done (unless start_fault_of due (Does acts next)) → IsRefusal refusal due → Acted words old new (Err (start_fault_of refusal))
-no_start words old new below done due acts next starts.OutOfMemory s is =
-    no_memory words old new below done (unless start_fault_of due (Does acts next)) s (λ contents. may_stop_unless start_fault_of due (Does acts next) contents (inl refl))
-no_start words old new below done due acts next refusal s is = refuses words old new below done start_fault_of due (Does acts next) refusal s is tt
+no_start words old new below done due acts next refusal s is = not_started words old new below done due (Does acts next) refusal (λ contents. inl refl) s is
 
 machine_sizes : (image : Image) (setup : Setup) → (machine_of image setup).sizes ≡ sizes_of image.text setup.hist setup.hash
 unfolding machine_of
@@ -42,15 +46,15 @@ pub record Started (image : Image) (bytes : List ℕ) (setup : Setup) (given : L
   pub stands : StandsFor (start_of image given used) v
   pub machine : v.machine ≡ machine_of image used
 
-first_prints_none : (image : Image) (bytes : List ℕ) (setup : Setup) → (start_of image bytes setup).prints ≡ []
+pub first_prints_none : (image : Image) (bytes : List ℕ) (setup : Setup) → (start_of image bytes setup).prints ≡ []
 unfolding start_of
 first_prints_none image bytes setup = refl
 
 module _ (image : Image) (bytes : List ℕ) (setup : Setup) (given : List ℕ) (used : Setup) (v : RunValue) (s : Started image bytes setup given used v) where
-  machine_is : v.machine ≡ machine_of image setup
+  pub machine_is : v.machine ≡ machine_of image setup
   machine_is = s.machine ∙ ap (machine_of image) s.used_is
 
-  last_is : driven v.machine (start_of image given used) ≡ final_world image bytes setup
+  pub last_is : driven v.machine (start_of image given used) ≡ final_world image bytes setup
   last_is =
       ap (λ (m : Machine). driven m (start_of image given used)) machine_is
       ∙ ap (λ (x : List ℕ). driven (machine_of image setup) (start_of image x used)) s.given_is ∙ ap (λ (x : Setup). driven (machine_of image setup) (start_of image bytes x)) s.used_is
@@ -58,7 +62,7 @@ module _ (image : Image) (bytes : List ℕ) (setup : Setup) (given : List ℕ) (
   sizes_are : v.machine.sizes ≡ sizes_of image.text setup.hist setup.hash
   sizes_are = ap (λ (m : Machine). m.sizes) machine_is ∙ machine_sizes image setup
 
-  starts_is : start_refusal image setup ≡ None
+  pub starts_is : start_refusal image setup ≡ None
   starts_is = ap (start_refusal image) (sym s.used_is) ∙ s.starts
 
   -- what was done is what is due

@@ -17,7 +17,7 @@ use Rattle.rvgprof.specs.declared.outcome.Fault.TheVariants.{Usage, ReadFault, W
 use Rattle.rvgprof.specs.declared.words.Command.{Command}
 use Rattle.rvgprof.specs.Items.{name_of}
 use Rattle.rvgprof.specs.Words.{command_of}
-use Rattle.rvgprof.specs.Course.{Course, Ends, Input, Does, Reply, unless, reply_to, inputs_of, ComesTo, MayStop}
+use Rattle.rvgprof.specs.Course.{Course, Ends, Input, Does, Reply, behind, one_by_one, unless, reply_to, inputs_of, ComesTo, MayStop}
 use Rattle.rvgprof.specs.Answer.{command_course, course_of, contents_of, load_fault_of}
 use Rattle.host_port.specs.Performing.{FailedAt, Performs}
 use Rattle.host_port.proofs.PerformingLemmas.{failed_behind, failed_before, failed_since}
@@ -318,19 +318,88 @@ does_lead contents whole opens done acts next l =
       may_stop = λ more h. subst (λ (due : List Act). MayStop contents whole due) (sym (append_assoc done acts more)) (l.may_stop (acts ++ more) (inr (more, refl, h)));
     }
 
-pub does : {T E : Type 0} (words : List (List ℕ)) (old mid new : Outside) (below : ℕ) (done acts : List Act) (next : Course) (u : T) → Stands words old mid below done (Does acts next)
-    → Performs {T = T} {E = E} acts mid new (Ok u) → writes_after acts false ≡ false → Stands words old new below (done ++ acts) next
-does words old mid new below done acts next u s performs shut = record {
+-- acts were done that lead from one course to another
+pub does_by : {T E : Type 0} (words : List (List ℕ)) (old mid new : Outside) (below : ℕ) (done acts : List Act) (rest next : Course) (u : T)
+    → ((contents : ℕ → List ℕ) (opens : ℕ) → LeadsTo contents (course_of words) opens done rest → LeadsTo contents (course_of words) opens (done ++ acts) next)
+    → Stands words old mid below done rest → Performs {T = T} {E = E} acts mid new (Ok u) → writes_after acts false ≡ false → Stands words old new below (done ++ acts) next
+does_by words old mid new below done acts rest next u leads s performs shut = record {
   opens = s.opens;
   did = Did-then done acts (opening s.opens old) mid new s.did performs.done;
   counts = KeepsCounts-then old mid new s.counts performs.kept;
   idle = s.idle;
   shut = performs.done.writing ∙ ap (writes_after acts) s.shut ∙ shut;
   read = s.read;
-  leads = λ contents agrees. does_lead contents (course_of words) s.opens done acts next (s.leads contents agrees);
-  told = weaker old.disk new.disk (λ files. LeadsTo (contents_of words files) (course_of words) s.opens done (Does acts next)) (λ files. LeadsTo (contents_of words files) (course_of words) s.opens (done ++ acts) next)
-      (λ files. does_lead (contents_of words files) (course_of words) s.opens done acts next)
-      (further _ old.disk mid.disk new.disk (λ files. LeadsTo (contents_of words files) (course_of words) s.opens done (Does acts next)) performs.done.disk s.told);
+  leads = λ contents agrees. leads contents s.opens (s.leads contents agrees);
+  told = weaker old.disk new.disk (λ files. LeadsTo (contents_of words files) (course_of words) s.opens done rest) (λ files. LeadsTo (contents_of words files) (course_of words) s.opens (done ++ acts) next)
+      (λ files. leads (contents_of words files) s.opens)
+      (further _ old.disk mid.disk new.disk (λ files. LeadsTo (contents_of words files) (course_of words) s.opens done rest) performs.done.disk s.told);
+}
+
+pub does : {T E : Type 0} (words : List (List ℕ)) (old mid new : Outside) (below : ℕ) (done acts : List Act) (next : Course) (u : T) → Stands words old mid below done (Does acts next)
+    → Performs {T = T} {E = E} acts mid new (Ok u) → writes_after acts false ≡ false → Stands words old new below (done ++ acts) next
+does {T} {E} words old mid new below done acts next u s performs shut =
+    does_by {T = T} {E = E} words old mid new below done acts (Does acts next) next u (λ contents opens l. does_lead contents (course_of words) opens done acts next l) s performs shut
+
+-- ---- acts one after the other
+
+-- the first ones were done
+one_by_one_lead : (contents : ℕ → List ℕ) (whole : Course) (opens : ℕ) (done acts more : List Act) (next : Course) → LeadsTo contents whole opens done (one_by_one (acts ++ more) next) → LeadsTo contents whole opens (done ++ acts) (one_by_one more next)
+one_by_one_lead contents whole opens done [] more next l = subst (λ (d : List Act). LeadsTo contents whole opens d (one_by_one more next)) (sym (append-nil done)) l
+one_by_one_lead contents whole opens done (act ∷ acts) more next l =
+    subst (λ (d : List Act). LeadsTo contents whole opens d (one_by_one more next)) (append_assoc done (act ∷ []) acts)
+    (one_by_one_lead contents whole opens (done ++ act ∷ []) acts more next (does_lead contents whole opens done (act ∷ []) (one_by_one (acts ++ more) next) l))
+
+pub does_first : {T E : Type 0} (words : List (List ℕ)) (old mid new : Outside) (below : ℕ) (done acts more : List Act) (next : Course) (u : T) → Stands words old mid below done (one_by_one (acts ++ more) next)
+    → Performs {T = T} {E = E} acts mid new (Ok u) → writes_after acts false ≡ false → Stands words old new below (done ++ acts) (one_by_one more next)
+does_first {T} {E} words old mid new below done acts more next u =
+    does_by {T = T} {E = E} words old mid new below done acts (one_by_one (acts ++ more) next) (one_by_one more next) u
+    (λ contents opens l. one_by_one_lead contents (course_of words) opens done acts more next l)
+
+one_by_one_reply : (contents : ℕ → List ℕ) (acts : List Act) (next : Course) → reply_to contents (one_by_one acts next) ≡ behind acts (reply_to contents next)
+one_by_one_reply contents [] next = refl
+one_by_one_reply contents (act ∷ acts) next = ap (λ (r : Reply). behind (act ∷ []) r) (one_by_one_reply contents acts next)
+
+one_by_one_inputs : (contents : ℕ → List ℕ) (acts : List Act) (next : Course) → inputs_of contents (one_by_one acts next) ≡ inputs_of contents next
+one_by_one_inputs contents [] next = refl
+one_by_one_inputs contents (act ∷ acts) next = one_by_one_inputs contents acts next
+
+one_by_one_comes : (contents : ℕ → List ℕ) (acts : List Act) (next : Course) (n word : ℕ) → ComesTo contents next n word → ComesTo contents (one_by_one acts next) n word
+one_by_one_comes contents [] next n word h = h
+one_by_one_comes contents (act ∷ acts) next n word h = one_by_one_comes contents acts next n word h
+
+-- memory may be wanted between any two of them
+pub one_by_one_stop : (contents : ℕ → List ℕ) (acts : List Act) (next : Course) → MayStop contents next [] → MayStop contents (one_by_one acts next) []
+one_by_one_stop contents [] next h = h
+one_by_one_stop contents (act ∷ acts) next h = inl refl
+
+one_by_one_behind : (contents : ℕ → List ℕ) (acts more : List Act) (next : Course) → MayStop contents next more → MayStop contents (one_by_one acts next) (acts ++ more)
+one_by_one_behind contents [] more next h = h
+one_by_one_behind contents (act ∷ acts) more next h = inr (acts ++ more, refl, one_by_one_behind contents acts more next h)
+
+at_once_lead : (contents : ℕ → List ℕ) (whole : Course) (opens : ℕ) (done acts : List Act) (next : Course) → MayStop contents next [] → LeadsTo contents whole opens done (one_by_one acts next) → LeadsTo contents whole opens done (Does acts next)
+at_once_lead contents whole opens done acts next may l = record {
+  reply = l.reply ∙ ap (behind done) (one_by_one_reply contents acts next);
+  inputs = l.inputs ∙ ap (λ (n : ℕ). opens + n) (one_by_one_inputs contents acts next);
+  comes = λ n word h. l.comes n word (one_by_one_comes contents acts next n word h);
+  may_stop = λ more h. l.may_stop more (elim h [
+    | inl none ↦ subst (MayStop contents (one_by_one acts next)) (sym none) (one_by_one_stop contents acts next may)
+    | inr some ↦ subst (MayStop contents (one_by_one acts next)) (sym some.1) (one_by_one_behind contents acts some.0 next some.2)
+  ]);
+}
+
+-- they are done at once where none of them fails but the last that is begun
+pub at_once : (words : List (List ℕ)) (old new : Outside) (below : ℕ) (done acts : List Act) (next : Course) → ((contents : ℕ → List ℕ) → MayStop contents next []) → Stands words old new below done (one_by_one acts next)
+    → Stands words old new below done (Does acts next)
+at_once words old new below done acts next may s = record {
+  opens = s.opens;
+  did = s.did;
+  counts = s.counts;
+  idle = s.idle;
+  shut = s.shut;
+  read = s.read;
+  leads = λ contents agrees. at_once_lead contents (course_of words) s.opens done acts next (may contents) (s.leads contents agrees);
+  told = weaker old.disk new.disk (λ files. LeadsTo (contents_of words files) (course_of words) s.opens done (one_by_one acts next)) (λ files. LeadsTo (contents_of words files) (course_of words) s.opens done (Does acts next))
+      (λ files. at_once_lead (contents_of words files) (course_of words) s.opens done acts next (may (contents_of words files))) s.told;
 }
 
 -- an act failed

@@ -25,13 +25,16 @@ use Rattle.rvgprof.specs.declared.outcome.Done.{Done}
 use Rattle.rvgprof.specs.declared.outcome.Fault.{Fault}
 use Rattle.rvgprof.specs.declared.outcome.Fault.TheVariants.{BadElf, BadProfile, Unlike, TooLarge}
 use Rattle.rvgprof.specs.declared.words.Command.{Command}
-use Rattle.rvgprof.specs.declared.words.Command.TheVariants.{Show, Syms, Run, Sum, Report, Profile, Demo}
+use Rattle.rvgprof.specs.declared.words.Command.TheVariants.{Show, Syms, Run, Sum, Report, Profile, Demo, Annotate, Folded, Help, Version}
 use Rattle.rvgprof.specs.declared.words.Shown.{Shown}
 use Rattle.rvgprof.specs.declared.words.Shown.TheVariants as shows
-use Rattle.rvgprof.specs.Words.{command_of, IsWithinLimits}
-use Rattle.rvgprof.specs.Course.{Course, Ends, Input, Does, unless, reply_to}
+use Rattle.rvgprof.specs.Words.{command_of, IsCommandOf}
+use Rattle.rvgprof.specs.Course.{Course, Ends, Input, Does, one_by_one, unless, reply_to}
 use Rattle.rvgprof.specs.Items.{name_of}
-use Rattle.rvgprof.specs.Answer.{RunActs, command_course, demo_lines, ended, file_refusal, file_records, files_named, given_file_acts, print_reports, profile_file, profile_in, profiles, program, report_profiles, report_run, run_acts, run_program, show_lines, start_fault_of, sum_file, syms_lines, told, written_profile}
+use Rattle.annotate.specs.Listing.{annotated_text}
+use Rattle.flat_report.specs.Sources.{Sources as ReportSources}
+use Rattle.host_port.specs.Act.{Act, Out}
+use Rattle.rvgprof.specs.Answer.{Chosen, RunActs, chosen_by, chosen_sources, command_course, demo_lines, ended, exact_report, file_refusal, file_records, files_named, fold_program, given_file_acts, list_profiles, print_reports, profile_file, profile_in, profiles, program, report_profiles, report_run, run_acts, run_program, show_lines, shown_reports, stacks_told, start_fault_of, sum_file, syms_lines, told, too_wide, wide_step, written_profile}
 use Rattle.rvgprof.specs.Contract.{Acted}
 use Rattle.rvgprof.specs.Acceptance.{starts_run}
 
@@ -75,10 +78,24 @@ module _ (contents : ℕ → List ℕ) (some : Bool) where
       tells_unless fault (conflict_of empty_content (wide_records records.recs)) (second len records)
       (tells_unless fault (clash_of total (profile_in records)) (rest len records) (tells_profiles words (left - len) (sum_of total (profile_in records)) next tells)))
 
-  tells_reports : (shown : Shown) (image : Image) (total : Content) (next : Course) → Tells next → Tells (print_reports shown image total next)
-  tells_reports shows.Flat image total next tells = tells
-  tells_reports shows.Graph image total next tells = tells
-  tells_reports shows.Both image total next tells = tells
+  tells_exact : (exact : Bool) (s : ReportSources) (next : Course) → Tells next → Tells (exact_report exact s next)
+  tells_exact false s next tells = tells
+  tells_exact true s next tells = tells
+
+  tells_shown : (shown : Shown) (hidden : List (List ℕ)) (s : ReportSources) (next : Course) → Tells next → Tells (shown_reports shown hidden s next)
+  tells_shown shows.Flat hidden s next tells = tells
+  tells_shown shows.Graph hidden s next tells = tells
+  tells_shown shows.Both hidden s next tells = tells
+
+  tells_reports : (chosen : Chosen) (image : Image) (total : Content) (next : Course) → Tells next → Tells (print_reports chosen image total next)
+  tells_reports chosen image total next tells =
+      let s = chosen_sources chosen image total in
+      tells_unless too_wide (wide_step chosen.exact s) (shown_reports chosen.shown chosen.hidden s (exact_report chosen.exact s next))
+      (tells_shown chosen.shown chosen.hidden s (exact_report chosen.exact s next) (tells_exact chosen.exact s next tells))
+
+  tells_one_by_one : (acts : List Act) (next : Course) → Tells next → Tells (one_by_one acts next)
+  tells_one_by_one [] next tells = tells
+  tells_one_by_one (act ∷ acts) next tells = tells_one_by_one acts next tells
 
   tells_run : (acts : RunActs) (setup : Setup) (next : Sizes → World → Course) (bytes : List ℕ) (image : Image) → Tells (next (sizes_of image.text setup.hist setup.hash) (final_world image bytes setup)) → Tells (run_program acts setup next bytes image)
   tells_run acts setup next bytes image tells = tells_unless start_fault_of (start_refusal image setup) (Does (acts (sizes_of image.text setup.hist setup.hash) (final_world image bytes setup)) (next (sizes_of image.text setup.hist setup.hash) (final_world image bytes setup))) tells
@@ -92,23 +109,34 @@ summed_up : (contents : ℕ → List ℕ) (image : Image) (bytes : List ℕ) (se
 summed_up contents image bytes setup is = tells_end contents true _ (told_of _ (final_world image bytes setup).ending (plan_ends image bytes setup is.some_every is.some_budget))
 
 -- where nothing is told of a run, none was started
-tells_by : (words : List (List ℕ)) (contents : ℕ → List ℕ) (command : Command) → IsWithinLimits command → Tells contents (starts_run (Some command)) (command_course words (Some command))
+tells_by : (words : List (List ℕ)) (contents : ℕ → List ℕ) (command : Command) → IsCommandOf words command → Tells contents (starts_run (Some command)) (command_course words (Some command))
 tells_by words contents (Show gmon) within = tells_file contents false gmon MAX_PROFILE_BYTES show_lines (λ len records. tells_end contents false None refl)
 tells_by words contents (Syms elf) within = tells_program contents false elf syms_lines (λ bytes image. tells_end contents false None refl)
 tells_by words contents (Sum out gmons) within = tells_profiles contents false gmons MAX_PROFILE_BYTES empty_content (sum_file (name_of words out)) (λ t. tells_end contents false None refl)
-tells_by words contents (Report elf gmons shown) within =
-    tells_program contents false elf (report_profiles gmons shown) (λ bytes image.
-    tells_profiles contents false gmons MAX_PROFILE_BYTES empty_content (λ total. print_reports shown image total ended) (λ t. tells_reports contents false shown image t ended (tells_end contents false None refl)))
+tells_by words contents (Report elf gmons selection) within =
+    let chosen = chosen_by words selection in
+    tells_program contents false elf (report_profiles gmons chosen) (λ bytes image.
+    tells_profiles contents false gmons MAX_PROFILE_BYTES empty_content (λ total. print_reports chosen image total ended) (λ t. tells_reports contents false chosen image t ended (tells_end contents false None refl)))
 tells_by words contents (Run elf gmon form image setup) within =
-    let acts = run_acts (files_named words gmon form image) setup.rate in
+    let acts = run_acts (files_named words gmon form image) setup in
     tells_program contents true elf (run_program acts setup told) (λ bytes program. tells_run contents true acts setup told bytes program (summed_up contents program bytes setup within))
-tells_by words contents (Profile elf gmon form image setup shown) within =
-    let acts = run_acts (files_named words gmon form image) setup.rate in
-    let next : Image → Sizes → World → Course = report_run form setup.rate shown in
+tells_by words contents (Profile elf gmon form image setup selection) within =
+    let acts = run_acts (files_named words gmon form image) setup in
+    let chosen = chosen_by words selection in
+    let next : Image → Sizes → World → Course = report_run form setup.rate chosen in
     tells_program contents true elf (λ b i. run_program acts setup (next i) b i) (λ bytes program.
     let z = sizes_of program.text setup.hist setup.hash in
     let w = final_world program bytes setup in
-    tells_run contents true acts setup (next program) bytes program (tells_reports contents true shown program (written_profile form z w.log setup.rate) (told z w) (summed_up contents program bytes setup within)))
+    tells_run contents true acts setup (next program) bytes program (tells_reports contents true chosen program (written_profile form z w.log setup.rate) (told z w) (summed_up contents program bytes setup within.0)))
+tells_by words contents (Annotate elf gmons) within =
+    tells_program contents false elf (list_profiles gmons) (λ bytes image.
+    tells_profiles contents false gmons MAX_PROFILE_BYTES empty_content (λ total. Does (Out (annotated_text image bytes total) ∷ []) ended) (λ t. tells_end contents false None refl))
+tells_by words contents (Folded elf inclusive setup) within =
+    tells_program contents true elf (fold_program inclusive setup) (λ bytes image.
+    tells_unless contents true start_fault_of (start_refusal image setup) (one_by_one (final_world image bytes setup).prints (stacks_told inclusive image bytes setup))
+    (tells_one_by_one contents true (final_world image bytes setup).prints (stacks_told inclusive image bytes setup) (summed_up contents image bytes setup within)))
+tells_by words contents Help within = tells_end contents false None refl
+tells_by words contents Version within = tells_end contents false None refl
 tells_by words contents (Demo functions elf setup) within =
     let bytes = demo_program functions in
     let program = image_of bytes in
@@ -117,10 +145,10 @@ tells_by words contents (Demo functions elf setup) within =
     tells_unless contents true BadElf (elf_refusal bytes) (Does (given_file_acts (option_map (name_of words) elf) bytes) (run_program acts setup next bytes program))
     (tells_run contents true acts setup next bytes program (summed_up contents program bytes setup within.2))
 
-by_command : (words : List (List ℕ)) (contents : ℕ → List ℕ) (command : Command) (o : Option Command) → o ≡ Some command → IsWithinLimits command → Tells contents (starts_run o) (command_course words o)
+by_command : (words : List (List ℕ)) (contents : ℕ → List ℕ) (command : Command) (o : Option Command) → o ≡ Some command → IsCommandOf words command → Tells contents (starts_run o) (command_course words o)
 by_command words contents command o is within = subst (λ (c : Option Command). Tells contents (starts_run c) (command_course words c)) (sym is) (tells_by words contents command within)
 
-pub told_where_run : (words : List (List ℕ)) (command : Command) (old new : Outside) (result : Result Done Fault) → command_of words ≡ Some command → IsWithinLimits command → Acted words old new result
+pub told_where_run : (words : List (List ℕ)) (command : Command) (old new : Outside) (result : Result Done Fault) → command_of words ≡ Some command → IsCommandOf words command → Acted words old new result
     → IfOk result (λ done. is_some done.run ≡ starts_run (command_of words))
 told_where_run words command old new (Ok done) said within acted = by_command words acted.owed.contents command (command_of words) said within done (sym acted.owed.owes.0)
 told_where_run words command old new (Err fault) said within acted = tt

@@ -7,11 +7,11 @@ use Rattle.folded.specs.Stacks.{inclusive_of, lines_of, stacks_of}
 use Rattle.folded.specs.Text.{functions_text, lines_text}
 use Rattle.folded.specs.Trail.{run_samples}
 use Rattle.prof_machine.specs.declared.setup.Setup.{Setup}
-use Rattle.prof_machine.specs.Start.{first_world, machine_of}
+use Rattle.prof_machine.specs.Start.{machine_of, start_of}
 
 -- the stacks of the samples of a program's run
 abbrev pub run_stacks : Image → List ℕ → Setup → List (List (Option ℕ))
-run_stacks image bytes setup = stacks_of image.symbols (run_samples (machine_of image setup) (first_world image bytes setup))
+run_stacks image bytes setup = stacks_of image.symbols (run_samples (machine_of image setup) (start_of image bytes setup))
 
 -- a line for each function that has samples, or one for each stack
 abbrev pub stacks_text : Bool → List Symbol → List (List (Option ℕ)) → List ℕ

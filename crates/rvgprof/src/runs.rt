@@ -1,6 +1,6 @@
 //! Runs of programs, and what they write.
 
-ghost use Rattle.std.specs.Prelude.{◌≡◌, [], true, false, length, map, string_bytes, IsSome, IfOk, IfSome, OnOk, Some};
+ghost use Rattle.std.specs.Prelude.{◌≡◌, ◌+◌, ◌*◌, ◌<◌, ◌^◌, ℕ, [], true, false, length, map, string_bytes, IsSome, IfOk, IfSome, OnOk, Some};
 ghost use Rattle.elf32_syms.specs.Image.{IsWithinLimits};
 ghost use Rattle.gmon_block.specs.Layout.{layout_of};
 ghost use Rattle.host_port.specs.Host.{Puts};
@@ -107,38 +107,54 @@ fn perform<H: Host>(
 {
     run.drive(host)?;
     let name = name_at(words, outputs.gmon);
-    write_profile(run, outputs.form, name, setup.rate, host)?;
+    write_profile(
+        run.gmon(),
+        run.exec_counts(),
+        outputs.form,
+        name,
+        setup.rate,
+        host,
+    )?;
     match outputs.image {
         Some(image) => write_image(run.gmon(), name_at(words, image), host),
         None => Ok(()),
     }
 }
 
-/// Writes the profile of a run in a form to the named file.
+/// Writes the profile of a run in a form to the named file: what its runtime holds, and behind it how often
+/// instructions were executed, where that was counted.
 fn write_profile<H: Host>(
-    run: &Run,
+    gmon: &Gmon,
+    counts: &[u32],
     form: Form,
     name: &str,
     rate: u32,
     host: &mut H,
 ) -> Result<(), Failed>
-    requires { (H.outside host.old).is_writing ≡ false }
-    ensures performs { Performs (file_acts name.now (held_text form rate run.now)) (H.outside host.old) (H.outside host.new) result }
+    requires idle { (H.outside host.old).is_writing ≡ false }
+    requires within { (i : ℕ) → i < length counts.now → gmon.now.sizes.low + 4 * i < 2 ^ 32 }
+    ensures performs { Performs (file_acts name.now (held_text form rate gmon.now counts.now)) (H.outside host.old) (H.outside host.new) result }
     ensures idle { OnOk result ((H.outside host.new).is_writing ≡ false) }
 {
     host.create_output(name)?;
-    write_run(run, form, rate, host)?;
+    write_held(gmon, counts, form, rate, host)?;
     host.close_output()
 }
 
-/// Writes the profile of a run in a form to the file that is being written: what its runtime holds, and
-/// how often instructions were executed, where that was counted.
-fn write_run<H: Host>(run: &Run, form: Form, rate: u32, host: &mut H) -> Result<(), Failed>
-    requires { (H.outside host.old).is_writing ≡ true }
-    ensures { Puts File (held_text form rate run.now) (H.outside host.old) (H.outside host.new) result }
+/// Writes it to the file that is being written.
+fn write_held<H: Host>(
+    gmon: &Gmon,
+    counts: &[u32],
+    form: Form,
+    rate: u32,
+    host: &mut H,
+) -> Result<(), Failed>
+    requires ready { (H.outside host.old).is_writing ≡ true }
+    requires within { (i : ℕ) → i < length counts.now → gmon.now.sizes.low + 4 * i < 2 ^ 32 }
+    ensures { Puts File (held_text form rate gmon.now counts.now) (H.outside host.old) (H.outside host.new) result }
 {
-    write_runtime(run.gmon(), form, rate, host)?;
-    gmon_gnu::write_blocks(run.gmon().sizes().low, run.exec_counts(), host)
+    write_runtime(gmon, form, rate, host)?;
+    gmon_gnu::write_blocks(gmon.sizes().low, counts, host)
 }
 
 /// Writes the profile of a runtime in a form to the file that is being written.

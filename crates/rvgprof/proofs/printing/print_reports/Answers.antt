@@ -1,63 +1,41 @@
-use Rattle.std.proofs.Common.{◌++◌, ◌∷◌, [], ap, subst}
-use Rattle.std.specs.Prelude.{codes}
-use Rattle.std.proofs.lemmas.Result.{err_from_is_err_and}
-use Rattle.host_port.specs.Act.{Out}
-use Rattle.rvgprof.specs.declared.words.Shown.{Shown}
-use Rattle.rvgprof.specs.Answer.{print_reports, shown_reports}
-use Rattle.rvgprof.specs.Course.{Does}
-use Rattle.flat_report.specs.FlatText.{flat_text}
-use Rattle.graph_report.specs.GraphText.{graph_text}
+use Rattle.std.proofs.Common.{subst, sym, refl}
+use Rattle.std.specs.Prelude.{map, string_bytes, is_some, MatchResult}
+use Rattle.rvgprof.specs.Answer.{chosen_by, print_reports}
 use Rattle.rvgprof.specs.Found.{given_sources}
-use Rattle.rvgprof.specs.Standing.{Stands}
-use Rattle.rvgprof.proofs.Reporting.{after_text, goes_on_anyhow, may_stop_reports, of_sources}
+use Rattle.rvgprof.proofs.Reporting.{may_stop_reports, narrow, no_exact, of_sources}
 use Rattle.rvgprof.proofs.Standing.{no_memory}
 use Rattle.rvgprof.proofs.printing.print_reports.Goals as goal
 
-pub returns-in_err-sources : goal.returns-in_err-sources
-returns-in_err-sources g c = λ words start below done next s.
-    let p = err_from_is_err_and c.from_residual.result c.from_residual.ensures.1 in
-    rw (p.1, p.2) (no_memory words start _ below done (print_reports c.args.shown c.args.image.now c.args.total.now next) s (may_stop_reports c.args.shown c.args.image.now c.args.total.now next))
+pub returns-in_default : goal.returns-in_default
+returns-in_default g c = λ words start below done next s.
+    let chosen = chosen_by (map string_bytes c.args.words.now) c.args.selection.now in
+    no_memory words start _ below done (print_reports chosen c.args.image.now c.args.total.now next) s (may_stop_reports chosen c.args.image.now c.args.total.now next)
 
-pub returns-in-Flat : goal.returns-in-Flat
-returns-in-Flat g c = λ words start below done next s.
-    let found = given_sources c.args.image.now c.in_ok-sources.sources in
-    let here = subst (λ (x : Shown). Stands words start (g.H.Host.outside c.args.host.now) below done (shown_reports x found next)) c.in-Flat.is (of_sources words start _ below done c.args.shown c.args.image.now c.args.total.now c.in_ok-sources.sources next c.in_ok-sources.ensures s) in
-    goes_on_anyhow words start _ below (done ++ Out (flat_text found []) ∷ []) next c.print_flat.result
-    (after_text words start _ _ below done (flat_text found []) next c.print_flat.result here c.print_flat.ensures.printed (λ e. ap g.H.Host.outside (c.print_flat.ensures.idle e)))
+pub returns-in_default-chosen_sources : goal.returns-in_default-chosen_sources
+returns-in_default-chosen_sources g c = λ words start below done next s.
+    let chosen = chosen_by (map string_bytes c.args.words.now) c.args.selection.now in
+    no_memory words start _ below done (print_reports chosen c.args.image.now c.args.total.now next) s (may_stop_reports chosen c.args.image.now c.args.total.now next)
 
-pub returns-in-Graph : goal.returns-in-Graph
-returns-in-Graph g c = λ words start below done next s.
-    let found = given_sources c.args.image.now c.in_ok-sources.sources in
-    let here = subst (λ (x : Shown). Stands words start (g.H.Host.outside c.args.host.now) below done (shown_reports x found next)) c.in-Graph.is (of_sources words start _ below done c.args.shown c.args.image.now c.args.total.now c.in_ok-sources.sources next c.in_ok-sources.ensures s) in
-    goes_on_anyhow words start _ below (done ++ Out (graph_text found []) ∷ []) next c.print_graph.result
-    (after_text words start _ _ below done (graph_text found []) next c.print_graph.result here c.print_graph.ensures.printed (λ e. ap g.H.Host.outside (c.print_graph.ensures.idle e)))
+pub returns-in-Err : goal.returns-in-Err
+returns-in-Err g c = λ words start below done next s.
+    let chosen = chosen_by (map string_bytes c.args.words.now) c.args.selection.now in
+    let sources = c.in_ok-chosen_sources.sources in
+    let all = of_sources words start _ below done chosen c.args.image.now c.args.total.now sources next c.in_ok-chosen_sources.ensures s in
+    let refused = c.in-Err.ensures.refused in
+    rw c.exact_fault.ensures (no_exact words start _ below done chosen (given_sources c.args.image.now sources) next c.in-Err.refusal refused.0 refused.1 all)
 
-pub returns-in_err-print_flat-in-Both : goal.returns-in_err-print_flat-in-Both
-returns-in_err-print_flat-in-Both g c = λ words start below done next s.
-    let found = given_sources c.args.image.now c.in_ok-sources.sources in
-    let last = Does (Out (graph_text found []) ∷ []) next in
-    let line = Does (Out (codes "\n") ∷ []) last in
-    let here = subst (λ (x : Shown). Stands words start (g.H.Host.outside c.args.host.now) below done (shown_reports x found next)) c.in-Both.is (of_sources words start _ below done c.args.shown c.args.image.now c.args.total.now c.in_ok-sources.sources next c.in_ok-sources.ensures s) in
-    let p = err_from_is_err_and c.from_residual-in_err-print_flat-in-Both.result c.from_residual-in_err-print_flat-in-Both.ensures.1 in
-    rw (p.1, p.2) (after_text words start _ _ below done (flat_text found []) line _ here c.in_err-print_flat-in-Both.ensures.printed (λ e. ap g.H.Host.outside (c.in_err-print_flat-in-Both.ensures.idle e)))
-
-pub returns-in_err-print_text-in-Both : goal.returns-in_err-print_text-in-Both
-returns-in_err-print_text-in-Both g c = λ words start below done next s.
-    let found = given_sources c.args.image.now c.in_ok-sources.sources in
-    let last = Does (Out (graph_text found []) ∷ []) next in
-    let line = Does (Out (codes "\n") ∷ []) last in
-    let here = subst (λ (x : Shown). Stands words start (g.H.Host.outside c.args.host.now) below done (shown_reports x found next)) c.in-Both.is (of_sources words start _ below done c.args.shown c.args.image.now c.args.total.now c.in_ok-sources.sources next c.in_ok-sources.ensures s) in
-    let one = after_text words start _ _ below done (flat_text found []) line _ here c.in_ok-print_flat-in-Both.ensures.printed (λ e. ap g.H.Host.outside (c.in_ok-print_flat-in-Both.ensures.idle e)) in
-    let p = err_from_is_err_and c.from_residual-in_err-print_text-in-Both.result c.from_residual-in_err-print_text-in-Both.ensures.1 in
-    rw (p.1, p.2) (after_text words start _ _ below (done ++ Out (flat_text found []) ∷ []) (codes "\n") last _ one c.in_err-print_text-in-Both.ensures.printed (λ e. ap g.H.Host.outside (c.in_err-print_text-in-Both.ensures.idle e)))
+pub returns-in-Ok-print_all : goal.returns-in-Ok-print_all
+returns-in-Ok-print_all g c = λ words start below done next s.
+    let chosen = chosen_by (map string_bytes c.args.words.now) c.args.selection.now in
+    let sources = c.in_ok-chosen_sources.sources in
+    let all = of_sources words start _ below done chosen c.args.image.now c.args.total.now sources next c.in_ok-chosen_sources.ensures s in
+    let here = narrow words start _ below done chosen c.args.image.now sources next c.in-Ok.exact c.in-Ok.ensures.found all in
+    rw c.in_ok-names_at.ensures at c.in-Ok-print_all.ensures words start below done next here
 
 pub returns : goal.returns
 returns g c = λ words start below done next s.
-    let found = given_sources c.args.image.now c.in_ok-sources.sources in
-    let last = Does (Out (graph_text found []) ∷ []) next in
-    let line = Does (Out (codes "\n") ∷ []) last in
-    let here = subst (λ (x : Shown). Stands words start (g.H.Host.outside c.args.host.now) below done (shown_reports x found next)) c.in-Both.is (of_sources words start _ below done c.args.shown c.args.image.now c.args.total.now c.in_ok-sources.sources next c.in_ok-sources.ensures s) in
-    let one = after_text words start _ _ below done (flat_text found []) line _ here c.in_ok-print_flat-in-Both.ensures.printed (λ e. ap g.H.Host.outside (c.in_ok-print_flat-in-Both.ensures.idle e)) in
-    let two = after_text words start _ _ below (done ++ Out (flat_text found []) ∷ []) (codes "\n") last _ one c.in_ok-print_text-in-Both.ensures.printed (λ e. ap g.H.Host.outside (c.in_ok-print_text-in-Both.ensures.idle e)) in
-    goes_on_anyhow words start _ below _ next c.print_graph-in-Both.result
-    (after_text words start _ _ below _ (graph_text found []) next c.print_graph-in-Both.result two c.print_graph-in-Both.ensures.printed (λ e. ap g.H.Host.outside (c.print_graph-in-Both.ensures.idle e)))
+    let chosen = chosen_by (map string_bytes c.args.words.now) c.args.selection.now in
+    let sources = c.in_ok-chosen_sources.sources in
+    let all = of_sources words start _ below done chosen c.args.image.now c.args.total.now sources next c.in_ok-chosen_sources.ensures s in
+    let here = narrow words start _ below done chosen c.args.image.now sources next c.in-Ok.exact c.in-Ok.ensures.found all in
+    rw c.report_fault.ensures (c.in-Err-print_all.ensures words start below done next here)

@@ -3,7 +3,7 @@ use Rattle.std.specs.Prelude.{map, string_bytes}
 use Rattle.elf32_syms.specs.declared.image.Image.{Image}
 use Rattle.mcount_arcs.specs.Sizes.{sizes_of}
 use Rattle.prof_machine.specs.Start.{final_world}
-use Rattle.rvgprof.specs.Answer.{files_named, report_run, run_acts, run_program, told, written_profile}
+use Rattle.rvgprof.specs.Answer.{chosen_by, files_named, report_run, run_acts, run_program, told, written_profile}
 use Rattle.rvgprof.specs.Course.{Course}
 use Rattle.rvgprof.proofs.Profiling.{profile_written}
 use Rattle.rvgprof.proofs.Reporting.{may_stop_reports, of_the_same}
@@ -14,36 +14,36 @@ use Rattle.rvgprof.proofs.profile.profile.Goals as goal
 pub returns-in-Err : goal.returns-in-Err
 returns-in-Err g c =
     let files = files_named (map string_bytes c.args.words.now) c.args.outputs.gmon c.args.outputs.form c.args.outputs.image in
-    let next : List ℕ → Image → Course = λ bytes image. run_program (run_acts files c.args.setup.rate) c.args.setup (report_run files.form c.args.setup.rate c.args.shown image) bytes image in
+    let next : List ℕ → Image → Course = λ bytes image. run_program (run_acts files c.args.setup) c.args.setup (report_run files.form c.args.setup.rate (chosen_by (map string_bytes c.args.words.now) c.args.selection.now) image) bytes image in
     c.in-Err.ensures.reads _ 0 next (omega arith) c.requires.stands
 
 pub returns-in-Err-run_program : goal.returns-in-Err-run_program
 returns-in-Err-run_program g c =
     let files = files_named (map string_bytes c.args.words.now) c.args.outputs.gmon c.args.outputs.form c.args.outputs.image in
-    let next : List ℕ → Image → Course = λ bytes image. run_program (run_acts files c.args.setup.rate) c.args.setup (report_run files.form c.args.setup.rate c.args.shown image) bytes image in
+    let next : List ℕ → Image → Course = λ bytes image. run_program (run_acts files c.args.setup) c.args.setup (report_run files.form c.args.setup.rate (chosen_by (map string_bytes c.args.words.now) c.args.selection.now) image) bytes image in
     let stands = c.in-Ok.ensures.reads _ 0 next (omega arith) c.requires.stands in
     let ran = rw c.as_slice.ensures.value at c.in-Err-run_program.ensures.runs in
-    ran _ (c.args.elf + 1) [] (report_run files.form c.args.setup.rate c.args.shown c.in-Ok.read.1) stands
+    ran _ (c.args.elf + 1) [] (report_run files.form c.args.setup.rate (chosen_by (map string_bytes c.args.words.now) c.args.selection.now) c.in-Ok.read.1) stands
 
 pub returns-in_default : goal.returns-in_default
 returns-in_default g c =
     let words = map string_bytes c.args.words.now in
     let files = files_named words c.args.outputs.gmon c.args.outputs.form c.args.outputs.image in
-    let next : List ℕ → Image → Course = λ bytes image. run_program (run_acts files c.args.setup.rate) c.args.setup (report_run files.form c.args.setup.rate c.args.shown image) bytes image in
+    let next : List ℕ → Image → Course = λ bytes image. run_program (run_acts files c.args.setup) c.args.setup (report_run files.form c.args.setup.rate (chosen_by (map string_bytes c.args.words.now) c.args.selection.now) image) bytes image in
     let image = c.in-Ok.read.1 in
     let z = sizes_of image.text c.args.setup.hist c.args.setup.hash in
     let w = final_world image c.in-Ok.read.0.items c.args.setup in
     let stands = c.in-Ok.ensures.reads _ 0 next (omega arith) c.requires.stands in
     let ran = rw c.as_slice.ensures.value at c.in-Ok-run_program.ensures.runs in
-    let s = ran _ (c.args.elf + 1) [] (report_run files.form c.args.setup.rate c.args.shown image) stands in
-    no_memory words _ _ (c.args.elf + 1) s.0 (report_run files.form c.args.setup.rate c.args.shown image z w) s.1
-    (may_stop_reports c.args.shown image (written_profile files.form z w.log c.args.setup.rate) (told z w))
+    let s = ran _ (c.args.elf + 1) [] (report_run files.form c.args.setup.rate (chosen_by (map string_bytes c.args.words.now) c.args.selection.now) image) stands in
+    no_memory words _ _ (c.args.elf + 1) s.0 (report_run files.form c.args.setup.rate (chosen_by (map string_bytes c.args.words.now) c.args.selection.now) image z w) s.1
+    (may_stop_reports (chosen_by (map string_bytes c.args.words.now) c.args.selection.now) image (written_profile files.form z w.log c.args.setup.rate) (told z w))
 
 pub returns-in-Ok-print_reports : goal.returns-in-Ok-print_reports
 returns-in-Ok-print_reports g c =
     let words = map string_bytes c.args.words.now in
     let files = files_named words c.args.outputs.gmon c.args.outputs.form c.args.outputs.image in
-    let next : List ℕ → Image → Course = λ bytes image. run_program (run_acts files c.args.setup.rate) c.args.setup (report_run files.form c.args.setup.rate c.args.shown image) bytes image in
+    let next : List ℕ → Image → Course = λ bytes image. run_program (run_acts files c.args.setup) c.args.setup (report_run files.form c.args.setup.rate (chosen_by (map string_bytes c.args.words.now) c.args.selection.now) image) bytes image in
     let image = c.in-Ok.read.1 in
     let bytes = c.in-Ok.read.0.items in
     let z = sizes_of image.text c.args.setup.hist c.args.setup.hash in
@@ -51,13 +51,13 @@ returns-in-Ok-print_reports g c =
     let stands = c.in-Ok.ensures.reads _ 0 next (omega arith) c.requires.stands in
     let ran = rw c.as_slice.ensures.value at c.in-Ok-run_program.ensures.runs in
     let is = rw c.as_slice.ensures.value at c.in-Ok-run_program.ensures.ended in
-    let s = ran _ (c.args.elf + 1) [] (report_run files.form c.args.setup.rate c.args.shown image) stands in
+    let s = ran _ (c.args.elf + 1) [] (report_run files.form c.args.setup.rate (chosen_by (map string_bytes c.args.words.now) c.args.selection.now) image) stands in
     let gmon = c.gmon.ensures in
     let total = c.in-Ok-run_profile.total in
     let fits = c.in-Ok-run_profile.ensures.fits in
     let rate = c.requires.within.rate in
     let written : total ≡ written_profile files.form z w.log c.args.setup.rate = profile_written files.form c.gmon.result.now z w.log c.args.setup.rate total (gmon.log w is.stands) (gmon.sizes ∙ is.sizes) fits.0 fits.1 (omega arith) (c.in-Ok-run_profile.ensures.log w.log (gmon.log w is.stands)) in
-    let here = of_the_same words _ _ (c.args.elf + 1) s.0 c.args.shown image total (written_profile files.form z w.log c.args.setup.rate) (told z w) written s.1 in
+    let here = of_the_same words _ _ (c.args.elf + 1) s.0 (chosen_by (map string_bytes c.args.words.now) c.args.selection.now) image total (written_profile files.form z w.log c.args.setup.rate) (told z w) written s.1 in
     let told_so = c.in-Ok-print_reports.ensures words _ (c.args.elf + 1) s.0 (told z w) here in
     run_told words _ _ (c.args.elf + 1) told_so.0 image bytes c.args.setup c.in-Ok-run_program.run' c.summary.result is c.summary.ensures.told told_so.1
 
@@ -65,7 +65,7 @@ pub returns : goal.returns
 returns g c =
     let words = map string_bytes c.args.words.now in
     let files = files_named words c.args.outputs.gmon c.args.outputs.form c.args.outputs.image in
-    let next : List ℕ → Image → Course = λ bytes image. run_program (run_acts files c.args.setup.rate) c.args.setup (report_run files.form c.args.setup.rate c.args.shown image) bytes image in
+    let next : List ℕ → Image → Course = λ bytes image. run_program (run_acts files c.args.setup) c.args.setup (report_run files.form c.args.setup.rate (chosen_by (map string_bytes c.args.words.now) c.args.selection.now) image) bytes image in
     let image = c.in-Ok.read.1 in
     let bytes = c.in-Ok.read.0.items in
     let z = sizes_of image.text c.args.setup.hist c.args.setup.hash in
@@ -73,11 +73,11 @@ returns g c =
     let stands = c.in-Ok.ensures.reads _ 0 next (omega arith) c.requires.stands in
     let ran = rw c.as_slice.ensures.value at c.in-Ok-run_program.ensures.runs in
     let is = rw c.as_slice.ensures.value at c.in-Ok-run_program.ensures.ended in
-    let s = ran _ (c.args.elf + 1) [] (report_run files.form c.args.setup.rate c.args.shown image) stands in
+    let s = ran _ (c.args.elf + 1) [] (report_run files.form c.args.setup.rate (chosen_by (map string_bytes c.args.words.now) c.args.selection.now) image) stands in
     let gmon = c.gmon.ensures in
     let total = c.in-Ok-run_profile.total in
     let fits = c.in-Ok-run_profile.ensures.fits in
     let rate = c.requires.within.rate in
     let written : total ≡ written_profile files.form z w.log c.args.setup.rate = profile_written files.form c.gmon.result.now z w.log c.args.setup.rate total (gmon.log w is.stands) (gmon.sizes ∙ is.sizes) fits.0 fits.1 (omega arith) (c.in-Ok-run_profile.ensures.log w.log (gmon.log w is.stands)) in
-    let here = of_the_same words _ _ (c.args.elf + 1) s.0 c.args.shown image total (written_profile files.form z w.log c.args.setup.rate) (told z w) written s.1 in
+    let here = of_the_same words _ _ (c.args.elf + 1) s.0 (chosen_by (map string_bytes c.args.words.now) c.args.selection.now) image total (written_profile files.form z w.log c.args.setup.rate) (told z w) written s.1 in
     rw c.report_fault.ensures (c.in-Err-print_reports.ensures words _ (c.args.elf + 1) s.0 (told z w) here)

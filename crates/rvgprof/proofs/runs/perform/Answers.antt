@@ -5,8 +5,9 @@ use Rattle.host_port.proofs.PerformingLemmas.{performs_then, performs_front}
 use Rattle.mcount_arcs.specs.Image.{block_image}
 use Rattle.prof_machine.specs.declared.machine.Machine.{Machine}
 use Rattle.prof_machine.specs.Plan.{driven}
-use Rattle.rvgprof.specs.Answer.{file_acts, files_named, given_file_acts, run_text}
-use Rattle.rvgprof.proofs.Performing.{printed_performs, drive_fails, profile_is, image_is, file_as, given_as, given_nothing}
+use Rattle.prof_machine.specs.Executions.{exec_counts_of}
+use Rattle.rvgprof.specs.Answer.{file_acts, files_named, given_file_acts, profile_bytes}
+use Rattle.rvgprof.proofs.Performing.{printed_performs, drive_fails, held_is, image_is, file_as, given_as, given_nothing}
 use Rattle.rvgprof.proofs.runs.perform.Goals as goal
 
 pub returns-in_err-drive-clause-performs : goal.returns-in_err-drive-clause-performs
@@ -16,7 +17,7 @@ returns-in_err-drive-clause-performs g c = λ w stands none.
     let last = driven m w in
     let files = files_named (map string_bytes c.args.words.now) c.args.outputs.gmon c.args.outputs.form c.args.outputs.image in
     let off = c.in_err-drive.ensures.fails w stands in
-    rw p.1 (performs_front {T = Unit {0}} last.prints (file_acts files.gmon (run_text files.form m.sizes last.log c.args.rate) ++ given_file_acts files.image (layout_of (block_image m.sizes last.log))) _ _ _
+    rw p.1 (performs_front {T = Unit {0}} last.prints (file_acts files.gmon (profile_bytes files.form c.args.setup m.sizes last) ++ given_file_acts files.image (layout_of (block_image m.sizes last.log))) _ _ _
     (drive_fails {T = Unit {0}} m w off.0 _ _ _ off.1 none off.3))
 
 pub returns-in_err-write_profile-clause-performs : goal.returns-in_err-write_profile-clause-performs
@@ -26,10 +27,11 @@ returns-in_err-write_profile-clause-performs g c = λ w stands none.
     let last = driven m w in
     let d = c.in_ok-drive.ensures in
     let files = files_named (map string_bytes c.args.words.now) c.args.outputs.gmon c.args.outputs.form c.args.outputs.image in
-    let text = run_text files.form m.sizes last.log c.args.rate in
+    let text = profile_bytes files.form c.args.setup m.sizes last in
     let back = given_file_acts files.image (layout_of (block_image m.sizes last.log)) in
     let sizes = c.gmon.ensures.sizes ∙ ap (λ (x : Machine). x.sizes) d.machine in
-    let is = profile_is files.form c.gmon.result.now m.sizes last.log c.args.rate (c.gmon.ensures.log last (d.stands w stands)) sizes in
+    let counted = c.exec_counts.ensures.log last (d.stands w stands) ∙ ap (λ (x : Machine). exec_counts_of x last.ran) d.machine in
+    let is = held_is files.form c.args.setup c.gmon.result.now c.exec_counts.result.now m last (c.gmon.ensures.log last (d.stands w stands)) sizes counted c.requires.setup in
     let written = rw c.name_at-name.ensures at c.in_err-write_profile.ensures.performs in
     rw p.1 (performs_then last.prints (file_acts files.gmon text ++ back) _ _ _ (tt {0}) _ (printed_performs {T = Unit {0}} w last _ _ (tt {0}) none (d.prints w stands) d.counts)
     (performs_front {T = Unit {0}} (file_acts files.gmon text) back _ _ _ (file_as {T = Unit {0}} files.gmon _ text _ _ _ is written)))
@@ -41,11 +43,12 @@ returns-in-Some-clause-performs g c = λ w stands none.
     let d = c.in_ok-drive.ensures in
     let words = map string_bytes c.args.words.now in
     let files = files_named words c.args.outputs.gmon c.args.outputs.form c.args.outputs.image in
-    let text = run_text files.form m.sizes last.log c.args.rate in
+    let text = profile_bytes files.form c.args.setup m.sizes last in
     let bytes = layout_of (block_image m.sizes last.log) in
     let sizes = c.gmon.ensures.sizes ∙ ap (λ (x : Machine). x.sizes) d.machine in
     let sizes2 = c.gmon-in-Some.ensures.sizes ∙ ap (λ (x : Machine). x.sizes) d.machine in
-    let is = profile_is files.form c.gmon.result.now m.sizes last.log c.args.rate (c.gmon.ensures.log last (d.stands w stands)) sizes in
+    let counted = c.exec_counts.ensures.log last (d.stands w stands) ∙ ap (λ (x : Machine). exec_counts_of x last.ran) d.machine in
+    let is = held_is files.form c.args.setup c.gmon.result.now c.exec_counts.result.now m last (c.gmon.ensures.log last (d.stands w stands)) sizes counted c.requires.setup in
     let image = image_is c.gmon-in-Some.result.now m.sizes last.log (c.gmon-in-Some.ensures.log last (d.stands w stands)) sizes2 in
     let written = rw c.name_at-name.ensures at c.in_ok-write_profile.ensures.performs in
     let more = rw c.name_at.ensures at c.write_image.ensures in
@@ -60,10 +63,11 @@ returns-in-None-clause-performs g c = λ w stands none.
     let d = c.in_ok-drive.ensures in
     let words = map string_bytes c.args.words.now in
     let files = files_named words c.args.outputs.gmon c.args.outputs.form c.args.outputs.image in
-    let text = run_text files.form m.sizes last.log c.args.rate in
+    let text = profile_bytes files.form c.args.setup m.sizes last in
     let bytes = layout_of (block_image m.sizes last.log) in
     let sizes = c.gmon.ensures.sizes ∙ ap (λ (x : Machine). x.sizes) d.machine in
-    let is = profile_is files.form c.gmon.result.now m.sizes last.log c.args.rate (c.gmon.ensures.log last (d.stands w stands)) sizes in
+    let counted = c.exec_counts.ensures.log last (d.stands w stands) ∙ ap (λ (x : Machine). exec_counts_of x last.ran) d.machine in
+    let is = held_is files.form c.args.setup c.gmon.result.now c.exec_counts.result.now m last (c.gmon.ensures.log last (d.stands w stands)) sizes counted c.requires.setup in
     let written = rw c.name_at-name.ensures at c.in_ok-write_profile.ensures.performs in
     performs_then last.prints (file_acts files.gmon text ++ given_file_acts files.image bytes) _ _ _ (tt {0}) _ (printed_performs {T = Unit {0}} w last _ _ (tt {0}) none (d.prints w stands) d.counts)
     (performs_then (file_acts files.gmon text) (given_file_acts files.image bytes) _ _ _ (tt {0}) _ (file_as {T = Unit {0}} files.gmon _ text _ _ _ is written)

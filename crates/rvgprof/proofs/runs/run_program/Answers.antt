@@ -22,8 +22,8 @@ returns-in-Ok-perform-clause-runs g c = λ start below done next s.
       stands = c.in-Ok.ensures.stands;
       machine = c.in-Ok.ensures.machine;
     } in
-    run_done words start _ _ below done (run_acts files c.args.setup.rate) next c.args.image.now c.args.bytes.now c.args.setup c.args.bytes.now c.args.setup c.in-Ok.run'
-    (λ p idle. shut_after files c.args.setup.rate (sizes_of c.args.image.now.text c.args.setup.hist c.args.setup.hash) (final_world c.args.image.now c.args.bytes.now c.args.setup) false) s started c.in-Ok-perform.ensures.performs
+    run_done words start _ _ below done (run_acts files c.args.setup) next c.args.image.now c.args.bytes.now c.args.setup c.args.bytes.now c.args.setup c.in-Ok.run'
+    (λ p idle. shut_after files c.args.setup (sizes_of c.args.image.now.text c.args.setup.hist c.args.setup.hash) (final_world c.args.image.now c.args.bytes.now c.args.setup) false) s started c.in-Ok-perform.ensures.performs
 
 pub returns-in-Ok-perform-clause-ended : goal.returns-in-Ok-perform-clause-ended
 returns-in-Ok-perform-clause-ended g c =
@@ -47,4 +47,4 @@ returns-in-Err-perform-clause-runs g c = λ start below done next s.
       stands = c.in-Ok.ensures.stands;
       machine = c.in-Ok.ensures.machine;
     } in
-    run_failed words start _ _ below done (run_acts files c.args.setup.rate) next c.args.image.now c.args.bytes.now c.args.setup c.args.bytes.now c.args.setup c.in-Ok.run' c.in-Err-perform.field-0 s started c.in-Err-perform.ensures.performs
+    run_failed words start _ _ below done (run_acts files c.args.setup) next c.args.image.now c.args.bytes.now c.args.setup c.args.bytes.now c.args.setup c.in-Ok.run' c.in-Err-perform.field-0 s started c.in-Err-perform.ensures.performs

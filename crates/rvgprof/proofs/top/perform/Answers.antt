@@ -1,7 +1,7 @@
 use Rattle.std.proofs.Common.{◌∙◌, Some, ap}
 use Rattle.std.specs.Prelude.{map, string_bytes}
 use Rattle.rvgprof.specs.declared.words.Command.{Command}
-use Rattle.rvgprof.specs.declared.words.Command.TheVariants.{Show, Syms, Run, Sum, Report, Profile, Demo}
+use Rattle.rvgprof.specs.declared.words.Command.TheVariants.{Show, Syms, Run, Sum, Report, Profile, Demo, Annotate, Folded, Help, Version}
 use Rattle.rvgprof.proofs.Standing.{begun}
 use Rattle.rvgprof.proofs.top.perform.Goals as goal
 
@@ -26,14 +26,30 @@ run-requires-clause-stands g c =
 pub report-requires-clause-stands : goal.report-requires-clause-stands
 report-requires-clause-stands g c =
     let places = c.as_slice-in-Report.ensures in
-    rw places (begun (map string_bytes c.args.words.now) (g.H.Host.outside c.args.host.now) (Report c.in-Report.elf c.in-Report.gmons c.in-Report.shown) (c.requires.said ∙ ap (λ (x : Command). Some x) c.in-Report.is) c.requires.idle)
+    rw places (begun (map string_bytes c.args.words.now) (g.H.Host.outside c.args.host.now) (Report c.in-Report.elf c.in-Report.gmons c.in-Report.selection) (c.requires.said ∙ ap (λ (x : Command). Some x) c.in-Report.is) c.requires.idle)
 
 pub profile-requires-clause-stands : goal.profile-requires-clause-stands
 profile-requires-clause-stands g c =
-    let command = Profile c.in-Profile.elf c.in-Profile.gmon c.in-Profile.form c.in-Profile.image c.in-Profile.setup c.in-Profile.shown in
+    let command = Profile c.in-Profile.elf c.in-Profile.gmon c.in-Profile.form c.in-Profile.image c.in-Profile.setup c.in-Profile.selection in
     begun (map string_bytes c.args.words.now) (g.H.Host.outside c.args.host.now) command (c.requires.said ∙ ap (λ (x : Command). Some x) c.in-Profile.is) c.requires.idle
 
 pub demo-requires-clause-stands : goal.demo-requires-clause-stands
 demo-requires-clause-stands g c =
     let command = Demo c.in-Demo.functions c.in-Demo.elf c.in-Demo.setup in
     begun (map string_bytes c.args.words.now) (g.H.Host.outside c.args.host.now) command (c.requires.said ∙ ap (λ (x : Command). Some x) c.in-Demo.is) c.requires.idle
+
+pub print_listing-requires-clause-stands : goal.print_listing-requires-clause-stands
+print_listing-requires-clause-stands g c =
+    let places = c.as_slice-in-Annotate.ensures in
+    rw places (begun (map string_bytes c.args.words.now) (g.H.Host.outside c.args.host.now) (Annotate c.in-Annotate.elf c.in-Annotate.gmons) (c.requires.said ∙ ap (λ (x : Command). Some x) c.in-Annotate.is) c.requires.idle)
+
+pub print_stacks-requires-clause-stands : goal.print_stacks-requires-clause-stands
+print_stacks-requires-clause-stands g c =
+    let command = Folded c.in-Folded.elf c.in-Folded.inclusive c.in-Folded.setup in
+    begun (map string_bytes c.args.words.now) (g.H.Host.outside c.args.host.now) command (c.requires.said ∙ ap (λ (x : Command). Some x) c.in-Folded.is) c.requires.idle
+
+pub help-requires : goal.help-requires
+help-requires g c = begun (map string_bytes c.args.words.now) (g.H.Host.outside c.args.host.now) Help (c.requires.said ∙ ap (λ (x : Command). Some x) c.in-Help.is) c.requires.idle
+
+pub version-requires : goal.version-requires
+version-requires g c = begun (map string_bytes c.args.words.now) (g.H.Host.outside c.args.host.now) Version (c.requires.said ∙ ap (λ (x : Command). Some x) c.in-Version.is) c.requires.idle

@@ -1,0 +1,95 @@
+-- A run whose samples were folded, as the words ask for it.
+use Rattle.std.proofs.Common.{◌≡◌, ◌≤◌, ℕ, zero, suc, ◌+◌, ◌<◌, Bool, true, false, List, [], ◌∷◌, ◌++◌, length, map, Result, Ok, Err, inl, refl, sym, ap, subst, ◌∙◌, arith}
+use Rattle.std.specs.Prelude.{slice_index, MatchResult, if◌then◌else◌}
+use Rattle.std.specs.List.{range_with_len}
+use Rattle.elf32_syms.specs.declared.image.Image.{Image}
+use Rattle.elf32_syms.specs.declared.image.Symbol.{Symbol}
+use Rattle.folded.specs.Folding.{HasCause, StopsShort}
+use Rattle.folded.specs.Stacks.{inclusive_of, lines_of}
+use Rattle.folded.specs.Tally.{Folds, FoldedValue}
+use Rattle.folded.specs.Text.{folded_text, functions_text, inclusive_text, lines_text}
+use Rattle.folded.specs.declared.refusal.FoldRefusal.{FoldRefusal}
+use Rattle.folded.specs.declared.refusal.FoldRefusal.TheVariants as folds
+use Rattle.host_port.specs.Act.{Act, writes_after}
+use Rattle.host_port.specs.Outside.{Outside}
+use Rattle.prof_machine.specs.declared.setup.Setup.{Setup}
+use Rattle.prof_machine.specs.Plan.{driven, planned, most_turns}
+use Rattle.prof_machine.specs.Start.{final_world, start_of, start_refusal}
+use Rattle.prof_machine.specs.Value.{RunValue, StandsFor}
+use Rattle.prof_machine.specs.World.{World}
+use Rattle.prof_machine.proofs.PrintLemmas.{prints_driven}
+use Rattle.rvgprof.specs.Answer.{fold_fault_of, fold_program, stacks_told, start_fault_of}
+use Rattle.rvgprof.specs.Contract.{Acted}
+use Rattle.rvgprof.specs.Course.{Does, MayStop, one_by_one}
+use Rattle.rvgprof.specs.FoldedReport.{folded_report, run_stacks, stacks_text}
+use Rattle.rvgprof.specs.Standing.{Stands}
+use Rattle.rvgprof.proofs.Performing.{drive_fails, printed_performs}
+use Rattle.host_port.specs.Performing.{Performs}
+use Rattle.rvgprof.proofs.Running.{Started, first_prints_none, last_is, starts_is}
+use Rattle.rvgprof.proofs.Standing.{at_once, does, does_first, fails, goes_on, no_memory, one_by_one_stop}
+
+-- memory may be wanted before the stacks are told
+pub may_stop_stacks : (inclusive : Bool) (image : Image) (bytes : List ℕ) (setup : Setup) (contents : ℕ → List ℕ) → MayStop contents (stacks_told inclusive image bytes setup) []
+may_stop_stacks inclusive image bytes setup contents = inl refl
+
+pub may_stop_folding : (inclusive : Bool) (image : Image) (bytes : List ℕ) (setup : Setup) (contents : ℕ → List ℕ) → MayStop contents (one_by_one (final_world image bytes setup).prints (stacks_told inclusive image bytes setup)) []
+may_stop_folding inclusive image bytes setup contents =
+    one_by_one_stop contents (final_world image bytes setup).prints (stacks_told inclusive image bytes setup) (may_stop_stacks inclusive image bytes setup contents)
+
+module _ (words : List (List ℕ)) (start mid new : Outside) (below : ℕ) (done : List Act) (inclusive : Bool) (image : Image) (bytes : List ℕ) (setup : Setup) (given : List ℕ) (used : Setup) (v : RunValue)
+    (s : Stands words start mid below done (fold_program inclusive setup bytes image)) (started : Started image bytes setup given used v) where
+  here : Stands words start mid below done (one_by_one (final_world image bytes setup).prints (stacks_told inclusive image bytes setup))
+  here =
+      goes_on words start mid below done start_fault_of (start_refusal image setup) (one_by_one (final_world image bytes setup).prints (stacks_told inclusive image bytes setup)) s
+      (starts_is image bytes setup given used v started)
+
+  first : World
+  first = start_of image given used
+
+  -- it was folded to its end
+  pub fold_done : {E : Type 0} → Performs {T = Unit {0}} {E = E} (final_world image bytes setup).prints mid new (Ok tt) → writes_after (final_world image bytes setup).prints false ≡ false
+      → Stands words start new below (done ++ (final_world image bytes setup).prints) (stacks_told inclusive image bytes setup)
+  fold_done {E} performs shut =
+      does {T = Unit {0}} {E = E} words start mid new below done (final_world image bytes setup).prints (stacks_told inclusive image bytes setup) tt
+      (at_once words start mid below done (final_world image bytes setup).prints (stacks_told inclusive image bytes setup) (may_stop_stacks inclusive image bytes setup) here) performs shut
+
+  due : {T E : Type 0} (r : Result T E) → Performs {T = T} {E = E} (driven v.machine first).prints mid new r → Performs (final_world image bytes setup).prints mid new r
+  due r performs = subst (λ (w : World). Performs w.prints mid new r) (last_is image bytes setup given used v started) performs
+
+  -- a print failed, or memory was wanted
+  pub fold_stops : (refusal : FoldRefusal) → (w_prints : (w : World) → StandsFor w v → StopsShort v.machine w mid new refusal) → HasCause mid new refusal → new.is_writing ≡ mid.is_writing → Acted words start new (Err (fold_fault_of refusal))
+  fold_stops folds.HostFailed stops cause still =
+      let off = stops first started.stands in
+      fails {T = Unit {0}} words start mid new below done (final_world image bytes setup).prints (stacks_told inclusive image bytes setup) tt
+      (at_once words start mid below done (final_world image bytes setup).prints (stacks_told inclusive image bytes setup) (may_stop_stacks inclusive image bytes setup) here)
+      (due {T = Unit {0}} {E = Unit {0}} (Err tt) (drive_fails {T = Unit {0}} v.machine first off.0 mid new tt off.1 (first_prints_none image given used) off.3))
+  fold_stops folds.OutOfMemory stops cause still =
+      let short = stops first started.stands in
+      let front = (planned v.machine first short.0).prints in
+      let rest = prints_driven v.machine first short.0 short.1 in
+      let whole : (final_world image bytes setup).prints ≡ front ++ rest.0 = ap (λ (w : World). w.prints) (sym (last_is image bytes setup given used v started)) ∙ rest.1 in
+      let performs : Performs {T = Unit {0}} {E = Unit {0}} front mid new (Ok tt) = printed_performs {T = Unit {0}} {E = Unit {0}} first (planned v.machine first short.0) mid new tt (first_prints_none image given used) short.2 cause in
+      let shut : writes_after front false ≡ false = ap (writes_after front) (sym s.shut) ∙ sym performs.done.writing ∙ still ∙ s.shut in
+      let parted = subst (λ (acts : List Act). Stands words start mid below done (one_by_one acts (stacks_told inclusive image bytes setup))) whole here in
+      no_memory words start new below (done ++ front) (one_by_one rest.0 (stacks_told inclusive image bytes setup))
+      (does_first {T = Unit {0}} {E = Unit {0}} words start mid new below done front rest.0 (stacks_told inclusive image bytes setup) tt parted performs shut)
+      (λ contents. one_by_one_stop contents rest.0 (stacks_told inclusive image bytes setup) (may_stop_stacks inclusive image bytes setup contents))
+
+-- the numbers of functions, one after the other
+all_inclusive : (xs : List ℕ) (f : ℕ → ℕ) (a : ℕ) → ((g : ℕ) → g < length xs → slice_index xs g ≡ f (a + g)) → xs ≡ map f (range_with_len a (length xs))
+all_inclusive [] f a each = refl
+all_inclusive (x ∷ xs) f a each =
+    let first : x ≡ f a = each 0 (omega arith) ∙ ap f (omega arith) in
+    let others = all_inclusive xs f (a + 1) (λ g less. each (suc g) (omega arith) ∙ ap f (omega arith)) in
+    ap (λ (y : ℕ). y ∷ xs) first ∙ ap (λ (ys : List ℕ). f a ∷ ys) others
+
+-- the text of what was folded is that of the run's stacks
+pub text_is : (inclusive : Bool) (image : Image) (bytes : List ℕ) (setup : Setup) (f : FoldedValue) → Folds (length image.symbols) (run_stacks image bytes setup) f
+    → (if inclusive then inclusive_text image.symbols f else folded_text image.symbols f) ≡ folded_report inclusive image bytes setup
+unfolding folded_report
+text_is false image bytes setup f folds = ap (lines_text image.symbols) folds.lines
+text_is true image bytes setup f folds =
+    let stacks = run_stacks image bytes setup in
+    let each : (g : ℕ) → g < length f.inclusive → slice_index f.inclusive g ≡ inclusive_of stacks (0 + g) = λ g less. (let same : g ≡ 0 + g = omega arith in
+    folds.inclusive g (omega (arith, less, folds.functions_are)) ∙ ap (inclusive_of stacks) same) in
+    ap (functions_text image.symbols) (all_inclusive f.inclusive (inclusive_of stacks) 0 each ∙ ap (λ (n : ℕ). map (inclusive_of stacks) (range_with_len 0 n)) folds.functions_are)

@@ -1,0 +1,17 @@
+use Rattle.std.proofs.Common.{[], ◌∷◌, None, refl}
+use Rattle.std.specs.Prelude.{map, string_bytes}
+use Rattle.host_port.specs.Act.{Out}
+use Rattle.host_port.specs.declared.side.Side.TheVariants.{Output}
+use Rattle.host_port.proofs.PerformingLemmas.{puts_performs}
+use Rattle.rvgprof.specs.Answer.{ended}
+use Rattle.rvgprof.proofs.Performing.{last_acts}
+use Rattle.rvgprof.proofs.Standing.{fails}
+use Rattle.rvgprof.proofs.help.print.Goals as goal
+
+pub returns-in-Ok-clause-acted : goal.returns-in-Ok-clause-acted
+returns-in-Ok-clause-acted g c =
+    last_acts (map string_bytes c.args._words.now) _ _ _ 0 [] (Out c.args.text.now ∷ []) (record { run = None }) (tt {0}) c.requires (puts_performs Output c.args.text.now _ _ _ c.in-Ok.ensures.puts) refl
+
+pub returns-clause-acted : goal.returns-clause-acted
+returns-clause-acted g c =
+    fails {T = Unit {0}} (map string_bytes c.args._words.now) _ _ _ 0 [] (Out c.args.text.now ∷ []) ended c.in-Err.field-0 c.requires (puts_performs {T = Unit {0}} Output c.args.text.now _ _ _ c.in-Err.ensures.puts)

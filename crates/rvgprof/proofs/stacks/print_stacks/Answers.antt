@@ -1,0 +1,51 @@
+use Rattle.std.proofs.Common.{[], ◌∷◌, ◌+◌, arith, refl}
+use Rattle.std.specs.Prelude.{map, string_bytes}
+use Rattle.host_port.specs.Act.{Out}
+use Rattle.host_port.specs.declared.side.Side.TheVariants.{Output}
+use Rattle.host_port.proofs.PerformingLemmas.{puts_performs}
+use Rattle.prof_machine.specs.Start.{final_world}
+use Rattle.mcount_arcs.specs.Sizes.{sizes_of}
+use Rattle.rvgprof.specs.Answer.{fold_program, told}
+use Rattle.rvgprof.specs.FoldedReport.{folded_report}
+use Rattle.rvgprof.proofs.Folding.{text_is}
+use Rattle.rvgprof.proofs.Running.{run_told}
+use Rattle.rvgprof.proofs.Standing.{does, fails}
+use Rattle.rvgprof.proofs.stacks.print_stacks.Goals as goal
+
+pub returns-in-Err : goal.returns-in-Err
+returns-in-Err g c = c.in-Err.ensures.reads _ 0 (fold_program c.args.inclusive c.args.setup) (omega arith) c.requires.stands
+
+pub returns-in-Err-fold_program : goal.returns-in-Err-fold_program
+returns-in-Err-fold_program g c =
+    let s = c.in-Ok.ensures.reads _ 0 (fold_program c.args.inclusive c.args.setup) (omega arith) c.requires.stands in
+    let ran = rw c.as_slice.ensures.value at c.in-Err-fold_program.ensures.folds in
+    ran (map string_bytes c.args.words.now) _ (c.args.elf + 1) [] c.args.inclusive s
+
+pub returns-in-Ok-write : goal.returns-in-Ok-write
+returns-in-Ok-write g c =
+    let words = map string_bytes c.args.words.now in
+    let image = c.in-Ok.read.1 in
+    let bytes = c.in-Ok.read.0.items in
+    let setup = c.args.setup in
+    let s = c.in-Ok.ensures.reads _ 0 (fold_program c.args.inclusive setup) (omega arith) c.requires.stands in
+    let ran = rw c.as_slice.ensures.value at c.in-Ok-fold_program.ensures.folds in
+    let is = rw c.as_slice.ensures.value at c.in-Ok-fold_program.ensures.ended in
+    let t = ran words _ (c.args.elf + 1) [] c.args.inclusive s in
+    let text = folded_report c.args.inclusive image bytes setup in
+    let puts = rw (text_is c.args.inclusive image bytes setup c.in-Ok-fold_program.done.1 t.2) at (rw c.as_slice-write.ensures at c.in-Ok-write.ensures) in
+    let after = told (sizes_of image.text setup.hist setup.hash) (final_world image bytes setup) in
+    let u = does {T = Unit {0}} words _ _ _ (c.args.elf + 1) t.0 (Out text ∷ []) after (tt {0}) t.1 (puts_performs Output text _ _ _ puts) refl in
+    run_told words _ _ (c.args.elf + 1) _ image bytes setup c.in-Ok-fold_program.done.0 c.summary.result is c.summary.ensures.told u
+
+pub returns : goal.returns
+returns g c =
+    let words = map string_bytes c.args.words.now in
+    let image = c.in-Ok.read.1 in
+    let bytes = c.in-Ok.read.0.items in
+    let setup = c.args.setup in
+    let s = c.in-Ok.ensures.reads _ 0 (fold_program c.args.inclusive setup) (omega arith) c.requires.stands in
+    let ran = rw c.as_slice.ensures.value at c.in-Ok-fold_program.ensures.folds in
+    let t = ran words _ (c.args.elf + 1) [] c.args.inclusive s in
+    let text = folded_report c.args.inclusive image bytes setup in
+    let puts = rw (text_is c.args.inclusive image bytes setup c.in-Ok-fold_program.done.1 t.2) at (rw c.as_slice-write.ensures at c.in-Err-write.ensures) in
+    fails {T = Unit {0}} words _ _ _ (c.args.elf + 1) t.0 (Out text ∷ []) (told (sizes_of image.text setup.hist setup.hash) (final_world image bytes setup)) c.in-Err-write.field-0 t.1 (puts_performs {T = Unit {0}} Output text _ _ _ puts)
