@@ -1,12 +1,16 @@
 -- What one more instruction does to the counts of executed instructions.
-use Rattle.std.proofs.Common.{All, Bool, List, [], ap, arith, cond, eqb, false, get_or, get_or-set_other, get_or-set_same, inl, inr, leb, length, length-set, ltb, refl, replicate, set, sym, true, ℕ, ◌%◌, ◌&&◌, ◌*◌, ◌++◌, ◌+◌, ◌-◌, ◌/◌, ◌<◌, ◌∙◌, ◌∷◌, ◌≡◌, ◌≤◌, if◌then◌else◌}
+use Rattle.std.proofs.Common.{All, Bool, List, Option, [], ap, arith, cond, eqb, false, get_or, get_or-set_other, get_or-set_same, inl, inr, leb, length, length-set, ltb, refl, replicate, set, slice_index, suc, sym, true, zero, ℕ, ◌%◌, ◌&&◌, ◌*◌, ◌++◌, ◌+◌, ◌-◌, ◌/◌, ◌<◌, ◌∙◌, ◌∷◌, ◌≡◌, ◌≤◌, if◌then◌else◌}
 use Rattle.std.proofs.lemmas.Bool.{and_from, and_parts, cases_eq, eq-eqb, eqb-true, le-leb, leb-true, lt-ltb, ltb-true, ne_eqb}
+use Rattle.std.specs.List.{cons_option, filter_map, range_with_len}
 use Rattle.std.proofs.lemmas.List.{get_or-replicate, length-replicate}
 use Rattle.std.proofs.lemmas.List.FromFn.{fill_by_all, get_or-map-range_with_len, length-map-range_with_len}
 use Rattle.std.proofs.lemmas.List.Sums.{sum_by_push}
+use Rattle.gp_base.specs.declared.records.RawBlock.{RawBlock}
+use Rattle.mcount_arcs.specs.Sizes.{AreSizes}
 use Rattle.mcount_arcs.specs.declared.sizes.Sizes.{Sizes}
+use Rattle.prof_machine.specs.Value.{AreCounts}
 use Rattle.prof_machine.specs.declared.machine.Machine.{Machine}
-use Rattle.prof_machine.specs.Executions.{exec_counts_of, executions_at, executions_in, instructions_of, with_execution}
+use Rattle.prof_machine.specs.Executions.{counted_pairs, exec_counts_of, executed_pairs, executions_at, executions_in, instructions_of, pair_of, with_execution}
 
 executions_at-push : (ran : List ℕ) (pc a : ℕ) → executions_at (ran ++ pc ∷ []) a ≡ executions_at ran a + cond (eqb pc a) 1 0
 executions_at-push ran pc a = sum_by_push (λ x. cond (eqb x a) 1 0) ran pc
@@ -116,9 +120,47 @@ bound_by low pc n xs true all = λ k d inside.
     ]
 bound_by low pc n xs false all = λ k d inside. omega (arith, all k d inside)
 
-pub counts_bound : (low pc n : ℕ) (xs : List ℕ) → All (λ x. x ≤ n) xs → All (λ x. x ≤ n + 1) (with_execution low pc xs)
+counts_bound : (low pc n : ℕ) (xs : List ℕ) → All (λ x. x ≤ n) xs → All (λ x. x ≤ n + 1) (with_execution low pc xs)
 counts_bound low pc n xs all = bound_by low pc n xs (is_counted low pc (length xs)) all
 
-pub zeros_bound : (n count : ℕ) (asked : Bool) → All (λ x. x ≤ n) (if asked then replicate count 0 else [])
+length_by : (low pc : ℕ) (xs : List ℕ) (b : Bool) → length (if b then set xs ((pc - low) / 4) (get_or xs ((pc - low) / 4) 0 + 1) else xs) ≡ length xs
+length_by low pc xs true = length-set xs ((pc - low) / 4) (get_or xs ((pc - low) / 4) 0 + 1)
+length_by low pc xs false = refl
+
+pub more_counts : (low pc n : ℕ) (xs : List ℕ) → AreCounts low n xs → AreCounts low (n + 1) (with_execution low pc xs)
+more_counts low pc n xs are = record {
+  few = counts_bound low pc n xs are.few;
+  places = omega (arith, are.places, length_by low pc xs (is_counted low pc (length xs)));
+}
+
+zeros_bound : (n count : ℕ) (asked : Bool) → All (λ x. x ≤ n) (if asked then replicate count 0 else [])
 zeros_bound n count true = λ k d inside. omega (arith, get_or-replicate count k 0 d (omega (arith, length-replicate {A = ℕ} count 0, inside)))
 zeros_bound n count false = λ k d inside. absurd (omega (arith, inside))
+
+zeros_short : (count : ℕ) (asked : Bool) → length {A = ℕ} (if asked then replicate count 0 else []) ≤ count
+zeros_short count true = omega (arith, length-replicate {A = ℕ} count 0)
+zeros_short count false = omega arith
+
+pub first_counts : (z : Sizes) (n : ℕ) (asked : Bool) → AreSizes z → AreCounts z.low n (if asked then replicate (instructions_of z) 0 else [])
+first_counts z n asked are = record {
+  few = zeros_bound n (instructions_of z) asked;
+  places = omega (arith, are.end, are.counters, zeros_short (instructions_of z) asked);
+}
+
+-- ---- as pairs
+
+-- what two functions give of the numbers from k on, that agree on them
+mapped_same : (f g : ℕ → Option RawBlock) (n k : ℕ) → ((i : ℕ) → k ≤ i → i < k + n → f i ≡ g i) → filter_map f (range_with_len k n) ≡ filter_map g (range_with_len k n)
+mapped_same f g zero k same = refl
+mapped_same f g (suc n) k same =
+    let rest = mapped_same f g n (k + 1) (λ i above below. same i (omega (arith, above)) (omega (arith, below))) in
+    ap (λ (o : Option RawBlock). cons_option o (filter_map f (range_with_len (k + 1) n))) (same k (omega arith) (omega arith))
+    ∙ ap (cons_option (g k)) rest
+
+pub pairs_counted : (z : Sizes) (ran : List ℕ) → counted_pairs z.low (executions_in z ran) ≡ executed_pairs z ran
+pairs_counted z ran =
+    let counts = executions_in z ran in
+    let f : ℕ → Option RawBlock = λ i. pair_of (z.low + 4 * i) (slice_index counts i) in
+    let g : ℕ → Option RawBlock = λ i. pair_of (z.low + 4 * i) (executions_at ran (z.low + 4 * i)) in
+    ap (λ (n : ℕ). filter_map f (range_with_len 0 n)) (length-counts z ran)
+    ∙ mapped_same f g (instructions_of z) 0 (λ i above below. ap (pair_of (z.low + 4 * i)) (count_at z ran i 0 (omega (arith, below))))

@@ -23,7 +23,7 @@ at_on : (z : Sizes) (from to : ℕ) (walk : Walk) (b : Bool) → Walking walk �
 at_on z from to walk true is = cc
 at_on z from to walk false is = absurd cc
 
-walk_is : (z : Sizes) (state : State) (from to : ℕ) (walk : Walk) → Walking walk ≡ meets z state from to → (state ≡ On) × (walk ≡ walk_from (slot_of z from) to)
+pub walk_is : (z : Sizes) (state : State) (from to : ℕ) (walk : Walk) → Walking walk ≡ meets z state from to → (state ≡ On) × (walk ≡ walk_from (slot_of z from) to)
 walk_is z On from to walk is = (refl, at_on z from to walk (nat_lt (offset_of z from) (z.high - z.low)) is)
 walk_is z Busy from to walk is = absurd cc
 walk_is z Error from to walk is = absurd cc

@@ -14,9 +14,10 @@ use Rattle.rv_step.specs.Step.{step_of}
 use Rattle.rv_step.specs.declared.stepped.Stepped.{Stepped}
 use Rattle.rv_step.specs.declared.stepped.Stepped.TheVariants.{Ecall, Retired, Trap as Trapped}
 use Rattle.prof_machine.proofs.PlanLemmas.{planned_split}
+use Rattle.prof_machine.proofs.LastingLemmas.{Lasting, lasts_closed, lasts_instructed, lasts_returned}
 use Rattle.prof_machine.proofs.WorldLemmas.{by_going}
 use Rattle.prof_machine.specs.Ecalls.{ecall_of}
-use Rattle.prof_machine.specs.Plan.{plan_of, planned}
+use Rattle.prof_machine.specs.Plan.{driven, most_turns, plan_of, planned}
 use Rattle.prof_machine.specs.Turn.{after_call, after_ecall, after_entering, after_step, arrived, closed, executed, instructed, is_at, returned, sampled, spent, taken, target_of, turn_of, while_going, with_entry, world_after}
 use Rattle.prof_machine.specs.World.{World, hart_of, left_of}
 use Rattle.prof_machine.specs.declared.ecalls.Call.{Call}
@@ -26,57 +27,14 @@ use Rattle.prof_machine.specs.declared.machine.Machine.{Machine}
 
 -- ---- only instructions print
 
-prints_if : (b : Bool) (v w : World) → v.prints ≡ w.prints → (if b then v else w).prints ≡ w.prints
-prints_if true v w same = same
-prints_if false v w same = refl
-
-prints_ended : (f : World → World) (w : World) (o : Option End) → (f w).prints ≡ w.prints → (if is_some o then w else f w).prints ≡ w.prints
-prints_ended f w None same = same
-prints_ended f w (Some end) same = refl
-
-pub prints_stage : (f : World → World) (w : World) → (f w).prints ≡ w.prints → (while_going f w).prints ≡ w.prints
-unfolding while_going
-prints_stage f w same = prints_ended f w w.ending same
-
-pub prints_sampled : (m : Machine) (h : ℕ) (w : World) → (sampled m h w).prints ≡ w.prints
-unfolding sampled
-prints_sampled m h w = prints_if (eqb (w.retired % m.setup.every) 0) _ w refl
-
-pub prints_spent : (m : Machine) (w : World) → (spent m w).prints ≡ w.prints
-unfolding spent
-prints_spent m w = prints_if (eqb w.retired m.setup.budget) _ w refl
-
-prints_either : (b : Bool) (u v w : World) → u.prints ≡ w.prints → v.prints ≡ w.prints → (if b then u else v).prints ≡ w.prints
-prints_either true u v w p q = p
-prints_either false u v w p q = q
-
 pub prints_returned : (h : ℕ) (w : World) → (returned h w).prints ≡ w.prints
-unfolding returned
-prints_returned h w = prints_either (eqb (target_of (hart_of w.harts h) % 4) 0) _ _ w refl refl
-
-prints_entering : (m : Machine) (h from to : ℕ) (e : Entered) (w : World) → (after_entering m h from to e w).prints ≡ w.prints
-prints_entering m h from to (Walking walk) w = refl
-prints_entering m h from to Lost w = prints_returned h _
-prints_entering m h from to Ignored w = prints_returned h _
-
-pub prints_arrived : (m : Machine) (h : ℕ) (w : World) → (arrived m h w).prints ≡ w.prints
-unfolding arrived
-prints_arrived m h w =
-    let s = hart_of w.harts h in
-    prints_either (is_at m.mcount s.pc) _ _ w (prints_entering m h (register s 10) (register s 1) (meets m.sizes (state_of m.sizes w.log) (register s 10) (register s 1)) w)
-    (prints_if (is_at m.moncontrol s.pc) _ w (prints_returned h _))
+prints_returned h w = ap (λ (l : Lasting). l.prints) (lasts_returned h w)
 
 pub prints_closed : (w : World) → (closed w).prints ≡ w.prints
-unfolding closed
-prints_closed w = prints_if (is_some w.ending && list_any (λ n. nat_lt 0 n) w.left) _ w refl
+prints_closed w = ap (λ (l : Lasting). l.prints) (lasts_closed w)
 
 pub prints_instructed : (m : Machine) (h : ℕ) (w : World) → (instructed m h w).prints ≡ (executed m h w).prints
-unfolding instructed
-prints_instructed m h w =
-    let a = executed m h w in
-    let b = while_going (sampled m h) a in
-    let c = while_going (arrived m h) b in
-    prints_stage (spent m) c (prints_spent m c) ∙ prints_stage (arrived m h) b (prints_arrived m h b) ∙ prints_stage (sampled m h) a (prints_sampled m h a)
+prints_instructed m h w = ap (λ (l : Lasting). l.prints) (lasts_instructed m h w)
 
 -- ---- what is printed stays
 
@@ -132,3 +90,8 @@ pub prints_planned : (m : Machine) (w : World) (k n : ℕ) → k ≤ n → (more
 prints_planned m w k n le =
     let p = prints_after m (planned m w k) (drop k (plan_of m.setup n)) in
     (p.0, ap (λ (v : World). v.prints) (planned_split m w k n le) ∙ p.1)
+
+-- and of the turns in which a run ends
+pub prints_driven : (m : Machine) (w : World) (n : ℕ) → n ≤ most_turns m.setup → (more : List Act) × ((driven m w).prints ≡ (planned m w n).prints ++ more)
+unfolding driven
+prints_driven m w n le = prints_planned m w n (most_turns m.setup) le

@@ -42,7 +42,7 @@ room_start : (image : Image) (bytes : List ℕ) (setup : Setup) → room_of (mac
 unfolding start_of machine_of room_of
 room_start image bytes setup = omega (arith, total_zeros setup.harts)
 
-given_setup : (image : Image) (setup : Setup) → (machine_of image setup).setup ≡ setup
+pub given_setup : (image : Image) (setup : Setup) → (machine_of image setup).setup ≡ setup
 unfolding machine_of
 given_setup image setup = refl
 

@@ -11,7 +11,8 @@ use Rattle.mcount_arcs.specs.Log.{LogEntry, Sample, is_on, kept_calls}
 use Rattle.mcount_arcs.specs.Samples.{counted_in, counted_samples}
 use Rattle.gp_base.specs.Spans.{is_in}
 use Rattle.mcount_arcs.specs.Sizes.{text_span}
-use Rattle.mcount_arcs.specs.Value.{GmonValue, StandsFor as RuntimeStandsFor}
+use Rattle.mcount_arcs.proofs.TickLemmas.{ticked_others}
+use Rattle.mcount_arcs.specs.Value.{GmonValue, StandsFor as RuntimeStandsFor, ticked}
 use Rattle.mcount_arcs.specs.declared.sizes.Sizes.{Sizes}
 use Rattle.rv_step.specs.Memory.{Memory}
 use Rattle.rv_step.specs.Registers.{Registers}
@@ -252,9 +253,9 @@ unsampled_stands w a h held some most stands =
     subst P (sym test) stands
 
 -- what is true of a run stays true where the clock has ticked
-pub held_sampled : (a : Inside) (k : ℕ) (g : GmonValue) → IsHeld a → a.live ≡ false → a.due ≡ 0 → k ≤ a.retired → g ≡ record a.gmon { counters = g.counters }
-    → IsHeld (record a { due = a.machine.setup.every; samples = k; gmon = g })
-held_sampled a k g held dead none few others =
+pub held_sampled : (a : Inside) (k pc : ℕ) (g : GmonValue) → IsHeld a → a.live ≡ false → a.due ≡ 0 → k ≤ a.retired → g ≡ ticked pc a.gmon → IsHeld (record a { due = a.machine.setup.every; samples = k; gmon = g })
+held_sampled a k pc g held dead none few changed =
+    let others : g ≡ record a.gmon { counters = g.counters } = changed ∙ ticked_others pc a.gmon ∙ ap (λ (v : GmonValue). record a.gmon { counters = v.counters }) (sym changed) in
     let calls : g.calls ≡ a.gmon.calls = ap (λ (v : GmonValue). v.calls) others in
     record {
       setup = held.setup;

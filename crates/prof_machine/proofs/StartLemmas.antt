@@ -9,16 +9,17 @@ use Rattle.elf32_syms.specs.declared.image.Segment.{Segment}
 use Rattle.mcount_arcs.proofs.CallLemmas.{pending_call-idle}
 use Rattle.mcount_arcs.proofs.EmptyLogLemmas.{kept_calls-nil}
 use Rattle.mcount_arcs.specs.Samples.{counted_samples}
+use Rattle.mcount_arcs.specs.Sizes.{AreSizes}
 use Rattle.mcount_arcs.specs.Value.{StandsFor as RuntimeStandsFor}
 use Rattle.rv_step.specs.Loading.{CanLoad, loaded}
 use Rattle.rv_step.specs.Memory.{Memory}
 use Rattle.prof_machine.proofs.ClockLemmas.{first}
-use Rattle.prof_machine.proofs.ExecutionLemmas.{exec_counts_of-nil, zeros_bound}
+use Rattle.prof_machine.proofs.ExecutionLemmas.{exec_counts_of-nil, first_counts}
 use Rattle.prof_machine.proofs.WalkLemmas.{no_walk}
 use Rattle.prof_machine.specs.Executions.{instructions_of}
 use Rattle.prof_machine.specs.Setup.{IsSetup}
 use Rattle.prof_machine.specs.Start.{HasRoom, IsLayout, base_in, base_of, first_registers, is_outside_of, is_too_small_of, machine_of, program_end_in, program_end_of, size_of, start_of, start_refusal}
-use Rattle.prof_machine.specs.Value.{IsHeld, RunValue, StandsFor, calls_met, flights, left_by, value_of}
+use Rattle.prof_machine.specs.Value.{AreCounts, IsHeld, RunValue, StandsFor, calls_met, flights, left_by, value_of}
 use Rattle.prof_machine.specs.declared.ending.StartRefusal.{StartRefusal}
 use Rattle.prof_machine.specs.declared.ending.StartRefusal.TheVariants.{EntryOutside, ProgramTooLarge}
 use Rattle.prof_machine.specs.declared.flight.Flight.{Flight}
@@ -100,9 +101,9 @@ stands_at_start image bytes setup l empty r h machine harts flight base zeros me
 
 -- ---- what is true of a run at its start
 
-pub held_at_start : (a : Inside) (setup : Setup) → IsSetup setup → a.machine.setup ≡ setup → a.gmon.sizes ≡ a.machine.sizes → length a.harts.items ≡ setup.harts → a.flight ≡ None → RuntimeStandsFor [] a.gmon
+pub held_at_start : (a : Inside) (setup : Setup) → IsSetup setup → AreSizes a.machine.sizes → a.machine.setup ≡ setup → a.gmon.sizes ≡ a.machine.sizes → length a.harts.items ≡ setup.harts → a.flight ≡ None → RuntimeStandsFor [] a.gmon
     → a.retired ≡ 0 → a.due ≡ setup.every → a.samples ≡ 0 → a.lost ≡ 0 → a.counts.items ≡ (if setup.blocks then replicate (instructions_of a.machine.sizes) 0 else []) → a.ending ≡ None → IsHeld a
-held_at_start a setup h same sizes harts flight gmon retired due samples lost counts ending =
+held_at_start a setup h are same sizes harts flight gmon retired due samples lost counts ending =
     let none : a.gmon.walk ≡ None = no_walk a.gmon.walk (gmon.walk ∙ pending_call-idle a.gmon.sizes [] refl) in
     let calls : a.gmon.calls ≡ 0 = gmon.calls ∙ ap length (kept_calls-nil a.gmon.sizes) in
     let every : a.due ≡ a.machine.setup.every = due ∙ ap (λ (s : Setup). s.every) (sym same) in
@@ -121,7 +122,7 @@ held_at_start a setup h same sizes harts flight gmon retired due samples lost co
       clock = ap (λ (n : ℕ). (n + a.due) % a.machine.setup.every) retired ∙ ap (λ (n : ℕ). (0 + n) % a.machine.setup.every) every ∙ first a.machine.setup.every;
       samples = omega (arith, samples);
       calls = omega (arith, met);
-      counts = subst (All (λ n. n ≤ a.retired)) (sym counts) (zeros_bound a.retired (instructions_of a.machine.sizes) setup.blocks);
+      counts = subst (AreCounts a.machine.sizes.low a.retired) (sym counts) (first_counts a.machine.sizes a.retired setup.blocks are);
       going = λ live. ending;
       left = λ live. omega (arith, retired, budget);
       some_due = λ live. omega (arith, every, some);

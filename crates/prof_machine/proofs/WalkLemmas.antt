@@ -34,7 +34,7 @@ no_walk None is = refl
 no_walk (Some walk) is = absurd cc
 
 -- where the table is on no call is being entered
-on_idle : (z : Sizes) (log : List LogEntry) (busy : Bool) → is_busy log ≡ busy → state_of z log ≡ On → is_busy log ≡ false
+pub on_idle : (z : Sizes) (log : List LogEntry) (busy : Bool) → is_busy log ≡ busy → state_of z log ≡ On → is_busy log ≡ false
 on_idle z log false is on = is
 on_idle z log true is on = absurd (cc (state_of-by z log, is, on))
 
@@ -78,13 +78,13 @@ left_here w r f inside is stands =
     ap (λ (xs : List ℕ). left_of xs f.hart) (sym (left_is w r f is stands))
     ∙ get_or-set_same (replicate r.machine.setup.harts 0) f.hart (looks_left r.machine.sizes w.log f.walk) 0 (omega (arith, length-replicate {A = ℕ} r.machine.setup.harts 0))
 
-none_at : (n h : ℕ) → get_or {A = ℕ} (replicate n 0) h 0 ≡ 0
+pub none_at : (n h : ℕ) → get_or {A = ℕ} (replicate n 0) h 0 ≡ 0
 none_at zero h = refl
 none_at (suc n) zero = refl
 none_at (suc n) (suc h) = none_at n h
 
 -- a hart that holds no walk
-none_here : (n h k x : ℕ) → (k ≡ h → ⊥) → get_or {A = ℕ} (set (replicate n 0) k x) h 0 ≡ 0
+pub none_here : (n h k x : ℕ) → (k ≡ h → ⊥) → get_or {A = ℕ} (set (replicate n 0) k x) h 0 ≡ 0
 none_here n h k x other = get_or-set_other (replicate n 0) k h x 0 (λ same. other (sym same)) ∙ none_at n h
 
 pub left_none : (w : World) (r : RunValue) (h : ℕ) (f : Option Flight) → r.flight ≡ f → holds f h ≡ false → StandsFor w r → left_of w.left h ≡ 0
@@ -94,7 +94,7 @@ left_none w r h (Some f) is none stands =
     ap (λ (xs : List ℕ). left_of xs h) (sym (left_is w r f is stands)) ∙ none_here r.machine.setup.harts h f.hart (looks_left r.machine.sizes w.log f.walk) (λ same. absurd (cc (eq-eqb f.hart h same, none)))
 
 -- the walk is over
-zero_again : (n h k : ℕ) → h < n → set (set (replicate n 0) h k) h 0 ≡ replicate n 0
+pub zero_again : (n h k : ℕ) → h < n → set (set (replicate n 0) h k) h 0 ≡ replicate n 0
 zero_again n h k inside =
     set-set (replicate n 0) h k 0 ∙ ap (λ (x : ℕ). set (replicate n 0) h x) (sym (get_or-replicate n h 0 0 inside)) ∙ set-get_or (replicate n 0) h 0
 
@@ -141,15 +141,15 @@ moved_here w r g f n is gmon fewer stands =
 
 -- ---- the end of the run
 
-all_zero : (n : ℕ) → list_any (λ k. nat_lt 0 k) (replicate n 0) ≡ false
+pub all_zero : (n : ℕ) → list_any (λ k. nat_lt 0 k) (replicate n 0) ≡ false
 all_zero zero = refl
 all_zero (suc n) = all_zero n
 
-zeros_all : (n : ℕ) → map {A = ℕ} {B = ℕ} (λ x. 0) (replicate n 0) ≡ replicate n 0
+pub zeros_all : (n : ℕ) → map {A = ℕ} {B = ℕ} (λ x. 0) (replicate n 0) ≡ replicate n 0
 zeros_all zero = refl
 zeros_all (suc n) = ap (λ (xs : List ℕ). 0 ∷ xs) (zeros_all n)
 
-zeros_set : (n h k : ℕ) → map {A = ℕ} {B = ℕ} (λ x. 0) (set (replicate n 0) h k) ≡ replicate n 0
+pub zeros_set : (n h k : ℕ) → map {A = ℕ} {B = ℕ} (λ x. 0) (set (replicate n 0) h k) ≡ replicate n 0
 zeros_set zero h k = refl
 zeros_set (suc n) zero k = ap (λ (xs : List ℕ). 0 ∷ xs) (zeros_all n)
 zeros_set (suc n) (suc h) k = ap (λ (xs : List ℕ). 0 ∷ xs) (zeros_set n h k)

@@ -1,9 +1,10 @@
 //! A run, from its start to its end.
 
-ghost use Rattle.std.specs.Prelude.{◌≡◌, ◌+◌, ◌^◌, ◌<◌, ◌≤◌, ◌↔◌, ℕ, length, map, None, Some, Ok, IfOk, IfErr, OnOk, OnErr, IsSome, IsTrue, MatchResult, [], replicate, if◌then◌else◌};
+ghost use Rattle.std.specs.Prelude.{◌≡◌, ◌+◌, ◌*◌, ◌^◌, ◌<◌, ◌≤◌, ◌↔◌, ℕ, length, map, None, Some, Ok, IfOk, IfErr, OnOk, OnErr, IsSome, IsTrue, MatchResult, [], replicate, All, if◌then◌else◌};
 ghost use Rattle.std.specs.List.{range_with_len};
 ghost use Rattle.elf32_syms.specs.Image.{IsWithinLimits};
 ghost use Rattle.host_port.specs.Outside.{KeepsCounts, KeepsInput};
+ghost use Rattle.mcount_arcs.specs.Arcs.{CallFits, arcs_of};
 ghost use Rattle.mcount_arcs.specs.Sizes.{AreSizes};
 ghost use Rattle.mcount_arcs.specs.Value.{StandsFor as RuntimeStandsFor};
 ghost use Rattle.prof_machine.specs.declared.ending.Turned.TheVariants.{Going};
@@ -208,16 +209,18 @@ impl Run {
     pub fn exec_counts(&self) -> &[u32]
         ensures value { result.now ≡ self.now.counts }
         ensures log { (w : World) → StandsFor w self.now → result.now ≡ exec_counts_of self.now.machine w.ran }
+        ensures within { (i : ℕ) → i < length result.now → self.now.machine.sizes.low + 4 * i < 2 ^ 32 }
     {
         &self.counts
     }
 
-    /// What is told of a run that has ended.
+    /// What is told of a run that has ended. Its arcs' callees and counts have four bytes each.
     pub fn summary(&self) -> RunSummary
         requires { IsSome self.now.ending }
         ensures told { (w : World) → StandsFor w self.now → summary_of self.now.machine.sizes w ≡ Some result }
         ensures end { self.now.ending ≡ Some result.end }
         ensures retired { result.retired ≡ self.now.retired }
+        ensures fits { (w : World) → StandsFor w self.now → All CallFits (arcs_of self.now.machine.sizes w.log) }
     {
         RunSummary {
             end: self.ending.unwrap(),

@@ -1,8 +1,8 @@
-use Rattle.std.proofs.Common.{All, ◌≡◌, ◌+◌, ◌-◌, ◌<◌, ◌≤◌, ◌%◌, ℕ, true, false, arith, ap, sym, subst, ◌∙◌}
+use Rattle.std.proofs.Common.{◌≡◌, ◌+◌, ◌-◌, ◌<◌, ◌≤◌, ◌%◌, ℕ, true, false, arith, ap, sym, subst, ◌∙◌}
 use Rattle.std.proofs.lemmas.List.{with_items_is}
-use Rattle.prof_machine.proofs.ExecutionLemmas.{counts_bound}
+use Rattle.prof_machine.proofs.ExecutionLemmas.{more_counts}
 use Rattle.prof_machine.specs.Executions.{with_execution}
-use Rattle.prof_machine.specs.Value.{RunValue}
+use Rattle.prof_machine.specs.Value.{AreCounts, RunValue}
 use Rattle.prof_machine.proofs.runs.Run.retire.Goals as goal
 
 pub invariant_of-self : goal.invariant_of-self
@@ -25,7 +25,7 @@ invariant_of-self c =
       clock = ap (λ (n : ℕ). n % a.machine.setup.every) same ∙ held.clock;
       samples = omega (arith, held.samples);
       calls = omega (arith, held.calls);
-      counts = subst (All (λ n. n ≤ a.retired + 1)) (sym (with_items_is a.counts c.count_execution.new.counts (omega (arith, c.count_execution.auto.counts, c.deref_mut.ensures.len)) ∙ c.count_execution.ensures ∙ ap (with_execution a.machine.sizes.low c.args.pc) c.deref_mut.ensures.value)) (counts_bound a.machine.sizes.low c.args.pc a.retired a.counts.items held.counts);
+      counts = subst (AreCounts a.machine.sizes.low (a.retired + 1)) (sym (with_items_is a.counts c.count_execution.new.counts (omega (arith, c.count_execution.auto.counts, c.deref_mut.ensures.len)) ∙ c.count_execution.ensures ∙ ap (with_execution a.machine.sizes.low c.args.pc) c.deref_mut.ensures.value)) (more_counts a.machine.sizes.low c.args.pc a.retired a.counts.items held.counts);
       going = λ live. let e : true ≡ false = sym live ∙ dead in cc;
       left = λ live. let e : true ≡ false = sym live ∙ dead in cc;
       some_due = λ live. let e : true ≡ false = sym live ∙ dead in cc;

@@ -1,6 +1,6 @@
 use Rattle.std.proofs.Common.{◌≡◌, ◌∙◌, ◌+◌, ◌<◌, None, ap, arith, true, false, sym, subst, refl}
 use Rattle.prof_machine.specs.declared.runs.Run.TheInside.{Inside}
-use Rattle.mcount_arcs.specs.Value.{StandsFor as RuntimeStandsFor}
+use Rattle.mcount_arcs.specs.Value.{StandsFor as RuntimeStandsFor, ticked}
 use Rattle.prof_machine.specs.Turn.{sampled, while_going}
 use Rattle.prof_machine.specs.Value.{IsHeld, RunValue, StandsFor, value_of}
 use Rattle.prof_machine.proofs.StandingLemmas.{hart_read, held_sampled, is_ended, is_none, sampled_stands, stands_ended, stands_going, there, unsampled_stands}
@@ -49,10 +49,10 @@ invariant_of-self c =
     let going = is_none a.ending (sym c.if-is_some.ensures) in
     let few : a.samples < a.retired = subst (λ (v : RunValue). v.ending ≡ None → v.samples < v.retired) (sym c.self.view_is) c.requires.samples going in
     let R : Inside → Type 0 = λ x. IsHeld (record x { gmon = g }) in
-    let O : Inside → Type 0 = λ x. g ≡ record x.gmon { counters = g.counters } in
+    let O : Inside → Type 0 = λ x. g ≡ ticked c.pc-pc.result x.gmon in
     elim c.if-counts.branch [
-      | then-counts b ↦ subst R (sym b.self-inside-is) (held_sampled a (a.samples + 1) g c.self.invariant dead c.if-self-ne0.false (omega arith) (subst O b.self-inside-is c.tick.ensures.others))
-      | else-counts b ↦ subst R (sym b.self-inside-is) (held_sampled a a.samples g c.self.invariant dead c.if-self-ne0.false (omega arith) (subst O b.self-inside-is c.tick.ensures.others))
+      | then-counts b ↦ subst R (sym b.self-inside-is) (held_sampled a (a.samples + 1) c.pc-pc.result g c.self.invariant dead c.if-self-ne0.false (omega arith) (subst O b.self-inside-is c.tick.ensures.changed))
+      | else-counts b ↦ subst R (sym b.self-inside-is) (held_sampled a a.samples c.pc-pc.result g c.self.invariant dead c.if-self-ne0.false (omega arith) (subst O b.self-inside-is c.tick.ensures.changed))
     ]
 
 pub returns-then-is_some-clause-note : goal.returns-then-is_some-clause-note

@@ -17,6 +17,6 @@ returns-clause-stands c =
 
 pub invariant_of-result-2 : goal.invariant_of-result-2
 invariant_of-result-2 c =
-    held_at_start _ c.args.setup c.requires.setup c.of-machine.ensures.setup (c.in_ok-startup.ensures.sizes ∙ sym c.of-machine.ensures.sizes)
+    held_at_start _ c.args.setup c.requires.setup c.of-machine.ensures.within c.of-machine.ensures.setup (c.in_ok-startup.ensures.sizes ∙ sym c.of-machine.ensures.sizes)
     (ap length c.in_ok-first_harts.ensures ∙ length-map-range_with_len (first_registers c.args.image.now.entry c.in_ok-layout.layout.end c.args.setup.harts) 0 c.args.setup.harts)
     refl c.in_ok-startup.ensures.stands refl refl refl refl c.in_ok-first_counts.ensures refl
