@@ -11,7 +11,7 @@ use Rattle.gmon_gnu.specs.Grammar.{RecFits}
 use Rattle.gmon_gnu.specs.Splitting.{piece, pieces_of, most_samples, most_calls, largest, each_piece, layer_of, layers_of, arc_piece, arc_pieces, piece_left, round_of, rounds_of, hist_rec, hist_recs, arc_rec, raw_block, blocks_rec}
 use Rattle.gmon_gnu.specs.ProfileText.{profile_text, HistNumbersFit, PairFits, AddressFits, UnitFits, ProfilesAreSpelled}
 
-all_append : {X : Type 0} (P : X → Type 0) (xs ys : List X) → AllByRecursion P xs → AllByRecursion P ys → AllByRecursion P (xs ++ ys)
+pub all_append : {X : Type 0} (P : X → Type 0) (xs ys : List X) → AllByRecursion P xs → AllByRecursion P ys → AllByRecursion P (xs ++ ys)
 all_append P [] ys a b = b
 all_append P (x ∷ xs) ys a b = (a.0, all_append P xs ys a.1 b)
 
