@@ -1,5 +1,5 @@
 -- What a profile holds at most, after what was added.
-use Rattle.std.proofs.Common.{ℕ, ◌+◌, ◌≤◌, Bool, true, false, ltb, eqb, List, [], ◌∷◌, Some, unwrap_or, length, sum, if◌then◌else◌, arith}
+use Rattle.std.proofs.Common.{ℕ, ◌+◌, ◌^◌, ◌<◌, ◌≤◌, Bool, true, false, ltb, eqb, List, [], ◌∷◌, Some, unwrap_or, length, sum, if◌then◌else◌, arith}
 use Rattle.std.specs.List.{sum_by}
 use Rattle.std.proofs.lemmas.List.Sums.{sum_by-cons}
 use Rattle.gp_base.specs.declared.records.Unit as units
@@ -19,7 +19,7 @@ pub record IsAtMost (c : Content) (n : ℕ) : Type 0 where
   pub pairs : length c.arcs ≤ n
   pub addresses : length c.blocks ≤ n
 
-pub within_at_most : (c : Content) (n : ℕ) → IsAtMost c n → n ≤ 65536 → IsWithin c
+pub within_at_most : (c : Content) (n : ℕ) → IsAtMost c n → n < 2 ^ 26 → IsWithin c
 within_at_most c n a le = record {
   samples = omega (arith, a.samples, le);
   counters = omega (arith, a.counters, le);
@@ -27,6 +27,16 @@ within_at_most c n a le = record {
   runs = omega (arith, a.runs, le);
   pairs = omega (arith, a.pairs, le);
   addresses = omega (arith, a.addresses, le);
+}
+
+pub more_at_most : (c : Content) (m n : ℕ) → m ≤ n → IsAtMost c m → IsAtMost c n
+more_at_most c m n le a = record {
+  samples = omega (arith, a.samples);
+  counters = omega (arith, a.counters);
+  calls = omega (arith, a.calls);
+  runs = omega (arith, a.runs);
+  pairs = omega (arith, a.pairs);
+  addresses = omega (arith, a.addresses);
 }
 
 pub at_most_none : IsAtMost empty_content 0

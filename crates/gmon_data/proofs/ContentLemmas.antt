@@ -1,12 +1,14 @@
 -- What one record more changes.
-use Rattle.std.proofs.Common.{◌≡◌, ℕ, ◌+◌, ◌^◌, ◌<◌, arith, Bool, true, false, ◌&&◌, nat_eq, List, [], ◌∷◌, ◌++◌, slice_get, fold, unwrap_or, Some, filter_map, Result, Ok, Err, OnOk, refl, sym, ap, subst, ◌∙◌, true≢false}
+use Rattle.std.proofs.Common.{◌≡◌, ℕ, ◌+◌, ◌^◌, ◌<◌, arith, Bool, true, false, ◌&&◌, nat_eq, List, [], ◌∷◌, ◌++◌, slice_get, fold, unwrap_or, Some, None, filter_map, Result, Ok, Err, OnOk, refl, sym, ap, subst, ◌∙◌, true≢false}
 use Rattle.std.proofs.lemmas.Bool.{eqb-true, eq-eqb}
 use Rattle.std.proofs.lemmas.List.{append-nil}
 use Rattle.std.proofs.lemmas.List.Elements.{filter_map-append}
 use Rattle.std.proofs.lemmas.List.Sums.{fold-append}
 use Rattle.gp_base.specs.declared.records.Unit as units
 use Rattle.gmon_data.specs.declared.hist.Hist.{Hist}
-use Rattle.gmon_data.specs.Hists.{put_hist, kept_unit, has_counters}
+use Rattle.gmon_data.specs.declared.hist.HistRange.{HistRange}
+use Rattle.gmon_data.specs.Hists.{conflict_with, has_counters, kept_unit, put_hist, range_conflict, unit_conflict}
+use Rattle.gmon_data.proofs.HistLemmas.{first_none}
 use Rattle.gmon_data.specs.Tally.{tally, sums_by_key, total_of}
 use Rattle.gmon_data.specs.Content.{WideRec, WideHist, WideArc, WideBlock, Content, same_pair, arc_in, block_in, hist_in, unit_in, hists_of, arcs_of, blocks_of, unit_of, content_of, with_hist, with_arc, with_block, IsWithin}
 use Rattle.gmon_data.proofs.TallyLemmas.{sums_by_key-more, sum-tally}
@@ -87,6 +89,11 @@ with_none h u w none = rw none refl
 pub hist_within : (h : Hist) (u : units.Unit) (v w : Content) → v ≡ w → has_counters h ≡ true → IsWithin (with_hist h u w) → IsWithin (record v { hists = put_hist h v.hists; «unit» = Some (unwrap_or v.«unit» (kept_unit u)) })
 hist_within h u v w is some fits =
     subst (λ (c : Content). IsWithin c) (sym (with_hist_is h u v (put_hist h v.hists) (unwrap_or v.«unit» (kept_unit u)) some refl refl)) (subst (λ (c : Content). IsWithin (with_hist h u c)) (sym is) fits)
+
+-- nothing that is kept overlaps a histogram without conflict and differs from it
+pub like_kept : (v w : Content) (range : HistRange) (u : units.Unit) → v ≡ w → conflict_with w.hists w.«unit» range u ≡ None → range_conflict v.hists range ≡ None
+like_kept v w range u is none =
+    first_none (range_conflict v.hists range) (unit_conflict v.«unit» u) (ap (λ (c : Content). conflict_with c.hists c.«unit» range u) is ∙ none)
 
 -- what follows from a clause on an `Ok`
 pub on_ok : {A E : Type 0} {P Q : Type 0} (r : Result A E) → OnOk r P → (P → Q) → OnOk r Q

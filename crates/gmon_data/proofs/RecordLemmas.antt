@@ -14,7 +14,7 @@ use Rattle.gmon_data.specs.declared.hist.Hist.{Hist}
 use Rattle.gmon_data.specs.declared.refusal.Unlike.{Unlike}
 use Rattle.gmon_data.specs.declared.refusal.AddRefusal.{AddRefusal}
 use Rattle.gmon_data.specs.declared.refusal.AddRefusal.TheVariants as answers
-use Rattle.gmon_data.specs.Hists.{put_hist, hist_sum, has_counters, kept_unit, pointwise_sum, IsUnlike}
+use Rattle.gmon_data.specs.Hists.{put_hist, hist_sum, has_counters, kept_unit, pointwise_sum, unlike_in, IsUnlike}
 use Rattle.gmon_data.specs.Tally.{tally}
 use Rattle.gmon_data.specs.Content.{Content, WideRec, WideHist, WideArc, WideBlock, same_pair, with_hist, with_record, with_records, record_conflict, conflict_of, content_of, wide_block, wide_record, wide_records, IsWithin, IsAdded, IsStopped, IsRefusedFirst}
 use Rattle.gmon_data.proofs.TallyLemmas.{sum-tally}
@@ -156,9 +156,8 @@ module _ (all more rest : List WideRec) (old now : Content) (w : IsUnderway all 
   }
     where
       first_stays : (refusal : AddRefusal) (c : Content) (recs : List WideRec) → IsRefusedFirst refusal c recs → IsRefusedFirst refusal c (recs ++ rest)
-      first_stays answers.OutOfMemory c recs h = tt
-      first_stays (answers.Unlike u) c [] h = absurd h
-      first_stays (answers.Unlike u) c (r ∷ recs) h = h
+      first_stays refusal c [] h = absurd h
+      first_stays refusal c (r ∷ recs) h = h
 
 at_end : (all : List WideRec) (old now : Content) → IsUnderway all [] old now → IsAdded all old now
 at_end all old now w =
@@ -178,12 +177,8 @@ stopped_conflict (answers.Unlike u) recs old new s =
 
 -- ---- single records
 
-pub stopped_before : (refusal : AddRefusal) (r : WideRec) (old new : Content) → new ≡ old → IsUnlike refusal (record_conflict old r) → IsStopped refusal (r ∷ []) old new
-stopped_before refusal r old new same h = record { done = []; rest = r ∷ []; split = refl; added = same; accepted = refl; refused = by refusal h }
-  where
-    by : (refusal : AddRefusal) → IsUnlike refusal (record_conflict old r) → IsRefusedFirst refusal new (r ∷ [])
-    by answers.OutOfMemory h = tt
-    by (answers.Unlike u) h = ap (λ c. record_conflict c r) same ∙ h
+pub stopped_before : (refusal : AddRefusal) (r : WideRec) (old new : Content) → new ≡ old → record_conflict old r ≡ unlike_in refusal → IsStopped refusal (r ∷ []) old new
+stopped_before refusal r old new same h = record { done = []; rest = r ∷ []; split = refl; added = same; accepted = refl; refused = ap (λ c. record_conflict c r) same ∙ h }
 
 pub one_added : (r : WideRec) (old new : Content) → record_conflict old r ≡ None → new ≡ with_record r old → IsAdded (r ∷ []) old new
 one_added r old new none is = record { added = is; accepted = rw none refl }

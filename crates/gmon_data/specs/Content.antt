@@ -11,8 +11,7 @@ use Rattle.std.specs.Option.{option_or}
 use Rattle.std.specs.Map.{keys_of, lookup}
 use Rattle.gmon_data.specs.declared.refusal.Unlike.{Unlike}
 use Rattle.gmon_data.specs.declared.refusal.AddRefusal.{AddRefusal}
-use Rattle.gmon_data.specs.declared.refusal.AddRefusal.TheVariants as answers
-use Rattle.gmon_data.specs.Hists.{range_of, put_hist, kept_unit, has_counters, conflict_with, samples_of, IsKept, IsApart, IsUnitOf}
+use Rattle.gmon_data.specs.Hists.{range_of, put_hist, kept_unit, has_counters, conflict_with, samples_of, unlike_in, IsKept, IsApart, IsUnitOf}
 use Rattle.gmon_data.specs.Tally.{tally, sums_by_key, total_of}
 
 -- a record whose numbers have 64 bits
@@ -106,11 +105,11 @@ wide_record (raw.Blocks blocks) = map wide_block blocks
 abbrev pub wide_records : List Rec → List WideRec
 wide_records recs = flat_map wide_record recs
 
--- a histogram with counters has a range
-abbrev pub HasRange : Rec → Type 0
-HasRange (raw.Hist hist) = 0 < length hist.counters → hist.low < hist.high
-HasRange (raw.Arc arc) = ⊤
-HasRange (raw.Blocks blocks) = ⊤
+-- the counters of a histogram, if there are any, share a range that isn't empty
+abbrev pub HasSpan : WideRec → Type 0
+HasSpan (WideHist h u) = 0 < length h.counters → h.low < h.high
+HasSpan (WideArc from to count) = ⊤
+HasSpan (WideBlock addr count) = ⊤
 
 -- ---- many records
 
@@ -133,11 +132,10 @@ abbrev pub conflict_of : Content → List WideRec → Option Unlike
 conflict_of c [] = None
 conflict_of c (r ∷ recs) = option_or (record_conflict c r) (conflict_of (with_record r c) recs)
 
--- the first record is the refused one; want of memory may come at any
+-- the first record is the one that wasn't added: memory runs out only at one that has no conflict
 abbrev pub IsRefusedFirst : AddRefusal → Content → List WideRec → Type 0
-IsRefusedFirst answers.OutOfMemory c recs = ⊤
-IsRefusedFirst (answers.Unlike unlike) c [] = ⊥
-IsRefusedFirst (answers.Unlike unlike) c (r ∷ recs) = record_conflict c r ≡ Some unlike
+IsRefusedFirst refusal c [] = ⊥
+IsRefusedFirst refusal c (r ∷ recs) = record_conflict c r ≡ unlike_in refusal
 
 -- the records before the refused one were added, and none after them
 pub record IsStopped (refusal : AddRefusal) (recs : List WideRec) (old new : Content) : Type 0 where
@@ -162,9 +160,32 @@ pub record IsWithin (c : Content) : Type 0 where
   pub pairs : length c.arcs < 2 ^ 26
   pub addresses : length c.blocks < 2 ^ 26
 
+-- ---- the numbers of a profile, as a file has them
+
+abbrev pub HistNumbersFit : Hist → Type 0
+HistNumbersFit h = (h.low < 2 ^ 32) × (h.high < 2 ^ 32) × (length h.counters < 2 ^ 32)
+
+abbrev pub PairFits : (ℕ × ℕ) × ℕ → Type 0
+PairFits e = (e.0.0 < 2 ^ 32) × (e.0.1 < 2 ^ 32)
+
+abbrev pub AddressFits : ℕ × ℕ → Type 0
+AddressFits e = e.0 < 2 ^ 32
+
+abbrev pub UnitFits : Option units.Unit → Type 0
+UnitFits None = ⊤
+UnitFits (Some u) = (u.rate < 2 ^ 32) × (length u.dim ≡ 15)
+
+-- addresses and rates have four bytes, and a dimension's name has fifteen
+pub record NumbersFit (c : Content) : Type 0 where
+  pub hists : AllByRecursion HistNumbersFit c.hists
+  pub arcs : AllByRecursion PairFits c.arcs
+  pub blocks : AllByRecursion AddressFits c.blocks
+  pub «unit» : UnitFits c.«unit»
+
 -- what holds of each profile
 pub record IsProfile (c : Content) : Type 0 where
   pub within : IsWithin c
+  pub numbers : NumbersFit c
   pub hists : AllByRecursion IsKept c.hists
   pub apart : IsApart c.hists
   pub «unit» : IsUnitOf c.hists c.«unit»

@@ -70,6 +70,12 @@ has_counters h = nat_lt 0 (length h.counters)
 abbrev pub conflict_with : List Hist → Option units.Unit → HistRange → units.Unit → Option Unlike
 conflict_with hists «unit» range new = option_or (range_conflict hists range) (unit_conflict «unit» new)
 
+-- the two histograms that a refusal tells of
+abbrev pub unlike_in : AddRefusal → Option Unlike
+unlike_in answers.OutOfMemory = None
+unlike_in (answers.Unlike unlike) = Some unlike
+
+-- a refusal is the one that is given, unless memory ran out before
 abbrev pub IsUnlike : AddRefusal → Option Unlike → Type 0
 IsUnlike answers.OutOfMemory given = ⊤
 IsUnlike (answers.Unlike unlike) given = given ≡ Some unlike

@@ -37,18 +37,26 @@ impl Hist {
     }
 
     /// A histogram of the same numbers.
-    pub(crate) fn try_clone(&self, alloc: Global) -> Result<Hist, AllocError>
+    pub(crate) fn try_clone(&self) -> Result<Hist, AllocError>
         ensures { IfOk result (λ h. h ≡ self.now) }
     {
-        let mut counters = Totals::new(alloc);
-        for counter in self.counters.as_slice() {
-            counters.push(*counter)?;
-        }
         Ok(Hist {
             low: self.low,
             high: self.high,
-            counters,
+            counters: self.counters.clone()?,
         })
+    }
+}
+
+/// What the counters of a file's histogram share.
+pub(crate) fn raw_range(raw: &RawHist) -> HistRange
+    requires { length raw.now.counters < 2 ^ 32 }
+    ensures { result ≡ range_of (wide_hist raw.now) }
+{
+    HistRange {
+        low: raw.low,
+        high: raw.high,
+        count: raw.counters.as_slice().len() as u32,
     }
 }
 
@@ -70,7 +78,7 @@ pub(crate) fn clone_hists(alloc: Global, hists: &[Hist]) -> Result<Vec<Hist>, Al
 {
     let mut copies = Vec::new(alloc);
     for hist in hists {
-        copies.push(hist.try_clone(alloc)?)?;
+        copies.push(hist.try_clone()?)?;
     }
     Ok(copies)
 }
@@ -79,14 +87,16 @@ pub(crate) fn clone_hists(alloc: Global, hists: &[Hist]) -> Result<Vec<Hist>, Al
 pub(crate) fn widened(alloc: Global, raw: &RawHist) -> Result<Hist, AllocError>
     ensures { IfOk result (λ hist. hist ≡ wide_hist raw.now) }
 {
-    let mut counters = Totals::new(alloc);
-    for counter in raw.counters.as_slice() {
-        counters.push(u64::from(*counter))?;
-    }
+    let counters: Vec<u64> = raw
+        .counters
+        .as_slice()
+        .iter()
+        .map(|n| u64::from(*n))
+        .collect(alloc)?;
     Ok(Hist {
         low: raw.low,
         high: raw.high,
-        counters,
+        counters: Totals::from(counters),
     })
 }
 
@@ -95,11 +105,7 @@ fn total(counters: &[u64]) -> u64
     requires { sum counters.now < 2 ^ 64 }
     ensures { result ≡ sum counters.now }
 {
-    let mut total = 0;
-    for counter in counters {
-        total += *counter;
-    }
-    total
+    counters.iter().sum()
 }
 
 /// The samples of histograms.

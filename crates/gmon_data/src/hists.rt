@@ -9,7 +9,7 @@ ghost use Rattle.gmon_data.specs.Hists.{range_conflict, put_hist, place_of, samp
 use crate::hist::{Hist, HistRange, add_counters};
 use crate::refusal::Unlike;
 use gp_base::Unit;
-use std::alloc::{AllocError, Global};
+use std::alloc::AllocError;
 
 /// How many kept histograms end at or below an address: they are the first ones.
 pub(crate) fn count_ended(hists: &[Hist], address: u32) -> usize
@@ -93,19 +93,19 @@ fn place(hists: &[Hist], low: u32) -> usize
 }
 
 /// Adds a histogram to the one with its low address, which has as many counters; else it takes its place.
-pub(crate) fn put(alloc: Global, hists: &mut Vec<Hist>, new: &Hist) -> Result<(), AllocError>
+pub(crate) fn put(hists: &mut Vec<Hist>, new: Hist) -> Result<(), AllocError>
     requires kept { AllByRecursion IsKept hists.old.items }
     requires apart { IsApart hists.old.items }
-    requires same { (i : ℕ) (k : AnyHist) → slice_get hists.old.items i ≡ Some k → k.low ≡ new.now.low → length k.counters ≡ length new.now.counters }
-    requires fits { samples_of hists.old.items + sum new.now.counters < 2 ^ 64 }
-    ensures added { OnOk result (hists.new.items ≡ put_hist new.now hists.old.items) }
+    requires same { (i : ℕ) (k : AnyHist) → slice_get hists.old.items i ≡ Some k → k.low ≡ new.low → length k.counters ≡ length new.counters }
+    requires fits { samples_of hists.old.items + sum new.counters < 2 ^ 64 }
+    ensures added { OnOk result (hists.new.items ≡ put_hist new hists.old.items) }
     ensures unchanged { OnErr result (hists.new.items ≡ hists.old.items) }
 {
     let i = place(hists.as_slice(), new.low);
     if i < hists.len() && hists[i].low == new.low {
         add_counters(&mut hists[i].counters, new.counters.as_slice());
     } else {
-        hists.insert(i, new.try_clone(alloc)?)?;
+        hists.insert(i, new)?;
     }
     Ok(())
 }

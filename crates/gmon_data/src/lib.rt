@@ -7,6 +7,7 @@ pub mod laws;
 pub mod profile;
 pub mod refusal;
 mod tally;
+pub mod values;
 
 pub use hist::{Hist, HistRange};
 pub use profile::Profile;

@@ -1,15 +1,16 @@
 //! A profile, and what is added to it.
 
-ghost use Rattle.std.specs.Prelude.{◌≡◌, ◌↔◌, ◌<◌, ℕ, List, ◌++◌, ◌∷◌, [], ◌≤◌, true, false, nat_le, length, map, slice_get, Some, None, IfOk, IfErr, OnOk, OnErr};
+ghost use Rattle.std.specs.Prelude.{◌≡◌, ◌↔◌, ◌^◌, ◌<◌, ℕ, List, ◌++◌, ◌∷◌, [], ◌≤◌, true, false, nat_le, length, map, slice_get, Some, None, IfOk, IfErr, OnOk, OnErr};
 ghost use Rattle.std.specs.List.{All};
 ghost use Rattle.std.specs.List.Sorted.{IsPartitionPoint};
-ghost use Rattle.gmon_data.specs.Content.{IsProfile, WideRec, WideHist, WideArc, WideBlock, empty_content, with_hist, with_arc, hist_conflict, with_block, content_of, IsWithin, HasRange, IsAdded, IsStopped, conflict_of, runs_at, wide_block, wide_hist, wide_record, wide_records, with_records};
-ghost use Rattle.gmon_data.specs.Hists.{IsUnlike, samples_of};
+ghost use Rattle.gp_base.specs.Spans.{HasRange};
+ghost use Rattle.gmon_data.specs.Content.{HistNumbersFit, IsProfile, WideRec, WideHist, WideArc, WideBlock, empty_content, with_hist, with_arc, hist_conflict, with_block, content_of, IsWithin, IsAdded, IsStopped, conflict_of, runs_at, wide_block, wide_hist, wide_record, wide_records, with_records};
+ghost use Rattle.gmon_data.specs.Hists.{IsKept, IsUnlike, conflict_with, kept_unit, range_of, samples_of, unlike_in};
 ghost use Rattle.gmon_data.specs.Tally.{total_of};
 
-use crate::hist::{Hist, clone_hists, samples, widened};
+use crate::hist::{Hist, HistRange, clone_hists, raw_range, samples, widened};
 use crate::hists::{conflict, count_ended, normal_unit, put};
-use crate::refusal::AddRefusal;
+use crate::refusal::{AddRefusal, Unlike};
 use crate::tally::{add_to, total};
 use gp_base::{RawArc, RawBlock, RawHist, Rec, Records, Unit};
 use indexmap::IndexMap;
@@ -51,19 +52,38 @@ impl Profile {
         }
     }
 
+    /// A profile of the same content.
+    pub fn try_clone(&self) -> Result<Profile, AllocError>
+        ensures { IfOk result (λ p. p ≡ self.now) }
+    {
+        Ok(Profile {
+            alloc: self.alloc,
+            hists: clone_hists(self.alloc, self.hists.as_slice())?,
+            arcs: self.arcs.clone()?,
+            blocks: self.blocks.clone()?,
+            unit: self.unit,
+        })
+    }
+
     /// Adds a histogram of a file. One without counters gives nothing and is accepted, whatever its other
     /// fields. A rate of 0 stands for 100. The refusals are those of `add_wide`.
     pub fn add_hist(&mut self, h: &RawHist) -> Result<(), AddRefusal>
         requires range { 0 < length h.now.counters → h.now.low < h.now.high }
-        requires within { IsWithin (with_hist (wide_hist h.now) h.now.«unit» self.old) }
-        ensures refusal { IfErr result (λ refusal. IsUnlike refusal (hist_conflict self.old (wide_hist h.now) h.now.«unit»)) }
+        requires count { length h.now.counters < 2 ^ 32 }
+        requires within { hist_conflict self.old (wide_hist h.now) h.now.«unit» ≡ None → IsWithin (with_hist (wide_hist h.now) h.now.«unit» self.old) }
+        ensures refusal { IfErr result (λ refusal. hist_conflict self.old (wide_hist h.now) h.now.«unit» ≡ unlike_in refusal) }
         ensures accepted { OnOk result (hist_conflict self.old (wide_hist h.now) h.now.«unit» ≡ None) }
         ensures added { OnOk result (self.new ≡ with_hist (wide_hist h.now) h.now.«unit» self.old) }
         ensures stands { OnOk result ((recs : List WideRec) → self.old ≡ content_of recs → self.new ≡ content_of (recs ++ WideHist (wide_hist h.now) h.now.«unit» ∷ [])) }
         ensures unchanged { OnErr result (self.new ≡ self.old) }
     {
+        if h.counters.as_slice().is_empty() {
+            return Ok(());
+        }
+        self.compare(raw_range(h), h.unit)?;
         let hist = widened(self.alloc, h)?;
-        self.add_wide(&hist, h.unit)
+        self.keep(hist, h.unit)?;
+        Ok(())
     }
 
     /// Adds a histogram. One without counters gives nothing and is accepted, whatever its other fields.
@@ -71,11 +91,14 @@ impl Profile {
     ///
     /// Refusals, in this order: `Range` where a kept histogram overlaps this one and differs from it in
     /// range or number of counters; `Rate` where the kept rate differs; `Dimension` where the kept
-    /// dimension or abbreviation differs. After a refusal the profile is unchanged.
+    /// dimension or abbreviation differs. After a refusal the profile is unchanged; memory runs out only
+    /// where there is no other refusal. Where there is none, what the profile holds then must stay within
+    /// its limits.
     pub fn add_wide(&mut self, h: &Hist, unit: Unit) -> Result<(), AddRefusal>
         requires range { 0 < length h.now.counters → h.now.low < h.now.high }
-        requires within { IsWithin (with_hist h.now «unit» self.old) }
-        ensures refusal { IfErr result (λ refusal. IsUnlike refusal (hist_conflict self.old h.now «unit»)) }
+        requires count { length h.now.counters < 2 ^ 32 }
+        requires within { hist_conflict self.old h.now «unit» ≡ None → IsWithin (with_hist h.now «unit» self.old) }
+        ensures refusal { IfErr result (λ refusal. hist_conflict self.old h.now «unit» ≡ unlike_in refusal) }
         ensures accepted { OnOk result (hist_conflict self.old h.now «unit» ≡ None) }
         ensures added { OnOk result (self.new ≡ with_hist h.now «unit» self.old) }
         ensures stands { OnOk result ((recs : List WideRec) → self.old ≡ content_of recs → self.new ≡ content_of (recs ++ WideHist h.now «unit» ∷ [])) }
@@ -84,36 +107,46 @@ impl Profile {
         if h.counters.as_slice().is_empty() {
             return Ok(());
         }
-        let unit = normal_unit(unit);
-        if let Some(unlike) = conflict(self.hists.as_slice(), self.unit, h.range(), unit) {
-            return Err(AddRefusal::Unlike(unlike));
-        }
-        put(self.alloc, &mut self.hists, h)?;
-        self.unit = Some(self.unit.unwrap_or(unit));
+        self.compare(h.range(), unit)?;
+        let hist = h.try_clone()?;
+        self.keep(hist, unit)?;
         Ok(())
     }
 
-    /// Adds calls to those of their pair.
-    pub fn add_calls(&mut self, from: u32, to: u32, count: u64) -> Result<(), AllocError>
-        requires { IsWithin (with_arc from to count self.old) }
-        ensures added { OnOk result (self.new ≡ with_arc from to count self.old) }
-        ensures stands { OnOk result ((recs : List WideRec) → self.old ≡ content_of recs → self.new ≡ content_of (recs ++ WideArc from to count ∷ [])) }
-        ensures unchanged { OnErr result (self.new ≡ self.old) }
+    /// Why a histogram with counters can't be added: the first refusal of `add_wide` but want of memory.
+    /// Takes no memory.
+    pub fn conflict(&self, range: HistRange, unit: Unit) -> Option<Unlike>
+        ensures { result ≡ conflict_with self.now.hists self.now.«unit» range (kept_unit «unit») }
     {
-        add_to(&mut self.arcs, (from, to), count)
+        conflict(self.hists.as_slice(), self.unit, range, normal_unit(unit))
     }
 
-    /// Adds executions to those of their address.
-    pub fn add_runs(&mut self, addr: u32, count: u64) -> Result<(), AllocError>
-        requires { IsWithin (with_block addr count self.old) }
-        ensures added { OnOk result (self.new ≡ with_block addr count self.old) }
-        ensures stands { OnOk result ((recs : List WideRec) → self.old ≡ content_of recs → self.new ≡ content_of (recs ++ WideBlock addr count ∷ [])) }
-        ensures unchanged { OnErr result (self.new ≡ self.old) }
+    /// Refuses a histogram with counters that is unlike those that are kept.
+    fn compare(&self, range: HistRange, unit: Unit) -> Result<(), AddRefusal>
+        ensures unlike { IfErr result (λ refusal. conflict_with self.now.hists self.now.«unit» range (kept_unit «unit») ≡ unlike_in refusal) }
+        ensures like { OnOk result (conflict_with self.now.hists self.now.«unit» range (kept_unit «unit») ≡ None) }
     {
-        add_to(&mut self.blocks, addr, count)
+        match self.conflict(range, unit) {
+            Some(unlike) => Err(AddRefusal::Unlike(unlike)),
+            None => Ok(()),
+        }
     }
 
-    /// Adds calls to those of their pair; an arc of count 0 is kept.
+    /// Keeps a histogram with counters that is like those that are kept.
+    fn keep(&mut self, hist: Hist, unit: Unit) -> Result<(), AllocError>
+        requires kept { IsKept hist }
+        requires numbers { HistNumbersFit hist }
+        requires like { conflict_with self.old.hists self.old.«unit» (range_of hist) (kept_unit «unit») ≡ None }
+        requires within { IsWithin (with_hist hist «unit» self.old) }
+        ensures added { OnOk result (self.new ≡ with_hist hist «unit» self.old) }
+        ensures unchanged { OnErr result (self.new ≡ self.old) }
+    {
+        put(&mut self.hists, hist)?;
+        self.unit = Some(self.unit.unwrap_or(normal_unit(unit)));
+        Ok(())
+    }
+
+    /// Adds the calls of an arc, as `add_calls` does; an arc of count 0 is kept.
     pub fn add_arc(&mut self, a: RawArc) -> Result<(), AllocError>
         requires { IsWithin (with_arc a.from a.to a.count self.old) }
         ensures added { OnOk result (self.new ≡ with_arc a.from a.to a.count self.old) }
@@ -123,7 +156,18 @@ impl Profile {
         self.add_calls(a.from, a.to, u64::from(a.count))
     }
 
-    /// Adds executions to those of their address.
+    /// Adds calls to those of their pair: of call site and callee. What the profile holds then must stay
+    /// within its limits. After want of memory it is unchanged.
+    pub fn add_calls(&mut self, from: u32, to: u32, count: u64) -> Result<(), AllocError>
+        requires { IsWithin (with_arc from to count self.old) }
+        ensures added { OnOk result (self.new ≡ with_arc from to count self.old) }
+        ensures stands { OnOk result ((recs : List WideRec) → self.old ≡ content_of recs → self.new ≡ content_of (recs ++ WideArc from to count ∷ [])) }
+        ensures unchanged { OnErr result (self.new ≡ self.old) }
+    {
+        add_to(&mut self.arcs, (from, to), count)
+    }
+
+    /// Adds the executions of a basic block, as `add_runs` does.
     pub fn add_block(&mut self, b: RawBlock) -> Result<(), AllocError>
         requires { IsWithin (with_block b.addr b.count self.old) }
         ensures added { OnOk result (self.new ≡ with_block b.addr b.count self.old) }
@@ -133,11 +177,22 @@ impl Profile {
         self.add_runs(b.addr, u64::from(b.count))
     }
 
+    /// Adds executions to those of their address. What the profile holds then must stay within its limits.
+    /// After want of memory it is unchanged.
+    pub fn add_runs(&mut self, addr: u32, count: u64) -> Result<(), AllocError>
+        requires { IsWithin (with_block addr count self.old) }
+        ensures added { OnOk result (self.new ≡ with_block addr count self.old) }
+        ensures stands { OnOk result ((recs : List WideRec) → self.old ≡ content_of recs → self.new ≡ content_of (recs ++ WideBlock addr count ∷ [])) }
+        ensures unchanged { OnErr result (self.new ≡ self.old) }
+    {
+        add_to(&mut self.blocks, addr, count)
+    }
+
     /// Adds the records of a file in order.
     ///
     /// Refusals: those of `add_hist` for the first refused histogram. After a refusal the records before
     /// the refused one are added, and none after it; after want of memory some first records are added,
-    /// of a blocks record a prefix.
+    /// of a blocks record a prefix, and the next one has no other refusal.
     pub fn add_records(&mut self, r: &Records) -> Result<(), AddRefusal>
         requires ranges { All HasRange r.now.recs }
         requires within { IsWithin (with_records (wide_records r.now.recs) self.old) }
@@ -186,72 +241,20 @@ impl Profile {
         Ok(())
     }
 
-    /// The samples of all histograms.
-    pub fn samples(&self) -> u64
-        ensures value { result ≡ samples_of self.now.hists }
+    /// What holds of each profile. Does nothing.
+    pub fn holds(&self)
+        ensures { IsProfile self.now }
+    {
+        let _ = &self.unit;
+    }
+
+    /// The unit of the histograms: None exactly where there is no histogram.
+    pub fn unit(&self) -> Option<Unit>
+        ensures unit { result ≡ self.now.«unit» }
+        ensures none { (result ≡ None) ↔ (self.now.hists ≡ []) }
         ensures profile { IsProfile self.now }
     {
-        samples(self.hists.as_slice())
-    }
-
-    /// The calls of all pairs.
-    pub fn calls(&self) -> u64
-        ensures { result ≡ total_of self.now.arcs }
-    {
-        total(&self.arcs)
-    }
-
-    /// The executions of all basic blocks.
-    pub fn blocks(&self) -> u64
-        ensures { result ≡ total_of self.now.blocks }
-    {
-        total(&self.blocks)
-    }
-
-    /// The number of block addresses.
-    pub fn block_count(&self) -> usize
-        ensures value { result ≡ length self.now.blocks }
-        ensures profile { IsProfile self.now }
-    {
-        self.blocks.len()
-    }
-
-    /// The block address with the given number, and its executions.
-    pub fn block(&self, i: usize) -> (u32, u64)
-        requires { i < length self.now.blocks }
-        ensures { slice_get self.now.blocks i ≡ Some (result.0, result.1) }
-    {
-        let (addr, count) = self.blocks.get_index(i).unwrap();
-        (*addr, *count)
-    }
-
-    /// The executions at an address, 0 where it has none. Takes no memory.
-    pub fn block_of(&self, addr: u32) -> u64
-        ensures { result ≡ runs_at addr self.now.blocks }
-    {
-        self.blocks.get(&addr).copied().unwrap_or(0)
-    }
-
-    /// The pair with the given number, and its calls.
-    pub fn arc(&self, i: usize) -> (u32, u32, u64)
-        requires { i < length self.now.arcs }
-        ensures { slice_get self.now.arcs i ≡ Some ((result.0, result.1), result.2) }
-    {
-        let (pair, count) = self.arcs.get_index(i).unwrap();
-        (pair.0, pair.1, *count)
-    }
-
-    /// A profile of the same content.
-    pub fn try_clone(&self) -> Result<Profile, AllocError>
-        ensures { IfOk result (λ p. p ≡ self.now) }
-    {
-        Ok(Profile {
-            alloc: self.alloc,
-            hists: clone_hists(self.alloc, self.hists.as_slice())?,
-            arcs: self.arcs.clone()?,
-            blocks: self.blocks.clone()?,
-            unit: self.unit,
-        })
+        self.unit
     }
 
     /// The number of histograms.
@@ -280,13 +283,12 @@ impl Profile {
         count_ended(self.hists.as_slice(), address)
     }
 
-    /// The unit of the histograms: None exactly where there is no histogram.
-    pub fn unit(&self) -> Option<Unit>
-        ensures unit { result ≡ self.now.«unit» }
-        ensures none { (result ≡ None) ↔ (self.now.hists ≡ []) }
+    /// The samples of all histograms.
+    pub fn samples(&self) -> u64
+        ensures value { result ≡ samples_of self.now.hists }
         ensures profile { IsProfile self.now }
     {
-        self.unit
+        samples(self.hists.as_slice())
     }
 
     /// The number of pairs.
@@ -295,5 +297,52 @@ impl Profile {
         ensures profile { IsProfile self.now }
     {
         self.arcs.len()
+    }
+
+    /// The pair with the given number, and its calls.
+    pub fn arc(&self, i: usize) -> (u32, u32, u64)
+        requires { i < length self.now.arcs }
+        ensures { slice_get self.now.arcs i ≡ Some ((result.0, result.1), result.2) }
+    {
+        let (pair, count) = self.arcs.get_index(i).unwrap();
+        (pair.0, pair.1, *count)
+    }
+
+    /// The calls of all pairs.
+    pub fn calls(&self) -> u64
+        ensures { result ≡ total_of self.now.arcs }
+    {
+        total(&self.arcs)
+    }
+
+    /// The number of block addresses.
+    pub fn block_count(&self) -> usize
+        ensures value { result ≡ length self.now.blocks }
+        ensures profile { IsProfile self.now }
+    {
+        self.blocks.len()
+    }
+
+    /// The block address with the given number, and its executions.
+    pub fn block(&self, i: usize) -> (u32, u64)
+        requires { i < length self.now.blocks }
+        ensures { slice_get self.now.blocks i ≡ Some (result.0, result.1) }
+    {
+        let (addr, count) = self.blocks.get_index(i).unwrap();
+        (*addr, *count)
+    }
+
+    /// The executions at an address, 0 where it has none. Takes no memory.
+    pub fn block_of(&self, addr: u32) -> u64
+        ensures { result ≡ runs_at addr self.now.blocks }
+    {
+        self.blocks.get(&addr).copied().unwrap_or(0)
+    }
+
+    /// The executions of all basic blocks.
+    pub fn blocks(&self) -> u64
+        ensures { result ≡ total_of self.now.blocks }
+    {
+        total(&self.blocks)
     }
 }

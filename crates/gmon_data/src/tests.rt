@@ -1,6 +1,7 @@
 ghost use Rattle.std.specs.Prelude.{◌≡◌, ◌≤◌, [], ◌∷◌, length, sum, IfOk};
 ghost use Rattle.std.specs.List.{All};
-ghost use Rattle.gmon_data.specs.Content.{empty_content, wide_records, with_records, HasRange, IsWithin};
+ghost use Rattle.gp_base.specs.Spans.{HasRange};
+ghost use Rattle.gmon_data.specs.Content.{empty_content, wide_records, with_records, IsWithin};
 
 use super::*;
 use gp_base::{

@@ -26,7 +26,7 @@ returns-in_err-add_block-clause-stopped c =
     let all = map wide_block c.args.blocks.now in
     let block = get_or c.args.blocks.now i none in
     let w = next_of_blocks all c.args.blocks.now i block none c.args.self.now c.loop-block.self c.loop-block-test.true refl c.loop-block.invariant in
-    rw (p.1, p.2) (stop all (wide_block block ∷ []) (map wide_block (drop (i + 1) c.args.blocks.now)) c.args.self.now c.loop-block.self w _ _ (stopped_before _ (wide_block block) c.loop-block.self _ c.in_err-add_block.ensures.unchanged tt))
+    rw (p.1, p.2) (stop all (wide_block block ∷ []) (map wide_block (drop (i + 1) c.args.blocks.now)) c.args.self.now c.loop-block.self w _ _ (stopped_before _ (wide_block block) c.loop-block.self _ c.in_err-add_block.ensures.unchanged refl))
 
 pub loop-block-preserved : goal.loop-block-preserved
 loop-block-preserved c =

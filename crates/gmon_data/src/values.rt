@@ -1,0 +1,49 @@
+//! That equality and copies of ranges and refusals say what they seem to: each is pinned by a clause.
+
+ghost use Rattle.std.specs.Prelude.{◌≡◌, ◌↔◌, IsTrue, IfOk};
+
+use crate::hist::HistRange;
+use crate::refusal::{AddRefusal, Unlike};
+use std::alloc::AllocError;
+
+/// Whether two ranges are the same.
+pub fn same_ranges(a: &HistRange, b: &HistRange) -> bool
+    ensures { IsTrue result ↔ (a.now ≡ b.now) }
+{
+    a == b
+}
+
+/// The same range.
+pub fn copied_ranges(a: &HistRange) -> Result<HistRange, AllocError>
+    ensures { IfOk result (λ b. b ≡ a.now) }
+{
+    a.clone()
+}
+
+/// Whether two conflicts are the same.
+pub fn same_conflicts(a: &Unlike, b: &Unlike) -> bool
+    ensures { IsTrue result ↔ (a.now ≡ b.now) }
+{
+    a == b
+}
+
+/// The same conflict.
+pub fn copied_conflicts(a: &Unlike) -> Result<Unlike, AllocError>
+    ensures { IfOk result (λ b. b ≡ a.now) }
+{
+    a.clone()
+}
+
+/// Whether two refusals are the same.
+pub fn same_refusals(a: &AddRefusal, b: &AddRefusal) -> bool
+    ensures { IsTrue result ↔ (a.now ≡ b.now) }
+{
+    a == b
+}
+
+/// The same refusal.
+pub fn copied_refusals(a: &AddRefusal) -> Result<AddRefusal, AllocError>
+    ensures { IfOk result (λ b. b ≡ a.now) }
+{
+    a.clone()
+}

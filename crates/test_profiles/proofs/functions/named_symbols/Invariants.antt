@@ -1,0 +1,11 @@
+use Rattle.std.proofs.Common.{◌+◌, ◌*◌, ◌≤◌}
+use Rattle.std.specs.List.{All}
+use Rattle.elf32_syms.specs.Owners.{IsAscending}
+use Rattle.test_profiles.proofs.functions.named_symbols.Given as goal
+
+abbrev pub invariant-loop-name : goal.invariant-loop-name
+invariant-loop-name l = record {
+  ascending : IsAscending l.symbols;
+  ended : All (λ s. s.end ≤ 65536 + 16 * l.i) l.symbols;
+  few : l.i ≤ 65535;
+}

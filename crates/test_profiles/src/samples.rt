@@ -1,0 +1,65 @@
+//! Profiles of samples.
+
+ghost use Rattle.std.specs.Prelude.{◌≡◌, ◌+◌, ◌*◌, ◌^◌, ◌<◌, ◌≤◌, IfOk, length, sum};
+
+use gmon_data::{AddRefusal, Hist, Profile};
+use gp_base::{Totals, Unit};
+use std::alloc::{AllocError, Global};
+
+/// A unit of the given rate, with the dimension `seconds` and its abbreviation `s`.
+pub fn seconds(rate: u32) -> Unit {
+    Unit {
+        rate,
+        dim: *b"seconds\0\0\0\0\0\0\0\0",
+        abbrev: b's',
+    }
+}
+
+/// These counters: the first 65,536 of them, and of their samples the first 2^45 - 1.
+fn counters_of(alloc: Global, samples: &[u64]) -> Result<Totals, AllocError>
+    ensures samples { IfOk result (λ counters. sum counters < 2 ^ 45) }
+    ensures few { IfOk result (λ counters. length counters ≤ 65536) }
+{
+    let mut counters = Totals::new(alloc);
+    let mut room: u64 = (1 << 45) - 1;
+    for count in &samples[..samples.len().min(65_536)] {
+        let counter = (*count).min(room);
+        counters.push(counter)?;
+        room -= counter;
+    }
+    Ok(counters)
+}
+
+/// One histogram of these counters, of `width` addresses each, with 100 samples a second.
+fn profile_of_counters(alloc: Global, counters: Totals, width: u32) -> Result<Profile, AddRefusal>
+    requires samples { sum counters < 2 ^ 45 }
+    requires few { length counters ≤ 4194304 }
+    requires narrow { width ≤ 256 }
+{
+    let count = counters.as_slice().len() as u32;
+    let hist = Hist {
+        low: 0x1_0000,
+        high: 0x1_0000 + width * count,
+        counters,
+    };
+    let mut profile = Profile::new(alloc);
+    if hist.low < hist.high {
+        profile.add_wide(&hist, seconds(100))?;
+    }
+    Ok(profile)
+}
+
+/// The samples of functions of 16 addresses each, at 100 a second: those of the first 65,536 functions,
+/// and of all samples the first 2^45 - 1.
+pub fn profile_of_samples(alloc: Global, samples: &[u64]) -> Result<Profile, AddRefusal> {
+    profile_of_counters(alloc, counters_of(alloc, samples)?, 16)
+}
+
+/// One histogram of so many counters of 1, of `width` addresses each, with 100 samples a second.
+pub fn even_profile(alloc: Global, count: u32, width: u32) -> Result<Profile, AddRefusal>
+    requires few { count ≤ 4194304 }
+    requires narrow { width ≤ 256 }
+{
+    let counters = vec![in alloc; 1u64; count as usize]?;
+    profile_of_counters(alloc, Totals::from(counters), width)
+}
