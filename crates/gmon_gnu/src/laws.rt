@@ -38,8 +38,7 @@ pub fn counted_run_read_back()
 {}
 
 /// The file of a profile is read as what has the profile's content: a counter, calls and executions that
-/// were split over records are put together again. It holds for every content of a profile whose numbers
-/// have the bytes of their fields; those of every `Profile` do.
+/// were split over records are put together again. It holds for the content of every profile.
 pub fn profile_read_back()
     ensures spelled { ProfilesAreSpelled }
     ensures read { ProfilesAreReadBack }
