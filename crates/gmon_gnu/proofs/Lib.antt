@@ -9,6 +9,7 @@ pub mod FaultLemmas
 pub mod MeaningLemmas
 pub mod RunTextLemmas
 pub mod RunReadBack
+pub mod CountedReadBack
 pub mod BlockTextLemmas
 pub mod PieceLemmas
 pub mod ProfileTextLemmas

@@ -42,9 +42,9 @@ right_of false b h e = absurd cc
 
 hist_front_spelled : (len at : ℕ) (body : List ℕ) (r : Rec) (rest : List ℕ) → IsBytes body → body_front len at 0 body ≡ Found r rest → Spelled (0 ∷ body) r rest
 hist_front_spelled len at body r rest bytes is =
-    let name_on = drop 16 body in
-    let short_on = drop 15 name_on in
-    let after = drop 1 short_on in
+    let from_name = drop 16 body in
+    let from_letter = drop 15 from_name in
+    let after = drop 1 from_letter in
     let low = word_at body 0 in
     let high = word_at body 4 in
     let n = word_at body 8 in
@@ -56,20 +56,20 @@ hist_front_spelled len at body r rest bytes is =
     let enough = ltb-false (length after) (n * 2) d.0 in
     let cs = cut 2 value_of n after in
     let count : length cs ≡ n = length-cut 2 value_of n after in
-    let short_bytes = IsBytes-drop 15 name_on (IsBytes-drop 16 body bytes) in
-    let after_bytes = IsBytes-drop 1 short_on short_bytes in
-    let name_long : length name_on ≡ length body - 16 = length-drop 16 body in
-    let short_long : length short_on ≡ length name_on - 15 = length-drop 15 name_on in
+    let short_bytes = IsBytes-drop 15 from_name (IsBytes-drop 16 body bytes) in
+    let after_bytes = IsBytes-drop 1 from_letter short_bytes in
+    let name_long : length from_name ≡ length body - 16 = length-drop 16 body in
+    let short_long : length from_letter ≡ length from_name - 15 = length-drop 15 from_name in
     let counters : flat_map counter_bytes cs ++ drop (n * 2) after ≡ after = ap (λ (v : List ℕ). v ++ drop (n * 2) after) (flat_map-cut 2 value_of counter_bytes counter_spelled n after enough after_bytes) ∙ take-append-drop (n * 2) after in
-    let t31 : slice_index short_on 0 ∷ (flat_map counter_bytes cs ++ drop (n * 2) after) ≡ short_on = ap (λ (v : List ℕ). slice_index short_on 0 ∷ v) counters ∙ head_tail short_on (omega (arith, long, name_long, short_long)) in
-    let t16 = ap (λ (v : List ℕ). take 15 name_on ++ v) t31 ∙ take-append-drop 15 name_on in
+    let t31 : slice_index from_letter 0 ∷ (flat_map counter_bytes cs ++ drop (n * 2) after) ≡ from_letter = ap (λ (v : List ℕ). slice_index from_letter 0 ∷ v) counters ∙ head_tail from_letter (omega (arith, long, name_long, short_long)) in
+    let t16 = ap (λ (v : List ℕ). take 15 from_name ++ v) t31 ∙ take-append-drop 15 from_name in
     let t12 = ap (λ (v : List ℕ). le rate 4 ++ v) t16 ∙ field_then 4 12 body bytes (omega (arith, long)) in
     let t8 = ap (λ (v : List ℕ). le n 4 ++ v) t12 ∙ field_then 4 8 body bytes (omega (arith, long)) in
     let t4 = ap (λ (v : List ℕ). le high 4 ++ v) t8 ∙ field_then 4 4 body bytes (omega (arith, long)) in
     let t0 = ap (λ (v : List ℕ). le low 4 ++ v) t4 ∙ field_then 4 0 body bytes (omega (arith, long)) in
-    let h : RawHist = record { low = low; high = high; unit = record { rate = rate; dim = take 15 name_on; «abbrev» = slice_index short_on 0 }; counters = cs } in
+    let h : RawHist = record { low = low; high = high; unit = record { rate = rate; dim = take 15 from_name; «abbrev» = slice_index from_letter 0 }; counters = cs } in
     let same : rec_text (Hist h) (drop (n * 2) after) ≡ 0 ∷ body =
-    ap (λ (k : ℕ). 0 ∷ (le low 4 ++ (le high 4 ++ (le k 4 ++ (le rate 4 ++ (take 15 name_on ++ (slice_index short_on 0 ∷ (flat_map counter_bytes cs ++ drop (n * 2) after)))))))) count
+    ap (λ (k : ℕ). 0 ∷ (le low 4 ++ (le high 4 ++ (le k 4 ++ (le rate 4 ++ (take 15 from_name ++ (slice_index from_letter 0 ∷ (flat_map counter_bytes cs ++ drop (n * 2) after)))))))) count
     ∙ ap (λ (v : List ℕ). 0 ∷ v) t0 in
     moved (0 ∷ body) (Hist h) r (drop (n * 2) after) rest d.1
     (record {
@@ -79,7 +79,7 @@ hist_front_spelled len at body r rest bytes is =
         high = field_below 4 4 body bytes (omega (arith, long));
         number = omega (arith, count, field_below 4 8 body bytes (omega (arith, long)));
         rate = field_below 4 12 body bytes (omega (arith, long));
-        dim = omega (arith, long, name_long, length-take 15 name_on);
+        dim = omega (arith, long, name_long, length-take 15 from_name);
         counters = all_cut CounterFits 2 value_of counter_fits n after enough after_bytes;
         range = λ some. leb-false high low (right_of (ltb 0 n) (leb high low) b.0 (lt-ltb 0 n (omega (arith, some, count))));
       };

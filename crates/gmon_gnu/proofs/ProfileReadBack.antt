@@ -15,7 +15,7 @@ use Rattle.gmon_data.specs.Content.{WideRec, WideHist, WideArc, WideBlock, Conte
 use Rattle.gmon_data.proofs.ContentLemmas.{pair-self, pair-equal, same-self}
 use Rattle.gmon_data.proofs.TallyLemmas.{sums_by_key-fold}
 use Rattle.gmon_gnu.specs.ProfileText.{profile_text, profile_records, ProfilesAreReadBack}
-use Rattle.gmon_gnu.specs.Splitting.{piece, pieces_of, most_samples, largest, each_piece, layer_of, layers_of, arc_pieces, rounds_of, hist_rec, hist_recs, arc_rec, raw_block, blocks_rec, profile_recs}
+use Rattle.gmon_gnu.specs.Splitting.{piece, pieces_of, most_samples, largest, each_piece, hist_piece, hist_pieces, arc_pieces, rounds_of, hist_rec, hist_recs, arc_rec, raw_block, blocks_rec, profile_recs}
 use Rattle.gmon_gnu.proofs.SpellingLemmas.{accepted_where_spelled, only_where_spelled}
 use Rattle.gmon_gnu.proofs.ProfileSpelling.{profile_spelled}
 use Rattle.gmon_gnu.proofs.SplitLemmas.{ascending_of, hists-merge, numbers-merge, rounds-merge, enough4}
@@ -55,9 +55,9 @@ all-blocks : (rs : List (List (ℕ × ℕ))) → filter_map block_in (wide_recor
 all-blocks [] = refl
 all-blocks (r ∷ rs) = filter_map-append block_in (map wide_block (map raw_block r)) (wide_records (map blocks_rec rs)) ∙ (λ i. all-round r i ++ all-blocks rs i)
 
--- ---- each layer has counters
+-- ---- each piece of a histogram has counters
 
-some_pieces : (h : Hist) → has_counters h ≡ true → (n j : ℕ) → AllByRecursion (λ k. has_counters k ≡ true) (each_piece (layer_of h) j n)
+some_pieces : (h : Hist) → has_counters h ≡ true → (n j : ℕ) → AllByRecursion (λ k. has_counters k ≡ true) (each_piece (hist_piece h) j n)
 some_pieces h some zero j = tt
 some_pieces h some (suc n) j = (same h.counters some, some_pieces h some n (j + 1))
   where
@@ -69,9 +69,9 @@ all_append : (xs ys : List Hist) → AllByRecursion (λ k. has_counters k ≡ tr
 all_append [] ys a b = b
 all_append (x ∷ xs) ys a b = (a.0, all_append xs ys a.1 b)
 
-some_layers : (hs : List Hist) → AllByRecursion IsKept hs → AllByRecursion (λ k. has_counters k ≡ true) (flat_map layers_of hs)
-some_layers [] kept = tt
-some_layers (h ∷ hs) kept = all_append (layers_of h) (flat_map layers_of hs) (some_pieces h (lt-ltb 0 (length h.counters) kept.0.some) (pieces_of most_samples (largest h.counters)) 0) (some_layers hs kept.1)
+all_pieces_some : (hs : List Hist) → AllByRecursion IsKept hs → AllByRecursion (λ k. has_counters k ≡ true) (flat_map hist_pieces hs)
+all_pieces_some [] kept = tt
+all_pieces_some (h ∷ hs) kept = all_append (hist_pieces h) (flat_map hist_pieces hs) (some_pieces h (lt-ltb 0 (length h.counters) kept.0.some) (pieces_of most_samples (largest h.counters)) 0) (all_pieces_some hs kept.1)
 
 -- ---- the whole
 
@@ -82,24 +82,24 @@ three pick xs ys zs =
     ∙ ap (λ l. filter_map pick (wide_records xs) ++ l) (filter_map-append pick (wide_records ys) (wide_records zs))
 
 -- the histograms, and their unit
-hists_back : (hs : List Hist) (o : Option units.Unit) → IsUnitOf hs o → AllByRecursion IsKept hs → filter_map hist_in (wide_records (hist_recs o hs)) ≡ flat_map layers_of hs
+hists_back : (hs : List Hist) (o : Option units.Unit) → IsUnitOf hs o → AllByRecursion IsKept hs → filter_map hist_in (wide_records (hist_recs o hs)) ≡ flat_map hist_pieces hs
 hists_back [] None is kept = refl
 hists_back [] (Some u) is kept = refl
 hists_back (h ∷ hs) None is kept = absurd (let e = is.1 in cc)
-hists_back (h ∷ hs) (Some u) is kept = all-hists u (flat_map layers_of (h ∷ hs)) (some_layers (h ∷ hs) kept)
+hists_back (h ∷ hs) (Some u) is kept = all-hists u (flat_map hist_pieces (h ∷ hs)) (all_pieces_some (h ∷ hs) kept)
 
 unit_back : (hs : List Hist) (o : Option units.Unit) → IsUnitOf hs o → AllByRecursion IsKept hs → slice_get (filter_map unit_in (wide_records (hist_recs o hs))) 0 ≡ o
 unit_back [] None is kept = refl
 unit_back [] (Some u) is kept = absurd (let e = is in cc)
 unit_back (h ∷ hs) None is kept = absurd (let e = is.1 in cc)
 unit_back (h ∷ hs) (Some u) is kept =
-    let first : has_counters (layer_of h 0) ≡ true = (some_pieces h (lt-ltb 0 (length h.counters) kept.0.some) 1 0).0 in
+    let first : has_counters (hist_piece h 0) ≡ true = (some_pieces h (lt-ltb 0 (length h.counters) kept.0.some) 1 0).0 in
     let same : is.0 ≡ u = cc in
     rw first (ap (λ x. Some (kept_unit x)) (sym same) ∙ ap (λ x. Some x) is.2 ∙ ap (λ x. Some x) same)
 
 other_hists : {A : Type 0} (pick : WideRec → Option A) → ((h : Hist) (u : units.Unit) → pick (WideHist h u) ≡ None) → (o : Option units.Unit) (hs : List Hist) → filter_map pick (wide_records (hist_recs o hs)) ≡ []
 other_hists pick none None hs = refl
-other_hists pick none (Some u) hs = none-hists pick none u (flat_map layers_of hs)
+other_hists pick none (Some u) hs = none-hists pick none u (flat_map hist_pieces hs)
 
 content_back : (p : Content) → IsProfile p → content_of (wide_records (profile_recs p)) ≡ p
 unfolding content_of
@@ -112,7 +112,7 @@ content_back p sound =
     let C = map blocks_rec rs in
     let hists = three hist_in A B C
     ∙ (λ i. hists_back p.hists o sound.«unit» sound.hists i ++ (none-arcs hist_in (λ _ _ _. refl) es i ++ none-blocks hist_in (λ _ _. refl) rs i))
-    ∙ append-nil (flat_map layers_of p.hists) in
+    ∙ append-nil (flat_map hist_pieces p.hists) in
     let units = three unit_in A B C
     ∙ (λ i. filter_map unit_in (wide_records A) ++ (none-arcs unit_in (λ _ _ _. refl) es i ++ none-blocks unit_in (λ _ _. refl) rs i))
     ∙ append-nil (filter_map unit_in (wide_records A)) in
@@ -130,8 +130,8 @@ content_back p sound =
     })
 
 pub profile_read_back : ProfilesAreReadBack
-profile_read_back p is fit =
-    let spelled = profile_spelled p is fit in (
+profile_read_back p is =
+    let spelled = profile_spelled p is in (
       accepted_where_spelled (profile_text p) (profile_records p) spelled,
       ap (λ (r : Records). content_of (wide_records r.recs)) (sym (only_where_spelled (profile_text p) (profile_records p) spelled)) ∙ content_back p is,
     )

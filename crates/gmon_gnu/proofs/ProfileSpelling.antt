@@ -8,10 +8,11 @@ use Rattle.gmon_data.specs.Hists.{IsKept}
 use Rattle.gp_base.specs.Fields.{CounterFits, BlockFits}
 use Rattle.gmon_gnu.specs.Fields.{magic, spare_bytes}
 use Rattle.gmon_gnu.specs.Grammar.{RecFits}
-use Rattle.gmon_gnu.specs.Splitting.{piece, pieces_of, most_samples, most_calls, largest, each_piece, layer_of, layers_of, arc_piece, arc_pieces, piece_left, round_of, rounds_of, hist_rec, hist_recs, arc_rec, raw_block, blocks_rec}
-use Rattle.gmon_gnu.specs.ProfileText.{profile_text, HistNumbersFit, PairFits, AddressFits, UnitFits, ProfilesAreSpelled}
+use Rattle.gmon_gnu.specs.Splitting.{piece, pieces_of, most_samples, most_calls, largest, each_piece, hist_piece, hist_pieces, arc_piece, arc_pieces, piece_left, round_of, rounds_of, hist_rec, hist_recs, arc_rec, raw_block, blocks_rec}
+use Rattle.gmon_data.specs.Content.{HistNumbersFit, PairFits, AddressFits, UnitFits}
+use Rattle.gmon_gnu.specs.ProfileText.{profile_text, ProfilesAreSpelled}
 
-all_append : {X : Type 0} (P : X → Type 0) (xs ys : List X) → AllByRecursion P xs → AllByRecursion P ys → AllByRecursion P (xs ++ ys)
+pub all_append : {X : Type 0} (P : X → Type 0) (xs ys : List X) → AllByRecursion P xs → AllByRecursion P ys → AllByRecursion P (xs ++ ys)
 all_append P [] ys a b = b
 all_append P (x ∷ xs) ys a b = (a.0, all_append P xs ys a.1 b)
 
@@ -19,8 +20,8 @@ counter_pieces : (j : ℕ) (cs : List ℕ) → AllByRecursion CounterFits (map (
 counter_pieces j [] = tt
 counter_pieces j (c ∷ cs) = (omega arith, counter_pieces j cs)
 
-layer_fits : (u : units.Unit) → UnitFits (Some u) → (h : Hist) → IsKept h → HistNumbersFit h → (j : ℕ) → RecFits (hist_rec u (layer_of h j))
-layer_fits u uf h kept nums j = record {
+hist_piece_fits : (u : units.Unit) → UnitFits (Some u) → (h : Hist) → IsKept h → HistNumbersFit h → (j : ℕ) → RecFits (hist_rec u (hist_piece h j))
+hist_piece_fits u uf h kept nums j = record {
   low = nums.0;
   high = nums.1;
   number = omega (arith, nums.2, length-map h.counters (piece most_samples j));
@@ -30,18 +31,18 @@ layer_fits u uf h kept nums j = record {
   range = λ some. kept.range;
 }
 
-layers_fit : (u : units.Unit) → UnitFits (Some u) → (h : Hist) → IsKept h → HistNumbersFit h → (n j : ℕ) → AllByRecursion RecFits (map (hist_rec u) (each_piece (layer_of h) j n))
-layers_fit u uf h kept nums zero j = tt
-layers_fit u uf h kept nums (suc n) j = (layer_fits u uf h kept nums j, layers_fit u uf h kept nums n (j + 1))
+hist_pieces_fit : (u : units.Unit) → UnitFits (Some u) → (h : Hist) → IsKept h → HistNumbersFit h → (n j : ℕ) → AllByRecursion RecFits (map (hist_rec u) (each_piece (hist_piece h) j n))
+hist_pieces_fit u uf h kept nums zero j = tt
+hist_pieces_fit u uf h kept nums (suc n) j = (hist_piece_fits u uf h kept nums j, hist_pieces_fit u uf h kept nums n (j + 1))
 
 map_append : {X Y : Type 0} (f : X → Y) (P : Y → Type 0) (xs ys : List X) → AllByRecursion P (map f xs) → AllByRecursion P (map f ys) → AllByRecursion P (map f (xs ++ ys))
 map_append f P [] ys a b = b
 map_append f P (x ∷ xs) ys a b = (a.0, map_append f P xs ys a.1 b)
 
-hists_fit : (u : units.Unit) → UnitFits (Some u) → (hs : List Hist) → AllByRecursion IsKept hs → AllByRecursion HistNumbersFit hs → AllByRecursion RecFits (map (hist_rec u) (flat_map layers_of hs))
+hists_fit : (u : units.Unit) → UnitFits (Some u) → (hs : List Hist) → AllByRecursion IsKept hs → AllByRecursion HistNumbersFit hs → AllByRecursion RecFits (map (hist_rec u) (flat_map hist_pieces hs))
 hists_fit u uf [] kept nums = tt
 hists_fit u uf (h ∷ hs) kept nums =
-    map_append (hist_rec u) RecFits (layers_of h) (flat_map layers_of hs) (layers_fit u uf h kept.0 nums.0 (pieces_of most_samples (largest h.counters)) 0) (hists_fit u uf hs kept.1 nums.1)
+    map_append (hist_rec u) RecFits (hist_pieces h) (flat_map hist_pieces hs) (hist_pieces_fit u uf h kept.0 nums.0 (pieces_of most_samples (largest h.counters)) 0) (hists_fit u uf hs kept.1 nums.1)
 
 arc_pieces_fit : (e : (ℕ × ℕ) × ℕ) → PairFits e → (n j : ℕ) → AllByRecursion RecFits (map arc_rec (each_piece (arc_piece e) j n))
 arc_pieces_fit e nums zero j = tt
@@ -83,7 +84,9 @@ hists_written hs (Some u) uf kept nums = hists_fit u uf hs kept nums
 
 pub profile_spelled : ProfilesAreSpelled
 unfolding profile_text
-profile_spelled p is fit =
+profile_spelled p is =
+    let fit = is.numbers in
+    let few : length p.blocks < 2 ^ 32 = omega (arith, is.within.addresses) in
     let hists = hist_recs p.«unit» p.hists in
     let arcs = map arc_rec (flat_map arc_pieces p.arcs) in
     let rounds = map blocks_rec (rounds_of p.blocks) in
@@ -96,5 +99,5 @@ profile_spelled p is fit =
       spare_fits = refl;
       recs_fit = all_append RecFits hists (arcs ++ rounds)
           (hists_written p.hists p.«unit» fit.«unit» is.hists fit.hists)
-          (all_append RecFits arcs rounds (arcs_fit p.arcs fit.arcs) (blocks_fit p.blocks fit.blocks fit.addresses));
+          (all_append RecFits arcs rounds (arcs_fit p.arcs fit.arcs) (blocks_fit p.blocks fit.blocks few));
     }

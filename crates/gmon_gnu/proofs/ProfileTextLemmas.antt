@@ -11,9 +11,9 @@ use Rattle.gmon_data.specs.declared.hist.Hist.{Hist}
 use Rattle.gmon_data.specs.Content.{Content}
 use Rattle.gp_base.specs.Fields.{counter_bytes, block_bytes}
 use Rattle.gmon_gnu.specs.Grammar.{rec_bytes, hist_bytes, blocks_bytes}
-use Rattle.gmon_gnu.specs.Pieces.{header, layer_header, layers_text, arc_text_of, left_bytes, rounds_text}
+use Rattle.gmon_gnu.specs.Pieces.{header, hist_header, hist_pieces_text, arc_text_of, left_bytes, rounds_text}
 use Rattle.gmon_gnu.specs.ProfileText.{profile_text}
-use Rattle.gmon_gnu.specs.Splitting.{most_samples, most_calls, piece, pieces_of, largest, layer_of, raw_hist, hist_rec, hist_recs, arc_piece, arc_pieces, arc_rec, has_left, piece_left, round_of, rounds_of, raw_block, blocks_rec}
+use Rattle.gmon_gnu.specs.Splitting.{most_samples, most_calls, piece, pieces_of, largest, hist_piece, raw_hist, hist_rec, hist_recs, arc_piece, arc_pieces, arc_rec, has_left, piece_left, round_of, rounds_of, raw_block, blocks_rec}
 
 flat_map-map : {X Y : Type 0} (g : Y → List ℕ) (f : X → Y) (xs : List X) → flat_map g (map f xs) ≡ flat_map (λ x. g (f x)) xs
 flat_map-map g f [] = refl
@@ -41,8 +41,8 @@ module _ {X Y : Type 0} (rec : Y → Rec) (part : X → ℕ → Y) (count : X �
 
 -- ---- histograms
 
-pub hists_text : (u : units.Unit) (hs : List Hist) → flat_map (layers_text u) hs ≡ flat_map rec_bytes (hist_recs (Some u) hs)
-hists_text u hs = parts_text (hist_rec u) layer_of (λ (h : Hist). pieces_of most_samples (largest h.counters)) hs
+pub hists_text : (u : units.Unit) (hs : List Hist) → flat_map (hist_pieces_text u) hs ≡ flat_map rec_bytes (hist_recs (Some u) hs)
+hists_text u hs = parts_text (hist_rec u) hist_piece (λ (h : Hist). pieces_of most_samples (largest h.counters)) hs
 
 abbrev pub pieces_text : ℕ → List ℕ → List ℕ
 pieces_text j counters = flat_map (λ n. counter_bytes (piece most_samples j n)) counters
@@ -51,8 +51,8 @@ pieces_text j counters = flat_map (λ n. counter_bytes (piece most_samples j n))
 abbrev hist_then : units.Unit → Hist → ℕ → List ℕ → List ℕ
 hist_then u h n behind = 0 ∷ (le h.low 4 ++ (le h.high 4 ++ (le n 4 ++ (le u.rate 4 ++ (u.dim ++ (u.«abbrev» ∷ behind))))))
 
-pub layer_text : (u : units.Unit) (h : Hist) (j : ℕ) → layer_header u h ++ pieces_text j h.counters ≡ hist_bytes (raw_hist u (layer_of h j))
-layer_text u h j =
+pub hist_piece_text : (u : units.Unit) (h : Hist) (j : ℕ) → hist_header u h ++ pieces_text j h.counters ≡ hist_bytes (raw_hist u (hist_piece h j))
+hist_piece_text u h j =
     let text = pieces_text j h.counters in
     let n = length h.counters in
     ap (λ (t : List ℕ). 0 ∷ (le h.low 4 ++ (le h.high 4 ++ (le n 4 ++ (le u.rate 4 ++ t))))) (append_assoc u.dim (u.«abbrev» ∷ []) text)

@@ -10,7 +10,7 @@ use Rattle.gmon_data.specs.Hists.{pointwise_sum, put_hist, hist_sum, IsKept, IsA
 use Rattle.gmon_data.specs.Tally.{tally}
 use Rattle.std.specs.Bool.{⊤}
 use Rattle.gmon_data.proofs.TallyLemmas.{turned}
-use Rattle.gmon_gnu.specs.Splitting.{piece, pieces_of, each_piece, largest, most_samples, most_calls, layer_of, layers_of, piece_left, round_of, rounds_of}
+use Rattle.gmon_gnu.specs.Splitting.{piece, pieces_of, each_piece, largest, most_samples, most_calls, hist_piece, hist_pieces, piece_left, round_of, rounds_of}
 
 -- each lies above those before it
 abbrev pub IsAscending : List Hist → Type 0
@@ -37,9 +37,6 @@ more_done most j n =
 first_done : (most n : ℕ) → piece most 0 n ≡ done most 1 n
 first_done most n = let e : 1 * most ≡ most = omega arith in let z : 0 * most ≡ 0 = omega arith in omega (arith, e, z)
 
-pub enough2 : (n : ℕ) → n ≤ pieces_of most_samples n * most_samples
-enough2 n = omega arith
-
 pub enough4 : (n : ℕ) → n ≤ pieces_of most_calls n * most_calls
 enough4 n = omega arith
 
@@ -52,17 +49,17 @@ pub largest-all : (m : ℕ) (xs : List ℕ) → largest xs ≤ m → AllByRecurs
 largest-all m [] le = tt
 largest-all m (x ∷ xs) le = (omega (arith, le), largest-all m xs (omega (arith, le)))
 
-layer_more : (most j : ℕ) (xs : List ℕ) → pointwise_sum (map (done most j) xs) (map (piece most j) xs) ≡ map (done most (j + 1)) xs
-layer_more most j [] = refl
-layer_more most j (x ∷ xs) = λ i. more_done most j x i ∷ layer_more most j xs i
+hist_piece_more : (most j : ℕ) (xs : List ℕ) → pointwise_sum (map (done most j) xs) (map (piece most j) xs) ≡ map (done most (j + 1)) xs
+hist_piece_more most j [] = refl
+hist_piece_more most j (x ∷ xs) = λ i. more_done most j x i ∷ hist_piece_more most j xs i
 
-layer_first : (most : ℕ) (xs : List ℕ) → map (piece most 0) xs ≡ map (done most 1) xs
-layer_first most [] = refl
-layer_first most (x ∷ xs) = λ i. first_done most x i ∷ layer_first most xs i
+hist_piece_first : (most : ℕ) (xs : List ℕ) → map (piece most 0) xs ≡ map (done most 1) xs
+hist_piece_first most [] = refl
+hist_piece_first most (x ∷ xs) = λ i. first_done most x i ∷ hist_piece_first most xs i
 
-layers_done : (most j : ℕ) (xs : List ℕ) → AllByRecursion (λ x. x ≤ j * most) xs → map (done most j) xs ≡ xs
-layers_done most j [] all = refl
-layers_done most j (x ∷ xs) all = λ i. all_done most j x all.0 i ∷ layers_done most j xs all.1 i
+hist_pieces_done : (most j : ℕ) (xs : List ℕ) → AllByRecursion (λ x. x ≤ j * most) xs → map (done most j) xs ≡ xs
+hist_pieces_done most j [] all = refl
+hist_pieces_done most j (x ∷ xs) all = λ i. all_done most j x all.0 i ∷ hist_pieces_done most j xs all.1 i
 
 -- ---- histograms one after the other
 
@@ -80,26 +77,26 @@ put_last h k (x ∷ front) below same = rw (lt-ltb x.low h.low below.0) (ap (λ 
 abbrev put : List Hist → Hist → List Hist
 put done h = put_hist h done
 
--- the layers from j on, once the first j are added up
-layers_from : (h : Hist) (front : List Hist) → AllByRecursion (λ x. x.low < h.low) front → (n j : ℕ)
-    → fold put (front ++ with h (map (done most_samples j) h.counters) ∷ []) (each_piece (layer_of h) j n) ≡ front ++ with h (map (done most_samples (j + n)) h.counters) ∷ []
-layers_from h front below zero j = let e : j ≡ j + 0 = omega arith in ap (λ k. front ++ with h (map (done most_samples k) h.counters) ∷ []) e
-layers_from h front below (suc n) j =
+-- the pieces of a histogram from j on, once the first j are added up
+hist_pieces_from : (h : Hist) (front : List Hist) → AllByRecursion (λ x. x.low < h.low) front → (n j : ℕ)
+    → fold put (front ++ with h (map (done most_samples j) h.counters) ∷ []) (each_piece (hist_piece h) j n) ≡ front ++ with h (map (done most_samples (j + n)) h.counters) ∷ []
+hist_pieces_from h front below zero j = let e : j ≡ j + 0 = omega arith in ap (λ k. front ++ with h (map (done most_samples k) h.counters) ∷ []) e
+hist_pieces_from h front below (suc n) j =
     let e : (j + 1) + n ≡ j + suc n = omega arith in
-    ap (λ l. fold put l (each_piece (layer_of h) (j + 1) n)) (put_last (layer_of h j) (with h (map (done most_samples j) h.counters)) front below refl)
-    ∙ ap (λ cs. fold put (front ++ with h cs ∷ []) (each_piece (layer_of h) (j + 1) n)) (layer_more most_samples j h.counters)
-    ∙ layers_from h front below n (j + 1)
+    ap (λ l. fold put l (each_piece (hist_piece h) (j + 1) n)) (put_last (hist_piece h j) (with h (map (done most_samples j) h.counters)) front below refl)
+    ∙ ap (λ cs. fold put (front ++ with h cs ∷ []) (each_piece (hist_piece h) (j + 1) n)) (hist_piece_more most_samples j h.counters)
+    ∙ hist_pieces_from h front below n (j + 1)
     ∙ ap (λ k. front ++ with h (map (done most_samples k) h.counters) ∷ []) e
 
-pub layers-merge : (h : Hist) (front : List Hist) → AllByRecursion (λ x. x.low < h.low) front → fold put front (layers_of h) ≡ front ++ h ∷ []
-layers-merge h front below =
+pub hist_pieces-merge : (h : Hist) (front : List Hist) → AllByRecursion (λ x. x.low < h.low) front → fold put front (hist_pieces h) ≡ front ++ h ∷ []
+hist_pieces-merge h front below =
     let m = largest h.counters in
     let n = (m - 1) / most_samples in
     let whole : m ≤ (1 + n) * most_samples = omega arith in
-    ap (λ l. fold put l (each_piece (layer_of h) 1 n)) (put_end (layer_of h 0) front below)
-    ∙ ap (λ cs. fold put (front ++ with h cs ∷ []) (each_piece (layer_of h) 1 n)) (layer_first most_samples h.counters)
-    ∙ layers_from h front below n 1
-    ∙ ap (λ cs. front ++ with h cs ∷ []) (layers_done most_samples (1 + n) h.counters (largest-all ((1 + n) * most_samples) h.counters whole))
+    ap (λ l. fold put l (each_piece (hist_piece h) 1 n)) (put_end (hist_piece h 0) front below)
+    ∙ ap (λ cs. fold put (front ++ with h cs ∷ []) (each_piece (hist_piece h) 1 n)) (hist_piece_first most_samples h.counters)
+    ∙ hist_pieces_from h front below n 1
+    ∙ ap (λ cs. front ++ with h cs ∷ []) (hist_pieces_done most_samples (1 + n) h.counters (largest-all ((1 + n) * most_samples) h.counters whole))
 
 below_more : (low : ℕ) (front : List Hist) (h : Hist) → AllByRecursion (λ x. x.low < low) front → h.low < low → AllByRecursion (λ x. x.low < low) (front ++ h ∷ [])
 below_more low [] h all lt = (lt, tt)
@@ -110,11 +107,11 @@ above_more : (front hs : List Hist) (h : Hist) → AllByRecursion (λ k. AllByRe
 above_more front [] h all lt = tt
 above_more front (k ∷ ks) h all lt = (below_more k.low front h all.0 lt.0, above_more front ks h all.1 lt.1)
 
-hists_from : (hs front : List Hist) → AllByRecursion (λ k. AllByRecursion (λ x. x.low < k.low) front) hs → IsAscending hs → fold put front (flat_map layers_of hs) ≡ front ++ hs
+hists_from : (hs front : List Hist) → AllByRecursion (λ k. AllByRecursion (λ x. x.low < k.low) front) hs → IsAscending hs → fold put front (flat_map hist_pieces hs) ≡ front ++ hs
 hists_from [] front above up = sym (append-nil front)
 hists_from (h ∷ hs) front above up =
-    fold-append put front (layers_of h) (flat_map layers_of hs)
-    ∙ ap (λ l. fold put l (flat_map layers_of hs)) (layers-merge h front above.0)
+    fold-append put front (hist_pieces h) (flat_map hist_pieces hs)
+    ∙ ap (λ l. fold put l (flat_map hist_pieces hs)) (hist_pieces-merge h front above.0)
     ∙ hists_from hs (front ++ h ∷ []) (above_more front hs h above.1 up.0) up.1
     ∙ append_assoc front (h ∷ []) hs
 
@@ -122,7 +119,7 @@ above_none : (hs : List Hist) → AllByRecursion (λ k. AllByRecursion (λ (x : 
 above_none [] = tt
 above_none (h ∷ hs) = (tt, above_none hs)
 
-pub hists-merge : (hs : List Hist) → IsAscending hs → fold put [] (flat_map layers_of hs) ≡ hs
+pub hists-merge : (hs : List Hist) → IsAscending hs → fold put [] (flat_map hist_pieces hs) ≡ hs
 hists-merge hs up = hists_from hs [] (above_none hs) up
 
 -- ---- numbers by key

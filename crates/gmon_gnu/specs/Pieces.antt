@@ -8,18 +8,18 @@ use Rattle.gp_base.specs.Fields.{block_bytes}
 use Rattle.gmon_gnu.specs.Fields.{magic, version, spare_bytes}
 use Rattle.gmon_gnu.specs.Grammar.{hist_bytes, rec_bytes, blocks_bytes}
 use Rattle.gmon_gnu.specs.Run.{hist_words}
-use Rattle.gmon_gnu.specs.Splitting.{most_samples, most_calls, piece, pieces_of, largest, layer_of, raw_hist, arc_piece, arc_rec, has_left, raw_block, round_of}
+use Rattle.gmon_gnu.specs.Splitting.{most_samples, most_calls, piece, pieces_of, largest, hist_piece, raw_hist, arc_piece, arc_rec, has_left, raw_block, round_of}
 
 -- the header, with its spare bytes
 abbrev pub header : List ℕ
 header = magic ++ (le version 4 ++ spare_bytes)
 
 -- a histogram's tag and fields up to its counters
-abbrev pub layer_header : units.Unit → Hist → List ℕ
-layer_header u h = 0 ∷ (hist_words h.low h.high (length h.counters) u.rate ++ (u.dim ++ u.«abbrev» ∷ []))
+abbrev pub hist_header : units.Unit → Hist → List ℕ
+hist_header u h = 0 ∷ (hist_words h.low h.high (length h.counters) u.rate ++ (u.dim ++ u.«abbrev» ∷ []))
 
-abbrev pub layers_text : units.Unit → Hist → List ℕ
-layers_text u h = flat_map (λ j. hist_bytes (raw_hist u (layer_of h j))) (range_with_len 0 (pieces_of most_samples (largest h.counters)))
+abbrev pub hist_pieces_text : units.Unit → Hist → List ℕ
+hist_pieces_text u h = flat_map (λ j. hist_bytes (raw_hist u (hist_piece h j))) (range_with_len 0 (pieces_of most_samples (largest h.counters)))
 
 abbrev pub arc_text_of : (ℕ × ℕ) × ℕ → List ℕ
 arc_text_of e = flat_map (λ j. rec_bytes (arc_rec (arc_piece e j))) (range_with_len 0 (pieces_of most_calls e.1))

@@ -36,11 +36,11 @@ largest (x ∷ xs) = max x (largest xs)
 -- ---- histograms
 
 -- a histogram as histograms whose counters have two bytes: as many as its largest counter takes
-abbrev pub layer_of : Hist → ℕ → Hist
-layer_of h j = record h { counters = map (piece most_samples j) h.counters }
+abbrev pub hist_piece : Hist → ℕ → Hist
+hist_piece h j = record h { counters = map (piece most_samples j) h.counters }
 
-abbrev pub layers_of : Hist → List Hist
-layers_of h = each_piece (layer_of h) 0 (pieces_of most_samples (largest h.counters))
+abbrev pub hist_pieces : Hist → List Hist
+hist_pieces h = each_piece (hist_piece h) 0 (pieces_of most_samples (largest h.counters))
 
 abbrev pub raw_hist : units.Unit → Hist → RawHist
 raw_hist u h = record { low = h.low; high = h.high; «unit» = u; counters = h.counters }
@@ -51,7 +51,7 @@ hist_rec u h = raw.Hist (raw_hist u h)
 -- where there is no unit there is no histogram
 abbrev pub hist_recs : Option units.Unit → List Hist → List Rec
 hist_recs None hs = []
-hist_recs (Some u) hs = map (hist_rec u) (flat_map layers_of hs)
+hist_recs (Some u) hs = map (hist_rec u) (flat_map hist_pieces hs)
 
 -- ---- arcs
 

@@ -7,6 +7,7 @@ ghost use Rattle.gmon_gnu.specs.Faults.{FirstFaultsAreAnswered};
 ghost use Rattle.gmon_gnu.specs.Grammar.{GnuSpells};
 ghost use Rattle.gmon_gnu.specs.Reading.{gnu_refusal, gnu_records};
 ghost use Rattle.gmon_gnu.specs.ProfileText.{ProfilesAreSpelled, ProfilesAreReadBack};
+ghost use Rattle.gmon_gnu.specs.CountedRun.{CountedRunsAreSpelled, CountedRunsAreReadBack};
 ghost use Rattle.gmon_gnu.specs.Run.{RunsAreSpelled, RunsAreReadBack};
 
 /// A text has exactly one meaning, exactly where nothing is refused.
@@ -29,9 +30,15 @@ pub fn run_read_back()
     ensures read { RunsAreReadBack }
 {}
 
+/// With a record of executed instructions behind it, the file of a run is read as both: the run's records,
+/// and one record of each instruction that was executed with its count, or none where nothing was executed.
+pub fn counted_run_read_back()
+    ensures spelled { CountedRunsAreSpelled }
+    ensures read { CountedRunsAreReadBack }
+{}
+
 /// The file of a profile is read as what has the profile's content: a counter, calls and executions that
-/// were split over records are put together again. It holds for every content of a profile whose numbers
-/// have the bytes of their fields; those of every `Profile` do.
+/// were split over records are put together again. It holds for the content of every profile.
 pub fn profile_read_back()
     ensures spelled { ProfilesAreSpelled }
     ensures read { ProfilesAreReadBack }

@@ -7,9 +7,9 @@ ghost use Rattle.host_port.specs.Host.{Puts};
 ghost use Rattle.host_port.specs.declared.side.Side.TheVariants.{File};
 ghost use Rattle.gp_base.specs.Fields.{counter_bytes};
 ghost use Rattle.gmon_gnu.specs.Grammar.{rec_bytes, hist_bytes, blocks_bytes};
-ghost use Rattle.gmon_gnu.specs.ProfileText.{profile_text};
-ghost use Rattle.gmon_gnu.specs.Splitting.{piece as spec_piece, largest as spec_largest, layer_of, raw_hist, hist_recs, arc_rec, arc_pieces, raw_block, blocks_rec, round_of, rounds_of};
-ghost use Rattle.gmon_gnu.specs.Pieces.{layer_header, layers_text, arc_text_of, left_bytes, rounds_text};
+ghost use Rattle.gmon_gnu.specs.ProfileText.{profile_text, IsReadBack};
+ghost use Rattle.gmon_gnu.specs.Splitting.{piece as spec_piece, largest as spec_largest, hist_piece, raw_hist, hist_recs, arc_rec, arc_pieces, raw_block, blocks_rec, round_of, rounds_of};
+ghost use Rattle.gmon_gnu.specs.Pieces.{hist_header, hist_pieces_text, arc_text_of, left_bytes, rounds_text};
 
 use crate::splitting::{MOST_CALLS, MOST_SAMPLES, has_left, largest, piece, pieces};
 use crate::writing::{hist_text, put_arc};
@@ -29,11 +29,13 @@ pub(crate) const BLOCKS_TAG: u8 = 2;
 /// Writes a profile to the file that is being written: the header, its histograms, its arcs and its block
 /// counts, each in the profile's order. A counter above 65,535 is split over histograms of the same range,
 /// calls and executions above 4,294,967,295 over several records. After `Failed` a prefix of that text was
-/// written, and not the whole. Takes no memory.
+/// written, and not the whole. The text is read back as the profile. Takes no memory.
 pub fn write<H: Host>(profile: &Profile, host: &mut H) -> Result<(), Failed>
     requires { (H.outside host.old).is_writing ≡ true }
-    ensures { Puts File (profile_text profile.now) (H.outside host.old) (H.outside host.new) result }
+    ensures puts { Puts File (profile_text profile.now) (H.outside host.old) (H.outside host.new) result }
+    ensures read { IsReadBack profile.now }
 {
+    profile.holds();
     let mut out = OutBuf::new();
     put_profile(profile, &mut out, host)?;
     out.flush(host)
@@ -68,17 +70,17 @@ fn put_hists_in<H: Host>(
     host: &mut H,
 ) -> Result<(), Failed>
     requires { (H.outside host.old).is_writing ≡ true }
-    ensures adds { Adds File (flat_map (layers_text «unit») profile.now.hists) out.old out.new (H.outside host.old) (H.outside host.new) result }
+    ensures adds { Adds File (flat_map (hist_pieces_text «unit») profile.now.hists) out.old out.new (H.outside host.old) (H.outside host.new) result }
     ensures ready { OnOk result ((H.outside host.new).is_writing ≡ true) }
 {
     for i in 0..profile.hist_count() {
-        put_layers(profile.hist(i), unit, out, host)?;
+        put_hist_pieces(profile.hist(i), unit, out, host)?;
     }
     Ok(())
 }
 
 /// A histogram, as many times as its largest counter has pieces.
-fn put_layers<H: Host>(
+fn put_hist_pieces<H: Host>(
     hist: &Hist,
     unit: Unit,
     out: &mut OutBuf,
@@ -86,17 +88,17 @@ fn put_layers<H: Host>(
 ) -> Result<(), Failed>
     requires few { length hist.now.counters < 2 ^ 32 }
     requires ready { (H.outside host.old).is_writing ≡ true }
-    ensures adds { Adds File (layers_text «unit» hist.now) out.old out.new (H.outside host.old) (H.outside host.new) result }
+    ensures adds { Adds File (hist_pieces_text «unit» hist.now) out.old out.new (H.outside host.old) (H.outside host.new) result }
     ensures ready { OnOk result ((H.outside host.new).is_writing ≡ true) }
 {
     for j in 0..pieces(MOST_SAMPLES, largest(hist.counters.as_slice())) {
-        put_layer(j, hist, unit, out, host)?;
+        put_hist_piece(j, hist, unit, out, host)?;
     }
     Ok(())
 }
 
 /// A histogram with piece `j` of each counter.
-fn put_layer<H: Host>(
+fn put_hist_piece<H: Host>(
     j: u64,
     hist: &Hist,
     unit: Unit,
@@ -106,14 +108,14 @@ fn put_layer<H: Host>(
     requires few { length hist.now.counters < 2 ^ 32 }
     requires within { j * 65535 < 2 ^ 64 }
     requires ready { (H.outside host.old).is_writing ≡ true }
-    ensures adds { Adds File (hist_bytes (raw_hist «unit» (layer_of hist.now j))) out.old out.new (H.outside host.old) (H.outside host.new) result }
+    ensures adds { Adds File (hist_bytes (raw_hist «unit» (hist_piece hist.now j))) out.old out.new (H.outside host.old) (H.outside host.new) result }
     ensures ready { OnOk result ((H.outside host.new).is_writing ≡ true) }
 {
-    put_layer_header(hist, unit, out, host)?;
+    put_hist_header(hist, unit, out, host)?;
     put_counters(j, hist.counters.as_slice(), out, host)
 }
 
-fn put_layer_header<H: Host>(
+fn put_hist_header<H: Host>(
     hist: &Hist,
     unit: Unit,
     out: &mut OutBuf,
@@ -121,7 +123,7 @@ fn put_layer_header<H: Host>(
 ) -> Result<(), Failed>
     requires few { length hist.now.counters < 2 ^ 32 }
     requires ready { (H.outside host.old).is_writing ≡ true }
-    ensures adds { Adds File (layer_header «unit» hist.now) out.old out.new (H.outside host.old) (H.outside host.new) result }
+    ensures adds { Adds File (hist_header «unit» hist.now) out.old out.new (H.outside host.old) (H.outside host.new) result }
     ensures ready { OnOk result ((H.outside host.new).is_writing ≡ true) }
 {
     let counters = hist.counters.as_slice().len() as u32;

@@ -365,7 +365,7 @@ const RANGE: [u8; 33] = [
 ];
 
 /// Its counters: 200,000 is 3 times 65,535 and 3,395.
-const LAYERS: [[u8; 6]; 4] = [
+const PIECES: [[u8; 6]; 4] = [
     [0xFF, 0xFF, 0xFF, 0xFF, 0, 0],
     [0xFF, 0xFF, 0, 0, 0, 0],
     [0xFF, 0xFF, 0, 0, 0, 0],
@@ -389,9 +389,9 @@ fn file_of_large_numbers(alloc: Global) -> Result<Vec<u8>, AllocError> {
         0x67, 0x6D, 0x6F, 0x6E, 1, 0, 0, 0, 0, 0, 0, 0, 0, 0, 0, 0, 0, 0, 0, 0,
     ]
     .to_vec(alloc)?;
-    for layer in &LAYERS {
+    for piece in &PIECES {
         file.extend_from_slice(&RANGE)?;
-        file.extend_from_slice(layer)?;
+        file.extend_from_slice(piece)?;
     }
     file.extend_from_slice(&COUNTS)?;
     Ok(file)

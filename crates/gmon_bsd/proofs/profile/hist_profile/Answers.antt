@@ -7,7 +7,7 @@ use Rattle.gmon_bsd.proofs.ProfileLemmas.{one_hist, within_bounds}
 use Rattle.gmon_bsd.proofs.profile.hist_profile.Goals as goal
 
 pub add_wide-requires-clause-within : goal.add_wide-requires-clause-within
-add_wide-requires-clause-within c =
+add_wide-requires-clause-within c = λ _.
     let hist : Hist = record { low = c.sizes-sizes.result.low; high = c.sizes-sizes.result.high; counters = c.in_ok-counters_of.field-0 } in
     subst (λ (p : Content). IsWithin (with_hist hist (seconds c.args.rate) p)) (sym c.new-profile.ensures.content)
     (within_bounds 0 _ (omega arith) (one_hist hist (seconds c.args.rate) c.in_ok-counters_of.ensures.small c.in_ok-counters_of.ensures.few))

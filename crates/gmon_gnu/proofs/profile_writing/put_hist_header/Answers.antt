@@ -3,7 +3,7 @@ use Rattle.std.proofs.lemmas.Result.{err_from_is_err_and}
 use Rattle.host_port.specs.declared.side.Side.TheVariants.{File}
 use Rattle.host_port.proofs.BufferLemmas.{adds_then, adds_front}
 use Rattle.gmon_gnu.specs.Run.{hist_words}
-use Rattle.gmon_gnu.proofs.profile_writing.put_layer_header.Goals as goal
+use Rattle.gmon_gnu.proofs.profile_writing.put_hist_header.Goals as goal
 
 pub returns-in_err-put-2-clause-adds : goal.returns-in_err-put-2-clause-adds
 returns-in_err-put-2-clause-adds g c =
