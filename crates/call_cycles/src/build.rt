@@ -11,7 +11,7 @@ ghost use Rattle.call_cycles.specs.Values.{profile_graph};
 
 use crate::graphs::{FunArc, Graph};
 use crate::{calls, depth, level, number};
-use elf32_syms::Symbol;
+use elf32_syms::{Symbol, symbol_count};
 use gmon_data::Profile;
 use std::alloc::{AllocError, Global};
 
@@ -95,19 +95,6 @@ fn graph_of(
     })
 }
 
-/// How many functions symbols name.
-fn count_of(symbols: &[Symbol]) -> u32
-    requires { IsAscending symbols.now }
-    ensures { result ≡ length symbols.now }
-{
-    if symbols.is_empty() {
-        return 0;
-    }
-    // Each symbol has an address of its own, so their number is at most the last end.
-    let _last_end = symbols[symbols.len() - 1].end;
-    symbols.len() as u32
-}
-
 /// The graph of the functions that symbols name and of a profile's calls between them.
 ///
 /// An arc of the profile whose call site or callee lies in no symbol, or whose count is 0, is left
@@ -131,7 +118,7 @@ pub fn graph(alloc: Global, profile: &Profile, symbols: &[Symbol]) -> Result<Gra
     ensures value { IfOk result (λ g. g ≡ profile_graph profile.now.arcs symbols.now) }
 {
     let sums = calls::pair_sums(alloc, profile, symbols)?;
-    let functions = count_of(symbols);
+    let functions = symbol_count(symbols);
     let arcs = calls::arcs_of(alloc, &sums)?;
     let self_calls = calls::self_calls_of(alloc, functions, &sums)?;
     graph_of(alloc, functions, arcs, self_calls)

@@ -14,3 +14,4 @@ pub mod MemberLemmas
 pub mod ExactLemmas
 pub mod NearLemmas
 pub mod ExactRootLemmas
+pub mod ProportionLemmas
