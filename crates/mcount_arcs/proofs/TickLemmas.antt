@@ -76,3 +76,11 @@ wrote a pc k n m block is test read more_one set =
     ∙ ap (λ (x : ℕ). record (view_of a) { counters = slice_set a.block.counters k x }) value
     ∙ ap (λ (i : ℕ). with_sample i (view_of a)) is
     ∙ sym (ap (λ (b : Bool). if b then with_sample (counter_of a.sizes pc) (view_of a) else view_of a) test)
+
+-- a tick leaves all but the counters
+pub ticked_others : (pc : ℕ) (v : GmonValue) → ticked pc v ≡ record v { counters = (ticked pc v).counters }
+ticked_others pc v = by_test (v.sampling && is_in (text_span v.sizes) pc)
+  where
+    by_test : (b : Bool) → (let w = if b then with_sample (counter_of v.sizes pc) v else v in w ≡ record v { counters = w.counters })
+    by_test true = refl
+    by_test false = refl
