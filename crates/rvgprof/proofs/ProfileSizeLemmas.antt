@@ -11,14 +11,14 @@ use Rattle.gp_base.specs.declared.records.Rec.TheVariants as raw
 use Rattle.gp_base.specs.declared.records.Records.{Records}
 use Rattle.gp_base.specs.declared.records.Form.{Form}
 use Rattle.gp_base.specs.declared.records.Form.TheVariants.{Bsd, Gnu}
-use Rattle.gmon_bsd.specs.Fields.{seconds, arc_bytes as bsd_arc_bytes, counter_bytes as bsd_counter_bytes, ArcFits as BsdArcFits}
+use Rattle.gp_base.specs.Fields.{seconds, arc_bytes, block_bytes, counter_bytes, ArcFits, BlockFits}
 use Rattle.gmon_bsd.specs.Grammar.{BsdSpells, spelling as bsd_spelling}
-use Rattle.gmon_gnu.specs.Fields.{block_bytes, counter_bytes, BlockFits}
 use Rattle.gmon_gnu.specs.Grammar.{GnuSpells, RecFits, rec_bytes, spelling as gnu_spelling}
 use Rattle.gmon_data.specs.declared.hist.Hist.{Hist}
 use Rattle.gmon_data.specs.Hists.{has_counters, kept_unit, put_hist, samples_of}
 use Rattle.gmon_data.specs.Tally.{tally, total_of}
-use Rattle.gmon_data.specs.Content.{Content, HasRange, IsWithin, empty_content, same_pair, wide_block, wide_hist, wide_record, wide_records, with_arc, with_block, with_hist, with_records}
+use Rattle.gp_base.specs.Spans.{HasRange}
+use Rattle.gmon_data.specs.Content.{Content, IsWithin, empty_content, same_pair, wide_block, wide_hist, wide_record, wide_records, with_arc, with_block, with_hist, with_records}
 use Rattle.gmon_data.proofs.BoundLemmas.{counters_at_most, tally_at_most}
 use Rattle.gmon_data.proofs.HistLemmas.{samples-put}
 use Rattle.gmon_data.proofs.RecordLemmas.{with_records-append}
@@ -162,19 +162,15 @@ arcs_weigh : (arcs : List RawArc) → weights (map raw.Arc arcs) ≡ 12 * length
 arcs_weigh [] = refl
 arcs_weigh (a ∷ arcs) = omega (arith, arcs_weigh arcs, sum_by-cons weight (raw.Arc a) (map raw.Arc arcs))
 
-arcs_long : (arcs : List RawArc) → length (flat_map bsd_arc_bytes arcs) ≡ 12 * length arcs
+arcs_long : (arcs : List RawArc) → length (flat_map arc_bytes arcs) ≡ 12 * length arcs
 arcs_long [] = refl
 arcs_long (a ∷ arcs) = omega (arith, arcs_long arcs)
 
-bsd_counters_long : (counters : List ℕ) → length (flat_map bsd_counter_bytes counters) ≡ 2 * length counters
-bsd_counters_long [] = refl
-bsd_counters_long (c ∷ counters) = omega (arith, bsd_counters_long counters)
-
 bsd_long : (low high rate : ℕ) (spare counters : List ℕ) (arcs : List RawArc) → 2 * length counters + 12 * length arcs ≤ length (bsd_spelling low high rate spare counters arcs)
 bsd_long low high rate spare counters arcs =
-    omega (arith, bsd_counters_long counters, arcs_long arcs, length-append spare (flat_map bsd_counter_bytes counters ++ flat_map bsd_arc_bytes arcs), length-append (flat_map bsd_counter_bytes counters) (flat_map bsd_arc_bytes arcs))
+    omega (arith, counters_long counters, arcs_long arcs, length-append spare (flat_map counter_bytes counters ++ flat_map arc_bytes arcs), length-append (flat_map counter_bytes counters) (flat_map arc_bytes arcs))
 
-all_arcs : (arcs : List RawArc) (c : Content) (n : ℕ) → AllByRecursion BsdArcFits arcs → IsOfBytes n c → IsOfBytes (n + 12 * length arcs) (with_records (wide_records (map raw.Arc arcs)) c)
+all_arcs : (arcs : List RawArc) (c : Content) (n : ℕ) → AllByRecursion ArcFits arcs → IsOfBytes n c → IsOfBytes (n + 12 * length arcs) (with_records (wide_records (map raw.Arc arcs)) c)
 all_arcs [] c n fit of = let e : n ≡ n + 12 * 0 = omega arith in subst (λ (m : ℕ). IsOfBytes m c) e of
 all_arcs (a ∷ arcs) c n fit of =
     let rest = all_arcs arcs (with_arc a.from a.to a.count c) (n + 12) fit.1 (one_arc a.from a.to a.count c n fit.0.count of) in
