@@ -1,12 +1,12 @@
 -- What a profile holds at most, after what was added.
-use Rattle.std.proofs.Common.{ℕ, ◌+◌, ◌^◌, ◌<◌, ◌≤◌, Bool, true, false, ltb, eqb, List, [], ◌∷◌, Some, unwrap_or, length, sum, if◌then◌else◌, arith}
+use Rattle.std.proofs.Common.{ℕ, ◌+◌, ◌^◌, ◌<◌, ◌≤◌, Bool, true, false, ltb, eqb, nat_eq, List, [], ◌∷◌, Some, unwrap_or, length, sum, if◌then◌else◌, arith}
 use Rattle.std.specs.List.{sum_by}
 use Rattle.std.proofs.lemmas.List.Sums.{sum_by-cons}
 use Rattle.gp_base.specs.declared.records.Unit as units
 use Rattle.gmon_data.specs.declared.hist.Hist.{Hist}
 use Rattle.gmon_data.specs.Tally.{tally, total_of}
 use Rattle.gmon_data.specs.Hists.{has_counters, hist_sum, kept_unit, pointwise_sum, put_hist, samples_of}
-use Rattle.gmon_data.specs.Content.{Content, empty_content, same_pair, with_arc, with_hist, IsWithin}
+use Rattle.gmon_data.specs.Content.{Content, empty_content, same_pair, with_arc, with_block, with_hist, IsWithin}
 use Rattle.gmon_data.proofs.TallyLemmas.{sum-tally}
 use Rattle.gmon_data.proofs.HistLemmas.{samples-put}
 
@@ -59,6 +59,16 @@ one_call_more from to c n a = record {
   addresses = omega (arith, a.addresses);
   calls = omega (arith, a.calls, sum-tally same_pair (from, to) 1 c.arcs);
   pairs = omega (arith, a.pairs, tally_at_most same_pair (from, to) 1 c.arcs);
+}
+
+pub one_run_more : (addr : ℕ) (c : Content) (n : ℕ) → IsAtMost c n → IsAtMost (with_block addr 1 c) (n + 1)
+one_run_more addr c n a = record {
+  samples = omega (arith, a.samples);
+  counters = omega (arith, a.counters);
+  calls = omega (arith, a.calls);
+  pairs = omega (arith, a.pairs);
+  runs = omega (arith, a.runs, sum-tally nat_eq addr 1 c.blocks);
+  addresses = omega (arith, a.addresses, tally_at_most nat_eq addr 1 c.blocks);
 }
 
 sum_at_most : (xs ys : List ℕ) → length (pointwise_sum xs ys) ≤ length xs + length ys

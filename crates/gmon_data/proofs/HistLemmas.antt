@@ -110,7 +110,7 @@ all_kept h (k ∷ ks) mine all = by (ltb k.low h.low) (eqb k.low h.low) (all_kep
 
 -- ---- what it means that nothing is unlike
 
-none_of : (b : Bool) (x : Unlike) (o : Option Unlike) → (if b then Some x else o) ≡ None → (b ≡ false) × (o ≡ None)
+pub none_of : (b : Bool) (x : Unlike) (o : Option Unlike) → (if b then Some x else o) ≡ None → (b ≡ false) × (o ≡ None)
 none_of true x o e = absurd cc
 none_of false x o e = (refl, e)
 

@@ -7,3 +7,4 @@ pub mod RecordLemmas
 pub mod BoundLemmas
 pub mod RunLemmas
 pub mod NumberLemmas
+pub mod RangeLemmas

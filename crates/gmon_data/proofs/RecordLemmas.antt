@@ -1,6 +1,6 @@
 -- Records, added one after the other.
-use Rattle.std.proofs.Common.{◌≡◌, ℕ, ◌+◌, ◌≤◌, ◌<◌, Bool, true, false, zero, suc, List, [], ◌∷◌, ◌++◌, length, map, drop, get_or, add-one, Option, Some, None, unwrap_or, nat_eq, ltb, eqb, append_assoc, refl, sym, ap, subst, ◌∙◌, if◌then◌else◌, Result, Ok, Err, arith}
-use Rattle.std.proofs.Math.Seq.{drop-cons}
+use Rattle.std.proofs.Common.{◌≡◌, ℕ, ◌+◌, ◌≤◌, ◌<◌, Bool, true, false, zero, suc, List, [], ◌∷◌, ◌++◌, length, map, drop, slice_get, get_or, add-one, Option, Some, None, unwrap_or, nat_eq, ltb, eqb, append_assoc, refl, sym, ap, subst, ◌∙◌, if◌then◌else◌, Result, Ok, Err, arith}
+use Rattle.std.proofs.lemmas.Option.{slice_get-get_or}
 use Rattle.std.proofs.lemmas.List.Concat.{flat_map-cons}
 use Rattle.gp_base.specs.declared.records.Rec.{Rec}
 use Rattle.std.specs.List.{sum_by}
@@ -18,7 +18,7 @@ use Rattle.gmon_data.specs.Hists.{put_hist, hist_sum, has_counters, kept_unit, p
 use Rattle.gmon_data.specs.Tally.{tally}
 use Rattle.gmon_data.specs.Content.{Content, WideRec, WideHist, WideArc, WideBlock, same_pair, with_hist, with_record, with_records, record_conflict, conflict_of, content_of, wide_block, wide_record, wide_records, IsWithin, IsAdded, IsStopped, IsRefusedFirst}
 use Rattle.gmon_data.proofs.TallyLemmas.{sum-tally}
-use Rattle.gmon_data.proofs.HistLemmas.{samples-put}
+use Rattle.gmon_data.proofs.HistLemmas.{samples-put, some_same}
 use Rattle.gmon_data.proofs.ContentLemmas.{content-hist, content-arc, content-block}
 
 pub with_records-append : (xs ys : List WideRec) (c : Content) → with_records (xs ++ ys) c ≡ with_records ys (with_records xs c)
@@ -29,7 +29,7 @@ or_next : (o p : Option Unlike) → o ≡ None → option_or o p ≡ p
 or_next None p e = refl
 or_next (Some u) p e = absurd cc
 
-parts_none : (o p : Option Unlike) → option_or o p ≡ None → (o ≡ None) × (p ≡ None)
+pub parts_none : (o p : Option Unlike) → option_or o p ≡ None → (o ≡ None) × (p ≡ None)
 parts_none None p e = (refl, e)
 parts_none (Some u) p e = absurd cc
 
@@ -185,10 +185,15 @@ one_added r old new none is = record { added = is; accepted = rw none refl }
 
 -- ---- the records of a file one by one
 
-cut_at : {A : Type 0} (xs : List A) (i : ℕ) (x d : A) → i < length xs → x ≡ get_or xs i d → drop i xs ≡ x ∷ drop (i + 1) xs
-cut_at xs i x d lt is = drop-cons xs i d lt ∙ ap (λ y. y ∷ drop (suc i) xs) (sym is) ∙ ap (λ k. x ∷ drop k xs) (sym (add-one i))
+pub cut_at : {A : Type 0} (xs : List A) (i : ℕ) (x : A) → slice_get xs i ≡ Some x → drop i xs ≡ x ∷ drop (i + 1) xs
+cut_at {A} xs i x at = rw add-one (go xs i at)
+  where
+    go : (ys : List A) (k : ℕ) → slice_get ys k ≡ Some x → drop k ys ≡ x ∷ drop (suc k) ys
+    go [] k e = absurd cc
+    go (y ∷ ys) zero e = ap (λ (z : A). z ∷ ys) (some_same y x e)
+    go (y ∷ ys) (suc k) e = go ys k e
 
-past_end : {A : Type 0} (xs : List A) (i : ℕ) → length xs ≤ i → drop i xs ≡ []
+pub past_end : {A : Type 0} (xs : List A) (i : ℕ) → length xs ≤ i → drop i xs ≡ []
 past_end [] zero le = refl
 past_end [] (suc i) le = refl
 past_end (x ∷ xs) zero le = absurd (let f : suc (length xs) ≤ 0 = le in omega (arith, f))
@@ -197,12 +202,12 @@ past_end (x ∷ xs) (suc i) le = past_end xs i (omega (arith, le))
 pub next_of_records : (all : List WideRec) (recs : List Rec) (i : ℕ) (rec d : Rec) (old now : Content) → i < length recs → rec ≡ get_or recs i d
     → IsUnderway all (wide_records (drop i recs)) old now → IsUnderway all (wide_record rec ++ wide_records (drop (i + 1) recs)) old now
 next_of_records all recs i rec d old now lt is w =
-    subst (λ (l : List WideRec). IsUnderway all l old now) (ap wide_records (cut_at recs i rec d lt is) ∙ flat_map-cons wide_record rec (drop (i + 1) recs)) w
+    subst (λ (l : List WideRec). IsUnderway all l old now) (ap wide_records (cut_at recs i rec (slice_get-get_or recs i d lt ∙ ap (λ r. Some r) (sym is))) ∙ flat_map-cons wide_record rec (drop (i + 1) recs)) w
 
 pub next_of_blocks : (all : List WideRec) (blocks : List RawBlock) (i : ℕ) (block d : RawBlock) (old now : Content) → i < length blocks → block ≡ get_or blocks i d
     → IsUnderway all (map wide_block (drop i blocks)) old now → IsUnderway all ((wide_block block ∷ []) ++ map wide_block (drop (i + 1) blocks)) old now
 next_of_blocks all blocks i block d old now lt is w =
-    subst (λ (l : List WideRec). IsUnderway all l old now) (ap (map wide_block) (cut_at blocks i block d lt is)) w
+    subst (λ (l : List WideRec). IsUnderway all l old now) (ap (map wide_block) (cut_at blocks i block (slice_get-get_or blocks i d lt ∙ ap (λ r. Some r) (sym is)))) w
 
 pub end_of_records : (recs : List Rec) (i : ℕ) (old now : Content) → length recs ≤ i → IsUnderway (wide_records recs) (wide_records (drop i recs)) old now → IsAdded (wide_records recs) old now
 end_of_records recs i old now le w = at_end (wide_records recs) old now (subst (λ (l : List WideRec). IsUnderway (wide_records recs) l old now) (ap wide_records (past_end recs i le)) w)

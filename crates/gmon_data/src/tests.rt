@@ -248,29 +248,79 @@ fn numbers_of_64_bits(rt: HostRuntime) -> Result<(), Fail> {
     Ok(())
 }
 
-/// A profile of so many arcs of one call each, from the highest call site down.
-fn large(alloc: Global, count: u16) -> Result<Profile, AllocError> {
-    let mut profile = Profile::new(alloc);
-    for i in 0..count {
-        profile.add_arc(RawArc {
-            from: 0x8_0000 - u32::from(i),
-            to: 0x1_0000,
+/// A blocks record of 100,000 addresses, and 100,000 arcs, of one execution and of one call each.
+fn many_records(alloc: Global) -> Result<Records, AllocError>
+    ensures ranges { IfOk result (λ records. All HasRange records.recs) }
+    ensures within { IfOk result (λ records. IsWithin (with_records (wide_records records.recs) empty_content)) }
+{
+    let mut blocks = BlockList::new(alloc);
+    for i in 0..100_000u32 {
+        blocks.push(RawBlock {
+            addr: 0x1_0000 + 4 * i,
             count: 1,
         })?;
     }
-    Ok(profile)
+    let mut recs = RecList::new(alloc);
+    recs.push(Rec::Blocks(blocks))?;
+    for k in 0..100_000u32 {
+        recs.push(Rec::Arc(RawArc {
+            from: 0x80_0000 - 4 * k,
+            to: 0x1_0000,
+            count: 1,
+        }))?;
+    }
+    Ok(Records {
+        form: Form::Gnu,
+        recs,
+    })
 }
 
 #[test]
-fn a_thousand_arcs(rt: HostRuntime) -> Result<(), Fail> {
-    let profile = large(rt.alloc(), 1000)?.try_clone()?;
-    assert_eq!(rt; profile.unit(), None);
-    assert_eq!(rt; profile.calls(), 1000);
-    assert_eq!(rt; profile.arc_count(), 1000);
+fn a_hundred_thousand_records(rt: HostRuntime) -> Result<(), Fail> {
+    let records = many_records(rt.alloc())?;
+    let mut added = Profile::new(rt.alloc());
+    assert_eq!(rt; added.add_records(&records), Ok(()));
+    let profile = added.try_clone()?;
+    assert_eq!(rt; (profile.unit(), profile.hist_count()), (None, 0));
+    assert_eq!(rt; (profile.calls(), profile.arc_count()), (100_000, 100_000));
+    assert_eq!(rt;
+        (profile.blocks(), profile.block_count()),
+        (100_000, 100_000)
+    );
     for i in 0..profile.arc_count() {
         let (from, to, count) = profile.arc(i);
-        assert_eq!(rt; from as usize + i, 0x8_0000, "{i}");
+        assert_eq!(rt; from as usize + 4 * i, 0x80_0000, "{i}");
         assert_eq!(rt; (to, count), (0x1_0000, 1), "{i}");
+    }
+    Ok(())
+}
+
+#[test]
+fn a_conflict_is_told(rt: HostRuntime) -> Result<(), Fail> {
+    let mut profile = Profile::new(rt.alloc());
+    let range = |low| HistRange {
+        low,
+        high: 0x1_0010,
+        count: 4,
+    };
+    assert_eq!(rt; profile.conflict(range(0x1_0000), seconds(50)), None);
+    let kept = even(rt.alloc(), 0x1_0000, 0x1_0010, 4)?;
+    assert_eq!(rt; profile.add_wide(&kept, seconds(100)), Ok(()));
+    let rows = [
+        (0x1_0000, 0, None),
+        (0x1_0010, 0, None),
+        (
+            0x1_0004,
+            50,
+            Some(Unlike::Range {
+                old: range(0x1_0000),
+                new: range(0x1_0004),
+            }),
+        ),
+        (0x1_0000, 50, Some(Unlike::Rate { old: 100, new: 50 })),
+    ];
+    for (low, rate, want) in rows {
+        assert_eq!(rt; profile.conflict(range(low), seconds(rate)), want, "{low}");
     }
     Ok(())
 }

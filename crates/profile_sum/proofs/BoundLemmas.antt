@@ -1,15 +1,15 @@
 -- What a sum holds at most.
-use Rattle.std.proofs.Common.{◌≡◌, ℕ, ◌+◌, ◌^◌, ◌<◌, ◌≤◌, Bool, nat_eq, List, [], ◌∷◌, length, fold, sum, ap, arith}
+use Rattle.std.proofs.Common.{◌≡◌, ℕ, ◌+◌, ◌^◌, ◌<◌, ◌≤◌, Bool, nat_eq, List, [], ◌∷◌, length, fold, sum, arith}
 use Rattle.std.specs.List.{sum_by}
 use Rattle.std.proofs.lemmas.List.Sums.{sum_by-cons}
-use Rattle.gp_base.specs.declared.records.Unit as units
 use Rattle.gmon_data.specs.declared.hist.Hist.{Hist}
 use Rattle.gmon_data.specs.Hists.{put_hist, samples_of}
 use Rattle.gmon_data.specs.Tally.{tally, total_of}
-use Rattle.gmon_data.specs.Content.{Content, same_pair, with_arc, with_block, with_hist, IsWithin}
+use Rattle.gmon_data.specs.Content.{Content, same_pair, IsWithin}
 use Rattle.gmon_data.proofs.TallyLemmas.{sum-tally}
 use Rattle.gmon_data.proofs.HistLemmas.{samples-put}
-use Rattle.gmon_data.proofs.BoundLemmas.{counters_at_most, one_hist_more, tally_at_most, IsAtMost}
+use Rattle.gmon_data.proofs.BoundLemmas.{counters_at_most, tally_at_most, IsAtMost}
+use Rattle.test_profiles.specs.Rows.{HasRows}
 use Rattle.profile_sum.specs.Sum.{sum_of}
 
 abbrev counters_of : List Hist → ℕ
@@ -46,16 +46,6 @@ sum_within p q samples counters calls runs pairs addresses = record {
 
 -- ---- for profiles of at most so many of each
 
-pub small_within : (c : Content) (n : ℕ) → IsAtMost c n → n < 2 ^ 26 → IsWithin c
-small_within c n a lt = record {
-  samples = omega (arith, a.samples, lt);
-  counters = omega (arith, a.counters, lt);
-  calls = omega (arith, a.calls, lt);
-  runs = omega (arith, a.runs, lt);
-  pairs = omega (arith, a.pairs, lt);
-  addresses = omega (arith, a.addresses, lt);
-}
-
 pub small_sum_within : (p q : Content) (n m : ℕ) → IsAtMost p n → IsAtMost q m → n + m < 2 ^ 26 → IsWithin (sum_of p q)
 small_sum_within p q n m a b lt =
     sum_within p q
@@ -66,26 +56,12 @@ small_sum_within p q n m a b lt =
     (omega (arith, a.pairs, b.pairs, lt))
     (omega (arith, a.addresses, b.addresses, lt))
 
-pub calls_more : (from to count m : ℕ) (c : Content) (n : ℕ) → count ≤ m → 0 < m → IsAtMost c n → IsAtMost (with_arc from to count c) (n + m)
-calls_more from to count m c n le some a = record {
-  samples = omega (arith, a.samples);
-  counters = omega (arith, a.counters);
-  runs = omega (arith, a.runs);
-  addresses = omega (arith, a.addresses);
-  calls = omega (arith, le, a.calls, sum-tally same_pair (from, to) count c.arcs);
-  pairs = omega (arith, some, a.pairs, tally_at_most same_pair (from, to) count c.arcs);
-}
-
-pub runs_more : (addr count m : ℕ) (c : Content) (n : ℕ) → count ≤ m → 0 < m → IsAtMost c n → IsAtMost (with_block addr count c) (n + m)
-runs_more addr count m c n le some a = record {
-  samples = omega (arith, a.samples);
-  counters = omega (arith, a.counters);
-  calls = omega (arith, a.calls);
-  pairs = omega (arith, a.pairs);
-  runs = omega (arith, le, a.runs, sum-tally nat_eq addr count c.blocks);
-  addresses = omega (arith, some, a.addresses, tally_at_most nat_eq addr count c.blocks);
-}
-
-pub counter_more : (h : Hist) (u : units.Unit) (counter m : ℕ) (c : Content) (n : ℕ) → h.counters ≡ counter ∷ [] → counter ≤ m → 0 < m → IsAtMost c n → IsAtMost (with_hist h u c) (n + m)
-counter_more h u counter m c n is le some a =
-    one_hist_more h u c n m a (omega (arith, le, ap sum is, sum_by-cons (λ (x : ℕ). x) counter [])) (omega (arith, some, ap length is))
+pub rows_sum_within : (p q : Content) → HasRows 2000 2000 2000 p → HasRows 2000 2000 2000 q → IsWithin (sum_of p q)
+rows_sum_within p q a b =
+    sum_within p q
+    (omega (arith, a.samples, b.samples))
+    (omega (arith, a.counters, b.counters))
+    (omega (arith, a.calls, b.calls))
+    (omega (arith, a.runs, b.runs))
+    (omega (arith, a.pairs, b.pairs))
+    (omega (arith, a.addresses, b.addresses))

@@ -1,5 +1,5 @@
 -- Of histograms that are apart and of one unit, what was added doesn't stand in the way of the rest.
-use Rattle.std.proofs.Common.{◌≡◌, ℕ, suc, ◌≤◌, Bool, true, false, ltb, eqb, ◌&&◌, not, List, [], ◌∷◌, length, map, slice_get, filter_map, option_and_then, Option, Some, None, unwrap_or, refl, sym, ap, subst, ◌∙◌, if◌then◌else◌}
+use Rattle.std.proofs.Common.{◌≡◌, ℕ, suc, ◌+◌, ◌≤◌, drop, is_some, true≢false, Bool, true, false, ltb, eqb, ◌&&◌, not, List, [], ◌∷◌, length, map, slice_get, filter_map, option_and_then, Option, Some, None, unwrap_or, refl, sym, ap, subst, ◌∙◌, if◌then◌else◌}
 use Rattle.std.specs.List.{AllByRecursion}
 use Rattle.std.specs.Option.{option_or}
 use Rattle.std.specs.Str.{bytes_eq}
@@ -9,11 +9,15 @@ use Rattle.gmon_data.specs.declared.hist.Hist.{Hist}
 use Rattle.gmon_data.specs.declared.hist.HistRange.{HistRange}
 use Rattle.gmon_data.specs.declared.refusal.Unlike.{Unlike}
 use Rattle.gmon_data.specs.declared.refusal.Unlike.TheVariants.{Range}
-use Rattle.gmon_data.specs.Hists.{put_hist, hist_sum, range_of, range_conflict, overlap, same_range, unit_conflict, kept_unit, has_counters, IsKept, IsApart, IsUnitOf}
+use Rattle.gmon_data.specs.Hists.{put_hist, hist_sum, range_of, range_conflict, overlap, same_range, conflict_with, unit_conflict, kept_unit, IsUnlike, has_counters, IsKept, IsApart, IsUnitOf}
 use Rattle.gmon_data.specs.Content.{Content, with_hist, hist_conflict, conflict_of, IsProfile}
 use Rattle.gmon_data.proofs.CounterLemmas.{length-pointwise}
 use Rattle.gmon_data.proofs.HistLemmas.{alike_counters, all_kept, first_none}
-use Rattle.profile_sum.specs.Sum.{hist_record, clash_of}
+use Rattle.gmon_data.proofs.RecordLemmas.{cut_at, past_end}
+use Rattle.gmon_data.specs.declared.refusal.AddRefusal.{AddRefusal}
+use Rattle.gmon_data.specs.declared.refusal.AddRefusal.TheVariants as adding
+use Rattle.profile_sum.specs.Sum.{clash_of, hist_record, sum_refusal, IsClash}
+use Rattle.profile_sum.proofs.LoopLemmas.{at_all}
 
 -- a histogram that was put in changes no conflict of a range that it doesn't overlap
 skip_put : (h : Hist) (hs : List Hist) (new : HistRange) → overlap (range_of h) new ≡ false
@@ -105,3 +109,56 @@ pub clash_in_turn : (p q : Content) (u : units.Unit) → IsProfile p → IsProfi
 clash_in_turn p q u is is' e =
     in_turn u (unit_is_kept q.hists q.«unit» u is'.«unit» e) p q.hists p is'.hists is'.apart is.hists (all_same u p q.hists)
     ∙ ap (λ (o : Option units.Unit). slice_get (filter_map (λ h. option_and_then (hist_conflict p h) o) q.hists) 0) (sym e)
+
+-- ---- looking for the first clash
+
+-- the first conflict among histograms of a unit, each tried alone
+abbrev pub first_clash : Content → units.Unit → List Hist → Option Unlike
+first_clash p u hs = slice_get (filter_map (λ h. hist_conflict p h u) hs) 0
+
+first_found : (f : Hist → Option Unlike) (h : Hist) (hs : List Hist) → slice_get (filter_map f (h ∷ hs)) 0 ≡ option_or (f h) (slice_get (filter_map f hs) 0)
+first_found f h hs = by (f h) refl
+  where
+    by : (o : Option Unlike) → f h ≡ o → slice_get (filter_map f (h ∷ hs)) 0 ≡ option_or (f h) (slice_get (filter_map f hs) 0)
+    by None e = rw e refl
+    by (Some x) e = rw e refl
+
+or_found : (o rest : Option Unlike) → is_some o ≡ true → option_or o rest ≡ o
+or_found None rest e = absurd (true≢false (sym e))
+or_found (Some x) rest e = refl
+
+or_passed : (o rest : Option Unlike) → is_some o ≡ false → option_or o rest ≡ rest
+or_passed None rest e = refl
+or_passed (Some x) rest e = absurd (true≢false e)
+
+-- without a unit there is no clash
+pub no_unit_no_clash : (p q : Content) → q.«unit» ≡ None → clash_of p q ≡ None
+no_unit_no_clash p q none = ap (λ (o : Option units.Unit). slice_get (filter_map (λ h. option_and_then (hist_conflict p h) o) q.hists) 0) none ∙ nothing q.hists
+  where
+    nothing : (hs : List Hist) → slice_get (filter_map (λ (h : Hist). option_and_then (hist_conflict p h) None) hs) 0 ≡ None
+    nothing [] = refl
+    nothing (h ∷ hs) = nothing hs
+
+pub clash_of_unit : (p q : Content) (u : units.Unit) → q.«unit» ≡ Some u → clash_of p q ≡ first_clash p u q.hists
+clash_of_unit p q u is = ap (λ (o : Option units.Unit). slice_get (filter_map (λ h. option_and_then (hist_conflict p h) o) q.hists) 0) is
+
+module _ (p : Content) (u : units.Unit) (hs : List Hist) (kept : AllByRecursion IsKept hs) (i : ℕ) (h : Hist) (at : slice_get hs i ≡ Some h) (found : Option Unlike)
+    (is : found ≡ conflict_with p.hists p.«unit» (range_of h) (kept_unit u)) where
+  next_clash : first_clash p u (drop i hs) ≡ option_or found (first_clash p u (drop (i + 1) hs))
+  next_clash =
+      let mine : hist_conflict p h u ≡ found = rw (some_counters h (at_all IsKept hs i h kept at)) (sym is) in
+      ap (first_clash p u) (cut_at hs i h at) ∙ first_found (λ x. hist_conflict p x u) h (drop (i + 1) hs) ∙ ap (λ o. option_or o (first_clash p u (drop (i + 1) hs))) mine
+
+  pub clash_found : is_some found ≡ true → first_clash p u (drop i hs) ≡ found
+  clash_found some = next_clash ∙ or_found found _ some
+
+  pub clash_passed : is_some found ≡ false → first_clash p u (drop i hs) ≡ first_clash p u (drop (i + 1) hs)
+  clash_passed none = next_clash ∙ or_passed found _ none
+
+pub clash_ends : (p : Content) (u : units.Unit) (hs : List Hist) (i : ℕ) → length hs ≤ i → first_clash p u (drop i hs) ≡ None
+clash_ends p u hs i le = ap (first_clash p u) (past_end hs i le)
+
+-- where there is no clash, what is told of histograms is want of memory
+pub none_told : (refusal : AddRefusal) (given : Option Unlike) → given ≡ None → IsUnlike refusal given → IsClash (sum_refusal refusal) given
+none_told adding.OutOfMemory given none h = none
+none_told (adding.Unlike u) given none h = h

@@ -1,32 +1,18 @@
 -- A loop that adds items one by one, each as a record.
-use Rattle.std.proofs.Common.{◌≡◌, ℕ, zero, suc, ◌+◌, ◌≤◌, List, [], ◌∷◌, ◌++◌, length, map, drop, slice_get, add-one, Some, None, refl, sym, ap, subst, ◌∙◌, arith}
+use Rattle.std.proofs.Common.{◌≡◌, ℕ, zero, suc, ◌+◌, ◌≤◌, List, [], ◌∷◌, ◌++◌, length, map, drop, slice_get, Some, None, refl, sym, ap, subst, ◌∙◌}
 use Rattle.std.specs.List.{AllByRecursion}
 use Rattle.std.proofs.lemmas.List.{append-nil}
 use Rattle.gmon_data.specs.declared.refusal.AddRefusal.{AddRefusal}
-use Rattle.gmon_data.specs.Hists.{IsUnlike}
+use Rattle.gmon_data.specs.Hists.{unlike_in, IsUnlike}
 use Rattle.gmon_data.specs.Content.{Content, WideRec, with_record, with_records, record_conflict, conflict_of, IsAdded, IsWithin}
 use Rattle.gmon_data.proofs.HistLemmas.{some_same}
-use Rattle.gmon_data.proofs.RecordLemmas.{IsUnderway, one_added, one_more, stop, stopped_before, stopped_conflict, within_next}
+use Rattle.gmon_data.proofs.RecordLemmas.{IsUnderway, cut_at, past_end, one_added, one_more, stop, stopped_before, stopped_conflict, within_next}
 
 -- what holds of all holds of each
 pub at_all : {A : Type 0} (P : A → Type 0) (xs : List A) (i : ℕ) (x : A) → AllByRecursion P xs → slice_get xs i ≡ Some x → P x
 at_all P [] i x all at = absurd cc
 at_all P (y ∷ ys) zero x all at = subst P (some_same y x at) all.0
 at_all P (y ∷ ys) (suc i) x all at = at_all P ys i x all.1 at
-
-cut_at : {A : Type 0} (xs : List A) (i : ℕ) (x : A) → slice_get xs i ≡ Some x → drop i xs ≡ x ∷ drop (i + 1) xs
-cut_at {A} xs i x at = rw add-one (go xs i at)
-  where
-    go : (ys : List A) (k : ℕ) → slice_get ys k ≡ Some x → drop k ys ≡ x ∷ drop (suc k) ys
-    go [] k e = absurd cc
-    go (y ∷ ys) zero e = ap (λ (z : A). z ∷ ys) (some_same y x e)
-    go (y ∷ ys) (suc k) e = go ys k e
-
-past_end : {A : Type 0} (xs : List A) (i : ℕ) → length xs ≤ i → drop i xs ≡ []
-past_end [] zero le = refl
-past_end [] (suc i) le = refl
-past_end (x ∷ xs) zero le = absurd (let f : suc (length xs) ≤ 0 = le in omega (arith, f))
-past_end (x ∷ xs) (suc i) le = past_end xs i (omega (arith, le))
 
 module _ {A : Type 0} (as_record : A → WideRec) (xs : List A) (i : ℕ) (old now : Content) (w : IsUnderway (map as_record xs) (map as_record (drop i xs)) old now) where
   -- all were added
@@ -49,7 +35,7 @@ module _ {A : Type 0} (as_record : A → WideRec) (xs : List A) (i : ℕ) (old n
     item_added new none is = one_more (map as_record xs) (as_record x ∷ []) (map as_record (drop (i + 1) xs)) old now next new (one_added (as_record x) now new none is)
 
     -- it was refused
-    pub item_refused : (refusal : AddRefusal) → IsUnlike refusal (record_conflict now (as_record x)) → IsUnlike refusal (conflict_of old (map as_record xs))
+    pub item_refused : (refusal : AddRefusal) → record_conflict now (as_record x) ≡ unlike_in refusal → IsUnlike refusal (conflict_of old (map as_record xs))
     item_refused refusal h =
         stopped_conflict refusal (map as_record xs) old now
         (stop (map as_record xs) (as_record x ∷ []) (map as_record (drop (i + 1) xs)) old now next refusal now (stopped_before refusal (as_record x) now now refl h))

@@ -10,10 +10,10 @@ use Rattle.gmon_data.specs.declared.hist.HistRange.{HistRange}
 use Rattle.gmon_data.specs.declared.refusal.Unlike.{Unlike}
 use Rattle.gmon_data.specs.declared.refusal.Unlike.TheVariants.{Range}
 use Rattle.gmon_data.specs.Hists.{put_hist, hist_sum, range_of, range_conflict, overlap, same_range, unit_conflict, conflict_with, kept_unit, has_counters, IsKept}
-use Rattle.gmon_data.specs.Content.{Content, WideRec, WideHist, WideArc, WideBlock, empty_content, content_of, with_record, with_records, record_conflict, conflict_of, hist_conflict}
+use Rattle.gmon_data.specs.Content.{Content, WideRec, WideHist, WideArc, WideBlock, empty_content, content_of, with_record, with_records, HasSpan, record_conflict, conflict_of, hist_conflict}
 use Rattle.gmon_data.proofs.CounterLemmas.{length-pointwise}
 use Rattle.gmon_data.proofs.HistLemmas.{all_kept}
-use Rattle.profile_sum.specs.Sum.{clash_of, sum_of, HasSpan}
+use Rattle.profile_sum.specs.Sum.{clash_of, sum_of}
 use Rattle.profile_sum.proofs.ClashLemmas.{some_counters}
 use Rattle.profile_sum.proofs.ContentLemmas.{content_is_added, fold_put, record_later, rising_put, sum_none, IsRising}
 

@@ -1,5 +1,5 @@
 -- The sum of two profiles, and why they have none.
-use Rattle.std.specs.Prelude.{◌≡◌, ℕ, ◌<◌, nat_eq, List, [], length, map, fold, filter_map, slice_get, option_and_then, Option, Some, None, ⊤}
+use Rattle.std.specs.Prelude.{◌≡◌, ℕ, nat_eq, List, [], map, fold, filter_map, slice_get, option_and_then, Option, Some, None}
 use Rattle.std.specs.Option.{option_or}
 use Rattle.gp_base.specs.declared.records.Unit as units
 use Rattle.gmon_data.specs.declared.hist.Hist.{Hist}
@@ -26,20 +26,15 @@ sum_of p q = record {
 abbrev pub clash_of : Content → Content → Option Unlike
 clash_of p q = slice_get (filter_map (λ h. option_and_then (hist_conflict p h) q.«unit») q.hists) 0
 
+-- a refusal is the clash that is given; memory runs out only where none is
 abbrev pub IsClash : SumRefusal → Option Unlike → Type 0
-IsClash answers.OutOfMemory given = ⊤
+IsClash answers.OutOfMemory given = given ≡ None
 IsClash (answers.Unlike unlike) given = given ≡ Some unlike
 
 -- a refusal to add a histogram, as one to add a profile
 abbrev pub sum_refusal : AddRefusal → SumRefusal
 sum_refusal adding.OutOfMemory = answers.OutOfMemory
 sum_refusal (adding.Unlike unlike) = answers.Unlike unlike
-
--- a histogram with counters has a range
-abbrev pub HasSpan : WideRec → Type 0
-HasSpan (WideHist h u) = 0 < length h.counters → h.low < h.high
-HasSpan (WideArc from to count) = ⊤
-HasSpan (WideBlock addr count) = ⊤
 
 -- ---- a profile as records
 

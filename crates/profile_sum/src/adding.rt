@@ -6,7 +6,7 @@ ghost use Rattle.gmon_data.specs.Hists.{IsUnlike};
 ghost use Rattle.profile_sum.specs.Sum.{arc_record, block_record, clash_of, hist_record, hist_records, sum_of, IsClash};
 
 use crate::refusal::SumRefusal;
-use gmon_data::{AddRefusal, Profile};
+use gmon_data::{AddRefusal, Profile, Unlike};
 use gp_base::Unit;
 use std::alloc::AllocError;
 
@@ -15,16 +15,20 @@ use std::alloc::AllocError;
 /// that of `total`, or that of `more` where `total` has none.
 ///
 /// Refusals: `Unlike` for the first histogram of `more` that `Profile::add_wide` refuses, each tried on
-/// `total` alone. After a refusal `total` is unchanged, want of memory included.
+/// `total` alone; memory runs out only where there is none. After a refusal `total` is unchanged. Where
+/// there is no `Unlike`, the sum must be within the limits of a profile.
 pub fn add_all(total: &mut Profile, more: &Profile) -> Result<(), SumRefusal>
-    requires within { IsWithin (sum_of total.old more.now) }
+    requires within { clash_of total.old more.now ≡ None → IsWithin (sum_of total.old more.now) }
     ensures refusal { IfErr result (λ refusal. IsClash refusal (clash_of total.old more.now)) }
     ensures accepted { OnOk result (clash_of total.old more.now ≡ None) }
     ensures added { OnOk result (total.new ≡ sum_of total.old more.now) }
     ensures unchanged { OnErr result (total.new ≡ total.old) }
 {
-    profile_holds(total);
-    profile_holds(more);
+    total.holds();
+    more.holds();
+    if let Some(unlike) = find_clash(total, more) {
+        return Err(SumRefusal::Unlike(unlike));
+    }
     let mut sum = total.try_clone()?;
     add_hists(&mut sum, more)?;
     add_arcs(&mut sum, more)?;
@@ -33,11 +37,19 @@ pub fn add_all(total: &mut Profile, more: &Profile) -> Result<(), SumRefusal>
     Ok(())
 }
 
-/// A profile has what each profile has. Only the contract is wanted.
-fn profile_holds(profile: &Profile)
-    ensures { IsProfile profile.now }
+/// Why the first histogram that can't be added to the total alone can't be, if there is one.
+fn find_clash(total: &Profile, more: &Profile) -> Option<Unlike>
+    requires { IsProfile more.now }
+    ensures { result ≡ clash_of total.now more.now }
 {
-    let _unit = profile.unit();
+    let unit = more.unit()?;
+    for i in 0..more.hist_count() {
+        let clash = total.conflict(more.hist(i).range(), unit);
+        if clash.is_some() {
+            return clash;
+        }
+    }
+    None
 }
 
 /// Adds the histograms. After a refusal some first ones are added.

@@ -1,6 +1,6 @@
 //! Why two profiles have no sum.
 
-ghost use Rattle.std.specs.Prelude.{◌≡◌};
+ghost use Rattle.std.specs.Prelude.{◌≡◌, ◌↔◌, IsTrue, IfOk};
 ghost use Rattle.profile_sum.specs.declared.refusal.SumRefusal.TheVariants.{OutOfMemory};
 ghost use Rattle.profile_sum.specs.Sum.{sum_refusal};
 
@@ -13,6 +13,20 @@ pub enum SumRefusal {
     /// A histogram can't be added.
     Unlike(gmon_data::Unlike),
     OutOfMemory,
+}
+
+/// Whether two refusals are the same.
+pub fn is_same(a: &SumRefusal, b: &SumRefusal) -> bool
+    ensures { IsTrue result ↔ (a.now ≡ b.now) }
+{
+    a == b
+}
+
+/// The same refusal.
+pub fn copied(a: &SumRefusal) -> Result<SumRefusal, AllocError>
+    ensures { IfOk result (λ b. b ≡ a.now) }
+{
+    a.clone()
 }
 
 impl From<AllocError> for SumRefusal {

@@ -1,94 +1,12 @@
-ghost use Rattle.std.specs.Prelude.{◌≡◌, [], ◌∷◌, ◌<◌, IfOk, OnOk};
-ghost use Rattle.gmon_data.specs.Content.{empty_content};
+ghost use Rattle.std.specs.Prelude.{IfOk};
 ghost use Rattle.gmon_data.proofs.BoundLemmas.{IsAtMost};
 
 use super::*;
-use gmon_data::{AddRefusal, Hist, HistRange, Profile, Unlike};
-use gp_base::{Totals, Unit};
+use gmon_data::{AddRefusal, HistRange, Profile, Unlike};
+use gp_base::Unit;
 use std::alloc::{AllocError, Global};
 use std::test::Fail;
-
-/// A profile, written down: histograms of one counter each and their unit, calls, executions.
-#[derive(Clone, Copy)]
-struct Given<'a> {
-    hists: &'a [(u32, u32, u64)],
-    unit: Unit,
-    arcs: &'a [(u32, u32, u64)],
-    blocks: &'a [(u32, u64)],
-}
-
-/// A unit of the given rate, with the dimension `seconds` and its abbreviation `s`.
-fn seconds(rate: u32) -> Unit {
-    Unit {
-        rate,
-        dim: *b"seconds\0\0\0\0\0\0\0\0",
-        abbrev: b's',
-    }
-}
-
-/// A histogram of one counter.
-fn one_counter(alloc: Global, low: u32, high: u32, counter: u64) -> Result<Hist, AllocError>
-    ensures low { IfOk result (λ hist. hist.low ≡ low) }
-    ensures high { IfOk result (λ hist. hist.high ≡ high) }
-    ensures counters { IfOk result (λ hist. hist.counters ≡ counter ∷ []) }
-{
-    let mut counters = Totals::new(alloc);
-    counters.push(counter)?;
-    Ok(Hist {
-        low,
-        high,
-        counters,
-    })
-}
-
-/// The profile of eight histograms at most, of at most 50,000 samples each.
-fn sampled(alloc: Global, hists: &[(u32, u32, u64)], unit: Unit) -> Result<Profile, AddRefusal>
-    ensures { IfOk result (λ profile. IsAtMost profile 400000) }
-{
-    let mut profile = Profile::new(alloc);
-    for i in 0..hists.len().min(8) {
-        let (low, high, counter) = hists[i];
-        if high <= low || counter > 50_000 {
-            return Err(AddRefusal::OutOfMemory);
-        }
-        profile.add_wide(&one_counter(alloc, low, high, counter)?, unit)?;
-    }
-    Ok(profile)
-}
-
-/// Adds eight arcs at most, of at most 50,000 calls each.
-fn add_calls(profile: &mut Profile, arcs: &[(u32, u32, u64)]) -> Result<(), AllocError>
-    requires { IsAtMost profile.old 400000 }
-    ensures { OnOk result (IsAtMost profile.new 800000) }
-{
-    for i in 0..arcs.len().min(8) {
-        let (from, to, count) = arcs[i];
-        profile.add_calls(from, to, count.min(50_000))?;
-    }
-    Ok(())
-}
-
-/// Adds eight block addresses at most, of at most 50,000 executions each.
-fn add_runs(profile: &mut Profile, blocks: &[(u32, u64)]) -> Result<(), AllocError>
-    requires { IsAtMost profile.old 800000 }
-    ensures { OnOk result (IsAtMost profile.new 1200000) }
-{
-    for i in 0..blocks.len().min(8) {
-        let (addr, count) = blocks[i];
-        profile.add_runs(addr, count.min(50_000))?;
-    }
-    Ok(())
-}
-
-/// The profile that is written down.
-fn profile_of(alloc: Global, given: Given<'_>) -> Result<Profile, AddRefusal>
-    ensures { IfOk result (λ profile. IsAtMost profile 1200000) }
-{
-    let mut profile = sampled(alloc, given.hists, given.unit)?;
-    add_calls(&mut profile, given.arcs)?;
-    add_runs(&mut profile, given.blocks)?;
-    Ok(profile)
-}
+use test_profiles::{Rows, profile_of_rows, seconds};
 
 /// Whether the profile has these histograms, and their unit where there are any.
 fn has_hists(profile: &Profile, hists: &[(u32, u32, u64)], unit: Unit) -> bool {
@@ -137,18 +55,18 @@ fn has_blocks(profile: &Profile, blocks: &[(u32, u64)]) -> bool {
 /// What adding the second to the first answers, and the first one then.
 fn added(
     alloc: Global,
-    first: Given<'_>,
-    second: Given<'_>,
+    first: Rows<'_>,
+    second: Rows<'_>,
 ) -> Result<(Profile, Result<(), SumRefusal>), AddRefusal> {
-    let mut total = profile_of(alloc, first)?;
-    let more = profile_of(alloc, second)?;
+    let mut total = profile_of_rows(alloc, first)?;
+    let more = profile_of_rows(alloc, second)?;
     let answer = add_all(&mut total, &more);
     Ok((total, answer))
 }
 
 /// Nothing.
-fn nothing() -> Given<'static> {
-    Given {
+fn nothing() -> Rows<'static> {
+    Rows {
         hists: &[],
         unit: seconds(100),
         arcs: &[],
@@ -157,8 +75,8 @@ fn nothing() -> Given<'static> {
 }
 
 /// Histograms alone, of a rate.
-fn hists(rate: u32, hists: &'static [(u32, u32, u64)]) -> Given<'static> {
-    Given {
+fn hists(rate: u32, hists: &'static [(u32, u32, u64)]) -> Rows<'static> {
+    Rows {
         hists,
         unit: seconds(rate),
         arcs: &[],
@@ -167,8 +85,8 @@ fn hists(rate: u32, hists: &'static [(u32, u32, u64)]) -> Given<'static> {
 }
 
 /// Arcs alone.
-fn arcs(arcs: &'static [(u32, u32, u64)]) -> Given<'static> {
-    Given {
+fn arcs(arcs: &'static [(u32, u32, u64)]) -> Rows<'static> {
+    Rows {
         hists: &[],
         unit: seconds(100),
         arcs,
@@ -177,8 +95,8 @@ fn arcs(arcs: &'static [(u32, u32, u64)]) -> Given<'static> {
 }
 
 /// Block addresses alone.
-fn blocks(blocks: &'static [(u32, u64)]) -> Given<'static> {
-    Given {
+fn blocks(blocks: &'static [(u32, u64)]) -> Rows<'static> {
+    Rows {
         hists: &[],
         unit: seconds(100),
         arcs: &[],
@@ -187,8 +105,8 @@ fn blocks(blocks: &'static [(u32, u64)]) -> Given<'static> {
 }
 
 /// Some of each, of rate 100.
-fn some_of_each() -> Given<'static> {
-    Given {
+fn some_of_each() -> Rows<'static> {
+    Rows {
         hists: &[(0x1_0000, 0x1_0004, 1), (0x1_0010, 0x1_0020, 0)],
         unit: seconds(100),
         arcs: &[(0x1_0000, 0x1_0004, 3), (0, 0x1_0000, 1)],
@@ -219,7 +137,7 @@ fn sums_of_profiles(rt: HostRuntime) -> Result<(), Fail> {
             "the unit of the second, as the first has none",
             arcs(&[(0, 8, 1)]),
             hists(50, &[(0x1_0000, 0x1_0004, 40_000)]),
-            Given {
+            Rows {
                 arcs: &[(0, 8, 1)],
                 ..hists(50, &[(0x1_0000, 0x1_0004, 40_000)])
             },
@@ -228,7 +146,7 @@ fn sums_of_profiles(rt: HostRuntime) -> Result<(), Fail> {
             "the unit of the first, as the second has none",
             hists(50, &[(0x1_0000, 0x1_0004, 40_000)]),
             blocks(&[(8, 1)]),
-            Given {
+            Rows {
                 blocks: &[(8, 1)],
                 ..hists(50, &[(0x1_0000, 0x1_0004, 40_000)])
             },
@@ -282,8 +200,8 @@ fn sums_of_profiles(rt: HostRuntime) -> Result<(), Fail> {
 }
 
 /// Histograms of a rate, beside an arc and a block address.
-fn second(rate: u32, hists: &'static [(u32, u32, u64)]) -> Given<'static> {
-    Given {
+fn second(rate: u32, hists: &'static [(u32, u32, u64)]) -> Rows<'static> {
+    Rows {
         hists,
         unit: seconds(rate),
         arcs: &[(0x20, 8, 3)],
@@ -333,7 +251,7 @@ fn profiles_without_a_sum(rt: HostRuntime) -> Result<(), Fail> {
         ),
         (
             "another dimension",
-            Given {
+            Rows {
                 unit: minutes,
                 ..second(0, &[(0x1_0000, 0x1_0004, 1)])
             },
@@ -358,24 +276,26 @@ fn profiles_without_a_sum(rt: HostRuntime) -> Result<(), Fail> {
     Ok(())
 }
 
-/// A profile of 100,000 arcs of one call each, from a call site on.
+/// A profile of 100,000 arcs and 100,000 block addresses, of one call and one execution each, from an
+/// address on.
 fn called(alloc: Global, first: u32) -> Result<Profile, AllocError>
-    ensures { IfOk result (λ profile. IsAtMost profile 100000) }
+    ensures { IfOk result (λ profile. IsAtMost profile 200000) }
 {
     let mut profile = Profile::new(alloc);
     for i in 0..100_000 {
         profile.add_calls(first.wrapping_add(i), 0x1_0000, 1)?;
+        profile.add_runs(first.wrapping_add(i), 1)?;
     }
     Ok(profile)
 }
 
 #[test]
-fn a_hundred_thousand_arcs_each(rt: HostRuntime) -> Result<(), Fail> {
+fn a_hundred_thousand_of_each(rt: HostRuntime) -> Result<(), Fail> {
     let mut total = called(rt.alloc(), 0)?;
     let more = called(rt.alloc(), 50_000)?;
     assert_eq!(rt; add_all(&mut total, &more), Ok(()));
-    assert_eq!(rt; total.arc_count(), 150_000);
-    assert_eq!(rt; total.calls(), 200_000);
+    assert_eq!(rt; (total.arc_count(), total.calls()), (150_000, 200_000));
+    assert_eq!(rt; (total.block_count(), total.blocks()), (150_000, 200_000));
     for i in 0..total.arc_count() {
         let (from, to, count) = total.arc(i);
         let both = i >= 50_000 && i < 100_000;
@@ -387,26 +307,23 @@ fn a_hundred_thousand_arcs_each(rt: HostRuntime) -> Result<(), Fail> {
     Ok(())
 }
 
-/// A profile of 3,000 histograms of 8 addresses, 16 apart.
-fn striped(alloc: Global, first: u32) -> Result<Profile, AddRefusal>
-    requires { first < 1000000 }
-    ensures { IfOk result (λ profile. IsAtMost profile 3000) }
-{
-    let mut profile = Profile::new(alloc);
-    for i in 0..3_000 {
-        let low = first + 16 * i;
-        profile.add_wide(&one_counter(alloc, low, low + 8, 1)?, seconds(100))?;
+/// The rows of 2,000 histograms of 8 addresses, 16 apart.
+fn striped(alloc: Global, first: u32) -> Result<Vec<(u32, u32, u64)>, AllocError> {
+    let mut rows = Vec::new(alloc);
+    for i in 0..2_000u32 {
+        let low = first.wrapping_add(16 * i);
+        rows.push((low, low.wrapping_add(8), 1))?;
     }
-    Ok(profile)
+    Ok(rows)
 }
 
 #[test]
-fn three_thousand_histograms_each(rt: HostRuntime) -> Result<(), Fail> {
-    let mut total = striped(rt.alloc(), 0)?;
-    let more = striped(rt.alloc(), 8)?;
-    assert_eq!(rt; add_all(&mut total, &more), Ok(()));
-    assert_eq!(rt; total.hist_count(), 6_000);
-    assert_eq!(rt; total.samples(), 6_000);
+fn two_thousand_histograms_each(rt: HostRuntime) -> Result<(), Fail> {
+    let (even, odd) = (striped(rt.alloc(), 0)?, striped(rt.alloc(), 8)?);
+    let rows = |hists| Rows { hists, ..nothing() };
+    let (total, answer) = added(rt.alloc(), rows(even.as_slice()), rows(odd.as_slice()))?;
+    assert_eq!(rt; answer, Ok(()));
+    assert_eq!(rt; (total.hist_count(), total.samples()), (4_000, 4_000));
     for i in 0..total.hist_count() {
         assert_eq!(rt; total.hist(i).low as usize, 8 * i);
     }

@@ -94,7 +94,9 @@ pub fn profile_of_calls(alloc: Global, calls: &[(u16, u16, u64)]) -> Result<Prof
 
 /// The profile of rows: of the first 2,000 of each kind, of 2^31 - 1 samples, calls or executions each
 /// at most. A histogram that has no addresses is left out.
-pub fn profile_of_rows(alloc: Global, rows: Rows<'_>) -> Result<Profile, AddRefusal> {
+pub fn profile_of_rows(alloc: Global, rows: Rows<'_>) -> Result<Profile, AddRefusal>
+    ensures { IfOk result (λ profile. HasRows 2000 2000 2000 profile) }
+{
     let mut profile = Profile::new(alloc);
     add_hists(alloc, &mut profile, rows.hists, rows.unit)?;
     add_arcs(&mut profile, rows.arcs)?;

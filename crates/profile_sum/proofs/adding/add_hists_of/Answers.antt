@@ -1,5 +1,6 @@
 use Rattle.std.proofs.Common.{map, arith}
 use Rattle.std.proofs.lemmas.Result.{err_from_is_err_and}
+use Rattle.gmon_data.specs.Content.{HistNumbersFit}
 use Rattle.gmon_data.specs.Hists.{IsKept}
 use Rattle.gmon_data.proofs.RecordLemmas.{at_begin}
 use Rattle.profile_sum.specs.Sum.{hist_record}
@@ -12,8 +13,11 @@ loop-i-init c = at_begin (map (hist_record c.args.«unit») c.args.more.now.hist
 pub add_wide-requires-clause-range : goal.add_wide-requires-clause-range
 add_wide-requires-clause-range c = λ some. (at_all IsKept c.args.more.now.hists c.loop-i.i c.hist.result.now c.requires.more.hists c.hist.ensures).range
 
+pub add_wide-requires-clause-count : goal.add_wide-requires-clause-count
+add_wide-requires-clause-count c = (at_all HistNumbersFit c.args.more.now.hists c.loop-i.i c.hist.result.now c.requires.more.numbers.hists c.hist.ensures).2
+
 pub add_wide-requires-clause-within : goal.add_wide-requires-clause-within
-add_wide-requires-clause-within c = item_within (hist_record c.args.«unit») c.args.more.now.hists c.loop-i.i c.args.total.now c.loop-i.total c.loop-i.invariant c.hist.result.now c.hist.ensures c.requires.within
+add_wide-requires-clause-within c = λ none. item_within (hist_record c.args.«unit») c.args.more.now.hists c.loop-i.i c.args.total.now c.loop-i.total c.loop-i.invariant c.hist.result.now c.hist.ensures c.requires.within
 
 pub returns-in_err-add_wide-clause-refusal : goal.returns-in_err-add_wide-clause-refusal
 returns-in_err-add_wide-clause-refusal c =

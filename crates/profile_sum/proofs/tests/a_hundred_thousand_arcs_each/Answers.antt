@@ -1,6 +1,0 @@
-use Rattle.std.proofs.Common.{arith}
-use Rattle.profile_sum.proofs.BoundLemmas.{small_sum_within}
-use Rattle.profile_sum.proofs.tests.a_hundred_thousand_arcs_each.Goals as goal
-
-pub add_all-requires : goal.add_all-requires
-add_all-requires g c = record { within = small_sum_within c.in_ok-total.total c.in_ok-more.more 100000 100000 c.in_ok-total.ensures c.in_ok-more.ensures (omega arith) }

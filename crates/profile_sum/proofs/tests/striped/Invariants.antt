@@ -1,5 +1,0 @@
-use Rattle.gmon_data.proofs.BoundLemmas.{IsAtMost}
-use Rattle.profile_sum.proofs.tests.striped.Given as goal
-
-abbrev pub invariant-loop-i : goal.invariant-loop-i
-invariant-loop-i l = IsAtMost l.profile l.i

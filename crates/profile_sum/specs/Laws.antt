@@ -1,0 +1,14 @@
+-- What follows from the definition of a sum.
+use Rattle.std.specs.Prelude.{◌≡◌, ◌++◌, List, None}
+use Rattle.std.specs.List.{All}
+use Rattle.gmon_data.specs.Content.{WideRec, conflict_of, content_of, empty_content, HasSpan}
+use Rattle.profile_sum.specs.Sum.{clash_of, sum_of}
+
+-- records can be split between two profiles: where they have no conflict one after the other, what any
+-- first ones add up to and what the others add up to have a sum
+abbrev pub PartsHaveSum : Type 0
+PartsHaveSum = (a b : List WideRec) → All HasSpan (a ++ b) → conflict_of empty_content (a ++ b) ≡ None → clash_of (content_of a) (content_of b) ≡ None
+
+-- the sum of the contents of two lists of records is the content of the one list followed by the other
+abbrev pub SumOfContents : Type 0
+SumOfContents = (a b : List WideRec) → sum_of (content_of a) (content_of b) ≡ content_of (a ++ b)
