@@ -6,6 +6,7 @@ use gp_base::{RawArc, RawBlock, Rec, Records, Span, Totals, Unit, le2, le4};
 use host_port::{Failed, Host, MemHost};
 use mcount_arcs::{Entered, Gmon, Looked};
 use std::alloc::{AllocError, Global};
+use std::process::Abort;
 use std::test::Fail;
 
 /// Two histograms from 0x10000 to below 0x10010, an arc that was never called, and the count of a block.
@@ -87,6 +88,8 @@ fn the_first_fault_is_answered(rt: HostRuntime) -> Result<(), Fail> {
         let bytes = file(rt.alloc(), version, records)?;
         assert!(rt; bytes.len() <= 128, "{name}");
         assert_eq!(rt; read(rt.alloc(), &bytes).err(), Some(refusal), "{name}");
+        let answer = in_pieces(rt.alloc(), &bytes, 1);
+        assert_eq!(rt; answer.err(), Some(refusal), "{name}, byte by byte");
     }
     let header = file(rt.alloc(), 2, &[])?;
     for len in 0..20 {
@@ -100,47 +103,70 @@ fn the_first_fault_is_answered(rt: HostRuntime) -> Result<(), Fail> {
     Ok(())
 }
 
-#[test]
-fn records_are_read_in_order(rt: HostRuntime) -> Result<(), Fail> {
-    let bytes = file(rt.alloc(), 1, &RECORDS)?;
-    assert_eq!(rt; bytes.len(), 128);
-    let records = read(rt.alloc(), &bytes)?;
+/// Whether the records are the first `count` of the file of 128 bytes.
+fn are_of_the_file(records: &Records, count: usize) -> bool {
     let recs = records.recs.as_slice();
-    assert_eq!(rt; recs.len(), 4);
-    for rec in &recs[..2] {
-        match rec {
-            Rec::Hist(hist) => {
-                assert_eq!(rt;
-                    (hist.low, hist.high, hist.unit.rate, hist.unit.abbrev),
-                    (0x1_0000, 0x1_0010, 100, 0x73)
-                );
-                assert_eq!(rt; hist.unit.dim, *b"seconds\0\0\0\0\0\0\0\0");
-                assert_eq!(rt; hist.counters.as_slice(), [1, 2, 0, 0].as_slice());
-            }
-            _ => assert!(rt; false, "a histogram"),
+    recs.len() == count
+        && is_hist(recs.first())
+        && is_hist(recs.get(1))
+        && is_arc(recs.get(2))
+        && is_block(recs.get(3))
+}
+
+/// Whether a record, where there is one, is its histogram.
+fn is_hist(rec: Option<&Rec>) -> bool {
+    match rec {
+        Some(Rec::Hist(hist)) => {
+            hist.low == 0x1_0000
+                && hist.high == 0x1_0010
+                && hist.unit
+                    == Unit {
+                        rate: 100,
+                        dim: *b"seconds\0\0\0\0\0\0\0\0",
+                        abbrev: 0x73,
+                    }
+                && hist.counters.as_slice() == [1, 2, 0, 0].as_slice()
         }
+        Some(_) => false,
+        None => true,
     }
-    match &recs[2] {
-        Rec::Arc(arc) => assert_eq!(rt;
-            *arc,
-            RawArc {
+}
+
+/// Whether a record, where there is one, is its arc.
+fn is_arc(rec: Option<&Rec>) -> bool {
+    match rec {
+        Some(Rec::Arc(arc)) => {
+            *arc == RawArc {
                 from: 0x1_0004,
                 to: 0x1_0008,
-                count: 0
+                count: 0,
             }
-        ),
-        _ => assert!(rt; false, "an arc"),
+        }
+        Some(_) => false,
+        None => true,
     }
-    match &recs[3] {
-        Rec::Blocks(blocks) => {
+}
+
+/// Whether a record, where there is one, is the count of its block.
+fn is_block(rec: Option<&Rec>) -> bool {
+    match rec {
+        Some(Rec::Blocks(blocks)) => {
             let block = RawBlock {
                 addr: 0x1_0000,
                 count: 9,
             };
-            assert_eq!(rt; blocks.as_slice(), [block].as_slice());
+            blocks.as_slice() == [block].as_slice()
         }
-        _ => assert!(rt; false, "counts of blocks"),
+        Some(_) => false,
+        None => true,
     }
+}
+
+#[test]
+fn records_are_read_in_order(rt: HostRuntime) -> Result<(), Fail> {
+    let bytes = file(rt.alloc(), 1, &RECORDS)?;
+    assert_eq!(rt; bytes.len(), 128);
+    assert!(rt; are_of_the_file(&read(rt.alloc(), &bytes)?, 4));
     Ok(())
 }
 
@@ -165,7 +191,13 @@ fn a_file_of_100_000_bytes_is_read(rt: HostRuntime) -> Result<(), Fail> {
         bytes.extend_from_slice(&le4(i + 1))?;
     }
     assert_eq!(rt; bytes.len(), 100_000);
-    let records = read(rt.alloc(), &bytes)?;
+    expect_large(&rt, &read(rt.alloc(), &bytes)?);
+    expect_large(&rt, &in_pieces(rt.alloc(), &bytes, 4_096)?);
+    Ok(())
+}
+
+/// What that file holds.
+fn expect_large(rt: &impl Abort, records: &Records) {
     let recs = records.recs.as_slice();
     assert_eq!(rt; recs.len(), 4_008);
     match &recs[0] {
@@ -205,7 +237,6 @@ fn a_file_of_100_000_bytes_is_read(rt: HostRuntime) -> Result<(), Fail> {
         }
         _ => assert!(rt; false, "counts of blocks"),
     }
-    Ok(())
 }
 
 /// The file of the small run at rate 100: its header, a histogram of four counters, and three arcs.
@@ -322,6 +353,12 @@ fn executed_instructions_are_written_to_the_byte(rt: HostRuntime) -> Result<(), 
     host.create_output("blocks").map_err(|_| "create")?;
     write_blocks(0x1_0000, &[1, 0, 258, 0], &mut host).map_err(|_| "write")?;
     assert_eq!(rt; host.file("blocks"), Some(EXECUTED.as_slice()));
+    let gmon = small_run(rt.alloc())?;
+    host.create_output("counted").map_err(|_| "create")?;
+    write_run(&gmon, 100, &mut host).map_err(|_| "write")?;
+    write_blocks(0x1_0000, &[1, 0, 258, 0], &mut host).map_err(|_| "write")?;
+    let records = read(rt.alloc(), host.file("counted").unwrap_or_default())?;
+    assert_eq!(rt; records.recs.as_slice().len(), 5, "the run's records and one more");
     write_blocks(0x1_0000, &[0, 0], &mut host).map_err(|_| "write")?;
     write_blocks(0xFFFF_FFFC, &[], &mut host).map_err(|_| "write")?;
     assert_eq!(rt;
@@ -453,41 +490,87 @@ fn in_pieces(alloc: Global, bytes: &[u8], size: usize) -> Result<Records, GmonRe
     requires small { length bytes.now < 2 ^ 32 }
 {
     let mut reader = Reader::new(alloc);
-    let mut rest = bytes;
-    while !rest.is_empty() {
-        let (piece, behind) = rest.split_at(size.min(rest.len()));
+    let mut fed = 0;
+    while fed < bytes.len() {
+        let rest = bytes.split_at(fed).1;
+        let piece = rest.split_at(size.min(rest.len())).0;
         reader.feed(piece)?;
-        rest = behind;
+        fed += piece.len();
     }
     reader.finish()
 }
 
+/// What a reader answers that is fed the bytes in two pieces.
+fn in_two(alloc: Global, front: &[u8], rest: &[u8]) -> Result<Records, GmonRefusal>
+    requires { length front.now + length rest.now < 2 ^ 32 }
+{
+    let mut reader = Reader::new(alloc);
+    reader.feed(front)?;
+    reader.feed(rest)?;
+    reader.finish()
+}
+
 #[test]
-fn pieces_of_any_size_give_the_same(rt: HostRuntime) -> Result<(), Fail> {
-    let mut bytes = file(rt.alloc(), 1, &RECORDS)?;
-    for at in [5, 20, 28, 53, 61, 128] {
-        for size in 1..40usize {
-            for len in 0..129usize {
-                let front = bytes.as_slice().split_at(len.min(bytes.len())).0;
-                if front.len() > 1_000 {
-                    continue;
-                }
-                let whole = read(rt.alloc(), front);
-                let pieces = in_pieces(rt.alloc(), front, size);
-                match (whole, pieces) {
-                    (Ok(whole), Ok(pieces)) => {
-                        assert_eq!(rt; whole.recs.as_slice().len(), pieces.recs.as_slice().len());
-                    }
-                    (whole, pieces) => {
-                        assert_eq!(rt; whole.err(), pieces.err(), "{len} bytes, {size} at a time");
-                    }
-                }
+fn every_front_is_told_byte_by_byte(rt: HostRuntime) -> Result<(), Fail> {
+    let bytes = file(rt.alloc(), 1, &RECORDS)?;
+    for len in 0..129usize {
+        let front = bytes.as_slice().split_at(len.min(bytes.len())).0;
+        let count = match len {
+            20 => Some(0),
+            61 => Some(1),
+            102 => Some(2),
+            115 => Some(3),
+            128 => Some(4),
+            _ => None,
+        };
+        if front.len() != len {
+            continue;
+        }
+        match (in_pieces(rt.alloc(), front, 1), count) {
+            (Ok(records), Some(count)) => {
+                assert!(rt; are_of_the_file(&records, count), "{len} bytes");
+            }
+            (Ok(_), None) => assert!(rt; false, "{len} bytes are torn"),
+            (Err(refusal), count) => {
+                assert_eq!(rt; count, None, "{len} bytes");
+                assert_eq!(rt; refusal, GmonRefusal::Short { at: len as u32 });
             }
         }
-        // and then with a byte changed
-        if at < bytes.len() {
-            bytes[at] = 3;
+    }
+    Ok(())
+}
+
+#[test]
+fn every_cut_into_two_gives_the_same(rt: HostRuntime) -> Result<(), Fail> {
+    let bytes = file(rt.alloc(), 1, &RECORDS)?;
+    for cut in 0..129usize {
+        let (front, rest) = bytes.as_slice().split_at(cut.min(bytes.len()));
+        match in_two(rt.alloc(), front, rest) {
+            Ok(records) => assert!(rt; are_of_the_file(&records, 4), "cut at {cut}"),
+            Err(_) => assert!(rt; false, "cut at {cut}"),
         }
+    }
+    Ok(())
+}
+
+#[test]
+fn a_stated_number_takes_no_room(rt: HostRuntime) -> Result<(), Fail> {
+    let pairs = file(rt.alloc(), 1, &[2, 255, 255, 255, 255])?;
+    let mut counters = file(rt.alloc(), 1, &RECORDS[..33])?;
+    for at in 29..33 {
+        counters[at] = 255;
+    }
+    let mut readers = Vec::new(rt.alloc());
+    for _ in 0..1_000 {
+        let mut reader = Reader::new(rt.alloc());
+        reader.feed(&pairs)?;
+        readers.push((reader, 25))?;
+        let mut reader = Reader::new(rt.alloc());
+        reader.feed(&counters)?;
+        readers.push((reader, 53))?;
+    }
+    for (reader, at) in readers {
+        assert_eq!(rt; reader.finish().err(), Some(GmonRefusal::Short { at }));
     }
     Ok(())
 }
