@@ -113,14 +113,6 @@ fn find_behind(
     }
 }
 
-/// Where the operand stands that comes behind so many others.
-pub fn operand_at(takes: Takes, words: &[String], skip: u32) -> Option<Option<u32>>
-    requires { length words.now ≤ 200 }
-    ensures { result ≡ option_map (λ items. nth skip (places Wanted.AnOperand items)) (items_from takes 0 (map string_bytes words.now)) }
-{
-    find(takes, words, 0, Wanted::AnOperand, skip)
-}
-
 /// Where the first value of an option stands; `None` where the words can't be read or give it too often.
 pub fn place_given(takes: Takes, words: &[String], key: Key) -> Option<Option<u32>>
     requires { length words.now ≤ 200 }
