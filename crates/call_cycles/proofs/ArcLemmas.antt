@@ -1,12 +1,12 @@
 -- The arcs between functions: those that a map of sums makes, where they lie, and how many calls they have.
-use Rattle.std.proofs.Common.{◌≡◌, ◌≢◌, ◌<◌, ◌≤◌, ℕ, zero, suc, ◌+◌, get_or, ◌&&◌, ◌||◌, Bool, true, false, not, cond, List, [], ◌∷◌, ◌++◌, length, Option, Some, None, refl, ap, sym, ◌∙◌, subst, ⊎_elim, arith, append-nil, length-append, ◌-◌}
+use Rattle.std.proofs.Common.{inl, inr, ◌≡◌, ◌≢◌, ◌<◌, ◌≤◌, ℕ, zero, suc, ◌+◌, get_or, ◌&&◌, ◌||◌, Bool, true, false, not, cond, List, [], ◌∷◌, ◌++◌, length, Option, Some, None, refl, ap, sym, ◌∙◌, subst, ⊎_elim, arith, append-nil, length-append, ◌-◌}
 use Rattle.std.specs.Prelude.{◌==◌, nat_lt, slice_index, if◌then◌else◌}
 use Rattle.std.specs.List.{All, flat_map, sum_by, position_or_len}
 use Rattle.std.specs.Option.{option_map_or}
 use Rattle.std.specs.BTreeMap.{BTreeMap, IsOrdered}
 use Rattle.std.proofs.lemmas.Bool.{cases_lt, eqb-true, eqb-false, ne_eqb}
 use Rattle.std.proofs.lemmas.Bool.Decides.{nat_tests}
-use Rattle.std.proofs.lemmas.List.{take_all, get_or_append_left, get_or-append_right}
+use Rattle.std.proofs.lemmas.List.{take_all, get_or_default, get_or_append_left, get_or-append_right}
 use Rattle.std.proofs.lemmas.List.Concat.{flat_map-append}
 use Rattle.std.proofs.lemmas.List.Elements.{All-nil, All-cons}
 use Rattle.std.proofs.lemmas.List.Sums.{sum_by-cons}
@@ -15,11 +15,11 @@ use Rattle.elf32_syms.specs.Owners.{owns, owner_of}
 use Rattle.gmon_data.specs.Tally.{total_of}
 use Rattle.call_cycles.specs.declared.graphs.FunArc.{FunArc}
 use Rattle.call_cycles.specs.Sums.{sum_below, when, numbers_below, list_of}
-use Rattle.call_cycles.specs.Graph.{no_arc}
+use Rattle.call_cycles.specs.Graph.{no_arc, IsArcBefore}
 use Rattle.call_cycles.specs.Parts.{AreCalled, arcs_calls}
 use Rattle.call_cycles.specs.Calls.{pair_cmp, some_calls, HasCalls, lies_in, calls_of, calls_between, arc_between, arcs_among, function_arcs, own_calls, calls_at, arc_in}
 use Rattle.call_cycles.proofs.SumLemmas.{sum_ext, sum_add, sum_zero, sum_none, sum_mono, sum_at, sum_flat, sum_places, all_flat, flat_more}
-use Rattle.call_cycles.specs.Arcs.{AreByCaller, AreWithin}
+use Rattle.call_cycles.specs.Arcs.{AreByCaller, AreInOrder, AreWithin}
 use Rattle.call_cycles.proofs.CallLemmas.{calls_at_is}
 use Rattle.call_cycles.proofs.ListLemmas.{list_at}
 use Rattle.call_cycles.proofs.PairLemmas.{entry_of, pair_entry, entries_in_order}
@@ -62,16 +62,17 @@ pub record IsArcBelow (n : ℕ) (a : FunArc) : Type 0 where
   pub caller : a.caller < n
   pub callee : a.callee < n
   pub called : 0 < a.count
+  pub apart : a.caller ≢ a.callee
 
 all_between : (calls : ℕ → ℕ → ℕ) (n f g : ℕ) → f < n → g < n → All (IsArcBelow n) (arc_between calls f g)
-all_between calls n f g low_f low_g = by (f == g) (calls f g == 0) refl
+all_between calls n f g low_f low_g = by (f == g) (calls f g == 0) refl refl
   where
-    by : (same none : Bool) → (calls f g == 0) ≡ none → All (IsArcBelow n) (if same || none then [] else record { caller = f; callee = g; count = calls f g } ∷ [])
-    by true none is = All-nil (IsArcBelow n)
-    by false true is = All-nil (IsArcBelow n)
-    by false false is =
+    by : (same none : Bool) → (f == g) ≡ same → (calls f g == 0) ≡ none → All (IsArcBelow n) (if same || none then [] else record { caller = f; callee = g; count = calls f g } ∷ [])
+    by true none eq is = All-nil (IsArcBelow n)
+    by false true eq is = All-nil (IsArcBelow n)
+    by false false eq is =
         let some : calls f g ≢ 0 = eqb-false _ _ is in
-        All-cons (IsArcBelow n) (record { caller = f; callee = g; count = calls f g }) [] (record { caller = low_f; callee = low_g; called = omega arith }) (All-nil (IsArcBelow n))
+        All-cons (IsArcBelow n) (record { caller = f; callee = g; count = calls f g }) [] (record { caller = low_f; callee = low_g; called = omega arith; apart = eqb-false _ _ eq }) (All-nil (IsArcBelow n))
 
 pub arcs_below : (calls : ℕ → ℕ → ℕ) (n : ℕ) → All (IsArcBelow n) (arcs_among n calls)
 unfolding arcs_among
@@ -97,35 +98,69 @@ own_row calls n f = all_flat (λ (a : FunArc). a.caller ≡ f) (arc_between call
 rows_below : (calls : ℕ → ℕ → ℕ) (n k : ℕ) → All (λ (a : FunArc). a.caller < k) (flat_map (row_of calls n) (numbers_below k))
 rows_below calls n k = all_flat (λ (a : FunArc). a.caller < k) (row_of calls n) k (λ f low i d inside. let at = own_row calls n f i d inside in omega arith)
 
-row_after : (xs ys : List FunArc) (m : ℕ) → AreByCaller xs → All (λ (a : FunArc). a.caller < m) xs → All (λ (a : FunArc). a.caller ≡ m) ys → AreByCaller (xs ++ ys)
-row_after xs ys m rising lower same i j d le below =
+-- what holds of the first list stays, and the second one comes behind it
+in_order_after : (xs ys : List FunArc) → AreInOrder xs → AreInOrder ys → ((i j : ℕ) → i < length xs → j < length ys → IsArcBefore (get_or xs i no_arc) (get_or ys j no_arc)) → AreInOrder (xs ++ ys)
+in_order_after xs ys first second between i j less below =
     ⊎_elim
-    (λ (front : j < length xs). rw (get_or_append_left xs ys d i (omega arith), get_or_append_left xs ys d j front) (rising i j d le front))
+    (λ (front : j < length xs). rw (get_or_append_left xs ys no_arc i (omega arith), get_or_append_left xs ys no_arc j front) (first i j less front))
     (λ (back : length xs ≤ j).
-    let at = later j back below in
+    let long = length-append xs ys in
     ⊎_elim
-    (λ (front : i < length xs).
-    let less = lower i d front in
-    let is : (get_or (xs ++ ys) i d).caller ≡ (get_or xs i d).caller = ap (λ (a : FunArc). a.caller) (get_or_append_left xs ys d i front) in
-    omega arith)
-    (λ (past : length xs ≤ i). let too = later i past (omega arith) in omega arith)
+    (λ (front : i < length xs). rw (get_or_append_left xs ys no_arc i front, get_or-append_right xs ys (length xs) j no_arc refl back) (between i (j - length xs) front (omega arith)))
+    (λ (past : length xs ≤ i). rw (get_or-append_right xs ys (length xs) i no_arc refl past, get_or-append_right xs ys (length xs) j no_arc refl back) (second (i - length xs) (j - length xs) (omega arith) (omega arith)))
     (cases_lt i (length xs)))
     (cases_lt j (length xs))
+
+arc_alone : (calls : ℕ → ℕ → ℕ) (f g : ℕ) → AreInOrder (arc_between calls f g)
+arc_alone calls f g = by (f == g || calls f g == 0)
   where
-    later : (k : ℕ) → length xs ≤ k → k < length (xs ++ ys) → (get_or (xs ++ ys) k d).caller ≡ m
-    later k past inside =
-        let long = length-append xs ys in
-        ap (λ (a : FunArc). a.caller) (get_or-append_right xs ys (length xs) k d refl past) ∙ same (k - length xs) d (omega arith)
+    by : (none : Bool) → AreInOrder (if none then [] else record { caller = f; callee = g; count = calls f g } ∷ [])
+    by true i j less below = absurd (omega arith)
+    by false i j less below = absurd (omega arith)
 
-rows_rise : (calls : ℕ → ℕ → ℕ) (n k : ℕ) → AreByCaller (flat_map (row_of calls n) (numbers_below k))
-rows_rise calls n zero = λ i j d le below. absurd (omega arith)
+callee_alone : (calls : ℕ → ℕ → ℕ) (f g : ℕ) → All (λ (a : FunArc). a.callee ≡ g) (arc_between calls f g)
+callee_alone calls f g = by (f == g || calls f g == 0)
+  where
+    by : (none : Bool) → All (λ (a : FunArc). a.callee ≡ g) (if none then [] else record { caller = f; callee = g; count = calls f g } ∷ [])
+    by true = All-nil (λ (a : FunArc). a.callee ≡ g)
+    by false = All-cons (λ (a : FunArc). a.callee ≡ g) (record { caller = f; callee = g; count = calls f g }) [] refl (All-nil (λ (a : FunArc). a.callee ≡ g))
+
+callees_below : (calls : ℕ → ℕ → ℕ) (f k : ℕ) → All (λ (a : FunArc). a.callee < k) (row_of calls k f)
+callees_below calls f k = all_flat (λ (a : FunArc). a.callee < k) (arc_between calls f) k (λ g low i d inside. let at = callee_alone calls f g i d inside in omega arith)
+
+row_rises : (calls : ℕ → ℕ → ℕ) (f k : ℕ) → AreInOrder (row_of calls k f)
+row_rises calls f zero = λ i j less below. absurd (omega arith)
+row_rises calls f (suc k) =
+    subst AreInOrder (sym (flat_more (arc_between calls f) k))
+    (in_order_after (row_of calls k f) (arc_between calls f k) (row_rises calls f k) (arc_alone calls f k)
+    (λ i j front back.
+    let a = own_row calls k f i no_arc front in
+    let b = own_arcs calls f k j no_arc back in
+    let low = callees_below calls f k i no_arc front in
+    let at = callee_alone calls f k j no_arc back in
+    inr (a ∙ sym b, omega arith)))
+
+rows_rise : (calls : ℕ → ℕ → ℕ) (n k : ℕ) → AreInOrder (flat_map (row_of calls n) (numbers_below k))
+rows_rise calls n zero = λ i j less below. absurd (omega arith)
 rows_rise calls n (suc k) =
-    subst AreByCaller (sym (flat_more (row_of calls n) k))
-    (row_after (flat_map (row_of calls n) (numbers_below k)) (row_of calls n k) k (rows_rise calls n k) (rows_below calls n k) (own_row calls n k))
+    subst AreInOrder (sym (flat_more (row_of calls n) k))
+    (in_order_after (flat_map (row_of calls n) (numbers_below k)) (row_of calls n k) (rows_rise calls n k) (row_rises calls k n)
+    (λ i j front back.
+    let low = rows_below calls n k i no_arc front in
+    let at = own_row calls n k j no_arc back in
+    inl (omega arith)))
 
-pub by_caller : (calls : ℕ → ℕ → ℕ) (n : ℕ) → AreByCaller (arcs_among n calls)
+in_order : (calls : ℕ → ℕ → ℕ) (n : ℕ) → AreInOrder (arcs_among n calls)
 unfolding arcs_among
-by_caller calls n = rows_rise calls n n
+in_order calls n = rows_rise calls n n
+
+pub by_caller : (arcs : List FunArc) → AreInOrder arcs → AreByCaller arcs
+by_caller arcs rising i j d le below =
+    rw (get_or_default arcs i d no_arc (omega arith), get_or_default arcs j d no_arc below)
+    (⊎_elim
+    (λ (less : i < j). ⊎_elim (λ lower. omega arith) (λ (same : ((get_or arcs i no_arc).caller ≡ (get_or arcs j no_arc).caller) × ((get_or arcs i no_arc).callee < (get_or arcs j no_arc).callee)). omega arith) (rising i j less below))
+    (λ (past : j ≤ i). let same : i ≡ j = omega arith in subst (λ (k : ℕ). (get_or arcs i no_arc).caller ≤ (get_or arcs k no_arc).caller) same (omega arith))
+    (cases_lt i j))
 
 -- ---- the functions of a profile's calls
 
@@ -276,7 +311,8 @@ are_within es symbols arcs n is is_n i below =
 pub are_called : (es : List ((ℕ × ℕ) × ℕ)) (symbols : List Symbol) (arcs : List FunArc) → arcs ≡ function_arcs es symbols → AreCalled arcs
 are_called es symbols arcs is i below =
     let all = subst (All (IsArcBelow (length symbols))) (sym is) (arcs_below (calls_between es symbols) (length symbols)) in
-    (all i no_arc below).called
+    let a = all i no_arc below in
+    (a.called, a.apart)
 
-pub are_by_caller : (es : List ((ℕ × ℕ) × ℕ)) (symbols : List Symbol) (arcs : List FunArc) → arcs ≡ function_arcs es symbols → AreByCaller arcs
-are_by_caller es symbols arcs is = subst AreByCaller (sym is) (by_caller (calls_between es symbols) (length symbols))
+pub are_in_order : (es : List ((ℕ × ℕ) × ℕ)) (symbols : List Symbol) (arcs : List FunArc) → arcs ≡ function_arcs es symbols → AreInOrder arcs
+are_in_order es symbols arcs is = subst AreInOrder (sym is) (in_order (calls_between es symbols) (length symbols))

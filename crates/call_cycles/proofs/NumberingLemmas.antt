@@ -11,10 +11,10 @@ use Rattle.call_cycles.proofs.SumLemmas.{max_ext, le_max_below}
 use Rattle.call_cycles.proofs.ListLemmas.{same_test}
 
 -- the ends of arcs are components of the graph
-source_within : (g : GraphValue) → IsGraph g → (i : ℕ) → i < arc_count g → source_of g i < component_count g
+pub source_within : (g : GraphValue) → IsGraph g → (i : ℕ) → i < arc_count g → source_of g i < component_count g
 source_within g is i below = is.components.within (arc_at g i).caller (is.arcs.callers i below)
 
-target_within : (g : GraphValue) → IsGraph g → (i : ℕ) → i < arc_count g → target_of g i < component_count g
+pub target_within : (g : GraphValue) → IsGraph g → (i : ℕ) → i < arc_count g → target_of g i < component_count g
 target_within g is i below = is.components.within (arc_at g i).callee (is.arcs.callees i below)
 
 -- an outside arc goes to a component of a lower level, which stands before

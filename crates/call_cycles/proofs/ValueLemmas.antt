@@ -11,7 +11,7 @@ use Rattle.std.proofs.lemmas.List.Sums.{count_by-le-length, fails_before_first, 
 use Rattle.call_cycles.specs.declared.graphs.FunArc.{FunArc}
 use Rattle.call_cycles.specs.Sums.{when, numbers_below, list_of}
 use Rattle.call_cycles.specs.Graph.{GraphValue, IsGraph, AreComponents}
-use Rattle.call_cycles.specs.Arcs.{AreWithin}
+use Rattle.call_cycles.specs.Arcs.{AreInOrder, AreWithin}
 use Rattle.call_cycles.specs.Leaders.{IsLeader, AreLeaders, AreLevels, caller_leader, callee_leader, leaves_leader}
 use Rattle.call_cycles.specs.Heads.{IsHead, IsBefore}
 use Rattle.call_cycles.specs.Parts.{AreCalled, graph_of_parts}
@@ -27,7 +27,7 @@ use Rattle.call_cycles.proofs.RankLemmas.{IsReached, IsCount, IsRank, are_ranks}
 use Rattle.call_cycles.proofs.LevelLemmas.{rank_drops}
 use Rattle.call_cycles.proofs.ComponentLemmas.{are_components}
 use Rattle.call_cycles.proofs.NumberingLemmas.{one_numbering_of}
-use Rattle.call_cycles.proofs.ArcLemmas.{are_within, are_called}
+use Rattle.call_cycles.proofs.ArcLemmas.{are_within, are_called, are_in_order}
 
 -- the least number below n that passes
 first_number : (n : ℕ) (p : ℕ → Bool) (f : ℕ) → f < n → p f ≡ true
@@ -300,15 +300,15 @@ module _ (n : ℕ) (arcs : List FunArc) (within : AreWithin n arcs) where
       seconds [] = refl
       seconds (h ∷ hs) = ap (λ (xs : List ℕ). h ∷ xs) (seconds hs)
 
-pub value_is_graph : (n : ℕ) (arcs : List FunArc) (self_calls : List ℕ) → AreWithin n arcs → AreCalled arcs → IsGraph (graph_in n arcs self_calls)
-value_is_graph n arcs self_calls within called = record {
-  arcs = record { callers = λ i below. (within i below).0; callees = λ i below. (within i below).1; called = called };
+pub value_is_graph : (n : ℕ) (arcs : List FunArc) (self_calls : List ℕ) → AreWithin n arcs → AreCalled arcs → AreInOrder arcs → IsGraph (graph_in n arcs self_calls)
+value_is_graph n arcs self_calls within called rising = record {
+  arcs = record { callers = λ i below. (within i below).0; callees = λ i below. (within i below).1; called = λ i below. (called i below).0; apart = λ i below. (called i below).1; rising = rising };
   components = value_components n arcs within self_calls;
 }
 
 pub only_value : (g : GraphValue) → IsGraph g → g ≡ graph_in g.functions g.arcs g.self_calls
 only_value g is =
-    let value = value_is_graph g.functions g.arcs g.self_calls (λ i below. (is.arcs.callers i below, is.arcs.callees i below)) is.arcs.called in
+    let value = value_is_graph g.functions g.arcs g.self_calls (λ i below. (is.arcs.callers i below, is.arcs.callees i below)) (λ i below. (is.arcs.called i below, is.arcs.apart i below)) is.arcs.rising in
     let same = one_numbering_of g.functions g.arcs g.self_calls g.component g.heads g.self_calls (components_in g.functions g.arcs) (heads_in g.functions g.arcs) is value in
     λ i. graph_of_parts g.functions g.arcs g.self_calls (same.0 i) (same.1 i)
 
@@ -323,4 +323,4 @@ ok_value es symbols (Err e) is functions arcs self_calls = tt
 pub profile_is_graph : (es : List ((ℕ × ℕ) × ℕ)) (symbols : List Symbol) → IsGraph (profile_graph es symbols)
 profile_is_graph es symbols =
     value_is_graph (length symbols) (function_arcs es symbols) (own_calls es symbols)
-    (are_within es symbols (function_arcs es symbols) (length symbols) refl refl) (are_called es symbols (function_arcs es symbols) refl)
+    (are_within es symbols (function_arcs es symbols) (length symbols) refl refl) (are_called es symbols (function_arcs es symbols) refl) (are_in_order es symbols (function_arcs es symbols) refl)

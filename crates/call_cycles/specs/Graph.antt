@@ -100,11 +100,17 @@ pub record AreComponents (g : GraphValue) : Type 0 where
   pub levels : IsLevel g level
   pub ordered : (c d : ℕ) → c < d → d < component_count g → ComesBefore g level c d
 
--- arcs go between different functions, each with calls
+-- arcs are in order of caller, then callee
+abbrev pub IsArcBefore : FunArc → FunArc → Type 0
+IsArcBefore a b = (a.caller < b.caller) ⊎ ((a.caller ≡ b.caller) × (a.callee < b.callee))
+
+-- arcs go between different functions, each with calls, and there is one at most from each function to each
 pub record AreArcs (g : GraphValue) : Type 0 where
   pub callers : (i : ℕ) → i < arc_count g → (arc_at g i).caller < g.functions
   pub callees : (i : ℕ) → i < arc_count g → (arc_at g i).callee < g.functions
   pub called : (i : ℕ) → i < arc_count g → 0 < (arc_at g i).count
+  pub apart : (i : ℕ) → i < arc_count g → (arc_at g i).caller ≢ (arc_at g i).callee
+  pub rising : (i j : ℕ) → i < j → j < arc_count g → IsArcBefore (arc_at g i) (arc_at g j)
 
 pub record IsGraph (g : GraphValue) : Type 0 where
   pub arcs : AreArcs g

@@ -4,14 +4,14 @@ ghost use Rattle.std.specs.Prelude.{◌≡◌, ◌<◌, ◌≤◌, ◌^◌, ◌+
 ghost use Rattle.elf32_syms.specs.Owners.{IsAscending};
 ghost use Rattle.call_cycles.specs.Calls.{function_arcs, own_calls};
 ghost use Rattle.call_cycles.specs.Graph.{IsGraph, AreComponents, all_calls, entering_of};
-ghost use Rattle.call_cycles.specs.Arcs.{AreByCaller, AreWithin};
+ghost use Rattle.call_cycles.specs.Arcs.{AreByCaller, AreInOrder, AreWithin};
 ghost use Rattle.call_cycles.specs.Parts.{headless_graph, graph_of_parts, AreCalled, arcs_calls};
 ghost use Rattle.call_cycles.specs.Sums.{list_of, sum_below};
 ghost use Rattle.call_cycles.specs.Values.{profile_graph};
 
 use crate::graphs::{FunArc, Graph};
 use crate::{calls, depth, level, number};
-use elf32_syms::Symbol;
+use elf32_syms::{Symbol, symbol_count};
 use gmon_data::Profile;
 use std::alloc::{AllocError, Global};
 
@@ -71,7 +71,7 @@ fn graph_of(
     self_calls: Vec<u64>,
 ) -> Result<Graph, AllocError>
     requires within { AreWithin functions arcs.items }
-    requires ordered { AreByCaller arcs.items }
+    requires ordered { AreInOrder arcs.items }
     requires called { AreCalled arcs.items }
     requires few { arcs_calls arcs.items < 2 ^ 59 }
     requires self_calls { length self_calls.items ≡ functions }
@@ -93,19 +93,6 @@ fn graph_of(
         members,
         entering,
     })
-}
-
-/// How many functions symbols name.
-fn count_of(symbols: &[Symbol]) -> u32
-    requires { IsAscending symbols.now }
-    ensures { result ≡ length symbols.now }
-{
-    if symbols.is_empty() {
-        return 0;
-    }
-    // Each symbol has an address of its own, so their number is at most the last end.
-    let _last_end = symbols[symbols.len() - 1].end;
-    symbols.len() as u32
 }
 
 /// The graph of the functions that symbols name and of a profile's calls between them.
@@ -131,7 +118,7 @@ pub fn graph(alloc: Global, profile: &Profile, symbols: &[Symbol]) -> Result<Gra
     ensures value { IfOk result (λ g. g ≡ profile_graph profile.now.arcs symbols.now) }
 {
     let sums = calls::pair_sums(alloc, profile, symbols)?;
-    let functions = count_of(symbols);
+    let functions = symbol_count(symbols);
     let arcs = calls::arcs_of(alloc, &sums)?;
     let self_calls = calls::self_calls_of(alloc, functions, &sums)?;
     graph_of(alloc, functions, arcs, self_calls)

@@ -1,7 +1,7 @@
 //! A graph of functions: arcs, components and their order.
 
-ghost use Rattle.std.specs.Prelude.{◌≡◌, ◌<◌, slice_index};
-ghost use Rattle.call_cycles.specs.Graph.{IsGraph, arc_count, arc_at, component_count, component_of, head_of, entering_of, is_cycle};
+ghost use Rattle.std.specs.Prelude.{◌≡◌, ◌≢◌, ◌<◌, ℕ, slice_index};
+ghost use Rattle.call_cycles.specs.Graph.{IsGraph, IsArcBefore, arc_count, arc_at, component_count, component_of, head_of, entering_of, is_cycle};
 
 use std::marker::Model;
 
@@ -41,6 +41,13 @@ impl Model for Graph {
 }
 
 impl Graph {
+    /// What is true of each graph.
+    pub fn holds(&self)
+        ensures { IsGraph self.now }
+    {
+        let _functions = self.functions;
+    }
+
     /// The number of functions.
     pub fn function_count(&self) -> u32
         ensures value { result ≡ self.now.functions }
@@ -64,6 +71,8 @@ impl Graph {
         ensures callers { result.caller < self.now.functions }
         ensures callees { result.callee < self.now.functions }
         ensures called { 0 < result.count }
+        ensures apart { result.caller ≢ result.callee }
+        ensures rising { (j : ℕ) → j < i → IsArcBefore (arc_at self.now j) result }
     {
         self.arcs[i]
     }

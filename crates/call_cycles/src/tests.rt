@@ -1,44 +1,12 @@
-ghost use Rattle.std.specs.Prelude.{◌<◌, ◌≤◌, IfOk};
-ghost use Rattle.elf32_syms.specs.Owners.{IsAscending};
+ghost use Rattle.std.specs.Prelude.{◌<◌, ◌≤◌};
 
 mod plain;
 
 use super::*;
-use elf32_syms::Symbol;
 use gmon_data::Profile;
-use gp_base::Name;
 use std::alloc::{AllocError, Global};
 use std::test::Fail;
-
-/// So many functions of so many addresses each, in a row from 0x1_0000 on.
-fn symbols(alloc: Global, count: u32, size: u32) -> Result<Vec<Symbol>, AllocError>
-    requires count { count ≤ 65536 }
-    requires least { 0 < size }
-    requires most { size ≤ 256 }
-    ensures ordered { IfOk result (λ v. IsAscending v.items) }
-{
-    let mut symbols = Vec::new(alloc);
-    let mut addr = 0x1_0000;
-    for _i in 0..count {
-        let end = addr + size;
-        symbols.push(Symbol {
-            addr,
-            end,
-            name: Name::new(alloc),
-        })?;
-        addr = end;
-    }
-    Ok(symbols)
-}
-
-/// A profile of at most 1000 arcs of at most 255 calls each: call site, callee and count.
-fn profile(alloc: Global, arcs: &[(u32, u32, u64)]) -> Result<Profile, AllocError> {
-    let mut profile = Profile::new(alloc);
-    for arc in &arcs[..arcs.len().min(1000)] {
-        profile.add_calls(arc.0, arc.1, arc.2.min(255))?;
-    }
-    Ok(profile)
-}
+use test_profiles::{profile_of_arcs, profile_of_calls, ring_of_calls, symbols_of};
 
 /// Caller, callee and count of each arc.
 fn arcs_text(alloc: Global, graph: &Graph) -> Result<String, AllocError> {
@@ -87,14 +55,9 @@ fn components_text(alloc: Global, graph: &Graph) -> Result<String, AllocError> {
 }
 
 /// Arcs, self calls and components of the graph of so many functions.
-fn graph_text(
-    alloc: Global,
-    functions: u16,
-    arcs: &[(u32, u32, u64)],
-) -> Result<String, AllocError> {
-    let symbols = symbols(alloc, u32::from(functions), 16)?;
-    let profile = profile(alloc, arcs)?;
-    let found = graph(alloc, &profile, symbols.as_slice())?;
+fn graph_text(alloc: Global, functions: u16, profile: &Profile) -> Result<String, AllocError> {
+    let symbols = symbols_of(alloc, u32::from(functions), 16)?;
+    let found = graph(alloc, profile, symbols.as_slice())?;
     let arcs = arcs_text(alloc, &found)?;
     let selves = selves_text(alloc, &found)?;
     let components = components_text(alloc, &found)?;
@@ -156,26 +119,11 @@ fn arcs_of_a_profile(rt: HostRuntime) -> Result<(), Fail> {
         ),
     ];
     for (name, arcs, want) in rows {
-        let text = graph_text(rt.alloc(), 3, arcs.as_slice())?;
+        let profile = profile_of_arcs(rt.alloc(), arcs.as_slice())?;
+        let text = graph_text(rt.alloc(), 3, &profile)?;
         assert_eq!(rt; text.as_str(), want, "{name}");
     }
     Ok(())
-}
-
-/// The address of a function of 16 addresses.
-fn address(f: u16) -> u32
-    ensures { result ≤ 1114112 }
-{
-    0x1_0000 + 16 * u32::from(f)
-}
-
-/// Arcs of a profile that have these calls: caller, callee and count, by the functions' numbers.
-fn addresses(alloc: Global, calls: &[(u16, u16, u64)]) -> Result<Vec<(u32, u32, u64)>, AllocError> {
-    let mut arcs = Vec::new(alloc);
-    for (caller, callee, count) in calls {
-        arcs.push((address(*caller) + 4, address(*callee), *count))?;
-    }
-    Ok(arcs)
 }
 
 #[test]
@@ -228,8 +176,8 @@ fn components_and_their_order(rt: HostRuntime) -> Result<(), Fail> {
         ),
     ];
     for (name, functions, calls, want) in rows {
-        let arcs = addresses(rt.alloc(), calls)?;
-        let text = graph_text(rt.alloc(), functions, arcs.as_slice())?;
+        let profile = profile_of_calls(rt.alloc(), calls)?;
+        let text = graph_text(rt.alloc(), functions, &profile)?;
         assert_eq!(rt; text.as_str(), want, "{name}");
     }
     Ok(())
@@ -242,9 +190,8 @@ fn ring(alloc: Global) -> Result<Graph, AllocError> {
         calls.push((f, (f + 499) % 500, 1))?;
     }
     calls.push((500, 250, 7))?;
-    let arcs = addresses(alloc, calls.as_slice())?;
-    let profile = profile(alloc, arcs.as_slice())?;
-    let symbols = symbols(alloc, 501, 16)?;
+    let profile = profile_of_calls(alloc, calls.as_slice())?;
+    let symbols = symbols_of(alloc, 501, 16)?;
     graph(alloc, &profile, symbols.as_slice())
 }
 
@@ -315,28 +262,18 @@ fn random_graphs_are_those_of_a_plain_search(rt: HostRuntime) -> Result<(), Fail
     for k in 0..1000u32 {
         let functions = random.below(12) + 1;
         let calls = random_calls(alloc, &mut random, functions)?;
-        let arcs = addresses(alloc, calls.as_slice())?;
-        let text = graph_text(alloc, functions, arcs.as_slice())?;
+        let profile = profile_of_calls(alloc, calls.as_slice())?;
+        let text = graph_text(alloc, functions, &profile)?;
         let want = plain::text(alloc, usize::from(functions), calls.as_slice())?;
         assert_eq!(rt; text, want, "{k}");
     }
     Ok(())
 }
 
-/// 65,536 functions, each of which calls the 32 that follow it in a ring; or, cut, only those of them
-/// that have greater numbers.
+/// The graph of 65,536 functions, each of which calls the 32 that follow it in a ring, cut or not.
 fn wide_ring(alloc: Global, cut: bool) -> Result<Graph, AllocError> {
-    let mut profile = Profile::new(alloc);
-    for k in 0..2_097_152u32 {
-        let caller = k / 32;
-        let callee = caller + 1 + k % 32;
-        if !cut || callee < 65_536 {
-            let from = 0x1_0000 + 256 * caller;
-            let to = 0x1_0000 + 256 * (callee % 65_536);
-            profile.add_calls(from, to, 1)?;
-        }
-    }
-    let symbols = symbols(alloc, 65_536, 256)?;
+    let profile = ring_of_calls(alloc, 16, cut)?;
+    let symbols = symbols_of(alloc, 65_536, 16)?;
     graph(alloc, &profile, symbols.as_slice())
 }
 

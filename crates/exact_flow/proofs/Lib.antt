@@ -1,3 +1,4 @@
 pub mod OrderLemmas
 pub mod StateLemmas
 pub mod CallLemmas
+pub mod WideLemmas

@@ -1,26 +1,29 @@
 -- The flow while its arcs are done one after another.
-use Rattle.std.proofs.Common.{◌≡◌, ◌≢◌, ◌<◌, ℕ, zero, suc, ◌+◌, ◌*◌, true, false, List, length, map, replicate, get_or, refl, ap, sym, ◌∙◌, subst, ⊎_elim, arith, length-set, get_or-set_same, get_or-set_other}
-use Rattle.std.specs.Prelude.{◌==◌, slice_index}
+use Rattle.std.proofs.Common.{◌≡◌, ◌≢◌, ◌<◌, ℕ, zero, suc, ◌+◌, ◌*◌, true, false, Bool, List, length, map, replicate, get_or, refl, ap, sym, ◌∙◌, subst, ⊎_elim, arith, length-set, get_or-set_same, get_or-set_other}
+use Rattle.std.specs.Prelude.{◌==◌, slice_index, if◌then◌else◌}
 use Rattle.std.specs.List.{sum_by}
 use Rattle.std.proofs.lemmas.Bool.{cases_eq, eq-eqb, ne_eqb, true≢false}
-use Rattle.std.proofs.lemmas.List.{get_or_default, take_all, length-map, length-replicate}
-use Rattle.call_cycles.specs.Sums.{sum_below, when}
-use Rattle.call_cycles.specs.Graph.{GraphValue, IsGraph, arc_at, arc_count, component_count, head_of, source_of, target_of, is_outside, leaves, entering_of}
+use Rattle.std.proofs.lemmas.List.{get_or_default, ext_get_or, take_all, length-map, length-replicate}
+use Rattle.std.proofs.lemmas.Grind.{same_number_lists}
+use Rattle.std.proofs.lemmas.List.FromFn.{length-map-range_with_len, get_or-map-range_with_len}
+use Rattle.call_cycles.specs.Sums.{sum_below, when, list_of, numbers_below}
+use Rattle.call_cycles.specs.Graph.{GraphValue, IsGraph, arc_at, arc_count, component_count, source_of, target_of, is_outside, leaves, entering_of}
 use Rattle.call_cycles.specs.Flow.{self_in}
 use Rattle.call_cycles.specs.ExactFlow.{ExactTimes, IsExactFlow, carried_exactly}
+use Rattle.call_cycles.proofs.ListLemmas.{list_at, list_long}
+use Rattle.call_cycles.proofs.NumberingLemmas.{source_within, target_within, goes_down}
 use Rattle.fraction128.specs.Fractions.{Fraction, fraction, lowest, sum_of, IsValue}
 use Rattle.fraction128.specs.declared.fracs.Frac.{Frac}
 use Rattle.fraction128.specs.Values.{value_of}
 use Rattle.fraction128.proofs.ValueLemmas.{lowest_is, lowest_same, whole_is, whole_lowest, product_value, sum_value}
 use Rattle.propagate.specs.Arcs.{IsCallerOrder, IsLeaving, carried_by_first}
-use Rattle.propagate.proofs.ConservationLemmas.{source_within, target_within}
-use Rattle.propagate.proofs.UniqueLemmas.{goes_down}
 use Rattle.propagate.proofs.ExactLemmas.{entered}
 use Rattle.propagate.proofs.TimeLemmas.{arc_here, all_done, one_more}
-use Rattle.exact_flow.specs.Times.{ExactFlowValue, IsSized, AreExactTimes, time_at, in_grains}
-use Rattle.exact_flow.specs.Steps.{StepNumbers, FitsStep, self_part, child_part, with_both, step_at, brought_before, IsNoneWide, IsFirstWide}
-use Rattle.exact_flow.specs.Answers.{step_in, put_at}
-use Rattle.exact_flow.proofs.OrderLemmas.{lower_numbers, stands_before}
+use Rattle.exact_flow.specs.Times.{ExactFlowValue, HasTimes, time_at, in_grains}
+use Rattle.exact_flow.specs.Steps.{StepNumbers, FitsStep, self_part, child_part, with_both, step_at, brought_before, IsNoneWide}
+use Rattle.exact_flow.specs.Progress.{IsSized, step_in, put_at}
+use Rattle.exact_flow.specs.Solution.{by_arcs, times_in}
+use Rattle.exact_flow.proofs.OrderLemmas.{lower_numbers}
 
 -- an arc has its two times, and its step fits
 pub record IsDone (g : GraphValue) (shares : List ℕ) (x : ExactTimes) (e : ExactFlowValue) (i : ℕ) : Type 0 where
@@ -124,6 +127,7 @@ module _ (g : GraphValue) (shares : List ℕ) (order : List (ℕ × ℕ)) (n : �
       children = length-set e.child p.0 after ∙ so_far.sized.children;
       arc_selves = length-set e.arc_self p.1 self ∙ so_far.sized.arc_selves;
       arc_children = length-set e.arc_child p.1 child ∙ so_far.sized.arc_children;
+      outside = so_far.sized.outside;
       self = so_far.sized.self;
       inside_self = λ i low inside. get_or-set_other e.arc_self p.1 i self (fraction 0 1) (kept_inside i inside) ∙ so_far.sized.inside_self i low inside;
       inside_child = λ i low inside. get_or-set_other e.arc_child p.1 i child (fraction 0 1) (kept_inside i inside) ∙ so_far.sized.inside_child i low inside;
@@ -189,18 +193,29 @@ module _ (g : GraphValue) (shares : List ℕ) (order : List (ℕ × ℕ)) (n : �
     pub one_more_done : IsSoFar g shares order (n + 1) next
     one_more_done = record { sized = more_sized; child = more_child; done = more_done }
 
-  -- a step that does not fit is the first one
-  pub first_wide : (head : ℕ) → head ≡ head_of g p.0 → (FitsStep (step_in g e p.1) → ⊥) → (x : ExactTimes) → IsExactFlow g shares x → IsFirstWide g shares x head p.1
-  first_wide head is_head wide x exact = record {
-    within = leaving.0;
-    outside = leaving.2;
-    from = is_head ∙ ap (head_of g) leaving.1;
-    wide = λ fits. wide (subst FitsStep (sym (same_numbers x exact)) fits);
-    before = λ j low out first.
-        let there = stands_before g order ordered n p below at j low out first in
-        let done = so_far.done x exact there.0 (source_of g j, j) there.1 in
-        subst (λ (q : ℕ × ℕ). FitsStep (step_at g shares x q.1)) there.2 done.fits;
-  }
+-- ---- all arcs are done
+
+same_times : (times : List Fraction) (n : ℕ) (time : ℕ → Fraction) → length times ≡ n → ((i : ℕ) → i < n → time_at times i ≡ time i) → times ≡ map time (numbers_below n)
+same_times times n time long each =
+    ext_get_or (fraction 0 1) times (map time (numbers_below n)) (long ∙ sym (length-map-range_with_len time 0 n))
+    (λ i low. let inside : i < n = omega (arith, long) in each i inside ∙ sym (get_or-map-range_with_len time 0 n i i (fraction 0 1) inside (omega arith)))
+
+same_arcs : (g : GraphValue) (times : List Fraction) (time : ℕ → Fraction) → length times ≡ arc_count g
+    → ((i : ℕ) → i < arc_count g → is_outside g i ≡ true → time_at times i ≡ time i)
+    → ((i : ℕ) → i < arc_count g → is_outside g i ≡ false → time_at times i ≡ fraction 0 1)
+    → times ≡ by_arcs g time
+same_arcs g times time long outside inside = same_times times (arc_count g) (λ i. if is_outside g i then time i else fraction 0 1) long (λ i low. by i low (is_outside g i) refl)
+  where
+    by : (i : ℕ) → i < arc_count g → (b : Bool) → is_outside g i ≡ b → time_at times i ≡ (if b then time i else fraction 0 1)
+    by i low true at = outside i low at
+    by i low false at = inside i low at
+
+pub map_below : (n : ℕ) (f h : ℕ → Fraction) → ((i : ℕ) → i < n → f i ≡ h i) → map f (numbers_below n) ≡ map h (numbers_below n)
+map_below n f h same =
+    same_times (map f (numbers_below n)) n h (length-map-range_with_len f 0 n) (λ i low. get_or-map-range_with_len f 0 n i i (fraction 0 1) low (omega arith) ∙ same i low)
+
+pub has_times : (g : GraphValue) (shares : List ℕ) (e : ExactFlowValue) → IsSized g shares e → HasTimes g e
+has_times g shares e sized = record { selves = sized.selves; children = sized.children; arc_selves = sized.arc_selves; arc_children = sized.arc_children; outside = sized.outside.whole }
 
 module _ (g : GraphValue) (shares : List ℕ) (order : List (ℕ × ℕ)) (n : ℕ) (e : ExactFlowValue) (ordered : IsCallerOrder g order) (last : n ≡ length order) (so_far : IsSoFar g shares order n e)
     (x : ExactTimes) (exact : IsExactFlow g shares x) where
@@ -209,14 +224,26 @@ module _ (g : GraphValue) (shares : List ℕ) (order : List (ℕ × ℕ)) (n : �
       let there = ordered.each i low out in
       subst (λ (q : ℕ × ℕ). IsDone g shares x e q.1) there.2 (so_far.done x exact there.0 (source_of g i, i) (let k = there.1 in omega arith))
 
-  pub all_times : AreExactTimes g x e
-  all_times = record {
-    child = λ c low.
-        so_far.child x exact c low
-        ∙ ap (in_grains x) (ap (λ (xs : List (ℕ × ℕ)). sum_by (λ (p : ℕ × ℕ). when (p.0 == c) (carried_exactly x p.1)) xs) (take_all n order (omega arith)) ∙ ordered.all (carried_exactly x) c ∙ sym (exact.child c low));
-    arc_self = λ i low out. let done = arc_done i low out in done.arc_self;
-    arc_child = λ i low out. let done = arc_done i low out in done.arc_child;
-  }
+  child_at : (c : ℕ) → c < component_count g → time_at e.child c ≡ in_grains x (x.child c)
+  child_at c low =
+      so_far.child x exact c low
+      ∙ ap (in_grains x) (ap (λ (xs : List (ℕ × ℕ)). sum_by (λ (p : ℕ × ℕ). when (p.0 == c) (carried_exactly x p.1)) xs) (take_all n order (omega arith)) ∙ ordered.all (carried_exactly x) c ∙ sym (exact.child c low))
+
+  pub all_times : e ≡ times_in g shares x
+  all_times = λ i. record { self = self i; child = child i; arc_self = arc_self i; arc_child = arc_child i; outside = so_far.sized.outside.whole i }
+    where
+      self : e.self ≡ list_of (component_count g) (self_in g shares)
+      self = same_number_lists e.self (list_of (component_count g) (self_in g shares)) (so_far.sized.selves ∙ sym (list_long (component_count g) (self_in g shares) _ refl))
+          (λ c low. let inside : c < component_count g = omega (arith, so_far.sized.selves) in so_far.sized.self c inside ∙ sym (list_at (component_count g) (self_in g shares) _ refl c inside))
+
+      child : e.child ≡ map (λ c. in_grains x (x.child c)) (numbers_below (component_count g))
+      child = same_times e.child (component_count g) (λ c. in_grains x (x.child c)) so_far.sized.children child_at
+
+      arc_self : e.arc_self ≡ by_arcs g (λ i. in_grains x (x.arc_self i))
+      arc_self = same_arcs g e.arc_self (λ i. in_grains x (x.arc_self i)) so_far.sized.arc_selves (λ i low out. (arc_done i low out).arc_self) so_far.sized.inside_self
+
+      arc_child : e.arc_child ≡ by_arcs g (λ i. in_grains x (x.arc_child i))
+      arc_child = same_arcs g e.arc_child (λ i. in_grains x (x.arc_child i)) so_far.sized.arc_children (λ i low out. (arc_done i low out).arc_child) so_far.sized.inside_child
 
   pub none_wide : IsNoneWide g shares x
   none_wide i low out = let done = arc_done i low out in done.fits

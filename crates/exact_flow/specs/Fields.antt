@@ -10,4 +10,5 @@ times_of a = record {
   child = map value_of a.children.items;
   arc_self = map value_of a.arc_selves.items;
   arc_child = map value_of a.arc_children.items;
+  outside = a.outside.items;
 }

@@ -1,5 +1,9 @@
 pub mod Times
 pub mod Steps
+pub mod Solution
+pub mod Wide
+pub mod FirstSteps
 pub mod Fields
 pub mod StepValues
+pub mod Progress
 pub mod Answers

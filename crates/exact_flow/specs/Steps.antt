@@ -1,12 +1,12 @@
 -- The steps by which exact times are found, in fractions in lowest terms of numbers without bound, and the first step
 -- that does not fit into 128 bits. Components are done in order, and of each the outside arcs that leave it in order.
-use Rattle.std.specs.Prelude.{◌≡◌, ◌<◌, ℕ, true, List}
+use Rattle.std.specs.Prelude.{◌≡◌, ◌<◌, ◌&&◌, ℕ, Bool, true, List}
 use Rattle.std.proofs.Common.{◌⊎◌}
 use Rattle.call_cycles.specs.Sums.{sum_below, when}
 use Rattle.call_cycles.specs.Graph.{GraphValue, arc_at, arc_count, head_of, source_of, target_of, is_outside, leaves, entering_of}
 use Rattle.call_cycles.specs.Flow.{self_in}
 use Rattle.call_cycles.specs.ExactFlow.{ExactTimes, carried_exactly}
-use Rattle.fraction128.specs.Fractions.{Fraction, fraction, lowest, sum_of, product_of, FitsSum, FitsProduct}
+use Rattle.fraction128.specs.Fractions.{Fraction, fraction, lowest, sum_of, product_of, FitsSum, FitsProduct, fits_sum, fits_product}
 use Rattle.exact_flow.specs.Times.{in_grains}
 
 -- the time of a component goes to an arc in proportion to its calls, and comes to what arcs before it brought to its caller
@@ -34,6 +34,9 @@ pub record FitsStep (n : StepNumbers) : Type 0 where
   pub child : FitsProduct n.child n.calls
   pub first : FitsSum n.before (self_part n)
   pub second : FitsSum (with_self n) (child_part n)
+
+abbrev pub fits_step : StepNumbers → Bool
+fits_step n = fits_product (fraction n.self 1) n.calls && fits_product n.child n.calls && fits_sum n.before (self_part n) && fits_sum (with_self n) (child_part n)
 
 -- what the outside arcs with numbers below i bring to the component that arc i leaves
 abbrev pub brought_before : GraphValue → ExactTimes → ℕ → ℕ

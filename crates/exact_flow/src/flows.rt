@@ -15,6 +15,7 @@ pub struct ExactFlow {
     pub(crate) children: Vec<Frac>,
     pub(crate) arc_selves: Vec<Frac>,
     pub(crate) arc_children: Vec<Frac>,
+    pub(crate) outside: Vec<(u32, usize)>,
 }
 
 impl Model for ExactFlow {
@@ -60,5 +61,13 @@ impl ExactFlow {
         ensures { value_of result ≡ time_at self.now.arc_child i }
     {
         self.arc_children[i]
+    }
+
+    /// The outside arcs in order: those that leave lower components first, and of one component those with lower
+    /// numbers. Each has the component that it leaves in front.
+    pub fn outside_arcs(&self) -> &[(u32, usize)]
+        ensures { result.now ≡ self.now.outside }
+    {
+        self.outside.as_slice()
     }
 }

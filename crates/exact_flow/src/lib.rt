@@ -6,6 +6,7 @@
 #![tactic(auto)]
 
 pub mod flows;
+pub mod laws;
 pub mod refusal;
 pub mod solve;
 pub mod step;

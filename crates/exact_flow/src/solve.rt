@@ -1,14 +1,18 @@
 //! The exact times of a graph, from callees to callers.
 
-ghost use Rattle.std.specs.Prelude.{◌≡◌, ◌<◌, ◌↔◌, ◌*◌, ℕ, true, length, IfOk, IfErr, IfSome, IsSome};
+ghost use Rattle.std.specs.Prelude.{◌≡◌, ◌<◌, ◌↔◌, ◌*◌, ℕ, true, None, length, IfOk, IfErr, IfSome, IsSome};
 ghost use Rattle.call_cycles.specs.Graph.{arc_at, arc_count, component_count, source_of, target_of, is_outside, entering_of};
 ghost use Rattle.call_cycles.specs.ExactFlow.{ExactTimes, IsExactFlow, exact_time_of_roots};
 ghost use Rattle.symbol_shares.specs.Shares.{attributed_of};
 ghost use Rattle.fraction128.specs.Fractions.{fraction, lowest};
 ghost use Rattle.fraction128.specs.Values.{value_of};
-ghost use Rattle.exact_flow.specs.Times.{IsSized, AreExactTimes, time_at};
-ghost use Rattle.exact_flow.specs.Steps.{FitsStep, self_part, child_part, with_both, IsNoneWide};
-ghost use Rattle.exact_flow.specs.Answers.{step_in, IsWideAnswer, put_at};
+ghost use Rattle.propagate.specs.ExactSolution.{exact_in};
+ghost use Rattle.exact_flow.specs.Times.{HasTimes, time_at};
+ghost use Rattle.exact_flow.specs.Steps.{FitsStep, self_part, child_part, with_both};
+ghost use Rattle.exact_flow.specs.Solution.{times_in, exact_flow_in};
+ghost use Rattle.exact_flow.specs.Wide.{first_wide};
+ghost use Rattle.exact_flow.specs.Progress.{IsSized, step_in, put_at};
+ghost use Rattle.exact_flow.specs.Answers.{IsWideAnswer};
 
 use crate::flows::ExactFlow;
 use crate::refusal::ExactRefusal;
@@ -27,7 +31,7 @@ fn calls(graph: &Graph, i: usize) -> Frac
 {
     let arc = graph.arc(i);
     let all = graph.entering(graph.component(arc.callee));
-    let _count = graph.arc_count();
+    graph.holds();
     Frac::new(u128::from(arc.count), u128::from(all)).unwrap()
 }
 
@@ -79,6 +83,7 @@ fn start(alloc: Global, graph: &Graph, shares: &Shares) -> Result<ExactFlow, All
         children: vec![in alloc; none; graph.component_count() as usize]?,
         arc_selves: vec![in alloc; none; graph.arc_count()]?,
         arc_children: vec![in alloc; none; graph.arc_count()]?,
+        outside: outside_arcs(alloc, graph)?,
     })
 }
 
@@ -88,19 +93,20 @@ fn start(alloc: Global, graph: &Graph, shares: &Shares) -> Result<ExactFlow, All
 /// Without memory for it, and for a graph of more than 2^32 - 1 arcs, the answer is `OutOfMemory`.
 pub fn exact(alloc: Global, graph: &Graph, shares: &Shares) -> Result<ExactFlow, ExactRefusal>
     requires each { length shares.now.of ≡ graph.now.functions }
-    ensures sized { IfOk result (IsSized graph.now shares.now.of) }
-    ensures times { IfOk result (λ e. (x : ExactTimes) → IsExactFlow graph.now shares.now.of x → AreExactTimes graph.now x e) }
-    ensures fits { IfOk result (λ e. (x : ExactTimes) → IsExactFlow graph.now shares.now.of x → IsNoneWide graph.now shares.now.of x) }
+    ensures sized { IfOk result (HasTimes graph.now) }
+    ensures solved { IsExactFlow graph.now shares.now.of (exact_in graph.now shares.now.of) }
+    ensures value { IfOk result (λ e. e ≡ exact_flow_in graph.now shares.now.of) }
+    ensures times { IfOk result (λ e. (x : ExactTimes) → IsExactFlow graph.now shares.now.of x → e ≡ times_in graph.now shares.now.of x) }
     ensures whole { IfOk result (λ e. (x : ExactTimes) → IsExactFlow graph.now shares.now.of x → exact_time_of_roots graph.now shares.now.of x ≡ x.grain * attributed_of shares.now) }
-    ensures wide { IfErr result (λ r. (x : ExactTimes) → IsExactFlow graph.now shares.now.of x → IsWideAnswer graph.now shares.now.of x r) }
+    ensures fits { IfOk result (λ e. first_wide graph.now shares.now.of ≡ None) }
+    ensures wide { IfErr result (IsWideAnswer graph.now shares.now.of) }
 {
     if graph.arc_count() > u32::MAX as usize {
         return Err(ExactRefusal::OutOfMemory);
     }
-    let order = outside_arcs(alloc, graph)?;
     let mut flow = start(alloc, graph, shares)?;
-    for p in order.iter() {
-        let (c, i) = *p;
+    for k in 0..flow.outside_arcs().len() {
+        let (c, i) = flow.outside_arcs()[k];
         match step(graph, &flow, i) {
             Some(handed) => put(&mut flow, c, i, &handed),
             None => {

@@ -12,7 +12,7 @@ use Rattle.flat_report.specs.Sources.{Sources, name_of, share_of, calls_of}
 use Rattle.flat_report.specs.Entries.{Entry, entry_of, entry_cmp, comes_before}
 use Rattle.flat_report.specs.Rows.{entry_of_row, IsRowOf}
 use Rattle.flat_report.specs.declared.rows.Row.{Row}
-use Rattle.flat_report.proofs.OrderLemmas.{IsExactOrder, order_of}
+use Rattle.propagate.proofs.AscentLemmas.{IsExactOrder, order_of}
 
 entry_total : IsTotalOrder entry_cmp
 entry_total =

@@ -1,5 +1,5 @@
 -- Fractions of whole numbers without bound, in lowest terms, and which sums and products of them fit into 128 bits.
-use Rattle.std.specs.Prelude.{◌≡◌, ℕ, zero, suc, ◌+◌, ◌*◌, ◌/◌, ◌%◌, ◌^◌, ◌<◌, ◌==◌, cond}
+use Rattle.std.specs.Prelude.{◌≡◌, ℕ, zero, suc, ◌+◌, ◌*◌, ◌/◌, ◌%◌, ◌^◌, ◌<◌, ◌==◌, ◌&&◌, nat_lt, Bool, cond}
 use Rattle.std.specs.Ordering.{nat_cmp}
 use Rattle.std.specs.declared.cmp.Ordering.{Ordering}
 
@@ -45,12 +45,22 @@ product_of a b = lowest (a.num * b.num) (a.den * b.den)
 abbrev pub Fits : ℕ → ℕ → Type 0
 Fits n d = (n < 2 ^ 128) × (d < 2 ^ 128)
 
+abbrev pub fits : ℕ → ℕ → Bool
+fits n d = nat_lt n (2 ^ 128) && nat_lt d (2 ^ 128)
+
 -- a sum fits before it is brought to lowest terms, a product in lowest terms
 abbrev pub FitsSum : Fraction → Fraction → Type 0
 FitsSum a b = Fits (sum_num a b) (sum_den a b)
 
 abbrev pub FitsProduct : Fraction → Fraction → Type 0
 FitsProduct a b = Fits (product_of a b).num (product_of a b).den
+
+-- the same as tests
+abbrev pub fits_sum : Fraction → Fraction → Bool
+fits_sum a b = fits (sum_num a b) (sum_den a b)
+
+abbrev pub fits_product : Fraction → Fraction → Bool
+fits_product a b = fits (product_of a b).num (product_of a b).den
 
 -- the order of the values n / d and p / q
 abbrev pub cross_cmp : ℕ → ℕ → ℕ → ℕ → Ordering

@@ -6,7 +6,7 @@ use Rattle.std.specs.Cmp.{IsTotalOrder, nat_cmp_total, then_total, on_total}
 use Rattle.std.specs.Cmp.Lexicographic.{slice_cmp}
 use Rattle.std.proofs.lemmas.Cmp.{nat_list_cmp_total, back_total}
 use Rattle.std.proofs.lemmas.Map.Lookups.{CmpEqualImpliesEq, exact_unsigned, exact_bytes, exact_pairs}
-use Rattle.flat_report.proofs.OrderLemmas.{IsExactOrder, order_of}
+use Rattle.propagate.proofs.AscentLemmas.{IsExactOrder, order_of}
 use Rattle.graph_report.specs.Entries.{Entry, entry_cmp, comes_before, first_function, kind_of}
 use Rattle.graph_report.specs.declared.subjects.Subject.{Subject}
 use Rattle.graph_report.specs.declared.subjects.Subject.TheVariants.{Cycle, Function}

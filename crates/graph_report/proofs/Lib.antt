@@ -11,3 +11,4 @@ pub mod NamedLemmas
 pub mod PrintLemmas
 pub mod TextLemmas
 pub mod ReportLemmas
+pub mod ExactLemmas

@@ -4,10 +4,10 @@ use Rattle.std.proofs.lemmas.Bool.{eq-eqb}
 use Rattle.call_cycles.specs.Flow.{carried_by, time_of}
 use Rattle.call_cycles.specs.Graph.{arc_count, component_count, component_of, is_outside, leaves, source_of}
 use Rattle.call_cycles.specs.Sums.{when}
+use Rattle.call_cycles.proofs.NumberingLemmas.{source_within}
 use Rattle.symbol_shares.specs.Shares.{attributed_of}
 use Rattle.flat_report.specs.Sources.{Sources, total_of}
 use Rattle.propagate.proofs.BoundLemmas.{function_within, within_all}
-use Rattle.propagate.proofs.ConservationLemmas.{source_within}
 use Rattle.propagate.proofs.SumLemmas.{term_le_sum}
 use Rattle.graph_report.specs.Inputs.{AreOfOne}
 

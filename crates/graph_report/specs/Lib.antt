@@ -1,6 +1,7 @@
 pub mod Cycles
 pub mod Entries
 pub mod GraphText
+pub mod ExactText
 pub mod Tables
 pub mod Prepared
 pub mod Inputs

@@ -7,6 +7,8 @@
 mod columns;
 mod cycles;
 mod entries;
+mod exact_line;
+pub mod exact_report;
 mod groups;
 mod inputs;
 mod keys;
@@ -20,6 +22,7 @@ mod rows;
 mod subjects;
 mod tables;
 
+pub use exact_report::write_exact;
 pub use flat_report::ReportRefusal;
 pub use report::write;
 

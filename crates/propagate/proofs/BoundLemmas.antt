@@ -7,9 +7,9 @@ use Rattle.call_cycles.specs.Graph.{GraphValue, IsGraph, arc_at, arc_count, comp
 use Rattle.call_cycles.specs.Flow.{FlowValue, IsFlow, IsClosed, is_root, carried_by, carried_from, carried_from_function, leaves_function, time_of, time_of_roots, self_in}
 use Rattle.propagate.specs.Solution.{child_in, flow_in}
 use Rattle.call_cycles.proofs.SumLemmas.{sum_ext, sum_zero, sum_mono, when_le}
+use Rattle.call_cycles.proofs.NumberingLemmas.{goes_down}
 use Rattle.propagate.proofs.SumLemmas.{sum_by_key, term_le_sum, sum_of_places}
 use Rattle.propagate.proofs.ConservationLemmas.{one_component, conserved, all_into}
-use Rattle.propagate.proofs.UniqueLemmas.{goes_down}
 use Rattle.propagate.proofs.SolutionLemmas.{at_list_of, solution}
 
 pub when_fewer : (a b : Bool) (x : ℕ) → (a ≡ true → b ≡ true) → when a x ≤ when b x

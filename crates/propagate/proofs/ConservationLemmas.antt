@@ -6,15 +6,9 @@ use Rattle.call_cycles.specs.Sums.{sum_below, when}
 use Rattle.call_cycles.specs.Graph.{GraphValue, IsGraph, arc_at, arc_count, component_count, is_outside, enters, source_of, target_of}
 use Rattle.call_cycles.specs.Flow.{FlowValue, IsFlow, IsClosed, IsConserved, is_root, part_of, carried_from, carried_by, time_of}
 use Rattle.call_cycles.proofs.SumLemmas.{sum_ext, sum_add}
+use Rattle.call_cycles.proofs.NumberingLemmas.{source_within, target_within}
 use Rattle.propagate.proofs.SumLemmas.{sum_by_key, when_add}
 use Rattle.propagate.proofs.CarryLemmas.{carried_into}
-
--- the ends of arcs are components of the graph
-pub source_within : (g : GraphValue) → IsGraph g → (i : ℕ) → i < arc_count g → source_of g i < component_count g
-source_within g is i below = is.components.within (arc_at g i).caller (is.arcs.callers i below)
-
-pub target_within : (g : GraphValue) → IsGraph g → (i : ℕ) → i < arc_count g → target_of g i < component_count g
-target_within g is i below = is.components.within (arc_at g i).callee (is.arcs.callees i below)
 
 pub one_component : (g : GraphValue) (i : ℕ) → is_outside g i ≡ false → source_of g i ≡ target_of g i
 one_component g i inside = eqb-true _ _ (not-false _ inside)

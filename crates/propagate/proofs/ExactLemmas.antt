@@ -8,9 +8,9 @@ use Rattle.call_cycles.specs.Graph.{GraphValue, IsGraph, arc_at, arc_count, comp
 use Rattle.call_cycles.specs.Flow.{carried_from, carried_from_function, leaves_function, self_in}
 use Rattle.call_cycles.specs.ExactFlow.{ExactTimes, IsExactFlow, AreSameTimes, carried_exactly}
 use Rattle.call_cycles.proofs.SumLemmas.{sum_ext}
+use Rattle.call_cycles.proofs.NumberingLemmas.{target_within, goes_down}
 use Rattle.propagate.specs.ExactSolution.{handed_on, exact_after, exact_in}
-use Rattle.propagate.proofs.ConservationLemmas.{target_within}
-use Rattle.propagate.proofs.UniqueLemmas.{goes_down, when_ext}
+use Rattle.propagate.proofs.UniqueLemmas.{when_ext}
 use Rattle.propagate.proofs.StepLemmas.{calls_within}
 
 when_times : (b : Bool) (x k : ℕ) → when b x * k ≡ when b (x * k)

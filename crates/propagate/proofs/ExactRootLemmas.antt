@@ -8,8 +8,8 @@ use Rattle.call_cycles.specs.Graph.{GraphValue, IsGraph, arc_at, arc_count, comp
 use Rattle.call_cycles.specs.Flow.{is_root, self_in}
 use Rattle.call_cycles.specs.ExactFlow.{ExactTimes, IsExactFlow, carried_exactly, exact_time, exact_time_of_roots}
 use Rattle.call_cycles.proofs.SumLemmas.{sum_ext, sum_add, sum_none}
+use Rattle.call_cycles.proofs.NumberingLemmas.{source_within, target_within}
 use Rattle.propagate.proofs.SumLemmas.{sum_by_key, sum_of_places}
-use Rattle.propagate.proofs.ConservationLemmas.{source_within, target_within}
 use Rattle.propagate.proofs.UniqueLemmas.{when_ext}
 use Rattle.propagate.proofs.BoundLemmas.{shares_in}
 use Rattle.propagate.proofs.ExactLemmas.{chosen_times, not_entered, calls_entering}

@@ -5,6 +5,8 @@ pub mod UniqueLemmas
 pub mod SolutionLemmas
 pub mod BoundLemmas
 pub mod StepLemmas
+pub mod AscentLemmas
+pub mod ArcOrderLemmas
 pub mod OrderLemmas
 pub mod TimeLemmas
 pub mod FlowLemmas
@@ -12,3 +14,4 @@ pub mod MemberLemmas
 pub mod ExactLemmas
 pub mod NearLemmas
 pub mod ExactRootLemmas
+pub mod ProportionLemmas

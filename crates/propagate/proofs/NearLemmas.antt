@@ -10,10 +10,10 @@ use Rattle.call_cycles.specs.Graph.{GraphValue, IsGraph, arc_at, arc_count, comp
 use Rattle.call_cycles.specs.Flow.{FlowValue, IsFlow, IsClosed, part_of, carried_by, leaves_function, self_in}
 use Rattle.call_cycles.specs.ExactFlow.{ExactTimes, IsExactFlow, IsNear, IsNearFlow, carried_exactly, outside_count}
 use Rattle.call_cycles.proofs.SumLemmas.{sum_ext, sum_add, sum_none, sum_mono}
+use Rattle.call_cycles.proofs.NumberingLemmas.{source_within, target_within, goes_down}
 use Rattle.propagate.proofs.SumLemmas.{sum_by_key, term_le_sum, when_add}
 use Rattle.propagate.proofs.CarryLemmas.{div_mono}
-use Rattle.propagate.proofs.ConservationLemmas.{source_within, target_within, one_component, split_arc}
-use Rattle.propagate.proofs.UniqueLemmas.{goes_down}
+use Rattle.propagate.proofs.ConservationLemmas.{one_component, split_arc}
 use Rattle.propagate.proofs.StepLemmas.{part_is}
 use Rattle.propagate.proofs.BoundLemmas.{when_fewer, function_leaves}
 use Rattle.propagate.proofs.ExactLemmas.{chosen_times, entered, not_entered, calls_entering}

@@ -8,7 +8,7 @@ use Rattle.call_cycles.specs.Flow.{IsFlow, part_of, carried_from, leaves_functio
 use Rattle.propagate.specs.Solution.{child_after, child_in, carried_in, flow_in}
 use Rattle.call_cycles.proofs.SumLemmas.{sum_ext}
 use Rattle.call_cycles.proofs.ListLemmas.{list_at}
-use Rattle.propagate.proofs.ConservationLemmas.{target_within}
+use Rattle.call_cycles.proofs.NumberingLemmas.{target_within}
 use Rattle.propagate.proofs.UniqueLemmas.{carried_same, part_same}
 
 stays : (g : GraphValue) (shares : List ℕ) → IsGraph g → (n c : ℕ) → c < n → child_after g shares (suc n) c ≡ child_after g shares n c

@@ -7,31 +7,8 @@ use Rattle.call_cycles.specs.Sums.{when}
 use Rattle.call_cycles.specs.Graph.{GraphValue, IsGraph, arc_count, component_count, is_outside, leaves, source_of, target_of, calls_into, entering_of}
 use Rattle.call_cycles.specs.Flow.{FlowValue, IsFlow, part_of, carried_by, carried_from, leaves_function, self_in}
 use Rattle.call_cycles.proofs.SumLemmas.{sum_ext, le_max_below}
+use Rattle.call_cycles.proofs.NumberingLemmas.{target_within, goes_down}
 use Rattle.propagate.specs.Solution.{carried_in}
-use Rattle.propagate.proofs.ConservationLemmas.{source_within, target_within}
-
--- an outside arc goes to a component of a lower level, which stands before
-pub goes_down : (g : GraphValue) → IsGraph g → (i : ℕ) → i < arc_count g → is_outside g i ≡ true → target_of g i < source_of g i
-goes_down g is i below out =
-    let level = is.components.level in
-    let s = source_of g i in
-    let t = target_of g i in
-    let apart : s ≢ t = eqb-false s t (not-true _ out) in
-    let mine : leaves g s i ≡ true = and_from _ _ out (eq-eqb s s refl) in
-    let high = is.components.levels.highest s (source_within g is i below) in
-    let some = le_max_below (arc_count g) (λ j. when (leaves g s j) (suc (level (target_of g j)))) i below in
-    let this : when (leaves g s i) (suc (level t)) ≡ suc (level t) = ap (λ (b : Bool). when b (suc (level t))) mine in
-    let lower : level t < level s = omega arith in
-    elim (cases_order t s) [
-      | inl at ↦ absurd (apart (sym at))
-      | inr other ↦ elim other [
-        | inl less ↦ less
-        | inr more ↦ elim (is.components.ordered s t more (target_within g is i below)) [
-          | inl l ↦ absurd (omega arith)
-          | inr both ↦ let l = both.0 in absurd (omega arith)
-        ]
-      ]
-    ]
 
 pub when_ext : (b : Bool) (x y : ℕ) → (b ≡ true → x ≡ y) → when b x ≡ when b y
 when_ext true x y same = same refl

@@ -2,3 +2,4 @@ pub mod Fields
 pub mod Solution
 pub mod Arcs
 pub mod ExactSolution
+pub mod Proportion

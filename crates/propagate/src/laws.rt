@@ -4,6 +4,7 @@ ghost use Rattle.std.specs.Prelude.{◌≡◌, ◌<◌, ◌≤◌, ◌+◌, ◌*
 ghost use Rattle.call_cycles.specs.Graph.{GraphValue, IsGraph, component_count, component_of};
 ghost use Rattle.call_cycles.specs.Flow.{FlowValue, IsFlow, IsClosed, IsConserved, time_of, time_of_roots};
 ghost use Rattle.call_cycles.specs.ExactFlow.{ExactTimes, IsExactFlow, AreSameTimes, IsNearFlow, exact_time_of_roots};
+ghost use Rattle.propagate.specs.Proportion.{PartsAreInProportion, PartsAreAll};
 ghost use Rattle.propagate.specs.Solution.{flow_in};
 ghost use Rattle.propagate.specs.ExactSolution.{exact_in};
 
@@ -36,4 +37,11 @@ pub fn exact_times()
 /// The times of a flow are near the exact ones: at most two grains away for each outside arc of the graph.
 pub fn nearness()
     ensures { (g : GraphValue) (shares : List ℕ) (t : FlowValue) (x : ExactTimes) → IsGraph g → IsFlow g shares t → IsExactFlow g shares x → IsNearFlow g t x }
+{}
+
+/// An arc carries of both times of the component that it enters the part that its calls are of all that enter it,
+/// but for less than a grain; and all arcs that enter a component carry together all that it has.
+pub fn time_in_proportion()
+    ensures parts { PartsAreInProportion }
+    ensures whole { PartsAreAll }
 {}

@@ -3,12 +3,16 @@ use Rattle.std.specs.Prelude.{◌==◌}
 use Rattle.std.specs.List.{count_by}
 use Rattle.call_cycles.specs.declared.graphs.FunArc.{FunArc}
 use Rattle.call_cycles.specs.Graph.{entering_of, all_calls, AreComponents}
-use Rattle.call_cycles.specs.Arcs.{AreWithin}
+use Rattle.call_cycles.specs.Arcs.{AreByCaller, AreWithin}
 use Rattle.call_cycles.specs.Parts.{headless_graph, graph_of_parts, arcs_calls}
 use Rattle.call_cycles.specs.Sums.{list_of}
+use Rattle.call_cycles.proofs.ArcLemmas.{by_caller}
 use Rattle.call_cycles.proofs.ListLemmas.{list_long, list_at}
 use Rattle.call_cycles.proofs.EnteringLemmas.{entering_same}
 use Rattle.call_cycles.proofs.build.graph_of.Goals as goal
+
+pub found_components-requires-clause-ordered : goal.found_components-requires-clause-ordered
+found_components-requires-clause-ordered c = subst AreByCaller (sym c.deref.ensures.value) (by_caller c.args.arcs.items c.requires.ordered)
 
 pub entering-requires-clause-within : goal.entering-requires-clause-within
 entering-requires-clause-within c =
@@ -43,7 +47,7 @@ pub returns-clause-components : goal.returns-clause-components
 returns-clause-components c =
     let are = subst (λ (xs : List FunArc). AreComponents (graph_of_parts c.args.functions xs c.args.self_calls.items c.in_ok-found.found.component.items c.in_ok-found.found.heads.items)) c.deref.ensures.value (c.in_ok-found.ensures.components c.args.self_calls.items) in
     record {
-      arcs = record { callers = λ i below. (c.requires.within i below).0; callees = λ i below. (c.requires.within i below).1; called = c.requires.called };
+      arcs = record { callers = λ i below. (c.requires.within i below).0; callees = λ i below. (c.requires.within i below).1; called = λ i below. (c.requires.called i below).0; apart = λ i below. (c.requires.called i below).1; rising = c.requires.ordered };
       components = are;
     }
 
@@ -69,7 +73,7 @@ invariant_of-result c =
     let few = c.in_ok-found.ensures.few in
     record {
       graph = record {
-        arcs = record { callers = λ i below. (c.requires.within i below).0; callees = λ i below. (c.requires.within i below).1; called = c.requires.called };
+        arcs = record { callers = λ i below. (c.requires.within i below).0; callees = λ i below. (c.requires.within i below).1; called = λ i below. (c.requires.called i below).0; apart = λ i below. (c.requires.called i below).1; rising = c.requires.ordered };
         components = are;
       };
       self_calls = c.requires.self_calls;

@@ -1,58 +1,91 @@
-use Rattle.std.proofs.Common.{◌+◌, get_or, refl, sym, subst, arith}
+use Rattle.std.proofs.Common.{◌≡◌, ◌∙◌, ◌<◌, ◌+◌, ℕ, List, get_or, length, refl, ap, sym, subst, arith}
 use Rattle.std.proofs.lemmas.Bool.{true≢false}
 use Rattle.std.proofs.lemmas.List.{get_or_default}
 use Rattle.fraction128.specs.Values.{value_of}
-use Rattle.propagate.specs.Arcs.{IsCallerOrder}
+use Rattle.propagate.proofs.ExactLemmas.{exact_solution}
 use Rattle.propagate.proofs.ExactRootLemmas.{exact_roots}
-use Rattle.exact_flow.proofs.StateLemmas.{IsSoFar, none_done, one_more_done, first_wide, all_times, none_wide, leaving, caller_low}
+use Rattle.exact_flow.specs.Times.{ExactFlowValue}
+use Rattle.exact_flow.proofs.StateLemmas.{IsSoFar, none_done, one_more_done, all_times, has_times, leaving}
+use Rattle.exact_flow.proofs.WideLemmas.{first_found, none_left, value_left}
 use Rattle.exact_flow.proofs.solve.exact.Goals as goal
+use Rattle.exact_flow.proofs.solve.exact.Goals.{After-loop-k}
 
-pub loop-p-init : goal.loop-p-init
-loop-p-init c = none_done _ _ _ _ c.in_ok-flow.ensures.sized c.in_ok-flow.ensures.none
+at_end : (c : After-loop-k) → c.loop-k.k ≡ length c.loop-k.flow.outside
+at_end c =
+    let first = ap length c.outside_arcs-k-end.ensures in
+    let whole = ap length c.in_ok-flow.ensures.sized.outside.whole in
+    let now = ap length c.loop-k.invariant.sized.outside.whole in
+    let test = c.loop-k-test.false in
+    omega arith
 
-pub head-requires : goal.head-requires
-head-requires c =
-    let order = c.deref-p-items.result.now in
-    let n = c.loop-p.p-index in
-    let p = get_or order n (0, 0) in
-    let ordered = subst (IsCallerOrder c.args.graph.now) (sym c.deref-p-items.ensures.value) c.in_ok-order.ensures in
-    caller_low c.args.graph.now c.args.shares.now.of order n p c.loop-p.flow c.arc_count.ensures.graph ordered c.loop-p-test.true (get_or_default order n (0, 0) p c.loop-p-test.true) c.loop-p.invariant
+pub loop-k-init : goal.loop-k-init
+loop-k-init c = none_done _ _ _ _ c.in_ok-flow.ensures.sized c.in_ok-flow.ensures.none
+
+pub returns-then-arc_count-clause-solved : goal.returns-then-arc_count-clause-solved
+returns-then-arc_count-clause-solved c = exact_solution c.args.graph.now c.args.shares.now.of c.arc_count.ensures.graph
+
+pub returns-in_err-flow-clause-solved : goal.returns-in_err-flow-clause-solved
+returns-in_err-flow-clause-solved c = exact_solution c.args.graph.now c.args.shares.now.of c.arc_count.ensures.graph
+
+pub returns-in-None-clause-solved : goal.returns-in-None-clause-solved
+returns-in-None-clause-solved c = exact_solution c.args.graph.now c.args.shares.now.of c.arc_count.ensures.graph
+
+pub returns-clause-solved : goal.returns-clause-solved
+returns-clause-solved c = exact_solution c.args.graph.now c.args.shares.now.of c.arc_count.ensures.graph
+
+pub returns-clause-sized : goal.returns-clause-sized
+returns-clause-sized c = has_times c.args.graph.now c.args.shares.now.of c.loop-k.flow c.loop-k.invariant.sized
+
+pub returns-clause-value : goal.returns-clause-value
+returns-clause-value c = value_left c.args.graph.now c.args.shares.now.of c.loop-k.flow.outside c.loop-k.k c.loop-k.flow c.arc_count.ensures.graph (at_end c) c.loop-k.invariant c.loop-k.invariant.sized.outside
+
+pub returns-clause-times : goal.returns-clause-times
+returns-clause-times c = λ x exact. all_times c.args.graph.now c.args.shares.now.of c.loop-k.flow.outside c.loop-k.k c.loop-k.flow c.loop-k.invariant.sized.outside (at_end c) c.loop-k.invariant x exact
+
+pub returns-clause-fits : goal.returns-clause-fits
+returns-clause-fits c = none_left c.args.graph.now c.args.shares.now.of c.loop-k.flow.outside c.loop-k.k c.loop-k.flow c.arc_count.ensures.graph (at_end c) c.loop-k.invariant c.loop-k.invariant.sized.outside
+
+pub returns-clause-whole : goal.returns-clause-whole
+returns-clause-whole c = λ x exact. exact_roots c.args.graph.now c.args.shares.now.of c.arc_count.ensures.graph x exact c.requires.each
 
 pub overflow_cast-result : goal.overflow_cast-result
 overflow_cast-result c =
-    let order = c.deref-p-items.result.now in
-    let n = c.loop-p.p-index in
-    let p = get_or order n (0, 0) in
-    let ordered = subst (IsCallerOrder c.args.graph.now) (sym c.deref-p-items.ensures.value) c.in_ok-order.ensures in
-    let l = leaving c.args.graph.now c.args.shares.now.of order n p c.loop-p.flow c.arc_count.ensures.graph ordered c.loop-p-test.true (get_or_default order n (0, 0) p c.loop-p-test.true) c.loop-p.invariant in
-    let low = l.0 in
+    let e = c.loop-k.flow in
+    let first = ap length c.outside_arcs-k-end.ensures in
+    let whole = ap length c.in_ok-flow.ensures.sized.outside.whole in
+    let now = ap length c.loop-k.invariant.sized.outside.whole in
+    let test = c.loop-k-test.true in
+    let low : c.loop-k.k < length e.outside = omega arith in
+    let p = get_or c.outside_arcs.result.now c.loop-k.k (0, 0) in
+    let at : p ≡ get_or e.outside c.loop-k.k p = ap (λ (xs : List (ℕ × ℕ)). get_or xs c.loop-k.k (0, 0)) c.outside_arcs.ensures ∙ get_or_default e.outside c.loop-k.k (0, 0) p low in
+    let l = leaving c.args.graph.now c.args.shares.now.of e.outside c.loop-k.k p e c.arc_count.ensures.graph c.loop-k.invariant.sized.outside low at c.loop-k.invariant in
+    let below = l.0 in
     omega arith
 
 pub returns-in-None-clause-wide : goal.returns-in-None-clause-wide
 returns-in-None-clause-wide c =
-    let order = c.deref-p-items.result.now in
-    let n = c.loop-p.p-index in
-    let p = get_or order n (0, 0) in
-    let ordered = subst (IsCallerOrder c.args.graph.now) (sym c.deref-p-items.ensures.value) c.in_ok-order.ensures in
-    first_wide c.args.graph.now c.args.shares.now.of order n p c.loop-p.flow c.arc_count.ensures.graph ordered c.loop-p-test.true (get_or_default order n (0, 0) p c.loop-p-test.true) c.loop-p.invariant
+    let e = c.loop-k.flow in
+    let first = ap length c.outside_arcs-k-end.ensures in
+    let whole = ap length c.in_ok-flow.ensures.sized.outside.whole in
+    let now = ap length c.loop-k.invariant.sized.outside.whole in
+    let test = c.loop-k-test.true in
+    let low : c.loop-k.k < length e.outside = omega arith in
+    let p = get_or c.outside_arcs.result.now c.loop-k.k (0, 0) in
+    let at : p ≡ get_or e.outside c.loop-k.k p = ap (λ (xs : List (ℕ × ℕ)). get_or xs c.loop-k.k (0, 0)) c.outside_arcs.ensures ∙ get_or_default e.outside c.loop-k.k (0, 0) p low in
+    first_found c.args.graph.now c.args.shares.now.of e.outside c.loop-k.k p e c.arc_count.ensures.graph c.loop-k.invariant.sized.outside low at c.loop-k.invariant
     c.head.result c.head.ensures.value (λ fits. true≢false (sym (c.in-None.ensures.fits.1 fits)))
 
-pub loop-p-preserved : goal.loop-p-preserved
-loop-p-preserved c =
-    let order = c.deref-p-items.result.now in
-    let n = c.loop-p.p-index in
-    let p = get_or order n (0, 0) in
+pub loop-k-preserved : goal.loop-k-preserved
+loop-k-preserved c =
+    let e = c.loop-k.flow in
+    let first = ap length c.outside_arcs-k-end.ensures in
+    let whole = ap length c.in_ok-flow.ensures.sized.outside.whole in
+    let now = ap length c.loop-k.invariant.sized.outside.whole in
+    let test = c.loop-k-test.true in
+    let low : c.loop-k.k < length e.outside = omega arith in
+    let p = get_or c.outside_arcs.result.now c.loop-k.k (0, 0) in
+    let at : p ≡ get_or e.outside c.loop-k.k p = ap (λ (xs : List (ℕ × ℕ)). get_or xs c.loop-k.k (0, 0)) c.outside_arcs.ensures ∙ get_or_default e.outside c.loop-k.k (0, 0) p low in
     let h = c.in-Some.handed in
-    let ordered = subst (IsCallerOrder c.args.graph.now) (sym c.deref-p-items.ensures.value) c.in_ok-order.ensures in
-    let next = one_more_done c.args.graph.now c.args.shares.now.of order n p c.loop-p.flow c.arc_count.ensures.graph ordered c.loop-p-test.true (get_or_default order n (0, 0) p c.loop-p-test.true) c.loop-p.invariant
+    let next = one_more_done c.args.graph.now c.args.shares.now.of e.outside c.loop-k.k p e c.arc_count.ensures.graph c.loop-k.invariant.sized.outside low at c.loop-k.invariant
     (value_of h.arc_self) (value_of h.arc_child) (value_of h.after) c.in-Some.ensures.arc_self c.in-Some.ensures.arc_child c.in-Some.ensures.after (c.in-Some.ensures.fits.0 refl) in
-    subst (IsSoFar c.args.graph.now c.args.shares.now.of order (n + 1)) (sym c.put.ensures) next
-
-pub returns-clause-times : goal.returns-clause-times
-returns-clause-times c = λ x exact. all_times _ _ _ _ _ (subst (IsCallerOrder c.args.graph.now) (sym c.deref-p-items.ensures.value) c.in_ok-order.ensures) (omega arith) c.loop-p.invariant x exact
-
-pub returns-clause-fits : goal.returns-clause-fits
-returns-clause-fits c = λ x exact. none_wide _ _ _ _ _ (subst (IsCallerOrder c.args.graph.now) (sym c.deref-p-items.ensures.value) c.in_ok-order.ensures) (omega arith) c.loop-p.invariant x exact
-
-pub returns-clause-whole : goal.returns-clause-whole
-returns-clause-whole c = λ x exact. exact_roots c.args.graph.now c.args.shares.now.of c.arc_count.ensures.graph x exact c.requires.each
+    subst (λ (v : ExactFlowValue). IsSoFar c.args.graph.now c.args.shares.now.of v.outside (c.loop-k.k + 1) v) (sym c.put.ensures) next

@@ -14,4 +14,5 @@ returns c =
     let arc_self : map value_of (slice_set a.arc_selves.items c.args.i h.arc_self) ≡ slice_set e.arc_self c.args.i (value_of h.arc_self) = map-set value_of a.arc_selves.items c.args.i h.arc_self ∙ ap (λ (v : ExactFlowValue). slice_set v.arc_self c.args.i (value_of h.arc_self)) c.flow.view_is in
     let arc_child : map value_of (slice_set a.arc_children.items c.args.i h.arc_child) ≡ slice_set e.arc_child c.args.i (value_of h.arc_child) = map-set value_of a.arc_children.items c.args.i h.arc_child ∙ ap (λ (v : ExactFlowValue). slice_set v.arc_child c.args.i (value_of h.arc_child)) c.flow.view_is in
     let self = ap (λ (v : ExactFlowValue). v.self) c.flow.view_is in
-    λ i. record { self = self i; child = child i; arc_self = arc_self i; arc_child = arc_child i }
+    let outside = ap (λ (v : ExactFlowValue). v.outside) c.flow.view_is in
+    λ i. record { self = self i; child = child i; arc_self = arc_self i; arc_child = arc_child i; outside = outside i }

@@ -13,6 +13,7 @@ returns-clause-sized c =
       children = zeros_long c.in_ok-vec.field-0.items c.component_count.result _ none children c.component_count.ensures.value;
       arc_selves = zeros_long c.in_ok-vec-2.field-0.items c.arc_count.result _ none arc_selves c.arc_count.ensures.value;
       arc_children = zeros_long c.in_ok-vec-3.field-0.items c.arc_count-2.result _ none arc_children c.arc_count-2.ensures.value;
+      outside = c.in_ok-outside_arcs.ensures;
       self = list_at _ _ c.in_ok-selves.field-0.items c.in_ok-selves.ensures;
       inside_self = λ i low inside. zeros c.in_ok-vec-2.field-0.items c.arc_count.result none arc_selves c.whole-none.ensures i;
       inside_child = λ i low inside. zeros c.in_ok-vec-3.field-0.items c.arc_count-2.result none arc_children c.whole-none.ensures i;

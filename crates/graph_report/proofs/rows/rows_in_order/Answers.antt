@@ -2,7 +2,8 @@ use Rattle.std.proofs.Common.{◌≡◌, List, ap, ◌∙◌, rules}
 use Rattle.std.specs.Ordering.{is_lt}
 use Rattle.std.proofs.lemmas.List.Sorted.{answers_always}
 use Rattle.flat_report.specs.Order.{in_order}
-use Rattle.flat_report.proofs.OrderLemmas.{by_key, sorted_in_order}
+use Rattle.propagate.proofs.AscentLemmas.{by_key}
+use Rattle.flat_report.proofs.OrderLemmas.{sorted_in_order}
 use Rattle.graph_report.specs.Entries.{Entry, comes_before, ordered}
 use Rattle.graph_report.specs.Inputs.{sources_of}
 use Rattle.graph_report.specs.Rows.{entry_of_row}

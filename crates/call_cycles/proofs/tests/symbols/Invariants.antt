@@ -1,9 +1,0 @@
-use Rattle.std.proofs.Common.{◌+◌, ◌*◌, ◌≤◌}
-use Rattle.call_cycles.proofs.ProfileLemmas.{IsRow}
-use Rattle.call_cycles.proofs.tests.symbols.Given as goal
-
-abbrev pub invariant-loop-i : goal.invariant-loop-i
-invariant-loop-i l = record {
-  low : l.addr ≤ 65536 + 256 * l._i;
-  row : IsRow l.addr l.symbols.items;
-}
