@@ -6,7 +6,9 @@ ghost use Rattle.std.specs.List.{cons_option};
 ghost use Rattle.rvgprof.specs.Items.{Operand, Given, place_of, is_option, items_from, places, nth, place_given, places_given, up_to, name_of, number_given, setting, is_key};
 ghost use Rattle.rvgprof.specs.Options.{kind_of as kind_in, IsNumberOf};
 
-use crate::options::{Key, Takes, is_flag, key_number, kind_of, most_times, number_of_kind, option_of};
+use crate::options::{
+    Key, Takes, is_flag, key_number, kind_of, most_times, number_of_kind, option_of,
+};
 use crate::places::Places;
 
 /// What is looked for.
