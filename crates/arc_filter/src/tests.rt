@@ -20,7 +20,11 @@ fn symbols(alloc: Global, count: u32, names: &[&str]) -> Result<SymbolList, Allo
 {
     let mut symbols = SymbolList::new(alloc);
     for i in 0..count {
-        push_symbol(&mut symbols, i, name_of(alloc, names[i as usize % names.len()])?)?;
+        push_symbol(
+            &mut symbols,
+            i,
+            name_of(alloc, names[i as usize % names.len()])?,
+        )?;
     }
     Ok(symbols)
 }
