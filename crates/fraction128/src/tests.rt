@@ -67,3 +67,11 @@ fn order(rt: HostRuntime) {
     assert!(rt; Frac::new(1, 2) == Frac::new(2, 4));
     assert!(rt; Frac::new(1, 2) != Frac::new(1, 3));
 }
+
+#[test]
+fn copies(rt: HostRuntime) {
+    let f = Frac::new(6, 4).unwrap();
+    let g = f.clone();
+    assert!(rt; (g.num(), g.den()) == (3, 2));
+    assert!(rt; g == f);
+}
