@@ -1,5 +1,6 @@
 use super::*;
 use std::cmp::Ordering;
+use std::test::Fail;
 
 /// The two numbers of a fraction.
 fn numbers(f: Option<Frac>) -> Option<(u128, u128)> {
@@ -69,9 +70,12 @@ fn order(rt: HostRuntime) {
 }
 
 #[test]
-fn copies(rt: HostRuntime) {
+fn copies(rt: HostRuntime) -> Result<(), Fail> {
     let f = Frac::new(6, 4).unwrap();
-    let g = f.clone();
-    assert!(rt; (g.num(), g.den()) == (3, 2));
-    assert!(rt; g == f);
+    let copy = f;
+    let clone = f.clone()?;
+    assert!(rt; (clone.num(), clone.den()) == (3, 2));
+    assert!(rt; (copy.num(), copy.den()) == (3, 2));
+    assert!(rt; clone == f);
+    Ok(())
 }
