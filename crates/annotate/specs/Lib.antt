@@ -1,3 +1,4 @@
 pub mod Loaded
 pub mod Cells
 pub mod Listing
+pub mod Laws

@@ -6,10 +6,11 @@ ghost use Rattle.elf32_syms.specs.Owners.{IsAscending};
 use super::*;
 use elf32_syms::{Image, Segment, SegmentList, Symbol, SymbolList};
 use gmon_data::{AddRefusal, Hist, Profile};
-use gp_base::{Name, Span, Totals, Unit};
+use gp_base::{Name, Span, Totals};
 use host_port::{HostCall, MemHost};
 use std::alloc::{AllocError, Global};
 use std::test::Fail;
+use test_profiles::seconds;
 
 /// A histogram: low and high address, and counters, of which the first 16 are taken.
 type Samples<'a> = (u32, u32, &'a [u8]);
@@ -39,18 +40,9 @@ fn hist(alloc: Global, row: Samples<'_>) -> Result<Hist, AllocError>
     })
 }
 
-/// 100 samples a second.
-fn seconds() -> Unit {
-    Unit {
-        rate: 100,
-        dim: *b"seconds\0\0\0\0\0\0\0\0",
-        abbrev: b's',
-    }
-}
-
 /// A profile of executions and a histogram. One that has no range is none.
 fn profile_of(alloc: Global, samples: Samples<'_>, runs: Runs<'_>) -> Result<Profile, AddRefusal> {
-    let unit = seconds();
+    let unit = seconds(100);
     let mut profile = Profile::new(alloc);
     let hist = hist(alloc, samples)?;
     for (addr, count) in &runs[..runs.len().min(8)] {

@@ -4,8 +4,6 @@ use Rattle.std.specs.Prelude.{filter, nat_lt, option_and_then}
 use Rattle.std.specs.List.{AllByRecursion, IsDistinct}
 use Rattle.std.specs.Map.{keys_of}
 use Rattle.std.proofs.lemmas.Bool.{eqb-true, lt-ltb}
-use Rattle.std.proofs.lemmas.List.{drop_more}
-use Rattle.std.proofs.lemmas.Option.{get_or_from_slice_get}
 use Rattle.std.proofs.lemmas.List.Sums.{sum_by-cons}
 use Rattle.gp_base.specs.declared.records.Unit as units
 use Rattle.gmon_data.specs.declared.hist.Hist.{Hist}
@@ -14,9 +12,9 @@ use Rattle.gmon_data.specs.declared.refusal.AddRefusal.TheVariants as answers
 use Rattle.gmon_data.specs.declared.refusal.Unlike.{Unlike}
 use Rattle.gmon_data.specs.Hists.{conflict_with, has_counters, kept_unit, put_hist, range_of, IsApart, IsKept, IsUnlike}
 use Rattle.gmon_data.specs.Tally.{tally, total_of}
-use Rattle.gmon_data.specs.Content.{Content, IsProfile, IsWithin, WideRec, empty_content, hist_conflict, same_pair, with_arc, with_records}
+use Rattle.gmon_data.specs.Content.{Content, PairFits, IsProfile, IsWithin, WideRec, empty_content, hist_conflict, same_pair, with_arc, with_records}
 use Rattle.gmon_data.proofs.ContentLemmas.{pair-equal, pair-self, same-self}
-use Rattle.gmon_data.proofs.RecordLemmas.{IsUnderway, one_added, one_more, within_next}
+use Rattle.gmon_data.proofs.RecordLemmas.{IsUnderway, cut_at, one_added, one_more, within_next}
 use Rattle.gmon_data.proofs.TallyLemmas.{turned}
 use Rattle.profile_sum.specs.Sum.{arc_record, block_record, clash_of, hist_records, sum_of}
 use Rattle.profile_sum.proofs.SumLemmas.{all_added, arcs_fit, blocks_fit, hists_fit}
@@ -59,6 +57,14 @@ module _ {K : Type 0} (same : K → K → Bool) (p : K × ℕ → Bool) where
       by true rest = omega (arith, rest)
       by false rest = omega (arith, rest)
 
+all_still : {K : Type 0} (P : K → Type 0) (p : K → Bool) (xs : List K) → AllByRecursion P xs → AllByRecursion P (filter p xs)
+all_still P p [] all = tt
+all_still {K} P p (x ∷ xs) all = by (p x) (all_still P p xs all.1)
+  where
+    by : (b : Bool) → AllByRecursion P (filter p xs) → AllByRecursion P (cond b (x ∷ filter p xs) (filter p xs))
+    by true rest = (all.0, rest)
+    by false rest = rest
+
 -- what is left is a profile
 pub profile_left : (p : Content) (symbols : List Symbol) (cuts : List (List ℕ)) → IsProfile p → IsProfile (without_cuts p symbols cuts)
 unfolding without_cuts
@@ -70,6 +76,12 @@ profile_left p symbols cuts is = record {
     runs = is.within.runs;
     pairs = omega (arith, is.within.pairs, fewer same_pair (stays symbols cuts) p.arcs);
     addresses = is.within.addresses;
+  };
+  numbers = record {
+    hists = is.numbers.hists;
+    arcs = all_still PairFits (stays symbols cuts) p.arcs is.numbers.arcs;
+    blocks = is.numbers.blocks;
+    «unit» = is.numbers.«unit»;
   };
   hists = is.hists;
   apart = is.apart;
@@ -180,9 +192,6 @@ unlike_nothing refusal unlike c q is none because =
 
 -- ---- arcs that stay are put one by one
 
-rest_at : {X : Type 0} (xs : List X) (i : ℕ) (x : X) → i < length xs → slice_get xs i ≡ Some x → drop i xs ≡ x ∷ drop (i + 1) xs
-rest_at {X} xs i x below at = drop_more xs i x below ∙ ap (λ (y : X). y ∷ drop (i + 1) xs) (get_or_from_slice_get xs i x x at)
-
 module _ (symbols : List Symbol) (cuts : List (List ℕ)) (arcs : List ((ℕ × ℕ) × ℕ)) where
   abbrev pub left_from : ℕ → List WideRec
   left_from i = map arc_record (filter (stays symbols cuts) (drop i arcs))
@@ -194,7 +203,7 @@ module _ (symbols : List Symbol) (cuts : List (List ℕ)) (arcs : List ((ℕ × 
     next : (gone : Bool) → is_cut symbols cuts arc.0.0 arc.0.1 ≡ gone → IsUnderway all_left (map arc_record (cond (not gone) (arc ∷ filter (stays symbols cuts) (drop (i + 1) arcs)) (filter (stays symbols cuts) (drop (i + 1) arcs)))) old now
     next gone is =
         subst (λ (l : List WideRec). IsUnderway all_left l old now)
-        (ap (λ (xs : List ((ℕ × ℕ) × ℕ)). map arc_record (filter (stays symbols cuts) xs)) (rest_at arcs i arc below at)
+        (ap (λ (xs : List ((ℕ × ℕ) × ℕ)). map arc_record (filter (stays symbols cuts) xs)) (cut_at arcs i arc at)
         ∙ ap (λ (b : Bool). map arc_record (cond (not b) (arc ∷ filter (stays symbols cuts) (drop (i + 1) arcs)) (filter (stays symbols cuts) (drop (i + 1) arcs)))) is)
         w
 

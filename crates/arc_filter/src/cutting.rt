@@ -13,13 +13,6 @@ use gmon_data::{AddRefusal, Profile};
 use profile_sum::adding::{add_blocks, add_hists};
 use std::alloc::{AllocError, Global};
 
-/// A profile has what each profile has. Only the contract is wanted.
-fn profile_holds(profile: &Profile)
-    ensures { IsProfile profile.now }
-{
-    let _unit = profile.unit();
-}
-
 /// Puts the histograms into a profile that holds nothing, which has no conflict with them.
 fn put_hists(left: &mut Profile, profile: &Profile) -> Result<(), AllocError>
     requires empty { left.old ≡ empty_content }
@@ -27,7 +20,7 @@ fn put_hists(left: &mut Profile, profile: &Profile) -> Result<(), AllocError>
     requires within { IsWithin (with_records (hist_records profile.now) left.old) }
     ensures { OnOk result (left.new ≡ with_records (hist_records profile.now) left.old) }
 {
-    profile_holds(left);
+    left.holds();
     match add_hists(left, profile) {
         Ok(()) => Ok(()),
         Err(AddRefusal::OutOfMemory) => Err(AllocError),
@@ -74,7 +67,7 @@ pub fn cut(
     requires words { All (λ word. is_cut_word (string_bytes word) ≡ true) cuts.now }
     ensures { IfOk result (λ p. p ≡ without_cuts profile.now symbols.now (map string_bytes cuts.now)) }
 {
-    profile_holds(profile);
+    profile.holds();
     let mut left = Profile::new(alloc);
     put_hists(&mut left, profile)?;
     put_arcs(alloc, &mut left, profile, symbols, cuts)?;

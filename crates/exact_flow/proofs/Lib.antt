@@ -1,4 +1,3 @@
 pub mod OrderLemmas
 pub mod StateLemmas
-pub mod CallLemmas
 pub mod WideLemmas

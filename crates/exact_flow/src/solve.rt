@@ -1,7 +1,7 @@
 //! The exact times of a graph, from callees to callers.
 
-ghost use Rattle.std.specs.Prelude.{◌≡◌, ◌<◌, ◌↔◌, ◌*◌, ℕ, true, None, length, IfOk, IfErr, IfSome, IsSome};
-ghost use Rattle.call_cycles.specs.Graph.{arc_at, arc_count, component_count, source_of, target_of, is_outside, entering_of};
+ghost use Rattle.std.specs.Prelude.{◌≡◌, ◌<◌, ◌↔◌, ◌*◌, ◌^◌, ℕ, true, None, length, IfOk, IfErr, IfSome, IsSome};
+ghost use Rattle.call_cycles.specs.Graph.{arc_at, arc_count, component_count, head_of, source_of, target_of, is_outside, entering_of};
 ghost use Rattle.call_cycles.specs.ExactFlow.{ExactTimes, IsExactFlow, exact_time_of_roots};
 ghost use Rattle.symbol_shares.specs.Shares.{attributed_of};
 ghost use Rattle.fraction128.specs.Fractions.{fraction, lowest};
@@ -13,6 +13,7 @@ ghost use Rattle.exact_flow.specs.Solution.{times_in, exact_flow_in};
 ghost use Rattle.exact_flow.specs.Wide.{first_wide};
 ghost use Rattle.exact_flow.specs.Progress.{IsSized, step_in, put_at};
 ghost use Rattle.exact_flow.specs.Answers.{IsWideAnswer};
+ghost use Rattle.exact_flow.specs.declared.refusal.ExactRefusal.TheVariants.{TooWide};
 
 use crate::flows::ExactFlow;
 use crate::refusal::ExactRefusal;
@@ -87,6 +88,18 @@ fn start(alloc: Global, graph: &Graph, shares: &Shares) -> Result<ExactFlow, All
     })
 }
 
+/// The refusal of the step of arc `i`, which leaves component `c`.
+fn too_wide(graph: &Graph, c: u32, i: usize) -> ExactRefusal
+    requires component { c < component_count graph.now }
+    requires arc { i < 2 ^ 32 }
+    ensures { result ≡ TooWide (head_of graph.now c) i }
+{
+    ExactRefusal::TooWide {
+        head: graph.head(c),
+        arc: i as u32,
+    }
+}
+
 /// The exact times of a graph of functions with these shares: those of the one flow in which nothing is rounded,
 /// in lowest terms, or the first step at which a fraction does not fit.
 ///
@@ -109,12 +122,7 @@ pub fn exact(alloc: Global, graph: &Graph, shares: &Shares) -> Result<ExactFlow,
         let (c, i) = flow.outside_arcs()[k];
         match step(graph, &flow, i) {
             Some(handed) => put(&mut flow, c, i, &handed),
-            None => {
-                return Err(ExactRefusal::TooWide {
-                    head: graph.head(c),
-                    arc: i as u32,
-                });
-            }
+            None => return Err(too_wide(graph, c, i)),
         }
     }
     Ok(flow)

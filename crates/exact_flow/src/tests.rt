@@ -1,93 +1,16 @@
-ghost use Rattle.std.specs.Prelude.{◌≡◌, ◌+◌, ◌*◌, ◌^◌, ◌<◌, ◌≤◌, IfOk, OnOk, length, sum};
-ghost use Rattle.std.specs.List.{All};
-ghost use Rattle.elf32_syms.specs.Owners.{IsAscending};
+ghost use Rattle.std.specs.Prelude.{◌≡◌, IfOk, length};
 ghost use Rattle.call_cycles.specs.Graph.{arc_count, component_count};
 
 use super::*;
 use call_cycles::{Graph, graph};
-use elf32_syms::{Symbol, SymbolList};
-use gmon_data::{AddRefusal, Hist, Profile};
-use gp_base::{Name, Totals, Unit};
+use gmon_data::AddRefusal;
 use std::alloc::{AllocError, Global};
 use std::test::Fail;
 use symbol_shares::{Shares, shares};
+use test_profiles::{profile_of_calls, profile_of_samples, symbols_of};
 
 /// Calls of one function by another: caller, callee and count, by their numbers.
 type Calls = (u16, u16, u64);
-
-/// Adds function `i`, which has 16 addresses.
-fn push_symbol(symbols: &mut SymbolList, i: u32, name: Name) -> Result<(), AllocError>
-    requires few { i < 65536 }
-    requires ascending { IsAscending symbols.old }
-    requires ended { All (λ s. s.end ≤ 65536 + 16 * i) symbols.old }
-    ensures ascending { OnOk result (IsAscending symbols.new) }
-    ensures ended { OnOk result (All (λ s. s.end ≤ 65552 + 16 * i) symbols.new) }
-{
-    symbols.push(Symbol {
-        addr: 0x1_0000 + 16 * i,
-        end: 0x1_0010 + 16 * i,
-        name,
-    })
-}
-
-/// So many functions in a row, from 0x10000 on.
-fn symbols_of(alloc: Global, count: u16) -> Result<SymbolList, AllocError>
-    ensures { IfOk result IsAscending }
-{
-    let mut symbols = SymbolList::new(alloc);
-    for i in 0..u32::from(count) {
-        push_symbol(&mut symbols, i, Name::new(alloc))?;
-    }
-    Ok(symbols)
-}
-
-/// The samples of the first 65,535 functions.
-fn counters_of(alloc: Global, samples: &[u16]) -> Result<Totals, AllocError>
-    ensures samples { IfOk result (λ counters. sum counters < 2 ^ 45) }
-    ensures few { IfOk result (λ counters. length counters ≤ 65536) }
-{
-    let mut counters = Totals::new(alloc);
-    for count in samples {
-        if counters.as_slice().len() < 65535 {
-            counters.push(u64::from(*count))?;
-        }
-    }
-    Ok(counters)
-}
-
-/// One histogram of these counters, each of which has the addresses of one function.
-fn profile_of_samples(alloc: Global, counters: Totals) -> Result<Profile, AddRefusal>
-    requires samples { sum counters < 2 ^ 45 }
-    requires few { length counters ≤ 65536 }
-{
-    let unit = Unit {
-        rate: 100,
-        dim: *b"seconds\0\0\0\0\0\0\0\0",
-        abbrev: b's',
-    };
-    let count = counters.as_slice().len() as u32;
-    let hist = Hist {
-        low: 0x1_0000,
-        high: 0x1_0000 + 16 * count,
-        counters,
-    };
-    let mut profile = Profile::new(alloc);
-    if hist.low < hist.high {
-        profile.add_wide(&hist, unit)?;
-    }
-    Ok(profile)
-}
-
-/// A profile of the first 2000 of these calls, of 2,147,483,647 each at most.
-fn profile_of_calls(alloc: Global, calls: &[Calls]) -> Result<Profile, AllocError> {
-    let mut profile = Profile::new(alloc);
-    for (caller, callee, count) in &calls[..calls.len().min(2000)] {
-        let from = 0x1_0004 + 16 * u32::from(*caller);
-        let to = 0x1_0000 + 16 * u32::from(*callee);
-        profile.add_calls(from, to, (*count).min(2_147_483_647))?;
-    }
-    Ok(profile)
-}
 
 /// A graph of functions, and their shares.
 #[derive(Drop)]
@@ -97,12 +20,12 @@ struct Program {
 }
 
 /// The program of functions with these samples and calls.
-fn program_of(alloc: Global, samples: &[u16], calls: &[Calls]) -> Result<Program, AddRefusal>
+fn program_of(alloc: Global, samples: &[u64], calls: &[Calls]) -> Result<Program, AddRefusal>
     ensures { IfOk result (λ p. length p.shares.of ≡ p.graph.functions) }
 {
-    let symbols = symbols_of(alloc, samples.len().min(65535) as u16)?;
+    let symbols = symbols_of(alloc, samples.len().min(65_536) as u32, 16)?;
     let calls = profile_of_calls(alloc, calls)?;
-    let samples = profile_of_samples(alloc, counters_of(alloc, samples)?)?;
+    let samples = profile_of_samples(alloc, samples)?;
     Ok(Program {
         graph: graph(alloc, &calls, symbols.as_slice())?,
         shares: shares(alloc, &samples, symbols.as_slice())?,
@@ -144,7 +67,7 @@ fn arcs_text(alloc: Global, graph: &Graph, flow: &ExactFlow) -> Result<String, A
 }
 
 /// The exact times of functions with these samples and calls, or why there are none.
-fn exact_text(alloc: Global, samples: &[u16], calls: &[Calls]) -> Result<String, AddRefusal> {
+fn exact_text(alloc: Global, samples: &[u64], calls: &[Calls]) -> Result<String, AddRefusal> {
     let Program { graph, shares } = program_of(alloc, samples, calls)?;
     let mut text = String::new(alloc);
     match exact(alloc, &graph, &shares) {
@@ -162,7 +85,7 @@ fn exact_text(alloc: Global, samples: &[u16], calls: &[Calls]) -> Result<String,
 }
 
 /// A name, samples, calls and the text.
-type Row<'a> = (&'a str, &'a [u16], &'a [Calls], &'a str);
+type Row<'a> = (&'a str, &'a [u64], &'a [Calls], &'a str);
 
 /// The greatest number of calls that a file can hold of an arc with 31 bits.
 const MANY: u64 = 2_147_483_647;
@@ -209,6 +132,27 @@ fn exact_times(rt: HostRuntime) -> Result<(), Fail> {
             ],
             "too wide 4 3",
         ),
+        // The parts of both callees fit; over the common denominator of 15625 * M^3 / 2^87 and
+        // 1000000 * M^2 / (2^31 + 1)^2, M being 2^31 - 1, their sum does not.
+        (
+            "a sum that is too wide",
+            &[1, 0, 0, 0, 1, 0, 0, 0, 0, 0, 0, 0, 0],
+            &[
+                (1, 0, MANY),
+                (2, 1, MANY),
+                (3, 2, MANY),
+                (5, 4, MANY),
+                (6, 5, MANY),
+                (7, 3, 1),
+                (7, 6, 1),
+                (8, 0, 1),
+                (9, 1, 1),
+                (10, 2, 1),
+                (11, 4, 2),
+                (12, 5, 2),
+            ],
+            "too wide 7 6",
+        ),
         ("no functions", &[], &[], "| "),
     ];
     for (name, samples, calls, want) in rows {
@@ -239,5 +183,49 @@ fn a_graph_one_arc_less_wide(rt: HostRuntime) -> Result<(), Fail> {
         ),
         "{text}"
     );
+    Ok(())
+}
+
+/// A chain of 2,000 functions, each of which calls the next one; the last has 3 samples.
+fn chain(alloc: Global) -> Result<Program, AddRefusal>
+    ensures { IfOk result (λ p. length p.shares.of ≡ p.graph.functions) }
+{
+    let mut calls = Vec::new(alloc);
+    for f in 0..1999u16 {
+        calls.push((f, f + 1, 2))?;
+    }
+    let mut samples = vec![in alloc; 0u64; 1999]?;
+    samples.push(3)?;
+    program_of(alloc, samples.as_slice(), calls.as_slice())
+}
+
+/// How many arcs of this chain carry all time that there is: the last one as self time, each other as child time.
+fn arcs_with_all(graph: &Graph, flow: &ExactFlow) -> usize
+    requires selves { length flow.now.arc_self ≡ arc_count graph.now }
+    requires children { length flow.now.arc_child ≡ arc_count graph.now }
+{
+    let mut count = 0usize;
+    for i in 0..graph.arc_count() {
+        let own = flow.arc_self(i);
+        let child = flow.arc_child(i);
+        let all = if i == 1998 { own } else { child };
+        let none = if i == 1998 { child } else { own };
+        if (all.num(), all.den()) == (3_000_000, 1) && (none.num(), none.den()) == (0, 1) {
+            count = count.saturating_add(1);
+        }
+    }
+    count
+}
+
+#[test]
+fn a_chain_of_2000(rt: HostRuntime) -> Result<(), Fail> {
+    let Program { graph, shares } = chain(rt.alloc())?;
+    match exact(rt.alloc(), &graph, &shares) {
+        Ok(flow) => {
+            assert_eq!(rt; arcs_with_all(&graph, &flow), 1999);
+            assert_eq!(rt; flow.outside_arcs().len(), 1999);
+        }
+        Err(_) => assert!(rt; false, "refused"),
+    }
     Ok(())
 }

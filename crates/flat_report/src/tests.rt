@@ -1,135 +1,61 @@
-ghost use Rattle.std.specs.Prelude.{◌≡◌, ◌+◌, ◌*◌, ◌^◌, ◌<◌, ◌≤◌, IfOk, OnOk, length, sum};
-ghost use Rattle.std.specs.List.{All};
 ghost use Rattle.elf32_syms.specs.Owners.{IsAscending};
 
 use super::*;
 use call_cycles::graph;
-use elf32_syms::{Symbol, SymbolList};
-use gmon_data::{AddRefusal, Hist, Profile};
-use gp_base::{Name, Totals, Unit};
+use elf32_syms::Symbol;
+use gmon_data::{AddRefusal, Profile};
 use host_port::{HostCall, MemHost};
 use propagate::flow;
 use std::alloc::{AllocError, Global};
 use std::test::Fail;
 use symbol_shares::shares;
+use test_profiles::{
+    even_profile, named_symbols, profile_of_calls, profile_of_samples, symbols_in_reverse,
+    symbols_of,
+};
 
-/// A function's name, and its samples, of which 2^40 are taken at most. Without a name there are
-/// samples and no function.
+/// A function's name, and its samples. Without a name there are samples and no function.
 type Function<'a> = (&'a str, u64);
 
 /// Calls of one function by another: caller, callee and count. Functions have numbers, in the order
 /// of their addresses.
 type Calls = (u16, u16, u64);
 
-/// One histogram of these counters, of 16 addresses each, from 0x10000 on.
-fn profile_of(alloc: Global, counters: Totals) -> Result<Profile, AddRefusal>
-    requires samples { sum counters < 2 ^ 45 }
-    requires few { length counters ≤ 65536 }
-{
-    let unit = Unit {
-        rate: 100,
-        dim: *b"seconds\0\0\0\0\0\0\0\0",
-        abbrev: b's',
-    };
-    let count = counters.as_slice().len() as u32;
-    let hist = Hist {
-        low: 0x1_0000,
-        high: 0x1_0000 + 16 * count,
-        counters,
-    };
-    let mut profile = Profile::new(alloc);
-    if hist.low < hist.high {
-        profile.add_wide(&hist, unit)?;
-    }
-    Ok(profile)
-}
-
-/// A profile of the first 2000 of these calls, of 255 each at most.
-fn profile_of_calls(alloc: Global, calls: &[Calls]) -> Result<Profile, AllocError> {
-    let mut profile = Profile::new(alloc);
-    for (caller, callee, count) in &calls[..calls.len().min(2000)] {
-        let from = 0x1_0004 + 16 * u32::from(*caller);
-        let to = 0x1_0000 + 16 * u32::from(*callee);
-        profile.add_calls(from, to, (*count).min(255))?;
-    }
-    Ok(profile)
-}
-
-/// The samples of the first 16 functions.
-fn samples_of(alloc: Global, functions: &[Function<'_>]) -> Result<Totals, AllocError>
-    ensures samples { IfOk result (λ counters. sum counters < 2 ^ 45) }
-    ensures few { IfOk result (λ counters. length counters ≤ 65536) }
-{
-    let mut counters = Totals::new(alloc);
-    for function in functions {
-        if counters.as_slice().len() < 16 {
-            counters.push(function.1.min(1 << 40))?;
-        }
-    }
-    Ok(counters)
-}
-
-/// Adds the symbol that has the addresses of counter `i`.
-fn push_symbol(symbols: &mut SymbolList, i: u32, name: Name) -> Result<(), AllocError>
-    requires few { i < 65536 }
-    requires ascending { IsAscending symbols.old }
-    requires ended { All (λ s. s.end ≤ 65536 + 16 * i) symbols.old }
-    ensures ascending { OnOk result (IsAscending symbols.new) }
-    ensures ended { OnOk result (All (λ s. s.end ≤ 65552 + 16 * i) symbols.new) }
-{
-    symbols.push(Symbol {
-        addr: 0x1_0000 + 16 * i,
-        end: 0x1_0010 + 16 * i,
-        name,
-    })
-}
-
-fn name_of(alloc: Global, text: &str) -> Result<Name, AllocError> {
-    let mut name = Name::new(alloc);
-    for byte in text.as_bytes() {
-        name.push(*byte)?;
-    }
-    Ok(name)
-}
-
-/// The symbols of the first 16 functions.
-fn symbols_of(alloc: Global, functions: &[Function<'_>]) -> Result<SymbolList, AllocError>
-    ensures { IfOk result IsAscending }
-{
-    let mut symbols = SymbolList::new(alloc);
-    let mut i = 0;
-    for function in functions {
-        if i < 16 {
-            if !function.0.is_empty() {
-                push_symbol(&mut symbols, i, name_of(alloc, function.0)?)?;
-            }
-            i += 1;
-        }
-    }
-    Ok(symbols)
-}
-
-/// Prints the flat profile of these counters and calls.
-fn print_counters(
+/// Prints the flat profile of these samples and calls.
+fn print_profiles(
     alloc: Global,
-    counters: Totals,
     symbols: &[Symbol],
-    calls: &[Calls],
+    samples: &Profile,
+    calls: &Profile,
     rate: u32,
     hidden: &[String],
     host: &mut MemHost,
-) -> Result<Result<(), ReportRefusal>, AddRefusal>
-    requires samples { sum counters < 2 ^ 45 }
-    requires few { length counters ≤ 65536 }
-    requires ascending { IsAscending symbols.now }
-    requires rate { 1 ≤ rate }
+) -> Result<Result<(), ReportRefusal>, AllocError>
+    requires { IsAscending symbols.now }
 {
-    let profile = profile_of(alloc, counters)?;
-    let shares = shares(alloc, &profile, symbols)?;
-    let calls = profile_of_calls(alloc, calls)?;
-    let graph = graph(alloc, &calls, symbols)?;
+    let shares = shares(alloc, samples, symbols)?;
+    let graph = graph(alloc, calls, symbols)?;
     let flow = flow(alloc, &graph, &shares)?;
+    let rate = rate.max(1);
     Ok(write(alloc, symbols, &graph, &flow, &shares, rate, hidden, host))
+}
+
+/// The names of functions.
+fn names_in<'a>(alloc: Global, functions: &[Function<'a>]) -> Result<Vec<&'a str>, AllocError> {
+    let mut names = Vec::new(alloc);
+    for function in functions {
+        names.push(function.0)?;
+    }
+    Ok(names)
+}
+
+/// The samples of functions.
+fn samples_in(alloc: Global, functions: &[Function<'_>]) -> Result<Vec<u64>, AllocError> {
+    let mut samples = Vec::new(alloc);
+    for function in functions {
+        samples.push(function.1)?;
+    }
+    Ok(samples)
 }
 
 /// Prints the flat profile of these functions and calls, without the functions of hidden names.
@@ -141,17 +67,20 @@ fn print_hidden(
     hidden: &[String],
     host: &mut MemHost,
 ) -> Result<Result<(), ReportRefusal>, AddRefusal> {
-    let counters = samples_of(alloc, functions)?;
-    let symbols = symbols_of(alloc, functions)?;
-    print_counters(
+    let names = names_in(alloc, functions)?;
+    let symbols = named_symbols(alloc, names.as_slice())?;
+    let samples = profile_of_samples(alloc, samples_in(alloc, functions)?.as_slice())?;
+    let calls = profile_of_calls(alloc, calls)?;
+    let printed = print_profiles(
         alloc,
-        counters,
         symbols.as_slice(),
-        calls,
-        rate.max(1),
+        &samples,
+        &calls,
+        rate,
         hidden,
         host,
-    )
+    )?;
+    Ok(printed)
 }
 
 /// Prints the flat profile of these functions and calls.
@@ -538,39 +467,14 @@ fn a_failed_call_leaves_a_part_that_is_not_the_whole(rt: HostRuntime) -> Result<
     Ok(())
 }
 
-/// Four hexadecimal digits.
-fn hex4(alloc: Global, n: u16) -> Result<Name, AllocError> {
-    let mut name = Name::new(alloc);
-    for shift in [12, 8, 4, 0] {
-        let digit = (n >> shift) % 16;
-        let first = if digit < 10 { b'0' } else { b'a' - 10 };
-        name.push(first + digit as u8)?;
-    }
-    Ok(name)
-}
-
-/// A counter of 1 for each of so many functions.
-fn even_counters(alloc: Global, count: u32) -> Result<Totals, AllocError>
-    requires { count ≤ 65536 }
-    ensures samples { IfOk result (λ counters. sum counters < 2 ^ 45) }
-    ensures few { IfOk result (λ counters. length counters ≤ 65536) }
-{
-    let mut counters = Totals::new(alloc);
-    while counters.as_slice().len() < count as usize {
-        counters.push(1)?;
-    }
-    Ok(counters)
-}
-
-/// The symbols of 4,096 functions, of which the last has the first name.
-fn symbols_in_reverse(alloc: Global) -> Result<SymbolList, AllocError>
-    ensures { IfOk result IsAscending }
-{
-    let mut symbols = SymbolList::new(alloc);
-    for i in 0..4096 {
-        push_symbol(&mut symbols, i, hex4(alloc, (4095 - i) as u16)?)?;
-    }
-    Ok(symbols)
+#[test]
+fn a_short_report_makes_one_call(rt: HostRuntime) -> Result<(), Fail> {
+    let want = text(rt.alloc(), THREE_TOTALS, &THREE_LINES)?;
+    let mut host = MemHost::new(rt.alloc());
+    host.fail_at(1)?;
+    assert_eq!(rt; print(rt.alloc(), &THREE, &CYCLE, 100, &mut host)?, Ok(()));
+    assert_eq!(rt; host.printed(), want.as_slice());
+    Ok(())
 }
 
 /// One call of the first function by each of the next 2,000.
@@ -584,15 +488,15 @@ fn calls_of_the_first(alloc: Global) -> Result<Vec<Calls>, AllocError> {
 
 #[test]
 fn many_functions(rt: HostRuntime) -> Result<(), Fail> {
-    let counters = even_counters(rt.alloc(), 4096)?;
-    let symbols = symbols_in_reverse(rt.alloc())?;
-    let calls = calls_of_the_first(rt.alloc())?;
+    let samples = even_profile(rt.alloc(), 4096, 16)?;
+    let symbols = symbols_in_reverse(rt.alloc(), 4096)?;
+    let calls = profile_of_calls(rt.alloc(), calls_of_the_first(rt.alloc())?.as_slice())?;
     let mut host = MemHost::new(rt.alloc());
-    let printed = print_counters(
+    let printed = print_profiles(
         rt.alloc(),
-        counters,
         symbols.as_slice(),
-        calls.as_slice(),
+        &samples,
+        &calls,
         1,
         &[],
         &mut host,
@@ -612,5 +516,28 @@ fn many_functions(rt: HostRuntime) -> Result<(), Fail> {
         b"   0.02      4095.00       1.00                                          0ffd\n   0.02      4096.00       1.00                                          0ffe\n";
     assert!(rt; host.printed().ends_with(last));
     assert_eq!(rt; host.printed().len(), 132 + 4096 * 78);
+    Ok(())
+}
+
+#[test]
+fn functions_of_a_large_program(rt: HostRuntime) -> Result<(), Fail> {
+    let samples = even_profile(rt.alloc(), 65_536, 16)?;
+    let symbols = symbols_of(rt.alloc(), 65_536, 16)?;
+    let calls = Profile::new(rt.alloc());
+    let mut host = MemHost::new(rt.alloc());
+    let printed = print_profiles(
+        rt.alloc(),
+        symbols.as_slice(),
+        &samples,
+        &calls,
+        1,
+        &[],
+        &mut host,
+    )?;
+    assert_eq!(rt; printed, Ok(()));
+    let last =
+        b"   0.00     65536.00       1.00                                          \n";
+    assert!(rt; host.printed().ends_with(last));
+    assert_eq!(rt; host.printed().len(), 133 + 65_536 * 74);
     Ok(())
 }

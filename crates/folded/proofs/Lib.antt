@@ -3,3 +3,4 @@ pub mod TrailLemmas
 pub mod TallyLemmas
 pub mod FoldLemmas
 pub mod FollowLemmas
+pub mod LineLemmas

@@ -1,6 +1,10 @@
 -- The shadows and the samples of turns one after the other.
-use Rattle.std.proofs.Common.{◌≡◌, ◌∙◌, ◌+◌, ◌≤◌, ℕ, List, [], ◌∷◌, ◌++◌, Some, None, Option, if◌then◌else◌, append-nil, ap, drop, refl, sym}
-use Rattle.std.proofs.lemmas.List.{set-get_or}
+use Rattle.std.proofs.Common.{◌≡◌, ◌∙◌, ◌+◌, ◌≤◌, ℕ, List, [], ◌∷◌, ◌++◌, Some, None, Option, if◌then◌else◌, append-nil, append_assoc, ap, drop, map, refl, sym}
+use Rattle.std.specs.List.{cons_option}
+use Rattle.std.proofs.lemmas.List.{map-append, set-get_or}
+use Rattle.mcount_arcs.specs.Samples.{counted_samples}
+use Rattle.prof_machine.proofs.NotedLemmas.{samples_noted}
+use Rattle.prof_machine.specs.Laws.{noted_samples}
 use Rattle.prof_machine.proofs.PlanLemmas.{plan_front, plan_more}
 use Rattle.prof_machine.proofs.WorldLemmas.{ended_turn}
 use Rattle.prof_machine.specs.Notes.{look_note, note_by, note_of}
@@ -11,8 +15,8 @@ use Rattle.prof_machine.specs.declared.ending.End.{End}
 use Rattle.prof_machine.specs.declared.machine.Machine.{Machine}
 use Rattle.prof_machine.specs.declared.notes.TurnNote.{TurnNote}
 use Rattle.std.specs.Prelude.{is_some}
-use Rattle.folded.specs.Shadow.{empty_shadow}
-use Rattle.folded.specs.Trail.{StackSample, Trail, first_trail, followed, run_samples, samples_after, trail_after, trail_from}
+use Rattle.folded.specs.Shadow.{after_ran, empty_shadow}
+use Rattle.folded.specs.Trail.{StackSample, Trail, first_trail, followed, run_samples, samples_after, samples_of, shadow_of, trail_after, trail_from}
 
 pub trail_from-append : (m : Machine) (w : World) (t : Trail) (front back : List ℕ) → trail_from m w t (front ++ back) ≡ trail_from m (world_after m w front) (trail_from m w t front) back
 trail_from-append m w t [] back = refl
@@ -54,3 +58,28 @@ run_samples_at m w n end enough is =
     ap (λ (turns : List ℕ). trail_after m w turns) (sym (plan_front m.setup n (most_turns m.setup) enough))
     ∙ trail_from-append m w (first_trail m.setup.harts) (plan_of m.setup n) (drop n (plan_of m.setup (most_turns m.setup)))
     ∙ trail_ended m (planned m w n) (trail_after m w (plan_of m.setup n)) (drop n (plan_of m.setup (most_turns m.setup))) end is))
+
+-- ---- the samples that are followed are those that notes tell
+
+pcs_by : (samples : List StackSample) (frames : List ℕ) (o : Option ℕ) → map (λ (s : StackSample). s.pc) (samples ++ samples_of o frames) ≡ map (λ (s : StackSample). s.pc) samples ++ cons_option o []
+pcs_by samples frames None = map-append (λ (s : StackSample). s.pc) samples []
+pcs_by samples frames (Some pc) = map-append (λ (s : StackSample). s.pc) samples (record { frames = frames; pc = pc } ∷ [])
+
+pcs_more : (h : ℕ) (note : TurnNote) (t : Trail) → map (λ (s : StackSample). s.pc) (followed h note t).samples ≡ map (λ (s : StackSample). s.pc) t.samples ++ cons_option note.sample []
+unfolding followed
+pcs_more h note t = pcs_by t.samples (after_ran note.ran (shadow_of t.shadows h)).frames note.sample
+
+behind : (front : List ℕ) (o : Option ℕ) (rest : List ℕ) → (front ++ cons_option o []) ++ rest ≡ front ++ cons_option o rest
+behind front None rest = ap (λ (x : List ℕ). x ++ rest) (append-nil front)
+behind front (Some n) rest = append_assoc front (n ∷ []) rest
+
+pcs_from : (m : Machine) (w : World) (t : Trail) (turns : List ℕ) → map (λ (s : StackSample). s.pc) (trail_from m w t turns).samples ≡ map (λ (s : StackSample). s.pc) t.samples ++ noted_samples m w turns
+pcs_from m w t [] = sym (append-nil (map (λ (s : StackSample). s.pc) t.samples))
+pcs_from m w t (h ∷ turns) =
+    pcs_from m (turn_of m w h) (followed h (note_of m w h) t) turns
+    ∙ ap (λ (x : List ℕ). x ++ noted_samples m (turn_of m w h) turns) (pcs_more h (note_of m w h) t)
+    ∙ behind (map (λ (s : StackSample). s.pc) t.samples) (note_of m w h).sample (noted_samples m (turn_of m w h) turns)
+
+pub samples_counted : (m : Machine) (w : World) (turns : List ℕ) → counted_samples m.sizes (world_after m w turns).log ≡ counted_samples m.sizes w.log ++ map (λ (s : StackSample). s.pc) (samples_after m w turns)
+samples_counted m w turns =
+    samples_noted m w turns ∙ ap (λ (x : List ℕ). counted_samples m.sizes w.log ++ x) (sym (pcs_from m w (first_trail m.setup.harts) turns))

@@ -4,3 +4,4 @@ pub mod Stacks
 pub mod Tally
 pub mod Text
 pub mod Folding
+pub mod Laws

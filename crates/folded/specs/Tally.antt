@@ -1,5 +1,5 @@
 -- What contracts see of folded stacks.
-use Rattle.std.specs.Prelude.{◌≡◌, ℕ, ◌+◌, ◌<◌, ◌≤◌, List, length, map, slice_index, slice_index_or, Bool, Option, IfSome, All, if◌then◌else◌}
+use Rattle.std.specs.Prelude.{◌≡◌, ℕ, ◌+◌, ◌^◌, ◌<◌, ◌≤◌, List, length, map, slice_index, slice_index_or, Bool, Option, IfSome, All, if◌then◌else◌}
 use Rattle.std.specs.BTreeMap.{values}
 use Rattle.folded.specs.declared.tally.Folded.TheInside.{Inside}
 use Rattle.folded.specs.declared.tally.Mark.{Mark}
@@ -20,8 +20,10 @@ value_of a = record {
   inclusive = map (λ m. m.count) a.marks.items;
 }
 
--- what keeps its numbers within their ranges: none is above the number of samples
+-- what keeps its numbers within their ranges: none is above the number of samples, and each function has a number of
+-- 32 bits
 pub record IsMarked (a : Inside) : Type 0 where
+  pub functions : length a.marks.items < 2 ^ 32
   pub counts : All (λ m. m.count ≤ a.total) a.marks.items
   pub lasts : All (λ m. m.last ≤ a.total) a.marks.items
   pub lines : All (λ n. n ≤ a.total) (values a.lines)

@@ -43,19 +43,18 @@ impl Model for Folded {
 
 impl Folded {
     /// No sample, for so many functions.
-    pub(crate) fn new(alloc: Global, functions: usize) -> Result<Folded, AllocError>
+    pub(crate) fn new(alloc: Global, functions: u32) -> Result<Folded, AllocError>
         ensures { IfOk result (Folds functions []) }
     {
         Ok(Folded {
             lines: BTreeMap::new(alloc),
             total: 0,
-            marks: blank_marks(alloc, functions)?,
+            marks: blank_marks(alloc, functions as usize)?,
         })
     }
 
     /// The number of functions.
     pub fn function_count(&self) -> u32
-        requires { length self.now.inclusive < 2 ^ 32 }
         ensures { result ≡ length self.now.inclusive }
     {
         self.marks.len() as u32

@@ -25,7 +25,7 @@ pub(crate) struct Tracker {
 
 impl Tracker {
     /// Before the first turn.
-    pub(crate) fn new(alloc: Global, functions: usize, harts: u32) -> Result<Tracker, AllocError>
+    pub(crate) fn new(alloc: Global, functions: u32, harts: u32) -> Result<Tracker, AllocError>
         ensures follows { IfOk result (λ t. (symbols : List AnySymbol) → length symbols ≡ functions → Follows symbols (first_trail harts) t) }
         ensures functions { IfOk result (λ t. length t.folded.inclusive ≡ functions) }
         ensures total { IfOk result (λ t. t.folded.total ≡ 0) }

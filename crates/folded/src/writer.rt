@@ -21,8 +21,7 @@ pub fn write<H: Host>(
     inclusive: bool,
     host: &mut H,
 ) -> Result<(), Failed>
-    requires functions { length symbols.now ≡ length folded.now.inclusive }
-    requires few { length folded.now.inclusive < 2 ^ 32 }
+    requires { length symbols.now ≡ length folded.now.inclusive }
     ensures { Puts Output (if inclusive then inclusive_text symbols.now folded.now else folded_text symbols.now folded.now) (H.outside host.old) (H.outside host.new) result }
 {
     let mut lines = PrintBuf::new();
@@ -37,7 +36,6 @@ fn put_text<H: Host>(
     lines: &mut PrintBuf,
     host: &mut H,
 ) -> Result<(), Failed>
-    requires few { length folded.now.inclusive < 2 ^ 32 }
     ensures { Adds Output (if inclusive then inclusive_text symbols.now folded.now else folded_text symbols.now folded.now) lines.old lines.new
         (H.outside host.old) (H.outside host.new) result }
 {
@@ -157,7 +155,6 @@ fn put_functions<H: Host>(
     lines: &mut PrintBuf,
     host: &mut H,
 ) -> Result<(), Failed>
-    requires few { length folded.now.inclusive < 2 ^ 32 }
     ensures { Adds Output (inclusive_text symbols.now folded.now) lines.old lines.new (H.outside host.old) (H.outside host.new) result }
 {
     for f in 0..folded.function_count() {

@@ -1,5 +1,6 @@
 use super::*;
 use std::cmp::Ordering;
+use std::test::Fail;
 
 /// The two numbers of a fraction.
 fn numbers(f: Option<Frac>) -> Option<(u128, u128)> {
@@ -66,4 +67,15 @@ fn order(rt: HostRuntime) {
     assert!(rt; compared((1, 2), (1, 3)) == Some(Ordering::Greater));
     assert!(rt; Frac::new(1, 2) == Frac::new(2, 4));
     assert!(rt; Frac::new(1, 2) != Frac::new(1, 3));
+}
+
+#[test]
+fn copies(rt: HostRuntime) -> Result<(), Fail> {
+    let f = Frac::new(6, 4).unwrap();
+    let copy = f;
+    let clone = f.clone()?;
+    assert!(rt; (clone.num(), clone.den()) == (3, 2));
+    assert!(rt; (copy.num(), copy.den()) == (3, 2));
+    assert!(rt; clone == f);
+    Ok(())
 }

@@ -353,19 +353,43 @@ fn executed_instructions_are_written_to_the_byte(rt: HostRuntime) -> Result<(), 
     host.create_output("blocks").map_err(|_| "create")?;
     write_blocks(0x1_0000, &[1, 0, 258, 0], &mut host).map_err(|_| "write")?;
     assert_eq!(rt; host.file("blocks"), Some(EXECUTED.as_slice()));
-    let gmon = small_run(rt.alloc())?;
-    host.create_output("counted").map_err(|_| "create")?;
-    write_run(&gmon, 100, &mut host).map_err(|_| "write")?;
-    write_blocks(0x1_0000, &[1, 0, 258, 0], &mut host).map_err(|_| "write")?;
-    let records = read(rt.alloc(), host.file("counted").unwrap_or_default())?;
-    assert_eq!(rt; records.recs.as_slice().len(), 5, "the run's records and one more");
+    Ok(())
+}
+
+#[test]
+fn nothing_executed_has_no_record(rt: HostRuntime) -> Result<(), Fail> {
+    let mut host = MemHost::new(rt.alloc());
+    host.create_output("blocks").map_err(|_| "create")?;
     write_blocks(0x1_0000, &[0, 0], &mut host).map_err(|_| "write")?;
     write_blocks(0xFFFF_FFFC, &[], &mut host).map_err(|_| "write")?;
-    assert_eq!(rt;
-        host.file("blocks"),
-        Some(EXECUTED.as_slice()),
-        "no record of none"
-    );
+    let written = host.file("blocks").unwrap_or_default();
+    assert!(rt; written.is_empty());
+    Ok(())
+}
+
+#[test]
+fn executed_instructions_stand_behind_a_run(rt: HostRuntime) -> Result<(), Fail> {
+    let mut bytes = SMALL.to_vec(rt.alloc())?;
+    bytes.extend_from_slice(&EXECUTED)?;
+    let records = read(rt.alloc(), &bytes)?;
+    let recs = records.recs.as_slice();
+    assert_eq!(rt; recs.len(), 5, "the run's records and one more");
+    match recs.last() {
+        Some(Rec::Blocks(blocks)) => {
+            let executed = [
+                RawBlock {
+                    addr: 0x1_0000,
+                    count: 1,
+                },
+                RawBlock {
+                    addr: 0x1_0008,
+                    count: 258,
+                },
+            ];
+            assert_eq!(rt; blocks.as_slice(), executed.as_slice());
+        }
+        _ => assert!(rt; false, "counts of blocks"),
+    }
     Ok(())
 }
 

@@ -5,9 +5,8 @@ use Rattle.std.specs.List.{All, flat_map, range_with_len}
 use Rattle.std.proofs.lemmas.Bool.{cases_lt, cases_eq}
 use Rattle.std.proofs.lemmas.List.{get_or_append_left, get_or-append_right}
 use Rattle.std.proofs.lemmas.List.Elements.{All-append}
-use Rattle.call_cycles.specs.Sums.{numbers_below}
 use Rattle.call_cycles.specs.Heads.{pair_if}
-use Rattle.call_cycles.specs.Graph.{GraphValue, arc_count, component_count, leaves}
+use Rattle.call_cycles.specs.Graph.{GraphValue, arc_count, component_count}
 use Rattle.propagate.specs.Arcs.{outside_arcs_from, outside_arcs_of}
 use Rattle.propagate.proofs.ArcOrderLemmas.{in_row}
 

@@ -12,3 +12,5 @@ pub mod PrintLemmas
 pub mod TextLemmas
 pub mod ReportLemmas
 pub mod ExactLemmas
+pub mod RootLemmas
+pub mod RisingLemmas

@@ -1,6 +1,6 @@
 -- The text of an exact flow: a line for each component in order, each followed by a line for each outside arc that leaves
 -- it, in arc order. Fractions have both their numbers, in lowest terms.
-use Rattle.std.specs.Prelude.{ℕ, ◌++◌, List, [], codes, filter, slice_index, slice_get}
+use Rattle.std.specs.Prelude.{ℕ, ◌++◌, List, codes, filter, slice_index, slice_get}
 use Rattle.std.specs.List.{flat_map}
 use Rattle.std.specs.Option.{option_map_or}
 use Rattle.text_cols.specs.Columns.{decimal, hex8_of}

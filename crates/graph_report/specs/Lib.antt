@@ -8,3 +8,4 @@ pub mod Inputs
 pub mod Rows
 pub mod Numbers
 pub mod Subjects
+pub mod Roots

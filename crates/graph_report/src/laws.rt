@@ -7,6 +7,7 @@ ghost use Rattle.call_cycles.specs.Graph.{IsGraph, arc_at, arc_count, component_
 ghost use Rattle.flat_report.specs.Sources.{Sources as AnySources};
 ghost use Rattle.graph_report.specs.Entries.{Entry, comes_before, number_in, ordered};
 ghost use Rattle.graph_report.specs.GraphText.{graph_text, header_text, is_shown};
+ghost use Rattle.graph_report.specs.Roots.{TotalsAreTimes, NoTimeWithoutEntry, RootEntriesHaveAll, CallersRise, CalleesRise};
 ghost use Rattle.graph_report.specs.Rows.{cycle_entries, function_entries};
 ghost use Rattle.graph_report.specs.Subjects.{entry_text};
 ghost use Rattle.graph_report.specs.declared.subjects.Subject.TheVariants.{Function};
@@ -33,4 +34,18 @@ pub fn names_have_entries()
 pub fn entries_that_are_shown()
     ensures whole { (s : AnySources) → graph_text s [] ≡ header_text ++ flat_map (entry_text s) (ordered s) }
     ensures less { (s : AnySources) (hidden : List (List ℕ)) → graph_text s hidden ≡ header_text ++ flat_map (entry_text s) (filter (λ e. is_shown hidden e.subject e.name) (ordered s)) }
+{}
+
+/// The total of an entry is the time of its component; a component that has no entry has no time. So the totals
+/// of the entries of roots, which nothing calls from outside, are all time that there is.
+pub fn entries_of_roots()
+    ensures totals { TotalsAreTimes }
+    ensures none { NoTimeWithoutEntry }
+    ensures all { RootEntriesHaveAll }
+{}
+
+/// The callers of a function stand in the order of their addresses, each once, and so do its callees.
+pub fn callers_and_callees_rise()
+    ensures callers { CallersRise }
+    ensures callees { CalleesRise }
 {}

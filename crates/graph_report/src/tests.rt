@@ -1,137 +1,79 @@
-ghost use Rattle.std.specs.Prelude.{◌≡◌, ◌+◌, ◌*◌, ◌^◌, ◌<◌, ◌≤◌, IfOk, OnOk, length, sum};
-ghost use Rattle.std.specs.List.{All};
 ghost use Rattle.elf32_syms.specs.Owners.{IsAscending};
 
 use super::*;
 use call_cycles::graph;
-use elf32_syms::{Symbol, SymbolList};
-use gmon_data::{AddRefusal, Hist, Profile};
-use gp_base::{Name, Totals, Unit};
+use elf32_syms::Symbol;
+use exact_flow::exact;
+use gmon_data::{AddRefusal, Profile};
 use host_port::{HostCall, MemHost};
 use propagate::flow;
 use std::alloc::{AllocError, Global};
 use std::test::Fail;
 use symbol_shares::shares;
+use test_profiles::{
+    even_profile, named_symbols, profile_of_calls, profile_of_samples, symbols_in_reverse,
+    symbols_of,
+};
 
 /// A function's name, and its samples.
-type Function<'a> = (&'a str, u16);
+type Function<'a> = (&'a str, u64);
 
 /// Calls of one function by another: caller, callee and count, by their numbers.
 type Calls = (u16, u16, u64);
 
-/// Adds function `i`, which has 16 addresses.
-fn push_symbol(symbols: &mut SymbolList, i: u32, name: Name) -> Result<(), AllocError>
-    requires few { i < 65536 }
-    requires ascending { IsAscending symbols.old }
-    requires ended { All (λ s. s.end ≤ 65536 + 16 * i) symbols.old }
-    ensures ascending { OnOk result (IsAscending symbols.new) }
-    ensures ended { OnOk result (All (λ s. s.end ≤ 65552 + 16 * i) symbols.new) }
-{
-    symbols.push(Symbol {
-        addr: 0x1_0000 + 16 * i,
-        end: 0x1_0010 + 16 * i,
-        name,
-    })
-}
-
-fn name_of(alloc: Global, text: &str) -> Result<Name, AllocError> {
-    let mut name = Name::new(alloc);
-    for byte in text.as_bytes() {
-        name.push(*byte)?;
-    }
-    Ok(name)
-}
-
-/// The first 16 functions in a row, from 0x10000 on.
-fn symbols_of(alloc: Global, functions: &[Function<'_>]) -> Result<SymbolList, AllocError>
-    ensures { IfOk result IsAscending }
-{
-    let mut symbols = SymbolList::new(alloc);
-    let mut i = 0;
-    for function in functions {
-        if i < 16 {
-            push_symbol(&mut symbols, i, name_of(alloc, function.0)?)?;
-            i += 1;
-        }
-    }
-    Ok(symbols)
-}
-
-/// The samples of the first 65,535 functions.
-fn counters_of(alloc: Global, samples: &[u16]) -> Result<Totals, AllocError>
-    ensures samples { IfOk result (λ counters. sum counters < 2 ^ 45) }
-    ensures few { IfOk result (λ counters. length counters ≤ 65536) }
-{
-    let mut counters = Totals::new(alloc);
-    for count in samples {
-        if counters.as_slice().len() < 65535 {
-            counters.push(u64::from(*count))?;
-        }
-    }
-    Ok(counters)
-}
-
-/// One histogram of these counters, each of which has the addresses of one function.
-fn profile_of_samples(alloc: Global, counters: Totals) -> Result<Profile, AddRefusal>
-    requires samples { sum counters < 2 ^ 45 }
-    requires few { length counters ≤ 65536 }
-{
-    let unit = Unit {
-        rate: 100,
-        dim: *b"seconds\0\0\0\0\0\0\0\0",
-        abbrev: b's',
-    };
-    let count = counters.as_slice().len() as u32;
-    let hist = Hist {
-        low: 0x1_0000,
-        high: 0x1_0000 + 16 * count,
-        counters,
-    };
-    let mut profile = Profile::new(alloc);
-    if hist.low < hist.high {
-        profile.add_wide(&hist, unit)?;
-    }
-    Ok(profile)
-}
-
-/// A profile of the first 2000 of these calls, of 255 each at most.
-fn profile_of_calls(alloc: Global, calls: &[Calls]) -> Result<Profile, AllocError> {
-    let mut profile = Profile::new(alloc);
-    for (caller, callee, count) in &calls[..calls.len().min(2000)] {
-        let from = 0x1_0004 + 16 * u32::from(*caller);
-        let to = 0x1_0000 + 16 * u32::from(*callee);
-        profile.add_calls(from, to, (*count).min(255))?;
-    }
-    Ok(profile)
-}
-
-/// Prints the call graph of the functions that symbols name.
-fn print_symbols(
+/// Prints the call graph of these samples and calls.
+fn print_profiles(
     alloc: Global,
     symbols: &[Symbol],
-    samples: &[u16],
-    calls: &[Calls],
+    samples: &Profile,
+    calls: &Profile,
     rate: u32,
     hidden: &[String],
     host: &mut MemHost,
-) -> Result<Result<(), ReportRefusal>, AddRefusal>
+) -> Result<Result<(), ReportRefusal>, AllocError>
     requires { IsAscending symbols.now }
 {
-    let calls = profile_of_calls(alloc, calls)?;
-    let samples = profile_of_samples(alloc, counters_of(alloc, samples)?)?;
-    let graph = graph(alloc, &calls, symbols)?;
-    let shares = shares(alloc, &samples, symbols)?;
+    let shares = shares(alloc, samples, symbols)?;
+    let graph = graph(alloc, calls, symbols)?;
     let flow = flow(alloc, &graph, &shares)?;
-    Ok(write(
-        alloc,
-        symbols,
-        &graph,
-        &flow,
-        &shares,
-        rate.max(1),
-        hidden,
-        host,
-    ))
+    let rate = rate.max(1);
+    Ok(write(alloc, symbols, &graph, &flow, &shares, rate, hidden, host))
+}
+
+/// Prints the text of the exact flow of these samples and calls; false where a fraction is too wide.
+fn print_exact(
+    alloc: Global,
+    symbols: &[Symbol],
+    samples: &Profile,
+    calls: &Profile,
+    host: &mut MemHost,
+) -> Result<bool, AllocError>
+    requires { IsAscending symbols.now }
+{
+    let shares = shares(alloc, samples, symbols)?;
+    let graph = graph(alloc, calls, symbols)?;
+    match exact(alloc, &graph, &shares) {
+        Ok(times) => Ok(write_exact(symbols, &graph, &times, shares.attributed(), host).is_ok()),
+        Err(_) => Ok(false),
+    }
+}
+
+/// The names of functions.
+fn names_in<'a>(alloc: Global, functions: &[Function<'a>]) -> Result<Vec<&'a str>, AllocError> {
+    let mut names = Vec::new(alloc);
+    for function in functions {
+        names.push(function.0)?;
+    }
+    Ok(names)
+}
+
+/// The samples of functions.
+fn samples_in(alloc: Global, functions: &[Function<'_>]) -> Result<Vec<u64>, AllocError> {
+    let mut samples = Vec::new(alloc);
+    for function in functions {
+        samples.push(function.1)?;
+    }
+    Ok(samples)
 }
 
 /// Prints the call graph of these functions.
@@ -143,20 +85,20 @@ fn print(
     hidden: &[String],
     host: &mut MemHost,
 ) -> Result<Result<(), ReportRefusal>, AddRefusal> {
-    let symbols = symbols_of(alloc, functions)?;
-    let mut samples = Vec::new(alloc);
-    for function in functions {
-        samples.push(function.1)?;
-    }
-    print_symbols(
+    let names = names_in(alloc, functions)?;
+    let symbols = named_symbols(alloc, names.as_slice())?;
+    let samples = profile_of_samples(alloc, samples_in(alloc, functions)?.as_slice())?;
+    let calls = profile_of_calls(alloc, calls)?;
+    let printed = print_profiles(
         alloc,
         symbols.as_slice(),
         &samples,
-        calls,
+        &calls,
         rate,
         hidden,
         host,
-    )
+    )?;
+    Ok(printed)
 }
 
 /// The text with these lines.
@@ -597,44 +539,82 @@ fn a_failed_call_leaves_a_part_that_is_not_the_whole(rt: HostRuntime) -> Result<
     Ok(())
 }
 
-/// Four hexadecimal digits.
-fn hex4(alloc: Global, n: u16) -> Result<Name, AllocError> {
-    let mut name = Name::new(alloc);
-    for shift in [12, 8, 4, 0] {
-        let digit = (n >> shift) % 16;
-        let first = if digit < 10 { b'0' } else { b'a' - 10 };
-        name.push(first + digit as u8)?;
-    }
-    Ok(name)
+#[test]
+fn a_short_report_makes_one_call(rt: HostRuntime) -> Result<(), Fail> {
+    let want = text(rt.alloc(), &THREE_LINES)?;
+    let mut host = MemHost::new(rt.alloc());
+    host.fail_at(1)?;
+    assert_eq!(rt;
+        print(rt.alloc(), &THREE, &THREE_CALLS, 100, &[], &mut host)?,
+        Ok(())
+    );
+    assert_eq!(rt; host.printed(), want.as_slice());
+    Ok(())
 }
 
-/// The symbols of 1,200 functions, of which the last has the first name.
-fn symbols_in_reverse(alloc: Global) -> Result<SymbolList, AllocError>
-    ensures { IfOk result IsAscending }
-{
-    let mut symbols = SymbolList::new(alloc);
-    for i in 0..1_200 {
-        push_symbol(&mut symbols, i, hex4(alloc, (1_199 - i) as u16)?)?;
+/// What a row shows, samples, calls, and the text of the exact flow.
+type ExactRow = (
+    &'static str,
+    &'static [u64],
+    &'static [Calls],
+    &'static [u8],
+);
+
+#[test]
+fn exact_times(rt: HostRuntime) -> Result<(), Fail> {
+    let rows: [ExactRow; 4] = [
+        (
+            "a caller and its callee",
+            &[1, 5],
+            &[(0, 1, 3)],
+            b"exact flow\ncomponent 00010010 self 5000000 child 0/1\ncomponent 00010000 self 1000000 child 5000000/1\narc 00010000 00010010 self 5000000/1 child 0/1\nattributed 6000000\n",
+        ),
+        (
+            "three callers share a sample",
+            &[0, 0, 0, 1],
+            &[(0, 3, 1), (1, 3, 1), (2, 3, 1)],
+            b"exact flow\ncomponent 00010030 self 1000000 child 0/1\ncomponent 00010000 self 0 child 1000000/3\narc 00010000 00010030 self 1000000/3 child 0/1\ncomponent 00010010 self 0 child 1000000/3\narc 00010010 00010030 self 1000000/3 child 0/1\ncomponent 00010020 self 0 child 1000000/3\narc 00010020 00010030 self 1000000/3 child 0/1\nattributed 1000000\n",
+        ),
+        (
+            "arcs inside a cycle have no line, those of all its members stand below its head",
+            &[0, 0, 1, 1],
+            &[(0, 1, 1), (1, 0, 1), (0, 2, 1), (1, 2, 2), (1, 3, 1)],
+            b"exact flow\ncomponent 00010020 self 1000000 child 0/1\ncomponent 00010030 self 1000000 child 0/1\ncomponent 00010000 self 0 child 2000000/1\narc 00010000 00010020 self 1000000/3 child 0/1\narc 00010010 00010020 self 2000000/3 child 0/1\narc 00010010 00010030 self 1000000/1 child 0/1\nattributed 2000000\n",
+        ),
+        ("no functions", &[], &[], b"exact flow\nattributed 0\n"),
+    ];
+    for (message, samples, calls, want) in rows {
+        let symbols = symbols_of(rt.alloc(), samples.len().min(65_536) as u32, 16)?;
+        let samples = profile_of_samples(rt.alloc(), samples)?;
+        let calls = profile_of_calls(rt.alloc(), calls)?;
+        let mut host = MemHost::new(rt.alloc());
+        assert!(rt;
+            print_exact(rt.alloc(), symbols.as_slice(), &samples, &calls, &mut host)?,
+            "{message}"
+        );
+        assert_eq!(rt; host.printed(), want, "{message}");
     }
-    Ok(symbols)
+    Ok(())
 }
 
 /// A chain of 1,200 functions, each of which calls the next one; the last has 3 samples.
 #[test]
 fn many_functions(rt: HostRuntime) -> Result<(), Fail> {
-    let symbols = symbols_in_reverse(rt.alloc())?;
+    let symbols = symbols_in_reverse(rt.alloc(), 1_200)?;
     let mut calls = Vec::new(rt.alloc());
     for f in 0..1_199u16 {
         calls.push((f, f + 1, 2))?;
     }
-    let mut samples = vec![in rt.alloc(); 0u16; 1_199]?;
+    let mut samples = vec![in rt.alloc(); 0u64; 1_199]?;
     samples.push(3)?;
+    let samples = profile_of_samples(rt.alloc(), samples.as_slice())?;
+    let calls = profile_of_calls(rt.alloc(), calls.as_slice())?;
     let mut host = MemHost::new(rt.alloc());
-    let printed = print_symbols(
+    let printed = print_profiles(
         rt.alloc(),
         symbols.as_slice(),
         &samples,
-        calls.as_slice(),
+        &calls,
         100,
         &[],
         &mut host,
@@ -660,5 +640,34 @@ fn many_functions(rt: HostRuntime) -> Result<(), Fail> {
     // The two first lines, 1,200 own lines, 1,199 callers, 1,199 callees, one without callers, 1,200 rules.
     let len = 79 + 88_893 + 93_617 + 93_614 + 81 + 87_600;
     assert_eq!(rt; host.printed().len(), len);
+    Ok(())
+}
+
+#[test]
+fn functions_of_a_large_program(rt: HostRuntime) -> Result<(), Fail> {
+    let samples = even_profile(rt.alloc(), 65_536, 16)?;
+    let symbols = symbols_of(rt.alloc(), 65_536, 16)?;
+    let calls = Profile::new(rt.alloc());
+    let mut host = MemHost::new(rt.alloc());
+    let printed = print_profiles(
+        rt.alloc(),
+        symbols.as_slice(),
+        &samples,
+        &calls,
+        1,
+        &[],
+        &mut host,
+    )?;
+    assert_eq!(rt; printed, Ok(()));
+    let last =
+        b"[65536]    0.00        1.00        0.00                         [65536]\n------------------------------------------------------------------------\n";
+    assert!(rt; host.printed().ends_with(last));
+    // The two first lines; lines without callers, own lines but for their numbers, rules; the numbers.
+    let len = 79 + 65_536 * (81 + 67 + 73) + 316_574;
+    assert_eq!(rt; host.printed().len(), len);
+    let exact = print_exact(rt.alloc(), symbols.as_slice(), &samples, &calls, &mut host)?;
+    assert!(rt; exact);
+    // `exact flow`, a line for each component, `attributed 65536000000`.
+    assert_eq!(rt; host.printed().len(), len + 11 + 65_536 * 42 + 23);
     Ok(())
 }

@@ -1,6 +1,6 @@
 //! A run, from its start to its end.
 
-ghost use Rattle.std.specs.Prelude.{◌≡◌, ◌+◌, ◌*◌, ◌^◌, ◌<◌, ◌≤◌, ◌↔◌, ℕ, length, map, None, Some, Ok, IfOk, IfErr, OnOk, OnErr, IsSome, IsTrue, MatchResult, [], replicate, All, if◌then◌else◌};
+ghost use Rattle.std.specs.Prelude.{◌≡◌, ◌+◌, ◌*◌, ◌^◌, ◌<◌, ◌≤◌, ◌↔◌, ℕ, length, map, None, Some, Ok, IsOk, IfOk, IfErr, OnOk, OnErr, IsSome, IsTrue, MatchResult, [], replicate, All, if◌then◌else◌};
 ghost use Rattle.std.specs.List.{range_with_len};
 ghost use Rattle.elf32_syms.specs.Image.{IsWithinLimits};
 ghost use Rattle.host_port.specs.Outside.{KeepsCounts, KeepsInput};
@@ -140,15 +140,8 @@ impl Run {
         ensures few { work_left self.old ≤ most_turns self.old.machine.setup }
         ensures less { IsLive self.new → work_left self.new < work_left self.old }
     {
-        self.live = false;
-        let note = if self.holds_walk(hart) {
-            TurnNote::of_look(self.look(hart))
-        } else {
-            self.instruct(hart, host)?
-        };
-        self.close();
+        let note = self.advance(hart, host)?;
         self.note = note;
-        self.live = self.ending.is_none();
         Ok(self.turned())
     }
 
@@ -172,16 +165,17 @@ impl Run {
         ensures input { KeepsInput (H.outside host.old) (H.outside host.new) }
     {
         let mut plan = PlanWalk::new(&self.machine.setup);
-        loop {
+        'turns: loop {
             let hart = plan.next_hart();
-            match self.turn(hart, host)? {
+            let _note = self.advance(hart, host)?;
+            match self.turned() {
                 Turned::Going => {}
                 Turned::Ended(end) => return Ok(end),
             }
         }
     }
 
-    /// What the last turn did, if one was made and answered Ok. Takes no memory.
+    /// What the last turn did that `turn` made and answered Ok. Takes no memory.
     pub fn last_turn(&self) -> TurnNote
         ensures { result ≡ self.now.note }
     {
@@ -230,6 +224,42 @@ impl Run {
             lost: self.lost,
             state: self.gmon.state(),
         }
+    }
+
+    // One turn of a hart, whose note is answered and not kept.
+    #[inline(always)]
+    fn advance<H: Host>(&mut self, hart: u32, host: &mut H) -> Result<TurnNote, Failed>
+        requires live { IsLive self.old }
+        requires hart { hart < self.old.machine.setup.harts }
+        ensures stands { OnOk result ((w : World) → StandsFor w self.old → StandsFor (turn_of self.old.machine w hart) self.new) }
+        ensures live { IsLive self.new ↔ (IsOk result × (self.new.ending ≡ None)) }
+        ensures machine { self.new.machine ≡ self.old.machine }
+        ensures note { IfOk result (λ note. (w : World) → StandsFor w self.old → note ≡ note_of self.old.machine w hart) }
+
+        // What the outside has gained.
+        ensures prints { OnOk result ((w : World) → StandsFor w self.old
+            → ArePrinted w (turn_of self.old.machine w hart) (H.outside host.old) (H.outside host.new)) }
+        ensures fails { OnErr result ((w : World) → StandsFor w self.old
+            → BreaksOff w (turn_of self.old.machine w hart) (H.outside host.old) (H.outside host.new)) }
+        ensures counts { MatchResult result (λ _. KeepsCounts (H.outside host.old) (H.outside host.new)) (λ _. PrintFailed (H.outside host.old) (H.outside host.new)) }
+        ensures writing { (H.outside host.new).is_writing ≡ (H.outside host.old).is_writing }
+        ensures input { KeepsInput (H.outside host.old) (H.outside host.new) }
+
+        // A run has only so many turns left, and one that has ended has none.
+        ensures going { self.old.ending ≡ None }
+        ensures left { 0 < work_left self.old }
+        ensures few { work_left self.old ≤ most_turns self.old.machine.setup }
+        ensures less { IsLive self.new → work_left self.new < work_left self.old }
+    {
+        self.live = false;
+        let note = if self.holds_walk(hart) {
+            TurnNote::of_look(self.look(hart))
+        } else {
+            self.instruct(hart, host)?
+        };
+        self.close();
+        self.live = self.ending.is_none();
+        Ok(note)
     }
 
     // How the run stands between two turns.

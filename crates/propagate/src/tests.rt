@@ -1,99 +1,16 @@
-ghost use Rattle.std.specs.Prelude.{◌≡◌, ◌+◌, ◌*◌, ◌^◌, ◌<◌, ◌≤◌, IfOk, OnOk, length, sum};
-ghost use Rattle.std.specs.List.{All};
-ghost use Rattle.elf32_syms.specs.Owners.{IsAscending};
-ghost use Rattle.gmon_data.proofs.BoundLemmas.{IsAtMost};
+ghost use Rattle.std.specs.Prelude.{◌≡◌, ◌^◌, ◌<◌, IfOk, length};
 ghost use Rattle.call_cycles.specs.Graph.{all_calls, arc_count, component_count};
 
 use super::*;
 use call_cycles::{Graph, graph};
-use elf32_syms::{Symbol, SymbolList};
-use gmon_data::{AddRefusal, Hist, Profile};
-use gp_base::{Name, Totals, Unit};
+use gmon_data::AddRefusal;
 use std::alloc::{AllocError, Global};
 use std::test::Fail;
 use symbol_shares::{Shares, shares};
+use test_profiles::{even_profile, profile_of_calls, profile_of_samples, ring_of_calls, symbols_of};
 
 /// Calls of one function by another: caller, callee and count, by their numbers.
 type Calls = (u16, u16, u64);
-
-/// Adds function `i`, which has 16 addresses.
-fn push_symbol(symbols: &mut SymbolList, i: u32, name: Name) -> Result<(), AllocError>
-    requires few { i < 65536 }
-    requires ascending { IsAscending symbols.old }
-    requires ended { All (λ s. s.end ≤ 65536 + 16 * i) symbols.old }
-    ensures ascending { OnOk result (IsAscending symbols.new) }
-    ensures ended { OnOk result (All (λ s. s.end ≤ 65552 + 16 * i) symbols.new) }
-{
-    symbols.push(Symbol {
-        addr: 0x1_0000 + 16 * i,
-        end: 0x1_0010 + 16 * i,
-        name,
-    })
-}
-
-/// So many functions in a row, from 0x10000 on.
-fn symbols_of(alloc: Global, count: u16) -> Result<SymbolList, AllocError>
-    ensures { IfOk result IsAscending }
-{
-    let mut symbols = SymbolList::new(alloc);
-    for i in 0..u32::from(count) {
-        push_symbol(&mut symbols, i, Name::new(alloc))?;
-    }
-    Ok(symbols)
-}
-
-/// The samples of the first 65,535 functions.
-fn counters_of(alloc: Global, samples: &[u16]) -> Result<Totals, AllocError>
-    ensures samples { IfOk result (λ counters. sum counters < 2 ^ 45) }
-    ensures few { IfOk result (λ counters. length counters ≤ 65536) }
-{
-    let mut counters = Totals::new(alloc);
-    for count in samples {
-        if counters.as_slice().len() < 65535 {
-            counters.push(u64::from(*count))?;
-        }
-    }
-    Ok(counters)
-}
-
-/// Seconds, of which each has 100 samples.
-fn seconds() -> Unit {
-    Unit {
-        rate: 100,
-        dim: *b"seconds\0\0\0\0\0\0\0\0",
-        abbrev: b's',
-    }
-}
-
-/// One histogram of these counters, each of which has the addresses of one function.
-fn profile_of_samples(alloc: Global, counters: Totals) -> Result<Profile, AddRefusal>
-    requires samples { sum counters < 2 ^ 45 }
-    requires few { length counters ≤ 65536 }
-{
-    let unit = seconds();
-    let count = counters.as_slice().len() as u32;
-    let hist = Hist {
-        low: 0x1_0000,
-        high: 0x1_0000 + 16 * count,
-        counters,
-    };
-    let mut profile = Profile::new(alloc);
-    if hist.low < hist.high {
-        profile.add_wide(&hist, unit)?;
-    }
-    Ok(profile)
-}
-
-/// A profile of the first 2000 of these calls, of 255 each at most.
-fn profile_of_calls(alloc: Global, calls: &[Calls]) -> Result<Profile, AllocError> {
-    let mut profile = Profile::new(alloc);
-    for (caller, callee, count) in &calls[..calls.len().min(2000)] {
-        let from = 0x1_0004 + 16 * u32::from(*caller);
-        let to = 0x1_0000 + 16 * u32::from(*callee);
-        profile.add_calls(from, to, (*count).min(255))?;
-    }
-    Ok(profile)
-}
 
 /// A graph of functions, and their shares.
 #[derive(Drop)]
@@ -103,13 +20,13 @@ struct Program {
 }
 
 /// The program of functions with these samples and calls.
-fn program_of(alloc: Global, samples: &[u16], calls: &[Calls]) -> Result<Program, AddRefusal>
+fn program_of(alloc: Global, samples: &[u64], calls: &[Calls]) -> Result<Program, AddRefusal>
     ensures each { IfOk result (λ p. length p.shares.of ≡ p.graph.functions) }
     ensures few { IfOk result (λ p. all_calls p.graph < 2 ^ 59) }
 {
-    let symbols = symbols_of(alloc, samples.len().min(65535) as u16)?;
+    let symbols = symbols_of(alloc, samples.len().min(65_536) as u32, 16)?;
     let calls = profile_of_calls(alloc, calls)?;
-    let samples = profile_of_samples(alloc, counters_of(alloc, samples)?)?;
+    let samples = profile_of_samples(alloc, samples)?;
     Ok(Program {
         graph: graph(alloc, &calls, symbols.as_slice())?,
         shares: shares(alloc, &samples, symbols.as_slice())?,
@@ -161,7 +78,7 @@ fn functions_text(alloc: Global, graph: &Graph, flow: &Flow) -> Result<String, A
 }
 
 /// The times of components, arcs and functions.
-fn flow_text(alloc: Global, samples: &[u16], calls: &[Calls]) -> Result<String, AddRefusal> {
+fn flow_text(alloc: Global, samples: &[u64], calls: &[Calls]) -> Result<String, AddRefusal> {
     let Program { graph, shares } = program_of(alloc, samples, calls)?;
     let flow = flow(alloc, &graph, &shares)?;
     let components = components_text(alloc, &graph, &flow)?;
@@ -172,7 +89,7 @@ fn flow_text(alloc: Global, samples: &[u16], calls: &[Calls]) -> Result<String, 
 }
 
 /// What a row shows, the samples of its functions, their calls, and the times.
-type Row = (&'static str, &'static [u16], &'static [Calls], &'static str);
+type Row = (&'static str, &'static [u64], &'static [Calls], &'static str);
 
 #[test]
 fn times_of_components_arcs_and_functions(rt: HostRuntime) -> Result<(), Fail> {
@@ -257,9 +174,9 @@ fn chain(alloc: Global) -> Result<Program, AddRefusal>
     for f in 0..1499u16 {
         calls.push((f, f + 1, 2))?;
     }
-    let mut samples = vec![in alloc; 0u16; 1499]?;
+    let mut samples = vec![in alloc; 0u64; 1499]?;
     samples.push(3)?;
-    program_of(alloc, &samples, calls.as_slice())
+    program_of(alloc, samples.as_slice(), calls.as_slice())
 }
 
 #[test]
@@ -283,65 +200,17 @@ fn a_chain_of_1500(rt: HostRuntime) -> Result<(), Fail> {
     Ok(())
 }
 
-/// 65,536 functions of 256 addresses each, in a row from 0x10000 on.
-fn wide_symbols(alloc: Global) -> Result<SymbolList, AllocError>
-    ensures { IfOk result IsAscending }
-{
-    let mut symbols = SymbolList::new(alloc);
-    for i in 0..65_536 {
-        symbols.push(Symbol {
-            addr: 0x1_0000 + 256 * i,
-            end: 0x1_0100 + 256 * i,
-            name: Name::new(alloc),
-        })?;
-    }
-    Ok(symbols)
-}
-
-/// A sample in each 4 addresses of these functions.
-fn wide_samples(alloc: Global) -> Result<Profile, AddRefusal>
-    ensures { IfOk result (λ p. IsAtMost p 4194304) }
-{
-    let mut counters = Totals::new(alloc);
-    for _i in 0..4_194_304u32 {
-        counters.push(1)?;
-    }
-    let hist = Hist {
-        low: 0x1_0000,
-        high: 0x101_0000,
-        counters,
-    };
-    let mut profile = Profile::new(alloc);
-    profile.add_wide(&hist, seconds())?;
-    Ok(profile)
-}
-
-/// These samples, and a call of each function to each of the 32 that follow it in a ring; or, cut, only
-/// to those of them that have greater numbers.
-fn wide_profile(alloc: Global, cut: bool) -> Result<Profile, AddRefusal> {
-    let mut profile = wide_samples(alloc)?;
-    for k in 0..2_097_152u32 {
-        let caller = k / 32;
-        let callee = caller + 1 + k % 32;
-        if !cut || callee < 65_536 {
-            let from = 0x1_0000 + 256 * caller;
-            let to = 0x1_0000 + 256 * (callee % 65_536);
-            profile.add_calls(from, to, 1)?;
-        }
-    }
-    Ok(profile)
-}
-
-/// The graph and the shares of this profile.
+/// 65,536 functions of 256 addresses each with a sample in each 4 addresses, and calls in a ring, cut or not.
 fn wide_ring(alloc: Global, cut: bool) -> Result<Program, AddRefusal>
     ensures each { IfOk result (λ p. length p.shares.of ≡ p.graph.functions) }
     ensures few { IfOk result (λ p. all_calls p.graph < 2 ^ 59) }
 {
-    let symbols = wide_symbols(alloc)?;
-    let profile = wide_profile(alloc, cut)?;
+    let symbols = symbols_of(alloc, 65_536, 256)?;
+    let calls = ring_of_calls(alloc, 256, cut)?;
+    let samples = even_profile(alloc, 4_194_304, 4)?;
     Ok(Program {
-        graph: graph(alloc, &profile, symbols.as_slice())?,
-        shares: shares(alloc, &profile, symbols.as_slice())?,
+        graph: graph(alloc, &calls, symbols.as_slice())?,
+        shares: shares(alloc, &samples, symbols.as_slice())?,
     })
 }
 

@@ -43,7 +43,7 @@ module _ (words : List (List ℕ)) (start mid new : Outside) (below : ℕ) (done
       goes_on words start mid below done start_fault_of (start_refusal image setup) (one_by_one (final_world image bytes setup).prints (stacks_told inclusive image bytes setup)) s
       (starts_is image bytes setup given used v started)
 
-  first : World
+  abbrev first : World
   first = start_of image given used
 
   -- it was folded to its end

@@ -83,7 +83,7 @@ profile_is form v z log rate stands sizes = profile_stands form v rate log stand
 
 -- the record of executions
 counts_are : (m : Machine) (w : World) → block_record m.sizes.low (exec_counts_of m w.ran) ≡ counts_text m.setup.blocks m.sizes w
-unfolding exec_counts_of, block_record
+unfolding exec_counts_of block_record
 counts_are m w = by m.setup.blocks
   where
     by : (b : Bool) → record_of (executed_blocks m.sizes.low (if b then executions_in m.sizes w.ran else [])) ≡ counts_text b m.sizes w

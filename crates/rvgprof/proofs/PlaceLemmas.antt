@@ -1,12 +1,15 @@
 -- Input files among the operands, which stand in the order of their words.
-use Rattle.std.proofs.Common.{◌≡◌, ℕ, zero, suc, ◌+◌, ◌-◌, ◌<◌, ◌≤◌, Bool, true, false, cond, ◌&&◌, List, [], ◌∷◌, ◌++◌, length, take, drop, get_or, Option, Some, None, refl, sym, ap, subst, ◌∙◌, arith}
+use Rattle.std.proofs.Common.{◌≡◌, ℕ, zero, suc, ◌+◌, ◌-◌, ◌<◌, ◌≤◌, Bool, true, false, cond, ◌&&◌, List, [], ◌∷◌, ◌++◌, length, take, drop, get_or, Option, Some, None, map, string_bytes, Global, String, refl, sym, ap, subst, ◌∙◌, arith}
 use Rattle.std.specs.Prelude.{IfSome, nat_lt, nat_le, if◌then◌else◌}
-use Rattle.std.specs.List.{AllByRecursion}
+use Rattle.std.specs.List.{All, AllByRecursion}
+use Rattle.std.proofs.lemmas.List.Elements.{All-from_recursion}
+use Rattle.arc_filter.specs.Cuts.{is_cut_word}
 use Rattle.std.specs.Option.{option_map, option_and_then}
 use Rattle.rvgprof.specs.declared.options.Key.{Key}
 use Rattle.rvgprof.specs.declared.options.Takes.{Takes}
 use Rattle.rvgprof.specs.declared.items.Wanted.TheVariants.{AnOperand}
-use Rattle.rvgprof.specs.Items.{Item, Operand, Given, is_option, with_item, items_from, items_of_option, places, up_to}
+use Rattle.rvgprof.specs.Answer.{names_at}
+use Rattle.rvgprof.specs.Items.{Item, Operand, Given, is_option, with_item, items_from, items_of_option, name_of, places, up_to}
 use Rattle.rvgprof.specs.Options.{option_of, kind_of, is_flag}
 use Rattle.rvgprof.specs.declared.words.Command.{Command}
 use Rattle.rvgprof.specs.declared.words.Command.TheVariants.{Show, Syms, Run, Sum, Report, Profile, Demo, Annotate, Folded, Help, Version}
@@ -94,6 +97,11 @@ items_ordered takes i (word ∷ value ∷ words) items e =
     let later = items_ordered takes (i + 2) words more (subst (λ (xs : List (List ℕ)). items_from takes (i + 2) xs ≡ Some more) same h) in
     record { from = weaker (i + 1) (i + 2) (places AnOperand more) (omega arith) later.from; rising = later.rising })
     e
+
+pub rising_drop : (n : ℕ) (ps : List ℕ) → AreRising ps → AreRising (drop n ps)
+rising_drop zero ps rising = rising
+rising_drop (suc n) [] rising = tt
+rising_drop (suc n) (p ∷ ps) rising = rising_drop n ps rising.1
 
 -- the operands stand in order
 pub rising_operands : (takes : Takes) (words : List (List ℕ)) (r : Option (List ℕ)) → r ≡ option_and_then (λ items. up_to 18 (operands_of items)) (items_from takes 0 words) → IfSome r AreRising
@@ -199,3 +207,24 @@ module _ (words : List (List ℕ)) where
           → IfSome (if b then Some (record { shown = shown_asked flat graph; exact = exact; cuts = cuts; hidden = hidden }) else None) (AreCuts words)
       by true is = is
       by false is = tt
+
+-- ---- what is cut
+
+-- the words at these positions are words FROM/TO
+pub cut_words : (words : List (List ℕ)) (places : List ℕ) (names : List (String Global)) → are_cuts words places ≡ true → map string_bytes names ≡ names_at words places → All (λ name. is_cut_word (string_bytes name) ≡ true) names
+cut_words words places names all same = All-from_recursion (λ (name : String Global). is_cut_word (string_bytes name) ≡ true) names (go places names all same)
+  where
+    go : (places : List ℕ) (names : List (String Global)) → are_cuts words places ≡ true → map string_bytes names ≡ names_at words places → AllByRecursion (λ (name : String Global). is_cut_word (string_bytes name) ≡ true) names
+    go places [] all same = tt
+    go [] (name ∷ names) all same = absurd cc
+    go (place ∷ places) (name ∷ names) all same = by (is_cut_word (name_of words place)) refl all
+      where
+        first : string_bytes name ≡ name_of words place
+        first = cc
+
+        others : map string_bytes names ≡ names_at words places
+        others = cc
+
+        by : (b : Bool) → is_cut_word (name_of words place) ≡ b → (b && are_cuts words places) ≡ true → AllByRecursion (λ (name : String Global). is_cut_word (string_bytes name) ≡ true) (name ∷ names)
+        by true is rest = (ap is_cut_word first ∙ is, go places names rest others)
+        by false is rest = absurd cc

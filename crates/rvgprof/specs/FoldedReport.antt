@@ -1,5 +1,5 @@
 -- The text of a run's folded stacks.
-use Rattle.std.specs.Prelude.{ℕ, Bool, true, false, List, map, length}
+use Rattle.std.specs.Prelude.{ℕ, Bool, true, false, List, Option, map, length}
 use Rattle.std.specs.List.{range_with_len}
 use Rattle.elf32_syms.specs.declared.image.Image.{Image}
 use Rattle.elf32_syms.specs.declared.image.Symbol.{Symbol}

@@ -6,7 +6,9 @@ ghost use Rattle.std.specs.List.{cons_option};
 ghost use Rattle.rvgprof.specs.Items.{Operand, Given, place_of, is_option, items_from, places, nth, place_given, places_given, up_to, name_of, number_given, setting, is_key};
 ghost use Rattle.rvgprof.specs.Options.{kind_of as kind_in, IsNumberOf};
 
-use crate::options::{Key, Takes, is_flag, key_number, kind_of, most_times, number_of_kind, option_of};
+use crate::options::{
+    Key, Takes, is_flag, key_number, kind_of, most_times, number_of_kind, option_of,
+};
 use crate::places::Places;
 
 /// What is looked for.
@@ -111,14 +113,6 @@ fn find_behind(
             find(takes, words, position, wanted, skip - 1)
         }
     }
-}
-
-/// Where the operand stands that comes behind so many others.
-pub fn operand_at(takes: Takes, words: &[String], skip: u32) -> Option<Option<u32>>
-    requires { length words.now ≤ 200 }
-    ensures { result ≡ option_map (λ items. nth skip (places Wanted.AnOperand items)) (items_from takes 0 (map string_bytes words.now)) }
-{
-    find(takes, words, 0, Wanted::AnOperand, skip)
 }
 
 /// Where the first value of an option stands; `None` where the words can't be read or give it too often.

@@ -7,11 +7,7 @@ use crate::items::name_at;
 use std::alloc::{AllocError, Global};
 
 /// The words at these positions.
-pub fn names_at(
-    alloc: Global,
-    words: &[String],
-    places: &[u32],
-) -> Result<Vec<String>, AllocError>
+pub fn names_at(alloc: Global, words: &[String], places: &[u32]) -> Result<Vec<String>, AllocError>
     ensures { IfOk result (λ names. map string_bytes names.items ≡ names_at (map string_bytes words.now) places.now) }
 {
     let mut names = Vec::new(alloc);

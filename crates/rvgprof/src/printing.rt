@@ -52,7 +52,15 @@ pub fn print_reports<H: Host>(
         Ok(exact) => exact,
         Err(refusal) => return Err(exact_fault(refusal)),
     };
-    match print_all(alloc, selection.shown, image, &sources, &hidden, &exact, host) {
+    match print_all(
+        alloc,
+        selection.shown,
+        image,
+        &sources,
+        &hidden,
+        &exact,
+        host,
+    ) {
         Ok(()) => Ok(()),
         Err(refusal) => Err(report_fault(refusal)),
     }

@@ -158,12 +158,7 @@ fn write_held<H: Host>(
 }
 
 /// Writes the profile of a runtime in a form to the file that is being written.
-fn write_runtime<H: Host>(
-    gmon: &Gmon,
-    form: Form,
-    rate: u32,
-    host: &mut H,
-) -> Result<(), Failed>
+fn write_runtime<H: Host>(gmon: &Gmon, form: Form, rate: u32, host: &mut H) -> Result<(), Failed>
     requires { (H.outside host.old).is_writing ≡ true }
     ensures puts { Puts File (runtime_text form gmon.now rate) (H.outside host.old) (H.outside host.new) result }
     ensures ready { OnOk result ((H.outside host.new).is_writing ≡ true) }

@@ -56,6 +56,7 @@ fn fold_program<H: Host>(
     requires limits { IsWithinLimits (length bytes.now) image.now }
     requires setup { IsSetup setup }
     ensures folds { FoldsProgram image.now bytes.now setup (H.outside host.old) (H.outside host.new) result }
+    ensures functions { IfOk result (λ done. length done.1.inclusive ≡ length image.now.symbols) }
     ensures ended { IfOk result (λ done. IsRunOf image.now bytes.now setup done.0) }
 {
     let mut run = match Run::start(alloc, image, bytes, setup) {

@@ -2,7 +2,6 @@ pub mod BucketLemmas
 pub mod OrderLemmas
 pub mod SumLemmas
 pub mod WalkLemmas
-pub mod ProfileLemmas
 pub mod PartLemmas
 pub mod CoverLemmas
 pub mod RangeLemmas

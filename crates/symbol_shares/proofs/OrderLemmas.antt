@@ -20,16 +20,6 @@ ends-below symbols h k (suc j) d less below =
     (λ (here : j ≤ k). let same : k ≡ j = omega arith in rw same next)
     (cases_lt k j)
 
--- a symbol's place is below its end
-pub place-below-end : (symbols : List Symbol) → IsAscending symbols → (i : ℕ) (d : Symbol) → i < length symbols → i < (get_or symbols i d).end
-place-below-end symbols h zero d below = let e = h.each 0 d below in omega (arith, e)
-place-below-end symbols h (suc i) d below =
-    let before = place-below-end symbols h i d (omega arith) in
-    let one : i + 1 ≡ suc i = omega arith in
-    let a = rw one at (h.apart i d (omega arith)) in
-    let e = h.each (suc i) d below in
-    omega (arith, before, a, e)
-
 -- the symbols behind the first are in order
 pub ascending-tail : (s : Symbol) (symbols : List Symbol) → IsAscending (s ∷ symbols) → IsAscending symbols
 ascending-tail s symbols h = record {

@@ -1,3 +1,4 @@
 pub mod Shares
 pub mod Parts
 pub mod Ranges
+pub mod Laws

@@ -4,18 +4,10 @@ ghost use Rattle.elf32_syms.specs.Owners.{IsAscending};
 use super::*;
 use elf32_syms::{Symbol, SymbolList};
 use gmon_data::{AddRefusal, Hist, Profile};
-use gp_base::{Name, Totals, Unit};
+use gp_base::{Name, Totals};
 use std::alloc::{AllocError, Global};
 use std::test::Fail;
-
-/// 100 samples a second.
-fn seconds() -> Unit {
-    Unit {
-        rate: 100,
-        dim: *b"seconds\0\0\0\0\0\0\0\0",
-        abbrev: b's',
-    }
-}
+use test_profiles::{even_profile, seconds, symbols_of};
 
 /// A histogram: low and high address, and counters, of which the first 16 are taken.
 type Row<'a> = (u32, u32, &'a [u8]);
@@ -39,15 +31,14 @@ fn hist(alloc: Global, row: Row<'_>) -> Result<Hist, AllocError>
     })
 }
 
-/// A profile of two histograms. One without counters is none.
-fn profile_of(alloc: Global, one: Row<'_>, other: Row<'_>) -> Result<Profile, AddRefusal> {
-    let unit = seconds();
+/// A profile of the first five of these histograms. One without counters is none.
+fn profile_of(alloc: Global, rows: &[Row<'_>]) -> Result<Profile, AddRefusal> {
     let mut profile = Profile::new(alloc);
-    let one = hist(alloc, one)?;
-    let other = hist(alloc, other)?;
-    if one.low < one.high && other.low < other.high {
-        profile.add_wide(&one, unit)?;
-        profile.add_wide(&other, unit)?;
+    for i in 0..rows.len().min(5) {
+        let hist = hist(alloc, rows[i])?;
+        if hist.low < hist.high {
+            profile.add_wide(&hist, seconds(100))?;
+        }
     }
     Ok(profile)
 }
@@ -83,11 +74,10 @@ fn share(shares: &Shares, f: u32) -> u128 {
 /// The shares of three symbols, what they have together, and what is left.
 fn outcome(
     alloc: Global,
-    one: Row<'_>,
-    other: Row<'_>,
+    rows: &[Row<'_>],
     places: &[(u32, u32)],
 ) -> Result<([u128; 3], u128, u128), AddRefusal> {
-    let profile = profile_of(alloc, one, other)?;
+    let profile = profile_of(alloc, rows)?;
     let symbols = symbols_at(alloc, places)?;
     let shares = shares(alloc, &profile, symbols.as_slice())?;
     Ok((
@@ -201,53 +191,34 @@ fn shares_of_symbols(rt: HostRuntime) -> Result<(), Fail> {
         ),
     ];
     for (name, one, other, places, want) in rows {
-        let outcome = outcome(rt.alloc(), one, other, &places)?;
+        let outcome = outcome(rt.alloc(), &[one, other], &places)?;
         assert_eq!(rt; outcome, want, "{name}");
     }
     Ok(())
 }
 
-/// One histogram of so many counters of 1, of 4 addresses each, from 0x10000 on.
-fn even_profile(alloc: Global, count: u32) -> Result<Profile, AddRefusal>
-    requires { count ≤ 4194304 }
-{
-    let mut counters = Totals::new(alloc);
-    while counters.as_slice().len() < count as usize {
-        counters.push(1)?;
-    }
-    let hist = Hist {
-        low: 0x1_0000,
-        high: 0x1_0000 + 4 * count,
-        counters,
-    };
-    let unit = seconds();
-    let mut profile = Profile::new(alloc);
-    if hist.low < hist.high {
-        profile.add_wide(&hist, unit)?;
-    }
-    Ok(profile)
-}
-
-/// So many symbols of 256 addresses each, from 0x10000 on.
-fn even_symbols(alloc: Global, count: u32) -> Result<SymbolList, AllocError>
-    requires { count ≤ 65536 }
-    ensures { IfOk result IsAscending }
-{
-    let mut symbols = SymbolList::new(alloc);
-    for i in 0..count {
-        symbols.push(Symbol {
-            addr: 0x1_0000 + 256 * i,
-            end: 0x1_0100 + 256 * i,
-            name: Name::new(alloc),
-        })?;
-    }
-    Ok(symbols)
+/// Five histograms, of which the second and the last touch others; the second symbol begins in the
+/// first histogram and ends in the fourth.
+#[test]
+fn five_histograms(rt: HostRuntime) -> Result<(), Fail> {
+    let rows = [
+        (0x1100, 0x1104, b"\x04".as_slice()),
+        (0x1000, 0x1010, b"\x01\x01\x01\x01".as_slice()),
+        (0x1010, 0x1020, b"\x08".as_slice()),
+        (0x1200, 0x1210, b"\x10\x20".as_slice()),
+        (0x1104, 0x1108, b"\x02".as_slice()),
+    ];
+    let places = [(0x0, 0x1008), (0x1008, 0x1204), (0x1204, 0x2000)];
+    let outcome = outcome(rt.alloc(), &rows, &places)?;
+    let want = ([2_000_000, 24_000_000, 40_000_000], 66_000_000, 0);
+    assert_eq!(rt; outcome, want);
+    Ok(())
 }
 
 #[test]
 fn many_symbols(rt: HostRuntime) -> Result<(), Fail> {
-    let profile = even_profile(rt.alloc(), 4_194_304)?;
-    let symbols = even_symbols(rt.alloc(), 65_536)?;
+    let profile = even_profile(rt.alloc(), 4_194_304, 4)?;
+    let symbols = symbols_of(rt.alloc(), 65_536, 256)?;
     let shares = shares(rt.alloc(), &profile, symbols.as_slice())?;
     assert_eq!(rt; shares.function_count(), 65_536);
     assert_eq!(rt; shares.attributed(), 4_194_304_000_000);
@@ -269,16 +240,11 @@ fn grains(profile: &Profile, low: u32, high: u32) -> Option<u128> {
 
 #[test]
 fn grains_of_ranges(rt: HostRuntime) -> Result<(), Fail> {
-    let two = profile_of(
-        rt.alloc(),
-        (0x1010, 0x1020, b"\x02\x04".as_slice()),
-        (0x1000, 0x1010, b"\x07".as_slice()),
-    )?;
-    let odd = profile_of(
-        rt.alloc(),
-        (0x1000, 0x1007, b"\x02\x05\x01".as_slice()),
-        (0, 1, b"".as_slice()),
-    )?;
+    let upper = (0x1010, 0x1020, b"\x02\x04".as_slice());
+    let lower = (0x1000, 0x1010, b"\x07".as_slice());
+    let two = profile_of(rt.alloc(), &[upper, lower])?;
+    let thirds = (0x1000, 0x1007, b"\x02\x05\x01".as_slice());
+    let odd = profile_of(rt.alloc(), &[thirds])?;
     let none = Profile::new(rt.alloc());
     for (name, profile, low, high, want) in [
         ("part of a bucket", &two, 0x1000, 0x1004, 1_750_000),
@@ -303,7 +269,7 @@ fn grains_of_ranges(rt: HostRuntime) -> Result<(), Fail> {
 
 #[test]
 fn many_ranges(rt: HostRuntime) -> Result<(), Fail> {
-    let profile = even_profile(rt.alloc(), 4_194_304)?;
+    let profile = even_profile(rt.alloc(), 4_194_304, 4)?;
     for f in 0..65_536 {
         let low = 0x1_0000 + 256 * f;
         assert_eq!(rt; grains(&profile, low, low + 16), Some(4_000_000), "{f}");

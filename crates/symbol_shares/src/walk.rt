@@ -1,7 +1,8 @@
 //! One walk over the buckets of all histograms, and over the symbols beside them.
 
-ghost use Rattle.std.specs.Prelude.{◌≡◌, ◌+◌, ◌*◌, ◌^◌, ◌<◌, ◌≤◌, length, map, sum, slice_index, take, IfOk};
+ghost use Rattle.std.specs.Prelude.{◌≡◌, ◌+◌, ◌*◌, ◌^◌, ◌<◌, ◌≤◌, length, map, sum, slice_get, slice_index, take, Some, IfOk};
 ghost use Rattle.std.specs.List.{All};
+ghost use Rattle.elf32_syms.specs.declared.image.Symbol.{Symbol as AnySymbol};
 ghost use Rattle.elf32_syms.specs.Owners.{IsAscending};
 ghost use Rattle.gmon_data.specs.Content.{IsProfile};
 ghost use Rattle.gmon_data.specs.Hists.{IsKept, pointwise_sum, samples_of};
@@ -9,12 +10,12 @@ ghost use Rattle.symbol_shares.specs.Shares.{attributed_of, bucket_begin, share_
 
 use crate::bucket::{GRAINS, is_above, share_of_bucket};
 use crate::table::Shares;
-use elf32_syms::Symbol;
+use elf32_syms::{Symbol, symbol_count};
 use gmon_data::{Hist, Profile};
 use std::alloc::{AllocError, Global};
 
 /// Adds what each symbol gets of bucket `i`, where the first `from` symbols end at or below its
-/// begin. Answers how many symbols have ended at its end, at least.
+/// begin. Answers how many symbols have ended at its end: the next one, if there is one, goes on.
 fn add_bucket(of: &mut [u128], symbols: &[Symbol], from: usize, hist: &Hist, i: usize) -> usize
     requires same { length of.old ≡ length symbols.now }
     requires ascending { IsAscending symbols.now }
@@ -27,6 +28,7 @@ fn add_bucket(of: &mut [u128], symbols: &[Symbol], from: usize, hist: &Hist, i: 
     ensures added { of.new ≡ pointwise_sum of.old (map (bucket_share_of hist.now i) symbols.now) }
     ensures inside { result ≤ length symbols.now }
     ensures ended { All (λ s. s.end * length hist.now.counters ≤ bucket_begin hist.now (i + 1)) (take result symbols.now) }
+    ensures goes_on { (s : AnySymbol) → slice_get symbols.now result ≡ Some s → bucket_begin hist.now (i + 1) < s.end * length hist.now.counters }
 {
     for k in from..symbols.len() {
         let symbol = &symbols[k];
@@ -82,31 +84,7 @@ fn total(numbers: &[u128]) -> u128
     requires { sum numbers.now < 2 ^ 128 }
     ensures { result ≡ sum numbers.now }
 {
-    let mut total = 0;
-    for number in numbers {
-        total += *number;
-    }
-    total
-}
-
-/// The number of symbols of which the last has this place, below its end.
-fn count_to(last: usize, end: u32) -> u32
-    requires { last < end }
-    ensures { result ≡ last + 1 }
-{
-    last as u32 + 1
-}
-
-/// The number of symbols.
-fn count(symbols: &[Symbol]) -> u32
-    requires { IsAscending symbols.now }
-    ensures { result ≡ length symbols.now }
-{
-    if symbols.is_empty() {
-        return 0;
-    }
-    let last = symbols.len() - 1;
-    count_to(last, symbols[last].end)
+    numbers.iter().sum()
 }
 
 /// What each symbol gets of a profile's histograms, and what is left. The symbols are in order, as
@@ -125,5 +103,5 @@ pub fn shares(alloc: Global, profile: &Profile, symbols: &[Symbol]) -> Result<Sh
     let of = shares_of_symbols(alloc, profile, symbols)?;
     let attributed = total(of.as_slice());
     let outside = grains - attributed;
-    Ok(Shares::new(count(symbols), of, attributed, outside))
+    Ok(Shares::new(symbol_count(symbols), of, attributed, outside))
 }

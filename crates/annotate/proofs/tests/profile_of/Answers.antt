@@ -41,6 +41,6 @@ loop-addr-preserved c =
     }
 
 pub add_wide-requires-clause-within : goal.add_wide-requires-clause-within
-add_wide-requires-clause-within c =
+add_wide-requires-clause-within c = λ none.
     let i = c.loop-addr.addr-index in
     within_at_most _ (1000 * i + 4080) (one_hist_more c.in_ok-hist.hist c.seconds-unit.result c.loop-addr.profile (1000 * i) 4080 c.loop-addr.invariant.within c.in_ok-hist.ensures.samples (omega (arith, c.in_ok-hist.ensures.counters))) (omega (arith, c.loop-addr.invariant.few))

@@ -8,18 +8,18 @@ use Rattle.arc_filter.proofs.cutting.cut.Goals as goal
 
 pub put_hists-requires-clause-within : goal.put_hists-requires-clause-within
 put_hists-requires-clause-within c =
-    hists_within c.args.profile.now c.args.symbols.now (map string_bytes c.args.cuts.now) c.profile_holds.ensures c.new-left.result c.new-left.ensures.content
+    hists_within c.args.profile.now c.args.symbols.now (map string_bytes c.args.cuts.now) c.holds.ensures c.new-left.result c.new-left.ensures.content
 
 pub put_arcs-requires-clause-within : goal.put_arcs-requires-clause-within
 put_arcs-requires-clause-within c =
-    arcs_within c.args.profile.now c.args.symbols.now (map string_bytes c.args.cuts.now) c.profile_holds.ensures c.put_hists.new.left
+    arcs_within c.args.profile.now c.args.symbols.now (map string_bytes c.args.cuts.now) c.holds.ensures c.put_hists.new.left
     (c.in_ok-put_hists.ensures ∙ ap (with_records (hist_records c.args.profile.now)) c.new-left.ensures.content)
 
 pub add_blocks-requires : goal.add_blocks-requires
 add_blocks-requires c =
     let p = c.args.profile.now in
     let words = map string_bytes c.args.cuts.now in
-    blocks_within p c.args.symbols.now words c.profile_holds.ensures c.put_arcs.new.left
+    blocks_within p c.args.symbols.now words c.holds.ensures c.put_arcs.new.left
     (c.in_ok-put_arcs.ensures
     ∙ ap (with_records (map arc_record (filter (stays c.args.symbols.now words) p.arcs))) (c.in_ok-put_hists.ensures ∙ ap (with_records (hist_records p)) c.new-left.ensures.content))
 
@@ -31,4 +31,4 @@ returns c =
     ∙ ap (with_records (map block_record p.blocks))
     (c.in_ok-put_arcs.ensures
     ∙ ap (with_records (map arc_record (filter (stays c.args.symbols.now words) p.arcs))) (c.in_ok-put_hists.ensures ∙ ap (with_records (hist_records p)) c.new-left.ensures.content))
-    ∙ all_put p c.args.symbols.now words c.profile_holds.ensures
+    ∙ all_put p c.args.symbols.now words c.holds.ensures

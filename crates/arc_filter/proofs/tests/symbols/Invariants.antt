@@ -1,9 +1,10 @@
-use Rattle.std.proofs.Common.{◌≡◌, ◌+◌, ◌*◌}
-use Rattle.call_cycles.proofs.ProfileLemmas.{IsRow}
+use Rattle.std.proofs.Common.{◌+◌, ◌*◌, ◌≤◌}
+use Rattle.std.specs.List.{All}
+use Rattle.elf32_syms.specs.Owners.{IsAscending}
 use Rattle.arc_filter.proofs.tests.symbols.Given as goal
 
 abbrev pub invariant-loop-i : goal.invariant-loop-i
 invariant-loop-i l = record {
-  low : l.addr ≡ 65536 + 16 * l.i;
-  row : IsRow l.addr l.symbols.items;
+  ascending : IsAscending l.symbols;
+  ended : All (λ s. s.end ≤ 65536 + 16 * l.i) l.symbols;
 }

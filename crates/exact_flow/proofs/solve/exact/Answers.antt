@@ -4,7 +4,9 @@ use Rattle.std.proofs.lemmas.List.{get_or_default}
 use Rattle.fraction128.specs.Values.{value_of}
 use Rattle.propagate.proofs.ExactLemmas.{exact_solution}
 use Rattle.propagate.proofs.ExactRootLemmas.{exact_roots}
+use Rattle.call_cycles.specs.Graph.{head_of}
 use Rattle.exact_flow.specs.Times.{ExactFlowValue}
+use Rattle.exact_flow.specs.Answers.{IsWideAnswer}
 use Rattle.exact_flow.proofs.StateLemmas.{IsSoFar, none_done, one_more_done, all_times, has_times, leaving}
 use Rattle.exact_flow.proofs.WideLemmas.{first_found, none_left, value_left}
 use Rattle.exact_flow.proofs.solve.exact.Goals as goal
@@ -48,8 +50,8 @@ returns-clause-fits c = none_left c.args.graph.now c.args.shares.now.of c.loop-k
 pub returns-clause-whole : goal.returns-clause-whole
 returns-clause-whole c = λ x exact. exact_roots c.args.graph.now c.args.shares.now.of c.arc_count.ensures.graph x exact c.requires.each
 
-pub overflow_cast-result : goal.overflow_cast-result
-overflow_cast-result c =
+pub too_wide-requires-clause-arc : goal.too_wide-requires-clause-arc
+too_wide-requires-clause-arc c =
     let e = c.loop-k.flow in
     let first = ap length c.outside_arcs-k-end.ensures in
     let whole = ap length c.in_ok-flow.ensures.sized.outside.whole in
@@ -72,8 +74,9 @@ returns-in-None-clause-wide c =
     let low : c.loop-k.k < length e.outside = omega arith in
     let p = get_or c.outside_arcs.result.now c.loop-k.k (0, 0) in
     let at : p ≡ get_or e.outside c.loop-k.k p = ap (λ (xs : List (ℕ × ℕ)). get_or xs c.loop-k.k (0, 0)) c.outside_arcs.ensures ∙ get_or_default e.outside c.loop-k.k (0, 0) p low in
-    first_found c.args.graph.now c.args.shares.now.of e.outside c.loop-k.k p e c.arc_count.ensures.graph c.loop-k.invariant.sized.outside low at c.loop-k.invariant
-    c.head.result c.head.ensures.value (λ fits. true≢false (sym (c.in-None.ensures.fits.1 fits)))
+    subst (IsWideAnswer c.args.graph.now c.args.shares.now.of) (sym c.too_wide.ensures)
+    (first_found c.args.graph.now c.args.shares.now.of e.outside c.loop-k.k p e c.arc_count.ensures.graph c.loop-k.invariant.sized.outside low at c.loop-k.invariant
+    (head_of c.args.graph.now p.0) refl (λ fits. true≢false (sym (c.in-None.ensures.fits.1 fits))))
 
 pub loop-k-preserved : goal.loop-k-preserved
 loop-k-preserved c =

@@ -1,4 +1,4 @@
-use Rattle.std.proofs.Common.{◌≡◌, Option, ap, sym}
+use Rattle.std.proofs.Common.{Option, ap, sym}
 use Rattle.std.specs.Option.{option_map_or}
 use Rattle.std.proofs.lemmas.Option.{slice_get-get_or}
 use Rattle.elf32_syms.specs.declared.image.Symbol.{Symbol}

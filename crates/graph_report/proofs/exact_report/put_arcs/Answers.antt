@@ -1,8 +1,8 @@
-use Rattle.std.proofs.Common.{◌≡◌, ◌<◌, ℕ, length, get_or}
+use Rattle.std.proofs.Common.{◌≡◌, ℕ, get_or}
 use Rattle.std.proofs.lemmas.Result.{err_from_is_err_and}
 use Rattle.std.proofs.lemmas.List.{get_or_default}
 use Rattle.host_port.specs.declared.side.Side.TheVariants.{Output}
-use Rattle.host_port.proofs.BufferLemmas.{adds_nothing, adds_more, adds_stop, adds_all}
+use Rattle.host_port.proofs.BufferLemmas.{adds_nothing, adds_more, adds_stop}
 use Rattle.graph_report.specs.ExactText.{arc_text}
 use Rattle.graph_report.proofs.exact_report.put_arcs.Goals as goal
 

@@ -1,4 +1,4 @@
-use Rattle.std.proofs.Common.{◌≡◌, ◌<◌, ◌∙◌, ℕ, List, ap, sym, subst}
+use Rattle.std.proofs.Common.{◌<◌, ◌∙◌, ℕ, List, ap, sym, subst}
 use Rattle.std.specs.List.{All, flat_map}
 use Rattle.host_port.specs.Buffered.{Adds}
 use Rattle.host_port.specs.declared.host.Failed.{Failed}

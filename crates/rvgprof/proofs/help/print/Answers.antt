@@ -12,6 +12,6 @@ pub returns-in-Ok-clause-acted : goal.returns-in-Ok-clause-acted
 returns-in-Ok-clause-acted g c =
     last_acts (map string_bytes c.args._words.now) _ _ _ 0 [] (Out c.args.text.now ∷ []) (record { run = None }) (tt {0}) c.requires (puts_performs Output c.args.text.now _ _ _ c.in-Ok.ensures.puts) refl
 
-pub returns-clause-acted : goal.returns-clause-acted
-returns-clause-acted g c =
+pub returns-in-Err-clause-acted : goal.returns-in-Err-clause-acted
+returns-in-Err-clause-acted g c =
     fails {T = Unit {0}} (map string_bytes c.args._words.now) _ _ _ 0 [] (Out c.args.text.now ∷ []) ended c.in-Err.field-0 c.requires (puts_performs {T = Unit {0}} Output c.args.text.now _ _ _ c.in-Err.ensures.puts)

@@ -15,7 +15,7 @@ pub add_all-requires : goal.add_all-requires
 add_all-requires g c =
     let more : IsOfBytes c.in-Ok.read.1 c.in-Ok-profile_of.more = subst (λ (p : Content). IsOfBytes c.in-Ok.read.1 p) (sym c.in-Ok-profile_of.ensures.content) c.in-Ok.ensures.size in
     record {
-      within = within_limits (MAX_PROFILE_BYTES - c.args.left + c.in-Ok.read.1) _ (of_sum (MAX_PROFILE_BYTES - c.args.left) c.in-Ok.read.1 c.args.total.now c.in-Ok-profile_of.more c.requires.size more)
+      within = λ none. within_limits (MAX_PROFILE_BYTES - c.args.left + c.in-Ok.read.1) _ (of_sum (MAX_PROFILE_BYTES - c.args.left) c.in-Ok.read.1 c.args.total.now c.in-Ok-profile_of.more c.requires.size more)
           (omega (arith, c.in-Ok.ensures.within, c.requires.limit));
     }
 

@@ -11,8 +11,8 @@ returns-in_err-find c = c.from_residual-in_err-find.ensures ∙ sym (none_so _ _
 
 pub returns-in-Some : goal.returns-in-Some
 returns-in-Some c =
-    sym (given_too_often c.args.key (items_from c.args.takes 0 (map string_bytes c.args.words.now)) c.in-Some.field-0 (sym (rw c.most_times.ensures at c.in_ok-find.ensures) ∙ ap (λ (x : Option ℕ). Some x) c.in-Some.is))
+    sym (given_too_often c.args.key (items_from c.args.takes 0 (map string_bytes c.args.words.now)) c.in-Some.field-0 (sym (rw c.most_times.ensures.times at c.in_ok-find.ensures) ∙ ap (λ (x : Option ℕ). Some x) c.in-Some.is))
 
 pub returns-in-None : goal.returns-in-None
 returns-in-None c =
-    sym (given_found c.args.key (items_from c.args.takes 0 (map string_bytes c.args.words.now)) c.in_ok-first.first (sym c.in_ok-first.ensures) (sym (rw c.most_times.ensures at c.in_ok-find.ensures) ∙ ap (λ (x : Option ℕ). Some x) c.in-None.is))
+    sym (given_found c.args.key (items_from c.args.takes 0 (map string_bytes c.args.words.now)) c.in_ok-first.first (sym c.in_ok-first.ensures) (sym (rw c.most_times.ensures.times at c.in_ok-find.ensures) ∙ ap (λ (x : Option ℕ). Some x) c.in-None.is))

@@ -17,10 +17,10 @@ pub returns-in-None : goal.returns-in-None
 returns-in-None g c = λ words start below done next s.
     let found = given_sources c.args.image.now c.args.sources.now in
     let t = c.in_ok-print_shown.ensures words start below done (exact_report (is_some c.args.exact.now) found next) s in
-    (t.0, subst (λ (o : Option ExactFlowValue). Stands words start _ below t.0 (exact_report (is_some o) found next)) c.in-None.is t.1)
+    (t.0, subst (λ (o : Option ExactFlowValue). Stands words start (g.H.Host.outside c.print_shown.new.host) below t.0 (exact_report (is_some o) found next)) c.in-None.is t.1)
 
-pub returns : goal.returns
-returns g c = λ words start below done next s.
+pub returns-in-Some : goal.returns-in-Some
+returns-in-Some g c = λ words start below done next s.
     let found = given_sources c.args.image.now c.args.sources.now in
     let t = c.in_ok-print_shown.ensures words start below done (exact_report (is_some c.args.exact.now) found next) s in
-    c.print_exact.ensures words start below t.0 next (subst (λ (o : Option ExactFlowValue). Stands words start _ below t.0 (exact_report (is_some o) found next)) c.in-Some.is t.1)
+    c.print_exact.ensures words start below t.0 next (subst (λ (o : Option ExactFlowValue). Stands words start (g.H.Host.outside c.print_shown.new.host) below t.0 (exact_report (is_some o) found next)) c.in-Some.is t.1)

@@ -34,7 +34,7 @@ returns-in_err-write_exact g c = λ words start below done next s.
     let found = given_sources c.args.image.now c.args.sources.now in
     let text = exact_text found.symbols found.graph (exact_flow_in found.graph found.shares.of) (attributed_of found.shares) in
     let one = after_text words start _ _ below done (codes "\n") (Does (Out text ∷ []) next) _ s c.in_ok-print_text.ensures.printed (λ e. ap g.H.Host.outside (c.in_ok-print_text.ensures.idle e)) in
-    let is = text_as c.args.image.now.symbols c.as_slice.result.now found.graph found.shares.of c.args.exact.now c.attributed.result (attributed_of found.shares) c.as_slice.ensures c.requires.exact c.attributed.ensures in
+    let is = text_as c.args.image.now.symbols c.as_slice.result.now found.graph found.shares.of c.args.exact.now c.attributed.result (attributed_of found.shares) c.as_slice.ensures c.requires.exact c.attributed.ensures.value in
     let puts = rw is at c.in_err-write_exact.ensures in
     let p = err_from_is_err_and c.from_residual-in_err-write_exact.result c.from_residual-in_err-write_exact.ensures.1 in
     rw (p.1, p.2) (fails {T = Unit {0}} words start _ _ below (done ++ Out (codes "\n") ∷ []) (Out text ∷ []) next c.in_err-write_exact.e one (puts_performs {T = Unit {0}} Output text _ _ _ puts))
@@ -44,7 +44,7 @@ returns g c = λ words start below done next s.
     let found = given_sources c.args.image.now c.args.sources.now in
     let text = exact_text found.symbols found.graph (exact_flow_in found.graph found.shares.of) (attributed_of found.shares) in
     let one = after_text words start _ _ below done (codes "\n") (Does (Out text ∷ []) next) _ s c.in_ok-print_text.ensures.printed (λ e. ap g.H.Host.outside (c.in_ok-print_text.ensures.idle e)) in
-    let is = text_as c.args.image.now.symbols c.as_slice.result.now found.graph found.shares.of c.args.exact.now c.attributed.result (attributed_of found.shares) c.as_slice.ensures c.requires.exact c.attributed.ensures in
+    let is = text_as c.args.image.now.symbols c.as_slice.result.now found.graph found.shares.of c.args.exact.now c.attributed.result (attributed_of found.shares) c.as_slice.ensures c.requires.exact c.attributed.ensures.value in
     let puts = rw is at c.in_ok-write_exact.ensures in (
       _,
       does {T = Unit {0}} words start _ _ below (done ++ Out (codes "\n") ∷ []) (Out text ∷ []) next (tt {0}) one (puts_performs Output text _ _ _ puts) refl,

@@ -35,7 +35,7 @@ returns-in_err-print_flat-in-Both g c = λ words start below done next s.
     let last = Does (Out (graph_text found hidden) ∷ []) next in
     let line = Does (Out (codes "\n") ∷ []) last in
     let here = subst (λ (x : Shown). Stands words start (g.H.Host.outside c.args.host.now) below done (shown_reports x hidden found next)) c.in-Both.is s in
-    let p = err_from_is_err_and c.from_residual-in_err-print_flat-in-Both.result c.from_residual-in_err-print_flat-in-Both.ensures.1 in
+    let p = err_from_is_err_and c.from_residual.result c.from_residual.ensures.1 in
     rw (p.1, p.2) (after_text words start _ _ below done (flat_text found hidden) line _ here c.in_err-print_flat-in-Both.ensures.printed (λ e. ap g.H.Host.outside (c.in_err-print_flat-in-Both.ensures.idle e)))
 
 pub returns-in_err-print_text-in-Both : goal.returns-in_err-print_text-in-Both
@@ -49,8 +49,8 @@ returns-in_err-print_text-in-Both g c = λ words start below done next s.
     let p = err_from_is_err_and c.from_residual-in_err-print_text-in-Both.result c.from_residual-in_err-print_text-in-Both.ensures.1 in
     rw (p.1, p.2) (after_text words start _ _ below (done ++ Out (flat_text found hidden) ∷ []) (codes "\n") last _ one c.in_err-print_text-in-Both.ensures.printed (λ e. ap g.H.Host.outside (c.in_err-print_text-in-Both.ensures.idle e)))
 
-pub returns : goal.returns
-returns g c = λ words start below done next s.
+pub returns-in_ok-print_text-in-Both : goal.returns-in_ok-print_text-in-Both
+returns-in_ok-print_text-in-Both g c = λ words start below done next s.
     let found = given_sources c.args.image.now c.args.sources.now in
     let hidden = map string_bytes c.args.hidden.now in
     let last = Does (Out (graph_text found hidden) ∷ []) next in

@@ -80,4 +80,4 @@ returns g c =
     let rate = c.requires.within.rate in
     let written : total ≡ written_profile files.form z w.log c.args.setup.rate = profile_written files.form c.gmon.result.now z w.log c.args.setup.rate total (gmon.log w is.stands) (gmon.sizes ∙ is.sizes) fits.0 fits.1 (omega arith) (c.in-Ok-run_profile.ensures.log w.log (gmon.log w is.stands)) in
     let here = of_the_same words _ _ (c.args.elf + 1) s.0 (chosen_by (map string_bytes c.args.words.now) c.args.selection.now) image total (written_profile files.form z w.log c.args.setup.rate) (told z w) written s.1 in
-    rw c.report_fault.ensures (c.in-Err-print_reports.ensures words _ (c.args.elf + 1) s.0 (told z w) here)
+    c.in-Err-print_reports.ensures words _ (c.args.elf + 1) s.0 (told z w) here

@@ -12,5 +12,5 @@ returns-in_err-write_runtime g c =
 
 pub returns : goal.returns
 returns g c =
-    let blocks = rw c.sizes.ensures at c.write_blocks.ensures in
+    let blocks = rw c.sizes.ensures.value at c.write_blocks.ensures in
     puts_then File (runtime_text c.args.form c.args.gmon.now c.args.rate) (block_record c.args.gmon.now.sizes.low c.args.counts.now) _ _ _ _ _ c.in_ok-write_runtime.ensures.puts blocks

@@ -1,4 +1,4 @@
-use Rattle.std.proofs.Common.{◌++◌, ◌∙◌, false, refl, sym, ap, subst}
+use Rattle.std.proofs.Common.{◌++◌, ◌∙◌, false, Ok, refl, sym, ap, subst}
 use Rattle.std.specs.Prelude.{length}
 use Rattle.host_port.specs.Act.{writes_after}
 use Rattle.host_port.specs.declared.host.Failed.{Failed}

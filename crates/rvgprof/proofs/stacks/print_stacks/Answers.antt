@@ -1,4 +1,4 @@
-use Rattle.std.proofs.Common.{[], ◌∷◌, ◌+◌, arith, refl}
+use Rattle.std.proofs.Common.{[], ◌∷◌, ◌+◌, ◌∙◌, length, ap, sym, arith, refl}
 use Rattle.std.specs.Prelude.{map, string_bytes}
 use Rattle.host_port.specs.Act.{Out}
 use Rattle.host_port.specs.declared.side.Side.TheVariants.{Output}
@@ -21,6 +21,9 @@ returns-in-Err-fold_program g c =
     let ran = rw c.as_slice.ensures.value at c.in-Err-fold_program.ensures.folds in
     ran (map string_bytes c.args.words.now) _ (c.args.elf + 1) [] c.args.inclusive s
 
+pub write-requires : goal.write-requires
+write-requires g c = ap length c.as_slice-2.ensures ∙ sym c.in-Ok-fold_program.ensures.functions
+
 pub returns-in-Ok-write : goal.returns-in-Ok-write
 returns-in-Ok-write g c =
     let words = map string_bytes c.args.words.now in
@@ -32,7 +35,7 @@ returns-in-Ok-write g c =
     let is = rw c.as_slice.ensures.value at c.in-Ok-fold_program.ensures.ended in
     let t = ran words _ (c.args.elf + 1) [] c.args.inclusive s in
     let text = folded_report c.args.inclusive image bytes setup in
-    let puts = rw (text_is c.args.inclusive image bytes setup c.in-Ok-fold_program.done.1 t.2) at (rw c.as_slice-write.ensures at c.in-Ok-write.ensures) in
+    let puts = rw (text_is c.args.inclusive image bytes setup c.in-Ok-fold_program.done.1 t.2) at (rw c.as_slice-2.ensures at c.in-Ok-write.ensures) in
     let after = told (sizes_of image.text setup.hist setup.hash) (final_world image bytes setup) in
     let u = does {T = Unit {0}} words _ _ _ (c.args.elf + 1) t.0 (Out text ∷ []) after (tt {0}) t.1 (puts_performs Output text _ _ _ puts) refl in
     run_told words _ _ (c.args.elf + 1) _ image bytes setup c.in-Ok-fold_program.done.0 c.summary.result is c.summary.ensures.told u
@@ -47,5 +50,5 @@ returns g c =
     let ran = rw c.as_slice.ensures.value at c.in-Ok-fold_program.ensures.folds in
     let t = ran words _ (c.args.elf + 1) [] c.args.inclusive s in
     let text = folded_report c.args.inclusive image bytes setup in
-    let puts = rw (text_is c.args.inclusive image bytes setup c.in-Ok-fold_program.done.1 t.2) at (rw c.as_slice-write.ensures at c.in-Err-write.ensures) in
+    let puts = rw (text_is c.args.inclusive image bytes setup c.in-Ok-fold_program.done.1 t.2) at (rw c.as_slice-2.ensures at c.in-Err-write.ensures) in
     fails {T = Unit {0}} words _ _ _ (c.args.elf + 1) t.0 (Out text ∷ []) (told (sizes_of image.text setup.hist setup.hash) (final_world image bytes setup)) c.in-Err-write.field-0 t.1 (puts_performs {T = Unit {0}} Output text _ _ _ puts)

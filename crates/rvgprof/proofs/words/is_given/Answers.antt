@@ -1,6 +1,5 @@
 use Rattle.std.proofs.Common.{◌≡◌, ◌∙◌, map, string_bytes, sym, subst, Option, Some, ap, ℕ}
 use Rattle.rvgprof.specs.Items.{items_from}
-use Rattle.rvgprof.proofs.ItemLemmas.{none_given}
 use Rattle.rvgprof.proofs.WordLemmas.{given_by_items}
 use Rattle.std.specs.Option.{option_map}
 use Rattle.std.specs.Prelude.{is_some}

@@ -24,7 +24,7 @@ overflow_sub-outside c =
 pub new-requires-clause-count : goal.new-requires-clause-count
 new-requires-clause-count c =
     let long = length-map c.args.symbols.now (share_of c.args.profile.now.hists) in
-    omega (arith, long, ap length c.in_ok-of.ensures, c.count.ensures)
+    omega (arith, long, ap length c.in_ok-of.ensures, c.symbol_count.ensures)
 
 pub new-requires-clause-within : goal.new-requires-clause-within
 new-requires-clause-within c =

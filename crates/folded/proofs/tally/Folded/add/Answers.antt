@@ -1,4 +1,4 @@
-use Rattle.std.proofs.Common.{◌≡◌, ◌∙◌, ◌≤◌, ◌++◌, ◌∷◌, ◌+◌, ◌<◌, [], ℕ, List, Option, length, map, subst, sym}
+use Rattle.std.proofs.Common.{◌≡◌, ◌∙◌, ◌≤◌, ◌++◌, ◌∷◌, ◌+◌, ◌<◌, ◌^◌, [], ℕ, List, Option, arith, length, map, subst, sym}
 use Rattle.std.proofs.lemmas.List.{with_items_is}
 use Rattle.std.specs.List.{All}
 use Rattle.std.specs.Vec.{with_items}
@@ -15,6 +15,7 @@ invariant_of-self c =
     let n = a.total + 1 in
     let written = with_items_is a.marks c.mark_all.new.marks (c.mark_all.ensures.length ∙ c.as_mut_slice.ensures.len) in
     record {
+      functions = subst (λ (x : List Mark). length x < 2 ^ 32) (sym written) (omega (arith, c.mark_all.ensures.length, c.as_mut_slice.ensures.len, c.self.invariant.functions));
       counts = subst (λ (x : List Mark). All (λ (m : Mark). m.count ≤ n) x) (sym written) c.mark_all.ensures.counts;
       lasts = subst (λ (x : List Mark). All (λ (m : Mark). m.last ≤ n) x) (sym written) c.mark_all.ensures.lasts;
       lines = c.count.ensures.kept a.total c.self.invariant.lines;

@@ -10,8 +10,8 @@ use Rattle.prof_machine.specs.Value.{RunValue, StandsFor, work_left}
 use Rattle.prof_machine.specs.World.{World}
 use Rattle.prof_machine.proofs.runs.Run.drive.Goals as goal
 
-pub loop-end-init : goal.loop-end-init
-loop-end-init g c =
+pub turns-init : goal.turns-init
+turns-init g c =
     let m = c.args.self.now.machine in
     let P : RunValue → Type 0 = λ v. work_left v ≤ most_turns v.machine.setup in
     let bound = subst P c.self.view_is (work_bound c.self.inside c.self.invariant) in
@@ -30,22 +30,23 @@ loop-end-init g c =
       input = KeepsInput-same _;
     }
 
-pub loop-end-preserved : goal.loop-end-preserved
-loop-end-preserved g c =
+pub turns-preserved : goal.turns-preserved
+turns-preserved g c =
     let m = c.args.self.now.machine in
-    let i = c.loop-end.invariant in
-    let t = c.in_ok-turn.ensures in
+    let i = c.turns.invariant in
+    let t = c.in_ok-_note.ensures in
     let hart = c.next_hart-hart.ensures in
-    let live = t.live.1 cc in
+    let going = going_answer c.advance.new.self.ending (sym c.in-Going.ensures) in
+    let live = t.live.1 (refl, going) in
     record {
       live = live;
-      going = going_answer c.turn.new.self.ending (sym t.answer ∙ c.in-Going.is);
+      going = going;
       machine = t.machine ∙ i.machine;
       turns = i.turns + 1;
       draws = hart.draws _ _ i.draws;
       few = omega (arith, i.few, t.less live);
-      stands = λ w st. in_next (λ v. StandsFor v c.turn.new.self) m c.loop-end.self.machine w i.turns c.next_hart-hart.result i.machine (hart.taker _ _ i.draws) (t.stands _ (i.stands w st));
-      prints = λ w st. in_next (λ v. ArePrinted w v (g.H.Host.outside c.args.host.now) (g.H.Host.outside c.turn.new.host)) m c.loop-end.self.machine w i.turns c.next_hart-hart.result i.machine (hart.taker _ _ i.draws)
+      stands = λ w st. in_next (λ v. StandsFor v c.advance.new.self) m c.turns.self.machine w i.turns c.next_hart-hart.result i.machine (hart.taker _ _ i.draws) (t.stands _ (i.stands w st));
+      prints = λ w st. in_next (λ v. ArePrinted w v (g.H.Host.outside c.args.host.now) (g.H.Host.outside c.advance.new.host)) m c.turns.self.machine w i.turns c.next_hart-hart.result i.machine (hart.taker _ _ i.draws)
           (printed_then w _ _ _ _ _ (i.prints w st) (t.prints _ (i.stands w st)));
       counts = KeepsCounts-then _ _ _ i.counts t.counts;
       writing = t.writing ∙ i.writing;
@@ -55,32 +56,32 @@ loop-end-preserved g c =
 pub returns-in-Ended-clause-stands : goal.returns-in-Ended-clause-stands
 returns-in-Ended-clause-stands g c = λ w st.
     let m = c.args.self.now.machine in
-    let i = c.loop-end.invariant in
-    let t = c.in_ok-turn.ensures in
-    let P : World → Type 0 = λ v. StandsFor v c.turn.new.self in
-    let stands = in_next P m c.loop-end.self.machine w i.turns c.next_hart-hart.result i.machine (c.next_hart-hart.ensures.taker _ _ i.draws) (t.stands _ (i.stands w st)) in
-    in_last P m w c.turn.new.self (i.turns + 1) c.in-Ended.end (omega (arith, i.few, t.left)) (ended_answer c.turn.new.self.ending c.in-Ended.end (sym t.answer ∙ c.in-Ended.is)) stands stands
+    let i = c.turns.invariant in
+    let t = c.in_ok-_note.ensures in
+    let P : World → Type 0 = λ v. StandsFor v c.advance.new.self in
+    let stands = in_next P m c.turns.self.machine w i.turns c.next_hart-hart.result i.machine (c.next_hart-hart.ensures.taker _ _ i.draws) (t.stands _ (i.stands w st)) in
+    in_last P m w c.advance.new.self (i.turns + 1) c.in-Ended.end (omega (arith, i.few, t.left)) (ended_answer c.advance.new.self.ending c.in-Ended.end (sym c.in-Ended.ensures)) stands stands
 
 pub returns-in-Ended-clause-prints : goal.returns-in-Ended-clause-prints
 returns-in-Ended-clause-prints g c = λ w st.
     let m = c.args.self.now.machine in
-    let i = c.loop-end.invariant in
-    let t = c.in_ok-turn.ensures in
-    let P : World → Type 0 = λ v. StandsFor v c.turn.new.self in
-    let Q : World → Type 0 = λ v. ArePrinted w v (g.H.Host.outside c.args.host.now) (g.H.Host.outside c.turn.new.host) in
-    in_last Q m w c.turn.new.self (i.turns + 1) c.in-Ended.end (omega (arith, i.few, t.left)) (ended_answer c.turn.new.self.ending c.in-Ended.end (sym t.answer ∙ c.in-Ended.is))
-    (in_next P m c.loop-end.self.machine w i.turns c.next_hart-hart.result i.machine (c.next_hart-hart.ensures.taker _ _ i.draws) (t.stands _ (i.stands w st)))
-    (in_next Q m c.loop-end.self.machine w i.turns c.next_hart-hart.result i.machine (c.next_hart-hart.ensures.taker _ _ i.draws) (printed_then w _ _ _ _ _ (i.prints w st) (t.prints _ (i.stands w st))))
+    let i = c.turns.invariant in
+    let t = c.in_ok-_note.ensures in
+    let P : World → Type 0 = λ v. StandsFor v c.advance.new.self in
+    let Q : World → Type 0 = λ v. ArePrinted w v (g.H.Host.outside c.args.host.now) (g.H.Host.outside c.advance.new.host) in
+    in_last Q m w c.advance.new.self (i.turns + 1) c.in-Ended.end (omega (arith, i.few, t.left)) (ended_answer c.advance.new.self.ending c.in-Ended.end (sym c.in-Ended.ensures))
+    (in_next P m c.turns.self.machine w i.turns c.next_hart-hart.result i.machine (c.next_hart-hart.ensures.taker _ _ i.draws) (t.stands _ (i.stands w st)))
+    (in_next Q m c.turns.self.machine w i.turns c.next_hart-hart.result i.machine (c.next_hart-hart.ensures.taker _ _ i.draws) (printed_then w _ _ _ _ _ (i.prints w st) (t.prints _ (i.stands w st))))
 
-pub returns-in_err-turn-clause-fails : goal.returns-in_err-turn-clause-fails
-returns-in_err-turn-clause-fails g c = on_err_any _ _ c.from_residual.result _ (λ w st.
+pub returns-in_err-_note-clause-fails : goal.returns-in_err-_note-clause-fails
+returns-in_err-_note-clause-fails g c = on_err_any _ _ c.from_residual.result _ (λ w st.
     let m = c.args.self.now.machine in
-    let i = c.loop-end.invariant in
-    let t = c.in_err-turn.ensures in
-    let Q : World → Type 0 = λ v. BreaksOff w v (g.H.Host.outside c.args.host.now) (g.H.Host.outside c.turn.new.host) in (
+    let i = c.turns.invariant in
+    let t = c.in_err-_note.ensures in
+    let Q : World → Type 0 = λ v. BreaksOff w v (g.H.Host.outside c.args.host.now) (g.H.Host.outside c.advance.new.host) in (
       i.turns,
       omega (arith, i.few, t.left),
       sym (i.stands w st).ending ∙ i.going,
-      in_next Q m c.loop-end.self.machine w i.turns c.next_hart-hart.result i.machine (c.next_hart-hart.ensures.taker _ _ i.draws)
+      in_next Q m c.turns.self.machine w i.turns c.next_hart-hart.result i.machine (c.next_hart-hart.ensures.taker _ _ i.draws)
           (breaks_after w _ _ _ _ _ (i.prints w st) i.counts (t.fails _ (i.stands w st))),
     ))

@@ -1,6 +1,0 @@
-use Rattle.std.proofs.Common.{◌*◌}
-use Rattle.gmon_data.proofs.BoundLemmas.{IsAtMost}
-use Rattle.arc_filter.proofs.tests.sampled.Given as goal
-
-abbrev pub invariant-loop-i : goal.invariant-loop-i
-invariant-loop-i l = IsAtMost l.profile (l.i * 50000)

@@ -1,6 +1,0 @@
-use Rattle.std.proofs.Common.{◌*◌}
-use Rattle.gmon_data.proofs.BoundLemmas.{IsAtMost}
-use Rattle.flat_report.proofs.tests.profile_of_calls.Given as goal
-
-abbrev pub invariant-loop-caller : goal.invariant-loop-caller
-invariant-loop-caller l = IsAtMost l.profile (256 * l.caller-index)

@@ -1,0 +1,182 @@
+-- Lines of stacks: in order, each stack once, with the number of samples that have it.
+use Rattle.std.proofs.Common.{◌≡◌, ◌∙◌, ◌+◌, ℕ, zero, suc, Bool, true, false, List, [], ◌∷◌, length, add_assoc, ap, arith, cond, refl, sym, subst, Option, Some, None}
+use Rattle.std.specs.Prelude.{count_by, fold, sum_by, option_map, unwrap_or}
+use Rattle.std.specs.List.{AllByRecursion}
+use Rattle.std.specs.List.Sorted.{IsStrictlySortedBy}
+use Rattle.std.specs.BTreeMap.{insert_entry, is_at}
+use Rattle.std.specs.Cmp.{IsTotalOrder, nat_cmp_total}
+use Rattle.std.specs.Cmp.Lexicographic.{lists_total, options_total}
+use Rattle.std.specs.Map.{keys_of, lookup, values_of}
+use Rattle.std.specs.Ordering.{is_eq, match_ordering, ordering_reverse}
+use Rattle.std.specs.declared.cmp.Ordering.{Ordering}
+use Rattle.std.specs.declared.cmp.Ordering.TheVariants.{Less, Equal, Greater}
+use Rattle.std.proofs.lemmas.List.Sums.{sum_by-cons}
+use Rattle.std.proofs.lemmas.Map.Entries.{sum_by-insert_entry}
+use Rattle.std.proofs.lemmas.Map.Keys.{sorted_head, sorted_tail}
+use Rattle.folded.specs.Stacks.{lines_of, same_stack, stack_cmp, times_in, with_stack}
+
+abbrev Stack : Type 0
+Stack = List (Option ℕ)
+
+abbrev Lines : Type 0
+Lines = List (Stack × ℕ)
+
+stacks_total : IsTotalOrder stack_cmp
+stacks_total = lists_total (options_total nat_cmp_total)
+
+-- ---- the order
+
+-- a stack and one that is the same compare alike with any other
+alike : (a b c : Stack) → stack_cmp a b ≡ Equal → stack_cmp a c ≡ stack_cmp b c
+alike a b c same = stacks_total.congr a b c same
+
+turned : (a b : Stack) → stack_cmp a b ≡ ordering_reverse (stack_cmp b a)
+turned a b = stacks_total.antisymm a b
+
+alike_right : (a b c : Stack) → stack_cmp a b ≡ Equal → stack_cmp c a ≡ stack_cmp c b
+alike_right a b c same = turned c a ∙ ap ordering_reverse (alike a b c same) ∙ sym (turned c b)
+
+-- ---- what is looked up behind one more line
+
+abbrev found : Lines → Stack → Option ℕ
+found lines q = lookup (same_stack q) lines
+
+found_head : (e : Stack × ℕ) (es : Lines) (q : Stack) (o : Ordering) → stack_cmp q e.0 ≡ o → found (e ∷ es) q ≡ cond (is_eq o) (Some e.1) (found es q)
+found_head e es q o is = ap (λ (x : Ordering). cond (is_eq x) (Some e.1) (found es q)) is
+
+swapped : (a b : Bool) (x y z : Option ℕ) → (a ≡ true → b ≡ true → x ≡ y) → cond a x (cond b y z) ≡ cond b y (cond a x z)
+swapped true true x y z same = same refl refl
+swapped true false x y z same = refl
+swapped false b x y z same = refl
+
+equal : (o : Ordering) → is_eq o ≡ true → o ≡ Equal
+equal Less is = absurd cc
+equal Equal is = refl
+equal Greater is = absurd cc
+
+found_insert_by : (e : Stack × ℕ) (es : Lines) (k q : Stack) (v : ℕ) (o : Ordering) → stack_cmp k e.0 ≡ o → found (insert_entry stack_cmp es k v) q ≡ cond (same_stack q k) (Some v) (found es q)
+    → found (match_ordering o ((k, v) ∷ e ∷ es) ((e.0, v) ∷ es) (e ∷ insert_entry stack_cmp es k v)) q ≡ cond (same_stack q k) (Some v) (found (e ∷ es) q)
+found_insert_by e es k q v Less is later = refl
+found_insert_by e es k q v Equal is later =
+    let test : same_stack q k ≡ same_stack q e.0 = ap is_eq (alike_right k e.0 q is) in
+    both (same_stack q e.0) ∙ ap (λ (b : Bool). cond b (Some v) (found (e ∷ es) q)) (sym test)
+  where
+    both : (b : Bool) → cond b (Some v) (found es q) ≡ cond b (Some v) (cond b (Some e.1) (found es q))
+    both true = refl
+    both false = refl
+found_insert_by e es k q v Greater is later =
+    ap (λ (x : Option ℕ). cond (same_stack q e.0) (Some e.1) x) later
+    ∙ swapped (same_stack q e.0) (same_stack q k) (Some e.1) (Some v) (found es q) (λ a b.
+    let first : stack_cmp q e.0 ≡ Equal = equal (stack_cmp q e.0) a in
+    let second : stack_cmp q k ≡ Equal = equal (stack_cmp q k) b in
+    let both : Greater ≡ Equal = sym is ∙ sym (alike q k e.0 second) ∙ first in
+    absurd cc)
+
+found_insert : (es : Lines) (k q : Stack) (v : ℕ) → found (insert_entry stack_cmp es k v) q ≡ cond (same_stack q k) (Some v) (found es q)
+found_insert [] k q v = refl
+found_insert (e ∷ es) k q v = found_insert_by e es k q v (stack_cmp k e.0) refl (found_insert es k q v)
+
+-- the same stack has the same line
+found_same : (es : Lines) (q k : Stack) → stack_cmp q k ≡ Equal → found es q ≡ found es k
+found_same [] q k same = refl
+found_same (e ∷ es) q k same =
+    ap (λ (x : Ordering). cond (is_eq x) (Some e.1) (found es q)) (alike q k e.0 same) ∙ ap (λ (x : Option ℕ). cond (same_stack k e.0) (Some e.1) x) (found_same es q k same)
+
+times_by : (lines : Lines) (k q : Stack) (b : Bool) → same_stack q k ≡ b → unwrap_or (cond b (Some (times_in lines k + 1)) (found lines q)) 0 ≡ times_in lines q + cond b 1 0
+times_by lines k q true same = ap (λ (o : Option ℕ). unwrap_or o 0 + 1) (sym (found_same lines q k (equal (stack_cmp q k) same)))
+times_by lines k q false same = omega arith
+
+times_more : (lines : Lines) (k q : Stack) → times_in (with_stack lines k) q ≡ times_in lines q + cond (same_stack q k) 1 0
+unfolding with_stack
+times_more lines k q =
+    ap (λ (o : Option ℕ). unwrap_or o 0) (found_insert lines k q (times_in lines k + 1)) ∙ times_by lines k q (same_stack q k) refl
+
+abbrev folded_lines : Lines → List Stack → Lines
+folded_lines lines stacks = fold with_stack lines stacks
+
+times_all : (stacks : List Stack) (lines : Lines) (q : Stack) → times_in (folded_lines lines stacks) q ≡ times_in lines q + count_by (same_stack q) stacks
+times_all [] lines q = omega arith
+times_all (s ∷ stacks) lines q =
+    let rest = times_all stacks (with_stack lines s) q in
+    omega (arith, rest, times_more lines s q, sum_by-cons (λ (x : Stack). cond (same_stack q x) 1 0) s stacks)
+
+pub lines_counted : (stacks : List Stack) (stack : Stack) → times_in (lines_of stacks) stack ≡ count_by (same_stack stack) stacks
+lines_counted stacks stack = times_all stacks [] stack ∙ omega arith
+
+-- ---- the lines ascend
+
+abbrev Ascends : Lines → Type 0
+Ascends lines = IsStrictlySortedBy stack_cmp (keys_of lines)
+
+below_all : (a b : Stack) (keys : List Stack) → stack_cmp a b ≡ Less → AllByRecursion (λ (y : Stack). stack_cmp b y ≡ Less) keys → AllByRecursion (λ (y : Stack). stack_cmp a y ≡ Less) keys
+below_all a b [] less all = tt
+below_all a b (k ∷ keys) less all = (stacks_total.trans a b k less all.0, below_all a b keys less all.1)
+
+above : (a b : Stack) → stack_cmp a b ≡ Greater → stack_cmp b a ≡ Less
+above a b is = turned b a ∙ ap ordering_reverse is
+
+less_inserted_by : (a : Stack) (e : Stack × ℕ) (es : Lines) (k : Stack) (v : ℕ) (o : Ordering) → stack_cmp a k ≡ Less → AllByRecursion (λ (y : Stack). stack_cmp a y ≡ Less) (keys_of (e ∷ es))
+    → AllByRecursion (λ (y : Stack). stack_cmp a y ≡ Less) (keys_of (insert_entry stack_cmp es k v))
+    → AllByRecursion (λ (y : Stack). stack_cmp a y ≡ Less) (keys_of (match_ordering o ((k, v) ∷ e ∷ es) ((e.0, v) ∷ es) (e ∷ insert_entry stack_cmp es k v)))
+less_inserted_by a e es k v Less less all later = (less, all)
+less_inserted_by a e es k v Equal less all later = all
+less_inserted_by a e es k v Greater less all later = (all.0, later)
+
+less_inserted : (a : Stack) (es : Lines) (k : Stack) (v : ℕ) → stack_cmp a k ≡ Less → AllByRecursion (λ (y : Stack). stack_cmp a y ≡ Less) (keys_of es) → AllByRecursion (λ (y : Stack). stack_cmp a y ≡ Less) (keys_of (insert_entry stack_cmp es k v))
+less_inserted a [] k v less all = (less, tt)
+less_inserted a (e ∷ es) k v less all = less_inserted_by a e es k v (stack_cmp k e.0) less all (less_inserted a es k v less all.1)
+
+ascends_by : (e : Stack × ℕ) (es : Lines) (k : Stack) (v : ℕ) (o : Ordering) → stack_cmp k e.0 ≡ o → Ascends (e ∷ es) → Ascends (insert_entry stack_cmp es k v)
+    → Ascends (match_ordering o ((k, v) ∷ e ∷ es) ((e.0, v) ∷ es) (e ∷ insert_entry stack_cmp es k v))
+unfolding IsStrictlySortedBy
+ascends_by e es k v Less is sorted later = ((is, below_all k e.0 (keys_of es) is sorted.0), sorted)
+ascends_by e es k v Equal is sorted later = sorted
+ascends_by e es k v Greater is sorted later = (less_inserted e.0 es k v (above k e.0 is) sorted.0, later)
+
+ascends_inserted : (es : Lines) (k : Stack) (v : ℕ) → Ascends es → Ascends (insert_entry stack_cmp es k v)
+unfolding IsStrictlySortedBy
+ascends_inserted [] k v sorted = (tt, tt)
+ascends_inserted (e ∷ es) k v sorted = ascends_by e es k v (stack_cmp k e.0) refl sorted (ascends_inserted es k v sorted.1)
+
+ascends_more : (lines : Lines) (s : Stack) → Ascends lines → Ascends (with_stack lines s)
+unfolding with_stack
+ascends_more lines s sorted = ascends_inserted lines s (times_in lines s + 1) sorted
+
+ascends_all : (stacks : List Stack) (lines : Lines) → Ascends lines → Ascends (folded_lines lines stacks)
+ascends_all [] lines sorted = sorted
+ascends_all (s ∷ stacks) lines sorted = ascends_all stacks (with_stack lines s) (ascends_more lines s sorted)
+
+pub lines_ascending : (stacks : List Stack) → IsStrictlySortedBy stack_cmp (keys_of (lines_of stacks))
+unfolding IsStrictlySortedBy
+lines_ascending stacks = ascends_all stacks [] tt
+
+-- ---- their numbers add up
+
+abbrev total_of : Lines → ℕ
+total_of lines = sum_by (λ (line : Stack × ℕ). line.1) lines
+
+by_values : (lines : Lines) → sum_by (λ (n : ℕ). n) (values_of lines) ≡ total_of lines
+by_values [] = refl
+by_values (e ∷ es) = sum_by-cons (λ (n : ℕ). n) e.1 (values_of es) ∙ ap (λ (n : ℕ). e.1 + n) (by_values es) ∙ sym (sum_by-cons (λ (line : Stack × ℕ). line.1) e es)
+
+same_option : (o : Option ℕ) → option_map (λ (n : ℕ). n) o ≡ o
+same_option None = refl
+same_option (Some n) = refl
+
+total_more : (lines : Lines) (s : Stack) → Ascends lines → total_of (with_stack lines s) ≡ total_of lines + 1
+unfolding with_stack
+total_more lines s sorted =
+    let new = insert_entry stack_cmp lines s (times_in lines s + 1) in
+    let sums = sum_by-insert_entry (λ (n : ℕ). n) stacks_total lines s (times_in lines s + 1) sorted in
+    let before : unwrap_or (option_map (λ (n : ℕ). n) (found lines s)) 0 ≡ times_in lines s = ap (λ (o : Option ℕ). unwrap_or o 0) (same_option (found lines s)) in
+    omega (arith, sums, before, by_values new, by_values lines)
+
+total_all : (stacks : List Stack) (lines : Lines) → Ascends lines → total_of (folded_lines lines stacks) ≡ total_of lines + length stacks
+total_all [] lines sorted = omega arith
+total_all (s ∷ stacks) lines sorted =
+    let rest = total_all stacks (with_stack lines s) (ascends_more lines s sorted) in
+    omega (arith, rest, total_more lines s sorted)
+
+pub lines_total : (stacks : List Stack) → sum_by (λ (line : Stack × ℕ). line.1) (lines_of stacks) ≡ length stacks
+unfolding IsStrictlySortedBy
+lines_total stacks = let all = total_all stacks [] tt in omega (arith, all)

@@ -1,0 +1,96 @@
+-- The times of components that are no cycles are those of their functions.
+use Rattle.std.proofs.Common.{◌≡◌, ◌≢◌, ◌<◌, ℕ, ◌+◌, Bool, true, false, not, ◌&&◌, List, length, sum, refl, ap, sym, ◌∙◌, subst, ⊎_elim, arith}
+use Rattle.std.specs.Prelude.{◌==◌, ◌||◌, nat_lt, slice_index, if◌then◌else◌, IsTrue}
+use Rattle.std.proofs.lemmas.Bool.{cases_eq, eqb-true, eq-eqb, ne_eqb, true≢false, ltb-false}
+use Rattle.call_cycles.specs.Sums.{sum_below, when}
+use Rattle.call_cycles.specs.Graph.{GraphValue, IsGraph, arc_at, arc_count, component_of, component_count, head_of, is_cycle, is_outside, source_of, leaves}
+use Rattle.call_cycles.specs.Flow.{carried_by, carried_from, carried_from_function, leaves_function, is_root, self_in, time_of, time_of_roots}
+use Rattle.call_cycles.proofs.ListLemmas.{same_test}
+use Rattle.call_cycles.proofs.MemberLemmas.{cycles_are}
+use Rattle.call_cycles.proofs.SumLemmas.{sum_ext, sum_at}
+use Rattle.symbol_shares.specs.Shares.{attributed_of}
+use Rattle.propagate.proofs.BoundLemmas.{roots_have_all}
+use Rattle.flat_report.specs.Rows.{FitTogether}
+use Rattle.flat_report.specs.Sources.{Sources, calls_by_itself, calls_by_others, child_of, share_of, total_of}
+use Rattle.graph_report.specs.Entries.{calls_of_others, has_entry}
+use Rattle.graph_report.specs.Roots.{has_own_entry, shown_total}
+
+-- ---- a component of one function
+
+module _ (g : GraphValue) (is : IsGraph g) (c : ℕ) (low : c < component_count g) (single : is_cycle g c ≡ false) where
+  head : ℕ
+  head = head_of g c
+
+  only : (f : ℕ) → f < g.functions → component_of g f ≡ c → f ≡ head_of g c
+  only f below at =
+      ⊎_elim
+      (λ (same : f ≡ head_of g c). same)
+      (λ (apart : f ≢ head_of g c). absurd (true≢false (sym ((cycles_are g c is low).1 (f, below, at, apart)) ∙ single)))
+      (cases_eq f (head_of g c))
+
+  member : (f : ℕ) → f < g.functions → (component_of g f == c) ≡ (head_of g c == f)
+  member f below =
+      same_test (component_of g f) c (head_of g c) f (λ at. sym (only f below at)) (λ same. ap (component_of g) (sym same) ∙ is.components.heads_in c low)
+
+  pub own_share : (shares : List ℕ) → self_in g shares c ≡ slice_index shares (head_of g c)
+  own_share shares =
+      sum_ext g.functions _ (λ h. when true (when (true && head_of g c == h) (slice_index shares (head_of g c)))) each
+      ∙ sum_at g.functions (λ h. true) true (head_of g c) (slice_index shares (head_of g c)) (is.components.heads_below c low)
+    where
+      by : (h : ℕ) (b : Bool) → (head_of g c == h) ≡ b → when b (slice_index shares h) ≡ when b (slice_index shares (head_of g c))
+      by h true same = ap (slice_index shares) (sym (eqb-true (head_of g c) h same))
+      by h false apart = refl
+
+      each : (h : ℕ) → h < g.functions → when (component_of g h == c) (slice_index shares h) ≡ when (head_of g c == h) (slice_index shares (head_of g c))
+      each h below = ap (λ (b : Bool). when b (slice_index shares h)) (member h below) ∙ by h (head_of g c == h) refl
+
+  pub own_arcs : (carried : ℕ → ℕ) → carried_from_function g carried (head_of g c) ≡ carried_from g carried c
+  own_arcs carried = sum_ext (arc_count g) _ _ (λ i below. ap (λ (b : Bool). when (is_outside g i && b) (carried i)) (caller i below))
+    where
+      caller : (i : ℕ) → i < arc_count g → ((arc_at g i).caller == head_of g c) ≡ (source_of g i == c)
+      caller i below =
+          same_test (arc_at g i).caller (head_of g c) (source_of g i) c (λ same. ap (component_of g) same ∙ is.components.heads_in c low) (λ at. only (arc_at g i).caller (is.arcs.callers i below) at)
+
+-- ---- the totals of entries
+
+module _ (s : Sources) (fit : FitTogether s) (is : IsGraph s.graph) where
+  single_total : (c : ℕ) → c < component_count s.graph → is_cycle s.graph c ≡ false → total_of s (head_of s.graph c) ≡ time_of s.flow c
+  single_total c low single =
+      let self = fit.flow.self c low ∙ own_share s.graph is c low single s.shares.of in
+      let child = fit.flow.member_child (head_of s.graph c) (is.components.heads_below c low) ∙ own_arcs s.graph is c low single (carried_by s.flow) ∙ sym (fit.flow.child c low) in
+      omega arith
+
+  pub totals_are_times : (c : ℕ) → c < component_count s.graph → shown_total s c ≡ time_of s.flow c
+  totals_are_times c low = by (is_cycle s.graph c) refl
+    where
+      by : (b : Bool) → is_cycle s.graph c ≡ b → (if b then time_of s.flow c else total_of s (head_of s.graph c)) ≡ time_of s.flow c
+      by true at = refl
+      by false at = single_total c low at
+
+  pub no_time : (c : ℕ) → c < component_count s.graph → has_own_entry s c ≡ false → time_of s.flow c ≡ 0
+  no_time c low none = by (is_cycle s.graph c) (nat_lt 0 (total_of s h)) (nat_lt 0 (calls_by_others s.graph h)) (nat_lt 0 (calls_of_others s.graph h)) (nat_lt 0 (calls_by_itself s.graph h)) refl refl none
+    where
+      h : ℕ
+      h = head_of s.graph c
+
+      by : (b t o m i : Bool) → is_cycle s.graph c ≡ b → nat_lt 0 (total_of s (head_of s.graph c)) ≡ t → (b || (t || o || m || i)) ≡ false → time_of s.flow c ≡ 0
+      by true t o m i at time gone = absurd (true≢false gone)
+      by false true true true true at time gone = absurd (true≢false gone)
+      by false true o m i at time gone = absurd (first o m i gone)
+        where
+          first : (o m i : Bool) → (true || o || m || i) ≡ false → ⊥
+          first o m i is_false = true≢false is_false
+      by false false o m i at time gone =
+          let zero = ltb-false 0 (total_of s (head_of s.graph c)) time in
+          let total = single_total c low at in
+          omega arith
+
+  pub root_entries : sum_below (component_count s.graph) (λ c. when (is_root s.graph c && has_own_entry s c) (shown_total s c)) ≡ attributed_of s.shares
+  root_entries =
+      sum_ext (component_count s.graph) _ _ (λ c low. by c low (is_root s.graph c) (has_own_entry s c) refl)
+      ∙ roots_have_all s.graph s.shares.of is (fit.each ∙ sym fit.functions) s.flow fit.flow
+    where
+      by : (c : ℕ) → c < component_count s.graph → (r b : Bool) → has_own_entry s c ≡ b → when (r && b) (shown_total s c) ≡ when r (time_of s.flow c)
+      by c low true true at = totals_are_times c low
+      by c low true false at = sym (no_time c low at)
+      by c low false b at = refl
