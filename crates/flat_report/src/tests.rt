@@ -535,8 +535,7 @@ fn functions_of_a_large_program(rt: HostRuntime) -> Result<(), Fail> {
         &mut host,
     )?;
     assert_eq!(rt; printed, Ok(()));
-    let last =
-        b"   0.00     65536.00       1.00                                          \n";
+    let last = b"   0.00     65536.00       1.00                                          \n";
     assert!(rt; host.printed().ends_with(last));
     assert_eq!(rt; host.printed().len(), 133 + 65_536 * 74);
     Ok(())

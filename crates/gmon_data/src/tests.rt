@@ -295,32 +295,35 @@ fn a_hundred_thousand_records(rt: HostRuntime) -> Result<(), Fail> {
     Ok(())
 }
 
-#[test]
-fn a_conflict_is_told(rt: HostRuntime) -> Result<(), Fail> {
-    let mut profile = Profile::new(rt.alloc());
-    let range = |low| HistRange {
+/// The conflict of a histogram of four counters with one that is kept.
+fn conflict_of(alloc: Global, low: u32, rate: u32) -> Result<Option<Unlike>, AddRefusal> {
+    let mut profile = Profile::new(alloc);
+    let kept = even(alloc, 0x1_0000, 0x1_0010, 4)?;
+    profile.add_wide(&kept, seconds(100))?;
+    let range = HistRange {
         low,
         high: 0x1_0010,
         count: 4,
     };
-    assert_eq!(rt; profile.conflict(range(0x1_0000), seconds(50)), None);
-    let kept = even(rt.alloc(), 0x1_0000, 0x1_0010, 4)?;
-    assert_eq!(rt; profile.add_wide(&kept, seconds(100)), Ok(()));
-    let rows = [
-        (0x1_0000, 0, None),
-        (0x1_0010, 0, None),
-        (
-            0x1_0004,
-            50,
-            Some(Unlike::Range {
-                old: range(0x1_0000),
-                new: range(0x1_0004),
-            }),
-        ),
-        (0x1_0000, 50, Some(Unlike::Rate { old: 100, new: 50 })),
-    ];
-    for (low, rate, want) in rows {
-        assert_eq!(rt; profile.conflict(range(low), seconds(rate)), want, "{low}");
-    }
+    Ok(profile.conflict(range, seconds(rate)))
+}
+
+#[test]
+fn a_conflict_is_told(rt: HostRuntime) -> Result<(), Fail> {
+    assert_eq!(rt; conflict_of(rt.alloc(), 0x1_0000, 0)?, None);
+    assert_eq!(rt; conflict_of(rt.alloc(), 0x1_0010, 0)?, None);
+    let rate = Unlike::Rate { old: 100, new: 50 };
+    assert_eq!(rt; conflict_of(rt.alloc(), 0x1_0000, 50)?, Some(rate));
+    let old = HistRange {
+        low: 0x1_0000,
+        high: 0x1_0010,
+        count: 4,
+    };
+    let new = HistRange {
+        low: 0x1_0004,
+        ..old
+    };
+    let range = Unlike::Range { old, new };
+    assert_eq!(rt; conflict_of(rt.alloc(), 0x1_0004, 50)?, Some(range));
     Ok(())
 }

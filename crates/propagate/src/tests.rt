@@ -7,7 +7,9 @@ use gmon_data::AddRefusal;
 use std::alloc::{AllocError, Global};
 use std::test::Fail;
 use symbol_shares::{Shares, shares};
-use test_profiles::{even_profile, profile_of_calls, profile_of_samples, ring_of_calls, symbols_of};
+use test_profiles::{
+    even_profile, profile_of_calls, profile_of_samples, ring_of_calls, symbols_of,
+};
 
 /// Calls of one function by another: caller, callee and count, by their numbers.
 type Calls = (u16, u16, u64);

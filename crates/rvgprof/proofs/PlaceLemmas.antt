@@ -210,21 +210,21 @@ module _ (words : List (List ℕ)) where
 
 -- ---- what is cut
 
+both_true : (a b : Bool) → (a && b) ≡ true → (a ≡ true) × (b ≡ true)
+both_true true b e = (refl, e)
+both_true false b e = absurd cc
+
+each_cut : (words : List (List ℕ)) (places : List ℕ) (names : List (String Global)) → are_cuts words places ≡ true → map string_bytes names ≡ names_at words places
+    → AllByRecursion (λ (name : String Global). is_cut_word (string_bytes name) ≡ true) names
+each_cut words [] [] all same = tt
+each_cut words (place ∷ places) [] all same = tt
+each_cut words [] (name ∷ names) all same = absurd cc
+each_cut words (place ∷ places) (name ∷ names) all same =
+    let first : string_bytes name ≡ name_of words place = cc in
+    let others : map string_bytes names ≡ names_at words places = cc in
+    let both = both_true (is_cut_word (name_of words place)) (are_cuts words places) all in
+    (ap is_cut_word first ∙ both.0, each_cut words places names both.1 others)
+
 -- the words at these positions are words FROM/TO
 pub cut_words : (words : List (List ℕ)) (places : List ℕ) (names : List (String Global)) → are_cuts words places ≡ true → map string_bytes names ≡ names_at words places → All (λ name. is_cut_word (string_bytes name) ≡ true) names
-cut_words words places names all same = All-from_recursion (λ (name : String Global). is_cut_word (string_bytes name) ≡ true) names (go places names all same)
-  where
-    go : (places : List ℕ) (names : List (String Global)) → are_cuts words places ≡ true → map string_bytes names ≡ names_at words places → AllByRecursion (λ (name : String Global). is_cut_word (string_bytes name) ≡ true) names
-    go places [] all same = tt
-    go [] (name ∷ names) all same = absurd cc
-    go (place ∷ places) (name ∷ names) all same = by (is_cut_word (name_of words place)) refl all
-      where
-        first : string_bytes name ≡ name_of words place
-        first = cc
-
-        others : map string_bytes names ≡ names_at words places
-        others = cc
-
-        by : (b : Bool) → is_cut_word (name_of words place) ≡ b → (b && are_cuts words places) ≡ true → AllByRecursion (λ (name : String Global). is_cut_word (string_bytes name) ≡ true) (name ∷ names)
-        by true is rest = (ap is_cut_word first ∙ is, go places names rest others)
-        by false is rest = absurd cc
+cut_words words places names all same = All-from_recursion (λ (name : String Global). is_cut_word (string_bytes name) ≡ true) names (each_cut words places names all same)

@@ -7,12 +7,15 @@ use std::alloc::{AllocError, Global};
 
 mod demos;
 mod faults;
+mod helps;
 mod programs;
 mod reports;
+mod rows;
 mod runs;
 mod shows;
 mod sums;
 mod system;
+mod wide;
 
 fn words_from(alloc: Global, texts: &[&str]) -> Result<Vec<String>, AllocError> {
     let mut words = Vec::new(alloc);
@@ -28,4 +31,13 @@ fn status(alloc: Global, texts: &[&str], host: &mut MemHost) -> Result<u8, Alloc
 {
     let words = words_from(alloc, texts)?;
     Ok(status_of(&rvgprof(alloc, words.as_slice(), host)))
+}
+
+/// Some texts, one behind the other.
+fn joined(alloc: Global, texts: &[&str]) -> Result<Vec<u8>, AllocError> {
+    let mut bytes = Vec::new(alloc);
+    for text in texts {
+        bytes.extend_from_slice(text.as_bytes())?;
+    }
+    Ok(bytes)
 }

@@ -3,9 +3,10 @@
 ghost use Rattle.std.specs.Prelude.{◌≤◌};
 
 use super::programs::{CALLS, LOOP, PRINTS, Program, elf};
-use super::status;
+use super::rows::{Files, Row, gives};
+use super::{joined, status};
 use host_port::{HostCall, MemHost};
-use std::alloc::{AllocError, Global};
+use std::alloc::Global;
 use std::process::Abort;
 use std::test::Fail;
 
@@ -36,20 +37,38 @@ call graph
 index     %time        self    children                called  name
 ";
 
-/// Some texts, one behind the other.
-fn joined(alloc: Global, texts: &[&str]) -> Result<Vec<u8>, AllocError> {
-    let mut bytes = Vec::new(alloc);
-    for text in texts {
-        bytes.extend_from_slice(text.as_bytes())?;
-    }
-    Ok(bytes)
-}
+/// The exact times of the program with a call.
+const EXACT: &str = "exact flow
+component 00010008 self 0 child 0/1
+component 0001000c self 4000000 child 0/1
+component 00010000 self 0 child 4000000/1
+arc 00010000 0001000c self 4000000/1 child 0/1
+attributed 4000000
+";
+
+/// Both reports of the program without its call.
+const CUT: &str = "flat profile
+attributed 4000000, outside 0, rate 100
+  %time   cumulative       self      calls  self ms/call  total ms/call  name
+ 100.00         0.04       0.04                                          f
+
+call graph
+index     %time        self    children                called  name
+                                                                   <spontaneous>
+[1]      100.00        0.04        0.00                        f [1]
+------------------------------------------------------------------------
+";
 
 #[test]
 fn a_profile_is_of_its_run(rt: HostRuntime) -> Result<(), Fail> {
     let alloc = rt.alloc();
-    let cases: [(&[&str], &[&str]); 5] = [
+    let cases: [(&[&str], &[&str]); 7] = [
         (&["profile", "e", "g"], &[FLAT, "\n", GRAPH]),
+        (&["profile", "e", "g", "-k", "_start/f"], &[CUT]),
+        (
+            &["profile", "--exact", "e", "g"],
+            &[FLAT, "\n", GRAPH, "\n", EXACT],
+        ),
         (&["profile", "e", "--gnu", "g"], &[FLAT, "\n", GRAPH]),
         (&["profile", "e", "g", "--flat"], &[FLAT]),
         (&["profile", "--graph", "e", "g"], &[GRAPH]),
@@ -58,7 +77,7 @@ fn a_profile_is_of_its_run(rt: HostRuntime) -> Result<(), Fail> {
     for (words, texts) in cases {
         let mut all = Vec::new(alloc);
         all.extend_from_slice(words)?;
-        all.extend_from_slice(&["--budget", "4000", "--ram", "4"])?;
+        all.extend_from_slice(&["--every", "5", "--budget", "20", "--ram", "4"])?;
         let mut host = MemHost::new(alloc);
         host.put("e", &elf(alloc, &CALLS)?)?;
         assert_eq!(rt; status(alloc, all.as_slice(), &mut host)?, 0, "{words:?}");
@@ -69,7 +88,7 @@ fn a_profile_is_of_its_run(rt: HostRuntime) -> Result<(), Fail> {
         );
         assert_eq!(rt;
             host.errors(),
-            b"rvgprof: budget after 4000 instructions: 4 samples, 1 calls, 0 lost, arcs on\n".as_slice(),
+            b"rvgprof: budget after 20 instructions: 4 samples, 1 calls, 0 lost, arcs on\n".as_slice(),
             "{words:?}"
         );
     }
@@ -77,21 +96,26 @@ fn a_profile_is_of_its_run(rt: HostRuntime) -> Result<(), Fail> {
 }
 
 /// A host on which a command ran a program.
-fn ran(rt: &impl Abort, alloc: Global, command: &str) -> Result<MemHost, Fail> {
-    let words = [
-        command, "e", "g", "--image", "i", "--budget", "4000", "--ram", "4",
-    ];
+fn ran(rt: &impl Abort, alloc: Global, command: &[&str]) -> Result<MemHost, Fail> {
+    let mut words = command.to_vec(alloc)?;
+    words.extend_from_slice(&[
+        "e", "g", "--image", "i", "--every", "5", "--budget", "20", "--ram", "4",
+    ])?;
     let mut host = MemHost::new(alloc);
     host.put("e", &elf(alloc, &CALLS)?)?;
-    assert_eq!(rt; status(alloc, &words, &mut host)?, 0, "{command}");
+    assert_eq!(rt;
+        status(alloc, words.as_slice(), &mut host)?,
+        0,
+        "{command:?}"
+    );
     Ok(host)
 }
 
 #[test]
 fn a_profile_leaves_what_a_run_leaves(rt: HostRuntime) -> Result<(), Fail> {
     let alloc = rt.alloc();
-    let run = ran(&rt, alloc, "run")?;
-    let profiled = ran(&rt, alloc, "profile")?;
+    let run = ran(&rt, alloc, &["run"])?;
+    let profiled = ran(&rt, alloc, &["profile", "--exact", "-k", "_start/f"])?;
     for name in ["g", "i"] {
         let file = run.file(name).ok_or("no file")?;
         assert!(rt; !file.is_empty(), "{name}");
@@ -223,9 +247,34 @@ fn each_failing_call_of_a_profile_has_its_answer_byte_by_byte(rt: HostRuntime) -
     fail_in_turn(&rt, alloc, 1, &kinds)
 }
 
+/// The demo's program of one function: `_start` calls `f0` a hundred times, and that calls `_mcount` and
+/// counts down from ten.
+#[rattlefmt::skip]
+const DEMO: Program = Program {
+    words: &[
+        0x0640_0413, 0x03C0_00EF, 0xFFF4_0413, 0xFE04_1CE3, 0x0000_0513, 0x05D0_0893, 0x0000_0073, 0x13, // _start
+        0x0000_8067, 0x13, 0x13, 0x13, 0x13, 0x13, 0x13, 0x13, // _mcount
+        0xFF01_0113, 0x0011_2623, 0x0000_8513, 0xFD5F_F0EF, 0x00A0_0293, 0xFFF2_8293, 0xFE02_9EE3, // f0
+        0x13, 0x13, 0x13, 0x00C1_2083, 0x0101_0113, 0x0000_8067,
+        0x13, 0x13, 0x13, 0x13, 0x13, 0x13, 0x13, 0x13, 0x13, 0x13, 0x13, 0x13, 0x13,
+        0x13, 0x13, 0x13, 0x13, 0x13, 0x13, 0x13, 0x13, 0x13, 0x13, 0x13, 0x13, 0x13,
+        0x13, 0x13, 0x13, 0x13, 0x13, 0x13, 0x13, 0x13, 0x13, 0x13, 0x13, 0x13, 0x13,
+        0x13, 0x13, 0x13, 0x13, 0x13, 0x13, 0x13, 0x13, 0x13, 0x13, 0x13, 0x13,
+    ],
+    functions: &[("_start", 0), ("_mcount", 32), ("f0", 64)],
+};
+
+/// What is told of its run.
+const DEMO_LINE: &str =
+    "rvgprof: exit 0 after 3404 instructions: 3 samples, 100 calls, 0 lost, arcs on\n";
+
+const DEMO_ANSWER: &str =
+    "Ok(Done { run: Some(RunSummary { end: Exit(0), retired: 3404, samples: 3, calls: 100, lost: 0, state: On }) })";
+
 #[test]
 fn the_demo_of_one_function(rt: HostRuntime) -> Result<(), Fail> {
     let alloc = rt.alloc();
+    let program = elf(alloc, &DEMO)?;
     let mut host = MemHost::new(alloc);
     assert_eq!(rt; status(alloc, &["demo", "1", "--elf", "d"], &mut host)?, 0);
     assert_eq!(rt;
@@ -235,82 +284,168 @@ attributed 3000000 grains, roots 3000000 grains
 "
             .as_slice()
     );
-    assert_eq!(rt;
-        host.errors(),
-        b"rvgprof: exit 0 after 3404 instructions: 3 samples, 100 calls, 0 lost, arcs on\n".as_slice()
-    );
-    let program = host.file("d").ok_or("no program")?.to_vec(alloc)?;
-    prints(
-        &rt,
-        alloc,
-        &program,
-        &["syms", "d"],
-        b"text 00010000 00010140 entry 00010000 mcount 00010020 moncontrol -
+    assert_eq!(rt; host.errors(), DEMO_LINE.as_bytes());
+    assert_eq!(rt; host.file("d"), Some(program.as_slice()));
+    let files = Files {
+        program: &program,
+        profile: b"",
+    };
+    let row = Row {
+        words: &["syms", "e"],
+        answer: "Ok(Done { run: None })",
+        out: b"text 00010000 00010140 entry 00010000 mcount 00010020 moncontrol -
 00010000 32 _start
 00010020 32 _mcount
 00010040 256 f0
 ",
-    )?;
-    profile_of_the_demo(&rt, alloc, &program)
+        err: "",
+        left: b"",
+    };
+    gives(&rt, alloc, files, &row)
 }
 
-/// Looks at what a command prints of a file.
-fn prints(
-    rt: &impl Abort,
-    alloc: Global,
-    file: &[u8],
-    words: &[&str],
-    text: &[u8],
-) -> Result<(), Fail> {
-    let mut host = MemHost::new(alloc);
-    host.put("d", file)?;
-    assert_eq!(rt; status(alloc, words, &mut host)?, 0, "{words:?}");
-    assert_eq!(rt; host.printed(), text, "{words:?}");
-    Ok(())
+#[test]
+fn stacks_of_the_demo_are_folded(rt: HostRuntime) -> Result<(), Fail> {
+    let alloc = rt.alloc();
+    let program = elf(alloc, &DEMO)?;
+    let files = Files {
+        program: &program,
+        profile: b"",
+    };
+    let stacks = Row {
+        words: &["folded", "e", "--ram", "4"],
+        answer: DEMO_ANSWER,
+        out: b"_start;f0 3\n",
+        err: DEMO_LINE,
+        left: b"",
+    };
+    gives(&rt, alloc, files, &stacks)?;
+    let inclusive = Row {
+        words: &["folded", "--inclusive", "e", "--ram", "4"],
+        out: b"_start 3\nf0 3\n",
+        ..stacks
+    };
+    gives(&rt, alloc, files, &inclusive)
 }
 
-/// Runs the demo's program, and shows its profile, whole and torn.
-fn profile_of_the_demo(rt: &impl Abort, alloc: Global, program: &[u8]) -> Result<(), Fail> {
-    let mut host = MemHost::new(alloc);
-    host.put("d", program)?;
-    assert_eq!(rt; status(alloc, &["run", "d", "d.out"], &mut host)?, 0);
-    let mut file = host.file("d.out").ok_or("no profile")?.to_vec(alloc)?;
-    assert_eq!(rt; file.len(), 204);
-    prints(
-        rt,
-        alloc,
-        file.as_slice(),
-        &["show", "d"],
-        b"bsd low 00010000 high 00010140 counters 80 rate 100
+/// Options of a run of the demo's program, the length of its profile, and how that is shown.
+const DEMO_PROFILES: [(&[&str], usize, &str); 2] = [
+    (
+        &[],
+        204,
+        "bsd low 00010000 high 00010140 counters 80 rate 100
 count 00010058 2
 count 00010060 1
 arc 00010008 00010050 100
 ",
-    )?;
-    file.push(0)?;
-    refuses(
-        rt,
-        alloc,
-        file.as_slice(),
-        b"rvgprof: bad profile d: rest at 204\n",
-    )?;
-    file.truncate(203);
-    refuses(
-        rt,
-        alloc,
-        file.as_slice(),
-        b"rvgprof: bad profile d: rest at 192\n",
-    )
+    ),
+    (
+        &["--hist", "16", "--hash", "16"],
+        64,
+        "bsd low 00010000 high 00010140 counters 10 rate 100
+count 00010040 2
+count 00010060 1
+arc 00010000 00010050 100
+",
+    ),
+];
+
+/// The profile of a run of a program.
+fn profile_of(
+    rt: &impl Abort,
+    alloc: Global,
+    program: &[u8],
+    options: &[&str],
+) -> Result<Vec<u8>, Fail> {
+    let mut words = options.to_vec(alloc)?;
+    words.extend_from_slice(&["e", "g", "--ram", "4"])?;
+    words.insert(0, "run")?;
+    let mut host = MemHost::new(alloc);
+    host.put("e", program)?;
+    assert_eq!(rt;
+        status(alloc, words.as_slice(), &mut host)?,
+        0,
+        "{options:?}"
+    );
+    Ok(host.file("g").ok_or("no profile")?.to_vec(alloc)?)
 }
 
-/// Looks at the line of a profile that is refused.
-fn refuses(rt: &impl Abort, alloc: Global, file: &[u8], line: &[u8]) -> Result<(), Fail> {
-    let mut host = MemHost::new(alloc);
-    host.put("d", file)?;
-    assert_eq!(rt; status(alloc, &["show", "d"], &mut host)?, 3);
-    assert_eq!(rt; host.errors(), line);
-    assert_eq!(rt; host.printed().len(), 0);
+#[test]
+fn profiles_of_the_demo_are_shown(rt: HostRuntime) -> Result<(), Fail> {
+    let alloc = rt.alloc();
+    let program = elf(alloc, &DEMO)?;
+    for (options, len, text) in DEMO_PROFILES {
+        let profile = profile_of(&rt, alloc, &program, options)?;
+        assert_eq!(rt; profile.len(), len, "{options:?}");
+        let files = Files {
+            program: b"",
+            profile: &profile,
+        };
+        let row = Row {
+            words: &["show", "g"],
+            answer: "Ok(Done { run: None })",
+            out: text.as_bytes(),
+            err: "",
+            left: &profile,
+        };
+        gives(&rt, alloc, files, &row)?;
+    }
     Ok(())
+}
+
+/// Looks for lines in the listing of a program.
+fn lists(
+    rt: &impl Abort,
+    alloc: Global,
+    program: &[u8],
+    profile: &[u8],
+    lines: &str,
+) -> Result<(), Fail> {
+    let mut host = MemHost::new(alloc);
+    host.put("e", program)?;
+    host.put("g", profile)?;
+    assert_eq!(rt; status(alloc, &["annotate", "e", "g"], &mut host)?, 0);
+    let text = str::from_utf8(host.printed()).map_err(|_| "no text")?;
+    assert!(rt; text.find(lines).is_some(), "{lines}");
+    Ok(())
+}
+
+#[test]
+fn instructions_of_the_demo_are_counted(rt: HostRuntime) -> Result<(), Fail> {
+    let alloc = rt.alloc();
+    let program = elf(alloc, &DEMO)?;
+    let counted = profile_of(&rt, alloc, &program, &["--gnu", "--blocks"])?;
+    assert_eq!(rt; counted.len(), 391);
+
+    // The record of executions: twenty pairs, from 0x10000 with 1 on to 0x10070 with 100.
+    assert_eq!(rt;
+        counted.get(226..239),
+        Some([2, 20, 0, 0, 0, 0, 0, 1, 0, 1, 0, 0, 0].as_slice())
+    );
+    assert_eq!(rt;
+        counted.get(383..),
+        Some([0x70, 0, 1, 0, 100, 0, 0, 0].as_slice())
+    );
+    lists(
+        &rt,
+        alloc,
+        &program,
+        &counted,
+        "
+00010058        1000           2000000  fe029ee3  bne x5, x0, 0x00010054
+0001005c         100                 0  00000013  addi x0, x0, 0
+",
+    )?;
+    lists(
+        &rt,
+        alloc,
+        &program,
+        &profile_of(&rt, alloc, &program, &[])?,
+        "
+00010058           0           2000000  fe029ee3  bne x5, x0, 0x00010054
+0001005c           0                 0  00000013  addi x0, x0, 0
+",
+    )
 }
 
 #[test]

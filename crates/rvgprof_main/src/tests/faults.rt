@@ -2,10 +2,12 @@
 
 ghost use Rattle.std.specs.Prelude.{◌≤◌};
 
-use super::programs::{LOOP, PRINTS, elf};
+use super::programs::{LOOP, PRINTS, TELLS, elf, patch, twisted};
+use super::rows::{Files, Row, fails_in_turn};
+use super::sums::SUM;
 use super::{status, status_of};
 use elf32_syms::ElfRefusal;
-use gp_base::{GmonRefusal, le4};
+use gp_base::GmonRefusal;
 use host_port::{HostCall, MemHost};
 use rvgprof::{Done, Fault};
 use std::alloc::Global;
@@ -32,6 +34,7 @@ fn each_answer_has_its_status(rt: HostRuntime) {
         (5, Fault::ReadFault { word: 1 }),
         (6, Fault::WriteFault),
         (7, Fault::OutOfMemory),
+        (8, Fault::TooWide { head: 4, arc: 3 }),
         (
             9,
             Fault::TooLarge {
@@ -145,17 +148,6 @@ fn files_and_programs_are_refused_with_their_lines(rt: HostRuntime) -> Result<()
     Ok(())
 }
 
-/// Changes the four bytes at an offset, if they are there.
-fn patch(file: &mut [u8], at: usize, word: u32)
-    requires { at ≤ 10000 }
-{
-    for (i, byte) in le4(word).iter().enumerate() {
-        if at + i < file.len() {
-            file[at + i] = *byte;
-        }
-    }
-}
-
 /// Looks at a refusal: nothing is printed but its line, and no profile is made.
 fn refuses(
     rt: &impl Abort,
@@ -259,38 +251,220 @@ fn each_failing_call_has_its_answer_byte_by_byte(rt: HostRuntime) -> Result<(), 
 }
 
 #[test]
-fn where_the_last_print_fails_the_answer_is_the_same(rt: HostRuntime) -> Result<(), Fail> {
+fn where_the_line_of_a_failed_call_fails_the_answer_is_the_same(
+    rt: HostRuntime,
+) -> Result<(), Fail> {
     let alloc = rt.alloc();
     let loops = elf(alloc, &LOOP)?;
-    let cases: [(&[&str], u64, u8); 4] = [
-        (&["show"], 0, 1),
-        (&["show", "nope"], 1, 5),
-        (&["show", "e"], 4, 3),
-        (&["run", "e", "g", "--ram", "4", "--budget", "1"], 7, 0),
-    ];
-    for (words, call, answer) in cases {
-        ends_alike(&rt, alloc, &loops, words, call, answer)?;
+    let run = ["run", "e", "g", "--ram", "4", "--budget", "1"];
+    let cases: [(&[&str], u64, u64, u8); 2] = [(&["show", "nope"], 0, 1, 5), (&run, 4, 5, 6)];
+    for (words, failing, line, answer) in cases {
+        ends_alike(&rt, alloc, &loops, words, failing, line, answer)?;
     }
     Ok(())
 }
 
-/// Looks at an answer twice: with its last line, whose call has this number, and without.
+/// Looks at an answer where a call fails, twice: with its last line, whose call has this number, and
+/// without.
 fn ends_alike(
     rt: &impl Abort,
     alloc: Global,
     file: &[u8],
     words: &[&str],
-    call: u64,
+    failing: u64,
+    line: u64,
     answer: u8,
 ) -> Result<(), Fail> {
     let mut host = MemHost::new(alloc);
     host.put("e", file)?;
+    host.fail_at(failing)?;
     assert_eq!(rt; status(alloc, words, &mut host)?, answer, "{words:?}, told");
     assert!(rt; !host.errors().is_empty(), "{words:?}, told");
     let mut host = MemHost::new(alloc);
     host.put("e", file)?;
-    host.fail_at(call)?;
+    host.fail_at(failing)?;
+    host.fail_at(line)?;
     assert_eq!(rt; status(alloc, words, &mut host)?, answer, "{words:?}");
     assert_eq!(rt; host.errors().len(), 0, "{words:?}");
+    Ok(())
+}
+
+/// The profile of four instructions of the endless loop, with a sample and an execution of each.
+const COUNTED: [u8; 68] = [
+    0x67, 0x6D, 0x6F, 0x6E, 1, 0, 0, 0, 0, 0, 0, 0, 0, 0, 0, 0, 0, 0, 0, 0, // header
+    0, 0, 0, 1, 0, 4, 0, 1, 0, 1, 0, 0, 0, 100, 0, 0, 0, // tag, low, high, number, rate
+    0x73, 0x65, 0x63, 0x6F, 0x6E, 0x64, 0x73, 0, 0, 0, 0, 0, 0, 0, 0, 0x73, // seconds, s
+    4, 0, // counter
+    2, 1, 0, 0, 0, 0, 0, 1, 0, 4, 0, 0, 0, // 4 at 0x10000
+];
+
+const COUNTED_ANSWER: &str =
+    "Ok(Done { run: Some(RunSummary { end: Budget, retired: 4, samples: 4, calls: 0, lost: 0, state: On }) })";
+
+const COUNTED_LINE: &str =
+    "rvgprof: budget after 4 instructions: 4 samples, 0 calls, 0 lost, arcs on\n";
+
+/// Commands over the endless loop and that profile.
+const LOOPS: [Row<'static>; 4] = [
+    Row {
+        words: &["annotate", "e", "g"],
+        answer: "Ok(Done { run: None })",
+        out: b"annotated listing
+_start:
+00010000           4           4000000  0000006f  jal x0, 0x00010000
+",
+        err: "",
+        left: &COUNTED,
+    },
+    Row {
+        words: &["folded", "e", "--every", "1", "--budget", "4", "--ram", "4"],
+        answer: COUNTED_ANSWER,
+        out: b"_start 4\n",
+        err: COUNTED_LINE,
+        left: &COUNTED,
+    },
+    Row {
+        words: &[
+            "run", "e", "g", "--gnu", "--blocks", "--image", "i", "--every", "1", "--budget", "4",
+            "--ram", "4",
+        ],
+        answer: COUNTED_ANSWER,
+        out: b"",
+        err: COUNTED_LINE,
+        left: &COUNTED,
+    },
+    Row {
+        words: &["folded", "e", "g"],
+        answer: "Err(Usage)",
+        out: b"",
+        err: "rvgprof: words not understood\n",
+        left: &COUNTED,
+    },
+];
+
+#[test]
+fn each_failing_call_over_a_loop_has_its_answer(rt: HostRuntime) -> Result<(), Fail> {
+    let alloc = rt.alloc();
+    let program = elf(alloc, &LOOP)?;
+    let files = Files {
+        program: &program,
+        profile: &COUNTED,
+    };
+    for row in LOOPS {
+        fails_in_turn(&rt, alloc, files, &row)?;
+    }
+    Ok(())
+}
+
+/// The profile of the program that prints and ends: seven counters.
+const TOLD: [u8; 46] = [
+    0, 0, 1, 0, 0x1C, 0, 1, 0, 46, 0, 0, 0, 0x79, 0x18, 5, 0, 100, 0, 0, 0, 0, 0, 0, 0, 0, 0, 0, 0,
+    0, 0, 0, 0, 0, 0, 0, 0, 0, 0, 0, 0, 0, 0, 0, 0, 0, 0,
+];
+
+/// Commands over the program that prints and ends.
+const TELLING: [Row<'static>; 2] = [
+    Row {
+        words: &["profile", "e", "g", "--flat", "--exact", "--ram", "4"],
+        answer: "Ok(Done { run: Some(RunSummary { end: Exit(4), retired: 7, samples: 0, calls: 0, lost: 0, state: On }) })",
+        out: b"\x13\x05\x10\x00flat profile
+attributed 0, outside 0, rate 100
+  %time   cumulative       self      calls  self ms/call  total ms/call  name
+
+exact flow
+component 00010000 self 0 child 0/1
+attributed 0
+",
+        err: "rvgprof: exit 4 after 7 instructions: 0 samples, 0 calls, 0 lost, arcs on\n",
+        left: &TOLD,
+    },
+    Row {
+        words: &["demo", "1", "--elf", "d", "--budget", "1", "--ram", "4"],
+        answer: "Ok(Done { run: Some(RunSummary { end: Budget, retired: 1, samples: 0, calls: 0, lost: 0, state: On }) })",
+        out: b"demo 1: 1 instructions, 0 samples, 0 calls, 0 lost, 0 arcs, 0 cycles
+attributed 0 grains, roots 0 grains
+",
+        err: "rvgprof: budget after 1 instructions: 0 samples, 0 calls, 0 lost, arcs on\n",
+        left: &TOLD,
+    },
+];
+
+#[test]
+fn each_failing_call_of_a_run_and_its_report_has_its_answer(rt: HostRuntime) -> Result<(), Fail> {
+    let alloc = rt.alloc();
+    let program = elf(alloc, &TELLS)?;
+    let files = Files {
+        program: &program,
+        profile: &TOLD,
+    };
+    for row in TELLING {
+        fails_in_turn(&rt, alloc, files, &row)?;
+    }
+    Ok(())
+}
+
+/// A refusal: the changed words of the endless loop's file, the words, the answer, and its line. The
+/// profile has two histograms of other rates.
+type Refusal<'a> = (&'a [(usize, u32)], &'a [&'a str], &'a str, &'a str);
+
+const REFUSALS: [Refusal<'static>; 6] = [
+    (
+        &[(0, 0)],
+        &["folded", "e"],
+        "Err(BadElf { refusal: Magic })",
+        "rvgprof: bad elf: magic\n",
+    ),
+    (
+        &[],
+        &["annotate", "e", "e"],
+        "Err(BadProfile { refusal: Version { value: 0 }, word: 2 })",
+        "rvgprof: bad profile e: version 0\n",
+    ),
+    (
+        &[],
+        &["annotate", "e", "g"],
+        "Err(Unlike { unlike: Rate { old: 100, new: 50 }, word: 2 })",
+        "rvgprof: unlike g: rate\n",
+    ),
+    (
+        &[],
+        &["report", "e", "g", "--exact"],
+        "Err(Unlike { unlike: Rate { old: 100, new: 50 }, word: 2 })",
+        "rvgprof: unlike g: rate\n",
+    ),
+    (
+        &[(72, 0x0030_0000)],
+        &["folded", "e", "--ram", "4"],
+        "Err(ProgramTooLarge { need: 5308416, end: 4259840 })",
+        "rvgprof: program too large: needs 5308416, ram ends 4259840\n",
+    ),
+    (
+        &[(24, 0x1_0002)],
+        &["profile", "e", "g", "--exact", "--ram", "4"],
+        "Err(EntryOutside { entry: 65538 })",
+        "rvgprof: entry outside 00010002\n",
+    ),
+];
+
+#[test]
+fn each_failing_call_before_a_refusal_has_its_answer(rt: HostRuntime) -> Result<(), Fail> {
+    let alloc = rt.alloc();
+    let whole = elf(alloc, &LOOP)?;
+    let profile = twisted(alloc, &SUM, 90, &[(68, 50)])?;
+    for (changes, words, answer, err) in REFUSALS {
+        let program = twisted(alloc, &whole, 4_376, changes)?;
+        let files = Files {
+            program: &program,
+            profile: &profile,
+        };
+        let row = Row {
+            words,
+            answer,
+            out: b"",
+            err,
+            left: &profile,
+        };
+        fails_in_turn(&rt, alloc, files, &row)?;
+    }
     Ok(())
 }

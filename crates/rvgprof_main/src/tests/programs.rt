@@ -47,6 +47,20 @@ pub const PRINTS: Program = Program {
     functions: &[("_start", 0)],
 };
 
+/// It prints its first four bytes on the output, and ends with 4.
+pub const TELLS: Program = Program {
+    words: &[
+        0x0010_0513,
+        0x0001_05B7,
+        0x0040_0613,
+        0x0400_0893,
+        0x0000_0073,
+        0x05D0_0893,
+        0x0000_0073,
+    ],
+    functions: &[("_start", 0)],
+};
+
 fn push_words(file: &mut Vec<u8>, words: &[u32]) -> Result<(), AllocError> {
     for word in words {
         file.extend_from_slice(&le4(*word))?;
@@ -133,5 +147,28 @@ pub fn elf(alloc: Global, program: &Program) -> Result<Vec<u8>, AllocError> {
     file.extend_from_slice(b"\0.text\0.symtab\0.strtab\0.shstrtab\0")?;
     pad(&mut file, sections_at as usize)?;
     push_words(&mut file, &sections(text_len, symbols_len, strings_len))?;
+    Ok(file)
+}
+
+/// Changes the four bytes at an offset, as far as they are there.
+pub fn patch(file: &mut [u8], at: usize, word: u32) {
+    for (i, byte) in le4(word).iter().enumerate() {
+        if let Some(old) = file.get_mut(at.saturating_add(i)) {
+            *old = *byte;
+        }
+    }
+}
+
+/// The first bytes of a file, with some words changed.
+pub fn twisted(
+    alloc: Global,
+    whole: &[u8],
+    len: usize,
+    changes: &[(usize, u32)],
+) -> Result<Vec<u8>, AllocError> {
+    let mut file = whole.get(..len).unwrap_or(whole).to_vec(alloc)?;
+    for (at, word) in changes {
+        patch(&mut file, *at, *word);
+    }
     Ok(file)
 }

@@ -4,11 +4,11 @@ ghost use Rattle.std.specs.Prelude.{◌≡◌, ◌≤◌, false, IfOk};
 ghost use Rattle.host_port.specs.Memory.{outside_of};
 
 use super::programs::{Program, elf};
-use super::status;
+use super::rows::{Files, Row, fails_in_turn, gives};
+use super::{joined, status};
 use gp_base::{le2, le4};
-use host_port::{HostCall, MemHost};
+use host_port::MemHost;
 use std::alloc::{AllocError, Global};
-use std::process::Abort;
 use std::test::Fail;
 
 /// Instructions that do nothing.
@@ -45,28 +45,39 @@ fn profile(
     Ok(bytes)
 }
 
-/// A program `e` and one without functions `n`; a profile `g` with one sample in main, two in a and
-/// three in b, where main calls a, a and b call each other, and b itself; `o` with five samples behind
-/// them; `r` at another rate; and a profile of nothing, `z`.
-fn host_of_all(alloc: Global) -> Result<MemHost, AllocError>
-    ensures { IfOk result (λ host. (outside_of host).is_writing ≡ false) }
-{
-    let mut g = profile(
+/// A profile with arcs behind its counters.
+fn with_arcs(mut file: Vec<u8>, arcs: &[u32]) -> Result<Vec<u8>, AllocError> {
+    for word in arcs {
+        file.extend_from_slice(&le4(*word))?;
+    }
+    Ok(file)
+}
+
+/// A profile with one sample in main, two in a and three in b, where main calls a, a and b call each
+/// other, and b itself.
+fn cycle(alloc: Global) -> Result<Vec<u8>, AllocError> {
+    let file = profile(
         alloc,
         0x1_0000,
         0x1_0030,
         100,
         &[1, 0, 0, 0, 2, 0, 0, 0, 3, 0, 0, 0],
     )?;
-    for word in [
+    let arcs = [
         0x1_0004, 0x1_0014, 1, 0x1_0018, 0x1_0024, 5, 0x1_0028, 0x1_0014, 4, 0x1_0028, 0x1_0024, 2,
-    ] {
-        g.extend_from_slice(&le4(word))?;
-    }
+    ];
+    with_arcs(file, &arcs)
+}
+
+/// A program `e` and one without functions `n`; the profile `g` of a cycle; `o` with five samples behind
+/// its functions; `r` at another rate; and a profile of nothing, `z`.
+fn host_of_all(alloc: Global) -> Result<MemHost, AllocError>
+    ensures { IfOk result (λ host. (outside_of host).is_writing ≡ false) }
+{
     let mut host = MemHost::new(alloc);
     host.put("e", &elf(alloc, &THREE)?)?;
     host.put("n", &elf(alloc, &NONE)?)?;
-    host.put("g", &g)?;
+    host.put("g", &cycle(alloc)?)?;
     host.put("o", &profile(alloc, 0x2_0000, 0x2_0004, 100, &[5])?)?;
     host.put("r", &profile(alloc, 0x2_0000, 0x2_0004, 50, &[5])?)?;
     host.put("z", b"gmon\x01\0\0\0\0\0\0\0\0\0\0\0\0\0\0\0")?;
@@ -89,7 +100,7 @@ attributed 6000000, outside 0, rate 100
   16.67         0.06       0.01                                          main
 ";
 
-/// The call graph of `g`.
+/// The call graph of `g` up to its last entry, which is that of a.
 const GRAPH: &str = "call graph
 index     %time        self    children                called  name
                                                                    <spontaneous>
@@ -105,7 +116,11 @@ index     %time        self    children                called  name
 [3]       50.00        0.03        0.00                   5+2  b <cycle 1> [3]
                                                             4      a <cycle 1> [4]
 ------------------------------------------------------------------------
-                       0.05        0.00                   1/1      main [1]
+";
+
+/// Its last entry.
+const LAST_ENTRY: &str =
+    "                       0.05        0.00                   1/1      main [1]
                                                             4      b <cycle 1> [3]
 [4]       33.33        0.02        0.00                     5  a <cycle 1> [4]
                                                             5      b <cycle 1> [3]
@@ -121,33 +136,127 @@ attributed 12000000, outside 0, rate 100
   16.67         0.12       0.02                                          main
 ";
 
-/// Both reports of `g`, with an empty line between them.
-fn both(alloc: Global) -> Result<Vec<u8>, AllocError> {
-    let mut text = Vec::new(alloc);
-    for part in [FLAT, "\n", GRAPH] {
-        text.extend_from_slice(part.as_bytes())?;
-    }
-    Ok(text)
-}
+/// The flat profile of `g` without a line of a.
+const HIDDEN: &str = "flat profile
+attributed 6000000, outside 0, rate 100
+  %time   cumulative       self      calls  self ms/call  total ms/call  name
+  50.00         0.03       0.03          7          4.29           4.29  b
+  16.67         0.06       0.01                                          main
+";
+
+/// The exact times of `g`.
+const EXACT: &str = "exact flow
+component 00010010 self 5000000 child 0/1
+component 00010000 self 1000000 child 5000000/1
+arc 00010000 00010010 self 5000000/1 child 0/1
+attributed 6000000
+";
+
+/// The reports of `g` without the calls of b to a.
+const CUT_FLAT: &str = "flat profile
+attributed 6000000, outside 0, rate 100
+  %time   cumulative       self      calls  self ms/call  total ms/call  name
+  50.00         0.03       0.03          7          4.29           4.29  b
+  33.33         0.05       0.02          1         20.00          50.00  a
+  16.67         0.06       0.01                                          main
+";
+
+const CUT_GRAPH: &str =
+    "                                                                   <spontaneous>
+[1]      100.00        0.01        0.05                        main [1]
+                       0.02        0.03                   1/1      a [2]
+------------------------------------------------------------------------
+                       0.02        0.03                   1/1      main [1]
+[2]       83.33        0.02        0.03                     1  a [2]
+                       0.03        0.00                   5/5      b [3]
+------------------------------------------------------------------------
+                       0.03        0.00                   5/5      a [2]
+[3]       50.00        0.03        0.00                   5+2  b [3]
+------------------------------------------------------------------------
+";
+
+const CUT_EXACT: &str = "exact flow
+component 00010020 self 3000000 child 0/1
+component 00010010 self 2000000 child 3000000/1
+arc 00010010 00010020 self 3000000/1 child 0/1
+component 00010000 self 1000000 child 5000000/1
+arc 00010000 00010010 self 2000000/1 child 3000000/1
+attributed 6000000
+";
+
+/// Words, and what is printed of them.
+type Printed<'a> = (&'a [&'a str], &'a [&'a str]);
 
 #[test]
 fn a_report_is_printed(rt: HostRuntime) -> Result<(), Fail> {
     let alloc = rt.alloc();
-    let whole = both(alloc)?;
-    let cases: [(&[&str], &[u8]); 8] = [
-        (&["report", "e", "g"], whole.as_slice()),
-        (&["report", "e", "--graph", "g", "--flat"], whole.as_slice()),
-        (&["report", "e", "z", "g"], whole.as_slice()),
-        (&["report", "--flat", "e", "g"], FLAT.as_bytes()),
-        (&["report", "e", "g", "g", "--flat"], TWICE.as_bytes()),
-        (&["report", "e", "--graph", "g"], GRAPH.as_bytes()),
-        (&["report", "e", "z", "g", "--graph"], GRAPH.as_bytes()),
-        (&["report", "--graph", "n", "z"], HEADINGS.as_bytes()),
+    let both = [FLAT, "\n", GRAPH, LAST_ENTRY];
+    let cases: [Printed; 20] = [
+        (&["report", "e", "g"], &both),
+        (&["report", "e", "--graph", "g", "--flat"], &both),
+        (&["report", "e", "z", "g"], &both),
+        (&["report", "--flat", "e", "g"], &[FLAT]),
+        (&["report", "e", "g", "g", "--flat"], &[TWICE]),
+        (&["report", "e", "--graph", "g"], &[GRAPH, LAST_ENTRY]),
+        (&["report", "e", "z", "g", "--graph"], &[GRAPH, LAST_ENTRY]),
+        (&["report", "--graph", "n", "z"], &[HEADINGS]),
+        (
+            &["report", "e", "g", "--exact"],
+            &[FLAT, "\n", GRAPH, LAST_ENTRY, "\n", EXACT],
+        ),
+        (
+            &["report", "e", "--exact", "g", "--flat"],
+            &[FLAT, "\n", EXACT],
+        ),
+        (
+            &["report", "e", "g", "--graph", "-k", "b/a"],
+            &[HEADINGS, CUT_GRAPH],
+        ),
+        (
+            &["report", "-k", "b/a", "e", "g", "--flat", "--exact"],
+            &[CUT_FLAT, "\n", CUT_EXACT],
+        ),
+        (
+            &["report", "e", "g", "--graph", "-k", "b/nobody"],
+            &[GRAPH, LAST_ENTRY],
+        ),
+        (&["report", "e", "g", "--flat", "--hide", "a"], &[HIDDEN]),
+        (&["report", "e", "g", "--graph", "--hide", "a"], &[GRAPH]),
+        (&["report", "e", "g", "--hide", "nobody"], &both),
+        (
+            &["report", "e", "g", "--hide", "<cycle 1 as a whole>"],
+            &both,
+        ),
+        (
+            &["report", "e", "--hide", "a", "g", "--exact"],
+            &[HIDDEN, "\n", GRAPH, "\n", EXACT],
+        ),
+        (
+            &[
+                "report", "e", "g", "--flat", "--hide", "n", "--hide", "n", "--hide", "n",
+                "--hide", "n", "--hide", "n", "--hide", "n", "--hide", "n", "--hide", "n",
+                "--hide", "n", "--hide", "n", "--hide", "n", "--hide", "n", "--hide", "n",
+                "--hide", "n", "--hide", "n", "--hide", "a",
+            ],
+            &[HIDDEN],
+        ),
+        (
+            &[
+                "report", "e", "g", "--flat", "-k", "n/n", "-k", "n/n", "-k", "n/n", "-k", "n/n",
+                "-k", "n/n", "-k", "n/n", "-k", "n/n", "-k", "n/n", "-k", "n/n", "-k", "n/n", "-k",
+                "n/n", "-k", "n/n", "-k", "n/n", "-k", "n/n", "-k", "n/n", "-k", "b/a",
+            ],
+            &[CUT_FLAT],
+        ),
     ];
-    for (words, text) in cases {
+    for (words, texts) in cases {
         let mut host = host_of_all(alloc)?;
         assert_eq!(rt; status(alloc, words, &mut host)?, 0, "{words:?}");
-        assert_eq!(rt; host.printed(), text, "{words:?}");
+        assert_eq!(rt;
+            host.printed(),
+            joined(alloc, texts)?.as_slice(),
+            "{words:?}"
+        );
         assert_eq!(rt; host.errors().len(), 0, "{words:?}");
     }
     Ok(())
@@ -241,44 +350,126 @@ fn reports_are_refused_in_order(rt: HostRuntime) -> Result<(), Fail> {
     Ok(())
 }
 
-/// Prints a report with one call that fails, looks at the answer, and tells whether the call was made.
-fn fails_at(rt: &impl Abort, alloc: Global, step: usize, call: u64) -> Result<bool, Fail>
-    requires { 1 ≤ step }
-{
-    let mut host = host_of_all(alloc)?;
-    host.set_step(step);
-    host.fail_at(call)?;
-    let answer = status(alloc, &["report", "e", "g"], &mut host)?;
-    let failed = host.first_failed();
-    let wanted = match failed {
-        None => 0,
-        Some(HostCall::OpenInput | HostCall::Read) => 5,
-        Some(_) => 6,
-    };
-    assert_eq!(rt; answer, wanted, "call {call}, step {step}");
-    let printed = host.printed();
-    let whole = both(alloc)?;
-    assert!(rt; whole.starts_with(printed), "call {call}, step {step}");
-    assert!(rt;
-        failed.is_none() == (printed.len() == whole.len()),
-        "call {call}, step {step}"
-    );
-    Ok(failed.is_some())
-}
-
 #[test]
 fn each_failing_call_of_a_report_has_its_answer(rt: HostRuntime) -> Result<(), Fail> {
     let alloc = rt.alloc();
-    let mut calls = 0;
-    for call in 0..20 {
-        if fails_at(&rt, alloc, usize::MAX, call)? {
-            calls = call;
-        }
-    }
+    let (program, profile) = (elf(alloc, &THREE)?, cycle(alloc)?);
+    let files = Files {
+        program: &program,
+        profile: &profile,
+    };
+    let text = joined(alloc, &[FLAT, "\n", GRAPH, LAST_ENTRY, "\n", EXACT])?;
+    let row = Row {
+        words: &["report", "e", "g", "--exact"],
+        answer: "Ok(Done { run: None })",
+        out: &text,
+        err: "",
+        left: &profile,
+    };
+    fails_in_turn(&rt, alloc, files, &row)
+}
+
+/// Three functions that call a fourth.
+const CALLERS: Program = Program {
+    words: &[0x13; 16],
+    functions: &[("a", 0), ("b", 16), ("c", 32), ("d", 48)],
+};
+
+const THIRDS: &str = "flat profile
+attributed 1000000, outside 0, rate 100
+  %time   cumulative       self      calls  self ms/call  total ms/call  name
+ 100.00         0.01       0.01          3          3.33           3.33  d
+
+exact flow
+component 00010030 self 1000000 child 0/1
+component 00010000 self 0 child 1000000/3
+arc 00010000 00010030 self 1000000/3 child 0/1
+component 00010010 self 0 child 1000000/3
+arc 00010010 00010030 self 1000000/3 child 0/1
+component 00010020 self 0 child 1000000/3
+arc 00010020 00010030 self 1000000/3 child 0/1
+attributed 1000000
+";
+
+#[test]
+fn a_sample_is_shared_by_three_callers(rt: HostRuntime) -> Result<(), Fail> {
+    let alloc = rt.alloc();
+    let program = elf(alloc, &CALLERS)?;
+    let profile = with_arcs(
+        profile(alloc, 0x1_0030, 0x1_0034, 100, &[1])?,
+        &[
+            0x1_0000, 0x1_0030, 1, 0x1_0010, 0x1_0030, 1, 0x1_0020, 0x1_0030, 1,
+        ],
+    )?;
+    let files = Files {
+        program: &program,
+        profile: &profile,
+    };
+    let row = Row {
+        words: &["report", "e", "g", "--exact", "--flat"],
+        answer: "Ok(Done { run: None })",
+        out: THIRDS.as_bytes(),
+        err: "",
+        left: &profile,
+    };
+    gives(&rt, alloc, files, &row)
+}
+
+/// Five functions, of which each but the last is called by the next one very often, and by one of four
+/// others once.
+const CHAIN: Program = Program {
+    words: &[0x13; 36],
+    functions: &[
+        ("f0", 0),
+        ("f1", 16),
+        ("f2", 32),
+        ("f3", 48),
+        ("f4", 64),
+        ("g0", 80),
+        ("g1", 96),
+        ("g2", 112),
+        ("g3", 128),
+    ],
+};
+
+#[rattlefmt::skip]
+const CHAIN_ARCS: [u32; 24] = [
+    0x1_0010, 0x1_0000, 0x7FFF_FFFF, 0x1_0050, 0x1_0000, 1,
+    0x1_0020, 0x1_0010, 0x7FFF_FFFF, 0x1_0060, 0x1_0010, 1,
+    0x1_0030, 0x1_0020, 0x7FFF_FFFF, 0x1_0070, 0x1_0020, 1,
+    0x1_0080, 0x1_0030, 1, 0x1_0040, 0x1_0030, 0x7FFF_FFFF,
+];
+
+#[test]
+fn exact_times_may_be_too_wide(rt: HostRuntime) -> Result<(), Fail> {
+    let alloc = rt.alloc();
+    let mut counters = [0; 36];
+    counters[0] = 1;
+    let program = elf(alloc, &CHAIN)?;
+    let file = profile(alloc, 0x1_0000, 0x1_0090, 100, &counters)?;
+    let mut host = MemHost::new(alloc);
+    host.put("e", &program)?;
+    host.put("w", &with_arcs(file.to_vec(alloc)?, &CHAIN_ARCS)?)?;
+    assert_eq!(rt; status(alloc, &["report", "e", "w"], &mut host)?, 0);
+    let mut host = MemHost::new(alloc);
+    host.put("e", &program)?;
+    host.put("w", &with_arcs(file.to_vec(alloc)?, &CHAIN_ARCS[..21])?)?;
     assert_eq!(rt;
-        calls,
-        9,
-        "open and three reads, open and two reads, three prints"
+        status(alloc, &["report", "e", "w", "--exact"], &mut host)?,
+        0
     );
-    Ok(())
+
+    let profile = with_arcs(file, &CHAIN_ARCS)?;
+    let files = Files {
+        program: &program,
+        profile: &profile,
+    };
+    let row = Row {
+        words: &["report", "e", "g", "--exact"],
+        answer: "Err(TooWide { head: 4, arc: 3 })",
+        out: b"",
+        err: "rvgprof: too wide at function 4 arc 3\n",
+        left: &profile,
+    };
+    fails_in_turn(&rt, alloc, files, &row)
 }

@@ -1,7 +1,9 @@
 //! Programs that are run, what they print, and the files that they leave.
 
-use super::programs::{CALLS, LOOP, PRINTS, Program, elf};
+use super::programs::{CALLS, LOOP, PRINTS, Program, elf, twisted};
+use super::rows::{Files, Row, gives};
 use super::status;
+use gp_base::le4;
 use host_port::MemHost;
 use std::alloc::{AllocError, Global};
 use std::process::Abort;
@@ -294,15 +296,19 @@ fn full(words: &mut [u32; 53]) {
     words[52] = 0x0000_8067;
 }
 
-/// The lines of its profile.
-fn full_lines(alloc: Global) -> Result<Vec<u8>, AllocError> {
-    let mut lines = Vec::new(alloc);
-    lines.extend_from_slice(b"bsd low 00010000 high 000100d4 counters 53 rate 100\n")?;
-    for i in 0..49u32 {
-        let line = format!(in alloc; "arc 00010000 {:08x} 1\n", 0x1_00C8 - 4 * i)?;
-        lines.extend_from_slice(line.as_bytes())?;
+/// Its profile: no samples, and the 49 arcs that there is room for, the latest first.
+fn full_profile(alloc: Global) -> Result<Vec<u8>, AllocError> {
+    let mut file = Vec::new(alloc);
+    for word in [0x1_0000, 0x1_00D4, 138, 0x0005_1879, 100, 0, 0, 0] {
+        file.extend_from_slice(&le4(word))?;
     }
-    Ok(lines)
+    file.extend_from_slice(&[0; 106])?;
+    for i in 0..49u32 {
+        for word in [0x1_0000, 0x1_00C8 - 4 * i, 1] {
+            file.extend_from_slice(&le4(word))?;
+        }
+    }
+    Ok(file)
 }
 
 #[test]
@@ -314,24 +320,92 @@ fn arcs_run_out(rt: HostRuntime) -> Result<(), Fail> {
         words: &words,
         functions: &[("_start", 0), ("_mcount", 208)],
     };
-    let mut host = MemHost::new(alloc);
-    host.put("e", &elf(alloc, &program)?)?;
-    assert_eq!(rt;
-        status(
-            alloc,
-            &["run", "e", "g", "--budget", "60", "--ram", "4"],
-            &mut host
-        )?,
-        0
-    );
-    assert_eq!(rt;
-        host.errors(),
-        b"rvgprof: budget after 60 instructions: 0 samples, 49 calls, 0 lost, arcs error\n".as_slice()
-    );
+    let (program, left) = (elf(alloc, &program)?, full_profile(alloc)?);
+    assert_eq!(rt; left.len(), 726);
+    let files = Files {
+        program: &program,
+        profile: b"",
+    };
+    let row = Row {
+        words: &["run", "e", "g", "--budget", "60", "--ram", "4"],
+        answer: "Ok(Done { run: Some(RunSummary { end: Budget, retired: 60, samples: 0, calls: 49, lost: 0, state: Error }) })",
+        out: b"",
+        err: "rvgprof: budget after 60 instructions: 0 samples, 49 calls, 0 lost, arcs error\n",
+        left: &left,
+    };
+    gives(&rt, alloc, files, &row)
+}
 
-    let lines = full_lines(alloc)?;
-    let file = host.file("g").ok_or("no profile")?;
-    assert_eq!(rt; file.len(), 726);
-    assert_eq!(rt; lines_of(alloc, file)?.as_slice(), lines.as_slice());
+const CALL_ANSWER: &str =
+    "Ok(Done { run: Some(RunSummary { end: Budget, retired: 6, samples: 6, calls: 1, lost: 0, state: On }) })";
+
+const CALL_LINE: &str =
+    "rvgprof: budget after 6 instructions: 6 samples, 1 calls, 0 lost, arcs on\n";
+
+const SIX: [&str; 8] = ["folded", "e", "--every", "1", "--budget", "6", "--ram", "4"];
+
+#[test]
+fn stacks_are_folded(rt: HostRuntime) -> Result<(), Fail> {
+    let alloc = rt.alloc();
+    let calls = elf(alloc, &CALLS)?;
+
+    // Its symbol is no function, but an object.
+    let nameless = twisted(alloc, &elf(alloc, &LOOP)?, 4_376, &[(4_128, 0x1_0011)])?;
+    let called = Row {
+        words: &SIX,
+        answer: CALL_ANSWER,
+        out: b"_start;f 5\n_start;f;_mcount 1\n",
+        err: CALL_LINE,
+        left: b"",
+    };
+    let inclusive = Row {
+        words: &[
+            "folded",
+            "e",
+            "--every",
+            "1",
+            "--inclusive",
+            "--budget",
+            "6",
+            "--ram",
+            "4",
+        ],
+        out: b"_start 6\n_mcount 1\nf 6\n",
+        ..called
+    };
+    let unknown = Row {
+        words: &SIX,
+        answer: "Ok(Done { run: Some(RunSummary { end: Budget, retired: 6, samples: 6, calls: 0, lost: 0, state: On }) })",
+        out: b"",
+        err: "rvgprof: budget after 6 instructions: 6 samples, 0 calls, 0 lost, arcs on\n",
+        left: b"",
+    };
+    for (program, row) in [(&calls, called), (&calls, inclusive), (&nameless, unknown)] {
+        let files = Files {
+            program,
+            profile: b"",
+        };
+        gives(&rt, alloc, files, &row)?;
+    }
     Ok(())
+}
+
+#[test]
+fn samples_of_a_stack_have_no_end_at_16_bits(rt: HostRuntime) -> Result<(), Fail> {
+    let alloc = rt.alloc();
+    let program = elf(alloc, &LOOP)?;
+    let files = Files {
+        program: &program,
+        profile: b"",
+    };
+    let row = Row {
+        words: &[
+            "folded", "e", "--every", "1", "--budget", "65536", "--ram", "4",
+        ],
+        answer: "Ok(Done { run: Some(RunSummary { end: Budget, retired: 65536, samples: 65536, calls: 0, lost: 0, state: On }) })",
+        out: b"_start 65536\n",
+        err: "rvgprof: budget after 65536 instructions: 65536 samples, 0 calls, 0 lost, arcs on\n",
+        left: b"",
+    };
+    gives(&rt, alloc, files, &row)
 }

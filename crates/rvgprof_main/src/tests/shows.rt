@@ -1,6 +1,7 @@
 //! Files that are shown, and what is refused.
 
-use super::programs::{CALLS, LOOP, elf};
+use super::programs::{CALLS, LOOP, elf, twisted};
+use super::rows::{Files, Row, gives};
 use super::status;
 use host_port::MemHost;
 use std::alloc::{AllocError, Global};
@@ -12,63 +13,108 @@ const HEADER: [u8; 20] = [
     0, 0, 1, 0, 0, 1, 1, 0, 160, 0, 0, 0, 0x79, 0x18, 5, 0, 100, 0, 0, 0,
 ];
 
-/// A file of 160 bytes with that header and zeros behind it, or a part of it, with one byte changed.
-fn profile(alloc: Global, len: usize, at: usize, byte: u8) -> Result<Vec<u8>, AllocError> {
-    let mut bytes = Vec::new(alloc);
-    for i in 0..len {
-        let whole = HEADER.get(i).copied().unwrap_or(0);
-        bytes.push(if i == at { byte } else { whole })?;
+/// That header, and 141 zeros behind it: the file of it has 140.
+fn bsd(alloc: Global) -> Result<Vec<u8>, AllocError> {
+    let mut file = vec![in alloc; 0u8; 161]?;
+    for (byte, wanted) in file.iter_mut().zip(HEADER) {
+        *byte = wanted;
     }
-    Ok(bytes)
+    Ok(file)
+}
+
+/// The length of a file, its changed words, the refusal, and how its line tells it.
+type Refused<'a> = (usize, &'a [(usize, u32)], &'a str, &'a str);
+
+/// The length of a file, its changed words, and what is shown of it.
+type Shown<'a> = (usize, &'a [(usize, u32)], &'a str);
+
+/// Looks at the refusals of a file, of which a part is left or words are changed.
+fn are_refused(
+    rt: &impl Abort,
+    alloc: Global,
+    whole: &[u8],
+    cases: &[Refused],
+) -> Result<(), Fail> {
+    for (len, changes, refusal, text) in cases {
+        let file = twisted(alloc, whole, *len, changes)?;
+        let answer = format!(in alloc; "Err(BadProfile {{ refusal: {refusal}, word: 1 }})")?;
+        let err = format!(in alloc; "rvgprof: bad profile g: {text}\n")?;
+        let row = Row {
+            words: &["show", "g"],
+            answer: &answer,
+            out: b"",
+            err: &err,
+            left: &file,
+        };
+        let files = Files {
+            program: b"",
+            profile: &file,
+        };
+        gives(rt, alloc, files, &row)?;
+    }
+    Ok(())
+}
+
+/// Looks at what is shown of a file, of which a part is left or words are changed.
+fn are_shown(rt: &impl Abort, alloc: Global, whole: &[u8], cases: &[Shown]) -> Result<(), Fail> {
+    for (len, changes, text) in cases {
+        let file = twisted(alloc, whole, *len, changes)?;
+        let row = Row {
+            words: &["show", "g"],
+            answer: "Ok(Done { run: None })",
+            out: text.as_bytes(),
+            err: "",
+            left: &file,
+        };
+        let files = Files {
+            program: b"",
+            profile: &file,
+        };
+        gives(rt, alloc, files, &row)?;
+    }
+    Ok(())
 }
 
 #[test]
 fn profiles_are_shown_or_refused(rt: HostRuntime) -> Result<(), Fail> {
     let alloc = rt.alloc();
-    let cases = [
+    let whole = bsd(alloc)?;
+    let refused: [Refused; 10] = [
+        (0, &[], "Short { at: 0 }", "short at 0"),
+        (159, &[], "Short { at: 159 }", "short at 159"),
+        (161, &[], "Rest { at: 160 }", "rest at 160"),
+        (160, &[(12, 0)], "Version { value: 0 }", "version 0"),
+        (160, &[(8, 31)], "Size { value: 31 }", "size 31"),
+        (160, &[(8, 161)], "Size { value: 161 }", "size 161"),
         (
             160,
-            999,
-            0,
-            0,
+            &[(4, 0x1_0000)],
+            "Range { at: 0, low: 65536, high: 65536 }",
+            "range 00010000 00010000 at 0",
+        ),
+        (160, &[(8, 162)], "Short { at: 160 }", "short at 160"),
+        (160, &[(8, 32)], "Rest { at: 152 }", "rest at 152"),
+        (31, &[], "Short { at: 31 }", "short at 31"),
+    ];
+    are_refused(&rt, alloc, &whole, &refused)?;
+    let shown: [Shown; 3] = [
+        (
+            160,
+            &[],
             "bsd low 00010000 high 00010100 counters 64 rate 100\n",
         ),
         (
             160,
-            34,
-            7,
-            0,
+            &[(32, 0x7_0000)],
             "bsd low 00010000 high 00010100 counters 64 rate 100\ncount 00010004 7\n",
         ),
-        (161, 999, 0, 3, "rvgprof: bad profile g: rest at 160\n"),
-        (159, 999, 0, 3, "rvgprof: bad profile g: short at 159\n"),
-        (0, 999, 0, 3, "rvgprof: bad profile g: short at 0\n"),
-        (160, 12, 0, 3, "rvgprof: bad profile g: version 333824\n"),
-        (160, 8, 31, 3, "rvgprof: bad profile g: size 31\n"),
-        (160, 8, 161, 3, "rvgprof: bad profile g: size 161\n"),
         (
-            160,
-            5,
-            0,
-            3,
-            "rvgprof: bad profile g: range 00010000 00010000 at 0\n",
+            32,
+            &[(0, 0), (4, 0), (8, 32), (16, 0)],
+            "bsd low 00000000 high 00000000 counters 0 rate 0\n",
         ),
-        (160, 8, 162, 3, "rvgprof: bad profile g: short at 160\n"),
-        (160, 8, 32, 3, "rvgprof: bad profile g: rest at 152\n"),
     ];
-    for (len, at, byte, answer, text) in cases {
-        let mut host = MemHost::new(alloc);
-        host.put("g", &profile(alloc, len, at, byte)?)?;
-        assert_eq!(rt; status(alloc, &["show", "g"], &mut host)?, answer, "{text}");
-        let (shown, other) = if answer == 0 {
-            (host.printed(), host.errors())
-        } else {
-            (host.errors(), host.printed())
-        };
-        assert_eq!(rt; shown, text.as_bytes(), "{text}");
-        assert_eq!(rt; other.len(), 0, "{text}");
-    }
-    Ok(())
+    are_shown(&rt, alloc, &whole, &shown)
 }
 
 /// A file of the GNU form: a histogram from 0x10000 to below 0x10010, an arc that was never called, and
@@ -85,93 +131,158 @@ const GNU: [u8; 87] = [
 const GNU_LINES: &str =
     "gnu\nhist low 00010000 high 00010010 counters 4 rate 100 unit 7365636f6e6473000000000000000073\ncount 00010000 1\ncount 00010004 2\narc 00010004 00010008 0\nblocks 1\nblock 00010000 9\n";
 
-/// What is shown of the first bytes of that file, with the version or the first tag changed.
-fn is_shown(
-    rt: &impl Abort,
-    alloc: Global,
-    len: usize,
-    at: usize,
-    byte: u8,
-    wanted: (u8, &str),
-) -> Result<(), Fail> {
-    let (answer, text) = wanted;
-    let mut bytes = Vec::new(alloc);
-    for i in 0..len {
-        let whole = GNU.get(i).copied().unwrap_or(0);
-        bytes.push(if i == at { byte } else { whole })?;
-    }
-    let mut host = MemHost::new(alloc);
-    host.put("g", &bytes)?;
-    assert_eq!(rt; status(alloc, &["show", "g"], &mut host)?, answer, "{text}");
-    let shown = if answer == 0 {
-        host.printed()
-    } else {
-        host.errors()
-    };
-    assert_eq!(rt; shown, text.as_bytes(), "{text}");
-    Ok(())
-}
-
 #[test]
 fn files_of_the_gnu_form_are_shown_or_refused(rt: HostRuntime) -> Result<(), Fail> {
-    let cases = [
-        (87, 999, 0, (0, GNU_LINES)),
-        (20, 999, 0, (0, "gnu\n")),
-        (4, 999, 0, (3, "rvgprof: bad profile g: short at 4\n")),
-        (86, 999, 0, (3, "rvgprof: bad profile g: short at 86\n")),
-        (87, 4, 2, (3, "rvgprof: bad profile g: version 2\n")),
-        (87, 20, 3, (3, "rvgprof: bad profile g: tag 3 at 20\n")),
+    let alloc = rt.alloc();
+    let refused: [Refused; 7] = [
+        (4, &[], "Short { at: 4 }", "short at 4"),
+        (86, &[], "Short { at: 86 }", "short at 86"),
+        (20, &[(4, 2)], "Version { value: 2 }", "version 2"),
+        (21, &[(20, 3)], "Tag { at: 20, value: 3 }", "tag 3 at 20"),
+        (21, &[(20, 1)], "Short { at: 21 }", "short at 21"),
         (
-            87,
-            27,
-            0,
-            (3, "rvgprof: bad profile g: range 00010000 00000010 at 20\n"),
+            55,
+            &[(25, 0x1_0000), (29, 1)],
+            "Range { at: 20, low: 65536, high: 65536 }",
+            "range 00010000 00010000 at 20",
+        ),
+        (
+            25,
+            &[(20, 2), (21, 0xFFFF_FFFF)],
+            "Short { at: 25 }",
+            "short at 25",
         ),
     ];
-    for (len, at, byte, wanted) in cases {
-        is_shown(&rt, rt.alloc(), len, at, byte, wanted)?;
+    are_refused(&rt, alloc, &GNU, &refused)?;
+    let shown: [Shown; 2] = [(87, &[], GNU_LINES), (20, &[], "gnu\n")];
+    are_shown(&rt, alloc, &GNU, &shown)
+}
+
+/// The refusals of the program that loops: it has 4,376 bytes, with its text at 4,096, the symbols at
+/// 4,100, the strings at 4,132, and the five section headers from 4,176 on.
+const REFUSED: [Refused<'static>; 22] = [
+    (0, &[], "Short { len: 0 }", "short 0"),
+    (51, &[], "Short { len: 51 }", "short 51"),
+    (52, &[], "OutOfFile { at: 52 }", "out of file 52"),
+    (4_376, &[(0, 0x464C_4500)], "Magic", "magic"),
+    (4_376, &[(4, 0x1_0102)], "Class { value: 2 }", "class 2"),
+    (4_376, &[(4, 0x1_0201)], "Order { value: 2 }", "order 2"),
+    (4_376, &[(16, 0x00F3_0003)], "Kind { value: 3 }", "kind 3"),
+    (
+        4_376,
+        &[(16, 0x003E_0002)],
+        "Machine { value: 62 }",
+        "machine 62",
+    ),
+    (4_376, &[(36, 1)], "Flags { value: 1 }", "flags 1"),
+    (4_376, &[(36, 8)], "Flags { value: 8 }", "flags 8"),
+    (
+        4_376,
+        &[(40, 0x001F_0034)],
+        "TableSize { value: 31 }",
+        "table size 31",
+    ),
+    (
+        4_376,
+        &[(44, 0x0028_0041)],
+        "TableSize { value: 65 }",
+        "table size 65",
+    ),
+    (
+        4_376,
+        &[(44, 0x0040_0001)],
+        "TableSize { value: 64 }",
+        "table size 64",
+    ),
+    (4_375, &[], "OutOfFile { at: 4176 }", "out of file 4176"),
+    (
+        4_376,
+        &[(68, 4_400), (72, 4_400)],
+        "OutOfFile { at: 4096 }",
+        "out of file 4096",
+    ),
+    (
+        4_376,
+        &[(4_224, 2)],
+        "TextRange { low: 0, high: 0 }",
+        "text range 0 0",
+    ),
+    (
+        4_376,
+        &[(4_236, 0x200_0000)],
+        "TextRange { low: 65536, high: 33619968 }",
+        "text range 65536 33619968",
+    ),
+    (
+        4_376,
+        &[(4_276, 4_096)],
+        "OutOfFile { at: 4100 }",
+        "out of file 4100",
+    ),
+    (4_376, &[(4_280, 9)], "Link { index: 9 }", "link 9"),
+    (4_376, &[(4_280, 1)], "Link { index: 1 }", "link 1"),
+    (
+        4_376,
+        &[(4_316, 4_096)],
+        "OutOfFile { at: 4132 }",
+        "out of file 4132",
+    ),
+    (4_376, &[(4_116, 8)], "Link { index: 1 }", "link 1"),
+];
+
+#[test]
+fn programs_are_refused(rt: HostRuntime) -> Result<(), Fail> {
+    let alloc = rt.alloc();
+    let whole = elf(alloc, &LOOP)?;
+    assert_eq!(rt; whole.len(), 4_376);
+    for (len, changes, refusal, text) in REFUSED {
+        let file = twisted(alloc, &whole, len, changes)?;
+        let answer = format!(in alloc; "Err(BadElf {{ refusal: {refusal} }})")?;
+        let err = format!(in alloc; "rvgprof: bad elf: {text}\n")?;
+        let row = Row {
+            words: &["syms", "e"],
+            answer: &answer,
+            out: b"",
+            err: &err,
+            left: b"",
+        };
+        let files = Files {
+            program: &file,
+            profile: b"",
+        };
+        gives(&rt, alloc, files, &row)?;
     }
     Ok(())
 }
 
 #[test]
-fn programs_are_shown_or_refused(rt: HostRuntime) -> Result<(), Fail> {
+fn programs_are_shown(rt: HostRuntime) -> Result<(), Fail> {
     let alloc = rt.alloc();
     let one = elf(alloc, &LOOP)?;
+    let flagged = twisted(alloc, &one, 4_376, &[(36, 4)])?;
     let hooked = elf(alloc, &CALLS)?;
-    assert_eq!(rt; one.len(), 4_376);
+    let lines = "text 00010000 00010004 entry 00010000 mcount - moncontrol -\n00010000 4 _start\n";
     let cases = [
-        (
-            one.as_slice(),
-            0,
-            "text 00010000 00010004 entry 00010000 mcount - moncontrol -\n00010000 4 _start\n",
-        ),
+        (one.as_slice(), lines),
+        (flagged.as_slice(), lines),
         (
             hooked.as_slice(),
-            0,
             "text 00010000 00010018 entry 00010000 mcount 00010008 moncontrol -\n00010000 8 _start\n00010008 4 _mcount\n0001000c 12 f\n",
         ),
-        (
-            one.get(..51).unwrap_or_default(),
-            2,
-            "rvgprof: bad elf: short 51\n",
-        ),
-        (
-            one.get(..4_375).unwrap_or_default(),
-            2,
-            "rvgprof: bad elf: out of file 4176\n",
-        ),
     ];
-    for (file, answer, text) in cases {
-        let mut host = MemHost::new(alloc);
-        host.put("e", file)?;
-        assert_eq!(rt; status(alloc, &["syms", "e"], &mut host)?, answer, "{text}");
-        let shown = if answer == 0 {
-            host.printed()
-        } else {
-            host.errors()
+    for (program, text) in cases {
+        let row = Row {
+            words: &["syms", "e"],
+            answer: "Ok(Done { run: None })",
+            out: text.as_bytes(),
+            err: "",
+            left: b"",
         };
-        assert_eq!(rt; shown, text.as_bytes(), "{text}");
+        let files = Files {
+            program,
+            profile: b"",
+        };
+        gives(&rt, alloc, files, &row)?;
     }
     Ok(())
 }

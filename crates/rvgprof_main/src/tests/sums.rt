@@ -16,7 +16,7 @@ const BSD: [u8; 34] = [
 ];
 
 /// The sum of two such files: 80,000 is 65,535 and 14,465.
-const SUM: [u8; 90] = [
+pub const SUM: [u8; 90] = [
     0x67, 0x6D, 0x6F, 0x6E, 1, 0, 0, 0, 0, 0, 0, 0, 0, 0, 0, 0, 0, 0, 0, 0, // header
     0, 0, 0, 1, 0, 4, 0, 1, 0, 1, 0, 0, 0, 100, 0, 0, 0, // tag, low, high, number, rate
     0x73, 0x65, 0x63, 0x6F, 0x6E, 0x64, 0x73, 0, 0, 0, 0, 0, 0, 0, 0, 0x73, // seconds, s

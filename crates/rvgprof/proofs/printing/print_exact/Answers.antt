@@ -37,7 +37,7 @@ returns-in_err-write_exact g c = λ words start below done next s.
     let is = text_as c.args.image.now.symbols c.as_slice.result.now found.graph found.shares.of c.args.exact.now c.attributed.result (attributed_of found.shares) c.as_slice.ensures c.requires.exact c.attributed.ensures.value in
     let puts = rw is at c.in_err-write_exact.ensures in
     let p = err_from_is_err_and c.from_residual-in_err-write_exact.result c.from_residual-in_err-write_exact.ensures.1 in
-    rw (p.1, p.2) (fails {T = Unit {0}} words start _ _ below (done ++ Out (codes "\n") ∷ []) (Out text ∷ []) next c.in_err-write_exact.e one (puts_performs {T = Unit {0}} Output text _ _ _ puts))
+    rw (p.1, p.2) (fails {T = Unit {0}} words start _ _ below (done ++ Out (codes "\n") ∷ []) (Out text ∷ []) next _ one (puts_performs {T = Unit {0}} Output text _ _ _ puts))
 
 pub returns : goal.returns
 returns g c = λ words start below done next s.

@@ -1,6 +1,7 @@
-use Rattle.std.proofs.Common.{subst, sym, refl}
-use Rattle.std.specs.Prelude.{map, string_bytes, is_some, MatchResult}
-use Rattle.rvgprof.specs.Answer.{chosen_by, print_reports}
+use Rattle.std.proofs.Common.{◌≡◌, ◌∙◌, ℕ, List, ap, subst, sym}
+use Rattle.std.specs.Prelude.{map, string_bytes, is_some}
+use Rattle.rvgprof.specs.Answer.{chosen_by, exact_report, names_at, print_reports, shown_reports}
+use Rattle.rvgprof.specs.Standing.{Stands}
 use Rattle.rvgprof.specs.Found.{given_sources}
 use Rattle.rvgprof.proofs.Reporting.{may_stop_reports, narrow, no_exact, of_sources}
 use Rattle.rvgprof.proofs.Standing.{no_memory}
@@ -30,7 +31,9 @@ returns-in-Ok-print_all g c = λ words start below done next s.
     let sources = c.in-Ok-chosen_sources.sources in
     let all = of_sources words start _ below done chosen c.args.image.now c.args.total.now sources next c.in-Ok-chosen_sources.ensures s in
     let here = narrow words start _ below done chosen c.args.image.now sources next c.in-Ok-exact_asked.exact c.in-Ok-exact_asked.ensures.found all in
-    rw c.in-Ok.ensures at c.in-Ok-print_all.ensures words start below done next here
+    let hidden : map string_bytes c.deref.result.now ≡ chosen.hidden = ap (map string_bytes) c.deref.ensures.value ∙ c.in-Ok.ensures ∙ ap (names_at (map string_bytes c.args.words.now)) c.as_slice.ensures in
+    c.in-Ok-print_all.ensures words start below done next
+    (subst (λ (names : List (List ℕ)). Stands words start (g.H.Host.outside c.args.host.now) below done (shown_reports chosen.shown names (given_sources c.args.image.now sources) (exact_report (is_some c.in-Ok-exact_asked.exact) (given_sources c.args.image.now sources) next))) (sym hidden) here)
 
 pub returns : goal.returns
 returns g c = λ words start below done next s.
@@ -38,4 +41,6 @@ returns g c = λ words start below done next s.
     let sources = c.in-Ok-chosen_sources.sources in
     let all = of_sources words start _ below done chosen c.args.image.now c.args.total.now sources next c.in-Ok-chosen_sources.ensures s in
     let here = narrow words start _ below done chosen c.args.image.now sources next c.in-Ok-exact_asked.exact c.in-Ok-exact_asked.ensures.found all in
-    rw c.report_fault.ensures (c.in-Err-print_all.ensures words start below done next here)
+    let hidden : map string_bytes c.deref.result.now ≡ chosen.hidden = ap (map string_bytes) c.deref.ensures.value ∙ c.in-Ok.ensures ∙ ap (names_at (map string_bytes c.args.words.now)) c.as_slice.ensures in
+    rw c.report_fault.ensures (c.in-Err-print_all.ensures words start below done next
+    (subst (λ (names : List (List ℕ)). Stands words start (g.H.Host.outside c.args.host.now) below done (shown_reports chosen.shown names (given_sources c.args.image.now sources) (exact_report (is_some c.in-Ok-exact_asked.exact) (given_sources c.args.image.now sources) next))) (sym hidden) here))

@@ -1,5 +1,9 @@
 use Rattle.std.proofs.Common.{◌++◌, ◌∙◌, false, Ok, refl, sym, ap, subst}
-use Rattle.std.specs.Prelude.{length}
+use Rattle.std.specs.Prelude.{length, IsSome, Option}
+use Rattle.prof_machine.specs.declared.ending.End.{End}
+use Rattle.prof_machine.specs.Value.{StandsFor}
+use Rattle.prof_machine.specs.World.{World}
+use Rattle.prof_machine.proofs.RunLemmas.{plan_ends}
 use Rattle.host_port.specs.Act.{writes_after}
 use Rattle.host_port.specs.declared.host.Failed.{Failed}
 use Rattle.prof_machine.specs.declared.machine.Machine.{Machine}
@@ -12,7 +16,7 @@ use Rattle.rvgprof.specs.Answer.{stacks_told}
 use Rattle.rvgprof.specs.Course.{one_by_one}
 use Rattle.rvgprof.proofs.Folding.{fold_done, fold_stops, may_stop_folding}
 use Rattle.rvgprof.proofs.Performing.{printed_performs}
-use Rattle.rvgprof.proofs.Running.{Started, not_started, performs_due, run_of}
+use Rattle.rvgprof.proofs.Running.{Started, last_is, not_started, performs_due, run_of}
 use Rattle.rvgprof.proofs.stacks.fold_program.Goals as goal
 
 pub returns-in-Err-clause-folds : goal.returns-in-Err-clause-folds
@@ -53,7 +57,12 @@ returns-in-Ok-fold-clause-ended g c =
       stands = c.in-Ok.ensures.stands;
       machine = c.in-Ok.ensures.machine;
     } in
-    run_of c.args.image.now c.args.bytes.now c.args.setup c.args.bytes.now c.args.setup c.in-Ok.run' started c.fold.new.run c.in-Ok-fold.ensures.stands c.in-Ok-fold.ensures.machine ?
+    let image = c.args.image.now in
+    let bytes = c.args.bytes.now in
+    let setup = c.args.setup in
+    let last = subst (λ (w : World). StandsFor w c.fold.new.run) (last_is image bytes setup bytes setup c.in-Ok.run' started) (c.in-Ok-fold.ensures.stands (start_of image bytes setup) started.stands) in
+    let ended = subst (λ (o : Option End). IsSome o) (sym last.ending) (plan_ends image bytes setup c.requires.setup.some_every c.requires.setup.some_budget) in
+    run_of image bytes setup bytes setup c.in-Ok.run' started c.fold.new.run c.in-Ok-fold.ensures.stands c.in-Ok-fold.ensures.machine ended
 
 pub returns-in-Err-fold-clause-folds : goal.returns-in-Err-fold-clause-folds
 returns-in-Err-fold-clause-folds g c = λ words start below done inclusive s.
