@@ -1,5 +1,5 @@
 //! Runs the program of `examples/firmware`, whose file is named by a word, on a host in memory with 1, 2 and
-//! 8 harts. Prints what each run leaves: the error output with the exit line, the output, and the lines of
+//! 8 harts. Prints what each run leaves: the error output with the end line, the output, and the lines of
 //! the profile.
 #![tactic(auto)]
 

@@ -15,4 +15,6 @@ pub use tally::Folded;
 pub use writer::write;
 
 #[cfg(test)]
+mod programs;
+#[cfg(test)]
 mod tests;

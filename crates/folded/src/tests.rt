@@ -1,9 +1,11 @@
-ghost use Rattle.std.specs.Prelude.{◌≡◌, ◌+◌, ◌≤◌, IfOk};
+ghost use Rattle.std.specs.Prelude.{◌≡◌, ◌≤◌};
 ghost use Rattle.prof_machine.specs.Setup.{IsSetup};
 
+use super::programs::{CASES, Case, MANY_SAMPLES};
 use super::*;
-use elf32_syms::{Image, Segment, Symbol, SymbolList, read};
-use gp_base::{Items, Name, Span, le4};
+use elf32_syms::read;
+use gp_base::limits::MAX_NUMBER;
+use gp_base::{le2, le4};
 use host_port::MemHost;
 use prof_machine::{Plan, Run, Setup};
 use std::alloc::{AllocError, Global};
@@ -12,23 +14,102 @@ use std::test::Fail;
 
 const TEXT: u32 = 0x0001_0000;
 
-fn bytes_of(alloc: Global, words: &[u32]) -> Result<Vec<u8>, AllocError> {
-    let mut bytes = Vec::new(alloc);
+fn put_words(bytes: &mut Vec<u8>, words: &[u32]) -> Result<(), AllocError> {
     for word in words {
         bytes.extend_from_slice(&le4(*word))?;
     }
+    Ok(())
+}
+
+fn put_halves(bytes: &mut Vec<u8>, halves: &[u16]) -> Result<(), AllocError> {
+    for half in halves {
+        bytes.extend_from_slice(&le2(*half))?;
+    }
+    Ok(())
+}
+
+// A symbol, and its name with a zero behind it.
+fn put_symbol(
+    rt: &impl Abort,
+    symbols: &mut Vec<u8>,
+    strings: &mut Vec<u8>,
+    name: &str,
+    at: u32,
+) -> Result<(), AllocError> {
+    assert!(rt; strings.len() <= 1_000);
+    assert!(rt; at <= 1_000);
+    put_words(symbols, &[strings.len() as u32, TEXT + at, 0])?;
+    symbols.extend_from_slice(&[0x12, 0])?;
+    put_halves(symbols, &[1])?;
+    strings.extend_from_slice(name.as_bytes())?;
+    strings.push(0)?;
+    Ok(())
+}
+
+// The headers of the sections: none, the text, the symbols and the strings.
+fn put_sections(
+    rt: &impl Abort,
+    bytes: &mut Vec<u8>,
+    text: u32,
+    symbols: u32,
+    strings: u32,
+) -> Result<(), AllocError> {
+    assert!(rt; text <= 1_000 && symbols <= 1_000 && strings <= 1_000);
+    put_words(bytes, &[0; 10])?;
+    put_words(bytes, &[0, 1, 6, TEXT, 84, text, 0, 0, 4, 0])?;
+    put_words(bytes, &[0, 2, 0, 0, 84 + text, symbols, 3, 1, 4, 16])?;
+    put_words(
+        bytes,
+        &[0, 3, 0, 0, 84 + text + symbols, strings, 0, 0, 1, 0],
+    )
+}
+
+// The ELF file of these words, which stand from 0x10000 on, with functions by their names and places.
+fn elf_of(
+    rt: &impl Abort,
+    alloc: Global,
+    words: &[u32],
+    functions: &[(&str, u32)],
+) -> Result<Vec<u8>, AllocError> {
+    let mut text = Vec::new(alloc);
+    put_words(&mut text, words)?;
+    let mut symbols = Vec::new(alloc);
+    symbols.resize(16, 0)?;
+    let mut strings = Vec::new(alloc);
+    strings.push(0)?;
+    for (name, at) in functions {
+        put_symbol(rt, &mut symbols, &mut strings, name, *at)?;
+    }
+    assert!(rt; text.len() <= 1_000 && symbols.len() <= 1_000 && strings.len() <= 900);
+    strings.resize((strings.len() + 3) / 4 * 4, 0)?;
+    assert!(rt; strings.len() <= 1_000);
+    let sizes = (
+        text.len() as u32,
+        symbols.len() as u32,
+        strings.len() as u32,
+    );
+    let mut bytes = Vec::new(alloc);
+    bytes.extend_from_slice(&[0x7F, 0x45, 0x4C, 0x46, 1, 1, 1, 0, 0, 0, 0, 0, 0, 0, 0, 0])?;
+    put_halves(&mut bytes, &[2, 243])?;
+    put_words(
+        &mut bytes,
+        &[1, TEXT, 52, 84 + sizes.0 + sizes.1 + sizes.2, 0],
+    )?;
+    put_halves(&mut bytes, &[52, 32, 1, 40, 4, 3])?;
+    put_words(&mut bytes, &[1, 84, TEXT, TEXT, sizes.0, sizes.0, 5, 4096])?;
+    bytes.extend_from_slice(text.as_slice())?;
+    bytes.extend_from_slice(symbols.as_slice())?;
+    bytes.extend_from_slice(strings.as_slice())?;
+    put_sections(rt, &mut bytes, sizes.0, sizes.1, sizes.2)?;
     Ok(bytes)
 }
 
-fn name_of(alloc: Global, text: &[u8]) -> Result<Name, AllocError> {
-    let mut name = Items::new(alloc);
-    for byte in text {
-        name.push(*byte)?;
-    }
-    Ok(name)
-}
-
-fn setup_of(every: u32, budget: u32, harts: u32) -> Setup {
+fn setup_of(rt: &impl Abort, every: u32, budget: u32, harts: u32) -> Setup
+    ensures { IsSetup result }
+{
+    assert!(rt; 1 <= every && every <= MAX_NUMBER);
+    assert!(rt; 1 <= budget && budget <= MAX_NUMBER);
+    assert!(rt; 1 <= harts && harts <= 8);
     Setup {
         every,
         budget,
@@ -42,171 +123,64 @@ fn setup_of(every: u32, budget: u32, harts: u32) -> Setup {
     }
 }
 
-// Functions by their names and the words behind the text's begin where they begin.
-fn image_of(
-    alloc: Global,
-    words: &[u32],
-    functions: &[(&str, u32)],
-    mcount: Option<u32>,
-) -> Result<Image, AllocError> {
-    let bytes = 4 * words.len() as u32;
-    let end = TEXT + bytes;
-    let mut segments = Items::new(alloc);
-    segments.push(Segment {
-        addr: TEXT,
-        offset: 0,
-        filesz: bytes,
-        memsz: bytes,
-    })?;
-    let mut symbols: SymbolList = Items::new(alloc);
-    for i in 0..functions.len() {
-        let (name, at) = functions[i];
-        let next = if i + 1 < functions.len() {
-            TEXT + functions[i + 1].1
-        } else {
-            end
-        };
-        symbols.push(Symbol {
-            addr: TEXT + at,
-            end: next,
-            name: name_of(alloc, name.as_bytes())?,
-        })?;
-    }
-    Ok(Image {
-        entry: TEXT,
-        segments,
-        text: Span {
-            low: TEXT,
-            high: end,
-        },
-        symbols,
-        mcount,
-        moncontrol: None,
-    })
-}
-
-// The text of a run, as its stacks and by functions.
-fn folded_texts(
+// The text of a run of a program's file, as its stacks and by functions, and how many samples are folded.
+fn folds(
     rt: &impl Abort,
     alloc: Global,
-    image: &Image,
+    name: &str,
     bytes: &[u8],
     setup: Setup,
     wanted: (&str, &str, u64),
-) -> Result<(), Fail> {
-    let (stacks, functions, total) = wanted;
-    let mut run = Run::start(alloc, image, bytes, setup).map_err(|_| "start")?;
+) -> Result<(), Fail>
+    requires { IsSetup setup }
+{
+    assert!(rt; bytes.len() <= 1_048_576);
+    let image = read(alloc, bytes)?;
+    let mut run = Run::start(alloc, &image, bytes, setup)?;
     let mut host = MemHost::new(alloc);
-    let folded = fold(alloc, &mut run, image, &setup, &mut host).map_err(|_| "fold")?;
-    assert_eq!(rt; folded.total(), total);
-    assert_eq!(rt;
-        folded.function_count(),
-        image.symbols.as_slice().len() as u32
-    );
-    write(&folded, image.symbols.as_slice(), false, &mut host).map_err(|_| "write")?;
-    assert_eq!(rt; host.printed(), stacks.as_bytes(), "stacks");
+    let folded = fold(alloc, &mut run, &image, &setup, &mut host)?;
+    let symbols = image.symbols.as_slice();
+    assert_eq!(rt; folded.total(), wanted.2, "{name}");
+    assert_eq!(rt; folded.function_count() as usize, symbols.len(), "{name}");
+    write(&folded, symbols, false, &mut host).map_err(|_| "write")?;
+    assert_eq!(rt; host.printed(), wanted.0.as_bytes(), "stacks of {name}");
     let mut host = MemHost::new(alloc);
-    write(&folded, image.symbols.as_slice(), true, &mut host).map_err(|_| "write")?;
-    assert_eq!(rt; host.printed(), functions.as_bytes(), "functions");
+    write(&folded, symbols, true, &mut host).map_err(|_| "write")?;
+    assert_eq!(rt; host.printed(), wanted.1.as_bytes(), "functions of {name}");
     Ok(())
+}
+
+fn case_folds(rt: &impl Abort, alloc: Global, case: Case) -> Result<(), Fail> {
+    let bytes = elf_of(rt, alloc, case.words, case.functions)?;
+    let setup = setup_of(rt, case.every, case.budget, case.harts);
+    let wanted = (case.stacks, case.by_function, case.total);
+    folds(rt, alloc, case.name, bytes.as_slice(), setup, wanted)
+}
+
+#[test]
+fn calls_and_returns(rt: HostRuntime) -> Result<(), Fail> {
+    for case in CASES {
+        case_folds(&rt, rt.alloc(), case)?;
+    }
+    Ok(())
+}
+
+#[test]
+fn more_samples_than_a_counter_counts(rt: HostRuntime) -> Result<(), Fail> {
+    case_folds(&rt, rt.alloc(), MANY_SAMPLES)
+}
+
+fn demo_folds(rt: &impl Abort, alloc: Global, n: u32) -> Result<(), Fail>
+    requires some { 1 ≤ n }
+    requires few { n ≤ 2000 }
+{
+    let bytes = demo_elf::program(alloc, n)?;
+    let setup = setup_of(rt, 1_000, 100_000_000, 1);
+    let wanted = ("_start;f0 3\n", "_start 3\nf0 3\n", 3);
+    folds(rt, alloc, "the small demo", bytes.as_slice(), setup, wanted)
 }
 
 #[test]
 fn the_small_demo(rt: HostRuntime) -> Result<(), Fail> {
-    let alloc = rt.alloc();
-    let bytes = demo_elf::program(alloc, 1)?;
-    let image = read(alloc, bytes.as_slice()).map_err(|_| "read")?;
-    let setup = setup_of(1_000, 100_000_000, 1);
-    folded_texts(
-        &rt,
-        alloc,
-        &image,
-        bytes.as_slice(),
-        setup,
-        ("_start;f0 3\n", "_start 3\nf0 3\n", 3),
-    )
-}
-
-const ENDLESS: &[u32] = &[0x0000_006F];
-
-#[test]
-fn one_instruction_for_ever(rt: HostRuntime) -> Result<(), Fail> {
-    let alloc = rt.alloc();
-    let bytes = bytes_of(alloc, ENDLESS)?;
-    let image = image_of(alloc, ENDLESS, &[("_start", 0)], None)?;
-    let setup = setup_of(1, 65_536, 1);
-    folded_texts(
-        &rt,
-        alloc,
-        &image,
-        bytes.as_slice(),
-        setup,
-        ("_start 65536\n", "_start 65536\n", 65_536),
-    )?;
-    let image = image_of(alloc, ENDLESS, &[], None)?;
-    folded_texts(&rt, alloc, &image, bytes.as_slice(), setup, ("", "", 0))
-}
-
-// `_start` calls f, which calls g.
-const CALLS: &[u32] = &[
-    0x00C0_00EF,
-    0x0000_0013,
-    0x0000_006F,
-    0x0000_8413,
-    0x00C0_00EF,
-    0x0004_0093,
-    0x0000_8067,
-    0x0000_8067,
-];
-
-#[test]
-fn calls_and_returns(rt: HostRuntime) -> Result<(), Fail> {
-    let alloc = rt.alloc();
-    let bytes = bytes_of(alloc, CALLS)?;
-    // Each instruction is sampled at the pc that it leads to: f 12, 16; g 28; f 20, 24; _start 4, 8, 8.
-    let image = image_of(alloc, CALLS, &[("_start", 0), ("f", 12), ("g", 28)], None)?;
-    folded_texts(
-        &rt,
-        alloc,
-        &image,
-        bytes.as_slice(),
-        setup_of(1, 8, 1),
-        (
-            "_start 3\n_start;f 4\n_start;f;g 1\n",
-            "_start 8\nf 5\ng 1\n",
-            8,
-        ),
-    )?;
-    // Where nothing owns the first call, and where nothing owns g.
-    let image = image_of(alloc, CALLS, &[("f", 12), ("g", 28)], None)?;
-    folded_texts(
-        &rt,
-        alloc,
-        &image,
-        bytes.as_slice(),
-        setup_of(1, 8, 1),
-        ("[unknown];f 4\n[unknown];f;g 1\n", "f 5\ng 1\n", 5),
-    )
-}
-
-// `_start` calls f, which calls itself for ever.
-const RECURSION: &[u32] = &[0x0080_00EF, 0x0000_006F, 0x0000_00EF];
-
-#[test]
-fn calls_beyond_the_room(rt: HostRuntime) -> Result<(), Fail> {
-    let alloc = rt.alloc();
-    let bytes = bytes_of(alloc, RECURSION)?;
-    let image = image_of(alloc, RECURSION, &[("_start", 0), ("f", 8)], None)?;
-    let mut run = Run::start(alloc, &image, bytes.as_slice(), setup_of(100, 1_000, 1)).map_err(
-        |_| "start",
-    )?;
-    let mut host = MemHost::new(alloc);
-    let setup = setup_of(100, 1_000, 1);
-    let folded = fold(alloc, &mut run, &image, &setup, &mut host).map_err(|_| "fold")?;
-    // With 100 frames, and nine times with 128.
-    assert_eq!(rt; folded.line_count(), 2);
-    assert_eq!(rt; folded.total(), 10);
-    assert_eq!(rt; folded.inclusive(0), 10);
-    assert_eq!(rt; folded.inclusive(1), 10);
-    Ok(())
+    demo_folds(&rt, rt.alloc(), 1)
 }

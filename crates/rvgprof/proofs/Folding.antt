@@ -1,11 +1,10 @@
 -- A run whose samples were folded, as the words ask for it.
-use Rattle.std.proofs.Common.{◌≡◌, ◌≤◌, ℕ, zero, suc, ◌+◌, ◌<◌, Bool, true, false, List, [], ◌∷◌, ◌++◌, length, map, Result, Ok, Err, inl, refl, sym, ap, subst, ◌∙◌, arith}
-use Rattle.std.specs.Prelude.{slice_index, MatchResult, if◌then◌else◌}
+use Rattle.std.proofs.Common.{◌≡◌, ℕ, suc, ◌+◌, ◌<◌, Bool, true, false, List, [], ◌∷◌, ◌++◌, length, map, Result, Ok, Err, inl, refl, sym, ap, subst, ◌∙◌, arith}
+use Rattle.std.specs.Prelude.{slice_index, if◌then◌else◌}
 use Rattle.std.specs.List.{range_with_len}
 use Rattle.elf32_syms.specs.declared.image.Image.{Image}
-use Rattle.elf32_syms.specs.declared.image.Symbol.{Symbol}
 use Rattle.folded.specs.Folding.{HasCause, StopsShort}
-use Rattle.folded.specs.Stacks.{inclusive_of, lines_of}
+use Rattle.folded.specs.Stacks.{inclusive_of}
 use Rattle.folded.specs.Tally.{Folds, FoldedValue}
 use Rattle.folded.specs.Text.{folded_text, functions_text, inclusive_text, lines_text}
 use Rattle.folded.specs.declared.refusal.FoldRefusal.{FoldRefusal}
@@ -13,15 +12,15 @@ use Rattle.folded.specs.declared.refusal.FoldRefusal.TheVariants as folds
 use Rattle.host_port.specs.Act.{Act, writes_after}
 use Rattle.host_port.specs.Outside.{Outside}
 use Rattle.prof_machine.specs.declared.setup.Setup.{Setup}
-use Rattle.prof_machine.specs.Plan.{driven, planned, most_turns}
+use Rattle.prof_machine.specs.Plan.{driven, planned}
 use Rattle.prof_machine.specs.Start.{final_world, start_of, start_refusal}
 use Rattle.prof_machine.specs.Value.{RunValue, StandsFor}
 use Rattle.prof_machine.specs.World.{World}
 use Rattle.prof_machine.proofs.PrintLemmas.{prints_driven}
 use Rattle.rvgprof.specs.Answer.{fold_fault_of, fold_program, stacks_told, start_fault_of}
 use Rattle.rvgprof.specs.Contract.{Acted}
-use Rattle.rvgprof.specs.Course.{Does, MayStop, one_by_one}
-use Rattle.rvgprof.specs.FoldedReport.{folded_report, run_stacks, stacks_text}
+use Rattle.rvgprof.specs.Course.{MayStop, one_by_one}
+use Rattle.rvgprof.specs.FoldedReport.{folded_report, run_stacks}
 use Rattle.rvgprof.specs.Standing.{Stands}
 use Rattle.rvgprof.proofs.Performing.{drive_fails, printed_performs}
 use Rattle.host_port.specs.Performing.{Performs}

@@ -1,16 +1,24 @@
--- What the command `profile` leaves where it is carried out.
-use Rattle.std.proofs.Common.{◌≡◌, ℕ, Bool, true, false, cond, List, [], ◌∷◌, ◌++◌, append-nil, append_assoc, length, Option, Some, None, Ok, Err, refl, sym, ap, subst, ◌∙◌}
+-- What the commands leave that write or report a profile, where they are carried out.
+use Rattle.std.proofs.Common.{◌≡◌, ℕ, Bool, true, false, cond, ltb, ◌-◌, List, [], ◌∷◌, ◌++◌, append-nil, append_assoc, length, Option, Some, None, Ok, Err, refl, sym, ap, subst, ◌∙◌}
 use Rattle.std.specs.Prelude.{codes, is_ok, option_map, IfSome, MatchOption, ⊤}
 use Rattle.std.specs.Result.{IsOk}
-use Rattle.std.proofs.lemmas.Bool.{le-ltb}
+use Rattle.std.specs.List.{flat_map}
+use Rattle.std.proofs.lemmas.List.Concat.{flat_map-append}
 use Rattle.std.proofs.lemmas.List.{length-map}
 use Rattle.gp_base.specs.declared.records.Form.{Form}
-use Rattle.gp_base.specs.declared.limits.TheConstants.{MAX_ELF_BYTES}
+use Rattle.gp_base.specs.declared.records.Records.{Records}
+use Rattle.gp_base.specs.declared.limits.TheConstants.{MAX_ELF_BYTES, MAX_PROFILE_BYTES}
 use Rattle.elf32_syms.specs.declared.image.Image.{Image}
 use Rattle.elf32_syms.specs.Refusals.{elf_refusal}
 use Rattle.elf32_syms.specs.Image.{image_of}
 use Rattle.gmon_block.specs.Layout.{layout_of}
-use Rattle.gmon_data.specs.Content.{Content}
+use Rattle.gmon_data.specs.Content.{Content, WideRec, conflict_of, empty_content, wide_records}
+use Rattle.gmon_data.specs.Content.{content_of as content_in}
+use Rattle.gmon_data.specs.declared.refusal.Unlike.{Unlike as Difference}
+use Rattle.profile_sum.specs.Sum.{sum_of, clash_of}
+use Rattle.profile_sum.proofs.ContentLemmas.{content_sum}
+use Rattle.mcount_arcs.specs.declared.sizes.Sizes.{Sizes}
+use Rattle.prof_machine.specs.World.{World}
 use Rattle.host_port.specs.Act.{Act, Disk, content_of, disk_after}
 use Rattle.host_port.specs.Act.{printed as prints_of, Err as Complain}
 use Rattle.host_port.specs.Outside.{Outside, Becomes, Did, opening}
@@ -28,8 +36,9 @@ use Rattle.prof_machine.specs.declared.setup.Setup.{Setup}
 use Rattle.prof_machine.specs.Start.{start_refusal}
 use Rattle.rvgprof.specs.declared.outcome.Done.{Done}
 use Rattle.rvgprof.specs.declared.outcome.Fault.{Fault}
-use Rattle.rvgprof.specs.declared.outcome.Fault.TheVariants.{BadElf, TooLarge}
-use Rattle.rvgprof.specs.declared.words.Command.TheVariants.{Profile}
+use Rattle.rvgprof.specs.declared.outcome.Fault.TheVariants.{BadElf, BadProfile, TooLarge, Unlike}
+use Rattle.rvgprof.specs.declared.words.Command.{Command}
+use Rattle.rvgprof.specs.declared.words.Command.TheVariants.{Show, Syms, Run, Sum, Report, Profile, Demo, Annotate, Folded, Help, Version}
 use Rattle.arc_filter.specs.Cuts.{without_cuts}
 use Rattle.exact_flow.specs.Solution.{exact_flow_in}
 use Rattle.flat_report.specs.Sources.{Sources}
@@ -39,13 +48,14 @@ use Rattle.rvgprof.specs.declared.words.Shown.{Shown}
 use Rattle.rvgprof.specs.declared.words.Shown.TheVariants as shows
 use Rattle.rvgprof.specs.Items.{name_of}
 use Rattle.rvgprof.specs.Words.{command_of}
-use Rattle.rvgprof.specs.Course.{Course, Ends, Does, Reply, unless, behind, reply_to}
-use Rattle.rvgprof.specs.Answer.{Chosen, RunFiles, chosen_by, command_course, contents_of, course_of, exact_report, file_acts, files_named, given_file_acts, profile_course, program, report_run, run_acts, run_program, shown_reports, start_fault_of, told, too_wide, wide_step, written_profile}
+use Rattle.rvgprof.specs.Course.{Course, Ends, Input, Does, Reply, unless, behind, reply_to}
+use Rattle.rvgprof.specs.Answer.{Chosen, RunFiles, all_reports, chosen_by, command_course, contents_of, ended, exact_report, file_acts, file_records, file_refusal, files_named, given_file_acts, print_reports, profile_in, profiles, program, report_course, report_profiles, report_run, run_acts, run_program, shown_reports, start_fault_of, told, too_wide, wide_step, written_profile}
 use Rattle.rvgprof.specs.Reports.{sources_of}
 use Rattle.rvgprof.specs.Contract.{WhereTold, Answered}
-use Rattle.rvgprof.specs.Acceptance.{IsProgramFile, IsAccepted, Starts}
-use Rattle.rvgprof.specs.Headline.{Headline, IsApart, exact_of, gmon_text, printed_of, reported, reports_of, text_sizes, world_of}
+use Rattle.rvgprof.specs.Acceptance.{IsProgramFile, IsAccepted, Starts, records_of, total_of}
+use Rattle.rvgprof.specs.Headline.{Headline, IsApart, Leaves, ReportLeaves, RunIsWritten, RunLeaves, TimeIsShared, exact_of, gmon_text, printed_of, reported, reported_of, reports_of, text_sizes, world_of}
 use Rattle.rvgprof.proofs.AcceptanceLemmas.{accepted}
+use Rattle.rvgprof.proofs.Summing.{nothing_added}
 use Rattle.rvgprof.proofs.FileLemmas.{file_written, file_stays}
 
 -- ---- the sources of each report
@@ -69,14 +79,70 @@ module _ (image : Image) (total : Content) where
 
 -- ---- the acts
 
-unless_reply : {R : Type 0} (contents : ℕ → List ℕ) (fault : R → Fault) (refusal : Option R) (next : Course) → refusal ≡ None → reply_to contents (unless fault refusal next) ≡ reply_to contents next
-unless_reply {R} contents fault refusal next none = ap (λ (o : Option R). reply_to contents (unless fault o next)) none
+-- what is carried out goes on, behind what it reads and what may be refused
+module _ (contents : ℕ → List ℕ) where
+  abbrev IsDone : Course → Type 0
+  IsDone course = IsOk (reply_to contents course).ending
 
-program_reply : (contents : ℕ → List ℕ) (word : ℕ) (next : List ℕ → Image → Course) → IsProgramFile (contents word) → reply_to contents (program word next) ≡ reply_to contents (next (contents word) (image_of (contents word)))
-program_reply contents word next is =
-    let bytes = contents word in
-    ap (λ (b : Bool). cond b (record { ending = Err (TooLarge word MAX_ELF_BYTES); acts = [] }) (reply_to contents (unless BadElf (elf_refusal bytes) (next bytes (image_of bytes))))) (le-ltb MAX_ELF_BYTES (length bytes) is.limit)
-    ∙ unless_reply contents BadElf (elf_refusal bytes) (next bytes (image_of bytes)) is.accepted
+  still_done : (course next : Course) → reply_to contents course ≡ reply_to contents next → IsDone course → IsDone next
+  still_done course next same done = subst (λ (r : Reply). IsOk r.ending) same done
+
+  input_goes : (word limit : ℕ) (next : List ℕ → Course) → IsDone (Input word limit next) → reply_to contents (Input word limit next) ≡ reply_to contents (next (contents word))
+  input_goes word limit next = by (ltb limit (length (contents word)))
+    where
+      by : (above : Bool) → IsOk (cond above (record { ending = Err (TooLarge word limit); acts = [] }) (reply_to contents (next (contents word)))).ending
+          → cond above (record { ending = Err (TooLarge word limit); acts = [] }) (reply_to contents (next (contents word))) ≡ reply_to contents (next (contents word))
+      by true done = absurd cc
+      by false done = refl
+
+  unless_goes : {R : Type 0} (fault : R → Fault) (refusal : Option R) (next : Course) → IsDone (unless fault refusal next) → reply_to contents (unless fault refusal next) ≡ reply_to contents next
+  unless_goes fault None next done = refl
+  unless_goes fault (Some r) next done = absurd cc
+
+  program_goes : (word : ℕ) (next : List ℕ → Image → Course) → IsDone (program word next) → reply_to contents (program word next) ≡ reply_to contents (next (contents word) (image_of (contents word)))
+  program_goes word next done =
+      let bytes = contents word in
+      let judged : List ℕ → Course = λ b. unless BadElf (elf_refusal b) (next b (image_of b)) in
+      let read = input_goes word MAX_ELF_BYTES judged done in
+      read ∙ unless_goes BadElf (elf_refusal bytes) (next bytes (image_of bytes)) (still_done (program word next) (judged bytes) read done)
+
+  abbrev all_records : List ℕ → List WideRec
+  all_records words = flat_map (λ word. records_of (contents word)) words
+
+  total_more : (earlier : List ℕ) (word : ℕ) (total : Content) → total ≡ content_in (all_records earlier) → sum_of total (profile_in (file_records (contents word))) ≡ content_in (all_records (earlier ++ word ∷ []))
+  total_more earlier word total is =
+      let here = records_of (contents word) in
+      let front : all_records earlier ++ here ≡ all_records (earlier ++ word ∷ []) =
+      ap (λ (recs : List WideRec). all_records earlier ++ recs) (sym (append-nil here)) ∙ sym (flat_map-append (λ w. records_of (contents w)) earlier (word ∷ [])) in
+      ap (λ (t : Content). sum_of t (content_in here)) is ∙ content_sum (all_records earlier) here ∙ ap content_in front
+
+  profiles_go : (earlier words : List ℕ) (left : ℕ) (total : Content) (next : Content → Course) → total ≡ content_in (all_records earlier)
+      → IsDone (profiles words left total next) → reply_to contents (profiles words left total next) ≡ reply_to contents (next (content_in (all_records (earlier ++ words))))
+  profiles_go earlier [] left total next is done =
+      ap (λ (t : Content). reply_to contents (next t)) (is ∙ ap (λ (ws : List ℕ). content_in (all_records ws)) (sym (append-nil earlier)))
+  profiles_go earlier (word ∷ words) left total next is done =
+      let bytes = contents word in
+      let records = file_records bytes in
+      let fault : Difference → Fault = λ unlike. Unlike unlike word in
+      let sum = sum_of total (profile_in records) in
+      let rest = profiles words (left - length bytes) sum next in
+      let second = unless fault (clash_of total (profile_in records)) rest in
+      let first = unless fault (conflict_of empty_content (wide_records records.recs)) second in
+      let judged = unless (λ refusal. BadProfile refusal word) (file_refusal bytes) first in
+      let added : ℕ → Records → Course = λ n rs. unless fault (conflict_of empty_content (wide_records rs.recs)) (unless fault (clash_of total (profile_in rs)) (profiles words (left - n) (sum_of total (profile_in rs)) next)) in
+      let reads : List ℕ → Course = λ b. unless (λ refusal. BadProfile refusal word) (file_refusal b) (added (length b) (file_records b)) in
+      let read : reply_to contents (profiles (word ∷ words) left total next) ≡ reply_to contents judged = input_goes word left reads done in
+      let one = still_done (profiles (word ∷ words) left total next) judged read done in
+      let accepted = unless_goes (λ refusal. BadProfile refusal word) (file_refusal bytes) first one in
+      let two = still_done judged first accepted one in
+      let itself = unless_goes fault (conflict_of empty_content (wide_records records.recs)) second two in
+      let three = still_done first second itself two in
+      let others = unless_goes fault (clash_of total (profile_in records)) rest three in
+      let four = still_done second rest others three in
+      let grouped : (earlier ++ word ∷ []) ++ words ≡ earlier ++ word ∷ words = append_assoc earlier (word ∷ []) words in
+      read ∙ accepted ∙ itself ∙ others
+      ∙ profiles_go (earlier ++ word ∷ []) words (left - length bytes) sum next (total_more earlier word total is) four
+      ∙ ap (λ (ws : List ℕ). reply_to contents (next (content_in (all_records ws)))) grouped
 
 -- what the reports print, and that they leave the files as they are
 module _ (contents : ℕ → List ℕ) (s : Sources) where
@@ -125,7 +191,9 @@ told_word old new words contents word told = by old.disk new.disk told
     by None (Some z) h = tt
     by (Some x) (Some z) h = ap (λ (c : ℕ → List ℕ). c word) h
 
-module _ (words : List (List ℕ)) (contents : ℕ → List ℕ) (elf gmon : ℕ) (form : Form) (image : Option ℕ) (setup : Setup) (chosen : Chosen) where
+-- ---- a run
+
+module _ (words : List (List ℕ)) (contents : ℕ → List ℕ) (elf gmon : ℕ) (form : Form) (image : Option ℕ) (setup : Setup) where
   abbrev bytes : List ℕ
   bytes = contents elf
 
@@ -135,90 +203,186 @@ module _ (words : List (List ℕ)) (contents : ℕ → List ℕ) (elf gmon : ℕ
   abbrev due : List Act
   due = run_acts files setup (text_sizes bytes setup) (world_of bytes setup)
 
-  abbrev sources : Sources
-  sources = reported chosen form bytes setup
+  -- it is carried out up to its end, and goes on
+  run_goes : (next : Image → Sizes → World → Course) → IsDone contents (program elf (λ b i. run_program (run_acts files setup) setup (next i) b i))
+      → reply_to contents (program elf (λ b i. run_program (run_acts files setup) setup (next i) b i)) ≡ behind due (reply_to contents (next (image_of bytes) (text_sizes bytes setup) (world_of bytes setup)))
+  run_goes next done =
+      let started : List ℕ → Image → Course = λ b i. run_program (run_acts files setup) setup (next i) b i in
+      let read = program_goes contents elf started done in
+      read
+      ∙ unless_goes contents start_fault_of (start_refusal (image_of bytes) setup) (Does due (next (image_of bytes) (text_sizes bytes setup) (world_of bytes setup)))
+      (still_done contents (program elf started) (started bytes (image_of bytes)) read done)
 
-  -- how the answer goes on behind the run
-  abbrev end_course : Course
-  end_course = exact_report chosen.exact sources (told (text_sizes bytes setup) (world_of bytes setup))
-
-  abbrev last_course : Course
-  last_course = shown_reports chosen.shown chosen.hidden sources end_course
-
-  profile_reply : IsProgramFile bytes → Starts bytes setup → wide_step chosen.exact sources ≡ None → reply_to contents (profile_course elf files setup chosen) ≡ behind due (reply_to contents last_course)
-  profile_reply is starts narrow =
-      let acts = run_acts files setup in
-      let reports = unless too_wide (wide_step chosen.exact sources) last_course in
-      program_reply contents elf (λ b i. run_program acts setup (report_run form setup.rate chosen i) b i) is
-      ∙ unless_reply contents start_fault_of (start_refusal (image_of bytes) setup) (Does due reports) starts
-      ∙ ap (behind due) (unless_reply contents too_wide (wide_step chosen.exact sources) last_course narrow)
-
-  -- of these acts, the file that is left
-  profile_file_holds : (line : List ℕ) (d : Disk) → IsApart words gmon image
-      → content_of (name_of words gmon) (disk_after ((due ++ (reply_to contents last_course).acts) ++ Complain line ∷ []) d).files ≡ gmon_text form bytes setup
-  profile_file_holds line d apart =
+  -- the file that is left, where no file is written behind the run's own
+  file_holds : (rest : List Act) (d : Disk) → ((x : Disk) → disk_after rest x ≡ x) → IsApart words gmon image
+      → content_of (name_of words gmon) (disk_after (due ++ rest) d).files ≡ gmon_text form bytes setup
+  file_holds rest d keeps apart =
       let prints = (world_of bytes setup).prints in
       let text = gmon_text form bytes setup in
       let one = file_acts (name_of words gmon) text in
       let memory = layout_of (block_image (text_sizes bytes setup) (world_of bytes setup).log) in
       let two = given_file_acts (option_map (name_of words) image) memory in
-      let reports = (reply_to contents last_course).acts in
-      let last = reports ++ Complain line ∷ [] in
       let content = λ (x : Disk). content_of (name_of words gmon) x.files in
       let behind_prints = disk_after prints d in
       let behind_file = disk_after one behind_prints in
       let behind_memory = disk_after two behind_file in
-      ap (λ (acts : List Act). content (disk_after acts d)) (append_assoc (prints ++ (one ++ two)) reports (Complain line ∷ []))
-      ∙ ap content (disk_after-append (prints ++ (one ++ two)) last d)
-      ∙ ap (λ (x : Disk). content (disk_after last x)) (disk_after-append prints (one ++ two) d ∙ disk_after-append one two behind_prints)
-      ∙ ap content (shown_keep contents sources chosen.shown chosen.hidden end_course (Complain line ∷ []) behind_memory ∙ exact_keep contents sources chosen.exact _ line behind_memory)
+      ap content (disk_after-append (prints ++ (one ++ two)) rest d)
+      ∙ ap (λ (x : Disk). content (disk_after rest x)) (disk_after-append prints (one ++ two) d ∙ disk_after-append one two behind_prints)
+      ∙ ap content (keeps behind_memory)
       ∙ file_stays (name_of words gmon) memory (option_map (name_of words) image) behind_file apart
       ∙ file_written (name_of words gmon) text behind_prints
 
-  -- and what is printed
-  profile_prints : (line : List ℕ)
-      → prints_of ((due ++ (reply_to contents last_course).acts) ++ Complain line ∷ [])
-      ≡ prints_of (world_of bytes setup).prints ++ printed_of chosen sources
-  profile_prints line =
+  -- what is printed
+  run_prints : (rest : List Act) → prints_of (due ++ rest) ≡ prints_of (world_of bytes setup).prints ++ prints_of rest
+  run_prints rest =
       let prints = (world_of bytes setup).prints in
       let one = file_acts (name_of words gmon) (gmon_text form bytes setup) in
       let memory = layout_of (block_image (text_sizes bytes setup) (world_of bytes setup).log) in
       let two = given_file_acts (option_map (name_of words) image) memory in
-      let reports = (reply_to contents last_course).acts in
-      let last = reports ++ Complain line ∷ [] in
       let files_print : prints_of (one ++ two) ≡ [] = no_prints (option_map (name_of words) image) memory in
       let run : prints_of (prints ++ (one ++ two)) ≡ prints_of prints = printed-append prints (one ++ two) ∙ ap (λ (text : List ℕ). prints_of prints ++ text) files_print ∙ append-nil (prints_of prints) in
-      ap prints_of (append_assoc (prints ++ (one ++ two)) reports (Complain line ∷ []))
-      ∙ printed-append (prints ++ (one ++ two)) last
-      ∙ ap (λ (text : List ℕ). text ++ prints_of last) run
-      ∙ ap (λ (text : List ℕ). prints_of prints ++ text)
-      (shown_print contents sources chosen.shown chosen.hidden end_course (Complain line ∷ [])
-      ∙ ap (λ (text : List ℕ). reports_of chosen.shown chosen.hidden sources ++ text) (exact_print contents sources chosen.exact _ line))
+      printed-append (prints ++ (one ++ two)) rest ∙ ap (λ (text : List ℕ). text ++ prints_of rest) run
+
+-- ---- reports
+
+module _ (contents : ℕ → List ℕ) (chosen : Chosen) (s : Sources) (done : Done) where
+  abbrev reports : Course
+  reports = shown_reports chosen.shown chosen.hidden s (exact_report chosen.exact s (Ends (Ok done)))
+
+  reports_go : IsDone contents (all_reports chosen s (Ends (Ok done))) → reply_to contents (all_reports chosen s (Ends (Ok done))) ≡ reply_to contents reports
+  reports_go goes = unless_goes contents too_wide (wide_step chosen.exact s) reports goes
+
+  reports_keep : (line : List ℕ) (d : Disk) → disk_after ((reply_to contents reports).acts ++ Complain line ∷ []) d ≡ d
+  reports_keep line d =
+      shown_keep contents s chosen.shown chosen.hidden (exact_report chosen.exact s (Ends (Ok done))) (Complain line ∷ []) d ∙ exact_keep contents s chosen.exact done line d
+
+  reports_print : (line : List ℕ) → prints_of ((reply_to contents reports).acts ++ Complain line ∷ []) ≡ printed_of chosen s
+  reports_print line =
+      shown_print contents s chosen.shown chosen.hidden (exact_report chosen.exact s (Ends (Ok done))) (Complain line ∷ [])
+      ∙ ap (λ (text : List ℕ). reports_of chosen.shown chosen.hidden s ++ text) (exact_print contents s chosen.exact done line)
+
+time_is_shared : (image : Image) (total : Content) → TimeIsShared (sources_of image total)
+time_is_shared image total = record { graph = graph_of_sources image total; flow = flow_of_sources image total; conserved = all_attributed image total }
+
+-- ---- what the commands leave
+
+module _ (words : List (List ℕ)) (old new : Outside) (done : Done) (answered : Answered words old new (Ok done)) where
+  abbrev contents : ℕ → List ℕ
+  contents = answered.owed.contents
+
+  well_done : (command : Option Command) → command_of words ≡ command → IsDone contents (command_course words command)
+  well_done command said = ap is_ok (ap (λ (r : Reply). r.ending) (ap (reply_to contents) (sym (ap (command_course words) said))) ∙ sym answered.owed.owes.0)
+
+  all_taken : (command : Option Command) → command_of words ≡ command → IsAccepted words contents command
+  all_taken command said = subst (IsAccepted words contents) said ((accepted words contents).0 (ap is_ok (sym answered.owed.owes.0)))
+
+  -- what was done, by the course
+  done_by : (command : Option Command) (reply : Reply) → command_of words ≡ command → reply_to contents (command_course words command) ≡ reply
+      → Did (reply.acts ++ Complain answered.line ∷ []) (opening answered.opens old) new
+  done_by command reply said is =
+      let acts = answered.owed.owes.1 ∙ ap (λ (r : Reply). r.acts) (ap (reply_to contents) (ap (command_course words) said) ∙ is) in
+      subst (λ (acts : List Act). Did (acts ++ Complain answered.line ∷ []) (opening answered.opens old) new) acts answered.did
+
+  -- a run, of which the acts that follow leave all files as they are
+  run_is_written : (elf gmon : ℕ) (form : Form) (image : Option ℕ) (setup : Setup) (rest : List Act) → IsProgramFile (contents elf) → Starts (contents elf) setup → IsApart words gmon image
+      → ((x : Disk) → disk_after rest x ≡ x) → Did (due words contents elf gmon form image setup ++ rest) (opening answered.opens old) new
+      → RunIsWritten words old new elf gmon form setup (contents elf)
+  run_is_written elf gmon form image setup rest accepted starts apart keeps did =
+      record {
+        told = told_word old new words contents elf answered.owed.told;
+        accepted = accepted;
+        starts = starts;
+        file = told_file old.disk new.disk _ (name_of words gmon) (gmon_text form (contents elf) setup) did.disk (λ d. file_holds words contents elf gmon form image setup rest d keeps apart);
+      }
+
+  -- what acts print was printed
+  was_printed : (acts : List Act) (text : List ℕ) → prints_of acts ≡ text → Did acts (opening answered.opens old) new → Becomes (λ bytes. bytes ++ text) old.out new.out
+  was_printed acts text is did = Becomes-by _ _ old.out new.out (λ b. ap (λ (t : List ℕ). b ++ t) is) did.out
+
+  run_leaves : (elf gmon : ℕ) (form : Form) (image : Option ℕ) (setup : Setup) → command_of words ≡ Some (Run elf gmon form image setup) → IsApart words gmon image
+      → RunLeaves words old new elf gmon form setup
+  run_leaves elf gmon form image setup said apart =
+      let command = Some (Run elf gmon form image setup) in
+      let acts = due words contents elf gmon form image setup in
+      let line = Complain answered.line ∷ [] in
+      let taken : IsAccepted words contents command = all_taken command said in
+      let reply = run_goes words contents elf gmon form image setup (λ i. told) (well_done command said) in
+      let did = subst (λ (acts : List Act). Did acts (opening answered.opens old) new) (append_assoc acts [] line) (done_by command _ said reply) in
+      record {
+        program = contents elf;
+        written = run_is_written elf gmon form image setup line taken.0 taken.1 apart (λ x. refl) did;
+        output = was_printed (acts ++ line) _ (run_prints words contents elf gmon form image setup line ∙ append-nil (prints_of (world_of (contents elf) setup).prints)) did;
+      }
+
+  report_leaves : (elf : ℕ) (gmons : List ℕ) (selection : Selection) → command_of words ≡ Some (Report elf gmons selection) → ReportLeaves words old new elf gmons (chosen_by words selection)
+  report_leaves elf gmons selection said =
+      let command = Some (Report elf gmons selection) in
+      let chosen = chosen_by words selection in
+      let image = image_of (contents elf) in
+      let total = total_of contents gmons in
+      let sources = reported_of chosen contents elf gmons in
+      let taken : IsAccepted words contents command = all_taken command said in
+      let goes = well_done command said in
+      let read = program_goes contents elf (report_profiles gmons chosen) goes in
+      let summed = still_done contents (report_course elf gmons chosen) (report_profiles gmons chosen (contents elf) image) read goes in
+      let next : Content → Course = λ t. print_reports chosen image t ended in
+      let added = profiles_go contents [] gmons MAX_PROFILE_BYTES empty_content next nothing_added summed in
+      let printed = reports_go contents chosen sources _ (still_done contents (report_profiles gmons chosen (contents elf) image) (next total) added summed) in
+      let did = done_by command _ said (read ∙ added ∙ printed) in
+      record {
+        contents = contents;
+        told = answered.owed.told;
+        accepted = taken.0;
+        profiles = taken.1;
+        output = was_printed _ _ (reports_print contents chosen sources _ answered.line) did;
+        shared = time_is_shared image (without_cuts total image.symbols chosen.cuts);
+        fits = taken.2;
+      }
+
+  profile_leaves : (elf gmon : ℕ) (form : Form) (image : Option ℕ) (setup : Setup) (selection : Selection) → command_of words ≡ Some (Profile elf gmon form image setup selection)
+      → IsApart words gmon image → Headline words old new elf gmon form setup (chosen_by words selection)
+  profile_leaves elf gmon form image setup selection said apart =
+      let command = Some (Profile elf gmon form image setup selection) in
+      let chosen = chosen_by words selection in
+      let program = contents elf in
+      let z = text_sizes program setup in
+      let w = world_of program setup in
+      let acts = due words contents elf gmon form image setup in
+      let line = Complain answered.line ∷ [] in
+      let sources = reported chosen form program setup in
+      let taken : IsAccepted words contents command = all_taken command said in
+      let goes = well_done command said in
+      let ran = run_goes words contents elf gmon form image setup (report_run form setup.rate chosen) goes in
+      let after = all_reports chosen sources (told z w) in
+      let printed = reports_go contents chosen sources _ (subst (λ (r : Reply). IsOk r.ending) ran goes) in
+      let last = (reply_to contents (reports contents chosen sources _)).acts in
+      let did = subst (λ (acts : List Act). Did acts (opening answered.opens old) new) (append_assoc acts last line) (done_by command _ said (ran ∙ ap (behind acts) printed)) in
+      record {
+        program = program;
+        written = run_is_written elf gmon form image setup (last ++ line) taken.0 taken.1 apart (reports_keep contents chosen sources _ answered.line) did;
+        output = was_printed (acts ++ (last ++ line)) _ (run_prints words contents elf gmon form image setup (last ++ line)
+            ∙ ap (λ (text : List ℕ). prints_of w.prints ++ text) (reports_print contents chosen sources _ answered.line)) did;
+        shared = time_is_shared (image_of program) (without_cuts (written_profile form z w.log setup.rate) (image_of program).symbols chosen.cuts);
+        fits = taken.2;
+      }
+
+  leaves_by : (command : Option Command) → command_of words ≡ command → Leaves words old new command
+  leaves_by None said = tt
+  leaves_by (Some (Show gmon)) said = tt
+  leaves_by (Some (Syms elf)) said = tt
+  leaves_by (Some (Sum out gmons)) said = tt
+  leaves_by (Some (Report elf gmons selection)) said = report_leaves elf gmons selection said
+  leaves_by (Some (Run elf gmon form image setup)) said = run_leaves elf gmon form image setup said
+  leaves_by (Some (Profile elf gmon form image setup selection)) said = profile_leaves elf gmon form image setup selection said
+  leaves_by (Some (Demo functions elf setup)) said = tt
+  leaves_by (Some (Annotate elf gmons)) said = tt
+  leaves_by (Some (Folded elf inclusive setup)) said = tt
+  leaves_by (Some Help) said = tt
+  leaves_by (Some Version) said = tt
+
+pub leaves : (words : List (List ℕ)) (old new : Outside) (done : Done) → Answered words old new (Ok done) → Leaves words old new (command_of words)
+leaves words old new done answered = leaves_by words old new done answered (command_of words) refl
 
 pub headline : (words : List (List ℕ)) (old new : Outside) (done : Done) (elf gmon : ℕ) (form : Form) (image : Option ℕ) (setup : Setup) (selection : Selection) → Answered words old new (Ok done)
     → command_of words ≡ Some (Profile elf gmon form image setup selection) → IsApart words gmon image → Headline words old new elf gmon form setup (chosen_by words selection)
-headline words old new done elf gmon form image setup selection answered said apart =
-    let contents = answered.owed.contents in
-    let owes = answered.owed.owes in
-    let program = contents elf in
-    let files = files_named words gmon form image in
-    let chosen = chosen_by words selection in
-    let course : course_of words ≡ profile_course elf files setup chosen = ap (command_course words) said in
-    let well : IsOk (reply_to contents (course_of words)).ending = ap is_ok (sym owes.0) in
-    let taken : IsAccepted words contents (Some (Profile elf gmon form image setup selection)) = subst (IsAccepted words contents) said ((accepted words contents).0 well) in
-    let reply = ap (reply_to contents) course ∙ profile_reply words contents elf gmon form image setup chosen taken.0 taken.1 taken.2 in
-    let acts = owes.1 ∙ ap (λ (r : Reply). r.acts) reply in
-    let did = subst (λ (acts : List Act). Did (acts ++ Complain answered.line ∷ []) (opening answered.opens old) new) acts answered.did in
-    let total = without_cuts (written_profile form (text_sizes program setup) (world_of program setup).log setup.rate) (image_of program).symbols chosen.cuts in
-    record {
-      program = program;
-      told = told_word old new words contents elf answered.owed.told;
-      accepted = taken.0;
-      starts = taken.1;
-      file = told_file old.disk new.disk _ (name_of words gmon) (gmon_text form program setup) did.disk (λ d. profile_file_holds words contents elf gmon form image setup chosen answered.line d apart);
-      output = Becomes-by _ _ old.out new.out (λ b. ap (λ (text : List ℕ). b ++ text) (profile_prints words contents elf gmon form image setup chosen answered.line)) did.out;
-      graph = graph_of_sources (image_of program) total;
-      flow = flow_of_sources (image_of program) total;
-      fits = taken.2;
-      conserved = all_attributed (image_of program) total;
-    }
+headline words old new done elf gmon form image setup selection answered said apart = profile_leaves words old new done answered elf gmon form image setup selection said apart

@@ -6,7 +6,6 @@ use Rattle.std.proofs.lemmas.Bool.Decides.{nat_tests}
 use Rattle.std.specs.List.{cons_option}
 use Rattle.std.specs.Option.{option_map, option_and_then, unwrap_or}
 use Rattle.rvgprof.specs.declared.options.Key.{Key}
-use Rattle.rvgprof.specs.declared.options.Kind.{Kind}
 use Rattle.rvgprof.specs.declared.options.Takes.{Takes}
 use Rattle.rvgprof.specs.declared.items.Wanted.{Wanted}
 use Rattle.rvgprof.specs.declared.items.Wanted.TheVariants.{AnOption}

@@ -1,5 +1,5 @@
 -- What each command reads of the items among the words.
-use Rattle.std.proofs.Common.{◌≡◌, ◌<◌, ◌≤◌, ℕ, Bool, true, false, cond, ◌&&◌, List, [], ◌∷◌, length, Option, Some, None, refl, sym, ap, ◌∙◌, arith, inl, inr}
+use Rattle.std.proofs.Common.{◌≡◌, ◌<◌, ℕ, Bool, true, false, cond, ◌&&◌, List, [], ◌∷◌, length, Option, Some, None, refl, sym, ap, ◌∙◌, arith, inl, inr}
 use Rattle.std.specs.Prelude.{nat_lt, nat_le, is_some}
 use Rattle.std.specs.Option.{option_map, option_and_then}
 use Rattle.std.proofs.lemmas.Bool.{cases_lt, lt-ltb, le-ltb}
@@ -7,7 +7,6 @@ use Rattle.std.proofs.lemmas.Bool.Decides.{nat_tests}
 use Rattle.prof_machine.specs.declared.setup.Setup.{Setup}
 use Rattle.rvgprof.specs.declared.options.Key.{Key}
 use Rattle.rvgprof.specs.declared.options.Key.TheVariants.{Every, Budget, Rate, Ram, Harts, Quantum, Seed, Image, Gnu, Flat, Graph, Elf, Hist, Hash, Blocks, Exact, Cut, Hide, Inclusive}
-use Rattle.rvgprof.specs.declared.words.Command.{Command}
 use Rattle.rvgprof.specs.declared.words.Selection.{Selection}
 use Rattle.rvgprof.specs.Items.{Item, place_given, places_given, number_given, setting, up_to}
 use Rattle.rvgprof.specs.Words.{operands_of, is_given, few, file_from, file_of, plan_from, plan_of, setup_from, setup_of, run_from, run_of, sum_from, sum_of, selection_from, selection_of, report_from, report_of, annotate_from, annotate_of, profile_from, profile_said, folded_from, folded_said, functions_from, functions_of, demo_from, demo_said}

@@ -1,7 +1,5 @@
 use Rattle.std.proofs.Common.{◌∙◌, ap, sym, map, string_bytes, Some, None, Option, ℕ}
-use Rattle.rvgprof.specs.Items.{items_from, number_at}
-use Rattle.rvgprof.specs.Options.{kind_of, number_of_kind}
-use Rattle.rvgprof.specs.declared.options.Kind.{Kind}
+use Rattle.rvgprof.specs.Items.{items_from}
 use Rattle.rvgprof.proofs.ItemLemmas.{number_found, number_read}
 use Rattle.rvgprof.proofs.items.number_given.Goals as goal
 

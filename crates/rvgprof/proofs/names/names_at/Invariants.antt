@@ -1,4 +1,4 @@
-use Rattle.std.proofs.Common.{◌≡◌, List, take, map, string_bytes}
+use Rattle.std.proofs.Common.{◌≡◌, take, map, string_bytes}
 use Rattle.rvgprof.specs.Answer.{names_at}
 use Rattle.rvgprof.proofs.names.names_at.Given as goal
 

@@ -1,5 +1,5 @@
 use Rattle.std.proofs.Common.{Option, subst}
-use Rattle.std.specs.Prelude.{is_some, map, string_bytes}
+use Rattle.std.specs.Prelude.{is_some}
 use Rattle.std.proofs.lemmas.Result.{err_from_is_err_and}
 use Rattle.exact_flow.specs.Times.{ExactFlowValue}
 use Rattle.rvgprof.specs.Answer.{exact_report}

@@ -1,4 +1,4 @@
-use Rattle.std.proofs.Common.{◌++◌, ◌∙◌, false, Ok, refl, sym, ap, subst}
+use Rattle.std.proofs.Common.{◌++◌, ◌∙◌, Ok, refl, sym, ap, subst}
 use Rattle.std.specs.Prelude.{length, IsSome, Option}
 use Rattle.prof_machine.specs.declared.ending.End.{End}
 use Rattle.prof_machine.specs.Value.{StandsFor}

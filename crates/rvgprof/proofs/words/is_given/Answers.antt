@@ -1,4 +1,4 @@
-use Rattle.std.proofs.Common.{◌≡◌, ◌∙◌, map, string_bytes, sym, subst, Option, Some, ap, ℕ}
+use Rattle.std.proofs.Common.{◌∙◌, map, string_bytes, Some, ap}
 use Rattle.rvgprof.specs.Items.{items_from}
 use Rattle.rvgprof.proofs.WordLemmas.{given_by_items}
 use Rattle.std.specs.Option.{option_map}

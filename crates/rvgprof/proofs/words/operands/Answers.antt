@@ -1,4 +1,4 @@
-use Rattle.std.proofs.Common.{◌≡◌, ◌∙◌, map, string_bytes, sym, subst, Option, Some, ap, ℕ}
+use Rattle.std.proofs.Common.{map, string_bytes}
 use Rattle.rvgprof.proofs.PlaceLemmas.{rising_operands}
 use Rattle.rvgprof.proofs.words.operands.Goals as goal
 

@@ -1,4 +1,4 @@
-use Rattle.std.proofs.Common.{◌≡◌, ◌∙◌, map, string_bytes, sym, subst, Option, Some, ap, ℕ}
+use Rattle.std.proofs.Common.{◌∙◌, map, string_bytes}
 use Rattle.rvgprof.specs.Items.{items_from}
 use Rattle.rvgprof.proofs.WordLemmas.{functions_by_items}
 use Rattle.rvgprof.proofs.words.read_functions.Goals as goal
