@@ -88,12 +88,13 @@ fn start(alloc: Global, graph: &Graph, shares: &Shares) -> Result<ExactFlow, All
     })
 }
 
-/// The refusal of the step of arc `i`, which leaves component `c`.
-fn too_wide(graph: &Graph, c: u32, i: usize) -> ExactRefusal
-    requires component { c < component_count graph.now }
-    requires arc { i < 2 ^ 32 }
-    ensures { result ≡ TooWide (head_of graph.now c) i }
+/// The refusal of the step of arc `i`: it names the component that the arc leaves.
+fn too_wide(graph: &Graph, i: usize) -> ExactRefusal
+    requires arc { i < arc_count graph.now }
+    requires few { arc_count graph.now < 2 ^ 32 }
+    ensures { result ≡ TooWide (head_of graph.now (source_of graph.now i)) i }
 {
+    let c = graph.component(graph.arc(i).caller);
     ExactRefusal::TooWide {
         head: graph.head(c),
         arc: i as u32,
@@ -122,7 +123,7 @@ pub fn exact(alloc: Global, graph: &Graph, shares: &Shares) -> Result<ExactFlow,
         let (c, i) = flow.outside_arcs()[k];
         match step(graph, &flow, i) {
             Some(handed) => put(&mut flow, c, i, &handed),
-            None => return Err(too_wide(graph, c, i)),
+            None => return Err(too_wide(graph, i)),
         }
     }
     Ok(flow)

@@ -15,6 +15,10 @@ seconds_of rate grains = hundredths_of grains (1000000 * rate)
 abbrev pub milliseconds_of : ℕ → ℕ → ℕ → List ℕ
 milliseconds_of rate grains calls = hundredths_of (1000 * grains) (1000000 * rate * calls)
 
+-- A part of a whole in percent, with two digits after the point. Where the whole is nothing, it is 0.00.
+unfoldable pub percent_of : ℕ → ℕ → List ℕ
+percent_of part whole = if whole == 0 then codes "0.00" else hundredths_of (100 * part) whole
+
 -- the grains of all functions and of none, and the rate
 unfoldable pub totals_line : ShareTable → ℕ → List ℕ
 totals_line t rate =
@@ -32,10 +36,10 @@ call_columns_of rate e =
     else right_of (decimal e.calls) 11 ++ right_of (milliseconds_of rate e.share e.calls) 14 ++ right_of (milliseconds_of rate e.total e.calls) 15
 
 -- In front of a function's name: its part of what all functions have, in percent, the seconds of the lines up to this
--- one, and its own, and the columns on its calls. Where no function has anything, the part is 0.
+-- one, and its own, and the columns on its calls
 unfoldable pub columns_of : ℕ → ℕ → ℕ → Entry → List ℕ
 columns_of total rate cumulative e =
-    right_of (hundredths_of (100 * e.share) total) 7 ++ right_of (seconds_of rate cumulative) 13 ++ right_of (seconds_of rate e.share) 11 ++ call_columns_of rate e ++ codes "  "
+    right_of (percent_of e.share total) 7 ++ right_of (seconds_of rate cumulative) 13 ++ right_of (seconds_of rate e.share) 11 ++ call_columns_of rate e ++ codes "  "
 
 unfoldable pub line_of : ℕ → ℕ → ℕ → Entry → List ℕ
 line_of total rate cumulative e = columns_of total rate cumulative e ++ e.name ++ codes "\n"

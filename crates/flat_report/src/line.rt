@@ -2,7 +2,7 @@
 
 ghost use Rattle.std.specs.Prelude.{◌≡◌, ◌+◌, ◌*◌, ◌^◌, ◌<◌, ◌≤◌, ◌++◌, length, decimal};
 ghost use Rattle.text_cols.specs.Columns.{hundredths_of, right_of};
-ghost use Rattle.flat_report.specs.FlatText.{call_columns_of, columns_of, totals_line};
+ghost use Rattle.flat_report.specs.FlatText.{call_columns_of, columns_of, percent_of, totals_line};
 ghost use Rattle.flat_report.specs.Rows.{FitsIn, entry_of_row};
 
 use crate::rows::Row;
@@ -57,15 +57,20 @@ fn put_number(line: &mut Line, n: u64, width: usize)
     line.right(number.bytes(), width);
 }
 
-/// Adds a function's part of the total in percent; of a total of 0 it is 0.
-fn put_percentage(line: &mut Line, share: u128, total: u128)
-    requires within { total < 2 ^ 65 }
-    requires share { share ≤ total }
+/// Adds a part of a whole in percent, at the right of its column: `0.00` where the whole is 0.
+#[tactic(auto, using(text_cols::proofs::Lengths::lengths), unfolding(crate::specs::FlatText::percent_of))]
+pub fn put_percent(line: &mut Line, part: u128, whole: u128)
+    requires part { part < 2 ^ 65 }
+    requires whole { whole < 2 ^ 65 }
     requires room { length line.old ≤ 213 }
-    ensures text { line.new ≡ line.old ++ right_of (hundredths_of (100 * share) total) 7 }
+    ensures text { line.new ≡ line.old ++ right_of (percent_of part whole) 7 }
     ensures short { length line.new ≤ length line.old + 43 }
 {
-    put_quotient(line, 100 * share, total.max(1), 7);
+    if whole == 0 {
+        line.right(b"0.00", 7);
+    } else {
+        put_quotient(line, 100 * part, whole, 7);
+    }
 }
 
 /// Adds a function's calls, and the milliseconds of each, its own and in total. Without calls these
@@ -101,7 +106,7 @@ pub(crate) fn columns(total: u128, rate: u32, cumulative: u128, row: &Row<'_>) -
 {
     let second = GRAINS * u128::from(rate);
     let mut line = Line::new();
-    put_percentage(&mut line, row.share, total);
+    put_percent(&mut line, row.share, total);
     put_quotient(&mut line, cumulative, second, 13);
     put_quotient(&mut line, row.share, second, 11);
     put_calls(&mut line, rate, row);

@@ -208,13 +208,6 @@ module _ (a b c d : ℕ) (some_b : 0 < b) (some_d : 0 < d) (one : gcd a b ≡ 1)
   pub crossed : (num ≡ a * c / gcd (a * c) (b * d)) × (den ≡ b * d / gcd (a * c) (b * d))
   crossed = lowest_of (a * c) (b * d) num den (mul-pos some_b some_d) den_some crossed_lowest crossed_value
 
--- what the machine has of a product
-pub product_is : (a b c d g h : ℕ) → 0 < b → 0 < d → gcd a b ≡ 1 → gcd c d ≡ 1 → g ≡ gcd a d → h ≡ gcd c b
-    → (a / g * (c / h) ≡ a * c / gcd (a * c) (b * d)) × (b / h * (d / g) ≡ b * d / gcd (a * c) (b * d)) × (0 < b / h * (d / g)) × (gcd (a / g * (c / h)) (b / h * (d / g)) ≡ 1)
-product_is a b c d g h some_b some_d one two is_g is_h =
-    let both = crossed a b c d some_b some_d one two in
-    rw (is_g, is_h) (both.0, both.1, den_some a b c d some_b some_d one two, crossed_lowest a b c d some_b some_d one two)
-
 pub sum_den_some : (b d g : ℕ) → 0 < b → 0 < d → g ≡ gcd b d → 0 < b / g * d
 sum_den_some b d g some_b some_d is = rw (is, gcd_swap b d) (mul-pos (lowest_some d b some_b) some_d)
 

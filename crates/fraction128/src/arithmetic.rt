@@ -1,22 +1,56 @@
 //! Fractions made of two numbers, sums and products.
 
 ghost use Rattle.std.specs.Prelude.{◌≡◌, ◌<◌, ◌≢◌, ◌↔◌, ◌*◌, ◌/◌, IfSome, IsSome};
-ghost use Rattle.fraction128.specs.Fractions.{gcd, lowest, sum_of, product_of, FitsSum, FitsProduct};
+ghost use Rattle.fraction128.specs.Fractions.{gcd, lowest, sum_num, sum_den, sum_of, product_of, FitsSum, FitsProduct};
 ghost use Rattle.fraction128.specs.Values.{value_of};
 
 use crate::divisors::divisor;
 use crate::fracs::Frac;
+
+/// Two numbers, each divided by their greatest common divisor.
+fn quotients(a: u128, b: u128) -> (u128, u128)
+    requires { 0 < b }
+    ensures first { result.0 ≡ a / gcd a b }
+    ensures second { result.1 ≡ b / gcd a b }
+{
+    let g = divisor(a, b);
+    (a / g, b / g)
+}
 
 /// The fraction of two numbers, brought to lowest terms.
 fn reduced(num: u128, den: u128) -> Frac
     requires { 0 < den }
     ensures { value_of result ≡ lowest num den }
 {
-    let g = divisor(num, den);
-    Frac {
-        num: num / g,
-        den: den / g,
-    }
+    let (num, den) = quotients(num, den);
+    Frac { num, den }
+}
+
+/// The two numbers of a sum over the least common denominator.
+fn sum_numbers(f: &Frac, h: &Frac) -> Option<(u128, u128)>
+    ensures num { IfSome result (λ p. p.0 ≡ sum_num (value_of f.now) (value_of h.now)) }
+    ensures den { IfSome result (λ p. p.1 ≡ sum_den (value_of f.now) (value_of h.now)) }
+    ensures fits { IsSome result ↔ FitsSum (value_of f.now) (value_of h.now) }
+{
+    let (u, v) = quotients(f.den, h.den);
+    let left = f.num.checked_mul(v)?;
+    let right = h.num.checked_mul(u)?;
+    let num = left.checked_add(right)?;
+    let den = u.checked_mul(h.den)?;
+    Some((num, den))
+}
+
+/// The two numbers of a product in lowest terms.
+fn product_numbers(f: &Frac, h: &Frac) -> Option<(u128, u128)>
+    ensures num { IfSome result (λ p. p.0 ≡ (product_of (value_of f.now) (value_of h.now)).num) }
+    ensures den { IfSome result (λ p. p.1 ≡ (product_of (value_of f.now) (value_of h.now)).den) }
+    ensures fits { IsSome result ↔ FitsProduct (value_of f.now) (value_of h.now) }
+{
+    let (a, d) = quotients(f.num, h.den);
+    let (c, b) = quotients(h.num, f.den);
+    let num = a.checked_mul(c)?;
+    let den = b.checked_mul(d)?;
+    Some((num, den))
 }
 
 impl Frac {
@@ -50,11 +84,7 @@ impl Frac {
         ensures value { IfSome result (λ f. value_of f ≡ sum_of (value_of self.now) (value_of other.now)) }
         ensures fits { IsSome result ↔ FitsSum (value_of self.now) (value_of other.now) }
     {
-        let g = divisor(self.den, other.den);
-        let left = self.num.checked_mul(other.den / g)?;
-        let right = other.num.checked_mul(self.den / g)?;
-        let num = left.checked_add(right)?;
-        let den = (self.den / g).checked_mul(other.den)?;
+        let (num, den) = sum_numbers(self, other)?;
         Some(reduced(num, den))
     }
 
@@ -63,10 +93,7 @@ impl Frac {
         ensures value { IfSome result (λ f. value_of f ≡ product_of (value_of self.now) (value_of other.now)) }
         ensures fits { IsSome result ↔ FitsProduct (value_of self.now) (value_of other.now) }
     {
-        let g = divisor(self.num, other.den);
-        let h = divisor(other.num, self.den);
-        let num = (self.num / g).checked_mul(other.num / h)?;
-        let den = (self.den / h).checked_mul(other.den / g)?;
+        let (num, den) = product_numbers(self, other)?;
         Some(Frac { num, den })
     }
 }

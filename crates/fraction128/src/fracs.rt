@@ -20,13 +20,20 @@ pub struct Frac {
     pub ghost lowest: { gcd num den ≡ 1 },
 }
 
+/// Whether two fractions have the same numbers.
+fn have_same_numbers(f: &Frac, h: &Frac) -> bool
+    ensures { result ≡ (f.now.num == h.now.num && f.now.den == h.now.den) }
+{
+    f.num == h.num && f.den == h.den
+}
+
 impl PartialEq for Frac {
     ghost eq = { eq_by_cmp (λ a b. cross_cmp a.num a.den b.num b.den) };
 
     ghost laws = { partial_equiv_from_equiv (eq_by_cmp_equiv (cross_total (λ a. a.num) (λ a. a.den) (λ a. a.some))) };
 
     fn eq(&self, other: &Frac) -> bool {
-        self.num == other.num && self.den == other.den
+        have_same_numbers(self, other)
     }
 }
 

@@ -1,4 +1,3 @@
-pub mod LineLemmas
 pub mod GroupLemmas
 pub mod CycleLemmas
 pub mod TableLemmas

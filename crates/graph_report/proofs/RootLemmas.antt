@@ -1,19 +1,18 @@
 -- The times of components that are no cycles are those of their functions.
-use Rattle.std.proofs.Common.{◌≡◌, ◌≢◌, ◌<◌, ℕ, ◌+◌, Bool, true, false, not, ◌&&◌, List, length, sum, refl, ap, sym, ◌∙◌, subst, ⊎_elim, arith}
-use Rattle.std.specs.Prelude.{◌==◌, ◌||◌, nat_lt, slice_index, if◌then◌else◌, IsTrue}
-use Rattle.std.proofs.lemmas.Bool.{cases_eq, eqb-true, eq-eqb, ne_eqb, true≢false, ltb-false}
+use Rattle.std.proofs.Common.{◌≡◌, ◌≢◌, ◌<◌, ℕ, Bool, true, false, ◌&&◌, List, refl, ap, sym, ◌∙◌, ⊎_elim, arith}
+use Rattle.std.specs.Prelude.{◌==◌, ◌||◌, nat_lt, slice_index, if◌then◌else◌}
+use Rattle.std.proofs.lemmas.Bool.{cases_eq, eqb-true, true≢false, ltb-false}
 use Rattle.call_cycles.specs.Sums.{sum_below, when}
-use Rattle.call_cycles.specs.Graph.{GraphValue, IsGraph, arc_at, arc_count, component_of, component_count, head_of, is_cycle, is_outside, source_of, leaves}
-use Rattle.call_cycles.specs.Flow.{carried_by, carried_from, carried_from_function, leaves_function, is_root, self_in, time_of, time_of_roots}
+use Rattle.call_cycles.specs.Graph.{GraphValue, IsGraph, arc_at, arc_count, component_of, component_count, head_of, is_cycle, is_outside, source_of}
+use Rattle.call_cycles.specs.Flow.{carried_by, carried_from, carried_from_function, is_root, self_in, time_of}
 use Rattle.call_cycles.proofs.ListLemmas.{same_test}
 use Rattle.call_cycles.proofs.MemberLemmas.{cycles_are}
 use Rattle.call_cycles.proofs.SumLemmas.{sum_ext, sum_at}
 use Rattle.symbol_shares.specs.Shares.{attributed_of}
 use Rattle.propagate.proofs.BoundLemmas.{roots_have_all}
-use Rattle.flat_report.specs.Rows.{FitTogether}
-use Rattle.flat_report.specs.Sources.{Sources, calls_by_itself, calls_by_others, child_of, share_of, total_of}
-use Rattle.graph_report.specs.Entries.{calls_of_others, has_entry}
-use Rattle.graph_report.specs.Roots.{has_own_entry, shown_total}
+use Rattle.flat_report.specs.Sources.{Sources, calls_by_itself, calls_by_others, total_of}
+use Rattle.graph_report.specs.Entries.{calls_of_others}
+use Rattle.graph_report.specs.Roots.{AreOfOneProgram, has_own_entry, shown_total}
 
 -- ---- a component of one function
 
@@ -53,7 +52,10 @@ module _ (g : GraphValue) (is : IsGraph g) (c : ℕ) (low : c < component_count 
 
 -- ---- the totals of entries
 
-module _ (s : Sources) (fit : FitTogether s) (is : IsGraph s.graph) where
+module _ (s : Sources) (fit : AreOfOneProgram s) where
+  is : IsGraph s.graph
+  is = fit.graph
+
   single_total : (c : ℕ) → c < component_count s.graph → is_cycle s.graph c ≡ false → total_of s (head_of s.graph c) ≡ time_of s.flow c
   single_total c low single =
       let self = fit.flow.self c low ∙ own_share s.graph is c low single s.shares.of in

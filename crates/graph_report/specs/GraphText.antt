@@ -1,13 +1,13 @@
 -- The text of the call graph: for each function and each cycle who called it and whom it called, and how much time went
 -- from callees to callers.
-use Rattle.std.specs.Prelude.{ℕ, ◌*◌, ◌==◌, ◌&&◌, not, true, Bool, List, [], ◌∷◌, ◌++◌, filter, replicate, slice_index, codes, if◌then◌else◌}
+use Rattle.std.specs.Prelude.{ℕ, ◌==◌, ◌&&◌, not, true, Bool, List, [], ◌∷◌, ◌++◌, filter, replicate, slice_index, codes, if◌then◌else◌}
 use Rattle.std.specs.List.{flat_map}
-use Rattle.text_cols.specs.Columns.{decimal, hundredths_of, left_of, right_of, spaces}
+use Rattle.text_cols.specs.Columns.{decimal, left_of, right_of, spaces}
 use Rattle.symbol_shares.specs.Shares.{attributed_of}
 use Rattle.call_cycles.specs.Graph.{GraphValue, arc_at, arc_count, component_of, is_outside, enters, target_of, entering_of}
 use Rattle.call_cycles.specs.Flow.{time_of}
 use Rattle.call_cycles.specs.Sums.{numbers_below}
-use Rattle.flat_report.specs.FlatText.{seconds_of}
+use Rattle.flat_report.specs.FlatText.{percent_of, seconds_of}
 use Rattle.flat_report.specs.Hidden.{is_hidden}
 use Rattle.flat_report.specs.Sources.{Sources, name_of, share_of, child_of, total_of, calls_by_others, calls_by_itself}
 use Rattle.graph_report.specs.Cycles.{is_member, cycle_number, inner_calls, cycle_name}
@@ -58,7 +58,7 @@ calls_with_inner entering inner = decimal entering ++ codes "+" ++ decimal inner
 -- is, in percent, and its columns
 abbrev pub front_text : Sources → ℕ → ℕ → List ℕ → List ℕ
 front_text s number total columns =
-    left_of (bracketed number) 8 ++ right_of (hundredths_of (100 * total) (attributed_of s.shares)) 7 ++ columns ++ spaces 2
+    left_of (bracketed number) 8 ++ right_of (percent_of total (attributed_of s.shares)) 7 ++ columns ++ spaces 2
 
 -- the line of the subject of an entry
 unfoldable pub primary_line : Sources → ℕ → ℕ → List ℕ → List ℕ → List ℕ

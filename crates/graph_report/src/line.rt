@@ -1,10 +1,11 @@
 //! Parts of single lines, made in place.
 
-ghost use Rattle.std.specs.Prelude.{◌≡◌, ◌+◌, ◌*◌, ◌^◌, ◌<◌, ◌≤◌, ◌++◌, length, codes, decimal};
-ghost use Rattle.text_cols.specs.Columns.{hundredths_of, left_of, right_of, spaces};
+ghost use Rattle.std.specs.Prelude.{◌≡◌, ◌+◌, ◌^◌, ◌<◌, ◌≤◌, ◌++◌, length, codes, decimal};
+ghost use Rattle.text_cols.specs.Columns.{left_of, right_of, spaces};
+ghost use Rattle.flat_report.specs.FlatText.{percent_of};
 ghost use Rattle.graph_report.specs.GraphText.{bracketed, calls_of_all, calls_with_inner, calls_with_own, timed_columns, untimed_columns};
 
-use flat_report::line::{GRAINS, put_quotient};
+use flat_report::line::{GRAINS, put_percent, put_quotient};
 use text_cols::Line;
 
 /// Adds the number of an entry.
@@ -17,22 +18,6 @@ fn put_number(line: &mut Line, number: usize)
     line.put(b"[");
     line.decimal(number as u128);
     line.put(b"]");
-}
-
-/// Adds a part of a whole in percent, at the right of its column: `0.00` where the whole is 0.
-#[tactic(auto, using(text_cols::proofs::Lengths::lengths))]
-fn put_percent(line: &mut Line, part: u128, whole: u128)
-    requires part { part < 2 ^ 65 }
-    requires whole { whole < 2 ^ 65 }
-    requires room { length line.old ≤ 86 }
-    ensures text { line.new ≡ line.old ++ right_of (hundredths_of (100 * part) whole) 7 }
-    ensures short { length line.new ≤ length line.old + 43 }
-{
-    if whole == 0 {
-        line.right(b"0.00", 7);
-    } else {
-        put_quotient(line, 100 * part, whole, 7);
-    }
 }
 
 /// The calls of an arc, and all that enter its callee's component.
@@ -129,7 +114,7 @@ pub(crate) fn primary(number: usize, total: u128, all: u128, columns: &Line) -> 
     requires total { total < 2 ^ 65 }
     requires all { all < 2 ^ 65 }
     requires columns { length columns.now ≤ 128 }
-    ensures { result ≡ left_of (bracketed number) 8 ++ right_of (hundredths_of (100 * total) all) 7 ++ columns.now ++ spaces 2 }
+    ensures { result ≡ left_of (bracketed number) 8 ++ right_of (percent_of total all) 7 ++ columns.now ++ spaces 2 }
 {
     let mut index = Line::new();
     put_number(&mut index, number);

@@ -4,7 +4,7 @@ use Rattle.std.proofs.lemmas.List.{get_or_default}
 use Rattle.fraction128.specs.Values.{value_of}
 use Rattle.propagate.proofs.ExactLemmas.{exact_solution}
 use Rattle.propagate.proofs.ExactRootLemmas.{exact_roots}
-use Rattle.call_cycles.specs.Graph.{head_of}
+use Rattle.call_cycles.specs.Graph.{head_of, source_of}
 use Rattle.exact_flow.specs.Times.{ExactFlowValue}
 use Rattle.exact_flow.specs.Answers.{IsWideAnswer}
 use Rattle.exact_flow.proofs.StateLemmas.{IsSoFar, none_done, one_more_done, all_times, has_times, leaving}
@@ -61,8 +61,7 @@ too_wide-requires-clause-arc c =
     let p = get_or c.outside_arcs.result.now c.loop-k.k (0, 0) in
     let at : p ≡ get_or e.outside c.loop-k.k p = ap (λ (xs : List (ℕ × ℕ)). get_or xs c.loop-k.k (0, 0)) c.outside_arcs.ensures ∙ get_or_default e.outside c.loop-k.k (0, 0) p low in
     let l = leaving c.args.graph.now c.args.shares.now.of e.outside c.loop-k.k p e c.arc_count.ensures.graph c.loop-k.invariant.sized.outside low at c.loop-k.invariant in
-    let below = l.0 in
-    omega arith
+    l.0
 
 pub returns-in-None-clause-wide : goal.returns-in-None-clause-wide
 returns-in-None-clause-wide c =
@@ -74,9 +73,10 @@ returns-in-None-clause-wide c =
     let low : c.loop-k.k < length e.outside = omega arith in
     let p = get_or c.outside_arcs.result.now c.loop-k.k (0, 0) in
     let at : p ≡ get_or e.outside c.loop-k.k p = ap (λ (xs : List (ℕ × ℕ)). get_or xs c.loop-k.k (0, 0)) c.outside_arcs.ensures ∙ get_or_default e.outside c.loop-k.k (0, 0) p low in
+    let l = leaving c.args.graph.now c.args.shares.now.of e.outside c.loop-k.k p e c.arc_count.ensures.graph c.loop-k.invariant.sized.outside low at c.loop-k.invariant in
     subst (IsWideAnswer c.args.graph.now c.args.shares.now.of) (sym c.too_wide.ensures)
     (first_found c.args.graph.now c.args.shares.now.of e.outside c.loop-k.k p e c.arc_count.ensures.graph c.loop-k.invariant.sized.outside low at c.loop-k.invariant
-    (head_of c.args.graph.now p.0) refl (λ fits. true≢false (sym (c.in-None.ensures.fits.1 fits))))
+    (head_of c.args.graph.now (source_of c.args.graph.now p.1)) (ap (head_of c.args.graph.now) (sym l.1)) (λ fits. true≢false (sym (c.in-None.ensures.fits.1 fits))))
 
 pub loop-k-preserved : goal.loop-k-preserved
 loop-k-preserved c =

@@ -3,6 +3,6 @@ use Rattle.fraction128.proofs.arithmetic.reduced.Goals as goal
 
 pub invariant_of-result : goal.invariant_of-result
 invariant_of-result c = record {
-  some = rw c.divisor-g.ensures.value (lowest_some c.args.num c.args.den c.requires);
-  lowest = rw c.divisor-g.ensures.value (coprime_quotients c.args.num c.args.den c.requires);
+  some = rw c.quotients-num.ensures.second (lowest_some c.args.num c.args.den c.requires);
+  lowest = rw (c.quotients-num.ensures.first, c.quotients-num.ensures.second) (coprime_quotients c.args.num c.args.den c.requires);
 }

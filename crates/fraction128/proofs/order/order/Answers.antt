@@ -1,5 +1,5 @@
 use Rattle.std.proofs.Common.{◌≡◌, ◌≢◌, ◌%◌, ◌∙◌, ⊎_elim, inl, inr, arith}
-use Rattle.fraction128.proofs.OrderLemmas.{cmp_whole, cmp_rest, cmp_none, cmp_turned}
+use Rattle.fraction128.proofs.OrderLemmas.{cmp_whole, cmp_rest, cmp_none}
 use Rattle.fraction128.proofs.order.order.Goals as goal
 
 pub returns-then-r-eq0 : goal.returns-then-r-eq0
@@ -16,7 +16,7 @@ loop-left-preserved c =
     record {
       some_left = omega arith;
       some_right = omega arith;
-      same = cmp_turned (l.0 % l.1) l.1 (r.0 % r.1) r.1 ∙ cmp_rest l.0 l.1 r.0 r.1 c.loop-left-test.true ∙ c.loop-left.invariant.same;
+      same = c.turned.ensures.order ∙ cmp_rest l.0 l.1 r.0 r.1 c.loop-left-test.true ∙ c.loop-left.invariant.same;
     }
 
 pub returns : goal.returns

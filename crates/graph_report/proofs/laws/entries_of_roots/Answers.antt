@@ -3,7 +3,7 @@ use Rattle.graph_report.proofs.laws.entries_of_roots.Goals as goal
 
 pub returns : goal.returns
 returns c = record {
-  totals = λ s k fit is. totals_are_times s fit is k;
-  none = λ s k fit is. no_time s fit is k;
+  totals = λ s k fit. totals_are_times s fit k;
+  none = λ s k fit. no_time s fit k;
   all = root_entries;
 }
