@@ -7,6 +7,7 @@ pub mod refusal;
 mod shadow;
 pub mod tally;
 mod trail;
+pub mod values;
 pub mod writer;
 
 pub use folding::fold;

@@ -34,6 +34,16 @@ const CALLS: &[u32] = &[
     RETURN, // g
 ];
 
+// f returns to where no call returns.
+const ELSEWHERE: &[u32] = &[
+    0x00C0_00EF, // _start: jal x1, 12
+    NOP,
+    ENDLESS,
+    0x0080_8093, // f: addi x1, x1, 8
+    0x0080_8093, // addi x1, x1, 8
+    RETURN,
+];
+
 // f calls itself 129 times, and all calls return.
 const DEEP: &[u32] = &[
     0x0820_0413, // _start: addi x8, x0, 130
@@ -108,7 +118,7 @@ pub const MANY_SAMPLES: Case = Case {
     total: 65_536,
 };
 
-pub const CASES: [Case; 9] = [
+pub const CASES: [Case; 11] = [
     Case {
         name: "a call in a call",
         words: CALLS,
@@ -152,6 +162,28 @@ pub const CASES: [Case; 9] = [
         stacks: "_start 1\n",
         by_function: "_start 1\n",
         total: 1,
+    },
+    Case {
+        name: "130 calls and half of the way back",
+        words: DEEP,
+        functions: &[("_start", 0), ("f", 16)],
+        every: 1_035,
+        budget: 1_035,
+        harts: 1,
+        stacks: "_start;f;f 1\n",
+        by_function: "_start 1\nf 1\n",
+        total: 1,
+    },
+    Case {
+        name: "a return to no call takes nothing off",
+        words: ELSEWHERE,
+        functions: &[("_start", 0), ("f", 12)],
+        every: 1,
+        budget: 4,
+        harts: 1,
+        stacks: "_start;f 4\n",
+        by_function: "_start 4\nf 4\n",
+        total: 4,
     },
     Case {
         name: "a tail call",

@@ -4,6 +4,7 @@ ghost use Rattle.std.specs.Prelude.{◌≡◌, ◌↔◌, IsTrue, IfOk};
 
 use crate::sizes::Sizes;
 use crate::state::State;
+use crate::walk::{Entered, Looked, Walk};
 use std::alloc::AllocError;
 
 /// Whether two sizes are the same.
@@ -32,4 +33,25 @@ pub fn copied_states(a: &State) -> Result<State, AllocError>
     ensures { IfOk result (λ b. b ≡ a.now) }
 {
     a.clone()
+}
+
+/// Whether two calls that are being entered are the same.
+pub fn same_walks(a: &Walk, b: &Walk) -> bool
+    ensures { IsTrue result ↔ (a.now ≡ b.now) }
+{
+    a == b
+}
+
+/// Whether two calls met the same.
+pub fn same_entered(a: &Entered, b: &Entered) -> bool
+    ensures { IsTrue result ↔ (a.now ≡ b.now) }
+{
+    a == b
+}
+
+/// Whether two looks gave the same.
+pub fn same_looked(a: &Looked, b: &Looked) -> bool
+    ensures { IsTrue result ↔ (a.now ≡ b.now) }
+{
+    a == b
 }

@@ -35,6 +35,7 @@ returns h r = returns_by h (hart_of r.harts h) r
 pub record Steps (old new : RunValue) : Type 0 where
   pub machine : new.machine ≡ old.machine
   pub live : new.live ≡ old.live
+  pub note : new.note ≡ old.note
 
 -- an instruction was executed; where the run goes on it has retired
 pub record Executes (old new : RunValue) : Type 0 where

@@ -13,6 +13,7 @@ pub mod runs;
 pub mod schedule;
 pub mod setup;
 mod stages;
+pub mod values;
 
 pub use ending::{End, RunSummary, StartRefusal, Turned};
 pub use notes::{Ran, TurnNote};

@@ -1,6 +1,6 @@
 //! A run, from its start to its end.
 
-ghost use Rattle.std.specs.Prelude.{◌≡◌, ◌+◌, ◌*◌, ◌^◌, ◌<◌, ◌≤◌, ◌↔◌, ℕ, length, map, None, Some, Ok, IsOk, IfOk, IfErr, OnOk, OnErr, IsSome, IsTrue, MatchResult, [], replicate, All, if◌then◌else◌};
+ghost use Rattle.std.specs.Prelude.{◌≡◌, ◌+◌, ◌*◌, ◌^◌, ◌<◌, ◌≤◌, ◌↔◌, ℕ, length, map, None, Some, Ok, IsOk, IfOk, IfErr, OnOk, OnErr, IsSome, IfSome, IsTrue, MatchResult, [], replicate, All, if◌then◌else◌};
 ghost use Rattle.std.specs.List.{range_with_len};
 ghost use Rattle.elf32_syms.specs.Image.{IsWithinLimits};
 ghost use Rattle.host_port.specs.Outside.{KeepsCounts, KeepsInput};
@@ -9,7 +9,7 @@ ghost use Rattle.mcount_arcs.specs.Sizes.{AreSizes};
 ghost use Rattle.mcount_arcs.specs.Value.{StandsFor as RuntimeStandsFor};
 ghost use Rattle.prof_machine.specs.declared.ending.Turned.TheVariants.{Going};
 ghost use Rattle.prof_machine.specs.Executions.{exec_counts_of, instructions_of};
-ghost use Rattle.prof_machine.specs.Notes.{note_of};
+ghost use Rattle.prof_machine.specs.Notes.{look_note, note_of};
 ghost use Rattle.prof_machine.specs.Setup.{IsSetup};
 ghost use Rattle.prof_machine.specs.Start.{IsRefusal, first_registers as first_registers_of, machine_of, stacks_bytes, start_of, start_refusal};
 ghost use Rattle.prof_machine.specs.Turn.{turn_of};
@@ -74,7 +74,8 @@ impl Run {
     ///
     /// Memory begins at the lowest address of a segment, rounded down to 4,096 bytes. It is refused, in
     /// this order, where the program and 2,097,152 bytes of stacks don't fit into it or it ends above
-    /// 2^32; and where the entry is no multiple of 4 or not in it. Only this call takes memory.
+    /// 2^32; and where the entry is no multiple of 4 or not in it. No memory is taken before that. Only this
+    /// call takes memory.
     #[tactic(auto, using(crate::proofs::ClockLemmas::first))]
     pub fn start(
         alloc: Global,
@@ -85,11 +86,13 @@ impl Run {
         requires limits { IsWithinLimits (length bytes.now) image.now }
         requires setup { IsSetup setup }
         ensures refusal { IfErr result (λ e. IsRefusal e (start_refusal image.now setup)) }
+        ensures refused { IfSome (start_refusal image.now setup) (λ e. result ≡ Err e) }
         ensures accepted { OnOk result (start_refusal image.now setup ≡ None) }
         ensures stands { IfOk result (StandsFor (start_of image.now bytes.now setup)) }
         ensures live { IfOk result IsLive }
         ensures machine { IfOk result (λ run. run.machine ≡ machine_of image.now setup) }
         ensures setup { IfOk result (λ run. run.machine.setup ≡ setup) }
+        ensures note { IfOk result (λ run. run.note ≡ look_note None) }
     {
         let layout = Layout::of(image, setup)?;
         let mut ram = Ram::new(alloc, layout.base, layout.size)?;
@@ -124,6 +127,7 @@ impl Run {
         ensures live { IsLive self.new ↔ (result ≡ Ok Going) }
         ensures machine { self.new.machine ≡ self.old.machine }
         ensures note { OnOk result ((w : World) → StandsFor w self.old → self.new.note ≡ note_of self.old.machine w hart) }
+        ensures kept { OnErr result (self.new.note ≡ self.old.note) }
 
         // What the outside has gained.
         ensures prints { OnOk result ((w : World) → StandsFor w self.old
@@ -153,6 +157,7 @@ impl Run {
         ensures answer { IfOk result (λ end. self.new.ending ≡ Some end) }
         ensures live { IsLive self.new → ⊥ }
         ensures machine { self.new.machine ≡ self.old.machine }
+        ensures note { self.new.note ≡ self.old.note }
 
         // What the outside has gained. A print fails in a turn of the plan before which the run hasn't ended.
         ensures prints { OnOk result ((w : World) → StandsFor w self.old
@@ -235,6 +240,7 @@ impl Run {
         ensures live { IsLive self.new ↔ (IsOk result × (self.new.ending ≡ None)) }
         ensures machine { self.new.machine ≡ self.old.machine }
         ensures note { IfOk result (λ note. (w : World) → StandsFor w self.old → note ≡ note_of self.old.machine w hart) }
+        ensures kept { self.new.note ≡ self.old.note }
 
         // What the outside has gained.
         ensures prints { OnOk result ((w : World) → StandsFor w self.old

@@ -1,0 +1,71 @@
+//! That equality and copies of the values that are told say what they seem to: each is pinned by a clause.
+
+ghost use Rattle.std.specs.Prelude.{◌≡◌, ◌↔◌, IsTrue, IfOk};
+
+use crate::ending::{RunSummary, StartRefusal, Turned};
+use crate::notes::TurnNote;
+use crate::setup::Setup;
+use std::alloc::AllocError;
+
+/// Whether two answers of a turn are the same.
+pub fn same_answers(a: &Turned, b: &Turned) -> bool
+    ensures { IsTrue result ↔ (a.now ≡ b.now) }
+{
+    a == b
+}
+
+/// The same answer.
+pub fn copied_answers(a: &Turned) -> Result<Turned, AllocError>
+    ensures { IfOk result (λ b. b ≡ a.now) }
+{
+    a.clone()
+}
+
+/// Whether the same is told of two runs.
+pub fn same_summaries(a: &RunSummary, b: &RunSummary) -> bool
+    ensures { IsTrue result ↔ (a.now ≡ b.now) }
+{
+    a == b
+}
+
+/// The same summary.
+pub fn copied_summaries(a: &RunSummary) -> Result<RunSummary, AllocError>
+    ensures { IfOk result (λ b. b ≡ a.now) }
+{
+    a.clone()
+}
+
+/// Whether two refusals are the same.
+pub fn same_refusals(a: &StartRefusal, b: &StartRefusal) -> bool
+    ensures { IsTrue result ↔ (a.now ≡ b.now) }
+{
+    a == b
+}
+
+/// The same refusal.
+pub fn copied_refusals(a: &StartRefusal) -> Result<StartRefusal, AllocError>
+    ensures { IfOk result (λ b. b ≡ a.now) }
+{
+    a.clone()
+}
+
+/// The same note.
+pub fn copied_notes(a: &TurnNote) -> Result<TurnNote, AllocError>
+    ensures { IfOk result (λ b. b ≡ a.now) }
+{
+    a.clone()
+}
+
+/// Whether two runs are to be the same.
+pub fn same_setups(a: &Setup, b: &Setup) -> bool
+    ensures { IsTrue result ↔ (a.now ≡ b.now) }
+{
+    a == b
+}
+
+/// The same setup.
+pub fn copied_setups(a: &Setup) -> Result<Setup, AllocError>
+    ensures { IfOk result (λ b. b ≡ a.now) }
+{
+    a.clone()
+}
