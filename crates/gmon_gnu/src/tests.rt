@@ -585,7 +585,8 @@ fn a_stated_number_takes_no_room(rt: HostRuntime) -> Result<(), Fail> {
         counters[at] = 255;
     }
     let mut readers = Vec::new(rt.alloc());
-    for _ in 0..1_000 {
+    // More than have room for 8 GiB each among all addresses.
+    for _ in 0..20_000 {
         let mut reader = Reader::new(rt.alloc());
         reader.feed(&pairs)?;
         readers.push((reader, 25))?;
