@@ -1,5 +1,5 @@
 -- What the commands leave that write or report a profile, where they are carried out.
-use Rattle.std.proofs.Common.{◌≡◌, ℕ, Bool, true, false, cond, ltb, ◌-◌, List, [], ◌∷◌, ◌++◌, append-nil, append_assoc, length, Option, Some, None, Ok, Err, refl, sym, ap, subst, ◌∙◌}
+use Rattle.std.proofs.Common.{◌≡◌, ◌+◌, ◌*◌, ℕ, Bool, true, false, cond, ltb, ◌-◌, List, [], ◌∷◌, ◌++◌, append-nil, append_assoc, length, Option, Some, None, Result, Ok, Err, refl, sym, ap, subst, ◌∙◌}
 use Rattle.std.specs.Prelude.{codes, is_ok, option_map, IfSome, MatchOption, ⊤}
 use Rattle.std.specs.Result.{IsOk}
 use Rattle.std.specs.List.{flat_map}
@@ -12,17 +12,18 @@ use Rattle.elf32_syms.specs.declared.image.Image.{Image}
 use Rattle.elf32_syms.specs.Refusals.{elf_refusal}
 use Rattle.elf32_syms.specs.Image.{image_of}
 use Rattle.gmon_block.specs.Layout.{layout_of}
-use Rattle.gmon_data.specs.Content.{Content, WideRec, conflict_of, empty_content, wide_records}
+use Rattle.gmon_data.specs.Content.{Content, WideRec, conflict_of, empty_content, runs_at, wide_records}
 use Rattle.gmon_data.specs.Content.{content_of as content_in}
 use Rattle.gmon_data.specs.declared.refusal.Unlike.{Unlike as Difference}
 use Rattle.profile_sum.specs.Sum.{sum_of, clash_of}
 use Rattle.profile_sum.proofs.ContentLemmas.{content_sum}
 use Rattle.mcount_arcs.specs.declared.sizes.Sizes.{Sizes}
 use Rattle.prof_machine.specs.World.{World}
-use Rattle.host_port.specs.Act.{Act, Disk, content_of, disk_after}
+use Rattle.host_port.specs.Act.{Act, Disk, Out, complained, content_of, disk_after}
+use Rattle.annotate.specs.Listing.{annotated_text}
 use Rattle.host_port.specs.Act.{printed as prints_of, Err as Complain}
 use Rattle.host_port.specs.Outside.{Outside, Becomes, Did, opening}
-use Rattle.host_port.proofs.Laws.{Becomes-by, disk_after-append, printed-append}
+use Rattle.host_port.proofs.Laws.{Becomes-by, complained-append, disk_after-append, printed-append}
 use Rattle.symbol_shares.specs.Shares.{attributed_of, share_of, shares_of}
 use Rattle.call_cycles.specs.Graph.{IsGraph}
 use Rattle.call_cycles.specs.Flow.{IsFlow, time_of_roots}
@@ -31,9 +32,14 @@ use Rattle.call_cycles.proofs.ValueLemmas.{profile_is_graph}
 use Rattle.propagate.specs.Solution.{flow_in}
 use Rattle.propagate.proofs.SolutionLemmas.{solution}
 use Rattle.propagate.proofs.BoundLemmas.{roots_have_all}
+use Rattle.propagate.proofs.ProportionLemmas.{parts_all, parts_near}
+use Rattle.graph_report.specs.Roots.{AreOfOneProgram}
+use Rattle.graph_report.proofs.RootLemmas.{root_entries}
 use Rattle.mcount_arcs.specs.Image.{block_image}
 use Rattle.prof_machine.specs.declared.setup.Setup.{Setup}
 use Rattle.prof_machine.specs.Start.{start_refusal}
+use Rattle.prof_machine.specs.declared.ending.RunSummary.{RunSummary}
+use Rattle.prof_machine.specs.Value.{summary_of}
 use Rattle.rvgprof.specs.declared.outcome.Done.{Done}
 use Rattle.rvgprof.specs.declared.outcome.Fault.{Fault}
 use Rattle.rvgprof.specs.declared.outcome.Fault.TheVariants.{BadElf, BadProfile, TooLarge, Unlike}
@@ -49,14 +55,16 @@ use Rattle.rvgprof.specs.declared.words.Shown.TheVariants as shows
 use Rattle.rvgprof.specs.Items.{name_of}
 use Rattle.rvgprof.specs.Words.{command_of}
 use Rattle.rvgprof.specs.Course.{Course, Ends, Input, Does, Reply, unless, behind, reply_to}
-use Rattle.rvgprof.specs.Answer.{Chosen, RunFiles, all_reports, chosen_by, command_course, contents_of, ended, exact_report, file_acts, file_records, file_refusal, files_named, given_file_acts, print_reports, profile_in, profiles, program, report_course, report_profiles, report_run, run_acts, run_program, shown_reports, start_fault_of, told, too_wide, wide_step, written_profile}
+use Rattle.rvgprof.specs.Answer.{Chosen, RunFiles, all_reports, annotate_course, chosen_by, command_course, contents_of, ended, exact_report, file_acts, file_records, file_refusal, files_named, given_file_acts, list_profiles, print_reports, profile_in, profiles, program, report_course, report_profiles, report_run, run_acts, run_program, shown_reports, start_fault_of, told, too_wide, wide_step, written_profile}
 use Rattle.rvgprof.specs.Reports.{sources_of}
 use Rattle.rvgprof.specs.Contract.{WhereTold, Answered}
 use Rattle.rvgprof.specs.Acceptance.{IsProgramFile, IsAccepted, Starts, records_of, total_of}
-use Rattle.rvgprof.specs.Headline.{Headline, IsApart, Leaves, ReportLeaves, RunIsWritten, RunLeaves, TimeIsShared, exact_of, gmon_text, printed_of, reported, reported_of, reports_of, text_sizes, world_of}
+use Rattle.rvgprof.specs.Headline.{ExecutionsAreListed, Headline, IsApart, Leaves, ListingLeaves, ReportLeaves, RunIsTold, RunIsWritten, RunLeaves, TimeIsShared, exact_of, printed_of, reported, reported_of, reports_of}
+use Rattle.rvgprof.specs.RunFile.{FitsFile, FitsWhereTold, RunFits, SaysRun, gmon_text, memory_text, text_sizes, world_of}
 use Rattle.rvgprof.proofs.AcceptanceLemmas.{accepted}
 use Rattle.rvgprof.proofs.Summing.{nothing_added}
 use Rattle.rvgprof.proofs.FileLemmas.{file_written, file_stays}
+use Rattle.rvgprof.proofs.RunFileLemmas.{run_files_read_back}
 
 -- ---- the sources of each report
 
@@ -76,6 +84,16 @@ module _ (image : Image) (total : Content) where
       let shares = (shares_of total.hists image.symbols).of in
       let is = profile_is_graph total.arcs image.symbols in
       roots_have_all g shares is (length-map image.symbols (share_of total.hists)) (flow_in g shares) (solution g shares is)
+
+  -- its parts are of one program
+  of_one : AreOfOneProgram (sources_of image total)
+  unfolding sources_of
+  of_one = record {
+    functions = refl;
+    each = length-map image.symbols (share_of total.hists);
+    graph = profile_is_graph total.arcs image.symbols;
+    flow = solution (profile_graph total.arcs image.symbols) (shares_of total.hists image.symbols).of (profile_is_graph total.arcs image.symbols);
+  }
 
 -- ---- the acts
 
@@ -163,6 +181,24 @@ module _ (contents : ℕ → List ℕ) (s : Sources) where
   exact_print true done line =
       ap (λ (text : List ℕ). codes "\n" ++ text) (append-nil (exact_text s.symbols s.graph (exact_flow_in s.graph s.shares.of) (attributed_of s.shares)))
 
+  shown_end : (shown : Shown) (hidden : List (List ℕ)) (next : Course) → (reply_to contents (shown_reports shown hidden s next)).ending ≡ (reply_to contents next).ending
+  shown_end shows.Flat hidden next = refl
+  shown_end shows.Graph hidden next = refl
+  shown_end shows.Both hidden next = refl
+
+  exact_end : (exact : Bool) (done : Done) → (reply_to contents (exact_report exact s (Ends (Ok done)))).ending ≡ Ok done
+  exact_end false done = refl
+  exact_end true done = refl
+
+  shown_complain : (shown : Shown) (hidden : List (List ℕ)) (next : Course) (behind_it : List Act) → complained (acts_along (shown_reports shown hidden s next) ++ behind_it) ≡ complained (acts_along next ++ behind_it)
+  shown_complain shows.Flat hidden next behind_it = refl
+  shown_complain shows.Graph hidden next behind_it = refl
+  shown_complain shows.Both hidden next behind_it = refl
+
+  exact_complain : (exact : Bool) (done : Done) (line : List ℕ) → complained (acts_along (exact_report exact s (Ends (Ok done))) ++ Complain line ∷ []) ≡ line
+  exact_complain false done line = append-nil line
+  exact_complain true done line = append-nil line
+
   shown_keep : (shown : Shown) (hidden : List (List ℕ)) (next : Course) (behind_it : List Act) (d : Disk) → disk_after (acts_along (shown_reports shown hidden s next) ++ behind_it) d ≡ disk_after (acts_along next ++ behind_it) d
   shown_keep shows.Flat hidden next behind_it d = refl
   shown_keep shows.Graph hidden next behind_it d = refl
@@ -175,6 +211,10 @@ module _ (contents : ℕ → List ℕ) (s : Sources) where
 no_prints : (name : Option (List ℕ)) (bytes : List ℕ) → prints_of (given_file_acts name bytes) ≡ []
 no_prints None bytes = refl
 no_prints (Some name) bytes = refl
+
+no_complaints : (name : Option (List ℕ)) (bytes : List ℕ) → complained (given_file_acts name bytes) ≡ []
+no_complaints None bytes = refl
+no_complaints (Some name) bytes = refl
 
 told_file : (old new : Option Disk) (f : Disk → Disk) (name text : List ℕ) → Becomes f old new → ((d : Disk) → content_of name (f d).files ≡ text) → IfSome new (λ d. content_of name d.files ≡ text)
 told_file old None f name text same holds = tt
@@ -232,6 +272,34 @@ module _ (words : List (List ℕ)) (contents : ℕ → List ℕ) (elf gmon : ℕ
       ∙ file_stays (name_of words gmon) memory (option_map (name_of words) image) behind_file apart
       ∙ file_written (name_of words gmon) text behind_prints
 
+  -- the file of the runtime's memory, which is written last
+  memory_holds : (rest : List Act) (d : Disk) (place : ℕ) → ((x : Disk) → disk_after rest x ≡ x) → image ≡ Some place
+      → content_of (name_of words place) (disk_after (due ++ rest) d).files ≡ memory_text bytes setup
+  memory_holds rest d place keeps is =
+      let prints = (world_of bytes setup).prints in
+      let one = file_acts (name_of words gmon) (gmon_text form bytes setup) in
+      let memory = memory_text bytes setup in
+      let two = given_file_acts (option_map (name_of words) image) memory in
+      let content = λ (x : Disk). content_of (name_of words place) x.files in
+      let behind_prints = disk_after prints d in
+      let behind_file = disk_after one behind_prints in
+      ap content (disk_after-append (prints ++ (one ++ two)) rest d)
+      ∙ ap (λ (x : Disk). content (disk_after rest x)) (disk_after-append prints (one ++ two) d ∙ disk_after-append one two behind_prints)
+      ∙ ap content (keeps (disk_after two behind_file))
+      ∙ ap (λ (o : Option ℕ). content (disk_after (given_file_acts (option_map (name_of words) o) memory) behind_file)) is
+      ∙ file_written (name_of words place) memory behind_file
+
+  -- what is printed on the error output
+  run_complains : (rest : List Act) → complained (due ++ rest) ≡ complained (world_of bytes setup).prints ++ complained rest
+  run_complains rest =
+      let prints = (world_of bytes setup).prints in
+      let one = file_acts (name_of words gmon) (gmon_text form bytes setup) in
+      let memory = memory_text bytes setup in
+      let two = given_file_acts (option_map (name_of words) image) memory in
+      let run : complained (prints ++ (one ++ two)) ≡ complained prints =
+      complained-append prints (one ++ two) ∙ ap (λ (text : List ℕ). complained prints ++ text) (no_complaints (option_map (name_of words) image) memory) ∙ append-nil (complained prints) in
+      complained-append (prints ++ (one ++ two)) rest ∙ ap (λ (text : List ℕ). text ++ complained rest) run
+
   -- what is printed
   run_prints : (rest : List Act) → prints_of (due ++ rest) ≡ prints_of (world_of bytes setup).prints ++ prints_of rest
   run_prints rest =
@@ -252,6 +320,9 @@ module _ (contents : ℕ → List ℕ) (chosen : Chosen) (s : Sources) (done : D
   reports_go : IsDone contents (all_reports chosen s (Ends (Ok done))) → reply_to contents (all_reports chosen s (Ends (Ok done))) ≡ reply_to contents reports
   reports_go goes = unless_goes contents too_wide (wide_step chosen.exact s) reports goes
 
+  reports_end : (reply_to contents reports).ending ≡ Ok done
+  reports_end = shown_end contents s chosen.shown chosen.hidden (exact_report chosen.exact s (Ends (Ok done))) ∙ exact_end contents s chosen.exact done
+
   reports_keep : (line : List ℕ) (d : Disk) → disk_after ((reply_to contents reports).acts ++ Complain line ∷ []) d ≡ d
   reports_keep line d =
       shown_keep contents s chosen.shown chosen.hidden (exact_report chosen.exact s (Ends (Ok done))) (Complain line ∷ []) d ∙ exact_keep contents s chosen.exact done line d
@@ -261,10 +332,44 @@ module _ (contents : ℕ → List ℕ) (chosen : Chosen) (s : Sources) (done : D
       shown_print contents s chosen.shown chosen.hidden (exact_report chosen.exact s (Ends (Ok done))) (Complain line ∷ [])
       ∙ ap (λ (text : List ℕ). reports_of chosen.shown chosen.hidden s ++ text) (exact_print contents s chosen.exact done line)
 
+  reports_complain : (line : List ℕ) → complained ((reply_to contents reports).acts ++ Complain line ∷ []) ≡ line
+  reports_complain line =
+      shown_complain contents s chosen.shown chosen.hidden (exact_report chosen.exact s (Ends (Ok done))) (Complain line ∷ []) ∙ exact_complain contents s chosen.exact done line
+
 time_is_shared : (image : Image) (total : Content) → TimeIsShared (sources_of image total)
-time_is_shared image total = record { graph = graph_of_sources image total; flow = flow_of_sources image total; conserved = all_attributed image total }
+time_is_shared image total =
+    let s = sources_of image total in
+    let is = graph_of_sources image total in
+    let flow = flow_of_sources image total in
+    record {
+      graph = is;
+      flow = flow;
+      parts = λ i low out. parts_near s.graph s.shares.of s.flow is flow i low out;
+      whole = λ d low some. parts_all s.graph s.shares.of s.flow is flow d some;
+      conserved = all_attributed image total;
+      entries = root_entries s (of_one image total);
+    }
 
 -- ---- what the commands leave
+
+-- how a command ends that ran a program
+abbrev ended_with : List ℕ → Setup → Result Done Fault
+ended_with program setup = Ok (record { run = summary_of (text_sizes program setup) (world_of program setup) })
+
+abbrev run_in : Result Done Fault → Option RunSummary
+run_in (Ok done) = done.run
+run_in (Err fault) = None
+
+-- where the file is told, the program's is told too
+says_run : (words : List (List ℕ)) (program : List ℕ) (elf gmon : ℕ) (form : Form) (setup : Setup) (f : Disk → Disk) (a c : Option Disk)
+    → MatchOption c ⊤ (λ _. IfSome a (λ d. program ≡ content_of (name_of words elf) d.files))
+    → MatchOption c ⊤ (λ _. IfSome a (λ d. FitsFile form (content_of (name_of words elf) d.files) setup))
+    → IfSome c (λ d. content_of (name_of words gmon) d.files ≡ gmon_text form program setup)
+    → Becomes f a c → IfSome c (λ d. SaysRun form program setup (content_of (name_of words gmon) d.files))
+says_run words program elf gmon form setup f a None is_told fits file same = tt
+says_run words program elf gmon form setup f None (Some z) is_told fits file same = absurd cc
+says_run words program elf gmon form setup f (Some x) (Some z) is_told fits file same =
+    subst (SaysRun form program setup) (sym file) (run_files_read_back form program setup (subst (λ (bytes : List ℕ). FitsFile form bytes setup) (sym is_told) fits))
 
 module _ (words : List (List ℕ)) (old new : Outside) (done : Done) (answered : Answered words old new (Ok done)) where
   abbrev contents : ℕ → List ℕ
@@ -283,35 +388,59 @@ module _ (words : List (List ℕ)) (old new : Outside) (done : Done) (answered :
       let acts = answered.owed.owes.1 ∙ ap (λ (r : Reply). r.acts) (ap (reply_to contents) (ap (command_course words) said) ∙ is) in
       subst (λ (acts : List Act). Did (acts ++ Complain answered.line ∷ []) (opening answered.opens old) new) acts answered.did
 
+  -- how it ended, by the course
+  ended_by : (command : Option Command) (reply : Reply) → command_of words ≡ command → reply_to contents (command_course words command) ≡ reply → Ok done ≡ reply.ending
+  ended_by command reply said is = answered.owed.owes.0 ∙ ap (λ (r : Reply). r.ending) (ap (reply_to contents) (ap (command_course words) said) ∙ is)
+
   -- a run, of which the acts that follow leave all files as they are
-  run_is_written : (elf gmon : ℕ) (form : Form) (image : Option ℕ) (setup : Setup) (rest : List Act) → IsProgramFile (contents elf) → Starts (contents elf) setup → IsApart words gmon image
+  run_is_written : (elf gmon : ℕ) (form : Form) (image : Option ℕ) (setup : Setup) (rest : List Act) → IsProgramFile (contents elf) → Starts (contents elf) setup → FitsWhereTold words old new elf form setup
       → ((x : Disk) → disk_after rest x ≡ x) → Did (due words contents elf gmon form image setup ++ rest) (opening answered.opens old) new
-      → RunIsWritten words old new elf gmon form setup (contents elf)
-  run_is_written elf gmon form image setup rest accepted starts apart keeps did =
+      → RunIsWritten words old new elf gmon form image setup (contents elf)
+  run_is_written elf gmon form image setup rest accepted starts fits keeps did =
+      let program = contents elf in
+      let is_told = told_word old new words contents elf answered.owed.told in
+      let file : IsApart words gmon image → IfSome new.disk (λ d. content_of (name_of words gmon) d.files ≡ gmon_text form program setup) =
+      λ apart. told_file old.disk new.disk _ (name_of words gmon) (gmon_text form program setup) did.disk (λ d. file_holds words contents elf gmon form image setup rest d keeps apart) in
       record {
-        told = told_word old new words contents elf answered.owed.told;
+        told = is_told;
         accepted = accepted;
         starts = starts;
-        file = told_file old.disk new.disk _ (name_of words gmon) (gmon_text form (contents elf) setup) did.disk (λ d. file_holds words contents elf gmon form image setup rest d keeps apart);
+        file = file;
+        says = λ apart. says_run words program elf gmon form setup _ old.disk new.disk is_told fits (file apart) did.disk;
+        memory = λ place is. told_file old.disk new.disk _ (name_of words place) (memory_text program setup) did.disk (λ d. memory_holds words contents elf gmon form image setup rest d place keeps is);
       }
 
   -- what acts print was printed
   was_printed : (acts : List Act) (text : List ℕ) → prints_of acts ≡ text → Did acts (opening answered.opens old) new → Becomes (λ bytes. bytes ++ text) old.out new.out
   was_printed acts text is did = Becomes-by _ _ old.out new.out (λ b. ap (λ (t : List ℕ). b ++ t) is) did.out
 
-  run_leaves : (elf gmon : ℕ) (form : Form) (image : Option ℕ) (setup : Setup) → command_of words ≡ Some (Run elf gmon form image setup) → IsApart words gmon image
-      → RunLeaves words old new elf gmon form setup
-  run_leaves elf gmon form image setup said apart =
+  -- a run, of which the acts that follow print nothing on the error output but the last line
+  run_is_told : (program : List ℕ) (setup : Setup) (acts : List Act) → Ok done ≡ ended_with program setup → complained acts ≡ complained (world_of program setup).prints ++ answered.line
+      → Did acts (opening answered.opens old) new → RunIsTold words old new done setup program
+  run_is_told program setup acts ending is did = record {
+    summary = ap run_in ending;
+    line = answered.line;
+    before = answered.err;
+    ends = answered.ends;
+    errors = Becomes-by _ _ old.err new.err (λ b. ap (λ (t : List ℕ). b ++ t) is) did.err;
+  }
+
+  run_leaves : (elf gmon : ℕ) (form : Form) (image : Option ℕ) (setup : Setup) → command_of words ≡ Some (Run elf gmon form image setup) → FitsWhereTold words old new elf form setup
+      → RunLeaves words old new done elf gmon form image setup
+  run_leaves elf gmon form image setup said fits =
       let command = Some (Run elf gmon form image setup) in
       let acts = due words contents elf gmon form image setup in
       let line = Complain answered.line ∷ [] in
+      let prints = (world_of (contents elf) setup).prints in
       let taken : IsAccepted words contents command = all_taken command said in
       let reply = run_goes words contents elf gmon form image setup (λ i. told) (well_done command said) in
       let did = subst (λ (acts : List Act). Did acts (opening answered.opens old) new) (append_assoc acts [] line) (done_by command _ said reply) in
       record {
         program = contents elf;
-        written = run_is_written elf gmon form image setup line taken.0 taken.1 apart (λ x. refl) did;
-        output = was_printed (acts ++ line) _ (run_prints words contents elf gmon form image setup line ∙ append-nil (prints_of (world_of (contents elf) setup).prints)) did;
+        written = run_is_written elf gmon form image setup line taken.0 taken.1 fits (λ x. refl) did;
+        output = was_printed (acts ++ line) _ (run_prints words contents elf gmon form image setup line ∙ append-nil (prints_of prints)) did;
+        told = run_is_told (contents elf) setup (acts ++ line) (ended_by command _ said reply)
+            (run_complains words contents elf gmon form image setup line ∙ ap (λ (text : List ℕ). complained prints ++ text) (append-nil answered.line)) did;
       }
 
   report_leaves : (elf : ℕ) (gmons : List ℕ) (selection : Selection) → command_of words ≡ Some (Report elf gmons selection) → ReportLeaves words old new elf gmons (chosen_by words selection)
@@ -339,9 +468,29 @@ module _ (words : List (List ℕ)) (old new : Outside) (done : Done) (answered :
         fits = taken.2;
       }
 
-  profile_leaves : (elf gmon : ℕ) (form : Form) (image : Option ℕ) (setup : Setup) (selection : Selection) → command_of words ≡ Some (Profile elf gmon form image setup selection)
-      → IsApart words gmon image → Headline words old new elf gmon form setup (chosen_by words selection)
-  profile_leaves elf gmon form image setup selection said apart =
+  listing_leaves : (elf : ℕ) (gmons : List ℕ) → command_of words ≡ Some (Annotate elf gmons) → ListingLeaves words old new elf gmons
+  listing_leaves elf gmons said =
+      let command = Some (Annotate elf gmons) in
+      let program = contents elf in
+      let image = image_of program in
+      let taken : IsAccepted words contents command = all_taken command said in
+      let goes = well_done command said in
+      let read = program_goes contents elf (list_profiles gmons) goes in
+      let summed = still_done contents (annotate_course elf gmons) (list_profiles gmons program image) read goes in
+      let next : Content → Course = λ t. Does (Out (annotated_text image program t) ∷ []) ended in
+      let added = profiles_go contents [] gmons MAX_PROFILE_BYTES empty_content next nothing_added summed in
+      let did = done_by command _ said (read ∙ added) in
+      record {
+        contents = contents;
+        told = answered.owed.told;
+        accepted = taken.0;
+        profiles = taken.1;
+        output = was_printed _ _ (append-nil (annotated_text image program (total_of contents gmons))) did;
+      }
+
+  profile_leaves : (elf gmon : ℕ) (form : Form) (image : Option ℕ) (setup : Setup) (selection : Selection) → command_of words ≡ Some (Profile elf gmon form image setup selection) → FitsWhereTold words old new elf form setup
+      → Headline words old new done elf gmon form image setup (chosen_by words selection)
+  profile_leaves elf gmon form image setup selection said fits =
       let command = Some (Profile elf gmon form image setup selection) in
       let chosen = chosen_by words selection in
       let program = contents elf in
@@ -353,36 +502,39 @@ module _ (words : List (List ℕ)) (old new : Outside) (done : Done) (answered :
       let taken : IsAccepted words contents command = all_taken command said in
       let goes = well_done command said in
       let ran = run_goes words contents elf gmon form image setup (report_run form setup.rate chosen) goes in
-      let after = all_reports chosen sources (told z w) in
       let printed = reports_go contents chosen sources _ (subst (λ (r : Reply). IsOk r.ending) ran goes) in
+      let reply = ran ∙ ap (behind acts) printed in
       let last = (reply_to contents (reports contents chosen sources _)).acts in
-      let did = subst (λ (acts : List Act). Did acts (opening answered.opens old) new) (append_assoc acts last line) (done_by command _ said (ran ∙ ap (behind acts) printed)) in
+      let did = subst (λ (acts : List Act). Did acts (opening answered.opens old) new) (append_assoc acts last line) (done_by command _ said reply) in
       record {
         program = program;
-        written = run_is_written elf gmon form image setup (last ++ line) taken.0 taken.1 apart (reports_keep contents chosen sources _ answered.line) did;
+        written = run_is_written elf gmon form image setup (last ++ line) taken.0 taken.1 fits (reports_keep contents chosen sources _ answered.line) did;
         output = was_printed (acts ++ (last ++ line)) _ (run_prints words contents elf gmon form image setup (last ++ line)
             ∙ ap (λ (text : List ℕ). prints_of w.prints ++ text) (reports_print contents chosen sources _ answered.line)) did;
+        told = run_is_told program setup (acts ++ (last ++ line)) (ended_by command _ said reply ∙ reports_end contents chosen sources _)
+            (run_complains words contents elf gmon form image setup (last ++ line) ∙ ap (λ (text : List ℕ). complained w.prints ++ text) (reports_complain contents chosen sources _ answered.line)) did;
         shared = time_is_shared (image_of program) (without_cuts (written_profile form z w.log setup.rate) (image_of program).symbols chosen.cuts);
         fits = taken.2;
       }
 
-  leaves_by : (command : Option Command) → command_of words ≡ command → Leaves words old new command
-  leaves_by None said = tt
-  leaves_by (Some (Show gmon)) said = tt
-  leaves_by (Some (Syms elf)) said = tt
-  leaves_by (Some (Sum out gmons)) said = tt
-  leaves_by (Some (Report elf gmons selection)) said = report_leaves elf gmons selection said
-  leaves_by (Some (Run elf gmon form image setup)) said = run_leaves elf gmon form image setup said
-  leaves_by (Some (Profile elf gmon form image setup selection)) said = profile_leaves elf gmon form image setup selection said
-  leaves_by (Some (Demo functions elf setup)) said = tt
-  leaves_by (Some (Annotate elf gmons)) said = tt
-  leaves_by (Some (Folded elf inclusive setup)) said = tt
-  leaves_by (Some Help) said = tt
-  leaves_by (Some Version) said = tt
+  leaves_by : (command : Option Command) → command_of words ≡ command → RunFits words old new command → Leaves words old new done command
+  leaves_by None said fits = tt
+  leaves_by (Some (Show gmon)) said fits = tt
+  leaves_by (Some (Syms elf)) said fits = tt
+  leaves_by (Some (Sum out gmons)) said fits = tt
+  leaves_by (Some (Report elf gmons selection)) said fits = report_leaves elf gmons selection said
+  leaves_by (Some (Run elf gmon form image setup)) said fits = run_leaves elf gmon form image setup said fits
+  leaves_by (Some (Profile elf gmon form image setup selection)) said fits = profile_leaves elf gmon form image setup selection said fits
+  leaves_by (Some (Demo functions elf setup)) said fits = tt
+  leaves_by (Some (Annotate elf gmons)) said fits = listing_leaves elf gmons said
+  leaves_by (Some (Folded elf inclusive setup)) said fits = tt
+  leaves_by (Some Help) said fits = tt
+  leaves_by (Some Version) said fits = tt
 
-pub leaves : (words : List (List ℕ)) (old new : Outside) (done : Done) → Answered words old new (Ok done) → Leaves words old new (command_of words)
-leaves words old new done answered = leaves_by words old new done answered (command_of words) refl
+pub executions_listed : ExecutionsAreListed
+executions_listed program setup contents gmon i says counts below =
+    let at = (text_sizes program setup).low + 4 * i in
+    ap (λ (recs : List WideRec). runs_at at (content_in recs).blocks) (append-nil (records_of (contents gmon))) ∙ says.executions counts i below
 
-pub headline : (words : List (List ℕ)) (old new : Outside) (done : Done) (elf gmon : ℕ) (form : Form) (image : Option ℕ) (setup : Setup) (selection : Selection) → Answered words old new (Ok done)
-    → command_of words ≡ Some (Profile elf gmon form image setup selection) → IsApart words gmon image → Headline words old new elf gmon form setup (chosen_by words selection)
-headline words old new done elf gmon form image setup selection answered said apart = profile_leaves words old new done answered elf gmon form image setup selection said apart
+pub leaves : (words : List (List ℕ)) (old new : Outside) (done : Done) → Answered words old new (Ok done) → RunFits words old new (command_of words) → Leaves words old new done (command_of words)
+leaves words old new done answered fits = leaves_by words old new done answered (command_of words) refl fits

@@ -3,7 +3,9 @@ pub mod Numerals
 pub mod ItemLemmas
 pub mod WordLemmas
 pub mod PlaceLemmas
+pub mod LineLengths
 pub mod Standing
+pub mod ToldLemmas
 pub mod Accepting
 pub mod Performing
 pub mod ProfileSizeLemmas
@@ -14,8 +16,10 @@ pub mod Folding
 pub mod LastLine
 pub mod CompletenessLemmas
 pub mod AcceptanceLemmas
+pub mod RefusalLemmas
 pub mod TellingLemmas
 pub mod FileLemmas
+pub mod RunFileLemmas
 pub mod HeadlineLemmas
 pub mod Showable
 pub mod SourceLemmas
@@ -23,3 +27,4 @@ pub mod Profiling
 pub mod DemoLemmas
 pub mod LineLemmas
 pub mod Demonstrating
+pub mod DoneLemmas

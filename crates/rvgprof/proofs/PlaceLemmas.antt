@@ -158,11 +158,11 @@ module _ (words : List (List ℕ)) where
   run_holds (Some (a ∷ b ∷ c ∷ [])) None image setup is = tt
   run_holds (Some (a ∷ b ∷ c ∷ [])) (Some gnu) None setup is = tt
   run_holds (Some (a ∷ b ∷ c ∷ [])) (Some gnu) (Some image) None is = tt
-  run_holds (Some (a ∷ b ∷ c ∷ [])) (Some gnu) (Some image) (Some setup) is = by (may_count (form_asked gnu) setup.blocks)
+  run_holds (Some (a ∷ b ∷ c ∷ [])) (Some gnu) (Some image) (Some setup) is = by (may_count (form_asked gnu) setup.blocks) refl
     where
-      by : (x : Bool) → IfSome (if x then Some (Run b c (form_asked gnu) image setup) else None) (IsCommandOf words)
-      by true = is
-      by false = tt
+      by : (x : Bool) → may_count (form_asked gnu) setup.blocks ≡ x → IfSome (if x then Some (Run b c (form_asked gnu) image setup) else None) (IsCommandOf words)
+      by true may = (is, may)
+      by false may = tt
 
   pub profile_holds : (run : Option Command) (selection : Option Selection) → IfSome run (IsCommandOf words) → IfSome selection (AreCuts words) → IfSome (profile_from run selection) (IsCommandOf words)
   profile_holds None selection is cuts = tt

@@ -38,7 +38,7 @@ both a None P Q R h p q = tt
 both None (Some z) P Q R h p q = tt
 both (Some x) (Some z) P Q R h p q = h x.files p q
 
-weaker : (a c : Option Disk) (P R : List File → Type 0) → ((files : List File) → P files → R files) → Told a c P → Told a c R
+pub weaker : (a c : Option Disk) (P R : List File → Type 0) → ((files : List File) → P files → R files) → Told a c P → Told a c R
 weaker a c P R h p = both a c P P R (λ files x y. h files x) p p
 
 -- a content that is told at a moment was told before
@@ -48,7 +48,7 @@ further f a None (Some z) P same h = absurd cc
 further f a (Some y) (Some z) P same h = h
 
 -- what holds of the files afterwards holds of those before, if they are the same
-told_back : (a b : Option Disk) (P : List File → Type 0) → Becomes (λ d. d) a b → IfSome b (λ d. P d.files) → Told a b P
+pub told_back : (a b : Option Disk) (P : List File → Type 0) → Becomes (λ d. d) a b → IfSome b (λ d. P d.files) → Told a b P
 told_back a None P same h = tt
 told_back None (Some y) P same h = absurd cc
 told_back (Some x) (Some y) P same h =

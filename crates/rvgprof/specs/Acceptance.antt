@@ -4,16 +4,15 @@ use Rattle.std.specs.List.{AllByRecursion, flat_map, sum_by}
 use Rattle.gp_base.specs.declared.limits.TheConstants.{MAX_PROFILE_BYTES, MAX_ELF_BYTES}
 use Rattle.elf32_syms.specs.Refusals.{elf_refusal}
 use Rattle.elf32_syms.specs.Image.{image_of}
-use Rattle.gp_base.specs.declared.records.Form.{Form}
-use Rattle.mcount_arcs.specs.Sizes.{sizes_of}
 use Rattle.gmon_data.specs.Content.{Content, WideRec, content_of, conflict_of, empty_content, wide_records}
 use Rattle.profile_sum.specs.Sum.{clash_of}
 use Rattle.demo_elf.specs.Elf.{demo_program}
 use Rattle.prof_machine.specs.declared.setup.Setup.{Setup}
-use Rattle.prof_machine.specs.Start.{final_world, start_refusal}
+use Rattle.prof_machine.specs.Start.{start_refusal}
 use Rattle.rvgprof.specs.declared.words.Command.{Command}
 use Rattle.rvgprof.specs.declared.words.Command.TheVariants.{Show, Syms, Run, Sum, Report, Profile, Demo, Annotate, Folded, Help, Version}
-use Rattle.rvgprof.specs.Answer.{Chosen, chosen_by, chosen_sources, file_refusal, file_records, wide_step, written_profile}
+use Rattle.rvgprof.specs.Answer.{Chosen, chosen_by, chosen_sources, file_refusal, file_records, wide_step}
+use Rattle.rvgprof.specs.RunFile.{reported_profile}
 
 -- a program's file isn't refused
 pub record IsProgramFile (bytes : List ℕ) : Type 0 where
@@ -53,12 +52,6 @@ total_of contents words = content_of (flat_map (λ word. records_of (contents wo
 abbrev pub AreNarrow : Chosen → List ℕ → Content → Type 0
 AreNarrow chosen program total = wide_step chosen.exact (chosen_sources chosen (image_of program) total) ≡ None
 
--- the profile of a program's run
-abbrev pub profile_of_run : Form → List ℕ → Setup → Content
-profile_of_run form program setup =
-    let z = sizes_of (image_of program).text setup.hist setup.hash in
-    written_profile form z (final_world (image_of program) program setup).log setup.rate
-
 -- The words have a reading, and what its command needs of its inputs holds.
 abbrev pub IsAccepted : List (List ℕ) → (ℕ → List ℕ) → Option Command → Type 0
 IsAccepted words contents None = ⊥
@@ -67,7 +60,7 @@ IsAccepted words contents (Some (Syms elf)) = IsProgramFile (contents elf)
 IsAccepted words contents (Some (Sum out gmons)) = AreProfileFiles contents gmons
 IsAccepted words contents (Some (Report elf gmons selection)) = IsProgramFile (contents elf) × AreProfileFiles contents gmons × AreNarrow (chosen_by words selection) (contents elf) (total_of contents gmons)
 IsAccepted words contents (Some (Run elf gmon form image setup)) = IsProgramFile (contents elf) × Starts (contents elf) setup
-IsAccepted words contents (Some (Profile elf gmon form image setup selection)) = IsProgramFile (contents elf) × Starts (contents elf) setup × AreNarrow (chosen_by words selection) (contents elf) (profile_of_run form (contents elf) setup)
+IsAccepted words contents (Some (Profile elf gmon form image setup selection)) = IsProgramFile (contents elf) × Starts (contents elf) setup × AreNarrow (chosen_by words selection) (contents elf) (reported_profile form (contents elf) setup)
 IsAccepted words contents (Some (Demo functions elf setup)) = (elf_refusal (demo_program functions) ≡ None) × Starts (demo_program functions) setup
 IsAccepted words contents (Some (Annotate elf gmons)) = IsProgramFile (contents elf) × AreProfileFiles contents gmons
 IsAccepted words contents (Some (Folded elf inclusive setup)) = IsProgramFile (contents elf) × Starts (contents elf) setup

@@ -6,7 +6,9 @@ use Rattle.host_port.specs.Outside.{Outside, Did, Rose, opening}
 use Rattle.host_port.specs.Performing.{IsProperPrefix, FailedAt, ActFailed}
 use Rattle.rvgprof.specs.declared.outcome.Done.{Done}
 use Rattle.rvgprof.specs.declared.outcome.Fault.{Fault}
-use Rattle.rvgprof.specs.declared.outcome.Fault.TheVariants.{Usage, ReadFault, WriteFault, OutOfMemory}
+use Rattle.elf32_syms.specs.declared.refusal.ElfRefusal.TheVariants as elf
+use Rattle.gp_base.specs.declared.refusal.GmonRefusal.TheVariants as gmons
+use Rattle.rvgprof.specs.declared.outcome.Fault.TheVariants.{Usage, BadElf, BadProfile, ReadFault, WriteFault, OutOfMemory}
 use Rattle.rvgprof.specs.Words.{command_of}
 use Rattle.rvgprof.specs.Texts.{last_line}
 use Rattle.rvgprof.specs.Course.{reply_to, inputs_of, ComesTo, MayStop}
@@ -51,6 +53,12 @@ pub record Owed (words : List (List ℕ)) (old new : Outside) (err opens : ℕ) 
   pub contents : ℕ → List ℕ
   pub told : WhereTold old new (λ files. contents ≡ contents_of words files)
   pub owes : Owes words contents old new err opens done result
+
+-- what a file is refused for is a fault of its bytes, and never want of memory
+abbrev pub NamesRefusal : Fault → Type 0
+NamesRefusal (BadElf elf.OutOfMemory) = ⊥
+NamesRefusal (BadProfile gmons.OutOfMemory word) = ⊥
+NamesRefusal fault = ⊤
 
 -- no file is being written, after every answer but a write fault
 abbrev pub IsShut : Result Done Fault → Outside → Type 0

@@ -1,47 +1,43 @@
--- What the commands leave that write or report a profile, in sentences of several parts: the file, the output, and the
--- time in the report.
-use Rattle.std.specs.Prelude.{◌≡◌, ◌≢◌, ℕ, Bool, true, false, List, [], ◌++◌, codes, Option, Some, None, option_map, IfSome, ⊤}
+-- What the commands leave that write, report or list a profile, in sentences of several parts: the file, the output, and
+-- the time in the report.
+use Rattle.std.specs.Prelude.{◌≡◌, ◌≢◌, ◌<◌, ◌+◌, ◌*◌, ◌&&◌, ℕ, slice_index, Bool, true, false, List, [], ◌∷◌, ◌++◌, codes, Option, Some, None, option_map, Ok, IfSome, ⊤}
 use Rattle.elf32_syms.specs.Image.{image_of}
 use Rattle.gp_base.specs.declared.records.Form.{Form}
-use Rattle.host_port.specs.Act.{content_of}
+use Rattle.gp_base.specs.declared.records.Form.TheVariants.{Gnu}
+use Rattle.gmon_data.specs.Content.{runs_at}
+use Rattle.annotate.specs.Listing.{annotated_text}
+use Rattle.host_port.specs.Act.{complained, content_of}
 use Rattle.host_port.specs.Act.{printed as prints_of}
 use Rattle.host_port.specs.Outside.{Outside, Becomes}
 use Rattle.symbol_shares.specs.Shares.{attributed_of}
-use Rattle.call_cycles.specs.Graph.{IsGraph}
-use Rattle.call_cycles.specs.Flow.{IsFlow, time_of_roots}
+use Rattle.call_cycles.specs.Graph.{IsGraph, arc_at, arc_count, component_count, entering_of, is_outside, target_of}
+use Rattle.call_cycles.specs.Flow.{IsFlow, is_root, time_of_roots}
+use Rattle.call_cycles.specs.Sums.{sum_below, when}
+use Rattle.propagate.specs.Proportion.{IsInProportion, carried_to}
 use Rattle.flat_report.specs.Sources.{Sources}
 use Rattle.flat_report.specs.FlatText.{flat_text}
 use Rattle.graph_report.specs.GraphText.{graph_text}
 use Rattle.graph_report.specs.ExactText.{exact_text}
+use Rattle.graph_report.specs.Roots.{has_own_entry, shown_total}
 use Rattle.exact_flow.specs.Solution.{exact_flow_in}
-use Rattle.mcount_arcs.specs.declared.sizes.Sizes.{Sizes}
-use Rattle.mcount_arcs.specs.Sizes.{sizes_of}
 use Rattle.prof_machine.specs.declared.setup.Setup.{Setup}
-use Rattle.prof_machine.specs.Start.{final_world}
-use Rattle.prof_machine.specs.World.{World}
+use Rattle.prof_machine.specs.Executions.{executions_at, instructions_of}
+use Rattle.prof_machine.specs.Value.{summary_of}
+use Rattle.rvgprof.specs.declared.outcome.Done.{Done}
 use Rattle.rvgprof.specs.declared.words.Command.{Command}
-use Rattle.rvgprof.specs.declared.words.Command.TheVariants.{Run, Report, Profile}
+use Rattle.rvgprof.specs.declared.words.Command.TheVariants.{Run, Report, Profile, Annotate}
 use Rattle.rvgprof.specs.declared.words.Shown.{Shown}
 use Rattle.rvgprof.specs.declared.words.Shown.TheVariants as shows
 use Rattle.rvgprof.specs.Items.{name_of}
-use Rattle.rvgprof.specs.Answer.{Chosen, chosen_by, chosen_sources, contents_of, profile_bytes, wide_step, written_profile}
-use Rattle.rvgprof.specs.Contract.{WhereTold}
+use Rattle.rvgprof.specs.Texts.{last_line}
+use Rattle.rvgprof.specs.Answer.{Chosen, chosen_by, chosen_sources, contents_of, wide_step}
+use Rattle.rvgprof.specs.Contract.{LineEnds, WhereTold}
+use Rattle.rvgprof.specs.RunFile.{SaysRun, gmon_text, memory_text, reported_profile, text_sizes, world_of}
 use Rattle.rvgprof.specs.Acceptance.{IsProgramFile, AreProfileFiles, Starts, total_of}
-
--- the world in which the run of a program ends
-abbrev pub world_of : List ℕ → Setup → World
-world_of program setup = final_world (image_of program) program setup
-
-abbrev pub text_sizes : List ℕ → Setup → Sizes
-text_sizes program setup = sizes_of (image_of program).text setup.hist setup.hash
-
--- the gmon.out file of that run, in a form
-abbrev pub gmon_text : Form → List ℕ → Setup → List ℕ
-gmon_text form program setup = profile_bytes form setup (text_sizes program setup) (world_of program setup)
 
 -- what is reported: what that file says, without the calls that are cut
 abbrev pub reported : Chosen → Form → List ℕ → Setup → Sources
-reported chosen form program setup = chosen_sources chosen (image_of program) (written_profile form (text_sizes program setup) (world_of program setup).log setup.rate)
+reported chosen form program setup = chosen_sources chosen (image_of program) (reported_profile form program setup)
 
 -- the reports that are asked for
 abbrev pub reports_of : Shown → List (List ℕ) → Sources → List ℕ
@@ -57,29 +53,65 @@ exact_of true s = codes "\n" ++ exact_text s.symbols s.graph (exact_flow_in s.gr
 abbrev pub printed_of : Chosen → Sources → List ℕ
 printed_of chosen s = reports_of chosen.shown chosen.hidden s ++ exact_of chosen.exact s
 
+-- the memory of the runtime isn't written into the file of the profile
+abbrev pub IsApart : List (List ℕ) → ℕ → Option ℕ → Type 0
+IsApart words gmon image = option_map (name_of words) image ≢ Some (name_of words gmon)
+
 -- A run's program is accepted and its run starts, for some bytes of it: for those that are told before and after,
 -- where they are.
-pub record RunIsWritten (words : List (List ℕ)) (old new : Outside) (elf gmon : ℕ) (form : Form) (setup : Setup) (program : List ℕ) : Type 0 where
+pub record RunIsWritten (words : List (List ℕ)) (old new : Outside) (elf gmon : ℕ) (form : Form) (image : Option ℕ) (setup : Setup) (program : List ℕ) : Type 0 where
   pub told : WhereTold old new (λ files. program ≡ content_of (name_of words elf) files)
   pub accepted : IsProgramFile program
   pub starts : Starts program setup
-  -- GMON holds the file of the run
-  pub file : IfSome new.disk (λ d. content_of (name_of words gmon) d.files ≡ gmon_text form program setup)
+  -- GMON holds the file of the run ..
+  pub file : IsApart words gmon image → IfSome new.disk (λ d. content_of (name_of words gmon) d.files ≡ gmon_text form program setup)
+  -- .. which is read as what happened in the run
+  pub says : IsApart words gmon image → IfSome new.disk (λ d. SaysRun form program setup (content_of (name_of words gmon) d.files))
+  -- the file that is named for it holds the memory of the runtime, also where that is GMON
+  pub memory : (place : ℕ) → image ≡ Some place → IfSome new.disk (λ d. content_of (name_of words place) d.files ≡ memory_text program setup)
+
+-- How a run went is told: in the answer, and in the end line, of which a prefix is printed where complaining fails. The
+-- number is how often complaining had failed before it.
+pub record RunIsTold (words : List (List ℕ)) (old new : Outside) (done : Done) (setup : Setup) (program : List ℕ) : Type 0 where
+  pub summary : done.run ≡ summary_of (text_sizes program setup) (world_of program setup)
+  pub line : List ℕ
+  pub before : ℕ
+  pub ends : LineEnds line (last_line words (Ok done)) before new.err_faults
+  -- what the program prints on the error output stands before the line
+  pub errors : Becomes (λ bytes. bytes ++ (complained (world_of program setup).prints ++ line)) old.err new.err
+
+-- an arc carries its part of both times of the component that it enters
+abbrev pub ArcIsInProportion : Sources → ℕ → Type 0
+ArcIsInProportion s i =
+    let d = target_of s.graph i in
+    IsInProportion (slice_index s.flow.arc_self i) (slice_index s.flow.self d) (arc_at s.graph i).count (entering_of s.graph d)
+    × IsInProportion (slice_index s.flow.arc_child i) (slice_index s.flow.child d) (arc_at s.graph i).count (entering_of s.graph d)
+
+-- the arcs that enter a component carry all of both
+abbrev pub IsCarried : Sources → ℕ → Type 0
+IsCarried s d = (carried_to s.graph (slice_index s.flow.arc_self) d ≡ slice_index s.flow.self d) × (carried_to s.graph (slice_index s.flow.arc_child) d ≡ slice_index s.flow.child d)
 
 -- The time of a report is shared out.
 pub record TimeIsShared (s : Sources) : Type 0 where
-  -- each caller gets of its callee's time what its calls are of all that enter the callee's component
+  -- each caller gets of its callee's time what its calls are of all that enter the callee's component ..
   pub graph : IsGraph s.graph
   pub flow : IsFlow s.graph s.shares.of s.flow
-  -- those without callers from outside have together all that is attributed
+  -- .. that is its time in proportion to the calls, but for less than a grain ..
+  pub parts : (i : ℕ) → i < arc_count s.graph → is_outside s.graph i ≡ true → ArcIsInProportion s i
+  -- .. and the callers together get all of it
+  pub whole : (d : ℕ) → d < component_count s.graph → entering_of s.graph d ≢ 0 → IsCarried s d
+  -- those without callers from outside have together all that is attributed ..
   pub conserved : time_of_roots s.graph s.flow ≡ attributed_of s.shares
+  -- .. and so have their entries in the call graph
+  pub entries : sum_below (component_count s.graph) (λ c. when (is_root s.graph c && has_own_entry s c) (shown_total s c)) ≡ attributed_of s.shares
 
 -- what `run` leaves
-pub record RunLeaves (words : List (List ℕ)) (old new : Outside) (elf gmon : ℕ) (form : Form) (setup : Setup) : Type 0 where
+pub record RunLeaves (words : List (List ℕ)) (old new : Outside) (done : Done) (elf gmon : ℕ) (form : Form) (image : Option ℕ) (setup : Setup) : Type 0 where
   pub program : List ℕ
-  pub written : RunIsWritten words old new elf gmon form setup program
+  pub written : RunIsWritten words old new elf gmon form image setup program
   -- what the program prints was printed
   pub output : Becomes (λ bytes. bytes ++ prints_of (world_of program setup).prints) old.out new.out
+  pub told : RunIsTold words old new done setup program
 
 -- what is reported of files: the sum of what they say, without the calls that are cut
 abbrev pub reported_of : Chosen → (ℕ → List ℕ) → ℕ → List ℕ → Sources
@@ -97,22 +129,34 @@ pub record ReportLeaves (words : List (List ℕ)) (old new : Outside) (elf : ℕ
   -- no step of the exact times is too wide, where these are asked for
   pub fits : wide_step chosen.exact (reported_of chosen contents elf gmons) ≡ None
 
+-- what `annotate` leaves, for some contents of its files: the listing of the sum of what they say
+pub record ListingLeaves (words : List (List ℕ)) (old new : Outside) (elf : ℕ) (gmons : List ℕ) : Type 0 where
+  pub contents : ℕ → List ℕ
+  pub told : WhereTold old new (λ files. contents ≡ contents_of words files)
+  pub accepted : IsProgramFile (contents elf)
+  pub profiles : AreProfileFiles contents gmons
+  pub output : Becomes (λ bytes. bytes ++ annotated_text (image_of (contents elf)) (contents elf) (total_of contents gmons)) old.out new.out
+
+-- A cell of a listing shows the executions at its address. In that of one file of a run that counted them, these are how
+-- often the instruction there retired in the run.
+abbrev pub ExecutionsAreListed : Type 0
+ExecutionsAreListed = (program : List ℕ) (setup : Setup) (contents : ℕ → List ℕ) (gmon i : ℕ) → SaysRun Gnu program setup (contents gmon) → setup.blocks ≡ true → i < instructions_of (text_sizes program setup)
+    → runs_at ((text_sizes program setup).low + 4 * i) (total_of contents (gmon ∷ [])).blocks ≡ executions_at (world_of program setup).ran ((text_sizes program setup).low + 4 * i)
+
 -- what `profile` leaves
-pub record Headline (words : List (List ℕ)) (old new : Outside) (elf gmon : ℕ) (form : Form) (setup : Setup) (chosen : Chosen) : Type 0 where
+pub record Headline (words : List (List ℕ)) (old new : Outside) (done : Done) (elf gmon : ℕ) (form : Form) (image : Option ℕ) (setup : Setup) (chosen : Chosen) : Type 0 where
   pub program : List ℕ
-  pub written : RunIsWritten words old new elf gmon form setup program
+  pub written : RunIsWritten words old new elf gmon form image setup program
   -- what the program prints, and then the reports, were printed
   pub output : Becomes (λ bytes. bytes ++ (prints_of (world_of program setup).prints ++ printed_of chosen (reported chosen form program setup))) old.out new.out
+  pub told : RunIsTold words old new done setup program
   pub shared : TimeIsShared (reported chosen form program setup)
   pub fits : wide_step chosen.exact (reported chosen form program setup) ≡ None
 
--- the memory of the runtime isn't written into the file of the profile
-abbrev pub IsApart : List (List ℕ) → ℕ → Option ℕ → Type 0
-IsApart words gmon image = option_map (name_of words) image ≢ Some (name_of words gmon)
-
--- what a command leaves where it is carried out, of those that write or report a profile
-abbrev pub Leaves : List (List ℕ) → Outside → Outside → Option Command → Type 0
-Leaves words old new (Some (Run elf gmon form image setup)) = IsApart words gmon image → RunLeaves words old new elf gmon form setup
-Leaves words old new (Some (Report elf gmons selection)) = ReportLeaves words old new elf gmons (chosen_by words selection)
-Leaves words old new (Some (Profile elf gmon form image setup selection)) = IsApart words gmon image → Headline words old new elf gmon form setup (chosen_by words selection)
-Leaves words old new command = ⊤
+-- what a command leaves where it is carried out, of those that write, report or list a profile
+abbrev pub Leaves : List (List ℕ) → Outside → Outside → Done → Option Command → Type 0
+Leaves words old new done (Some (Run elf gmon form image setup)) = RunLeaves words old new done elf gmon form image setup
+Leaves words old new done (Some (Report elf gmons selection)) = ReportLeaves words old new elf gmons (chosen_by words selection)
+Leaves words old new done (Some (Profile elf gmon form image setup selection)) = Headline words old new done elf gmon form image setup (chosen_by words selection)
+Leaves words old new done (Some (Annotate elf gmons)) = ListingLeaves words old new elf gmons
+Leaves words old new done command = ⊤

@@ -11,6 +11,7 @@ pub mod FoldedReport
 pub mod Answer
 pub mod Contract
 pub mod Completeness
+pub mod RunFile
 pub mod Acceptance
 pub mod Headline
 pub mod Standing

@@ -1,30 +1,32 @@
 //! What follows from the contract of the program.
 
-ghost use Rattle.std.specs.Prelude.{◌≡◌, ◌↔◌, ◌⊎◌, ◌++◌, ℕ, List, [], true, Option, Some, Result, Ok, Err, IsOk};
-ghost use Rattle.gp_base.specs.declared.records.Form.{Form as AnyForm};
+ghost use Rattle.std.specs.Prelude.{◌≡◌, ◌<◌, ◌↔◌, ◌⊎◌, ◌++◌, ℕ, List, true, None, Result, Err, IsOk, [], length};
 ghost use Rattle.host_port.specs.Act.{Act};
 ghost use Rattle.host_port.specs.Outside.{Outside};
-ghost use Rattle.prof_machine.specs.declared.setup.Setup.{Setup as AnySetup};
 ghost use Rattle.rvgprof.specs.declared.outcome.Done.{Done};
 ghost use Rattle.rvgprof.specs.declared.outcome.Fault.{Fault};
 ghost use Rattle.rvgprof.specs.declared.outcome.Fault.TheVariants.{OutOfMemory};
-ghost use Rattle.rvgprof.specs.declared.words.Command.TheVariants.{Profile};
-ghost use Rattle.rvgprof.specs.declared.words.Selection.{Selection as AnySelection};
 ghost use Rattle.rvgprof.specs.Words.{command_of};
 ghost use Rattle.rvgprof.specs.Course.{Course, reply_to, MayStop};
-ghost use Rattle.rvgprof.specs.Answer.{chosen_by, course_of};
-ghost use Rattle.rvgprof.specs.Contract.{Answered, LineEnds};
+ghost use Rattle.rvgprof.specs.Answer.{contents_of, course_of};
+ghost use Rattle.rvgprof.specs.Contract.{Answered, LineEnds, WhereTold};
 ghost use Rattle.rvgprof.specs.Completeness.{Stayed, NoneFailed, Complete};
 ghost use Rattle.rvgprof.specs.Acceptance.{IsAccepted, acts_at_once};
-ghost use Rattle.rvgprof.specs.Headline.{Headline, IsApart};
+ghost use Rattle.rvgprof.specs.Headline.{ExecutionsAreListed};
+ghost use Rattle.rvgprof.specs.RunFile.{ProfileFilesAreReadBack, RunFilesAreReadBack};
 
-/// What `profile` leaves where it is carried out. GMON holds the file of the run, in which each bucket
-/// has its samples up to 65,535 and, until arcs run out, each pair its entered calls, latest first per
-/// call site. The reports were printed of what this file says: every caller's share is its callee's time
-/// in proportion to calls, and the entries without outside callers together hold every attributed sample.
-pub fn headline()
-    ensures { (words : List (List ℕ)) (old new : Outside) (done : Done) (elf gmon : ℕ) (form : AnyForm) (image : Option ℕ) (setup : AnySetup) (selection : AnySelection) → Answered words old new (Ok done)
-        → command_of words ≡ Some (Profile elf gmon form image setup selection) → IsApart words gmon image → Headline words old new elf gmon form setup (chosen_by words selection) }
+/// The files that the program writes say what they are made from, and are read in the form that their first
+/// four bytes choose: the file of a run has the samples, the calls and, where they are counted, the
+/// executions of the run, and that of a sum has the sum.
+pub fn files_read_back()
+    ensures run { RunFilesAreReadBack }
+    ensures profile { ProfileFilesAreReadBack }
+{}
+
+/// The listing of the file of a run that counted executions shows, at each multiple of 4 that begins a cell, how
+/// often the instruction there retired in that run.
+pub fn executions_are_listed()
+    ensures { ExecutionsAreListed }
 {}
 
 /// Where no call on the host failed, the program answers what the definition says, having done all that
@@ -43,9 +45,21 @@ pub fn acceptance()
     ensures { (words : List (List ℕ)) (contents : ℕ → List ℕ) → IsOk (reply_to contents (course_of words)).ending ↔ IsAccepted words contents (command_of words) }
 {}
 
+/// What is accepted is carried out, unless a call on the host failed or memory ran out.
+pub fn accepted_is_done()
+    ensures { (words : List (List ℕ)) (old new : Outside) (result : Result Done Fault) → Answered words old new result → NoneFailed words old new
+        → ((contents : ℕ → List ℕ) → WhereTold old new (λ files. contents ≡ contents_of words files) → IsAccepted words contents (command_of words)) → (result ≡ Err OutOfMemory) ⊎ IsOk result }
+{}
+
 /// Where memory ran out, what was done is a prefix of what is due, and nothing for the commands that do
 /// all at once.
 pub fn what_memory_leaves()
     ensures prefix { (contents : ℕ → List ℕ) (course : Course) (acts : List Act) → MayStop contents course acts → (rest : List Act) × ((reply_to contents course).acts ≡ acts ++ rest) }
     ensures nothing { (words : List (List ℕ)) (contents : ℕ → List ℕ) (acts : List Act) → acts_at_once (command_of words) ≡ true → MayStop contents (course_of words) acts → acts ≡ [] }
+{}
+
+/// No line of more than 200 words has a reading: a command has few operands, and each of its options may be
+/// given only so often.
+pub fn lines_are_short()
+    ensures { (words : List (List ℕ)) → 200 < length words → command_of words ≡ None }
 {}

@@ -1,6 +1,6 @@
 //! Printing the reports of a profile.
 
-ghost use Rattle.std.specs.Prelude.{◌≡◌, true, Err, length, map, string_bytes, is_some, IfOk, IfErr, IfSome};
+ghost use Rattle.std.specs.Prelude.{◌≡◌, true, Err, length, map, string_bytes, is_some, IfOk, IfErr, IfSome, OnOk};
 ghost use Rattle.arc_filter.specs.Cuts.{without_cuts};
 ghost use Rattle.elf32_syms.specs.Owners.{IsAscending};
 ghost use Rattle.exact_flow.specs.Answers.{IsWideAnswer};
@@ -12,7 +12,7 @@ ghost use Rattle.flat_report.specs.FlatText.{flat_text};
 ghost use Rattle.graph_report.specs.GraphText.{graph_text};
 ghost use Rattle.rvgprof.specs.Answer.{chosen_by, names_at};
 ghost use Rattle.rvgprof.specs.Found.{AreSources, FitTogether, IsAsked, given_sources};
-ghost use Rattle.rvgprof.specs.Standing.{PrintsAll, PrintsExact, PrintsReports, PrintsShown};
+ghost use Rattle.rvgprof.specs.Standing.{PrintsAll, PrintsExact, PrintsReports, PrintsShown, TellsNoMore};
 ghost use Rattle.rvgprof.specs.Words.{AreCuts};
 
 use crate::names::names_at;
@@ -40,7 +40,8 @@ pub fn print_reports<H: Host>(
 ) -> Result<(), Fault>
     requires ascending { IsAscending image.now.symbols }
     requires cuts { AreCuts (map string_bytes words.now) selection.now }
-    ensures { PrintsReports (chosen_by (map string_bytes words.now) selection.now) image.now total.now (H.outside host.old) (H.outside host.new) result }
+    ensures prints { PrintsReports (chosen_by (map string_bytes words.now) selection.now) image.now total.now (H.outside host.old) (H.outside host.new) result }
+    ensures told { OnOk result (TellsNoMore (H.outside host.old) (H.outside host.new)) }
 {
     let Ok(hidden) = names_at(alloc, words, selection.hidden.as_slice()) else {
         return Err(Fault::OutOfMemory);
@@ -115,7 +116,8 @@ fn print_all<H: Host>(
     requires fit { FitTogether image.now sources.now }
     requires exact { IfSome exact.now (λ e. e ≡ exact_flow_in sources.now.graph sources.now.shares.of) }
     requires times { IfSome exact.now (HasTimes sources.now.graph) }
-    ensures { PrintsAll shown (map string_bytes hidden.now) (is_some exact.now) (given_sources image.now sources.now) (H.outside host.old) (H.outside host.new) result }
+    ensures prints { PrintsAll shown (map string_bytes hidden.now) (is_some exact.now) (given_sources image.now sources.now) (H.outside host.old) (H.outside host.new) result }
+    ensures told { OnOk result (TellsNoMore (H.outside host.old) (H.outside host.new)) }
 {
     print_shown(alloc, shown, image, sources, hidden, host)?;
     match exact {
@@ -134,7 +136,8 @@ fn print_shown<H: Host>(
     host: &mut H,
 ) -> Result<(), ReportRefusal>
     requires { FitTogether image.now sources.now }
-    ensures { PrintsShown shown (map string_bytes hidden.now) (given_sources image.now sources.now) (H.outside host.old) (H.outside host.new) result }
+    ensures prints { PrintsShown shown (map string_bytes hidden.now) (given_sources image.now sources.now) (H.outside host.old) (H.outside host.new) result }
+    ensures told { OnOk result (TellsNoMore (H.outside host.old) (H.outside host.new)) }
 {
     match shown {
         Shown::Flat => print_flat(alloc, image, sources, hidden, host),
@@ -157,7 +160,8 @@ fn print_exact<H: Host>(
     requires fit { FitTogether image.now sources.now }
     requires exact { exact.now ≡ exact_flow_in sources.now.graph sources.now.shares.of }
     requires times { HasTimes sources.now.graph exact.now }
-    ensures { PrintsExact (given_sources image.now sources.now) (H.outside host.old) (H.outside host.new) result }
+    ensures prints { PrintsExact (given_sources image.now sources.now) (H.outside host.old) (H.outside host.new) result }
+    ensures told { OnOk result (TellsNoMore (H.outside host.old) (H.outside host.new)) }
 {
     print_text(b"\n", host)?;
     write_exact(

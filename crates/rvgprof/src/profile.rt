@@ -1,12 +1,12 @@
 //! The command `profile`.
 
-ghost use Rattle.std.specs.Prelude.{◌≡◌, [], map, string_bytes, IfOk};
+ghost use Rattle.std.specs.Prelude.{◌≡◌, [], map, string_bytes, IfOk, OnOk};
 ghost use Rattle.elf32_syms.specs.Owners.{IsAscending};
-ghost use Rattle.prof_machine.specs.Setup.{IsSetup};
 ghost use Rattle.rvgprof.specs.Answer.{chosen_by, files_named, profile_course};
 ghost use Rattle.rvgprof.specs.Contract.{Acted};
+ghost use Rattle.rvgprof.specs.RunFile.{FitsWhereTold};
 ghost use Rattle.rvgprof.specs.Standing.{Stands};
-ghost use Rattle.rvgprof.specs.Words.{AreCuts};
+ghost use Rattle.rvgprof.specs.Words.{AreCuts, IsRunSetup};
 
 use crate::inputs::read_program;
 use crate::outcome::{Done, Fault};
@@ -30,9 +30,10 @@ pub fn profile<H: Host>(
 ) -> Result<Done, Fault>
     requires stands { Stands (map string_bytes words.now) (H.outside host.old) (H.outside host.old) 0 []
         (profile_course elf (files_named (map string_bytes words.now) outputs.gmon outputs.form outputs.image) setup (chosen_by (map string_bytes words.now) selection.now)) }
-    requires within { IsSetup setup }
+    requires within { IsRunSetup outputs.form setup }
     requires cuts { AreCuts (map string_bytes words.now) selection.now }
-    ensures { Acted (map string_bytes words.now) (H.outside host.old) (H.outside host.new) result }
+    ensures acted { Acted (map string_bytes words.now) (H.outside host.old) (H.outside host.new) result }
+    ensures fits { OnOk result (FitsWhereTold (map string_bytes words.now) (H.outside host.old) (H.outside host.new) elf outputs.form setup) }
 {
     let (bytes, image) = match read_program(alloc, words, elf, host) {
         Ok(read) => read,

@@ -1,10 +1,11 @@
 //! The command `run`.
 
-ghost use Rattle.std.specs.Prelude.{[], map, string_bytes};
-ghost use Rattle.prof_machine.specs.Setup.{IsSetup};
+ghost use Rattle.std.specs.Prelude.{[], map, string_bytes, OnOk};
 ghost use Rattle.rvgprof.specs.Answer.{files_named, run_course};
 ghost use Rattle.rvgprof.specs.Contract.{Acted};
+ghost use Rattle.rvgprof.specs.RunFile.{FitsWhereTold};
 ghost use Rattle.rvgprof.specs.Standing.{Stands};
+ghost use Rattle.rvgprof.specs.Words.{IsRunSetup};
 
 use crate::inputs::read_program;
 use crate::outcome::{Done, Fault};
@@ -24,8 +25,9 @@ pub fn run<H: Host>(
 ) -> Result<Done, Fault>
     requires stands { Stands (map string_bytes words.now) (H.outside host.old) (H.outside host.old) 0 []
         (run_course elf (files_named (map string_bytes words.now) outputs.gmon outputs.form outputs.image) setup) }
-    requires within { IsSetup setup }
-    ensures { Acted (map string_bytes words.now) (H.outside host.old) (H.outside host.new) result }
+    requires within { IsRunSetup outputs.form setup }
+    ensures acted { Acted (map string_bytes words.now) (H.outside host.old) (H.outside host.new) result }
+    ensures fits { OnOk result (FitsWhereTold (map string_bytes words.now) (H.outside host.old) (H.outside host.new) elf outputs.form setup) }
 {
     let (bytes, image) = match read_program(alloc, words, elf, host) {
         Ok(read) => read,

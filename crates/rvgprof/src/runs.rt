@@ -13,7 +13,7 @@ ghost use Rattle.prof_machine.specs.Value.{IsLive, StandsFor};
 ghost use Rattle.prof_machine.specs.World.{World};
 ghost use Rattle.rvgprof.specs.Answer.{file_acts, files_named, given_file_acts, held_text, run_acts, runtime_text};
 ghost use Rattle.rvgprof.specs.Items.{name_of};
-ghost use Rattle.rvgprof.specs.Standing.{IsRunOf, RunsProgram};
+ghost use Rattle.rvgprof.specs.Standing.{IsRunOf, RunsProgram, TellsNoMore};
 ghost use Rattle.std.specs.Option.{option_map};
 
 use crate::files::write_file;
@@ -52,6 +52,7 @@ pub fn run_program<H: Host>(
         (run_acts (files_named (map string_bytes words.now) outputs.gmon outputs.form outputs.image) setup) setup image.now bytes.now
         (H.outside host.old) (H.outside host.new) result }
     ensures ended { IfOk result (IsRunOf image.now bytes.now setup) }
+    ensures told { OnOk result (TellsNoMore (H.outside host.old) (H.outside host.new)) }
 {
     let mut run = match Run::start(alloc, image, bytes, setup) {
         Ok(run) => run,

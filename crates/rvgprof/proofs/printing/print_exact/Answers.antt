@@ -22,15 +22,15 @@ text_as : (symbols other : List Symbol) (g : GraphValue) (shares : List ℕ) (e 
 text_as symbols other g shares e n m same is total =
     ap (λ (xs : List Symbol). exact_text xs g e n) same ∙ ap (λ (x : ExactFlowValue). exact_text symbols g x n) is ∙ ap (exact_text symbols g (exact_flow_in g shares)) total
 
-pub returns-in_err-print_text : goal.returns-in_err-print_text
-returns-in_err-print_text g c = λ words start below done next s.
+pub returns-in_err-print_text-clause-prints : goal.returns-in_err-print_text-clause-prints
+returns-in_err-print_text-clause-prints g c = λ words start below done next s.
     let found = given_sources c.args.image.now c.args.sources.now in
     let text = exact_text found.symbols found.graph (exact_flow_in found.graph found.shares.of) (attributed_of found.shares) in
     let p = err_from_is_err_and c.from_residual.result c.from_residual.ensures.1 in
     rw (p.1, p.2) (after_text words start _ _ below done (codes "\n") (Does (Out text ∷ []) next) _ s c.in_err-print_text.ensures.printed (λ e. ap g.H.Host.outside (c.in_err-print_text.ensures.idle e)))
 
-pub returns-in_err-write_exact : goal.returns-in_err-write_exact
-returns-in_err-write_exact g c = λ words start below done next s.
+pub returns-in_err-write_exact-clause-prints : goal.returns-in_err-write_exact-clause-prints
+returns-in_err-write_exact-clause-prints g c = λ words start below done next s.
     let found = given_sources c.args.image.now c.args.sources.now in
     let text = exact_text found.symbols found.graph (exact_flow_in found.graph found.shares.of) (attributed_of found.shares) in
     let one = after_text words start _ _ below done (codes "\n") (Does (Out text ∷ []) next) _ s c.in_ok-print_text.ensures.printed (λ e. ap g.H.Host.outside (c.in_ok-print_text.ensures.idle e)) in
@@ -39,8 +39,8 @@ returns-in_err-write_exact g c = λ words start below done next s.
     let p = err_from_is_err_and c.from_residual-in_err-write_exact.result c.from_residual-in_err-write_exact.ensures.1 in
     rw (p.1, p.2) (fails {T = Unit {0}} words start _ _ below (done ++ Out (codes "\n") ∷ []) (Out text ∷ []) next _ one (puts_performs {T = Unit {0}} Output text _ _ _ puts))
 
-pub returns : goal.returns
-returns g c = λ words start below done next s.
+pub returns-clause-prints : goal.returns-clause-prints
+returns-clause-prints g c = λ words start below done next s.
     let found = given_sources c.args.image.now c.args.sources.now in
     let text = exact_text found.symbols found.graph (exact_flow_in found.graph found.shares.of) (attributed_of found.shares) in
     let one = after_text words start _ _ below done (codes "\n") (Does (Out text ∷ []) next) _ s c.in_ok-print_text.ensures.printed (λ e. ap g.H.Host.outside (c.in_ok-print_text.ensures.idle e)) in

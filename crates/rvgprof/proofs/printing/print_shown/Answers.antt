@@ -12,24 +12,24 @@ use Rattle.rvgprof.specs.Standing.{Stands}
 use Rattle.rvgprof.proofs.Reporting.{after_text, goes_on_anyhow}
 use Rattle.rvgprof.proofs.printing.print_shown.Goals as goal
 
-pub returns-in-Flat : goal.returns-in-Flat
-returns-in-Flat g c = λ words start below done next s.
+pub returns-in-Flat-clause-prints : goal.returns-in-Flat-clause-prints
+returns-in-Flat-clause-prints g c = λ words start below done next s.
     let found = given_sources c.args.image.now c.args.sources.now in
     let hidden = map string_bytes c.args.hidden.now in
     let here = subst (λ (x : Shown). Stands words start (g.H.Host.outside c.args.host.now) below done (shown_reports x hidden found next)) c.in-Flat.is s in
     goes_on_anyhow words start _ below (done ++ Out (flat_text found hidden) ∷ []) next c.print_flat.result
     (after_text words start _ _ below done (flat_text found hidden) next c.print_flat.result here c.print_flat.ensures.printed (λ e. ap g.H.Host.outside (c.print_flat.ensures.idle e)))
 
-pub returns-in-Graph : goal.returns-in-Graph
-returns-in-Graph g c = λ words start below done next s.
+pub returns-in-Graph-clause-prints : goal.returns-in-Graph-clause-prints
+returns-in-Graph-clause-prints g c = λ words start below done next s.
     let found = given_sources c.args.image.now c.args.sources.now in
     let hidden = map string_bytes c.args.hidden.now in
     let here = subst (λ (x : Shown). Stands words start (g.H.Host.outside c.args.host.now) below done (shown_reports x hidden found next)) c.in-Graph.is s in
     goes_on_anyhow words start _ below (done ++ Out (graph_text found hidden) ∷ []) next c.print_graph.result
     (after_text words start _ _ below done (graph_text found hidden) next c.print_graph.result here c.print_graph.ensures.printed (λ e. ap g.H.Host.outside (c.print_graph.ensures.idle e)))
 
-pub returns-in_err-print_flat-in-Both : goal.returns-in_err-print_flat-in-Both
-returns-in_err-print_flat-in-Both g c = λ words start below done next s.
+pub returns-in_err-print_flat-in-Both-clause-prints : goal.returns-in_err-print_flat-in-Both-clause-prints
+returns-in_err-print_flat-in-Both-clause-prints g c = λ words start below done next s.
     let found = given_sources c.args.image.now c.args.sources.now in
     let hidden = map string_bytes c.args.hidden.now in
     let last = Does (Out (graph_text found hidden) ∷ []) next in
@@ -38,8 +38,8 @@ returns-in_err-print_flat-in-Both g c = λ words start below done next s.
     let p = err_from_is_err_and c.from_residual.result c.from_residual.ensures.1 in
     rw (p.1, p.2) (after_text words start _ _ below done (flat_text found hidden) line _ here c.in_err-print_flat-in-Both.ensures.printed (λ e. ap g.H.Host.outside (c.in_err-print_flat-in-Both.ensures.idle e)))
 
-pub returns-in_err-print_text-in-Both : goal.returns-in_err-print_text-in-Both
-returns-in_err-print_text-in-Both g c = λ words start below done next s.
+pub returns-in_err-print_text-in-Both-clause-prints : goal.returns-in_err-print_text-in-Both-clause-prints
+returns-in_err-print_text-in-Both-clause-prints g c = λ words start below done next s.
     let found = given_sources c.args.image.now c.args.sources.now in
     let hidden = map string_bytes c.args.hidden.now in
     let last = Does (Out (graph_text found hidden) ∷ []) next in
@@ -49,8 +49,8 @@ returns-in_err-print_text-in-Both g c = λ words start below done next s.
     let p = err_from_is_err_and c.from_residual-in_err-print_text-in-Both.result c.from_residual-in_err-print_text-in-Both.ensures.1 in
     rw (p.1, p.2) (after_text words start _ _ below (done ++ Out (flat_text found hidden) ∷ []) (codes "\n") last _ one c.in_err-print_text-in-Both.ensures.printed (λ e. ap g.H.Host.outside (c.in_err-print_text-in-Both.ensures.idle e)))
 
-pub returns-in_ok-print_text-in-Both : goal.returns-in_ok-print_text-in-Both
-returns-in_ok-print_text-in-Both g c = λ words start below done next s.
+pub returns-in_ok-print_text-in-Both-clause-prints : goal.returns-in_ok-print_text-in-Both-clause-prints
+returns-in_ok-print_text-in-Both-clause-prints g c = λ words start below done next s.
     let found = given_sources c.args.image.now c.args.sources.now in
     let hidden = map string_bytes c.args.hidden.now in
     let last = Does (Out (graph_text found hidden) ∷ []) next in

@@ -1,10 +1,11 @@
 use Rattle.std.proofs.Common.{false, refl}
 use Rattle.std.specs.Prelude.{map, string_bytes}
-use Rattle.prof_machine.specs.Start.{final_world, start_refusal}
+use Rattle.prof_machine.specs.Start.{final_world, start_of, start_refusal}
 use Rattle.mcount_arcs.specs.Sizes.{sizes_of}
 use Rattle.rvgprof.specs.Answer.{files_named, run_acts}
 use Rattle.rvgprof.proofs.Performing.{shut_after}
-use Rattle.rvgprof.proofs.Running.{Started, no_start, run_done, run_failed, run_of}
+use Rattle.rvgprof.proofs.Running.{Started, first_prints_none, no_start, run_done, run_failed, run_of}
+use Rattle.rvgprof.proofs.ToldLemmas.{acts_tell}
 use Rattle.rvgprof.proofs.runs.run_program.Goals as goal
 
 pub returns-in-Err-clause-runs : goal.returns-in-Err-clause-runs
@@ -35,6 +36,11 @@ returns-in-Ok-perform-clause-ended g c =
       machine = c.in-Ok.ensures.machine;
     } in
     run_of c.args.image.now c.args.bytes.now c.args.setup c.args.bytes.now c.args.setup c.in-Ok.run' started c.perform.new.run c.in-Ok-perform.ensures.stands c.in-Ok-perform.ensures.machine c.in-Ok-perform.ensures.ended
+
+pub returns-in-Ok-perform-clause-told : goal.returns-in-Ok-perform-clause-told
+returns-in-Ok-perform-clause-told g c =
+    let first = start_of c.args.image.now c.args.bytes.now c.args.setup in
+    acts_tell _ _ _ (c.in-Ok-perform.ensures.performs first c.in-Ok.ensures.stands (first_prints_none c.args.image.now c.args.bytes.now c.args.setup)).done
 
 pub returns-in-Err-perform-clause-runs : goal.returns-in-Err-perform-clause-runs
 returns-in-Err-perform-clause-runs g c = λ start below done next s.

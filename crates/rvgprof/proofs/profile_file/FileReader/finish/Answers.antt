@@ -1,44 +1,55 @@
-use Rattle.std.proofs.Common.{◌≡◌, List, ℕ, [], None, OnOk, IfOk, IfErr, sym, subst, ◌∙◌}
+use Rattle.std.proofs.Common.{◌≡◌, ◌<◌, List, ℕ, true, length, Option, None, Some, Result, Err, OnOk, IfOk, refl, sym, ap, subst, ◌∙◌, arith}
+use Rattle.std.specs.Prelude.{IfSome, nat_lt}
+use Rattle.std.proofs.lemmas.Bool.{lt-ltb}
 use Rattle.gp_base.specs.declared.records.Form.{Form}
-use Rattle.gp_base.specs.Refusal.{IsRefusal}
-use Rattle.gmon_bsd.specs.Fed as bsd
+use Rattle.gp_base.specs.declared.records.Records.{Records}
+use Rattle.gp_base.specs.declared.refusal.GmonRefusal.{GmonRefusal}
+use Rattle.gp_base.specs.declared.refusal.GmonRefusal.TheVariants.{Short}
+use Rattle.gmon_bsd.specs.Reading.{bsd_refusal}
 use Rattle.rvgprof.specs.declared.profile_file.FileReader.{FileReader}
-use Rattle.rvgprof.specs.Answer.{refusal_in, records_in}
-use Rattle.rvgprof.specs.ProfileSizes.{SpellsIn}
+use Rattle.rvgprof.specs.Answer.{form_of, refusal_in, records_in}
 use Rattle.rvgprof.specs.FileRead.{StandsFor}
 use Rattle.rvgprof.proofs.FileReading.{form_short}
 use Rattle.rvgprof.proofs.profile_file.FileReader.finish.Goals as goal
 
-pub returns-in_ok-feed-in-Front-clause-refusal : goal.returns-in_ok-feed-in-Front-clause-refusal
-returns-in_ok-feed-in-Front-clause-refusal c = λ bytes stands.
-    let p = subst (λ (r : FileReader). StandsFor bytes r) c.in-Front.is stands in
-    let fed : bsd.StandsFor bytes c.feed.new.self = subst (λ (v : List ℕ). bsd.StandsFor v c.feed.new.self) (c.as_slice.ensures ∙ p.0) (c.in_ok-feed-in-Front.ensures.stands [] c.new-reader.ensures.stands) in
-    subst (λ (f : Form). IfErr c.finish.result (λ e. IsRefusal e (refusal_in f bytes))) (sym (form_short bytes p.1)) (c.finish.ensures.refusal bytes fed)
+abbrev refused : GmonRefusal → Result Records GmonRefusal
+refused refusal = Err refusal
 
-pub returns-in_ok-feed-in-Front-clause-accepted : goal.returns-in_ok-feed-in-Front-clause-accepted
-returns-in_ok-feed-in-Front-clause-accepted c = λ bytes stands.
-    let p = subst (λ (r : FileReader). StandsFor bytes r) c.in-Front.is stands in
-    let fed : bsd.StandsFor bytes c.feed.new.self = subst (λ (v : List ℕ). bsd.StandsFor v c.feed.new.self) (c.as_slice.ensures ∙ p.0) (c.in_ok-feed-in-Front.ensures.stands [] c.new-reader.ensures.stands) in
-    subst (λ (f : Form). OnOk c.finish.result (refusal_in f bytes ≡ None)) (sym (form_short bytes p.1)) (c.finish.ensures.accepted bytes fed)
+-- a file that ends before its first four bytes
+short : (bytes : List ℕ) → length bytes < 4 → refusal_in (form_of bytes) bytes ≡ Some (Short (length bytes))
+short bytes few =
+    let header : nat_lt (length bytes) 32 ≡ true = lt-ltb (length bytes) 32 (omega (arith, few)) in
+    let due : bsd_refusal bytes ≡ Some (Short (length bytes)) = rw header refl in
+    ap (λ (f : Form). refusal_in f bytes) (form_short bytes few) ∙ due
 
-pub returns-in_ok-feed-in-Front-clause-records : goal.returns-in_ok-feed-in-Front-clause-records
-returns-in_ok-feed-in-Front-clause-records c = λ bytes stands.
+pub returns-in-Front-clause-refused : goal.returns-in-Front-clause-refused
+returns-in-Front-clause-refused c = λ bytes stands.
     let p = subst (λ (r : FileReader). StandsFor bytes r) c.in-Front.is stands in
-    let fed : bsd.StandsFor bytes c.feed.new.self = subst (λ (v : List ℕ). bsd.StandsFor v c.feed.new.self) (c.as_slice.ensures ∙ p.0) (c.in_ok-feed-in-Front.ensures.stands [] c.new-reader.ensures.stands) in
-    subst (λ (f : Form). IfOk c.finish.result (λ r. r ≡ records_in f bytes)) (sym (form_short bytes p.1)) (c.finish.ensures.records bytes fed)
+    let due = short bytes p.1 in
+    let answered : Short c.len.result ≡ Short (length bytes) = ap (λ (n : ℕ). Short n) (c.len.ensures.len ∙ ap length p.0) in
+    subst (λ (o : Option GmonRefusal). IfSome o (λ refusal. refused (Short c.len.result) ≡ refused refusal)) (sym due) (ap refused answered)
 
-pub returns-in_ok-feed-in-Front-clause-spelled : goal.returns-in_ok-feed-in-Front-clause-spelled
-returns-in_ok-feed-in-Front-clause-spelled c = λ bytes stands.
+pub returns-in-Front-clause-refusal : goal.returns-in-Front-clause-refusal
+returns-in-Front-clause-refusal c = λ bytes stands.
     let p = subst (λ (r : FileReader). StandsFor bytes r) c.in-Front.is stands in
-    let fed : bsd.StandsFor bytes c.feed.new.self = subst (λ (v : List ℕ). bsd.StandsFor v c.feed.new.self) (c.as_slice.ensures ∙ p.0) (c.in_ok-feed-in-Front.ensures.stands [] c.new-reader.ensures.stands) in
-    subst (λ (f : Form). IfOk c.finish.result (λ r. SpellsIn f bytes r)) (sym (form_short bytes p.1)) (c.finish.ensures.spelled bytes fed)
+    short bytes p.1 ∙ ap (λ (n : ℕ). Some (Short n)) (sym (c.len.ensures.len ∙ ap length p.0))
 
 pub returns-in-Bsd-clause-accepted : goal.returns-in-Bsd-clause-accepted
 returns-in-Bsd-clause-accepted c = λ bytes stands.
     let p = subst (λ (r : FileReader). StandsFor bytes r) c.in-Bsd.is stands in
-    subst (λ (f : Form). OnOk c.finish-in-Bsd.result (refusal_in f bytes ≡ None)) (sym p.1) (c.finish-in-Bsd.ensures.accepted bytes p.0)
+    subst (λ (f : Form). OnOk c.finish.result (refusal_in f bytes ≡ None)) (sym p.1) (c.finish.ensures.accepted bytes p.0)
 
 pub returns-in-Bsd-clause-records : goal.returns-in-Bsd-clause-records
 returns-in-Bsd-clause-records c = λ bytes stands.
     let p = subst (λ (r : FileReader). StandsFor bytes r) c.in-Bsd.is stands in
-    subst (λ (f : Form). IfOk c.finish-in-Bsd.result (λ r. r ≡ records_in f bytes)) (sym p.1) (c.finish-in-Bsd.ensures.records bytes p.0)
+    subst (λ (f : Form). IfOk c.finish.result (λ r. r ≡ records_in f bytes)) (sym p.1) (c.finish.ensures.records bytes p.0)
+
+pub returns-in-Bsd-clause-refused : goal.returns-in-Bsd-clause-refused
+returns-in-Bsd-clause-refused c = λ bytes stands.
+    let p = subst (λ (r : FileReader). StandsFor bytes r) c.in-Bsd.is stands in
+    subst (λ (f : Form). IfSome (refusal_in f bytes) (λ refusal. c.finish.result ≡ Err refusal)) (sym p.1) (c.finish.ensures.refused bytes p.0)
+
+pub returns-in-Gnu-clause-refused : goal.returns-in-Gnu-clause-refused
+returns-in-Gnu-clause-refused c = λ bytes stands.
+    let p = subst (λ (r : FileReader). StandsFor bytes r) c.in-Gnu.is stands in
+    subst (λ (f : Form). IfSome (refusal_in f bytes) (λ refusal. c.finish-in-Gnu.result ≡ Err refusal)) (sym p.1) (c.finish-in-Gnu.ensures.refused bytes p.0)

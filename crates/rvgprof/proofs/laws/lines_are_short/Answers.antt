@@ -1,0 +1,5 @@
+use Rattle.rvgprof.proofs.LineLengths.{no_reading}
+use Rattle.rvgprof.proofs.laws.lines_are_short.Goals as goal
+
+pub returns : goal.returns
+returns c = no_reading

@@ -1,0 +1,103 @@
+-- The file that a run leaves, and what is read of it.
+use Rattle.std.specs.Prelude.{◌≡◌, ℕ, ◌+◌, ◌*◌, ◌<◌, Bool, true, false, List, [], ◌++◌, Option, Some, None, ⊤}
+use Rattle.std.specs.List.{All}
+use Rattle.elf32_syms.specs.Image.{image_of}
+use Rattle.gp_base.specs.declared.records.Form.{Form}
+use Rattle.gp_base.specs.declared.records.Form.TheVariants.{Gnu}
+use Rattle.gp_base.specs.declared.records.Records.{Records}
+use Rattle.gmon_block.specs.Layout.{layout_of}
+use Rattle.gmon_data.specs.Content.{Content, IsProfile, runs_at}
+use Rattle.gmon_gnu.specs.Blocks.{executed_blocks}
+use Rattle.gmon_gnu.specs.CountedRun.{block_recs}
+use Rattle.gmon_gnu.specs.ProfileText.{profile_text}
+use Rattle.gmon_gnu.specs.Run.{run_recs}
+use Rattle.host_port.specs.Act.{content_of}
+use Rattle.host_port.specs.Outside.{Outside}
+use Rattle.mcount_arcs.specs.declared.sizes.Sizes.{Sizes}
+use Rattle.mcount_arcs.specs.Arcs.{CallFits, arcs_of}
+use Rattle.mcount_arcs.specs.Image.{block_image}
+use Rattle.mcount_arcs.specs.Samples.{buckets_of}
+use Rattle.mcount_arcs.specs.Sizes.{AreSizes, sizes_of}
+use Rattle.prof_machine.specs.declared.setup.Setup.{Setup}
+use Rattle.prof_machine.specs.Executions.{executions_at, executions_in, instructions_of}
+use Rattle.prof_machine.specs.Start.{final_world}
+use Rattle.prof_machine.specs.World.{World}
+use Rattle.rvgprof.specs.declared.words.Command.{Command}
+use Rattle.rvgprof.specs.declared.words.Command.TheVariants.{Run, Profile}
+use Rattle.rvgprof.specs.Answer.{file_records, file_refusal, form_of, profile_bytes, profile_in, written_profile}
+use Rattle.rvgprof.specs.Contract.{WhereTold}
+use Rattle.rvgprof.specs.Items.{name_of}
+use Rattle.rvgprof.specs.Words.{IsRunSetup}
+
+-- the world in which the run of a program ends
+abbrev pub world_of : List ℕ → Setup → World
+world_of program setup = final_world (image_of program) program setup
+
+abbrev pub text_sizes : List ℕ → Setup → Sizes
+text_sizes program setup = sizes_of (image_of program).text setup.hist setup.hash
+
+-- the gmon.out file of that run, in a form
+abbrev pub gmon_text : Form → List ℕ → Setup → List ℕ
+gmon_text form program setup = profile_bytes form setup (text_sizes program setup) (world_of program setup)
+
+-- the memory of its runtime
+abbrev pub memory_text : List ℕ → Setup → List ℕ
+memory_text program setup = layout_of (block_image (text_sizes program setup) (world_of program setup).log)
+
+-- ---- what is read of that file
+
+-- how often each instruction was executed, where that is counted
+abbrev pub counted : Bool → Sizes → World → List ℕ
+counted false z w = []
+counted true z w = executions_in z w.ran
+
+-- one histogram, an arc for each pair of call site and callee, and the executions that are counted
+abbrev pub records_of_run : Form → Setup → Sizes → World → Records
+records_of_run form setup z w = record {
+  form = form;
+  recs = run_recs z.low z.high setup.rate (buckets_of z w.log) (arcs_of z w.log) ++ block_recs (executed_blocks z.low (counted setup.blocks z w));
+}
+
+-- the profile that is reported of a run
+abbrev pub reported_profile : Form → List ℕ → Setup → Content
+reported_profile form program setup = written_profile form (text_sizes program setup) (world_of program setup).log setup.rate
+
+-- A text is read as what happened in a run of a program.
+pub record SaysRun (form : Form) (program : List ℕ) (setup : Setup) (text : List ℕ) : Type 0 where
+  pub form_is : form_of text ≡ form
+  pub accepted : file_refusal text ≡ None
+  pub records : file_records text ≡ records_of_run form setup (text_sizes program setup) (world_of program setup)
+  -- its samples and calls are those that are reported of the run
+  pub hists : (profile_in (file_records text)).hists ≡ (reported_profile form program setup).hists
+  pub arcs : (profile_in (file_records text)).arcs ≡ (reported_profile form program setup).arcs
+  pub «unit» : (profile_in (file_records text)).«unit» ≡ (reported_profile form program setup).«unit»
+  -- and where executions are counted, those of each instruction of the text are how often it retired
+  pub executions : setup.blocks ≡ true → (i : ℕ) → i < instructions_of (text_sizes program setup)
+      → runs_at ((text_sizes program setup).low + 4 * i) (profile_in (file_records text)).blocks ≡ executions_at (world_of program setup).ran ((text_sizes program setup).low + 4 * i)
+
+-- The setup is one that words may ask for, the text one that the runtime is made for, and callees and numbers of calls
+-- have four bytes.
+pub record FitsFile (form : Form) (program : List ℕ) (setup : Setup) : Type 0 where
+  pub within : IsRunSetup form setup
+  pub sizes : AreSizes (text_sizes program setup)
+  pub calls : All CallFits (arcs_of (text_sizes program setup) (world_of program setup).log)
+
+-- the file of every such run says it
+abbrev pub RunFilesAreReadBack : Type 0
+RunFilesAreReadBack = (form : Form) (program : List ℕ) (setup : Setup) → FitsFile form program setup → SaysRun form program setup (gmon_text form program setup)
+
+-- and the file of every profile, which is of the GNU form, has the profile's content
+abbrev pub ProfileFilesAreReadBack : Type 0
+ProfileFilesAreReadBack = (p : Content) → IsProfile p → (form_of (profile_text p) ≡ Gnu) × (file_refusal (profile_text p) ≡ None) × (profile_in (file_records (profile_text p)) ≡ p)
+
+-- ---- the run of a command
+
+-- where the program's file is told, its run fits the file
+abbrev pub FitsWhereTold : List (List ℕ) → Outside → Outside → ℕ → Form → Setup → Type 0
+FitsWhereTold words old new elf form setup = WhereTold old new (λ files. FitsFile form (content_of (name_of words elf) files) setup)
+
+-- of the commands that write a run's file
+abbrev pub RunFits : List (List ℕ) → Outside → Outside → Option Command → Type 0
+RunFits words old new (Some (Run elf gmon form image setup)) = FitsWhereTold words old new elf form setup
+RunFits words old new (Some (Profile elf gmon form image setup selection)) = FitsWhereTold words old new elf form setup
+RunFits words old new command = ⊤
