@@ -328,10 +328,11 @@ fn stacks_of_the_demo_are_folded(rt: HostRuntime) -> Result<(), Fail> {
     gives(&rt, alloc, files, &inclusive)
 }
 
-/// Options of a run of the demo's program, the length of its profile, and how that is shown.
-const DEMO_PROFILES: [(&[&str], usize, &str); 2] = [
+/// Options of a run of the demo's program, its end line, the length of its profile, and how that is shown.
+const DEMO_PROFILES: [(&[&str], &str, usize, &str); 5] = [
     (
         &[],
+        DEMO_LINE,
         204,
         "bsd low 00010000 high 00010140 counters 80 rate 100
 count 00010058 2
@@ -341,6 +342,7 @@ arc 00010008 00010050 100
     ),
     (
         &["--hist", "16", "--hash", "16"],
+        DEMO_LINE,
         64,
         "bsd low 00010000 high 00010140 counters 10 rate 100
 count 00010040 2
@@ -348,15 +350,60 @@ count 00010060 1
 arc 00010000 00010050 100
 ",
     ),
+    (
+        &["--harts", "3", "--seed", "9"],
+        "rvgprof: exit 0 after 10086 instructions: 10 samples, 278 calls, 19 lost, arcs on\n",
+        204,
+        "bsd low 00010000 high 00010140 counters 80 rate 100
+count 00010020 2
+count 00010054 5
+count 00010058 2
+count 0001006c 1
+arc 00010008 00010050 278
+",
+    ),
+    (
+        &["--harts", "3", "--quantum", "4", "--hist", "8"],
+        "rvgprof: exit 0 after 10204 instructions: 10 samples, 240 calls, 60 lost, arcs on\n",
+        84,
+        "bsd low 00010000 high 00010140 counters 20 rate 100
+count 00010000 1
+count 00010040 1
+count 00010050 7
+count 00010060 1
+arc 00010008 00010050 240
+",
+    ),
+    (
+        &[
+            "--harts",
+            "8",
+            "--seed",
+            "2147483647",
+            "--hist",
+            "16",
+            "--hash",
+            "16",
+            "--budget",
+            "9000",
+        ],
+        "rvgprof: budget after 9000 instructions: 9 samples, 218 calls, 49 lost, arcs on\n",
+        64,
+        "bsd low 00010000 high 00010140 counters 10 rate 100
+count 00010000 1
+count 00010040 8
+arc 00010000 00010050 218
+",
+    ),
 ];
 
-/// The profile of a run of a program.
-fn profile_of(
+/// A host on which a program was run.
+fn host_after(
     rt: &impl Abort,
     alloc: Global,
     program: &[u8],
     options: &[&str],
-) -> Result<Vec<u8>, Fail> {
+) -> Result<MemHost, Fail> {
     let mut words = options.to_vec(alloc)?;
     words.extend_from_slice(&["e", "g", "--ram", "4"])?;
     words.insert(0, "run")?;
@@ -367,6 +414,17 @@ fn profile_of(
         0,
         "{options:?}"
     );
+    Ok(host)
+}
+
+/// The profile of a run of a program.
+fn profile_of(
+    rt: &impl Abort,
+    alloc: Global,
+    program: &[u8],
+    options: &[&str],
+) -> Result<Vec<u8>, Fail> {
+    let host = host_after(rt, alloc, program, options)?;
     Ok(host.file("g").ok_or("no profile")?.to_vec(alloc)?)
 }
 
@@ -374,19 +432,21 @@ fn profile_of(
 fn profiles_of_the_demo_are_shown(rt: HostRuntime) -> Result<(), Fail> {
     let alloc = rt.alloc();
     let program = elf(alloc, &DEMO)?;
-    for (options, len, text) in DEMO_PROFILES {
-        let profile = profile_of(&rt, alloc, &program, options)?;
+    for (options, line, len, text) in DEMO_PROFILES {
+        let host = host_after(&rt, alloc, &program, options)?;
+        let profile = host.file("g").ok_or("no profile")?;
+        assert_eq!(rt; host.errors(), line.as_bytes(), "{options:?}");
         assert_eq!(rt; profile.len(), len, "{options:?}");
         let files = Files {
             program: b"",
-            profile: &profile,
+            profile,
         };
         let row = Row {
             words: &["show", "g"],
             answer: "Ok(Done { run: None })",
             out: text.as_bytes(),
             err: "",
-            left: &profile,
+            left: profile,
         };
         gives(&rt, alloc, files, &row)?;
     }
@@ -449,16 +509,32 @@ fn instructions_of_the_demo_are_counted(rt: HostRuntime) -> Result<(), Fail> {
 }
 
 #[test]
-fn the_demo_of_300_functions(rt: HostRuntime) -> Result<(), Fail> {
+fn demos_print_their_numbers(rt: HostRuntime) -> Result<(), Fail> {
     let alloc = rt.alloc();
-    let mut host = MemHost::new(alloc);
-    assert_eq!(rt; status(alloc, &["demo", "300"], &mut host)?, 0);
-    assert_eq!(rt;
-        host.printed(),
-        b"demo 300: 6641204 instructions, 6641 samples, 59900 calls, 0 lost, 599 arcs, 0 cycles
+    let cases: [(&[&str], &str); 3] = [
+        (
+            &["demo", "1", "--harts", "3", "--seed", "9", "--ram", "4"],
+            "demo 1: 10086 instructions, 10 samples, 278 calls, 19 lost, 1 arcs, 0 cycles
+attributed 10000000 grains, roots 10000000 grains
+",
+        ),
+        (
+            &["demo", "300"],
+            "demo 300: 6641204 instructions, 6641 samples, 59900 calls, 0 lost, 599 arcs, 0 cycles
 attributed 6641000000 grains, roots 6641000000 grains
-"
-            .as_slice()
-    );
+",
+        ),
+        (
+            &["demo", "1", "--harts", "3", "--quantum", "4", "--ram", "4"],
+            "demo 1: 10204 instructions, 10 samples, 240 calls, 60 lost, 1 arcs, 0 cycles
+attributed 10000000 grains, roots 10000000 grains
+",
+        ),
+    ];
+    for (words, text) in cases {
+        let mut host = MemHost::new(alloc);
+        assert_eq!(rt; status(alloc, words, &mut host)?, 0, "{words:?}");
+        assert_eq!(rt; host.printed(), text.as_bytes(), "{words:?}");
+    }
     Ok(())
 }

@@ -305,7 +305,28 @@ const COUNTED_LINE: &str =
     "rvgprof: budget after 4 instructions: 4 samples, 0 calls, 0 lost, arcs on\n";
 
 /// Commands over the endless loop and that profile.
-const LOOPS: [Row<'static>; 4] = [
+const LOOPS: [Row<'static>; 6] = [
+    Row {
+        words: &["syms", "e"],
+        answer: "Ok(Done { run: None })",
+        out: b"text 00010000 00010004 entry 00010000 mcount - moncontrol -
+00010000 4 _start
+",
+        err: "",
+        left: &COUNTED,
+    },
+    Row {
+        words: &["show", "g"],
+        answer: "Ok(Done { run: None })",
+        out: b"gnu
+hist low 00010000 high 00010004 counters 1 rate 100 unit 7365636f6e6473000000000000000073
+count 00010000 4
+blocks 1
+block 00010000 4
+",
+        err: "",
+        left: &COUNTED,
+    },
     Row {
         words: &["annotate", "e", "g"],
         answer: "Ok(Done { run: None })",

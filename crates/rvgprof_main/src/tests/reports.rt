@@ -191,7 +191,13 @@ type Printed<'a> = (&'a [&'a str], &'a [&'a str]);
 fn a_report_is_printed(rt: HostRuntime) -> Result<(), Fail> {
     let alloc = rt.alloc();
     let both = [FLAT, "\n", GRAPH, LAST_ENTRY];
-    let cases: [Printed; 20] = [
+    let cases: [Printed; 21] = [
+        (
+            &[
+                "report", "e", "g", "-k", "b/a", "--hide", "a", "--flat", "--exact",
+            ],
+            &[HIDDEN, "\n", CUT_EXACT],
+        ),
         (&["report", "e", "g"], &both),
         (&["report", "e", "--graph", "g", "--flat"], &both),
         (&["report", "e", "z", "g"], &both),
@@ -458,6 +464,13 @@ fn exact_times_may_be_too_wide(rt: HostRuntime) -> Result<(), Fail> {
         status(alloc, &["report", "e", "w", "--exact"], &mut host)?,
         0
     );
+    for (option, value, answer) in [("-k", "f4/f3", 0), ("--hide", "f4", 8)] {
+        let mut host = MemHost::new(alloc);
+        host.put("e", &program)?;
+        host.put("w", &with_arcs(file.to_vec(alloc)?, &CHAIN_ARCS)?)?;
+        let words = ["report", "e", "w", "--exact", option, value];
+        assert_eq!(rt; status(alloc, &words, &mut host)?, answer, "{option}");
+    }
 
     let profile = with_arcs(file, &CHAIN_ARCS)?;
     let files = Files {

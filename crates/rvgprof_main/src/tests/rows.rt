@@ -93,7 +93,32 @@ fn fails_at(
         row.out.starts_with(host.printed()),
         "output of {words:?}, call {call}"
     );
+    if failed.is_some_and(|kind| kind != HostCall::ErrOut) {
+        tells_nothing(rt, alloc, files, words, (call, wanted))?;
+    }
     Ok(failed)
+}
+
+/// Where the call that tells of the failed one fails too, the answer is the same, and nothing is told.
+fn tells_nothing(
+    rt: &impl Abort,
+    alloc: Global,
+    files: Files,
+    words: &[&str],
+    (call, wanted): (u64, &str),
+) -> Result<(), Fail> {
+    let mut host = host_of(alloc, files)?;
+    host.fail_at(call)?;
+    host.fail_at(call.saturating_add(1))?;
+    let answer = answer_of(alloc, words, &mut host)?;
+    assert_eq!(rt;
+        answer.as_str(),
+        wanted,
+        "{words:?}, call {call} and the next"
+    );
+    assert_eq!(rt; host.failures(), 2, "{words:?}, call {call}");
+    assert_eq!(rt; host.errors().len(), 0, "{words:?}, call {call}");
+    Ok(())
 }
 
 /// Looks at a row where each call fails in turn, the last line's too, until none does.
