@@ -40,9 +40,7 @@ fn put_number(line: &mut Line, n: u128, width: usize)
     ensures text { line.new ≡ line.old ++ right_of (decimal n) width }
     ensures short { length line.new ≤ length line.old + 40 }
 {
-    let mut number = Line::new();
-    number.decimal(n);
-    line.right(number.bytes(), width);
+    line.right_decimal(n, width);
 }
 
 /// The word of a cell of four bytes, where they are loaded.

@@ -4,6 +4,7 @@
 pub mod block;
 pub mod entry;
 mod raw;
+pub mod values;
 
 pub use block::Block;
 pub use entry::Tos;

@@ -17,6 +17,21 @@ fn numbers_as_bytes(rt: HostRuntime) {
 }
 
 #[test]
+fn quotients_are_rounded_down(rt: HostRuntime) {
+    for (num, den, want) in [
+        (0, 7, 0),
+        (7, 2, 3),
+        (u128::from(u64::MAX), 2, (1 << 63) - 1),
+        (1 << 64, 3, 6_148_914_691_236_517_205),
+        (5, 1 << 64, 0),
+        (1 << 127, 1 << 64, 1 << 63),
+        (u128::MAX, u128::MAX, 1),
+    ] {
+        assert_eq!(rt; quotient(num, den), want, "{num} / {den}");
+    }
+}
+
+#[test]
 fn lists_grow_and_change(rt: HostRuntime) -> Result<(), Fail> {
     let mut totals = Totals::new(rt.alloc());
     totals.push(7)?;

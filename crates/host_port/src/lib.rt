@@ -11,6 +11,7 @@ pub mod mem_host;
 pub mod never_fails;
 pub mod pieces;
 pub mod side;
+pub mod values;
 
 pub use buffers::{OutBuf, PrintBuf};
 pub use host::{Failed, Host};

@@ -1,9 +1,9 @@
 -- How many bytes a column or a number takes.
-use Rattle.std.proofs.Common.{◌≡◌, ℕ, ◌+◌, ◌-◌, ◌*◌, ◌/◌, ◌^◌, ◌<◌, ◌≤◌, max, List, length, decimal, refl, arith, length-append}
+use Rattle.std.proofs.Common.{◌≡◌, ℕ, ◌+◌, ◌-◌, ◌*◌, ◌/◌, ◌^◌, ◌%◌, ◌<◌, ◌≤◌, max, ◌∷◌, ◌++◌, List, length, decimal, ap, refl, arith, length-append}
 use Rattle.std.proofs.lemmas.List.{length-replicate}
 use Rattle.std.proofs.Math.Nat.{div-le_self}
 use Rattle.std.proofs.lemmas.Fmt.{length-decimal-le_wide}
-use Rattle.text_cols.specs.Columns.{left_of, right_of, spaces, hex8_of, hundredths_of, rounded}
+use Rattle.text_cols.specs.Columns.{left_of, right_of, spaces, hex8_of, hundredths_of, rounded, two_digits}
 
 pub length-spaces : (n : ℕ) → length (spaces n) ≡ n
 length-spaces n = length-replicate n 32
@@ -41,6 +41,12 @@ length-decimal_128 n h = length-decimal-le_wide 39 n (omega arith) (omega arith)
 pub length-hundredths_of : (num den : ℕ) → length (hundredths_of num den) ≡ length (decimal (rounded num den / 100)) + 3
 unfolding hundredths_of
 length-hundredths_of num den = length-append (decimal (rounded num den / 100)) _
+
+-- what stands at the right of its column: spaces, the whole ones, a point and two digits
+pub right_of-hundredths : (num den width : ℕ) → right_of (hundredths_of num den) width ≡ spaces (max (width - (length (decimal (rounded num den / 100)) + 3)) 1) ++ (decimal (rounded num den / 100) ++ 46 ∷ two_digits (rounded num den % 100))
+unfolding right_of hundredths_of
+right_of-hundredths num den width =
+    ap (λ (n : ℕ). spaces (max (width - n) 1) ++ hundredths_of num den) (length-hundredths_of num den)
 
 -- what a quotient that meets the conditions of `hundredths` takes at most
 pub length-hundredths_of-le : (num den : ℕ) → 200 * num + den < 2 ^ 128 → length (hundredths_of num den) ≤ 42

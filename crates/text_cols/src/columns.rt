@@ -1,10 +1,14 @@
 //! A line that is filled from left to right.
 
-ghost use Rattle.std.specs.Prelude.{◌≡◌, ◌+◌, ◌-◌, ◌*◌, ◌^◌, ◌<◌, ◌≤◌, max, [], ◌++◌, length, decimal};
-ghost use Rattle.text_cols.specs.Columns.{hex8_of, hex_digit_of, hundredths_of, left_of, right_of, spaces};
+ghost use Rattle.std.specs.Prelude.{◌≡◌, ◌+◌, ◌-◌, ◌*◌, ◌/◌, ◌%◌, ◌^◌, ◌<◌, ◌≤◌, max, [], ◌∷◌, ◌++◌, length, decimal};
+ghost use Rattle.text_cols.specs.Columns.{hex8_of, hex_digit_of, hundredths_of, left_of, right_of, rounded, spaces, two_digits};
 
+use gp_base::quotient;
 use itoa::Buffer;
 use std::marker::Model;
+
+/// Spaces for a whole line.
+static SPACES: [u8; 256] = [b' '; 256];
 
 /// A line of text: up to 256 bytes, held in place. Contracts see the list of its bytes.
 #[derive(Drop)]
@@ -120,11 +124,36 @@ impl Line {
         ensures bytes { self.new ≡ self.old ++ hundredths_of num den }
         ensures len { length self.new ≡ length self.old + length (hundredths_of num den) }
     {
-        let rounded = (200 * num + den) / (2 * den);
-        self.decimal(rounded / 100);
-        let tenths = (rounded % 100 / 10) as u8;
-        let rest = (rounded % 100 % 10) as u8;
-        self.put(&[b'.', b'0' + tenths, b'0' + rest]);
+        let (whole, rest) = in_hundredths(num, den);
+        self.decimal(whole);
+        self.put(&fraction(rest));
+    }
+
+    /// Adds spaces and then the digits of the number, as `right` does with a text.
+    pub fn right_decimal(&mut self, n: u128, width: usize)
+        requires { length self.old + max width (length (decimal n) + 1) ≤ 256 }
+        ensures bytes { self.new ≡ self.old ++ right_of (decimal n) width }
+        ensures len { length self.new ≡ length self.old + max width (length (decimal n) + 1) }
+    {
+        let mut digits = Buffer::new();
+        self.right(digits.format(n).as_bytes(), width);
+    }
+
+    /// Adds spaces and then what `hundredths` adds, as `right` does with a text.
+    pub fn right_hundredths(&mut self, num: u128, den: u128, width: usize)
+        requires divisor { 0 < den }
+        requires sum { 200 * num + den < 2 ^ 128 }
+        requires double { 2 * den < 2 ^ 128 }
+        requires room { length self.old + max width (length (hundredths_of num den) + 1) ≤ 256 }
+        ensures bytes { self.new ≡ self.old ++ right_of (hundredths_of num den) width }
+        ensures len { length self.new ≡ length self.old + max width (length (hundredths_of num den) + 1) }
+    {
+        let (whole, rest) = in_hundredths(num, den);
+        let mut buffer = Buffer::new();
+        let digits = buffer.format(whole).as_bytes();
+        self.put_spaces(width.saturating_sub(digits.len() + 3).max(1));
+        self.put(digits);
+        self.put(&fraction(rest));
     }
 
     fn put_spaces(&mut self, n: usize)
@@ -132,8 +161,29 @@ impl Line {
         ensures bytes { self.new ≡ self.old ++ spaces n }
         ensures len { length self.new ≡ length self.old + n }
     {
-        self.put(&[b' '; 256][..n]);
+        self.put(&SPACES[..n]);
     }
+}
+
+/// `num / den` in hundredths, rounded to the nearest, a half up: the whole ones and the hundredths of one.
+fn in_hundredths(num: u128, den: u128) -> (u128, u8)
+    requires divisor { 0 < den }
+    requires sum { 200 * num + den < 2 ^ 128 }
+    requires double { 2 * den < 2 ^ 128 }
+    ensures whole { result.0 ≡ rounded num den / 100 }
+    ensures rest { result.1 ≡ rounded num den % 100 }
+{
+    let rounded = quotient(200 * num + den, 2 * den);
+    let whole = quotient(rounded, 100);
+    (whole, (rounded - 100 * whole) as u8)
+}
+
+/// A point and the two digits of a number of hundredths.
+fn fraction(hundredths: u8) -> [u8; 3]
+    requires { hundredths < 100 }
+    ensures { result ≡ 46 ∷ two_digits hundredths }
+{
+    [b'.', b'0' + hundredths / 10, b'0' + hundredths % 10]
 }
 
 fn hex_digits(n: u32) -> [u8; 8]

@@ -25,6 +25,32 @@ fn quotients_in_hundredths(rt: HostRuntime) {
 }
 
 #[test]
+#[tactic(auto, using(crate::proofs::Lengths::lengths))]
+fn numbers_at_the_right(rt: HostRuntime) {
+    for (n, want) in [
+        (0, b"    0".as_slice()),
+        (1234, b" 1234".as_slice()),
+        (12_345, b" 12345".as_slice()),
+        (1 << 70, b" 1180591620717411303424".as_slice()),
+    ] {
+        let mut line = Line::new();
+        line.right_decimal(n, 5);
+        assert_eq!(rt; line.bytes(), want, "{n}");
+    }
+    for (num, den, want) in [
+        (1, 3, b"  0.33".as_slice()),
+        (199, 2, b" 99.50".as_slice()),
+        (1_999_999, 20_000, b" 100.00".as_slice()),
+        (12_345, 10, b" 1234.50".as_slice()),
+        (1 << 70, 1, b" 1180591620717411303424.00".as_slice()),
+    ] {
+        let mut line = Line::new();
+        line.right_hundredths(num, den, 6);
+        assert_eq!(rt; line.bytes(), want, "{num} / {den}");
+    }
+}
+
+#[test]
 fn columns_of_text(rt: HostRuntime) {
     for (text, at_left, at_right) in [
         (b"".as_slice(), b"    ".as_slice(), b"    ".as_slice()),

@@ -1,0 +1,14 @@
+//! Quotients of numbers of 128 bits, most of which have 64.
+
+ghost use Rattle.std.specs.Prelude.{◌≡◌, ◌/◌, ◌<◌};
+
+/// `num / den`, rounded down. Where both have 64 bits, so has the division.
+pub fn quotient(num: u128, den: u128) -> u128
+    requires { 0 < den }
+    ensures { result ≡ num / den }
+{
+    if num > u128::from(u64::MAX) || den > u128::from(u64::MAX) {
+        return num / den;
+    }
+    u128::from(num as u64 / den as u64)
+}
