@@ -1,16 +1,39 @@
--- Behind records without a fault, the fault of the next one is the file's.
-use Rattle.std.proofs.Common.{◌≡◌, ℕ, zero, suc, ◌+◌, ◌-◌, ◌<◌, ◌≤◌, false, ltb, eqb, not, List, [], ◌∷◌, ◌++◌, length, take, drop, length-append, append_assoc, Some, Result, Ok, Err, refl, sym, ap, ◌∙◌, arith}
+-- A file is refused exactly where it has a fault by the grammar.
+use Rattle.std.proofs.Common.{◌≡◌, ℕ, zero, suc, ◌+◌, ◌-◌, ◌*◌, ◌<◌, ◌≤◌, Bool, true, false, ltb, leb, eqb, not, ◌&&◌, ◌⊎◌, inl, inr, List, [], ◌∷◌, ◌++◌, length, take, drop, length-append, length-take, length-drop, append_assoc, Option, Some, Result, Ok, Err, if◌then◌else◌, refl, sym, ap, subst, ◌∙◌, arith}
 use Rattle.std.specs.List.{flat_map, AllByRecursion}
-use Rattle.std.proofs.lemmas.Bool.{le-ltb, eq-eqb}
+use Rattle.std.proofs.lemmas.Bool.{lt-ltb, le-ltb, le-leb, ltb-true, ltb-false, leb-true, leb-false, eq-eqb, ne_eqb, eqb-true, eqb-false, not-true, not-false, and_from, and_parts, cases_lt}
 use Rattle.std.proofs.lemmas.List.{drop_at, drop-drop}
 use Rattle.gp_base.specs.declared.records.Rec.{Rec}
 use Rattle.gp_base.specs.declared.refusal.GmonRefusal.{GmonRefusal}
-use Rattle.gp_base.specs.Bytes.{value_of, le, word_at}
+use Rattle.gp_base.specs.declared.refusal.GmonRefusal.TheVariants.{Short, Version, Tag, Range}
+use Rattle.gp_base.specs.Bytes.{value_of, le, word_at, IsBytes}
+use Rattle.gp_base.proofs.LittleEndian.{IsBytes-drop, IsBytes-rest}
 use Rattle.gmon_gnu.specs.Fields.{version}
 use Rattle.gmon_gnu.specs.Grammar.{rec_bytes, spelling, RecFits}
-use Rattle.gmon_gnu.specs.Reading.{Front, Refused, Found, body_front, front_refusal, behind, recs_from, after_front, refusal_in}
-use Rattle.gmon_gnu.specs.Faults.{FirstFaultsAreAnswered}
-use Rattle.gmon_gnu.proofs.SpellingLemmas.{rec_text, rec_then, shorter, front_read}
+use Rattle.gmon_gnu.specs.Reading.{Front, Refused, Found, body_front, front_refusal, behind, recs_from, after_front, file_recs, refusal_in, gnu_refusal}
+use Rattle.gmon_gnu.specs.Faults.{RecordAt, low_in, high_in, counters_in, pairs_in, HasEmptyRange, IsTorn, TornFields, TornCounters, TornArc, TornNumber, TornPairs, HasFault, TornHeader, OtherVersion, OtherTag, EmptyRange, TornRecord, FaultsAreAnswered}
+use Rattle.gmon_gnu.proofs.SpellingLemmas.{no_range, rec_text, rec_then, shorter, front_read}
+use Rattle.gmon_gnu.proofs.MeaningLemmas.{Spelled, front_spelled, header_then, right_of}
+
+-- ---- the text of a file whose first records are spelled
+
+next_text : (r : Rec) (recs : List Rec) (tail : List ℕ) → flat_map rec_bytes (r ∷ recs) ++ tail ≡ rec_text r (flat_map rec_bytes recs ++ tail)
+next_text r recs tail = append_assoc (rec_bytes r) (flat_map rec_bytes recs) tail ∙ rec_then r (flat_map rec_bytes recs ++ tail)
+
+next_shorter : (r : Rec) (recs : List Rec) (tail : List ℕ) → length (flat_map rec_bytes recs ++ tail) < length (flat_map rec_bytes (r ∷ recs) ++ tail)
+next_shorter r recs tail = omega (arith, ap length (next_text r recs tail), shorter r (flat_map rec_bytes recs ++ tail))
+
+-- the text behind the header
+spelling_then : (first spare : List ℕ) (recs : List Rec) (tail : List ℕ) → spelling first spare recs ++ tail ≡ first ++ (le version 4 ++ (spare ++ (flat_map rec_bytes recs ++ tail)))
+spelling_then first spare recs tail =
+    let front = flat_map rec_bytes recs in
+    append_assoc first (le version 4 ++ (spare ++ front)) tail ∙ ap (λ (v : List ℕ). first ++ (le version 4 ++ v)) (append_assoc spare front tail)
+
+-- the place of a text that ends a file
+place_of : (bytes text tail : List ℕ) → bytes ≡ text ++ tail → length bytes - length tail ≡ length text
+place_of bytes text tail e = omega (arith, ap length e, length-append text tail)
+
+-- ---- what has a fault is refused
 
 refusal_behind : (r : Rec) (o : Result (List Rec) GmonRefusal) → refusal_in (behind (r ∷ []) o) ≡ refusal_in o
 refusal_behind r (Ok rs) = refl
@@ -19,12 +42,6 @@ refusal_behind r (Err e) = refl
 refusal_after : (f : Front) (more : List ℕ → Result (List Rec) GmonRefusal) (e : GmonRefusal) → front_refusal f ≡ Some e → refusal_in (after_front more f) ≡ Some e
 refusal_after (Refused refusal) more e is = is
 refusal_after (Found r rest) more e is = absurd cc
-
-next_text : (r : Rec) (recs : List Rec) (tail : List ℕ) → flat_map rec_bytes (r ∷ recs) ++ tail ≡ rec_text r (flat_map rec_bytes recs ++ tail)
-next_text r recs tail = append_assoc (rec_bytes r) (flat_map rec_bytes recs) tail ∙ rec_then r (flat_map rec_bytes recs ++ tail)
-
-next_shorter : (r : Rec) (recs : List Rec) (tail : List ℕ) → length (flat_map rec_bytes recs ++ tail) < length (flat_map rec_bytes (r ∷ recs) ++ tail)
-next_shorter r recs tail = omega (arith, ap length (next_text r recs tail), shorter r (flat_map rec_bytes recs ++ tail))
 
 fault_behind : (len n : ℕ) (recs : List Rec) (tag : ℕ) (body : List ℕ) (e : GmonRefusal) → length (flat_map rec_bytes recs ++ tag ∷ body) ≤ n → AllByRecursion RecFits recs
     → front_refusal (body_front len (len - length (tag ∷ body)) tag body) ≡ Some e → refusal_in (recs_from len n (flat_map rec_bytes recs ++ tag ∷ body)) ≡ Some e
@@ -38,23 +55,194 @@ fault_behind len (suc n) (r ∷ recs) tag body e long fits is =
     ∙ refusal_behind r (recs_from len n rest)
     ∙ fault_behind len n recs tag body e (omega (arith, long, next_shorter r recs (tag ∷ body))) fits.1 is
 
-pub first_faults : FirstFaultsAreAnswered
-first_faults first spare recs tag body e four twelve fit is =
+-- what is refused of a record behind others without a fault is refused of the file
+record_refused : (bytes : List ℕ) (at tag : ℕ) (body : List ℕ) (e : GmonRefusal) → RecordAt bytes at tag body → front_refusal (body_front (length bytes) at tag body) ≡ Some e → gnu_refusal bytes ≡ Some e
+record_refused bytes at tag body e here is =
     let tail = tag ∷ body in
-    let text = spelling first spare recs in
-    let bytes = text ++ tail in
-    let front = flat_map rec_bytes recs in
-    let rest = front ++ tail in
-    let spared : (spare ++ front) ++ tail ≡ spare ++ rest = append_assoc spare front tail in
-    let bytes_are : bytes ≡ first ++ (le version 4 ++ (spare ++ rest)) =
-    append_assoc first (le version 4 ++ (spare ++ front)) tail ∙ ap (λ (v : List ℕ). first ++ (le version 4 ++ v)) spared in
-    let after = le version 4 ++ (spare ++ rest) in
-    let long : length bytes ≡ 20 + length rest = omega (arith, four, twelve, ap length bytes_are, length-append first after, length-append spare rest) in
+    let rest = flat_map rec_bytes here.recs ++ tail in
+    let after = le version 4 ++ (here.spare ++ rest) in
+    let bytes_are : bytes ≡ here.first ++ after = here.text ∙ spelling_then here.first here.spare here.recs tail in
+    let long : length bytes ≡ 20 + length rest = omega (arith, here.first_fits, here.spare_fits, ap length bytes_are, length-append here.first after, length-append here.spare rest) in
     let len = length bytes in
-    let at : len - length tail ≡ length text = omega (arith, length-append text tail) in
-    let behind_header : drop 20 bytes ≡ rest = ap (drop 20) bytes_are ∙ sym (drop-drop 16 4 (first ++ after)) ∙ ap (drop 16) (drop_at first after 4 four) ∙ drop_at spare rest 12 twelve in
-    let version_is : word_at bytes 4 ≡ version = ap (λ (v : List ℕ). word_at v 4) bytes_are ∙ ap (λ (l : List ℕ). value_of (take 4 l)) (drop_at first after 4 four) in
-    let here : ltb len 20 ≡ false = le-ltb len 20 (omega (arith, long)) in
+    let place : at ≡ len - length tail = here.place ∙ sym (place_of bytes (spelling here.first here.spare here.recs) tail here.text) in
+    let behind_header : drop 20 bytes ≡ rest = ap (drop 20) bytes_are ∙ sym (drop-drop 16 4 (here.first ++ after)) ∙ ap (drop 16) (drop_at here.first after 4 here.first_fits) ∙ drop_at here.spare rest 12 here.spare_fits in
+    let version_is : word_at bytes 4 ≡ version = ap (λ (v : List ℕ). word_at v 4) bytes_are ∙ ap (λ (l : List ℕ). value_of (take 4 l)) (drop_at here.first after 4 here.first_fits) in
+    let whole : ltb len 20 ≡ false = le-ltb len 20 (omega (arith, long)) in
     let same : not (eqb (word_at bytes 4) version) ≡ false = ap not (eq-eqb (word_at bytes 4) version version_is) in
-    let fault : front_refusal (body_front len (len - length tail) tag body) ≡ Some e = ap (λ (k : ℕ). front_refusal (body_front len k tag body)) at ∙ is in
-    rw (here, same) (ap (λ (v : List ℕ). refusal_in (recs_from len len v)) behind_header ∙ fault_behind len len recs tag body e (omega (arith, long)) fit fault)
+    let fault : front_refusal (body_front len (len - length tail) tag body) ≡ Some e = ap (λ (k : ℕ). front_refusal (body_front len k tag body)) (sym place) ∙ is in
+    rw (whole, same) (ap (λ (v : List ℕ). refusal_in (recs_from len len v)) behind_header ∙ fault_behind len len here.recs tag body e (omega (arith, long)) here.recs_fit fault)
+
+-- the counters' text is what stands behind the fields
+counters_long : (body : List ℕ) → length (drop 1 (drop 15 (drop 16 body))) ≡ length body - 32
+counters_long body = omega (arith, length-drop 1 (drop 15 (drop 16 body)), length-drop 15 (drop 16 body), length-drop 16 body)
+
+other_tag : (len at tag : ℕ) (body : List ℕ) → 2 < tag → front_refusal (body_front len at tag body) ≡ Some (Tag at tag)
+other_tag len at zero body other = absurd (omega arith)
+other_tag len at (suc zero) body other = absurd (omega arith)
+other_tag len at (suc (suc zero)) body other = absurd (omega arith)
+other_tag len at (suc (suc (suc tag))) body other = refl
+
+empty_range : (len at : ℕ) (body : List ℕ) → HasEmptyRange body → front_refusal (body_front len at 0 body) ≡ Some (Range at (low_in body) (high_in body))
+empty_range len at body fault =
+    let n = counters_in body in
+    let fields : ltb (length body) 32 ≡ false = le-ltb (length body) 32 fault.fields in
+    let empty : (ltb 0 n && leb (high_in body) (low_in body)) ≡ true = and_from (ltb 0 n) (leb (high_in body) (low_in body)) (lt-ltb 0 n fault.counters) (le-leb (high_in body) (low_in body) fault.range) in
+    rw (fields, empty) refl
+
+torn : (len at tag : ℕ) (body : List ℕ) → IsTorn tag body → front_refusal (body_front len at tag body) ≡ Some (Short len)
+torn len at tag body (TornFields b short) = let here : ltb (length b) 32 ≡ true = lt-ltb (length b) 32 short in rw here refl
+torn len at tag body (TornCounters b range short) =
+    let after = drop 1 (drop 15 (drop 16 b)) in
+    elim (cases_lt (length b) 32) [
+      | inl few ↦ let here : ltb (length b) 32 ≡ true = lt-ltb (length b) 32 few in rw here refl
+      | inr all ↦
+          let fields : ltb (length b) 32 ≡ false = le-ltb (length b) 32 all in
+          let shared = no_range (counters_in b) (low_in b) (high_in b) range in
+          let here : ltb (length after) (counters_in b * 2) ≡ true = lt-ltb (length after) (counters_in b * 2) (omega (arith, counters_long b, short, all)) in
+          rw (fields, shared, here) refl
+    ]
+torn len at tag body (TornArc b short) = let here : ltb (length b) 12 ≡ true = lt-ltb (length b) 12 short in rw here refl
+torn len at tag body (TornNumber b short) = let here : ltb (length b) 4 ≡ true = lt-ltb (length b) 4 short in rw here refl
+torn len at tag body (TornPairs b short) =
+    let after = drop 4 b in
+    elim (cases_lt (length b) 4) [
+      | inl few ↦ let here : ltb (length b) 4 ≡ true = lt-ltb (length b) 4 few in rw here refl
+      | inr all ↦
+          let number : ltb (length b) 4 ≡ false = le-ltb (length b) 4 all in
+          let here : ltb (length after) (pairs_in b * 8) ≡ true = lt-ltb (length after) (pairs_in b * 8) (omega (arith, length-drop 4 b, short, all)) in
+          rw (number, here) refl
+    ]
+
+fault_answered : (bytes : List ℕ) (e : GmonRefusal) → HasFault bytes e → gnu_refusal bytes ≡ Some e
+fault_answered bytes e (TornHeader short) = let here : ltb (length bytes) 20 ≡ true = lt-ltb (length bytes) 20 short in rw here refl
+fault_answered bytes e (OtherVersion long other) =
+    let here : ltb (length bytes) 20 ≡ false = le-ltb (length bytes) 20 long in
+    let differs : not (eqb (word_at bytes 4) version) ≡ true = ap not (ne_eqb (word_at bytes 4) version other) in
+    rw (here, differs) refl
+fault_answered bytes e (OtherTag at tag body here other) = record_refused bytes at tag body (Tag at tag) here (other_tag (length bytes) at tag body other)
+fault_answered bytes e (EmptyRange at body here fault) = record_refused bytes at 0 body (Range at (low_in body) (high_in body)) here (empty_range (length bytes) at body fault)
+fault_answered bytes e (TornRecord at tag body here fault) = record_refused bytes at tag body (Short (length bytes)) here (torn (length bytes) at tag body fault)
+
+-- ---- what is refused has a fault
+
+refused_by : (b : Bool) (x e : GmonRefusal) (f : Front) → front_refusal (if b then Refused x else f) ≡ Some e → ((b ≡ true) × (x ≡ e)) ⊎ ((b ≡ false) × (front_refusal f ≡ Some e))
+refused_by true x e f is = inl (refl, cc)
+refused_by false x e f is = inr (refl, is)
+
+hist_fault : (bytes : List ℕ) (at : ℕ) (body : List ℕ) (e : GmonRefusal) → RecordAt bytes at 0 body → front_refusal (body_front (length bytes) at 0 body) ≡ Some e → HasFault bytes e
+hist_fault bytes at body e here is =
+    let low = low_in body in
+    let high = high_in body in
+    let n = counters_in body in
+    let after = drop 1 (drop 15 (drop 16 body)) in
+    elim (refused_by (ltb (length body) 32) (Short (length bytes)) e _ is) [
+      | inl few ↦ subst (HasFault bytes) few.1 (TornRecord at 0 body here (TornFields body (ltb-true (length body) 32 few.0)))
+      | inr fields ↦ elim (refused_by (ltb 0 n && leb high low) (Range at low high) e _ fields.1) [
+        | inl empty ↦
+            let parts = and_parts (ltb 0 n) (leb high low) empty.0 in
+            subst (HasFault bytes) empty.1 (EmptyRange at body here (record { fields = ltb-false (length body) 32 fields.0; counters = ltb-true 0 n parts.0; range = leb-true high low parts.1 }))
+        | inr shared ↦ elim (refused_by (ltb (length after) (n * 2)) (Short (length bytes)) e _ shared.1) [
+          | inl few ↦
+              let short : length body < 32 + 2 * n = omega (arith, ltb-false (length body) 32 fields.0, ltb-true (length after) (n * 2) few.0, counters_long body) in
+              subst (HasFault bytes) few.1 (TornRecord at 0 body here (TornCounters body (λ some. leb-false high low (right_of (ltb 0 n) (leb high low) shared.0 (lt-ltb 0 n some))) short))
+          | inr all ↦ absurd cc
+        ]
+      ]
+    ]
+
+front_fault : (bytes : List ℕ) (at tag : ℕ) (body : List ℕ) (e : GmonRefusal) → RecordAt bytes at tag body → front_refusal (body_front (length bytes) at tag body) ≡ Some e → HasFault bytes e
+front_fault bytes at zero body e here is = hist_fault bytes at body e here is
+front_fault bytes at (suc zero) body e here is =
+    elim (refused_by (ltb (length body) 12) (Short (length bytes)) e _ is) [
+      | inl few ↦ subst (HasFault bytes) few.1 (TornRecord at 1 body here (TornArc body (ltb-true (length body) 12 few.0)))
+      | inr all ↦ absurd cc
+    ]
+front_fault bytes at (suc (suc zero)) body e here is =
+    let after = drop 4 body in
+    let n = pairs_in body in
+    elim (refused_by (ltb (length body) 4) (Short (length bytes)) e _ is) [
+      | inl few ↦ subst (HasFault bytes) few.1 (TornRecord at 2 body here (TornNumber body (ltb-true (length body) 4 few.0)))
+      | inr number ↦ elim (refused_by (ltb (length after) (n * 8)) (Short (length bytes)) e _ number.1) [
+        | inl few ↦
+            let short : length body < 4 + 8 * n = omega (arith, ltb-false (length body) 4 number.0, ltb-true (length after) (n * 8) few.0, length-drop 4 body) in
+            subst (HasFault bytes) few.1 (TornRecord at 2 body here (TornPairs body short))
+        | inr all ↦ absurd cc
+      ]
+    ]
+front_fault bytes at (suc (suc (suc tag))) body e here is =
+    let same : Tag at (suc (suc (suc tag))) ≡ e = cc in
+    subst (HasFault bytes) same (OtherTag at (suc (suc (suc tag))) body here (omega arith))
+
+-- a text of records of which one is refused, with that one and those before it
+record RefusedIn (len : ℕ) (text : List ℕ) (e : GmonRefusal) : Type 0 where
+  pub recs : List Rec
+  pub tag : ℕ
+  pub body : List ℕ
+  pub text_is : text ≡ flat_map rec_bytes recs ++ tag ∷ body
+  pub fits : AllByRecursion RecFits recs
+  pub refused : front_refusal (body_front len (len - length (tag ∷ body)) tag body) ≡ Some e
+
+one_more : (len : ℕ) (text : List ℕ) (r : Rec) (rest : List ℕ) (e : GmonRefusal) → Spelled text r rest → RefusedIn len rest e → RefusedIn len text e
+one_more len text r rest e spelled behind_it =
+    record {
+      recs = r ∷ behind_it.recs;
+      tag = behind_it.tag;
+      body = behind_it.body;
+      text_is = spelled.text_is ∙ ap (rec_text r) behind_it.text_is ∙ sym (next_text r behind_it.recs (behind_it.tag ∷ behind_it.body));
+      fits = (spelled.fits, behind_it.fits);
+      refused = behind_it.refused;
+    }
+
+recs_refused : (len n : ℕ) (bs : List ℕ) (e : GmonRefusal) → length bs ≤ n → IsBytes bs → refusal_in (recs_from len n bs) ≡ Some e → RefusedIn len bs e
+recs_refused len n [] e le bytes is = absurd cc
+recs_refused len zero (tag ∷ body) e le bytes is = absurd cc
+recs_refused len (suc n) (tag ∷ body) e le bytes is = by (body_front len (len - length (tag ∷ body)) tag body) refl is (recs_refused len n)
+  where
+    by : (f : Front) → body_front len (len - length (tag ∷ body)) tag body ≡ f → refusal_in (after_front (λ rest. recs_from len n rest) f) ≡ Some e
+        → ((bs : List ℕ) (e : GmonRefusal) → length bs ≤ n → IsBytes bs → refusal_in (recs_from len n bs) ≡ Some e → RefusedIn len bs e) → RefusedIn len (tag ∷ body) e
+    by (Refused x) f_is is others = record { recs = []; tag = tag; body = body; text_is = refl; fits = tt; refused = ap front_refusal f_is ∙ is }
+    by (Found r rest) f_is is others =
+        let spelled = front_spelled len (len - length (tag ∷ body)) tag body r rest (IsBytes-rest tag body bytes) f_is in
+        one_more len (tag ∷ body) r rest e spelled
+        (others rest e (omega (arith, le, shorter r rest, ap length spelled.text_is)) spelled.bytes (sym (refusal_behind r (recs_from len n rest)) ∙ is))
+
+-- behind a header without a fault
+file_fault : (bytes : List ℕ) (e : GmonRefusal) → IsBytes bytes → 20 ≤ length bytes → word_at bytes 4 ≡ version → refusal_in (file_recs bytes) ≡ Some e → HasFault bytes e
+file_fault bytes e are long version_is is =
+    let found = recs_refused (length bytes) (length bytes) (drop 20 bytes) e (omega (arith, length-drop 20 bytes)) (IsBytes-drop 20 bytes are) is in
+    let first = take 4 bytes in
+    let spare = take 12 (drop 8 bytes) in
+    let tail = found.tag ∷ found.body in
+    let text = spelling first spare found.recs in
+    let bytes_are : bytes ≡ text ++ tail =
+    sym (header_then bytes are long version_is) ∙ ap (λ (v : List ℕ). first ++ (le version 4 ++ (spare ++ v))) found.text_is ∙ sym (spelling_then first spare found.recs tail) in
+    front_fault bytes (length bytes - length tail) found.tag found.body e
+    (record {
+      first = first;
+      spare = spare;
+      recs = found.recs;
+      text = bytes_are;
+      place = place_of bytes text tail bytes_are;
+      first_fits = omega (arith, long, length-take 4 bytes);
+      spare_fits = omega (arith, long, length-take 12 (drop 8 bytes), length-drop 8 bytes);
+      recs_fit = found.fits;
+    })
+    found.refused
+
+some_by : (b : Bool) (x e : GmonRefusal) (o : Option GmonRefusal) → (if b then Some x else o) ≡ Some e → ((b ≡ true) × (x ≡ e)) ⊎ ((b ≡ false) × (o ≡ Some e))
+some_by true x e o is = inl (refl, cc)
+some_by false x e o is = inr (refl, is)
+
+refused_has_fault : (bytes : List ℕ) (e : GmonRefusal) → IsBytes bytes → gnu_refusal bytes ≡ Some e → HasFault bytes e
+refused_has_fault bytes e are is =
+    let found = word_at bytes 4 in
+    elim (some_by (ltb (length bytes) 20) (Short (length bytes)) e _ is) [
+      | inl few ↦ subst (HasFault bytes) few.1 (TornHeader (ltb-true (length bytes) 20 few.0))
+      | inr header ↦ elim (some_by (not (eqb found version)) (Version found) e _ header.1) [
+        | inl other ↦ subst (HasFault bytes) other.1 (OtherVersion (ltb-false (length bytes) 20 header.0) (eqb-false found version (not-true (eqb found version) other.0)))
+        | inr same ↦ file_fault bytes e are (ltb-false (length bytes) 20 header.0) (eqb-true found version (not-false (eqb found version) same.0)) same.1
+      ]
+    ]
+
+pub faults_answered : FaultsAreAnswered
+faults_answered bytes are e = (refused_has_fault bytes e are, fault_answered bytes e)

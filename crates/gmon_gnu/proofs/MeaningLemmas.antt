@@ -22,7 +22,7 @@ use Rattle.gmon_gnu.proofs.SpellingLemmas.{Whole, whole_accepted, gnu, rec_text,
 -- ---- one record
 
 -- a record and what follows are spelled by the text
-record Spelled (text : List ℕ) (r : Rec) (rest : List ℕ) : Type 0 where
+pub record Spelled (text : List ℕ) (r : Rec) (rest : List ℕ) : Type 0 where
   pub text_is : text ≡ rec_text r rest
   pub fits : RecFits r
   pub bytes : IsBytes rest
@@ -36,7 +36,7 @@ head_tail : (xs : List ℕ) → 0 < length xs → slice_index xs 0 ∷ drop 1 xs
 head_tail [] lt = absurd (let f : 1 ≤ 0 = lt in omega (arith, f))
 head_tail (x ∷ xs) lt = refl
 
-right_of : (a b : Bool) → (a && b) ≡ false → a ≡ true → b ≡ false
+pub right_of : (a b : Bool) → (a && b) ≡ false → a ≡ true → b ≡ false
 right_of true b h e = h
 right_of false b h e = absurd cc
 
@@ -118,7 +118,7 @@ blocks_front_spelled len at body r rest bytes is =
       bytes = IsBytes-drop (n * 8) after after_bytes;
     })
 
-front_spelled : (len at tag : ℕ) (body : List ℕ) (r : Rec) (rest : List ℕ) → IsBytes body → body_front len at tag body ≡ Found r rest → Spelled (tag ∷ body) r rest
+pub front_spelled : (len at tag : ℕ) (body : List ℕ) (r : Rec) (rest : List ℕ) → IsBytes body → body_front len at tag body ≡ Found r rest → Spelled (tag ∷ body) r rest
 front_spelled len at zero body r rest bytes is = hist_front_spelled len at body r rest bytes is
 front_spelled len at (suc zero) body r rest bytes is = arc_front_spelled len at body r rest bytes is
 front_spelled len at (suc (suc zero)) body r rest bytes is = blocks_front_spelled len at body r rest bytes is
@@ -165,6 +165,14 @@ ok_where_accepted : (o : Result (List Rec) GmonRefusal) → refusal_in o ≡ Non
 ok_where_accepted (Ok rs) e = refl
 ok_where_accepted (Err refusal) e = absurd cc
 
+-- the header of a text, and what stands behind it
+pub header_then : (bs : List ℕ) → IsBytes bs → 20 ≤ length bs → word_at bs 4 ≡ version → take 4 bs ++ (le version 4 ++ (take 12 (drop 8 bs) ++ drop 20 bs)) ≡ bs
+header_then bs bytes long version_is =
+    let t8 : take 12 (drop 8 bs) ++ drop 20 bs ≡ drop 8 bs = ap (λ (v : List ℕ). take 12 (drop 8 bs) ++ v) (sym (drop-drop 12 8 bs)) ∙ take-append-drop 12 (drop 8 bs) in
+    let t4 : le version 4 ++ (take 12 (drop 8 bs) ++ drop 20 bs) ≡ drop 4 bs =
+    ap (λ (k : ℕ). le k 4 ++ (take 12 (drop 8 bs) ++ drop 20 bs)) (sym version_is) ∙ ap (λ (v : List ℕ). le (word_at bs 4) 4 ++ v) t8 ∙ field_then 4 4 bs bytes (omega (arith, long)) in
+    ap (λ (v : List ℕ). take 4 bs ++ v) t4 ∙ take-append-drop 4 bs
+
 pub spelled_of : (bytes : List ℕ) → IsBytes bytes → gnu_refusal bytes ≡ None → GnuSpells bytes (gnu_records bytes)
 spelled_of bs bytes e =
     let a = none_then (ltb (length bs) 20) _ _ e in
@@ -172,16 +180,13 @@ spelled_of bs bytes e =
     let long = ltb-false (length bs) 20 a.0 in
     let version_is : word_at bs 4 ≡ version = eqb-true (word_at bs 4) version (not-false (eqb (word_at bs 4) version) b.0) in
     let recs = recs_in (file_recs bs) in
-    let text = flat_map rec_bytes recs in
     let all = recs_spelled (length bs) (length bs) (drop 20 bs) recs (omega (arith, length-drop 20 bs)) (IsBytes-drop 20 bs bytes) (ok_where_accepted (file_recs bs) b.1) in
     let spare = take 12 (drop 8 bs) in
-    let t8 : spare ++ text ≡ drop 8 bs = ap (λ (v : List ℕ). spare ++ v) (sym all.text_is ∙ sym (drop-drop 12 8 bs)) ∙ take-append-drop 12 (drop 8 bs) in
-    let t4 : le version 4 ++ (spare ++ text) ≡ drop 4 bs = ap (λ (k : ℕ). le k 4 ++ (spare ++ text)) (sym version_is) ∙ ap (λ (v : List ℕ). le (word_at bs 4) 4 ++ v) t8 ∙ field_then 4 4 bs bytes (omega (arith, long)) in
     record {
       first = take 4 bs;
       spare = spare;
       form = refl;
-      text = sym (ap (λ (v : List ℕ). take 4 bs ++ v) t4 ∙ take-append-drop 4 bs);
+      text = sym (header_then bs bytes long version_is) ∙ ap (λ (v : List ℕ). take 4 bs ++ (le version 4 ++ (spare ++ v))) all.text_is;
       first_fits = omega (arith, long, length-take 4 bs);
       spare_fits = omega (arith, long, length-take 12 (drop 8 bs), length-drop 8 bs);
       recs_fit = all.fits;

@@ -36,7 +36,7 @@ rec_then (Blocks blocks) rest = refl
 
 -- ---- one record
 
-no_range : (n low high : ℕ) → (0 < n → low < high) → (ltb 0 n && leb high low) ≡ false
+pub no_range : (n low high : ℕ) → (0 < n → low < high) → (ltb 0 n && leb high low) ≡ false
 no_range n low high h =
     elim (cases_lt 0 n) [
       | inl some ↦ and_right (ltb 0 n) (leb high low) (lt-leb high low (h some))

@@ -3,7 +3,7 @@
 ghost use Rattle.std.specs.Prelude.{◌≡◌, List, ℕ, None};
 ghost use Rattle.gp_base.specs.Bytes.{IsBytes};
 ghost use Rattle.gp_base.specs.declared.records.Records.{Records};
-ghost use Rattle.gmon_gnu.specs.Faults.{FirstFaultsAreAnswered};
+ghost use Rattle.gmon_gnu.specs.Faults.{FaultsAreAnswered};
 ghost use Rattle.gmon_gnu.specs.Grammar.{GnuSpells};
 ghost use Rattle.gmon_gnu.specs.Reading.{gnu_refusal, gnu_records};
 ghost use Rattle.gmon_gnu.specs.ProfileText.{ProfilesAreSpelled, ProfilesAreReadBack};
@@ -17,9 +17,10 @@ pub fn one_meaning()
     ensures only { (bytes : List ℕ) (r : Records) → GnuSpells bytes r → r ≡ gnu_records bytes }
 {}
 
-/// Behind records without a fault, what is refused of the next record is refused of the file.
+/// A file is refused exactly where it has a fault by the grammar, and with the refusal that names it: a fault
+/// of the header, or of the record behind records without a fault.
 pub fn first_fault()
-    ensures { FirstFaultsAreAnswered }
+    ensures { FaultsAreAnswered }
 {}
 
 /// The file of a run is read as what was logged: its counters and its arcs, in order. It holds for the

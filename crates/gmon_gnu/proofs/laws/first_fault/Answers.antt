@@ -1,5 +1,5 @@
-use Rattle.gmon_gnu.proofs.FaultLemmas.{first_faults}
+use Rattle.gmon_gnu.proofs.FaultLemmas.{faults_answered}
 use Rattle.gmon_gnu.proofs.laws.first_fault.Goals as goal
 
 pub returns : goal.returns
-returns c = first_faults
+returns c = faults_answered
