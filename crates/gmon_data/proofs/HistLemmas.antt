@@ -1,5 +1,5 @@
 -- A histogram takes its place.
-use Rattle.std.proofs.Common.{◌≡◌, ◌↔◌, ℕ, zero, suc, ◌<◌, ◌≤◌, Bool, true, false, ltb, eqb, List, [], ◌∷◌, length, sum, set, insert, slice_get, get_or, fold, Option, Some, None, unwrap_or, refl, sym, ap, ◌∙◌, if◌then◌else◌, true≢false, not, ◌&&◌, ◌+◌, arith}
+use Rattle.std.proofs.Common.{◌≡◌, ◌↔◌, ℕ, zero, suc, ◌<◌, ◌≤◌, Bool, true, false, ltb, eqb, List, [], ◌∷◌, length, sum, drop, set, insert, slice_get, get_or, fold, Option, Some, None, unwrap_or, refl, sym, ap, ◌∙◌, if◌then◌else◌, true≢false, not, ◌&&◌, ◌+◌, add-one, arith}
 use Rattle.std.proofs.lemmas.Bool.{lt-ltb, ltb-false, ltb-true, eq-eqb, eqb-true}
 use Rattle.gmon_data.specs.declared.hist.Hist.{Hist}
 use Rattle.gmon_data.specs.declared.hist.HistRange.{HistRange}
@@ -90,6 +90,25 @@ counters-put h (k ∷ ks) = by (ltb k.low h.low) (eqb k.low h.low) (counters-put
     by true e others = omega (arith, others, sum_by-cons (λ (k : Hist). length k.counters) k (put_hist h ks))
     by false true others = omega (arith, longer k.counters h.counters, sum_by-cons (λ (k : Hist). length k.counters) (hist_sum k h) ks)
     by false false others = omega (arith, sum_by-cons (λ (k : Hist). length k.counters) h (k ∷ ks))
+
+-- each has a counter
+pub hists-within : (hs : List Hist) → AllByRecursion IsKept hs → length hs ≤ sum_by (λ k. length k.counters) hs
+hists-within [] kept = omega arith
+hists-within (k ∷ ks) kept = omega (arith, kept.0.some, hists-within ks kept.1, sum_by-cons (λ (k : Hist). length k.counters) k ks)
+
+-- the samples from one place on
+pub samples-drop : (hs : List Hist) (i : ℕ) (h : Hist) → slice_get hs i ≡ Some h → samples_of (drop i hs) ≡ sum h.counters + samples_of (drop (i + 1) hs)
+samples-drop [] i h at = absurd cc
+samples-drop (k ∷ ks) zero h at =
+    let same : sum k.counters ≡ sum h.counters = ap (λ (z : Hist). sum z.counters) (some_same k h at) in
+    let g : samples_of (k ∷ ks) ≡ sum h.counters + samples_of ks = omega (arith, same, sum_by-cons (λ (z : Hist). sum z.counters) k ks) in g
+samples-drop (k ∷ ks) (suc i) h at =
+    samples-drop ks i h at ∙ ap (λ n. sum h.counters + samples_of (drop n ks)) (add-one i) ∙ ap (λ n. sum h.counters + samples_of (drop n (k ∷ ks))) (sym (add-one (suc i)))
+
+pub samples-at : (hs : List Hist) (i : ℕ) (k : Hist) → slice_get hs i ≡ Some k → sum k.counters ≤ samples_of hs
+samples-at [] i k at = absurd cc
+samples-at (x ∷ xs) zero k at = omega (arith, ap (λ (z : Hist). sum z.counters) (some_same x k at), sum_by-cons (λ (z : Hist). sum z.counters) x xs)
+samples-at (x ∷ xs) (suc i) k at = omega (arith, samples-at xs i k at, sum_by-cons (λ (z : Hist). sum z.counters) x xs)
 
 pub counters-at : (hs : List Hist) (i : ℕ) (k : Hist) → slice_get hs i ≡ Some k → length k.counters ≤ sum_by (λ k. length k.counters) hs
 counters-at [] i k at = absurd cc

@@ -1,4 +1,6 @@
 pub mod TallyLemmas
+pub mod ChunkLemmas
+pub mod PointLemmas
 pub mod CounterLemmas
 pub mod HistLemmas
 pub mod SearchLemmas

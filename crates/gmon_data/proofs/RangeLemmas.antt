@@ -1,14 +1,11 @@
 -- The ranges of the histograms of a content.
-use Rattle.std.proofs.Common.{◌≡◌, ◌↔◌, ◌⊎◌, inl, inr, ℕ, zero, suc, ◌<◌, ◌≤◌, Bool, true, false, ltb, eqb, ◌&&◌, not, List, [], ◌∷◌, ◌++◌, length, map, filter_map, get_or, Contains, Option, Some, None, unwrap_or, refl, sym, ap, subst, ◌∙◌, if◌then◌else◌, true≢false, ⊎_elim, arith}
+use Rattle.std.proofs.Common.{◌≡◌, ◌↔◌, ◌⊎◌, inl, inr, ℕ, zero, suc, ◌<◌, Bool, true, false, ltb, eqb, ◌&&◌, not, List, [], ◌∷◌, length, map, filter_map, get_or, Contains, None, refl, sym, ap, subst, ◌∙◌, if◌then◌else◌, true≢false, ⊎_elim, arith}
 use Rattle.std.proofs.lemmas.Bool.{eqb-true, lt-ltb, ltb-true, and_parts}
 use Rattle.std.proofs.lemmas.List.Elements.{recursion_from_All}
 use Rattle.std.specs.List.{All, AllByRecursion}
-use Rattle.std.specs.Option.{option_or}
-use Rattle.gp_base.specs.declared.records.Unit as units
 use Rattle.gmon_data.specs.declared.hist.Hist.{Hist}
 use Rattle.gmon_data.specs.declared.hist.HistRange.{HistRange}
-use Rattle.gmon_data.specs.declared.refusal.Unlike.{Unlike}
-use Rattle.gmon_data.specs.Content.{Content, WideRec, WideHist, WideArc, WideBlock, conflict_of, content_of, empty_content, hist_in, record_conflict, with_hist, with_record, with_records, HasSpan}
+use Rattle.gmon_data.specs.Content.{Content, WideRec, WideHist, WideArc, WideBlock, conflict_of, content_of, empty_content, hist_in, record_conflict, with_hist, with_records, HasSpan}
 use Rattle.gmon_data.specs.Hists.{conflict_with, has_counters, hist_sum, kept_unit, overlap, put_hist, range_conflict, range_of, same_range, unit_conflict, IsApart, IsKept}
 use Rattle.gmon_data.specs.Laws.{HaveRangesOf}
 use Rattle.gmon_data.proofs.CounterLemmas.{length-pointwise}

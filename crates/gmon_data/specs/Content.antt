@@ -1,5 +1,5 @@
 -- What a list of records adds up to.
-use Rattle.std.specs.Prelude.{◌≡◌, ℕ, ◌^◌, ◌<◌, Bool, ◌&&◌, nat_eq, List, [], ◌∷◌, ◌++◌, length, slice_get, fold, unwrap_or, filter_map, map, Option, Some, None, ⊤, if◌then◌else◌}
+use Rattle.std.specs.Prelude.{◌≡◌, ℕ, ◌^◌, ◌<◌, Bool, true, false, ◌&&◌, nat_eq, List, [], ◌∷◌, ◌++◌, length, slice_get, fold, unwrap_or, filter_map, map, Option, Some, None, ⊤, if◌then◌else◌}
 use Rattle.gp_base.specs.declared.records.Unit as units
 use Rattle.gp_base.specs.declared.records.RawHist.{RawHist}
 use Rattle.gp_base.specs.declared.records.RawBlock.{RawBlock}
@@ -104,6 +104,11 @@ wide_record (raw.Blocks blocks) = map wide_block blocks
 
 abbrev pub wide_records : List Rec → List WideRec
 wide_records recs = flat_map wide_record recs
+
+abbrev pub is_arc : Rec → Bool
+is_arc (raw.Hist hist) = false
+is_arc (raw.Arc arc) = true
+is_arc (raw.Blocks blocks) = false
 
 -- the counters of a histogram, if there are any, share a range that isn't empty
 abbrev pub HasSpan : WideRec → Type 0

@@ -1,5 +1,5 @@
 -- What follows from the definitions of a content.
-use Rattle.std.specs.Prelude.{◌≡◌, ◌↔◌, ◌++◌, ℕ, List, Option, None, filter_map, map, nat_eq, Contains}
+use Rattle.std.specs.Prelude.{◌≡◌, ◌↔◌, ◌++◌, ℕ, List, None, filter_map, map, nat_eq, Contains}
 use Rattle.std.specs.List.{sum_by, All, AllByRecursion}
 use Rattle.gmon_data.specs.declared.hist.Hist.{Hist}
 use Rattle.gmon_data.specs.declared.hist.HistRange.{HistRange}

@@ -2,8 +2,9 @@
 
 ghost use Rattle.std.specs.Prelude.{◌≡◌, ◌+◌, ◌^◌, ◌<◌, length, sum, IfOk};
 ghost use Rattle.gmon_data.specs.Content.{wide_hist};
-ghost use Rattle.gmon_data.specs.Hists.{range_of, pointwise_sum, samples_of};
+ghost use Rattle.gmon_data.specs.Hists.{hist_sum, range_of, pointwise_sum, samples_of};
 
+use crate::chunks::ChunkedList;
 use gp_base::{RawHist, Totals};
 use std::alloc::{AllocError, Global};
 
@@ -72,13 +73,31 @@ pub(crate) fn add_counters(counters: &mut Totals, more: &[u64])
     }
 }
 
-/// Histograms of the same numbers.
-pub(crate) fn clone_hists(alloc: Global, hists: &[Hist]) -> Result<Vec<Hist>, AllocError>
-    ensures { IfOk result (λ copies. copies.items ≡ hists.now) }
+/// A histogram with the counters of another one of as many added.
+pub(crate) fn with_counters_of(old: &Hist, new: Hist) -> Hist
+    requires same { length old.now.counters ≡ length new.counters }
+    requires fits { sum old.now.counters + sum new.counters < 2 ^ 64 }
+    ensures { result ≡ hist_sum old.now new }
 {
-    let mut copies = Vec::new(alloc);
-    for hist in hists {
-        copies.push(hist.try_clone()?)?;
+    let mut counters = new.counters;
+    add_counters(&mut counters, old.counters.as_slice());
+    Hist {
+        low: old.low,
+        high: old.high,
+        counters,
+    }
+}
+
+/// Histograms of the same numbers.
+pub(crate) fn clone_hists(
+    alloc: Global,
+    hists: &ChunkedList<Hist>,
+) -> Result<ChunkedList<Hist>, AllocError>
+    ensures { IfOk result (λ copies. copies ≡ hists.now) }
+{
+    let mut copies = ChunkedList::new(alloc);
+    for i in 0..hists.len() {
+        copies.insert(i, hists.get(i).try_clone()?)?;
     }
     Ok(copies)
 }
@@ -109,13 +128,13 @@ fn total(counters: &[u64]) -> u64
 }
 
 /// The samples of histograms.
-pub(crate) fn samples(hists: &[Hist]) -> u64
+pub(crate) fn samples(hists: &ChunkedList<Hist>) -> u64
     requires { samples_of hists.now < 2 ^ 64 }
     ensures { result ≡ samples_of hists.now }
 {
     let mut samples = 0;
-    for hist in hists {
-        samples += total(hist.counters.as_slice());
+    for i in 0..hists.len() {
+        samples += total(hists.get(i).counters.as_slice());
     }
     samples
 }

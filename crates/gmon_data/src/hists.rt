@@ -6,13 +6,14 @@ ghost use Rattle.std.specs.List.Sorted.{IsPartitionPoint};
 ghost use Rattle.gmon_data.specs.declared.hist.Hist.{Hist as AnyHist};
 ghost use Rattle.gmon_data.specs.Hists.{range_conflict, put_hist, place_of, samples_of, kept_unit, unit_conflict, conflict_with, IsKept, IsApart};
 
-use crate::hist::{Hist, HistRange, add_counters};
+use crate::chunks::ChunkedList;
+use crate::hist::{Hist, HistRange, with_counters_of};
 use crate::refusal::Unlike;
 use gp_base::Unit;
 use std::alloc::AllocError;
 
 /// How many kept histograms end at or below an address: they are the first ones.
-pub(crate) fn count_ended(hists: &[Hist], address: u32) -> usize
+pub(crate) fn count_ended(hists: &ChunkedList<Hist>, address: u32) -> usize
     requires kept { AllByRecursion IsKept hists.now }
     requires apart { IsApart hists.now }
     ensures inside { result ≤ length hists.now }
@@ -24,13 +25,17 @@ pub(crate) fn count_ended(hists: &[Hist], address: u32) -> usize
 /// The lowest kept histogram that overlaps the new range and differs from it, beside that range. Only the
 /// first one that ends above the new low address can be: of those behind it none overlaps where it is the
 /// new range itself, and none where it lies above.
-fn find_range_conflict(hists: &[Hist], new: HistRange) -> Option<Unlike>
+fn find_range_conflict(hists: &ChunkedList<Hist>, new: HistRange) -> Option<Unlike>
     requires counters { (i : ℕ) (k : AnyHist) → slice_get hists.now i ≡ Some k → length k.counters < 2 ^ 32 }
     requires kept { AllByRecursion IsKept hists.now }
     requires apart { IsApart hists.now }
     ensures { result ≡ range_conflict hists.now new }
 {
-    let old = hists.get(count_ended(hists, new.low))?.range();
+    let i = count_ended(hists, new.low);
+    if i >= hists.len() {
+        return None;
+    }
+    let old = hists.get(i).range();
     if old.low < new.high && old != new {
         return Some(Unlike::Range { old, new });
     }
@@ -67,7 +72,7 @@ fn find_unit_conflict(kept: Option<Unit>, new: Unit) -> Option<Unlike>
 
 /// Why a histogram with counters can't be added to those that are kept.
 pub(crate) fn conflict(
-    hists: &[Hist],
+    hists: &ChunkedList<Hist>,
     kept: Option<Unit>,
     range: HistRange,
     unit: Unit,
@@ -84,7 +89,7 @@ pub(crate) fn conflict(
 }
 
 /// How many kept histograms lie lower.
-fn place(hists: &[Hist], low: u32) -> usize
+fn place(hists: &ChunkedList<Hist>, low: u32) -> usize
     requires kept { AllByRecursion IsKept hists.now }
     requires apart { IsApart hists.now }
     ensures { result ≡ place_of low hists.now }
@@ -93,17 +98,19 @@ fn place(hists: &[Hist], low: u32) -> usize
 }
 
 /// Adds a histogram to the one with its low address, which has as many counters; else it takes its place.
-pub(crate) fn put(hists: &mut Vec<Hist>, new: Hist) -> Result<(), AllocError>
-    requires kept { AllByRecursion IsKept hists.old.items }
-    requires apart { IsApart hists.old.items }
-    requires same { (i : ℕ) (k : AnyHist) → slice_get hists.old.items i ≡ Some k → k.low ≡ new.low → length k.counters ≡ length new.counters }
-    requires fits { samples_of hists.old.items + sum new.counters < 2 ^ 64 }
-    ensures added { OnOk result (hists.new.items ≡ put_hist new hists.old.items) }
-    ensures unchanged { OnErr result (hists.new.items ≡ hists.old.items) }
+pub(crate) fn put(hists: &mut ChunkedList<Hist>, new: Hist) -> Result<(), AllocError>
+    requires kept { AllByRecursion IsKept hists.old }
+    requires apart { IsApart hists.old }
+    requires few { length hists.old + 1 < 2 ^ 64 }
+    requires same { (i : ℕ) (k : AnyHist) → slice_get hists.old i ≡ Some k → k.low ≡ new.low → length k.counters ≡ length new.counters }
+    requires fits { samples_of hists.old + sum new.counters < 2 ^ 64 }
+    ensures added { OnOk result (hists.new ≡ put_hist new hists.old) }
+    ensures unchanged { OnErr result (hists.new ≡ hists.old) }
 {
-    let i = place(hists.as_slice(), new.low);
-    if i < hists.len() && hists[i].low == new.low {
-        add_counters(&mut hists[i].counters, new.counters.as_slice());
+    let i = place(hists, new.low);
+    if i < hists.len() && hists.get(i).low == new.low {
+        let sum = with_counters_of(hists.get(i), new);
+        hists.set(i, sum);
     } else {
         hists.insert(i, new)?;
     }

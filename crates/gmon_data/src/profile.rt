@@ -1,13 +1,14 @@
 //! A profile, and what is added to it.
 
-ghost use Rattle.std.specs.Prelude.{◌≡◌, ◌↔◌, ◌^◌, ◌<◌, ℕ, List, ◌++◌, ◌∷◌, [], ◌≤◌, true, false, nat_le, length, map, slice_get, Some, None, IfOk, IfErr, OnOk, OnErr};
+ghost use Rattle.std.specs.Prelude.{◌≡◌, ◌↔◌, ◌^◌, ◌<◌, ℕ, List, ◌++◌, ◌∷◌, [], ◌≤◌, true, false, nat_le, length, map, count_by, slice_get, Some, None, IfOk, IfErr, OnOk, OnErr};
 ghost use Rattle.std.specs.List.{All};
 ghost use Rattle.std.specs.List.Sorted.{IsPartitionPoint};
 ghost use Rattle.gp_base.specs.Spans.{HasRange};
-ghost use Rattle.gmon_data.specs.Content.{HistNumbersFit, IsProfile, WideRec, WideHist, WideArc, WideBlock, empty_content, with_hist, with_arc, hist_conflict, with_block, content_of, IsWithin, IsAdded, IsStopped, conflict_of, runs_at, wide_block, wide_hist, wide_record, wide_records, with_records};
+ghost use Rattle.gmon_data.specs.Content.{HistNumbersFit, IsProfile, WideRec, WideHist, WideArc, WideBlock, empty_content, with_hist, with_arc, hist_conflict, is_arc, with_block, content_of, IsWithin, IsAdded, IsStopped, conflict_of, runs_at, wide_block, wide_hist, wide_record, wide_records, with_records};
 ghost use Rattle.gmon_data.specs.Hists.{IsKept, IsUnlike, conflict_with, kept_unit, range_of, samples_of, unlike_in};
 ghost use Rattle.gmon_data.specs.Tally.{total_of};
 
+use crate::chunks::ChunkedList;
 use crate::hist::{Hist, HistRange, clone_hists, raw_range, samples, widened};
 use crate::hists::{conflict, count_ended, normal_unit, put};
 use crate::refusal::{AddRefusal, Unlike};
@@ -21,7 +22,7 @@ use std::marker::Model;
 #[derive(Drop)]
 pub struct Profile {
     alloc: Global,
-    hists: Vec<Hist>,
+    hists: ChunkedList<Hist>,
     arcs: IndexMap<(u32, u32), u64>,
     blocks: IndexMap<u32, u64>,
     unit: Option<Unit>,
@@ -32,9 +33,16 @@ impl Model for Profile {
 
     ghost Value = { Content };
 
-    ghost view = { λ a. record { hists = a.hists.items; arcs = a.arcs.entries; blocks = a.blocks.entries; «unit» = a.«unit» } };
+    ghost view = { λ a. record { hists = a.hists; arcs = a.arcs.entries; blocks = a.blocks.entries; «unit» = a.«unit» } };
 
-    ghost invariant = { λ a. IsProfile (record { hists = a.hists.items; arcs = a.arcs.entries; blocks = a.blocks.entries; «unit» = a.«unit» }) };
+    ghost invariant = { λ a. IsProfile (record { hists = a.hists; arcs = a.arcs.entries; blocks = a.blocks.entries; «unit» = a.«unit» }) };
+}
+
+/// The number of arcs among records.
+fn count_arcs(recs: &[Rec]) -> usize
+    ensures { result ≡ count_by is_arc recs.now }
+{
+    recs.iter().filter(|rec| matches!(rec, Rec::Arc(_))).count()
 }
 
 impl Profile {
@@ -45,7 +53,7 @@ impl Profile {
     {
         Profile {
             alloc,
-            hists: Vec::new(alloc),
+            hists: ChunkedList::new(alloc),
             arcs: IndexMap::new(alloc),
             blocks: IndexMap::new(alloc),
             unit: None,
@@ -58,7 +66,7 @@ impl Profile {
     {
         Ok(Profile {
             alloc: self.alloc,
-            hists: clone_hists(self.alloc, self.hists.as_slice())?,
+            hists: clone_hists(self.alloc, &self.hists)?,
             arcs: self.arcs.clone()?,
             blocks: self.blocks.clone()?,
             unit: self.unit,
@@ -118,7 +126,7 @@ impl Profile {
     pub fn conflict(&self, range: HistRange, unit: Unit) -> Option<Unlike>
         ensures { result ≡ conflict_with self.now.hists self.now.«unit» range (kept_unit «unit») }
     {
-        conflict(self.hists.as_slice(), self.unit, range, normal_unit(unit))
+        conflict(&self.hists, self.unit, range, normal_unit(unit))
     }
 
     /// Refuses a histogram with counters that is unlike those that are kept.
@@ -188,6 +196,21 @@ impl Profile {
         add_to(&mut self.blocks, addr, count)
     }
 
+    /// Takes room for so many pairs more. The content is the same, whatever the answer: where there is no
+    /// room for all of them, there may still be for those that are new.
+    pub fn reserve_arcs(&mut self, more: usize) -> Result<(), AllocError>
+        ensures { self.new ≡ self.old }
+    {
+        self.arcs.reserve(more)
+    }
+
+    /// Takes room for so many block addresses more. The content is the same, whatever the answer.
+    pub fn reserve_blocks(&mut self, more: usize) -> Result<(), AllocError>
+        ensures { self.new ≡ self.old }
+    {
+        self.blocks.reserve(more)
+    }
+
     /// Adds the records of a file in order.
     ///
     /// Refusals: those of `add_hist` for the first refused histogram. After a refusal the records before
@@ -202,7 +225,9 @@ impl Profile {
         ensures stands { OnOk result ((recs : List WideRec) → self.old ≡ content_of recs → self.new ≡ content_of (recs ++ wide_records r.now.recs)) }
         ensures stopped { IfErr result (λ refusal. IsStopped refusal (wide_records r.now.recs) self.old self.new) }
     {
-        self.add_each(r.recs.as_slice())
+        let recs = r.recs.as_slice();
+        let _ = self.reserve_arcs(count_arcs(recs));
+        self.add_each(recs)
     }
 
     fn add_each(&mut self, recs: &[Rec]) -> Result<(), AddRefusal>
@@ -231,6 +256,15 @@ impl Profile {
     }
 
     fn add_blocks(&mut self, blocks: &[RawBlock]) -> Result<(), AddRefusal>
+        requires within { IsWithin (with_records (map wide_block blocks.now) self.old) }
+        ensures added { OnOk result (IsAdded (map wide_block blocks.now) self.old self.new) }
+        ensures stopped { IfErr result (λ refusal. IsStopped refusal (map wide_block blocks.now) self.old self.new) }
+    {
+        let _ = self.reserve_blocks(blocks.len());
+        self.add_each_block(blocks)
+    }
+
+    fn add_each_block(&mut self, blocks: &[RawBlock]) -> Result<(), AddRefusal>
         requires within { IsWithin (with_records (map wide_block blocks.now) self.old) }
         ensures added { OnOk result (IsAdded (map wide_block blocks.now) self.old self.new) }
         ensures stopped { IfErr result (λ refusal. IsStopped refusal (map wide_block blocks.now) self.old self.new) }
@@ -270,7 +304,7 @@ impl Profile {
         requires { i < length self.now.hists }
         ensures { slice_get self.now.hists i ≡ Some result.now }
     {
-        &self.hists[i]
+        self.hists.get(i)
     }
 
     /// How many histograms end at or below an address: they are the first ones. Takes time in the
@@ -280,7 +314,7 @@ impl Profile {
         ensures point { IsPartitionPoint (λ h. nat_le h.high address ≡ true) (λ h. nat_le h.high address ≡ false) self.now.hists result }
         ensures profile { IsProfile self.now }
     {
-        count_ended(self.hists.as_slice(), address)
+        count_ended(&self.hists, address)
     }
 
     /// The samples of all histograms.
@@ -288,7 +322,7 @@ impl Profile {
         ensures value { result ≡ samples_of self.now.hists }
         ensures profile { IsProfile self.now }
     {
-        samples(self.hists.as_slice())
+        samples(&self.hists)
     }
 
     /// The number of pairs.

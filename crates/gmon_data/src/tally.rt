@@ -20,8 +20,8 @@ pub(crate) fn add_to<K: Eq + Hash + Copy + Drop>(
     ensures distinct { IsDistinct K.eq (keys_of numbers.new.entries) }
     ensures unchanged { OnErr result (numbers.new.entries ≡ numbers.old.entries) }
 {
-    let before = numbers.get(&key).copied().unwrap_or(0);
-    numbers.insert(key, before + n)?;
+    let number = numbers.entry(key)?.or_insert(0);
+    *number += n;
     Ok(())
 }
 

@@ -1,4 +1,4 @@
-ghost use Rattle.std.specs.Prelude.{◌≡◌, ◌≤◌, [], ◌∷◌, length, sum, IfOk};
+ghost use Rattle.std.specs.Prelude.{◌≡◌, ◌<◌, ◌≤◌, [], ◌∷◌, length, sum, IfOk};
 ghost use Rattle.std.specs.List.{All};
 ghost use Rattle.gp_base.specs.Spans.{HasRange};
 ghost use Rattle.gmon_data.specs.Content.{empty_content, wide_records, with_records, IsWithin};
@@ -230,6 +230,8 @@ fn histograms_that_are_unlike(rt: HostRuntime) {
 #[test]
 fn numbers_of_64_bits(rt: HostRuntime) -> Result<(), Fail> {
     let mut profile = Profile::new(rt.alloc());
+    profile.reserve_arcs(100)?;
+    profile.reserve_blocks(100)?;
     profile.add_calls(0x1_0004, 0x1_0008, 1 << 58)?;
     profile.add_arc(RawArc {
         from: 0x1_0004,
@@ -325,5 +327,87 @@ fn a_conflict_is_told(rt: HostRuntime) -> Result<(), Fail> {
     };
     let range = Unlike::Range { old, new };
     assert_eq!(rt; conflict_of(rt.alloc(), 0x1_0004, 50)?, Some(range));
+    Ok(())
+}
+
+/// In which order the histograms of a profile come.
+#[derive(Clone, Copy)]
+enum Order {
+    Ascending,
+    Descending,
+    EverySecondFirst,
+}
+
+/// Where the histogram that comes `k`-th lies, of so many side by side.
+fn place_at(order: Order, k: u32, count: u32) -> u32
+    requires within { k < count }
+    requires few { count ≤ 1000000 }
+    ensures { result ≤ 2000000 }
+{
+    let half = count.div_ceil(2);
+    match order {
+        Order::Ascending => k,
+        Order::Descending => count - 1 - k,
+        Order::EverySecondFirst => { if k < half { 2 * k } else { 2 * (k - half) + 1 } }
+    }
+}
+
+/// A histogram of one counter.
+fn single(alloc: Global, place: u32) -> Result<Hist, AllocError>
+    requires { place ≤ 2000000 }
+    ensures range { IfOk result (λ hist. hist.low < hist.high) }
+    ensures counters { IfOk result (λ hist. hist.counters ≡ 1 ∷ []) }
+{
+    let mut counters = Totals::new(alloc);
+    counters.push(1)?;
+    Ok(Hist {
+        low: 16 * place,
+        high: 16 * place + 16,
+        counters,
+    })
+}
+
+/// A profile of so many histograms of one counter each, side by side, which came in an order.
+fn side_by_side(alloc: Global, order: Order, count: u32) -> Result<Profile, AddRefusal>
+    requires { count ≤ 1000000 }
+{
+    let mut profile = Profile::new(alloc);
+    for k in 0..count {
+        let hist = single(alloc, place_at(order, k, count))?;
+        profile.add_wide(&hist, seconds(100))?;
+    }
+    Ok(profile)
+}
+
+/// Whether each histogram is the one of its place.
+fn is_side_by_side(profile: &Profile) -> bool {
+    for i in 0..profile.hist_count() {
+        let hist = profile.hist(i);
+        let place = hist.low / 16;
+        if place as usize != i || hist.low % 16 != 0 || hist.counters.as_slice() != [1].as_slice() {
+            return false;
+        }
+    }
+    true
+}
+
+#[test]
+fn histograms_in_any_order(rt: HostRuntime) -> Result<(), Fail> {
+    let rows = [
+        ("ascending", Order::Ascending, 3000),
+        ("descending", Order::Descending, 3000),
+        ("every second one first", Order::EverySecondFirst, 3000),
+        ("one chunk", Order::Descending, 512),
+        ("two chunks", Order::Descending, 513),
+        ("one", Order::EverySecondFirst, 1),
+    ];
+    for (name, order, count) in rows {
+        let added = side_by_side(rt.alloc(), order, count)?;
+        let profile = added.try_clone()?;
+        assert_eq!(rt; profile.hist_count(), count as usize, "{name}");
+        assert_eq!(rt; profile.samples(), u64::from(count), "{name}");
+        assert_eq!(rt; is_side_by_side(&profile), true, "{name}");
+        assert_eq!(rt; is_side_by_side(&added), true, "{name}");
+    }
     Ok(())
 }

@@ -1,6 +1,6 @@
 //! A profile, added to another.
 
-ghost use Rattle.std.specs.Prelude.{◌≡◌, map, Some, None, IfErr, OnOk, OnErr};
+ghost use Rattle.std.specs.Prelude.{◌≡◌, map, Some, None, IfOk, IfErr, OnOk, OnErr};
 ghost use Rattle.gmon_data.specs.Content.{IsProfile, IsWithin, conflict_of, with_records};
 ghost use Rattle.gmon_data.specs.Hists.{IsUnlike};
 ghost use Rattle.profile_sum.specs.Sum.{arc_record, block_record, clash_of, hist_record, hist_records, sum_of, IsClash};
@@ -24,17 +24,65 @@ pub fn add_all(total: &mut Profile, more: &Profile) -> Result<(), SumRefusal>
     ensures added { OnOk result (total.new ≡ sum_of total.old more.now) }
     ensures unchanged { OnErr result (total.new ≡ total.old) }
 {
-    total.holds();
+    refuse_clash(total, more)?;
+    let mut sum = total.try_clone()?;
+    add_parts(&mut sum, more)?;
+    *total = sum;
+    Ok(())
+}
+
+/// Adds a profile to a total, as `add_all` does. The total goes into the sum, of which no copy is made; after
+/// a refusal it is gone.
+pub fn add_into(total: Profile, more: &Profile) -> Result<Profile, SumRefusal>
+    requires within { clash_of total more.now ≡ None → IsWithin (sum_of total more.now) }
+    ensures refusal { IfErr result (λ refusal. IsClash refusal (clash_of total more.now)) }
+    ensures accepted { OnOk result (clash_of total more.now ≡ None) }
+    ensures added { IfOk result (λ sum. sum ≡ sum_of total more.now) }
+{
+    let mut sum = total;
+    refuse_clash(&sum, more)?;
+    add_parts(&mut sum, more)?;
+    Ok(sum)
+}
+
+/// Refuses a profile with a histogram that can't be added to the total alone.
+fn refuse_clash(total: &Profile, more: &Profile) -> Result<(), SumRefusal>
+    ensures refusal { IfErr result (λ refusal. IsClash refusal (clash_of total.now more.now)) }
+    ensures accepted { OnOk result (clash_of total.now more.now ≡ None) }
+{
     more.holds();
     if let Some(unlike) = find_clash(total, more) {
         return Err(SumRefusal::Unlike(unlike));
     }
-    let mut sum = total.try_clone()?;
-    add_hists(&mut sum, more)?;
-    add_arcs(&mut sum, more)?;
-    add_blocks(&mut sum, more)?;
-    *total = sum;
     Ok(())
+}
+
+/// Adds the histograms, the calls and the executions of a profile without clash. After want of memory some
+/// first ones are added.
+fn add_parts(total: &mut Profile, more: &Profile) -> Result<(), SumRefusal>
+    requires accepted { clash_of total.old more.now ≡ None }
+    requires within { IsWithin (sum_of total.old more.now) }
+    ensures refusal { IfErr result (λ refusal. IsClash refusal (clash_of total.old more.now)) }
+    ensures added { OnOk result (total.new ≡ sum_of total.old more.now) }
+{
+    total.holds();
+    more.holds();
+    take_room(total, more);
+    add_hists(total, more)?;
+    add_arcs(total, more)?;
+    add_blocks(total, more)?;
+    Ok(())
+}
+
+/// Takes the room that the sum needs in any case, if there is as much: it has as many pairs and addresses as
+/// either profile.
+fn take_room(total: &mut Profile, more: &Profile)
+    ensures { total.new ≡ total.old }
+{
+    let arcs = more.arc_count().saturating_sub(total.arc_count());
+    let _ = total.reserve_arcs(arcs);
+    let blocks = more.block_count().saturating_sub(total.block_count());
+    let _ = total.reserve_blocks(blocks);
 }
 
 /// Why the first histogram that can't be added to the total alone can't be, if there is one.

@@ -5,7 +5,7 @@ pub mod adding;
 pub mod laws;
 pub mod refusal;
 
-pub use adding::add_all;
+pub use adding::{add_all, add_into};
 pub use refusal::SumRefusal;
 
 #[cfg(test)]

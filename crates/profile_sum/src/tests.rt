@@ -64,6 +64,37 @@ fn added(
     Ok((total, answer))
 }
 
+/// The sum into which the first one goes.
+fn added_into(
+    alloc: Global,
+    first: Rows<'_>,
+    second: Rows<'_>,
+) -> Result<Result<Profile, SumRefusal>, AddRefusal> {
+    let total = profile_of_rows(alloc, first)?;
+    let more = profile_of_rows(alloc, second)?;
+    Ok(add_into(total, &more))
+}
+
+/// Whether there is a sum, and it has these rows.
+fn is_sum(answer: &Result<Profile, SumRefusal>, sum: Rows<'_>) -> bool {
+    match answer {
+        Ok(total) => {
+            has_hists(total, sum.hists, sum.unit)
+                && has_arcs(total, sum.arcs)
+                && has_blocks(total, sum.blocks)
+        }
+        Err(_) => false,
+    }
+}
+
+/// Whether it is this refusal.
+fn is_refused(answer: &Result<Profile, SumRefusal>, refusal: Result<(), SumRefusal>) -> bool {
+    match answer {
+        Ok(_) => refusal.is_ok(),
+        Err(other) => Err(*other) == refusal,
+    }
+}
+
 /// Nothing.
 fn nothing() -> Rows<'static> {
     Rows {
@@ -195,6 +226,8 @@ fn sums_of_profiles(rt: HostRuntime) -> Result<(), Fail> {
         assert!(rt; has_hists(&total, sum.hists, sum.unit), "{name}");
         assert!(rt; has_arcs(&total, sum.arcs), "{name}");
         assert!(rt; has_blocks(&total, sum.blocks), "{name}");
+        let into = added_into(rt.alloc(), first, second)?;
+        assert!(rt; is_sum(&into, sum), "{name}");
     }
     Ok(())
 }
@@ -272,6 +305,8 @@ fn profiles_without_a_sum(rt: HostRuntime) -> Result<(), Fail> {
             (1, 4, 10),
             "{name}"
         );
+        let into = added_into(rt.alloc(), first, other)?;
+        assert!(rt; is_refused(&into, refusal), "{name}");
     }
     Ok(())
 }

@@ -3,7 +3,7 @@ use Rattle.std.proofs.lemmas.Result.{err_from_is_err_and}
 use Rattle.gp_base.specs.declared.records.RawBlock.{RawBlock}
 use Rattle.gmon_data.specs.Content.{wide_block}
 use Rattle.gmon_data.proofs.RecordLemmas.{at_begin, end_of_blocks, next_of_blocks, one_added, one_more, stop, stopped_before, within_next}
-use Rattle.gmon_data.proofs.profile.Profile.add_blocks.Goals as goal
+use Rattle.gmon_data.proofs.profile.Profile.add_each_block.Goals as goal
 
 abbrev none : RawBlock
 none = record { addr = 0; count = 0 }
