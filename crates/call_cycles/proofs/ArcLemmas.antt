@@ -1,68 +1,26 @@
--- The arcs between functions: those that a map of sums makes, where they lie, and how many calls they have.
-use Rattle.std.proofs.Common.{inl, inr, ◌≡◌, ◌≢◌, ◌<◌, ◌≤◌, ℕ, zero, suc, ◌+◌, get_or, ◌&&◌, ◌||◌, Bool, true, false, not, cond, List, [], ◌∷◌, ◌++◌, length, Option, Some, None, refl, ap, sym, ◌∙◌, subst, ⊎_elim, arith, append-nil, length-append, ◌-◌}
+-- The arcs between functions: where they lie, in which order, and how many calls they have.
+use Rattle.std.proofs.Common.{inl, inr, ◌≡◌, ◌≢◌, ◌<◌, ◌≤◌, ℕ, zero, suc, ◌+◌, get_or, ◌&&◌, ◌||◌, Bool, true, false, not, cond, List, [], ◌∷◌, ◌++◌, length, Option, Some, None, refl, ap, sym, ◌∙◌, subst, ⊎_elim, arith, length-append, ◌-◌}
 use Rattle.std.specs.Prelude.{◌==◌, nat_lt, slice_index, if◌then◌else◌}
 use Rattle.std.specs.List.{All, flat_map, sum_by, position_or_len}
 use Rattle.std.specs.Option.{option_map_or}
-use Rattle.std.specs.BTreeMap.{BTreeMap, IsOrdered}
 use Rattle.std.proofs.lemmas.Bool.{cases_lt, eqb-true, eqb-false, ne_eqb}
 use Rattle.std.proofs.lemmas.Bool.Decides.{nat_tests}
 use Rattle.std.proofs.lemmas.List.{take_all, get_or_default, get_or_append_left, get_or-append_right}
-use Rattle.std.proofs.lemmas.List.Concat.{flat_map-append}
 use Rattle.std.proofs.lemmas.List.Elements.{All-nil, All-cons}
 use Rattle.std.proofs.lemmas.List.Sums.{sum_by-cons}
 use Rattle.elf32_syms.specs.declared.image.Symbol.{Symbol}
 use Rattle.elf32_syms.specs.Owners.{owns, owner_of}
 use Rattle.gmon_data.specs.Tally.{total_of}
 use Rattle.call_cycles.specs.declared.graphs.FunArc.{FunArc}
-use Rattle.call_cycles.specs.Sums.{sum_below, when, numbers_below, list_of}
+use Rattle.call_cycles.specs.Sums.{sum_below, when, numbers_below}
 use Rattle.call_cycles.specs.Graph.{no_arc, IsArcBefore}
 use Rattle.call_cycles.specs.Parts.{AreCalled, arcs_calls}
-use Rattle.call_cycles.specs.Calls.{pair_cmp, some_calls, HasCalls, lies_in, calls_of, calls_between, arc_between, arcs_among, function_arcs, own_calls, calls_at, arc_in}
+use Rattle.call_cycles.specs.Calls.{lies_in, calls_of, calls_between, arc_between, arcs_among, function_arcs, own_calls}
 use Rattle.call_cycles.proofs.SumLemmas.{sum_ext, sum_add, sum_zero, sum_none, sum_mono, sum_at, sum_flat, sum_places, all_flat, flat_more}
-use Rattle.call_cycles.specs.Arcs.{AreByCaller, AreInOrder, AreWithin}
-use Rattle.call_cycles.proofs.CallLemmas.{calls_at_is}
+use Rattle.call_cycles.specs.Arcs.{AreByCaller, AreInOrder, AreWithin, IsArcBelow}
 use Rattle.call_cycles.proofs.ListLemmas.{list_at}
-use Rattle.call_cycles.proofs.PairLemmas.{entry_of, pair_entry, entries_in_order}
-
--- ---- the arcs that a map makes
-
-flat_flat : {A B C : Type 0} (h : B → List C) (k : A → List B) (xs : List A) → flat_map h (flat_map k xs) ≡ flat_map (λ x. flat_map h (k x)) xs
-flat_flat h k [] = refl
-flat_flat {A} {B} {C} h k (x ∷ xs) = flat_map-append h (k x) (flat_map k xs) ∙ ap (λ (ys : List C). flat_map h (k x) ++ ys) (flat_flat h k xs)
-
-flat_same : {A C : Type 0} (h k : A → List C) → ((x : A) → h x ≡ k x) → (xs : List A) → flat_map h xs ≡ flat_map k xs
-flat_same h k same [] = refl
-flat_same {A} {C} h k same (x ∷ xs) = ap (λ (ys : List C). ys ++ flat_map h xs) (same x) ∙ ap (λ (ys : List C). k x ++ ys) (flat_same h k same xs)
-
-arc_of_pair : (f g n : ℕ) (none same : Bool) → flat_map arc_in (entry_of (f, g) (if none then None else Some n)) ≡ (if none then [] else (if f == g then [] else record { caller = f; callee = g; count = n } ∷ []))
-arc_of_pair f g n true same = refl
-arc_of_pair f g n false same = append-nil (arc_in ((f, g), n))
-
-either : (a b : Bool) (xs : List FunArc) → (if b then [] else (if a then [] else xs)) ≡ (if a || b then [] else xs)
-either true true xs = refl
-either true false xs = refl
-either false true xs = refl
-either false false xs = refl
-
-pub made_arcs : (m : BTreeMap (ℕ × ℕ) ℕ) → IsOrdered pair_cmp m → (calls : ℕ → ℕ → ℕ) → HasCalls m calls → (n : ℕ) → ((f g : ℕ) → calls f g ≢ 0 → (f < n) × (g < n))
-    → flat_map arc_in m.entries ≡ arcs_among n calls
-unfolding arcs_among
-made_arcs m ordered calls has n within =
-    ap (flat_map arc_in) (entries_in_order m ordered calls has n within)
-    ∙ flat_flat arc_in (λ f. flat_map (pair_entry m ordered calls has n within f) (numbers_below n)) (numbers_below n)
-    ∙ flat_same _ _ (λ f. flat_flat arc_in (pair_entry m ordered calls has n within f) (numbers_below n) ∙ flat_same _ _ (one f) (numbers_below n)) (numbers_below n)
-  where
-    one : (f g : ℕ) → flat_map arc_in (entry_of (f, g) (some_calls (calls f g))) ≡ arc_between calls f g
-    one f g = arc_of_pair f g (calls f g) (calls f g == 0) (f == g) ∙ either (f == g) (calls f g == 0) (record { caller = f; callee = g; count = calls f g } ∷ [])
 
 -- ---- where they lie
-
--- between two of n functions, with calls
-pub record IsArcBelow (n : ℕ) (a : FunArc) : Type 0 where
-  pub caller : a.caller < n
-  pub callee : a.callee < n
-  pub called : 0 < a.count
-  pub apart : a.caller ≢ a.callee
 
 all_between : (calls : ℕ → ℕ → ℕ) (n f g : ℕ) → f < n → g < n → All (IsArcBelow n) (arc_between calls f g)
 all_between calls n f g low_f low_g = by (f == g) (calls f g == 0) refl refl
@@ -99,7 +57,7 @@ rows_below : (calls : ℕ → ℕ → ℕ) (n k : ℕ) → All (λ (a : FunArc).
 rows_below calls n k = all_flat (λ (a : FunArc). a.caller < k) (row_of calls n) k (λ f low i d inside. let at = own_row calls n f i d inside in omega arith)
 
 -- what holds of the first list stays, and the second one comes behind it
-in_order_after : (xs ys : List FunArc) → AreInOrder xs → AreInOrder ys → ((i j : ℕ) → i < length xs → j < length ys → IsArcBefore (get_or xs i no_arc) (get_or ys j no_arc)) → AreInOrder (xs ++ ys)
+pub in_order_after : (xs ys : List FunArc) → AreInOrder xs → AreInOrder ys → ((i j : ℕ) → i < length xs → j < length ys → IsArcBefore (get_or xs i no_arc) (get_or ys j no_arc)) → AreInOrder (xs ++ ys)
 in_order_after xs ys first second between i j less below =
     ⊎_elim
     (λ (front : j < length xs). rw (get_or_append_left xs ys no_arc i (omega arith), get_or_append_left xs ys no_arc j front) (first i j less front))
@@ -150,7 +108,7 @@ rows_rise calls n (suc k) =
     let at = own_row calls n k j no_arc back in
     inl (omega arith)))
 
-in_order : (calls : ℕ → ℕ → ℕ) (n : ℕ) → AreInOrder (arcs_among n calls)
+pub in_order : (calls : ℕ → ℕ → ℕ) (n : ℕ) → AreInOrder (arcs_among n calls)
 unfolding arcs_among
 in_order calls n = rows_rise calls n n
 
@@ -285,22 +243,16 @@ calls_few es symbols =
     let le = all_pairs (length symbols) es symbols in
     omega arith
 
--- ---- the parts of a graph that a map of sums makes
+-- ---- the parts of a graph of a profile
 
-module _ (m : BTreeMap (ℕ × ℕ) ℕ) (es : List ((ℕ × ℕ) × ℕ)) (symbols : List Symbol) (has : HasCalls m (calls_between es symbols)) where
-  pub made_function_arcs : IsOrdered pair_cmp m → (arcs : List FunArc) → arcs ≡ flat_map arc_in m.entries → arcs ≡ function_arcs es symbols
-  made_function_arcs ordered arcs is = is ∙ made_arcs m ordered (calls_between es symbols) has (length symbols) (calls_within es symbols)
-
-  pub made_own_calls : (n : ℕ) → n ≡ length symbols → (selves : List ℕ) → selves ≡ list_of n (λ f. calls_at m f f) → selves ≡ own_calls es symbols
-  made_own_calls n is_n selves is = is ∙ ap (λ (k : ℕ). list_of k (λ f. calls_at m f f)) is_n ∙ (λ i. list_of (length symbols) (λ f. calls_at_is m (calls_between es symbols) has f f i))
-
-  pub made_few : (arcs : List FunArc) (n : ℕ) (selves : List ℕ) → arcs ≡ function_arcs es symbols → n ≡ length symbols → selves ≡ own_calls es symbols → arcs_calls arcs + sum_below n (slice_index selves) ≤ total_of es
-  made_few arcs n selves is is_n is_selves =
-      let few = calls_few es symbols in
-      let one : arcs_calls arcs ≡ arcs_calls (function_arcs es symbols) = ap arcs_calls is in
-      let two : sum_below n (slice_index selves) ≡ sum_below (length symbols) (slice_index selves) = ap (λ (k : ℕ). sum_below k (slice_index selves)) is_n in
-      let three = sum_ext (length symbols) (slice_index selves) (λ f. calls_between es symbols f f) (λ f low. list_at (length symbols) (λ k. calls_between es symbols k k) selves is_selves f low) in
-      omega arith
+pub made_few : (es : List ((ℕ × ℕ) × ℕ)) (symbols : List Symbol) (arcs : List FunArc) (n : ℕ) (selves : List ℕ) → arcs ≡ function_arcs es symbols → n ≡ length symbols → selves ≡ own_calls es symbols
+    → arcs_calls arcs + sum_below n (slice_index selves) ≤ total_of es
+made_few es symbols arcs n selves is is_n is_selves =
+    let few = calls_few es symbols in
+    let one : arcs_calls arcs ≡ arcs_calls (function_arcs es symbols) = ap arcs_calls is in
+    let two : sum_below n (slice_index selves) ≡ sum_below (length symbols) (slice_index selves) = ap (λ (k : ℕ). sum_below k (slice_index selves)) is_n in
+    let three = sum_ext (length symbols) (slice_index selves) (λ f. calls_between es symbols f f) (λ f low. list_at (length symbols) (λ k. calls_between es symbols k k) selves is_selves f low) in
+    omega arith
 
 pub are_within : (es : List ((ℕ × ℕ) × ℕ)) (symbols : List Symbol) (arcs : List FunArc) (n : ℕ) → arcs ≡ function_arcs es symbols → n ≡ length symbols → AreWithin n arcs
 are_within es symbols arcs n is is_n i below =

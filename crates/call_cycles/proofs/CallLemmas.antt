@@ -1,82 +1,179 @@
--- Calls summed by pair, one arc of the profile after another.
-use Rattle.std.proofs.Common.{◌≡◌, ◌<◌, ◌≤◌, ℕ, zero, suc, ◌+◌, ◌&&◌, Bool, true, false, cond, List, [], length, take, get_or, Option, Some, None, refl, ap, sym, ◌∙◌, ⊎_elim, arith}
-use Rattle.std.specs.Prelude.{◌==◌, unwrap_or}
+-- Calls between functions, one arc of the profile after another.
+use Rattle.std.proofs.Common.{length-set, subst, ◌≡◌, ◌≢◌, ◌<◌, ◌≤◌, ℕ, ◌+◌, ◌&&◌, Bool, true, false, List, [], ◌∷◌, ◌++◌, length, take, get_or, Option, Some, None, refl, ap, sym, ◌∙◌, ⊎_elim, arith}
+use Rattle.std.specs.Prelude.{◌==◌, replicate, slice_index, slice_set}
 use Rattle.std.specs.Option.{option_map_or}
-use Rattle.std.specs.Ordering.{nat_cmp, is_eq, ordering_then}
-use Rattle.std.specs.BTreeMap.{BTreeMap, get, Updates}
-use Rattle.std.proofs.lemmas.Bool.{cases_Bool, eqb-true, ne_eqb, and_parts}
+use Rattle.std.specs.List.{All}
+use Rattle.std.proofs.lemmas.Bool.{cases_eq, cases_lt}
 use Rattle.std.proofs.lemmas.Bool.Decides.{nat_tests}
+use Rattle.std.proofs.lemmas.Grind.{get_or-set_at}
+use Rattle.std.proofs.lemmas.List.{get_or-set_other, get_or-replicate, get_or_past, length-replicate}
+use Rattle.std.proofs.lemmas.List.Quantifiers.{position-Some}
+use Rattle.std.proofs.lemmas.List.Elements.{All-nil, All-push}
+use Rattle.std.proofs.lemmas.List.FromFn.{fill_by_all}
 use Rattle.std.proofs.lemmas.List.Sums.{sum_by_more, sum_by_more_le_part}
 use Rattle.elf32_syms.specs.declared.image.Symbol.{Symbol}
-use Rattle.elf32_syms.specs.Owners.{owner_of}
+use Rattle.elf32_syms.specs.Owners.{owns, owner_of}
 use Rattle.gmon_data.specs.Tally.{total_of}
-use Rattle.call_cycles.specs.Sums.{when}
-use Rattle.call_cycles.specs.Calls.{pair_cmp, calls_at, some_calls, HasCalls, calls_of, calls_between}
+use Rattle.call_cycles.specs.declared.graphs.FunArc.{FunArc}
+use Rattle.call_cycles.specs.Sums.{when, list_of}
+use Rattle.call_cycles.specs.Arcs.{IsArcBelow}
+use Rattle.call_cycles.specs.Calls.{HaveCalls, arcs_among, calls_of, calls_between, calls_in, function_arcs, lies_in, own_calls}
 use Rattle.call_cycles.proofs.SumLemmas.{when_le}
+use Rattle.call_cycles.proofs.ListLemmas.{list_at, list_long}
+use Rattle.call_cycles.proofs.MergeLemmas.{arcs_same, calls_in_more, calls_in_none}
 
-pair_at : (a b f g : ℕ) → is_eq (ordering_then (nat_cmp a f) (nat_cmp b g)) ≡ (a == f && b == g)
-pair_at a b f g = grind (arith, nat_tests)
+pub owner_low : (symbols : List Symbol) (address f : ℕ) → owner_of symbols address ≡ Some f → f < length symbols
+owner_low symbols address f is = (position-Some (owns address) symbols f nobody is).0
+  where
+    nobody : Symbol
+    nobody = record { addr = 0; end = 0; name = [] }
 
-pub some_unwrap : (n : ℕ) → unwrap_or (some_calls n) 0 ≡ n
-some_unwrap zero = refl
-some_unwrap (suc n) = rw (ne_eqb (suc n) 0 (λ q. omega arith)) refl
+-- ---- the calls of one arc
 
-some_positive : (n : ℕ) → 0 < n → some_calls n ≡ Some n
-some_positive zero some = absurd (omega arith)
-some_positive (suc n) some = rw (ne_eqb (suc n) 0 (λ q. omega arith)) refl
+module _ (symbols : List Symbol) (from to count : ℕ) where
+  pub calls_of_none : count ≡ 0 → (f g : ℕ) → calls_of symbols ((from, to), count) f g ≡ 0
+  calls_of_none none f g = ap (when (lies_in symbols f from && lies_in symbols g to)) none ∙ nothing (lies_in symbols f from && lies_in symbols g to)
+    where
+      nothing : (t : Bool) → when t 0 ≡ 0
+      nothing true = refl
+      nothing false = refl
 
-pub calls_at_is : (m : BTreeMap (ℕ × ℕ) ℕ) (calls : ℕ → ℕ → ℕ) → HasCalls m calls → (f g : ℕ) → calls_at m f g ≡ calls f g
-calls_at_is m calls has f g = ap (λ (o : Option ℕ). unwrap_or o 0) (has f g) ∙ some_unwrap (calls f g)
+  pub calls_without_caller : owner_of symbols from ≡ None → (f g : ℕ) → calls_of symbols ((from, to), count) f g ≡ 0
+  calls_without_caller none f g = ap (λ (o : Option ℕ). when (option_map_or (λ (k : ℕ). k == f) o false && lies_in symbols g to) count) none
 
--- the calls of an arc whose owners are known
-owned_calls : (symbols : List Symbol) (from to count a b f g : ℕ) → owner_of symbols from ≡ Some a → owner_of symbols to ≡ Some b → calls_of symbols ((from, to), count) f g ≡ when (a == f && b == g) count
-owned_calls symbols from to count a b f g caller callee =
-    ap (λ (o : Option ℕ). when (option_map_or (λ (k : ℕ). k == f) o false && option_map_or (λ (k : ℕ). k == g) (owner_of symbols to) false) count) caller
-    ∙ ap (λ (o : Option ℕ). when (a == f && option_map_or (λ (k : ℕ). k == g) o false) count) callee
+  pub calls_without_callee : owner_of symbols to ≡ None → (f g : ℕ) → calls_of symbols ((from, to), count) f g ≡ 0
+  calls_without_callee none f g = ap (λ (o : Option ℕ). when (lies_in symbols f from && option_map_or (λ (k : ℕ). k == g) o false) count) none ∙ off (lies_in symbols f from)
+    where
+      off : (t : Bool) → when (t && false) count ≡ 0
+      off true = refl
+      off false = refl
 
-pub one_arc_more : (m n : BTreeMap (ℕ × ℕ) ℕ) (symbols : List Symbol) (from to count a b : ℕ) → 0 < count → owner_of symbols from ≡ Some a → owner_of symbols to ≡ Some b
-    → Updates pair_cmp m n (a, b) (Some (calls_at m a b + count))
-    → (calls : ℕ → ℕ → ℕ) → HasCalls m calls → HasCalls n (λ f g. calls f g + calls_of symbols ((from, to), count) f g)
-one_arc_more m n symbols from to count a b some caller callee updates calls has f g =
-    let added = owned_calls symbols from to count a b f g caller callee in
-    let got : get pair_cmp n (f, g) ≡ cond (a == f && b == g) (Some (calls_at m a b + count)) (get pair_cmp m (f, g)) =
-    updates.0 (f, g) ∙ ap (λ (t : Bool). cond t (Some (calls_at m a b + count)) (get pair_cmp m (f, g))) (pair_at a b f g) in
-    ⊎_elim
-    (λ (on : (a == f && b == g) ≡ true).
-    let both = and_parts (a == f) (b == g) on in
-    let one : calls_at m a b ≡ calls_at m f b = ap (λ (x : ℕ). calls_at m x b) (eqb-true _ _ both.0) in
-    let two : calls_at m f b ≡ calls_at m f g = ap (calls_at m f) (eqb-true _ _ both.1) in
-    let three = calls_at_is m calls has f g in
-    let these : when (a == f && b == g) count ≡ count = ap (λ (t : Bool). when t count) on in
-    let number : calls_at m a b + count ≡ calls f g + calls_of symbols ((from, to), count) f g = omega arith in
-    got
-    ∙ ap (λ (t : Bool). cond t (Some (calls_at m a b + count)) (get pair_cmp m (f, g))) on
-    ∙ ap Some number
-    ∙ sym (some_positive (calls f g + calls_of symbols ((from, to), count) f g) (omega arith)))
-    (λ (off : (a == f && b == g) ≡ false).
-    let none : when (a == f && b == g) count ≡ 0 = ap (λ (t : Bool). when t count) off in
-    let number : calls f g ≡ calls f g + calls_of symbols ((from, to), count) f g = omega arith in
-    got
-    ∙ ap (λ (t : Bool). cond t (Some (calls_at m a b + count)) (get pair_cmp m (f, g))) off
-    ∙ has f g
-    ∙ ap some_calls number)
-    (cases_Bool (a == f && b == g))
+  -- the calls of an arc whose owners are known
+  module _ (a b : ℕ) (caller : owner_of symbols from ≡ Some a) (callee : owner_of symbols to ≡ Some b) where
+    pub owned_calls : (f g : ℕ) → calls_of symbols ((from, to), count) f g ≡ when (a == f && b == g) count
+    owned_calls f g =
+        ap (λ (o : Option ℕ). when (option_map_or (λ (k : ℕ). k == f) o false && lies_in symbols g to) count) caller
+        ∙ ap (λ (o : Option ℕ). when (a == f && option_map_or (λ (k : ℕ). k == g) o false) count) callee
 
-module _ (arcs : List ((ℕ × ℕ) × ℕ)) (symbols : List Symbol) where
-  pub no_calls : (f g : ℕ) → some_calls (calls_between [] symbols f g) ≡ None
+-- ---- what was found
+
+module _ (n : ℕ) (calls more : ℕ → ℕ → ℕ) (arcs : List FunArc) (selves : List ℕ) (have : HaveCalls n calls arcs selves) where
+  pub none_more : ((f g : ℕ) → more f g ≡ 0) → HaveCalls n (λ f g. calls f g + more f g) arcs selves
+  none_more none = record {
+    between = λ f g apart. have.between f g apart ∙ same f g;
+    own = have.own ∙ (λ i. list_of n (λ f. same f f i));
+    below = have.below;
+  }
+    where
+      same : (f g : ℕ) → calls f g ≡ calls f g + more f g
+      same f g = let zero_more = none f g in omega arith
+
+  -- calls from function a to function b
+  module _ (a b count : ℕ) (is : (f g : ℕ) → more f g ≡ when (a == f && b == g) count) where
+    pub self_calls_more : a ≡ b → a < n → (now : ℕ) → now ≡ slice_index selves a + count → HaveCalls n (λ f g. calls f g + more f g) arcs (slice_set selves a now)
+    self_calls_more same low now sum = record {
+      between = λ f g apart.
+          let before = have.between f g apart in
+          let other : (a == f && b == g) ≡ false = by_other f g apart in
+          let none : more f g ≡ 0 = is f g ∙ ap (λ (t : Bool). when t count) other in
+          omega arith;
+      own = fill_by_all (λ f. calls f f + more f f) (slice_set selves a now) n 0 (length-set selves a now ∙ long)
+          (λ k below.
+          let was = list_at n (λ f. calls f f) selves have.own k below in
+          let new = is k k in
+          ⊎_elim
+          (λ (at : k ≡ a).
+          let here : (a == k && b == k) ≡ true = grind (arith, nat_tests) in
+          let all : when (a == k && b == k) count ≡ count = ap (λ (t : Bool). when t count) here in
+          let old : slice_index selves k ≡ slice_index selves a = ap (slice_index selves) at in
+          let got : get_or (slice_set selves a now) k 0 ≡ now = get_or-set_at selves a k now 0 at (omega (arith, long)) in
+          omega arith)
+          (λ (apart : k ≢ a).
+          let elsewhere : (a == k && b == k) ≡ false = grind (arith, nat_tests) in
+          let none : when (a == k && b == k) count ≡ 0 = ap (λ (t : Bool). when t count) elsewhere in
+          let got : get_or (slice_set selves a now) k 0 ≡ get_or selves k 0 = get_or-set_other selves a k now 0 apart in
+          omega arith)
+          (cases_eq k a));
+      below = have.below;
+    }
+      where
+        long : length selves ≡ n
+        long = list_long n (λ f. calls f f) selves have.own
+
+        by_other : (f g : ℕ) → f ≢ g → (a == f && b == g) ≡ false
+        by_other f g apart = grind (arith, nat_tests)
+
+    pub arc_more : a ≢ b → a < n → b < n → 0 < count → HaveCalls n (λ f g. calls f g + more f g) (arcs ++ record { caller = a; callee = b; count = count } ∷ []) selves
+    arc_more apart low_a low_b some = record {
+      between = λ f g other.
+          let before = have.between f g other in
+          let new = is f g in
+          let all = calls_in_more arcs (record { caller = a; callee = b; count = count }) f g in
+          omega arith;
+      own = have.own ∙ (λ i. list_of n (λ f. same f i));
+      below = All-push (IsArcBelow n) arcs (record { caller = a; callee = b; count = count }) have.below (record { caller = low_a; callee = low_b; called = some; apart = apart });
+    }
+      where
+        same : (f : ℕ) → calls f f ≡ calls f f + more f f
+        same f =
+            let other : (a == f && b == f) ≡ false = grind (arith, nat_tests) in
+            let none : more f f ≡ 0 = is f f ∙ ap (λ (t : Bool). when t count) other in
+            omega arith
+
+-- ---- the calls of a profile's arcs
+
+pub no_calls : (symbols : List Symbol) (n : ℕ) (arcs : List FunArc) (selves : List ℕ) → arcs ≡ [] → selves ≡ replicate n 0 → HaveCalls n (calls_between [] symbols) arcs selves
+unfolding calls_between
+no_calls symbols n arcs selves empty zeros = subst (λ (xs : List FunArc). HaveCalls n (λ f g. 0) xs selves) (sym empty) (record {
+  between = λ f g apart. calls_in_none f g;
+  own = fill_by_all (λ f. 0) selves n 0 (ap length zeros ∙ length-replicate n 0) (λ k below. ap (λ (xs : List ℕ). get_or xs k 0) zeros ∙ get_or-replicate n k 0 0 below);
+  below = All-nil (IsArcBelow n);
+})
+
+pub selves_long : (n : ℕ) (calls : ℕ → ℕ → ℕ) (arcs : List FunArc) (selves : List ℕ) → HaveCalls n calls arcs selves → length selves ≡ n
+selves_long n calls arcs selves have = list_long n (λ f. calls f f) selves have.own
+
+module _ (arcs : List ((ℕ × ℕ) × ℕ)) (symbols : List Symbol) (i : ℕ) (below : i < length arcs) (entry : (ℕ × ℕ) × ℕ) (at : get_or arcs i ((0, 0), 0) ≡ entry) where
+  pub calls_more : (f g : ℕ) → calls_between (take (i + 1) arcs) symbols f g ≡ calls_between (take i arcs) symbols f g + calls_of symbols entry f g
   unfolding calls_between
-  no_calls f g = refl
+  calls_more f g =
+      sum_by_more (λ (e : (ℕ × ℕ) × ℕ). calls_of symbols e f g) arcs i ((0, 0), 0) below
+      ∙ ap (λ (e : (ℕ × ℕ) × ℕ). calls_between (take i arcs) symbols f g + calls_of symbols e f g) at
 
-  module _ (i : ℕ) (below : i < length arcs) (entry : (ℕ × ℕ) × ℕ) (at : get_or arcs i ((0, 0), 0) ≡ entry) where
-    pub calls_more : (f g : ℕ) → calls_between (take (i + 1) arcs) symbols f g ≡ calls_between (take i arcs) symbols f g + calls_of symbols entry f g
-    unfolding calls_between
-    calls_more f g =
-        sum_by_more (λ (e : (ℕ × ℕ) × ℕ). calls_of symbols e f g) arcs i ((0, 0), 0) below
-        ∙ ap (λ (e : (ℕ × ℕ) × ℕ). calls_between (take i arcs) symbols f g + calls_of symbols e f g) at
+  pub calls_fit : (f g : ℕ) → calls_between (take i arcs) symbols f g + entry.1 ≤ total_of arcs
+  unfolding calls_between
+  calls_fit f g =
+      let le = sum_by_more_le_part (λ (e : (ℕ × ℕ) × ℕ). calls_of symbols e f g) (λ (e : (ℕ × ℕ) × ℕ). e.1) arcs i ((0, 0), 0) below (λ e. when_le _ e.1) in
+      let same : (get_or arcs i ((0, 0), 0)).1 ≡ entry.1 = ap (λ (e : (ℕ × ℕ) × ℕ). e.1) at in
+      omega arith
 
-    pub calls_fit : (f g : ℕ) → calls_between (take i arcs) symbols f g + entry.1 ≤ total_of arcs
-    unfolding calls_between
-    calls_fit f g =
-        let le = sum_by_more_le_part (λ (e : (ℕ × ℕ) × ℕ). calls_of symbols e f g) (λ (e : (ℕ × ℕ) × ℕ). e.1) arcs i ((0, 0), 0) below (λ e. when_le _ e.1) in
-        let same : (get_or arcs i ((0, 0), 0)).1 ≡ entry.1 = ap (λ (e : (ℕ × ℕ) × ℕ). e.1) at in
-        omega arith
+  pub total_more : total_of (take (i + 1) arcs) ≡ total_of (take i arcs) + entry.1
+  total_more = sum_by_more (λ (e : (ℕ × ℕ) × ℕ). e.1) arcs i ((0, 0), 0) below ∙ ap (λ (e : (ℕ × ℕ) × ℕ). total_of (take i arcs) + e.1) at
+
+  -- with this arc's calls
+  pub found_more : (n : ℕ) (between : List FunArc) (selves : List ℕ) → HaveCalls n (λ f g. calls_between (take i arcs) symbols f g + calls_of symbols entry f g) between selves
+      → HaveCalls n (calls_between (take (i + 1) arcs) symbols) between selves
+  found_more n between selves = subst (λ (calls : ℕ → ℕ → ℕ). HaveCalls n calls between selves) (λ j. λ f g. sym (calls_more f g) j)
+
+  pub selves_fit : (n : ℕ) (between : List FunArc) (selves : List ℕ) → HaveCalls n (calls_between (take i arcs) symbols) between selves → (f : ℕ) → slice_index selves f + entry.1 ≤ total_of arcs
+  selves_fit n between selves have f =
+      ⊎_elim
+      (λ (low : f < n).
+      let at = list_at n (λ k. calls_between (take i arcs) symbols k k) selves have.own f low in
+      let fit = calls_fit f f in
+      omega arith)
+      (λ (high : n ≤ f).
+      let long = selves_long n (calls_between (take i arcs) symbols) between selves have in
+      let none : slice_index selves f ≡ 0 = get_or_past selves f 0 (omega arith) in
+      let fit = calls_fit f f in
+      omega arith)
+      (cases_lt f n)
+
+-- ---- the parts of a profile's graph
+
+module _ (es : List ((ℕ × ℕ) × ℕ)) (symbols : List Symbol) (between : List FunArc) (selves : List ℕ) (have : HaveCalls (length symbols) (calls_between es symbols) between selves) where
+  pub made_function_arcs : (arcs : List FunArc) → ((n : ℕ) → All (IsArcBelow n) between → arcs ≡ arcs_among n (calls_in between)) → arcs ≡ function_arcs es symbols
+  made_function_arcs arcs made = made (length symbols) have.below ∙ arcs_same (length symbols) (calls_in between) (calls_between es symbols) have.between
+
+  pub made_own_calls : selves ≡ own_calls es symbols
+  made_own_calls = have.own

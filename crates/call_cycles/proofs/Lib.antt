@@ -12,9 +12,11 @@ pub mod HeadLemmas
 pub mod ComponentLemmas
 pub mod NumberingLemmas
 pub mod EnteringLemmas
-pub mod CallLemmas
-pub mod PairLemmas
 pub mod ArcLemmas
+pub mod MergeLemmas
+pub mod OwnerLemmas
+pub mod EndLemmas
+pub mod CallLemmas
 pub mod ValueLemmas
 pub mod ProfileLemmas
 pub mod MemberLemmas

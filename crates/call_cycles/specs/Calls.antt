@@ -1,14 +1,19 @@
 -- The calls of a profile by function, and the arcs between functions.
-use Rattle.std.specs.Prelude.{◌≡◌, ℕ, ◌==◌, ◌&&◌, ◌||◌, Bool, false, if◌then◌else◌, List, [], ◌∷◌, length, Option, Some, None, unwrap_or}
-use Rattle.std.specs.List.{flat_map, sum_by}
+use Rattle.std.specs.Prelude.{◌≡◌, ◌≢◌, ◌<◌, ◌≤◌, ℕ, ◌==◌, ◌&&◌, ◌||◌, Bool, false, if◌then◌else◌, List, [], ◌∷◌, length, map}
+use Rattle.std.proofs.Common.{◌⊎◌}
+use Rattle.std.specs.List.{All, flat_map, sum_by}
 use Rattle.std.specs.Option.{option_map_or}
 use Rattle.std.specs.Ordering.{nat_cmp, ordering_then}
 use Rattle.std.specs.declared.cmp.Ordering.{Ordering}
-use Rattle.std.specs.BTreeMap.{BTreeMap, get}
 use Rattle.elf32_syms.specs.declared.image.Symbol.{Symbol}
 use Rattle.elf32_syms.specs.Owners.{owner_of}
 use Rattle.call_cycles.specs.declared.graphs.FunArc.{FunArc}
+use Rattle.call_cycles.specs.Arcs.{AreInOrder, IsArcBelow}
 use Rattle.call_cycles.specs.Sums.{when, numbers_below, list_of}
+
+-- the end of each symbol
+abbrev pub ends_of : List Symbol → List ℕ
+ends_of symbols = map (λ (s : Symbol). s.end) symbols
 
 -- the address lies in the function of number f
 abbrev pub lies_in : List Symbol → ℕ → ℕ → Bool
@@ -38,24 +43,33 @@ function_arcs arcs symbols = arcs_among (length symbols) (calls_between arcs sym
 abbrev pub own_calls : List ((ℕ × ℕ) × ℕ) → List Symbol → List ℕ
 own_calls arcs symbols = list_of (length symbols) (λ f. calls_between arcs symbols f f)
 
--- ---- sums by pair, in a map
+-- ---- calls by pair, in a list of arcs
+
+-- the calls of arcs from function f to function g
+unfoldable pub calls_in : List FunArc → ℕ → ℕ → ℕ
+calls_in arcs f g = sum_by (λ (a : FunArc). when (a.caller == f && a.callee == g) a.count) arcs
+
+-- the calls of all arcs together
+abbrev pub count_of : List FunArc → ℕ
+count_of arcs = sum_by (λ (a : FunArc). a.count) arcs
+
+-- the calls that were found among n functions: those from one to another as arcs in any order, those of each by itself as a number
+pub record HaveCalls (n : ℕ) (calls : ℕ → ℕ → ℕ) (arcs : List FunArc) (selves : List ℕ) : Type 0 where
+  pub between : (f g : ℕ) → f ≢ g → calls_in arcs f g ≡ calls f g
+  pub own : selves ≡ list_of n (λ f. calls f f)
+  pub below : All (IsArcBelow n) arcs
+
+-- the arc goes from a caller up to f, and if it is f, to a callee up to g
+abbrev pub IsUpTo : ℕ → ℕ → FunArc → Type 0
+IsUpTo f g a = (a.caller < f) ⊎ ((a.caller ≡ f) × (a.callee ≤ g))
+
+-- sorted arcs are merged: those of one caller and callee are one, with the calls of all of them
+pub record AreMerged (sorted : List FunArc) (arcs : List FunArc) : Type 0 where
+  pub rising : AreInOrder arcs
+  pub calls : (f g : ℕ) → calls_in arcs f g ≡ calls_in sorted f g
+  pub below : (n : ℕ) → All (IsArcBelow n) sorted → All (IsArcBelow n) arcs
+  pub up_to : (f g : ℕ) → All (IsUpTo f g) sorted → All (IsUpTo f g) arcs
 
 -- by caller, then callee
-abbrev pub pair_cmp : ℕ × ℕ → ℕ × ℕ → Ordering
-pair_cmp p q = ordering_then (nat_cmp p.0 q.0) (nat_cmp p.1 q.1)
-
--- a number of calls, where there are any
-abbrev pub some_calls : ℕ → Option ℕ
-some_calls n = if n == 0 then None else Some n
-
--- the calls that the map has for a pair
-abbrev pub calls_at : BTreeMap (ℕ × ℕ) ℕ → ℕ → ℕ → ℕ
-calls_at m f g = unwrap_or (get pair_cmp m (f, g)) 0
-
--- the map has each pair between which there are calls, with their number
-abbrev pub HasCalls : BTreeMap (ℕ × ℕ) ℕ → (ℕ → ℕ → ℕ) → Type 0
-HasCalls m calls = (f g : ℕ) → get pair_cmp m (f, g) ≡ some_calls (calls f g)
-
--- the arc that an entry of the map makes, where caller and callee differ
-abbrev pub arc_in : (ℕ × ℕ) × ℕ → List FunArc
-arc_in entry = if entry.0.0 == entry.0.1 then [] else record { caller = entry.0.0; callee = entry.0.1; count = entry.1 } ∷ []
+abbrev pub by_ends : FunArc → FunArc → Ordering
+by_ends a b = ordering_then (nat_cmp a.caller b.caller) (nat_cmp a.callee b.callee)

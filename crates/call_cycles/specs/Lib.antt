@@ -1,9 +1,9 @@
 pub mod Sums
 pub mod Walks
 pub mod Graph
-pub mod Calls
 pub mod Fields
 pub mod Arcs
+pub mod Calls
 pub mod Leaders
 pub mod Heads
 pub mod Parts

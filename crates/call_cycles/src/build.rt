@@ -106,8 +106,8 @@ fn graph_of(
 /// that it calls. Components are numbered by level, those of one level by their heads.
 ///
 /// The time grows as the functions and arcs, but for a sort of the heads, and for the profile's arcs,
-/// whose addresses are looked up among the symbols, and whose calls are summed in a map. The memory
-/// grows as the functions and arcs.
+/// whose addresses are looked up among the symbols, and which are sorted by function pair. The memory
+/// grows as the functions and the profile's arcs.
 pub fn graph(alloc: Global, profile: &Profile, symbols: &[Symbol]) -> Result<Graph, AllocError>
     requires ordered { IsAscending symbols.now }
     ensures functions { IfOk result (λ g. g.functions ≡ length symbols.now) }
@@ -117,9 +117,8 @@ pub fn graph(alloc: Global, profile: &Profile, symbols: &[Symbol]) -> Result<Gra
     ensures few { IfOk result (λ g. all_calls g < 2 ^ 59) }
     ensures value { IfOk result (λ g. g ≡ profile_graph profile.now.arcs symbols.now) }
 {
-    let sums = calls::pair_sums(alloc, profile, symbols)?;
+    let found = calls::found_calls(alloc, profile, symbols)?;
     let functions = symbol_count(symbols);
-    let arcs = calls::arcs_of(alloc, &sums)?;
-    let self_calls = calls::self_calls_of(alloc, functions, &sums)?;
-    graph_of(alloc, functions, arcs, self_calls)
+    let arcs = calls::merged(found.between);
+    graph_of(alloc, functions, arcs, found.own)
 }

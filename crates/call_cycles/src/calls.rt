@@ -1,95 +1,194 @@
 //! The calls of a profile by caller and callee.
 
-ghost use Rattle.std.specs.Prelude.{◌≡◌, ◌<◌, ◌^◌, ◌+◌, ℕ, Some, IfOk, OnOk};
-ghost use Rattle.std.specs.List.{flat_map};
-ghost use Rattle.elf32_syms.specs.Owners.{IsAscending};
-ghost use Rattle.call_cycles.specs.Sums.{list_of};
-ghost use Rattle.call_cycles.specs.Calls.{HasCalls, pair_cmp, calls_of, calls_between, arc_in, calls_at};
+ghost use Rattle.std.specs.Prelude.{◌≡◌, ◌<◌, ◌≤◌, ◌^◌, ◌+◌, ◌++◌, ◌∷◌, [], true, false, ℕ, nat_le, List, length, take, slice_index, slice_index_or, IfOk, IsTrue, OnOk, Some, ◌↔◌};
+ghost use Rattle.std.specs.List.{All};
+ghost use Rattle.std.specs.List.Sorted.{IsSorted, IsPartitionPoint};
+ghost use Rattle.elf32_syms.specs.Owners.{IsAscending, owner_of};
+ghost use Rattle.call_cycles.specs.declared.graphs.FunArc.{FunArc as Arc};
+ghost use Rattle.call_cycles.specs.Arcs.{IsArcBelow};
+ghost use Rattle.call_cycles.specs.Graph.{no_arc};
+ghost use Rattle.call_cycles.specs.Calls.{HaveCalls, AreMerged, IsUpTo, by_ends, calls_of, calls_in, calls_between, count_of, arcs_among, ends_of};
 ghost use Rattle.gmon_data.specs.Tally.{total_of};
-ghost use Rattle.std.specs.BTreeMap.{IsOrdered};
 
 use crate::graphs::FunArc;
-use elf32_syms::{Symbol, owner};
+use elf32_syms::{Symbol, symbol_count};
 use gmon_data::Profile;
 use std::alloc::{AllocError, Global};
-use std::collections::BTreeMap;
 
-/// Calls by caller and callee, in this order. Each number is greater than 0.
-type PairSums = BTreeMap<(u32, u32), u64>;
+/// The calls that were found.
+#[derive(Drop)]
+pub(crate) struct Calls {
+    /// Those from one function to another, in the order in which they were found.
+    pub(crate) between: Vec<FunArc>,
+    /// The calls of each function by itself.
+    pub(crate) own: Vec<u64>,
+    /// The function near which the next caller is looked for first.
+    last_caller: u32,
+}
+
+/// Whether an address lies in the symbol of this number, if there is such a symbol.
+fn is_owner(symbols: &[Symbol], i: u32, address: u32) -> bool
+    requires ordered { IsAscending symbols.now }
+    ensures { IsTrue result ↔ owner_of symbols.now address ≡ Some i }
+{
+    let i = i as usize;
+    if i >= symbols.len() {
+        return false;
+    }
+    let symbol = &symbols[i];
+    symbol.addr <= address && address < symbol.end
+}
+
+/// The end of each symbol.
+fn symbol_ends(alloc: Global, symbols: &[Symbol]) -> Result<Vec<u32>, AllocError>
+    ensures { IfOk result (λ v. v.items ≡ ends_of symbols.now) }
+{
+    symbols.iter().map(|symbol| symbol.end).collect(alloc)
+}
+
+/// How many symbols end at or below an address, which are the first ones. The bisection of their
+/// ends alone reads less memory than that of the symbols.
+fn count_ended(symbols: &[Symbol], ends: &[u32], address: u32) -> usize
+    requires ordered { IsAscending symbols.now }
+    requires each { ends.now ≡ ends_of symbols.now }
+    ensures point { IsPartitionPoint (λ s. nat_le s.end address ≡ true) (λ s. nat_le s.end address ≡ false) symbols.now result }
+{
+    ends.partition_point(|end| *end <= address)
+}
+
+/// The symbol in which an address lies, if there is one.
+fn owner(symbols: &[Symbol], ends: &[u32], address: u32) -> Option<u32>
+    requires ordered { IsAscending symbols.now }
+    requires each { ends.now ≡ ends_of symbols.now }
+    ensures { result ≡ owner_of symbols.now address }
+{
+    let index = count_ended(symbols, ends, address);
+    if index >= symbols.len() || address < symbols[index].addr {
+        return None;
+    }
+    Some(index as u32)
+}
+
+/// The symbol in which an address lies, if there is one: the fastest where it is the symbol of the
+/// given number, or the one behind it.
+fn owner_near(symbols: &[Symbol], ends: &[u32], near: u32, address: u32) -> Option<u32>
+    requires ordered { IsAscending symbols.now }
+    requires each { ends.now ≡ ends_of symbols.now }
+    ensures { result ≡ owner_of symbols.now address }
+{
+    if is_owner(symbols, near, address) {
+        return Some(near);
+    }
+    let next = near.wrapping_add(1);
+    if is_owner(symbols, next, address) {
+        return Some(next);
+    }
+    owner(symbols, ends, address)
+}
 
 /// Adds calls to those of their functions: none where an address lies in no symbol.
 fn add_arc(
-    sums: &mut PairSums,
+    calls: &mut Calls,
     symbols: &[Symbol],
+    ends: &[u32],
     from: u32,
     to: u32,
     count: u64,
 ) -> Result<(), AllocError>
     requires ordered { IsAscending symbols.now }
-    requires fits { (f g : ℕ) → calls_at sums.old f g + count < 2 ^ 64 }
-    ensures added { OnOk result ((calls : ℕ → ℕ → ℕ) → HasCalls sums.old calls → HasCalls sums.new (λ f g. calls f g + calls_of symbols.now ((from, to), count) f g)) }
+    requires each { ends.now ≡ ends_of symbols.now }
+    requires own { length calls.old.own.items ≡ length symbols.now }
+    requires fits { (f : ℕ) → slice_index calls.old.own.items f + count < 2 ^ 64 }
+    ensures added { OnOk result ((c : ℕ → ℕ → ℕ) → HaveCalls (length symbols.now) c calls.old.between.items calls.old.own.items → HaveCalls (length symbols.now) (λ f g. c f g + calls_of symbols.now ((from, to), count) f g) calls.new.between.items calls.new.own.items) }
+    ensures few { OnOk result (count_of calls.new.between.items ≤ count_of calls.old.between.items + count) }
 {
     if count == 0 {
         return Ok(());
     }
-    let Some(caller) = owner(symbols, from) else {
+    let Some(caller) = owner_near(symbols, ends, calls.last_caller, from) else {
         return Ok(());
     };
-    let Some(callee) = owner(symbols, to) else {
+    calls.last_caller = caller;
+    let Some(callee) = owner(symbols, ends, to) else {
         return Ok(());
     };
-    let before = sums.get(&(caller, callee)).copied().unwrap_or(0);
-    sums.insert((caller, callee), before + count)?;
+    if caller == callee {
+        calls.own[caller as usize] += count;
+        return Ok(());
+    }
+    calls.between.push(FunArc {
+        caller,
+        callee,
+        count,
+    })?;
     Ok(())
 }
 
 /// The calls of a profile's arcs by functions.
-pub(crate) fn pair_sums(
+pub(crate) fn found_calls(
     alloc: Global,
     profile: &Profile,
     symbols: &[Symbol],
-) -> Result<PairSums, AllocError>
+) -> Result<Calls, AllocError>
     requires ordered { IsAscending symbols.now }
-    ensures sums { IfOk result (λ m. HasCalls m (calls_between profile.now.arcs symbols.now)) }
-    ensures few { total_of profile.now.arcs < 2 ^ 59 }
+    ensures calls { IfOk result (λ c. HaveCalls (length symbols.now) (calls_between profile.now.arcs symbols.now) c.between.items c.own.items) }
+    ensures few { IfOk result (λ c. count_of c.between.items ≤ total_of profile.now.arcs) }
+    ensures all { total_of profile.now.arcs < 2 ^ 59 }
 {
-    let mut sums = BTreeMap::new(alloc);
+    let mut calls = Calls {
+        between: Vec::with_capacity(alloc, profile.arc_count())?,
+        own: vec![in alloc; 0u64; symbol_count(symbols) as usize]?,
+        last_caller: 0,
+    };
+    let ends = symbol_ends(alloc, symbols)?;
     for i in 0..profile.arc_count() {
         let (from, to, count) = profile.arc(i);
-        add_arc(&mut sums, symbols, from, to, count)?;
-    }
-    Ok(sums)
-}
-
-/// The arcs that sums make.
-pub(crate) fn arcs_of(alloc: Global, sums: &PairSums) -> Result<Vec<FunArc>, AllocError>
-    ensures arcs { IfOk result (λ v. v.items ≡ flat_map arc_in sums.now.entries) }
-    ensures ordered { IsOrdered pair_cmp sums.now }
-{
-    let mut arcs = Vec::new(alloc);
-    for (pair, count) in sums {
-        if pair.0 != pair.1 {
-            arcs.push(FunArc {
-                caller: pair.0,
-                callee: pair.1,
-                count: *count,
-            })?;
-        }
-    }
-    Ok(arcs)
-}
-
-/// The calls of each function by itself.
-pub(crate) fn self_calls_of(
-    alloc: Global,
-    functions: u32,
-    sums: &PairSums,
-) -> Result<Vec<u64>, AllocError>
-    ensures { IfOk result (λ v. v.items ≡ list_of functions (λ f. calls_at sums.now f f)) }
-{
-    let mut calls = Vec::new(alloc);
-    for f in 0..functions {
-        calls.push(sums.get(&(f, f)).copied().unwrap_or(0))?;
+        add_arc(&mut calls, symbols, &ends, from, to, count)?;
     }
     Ok(calls)
+}
+
+/// Puts an arc behind the first `n` of others, or adds its calls to those of the last of them, where
+/// this one has the same caller and callee. How many arcs they are then.
+fn merge_arc(arcs: &mut [FunArc], n: usize, a: FunArc) -> usize
+    requires inside { n < length arcs.old }
+    requires fits { (f g : ℕ) → calls_in (take n arcs.old) f g + a.count < 2 ^ 64 }
+    ensures merged { (sorted : List Arc) → All (IsUpTo a.caller a.callee) sorted → AreMerged sorted (take n arcs.old) → AreMerged (sorted ++ a ∷ []) (take result arcs.new) }
+    ensures rest { (k : ℕ) → n < k → slice_index_or arcs.new k no_arc ≡ slice_index_or arcs.old k no_arc }
+    ensures few { result ≤ n + 1 }
+{
+    if n > 0 {
+        let last = arcs[n - 1];
+        if last.caller == a.caller && last.callee == a.callee {
+            arcs[n - 1].count += a.count;
+            return n;
+        }
+    }
+    arcs[n] = a;
+    n + 1
+}
+
+/// Makes neighbours of one caller and callee one arc. How many arcs there are then: the first ones.
+fn merge_neighbours(arcs: &mut [FunArc]) -> usize
+    requires sorted { IsSorted by_ends arcs.old }
+    requires few { count_of arcs.old < 2 ^ 64 }
+    ensures merged { AreMerged arcs.old (take result arcs.new) }
+{
+    let mut n = 0;
+    for i in 0..arcs.len() {
+        let a = arcs[i];
+        n = merge_arc(arcs, n, a);
+    }
+    n
+}
+
+/// The arcs in order of caller, then callee, those of one caller and callee made one.
+pub(crate) fn merged(mut arcs: Vec<FunArc>) -> Vec<FunArc>
+    requires few { count_of arcs.items < 2 ^ 64 }
+    ensures merged { (n : ℕ) → All (IsArcBelow n) arcs.items → result.items ≡ arcs_among n (calls_in arcs.items) }
+{
+    arcs.sort_unstable_by_key(|a| (a.caller, a.callee));
+    let count = merge_neighbours(&mut arcs);
+    arcs.truncate(count);
+    arcs
 }

@@ -127,6 +127,29 @@ fn arcs_of_a_profile(rt: HostRuntime) -> Result<(), Fail> {
 }
 
 #[test]
+fn arcs_of_one_pair_in_mixed_order(rt: HostRuntime) -> Result<(), Fail> {
+    let arcs = [
+        (0x1_0020, 0x1_0010, 1),
+        (0x1_0004, 0x1_0014, 2),
+        (0x1_0018, 0x1_0010, 3),
+        (0x1_0024, 0x1_0014, 4),
+        (0x1_0008, 0x1_0024, 5),
+        (0x1_0014, 0x1_001C, 6),
+        (0x1_000C, 0x1_0010, 7),
+        (0x1_0028, 0x1_0010, 8),
+        (0x1_0008, 0x1_0020, 9),
+        (0x1_0000, 0x1_000C, 10),
+    ];
+    let profile = profile_of_arcs(rt.alloc(), arcs.as_slice())?;
+    let text = graph_text(rt.alloc(), 3, &profile)?;
+    assert_eq!(rt;
+        text.as_str(),
+        "0>1:9 0>2:14 2>1:13 | 0:10 1:9 | 1+22 = 1; 2+14 = 2; 0+0 = 0; "
+    );
+    Ok(())
+}
+
+#[test]
 fn components_and_their_order(rt: HostRuntime) -> Result<(), Fail> {
     let rows = [
         ("no functions", 0, [].as_slice(), "| | "),

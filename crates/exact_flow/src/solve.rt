@@ -76,8 +76,7 @@ fn start(alloc: Global, graph: &Graph, shares: &Shares) -> Result<ExactFlow, All
     ensures sized { IfOk result (IsSized graph.now shares.now.of) }
     ensures none { IfOk result (λ e. (c : ℕ) → time_at e.child c ≡ fraction 0 1) }
 {
-    // The shares together are less than 2^65, as its clause says.
-    let _all = shares.attributed();
+    shares.holds();
     let none = whole(0);
     Ok(ExactFlow {
         selves: selves(alloc, graph, shares)?,

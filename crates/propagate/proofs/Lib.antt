@@ -8,6 +8,7 @@ pub mod StepLemmas
 pub mod AscentLemmas
 pub mod ArcOrderLemmas
 pub mod OrderLemmas
+pub mod PlaceLemmas
 pub mod TimeLemmas
 pub mod FlowLemmas
 pub mod MemberLemmas

@@ -6,6 +6,7 @@ ghost use Rattle.symbol_shares.specs.Ranges.{grains_of_bucket as grains_of};
 
 use elf32_syms::Symbol;
 use gmon_data::Hist;
+use gp_base::quotient;
 
 /// Grains of a sample.
 pub(crate) const GRAINS: u128 = 1_000_000;
@@ -58,7 +59,7 @@ fn grains_up_to(hist: &Hist, i: usize, place: u64) -> u128
     if place == 0 {
         return 0;
     }
-    grains * u128::from(place) / u128::from(width)
+    quotient(grains * u128::from(place), u128::from(width))
 }
 
 /// The grains of bucket `i` between two places in it.

@@ -41,6 +41,13 @@ impl Shares {
         }
     }
 
+    /// What is true of each table: all grains are few. Does nothing.
+    pub fn holds(&self)
+        ensures { attributed_of self.now < 2 ^ 65 }
+    {
+        let _ = &self.function_count;
+    }
+
     /// The number of symbols.
     pub fn function_count(&self) -> u32
         ensures { result ≡ length self.now.of }

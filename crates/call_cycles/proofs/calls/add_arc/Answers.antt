@@ -1,22 +1,30 @@
-use Rattle.std.proofs.Common.{◌≡◌, ◌+◌, ℕ, Option, Some, ap, sym, ◌∙◌, subst, arith}
-use Rattle.std.specs.Prelude.{unwrap_or}
-use Rattle.std.specs.BTreeMap.{Updates}
-use Rattle.call_cycles.specs.Calls.{pair_cmp, calls_at}
-use Rattle.call_cycles.proofs.CallLemmas.{one_arc_more}
+use Rattle.std.proofs.Common.{◌≡◌, ◌<◌, ◌∙◌, ◌+◌, ℕ, List, length, slice_index, sym, ap, subst, arith}
+use Rattle.std.proofs.lemmas.Grind.{get_or_default_zero}
+use Rattle.call_cycles.specs.declared.graphs.FunArc.{FunArc}
+use Rattle.call_cycles.specs.Calls.{HaveCalls, calls_of}
+use Rattle.call_cycles.proofs.CallLemmas.{owner_low, owned_calls, self_calls_more, arc_more}
 use Rattle.call_cycles.proofs.calls.add_arc.Goals as goal
 
-pub overflow_add-before : goal.overflow_add-before
-overflow_add-before c =
+pub returns-then-caller-callee-clause-added : goal.returns-then-caller-callee-clause-added
+returns-then-caller-callee-clause-added c = λ calls have.
+    let symbols = c.args.symbols.now in
     let a = c.in-Some.caller in
-    let b = c.in-Some-owner.callee in
-    let before : c.unwrap_or-before.result ≡ calls_at c.args.sums.now a b = c.unwrap_or-before.ensures ∙ ap (λ (o : Option ℕ). unwrap_or o 0) (c.copied.ensures ∙ c.get.ensures.value) in
-    let fits = c.requires.fits a b in
-    omega arith
+    let caller = sym c.owner_near.ensures ∙ c.in-Some.is in
+    let callee = sym c.owner.ensures ∙ c.in-Some-owner.is in
+    let low = owner_low symbols c.args.from a caller in
+    let inside : a < length c.args.calls.now.own.items = omega (arith, c.requires.own) in
+    let read : c.index_mut.result.now ≡ slice_index c.args.calls.now.own.items a = c.index_mut.ensures.value ∙ get_or_default_zero _ _ _ inside in
+    self_calls_more (length symbols) calls (calls_of symbols ((c.args.from, c.args.to), c.args.count)) c.args.calls.now.between.items c.args.calls.now.own.items have a c.in-Some-owner.callee c.args.count
+    (owned_calls symbols c.args.from c.args.to c.args.count a c.in-Some-owner.callee caller callee) c.if-caller-callee.true low (c.index_mut.result.now + c.args.count) (ap (λ (x : ℕ). x + c.args.count) read)
 
-pub returns : goal.returns
-returns c =
+pub returns-clause-added : goal.returns-clause-added
+returns-clause-added c = λ calls have.
+    let symbols = c.args.symbols.now in
     let a = c.in-Some.caller in
     let b = c.in-Some-owner.callee in
-    let before : c.unwrap_or-before.result ≡ calls_at c.args.sums.now a b = c.unwrap_or-before.ensures ∙ ap (λ (o : Option ℕ). unwrap_or o 0) (c.copied.ensures ∙ c.get.ensures.value) in
-    let updates = subst (λ (x : ℕ). Updates pair_cmp c.args.sums.now c.insert.new.self (a, b) (Some (x + c.args.count))) before c.in_ok-insert.ensures.updates in
-    record { added = one_arc_more c.args.sums.now c.insert.new.self c.args.symbols.now c.args.from c.args.to c.args.count a b (omega arith) (sym c.owner.ensures ∙ c.in-Some.is) (sym c.owner-2.ensures ∙ c.in-Some-owner.is) updates }
+    let caller = sym c.owner_near.ensures ∙ c.in-Some.is in
+    let callee = sym c.owner.ensures ∙ c.in-Some-owner.is in
+    let some : 0 < c.args.count = omega arith in
+    subst (λ (xs : List FunArc). HaveCalls (length symbols) (λ f g. calls f g + calls_of symbols ((c.args.from, c.args.to), c.args.count) f g) xs c.args.calls.now.own.items) (sym c.in_ok-push.ensures.items)
+    (arc_more (length symbols) calls (calls_of symbols ((c.args.from, c.args.to), c.args.count)) c.args.calls.now.between.items c.args.calls.now.own.items have a b c.args.count
+    (owned_calls symbols c.args.from c.args.to c.args.count a b caller callee) c.if-caller-callee.false (owner_low symbols c.args.from a caller) (owner_low symbols c.args.to b callee) some)
