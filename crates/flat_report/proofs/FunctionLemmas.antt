@@ -1,5 +1,5 @@
 -- The functions that have a line: what they have together, and that their numbers are small.
-use Rattle.std.proofs.Common.{◌≡◌, ℕ, zero, suc, ◌+◌, ◌<◌, ◌≤◌, Bool, true, false, cond, List, [], ◌∷◌, ◌++◌, length, map, refl, sym, ap, ◌∙◌, arith}
+use Rattle.std.proofs.Common.{◌≡◌, ℕ, zero, suc, ◌+◌, ◌^◌, ◌<◌, ◌≤◌, Bool, true, false, cond, List, [], ◌∷◌, ◌++◌, length, map, refl, sym, ap, ◌∙◌, arith}
 use Rattle.std.specs.Prelude.{◌||◌, nat_lt}
 use Rattle.std.specs.List.{All, sum_by, filter, range_with_len}
 use Rattle.std.proofs.lemmas.Bool.{true≢false}
@@ -14,9 +14,9 @@ use Rattle.call_cycles.proofs.SumLemmas.{sum_add}
 use Rattle.symbol_shares.specs.Shares.{attributed_of}
 use Rattle.propagate.proofs.SumLemmas.{sum_by_key, term_le_sum, sum_of_places}
 use Rattle.propagate.proofs.BoundLemmas.{within_all, function_within}
-use Rattle.flat_report.specs.Sources.{Sources, total_of, calls_by_others, calls_by_itself, calls_of}
+use Rattle.flat_report.specs.Sources.{AreOfOne, Sources, total_of, calls_by_others, calls_by_itself, calls_of}
 use Rattle.flat_report.specs.Entries.{Entry, entry_of, has_line, functions_of, comes_before, ordered, entries_of}
-use Rattle.flat_report.specs.Rows.{FitTogether, FitsIn}
+use Rattle.flat_report.specs.Rows.{FitsIn}
 use Rattle.flat_report.proofs.OrderLemmas.{moved_in_order, sum_in_order}
 
 -- ---- sums over functions
@@ -81,17 +81,17 @@ calls_within g f is below = omega (arith, term_le_sum g.functions (calls_of g) f
 
 -- ---- bounds
 
-pub total_within : (s : Sources) (f : ℕ) → IsGraph s.graph → FitTogether s → f < s.graph.functions → total_of s f ≤ attributed_of s.shares
-total_within s f is fit below =
-    let own = function_within s.graph s.shares.of s.flow f is fit.flow below in
-    let all = within_all s.graph s.shares.of is (fit.each ∙ sym fit.functions) s.flow fit.flow (component_of s.graph f) (is.components.within f below) in
+pub total_within : (s : Sources) (f : ℕ) → AreOfOne s → f < s.graph.functions → total_of s f ≤ attributed_of s.shares
+total_within s f are below =
+    let own = function_within s.graph s.shares.of s.flow f are.graph are.flow below in
+    let all = within_all s.graph s.shares.of are.graph (are.each ∙ sym are.functions) s.flow are.flow (component_of s.graph f) (are.graph.components.within f below) in
     omega arith
 
-entry_fits : (s : Sources) → IsGraph s.graph → FitTogether s → (f : ℕ) → f < s.graph.functions → FitsIn (attributed_of s.shares) (entry_of s f)
-entry_fits s is fit f below = record {
-  share = let total = total_within s f is fit below in omega arith;
-  whole = total_within s f is fit below;
-  calls = let calls = calls_within s.graph f is below in let few = fit.few in omega arith;
+entry_fits : (s : Sources) → AreOfOne s → all_calls s.graph < 2 ^ 59 → (f : ℕ) → f < s.graph.functions → FitsIn (attributed_of s.shares) (entry_of s f)
+entry_fits s are few f below = record {
+  share = let total = total_within s f are below in omega arith;
+  whole = total_within s f are below;
+  calls = let calls = calls_within s.graph f are.graph below in omega arith;
 }
 
 numbers_are_below : (n : ℕ) → All (λ f. f < n) (numbers_below n)
@@ -104,10 +104,10 @@ ordered_are_below s =
     All-permutation below (functions_of s) (ordered s) (moved_in_order (comes_before s) (functions_of s))
     (All-filter (λ f. has_line (entry_of s f)) below (numbers_below s.graph.functions) (numbers_are_below s.graph.functions))
 
-pub entries_fit : (s : Sources) → IsGraph s.graph → FitTogether s → All (FitsIn (attributed_of s.shares)) (entries_of s)
-entries_fit s is fit =
+pub entries_fit : (s : Sources) → AreOfOne s → all_calls s.graph < 2 ^ 59 → All (FitsIn (attributed_of s.shares)) (entries_of s)
+entries_fit s are few =
     All-map (FitsIn (attributed_of s.shares)) (entry_of s) (ordered s)
-    (All-weaker (λ f. f < s.graph.functions) (λ f. FitsIn (attributed_of s.shares) (entry_of s f)) (λ f below. entry_fits s is fit f below) (ordered s) (ordered_are_below s))
+    (All-weaker (λ f. f < s.graph.functions) (λ f. FitsIn (attributed_of s.shares) (entry_of s f)) (λ f below. entry_fits s are few f below) (ordered s) (ordered_are_below s))
 
 -- ---- the first functions
 

@@ -1,7 +1,5 @@
 -- The rows from which a report is printed.
 use Rattle.std.specs.Prelude.{◌≡◌, ℕ, ◌^◌, ◌<◌, ◌≤◌, List, [], length, map, if◌then◌else◌}
-use Rattle.call_cycles.specs.Flow.{IsFlow}
-use Rattle.call_cycles.specs.Graph.{all_calls}
 use Rattle.flat_report.specs.declared.sources.Sources as declared
 use Rattle.flat_report.specs.declared.rows.Row.{Row}
 use Rattle.flat_report.specs.Sources.{Sources}
@@ -12,13 +10,6 @@ use Rattle.flat_report.specs.Hidden.{is_hidden}
 -- the sources that references lead to
 abbrev pub sources_of : declared.Sources → Sources
 sources_of a = record { symbols = a.symbols.now; graph = a.graph.now; flow = a.flow.now; shares = a.shares.now; rate = a.rate }
-
--- the sources are of one program
-pub record FitTogether (s : Sources) : Type 0 where
-  pub functions : s.graph.functions ≡ length s.symbols
-  pub each : length s.shares.of ≡ length s.symbols
-  pub flow : IsFlow s.graph s.shares.of s.flow
-  pub few : all_calls s.graph < 2 ^ 59
 
 -- the entry that a row stands for
 abbrev pub entry_of_row : Row → Entry

@@ -1,10 +1,10 @@
 -- What a report is made from, and the times and calls of functions. Functions are counted from 0, in the order of their
 -- addresses.
-use Rattle.std.specs.Prelude.{ℕ, ◌+◌, ◌==◌, List, [], slice_get, slice_index}
+use Rattle.std.specs.Prelude.{◌≡◌, ℕ, ◌+◌, ◌==◌, List, [], length, slice_get, slice_index}
 use Rattle.std.specs.Option.{option_map_or}
 use Rattle.elf32_syms.specs.declared.image.Symbol.{Symbol}
-use Rattle.call_cycles.specs.Graph.{GraphValue, arc_at, arc_count}
-use Rattle.call_cycles.specs.Flow.{FlowValue}
+use Rattle.call_cycles.specs.Graph.{GraphValue, IsGraph, arc_at, arc_count}
+use Rattle.call_cycles.specs.Flow.{FlowValue, IsFlow}
 use Rattle.call_cycles.specs.Sums.{sum_below, when}
 use Rattle.symbol_shares.specs.Shares.{ShareTable}
 
@@ -15,6 +15,13 @@ pub record Sources : Type 0 where
   pub shares : ShareTable
   -- samples per second
   pub rate : ℕ
+
+-- the parts are of one program, and the times are those of its graph
+pub record AreOfOne (s : Sources) : Type 0 where
+  pub functions : s.graph.functions ≡ length s.symbols
+  pub each : length s.shares.of ≡ length s.symbols
+  pub graph : IsGraph s.graph
+  pub flow : IsFlow s.graph s.shares.of s.flow
 
 -- the name of a function
 abbrev pub name_of : Sources → ℕ → List ℕ

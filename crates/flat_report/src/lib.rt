@@ -10,10 +10,11 @@ pub mod line;
 pub mod refusal;
 pub mod report;
 mod rows;
-mod sources;
+pub mod sources;
 
 pub use refusal::ReportRefusal;
 pub use report::write;
+pub use sources::Sources;
 
 #[cfg(test)]
 mod tests;

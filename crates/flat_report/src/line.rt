@@ -39,9 +39,7 @@ pub fn put_quotient(line: &mut Line, num: u128, den: u128, width: usize)
     ensures text { line.new ≡ line.old ++ right_of (hundredths_of num den) width }
     ensures short { length line.new ≤ length line.old + 43 }
 {
-    let mut number = Line::new();
-    number.hundredths(num, den);
-    line.right(number.bytes(), width);
+    line.right_hundredths(num, den, width);
 }
 
 /// Adds a number at the right of its column.
@@ -52,9 +50,7 @@ fn put_number(line: &mut Line, n: u64, width: usize)
     ensures text { line.new ≡ line.old ++ right_of (decimal n) width }
     ensures short { length line.new ≤ length line.old + 21 }
 {
-    let mut number = Line::new();
-    number.decimal(u128::from(n));
-    line.right(number.bytes(), width);
+    line.right_decimal(u128::from(n), width);
 }
 
 /// Adds a part of a whole in percent, at the right of its column: `0.00` where the whole is 0.

@@ -60,6 +60,7 @@ pub fn write<H: Host>(
     ensures printed { Reports (flat_text (record { symbols = symbols.now; graph = graph.now; flow = flow.now; shares = shares.now; rate = rate }) (map string_bytes hidden.now)) (H.outside host.old) (H.outside host.new) result }
     ensures idle { result ≡ Err OutOfMemory → host.new ≡ host.old }
 {
+    graph.holds();
     let sources = Sources {
         symbols,
         graph,

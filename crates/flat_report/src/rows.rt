@@ -2,12 +2,12 @@
 
 ghost use Rattle.std.specs.Prelude.{◌≡◌, ◌<◌, ◌^◌, length, map, IfOk};
 ghost use Rattle.std.specs.List.{All};
-ghost use Rattle.call_cycles.specs.Graph.{IsGraph};
+ghost use Rattle.call_cycles.specs.Graph.{all_calls};
 ghost use Rattle.call_cycles.specs.Sums.{list_of};
 ghost use Rattle.symbol_shares.specs.Shares.{attributed_of};
 ghost use Rattle.flat_report.specs.Entries.{entries_of, entry_cmp, functions_of, has_line};
-ghost use Rattle.flat_report.specs.Rows.{FitTogether, FitsIn, IsRowOf, entry_of_row, entries_of_rows, sources_of};
-ghost use Rattle.flat_report.specs.Sources.{calls_of};
+ghost use Rattle.flat_report.specs.Rows.{FitsIn, IsRowOf, entry_of_row, entries_of_rows, sources_of};
+ghost use Rattle.flat_report.specs.Sources.{AreOfOne, calls_of};
 
 use crate::calls::calls_of_functions;
 use crate::sources::Sources;
@@ -51,8 +51,7 @@ fn is_shown(row: &Row<'_>) -> bool
 
 /// The row of function `f`.
 fn row_of<'a>(sources: &Sources<'a>, calls: &[u64], f: u32) -> Row<'a>
-    requires together { FitTogether (sources_of sources.now) }
-    requires graph { IsGraph sources.now.graph.now }
+    requires of_one { AreOfOne (sources_of sources.now) }
     requires small { attributed_of sources.now.shares.now < 2 ^ 65 }
     requires calls { calls.now ≡ list_of sources.now.graph.now.functions (calls_of sources.now.graph.now) }
     requires inside { f < sources.now.graph.now.functions }
@@ -75,14 +74,12 @@ fn rows_with_lines<'a>(
     sources: &Sources<'a>,
     calls: &[u64],
 ) -> Result<Vec<Row<'a>>, AllocError>
-    requires together { FitTogether (sources_of sources.now) }
+    requires of_one { AreOfOne (sources_of sources.now) }
     requires calls { calls.now ≡ list_of sources.now.graph.now.functions (calls_of sources.now.graph.now) }
-    ensures graph { IsGraph sources.now.graph.now }
     ensures rows { IfOk result (λ rows. All (IsRowOf (sources_of sources.now)) rows.items) }
     ensures functions { IfOk result (λ rows. map (λ row. row.number) rows.items ≡ functions_of (sources_of sources.now)) }
 {
-    // No time of a function is greater than this one, which its clause bounds.
-    let _all = sources.shares.attributed();
+    sources.shares.holds();
     let mut rows = Vec::new(alloc);
     for f in 0..sources.graph.function_count() {
         let row = row_of(sources, calls, f);
@@ -98,7 +95,8 @@ pub(crate) fn rows_in_order<'a>(
     alloc: Global,
     sources: &Sources<'a>,
 ) -> Result<Vec<Row<'a>>, AllocError>
-    requires { FitTogether (sources_of sources.now) }
+    requires of_one { AreOfOne (sources_of sources.now) }
+    requires few { all_calls sources.now.graph.now < 2 ^ 59 }
     ensures entries { IfOk result (λ rows. entries_of_rows rows.items ≡ entries_of (sources_of sources.now)) }
     ensures fit { IfOk result (λ rows. All (FitsIn (attributed_of sources.now.shares.now)) (entries_of_rows rows.items)) }
 {

@@ -7,7 +7,7 @@ use symbol_shares::Shares;
 
 /// A program's functions, their calls and their times.
 #[derive(Clone, Copy)]
-pub(crate) struct Sources<'a> {
+pub struct Sources<'a> {
     pub symbols: &'a [Symbol],
     pub graph: &'a Graph,
     pub flow: &'a Flow,

@@ -8,11 +8,10 @@ use Rattle.std.proofs.lemmas.List.Elements.{All-append, All-cons, All-from_recur
 use Rattle.std.proofs.lemmas.Bool.Decides.{nat_tests}
 use Rattle.call_cycles.specs.Graph.{GraphValue, component_count, is_cycle}
 use Rattle.call_cycles.specs.Sums.{numbers_below}
-use Rattle.flat_report.specs.Sources.{Sources}
+use Rattle.flat_report.specs.Sources.{AreOfOne, Sources}
 use Rattle.flat_report.specs.Order.{in_order}
 use Rattle.flat_report.proofs.OrderLemmas.{all_in_order}
 use Rattle.graph_report.specs.Entries.{Entry, comes_before, cycle_entry, entries_of, first_function, function_entry, has_entry, is_same, number_in, ordered}
-use Rattle.graph_report.specs.Inputs.{AreOfOne}
 use Rattle.graph_report.specs.Numbers.{AreNumbers}
 use Rattle.graph_report.specs.Rows.{entries_of_rows, entry_of_row}
 use Rattle.graph_report.specs.Subjects.{IsSubject}

@@ -10,9 +10,9 @@ use Rattle.call_cycles.proofs.MemberLemmas.{cycles_are}
 use Rattle.call_cycles.proofs.SumLemmas.{sum_ext, sum_at}
 use Rattle.symbol_shares.specs.Shares.{attributed_of}
 use Rattle.propagate.proofs.BoundLemmas.{roots_have_all}
-use Rattle.flat_report.specs.Sources.{Sources, calls_by_itself, calls_by_others, total_of}
+use Rattle.flat_report.specs.Sources.{AreOfOne, Sources, calls_by_itself, calls_by_others, total_of}
 use Rattle.graph_report.specs.Entries.{calls_of_others}
-use Rattle.graph_report.specs.Roots.{AreOfOneProgram, has_own_entry, shown_total}
+use Rattle.graph_report.specs.Roots.{has_own_entry, shown_total}
 
 -- ---- a component of one function
 
@@ -52,7 +52,7 @@ module _ (g : GraphValue) (is : IsGraph g) (c : ℕ) (low : c < component_count 
 
 -- ---- the totals of entries
 
-module _ (s : Sources) (fit : AreOfOneProgram s) where
+module _ (s : Sources) (fit : AreOfOne s) where
   is : IsGraph s.graph
   is = fit.graph
 

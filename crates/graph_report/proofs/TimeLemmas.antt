@@ -2,14 +2,13 @@
 use Rattle.std.proofs.Common.{◌≡◌, ◌<◌, ◌≤◌, ℕ, true, refl, arith}
 use Rattle.std.proofs.lemmas.Bool.{eq-eqb}
 use Rattle.call_cycles.specs.Flow.{carried_by, time_of}
-use Rattle.call_cycles.specs.Graph.{arc_count, component_count, component_of, is_outside, leaves, source_of}
+use Rattle.call_cycles.specs.Graph.{arc_count, component_count, is_outside, leaves, source_of}
 use Rattle.call_cycles.specs.Sums.{when}
 use Rattle.call_cycles.proofs.NumberingLemmas.{source_within}
 use Rattle.symbol_shares.specs.Shares.{attributed_of}
-use Rattle.flat_report.specs.Sources.{Sources, total_of}
-use Rattle.propagate.proofs.BoundLemmas.{function_within, within_all}
+use Rattle.flat_report.specs.Sources.{AreOfOne, Sources}
+use Rattle.propagate.proofs.BoundLemmas.{within_all}
 use Rattle.propagate.proofs.SumLemmas.{term_le_sum}
-use Rattle.graph_report.specs.Inputs.{AreOfOne}
 
 module _ (s : Sources) (are : AreOfOne s) where
   pub component_within : (c : ℕ) → c < component_count s.graph → time_of s.flow c ≤ attributed_of s.shares
@@ -17,13 +16,6 @@ module _ (s : Sources) (are : AreOfOne s) where
       let functions = are.functions in
       let each = are.each in
       within_all s.graph s.shares.of are.graph (omega arith) s.flow are.flow c low
-
-  pub total_within : (f : ℕ) → f < s.graph.functions → total_of s f ≤ attributed_of s.shares
-  total_within f below =
-      let inside = are.graph.components.within f below in
-      let all = component_within (component_of s.graph f) inside in
-      let one = function_within s.graph s.shares.of s.flow f are.graph are.flow below in
-      omega arith
 
   -- an outside arc carries no more than its caller's component has
   pub arc_within : (i : ℕ) → i < arc_count s.graph → is_outside s.graph i ≡ true → carried_by s.flow i ≤ attributed_of s.shares

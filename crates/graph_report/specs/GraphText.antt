@@ -25,6 +25,10 @@ bracketed number = codes "[" ++ decimal number ++ codes "]"
 unfoldable pub cycle_mark : GraphValue → ℕ → List ℕ
 cycle_mark g f = if is_member g f then codes " <cycle " ++ decimal (cycle_number g (component_of g f)) ++ codes ">" else []
 
+-- what stands behind a function's name in a line: its cycle, the number of its entry, and the end of the line
+abbrev pub tail_of : GraphValue → (Subject → ℕ) → ℕ → List ℕ
+tail_of g number f = cycle_mark g f ++ (codes " " ++ bracketed (number (Function f)) ++ codes "\n")
+
 -- a function's name in a line, with its cycle and the number of its entry
 unfoldable pub function_name : Sources → (Subject → ℕ) → ℕ → List ℕ
 function_name s number f = name_of s f ++ cycle_mark s.graph f ++ codes " " ++ bracketed (number (Function f))

@@ -1,20 +1,13 @@
 -- The entries of roots, and callers and callees in the order of their addresses.
-use Rattle.std.specs.Prelude.{◌≡◌, ◌<◌, ◌&&◌, ◌||◌, ℕ, Bool, false, length, map, if◌then◌else◌}
+use Rattle.std.specs.Prelude.{◌≡◌, ◌<◌, ◌&&◌, ◌||◌, ℕ, Bool, false, map, if◌then◌else◌}
 use Rattle.std.specs.List.Sorted.{IsStrictlyIncreasing}
 use Rattle.call_cycles.specs.Sums.{sum_below, when}
 use Rattle.call_cycles.specs.Graph.{GraphValue, IsGraph, arc_at, component_count, head_of, is_cycle}
-use Rattle.call_cycles.specs.Flow.{IsFlow, is_root, time_of}
+use Rattle.call_cycles.specs.Flow.{is_root, time_of}
 use Rattle.symbol_shares.specs.Shares.{attributed_of}
-use Rattle.flat_report.specs.Sources.{Sources, total_of}
+use Rattle.flat_report.specs.Sources.{AreOfOne, Sources, total_of}
 use Rattle.graph_report.specs.Entries.{has_entry}
 use Rattle.graph_report.specs.GraphText.{arcs_from, arcs_to}
-
--- the parts of a report are of one program, and its times are those of its graph
-pub record AreOfOneProgram (s : Sources) : Type 0 where
-  pub functions : s.graph.functions ≡ length s.symbols
-  pub each : length s.shares.of ≡ length s.symbols
-  pub graph : IsGraph s.graph
-  pub flow : IsFlow s.graph s.shares.of s.flow
 
 -- a component has an entry: as a whole, where it is a cycle, else that of its function
 abbrev pub has_own_entry : Sources → ℕ → Bool
@@ -26,15 +19,15 @@ shown_total s c = if is_cycle s.graph c then time_of s.flow c else total_of s (h
 
 -- it is the component's time
 abbrev pub TotalsAreTimes : Type 0
-TotalsAreTimes = (s : Sources) (c : ℕ) → AreOfOneProgram s → c < component_count s.graph → shown_total s c ≡ time_of s.flow c
+TotalsAreTimes = (s : Sources) (c : ℕ) → AreOfOne s → c < component_count s.graph → shown_total s c ≡ time_of s.flow c
 
 -- a component without an entry has no time
 abbrev pub NoTimeWithoutEntry : Type 0
-NoTimeWithoutEntry = (s : Sources) (c : ℕ) → AreOfOneProgram s → c < component_count s.graph → has_own_entry s c ≡ false → time_of s.flow c ≡ 0
+NoTimeWithoutEntry = (s : Sources) (c : ℕ) → AreOfOne s → c < component_count s.graph → has_own_entry s c ≡ false → time_of s.flow c ≡ 0
 
 -- the totals of the entries of roots are all time that there is
 abbrev pub RootEntriesHaveAll : Type 0
-RootEntriesHaveAll = (s : Sources) → AreOfOneProgram s
+RootEntriesHaveAll = (s : Sources) → AreOfOne s
     → sum_below (component_count s.graph) (λ c. when (is_root s.graph c && has_own_entry s c) (shown_total s c)) ≡ attributed_of s.shares
 
 -- functions have the order of their addresses: the callers of each one stand in this order, each once, and its callees

@@ -13,44 +13,49 @@ use text_cols::Line;
 /// has its calls alone.
 pub(crate) fn of_arc(inputs: &Inputs<'_>, i: usize) -> Line
     requires inputs { AreInputs inputs.now }
-    requires arc { i < arc_count inputs.now.graph.now }
+    requires arc { i < arc_count inputs.now.sources.graph.now }
     ensures text { result ≡ arc_columns (sources_of inputs.now) i }
     ensures short { length result ≤ 128 }
 {
-    let a = inputs.graph.arc(i);
-    let c = inputs.graph.component(a.caller);
-    let d = inputs.graph.component(a.callee);
+    let a = inputs.sources.graph.arc(i);
+    let c = inputs.sources.graph.component(a.caller);
+    let d = inputs.sources.graph.component(a.callee);
     if c == d {
         return line::untimed(&line::calls_inside(a.count));
     }
-    let own = inputs.flow.arc_self(i);
-    let child = inputs.flow.arc_child(i);
-    let called = line::calls_of_entering(a.count, inputs.graph.entering(d));
-    line::timed(inputs.rate, own, child, &called)
+    let own = inputs.sources.flow.arc_self(i);
+    let child = inputs.sources.flow.arc_child(i);
+    let called = line::calls_of_entering(a.count, inputs.sources.graph.entering(d));
+    line::timed(inputs.sources.rate, own, child, &called)
 }
 
 /// A function's own time, what it gets from those that it calls, and its calls by others and by itself.
 #[tactic(auto, unfolding(crate::specs::GraphText::function_columns))]
 pub(crate) fn of_function(inputs: &Inputs<'_>, f: u32) -> Line
     requires inputs { AreInputs inputs.now }
-    requires function { f < inputs.now.graph.now.functions }
+    requires function { f < inputs.now.sources.graph.now.functions }
     ensures text { result ≡ function_columns (sources_of inputs.now) f }
     ensures short { length result ≤ 128 }
 {
-    let called = line::calls_and_own(inputs.calls_to(f), inputs.graph.self_calls(f));
-    line::timed(inputs.rate, inputs.share(f), inputs.child(f), &called)
+    let called = line::calls_and_own(inputs.calls_to(f), inputs.sources.graph.self_calls(f));
+    line::timed(
+        inputs.sources.rate,
+        inputs.share(f),
+        inputs.child(f),
+        &called,
+    )
 }
 
 /// The same of a cycle as a whole: its calls are those that enter it and those between its members.
 #[tactic(auto, unfolding(crate::specs::GraphText::cycle_columns))]
 pub(crate) fn of_cycle(inputs: &Inputs<'_>, c: u32) -> Line
     requires inputs { AreInputs inputs.now }
-    requires component { c < component_count inputs.now.graph.now }
+    requires component { c < component_count inputs.now.sources.graph.now }
     ensures text { result ≡ cycle_columns (sources_of inputs.now) c }
     ensures short { length result ≤ 128 }
 {
-    let own = inputs.flow.self_of(c);
-    let child = inputs.flow.child_of(c);
-    let called = line::calls_and_inner(inputs.graph.entering(c), inputs.calls_inside(c));
-    line::timed(inputs.rate, own, child, &called)
+    let own = inputs.sources.flow.self_of(c);
+    let child = inputs.sources.flow.child_of(c);
+    let called = line::calls_and_inner(inputs.sources.graph.entering(c), inputs.calls_inside(c));
+    line::timed(inputs.sources.rate, own, child, &called)
 }

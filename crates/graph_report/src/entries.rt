@@ -26,11 +26,11 @@ const RULE: &[u8] = b"----------------------------------------------------------
 /// What stands in front of the name of the function that an entry is of.
 fn function_front(report: &Report<'_>, f: u32) -> Line
     requires report { IsReport report.now }
-    requires function { f < report.now.inputs.graph.now.functions }
+    requires function { f < report.now.inputs.sources.graph.now.functions }
     ensures { let s = sources_of report.now.inputs in
         result ≡ front_text s (number_of report.now (Function f)) (total_of s f) (function_columns s f) }
 {
-    let all = report.inputs.shares.attributed();
+    let all = report.inputs.sources.shares.attributed();
     let columns = columns::of_function(&report.inputs, f);
     line::primary(
         report.function_number(f),
@@ -48,7 +48,7 @@ fn put_function_line<H: Host>(
     host: &mut H,
 ) -> Result<(), Failed>
     requires report { IsReport report.now }
-    requires function { f < report.now.inputs.graph.now.functions }
+    requires function { f < report.now.inputs.sources.graph.now.functions }
     ensures { Adds Output (function_line (sources_of report.now.inputs) (number_of report.now) f) lines.old lines.new (H.outside host.old) (H.outside host.new) result }
 {
     lines.put(host, function_front(report, f).bytes())?;
@@ -58,13 +58,13 @@ fn put_function_line<H: Host>(
 /// What stands in front of the name of the cycle that an entry is of, given by its head.
 fn cycle_front(report: &Report<'_>, head: u32) -> Line
     requires report { IsReport report.now }
-    requires function { head < report.now.inputs.graph.now.functions }
+    requires function { head < report.now.inputs.sources.graph.now.functions }
     ensures { let s = sources_of report.now.inputs in
         let c = component_of s.graph head in
         result ≡ front_text s (number_of report.now (Cycle head)) (time_of s.flow c) (cycle_columns s c) }
 {
-    let all = report.inputs.shares.attributed();
-    let c = report.inputs.graph.component(head);
+    let all = report.inputs.sources.shares.attributed();
+    let c = report.inputs.sources.graph.component(head);
     let columns = columns::of_cycle(&report.inputs, c);
     line::primary(
         report.cycle_number(head),
@@ -82,8 +82,8 @@ fn put_cycle_line<H: Host>(
     host: &mut H,
 ) -> Result<(), Failed>
     requires report { IsReport report.now }
-    requires function { head < report.now.inputs.graph.now.functions }
-    requires cycle { is_cycle report.now.inputs.graph.now (component_of report.now.inputs.graph.now head) ≡ true }
+    requires function { head < report.now.inputs.sources.graph.now.functions }
+    requires cycle { is_cycle report.now.inputs.sources.graph.now (component_of report.now.inputs.sources.graph.now head) ≡ true }
     ensures { Adds Output (cycle_line (sources_of report.now.inputs) (number_of report.now) head) lines.old lines.new (H.outside host.old) (H.outside host.new) result }
 {
     lines.put(host, cycle_front(report, head).bytes())?;
@@ -98,7 +98,7 @@ fn put_function<H: Host>(
     host: &mut H,
 ) -> Result<(), Failed>
     requires report { IsReport report.now }
-    requires function { f < report.now.inputs.graph.now.functions }
+    requires function { f < report.now.inputs.sources.graph.now.functions }
     ensures { Adds Output (function_text (sources_of report.now.inputs) (number_of report.now) f) lines.old lines.new (H.outside host.old) (H.outside host.new) result }
 {
     put_callers(report, report.inputs.arcs_to(f), lines, host)?;
@@ -115,11 +115,11 @@ fn put_cycle<H: Host>(
     host: &mut H,
 ) -> Result<(), Failed>
     requires report { IsReport report.now }
-    requires function { head < report.now.inputs.graph.now.functions }
-    requires cycle { is_cycle report.now.inputs.graph.now (component_of report.now.inputs.graph.now head) ≡ true }
+    requires function { head < report.now.inputs.sources.graph.now.functions }
+    requires cycle { is_cycle report.now.inputs.sources.graph.now (component_of report.now.inputs.sources.graph.now head) ≡ true }
     ensures { Adds Output (cycle_text (sources_of report.now.inputs) (number_of report.now) head) lines.old lines.new (H.outside host.old) (H.outside host.new) result }
 {
-    let c = report.inputs.graph.component(head);
+    let c = report.inputs.sources.graph.component(head);
     put_callers(report, report.inputs.arcs_into(c), lines, host)?;
     put_cycle_line(report, head, lines, host)?;
     put_members(report, report.inputs.members(c), lines, host)?;
@@ -134,7 +134,7 @@ pub(crate) fn put_entry<H: Host>(
     host: &mut H,
 ) -> Result<(), Failed>
     requires report { IsReport report.now }
-    requires subject { IsSubject report.now.inputs.graph.now subject }
+    requires subject { IsSubject report.now.inputs.sources.graph.now subject }
     ensures { Adds Output (subject_text (sources_of report.now.inputs) (number_of report.now) subject) lines.old lines.new (H.outside host.old) (H.outside host.new) result }
 {
     match subject {

@@ -10,20 +10,12 @@ ghost use Rattle.graph_report.specs.GraphText.{arcs_from as arcs_that_leave, arc
 ghost use Rattle.graph_report.specs.Inputs.{AreInputs, sources_of};
 
 use crate::tables::Tables;
-use call_cycles::Graph;
-use elf32_syms::Symbol;
-use propagate::Flow;
-use symbol_shares::Shares;
+use flat_report::Sources;
 
-/// The functions, who called whom, the time of each and how it flows, and the tables of the graph.
+/// The sources of a report, and the tables of their graph.
 #[derive(Clone, Copy)]
 pub(crate) struct Inputs<'a> {
-    pub symbols: &'a [Symbol],
-    pub graph: &'a Graph,
-    pub flow: &'a Flow,
-    pub shares: &'a Shares,
-    /// Samples a second.
-    pub rate: u32,
+    pub sources: Sources<'a>,
     pub tables: &'a Tables,
 }
 
@@ -31,36 +23,36 @@ impl<'a> Inputs<'a> {
     /// The name of a function.
     pub fn name(&self, f: u32) -> &'a [u8]
         requires inputs { AreInputs self.now }
-        requires function { f < self.now.graph.now.functions }
+        requires function { f < self.now.sources.graph.now.functions }
         ensures { result.now ≡ name_of (sources_of self.now) f }
     {
-        self.symbols[f as usize].name.as_slice()
+        self.sources.symbols[f as usize].name.as_slice()
     }
 
     /// The grains of a function itself.
     pub fn share(&self, f: u32) -> u128
         requires inputs { AreInputs self.now }
-        requires function { f < self.now.graph.now.functions }
+        requires function { f < self.now.sources.graph.now.functions }
         ensures value { result ≡ share_of (sources_of self.now) f }
         ensures within { result < 2 ^ 65 }
     {
-        self.shares.of(f)
+        self.sources.shares.of(f)
     }
 
     /// What a function gets from those that it calls outside its cycle.
     pub fn child(&self, f: u32) -> u128
         requires inputs { AreInputs self.now }
-        requires function { f < self.now.graph.now.functions }
+        requires function { f < self.now.sources.graph.now.functions }
         ensures value { result ≡ child_of (sources_of self.now) f }
         ensures within { result < 2 ^ 65 }
     {
-        self.flow.member_child(f)
+        self.sources.flow.member_child(f)
     }
 
     /// Both together.
     pub fn total(&self, f: u32) -> u128
         requires inputs { AreInputs self.now }
-        requires function { f < self.now.graph.now.functions }
+        requires function { f < self.now.sources.graph.now.functions }
         ensures value { result ≡ total_of (sources_of self.now) f }
         ensures within { result < 2 ^ 65 }
     {
@@ -70,18 +62,18 @@ impl<'a> Inputs<'a> {
     /// The time of a component, its own and that of those it calls.
     pub fn component_total(&self, c: u32) -> u128
         requires inputs { AreInputs self.now }
-        requires component { c < component_count self.now.graph.now }
-        ensures value { result ≡ time_of self.now.flow.now c }
+        requires component { c < component_count self.now.sources.graph.now }
+        ensures value { result ≡ time_of self.now.sources.flow.now c }
         ensures within { result < 2 ^ 65 }
     {
-        self.flow.self_of(c) + self.flow.child_of(c)
+        self.sources.flow.self_of(c) + self.sources.flow.child_of(c)
     }
 
     /// The calls of a function by others.
     pub fn calls_to(&self, f: u32) -> u64
         requires inputs { AreInputs self.now }
-        requires function { f < self.now.graph.now.functions }
-        ensures { result ≡ calls_by_others self.now.graph.now f }
+        requires function { f < self.now.sources.graph.now.functions }
+        ensures { result ≡ calls_by_others self.now.sources.graph.now f }
     {
         self.tables.calls_to[f as usize]
     }
@@ -89,8 +81,8 @@ impl<'a> Inputs<'a> {
     /// The calls of others by a function.
     pub fn calls_from(&self, f: u32) -> u64
         requires inputs { AreInputs self.now }
-        requires function { f < self.now.graph.now.functions }
-        ensures { result ≡ calls_of_others self.now.graph.now f }
+        requires function { f < self.now.sources.graph.now.functions }
+        ensures { result ≡ calls_of_others self.now.sources.graph.now f }
     {
         self.tables.calls_from[f as usize]
     }
@@ -98,8 +90,8 @@ impl<'a> Inputs<'a> {
     /// The calls between different members of a component.
     pub fn calls_inside(&self, c: u32) -> u64
         requires inputs { AreInputs self.now }
-        requires component { c < component_count self.now.graph.now }
-        ensures { result ≡ inner_calls self.now.graph.now c }
+        requires component { c < component_count self.now.sources.graph.now }
+        ensures { result ≡ inner_calls self.now.sources.graph.now c }
     {
         self.tables.calls_inside[c as usize]
     }
@@ -107,8 +99,8 @@ impl<'a> Inputs<'a> {
     /// The arcs to a function, in the order of their numbers.
     pub fn arcs_to(&self, f: u32) -> &'a [usize]
         requires inputs { AreInputs self.now }
-        requires function { f < self.now.graph.now.functions }
-        ensures { result.now ≡ arcs_that_call self.now.graph.now f }
+        requires function { f < self.now.sources.graph.now.functions }
+        ensures { result.now ≡ arcs_that_call self.now.sources.graph.now f }
     {
         self.tables.arcs_to[f as usize].as_slice()
     }
@@ -116,8 +108,8 @@ impl<'a> Inputs<'a> {
     /// The arcs from a function, in the order of their numbers.
     pub fn arcs_from(&self, f: u32) -> &'a [usize]
         requires inputs { AreInputs self.now }
-        requires function { f < self.now.graph.now.functions }
-        ensures { result.now ≡ arcs_that_leave self.now.graph.now f }
+        requires function { f < self.now.sources.graph.now.functions }
+        ensures { result.now ≡ arcs_that_leave self.now.sources.graph.now f }
     {
         self.tables.arcs_from[f as usize].as_slice()
     }
@@ -125,8 +117,8 @@ impl<'a> Inputs<'a> {
     /// The outside arcs into a component, in the order of their numbers.
     pub fn arcs_into(&self, c: u32) -> &'a [usize]
         requires inputs { AreInputs self.now }
-        requires component { c < component_count self.now.graph.now }
-        ensures { result.now ≡ arcs_that_enter self.now.graph.now c }
+        requires component { c < component_count self.now.sources.graph.now }
+        ensures { result.now ≡ arcs_that_enter self.now.sources.graph.now c }
     {
         self.tables.arcs_into[c as usize].as_slice()
     }
@@ -134,8 +126,8 @@ impl<'a> Inputs<'a> {
     /// The members of a component, in the order of their addresses.
     pub fn members(&self, c: u32) -> &'a [usize]
         requires inputs { AreInputs self.now }
-        requires component { c < component_count self.now.graph.now }
-        ensures { result.now ≡ members_of self.now.graph.now c }
+        requires component { c < component_count self.now.sources.graph.now }
+        ensures { result.now ≡ members_of self.now.sources.graph.now c }
     {
         self.tables.members[c as usize].as_slice()
     }
@@ -143,9 +135,9 @@ impl<'a> Inputs<'a> {
     /// The number of a cycle.
     pub fn cycle_number(&self, c: u32) -> u32
         requires inputs { AreInputs self.now }
-        requires component { c < component_count self.now.graph.now }
-        requires cycle { is_a_cycle self.now.graph.now c ≡ true }
-        ensures { result ≡ number_of_cycle self.now.graph.now c }
+        requires component { c < component_count self.now.sources.graph.now }
+        requires cycle { is_a_cycle self.now.sources.graph.now c ≡ true }
+        ensures { result ≡ number_of_cycle self.now.sources.graph.now c }
     {
         self.tables.cycle_numbers[c as usize]
     }
@@ -153,9 +145,9 @@ impl<'a> Inputs<'a> {
     /// The name of a cycle as a whole.
     pub fn cycle_name(&self, c: u32) -> &'a [u8]
         requires inputs { AreInputs self.now }
-        requires component { c < component_count self.now.graph.now }
-        requires cycle { is_a_cycle self.now.graph.now c ≡ true }
-        ensures { result.now ≡ name_of_cycle self.now.graph.now c }
+        requires component { c < component_count self.now.sources.graph.now }
+        requires cycle { is_a_cycle self.now.sources.graph.now c ≡ true }
+        ensures { result.now ≡ name_of_cycle self.now.sources.graph.now c }
     {
         self.tables.cycle_names[c as usize].as_slice()
     }

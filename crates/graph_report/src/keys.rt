@@ -40,7 +40,7 @@ fn key_of(graph: &Graph, i: usize, key: ArcKey) -> u32
 pub(crate) fn keys(alloc: Global, graph: &Graph, key: ArcKey) -> Result<Vec<u32>, AllocError>
     ensures { IfOk result (λ v. v.items ≡ list_of (arc_count graph.now) (arc_key graph.now key)) }
 {
-    let mut keys = Vec::new(alloc);
+    let mut keys = Vec::with_capacity(alloc, graph.arc_count())?;
     for i in 0..graph.arc_count() {
         keys.push(key_of(graph, i, key))?;
     }

@@ -126,19 +126,6 @@ pub(crate) fn primary(number: usize, total: u128, all: u128, columns: &Line) -> 
     line
 }
 
-/// What stands in front of the name in any other line.
-#[tactic(auto, using(text_cols::proofs::Lengths::lengths))]
-pub(crate) fn other(columns: &Line) -> Line
-    requires { length columns.now ≤ 128 }
-    ensures { result ≡ spaces 15 ++ columns.now ++ spaces 6 }
-{
-    let mut line = Line::new();
-    line.put(&[b' '; 15]);
-    line.put(columns.bytes());
-    line.put(b"      ");
-    line
-}
-
 /// What stands behind a name and its cycle: the number of its entry, and the end of the line.
 #[tactic(auto, using(text_cols::proofs::Lengths::lengths))]
 pub(crate) fn put_tail(line: &mut Line, number: usize)

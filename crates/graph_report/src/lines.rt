@@ -11,13 +11,19 @@ ghost use Rattle.graph_report.specs.Inputs.{sources_of};
 ghost use Rattle.graph_report.specs.Numbers.{IsReport, number_of};
 
 use crate::numbers::Report;
-use crate::{columns, line, names};
+use crate::{columns, names};
 use host_port::{Failed, Host, PrintBuf};
 use text_cols::Line;
 
 /// The line in place of callers, where there are none.
 const SPONTANEOUS: &[u8] =
     b"                                                                   <spontaneous>\n";
+
+/// What stands in front of the columns of a line that isn't the subject's.
+const FRONT: &[u8] = b"               ";
+
+/// What stands behind them.
+const BEHIND: &[u8] = b"      ";
 
 /// Puts a line of a function that isn't the subject of the entry.
 fn put_other<H: Host>(
@@ -28,11 +34,13 @@ fn put_other<H: Host>(
     host: &mut H,
 ) -> Result<(), Failed>
     requires report { IsReport report.now }
-    requires function { f < report.now.inputs.graph.now.functions }
+    requires function { f < report.now.inputs.sources.graph.now.functions }
     requires columns { length columns.now ≤ 128 }
     ensures { Adds Output (other_line columns.now (function_name (sources_of report.now.inputs) (number_of report.now) f)) lines.old lines.new (H.outside host.old) (H.outside host.new) result }
 {
-    lines.put(host, line::other(columns).bytes())?;
+    lines.put(host, FRONT)?;
+    lines.put(host, columns.bytes())?;
+    lines.put(host, BEHIND)?;
     names::put_function_name(report, f, lines, host)
 }
 
@@ -44,10 +52,10 @@ fn put_caller<H: Host>(
     host: &mut H,
 ) -> Result<(), Failed>
     requires report { IsReport report.now }
-    requires arc { i < arc_count report.now.inputs.graph.now }
+    requires arc { i < arc_count report.now.inputs.sources.graph.now }
     ensures { Adds Output (caller_line (sources_of report.now.inputs) (number_of report.now) i) lines.old lines.new (H.outside host.old) (H.outside host.new) result }
 {
-    let caller = report.inputs.graph.arc(i).caller;
+    let caller = report.inputs.sources.graph.arc(i).caller;
     put_other(
         report,
         &columns::of_arc(&report.inputs, i),
@@ -65,10 +73,10 @@ fn put_callee<H: Host>(
     host: &mut H,
 ) -> Result<(), Failed>
     requires report { IsReport report.now }
-    requires arc { i < arc_count report.now.inputs.graph.now }
+    requires arc { i < arc_count report.now.inputs.sources.graph.now }
     ensures { Adds Output (callee_line (sources_of report.now.inputs) (number_of report.now) i) lines.old lines.new (H.outside host.old) (H.outside host.new) result }
 {
-    let callee = report.inputs.graph.arc(i).callee;
+    let callee = report.inputs.sources.graph.arc(i).callee;
     put_other(
         report,
         &columns::of_arc(&report.inputs, i),
@@ -86,7 +94,7 @@ fn put_member<H: Host>(
     host: &mut H,
 ) -> Result<(), Failed>
     requires report { IsReport report.now }
-    requires function { f < report.now.inputs.graph.now.functions }
+    requires function { f < report.now.inputs.sources.graph.now.functions }
     ensures { Adds Output (member_line (sources_of report.now.inputs) (number_of report.now) f) lines.old lines.new (H.outside host.old) (H.outside host.new) result }
 {
     put_other(
@@ -121,7 +129,7 @@ pub(crate) fn put_callers<H: Host>(
     host: &mut H,
 ) -> Result<(), Failed>
     requires report { IsReport report.now }
-    requires arcs { All (λ i. i < arc_count report.now.inputs.graph.now) arcs.now }
+    requires arcs { All (λ i. i < arc_count report.now.inputs.sources.graph.now) arcs.now }
     ensures { Adds Output (callers_text (sources_of report.now.inputs) (number_of report.now) arcs.now) lines.old lines.new (H.outside host.old) (H.outside host.new) result }
 {
     if is_spontaneous(arcs) {
@@ -141,7 +149,7 @@ pub(crate) fn put_callees<H: Host>(
     host: &mut H,
 ) -> Result<(), Failed>
     requires report { IsReport report.now }
-    requires arcs { All (λ i. i < arc_count report.now.inputs.graph.now) arcs.now }
+    requires arcs { All (λ i. i < arc_count report.now.inputs.sources.graph.now) arcs.now }
     ensures { Adds Output (flat_map (callee_line (sources_of report.now.inputs) (number_of report.now)) arcs.now) lines.old lines.new (H.outside host.old) (H.outside host.new) result }
 {
     for i in arcs {
@@ -158,11 +166,11 @@ pub(crate) fn put_members<H: Host>(
     host: &mut H,
 ) -> Result<(), Failed>
     requires report { IsReport report.now }
-    requires members { All (λ f. f < report.now.inputs.graph.now.functions) members.now }
+    requires members { All (λ f. f < report.now.inputs.sources.graph.now.functions) members.now }
     ensures { Adds Output (flat_map (member_line (sources_of report.now.inputs) (number_of report.now)) members.now) lines.old lines.new (H.outside host.old) (H.outside host.new) result }
 {
     // Numbers of functions have 32 bits.
-    let _count = report.inputs.graph.function_count();
+    let _count = report.inputs.sources.graph.function_count();
     for f in members {
         put_member(report, *f as u32, lines, host)?;
     }

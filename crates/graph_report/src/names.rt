@@ -1,32 +1,34 @@
 //! The names at the ends of lines.
 
-ghost use Rattle.std.specs.Prelude.{◌≡◌, ◌<◌, ◌≤◌, ◌++◌, true, codes, length};
+ghost use Rattle.std.specs.Prelude.{◌≡◌, ◌<◌, ◌≤◌, ◌++◌, true, codes, length, IfOk};
 ghost use Rattle.host_port.specs.Buffered.{Adds};
 ghost use Rattle.host_port.specs.declared.side.Side.TheVariants.{Output};
 ghost use Rattle.call_cycles.specs.Graph.{component_count, component_of, head_of, is_cycle};
 ghost use Rattle.graph_report.specs.Cycles.{cycle_name};
-ghost use Rattle.graph_report.specs.GraphText.{bracketed, cycle_mark, function_name};
+ghost use Rattle.graph_report.specs.Entries.{number_in, ordered};
+ghost use Rattle.graph_report.specs.GraphText.{bracketed, cycle_mark, function_name, tail_of};
 ghost use Rattle.graph_report.specs.Inputs.{AreInputs, sources_of};
-ghost use Rattle.graph_report.specs.Numbers.{IsReport, number_of};
+ghost use Rattle.graph_report.specs.Numbers.{AreNumbers, AreTails, IsReport, number_of};
 ghost use Rattle.graph_report.specs.declared.subjects.Subject.TheVariants.{Cycle, Function};
 
 use crate::inputs::Inputs;
 use crate::line::put_tail;
-use crate::numbers::Report;
+use crate::numbers::{Numbers, Report};
 use host_port::{Failed, Host, PrintBuf};
+use std::alloc::{AllocError, Global};
 use text_cols::Line;
 
 /// The cycle of which a function is a member, where there is one.
 #[tactic(auto, using(text_cols::proofs::Lengths::lengths), unfolding(crate::specs::GraphText::cycle_mark))]
 fn mark(inputs: &Inputs<'_>, f: u32) -> Line
     requires inputs { AreInputs inputs.now }
-    requires function { f < inputs.now.graph.now.functions }
-    ensures text { result ≡ cycle_mark inputs.now.graph.now f }
+    requires function { f < inputs.now.sources.graph.now.functions }
+    ensures text { result ≡ cycle_mark inputs.now.sources.graph.now f }
     ensures short { length result ≤ 19 }
 {
     let mut line = Line::new();
-    let c = inputs.graph.component(f);
-    if inputs.graph.is_cycle(c) {
+    let c = inputs.sources.graph.component(f);
+    if inputs.sources.graph.is_cycle(c) {
         line.put(b" <cycle ");
         line.decimal(u128::from(inputs.cycle_number(c)));
         line.put(b">");
@@ -35,14 +37,33 @@ fn mark(inputs: &Inputs<'_>, f: u32) -> Line
 }
 
 /// What stands behind the name of a function: its cycle, the number of its entry, and the end of the line.
-fn function_tail(report: &Report<'_>, f: u32) -> Line
-    requires report { IsReport report.now }
-    requires function { f < report.now.inputs.graph.now.functions }
-    ensures { result ≡ cycle_mark report.now.inputs.graph.now f ++ (codes " " ++ bracketed (number_of report.now (Function f)) ++ codes "\n") }
+fn function_tail(inputs: &Inputs<'_>, numbers: &Numbers, f: u32) -> Line
+    requires inputs { AreInputs inputs.now }
+    requires numbers { AreNumbers (sources_of inputs.now) numbers.now }
+    requires function { f < inputs.now.sources.graph.now.functions }
+    ensures { result ≡ tail_of inputs.now.sources.graph.now (number_in (ordered (sources_of inputs.now))) f }
 {
-    let mut line = mark(&report.inputs, f);
-    put_tail(&mut line, report.function_number(f));
+    let mut line = mark(inputs, f);
+    put_tail(&mut line, numbers.functions[f as usize]);
     line
+}
+
+/// What stands behind the name of each function.
+pub(crate) fn function_tails(
+    alloc: Global,
+    inputs: &Inputs<'_>,
+    numbers: &Numbers,
+) -> Result<Vec<Vec<u8>>, AllocError>
+    requires inputs { AreInputs inputs.now }
+    requires numbers { AreNumbers (sources_of inputs.now) numbers.now }
+    ensures { IfOk result (λ v. AreTails (sources_of inputs.now) v.items) }
+{
+    let mut tails = Vec::new(alloc);
+    for f in 0..inputs.sources.graph.function_count() {
+        let tail = function_tail(inputs, numbers, f);
+        tails.push(Vec::from_slice(alloc, tail.bytes())?)?;
+    }
+    Ok(tails)
 }
 
 /// Puts the name of a function at the end of a line.
@@ -53,17 +74,17 @@ pub(crate) fn put_function_name<H: Host>(
     host: &mut H,
 ) -> Result<(), Failed>
     requires report { IsReport report.now }
-    requires function { f < report.now.inputs.graph.now.functions }
+    requires function { f < report.now.inputs.sources.graph.now.functions }
     ensures { Adds Output (function_name (sources_of report.now.inputs) (number_of report.now) f ++ codes "\n") lines.old lines.new (H.outside host.old) (H.outside host.new) result }
 {
     lines.put(host, report.inputs.name(f))?;
-    lines.put(host, function_tail(report, f).bytes())
+    lines.put(host, report.tail(f))
 }
 
 /// What stands behind the name of a cycle as a whole: the number of its entry, and the end of the line.
 fn cycle_tail(report: &Report<'_>, head: u32) -> Line
     requires report { IsReport report.now }
-    requires function { head < report.now.inputs.graph.now.functions }
+    requires function { head < report.now.inputs.sources.graph.now.functions }
     ensures { result ≡ codes " " ++ bracketed (number_of report.now (Cycle head)) ++ codes "\n" }
 {
     let mut line = Line::new();
@@ -79,12 +100,12 @@ pub(crate) fn put_cycle_name<H: Host>(
     host: &mut H,
 ) -> Result<(), Failed>
     requires report { IsReport report.now }
-    requires function { head < report.now.inputs.graph.now.functions }
-    requires cycle { is_cycle report.now.inputs.graph.now (component_of report.now.inputs.graph.now head) ≡ true }
-    ensures { Adds Output (cycle_name report.now.inputs.graph.now (component_of report.now.inputs.graph.now head) ++ codes " " ++ bracketed (number_of report.now (Cycle head)) ++ codes "\n")
+    requires function { head < report.now.inputs.sources.graph.now.functions }
+    requires cycle { is_cycle report.now.inputs.sources.graph.now (component_of report.now.inputs.sources.graph.now head) ≡ true }
+    ensures { Adds Output (cycle_name report.now.inputs.sources.graph.now (component_of report.now.inputs.sources.graph.now head) ++ codes " " ++ bracketed (number_of report.now (Cycle head)) ++ codes "\n")
         lines.old lines.new (H.outside host.old) (H.outside host.new) result }
 {
-    let c = report.inputs.graph.component(head);
+    let c = report.inputs.sources.graph.component(head);
     lines.put(host, report.inputs.cycle_name(c))?;
     lines.put(host, cycle_tail(report, head).bytes())
 }

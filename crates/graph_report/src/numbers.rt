@@ -2,6 +2,7 @@
 
 ghost use Rattle.std.specs.Prelude.{◌≡◌, ◌<◌, ℕ, IfOk, length, slice_index, if◌then◌else◌};
 ghost use Rattle.graph_report.specs.Entries.{first_function, is_same, ordered};
+ghost use Rattle.graph_report.specs.GraphText.{tail_of};
 ghost use Rattle.graph_report.specs.Inputs.{AreInputs, sources_of};
 ghost use Rattle.graph_report.specs.Numbers.{AreNumbers, IsReport, number_of};
 ghost use Rattle.graph_report.specs.Rows.{entries_of_rows};
@@ -21,27 +22,38 @@ pub(crate) struct Numbers {
     pub cycles: Vec<usize>,
 }
 
-/// What is printed, with the numbers of the entries.
+/// What is printed, with the numbers of the entries, and what is made of them before the first line.
 #[derive(Drop)]
 pub(crate) struct Report<'a> {
     pub inputs: Inputs<'a>,
     pub numbers: Numbers,
+    /// What stands behind the name of each function.
+    pub tails: Vec<Vec<u8>>,
 }
 
 impl Report<'_> {
     /// The number of a function's entry.
     pub fn function_number(&self, f: u32) -> usize
         requires report { IsReport self.now }
-        requires function { f < self.now.inputs.graph.now.functions }
+        requires function { f < self.now.inputs.sources.graph.now.functions }
         ensures { result ≡ number_of self.now (Function f) }
     {
         self.numbers.functions[f as usize]
     }
 
+    /// What stands behind the name of a function: its cycle, the number of its entry, and the end of the line.
+    pub fn tail(&self, f: u32) -> &[u8]
+        requires report { IsReport self.now }
+        requires function { f < self.now.inputs.sources.graph.now.functions }
+        ensures { result.now ≡ tail_of self.now.inputs.sources.graph.now (number_of self.now) f }
+    {
+        self.tails[f as usize].as_slice()
+    }
+
     /// The number of a cycle's entry, given by its head.
     pub fn cycle_number(&self, head: u32) -> usize
         requires report { IsReport self.now }
-        requires function { head < self.now.inputs.graph.now.functions }
+        requires function { head < self.now.inputs.sources.graph.now.functions }
         ensures { result ≡ number_of self.now (Cycle head) }
     {
         self.numbers.cycles[head as usize]
@@ -73,7 +85,7 @@ pub(crate) fn entry_numbers(
     requires rows { entries_of_rows rows.now ≡ ordered (sources_of inputs.now) }
     ensures { IfOk result (AreNumbers (sources_of inputs.now)) }
 {
-    let count = inputs.graph.function_count() as usize;
+    let count = inputs.sources.graph.function_count() as usize;
     let mut numbers = Numbers {
         functions: vec![in alloc; 0usize; count]?,
         cycles: vec![in alloc; 0usize; count]?,

@@ -18,14 +18,15 @@ ghost use Rattle.graph_report.specs.Subjects.{IsSubject, entry_text, shown_text}
 
 use crate::entries::put_entry;
 use crate::inputs::Inputs;
+use crate::names::function_tails;
 use crate::numbers::{Report, entry_numbers};
 use crate::rows::{Row, rows_in_order};
 use crate::subjects::Subject;
 use crate::tables::Tables;
 use call_cycles::Graph;
 use elf32_syms::Symbol;
-use flat_report::ReportRefusal;
 use flat_report::hidden::is_hidden;
+use flat_report::{ReportRefusal, Sources};
 use host_port::{Failed, Host, PrintBuf};
 use propagate::Flow;
 use std::alloc::Global;
@@ -62,20 +63,28 @@ pub fn write<H: Host>(
     ensures printed { Reports (graph_text (record { symbols = symbols.now; graph = graph.now; flow = flow.now; shares = shares.now; rate = rate }) (map string_bytes hidden.now)) (H.outside host.old) (H.outside host.new) result }
     ensures idle { result ≡ Err OutOfMemory → host.new ≡ host.old }
 {
-    // No time is greater than this one, which its clause bounds.
-    let _all = shares.attributed();
+    shares.holds();
     let tables = Tables::new(alloc, graph)?;
-    let inputs = Inputs {
+    let sources = Sources {
         symbols,
         graph,
         flow,
         shares,
         rate,
+    };
+    let inputs = Inputs {
+        sources,
         tables: &tables,
     };
     let rows = rows_in_order(alloc, &inputs)?;
     let numbers = entry_numbers(alloc, &inputs, &rows)?;
-    print(&Report { inputs, numbers }, &rows, hidden, host)?;
+    let tails = function_tails(alloc, &inputs, &numbers)?;
+    let report = Report {
+        inputs,
+        numbers,
+        tails,
+    };
+    print(&report, &rows, hidden, host)?;
     Ok(())
 }
 
@@ -146,7 +155,7 @@ fn put_row<H: Host>(
     host: &mut H,
 ) -> Result<(), Failed>
     requires report { IsReport report.now }
-    requires subject { IsSubject report.now.inputs.graph.now row.now.subject }
+    requires subject { IsSubject report.now.inputs.sources.graph.now row.now.subject }
     ensures { Adds Output (shown_text (sources_of report.now.inputs) (map string_bytes hidden.now) (entry_of_row row.now)) lines.old lines.new
         (H.outside host.old) (H.outside host.new) result }
 {

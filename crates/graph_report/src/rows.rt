@@ -39,12 +39,12 @@ fn order(one: &Row<'_>, other: &Row<'_>) -> Ordering
 /// Whether a function took time, itself or in what it calls, or calls or is called.
 fn has_entry(inputs: &Inputs<'_>, f: u32) -> bool
     requires inputs { AreInputs inputs.now }
-    requires function { f < inputs.now.graph.now.functions }
+    requires function { f < inputs.now.sources.graph.now.functions }
     ensures { result ≡ has (sources_of inputs.now) f }
 {
     let called = inputs.calls_to(f);
     let calls = inputs.calls_from(f);
-    let own = inputs.graph.self_calls(f);
+    let own = inputs.sources.graph.self_calls(f);
     inputs.total(f) > 0 || called > 0 || calls > 0 || own > 0
 }
 
@@ -53,10 +53,10 @@ fn put_cycles<'a>(inputs: &Inputs<'a>, rows: &mut Vec<Row<'a>>) -> Result<(), Al
     requires { AreInputs inputs.now }
     ensures { OnOk result (entries_of_rows rows.new.items ≡ entries_of_rows rows.old.items ++ cycle_entries (sources_of inputs.now)) }
 {
-    for c in 0..inputs.graph.component_count() {
-        if inputs.graph.is_cycle(c) {
+    for c in 0..inputs.sources.graph.component_count() {
+        if inputs.sources.graph.is_cycle(c) {
             rows.push(Row {
-                subject: Subject::Cycle(inputs.graph.head(c)),
+                subject: Subject::Cycle(inputs.sources.graph.head(c)),
                 total: inputs.component_total(c),
                 name: inputs.cycle_name(c),
             })?;
@@ -70,7 +70,7 @@ fn put_functions<'a>(inputs: &Inputs<'a>, rows: &mut Vec<Row<'a>>) -> Result<(),
     requires { AreInputs inputs.now }
     ensures { OnOk result (entries_of_rows rows.new.items ≡ entries_of_rows rows.old.items ++ function_entries (sources_of inputs.now)) }
 {
-    for f in 0..inputs.graph.function_count() {
+    for f in 0..inputs.sources.graph.function_count() {
         if has_entry(inputs, f) {
             rows.push(Row {
                 subject: Subject::Function(f),

@@ -1,8 +1,10 @@
 //! What is found out of a graph before the first line.
 
 ghost use Rattle.std.specs.Prelude.{◌≡◌, ◌^◌, ◌<◌, IfOk};
-ghost use Rattle.call_cycles.specs.Graph.{IsGraph, all_calls};
+ghost use Rattle.call_cycles.specs.Graph.{IsGraph, all_calls, arc_count};
+ghost use Rattle.call_cycles.specs.Sums.{list_of};
 ghost use Rattle.graph_report.specs.Prepared.{AreTables};
+ghost use Rattle.graph_report.specs.Tables.{AreGroups, arc_key, calls_with};
 
 use crate::cycles::{cycle_names, cycle_numbers};
 use crate::groups::{call_sums, grouped};
@@ -33,6 +35,28 @@ pub(crate) struct Tables {
     pub cycle_names: Vec<Vec<u8>>,
 }
 
+/// The arcs with each key below `count`.
+fn arcs_by(
+    alloc: Global,
+    graph: &Graph,
+    count: usize,
+    key: ArcKey,
+) -> Result<Vec<Vec<usize>>, AllocError>
+    ensures { IfOk result (λ v. AreGroups count (list_of (arc_count graph.now) (arc_key graph.now key)) v.items) }
+{
+    let keys = keys(alloc, graph, key)?;
+    grouped(alloc, count, &keys)
+}
+
+/// The calls of the arcs with each key below `count`.
+fn calls_by(alloc: Global, graph: &Graph, count: usize, key: ArcKey) -> Result<Vec<u64>, AllocError>
+    requires { all_calls graph.now < 2 ^ 59 }
+    ensures { IfOk result (λ v. v.items ≡ list_of count (calls_with graph.now (list_of (arc_count graph.now) (arc_key graph.now key)))) }
+{
+    let keys = keys(alloc, graph, key)?;
+    call_sums(alloc, graph, count, &keys)
+}
+
 impl Tables {
     /// The tables of a graph.
     pub(crate) fn new(alloc: Global, graph: &Graph) -> Result<Self, AllocError>
@@ -42,20 +66,16 @@ impl Tables {
     {
         let functions = graph.function_count() as usize;
         let count = graph.component_count() as usize;
-        let callers = keys(alloc, graph, ArcKey::Caller)?;
-        let callees = keys(alloc, graph, ArcKey::Callee)?;
-        let entered = keys(alloc, graph, ArcKey::Entered)?;
-        let inner = keys(alloc, graph, ArcKey::Inner)?;
         let numbers = cycle_numbers(alloc, graph)?;
         let names = cycle_names(alloc, graph, &numbers)?;
         Ok(Tables {
-            arcs_to: grouped(alloc, functions, &callees)?,
-            arcs_from: grouped(alloc, functions, &callers)?,
-            arcs_into: grouped(alloc, count, &entered)?,
+            arcs_to: arcs_by(alloc, graph, functions, ArcKey::Callee)?,
+            arcs_from: arcs_by(alloc, graph, functions, ArcKey::Caller)?,
+            arcs_into: arcs_by(alloc, graph, count, ArcKey::Entered)?,
             members: grouped(alloc, count, &components(alloc, graph)?)?,
-            calls_to: call_sums(alloc, graph, functions, &callees)?,
-            calls_from: call_sums(alloc, graph, functions, &callers)?,
-            calls_inside: call_sums(alloc, graph, count, &inner)?,
+            calls_to: calls_by(alloc, graph, functions, ArcKey::Callee)?,
+            calls_from: calls_by(alloc, graph, functions, ArcKey::Caller)?,
+            calls_inside: calls_by(alloc, graph, count, ArcKey::Inner)?,
             cycle_numbers: numbers,
             cycle_names: names,
         })

@@ -19,4 +19,4 @@ returns-clause-entries c =
 pub returns-clause-fit : goal.returns-clause-fit
 returns-clause-fit c =
     subst (λ (es : List Entry). All (FitsIn (attributed_of c.args.sources.now.shares.now)) es) (sym (returns-clause-entries c))
-    (entries_fit (sources_of c.args.sources.now) c.in_ok-rows.ensures.graph c.requires)
+    (entries_fit (sources_of c.args.sources.now) c.requires.of_one c.requires.few)

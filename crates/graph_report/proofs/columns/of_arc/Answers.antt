@@ -15,7 +15,7 @@ pub timed-requires-clause-own : goal.timed-requires-clause-own
 timed-requires-clause-own c =
     let s = sources_of c.args.inputs.now in
     let sources = c.requires.inputs.sources in
-    let small = sources.small in
+    let small = c.requires.inputs.small in
     let read : IsArcRead s c.args.i c.arc-a.result c.component-c.result c.component-d.result = record { arc = c.arc-a.ensures.value; source = c.component-c.ensures.value; target = c.component-d.ensures.value } in
     let all = arc_within s sources c.args.i c.requires.arc (is_outside_arc s c.args.i _ _ _ read c.if-c-d.false) in
     omega (arith, c.arc_self-own.ensures)
@@ -24,7 +24,7 @@ pub timed-requires-clause-child : goal.timed-requires-clause-child
 timed-requires-clause-child c =
     let s = sources_of c.args.inputs.now in
     let sources = c.requires.inputs.sources in
-    let small = sources.small in
+    let small = c.requires.inputs.small in
     let read : IsArcRead s c.args.i c.arc-a.result c.component-c.result c.component-d.result = record { arc = c.arc-a.ensures.value; source = c.component-c.ensures.value; target = c.component-d.ensures.value } in
     let all = arc_within s sources c.args.i c.requires.arc (is_outside_arc s c.args.i _ _ _ read c.if-c-d.false) in
     omega (arith, c.arc_child-child.ensures)

@@ -12,19 +12,19 @@ use Rattle.graph_report.proofs.entries.put_cycle.Goals as goal
 
 pub put_callers-requires-clause-arcs : goal.put_callers-requires-clause-arcs
 put_callers-requires-clause-arcs g c =
-    let graph = c.args.report.now.inputs.graph.now in
+    let graph = c.args.report.now.inputs.sources.graph.now in
     subst (λ (is : List ℕ). All (λ (i : ℕ). i < arc_count graph) is) (sym c.arcs_into.ensures) (all_below (enters graph c.component-c.result) (arc_count graph))
 
 pub put_members-requires-clause-members : goal.put_members-requires-clause-members
 put_members-requires-clause-members g c =
-    let graph = c.args.report.now.inputs.graph.now in
+    let graph = c.args.report.now.inputs.sources.graph.now in
     subst (λ (fs : List ℕ). All (λ (f : ℕ). f < graph.functions) fs) (sym c.members.ensures) (all_below (λ f. component_of graph f == c.component-c.result) graph.functions)
 
 pub returns-in_err-put_callers : goal.returns-in_err-put_callers
 returns-in_err-put_callers g c =
     let p = err_from_is_err_and c.from_residual.result c.from_residual.ensures.1 in
     let r = c.args.report.now in
-    let into = c.arcs_into.ensures ∙ ap (arcs_into r.inputs.graph.now) c.component-c.ensures.value in
+    let into = c.arcs_into.ensures ∙ ap (arcs_into r.inputs.sources.graph.now) c.component-c.ensures.value in
     let callers = rw into at c.in_err-put_callers.ensures in
     rw p.1 (first_of_four_fails _ _ _ _ _ (cycle_whole (sources_of r.inputs) (number_of r) c.args.head) _ _ _ _ _ callers)
 
@@ -32,7 +32,7 @@ pub returns-in_err-put_cycle_line : goal.returns-in_err-put_cycle_line
 returns-in_err-put_cycle_line g c =
     let p = err_from_is_err_and c.from_residual-in_err-put_cycle_line.result c.from_residual-in_err-put_cycle_line.ensures.1 in
     let r = c.args.report.now in
-    let into = c.arcs_into.ensures ∙ ap (arcs_into r.inputs.graph.now) c.component-c.ensures.value in
+    let into = c.arcs_into.ensures ∙ ap (arcs_into r.inputs.sources.graph.now) c.component-c.ensures.value in
     let callers = rw into at c.in_ok-put_callers.ensures in
     rw p.1 (second_of_four_fails _ _ _ _ _ (cycle_whole (sources_of r.inputs) (number_of r) c.args.head) _ _ _ _ _ _ _ callers _ c.in_err-put_cycle_line.ensures)
 
@@ -40,8 +40,8 @@ pub returns-in_err-put_members : goal.returns-in_err-put_members
 returns-in_err-put_members g c =
     let p = err_from_is_err_and c.from_residual-in_err-put_members.result c.from_residual-in_err-put_members.ensures.1 in
     let r = c.args.report.now in
-    let into = c.arcs_into.ensures ∙ ap (arcs_into r.inputs.graph.now) c.component-c.ensures.value in
-    let those = c.members.ensures ∙ ap (members_of r.inputs.graph.now) c.component-c.ensures.value in
+    let into = c.arcs_into.ensures ∙ ap (arcs_into r.inputs.sources.graph.now) c.component-c.ensures.value in
+    let those = c.members.ensures ∙ ap (members_of r.inputs.sources.graph.now) c.component-c.ensures.value in
     let callers = rw into at c.in_ok-put_callers.ensures in
     let members = rw those at c.in_err-put_members.ensures in
     rw p.1 (third_of_four_fails _ _ _ _ _ (cycle_whole (sources_of r.inputs) (number_of r) c.args.head) _ _ _ _ _ _ _ callers _ _ _ c.in_ok-put_cycle_line.ensures _ members)
@@ -49,8 +49,8 @@ returns-in_err-put_members g c =
 pub returns : goal.returns
 returns g c =
     let r = c.args.report.now in
-    let into = c.arcs_into.ensures ∙ ap (arcs_into r.inputs.graph.now) c.component-c.ensures.value in
-    let those = c.members.ensures ∙ ap (members_of r.inputs.graph.now) c.component-c.ensures.value in
+    let into = c.arcs_into.ensures ∙ ap (arcs_into r.inputs.sources.graph.now) c.component-c.ensures.value in
+    let those = c.members.ensures ∙ ap (members_of r.inputs.sources.graph.now) c.component-c.ensures.value in
     let callers = rw into at c.in_ok-put_callers.ensures in
     let members = rw those at c.in_ok-put_members.ensures in
     four_put _ _ _ _ _ (cycle_whole (sources_of r.inputs) (number_of r) c.args.head) _ _ _ _ _ _ _ callers _ _ _ c.in_ok-put_cycle_line.ensures _ _ _ _ members c.put.ensures.adds

@@ -11,12 +11,12 @@ use Rattle.graph_report.proofs.entries.put_function.Goals as goal
 
 pub put_callers-requires-clause-arcs : goal.put_callers-requires-clause-arcs
 put_callers-requires-clause-arcs g c =
-    let graph = c.args.report.now.inputs.graph.now in
+    let graph = c.args.report.now.inputs.sources.graph.now in
     subst (λ (is : List ℕ). All (λ (i : ℕ). i < arc_count graph) is) (sym c.arcs_to.ensures) (all_below (λ i. (arc_at graph i).callee == c.args.f) (arc_count graph))
 
 pub put_callees-requires-clause-arcs : goal.put_callees-requires-clause-arcs
 put_callees-requires-clause-arcs g c =
-    let graph = c.args.report.now.inputs.graph.now in
+    let graph = c.args.report.now.inputs.sources.graph.now in
     subst (λ (is : List ℕ). All (λ (i : ℕ). i < arc_count graph) is) (sym c.arcs_from.ensures) (all_below (λ i. (arc_at graph i).caller == c.args.f) (arc_count graph))
 
 pub returns-in_err-put_callers : goal.returns-in_err-put_callers

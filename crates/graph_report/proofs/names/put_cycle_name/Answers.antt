@@ -14,7 +14,7 @@ pub returns-in_err-put : goal.returns-in_err-put
 returns-in_err-put g c =
     let p = err_from_is_err_and c.from_residual.result c.from_residual.ensures.1 in
     let r = c.args.report.now in
-    let graph = r.inputs.graph.now in
+    let graph = r.inputs.sources.graph.now in
     let whole = cycle_name graph (component_of graph c.args.head) in
     let tail = codes " " ++ bracketed (number_of r (Cycle c.args.head)) ++ codes "\n" in
     let name = rw (c.cycle_name.ensures ∙ ap (cycle_name graph) c.component-c.ensures.value) at c.in_err-put.ensures.adds in
@@ -23,7 +23,7 @@ returns-in_err-put g c =
 pub returns : goal.returns
 returns g c =
     let r = c.args.report.now in
-    let graph = r.inputs.graph.now in
+    let graph = r.inputs.sources.graph.now in
     let whole = cycle_name graph (component_of graph c.args.head) in
     let tail = codes " " ++ bracketed (number_of r (Cycle c.args.head)) ++ codes "\n" in
     let name = rw (c.cycle_name.ensures ∙ ap (cycle_name graph) c.component-c.ensures.value) at c.in_ok-put.ensures.adds in

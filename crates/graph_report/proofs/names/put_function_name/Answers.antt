@@ -16,5 +16,5 @@ pub returns : goal.returns
 returns g c =
     let r = c.args.report.now in
     let name = rw c.name.ensures at c.in_ok-put.ensures.adds in
-    let tail = rw (c.bytes.ensures.bytes, c.function_tail.ensures) at c.put-2.ensures.adds in
+    let tail = rw c.tail.ensures at c.put-2.ensures.adds in
     both_put _ _ _ (name_whole (sources_of r.inputs) (number_of r) c.args.f) _ _ _ _ _ _ _ _ name tail

@@ -35,7 +35,7 @@ loop-i-preserved c =
     let k = c.loop-i.i - 1 in
     let rows = c.args.rows.now in
     let entries = entries_of_rows rows in
-    let n = c.args.inputs.now.graph.now.functions in
+    let n = c.args.inputs.now.sources.graph.now.functions in
     let row = get_or rows k no_row in
     let e = entry_of_row row in
     let more : c.loop-i.i ≡ k + 1 = omega arith in
@@ -49,5 +49,5 @@ loop-i-preserved c =
 pub returns : goal.returns
 returns c =
     let none : c.loop-i.i ≡ 0 = omega arith in
-    let are = subst (λ (i : ℕ). AreNumbersFrom (entries_of_rows c.args.rows.now) c.args.inputs.now.graph.now.functions i c.loop-i.numbers) none c.loop-i.invariant in
+    let are = subst (λ (i : ℕ). AreNumbersFrom (entries_of_rows c.args.rows.now) c.args.inputs.now.sources.graph.now.functions i c.loop-i.numbers) none c.loop-i.invariant in
     all_numbers (sources_of c.args.inputs.now) (entries_of_rows c.args.rows.now) c.loop-i.numbers c.requires.rows are

@@ -4,4 +4,4 @@ use Rattle.graph_report.proofs.numbers.entry_numbers.Given as goal
 
 -- the numbers of the last entries
 abbrev pub invariant-loop-i : goal.invariant-loop-i
-invariant-loop-i l = AreNumbersFrom (entries_of_rows l.rows) l.inputs.graph.now.functions l.i l.numbers
+invariant-loop-i l = AreNumbersFrom (entries_of_rows l.rows) l.inputs.sources.graph.now.functions l.i l.numbers

@@ -10,4 +10,4 @@ use Rattle.graph_report.proofs.rows.put_cycles.Given as goal
 -- the cycles of the components so far
 abbrev pub invariant-loop-c : goal.invariant-loop-c
 invariant-loop-c l =
-    entries_of_rows l.rows.items ≡ entries_of_rows l.initial.rows.items ++ map (cycle_entry (sources_of l.inputs)) (filter (is_cycle l.inputs.graph.now) (numbers_below l.c))
+    entries_of_rows l.rows.items ≡ entries_of_rows l.initial.rows.items ++ map (cycle_entry (sources_of l.inputs)) (filter (is_cycle l.inputs.sources.graph.now) (numbers_below l.c))

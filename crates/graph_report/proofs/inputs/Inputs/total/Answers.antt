@@ -1,11 +1,11 @@
 use Rattle.std.proofs.Common.{arith}
 use Rattle.graph_report.specs.Inputs.{sources_of}
-use Rattle.graph_report.proofs.TimeLemmas.{total_within}
+use Rattle.flat_report.proofs.FunctionLemmas.{total_within}
 use Rattle.graph_report.proofs.inputs.Inputs.total.Goals as goal
 
 pub returns-clause-within : goal.returns-clause-within
 returns-clause-within c =
     let sources = c.requires.inputs.sources in
-    let small = sources.small in
-    let all = total_within (sources_of c.args.self.now) sources c.args.f c.requires.function in
+    let small = c.requires.inputs.small in
+    let all = total_within (sources_of c.args.self.now) c.args.f sources c.requires.function in
     omega (arith, c.share.ensures.value, c.child.ensures.value)
