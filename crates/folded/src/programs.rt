@@ -15,7 +15,7 @@ pub struct Case {
     pub total: u64,
 }
 
-const NOP: u32 = 0x0000_0013;
+pub const NOP: u32 = 0x0000_0013;
 
 const ENDLESS: u32 = 0x0000_006F;
 
@@ -45,7 +45,7 @@ const ELSEWHERE: &[u32] = &[
 ];
 
 // f calls itself 129 times, and all calls return.
-const DEEP: &[u32] = &[
+pub const DEEP: &[u32] = &[
     0x0820_0413, // _start: addi x8, x0, 130
     0x00C0_00EF, // jal x1, 12
     NOP,
@@ -101,6 +101,13 @@ const COUNTED: &[u32] = &[
     0xFF9F_F0EF, // jal x1, -8
     ENDLESS,
 ];
+
+// The third function calls the last one, which returns to the fourth.
+pub fn same_names(words: &mut [u32; 1_000]) {
+    words[2] = 0x7950_00EF; // jal x1, 3988
+    words[3] = ENDLESS;
+    words[999] = RETURN;
+}
 
 const THREE: &[(&str, u32)] = &[("_start", 0), ("f", 12), ("g", 28)];
 

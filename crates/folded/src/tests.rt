@@ -1,7 +1,7 @@
 ghost use Rattle.std.specs.Prelude.{◌≡◌, ◌≤◌};
 ghost use Rattle.prof_machine.specs.Setup.{IsSetup};
 
-use super::programs::{CASES, Case, MANY_SAMPLES};
+use super::programs::{CASES, Case, DEEP, MANY_SAMPLES, NOP, same_names};
 use super::*;
 use elf32_syms::read;
 use gp_base::limits::MAX_NUMBER;
@@ -36,8 +36,8 @@ fn put_symbol(
     name: &str,
     at: u32,
 ) -> Result<(), AllocError> {
-    assert!(rt; strings.len() <= 1_000);
-    assert!(rt; at <= 1_000);
+    assert!(rt; strings.len() <= 20_000);
+    assert!(rt; at <= 20_000);
     put_words(symbols, &[strings.len() as u32, TEXT + at, 0])?;
     symbols.extend_from_slice(&[0x12, 0])?;
     put_halves(symbols, &[1])?;
@@ -54,7 +54,7 @@ fn put_sections(
     symbols: u32,
     strings: u32,
 ) -> Result<(), AllocError> {
-    assert!(rt; text <= 1_000 && symbols <= 1_000 && strings <= 1_000);
+    assert!(rt; text <= 20_000 && symbols <= 20_000 && strings <= 20_000);
     put_words(bytes, &[0; 10])?;
     put_words(bytes, &[0, 1, 6, TEXT, 84, text, 0, 0, 4, 0])?;
     put_words(bytes, &[0, 2, 0, 0, 84 + text, symbols, 3, 1, 4, 16])?;
@@ -80,9 +80,9 @@ fn elf_of(
     for (name, at) in functions {
         put_symbol(rt, &mut symbols, &mut strings, name, *at)?;
     }
-    assert!(rt; text.len() <= 1_000 && symbols.len() <= 1_000 && strings.len() <= 900);
+    assert!(rt; text.len() <= 20_000 && symbols.len() <= 20_000 && strings.len() <= 19_000);
     strings.resize((strings.len() + 3) / 4 * 4, 0)?;
-    assert!(rt; strings.len() <= 1_000);
+    assert!(rt; strings.len() <= 20_000);
     let sizes = (
         text.len() as u32,
         symbols.len() as u32,
@@ -183,4 +183,70 @@ fn demo_folds(rt: &impl Abort, alloc: Global, n: u32) -> Result<(), Fail>
 #[test]
 fn the_small_demo(rt: HostRuntime) -> Result<(), Fail> {
     demo_folds(&rt, rt.alloc(), 1)
+}
+
+// The functions from `_start` to the one that is sampled, which so many kept calls lead to.
+fn deep_line(alloc: Global, calls: u32) -> Result<String, AllocError> {
+    let mut line = String::from_str(alloc, "_start")?;
+    for _ in 0..calls {
+        line.push_str(";f")?;
+    }
+    line.push_str(" 1\n")?;
+    Ok(line)
+}
+
+// Samples calls in calls once, where so many instructions have retired.
+fn deep_folds(
+    rt: &impl Abort,
+    alloc: Global,
+    name: &str,
+    retired: u32,
+    calls: u32,
+) -> Result<(), Fail> {
+    let bytes = elf_of(rt, alloc, DEEP, &[("_start", 0), ("f", 16)])?;
+    let setup = setup_of(rt, retired, retired, 1);
+    let line = deep_line(alloc, calls)?;
+    let wanted = (line.as_str(), "_start 1\nf 1\n", 1);
+    folds(rt, alloc, name, bytes.as_slice(), setup, wanted)
+}
+
+#[test]
+fn calls_beyond_128_are_not_on_a_stack(rt: HostRuntime) -> Result<(), Fail> {
+    // The second instruction is the first call, and every fifth behind it one more. The last of the 130 calls
+    // has returned after 654 instructions, and each one above it three instructions later.
+    let cases = [
+        ("127 calls", 632, 127),
+        ("128 calls", 637, 128),
+        ("129 calls", 642, 128),
+        ("130 calls", 647, 128),
+        ("130 calls, of which two have returned", 657, 128),
+        ("130 calls, of which three have returned", 660, 127),
+    ];
+    for (name, retired, calls) in cases {
+        deep_folds(&rt, rt.alloc(), name, retired, calls)?;
+    }
+    Ok(())
+}
+
+// A thousand functions of one instruction each, with one name.
+fn many_functions(alloc: Global) -> Result<Vec<(&'static str, u32)>, AllocError> {
+    let mut functions = Vec::new(alloc);
+    for i in 0..1_000u32 {
+        functions.push(("f", 4 * i))?;
+    }
+    Ok(functions)
+}
+
+#[test]
+fn a_thousand_functions_of_one_name(rt: HostRuntime) -> Result<(), Fail> {
+    let alloc = rt.alloc();
+    let mut words = [NOP; 1_000];
+    same_names(&mut words);
+    let functions = many_functions(alloc)?;
+    let bytes = elf_of(&rt, alloc, &words, functions.as_slice())?;
+    let setup = setup_of(&rt, 1, 5, 1);
+
+    // The stacks are function 1, 2, 2 and 999, and 3.
+    let wanted = ("f 1\nf 1\nf;f 1\nf 2\n", "f 1\nf 2\nf 2\nf 1\n", 5);
+    folds(&rt, alloc, "one name", bytes.as_slice(), setup, wanted)
 }

@@ -10,7 +10,6 @@ use Rattle.call_cycles.specs.Flow.{FlowValue, is_root, time_of, time_of_roots}
 use Rattle.call_cycles.specs.Sums.{numbers_below, sum_below, when}
 use Rattle.call_cycles.proofs.SumLemmas.{sum_front_le}
 use Rattle.elf32_syms.specs.declared.image.Image.{Image}
-use Rattle.elf32_syms.specs.declared.image.Symbol.{Symbol}
 use Rattle.gp_base.specs.declared.records.Form.TheVariants.{Bsd}
 use Rattle.gmon_data.specs.Content.{Content}
 use Rattle.symbol_shares.specs.Shares.{ShareTable}
@@ -67,17 +66,11 @@ module _ (g : GraphValue) (t : FlowValue) (c grains entering : ℕ) (so_far : gr
   pub grains_fit : (self child : ℕ) → c < component_count g → entering ≡ 0 → self ≡ slice_index t.self c → child ≡ slice_index t.child c → grains + (self + child) ≤ time_of_roots g t
   grains_fit self child below none is_self is_child = omega (arith, so_far, is_self, is_child, root_fits g t c below (root none))
 
--- a summary names no symbol
-pub any_symbols : (functions pairs : ℕ) (xs ys : List Symbol) (g : GraphValue) (t : FlowValue) (shares : ShareTable) (rate : ℕ) (run : Option RunSummary)
-    → demo_summary functions pairs (record { symbols = xs; graph = g; flow = t; shares = shares; rate = rate }) run ≡ demo_summary functions pairs (record { symbols = ys; graph = g; flow = t; shares = shares; rate = rate }) run
-any_symbols functions pairs xs ys g t shares rate None = refl
-any_symbols functions pairs xs ys g t shares rate (Some run) = refl
-
 -- the summary of a run that stands for a world is the one that is due
 pub summary_due : (functions : ℕ) (image : Image) (run : RunValue) (s : Sources) (total : Content) (rate : ℕ) (line : List ℕ) (z : Sizes) (w : World) → AreSources image total s → SumsUp functions run s line → StandsFor w run → run.machine.sizes ≡ z
-    → total ≡ written_profile Bsd z w.log rate → line ≡ demo_summary functions (distinct_count (kept_calls z w.log)) (sources_of image (written_profile Bsd z w.log rate)) (summary_of z w)
+    → total ≡ written_profile Bsd z w.log rate
+    → (let due = sources_of image (written_profile Bsd z w.log rate) in line ≡ demo_summary functions (distinct_count (kept_calls z w.log)) due.graph due.flow due.shares (summary_of z w))
 summary_due functions image run s total rate line z w are sums stands same written =
     sums w stands
-    ∙ ap (λ (y : Sizes). demo_summary functions (distinct_count (kept_calls y w.log)) (record { symbols = []; graph = s.graph; flow = s.flow; shares = s.shares; rate = s.rate }) (summary_of y w)) same
-    ∙ any_symbols functions (distinct_count (kept_calls z w.log)) [] image.symbols s.graph s.flow s.shares s.rate (summary_of z w)
-    ∙ ap (λ (x : ReportSources). demo_summary functions (distinct_count (kept_calls z w.log)) x (summary_of z w)) (are.value ∙ ap (sources_of image) written)
+    ∙ ap (λ (y : Sizes). demo_summary functions (distinct_count (kept_calls y w.log)) s.graph s.flow s.shares (summary_of y w)) same
+    ∙ ap (λ (x : ReportSources). demo_summary functions (distinct_count (kept_calls z w.log)) x.graph x.flow x.shares (summary_of z w)) (are.value ∙ ap (sources_of image) written)

@@ -33,7 +33,6 @@ use Rattle.propagate.specs.Solution.{flow_in}
 use Rattle.propagate.proofs.SolutionLemmas.{solution}
 use Rattle.propagate.proofs.BoundLemmas.{roots_have_all}
 use Rattle.propagate.proofs.ProportionLemmas.{parts_all, parts_near}
-use Rattle.graph_report.specs.Roots.{AreOfOneProgram}
 use Rattle.graph_report.proofs.RootLemmas.{root_entries}
 use Rattle.mcount_arcs.specs.Image.{block_image}
 use Rattle.prof_machine.specs.declared.setup.Setup.{Setup}
@@ -47,7 +46,7 @@ use Rattle.rvgprof.specs.declared.words.Command.{Command}
 use Rattle.rvgprof.specs.declared.words.Command.TheVariants.{Show, Syms, Run, Sum, Report, Profile, Demo, Annotate, Folded, Help, Version}
 use Rattle.arc_filter.specs.Cuts.{without_cuts}
 use Rattle.exact_flow.specs.Solution.{exact_flow_in}
-use Rattle.flat_report.specs.Sources.{Sources}
+use Rattle.flat_report.specs.Sources.{AreOfOne, Sources}
 use Rattle.graph_report.specs.ExactText.{exact_text}
 use Rattle.rvgprof.specs.declared.words.Selection.{Selection}
 use Rattle.rvgprof.specs.declared.words.Shown.{Shown}
@@ -86,7 +85,7 @@ module _ (image : Image) (total : Content) where
       roots_have_all g shares is (length-map image.symbols (share_of total.hists)) (flow_in g shares) (solution g shares is)
 
   -- its parts are of one program
-  of_one : AreOfOneProgram (sources_of image total)
+  of_one : AreOfOne (sources_of image total)
   unfolding sources_of
   of_one = record {
     functions = refl;

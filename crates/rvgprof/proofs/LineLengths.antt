@@ -8,6 +8,7 @@ use Rattle.std.proofs.lemmas.Bool.{cases_lt, eqb-true, leb-true, lt-ltb}
 use Rattle.prof_machine.specs.declared.setup.Plan.{Plan}
 use Rattle.prof_machine.specs.declared.setup.Setup.{Setup}
 use Rattle.rvgprof.specs.declared.items.Wanted.TheVariants.{AnOperand, AnOption}
+use Rattle.rvgprof.specs.declared.options.Group.TheVariants.{Machine, Runtime, Files, Reports}
 use Rattle.rvgprof.specs.declared.options.Key.{Key}
 use Rattle.rvgprof.specs.declared.options.Key.TheVariants.{Every, Budget, Rate, Ram, Harts, Quantum, Seed, Image, Gnu, Flat, Graph, Elf, Hist, Hash, Blocks, Exact, Cut, Hide, Inclusive}
 use Rattle.rvgprof.specs.declared.options.Takes.{Takes}
@@ -333,6 +334,28 @@ module _ (words : List (List ℕ)) (items : List Item) where
       by (Some x) (Some y) (Some z) (Some u) (Some v) a b c d e is =
           record { flat = flag_bound Flat x a; graph = flag_bound Graph y b; exact = flag_bound Exact z c; cut = places_bound Cut u d; hide = places_bound Hide v e }
 
+  -- of every option, from those that settings and reports have, and of the four others
+  bound_of : RunBounds → ReportBounds → Bound items Image → Bound items Gnu → Bound items Elf → Bound items Inclusive → (key : Key) → Bound items key
+  bound_of runs reports image gnu elf inclusive Every = runs.every
+  bound_of runs reports image gnu elf inclusive Budget = runs.budget
+  bound_of runs reports image gnu elf inclusive Rate = runs.rate
+  bound_of runs reports image gnu elf inclusive Ram = runs.ram
+  bound_of runs reports image gnu elf inclusive Harts = runs.harts
+  bound_of runs reports image gnu elf inclusive Quantum = runs.quantum
+  bound_of runs reports image gnu elf inclusive Seed = runs.seed
+  bound_of runs reports image gnu elf inclusive Image = image
+  bound_of runs reports image gnu elf inclusive Gnu = gnu
+  bound_of runs reports image gnu elf inclusive Flat = reports.flat
+  bound_of runs reports image gnu elf inclusive Graph = reports.graph
+  bound_of runs reports image gnu elf inclusive Elf = elf
+  bound_of runs reports image gnu elf inclusive Hist = runs.hist
+  bound_of runs reports image gnu elf inclusive Hash = runs.hash
+  bound_of runs reports image gnu elf inclusive Blocks = runs.blocks
+  bound_of runs reports image gnu elf inclusive Exact = reports.exact
+  bound_of runs reports image gnu elf inclusive Cut = reports.cut
+  bound_of runs reports image gnu elf inclusive Hide = reports.hide
+  bound_of runs reports image gnu elf inclusive Inclusive = inclusive
+
 -- ---- what is read of a line bounds its length
 
 all_bound : (items : List Item) → ((key : Key) → Bound items key) → (keys : List Key) → total (times items) keys ≤ total most_times keys
@@ -352,6 +375,12 @@ module _ (takes : Takes) (words : List (List ℕ)) (items : List Item) (read : i
 
   absent : (key : Key) → is_taken takes (group_of key) ≡ false → Bound items key
   absent key other = let none = not_taken takes key other 0 words items read in omega (arith, none)
+
+  no_runs : is_taken takes Machine ≡ false → is_taken takes Runtime ≡ false → is_taken takes Files ≡ false → RunBounds words items
+  no_runs machine runtime files = record { every = absent Every machine; budget = absent Budget machine; rate = absent Rate runtime; ram = absent Ram machine; harts = absent Harts machine; quantum = absent Quantum machine; seed = absent Seed machine; hist = absent Hist runtime; hash = absent Hash runtime; blocks = absent Blocks files }
+
+  no_reports : is_taken takes Reports ≡ false → ReportBounds words items
+  no_reports none = record { flat = absent Flat none; graph = absent Graph none; exact = absent Exact none; cut = absent Cut none; hide = absent Hide none }
 
 -- what is read of items is read of some
 record OfItems {X : Type 0} (takes : Takes) (words : List (List ℕ)) (f : List Item → Option X) (x : X) : Type 0 where
@@ -493,25 +522,9 @@ module _ (words : List (List ℕ)) where
       reports = selection_bounds words r.items parts.1 parts.2
 
       bound : (key : Key) → Bound r.items key
-      bound Every = absent takes words r.items r.read Every refl
-      bound Budget = absent takes words r.items r.read Budget refl
-      bound Rate = absent takes words r.items r.read Rate refl
-      bound Ram = absent takes words r.items r.read Ram refl
-      bound Harts = absent takes words r.items r.read Harts refl
-      bound Quantum = absent takes words r.items r.read Quantum refl
-      bound Seed = absent takes words r.items r.read Seed refl
-      bound Image = absent takes words r.items r.read Image refl
-      bound Gnu = absent takes words r.items r.read Gnu refl
-      bound Flat = reports.flat
-      bound Graph = reports.graph
-      bound Elf = absent takes words r.items r.read Elf refl
-      bound Hist = absent takes words r.items r.read Hist refl
-      bound Hash = absent takes words r.items r.read Hash refl
-      bound Blocks = absent takes words r.items r.read Blocks refl
-      bound Exact = reports.exact
-      bound Cut = reports.cut
-      bound Hide = reports.hide
-      bound Inclusive = absent takes words r.items r.read Inclusive refl
+      bound =
+          bound_of words r.items (no_runs takes words r.items r.read refl refl refl) reports
+          (absent takes words r.items r.read Image refl) (absent takes words r.items r.read Gnu refl) (absent takes words r.items r.read Elf refl) (absent takes words r.items r.read Inclusive refl)
 
   run_short : (c : Command) → run_reading words ≡ Some c → length words ≤ 200
   run_short c is = short_line takes words r.items r.read parts.few bound
@@ -529,25 +542,9 @@ module _ (words : List (List ℕ)) where
       runs = setup_bounds words r.items parts.setup_said.0 parts.setup_said.1
 
       bound : (key : Key) → Bound r.items key
-      bound Every = runs.every
-      bound Budget = runs.budget
-      bound Rate = runs.rate
-      bound Ram = runs.ram
-      bound Harts = runs.harts
-      bound Quantum = runs.quantum
-      bound Seed = runs.seed
-      bound Image = place_bound words r.items Image parts.image_given.0 parts.image_given.1
-      bound Gnu = flag_bound words r.items Gnu parts.gnu_given.0 parts.gnu_given.1
-      bound Flat = absent takes words r.items r.read Flat refl
-      bound Graph = absent takes words r.items r.read Graph refl
-      bound Elf = absent takes words r.items r.read Elf refl
-      bound Hist = runs.hist
-      bound Hash = runs.hash
-      bound Blocks = runs.blocks
-      bound Exact = absent takes words r.items r.read Exact refl
-      bound Cut = absent takes words r.items r.read Cut refl
-      bound Hide = absent takes words r.items r.read Hide refl
-      bound Inclusive = absent takes words r.items r.read Inclusive refl
+      bound =
+          bound_of words r.items runs (no_reports takes words r.items r.read refl)
+          (place_bound words r.items Image parts.image_given.0 parts.image_given.1) (flag_bound words r.items Gnu parts.gnu_given.0 parts.gnu_given.1) (absent takes words r.items r.read Elf refl) (absent takes words r.items r.read Inclusive refl)
 
   profile_short : (c : Command) → profile_reading words ≡ Some c → length words ≤ 200
   profile_short c is = short_line takes words r.items r.read parts.few bound
@@ -571,25 +568,9 @@ module _ (words : List (List ℕ)) where
       reports = selection_bounds words r.items both.1 both.2
 
       bound : (key : Key) → Bound r.items key
-      bound Every = runs.every
-      bound Budget = runs.budget
-      bound Rate = runs.rate
-      bound Ram = runs.ram
-      bound Harts = runs.harts
-      bound Quantum = runs.quantum
-      bound Seed = runs.seed
-      bound Image = place_bound words r.items Image parts.image_given.0 parts.image_given.1
-      bound Gnu = flag_bound words r.items Gnu parts.gnu_given.0 parts.gnu_given.1
-      bound Flat = reports.flat
-      bound Graph = reports.graph
-      bound Elf = absent takes words r.items r.read Elf refl
-      bound Hist = runs.hist
-      bound Hash = runs.hash
-      bound Blocks = runs.blocks
-      bound Exact = reports.exact
-      bound Cut = reports.cut
-      bound Hide = reports.hide
-      bound Inclusive = absent takes words r.items r.read Inclusive refl
+      bound =
+          bound_of words r.items runs reports
+          (place_bound words r.items Image parts.image_given.0 parts.image_given.1) (flag_bound words r.items Gnu parts.gnu_given.0 parts.gnu_given.1) (absent takes words r.items r.read Elf refl) (absent takes words r.items r.read Inclusive refl)
 
   folded_short : (c : Command) → folded_reading words ≡ Some c → length words ≤ 200
   folded_short c is = short_line takes words r.items r.read parts.0 bound
@@ -607,25 +588,9 @@ module _ (words : List (List ℕ)) where
       runs = setup_bounds words r.items parts.2 parts.3
 
       bound : (key : Key) → Bound r.items key
-      bound Every = runs.every
-      bound Budget = runs.budget
-      bound Rate = runs.rate
-      bound Ram = runs.ram
-      bound Harts = runs.harts
-      bound Quantum = runs.quantum
-      bound Seed = runs.seed
-      bound Image = absent takes words r.items r.read Image refl
-      bound Gnu = absent takes words r.items r.read Gnu refl
-      bound Flat = absent takes words r.items r.read Flat refl
-      bound Graph = absent takes words r.items r.read Graph refl
-      bound Elf = absent takes words r.items r.read Elf refl
-      bound Hist = runs.hist
-      bound Hash = runs.hash
-      bound Blocks = runs.blocks
-      bound Exact = absent takes words r.items r.read Exact refl
-      bound Cut = absent takes words r.items r.read Cut refl
-      bound Hide = absent takes words r.items r.read Hide refl
-      bound Inclusive = flag_bound words r.items Inclusive parts.1.0 parts.1.1
+      bound =
+          bound_of words r.items runs (no_reports takes words r.items r.read refl)
+          (absent takes words r.items r.read Image refl) (absent takes words r.items r.read Gnu refl) (absent takes words r.items r.read Elf refl) (flag_bound words r.items Inclusive parts.1.0 parts.1.1)
 
   demo_short : (c : Command) → demo_reading words ≡ Some c → length words ≤ 200
   demo_short c is = short_line takes words r.items r.read (functions_operands words (operands_of r.items) parts.0.0 parts.0.1) bound
@@ -643,25 +608,9 @@ module _ (words : List (List ℕ)) where
       runs = setup_bounds words r.items parts.2 parts.3
 
       bound : (key : Key) → Bound r.items key
-      bound Every = runs.every
-      bound Budget = runs.budget
-      bound Rate = runs.rate
-      bound Ram = runs.ram
-      bound Harts = runs.harts
-      bound Quantum = runs.quantum
-      bound Seed = runs.seed
-      bound Image = absent takes words r.items r.read Image refl
-      bound Gnu = absent takes words r.items r.read Gnu refl
-      bound Flat = absent takes words r.items r.read Flat refl
-      bound Graph = absent takes words r.items r.read Graph refl
-      bound Elf = place_bound words r.items Elf parts.1.0 parts.1.1
-      bound Hist = runs.hist
-      bound Hash = runs.hash
-      bound Blocks = runs.blocks
-      bound Exact = absent takes words r.items r.read Exact refl
-      bound Cut = absent takes words r.items r.read Cut refl
-      bound Hide = absent takes words r.items r.read Hide refl
-      bound Inclusive = absent takes words r.items r.read Inclusive refl
+      bound =
+          bound_of words r.items runs (no_reports takes words r.items r.read refl)
+          (absent takes words r.items r.read Image refl) (absent takes words r.items r.read Gnu refl) (place_bound words r.items Elf parts.1.0 parts.1.1) (absent takes words r.items r.read Inclusive refl)
 
   alone_short : (help c : Command) → alone help words ≡ Some c → length words ≤ 200
   alone_short help c = by words

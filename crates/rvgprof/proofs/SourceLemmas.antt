@@ -29,10 +29,7 @@ are_sources image total s shares graph one rate functions is flow few some = rec
       ∙ ap (λ (t : ShareTable). record { symbols = image.symbols; graph = profile_graph total.arcs image.symbols; flow = flow_in (profile_graph total.arcs image.symbols) t.of; shares = t; rate = s.rate }) shares
       ∙ ap (λ (r : ℕ). record { symbols = image.symbols; graph = profile_graph total.arcs image.symbols; flow = flow_in (profile_graph total.arcs image.symbols) (shares_of total.hists image.symbols).of; shares = shares_of total.hists image.symbols; rate = r }) rate;
   fit = record {
-    functions = functions;
-    each = shares_long image total s.shares shares;
-    graph = is;
-    flow = flow;
+    of_one = record { functions = functions; each = shares_long image total s.shares shares; graph = is; flow = flow };
     few = few;
     rate = some;
   };

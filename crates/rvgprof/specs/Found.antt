@@ -5,9 +5,8 @@ use Rattle.exact_flow.specs.Times.{ExactFlowValue, HasTimes}
 use Rattle.exact_flow.specs.Wide.{first_wide}
 use Rattle.elf32_syms.specs.declared.image.Image.{Image}
 use Rattle.gmon_data.specs.Content.{Content}
-use Rattle.call_cycles.specs.Graph.{IsGraph, all_calls}
-use Rattle.call_cycles.specs.Flow.{IsFlow}
-use Rattle.flat_report.specs.Sources.{Sources as ReportSources}
+use Rattle.call_cycles.specs.Graph.{all_calls}
+use Rattle.flat_report.specs.Sources.{AreOfOne, Sources as ReportSources}
 use Rattle.rvgprof.specs.declared.sources.Sources.{Sources}
 use Rattle.rvgprof.specs.Reports.{sources_of}
 
@@ -15,12 +14,9 @@ use Rattle.rvgprof.specs.Reports.{sources_of}
 abbrev pub given_sources : Image → Sources → ReportSources
 given_sources image s = record { symbols = image.symbols; graph = s.graph; flow = s.flow; shares = s.shares; rate = s.rate }
 
--- they are of one program, and few enough for a report
+-- they are of one program, and in the ranges of a report's numbers
 pub record FitTogether (image : Image) (s : Sources) : Type 0 where
-  pub functions : s.graph.functions ≡ length image.symbols
-  pub each : length s.shares.of ≡ length image.symbols
-  pub graph : IsGraph s.graph
-  pub flow : IsFlow s.graph s.shares.of s.flow
+  pub of_one : AreOfOne (given_sources image s)
   pub few : all_calls s.graph < 2 ^ 59
   pub rate : 1 ≤ s.rate
 

@@ -5,9 +5,9 @@ use Rattle.std.specs.Option.{option_map_or}
 use Rattle.text_cols.specs.Columns.{decimal}
 use Rattle.elf32_syms.specs.declared.image.Image.{Image}
 use Rattle.gmon_data.specs.Content.{Content}
-use Rattle.symbol_shares.specs.Shares.{attributed_of, shares_of}
+use Rattle.symbol_shares.specs.Shares.{ShareTable, attributed_of, shares_of}
 use Rattle.call_cycles.specs.Graph.{GraphValue, component_count, is_cycle}
-use Rattle.call_cycles.specs.Flow.{time_of_roots}
+use Rattle.call_cycles.specs.Flow.{FlowValue, time_of_roots}
 use Rattle.call_cycles.specs.Sums.{numbers_below}
 use Rattle.call_cycles.specs.Values.{profile_graph}
 use Rattle.propagate.specs.Solution.{flow_in}
@@ -42,10 +42,10 @@ demo_run_line functions run pairs cycles =
 unfoldable pub grains_line : ℕ → ℕ → List ℕ
 grains_line attributed roots = codes "attributed " ++ decimal attributed ++ codes " grains, roots " ++ decimal roots ++ codes " grains\n"
 
-abbrev pub demo_text : ℕ → RunSummary → ℕ → Sources → List ℕ
-demo_text functions run pairs s = demo_run_line functions run pairs (cycle_count s.graph) ++ grains_line (attributed_of s.shares) (time_of_roots s.graph s.flow)
+abbrev pub demo_text : ℕ → RunSummary → ℕ → GraphValue → FlowValue → ShareTable → List ℕ
+demo_text functions run pairs graph flow shares = demo_run_line functions run pairs (cycle_count graph) ++ grains_line (attributed_of shares) (time_of_roots graph flow)
 
 -- the same of a run that ended
-abbrev pub demo_summary : ℕ → ℕ → Sources → Option RunSummary → List ℕ
-demo_summary functions pairs s None = codes ""
-demo_summary functions pairs s (Some run) = demo_text functions run pairs s
+abbrev pub demo_summary : ℕ → ℕ → GraphValue → FlowValue → ShareTable → Option RunSummary → List ℕ
+demo_summary functions pairs graph flow shares None = codes ""
+demo_summary functions pairs graph flow shares (Some run) = demo_text functions run pairs graph flow shares

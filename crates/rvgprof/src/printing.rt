@@ -29,18 +29,19 @@ use graph_report::write_exact;
 use host_port::{Host, out_all_of};
 use std::alloc::{AllocError, Global};
 
-/// Prints the reports that are asked for, of a profile and by the symbols of a program.
+/// Prints the reports that are asked for, of a profile and by the symbols of a program. The profile is let
+/// go as soon as its sources are made.
 pub fn print_reports<H: Host>(
     alloc: Global,
     words: &[String],
     selection: &Selection,
     image: &Image,
-    total: &Profile,
+    total: Profile,
     host: &mut H,
 ) -> Result<(), Fault>
     requires ascending { IsAscending image.now.symbols }
     requires cuts { AreCuts (map string_bytes words.now) selection.now }
-    ensures prints { PrintsReports (chosen_by (map string_bytes words.now) selection.now) image.now total.now (H.outside host.old) (H.outside host.new) result }
+    ensures prints { PrintsReports (chosen_by (map string_bytes words.now) selection.now) image.now total (H.outside host.old) (H.outside host.new) result }
     ensures told { OnOk result (TellsNoMore (H.outside host.old) (H.outside host.new)) }
 {
     let Ok(hidden) = names_at(alloc, words, selection.hidden.as_slice()) else {
@@ -73,14 +74,18 @@ fn chosen_sources(
     words: &[String],
     selection: &Selection,
     image: &Image,
-    total: &Profile,
+    total: Profile,
 ) -> Result<Sources, AllocError>
     requires ascending { IsAscending image.now.symbols }
     requires cuts { AreCuts (map string_bytes words.now) selection.now }
-    ensures { IfOk result (λ s. AreSources image.now (without_cuts total.now image.now.symbols (names_at (map string_bytes words.now) selection.now.cuts)) s) }
+    ensures { IfOk result (λ s. AreSources image.now (without_cuts total image.now.symbols (names_at (map string_bytes words.now) selection.now.cuts)) s) }
 {
+    if selection.cuts.as_slice().is_empty() {
+        return sources_of(alloc, image, &total);
+    }
     let cuts = names_at(alloc, words, selection.cuts.as_slice())?;
-    let left = cut(alloc, total, image.symbols.as_slice(), &cuts)?;
+    let left = cut(alloc, &total, image.symbols.as_slice(), &cuts)?;
+    drop(total);
     sources_of(alloc, image, &left)
 }
 

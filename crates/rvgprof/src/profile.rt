@@ -46,7 +46,7 @@ pub fn profile<H: Host>(
     let Ok(total) = run_profile(alloc, run.gmon(), setup.rate) else {
         return Err(Fault::OutOfMemory);
     };
-    match print_reports(alloc, words, selection, &image, &total, host) {
+    match print_reports(alloc, words, selection, &image, total, host) {
         Ok(()) => Ok(Done {
             run: Some(run.summary()),
         }),

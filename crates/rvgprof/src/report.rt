@@ -36,7 +36,7 @@ pub fn report<H: Host>(
         Ok(total) => total,
         Err(fault) => return Err(fault),
     };
-    match print_reports(alloc, words, selection, &image, &total, host) {
+    match print_reports(alloc, words, selection, &image, total, host) {
         Ok(()) => Ok(Done { run: None }),
         Err(fault) => Err(fault),
     }

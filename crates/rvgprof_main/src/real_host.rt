@@ -98,7 +98,7 @@ impl RealHost {
 }
 
 /// A prefix of the piece, of at least one byte, or an error.
-fn some_of<W: Write>(writer: &mut W, piece: &[u8]) -> Option<usize>
+pub(crate) fn some_of<W: Write>(writer: &mut W, piece: &[u8]) -> Option<usize>
     ensures { IfSome result (λ n. (1 ≤ n) × (n ≤ length piece.now)) }
 {
     match writer.write(piece) {

@@ -4,6 +4,7 @@ ghost use Rattle.std.specs.Prelude.{◌≤◌};
 
 use super::programs::{CALLS, LOOP, PRINTS, Program, elf};
 use super::rows::{Files, Row, gives};
+use super::runs::{CALL_ANSWER, CALL_LINE};
 use super::{joined, status};
 use host_port::{HostCall, MemHost};
 use std::alloc::Global;
@@ -91,6 +92,65 @@ fn a_profile_is_of_its_run(rt: HostRuntime) -> Result<(), Fail> {
             b"rvgprof: budget after 20 instructions: 4 samples, 1 calls, 0 lost, arcs on\n".as_slice(),
             "{words:?}"
         );
+    }
+    Ok(())
+}
+
+/// The profile of the first six instructions of the program with a call, each of them sampled.
+const SIX: [u8; 56] = [
+    0, 0, 1, 0, 0x18, 0, 1, 0, 44, 0, 0, 0, 0x79, 0x18, 5, 0, 100, 0, 0, 0, // header
+    0, 0, 0, 0, 0, 0, 0, 0, 0, 0, 0, 0, // spare words
+    0, 0, 0, 0, 1, 0, 1, 0, 1, 0, 3, 0, // counters
+    4, 0, 1, 0, 0x14, 0, 1, 0, 1, 0, 0, 0, // from 0x10004 to 0x10014
+];
+
+/// Its flat profile without a line of f.
+const SIX_FLAT: &str = "flat profile
+attributed 6000000, outside 0, rate 100
+  %time   cumulative       self      calls  self ms/call  total ms/call  name
+  16.67         0.06       0.01                                          _mcount
+";
+
+/// Its call graph without an entry of f.
+const SIX_GRAPH: &str = "
+call graph
+index     %time        self    children                called  name
+                                                                   <spontaneous>
+[1]       83.33        0.00        0.05                        _start [1]
+                       0.05        0.00                   1/1      f [2]
+------------------------------------------------------------------------
+                                                                   <spontaneous>
+[3]       16.67        0.01        0.00                        _mcount [3]
+------------------------------------------------------------------------
+";
+
+#[test]
+fn a_profile_without_a_function_leaves_a_whole_file(rt: HostRuntime) -> Result<(), Fail> {
+    let alloc = rt.alloc();
+    let program = elf(alloc, &CALLS)?;
+    let files = Files {
+        program: &program,
+        profile: b"",
+    };
+    let cases: [(&[&str], &[&str]); 2] = [
+        (&["--flat"], &[SIX_FLAT]),
+        (&["--flat", "--graph"], &[SIX_FLAT, SIX_GRAPH]),
+    ];
+    for (options, texts) in cases {
+        let mut words = [
+            "profile", "e", "g", "--hide", "f", "--every", "1", "--budget", "6", "--ram", "4",
+        ]
+        .to_vec(alloc)?;
+        words.extend_from_slice(options)?;
+        let out = joined(alloc, texts)?;
+        let row = Row {
+            words: &words,
+            answer: CALL_ANSWER,
+            out: &out,
+            err: CALL_LINE,
+            left: &SIX,
+        };
+        gives(&rt, alloc, files, &row)?;
     }
     Ok(())
 }

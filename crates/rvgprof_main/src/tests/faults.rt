@@ -3,7 +3,7 @@
 ghost use Rattle.std.specs.Prelude.{◌≤◌};
 
 use super::programs::{LOOP, PRINTS, TELLS, elf, patch, twisted};
-use super::rows::{Files, Row, fails_in_turn};
+use super::rows::{Files, Row, fails_in_turn, gives_by};
 use super::sums::SUM;
 use super::{status, status_of};
 use elf32_syms::ElfRefusal;
@@ -373,6 +373,20 @@ fn each_failing_call_over_a_loop_has_its_answer(rt: HostRuntime) -> Result<(), F
     };
     for row in LOOPS {
         fails_in_turn(&rt, alloc, files, &row)?;
+    }
+    Ok(())
+}
+
+#[test]
+fn commands_over_a_loop_are_the_same_byte_by_byte(rt: HostRuntime) -> Result<(), Fail> {
+    let alloc = rt.alloc();
+    let program = elf(alloc, &LOOP)?;
+    let files = Files {
+        program: &program,
+        profile: &COUNTED,
+    };
+    for row in LOOPS {
+        gives_by(&rt, alloc, files, &row, 1)?;
     }
     Ok(())
 }

@@ -4,7 +4,7 @@ ghost use Rattle.std.specs.Prelude.{◌≡◌, ◌≤◌, false, IfOk};
 ghost use Rattle.host_port.specs.Memory.{outside_of};
 
 use super::programs::{Program, elf};
-use super::rows::{Files, Row, fails_in_turn, gives};
+use super::rows::{Files, Row, fails_in_turn, gives, gives_by};
 use super::{joined, status};
 use gp_base::{le2, le4};
 use host_port::MemHost;
@@ -373,6 +373,91 @@ fn each_failing_call_of_a_report_has_its_answer(rt: HostRuntime) -> Result<(), F
         left: &profile,
     };
     fails_in_turn(&rt, alloc, files, &row)
+}
+
+#[test]
+fn a_report_is_the_same_byte_by_byte(rt: HostRuntime) -> Result<(), Fail> {
+    let alloc = rt.alloc();
+    let (program, profile) = (elf(alloc, &THREE)?, cycle(alloc)?);
+    let files = Files {
+        program: &program,
+        profile: &profile,
+    };
+    let text = joined(alloc, &[FLAT, "\n", GRAPH, LAST_ENTRY, "\n", EXACT])?;
+    let row = Row {
+        words: &["report", "e", "g", "--exact"],
+        answer: "Ok(Done { run: None })",
+        out: &text,
+        err: "",
+        left: &profile,
+    };
+    gives_by(&rt, alloc, files, &row, 1)
+}
+
+/// Functions of which two have a name with a `/` in it.
+const SLASHES: Program = Program {
+    words: &[0x13; 16],
+    functions: &[("x", 0), ("f/g", 16), ("x/f", 32), ("g", 48)],
+};
+
+/// The flat profile of two samples in f/g and one in g, where x calls f/g three times and x/f calls g twice.
+const SLASHED: &str = "flat profile
+attributed 3000000, outside 0, rate 100
+  %time   cumulative       self      calls  self ms/call  total ms/call  name
+  66.67         0.02       0.02          3          6.67           6.67  f/g
+  33.33         0.03       0.01          2          5.00           5.00  g
+";
+
+/// Both reports without the calls of x to f/g.
+const SLASHED_CUT: &str = "flat profile
+attributed 3000000, outside 0, rate 100
+  %time   cumulative       self      calls  self ms/call  total ms/call  name
+  66.67         0.02       0.02                                          f/g
+  33.33         0.03       0.01          2          5.00           5.00  g
+
+call graph
+index     %time        self    children                called  name
+                                                                   <spontaneous>
+[1]       66.67        0.02        0.00                        f/g [1]
+------------------------------------------------------------------------
+                       0.01        0.00                   2/2      x/f [3]
+[2]       33.33        0.01        0.00                     2  g [2]
+------------------------------------------------------------------------
+                                                                   <spontaneous>
+[3]       33.33        0.00        0.01                        x/f [3]
+                       0.01        0.00                   2/2      g [2]
+------------------------------------------------------------------------
+";
+
+#[test]
+fn a_cut_is_divided_at_its_first_slash(rt: HostRuntime) -> Result<(), Fail> {
+    let alloc = rt.alloc();
+    let program = elf(alloc, &SLASHES)?;
+    let counters = [0, 0, 0, 0, 2, 0, 0, 0, 0, 0, 0, 0, 1, 0, 0, 0];
+    let profile = with_arcs(
+        profile(alloc, 0x1_0000, 0x1_0040, 100, &counters)?,
+        &[0x1_0004, 0x1_0010, 3, 0x1_0024, 0x1_0030, 2],
+    )?;
+    let files = Files {
+        program: &program,
+        profile: &profile,
+    };
+    let cases: [(&[&str], &str); 3] = [
+        (&["report", "e", "g", "-k", "x/f/g"], SLASHED_CUT),
+        (&["report", "e", "g", "--flat", "-k", "x/f"], SLASHED),
+        (&["report", "e", "g", "--flat", "-k", "x/f/g/"], SLASHED),
+    ];
+    for (words, text) in cases {
+        let row = Row {
+            words,
+            answer: "Ok(Done { run: None })",
+            out: text.as_bytes(),
+            err: "",
+            left: &profile,
+        };
+        gives(&rt, alloc, files, &row)?;
+    }
+    Ok(())
 }
 
 /// Three functions that call a fourth.

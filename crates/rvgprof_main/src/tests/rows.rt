@@ -1,6 +1,6 @@
 //! Rows of tables: words over two files, and all that comes of them.
 
-ghost use Rattle.std.specs.Prelude.{◌≡◌, false, IfOk};
+ghost use Rattle.std.specs.Prelude.{◌≡◌, ◌≤◌, false, IfOk};
 ghost use Rattle.host_port.specs.Memory.{outside_of};
 
 use super::words_from;
@@ -53,8 +53,22 @@ fn answer_of(alloc: Global, texts: &[&str], host: &mut MemHost) -> Result<String
 
 /// Looks at all that comes of a row.
 pub fn gives(rt: &impl Abort, alloc: Global, files: Files, row: &Row) -> Result<(), Fail> {
+    gives_by(rt, alloc, files, row, usize::MAX)
+}
+
+/// Looks at all that comes of a row where each call reads, writes or prints at most so many bytes.
+pub fn gives_by(
+    rt: &impl Abort,
+    alloc: Global,
+    files: Files,
+    row: &Row,
+    step: usize,
+) -> Result<(), Fail>
+    requires { 1 ≤ step }
+{
     let words = row.words;
     let mut host = host_of(alloc, files)?;
+    host.set_step(step);
     let answer = answer_of(alloc, words, &mut host)?;
     assert_eq!(rt; answer.as_str(), row.answer, "{words:?}");
     assert_eq!(rt; host.printed(), row.out, "output of {words:?}");

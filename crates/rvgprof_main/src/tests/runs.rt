@@ -336,10 +336,10 @@ fn arcs_run_out(rt: HostRuntime) -> Result<(), Fail> {
     gives(&rt, alloc, files, &row)
 }
 
-const CALL_ANSWER: &str =
+pub const CALL_ANSWER: &str =
     "Ok(Done { run: Some(RunSummary { end: Budget, retired: 6, samples: 6, calls: 1, lost: 0, state: On }) })";
 
-const CALL_LINE: &str =
+pub const CALL_LINE: &str =
     "rvgprof: budget after 6 instructions: 6 samples, 1 calls, 0 lost, arcs on\n";
 
 const SIX: [&str; 8] = ["folded", "e", "--every", "1", "--budget", "6", "--ram", "4"];

@@ -3,6 +3,8 @@
 ghost use Rattle.std.specs.Prelude.{◌≡◌, false, IfOk};
 ghost use Rattle.host_port.specs.Memory.{outside_of};
 
+use super::programs::twisted;
+use super::rows::{Files, Row, gives, gives_by};
 use super::status;
 use host_port::MemHost;
 use std::alloc::{AllocError, Global};
@@ -257,5 +259,181 @@ fn a_file_of_the_most_bytes_leaves_nothing(rt: HostRuntime) -> Result<(), Fail> 
     assert_eq!(rt; status(alloc, &["sum", "s", "a", "b"], &mut host)?, 9);
     assert_eq!(rt; host.errors(), b"rvgprof: too large b\n".as_slice());
     assert!(rt; host.file("s").is_none());
+    Ok(())
+}
+
+/// A sum that is refused, of the files `e` and `g`: the changed words of each, the words, the answer, and
+/// its line.
+type Refused<'a> = (
+    &'a [(usize, u32)],
+    &'a [(usize, u32)],
+    &'a [&'a str],
+    &'a str,
+    &'a str,
+);
+
+/// `e` has two histograms of one range, and `g` has one of the same.
+const REFUSED: [Refused<'static>; 9] = [
+    (
+        &[],
+        &[(12, 0)],
+        &["sum", "g", "nope", "g"],
+        "Err(ReadFault { word: 2 })",
+        "rvgprof: read fault on nope\n",
+    ),
+    (
+        &[],
+        &[],
+        &["sum", "g", "e", "nope"],
+        "Err(ReadFault { word: 3 })",
+        "rvgprof: read fault on nope\n",
+    ),
+    (
+        &[(4, 2)],
+        &[],
+        &["sum", "g", "e", "nope"],
+        "Err(BadProfile { refusal: Version { value: 2 }, word: 2 })",
+        "rvgprof: bad profile e: version 2\n",
+    ),
+    (
+        &[],
+        &[(8, 36)],
+        &["sum", "g", "e", "g"],
+        "Err(BadProfile { refusal: Short { at: 34 }, word: 3 })",
+        "rvgprof: bad profile g: short at 34\n",
+    ),
+    (
+        &[(60, 0x1_0008)],
+        &[(8, 36)],
+        &["sum", "g", "e", "g"],
+        "Err(Unlike { unlike: Range { old: HistRange { low: 65536, high: 65540, count: 1 }, new: HistRange { low: 65536, high: 65544, count: 1 } }, word: 2 })",
+        "rvgprof: unlike e: range\n",
+    ),
+    (
+        &[(68, 50)],
+        &[],
+        &["sum", "g", "e", "g"],
+        "Err(Unlike { unlike: Rate { old: 100, new: 50 }, word: 2 })",
+        "rvgprof: unlike e: rate\n",
+    ),
+    (
+        &[(72, 0x6F63_6553)],
+        &[],
+        &["sum", "g", "e", "g"],
+        "Err(Unlike { unlike: Dimension { old: Unit { rate: 100, dim: [115, 101, 99, 111, 110, 100, 115, 0, 0, 0, 0, 0, 0, 0, 0], abbrev: 115 }, new: Unit { rate: 100, dim: [83, 101, 99, 111, 110, 100, 115, 0, 0, 0, 0, 0, 0, 0, 0], abbrev: 115 } }, word: 2 })",
+        "rvgprof: unlike e: dimension\n",
+    ),
+    (
+        &[],
+        &[(4, 0x1_0008)],
+        &["sum", "g", "e", "g"],
+        "Err(Unlike { unlike: Range { old: HistRange { low: 65536, high: 65540, count: 1 }, new: HistRange { low: 65536, high: 65544, count: 1 } }, word: 3 })",
+        "rvgprof: unlike g: range\n",
+    ),
+    (
+        &[],
+        &[(16, 50)],
+        &["sum", "g", "e", "g"],
+        "Err(Unlike { unlike: Rate { old: 100, new: 50 }, word: 3 })",
+        "rvgprof: unlike g: rate\n",
+    ),
+];
+
+#[test]
+fn a_refusal_tells_its_file_and_its_cause(rt: HostRuntime) -> Result<(), Fail> {
+    let alloc = rt.alloc();
+    for (first, second, words, answer, err) in REFUSED {
+        let program = twisted(alloc, &SUM, 90, first)?;
+        let profile = twisted(alloc, &BSD, 34, second)?;
+        let files = Files {
+            program: &program,
+            profile: &profile,
+        };
+        let row = Row {
+            words,
+            answer,
+            out: b"",
+            err,
+            left: &profile,
+        };
+        gives(&rt, alloc, files, &row)?;
+    }
+    Ok(())
+}
+
+/// Looks at a sum of the file of 34 bytes and so many zeros, in this order or the other one.
+fn zeros_are_refused(
+    rt: &impl Abort,
+    alloc: Global,
+    len: usize,
+    words: &[&str],
+    answer: &str,
+    err: &str,
+) -> Result<(), Fail> {
+    let zeros = vec![in alloc; 0u8; len]?;
+    let files = Files {
+        program: &zeros,
+        profile: &BSD,
+    };
+    let row = Row {
+        words,
+        answer,
+        out: b"",
+        err,
+        left: &BSD,
+    };
+    gives(rt, alloc, files, &row)
+}
+
+#[test]
+fn a_file_has_what_those_before_it_left(rt: HostRuntime) -> Result<(), Fail> {
+    let cases: [(usize, &[&str], &str, &str); 4] = [
+        (
+            67_108_865,
+            &["sum", "g", "e", "g"],
+            "Err(TooLarge { word: 2, limit: 67108864 })",
+            "rvgprof: too large e\n",
+        ),
+        (
+            67_108_864,
+            &["sum", "g", "e", "g"],
+            "Err(BadProfile { refusal: Version { value: 0 }, word: 2 })",
+            "rvgprof: bad profile e: version 0\n",
+        ),
+        (
+            67_108_831,
+            &["sum", "g", "g", "e"],
+            "Err(TooLarge { word: 3, limit: 67108830 })",
+            "rvgprof: too large e\n",
+        ),
+        (
+            67_108_830,
+            &["sum", "g", "g", "e"],
+            "Err(BadProfile { refusal: Version { value: 0 }, word: 3 })",
+            "rvgprof: bad profile e: version 0\n",
+        ),
+    ];
+    for (len, words, answer, err) in cases {
+        zeros_are_refused(&rt, rt.alloc(), len, words, answer, err)?;
+    }
+    Ok(())
+}
+
+#[test]
+fn a_sum_is_the_same_byte_by_byte(rt: HostRuntime) -> Result<(), Fail> {
+    let files = Files {
+        program: &BSD,
+        profile: &BSD,
+    };
+    let row = Row {
+        words: &["sum", "g", "e", "g"],
+        answer: "Ok(Done { run: None })",
+        out: b"",
+        err: "",
+        left: &SUM,
+    };
+    for step in [usize::MAX, 1] {
+        gives_by(&rt, rt.alloc(), files, &row, step)?;
+    }
     Ok(())
 }

@@ -4,7 +4,7 @@ ghost use Rattle.std.specs.Prelude.{◌≡◌, false};
 ghost use Rattle.rvgprof_main.specs.Real.{outside_of};
 
 use super::words_from;
-use crate::real_host::RealHost;
+use crate::real_host::{RealHost, some_of};
 use crate::status_of;
 use host_port::{Host, write_all_of};
 use rvgprof::rvgprof;
@@ -50,4 +50,13 @@ fn a_file_that_was_written_is_shown(rt: HostRuntime) -> Result<(), Fail> {
         5 => Ok(()),
         _ => Err("a folder is read")?,
     }
+}
+
+#[test]
+fn a_short_write_is_no_whole_one(rt: HostRuntime) {
+    let mut room = [0; 3];
+    let mut left = room.as_mut_slice();
+    assert_eq!(rt; some_of(&mut left, b"ab"), Some(2));
+    assert_eq!(rt; some_of(&mut left, b"cd"), Some(1), "one byte fits");
+    assert_eq!(rt; some_of(&mut left, b"d"), None, "none fits");
 }

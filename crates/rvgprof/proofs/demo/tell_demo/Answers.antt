@@ -36,7 +36,8 @@ returns g c = λ words start below done bytes setup is rate s.
     let total = c.in_ok-total.total in
     let fits = c.in_ok-total.ensures.fits in
     let written : total ≡ written_profile Bsd z w.log c.args.rate = profile_written Bsd c.gmon.result.now z w.log c.args.rate total (gmon.log w is.stands) (gmon.sizes ∙ is.sizes) fits.0 fits.1 c.ranges.rate.fits (c.in_ok-total.ensures.log w.log (gmon.log w is.stands)) in
-    let text = demo_summary c.args.functions (distinct_count (kept_calls z w.log)) (sources_of image (written_profile Bsd z w.log c.args.rate)) (summary_of z w) in
+    let made = sources_of image (written_profile Bsd z w.log c.args.rate) in
+    let text = demo_summary c.args.functions (distinct_count (kept_calls z w.log)) made.graph made.flow made.shares (summary_of z w) in
     let due : c.bytes.result.now ≡ text = c.bytes.ensures.bytes ∙ summary_due c.args.functions image c.args.run.now c.in_ok-sources.sources total c.args.rate c.summary_of.result z w c.in_ok-sources.ensures c.summary_of.ensures is.stands is.sizes written in
     let printed = subst (λ (t : List ℕ). Reports t (g.H.Host.outside c.args.host.now) (g.H.Host.outside c.print_text.new.host) c.print_text.result) due c.print_text.ensures.printed in
     goes_on_anyhow words start _ below (done ++ Out text ∷ []) (told z w) c.print_text.result

@@ -11,13 +11,13 @@ use Rattle.rvgprof.proofs.inputs.add_profile.Goals as goal
 pub profile_of-requires-clause-within : goal.profile_of-requires-clause-within
 profile_of-requires-clause-within g c = within_limits c.in-Ok.read.1 _ c.in-Ok.ensures.size (omega (arith, c.in-Ok.ensures.within, c.requires.limit))
 
-pub add_all-requires : goal.add_all-requires
-add_all-requires g c =
+pub add_into-requires : goal.add_into-requires
+add_into-requires g c =
     let more : IsOfBytes c.in-Ok.read.1 c.in-Ok-profile_of.more = subst (λ (p : Content). IsOfBytes c.in-Ok.read.1 p) (sym c.in-Ok-profile_of.ensures.content) c.in-Ok.ensures.size in
-    record {
+    rw c.replace-before.ensures.value (record {
       within = λ none. within_limits (MAX_PROFILE_BYTES - c.args.left + c.in-Ok.read.1) _ (of_sum (MAX_PROFILE_BYTES - c.args.left) c.in-Ok.read.1 c.args.total.now c.in-Ok-profile_of.more c.requires.size more)
           (omega (arith, c.in-Ok.ensures.within, c.requires.limit));
-    }
+    })
 
 pub returns-in-Err-clause-adds : goal.returns-in-Err-clause-adds
 returns-in-Err-clause-adds g c = λ start below more next may later s.
@@ -42,19 +42,21 @@ returns-then-is_empty-clause-adds g c = λ start below more next may later s.
     let sum = one.content ∙ sym (first_sum (wide_records c.in-Ok.read.0.recs)) ∙ ap (sum_of empty_content) (sym one.content) ∙ ap (λ (p : Content). sum_of p profile) (sym empty) in
     summed words start _ (word + 1) word c.args.left c.args.total.now more next c.in-Ok.read.1 c.in-Ok.read.0 may stands one.accepted profile one.content profile none sum
 
-pub returns-in-Ok-add_all-clause-adds : goal.returns-in-Ok-add_all-clause-adds
-returns-in-Ok-add_all-clause-adds g c = λ start below more next may later s.
+pub returns-in-Ok-add_into-clause-adds : goal.returns-in-Ok-add_into-clause-adds
+returns-in-Ok-add_into-clause-adds g c = λ start below more next may later s.
     let words = map string_bytes c.args.words.now in
     let word = c.args.word in
     let stands = c.in-Ok.ensures.reads start below (added word c.args.left c.args.total.now more next) later s in
     let one = c.in-Ok-profile_of.ensures in
-    let all = c.in-Ok-add_all.ensures in
-    summed words start _ (word + 1) word c.args.left c.args.total.now more next c.in-Ok.read.1 c.in-Ok.read.0 may stands one.accepted c.in-Ok-profile_of.more one.content c.add_all.new.total all.accepted all.added
+    let accepted = rw c.replace-before.ensures.value at c.in-Ok-add_into.ensures.accepted in
+    let sum = rw c.replace-before.ensures.value at c.in-Ok-add_into.ensures.added in
+    summed words start _ (word + 1) word c.args.left c.args.total.now more next c.in-Ok.read.1 c.in-Ok.read.0 may stands one.accepted c.in-Ok-profile_of.more one.content c.in-Ok-add_into.sum accepted sum
 
-pub returns-in-Ok-add_all-clause-size : goal.returns-in-Ok-add_all-clause-size
-returns-in-Ok-add_all-clause-size g c =
+pub returns-in-Ok-add_into-clause-size : goal.returns-in-Ok-add_into-clause-size
+returns-in-Ok-add_into-clause-size g c =
     let more : IsOfBytes c.in-Ok.read.1 c.in-Ok-profile_of.more = subst (λ (p : Content). IsOfBytes c.in-Ok.read.1 p) (sym c.in-Ok-profile_of.ensures.content) c.in-Ok.ensures.size in
-    subst (λ (p : Content). IsOfBytes (MAX_PROFILE_BYTES - c.args.left + c.in-Ok.read.1) p) (sym c.in-Ok-add_all.ensures.added)
+    let sum = rw c.replace-before.ensures.value at c.in-Ok-add_into.ensures.added in
+    subst (λ (p : Content). IsOfBytes (MAX_PROFILE_BYTES - c.args.left + c.in-Ok.read.1) p) (sym sum)
     (of_sum (MAX_PROFILE_BYTES - c.args.left) c.in-Ok.read.1 c.args.total.now c.in-Ok-profile_of.more c.requires.size more)
 
 pub returns-clause-adds : goal.returns-clause-adds
@@ -63,4 +65,5 @@ returns-clause-adds g c = λ start below more next may later s.
     let word = c.args.word in
     let stands = c.in-Ok.ensures.reads start below (added word c.args.left c.args.total.now more next) later s in
     let one = c.in-Ok-profile_of.ensures in
-    rw c.sum_fault.ensures (not_summed words start _ (word + 1) word c.args.left c.args.total.now more next c.in-Ok.read.1 c.in-Ok.read.0 may stands one.accepted c.in-Ok-profile_of.more one.content c.in-Err-add_all.refusal c.in-Err-add_all.ensures.refusal)
+    let clash = rw c.replace-before.ensures.value at c.in-Err-add_into.ensures.refusal in
+    rw c.sum_fault.ensures (not_summed words start _ (word + 1) word c.args.left c.args.total.now more next c.in-Ok.read.1 c.in-Ok.read.0 may stands one.accepted c.in-Ok-profile_of.more one.content c.in-Err-add_into.refusal clash)

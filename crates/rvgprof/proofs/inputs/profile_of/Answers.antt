@@ -4,4 +4,4 @@ use Rattle.rvgprof.proofs.inputs.profile_of.Goals as goal
 
 pub add_records-requires-clause-within : goal.add_records-requires-clause-within
 add_records-requires-clause-within c =
-    subst (λ (p : Content). IsWithin (with_records (wide_records c.args.records.now.recs) p)) (sym c.new-profile.ensures.content) c.requires.within
+    subst (λ (p : Content). IsWithin (with_records (wide_records c.args.records.recs) p)) (sym c.new-profile.ensures.content) c.requires.within

@@ -10,18 +10,18 @@ use Rattle.rvgprof.proofs.printing.print_reports.Goals as goal
 pub returns-in_default-clause-prints : goal.returns-in_default-clause-prints
 returns-in_default-clause-prints g c = λ words start below done next s.
     let chosen = chosen_by (map string_bytes c.args.words.now) c.args.selection.now in
-    no_memory words start _ below done (print_reports chosen c.args.image.now c.args.total.now next) s (may_stop_reports chosen c.args.image.now c.args.total.now next)
+    no_memory words start _ below done (print_reports chosen c.args.image.now c.args.total next) s (may_stop_reports chosen c.args.image.now c.args.total next)
 
 pub returns-in_default-chosen_sources-clause-prints : goal.returns-in_default-chosen_sources-clause-prints
 returns-in_default-chosen_sources-clause-prints g c = λ words start below done next s.
     let chosen = chosen_by (map string_bytes c.args.words.now) c.args.selection.now in
-    no_memory words start _ below done (print_reports chosen c.args.image.now c.args.total.now next) s (may_stop_reports chosen c.args.image.now c.args.total.now next)
+    no_memory words start _ below done (print_reports chosen c.args.image.now c.args.total next) s (may_stop_reports chosen c.args.image.now c.args.total next)
 
 pub returns-in-Err-clause-prints : goal.returns-in-Err-clause-prints
 returns-in-Err-clause-prints g c = λ words start below done next s.
     let chosen = chosen_by (map string_bytes c.args.words.now) c.args.selection.now in
     let sources = c.in-Ok-chosen_sources.sources in
-    let all = of_sources words start _ below done chosen c.args.image.now c.args.total.now sources next c.in-Ok-chosen_sources.ensures s in
+    let all = of_sources words start _ below done chosen c.args.image.now c.args.total sources next c.in-Ok-chosen_sources.ensures s in
     let refused = c.in-Err.ensures.refused in
     rw c.exact_fault.ensures (no_exact words start _ below done chosen (given_sources c.args.image.now sources) next c.in-Err.refusal refused.0 refused.1 all)
 
@@ -29,7 +29,7 @@ pub returns-in-Ok-print_all-clause-prints : goal.returns-in-Ok-print_all-clause-
 returns-in-Ok-print_all-clause-prints g c = λ words start below done next s.
     let chosen = chosen_by (map string_bytes c.args.words.now) c.args.selection.now in
     let sources = c.in-Ok-chosen_sources.sources in
-    let all = of_sources words start _ below done chosen c.args.image.now c.args.total.now sources next c.in-Ok-chosen_sources.ensures s in
+    let all = of_sources words start _ below done chosen c.args.image.now c.args.total sources next c.in-Ok-chosen_sources.ensures s in
     let here = narrow words start _ below done chosen c.args.image.now sources next c.in-Ok-exact_asked.exact c.in-Ok-exact_asked.ensures.found all in
     let hidden : map string_bytes c.deref.result.now ≡ chosen.hidden = ap (map string_bytes) c.deref.ensures.value ∙ c.in-Ok.ensures ∙ ap (names_at (map string_bytes c.args.words.now)) c.as_slice.ensures in
     c.in-Ok-print_all.ensures.prints words start below done next
@@ -39,7 +39,7 @@ pub returns-clause-prints : goal.returns-clause-prints
 returns-clause-prints g c = λ words start below done next s.
     let chosen = chosen_by (map string_bytes c.args.words.now) c.args.selection.now in
     let sources = c.in-Ok-chosen_sources.sources in
-    let all = of_sources words start _ below done chosen c.args.image.now c.args.total.now sources next c.in-Ok-chosen_sources.ensures s in
+    let all = of_sources words start _ below done chosen c.args.image.now c.args.total sources next c.in-Ok-chosen_sources.ensures s in
     let here = narrow words start _ below done chosen c.args.image.now sources next c.in-Ok-exact_asked.exact c.in-Ok-exact_asked.ensures.found all in
     let hidden : map string_bytes c.deref.result.now ≡ chosen.hidden = ap (map string_bytes) c.deref.ensures.value ∙ c.in-Ok.ensures ∙ ap (names_at (map string_bytes c.args.words.now)) c.as_slice.ensures in
     rw c.report_fault.ensures (c.in-Err-print_all.ensures.prints words start below done next
