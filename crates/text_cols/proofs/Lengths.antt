@@ -48,6 +48,15 @@ unfolding right_of hundredths_of
 right_of-hundredths num den width =
     ap (λ (n : ℕ). spaces (max (width - n) 1) ++ hundredths_of num den) (length-hundredths_of num den)
 
+-- two numbers with a sign between them at the right of their column
+pub right_of-pair : (first second : List ℕ) (sign width : ℕ) → right_of (first ++ sign ∷ second) width ≡ spaces (max (width - (length first + length second + 1)) 1) ++ (first ++ sign ∷ second)
+unfolding right_of
+right_of-pair first second sign width =
+    ap (λ (n : ℕ). spaces (max (width - n) 1) ++ (first ++ sign ∷ second)) (length-pair first second sign)
+  where
+    length-pair : (a b : List ℕ) (x : ℕ) → length (a ++ x ∷ b) ≡ length a + length b + 1
+    length-pair a b x = omega (arith, length-append a (x ∷ b))
+
 -- what a quotient that meets the conditions of `hundredths` takes at most
 pub length-hundredths_of-le : (num den : ℕ) → 200 * num + den < 2 ^ 128 → length (hundredths_of num den) ≤ 42
 length-hundredths_of-le num den h =

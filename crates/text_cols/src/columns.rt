@@ -10,6 +10,9 @@ use std::marker::Model;
 /// Spaces for a whole line.
 static SPACES: [u8; 256] = [b' '; 256];
 
+/// How many spaces are put at once where there is room.
+const SPAN: usize = 32;
+
 /// A line of text: up to 256 bytes, held in place. Contracts see the list of its bytes.
 #[derive(Drop)]
 pub struct Line {
@@ -139,6 +142,22 @@ impl Line {
         self.right(digits.format(n).as_bytes(), width);
     }
 
+    /// Adds spaces and then two numbers with a sign between them, as `right` does with a text.
+    pub fn right_pair(&mut self, first: u128, sign: u8, second: u128, width: usize)
+        requires { length self.old + max width (length (decimal first) + length (decimal second) + 2) ≤ 256 }
+        ensures bytes { self.new ≡ self.old ++ right_of (decimal first ++ sign ∷ decimal second) width }
+        ensures len { length self.new ≡ length self.old + max width (length (decimal first) + length (decimal second) + 2) }
+    {
+        let mut front = Buffer::new();
+        let mut back = Buffer::new();
+        let first = front.format(first).as_bytes();
+        let second = back.format(second).as_bytes();
+        self.put_spaces(width.saturating_sub(first.len() + second.len() + 1).max(1));
+        self.put(first);
+        self.put(&[sign]);
+        self.put(second);
+    }
+
     /// Adds spaces and then what `hundredths` adds, as `right` does with a text.
     pub fn right_hundredths(&mut self, num: u128, den: u128, width: usize)
         requires divisor { 0 < den }
@@ -161,7 +180,13 @@ impl Line {
         ensures bytes { self.new ≡ self.old ++ spaces n }
         ensures len { length self.new ≡ length self.old + n }
     {
-        self.put(&SPACES[..n]);
+        let start = self.len;
+        if n <= SPAN && start <= 256 - SPAN {
+            self.buffer[start..start + SPAN].copy_from_slice(&[b' '; SPAN]);
+            self.len = start + n;
+        } else {
+            self.put(&SPACES[..n]);
+        }
     }
 }
 

@@ -48,6 +48,37 @@ fn numbers_at_the_right(rt: HostRuntime) {
         line.right_hundredths(num, den, 6);
         assert_eq!(rt; line.bytes(), want, "{num} / {den}");
     }
+    for (first, second, want) in [
+        (0, 7, b"     0/7".as_slice()),
+        (123, 4567, b" 123/4567".as_slice()),
+        (1234, 567, b" 1234/567".as_slice()),
+        (12_345, 1 << 70, b" 12345/1180591620717411303424".as_slice()),
+    ] {
+        let mut line = Line::new();
+        line.right_pair(first, b'/', second, 8);
+        assert_eq!(rt; line.bytes(), want, "{first} and {second}");
+    }
+}
+
+#[test]
+fn spaces_of_any_number(rt: HostRuntime) {
+    for (before, width) in [
+        (0, 31),
+        (0, 32),
+        (0, 33),
+        (224, 31),
+        (224, 32),
+        (225, 31),
+        (240, 16),
+    ] {
+        let mut line = Line::new();
+        line.right(b"x", before.max(2));
+        let start = line.bytes().len();
+        line.left(b"", width);
+        assert_eq!(rt; line.bytes().len(), start + width, "{before} and {width}");
+        let (_, spaces) = line.bytes().split_at(start);
+        assert!(rt; spaces.iter().all(|b| *b == b' '), "{before} and {width}");
+    }
 }
 
 #[test]
