@@ -1,17 +1,17 @@
 -- The profile of a run: that it is small enough, and that it is what the run's file gives.
 use Rattle.std.proofs.Common.{◌≡◌, ℕ, ◌+◌, ◌*◌, ◌^◌, ◌<◌, ◌≤◌, Bool, true, false, List, [], ◌∷◌, ◌++◌, length, map, sum, unwrap_or, Some, refl, sym, ap, subst, ◌∙◌, if◌then◌else◌, arith}
-use Rattle.std.specs.List.{All, flat_map}
+use Rattle.std.specs.List.{All}
 use Rattle.std.proofs.lemmas.List.Elements.{All-head, All-tail}
 use Rattle.std.proofs.lemmas.List.Sums.{sum_by-cons}
 use Rattle.gp_base.specs.declared.records.RawArc.{RawArc}
-use Rattle.gp_base.specs.declared.records.Rec.TheVariants.{Arc}
 use Rattle.gp_base.specs.declared.records.Records.{Records}
 use Rattle.gp_base.specs.declared.records.Unit as units
 use Rattle.gmon_data.specs.declared.hist.Hist.{Hist}
 use Rattle.gmon_data.specs.Hists.{has_counters, kept_unit, put_hist}
-use Rattle.gmon_data.specs.Content.{Content, WideRec, WideHist, IsWithin, content_of, empty_content, same_pair, wide_record, wide_records, with_arc, with_hist}
+use Rattle.gmon_data.specs.Content.{Content, WideRec, WideHist, IsWithin, content_of, empty_content, same_pair, wide_arc, wide_records, with_arc, with_hist}
 use Rattle.gmon_data.proofs.BoundLemmas.{counters_at_most, tally_at_most}
 use Rattle.gmon_data.proofs.HistLemmas.{samples-put}
+use Rattle.gmon_data.proofs.RecordLemmas.{arcs_widened}
 use Rattle.gmon_data.proofs.TallyLemmas.{sum-tally}
 use Rattle.mcount_arcs.specs.Arcs.{CallFits, arcs_of}
 use Rattle.mcount_arcs.specs.Log.{LogEntry}
@@ -19,7 +19,7 @@ use Rattle.mcount_arcs.specs.Samples.{buckets_of}
 use Rattle.mcount_arcs.specs.Sizes.{AreSizes}
 use Rattle.mcount_arcs.specs.Value.{GmonValue, StandsFor}
 use Rattle.gp_base.specs.Fields.{seconds}
-use Rattle.gmon_bsd.specs.Profile.{IsOfRun, run_profile, runtime_records, wide_arc}
+use Rattle.gmon_bsd.specs.Profile.{IsOfRun, run_profile, runtime_records}
 use Rattle.gmon_bsd.proofs.RunReadBack.{run_read_back}
 
 pub counters_sum : (counters : List ℕ) → All (λ n. n < 2 ^ 16) counters → sum counters ≤ length counters * 65536
@@ -65,10 +65,6 @@ within_bounds n c few of = record {
   addresses = omega (arith, of.addresses);
 }
 
-wide_arcs : (arcs : List RawArc) → flat_map wide_record (map Arc arcs) ≡ map wide_arc arcs
-wide_arcs [] = refl
-wide_arcs (a ∷ arcs) = ap (λ (rs : List WideRec). wide_arc a ∷ rs) (wide_arcs arcs)
-
 -- it is the profile that the run's file gives
 pub of_its_file : (v : GmonValue) (log : List LogEntry) (rate : ℕ) → AreSizes v.sizes → rate < 2 ^ 32 → All CallFits v.arcs → StandsFor log v
     → content_of (runtime_records v rate) ≡ run_profile v.sizes log rate
@@ -78,7 +74,7 @@ of_its_file v log rate sizes small fits stands =
     let read = (run_read_back z log rate sizes small (subst (All CallFits) stands.arcs fits)).1 in
     ap (λ (counters : List ℕ). content_of (hist counters ∷ map wide_arc v.arcs)) stands.counters
     ∙ ap (λ (arcs : List RawArc). content_of (hist (buckets_of z log) ∷ map wide_arc arcs)) stands.arcs
-    ∙ ap (λ (rs : List WideRec). content_of (hist (buckets_of z log) ∷ rs)) (sym (wide_arcs (arcs_of z log)))
+    ∙ ap (λ (rs : List WideRec). content_of (hist (buckets_of z log) ∷ rs)) (sym (arcs_widened (arcs_of z log)))
     ∙ ap (λ (r : Records). content_of (wide_records r.recs)) (sym read)
 
 last_fit : (done rest : List RawArc) → All CallFits (done ++ rest) → All CallFits rest

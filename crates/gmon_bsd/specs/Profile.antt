@@ -1,9 +1,8 @@
 -- The profile that the file of a run gives.
 use Rattle.std.specs.Prelude.{◌≡◌, ℕ, ◌*◌, ◌^◌, ◌≤◌, List, ◌∷◌, length, map}
 use Rattle.std.specs.List.{sum_by}
-use Rattle.gp_base.specs.declared.records.RawArc.{RawArc}
 use Rattle.gmon_data.specs.declared.hist.Hist as hists
-use Rattle.gmon_data.specs.Content.{Content, WideRec, WideHist, WideArc, content_of, wide_records}
+use Rattle.gmon_data.specs.Content.{Content, WideRec, WideHist, content_of, wide_arc, wide_records}
 use Rattle.gmon_data.specs.Hists.{samples_of}
 use Rattle.gmon_data.specs.Tally.{total_of}
 use Rattle.mcount_arcs.specs.declared.sizes.Sizes.{Sizes}
@@ -19,9 +18,6 @@ run_profile z log rate = content_of (wide_records (bsd_records (run_text z log r
 
 abbrev pub runtime_hist : GmonValue → hists.Hist
 runtime_hist v = record { low = v.sizes.low; high = v.sizes.high; counters = v.counters }
-
-abbrev pub wide_arc : RawArc → WideRec
-wide_arc arc = WideArc arc.from arc.to arc.count
 
 -- what a runtime holds, as records
 abbrev pub runtime_records : GmonValue → ℕ → List WideRec

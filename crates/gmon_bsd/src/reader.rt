@@ -2,12 +2,16 @@
 
 ghost use Rattle.std.specs.Prelude.{◌≡◌, ℕ, List, [], ◌+◌, ◌^◌, ◌<◌, ◌≤◌, ◌++◌, length, None, Err, IfOk, OnOk, OnErr, IfErr, IfSome};
 ghost use Rattle.gp_base.specs.Refusal.{IsRefusal};
+ghost use Rattle.gmon_data.specs.Content.{conflict_of, with_records, IsAdded, IsStopped, IsWithin};
+ghost use Rattle.gmon_data.specs.Refusals.{IsLeft, IsReadRefusal};
+ghost use Rattle.gmon_bsd.specs.Adding.{spelled_records, hist_and_arcs, HasRoomFor};
 ghost use Rattle.gmon_bsd.specs.Grammar.{BsdSpells};
 ghost use Rattle.gmon_bsd.specs.Reading.{bsd_refusal, bsd_records};
 ghost use Rattle.gmon_bsd.specs.Fed.{StandsFor, counter_part, arc_part};
 
-use crate::reading::{HEADER, SECONDS, header_fault, read_header};
+use crate::reading::{HEADER, Header, SECONDS, header_fault, read_header};
 use gmon_cells::{Column, Remnant, push_arcs};
+use gmon_data::{AddRefusal, Profile, ReadRefusal};
 use gp_base::{Counts, Form, GmonRefusal, RawArc, RawHist, Rec, RecList, Records, Unit, word};
 use std::alloc::{AllocError, Global};
 use std::marker::Model;
@@ -106,6 +110,52 @@ impl Reader {
             recs: RecList::from(recs),
         })
     }
+
+    /// Adds the records that the bytes spell to a profile, as `finish` and `Profile::add_records` do, without
+    /// a list of them: it answers the file's first refusal, before memory is taken, or else what adding the
+    /// records answers. After a refusal of the file the profile is unchanged.
+    pub fn add_to(self, profile: &mut Profile) -> Result<(), ReadRefusal>
+        requires { HasRoomFor profile.old self }
+        ensures accepted { (bytes : List ℕ) → StandsFor bytes self → OnOk result (bsd_refusal bytes ≡ None) }
+        ensures like { (bytes : List ℕ) → StandsFor bytes self → OnOk result (conflict_of profile.old (spelled_records bytes) ≡ None) }
+        ensures added { (bytes : List ℕ) → StandsFor bytes self → OnOk result (profile.new ≡ with_records (spelled_records bytes) profile.old) }
+        ensures refusal { (bytes : List ℕ) → StandsFor bytes self → IfErr result (λ refusal. IsReadRefusal refusal (bsd_refusal bytes) (conflict_of profile.old (spelled_records bytes))) }
+        ensures left { (bytes : List ℕ) → StandsFor bytes self → IfErr result (λ refusal. IsLeft refusal (spelled_records bytes) profile.old profile.new) }
+    {
+        let Reader {
+            alloc: _,
+            len,
+            header,
+            counters,
+            arcs,
+        } = self;
+        let header = read_header(header.as_slice(), len)?;
+        let counters = counters.cells.as_slice();
+        add_parts(profile, header, counters, arcs.cells.as_slice())?;
+        Ok(())
+    }
+}
+
+/// Adds a histogram, and then arcs.
+fn add_parts(
+    profile: &mut Profile,
+    header: Header,
+    counters: &[u16],
+    arcs: &[RawArc],
+) -> Result<(), AddRefusal>
+    requires range { 0 < length counters.now → header.low < header.high }
+    requires within { IsWithin (with_records (hist_and_arcs header.low header.high header.rate counters.now arcs.now) profile.old) }
+    ensures added { OnOk result (IsAdded (hist_and_arcs header.low header.high header.rate counters.now arcs.now) profile.old profile.new) }
+    ensures stopped { IfErr result (λ refusal. IsStopped refusal (hist_and_arcs header.low header.high header.rate counters.now arcs.now) profile.old profile.new) }
+{
+    let unit = Unit {
+        rate: header.rate,
+        dim: SECONDS,
+        abbrev: b's',
+    };
+    profile.add_counts(header.low, header.high, unit, counters)?;
+    profile.add_arcs(arcs)?;
+    Ok(())
 }
 
 /// What of the bytes that stand at `at` are counters, and what are arcs; neither where the header isn't

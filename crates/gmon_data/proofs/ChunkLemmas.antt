@@ -7,7 +7,8 @@ use Rattle.std.proofs.lemmas.Bool.{ltb-true, ltb-false}
 use Rattle.std.proofs.lemmas.Option.{slice_get_read}
 use Rattle.std.proofs.lemmas.List.{get_or-map, get_or-set_same, get_or_default, length-map, length-set, length-take-le, set-append_left, set-append_right}
 use Rattle.std.proofs.lemmas.List.Edits.{get_or-insert_above, get_or-insert_at, get_or-insert_below, length-insert, insert-append_left, insert-append_right}
-use Rattle.gmon_data.specs.Chunks.{items_of, starts_from, bumped, HasRoom, IsChunk, IsChunked, IsChunkOf}
+use Rattle.gmon_data.specs.Chunks.{items_of, starts_from, IsChunk, IsChunked, IsChunkOf}
+use Rattle.gmon_data.specs.ChunkSteps.{bumped, HasRoom}
 
 -- ---- plain lists
 

@@ -10,3 +10,4 @@ pub mod BoundLemmas
 pub mod RunLemmas
 pub mod NumberLemmas
 pub mod RangeLemmas
+pub mod SizeLemmas

@@ -3,12 +3,14 @@ use Rattle.std.proofs.Common.{◌≡◌, ℕ, ◌+◌, ◌≤◌, ◌<◌, Bool,
 use Rattle.std.proofs.lemmas.Option.{slice_get-get_or}
 use Rattle.std.proofs.lemmas.List.Concat.{flat_map-cons}
 use Rattle.gp_base.specs.declared.records.Rec.{Rec}
+use Rattle.gp_base.specs.declared.records.Rec.TheVariants as raw
 use Rattle.std.specs.List.{sum_by}
 use Rattle.std.specs.Option.{option_or}
 use Rattle.std.specs.Result.{IfErr}
 use Rattle.std.proofs.lemmas.List.{append-nil}
 use Rattle.std.proofs.lemmas.List.Sums.{sum_by-cons}
 use Rattle.gp_base.specs.declared.records.Unit as units
+use Rattle.gp_base.specs.declared.records.RawArc.{RawArc}
 use Rattle.gp_base.specs.declared.records.RawBlock.{RawBlock}
 use Rattle.gmon_data.specs.declared.hist.Hist.{Hist}
 use Rattle.gmon_data.specs.declared.refusal.Unlike.{Unlike}
@@ -16,7 +18,7 @@ use Rattle.gmon_data.specs.declared.refusal.AddRefusal.{AddRefusal}
 use Rattle.gmon_data.specs.declared.refusal.AddRefusal.TheVariants as answers
 use Rattle.gmon_data.specs.Hists.{put_hist, hist_sum, has_counters, kept_unit, pointwise_sum, unlike_in, IsUnlike}
 use Rattle.gmon_data.specs.Tally.{tally}
-use Rattle.gmon_data.specs.Content.{Content, WideRec, WideHist, WideArc, WideBlock, same_pair, with_hist, with_record, with_records, record_conflict, conflict_of, content_of, wide_block, wide_record, wide_records, IsWithin, IsAdded, IsStopped, IsRefusedFirst}
+use Rattle.gmon_data.specs.Content.{Content, WideRec, WideHist, WideArc, WideBlock, same_pair, with_hist, with_record, with_records, record_conflict, conflict_of, content_of, wide_arc, wide_block, wide_record, wide_records, IsWithin, IsAdded, IsStopped, IsRefusedFirst}
 use Rattle.gmon_data.proofs.TallyLemmas.{sum-tally}
 use Rattle.gmon_data.proofs.HistLemmas.{samples-put, some_same}
 use Rattle.gmon_data.proofs.ContentLemmas.{content-hist, content-arc, content-block}
@@ -159,10 +161,38 @@ module _ (all more rest : List WideRec) (old now : Content) (w : IsUnderway all 
       first_stays refusal c [] h = absurd h
       first_stays refusal c (r ∷ recs) h = h
 
-at_end : (all : List WideRec) (old now : Content) → IsUnderway all [] old now → IsAdded all old now
+pub at_end : (all : List WideRec) (old now : Content) → IsUnderway all [] old now → IsAdded all old now
 at_end all old now w =
     let is : all ≡ w.done = w.split ∙ append-nil w.done in
     record { added = w.added ∙ ap (λ l. with_records l old) (sym is); accepted = ap (conflict_of old) is ∙ w.accepted }
+
+-- ---- records, and others behind them
+
+module _ (first second : List WideRec) (old : Content) where
+  abbrev all : List WideRec
+  all = first ++ second
+
+  begun : IsUnderway all all old old
+  begun = at_begin all old
+
+  pub within_first : IsWithin (with_records all old) → IsWithin (with_records first old)
+  within_first fits = within_next all first second old old begun fits
+
+  pub stopped_first : (refusal : AddRefusal) (new : Content) → IsStopped refusal first old new → IsStopped refusal all old new
+  stopped_first refusal new s = stop all first second old old begun refusal new s
+
+  module _ (mid : Content) (added : IsAdded first old mid) where
+    half_way : IsUnderway all (second ++ []) old mid
+    half_way = subst (λ (rest : List WideRec). IsUnderway all rest old mid) (sym (append-nil second)) (one_more all first second old old begun mid added)
+
+    pub within_second : IsWithin (with_records all old) → IsWithin (with_records second mid)
+    within_second fits = within_next all second [] old mid half_way fits
+
+    pub stopped_second : (refusal : AddRefusal) (new : Content) → IsStopped refusal second mid new → IsStopped refusal all old new
+    stopped_second refusal new s = stop all second [] old mid half_way refusal new s
+
+    pub added_both : (new : Content) → IsAdded second mid new → IsAdded all old new
+    added_both new a = at_end all old new (one_more all second [] old mid half_way new a)
 
 -- ---- what a stop says of the conflict
 
@@ -209,11 +239,32 @@ pub next_of_blocks : (all : List WideRec) (blocks : List RawBlock) (i : ℕ) (bl
 next_of_blocks all blocks i block d old now lt is w =
     subst (λ (l : List WideRec). IsUnderway all l old now) (ap (map wide_block) (cut_at blocks i block (slice_get-get_or blocks i d lt ∙ ap (λ r. Some r) (sym is)))) w
 
+pub next_of_arcs : (all : List WideRec) (arcs : List RawArc) (i : ℕ) (arc d : RawArc) (old now : Content) → i < length arcs → arc ≡ get_or arcs i d
+    → IsUnderway all (map wide_arc (drop i arcs)) old now → IsUnderway all ((wide_arc arc ∷ []) ++ map wide_arc (drop (i + 1) arcs)) old now
+next_of_arcs all arcs i arc d old now lt is w =
+    subst (λ (l : List WideRec). IsUnderway all l old now) (ap (map wide_arc) (cut_at arcs i arc (slice_get-get_or arcs i d lt ∙ ap (λ r. Some r) (sym is)))) w
+
 pub end_of_records : (recs : List Rec) (i : ℕ) (old now : Content) → length recs ≤ i → IsUnderway (wide_records recs) (wide_records (drop i recs)) old now → IsAdded (wide_records recs) old now
 end_of_records recs i old now le w = at_end (wide_records recs) old now (subst (λ (l : List WideRec). IsUnderway (wide_records recs) l old now) (ap wide_records (past_end recs i le)) w)
 
 pub end_of_blocks : (blocks : List RawBlock) (i : ℕ) (old now : Content) → length blocks ≤ i → IsUnderway (map wide_block blocks) (map wide_block (drop i blocks)) old now → IsAdded (map wide_block blocks) old now
 end_of_blocks blocks i old now le w = at_end (map wide_block blocks) old now (subst (λ (l : List WideRec). IsUnderway (map wide_block blocks) l old now) (ap (map wide_block) (past_end blocks i le)) w)
+
+pub end_of_arcs : (arcs : List RawArc) (i : ℕ) (old now : Content) → length arcs ≤ i → IsUnderway (map wide_arc arcs) (map wide_arc (drop i arcs)) old now → IsAdded (map wide_arc arcs) old now
+end_of_arcs arcs i old now le w = at_end (map wide_arc arcs) old now (subst (λ (l : List WideRec). IsUnderway (map wide_arc arcs) l old now) (ap (map wide_arc) (past_end arcs i le)) w)
+
+pub arcs_widened : (arcs : List RawArc) → wide_records (map raw.Arc arcs) ≡ map wide_arc arcs
+arcs_widened [] = refl
+arcs_widened (a ∷ arcs) = ap (λ (recs : List WideRec). wide_arc a ∷ recs) (arcs_widened arcs)
+
+-- arcs and counts of blocks have no conflict
+pub arcs_accepted : (arcs : List RawArc) (c : Content) → conflict_of c (map wide_arc arcs) ≡ None
+arcs_accepted [] c = refl
+arcs_accepted (a ∷ arcs) c = arcs_accepted arcs (with_record (wide_arc a) c)
+
+pub blocks_accepted : (blocks : List RawBlock) (c : Content) → conflict_of c (map wide_block blocks) ≡ None
+blocks_accepted [] c = refl
+blocks_accepted (b ∷ blocks) c = blocks_accepted blocks (with_record (wide_block b) c)
 
 -- what follows from a clause on an `Err`
 pub on_err : {A E : Type 0} {P Q : E → Type 0} (r : Result A E) → IfErr r P → ((e : E) → P e → Q e) → IfErr r Q

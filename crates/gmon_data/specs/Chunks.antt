@@ -1,7 +1,8 @@
 -- A list that is kept in chunks.
-use Rattle.std.specs.Prelude.{◌≡◌, ℕ, ◌+◌, ◌<◌, ◌≤◌, List, [], ◌∷◌, ◌++◌, length, map, take, drop, slice_index, slice_index_or}
+use Rattle.std.specs.Prelude.{◌≡◌, ℕ, ◌+◌, ◌<◌, ◌≤◌, List, [], ◌∷◌, length, slice_index}
 use Rattle.std.specs.List.{flat_map, AllByRecursion}
 use Rattle.std.specs.Global.{Vec}
+use Rattle.gmon_data.specs.declared.chunks.TheConstants.{CHUNK}
 
 module _ {T : Type 0} where
   -- the items of all chunks, one chunk after the other
@@ -16,7 +17,7 @@ module _ {T : Type 0} where
   -- a chunk has an item, and at most so many
   pub record IsChunk (c : Vec T) : Type 0 where
     pub some : 0 < length c.items
-    pub few : length c.items ≤ 512
+    pub few : length c.items ≤ CHUNK
 
   -- chunks, and their starts and the number of their items
   pub record IsChunked (chunks : List (Vec T)) (starts : List ℕ) (len : ℕ) : Type 0 where
@@ -29,11 +30,3 @@ pub record IsChunkOf (starts : List ℕ) (i c : ℕ) : Type 0 where
   pub inside : c < length starts
   pub from : slice_index starts c ≤ i
   pub to : (k : ℕ) → c < k → k < length starts → i < slice_index starts k
-
--- the chunk that has item i has room for one more
-abbrev pub HasRoom : {T : Type 0} → List (Vec T) → List ℕ → ℕ → Type 0
-HasRoom {T} chunks starts i = (c : ℕ) (w : Vec T) → IsChunkOf starts i c → length (slice_index_or chunks c w).items < 512
-
--- the starts, where one item more stands before each chunk from c on
-abbrev pub bumped : ℕ → List ℕ → List ℕ
-bumped c starts = take c starts ++ map (λ n. n + 1) (drop c starts)

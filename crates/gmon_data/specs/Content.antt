@@ -1,6 +1,7 @@
 -- What a list of records adds up to.
 use Rattle.std.specs.Prelude.{◌≡◌, ℕ, ◌^◌, ◌<◌, Bool, true, false, ◌&&◌, nat_eq, List, [], ◌∷◌, ◌++◌, length, slice_get, fold, unwrap_or, filter_map, map, Option, Some, None, ⊤, if◌then◌else◌}
 use Rattle.gp_base.specs.declared.records.Unit as units
+use Rattle.gp_base.specs.declared.records.RawArc.{RawArc}
 use Rattle.gp_base.specs.declared.records.RawHist.{RawHist}
 use Rattle.gp_base.specs.declared.records.RawBlock.{RawBlock}
 use Rattle.gp_base.specs.declared.records.Rec.{Rec}
@@ -90,8 +91,15 @@ with_block addr count c = record c { blocks = tally nat_eq addr count c.blocks }
 
 -- ---- the records of a file
 
+-- the histogram whose counters share the addresses from a low one to below a high one
+abbrev pub hist_over : ℕ → ℕ → List ℕ → Hist
+hist_over low high counters = record { low = low; high = high; counters = counters }
+
 abbrev pub wide_hist : RawHist → Hist
-wide_hist hist = record { low = hist.low; high = hist.high; counters = hist.counters }
+wide_hist hist = hist_over hist.low hist.high hist.counters
+
+abbrev pub wide_arc : RawArc → WideRec
+wide_arc arc = WideArc arc.from arc.to arc.count
 
 abbrev pub wide_block : RawBlock → WideRec
 wide_block block = WideBlock block.addr block.count
@@ -105,6 +113,7 @@ wide_record (raw.Blocks blocks) = map wide_block blocks
 abbrev pub wide_records : List Rec → List WideRec
 wide_records recs = flat_map wide_record recs
 
+-- whether a record is an arc
 abbrev pub is_arc : Rec → Bool
 is_arc (raw.Hist hist) = false
 is_arc (raw.Arc arc) = true

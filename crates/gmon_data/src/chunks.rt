@@ -3,7 +3,8 @@
 ghost use Rattle.std.specs.Prelude.{◌≡◌, ◌+◌, ◌^◌, ◌<◌, ◌≤◌, ℕ, Bool, [], ◌∷◌, ◌++◌, Some, length, insert, slice_get, slice_index, slice_set, true, false, OnOk, OnErr};
 ghost use Rattle.std.specs.Fn.{ComputesKey};
 ghost use Rattle.std.specs.List.Sorted.{IsNonDecreasing, IsPartitionedBy, IsPartitionPoint};
-ghost use Rattle.gmon_data.specs.Chunks.{items_of, bumped, HasRoom, IsChunked, IsChunkOf};
+ghost use Rattle.gmon_data.specs.Chunks.{items_of, IsChunked, IsChunkOf};
+ghost use Rattle.gmon_data.specs.ChunkSteps.{bumped, HasRoom};
 
 use std::alloc::{AllocError, Global};
 use std::marker::Model;
@@ -79,10 +80,8 @@ impl<T> ChunkedList<T> {
             let chunk = &self.chunks[mid];
             if pred(&chunk[0]) {
                 base = mid;
-                size -= half;
-            } else {
-                size -= half;
             }
+            size -= half;
         }
         let chunk = &self.chunks[base];
         self.starts[base] + chunk.partition_point(pred)

@@ -1,11 +1,11 @@
 //! A histogram whose counters can hold the sum of many.
 
 ghost use Rattle.std.specs.Prelude.{◌≡◌, ◌+◌, ◌^◌, ◌<◌, length, sum, IfOk};
-ghost use Rattle.gmon_data.specs.Content.{wide_hist};
+ghost use Rattle.gmon_data.specs.Content.{hist_over};
 ghost use Rattle.gmon_data.specs.Hists.{hist_sum, range_of, pointwise_sum, samples_of};
 
 use crate::chunks::ChunkedList;
-use gp_base::{RawHist, Totals};
+use gp_base::Totals;
 use std::alloc::{AllocError, Global};
 
 /// A histogram: `counters` share the addresses from `low` to below `high` evenly.
@@ -46,18 +46,6 @@ impl Hist {
             high: self.high,
             counters: self.counters.clone()?,
         })
-    }
-}
-
-/// What the counters of a file's histogram share.
-pub(crate) fn raw_range(raw: &RawHist) -> HistRange
-    requires { length raw.now.counters < 2 ^ 32 }
-    ensures { result ≡ range_of (wide_hist raw.now) }
-{
-    HistRange {
-        low: raw.low,
-        high: raw.high,
-        count: raw.counters.as_slice().len() as u32,
     }
 }
 
@@ -102,19 +90,19 @@ pub(crate) fn clone_hists(
     Ok(copies)
 }
 
-/// The histogram of a file, with counters that can hold the sum of many.
-pub(crate) fn widened(alloc: Global, raw: &RawHist) -> Result<Hist, AllocError>
-    ensures { IfOk result (λ hist. hist ≡ wide_hist raw.now) }
+/// The histogram of a file's counters, with counters that can hold the sum of many.
+pub(crate) fn widened(
+    alloc: Global,
+    low: u32,
+    high: u32,
+    counters: &[u16],
+) -> Result<Hist, AllocError>
+    ensures { IfOk result (λ hist. hist ≡ hist_over low high counters.now) }
 {
-    let counters: Vec<u64> = raw
-        .counters
-        .as_slice()
-        .iter()
-        .map(|n| u64::from(*n))
-        .collect(alloc)?;
+    let counters: Vec<u64> = counters.iter().map(|n| u64::from(*n)).collect(alloc)?;
     Ok(Hist {
-        low: raw.low,
-        high: raw.high,
+        low,
+        high,
         counters: Totals::from(counters),
     })
 }

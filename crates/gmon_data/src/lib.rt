@@ -12,7 +12,7 @@ pub mod values;
 
 pub use hist::{Hist, HistRange};
 pub use profile::Profile;
-pub use refusal::{AddRefusal, Unlike};
+pub use refusal::{AddRefusal, ReadRefusal, Unlike};
 
 #[cfg(test)]
 mod tests;

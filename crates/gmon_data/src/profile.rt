@@ -4,12 +4,13 @@ ghost use Rattle.std.specs.Prelude.{◌≡◌, ◌↔◌, ◌^◌, ◌<◌, ℕ,
 ghost use Rattle.std.specs.List.{All};
 ghost use Rattle.std.specs.List.Sorted.{IsPartitionPoint};
 ghost use Rattle.gp_base.specs.Spans.{HasRange};
-ghost use Rattle.gmon_data.specs.Content.{HistNumbersFit, IsProfile, WideRec, WideHist, WideArc, WideBlock, empty_content, with_hist, with_arc, hist_conflict, is_arc, with_block, content_of, IsWithin, IsAdded, IsStopped, conflict_of, runs_at, wide_block, wide_hist, wide_record, wide_records, with_records};
+ghost use Rattle.gmon_data.specs.Content.{hist_over, HistNumbersFit, IsProfile, WideRec, WideHist, WideArc, WideBlock, empty_content, with_hist, with_arc, hist_conflict, is_arc, with_block, content_of, IsWithin, IsAdded, IsStopped, conflict_of, runs_at, wide_arc, wide_block, wide_hist, wide_record, wide_records, with_records};
 ghost use Rattle.gmon_data.specs.Hists.{IsKept, IsUnlike, conflict_with, kept_unit, range_of, samples_of, unlike_in};
 ghost use Rattle.gmon_data.specs.Tally.{total_of};
+ghost use Rattle.gmon_data.specs.declared.refusal.AddRefusal.TheVariants.{OutOfMemory};
 
 use crate::chunks::ChunkedList;
-use crate::hist::{Hist, HistRange, clone_hists, raw_range, samples, widened};
+use crate::hist::{Hist, HistRange, clone_hists, samples, widened};
 use crate::hists::{conflict, count_ended, normal_unit, put};
 use crate::refusal::{AddRefusal, Unlike};
 use crate::tally::{add_to, total};
@@ -85,12 +86,33 @@ impl Profile {
         ensures stands { OnOk result ((recs : List WideRec) → self.old ≡ content_of recs → self.new ≡ content_of (recs ++ WideHist (wide_hist h.now) h.now.«unit» ∷ [])) }
         ensures unchanged { OnErr result (self.new ≡ self.old) }
     {
-        if h.counters.as_slice().is_empty() {
+        self.add_counts(h.low, h.high, h.unit, h.counters.as_slice())
+    }
+
+    /// Adds a histogram of a file by its fields and its counters, as `add_hist` does.
+    pub fn add_counts(
+        &mut self,
+        low: u32,
+        high: u32,
+        unit: Unit,
+        counts: &[u16],
+    ) -> Result<(), AddRefusal>
+        requires range { 0 < length counts.now → low < high }
+        requires count { length counts.now < 2 ^ 32 }
+        requires within { hist_conflict self.old (hist_over low high counts.now) «unit» ≡ None → IsWithin (with_hist (hist_over low high counts.now) «unit» self.old) }
+        ensures refusal { IfErr result (λ refusal. hist_conflict self.old (hist_over low high counts.now) «unit» ≡ unlike_in refusal) }
+        ensures accepted { OnOk result (hist_conflict self.old (hist_over low high counts.now) «unit» ≡ None) }
+        ensures added { OnOk result (self.new ≡ with_hist (hist_over low high counts.now) «unit» self.old) }
+        ensures stands { OnOk result ((recs : List WideRec) → self.old ≡ content_of recs → self.new ≡ content_of (recs ++ WideHist (hist_over low high counts.now) «unit» ∷ [])) }
+        ensures unchanged { OnErr result (self.new ≡ self.old) }
+    {
+        if counts.is_empty() {
             return Ok(());
         }
-        self.compare(raw_range(h), h.unit)?;
-        let hist = widened(self.alloc, h)?;
-        self.keep(hist, h.unit)?;
+        let count = counts.len() as u32;
+        self.compare(HistRange { low, high, count }, unit)?;
+        let hist = widened(self.alloc, low, high, counts)?;
+        self.keep(hist, unit)?;
         Ok(())
     }
 
@@ -251,23 +273,49 @@ impl Profile {
         match rec {
             Rec::Hist(hist) => self.add_hist(hist),
             Rec::Arc(arc) => Ok(self.add_arc(*arc)?),
-            Rec::Blocks(blocks) => self.add_blocks(blocks.as_slice()),
+            Rec::Blocks(blocks) => Ok(self.add_blocks(blocks.as_slice())?),
         }
     }
 
-    fn add_blocks(&mut self, blocks: &[RawBlock]) -> Result<(), AddRefusal>
-        requires within { IsWithin (with_records (map wide_block blocks.now) self.old) }
-        ensures added { OnOk result (IsAdded (map wide_block blocks.now) self.old self.new) }
-        ensures stopped { IfErr result (λ refusal. IsStopped refusal (map wide_block blocks.now) self.old self.new) }
+    /// Adds arcs in order, as `add_arc` does. Room for all of them is taken first, where there is some. After
+    /// want of memory some first ones are added.
+    pub fn add_arcs(&mut self, arcs: &[RawArc]) -> Result<(), AllocError>
+        requires { IsWithin (with_records (map wide_arc arcs.now) self.old) }
+        ensures added { OnOk result (self.new ≡ with_records (map wide_arc arcs.now) self.old) }
+        ensures stands { OnOk result ((recs : List WideRec) → self.old ≡ content_of recs → self.new ≡ content_of (recs ++ map wide_arc arcs.now)) }
+        ensures stopped { OnErr result (IsStopped OutOfMemory (map wide_arc arcs.now) self.old self.new) }
+    {
+        let _ = self.reserve_arcs(arcs.len());
+        self.add_each_arc(arcs)
+    }
+
+    fn add_each_arc(&mut self, arcs: &[RawArc]) -> Result<(), AllocError>
+        requires { IsWithin (with_records (map wide_arc arcs.now) self.old) }
+        ensures added { OnOk result (self.new ≡ with_records (map wide_arc arcs.now) self.old) }
+        ensures stopped { OnErr result (IsStopped OutOfMemory (map wide_arc arcs.now) self.old self.new) }
+    {
+        for arc in arcs {
+            self.add_arc(*arc)?;
+        }
+        Ok(())
+    }
+
+    /// Adds executions of basic blocks in order, as `add_block` does. Room for all of them is taken first,
+    /// where there is some. After want of memory some first ones are added.
+    pub fn add_blocks(&mut self, blocks: &[RawBlock]) -> Result<(), AllocError>
+        requires { IsWithin (with_records (map wide_block blocks.now) self.old) }
+        ensures added { OnOk result (self.new ≡ with_records (map wide_block blocks.now) self.old) }
+        ensures stands { OnOk result ((recs : List WideRec) → self.old ≡ content_of recs → self.new ≡ content_of (recs ++ map wide_block blocks.now)) }
+        ensures stopped { OnErr result (IsStopped OutOfMemory (map wide_block blocks.now) self.old self.new) }
     {
         let _ = self.reserve_blocks(blocks.len());
         self.add_each_block(blocks)
     }
 
-    fn add_each_block(&mut self, blocks: &[RawBlock]) -> Result<(), AddRefusal>
-        requires within { IsWithin (with_records (map wide_block blocks.now) self.old) }
-        ensures added { OnOk result (IsAdded (map wide_block blocks.now) self.old self.new) }
-        ensures stopped { IfErr result (λ refusal. IsStopped refusal (map wide_block blocks.now) self.old self.new) }
+    fn add_each_block(&mut self, blocks: &[RawBlock]) -> Result<(), AllocError>
+        requires { IsWithin (with_records (map wide_block blocks.now) self.old) }
+        ensures added { OnOk result (self.new ≡ with_records (map wide_block blocks.now) self.old) }
+        ensures stopped { OnErr result (IsStopped OutOfMemory (map wide_block blocks.now) self.old self.new) }
     {
         for block in blocks {
             self.add_block(*block)?;

@@ -120,6 +120,41 @@ fn the_profile_of_a_file(rt: HostRuntime) -> Result<(), Fail> {
     Ok(())
 }
 
+/// A profile to which a histogram, arcs and executions were added, each as a file's parts.
+fn added_in_parts(alloc: Global) -> Result<Profile, AddRefusal> {
+    let arc = RawArc {
+        from: 0x1_0004,
+        to: 0x1_0008,
+        count: 3,
+    };
+    let block = RawBlock {
+        addr: 0x1_0000,
+        count: 9,
+    };
+    let mut profile = Profile::new(alloc);
+    profile.add_counts(0x1_0000, 0x1_0010, seconds(0), &[1, 2, 0, 0])?;
+    profile.add_arcs(&[arc, RawArc { from: 0, ..arc }, arc])?;
+    profile.add_blocks(&[block, RawBlock { addr: 8, ..block }, block])?;
+    Ok(profile)
+}
+
+#[test]
+fn the_parts_of_a_file(rt: HostRuntime) -> Result<(), Fail> {
+    let profile = added_in_parts(rt.alloc()).map_err(|_| "a profile")?;
+    assert_eq!(rt; profile.unit(), Some(seconds(100)));
+    assert_eq!(rt; first_counters(&profile), [1, 2, 0, 0].as_slice());
+    let arcs = [(0x1_0004, 0x1_0008, 6), (0, 0x1_0008, 3)];
+    assert_eq!(rt; profile.arc_count(), arcs.len());
+    for (i, arc) in arcs.iter().enumerate() {
+        if i < profile.arc_count() {
+            assert_eq!(rt; profile.arc(i), *arc);
+        }
+    }
+    assert_eq!(rt; profile.block_count(), 2);
+    assert_eq!(rt; (profile.block_of(0x1_0000), profile.block_of(8)), (18, 9));
+    Ok(())
+}
+
 /// What adding a second histogram to a first one answers.
 fn second_added(
     alloc: Global,

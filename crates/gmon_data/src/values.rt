@@ -3,7 +3,7 @@
 ghost use Rattle.std.specs.Prelude.{◌≡◌, ◌↔◌, IsTrue, IfOk};
 
 use crate::hist::HistRange;
-use crate::refusal::{AddRefusal, Unlike};
+use crate::refusal::{AddRefusal, ReadRefusal, Unlike};
 use std::alloc::AllocError;
 
 /// Whether two ranges are the same.
@@ -43,6 +43,20 @@ pub fn same_refusals(a: &AddRefusal, b: &AddRefusal) -> bool
 
 /// The same refusal.
 pub fn copied_refusals(a: &AddRefusal) -> Result<AddRefusal, AllocError>
+    ensures { IfOk result (λ b. b ≡ a.now) }
+{
+    a.clone()
+}
+
+/// Whether two refusals of a file and a profile are the same.
+pub fn same_read_refusals(a: &ReadRefusal, b: &ReadRefusal) -> bool
+    ensures { IsTrue result ↔ (a.now ≡ b.now) }
+{
+    a == b
+}
+
+/// The same refusal of a file and a profile.
+pub fn copied_read_refusals(a: &ReadRefusal) -> Result<ReadRefusal, AllocError>
     ensures { IfOk result (λ b. b ≡ a.now) }
 {
     a.clone()

@@ -1,5 +1,6 @@
 -- What the bytes that were fed are.
-use Rattle.std.proofs.Common.{◌≡◌, ℕ, Bool, true, false, not, eqb, ltb, List, [], ◌++◌, length, drop, length-drop, Option, Some, None, Result, Ok, Err, if◌then◌else◌, refl, sym, ap, ◌∙◌, arith}
+use Rattle.std.proofs.Common.{◌≡◌, ℕ, Bool, true, false, not, eqb, ltb, List, [], ◌++◌, length, drop, length-drop, Option, Some, None, Result, Ok, Err, if◌then◌else◌, refl, sym, ap, subst, ◌∙◌, arith}
+use Rattle.std.specs.List.{AllByRecursion}
 use Rattle.std.proofs.lemmas.List.{append-nil}
 use Rattle.gp_base.specs.declared.records.Rec.{Rec}
 use Rattle.gp_base.specs.declared.records.Records.{Records}
@@ -8,12 +9,17 @@ use Rattle.gp_base.specs.declared.refusal.GmonRefusal.{GmonRefusal}
 use Rattle.gp_base.specs.declared.refusal.GmonRefusal.TheVariants.{Short, Version, Tag, Range, Size, Rest, OutOfMemory}
 use Rattle.gp_base.specs.Bytes.{word_at}
 use Rattle.gp_base.specs.Refusal.{IsRefusal}
+use Rattle.gp_base.specs.Spans.{HasRange}
+use Rattle.gmon_data.specs.Content.{wide_records}
+use Rattle.gmon_gnu.specs.Adding.{spelled_records}
 use Rattle.gmon_gnu.specs.Fields.{version}
 use Rattle.gmon_gnu.specs.Reading.{behind, file_recs, refusal_in, recs_in, gnu_refusal, gnu_records}
 use Rattle.gmon_gnu.specs.Going.{records_on, header_on, resume}
 use Rattle.gmon_gnu.specs.Ending.{ended}
 use Rattle.gmon_gnu.specs.Fed.{Kept, StandsFor}
+use Rattle.gmon_gnu.proofs.MeaningLemmas.{spelled_of}
 use Rattle.gmon_gnu.proofs.RecordLemmas.{allowance}
+use Rattle.gmon_gnu.proofs.SizeLemmas.{have_ranges}
 
 -- ---- the whole file
 
@@ -73,3 +79,13 @@ pub records_out : (bytes : List ℕ) (kept : Kept) (recs : List Rec) → StandsF
 records_out bytes kept recs s is recs_are =
     let recs_is : recs ≡ recs_in (file_recs bytes) = recs_are ∙ sym (ap recs_in (records_are bytes kept.recs (all_out bytes kept s is))) in
     ap (λ (v : List Rec). let x : Records = record { form = Gnu; recs = v } in x) recs_is
+
+-- so the records so far are what is added to a profile
+pub all_read : (bytes : List ℕ) (kept : Kept) → StandsFor bytes kept → resume kept.len kept.open_now kept.rest ≡ Ok [] → spelled_records bytes ≡ wide_records kept.recs
+all_read bytes kept s is = sym (ap (λ (r : Records). wide_records r.recs) (records_out bytes kept kept.recs s is refl))
+
+-- their histograms have ranges
+pub ranges_read : (bytes : List ℕ) (kept : Kept) → StandsFor bytes kept → resume kept.len kept.open_now kept.rest ≡ Ok [] → AllByRecursion HasRange kept.recs
+ranges_read bytes kept s is =
+    let spells = spelled_of bytes s.are_bytes (accepted_out bytes kept s is) in
+    subst (λ (r : Records). AllByRecursion HasRange r.recs) (sym (records_out bytes kept kept.recs s is refl)) (have_ranges (gnu_records bytes).recs spells.recs_fit)

@@ -16,3 +16,5 @@ pub mod ProfileTextLemmas
 pub mod SplitLemmas
 pub mod ProfileSpelling
 pub mod ProfileReadBack
+pub mod SizeLemmas
+pub mod AddingLemmas

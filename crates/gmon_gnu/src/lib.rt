@@ -5,6 +5,7 @@
 //! little-endian machine of 32 bits.
 #![tactic(auto)]
 
+mod adding;
 pub mod block_writing;
 pub(crate) mod building;
 pub mod laws;

@@ -1,13 +1,17 @@
-ghost use Rattle.std.specs.Prelude.{◌≡◌, ◌+◌, ◌<◌, ◌^◌, length, IfOk};
+ghost use Rattle.std.specs.Prelude.{◌≡◌, ◌+◌, ◌<◌, ◌≤◌, ◌^◌, length, IfOk};
+ghost use Rattle.gmon_data.specs.Content.{empty_content};
+ghost use Rattle.gmon_gnu.specs.Fed.{StandsFor};
+ghost use Rattle.gmon_gnu.specs.Grammar.{GnuSpells};
 
 use super::*;
-use gmon_data::{AddRefusal, Hist, Profile};
+use gmon_data::{AddRefusal, Hist, Profile, ReadRefusal, Unlike};
 use gp_base::{RawArc, RawBlock, Rec, Records, Span, Totals, Unit, le2, le4};
 use host_port::{Failed, Host, MemHost};
 use mcount_arcs::{Entered, Gmon, Looked};
 use std::alloc::{AllocError, Global};
 use std::process::Abort;
 use std::test::Fail;
+use test_profiles::are_same;
 
 /// Two histograms from 0x10000 to below 0x10010, an arc that was never called, and the count of a block.
 const RECORDS: [u8; 108] = [
@@ -90,6 +94,10 @@ fn the_first_fault_is_answered(rt: HostRuntime) -> Result<(), Fail> {
         assert_eq!(rt; read(rt.alloc(), &bytes).err(), Some(refusal), "{name}");
         let answer = in_pieces(rt.alloc(), &bytes, 1);
         assert_eq!(rt; answer.err(), Some(refusal), "{name}, byte by byte");
+        for size in [1, 1_000] {
+            let (answer, _) = added_both_ways(&rt, rt.alloc(), &bytes, size)?;
+            assert_eq!(rt; answer, Err(ReadRefusal::File(refusal)), "{name}");
+        }
     }
     let header = file(rt.alloc(), 2, &[])?;
     for len in 0..20 {
@@ -508,10 +516,11 @@ fn numbers_are_put_together_again(rt: HostRuntime) -> Result<(), Fail> {
     Ok(())
 }
 
-/// What a reader answers that is fed the bytes in pieces of at most `size`.
-fn in_pieces(alloc: Global, bytes: &[u8], size: usize) -> Result<Records, GmonRefusal>
+/// A reader that was fed the bytes in pieces of at most `size`.
+fn fed(alloc: Global, bytes: &[u8], size: usize) -> Result<Reader, AllocError>
     requires some { 0 < size }
     requires small { length bytes.now < 2 ^ 32 }
+    ensures { IfOk result (StandsFor bytes.now) }
 {
     let mut reader = Reader::new(alloc);
     let mut fed = 0;
@@ -521,7 +530,52 @@ fn in_pieces(alloc: Global, bytes: &[u8], size: usize) -> Result<Records, GmonRe
         reader.feed(piece)?;
         fed += piece.len();
     }
-    reader.finish()
+    Ok(reader)
+}
+
+/// What a reader answers that is fed the bytes in pieces of at most `size`.
+fn in_pieces(alloc: Global, bytes: &[u8], size: usize) -> Result<Records, GmonRefusal>
+    requires some { 0 < size }
+    requires small { length bytes.now < 2 ^ 32 }
+    ensures { IfOk result (λ records. GnuSpells bytes.now records) }
+{
+    fed(alloc, bytes, size)?.finish()
+}
+
+/// Adds the records that a reader lists to an empty profile.
+fn add_listed(
+    alloc: Global,
+    bytes: &[u8],
+    size: usize,
+    profile: &mut Profile,
+) -> Result<(), ReadRefusal>
+    requires some { 0 < size }
+    requires small { length bytes.now ≤ 100000 }
+    requires empty { profile.old ≡ empty_content }
+{
+    let records = in_pieces(alloc, bytes, size)?;
+    profile.add_records(&records)?;
+    Ok(())
+}
+
+/// Adds what a reader was fed to an empty profile, beside a list of its records to another one. The answer of
+/// both, and the profile.
+fn added_both_ways(
+    rt: &impl Abort,
+    alloc: Global,
+    bytes: &[u8],
+    size: usize,
+) -> Result<(Result<(), ReadRefusal>, Profile), AllocError>
+    requires some { 0 < size }
+    requires small { length bytes.now ≤ 100000 }
+{
+    let mut added = Profile::new(alloc);
+    let mut listed = Profile::new(alloc);
+    let answer = fed(alloc, bytes, size)?.add_to(&mut added);
+    let due = add_listed(alloc, bytes, size, &mut listed);
+    assert_eq!(rt; answer, due);
+    assert!(rt; are_same(&added, &listed));
+    Ok((answer, added))
 }
 
 /// What a reader answers that is fed the bytes in two pieces.
@@ -572,6 +626,51 @@ fn every_cut_into_two_gives_the_same(rt: HostRuntime) -> Result<(), Fail> {
         match in_two(rt.alloc(), front, rest) {
             Ok(records) => assert!(rt; are_of_the_file(&records, 4), "cut at {cut}"),
             Err(_) => assert!(rt; false, "cut at {cut}"),
+        }
+    }
+    Ok(())
+}
+
+/// A histogram of rate 100, an arc of 7 calls, a histogram of rate 50, and an arc of 9 calls.
+const UNLIKE: [u8; 108] = [
+    0, 0, 0, 1, 0, 0x10, 0, 1, 0, 4, 0, 0, 0, 100, 0, 0, 0, // tag, low, high, number, rate
+    0x73, 0x65, 0x63, 0x6F, 0x6E, 0x64, 0x73, 0, 0, 0, 0, 0, 0, 0, 0, 0x73, // seconds, s
+    1, 0, 2, 0, 0, 0, 0, 0, // counters
+    1, 4, 0, 1, 0, 8, 0, 1, 0, 7, 0, 0, 0, // from 0x10004 to 0x10008
+    0, 0, 0, 1, 0, 0x10, 0, 1, 0, 4, 0, 0, 0, 50, 0, 0, 0, //
+    0x73, 0x65, 0x63, 0x6F, 0x6E, 0x64, 0x73, 0, 0, 0, 0, 0, 0, 0, 0, 0x73, //
+    1, 0, 2, 0, 0, 0, 0, 0, //
+    1, 4, 0, 1, 0, 8, 0, 1, 0, 9, 0, 0, 0, //
+];
+
+#[test]
+fn what_was_fed_is_added(rt: HostRuntime) -> Result<(), Fail> {
+    let header = file(rt.alloc(), 1, &[])?;
+    let records = file(rt.alloc(), 1, &RECORDS)?;
+    let large = file_of_large_numbers(rt.alloc())?;
+    let before = file(rt.alloc(), 1, &UNLIKE[..54])?;
+    let both = file(rt.alloc(), 1, &UNLIKE)?;
+    let unlike = Err(ReadRefusal::Profile(AddRefusal::Unlike(Unlike::Rate { old: 100, new: 50 })));
+    let rows: [(&str, &[u8], Result<(), ReadRefusal>, [u64; 3]); 6] = [
+        ("a header", &header, Ok(()), [0, 0, 0]),
+        ("two histograms", &records, Ok(()), [6, 0, 9]),
+        ("arcs behind a histogram", &SMALL, Ok(()), [304, 4, 0]),
+        (
+            "large numbers",
+            &large,
+            Ok(()),
+            [265_535, 1 << 33, (1 << 33) + 5],
+        ),
+        ("no record behind an arc", &before, Ok(()), [3, 7, 0]),
+        ("another rate behind an arc", &both, unlike, [3, 7, 0]),
+    ];
+    for (name, bytes, due, numbers) in rows {
+        assert!(rt; bytes.len() <= 1_000, "{name}");
+        for size in [1, 7, 1_000] {
+            let (answer, profile) = added_both_ways(&rt, rt.alloc(), bytes, size)?;
+            assert_eq!(rt; answer, due, "{name}");
+            let held = [profile.samples(), profile.calls(), profile.blocks()];
+            assert_eq!(rt; held, numbers, "{name}");
         }
     }
     Ok(())

@@ -37,6 +37,53 @@ fn profiles_of_rows(rt: HostRuntime) -> Result<(), Fail> {
 }
 
 #[test]
+fn profiles_that_hold_the_same(rt: HostRuntime) -> Result<(), Fail> {
+    let rows = Rows {
+        hists: &[(8, 16, 3)],
+        unit: seconds(50),
+        arcs: &[(4, 8, 1), (12, 8, 0)],
+        blocks: &[(8, 5)],
+    };
+    let profile = profile_of_rows(rt.alloc(), rows)?;
+    let others = [
+        (
+            "a histogram",
+            Rows {
+                hists: &[(8, 16, 4)],
+                ..rows
+            },
+        ),
+        (
+            "its unit",
+            Rows {
+                unit: seconds(51),
+                ..rows
+            },
+        ),
+        (
+            "the order of arcs",
+            Rows {
+                arcs: &[(12, 8, 0), (4, 8, 1)],
+                ..rows
+            },
+        ),
+        (
+            "executions",
+            Rows {
+                blocks: &[(8, 6)],
+                ..rows
+            },
+        ),
+    ];
+    assert!(rt; are_same(&profile, &profile_of_rows(rt.alloc(), rows)?));
+    for (name, other) in others {
+        let other = profile_of_rows(rt.alloc(), other)?;
+        assert!(rt; !are_same(&profile, &other), "{name}");
+    }
+    Ok(())
+}
+
+#[test]
 fn samples_and_calls_of_functions(rt: HostRuntime) -> Result<(), Fail> {
     let calls = profile_of_calls(rt.alloc(), &[(1, 2, 9)])?;
     assert_eq!(rt; first_arc(&calls), (0x1_0014, 0x1_0020, 9));

@@ -2,9 +2,9 @@ use Rattle.std.proofs.Common.{◌≡◌, ◌<◌, ◌^◌, ◌+◌, ℕ, List, [
 use Rattle.std.specs.List.{All}
 use Rattle.std.proofs.lemmas.List.{map_push, length_push}
 use Rattle.gp_base.specs.declared.records.RawArc.{RawArc}
-use Rattle.gmon_data.specs.Content.{WideRec, WideHist, WideArc, content_of}
+use Rattle.gmon_data.specs.Content.{WideRec, WideHist, WideArc, content_of, wide_arc}
 use Rattle.gp_base.specs.Fields.{seconds}
-use Rattle.gmon_bsd.specs.Profile.{IsOfRun, runtime_hist, wide_arc}
+use Rattle.gmon_bsd.specs.Profile.{IsOfRun, runtime_hist}
 use Rattle.mcount_arcs.specs.Arcs.{CallFits}
 use Rattle.gmon_bsd.proofs.ProfileLemmas.{one_arc, within_bounds, of_its_file, arc_fits}
 use Rattle.gmon_bsd.proofs.profile.run_profile.Goals as goal

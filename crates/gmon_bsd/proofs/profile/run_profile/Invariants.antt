@@ -1,7 +1,7 @@
 use Rattle.std.proofs.Common.{◌≡◌, ◌∷◌, ◌++◌, map, length}
-use Rattle.gmon_data.specs.Content.{WideHist, content_of}
+use Rattle.gmon_data.specs.Content.{WideHist, content_of, wide_arc}
 use Rattle.gp_base.specs.Fields.{seconds}
-use Rattle.gmon_bsd.specs.Profile.{runtime_hist, wide_arc, IsOfRun}
+use Rattle.gmon_bsd.specs.Profile.{runtime_hist, IsOfRun}
 use Rattle.gmon_bsd.proofs.profile.run_profile.Given as goal
 
 -- the arcs so far are added

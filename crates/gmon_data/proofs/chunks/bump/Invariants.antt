@@ -1,5 +1,5 @@
 use Rattle.std.proofs.Common.{◌≡◌, ◌++◌, take, drop}
-use Rattle.gmon_data.specs.Chunks.{bumped}
+use Rattle.gmon_data.specs.ChunkSteps.{bumped}
 use Rattle.gmon_data.proofs.chunks.bump.Given as goal
 
 abbrev pub invariant-loop-k : goal.invariant-loop-k

@@ -1,4 +1,4 @@
-use Rattle.std.proofs.Common.{◌≡◌, ℕ, List, [], ◌∷◌, ◌++◌, map, refl, sym, ap, subst, ◌∙◌}
+use Rattle.std.proofs.Common.{ℕ, List, [], ◌∷◌, ◌++◌, map, refl, sym, ap, subst, ◌∙◌}
 use Rattle.std.proofs.lemmas.Result.{err_from_is_err_and}
 use Rattle.gp_base.specs.declared.records.RawArc.{RawArc}
 use Rattle.gp_base.specs.declared.records.Rec.TheVariants.{Arc}
@@ -6,17 +6,12 @@ use Rattle.gp_base.specs.declared.records.Records.{Records}
 use Rattle.gmon_cells.proofs.RefusalLemmas.{refusal_answered, nothing_refused, given_one}
 use Rattle.gmon_bsd.specs.declared.reading.Header.{Header}
 use Rattle.gmon_bsd.specs.Grammar.{BsdSpells}
-use Rattle.gmon_bsd.specs.Reading.{bsd_refusal, refusal_by, low_of, high_of, rate_of}
+use Rattle.gmon_bsd.specs.Reading.{bsd_refusal, low_of, high_of, rate_of}
 use Rattle.gmon_bsd.specs.Fed.{Kept, StandsFor}
 use Rattle.gmon_bsd.specs.Held.{view_of}
 use Rattle.gmon_bsd.proofs.FieldLemmas.{spelled_of}
-use Rattle.gmon_bsd.proofs.RefusalLemmas.{refusal_is}
-use Rattle.gmon_bsd.proofs.WholeFile.{whole_file, hist}
+use Rattle.gmon_bsd.proofs.WholeFile.{given, whole_file, hist}
 use Rattle.gmon_bsd.proofs.reader.Reader.finish.Goals as goal
-
--- what the header and the length give is what the file gives
-given : (bytes header : List ℕ) (kept : Kept) → StandsFor bytes kept → header ≡ kept.header → refusal_by header kept.len ≡ bsd_refusal bytes
-given bytes header kept s header_is = (λ i. refusal_by ((header_is ∙ s.header) i) (s.len i)) ∙ refusal_is bytes
 
 pub returns-in_err-header-clause-refused : goal.returns-in_err-header-clause-refused
 returns-in_err-header-clause-refused c = λ bytes stands.

@@ -1,35 +1,17 @@
-use Rattle.std.proofs.Common.{◌≡◌, ℕ, ◌+◌, ◌-◌, ◌/◌, ◌<◌, ◌≤◌, true, false, List, length, refl, sym, subst, ap, arith, of_calls}
+use Rattle.std.proofs.Common.{◌≡◌, ℕ, ◌+◌, ◌-◌, ◌/◌, ◌<◌, ◌≤◌, true, false, List, length, refl, sym, subst, ap, ◌∙◌, arith, of_calls}
 use Rattle.std.proofs.lemmas.Fn.{called}
 use Rattle.std.specs.List.Sorted.{IsPartitionedBy, IsPartitionPoint}
 use Rattle.gmon_data.specs.Chunks.{items_of}
 use Rattle.gmon_data.proofs.ChunkLemmas.{chunk_at, length-starts, start_read}
-use Rattle.gmon_data.proofs.PointLemmas.{answers_next, chunk_within, halved_none, halved_true, halved_false, parted_chunk, point_at, some_chunk}
+use Rattle.gmon_data.proofs.PointLemmas.{IsHalved, answers_next, chunk_within, halved_none, halved_true, halved_false, parted_chunk, point_at, some_chunk}
 use Rattle.gmon_data.proofs.chunks.ChunkedList.partition_point.Goals as goal
+use Rattle.gmon_data.proofs.chunks.ChunkedList.partition_point.Goals.{then-pred, else-pred}
 
 pub loop-size-init : goal.loop-size-init
 loop-size-init g c =
     let some-item : 0 < length (items_of c.self.inside.chunks.items) = omega (arith, c.if-self-eq0.false, c.self.invariant.counted) in
     let some : 0 < c.len-size.result = omega (arith, some_chunk c.self.inside.chunks.items some-item, c.len-size.ensures, c.self.inside.chunks.ok.0) in
     (some, omega (arith, c.len-size.ensures, c.self.inside.chunks.ok.0), search of_calls, λ p h. (h, halved_none p c.self.inside.chunks.items c.len-size.result (omega (arith, c.len-size.ensures, c.self.inside.chunks.ok.0))))
-
-pub loop-size-preserved-then-pred : goal.loop-size-preserved-then-pred
-loop-size-preserved-then-pred g c =
-    let cs = c.self.inside.chunks.items in
-    let base = c.loop-size.base in
-    let size = c.loop-size.size in
-    let mid = base + size / 2 in
-    let w = c.index-chunk.result.now in
-    let lt : mid < length cs = omega (arith, c.loop-size-test.true, c.loop-size.invariant.1) in
-    let some = (chunk_at cs mid w lt c.index-chunk.ensures c.self.invariant.filled).some in
-    let k = called g.P.FnMut c.if-pred.ensures refl in (
-      omega arith,
-      omega (arith, c.loop-size.invariant.1),
-      search of_calls,
-      λ p h.
-          let i = c.loop-size.invariant.3 p h in
-          let n = answers_next g.P.FnMut _ _ _ _ k i.0 in
-          (n.1, halved_true p cs base size mid (size - size / 2) w c.index.result.now (omega arith) lt c.index-chunk.ensures some c.index.ensures (sym n.0) i.1),
-    )
 
 pub loop-size-preserved : goal.loop-size-preserved
 loop-size-preserved g c =
@@ -40,15 +22,27 @@ loop-size-preserved g c =
     let w = c.index-chunk.result.now in
     let lt : mid < length cs = omega (arith, c.loop-size-test.true, c.loop-size.invariant.1) in
     let some = (chunk_at cs mid w lt c.index-chunk.ensures c.self.invariant.filled).some in
-    let k = called g.P.FnMut c.if-pred.ensures refl in (
-      omega arith,
-      omega (arith, c.loop-size.invariant.1),
-      search of_calls,
-      λ p h.
-          let i = c.loop-size.invariant.3 p h in
-          let n = answers_next g.P.FnMut _ _ _ _ k i.0 in
-          (n.1, halved_false p cs base size mid (size - size / 2) w c.index.result.now (omega arith) lt c.index-chunk.ensures some c.index.ensures (sym n.0) i.1),
-    )
+    let k = called g.P.FnMut c.pred.ensures refl in
+    elim c.if-pred.branch [
+      | then-pred t ↦ (
+        omega arith,
+        omega (arith, c.loop-size.invariant.1, t.base-is),
+        search of_calls,
+        λ p h.
+            let i = c.loop-size.invariant.3 p h in
+            let n = answers_next g.P.FnMut _ _ _ _ k i.0 in
+            (n.1, subst (λ (b : ℕ). IsHalved p cs b (size - size / 2)) (sym t.base-is) (halved_true p cs base size mid (size - size / 2) w c.index.result.now (omega arith) lt c.index-chunk.ensures some c.index.ensures (sym n.0 ∙ t.if-pred.true) i.1)),
+      )
+      | else-pred t ↦ (
+        omega arith,
+        omega (arith, c.loop-size.invariant.1, t.base-is),
+        search of_calls,
+        λ p h.
+            let i = c.loop-size.invariant.3 p h in
+            let n = answers_next g.P.FnMut _ _ _ _ k i.0 in
+            (n.1, subst (λ (b : ℕ). IsHalved p cs b (size - size / 2)) (sym t.base-is) (halved_false p cs base size mid (size - size / 2) w c.index.result.now (omega arith) lt c.index-chunk.ensures some c.index.ensures (sym n.0 ∙ t.if-pred.false) i.1)),
+      )
+    ]
 
 pub index-requires-2 : goal.index-requires-2
 index-requires-2 g c =

@@ -17,7 +17,7 @@ add_block-requires c =
     let all = map wide_block c.args.blocks.now in
     let block = get_or c.args.blocks.now i none in
     let w = next_of_blocks all c.args.blocks.now i block none c.args.self.now c.loop-block.self c.loop-block-test.true refl c.loop-block.invariant in
-    within_next all (wide_block block ∷ []) (map wide_block (drop (i + 1) c.args.blocks.now)) c.args.self.now c.loop-block.self w c.requires.within
+    within_next all (wide_block block ∷ []) (map wide_block (drop (i + 1) c.args.blocks.now)) c.args.self.now c.loop-block.self w c.requires
 
 pub returns-in_err-add_block-clause-stopped : goal.returns-in_err-add_block-clause-stopped
 returns-in_err-add_block-clause-stopped c =
@@ -26,7 +26,7 @@ returns-in_err-add_block-clause-stopped c =
     let all = map wide_block c.args.blocks.now in
     let block = get_or c.args.blocks.now i none in
     let w = next_of_blocks all c.args.blocks.now i block none c.args.self.now c.loop-block.self c.loop-block-test.true refl c.loop-block.invariant in
-    rw (p.1, p.2) (stop all (wide_block block ∷ []) (map wide_block (drop (i + 1) c.args.blocks.now)) c.args.self.now c.loop-block.self w _ _ (stopped_before _ (wide_block block) c.loop-block.self _ c.in_err-add_block.ensures.unchanged refl))
+    rw p.1 (stop all (wide_block block ∷ []) (map wide_block (drop (i + 1) c.args.blocks.now)) c.args.self.now c.loop-block.self w _ _ (stopped_before _ (wide_block block) c.loop-block.self _ c.in_err-add_block.ensures.unchanged refl))
 
 pub loop-block-preserved : goal.loop-block-preserved
 loop-block-preserved c =
@@ -37,4 +37,4 @@ loop-block-preserved c =
     one_more all (wide_block block ∷ []) (map wide_block (drop (i + 1) c.args.blocks.now)) c.args.self.now c.loop-block.self w _ (one_added (wide_block block) c.loop-block.self _ refl c.in_ok-add_block.ensures.added)
 
 pub returns-clause-added : goal.returns-clause-added
-returns-clause-added c = end_of_blocks c.args.blocks.now c.loop-block.block-index c.args.self.now c.loop-block.self c.loop-block-test.false c.loop-block.invariant
+returns-clause-added c = (end_of_blocks c.args.blocks.now c.loop-block.block-index c.args.self.now c.loop-block.self c.loop-block-test.false c.loop-block.invariant).added

@@ -1,0 +1,76 @@
+use Rattle.std.proofs.Common.{◌≡◌, List, None, sym, ap, subst, ◌∙◌}
+use Rattle.std.proofs.lemmas.Result.{err_from_is_err_and}
+use Rattle.gmon_data.specs.Content.{WideRec, IsStopped, IsWithin, conflict_of, with_records}
+use Rattle.gmon_data.proofs.RecordLemmas.{stopped_conflict}
+use Rattle.gmon_bsd.specs.Adding.{spelled_records}
+use Rattle.gmon_bsd.specs.Fed.{Kept, StandsFor}
+use Rattle.gmon_bsd.specs.Held.{view_of}
+use Rattle.gmon_bsd.proofs.WholeFile.{file_accepted, given, slice_range, slices_read}
+use Rattle.gmon_bsd.proofs.reader.Reader.add_to.Goals as goal
+
+pub returns-in_err-header-clause-refusal : goal.returns-in_err-header-clause-refusal
+returns-in_err-header-clause-refusal c = λ bytes stands.
+    let s : StandsFor bytes (view_of c.self.inside) = subst (λ (k : Kept). StandsFor bytes k) (sym c.self.view_is) stands in
+    let p = err_from_is_err_and c.from_residual.result c.from_residual.ensures.1 in
+    rw (p.1, p.2) (sym (given bytes c.as_slice.result.now (view_of c.self.inside) s c.as_slice.ensures) ∙ c.in_err-header.ensures.refusal)
+
+pub add_parts-requires-clause-range : goal.add_parts-requires-clause-range
+add_parts-requires-clause-range c =
+    let bytes = c.requires.0 in
+    let s : StandsFor bytes (view_of c.self.inside) = subst (λ (k : Kept). StandsFor bytes k) (sym c.self.view_is) c.requires.1 in
+    slice_range bytes c.as_slice.result.now (view_of c.self.inside) s c.as_slice.ensures c.in_ok-header.ensures.accepted c.in_ok-header.header c.in_ok-header.ensures.words
+    c.as_slice-counters.result.now c.as_slice-2.result.now c.as_slice-counters.ensures.value c.as_slice-2.ensures.value
+
+pub add_parts-requires-clause-within : goal.add_parts-requires-clause-within
+add_parts-requires-clause-within c =
+    let bytes = c.requires.0 in
+    let stands = c.requires.1 in
+    let kept = view_of c.self.inside in
+    let s : StandsFor bytes kept = subst (λ (k : Kept). StandsFor bytes k) (sym c.self.view_is) stands in
+    let same = slices_read bytes c.as_slice.result.now kept s c.as_slice.ensures c.in_ok-header.ensures.accepted c.in_ok-header.header c.in_ok-header.ensures.words
+    c.as_slice-counters.result.now c.as_slice-2.result.now c.as_slice-counters.ensures.value c.as_slice-2.ensures.value in
+    let none = file_accepted bytes c.as_slice.result.now kept s c.as_slice.ensures c.in_ok-header.ensures.accepted c.in_ok-header.header c.in_ok-header.ensures.words
+    c.as_slice-counters.result.now c.as_slice-2.result.now c.as_slice-counters.ensures.value c.as_slice-2.ensures.value in
+    subst (λ (recs : List WideRec). IsWithin (with_records recs c.args.profile.now)) same (c.requires.2 none)
+
+pub returns-in_err-add_parts-clause-refusal : goal.returns-in_err-add_parts-clause-refusal
+returns-in_err-add_parts-clause-refusal c = λ bytes stands.
+    let kept = view_of c.self.inside in
+    let s : StandsFor bytes kept = subst (λ (k : Kept). StandsFor bytes k) (sym c.self.view_is) stands in
+    let same = slices_read bytes c.as_slice.result.now kept s c.as_slice.ensures c.in_ok-header.ensures.accepted c.in_ok-header.header c.in_ok-header.ensures.words
+    c.as_slice-counters.result.now c.as_slice-2.result.now c.as_slice-counters.ensures.value c.as_slice-2.ensures.value in
+    let refusal = c.in_err-add_parts.field-0.0 in
+    let none = sym (given bytes c.as_slice.result.now kept s c.as_slice.ensures) ∙ c.in_ok-header.ensures.accepted in
+    let stopped = subst (λ (recs : List WideRec). IsStopped refusal recs c.args.profile.now c.add_parts.new.profile) (sym same) c.in_err-add_parts.ensures.stopped in
+    let p = err_from_is_err_and c.from_residual-in_err-add_parts.result c.from_residual-in_err-add_parts.ensures.1 in
+    rw (p.1, p.2) (none, stopped_conflict refusal (spelled_records bytes) c.args.profile.now c.add_parts.new.profile stopped)
+
+pub returns-in_err-add_parts-clause-left : goal.returns-in_err-add_parts-clause-left
+returns-in_err-add_parts-clause-left c = λ bytes stands.
+    let kept = view_of c.self.inside in
+    let s : StandsFor bytes kept = subst (λ (k : Kept). StandsFor bytes k) (sym c.self.view_is) stands in
+    let same = slices_read bytes c.as_slice.result.now kept s c.as_slice.ensures c.in_ok-header.ensures.accepted c.in_ok-header.header c.in_ok-header.ensures.words
+    c.as_slice-counters.result.now c.as_slice-2.result.now c.as_slice-counters.ensures.value c.as_slice-2.ensures.value in
+    let p = err_from_is_err_and c.from_residual-in_err-add_parts.result c.from_residual-in_err-add_parts.ensures.1 in
+    rw (p.1, p.2) (subst (λ (recs : List WideRec). IsStopped c.in_err-add_parts.field-0.0 recs c.args.profile.now c.add_parts.new.profile) (sym same) c.in_err-add_parts.ensures.stopped)
+
+pub returns-clause-accepted : goal.returns-clause-accepted
+returns-clause-accepted c = λ bytes stands.
+    let s : StandsFor bytes (view_of c.self.inside) = subst (λ (k : Kept). StandsFor bytes k) (sym c.self.view_is) stands in
+    sym (given bytes c.as_slice.result.now (view_of c.self.inside) s c.as_slice.ensures) ∙ c.in_ok-header.ensures.accepted
+
+pub returns-clause-like : goal.returns-clause-like
+returns-clause-like c = λ bytes stands.
+    let kept = view_of c.self.inside in
+    let s : StandsFor bytes kept = subst (λ (k : Kept). StandsFor bytes k) (sym c.self.view_is) stands in
+    let same = slices_read bytes c.as_slice.result.now kept s c.as_slice.ensures c.in_ok-header.ensures.accepted c.in_ok-header.header c.in_ok-header.ensures.words
+    c.as_slice-counters.result.now c.as_slice-2.result.now c.as_slice-counters.ensures.value c.as_slice-2.ensures.value in
+    subst (λ (recs : List WideRec). conflict_of c.args.profile.now recs ≡ None) (sym same) c.in_ok-add_parts.ensures.added.accepted
+
+pub returns-clause-added : goal.returns-clause-added
+returns-clause-added c = λ bytes stands.
+    let kept = view_of c.self.inside in
+    let s : StandsFor bytes kept = subst (λ (k : Kept). StandsFor bytes k) (sym c.self.view_is) stands in
+    let same = slices_read bytes c.as_slice.result.now kept s c.as_slice.ensures c.in_ok-header.ensures.accepted c.in_ok-header.header c.in_ok-header.ensures.words
+    c.as_slice-counters.result.now c.as_slice-2.result.now c.as_slice-counters.ensures.value c.as_slice-2.ensures.value in
+    c.in_ok-add_parts.ensures.added.added ∙ ap (λ (recs : List WideRec). with_records recs c.args.profile.now) (sym same)

@@ -1,0 +1,16 @@
+use Rattle.std.proofs.Common.{◌≡◌, length, refl, ap, ◌∙◌, arith}
+use Rattle.std.proofs.lemmas.Bool.{le-ltb}
+use Rattle.gmon_data.specs.declared.hist.Hist.{Hist}
+use Rattle.gmon_data.specs.Content.{hist_over, with_hist}
+use Rattle.gmon_data.proofs.ContentLemmas.{hist_stands, with_none}
+use Rattle.gmon_data.proofs.profile.Profile.add_counts.Goals as goal
+
+pub returns-then-is_empty-clause-stands : goal.returns-then-is_empty-clause-stands
+returns-then-is_empty-clause-stands c =
+    let none : length c.args.counts.now ≡ 0 = grind (arith, c.is_empty.ensures, c.if-is_empty.true) in
+    hist_stands (hist_over c.args.low c.args.high c.args.counts.now) c.args.«unit» c.args.self.now c.args.self.now c.args.self.now refl
+    (with_none (hist_over c.args.low c.args.high c.args.counts.now) c.args.«unit» c.args.self.now (le-ltb 0 (length c.args.counts.now) (omega (arith, none))))
+
+pub returns-clause-stands : goal.returns-clause-stands
+returns-clause-stands c =
+    hist_stands (hist_over c.args.low c.args.high c.args.counts.now) c.args.«unit» c.args.self.now c.args.self.now _ refl (c.in_ok-keep.ensures.added ∙ ap (λ (h : Hist). with_hist h c.args.«unit» c.args.self.now) c.in_ok-hist.ensures)

@@ -1,0 +1,88 @@
+//! Adding what was read of a file to a profile.
+
+ghost use Rattle.std.specs.Prelude.{◌≡◌, ◌≤◌, length, IfErr, OnOk};
+ghost use Rattle.gp_base.specs.Spans.{HasRange};
+ghost use Rattle.gmon_data.specs.Content.{wide_record, wide_records, with_records, IsAdded, IsStopped, IsWithin as IsWithinLimits};
+ghost use Rattle.gmon_gnu.specs.Adding.{entries_recs, HaveRanges};
+ghost use Rattle.gmon_gnu.specs.Held.{entry_recs, rec_of, recs_of, AreWithin, IsBodyWithin, IsWithin};
+
+use crate::state::{Body, Entry, State};
+use gmon_data::{AddRefusal, Profile};
+use gp_base::{RawArc, RawBlock};
+
+impl State {
+    /// Adds the records to a profile, without a list of them. Room for all arcs is taken first, where there
+    /// is some.
+    pub(crate) fn add_to(&self, profile: &mut Profile) -> Result<(), AddRefusal>
+        requires held { AreWithin self.now }
+        requires run { self.now.run ≤ length self.now.arcs.items }
+        requires ranges { HaveRanges self.now }
+        requires within { IsWithinLimits (with_records (wide_records (recs_of self.now)) profile.old) }
+        ensures added { OnOk result (IsAdded (wide_records (recs_of self.now)) profile.old profile.new) }
+        ensures stopped { IfErr result (λ refusal. IsStopped refusal (wide_records (recs_of self.now)) profile.old profile.new) }
+    {
+        let arcs = self.arcs.as_slice();
+        let _ = profile.reserve_arcs(arcs.len());
+        self.add_entries(profile)?;
+        profile.add_arcs(&arcs[self.run..])?;
+        Ok(())
+    }
+
+    /// Adds the records of the entries.
+    fn add_entries(&self, profile: &mut Profile) -> Result<(), AddRefusal>
+        requires held { AreWithin self.now }
+        requires ranges { HaveRanges self.now }
+        requires within { IsWithinLimits (with_records (entries_recs self.now.counters.cells.items self.now.pairs.cells.items self.now.arcs.items self.now.entries.items) profile.old) }
+        ensures added { OnOk result (IsAdded (entries_recs self.now.counters.cells.items self.now.pairs.cells.items self.now.arcs.items self.now.entries.items) profile.old profile.new) }
+        ensures stopped { IfErr result (λ refusal. IsStopped refusal (entries_recs self.now.counters.cells.items self.now.pairs.cells.items self.now.arcs.items self.now.entries.items) profile.old profile.new) }
+    {
+        let counters = self.counters.cells.as_slice();
+        let pairs = self.pairs.cells.as_slice();
+        let arcs = self.arcs.as_slice();
+        let entries = self.entries.as_slice();
+        for i in 0..entries.len() {
+            add_entry(profile, entries[i], counters, pairs, arcs)?;
+        }
+        Ok(())
+    }
+}
+
+/// Adds the records of an entry: the arcs before it, and what it stands for.
+fn add_entry(
+    profile: &mut Profile,
+    entry: Entry,
+    counters: &[u16],
+    pairs: &[RawBlock],
+    arcs: &[RawArc],
+) -> Result<(), AddRefusal>
+    requires spans { IsWithin (length counters.now) (length pairs.now) (length arcs.now) entry }
+    requires range { HasRange (rec_of counters.now pairs.now entry.body) }
+    requires within { IsWithinLimits (with_records (wide_records (entry_recs counters.now pairs.now arcs.now entry)) profile.old) }
+    ensures added { OnOk result (IsAdded (wide_records (entry_recs counters.now pairs.now arcs.now entry)) profile.old profile.new) }
+    ensures stopped { IfErr result (λ refusal. IsStopped refusal (wide_records (entry_recs counters.now pairs.now arcs.now entry)) profile.old profile.new) }
+{
+    profile.add_arcs(&arcs[entry.first..entry.last])?;
+    add_body(profile, entry.body, counters, pairs)
+}
+
+/// Adds the record that counters or pairs belong to.
+fn add_body(
+    profile: &mut Profile,
+    body: Body,
+    counters: &[u16],
+    pairs: &[RawBlock],
+) -> Result<(), AddRefusal>
+    requires spans { IsBodyWithin (length counters.now) (length pairs.now) body }
+    requires range { HasRange (rec_of counters.now pairs.now body) }
+    requires within { IsWithinLimits (with_records (wide_record (rec_of counters.now pairs.now body)) profile.old) }
+    ensures added { OnOk result (IsAdded (wide_record (rec_of counters.now pairs.now body)) profile.old profile.new) }
+    ensures stopped { IfErr result (λ refusal. IsStopped refusal (wide_record (rec_of counters.now pairs.now body)) profile.old profile.new) }
+{
+    match body {
+        Body::Hist { fields, start, end } => {
+            let counts = &counters[start..end];
+            profile.add_counts(fields.low, fields.high, fields.unit, counts)
+        }
+        Body::Blocks { start, end } => Ok(profile.add_blocks(&pairs[start..end])?),
+    }
+}
