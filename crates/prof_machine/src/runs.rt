@@ -144,8 +144,7 @@ impl Run {
         ensures few { work_left self.old ≤ most_turns self.old.machine.setup }
         ensures less { IsLive self.new → work_left self.new < work_left self.old }
     {
-        let note = self.advance(hart, host)?;
-        self.note = note;
+        self.advance(hart, host)?;
         Ok(self.turned())
     }
 
@@ -169,15 +168,10 @@ impl Run {
         ensures writing { (H.outside host.new).is_writing ≡ (H.outside host.old).is_writing }
         ensures input { KeepsInput (H.outside host.old) (H.outside host.new) }
     {
-        let mut plan = PlanWalk::new(&self.machine.setup);
-        'turns: loop {
-            let hart = plan.next_hart();
-            let _note = self.advance(hart, host)?;
-            match self.turned() {
-                Turned::Going => {}
-                Turned::Ended(end) => return Ok(end),
-            }
-        }
+        let kept = self.note;
+        let end = self.advance_to_end(host);
+        self.note = kept;
+        end
     }
 
     /// What the last turn did that `turn` made and answered Ok. Takes no memory.
@@ -231,16 +225,44 @@ impl Run {
         }
     }
 
-    // One turn of a hart, whose note is answered and not kept.
+    // The turns of the plan up to the end of the run, each of which leaves its note.
+    fn advance_to_end<H: Host>(&mut self, host: &mut H) -> Result<End, Failed>
+        requires { IsLive self.old }
+        ensures stands { OnOk result ((w : World) → StandsFor w self.old → StandsFor (driven self.old.machine w) self.new) }
+        ensures answer { IfOk result (λ end. self.new.ending ≡ Some end) }
+        ensures live { IsLive self.new → ⊥ }
+        ensures machine { self.new.machine ≡ self.old.machine }
+        ensures prints { OnOk result ((w : World) → StandsFor w self.old
+            → ArePrinted w (driven self.old.machine w) (H.outside host.old) (H.outside host.new)) }
+        ensures fails { OnErr result ((w : World) → StandsFor w self.old
+            → (n : ℕ) × (n < most_turns self.old.machine.setup) × ((planned self.old.machine w n).ending ≡ None)
+            × BreaksOff w (planned self.old.machine w (n + 1)) (H.outside host.old) (H.outside host.new)) }
+        ensures counts { MatchResult result (λ _. KeepsCounts (H.outside host.old) (H.outside host.new)) (λ _. PrintFailed (H.outside host.old) (H.outside host.new)) }
+        ensures writing { (H.outside host.new).is_writing ≡ (H.outside host.old).is_writing }
+        ensures input { KeepsInput (H.outside host.old) (H.outside host.new) }
+    {
+        let mut plan = PlanWalk::new(&self.machine.setup);
+        'turns: loop {
+            let hart = plan.next_hart();
+            self.advance(hart, host)?;
+            match self.turned() {
+                Turned::Going => {}
+                Turned::Ended(end) => return Ok(end),
+            }
+        }
+    }
+
+    // One turn of a hart, which leaves its note in its place: it isn't handed through answers, since that
+    // would copy it in each turn.
     #[inline(always)]
-    fn advance<H: Host>(&mut self, hart: u32, host: &mut H) -> Result<TurnNote, Failed>
+    fn advance<H: Host>(&mut self, hart: u32, host: &mut H) -> Result<(), Failed>
         requires live { IsLive self.old }
         requires hart { hart < self.old.machine.setup.harts }
         ensures stands { OnOk result ((w : World) → StandsFor w self.old → StandsFor (turn_of self.old.machine w hart) self.new) }
         ensures live { IsLive self.new ↔ (IsOk result × (self.new.ending ≡ None)) }
         ensures machine { self.new.machine ≡ self.old.machine }
-        ensures note { IfOk result (λ note. (w : World) → StandsFor w self.old → note ≡ note_of self.old.machine w hart) }
-        ensures kept { self.new.note ≡ self.old.note }
+        ensures note { OnOk result ((w : World) → StandsFor w self.old → self.new.note ≡ note_of self.old.machine w hart) }
+        ensures kept { OnErr result (self.new.note ≡ self.old.note) }
 
         // What the outside has gained.
         ensures prints { OnOk result ((w : World) → StandsFor w self.old
@@ -265,7 +287,8 @@ impl Run {
         };
         self.close();
         self.live = self.ending.is_none();
-        Ok(note)
+        self.note = note;
+        Ok(())
     }
 
     // How the run stands between two turns.

@@ -5,7 +5,7 @@ use Rattle.prof_machine.specs.Prints.{ArePrinted, BreaksOff}
 use Rattle.prof_machine.proofs.ActLemmas.{breaks_as, nothing_printed, printed_as}
 use Rattle.prof_machine.proofs.ResultLemmas.{on_err_any}
 use Rattle.prof_machine.proofs.TurnLemmas.{taken_instructed, turn_prints, turn_stands}
-use Rattle.prof_machine.proofs.StandingLemmas.{with_live}
+use Rattle.prof_machine.proofs.StandingLemmas.{with_live, with_note}
 use Rattle.prof_machine.specs.Value.{RunValue, StandsFor, value_of, work_left}
 use Rattle.std.proofs.Common.{◌≤◌, None}
 use Rattle.prof_machine.proofs.DriveLemmas.{work_bound}
@@ -30,7 +30,7 @@ pub returns-clause-stands : goal.returns-clause-stands
 returns-clause-stands g c = λ w st.
     let a = c.self.inside in
     let h = c.args.hart in
-    let P : RunValue → Type 0 = λ v. v.live ≡ true → StandsFor w v → StandsFor (turn_of v.machine w h) (value_of (record c.self-2.inside { live = c.is_none-self-inside.result })) in
+    let P : RunValue → Type 0 = λ v. v.live ≡ true → StandsFor w v → StandsFor (turn_of v.machine w h) (value_of (record c.self-2.inside { live = c.is_none-self-inside.result; note = c.if-holds_walk.note })) in
     let V : RunValue → Type 0 = λ v. StandsFor (closed (taken a.machine h (left_of w.left h) w)) v in
     subst P c.self.view_is (λ live (s : StandsFor w (value_of a)).
     let s' : StandsFor w (value_of (record a { live = false })) = with_live w (value_of a) false s in
@@ -42,7 +42,7 @@ returns-clause-stands g c = λ w st.
           subst Q (sym b.self-is) (subst R (sym (taken_instructed a.machine h w (value_of (record a { live = false })) (sym b.if-holds_walk.ensures) s')) (b.in_ok-note.ensures.stands w s'))
     ] in
     turn_stands a.machine h w (value_of a) _ (c.self.invariant.going live) s
-    (with_live _ (value_of c.self-2.inside) _ (subst V (sym c.self-2.view_is) (c.close.ensures.stands _ mid)))) c.requires.live st
+    (with_note _ (value_of c.self-2.inside) _ _ (subst V (sym c.self-2.view_is) (c.close.ensures.stands _ mid)))) c.requires.live st
 
 pub returns-clause-prints : goal.returns-clause-prints
 returns-clause-prints g c = λ w st.

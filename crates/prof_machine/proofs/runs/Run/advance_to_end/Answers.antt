@@ -8,7 +8,7 @@ use Rattle.prof_machine.specs.Prints.{ArePrinted, BreaksOff}
 use Rattle.prof_machine.specs.Schedule.{Draws}
 use Rattle.prof_machine.specs.Value.{RunValue, StandsFor, work_left}
 use Rattle.prof_machine.specs.World.{World}
-use Rattle.prof_machine.proofs.runs.Run.drive.Goals as goal
+use Rattle.prof_machine.proofs.runs.Run.advance_to_end.Goals as goal
 
 pub turns-init : goal.turns-init
 turns-init g c =
@@ -20,7 +20,6 @@ turns-init g c =
       live = c.requires;
       going = subst G c.self.view_is c.self.invariant.going c.requires;
       machine = refl;
-      note = refl;
       turns = 0;
       draws = subst (λ (v : RunValue). Draws v.machine.setup 0 c.new-plan.result) c.self.view_is c.new-plan.ensures;
       few = omega (arith, bound);
@@ -35,7 +34,7 @@ pub turns-preserved : goal.turns-preserved
 turns-preserved g c =
     let m = c.args.self.now.machine in
     let i = c.turns.invariant in
-    let t = c.in_ok-_note.ensures in
+    let t = c.in_ok-advance.ensures in
     let hart = c.next_hart-hart.ensures in
     let going = going_answer c.advance.new.self.ending (sym c.in-Going.ensures) in
     let live = t.live.1 (refl, going) in
@@ -43,7 +42,6 @@ turns-preserved g c =
       live = live;
       going = going;
       machine = t.machine ∙ i.machine;
-      note = t.kept ∙ i.note;
       turns = i.turns + 1;
       draws = hart.draws _ _ i.draws;
       few = omega (arith, i.few, t.less live);
@@ -59,7 +57,7 @@ pub returns-in-Ended-clause-stands : goal.returns-in-Ended-clause-stands
 returns-in-Ended-clause-stands g c = λ w st.
     let m = c.args.self.now.machine in
     let i = c.turns.invariant in
-    let t = c.in_ok-_note.ensures in
+    let t = c.in_ok-advance.ensures in
     let P : World → Type 0 = λ v. StandsFor v c.advance.new.self in
     let stands = in_next P m c.turns.self.machine w i.turns c.next_hart-hart.result i.machine (c.next_hart-hart.ensures.taker _ _ i.draws) (t.stands _ (i.stands w st)) in
     in_last P m w c.advance.new.self (i.turns + 1) c.in-Ended.end (omega (arith, i.few, t.left)) (ended_answer c.advance.new.self.ending c.in-Ended.end (sym c.in-Ended.ensures)) stands stands
@@ -68,18 +66,18 @@ pub returns-in-Ended-clause-prints : goal.returns-in-Ended-clause-prints
 returns-in-Ended-clause-prints g c = λ w st.
     let m = c.args.self.now.machine in
     let i = c.turns.invariant in
-    let t = c.in_ok-_note.ensures in
+    let t = c.in_ok-advance.ensures in
     let P : World → Type 0 = λ v. StandsFor v c.advance.new.self in
     let Q : World → Type 0 = λ v. ArePrinted w v (g.H.Host.outside c.args.host.now) (g.H.Host.outside c.advance.new.host) in
     in_last Q m w c.advance.new.self (i.turns + 1) c.in-Ended.end (omega (arith, i.few, t.left)) (ended_answer c.advance.new.self.ending c.in-Ended.end (sym c.in-Ended.ensures))
     (in_next P m c.turns.self.machine w i.turns c.next_hart-hart.result i.machine (c.next_hart-hart.ensures.taker _ _ i.draws) (t.stands _ (i.stands w st)))
     (in_next Q m c.turns.self.machine w i.turns c.next_hart-hart.result i.machine (c.next_hart-hart.ensures.taker _ _ i.draws) (printed_then w _ _ _ _ _ (i.prints w st) (t.prints _ (i.stands w st))))
 
-pub returns-in_err-_note-clause-fails : goal.returns-in_err-_note-clause-fails
-returns-in_err-_note-clause-fails g c = on_err_any _ _ c.from_residual.result _ (λ w st.
+pub returns-in_err-advance-clause-fails : goal.returns-in_err-advance-clause-fails
+returns-in_err-advance-clause-fails g c = on_err_any _ _ c.from_residual.result _ (λ w st.
     let m = c.args.self.now.machine in
     let i = c.turns.invariant in
-    let t = c.in_err-_note.ensures in
+    let t = c.in_err-advance.ensures in
     let Q : World → Type 0 = λ v. BreaksOff w v (g.H.Host.outside c.args.host.now) (g.H.Host.outside c.advance.new.host) in (
       i.turns,
       omega (arith, i.few, t.left),
