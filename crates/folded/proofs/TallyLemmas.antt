@@ -30,7 +30,7 @@ plain e = (e.0.items, e.1)
 abbrev pub shown : Bor Key × Bor ℕ → List (Option ℕ) × ℕ
 shown e = (e.0.now.items, e.1.now)
 
-abbrev key_cmp : Key → Key → Ordering
+abbrev pub key_cmp : Key → Key → Ordering
 key_cmp a b = stack_cmp a.items b.items
 
 insert_by : (o : Ordering) (k : Key) (v : ℕ) (e : Key × ℕ) (es : List (Key × ℕ)) → map plain (insert_entry key_cmp es k v) ≡ insert_entry stack_cmp (map plain es) k.items v

@@ -1,7 +1,7 @@
 -- The shadows and the samples of turns one after the other.
 use Rattle.std.proofs.Common.{◌≡◌, ◌∙◌, ◌+◌, ◌≤◌, ℕ, List, [], ◌∷◌, ◌++◌, Some, None, Option, if◌then◌else◌, append-nil, append_assoc, ap, drop, map, refl, sym}
 use Rattle.std.specs.List.{cons_option}
-use Rattle.std.proofs.lemmas.List.{map-append, set-get_or}
+use Rattle.std.proofs.lemmas.List.{map-append}
 use Rattle.mcount_arcs.specs.Samples.{counted_samples}
 use Rattle.prof_machine.proofs.NotedLemmas.{samples_noted}
 use Rattle.prof_machine.specs.Laws.{noted_samples}
@@ -15,7 +15,8 @@ use Rattle.prof_machine.specs.declared.ending.End.{End}
 use Rattle.prof_machine.specs.declared.machine.Machine.{Machine}
 use Rattle.prof_machine.specs.declared.notes.TurnNote.{TurnNote}
 use Rattle.std.specs.Prelude.{is_some}
-use Rattle.folded.specs.Shadow.{after_ran, empty_shadow}
+use Rattle.folded.specs.Shadow.{after_ran}
+use Rattle.folded.proofs.FollowLemmas.{quiet_followed}
 use Rattle.folded.specs.Trail.{StackSample, Trail, first_trail, followed, run_samples, samples_after, samples_of, shadow_of, trail_after, trail_from}
 
 pub trail_from-append : (m : Machine) (w : World) (t : Trail) (front back : List ℕ) → trail_from m w t (front ++ back) ≡ trail_from m (world_after m w front) (trail_from m w t front) back
@@ -36,18 +37,12 @@ ended_note : (m : Machine) (w : World) (h : ℕ) (end : End) → w.ending ≡ So
 unfolding note_of
 ended_note m w h end is = ap (λ (o : Option End). if is_some o then look_note None else note_by m h (left_of w.left h) w) is
 
-nothing_followed : (h : ℕ) (t : Trail) → followed h (look_note None) t ≡ t
-unfolding followed
-nothing_followed h t =
-    ap (λ x. record { shadows = x; samples = t.samples ++ [] }) (set-get_or t.shadows h empty_shadow)
-    ∙ ap (λ (x : List StackSample). record { shadows = t.shadows; samples = x }) (append-nil t.samples)
-
 trail_ended : (m : Machine) (w : World) (t : Trail) (turns : List ℕ) (end : End) → w.ending ≡ Some end → trail_from m w t turns ≡ t
 trail_ended m w t [] end is = refl
 trail_ended m w t (h ∷ turns) end is =
     ap (λ (v : World). trail_from m v (followed h (note_of m w h) t) turns) (ended_turn m w h end is)
     ∙ ap (λ (note : TurnNote). trail_from m w (followed h note t) turns) (ended_note m w h end is)
-    ∙ ap (λ (x : Trail). trail_from m w x turns) (nothing_followed h t)
+    ∙ ap (λ (x : Trail). trail_from m w x turns) (quiet_followed h (look_note None) t refl)
     ∙ trail_ended m w t turns end is
 
 -- the turn in which the run ends is the last

@@ -53,6 +53,11 @@ is_register_jump op = false
 abbrev pub is_return : Instr → Bool
 is_return i = is_register_jump i.op && (i.rd == 0) && (i.rs1 == 1)
 
+-- an instruction that is neither, or none
+abbrev pub keeps_shadow : Option Ran → Bool
+keeps_shadow None = true
+keeps_shadow (Some r) = not (is_call r.instr) && not (is_return r.instr)
+
 unfoldable pub after_instruction : Ran → Shadow → Shadow
 after_instruction r s = if is_call r.instr then with_call (next_of r.pc) s else (if is_return r.instr then with_return r.next s else s)
 

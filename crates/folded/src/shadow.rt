@@ -1,7 +1,7 @@
 //! The shadow of a hart's stack: where its calls are to return to.
 
 ghost use Rattle.std.specs.Prelude.{◌≡◌, ◌+◌, ◌^◌, ◌<◌, ◌≤◌, Option, Some, None, length, take};
-ghost use Rattle.folded.specs.Shadow.{after_hook, after_instruction, after_ran, empty_shadow, frames_before, is_call as is_call_of, is_return as is_return_of, with_call, with_return};
+ghost use Rattle.folded.specs.Shadow.{after_hook, after_instruction, after_ran, empty_shadow, frames_before, is_call as is_call_of, is_return as is_return_of, keeps_shadow as keeps_shadow_of, with_call, with_return};
 
 use prof_machine::Ran;
 use rv_decode::{Instr, Op};
@@ -122,6 +122,16 @@ fn kept(frames: &[u32], to: u32) -> usize
         end -= 1;
     }
     if end == 0 { frames.len() } else { end - 1 }
+}
+
+/// Whether an instruction, if there is one, is neither a call nor a return.
+pub(crate) fn keeps_shadow(ran: &Option<Ran>) -> bool
+    ensures { result ≡ keeps_shadow_of ran.now }
+{
+    match ran {
+        Some(ran) => !is_call(&ran.instr) && !is_return(&ran.instr),
+        None => true,
+    }
 }
 
 /// Whether an instruction is a call: a jump that keeps its return address in ra.

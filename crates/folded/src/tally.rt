@@ -117,8 +117,8 @@ fn count(lines: &mut BTreeMap<Stack, u64>, stack: Stack) -> Result<(), AllocErro
     ensures counted { OnOk result (map (λ e. (e.0.items, e.1)) lines.new.entries ≡ with_stack (map (λ e. (e.0.items, e.1)) lines.old.entries) stack.items) }
     ensures kept { (n : ℕ) → All (λ k. k ≤ n) (values lines.old) → All (λ k. k ≤ n + 1) (values lines.new) }
 {
-    let before = lines.get(&stack).copied().unwrap_or(0);
-    lines.insert(stack, before + 1)?;
+    let samples = lines.entry(stack)?.or_insert(0);
+    *samples += 1;
     Ok(())
 }
 
@@ -163,7 +163,7 @@ pub(crate) fn stack_at(
     ensures value { IfOk result (λ stack. stack.items ≡ spec symbols.now frames.now f) }
     ensures functions { f < length symbols.now → IfOk result (λ stack. AreBelow (length symbols.now) stack.items) }
 {
-    let mut stack = Vec::new(alloc);
+    let mut stack = Vec::with_capacity(alloc, frames.len() + 1)?;
     for to in frames {
         stack.push(owner(symbols, to.wrapping_sub(4)))?;
     }

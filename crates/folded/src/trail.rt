@@ -7,9 +7,9 @@ ghost use Rattle.folded.specs.Folding.{Follows, HasRoom};
 ghost use Rattle.folded.specs.Shadow.{empty_shadow};
 ghost use Rattle.folded.specs.Stacks.{stacks_of};
 ghost use Rattle.folded.specs.Tally.{Folds};
-ghost use Rattle.folded.specs.Trail.{StackSample, Trail, first_trail, followed, samples_of};
+ghost use Rattle.folded.specs.Trail.{StackSample, Trail, first_trail, followed, is_quiet as is_quiet_of, samples_of};
 
-use crate::shadow::ShadowStack;
+use crate::shadow::{ShadowStack, keeps_shadow};
 use crate::tally::{Folded, stack_at};
 use elf32_syms::Symbol;
 use elf32_syms::owners::owner;
@@ -57,6 +57,31 @@ impl Tracker {
         ensures total { OnOk result (self.new.folded.total ≤ self.old.folded.total + 1) }
         ensures room { OnOk result ((turns : ℕ) → HasRoom turns self.old.shadows.items → HasRoom (turns + 1) self.new.shadows.items) }
     {
+        if is_quiet(&note) {
+            return Ok(());
+        }
+        self.apply(alloc, symbols, hart, note)
+    }
+
+    /// What a turn of this hart did, in this order.
+    fn apply(
+        &mut self,
+        alloc: Global,
+        symbols: &[Symbol],
+        hart: u32,
+        note: TurnNote,
+    ) -> Result<(), AllocError>
+        requires symbols { IsAscending symbols.now }
+        requires hart { hart < length self.old.shadows.items }
+        requires room { HasRoom (2 ^ 62) self.old.shadows.items }
+        requires total { self.old.folded.total < 2 ^ 62 }
+        requires functions { length self.old.folded.inclusive ≡ length symbols.now }
+        ensures follows { OnOk result ((t : Trail) → Follows symbols.now t self.old → Follows symbols.now (followed hart note t) self.new) }
+        ensures harts { OnOk result (length self.new.shadows.items ≡ length self.old.shadows.items) }
+        ensures functions { OnOk result (length self.new.folded.inclusive ≡ length self.old.folded.inclusive) }
+        ensures total { OnOk result (self.new.folded.total ≤ self.old.folded.total + 1) }
+        ensures room { OnOk result ((turns : ℕ) → HasRoom turns self.old.shadows.items → HasRoom (turns + 1) self.new.shadows.items) }
+    {
         let shadow = &mut self.shadows[hart as usize];
         shadow.run(note.ran);
         sample(
@@ -69,6 +94,13 @@ impl Tracker {
         shadow.leave_hook(note.returned);
         Ok(())
     }
+}
+
+/// Whether there is nothing to follow in a turn, as in most: neither a call, nor a return, nor a sample.
+fn is_quiet(note: &TurnNote) -> bool
+    ensures { result ≡ is_quiet_of note.now }
+{
+    note.sample.is_none() && note.returned.is_none() && keeps_shadow(&note.ran)
 }
 
 /// One more sample, if there is one and it lies in a function.
