@@ -13,4 +13,4 @@ pub mod ReportLemmas
 pub mod ExactLemmas
 pub mod RootLemmas
 pub mod RisingLemmas
-pub mod ListsLemmas
+pub mod LabelLemmas

@@ -1,18 +1,20 @@
 -- The parts of texts.
 use Rattle.std.proofs.Common.{◌≡◌, ◌≢◌, ◌<◌, ℕ, true, false, List, [], ◌∷◌, ◌++◌, length, append_assoc, refl, sym, ap, ◌∙◌, arith}
-use Rattle.std.specs.Prelude.{◌==◌, codes, decimal, filter, if◌then◌else◌, Bool, slice_index}
+use Rattle.std.specs.Prelude.{◌==◌, codes, decimal, filter, not, Bool}
 use Rattle.std.specs.List.{All, flat_map}
 use Rattle.std.proofs.lemmas.Bool.{eq-eqb, ne_eqb, false≢true}
 use Rattle.std.proofs.lemmas.Bool.Decides.{nat_tests}
 use Rattle.std.proofs.lemmas.List.Elements.{All-filter}
 use Rattle.std.proofs.lemmas.List.FromFn.{get_or-range_with_len, length-range_with_len}
-use Rattle.text_cols.specs.Columns.{spaces}
+use Rattle.text_cols.specs.Columns.{right_of, spaces}
 use Rattle.call_cycles.specs.Sums.{numbers_below}
-use Rattle.call_cycles.specs.declared.graphs.FunArc.{FunArc}
-use Rattle.call_cycles.specs.Graph.{arc_at, component_of, entering_of, is_outside, source_of, target_of}
+use Rattle.call_cycles.specs.Graph.{arc_at, component_of, entering_of}
+use Rattle.flat_report.specs.FlatText.{seconds_of}
 use Rattle.flat_report.specs.Sources.{Sources, name_of}
+use Rattle.graph_report.specs.ArcTimes.{arc_times, times_columns}
 use Rattle.graph_report.specs.GraphText.{arc_columns, arcs_from, arcs_into, arcs_to, bracketed, callee_line, caller_line, callers_text, calls_of_all, cycle_mark, cycle_text, front_text, function_columns, function_name, function_text, member_line, members_of, other_line, rule, primary_line, timed_columns, untimed_columns}
 use Rattle.graph_report.specs.Subjects.{cycle_line, function_line}
+use Rattle.graph_report.specs.declared.inputs.ArcTimes.{ArcTimes}
 use Rattle.graph_report.specs.declared.subjects.Subject.{Subject}
 use Rattle.graph_report.specs.declared.subjects.Subject.TheVariants.{Function}
 
@@ -50,20 +52,23 @@ other_whole columns name = sym (append_assoc (spaces 15 ++ columns ++ spaces 6) 
 
 -- ---- lines of arcs and members
 
-module _ (s : Sources) (number : Subject → ℕ) (i : ℕ) (columns : List ℕ) (f : ℕ) (are : columns ≡ arc_columns s i) where
-  pub caller_is : f ≡ (arc_at s.graph i).caller → other_line columns (function_name s number f) ≡ caller_line s number i
-  unfolding caller_line
-  caller_is caller =
-      ap (λ (t : List ℕ). other_line t (function_name s number f)) are ∙ ap (λ (h : ℕ). other_line (arc_columns s i) (function_name s number h)) caller
+caller_whole : (s : Sources) (number : Subject → ℕ) (i : ℕ) → other_line (times_columns s (arc_times s i)) (function_name s number (arc_at s.graph i).caller) ≡ caller_line s number i
+unfolding caller_line arc_columns times_columns
+caller_whole s number i = refl
 
-  pub callee_is : f ≡ (arc_at s.graph i).callee → other_line columns (function_name s number f) ≡ callee_line s number i
-  unfolding callee_line
-  callee_is callee =
-      ap (λ (t : List ℕ). other_line t (function_name s number f)) are ∙ ap (λ (h : ℕ). other_line (arc_columns s i) (function_name s number h)) callee
+callee_whole : (s : Sources) (number : Subject → ℕ) (i : ℕ) → other_line (times_columns s (arc_times s i)) (function_name s number (arc_at s.graph i).callee) ≡ callee_line s number i
+unfolding callee_line arc_columns times_columns
+callee_whole s number i = refl
 
-pub member_is : (s : Sources) (number : Subject → ℕ) (f : ℕ) (columns : List ℕ) → columns ≡ function_columns s f → other_line columns (function_name s number f) ≡ member_line s number f
+pub callee_is : (s : Sources) (number : Subject → ℕ) (i : ℕ) (t : ArcTimes) → t ≡ arc_times s i → other_line (times_columns s t) (function_name s number t.arc.callee) ≡ callee_line s number i
+callee_is s number i t is = ap (λ (u : ArcTimes). other_line (times_columns s u) (function_name s number u.arc.callee)) is ∙ callee_whole s number i
+
+pub caller_is : (s : Sources) (number : Subject → ℕ) (i : ℕ) (t : ArcTimes) → t ≡ arc_times s i → other_line (times_columns s t) (function_name s number t.arc.caller) ≡ caller_line s number i
+caller_is s number i t is = ap (λ (u : ArcTimes). other_line (times_columns s u) (function_name s number u.arc.caller)) is ∙ caller_whole s number i
+
+pub member_whole : (s : Sources) (number : Subject → ℕ) (f : ℕ) → (spaces 15 ++ function_columns s f ++ spaces 6) ++ (function_name s number f ++ codes "\n") ≡ member_line s number f
 unfolding member_line
-member_is s number f columns are = ap (λ (t : List ℕ). other_line t (function_name s number f)) are
+member_whole s number f = other_whole (function_columns s f) (function_name s number f)
 
 -- ---- callers
 
@@ -77,47 +82,26 @@ unfolding callers_text
 some_callers s number [] some = absurd (false≢true (sym some))
 some_callers s number (i ∷ more) some = refl
 
--- ---- arcs
+-- ---- columns
 
-outside_is : (s : Sources) (i c d : ℕ) → c ≡ source_of s.graph i → d ≡ target_of s.graph i → c ≢ d → is_outside s.graph i ≡ true
-outside_is s i c d source target apart = rw (ne_eqb (source_of s.graph i) (target_of s.graph i) (λ q. apart (source ∙ q ∙ sym target))) refl
+-- two times, and calls behind them
+pub timed_whole : (before : List ℕ) (rate own child : ℕ) (called : List ℕ) → before ++ (right_of (seconds_of rate own) 12 ++ right_of (seconds_of rate child) 12) ++ right_of called 22 ≡ before ++ timed_columns rate own child called
+unfolding timed_columns
+timed_whole before rate own child called = append_assoc before (right_of (seconds_of rate own) 12 ++ right_of (seconds_of rate child) 12) (right_of called 22)
 
-pub inside_is : (s : Sources) (i c d : ℕ) → c ≡ source_of s.graph i → d ≡ target_of s.graph i → c ≡ d → is_outside s.graph i ≡ false
-inside_is s i c d source target same = rw (eq-eqb (source_of s.graph i) (target_of s.graph i) (sym source ∙ same ∙ target)) refl
+module _ (s : Sources) (t : ArcTimes) (c d : ℕ) (source : c ≡ component_of s.graph t.arc.caller) (target : d ≡ component_of s.graph t.arc.callee) where
+  pub is_outside_arc : c ≢ d → not (component_of s.graph t.arc.caller == component_of s.graph t.arc.callee) ≡ true
+  is_outside_arc apart = ap not (ne_eqb (component_of s.graph t.arc.caller) (component_of s.graph t.arc.callee) (λ q. apart (source ∙ q ∙ sym target)))
 
--- what the code reads of an arc
-pub record IsArcRead (s : Sources) (i : ℕ) (a : FunArc) (c d : ℕ) : Type 0 where
-  pub arc : a ≡ arc_at s.graph i
-  pub source : c ≡ component_of s.graph a.caller
-  pub target : d ≡ component_of s.graph a.callee
+  pub inside_columns : c ≡ d → untimed_columns (decimal t.arc.count) ≡ times_columns s t
+  unfolding times_columns
+  inside_columns same = rw (eq-eqb (component_of s.graph t.arc.caller) (component_of s.graph t.arc.callee) (sym source ∙ same ∙ target)) refl
 
-module _ (s : Sources) (i : ℕ) (a : FunArc) (c d : ℕ) (is : IsArcRead s i a c d) where
-  target_is : d ≡ target_of s.graph i
-  target_is = is.target ∙ ap (λ (b : FunArc). component_of s.graph b.callee) is.arc
-
-  source_is : c ≡ source_of s.graph i
-  source_is = is.source ∙ ap (λ (b : FunArc). component_of s.graph b.caller) is.arc
-
-  pub is_outside_arc : c ≢ d → is_outside s.graph i ≡ true
-  is_outside_arc = outside_is s i c d source_is target_is
-
-  pub inside_columns : (text : List ℕ) → c ≡ d → text ≡ untimed_columns (decimal a.count) → text ≡ arc_columns s i
-  unfolding arc_columns
-  inside_columns text same is_text =
-      is_text ∙ ap (λ (b : FunArc). untimed_columns (decimal b.count)) is.arc
-      ∙ ap (λ (b : Bool). if b then timed_columns s.rate (slice_index s.flow.arc_self i) (slice_index s.flow.arc_child i) (calls_of_all (arc_at s.graph i).count (entering_of s.graph (target_of s.graph i))) else untimed_columns (decimal (arc_at s.graph i).count))
-      (sym (inside_is s i c d source_is target_is same))
-
-  pub outside_columns : (text : List ℕ) (own child all : ℕ) → c ≢ d → own ≡ slice_index s.flow.arc_self i → child ≡ slice_index s.flow.arc_child i → all ≡ entering_of s.graph d → text ≡ timed_columns s.rate own child (calls_of_all a.count all) → text ≡ arc_columns s i
-  unfolding arc_columns
-  outside_columns text own child all apart is_own is_child is_all is_text =
-      is_text
-      ∙ ap (λ (x : ℕ). timed_columns s.rate x child (calls_of_all a.count all)) is_own
-      ∙ ap (λ (x : ℕ). timed_columns s.rate (slice_index s.flow.arc_self i) x (calls_of_all a.count all)) is_child
-      ∙ ap (λ (x : ℕ). timed_columns s.rate (slice_index s.flow.arc_self i) (slice_index s.flow.arc_child i) (calls_of_all a.count x)) (is_all ∙ ap (entering_of s.graph) target_is)
-      ∙ ap (λ (b : FunArc). timed_columns s.rate (slice_index s.flow.arc_self i) (slice_index s.flow.arc_child i) (calls_of_all b.count (entering_of s.graph (target_of s.graph i)))) is.arc
-      ∙ ap (λ (b : Bool). if b then timed_columns s.rate (slice_index s.flow.arc_self i) (slice_index s.flow.arc_child i) (calls_of_all (arc_at s.graph i).count (entering_of s.graph (target_of s.graph i))) else untimed_columns (decimal (arc_at s.graph i).count))
-      (sym (is_outside_arc apart))
+  pub outside_columns : (all : ℕ) → c ≢ d → all ≡ entering_of s.graph d → timed_columns s.rate t.own t.child (calls_of_all t.arc.count all) ≡ times_columns s t
+  unfolding times_columns
+  outside_columns all apart is_all =
+      let part : all ≡ entering_of s.graph (component_of s.graph t.arc.callee) = is_all ∙ ap (entering_of s.graph) target in
+      rw (is_outside_arc apart, part) refl
 
 -- ---- entries
 

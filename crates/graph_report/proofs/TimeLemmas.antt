@@ -1,5 +1,5 @@
 -- No time is greater than that of all functions.
-use Rattle.std.proofs.Common.{◌≡◌, ◌<◌, ◌≤◌, ℕ, true, refl, arith}
+use Rattle.std.proofs.Common.{◌≡◌, ◌<◌, ◌≤◌, ◌^◌, ℕ, true, refl, arith}
 use Rattle.std.proofs.lemmas.Bool.{eq-eqb}
 use Rattle.call_cycles.specs.Flow.{carried_by, time_of}
 use Rattle.call_cycles.specs.Graph.{arc_count, component_count, is_outside, leaves, source_of}
@@ -7,6 +7,7 @@ use Rattle.call_cycles.specs.Sums.{when}
 use Rattle.call_cycles.proofs.NumberingLemmas.{source_within}
 use Rattle.symbol_shares.specs.Shares.{attributed_of}
 use Rattle.flat_report.specs.Sources.{AreOfOne, Sources}
+use Rattle.graph_report.specs.ArcTimes.{AreTimes, arc_times}
 use Rattle.propagate.proofs.BoundLemmas.{within_all}
 use Rattle.propagate.proofs.SumLemmas.{term_le_sum}
 
@@ -27,3 +28,11 @@ module _ (s : Sources) (are : AreOfOne s) where
       let one = term_le_sum (arc_count s.graph) (λ j. when (leaves s.graph c j) (carried_by s.flow j)) i low in
       let this : when (leaves s.graph c i) (carried_by s.flow i) ≡ carried_by s.flow i = rw (outside, eq-eqb c c refl) refl in
       omega arith
+
+  -- what is looked up of an arc is in the ranges of a report's numbers
+  pub times_within : attributed_of s.shares < 2 ^ 65 → (i : ℕ) → i < arc_count s.graph → AreTimes s (arc_times s i)
+  times_within small i low = record {
+    caller = are.graph.arcs.callers i low;
+    callee = are.graph.arcs.callees i low;
+    small = λ outside. let all = arc_within i low outside in (omega arith, omega arith);
+  }

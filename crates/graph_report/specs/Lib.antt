@@ -9,3 +9,5 @@ pub mod Rows
 pub mod Numbers
 pub mod Subjects
 pub mod Roots
+pub mod ArcTimes
+pub mod Labels

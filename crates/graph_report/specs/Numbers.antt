@@ -1,11 +1,9 @@
 -- The numbers of entries, as the code has them.
-use Rattle.std.specs.Prelude.{◌≡◌, ◌<◌, ℕ, List, length, slice_index}
-use Rattle.std.specs.Global.{Vec}
+use Rattle.std.specs.Prelude.{◌≡◌, ◌<◌, ℕ, length, slice_index}
 use Rattle.flat_report.specs.Sources.{Sources}
 use Rattle.graph_report.specs.Entries.{number_in, ordered}
-use Rattle.graph_report.specs.GraphText.{tail_of}
 use Rattle.graph_report.specs.Inputs.{AreInputs, sources_of}
-use Rattle.graph_report.specs.Prepared.{AreLists}
+use Rattle.graph_report.specs.Labels.{AreLabels}
 use Rattle.graph_report.specs.declared.numbers.Numbers.{Numbers}
 use Rattle.graph_report.specs.declared.numbers.Report.{Report}
 use Rattle.graph_report.specs.declared.subjects.Subject.{Subject}
@@ -18,10 +16,6 @@ pub record AreNumbers (s : Sources) (n : Numbers) : Type 0 where
   -- by heads
   pub cycles : (head : ℕ) → head < s.graph.functions → slice_index n.cycles.items head ≡ number_in (ordered s) (Cycle head)
 
--- what stands behind the name of each function
-abbrev pub AreTails : Sources → List (Vec ℕ) → Type 0
-AreTails s tails = AreLists s.graph.functions (tail_of s.graph (number_in (ordered s))) tails
-
 -- the number of an entry
 abbrev pub number_of : Report → Subject → ℕ
 number_of r = number_in (ordered (sources_of r.inputs))
@@ -29,4 +23,4 @@ number_of r = number_in (ordered (sources_of r.inputs))
 pub record IsReport (r : Report) : Type 0 where
   pub inputs : AreInputs r.inputs
   pub numbers : AreNumbers (sources_of r.inputs) r.numbers
-  pub tails : AreTails (sources_of r.inputs) r.tails.items
+  pub labels : AreLabels (sources_of r.inputs) r.labels

@@ -13,7 +13,7 @@ ghost use Rattle.graph_report.specs.Subjects.{IsSubject, cycle_line, function_li
 ghost use Rattle.graph_report.specs.declared.subjects.Subject.TheVariants.{Cycle, Function};
 
 use crate::lines::{put_callees, put_callers, put_members};
-use crate::names::{put_cycle_name, put_function_name};
+use crate::names::put_cycle_name;
 use crate::numbers::Report;
 use crate::subjects::Subject;
 use crate::{columns, line};
@@ -31,13 +31,16 @@ fn function_front(report: &Report<'_>, f: u32) -> Line
         result ≡ front_text s (number_of report.now (Function f)) (total_of s f) (function_columns s f) }
 {
     let all = report.inputs.sources.shares.attributed();
-    let columns = columns::of_function(&report.inputs, f);
-    line::primary(
+    let mut line = Line::new();
+    line::put_index(
+        &mut line,
         report.function_number(f),
         report.inputs.total(f),
         all,
-        &columns,
-    )
+    );
+    columns::put_function(&mut line, &report.inputs, f);
+    line.put(b"  ");
+    line
 }
 
 /// Puts the line of the function that an entry is of.
@@ -52,7 +55,7 @@ fn put_function_line<H: Host>(
     ensures { Adds Output (function_line (sources_of report.now.inputs) (number_of report.now) f) lines.old lines.new (H.outside host.old) (H.outside host.new) result }
 {
     lines.put(host, function_front(report, f).bytes())?;
-    put_function_name(report, f, lines, host)
+    lines.put(host, report.label(f))
 }
 
 /// What stands in front of the name of the cycle that an entry is of, given by its head.
@@ -65,13 +68,16 @@ fn cycle_front(report: &Report<'_>, head: u32) -> Line
 {
     let all = report.inputs.sources.shares.attributed();
     let c = report.inputs.sources.graph.component(head);
-    let columns = columns::of_cycle(&report.inputs, c);
-    line::primary(
+    let mut line = Line::new();
+    line::put_index(
+        &mut line,
         report.cycle_number(head),
         report.inputs.component_total(c),
         all,
-        &columns,
-    )
+    );
+    columns::put_cycle(&mut line, &report.inputs, c);
+    line.put(b"  ");
+    line
 }
 
 /// Puts the line of the cycle that an entry is of, given by its head.

@@ -4,13 +4,23 @@ ghost use Rattle.std.specs.Prelude.{◌≡◌, ◌^◌, ◌<◌, ◌+◌, true, 
 ghost use Rattle.call_cycles.specs.Flow.{carried_by, time_of};
 ghost use Rattle.call_cycles.specs.Graph.{arc_count, component_count, is_cycle as is_a_cycle, is_outside};
 ghost use Rattle.flat_report.specs.Sources.{calls_by_others, child_of, name_of, share_of, total_of};
+ghost use Rattle.graph_report.specs.ArcTimes.{AreTimes, arc_times};
 ghost use Rattle.graph_report.specs.Cycles.{cycle_name as name_of_cycle, cycle_number as number_of_cycle, inner_calls};
 ghost use Rattle.graph_report.specs.Entries.{calls_of_others};
 ghost use Rattle.graph_report.specs.GraphText.{arcs_from as arcs_that_leave, arcs_into as arcs_that_enter, arcs_to as arcs_that_call, members_of};
 ghost use Rattle.graph_report.specs.Inputs.{AreInputs, sources_of};
 
 use crate::tables::Tables;
+use call_cycles::FunArc;
 use flat_report::Sources;
+
+/// An arc, and what it carries.
+#[derive(Clone, Copy)]
+pub(crate) struct ArcTimes {
+    pub arc: FunArc,
+    pub own: u128,
+    pub child: u128,
+}
 
 /// The sources of a report, and the tables of their graph.
 #[derive(Clone, Copy)]
@@ -94,6 +104,20 @@ impl<'a> Inputs<'a> {
         ensures { result ≡ inner_calls self.now.sources.graph.now c }
     {
         self.tables.calls_inside[c as usize]
+    }
+
+    /// An arc, and what it carries.
+    pub fn arc(&self, i: usize) -> ArcTimes
+        requires inputs { AreInputs self.now }
+        requires arc { i < arc_count self.now.sources.graph.now }
+        ensures value { result ≡ arc_times (sources_of self.now) i }
+        ensures times { AreTimes (sources_of self.now) result }
+    {
+        ArcTimes {
+            arc: self.sources.graph.arc(i),
+            own: self.sources.flow.arc_self(i),
+            child: self.sources.flow.arc_child(i),
+        }
     }
 
     /// The arcs to a function, in the order of their numbers.

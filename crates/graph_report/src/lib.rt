@@ -12,6 +12,7 @@ pub mod exact_report;
 mod groups;
 mod inputs;
 mod keys;
+mod labels;
 pub mod laws;
 mod line;
 mod lines;

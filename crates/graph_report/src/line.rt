@@ -1,9 +1,9 @@
 //! Parts of single lines, made in place.
 
 ghost use Rattle.std.specs.Prelude.{◌≡◌, ◌+◌, ◌^◌, ◌<◌, ◌≤◌, ◌++◌, length, codes, decimal};
-ghost use Rattle.text_cols.specs.Columns.{left_of, right_of, spaces};
-ghost use Rattle.flat_report.specs.FlatText.{percent_of};
-ghost use Rattle.graph_report.specs.GraphText.{bracketed, calls_of_all, calls_with_inner, calls_with_own, timed_columns, untimed_columns};
+ghost use Rattle.text_cols.specs.Columns.{left_of, right_of};
+ghost use Rattle.flat_report.specs.FlatText.{percent_of, seconds_of};
+ghost use Rattle.graph_report.specs.GraphText.{bracketed, calls_of_all, calls_with_inner, calls_with_own, untimed_columns};
 
 use flat_report::line::{GRAINS, put_percent, put_quotient};
 use text_cols::Line;
@@ -20,110 +20,84 @@ fn put_number(line: &mut Line, number: usize)
     line.put(b"]");
 }
 
-/// The calls of an arc, and all that enter its callee's component.
+/// Adds the calls of an arc, and all that enter its callee's component.
 #[tactic(auto, using(text_cols::proofs::Lengths::lengths), unfolding(crate::specs::GraphText::calls_of_all))]
-pub(crate) fn calls_of_entering(count: u64, entering: u64) -> Line
-    ensures text { result ≡ calls_of_all count entering }
-    ensures short { length result ≤ 41 }
+pub(crate) fn put_calls_of_entering(line: &mut Line, count: u64, entering: u64)
+    requires { length line.old ≤ 200 }
+    ensures text { line.new ≡ line.old ++ right_of (calls_of_all count entering) 22 }
+    ensures short { length line.new ≤ length line.old + 42 }
 {
-    let mut line = Line::new();
-    line.decimal(u128::from(count));
-    line.put(b"/");
-    line.decimal(u128::from(entering));
-    line
+    line.right_pair(u128::from(count), b'/', u128::from(entering), 22);
 }
 
-/// The calls of an arc inside a cycle.
-#[tactic(auto, using(text_cols::proofs::Lengths::lengths))]
-pub(crate) fn calls_inside(count: u64) -> Line
-    ensures text { result ≡ decimal count }
-    ensures short { length result ≤ 41 }
-{
-    let mut line = Line::new();
-    line.decimal(u128::from(count));
-    line
-}
-
-/// The calls of a function by others, and by itself where there are some. Nothing where there are none.
+/// Adds the calls of a function by others, and by itself where there are some. Nothing where there are none.
 #[tactic(auto, using(text_cols::proofs::Lengths::lengths), unfolding(crate::specs::GraphText::calls_with_own))]
-pub(crate) fn calls_and_own(others: u64, own: u64) -> Line
-    ensures text { result ≡ calls_with_own others own }
-    ensures short { length result ≤ 41 }
+pub(crate) fn put_calls_and_own(line: &mut Line, others: u64, own: u64)
+    requires { length line.old ≤ 200 }
+    ensures text { line.new ≡ line.old ++ right_of (calls_with_own others own) 22 }
+    ensures short { length line.new ≤ length line.old + 42 }
 {
-    let mut line = Line::new();
     if others == 0 && own == 0 {
-        return line;
+        line.right(b"", 22);
+        return;
     }
-    line.decimal(u128::from(others));
     if own == 0 {
-        return line;
+        line.right_decimal(u128::from(others), 22);
+        return;
     }
-    line.put(b"+");
-    line.decimal(u128::from(own));
-    line
+    line.right_pair(u128::from(others), b'+', u128::from(own), 22);
 }
 
-/// The calls that enter a cycle, and those between its members.
+/// Adds the calls that enter a cycle, and those between its members.
 #[tactic(auto, using(text_cols::proofs::Lengths::lengths), unfolding(crate::specs::GraphText::calls_with_inner))]
-pub(crate) fn calls_and_inner(entering: u64, inner: u64) -> Line
-    ensures text { result ≡ calls_with_inner entering inner }
-    ensures short { length result ≤ 41 }
+pub(crate) fn put_calls_and_inner(line: &mut Line, entering: u64, inner: u64)
+    requires { length line.old ≤ 200 }
+    ensures text { line.new ≡ line.old ++ right_of (calls_with_inner entering inner) 22 }
+    ensures short { length line.new ≤ length line.old + 42 }
 {
-    let mut line = Line::new();
-    line.decimal(u128::from(entering));
-    line.put(b"+");
-    line.decimal(u128::from(inner));
-    line
+    line.right_pair(u128::from(entering), b'+', u128::from(inner), 22);
 }
 
-/// Times in seconds, of so many samples each, and calls.
-#[tactic(auto, using(text_cols::proofs::Lengths::lengths), unfolding(crate::specs::GraphText::timed_columns))]
-pub(crate) fn timed(rate: u32, own: u128, child: u128, called: &Line) -> Line
+/// Adds two times in seconds, of so many samples each.
+#[tactic(auto, using(text_cols::proofs::Lengths::lengths))]
+pub(crate) fn put_times(line: &mut Line, rate: u32, own: u128, child: u128)
     requires rate { 1 ≤ rate }
     requires own { own < 2 ^ 65 }
     requires child { child < 2 ^ 65 }
-    requires called { length called.now ≤ 41 }
-    ensures text { result ≡ timed_columns rate own child called.now }
-    ensures short { length result ≤ 128 }
+    requires room { length line.old ≤ 100 }
+    ensures text { line.new ≡ line.old ++ (right_of (seconds_of rate own) 12 ++ right_of (seconds_of rate child) 12) }
+    ensures short { length line.new ≤ length line.old + 86 }
 {
     let second = GRAINS * u128::from(rate);
-    let mut line = Line::new();
-    put_quotient(&mut line, own, second, 12);
-    put_quotient(&mut line, child, second, 12);
-    line.right(called.bytes(), 22);
-    line
+    put_quotient(line, own, second, 12);
+    put_quotient(line, child, second, 12);
 }
 
-/// Calls alone.
+/// Adds the calls of an arc inside a cycle, which has no times.
 #[tactic(auto, using(text_cols::proofs::Lengths::lengths), unfolding(crate::specs::GraphText::untimed_columns))]
-pub(crate) fn untimed(called: &Line) -> Line
-    requires { length called.now ≤ 41 }
-    ensures text { result ≡ untimed_columns called.now }
-    ensures short { length result ≤ 128 }
+pub(crate) fn put_untimed(line: &mut Line, count: u64)
+    requires { length line.old ≤ 100 }
+    ensures text { line.new ≡ line.old ++ untimed_columns (decimal count) }
+    ensures short { length line.new ≤ length line.old + 128 }
 {
-    let mut line = Line::new();
     line.put(&[b' '; 24]);
-    line.right(called.bytes(), 22);
-    line
+    line.right_decimal(u128::from(count), 22);
 }
 
-/// What stands in front of the name of an entry's subject: the number of the entry, its part of all
-/// time in percent, and its columns.
+/// Adds what stands in front of the columns of an entry's subject: the number of the entry, and the part of
+/// all time that is the subject's, in percent.
 #[tactic(auto, using(text_cols::proofs::Lengths::lengths))]
-pub(crate) fn primary(number: usize, total: u128, all: u128, columns: &Line) -> Line
+pub(crate) fn put_index(line: &mut Line, number: usize, total: u128, all: u128)
     requires total { total < 2 ^ 65 }
     requires all { all < 2 ^ 65 }
-    requires columns { length columns.now ≤ 128 }
-    ensures { result ≡ left_of (bracketed number) 8 ++ right_of (percent_of total all) 7 ++ columns.now ++ spaces 2 }
+    requires room { length line.old ≤ 10 }
+    ensures text { line.new ≡ line.old ++ (left_of (bracketed number) 8 ++ right_of (percent_of total all) 7) }
+    ensures short { length line.new ≤ length line.old + 65 }
 {
     let mut index = Line::new();
     put_number(&mut index, number);
-    let mut line = Line::new();
     line.left(index.bytes(), 8);
-    put_percent(&mut line, total, all);
-    line.put(columns.bytes());
-    line.put(b"  ");
-    line
+    put_percent(line, total, all);
 }
 
 /// What stands behind a name and its cycle: the number of its entry, and the end of the line.

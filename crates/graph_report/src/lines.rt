@@ -1,17 +1,19 @@
 //! Lines and runs of lines.
 
-ghost use Rattle.std.specs.Prelude.{◌≡◌, ◌==◌, ◌<◌, ◌≤◌, codes, length};
+ghost use Rattle.std.specs.Prelude.{◌≡◌, ◌==◌, ◌<◌, ◌≤◌, ◌++◌, codes, length, map, take};
 ghost use Rattle.std.specs.List.{All, flat_map};
 ghost use Rattle.host_port.specs.Buffered.{Adds};
 ghost use Rattle.host_port.specs.declared.side.Side.TheVariants.{Output};
 ghost use Rattle.text_cols.specs.Columns.{spaces};
 ghost use Rattle.call_cycles.specs.Graph.{arc_count};
-ghost use Rattle.graph_report.specs.GraphText.{callee_line, caller_line, callers_text, function_name, member_line, other_line};
-ghost use Rattle.graph_report.specs.Inputs.{sources_of};
+ghost use Rattle.graph_report.specs.ArcTimes.{AreTimes, arc_times, times_columns};
+ghost use Rattle.graph_report.specs.GraphText.{callee_line, caller_line, callers_text, function_columns, function_name, member_line, other_line};
+ghost use Rattle.graph_report.specs.Inputs.{AreInputs, sources_of};
 ghost use Rattle.graph_report.specs.Numbers.{IsReport, number_of};
 
+use crate::columns;
+use crate::inputs::{ArcTimes, Inputs};
 use crate::numbers::Report;
-use crate::{columns, names};
 use host_port::{Failed, Host, PrintBuf};
 use text_cols::Line;
 
@@ -25,71 +27,58 @@ const FRONT: &[u8] = b"               ";
 /// What stands behind them.
 const BEHIND: &[u8] = b"      ";
 
-/// Puts a line of a function that isn't the subject of the entry.
-fn put_other<H: Host>(
+/// How many arcs are looked up before the first of their lines is put, so that the waits for memory overlap.
+const BATCH: usize = 16;
+
+/// Makes a line of what stands in front of a function's name: the columns of an arc.
+fn arc_front(line: &mut Line, inputs: &Inputs<'_>, times: &ArcTimes)
+    requires inputs { AreInputs inputs.now }
+    requires times { AreTimes (sources_of inputs.now) times.now }
+    ensures { line.new ≡ spaces 15 ++ times_columns (sources_of inputs.now) times.now ++ spaces 6 }
+{
+    line.clear();
+    line.put(FRONT);
+    columns::put_arc(line, inputs, times);
+    line.put(BEHIND);
+}
+
+/// Puts the line of an arc, at whose end stands a function.
+fn put_arc<H: Host>(
     report: &Report<'_>,
-    columns: &Line,
+    times: &ArcTimes,
     f: u32,
+    line: &mut Line,
     lines: &mut PrintBuf,
     host: &mut H,
 ) -> Result<(), Failed>
     requires report { IsReport report.now }
+    requires times { AreTimes (sources_of report.now.inputs) times.now }
     requires function { f < report.now.inputs.sources.graph.now.functions }
-    requires columns { length columns.now ≤ 128 }
-    ensures { Adds Output (other_line columns.now (function_name (sources_of report.now.inputs) (number_of report.now) f)) lines.old lines.new (H.outside host.old) (H.outside host.new) result }
+    ensures { let s = sources_of report.now.inputs in
+        Adds Output (other_line (times_columns s times.now) (function_name s (number_of report.now) f)) lines.old lines.new (H.outside host.old) (H.outside host.new) result }
 {
-    lines.put(host, FRONT)?;
-    lines.put(host, columns.bytes())?;
-    lines.put(host, BEHIND)?;
-    names::put_function_name(report, f, lines, host)
+    arc_front(line, &report.inputs, times);
+    lines.put(host, line.bytes())?;
+    lines.put(host, report.label(f))
 }
 
-/// Puts the caller of an arc.
-fn put_caller<H: Host>(
-    report: &Report<'_>,
-    i: usize,
-    lines: &mut PrintBuf,
-    host: &mut H,
-) -> Result<(), Failed>
-    requires report { IsReport report.now }
-    requires arc { i < arc_count report.now.inputs.sources.graph.now }
-    ensures { Adds Output (caller_line (sources_of report.now.inputs) (number_of report.now) i) lines.old lines.new (H.outside host.old) (H.outside host.new) result }
+/// Makes a line of what stands in front of a function's name: the columns of a member of a cycle.
+fn member_front(line: &mut Line, inputs: &Inputs<'_>, f: u32)
+    requires inputs { AreInputs inputs.now }
+    requires function { f < inputs.now.sources.graph.now.functions }
+    ensures { line.new ≡ spaces 15 ++ function_columns (sources_of inputs.now) f ++ spaces 6 }
 {
-    let caller = report.inputs.sources.graph.arc(i).caller;
-    put_other(
-        report,
-        &columns::of_arc(&report.inputs, i),
-        caller,
-        lines,
-        host,
-    )
-}
-
-/// Puts the callee of an arc.
-fn put_callee<H: Host>(
-    report: &Report<'_>,
-    i: usize,
-    lines: &mut PrintBuf,
-    host: &mut H,
-) -> Result<(), Failed>
-    requires report { IsReport report.now }
-    requires arc { i < arc_count report.now.inputs.sources.graph.now }
-    ensures { Adds Output (callee_line (sources_of report.now.inputs) (number_of report.now) i) lines.old lines.new (H.outside host.old) (H.outside host.new) result }
-{
-    let callee = report.inputs.sources.graph.arc(i).callee;
-    put_other(
-        report,
-        &columns::of_arc(&report.inputs, i),
-        callee,
-        lines,
-        host,
-    )
+    line.clear();
+    line.put(FRONT);
+    columns::put_function(line, inputs, f);
+    line.put(BEHIND);
 }
 
 /// Puts a member of a cycle, in the entry of the cycle.
 fn put_member<H: Host>(
     report: &Report<'_>,
     f: u32,
+    line: &mut Line,
     lines: &mut PrintBuf,
     host: &mut H,
 ) -> Result<(), Failed>
@@ -97,13 +86,9 @@ fn put_member<H: Host>(
     requires function { f < report.now.inputs.sources.graph.now.functions }
     ensures { Adds Output (member_line (sources_of report.now.inputs) (number_of report.now) f) lines.old lines.new (H.outside host.old) (H.outside host.new) result }
 {
-    put_other(
-        report,
-        &columns::of_function(&report.inputs, f),
-        f,
-        lines,
-        host,
-    )
+    member_front(line, &report.inputs, f);
+    lines.put(host, line.bytes())?;
+    lines.put(host, report.label(f))
 }
 
 /// Whether there are no callers.
@@ -121,6 +106,42 @@ fn put_spontaneous<H: Host>(lines: &mut PrintBuf, host: &mut H) -> Result<(), Fa
     lines.put(host, SPONTANEOUS)
 }
 
+/// These arcs, and what they carry.
+fn looked_up(inputs: &Inputs<'_>, arcs: &[usize]) -> [ArcTimes; BATCH]
+    requires inputs { AreInputs inputs.now }
+    requires arcs { All (λ i. i < arc_count inputs.now.sources.graph.now) arcs.now }
+    requires some { 0 < length arcs.now }
+    requires few { length arcs.now ≤ 16 }
+    ensures { take (length arcs.now) result ≡ map (arc_times (sources_of inputs.now)) arcs.now }
+{
+    let mut batch = [inputs.arc(arcs[0]); BATCH];
+    for k in 1..arcs.len() {
+        batch[k] = inputs.arc(arcs[k]);
+    }
+    batch
+}
+
+/// Puts the callers of these arcs, which are few.
+fn put_batch<H: Host>(
+    report: &Report<'_>,
+    arcs: &[usize],
+    line: &mut Line,
+    lines: &mut PrintBuf,
+    host: &mut H,
+) -> Result<(), Failed>
+    requires report { IsReport report.now }
+    requires arcs { All (λ i. i < arc_count report.now.inputs.sources.graph.now) arcs.now }
+    requires some { 0 < length arcs.now }
+    requires few { length arcs.now ≤ 16 }
+    ensures { Adds Output (flat_map (caller_line (sources_of report.now.inputs) (number_of report.now)) arcs.now) lines.old lines.new (H.outside host.old) (H.outside host.new) result }
+{
+    let batch = looked_up(&report.inputs, arcs);
+    for times in batch.split_at(arcs.len()).0 {
+        put_arc(report, times, times.arc.caller, line, lines, host)?;
+    }
+    Ok(())
+}
+
 /// Puts the callers of these arcs. Where there are none, the machine itself called.
 pub(crate) fn put_callers<H: Host>(
     report: &Report<'_>,
@@ -135,8 +156,12 @@ pub(crate) fn put_callers<H: Host>(
     if is_spontaneous(arcs) {
         return put_spontaneous(lines, host);
     }
-    for i in arcs {
-        put_caller(report, *i, lines, host)?;
+    let mut line = Line::new();
+    let mut start = 0;
+    while start < arcs.len() {
+        let end = arcs.len().min(start + BATCH);
+        put_batch(report, &arcs[start..end], &mut line, lines, host)?;
+        start = end;
     }
     Ok(())
 }
@@ -152,8 +177,10 @@ pub(crate) fn put_callees<H: Host>(
     requires arcs { All (λ i. i < arc_count report.now.inputs.sources.graph.now) arcs.now }
     ensures { Adds Output (flat_map (callee_line (sources_of report.now.inputs) (number_of report.now)) arcs.now) lines.old lines.new (H.outside host.old) (H.outside host.new) result }
 {
+    let mut line = Line::new();
     for i in arcs {
-        put_callee(report, *i, lines, host)?;
+        let times = report.inputs.arc(*i);
+        put_arc(report, &times, times.arc.callee, &mut line, lines, host)?;
     }
     Ok(())
 }
@@ -171,8 +198,9 @@ pub(crate) fn put_members<H: Host>(
 {
     // Numbers of functions have 32 bits.
     let _count = report.inputs.sources.graph.function_count();
+    let mut line = Line::new();
     for f in members {
-        put_member(report, *f as u32, lines, host)?;
+        put_member(report, *f as u32, &mut line, lines, host)?;
     }
     Ok(())
 }

@@ -1,21 +1,20 @@
 //! The names at the ends of lines.
 
-ghost use Rattle.std.specs.Prelude.{◌≡◌, ◌<◌, ◌≤◌, ◌++◌, true, codes, length, IfOk};
+ghost use Rattle.std.specs.Prelude.{◌≡◌, ◌<◌, ◌≤◌, ◌++◌, true, codes, length};
 ghost use Rattle.host_port.specs.Buffered.{Adds};
 ghost use Rattle.host_port.specs.declared.side.Side.TheVariants.{Output};
 ghost use Rattle.call_cycles.specs.Graph.{component_count, component_of, head_of, is_cycle};
 ghost use Rattle.graph_report.specs.Cycles.{cycle_name};
 ghost use Rattle.graph_report.specs.Entries.{number_in, ordered};
-ghost use Rattle.graph_report.specs.GraphText.{bracketed, cycle_mark, function_name, tail_of};
+ghost use Rattle.graph_report.specs.GraphText.{bracketed, cycle_mark, tail_of};
 ghost use Rattle.graph_report.specs.Inputs.{AreInputs, sources_of};
-ghost use Rattle.graph_report.specs.Numbers.{AreNumbers, AreTails, IsReport, number_of};
-ghost use Rattle.graph_report.specs.declared.subjects.Subject.TheVariants.{Cycle, Function};
+ghost use Rattle.graph_report.specs.Numbers.{AreNumbers, IsReport, number_of};
+ghost use Rattle.graph_report.specs.declared.subjects.Subject.TheVariants.{Cycle};
 
 use crate::inputs::Inputs;
 use crate::line::put_tail;
 use crate::numbers::{Numbers, Report};
 use host_port::{Failed, Host, PrintBuf};
-use std::alloc::{AllocError, Global};
 use text_cols::Line;
 
 /// The cycle of which a function is a member, where there is one.
@@ -37,7 +36,7 @@ fn mark(inputs: &Inputs<'_>, f: u32) -> Line
 }
 
 /// What stands behind the name of a function: its cycle, the number of its entry, and the end of the line.
-fn function_tail(inputs: &Inputs<'_>, numbers: &Numbers, f: u32) -> Line
+pub(crate) fn function_tail(inputs: &Inputs<'_>, numbers: &Numbers, f: u32) -> Line
     requires inputs { AreInputs inputs.now }
     requires numbers { AreNumbers (sources_of inputs.now) numbers.now }
     requires function { f < inputs.now.sources.graph.now.functions }
@@ -46,39 +45,6 @@ fn function_tail(inputs: &Inputs<'_>, numbers: &Numbers, f: u32) -> Line
     let mut line = mark(inputs, f);
     put_tail(&mut line, numbers.functions[f as usize]);
     line
-}
-
-/// What stands behind the name of each function.
-pub(crate) fn function_tails(
-    alloc: Global,
-    inputs: &Inputs<'_>,
-    numbers: &Numbers,
-) -> Result<Vec<Vec<u8>>, AllocError>
-    requires inputs { AreInputs inputs.now }
-    requires numbers { AreNumbers (sources_of inputs.now) numbers.now }
-    ensures { IfOk result (λ v. AreTails (sources_of inputs.now) v.items) }
-{
-    let mut tails = Vec::new(alloc);
-    for f in 0..inputs.sources.graph.function_count() {
-        let tail = function_tail(inputs, numbers, f);
-        tails.push(Vec::from_slice(alloc, tail.bytes())?)?;
-    }
-    Ok(tails)
-}
-
-/// Puts the name of a function at the end of a line.
-pub(crate) fn put_function_name<H: Host>(
-    report: &Report<'_>,
-    f: u32,
-    lines: &mut PrintBuf,
-    host: &mut H,
-) -> Result<(), Failed>
-    requires report { IsReport report.now }
-    requires function { f < report.now.inputs.sources.graph.now.functions }
-    ensures { Adds Output (function_name (sources_of report.now.inputs) (number_of report.now) f ++ codes "\n") lines.old lines.new (H.outside host.old) (H.outside host.new) result }
-{
-    lines.put(host, report.inputs.name(f))?;
-    lines.put(host, report.tail(f))
 }
 
 /// What stands behind the name of a cycle as a whole: the number of its entry, and the end of the line.

@@ -2,13 +2,14 @@
 
 ghost use Rattle.std.specs.Prelude.{◌≡◌, ◌<◌, ℕ, IfOk, length, slice_index, if◌then◌else◌};
 ghost use Rattle.graph_report.specs.Entries.{first_function, is_same, ordered};
-ghost use Rattle.graph_report.specs.GraphText.{tail_of};
 ghost use Rattle.graph_report.specs.Inputs.{AreInputs, sources_of};
+ghost use Rattle.graph_report.specs.Labels.{label_of};
 ghost use Rattle.graph_report.specs.Numbers.{AreNumbers, IsReport, number_of};
 ghost use Rattle.graph_report.specs.Rows.{entries_of_rows};
 ghost use Rattle.graph_report.specs.declared.subjects.Subject.TheVariants.{Cycle, Function};
 
 use crate::inputs::Inputs;
+use crate::labels::Labels;
 use crate::rows::Row;
 use crate::subjects::Subject;
 use std::alloc::{AllocError, Global};
@@ -27,8 +28,8 @@ pub(crate) struct Numbers {
 pub(crate) struct Report<'a> {
     pub inputs: Inputs<'a>,
     pub numbers: Numbers,
-    /// What stands behind the name of each function.
-    pub tails: Vec<Vec<u8>>,
+    /// What stands at the end of the lines that name each function.
+    pub labels: Labels,
 }
 
 impl Report<'_> {
@@ -41,13 +42,17 @@ impl Report<'_> {
         self.numbers.functions[f as usize]
     }
 
-    /// What stands behind the name of a function: its cycle, the number of its entry, and the end of the line.
-    pub fn tail(&self, f: u32) -> &[u8]
+    /// The name of a function with its cycle and the number of its entry, and the end of the line.
+    pub fn label(&self, f: u32) -> &[u8]
         requires report { IsReport self.now }
         requires function { f < self.now.inputs.sources.graph.now.functions }
-        ensures { result.now ≡ tail_of self.now.inputs.sources.graph.now (number_of self.now) f }
+        ensures { result.now ≡ label_of (sources_of self.now.inputs) (number_of self.now) f }
     {
-        self.tails[f as usize].as_slice()
+        let f = f as usize;
+        let start = self.labels.starts[f];
+        let len = self.labels.starts[f + 1] - start;
+        let (_, rest) = self.labels.text.split_at(start);
+        rest.split_at(len).0
     }
 
     /// The number of a cycle's entry, given by its head.

@@ -18,7 +18,7 @@ ghost use Rattle.graph_report.specs.Subjects.{IsSubject, entry_text, shown_text}
 
 use crate::entries::put_entry;
 use crate::inputs::Inputs;
-use crate::names::function_tails;
+use crate::labels::function_labels;
 use crate::numbers::{Report, entry_numbers};
 use crate::rows::{Row, rows_in_order};
 use crate::subjects::Subject;
@@ -78,11 +78,11 @@ pub fn write<H: Host>(
     };
     let rows = rows_in_order(alloc, &inputs)?;
     let numbers = entry_numbers(alloc, &inputs, &rows)?;
-    let tails = function_tails(alloc, &inputs, &numbers)?;
+    let labels = function_labels(alloc, &inputs, &numbers)?;
     let report = Report {
         inputs,
         numbers,
-        tails,
+        labels,
     };
     print(&report, &rows, hidden, host)?;
     Ok(())

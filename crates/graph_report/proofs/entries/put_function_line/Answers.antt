@@ -23,4 +23,5 @@ returns g c =
     let s = sources_of r.inputs in
     let f = c.args.f in
     let front = rw (c.bytes.ensures.bytes, c.function_front.ensures) at c.in_ok-put.ensures.adds in
-    both_put _ _ _ (primary_whole s (number_of r (Function f)) (total_of s f) (function_columns s f) (function_name s (number_of r) f)) _ _ _ _ _ _ _ _ front c.put_function_name.ensures
+    let label = rw c.label.ensures at c.put-2.ensures.adds in
+    both_put _ _ _ (primary_whole s (number_of r (Function f)) (total_of s f) (function_columns s f) (function_name s (number_of r) f)) _ _ _ _ _ _ _ _ front label

@@ -1,0 +1,40 @@
+use Rattle.std.proofs.Common.{◌≡◌, ℕ, ◌+◌, suc, List, ◌++◌, length, ap, ◌∙◌, arith}
+use Rattle.call_cycles.specs.Sums.{list_of}
+use Rattle.graph_report.specs.Entries.{number_in, ordered}
+use Rattle.flat_report.specs.Sources.{name_of}
+use Rattle.graph_report.specs.Inputs.{sources_of}
+use Rattle.graph_report.specs.Labels.{label_of, start_of, texts_below}
+use Rattle.graph_report.proofs.LabelLemmas.{start_added, text_added}
+use Rattle.graph_report.proofs.TextLemmas.{name_whole}
+use Rattle.graph_report.proofs.labels.function_labels.Goals as goal
+
+pub loop-f-preserved : goal.loop-f-preserved
+loop-f-preserved c =
+    let s = sources_of c.args.inputs.now in
+    let number = number_in (ordered s) in
+    let of = label_of s number in
+    let f = c.loop-f.f in
+    let text = c.loop-f.text in
+    let so = c.loop-f.invariant.0 in
+    let len : c.len.result ≡ length text.items = omega (arith, c.len.ensures, text.ok.0) in
+    let tail = c.bytes.ensures.bytes ∙ c.function_tail.ensures in
+    let whole = ap (λ (t : List ℕ). t ++ c.bytes.result.now) c.name.ensures ∙ ap (λ (t : List ℕ). name_of s f ++ t) tail ∙ name_whole s number f in (
+      c.in_ok-extend_from_slice-2.ensures.items ∙ ap (λ (t : List ℕ). t ++ c.bytes.result.now) c.in_ok-extend_from_slice.ensures.items
+          ∙ text_added of f text.items c.name.result.now c.bytes.result.now so whole,
+      c.in_ok-push.ensures.items ∙ start_added of f c.len.result text.items c.loop-f.starts.items so c.loop-f.invariant.1 len,
+    )
+
+pub returns : goal.returns
+returns c =
+    let s = sources_of c.args.inputs.now in
+    let of = label_of s (number_in (ordered s)) in
+    let n = s.graph.functions in
+    let text = c.loop-f.text in
+    let at : c.loop-f.f ≡ n = omega (arith, c.function_count-f-end.ensures.value) in
+    let on : c.loop-f.f + 1 ≡ suc n = omega (arith, at) in
+    let so = c.loop-f.invariant.0 in
+    let len : c.len-2.result ≡ length text.items = omega (arith, c.len-2.ensures, text.ok.0) in
+    record {
+      whole = so ∙ ap (texts_below of) at;
+      each = c.in_ok-push-2.ensures.items ∙ start_added of c.loop-f.f c.len-2.result text.items c.loop-f.starts.items so c.loop-f.invariant.1 len ∙ ap (λ (m : ℕ). list_of m (start_of of)) on;
+    }

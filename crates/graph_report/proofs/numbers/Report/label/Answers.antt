@@ -1,0 +1,71 @@
+use Rattle.std.proofs.Common.{◌≡◌, ◌<◌, ◌+◌, ◌-◌, ℕ, suc, List, get_or, length, take, drop, ap, ◌∙◌, arith}
+use Rattle.std.proofs.lemmas.Grind.{get_or_default_zero}
+use Rattle.call_cycles.specs.Sums.{list_of}
+use Rattle.call_cycles.proofs.ListLemmas.{list_long, list_at}
+use Rattle.graph_report.specs.Inputs.{sources_of}
+use Rattle.graph_report.specs.Labels.{label_of, start_of}
+use Rattle.graph_report.specs.Numbers.{number_of}
+use Rattle.graph_report.specs.declared.numbers.Report.{Report}
+use Rattle.graph_report.proofs.LabelLemmas.{start_rises, start_within, text_at}
+use Rattle.graph_report.proofs.numbers.Report.label.Goals as goal
+
+abbrev labels_of : Report → ℕ → List ℕ
+labels_of r = label_of (sources_of r.inputs) (number_of r)
+
+start_read : (r : Report) (n k start : ℕ) → r.labels.starts.items ≡ list_of (suc n) (start_of (labels_of r)) → k < suc n → start ≡ get_or r.labels.starts.items k start → start ≡ start_of (labels_of r) k
+start_read r n k start are low is =
+    let starts = r.labels.starts.items in
+    let long = list_long (suc n) (start_of (labels_of r)) starts are in
+    let inside : k < length starts = omega (arith, long, low) in
+    is ∙ get_or_default_zero _ _ _ inside ∙ list_at (suc n) (start_of (labels_of r)) starts are k low
+
+pub index-start-requires : goal.index-start-requires
+index-start-requires c =
+    let r = c.args.self.now in
+    omega (arith, list_long (suc r.inputs.sources.graph.now.functions) (start_of (labels_of r)) r.labels.starts.items c.requires.report.labels.each, r.labels.starts.ok.0, c.requires.function)
+
+pub index-requires : goal.index-requires
+index-requires c =
+    let r = c.args.self.now in
+    omega (arith, list_long (suc r.inputs.sources.graph.now.functions) (start_of (labels_of r)) r.labels.starts.items c.requires.report.labels.each, r.labels.starts.ok.0, c.requires.function)
+
+pub overflow_sub-len : goal.overflow_sub-len
+overflow_sub-len c =
+    let r = c.args.self.now in
+    let n = r.inputs.sources.graph.now.functions in
+    let are = c.requires.report.labels in
+    let from = start_read r n c.args.f c.index-start.result.now are.each (omega (arith, c.requires.function)) c.index-start.ensures in
+    let to = start_read r n (c.args.f + 1) c.index.result.now are.each (omega (arith, c.requires.function)) c.index.ensures in
+    omega (arith, from, to, start_rises (labels_of r) c.args.f)
+
+pub split_at-requires : goal.split_at-requires
+split_at-requires c =
+    let r = c.args.self.now in
+    let n = r.inputs.sources.graph.now.functions in
+    let are = c.requires.report.labels in
+    let from = start_read r n c.args.f c.index-start.result.now are.each (omega (arith, c.requires.function)) c.index-start.ensures in
+    let all = ap length (c.deref.ensures.value ∙ are.whole) in
+    omega (arith, from, all, start_rises (labels_of r) c.args.f, start_within (labels_of r) c.args.f n c.requires.function)
+
+pub split_at-requires-2 : goal.split_at-requires-2
+split_at-requires-2 c =
+    let r = c.args.self.now in
+    let n = r.inputs.sources.graph.now.functions in
+    let are = c.requires.report.labels in
+    let from = start_read r n c.args.f c.index-start.result.now are.each (omega (arith, c.requires.function)) c.index-start.ensures in
+    let to = start_read r n (c.args.f + 1) c.index.result.now are.each (omega (arith, c.requires.function)) c.index.ensures in
+    let all = ap length (c.deref.ensures.value ∙ are.whole) in
+    omega (arith, from, to, all, c.split_at.ensures.back_len, start_within (labels_of r) c.args.f n c.requires.function)
+
+pub returns : goal.returns
+returns c =
+    let r = c.args.self.now in
+    let n = r.inputs.sources.graph.now.functions in
+    let are = c.requires.report.labels in
+    let start = c.index-start.result.now in
+    let end = c.index.result.now in
+    let from = start_read r n c.args.f start are.each (omega (arith, c.requires.function)) c.index-start.ensures in
+    let to = start_read r n (c.args.f + 1) end are.each (omega (arith, c.requires.function)) c.index.ensures in
+    let rest = c.split_at.ensures.back in
+    let text = c.split_at-2.ensures.front in
+    text ∙ ap (take (end - start)) (rest ∙ ap (drop start) (c.deref.ensures.value ∙ are.whole)) ∙ text_at (labels_of r) c.args.f n start end c.requires.function from to
