@@ -37,7 +37,7 @@ use Rattle.rvgprof.specs.Items.{name_of}
 use Rattle.rvgprof.specs.Words.{command_of}
 use Rattle.rvgprof.specs.Course.{Course, Ends, Input, Does, one_by_one, unless, reply_to, MayStop}
 use Rattle.annotate.specs.Listing.{annotated_text}
-use Rattle.flat_report.specs.Sources.{Sources as ReportSources}
+use Rattle.flat_report.specs.Sources.{Sources}
 use Rattle.rvgprof.specs.Help.{help_text, version_text}
 use Rattle.rvgprof.specs.Answer.{Chosen, RunActs, chosen_by, chosen_sources, command_course, course_of, demo_lines, ended, exact_report, file_acts, file_refusal, file_records, files_named, fold_program, given_file_acts, list_profiles, print_reports, profile_file, profile_in, profiles, program, report_profiles, report_run, run_acts, run_program, show_lines, shown_reports, stacks_told, start_fault_of, sum_file, syms_lines, told, too_wide, wide_step, written_profile}
 use Rattle.rvgprof.proofs.Summing.{nothing_added}
@@ -101,11 +101,11 @@ module _ (contents : ℕ → List ℕ) where
   one_by_one_done [] next h = h
   one_by_one_done (act ∷ acts) next h = one_by_one_done acts next h
 
-  exact_done : (exact : Bool) (s : ReportSources) (next : Course) → IsDone next → IsDone (exact_report exact s next)
+  exact_done : (exact : Bool) (s : Sources) (next : Course) → IsDone next → IsDone (exact_report exact s next)
   exact_done false s next h = h
   exact_done true s next h = h
 
-  shown_done : (shown : Shown) (hidden : List (List ℕ)) (s : ReportSources) (next : Course) → IsDone next → IsDone (shown_reports shown hidden s next)
+  shown_done : (shown : Shown) (hidden : List (List ℕ)) (s : Sources) (next : Course) → IsDone next → IsDone (shown_reports shown hidden s next)
   shown_done shows.Flat hidden s next h = h
   shown_done shows.Graph hidden s next h = h
   shown_done shows.Both hidden s next h = h

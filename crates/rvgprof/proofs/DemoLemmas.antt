@@ -1,5 +1,5 @@
 -- The numbers of a demo's summary.
-use Rattle.std.proofs.Common.{◌≡◌, ◌≢◌, ◌<◌, ◌≤◌, ◌+◌, ℕ, suc, Bool, true, false, cond, List, [], ◌∷◌, ◌++◌, slice_index, Option, Some, None, refl, sym, ap, ◌∙◌, arith, add-one}
+use Rattle.std.proofs.Common.{◌≡◌, ◌≢◌, ◌<◌, ◌≤◌, ◌+◌, ℕ, suc, Bool, true, false, cond, List, [], ◌∷◌, ◌++◌, slice_index, sym, ap, ◌∙◌, arith, add-one}
 use Rattle.std.proofs.lemmas.Bool.{eq-eqb, ne_eqb}
 use Rattle.std.specs.List.{count_by}
 use Rattle.std.proofs.lemmas.List.{map-id}
@@ -12,17 +12,15 @@ use Rattle.call_cycles.proofs.SumLemmas.{sum_front_le}
 use Rattle.elf32_syms.specs.declared.image.Image.{Image}
 use Rattle.gp_base.specs.declared.records.Form.TheVariants.{Bsd}
 use Rattle.gmon_data.specs.Content.{Content}
-use Rattle.symbol_shares.specs.Shares.{ShareTable}
-use Rattle.flat_report.specs.Sources.{Sources as ReportSources}
+use Rattle.flat_report.specs.Sources.{Sources}
 use Rattle.mcount_arcs.specs.declared.sizes.Sizes.{Sizes}
 use Rattle.mcount_arcs.specs.Log.{distinct_count, kept_calls}
-use Rattle.prof_machine.specs.declared.ending.RunSummary.{RunSummary}
 use Rattle.prof_machine.specs.Value.{RunValue, StandsFor, summary_of}
 use Rattle.prof_machine.specs.World.{World}
-use Rattle.rvgprof.specs.declared.sources.Sources.{Sources}
+use Rattle.rvgprof.specs.declared.findings.Findings.{Findings}
 use Rattle.rvgprof.specs.Answer.{written_profile}
-use Rattle.rvgprof.specs.Found.{AreSources}
-use Rattle.rvgprof.specs.Reports.{demo_summary, sources_of}
+use Rattle.rvgprof.specs.Findings.{AreFindings}
+use Rattle.rvgprof.specs.Reports.{demo_summary, profile_sources}
 use Rattle.rvgprof.specs.Standing.{SumsUp}
 
 numbers_more : (n : ℕ) → numbers_below (n + 1) ≡ numbers_below n ++ n ∷ []
@@ -67,10 +65,10 @@ module _ (g : GraphValue) (t : FlowValue) (c grains entering : ℕ) (so_far : gr
   grains_fit self child below none is_self is_child = omega (arith, so_far, is_self, is_child, root_fits g t c below (root none))
 
 -- the summary of a run that stands for a world is the one that is due
-pub summary_due : (functions : ℕ) (image : Image) (run : RunValue) (s : Sources) (total : Content) (rate : ℕ) (line : List ℕ) (z : Sizes) (w : World) → AreSources image total s → SumsUp functions run s line → StandsFor w run → run.machine.sizes ≡ z
+pub summary_due : (functions : ℕ) (image : Image) (run : RunValue) (s : Findings) (total : Content) (rate : ℕ) (line : List ℕ) (z : Sizes) (w : World) → AreFindings image total s → SumsUp functions run s line → StandsFor w run → run.machine.sizes ≡ z
     → total ≡ written_profile Bsd z w.log rate
-    → (let due = sources_of image (written_profile Bsd z w.log rate) in line ≡ demo_summary functions (distinct_count (kept_calls z w.log)) due.graph due.flow due.shares (summary_of z w))
+    → (let due = profile_sources image (written_profile Bsd z w.log rate) in line ≡ demo_summary functions (distinct_count (kept_calls z w.log)) due.graph due.flow due.shares (summary_of z w))
 summary_due functions image run s total rate line z w are sums stands same written =
     sums w stands
     ∙ ap (λ (y : Sizes). demo_summary functions (distinct_count (kept_calls y w.log)) s.graph s.flow s.shares (summary_of y w)) same
-    ∙ ap (λ (x : ReportSources). demo_summary functions (distinct_count (kept_calls z w.log)) x.graph x.flow x.shares (summary_of z w)) (are.value ∙ ap (sources_of image) written)
+    ∙ ap (λ (x : Sources). demo_summary functions (distinct_count (kept_calls z w.log)) x.graph x.flow x.shares (summary_of z w)) (are.value ∙ ap (profile_sources image) written)

@@ -36,12 +36,12 @@ module _ (words : List (List ℕ)) (functions : ℕ) (setup : Setup) (file : Opt
   stands : Stands words old old 0 [] (Does (given_file_acts file program) runs)
   stands = goes_on words old old 0 [] BadElf (elf_refusal program) (Does (given_file_acts file program) runs) s accepted
 
-  pub demo_ran : {E : Type 0} (mid new : Outside) (result : Result Done Fault) (u : Unit {0}) → Performs {T = Unit {0}} {E = E} (given_file_acts file given) old mid (Ok u) → RunsDemo words functions setup image given mid new result → Acted words old new result
+  pub demo_ran : {E : Type 0} (mid new : Outside) (result : Result Done Fault) (u : Unit {0}) → Performs {T = Unit {0}} {E = E} (given_file_acts file given) old mid (Ok u) → RunsDemo functions setup image given mid new result → Acted words old new result
   demo_ran {E} mid new result u performs ran =
       let written : Performs {T = Unit {0}} {E = E} (given_file_acts file program) old mid (Ok u) = subst (λ (bs : List ℕ). Performs {T = Unit {0}} {E = E} (given_file_acts file bs) old mid (Ok u)) given_is performs in
-      let runs_so : RunsDemo words functions setup (image_of program) program mid new result =
-      subst (λ (i : Image). RunsDemo words functions setup i program mid new result) image_is (subst (λ (bs : List ℕ). RunsDemo words functions setup image bs mid new result) given_is ran) in
-      runs_so old 0 ([] ++ given_file_acts file program) (does {T = Unit {0}} {E = E} words old old mid 0 [] (given_file_acts file program) runs u stands written (given_shut file program))
+      let runs_so : RunsDemo functions setup (image_of program) program mid new result =
+      subst (λ (i : Image). RunsDemo functions setup i program mid new result) image_is (subst (λ (bs : List ℕ). RunsDemo functions setup image bs mid new result) given_is ran) in
+      runs_so words old 0 ([] ++ given_file_acts file program) (does {T = Unit {0}} {E = E} words old old mid 0 [] (given_file_acts file program) runs u stands written (given_shut file program))
 
   pub demo_not_written : {E : Type 0} (new : Outside) (e : E) → Performs {T = Unit {0}} (given_file_acts file given) old new (Err e) → Acted words old new (Err WriteFault)
   demo_not_written {E} new e performs =

@@ -1,6 +1,7 @@
 -- A profile file's form, and its bytes as they come.
-use Rattle.std.proofs.Common.{◌≡◌, ℕ, ◌+◌, ◌<◌, ◌≤◌, Bool, true, false, ◌&&◌, List, [], ◌++◌, length, take, drop, length-take, length-append, append_assoc, Option, Some, None, Err, refl, sym, ap, ◌∙◌, if◌then◌else◌, arith}
-use Rattle.std.specs.Prelude.{bytes_eq, codes, is_some, IfSome}
+use Rattle.std.proofs.Common.{◌≡◌, ℕ, ◌+◌, ◌<◌, ◌≤◌, Bool, true, false, ◌&&◌, List, [], ◌++◌, length, take, drop, length-take, length-append, append_assoc, Option, Some, None, Err, refl, sym, ap, subst, ◌∙◌, if◌then◌else◌, arith}
+use Rattle.std.specs.Prelude.{bytes_eq, codes, is_some, nat_lt, IfSome}
+use Rattle.std.proofs.lemmas.Bool.{lt-ltb}
 use Rattle.std.proofs.lemmas.Slice.Eq.{bytes_eq-Decides}
 use Rattle.std.proofs.lemmas.List.{take-append-le, take-append-drop}
 use Rattle.gp_base.specs.declared.records.Form.{Form}
@@ -14,9 +15,16 @@ use Rattle.host_port.proofs.Laws.{Did-then}
 use Rattle.host_port.proofs.LoadLemmas.{Joins, Loading}
 use Rattle.gp_base.specs.declared.records.Records.{Records}
 use Rattle.text_lines.specs.Lines.{IsShowable}
-use Rattle.rvgprof.specs.ProfileSizes.{SpellsIn, FileSpells}
+use Rattle.gp_base.specs.declared.refusal.GmonRefusal.TheVariants.{Short}
+use Rattle.gmon_bsd.specs.Reading.{bsd_refusal}
+use Rattle.gmon_bsd.proofs.FieldLemmas.{spelled_of as bsd_spelled}
+use Rattle.gmon_gnu.proofs.MeaningLemmas.{spelled_of as gnu_spelled}
+use Rattle.rvgprof.specs.declared.profile_file.FileReader.{FileReader}
+use Rattle.rvgprof.specs.declared.profile_file.FileReader.TheVariants as reader
+use Rattle.rvgprof.specs.FileRead.{StandsFor}
+use Rattle.rvgprof.specs.FileSpelling.{SpellsIn, FileSpells}
 use Rattle.rvgprof.proofs.Showable.{bsd_showable, gnu_showable}
-use Rattle.rvgprof.specs.Answer.{form_of}
+use Rattle.rvgprof.specs.Answer.{form_of, file_records, file_refusal, records_in, refusal_in}
 
 pub form_goes_on : (bytes piece : List ℕ) → 4 ≤ length bytes → form_of (bytes ++ piece) ≡ form_of bytes
 unfolding form_of
@@ -29,6 +37,21 @@ form_short bytes short = by (bytes_eq (take 4 bytes) (codes "gmon")) refl
     by : (b : Bool) → bytes_eq (take 4 bytes) (codes "gmon") ≡ b → (if bytes_eq (take 4 bytes) (codes "gmon") then Gnu else Bsd) ≡ Bsd
     by true is = absurd (let same : length (take 4 bytes) ≡ 4 = ap length ((bytes_eq-Decides (take 4 bytes) (codes "gmon")).0 is) in omega (arith, same, length-take 4 bytes, short))
     by false is = ap (λ (b : Bool). if b then Gnu else Bsd) is
+
+-- a file that ends before its first four bytes
+pub short_refused : (bytes : List ℕ) → length bytes < 4 → refusal_in (form_of bytes) bytes ≡ Some (Short (length bytes))
+short_refused bytes few =
+    let header : nat_lt (length bytes) 32 ≡ true = lt-ltb (length bytes) 32 (omega (arith, few)) in
+    let due : bsd_refusal bytes ≡ Some (Short (length bytes)) = rw header refl in
+    ap (λ (f : Form). refusal_in f bytes) (form_short bytes few) ∙ due
+
+-- a file that isn't refused spells what its form reads
+pub file_spelled : (bytes : List ℕ) (r : FileReader) → StandsFor bytes r → file_refusal bytes ≡ None → FileSpells bytes (file_records bytes)
+file_spelled bytes (reader.Front front) s none = absurd (let e : Some (Short (length bytes)) ≡ None = sym (short_refused bytes s.1) ∙ none in cc)
+file_spelled bytes (reader.Bsd r) s none =
+    subst (λ (f : Form). SpellsIn f bytes (records_in f bytes)) (sym s.1) (bsd_spelled bytes s.0.are_bytes (subst (λ (f : Form). refusal_in f bytes ≡ None) s.1 none))
+file_spelled bytes (reader.Gnu r) s none =
+    subst (λ (f : Form). SpellsIn f bytes (records_in f bytes)) (sym s.1) (gnu_spelled bytes s.0.are_bytes (subst (λ (f : Form). refusal_in f bytes ≡ None) s.1 none))
 
 -- ---- one piece more of the input
 

@@ -21,10 +21,10 @@ use Rattle.rvgprof.specs.Answer.{fold_fault_of, fold_program, stacks_told, start
 use Rattle.rvgprof.specs.Contract.{Acted}
 use Rattle.rvgprof.specs.Course.{MayStop, one_by_one}
 use Rattle.rvgprof.specs.FoldedReport.{folded_report, run_stacks}
-use Rattle.rvgprof.specs.Standing.{Stands}
+use Rattle.rvgprof.specs.Standing.{IsStarted, Stands}
 use Rattle.rvgprof.proofs.Performing.{drive_fails, printed_performs}
 use Rattle.host_port.specs.Performing.{Performs}
-use Rattle.rvgprof.proofs.Running.{Started, first_prints_none, last_is, starts_is}
+use Rattle.rvgprof.proofs.Running.{first_prints_none, last_is}
 use Rattle.rvgprof.proofs.Standing.{at_once, does, does_first, fails, goes_on, no_memory, one_by_one_stop}
 
 -- memory may be wanted before the stacks are told
@@ -35,15 +35,15 @@ pub may_stop_folding : (inclusive : Bool) (image : Image) (bytes : List ℕ) (se
 may_stop_folding inclusive image bytes setup contents =
     one_by_one_stop contents (final_world image bytes setup).prints (stacks_told inclusive image bytes setup) (may_stop_stacks inclusive image bytes setup contents)
 
-module _ (words : List (List ℕ)) (start mid new : Outside) (below : ℕ) (done : List Act) (inclusive : Bool) (image : Image) (bytes : List ℕ) (setup : Setup) (given : List ℕ) (used : Setup) (v : RunValue)
-    (s : Stands words start mid below done (fold_program inclusive setup bytes image)) (started : Started image bytes setup given used v) where
+module _ (words : List (List ℕ)) (start mid new : Outside) (below : ℕ) (done : List Act) (inclusive : Bool) (image : Image) (bytes : List ℕ) (setup : Setup) (v : RunValue)
+    (s : Stands words start mid below done (fold_program inclusive setup bytes image)) (started : IsStarted image bytes setup v) where
   here : Stands words start mid below done (one_by_one (final_world image bytes setup).prints (stacks_told inclusive image bytes setup))
   here =
       goes_on words start mid below done start_fault_of (start_refusal image setup) (one_by_one (final_world image bytes setup).prints (stacks_told inclusive image bytes setup)) s
-      (starts_is image bytes setup given used v started)
+      started.starts
 
   abbrev first : World
-  first = start_of image given used
+  first = start_of image bytes setup
 
   -- it was folded to its end
   pub fold_done : {E : Type 0} → Performs {T = Unit {0}} {E = E} (final_world image bytes setup).prints mid new (Ok tt) → writes_after (final_world image bytes setup).prints false ≡ false
@@ -53,7 +53,7 @@ module _ (words : List (List ℕ)) (start mid new : Outside) (below : ℕ) (done
       (at_once words start mid below done (final_world image bytes setup).prints (stacks_told inclusive image bytes setup) (may_stop_stacks inclusive image bytes setup) here) performs shut
 
   due : {T E : Type 0} (r : Result T E) → Performs {T = T} {E = E} (driven v.machine first).prints mid new r → Performs (final_world image bytes setup).prints mid new r
-  due r performs = subst (λ (w : World). Performs w.prints mid new r) (last_is image bytes setup given used v started) performs
+  due r performs = subst (λ (w : World). Performs w.prints mid new r) (last_is image bytes setup v started) performs
 
   -- a print failed, or memory was wanted
   pub fold_stops : (refusal : FoldRefusal) → (w_prints : (w : World) → StandsFor w v → StopsShort v.machine w mid new refusal) → HasCause mid new refusal → new.is_writing ≡ mid.is_writing → Acted words start new (Err (fold_fault_of refusal))
@@ -61,13 +61,13 @@ module _ (words : List (List ℕ)) (start mid new : Outside) (below : ℕ) (done
       let off = stops first started.stands in
       fails {T = Unit {0}} words start mid new below done (final_world image bytes setup).prints (stacks_told inclusive image bytes setup) tt
       (at_once words start mid below done (final_world image bytes setup).prints (stacks_told inclusive image bytes setup) (may_stop_stacks inclusive image bytes setup) here)
-      (due {T = Unit {0}} {E = Unit {0}} (Err tt) (drive_fails {T = Unit {0}} v.machine first off.0 mid new tt off.1 (first_prints_none image given used) off.3))
+      (due {T = Unit {0}} {E = Unit {0}} (Err tt) (drive_fails {T = Unit {0}} v.machine first off.0 mid new tt off.1 (first_prints_none image bytes setup) off.3))
   fold_stops folds.OutOfMemory stops cause still =
       let short = stops first started.stands in
       let front = (planned v.machine first short.0).prints in
       let rest = prints_driven v.machine first short.0 short.1 in
-      let whole : (final_world image bytes setup).prints ≡ front ++ rest.0 = ap (λ (w : World). w.prints) (sym (last_is image bytes setup given used v started)) ∙ rest.1 in
-      let performs : Performs {T = Unit {0}} {E = Unit {0}} front mid new (Ok tt) = printed_performs {T = Unit {0}} {E = Unit {0}} first (planned v.machine first short.0) mid new tt (first_prints_none image given used) short.2 cause in
+      let whole : (final_world image bytes setup).prints ≡ front ++ rest.0 = ap (λ (w : World). w.prints) (sym (last_is image bytes setup v started)) ∙ rest.1 in
+      let performs : Performs {T = Unit {0}} {E = Unit {0}} front mid new (Ok tt) = printed_performs {T = Unit {0}} {E = Unit {0}} first (planned v.machine first short.0) mid new tt (first_prints_none image bytes setup) short.2 cause in
       let shut : writes_after front false ≡ false = ap (writes_after front) (sym s.shut) ∙ sym performs.done.writing ∙ still ∙ s.shut in
       let parted = subst (λ (acts : List Act). Stands words start mid below done (one_by_one acts (stacks_told inclusive image bytes setup))) whole here in
       no_memory words start new below (done ++ front) (one_by_one rest.0 (stacks_told inclusive image bytes setup))

@@ -55,7 +55,7 @@ use Rattle.rvgprof.specs.Items.{name_of}
 use Rattle.rvgprof.specs.Words.{command_of}
 use Rattle.rvgprof.specs.Course.{Course, Ends, Input, Does, Reply, unless, behind, reply_to}
 use Rattle.rvgprof.specs.Answer.{Chosen, RunFiles, all_reports, annotate_course, chosen_by, command_course, contents_of, ended, exact_report, file_acts, file_records, file_refusal, files_named, given_file_acts, list_profiles, print_reports, profile_in, profiles, program, report_course, report_profiles, report_run, run_acts, run_program, shown_reports, start_fault_of, told, too_wide, wide_step, written_profile}
-use Rattle.rvgprof.specs.Reports.{sources_of}
+use Rattle.rvgprof.specs.Reports.{profile_sources}
 use Rattle.rvgprof.specs.Contract.{WhereTold, Answered}
 use Rattle.rvgprof.specs.Acceptance.{IsProgramFile, IsAccepted, Starts, records_of, total_of}
 use Rattle.rvgprof.specs.Headline.{ExecutionsAreListed, Headline, IsApart, Leaves, ListingLeaves, ReportLeaves, RunIsTold, RunIsWritten, RunLeaves, TimeIsShared, exact_of, printed_of, reported, reported_of, reports_of}
@@ -68,16 +68,16 @@ use Rattle.rvgprof.proofs.RunFileLemmas.{run_files_read_back}
 -- ---- the sources of each report
 
 module _ (image : Image) (total : Content) where
-  graph_of_sources : IsGraph (sources_of image total).graph
-  unfolding sources_of
+  graph_of_sources : IsGraph (profile_sources image total).graph
+  unfolding profile_sources
   graph_of_sources = profile_is_graph total.arcs image.symbols
 
-  flow_of_sources : IsFlow (sources_of image total).graph (sources_of image total).shares.of (sources_of image total).flow
-  unfolding sources_of
+  flow_of_sources : IsFlow (profile_sources image total).graph (profile_sources image total).shares.of (profile_sources image total).flow
+  unfolding profile_sources
   flow_of_sources = solution (profile_graph total.arcs image.symbols) (shares_of total.hists image.symbols).of (profile_is_graph total.arcs image.symbols)
 
-  all_attributed : time_of_roots (sources_of image total).graph (sources_of image total).flow ≡ attributed_of (sources_of image total).shares
-  unfolding sources_of
+  all_attributed : time_of_roots (profile_sources image total).graph (profile_sources image total).flow ≡ attributed_of (profile_sources image total).shares
+  unfolding profile_sources
   all_attributed =
       let g = profile_graph total.arcs image.symbols in
       let shares = (shares_of total.hists image.symbols).of in
@@ -85,8 +85,8 @@ module _ (image : Image) (total : Content) where
       roots_have_all g shares is (length-map image.symbols (share_of total.hists)) (flow_in g shares) (solution g shares is)
 
   -- its parts are of one program
-  of_one : AreOfOne (sources_of image total)
-  unfolding sources_of
+  of_one : AreOfOne (profile_sources image total)
+  unfolding profile_sources
   of_one = record {
     functions = refl;
     each = length-map image.symbols (share_of total.hists);
@@ -335,9 +335,9 @@ module _ (contents : ℕ → List ℕ) (chosen : Chosen) (s : Sources) (done : D
   reports_complain line =
       shown_complain contents s chosen.shown chosen.hidden (exact_report chosen.exact s (Ends (Ok done))) (Complain line ∷ []) ∙ exact_complain contents s chosen.exact done line
 
-time_is_shared : (image : Image) (total : Content) → TimeIsShared (sources_of image total)
+time_is_shared : (image : Image) (total : Content) → TimeIsShared (profile_sources image total)
 time_is_shared image total =
-    let s = sources_of image total in
+    let s = profile_sources image total in
     let is = graph_of_sources image total in
     let flow = flow_of_sources image total in
     record {

@@ -22,9 +22,10 @@ pub mod FileLemmas
 pub mod RunFileLemmas
 pub mod HeadlineLemmas
 pub mod Showable
-pub mod SourceLemmas
+pub mod FindingLemmas
 pub mod Profiling
 pub mod DemoLemmas
 pub mod LineLemmas
 pub mod Demonstrating
 pub mod DoneLemmas
+pub mod ClaimLemmas

@@ -8,7 +8,7 @@ use Rattle.gmon_data.specs.Content.{Content}
 use Rattle.gmon_data.specs.Hists.{kept_unit, IsUnitOf}
 use Rattle.elf32_syms.specs.declared.image.Image.{Image}
 use Rattle.flat_report.specs.Reports.{Reports}
-use Rattle.flat_report.specs.Sources.{Sources as ReportSources}
+use Rattle.flat_report.specs.Sources.{Sources}
 use Rattle.flat_report.specs.declared.refusal.ReportRefusal.{ReportRefusal}
 use Rattle.flat_report.specs.declared.refusal.ReportRefusal.TheVariants as reports
 use Rattle.host_port.specs.Act.{Act, Out}
@@ -25,8 +25,8 @@ use Rattle.exact_flow.specs.declared.refusal.ExactRefusal.{ExactRefusal}
 use Rattle.exact_flow.specs.declared.refusal.ExactRefusal.TheVariants as exacts
 use Rattle.rvgprof.specs.Answer.{Chosen, all_reports, chosen_sources, exact_fault_of, exact_report, print_reports, report_fault_of, shown_reports, too_wide, wide_step}
 use Rattle.rvgprof.specs.Contract.{Acted}
-use Rattle.rvgprof.specs.Found.{AreSources, IsAsked, given_sources}
-use Rattle.rvgprof.specs.declared.sources.Sources.{Sources}
+use Rattle.rvgprof.specs.Findings.{AreFindings, IsAsked, given_sources}
+use Rattle.rvgprof.specs.declared.findings.Findings.{Findings}
 use Rattle.rvgprof.specs.Standing.{Stands}
 use Rattle.rvgprof.proofs.Standing.{no_memory, fails, does, goes_on, may_stop_unless, refuses}
 
@@ -49,17 +49,17 @@ after_text words start mid new below done text next (Err reports.OutOfMemory) s 
     no_memory words start new below done (Does (Out text ∷ []) next) (subst (λ (x : Outside). Stands words start x below done (Does (Out text ∷ []) next)) (sym (idle refl)) s) (λ contents. inl refl)
 
 -- the reports of what was found are those of the profile
-pub of_sources : (words : List (List ℕ)) (start old : Outside) (below : ℕ) (done : List Act) (chosen : Chosen) (image : Image) (total : Content) (s : Sources) (next : Course) → AreSources image (without_cuts total image.symbols chosen.cuts) s
+pub of_findings : (words : List (List ℕ)) (start old : Outside) (below : ℕ) (done : List Act) (chosen : Chosen) (image : Image) (total : Content) (s : Findings) (next : Course) → AreFindings image (without_cuts total image.symbols chosen.cuts) s
     → Stands words start old below done (print_reports chosen image total next) → Stands words start old below done (all_reports chosen (given_sources image s) next)
-of_sources words start old below done chosen image total s next are = subst (λ (x : ReportSources). Stands words start old below done (all_reports chosen x next)) (sym are.value)
+of_findings words start old below done chosen image total s next are = subst (λ (x : Sources). Stands words start old below done (all_reports chosen x next)) (sym are.value)
 
-shown_may_stop : (shown : Shown) (hidden : List (List ℕ)) (s : ReportSources) (next : Course) (contents : ℕ → List ℕ) → MayStop contents (shown_reports shown hidden s next) []
+shown_may_stop : (shown : Shown) (hidden : List (List ℕ)) (s : Sources) (next : Course) (contents : ℕ → List ℕ) → MayStop contents (shown_reports shown hidden s next) []
 shown_may_stop shows.Flat hidden s next contents = inl refl
 shown_may_stop shows.Graph hidden s next contents = inl refl
 shown_may_stop shows.Both hidden s next contents = inl refl
 
 -- memory may be wanted before the first report
-may_stop_all : (chosen : Chosen) (s : ReportSources) (next : Course) (contents : ℕ → List ℕ) → MayStop contents (all_reports chosen s next) []
+may_stop_all : (chosen : Chosen) (s : Sources) (next : Course) (contents : ℕ → List ℕ) → MayStop contents (all_reports chosen s next) []
 may_stop_all chosen s next contents =
     may_stop_unless too_wide (wide_step chosen.exact s) (shown_reports chosen.shown chosen.hidden s (exact_report chosen.exact s next)) contents
     (shown_may_stop chosen.shown chosen.hidden s (exact_report chosen.exact s next) contents)
@@ -68,7 +68,7 @@ pub may_stop_reports : (chosen : Chosen) (image : Image) (total : Content) (next
 may_stop_reports chosen image total next contents = may_stop_all chosen (chosen_sources chosen image total) next contents
 
 -- a step of the exact times is too wide, or memory was wanted for them
-pub no_exact : (words : List (List ℕ)) (start new : Outside) (below : ℕ) (done : List Act) (chosen : Chosen) (s : ReportSources) (next : Course) (refusal : ExactRefusal) → chosen.exact ≡ true → IsWideAnswer s.graph s.shares.of refusal
+pub no_exact : (words : List (List ℕ)) (start new : Outside) (below : ℕ) (done : List Act) (chosen : Chosen) (s : Sources) (next : Course) (refusal : ExactRefusal) → chosen.exact ≡ true → IsWideAnswer s.graph s.shares.of refusal
     → Stands words start new below done (all_reports chosen s next) → Acted words start new (Err (exact_fault_of refusal))
 no_exact words start new below done chosen s next exacts.OutOfMemory asked wide stands =
     no_memory words start new below done (all_reports chosen s next) stands (may_stop_all chosen s next)
@@ -77,7 +77,7 @@ no_exact words start new below done chosen s next (exacts.TooWide head arc) aske
     (ap (λ (b : Bool). wide_step b s) asked ∙ wide) tt
 
 -- none is, where they are asked for
-pub narrow : (words : List (List ℕ)) (start new : Outside) (below : ℕ) (done : List Act) (chosen : Chosen) (image : Image) (s : Sources) (next : Course) (found : Option ExactFlowValue) → IsAsked chosen.exact s found
+pub narrow : (words : List (List ℕ)) (start new : Outside) (below : ℕ) (done : List Act) (chosen : Chosen) (image : Image) (s : Findings) (next : Course) (found : Option ExactFlowValue) → IsAsked chosen.exact s found
     → Stands words start new below done (all_reports chosen (given_sources image s) next)
     → Stands words start new below done (shown_reports chosen.shown chosen.hidden (given_sources image s) (exact_report (is_some found) (given_sources image s) next))
 narrow words start new below done chosen image s next found asked stands =

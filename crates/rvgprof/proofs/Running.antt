@@ -1,5 +1,5 @@
 -- A run that was started, as the words ask for it.
-use Rattle.std.proofs.Common.{◌≡◌, ℕ, ◌++◌, false, List, [], Option, Some, None, Result, Ok, Err, inl, refl, sym, ap, subst, ◌∙◌}
+use Rattle.std.proofs.Common.{◌≡◌, ℕ, ◌++◌, false, List, [], Option, Some, Result, Ok, Err, inl, refl, sym, ap, subst, ◌∙◌}
 use Rattle.std.specs.Prelude.{IsSome}
 use Rattle.elf32_syms.specs.declared.image.Image.{Image}
 use Rattle.host_port.specs.Act.{Act, writes_after}
@@ -15,55 +15,44 @@ use Rattle.prof_machine.specs.declared.machine.Machine.{Machine}
 use Rattle.prof_machine.specs.Start.{IsRefusal, final_world, machine_of, start_of, start_refusal}
 use Rattle.prof_machine.specs.Value.{RunValue, StandsFor, summary_of}
 use Rattle.prof_machine.specs.World.{World}
+use Rattle.rvgprof.specs.declared.outcome.Fault.{Fault}
 use Rattle.rvgprof.specs.declared.outcome.Fault.TheVariants.{WriteFault}
 use Rattle.rvgprof.specs.Course.{Course, Ends, Does, MayStop, unless}
 use Rattle.rvgprof.specs.Answer.{RunActs, run_program, start_fault_of, told}
 use Rattle.host_port.specs.Performing.{Performs}
 use Rattle.rvgprof.specs.Contract.{Acted}
-use Rattle.rvgprof.specs.Standing.{IsRunOf, Stands}
+use Rattle.rvgprof.specs.Standing.{IsRunOf, IsStartFault, IsStarted, Stands}
 use Rattle.rvgprof.proofs.Standing.{no_memory, may_stop_unless, refuses, goes_on, does, ends, fails}
 
 -- the run doesn't start
-pub not_started : (words : List (List ℕ)) (old new : Outside) (below : ℕ) (done : List Act) (due : Option StartRefusal) (next : Course) (refusal : StartRefusal) → ((contents : ℕ → List ℕ) → MayStop contents next [])
-    → Stands words old new below done (unless start_fault_of due next) → IsRefusal refusal due → Acted words old new (Err (start_fault_of refusal))
-not_started words old new below done due next starts.OutOfMemory may s is =
-    no_memory words old new below done (unless start_fault_of due next) s (λ contents. may_stop_unless start_fault_of due next contents (may contents))
-not_started words old new below done due next refusal may s is = refuses words old new below done start_fault_of due next refusal s is tt
+pub not_started : (words : List (List ℕ)) (old new : Outside) (below : ℕ) (done : List Act) (image : Image) (setup : Setup) (next : Course) (fault : Fault) → ((contents : ℕ → List ℕ) → MayStop contents next [])
+    → Stands words old new below done (unless start_fault_of (start_refusal image setup) next) → IsStartFault image setup fault → Acted words old new (Err fault)
+not_started words old new below done image setup next fault may s is =
+    subst (λ (fault : Fault). Acted words old new (Err fault)) (sym is.1) (by_refusal is.0 is.2)
+  where
+    by_refusal : (refusal : StartRefusal) → IsRefusal refusal (start_refusal image setup) → Acted words old new (Err (start_fault_of refusal))
+    by_refusal starts.OutOfMemory is =
+        no_memory words old new below done (unless start_fault_of (start_refusal image setup) next) s (λ contents. may_stop_unless start_fault_of (start_refusal image setup) next contents (may contents))
+    by_refusal refusal is = refuses words old new below done start_fault_of (start_refusal image setup) next refusal s is tt
 
-pub no_start : (words : List (List ℕ)) (old new : Outside) (below : ℕ) (done : List Act) (due : Option StartRefusal) (acts : List Act) (next : Course) (refusal : StartRefusal)
-    → Stands words old new below done (unless start_fault_of due (Does acts next)) → IsRefusal refusal due → Acted words old new (Err (start_fault_of refusal))
-no_start words old new below done due acts next refusal s is = not_started words old new below done due (Does acts next) refusal (λ contents. inl refl) s is
+pub no_start : (words : List (List ℕ)) (old new : Outside) (below : ℕ) (done : List Act) (image : Image) (setup : Setup) (acts : List Act) (next : Course) (fault : Fault)
+    → Stands words old new below done (unless start_fault_of (start_refusal image setup) (Does acts next)) → IsStartFault image setup fault → Acted words old new (Err fault)
+no_start words old new below done image setup acts next fault s is = not_started words old new below done image setup (Does acts next) fault (λ contents. inl refl) s is
 
 machine_sizes : (image : Image) (setup : Setup) → (machine_of image setup).sizes ≡ sizes_of image.text setup.hist setup.hash
 unfolding machine_of
 machine_sizes image setup = refl
 
--- The run was started with this image and setup.
-pub record Started (image : Image) (bytes : List ℕ) (setup : Setup) (given : List ℕ) (used : Setup) (v : RunValue) : Type 0 where
-  pub given_is : given ≡ bytes
-  pub used_is : used ≡ setup
-  pub starts : start_refusal image used ≡ None
-  pub stands : StandsFor (start_of image given used) v
-  pub machine : v.machine ≡ machine_of image used
-
 pub first_prints_none : (image : Image) (bytes : List ℕ) (setup : Setup) → (start_of image bytes setup).prints ≡ []
 unfolding start_of
 first_prints_none image bytes setup = refl
 
-module _ (image : Image) (bytes : List ℕ) (setup : Setup) (given : List ℕ) (used : Setup) (v : RunValue) (s : Started image bytes setup given used v) where
-  pub machine_is : v.machine ≡ machine_of image setup
-  machine_is = s.machine ∙ ap (machine_of image) s.used_is
-
-  pub last_is : driven v.machine (start_of image given used) ≡ final_world image bytes setup
-  last_is =
-      ap (λ (m : Machine). driven m (start_of image given used)) machine_is
-      ∙ ap (λ (x : List ℕ). driven (machine_of image setup) (start_of image x used)) s.given_is ∙ ap (λ (x : Setup). driven (machine_of image setup) (start_of image bytes x)) s.used_is
+module _ (image : Image) (bytes : List ℕ) (setup : Setup) (v : RunValue) (s : IsStarted image bytes setup v) where
+  pub last_is : driven v.machine (start_of image bytes setup) ≡ final_world image bytes setup
+  last_is = ap (λ (m : Machine). driven m (start_of image bytes setup)) s.machine
 
   sizes_are : v.machine.sizes ≡ sizes_of image.text setup.hist setup.hash
-  sizes_are = ap (λ (m : Machine). m.sizes) machine_is ∙ machine_sizes image setup
-
-  pub starts_is : start_refusal image setup ≡ None
-  starts_is = ap (start_refusal image) (sym s.used_is) ∙ s.starts
+  sizes_are = ap (λ (m : Machine). m.sizes) s.machine ∙ machine_sizes image setup
 
   -- what was done is what is due
   pub performs_due : {T E : Type 0} (acts : RunActs) (x y : Outside) (r : Result T E)
@@ -71,44 +60,44 @@ module _ (image : Image) (bytes : List ℕ) (setup : Setup) (given : List ℕ) (
       → Performs (acts (sizes_of image.text setup.hist setup.hash) (final_world image bytes setup)) x y r
   performs_due acts x y r performs =
       subst (λ (acts : List Act). Performs acts x y r)
-      (ap (λ (z : Sizes). acts z (driven v.machine (start_of image given used))) sizes_are ∙ ap (acts (sizes_of image.text setup.hist setup.hash)) last_is)
-      (performs (start_of image given used) s.stands (first_prints_none image given used))
+      (ap (λ (z : Sizes). acts z (driven v.machine (start_of image bytes setup))) sizes_are ∙ ap (acts (sizes_of image.text setup.hist setup.hash)) last_is)
+      (performs (start_of image bytes setup) s.stands (first_prints_none image bytes setup))
 
   -- it stands for the world in which it ends
   pub run_of : (v' : RunValue) → ((w : World) → StandsFor w v → StandsFor (driven v.machine w) v') → v'.machine ≡ v.machine → IsSome v'.ending → IsRunOf image bytes setup v'
   run_of v' stands same ended = record {
-    stands = subst (λ (w : World). StandsFor w v') last_is (stands (start_of image given used) s.stands);
+    stands = subst (λ (w : World). StandsFor w v') last_is (stands (start_of image bytes setup) s.stands);
     ended = ended;
     sizes = ap (λ (m : Machine). m.sizes) same ∙ sizes_are;
   }
 
 -- it was driven and its acts done
-pub run_done : {E : Type 0} (words : List (List ℕ)) (old mid new : Outside) (below : ℕ) (done : List Act) (acts : RunActs) (next : Sizes → World → Course) (image : Image) (bytes : List ℕ) (setup : Setup) (given : List ℕ) (used : Setup) (v : RunValue)
+pub run_done : {E : Type 0} (words : List (List ℕ)) (old mid new : Outside) (below : ℕ) (done : List Act) (acts : RunActs) (next : Sizes → World → Course) (image : Image) (bytes : List ℕ) (setup : Setup) (v : RunValue)
     → (Performs {T = Unit {0}} {E = E} (acts (sizes_of image.text setup.hist setup.hash) (final_world image bytes setup)) mid new (Ok tt) → mid.is_writing ≡ false → writes_after (acts (sizes_of image.text setup.hist setup.hash) (final_world image bytes setup)) false ≡ false)
-    → Stands words old mid below done (run_program acts setup next bytes image) → Started image bytes setup given used v
+    → Stands words old mid below done (run_program acts setup next bytes image) → IsStarted image bytes setup v
     → ((w : World) → StandsFor w v → w.prints ≡ [] → Performs {T = Unit {0}} {E = E} (acts v.machine.sizes (driven v.machine w)) mid new (Ok tt))
     → (all : List Act) × Stands words old new below all (next (sizes_of image.text setup.hist setup.hash) (final_world image bytes setup))
-run_done {E} words old mid new below done acts next image bytes setup given used v shut s started performs =
+run_done {E} words old mid new below done acts next image bytes setup v shut s started performs =
     let z = sizes_of image.text setup.hist setup.hash in
     let w = final_world image bytes setup in
-    let p = performs_due image bytes setup given used v started {T = Unit {0}} {E = E} acts mid new (Ok tt) performs in (
+    let p = performs_due image bytes setup v started {T = Unit {0}} {E = E} acts mid new (Ok tt) performs in (
       done ++ acts z w,
       does {T = Unit {0}} {E = E} words old mid new below done (acts z w) (next z w) tt
-          (goes_on words old mid below done start_fault_of (start_refusal image setup) (Does (acts z w) (next z w)) s (starts_is image bytes setup given used v started))
+          (goes_on words old mid below done start_fault_of (start_refusal image setup) (Does (acts z w) (next z w)) s started.starts)
           p (shut p s.shut),
     )
 
 -- a call on the host failed
-pub run_failed : {E : Type 0} (words : List (List ℕ)) (old mid new : Outside) (below : ℕ) (done : List Act) (acts : RunActs) (next : Sizes → World → Course) (image : Image) (bytes : List ℕ) (setup : Setup) (given : List ℕ) (used : Setup) (v : RunValue) (e : E)
-    → Stands words old mid below done (run_program acts setup next bytes image) → Started image bytes setup given used v
+pub run_failed : {E : Type 0} (words : List (List ℕ)) (old mid new : Outside) (below : ℕ) (done : List Act) (acts : RunActs) (next : Sizes → World → Course) (image : Image) (bytes : List ℕ) (setup : Setup) (v : RunValue) (e : E)
+    → Stands words old mid below done (run_program acts setup next bytes image) → IsStarted image bytes setup v
     → ((w : World) → StandsFor w v → w.prints ≡ [] → Performs {T = Unit {0}} (acts v.machine.sizes (driven v.machine w)) mid new (Err e))
     → Acted words old new (Err WriteFault)
-run_failed {E} words old mid new below done acts next image bytes setup given used v e s started performs =
+run_failed {E} words old mid new below done acts next image bytes setup v e s started performs =
     let z = sizes_of image.text setup.hist setup.hash in
     let w = final_world image bytes setup in
     fails {T = Unit {0}} words old mid new below done (acts z w) (next z w) e
-    (goes_on words old mid below done start_fault_of (start_refusal image setup) (Does (acts z w) (next z w)) s (starts_is image bytes setup given used v started))
-    (performs_due image bytes setup given used v started {T = Unit {0}} {E = E} acts mid new (Err e) performs)
+    (goes_on words old mid below done start_fault_of (start_refusal image setup) (Does (acts z w) (next z w)) s started.starts)
+    (performs_due image bytes setup v started {T = Unit {0}} {E = E} acts mid new (Err e) performs)
 
 -- how a run went is what is to be told
 pub summary_is : (image : Image) (bytes : List ℕ) (setup : Setup) (v : RunValue) (summary : RunSummary) → IsRunOf image bytes setup v → ((w : World) → StandsFor w v → summary_of v.machine.sizes w ≡ Some summary)

@@ -18,60 +18,60 @@ use Rattle.rvgprof.specs.declared.outcome.Fault.TheVariants.{Unlike}
 use Rattle.rvgprof.specs.Course.{Course, MayStop, unless}
 use Rattle.rvgprof.specs.Answer.{profiles, profile_in, add_fault_of, sum_fault_of}
 use Rattle.rvgprof.specs.Contract.{Acted}
-use Rattle.rvgprof.specs.Standing.{Stands, MayYetStop}
+use Rattle.rvgprof.specs.Standing.{Stands, MayYetStop, added_up}
 use Rattle.profile_sum.proofs.ContentLemmas.{content_is_added, content_sum}
 use Rattle.rvgprof.proofs.Standing.{no_memory, may_stop_unless, refuses, goes_on}
 
--- what the command does with a file's records
-abbrev pub added : ℕ → ℕ → Content → List ℕ → (Content → Course) → ℕ → Records → Course
-added word left total more next len records =
-    unless (λ unlike. Unlike unlike word) (conflict_of empty_content (wide_records records.recs))
-    (unless (λ unlike. Unlike unlike word) (clash_of total (profile_in records))
-    (profiles more (left - len) (sum_of total (profile_in records)) next))
+-- what the command does with a file's profile
+abbrev pub summed_up : ℕ → ℕ → Content → List ℕ → (Content → Course) → ℕ → Content → Course
+summed_up word left total more next len profile =
+    unless (λ unlike. Unlike unlike word) (clash_of total profile) (profiles more (left - len) (sum_of total profile) next)
 
 may_stop_profiles : (contents : ℕ → List ℕ) (more : List ℕ) (left : ℕ) (total : Content) (next : Content → Course) → MayYetStop next → MayStop contents (profiles more left total next) []
 may_stop_profiles contents [] left total next may = may contents total
 may_stop_profiles contents (word ∷ more) left total next may = inl refl
 
-module _ (words : List (List ℕ)) (start new : Outside) (below word left : ℕ) (total : Content) (more : List ℕ) (next : Content → Course) (len : ℕ) (records : Records) (may : MayYetStop next)
-    (s : Stands words start new below [] (added word left total more next len records)) where
+pub may_stop_summed : (word left : ℕ) (total : Content) (more : List ℕ) (next : Content → Course) → MayYetStop next → (len : ℕ) → MayYetStop (summed_up word left total more next len)
+may_stop_summed word left total more next may len = λ contents profile.
+    may_stop_unless (λ unlike. Unlike unlike word) (clash_of total profile) (profiles more (left - len) (sum_of total profile) next) contents
+    (may_stop_profiles contents more (left - len) (sum_of total profile) next may)
+
+module _ (words : List (List ℕ)) (start new : Outside) (below word : ℕ) where
   abbrev fault : Difference → Fault
   fault unlike = Unlike unlike word
 
-  abbrev conflict : Option Difference
-  conflict = conflict_of empty_content (wide_records records.recs)
+  -- a file's own histograms
+  module _ (next : ℕ → Content → Course) (len : ℕ) (records : Records) (may : MayYetStop (next len)) (s : Stands words start new below [] (added_up word next len records)) where
+    abbrev conflict : Option Difference
+    conflict = conflict_of empty_content (wide_records records.recs)
 
-  abbrev clash : Option Difference
-  clash = clash_of total (profile_in records)
+    -- they can't be added up
+    pub not_added : (refusal : AddRefusal) → IsUnlike refusal conflict → Acted words start new (Err (add_fault_of refusal word))
+    not_added adding.OutOfMemory is =
+        no_memory words start new below [] (added_up word next len records) s (λ contents. may_stop_unless fault conflict (next len (profile_in records)) contents (may contents (profile_in records)))
+    not_added (adding.Unlike unlike) is = refuses words start new below [] fault conflict (next len (profile_in records)) unlike s is tt
 
-  abbrev rest : Course
-  rest = profiles more (left - len) (sum_of total (profile_in records)) next
+    pub one_added : (profile : Content) → conflict ≡ None → profile ≡ with_records (wide_records records.recs) empty_content → Stands words start new below [] (next len profile)
+    one_added profile accepted is =
+        subst (λ (p : Content). Stands words start new below [] (next len p)) (sym (is ∙ sym (content_is_added (wide_records records.recs))))
+        (goes_on words start new below [] fault conflict (next len (profile_in records)) s accepted)
 
-  may_stop : (contents : ℕ → List ℕ) → MayStop contents (unless fault clash rest) []
-  may_stop contents = may_stop_unless fault clash rest contents (may_stop_profiles contents more (left - len) (sum_of total (profile_in records)) next may)
+  -- and those of earlier files
+  module _ (left : ℕ) (total : Content) (more : List ℕ) (next : Content → Course) (len : ℕ) (profile : Content) (may : MayYetStop next)
+      (s : Stands words start new below [] (summed_up word left total more next len profile)) where
+    abbrev rest : Course
+    rest = profiles more (left - len) (sum_of total profile) next
 
-  -- its own histograms can't be added up
-  pub not_added : (refusal : AddRefusal) → IsUnlike refusal conflict → Acted words start new (Err (add_fault_of refusal word))
-  not_added adding.OutOfMemory is =
-      no_memory words start new below [] (added word left total more next len records) s (λ contents. may_stop_unless fault conflict (unless fault clash rest) contents (may_stop contents))
-  not_added (adding.Unlike unlike) is = refuses words start new below [] fault conflict (unless fault clash rest) unlike s is tt
-
-  module _ (accepted : conflict ≡ None) (profile : Content) (is : profile ≡ with_records (wide_records records.recs) empty_content) where
-    one_profile : profile ≡ profile_in records
-    one_profile = is ∙ sym (content_is_added (wide_records records.recs))
-
-    s2 : Stands words start new below [] (unless fault clash rest)
-    s2 = goes_on words start new below [] fault conflict (unless fault clash rest) s accepted
-
-    -- they can't be added to those of earlier files
+    -- they can't be added to those
     pub not_summed : (refusal : SumRefusal) → IsClash refusal (clash_of total profile) → Acted words start new (Err (sum_fault_of refusal word))
-    not_summed summing.OutOfMemory due = no_memory words start new below [] (unless fault clash rest) s2 may_stop
-    not_summed (summing.Unlike unlike) due = refuses words start new below [] fault clash rest unlike s2 (ap (clash_of total) (sym one_profile) ∙ due) tt
+    not_summed summing.OutOfMemory due =
+        no_memory words start new below [] (unless fault (clash_of total profile) rest) s
+        (λ contents. may_stop_unless fault (clash_of total profile) rest contents (may_stop_profiles contents more (left - len) (sum_of total profile) next may))
+    not_summed (summing.Unlike unlike) due = refuses words start new below [] fault (clash_of total profile) rest unlike s due tt
 
     pub summed : (sum : Content) → clash_of total profile ≡ None → sum ≡ sum_of total profile → Stands words start new below [] (profiles more (left - len) sum next)
     summed sum none added =
-        subst (λ (c : Content). Stands words start new below [] (profiles more (left - len) c next)) (sym (added ∙ ap (sum_of total) one_profile))
-        (goes_on words start new below [] fault clash rest s2 (ap (clash_of total) (sym one_profile) ∙ none))
+        subst (λ (c : Content). Stands words start new below [] (profiles more (left - len) c next)) (sym added) (goes_on words start new below [] fault (clash_of total profile) rest s none)
 
 -- ---- a total that holds nothing
 

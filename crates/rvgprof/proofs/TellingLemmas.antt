@@ -31,7 +31,7 @@ use Rattle.rvgprof.specs.Words.{command_of, IsCommandOf}
 use Rattle.rvgprof.specs.Course.{Course, Input, Does, one_by_one, unless, reply_to}
 use Rattle.rvgprof.specs.Items.{name_of}
 use Rattle.annotate.specs.Listing.{annotated_text}
-use Rattle.flat_report.specs.Sources.{Sources as ReportSources}
+use Rattle.flat_report.specs.Sources.{Sources}
 use Rattle.host_port.specs.Act.{Act, Out}
 use Rattle.rvgprof.specs.Answer.{Chosen, RunActs, chosen_by, chosen_sources, command_course, course_of, demo_lines, ended, exact_report, file_refusal, file_records, files_named, fold_program, given_file_acts, list_profiles, print_reports, profile_file, profile_in, profiles, program, report_profiles, report_run, run_acts, run_program, show_lines, shown_reports, stacks_told, start_fault_of, sum_file, syms_lines, told, too_wide, wide_step, written_profile}
 use Rattle.elf32_syms.specs.declared.refusal.ElfRefusal.{ElfRefusal}
@@ -94,11 +94,11 @@ module _ (contents : ℕ → List ℕ) (some : Bool) where
       tells_unless fault (conflict_of empty_content (wide_records records.recs)) (second len records) (λ r is. tt)
       (tells_unless fault (clash_of total (profile_in records)) (rest len records) (λ r is. tt) (tells_profiles words (left - len) (sum_of total (profile_in records)) next tells)))
 
-  tells_exact : (exact : Bool) (s : ReportSources) (next : Course) → Tells next → Tells (exact_report exact s next)
+  tells_exact : (exact : Bool) (s : Sources) (next : Course) → Tells next → Tells (exact_report exact s next)
   tells_exact false s next tells = tells
   tells_exact true s next tells = tells
 
-  tells_shown : (shown : Shown) (hidden : List (List ℕ)) (s : ReportSources) (next : Course) → Tells next → Tells (shown_reports shown hidden s next)
+  tells_shown : (shown : Shown) (hidden : List (List ℕ)) (s : Sources) (next : Course) → Tells next → Tells (shown_reports shown hidden s next)
   tells_shown shows.Flat hidden s next tells = tells
   tells_shown shows.Graph hidden s next tells = tells
   tells_shown shows.Both hidden s next tells = tells

@@ -1,5 +1,5 @@
 -- What it means that a profile file was read in pieces.
-use Rattle.std.specs.Prelude.{◌≡◌, ℕ, ◌<◌, ◌≤◌, List, [], length, Result, Ok, Err, ⊤}
+use Rattle.std.specs.Prelude.{◌≡◌, ℕ, ◌<◌, ◌≤◌, List, [], length, None, Result, Ok, Err, ⊤}
 use Rattle.gp_base.specs.declared.records.Form.TheVariants.{Bsd, Gnu}
 use Rattle.gmon_bsd.specs.Fed as bsd
 use Rattle.gmon_gnu.specs.Fed as gnu
@@ -10,7 +10,12 @@ use Rattle.host_port.specs.Host.{IfTold}
 use Rattle.host_port.specs.Load.{Loads}
 use Rattle.rvgprof.specs.declared.profile_file.FileReader.{FileReader}
 use Rattle.rvgprof.specs.declared.profile_file.FileReader.TheVariants as reader
-use Rattle.rvgprof.specs.Answer.{form_of}
+use Rattle.gmon_data.specs.Content.{Content, WideRec, IsWithin, empty_content, wide_records, with_records}
+use Rattle.rvgprof.specs.Answer.{form_of, file_records, file_refusal}
+
+-- what a file spells, as records of a profile
+abbrev pub spelled_records : List ℕ → List WideRec
+spelled_records bytes = wide_records (file_records bytes).recs
 
 -- how many bytes were fed
 abbrev pub len_of : FileReader → ℕ
@@ -30,6 +35,14 @@ abbrev pub StandsFor : List ℕ → FileReader → Type 0
 StandsFor bytes (reader.Front front) = (front ≡ bytes) × (length bytes < 4)
 StandsFor bytes (reader.Bsd r) = bsd.StandsFor bytes r × (form_of bytes ≡ Bsd) × (4 ≤ length bytes)
 StandsFor bytes (reader.Gnu r) = gnu.StandsFor bytes r × (form_of bytes ≡ Gnu) × (4 ≤ length bytes)
+
+-- The reader stands for bytes that are refused, or spell records with which the profile stays within its limits.
+abbrev pub HasRoomFor : Content → FileReader → Type 0
+HasRoomFor profile r = (bytes : List ℕ) × StandsFor bytes r × (file_refusal bytes ≡ None → IsWithin (with_records (spelled_records bytes) profile))
+
+-- some records add up to the profile
+abbrev pub IsAddedUp : Content → Type 0
+IsAddedUp profile = (recs : List WideRec) × (profile ≡ with_records recs empty_content)
 
 -- the named file was read to its end, and these are its bytes, as far as it is told
 pub record IsContent (name : List ℕ) (limit : ℕ) (old new : Outside) (bytes : List ℕ) : Type 0 where

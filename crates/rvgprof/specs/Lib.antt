@@ -5,7 +5,7 @@ pub mod Words
 pub mod Texts
 pub mod Course
 pub mod Reports
-pub mod Found
+pub mod Findings
 pub mod Help
 pub mod FoldedReport
 pub mod Answer
@@ -15,5 +15,6 @@ pub mod RunFile
 pub mod Acceptance
 pub mod Headline
 pub mod Standing
-pub mod ProfileSizes
+pub mod FileSpelling
 pub mod FileRead
+pub mod Claims

@@ -20,8 +20,8 @@ rate_of p = option_map_or (λ u. u.rate) p.«unit» 100
 
 -- what its reports are made from: how its samples are shared among the symbols, and how time flows over the graph of
 -- its calls
-unfoldable pub sources_of : Image → Content → Sources
-sources_of image total =
+unfoldable pub profile_sources : Image → Content → Sources
+profile_sources image total =
     let shares = shares_of total.hists image.symbols in
     let graph = profile_graph total.arcs image.symbols in
     record { symbols = image.symbols; graph = graph; flow = flow_in graph shares.of; shares = shares; rate = rate_of total }

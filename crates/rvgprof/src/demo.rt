@@ -15,13 +15,13 @@ ghost use Rattle.rvgprof.specs.Reports.{cycle_count, demo_run_line, grains_line}
 ghost use Rattle.rvgprof.specs.Standing.{IsDemoRead, IsDemoRefused, RunsDemo, Stands, SumsUp, TellsDemo};
 
 use crate::files::write_file;
+use crate::findings::{Findings, findings_of};
 use crate::items::name_at;
 use crate::lines::put_number;
 use crate::outcome::{Done, Fault};
 use crate::printing::print_text;
 use crate::refusals::{elf_fault, report_fault};
 use crate::runs::run_alone;
-use crate::sources::{Sources, sources_of};
 use call_cycles::Graph;
 use elf32_syms::Image;
 use flat_report::ReportRefusal;
@@ -54,15 +54,7 @@ pub fn demo<H: Host>(
         Err(fault) => return Err(fault),
     };
     match write_program(words, elf, bytes.as_slice(), host) {
-        Ok(()) => run_demo(
-            alloc,
-            words,
-            functions,
-            &image,
-            bytes.as_slice(),
-            setup,
-            host,
-        ),
+        Ok(()) => run_demo(alloc, functions, &image, bytes.as_slice(), setup, host),
         Err(_) => Err(Fault::WriteFault),
     }
 }
@@ -70,7 +62,6 @@ pub fn demo<H: Host>(
 /// Runs the demo program, and prints a summary of its run.
 fn run_demo<H: Host>(
     alloc: Global,
-    words: &[String],
     functions: u32,
     image: &Image,
     bytes: &[u8],
@@ -79,9 +70,9 @@ fn run_demo<H: Host>(
 ) -> Result<Done, Fault>
     requires limits { IsWithinLimits (length bytes.now) image.now }
     requires within { IsSetup setup }
-    ensures { RunsDemo (map string_bytes words.now) functions setup image.now bytes.now (H.outside host.old) (H.outside host.new) result }
+    ensures { RunsDemo functions setup image.now bytes.now (H.outside host.old) (H.outside host.new) result }
 {
-    let run = match run_alone(alloc, words, image, bytes, setup, host) {
+    let run = match run_alone(alloc, image, bytes, setup, host) {
         Ok(run) => run,
         Err(fault) => return Err(fault),
     };
@@ -139,23 +130,23 @@ fn tell_demo<H: Host>(
     ensures { TellsDemo functions image.now run.now rate (H.outside host.old) (H.outside host.new) result }
 {
     let total = run_profile(alloc, run.gmon(), rate)?;
-    let sources = sources_of(alloc, image, &total)?;
-    print_text(summary_of(functions, run, &sources).bytes(), host)
+    let findings = findings_of(alloc, image, total)?;
+    print_text(summary_of(functions, run, &findings).bytes(), host)
 }
 
 /// The two lines of a demo's summary: how its run went, and how its samples were attributed.
 #[tactic(auto, using(text_cols::proofs::Lengths::lengths))]
-fn summary_of(functions: u32, run: &Run, sources: &Sources) -> Line
+fn summary_of(functions: u32, run: &Run, findings: &Findings) -> Line
     requires ended { IsSome run.now.ending }
-    requires few { length sources.now.shares.of ≡ sources.now.graph.functions }
-    requires flow { IsFlow sources.now.graph sources.now.shares.of sources.now.flow }
-    requires graph { IsGraph sources.now.graph }
-    ensures { SumsUp functions run.now sources.now result }
+    requires few { length findings.now.shares.of ≡ findings.now.graph.functions }
+    requires flow { IsFlow findings.now.graph findings.now.shares.of findings.now.flow }
+    requires graph { IsGraph findings.now.graph }
+    ensures { SumsUp functions run.now findings.now result }
 {
     let pairs = run.gmon().pairs();
-    let cycles = cycles_of(&sources.graph);
-    let attributed = sources.shares.attributed();
-    let roots = roots_of(&sources.graph, &sources.flow);
+    let cycles = cycles_of(&findings.graph);
+    let attributed = findings.shares.attributed();
+    let roots = roots_of(&findings.graph, &findings.flow);
     let mut line = Line::new();
     put_run(&mut line, functions, run.summary(), pairs, cycles);
     put_grains(&mut line, attributed, roots);

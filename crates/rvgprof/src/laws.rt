@@ -13,6 +13,7 @@ ghost use Rattle.rvgprof.specs.Contract.{Answered, LineEnds, WhereTold};
 ghost use Rattle.rvgprof.specs.Completeness.{Stayed, NoneFailed, Complete};
 ghost use Rattle.rvgprof.specs.Acceptance.{IsAccepted, acts_at_once};
 ghost use Rattle.rvgprof.specs.Headline.{ExecutionsAreListed};
+ghost use Rattle.rvgprof.specs.Claims.{Claims};
 ghost use Rattle.rvgprof.specs.RunFile.{ProfileFilesAreReadBack, RunFilesAreReadBack};
 
 /// The files that the program writes say what they are made from, and are read in the form that their first
@@ -63,3 +64,27 @@ pub fn what_memory_leaves()
 pub fn lines_are_short()
     ensures { (words : List (List ℕ)) → 200 < length words → command_of words ≡ None }
 {}
+
+/// What the words of the headline rest on in the layers below, in one statement. Each claim is written out, and
+/// follows from the law of its layer that is called here, so that none of these laws can come to say less.
+pub fn claims()
+    ensures { Claims }
+{
+    gmon_bsd::laws::one_meaning();
+    gmon_gnu::laws::one_meaning();
+    gmon_gnu::laws::first_fault();
+    profile_sum::laws::sum_of_contents();
+    prof_machine::laws::runs_end();
+    prof_machine::laws::clock();
+    prof_machine::laws::notes_tell();
+    mcount_arcs::laws::longest_front_is_kept();
+    symbol_shares::laws::covered_ranges();
+    call_cycles::laws::one_numbering();
+    propagate::laws::one_flow();
+    propagate::laws::conservation();
+    propagate::laws::time_in_proportion();
+    flat_report::laws::time_up_to_the_last_line();
+    flat_report::laws::calls_of_all_lines();
+    graph_report::laws::entries_of_roots();
+    graph_report::laws::callers_and_callees_rise();
+}

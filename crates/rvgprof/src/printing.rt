@@ -11,14 +11,14 @@ ghost use Rattle.flat_report.specs.declared.refusal.ReportRefusal.TheVariants.{O
 ghost use Rattle.flat_report.specs.FlatText.{flat_text};
 ghost use Rattle.graph_report.specs.GraphText.{graph_text};
 ghost use Rattle.rvgprof.specs.Answer.{chosen_by, names_at};
-ghost use Rattle.rvgprof.specs.Found.{AreSources, FitTogether, IsAsked, given_sources};
+ghost use Rattle.rvgprof.specs.Findings.{AreFindings, FitTogether, IsAsked, given_sources};
 ghost use Rattle.rvgprof.specs.Standing.{PrintsAll, PrintsExact, PrintsReports, PrintsShown, TellsNoMore};
 ghost use Rattle.rvgprof.specs.Words.{AreCuts};
 
+use crate::findings::{Findings, findings_of};
 use crate::names::names_at;
 use crate::outcome::Fault;
 use crate::refusals::{exact_fault, report_fault};
-use crate::sources::{Sources, sources_of};
 use crate::words::{Selection, Shown};
 use arc_filter::cut;
 use elf32_syms::Image;
@@ -30,7 +30,7 @@ use host_port::{Host, out_all_of};
 use std::alloc::{AllocError, Global};
 
 /// Prints the reports that are asked for, of a profile and by the symbols of a program. The profile is let
-/// go as soon as its sources are made.
+/// go as soon as its findings are there.
 pub fn print_reports<H: Host>(
     alloc: Global,
     words: &[String],
@@ -47,10 +47,10 @@ pub fn print_reports<H: Host>(
     let Ok(hidden) = names_at(alloc, words, selection.hidden.as_slice()) else {
         return Err(Fault::OutOfMemory);
     };
-    let Ok(sources) = chosen_sources(alloc, words, selection, image, total) else {
+    let Ok(findings) = chosen_findings(alloc, words, selection, image, total) else {
         return Err(Fault::OutOfMemory);
     };
-    let exact = match exact_asked(alloc, selection.exact, &sources) {
+    let exact = match exact_asked(alloc, selection.exact, &findings) {
         Ok(exact) => exact,
         Err(refusal) => return Err(exact_fault(refusal)),
     };
@@ -58,7 +58,7 @@ pub fn print_reports<H: Host>(
         alloc,
         selection.shown,
         image,
-        &sources,
+        &findings,
         &hidden,
         &exact,
         host,
@@ -68,41 +68,41 @@ pub fn print_reports<H: Host>(
     }
 }
 
-/// What the reports of a profile are made from, without the calls that are cut.
-fn chosen_sources(
+/// What is found of a profile without the calls that are cut.
+fn chosen_findings(
     alloc: Global,
     words: &[String],
     selection: &Selection,
     image: &Image,
     total: Profile,
-) -> Result<Sources, AllocError>
+) -> Result<Findings, AllocError>
     requires ascending { IsAscending image.now.symbols }
     requires cuts { AreCuts (map string_bytes words.now) selection.now }
-    ensures { IfOk result (λ s. AreSources image.now (without_cuts total image.now.symbols (names_at (map string_bytes words.now) selection.now.cuts)) s) }
+    ensures { IfOk result (λ f. AreFindings image.now (without_cuts total image.now.symbols (names_at (map string_bytes words.now) selection.now.cuts)) f) }
 {
     if selection.cuts.as_slice().is_empty() {
-        return sources_of(alloc, image, &total);
+        return findings_of(alloc, image, total);
     }
     let cuts = names_at(alloc, words, selection.cuts.as_slice())?;
     let left = cut(alloc, &total, image.symbols.as_slice(), &cuts)?;
     drop(total);
-    sources_of(alloc, image, &left)
+    findings_of(alloc, image, left)
 }
 
 /// The times with nothing rounded, where they are asked for.
 fn exact_asked(
     alloc: Global,
     asked: bool,
-    sources: &Sources,
+    findings: &Findings,
 ) -> Result<Option<ExactFlow>, ExactRefusal>
-    requires { length sources.now.shares.of ≡ sources.now.graph.functions }
-    ensures found { IfOk result (IsAsked asked sources.now) }
-    ensures refused { IfErr result (λ refusal. (asked ≡ true) × IsWideAnswer sources.now.graph sources.now.shares.of refusal) }
+    requires { length findings.now.shares.of ≡ findings.now.graph.functions }
+    ensures found { IfOk result (IsAsked asked findings.now) }
+    ensures refused { IfErr result (λ refusal. (asked ≡ true) × IsWideAnswer findings.now.graph findings.now.shares.of refusal) }
 {
     if !asked {
         return Ok(None);
     }
-    match exact(alloc, &sources.graph, &sources.shares) {
+    match exact(alloc, &findings.graph, &findings.shares) {
         Ok(exact) => Ok(Some(exact)),
         Err(refusal) => Err(refusal),
     }
@@ -113,21 +113,21 @@ fn print_all<H: Host>(
     alloc: Global,
     shown: Shown,
     image: &Image,
-    sources: &Sources,
+    findings: &Findings,
     hidden: &[String],
     exact: &Option<ExactFlow>,
     host: &mut H,
 ) -> Result<(), ReportRefusal>
-    requires fit { FitTogether image.now sources.now }
-    requires exact { IfSome exact.now (λ e. e ≡ exact_flow_in sources.now.graph sources.now.shares.of) }
-    requires times { IfSome exact.now (HasTimes sources.now.graph) }
-    ensures prints { PrintsAll shown (map string_bytes hidden.now) (is_some exact.now) (given_sources image.now sources.now) (H.outside host.old) (H.outside host.new) result }
+    requires fit { FitTogether image.now findings.now }
+    requires exact { IfSome exact.now (λ e. e ≡ exact_flow_in findings.now.graph findings.now.shares.of) }
+    requires times { IfSome exact.now (HasTimes findings.now.graph) }
+    ensures prints { PrintsAll shown (map string_bytes hidden.now) (is_some exact.now) (given_sources image.now findings.now) (H.outside host.old) (H.outside host.new) result }
     ensures told { OnOk result (TellsNoMore (H.outside host.old) (H.outside host.new)) }
 {
-    print_shown(alloc, shown, image, sources, hidden, host)?;
+    print_shown(alloc, shown, image, findings, hidden, host)?;
     match exact {
         None => Ok(()),
-        Some(exact) => print_exact(image, sources, exact, host),
+        Some(exact) => print_exact(image, findings, exact, host),
     }
 }
 
@@ -136,21 +136,21 @@ fn print_shown<H: Host>(
     alloc: Global,
     shown: Shown,
     image: &Image,
-    sources: &Sources,
+    findings: &Findings,
     hidden: &[String],
     host: &mut H,
 ) -> Result<(), ReportRefusal>
-    requires { FitTogether image.now sources.now }
-    ensures prints { PrintsShown shown (map string_bytes hidden.now) (given_sources image.now sources.now) (H.outside host.old) (H.outside host.new) result }
+    requires { FitTogether image.now findings.now }
+    ensures prints { PrintsShown shown (map string_bytes hidden.now) (given_sources image.now findings.now) (H.outside host.old) (H.outside host.new) result }
     ensures told { OnOk result (TellsNoMore (H.outside host.old) (H.outside host.new)) }
 {
     match shown {
-        Shown::Flat => print_flat(alloc, image, sources, hidden, host),
-        Shown::Graph => print_graph(alloc, image, sources, hidden, host),
+        Shown::Flat => print_flat(alloc, image, findings, hidden, host),
+        Shown::Graph => print_graph(alloc, image, findings, hidden, host),
         Shown::Both => {
-            print_flat(alloc, image, sources, hidden, host)?;
+            print_flat(alloc, image, findings, hidden, host)?;
             print_text(b"\n", host)?;
-            print_graph(alloc, image, sources, hidden, host)
+            print_graph(alloc, image, findings, hidden, host)
         }
     }
 }
@@ -158,22 +158,22 @@ fn print_shown<H: Host>(
 /// Prints the times with nothing rounded, behind an empty line.
 fn print_exact<H: Host>(
     image: &Image,
-    sources: &Sources,
+    findings: &Findings,
     exact: &ExactFlow,
     host: &mut H,
 ) -> Result<(), ReportRefusal>
-    requires fit { FitTogether image.now sources.now }
-    requires exact { exact.now ≡ exact_flow_in sources.now.graph sources.now.shares.of }
-    requires times { HasTimes sources.now.graph exact.now }
-    ensures prints { PrintsExact (given_sources image.now sources.now) (H.outside host.old) (H.outside host.new) result }
+    requires fit { FitTogether image.now findings.now }
+    requires exact { exact.now ≡ exact_flow_in findings.now.graph findings.now.shares.of }
+    requires times { HasTimes findings.now.graph exact.now }
+    ensures prints { PrintsExact (given_sources image.now findings.now) (H.outside host.old) (H.outside host.new) result }
     ensures told { OnOk result (TellsNoMore (H.outside host.old) (H.outside host.new)) }
 {
     print_text(b"\n", host)?;
     write_exact(
         image.symbols.as_slice(),
-        &sources.graph,
+        &findings.graph,
         exact,
-        sources.shares.attributed(),
+        findings.shares.attributed(),
         host,
     )?;
     Ok(())
@@ -183,21 +183,21 @@ fn print_exact<H: Host>(
 fn print_flat<H: Host>(
     alloc: Global,
     image: &Image,
-    sources: &Sources,
+    findings: &Findings,
     hidden: &[String],
     host: &mut H,
 ) -> Result<(), ReportRefusal>
-    requires { FitTogether image.now sources.now }
-    ensures printed { Reports (flat_text (given_sources image.now sources.now) (map string_bytes hidden.now)) (H.outside host.old) (H.outside host.new) result }
+    requires { FitTogether image.now findings.now }
+    ensures printed { Reports (flat_text (given_sources image.now findings.now) (map string_bytes hidden.now)) (H.outside host.old) (H.outside host.new) result }
     ensures idle { result ≡ Err OutOfMemory → host.new ≡ host.old }
 {
     flat_report::write(
         alloc,
         image.symbols.as_slice(),
-        &sources.graph,
-        &sources.flow,
-        &sources.shares,
-        sources.rate,
+        &findings.graph,
+        &findings.flow,
+        &findings.shares,
+        findings.rate,
         hidden,
         host,
     )
@@ -207,21 +207,21 @@ fn print_flat<H: Host>(
 fn print_graph<H: Host>(
     alloc: Global,
     image: &Image,
-    sources: &Sources,
+    findings: &Findings,
     hidden: &[String],
     host: &mut H,
 ) -> Result<(), ReportRefusal>
-    requires { FitTogether image.now sources.now }
-    ensures printed { Reports (graph_text (given_sources image.now sources.now) (map string_bytes hidden.now)) (H.outside host.old) (H.outside host.new) result }
+    requires { FitTogether image.now findings.now }
+    ensures printed { Reports (graph_text (given_sources image.now findings.now) (map string_bytes hidden.now)) (H.outside host.old) (H.outside host.new) result }
     ensures idle { result ≡ Err OutOfMemory → host.new ≡ host.old }
 {
     graph_report::write(
         alloc,
         image.symbols.as_slice(),
-        &sources.graph,
-        &sources.flow,
-        &sources.shares,
-        sources.rate,
+        &findings.graph,
+        &findings.flow,
+        &findings.shares,
+        findings.rate,
         hidden,
         host,
     )

@@ -1,6 +1,6 @@
 //! Runs of programs, and what they write.
 
-ghost use Rattle.std.specs.Prelude.{◌≡◌, ◌+◌, ◌*◌, ◌<◌, ◌^◌, ℕ, [], true, false, length, map, string_bytes, IsSome, IfOk, IfSome, OnOk, Some};
+ghost use Rattle.std.specs.Prelude.{◌≡◌, ◌+◌, ◌*◌, ◌<◌, ◌^◌, ℕ, List, [], true, false, length, map, string_bytes, IsSome, IfErr, IfOk, IfSome, OnOk, Some};
 ghost use Rattle.elf32_syms.specs.Image.{IsWithinLimits};
 ghost use Rattle.gmon_block.specs.Layout.{layout_of};
 ghost use Rattle.host_port.specs.Host.{Puts};
@@ -13,7 +13,7 @@ ghost use Rattle.prof_machine.specs.Value.{IsLive, StandsFor};
 ghost use Rattle.prof_machine.specs.World.{World};
 ghost use Rattle.rvgprof.specs.Answer.{file_acts, files_named, given_file_acts, held_text, run_acts, runtime_text};
 ghost use Rattle.rvgprof.specs.Items.{name_of};
-ghost use Rattle.rvgprof.specs.Standing.{IsRunOf, RunsProgram, TellsNoMore};
+ghost use Rattle.rvgprof.specs.Standing.{IsRunOf, IsStartFault, IsStarted, RunsProgram, TellsNoMore};
 ghost use Rattle.std.specs.Option.{option_map};
 
 use crate::files::write_file;
@@ -35,6 +35,19 @@ pub struct RunOutputs {
     pub image: Option<u32>,
 }
 
+/// Starts a run of a program.
+pub fn start_run(alloc: Global, image: &Image, bytes: &[u8], setup: Setup) -> Result<Run, Fault>
+    requires limits { IsWithinLimits (length bytes.now) image.now }
+    requires setup { IsSetup setup }
+    ensures started { IfOk result (IsStarted image.now bytes.now setup) }
+    ensures refused { IfErr result (IsStartFault image.now setup) }
+{
+    match Run::start(alloc, image, bytes, setup) {
+        Ok(run) => Ok(run),
+        Err(refusal) => Err(start_fault(refusal)),
+    }
+}
+
 /// Runs a program to its end, and writes its files.
 pub fn run_program<H: Host>(
     alloc: Global,
@@ -54,10 +67,7 @@ pub fn run_program<H: Host>(
     ensures ended { IfOk result (IsRunOf image.now bytes.now setup) }
     ensures told { OnOk result (TellsNoMore (H.outside host.old) (H.outside host.new)) }
 {
-    let mut run = match Run::start(alloc, image, bytes, setup) {
-        Ok(run) => run,
-        Err(refusal) => return Err(start_fault(refusal)),
-    };
+    let mut run = start_run(alloc, image, bytes, setup)?;
     match perform(&mut run, words, outputs, setup, host) {
         Ok(()) => Ok(run),
         Err(_) => Err(Fault::WriteFault),
@@ -67,7 +77,6 @@ pub fn run_program<H: Host>(
 /// Runs a program to its end, and writes nothing.
 pub fn run_alone<H: Host>(
     alloc: Global,
-    words: &[String],
     image: &Image,
     bytes: &[u8],
     setup: Setup,
@@ -75,14 +84,11 @@ pub fn run_alone<H: Host>(
 ) -> Result<Run, Fault>
     requires limits { IsWithinLimits (length bytes.now) image.now }
     requires setup { IsSetup setup }
-    ensures runs { RunsProgram (map string_bytes words.now) (λ z w. w.prints) setup image.now bytes.now
+    ensures runs { (words : List (List ℕ)) → RunsProgram words (λ z w. w.prints) setup image.now bytes.now
         (H.outside host.old) (H.outside host.new) result }
     ensures ended { IfOk result (IsRunOf image.now bytes.now setup) }
 {
-    let mut run = match Run::start(alloc, image, bytes, setup) {
-        Ok(run) => run,
-        Err(refusal) => return Err(start_fault(refusal)),
-    };
+    let mut run = start_run(alloc, image, bytes, setup)?;
     match run.drive(host) {
         Ok(_) => Ok(run),
         Err(_) => Err(Fault::WriteFault),

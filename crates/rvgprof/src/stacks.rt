@@ -9,7 +9,8 @@ ghost use Rattle.rvgprof.specs.Standing.{FoldsProgram, IsRunOf, Stands};
 
 use crate::inputs::read_program;
 use crate::outcome::{Done, Fault};
-use crate::refusals::{fold_fault, start_fault};
+use crate::refusals::fold_fault;
+use crate::runs::start_run;
 use elf32_syms::Image;
 use folded::{Folded, fold};
 use host_port::Host;
@@ -59,10 +60,7 @@ fn fold_program<H: Host>(
     ensures functions { IfOk result (λ done. length done.1.inclusive ≡ length image.now.symbols) }
     ensures ended { IfOk result (λ done. IsRunOf image.now bytes.now setup done.0) }
 {
-    let mut run = match Run::start(alloc, image, bytes, setup) {
-        Ok(run) => run,
-        Err(refusal) => return Err(start_fault(refusal)),
-    };
+    let mut run = start_run(alloc, image, bytes, setup)?;
     match fold(alloc, &mut run, image, &setup, host) {
         Ok(folded) => Ok((run, folded)),
         Err(refusal) => Err(fold_fault(refusal)),

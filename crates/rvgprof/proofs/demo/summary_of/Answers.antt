@@ -1,4 +1,4 @@
-use Rattle.std.proofs.Common.{◌++◌, ◌∙◌, ℕ, List, [], Option, sym, ap, arith}
+use Rattle.std.proofs.Common.{◌++◌, ◌∙◌, ℕ, List, Option, sym, ap, arith}
 use Rattle.symbol_shares.specs.Shares.{attributed_of}
 use Rattle.mcount_arcs.specs.declared.sizes.Sizes.{Sizes}
 use Rattle.mcount_arcs.specs.Log.{distinct_count, kept_calls}
@@ -9,13 +9,13 @@ use Rattle.rvgprof.proofs.demo.summary_of.Goals as goal
 
 pub roots_of-roots-requires-clause-few : goal.roots_of-roots-requires-clause-few
 roots_of-roots-requires-clause-few c =
-    let s = c.args.sources.now in
+    let s = c.args.findings.now in
     let few = c.attributed-attributed.ensures in
     omega (arith, few, roots_have_all s.graph s.shares.of c.requires.graph c.requires.few s.flow c.requires.flow)
 
 pub returns : goal.returns
 returns c = λ w stands.
-    let s = c.args.sources.now in
+    let s = c.args.findings.now in
     let functions = c.args.functions in
     let run = c.summary.result in
     let counted = distinct_count (kept_calls c.args.run.now.machine.sizes w.log) in

@@ -8,7 +8,7 @@ use Rattle.mcount_arcs.specs.Sizes.{sizes_of}
 use Rattle.prof_machine.specs.Start.{final_world}
 use Rattle.prof_machine.specs.Value.{summary_of}
 use Rattle.rvgprof.specs.Answer.{demo_lines, told, written_profile}
-use Rattle.rvgprof.specs.Reports.{demo_summary, sources_of}
+use Rattle.rvgprof.specs.Reports.{demo_summary, profile_sources}
 use Rattle.rvgprof.proofs.DemoLemmas.{summary_due}
 use Rattle.rvgprof.proofs.Profiling.{profile_written}
 use Rattle.rvgprof.proofs.Reporting.{after_text, goes_on_anyhow}
@@ -21,10 +21,10 @@ returns-in_err-total g c = λ words start below done bytes setup is rate s.
     let p = err_from_is_err_and c.from_residual.result c.from_residual.ensures.1 in
     rw (p.1, p.2) (no_memory words start _ below done (demo_lines c.args.functions c.args.rate image (sizes_of image.text setup.hist setup.hash) (final_world image bytes setup)) s (λ contents. inl refl))
 
-pub returns-in_err-sources : goal.returns-in_err-sources
-returns-in_err-sources g c = λ words start below done bytes setup is rate s.
+pub returns-in_err-findings : goal.returns-in_err-findings
+returns-in_err-findings g c = λ words start below done bytes setup is rate s.
     let image = c.args.image.now in
-    let p = err_from_is_err_and c.from_residual-in_err-sources.result c.from_residual-in_err-sources.ensures.1 in
+    let p = err_from_is_err_and c.from_residual-in_err-findings.result c.from_residual-in_err-findings.ensures.1 in
     rw (p.1, p.2) (no_memory words start _ below done (demo_lines c.args.functions c.args.rate image (sizes_of image.text setup.hist setup.hash) (final_world image bytes setup)) s (λ contents. inl refl))
 
 pub returns : goal.returns
@@ -36,9 +36,9 @@ returns g c = λ words start below done bytes setup is rate s.
     let total = c.in_ok-total.total in
     let fits = c.in_ok-total.ensures.fits in
     let written : total ≡ written_profile Bsd z w.log c.args.rate = profile_written Bsd c.gmon.result.now z w.log c.args.rate total (gmon.log w is.stands) (gmon.sizes ∙ is.sizes) fits.0 fits.1 c.ranges.rate.fits (c.in_ok-total.ensures.log w.log (gmon.log w is.stands)) in
-    let made = sources_of image (written_profile Bsd z w.log c.args.rate) in
+    let made = profile_sources image (written_profile Bsd z w.log c.args.rate) in
     let text = demo_summary c.args.functions (distinct_count (kept_calls z w.log)) made.graph made.flow made.shares (summary_of z w) in
-    let due : c.bytes.result.now ≡ text = c.bytes.ensures.bytes ∙ summary_due c.args.functions image c.args.run.now c.in_ok-sources.sources total c.args.rate c.summary_of.result z w c.in_ok-sources.ensures c.summary_of.ensures is.stands is.sizes written in
+    let due : c.bytes.result.now ≡ text = c.bytes.ensures.bytes ∙ summary_due c.args.functions image c.args.run.now c.in_ok-findings.findings total c.args.rate c.summary_of.result z w c.in_ok-findings.ensures c.summary_of.ensures is.stands is.sizes written in
     let printed = subst (λ (t : List ℕ). Reports t (g.H.Host.outside c.args.host.now) (g.H.Host.outside c.print_text.new.host) c.print_text.result) due c.print_text.ensures.printed in
     goes_on_anyhow words start _ below (done ++ Out text ∷ []) (told z w) c.print_text.result
     (after_text words start _ _ below done text (told z w) c.print_text.result s printed (λ e. ap g.H.Host.outside (c.print_text.ensures.idle e)))

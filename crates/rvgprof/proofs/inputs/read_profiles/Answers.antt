@@ -5,10 +5,10 @@ use Rattle.std.proofs.lemmas.List.{drop_more, drop_all}
 use Rattle.gmon_data.specs.Content.{Content}
 use Rattle.gp_base.specs.declared.limits.TheConstants.{MAX_PROFILE_BYTES}
 use Rattle.rvgprof.specs.Answer.{profiles}
-use Rattle.rvgprof.specs.ProfileSizes.{IsOfBytes}
+use Rattle.gmon_data.specs.Sizes.{IsOfBytes}
 use Rattle.rvgprof.specs.Standing.{Stands}
 use Rattle.rvgprof.specs.Words.{AreRising}
-use Rattle.rvgprof.proofs.ProfileSizeLemmas.{of_nothing}
+use Rattle.gmon_data.proofs.SizeLemmas.{of_nothing}
 use Rattle.rvgprof.proofs.PlaceLemmas.{rising_drop}
 use Rattle.rvgprof.proofs.Summing.{all_behind}
 use Rattle.rvgprof.proofs.inputs.read_profiles.Goals as goal

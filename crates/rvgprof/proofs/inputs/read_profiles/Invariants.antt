@@ -5,7 +5,7 @@ use Rattle.gp_base.specs.declared.limits.TheConstants.{MAX_PROFILE_BYTES}
 use Rattle.host_port.specs.Outside.{Outside}
 use Rattle.rvgprof.specs.Answer.{profiles}
 use Rattle.rvgprof.specs.Course.{Course}
-use Rattle.rvgprof.specs.ProfileSizes.{IsOfBytes}
+use Rattle.gmon_data.specs.Sizes.{IsOfBytes}
 use Rattle.rvgprof.specs.Standing.{Stands, MayYetStop}
 use Rattle.rvgprof.proofs.inputs.read_profiles.Given as goal
 

@@ -3,24 +3,24 @@ use Rattle.std.specs.Prelude.{is_some}
 use Rattle.std.proofs.lemmas.Result.{err_from_is_err_and}
 use Rattle.exact_flow.specs.Times.{ExactFlowValue}
 use Rattle.rvgprof.specs.Answer.{exact_report}
-use Rattle.rvgprof.specs.Found.{given_sources}
+use Rattle.rvgprof.specs.Findings.{given_sources}
 use Rattle.rvgprof.specs.Standing.{Stands}
 use Rattle.rvgprof.proofs.printing.print_all.Goals as goal
 
 pub returns-in_err-print_shown-clause-prints : goal.returns-in_err-print_shown-clause-prints
 returns-in_err-print_shown-clause-prints g c = λ words start below done next s.
-    let found = given_sources c.args.image.now c.args.sources.now in
+    let found = given_sources c.args.image.now c.args.findings.now in
     let p = err_from_is_err_and c.from_residual.result c.from_residual.ensures.1 in
     rw (p.1, p.2) (c.in_err-print_shown.ensures.prints words start below done (exact_report (is_some c.args.exact.now) found next) s)
 
 pub returns-in-None-clause-prints : goal.returns-in-None-clause-prints
 returns-in-None-clause-prints g c = λ words start below done next s.
-    let found = given_sources c.args.image.now c.args.sources.now in
+    let found = given_sources c.args.image.now c.args.findings.now in
     let t = c.in_ok-print_shown.ensures.prints words start below done (exact_report (is_some c.args.exact.now) found next) s in
     (t.0, subst (λ (o : Option ExactFlowValue). Stands words start (g.H.Host.outside c.print_shown.new.host) below t.0 (exact_report (is_some o) found next)) c.in-None.is t.1)
 
 pub returns-in-Some-clause-prints : goal.returns-in-Some-clause-prints
 returns-in-Some-clause-prints g c = λ words start below done next s.
-    let found = given_sources c.args.image.now c.args.sources.now in
+    let found = given_sources c.args.image.now c.args.findings.now in
     let t = c.in_ok-print_shown.ensures.prints words start below done (exact_report (is_some c.args.exact.now) found next) s in
     c.print_exact.ensures.prints words start below t.0 next (subst (λ (o : Option ExactFlowValue). Stands words start (g.H.Host.outside c.print_shown.new.host) below t.0 (exact_report (is_some o) found next)) c.in-Some.is t.1)

@@ -11,7 +11,7 @@ use Rattle.host_port.specs.declared.side.Side.TheVariants.{Output}
 use Rattle.host_port.proofs.PerformingLemmas.{puts_performs}
 use Rattle.symbol_shares.specs.Shares.{attributed_of}
 use Rattle.rvgprof.specs.Course.{Does}
-use Rattle.rvgprof.specs.Found.{given_sources}
+use Rattle.rvgprof.specs.Findings.{given_sources}
 use Rattle.rvgprof.proofs.Reporting.{after_text}
 use Rattle.rvgprof.proofs.Standing.{does, fails}
 use Rattle.rvgprof.proofs.printing.print_exact.Goals as goal
@@ -24,14 +24,14 @@ text_as symbols other g shares e n m same is total =
 
 pub returns-in_err-print_text-clause-prints : goal.returns-in_err-print_text-clause-prints
 returns-in_err-print_text-clause-prints g c = λ words start below done next s.
-    let found = given_sources c.args.image.now c.args.sources.now in
+    let found = given_sources c.args.image.now c.args.findings.now in
     let text = exact_text found.symbols found.graph (exact_flow_in found.graph found.shares.of) (attributed_of found.shares) in
     let p = err_from_is_err_and c.from_residual.result c.from_residual.ensures.1 in
     rw (p.1, p.2) (after_text words start _ _ below done (codes "\n") (Does (Out text ∷ []) next) _ s c.in_err-print_text.ensures.printed (λ e. ap g.H.Host.outside (c.in_err-print_text.ensures.idle e)))
 
 pub returns-in_err-write_exact-clause-prints : goal.returns-in_err-write_exact-clause-prints
 returns-in_err-write_exact-clause-prints g c = λ words start below done next s.
-    let found = given_sources c.args.image.now c.args.sources.now in
+    let found = given_sources c.args.image.now c.args.findings.now in
     let text = exact_text found.symbols found.graph (exact_flow_in found.graph found.shares.of) (attributed_of found.shares) in
     let one = after_text words start _ _ below done (codes "\n") (Does (Out text ∷ []) next) _ s c.in_ok-print_text.ensures.printed (λ e. ap g.H.Host.outside (c.in_ok-print_text.ensures.idle e)) in
     let is = text_as c.args.image.now.symbols c.as_slice.result.now found.graph found.shares.of c.args.exact.now c.attributed.result (attributed_of found.shares) c.as_slice.ensures c.requires.exact c.attributed.ensures.value in
@@ -41,7 +41,7 @@ returns-in_err-write_exact-clause-prints g c = λ words start below done next s.
 
 pub returns-clause-prints : goal.returns-clause-prints
 returns-clause-prints g c = λ words start below done next s.
-    let found = given_sources c.args.image.now c.args.sources.now in
+    let found = given_sources c.args.image.now c.args.findings.now in
     let text = exact_text found.symbols found.graph (exact_flow_in found.graph found.shares.of) (attributed_of found.shares) in
     let one = after_text words start _ _ below done (codes "\n") (Does (Out text ∷ []) next) _ s c.in_ok-print_text.ensures.printed (λ e. ap g.H.Host.outside (c.in_ok-print_text.ensures.idle e)) in
     let is = text_as c.args.image.now.symbols c.as_slice.result.now found.graph found.shares.of c.args.exact.now c.attributed.result (attributed_of found.shares) c.as_slice.ensures c.requires.exact c.attributed.ensures.value in

@@ -2,8 +2,8 @@ use Rattle.std.proofs.Common.{◌≡◌, ◌∙◌, ℕ, List, ap, subst, sym}
 use Rattle.std.specs.Prelude.{map, string_bytes, is_some}
 use Rattle.rvgprof.specs.Answer.{chosen_by, exact_report, names_at, print_reports, shown_reports}
 use Rattle.rvgprof.specs.Standing.{Stands}
-use Rattle.rvgprof.specs.Found.{given_sources}
-use Rattle.rvgprof.proofs.Reporting.{may_stop_reports, narrow, no_exact, of_sources}
+use Rattle.rvgprof.specs.Findings.{given_sources}
+use Rattle.rvgprof.proofs.Reporting.{may_stop_reports, narrow, no_exact, of_findings}
 use Rattle.rvgprof.proofs.Standing.{no_memory}
 use Rattle.rvgprof.proofs.printing.print_reports.Goals as goal
 
@@ -12,38 +12,38 @@ returns-in_default-clause-prints g c = λ words start below done next s.
     let chosen = chosen_by (map string_bytes c.args.words.now) c.args.selection.now in
     no_memory words start _ below done (print_reports chosen c.args.image.now c.args.total next) s (may_stop_reports chosen c.args.image.now c.args.total next)
 
-pub returns-in_default-chosen_sources-clause-prints : goal.returns-in_default-chosen_sources-clause-prints
-returns-in_default-chosen_sources-clause-prints g c = λ words start below done next s.
+pub returns-in_default-chosen_findings-clause-prints : goal.returns-in_default-chosen_findings-clause-prints
+returns-in_default-chosen_findings-clause-prints g c = λ words start below done next s.
     let chosen = chosen_by (map string_bytes c.args.words.now) c.args.selection.now in
     no_memory words start _ below done (print_reports chosen c.args.image.now c.args.total next) s (may_stop_reports chosen c.args.image.now c.args.total next)
 
 pub returns-in-Err-clause-prints : goal.returns-in-Err-clause-prints
 returns-in-Err-clause-prints g c = λ words start below done next s.
     let chosen = chosen_by (map string_bytes c.args.words.now) c.args.selection.now in
-    let sources = c.in-Ok-chosen_sources.sources in
-    let all = of_sources words start _ below done chosen c.args.image.now c.args.total sources next c.in-Ok-chosen_sources.ensures s in
+    let findings = c.in-Ok-chosen_findings.findings in
+    let all = of_findings words start _ below done chosen c.args.image.now c.args.total findings next c.in-Ok-chosen_findings.ensures s in
     let refused = c.in-Err.ensures.refused in
-    rw c.exact_fault.ensures (no_exact words start _ below done chosen (given_sources c.args.image.now sources) next c.in-Err.refusal refused.0 refused.1 all)
+    rw c.exact_fault.ensures (no_exact words start _ below done chosen (given_sources c.args.image.now findings) next c.in-Err.refusal refused.0 refused.1 all)
 
 pub returns-in-Ok-print_all-clause-prints : goal.returns-in-Ok-print_all-clause-prints
 returns-in-Ok-print_all-clause-prints g c = λ words start below done next s.
     let chosen = chosen_by (map string_bytes c.args.words.now) c.args.selection.now in
-    let sources = c.in-Ok-chosen_sources.sources in
-    let all = of_sources words start _ below done chosen c.args.image.now c.args.total sources next c.in-Ok-chosen_sources.ensures s in
-    let here = narrow words start _ below done chosen c.args.image.now sources next c.in-Ok-exact_asked.exact c.in-Ok-exact_asked.ensures.found all in
+    let findings = c.in-Ok-chosen_findings.findings in
+    let all = of_findings words start _ below done chosen c.args.image.now c.args.total findings next c.in-Ok-chosen_findings.ensures s in
+    let here = narrow words start _ below done chosen c.args.image.now findings next c.in-Ok-exact_asked.exact c.in-Ok-exact_asked.ensures.found all in
     let hidden : map string_bytes c.deref.result.now ≡ chosen.hidden = ap (map string_bytes) c.deref.ensures.value ∙ c.in-Ok.ensures ∙ ap (names_at (map string_bytes c.args.words.now)) c.as_slice.ensures in
     c.in-Ok-print_all.ensures.prints words start below done next
-    (subst (λ (names : List (List ℕ)). Stands words start (g.H.Host.outside c.args.host.now) below done (shown_reports chosen.shown names (given_sources c.args.image.now sources) (exact_report (is_some c.in-Ok-exact_asked.exact) (given_sources c.args.image.now sources) next))) (sym hidden) here)
+    (subst (λ (names : List (List ℕ)). Stands words start (g.H.Host.outside c.args.host.now) below done (shown_reports chosen.shown names (given_sources c.args.image.now findings) (exact_report (is_some c.in-Ok-exact_asked.exact) (given_sources c.args.image.now findings) next))) (sym hidden) here)
 
 pub returns-clause-prints : goal.returns-clause-prints
 returns-clause-prints g c = λ words start below done next s.
     let chosen = chosen_by (map string_bytes c.args.words.now) c.args.selection.now in
-    let sources = c.in-Ok-chosen_sources.sources in
-    let all = of_sources words start _ below done chosen c.args.image.now c.args.total sources next c.in-Ok-chosen_sources.ensures s in
-    let here = narrow words start _ below done chosen c.args.image.now sources next c.in-Ok-exact_asked.exact c.in-Ok-exact_asked.ensures.found all in
+    let findings = c.in-Ok-chosen_findings.findings in
+    let all = of_findings words start _ below done chosen c.args.image.now c.args.total findings next c.in-Ok-chosen_findings.ensures s in
+    let here = narrow words start _ below done chosen c.args.image.now findings next c.in-Ok-exact_asked.exact c.in-Ok-exact_asked.ensures.found all in
     let hidden : map string_bytes c.deref.result.now ≡ chosen.hidden = ap (map string_bytes) c.deref.ensures.value ∙ c.in-Ok.ensures ∙ ap (names_at (map string_bytes c.args.words.now)) c.as_slice.ensures in
     rw c.report_fault.ensures (c.in-Err-print_all.ensures.prints words start below done next
-    (subst (λ (names : List (List ℕ)). Stands words start (g.H.Host.outside c.args.host.now) below done (shown_reports chosen.shown names (given_sources c.args.image.now sources) (exact_report (is_some c.in-Ok-exact_asked.exact) (given_sources c.args.image.now sources) next))) (sym hidden) here))
+    (subst (λ (names : List (List ℕ)). Stands words start (g.H.Host.outside c.args.host.now) below done (shown_reports chosen.shown names (given_sources c.args.image.now findings) (exact_report (is_some c.in-Ok-exact_asked.exact) (given_sources c.args.image.now findings) next))) (sym hidden) here))
 
 pub returns-in-Ok-print_all-clause-told : goal.returns-in-Ok-print_all-clause-told
 returns-in-Ok-print_all-clause-told g c = c.in-Ok-print_all.ensures.told

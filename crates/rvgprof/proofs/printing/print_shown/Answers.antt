@@ -7,14 +7,14 @@ use Rattle.rvgprof.specs.Answer.{shown_reports}
 use Rattle.rvgprof.specs.Course.{Does}
 use Rattle.flat_report.specs.FlatText.{flat_text}
 use Rattle.graph_report.specs.GraphText.{graph_text}
-use Rattle.rvgprof.specs.Found.{given_sources}
+use Rattle.rvgprof.specs.Findings.{given_sources}
 use Rattle.rvgprof.specs.Standing.{Stands}
 use Rattle.rvgprof.proofs.Reporting.{after_text, goes_on_anyhow}
 use Rattle.rvgprof.proofs.printing.print_shown.Goals as goal
 
 pub returns-in-Flat-clause-prints : goal.returns-in-Flat-clause-prints
 returns-in-Flat-clause-prints g c = λ words start below done next s.
-    let found = given_sources c.args.image.now c.args.sources.now in
+    let found = given_sources c.args.image.now c.args.findings.now in
     let hidden = map string_bytes c.args.hidden.now in
     let here = subst (λ (x : Shown). Stands words start (g.H.Host.outside c.args.host.now) below done (shown_reports x hidden found next)) c.in-Flat.is s in
     goes_on_anyhow words start _ below (done ++ Out (flat_text found hidden) ∷ []) next c.print_flat.result
@@ -22,7 +22,7 @@ returns-in-Flat-clause-prints g c = λ words start below done next s.
 
 pub returns-in-Graph-clause-prints : goal.returns-in-Graph-clause-prints
 returns-in-Graph-clause-prints g c = λ words start below done next s.
-    let found = given_sources c.args.image.now c.args.sources.now in
+    let found = given_sources c.args.image.now c.args.findings.now in
     let hidden = map string_bytes c.args.hidden.now in
     let here = subst (λ (x : Shown). Stands words start (g.H.Host.outside c.args.host.now) below done (shown_reports x hidden found next)) c.in-Graph.is s in
     goes_on_anyhow words start _ below (done ++ Out (graph_text found hidden) ∷ []) next c.print_graph.result
@@ -30,7 +30,7 @@ returns-in-Graph-clause-prints g c = λ words start below done next s.
 
 pub returns-in_err-print_flat-in-Both-clause-prints : goal.returns-in_err-print_flat-in-Both-clause-prints
 returns-in_err-print_flat-in-Both-clause-prints g c = λ words start below done next s.
-    let found = given_sources c.args.image.now c.args.sources.now in
+    let found = given_sources c.args.image.now c.args.findings.now in
     let hidden = map string_bytes c.args.hidden.now in
     let last = Does (Out (graph_text found hidden) ∷ []) next in
     let line = Does (Out (codes "\n") ∷ []) last in
@@ -40,7 +40,7 @@ returns-in_err-print_flat-in-Both-clause-prints g c = λ words start below done 
 
 pub returns-in_err-print_text-in-Both-clause-prints : goal.returns-in_err-print_text-in-Both-clause-prints
 returns-in_err-print_text-in-Both-clause-prints g c = λ words start below done next s.
-    let found = given_sources c.args.image.now c.args.sources.now in
+    let found = given_sources c.args.image.now c.args.findings.now in
     let hidden = map string_bytes c.args.hidden.now in
     let last = Does (Out (graph_text found hidden) ∷ []) next in
     let line = Does (Out (codes "\n") ∷ []) last in
@@ -51,7 +51,7 @@ returns-in_err-print_text-in-Both-clause-prints g c = λ words start below done 
 
 pub returns-in_ok-print_text-in-Both-clause-prints : goal.returns-in_ok-print_text-in-Both-clause-prints
 returns-in_ok-print_text-in-Both-clause-prints g c = λ words start below done next s.
-    let found = given_sources c.args.image.now c.args.sources.now in
+    let found = given_sources c.args.image.now c.args.findings.now in
     let hidden = map string_bytes c.args.hidden.now in
     let last = Does (Out (graph_text found hidden) ∷ []) next in
     let line = Does (Out (codes "\n") ∷ []) last in

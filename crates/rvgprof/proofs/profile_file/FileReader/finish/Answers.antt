@@ -1,38 +1,29 @@
-use Rattle.std.proofs.Common.{◌≡◌, ◌<◌, List, ℕ, true, length, Option, None, Some, Result, Err, OnOk, IfOk, refl, sym, ap, subst, ◌∙◌, arith}
-use Rattle.std.specs.Prelude.{IfSome, nat_lt}
-use Rattle.std.proofs.lemmas.Bool.{lt-ltb}
+use Rattle.std.proofs.Common.{◌≡◌, ℕ, length, Option, None, Some, Result, Err, OnOk, IfOk, sym, ap, subst, ◌∙◌}
+use Rattle.std.specs.Prelude.{IfSome}
 use Rattle.gp_base.specs.declared.records.Form.{Form}
 use Rattle.gp_base.specs.declared.records.Records.{Records}
 use Rattle.gp_base.specs.declared.refusal.GmonRefusal.{GmonRefusal}
 use Rattle.gp_base.specs.declared.refusal.GmonRefusal.TheVariants.{Short}
-use Rattle.gmon_bsd.specs.Reading.{bsd_refusal}
 use Rattle.rvgprof.specs.declared.profile_file.FileReader.{FileReader}
-use Rattle.rvgprof.specs.Answer.{form_of, refusal_in, records_in}
+use Rattle.rvgprof.specs.Answer.{refusal_in, records_in}
 use Rattle.rvgprof.specs.FileRead.{StandsFor}
-use Rattle.rvgprof.proofs.FileReading.{form_short}
+use Rattle.rvgprof.proofs.FileReading.{short_refused}
 use Rattle.rvgprof.proofs.profile_file.FileReader.finish.Goals as goal
 
 abbrev refused : GmonRefusal → Result Records GmonRefusal
 refused refusal = Err refusal
 
--- a file that ends before its first four bytes
-short : (bytes : List ℕ) → length bytes < 4 → refusal_in (form_of bytes) bytes ≡ Some (Short (length bytes))
-short bytes few =
-    let header : nat_lt (length bytes) 32 ≡ true = lt-ltb (length bytes) 32 (omega (arith, few)) in
-    let due : bsd_refusal bytes ≡ Some (Short (length bytes)) = rw header refl in
-    ap (λ (f : Form). refusal_in f bytes) (form_short bytes few) ∙ due
-
 pub returns-in-Front-clause-refused : goal.returns-in-Front-clause-refused
 returns-in-Front-clause-refused c = λ bytes stands.
     let p = subst (λ (r : FileReader). StandsFor bytes r) c.in-Front.is stands in
-    let due = short bytes p.1 in
+    let due = short_refused bytes p.1 in
     let answered : Short c.len.result ≡ Short (length bytes) = ap (λ (n : ℕ). Short n) (c.len.ensures.len ∙ ap length p.0) in
     subst (λ (o : Option GmonRefusal). IfSome o (λ refusal. refused (Short c.len.result) ≡ refused refusal)) (sym due) (ap refused answered)
 
 pub returns-in-Front-clause-refusal : goal.returns-in-Front-clause-refusal
 returns-in-Front-clause-refusal c = λ bytes stands.
     let p = subst (λ (r : FileReader). StandsFor bytes r) c.in-Front.is stands in
-    short bytes p.1 ∙ ap (λ (n : ℕ). Some (Short n)) (sym (c.len.ensures.len ∙ ap length p.0))
+    short_refused bytes p.1 ∙ ap (λ (n : ℕ). Some (Short n)) (sym (c.len.ensures.len ∙ ap length p.0))
 
 pub returns-in-Bsd-clause-accepted : goal.returns-in-Bsd-clause-accepted
 returns-in-Bsd-clause-accepted c = λ bytes stands.

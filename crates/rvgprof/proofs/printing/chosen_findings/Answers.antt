@@ -7,9 +7,9 @@ use Rattle.gmon_data.specs.Content.{Content}
 use Rattle.arc_filter.specs.Cuts.{is_cut_word, without_cuts}
 use Rattle.arc_filter.proofs.ProfileLemmas.{nothing_cut}
 use Rattle.rvgprof.specs.Answer.{names_at}
-use Rattle.rvgprof.specs.Found.{AreSources}
+use Rattle.rvgprof.specs.Findings.{AreFindings}
 use Rattle.rvgprof.proofs.PlaceLemmas.{cut_words}
-use Rattle.rvgprof.proofs.printing.chosen_sources.Goals as goal
+use Rattle.rvgprof.proofs.printing.chosen_findings.Goals as goal
 
 -- without words nothing is cut
 uncut : (total : Content) (symbols : List Symbol) (words : List (List ℕ)) (places : List ℕ) → length places ≡ 0 → total ≡ without_cuts total symbols (names_at words places)
@@ -20,7 +20,7 @@ pub returns-then-is_empty : goal.returns-then-is_empty
 returns-then-is_empty c =
     let places = c.args.selection.now.cuts in
     let none : length places ≡ 0 = ap (λ (xs : List ℕ). length xs) (sym c.as_slice.ensures) ∙ eqb-true (length c.as_slice.result.now) 0 (sym c.is_empty.ensures ∙ c.if-is_empty.true) in
-    subst (λ (p : Content). IfOk c.sources_of.result (AreSources c.args.image.now p)) (uncut c.args.total c.args.image.now.symbols (map string_bytes c.args.words.now) places none) c.sources_of.ensures
+    subst (λ (p : Content). IfOk c.findings_of.result (AreFindings c.args.image.now p)) (uncut c.args.total c.args.image.now.symbols (map string_bytes c.args.words.now) places none) c.findings_of.ensures
 
 pub cut-requires-clause-words : goal.cut-requires-clause-words
 cut-requires-clause-words c =

@@ -9,20 +9,20 @@ use Rattle.call_cycles.specs.Flow.{FlowValue, IsFlow}
 use Rattle.call_cycles.specs.Values.{profile_graph}
 use Rattle.propagate.specs.Solution.{flow_in}
 use Rattle.propagate.proofs.SolutionLemmas.{solution}
-use Rattle.rvgprof.specs.declared.sources.Sources.{Sources}
-use Rattle.rvgprof.specs.Reports.{rate_of, sources_of}
-use Rattle.rvgprof.specs.Found.{AreSources}
+use Rattle.rvgprof.specs.declared.findings.Findings.{Findings}
+use Rattle.rvgprof.specs.Reports.{rate_of, profile_sources}
+use Rattle.rvgprof.specs.Findings.{AreFindings}
 
 -- how many shares there are
 pub shares_long : (image : Image) (total : Content) (t : ShareTable) → t ≡ shares_of total.hists image.symbols → length t.of ≡ length image.symbols
 shares_long image total t is = ap (λ (x : ShareTable). length x.of) is ∙ length-map image.symbols (share_of total.hists)
 
-pub are_sources : (image : Image) (total : Content) (s : Sources) → s.shares ≡ shares_of total.hists image.symbols → s.graph ≡ profile_graph total.arcs image.symbols
+pub are_findings : (image : Image) (total : Content) (s : Findings) → s.shares ≡ shares_of total.hists image.symbols → s.graph ≡ profile_graph total.arcs image.symbols
     → ((u : FlowValue) → IsFlow s.graph s.shares.of u → u ≡ s.flow) → s.rate ≡ rate_of total
     → s.graph.functions ≡ length image.symbols → IsGraph s.graph → IsFlow s.graph s.shares.of s.flow → all_calls s.graph < 2 ^ 59 → 1 ≤ s.rate
-    → AreSources image total s
-unfolding sources_of
-are_sources image total s shares graph one rate functions is flow few some = record {
+    → AreFindings image total s
+unfolding profile_sources
+are_findings image total s shares graph one rate functions is flow few some = record {
   value =
       ap (λ (f : FlowValue). record { symbols = image.symbols; graph = s.graph; flow = f; shares = s.shares; rate = s.rate }) (sym (one (flow_in s.graph s.shares.of) (solution s.graph s.shares.of is)))
       ∙ ap (λ (g : GraphValue). record { symbols = image.symbols; graph = g; flow = flow_in g s.shares.of; shares = s.shares; rate = s.rate }) graph

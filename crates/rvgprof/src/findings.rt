@@ -1,9 +1,9 @@
-//! What the reports of a profile are made from.
+//! What is found of a profile, from which its reports are made.
 
 ghost use Rattle.std.specs.Prelude.{◌≡◌, ◌≤◌, IfOk};
 ghost use Rattle.elf32_syms.specs.Owners.{IsAscending};
 ghost use Rattle.rvgprof.specs.Reports.{rate_of as spec_rate};
-ghost use Rattle.rvgprof.specs.Found.{AreSources};
+ghost use Rattle.rvgprof.specs.Findings.{AreFindings};
 
 use call_cycles::{Graph, graph};
 use elf32_syms::Image;
@@ -18,7 +18,7 @@ const USUAL_RATE: u32 = 100;
 /// How the samples of a profile are shared among the symbols of a program, and how time flows over the
 /// graph of its calls.
 #[derive(Drop)]
-pub struct Sources {
+pub struct Findings {
     pub shares: Shares,
     pub graph: Graph,
     pub flow: Flow,
@@ -26,17 +26,18 @@ pub struct Sources {
     pub rate: u32,
 }
 
-/// What the reports of a profile are made from, by the symbols of a program.
-pub fn sources_of(alloc: Global, image: &Image, total: &Profile) -> Result<Sources, AllocError>
+/// What is found of a profile by the symbols of a program. The profile is let go before the time flows.
+pub fn findings_of(alloc: Global, image: &Image, total: Profile) -> Result<Findings, AllocError>
     requires { IsAscending image.now.symbols }
-    ensures { IfOk result (AreSources image.now total.now) }
+    ensures { IfOk result (AreFindings image.now total) }
 {
     let symbols = image.symbols.as_slice();
-    let shares = shares(alloc, total, symbols)?;
-    let graph = graph(alloc, total, symbols)?;
+    let rate = rate_of(&total);
+    let shares = shares(alloc, &total, symbols)?;
+    let graph = graph(alloc, &total, symbols)?;
+    drop(total);
     let flow = flow(alloc, &graph, &shares)?;
-    let rate = rate_of(total);
-    Ok(Sources {
+    Ok(Findings {
         shares,
         graph,
         flow,

@@ -1,0 +1,30 @@
+-- How many instructions the clock has counted, for each way in which a run ends.
+use Rattle.std.proofs.Common.{◌≡◌, ◌<◌, ◌≤◌, ◌-◌, ◌/◌, ℕ, Option, Some, None, refl, sym, ap, ◌∙◌, arith}
+use Rattle.rv_step.specs.declared.stepped.TrapKind.{TrapKind}
+use Rattle.prof_machine.specs.declared.ending.End.{End}
+use Rattle.prof_machine.specs.declared.ending.End.TheVariants.{Budget, Exit, Trap}
+use Rattle.prof_machine.specs.World.{World}
+use Rattle.rvgprof.specs.Claims.{IsWithinBudget, ticked_of}
+
+-- what the law of the clock says of a world, for each ending
+pub clocked : (w : World) (samples every budget : ℕ)
+    → (w.ending ≡ None → (samples ≡ w.retired / every) × (w.retired < budget))
+    → (w.ending ≡ Some Budget → (samples ≡ w.retired / every) × (w.retired ≡ budget))
+    → ((status : ℕ) → w.ending ≡ Some (Exit status) → (samples ≡ (w.retired - 1) / every) × (w.retired ≤ budget))
+    → ((kind : TrapKind) (pc : ℕ) → w.ending ≡ Some (Trap kind pc) → (samples ≡ w.retired / every) × (w.retired ≤ budget))
+    → (samples ≡ ticked_of w.ending w.retired / every) × IsWithinBudget budget w
+clocked w samples every budget going used exited trapped = by w.ending refl
+  where
+    by : (e : Option End) → w.ending ≡ e → (samples ≡ ticked_of w.ending w.retired / every) × IsWithinBudget budget w
+    by None is =
+        let now = going is in
+        (now.0 ∙ ap (λ (e : Option End). ticked_of e w.retired / every) (sym is), record { most = omega (arith, now.1); going = λ _. now.1; ended = λ other. absurd cc })
+    by (Some Budget) is =
+        let now = used is in
+        (now.0 ∙ ap (λ (e : Option End). ticked_of e w.retired / every) (sym is), record { most = omega (arith, now.1); going = λ other. absurd cc; ended = λ _. now.1 })
+    by (Some (Exit status)) is =
+        let now = exited status is in
+        (now.0 ∙ ap (λ (e : Option End). ticked_of e w.retired / every) (sym is), record { most = now.1; going = λ other. absurd cc; ended = λ other. absurd cc })
+    by (Some (Trap kind pc)) is =
+        let now = trapped kind pc is in
+        (now.0 ∙ ap (λ (e : Option End). ticked_of e w.retired / every) (sym is), record { most = now.1; going = λ other. absurd cc; ended = λ other. absurd cc })
