@@ -1,5 +1,5 @@
 -- The loop that makes the turns of a plan and follows them.
-use Rattle.std.proofs.Common.{◌+◌, ◌<◌, ◌≡◌, ◌≤◌, ◌∙◌, ◌^◌, Some, arith, get_or, inl, inr, refl, replicate, subst, sym, ℕ, List, length, ap}
+use Rattle.std.proofs.Common.{◌+◌, ◌≡◌, ◌≤◌, ◌∙◌, Some, arith, get_or, inl, inr, refl, replicate, subst, sym, ℕ, List, length, ap}
 use Rattle.std.proofs.lemmas.List.{get_or-replicate, length-replicate}
 use Rattle.prof_machine.proofs.ActLemmas.{nothing_printed}
 use Rattle.prof_machine.proofs.DriveLemmas.{in_first}
@@ -12,12 +12,10 @@ use Rattle.prof_machine.specs.declared.notes.TurnNote.{TurnNote}
 use Rattle.prof_machine.specs.Plan.{most_turns, plan_of, planned, taker_of}
 use Rattle.prof_machine.specs.Prints.{ArePrinted}
 use Rattle.prof_machine.specs.Schedule.{Draws, PlanPlace}
-use Rattle.prof_machine.specs.Setup.{IsSetup}
 use Rattle.prof_machine.specs.Value.{IsLive, RunValue, StandsFor, work_left}
 use Rattle.prof_machine.specs.World.{World}
 use Rattle.prof_machine.specs.declared.ending.End.{End}
 use Rattle.prof_machine.specs.declared.machine.Machine.{Machine}
-use Rattle.prof_machine.specs.declared.setup.Setup.{Setup}
 use Rattle.folded.specs.Folding.{Follows, HasRoom, StopsShort}
 use Rattle.folded.specs.Shadow.{Shadow, empty_shadow}
 use Rattle.folded.specs.Stacks.{stacks_of}
@@ -48,10 +46,6 @@ pub record Goes (symbols : List Symbol) (old new : RunValue) (before now : Outsi
 pub few_at : (turns work most : ℕ) → ((turns ≡ 0) ⊎ (turns + work ≤ most)) → work ≤ most → turns + work ≤ most
 few_at turns work most (inl none) few = omega (arith, none, few)
 few_at turns work most (inr is) few = is
-
--- no run has more turns than that
-pub few_turns : (setup : Setup) → IsSetup setup → most_turns setup < 2 ^ 62
-few_turns setup limits = omega (arith, limits.budget)
 
 pub more_room : (a b : ℕ) (xs : List Shadow) → a ≤ b → HasRoom a xs → HasRoom b xs
 more_room a b xs le room = grind (arith, le, room)

@@ -1,9 +1,9 @@
 -- Lines of stacks: in order, each stack once, with the number of samples that have it.
-use Rattle.std.proofs.Common.{◌≡◌, ◌∙◌, ◌+◌, ℕ, zero, suc, Bool, true, false, List, [], ◌∷◌, length, add_assoc, ap, arith, cond, refl, sym, subst, Option, Some, None}
+use Rattle.std.proofs.Common.{◌≡◌, ◌∙◌, ◌+◌, ℕ, Bool, true, false, List, [], ◌∷◌, length, ap, arith, cond, refl, sym, Option, Some, None}
 use Rattle.std.specs.Prelude.{count_by, fold, sum_by, option_map, unwrap_or}
 use Rattle.std.specs.List.{AllByRecursion}
 use Rattle.std.specs.List.Sorted.{IsStrictlySortedBy}
-use Rattle.std.specs.BTreeMap.{insert_entry, is_at}
+use Rattle.std.specs.BTreeMap.{insert_entry}
 use Rattle.std.specs.Cmp.{IsTotalOrder, nat_cmp_total}
 use Rattle.std.specs.Cmp.Lexicographic.{lists_total, options_total}
 use Rattle.std.specs.Map.{keys_of, lookup, values_of}
@@ -12,7 +12,6 @@ use Rattle.std.specs.declared.cmp.Ordering.{Ordering}
 use Rattle.std.specs.declared.cmp.Ordering.TheVariants.{Less, Equal, Greater}
 use Rattle.std.proofs.lemmas.List.Sums.{sum_by-cons}
 use Rattle.std.proofs.lemmas.Map.Entries.{sum_by-insert_entry}
-use Rattle.std.proofs.lemmas.Map.Keys.{sorted_head, sorted_tail}
 use Rattle.folded.specs.Stacks.{lines_of, same_stack, stack_cmp, times_in, with_stack}
 
 abbrev Stack : Type 0
@@ -40,9 +39,6 @@ alike_right a b c same = turned c a ∙ ap ordering_reverse (alike a b c same) �
 
 abbrev found : Lines → Stack → Option ℕ
 found lines q = lookup (same_stack q) lines
-
-found_head : (e : Stack × ℕ) (es : Lines) (q : Stack) (o : Ordering) → stack_cmp q e.0 ≡ o → found (e ∷ es) q ≡ cond (is_eq o) (Some e.1) (found es q)
-found_head e es q o is = ap (λ (x : Ordering). cond (is_eq x) (Some e.1) (found es q)) is
 
 swapped : (a b : Bool) (x y z : Option ℕ) → (a ≡ true → b ≡ true → x ≡ y) → cond a x (cond b y z) ≡ cond b y (cond a x z)
 swapped true true x y z same = same refl refl

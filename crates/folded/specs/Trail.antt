@@ -51,10 +51,6 @@ trail_from m w t (h ∷ turns) = trail_from m (turn_of m w h) (followed h (note_
 abbrev pub trail_after : Machine → World → List ℕ → Trail
 trail_after m w turns = trail_from m w (first_trail m.setup.harts) turns
 
--- the shadows of all harts after these turns
-abbrev pub shadows_after : Machine → World → List ℕ → List Shadow
-shadows_after m w turns = (trail_after m w turns).shadows
-
 -- the samples that count, each with its hart's calls
 abbrev pub samples_after : Machine → World → List ℕ → List StackSample
 samples_after m w turns = (trail_after m w turns).samples

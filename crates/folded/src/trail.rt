@@ -60,28 +60,6 @@ impl Tracker {
         if is_quiet(&note) {
             return Ok(());
         }
-        self.apply(alloc, symbols, hart, note)
-    }
-
-    /// What a turn of this hart did, in this order.
-    fn apply(
-        &mut self,
-        alloc: Global,
-        symbols: &[Symbol],
-        hart: u32,
-        note: TurnNote,
-    ) -> Result<(), AllocError>
-        requires symbols { IsAscending symbols.now }
-        requires hart { hart < length self.old.shadows.items }
-        requires room { HasRoom (2 ^ 62) self.old.shadows.items }
-        requires total { self.old.folded.total < 2 ^ 62 }
-        requires functions { length self.old.folded.inclusive ≡ length symbols.now }
-        ensures follows { OnOk result ((t : Trail) → Follows symbols.now t self.old → Follows symbols.now (followed hart note t) self.new) }
-        ensures harts { OnOk result (length self.new.shadows.items ≡ length self.old.shadows.items) }
-        ensures functions { OnOk result (length self.new.folded.inclusive ≡ length self.old.folded.inclusive) }
-        ensures total { OnOk result (self.new.folded.total ≤ self.old.folded.total + 1) }
-        ensures room { OnOk result ((turns : ℕ) → HasRoom turns self.old.shadows.items → HasRoom (turns + 1) self.new.shadows.items) }
-    {
         let shadow = &mut self.shadows[hart as usize];
         shadow.run(note.ran);
         sample(

@@ -1,7 +1,7 @@
 -- Items of one width, one after the other.
 use Rattle.std.proofs.Common.{◌≡◌, ◌-◌, ℕ, zero, suc, ◌+◌, ◌*◌, ◌<◌, ◌≤◌, slice_get, Some, List, [], ◌∷◌, ◌++◌, length, take, drop, map, length-take, length-drop, length-append, refl, sym, ap, ◌∙◌, append_assoc, arith}
 use Rattle.std.specs.List.{flat_map, AllByRecursion}
-use Rattle.std.proofs.lemmas.List.{take_at, drop_at, append-nil, take-take, drop-take, drop-drop}
+use Rattle.std.proofs.lemmas.List.{take_at, drop_at, take-take, drop-take, drop-drop}
 use Rattle.gp_base.specs.Bytes.{cut, IsBytes}
 use Rattle.gp_base.proofs.LittleEndian.{IsBytes-take, IsBytes-drop}
 
@@ -46,20 +46,6 @@ pub length-spelled : {X : Type 0} (w : ℕ) (spelling : X → List ℕ) → ((x 
 length-spelled w spelling long [] = omega arith
 length-spelled w spelling long (x ∷ xs) =
     omega (arith, length-append (spelling x) (flat_map spelling xs), long x, length-spelled w spelling long xs)
-
--- one item more was cut
-pub cut_step : {X : Type 0} (w : ℕ) (item : List ℕ → X) (front all : List X) (x : X) (bs after : List ℕ) (n m : ℕ) → n ≡ suc m → after ≡ drop w bs → x ≡ item (take w bs) → front ++ cut w item n bs ≡ all → (front ++ x ∷ []) ++ cut w item m after ≡ all
-cut_step {X} w item front all x bs after n m more after_is x_is so_far =
-    ap (λ (v : List ℕ). (front ++ x ∷ []) ++ cut w item m v) after_is
-    ∙ append_assoc front (x ∷ []) (cut w item m (drop w bs))
-    ∙ ap (λ (v : X). front ++ v ∷ cut w item m (drop w bs)) x_is
-    ∙ ap (λ (k : ℕ). front ++ cut w item k bs) (sym more)
-    ∙ so_far
-
--- nothing is left to be cut
-pub cut_end : {X : Type 0} (w : ℕ) (item : List ℕ → X) (front all : List X) (bs : List ℕ) (n : ℕ) → n ≡ 0 → front ++ cut w item n bs ≡ all → front ≡ all
-cut_end w item front all bs n none so_far =
-    sym (append-nil front) ∙ ap (λ (k : ℕ). front ++ cut w item k bs) (sym none) ∙ so_far
 
 pub map-cut : {X Y : Type 0} (f : X → Y) (w : ℕ) (item : List ℕ → X) (n : ℕ) (bs : List ℕ) → map f (cut w item n bs) ≡ cut w (λ b. f (item b)) n bs
 map-cut f w item zero bs = refl

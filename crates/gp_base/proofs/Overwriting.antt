@@ -1,5 +1,5 @@
 -- A piece written over a list: how long it is then, and what stands where.
-use Rattle.std.proofs.Common.{◌≡◌, ℕ, zero, suc, ◌+◌, ◌-◌, ◌*◌, ◌<◌, ◌≤◌, List, [], ◌∷◌, ◌++◌, length, take, drop, get_or, set, slice_get, refl, sym, ap, ◌∙◌, arith, append_assoc, length-append, length-take, length-drop, drop-cons, zero-add}
+use Rattle.std.proofs.Common.{◌≡◌, ℕ, zero, suc, ◌+◌, ◌-◌, ◌*◌, ◌<◌, ◌≤◌, List, [], ◌∷◌, ◌++◌, length, take, drop, get_or, set, slice_get, refl, sym, ap, ◌∙◌, arith, append_assoc, length-append, length-take, drop-cons, zero-add}
 use Rattle.std.proofs.lemmas.List.{set_split, take-append-drop, take_at, drop_at, drop-drop}
 use Rattle.std.specs.List.{flat_map}
 use Rattle.std.proofs.lemmas.List.Concat.{flat_map-append}
@@ -31,10 +31,6 @@ module _ {X : Type 0} where
   get_back (x ∷ xs) ys n k h =
       let e : n + k ≡ suc (length xs + k) = omega arith in
       ap (slice_get (x ∷ (xs ++ ys))) e ∙ get_back xs ys (length xs) k refl
-
-  pub length-overwritten : (at : ℕ) (piece xs : List X) → at + length piece ≤ length xs → length (overwritten at piece xs) ≡ length xs
-  length-overwritten at piece xs h =
-      omega (arith, length-append (take at xs) (piece ++ drop (at + length piece) xs), length-append piece (drop (at + length piece) xs), length-take at xs, length-drop (at + length piece) xs)
 
   -- the piece stands from `at` on
   pub get_overwritten : (at k : ℕ) (piece xs : List X) → at + length piece ≤ length xs → k < length piece → slice_get (overwritten at piece xs) (at + k) ≡ slice_get piece k

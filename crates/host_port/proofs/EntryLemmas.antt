@@ -7,7 +7,7 @@ use Rattle.std.proofs.Math.Seq.{map-set_same}
 use Rattle.std.specs.Global.{Vec}
 use Rattle.std.proofs.lemmas.Slice.Eq.{bytes_eq-Decides}
 use Rattle.host_port.specs.declared.files.Entry.{Entry}
-use Rattle.host_port.specs.Act.{File, content_of, has_file, with_file, with_more}
+use Rattle.host_port.specs.Act.{File, file_content, has_file, with_file, with_more}
 use Rattle.host_port.specs.Entries.{file_of, files_of, place_of, bytes_at}
 
 -- ---- the loop that looks
@@ -62,7 +62,7 @@ none_cases false (Some j) e = absurd cc
 pub record Found (name : List ℕ) (files : List File) (i : ℕ) : Type 0 where
   pub in_range : i < length files
   pub there : has_file name files ≡ true
-  pub content : content_of name files ≡ bytes_at files i
+  pub content : file_content name files ≡ bytes_at files i
   pub item : (d : File) → (get_or files i d).1 ≡ bytes_at files i
   pub named : (d : File) → (get_or files i d).0 ≡ name
   pub putting : (bytes : List ℕ) → with_file name bytes files ≡ set files i (name, bytes)
@@ -103,7 +103,7 @@ found_at name (f ∷ fs) i e =
 -- what there is where no file has the name
 pub record Missing (name : List ℕ) (files : List File) : Type 0 where
   pub not_there : has_file name files ≡ false
-  pub content : content_of name files ≡ []
+  pub content : file_content name files ≡ []
   pub putting : (bytes : List ℕ) → with_file name bytes files ≡ files ++ (name, bytes) ∷ []
   pub adding : (bytes : List ℕ) → with_more name bytes files ≡ files
 

@@ -1,12 +1,12 @@
 -- Loading a file piece by piece.
 use Rattle.std.proofs.Common.{◌≡◌, ℕ, ◌≤◌, true, List, [], ◌++◌, length, Option}
 use Rattle.std.specs.Prelude.{IfSome}
-use Rattle.host_port.specs.Act.{Disk, content_of}
+use Rattle.host_port.specs.Act.{Disk, file_content}
 use Rattle.host_port.specs.Outside.{Outside, Did, KeepsCounts, opening}
 
 -- the bytes so far and what is left of the input are the whole file, as far as it is told
 abbrev pub Joins : List ℕ → List ℕ → Option Disk → Option (List ℕ) → Type 0
-Joins name bytes disk rest = IfSome disk (λ d. IfSome rest (λ r. bytes ++ r ≡ content_of name d.files))
+Joins name bytes disk rest = IfSome disk (λ d. IfSome rest (λ r. bytes ++ r ≡ file_content name d.files))
 
 -- how far a load has come
 pub record Loading (name : List ℕ) (limit : ℕ) (bytes : List ℕ) (old now : Outside) : Type 0 where

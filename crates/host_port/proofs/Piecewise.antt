@@ -90,14 +90,6 @@ along_more act p piece rest n old mid new far taken kept = record {
   counts = KeepsCounts-then old mid new far.counts kept;
 }
 
--- all of it, where nothing is left
-pub along_end : {T E : Type 0} (act : List ℕ → Act) (piece rest : List ℕ) (old new : Outside) (x : T) → Along act piece rest old new → rest ≡ [] → TakesAll {T = T} {E = E} act piece old new (Ok x)
-along_end act piece rest old new x far none = record {
-  done = subst (λ (v : List ℕ). Did (act v ∷ []) old new) (sym (append-nil far.front) ∙ ap (λ (v : List ℕ). far.front ++ v) (sym none) ∙ far.parts) far.did;
-  part = tt;
-  input = far.input;
-}
-
 -- a prefix of it, where the next part failed
 pub along_fail : {T E : Type 0} (act : List ℕ → Act) → IsPiecewise act → (piece rest : List ℕ) (old mid new : Outside) (e : E) → Along act piece rest old mid → 0 < length rest → Takes act rest mid new (Error e) → TakesAll {T = T} act piece old new (Error e)
 along_fail act p piece rest old mid new e far some failed = record {

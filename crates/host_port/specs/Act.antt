@@ -6,9 +6,9 @@ abbrev pub File : Type 0
 File = List ℕ × List ℕ
 
 -- the bytes of the named file, none where there is no such file
-abbrev pub content_of : List ℕ → List File → List ℕ
-content_of name [] = []
-content_of name (file ∷ files) = if bytes_eq file.0 name then file.1 else content_of name files
+abbrev pub file_content : List ℕ → List File → List ℕ
+file_content name [] = []
+file_content name (file ∷ files) = if bytes_eq file.0 name then file.1 else file_content name files
 
 abbrev pub has_file : List ℕ → List File → Bool
 has_file name [] = false

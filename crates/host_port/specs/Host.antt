@@ -1,6 +1,6 @@
 -- What each call on a host does, by the outside before and after it.
 use Rattle.std.specs.Prelude.{◌≡◌, ℕ, ◌<◌, ◌≤◌, true, false, List, [], ◌∷◌, length, take, drop, Some, Result, IfOk, OnOk, OnErr, IfSome, MatchResult, is_ok, is_err, ◌↔◌}
-use Rattle.host_port.specs.Act.{Act, Disk, content_of, Create, Write, Close, Out}
+use Rattle.host_port.specs.Act.{Act, Disk, file_content, Create, Write, Close, Out}
 use Rattle.host_port.specs.Act.{Err as Complain}
 use Rattle.host_port.specs.Outside.{Outside, Becomes, Did, KeepsInput, Rose, opening}
 -- where bytes go: to the file that is being written, or to one of the two outputs
@@ -42,7 +42,7 @@ IfTold o P = IfSome o.disk P
 pub record Opens {T E : Type 0} (name : List ℕ) (old new : Outside) (result : Result T E) : Type 0 where
   pub nothing_done : Did [] (opening 1 old) new
   pub opened : new.is_open ≡ is_ok result
-  pub rest : OnOk result (IfTold new (λ d. new.rest ≡ Some (content_of name d.files)))
+  pub rest : OnOk result (IfTold new (λ d. new.rest ≡ Some (file_content name d.files)))
 
 -- n bytes of the rest came into the buffer, none exactly where none was left
 pub record Came (n : ℕ) (rest after : List ℕ) : Type 0 where

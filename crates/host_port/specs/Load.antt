@@ -3,7 +3,7 @@ use Rattle.std.specs.Prelude.{◌≡◌, ℕ, ◌<◌, ◌≤◌, true, List, []
 use Rattle.std.specs.Global.{Vec}
 use Rattle.host_port.specs.declared.loading.LoadRefusal.{LoadRefusal}
 use Rattle.host_port.specs.declared.loading.LoadRefusal.TheVariants.{ReadFault, TooLarge, OutOfMemory}
-use Rattle.host_port.specs.Act.{content_of}
+use Rattle.host_port.specs.Act.{file_content}
 use Rattle.host_port.specs.Outside.{Outside, Did, Rose, KeepsCounts, opening}
 use Rattle.host_port.specs.Host.{IfTold}
 
@@ -24,6 +24,6 @@ LoadCounts old new (Err ReadFault) = Rose old.read_faults new.read_faults × (ne
 pub record Loads (name : List ℕ) (limit : ℕ) (old new : Outside) (result : Result (Vec ℕ) LoadRefusal) : Type 0 where
   -- one input was opened
   pub nothing_done : Did [] (opening 1 old) new
-  pub answer : IfTold new (λ d. AnswersFor (content_of name d.files) limit result)
+  pub answer : IfTold new (λ d. AnswersFor (file_content name d.files) limit result)
   pub within : IfOk result (λ bytes. length bytes.items ≤ limit)
   pub counts : LoadCounts old new result

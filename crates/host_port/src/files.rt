@@ -1,7 +1,7 @@
 //! Files in memory, for the hosts in memory.
 
 ghost use Rattle.std.specs.Prelude.{◌≡◌, ◌<◌, [], length, IfSome, OnOk, OnErr, MatchOption, min, take, drop, true, false};
-ghost use Rattle.host_port.specs.Act.{content_of, has_file, with_file, with_more};
+ghost use Rattle.host_port.specs.Act.{file_content, has_file, with_file, with_more};
 ghost use Rattle.host_port.specs.Entries.{files_of, place_of, bytes_at, rest_at};
 
 use std::alloc::{AllocError, Global};
@@ -25,8 +25,8 @@ pub fn find(entries: &[Entry], name: &str) -> Option<usize>
     ensures place { result ≡ place_of name.now (files_of entries.now) }
     ensures in_range { IfSome result (λ i. i < length entries.now) }
     ensures found { MatchOption result
-        ((has_file name.now (files_of entries.now) ≡ false) × (content_of name.now (files_of entries.now) ≡ []))
-        (λ i. (has_file name.now (files_of entries.now) ≡ true) × (content_of name.now (files_of entries.now) ≡ bytes_at (files_of entries.now) i)) }
+        ((has_file name.now (files_of entries.now) ≡ false) × (file_content name.now (files_of entries.now) ≡ []))
+        (λ i. (has_file name.now (files_of entries.now) ≡ true) × (file_content name.now (files_of entries.now) ≡ bytes_at (files_of entries.now) i)) }
 {
     for (i, entry) in entries.iter().enumerate() {
         if entry.name.as_str() == name {
@@ -38,7 +38,7 @@ pub fn find(entries: &[Entry], name: &str) -> Option<usize>
 
 /// Where the named file begins, or a place with nothing left where there is no such file.
 pub fn start_of(entries: &[Entry], name: &str) -> Place
-    ensures { rest_at (files_of entries.now) result ≡ content_of name.now (files_of entries.now) }
+    ensures { rest_at (files_of entries.now) result ≡ file_content name.now (files_of entries.now) }
 {
     match find(entries, name) {
         Some(file) => Place { file, at: 0 },
@@ -73,7 +73,7 @@ pub fn read_from(entries: &[Entry], place: &mut Place, buf: &mut [u8]) -> usize
 pub fn content<'a>(entries: &'a [Entry], name: &str) -> Option<&'a [u8]>
     ensures { MatchOption result
         (has_file name.now (files_of entries.now) ≡ false)
-        (λ bytes. (has_file name.now (files_of entries.now) ≡ true) × (bytes.now ≡ content_of name.now (files_of entries.now))) }
+        (λ bytes. (has_file name.now (files_of entries.now) ≡ true) × (bytes.now ≡ file_content name.now (files_of entries.now))) }
 {
     let i = find(entries, name)?;
     Some(entries[i].bytes.as_slice())

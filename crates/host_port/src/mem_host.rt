@@ -1,7 +1,7 @@
 //! A host in memory.
 
 ghost use Rattle.std.specs.Prelude.{◌≡◌, ◌+◌, ◌-◌, ◌^◌, ◌<◌, ◌≤◌, ◌↔◌, ◌⊎◌, [], ◌∷◌, ◌++◌, true, false, length, min, take, drop, Some, None, unwrap_or, option_map, if◌then◌else◌, Contains, IsErr, IfOk, IfSome, IsTrue, OnOk, OnErr, MatchOption};
-ghost use Rattle.host_port.specs.Act.{Write, Out, Err as Complain, content_of, has_file, with_file, written, next_count};
+ghost use Rattle.host_port.specs.Act.{Write, Out, Err as Complain, file_content, has_file, with_file, written, next_count};
 ghost use Rattle.host_port.specs.Outside.{Rose};
 ghost use Rattle.host_port.specs.Host.{Came, Opens, Moves, Creates, Takes, Closes, Reads, Writes, Complains};
 ghost use Rattle.host_port.specs.Memory.{empty_memory, first_failure, outside_of, is_consistent, IsFirstOf, IsMarked, Called, Tallies};
@@ -170,7 +170,7 @@ impl MemHost {
     pub fn file(&self, name: &str) -> Option<&[u8]>
         ensures { MatchOption result
             (has_file name.now self.now.files ≡ false)
-            (λ bytes. (has_file name.now self.now.files ≡ true) × (bytes.now ≡ content_of name.now self.now.files)) }
+            (λ bytes. (has_file name.now self.now.files ≡ true) × (bytes.now ≡ file_content name.now self.now.files)) }
     {
         files::content(self.entries.as_slice(), name)
     }
@@ -263,7 +263,7 @@ impl MemHost {
         requires { self.old.writing ≡ None }
         ensures found { result ≡ has_file name.now self.old.files }
         ensures after { self.new ≡ record self.old {
-          rest = if has_file name.now self.old.files then Some (content_of name.now self.old.files) else None;
+          rest = if has_file name.now self.old.files then Some (file_content name.now self.old.files) else None;
         } }
     {
         match files::find(self.entries.as_slice(), name) {

@@ -154,6 +154,3 @@ sites_in_order z a b order = omega (arith, begins_in_order (width_of z.hash) a b
 
 pub part_is : (fraction offset : ℕ) (w : Width) → IsWidth fraction w → offset / 2 ^ w.bits ≡ offset / width_of fraction
 part_is fraction offset w is = ap (λ n. offset / n) is.is
-
-pub begin_is : (fraction part : ℕ) (w : Width) → IsWidth fraction w → 2 ^ w.bits * part ≡ width_of fraction * part
-begin_is fraction part w is = ap (λ n. n * part) is.is

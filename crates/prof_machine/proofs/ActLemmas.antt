@@ -1,5 +1,5 @@
 -- What a run's prints leave on the outside.
-use Rattle.std.proofs.Common.{◌+◌, ◌++◌, ◌<◌, Bool, List, [], ap, append_assoc, arith, eqb, false, inl, inr, refl, subst, sym, take, true, ℕ, ◌∙◌, ◌∷◌, ◌≡◌, ◌≤◌, if◌then◌else◌}
+use Rattle.std.proofs.Common.{◌+◌, ◌++◌, ◌<◌, Bool, List, [], ap, append_assoc, arith, eqb, false, refl, subst, sym, take, true, ℕ, ◌∙◌, ◌∷◌, ◌≡◌, ◌≤◌, if◌then◌else◌}
 use Rattle.std.specs.Prelude.{Err, Result, not, ◌≢◌, ⊤}
 use Rattle.std.proofs.lemmas.List.{append-nil}
 use Rattle.std.proofs.lemmas.Bool.Decides.{nat_tests}
@@ -13,7 +13,7 @@ use Rattle.rv_step.specs.Memory.{IsInside, Memory, is_inside, read_at}
 use Rattle.prof_machine.proofs.PrintLemmas.{prints_planned}
 use Rattle.prof_machine.specs.Ecalls.{is_output, side_of, write_acts}
 use Rattle.prof_machine.specs.Plan.{driven, most_turns, planned}
-use Rattle.prof_machine.specs.Prints.{ArePrinted, BreaksOff, IsCutShort, PrintFailed}
+use Rattle.prof_machine.specs.Prints.{ArePrinted, BreaksOff, IsCutShort}
 use Rattle.prof_machine.specs.World.{World}
 use Rattle.prof_machine.specs.declared.machine.Machine.{Machine}
 
@@ -72,11 +72,6 @@ counts_after : (side : Side) (a b c : Outside) → KeepsCounts a b → CountsOf 
 counts_after File a b c keeps p = record { own = rose_after _ _ _ keeps.write p.own; last = p.last; read = p.read ∙ keeps.read; err = p.err ∙ keeps.err }
 counts_after Output a b c keeps p = record { own = rose_after _ _ _ keeps.write p.own; last = p.last; read = p.read ∙ keeps.read; err = p.err ∙ keeps.err }
 counts_after ErrorOutput a b c keeps p = record { own = rose_after _ _ _ keeps.err p.own; read = p.read ∙ keeps.read; write = p.write ∙ keeps.write }
-
--- the print that failed is the first one
-pub failed_after : (a b c : Outside) → KeepsCounts a b → PrintFailed b c → PrintFailed a c
-failed_after a b c keeps (inl p) = inl (counts_after Output a b c keeps p)
-failed_after a b c keeps (inr p) = inr (counts_after ErrorOutput a b c keeps p)
 
 cut_after : (front acts : List Act) (x y z : Outside) → Did front x y → KeepsCounts x y → IsCutShort acts y z → IsCutShort (front ++ acts) x z
 cut_after front acts x y z did keeps cut =

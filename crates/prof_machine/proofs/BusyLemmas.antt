@@ -1,8 +1,8 @@
 -- That no call is being entered once a run has ended: the looks that are left say whether one is.
-use Rattle.std.proofs.Common.{All, ◌%◌, ◌/◌, ◌&&◌, ◌+◌, ◌++◌, ◌<◌, ◌≤◌, Bool, List, None, Option, Some, [], ap, arith, eqb, false, get_or, inl, inr, leb, length, map, refl, replicate, set, subst, suc, sym, true, zero, ℕ, ◌∙◌, ◌∷◌, ◌≡◌, ◌≢◌, if◌then◌else◌}
+use Rattle.std.proofs.Common.{All, ◌%◌, ◌/◌, ◌&&◌, ◌<◌, ◌≤◌, Bool, List, None, Option, Some, [], ap, arith, eqb, false, get_or, inl, inr, leb, length, map, refl, replicate, set, subst, suc, sym, true, zero, ℕ, ◌∙◌, ◌∷◌, ◌≡◌, ◌≢◌, if◌then◌else◌}
 use Rattle.std.proofs.lemmas.Bool.{eqb-true}
 use Rattle.std.proofs.lemmas.Bool.Decides.{nat_tests}
-use Rattle.std.proofs.lemmas.List.{get_or-replicate, get_or-set_same, length-replicate, length-set, set-set}
+use Rattle.std.proofs.lemmas.List.{get_or-set_same, length-replicate, length-set, set-set}
 use Rattle.std.proofs.lemmas.List.Folds.{list_any_at}
 use Rattle.std.proofs.lemmas.List.FromFn.{get_or-map-range_with_len, length-map-range_with_len}
 use Rattle.std.specs.List.{filter_map, list_any}
@@ -22,8 +22,8 @@ use Rattle.mcount_arcs.specs.declared.walk.Entered.TheVariants.{Ignored, Lost, W
 use Rattle.rv_step.specs.Registers.{register}
 use Rattle.prof_machine.proofs.HookLemmas.{walk_is}
 use Rattle.prof_machine.proofs.RunLemmas.{given_setup}
-use Rattle.prof_machine.proofs.WalkLemmas.{all_zero, none_at, none_here, on_idle, zero_again, zeros_all, zeros_set}
-use Rattle.prof_machine.proofs.WorldLemmas.{by_executed, by_going, by_returned, the_end}
+use Rattle.prof_machine.proofs.WalkLemmas.{all_zero, none_at, none_here, on_idle, zero_again, zeros_set}
+use Rattle.prof_machine.proofs.WorldLemmas.{by_executed, by_going, by_returned}
 use Rattle.prof_machine.specs.Plan.{driven, most_turns, plan_of, state_after, taker_of}
 use Rattle.prof_machine.specs.Start.{final_world, machine_of, start_of}
 use Rattle.prof_machine.specs.Turn.{after_entering, arrived, closed, executed, instructed, is_at, returned, sampled, spent, taken, turn_of, while_going, with_entry, world_after}

@@ -1,5 +1,5 @@
 -- What only an instruction changes: how many have retired, where they stood, and what was printed.
-use Rattle.std.proofs.Common.{◌%◌, ◌&&◌, Bool, List, Option, None, Some, eqb, false, map, refl, set, suc, true, ℕ, ◌∙◌, ◌≡◌, if◌then◌else◌}
+use Rattle.std.proofs.Common.{◌%◌, ◌&&◌, Bool, List, Option, None, Some, eqb, false, refl, set, true, ℕ, ◌∙◌, ◌≡◌, if◌then◌else◌}
 use Rattle.std.specs.Prelude.{is_some, nat_lt}
 use Rattle.std.specs.List.{list_any}
 use Rattle.host_port.specs.Act.{Act}

@@ -1,5 +1,5 @@
 -- The note of a turn, in the world that a run stands for.
-use Rattle.std.proofs.Common.{◌&&◌, ◌+◌, ◌<◌, ◌≤◌, ◌%◌, Bool, List, None, Option, Some, ap, arith, eqb, false, refl, subst, suc, sym, true, zero, ℕ, ◌∙◌, ◌≡◌, if◌then◌else◌}
+use Rattle.std.proofs.Common.{◌&&◌, ◌<◌, ◌≤◌, ◌%◌, Bool, List, None, Option, Some, ap, arith, eqb, false, refl, subst, suc, sym, true, zero, ℕ, ◌∙◌, ◌≡◌, if◌then◌else◌}
 use Rattle.std.specs.Option.{IsSome, option_eq}
 use Rattle.std.specs.Prelude.{is_some}
 use Rattle.std.specs.Bool.{then_some}

@@ -28,7 +28,7 @@ use Rattle.prof_machine.specs.Ecalls.{ecall_of}
 use Rattle.prof_machine.specs.Laws.{noted_pcs, noted_samples}
 use Rattle.prof_machine.specs.Notes.{if_going, instruction_note, look_note, note_by, note_of, ran_from, ran_of, sample_in}
 use Rattle.prof_machine.specs.Start.{machine_of, start_of}
-use Rattle.prof_machine.specs.Turn.{after_call, after_ecall, after_entering, after_outcome, after_step, arrived, closed, executed, instructed, is_at, returned, sampled, spent, switched, taken, turn_of, while_going, with_entry, world_after}
+use Rattle.prof_machine.specs.Turn.{after_call, after_ecall, after_entering, after_step, arrived, closed, executed, instructed, is_at, returned, sampled, spent, taken, turn_of, while_going, with_entry, world_after}
 use Rattle.prof_machine.specs.World.{World, hart_of, left_of}
 use Rattle.prof_machine.specs.declared.ecalls.Call.{Call}
 use Rattle.prof_machine.specs.declared.ecalls.Call.TheVariants.{Answers, Exits, SetsBreak, Writes}
@@ -36,7 +36,6 @@ use Rattle.prof_machine.specs.declared.ending.End.{End}
 use Rattle.prof_machine.specs.declared.ending.End.TheVariants.{Budget}
 use Rattle.prof_machine.specs.declared.machine.Machine.{Machine}
 use Rattle.prof_machine.specs.declared.notes.Ran.{Ran}
-use Rattle.prof_machine.specs.declared.notes.TurnNote.{TurnNote}
 use Rattle.prof_machine.specs.declared.setup.Setup.{Setup}
 
 -- ---- the instruction that has retired

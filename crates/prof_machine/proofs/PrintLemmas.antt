@@ -1,15 +1,10 @@
 -- What a run prints: only its instructions print, and what is printed stays.
-use Rattle.std.proofs.Common.{◌%◌, ◌&&◌, ◌++◌, Bool, List, None, Option, Some, [], ap, append_assoc, drop, eqb, false, refl, set, suc, sym, true, zero, ℕ, ◌∙◌, ◌∷◌, ◌≡◌, ◌≤◌, if◌then◌else◌}
+use Rattle.std.proofs.Common.{◌++◌, List, [], ap, append_assoc, drop, refl, set, suc, sym, zero, ℕ, ◌∙◌, ◌∷◌, ◌≡◌, ◌≤◌}
 use Rattle.std.proofs.lemmas.List.{append-nil}
-use Rattle.std.specs.Prelude.{is_some, nat_lt}
-use Rattle.std.specs.List.{list_any}
 use Rattle.host_port.specs.Act.{Act}
-use Rattle.mcount_arcs.specs.Log.{WalkDone, state_of}
-use Rattle.mcount_arcs.specs.Value.{meets}
-use Rattle.mcount_arcs.specs.declared.walk.Entered.{Entered}
-use Rattle.mcount_arcs.specs.declared.walk.Entered.TheVariants.{Ignored, Lost, Walking}
+use Rattle.mcount_arcs.specs.Log.{WalkDone}
 use Rattle.rv_step.specs.Memory.{Memory}
-use Rattle.rv_step.specs.Registers.{Registers, register}
+use Rattle.rv_step.specs.Registers.{Registers}
 use Rattle.rv_step.specs.Step.{step_of}
 use Rattle.rv_step.specs.declared.stepped.Stepped.{Stepped}
 use Rattle.rv_step.specs.declared.stepped.Stepped.TheVariants.{Ecall, Retired, Trap as Trapped}
@@ -18,11 +13,10 @@ use Rattle.prof_machine.proofs.LastingLemmas.{Lasting, lasts_closed, lasts_instr
 use Rattle.prof_machine.proofs.WorldLemmas.{by_going}
 use Rattle.prof_machine.specs.Ecalls.{ecall_of}
 use Rattle.prof_machine.specs.Plan.{driven, most_turns, plan_of, planned}
-use Rattle.prof_machine.specs.Turn.{after_call, after_ecall, after_entering, after_step, arrived, closed, executed, instructed, is_at, returned, sampled, spent, taken, target_of, turn_of, while_going, with_entry, world_after}
+use Rattle.prof_machine.specs.Turn.{after_call, after_ecall, after_step, closed, executed, instructed, returned, taken, turn_of, with_entry, world_after}
 use Rattle.prof_machine.specs.World.{World, hart_of, left_of}
 use Rattle.prof_machine.specs.declared.ecalls.Call.{Call}
 use Rattle.prof_machine.specs.declared.ecalls.Call.TheVariants.{Answers, Exits, SetsBreak, Writes}
-use Rattle.prof_machine.specs.declared.ending.End.{End}
 use Rattle.prof_machine.specs.declared.machine.Machine.{Machine}
 
 -- ---- only instructions print

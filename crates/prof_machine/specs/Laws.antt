@@ -1,5 +1,5 @@
 -- What follows from the definitions on turns: the statements of the laws.
-use Rattle.std.specs.Prelude.{◌≡◌, ◌≢◌, ℕ, ◌+◌, ◌<◌, ◌≤◌, ◌↔◌, List, [], ◌∷◌, ◌++◌, length, Option, None, option_map, IsSome, All}
+use Rattle.std.specs.Prelude.{◌≡◌, ◌≢◌, ℕ, ◌+◌, ◌<◌, ◌≤◌, ◌↔◌, List, [], ◌∷◌, ◌++◌, length, None, option_map, IsSome, All}
 use Rattle.std.specs.List.{cons_option}
 use Rattle.elf32_syms.specs.declared.image.Image.{Image}
 use Rattle.host_port.specs.Act.{Act}

@@ -119,6 +119,7 @@ impl Run {
     /// One turn of a hart: a look of its walk, or one instruction with its sample and its hook. What the
     /// program prints is printed. `Failed` comes only where this failed; then the run isn't live. Takes
     /// no memory.
+    #[inline(always)]
     pub fn turn<H: Host>(&mut self, hart: u32, host: &mut H) -> Result<Turned, Failed>
         requires live { IsLive self.old }
         requires hart { hart < self.old.machine.setup.harts }
@@ -144,7 +145,15 @@ impl Run {
         ensures few { work_left self.old ≤ most_turns self.old.machine.setup }
         ensures less { IsLive self.new → work_left self.new < work_left self.old }
     {
-        self.advance(hart, host)?;
+        self.live = false;
+        let note = if self.holds_walk(hart) {
+            TurnNote::of_look(self.look(hart))
+        } else {
+            self.instruct(hart, host)?
+        };
+        self.close();
+        self.live = self.ending.is_none();
+        self.note = note;
         Ok(self.turned())
     }
 
@@ -169,9 +178,21 @@ impl Run {
         ensures input { KeepsInput (H.outside host.old) (H.outside host.new) }
     {
         let kept = self.note;
-        let end = self.advance_to_end(host);
-        self.note = kept;
-        end
+        let mut plan = PlanWalk::new(&self.machine.setup);
+        'turns: loop {
+            let hart = plan.next_hart();
+            match self.turn(hart, host) {
+                Ok(Turned::Going) => {}
+                Ok(Turned::Ended(end)) => {
+                    self.note = kept;
+                    return Ok(end);
+                }
+                Err(failed) => {
+                    self.note = kept;
+                    return Err(failed);
+                }
+            }
+        }
     }
 
     /// What the last turn did that `turn` made and answered Ok. Takes no memory.
@@ -223,72 +244,6 @@ impl Run {
             lost: self.lost,
             state: self.gmon.state(),
         }
-    }
-
-    // The turns of the plan up to the end of the run, each of which leaves its note.
-    fn advance_to_end<H: Host>(&mut self, host: &mut H) -> Result<End, Failed>
-        requires { IsLive self.old }
-        ensures stands { OnOk result ((w : World) → StandsFor w self.old → StandsFor (driven self.old.machine w) self.new) }
-        ensures answer { IfOk result (λ end. self.new.ending ≡ Some end) }
-        ensures live { IsLive self.new → ⊥ }
-        ensures machine { self.new.machine ≡ self.old.machine }
-        ensures prints { OnOk result ((w : World) → StandsFor w self.old
-            → ArePrinted w (driven self.old.machine w) (H.outside host.old) (H.outside host.new)) }
-        ensures fails { OnErr result ((w : World) → StandsFor w self.old
-            → (n : ℕ) × (n < most_turns self.old.machine.setup) × ((planned self.old.machine w n).ending ≡ None)
-            × BreaksOff w (planned self.old.machine w (n + 1)) (H.outside host.old) (H.outside host.new)) }
-        ensures counts { MatchResult result (λ _. KeepsCounts (H.outside host.old) (H.outside host.new)) (λ _. PrintFailed (H.outside host.old) (H.outside host.new)) }
-        ensures writing { (H.outside host.new).is_writing ≡ (H.outside host.old).is_writing }
-        ensures input { KeepsInput (H.outside host.old) (H.outside host.new) }
-    {
-        let mut plan = PlanWalk::new(&self.machine.setup);
-        'turns: loop {
-            let hart = plan.next_hart();
-            self.advance(hart, host)?;
-            match self.turned() {
-                Turned::Going => {}
-                Turned::Ended(end) => return Ok(end),
-            }
-        }
-    }
-
-    // One turn of a hart, which leaves its note in its place: it isn't handed through answers, since that
-    // would copy it in each turn.
-    #[inline(always)]
-    fn advance<H: Host>(&mut self, hart: u32, host: &mut H) -> Result<(), Failed>
-        requires live { IsLive self.old }
-        requires hart { hart < self.old.machine.setup.harts }
-        ensures stands { OnOk result ((w : World) → StandsFor w self.old → StandsFor (turn_of self.old.machine w hart) self.new) }
-        ensures live { IsLive self.new ↔ (IsOk result × (self.new.ending ≡ None)) }
-        ensures machine { self.new.machine ≡ self.old.machine }
-        ensures note { OnOk result ((w : World) → StandsFor w self.old → self.new.note ≡ note_of self.old.machine w hart) }
-        ensures kept { OnErr result (self.new.note ≡ self.old.note) }
-
-        // What the outside has gained.
-        ensures prints { OnOk result ((w : World) → StandsFor w self.old
-            → ArePrinted w (turn_of self.old.machine w hart) (H.outside host.old) (H.outside host.new)) }
-        ensures fails { OnErr result ((w : World) → StandsFor w self.old
-            → BreaksOff w (turn_of self.old.machine w hart) (H.outside host.old) (H.outside host.new)) }
-        ensures counts { MatchResult result (λ _. KeepsCounts (H.outside host.old) (H.outside host.new)) (λ _. PrintFailed (H.outside host.old) (H.outside host.new)) }
-        ensures writing { (H.outside host.new).is_writing ≡ (H.outside host.old).is_writing }
-        ensures input { KeepsInput (H.outside host.old) (H.outside host.new) }
-
-        // A run has only so many turns left, and one that has ended has none.
-        ensures going { self.old.ending ≡ None }
-        ensures left { 0 < work_left self.old }
-        ensures few { work_left self.old ≤ most_turns self.old.machine.setup }
-        ensures less { IsLive self.new → work_left self.new < work_left self.old }
-    {
-        self.live = false;
-        let note = if self.holds_walk(hart) {
-            TurnNote::of_look(self.look(hart))
-        } else {
-            self.instruct(hart, host)?
-        };
-        self.close();
-        self.live = self.ending.is_none();
-        self.note = note;
-        Ok(())
     }
 
     // How the run stands between two turns.

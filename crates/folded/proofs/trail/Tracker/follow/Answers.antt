@@ -1,6 +1,10 @@
-use Rattle.folded.proofs.FollowLemmas.{quiet_follows}
+use Rattle.std.proofs.Common.{◌≡◌, ◌∙◌, ◌++◌, ◌≤◌, ℕ, List, length, ap, arith, set, subst, sym, ◌+◌}
+use Rattle.folded.specs.Shadow.{Shadow, after_hook, after_ran}
+use Rattle.folded.specs.Stacks.{stacks_of}
+use Rattle.folded.specs.Tally.{Folds}
+use Rattle.folded.specs.Trail.{samples_of, shadow_of}
+use Rattle.folded.proofs.FollowLemmas.{followed_follows, hook_room, ran_room, room_set, shadow_read, quiet_follows}
 use Rattle.folded.proofs.FoldLemmas.{more_room}
-use Rattle.std.proofs.Common.{◌∙◌, ◌+◌, arith, sym}
 use Rattle.folded.proofs.trail.Tracker.follow.Goals as goal
 
 pub returns-then-is_quiet-clause-follows : goal.returns-then-is_quiet-clause-follows
@@ -9,3 +13,27 @@ returns-then-is_quiet-clause-follows c = λ t st.
 
 pub returns-then-is_quiet-clause-room : goal.returns-then-is_quiet-clause-room
 returns-then-is_quiet-clause-room c = λ turns room. more_room turns (turns + 1) c.args.self.now.shadows.items (omega arith) room
+
+pub returns-clause-follows : goal.returns-clause-follows
+returns-clause-follows c = λ t st.
+    let h = c.args.hart in
+    let note = c.args.note in
+    let symbols = c.args.symbols.now in
+    let s = c.index_mut-shadow.result.now in
+    let read = shadow_read c.args.self.now.shadows.items h s c.requires.hart c.index_mut-shadow.ensures.value in
+    let was : after_ran note.ran (shadow_of t.shadows h) ≡ c.run.new.self =
+    ap (λ (x : List Shadow). after_ran note.ran (shadow_of x h)) (sym st.shadows) ∙ ap (after_ran note.ran) read ∙ sym c.run.ensures in
+    let shadows = ap (set c.args.self.now.shadows.items h) c.leave_hook.ensures ∙ ap (λ (x : List Shadow). set x h (after_hook note.returned c.run.new.self)) st.shadows in
+    let F : List ℕ → Type 0 = λ x. Folds (length symbols) (stacks_of symbols (t.samples ++ samples_of note.sample x)) c.sample.new.folded in
+    followed_follows symbols h note t c.run.new.self _ was shadows (subst F c.frames.ensures (c.in_ok-sample.ensures.folds t.samples st.folds))
+
+pub returns-clause-room : goal.returns-clause-room
+returns-clause-room c = λ turns room.
+    let h = c.args.hart in
+    let note = c.args.note in
+    let xs = c.args.self.now.shadows.items in
+    let s = c.index_mut-shadow.result.now in
+    let here : s.over ≤ turns = subst (λ (x : Shadow). x.over ≤ turns) (sym c.index_mut-shadow.ensures.value) (room h s c.requires.hart) in
+    let ran = ap (λ (x : Shadow). x.over) c.run.ensures in
+    let left = ap (λ (x : Shadow). x.over) c.leave_hook.ensures in
+    room_set turns xs h c.leave_hook.new.self room (omega (arith, here, ran, left, ran_room note.ran s, hook_room note.returned c.run.new.self))

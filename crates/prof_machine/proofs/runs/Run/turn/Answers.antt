@@ -12,8 +12,8 @@ use Rattle.prof_machine.proofs.DriveLemmas.{work_bound}
 use Rattle.prof_machine.proofs.NoteLemmas.{instructed_note, turn_noted}
 use Rattle.prof_machine.specs.Plan.{most_turns}
 use Rattle.prof_machine.specs.Notes.{note_by, note_of}
-use Rattle.prof_machine.proofs.runs.Run.advance.Goals as goal
-use Rattle.prof_machine.proofs.runs.Run.advance.Goals.{then-holds_walk, else-holds_walk+in_ok-note}
+use Rattle.prof_machine.proofs.runs.Run.turn.Goals as goal
+use Rattle.prof_machine.proofs.runs.Run.turn.Goals.{then-holds_walk, else-holds_walk+in_ok-note}
 
 pub returns-in_err-note-clause-fails : goal.returns-in_err-note-clause-fails
 returns-in_err-note-clause-fails g c = on_err_any _ _ c.from_residual.result _ (λ w st.

@@ -1,6 +1,6 @@
 use Rattle.prof_machine.specs.Value.{work_left}
 use Rattle.prof_machine.proofs.DriveLemmas.{Drives}
-use Rattle.prof_machine.proofs.runs.Run.advance_to_end.Given as goal
+use Rattle.prof_machine.proofs.runs.Run.drive.Given as goal
 
 abbrev pub invariant-turns : goal.invariant-turns
 invariant-turns g l = Drives l.initial.self l.self (g.H.Host.outside l.initial.host) (g.H.Host.outside l.host) l.plan
