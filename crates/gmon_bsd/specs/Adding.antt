@@ -1,14 +1,15 @@
 -- What a reader adds to a profile.
-use Rattle.std.specs.Prelude.{◌≡◌, ℕ, List, ◌∷◌, map, None}
+use Rattle.std.specs.Prelude.{ℕ, List, ◌∷◌, map}
 use Rattle.gp_base.specs.declared.records.RawArc.{RawArc}
 use Rattle.gp_base.specs.Fields.{seconds}
-use Rattle.gmon_data.specs.Content.{Content, WideRec, WideHist, IsWithin, hist_over, wide_arc, wide_records, with_records}
+use Rattle.gmon_data.specs.Content.{Content, WideRec, WideHist, hist_over, wide_arc}
+use Rattle.gmon_data.specs.FileRecords.{spelled_in, HasRoomForSome}
 use Rattle.gmon_bsd.specs.Fed.{Kept, StandsFor}
 use Rattle.gmon_bsd.specs.Reading.{bsd_refusal, bsd_records}
 
 -- what a file spells, as records of a profile
 abbrev pub spelled_records : List ℕ → List WideRec
-spelled_records bytes = wide_records (bsd_records bytes).recs
+spelled_records = spelled_in bsd_records
 
 -- a histogram in seconds, and arcs
 abbrev pub hist_and_arcs : ℕ → ℕ → ℕ → List ℕ → List RawArc → List WideRec
@@ -16,4 +17,4 @@ hist_and_arcs low high rate counters arcs = WideHist (hist_over low high counter
 
 -- The reader stands for bytes that are refused, or spell records with which the profile stays within its limits.
 abbrev pub HasRoomFor : Content → Kept → Type 0
-HasRoomFor profile kept = (bytes : List ℕ) × StandsFor bytes kept × (bsd_refusal bytes ≡ None → IsWithin (with_records (spelled_records bytes) profile))
+HasRoomFor profile kept = HasRoomForSome (λ bytes. StandsFor bytes kept) bsd_refusal spelled_records profile

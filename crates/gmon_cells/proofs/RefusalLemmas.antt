@@ -1,5 +1,5 @@
 -- An answer is the refusal that the form gives, where it gives one.
-use Rattle.std.proofs.Common.{◌≡◌, Option, Some, None, Result, Err, ap, ◌∙◌, refl}
+use Rattle.std.proofs.Common.{◌≡◌, Option, Some, None, Result, Err, ap, ◌∙◌}
 use Rattle.std.specs.Prelude.{IfSome}
 use Rattle.gp_base.specs.Refusal.{IsRefusal}
 use Rattle.gp_base.specs.declared.refusal.GmonRefusal.{GmonRefusal}

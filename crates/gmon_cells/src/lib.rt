@@ -1,6 +1,7 @@
 //! What the readers and writers of both forms of gmon.out share. Cells of one width come in pieces, as
 //! counters, arcs and block counts do: whole ones are kept in a column, and beside them the few bytes of a
-//! cell that isn't whole yet. The counters of a run are written in one loop.
+//! cell that isn't whole yet. The file of a run is written in one course, by its header and by the tag of
+//! an arc.
 #![tactic(auto)]
 
 pub mod arcs;
@@ -13,7 +14,7 @@ pub use arcs::push_arcs;
 pub use cell::Cell;
 pub use column::Column;
 pub use remnant::Remnant;
-pub use writing::put_counters;
+pub use writing::{put_arc, write_run};
 
 #[cfg(test)]
 mod tests;

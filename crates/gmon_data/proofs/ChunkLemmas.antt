@@ -67,13 +67,6 @@ one_more_bumped starts now c k x is le lt read =
     ap (λ (l : List ℕ). set l k (x + 1)) is ∙ one_more_new (bumped c starts) starts k (x + 1) long lt more
     ∙ ap (λ (n : ℕ). take n (bumped c starts) ++ drop n starts) (sym (add-one k))
 
--- of two chunks only one has an item
-not_later : (starts : List ℕ) (i c k : ℕ) → IsChunkOf starts i c → IsChunkOf starts i k → c < k → ⊥
-not_later starts i c k one two lt =
-    let above = one.to k lt two.inside in
-    let f : i < i = omega (arith, above, two.from) in
-    omega (arith, f)
-
 module _ {T : Type 0} where
   abbrev items : Vec T → List T
   items c = c.items
@@ -402,14 +395,6 @@ module _ {T : Type 0} where
       )
 
   -- ---- which chunk has room
-
-  pub room_stays : (cs : List (Vec T)) (starts : List ℕ) (i c : ℕ) (w : Vec T) → IsChunkOf starts i c → c < length cs → w ≡ get_or cs c w → length w.items < 512 → HasRoom cs starts i
-  room_stays cs starts i c w at lt read room k v other =
-      let low = not_later starts i c k at other in
-      let high = not_later starts i k c other at in
-      let same : k ≡ c = omega (arith, low, high) in
-      let is : w ≡ get_or cs c v = read ∙ get_or_default cs c w v lt in
-      subst (λ (n : ℕ). length (get_or cs n v).items < 512) (sym same) (subst (λ (x : Vec T). length x.items < 512) is room)
 
   pub room_made : (cs : List (Vec T)) (starts : List ℕ) (i c start : ℕ) (head tail : Vec T) → IsChunkOf starts i c → length starts ≡ length cs → length head.items < 512 → length tail.items < 512
       → HasRoom (insert (set cs c head) (c + 1) tail) (insert starts (c + 1) start) i

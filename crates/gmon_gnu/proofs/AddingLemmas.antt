@@ -13,8 +13,7 @@ use Rattle.gp_base.specs.Spans.{HasRange}
 use Rattle.gmon_data.specs.Content.{Content, WideRec, IsAdded, wide_arc, wide_record, wide_records}
 use Rattle.gmon_data.proofs.RecordLemmas.{IsUnderway, arcs_widened, at_end, cut_at, past_end}
 use Rattle.gmon_gnu.specs.declared.state.Entry.{Entry}
-use Rattle.gmon_gnu.specs.Adding.{entries_recs}
-use Rattle.gmon_gnu.specs.Held.{entry_recs, rec_of, recs_in}
+use Rattle.gmon_gnu.specs.Held.{entry_recs, rec_of, recs_in, entries_recs}
 
 last_all : (xs ys : List Rec) → AllByRecursion HasRange (xs ++ ys) → AllByRecursion HasRange ys
 last_all [] ys all = all

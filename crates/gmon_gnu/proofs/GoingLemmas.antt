@@ -8,7 +8,7 @@ use Rattle.gp_base.specs.declared.records.RawHist.{RawHist}
 use Rattle.gp_base.specs.declared.records.Rec.{Rec}
 use Rattle.gp_base.specs.declared.records.Rec.TheVariants.{Hist, Arc, Blocks}
 use Rattle.gp_base.specs.declared.refusal.GmonRefusal.{GmonRefusal}
-use Rattle.gp_base.specs.declared.refusal.GmonRefusal.TheVariants.{Short, Version, Tag, Range}
+use Rattle.gp_base.specs.declared.refusal.GmonRefusal.TheVariants.{Short, Version, Range}
 use Rattle.gp_base.specs.Bytes.{value_of, word_at, cut}
 use Rattle.gp_base.specs.Fields.{arc_of, block_of}
 use Rattle.gmon_gnu.specs.Fields.{version}
@@ -169,13 +169,6 @@ blocks_begun len count (suc (suc zero) ∷ body) rest tag long count_is =
     ∙ (λ i. cond (here i) (Err (Short len)) (after_front more (pairs_front len (number i) (drop_at body rest 4 whole i))))
     ∙ after_choice more (ltb (length rest) (count * 8)) (Short len) (Found (Blocks (cut 8 block_of count rest)) (drop (count * 8) rest))
     ∙ ap (λ (o : Result (List Rec) GmonRefusal). cond (ltb (length rest) (count * 8)) (Err (Short len)) (behind (Blocks (cut 8 block_of count rest) ∷ []) o)) (sym behind_it)
-
-pub tag_refused : (len at tag : ℕ) (front rest : List ℕ) → tag ≡ slice_index front 0 → 3 ≤ tag → 0 < length front → at ≡ len - length (front ++ rest) → records_on len (front ++ rest) ≡ Err (Tag at tag)
-tag_refused len at tag [] rest tag_is other some at_is = absurd (omega arith)
-tag_refused len at tag (zero ∷ body) rest tag_is other some at_is = absurd (omega arith)
-tag_refused len at tag (suc zero ∷ body) rest tag_is other some at_is = absurd (omega arith)
-tag_refused len at tag (suc (suc zero) ∷ body) rest tag_is other some at_is = absurd (omega arith)
-tag_refused len at tag (suc (suc (suc t)) ∷ body) rest tag_is other some at_is = λ i. Err (Tag (sym at_is i) (sym tag_is i))
 
 word_before : (k : ℕ) (body rest : List ℕ) → k + 4 ≤ length body → word_at (body ++ rest) k ≡ word_at body k
 word_before k body rest within =

@@ -6,7 +6,6 @@ use Rattle.std.proofs.lemmas.List.{take-append-drop, drop-drop}
 use Rattle.gp_base.specs.declared.records.RawHist.{RawHist}
 use Rattle.gp_base.specs.declared.records.Rec.{Rec}
 use Rattle.gp_base.specs.declared.records.Rec.TheVariants.{Hist, Arc, Blocks}
-use Rattle.gp_base.specs.declared.records.Records.{Records}
 use Rattle.gp_base.specs.declared.refusal.GmonRefusal.{GmonRefusal}
 use Rattle.gp_base.specs.Bytes.{value_of, le, cut, word_at, IsBytes}
 use Rattle.gp_base.proofs.LittleEndian.{length-cut, IsBytes-take, IsBytes-drop, IsBytes-rest, field_below, field_then}
@@ -17,7 +16,7 @@ use Rattle.gmon_gnu.specs.Grammar.{rec_bytes, RecFits, GnuSpells}
 use Rattle.gmon_gnu.specs.Reading.{Front, Found, Refused, body_front, behind, recs_from, after_front, file_recs, refusal_in, recs_in, gnu_refusal, gnu_records}
 use Rattle.gp_base.proofs.FieldLemmas.{counter_spelled, counter_fits, arc_spelled, arc_fits, block_spelled, block_fits}
 use Rattle.gmon_gnu.proofs.FrontLemmas.{found_then, same_found}
-use Rattle.gmon_gnu.proofs.SpellingLemmas.{Whole, whole_accepted, gnu, rec_text, rec_then, shorter}
+use Rattle.gmon_gnu.proofs.SpellingLemmas.{rec_text, rec_then, shorter}
 
 -- ---- one record
 
@@ -191,7 +190,3 @@ spelled_of bs bytes e =
       spare_fits = omega (arith, long, length-take 12 (drop 8 bs), length-drop 8 bs);
       recs_fit = all.fits;
     }
-
-pub spelled_where_read : (bytes : List ℕ) (recs : List Rec) → IsBytes bytes → Whole bytes recs → GnuSpells bytes (gnu recs)
-spelled_where_read bs recs bytes whole =
-    subst (λ (r : Records). GnuSpells bs r) (ap gnu (ap recs_in whole.recs_are)) (spelled_of bs bytes (whole_accepted bs recs whole))

@@ -1,6 +1,6 @@
 -- The records of a text, one by one. How many bytes are allowed for doesn't matter where they are no fewer than
 -- the text's.
-use Rattle.std.proofs.Common.{◌≡◌, ℕ, zero, suc, ◌-◌, ◌<◌, ◌≤◌, List, [], ◌∷◌, ◌++◌, length, take, drop, slice_index, length-drop, Some, Result, Ok, Err, refl, sym, ap, ◌∙◌, append_assoc, arith}
+use Rattle.std.proofs.Common.{◌≡◌, ℕ, zero, suc, ◌-◌, ◌<◌, ◌≤◌, List, [], ◌∷◌, length, take, drop, slice_index, Some, Result, Ok, Err, refl, sym, ap, ◌∙◌, arith}
 use Rattle.gp_base.specs.declared.records.Rec.{Rec}
 use Rattle.gp_base.specs.declared.refusal.GmonRefusal.{GmonRefusal}
 use Rattle.gp_base.specs.Refusal.{IsRefusal}
@@ -26,26 +26,9 @@ one_more len (suc n) tag body r rest le is =
     let shorter = front_shorter len (len - length (tag ∷ body)) tag body r rest is in
     ap (after_front (λ rest. recs_from len n rest)) is ∙ ap (behind (r ∷ [])) (allowance len n (suc n) rest (omega (arith, le, shorter)) (omega (arith, le, shorter)))
 
-behind_one : (recs : List Rec) (r : Rec) (o : Result (List Rec) GmonRefusal) → behind (recs ++ r ∷ []) o ≡ behind recs (behind (r ∷ []) o)
-behind_one recs r (Ok rs) = ap (λ (l : List Rec). let x : Result (List Rec) GmonRefusal = Ok l in x) (append_assoc recs (r ∷ []) rs)
-behind_one recs r (Err e) = refl
-
 pub behind_none : (o : Result (List Rec) GmonRefusal) → behind [] o ≡ o
 behind_none (Ok rs) = refl
 behind_none (Err e) = refl
-
--- one record more is read
-pub read_more : (len : ℕ) (recs : List Rec) (all : Result (List Rec) GmonRefusal) (rest tags body after : List ℕ) (r : Rec) → 0 < length rest → length rest ≤ len → tags ≡ take 1 rest → body ≡ drop 1 rest
-    → body_front len (len - length rest) (slice_index tags 0) body ≡ Found r after → behind recs (recs_from len len rest) ≡ all → behind (recs ++ r ∷ []) (recs_from len len after) ≡ all
-read_more len recs all [] tags body after r some le tags_is body_is is so_far = absurd (let f : 1 ≤ 0 = some in omega (arith, f))
-read_more len recs all (x ∷ xs) tags body after r some le tags_is body_is is so_far =
-    let is' = sym (λ i. body_front len (len - length (x ∷ xs)) (slice_index (tags_is i) 0) (body_is i)) ∙ is in
-    behind_one recs r (recs_from len len after) ∙ ap (behind recs) (sym (one_more len len x xs r after le is')) ∙ so_far
-
--- and less of the text is left
-pub read_less : (len at : ℕ) (rest tags body after : List ℕ) (r : Rec) → 0 < length rest → body ≡ drop 1 rest → body_front len at (slice_index tags 0) body ≡ Found r after → length after < length rest
-read_less len at rest tags body after r some body_is is =
-    omega (arith, some, front_shorter len at (slice_index tags 0) body r after is, ap length body_is, length-drop 1 rest)
 
 -- a refusal at the front is the text's
 refused_front : (f : Front) (more : List ℕ → Result (List Rec) GmonRefusal) (recs : List Rec) (e : GmonRefusal) → front_refusal f ≡ Some e → refusal_in (behind recs (after_front more f)) ≡ Some e

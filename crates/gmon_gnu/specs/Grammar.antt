@@ -1,5 +1,5 @@
 -- Which bytes spell which records in the GNU form. It knows nothing of reading.
-use Rattle.std.specs.Prelude.{◌≡◌, ℕ, ◌^◌, ◌<◌, List, ◌∷◌, ◌++◌, length}
+use Rattle.std.specs.Prelude.{◌≡◌, ℕ, ◌^◌, ◌<◌, List, [], ◌∷◌, ◌++◌, length}
 use Rattle.std.specs.List.{flat_map, AllByRecursion}
 use Rattle.gp_base.specs.declared.records.RawArc.{RawArc}
 use Rattle.gp_base.specs.declared.records.RawBlock.{RawBlock}
@@ -9,7 +9,8 @@ use Rattle.gp_base.specs.declared.records.Rec.TheVariants.{Hist, Arc, Blocks}
 use Rattle.gp_base.specs.declared.records.Records.{Records}
 use Rattle.gp_base.specs.declared.records.Form.TheVariants.{Gnu}
 use Rattle.gp_base.specs.Bytes.{le}
-use Rattle.gp_base.specs.Fields.{arc_bytes, block_bytes, counter_bytes, ArcFits, BlockFits, CounterFits}
+use Rattle.gp_base.specs.Fields.{block_bytes, counter_bytes, ArcFits, BlockFits, CounterFits}
+use Rattle.gmon_cells.specs.FileText.{tagged_by}
 use Rattle.gmon_gnu.specs.Fields.{version}
 
 -- a histogram, behind its tag 0: its fields, and its counters
@@ -19,7 +20,7 @@ hist_bytes h =
 
 -- an arc, behind its tag 1
 abbrev pub tagged_arc : RawArc → List ℕ
-tagged_arc arc = 1 ∷ arc_bytes arc
+tagged_arc = tagged_by (1 ∷ [])
 
 -- counts of basic blocks, behind their tag 2 and their number
 abbrev pub blocks_bytes : List RawBlock → List ℕ

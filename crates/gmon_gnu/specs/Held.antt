@@ -6,6 +6,8 @@ use Rattle.gp_base.specs.declared.records.RawBlock.{RawBlock}
 use Rattle.gp_base.specs.declared.records.RawHist.{RawHist}
 use Rattle.gp_base.specs.declared.records.Rec.{Rec}
 use Rattle.gp_base.specs.declared.records.Rec.TheVariants.{Hist, Arc, Blocks}
+use Rattle.gp_base.specs.Spans.{HasRange}
+use Rattle.gmon_data.specs.Content.{WideRec, wide_records}
 use Rattle.gmon_gnu.specs.declared.state.HistFields.{HistFields}
 use Rattle.gmon_gnu.specs.declared.state.Entry.{Entry}
 use Rattle.gmon_gnu.specs.declared.state.Body.{Body}
@@ -33,6 +35,14 @@ recs_in counters pairs arcs entries run = flat_map (entry_recs counters pairs ar
 
 abbrev pub recs_of : State → List Rec
 recs_of s = recs_in s.counters.cells.items s.pairs.cells.items s.arcs.items s.entries.items s.run
+
+-- the records of entries, as records of a profile
+abbrev pub entries_recs : List ℕ → List RawBlock → List RawArc → List Entry → List WideRec
+entries_recs counters pairs arcs entries = wide_records (flat_map (entry_recs counters pairs arcs) entries)
+
+-- each histogram's counters, if there are any, share a range that isn't empty
+abbrev pub HaveRanges : State → Type 0
+HaveRanges s = AllByRecursion (λ e. HasRange (rec_of s.counters.cells.items s.pairs.cells.items e.body)) s.entries.items
 
 -- a span lies within what there is
 abbrev pub IsBodyWithin : ℕ → ℕ → Body → Type 0

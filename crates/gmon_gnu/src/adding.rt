@@ -3,8 +3,7 @@
 ghost use Rattle.std.specs.Prelude.{◌≡◌, ◌≤◌, length, IfErr, OnOk};
 ghost use Rattle.gp_base.specs.Spans.{HasRange};
 ghost use Rattle.gmon_data.specs.Content.{wide_record, wide_records, with_records, IsAdded, IsStopped, IsWithin as IsWithinLimits};
-ghost use Rattle.gmon_gnu.specs.Adding.{entries_recs, HaveRanges};
-ghost use Rattle.gmon_gnu.specs.Held.{entry_recs, rec_of, recs_of, AreWithin, IsBodyWithin, IsWithin};
+ghost use Rattle.gmon_gnu.specs.Held.{entry_recs, rec_of, recs_of, AreWithin, IsBodyWithin, IsWithin, entries_recs, HaveRanges};
 
 use crate::state::{Body, Entry, State};
 use gmon_data::{AddRefusal, Profile};

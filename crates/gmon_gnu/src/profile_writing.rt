@@ -12,7 +12,8 @@ ghost use Rattle.gmon_gnu.specs.Splitting.{piece as spec_piece, largest as spec_
 ghost use Rattle.gmon_gnu.specs.Pieces.{hist_header, hist_pieces_text, arc_text_of, left_bytes, rounds_text};
 
 use crate::splitting::{MOST_CALLS, MOST_SAMPLES, has_left, largest, piece, pieces};
-use crate::writing::{hist_text, put_arc};
+use crate::writing::{ARC_TAG, hist_text};
+use gmon_cells::put_arc;
 use gmon_data::{Hist, Profile};
 use gp_base::{RawArc, Unit, le2, le4};
 use host_port::{Failed, Host, OutBuf};
@@ -177,7 +178,7 @@ fn put_pair<H: Host>(
 {
     for j in 0..pieces(MOST_CALLS, calls) {
         let count = piece(MOST_CALLS, j, calls) as u32;
-        put_arc(RawArc { from, to, count }, out, host)?;
+        put_arc(&ARC_TAG, RawArc { from, to, count }, out, host)?;
     }
     Ok(())
 }

@@ -1,17 +1,15 @@
-ghost use Rattle.std.specs.Prelude.{◌≡◌, ◌+◌, ◌<◌, ◌≤◌, ◌^◌, length, IfOk};
+ghost use Rattle.std.specs.Prelude.{◌≡◌, ℕ, ◌+◌, ◌*◌, ◌^◌, ◌<◌, length, IfOk};
 ghost use Rattle.gmon_data.specs.Content.{empty_content};
-ghost use Rattle.gmon_gnu.specs.Fed.{StandsFor};
-ghost use Rattle.gmon_gnu.specs.Grammar.{GnuSpells};
 
 use super::*;
-use gmon_data::{AddRefusal, Hist, Profile, ReadRefusal, Unlike};
-use gp_base::{RawArc, RawBlock, Rec, Records, Span, Totals, Unit, le2, le4};
+use gmon_data::{AddRefusal, Hist, Profile, ReadRefusal};
+use gp_base::{RawArc, RawBlock, Rec, Records, Totals, Unit, le2, le4};
 use host_port::{Failed, Host, MemHost};
-use mcount_arcs::{Entered, Gmon, Looked};
+use mcount_arcs::Gmon;
 use std::alloc::{AllocError, Global};
 use std::process::Abort;
 use std::test::Fail;
-use test_profiles::are_same;
+use test_runs::{are_of_small_run, small_run};
 
 /// Two histograms from 0x10000 to below 0x10010, an arc that was never called, and the count of a block.
 const RECORDS: [u8; 108] = [
@@ -23,13 +21,6 @@ const RECORDS: [u8; 108] = [
     1, 0, 2, 0, 0, 0, 0, 0, //
     1, 4, 0, 1, 0, 8, 0, 1, 0, 0, 0, 0, 0, // from 0x10004 to 0x10008
     2, 1, 0, 0, 0, 0, 0, 1, 0, 9, 0, 0, 0, // 9 at 0x10000
-];
-
-/// A histogram from 0x10000 to below 0x10000 with one counter, which may not be.
-const EMPTY_RANGE: [u8; 35] = [
-    0, 0, 0, 1, 0, 0, 0, 1, 0, 1, 0, 0, 0, 100, 0, 0, 0, //
-    0x73, 0x65, 0x63, 0x6F, 0x6E, 0x64, 0x73, 0, 0, 0, 0, 0, 0, 0, 0, 0x73, //
-    5, 0,
 ];
 
 /// A file of a version, with spare bytes that are not zeros.
@@ -44,70 +35,17 @@ fn file(alloc: Global, version: u8, records: &[u8]) -> Result<Vec<u8>, AllocErro
     Ok(bytes)
 }
 
+/// A header of version 2, with spare bytes that are not zeros.
+const OTHER_VERSION: [u8; 20] = *b"gmon\x02\0\0\0\x01\x02\x03\x04\x05\x06\x07\x08\x09\x0A\x0B\x0C";
+
 #[test]
-fn the_first_fault_is_answered(rt: HostRuntime) -> Result<(), Fail> {
-    let short = |at| GmonRefusal::Short { at };
-    let range = GmonRefusal::Range {
-        at: 20,
-        low: 0x1_0000,
-        high: 0x1_0000,
-    };
-    let cases: [(&str, u8, &[u8], GmonRefusal); 14] = [
-        ("another version", 2, &[], GmonRefusal::Version { value: 2 }),
-        (
-            "version before tag",
-            0,
-            &[3],
-            GmonRefusal::Version { value: 0 },
-        ),
-        ("tag 3", 1, &[3], GmonRefusal::Tag { at: 20, value: 3 }),
-        (
-            "tag 255",
-            1,
-            &[255, 0, 0],
-            GmonRefusal::Tag { at: 20, value: 255 },
-        ),
-        ("a histogram's tag", 1, &[0], short(21)),
-        (
-            "a histogram's fields less a byte",
-            1,
-            &EMPTY_RANGE[..32],
-            short(52),
-        ),
-        ("an empty range", 1, &EMPTY_RANGE, range),
-        ("a range before its counters", 1, &EMPTY_RANGE[..34], range),
-        ("a counter less a byte", 1, &RECORDS[..40], short(60)),
-        ("an arc's tag", 1, &[1], short(21)),
-        ("an arc less a byte", 1, &RECORDS[82..94], short(32)),
-        ("a number less a byte", 1, &[2, 0, 0, 0], short(24)),
-        (
-            "more pairs than there are bytes",
-            1,
-            &[2, 255, 255, 255, 255],
-            short(25),
-        ),
-        ("a pair less a byte", 1, &RECORDS[..107], short(127)),
-    ];
-    for (name, version, records, refusal) in cases {
-        let bytes = file(rt.alloc(), version, records)?;
-        assert!(rt; bytes.len() <= 128, "{name}");
-        assert_eq!(rt; read(rt.alloc(), &bytes).err(), Some(refusal), "{name}");
-        let answer = in_pieces(rt.alloc(), &bytes, 1);
-        assert_eq!(rt; answer.err(), Some(refusal), "{name}, byte by byte");
-        for size in [1, 1_000] {
-            let (answer, _) = added_both_ways(&rt, rt.alloc(), &bytes, size)?;
-            assert_eq!(rt; answer, Err(ReadRefusal::File(refusal)), "{name}");
-        }
+fn a_torn_header_is_refused_before_its_version(rt: HostRuntime) -> Result<(), Fail> {
+    for len in 0..20u32 {
+        let refusal = read(rt.alloc(), OTHER_VERSION.split_at(len as usize).0).err();
+        assert_eq!(rt; refusal, Some(GmonRefusal::Short { at: len }));
     }
-    let header = file(rt.alloc(), 2, &[])?;
-    for len in 0..20 {
-        let refusal = read(rt.alloc(), &header[..len]).err();
-        assert_eq!(rt;
-            refusal,
-            Some(short(len as u32)),
-            "{len} bytes of the header"
-        );
-    }
+    let refusal = read(rt.alloc(), &OTHER_VERSION).err();
+    assert_eq!(rt; refusal, Some(GmonRefusal::Version { value: 2 }));
     Ok(())
 }
 
@@ -170,17 +108,27 @@ fn is_block(rec: Option<&Rec>) -> bool {
     }
 }
 
-#[test]
-fn records_are_read_in_order(rt: HostRuntime) -> Result<(), Fail> {
-    let bytes = file(rt.alloc(), 1, &RECORDS)?;
-    assert_eq!(rt; bytes.len(), 128);
-    assert!(rt; are_of_the_file(&read(rt.alloc(), &bytes)?, 4));
-    Ok(())
+/// What reading a front of that file gives.
+fn expect_front(rt: &impl Abort, answer: &Result<Records, GmonRefusal>, count: usize) {
+    match answer {
+        Ok(records) => assert!(rt; are_of_the_file(records, count), "{count} records"),
+        Err(_) => assert!(rt; false, "{count} records"),
+    }
 }
 
 #[test]
-fn a_file_of_100_000_bytes_is_read(rt: HostRuntime) -> Result<(), Fail> {
-    let mut bytes = file(rt.alloc(), 1, &RECORDS[..33])?;
+fn records_are_read_in_order(rt: HostRuntime) -> Result<(), Fail> {
+    for (len, count) in [(0usize, 0usize), (41, 1), (82, 2), (95, 3), (108, 4)] {
+        let bytes = file(rt.alloc(), 1, RECORDS.split_at(len).0)?;
+        let answer = read(rt.alloc(), &bytes);
+        expect_front(&rt, &answer, count);
+    }
+    Ok(())
+}
+
+/// A file of 100,000 bytes.
+fn large_file(alloc: Global) -> Result<Vec<u8>, AllocError> {
+    let mut bytes = file(alloc, 1, RECORDS.split_at(33).0)?;
     bytes[29] = 0xA0;
     bytes[30] = 0x0F;
     for i in 0..4_000 {
@@ -198,9 +146,20 @@ fn a_file_of_100_000_bytes_is_read(rt: HostRuntime) -> Result<(), Fail> {
         bytes.extend_from_slice(&le4(i))?;
         bytes.extend_from_slice(&le4(i + 1))?;
     }
+    Ok(bytes)
+}
+
+/// Reads it.
+fn read_large(rt: &impl Abort, alloc: Global, bytes: &[u8]) -> Result<Records, GmonRefusal> {
     assert_eq!(rt; bytes.len(), 100_000);
-    expect_large(&rt, &read(rt.alloc(), &bytes)?);
-    expect_large(&rt, &in_pieces(rt.alloc(), &bytes, 4_096)?);
+    read(alloc, bytes)
+}
+
+#[test]
+fn a_file_of_100_000_bytes_is_read(rt: HostRuntime) -> Result<(), Fail> {
+    let bytes = large_file(rt.alloc())?;
+    let records = read_large(&rt, rt.alloc(), &bytes)?;
+    expect_large(&rt, &records);
     Ok(())
 }
 
@@ -258,90 +217,58 @@ const SMALL: [u8; 100] = [
     1, 8, 0, 1, 0, 0x30, 0, 1, 0, 1, 0, 0, 0,
 ];
 
-/// A call, entered to its end.
-fn call(gmon: &mut Gmon, from: u32, to: u32) {
-    if gmon.calls() == u32::MAX {
-        return;
-    }
-    if let Entered::Walking(first) = gmon.enter(from, to) {
-        let mut walk = first;
-        for _ in 0..65_536 {
-            match gmon.look(walk) {
-                Looked::More(next) => walk = next,
-                _ => return,
-            }
-        }
-    }
+/// The host on which the file of a run was written.
+fn written(alloc: Global, gmon: &Gmon, rate: u32) -> Result<MemHost, Failed> {
+    let mut host = MemHost::new(alloc);
+    host.create_output("gmon.out")?;
+    write_run(gmon, rate, &mut host)?;
+    Ok(host)
 }
 
-/// A run of the text from 0x10000 to below 0x10010, with 1, 2, 300 and 1 samples in its words, one
-/// sample behind it, and four calls.
-fn small_run(alloc: Global) -> Result<Gmon, AllocError> {
-    let mut gmon = Gmon::startup(
-        alloc,
-        Span {
-            low: 0x1_0000,
-            high: 0x1_0010,
-        },
-        2,
-        2,
-    )?;
-    gmon.tick(0x1_0000);
-    gmon.tick(0x1_0004);
-    gmon.tick(0x1_0007);
-    for _ in 0..300 {
-        gmon.tick(0x1_0008);
-    }
-    gmon.tick(0x1_000F);
-    gmon.tick(0x1_0010);
-    call(&mut gmon, 0x1_0008, 0x1_0020);
-    call(&mut gmon, 0x1_0008, 0x1_0030);
-    call(&mut gmon, 0x1_0008, 0x1_0020);
-    call(&mut gmon, 0x1_0004, 0x1_0014);
-    Ok(gmon)
+fn expect_file(rt: &impl Abort, host: &MemHost, file: &[u8]) {
+    assert_eq!(rt; host.file("gmon.out"), Some(file));
 }
 
 #[test]
 fn a_run_is_written_to_the_byte_and_read_back(rt: HostRuntime) -> Result<(), Fail> {
     let gmon = small_run(rt.alloc())?;
-    let mut host = MemHost::new(rt.alloc());
-    host.create_output("gmon.out").map_err(|_| "create")?;
-    write_run(&gmon, 100, &mut host).map_err(|_| "write")?;
-    assert_eq!(rt; host.file("gmon.out"), Some(SMALL.as_slice()));
+    let host = written(rt.alloc(), &gmon, 100).map_err(|_| "write")?;
+    expect_file(&rt, &host, &SMALL);
     let records = read(rt.alloc(), &SMALL)?;
-    let recs = records.recs.as_slice();
-    assert_eq!(rt; recs.len(), 4);
-    match &recs[0] {
-        Rec::Hist(hist) => {
-            assert_eq!(rt; hist.counters.as_slice(), [1, 2, 300, 1].as_slice());
-        }
-        _ => assert!(rt; false, "a histogram"),
-    }
-    for (rec, written) in recs[1..].iter().zip(gmon.arcs()) {
-        match rec {
-            Rec::Arc(arc) => assert_eq!(rt; *arc, written),
-            _ => assert!(rt; false, "an arc"),
-        }
-    }
+    assert!(rt; are_of_small_run(records.recs.as_slice(), &gmon));
     Ok(())
+}
+
+/// Whether writing failed; then a part of the file was written that is not the whole.
+fn has_failed(rt: &impl Abort, host: &MemHost, answer: Result<(), Failed>, call: u64) -> bool {
+    let written = host.file("gmon.out").unwrap_or_default();
+    if answer == Ok(()) {
+        assert_eq!(rt; written, SMALL.as_slice(), "call {call}");
+        return false;
+    }
+    assert!(rt; written.len() < SMALL.len(), "call {call}");
+    assert_eq!(rt; SMALL.get(..written.len()), Some(written), "call {call}");
+    true
+}
+
+/// Writes the file of the small run while a call on the host fails.
+fn fails_at(rt: &impl Abort, alloc: Global, gmon: &Gmon, call: u64) -> Result<bool, AllocError> {
+    let mut host = MemHost::new(alloc);
+    host.fail_at(call)?;
+    let answer = match host.create_output("gmon.out") {
+        Ok(()) => write_run(gmon, 100, &mut host),
+        Err(Failed) => Err(Failed),
+    };
+    Ok(has_failed(rt, &host, answer, call))
 }
 
 #[test]
 fn a_failed_call_leaves_a_part_that_is_not_the_whole(rt: HostRuntime) -> Result<(), Fail> {
     let gmon = small_run(rt.alloc())?;
-    let mut failures = 0;
-    for call in 1..80 {
-        let mut host = MemHost::new(rt.alloc());
-        host.fail_at(call)?;
-        host.create_output("gmon.out").map_err(|_| "create")?;
-        let result = write_run(&gmon, 100, &mut host);
-        let written = host.file("gmon.out").unwrap_or_default();
-        if result == Err(Failed) {
+    let mut failures = 0u64;
+    for call in 1..80u64 {
+        if fails_at(&rt, rt.alloc(), &gmon, call)? {
             failures = call;
-            assert!(rt; written.len() < SMALL.len(), "call {call}");
-            assert_eq!(rt; SMALL.get(..written.len()), Some(written), "call {call}");
-        } else {
-            assert_eq!(rt; written, SMALL.as_slice(), "call {call}");
         }
     }
     assert!(rt; failures > 0, "some call fails");
@@ -355,49 +282,67 @@ const EXECUTED: [u8; 21] = [
     8, 0, 1, 0, 2, 1, 0, 0,
 ];
 
+/// The host on which the records of executed instructions were written.
+fn written_blocks(alloc: Global, low: u32, counts: &[u32]) -> Result<MemHost, Failed>
+    requires { (i : ℕ) → i < length counts.now → low + 4 * i < 2 ^ 32 }
+{
+    let mut host = MemHost::new(alloc);
+    host.create_output("gmon.out")?;
+    write_blocks(low, counts, &mut host)?;
+    Ok(host)
+}
+
 #[test]
 fn executed_instructions_are_written_to_the_byte(rt: HostRuntime) -> Result<(), Fail> {
-    let mut host = MemHost::new(rt.alloc());
-    host.create_output("blocks").map_err(|_| "create")?;
-    write_blocks(0x1_0000, &[1, 0, 258, 0], &mut host).map_err(|_| "write")?;
-    assert_eq!(rt; host.file("blocks"), Some(EXECUTED.as_slice()));
+    let host = written_blocks(rt.alloc(), 0x1_0000, &[1, 0, 258, 0]).map_err(|_| "write")?;
+    expect_file(&rt, &host, &EXECUTED);
     Ok(())
 }
 
 #[test]
 fn nothing_executed_has_no_record(rt: HostRuntime) -> Result<(), Fail> {
-    let mut host = MemHost::new(rt.alloc());
-    host.create_output("blocks").map_err(|_| "create")?;
-    write_blocks(0x1_0000, &[0, 0], &mut host).map_err(|_| "write")?;
-    write_blocks(0xFFFF_FFFC, &[], &mut host).map_err(|_| "write")?;
-    let written = host.file("blocks").unwrap_or_default();
-    assert!(rt; written.is_empty());
+    let zeros = written_blocks(rt.alloc(), 0x1_0000, &[0, 0]).map_err(|_| "write")?;
+    expect_file(&rt, &zeros, &[]);
+    let none = written_blocks(rt.alloc(), 0xFFFF_FFFC, &[]).map_err(|_| "write")?;
+    expect_file(&rt, &none, &[]);
     Ok(())
+}
+
+/// The addresses of that record, with their executions.
+const BLOCKS: [RawBlock; 2] = [
+    RawBlock {
+        addr: 0x1_0000,
+        count: 1,
+    },
+    RawBlock {
+        addr: 0x1_0008,
+        count: 258,
+    },
+];
+
+/// The run's records and one more.
+fn expect_counted(rt: &impl Abort, recs: &[Rec]) {
+    assert_eq!(rt; recs.len(), 5);
+    match recs.last() {
+        Some(Rec::Blocks(blocks)) => assert_eq!(rt; blocks.as_slice(), BLOCKS.as_slice()),
+        _ => assert!(rt; false, "counts of blocks"),
+    }
+}
+
+/// The file of the small run, and that record behind it.
+fn counted_run(alloc: Global) -> Result<Vec<u8>, AllocError>
+    ensures { IfOk result (λ bytes. length bytes.items ≡ 121) }
+{
+    let mut bytes = SMALL.to_vec(alloc)?;
+    bytes.extend_from_slice(&EXECUTED)?;
+    Ok(bytes)
 }
 
 #[test]
 fn executed_instructions_stand_behind_a_run(rt: HostRuntime) -> Result<(), Fail> {
-    let mut bytes = SMALL.to_vec(rt.alloc())?;
-    bytes.extend_from_slice(&EXECUTED)?;
+    let bytes = counted_run(rt.alloc())?;
     let records = read(rt.alloc(), &bytes)?;
-    let recs = records.recs.as_slice();
-    assert_eq!(rt; recs.len(), 5, "the run's records and one more");
-    match recs.last() {
-        Some(Rec::Blocks(blocks)) => {
-            let executed = [
-                RawBlock {
-                    addr: 0x1_0000,
-                    count: 1,
-                },
-                RawBlock {
-                    addr: 0x1_0008,
-                    count: 258,
-                },
-            ];
-            assert_eq!(rt; blocks.as_slice(), executed.as_slice());
-        }
-        _ => assert!(rt; false, "counts of blocks"),
-    }
+    expect_counted(&rt, records.recs.as_slice());
     Ok(())
 }
 
@@ -452,12 +397,12 @@ const COUNTS: [u8; 99] = [
     2, 1, 0, 0, 0, 4, 0, 1, 0, 2, 0, 0, 0, //
 ];
 
+/// The header of its file.
+const NEW_HEADER: [u8; 20] = *b"gmon\x01\0\0\0\0\0\0\0\0\0\0\0\0\0\0\0";
+
 /// The file of that profile.
 fn file_of_large_numbers(alloc: Global) -> Result<Vec<u8>, AllocError> {
-    let mut file = [
-        0x67, 0x6D, 0x6F, 0x6E, 1, 0, 0, 0, 0, 0, 0, 0, 0, 0, 0, 0, 0, 0, 0, 0,
-    ]
-    .to_vec(alloc)?;
+    let mut file = NEW_HEADER.to_vec(alloc)?;
     for piece in &PIECES {
         file.extend_from_slice(&RANGE)?;
         file.extend_from_slice(piece)?;
@@ -466,38 +411,35 @@ fn file_of_large_numbers(alloc: Global) -> Result<Vec<u8>, AllocError> {
     Ok(file)
 }
 
+/// The host on which the file of a profile was written.
+fn written_profile(alloc: Global, profile: &Profile) -> Result<MemHost, Failed> {
+    let mut host = MemHost::new(alloc);
+    host.create_output("gmon.out")?;
+    write(profile, &mut host)?;
+    Ok(host)
+}
+
 #[test]
 fn large_numbers_are_split_over_records(rt: HostRuntime) -> Result<(), Fail> {
     let profile = profile_of_large_numbers(rt.alloc()).map_err(|_| "a profile")?;
     let file = file_of_large_numbers(rt.alloc())?;
-    let mut host = MemHost::new(rt.alloc());
-    host.create_output("gmon.out").map_err(|_| "create")?;
-    write(&profile, &mut host).map_err(|_| "write")?;
-    assert_eq!(rt; host.file("gmon.out"), Some(file.as_slice()));
+    let host = written_profile(rt.alloc(), &profile).map_err(|_| "write")?;
+    expect_file(&rt, &host, &file);
     Ok(())
 }
 
 #[test]
 fn an_empty_profile_is_a_header(rt: HostRuntime) -> Result<(), Fail> {
     let profile = Profile::new(rt.alloc());
-    let mut host = MemHost::new(rt.alloc());
-    host.create_output("gmon.out").map_err(|_| "create")?;
-    write(&profile, &mut host).map_err(|_| "write")?;
-    let header: &[u8] = b"gmon\x01\0\0\0\0\0\0\0\0\0\0\0\0\0\0\0";
-    assert_eq!(rt; host.file("gmon.out"), Some(header));
+    let host = written_profile(rt.alloc(), &profile).map_err(|_| "write")?;
+    expect_file(&rt, &host, &NEW_HEADER);
     Ok(())
 }
 
-#[test]
-fn numbers_are_put_together_again(rt: HostRuntime) -> Result<(), Fail> {
-    let file = file_of_large_numbers(rt.alloc())?;
-    assert!(rt;
-        file.len() == 275,
-        "a header, four histograms, and the counts"
-    );
-    let records = read(rt.alloc(), file.as_slice())?;
+/// The sums of the first counters, of the calls, and of the last executions.
+fn sums_of(recs: &[Rec]) -> [u64; 3] {
     let (mut samples, mut calls, mut runs) = (0u64, 0u64, 0u64);
-    for rec in records.recs.as_slice() {
+    for rec in recs {
         match rec {
             Rec::Hist(hist) => {
                 let first = hist.counters.as_slice().first().copied().unwrap_or(0);
@@ -510,169 +452,45 @@ fn numbers_are_put_together_again(rt: HostRuntime) -> Result<(), Fail> {
             }
         }
     }
-    assert_eq!(rt; samples, 200_000);
-    assert_eq!(rt; calls, 1 << 33);
-    assert_eq!(rt; runs, 1 << 33);
-    Ok(())
+    [samples, calls, runs]
 }
 
-/// A reader that was fed the bytes in pieces of at most `size`.
-fn fed(alloc: Global, bytes: &[u8], size: usize) -> Result<Reader, AllocError>
-    requires some { 0 < size }
-    requires small { length bytes.now < 2 ^ 32 }
-    ensures { IfOk result (StandsFor bytes.now) }
-{
-    let mut reader = Reader::new(alloc);
-    let mut fed = 0;
-    while fed < bytes.len() {
-        let rest = bytes.split_at(fed).1;
-        let piece = rest.split_at(size.min(rest.len())).0;
-        reader.feed(piece)?;
-        fed += piece.len();
-    }
-    Ok(reader)
-}
-
-/// What a reader answers that is fed the bytes in pieces of at most `size`.
-fn in_pieces(alloc: Global, bytes: &[u8], size: usize) -> Result<Records, GmonRefusal>
-    requires some { 0 < size }
-    requires small { length bytes.now < 2 ^ 32 }
-    ensures { IfOk result (λ records. GnuSpells bytes.now records) }
-{
-    fed(alloc, bytes, size)?.finish()
-}
-
-/// Adds the records that a reader lists to an empty profile.
-fn add_listed(
-    alloc: Global,
-    bytes: &[u8],
-    size: usize,
-    profile: &mut Profile,
-) -> Result<(), ReadRefusal>
-    requires some { 0 < size }
-    requires small { length bytes.now ≤ 100000 }
-    requires empty { profile.old ≡ empty_content }
-{
-    let records = in_pieces(alloc, bytes, size)?;
-    profile.add_records(&records)?;
-    Ok(())
-}
-
-/// Adds what a reader was fed to an empty profile, beside a list of its records to another one. The answer of
-/// both, and the profile.
-fn added_both_ways(
-    rt: &impl Abort,
-    alloc: Global,
-    bytes: &[u8],
-    size: usize,
-) -> Result<(Result<(), ReadRefusal>, Profile), AllocError>
-    requires some { 0 < size }
-    requires small { length bytes.now ≤ 100000 }
-{
-    let mut added = Profile::new(alloc);
-    let mut listed = Profile::new(alloc);
-    let answer = fed(alloc, bytes, size)?.add_to(&mut added);
-    let due = add_listed(alloc, bytes, size, &mut listed);
-    assert_eq!(rt; answer, due);
-    assert!(rt; are_same(&added, &listed));
-    Ok((answer, added))
-}
-
-/// What a reader answers that is fed the bytes in two pieces.
-fn in_two(alloc: Global, front: &[u8], rest: &[u8]) -> Result<Records, GmonRefusal>
-    requires { length front.now + length rest.now < 2 ^ 32 }
-{
-    let mut reader = Reader::new(alloc);
-    reader.feed(front)?;
-    reader.feed(rest)?;
-    reader.finish()
+/// Reads a header, four histograms, and counts.
+fn read_large_numbers(rt: &impl Abort, alloc: Global, file: &[u8]) -> Result<Records, GmonRefusal> {
+    assert_eq!(rt; file.len(), 275);
+    read(alloc, file)
 }
 
 #[test]
-fn every_front_is_told_byte_by_byte(rt: HostRuntime) -> Result<(), Fail> {
-    let bytes = file(rt.alloc(), 1, &RECORDS)?;
-    for len in 0..129usize {
-        let front = bytes.as_slice().split_at(len.min(bytes.len())).0;
-        let count = match len {
-            20 => Some(0),
-            61 => Some(1),
-            102 => Some(2),
-            115 => Some(3),
-            128 => Some(4),
-            _ => None,
-        };
-        if front.len() != len {
-            continue;
-        }
-        match (in_pieces(rt.alloc(), front, 1), count) {
-            (Ok(records), Some(count)) => {
-                assert!(rt; are_of_the_file(&records, count), "{len} bytes");
-            }
-            (Ok(_), None) => assert!(rt; false, "{len} bytes are torn"),
-            (Err(refusal), count) => {
-                assert_eq!(rt; count, None, "{len} bytes");
-                assert_eq!(rt; refusal, GmonRefusal::Short { at: len as u32 });
-            }
-        }
-    }
+fn numbers_are_put_together_again(rt: HostRuntime) -> Result<(), Fail> {
+    let file = file_of_large_numbers(rt.alloc())?;
+    let records = read_large_numbers(&rt, rt.alloc(), &file)?;
+    let sums = sums_of(records.recs.as_slice());
+    assert_eq!(rt; sums, [200_000, 1 << 33, 1 << 33]);
     Ok(())
 }
 
-#[test]
-fn every_cut_into_two_gives_the_same(rt: HostRuntime) -> Result<(), Fail> {
-    let bytes = file(rt.alloc(), 1, &RECORDS)?;
-    for cut in 0..129usize {
-        let (front, rest) = bytes.as_slice().split_at(cut.min(bytes.len()));
-        match in_two(rt.alloc(), front, rest) {
-            Ok(records) => assert!(rt; are_of_the_file(&records, 4), "cut at {cut}"),
-            Err(_) => assert!(rt; false, "cut at {cut}"),
-        }
+/// Adds the file of the small run to an empty profile while it is read.
+fn add_small(alloc: Global, profile: &mut Profile) -> Result<(), ReadRefusal>
+    requires { profile.old ≡ empty_content }
+{
+    let mut reader = Reader::new(alloc);
+    match reader.feed(&SMALL) {
+        Ok(()) => reader.add_to(profile),
+        Err(_) => Err(ReadRefusal::Profile(AddRefusal::OutOfMemory)),
     }
-    Ok(())
 }
 
-/// A histogram of rate 100, an arc of 7 calls, a histogram of rate 50, and an arc of 9 calls.
-const UNLIKE: [u8; 108] = [
-    0, 0, 0, 1, 0, 0x10, 0, 1, 0, 4, 0, 0, 0, 100, 0, 0, 0, // tag, low, high, number, rate
-    0x73, 0x65, 0x63, 0x6F, 0x6E, 0x64, 0x73, 0, 0, 0, 0, 0, 0, 0, 0, 0x73, // seconds, s
-    1, 0, 2, 0, 0, 0, 0, 0, // counters
-    1, 4, 0, 1, 0, 8, 0, 1, 0, 7, 0, 0, 0, // from 0x10004 to 0x10008
-    0, 0, 0, 1, 0, 0x10, 0, 1, 0, 4, 0, 0, 0, 50, 0, 0, 0, //
-    0x73, 0x65, 0x63, 0x6F, 0x6E, 0x64, 0x73, 0, 0, 0, 0, 0, 0, 0, 0, 0x73, //
-    1, 0, 2, 0, 0, 0, 0, 0, //
-    1, 4, 0, 1, 0, 8, 0, 1, 0, 9, 0, 0, 0, //
-];
+fn expect_sums(rt: &impl Abort, profile: &Profile) {
+    assert_eq!(rt; (profile.samples(), profile.calls()), (304, 4));
+}
 
 #[test]
 fn what_was_fed_is_added(rt: HostRuntime) -> Result<(), Fail> {
-    let header = file(rt.alloc(), 1, &[])?;
-    let records = file(rt.alloc(), 1, &RECORDS)?;
-    let large = file_of_large_numbers(rt.alloc())?;
-    let before = file(rt.alloc(), 1, &UNLIKE[..54])?;
-    let both = file(rt.alloc(), 1, &UNLIKE)?;
-    let unlike = Err(ReadRefusal::Profile(AddRefusal::Unlike(Unlike::Rate { old: 100, new: 50 })));
-    let rows: [(&str, &[u8], Result<(), ReadRefusal>, [u64; 3]); 6] = [
-        ("a header", &header, Ok(()), [0, 0, 0]),
-        ("two histograms", &records, Ok(()), [6, 0, 9]),
-        ("arcs behind a histogram", &SMALL, Ok(()), [304, 4, 0]),
-        (
-            "large numbers",
-            &large,
-            Ok(()),
-            [265_535, 1 << 33, (1 << 33) + 5],
-        ),
-        ("no record behind an arc", &before, Ok(()), [3, 7, 0]),
-        ("another rate behind an arc", &both, unlike, [3, 7, 0]),
-    ];
-    for (name, bytes, due, numbers) in rows {
-        assert!(rt; bytes.len() <= 1_000, "{name}");
-        for size in [1, 7, 1_000] {
-            let (answer, profile) = added_both_ways(&rt, rt.alloc(), bytes, size)?;
-            assert_eq!(rt; answer, due, "{name}");
-            let held = [profile.samples(), profile.calls(), profile.blocks()];
-            assert_eq!(rt; held, numbers, "{name}");
-        }
-    }
+    let mut profile = Profile::new(rt.alloc());
+    let answer = add_small(rt.alloc(), &mut profile);
+    assert_eq!(rt; answer, Ok(()));
+    expect_sums(&rt, &profile);
     Ok(())
 }
 

@@ -1,5 +1,6 @@
-use Rattle.gmon_data.proofs.BoundLemmas.{IsAtMost}
+use Rattle.std.proofs.Common.{◌*◌}
+use Rattle.gmon_data.specs.Sizes.{IsOfBytes}
 use Rattle.gmon_data.proofs.tests.side_by_side.Given as goal
 
 abbrev pub invariant-loop-k : goal.invariant-loop-k
-invariant-loop-k l = IsAtMost l.profile l.k
+invariant-loop-k l = IsOfBytes (2 * l.k) l.profile

@@ -4,8 +4,7 @@ use Rattle.gmon_data.specs.Content.{WideRec, IsAdded, IsStopped, IsWithin as IsW
 use Rattle.gmon_data.proofs.RecordLemmas.{at_begin, one_more, stop, within_next}
 use Rattle.gmon_gnu.specs.declared.state.Body.TheVariants.{Hist}
 use Rattle.gmon_gnu.specs.declared.state.Entry.{Entry}
-use Rattle.gmon_gnu.specs.Adding.{entries_recs}
-use Rattle.gmon_gnu.specs.Held.{entry_recs}
+use Rattle.gmon_gnu.specs.Held.{entry_recs, entries_recs}
 use Rattle.gmon_gnu.proofs.AddingLemmas.{end_of_entries, next_of_entries}
 use Rattle.gmon_gnu.proofs.state.State.add_entries.Goals as goal
 

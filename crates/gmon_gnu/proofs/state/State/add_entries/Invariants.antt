@@ -1,6 +1,6 @@
 use Rattle.std.proofs.Common.{drop}
 use Rattle.gmon_data.proofs.RecordLemmas.{IsUnderway}
-use Rattle.gmon_gnu.specs.Adding.{entries_recs}
+use Rattle.gmon_gnu.specs.Held.{entries_recs}
 use Rattle.gmon_gnu.proofs.state.State.add_entries.Given as goal
 
 abbrev pub invariant-loop-i : goal.invariant-loop-i

@@ -4,7 +4,7 @@ use Rattle.gp_base.specs.declared.records.RawArc.{RawArc}
 use Rattle.gmon_data.specs.Content.{Content, WideRec, IsAdded, IsStopped, IsWithin as IsWithinLimits, wide_arc, with_records}
 use Rattle.gmon_data.specs.declared.refusal.AddRefusal.TheVariants.{OutOfMemory}
 use Rattle.gmon_data.proofs.RecordLemmas.{added_both, arcs_accepted, stopped_first, stopped_second, within_first, within_second}
-use Rattle.gmon_gnu.specs.Adding.{entries_recs}
+use Rattle.gmon_gnu.specs.Held.{entries_recs}
 use Rattle.gmon_gnu.proofs.AddingLemmas.{all_widened, rest_of_slice}
 use Rattle.gmon_gnu.proofs.state.State.add_to.Goals as goal
 
