@@ -1,50 +1,28 @@
-ghost use Rattle.std.specs.Prelude.{◌≡◌, ◌+◌, ◌^◌, ◌<◌, ◌≤◌, IfOk, length, sum};
+ghost use Rattle.std.specs.Prelude.{◌+◌, ◌≤◌, IfOk, length};
 ghost use Rattle.std.specs.List.{All};
 ghost use Rattle.elf32_syms.specs.Image.{IsWithinLimits};
-ghost use Rattle.elf32_syms.specs.Owners.{IsAscending};
 
 use super::*;
-use elf32_syms::{Image, Segment, SegmentList, Symbol, SymbolList};
-use gmon_data::{AddRefusal, Hist, Profile};
-use gp_base::{Name, Span, Totals};
+use elf32_syms::{Image, Segment, SegmentList};
+use gmon_data::{AddRefusal, Profile};
+use gp_base::Span;
 use host_port::{HostCall, MemHost};
 use std::alloc::{AllocError, Global};
+use std::process::Abort;
 use std::test::Fail;
-use test_profiles::seconds;
-
-/// A histogram: low and high address, and counters, of which the first 16 are taken.
-type Samples<'a> = (u32, u32, &'a [u8]);
+use test_profiles::{Counters, hist_of, seconds, symbols_at};
 
 /// Addresses and how often they were executed: the first 8 are taken, of 1,000 times at most.
 type Runs<'a> = &'a [(u32, u64)];
 
-/// Names, addresses and ends of symbols.
-type Places<'a> = &'a [(&'a str, u32, u32)];
-
-fn hist(alloc: Global, row: Samples<'_>) -> Result<Hist, AllocError>
-    ensures low { IfOk result (λ hist. hist.low ≡ row.entry.0) }
-    ensures high { IfOk result (λ hist. hist.high ≡ row.entry.1) }
-    ensures counters { IfOk result (λ hist. length hist.counters ≤ 16) }
-    ensures samples { IfOk result (λ hist. sum hist.counters ≤ 4080) }
-{
-    let mut counters = Totals::new(alloc);
-    for count in row.2 {
-        if counters.as_slice().len() < 16 {
-            counters.push(u64::from(*count))?;
-        }
-    }
-    Ok(Hist {
-        low: row.0,
-        high: row.1,
-        counters,
-    })
-}
+/// Address and end of a symbol.
+type Place = (u32, u32);
 
 /// A profile of executions and a histogram. One that has no range is none.
-fn profile_of(alloc: Global, samples: Samples<'_>, runs: Runs<'_>) -> Result<Profile, AddRefusal> {
+fn profile_of(alloc: Global, samples: Counters<'_>, runs: Runs<'_>) -> Result<Profile, AddRefusal> {
     let unit = seconds(100);
     let mut profile = Profile::new(alloc);
-    let hist = hist(alloc, samples)?;
+    let hist = hist_of(alloc, samples)?;
     for (addr, count) in &runs[..runs.len().min(8)] {
         profile.add_runs(*addr, (*count).min(1000))?;
     }
@@ -67,65 +45,28 @@ fn segments_of(alloc: Global, rows: &[Segment], len: usize) -> Result<SegmentLis
     Ok(segments)
 }
 
-fn name_of(alloc: Global, text: &str) -> Result<Name, AllocError> {
-    let mut name = Name::new(alloc);
-    for byte in text.as_bytes() {
-        name.push(*byte)?;
-    }
-    Ok(name)
-}
-
-/// Symbols of these addresses and ends. One that is empty, or begins below the end of another before
-/// it, is left out.
-fn symbols_of(alloc: Global, places: Places<'_>) -> Result<SymbolList, AllocError>
-    ensures { IfOk result IsAscending }
-{
-    let mut symbols = SymbolList::new(alloc);
-    let mut last = 0;
-    for (name, addr, end) in places {
-        if last <= *addr && *addr < *end {
-            symbols.push(Symbol {
-                addr: *addr,
-                end: *end,
-                name: name_of(alloc, name)?,
-            })?;
-            last = *end;
-        }
-    }
-    Ok(symbols)
-}
-
 /// An image of a file of so many bytes.
 fn image_of(
     alloc: Global,
     len: usize,
     segments: &[Segment],
-    places: Places<'_>,
+    places: &[Place],
 ) -> Result<Image, AllocError>
     ensures { IfOk result (IsWithinLimits len) }
 {
+    let symbols = symbols_at(alloc, places)?;
+    let segments = segments_of(alloc, segments, len)?;
     Ok(Image {
         entry: 0x1000,
-        segments: segments_of(alloc, segments, len)?,
+        segments,
         text: Span {
             low: 0x1000,
             high: 0x2000,
         },
-        symbols: symbols_of(alloc, places)?,
+        symbols,
         mcount: None,
         moncontrol: None,
     })
-}
-
-/// What the listing prints.
-fn print(alloc: Global, image: &Image, bytes: &[u8], profile: &Profile) -> Result<Vec<u8>, Fail>
-    requires { IsWithinLimits (length bytes.now) image.now }
-{
-    let mut host = MemHost::new(alloc);
-    write(image, bytes, profile, &mut host).map_err(|_| "printed")?;
-    let mut printed = Vec::new(alloc);
-    printed.extend_from_slice(host.printed())?;
-    Ok(printed)
 }
 
 /// Whether a part stands in a text.
@@ -149,48 +90,61 @@ fn line_count(text: &[u8]) -> usize {
     lines
 }
 
-/// The demo program of `n` functions, and its image.
-fn demo(alloc: Global, n: u32) -> Result<(Vec<u8>, Image), Fail>
-    requires some { 1 ≤ n }
-    requires few { n ≤ 2000 }
+/// The demo program, and its image.
+fn demo(alloc: Global) -> Result<(Vec<u8>, Image), Fail>
     ensures { IfOk result (λ read. IsWithinLimits (length read.0.items) read.1) }
 {
-    let bytes = demo_elf::program(alloc, n)?;
+    let bytes = demo_elf::program(alloc, 1)?;
     let image = elf32_syms::read(alloc, bytes.as_slice()).map_err(|_| "read")?;
     Ok((bytes, image))
 }
 
+/// Samples in the demo program.
+const DEMO_SAMPLES: Counters<'static> = (0x1_0058, 0x1_0068, b"\x02\0\x01\0");
+
+/// Prints the listing of the demo program, with these executions; false where a call fails.
+fn print_demo(alloc: Global, runs: Runs<'_>, host: &mut MemHost) -> Result<bool, Fail> {
+    let (bytes, image) = demo(alloc)?;
+    let profile = profile_of(alloc, DEMO_SAMPLES, runs)?;
+    Ok(write(&image, bytes.as_slice(), &profile, host).is_ok())
+}
+
+/// A listing was printed, with these lines.
+fn expect_lines(rt: &impl Abort, is_printed: bool, printed: &[u8], lines: &[&str]) {
+    assert!(rt; is_printed);
+    for line in lines {
+        assert!(rt; has(printed, line.as_bytes()), "{line}");
+    }
+}
+
+const DEMO_RUNS: [(u32, u64); 2] = [(0x1_0058, 1000), (0x1_005C, 100)];
+
+const DEMO_LINES: [&str; 3] = [
+    "\n00010058        1000           2000000  fe029ee3  bne x5, x0, 0x00010054\n",
+    "\n0001005c         100                 0  00000013  addi x0, x0, 0\n",
+    "\n00010060           0           1000000  ",
+];
+
 #[test]
 fn lines_of_the_demo_program(rt: HostRuntime) -> Result<(), Fail> {
-    let (bytes, image) = demo(rt.alloc(), 1)?;
-    let samples = (0x1_0058, 0x1_0068, b"\x02\0\x01\0".as_slice());
-    let runs = [(0x1_0058, 1000), (0x1_005C, 100)];
-    let profile = profile_of(rt.alloc(), samples, &runs)?;
-    let printed = print(rt.alloc(), &image, bytes.as_slice(), &profile)?;
-    for line in [
-        "\n00010058        1000           2000000  fe029ee3  bne x5, x0, 0x00010054\n",
-        "\n0001005c         100                 0  00000013  addi x0, x0, 0\n",
-        "\n00010060           0           1000000  ",
-    ] {
-        assert!(rt; has(printed.as_slice(), line.as_bytes()), "{line}");
-    }
+    let mut host = MemHost::new(rt.alloc());
+    let is_printed = print_demo(rt.alloc(), &DEMO_RUNS, &mut host)?;
+    expect_lines(&rt, is_printed, host.printed(), &DEMO_LINES);
     // The text has 320 bytes and three symbols.
-    assert_eq!(rt; line_count(printed.as_slice()), 84);
+    assert_eq!(rt; line_count(host.printed()), 84);
     Ok(())
 }
 
+const LINES_WITHOUT_EXECUTIONS: [&str; 2] = [
+    "\n00010058           0           2000000  fe029ee3  bne x5, x0, 0x00010054\n",
+    "\n0001005c           0                 0  00000013  addi x0, x0, 0\n",
+];
+
 #[test]
 fn lines_without_executions(rt: HostRuntime) -> Result<(), Fail> {
-    let (bytes, image) = demo(rt.alloc(), 1)?;
-    let samples = (0x1_0058, 0x1_0068, b"\x02\0\x01\0".as_slice());
-    let profile = profile_of(rt.alloc(), samples, &[])?;
-    let printed = print(rt.alloc(), &image, bytes.as_slice(), &profile)?;
-    for line in [
-        "\n00010058           0           2000000  fe029ee3  bne x5, x0, 0x00010054\n",
-        "\n0001005c           0                 0  00000013  addi x0, x0, 0\n",
-    ] {
-        assert!(rt; has(printed.as_slice(), line.as_bytes()), "{line}");
-    }
+    let mut host = MemHost::new(rt.alloc());
+    let is_printed = print_demo(rt.alloc(), &[], &mut host)?;
+    expect_lines(&rt, is_printed, host.printed(), &LINES_WITHOUT_EXECUTIONS);
     Ok(())
 }
 
@@ -232,12 +186,12 @@ const SEGMENTS: [Segment; 5] = [
     },
 ];
 
-const PLACES: [(&str, u32, u32); 5] = [
-    ("a", 0x1000, 0x100E),
-    ("b", 0x100E, 0x1012),
-    ("c", 0x1012, 0x1019),
-    ("d", 0x1020, 0x1024),
-    ("e", 0x1030, 0x1034),
+const PLACES: [Place; 5] = [
+    (0x1000, 0x100E),
+    (0x100E, 0x1012),
+    (0x1012, 0x1019),
+    (0x1020, 0x1024),
+    (0x1030, 0x1034),
 ];
 
 /// Buckets of 8 addresses. `b` and `c` begin within words, and nothing is loaded at `d`.
@@ -262,57 +216,117 @@ const LISTING: [&str; 16] = [
 
 const LAST_LINE: &str = "00001030           0                 0  0000006f  jal x0, 0x00001030";
 
+fn push_line(text: &mut Vec<u8>, line: &str) -> Result<(), AllocError> {
+    text.extend_from_slice(line.as_bytes())?;
+    text.push(b'\n')?;
+    Ok(())
+}
+
 /// The text with these lines, and a last one.
 fn text(alloc: Global, lines: &[&str], last: &str) -> Result<Vec<u8>, AllocError> {
     let mut text = Vec::new(alloc);
     for line in lines {
-        text.extend_from_slice(line.as_bytes())?;
-        text.push(b'\n')?;
+        push_line(&mut text, line)?;
     }
-    text.extend_from_slice(last.as_bytes())?;
-    text.push(b'\n')?;
+    push_line(&mut text, last)?;
     Ok(text)
 }
 
+/// Prints the listing of that file, with these symbols and this profile; false where a call fails.
+fn print_file(
+    alloc: Global,
+    places: &[Place],
+    profile: &Profile,
+    host: &mut MemHost,
+) -> Result<bool, AllocError> {
+    let image = image_of(alloc, FILE.len(), &SEGMENTS, places)?;
+    Ok(write(&image, &FILE, profile, host).is_ok())
+}
+
+/// This text was printed.
+fn expect_text(rt: &impl Abort, is_printed: bool, printed: &[u8], want: &[u8]) {
+    assert!(rt; is_printed);
+    assert_eq!(rt; printed, want);
+}
+
+/// The listing of that file has this text.
+fn expect_listing(
+    rt: &impl Abort,
+    alloc: Global,
+    places: &[Place],
+    profile: &Profile,
+    want: &[u8],
+) -> Result<(), AllocError> {
+    let mut host = MemHost::new(alloc);
+    let is_printed = print_file(alloc, places, profile, &mut host)?;
+    expect_text(rt, is_printed, host.printed(), want);
+    Ok(())
+}
+
+const SAMPLES: Counters<'static> = (0x1000, 0x1018, b"\x02\x05\x01");
+
+const RUNS: [(u32, u64); 4] = [(0x1000, 7), (0x1002, 5), (0x100E, 9), (0x1012, 3)];
+
 #[test]
 fn cells_of_symbols(rt: HostRuntime) -> Result<(), Fail> {
-    let samples = (0x1000, 0x1018, b"\x02\x05\x01".as_slice());
-    let runs = [(0x1000, 7), (0x1002, 5), (0x100E, 9), (0x1012, 3)];
-    let profile = profile_of(rt.alloc(), samples, &runs)?;
-    let image = image_of(rt.alloc(), FILE.len(), &SEGMENTS, &PLACES)?;
-    let printed = print(rt.alloc(), &image, &FILE, &profile)?;
+    let profile = profile_of(rt.alloc(), SAMPLES, &RUNS)?;
     let want = text(rt.alloc(), &LISTING, LAST_LINE)?;
-    assert_eq!(rt; printed.as_slice(), want.as_slice());
+    expect_listing(&rt, rt.alloc(), &PLACES, &profile, want.as_slice())?;
     Ok(())
 }
 
 #[test]
-fn no_symbols_and_no_output(rt: HostRuntime) -> Result<(), Fail> {
+fn no_symbols(rt: HostRuntime) -> Result<(), Fail> {
     let profile = Profile::new(rt.alloc());
-    let image = image_of(rt.alloc(), FILE.len(), &SEGMENTS, &[])?;
-    let printed = print(rt.alloc(), &image, &FILE, &profile)?;
-    assert_eq!(rt; printed.as_slice(), b"annotated listing\n".as_slice());
-    let mut host = MemHost::new(rt.alloc());
-    host.fail_at(0)?;
-    assert!(rt; write(&image, &FILE, &profile, &mut host).is_err());
+    expect_listing(&rt, rt.alloc(), &[], &profile, b"annotated listing\n")?;
+    Ok(())
+}
+
+/// The first call failed, and nothing was printed.
+fn expect_failed(rt: &impl Abort, is_printed: bool, host: &MemHost) {
+    assert!(rt; !is_printed);
     assert_eq!(rt; host.first_failed(), Some(HostCall::Out));
     assert_eq!(rt; host.printed(), b"".as_slice());
+}
+
+/// Prints a listing on a host whose first call fails.
+fn print_without_output(alloc: Global, host: &mut MemHost) -> Result<bool, AllocError> {
+    let profile = Profile::new(alloc);
+    host.fail_at(0)?;
+    print_file(alloc, &[], &profile, host)
+}
+
+#[test]
+fn no_output(rt: HostRuntime) -> Result<(), Fail> {
+    let mut host = MemHost::new(rt.alloc());
+    let is_printed = print_without_output(rt.alloc(), &mut host)?;
+    expect_failed(&rt, is_printed, &host);
     Ok(())
+}
+
+const MANY_SAMPLES: Counters<'static> = (0x1000, 0x1000 + 40_000, b"\x10\x10\x10\x10\x10");
+
+/// The listing of 10,000 cells was printed.
+fn expect_many_cells(rt: &impl Abort, is_printed: bool, printed: &[u8]) {
+    assert!(rt; is_printed);
+    assert_eq!(rt; line_count(printed), 10_002);
+    // A bucket of 8,000 addresses has 16 samples.
+    assert!(rt; printed.ends_with(b"\n0000ac3c           0              8000  -\n"));
+}
+
+const MANY_ADDRESSES: [Place; 1] = [(0x1000, 0x1000 + 40_000)];
+
+/// Prints the listing of a symbol of 40,000 addresses.
+fn print_many_cells(alloc: Global, host: &mut MemHost) -> Result<bool, AddRefusal> {
+    let profile = profile_of(alloc, MANY_SAMPLES, &[(0x1000, 1)])?;
+    let is_printed = print_file(alloc, &MANY_ADDRESSES, &profile, host)?;
+    Ok(is_printed)
 }
 
 #[test]
 fn many_cells(rt: HostRuntime) -> Result<(), Fail> {
-    let samples = (0x1000, 0x1000 + 40_000, b"\x10\x10\x10\x10\x10".as_slice());
-    let profile = profile_of(rt.alloc(), samples, &[(0x1000, 1)])?;
-    let places = [("f", 0x1000, 0x1000 + 40_000)];
-    let image = image_of(rt.alloc(), FILE.len(), &SEGMENTS, &places)?;
     let mut host = MemHost::new(rt.alloc());
-    write(&image, &FILE, &profile, &mut host).map_err(|_| "printed")?;
-    assert_eq!(rt; line_count(host.printed()), 10_002);
-    // A bucket of 8,000 addresses has 16 samples.
-    assert!(rt;
-        host.printed()
-            .ends_with(b"\n0000ac3c           0              8000  -\n")
-    );
+    let is_printed = print_many_cells(rt.alloc(), &mut host)?;
+    expect_many_cells(&rt, is_printed, host.printed());
     Ok(())
 }

@@ -1,22 +1,22 @@
 -- A profile without some arcs, put together from its parts.
-use Rattle.std.proofs.Common.{◌≡◌, ℕ, ◌+◌, ◌<◌, ◌≤◌, Bool, true, false, not, cond, nat_eq, List, [], ◌∷◌, ◌++◌, length, map, drop, fold, filter_map, slice_get, Option, Some, None, refl, sym, ap, subst, ◌∙◌, if◌then◌else◌, arith}
-use Rattle.std.specs.Prelude.{filter, nat_lt, option_and_then}
+use Rattle.std.proofs.Common.{◌≡◌, ℕ, ◌+◌, ◌<◌, ◌≤◌, Bool, true, false, not, cond, nat_eq, List, [], ◌∷◌, ◌++◌, length, map, drop, fold, slice_get, Some, None, refl, sym, ap, subst, ◌∙◌, arith}
+use Rattle.std.specs.Prelude.{filter, nat_lt}
 use Rattle.std.specs.List.{AllByRecursion, IsDistinct}
 use Rattle.std.specs.Map.{keys_of}
 use Rattle.std.proofs.lemmas.Bool.{eqb-true, lt-ltb}
 use Rattle.std.proofs.lemmas.List.Sums.{sum_by-cons}
-use Rattle.gp_base.specs.declared.records.Unit as units
 use Rattle.gmon_data.specs.declared.hist.Hist.{Hist}
 use Rattle.gmon_data.specs.declared.refusal.AddRefusal.{AddRefusal}
 use Rattle.gmon_data.specs.declared.refusal.AddRefusal.TheVariants as answers
 use Rattle.gmon_data.specs.declared.refusal.Unlike.{Unlike}
-use Rattle.gmon_data.specs.Hists.{conflict_with, has_counters, kept_unit, put_hist, range_of, IsApart, IsKept, IsUnlike}
+use Rattle.gmon_data.specs.Hists.{put_hist, IsApart, IsKept, IsUnlike}
 use Rattle.gmon_data.specs.Tally.{tally, total_of}
-use Rattle.gmon_data.specs.Content.{Content, PairFits, IsProfile, IsWithin, WideRec, empty_content, hist_conflict, same_pair, with_arc, with_records}
+use Rattle.gmon_data.specs.Content.{Content, PairFits, IsProfile, IsWithin, WideRec, empty_content, same_pair, with_arc, with_records}
 use Rattle.gmon_data.proofs.ContentLemmas.{pair-equal, pair-self, same-self}
 use Rattle.gmon_data.proofs.RecordLemmas.{IsUnderway, cut_at, one_added, one_more, within_next}
 use Rattle.gmon_data.proofs.TallyLemmas.{turned}
 use Rattle.profile_sum.specs.Sum.{arc_record, block_record, clash_of, hist_records, sum_of}
+use Rattle.profile_sum.proofs.ClashLemmas.{no_clash}
 use Rattle.profile_sum.proofs.SumLemmas.{all_added, arcs_fit, blocks_fit, hists_fit}
 use Rattle.elf32_syms.specs.declared.image.Symbol.{Symbol}
 use Rattle.arc_filter.specs.Cuts.{is_cut, stays, without_cuts}
@@ -171,22 +171,10 @@ nothing_cut p symbols = λ i. record p { arcs = all_pass (stays symbols []) (λ 
 
 -- ---- nothing is unlike nothing
 
-free : (h : Hist) (o : Option units.Unit) → option_and_then (hist_conflict empty_content h) o ≡ None
-free h None = refl
-free h (Some u) = by (has_counters h)
-  where
-    by : (b : Bool) → (if b then conflict_with [] None (range_of h) (kept_unit u) else None) ≡ None
-    by true = refl
-    by false = refl
-
-all_free : (o : Option units.Unit) (hs : List Hist) → filter_map (λ h. option_and_then (hist_conflict empty_content h) o) hs ≡ []
-all_free o [] = refl
-all_free o (h ∷ hs) = rw (free h o, all_free o hs) refl
-
 pub unlike_nothing : (refusal : AddRefusal) (unlike : Unlike) (c q : Content) → refusal ≡ answers.Unlike unlike → c ≡ empty_content → IsUnlike refusal (clash_of c q) → ⊥
 unlike_nothing refusal unlike c q is none because =
     let clash : clash_of c q ≡ Some unlike = subst (λ (r : AddRefusal). IsUnlike r (clash_of c q)) is because in
-    let free : clash_of c q ≡ None = ap (λ (d : Content). clash_of d q) none ∙ ap (λ (us : List Unlike). slice_get us 0) (all_free q.«unit» q.hists) in
+    let free : clash_of c q ≡ None = ap (λ (d : Content). clash_of d q) none ∙ no_clash q in
     let never : None ≡ Some unlike = sym free ∙ clash in
     absurd cc
 

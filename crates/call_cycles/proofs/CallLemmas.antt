@@ -1,5 +1,5 @@
 -- Calls between functions, one arc of the profile after another.
-use Rattle.std.proofs.Common.{length-set, subst, ◌≡◌, ◌≢◌, ◌<◌, ◌≤◌, ℕ, ◌+◌, ◌&&◌, Bool, true, false, List, [], ◌∷◌, ◌++◌, length, take, get_or, Option, Some, None, refl, ap, sym, ◌∙◌, ⊎_elim, arith}
+use Rattle.std.proofs.Common.{length-set, subst, ◌≡◌, ◌≢◌, ◌<◌, ◌≤◌, ℕ, ◌+◌, ◌&&◌, Bool, true, false, List, [], ◌∷◌, ◌++◌, length, take, get_or, Option, Some, ap, sym, ◌∙◌, ⊎_elim, arith}
 use Rattle.std.specs.Prelude.{◌==◌, replicate, slice_index, slice_set}
 use Rattle.std.specs.Option.{option_map_or}
 use Rattle.std.specs.List.{All}
@@ -17,7 +17,7 @@ use Rattle.gmon_data.specs.Tally.{total_of}
 use Rattle.call_cycles.specs.declared.graphs.FunArc.{FunArc}
 use Rattle.call_cycles.specs.Sums.{when, list_of}
 use Rattle.call_cycles.specs.Arcs.{IsArcBelow}
-use Rattle.call_cycles.specs.Calls.{HaveCalls, arcs_among, calls_of, calls_between, calls_in, function_arcs, lies_in, own_calls}
+use Rattle.call_cycles.specs.Calls.{HaveCalls, arcs_among, calls_of, calls_between, calls_in, function_arcs, lies_in}
 use Rattle.call_cycles.proofs.SumLemmas.{when_le}
 use Rattle.call_cycles.proofs.ListLemmas.{list_at, list_long}
 use Rattle.call_cycles.proofs.MergeLemmas.{arcs_same, calls_in_more, calls_in_none}
@@ -31,23 +31,6 @@ owner_low symbols address f is = (position-Some (owns address) symbols f nobody 
 -- ---- the calls of one arc
 
 module _ (symbols : List Symbol) (from to count : ℕ) where
-  pub calls_of_none : count ≡ 0 → (f g : ℕ) → calls_of symbols ((from, to), count) f g ≡ 0
-  calls_of_none none f g = ap (when (lies_in symbols f from && lies_in symbols g to)) none ∙ nothing (lies_in symbols f from && lies_in symbols g to)
-    where
-      nothing : (t : Bool) → when t 0 ≡ 0
-      nothing true = refl
-      nothing false = refl
-
-  pub calls_without_caller : owner_of symbols from ≡ None → (f g : ℕ) → calls_of symbols ((from, to), count) f g ≡ 0
-  calls_without_caller none f g = ap (λ (o : Option ℕ). when (option_map_or (λ (k : ℕ). k == f) o false && lies_in symbols g to) count) none
-
-  pub calls_without_callee : owner_of symbols to ≡ None → (f g : ℕ) → calls_of symbols ((from, to), count) f g ≡ 0
-  calls_without_callee none f g = ap (λ (o : Option ℕ). when (lies_in symbols f from && option_map_or (λ (k : ℕ). k == g) o false) count) none ∙ off (lies_in symbols f from)
-    where
-      off : (t : Bool) → when (t && false) count ≡ 0
-      off true = refl
-      off false = refl
-
   -- the calls of an arc whose owners are known
   module _ (a b : ℕ) (caller : owner_of symbols from ≡ Some a) (callee : owner_of symbols to ≡ Some b) where
     pub owned_calls : (f g : ℕ) → calls_of symbols ((from, to), count) f g ≡ when (a == f && b == g) count
@@ -58,16 +41,6 @@ module _ (symbols : List Symbol) (from to count : ℕ) where
 -- ---- what was found
 
 module _ (n : ℕ) (calls more : ℕ → ℕ → ℕ) (arcs : List FunArc) (selves : List ℕ) (have : HaveCalls n calls arcs selves) where
-  pub none_more : ((f g : ℕ) → more f g ≡ 0) → HaveCalls n (λ f g. calls f g + more f g) arcs selves
-  none_more none = record {
-    between = λ f g apart. have.between f g apart ∙ same f g;
-    own = have.own ∙ (λ i. list_of n (λ f. same f f i));
-    below = have.below;
-  }
-    where
-      same : (f g : ℕ) → calls f g ≡ calls f g + more f g
-      same f g = let zero_more = none f g in omega arith
-
   -- calls from function a to function b
   module _ (a b count : ℕ) (is : (f g : ℕ) → more f g ≡ when (a == f && b == g) count) where
     pub self_calls_more : a ≡ b → a < n → (now : ℕ) → now ≡ slice_index selves a + count → HaveCalls n (λ f g. calls f g + more f g) arcs (slice_set selves a now)
@@ -174,6 +147,3 @@ module _ (arcs : List ((ℕ × ℕ) × ℕ)) (symbols : List Symbol) (i : ℕ) (
 module _ (es : List ((ℕ × ℕ) × ℕ)) (symbols : List Symbol) (between : List FunArc) (selves : List ℕ) (have : HaveCalls (length symbols) (calls_between es symbols) between selves) where
   pub made_function_arcs : (arcs : List FunArc) → ((n : ℕ) → All (IsArcBelow n) between → arcs ≡ arcs_among n (calls_in between)) → arcs ≡ function_arcs es symbols
   made_function_arcs arcs made = made (length symbols) have.below ∙ arcs_same (length symbols) (calls_in between) (calls_between es symbols) have.between
-
-  pub made_own_calls : selves ≡ own_calls es symbols
-  made_own_calls = have.own

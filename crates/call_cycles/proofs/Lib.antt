@@ -18,5 +18,4 @@ pub mod OwnerLemmas
 pub mod EndLemmas
 pub mod CallLemmas
 pub mod ValueLemmas
-pub mod ProfileLemmas
 pub mod MemberLemmas

@@ -17,7 +17,8 @@ use Rattle.call_cycles.specs.declared.graphs.FunArc.{FunArc}
 use Rattle.call_cycles.specs.Sums.{sum_below, when, numbers_below}
 use Rattle.call_cycles.specs.Graph.{no_arc, IsArcBefore}
 use Rattle.call_cycles.specs.Arcs.{AreInOrder, IsArcBelow}
-use Rattle.call_cycles.specs.Calls.{arc_between, arcs_among, calls_in, count_of, by_ends, AreMerged, IsUpTo}
+use Rattle.call_cycles.specs.Calls.{arc_between, arcs_among, calls_in, count_of, by_ends}
+use Rattle.call_cycles.specs.Merging.{AreMerged, IsUpTo}
 use Rattle.call_cycles.proofs.SumLemmas.{sum_ext, sum_none, sum_flat, when_le}
 use Rattle.call_cycles.proofs.ArcLemmas.{arcs_below, in_order, in_order_after}
 
@@ -263,14 +264,6 @@ arcs_by_calls n arcs rising below =
     past f g high = no_calls_past n f g arcs below high ∙ sym (no_calls_past n f g (arcs_among n (calls_in arcs)) made high)
 
 -- ---- neighbours are merged
-
-pub none_merged : AreMerged [] []
-none_merged = record {
-  rising = λ i j less below. absurd (omega arith);
-  calls = λ f g. refl;
-  below = λ n all. all;
-  up_to = λ f g all. all;
-}
 
 all_front : {X : Type 0} (P : X → Type 0) (xs ys : List X) → All P (xs ++ ys) → All P xs
 all_front P xs ys all i d below = subst P (get_or_append_left xs ys d i below) (all i d (omega (arith, length-append xs ys)))

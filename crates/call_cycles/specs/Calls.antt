@@ -1,6 +1,5 @@
 -- The calls of a profile by function, and the arcs between functions.
-use Rattle.std.specs.Prelude.{◌≡◌, ◌≢◌, ◌<◌, ◌≤◌, ℕ, ◌==◌, ◌&&◌, ◌||◌, Bool, false, if◌then◌else◌, List, [], ◌∷◌, length, map}
-use Rattle.std.proofs.Common.{◌⊎◌}
+use Rattle.std.specs.Prelude.{◌≡◌, ◌≢◌, ℕ, ◌==◌, ◌&&◌, ◌||◌, Bool, false, if◌then◌else◌, List, [], ◌∷◌, length, map}
 use Rattle.std.specs.List.{All, flat_map, sum_by}
 use Rattle.std.specs.Option.{option_map_or}
 use Rattle.std.specs.Ordering.{nat_cmp, ordering_then}
@@ -8,7 +7,7 @@ use Rattle.std.specs.declared.cmp.Ordering.{Ordering}
 use Rattle.elf32_syms.specs.declared.image.Symbol.{Symbol}
 use Rattle.elf32_syms.specs.Owners.{owner_of}
 use Rattle.call_cycles.specs.declared.graphs.FunArc.{FunArc}
-use Rattle.call_cycles.specs.Arcs.{AreInOrder, IsArcBelow}
+use Rattle.call_cycles.specs.Arcs.{IsArcBelow}
 use Rattle.call_cycles.specs.Sums.{when, numbers_below, list_of}
 
 -- the end of each symbol
@@ -58,17 +57,6 @@ pub record HaveCalls (n : ℕ) (calls : ℕ → ℕ → ℕ) (arcs : List FunArc
   pub between : (f g : ℕ) → f ≢ g → calls_in arcs f g ≡ calls f g
   pub own : selves ≡ list_of n (λ f. calls f f)
   pub below : All (IsArcBelow n) arcs
-
--- the arc goes from a caller up to f, and if it is f, to a callee up to g
-abbrev pub IsUpTo : ℕ → ℕ → FunArc → Type 0
-IsUpTo f g a = (a.caller < f) ⊎ ((a.caller ≡ f) × (a.callee ≤ g))
-
--- sorted arcs are merged: those of one caller and callee are one, with the calls of all of them
-pub record AreMerged (sorted : List FunArc) (arcs : List FunArc) : Type 0 where
-  pub rising : AreInOrder arcs
-  pub calls : (f g : ℕ) → calls_in arcs f g ≡ calls_in sorted f g
-  pub below : (n : ℕ) → All (IsArcBelow n) sorted → All (IsArcBelow n) arcs
-  pub up_to : (f g : ℕ) → All (IsUpTo f g) sorted → All (IsUpTo f g) arcs
 
 -- by caller, then callee
 abbrev pub by_ends : FunArc → FunArc → Ordering

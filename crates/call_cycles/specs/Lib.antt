@@ -4,6 +4,7 @@ pub mod Graph
 pub mod Fields
 pub mod Arcs
 pub mod Calls
+pub mod Merging
 pub mod Leaders
 pub mod Heads
 pub mod Parts

@@ -7,7 +7,8 @@ ghost use Rattle.elf32_syms.specs.Owners.{IsAscending, owner_of};
 ghost use Rattle.call_cycles.specs.declared.graphs.FunArc.{FunArc as Arc};
 ghost use Rattle.call_cycles.specs.Arcs.{IsArcBelow};
 ghost use Rattle.call_cycles.specs.Graph.{no_arc};
-ghost use Rattle.call_cycles.specs.Calls.{HaveCalls, AreMerged, IsUpTo, by_ends, calls_of, calls_in, calls_between, count_of, arcs_among, ends_of};
+ghost use Rattle.call_cycles.specs.Merging.{AreMerged, IsUpTo};
+ghost use Rattle.call_cycles.specs.Calls.{HaveCalls, by_ends, calls_of, calls_in, calls_between, count_of, arcs_among, ends_of};
 ghost use Rattle.gmon_data.specs.Tally.{total_of};
 
 use crate::graphs::FunArc;

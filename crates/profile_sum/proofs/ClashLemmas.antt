@@ -10,7 +10,7 @@ use Rattle.gmon_data.specs.declared.hist.HistRange.{HistRange}
 use Rattle.gmon_data.specs.declared.refusal.Unlike.{Unlike}
 use Rattle.gmon_data.specs.declared.refusal.Unlike.TheVariants.{Range}
 use Rattle.gmon_data.specs.Hists.{put_hist, hist_sum, range_of, range_conflict, overlap, same_range, conflict_with, unit_conflict, kept_unit, IsUnlike, has_counters, IsKept, IsApart, IsUnitOf}
-use Rattle.gmon_data.specs.Content.{Content, with_hist, hist_conflict, conflict_of, IsProfile}
+use Rattle.gmon_data.specs.Content.{Content, empty_content, with_hist, hist_conflict, conflict_of, IsProfile}
 use Rattle.gmon_data.proofs.CounterLemmas.{length-pointwise}
 use Rattle.gmon_data.proofs.HistLemmas.{alike_counters, all_kept, first_none}
 use Rattle.gmon_data.proofs.RecordLemmas.{cut_at, past_end}
@@ -162,3 +162,20 @@ clash_ends p u hs i le = ap (first_clash p u) (past_end hs i le)
 pub none_told : (refusal : AddRefusal) (given : Option Unlike) → given ≡ None → IsUnlike refusal given → IsClash (sum_refusal refusal) given
 none_told adding.OutOfMemory given none h = none
 none_told (adding.Unlike u) given none h = h
+
+-- ---- nothing is unlike nothing
+
+free_of_empty : (h : Hist) (o : Option units.Unit) → option_and_then (hist_conflict empty_content h) o ≡ None
+free_of_empty h None = refl
+free_of_empty h (Some u) = by (has_counters h)
+  where
+    by : (b : Bool) → (if b then conflict_with [] None (range_of h) (kept_unit u) else None) ≡ None
+    by true = refl
+    by false = refl
+
+all_free : (o : Option units.Unit) (hs : List Hist) → filter_map (λ h. option_and_then (hist_conflict empty_content h) o) hs ≡ []
+all_free o [] = refl
+all_free o (h ∷ hs) = rw (free_of_empty h o, all_free o hs) refl
+
+pub no_clash : (q : Content) → clash_of empty_content q ≡ None
+no_clash q = ap (λ (us : List Unlike). slice_get us 0) (all_free q.«unit» q.hists)

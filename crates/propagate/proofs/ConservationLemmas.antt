@@ -3,7 +3,7 @@ use Rattle.std.proofs.Common.{◌≡◌, ◌≢◌, ◌≢◌, ◌<◌, ℕ, ◌
 use Rattle.std.specs.Prelude.{slice_index}
 use Rattle.std.proofs.lemmas.Bool.{eqb-true, not-false, true≢false, eqb-false, not-true}
 use Rattle.call_cycles.specs.Sums.{sum_below, when}
-use Rattle.call_cycles.specs.Graph.{GraphValue, IsGraph, arc_at, arc_count, component_count, is_outside, enters, source_of, target_of}
+use Rattle.call_cycles.specs.Graph.{GraphValue, IsGraph, arc_count, component_count, is_outside, enters, source_of, target_of}
 use Rattle.call_cycles.specs.Flow.{FlowValue, IsFlow, IsClosed, IsConserved, is_root, part_of, carried_from, carried_by, time_of}
 use Rattle.call_cycles.proofs.SumLemmas.{sum_ext, sum_add}
 use Rattle.call_cycles.proofs.NumberingLemmas.{source_within, target_within}

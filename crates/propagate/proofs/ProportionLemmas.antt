@@ -1,11 +1,11 @@
 -- What arcs carry, beside the exact parts.
 use Rattle.std.proofs.Common.{◌≡◌, ◌≢◌, ◌≤◌, ◌<◌, ℕ, suc, ◌+◌, ◌-◌, ◌*◌, ◌/◌, not, Bool, true, List, refl, ap, sym, ◌∙◌, subst, arith}
 use Rattle.std.specs.Prelude.{◌==◌, slice_index}
-use Rattle.std.proofs.Math.Nat.{mul-div-le, lt-div-mul-add, mul-le-mul_left, mul-le-mul_right}
+use Rattle.std.proofs.Math.Nat.{mul-div-le, lt-div-mul-add, mul-le-mul_left}
 use Rattle.std.proofs.lemmas.Bool.{eq-eqb, ne_eqb, and_from}
-use Rattle.call_cycles.specs.Sums.{sum_below, when}
-use Rattle.call_cycles.specs.Graph.{GraphValue, IsGraph, arc_at, arc_count, component_count, enters, entering_of, calls_into, is_outside, target_of}
-use Rattle.call_cycles.specs.Flow.{FlowValue, IsFlow, is_root, part_of}
+use Rattle.call_cycles.specs.Sums.{when}
+use Rattle.call_cycles.specs.Graph.{GraphValue, IsGraph, arc_at, arc_count, enters, entering_of, calls_into, is_outside, target_of}
+use Rattle.call_cycles.specs.Flow.{FlowValue, IsFlow, part_of}
 use Rattle.call_cycles.proofs.SumLemmas.{sum_ext}
 use Rattle.propagate.specs.Proportion.{IsInProportion, carried_to}
 use Rattle.propagate.proofs.CarryLemmas.{div_mono, carried_into}

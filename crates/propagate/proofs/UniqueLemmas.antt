@@ -1,12 +1,12 @@
 -- The equations of the flow have one solution.
-use Rattle.std.proofs.Common.{◌≡◌, ◌≢◌, ◌<◌, ℕ, zero, suc, ◌+◌, ◌-◌, ◌*◌, ◌/◌, Bool, true, false, List, refl, ap, sym, ◌∙◌, inl, inr, arith}
+use Rattle.std.proofs.Common.{◌≡◌, ◌<◌, ℕ, zero, suc, ◌+◌, ◌-◌, ◌*◌, ◌/◌, Bool, true, false, List, refl, ap, sym, ◌∙◌, arith}
 use Rattle.std.specs.Prelude.{◌==◌, slice_index}
-use Rattle.std.proofs.lemmas.Bool.{eqb-true, eqb-false, eq-eqb, not-true, and_parts, and_from, cases_order}
+use Rattle.std.proofs.lemmas.Bool.{eqb-true, and_parts}
 use Rattle.std.proofs.lemmas.Grind.{same_number_lists}
 use Rattle.call_cycles.specs.Sums.{when}
 use Rattle.call_cycles.specs.Graph.{GraphValue, IsGraph, arc_count, component_count, is_outside, leaves, source_of, target_of, calls_into, entering_of}
 use Rattle.call_cycles.specs.Flow.{FlowValue, IsFlow, part_of, carried_by, carried_from, leaves_function, self_in}
-use Rattle.call_cycles.proofs.SumLemmas.{sum_ext, le_max_below}
+use Rattle.call_cycles.proofs.SumLemmas.{sum_ext}
 use Rattle.call_cycles.proofs.NumberingLemmas.{target_within, goes_down}
 use Rattle.propagate.specs.Solution.{carried_in}
 

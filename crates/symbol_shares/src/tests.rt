@@ -1,66 +1,23 @@
-ghost use Rattle.std.specs.Prelude.{◌≡◌, ◌≤◌, ◌<◌, length, sum, IfOk};
-ghost use Rattle.elf32_syms.specs.Owners.{IsAscending};
-
 use super::*;
-use elf32_syms::{Symbol, SymbolList};
-use gmon_data::{AddRefusal, Hist, Profile};
-use gp_base::{Name, Totals};
-use std::alloc::{AllocError, Global};
+use gmon_data::{AddRefusal, Profile};
+use std::alloc::Global;
+use std::process::Abort;
 use std::test::Fail;
-use test_profiles::{even_profile, seconds, symbols_of};
+use test_profiles::{Counters, even_profile, hist_of, seconds, symbols_at, symbols_of};
 
-/// A histogram: low and high address, and counters, of which the first 16 are taken.
-type Row<'a> = (u32, u32, &'a [u8]);
-
-fn hist(alloc: Global, row: Row<'_>) -> Result<Hist, AllocError>
-    ensures low { IfOk result (λ hist. hist.low ≡ row.entry.0) }
-    ensures high { IfOk result (λ hist. hist.high ≡ row.entry.1) }
-    ensures counters { IfOk result (λ hist. length hist.counters ≤ 16) }
-    ensures samples { IfOk result (λ hist. sum hist.counters ≤ 4080) }
-{
-    let mut counters = Totals::new(alloc);
-    for count in row.2 {
-        if counters.as_slice().len() < 16 {
-            counters.push(u64::from(*count))?;
-        }
-    }
-    Ok(Hist {
-        low: row.0,
-        high: row.1,
-        counters,
-    })
-}
+/// Address and end of a symbol.
+type Place = (u32, u32);
 
 /// A profile of the first five of these histograms. One without counters is none.
-fn profile_of(alloc: Global, rows: &[Row<'_>]) -> Result<Profile, AddRefusal> {
+fn profile_of(alloc: Global, rows: &[Counters<'_>]) -> Result<Profile, AddRefusal> {
     let mut profile = Profile::new(alloc);
     for i in 0..rows.len().min(5) {
-        let hist = hist(alloc, rows[i])?;
+        let hist = hist_of(alloc, rows[i])?;
         if hist.low < hist.high {
             profile.add_wide(&hist, seconds(100))?;
         }
     }
     Ok(profile)
-}
-
-/// Symbols of these addresses and ends. One that is empty, or begins below the end of another before
-/// it, is left out.
-fn symbols_at(alloc: Global, places: &[(u32, u32)]) -> Result<SymbolList, AllocError>
-    ensures { IfOk result IsAscending }
-{
-    let mut symbols = SymbolList::new(alloc);
-    let mut last = 0;
-    for (addr, end) in places {
-        if last <= *addr && *addr < *end {
-            symbols.push(Symbol {
-                addr: *addr,
-                end: *end,
-                name: Name::new(alloc),
-            })?;
-            last = *end;
-        }
-    }
-    Ok(symbols)
 }
 
 /// The grains of a symbol, and 0 where there is none of this number.
@@ -71,161 +28,201 @@ fn share(shares: &Shares, f: u32) -> u128 {
     shares.of(f)
 }
 
-/// The shares of three symbols, what they have together, and what is left.
-fn outcome(
-    alloc: Global,
-    rows: &[Row<'_>],
-    places: &[(u32, u32)],
-) -> Result<([u128; 3], u128, u128), AddRefusal> {
+/// The shares of symbols, of samples in these histograms.
+fn shares_at(alloc: Global, rows: &[Counters<'_>], places: &[Place]) -> Result<Shares, AddRefusal> {
     let profile = profile_of(alloc, rows)?;
     let symbols = symbols_at(alloc, places)?;
     let shares = shares(alloc, &profile, symbols.as_slice())?;
-    Ok((
-        [share(&shares, 0), share(&shares, 1), share(&shares, 2)],
-        shares.attributed(),
-        shares.outside(),
-    ))
+    Ok(shares)
+}
+
+/// The shares of three symbols, what they have together, and what is left.
+type Outcome = ([u128; 3], u128, u128);
+
+/// These are the shares.
+fn expect_outcome(rt: &impl Abort, name: &str, shares: &Shares, want: Outcome) {
+    let of = [share(shares, 0), share(shares, 1), share(shares, 2)];
+    assert_eq!(rt; (of, shares.attributed(), shares.outside()), want, "{name}");
+}
+
+const NOTHING: Counters<'static> = (0, 1, b"");
+
+const SEVEN: Counters<'static> = (0x1000, 0x1010, b"\x07");
+
+const NONE: Place = (0, 0);
+
+const PARTS: [Place; 3] = [(0x1000, 0x1006), (0x1006, 0x100A), (0x100A, 0x1020)];
+
+/// A name, two histograms, symbols and their shares.
+type Row = (
+    &'static str,
+    Counters<'static>,
+    Counters<'static>,
+    [Place; 3],
+    Outcome,
+);
+
+const ROWS: [Row; 13] = [
+    (
+        "a bucket over three symbols",
+        SEVEN,
+        NOTHING,
+        PARTS,
+        ([2_625_000, 1_750_000, 2_625_000], 7_000_000, 0),
+    ),
+    // Up to bytes 1, 3 and 6 of 6: 1/6, 1/2 and 1 of 1,000,000.
+    (
+        "grains that are rounded down",
+        (0x1000, 0x1006, b"\x01"),
+        NOTHING,
+        [(0x1000, 0x1001), (0x1001, 0x1003), (0x1003, 0x1010)],
+        ([166_666, 333_334, 500_000], 1_000_000, 0),
+    ),
+    // The second bucket reaches from byte 16/3 to byte 32/3. Byte 6 is at 1/8 of it.
+    (
+        "buckets that begin within bytes",
+        (0x1000, 0x1010, b"\0\x01\0"),
+        NOTHING,
+        [(0x1000, 0x1006), (0x1006, 0x1020), NONE],
+        ([125_000, 875_000, 0], 1_000_000, 0),
+    ),
+    // In thirds of a byte, the buckets are 0 to 7, 7 to 14 and 14 to 21, with 2, 5 and 1
+    // samples, and the symbols 3 to 9, 9 to 12 and 15 to 27. Floors of the first bucket:
+    // 2,000,000 * 3/7 = 857,142 up to 3. Of the second: 5,000,000 * 2/7 = 1,428,571 up to 9, and
+    // 5,000,000 * 5/7 = 3,571,428 up to 12. Of the third: 1,000,000 * 1/7 = 142,857 up to 15.
+    // So the symbols have 1,142,858 + 1,428,571, and 2,142,857, and 857,143; the rest is
+    // 857,142 + 1,428,572 + 142,857.
+    (
+        "symbols that begin within buckets",
+        (0x1000, 0x1007, b"\x02\x05\x01"),
+        NOTHING,
+        [(0x1001, 0x1003), (0x1003, 0x1004), (0x1005, 0x1009)],
+        ([2_571_429, 2_142_857, 857_143], 5_571_429, 2_428_571),
+    ),
+    ("no histogram", NOTHING, NOTHING, PARTS, ([0, 0, 0], 0, 0)),
+    (
+        "no symbols",
+        SEVEN,
+        NOTHING,
+        [NONE, NONE, NONE],
+        ([0, 0, 0], 0, 7_000_000),
+    ),
+    (
+        "a range below all symbols",
+        SEVEN,
+        NOTHING,
+        [(0x1010, 0x1020), (0x2000, 0x2010), NONE],
+        ([0, 0, 0], 0, 7_000_000),
+    ),
+    (
+        "a range above all symbols",
+        SEVEN,
+        NOTHING,
+        [(0x800, 0x900), (0x900, 0x1000), NONE],
+        ([0, 0, 0], 0, 7_000_000),
+    ),
+    (
+        "a range between symbols",
+        SEVEN,
+        NOTHING,
+        [(0x800, 0x1000), (0x1010, 0x2000), NONE],
+        ([0, 0, 0], 0, 7_000_000),
+    ),
+    (
+        "samples between symbols",
+        (0x1000, 0x1010, b"\x04"),
+        NOTHING,
+        [(0x1000, 0x1004), (0x1008, 0x1010), NONE],
+        ([1_000_000, 2_000_000, 0], 3_000_000, 1_000_000),
+    ),
+    // The first symbol has the lower histogram, which is added last, and two of the other one's
+    // three buckets.
+    (
+        "two histograms",
+        (0x1100, 0x1118, b"\x03\x02\x01"),
+        SEVEN,
+        [(0xF00, 0x1110), (0x1110, 0x1114), (0x1118, 0x1200)],
+        ([12_000_000, 500_000, 0], 12_500_000, 500_000),
+    ),
+    (
+        "two histograms without a gap",
+        SEVEN,
+        (0x1010, 0x1020, b"\x02\x04"),
+        [(0x1000, 0x1014), (0x1014, 0x1018), (0x101E, 0x1020)],
+        ([8_000_000, 1_000_000, 1_000_000], 10_000_000, 3_000_000),
+    ),
+    (
+        "the highest addresses",
+        (0xFFFF_FFEF, 0xFFFF_FFFF, b"\x01\x01\x01\x01"),
+        NOTHING,
+        [(0, 0xFFFF_FFF1), (0xFFFF_FFF1, 0xFFFF_FFFF), NONE],
+        ([500_000, 3_500_000, 0], 4_000_000, 0),
+    ),
+];
+
+/// The symbols of a row have its shares.
+fn expect_row(rt: &impl Abort, alloc: Global, row: &Row) -> Result<(), AddRefusal> {
+    let (name, one, other, places, want) = row;
+    let shares = shares_at(alloc, &[*one, *other], places)?;
+    expect_outcome(rt, name, &shares, *want);
+    Ok(())
 }
 
 #[test]
 fn shares_of_symbols(rt: HostRuntime) -> Result<(), Fail> {
-    let nothing = (0, 1, b"".as_slice());
-    let seven = (0x1000, 0x1010, b"\x07".as_slice());
-    let none = (0, 0);
-    let parts = [(0x1000, 0x1006), (0x1006, 0x100A), (0x100A, 0x1020)];
-    let rows = [
-        (
-            "a bucket over three symbols",
-            seven,
-            nothing,
-            parts,
-            ([2_625_000, 1_750_000, 2_625_000], 7_000_000, 0),
-        ),
-        // Up to bytes 1, 3 and 6 of 6: 1/6, 1/2 and 1 of 1,000,000.
-        (
-            "grains that are rounded down",
-            (0x1000, 0x1006, b"\x01".as_slice()),
-            nothing,
-            [(0x1000, 0x1001), (0x1001, 0x1003), (0x1003, 0x1010)],
-            ([166_666, 333_334, 500_000], 1_000_000, 0),
-        ),
-        // The second bucket reaches from byte 16/3 to byte 32/3. Byte 6 is at 1/8 of it.
-        (
-            "buckets that begin within bytes",
-            (0x1000, 0x1010, b"\0\x01\0".as_slice()),
-            nothing,
-            [(0x1000, 0x1006), (0x1006, 0x1020), none],
-            ([125_000, 875_000, 0], 1_000_000, 0),
-        ),
-        // In thirds of a byte, the buckets are 0 to 7, 7 to 14 and 14 to 21, with 2, 5 and 1
-        // samples, and the symbols 3 to 9, 9 to 12 and 15 to 27. Floors of the first bucket:
-        // 2,000,000 * 3/7 = 857,142 up to 3. Of the second: 5,000,000 * 2/7 = 1,428,571 up to 9, and
-        // 5,000,000 * 5/7 = 3,571,428 up to 12. Of the third: 1,000,000 * 1/7 = 142,857 up to 15.
-        // So the symbols have 1,142,858 + 1,428,571, and 2,142,857, and 857,143; the rest is
-        // 857,142 + 1,428,572 + 142,857.
-        (
-            "symbols that begin within buckets",
-            (0x1000, 0x1007, b"\x02\x05\x01".as_slice()),
-            nothing,
-            [(0x1001, 0x1003), (0x1003, 0x1004), (0x1005, 0x1009)],
-            ([2_571_429, 2_142_857, 857_143], 5_571_429, 2_428_571),
-        ),
-        ("no histogram", nothing, nothing, parts, ([0, 0, 0], 0, 0)),
-        (
-            "no symbols",
-            seven,
-            nothing,
-            [none, none, none],
-            ([0, 0, 0], 0, 7_000_000),
-        ),
-        (
-            "a range below all symbols",
-            seven,
-            nothing,
-            [(0x1010, 0x1020), (0x2000, 0x2010), none],
-            ([0, 0, 0], 0, 7_000_000),
-        ),
-        (
-            "a range above all symbols",
-            seven,
-            nothing,
-            [(0x800, 0x900), (0x900, 0x1000), none],
-            ([0, 0, 0], 0, 7_000_000),
-        ),
-        (
-            "a range between symbols",
-            seven,
-            nothing,
-            [(0x800, 0x1000), (0x1010, 0x2000), none],
-            ([0, 0, 0], 0, 7_000_000),
-        ),
-        (
-            "samples between symbols",
-            (0x1000, 0x1010, b"\x04".as_slice()),
-            nothing,
-            [(0x1000, 0x1004), (0x1008, 0x1010), none],
-            ([1_000_000, 2_000_000, 0], 3_000_000, 1_000_000),
-        ),
-        // The first symbol has the lower histogram, which is added last, and two of the other one's
-        // three buckets.
-        (
-            "two histograms",
-            (0x1100, 0x1118, b"\x03\x02\x01".as_slice()),
-            seven,
-            [(0xF00, 0x1110), (0x1110, 0x1114), (0x1118, 0x1200)],
-            ([12_000_000, 500_000, 0], 12_500_000, 500_000),
-        ),
-        (
-            "two histograms without a gap",
-            seven,
-            (0x1010, 0x1020, b"\x02\x04".as_slice()),
-            [(0x1000, 0x1014), (0x1014, 0x1018), (0x101E, 0x1020)],
-            ([8_000_000, 1_000_000, 1_000_000], 10_000_000, 3_000_000),
-        ),
-        (
-            "the highest addresses",
-            (0xFFFF_FFEF, 0xFFFF_FFFF, b"\x01\x01\x01\x01".as_slice()),
-            nothing,
-            [(0, 0xFFFF_FFF1), (0xFFFF_FFF1, 0xFFFF_FFFF), none],
-            ([500_000, 3_500_000, 0], 4_000_000, 0),
-        ),
-    ];
-    for (name, one, other, places, want) in rows {
-        let outcome = outcome(rt.alloc(), &[one, other], &places)?;
-        assert_eq!(rt; outcome, want, "{name}");
+    for row in &ROWS {
+        expect_row(&rt, rt.alloc(), row)?;
     }
     Ok(())
 }
 
-/// Five histograms, of which the second and the last touch others; the second symbol begins in the
-/// first histogram and ends in the fourth.
+/// The second and the last one touch others.
+const FIVE: [Counters<'static>; 5] = [
+    (0x1100, 0x1104, b"\x04"),
+    (0x1000, 0x1010, b"\x01\x01\x01\x01"),
+    (0x1010, 0x1020, b"\x08"),
+    (0x1200, 0x1210, b"\x10\x20"),
+    (0x1104, 0x1108, b"\x02"),
+];
+
+/// The second symbol begins in the first histogram and ends in the fourth.
+const OVER_FIVE: [Place; 3] = [(0x0, 0x1008), (0x1008, 0x1204), (0x1204, 0x2000)];
+
 #[test]
 fn five_histograms(rt: HostRuntime) -> Result<(), Fail> {
-    let rows = [
-        (0x1100, 0x1104, b"\x04".as_slice()),
-        (0x1000, 0x1010, b"\x01\x01\x01\x01".as_slice()),
-        (0x1010, 0x1020, b"\x08".as_slice()),
-        (0x1200, 0x1210, b"\x10\x20".as_slice()),
-        (0x1104, 0x1108, b"\x02".as_slice()),
-    ];
-    let places = [(0x0, 0x1008), (0x1008, 0x1204), (0x1204, 0x2000)];
-    let outcome = outcome(rt.alloc(), &rows, &places)?;
+    let shares = shares_at(rt.alloc(), &FIVE, &OVER_FIVE)?;
     let want = ([2_000_000, 24_000_000, 40_000_000], 66_000_000, 0);
-    assert_eq!(rt; outcome, want);
+    expect_outcome(&rt, "five histograms", &shares, want);
     Ok(())
+}
+
+/// The shares of 65,536 symbols, each of which has 64 samples.
+fn even_shares(alloc: Global) -> Result<Shares, AddRefusal> {
+    let profile = even_profile(alloc, 4_194_304, 4)?;
+    let symbols = symbols_of(alloc, 65_536, 256)?;
+    let shares = shares(alloc, &profile, symbols.as_slice())?;
+    Ok(shares)
+}
+
+/// The totals of those shares.
+fn expect_totals(rt: &impl Abort, shares: &Shares) {
+    assert_eq!(rt; shares.function_count(), 65_536);
+    assert_eq!(rt; shares.attributed(), 4_194_304_000_000);
+    assert_eq!(rt; shares.outside(), 0);
+}
+
+/// Each of those shares.
+fn expect_even(rt: &impl Abort, shares: &Shares) {
+    for f in 0..65_536 {
+        assert_eq!(rt; share(shares, f), 64_000_000, "{f}");
+    }
 }
 
 #[test]
 fn many_symbols(rt: HostRuntime) -> Result<(), Fail> {
-    let profile = even_profile(rt.alloc(), 4_194_304, 4)?;
-    let symbols = symbols_of(rt.alloc(), 65_536, 256)?;
-    let shares = shares(rt.alloc(), &profile, symbols.as_slice())?;
-    assert_eq!(rt; shares.function_count(), 65_536);
-    assert_eq!(rt; shares.attributed(), 4_194_304_000_000);
-    assert_eq!(rt; shares.outside(), 0);
-    for f in 0..65_536 {
-        assert_eq!(rt; share(&shares, f), 64_000_000, "{f}");
-    }
+    let shares = even_shares(rt.alloc())?;
+    expect_totals(&rt, &shares);
+    expect_even(&rt, &shares);
     Ok(())
 }
 
@@ -238,41 +235,57 @@ fn grains(profile: &Profile, low: u32, high: u32) -> Option<u128> {
     }
 }
 
+const TWO: [Counters<'static>; 2] = [(0x1010, 0x1020, b"\x02\x04"), SEVEN];
+
+const ODD: [Counters<'static>; 1] = [(0x1000, 0x1007, b"\x02\x05\x01")];
+
+/// A name, histograms, low and high address of a range, and its grains.
+type RangeRow = (&'static str, &'static [Counters<'static>], u32, u32, u128);
+
+const RANGE_ROWS: [RangeRow; 13] = [
+    ("part of a bucket", &TWO, 0x1000, 0x1004, 1_750_000),
+    ("within a bucket", &TWO, 0x1003, 0x100B, 3_500_000),
+    ("the end of a bucket", &TWO, 0x100C, 0x1010, 1_750_000),
+    ("over two histograms", &TWO, 0x100C, 0x1014, 2_750_000),
+    ("over three buckets", &TWO, 0x1008, 0x101C, 7_500_000),
+    ("all", &TWO, 0, 0xFFFF_FFFF, 13_000_000),
+    ("no address", &TWO, 0x1004, 0x1004, 0),
+    ("below", &TWO, 0, 0x1000, 0),
+    ("above", &TWO, 0x1020, 0xFFFF_FFFF, 0),
+    // The floors are those of symbols that begin within buckets.
+    ("the first of three", &ODD, 0x1001, 0x1003, 2_571_429),
+    ("the second of three", &ODD, 0x1003, 0x1004, 2_142_857),
+    ("the third of three", &ODD, 0x1005, 0x1009, 857_143),
+    ("no histogram", &[], 0, 0xFFFF_FFFF, 0),
+];
+
+/// The range of a row has its grains.
+fn expect_range(rt: &impl Abort, alloc: Global, row: RangeRow) -> Result<(), AddRefusal> {
+    let (name, rows, low, high, want) = row;
+    let profile = profile_of(alloc, rows)?;
+    assert_eq!(rt; grains(&profile, low, high), Some(want), "{name}");
+    Ok(())
+}
+
 #[test]
 fn grains_of_ranges(rt: HostRuntime) -> Result<(), Fail> {
-    let upper = (0x1010, 0x1020, b"\x02\x04".as_slice());
-    let lower = (0x1000, 0x1010, b"\x07".as_slice());
-    let two = profile_of(rt.alloc(), &[upper, lower])?;
-    let thirds = (0x1000, 0x1007, b"\x02\x05\x01".as_slice());
-    let odd = profile_of(rt.alloc(), &[thirds])?;
-    let none = Profile::new(rt.alloc());
-    for (name, profile, low, high, want) in [
-        ("part of a bucket", &two, 0x1000, 0x1004, 1_750_000),
-        ("within a bucket", &two, 0x1003, 0x100B, 3_500_000),
-        ("the end of a bucket", &two, 0x100C, 0x1010, 1_750_000),
-        ("over two histograms", &two, 0x100C, 0x1014, 2_750_000),
-        ("over three buckets", &two, 0x1008, 0x101C, 7_500_000),
-        ("all", &two, 0, 0xFFFF_FFFF, 13_000_000),
-        ("no address", &two, 0x1004, 0x1004, 0),
-        ("below", &two, 0, 0x1000, 0),
-        ("above", &two, 0x1020, 0xFFFF_FFFF, 0),
-        // The floors are those of symbols that begin within buckets.
-        ("the first of three", &odd, 0x1001, 0x1003, 2_571_429),
-        ("the second of three", &odd, 0x1003, 0x1004, 2_142_857),
-        ("the third of three", &odd, 0x1005, 0x1009, 857_143),
-        ("no histogram", &none, 0, 0xFFFF_FFFF, 0),
-    ] {
-        assert_eq!(rt; grains(profile, low, high), Some(want), "{name}");
+    for row in RANGE_ROWS {
+        expect_range(&rt, rt.alloc(), row)?;
     }
     Ok(())
+}
+
+/// Ranges of 16 addresses have 4 samples each.
+fn expect_even_ranges(rt: &impl Abort, profile: &Profile) {
+    for f in 0..65_536 {
+        let low = 0x1_0000 + 256 * f;
+        assert_eq!(rt; grains(profile, low, low + 16), Some(4_000_000), "{f}");
+    }
 }
 
 #[test]
 fn many_ranges(rt: HostRuntime) -> Result<(), Fail> {
     let profile = even_profile(rt.alloc(), 4_194_304, 4)?;
-    for f in 0..65_536 {
-        let low = 0x1_0000 + 256 * f;
-        assert_eq!(rt; grains(&profile, low, low + 16), Some(4_000_000), "{f}");
-    }
+    expect_even_ranges(&rt, &profile);
     Ok(())
 }

@@ -2,15 +2,12 @@
 use Rattle.std.proofs.Common.{ℕ, ◌+◌, ◌<◌, ◌≤◌, Bool, true, false, Some, unwrap_or, nat_eq, if◌then◌else◌, arith}
 use Rattle.gp_base.specs.declared.records.Unit as units
 use Rattle.gmon_data.specs.declared.hist.Hist.{Hist}
-use Rattle.gmon_data.specs.Content.{Content, empty_content, same_pair, with_arc, with_block, with_hist, IsWithin}
+use Rattle.gmon_data.specs.Content.{Content, same_pair, with_arc, with_block, with_hist, IsWithin}
 use Rattle.gmon_data.specs.Hists.{has_counters, kept_unit, put_hist}
 use Rattle.gmon_data.proofs.BoundLemmas.{counters_at_most, tally_at_most}
 use Rattle.gmon_data.proofs.HistLemmas.{samples-put}
 use Rattle.gmon_data.proofs.TallyLemmas.{sum-tally}
 use Rattle.test_profiles.specs.Rows.{HasRows, IsOneCounter}
-
-pub no_rows : HasRows 0 0 0 empty_content
-no_rows = record { samples = omega arith; counters = omega arith; calls = omega arith; pairs = omega arith; runs = omega arith; addresses = omega arith }
 
 pub more_rows : (h h' a a' b b' : ℕ) (c : Content) → h ≤ h' → a ≤ a' → b ≤ b' → HasRows h a b c → HasRows h' a' b' c
 more_rows h h' a a' b b' c le le' le'' r = record {

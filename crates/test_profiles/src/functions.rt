@@ -8,6 +8,9 @@ use elf32_syms::{Symbol, SymbolList};
 use gp_base::Name;
 use std::alloc::{AllocError, Global};
 
+/// A function's name, and its samples. Without a name there are samples and no function.
+pub type Function<'a> = (&'a str, u64);
+
 /// The name that a text is.
 pub fn name_of(alloc: Global, text: &str) -> Result<Name, AllocError> {
     Ok(Name::from(Vec::from_slice(alloc, text.as_bytes())?))
@@ -21,6 +24,13 @@ pub fn hex4(alloc: Global, n: u16) -> Result<Name, AllocError> {
         let first = if digit < 10 { b'0' } else { b'a' - 10 };
         name.push(first + digit as u8)?;
     }
+    Ok(name)
+}
+
+/// A letter as a name: `a` to `z`, and then again.
+fn letter(alloc: Global, n: usize) -> Result<Name, AllocError> {
+    let mut name = Name::new(alloc);
+    name.push(b'a' + (n % 26) as u8)?;
     Ok(name)
 }
 
@@ -60,14 +70,14 @@ pub fn symbols_of(alloc: Global, count: u32, size: u32) -> Result<SymbolList, Al
     Ok(symbols)
 }
 
-/// Functions of these names, of 16 addresses each. Where a name is empty there is no function; of more
-/// than 65,535 names the first ones are taken.
-pub fn named_symbols(alloc: Global, names: &[&str]) -> Result<SymbolList, AllocError>
+/// These functions, of 16 addresses each. Where a name is empty there is none; of more than 65,535 the
+/// first ones are taken.
+pub fn named_symbols(alloc: Global, functions: &[Function<'_>]) -> Result<SymbolList, AllocError>
     ensures { IfOk result IsAscending }
 {
     let mut symbols = SymbolList::new(alloc);
     let mut i = 0;
-    for name in names {
+    for (name, _samples) in functions {
         if i < 65_535 {
             if !name.is_empty() {
                 push_symbol(&mut symbols, i, name_of(alloc, name)?)?;
@@ -85,6 +95,27 @@ pub fn symbols_in_reverse(alloc: Global, count: u16) -> Result<SymbolList, Alloc
     let mut symbols = SymbolList::new(alloc);
     for i in 0..count {
         push_symbol(&mut symbols, u32::from(i), hex4(alloc, count - 1 - i)?)?;
+    }
+    Ok(symbols)
+}
+
+/// Symbols of these addresses and ends, whose names are `a`, `b` and so on. One that is empty, or begins
+/// below the end of another before it, is left out.
+pub fn symbols_at(alloc: Global, places: &[(u32, u32)]) -> Result<SymbolList, AllocError>
+    ensures { IfOk result IsAscending }
+{
+    let mut symbols = SymbolList::new(alloc);
+    let mut last = 0;
+    for (addr, end) in places {
+        if last <= *addr && *addr < *end {
+            let name = letter(alloc, symbols.as_slice().len())?;
+            symbols.push(Symbol {
+                addr: *addr,
+                end: *end,
+                name,
+            })?;
+            last = *end;
+        }
     }
     Ok(symbols)
 }

@@ -3,17 +3,23 @@
 //! Functions stand in a row from 0x1_0000 on, and have numbers in this order.
 #![tactic(auto)]
 
+pub mod counted;
 pub mod functions;
 pub mod rings;
 pub mod rows;
 pub mod same;
 pub mod samples;
+pub mod words;
 
-pub use functions::{hex4, name_of, named_symbols, push_symbol, symbols_in_reverse, symbols_of};
+pub use counted::{Counted, counted_functions, large_program};
+pub use functions::{
+    Function, hex4, name_of, named_symbols, push_symbol, symbols_at, symbols_in_reverse, symbols_of,
+};
 pub use rings::ring_of_calls;
-pub use rows::{Rows, profile_of_arcs, profile_of_calls, profile_of_rows};
+pub use rows::{Calls, Rows, calls_of_first, profile_of_arcs, profile_of_calls, profile_of_rows};
 pub use same::are_same;
-pub use samples::{even_profile, profile_of_samples, seconds};
+pub use samples::{Counters, even_profile, hist_of, profile_of_samples, seconds};
+pub use words::strings_of;
 
 #[cfg(test)]
 mod tests;

@@ -7,6 +7,9 @@ use gmon_data::{AddRefusal, Hist, Profile};
 use gp_base::{Totals, Unit};
 use std::alloc::{AllocError, Global};
 
+/// Calls of one function by another: caller, callee and count, by the functions' numbers.
+pub type Calls = (u16, u16, u64);
+
 /// A profile, written down: histograms of one counter each and their unit, calls, executions.
 #[derive(Clone, Copy)]
 pub struct Rows<'a> {
@@ -80,9 +83,9 @@ pub fn profile_of_arcs(alloc: Global, arcs: &[(u32, u32, u64)]) -> Result<Profil
     Ok(profile)
 }
 
-/// The calls of functions of 16 addresses each: caller, callee and count, by the functions' numbers.
-/// The first 2,000 rows are taken, of 2^31 - 1 calls each at most.
-pub fn profile_of_calls(alloc: Global, calls: &[(u16, u16, u64)]) -> Result<Profile, AllocError> {
+/// The calls of functions of 16 addresses each. The first 2,000 rows are taken, of 2^31 - 1 calls each
+/// at most.
+pub fn profile_of_calls(alloc: Global, calls: &[Calls]) -> Result<Profile, AllocError> {
     let mut arcs = Vec::new(alloc);
     for (caller, callee, count) in calls {
         let from = 0x1_0004 + 16 * u32::from(*caller);
@@ -90,6 +93,15 @@ pub fn profile_of_calls(alloc: Global, calls: &[(u16, u16, u64)]) -> Result<Prof
         arcs.push((from, to, *count))?;
     }
     profile_of_arcs(alloc, arcs.as_slice())
+}
+
+/// One call of the first function by each of so many next ones.
+pub fn calls_of_first(alloc: Global, callers: u16) -> Result<Profile, AllocError> {
+    let mut calls = Vec::new(alloc);
+    for caller in 1..=callers {
+        calls.push((caller, 0, 1))?;
+    }
+    profile_of_calls(alloc, calls.as_slice())
 }
 
 /// The profile of rows: of the first 2,000 of each kind, of 2^31 - 1 samples, calls or executions each

@@ -6,6 +6,9 @@ use gmon_data::{AddRefusal, Hist, Profile};
 use gp_base::{Totals, Unit};
 use std::alloc::{AllocError, Global};
 
+/// A histogram: low and high address, and counters, of which the first 16 are taken.
+pub type Counters<'a> = (u32, u32, &'a [u8]);
+
 /// A unit of the given rate, with the dimension `seconds` and its abbreviation `s`.
 pub fn seconds(rate: u32) -> Unit {
     Unit {
@@ -28,6 +31,22 @@ fn counters_of(alloc: Global, samples: &[u64]) -> Result<Totals, AllocError>
         room -= counter;
     }
     Ok(counters)
+}
+
+/// The histogram of a row.
+pub fn hist_of(alloc: Global, row: Counters<'_>) -> Result<Hist, AllocError>
+    ensures counters { IfOk result (λ hist. length hist.counters ≤ 16) }
+    ensures samples { IfOk result (λ hist. sum hist.counters ≤ 4080) }
+{
+    let mut counters = Totals::new(alloc);
+    for count in &row.2[..row.2.len().min(16)] {
+        counters.push(u64::from(*count))?;
+    }
+    Ok(Hist {
+        low: row.0,
+        high: row.1,
+        counters,
+    })
 }
 
 /// One histogram of these counters, of `width` addresses each, with 100 samples a second.

@@ -96,12 +96,19 @@ fn samples_and_calls_of_functions(rt: HostRuntime) -> Result<(), Fail> {
 
 #[test]
 fn functions_in_a_row(rt: HostRuntime) -> Result<(), Fail> {
-    let named = named_symbols(rt.alloc(), &["a", "", "c"])?;
+    let named = named_symbols(rt.alloc(), &[("a", 0), ("", 0), ("c", 0)])?;
     assert_eq!(rt; named.as_slice().len(), 2);
     let places = symbols_of(rt.alloc(), 3, 256)?;
     assert_eq!(rt; places.as_slice().len(), 3);
     let reverse = symbols_in_reverse(rt.alloc(), 4096)?;
     assert_eq!(rt; reverse.as_slice().len(), 4096);
+    Ok(())
+}
+
+#[test]
+fn places_that_are_apart(rt: HostRuntime) -> Result<(), Fail> {
+    let symbols = symbols_at(rt.alloc(), &[(8, 12), (12, 12), (10, 16), (12, 20)])?;
+    assert_eq!(rt; symbols.as_slice().len(), 2);
     Ok(())
 }
 

@@ -1,6 +1,6 @@
 use Rattle.std.proofs.Common.{◌≡◌, ◌≤◌, ℕ, take, get_or}
 use Rattle.call_cycles.specs.Graph.{no_arc}
-use Rattle.call_cycles.specs.Calls.{AreMerged}
+use Rattle.call_cycles.specs.Merging.{AreMerged}
 use Rattle.call_cycles.proofs.calls.merge_neighbours.Given as goal
 
 abbrev pub invariant-loop-i : goal.invariant-loop-i

@@ -3,7 +3,8 @@ use Rattle.std.specs.List.Sorted.{IsSorted}
 use Rattle.std.proofs.lemmas.Fn.{always_returns_same}
 use Rattle.std.proofs.lemmas.List.Sorted.{sum_by-IsPermutation}
 use Rattle.call_cycles.specs.declared.graphs.FunArc.{FunArc}
-use Rattle.call_cycles.specs.Calls.{AreMerged, by_ends, count_of}
+use Rattle.call_cycles.specs.Calls.{by_ends, count_of}
+use Rattle.call_cycles.specs.Merging.{AreMerged}
 use Rattle.call_cycles.proofs.ListLemmas.{whole_back}
 use Rattle.call_cycles.proofs.MergeLemmas.{all_merged}
 use Rattle.call_cycles.proofs.calls.merged.Goals as goal

@@ -1,7 +1,7 @@
 use Rattle.std.proofs.Common.{◌≤◌}
 use Rattle.std.specs.List.{All}
 use Rattle.elf32_syms.specs.Owners.{IsAscending}
-use Rattle.symbol_shares.proofs.tests.symbols_at.Given as goal
+use Rattle.test_profiles.proofs.functions.symbols_at.Given as goal
 
 abbrev pub invariant-loop-addr : goal.invariant-loop-addr
 invariant-loop-addr l = record {
