@@ -1,65 +1,40 @@
+ghost use Rattle.std.specs.Prelude.{◌≤◌, IfOk};
 ghost use Rattle.elf32_syms.specs.Owners.{IsAscending};
 
 use super::*;
 use call_cycles::graph;
-use elf32_syms::Symbol;
-use gmon_data::{AddRefusal, Profile};
+use gmon_data::AddRefusal;
 use host_port::{HostCall, MemHost};
 use propagate::flow;
 use std::alloc::{AllocError, Global};
+use std::process::Abort;
 use std::test::Fail;
 use symbol_shares::shares;
 use test_profiles::{
-    even_profile, named_symbols, profile_of_calls, profile_of_samples, symbols_in_reverse,
-    symbols_of,
+    Calls, Counted, Function, calls_of_first, counted_functions, even_profile, large_program,
+    strings_of, symbols_in_reverse,
 };
 
-/// A function's name, and its samples. Without a name there are samples and no function.
-type Function<'a> = (&'a str, u64);
-
-/// Calls of one function by another: caller, callee and count. Functions have numbers, in the order
-/// of their addresses.
-type Calls = (u16, u16, u64);
-
-/// Prints the flat profile of these samples and calls.
-fn print_profiles(
+/// Prints the flat profile of what was counted.
+fn print(
     alloc: Global,
-    symbols: &[Symbol],
-    samples: &Profile,
-    calls: &Profile,
+    counted: &Counted,
     rate: u32,
     hidden: &[String],
     host: &mut MemHost,
 ) -> Result<Result<(), ReportRefusal>, AllocError>
-    requires { IsAscending symbols.now }
+    requires { IsAscending counted.now.symbols }
 {
-    let shares = shares(alloc, samples, symbols)?;
-    let graph = graph(alloc, calls, symbols)?;
+    let symbols = counted.symbols.as_slice();
+    let shares = shares(alloc, &counted.samples, symbols)?;
+    let graph = graph(alloc, &counted.calls, symbols)?;
     let flow = flow(alloc, &graph, &shares)?;
     let rate = rate.max(1);
     Ok(write(alloc, symbols, &graph, &flow, &shares, rate, hidden, host))
 }
 
-/// The names of functions.
-fn names_in<'a>(alloc: Global, functions: &[Function<'a>]) -> Result<Vec<&'a str>, AllocError> {
-    let mut names = Vec::new(alloc);
-    for function in functions {
-        names.push(function.0)?;
-    }
-    Ok(names)
-}
-
-/// The samples of functions.
-fn samples_in(alloc: Global, functions: &[Function<'_>]) -> Result<Vec<u64>, AllocError> {
-    let mut samples = Vec::new(alloc);
-    for function in functions {
-        samples.push(function.1)?;
-    }
-    Ok(samples)
-}
-
-/// Prints the flat profile of these functions and calls, without the functions of hidden names.
-fn print_hidden(
+/// Prints the flat profile of these functions and calls.
+fn print_functions(
     alloc: Global,
     functions: &[Function<'_>],
     calls: &[Calls],
@@ -67,56 +42,61 @@ fn print_hidden(
     hidden: &[String],
     host: &mut MemHost,
 ) -> Result<Result<(), ReportRefusal>, AddRefusal> {
-    let names = names_in(alloc, functions)?;
-    let symbols = named_symbols(alloc, names.as_slice())?;
-    let samples = profile_of_samples(alloc, samples_in(alloc, functions)?.as_slice())?;
-    let calls = profile_of_calls(alloc, calls)?;
-    let printed = print_profiles(
-        alloc,
-        symbols.as_slice(),
-        &samples,
-        &calls,
-        rate,
-        hidden,
-        host,
-    )?;
+    let counted = counted_functions(alloc, functions, calls)?;
+    let printed = print(alloc, &counted, rate, hidden, host)?;
     Ok(printed)
 }
 
-/// Prints the flat profile of these functions and calls.
-fn print(
-    alloc: Global,
-    functions: &[Function<'_>],
-    calls: &[Calls],
-    rate: u32,
-    host: &mut MemHost,
-) -> Result<Result<(), ReportRefusal>, AddRefusal> {
-    print_hidden(alloc, functions, calls, rate, &[], host)
+/// The first line.
+const TITLE: &[u8] = b"flat profile\n";
+
+/// What stands between the totals and the lines of functions.
+const HEADINGS: &str =
+    "\n  %time   cumulative       self      calls  self ms/call  total ms/call  name\n";
+
+/// The lines above those of functions.
+fn header(alloc: Global, totals: &str) -> Result<Vec<u8>, AllocError> {
+    let mut text = Vec::from_slice(alloc, TITLE)?;
+    text.extend_from_slice(totals.as_bytes())?;
+    text.extend_from_slice(HEADINGS.as_bytes())?;
+    Ok(text)
+}
+
+fn push_line(text: &mut Vec<u8>, line: &str) -> Result<(), AllocError> {
+    text.extend_from_slice(line.as_bytes())?;
+    text.push(b'\n')?;
+    Ok(())
 }
 
 /// The text with these lines.
 fn text(alloc: Global, totals: &str, lines: &[&str]) -> Result<Vec<u8>, AllocError> {
-    let mut text = Vec::new(alloc);
-    text.extend_from_slice(b"flat profile\n")?;
-    text.extend_from_slice(totals.as_bytes())?;
-    text.extend_from_slice(
-        b"\n  %time   cumulative       self      calls  self ms/call  total ms/call  name\n",
-    )?;
+    let mut text = header(alloc, totals)?;
     for line in lines {
-        text.extend_from_slice(line.as_bytes())?;
-        text.push(b'\n')?;
+        push_line(&mut text, line)?;
     }
     Ok(text)
 }
 
+/// The report was printed, with this text.
+fn expect_text(
+    rt: &impl Abort,
+    message: &str,
+    answer: Result<(), ReportRefusal>,
+    printed: &[u8],
+    want: &[u8],
+) {
+    assert_eq!(rt; answer, Ok(()), "{message}");
+    assert_eq!(rt; printed, want, "{message}");
+}
+
 /// A message, functions, calls, a rate, and the text that is printed: totals and lines.
-type Row = (
-    &'static str,
-    &'static [Function<'static>],
-    &'static [Calls],
+type Row<'a> = (
+    &'a str,
+    &'a [Function<'a>],
+    &'a [Calls],
     u32,
-    &'static str,
-    &'static [&'static str],
+    &'a str,
+    &'a [&'a str],
 );
 
 const THREE: [Function<'static>; 3] = [("main", 1), ("a", 2), ("b", 3)];
@@ -126,238 +106,239 @@ const CYCLE: [Calls; 4] = [(0, 1, 1), (1, 2, 5), (2, 1, 4), (2, 2, 2)];
 
 const THREE_TOTALS: &str = "attributed 6000000, outside 0, rate 100";
 
-const THREE_LINES: [&str; 3] = [
-    "  50.00         0.03       0.03          7          4.29           4.29  b",
-    "  33.33         0.05       0.02          5          4.00           4.00  a",
-    "  16.67         0.06       0.01                                          main",
+const B_LINE: &str = "  50.00         0.03       0.03          7          4.29           4.29  b";
+
+const A_LINE: &str = "  33.33         0.05       0.02          5          4.00           4.00  a";
+
+const MAIN_LINE: &str =
+    "  16.67         0.06       0.01                                          main";
+
+const THREE_LINES: [&str; 3] = [B_LINE, A_LINE, MAIN_LINE];
+
+const ROWS: [Row<'static>; 10] = [
+    (
+        "equal shares are ordered by the bytes of the names",
+        &[("b", 1), ("ab", 1), ("a", 1), ("Z", 1)],
+        &[],
+        100,
+        "attributed 4000000, outside 0, rate 100",
+        &[
+            "  25.00         0.01       0.01                                          Z",
+            "  25.00         0.02       0.01                                          a",
+            "  25.00         0.03       0.01                                          ab",
+            "  25.00         0.04       0.01                                          b",
+        ],
+    ),
+    (
+        "two functions of one name",
+        &[("f", 2), ("e", 1), ("f", 2)],
+        &[],
+        100,
+        "attributed 5000000, outside 0, rate 100",
+        &[
+            "  40.00         0.02       0.02                                          f",
+            "  40.00         0.04       0.02                                          f",
+            "  20.00         0.05       0.01                                          e",
+        ],
+    ),
+    (
+        "a function without samples",
+        &[("main", 1), ("idle", 0), ("b", 2)],
+        &[],
+        100,
+        "attributed 3000000, outside 0, rate 100",
+        &[
+            "  66.67         0.02       0.02                                          b",
+            "  33.33         0.03       0.01                                          main",
+        ],
+    ),
+    (
+        "no functions",
+        &[("", 7)],
+        &[],
+        100,
+        "attributed 0, outside 7000000, rate 100",
+        &[],
+    ),
+    (
+        "no samples",
+        &[],
+        &[],
+        100,
+        "attributed 0, outside 0, rate 100",
+        &[],
+    ),
+    (
+        "a rate of 1",
+        &[("main", 200)],
+        &[],
+        1,
+        "attributed 200000000, outside 0, rate 1",
+        &[" 100.00       200.00     200.00                                          main"],
+    ),
+    (
+        "the highest rate of a profile",
+        &[("main", 200)],
+        &[],
+        2_147_483_647,
+        "attributed 200000000, outside 0, rate 2147483647",
+        &[" 100.00         0.00       0.00                                          main"],
+    ),
+    (
+        "percentages are of what functions have",
+        &[("main", 1), ("a", 3), ("", 4)],
+        &[],
+        100,
+        "attributed 4000000, outside 4000000, rate 100",
+        &[
+            "  75.00         0.03       0.03                                          a",
+            "  25.00         0.04       0.01                                          main",
+        ],
+    ),
+    // 96.875 and 3.125 percent; 0.155, 0.16 and 0.005 seconds.
+    (
+        "a half is rounded up",
+        &[("a", 1), ("b", 31)],
+        &[],
+        200,
+        "attributed 32000000, outside 0, rate 200",
+        &[
+            "  96.88         0.16       0.16                                          b",
+            "   3.13         0.16       0.01                                          a",
+        ],
+    ),
+    (
+        "times that are wider than their columns",
+        &[("main", 1_099_511_627_776)],
+        &[],
+        1,
+        "attributed 1099511627776000000, outside 0, rate 1",
+        &[
+            " 100.00 1099511627776.00 1099511627776.00                                          main",
+        ],
+    ),
 ];
+
+/// The report of a row has its text.
+fn expect_row(
+    rt: &impl Abort,
+    alloc: Global,
+    row: Row<'_>,
+    hidden: &[String],
+) -> Result<(), AddRefusal> {
+    let (message, functions, calls, rate, totals, lines) = row;
+    let mut host = MemHost::new(alloc);
+    let answer = print_functions(alloc, functions, calls, rate, hidden, &mut host)?;
+    let want = text(alloc, totals, lines)?;
+    expect_text(rt, message, answer, host.printed(), want.as_slice());
+    Ok(())
+}
+
+/// The reports of rows have their texts.
+fn expect_rows(rt: &impl Abort, alloc: Global, rows: &[Row<'_>]) -> Result<(), AddRefusal> {
+    for row in rows {
+        expect_row(rt, alloc, *row, &[])?;
+    }
+    Ok(())
+}
 
 #[test]
 fn lines_of_functions(rt: HostRuntime) -> Result<(), Fail> {
-    let rows: [Row; 10] = [
-        (
-            "equal shares are ordered by the bytes of the names",
-            &[("b", 1), ("ab", 1), ("a", 1), ("Z", 1)],
-            &[],
-            100,
-            "attributed 4000000, outside 0, rate 100",
-            &[
-                "  25.00         0.01       0.01                                          Z",
-                "  25.00         0.02       0.01                                          a",
-                "  25.00         0.03       0.01                                          ab",
-                "  25.00         0.04       0.01                                          b",
-            ],
-        ),
-        (
-            "two functions of one name",
-            &[("f", 2), ("e", 1), ("f", 2)],
-            &[],
-            100,
-            "attributed 5000000, outside 0, rate 100",
-            &[
-                "  40.00         0.02       0.02                                          f",
-                "  40.00         0.04       0.02                                          f",
-                "  20.00         0.05       0.01                                          e",
-            ],
-        ),
-        (
-            "a function without samples",
-            &[("main", 1), ("idle", 0), ("b", 2)],
-            &[],
-            100,
-            "attributed 3000000, outside 0, rate 100",
-            &[
-                "  66.67         0.02       0.02                                          b",
-                "  33.33         0.03       0.01                                          main",
-            ],
-        ),
-        (
-            "no functions",
-            &[("", 7)],
-            &[],
-            100,
-            "attributed 0, outside 7000000, rate 100",
-            &[],
-        ),
-        (
-            "no samples",
-            &[],
-            &[],
-            100,
-            "attributed 0, outside 0, rate 100",
-            &[],
-        ),
-        (
-            "a rate of 1",
-            &[("main", 200)],
-            &[],
-            1,
-            "attributed 200000000, outside 0, rate 1",
-            &[" 100.00       200.00     200.00                                          main"],
-        ),
-        (
-            "the highest rate of a profile",
-            &[("main", 200)],
-            &[],
-            2_147_483_647,
-            "attributed 200000000, outside 0, rate 2147483647",
-            &[" 100.00         0.00       0.00                                          main"],
-        ),
-        (
-            "percentages are of what functions have",
-            &[("main", 1), ("a", 3), ("", 4)],
-            &[],
-            100,
-            "attributed 4000000, outside 4000000, rate 100",
-            &[
-                "  75.00         0.03       0.03                                          a",
-                "  25.00         0.04       0.01                                          main",
-            ],
-        ),
-        // 96.875 and 3.125 percent; 0.155, 0.16 and 0.005 seconds.
-        (
-            "a half is rounded up",
-            &[("a", 1), ("b", 31)],
-            &[],
-            200,
-            "attributed 32000000, outside 0, rate 200",
-            &[
-                "  96.88         0.16       0.16                                          b",
-                "   3.13         0.16       0.01                                          a",
-            ],
-        ),
-        (
-            "times that are wider than their columns",
-            &[("main", 1_099_511_627_776)],
-            &[],
-            1,
-            "attributed 1099511627776000000, outside 0, rate 1",
-            &[
-                " 100.00 1099511627776.00 1099511627776.00                                          main",
-            ],
-        ),
-    ];
-    for (message, functions, calls, rate, totals, lines) in rows {
-        let mut host = MemHost::new(rt.alloc());
-        assert_eq!(rt;
-            print(rt.alloc(), functions, calls, rate, &mut host)?,
-            Ok(()),
-            "{message}"
-        );
-        let want = text(rt.alloc(), totals, lines)?;
-        assert_eq!(rt; host.printed(), want.as_slice(), "{message}");
-    }
+    expect_rows(&rt, rt.alloc(), &ROWS)?;
     Ok(())
 }
+
+const CALLED_ROWS: [Row<'static>; 9] = [
+    ("a cycle", &THREE, &CYCLE, 100, THREE_TOTALS, &THREE_LINES),
+    (
+        "a chain",
+        &[("main", 1), ("a", 2), ("b", 4)],
+        &[(0, 1, 2), (1, 2, 4)],
+        100,
+        "attributed 7000000, outside 0, rate 100",
+        &[
+            "  57.14         0.04       0.04          4         10.00          10.00  b",
+            "  28.57         0.06       0.02          2         10.00          30.00  a",
+            "  14.29         0.07       0.01                                          main",
+        ],
+    ),
+    (
+        "functions without time: one is called, one isn't",
+        &[("main", 1), ("idle", 0), ("leaf", 2), ("unused", 0)],
+        &[(0, 1, 2), (1, 2, 1)],
+        100,
+        "attributed 3000000, outside 0, rate 100",
+        &[
+            "  66.67         0.02       0.02          1         20.00          20.00  leaf",
+            "  33.33         0.03       0.01                                          main",
+            "   0.00         0.03       0.00          2          0.00          10.00  idle",
+        ],
+    ),
+    (
+        "equal shares are ordered by calls, more calls first",
+        &[("main", 0), ("a", 1), ("b", 1)],
+        &[(0, 1, 1), (0, 2, 2)],
+        100,
+        "attributed 2000000, outside 0, rate 100",
+        &[
+            "  50.00         0.01       0.01          2          5.00           5.00  b",
+            "  50.00         0.02       0.01          1         10.00          10.00  a",
+        ],
+    ),
+    (
+        "equal shares and calls are ordered by names",
+        &[("main", 0), ("b", 1), ("a", 1)],
+        &[(0, 1, 3), (0, 2, 3)],
+        100,
+        "attributed 2000000, outside 0, rate 100",
+        &[
+            "  50.00         0.01       0.01          3          3.33           3.33  a",
+            "  50.00         0.02       0.01          3          3.33           3.33  b",
+        ],
+    ),
+    (
+        "functions that are alike but in their total are ordered by addresses",
+        &[("main", 0), ("f", 1), ("f", 1), ("leaf", 3)],
+        &[(0, 1, 1), (0, 2, 1), (2, 3, 1)],
+        100,
+        "attributed 5000000, outside 0, rate 100",
+        &[
+            "  60.00         0.03       0.03          1         30.00          30.00  leaf",
+            "  20.00         0.04       0.01          1         10.00          10.00  f",
+            "  20.00         0.05       0.01          1         10.00          40.00  f",
+        ],
+    ),
+    (
+        "calls without samples",
+        &[("main", 0), ("a", 0)],
+        &[(0, 1, 2), (1, 1, 1)],
+        100,
+        "attributed 0, outside 0, rate 100",
+        &["   0.00         0.00       0.00          3          0.00           0.00  a"],
+    ),
+    (
+        "a function that calls itself alone",
+        &[("main", 3)],
+        &[(0, 0, 4)],
+        100,
+        "attributed 3000000, outside 0, rate 100",
+        &[" 100.00         0.03       0.03          4          7.50           7.50  main"],
+    ),
+    // 5 milliseconds in 8 calls are 0.625 each.
+    (
+        "a half of a hundredth of a millisecond is rounded up",
+        &[("main", 0), ("a", 1)],
+        &[(0, 1, 8)],
+        200,
+        "attributed 1000000, outside 0, rate 200",
+        &[" 100.00         0.01       0.01          8          0.63           0.63  a"],
+    ),
+];
 
 #[test]
 fn columns_on_calls(rt: HostRuntime) -> Result<(), Fail> {
-    let rows: [Row; 9] = [
-        ("a cycle", &THREE, &CYCLE, 100, THREE_TOTALS, &THREE_LINES),
-        (
-            "a chain",
-            &[("main", 1), ("a", 2), ("b", 4)],
-            &[(0, 1, 2), (1, 2, 4)],
-            100,
-            "attributed 7000000, outside 0, rate 100",
-            &[
-                "  57.14         0.04       0.04          4         10.00          10.00  b",
-                "  28.57         0.06       0.02          2         10.00          30.00  a",
-                "  14.29         0.07       0.01                                          main",
-            ],
-        ),
-        (
-            "functions without time: one is called, one isn't",
-            &[("main", 1), ("idle", 0), ("leaf", 2), ("unused", 0)],
-            &[(0, 1, 2), (1, 2, 1)],
-            100,
-            "attributed 3000000, outside 0, rate 100",
-            &[
-                "  66.67         0.02       0.02          1         20.00          20.00  leaf",
-                "  33.33         0.03       0.01                                          main",
-                "   0.00         0.03       0.00          2          0.00          10.00  idle",
-            ],
-        ),
-        (
-            "equal shares are ordered by calls, more calls first",
-            &[("main", 0), ("a", 1), ("b", 1)],
-            &[(0, 1, 1), (0, 2, 2)],
-            100,
-            "attributed 2000000, outside 0, rate 100",
-            &[
-                "  50.00         0.01       0.01          2          5.00           5.00  b",
-                "  50.00         0.02       0.01          1         10.00          10.00  a",
-            ],
-        ),
-        (
-            "equal shares and calls are ordered by names",
-            &[("main", 0), ("b", 1), ("a", 1)],
-            &[(0, 1, 3), (0, 2, 3)],
-            100,
-            "attributed 2000000, outside 0, rate 100",
-            &[
-                "  50.00         0.01       0.01          3          3.33           3.33  a",
-                "  50.00         0.02       0.01          3          3.33           3.33  b",
-            ],
-        ),
-        (
-            "functions that are alike but in their total are ordered by addresses",
-            &[("main", 0), ("f", 1), ("f", 1), ("leaf", 3)],
-            &[(0, 1, 1), (0, 2, 1), (2, 3, 1)],
-            100,
-            "attributed 5000000, outside 0, rate 100",
-            &[
-                "  60.00         0.03       0.03          1         30.00          30.00  leaf",
-                "  20.00         0.04       0.01          1         10.00          10.00  f",
-                "  20.00         0.05       0.01          1         10.00          40.00  f",
-            ],
-        ),
-        (
-            "calls without samples",
-            &[("main", 0), ("a", 0)],
-            &[(0, 1, 2), (1, 1, 1)],
-            100,
-            "attributed 0, outside 0, rate 100",
-            &["   0.00         0.00       0.00          3          0.00           0.00  a"],
-        ),
-        (
-            "a function that calls itself alone",
-            &[("main", 3)],
-            &[(0, 0, 4)],
-            100,
-            "attributed 3000000, outside 0, rate 100",
-            &[" 100.00         0.03       0.03          4          7.50           7.50  main"],
-        ),
-        // 5 milliseconds in 8 calls are 0.625 each.
-        (
-            "a half of a hundredth of a millisecond is rounded up",
-            &[("main", 0), ("a", 1)],
-            &[(0, 1, 8)],
-            200,
-            "attributed 1000000, outside 0, rate 200",
-            &[" 100.00         0.01       0.01          8          0.63           0.63  a"],
-        ),
-    ];
-    for (message, functions, calls, rate, totals, lines) in rows {
-        let mut host = MemHost::new(rt.alloc());
-        assert_eq!(rt;
-            print(rt.alloc(), functions, calls, rate, &mut host)?,
-            Ok(()),
-            "{message}"
-        );
-        let want = text(rt.alloc(), totals, lines)?;
-        assert_eq!(rt; host.printed(), want.as_slice(), "{message}");
-    }
+    expect_rows(&rt, rt.alloc(), &CALLED_ROWS)?;
     Ok(())
-}
-
-/// These names, as they are given.
-fn names_of(alloc: Global, names: &[&str]) -> Result<Vec<String>, AllocError> {
-    let mut given = Vec::new(alloc);
-    for name in names {
-        given.push(String::from_str(alloc, name)?)?;
-    }
-    Ok(given)
 }
 
 /// A message, functions, calls, hidden names, and the lines that are printed.
@@ -369,79 +350,146 @@ type HiddenRow = (
     &'static [&'static str],
 );
 
+const HIDDEN_ROWS: [HiddenRow; 5] = [
+    (
+        "the time of a hidden function counts",
+        &THREE,
+        &CYCLE,
+        &["a"],
+        &[B_LINE, MAIN_LINE],
+    ),
+    (
+        "each of the names",
+        &THREE,
+        &CYCLE,
+        &["main", "b"],
+        &[A_LINE],
+    ),
+    (
+        "all functions",
+        &THREE,
+        &CYCLE,
+        &["b", "a", "main", "a"],
+        &[],
+    ),
+    (
+        "names that no function has",
+        &THREE,
+        &CYCLE,
+        &["mai", "main2", "", "A"],
+        &THREE_LINES,
+    ),
+    (
+        "all functions of a name",
+        &[("f", 2), ("e", 1), ("f", 3)],
+        &[],
+        &["f"],
+        &["  16.67         0.06       0.01                                          e"],
+    ),
+];
+
+/// The report of a row without hidden functions has its lines.
+fn expect_hidden(rt: &impl Abort, alloc: Global, row: HiddenRow) -> Result<(), AddRefusal> {
+    let (message, functions, calls, hidden, lines) = row;
+    let hidden = strings_of(alloc, hidden)?;
+    let row = (message, functions, calls, 100, THREE_TOTALS, lines);
+    expect_row(rt, alloc, row, &hidden)
+}
+
 #[test]
 fn hidden_functions_have_no_line(rt: HostRuntime) -> Result<(), Fail> {
-    let rows: [HiddenRow; 5] = [
-        (
-            "the time of a hidden function counts",
-            &THREE,
-            &CYCLE,
-            &["a"],
-            &[THREE_LINES[0], THREE_LINES[2]],
-        ),
-        (
-            "each of the names",
-            &THREE,
-            &CYCLE,
-            &["main", "b"],
-            &[THREE_LINES[1]],
-        ),
-        (
-            "all functions",
-            &THREE,
-            &CYCLE,
-            &["b", "a", "main", "a"],
-            &[],
-        ),
-        (
-            "names that no function has",
-            &THREE,
-            &CYCLE,
-            &["mai", "main2", "", "A"],
-            &THREE_LINES,
-        ),
-        (
-            "all functions of a name",
-            &[("f", 2), ("e", 1), ("f", 3)],
-            &[],
-            &["f"],
-            &["  16.67         0.06       0.01                                          e"],
-        ),
-    ];
-    for (message, functions, calls, hidden, lines) in rows {
-        let mut host = MemHost::new(rt.alloc());
-        let hidden = names_of(rt.alloc(), hidden)?;
-        assert_eq!(rt;
-            print_hidden(rt.alloc(), functions, calls, 100, &hidden, &mut host)?,
-            Ok(()),
-            "{message}"
-        );
-        let want = text(rt.alloc(), THREE_TOTALS, lines)?;
-        assert_eq!(rt; host.printed(), want.as_slice(), "{message}");
+    for row in &HIDDEN_ROWS {
+        expect_hidden(&rt, rt.alloc(), *row)?;
     }
     Ok(())
 }
 
-#[test]
-fn a_long_name_is_printed_whole(rt: HostRuntime) -> Result<(), Fail> {
-    let mut name = String::new(rt.alloc());
+/// A name of 4,095 letters.
+fn long_name(alloc: Global) -> Result<String, AllocError> {
+    let mut name = String::new(alloc);
     for _ in 0..4095 {
         name.push('x')?;
     }
-    let mut line = String::from_str(
-        rt.alloc(),
-        " 100.00         0.01       0.01                                          ",
-    )?;
-    line.push_str(name.as_str())?;
-    let mut host = MemHost::new(rt.alloc());
+    Ok(name)
+}
+
+/// The line of a function of this name, which is the only one.
+fn line_of(alloc: Global, name: &str) -> Result<String, AllocError> {
+    format!(in alloc;
+        " 100.00         0.01       0.01                                          {name}"
+    )
+}
+
+#[test]
+fn a_long_name_is_printed_whole(rt: HostRuntime) -> Result<(), Fail> {
+    let name = long_name(rt.alloc())?;
+    let line = line_of(rt.alloc(), name.as_str())?;
     let functions = [(name.as_str(), 1)];
-    assert_eq!(rt; print(rt.alloc(), &functions, &[], 100, &mut host)?, Ok(()));
-    let want = text(
-        rt.alloc(),
-        "attributed 1000000, outside 0, rate 100",
-        &[line.as_str()],
-    )?;
-    assert_eq!(rt; host.printed(), want.as_slice());
+    let lines = [line.as_str()];
+    let totals = "attributed 1000000, outside 0, rate 100";
+    let row = (
+        "a long name",
+        functions.as_slice(),
+        [].as_slice(),
+        100,
+        totals,
+        lines.as_slice(),
+    );
+    expect_row(&rt, rt.alloc(), row, &[])?;
+    Ok(())
+}
+
+/// A call failed, and the first bytes of the text are printed, so many.
+fn expect_part(
+    rt: &impl Abort,
+    message: &str,
+    answer: Result<(), ReportRefusal>,
+    host: &MemHost,
+    want: &[u8],
+    len: u64,
+) {
+    assert_eq!(rt; answer, Err(ReportRefusal::WriteFault), "{message}");
+    assert_eq!(rt; host.first_failed(), Some(HostCall::Out), "{message}");
+    assert_eq!(rt; host.printed().len() as u64, len, "{message}");
+    assert!(rt; want.starts_with(host.printed()), "{message}");
+}
+
+/// A host that takes 50 bytes at a time, and on which this call fails.
+fn failing_host(alloc: Global, call: u64) -> Result<MemHost, AllocError> {
+    let mut host = MemHost::new(alloc);
+    host.set_step(50);
+    host.fail_at(call)?;
+    Ok(host)
+}
+
+/// The report of three functions, where a call fails.
+fn expect_failed(
+    rt: &impl Abort,
+    alloc: Global,
+    three: &Counted,
+    want: &[u8],
+    call: u64,
+) -> Result<(), AllocError>
+    requires call { call ≤ 9 }
+    requires three { IsAscending three.now.symbols }
+{
+    let message = format!(in alloc; "call {call}")?;
+    let mut host = failing_host(alloc, call)?;
+    let answer = print(alloc, three, 100, &[], &mut host)?;
+    if call < 8 {
+        expect_part(rt, message.as_str(), answer, &host, want, 50 * call);
+    } else {
+        expect_text(rt, message.as_str(), answer, host.printed(), want);
+    }
+    Ok(())
+}
+
+/// The same, where each call fails in turn.
+fn expect_each_failed(rt: &impl Abort, alloc: Global, want: &[u8]) -> Result<(), AddRefusal> {
+    let three = counted_functions(alloc, &THREE, &CYCLE)?;
+    for call in 0..10 {
+        expect_failed(rt, alloc, &three, want, call)?;
+    }
     Ok(())
 }
 
@@ -449,21 +497,7 @@ fn a_long_name_is_printed_whole(rt: HostRuntime) -> Result<(), Fail> {
 fn a_failed_call_leaves_a_part_that_is_not_the_whole(rt: HostRuntime) -> Result<(), Fail> {
     let want = text(rt.alloc(), THREE_TOTALS, &THREE_LINES)?;
     assert_eq!(rt; want.len(), 359);
-    for call in 0..10 {
-        let mut host = MemHost::new(rt.alloc());
-        host.set_step(50);
-        host.fail_at(call)?;
-        let result = print(rt.alloc(), &THREE, &CYCLE, 100, &mut host)?;
-        if call < 8 {
-            assert_eq!(rt; result, Err(ReportRefusal::WriteFault), "call {call}");
-            assert_eq!(rt; host.first_failed(), Some(HostCall::Out), "call {call}");
-            assert_eq!(rt; host.printed().len() as u64, 50 * call, "call {call}");
-            assert!(rt; want.as_slice().starts_with(host.printed()), "call {call}");
-        } else {
-            assert_eq!(rt; result, Ok(()), "call {call}");
-            assert_eq!(rt; host.printed(), want.as_slice(), "call {call}");
-        }
-    }
+    expect_each_failed(&rt, rt.alloc(), want.as_slice())?;
     Ok(())
 }
 
@@ -472,71 +506,100 @@ fn a_short_report_makes_one_call(rt: HostRuntime) -> Result<(), Fail> {
     let want = text(rt.alloc(), THREE_TOTALS, &THREE_LINES)?;
     let mut host = MemHost::new(rt.alloc());
     host.fail_at(1)?;
-    assert_eq!(rt; print(rt.alloc(), &THREE, &CYCLE, 100, &mut host)?, Ok(()));
-    assert_eq!(rt; host.printed(), want.as_slice());
+    let answer = print_functions(rt.alloc(), &THREE, &CYCLE, 100, &[], &mut host)?;
+    expect_text(&rt, "one call", answer, host.printed(), want.as_slice());
     Ok(())
 }
 
-/// One call of the first function by each of the next 2,000.
-fn calls_of_the_first(alloc: Global) -> Result<Vec<Calls>, AllocError> {
-    let mut calls = Vec::new(alloc);
-    for caller in 1..=2000u16 {
-        calls.push((caller, 0, 1))?;
-    }
-    Ok(calls)
+/// A report was printed, with this beginning, this end and this length.
+fn expect_ends(
+    rt: &impl Abort,
+    answer: Result<(), ReportRefusal>,
+    printed: &[u8],
+    first: &[u8],
+    last: &[u8],
+    len: usize,
+) {
+    assert_eq!(rt; answer, Ok(()));
+    assert!(rt; printed.starts_with(first));
+    assert!(rt; printed.ends_with(last));
+    assert_eq!(rt; printed.len(), len);
 }
+
+/// The report of what was counted has this beginning, this end and this length.
+fn expect_long(
+    rt: &impl Abort,
+    alloc: Global,
+    counted: &Counted,
+    rate: u32,
+    first: &[u8],
+    last: &[u8],
+    len: usize,
+) -> Result<(), AllocError>
+    requires { IsAscending counted.now.symbols }
+{
+    let mut host = MemHost::new(alloc);
+    let answer = print(alloc, counted, rate, &[], &mut host)?;
+    expect_ends(rt, answer, host.printed(), first, last, len);
+    Ok(())
+}
+
+/// 4,096 functions of a sample each, of which 2,000 call the first one.
+fn many_callers(alloc: Global) -> Result<Counted, AddRefusal>
+    ensures { IfOk result (λ counted. IsAscending counted.symbols) }
+{
+    let symbols = symbols_in_reverse(alloc, 4096)?;
+    let calls = calls_of_first(alloc, 2000)?;
+    let samples = even_profile(alloc, 4096, 16)?;
+    Ok(Counted {
+        symbols,
+        samples,
+        calls,
+    })
+}
+
+const FIRST_OF_MANY: [&str; 3] = [
+    "   0.02         1.00       1.00       2000          0.50           0.50  0fff",
+    "   0.02         2.00       1.00                                          0000",
+    "   0.02         3.00       1.00                                          0001",
+];
+
+const LAST_OF_MANY: &[u8] =
+    b"   0.02      4095.00       1.00                                          0ffd\n   0.02      4096.00       1.00                                          0ffe\n";
 
 #[test]
 fn many_functions(rt: HostRuntime) -> Result<(), Fail> {
-    let samples = even_profile(rt.alloc(), 4096, 16)?;
-    let symbols = symbols_in_reverse(rt.alloc(), 4096)?;
-    let calls = profile_of_calls(rt.alloc(), calls_of_the_first(rt.alloc())?.as_slice())?;
-    let mut host = MemHost::new(rt.alloc());
-    let printed = print_profiles(
+    let counted = many_callers(rt.alloc())?;
+    let totals = "attributed 4096000000, outside 0, rate 1";
+    let first = text(rt.alloc(), totals, &FIRST_OF_MANY)?;
+    let len = 132 + 4096 * 78;
+    expect_long(
+        &rt,
         rt.alloc(),
-        symbols.as_slice(),
-        &samples,
-        &calls,
+        &counted,
         1,
-        &[],
-        &mut host,
+        first.as_slice(),
+        LAST_OF_MANY,
+        len,
     )?;
-    assert_eq!(rt; printed, Ok(()));
-    let first = text(
-        rt.alloc(),
-        "attributed 4096000000, outside 0, rate 1",
-        &[
-            "   0.02         1.00       1.00       2000          0.50           0.50  0fff",
-            "   0.02         2.00       1.00                                          0000",
-            "   0.02         3.00       1.00                                          0001",
-        ],
-    )?;
-    assert!(rt; host.printed().starts_with(first.as_slice()));
-    let last =
-        b"   0.02      4095.00       1.00                                          0ffd\n   0.02      4096.00       1.00                                          0ffe\n";
-    assert!(rt; host.printed().ends_with(last));
-    assert_eq!(rt; host.printed().len(), 132 + 4096 * 78);
     Ok(())
 }
 
+const LAST_OF_A_LARGE_PROGRAM: &[u8] =
+    b"   0.00     65536.00       1.00                                          \n";
+
 #[test]
 fn functions_of_a_large_program(rt: HostRuntime) -> Result<(), Fail> {
-    let samples = even_profile(rt.alloc(), 65_536, 16)?;
-    let symbols = symbols_of(rt.alloc(), 65_536, 16)?;
-    let calls = Profile::new(rt.alloc());
-    let mut host = MemHost::new(rt.alloc());
-    let printed = print_profiles(
+    let counted = large_program(rt.alloc())?;
+    let len = 133 + 65_536 * 74;
+    expect_long(
+        &rt,
         rt.alloc(),
-        symbols.as_slice(),
-        &samples,
-        &calls,
+        &counted,
         1,
-        &[],
-        &mut host,
+        TITLE,
+        LAST_OF_A_LARGE_PROGRAM,
+        len,
     )?;
-    assert_eq!(rt; printed, Ok(()));
-    let last = b"   0.00     65536.00       1.00                                          \n";
-    assert!(rt; host.printed().ends_with(last));
-    assert_eq!(rt; host.printed().len(), 133 + 65_536 * 74);
     Ok(())
 }

@@ -32,10 +32,6 @@ count_is_sum p (suc n) =
 abbrev pub cycles_before : GraphValue → ℕ → ℕ
 cycles_before g h = count_by (is_cycle_before g h) (numbers_below (component_count g))
 
--- the function is the head of a cycle
-abbrev pub leads_cycle : GraphValue → ℕ → Bool
-leads_cycle g f = is_cycle g (component_of g f) && (head_of g (component_of g f) == f)
-
 -- whether a head stands before f + 1: before f, or it is f, and then that of component k
 one_more_when : (b o : Bool) (h f k c : ℕ) → (k ≡ c → o ≡ (h == f)) → (k ≡ c → h ≤ f) → (k ≢ c → h ≢ f) → when (b && nat_lt h (f + 1)) 1 ≡ when (b && nat_lt h f) 1 + when b (when (o && (k == c)) 1)
 one_more_when false o h f k c is same apart = refl

@@ -53,11 +53,11 @@ other_whole columns name = sym (append_assoc (spaces 15 ++ columns ++ spaces 6) 
 -- ---- lines of arcs and members
 
 caller_whole : (s : Sources) (number : Subject → ℕ) (i : ℕ) → other_line (times_columns s (arc_times s i)) (function_name s number (arc_at s.graph i).caller) ≡ caller_line s number i
-unfolding caller_line arc_columns times_columns
+unfolding caller_line
 caller_whole s number i = refl
 
 callee_whole : (s : Sources) (number : Subject → ℕ) (i : ℕ) → other_line (times_columns s (arc_times s i)) (function_name s number (arc_at s.graph i).callee) ≡ callee_line s number i
-unfolding callee_line arc_columns times_columns
+unfolding callee_line
 callee_whole s number i = refl
 
 pub callee_is : (s : Sources) (number : Subject → ℕ) (i : ℕ) (t : ArcTimes) → t ≡ arc_times s i → other_line (times_columns s t) (function_name s number t.arc.callee) ≡ callee_line s number i
@@ -94,11 +94,11 @@ module _ (s : Sources) (t : ArcTimes) (c d : ℕ) (source : c ≡ component_of s
   is_outside_arc apart = ap not (ne_eqb (component_of s.graph t.arc.caller) (component_of s.graph t.arc.callee) (λ q. apart (source ∙ q ∙ sym target)))
 
   pub inside_columns : c ≡ d → untimed_columns (decimal t.arc.count) ≡ times_columns s t
-  unfolding times_columns
+  unfolding arc_columns
   inside_columns same = rw (eq-eqb (component_of s.graph t.arc.caller) (component_of s.graph t.arc.callee) (sym source ∙ same ∙ target)) refl
 
   pub outside_columns : (all : ℕ) → c ≢ d → all ≡ entering_of s.graph d → timed_columns s.rate t.own t.child (calls_of_all t.arc.count all) ≡ times_columns s t
-  unfolding times_columns
+  unfolding arc_columns
   outside_columns all apart is_all =
       let part : all ≡ entering_of s.graph (component_of s.graph t.arc.callee) = is_all ∙ ap (entering_of s.graph) target in
       rw (is_outside_arc apart, part) refl

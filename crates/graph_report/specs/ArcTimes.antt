@@ -1,8 +1,8 @@
--- What the line of an arc is made from.
-use Rattle.std.specs.Prelude.{◌≡◌, ◌<◌, ◌^◌, ◌==◌, ℕ, true, not, List, decimal, slice_index, if◌then◌else◌}
-use Rattle.call_cycles.specs.Graph.{arc_at, component_of, entering_of}
+-- What the line of an arc is made from: only private functions speak of it.
+use Rattle.std.specs.Prelude.{◌≡◌, ◌<◌, ◌^◌, ◌==◌, ℕ, true, not, List, slice_index}
+use Rattle.call_cycles.specs.Graph.{arc_at, component_of}
 use Rattle.flat_report.specs.Sources.{Sources}
-use Rattle.graph_report.specs.GraphText.{calls_of_all, timed_columns, untimed_columns}
+use Rattle.graph_report.specs.GraphText.{arc_columns}
 use Rattle.graph_report.specs.declared.inputs.ArcTimes.{ArcTimes}
 
 -- an arc, and what it carries
@@ -10,10 +10,8 @@ abbrev pub arc_times : Sources → ℕ → ArcTimes
 arc_times s i = record { arc = arc_at s.graph i; own = slice_index s.flow.arc_self i; child = slice_index s.flow.arc_child i }
 
 -- the columns of an arc that carries these times
-unfoldable pub times_columns : Sources → ArcTimes → List ℕ
-times_columns s t =
-    if not (component_of s.graph t.arc.caller == component_of s.graph t.arc.callee) then timed_columns s.rate t.own t.child (calls_of_all t.arc.count (entering_of s.graph (component_of s.graph t.arc.callee)))
-    else untimed_columns (decimal t.arc.count)
+abbrev pub times_columns : Sources → ArcTimes → List ℕ
+times_columns s t = arc_columns s t.arc t.own t.child
 
 -- an arc between functions of the graph; where it is an outside one, its times are in the range of a report's
 pub record AreTimes (s : Sources) (t : ArcTimes) : Type 0 where

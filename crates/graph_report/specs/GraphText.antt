@@ -4,7 +4,8 @@ use Rattle.std.specs.Prelude.{ℕ, ◌==◌, ◌&&◌, not, true, Bool, List, []
 use Rattle.std.specs.List.{flat_map}
 use Rattle.text_cols.specs.Columns.{decimal, left_of, right_of, spaces}
 use Rattle.symbol_shares.specs.Shares.{attributed_of}
-use Rattle.call_cycles.specs.Graph.{GraphValue, arc_at, arc_count, component_of, is_outside, enters, target_of, entering_of}
+use Rattle.call_cycles.specs.declared.graphs.FunArc.{FunArc}
+use Rattle.call_cycles.specs.Graph.{GraphValue, arc_at, arc_count, component_of, enters, entering_of}
 use Rattle.call_cycles.specs.Flow.{time_of}
 use Rattle.call_cycles.specs.Sums.{numbers_below}
 use Rattle.flat_report.specs.FlatText.{percent_of, seconds_of}
@@ -73,17 +74,21 @@ unfoldable pub other_line : List ℕ → List ℕ → List ℕ
 other_line columns name = spaces 15 ++ columns ++ spaces 6 ++ name ++ codes "\n"
 
 -- what an arc carries, and its calls of those that enter the callee's component; inside a cycle its calls alone
-unfoldable pub arc_columns : Sources → ℕ → List ℕ
-arc_columns s i =
-    if is_outside s.graph i then timed_columns s.rate (slice_index s.flow.arc_self i) (slice_index s.flow.arc_child i) (calls_of_all (arc_at s.graph i).count (entering_of s.graph (target_of s.graph i)))
-    else untimed_columns (decimal (arc_at s.graph i).count)
+unfoldable pub arc_columns : Sources → FunArc → ℕ → ℕ → List ℕ
+arc_columns s arc own child =
+    if not (component_of s.graph arc.caller == component_of s.graph arc.callee) then timed_columns s.rate own child (calls_of_all arc.count (entering_of s.graph (component_of s.graph arc.callee)))
+    else untimed_columns (decimal arc.count)
+
+-- those of the arc of number i
+abbrev pub columns_at : Sources → ℕ → List ℕ
+columns_at s i = arc_columns s (arc_at s.graph i) (slice_index s.flow.arc_self i) (slice_index s.flow.arc_child i)
 
 -- the arc of number i, by its caller and by its callee
 unfoldable pub caller_line : Sources → (Subject → ℕ) → ℕ → List ℕ
-caller_line s number i = other_line (arc_columns s i) (function_name s number (arc_at s.graph i).caller)
+caller_line s number i = other_line (columns_at s i) (function_name s number (arc_at s.graph i).caller)
 
 unfoldable pub callee_line : Sources → (Subject → ℕ) → ℕ → List ℕ
-callee_line s number i = other_line (arc_columns s i) (function_name s number (arc_at s.graph i).callee)
+callee_line s number i = other_line (columns_at s i) (function_name s number (arc_at s.graph i).callee)
 
 -- a function's own times and calls
 unfoldable pub function_columns : Sources → ℕ → List ℕ

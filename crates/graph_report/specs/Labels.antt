@@ -1,4 +1,4 @@
--- The ends of lines that name functions, all in one text.
+-- The ends of lines that name functions, all in one text: only private functions speak of it.
 use Rattle.std.specs.Prelude.{◌≡◌, ◌++◌, ℕ, suc, List, codes, length}
 use Rattle.std.specs.List.{flat_map}
 use Rattle.call_cycles.specs.Sums.{list_of, numbers_below}

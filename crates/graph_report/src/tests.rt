@@ -1,83 +1,47 @@
+ghost use Rattle.std.specs.Prelude.{◌≤◌, IfOk};
 ghost use Rattle.elf32_syms.specs.Owners.{IsAscending};
+
+mod rows;
 
 use super::*;
 use call_cycles::graph;
-use elf32_syms::Symbol;
 use exact_flow::exact;
 use gmon_data::{AddRefusal, Profile};
 use host_port::{HostCall, MemHost};
 use propagate::flow;
+use rows::{
+    EXACT_ROWS, ExactRow, HIDDEN_ROWS, HiddenRow, NAMED_AS_A_CYCLE, ROWS, RULE, Row, SPONTANEOUS,
+    THREE, THREE_CALLS, THREE_LINES,
+};
 use std::alloc::{AllocError, Global};
+use std::process::Abort;
 use std::test::Fail;
 use symbol_shares::shares;
 use test_profiles::{
-    even_profile, named_symbols, profile_of_calls, profile_of_samples, symbols_in_reverse,
-    symbols_of,
+    Calls, Counted, Function, calls_of_first, counted_functions, large_program, profile_of_calls,
+    profile_of_samples, strings_of, symbols_in_reverse,
 };
 
-/// A function's name, and its samples.
-type Function<'a> = (&'a str, u64);
-
-/// Calls of one function by another: caller, callee and count, by their numbers.
-type Calls = (u16, u16, u64);
-
-/// Prints the call graph of these samples and calls.
-fn print_profiles(
+/// Prints the call graph of what was counted.
+fn print(
     alloc: Global,
-    symbols: &[Symbol],
-    samples: &Profile,
-    calls: &Profile,
+    counted: &Counted,
     rate: u32,
     hidden: &[String],
     host: &mut MemHost,
 ) -> Result<Result<(), ReportRefusal>, AllocError>
-    requires { IsAscending symbols.now }
+    requires { IsAscending counted.now.symbols }
 {
-    let shares = shares(alloc, samples, symbols)?;
-    let graph = graph(alloc, calls, symbols)?;
+    let symbols = counted.symbols.as_slice();
+    let shares = shares(alloc, &counted.samples, symbols)?;
+    let graph = graph(alloc, &counted.calls, symbols)?;
     let flow = flow(alloc, &graph, &shares)?;
     let rate = rate.max(1);
     Ok(write(alloc, symbols, &graph, &flow, &shares, rate, hidden, host))
 }
 
-/// Prints the text of the exact flow of these samples and calls; false where a fraction is too wide.
-fn print_exact(
-    alloc: Global,
-    symbols: &[Symbol],
-    samples: &Profile,
-    calls: &Profile,
-    host: &mut MemHost,
-) -> Result<bool, AllocError>
-    requires { IsAscending symbols.now }
-{
-    let shares = shares(alloc, samples, symbols)?;
-    let graph = graph(alloc, calls, symbols)?;
-    match exact(alloc, &graph, &shares) {
-        Ok(times) => Ok(write_exact(symbols, &graph, &times, shares.attributed(), host).is_ok()),
-        Err(_) => Ok(false),
-    }
-}
-
-/// The names of functions.
-fn names_in<'a>(alloc: Global, functions: &[Function<'a>]) -> Result<Vec<&'a str>, AllocError> {
-    let mut names = Vec::new(alloc);
-    for function in functions {
-        names.push(function.0)?;
-    }
-    Ok(names)
-}
-
-/// The samples of functions.
-fn samples_in(alloc: Global, functions: &[Function<'_>]) -> Result<Vec<u64>, AllocError> {
-    let mut samples = Vec::new(alloc);
-    for function in functions {
-        samples.push(function.1)?;
-    }
-    Ok(samples)
-}
-
 /// Prints the call graph of these functions.
-fn print(
+fn print_functions(
     alloc: Global,
     functions: &[Function<'_>],
     calls: &[Calls],
@@ -85,435 +49,201 @@ fn print(
     hidden: &[String],
     host: &mut MemHost,
 ) -> Result<Result<(), ReportRefusal>, AddRefusal> {
-    let names = names_in(alloc, functions)?;
-    let symbols = named_symbols(alloc, names.as_slice())?;
-    let samples = profile_of_samples(alloc, samples_in(alloc, functions)?.as_slice())?;
-    let calls = profile_of_calls(alloc, calls)?;
-    let printed = print_profiles(
-        alloc,
-        symbols.as_slice(),
-        &samples,
-        &calls,
-        rate,
-        hidden,
-        host,
-    )?;
+    let counted = counted_functions(alloc, functions, calls)?;
+    let printed = print(alloc, &counted, rate, hidden, host)?;
     Ok(printed)
+}
+
+/// Prints the text of the exact flow of what was counted; false where a fraction is too wide.
+fn print_exact(alloc: Global, counted: &Counted, host: &mut MemHost) -> Result<bool, AllocError>
+    requires { IsAscending counted.now.symbols }
+{
+    let symbols = counted.symbols.as_slice();
+    let shares = shares(alloc, &counted.samples, symbols)?;
+    let graph = graph(alloc, &counted.calls, symbols)?;
+    match exact(alloc, &graph, &shares) {
+        Ok(times) => Ok(write_exact(symbols, &graph, &times, shares.attributed(), host).is_ok()),
+        Err(_) => Ok(false),
+    }
+}
+
+/// The two lines above all entries.
+const HEADER: &str =
+    "call graph\nindex     %time        self    children                called  name\n";
+
+fn push_line(text: &mut Vec<u8>, line: &str) -> Result<(), AllocError> {
+    text.extend_from_slice(line.as_bytes())?;
+    text.push(b'\n')?;
+    Ok(())
 }
 
 /// The text with these lines.
 fn text(alloc: Global, lines: &[&str]) -> Result<Vec<u8>, AllocError> {
-    let mut text = Vec::new(alloc);
-    text.extend_from_slice(
-        b"call graph\nindex     %time        self    children                called  name\n",
-    )?;
+    let mut text = Vec::from_slice(alloc, HEADER.as_bytes())?;
     for line in lines {
-        text.extend_from_slice(line.as_bytes())?;
-        text.push(b'\n')?;
+        push_line(&mut text, line)?;
     }
     Ok(text)
 }
 
-/// What stands below each entry.
-const RULE: &str = "------------------------------------------------------------------------";
+/// The report was printed, with this text.
+fn expect_text(
+    rt: &impl Abort,
+    message: &str,
+    answer: Result<(), ReportRefusal>,
+    printed: &[u8],
+    want: &[u8],
+) {
+    assert_eq!(rt; answer, Ok(()), "{message}");
+    assert_eq!(rt; printed, want, "{message}");
+}
 
-/// What stands in place of callers.
-const SPONTANEOUS: &str =
-    "                                                                   <spontaneous>";
-
-/// Three functions, of which the last two call each other, and the last itself too.
-const THREE: [Function<'static>; 3] = [("main", 1), ("a", 2), ("b", 3)];
-
-const THREE_CALLS: [Calls; 4] = [(0, 1, 1), (1, 2, 5), (2, 1, 4), (2, 2, 2)];
-
-const THREE_LINES: [&str; 18] = [
-    SPONTANEOUS,
-    "[1]      100.00        0.01        0.05                        main [1]",
-    "                       0.05        0.00                   1/1      a <cycle 1> [4]",
-    RULE,
-    "                       0.05        0.00                   1/1      main [1]",
-    "[2]       83.33        0.05        0.00                   1+9  <cycle 1 as a whole> [2]",
-    "                       0.02        0.00                     5      a <cycle 1> [4]",
-    "                       0.03        0.00                   5+2      b <cycle 1> [3]",
-    RULE,
-    "                                                            5      a <cycle 1> [4]",
-    "[3]       50.00        0.03        0.00                   5+2  b <cycle 1> [3]",
-    "                                                            4      a <cycle 1> [4]",
-    RULE,
-    "                       0.05        0.00                   1/1      main [1]",
-    "                                                            4      b <cycle 1> [3]",
-    "[4]       33.33        0.02        0.00                     5  a <cycle 1> [4]",
-    "                                                            5      b <cycle 1> [3]",
-    RULE,
-];
-
-/// A message, functions, calls, a rate, and the lines that are printed.
-type Row = (
-    &'static str,
-    &'static [Function<'static>],
-    &'static [Calls],
-    u32,
-    &'static [&'static str],
-);
+/// The report of a row has its lines.
+fn expect_row(
+    rt: &impl Abort,
+    alloc: Global,
+    row: Row<'_>,
+    hidden: &[String],
+) -> Result<(), AddRefusal> {
+    let (message, functions, calls, rate, lines) = row;
+    let mut host = MemHost::new(alloc);
+    let answer = print_functions(alloc, functions, calls, rate, hidden, &mut host)?;
+    let want = text(alloc, lines)?;
+    expect_text(rt, message, answer, host.printed(), want.as_slice());
+    Ok(())
+}
 
 #[test]
 fn entries_of_functions_and_cycles(rt: HostRuntime) -> Result<(), Fail> {
-    let rows: [Row; 13] = [
-        (
-            "a cycle of two, and a function of it that calls itself",
-            &THREE,
-            &THREE_CALLS,
-            100,
-            &THREE_LINES,
-        ),
-        (
-            "the same, where the calls of the first by the last are cut",
-            &THREE,
-            &[(0, 1, 1), (1, 2, 5), (2, 2, 2)],
-            100,
-            &[
-                SPONTANEOUS,
-                "[1]      100.00        0.01        0.05                        main [1]",
-                "                       0.02        0.03                   1/1      a [2]",
-                RULE,
-                "                       0.02        0.03                   1/1      main [1]",
-                "[2]       83.33        0.02        0.03                     1  a [2]",
-                "                       0.03        0.00                   5/5      b [3]",
-                RULE,
-                "                       0.03        0.00                   5/5      a [2]",
-                "[3]       50.00        0.03        0.00                   5+2  b [3]",
-                RULE,
-            ],
-        ),
-        (
-            "a cycle without callers",
-            &[("a", 1), ("b", 2)],
-            &[(0, 1, 3), (1, 0, 4)],
-            100,
-            &[
-                SPONTANEOUS,
-                "[1]      100.00        0.03        0.00                   0+7  <cycle 1 as a whole> [1]",
-                "                       0.01        0.00                     4      a <cycle 1> [3]",
-                "                       0.02        0.00                     3      b <cycle 1> [2]",
-                RULE,
-                "                                                            3      a <cycle 1> [3]",
-                "[2]       66.67        0.02        0.00                     3  b <cycle 1> [2]",
-                "                                                            4      a <cycle 1> [3]",
-                RULE,
-                "                                                            4      b <cycle 1> [2]",
-                "[3]       33.33        0.01        0.00                     4  a <cycle 1> [3]",
-                "                                                            3      b <cycle 1> [2]",
-                RULE,
-            ],
-        ),
-        (
-            "a function that is called by itself alone",
-            &[("f", 1)],
-            &[(0, 0, 3)],
-            100,
-            &[
-                SPONTANEOUS,
-                "[1]      100.00        0.01        0.00                   0+3  f [1]",
-                RULE,
-            ],
-        ),
-        (
-            "two functions of one name",
-            &[("f", 1), ("f", 1), ("main", 0)],
-            &[(2, 0, 1), (2, 1, 2)],
-            100,
-            &[
-                SPONTANEOUS,
-                "[1]      100.00        0.00        0.02                        main [1]",
-                "                       0.01        0.00                   1/1      f [2]",
-                "                       0.01        0.00                   2/2      f [3]",
-                RULE,
-                "                       0.01        0.00                   1/1      main [1]",
-                "[2]       50.00        0.01        0.00                     1  f [2]",
-                RULE,
-                "                       0.01        0.00                   2/2      main [1]",
-                "[3]       50.00        0.01        0.00                     2  f [3]",
-                RULE,
-            ],
-        ),
-        (
-            "equal totals are ordered by the bytes of the names",
-            &[("b", 1), ("a", 1), ("B", 1)],
-            &[],
-            100,
-            &[
-                SPONTANEOUS,
-                "[1]       33.33        0.01        0.00                        B [1]",
-                RULE,
-                SPONTANEOUS,
-                "[2]       33.33        0.01        0.00                        a [2]",
-                RULE,
-                SPONTANEOUS,
-                "[3]       33.33        0.01        0.00                        b [3]",
-                RULE,
-            ],
-        ),
-        (
-            "a function that took no time and is called, and one that isn't called",
-            &[("main", 1), ("idle", 0), ("gone", 0)],
-            &[(0, 1, 2)],
-            1,
-            &[
-                SPONTANEOUS,
-                "[1]      100.00        1.00        0.00                        main [1]",
-                "                       0.00        0.00                   2/2      idle [2]",
-                RULE,
-                "                       0.00        0.00                   2/2      main [1]",
-                "[2]        0.00        0.00        0.00                     2  idle [2]",
-                RULE,
-            ],
-        ),
-        (
-            "calls without samples",
-            &[("a", 0), ("b", 0)],
-            &[(0, 1, 1)],
-            100,
-            &[
-                SPONTANEOUS,
-                "[1]        0.00        0.00        0.00                        a [1]",
-                "                       0.00        0.00                   1/1      b [2]",
-                RULE,
-                "                       0.00        0.00                   1/1      a [1]",
-                "[2]        0.00        0.00        0.00                     1  b [2]",
-                RULE,
-            ],
-        ),
-        (
-            "no samples and no calls",
-            &[("a", 0), ("b", 0)],
-            &[],
-            100,
-            &[],
-        ),
-        ("no functions", &[], &[], 100, &[]),
-        (
-            "callers by address, and the calls of all of them",
-            &[("y", 0), ("x", 0), ("d", 4)],
-            &[(0, 2, 1), (1, 2, 3)],
-            100,
-            &[
-                "                       0.01        0.00                   1/4      y [3]",
-                "                       0.03        0.00                   3/4      x [2]",
-                "[1]      100.00        0.04        0.00                     4  d [1]",
-                RULE,
-                SPONTANEOUS,
-                "[2]       75.00        0.00        0.03                        x [2]",
-                "                       0.03        0.00                   3/4      d [1]",
-                RULE,
-                SPONTANEOUS,
-                "[3]       25.00        0.00        0.01                        y [3]",
-                "                       0.01        0.00                   1/4      d [1]",
-                RULE,
-            ],
-        ),
-        (
-            "a cycle stands before its head of the same name and total",
-            &[("<cycle 1 as a whole>", 1), ("b", 0)],
-            &[(0, 1, 1), (1, 0, 1)],
-            100,
-            &[
-                SPONTANEOUS,
-                "[1]      100.00        0.01        0.00                   0+2  <cycle 1 as a whole> [1]",
-                "                       0.01        0.00                     1      <cycle 1 as a whole> <cycle 1> [2]",
-                "                       0.00        0.00                     1      b <cycle 1> [3]",
-                RULE,
-                "                                                            1      b <cycle 1> [3]",
-                "[2]      100.00        0.01        0.00                     1  <cycle 1 as a whole> <cycle 1> [2]",
-                "                                                            1      b <cycle 1> [3]",
-                RULE,
-                "                                                            1      <cycle 1 as a whole> <cycle 1> [2]",
-                "[3]        0.00        0.00        0.00                     1  b <cycle 1> [3]",
-                "                                                            1      <cycle 1 as a whole> <cycle 1> [2]",
-                RULE,
-            ],
-        ),
-        (
-            "three cycles, each calling the next, numbered by their heads",
-            &[("p", 1), ("q", 0), ("r", 2), ("s", 0), ("t", 0), ("u", 1)],
-            &[
-                (0, 5, 1),
-                (5, 0, 2),
-                (1, 4, 3),
-                (4, 1, 4),
-                (2, 3, 5),
-                (3, 2, 6),
-                (0, 1, 7),
-                (1, 2, 8),
-            ],
-            100,
-            &[
-                SPONTANEOUS,
-                "[1]      100.00        0.02        0.02                   0+3  <cycle 1 as a whole> [1]",
-                "                       0.01        0.02                     2      p <cycle 1> [2]",
-                "                       0.01        0.00                     1      u <cycle 1> [7]",
-                RULE,
-                "                                                            2      u <cycle 1> [7]",
-                "[2]       75.00        0.01        0.02                     2  p <cycle 1> [2]",
-                "                       0.00        0.02                   7/7      q <cycle 2> [5]",
-                "                                                            1      u <cycle 1> [7]",
-                RULE,
-                "                       0.00        0.02                   7/7      p <cycle 1> [2]",
-                "[3]       50.00        0.00        0.02                   7+7  <cycle 2 as a whole> [3]",
-                "                       0.00        0.02                    11      q <cycle 2> [5]",
-                "                       0.00        0.00                     3      t <cycle 2> [9]",
-                RULE,
-                "                       0.02        0.00                   8/8      q <cycle 2> [5]",
-                "[4]       50.00        0.02        0.00                  8+11  <cycle 3 as a whole> [4]",
-                "                       0.02        0.00                    14      r <cycle 3> [6]",
-                "                       0.00        0.00                     5      s <cycle 3> [8]",
-                RULE,
-                "                       0.00        0.02                   7/7      p <cycle 1> [2]",
-                "                                                            4      t <cycle 2> [9]",
-                "[5]       50.00        0.00        0.02                    11  q <cycle 2> [5]",
-                "                       0.02        0.00                   8/8      r <cycle 3> [6]",
-                "                                                            3      t <cycle 2> [9]",
-                RULE,
-                "                       0.02        0.00                   8/8      q <cycle 2> [5]",
-                "                                                            6      s <cycle 3> [8]",
-                "[6]       50.00        0.02        0.00                    14  r <cycle 3> [6]",
-                "                                                            5      s <cycle 3> [8]",
-                RULE,
-                "                                                            1      p <cycle 1> [2]",
-                "[7]       25.00        0.01        0.00                     1  u <cycle 1> [7]",
-                "                                                            2      p <cycle 1> [2]",
-                RULE,
-                "                                                            5      r <cycle 3> [6]",
-                "[8]        0.00        0.00        0.00                     5  s <cycle 3> [8]",
-                "                                                            6      r <cycle 3> [6]",
-                RULE,
-                "                                                            3      q <cycle 2> [5]",
-                "[9]        0.00        0.00        0.00                     3  t <cycle 2> [9]",
-                "                                                            4      q <cycle 2> [5]",
-                RULE,
-            ],
-        ),
-    ];
-    for (message, functions, calls, rate, lines) in rows {
-        let mut host = MemHost::new(rt.alloc());
-        assert_eq!(rt;
-            print(rt.alloc(), functions, calls, rate, &[], &mut host)?,
-            Ok(()),
-            "{message}"
-        );
-        let want = text(rt.alloc(), lines)?;
-        assert_eq!(rt; host.printed(), want.as_slice(), "{message}");
+    for row in &ROWS {
+        expect_row(&rt, rt.alloc(), *row, &[])?;
     }
     Ok(())
 }
 
-/// These names, as they are given.
-fn names_of(alloc: Global, names: &[&str]) -> Result<Vec<String>, AllocError> {
-    let mut given = Vec::new(alloc);
-    for name in names {
-        given.push(String::from_str(alloc, name)?)?;
+/// `THREE_LINES` without some.
+fn lines_without(alloc: Global, gone: &[usize]) -> Result<Vec<&'static str>, AllocError> {
+    let mut lines = Vec::new(alloc);
+    for (i, line) in THREE_LINES.iter().enumerate() {
+        if !gone.contains(&i) {
+            lines.push(*line)?;
+        }
     }
-    Ok(given)
+    Ok(lines)
 }
 
-/// A message, hidden names, and which of `THREE_LINES` aren't printed then.
-type HiddenRow = (&'static str, &'static [&'static str], &'static [usize]);
+/// The report of `THREE` without hidden functions has these lines.
+fn expect_hidden(rt: &impl Abort, alloc: Global, row: HiddenRow) -> Result<(), AddRefusal> {
+    let (message, hidden, gone) = row;
+    let hidden = strings_of(alloc, hidden)?;
+    let lines = lines_without(alloc, gone)?;
+    let row = (
+        message,
+        THREE.as_slice(),
+        THREE_CALLS.as_slice(),
+        100,
+        lines.as_slice(),
+    );
+    expect_row(rt, alloc, row, &hidden)
+}
 
 #[test]
 fn hidden_functions_have_no_entry(rt: HostRuntime) -> Result<(), Fail> {
-    let rows: [HiddenRow; 5] = [
-        (
-            "numbers and lines in other entries stay",
-            &["b"],
-            &[9, 10, 11, 12],
-        ),
-        (
-            "the first and the last entry",
-            &["a", "main"],
-            &[0, 1, 2, 3, 13, 14, 15, 16, 17],
-        ),
-        (
-            "all functions, and not the cycle",
-            &["b", "a", "main", "<cycle 1 as a whole>", "<cycle 1>"],
-            &[0, 1, 2, 3, 9, 10, 11, 12, 13, 14, 15, 16, 17],
-        ),
-        (
-            "names that no function has",
-            &["mai", "main [1]", "", "b <cycle 1>", "A"],
-            &[],
-        ),
-        ("no names", &[], &[]),
-    ];
-    for (message, hidden, gone) in rows {
-        let mut host = MemHost::new(rt.alloc());
-        let hidden = names_of(rt.alloc(), hidden)?;
-        assert_eq!(rt;
-            print(rt.alloc(), &THREE, &THREE_CALLS, 100, &hidden, &mut host)?,
-            Ok(()),
-            "{message}"
-        );
-        let mut lines = Vec::new(rt.alloc());
-        for (i, line) in THREE_LINES.iter().enumerate() {
-            if !gone.contains(&i) {
-                lines.push(*line)?;
-            }
-        }
-        let want = text(rt.alloc(), lines.as_slice())?;
-        assert_eq!(rt; host.printed(), want.as_slice(), "{message}");
+    for row in &HIDDEN_ROWS {
+        expect_hidden(&rt, rt.alloc(), *row)?;
     }
     Ok(())
 }
 
-/// A function with the name that the cycle has as a whole, and another function of one name with `main`.
 #[test]
 fn hidden_names_are_those_of_functions(rt: HostRuntime) -> Result<(), Fail> {
-    let functions = [("b", 1), ("<cycle 1 as a whole>", 2), ("b", 3)];
-    let mut host = MemHost::new(rt.alloc());
-    let hidden = names_of(rt.alloc(), &["<cycle 1 as a whole>", "b"])?;
-    assert_eq!(rt;
-        print(
-            rt.alloc(),
-            &functions,
-            &THREE_CALLS,
-            100,
-            &hidden,
-            &mut host
-        )?,
-        Ok(())
-    );
-    let want = text(
-        rt.alloc(),
-        &[
-            "                       0.05        0.00                   1/1      b [1]",
-            "[2]       83.33        0.05        0.00                   1+9  <cycle 1 as a whole> [2]",
-            "                       0.02        0.00                     5      <cycle 1 as a whole> <cycle 1> [4]",
-            "                       0.03        0.00                   5+2      b <cycle 1> [3]",
-            RULE,
-        ],
-    )?;
-    assert_eq!(rt; host.printed(), want.as_slice());
+    let hidden = strings_of(rt.alloc(), &["<cycle 1 as a whole>", "b"])?;
+    expect_row(&rt, rt.alloc(), NAMED_AS_A_CYCLE, &hidden)?;
     Ok(())
+}
+
+/// A name of 4,095 letters.
+fn long_name(alloc: Global) -> Result<String, AllocError> {
+    let mut name = String::new(alloc);
+    for _ in 0..4095 {
+        name.push('x')?;
+    }
+    Ok(name)
+}
+
+/// The line of a function of this name, which is the only one.
+fn line_of(alloc: Global, name: &str) -> Result<String, AllocError> {
+    format!(in alloc; "[1]      100.00        0.01        0.00                        {name} [1]")
 }
 
 #[test]
 fn a_long_name_is_printed_whole(rt: HostRuntime) -> Result<(), Fail> {
-    let mut name = String::new(rt.alloc());
-    for _ in 0..4095 {
-        name.push('x')?;
-    }
-    let mut line = String::from_str(
-        rt.alloc(),
-        "[1]      100.00        0.01        0.00                        ",
-    )?;
-    line.push_str(name.as_str())?;
-    line.push_str(" [1]")?;
-    let mut host = MemHost::new(rt.alloc());
+    let name = long_name(rt.alloc())?;
+    let line = line_of(rt.alloc(), name.as_str())?;
     let functions = [(name.as_str(), 1)];
-    assert_eq!(rt;
-        print(rt.alloc(), &functions, &[], 100, &[], &mut host)?,
-        Ok(())
+    let lines = [SPONTANEOUS, line.as_str(), RULE];
+    let row = (
+        "a long name",
+        functions.as_slice(),
+        [].as_slice(),
+        100,
+        lines.as_slice(),
     );
-    let want = text(rt.alloc(), &[SPONTANEOUS, line.as_str(), RULE])?;
-    assert_eq!(rt; host.printed(), want.as_slice());
+    expect_row(&rt, rt.alloc(), row, &[])?;
+    Ok(())
+}
+
+/// A call failed, and the first bytes of the text are printed, so many.
+fn expect_part(
+    rt: &impl Abort,
+    message: &str,
+    answer: Result<(), ReportRefusal>,
+    host: &MemHost,
+    want: &[u8],
+    len: u64,
+) {
+    assert_eq!(rt; answer, Err(ReportRefusal::WriteFault), "{message}");
+    assert_eq!(rt; host.first_failed(), Some(HostCall::Out), "{message}");
+    assert_eq!(rt; host.printed().len() as u64, len, "{message}");
+    assert!(rt; want.starts_with(host.printed()), "{message}");
+}
+
+/// A host that takes 50 bytes at a time, and on which this call fails.
+fn failing_host(alloc: Global, call: u64) -> Result<MemHost, AllocError> {
+    let mut host = MemHost::new(alloc);
+    host.set_step(50);
+    host.fail_at(call)?;
+    Ok(host)
+}
+
+/// The report of three functions, where a call fails.
+fn expect_failed(
+    rt: &impl Abort,
+    alloc: Global,
+    three: &Counted,
+    want: &[u8],
+    call: u64,
+) -> Result<(), AllocError>
+    requires call { call ≤ 32 }
+    requires three { IsAscending three.now.symbols }
+{
+    let message = format!(in alloc; "call {call}")?;
+    let mut host = failing_host(alloc, call)?;
+    let answer = print(alloc, three, 100, &[], &mut host)?;
+    if call < 31 {
+        expect_part(rt, message.as_str(), answer, &host, want, 50 * call);
+    } else {
+        expect_text(rt, message.as_str(), answer, host.printed(), want);
+    }
+    Ok(())
+}
+
+/// The same, where each call fails in turn.
+fn expect_each_failed(rt: &impl Abort, alloc: Global, want: &[u8]) -> Result<(), AddRefusal> {
+    let three = counted_functions(alloc, &THREE, &THREE_CALLS)?;
+    for call in 0..33 {
+        expect_failed(rt, alloc, &three, want, call)?;
+    }
     Ok(())
 }
 
@@ -521,21 +251,7 @@ fn a_long_name_is_printed_whole(rt: HostRuntime) -> Result<(), Fail> {
 fn a_failed_call_leaves_a_part_that_is_not_the_whole(rt: HostRuntime) -> Result<(), Fail> {
     let want = text(rt.alloc(), &THREE_LINES)?;
     assert_eq!(rt; want.len(), 1503);
-    for call in 0..33 {
-        let mut host = MemHost::new(rt.alloc());
-        host.set_step(50);
-        host.fail_at(call)?;
-        let result = print(rt.alloc(), &THREE, &THREE_CALLS, 100, &[], &mut host)?;
-        if call < 31 {
-            assert_eq!(rt; result, Err(ReportRefusal::WriteFault), "call {call}");
-            assert_eq!(rt; host.first_failed(), Some(HostCall::Out), "call {call}");
-            assert_eq!(rt; host.printed().len() as u64, 50 * call, "call {call}");
-            assert!(rt; want.as_slice().starts_with(host.printed()), "call {call}");
-        } else {
-            assert_eq!(rt; result, Ok(()), "call {call}");
-            assert_eq!(rt; host.printed(), want.as_slice(), "call {call}");
-        }
-    }
+    expect_each_failed(&rt, rt.alloc(), want.as_slice())?;
     Ok(())
 }
 
@@ -544,130 +260,215 @@ fn a_short_report_makes_one_call(rt: HostRuntime) -> Result<(), Fail> {
     let want = text(rt.alloc(), &THREE_LINES)?;
     let mut host = MemHost::new(rt.alloc());
     host.fail_at(1)?;
-    assert_eq!(rt;
-        print(rt.alloc(), &THREE, &THREE_CALLS, 100, &[], &mut host)?,
-        Ok(())
-    );
-    assert_eq!(rt; host.printed(), want.as_slice());
+    let answer = print_functions(rt.alloc(), &THREE, &THREE_CALLS, 100, &[], &mut host)?;
+    expect_text(&rt, "one call", answer, host.printed(), want.as_slice());
     Ok(())
 }
 
-/// What a row shows, samples, calls, and the text of the exact flow.
-type ExactRow = (
-    &'static str,
-    &'static [u64],
-    &'static [Calls],
-    &'static [u8],
-);
+/// The exact text was printed.
+fn expect_exact_text(rt: &impl Abort, message: &str, exact: bool, printed: &[u8], want: &[u8]) {
+    assert!(rt; exact, "{message}");
+    assert_eq!(rt; printed, want, "{message}");
+}
+
+/// The exact flow of a row has its text.
+fn expect_exact(rt: &impl Abort, alloc: Global, row: ExactRow) -> Result<(), AddRefusal> {
+    let (message, functions, calls, want) = row;
+    let counted = counted_functions(alloc, functions, calls)?;
+    let mut host = MemHost::new(alloc);
+    let exact = print_exact(alloc, &counted, &mut host)?;
+    expect_exact_text(rt, message, exact, host.printed(), want);
+    Ok(())
+}
 
 #[test]
 fn exact_times(rt: HostRuntime) -> Result<(), Fail> {
-    let rows: [ExactRow; 4] = [
-        (
-            "a caller and its callee",
-            &[1, 5],
-            &[(0, 1, 3)],
-            b"exact flow\ncomponent 00010010 self 5000000 child 0/1\ncomponent 00010000 self 1000000 child 5000000/1\narc 00010000 00010010 self 5000000/1 child 0/1\nattributed 6000000\n",
-        ),
-        (
-            "three callers share a sample",
-            &[0, 0, 0, 1],
-            &[(0, 3, 1), (1, 3, 1), (2, 3, 1)],
-            b"exact flow\ncomponent 00010030 self 1000000 child 0/1\ncomponent 00010000 self 0 child 1000000/3\narc 00010000 00010030 self 1000000/3 child 0/1\ncomponent 00010010 self 0 child 1000000/3\narc 00010010 00010030 self 1000000/3 child 0/1\ncomponent 00010020 self 0 child 1000000/3\narc 00010020 00010030 self 1000000/3 child 0/1\nattributed 1000000\n",
-        ),
-        (
-            "arcs inside a cycle have no line, those of all its members stand below its head",
-            &[0, 0, 1, 1],
-            &[(0, 1, 1), (1, 0, 1), (0, 2, 1), (1, 2, 2), (1, 3, 1)],
-            b"exact flow\ncomponent 00010020 self 1000000 child 0/1\ncomponent 00010030 self 1000000 child 0/1\ncomponent 00010000 self 0 child 2000000/1\narc 00010000 00010020 self 1000000/3 child 0/1\narc 00010010 00010020 self 2000000/3 child 0/1\narc 00010010 00010030 self 1000000/1 child 0/1\nattributed 2000000\n",
-        ),
-        ("no functions", &[], &[], b"exact flow\nattributed 0\n"),
-    ];
-    for (message, samples, calls, want) in rows {
-        let symbols = symbols_of(rt.alloc(), samples.len().min(65_536) as u32, 16)?;
-        let samples = profile_of_samples(rt.alloc(), samples)?;
-        let calls = profile_of_calls(rt.alloc(), calls)?;
-        let mut host = MemHost::new(rt.alloc());
-        assert!(rt;
-            print_exact(rt.alloc(), symbols.as_slice(), &samples, &calls, &mut host)?,
-            "{message}"
-        );
-        assert_eq!(rt; host.printed(), want, "{message}");
+    for row in &EXACT_ROWS {
+        expect_exact(&rt, rt.alloc(), *row)?;
     }
     Ok(())
 }
 
-/// A chain of 1,200 functions, each of which calls the next one; the last has 3 samples.
+/// A report was printed, with this beginning, this end and this length.
+fn expect_ends(
+    rt: &impl Abort,
+    answer: Result<(), ReportRefusal>,
+    printed: &[u8],
+    first: &[u8],
+    last: &[u8],
+    len: usize,
+) {
+    assert_eq!(rt; answer, Ok(()));
+    assert!(rt; printed.starts_with(first));
+    assert!(rt; printed.ends_with(last));
+    assert_eq!(rt; printed.len(), len);
+}
+
+/// The report of what was counted has this beginning, this end and this length.
+fn expect_long(
+    rt: &impl Abort,
+    alloc: Global,
+    counted: &Counted,
+    rate: u32,
+    first: &[u8],
+    last: &[u8],
+    len: usize,
+) -> Result<(), AllocError>
+    requires { IsAscending counted.now.symbols }
+{
+    let mut host = MemHost::new(alloc);
+    let answer = print(alloc, counted, rate, &[], &mut host)?;
+    expect_ends(rt, answer, host.printed(), first, last, len);
+    Ok(())
+}
+
+/// A function that 35 others call once each. Those have greater addresses and names that fall, and its
+/// 35 samples are shared among them.
+fn many_callers(alloc: Global) -> Result<Counted, AddRefusal>
+    ensures { IfOk result (λ counted. IsAscending counted.symbols) }
+{
+    let symbols = symbols_in_reverse(alloc, 36)?;
+    let calls = calls_of_first(alloc, 35)?;
+    let samples = profile_of_samples(alloc, &[35])?;
+    Ok(Counted {
+        symbols,
+        samples,
+        calls,
+    })
+}
+
+/// The first entry of that report. Callers stand by address, and are numbered by name.
+fn entry_of_many_callers(alloc: Global) -> Result<String, AllocError> {
+    let mut text = String::from_str(alloc, HEADER)?;
+    for name in (0..35u32).rev() {
+        let number = name + 2;
+        write!(
+            &mut text,
+            "                       0.01        0.00                  1/35      {name:04x} [{number}]\n"
+        )?;
+    }
+    text.push_str("[1]      100.00        0.35        0.00                    35  0023 [1]\n")?;
+    text.push_str(RULE)?;
+    Ok(text)
+}
+
+const LAST_CALLER: &[u8] =
+    b"[36]       2.86        0.00        0.01                        0022 [36]\n                       0.01        0.00                  1/35      0023 [1]\n------------------------------------------------------------------------\n";
+
 #[test]
-fn many_functions(rt: HostRuntime) -> Result<(), Fail> {
-    let symbols = symbols_in_reverse(rt.alloc(), 1_200)?;
-    let mut calls = Vec::new(rt.alloc());
+fn callers_of_one_function(rt: HostRuntime) -> Result<(), Fail> {
+    let counted = many_callers(rt.alloc())?;
+    let first = entry_of_many_callers(rt.alloc())?;
+    // The two first lines, 35 callers, 36 own lines, 35 callees, 35 without callers, 36 rules.
+    let len = 79 + 2_687 + 2_619 + 2_660 + 2_835 + 2_628;
+    expect_long(
+        &rt,
+        rt.alloc(),
+        &counted,
+        100,
+        first.as_bytes(),
+        LAST_CALLER,
+        len,
+    )?;
+    Ok(())
+}
+
+/// The calls of functions, of which each calls the next one twice.
+fn chain_calls(alloc: Global) -> Result<Profile, AllocError> {
+    let mut calls = Vec::new(alloc);
     for f in 0..1_199u16 {
         calls.push((f, f + 1, 2))?;
     }
-    let mut samples = vec![in rt.alloc(); 0u64; 1_199]?;
+    profile_of_calls(alloc, calls.as_slice())
+}
+
+/// 3 samples of the last of 1,200 functions.
+fn chain_samples(alloc: Global) -> Result<Profile, AddRefusal> {
+    let mut samples = vec![in alloc; 0u64; 1_199]?;
     samples.push(3)?;
-    let samples = profile_of_samples(rt.alloc(), samples.as_slice())?;
-    let calls = profile_of_calls(rt.alloc(), calls.as_slice())?;
-    let mut host = MemHost::new(rt.alloc());
-    let printed = print_profiles(
-        rt.alloc(),
-        symbols.as_slice(),
-        &samples,
-        &calls,
-        100,
-        &[],
-        &mut host,
-    )?;
-    assert_eq!(rt; printed, Ok(()));
-    let first = text(
-        rt.alloc(),
-        &[
-            "                       0.03        0.00                   2/2      0001 [2]",
-            "[1]      100.00        0.03        0.00                     2  0000 [1]",
-            RULE,
-            "                       0.00        0.03                   2/2      0002 [3]",
-            "[2]      100.00        0.00        0.03                     2  0001 [2]",
-            "                       0.03        0.00                   2/2      0000 [1]",
-            RULE,
-            "                       0.00        0.03                   2/2      0003 [4]",
-        ],
-    )?;
-    assert!(rt; host.printed().starts_with(first.as_slice()));
-    let last =
-        b"[1200]   100.00        0.00        0.03                        04af [1200]\n                       0.00        0.03                   2/2      04ae [1199]\n------------------------------------------------------------------------\n";
-    assert!(rt; host.printed().ends_with(last));
+    profile_of_samples(alloc, samples.as_slice())
+}
+
+/// A chain of 1,200 functions, each of which calls the next one; the last has 3 samples.
+fn chain(alloc: Global) -> Result<Counted, AddRefusal>
+    ensures { IfOk result (λ counted. IsAscending counted.symbols) }
+{
+    let symbols = symbols_in_reverse(alloc, 1_200)?;
+    let calls = chain_calls(alloc)?;
+    let samples = chain_samples(alloc)?;
+    Ok(Counted {
+        symbols,
+        samples,
+        calls,
+    })
+}
+
+const FIRST_OF_THE_CHAIN: [&str; 8] = [
+    "                       0.03        0.00                   2/2      0001 [2]",
+    "[1]      100.00        0.03        0.00                     2  0000 [1]",
+    RULE,
+    "                       0.00        0.03                   2/2      0002 [3]",
+    "[2]      100.00        0.00        0.03                     2  0001 [2]",
+    "                       0.03        0.00                   2/2      0000 [1]",
+    RULE,
+    "                       0.00        0.03                   2/2      0003 [4]",
+];
+
+const LAST_OF_THE_CHAIN: &[u8] =
+    b"[1200]   100.00        0.00        0.03                        04af [1200]\n                       0.00        0.03                   2/2      04ae [1199]\n------------------------------------------------------------------------\n";
+
+#[test]
+fn many_functions(rt: HostRuntime) -> Result<(), Fail> {
+    let counted = chain(rt.alloc())?;
+    let first = text(rt.alloc(), &FIRST_OF_THE_CHAIN)?;
     // The two first lines, 1,200 own lines, 1,199 callers, 1,199 callees, one without callers, 1,200 rules.
     let len = 79 + 88_893 + 93_617 + 93_614 + 81 + 87_600;
-    assert_eq!(rt; host.printed().len(), len);
+    expect_long(
+        &rt,
+        rt.alloc(),
+        &counted,
+        100,
+        first.as_slice(),
+        LAST_OF_THE_CHAIN,
+        len,
+    )?;
+    Ok(())
+}
+
+const LAST_OF_A_LARGE_PROGRAM: &[u8] =
+    b"[65536]    0.00        1.00        0.00                         [65536]\n------------------------------------------------------------------------\n";
+
+/// An exact flow was printed, with so many bytes.
+fn expect_exact_len(rt: &impl Abort, exact: bool, printed: &[u8], len: usize) {
+    assert!(rt; exact);
+    assert_eq!(rt; printed.len(), len);
+}
+
+/// The exact flow of a large program has its length.
+fn expect_large_exact(rt: &impl Abort, alloc: Global, counted: &Counted) -> Result<(), AllocError>
+    requires { IsAscending counted.now.symbols }
+{
+    let mut host = MemHost::new(alloc);
+    let exact = print_exact(alloc, counted, &mut host)?;
+    // `exact flow`, a line for each component, `attributed 65536000000`.
+    expect_exact_len(rt, exact, host.printed(), 11 + 65_536 * 42 + 23);
     Ok(())
 }
 
 #[test]
 fn functions_of_a_large_program(rt: HostRuntime) -> Result<(), Fail> {
-    let samples = even_profile(rt.alloc(), 65_536, 16)?;
-    let symbols = symbols_of(rt.alloc(), 65_536, 16)?;
-    let calls = Profile::new(rt.alloc());
-    let mut host = MemHost::new(rt.alloc());
-    let printed = print_profiles(
-        rt.alloc(),
-        symbols.as_slice(),
-        &samples,
-        &calls,
-        1,
-        &[],
-        &mut host,
-    )?;
-    assert_eq!(rt; printed, Ok(()));
-    let last =
-        b"[65536]    0.00        1.00        0.00                         [65536]\n------------------------------------------------------------------------\n";
-    assert!(rt; host.printed().ends_with(last));
+    let counted = large_program(rt.alloc())?;
     // The two first lines; lines without callers, own lines but for their numbers, rules; the numbers.
     let len = 79 + 65_536 * (81 + 67 + 73) + 316_574;
-    assert_eq!(rt; host.printed().len(), len);
-    let exact = print_exact(rt.alloc(), symbols.as_slice(), &samples, &calls, &mut host)?;
-    assert!(rt; exact);
-    // `exact flow`, a line for each component, `attributed 65536000000`.
-    assert_eq!(rt; host.printed().len(), len + 11 + 65_536 * 42 + 23);
+    expect_long(
+        &rt,
+        rt.alloc(),
+        &counted,
+        1,
+        HEADER.as_bytes(),
+        LAST_OF_A_LARGE_PROGRAM,
+        len,
+    )?;
+    expect_large_exact(&rt, rt.alloc(), &counted)?;
     Ok(())
 }
