@@ -2,7 +2,7 @@
 use Rattle.std.proofs.Common.{◌≡◌, ◌≢◌, ℕ, Bool, true, false, cond, List, [], ◌∷◌, ◌++◌, Option, Some, None, refl, sym, ap, ◌∙◌}
 use Rattle.std.specs.Prelude.{bytes_eq}
 use Rattle.std.proofs.lemmas.Slice.Eq.{bytes_eq-Decides}
-use Rattle.host_port.specs.Act.{Disk, File, content_of, with_file, with_more, disk_after}
+use Rattle.host_port.specs.Act.{Disk, File, file_content, with_file, with_more, disk_after}
 use Rattle.rvgprof.specs.Answer.{file_acts, given_file_acts}
 
 same_name : (name : List ℕ) → bytes_eq name name ≡ true
@@ -16,11 +16,11 @@ not_both a b name is apart = by (bytes_eq a name) refl
     by true e = absurd (apart (sym ((bytes_eq-Decides a b).0 is) ∙ (bytes_eq-Decides a name).0 e))
     by false e = refl
 
-content_first : (name : List ℕ) (f : File) (fs : List File) → bytes_eq f.0 name ≡ true → content_of name (f ∷ fs) ≡ f.1
-content_first name f fs e = ap (λ (b : Bool). cond b f.1 (content_of name fs)) e
+content_first : (name : List ℕ) (f : File) (fs : List File) → bytes_eq f.0 name ≡ true → file_content name (f ∷ fs) ≡ f.1
+content_first name f fs e = ap (λ (b : Bool). cond b f.1 (file_content name fs)) e
 
-content_later : (name : List ℕ) (f : File) (fs : List File) → bytes_eq f.0 name ≡ false → content_of name (f ∷ fs) ≡ content_of name fs
-content_later name f fs e = ap (λ (b : Bool). cond b f.1 (content_of name fs)) e
+content_later : (name : List ℕ) (f : File) (fs : List File) → bytes_eq f.0 name ≡ false → file_content name (f ∷ fs) ≡ file_content name fs
+content_later name f fs e = ap (λ (b : Bool). cond b f.1 (file_content name fs)) e
 
 put_first : (name bytes : List ℕ) (f : File) (fs : List File) → bytes_eq f.0 name ≡ true → with_file name bytes (f ∷ fs) ≡ (f.0, bytes) ∷ fs
 put_first name bytes f fs e = ap (λ (b : Bool). cond b ((f.0, bytes) ∷ fs) (f ∷ with_file name bytes fs)) e
@@ -35,48 +35,48 @@ more_later : (name bytes : List ℕ) (f : File) (fs : List File) → bytes_eq f.
 more_later name bytes f fs e = ap (λ (b : Bool). cond b ((f.0, f.1 ++ bytes) ∷ fs) (f ∷ with_more name bytes fs)) e
 
 -- the file that was made empty and then written
-whole : (name text : List ℕ) (files : List File) → content_of name (with_more name text (with_file name [] files)) ≡ text
+whole : (name text : List ℕ) (files : List File) → file_content name (with_more name text (with_file name [] files)) ≡ text
 whole name text [] =
     let same = same_name name in
-    ap (content_of name) (more_first name text (name, []) [] same) ∙ content_first name (name, text) [] same
+    ap (file_content name) (more_first name text (name, []) [] same) ∙ content_first name (name, text) [] same
 whole name text (f ∷ fs) = by (whole name text fs) (bytes_eq f.0 name) refl
   where
-    by : content_of name (with_more name text (with_file name [] fs)) ≡ text → (b : Bool) → bytes_eq f.0 name ≡ b → content_of name (with_more name text (with_file name [] (f ∷ fs))) ≡ text
+    by : file_content name (with_more name text (with_file name [] fs)) ≡ text → (b : Bool) → bytes_eq f.0 name ≡ b → file_content name (with_more name text (with_file name [] (f ∷ fs))) ≡ text
     by rest true e =
-        ap (λ (files : List File). content_of name (with_more name text files)) (put_first name [] f fs e) ∙ ap (content_of name) (more_first name text (f.0, []) fs e)
+        ap (λ (files : List File). file_content name (with_more name text files)) (put_first name [] f fs e) ∙ ap (file_content name) (more_first name text (f.0, []) fs e)
         ∙ content_first name (f.0, text) fs e
     by rest false e =
         let others = with_file name [] fs in
-        ap (λ (files : List File). content_of name (with_more name text files)) (put_later name [] f fs e) ∙ ap (content_of name) (more_later name text f others e)
+        ap (λ (files : List File). file_content name (with_more name text files)) (put_later name [] f fs e) ∙ ap (file_content name) (more_later name text f others e)
         ∙ content_later name f (with_more name text others) e ∙ rest
 
 -- the other files stay
 module _ (name other : List ℕ) (apart : other ≢ name) where
-  stays_put : (bytes : List ℕ) (files : List File) → content_of name (with_file other bytes files) ≡ content_of name files
+  stays_put : (bytes : List ℕ) (files : List File) → file_content name (with_file other bytes files) ≡ file_content name files
   stays_put bytes [] = content_later name (other, bytes) [] (not_both other other name (same_name other) apart)
   stays_put bytes (f ∷ fs) = by (stays_put bytes fs) (bytes_eq f.0 other) refl
     where
-      by : content_of name (with_file other bytes fs) ≡ content_of name fs → (b : Bool) → bytes_eq f.0 other ≡ b → content_of name (with_file other bytes (f ∷ fs)) ≡ content_of name (f ∷ fs)
+      by : file_content name (with_file other bytes fs) ≡ file_content name fs → (b : Bool) → bytes_eq f.0 other ≡ b → file_content name (with_file other bytes (f ∷ fs)) ≡ file_content name (f ∷ fs)
       by rest true e =
           let not_it = not_both f.0 other name e apart in
-          ap (content_of name) (put_first other bytes f fs e) ∙ content_later name (f.0, bytes) fs not_it ∙ sym (content_later name f fs not_it)
-      by rest false e = ap (content_of name) (put_later other bytes f fs e) ∙ ap (λ (c : List ℕ). cond (bytes_eq f.0 name) f.1 c) rest
+          ap (file_content name) (put_first other bytes f fs e) ∙ content_later name (f.0, bytes) fs not_it ∙ sym (content_later name f fs not_it)
+      by rest false e = ap (file_content name) (put_later other bytes f fs e) ∙ ap (λ (c : List ℕ). cond (bytes_eq f.0 name) f.1 c) rest
 
-  stays_more : (bytes : List ℕ) (files : List File) → content_of name (with_more other bytes files) ≡ content_of name files
+  stays_more : (bytes : List ℕ) (files : List File) → file_content name (with_more other bytes files) ≡ file_content name files
   stays_more bytes [] = refl
   stays_more bytes (f ∷ fs) = by (stays_more bytes fs) (bytes_eq f.0 other) refl
     where
-      by : content_of name (with_more other bytes fs) ≡ content_of name fs → (b : Bool) → bytes_eq f.0 other ≡ b → content_of name (with_more other bytes (f ∷ fs)) ≡ content_of name (f ∷ fs)
+      by : file_content name (with_more other bytes fs) ≡ file_content name fs → (b : Bool) → bytes_eq f.0 other ≡ b → file_content name (with_more other bytes (f ∷ fs)) ≡ file_content name (f ∷ fs)
       by rest true e =
           let not_it = not_both f.0 other name e apart in
-          ap (content_of name) (more_first other bytes f fs e) ∙ content_later name (f.0, f.1 ++ bytes) fs not_it ∙ sym (content_later name f fs not_it)
-      by rest false e = ap (content_of name) (more_later other bytes f fs e) ∙ ap (λ (c : List ℕ). cond (bytes_eq f.0 name) f.1 c) rest
+          ap (file_content name) (more_first other bytes f fs e) ∙ content_later name (f.0, f.1 ++ bytes) fs not_it ∙ sym (content_later name f fs not_it)
+      by rest false e = ap (file_content name) (more_later other bytes f fs e) ∙ ap (λ (c : List ℕ). cond (bytes_eq f.0 name) f.1 c) rest
 
-pub file_written : (name text : List ℕ) (d : Disk) → content_of name (disk_after (file_acts name text) d).files ≡ text
+pub file_written : (name text : List ℕ) (d : Disk) → file_content name (disk_after (file_acts name text) d).files ≡ text
 file_written name text d = whole name text d.files
 
 -- and a file of another name that is perhaps written then
-pub file_stays : (name bytes : List ℕ) (other : Option (List ℕ)) (d : Disk) → other ≢ Some name → content_of name (disk_after (given_file_acts other bytes) d).files ≡ content_of name d.files
+pub file_stays : (name bytes : List ℕ) (other : Option (List ℕ)) (d : Disk) → other ≢ Some name → file_content name (disk_after (given_file_acts other bytes) d).files ≡ file_content name d.files
 file_stays name bytes None d apart = refl
 file_stays name bytes (Some file) d apart =
     let differs : file ≢ name = λ same. apart (ap (λ (x : List ℕ). Some x) same) in

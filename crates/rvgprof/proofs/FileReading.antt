@@ -6,7 +6,7 @@ use Rattle.std.proofs.lemmas.Slice.Eq.{bytes_eq-Decides}
 use Rattle.std.proofs.lemmas.List.{take-append-le, take-append-drop}
 use Rattle.gp_base.specs.declared.records.Form.{Form}
 use Rattle.gp_base.specs.declared.records.Form.TheVariants.{Bsd, Gnu}
-use Rattle.host_port.specs.Act.{Disk, content_of}
+use Rattle.host_port.specs.Act.{Disk, file_content}
 use Rattle.host_port.specs.Outside.{Outside, IsConsistent, Becomes, Did, KeepsCounts, opening}
 use Rattle.host_port.specs.Host.{Came}
 use Rattle.host_port.specs.Load.{Loads}
@@ -71,7 +71,7 @@ joins_more name bytes buf n (Some d') (Some d) (Some r') (Some r) disk rest came
     ∙ (λ i. bytes ++ (came.bytes i ++ sym r_is i))
     ∙ ap (λ (v : List ℕ). bytes ++ v) (take-append-drop n r')
     ∙ joins
-    ∙ ap (λ (x : Disk). content_of name x.files) d_is
+    ∙ ap (λ (x : Disk). file_content name x.files) d_is
 
 pub loading_more : (name : List ℕ) (limit n : ℕ) (bytes before buf : List ℕ) (old mid new : Outside) → Loading name limit bytes old mid → Did [] mid new → new.is_open ≡ true → KeepsCounts mid new
     → IfSome mid.rest (λ rest. Came n rest buf) → Becomes (drop n) mid.rest new.rest → length bytes + n ≤ limit → Loading name limit (bytes ++ take n buf) old new
@@ -84,12 +84,12 @@ loading_more name limit n bytes before buf old mid new far did open_still counts
 }
 
 longer : (name bytes buf : List ℕ) (limit n : ℕ) (d0 d1 : Option Disk) (r0 : Option (List ℕ)) → is_some r0 ≡ is_some d0 → Becomes (λ d. d) d0 d1 → IfSome r0 (λ rest. Came n rest buf) → Joins name bytes d0 r0 → limit < length bytes + n
-    → IfSome d1 (λ d. limit < length (content_of name d.files))
+    → IfSome d1 (λ d. limit < length (file_content name d.files))
 longer name bytes buf limit n d0 None r0 told disk came joins long = tt
 longer name bytes buf limit n None (Some d) r0 told disk came joins long = absurd cc
 longer name bytes buf limit n (Some d') (Some d) None told disk came joins long = absurd cc
 longer name bytes buf limit n (Some d') (Some d) (Some r') told disk came joins long =
-    let whole : length bytes + length r' ≡ length (content_of name d.files) = sym (length-append bytes r') ∙ ap length (joins ∙ ap (λ (x : Disk). content_of name x.files) (same_some d' d disk)) in
+    let whole : length bytes + length r' ≡ length (file_content name d.files) = sym (length-append bytes r') ∙ ap length (joins ∙ ap (λ (x : Disk). file_content name x.files) (same_some d' d disk)) in
     omega (arith, whole, came.available, long)
 
 pub loading_long : (name : List ℕ) (limit n : ℕ) (bytes buf : List ℕ) (old mid new : Outside) → Loading name limit bytes old mid → IsConsistent mid → Did [] mid new → KeepsCounts mid new

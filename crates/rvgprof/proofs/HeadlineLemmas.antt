@@ -13,13 +13,13 @@ use Rattle.elf32_syms.specs.Refusals.{elf_refusal}
 use Rattle.elf32_syms.specs.Image.{image_of}
 use Rattle.gmon_block.specs.Layout.{layout_of}
 use Rattle.gmon_data.specs.Content.{Content, WideRec, conflict_of, empty_content, runs_at, wide_records}
-use Rattle.gmon_data.specs.Content.{content_of as content_in}
+use Rattle.gmon_data.specs.Content.{content_of}
 use Rattle.gmon_data.specs.declared.refusal.Unlike.{Unlike as Difference}
 use Rattle.profile_sum.specs.Sum.{sum_of, clash_of}
 use Rattle.profile_sum.proofs.ContentLemmas.{content_sum}
 use Rattle.mcount_arcs.specs.declared.sizes.Sizes.{Sizes}
 use Rattle.prof_machine.specs.World.{World}
-use Rattle.host_port.specs.Act.{Act, Disk, Out, complained, content_of, disk_after}
+use Rattle.host_port.specs.Act.{Act, Disk, Out, complained, file_content, disk_after}
 use Rattle.annotate.specs.Listing.{annotated_text}
 use Rattle.host_port.specs.Act.{printed as prints_of, Err as Complain}
 use Rattle.host_port.specs.Outside.{Outside, Becomes, Did, opening}
@@ -126,17 +126,17 @@ module _ (contents : ℕ → List ℕ) where
   abbrev all_records : List ℕ → List WideRec
   all_records words = flat_map (λ word. records_of (contents word)) words
 
-  total_more : (earlier : List ℕ) (word : ℕ) (total : Content) → total ≡ content_in (all_records earlier) → sum_of total (profile_in (file_records (contents word))) ≡ content_in (all_records (earlier ++ word ∷ []))
+  total_more : (earlier : List ℕ) (word : ℕ) (total : Content) → total ≡ content_of (all_records earlier) → sum_of total (profile_in (file_records (contents word))) ≡ content_of (all_records (earlier ++ word ∷ []))
   total_more earlier word total is =
       let here = records_of (contents word) in
       let front : all_records earlier ++ here ≡ all_records (earlier ++ word ∷ []) =
       ap (λ (recs : List WideRec). all_records earlier ++ recs) (sym (append-nil here)) ∙ sym (flat_map-append (λ w. records_of (contents w)) earlier (word ∷ [])) in
-      ap (λ (t : Content). sum_of t (content_in here)) is ∙ content_sum (all_records earlier) here ∙ ap content_in front
+      ap (λ (t : Content). sum_of t (content_of here)) is ∙ content_sum (all_records earlier) here ∙ ap content_of front
 
-  profiles_go : (earlier words : List ℕ) (left : ℕ) (total : Content) (next : Content → Course) → total ≡ content_in (all_records earlier)
-      → IsDone (profiles words left total next) → reply_to contents (profiles words left total next) ≡ reply_to contents (next (content_in (all_records (earlier ++ words))))
+  profiles_go : (earlier words : List ℕ) (left : ℕ) (total : Content) (next : Content → Course) → total ≡ content_of (all_records earlier)
+      → IsDone (profiles words left total next) → reply_to contents (profiles words left total next) ≡ reply_to contents (next (content_of (all_records (earlier ++ words))))
   profiles_go earlier [] left total next is done =
-      ap (λ (t : Content). reply_to contents (next t)) (is ∙ ap (λ (ws : List ℕ). content_in (all_records ws)) (sym (append-nil earlier)))
+      ap (λ (t : Content). reply_to contents (next t)) (is ∙ ap (λ (ws : List ℕ). content_of (all_records ws)) (sym (append-nil earlier)))
   profiles_go earlier (word ∷ words) left total next is done =
       let bytes = contents word in
       let records = file_records bytes in
@@ -159,7 +159,7 @@ module _ (contents : ℕ → List ℕ) where
       let grouped : (earlier ++ word ∷ []) ++ words ≡ earlier ++ word ∷ words = append_assoc earlier (word ∷ []) words in
       read ∙ accepted ∙ itself ∙ others
       ∙ profiles_go (earlier ++ word ∷ []) words (left - length bytes) sum next (total_more earlier word total is) four
-      ∙ ap (λ (ws : List ℕ). reply_to contents (next (content_in (all_records ws)))) grouped
+      ∙ ap (λ (ws : List ℕ). reply_to contents (next (content_of (all_records ws)))) grouped
 
 -- what the reports print, and that they leave the files as they are
 module _ (contents : ℕ → List ℕ) (s : Sources) where
@@ -215,17 +215,17 @@ no_complaints : (name : Option (List ℕ)) (bytes : List ℕ) → complained (gi
 no_complaints None bytes = refl
 no_complaints (Some name) bytes = refl
 
-told_file : (old new : Option Disk) (f : Disk → Disk) (name text : List ℕ) → Becomes f old new → ((d : Disk) → content_of name (f d).files ≡ text) → IfSome new (λ d. content_of name d.files ≡ text)
+told_file : (old new : Option Disk) (f : Disk → Disk) (name text : List ℕ) → Becomes f old new → ((d : Disk) → file_content name (f d).files ≡ text) → IfSome new (λ d. file_content name d.files ≡ text)
 told_file old None f name text same holds = tt
 told_file None (Some new) f name text same holds = absurd cc
 told_file (Some old) (Some new) f name text same holds =
     let is : f old ≡ new = cc in
-    subst (λ (d : Disk). content_of name d.files ≡ text) is (holds old)
+    subst (λ (d : Disk). file_content name d.files ≡ text) is (holds old)
 
-told_word : (old new : Outside) (words : List (List ℕ)) (contents : ℕ → List ℕ) (word : ℕ) → WhereTold old new (λ files. contents ≡ contents_of words files) → WhereTold old new (λ files. contents word ≡ content_of (name_of words word) files)
+told_word : (old new : Outside) (words : List (List ℕ)) (contents : ℕ → List ℕ) (word : ℕ) → WhereTold old new (λ files. contents ≡ contents_of words files) → WhereTold old new (λ files. contents word ≡ file_content (name_of words word) files)
 told_word old new words contents word told = by old.disk new.disk told
   where
-    by : (a c : Option Disk) → MatchOption c ⊤ (λ _. IfSome a (λ d. contents ≡ contents_of words d.files)) → MatchOption c ⊤ (λ _. IfSome a (λ d. contents word ≡ content_of (name_of words word) d.files))
+    by : (a c : Option Disk) → MatchOption c ⊤ (λ _. IfSome a (λ d. contents ≡ contents_of words d.files)) → MatchOption c ⊤ (λ _. IfSome a (λ d. contents word ≡ file_content (name_of words word) d.files))
     by a None h = tt
     by None (Some z) h = tt
     by (Some x) (Some z) h = ap (λ (c : ℕ → List ℕ). c word) h
@@ -254,14 +254,14 @@ module _ (words : List (List ℕ)) (contents : ℕ → List ℕ) (elf gmon : ℕ
 
   -- the file that is left, where no file is written behind the run's own
   file_holds : (rest : List Act) (d : Disk) → ((x : Disk) → disk_after rest x ≡ x) → IsApart words gmon image
-      → content_of (name_of words gmon) (disk_after (due ++ rest) d).files ≡ gmon_text form bytes setup
+      → file_content (name_of words gmon) (disk_after (due ++ rest) d).files ≡ gmon_text form bytes setup
   file_holds rest d keeps apart =
       let prints = (world_of bytes setup).prints in
       let text = gmon_text form bytes setup in
       let one = file_acts (name_of words gmon) text in
       let memory = layout_of (block_image (text_sizes bytes setup) (world_of bytes setup).log) in
       let two = given_file_acts (option_map (name_of words) image) memory in
-      let content = λ (x : Disk). content_of (name_of words gmon) x.files in
+      let content = λ (x : Disk). file_content (name_of words gmon) x.files in
       let behind_prints = disk_after prints d in
       let behind_file = disk_after one behind_prints in
       let behind_memory = disk_after two behind_file in
@@ -273,13 +273,13 @@ module _ (words : List (List ℕ)) (contents : ℕ → List ℕ) (elf gmon : ℕ
 
   -- the file of the runtime's memory, which is written last
   memory_holds : (rest : List Act) (d : Disk) (place : ℕ) → ((x : Disk) → disk_after rest x ≡ x) → image ≡ Some place
-      → content_of (name_of words place) (disk_after (due ++ rest) d).files ≡ memory_text bytes setup
+      → file_content (name_of words place) (disk_after (due ++ rest) d).files ≡ memory_text bytes setup
   memory_holds rest d place keeps is =
       let prints = (world_of bytes setup).prints in
       let one = file_acts (name_of words gmon) (gmon_text form bytes setup) in
       let memory = memory_text bytes setup in
       let two = given_file_acts (option_map (name_of words) image) memory in
-      let content = λ (x : Disk). content_of (name_of words place) x.files in
+      let content = λ (x : Disk). file_content (name_of words place) x.files in
       let behind_prints = disk_after prints d in
       let behind_file = disk_after one behind_prints in
       ap content (disk_after-append (prints ++ (one ++ two)) rest d)
@@ -361,10 +361,10 @@ run_in (Err fault) = None
 
 -- where the file is told, the program's is told too
 says_run : (words : List (List ℕ)) (program : List ℕ) (elf gmon : ℕ) (form : Form) (setup : Setup) (f : Disk → Disk) (a c : Option Disk)
-    → MatchOption c ⊤ (λ _. IfSome a (λ d. program ≡ content_of (name_of words elf) d.files))
-    → MatchOption c ⊤ (λ _. IfSome a (λ d. FitsFile form (content_of (name_of words elf) d.files) setup))
-    → IfSome c (λ d. content_of (name_of words gmon) d.files ≡ gmon_text form program setup)
-    → Becomes f a c → IfSome c (λ d. SaysRun form program setup (content_of (name_of words gmon) d.files))
+    → MatchOption c ⊤ (λ _. IfSome a (λ d. program ≡ file_content (name_of words elf) d.files))
+    → MatchOption c ⊤ (λ _. IfSome a (λ d. FitsFile form (file_content (name_of words elf) d.files) setup))
+    → IfSome c (λ d. file_content (name_of words gmon) d.files ≡ gmon_text form program setup)
+    → Becomes f a c → IfSome c (λ d. SaysRun form program setup (file_content (name_of words gmon) d.files))
 says_run words program elf gmon form setup f a None is_told fits file same = tt
 says_run words program elf gmon form setup f None (Some z) is_told fits file same = absurd cc
 says_run words program elf gmon form setup f (Some x) (Some z) is_told fits file same =
@@ -398,7 +398,7 @@ module _ (words : List (List ℕ)) (old new : Outside) (done : Done) (answered :
   run_is_written elf gmon form image setup rest accepted starts fits keeps did =
       let program = contents elf in
       let is_told = told_word old new words contents elf answered.owed.told in
-      let file : IsApart words gmon image → IfSome new.disk (λ d. content_of (name_of words gmon) d.files ≡ gmon_text form program setup) =
+      let file : IsApart words gmon image → IfSome new.disk (λ d. file_content (name_of words gmon) d.files ≡ gmon_text form program setup) =
       λ apart. told_file old.disk new.disk _ (name_of words gmon) (gmon_text form program setup) did.disk (λ d. file_holds words contents elf gmon form image setup rest d keeps apart) in
       record {
         told = is_told;
@@ -533,7 +533,7 @@ module _ (words : List (List ℕ)) (old new : Outside) (done : Done) (answered :
 pub executions_listed : ExecutionsAreListed
 executions_listed program setup contents gmon i says counts below =
     let at = (text_sizes program setup).low + 4 * i in
-    ap (λ (recs : List WideRec). runs_at at (content_in recs).blocks) (append-nil (records_of (contents gmon))) ∙ says.executions counts i below
+    ap (λ (recs : List WideRec). runs_at at (content_of recs).blocks) (append-nil (records_of (contents gmon))) ∙ says.executions counts i below
 
 pub leaves : (words : List (List ℕ)) (old new : Outside) (done : Done) → Answered words old new (Ok done) → RunFits words old new (command_of words) → Leaves words old new done (command_of words)
 leaves words old new done answered fits = leaves_by words old new done answered (command_of words) refl fits

@@ -6,7 +6,7 @@ use Rattle.std.proofs.lemmas.Bool.Decides.{nat_tests}
 use Rattle.std.specs.List.{cons_option}
 use Rattle.std.specs.Option.{option_map, option_and_then, unwrap_or}
 use Rattle.rvgprof.specs.declared.options.Key.{Key}
-use Rattle.rvgprof.specs.declared.options.Takes.{Takes}
+use Rattle.rvgprof.specs.declared.options.OptionSet.{OptionSet}
 use Rattle.rvgprof.specs.declared.items.Wanted.{Wanted}
 use Rattle.rvgprof.specs.declared.items.Wanted.TheVariants.{AnOption}
 use Rattle.rvgprof.specs.Items.{Item, Operand, Given, is_option, with_item, items_from, items_of_option, place_of, places, nth, place_given, name_of, number_at, number_given, setting, up_to}
@@ -18,7 +18,7 @@ item_added : (wanted : Wanted) (skip : ℕ) (item : Item) (o : Option (List Item
 item_added wanted skip item None = refl
 item_added wanted skip item (Some items) = refl
 
-flag_items : (takes : Takes) (i : ℕ) (key : Key) (items : Option (List Item)) (words : List (List ℕ)) → is_flag (kind_of key) ≡ true → items_of_option takes i (Some key) items words ≡ with_item (Given key i) items
+flag_items : (takes : OptionSet) (i : ℕ) (key : Key) (items : Option (List Item)) (words : List (List ℕ)) → is_flag (kind_of key) ≡ true → items_of_option takes i (Some key) items words ≡ with_item (Given key i) items
 flag_items takes i key items [] flag = ap (λ (b : Bool). cond b (with_item (Given key i) items) None) flag
 flag_items takes i key items (value ∷ words) flag = ap (λ (b : Bool). cond b (with_item (Given key i) items) (with_item (Given key (i + 1)) (items_from takes (i + 2) words))) flag
 
@@ -31,7 +31,7 @@ first_and_rest (y ∷ ys) x some is = let rest = take_all (suc (length ys) - 1) 
 abbrev pub rest_of : {A : Type 0} → List A → List A
 rest_of xs = take (length xs - 1) (drop 1 xs)
 
-pub option_is : {A : Type 0} (text : A → List ℕ) (takes : Takes) (i : ℕ) (words : List A) (word : A) (key : Key) → 1 ≤ length words → word ≡ get_or words 0 word → is_option (text word) ≡ true → option_of takes (text word) ≡ Some key
+pub option_is : {A : Type 0} (text : A → List ℕ) (takes : OptionSet) (i : ℕ) (words : List A) (word : A) (key : Key) → 1 ≤ length words → word ≡ get_or words 0 word → is_option (text word) ≡ true → option_of takes (text word) ≡ Some key
     → items_from takes i (map text words) ≡ items_of_option takes i (Some key) (items_from takes (i + 1) (map text (rest_of words))) (map text (rest_of words))
 option_is {A} text takes i words word key some first option is =
     let rest = map text (rest_of words) in
@@ -39,7 +39,7 @@ option_is {A} text takes i words word key some first option is =
     ∙ ap (λ (b : Bool). cond b (items_of_option takes i (option_of takes (text word)) (items_from takes (i + 1) rest) rest) (with_item (Operand i) (items_from takes (i + 1) rest))) option
     ∙ ap (λ (o : Option Key). items_of_option takes i o (items_from takes (i + 1) rest) rest) is
 
-pub find_flag : {A : Type 0} (text : A → List ℕ) (takes : Takes) (i : ℕ) (wanted : Wanted) (skip : ℕ) (words : List A) (word : A) (key : Key) → 1 ≤ length words → word ≡ get_or words 0 word → is_option (text word) ≡ true
+pub find_flag : {A : Type 0} (text : A → List ℕ) (takes : OptionSet) (i : ℕ) (wanted : Wanted) (skip : ℕ) (words : List A) (word : A) (key : Key) → 1 ≤ length words → word ≡ get_or words 0 word → is_option (text word) ≡ true
     → option_of takes (text word) ≡ Some key → is_flag (kind_of key) ≡ true
     → option_map (λ items. nth skip (cons_option (place_of wanted (Given key i)) (places wanted items))) (items_from takes (i + 1) (map text (rest_of words))) ≡ option_map (λ items. nth skip (places wanted items)) (items_from takes i (map text words))
 find_flag text takes i wanted skip words word key some first option is flag =
@@ -47,7 +47,7 @@ find_flag text takes i wanted skip words word key some first option is flag =
     ∙ ap (λ (o : Option (List Item)). option_map (λ items. nth skip (places wanted items)) o)
     (sym (option_is text takes i words word key some first option is ∙ flag_items takes i key (items_from takes (i + 1) (map text (rest_of words))) (map text (rest_of words)) flag))
 
-pub find_valued : {A : Type 0} (text : A → List ℕ) (takes : Takes) (i : ℕ) (wanted : Wanted) (skip : ℕ) (words : List A) (word value : A) (key : Key) → 1 ≤ length words → word ≡ get_or words 0 word → is_option (text word) ≡ true
+pub find_valued : {A : Type 0} (text : A → List ℕ) (takes : OptionSet) (i : ℕ) (wanted : Wanted) (skip : ℕ) (words : List A) (word value : A) (key : Key) → 1 ≤ length words → word ≡ get_or words 0 word → is_option (text word) ≡ true
     → option_of takes (text word) ≡ Some key → is_flag (kind_of key) ≡ false → 1 ≤ length (rest_of words)
     → option_map (λ items. nth skip (cons_option (place_of wanted (Given key (i + 1))) (places wanted items))) (items_from takes (i + 2) (map text (rest_of (rest_of words))))
     ≡ option_map (λ items. nth skip (places wanted items)) (items_from takes i (map text words))

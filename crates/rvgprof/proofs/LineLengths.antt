@@ -11,8 +11,8 @@ use Rattle.rvgprof.specs.declared.items.Wanted.TheVariants.{AnOperand, AnOption}
 use Rattle.rvgprof.specs.declared.options.Group.TheVariants.{Machine, Runtime, Files, Reports}
 use Rattle.rvgprof.specs.declared.options.Key.{Key}
 use Rattle.rvgprof.specs.declared.options.Key.TheVariants.{Every, Budget, Rate, Ram, Harts, Quantum, Seed, Image, Gnu, Flat, Graph, Elf, Hist, Hash, Blocks, Exact, Cut, Hide, Inclusive}
-use Rattle.rvgprof.specs.declared.options.Takes.{Takes}
-use Rattle.rvgprof.specs.declared.options.Takes.TheVariants.{RunOptions, ReportOptions, ProfileOptions, DemoOptions, FoldedOptions, NoOptions}
+use Rattle.rvgprof.specs.declared.options.OptionSet.{OptionSet}
+use Rattle.rvgprof.specs.declared.options.OptionSet.TheVariants.{RunOptions, ReportOptions, ProfileOptions, DemoOptions, FoldedOptions, NoOptions}
 use Rattle.rvgprof.specs.declared.words.Command.{Command}
 use Rattle.rvgprof.specs.declared.words.Command.TheVariants.{Show, Syms, Run, Sum, Report, Profile, Demo, Annotate, Folded, Help, Version}
 use Rattle.rvgprof.specs.declared.words.Selection.{Selection}
@@ -32,7 +32,7 @@ read_item item None items is = absurd cc
 read_item item (Some more) items is = record { more = more; read = refl; all = (let same : Some (item ∷ more) ≡ Some items = is in cc) }
 
 -- what holds of no items, and of an item more wherever it stands among the words, holds of all that is read
-module _ (takes : Takes) (P : ℕ → List Item → Type 0) (none : P 0 [])
+module _ (takes : OptionSet) (P : ℕ → List Item → Type 0) (none : P 0 [])
     (operand : (i n : ℕ) (items : List Item) → P n items → P (1 + n) (Operand i ∷ items))
     (flag : (key : Key) (i n : ℕ) (items : List Item) → is_taken takes (group_of key) ≡ true → P n items → P (1 + n) (Given key i ∷ items))
     (value : (key : Key) (i n : ℕ) (items : List Item) → is_taken takes (group_of key) ≡ true → P n items → P (2 + n) (Given key i ∷ items)) where
@@ -163,7 +163,7 @@ given_few key i n items within =
     let one = once key in
     omega (arith, within, more, one)
 
-few_items : (takes : Takes) (i : ℕ) (words : List (List ℕ)) (items : List Item) → items_from takes i words ≡ Some items → AreFew (length words) items
+few_items : (takes : OptionSet) (i : ℕ) (words : List (List ℕ)) (items : List Item) → items_from takes i words ≡ Some items → AreFew (length words) items
 few_items takes =
     of_items takes AreFew (omega arith) (λ i n items few. operand_few i n items few) (λ key i n items taken few. given_few key i (1 + n) items (omega (arith, few))) (λ key i n items taken few. given_few key i (2 + n) items (omega (arith, few)))
   where
@@ -206,7 +206,7 @@ key_back Inclusive = refl
 same_key : (key other : Key) → is_key key other ≡ true → key ≡ other
 same_key key other is = sym (key_back key) ∙ ap key_of (eqb-true (key_number key) (key_number other) is) ∙ key_back other
 
-not_taken : (takes : Takes) (key : Key) → is_taken takes (group_of key) ≡ false → (i : ℕ) (words : List (List ℕ)) (items : List Item) → items_from takes i words ≡ Some items → times items key ≡ 0
+not_taken : (takes : OptionSet) (key : Key) → is_taken takes (group_of key) ≡ false → (i : ℕ) (words : List (List ℕ)) (items : List Item) → items_from takes i words ≡ Some items → times items key ≡ 0
 not_taken takes key other = of_items takes (λ n items. times items key ≡ 0) refl (λ i n items none. none) (λ k i n items taken none. still k i items taken none) (λ k i n items taken none. still k i items taken none)
   where
     still : (k : Key) (i : ℕ) (items : List Item) → is_taken takes (group_of k) ≡ true → times items key ≡ 0 → times (Given k i ∷ items) key ≡ 0
@@ -365,7 +365,7 @@ all_bound items bound (key ∷ keys) =
     let rest = all_bound items bound keys in
     omega (arith, here, rest)
 
-module _ (takes : Takes) (words : List (List ℕ)) (items : List Item) (read : items_from takes 0 words ≡ Some items) where
+module _ (takes : OptionSet) (words : List (List ℕ)) (items : List Item) (read : items_from takes 0 words ≡ Some items) where
   -- no option is given too often, and there are few operands
   short_line : operands items ≤ 18 → ((key : Key) → Bound items key) → length words ≤ 200
   short_line few bound =
@@ -383,12 +383,12 @@ module _ (takes : Takes) (words : List (List ℕ)) (items : List Item) (read : i
   no_reports none = record { flat = absent Flat none; graph = absent Graph none; exact = absent Exact none; cut = absent Cut none; hide = absent Hide none }
 
 -- what is read of items is read of some
-record OfItems {X : Type 0} (takes : Takes) (words : List (List ℕ)) (f : List Item → Option X) (x : X) : Type 0 where
+record OfItems {X : Type 0} (takes : OptionSet) (words : List (List ℕ)) (f : List Item → Option X) (x : X) : Type 0 where
   items : List Item
   read : items_from takes 0 words ≡ Some items
   gives : f items ≡ Some x
 
-of_some : {X : Type 0} (takes : Takes) (words : List (List ℕ)) (f : List Item → Option X) (x : X) → option_and_then f (items_from takes 0 words) ≡ Some x → OfItems takes words f x
+of_some : {X : Type 0} (takes : OptionSet) (words : List (List ℕ)) (f : List Item → Option X) (x : X) → option_and_then f (items_from takes 0 words) ≡ Some x → OfItems takes words f x
 of_some {X} takes words f x = by (items_from takes 0 words) refl
   where
     by : (o : Option (List Item)) → items_from takes 0 words ≡ o → option_and_then f o ≡ Some x → OfItems takes words f x
@@ -509,7 +509,7 @@ module _ (words : List (List ℕ)) where
   report_short : (c : Command) → report_reading words ≡ Some c → length words ≤ 200
   report_short c is = short_line takes words r.items r.read parts.0 bound
     where
-      takes : Takes
+      takes : OptionSet
       takes = ReportOptions
 
       r : OfItems takes words (report_of words) c
@@ -529,7 +529,7 @@ module _ (words : List (List ℕ)) where
   run_short : (c : Command) → run_reading words ≡ Some c → length words ≤ 200
   run_short c is = short_line takes words r.items r.read parts.few bound
     where
-      takes : Takes
+      takes : OptionSet
       takes = RunOptions
 
       r : OfItems takes words (run_of words) c
@@ -549,7 +549,7 @@ module _ (words : List (List ℕ)) where
   profile_short : (c : Command) → profile_reading words ≡ Some c → length words ≤ 200
   profile_short c is = short_line takes words r.items r.read parts.few bound
     where
-      takes : Takes
+      takes : OptionSet
       takes = ProfileOptions
 
       r : OfItems takes words (profile_said words) c
@@ -575,7 +575,7 @@ module _ (words : List (List ℕ)) where
   folded_short : (c : Command) → folded_reading words ≡ Some c → length words ≤ 200
   folded_short c is = short_line takes words r.items r.read parts.0 bound
     where
-      takes : Takes
+      takes : OptionSet
       takes = FoldedOptions
 
       r : OfItems takes words (folded_said words) c
@@ -595,7 +595,7 @@ module _ (words : List (List ℕ)) where
   demo_short : (c : Command) → demo_reading words ≡ Some c → length words ≤ 200
   demo_short c is = short_line takes words r.items r.read (functions_operands words (operands_of r.items) parts.0.0 parts.0.1) bound
     where
-      takes : Takes
+      takes : OptionSet
       takes = DemoOptions
 
       r : OfItems takes words (demo_said words) c

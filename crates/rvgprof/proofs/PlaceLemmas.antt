@@ -6,7 +6,7 @@ use Rattle.std.proofs.lemmas.List.Elements.{All-from_recursion}
 use Rattle.arc_filter.specs.Cuts.{is_cut_word}
 use Rattle.std.specs.Option.{option_map, option_and_then}
 use Rattle.rvgprof.specs.declared.options.Key.{Key}
-use Rattle.rvgprof.specs.declared.options.Takes.{Takes}
+use Rattle.rvgprof.specs.declared.options.OptionSet.{OptionSet}
 use Rattle.rvgprof.specs.declared.items.Wanted.TheVariants.{AnOperand}
 use Rattle.rvgprof.specs.Answer.{names_at}
 use Rattle.rvgprof.specs.Items.{Item, Operand, Given, is_option, with_item, items_from, items_of_option, name_of, places, up_to}
@@ -59,7 +59,7 @@ module _ (i : ℕ) where
         rising = rest.rising;
       })
 
-  module _ (takes : Takes) where
+  module _ (takes : OptionSet) where
     by_option : (o : Option Key) (rest : Option (List Item)) (words : List (List ℕ)) (items : List Item) → AreBehind rest
         → ((value : List ℕ) (ws : List (List ℕ)) → words ≡ value ∷ ws → AreBehind (items_from takes (i + 2) ws))
         → items_of_option takes i o rest words ≡ Some items → IsOrdered i (places AnOperand items)
@@ -84,7 +84,7 @@ module _ (i : ℕ) where
         go true e = by_option (option_of takes word) (items_from takes (i + 1) words) words items first second e
         go false e = operand_first (items_from takes (i + 1) words) items first e
 
-items_ordered : (takes : Takes) (i : ℕ) (words : List (List ℕ)) (items : List Item) → items_from takes i words ≡ Some items → IsOrdered i (places AnOperand items)
+items_ordered : (takes : OptionSet) (i : ℕ) (words : List (List ℕ)) (items : List Item) → items_from takes i words ≡ Some items → IsOrdered i (places AnOperand items)
 items_ordered takes i [] items e =
     let same : [] ≡ items = cc in
     subst (λ (items : List Item). IsOrdered i (places AnOperand items)) same (record { from = tt; rising = tt })
@@ -104,7 +104,7 @@ rising_drop (suc n) [] rising = tt
 rising_drop (suc n) (p ∷ ps) rising = rising_drop n ps rising.1
 
 -- the operands stand in order
-pub rising_operands : (takes : Takes) (words : List (List ℕ)) (r : Option (List ℕ)) → r ≡ option_and_then (λ items. up_to 18 (operands_of items)) (items_from takes 0 words) → IfSome r AreRising
+pub rising_operands : (takes : OptionSet) (words : List (List ℕ)) (r : Option (List ℕ)) → r ≡ option_and_then (λ items. up_to 18 (operands_of items)) (items_from takes 0 words) → IfSome r AreRising
 rising_operands takes words r e = subst (λ (o : Option (List ℕ)). IfSome o AreRising) (sym e) (by (items_from takes 0 words) refl)
   where
     within : (ps : List ℕ) (b : Bool) → AreRising ps → IfSome (cond b None (Some ps)) AreRising

@@ -4,7 +4,7 @@ use Rattle.std.specs.Prelude.{IfSome, MatchOption, ⊤}
 use Rattle.std.proofs.lemmas.Bool.{lt-ltb, le-ltb}
 use Rattle.std.proofs.lemmas.Bool.Decides.{nat_tests}
 use Rattle.std.proofs.lemmas.List.{append-nil, length-replicate}
-use Rattle.host_port.specs.Act.{Act, Disk, File, content_of, writes_after, next_count}
+use Rattle.host_port.specs.Act.{Act, Disk, File, file_content, writes_after, next_count}
 use Rattle.host_port.specs.Outside.{Outside, Becomes, Did, Rose, KeepsCounts, opening}
 use Rattle.host_port.specs.Load.{Loads}
 use Rattle.rvgprof.specs.FileRead.{IsContent}
@@ -163,11 +163,11 @@ loaded words old mid new below word limit next bytes s later loads =
           input_read contents (course_of words) s.opens word limit next bytes
           (s.leads contents (λ w less. agrees w (omega arith) ∙ read_before word bytes s.read w (omega arith)))
           (agrees word (omega arith) ∙ read_at word bytes s.read) loads.within;
-      told = both old.disk new.disk (λ files. LeadsTo (contents_of words files) (course_of words) s.opens [] (Input word limit next)) (λ files. bytes ≡ content_of (name_of words word) files)
+      told = both old.disk new.disk (λ files. LeadsTo (contents_of words files) (course_of words) s.opens [] (Input word limit next)) (λ files. bytes ≡ file_content (name_of words word) files)
           (λ files. LeadsTo (contents_of words files) (course_of words) (suc s.opens) [] (next bytes))
           (λ files l is. input_read (contents_of words files) (course_of words) s.opens word limit next bytes l (sym is) loads.within)
           (further (λ d. d) old.disk mid.disk new.disk (λ files. LeadsTo (contents_of words files) (course_of words) s.opens [] (Input word limit next)) loads.nothing_done.disk s.told)
-          (told_back old.disk new.disk (λ files. bytes ≡ content_of (name_of words word) files) did.disk loads.answer);
+          (told_back old.disk new.disk (λ files. bytes ≡ file_content (name_of words word) files) did.disk loads.answer);
     }
 
 too_large : (words : List (List ℕ)) (contents : ℕ → List ℕ) (old new : Outside) (err opens word limit : ℕ) (next : List ℕ → Course) → LeadsTo contents (course_of words) opens [] (Input word limit next) → limit < length (contents word)
@@ -249,11 +249,11 @@ not_loaded words old mid new below word limit next loads.TooLarge s later loads 
       did = did;
       owed = owed_by words old new new.err_faults (suc s.opens) [] (Err (TooLarge word limit)) some
           (too_large words some old new new.err_faults s.opens word limit next (s.leads some (λ w less. read_before word zeros s.read w (omega arith))) long nothing)
-          (both old.disk new.disk (λ files. LeadsTo (contents_of words files) (course_of words) s.opens [] (Input word limit next)) (λ files. limit < length (content_of (name_of words word) files))
+          (both old.disk new.disk (λ files. LeadsTo (contents_of words files) (course_of words) s.opens [] (Input word limit next)) (λ files. limit < length (file_content (name_of words word) files))
           (λ files. Owes words (contents_of words files) old new new.err_faults (suc s.opens) [] (Err (TooLarge word limit)))
           (λ files l more. too_large words (contents_of words files) old new new.err_faults s.opens word limit next l more nothing)
           (further (λ d. d) old.disk mid.disk new.disk (λ files. LeadsTo (contents_of words files) (course_of words) s.opens [] (Input word limit next)) loads.nothing_done.disk s.told)
-          (told_back old.disk new.disk (λ files. limit < length (content_of (name_of words word) files)) did.disk loads.answer));
+          (told_back old.disk new.disk (λ files. limit < length (file_content (name_of words word) files)) did.disk loads.answer));
       shut = λ _. loads.nothing_done.writing ∙ s.shut;
     }
 not_loaded words old mid new below word limit next loads.OutOfMemory s later loads =

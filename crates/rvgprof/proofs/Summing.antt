@@ -89,21 +89,6 @@ holds_nothing p is hists arcs blocks =
     let unit = no_unit p.hists p.«unit» none is.«unit» in
     λ i. record { hists = none i; arcs = no_hists p.arcs arcs i; blocks = no_hists p.blocks blocks i; «unit» = unit i }
 
-all_gone : (f : Hist → Option Difference) → ((h : Hist) → f h ≡ None) → (hists : List Hist) → filter_map f hists ≡ []
-all_gone f none [] = refl
-all_gone f none (h ∷ hists) = rw (none h, all_gone f none hists) refl
-
-free : (h : Hist) (o : Option units.Unit) → option_and_then (hist_conflict empty_content h) o ≡ None
-free h None = refl
-free h (Some u) = by (has_counters h)
-  where
-    by : (b : Bool) → (if b then conflict_with [] None (range_of h) (kept_unit u) else None) ≡ None
-    by true = refl
-    by false = refl
-
-pub no_clash : (q : Content) → clash_of empty_content q ≡ None
-no_clash q = ap (λ (hs : List Difference). slice_get hs 0) (all_gone (λ h. option_and_then (hist_conflict empty_content h) q.«unit») (λ h. free h q.«unit») q.hists)
-
 pub nothing_added : empty_content ≡ content_of []
 unfolding content_of
 nothing_added = refl

@@ -3,7 +3,7 @@ use Rattle.std.proofs.Common.{◌≡◌, true, List, Option, Some, None, Result,
 use Rattle.std.specs.Global.{Vec}
 use Rattle.std.specs.Prelude.{IfSome, MatchOption, OnOk, is_some, length, ⊤, ℕ}
 use Rattle.std.specs.List.{All}
-use Rattle.host_port.specs.Act.{Act, Disk, File, content_of}
+use Rattle.host_port.specs.Act.{Act, Disk, File, file_content}
 use Rattle.host_port.specs.Outside.{Outside, Becomes, Did}
 use Rattle.host_port.specs.Host.{Puts}
 use Rattle.host_port.specs.Load.{Loads}
@@ -44,10 +44,6 @@ acts_tell acts old new did = by _ old.disk new.disk did.disk
 pub tells_then : (old mid new : Outside) → TellsNoMore old mid → TellsNoMore mid new → TellsNoMore old new
 tells_then old mid new first second some = first (second some)
 
-pub reports_tell : (text : List ℕ) (old new : Outside) (result : Result (Unit {0}) ReportRefusal) → Reports text old new result → OnOk result (TellsNoMore old new)
-reports_tell text old new (Ok u) printed = acts_tell _ old new (puts_performs {T = Unit {0}} {E = ReportRefusal} Output text old new (Ok u) printed).done
-reports_tell text old new (Err refusal) printed = tt
-
 -- what was told is told still, or no more
 pub later_told : (old mid new : Outside) (P : List File → Type 0) → TellsNoMore mid new → WhereTold old mid P → WhereTold old new P
 later_told old mid new P = by old.disk mid.disk new.disk
@@ -58,8 +54,8 @@ later_told old mid new P = by old.disk mid.disk new.disk
     by a (Some y) (Some z) some told = told
 
 -- what was loaded is what the file held
-pub load_told : (name : List ℕ) (limit : ℕ) (old new : Outside) (bytes : Vec ℕ) → Loads name limit old new (Ok bytes) → WhereTold old new (λ files. bytes.items ≡ content_of name files)
-load_told name limit old new bytes loads = told_back old.disk new.disk (λ files. bytes.items ≡ content_of name files) loads.nothing_done.disk loads.answer
+pub load_told : (name : List ℕ) (limit : ℕ) (old new : Outside) (bytes : Vec ℕ) → Loads name limit old new (Ok bytes) → WhereTold old new (λ files. bytes.items ≡ file_content name files)
+load_told name limit old new bytes loads = told_back old.disk new.disk (λ files. bytes.items ≡ file_content name files) loads.nothing_done.disk loads.answer
 
 -- a text was printed on the error output, or a prefix of it
 pub line_tells : {E : Type 0} (text : List ℕ) (old new : Outside) (r : Result (Unit {0}) E) → Puts ErrorOutput text old new r → TellsNoMore old new
@@ -70,7 +66,7 @@ line_tells text old new (Err e) puts = acts_tell _ old new puts.takes.part.2
 
 -- what a run has logged fits its file, for the program that was read
 pub run_fits : (words : List (List ℕ)) (old mid new : Outside) (elf : ℕ) (form : Form) (setup : Setup) (bytes : List ℕ) (image : Image) (v : RunValue) → image ≡ image_of bytes → IsWithinLimits (length bytes) image → IsRunSetup form setup
-    → IsRunOf image bytes setup v → ((w : World) → StandsFor w v → All CallFits (arcs_of v.machine.sizes w.log)) → WhereTold old mid (λ files. bytes ≡ content_of (name_of words elf) files) → TellsNoMore mid new
+    → IsRunOf image bytes setup v → ((w : World) → StandsFor w v → All CallFits (arcs_of v.machine.sizes w.log)) → WhereTold old mid (λ files. bytes ≡ file_content (name_of words elf) files) → TellsNoMore mid new
     → FitsWhereTold words old new elf form setup
 run_fits words old mid new elf form setup bytes image v same limits within is calls told tells =
     let w : Image → World = λ i. final_world i bytes setup in
@@ -82,14 +78,14 @@ run_fits words old mid new elf form setup bytes image v same limits within is ca
       sizes = subst (λ (i : Image). AreSizes (sizes_of i.text setup.hist setup.hash)) same sizes;
       calls = subst (λ (i : Image). All CallFits (arcs_of (sizes_of i.text setup.hist setup.hash) (w i).log)) same logged;
     } in
-    later_told old mid new (λ files. FitsFile form (content_of (name_of words elf) files) setup) tells
-    (weaker old.disk mid.disk (λ files. bytes ≡ content_of (name_of words elf) files) (λ files. FitsFile form (content_of (name_of words elf) files) setup)
+    later_told old mid new (λ files. FitsFile form (file_content (name_of words elf) files) setup) tells
+    (weaker old.disk mid.disk (λ files. bytes ≡ file_content (name_of words elf) files) (λ files. FitsFile form (file_content (name_of words elf) files) setup)
     (λ files is. subst (λ (b : List ℕ). FitsFile form b setup) is fits) told)
 
 -- it still does
 pub fits_still : (words : List (List ℕ)) (old mid new : Outside) (command : Option Command) → TellsNoMore mid new → RunFits words old mid command → RunFits words old new command
-fits_still words old mid new (Some (Run elf gmon form image setup)) tells fits = later_told old mid new (λ files. FitsFile form (content_of (name_of words elf) files) setup) tells fits
-fits_still words old mid new (Some (Profile elf gmon form image setup selection)) tells fits = later_told old mid new (λ files. FitsFile form (content_of (name_of words elf) files) setup) tells fits
+fits_still words old mid new (Some (Run elf gmon form image setup)) tells fits = later_told old mid new (λ files. FitsFile form (file_content (name_of words elf) files) setup) tells fits
+fits_still words old mid new (Some (Profile elf gmon form image setup selection)) tells fits = later_told old mid new (λ files. FitsFile form (file_content (name_of words elf) files) setup) tells fits
 fits_still words old mid new None tells fits = tt
 fits_still words old mid new (Some (Show gmon)) tells fits = tt
 fits_still words old mid new (Some (Syms elf)) tells fits = tt
@@ -100,8 +96,3 @@ fits_still words old mid new (Some (Annotate elf gmons)) tells fits = tt
 fits_still words old mid new (Some (Folded elf inclusive setup)) tells fits = tt
 fits_still words old mid new (Some Help) tells fits = tt
 fits_still words old mid new (Some Version) tells fits = tt
-
--- what holds anyhow holds where it was carried out
-pub where_done : {E : Type 0} (P : Type 0) (r : Result Done E) → P → OnOk r P
-where_done P (Ok done) h = h
-where_done P (Err e) h = tt

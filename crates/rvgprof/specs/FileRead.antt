@@ -1,21 +1,22 @@
 -- What it means that a profile file was read in pieces.
-use Rattle.std.specs.Prelude.{◌≡◌, ℕ, ◌<◌, ◌≤◌, List, [], length, None, Result, Ok, Err, ⊤}
+use Rattle.std.specs.Prelude.{◌≡◌, ℕ, ◌<◌, ◌≤◌, List, [], length, Result, Ok, Err, ⊤}
 use Rattle.gp_base.specs.declared.records.Form.TheVariants.{Bsd, Gnu}
 use Rattle.gmon_bsd.specs.Fed as bsd
 use Rattle.gmon_gnu.specs.Fed as gnu
 use Rattle.host_port.specs.declared.loading.LoadRefusal.{LoadRefusal}
-use Rattle.host_port.specs.Act.{content_of}
+use Rattle.host_port.specs.Act.{file_content}
 use Rattle.host_port.specs.Outside.{Outside, Did, KeepsCounts, opening}
 use Rattle.host_port.specs.Host.{IfTold}
 use Rattle.host_port.specs.Load.{Loads}
 use Rattle.rvgprof.specs.declared.profile_file.FileReader.{FileReader}
 use Rattle.rvgprof.specs.declared.profile_file.FileReader.TheVariants as reader
-use Rattle.gmon_data.specs.Content.{Content, WideRec, IsWithin, empty_content, wide_records, with_records}
+use Rattle.gmon_data.specs.Content.{Content, WideRec, empty_content, with_records}
+use Rattle.gmon_data.specs.FileRecords.{spelled_in, HasRoomForSome}
 use Rattle.rvgprof.specs.Answer.{form_of, file_records, file_refusal}
 
 -- what a file spells, as records of a profile
 abbrev pub spelled_records : List ℕ → List WideRec
-spelled_records bytes = wide_records (file_records bytes).recs
+spelled_records = spelled_in file_records
 
 -- how many bytes were fed
 abbrev pub len_of : FileReader → ℕ
@@ -38,7 +39,7 @@ StandsFor bytes (reader.Gnu r) = gnu.StandsFor bytes r × (form_of bytes ≡ Gnu
 
 -- The reader stands for bytes that are refused, or spell records with which the profile stays within its limits.
 abbrev pub HasRoomFor : Content → FileReader → Type 0
-HasRoomFor profile r = (bytes : List ℕ) × StandsFor bytes r × (file_refusal bytes ≡ None → IsWithin (with_records (spelled_records bytes) profile))
+HasRoomFor profile r = HasRoomForSome (λ bytes. StandsFor bytes r) file_refusal spelled_records profile
 
 -- some records add up to the profile
 abbrev pub IsAddedUp : Content → Type 0
@@ -47,7 +48,7 @@ IsAddedUp profile = (recs : List WideRec) × (profile ≡ with_records recs empt
 -- the named file was read to its end, and these are its bytes, as far as it is told
 pub record IsContent (name : List ℕ) (limit : ℕ) (old new : Outside) (bytes : List ℕ) : Type 0 where
   pub nothing_done : Did [] (opening 1 old) new
-  pub answer : IfTold new (λ d. bytes ≡ content_of name d.files)
+  pub answer : IfTold new (λ d. bytes ≡ file_content name d.files)
   pub within : length bytes ≤ limit
   pub counts : KeepsCounts old new
 

@@ -6,7 +6,7 @@ use Rattle.gp_base.specs.declared.records.Form.{Form}
 use Rattle.gp_base.specs.declared.records.Form.TheVariants.{Gnu}
 use Rattle.gmon_data.specs.Content.{runs_at}
 use Rattle.annotate.specs.Listing.{annotated_text}
-use Rattle.host_port.specs.Act.{complained, content_of}
+use Rattle.host_port.specs.Act.{complained, file_content}
 use Rattle.host_port.specs.Act.{printed as prints_of}
 use Rattle.host_port.specs.Outside.{Outside, Becomes}
 use Rattle.symbol_shares.specs.Shares.{attributed_of}
@@ -60,15 +60,15 @@ IsApart words gmon image = option_map (name_of words) image ≢ Some (name_of wo
 -- A run's program is accepted and its run starts, for some bytes of it: for those that are told before and after,
 -- where they are.
 pub record RunIsWritten (words : List (List ℕ)) (old new : Outside) (elf gmon : ℕ) (form : Form) (image : Option ℕ) (setup : Setup) (program : List ℕ) : Type 0 where
-  pub told : WhereTold old new (λ files. program ≡ content_of (name_of words elf) files)
+  pub told : WhereTold old new (λ files. program ≡ file_content (name_of words elf) files)
   pub accepted : IsProgramFile program
   pub starts : Starts program setup
   -- GMON holds the file of the run ..
-  pub file : IsApart words gmon image → IfSome new.disk (λ d. content_of (name_of words gmon) d.files ≡ gmon_text form program setup)
+  pub file : IsApart words gmon image → IfSome new.disk (λ d. file_content (name_of words gmon) d.files ≡ gmon_text form program setup)
   -- .. which is read as what happened in the run
-  pub says : IsApart words gmon image → IfSome new.disk (λ d. SaysRun form program setup (content_of (name_of words gmon) d.files))
+  pub says : IsApart words gmon image → IfSome new.disk (λ d. SaysRun form program setup (file_content (name_of words gmon) d.files))
   -- the file that is named for it holds the memory of the runtime, also where that is GMON
-  pub memory : (place : ℕ) → image ≡ Some place → IfSome new.disk (λ d. content_of (name_of words place) d.files ≡ memory_text program setup)
+  pub memory : (place : ℕ) → image ≡ Some place → IfSome new.disk (λ d. file_content (name_of words place) d.files ≡ memory_text program setup)
 
 -- How a run went is told: in the answer, and in the end line, of which a prefix is printed where complaining fails. The
 -- number is how often complaining had failed before it.

@@ -4,7 +4,7 @@ use Rattle.std.specs.List.{filter_map}
 use Rattle.std.specs.Option.{option_map, option_and_then, unwrap_or}
 use Rattle.rvgprof.specs.declared.options.Key.{Key}
 use Rattle.rvgprof.specs.declared.options.Kind.{Kind}
-use Rattle.rvgprof.specs.declared.options.Takes.{Takes}
+use Rattle.rvgprof.specs.declared.options.OptionSet.{OptionSet}
 use Rattle.rvgprof.specs.declared.items.Wanted.{Wanted}
 use Rattle.rvgprof.specs.declared.items.Wanted.TheVariants.{AnOperand, AnOption}
 use Rattle.rvgprof.specs.Options.{option_of, kind_of, key_number, is_flag, most_times, number_of_kind}
@@ -25,13 +25,13 @@ with_item item items = option_map (λ more. item ∷ more) items
 
 -- the items of the words from a position on, where each option is one that the command takes
 abbrev mutual
-  pub items_from : Takes → ℕ → List (List ℕ) → Option (List Item)
+  pub items_from : OptionSet → ℕ → List (List ℕ) → Option (List Item)
   items_from takes i [] = Some []
   items_from takes i (word ∷ words) =
       if is_option word then items_of_option takes i (option_of takes word) (items_from takes (i + 1) words) words else with_item (Operand i) (items_from takes (i + 1) words)
 
   -- the same from an option on, given the items behind its word: a value is the word that follows, whatever it is
-  pub items_of_option : Takes → ℕ → Option Key → Option (List Item) → List (List ℕ) → Option (List Item)
+  pub items_of_option : OptionSet → ℕ → Option Key → Option (List Item) → List (List ℕ) → Option (List Item)
   items_of_option takes i None items words = None
   items_of_option takes i (Some key) items [] = if is_flag (kind_of key) then with_item (Given key i) items else None
   items_of_option takes i (Some key) items (value ∷ words) =

@@ -11,7 +11,7 @@ use Rattle.gmon_gnu.specs.Blocks.{executed_blocks}
 use Rattle.gmon_gnu.specs.CountedRun.{block_recs}
 use Rattle.gmon_gnu.specs.ProfileText.{profile_text}
 use Rattle.gmon_gnu.specs.Run.{run_recs}
-use Rattle.host_port.specs.Act.{content_of}
+use Rattle.host_port.specs.Act.{file_content}
 use Rattle.host_port.specs.Outside.{Outside}
 use Rattle.mcount_arcs.specs.declared.sizes.Sizes.{Sizes}
 use Rattle.mcount_arcs.specs.Arcs.{CallFits, arcs_of}
@@ -94,7 +94,7 @@ ProfileFilesAreReadBack = (p : Content) → IsProfile p → (form_of (profile_te
 
 -- where the program's file is told, its run fits the file
 abbrev pub FitsWhereTold : List (List ℕ) → Outside → Outside → ℕ → Form → Setup → Type 0
-FitsWhereTold words old new elf form setup = WhereTold old new (λ files. FitsFile form (content_of (name_of words elf) files) setup)
+FitsWhereTold words old new elf form setup = WhereTold old new (λ files. FitsFile form (file_content (name_of words elf) files) setup)
 
 -- of the commands that write a run's file
 abbrev pub RunFits : List (List ℕ) → Outside → Outside → Option Command → Type 0

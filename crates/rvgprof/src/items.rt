@@ -7,7 +7,7 @@ ghost use Rattle.rvgprof.specs.Items.{Operand, Given, place_of, is_option, items
 ghost use Rattle.rvgprof.specs.Options.{kind_of as kind_in, IsNumberOf};
 
 use crate::options::{
-    Key, Takes, is_flag, key_number, kind_of, most_times, number_of_kind, option_of,
+    Key, OptionSet, is_flag, key_number, kind_of, most_times, number_of_kind, option_of,
 };
 use crate::places::Places;
 
@@ -58,7 +58,7 @@ fn place_of_option(wanted: Wanted, key: Key, position: u32) -> Option<u32>
 /// read. They begin at `position` among all words.
 #[cycle(find)]
 fn find(
-    takes: Takes,
+    takes: OptionSet,
     words: &[String],
     position: u32,
     wanted: Wanted,
@@ -93,7 +93,7 @@ fn find(
 /// The same behind an item, which may be one of them.
 #[cycle(find)]
 fn find_behind(
-    takes: Takes,
+    takes: OptionSet,
     words: &[String],
     position: u32,
     wanted: Wanted,
@@ -116,7 +116,7 @@ fn find_behind(
 }
 
 /// Where the first value of an option stands; `None` where the words can't be read or give it too often.
-pub fn place_given(takes: Takes, words: &[String], key: Key) -> Option<Option<u32>>
+pub fn place_given(takes: OptionSet, words: &[String], key: Key) -> Option<Option<u32>>
     requires { length words.now ≤ 200 }
     ensures { result ≡ option_and_then (place_given key) (items_from takes 0 (map string_bytes words.now)) }
 {
@@ -130,7 +130,7 @@ pub fn place_given(takes: Takes, words: &[String], key: Key) -> Option<Option<u3
 /// Where the operands or the values of an option stand, from the one on that comes behind `first` others;
 /// `None` where the words can't be read, or there are more than `most`.
 pub fn places_from(
-    takes: Takes,
+    takes: OptionSet,
     words: &[String],
     wanted: Wanted,
     first: u32,
@@ -155,7 +155,7 @@ pub fn places_from(
 }
 
 /// Where the values of an option stand; `None` where the words can't be read or give it too often.
-pub fn places_given(takes: Takes, words: &[String], key: Key) -> Option<Places>
+pub fn places_given(takes: OptionSet, words: &[String], key: Key) -> Option<Places>
     requires { length words.now ≤ 200 }
     ensures { result ≡ option_and_then (places_given key) (items_from takes 0 (map string_bytes words.now)) }
 {
@@ -163,7 +163,7 @@ pub fn places_given(takes: Takes, words: &[String], key: Key) -> Option<Places>
 }
 
 /// The number that is given to an option, if one is; `None` where it is none that the option may have.
-pub fn number_given(takes: Takes, words: &[String], key: Key) -> Option<Option<u32>>
+pub fn number_given(takes: OptionSet, words: &[String], key: Key) -> Option<Option<u32>>
     requires { length words.now ≤ 200 }
     ensures reads { result ≡ option_and_then (number_given (map string_bytes words.now) key) (items_from takes 0 (map string_bytes words.now)) }
     ensures within { IfSome result (λ given. IfSome given (λ n. IsNumberOf (kind_in key) n)) }
@@ -175,7 +175,7 @@ pub fn number_given(takes: Takes, words: &[String], key: Key) -> Option<Option<u
 }
 
 /// The same with a default.
-pub fn setting(takes: Takes, words: &[String], key: Key, default: u32) -> Option<u32>
+pub fn setting(takes: OptionSet, words: &[String], key: Key, default: u32) -> Option<u32>
     requires few { length words.now ≤ 200 }
     requires within { IsNumberOf (kind_in key) default }
     ensures reads { result ≡ option_and_then (setting (map string_bytes words.now) key default) (items_from takes 0 (map string_bytes words.now)) }

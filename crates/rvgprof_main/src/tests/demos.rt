@@ -2,12 +2,12 @@
 
 ghost use Rattle.std.specs.Prelude.{◌≤◌};
 
-use super::programs::{CALLS, LOOP, PRINTS, Program, elf};
-use super::rows::{Files, Row, gives};
+use super::programs::{CALLS, LOOP, PRINTS, Program, elf, host_with};
+use super::rows::{Files, Row, gives, prints};
 use super::runs::{CALL_ANSWER, CALL_LINE};
-use super::{joined, status};
+use super::{expect_printed, expect_status, joined, status};
 use host_port::{HostCall, MemHost};
-use std::alloc::Global;
+use std::alloc::{AllocError, Global};
 use std::process::Abort;
 use std::test::Fail;
 
@@ -60,38 +60,52 @@ index     %time        self    children                called  name
 ------------------------------------------------------------------------
 ";
 
+/// Words with the options of a run of 20 instructions, of which each fifth is sampled.
+fn sampled<'a>(alloc: Global, words: &[&'a str]) -> Result<Vec<&'a str>, AllocError> {
+    let mut all = words.to_vec(alloc)?;
+    all.extend_from_slice(&["--every", "5", "--budget", "20", "--ram", "4"])?;
+    Ok(all)
+}
+
+const PROFILED: [(&[&str], &[&str]); 7] = [
+    (&["profile", "e", "g"], &[FLAT, "\n", GRAPH]),
+    (&["profile", "e", "g", "-k", "_start/f"], &[CUT]),
+    (
+        &["profile", "--exact", "e", "g"],
+        &[FLAT, "\n", GRAPH, "\n", EXACT],
+    ),
+    (&["profile", "e", "--gnu", "g"], &[FLAT, "\n", GRAPH]),
+    (&["profile", "e", "g", "--flat"], &[FLAT]),
+    (&["profile", "--graph", "e", "g"], &[GRAPH]),
+    (&["profile", "e", "e"], &[FLAT, "\n", GRAPH]),
+];
+
+const PROFILED_LINE: &str =
+    "rvgprof: budget after 20 instructions: 4 samples, 1 calls, 0 lost, arcs on\n";
+
+/// A host on which some words and these options ran the program with a call.
+fn ran(rt: &impl Abort, alloc: Global, words: &[&str]) -> Result<MemHost, AllocError> {
+    let all = sampled(alloc, words)?;
+    let mut host = host_with(alloc, &CALLS)?;
+    expect_status(rt, alloc, &all, &mut host, 0)?;
+    Ok(host)
+}
+
+fn is_profiled(
+    rt: &impl Abort,
+    alloc: Global,
+    words: &[&str],
+    texts: &[&str],
+) -> Result<(), AllocError> {
+    let host = ran(rt, alloc, words)?;
+    assert_eq!(rt; host.errors(), PROFILED_LINE.as_bytes(), "{words:?}");
+    expect_printed(rt, alloc, words, &host, texts)
+}
+
 #[test]
 fn a_profile_is_of_its_run(rt: HostRuntime) -> Result<(), Fail> {
-    let alloc = rt.alloc();
-    let cases: [(&[&str], &[&str]); 7] = [
-        (&["profile", "e", "g"], &[FLAT, "\n", GRAPH]),
-        (&["profile", "e", "g", "-k", "_start/f"], &[CUT]),
-        (
-            &["profile", "--exact", "e", "g"],
-            &[FLAT, "\n", GRAPH, "\n", EXACT],
-        ),
-        (&["profile", "e", "--gnu", "g"], &[FLAT, "\n", GRAPH]),
-        (&["profile", "e", "g", "--flat"], &[FLAT]),
-        (&["profile", "--graph", "e", "g"], &[GRAPH]),
-        (&["profile", "e", "e"], &[FLAT, "\n", GRAPH]),
-    ];
-    for (words, texts) in cases {
-        let mut all = Vec::new(alloc);
-        all.extend_from_slice(words)?;
-        all.extend_from_slice(&["--every", "5", "--budget", "20", "--ram", "4"])?;
-        let mut host = MemHost::new(alloc);
-        host.put("e", &elf(alloc, &CALLS)?)?;
-        assert_eq!(rt; status(alloc, all.as_slice(), &mut host)?, 0, "{words:?}");
-        assert_eq!(rt;
-            host.printed(),
-            joined(alloc, texts)?.as_slice(),
-            "{words:?}"
-        );
-        assert_eq!(rt;
-            host.errors(),
-            b"rvgprof: budget after 20 instructions: 4 samples, 1 calls, 0 lost, arcs on\n".as_slice(),
-            "{words:?}"
-        );
+    for (words, texts) in PROFILED {
+        is_profiled(&rt, rt.alloc(), words, texts)?;
     }
     Ok(())
 }
@@ -124,92 +138,99 @@ index     %time        self    children                called  name
 ------------------------------------------------------------------------
 ";
 
-#[test]
-fn a_profile_without_a_function_leaves_a_whole_file(rt: HostRuntime) -> Result<(), Fail> {
-    let alloc = rt.alloc();
-    let program = elf(alloc, &CALLS)?;
+#[rattlefmt::skip]
+const WITHOUT_F: [(&[&str], &[&str]); 2] = [
+    (
+        &["profile", "e", "g", "--hide", "f", "--every", "1", "--budget", "6", "--ram", "4", "--flat"],
+        &[SIX_FLAT],
+    ),
+    (
+        &["profile", "e", "g", "--hide", "f", "--every", "1", "--budget", "6", "--ram", "4", "--flat", "--graph"],
+        &[SIX_FLAT, SIX_GRAPH],
+    ),
+];
+
+fn is_profiled_without_f(
+    rt: &impl Abort,
+    alloc: Global,
+    program: &[u8],
+    words: &[&str],
+    texts: &[&str],
+) -> Result<(), AllocError> {
+    let out = joined(alloc, texts)?;
     let files = Files {
-        program: &program,
+        program,
         profile: b"",
     };
-    let cases: [(&[&str], &[&str]); 2] = [
-        (&["--flat"], &[SIX_FLAT]),
-        (&["--flat", "--graph"], &[SIX_FLAT, SIX_GRAPH]),
-    ];
-    for (options, texts) in cases {
-        let mut words = [
-            "profile", "e", "g", "--hide", "f", "--every", "1", "--budget", "6", "--ram", "4",
-        ]
-        .to_vec(alloc)?;
-        words.extend_from_slice(options)?;
-        let out = joined(alloc, texts)?;
-        let row = Row {
-            words: &words,
-            answer: CALL_ANSWER,
-            out: &out,
-            err: CALL_LINE,
-            left: &SIX,
-        };
-        gives(&rt, alloc, files, &row)?;
+    let row = Row {
+        words,
+        answer: CALL_ANSWER,
+        out: &out,
+        err: CALL_LINE,
+        left: &SIX,
+    };
+    gives(rt, alloc, files, &row)
+}
+
+#[test]
+fn a_profile_without_a_function_leaves_a_whole_file(rt: HostRuntime) -> Result<(), Fail> {
+    let program = elf(rt.alloc(), &CALLS)?;
+    for (words, texts) in WITHOUT_F {
+        is_profiled_without_f(&rt, rt.alloc(), &program, words, texts)?;
     }
     Ok(())
 }
 
-/// A host on which a command ran a program.
-fn ran(rt: &impl Abort, alloc: Global, command: &[&str]) -> Result<MemHost, Fail> {
-    let mut words = command.to_vec(alloc)?;
-    words.extend_from_slice(&[
-        "e", "g", "--image", "i", "--every", "5", "--budget", "20", "--ram", "4",
-    ])?;
-    let mut host = MemHost::new(alloc);
-    host.put("e", &elf(alloc, &CALLS)?)?;
-    assert_eq!(rt;
-        status(alloc, words.as_slice(), &mut host)?,
-        0,
-        "{command:?}"
-    );
-    Ok(host)
+fn expect_same_files(rt: &impl Abort, run: &MemHost, profiled: &MemHost) {
+    for name in ["g", "i"] {
+        let file = run.file(name).unwrap_or_default();
+        assert!(rt; !file.is_empty(), "{name}");
+        assert!(rt; profiled.file(name) == Some(file), "{name}");
+    }
+    assert_eq!(rt; profiled.errors(), run.errors());
 }
 
 #[test]
 fn a_profile_leaves_what_a_run_leaves(rt: HostRuntime) -> Result<(), Fail> {
     let alloc = rt.alloc();
-    let run = ran(&rt, alloc, &["run"])?;
-    let profiled = ran(&rt, alloc, &["profile", "--exact", "-k", "_start/f"])?;
-    for name in ["g", "i"] {
-        let file = run.file(name).ok_or("no file")?;
-        assert!(rt; !file.is_empty(), "{name}");
-        assert!(rt; profiled.file(name) == Some(file), "{name}");
-    }
-    assert_eq!(rt; profiled.errors(), run.errors());
+    let run = ran(&rt, alloc, &["run", "e", "g", "--image", "i"])?;
+    let words = [
+        "profile", "--exact", "-k", "_start/f", "e", "g", "--image", "i",
+    ];
+    let profiled = ran(&rt, alloc, &words)?;
+    expect_same_files(&rt, &run, &profiled);
+    Ok(())
+}
+
+const NOT_UNDERSTOOD: [&[&str]; 11] = [
+    &["profile", "e"],
+    &["profile", "e", "g", "h"],
+    &["profile", "e", "g", "--elf", "d"],
+    &["demo"],
+    &["demo", "0"],
+    &["demo", "2001"],
+    &["demo", "01"],
+    &["demo", "1", "g"],
+    &["demo", "1", "--flat"],
+    &["demo", "1", "--image", "i"],
+    &["demo", "1", "--elf", "d", "--elf", "d"],
+];
+
+fn words_are_refused(rt: &impl Abort, alloc: Global, words: &[&str]) -> Result<(), AllocError> {
+    let mut host = host_with(alloc, &LOOP)?;
+    expect_status(rt, alloc, words, &mut host, 1)?;
+    assert_eq!(rt;
+        host.errors(),
+        b"rvgprof: words not understood\n".as_slice(),
+        "{words:?}"
+    );
     Ok(())
 }
 
 #[test]
 fn words_of_a_profile_and_a_demo_are_refused(rt: HostRuntime) -> Result<(), Fail> {
-    let alloc = rt.alloc();
-    let refused: [&[&str]; 11] = [
-        &["profile", "e"],
-        &["profile", "e", "g", "h"],
-        &["profile", "e", "g", "--elf", "d"],
-        &["demo"],
-        &["demo", "0"],
-        &["demo", "2001"],
-        &["demo", "01"],
-        &["demo", "1", "g"],
-        &["demo", "1", "--flat"],
-        &["demo", "1", "--image", "i"],
-        &["demo", "1", "--elf", "d", "--elf", "d"],
-    ];
-    for words in refused {
-        let mut host = MemHost::new(alloc);
-        host.put("e", &elf(alloc, &LOOP)?)?;
-        assert_eq!(rt; status(alloc, words, &mut host)?, 1, "{words:?}");
-        assert_eq!(rt;
-            host.errors(),
-            b"rvgprof: words not understood\n".as_slice(),
-            "{words:?}"
-        );
+    for words in NOT_UNDERSTOOD {
+        words_are_refused(&rt, rt.alloc(), words)?;
     }
     Ok(())
 }
@@ -218,80 +239,108 @@ fn words_of_a_profile_and_a_demo_are_refused(rt: HostRuntime) -> Result<(), Fail
 fn fails_at(
     rt: &impl Abort,
     alloc: Global,
-    program: &Program,
+    whole: &[u8],
     step: usize,
     call: u64,
-) -> Result<Option<HostCall>, Fail>
+) -> Result<Option<HostCall>, AllocError>
     requires { 1 ≤ step }
 {
-    let mut host = MemHost::new(alloc);
-    host.put("e", &elf(alloc, program)?)?;
+    let mut host = host_with(alloc, &PRINTS)?;
     host.set_step(step);
     host.fail_at(call)?;
     let answer = status(alloc, &["profile", "e", "g", "--ram", "4"], &mut host)?;
-    let failed = host.first_failed();
-    let whole = joined(alloc, &["\u{13}\u{5}\u{10}\0", EMPTY])?;
-    let wanted = match failed {
+    expect_failed(rt, &host, answer, whole, step, call);
+    Ok(host.first_failed())
+}
+
+/// The status that is wanted where a call of this kind was the first that failed.
+fn wanted_status(failed: Option<HostCall>, is_whole: bool) -> u8 {
+    match failed {
         None => 0,
         Some(HostCall::OpenInput | HostCall::Read) => 5,
-        Some(HostCall::ErrOut) if host.printed().len() == whole.len() => 0,
+        Some(HostCall::ErrOut) if is_whole => 0,
         Some(_) => 6,
-    };
+    }
+}
+
+fn expect_failed(
+    rt: &impl Abort,
+    host: &MemHost,
+    answer: u8,
+    whole: &[u8],
+    step: usize,
+    call: u64,
+) {
+    let is_whole = host.printed().len() == whole.len();
+    let wanted = wanted_status(host.first_failed(), is_whole);
     assert_eq!(rt; answer, wanted, "call {call}, step {step}");
     assert!(rt;
         whole.starts_with(host.printed()),
         "call {call}, step {step}"
     );
-    assert!(rt;
-        answer != 0 || host.printed().len() == whole.len(),
-        "call {call}, step {step}"
-    );
-    Ok(failed)
+    assert!(rt; answer != 0 || is_whole, "call {call}, step {step}");
 }
 
 /// Lets each call of a profile fail in turn: so many of each kind, in their order, and no others.
-fn fail_in_turn(
+fn fail_by_kinds(
     rt: &impl Abort,
     alloc: Global,
+    whole: &[u8],
     step: usize,
     kinds: &[(usize, HostCall)],
-) -> Result<(), Fail>
+) -> Result<(), AllocError>
     requires { 1 ≤ step }
 {
     let mut call = 0u64;
     for (calls, kind) in kinds {
         for _ in 0..*calls {
-            let failed = fails_at(rt, alloc, &PRINTS, step, call)?;
+            let failed = fails_at(rt, alloc, whole, step, call)?;
             assert_eq!(rt; failed, Some(*kind), "call {call}, step {step}");
             call = call.saturating_add(1);
         }
     }
-    let failed = fails_at(rt, alloc, &PRINTS, step, call)?;
+    let failed = fails_at(rt, alloc, whole, step, call)?;
     assert_eq!(rt; failed, None, "call {call}, step {step}");
     Ok(())
 }
 
+fn fail_in_turn(
+    rt: &impl Abort,
+    alloc: Global,
+    step: usize,
+    kinds: &[(usize, HostCall)],
+) -> Result<(), AllocError>
+    requires { 1 ≤ step }
+{
+    let whole = joined(alloc, &["\u{13}\u{5}\u{10}\0", EMPTY])?;
+    fail_by_kinds(rt, alloc, &whole, step, kinds)
+}
+
+const KINDS: [(usize, HostCall); 9] = [
+    (1, HostCall::OpenInput),
+    (3, HostCall::Read),
+    (1, HostCall::Out),
+    (1, HostCall::ErrOut),
+    (1, HostCall::CreateOutput),
+    (1, HostCall::Write),
+    (1, HostCall::CloseOutput),
+    (3, HostCall::Out),
+    (1, HostCall::ErrOut),
+];
+
 #[test]
 fn each_failing_call_of_a_profile_has_its_answer(rt: HostRuntime) -> Result<(), Fail> {
-    let kinds = [
-        (1, HostCall::OpenInput),
-        (3, HostCall::Read),
-        (1, HostCall::Out),
-        (1, HostCall::ErrOut),
-        (1, HostCall::CreateOutput),
-        (1, HostCall::Write),
-        (1, HostCall::CloseOutput),
-        (3, HostCall::Out),
-        (1, HostCall::ErrOut),
-    ];
-    fail_in_turn(&rt, rt.alloc(), usize::MAX, &kinds)
+    fail_in_turn(&rt, rt.alloc(), usize::MAX, &KINDS)?;
+    Ok(())
 }
+
+const PRINTS_LINE: &str =
+    "rvgprof: exit 4 after 9 instructions: 0 samples, 0 calls, 0 lost, arcs on\n";
 
 #[test]
 fn each_failing_call_of_a_profile_has_its_answer_byte_by_byte(rt: HostRuntime) -> Result<(), Fail> {
-    let alloc = rt.alloc();
-    let program = elf(alloc, &PRINTS)?;
-    let line = "rvgprof: exit 4 after 9 instructions: 0 samples, 0 calls, 0 lost, arcs on\n";
+    let program = elf(rt.alloc(), &PRINTS)?;
+
     // The bytes of the program and its end, its prints, the file of nine counters, the reports, the last line.
     let kinds = [
         (1, HostCall::OpenInput),
@@ -302,9 +351,10 @@ fn each_failing_call_of_a_profile_has_its_answer_byte_by_byte(rt: HostRuntime) -
         (32 + 2 * 9, HostCall::Write),
         (1, HostCall::CloseOutput),
         (EMPTY.len(), HostCall::Out),
-        (line.len(), HostCall::ErrOut),
+        (PRINTS_LINE.len(), HostCall::ErrOut),
     ];
-    fail_in_turn(&rt, alloc, 1, &kinds)
+    fail_in_turn(&rt, rt.alloc(), 1, &kinds)?;
+    Ok(())
 }
 
 /// The demo's program of one function: `_start` calls `f0` a hundred times, and that calls `_mcount` and
@@ -331,61 +381,63 @@ const DEMO_LINE: &str =
 const DEMO_ANSWER: &str =
     "Ok(Done { run: Some(RunSummary { end: Exit(0), retired: 3404, samples: 3, calls: 100, lost: 0, state: On }) })";
 
+const DEMO_NUMBERS: &str =
+    "demo 1: 3404 instructions, 3 samples, 100 calls, 0 lost, 1 arcs, 0 cycles
+attributed 3000000 grains, roots 3000000 grains
+";
+
+const DEMO_SYMBOLS: &str = "text 00010000 00010140 entry 00010000 mcount 00010020 moncontrol -
+00010000 32 _start
+00010020 32 _mcount
+00010040 256 f0
+";
+
+fn demo_is_of_program(rt: &impl Abort, alloc: Global, program: &[u8]) -> Result<(), AllocError> {
+    let mut host = MemHost::new(alloc);
+    expect_status(rt, alloc, &["demo", "1", "--elf", "d"], &mut host, 0)?;
+    assert_eq!(rt; host.printed(), DEMO_NUMBERS.as_bytes());
+    assert_eq!(rt; host.errors(), DEMO_LINE.as_bytes());
+    assert_eq!(rt; host.file("d"), Some(program));
+    Ok(())
+}
+
 #[test]
 fn the_demo_of_one_function(rt: HostRuntime) -> Result<(), Fail> {
     let alloc = rt.alloc();
     let program = elf(alloc, &DEMO)?;
-    let mut host = MemHost::new(alloc);
-    assert_eq!(rt; status(alloc, &["demo", "1", "--elf", "d"], &mut host)?, 0);
-    assert_eq!(rt;
-        host.printed(),
-        b"demo 1: 3404 instructions, 3 samples, 100 calls, 0 lost, 1 arcs, 0 cycles
-attributed 3000000 grains, roots 3000000 grains
-"
-            .as_slice()
-    );
-    assert_eq!(rt; host.errors(), DEMO_LINE.as_bytes());
-    assert_eq!(rt; host.file("d"), Some(program.as_slice()));
+    demo_is_of_program(&rt, alloc, &program)?;
     let files = Files {
         program: &program,
         profile: b"",
     };
-    let row = Row {
-        words: &["syms", "e"],
-        answer: "Ok(Done { run: None })",
-        out: b"text 00010000 00010140 entry 00010000 mcount 00010020 moncontrol -
-00010000 32 _start
-00010020 32 _mcount
-00010040 256 f0
-",
-        err: "",
-        left: b"",
-    };
-    gives(&rt, alloc, files, &row)
+    prints(&rt, alloc, files, &["syms", "e"], DEMO_SYMBOLS)?;
+    Ok(())
 }
+
+const DEMO_STACKS: Row = Row {
+    words: &["folded", "e", "--ram", "4"],
+    answer: DEMO_ANSWER,
+    out: b"_start;f0 3\n",
+    err: DEMO_LINE,
+    left: b"",
+};
+
+const DEMO_INCLUSIVE: Row = Row {
+    words: &["folded", "--inclusive", "e", "--ram", "4"],
+    out: b"_start 3\nf0 3\n",
+    ..DEMO_STACKS
+};
 
 #[test]
 fn stacks_of_the_demo_are_folded(rt: HostRuntime) -> Result<(), Fail> {
-    let alloc = rt.alloc();
-    let program = elf(alloc, &DEMO)?;
+    let program = elf(rt.alloc(), &DEMO)?;
     let files = Files {
         program: &program,
         profile: b"",
     };
-    let stacks = Row {
-        words: &["folded", "e", "--ram", "4"],
-        answer: DEMO_ANSWER,
-        out: b"_start;f0 3\n",
-        err: DEMO_LINE,
-        left: b"",
-    };
-    gives(&rt, alloc, files, &stacks)?;
-    let inclusive = Row {
-        words: &["folded", "--inclusive", "e", "--ram", "4"],
-        out: b"_start 3\nf0 3\n",
-        ..stacks
-    };
-    gives(&rt, alloc, files, &inclusive)
+    gives(&rt, rt.alloc(), files, &DEMO_STACKS)?;
+    gives(&rt, rt.alloc(), files, &DEMO_INCLUSIVE)?;
+    Ok(())
 }
 
 /// Options of a run of the demo's program, its end line, the length of its profile, and how that is shown.
@@ -463,17 +515,13 @@ fn host_after(
     alloc: Global,
     program: &[u8],
     options: &[&str],
-) -> Result<MemHost, Fail> {
+) -> Result<MemHost, AllocError> {
     let mut words = options.to_vec(alloc)?;
     words.extend_from_slice(&["e", "g", "--ram", "4"])?;
     words.insert(0, "run")?;
     let mut host = MemHost::new(alloc);
     host.put("e", program)?;
-    assert_eq!(rt;
-        status(alloc, words.as_slice(), &mut host)?,
-        0,
-        "{options:?}"
-    );
+    expect_status(rt, alloc, &words, &mut host, 0)?;
     Ok(host)
 }
 
@@ -483,32 +531,34 @@ fn profile_of(
     alloc: Global,
     program: &[u8],
     options: &[&str],
-) -> Result<Vec<u8>, Fail> {
+) -> Result<Vec<u8>, AllocError> {
     let host = host_after(rt, alloc, program, options)?;
-    Ok(host.file("g").ok_or("no profile")?.to_vec(alloc)?)
+    host.file("g").unwrap_or_default().to_vec(alloc)
+}
+
+fn demo_profile_is_shown(
+    rt: &impl Abort,
+    alloc: Global,
+    program: &[u8],
+    options: &[&str],
+    (line, len, text): (&str, usize, &str),
+) -> Result<(), AllocError> {
+    let host = host_after(rt, alloc, program, options)?;
+    let profile = host.file("g").unwrap_or_default();
+    assert_eq!(rt; host.errors(), line.as_bytes(), "{options:?}");
+    assert_eq!(rt; profile.len(), len, "{options:?}");
+    let files = Files {
+        program: b"",
+        profile,
+    };
+    prints(rt, alloc, files, &["show", "g"], text)
 }
 
 #[test]
 fn profiles_of_the_demo_are_shown(rt: HostRuntime) -> Result<(), Fail> {
-    let alloc = rt.alloc();
-    let program = elf(alloc, &DEMO)?;
+    let program = elf(rt.alloc(), &DEMO)?;
     for (options, line, len, text) in DEMO_PROFILES {
-        let host = host_after(&rt, alloc, &program, options)?;
-        let profile = host.file("g").ok_or("no profile")?;
-        assert_eq!(rt; host.errors(), line.as_bytes(), "{options:?}");
-        assert_eq!(rt; profile.len(), len, "{options:?}");
-        let files = Files {
-            program: b"",
-            profile,
-        };
-        let row = Row {
-            words: &["show", "g"],
-            answer: "Ok(Done { run: None })",
-            out: text.as_bytes(),
-            err: "",
-            left: profile,
-        };
-        gives(&rt, alloc, files, &row)?;
+        demo_profile_is_shown(&rt, rt.alloc(), &program, options, (line, len, text))?;
     }
     Ok(())
 }
@@ -520,24 +570,19 @@ fn lists(
     program: &[u8],
     profile: &[u8],
     lines: &str,
-) -> Result<(), Fail> {
+) -> Result<(), AllocError> {
     let mut host = MemHost::new(alloc);
     host.put("e", program)?;
     host.put("g", profile)?;
-    assert_eq!(rt; status(alloc, &["annotate", "e", "g"], &mut host)?, 0);
-    let text = str::from_utf8(host.printed()).map_err(|_| "no text")?;
+    expect_status(rt, alloc, &["annotate", "e", "g"], &mut host, 0)?;
+    let text = str::from_utf8(host.printed()).unwrap_or_default();
     assert!(rt; text.find(lines).is_some(), "{lines}");
     Ok(())
 }
 
-#[test]
-fn instructions_of_the_demo_are_counted(rt: HostRuntime) -> Result<(), Fail> {
-    let alloc = rt.alloc();
-    let program = elf(alloc, &DEMO)?;
-    let counted = profile_of(&rt, alloc, &program, &["--gnu", "--blocks"])?;
+/// The record of executions: twenty pairs, from 0x10000 with 1 on to 0x10070 with 100.
+fn expect_executions(rt: &impl Abort, counted: &[u8]) {
     assert_eq!(rt; counted.len(), 391);
-
-    // The record of executions: twenty pairs, from 0x10000 with 1 on to 0x10070 with 100.
     assert_eq!(rt;
         counted.get(226..239),
         Some([2, 20, 0, 0, 0, 0, 0, 1, 0, 1, 0, 0, 0].as_slice())
@@ -546,55 +591,74 @@ fn instructions_of_the_demo_are_counted(rt: HostRuntime) -> Result<(), Fail> {
         counted.get(383..),
         Some([0x70, 0, 1, 0, 100, 0, 0, 0].as_slice())
     );
-    lists(
-        &rt,
-        alloc,
-        &program,
-        &counted,
-        "
+}
+
+const COUNTED_LINES: &str = "
 00010058        1000           2000000  fe029ee3  bne x5, x0, 0x00010054
 0001005c         100                 0  00000013  addi x0, x0, 0
-",
-    )?;
-    lists(
-        &rt,
-        alloc,
-        &program,
-        &profile_of(&rt, alloc, &program, &[])?,
-        "
+";
+
+const UNCOUNTED_LINES: &str = "
 00010058           0           2000000  fe029ee3  bne x5, x0, 0x00010054
 0001005c           0                 0  00000013  addi x0, x0, 0
+";
+
+fn counts_are_listed(rt: &impl Abort, alloc: Global, program: &[u8]) -> Result<(), AllocError> {
+    let profile = profile_of(rt, alloc, program, &["--gnu", "--blocks"])?;
+    expect_executions(rt, &profile);
+    lists(rt, alloc, program, &profile, COUNTED_LINES)
+}
+
+fn no_counts_are_listed(rt: &impl Abort, alloc: Global, program: &[u8]) -> Result<(), AllocError> {
+    let profile = profile_of(rt, alloc, program, &[])?;
+    lists(rt, alloc, program, &profile, UNCOUNTED_LINES)
+}
+
+#[test]
+fn instructions_of_the_demo_are_counted(rt: HostRuntime) -> Result<(), Fail> {
+    let program = elf(rt.alloc(), &DEMO)?;
+    counts_are_listed(&rt, rt.alloc(), &program)?;
+    no_counts_are_listed(&rt, rt.alloc(), &program)?;
+    Ok(())
+}
+
+const DEMOS: [(&[&str], &str); 3] = [
+    (
+        &["demo", "1", "--harts", "3", "--seed", "9", "--ram", "4"],
+        "demo 1: 10086 instructions, 10 samples, 278 calls, 19 lost, 1 arcs, 0 cycles
+attributed 10000000 grains, roots 10000000 grains
 ",
-    )
+    ),
+    (
+        &["demo", "300"],
+        "demo 300: 6641204 instructions, 6641 samples, 59900 calls, 0 lost, 599 arcs, 0 cycles
+attributed 6641000000 grains, roots 6641000000 grains
+",
+    ),
+    (
+        &["demo", "1", "--harts", "3", "--quantum", "4", "--ram", "4"],
+        "demo 1: 10204 instructions, 10 samples, 240 calls, 60 lost, 1 arcs, 0 cycles
+attributed 10000000 grains, roots 10000000 grains
+",
+    ),
+];
+
+fn demo_prints(
+    rt: &impl Abort,
+    alloc: Global,
+    words: &[&str],
+    text: &str,
+) -> Result<(), AllocError> {
+    let mut host = MemHost::new(alloc);
+    expect_status(rt, alloc, words, &mut host, 0)?;
+    assert_eq!(rt; host.printed(), text.as_bytes(), "{words:?}");
+    Ok(())
 }
 
 #[test]
 fn demos_print_their_numbers(rt: HostRuntime) -> Result<(), Fail> {
-    let alloc = rt.alloc();
-    let cases: [(&[&str], &str); 3] = [
-        (
-            &["demo", "1", "--harts", "3", "--seed", "9", "--ram", "4"],
-            "demo 1: 10086 instructions, 10 samples, 278 calls, 19 lost, 1 arcs, 0 cycles
-attributed 10000000 grains, roots 10000000 grains
-",
-        ),
-        (
-            &["demo", "300"],
-            "demo 300: 6641204 instructions, 6641 samples, 59900 calls, 0 lost, 599 arcs, 0 cycles
-attributed 6641000000 grains, roots 6641000000 grains
-",
-        ),
-        (
-            &["demo", "1", "--harts", "3", "--quantum", "4", "--ram", "4"],
-            "demo 1: 10204 instructions, 10 samples, 240 calls, 60 lost, 1 arcs, 0 cycles
-attributed 10000000 grains, roots 10000000 grains
-",
-        ),
-    ];
-    for (words, text) in cases {
-        let mut host = MemHost::new(alloc);
-        assert_eq!(rt; status(alloc, words, &mut host)?, 0, "{words:?}");
-        assert_eq!(rt; host.printed(), text.as_bytes(), "{words:?}");
+    for (words, text) in DEMOS {
+        demo_prints(&rt, rt.alloc(), words, text)?;
     }
     Ok(())
 }

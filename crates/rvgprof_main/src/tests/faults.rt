@@ -1,168 +1,195 @@
 //! What is refused, and calls on the host that fail.
 
-ghost use Rattle.std.specs.Prelude.{◌≤◌};
+ghost use Rattle.std.specs.Prelude.{◌≡◌, ◌≤◌, false, IfOk};
+ghost use Rattle.host_port.specs.Memory.{outside_of};
 
 use super::programs::{LOOP, PRINTS, TELLS, elf, patch, twisted};
 use super::rows::{Files, Row, fails_in_turn, gives_by};
 use super::sums::SUM;
-use super::{status, status_of};
+use super::{expect_status, status, status_of};
 use elf32_syms::ElfRefusal;
 use gp_base::GmonRefusal;
 use host_port::{HostCall, MemHost};
 use rvgprof::{Done, Fault};
-use std::alloc::Global;
+use std::alloc::{AllocError, Global};
 use std::process::Abort;
 use std::test::Fail;
 
+const STATUSES: [(u8, Fault); 10] = [
+    (1, Fault::Usage),
+    (
+        2,
+        Fault::BadElf {
+            refusal: ElfRefusal::Magic,
+        },
+    ),
+    (
+        3,
+        Fault::BadProfile {
+            refusal: GmonRefusal::Rest { at: 160 },
+            word: 1,
+        },
+    ),
+    (5, Fault::ReadFault { word: 1 }),
+    (6, Fault::WriteFault),
+    (7, Fault::OutOfMemory),
+    (8, Fault::TooWide { head: 4, arc: 3 }),
+    (
+        9,
+        Fault::TooLarge {
+            word: 1,
+            limit: 67_108_864,
+        },
+    ),
+    (
+        10,
+        Fault::ProgramTooLarge {
+            need: 5_308_416,
+            end: 4_259_840,
+        },
+    ),
+    (11, Fault::EntryOutside { entry: 0x1_0002 }),
+];
+
 #[test]
 fn each_answer_has_its_status(rt: HostRuntime) {
-    let faults = [
-        (1, Fault::Usage),
-        (
-            2,
-            Fault::BadElf {
-                refusal: ElfRefusal::Magic,
-            },
-        ),
-        (
-            3,
-            Fault::BadProfile {
-                refusal: GmonRefusal::Rest { at: 160 },
-                word: 1,
-            },
-        ),
-        (5, Fault::ReadFault { word: 1 }),
-        (6, Fault::WriteFault),
-        (7, Fault::OutOfMemory),
-        (8, Fault::TooWide { head: 4, arc: 3 }),
-        (
-            9,
-            Fault::TooLarge {
-                word: 1,
-                limit: 67_108_864,
-            },
-        ),
-        (
-            10,
-            Fault::ProgramTooLarge {
-                need: 5_308_416,
-                end: 4_259_840,
-            },
-        ),
-        (11, Fault::EntryOutside { entry: 0x1_0002 }),
-    ];
-    for (wanted, fault) in faults {
+    for (wanted, fault) in STATUSES {
         assert_eq!(rt; status_of(&Err(fault)), wanted);
     }
     assert_eq!(rt; status_of(&Ok(Done { run: None })), 0);
 }
 
+const NOT_UNDERSTOOD: [&[&str]; 13] = [
+    &[],
+    &["show"],
+    &["show", "a", "b"],
+    &["show", "-x"],
+    &["shown", "g"],
+    &["syms", "--", "e"],
+    &["run", "e"],
+    &["run", "e", "g", "h"],
+    &["run", "e", "g", "--every", "0"],
+    &["run", "e", "g", "--every", "5", "--every", "5"],
+    &["run", "e", "g", "--harts", "9"],
+    &[
+        "run",
+        "e",
+        "g",
+        "--harts",
+        "2",
+        "--quantum",
+        "1",
+        "--seed",
+        "1",
+    ],
+    &["run", "e", "g", "--image"],
+];
+
+fn words_are_refused(rt: &impl Abort, alloc: Global, words: &[&str]) -> Result<(), AllocError> {
+    let mut host = MemHost::new(alloc);
+    host.fail_at(1)?;
+    expect_status(rt, alloc, words, &mut host, 1)?;
+    expect_not_understood(rt, words, &host);
+    Ok(())
+}
+
+fn expect_not_understood(rt: &impl Abort, words: &[&str], host: &MemHost) {
+    assert_eq!(rt;
+        host.errors(),
+        b"rvgprof: words not understood\n".as_slice()
+    );
+    assert_eq!(rt; host.failures(), 0, "{words:?}");
+}
+
 #[test]
 fn words_are_refused_before_any_other_call(rt: HostRuntime) -> Result<(), Fail> {
-    let alloc = rt.alloc();
-    let refused: [&[&str]; 13] = [
-        &[],
-        &["show"],
-        &["show", "a", "b"],
-        &["show", "-x"],
-        &["shown", "g"],
-        &["syms", "--", "e"],
-        &["run", "e"],
-        &["run", "e", "g", "h"],
-        &["run", "e", "g", "--every", "0"],
-        &["run", "e", "g", "--every", "5", "--every", "5"],
-        &["run", "e", "g", "--harts", "9"],
-        &[
-            "run",
-            "e",
-            "g",
-            "--harts",
-            "2",
-            "--quantum",
-            "1",
-            "--seed",
-            "1",
-        ],
-        &["run", "e", "g", "--image"],
-    ];
-    for words in refused {
-        let mut host = MemHost::new(alloc);
-        host.fail_at(1)?;
-        assert_eq!(rt; status(alloc, words, &mut host)?, 1, "{words:?}");
-        assert_eq!(rt;
-            host.errors(),
-            b"rvgprof: words not understood\n".as_slice()
-        );
-        assert_eq!(rt; host.failures(), 0, "{words:?}");
+    for words in NOT_UNDERSTOOD {
+        words_are_refused(&rt, rt.alloc(), words)?;
     }
     Ok(())
 }
 
-#[test]
-fn files_and_programs_are_refused_with_their_lines(rt: HostRuntime) -> Result<(), Fail> {
-    let alloc = rt.alloc();
-    let cases: [(usize, u32, &[&str], u8, &str); 7] = [
-        (
-            9_999,
-            0,
-            &["show", "nope"],
-            5,
-            "rvgprof: read fault on nope\n",
-        ),
-        (9_999, 0, &["syms", ""], 5, "rvgprof: read fault on \n"),
-        (0, 0, &["run", "e", "g"], 2, "rvgprof: bad elf: magic\n"),
-        (
-            72,
-            0x0030_0000,
-            &["run", "e", "g", "--ram", "4"],
-            10,
-            "rvgprof: program too large: needs 5308416, ram ends 4259840\n",
-        ),
-        (
-            24,
-            0x1_0002,
-            &["run", "e", "g"],
-            11,
-            "rvgprof: entry outside 00010002\n",
-        ),
-        (
-            24,
-            0,
-            &["run", "e", "g"],
-            11,
-            "rvgprof: entry outside 00000000\n",
-        ),
-        (
-            9_999,
-            0,
-            &["run", "nope", "g"],
-            5,
-            "rvgprof: read fault on nope\n",
-        ),
-    ];
-    for (at, word, words, answer, line) in cases {
-        let mut file = elf(alloc, &LOOP)?;
-        patch(&mut file, at, word);
-        refuses(&rt, alloc, &file, words, answer, line)?;
-    }
-    Ok(())
+/// A word of the endless loop's file that is changed, the words, the status, and the line.
+const PATCHES: [(usize, u32, &[&str], u8, &str); 7] = [
+    (
+        9_999,
+        0,
+        &["show", "nope"],
+        5,
+        "rvgprof: read fault on nope\n",
+    ),
+    (9_999, 0, &["syms", ""], 5, "rvgprof: read fault on \n"),
+    (0, 0, &["run", "e", "g"], 2, "rvgprof: bad elf: magic\n"),
+    (
+        72,
+        0x0030_0000,
+        &["run", "e", "g", "--ram", "4"],
+        10,
+        "rvgprof: program too large: needs 5308416, ram ends 4259840\n",
+    ),
+    (
+        24,
+        0x1_0002,
+        &["run", "e", "g"],
+        11,
+        "rvgprof: entry outside 00010002\n",
+    ),
+    (
+        24,
+        0,
+        &["run", "e", "g"],
+        11,
+        "rvgprof: entry outside 00000000\n",
+    ),
+    (
+        9_999,
+        0,
+        &["run", "nope", "g"],
+        5,
+        "rvgprof: read fault on nope\n",
+    ),
+];
+
+fn patched_is_refused(
+    rt: &impl Abort,
+    alloc: Global,
+    (at, word): (usize, u32),
+    words: &[&str],
+    answer: u8,
+    line: &str,
+) -> Result<(), AllocError> {
+    let mut file = elf(alloc, &LOOP)?;
+    patch(&mut file, at, word);
+    is_refused(rt, alloc, &file, words, answer, line)
 }
 
 /// Looks at a refusal: nothing is printed but its line, and no profile is made.
-fn refuses(
+fn is_refused(
     rt: &impl Abort,
     alloc: Global,
     file: &[u8],
     words: &[&str],
     answer: u8,
     line: &str,
-) -> Result<(), Fail> {
+) -> Result<(), AllocError> {
     let mut host = MemHost::new(alloc);
     host.put("e", file)?;
-    assert_eq!(rt; status(alloc, words, &mut host)?, answer, "{line}");
+    expect_status(rt, alloc, words, &mut host, answer)?;
+    expect_line_alone(rt, &host, line);
+    Ok(())
+}
+
+fn expect_line_alone(rt: &impl Abort, host: &MemHost, line: &str) {
     assert_eq!(rt; host.errors(), line.as_bytes());
     assert!(rt; host.file("g").is_none(), "{line}");
     assert_eq!(rt; host.printed().len(), 0, "{line}");
+}
+
+#[test]
+fn files_and_programs_are_refused_with_their_lines(rt: HostRuntime) -> Result<(), Fail> {
+    for (at, word, words, answer, line) in PATCHES {
+        patched_is_refused(&rt, rt.alloc(), (at, word), words, answer, line)?;
+    }
     Ok(())
 }
 
@@ -177,6 +204,18 @@ fn wanted_status(failed: Option<HostCall>, has_profile: bool) -> u8 {
     }
 }
 
+/// A host with a program, on which one call fails.
+fn failing_host(alloc: Global, file: &[u8], step: usize, call: u64) -> Result<MemHost, AllocError>
+    requires { 1 ≤ step }
+    ensures { IfOk result (λ host. (outside_of host).is_writing ≡ false) }
+{
+    let mut host = MemHost::new(alloc);
+    host.put("e", file)?;
+    host.set_step(step);
+    host.fail_at(call)?;
+    Ok(host)
+}
+
 /// Runs a program with one call that fails, looks at the answer, and tells whether the call was made.
 fn fails_at(
     rt: &impl Abort,
@@ -185,14 +224,16 @@ fn fails_at(
     words: &[&str],
     step: usize,
     call: u64,
-) -> Result<bool, Fail>
+) -> Result<bool, AllocError>
     requires { 1 ≤ step }
 {
-    let mut host = MemHost::new(alloc);
-    host.put("e", file)?;
-    host.set_step(step);
-    host.fail_at(call)?;
+    let mut host = failing_host(alloc, file, step, call)?;
     let answer = status(alloc, words, &mut host)?;
+    expect_failed(rt, &host, answer, step, call);
+    Ok(host.first_failed().is_some())
+}
+
+fn expect_failed(rt: &impl Abort, host: &MemHost, answer: u8, step: usize, call: u64) {
     let failed = host.first_failed();
     let has_profile = host.file("g").is_some();
     assert_eq!(rt;
@@ -209,7 +250,6 @@ fn fails_at(
         failed.is_some() || out.len() == 4,
         "whole output, call {call}"
     );
-    Ok(failed.is_some())
 }
 
 #[test]
@@ -250,41 +290,53 @@ fn each_failing_call_has_its_answer_byte_by_byte(rt: HostRuntime) -> Result<(), 
     Ok(())
 }
 
+/// The words, the call that fails, the one that tells of it, and the status.
+const LINES: [(&[&str], u64, u64, u8); 2] = [
+    (&["show", "nope"], 0, 1, 5),
+    (&["run", "e", "g", "--ram", "4", "--budget", "1"], 4, 5, 6),
+];
+
 #[test]
 fn where_the_line_of_a_failed_call_fails_the_answer_is_the_same(
     rt: HostRuntime,
 ) -> Result<(), Fail> {
     let alloc = rt.alloc();
     let loops = elf(alloc, &LOOP)?;
-    let run = ["run", "e", "g", "--ram", "4", "--budget", "1"];
-    let cases: [(&[&str], u64, u64, u8); 2] = [(&["show", "nope"], 0, 1, 5), (&run, 4, 5, 6)];
-    for (words, failing, line, answer) in cases {
-        ends_alike(&rt, alloc, &loops, words, failing, line, answer)?;
+    for (words, failing, line, answer) in LINES {
+        ends_with_its_line(&rt, alloc, &loops, words, failing, answer)?;
+        ends_without_its_line(&rt, alloc, &loops, words, (failing, line), answer)?;
     }
     Ok(())
 }
 
-/// Looks at an answer where a call fails, twice: with its last line, whose call has this number, and
-/// without.
-fn ends_alike(
+/// Looks at an answer where a call fails.
+fn ends_with_its_line(
     rt: &impl Abort,
     alloc: Global,
     file: &[u8],
     words: &[&str],
     failing: u64,
-    line: u64,
     answer: u8,
-) -> Result<(), Fail> {
-    let mut host = MemHost::new(alloc);
-    host.put("e", file)?;
-    host.fail_at(failing)?;
-    assert_eq!(rt; status(alloc, words, &mut host)?, answer, "{words:?}, told");
+) -> Result<(), AllocError> {
+    let mut host = failing_host(alloc, file, usize::MAX, failing)?;
+    let told = status(alloc, words, &mut host)?;
+    assert_eq!(rt; told, answer, "{words:?}, told");
     assert!(rt; !host.errors().is_empty(), "{words:?}, told");
-    let mut host = MemHost::new(alloc);
-    host.put("e", file)?;
-    host.fail_at(failing)?;
+    Ok(())
+}
+
+/// Looks at an answer where a call fails, and that of its last line too.
+fn ends_without_its_line(
+    rt: &impl Abort,
+    alloc: Global,
+    file: &[u8],
+    words: &[&str],
+    (failing, line): (u64, u64),
+    answer: u8,
+) -> Result<(), AllocError> {
+    let mut host = failing_host(alloc, file, usize::MAX, failing)?;
     host.fail_at(line)?;
-    assert_eq!(rt; status(alloc, words, &mut host)?, answer, "{words:?}");
+    expect_status(rt, alloc, words, &mut host, answer)?;
     assert_eq!(rt; host.errors().len(), 0, "{words:?}");
     Ok(())
 }
@@ -481,25 +533,36 @@ const REFUSALS: [Refusal<'static>; 6] = [
     ),
 ];
 
+fn fails_before_a_refusal(
+    rt: &impl Abort,
+    alloc: Global,
+    whole: &[u8],
+    profile: &[u8],
+    refusal: Refusal,
+) -> Result<(), AllocError> {
+    let (changes, words, answer, err) = refusal;
+    let program = twisted(alloc, whole, 4_376, changes)?;
+    let files = Files {
+        program: &program,
+        profile,
+    };
+    let row = Row {
+        words,
+        answer,
+        out: b"",
+        err,
+        left: profile,
+    };
+    fails_in_turn(rt, alloc, files, &row)
+}
+
 #[test]
 fn each_failing_call_before_a_refusal_has_its_answer(rt: HostRuntime) -> Result<(), Fail> {
     let alloc = rt.alloc();
     let whole = elf(alloc, &LOOP)?;
     let profile = twisted(alloc, &SUM, 90, &[(68, 50)])?;
-    for (changes, words, answer, err) in REFUSALS {
-        let program = twisted(alloc, &whole, 4_376, changes)?;
-        let files = Files {
-            program: &program,
-            profile: &profile,
-        };
-        let row = Row {
-            words,
-            answer,
-            out: b"",
-            err,
-            left: &profile,
-        };
-        fails_in_turn(&rt, alloc, files, &row)?;
+    for refusal in REFUSALS {
+        fails_before_a_refusal(&rt, alloc, &whole, &profile, refusal)?;
     }
     Ok(())
 }

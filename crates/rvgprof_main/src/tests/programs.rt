@@ -1,8 +1,10 @@
 //! Programs for the tests.
 
-ghost use Rattle.std.specs.Prelude.{◌≤◌};
+ghost use Rattle.std.specs.Prelude.{◌≡◌, ◌≤◌, false, IfOk};
+ghost use Rattle.host_port.specs.Memory.{outside_of};
 
 use gp_base::le4;
+use host_port::MemHost;
 use std::alloc::{AllocError, Global};
 
 /// A program: its words, and its functions by name and offset. It lies at 0x10000, where it begins.
@@ -82,18 +84,27 @@ fn len_of(bytes: &[u8]) -> u32
     bytes.len().min(1_000_000) as u32
 }
 
+fn push_functions(
+    symbols: &mut Vec<u8>,
+    strings: &mut Vec<u8>,
+    functions: &[(&str, u16)],
+) -> Result<(), AllocError> {
+    pad(symbols, 16)?;
+    strings.push(0u8)?;
+    for (name, offset) in functions {
+        let address = 0x1_0000 + u32::from(*offset);
+        push_words(symbols, &[len_of(strings), address, 0, 0x1_0012])?;
+        strings.extend_from_slice(name.as_bytes())?;
+        strings.push(0)?;
+    }
+    Ok(())
+}
+
 /// The symbol table and the strings of some functions.
 fn tables(alloc: Global, functions: &[(&str, u16)]) -> Result<(Vec<u8>, Vec<u8>), AllocError> {
     let mut symbols = Vec::new(alloc);
     let mut strings = Vec::new(alloc);
-    pad(&mut symbols, 16)?;
-    strings.push(0u8)?;
-    for (name, offset) in functions {
-        let address = 0x1_0000 + u32::from(*offset);
-        push_words(&mut symbols, &[len_of(&strings), address, 0, 0x1_0012])?;
-        strings.extend_from_slice(name.as_bytes())?;
-        strings.push(0)?;
-    }
+    push_functions(&mut symbols, &mut strings, functions)?;
     Ok((symbols, strings))
 }
 
@@ -115,39 +126,58 @@ fn sections(text: u32, symbols: u32, strings: u32) -> [u32; 50]
     ]
 }
 
+const IDENT: &[u8] = b"\x7fELF\x01\x01\x01";
+
 /// The headers of a program's file: its own, and that of its one segment.
-fn headers(alloc: Global, text: u32, sections_at: u32) -> Result<Vec<u8>, AllocError> {
-    let mut file = Vec::new(alloc);
-    file.extend_from_slice(b"\x7fELF\x01\x01\x01")?;
-    pad(&mut file, 16)?;
-    push_words(&mut file, &[2 + 243 * 65_536, 1, 0x1_0000, 52, sections_at])?;
+fn push_headers(file: &mut Vec<u8>, text: u32, sections_at: u32) -> Result<(), AllocError> {
+    file.extend_from_slice(IDENT)?;
+    pad(file, 16)?;
+    push_words(file, &[2 + 243 * 65_536, 1, 0x1_0000, 52, sections_at])?;
     push_words(
-        &mut file,
+        file,
         &[0, 52 + 32 * 65_536, 1 + 40 * 65_536, 5 + 4 * 65_536],
     )?;
-    push_words(
-        &mut file,
-        &[1, 4096, 0x1_0000, 0x1_0000, text, text, 5, 4096],
-    )?;
-    pad(&mut file, 4096)?;
-    Ok(file)
+    push_words(file, &[1, 4096, 0x1_0000, 0x1_0000, text, text, 5, 4096])?;
+    pad(file, 4096)
+}
+
+const SECTION_NAMES: &[u8] = b"\0.text\0.symtab\0.strtab\0.shstrtab\0";
+
+fn push_file(
+    file: &mut Vec<u8>,
+    words: &[u32],
+    symbols: &[u8],
+    strings: &[u8],
+) -> Result<(), AllocError> {
+    let text_len = (words.len().min(10_000) * 4) as u32;
+    let (symbols_len, strings_len) = (len_of(symbols), len_of(strings));
+    let end = 4096 + text_len + symbols_len + strings_len + 33;
+    let sections_at = end + (4 - end % 4) % 4;
+    push_headers(file, text_len, sections_at)?;
+    push_words(file, words)?;
+    file.extend_from_slice(symbols)?;
+    file.extend_from_slice(strings)?;
+    file.extend_from_slice(SECTION_NAMES)?;
+    pad(file, sections_at as usize)?;
+    push_words(file, &sections(text_len, symbols_len, strings_len))
 }
 
 /// The ELF file of a program. Its text stands at offset 4,096.
 pub fn elf(alloc: Global, program: &Program) -> Result<Vec<u8>, AllocError> {
     let (symbols, strings) = tables(alloc, program.functions)?;
-    let text_len = (program.words.len().min(10_000) * 4) as u32;
-    let (symbols_len, strings_len) = (len_of(&symbols), len_of(&strings));
-    let end = 4096 + text_len + symbols_len + strings_len + 33;
-    let sections_at = end + (4 - end % 4) % 4;
-    let mut file = headers(alloc, text_len, sections_at)?;
-    push_words(&mut file, program.words)?;
-    file.extend_from_slice(&symbols)?;
-    file.extend_from_slice(&strings)?;
-    file.extend_from_slice(b"\0.text\0.symtab\0.strtab\0.shstrtab\0")?;
-    pad(&mut file, sections_at as usize)?;
-    push_words(&mut file, &sections(text_len, symbols_len, strings_len))?;
+    let mut file = Vec::new(alloc);
+    push_file(&mut file, program.words, &symbols, &strings)?;
     Ok(file)
+}
+
+/// A host with the file of a program.
+pub fn host_with(alloc: Global, program: &Program) -> Result<MemHost, AllocError>
+    ensures { IfOk result (λ host. (outside_of host).is_writing ≡ false) }
+{
+    let file = elf(alloc, program)?;
+    let mut host = MemHost::new(alloc);
+    host.put("e", &file)?;
+    Ok(host)
 }
 
 /// Changes the four bytes at an offset, as far as they are there.

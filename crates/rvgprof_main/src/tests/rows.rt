@@ -8,7 +8,6 @@ use host_port::{HostCall, MemHost};
 use rvgprof::rvgprof;
 use std::alloc::{AllocError, Global};
 use std::process::Abort;
-use std::test::Fail;
 
 /// A program `e` and a profile `g`.
 #[derive(Clone, Copy)]
@@ -52,7 +51,7 @@ fn answer_of(alloc: Global, texts: &[&str], host: &mut MemHost) -> Result<String
 }
 
 /// Looks at all that comes of a row.
-pub fn gives(rt: &impl Abort, alloc: Global, files: Files, row: &Row) -> Result<(), Fail> {
+pub fn gives(rt: &impl Abort, alloc: Global, files: Files, row: &Row) -> Result<(), AllocError> {
     gives_by(rt, alloc, files, row, usize::MAX)
 }
 
@@ -63,14 +62,19 @@ pub fn gives_by(
     files: Files,
     row: &Row,
     step: usize,
-) -> Result<(), Fail>
+) -> Result<(), AllocError>
     requires { 1 ≤ step }
 {
-    let words = row.words;
     let mut host = host_of(alloc, files)?;
     host.set_step(step);
-    let answer = answer_of(alloc, words, &mut host)?;
-    assert_eq!(rt; answer.as_str(), row.answer, "{words:?}");
+    let answer = answer_of(alloc, row.words, &mut host)?;
+    expect_row(rt, row, &host, answer.as_str());
+    Ok(())
+}
+
+fn expect_row(rt: &impl Abort, row: &Row, host: &MemHost, answer: &str) {
+    let words = row.words;
+    assert_eq!(rt; answer, row.answer, "{words:?}");
     assert_eq!(rt; host.printed(), row.out, "output of {words:?}");
     assert_eq!(rt;
         host.errors(),
@@ -78,39 +82,80 @@ pub fn gives_by(
         "error output of {words:?}"
     );
     assert_eq!(rt; host.file("g"), Some(row.left), "file of {words:?}");
-    Ok(())
+}
+
+/// Looks at a report of some words: nothing is told on the error output, and `g` stays as it is.
+pub fn prints(
+    rt: &impl Abort,
+    alloc: Global,
+    files: Files,
+    words: &[&str],
+    text: &str,
+) -> Result<(), AllocError> {
+    let row = Row {
+        words,
+        answer: "Ok(Done { run: None })",
+        out: text.as_bytes(),
+        err: "",
+        left: files.profile,
+    };
+    gives(rt, alloc, files, &row)
+}
+
+/// Looks at a refusal of some words: nothing is printed but its line, and `g` stays as it is.
+pub fn refuses(
+    rt: &impl Abort,
+    alloc: Global,
+    files: Files,
+    words: &[&str],
+    answer: &str,
+    err: &str,
+) -> Result<(), AllocError> {
+    let row = Row {
+        words,
+        answer,
+        out: b"",
+        err,
+        left: files.profile,
+    };
+    gives(rt, alloc, files, &row)
+}
+
+/// The answer that is wanted where a call of this kind was the first that failed. The program reads `e` first.
+fn wanted_answer<'a>(row: &Row<'a>, failed: Option<HostCall>, call: u64) -> &'a str {
+    match failed {
+        None | Some(HostCall::ErrOut) => row.answer,
+        Some(HostCall::OpenInput | HostCall::Read) if call < READING =>
+            "Err(ReadFault { word: 1 })",
+        Some(HostCall::OpenInput | HostCall::Read) => "Err(ReadFault { word: 2 })",
+        Some(_) => "Err(WriteFault)",
+    }
+}
+
+fn expect_failed(rt: &impl Abort, row: &Row, host: &MemHost, answer: &str, call: u64) {
+    let words = row.words;
+    let wanted = wanted_answer(row, host.first_failed(), call);
+    assert_eq!(rt; answer, wanted, "{words:?}, call {call}");
+    assert!(rt;
+        row.out.starts_with(host.printed()),
+        "output of {words:?}, call {call}"
+    );
 }
 
 /// Looks at what comes of a row where a call fails, and tells the kind of the call, if it was made. The
-/// program reads `e` first, and prints nothing but its last line on the error output.
+/// program prints nothing but its last line on the error output.
 fn fails_at(
     rt: &impl Abort,
     alloc: Global,
     files: Files,
     row: &Row,
     call: u64,
-) -> Result<Option<HostCall>, Fail> {
-    let words = row.words;
+) -> Result<Option<HostCall>, AllocError> {
     let mut host = host_of(alloc, files)?;
     host.fail_at(call)?;
-    let answer = answer_of(alloc, words, &mut host)?;
-    let failed = host.first_failed();
-    let wanted = match failed {
-        None | Some(HostCall::ErrOut) => row.answer,
-        Some(HostCall::OpenInput | HostCall::Read) if call < READING =>
-            "Err(ReadFault { word: 1 })",
-        Some(HostCall::OpenInput | HostCall::Read) => "Err(ReadFault { word: 2 })",
-        Some(_) => "Err(WriteFault)",
-    };
-    assert_eq!(rt; answer.as_str(), wanted, "{words:?}, call {call}");
-    assert!(rt;
-        row.out.starts_with(host.printed()),
-        "output of {words:?}, call {call}"
-    );
-    if failed.is_some_and(|kind| kind != HostCall::ErrOut) {
-        tells_nothing(rt, alloc, files, words, (call, wanted))?;
-    }
-    Ok(failed)
+    let answer = answer_of(alloc, row.words, &mut host)?;
+    expect_failed(rt, row, &host, answer.as_str(), call);
+    Ok(host.first_failed())
 }
 
 /// Where the call that tells of the failed one fails too, the answer is the same, and nothing is told.
@@ -120,7 +165,7 @@ fn tells_nothing(
     files: Files,
     words: &[&str],
     (call, wanted): (u64, &str),
-) -> Result<(), Fail> {
+) -> Result<(), AllocError> {
     let mut host = host_of(alloc, files)?;
     host.fail_at(call)?;
     host.fail_at(call.saturating_add(1))?;
@@ -130,16 +175,41 @@ fn tells_nothing(
         wanted,
         "{words:?}, call {call} and the next"
     );
-    assert_eq!(rt; host.failures(), 2, "{words:?}, call {call}");
-    assert_eq!(rt; host.errors().len(), 0, "{words:?}, call {call}");
+    expect_untold(rt, words, &host, call);
     Ok(())
 }
 
+fn expect_untold(rt: &impl Abort, words: &[&str], host: &MemHost, call: u64) {
+    assert_eq!(rt; host.failures(), 2, "{words:?}, call {call}");
+    assert_eq!(rt; host.errors().len(), 0, "{words:?}, call {call}");
+}
+
+/// Looks at a row where a call fails, and then the next one too, and tells whether the call was made.
+fn fails_twice_at(
+    rt: &impl Abort,
+    alloc: Global,
+    files: Files,
+    row: &Row,
+    call: u64,
+) -> Result<bool, AllocError> {
+    let failed = fails_at(rt, alloc, files, row, call)?;
+    if failed.is_some_and(|kind| kind != HostCall::ErrOut) {
+        let wanted = wanted_answer(row, failed, call);
+        tells_nothing(rt, alloc, files, row.words, (call, wanted))?;
+    }
+    Ok(failed.is_some())
+}
+
 /// Looks at a row where each call fails in turn, the last line's too, until none does.
-pub fn fails_in_turn(rt: &impl Abort, alloc: Global, files: Files, row: &Row) -> Result<(), Fail> {
+pub fn fails_in_turn(
+    rt: &impl Abort,
+    alloc: Global,
+    files: Files,
+    row: &Row,
+) -> Result<(), AllocError> {
     let words = row.words;
     for call in 0..40 {
-        if fails_at(rt, alloc, files, row, call)?.is_none() {
+        if !fails_twice_at(rt, alloc, files, row, call)? {
             assert!(rt; call > 0, "{words:?} made no call");
             return gives(rt, alloc, files, row);
         }

@@ -1,8 +1,8 @@
 //! Files that are shown, and what is refused.
 
+use super::expect_status;
 use super::programs::{CALLS, LOOP, elf, twisted};
-use super::rows::{Files, Row, gives};
-use super::status;
+use super::rows::{Files, Row, gives, prints, refuses};
 use host_port::MemHost;
 use std::alloc::{AllocError, Global};
 use std::process::Abort;
@@ -28,93 +28,97 @@ type Refused<'a> = (usize, &'a [(usize, u32)], &'a str, &'a str);
 /// The length of a file, its changed words, and what is shown of it.
 type Shown<'a> = (usize, &'a [(usize, u32)], &'a str);
 
+/// Looks at the refusal of a profile.
+fn is_refused(
+    rt: &impl Abort,
+    alloc: Global,
+    file: &[u8],
+    refusal: &str,
+    text: &str,
+) -> Result<(), AllocError> {
+    let answer = format!(in alloc; "Err(BadProfile {{ refusal: {refusal}, word: 1 }})")?;
+    let err = format!(in alloc; "rvgprof: bad profile g: {text}\n")?;
+    let files = Files {
+        program: b"",
+        profile: file,
+    };
+    refuses(rt, alloc, files, &["show", "g"], &answer, &err)
+}
+
 /// Looks at the refusals of a file, of which a part is left or words are changed.
 fn are_refused(
     rt: &impl Abort,
     alloc: Global,
     whole: &[u8],
     cases: &[Refused],
-) -> Result<(), Fail> {
+) -> Result<(), AllocError> {
     for (len, changes, refusal, text) in cases {
         let file = twisted(alloc, whole, *len, changes)?;
-        let answer = format!(in alloc; "Err(BadProfile {{ refusal: {refusal}, word: 1 }})")?;
-        let err = format!(in alloc; "rvgprof: bad profile g: {text}\n")?;
-        let row = Row {
-            words: &["show", "g"],
-            answer: &answer,
-            out: b"",
-            err: &err,
-            left: &file,
-        };
-        let files = Files {
-            program: b"",
-            profile: &file,
-        };
-        gives(rt, alloc, files, &row)?;
+        is_refused(rt, alloc, &file, refusal, text)?;
     }
     Ok(())
 }
 
 /// Looks at what is shown of a file, of which a part is left or words are changed.
-fn are_shown(rt: &impl Abort, alloc: Global, whole: &[u8], cases: &[Shown]) -> Result<(), Fail> {
+fn are_shown(
+    rt: &impl Abort,
+    alloc: Global,
+    whole: &[u8],
+    cases: &[Shown],
+) -> Result<(), AllocError> {
     for (len, changes, text) in cases {
         let file = twisted(alloc, whole, *len, changes)?;
-        let row = Row {
-            words: &["show", "g"],
-            answer: "Ok(Done { run: None })",
-            out: text.as_bytes(),
-            err: "",
-            left: &file,
-        };
         let files = Files {
             program: b"",
             profile: &file,
         };
-        gives(rt, alloc, files, &row)?;
+        prints(rt, alloc, files, &["show", "g"], text)?;
     }
     Ok(())
 }
 
+const BSD_REFUSED: [Refused; 10] = [
+    (0, &[], "Short { at: 0 }", "short at 0"),
+    (159, &[], "Short { at: 159 }", "short at 159"),
+    (161, &[], "Rest { at: 160 }", "rest at 160"),
+    (160, &[(12, 0)], "Version { value: 0 }", "version 0"),
+    (160, &[(8, 31)], "Size { value: 31 }", "size 31"),
+    (160, &[(8, 161)], "Size { value: 161 }", "size 161"),
+    (
+        160,
+        &[(4, 0x1_0000)],
+        "Range { at: 0, low: 65536, high: 65536 }",
+        "range 00010000 00010000 at 0",
+    ),
+    (160, &[(8, 162)], "Short { at: 160 }", "short at 160"),
+    (160, &[(8, 32)], "Rest { at: 152 }", "rest at 152"),
+    (31, &[], "Short { at: 31 }", "short at 31"),
+];
+
+const BSD_SHOWN: [Shown; 3] = [
+    (
+        160,
+        &[],
+        "bsd low 00010000 high 00010100 counters 64 rate 100\n",
+    ),
+    (
+        160,
+        &[(32, 0x7_0000)],
+        "bsd low 00010000 high 00010100 counters 64 rate 100\ncount 00010004 7\n",
+    ),
+    (
+        32,
+        &[(0, 0), (4, 0), (8, 32), (16, 0)],
+        "bsd low 00000000 high 00000000 counters 0 rate 0\n",
+    ),
+];
+
 #[test]
 fn profiles_are_shown_or_refused(rt: HostRuntime) -> Result<(), Fail> {
-    let alloc = rt.alloc();
-    let whole = bsd(alloc)?;
-    let refused: [Refused; 10] = [
-        (0, &[], "Short { at: 0 }", "short at 0"),
-        (159, &[], "Short { at: 159 }", "short at 159"),
-        (161, &[], "Rest { at: 160 }", "rest at 160"),
-        (160, &[(12, 0)], "Version { value: 0 }", "version 0"),
-        (160, &[(8, 31)], "Size { value: 31 }", "size 31"),
-        (160, &[(8, 161)], "Size { value: 161 }", "size 161"),
-        (
-            160,
-            &[(4, 0x1_0000)],
-            "Range { at: 0, low: 65536, high: 65536 }",
-            "range 00010000 00010000 at 0",
-        ),
-        (160, &[(8, 162)], "Short { at: 160 }", "short at 160"),
-        (160, &[(8, 32)], "Rest { at: 152 }", "rest at 152"),
-        (31, &[], "Short { at: 31 }", "short at 31"),
-    ];
-    are_refused(&rt, alloc, &whole, &refused)?;
-    let shown: [Shown; 3] = [
-        (
-            160,
-            &[],
-            "bsd low 00010000 high 00010100 counters 64 rate 100\n",
-        ),
-        (
-            160,
-            &[(32, 0x7_0000)],
-            "bsd low 00010000 high 00010100 counters 64 rate 100\ncount 00010004 7\n",
-        ),
-        (
-            32,
-            &[(0, 0), (4, 0), (8, 32), (16, 0)],
-            "bsd low 00000000 high 00000000 counters 0 rate 0\n",
-        ),
-    ];
-    are_shown(&rt, alloc, &whole, &shown)
+    let whole = bsd(rt.alloc())?;
+    are_refused(&rt, rt.alloc(), &whole, &BSD_REFUSED)?;
+    are_shown(&rt, rt.alloc(), &whole, &BSD_SHOWN)?;
+    Ok(())
 }
 
 /// A file of the GNU form: a histogram from 0x10000 to below 0x10010, an arc that was never called, and
@@ -131,31 +135,33 @@ const GNU: [u8; 87] = [
 const GNU_LINES: &str =
     "gnu\nhist low 00010000 high 00010010 counters 4 rate 100 unit 7365636f6e6473000000000000000073\ncount 00010000 1\ncount 00010004 2\narc 00010004 00010008 0\nblocks 1\nblock 00010000 9\n";
 
+const GNU_REFUSED: [Refused; 7] = [
+    (4, &[], "Short { at: 4 }", "short at 4"),
+    (86, &[], "Short { at: 86 }", "short at 86"),
+    (20, &[(4, 2)], "Version { value: 2 }", "version 2"),
+    (21, &[(20, 3)], "Tag { at: 20, value: 3 }", "tag 3 at 20"),
+    (21, &[(20, 1)], "Short { at: 21 }", "short at 21"),
+    (
+        55,
+        &[(25, 0x1_0000), (29, 1)],
+        "Range { at: 20, low: 65536, high: 65536 }",
+        "range 00010000 00010000 at 20",
+    ),
+    (
+        25,
+        &[(20, 2), (21, 0xFFFF_FFFF)],
+        "Short { at: 25 }",
+        "short at 25",
+    ),
+];
+
+const GNU_SHOWN: [Shown; 2] = [(87, &[], GNU_LINES), (20, &[], "gnu\n")];
+
 #[test]
 fn files_of_the_gnu_form_are_shown_or_refused(rt: HostRuntime) -> Result<(), Fail> {
-    let alloc = rt.alloc();
-    let refused: [Refused; 7] = [
-        (4, &[], "Short { at: 4 }", "short at 4"),
-        (86, &[], "Short { at: 86 }", "short at 86"),
-        (20, &[(4, 2)], "Version { value: 2 }", "version 2"),
-        (21, &[(20, 3)], "Tag { at: 20, value: 3 }", "tag 3 at 20"),
-        (21, &[(20, 1)], "Short { at: 21 }", "short at 21"),
-        (
-            55,
-            &[(25, 0x1_0000), (29, 1)],
-            "Range { at: 20, low: 65536, high: 65536 }",
-            "range 00010000 00010000 at 20",
-        ),
-        (
-            25,
-            &[(20, 2), (21, 0xFFFF_FFFF)],
-            "Short { at: 25 }",
-            "short at 25",
-        ),
-    ];
-    are_refused(&rt, alloc, &GNU, &refused)?;
-    let shown: [Shown; 2] = [(87, &[], GNU_LINES), (20, &[], "gnu\n")];
-    are_shown(&rt, alloc, &GNU, &shown)
+    are_refused(&rt, rt.alloc(), &GNU, &GNU_REFUSED)?;
+    are_shown(&rt, rt.alloc(), &GNU, &GNU_SHOWN)?;
+    Ok(())
 }
 
 /// The refusals of the program that loops: it has 4,376 bytes, with its text at 4,096, the symbols at
@@ -230,60 +236,75 @@ const REFUSED: [Refused<'static>; 22] = [
     (4_376, &[(4_116, 8)], "Link { index: 1 }", "link 1"),
 ];
 
-#[test]
-fn programs_are_refused(rt: HostRuntime) -> Result<(), Fail> {
-    let alloc = rt.alloc();
-    let whole = elf(alloc, &LOOP)?;
-    assert_eq!(rt; whole.len(), 4_376);
-    for (len, changes, refusal, text) in REFUSED {
-        let file = twisted(alloc, &whole, len, changes)?;
-        let answer = format!(in alloc; "Err(BadElf {{ refusal: {refusal} }})")?;
-        let err = format!(in alloc; "rvgprof: bad elf: {text}\n")?;
-        let row = Row {
-            words: &["syms", "e"],
-            answer: &answer,
-            out: b"",
-            err: &err,
-            left: b"",
-        };
-        let files = Files {
-            program: &file,
-            profile: b"",
-        };
-        gives(&rt, alloc, files, &row)?;
+/// Looks at the refusal of a program.
+fn program_is_refused(
+    rt: &impl Abort,
+    alloc: Global,
+    file: &[u8],
+    refusal: &str,
+    text: &str,
+) -> Result<(), AllocError> {
+    let answer = format!(in alloc; "Err(BadElf {{ refusal: {refusal} }})")?;
+    let err = format!(in alloc; "rvgprof: bad elf: {text}\n")?;
+    let files = Files {
+        program: file,
+        profile: b"",
+    };
+    refuses(rt, alloc, files, &["syms", "e"], &answer, &err)
+}
+
+fn programs_are_refused_by(
+    rt: &impl Abort,
+    alloc: Global,
+    whole: &[u8],
+    cases: &[Refused],
+) -> Result<(), AllocError> {
+    for (len, changes, refusal, text) in cases {
+        let file = twisted(alloc, whole, *len, changes)?;
+        program_is_refused(rt, alloc, &file, refusal, text)?;
     }
     Ok(())
 }
 
 #[test]
+fn programs_are_refused(rt: HostRuntime) -> Result<(), Fail> {
+    let whole = elf(rt.alloc(), &LOOP)?;
+    assert_eq!(rt; whole.len(), 4_376);
+    programs_are_refused_by(&rt, rt.alloc(), &whole, &REFUSED)?;
+    Ok(())
+}
+
+const LOOP_LINES: &str =
+    "text 00010000 00010004 entry 00010000 mcount - moncontrol -\n00010000 4 _start\n";
+
+const CALLS_LINES: &str =
+    "text 00010000 00010018 entry 00010000 mcount 00010008 moncontrol -\n00010000 8 _start\n00010008 4 _mcount\n0001000c 12 f\n";
+
+fn program_is_shown(
+    rt: &impl Abort,
+    alloc: Global,
+    program: &[u8],
+    text: &str,
+) -> Result<(), AllocError> {
+    let files = Files {
+        program,
+        profile: b"",
+    };
+    prints(rt, alloc, files, &["syms", "e"], text)
+}
+
+/// The file of the endless loop, with a flag that changes nothing.
+fn flagged(alloc: Global) -> Result<Vec<u8>, AllocError> {
+    let one = elf(alloc, &LOOP)?;
+    twisted(alloc, &one, 4_376, &[(36, 4)])
+}
+
+#[test]
 fn programs_are_shown(rt: HostRuntime) -> Result<(), Fail> {
     let alloc = rt.alloc();
-    let one = elf(alloc, &LOOP)?;
-    let flagged = twisted(alloc, &one, 4_376, &[(36, 4)])?;
-    let hooked = elf(alloc, &CALLS)?;
-    let lines = "text 00010000 00010004 entry 00010000 mcount - moncontrol -\n00010000 4 _start\n";
-    let cases = [
-        (one.as_slice(), lines),
-        (flagged.as_slice(), lines),
-        (
-            hooked.as_slice(),
-            "text 00010000 00010018 entry 00010000 mcount 00010008 moncontrol -\n00010000 8 _start\n00010008 4 _mcount\n0001000c 12 f\n",
-        ),
-    ];
-    for (program, text) in cases {
-        let row = Row {
-            words: &["syms", "e"],
-            answer: "Ok(Done { run: None })",
-            out: text.as_bytes(),
-            err: "",
-            left: b"",
-        };
-        let files = Files {
-            program,
-            profile: b"",
-        };
-        gives(&rt, alloc, files, &row)?;
-    }
+    program_is_shown(&rt, alloc, &elf(alloc, &LOOP)?, LOOP_LINES)?;
+    program_is_shown(&rt, alloc, &flagged(alloc)?, LOOP_LINES)?;
+    program_is_shown(&rt, alloc, &elf(alloc, &CALLS)?, CALLS_LINES)?;
     Ok(())
 }
 
@@ -299,26 +320,39 @@ fn too_large(alloc: Global, limit: usize) -> Result<Vec<u8>, AllocError> {
     Ok(file)
 }
 
+/// A command, the length of the file, the status, and the line.
+const LARGE: [(&str, usize, u8, &str); 4] = [
+    ("show", 67_108_864, 3, "rvgprof: bad profile f: version 0\n"),
+    ("show", 67_108_865, 9, "rvgprof: too large f\n"),
+    ("syms", 67_108_864, 2, "rvgprof: bad elf: magic\n"),
+    ("syms", 67_108_865, 9, "rvgprof: too large f\n"),
+];
+
+fn large_is_answered(
+    rt: &impl Abort,
+    alloc: Global,
+    file: &[u8],
+    command: &str,
+    answer: u8,
+    line: &str,
+) -> Result<(), AllocError> {
+    let mut host = MemHost::new(alloc);
+    host.put("f", file)?;
+    expect_status(rt, alloc, &[command, "f"], &mut host, answer)?;
+    assert_eq!(rt;
+        host.errors(),
+        line.as_bytes(),
+        "{command}, {} bytes",
+        file.len()
+    );
+    Ok(())
+}
+
 #[test]
 fn files_above_the_limit_are_too_large(rt: HostRuntime) -> Result<(), Fail> {
-    let alloc = rt.alloc();
-    let limit = 67_108_864;
-    let file = too_large(alloc, limit)?;
-    let cases = [
-        ("show", limit, 3, "rvgprof: bad profile f: version 0\n"),
-        ("show", file.len(), 9, "rvgprof: too large f\n"),
-        ("syms", limit, 2, "rvgprof: bad elf: magic\n"),
-        ("syms", file.len(), 9, "rvgprof: too large f\n"),
-    ];
-    for (command, len, answer, line) in cases {
-        let mut host = MemHost::new(alloc);
-        host.put("f", front_of(&file, len))?;
-        assert_eq!(rt;
-            status(alloc, &[command, "f"], &mut host)?,
-            answer,
-            "{command}, {len} bytes"
-        );
-        assert_eq!(rt; host.errors(), line.as_bytes(), "{command}, {len} bytes");
+    let file = too_large(rt.alloc(), 67_108_864)?;
+    for (command, len, answer, line) in LARGE {
+        large_is_answered(&rt, rt.alloc(), front_of(&file, len), command, answer, line)?;
     }
     Ok(())
 }

@@ -4,8 +4,8 @@ ghost use Rattle.std.specs.Prelude.{◌≡◌, false, IfOk};
 ghost use Rattle.host_port.specs.Memory.{outside_of};
 
 use super::programs::twisted;
-use super::rows::{Files, Row, gives, gives_by};
-use super::status;
+use super::rows::{Files, Row, gives_by, refuses};
+use super::{expect_status, status};
 use host_port::MemHost;
 use std::alloc::{AllocError, Global};
 use std::process::Abort;
@@ -47,187 +47,248 @@ fn host_of_two(alloc: Global, at: usize, byte: u8) -> Result<MemHost, AllocError
     Ok(host)
 }
 
-#[test]
-fn a_sum_has_no_end_at_16_bits(rt: HostRuntime) -> Result<(), Fail> {
-    let alloc = rt.alloc();
+/// Looks at what a command over `a` and `b`, where b has its byte at a place changed, leaves under a name.
+fn sums_two(
+    rt: &impl Abort,
+    alloc: Global,
+    words: &[&str],
+    name: &str,
+    wanted: &[u8],
+) -> Result<(), AllocError> {
     let mut host = host_of_two(alloc, 99, 0)?;
-    assert_eq!(rt; status(alloc, &["sum", "s", "a", "b"], &mut host)?, 0);
-    assert_eq!(rt; host.file("s"), Some(SUM.as_slice()));
+    expect_status(rt, alloc, words, &mut host, 0)?;
+    assert_eq!(rt; host.file(name), Some(wanted));
     assert_eq!(rt; host.printed().len(), 0);
     assert_eq!(rt; host.errors().len(), 0);
     Ok(())
 }
 
 #[test]
-fn a_sum_may_take_the_name_of_an_input(rt: HostRuntime) -> Result<(), Fail> {
-    let alloc = rt.alloc();
-    let mut host = host_of_two(alloc, 99, 0)?;
-    assert_eq!(rt; status(alloc, &["sum", "a", "b", "a"], &mut host)?, 0);
-    assert_eq!(rt; host.file("a"), Some(SUM.as_slice()));
+fn a_sum_has_no_end_at_16_bits(rt: HostRuntime) -> Result<(), Fail> {
+    sums_two(&rt, rt.alloc(), &["sum", "s", "a", "b"], "s", &SUM)?;
     Ok(())
 }
 
 #[test]
-fn a_sum_is_shown_and_added_up_again(rt: HostRuntime) -> Result<(), Fail> {
-    let alloc = rt.alloc();
+fn a_sum_may_take_the_name_of_an_input(rt: HostRuntime) -> Result<(), Fail> {
+    sums_two(&rt, rt.alloc(), &["sum", "a", "b", "a"], "a", &SUM)?;
+    Ok(())
+}
+
+/// What is shown of the sum.
+const SUM_LINES: &str = "gnu
+hist low 00010000 high 00010004 counters 1 rate 100 unit 7365636f6e6473000000000000000073
+count 00010000 65535
+hist low 00010000 high 00010004 counters 1 rate 100 unit 7365636f6e6473000000000000000073
+count 00010000 14465
+";
+
+/// A host with the sum and one of the files that were added.
+fn host_of_sum(alloc: Global) -> Result<MemHost, AllocError>
+    ensures { IfOk result (λ host. (outside_of host).is_writing ≡ false) }
+{
     let mut host = MemHost::new(alloc);
     host.put("s", &SUM)?;
-    assert_eq!(rt; status(alloc, &["show", "s"], &mut host)?, 0);
-    let line =
-        "hist low 00010000 high 00010004 counters 1 rate 100 unit 7365636f6e6473000000000000000073\n";
-    let mut lines = String::new(alloc);
-    for text in [
-        "gnu\n",
-        line,
-        "count 00010000 65535\n",
-        line,
-        "count 00010000 14465\n",
-    ] {
-        lines.push_str(text)?;
-    }
-    assert_eq!(rt; host.printed(), lines.as_bytes());
-    let mut host = MemHost::new(alloc);
-    host.put("s", &SUM)?;
-    assert_eq!(rt; status(alloc, &["sum", "t", "s"], &mut host)?, 0);
+    host.put("a", &BSD)?;
+    Ok(host)
+}
+
+fn sum_is_shown(rt: &impl Abort, alloc: Global) -> Result<(), AllocError> {
+    let mut host = host_of_sum(alloc)?;
+    expect_status(rt, alloc, &["show", "s"], &mut host, 0)?;
+    assert_eq!(rt; host.printed(), SUM_LINES.as_bytes());
+    Ok(())
+}
+
+fn sum_is_added_up_again(rt: &impl Abort, alloc: Global) -> Result<(), AllocError> {
+    let mut host = host_of_sum(alloc)?;
+    expect_status(rt, alloc, &["sum", "t", "s"], &mut host, 0)?;
     assert_eq!(rt; host.file("t"), Some(SUM.as_slice()));
     Ok(())
 }
 
 #[test]
-fn files_of_both_forms_are_added(rt: HostRuntime) -> Result<(), Fail> {
-    let alloc = rt.alloc();
-    let mut host = MemHost::new(alloc);
-    host.put("s", &SUM)?;
-    host.put("a", &BSD)?;
-    assert_eq!(rt; status(alloc, &["sum", "t", "a", "s"], &mut host)?, 0);
-    let sum = host.file("t").unwrap_or_default();
+fn a_sum_is_shown_and_added_up_again(rt: HostRuntime) -> Result<(), Fail> {
+    sum_is_shown(&rt, rt.alloc())?;
+    sum_is_added_up_again(&rt, rt.alloc())?;
+    Ok(())
+}
+
+fn expect_sum_of_three(rt: &impl Abort, sum: &[u8]) {
     assert_eq!(rt; sum.len(), 90, "120,000 is 65,535 and 54,465");
     assert_eq!(rt; sum.get(..88), SUM.get(..88));
     assert_eq!(rt; sum.get(88..), Some([0xC1, 0xD4].as_slice()));
+}
+
+#[test]
+fn files_of_both_forms_are_added(rt: HostRuntime) -> Result<(), Fail> {
+    let mut host = host_of_sum(rt.alloc())?;
+    expect_status(&rt, rt.alloc(), &["sum", "t", "a", "s"], &mut host, 0)?;
+    expect_sum_of_three(&rt, host.file("t").unwrap_or_default());
+    Ok(())
+}
+
+/// The place and the byte that is changed, the words, the status, and the line.
+const UNLIKE: [(usize, u8, &[&str], u8, &str); 7] = [
+    (
+        4,
+        8,
+        &["sum", "s", "a", "b"],
+        4,
+        "rvgprof: unlike b: range\n",
+    ),
+    (
+        4,
+        8,
+        &["sum", "s", "b", "a"],
+        4,
+        "rvgprof: unlike a: range\n",
+    ),
+    (
+        16,
+        50,
+        &["sum", "s", "a", "a", "b"],
+        4,
+        "rvgprof: unlike b: rate\n",
+    ),
+    (16, 0, &["sum", "s", "a", "b"], 0, ""),
+    (
+        12,
+        0,
+        &["sum", "s", "a", "b", "nope"],
+        3,
+        "rvgprof: bad profile b: version 333824\n",
+    ),
+    (
+        99,
+        0,
+        &["sum", "s", "a", "nope", "b"],
+        5,
+        "rvgprof: read fault on nope\n",
+    ),
+    (99, 0, &["sum", "s", ""], 5, "rvgprof: read fault on \n"),
+];
+
+fn changed_is_answered(
+    rt: &impl Abort,
+    alloc: Global,
+    (at, byte): (usize, u8),
+    words: &[&str],
+    answer: u8,
+    line: &str,
+) -> Result<(), AllocError> {
+    let mut host = host_of_two(alloc, at, byte)?;
+    expect_status(rt, alloc, words, &mut host, answer)?;
+    assert_eq!(rt; host.errors(), line.as_bytes(), "{words:?}");
+    assert_eq!(rt; host.file("s").is_some(), answer == 0, "{words:?}");
     Ok(())
 }
 
 #[test]
 fn profiles_that_are_unlike_have_no_sum(rt: HostRuntime) -> Result<(), Fail> {
-    let alloc = rt.alloc();
-    let cases: [(usize, u8, &[&str], u8, &str); 7] = [
-        (
-            4,
-            8,
-            &["sum", "s", "a", "b"],
-            4,
-            "rvgprof: unlike b: range\n",
-        ),
-        (
-            4,
-            8,
-            &["sum", "s", "b", "a"],
-            4,
-            "rvgprof: unlike a: range\n",
-        ),
-        (
-            16,
-            50,
-            &["sum", "s", "a", "a", "b"],
-            4,
-            "rvgprof: unlike b: rate\n",
-        ),
-        (16, 0, &["sum", "s", "a", "b"], 0, ""),
-        (
-            12,
-            0,
-            &["sum", "s", "a", "b", "nope"],
-            3,
-            "rvgprof: bad profile b: version 333824\n",
-        ),
-        (
-            99,
-            0,
-            &["sum", "s", "a", "nope", "b"],
-            5,
-            "rvgprof: read fault on nope\n",
-        ),
-        (99, 0, &["sum", "s", ""], 5, "rvgprof: read fault on \n"),
-    ];
-    for (at, byte, words, answer, line) in cases {
-        let mut host = host_of_two(alloc, at, byte)?;
-        assert_eq!(rt; status(alloc, words, &mut host)?, answer, "{words:?}");
-        assert_eq!(rt; host.errors(), line.as_bytes(), "{words:?}");
-        assert_eq!(rt; host.file("s").is_some(), answer == 0, "{words:?}");
+    for (at, byte, words, answer, line) in UNLIKE {
+        changed_is_answered(&rt, rt.alloc(), (at, byte), words, answer, line)?;
     }
     Ok(())
 }
 
-#[test]
-fn a_file_of_unlike_histograms_has_no_sum(rt: HostRuntime) -> Result<(), Fail> {
-    let alloc = rt.alloc();
-    let mut bytes = SUM.to_vec(alloc)?;
-    if let Some(dimension) = bytes.get_mut(72) {
-        *dimension = b'S';
-    }
+/// A host with the sum, of whose two dimensions one has another first letter.
+fn host_of_unlike(alloc: Global) -> Result<MemHost, AllocError>
+    ensures { IfOk result (λ host. (outside_of host).is_writing ≡ false) }
+{
+    let mut bytes = SUM;
+    bytes[72] = b'S';
     let mut host = MemHost::new(alloc);
     host.put("g", &bytes)?;
-    assert_eq!(rt; status(alloc, &["sum", "s", "g"], &mut host)?, 4);
+    Ok(host)
+}
+
+#[test]
+fn a_file_of_unlike_histograms_has_no_sum(rt: HostRuntime) -> Result<(), Fail> {
+    let mut host = host_of_unlike(rt.alloc())?;
+    expect_status(&rt, rt.alloc(), &["sum", "s", "g"], &mut host, 4)?;
     assert_eq!(rt; host.errors(), b"rvgprof: unlike g: dimension\n".as_slice());
     assert!(rt; host.file("s").is_none());
     Ok(())
 }
 
+const SIXTEEN_AND_MORE: [(&[&str], u8); 4] = [
+    (
+        &[
+            "sum", "s", "a", "a", "a", "a", "a", "a", "a", "a", "b", "b", "b", "b", "b", "b", "b",
+            "b",
+        ],
+        0,
+    ),
+    (
+        &[
+            "sum", "s", "a", "a", "a", "a", "a", "a", "a", "a", "b", "b", "b", "b", "b", "b", "b",
+            "b", "b",
+        ],
+        1,
+    ),
+    (&["sum", "s"], 1),
+    (&["sum", "s", "a", "--gnu"], 1),
+];
+
+fn sixteen_are_added(
+    rt: &impl Abort,
+    alloc: Global,
+    words: &[&str],
+    answer: u8,
+) -> Result<(), AllocError> {
+    let mut host = host_of_two(alloc, 99, 0)?;
+    expect_status(rt, alloc, words, &mut host, answer)?;
+    expect_sum_of_sixteen(rt, words, answer, host.file("s").unwrap_or_default());
+    Ok(())
+}
+
+fn expect_sum_of_sixteen(rt: &impl Abort, words: &[&str], answer: u8, sum: &[u8]) {
+    if answer == 0 {
+        assert_eq!(rt;
+            sum.len(),
+            20 + 10 * 35,
+            "640,000 is 9 times 65,535 and 50,185"
+        );
+        assert_eq!(rt; sum.get(368..), Some([0x09, 0xC4].as_slice()));
+    } else {
+        assert_eq!(rt; sum.len(), 0, "{words:?}");
+    }
+}
+
 #[test]
 fn one_to_sixteen_files_are_added(rt: HostRuntime) -> Result<(), Fail> {
-    let alloc = rt.alloc();
-    let cases: [(&[&str], u8); 4] = [
-        (
-            &[
-                "sum", "s", "a", "a", "a", "a", "a", "a", "a", "a", "b", "b", "b", "b", "b", "b",
-                "b", "b",
-            ],
-            0,
-        ),
-        (
-            &[
-                "sum", "s", "a", "a", "a", "a", "a", "a", "a", "a", "b", "b", "b", "b", "b", "b",
-                "b", "b", "b",
-            ],
-            1,
-        ),
-        (&["sum", "s"], 1),
-        (&["sum", "s", "a", "--gnu"], 1),
-    ];
-    for (words, answer) in cases {
-        let mut host = host_of_two(alloc, 99, 0)?;
-        assert_eq!(rt; status(alloc, words, &mut host)?, answer, "{words:?}");
-        let sum = host.file("s").unwrap_or_default();
-        if answer == 0 {
-            assert_eq!(rt;
-                sum.len(),
-                20 + 10 * 35,
-                "640,000 is 9 times 65,535 and 50,185"
-            );
-            assert_eq!(rt; sum.get(368..), Some([0x09, 0xC4].as_slice()));
-        } else {
-            assert_eq!(rt; sum.len(), 0, "{words:?}");
-        }
+    for (words, answer) in SIXTEEN_AND_MORE {
+        sixteen_are_added(&rt, rt.alloc(), words, answer)?;
     }
     Ok(())
 }
 
-/// Adds up two files with one call that fails, and looks at the answer.
-fn fails_at(rt: &impl Abort, alloc: Global, call: u64) -> Result<(), Fail> {
-    let mut host = host_of_two(alloc, 99, 0)?;
-    host.fail_at(call)?;
-    let answer = status(alloc, &["sum", "s", "a", "b"], &mut host)?;
-    let (wanted, line): (u8, &[u8]) = match call {
+/// The status and the line where a call fails.
+fn wanted_of(call: u64) -> (u8, &'static [u8]) {
+    match call {
         0..=2 => (5, b"rvgprof: read fault on a\n"),
         3..=5 => (5, b"rvgprof: read fault on b\n"),
         6..=8 => (6, b"rvgprof: write fault\n"),
         _ => (0, b""),
-    };
+    }
+}
+
+/// Adds up two files with one call that fails, and looks at the answer.
+fn fails_at(rt: &impl Abort, alloc: Global, call: u64) -> Result<(), AllocError> {
+    let mut host = host_of_two(alloc, 99, 0)?;
+    host.fail_at(call)?;
+    let answer = status(alloc, &["sum", "s", "a", "b"], &mut host)?;
+    expect_failed(rt, &host, answer, call);
+    Ok(())
+}
+
+fn expect_failed(rt: &impl Abort, host: &MemHost, answer: u8, call: u64) {
+    let (wanted, line) = wanted_of(call);
     assert_eq!(rt; answer, wanted, "call {call}");
     assert_eq!(rt; host.errors(), line, "call {call}");
     let sum = host.file("s").unwrap_or_default();
     assert_eq!(rt; SUM.get(..sum.len()), Some(sum), "call {call}");
-    Ok(())
 }
 
 #[test]
@@ -238,25 +299,33 @@ fn a_failing_call_is_told_of_its_file(rt: HostRuntime) -> Result<(), Fail> {
     Ok(())
 }
 
+const LARGEST_HEADER: [u8; 20] = [
+    0, 0, 1, 0, 0, 0, 2, 0, 0, 0, 0, 4, 0x79, 0x18, 5, 0, 100, 0, 0, 0,
+];
+
 /// A file of the most bytes that are read.
 fn largest(alloc: Global) -> Result<Vec<u8>, AllocError> {
     let mut bytes = vec![in alloc; 0u8; 67_108_864]?;
-    let header = [
-        0, 0, 1, 0, 0, 0, 2, 0, 0, 0, 0, 4, 0x79, 0x18, 5, 0, 100, 0, 0, 0,
-    ];
-    for (byte, wanted) in bytes.iter_mut().zip(header) {
+    for (byte, wanted) in bytes.iter_mut().zip(LARGEST_HEADER) {
         *byte = wanted;
     }
     Ok(bytes)
 }
 
-#[test]
-fn a_file_of_the_most_bytes_leaves_nothing(rt: HostRuntime) -> Result<(), Fail> {
-    let alloc = rt.alloc();
+/// A host with a file of the most bytes and another one.
+fn host_of_largest(alloc: Global) -> Result<MemHost, AllocError>
+    ensures { IfOk result (λ host. (outside_of host).is_writing ≡ false) }
+{
     let mut host = MemHost::new(alloc);
     host.put("a", &largest(alloc)?)?;
     host.put("b", &BSD)?;
-    assert_eq!(rt; status(alloc, &["sum", "s", "a", "b"], &mut host)?, 9);
+    Ok(host)
+}
+
+#[test]
+fn a_file_of_the_most_bytes_leaves_nothing(rt: HostRuntime) -> Result<(), Fail> {
+    let mut host = host_of_largest(rt.alloc())?;
+    expect_status(&rt, rt.alloc(), &["sum", "s", "a", "b"], &mut host, 9)?;
     assert_eq!(rt; host.errors(), b"rvgprof: too large b\n".as_slice());
     assert!(rt; host.file("s").is_none());
     Ok(())
@@ -339,24 +408,21 @@ const REFUSED: [Refused<'static>; 9] = [
     ),
 ];
 
+fn twisted_is_refused(rt: &impl Abort, alloc: Global, refused: Refused) -> Result<(), AllocError> {
+    let (first, second, words, answer, err) = refused;
+    let program = twisted(alloc, &SUM, 90, first)?;
+    let profile = twisted(alloc, &BSD, 34, second)?;
+    let files = Files {
+        program: &program,
+        profile: &profile,
+    };
+    refuses(rt, alloc, files, words, answer, err)
+}
+
 #[test]
 fn a_refusal_tells_its_file_and_its_cause(rt: HostRuntime) -> Result<(), Fail> {
-    let alloc = rt.alloc();
-    for (first, second, words, answer, err) in REFUSED {
-        let program = twisted(alloc, &SUM, 90, first)?;
-        let profile = twisted(alloc, &BSD, 34, second)?;
-        let files = Files {
-            program: &program,
-            profile: &profile,
-        };
-        let row = Row {
-            words,
-            answer,
-            out: b"",
-            err,
-            left: &profile,
-        };
-        gives(&rt, alloc, files, &row)?;
+    for refused in REFUSED {
+        twisted_is_refused(&rt, rt.alloc(), refused)?;
     }
     Ok(())
 }
@@ -369,51 +435,45 @@ fn zeros_are_refused(
     words: &[&str],
     answer: &str,
     err: &str,
-) -> Result<(), Fail> {
+) -> Result<(), AllocError> {
     let zeros = vec![in alloc; 0u8; len]?;
     let files = Files {
         program: &zeros,
         profile: &BSD,
     };
-    let row = Row {
-        words,
-        answer,
-        out: b"",
-        err,
-        left: &BSD,
-    };
-    gives(rt, alloc, files, &row)
+    refuses(rt, alloc, files, words, answer, err)
 }
+
+const ZEROS: [(usize, &[&str], &str, &str); 4] = [
+    (
+        67_108_865,
+        &["sum", "g", "e", "g"],
+        "Err(TooLarge { word: 2, limit: 67108864 })",
+        "rvgprof: too large e\n",
+    ),
+    (
+        67_108_864,
+        &["sum", "g", "e", "g"],
+        "Err(BadProfile { refusal: Version { value: 0 }, word: 2 })",
+        "rvgprof: bad profile e: version 0\n",
+    ),
+    (
+        67_108_831,
+        &["sum", "g", "g", "e"],
+        "Err(TooLarge { word: 3, limit: 67108830 })",
+        "rvgprof: too large e\n",
+    ),
+    (
+        67_108_830,
+        &["sum", "g", "g", "e"],
+        "Err(BadProfile { refusal: Version { value: 0 }, word: 3 })",
+        "rvgprof: bad profile e: version 0\n",
+    ),
+];
 
 #[test]
 fn a_file_has_what_those_before_it_left(rt: HostRuntime) -> Result<(), Fail> {
-    let cases: [(usize, &[&str], &str, &str); 4] = [
-        (
-            67_108_865,
-            &["sum", "g", "e", "g"],
-            "Err(TooLarge { word: 2, limit: 67108864 })",
-            "rvgprof: too large e\n",
-        ),
-        (
-            67_108_864,
-            &["sum", "g", "e", "g"],
-            "Err(BadProfile { refusal: Version { value: 0 }, word: 2 })",
-            "rvgprof: bad profile e: version 0\n",
-        ),
-        (
-            67_108_831,
-            &["sum", "g", "g", "e"],
-            "Err(TooLarge { word: 3, limit: 67108830 })",
-            "rvgprof: too large e\n",
-        ),
-        (
-            67_108_830,
-            &["sum", "g", "g", "e"],
-            "Err(BadProfile { refusal: Version { value: 0 }, word: 3 })",
-            "rvgprof: bad profile e: version 0\n",
-        ),
-    ];
-    for (len, words, answer, err) in cases {
+    for (len, words, answer, err) in ZEROS {
         zeros_are_refused(&rt, rt.alloc(), len, words, answer, err)?;
     }
     Ok(())

@@ -1,9 +1,13 @@
 //! A run whose exact times are too wide.
 
-use super::programs::{Program, elf};
-use super::status;
+ghost use Rattle.std.specs.Prelude.{◌≡◌, false, IfOk};
+ghost use Rattle.host_port.specs.Memory.{outside_of};
+
+use super::expect_status;
+use super::programs::{Program, host_with};
 use host_port::MemHost;
 use std::alloc::{AllocError, Global};
+use std::process::Abort;
 use std::test::Fail;
 
 const FUNCTIONS: [(&str, u16); 23] = [
@@ -57,32 +61,43 @@ fn words(alloc: Global) -> Result<Vec<u32>, AllocError> {
     Ok(words)
 }
 
-#[test]
-fn a_profile_is_written_where_its_exact_times_are_too_wide(rt: HostRuntime) -> Result<(), Fail> {
-    let alloc = rt.alloc();
+/// A host with that program.
+fn host_of_wide(alloc: Global) -> Result<MemHost, AllocError>
+    ensures { IfOk result (λ host. (outside_of host).is_writing ≡ false) }
+{
     let words = words(alloc)?;
     let program = Program {
         words: &words,
         functions: &FUNCTIONS,
     };
-    let mut host = MemHost::new(alloc);
-    host.put("e", &elf(alloc, &program)?)?;
-    let words = [
-        "profile", "e", "g", "--exact", "--every", "1", "--budget", "2522", "--ram", "4",
-    ];
-    assert_eq!(rt; status(alloc, &words, &mut host)?, 8);
-    assert_eq!(rt;
-        host.errors(),
-        b"rvgprof: too wide at function 20 arc 38\n".as_slice()
-    );
-    assert_eq!(rt; host.printed().len(), 0);
+    host_with(alloc, &program)
+}
 
-    // 183 counters and 40 arcs, of which the first is the latest from `_start`.
-    let file = host.file("g").ok_or("no profile")?;
+/// 183 counters and 40 arcs, of which the first is the latest from `_start`.
+fn expect_profile(rt: &impl Abort, file: &[u8]) {
     assert_eq!(rt; file.len(), 878);
     assert_eq!(rt;
         file.get(398..410),
         Some([0, 0, 1, 0, 0xD0, 2, 1, 0, 1, 0, 0, 0].as_slice())
     );
+}
+
+fn expect_wide(rt: &impl Abort, host: &MemHost) {
+    assert_eq!(rt;
+        host.errors(),
+        b"rvgprof: too wide at function 20 arc 38\n".as_slice()
+    );
+    assert_eq!(rt; host.printed().len(), 0);
+    expect_profile(rt, host.file("g").unwrap_or_default());
+}
+
+#[test]
+fn a_profile_is_written_where_its_exact_times_are_too_wide(rt: HostRuntime) -> Result<(), Fail> {
+    let words = [
+        "profile", "e", "g", "--exact", "--every", "1", "--budget", "2522", "--ram", "4",
+    ];
+    let mut host = host_of_wide(rt.alloc())?;
+    expect_status(&rt, rt.alloc(), &words, &mut host, 8)?;
+    expect_wide(&rt, &host);
     Ok(())
 }

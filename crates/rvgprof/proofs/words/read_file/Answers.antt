@@ -1,5 +1,5 @@
 use Rattle.std.proofs.Common.{◌∙◌, map, string_bytes}
-use Rattle.rvgprof.specs.declared.options.Takes.TheVariants.{NoOptions}
+use Rattle.rvgprof.specs.declared.options.OptionSet.TheVariants.{NoOptions}
 use Rattle.rvgprof.specs.Items.{items_from}
 use Rattle.rvgprof.proofs.WordLemmas.{file_by_items}
 use Rattle.rvgprof.proofs.words.read_file.Goals as goal

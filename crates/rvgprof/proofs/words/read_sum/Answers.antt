@@ -1,5 +1,5 @@
 use Rattle.std.proofs.Common.{◌∙◌, map, string_bytes, sym, subst, Option}
-use Rattle.rvgprof.specs.declared.options.Takes.TheVariants.{NoOptions}
+use Rattle.rvgprof.specs.declared.options.OptionSet.TheVariants.{NoOptions}
 use Rattle.rvgprof.specs.Items.{items_from}
 use Rattle.rvgprof.proofs.WordLemmas.{sum_by_items}
 use Rattle.std.specs.Prelude.{IfSome}
