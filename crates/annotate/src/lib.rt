@@ -9,6 +9,3 @@ mod loaded;
 pub mod report;
 
 pub use report::write;
-
-#[cfg(test)]
-mod tests;

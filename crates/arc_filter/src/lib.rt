@@ -8,6 +8,3 @@ pub mod words;
 
 pub use cutting::cut;
 pub use words::is_cut_word;
-
-#[cfg(test)]
-mod tests;

@@ -17,6 +17,3 @@ pub mod values;
 
 pub use build::graph;
 pub use graphs::{FunArc, Graph};
-
-#[cfg(test)]
-mod tests;

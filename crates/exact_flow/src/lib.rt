@@ -14,6 +14,3 @@ pub mod step;
 pub use flows::ExactFlow;
 pub use refusal::ExactRefusal;
 pub use solve::exact;
-
-#[cfg(test)]
-mod tests;

@@ -15,6 +15,3 @@ pub mod sources;
 pub use refusal::ReportRefusal;
 pub use report::write;
 pub use sources::Sources;
-
-#[cfg(test)]
-mod tests;

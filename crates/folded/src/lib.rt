@@ -14,8 +14,3 @@ pub use folding::fold;
 pub use refusal::FoldRefusal;
 pub use tally::Folded;
 pub use writer::write;
-
-#[cfg(test)]
-mod programs;
-#[cfg(test)]
-mod tests;

@@ -8,6 +8,3 @@ pub mod values;
 
 pub use block::Block;
 pub use entry::Tos;
-
-#[cfg(test)]
-mod tests;

@@ -14,6 +14,3 @@ pub use profile::run_profile;
 pub use reader::Reader;
 pub use reading::read;
 pub use writing::write_run;
-
-#[cfg(test)]
-mod tests;

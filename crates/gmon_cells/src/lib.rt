@@ -15,6 +15,3 @@ pub use cell::Cell;
 pub use column::Column;
 pub use remnant::Remnant;
 pub use writing::{put_arc, write_run};
-
-#[cfg(test)]
-mod tests;

@@ -13,6 +13,3 @@ pub mod values;
 pub use hist::{Hist, HistRange};
 pub use profile::Profile;
 pub use refusal::{AddRefusal, ReadRefusal, Unlike};
-
-#[cfg(test)]
-mod tests;

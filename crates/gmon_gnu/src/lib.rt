@@ -23,6 +23,3 @@ pub use profile_writing::write;
 pub use reader::Reader;
 pub use reading::read;
 pub use writing::write_run;
-
-#[cfg(test)]
-mod tests;

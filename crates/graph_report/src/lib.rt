@@ -26,6 +26,3 @@ mod tables;
 pub use exact_report::write_exact;
 pub use flat_report::ReportRefusal;
 pub use report::write;
-
-#[cfg(test)]
-mod tests;

@@ -20,10 +20,3 @@ pub use notes::{Ran, TurnNote};
 pub use runs::Run;
 pub use schedule::PlanWalk;
 pub use setup::{Plan, Setup};
-
-#[cfg(test)]
-mod examples;
-#[cfg(test)]
-mod programs;
-#[cfg(test)]
-mod tests;

@@ -7,6 +7,3 @@ pub mod refusal;
 
 pub use adding::{add_all, add_into};
 pub use refusal::SumRefusal;
-
-#[cfg(test)]
-mod tests;

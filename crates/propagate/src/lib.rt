@@ -13,6 +13,3 @@ pub mod solve;
 
 pub use flows::Flow;
 pub use solve::flow;
-
-#[cfg(test)]
-mod tests;

@@ -11,6 +11,3 @@ pub mod table;
 pub use decoder::decode;
 pub use instruction::{Instr, Op};
 pub use speller::spell;
-
-#[cfg(test)]
-mod tests;

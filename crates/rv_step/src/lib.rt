@@ -13,6 +13,3 @@ pub use memory::Ram;
 pub use registers::Regs;
 pub use stepped::{Stepped, TracedStep, TrapKind};
 pub use stepper::{step, traced_step};
-
-#[cfg(test)]
-mod tests;

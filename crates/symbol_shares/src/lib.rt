@@ -15,6 +15,3 @@ pub mod walk;
 pub use ranges::range_grains;
 pub use table::Shares;
 pub use walk::shares;
-
-#[cfg(test)]
-mod tests;

@@ -7,74 +7,14 @@ ghost use Rattle.rvgprof.specs.FileSpelling.{FileSpells};
 
 use crate::profile_file::FileReader;
 use gmon_data::{AddRefusal, Profile, ReadRefusal, Unlike};
-use gp_base::{Form, GmonRefusal, Rec, Records, le2, le4};
+use gp_base::{Form, GmonRefusal, Rec, Records};
 use std::alloc::{AllocError, Global};
 use std::process::Abort;
 use std::test::Fail;
+use test_forms::{
+    BSD_RUN, GNU_RUN, HEADER_ALONE, LARGE_NUMBERS, SEVERAL, TWO_OF_EACH, large_bsd_file, large_gnu_file,
+};
 use test_profiles::are_same;
-
-/// A 4.4BSD file with two counters and two arcs.
-const TWO_OF_EACH: [u8; 60] =
-    *b"\0\0\x01\0\x08\0\x01\0\x24\0\0\0y\x18\x05\0d\0\0\0\x01\x02\x03\x04\x05\x06\x07\x08\x09\x0A\x0B\x0C\
-    \x03\0\0\x01\
-    \x04\0\x01\0\x14\0\x01\0\x07\0\0\0\
-    \x08\0\x01\0\x18\0\x01\0\x09\0\0\0";
-
-/// One without counters and arcs.
-const HEADER_ALONE: [u8; 32] =
-    *b"\0\0\x01\0\0\0\x01\0\x20\0\0\0y\x18\x05\0d\0\0\0\0\0\0\0\0\0\0\0\0\0\0\0";
-
-/// The 4.4BSD file of a small run: its header, four counters and three arcs.
-const BSD_RUN: [u8; 76] =
-    *b"\0\0\x01\0\x10\0\x01\0\x28\0\0\0y\x18\x05\0d\0\0\0\0\0\0\0\0\0\0\0\0\0\0\0\
-    \x01\0\x02\0\x2C\x01\x01\0\
-    \x04\0\x01\0\x14\0\x01\0\x01\0\0\0\
-    \x08\0\x01\0\x20\0\x01\0\x02\0\0\0\
-    \x08\0\x01\0\x30\0\x01\0\x01\0\0\0";
-
-/// A GNU file of two histograms from 0x10000 to below 0x10010, an arc that was never called, and the count of
-/// a block. Its spare bytes are not zeros.
-const SEVERAL: [u8; 128] = *b"gmon\x01\0\0\0\x01\x02\x03\x04\x05\x06\x07\x08\x09\x0A\x0B\x0C\
-    \0\0\0\x01\0\x10\0\x01\0\x04\0\0\0d\0\0\0\
-    seconds\0\0\0\0\0\0\0\0s\
-    \x01\0\x02\0\0\0\0\0\
-    \0\0\0\x01\0\x10\0\x01\0\x04\0\0\0d\0\0\0\
-    seconds\0\0\0\0\0\0\0\0s\
-    \x01\0\x02\0\0\0\0\0\
-    \x01\x04\0\x01\0\x08\0\x01\0\0\0\0\0\
-    \x02\x01\0\0\0\0\0\x01\0\x09\0\0\0";
-
-/// The GNU file of a small run: its header, a histogram of four counters, and three arcs.
-const GNU_RUN: [u8; 100] = *b"gmon\x01\0\0\0\0\0\0\0\0\0\0\0\0\0\0\0\
-    \0\0\0\x01\0\x10\0\x01\0\x04\0\0\0d\0\0\0\
-    seconds\0\0\0\0\0\0\0\0s\
-    \x01\0\x02\0\x2C\x01\x01\0\
-    \x01\x04\0\x01\0\x14\0\x01\0\x01\0\0\0\
-    \x01\x08\0\x01\0\x20\0\x01\0\x02\0\0\0\
-    \x01\x08\0\x01\0\x30\0\x01\0\x01\0\0\0";
-
-/// The GNU file of a profile with a counter of 200,000, with 2^33 calls of a pair and none of another, and with 5
-/// and 2^33 executions of basic blocks.
-const LARGE_NUMBERS: [u8; 275] = *b"gmon\x01\0\0\0\0\0\0\0\0\0\0\0\0\0\0\0\
-    \0\0\0\x01\0\x0C\0\x01\0\x03\0\0\0d\0\0\0\
-    seconds\0\0\0\0\0\0\0\0s\
-    \xFF\xFF\xFF\xFF\0\0\
-    \0\0\0\x01\0\x0C\0\x01\0\x03\0\0\0d\0\0\0\
-    seconds\0\0\0\0\0\0\0\0s\
-    \xFF\xFF\0\0\0\0\
-    \0\0\0\x01\0\x0C\0\x01\0\x03\0\0\0d\0\0\0\
-    seconds\0\0\0\0\0\0\0\0s\
-    \xFF\xFF\0\0\0\0\
-    \0\0\0\x01\0\x0C\0\x01\0\x03\0\0\0d\0\0\0\
-    seconds\0\0\0\0\0\0\0\0s\
-    \x43\x0D\0\0\0\0\
-    \x01\0\0\x01\0\x08\0\x01\0\xFF\xFF\xFF\xFF\
-    \x01\0\0\x01\0\x08\0\x01\0\xFF\xFF\xFF\xFF\
-    \x01\0\0\x01\0\x08\0\x01\0\x02\0\0\0\
-    \x01\x04\0\x01\0\x08\0\x01\0\0\0\0\0\
-    \x02\x02\0\0\0\0\0\x01\0\x05\0\0\0\x04\0\x01\0\xFF\xFF\xFF\xFF\
-    \x02\x01\0\0\0\x04\0\x01\0\xFF\xFF\xFF\xFF\
-    \x02\x01\0\0\0\x04\0\x01\0\x02\0\0\0";
 
 /// A GNU file of a histogram of rate 100, an arc of 7 calls, a histogram of rate 50, and an arc of 9 calls.
 const UNLIKE: [u8; 128] = *b"gmon\x01\0\0\0\x01\x02\x03\x04\x05\x06\x07\x08\x09\x0A\x0B\x0C\
@@ -584,46 +524,6 @@ fn every_cut_into_two_gives_the_same(rt: HostRuntime) -> Result<(), Fail> {
         expect_cut(&rt, rt.alloc(), Form::Gnu, &SEVERAL, cut, Ok(4));
     }
     Ok(())
-}
-
-/// A 4.4BSD file of 100,000 bytes.
-fn large_bsd_file(alloc: Global) -> Result<Vec<u8>, AllocError> {
-    let mut bytes = HEADER_ALONE.to_vec(alloc)?;
-    bytes[6] = 2;
-    bytes[8] = 0x60;
-    bytes[9] = 0x1F;
-    for i in 0..4_000 {
-        bytes.extend_from_slice(&le2(i))?;
-    }
-    for i in 0..7_664 {
-        bytes.extend_from_slice(&le4(i))?;
-        bytes.extend_from_slice(&le4(i + 1))?;
-        bytes.extend_from_slice(&le4(i + 2))?;
-    }
-    Ok(bytes)
-}
-
-/// A GNU file of 100,000 bytes.
-fn large_gnu_file(alloc: Global) -> Result<Vec<u8>, AllocError> {
-    let mut bytes = SEVERAL.split_at(53).0.to_vec(alloc)?;
-    bytes[29] = 0xA0;
-    bytes[30] = 0x0F;
-    for i in 0..4_000 {
-        bytes.extend_from_slice(&le2(i))?;
-    }
-    for i in 0..4_006 {
-        bytes.push(1)?;
-        bytes.extend_from_slice(&le4(i))?;
-        bytes.extend_from_slice(&le4(i + 1))?;
-        bytes.extend_from_slice(&le4(i + 2))?;
-    }
-    bytes.push(2)?;
-    bytes.extend_from_slice(&le4(4_983))?;
-    for i in 0..4_983 {
-        bytes.extend_from_slice(&le4(i))?;
-        bytes.extend_from_slice(&le4(i + 1))?;
-    }
-    Ok(bytes)
 }
 
 /// A file of 100,000 bytes in pieces of 4,096 is read as the whole, with so many records.

@@ -1,6 +1,0 @@
-use Rattle.std.proofs.Common.{sym, ap, ◌∙◌}
-use Rattle.arc_filter.specs.Cuts.{is_cut_word}
-use Rattle.arc_filter.proofs.tests.cut_word.Goals as goal
-
-pub returns : goal.returns
-returns c = ap is_cut_word c.in_ok-cut.ensures.ok ∙ sym c.is_cut_word.ensures ∙ c.if-not-is_cut_word.false

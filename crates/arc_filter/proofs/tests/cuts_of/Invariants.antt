@@ -1,7 +1,0 @@
-use Rattle.std.proofs.Common.{◌≡◌, true, string_bytes}
-use Rattle.std.specs.List.{All}
-use Rattle.arc_filter.specs.Cuts.{is_cut_word}
-use Rattle.arc_filter.proofs.tests.cuts_of.Given as goal
-
-abbrev pub invariant-loop-word : goal.invariant-loop-word
-invariant-loop-word l = All (λ word. is_cut_word (string_bytes word) ≡ true) l.cuts.items

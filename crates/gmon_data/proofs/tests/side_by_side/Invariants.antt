@@ -1,6 +1,0 @@
-use Rattle.std.proofs.Common.{◌*◌}
-use Rattle.gmon_data.specs.Sizes.{IsOfBytes}
-use Rattle.gmon_data.proofs.tests.side_by_side.Given as goal
-
-abbrev pub invariant-loop-k : goal.invariant-loop-k
-invariant-loop-k l = IsOfBytes (2 * l.k) l.profile

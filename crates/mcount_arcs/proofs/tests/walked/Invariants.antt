@@ -1,5 +1,0 @@
-use Rattle.std.proofs.Common.{◌≡◌, Some}
-use Rattle.mcount_arcs.proofs.tests.walked.Given as goal
-
-abbrev pub invariant-loop-looks : goal.invariant-loop-looks
-invariant-loop-looks l = l.gmon.walk ≡ Some l.walk

@@ -1,5 +1,0 @@
-use Rattle.std.proofs.Common.{◌≤◌}
-use Rattle.prof_machine.proofs.tests.takes_turns.Given as goal
-
-abbrev pub invariant-loop-hart : goal.invariant-loop-hart
-invariant-loop-hart g l = 2 ≤ l.run.machine.setup.harts

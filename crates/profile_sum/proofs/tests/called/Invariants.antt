@@ -1,6 +1,0 @@
-use Rattle.std.proofs.Common.{◌*◌}
-use Rattle.gmon_data.proofs.BoundLemmas.{IsAtMost}
-use Rattle.profile_sum.proofs.tests.called.Given as goal
-
-abbrev pub invariant-loop-i : goal.invariant-loop-i
-invariant-loop-i l = IsAtMost l.profile (2 * l.i)

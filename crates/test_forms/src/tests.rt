@@ -1,0 +1,5 @@
+mod both;
+mod bsd;
+mod cells;
+mod gnu;
+mod records;

@@ -1,0 +1,10 @@
+mod blocks;
+mod calls;
+mod instructions;
+mod logs;
+mod plans;
+mod programs;
+mod runs;
+mod sampled;
+mod stacks;
+mod steps;

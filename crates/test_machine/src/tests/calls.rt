@@ -1,0 +1,449 @@
+ghost use Rattle.std.specs.Prelude.{◌≡◌, ◌+◌, ◌<◌, Some, IfSome, IfOk};
+ghost use Rattle.mcount_arcs.specs.declared.state.State.TheVariants.{Busy};
+ghost use Rattle.mcount_arcs.specs.Sizes.{IsText};
+
+use gp_base::{RawArc, Span};
+use mcount_arcs::{Entered, Gmon, Looked, Sizes, State, Walk};
+use std::alloc::{AllocError, Global};
+use std::process::Abort;
+use std::test::Fail;
+
+// The sizes for a text from 0x10000 of so many bytes.
+fn has_sizes(rt: &impl Abort, bytes: u32, tolimit: u32)
+    requires { IsText (record { low = 65536; high = 65536 + bytes }) }
+{
+    let sizes = Sizes::of(
+        Span {
+            low: 0x0001_0000,
+            high: 0x0001_0000 + bytes,
+        },
+        2,
+        2,
+    );
+    assert_eq!(rt; sizes.tolimit, tolimit, "entries of {bytes} bytes");
+    assert_eq!(rt; sizes.counters, bytes / 4, "counters of {bytes} bytes");
+    assert_eq!(rt; sizes.slots, bytes / 4, "slots of {bytes} bytes");
+}
+
+#[test]
+fn sizes_of_texts(rt: HostRuntime) {
+    has_sizes(&rt, 256, 50);
+    has_sizes(&rt, 2_600, 52);
+    has_sizes(&rt, 3_276_696, 65_533);
+    has_sizes(&rt, 3_276_700, 65_534);
+    has_sizes(&rt, 3_276_752, 65_534);
+    has_sizes(&rt, 16_777_216, 65_534);
+    assert_eq!(rt;
+        Sizes::of(
+            Span {
+                low: 0x0001_0002,
+                high: 0x0001_00FD,
+            },
+            2,
+            2
+        ),
+        Sizes {
+            low: 0x0001_0000,
+            high: 0x0001_0100,
+            counters: 64,
+            slots: 64,
+            tolimit: 50,
+            hist: 2,
+            hash: 2,
+        },
+        "low is rounded down and high up"
+    );
+}
+
+#[test]
+fn sizes_of_other_fractions(rt: HostRuntime) {
+    assert_eq!(rt;
+        Sizes::of(
+            Span {
+                low: 0x0001_0000,
+                high: 0x0001_0100,
+            },
+            8,
+            4
+        ),
+        Sizes {
+            low: 0x0001_0000,
+            high: 0x0001_0100,
+            counters: 16,
+            slots: 32,
+            tolimit: 50,
+            hist: 8,
+            hash: 4,
+        }
+    );
+    assert_eq!(rt;
+        Sizes::of(
+            Span {
+                low: 0x0001_0030,
+                high: 0x0001_0050,
+            },
+            16,
+            2
+        ),
+        Sizes {
+            low: 0x0001_0020,
+            high: 0x0001_0060,
+            counters: 2,
+            slots: 16,
+            tolimit: 50,
+            hist: 16,
+            hash: 2,
+        },
+        "the larger fraction rounds"
+    );
+}
+
+// A runtime for the text from 0x10000 to below 0x10100, of 64 slots and 50 entries.
+fn started(alloc: Global) -> Result<Gmon, AllocError> {
+    Gmon::startup(
+        alloc,
+        Span {
+            low: 0x0001_0000,
+            high: 0x0001_0100,
+        },
+        2,
+        2,
+    )
+}
+
+// What counter `i` holds, if there is one.
+fn count_at(gmon: &Gmon, i: u32) -> Option<u16> {
+    if i < gmon.sizes().counters {
+        Some(gmon.counter(i))
+    } else {
+        None
+    }
+}
+
+// The arcs in a list.
+fn copied(alloc: Global, gmon: &Gmon) -> Result<Vec<RawArc>, AllocError>
+    ensures { IfOk result (λ arcs. arcs.items ≡ gmon.now.arcs) }
+{
+    let mut arcs = Vec::new(alloc);
+    for arc in gmon.arcs() {
+        arcs.push(arc)?;
+    }
+    Ok(arcs)
+}
+
+#[test]
+fn a_new_runtime(rt: HostRuntime) -> Result<(), Fail> {
+    let gmon = started(rt.alloc())?;
+    assert_eq!(rt; gmon.state(), State::On);
+    assert!(rt; gmon.sampling());
+    assert_eq!(rt; gmon.calls(), 0);
+    assert_eq!(rt; gmon.pairs(), 0);
+    assert_eq!(rt; copied(rt.alloc(), &gmon)?.len(), 0);
+    let bytes = gmon.block_bytes();
+    assert_eq!(rt; bytes.len(), 856);
+    assert!(rt; bytes.iter().all(|byte| *byte == 0));
+    Ok(())
+}
+
+// The counters after one tick: 1 at `wanted`, and 0 elsewhere.
+fn counts_at(rt: &impl Abort, alloc: Global, pc: u32, wanted: Option<u32>) -> Result<(), Fail> {
+    let mut gmon = started(alloc)?;
+    gmon.tick(pc);
+    for i in 0..64 {
+        let count = if wanted == Some(i) { 1 } else { 0 };
+        assert_eq!(rt;
+            count_at(&gmon, i),
+            Some(count),
+            "counter {i} after a tick at {pc}"
+        );
+    }
+    assert_eq!(rt; count_at(&gmon, 64), None);
+    Ok(())
+}
+
+#[test]
+fn a_tick_raises_the_counter_of_its_four_bytes(rt: HostRuntime) -> Result<(), Fail> {
+    counts_at(&rt, rt.alloc(), 0x0001_0000, Some(0))?;
+    counts_at(&rt, rt.alloc(), 0x0001_0003, Some(0))?;
+    counts_at(&rt, rt.alloc(), 0x0001_0004, Some(1))?;
+    counts_at(&rt, rt.alloc(), 0x0001_00FC, Some(63))?;
+    counts_at(&rt, rt.alloc(), 0x0001_00FF, Some(63))?;
+    counts_at(&rt, rt.alloc(), 0x0001_0100, None)?;
+    counts_at(&rt, rt.alloc(), 0x0000_FFFF, None)?;
+    counts_at(&rt, rt.alloc(), 0xFFFF_FFFF, None)
+}
+
+#[test]
+fn a_full_counter_stays(rt: HostRuntime) -> Result<(), Fail> {
+    let mut gmon = started(rt.alloc())?;
+    for _ in 0..65_535 {
+        gmon.tick(0x0001_0002);
+    }
+    assert_eq!(rt; count_at(&gmon, 0), Some(65_535));
+    gmon.tick(0x0001_0002);
+    assert_eq!(rt; count_at(&gmon, 0), Some(65_535));
+    Ok(())
+}
+
+// What a call came to, and after how many looks.
+#[derive(Debug, PartialEq, Eq, Drop)]
+enum Outcome {
+    Ignored,
+    Lost,
+    Counted(usize),
+    Overflowed(usize),
+}
+
+// The looks of a walk to its end.
+fn walked(gmon: &mut Gmon, first: Walk) -> Outcome
+    requires { gmon.old.walk ≡ Some first }
+{
+    let mut walk = first;
+    for looks in 1..65_536 {
+        match gmon.look(walk) {
+            Looked::More(next) => walk = next,
+            Looked::Counted => return Outcome::Counted(looks),
+            Looked::Overflowed => return Outcome::Overflowed(looks),
+        }
+    }
+    Outcome::Lost
+}
+
+// A call, entered to its end.
+fn called(gmon: &mut Gmon, from: u32, to: u32) -> Outcome {
+    if gmon.calls() == u32::MAX {
+        return Outcome::Lost;
+    }
+    match gmon.enter(from, to) {
+        Entered::Ignored => Outcome::Ignored,
+        Entered::Lost => Outcome::Lost,
+        Entered::Walking(first) => walked(gmon, first),
+    }
+}
+
+// The walk of a call that begins.
+fn begun(gmon: &mut Gmon, from: u32, to: u32) -> Option<Walk>
+    ensures walk { IfSome result (λ walk. gmon.new.walk ≡ Some walk) }
+    ensures busy { IfSome result (λ walk. gmon.new.state ≡ Busy) }
+    ensures calls { IfSome result (λ walk. gmon.new.calls < 4294967295) }
+{
+    if gmon.calls() == u32::MAX {
+        return None;
+    }
+    match gmon.enter(from, to) {
+        Entered::Walking(walk) => Some(walk),
+        _ => None,
+    }
+}
+
+const SITE: u32 = 0x0001_0010;
+
+#[test]
+fn a_found_arc_moves_to_the_front(rt: HostRuntime) -> Result<(), Fail> {
+    let mut gmon = started(rt.alloc())?;
+    for (to, looks) in [
+        (0x0001_0040, 1),
+        (0x0001_0080, 1),
+        (0x0001_0040, 2),
+        (0x0001_00C0, 2),
+    ] {
+        assert_eq!(rt;
+            called(&mut gmon, SITE, to),
+            Outcome::Counted(looks),
+            "a call of {to}"
+        );
+    }
+    assert_eq!(rt; gmon.calls(), 4);
+    assert_eq!(rt; gmon.pairs(), 3);
+    let arc = |to, count| RawArc {
+        from: SITE,
+        to,
+        count,
+    };
+    assert_eq!(rt;
+        copied(rt.alloc(), &gmon)?.as_slice(),
+        [
+            arc(0x0001_00C0, 1),
+            arc(0x0001_0040, 2),
+            arc(0x0001_0080, 1)
+        ]
+        .as_slice()
+    );
+    let bytes = gmon.block_bytes();
+    let entries = [
+        0, 0, 0, 0, 0, 0, 0, 0, 3, 0, 0, 0, // three were given out
+        0x40, 0, 1, 0, 2, 0, 0, 0, 2, 0, 0, 0, // two calls, linked to the second
+        0x80, 0, 1, 0, 1, 0, 0, 0, 0, 0, 0, 0, // the last of the chain
+        0xC0, 0, 1, 0, 1, 0, 0, 0, 1, 0, 0, 0, // the front, linked to the first
+    ];
+    assert_eq!(rt; bytes.get(..48), Some(entries.as_slice()));
+    assert_eq!(rt; bytes.get(600 + 128 + 8).copied(), Some(3), "slot 4");
+    Ok(())
+}
+
+#[test]
+fn wider_counters_and_slots(rt: HostRuntime) -> Result<(), Fail> {
+    let text = Span {
+        low: 0x0001_0000,
+        high: 0x0001_0100,
+    };
+    let mut gmon = Gmon::startup(rt.alloc(), text, 8, 4)?;
+    assert_eq!(rt; gmon.block_bytes().len(), 696);
+    assert_eq!(rt;
+        called(&mut gmon, 0x0001_0010, 0x0001_0080),
+        Outcome::Counted(1)
+    );
+    assert_eq!(rt;
+        called(&mut gmon, 0x0001_0014, 0x0001_0080),
+        Outcome::Counted(1)
+    );
+    assert_eq!(rt;
+        copied(rt.alloc(), &gmon)?.as_slice(),
+        [RawArc {
+            from: 0x0001_0010,
+            to: 0x0001_0080,
+            count: 2,
+        }]
+        .as_slice(),
+        "two call sites of one slot"
+    );
+    assert_eq!(rt;
+        called(&mut gmon, 0x0001_0018, 0x0001_0080),
+        Outcome::Counted(1)
+    );
+    assert_eq!(rt; gmon.pairs(), 2);
+    gmon.tick(0x0001_000F);
+    gmon.tick(0x0001_0010);
+    gmon.tick(0x0001_001F);
+    gmon.tick(0x0001_00FF);
+    assert_eq!(rt; count_at(&gmon, 0), Some(1));
+    assert_eq!(rt; count_at(&gmon, 1), Some(2));
+    assert_eq!(rt; count_at(&gmon, 15), Some(1));
+    assert_eq!(rt; count_at(&gmon, 16), None);
+    Ok(())
+}
+
+#[test]
+fn arcs_run_out(rt: HostRuntime) -> Result<(), Fail> {
+    let mut gmon = started(rt.alloc())?;
+    assert_eq!(rt; called(&mut gmon, SITE, 0), Outcome::Counted(1));
+    for to in 1..49 {
+        assert_eq!(rt;
+            called(&mut gmon, SITE, to),
+            Outcome::Counted(to as usize),
+            "a call of {to}"
+        );
+    }
+    assert_eq!(rt; gmon.state(), State::On);
+    assert_eq!(rt; called(&mut gmon, SITE, 49), Outcome::Overflowed(49));
+    assert_eq!(rt; gmon.state(), State::Error);
+    assert_eq!(rt; gmon.calls(), 49);
+    assert_eq!(rt; gmon.pairs(), 49);
+    assert_eq!(rt;
+        gmon.block_bytes().get(8).copied(),
+        Some(50),
+        "the link of entry 0"
+    );
+    let arcs = copied(rt.alloc(), &gmon)?;
+    assert_eq!(rt; arcs.len(), 49);
+    for (arc, to) in arcs.iter().zip((0..49).rev()) {
+        assert_eq!(rt; arc.to, to, "the order is as before");
+    }
+    assert_eq!(rt; called(&mut gmon, SITE, 0), Outcome::Ignored);
+    gmon.tick(0x0001_0000);
+    assert_eq!(rt; count_at(&gmon, 0), Some(1));
+    gmon.moncontrol(true);
+    assert_eq!(rt; gmon.state(), State::Error);
+    Ok(())
+}
+
+#[test]
+fn the_edge_of_the_text(rt: HostRuntime) -> Result<(), Fail> {
+    let mut gmon = started(rt.alloc())?;
+    for (from, outcome) in [
+        (0x0001_0100, Outcome::Ignored),
+        (0x0000_FFFC, Outcome::Ignored),
+        (0x0001_00FC, Outcome::Counted(1)),
+    ] {
+        assert_eq!(rt;
+            called(&mut gmon, from, 0x0001_0040),
+            outcome,
+            "a call from {from}"
+        );
+    }
+    assert_eq!(rt;
+        gmon.block_bytes().get(600 + 128 + 126).copied(),
+        Some(1),
+        "slot 63"
+    );
+    Ok(())
+}
+
+#[test]
+fn modes(rt: HostRuntime) -> Result<(), Fail> {
+    let mut gmon = started(rt.alloc())?;
+    gmon.moncontrol(false);
+    gmon.tick(0x0001_0000);
+    assert_eq!(rt; called(&mut gmon, SITE, 0x0001_0040), Outcome::Ignored);
+    assert_eq!(rt; count_at(&gmon, 0), Some(0));
+    assert_eq!(rt; gmon.calls(), 0);
+    gmon.moncontrol(true);
+    gmon.tick(0x0001_0000);
+    assert_eq!(rt; called(&mut gmon, SITE, 0x0001_0040), Outcome::Counted(1));
+    assert_eq!(rt; count_at(&gmon, 0), Some(1));
+    assert_eq!(rt; gmon.calls(), 1);
+    let walk = begun(&mut gmon, SITE, 0x0001_0040).ok_or("no walk")?;
+    assert_eq!(rt; gmon.enter(SITE, 0x0001_0080), Entered::Lost);
+    gmon.moncontrol(false);
+    assert_eq!(rt; gmon.state(), State::Busy);
+    assert!(rt; !gmon.sampling());
+    assert_eq!(rt; walked(&mut gmon, walk), Outcome::Counted(1));
+    assert_eq!(rt; gmon.state(), State::Off);
+    assert_eq!(rt; gmon.calls(), 2);
+    Ok(())
+}
+
+// A call in a plain list of the arcs of one site, the one called latest first.
+fn plain_looks(arcs: &mut Vec<RawArc>, to: u32) -> Result<usize, AllocError> {
+    match arcs.iter().position(|arc| arc.to == to) {
+        Some(i) => {
+            let mut arc = arcs.remove(i);
+            arc.count = arc.count.saturating_add(1);
+            arcs.insert(0, arc)?;
+            Ok(i + 1)
+        }
+        None => {
+            let looks = arcs.len().max(1);
+            arcs.insert(
+                0,
+                RawArc {
+                    from: SITE,
+                    to,
+                    count: 1,
+                },
+            )?;
+            Ok(looks)
+        }
+    }
+}
+
+#[test]
+fn a_long_chain_is_a_plain_list(rt: HostRuntime) -> Result<(), Fail> {
+    let text = Span {
+        low: 0x0001_0000,
+        high: 0x0002_0000,
+    };
+    let mut gmon = Gmon::startup(rt.alloc(), text, 2, 2)?;
+    let mut arcs = Vec::new(rt.alloc());
+    for to in 0..1_000 {
+        let looks = plain_looks(&mut arcs, to)?;
+        assert_eq!(rt; called(&mut gmon, SITE, to), Outcome::Counted(looks));
+    }
+    for to in (0..1_000).rev() {
+        let looks = plain_looks(&mut arcs, to)?;
+        assert_eq!(rt; called(&mut gmon, SITE, to), Outcome::Counted(looks));
+    }
+    assert_eq!(rt; gmon.calls(), 2_000);
+    assert_eq!(rt; copied(rt.alloc(), &gmon)?.as_slice(), arcs.as_slice());
+    Ok(())
+}

@@ -1,0 +1,699 @@
+ghost use Rattle.std.specs.Prelude.{◌≡◌, ◌+◌, ◌≤◌, length, All, IfOk};
+ghost use Rattle.elf32_syms.specs.declared.image.Segment.{Segment as AnySegment};
+ghost use Rattle.prof_machine.specs.Setup.{IsSetup};
+
+use super::programs::{
+    CALLS, CALLS_MCOUNT, COMPLAINS, EBREAK, ECALL, ENDLESS, EXIT, NO_INSTRUCTION, NOP, PRINTS,
+    ROWS, SWITCHES, SWITCHES_MONCONTROL,
+};
+use crate::{ROUND, setup_of};
+use elf32_syms::{Image, Segment, SegmentList};
+use gp_base::{Items, RawArc, Span, le4};
+use host_port::{MemHost, NeverFails};
+use mcount_arcs::State;
+use prof_machine::{End, Plan, PlanWalk, Run, RunSummary, Setup, StartRefusal, TurnNote};
+use rv_step::TrapKind;
+use std::alloc::{AllocError, Global};
+use std::process::Abort;
+use std::test::Fail;
+
+// The words as bytes, the lowest of each first.
+fn bytes_of(alloc: Global, words: &[u32]) -> Result<Vec<u8>, AllocError> {
+    let mut bytes = Vec::new(alloc);
+    for word in words {
+        bytes.extend_from_slice(&le4(*word))?;
+    }
+    Ok(bytes)
+}
+
+// A list of segments, which lie in a file of so many bytes.
+fn listed(
+    rt: &impl Abort,
+    alloc: Global,
+    segments: &[Segment],
+    file_bytes: usize,
+) -> Result<SegmentList, AllocError>
+    ensures in_file { IfOk result (All (λ (s : AnySegment). s.offset + s.filesz ≤ file_bytes)) }
+    ensures in_memory { IfOk result (All (λ (s : AnySegment). s.filesz ≤ s.memsz)) }
+    ensures count { IfOk result (λ list. length list ≡ length segments.now) }
+{
+    let mut list = Items::new(alloc);
+    for segment in segments {
+        assert!(rt; u64::from(segment.offset) + u64::from(segment.filesz) <= file_bytes as u64);
+        assert!(rt; segment.filesz <= segment.memsz);
+        list.push(*segment)?;
+    }
+    Ok(list)
+}
+
+// A run of a file of these words, whose text has the addresses from 0x10000 to below 0x10100.
+fn started(
+    rt: &impl Abort,
+    alloc: Global,
+    entry: u32,
+    segments: &[Segment],
+    words: &[u32],
+    hooks: (Option<u32>, Option<u32>),
+    setup: Setup,
+) -> Result<Run, StartRefusal>
+    requires { IsSetup setup }
+    ensures { IfOk result (λ run. run.machine.setup ≡ setup) }
+{
+    assert!(rt; segments.len() <= 2);
+    let bytes = bytes_of(alloc, words)?;
+    let image = Image {
+        entry,
+        segments: listed(rt, alloc, segments, bytes.len())?,
+        text: Span {
+            low: 0x0001_0000,
+            high: 0x0001_0100,
+        },
+        symbols: Items::new(alloc),
+        mcount: hooks.0,
+        moncontrol: hooks.1,
+    };
+    Run::start(alloc, &image, &bytes, setup)
+}
+
+// A run of these words from 0x10000 on, the first of which is the entry.
+fn started_at_text(
+    rt: &impl Abort,
+    alloc: Global,
+    words: &[u32],
+    hooks: (Option<u32>, Option<u32>),
+    setup: Setup,
+) -> Result<Run, StartRefusal>
+    requires { IsSetup setup }
+    ensures { IfOk result (λ run. run.machine.setup ≡ setup) }
+{
+    assert!(rt; words.len() <= 64);
+    let file_bytes = 4 * words.len() as u32;
+    let segment = Segment {
+        addr: 0x0001_0000,
+        offset: 0,
+        filesz: file_bytes,
+        memsz: file_bytes,
+    };
+    started(rt, alloc, 0x0001_0000, &[segment], words, hooks, setup)
+}
+
+// What counter `i` holds, if there is one.
+fn count_at(run: &Run, i: u32) -> Option<u16> {
+    let gmon = run.gmon();
+    if i < gmon.sizes().counters {
+        Some(gmon.counter(i))
+    } else {
+        None
+    }
+}
+
+// Runs to the end, which is this one.
+fn ends(
+    rt: &impl Abort,
+    alloc: Global,
+    name: &str,
+    run: &mut Run,
+    wanted: RunSummary,
+) -> Result<(), Fail> {
+    let mut host = NeverFails::new(alloc);
+    assert!(rt; run.is_live(), "{name}");
+    let end = run.drive(&mut host).map_err(|_| "drive")?;
+    assert_eq!(rt; end, wanted.end, "{name}");
+    assert!(rt; !run.is_live(), "{name}");
+    assert_eq!(rt; run.summary(), wanted, "{name}");
+    Ok(())
+}
+
+// What is told of a run that made no calls.
+fn no_calls(end: End, retired: u32, samples: u32) -> RunSummary {
+    RunSummary {
+        end,
+        retired,
+        samples,
+        calls: 0,
+        lost: 0,
+        state: State::On,
+    }
+}
+
+// What is told of a run that used up its budget, with so many calls and no samples.
+fn calls_alone(retired: u32, calls: u32, lost: u32, state: State) -> RunSummary {
+    RunSummary {
+        end: End::Budget,
+        retired,
+        samples: 0,
+        calls,
+        lost,
+        state,
+    }
+}
+
+#[test]
+fn runs_to_their_ends(rt: HostRuntime) -> Result<(), Fail> {
+    for row in ROWS {
+        let setup = setup_of(row.every, row.budget, 1, ROUND);
+        let mut run = started_at_text(&rt, rt.alloc(), row.words, (None, None), setup).map_err(
+            |_| "start",
+        )?;
+        let wanted = no_calls(row.end, row.retired, row.samples);
+        ends(&rt, rt.alloc(), row.name, &mut run, wanted)?;
+    }
+    Ok(())
+}
+
+/// A name, how many harts, the plan and the budget; and how many calls are counted, and lost.
+const LOSSES: [(&str, u32, Plan, u32, u32, u32); 6] = [
+    ("one of two is lost", 2, ROUND, 20, 1, 1),
+    ("one hart loses none", 1, ROUND, 20, 1, 0),
+    ("the walk in flight is looked to its end", 2, ROUND, 5, 1, 0),
+    ("the second call meets it", 2, ROUND, 6, 1, 1),
+    (
+        "six turns each: the first call is over",
+        2,
+        Plan::RoundRobin { quantum: 6 },
+        20,
+        2,
+        0,
+    ),
+    ("of eight harts seven lose theirs", 8, ROUND, 24, 1, 7),
+];
+
+#[test]
+fn calls_that_meet_another(rt: HostRuntime) -> Result<(), Fail> {
+    for (name, harts, plan, budget, calls, lost) in LOSSES {
+        let setup = setup_of(1_000, budget, harts, plan);
+        let hooks = (Some(CALLS_MCOUNT), None);
+        let mut run = started_at_text(&rt, rt.alloc(), CALLS, hooks, setup).map_err(|_| "start")?;
+        let wanted = calls_alone(budget, calls, lost, State::On);
+        ends(&rt, rt.alloc(), name, &mut run, wanted)?;
+        let mut arcs = run.gmon().arcs();
+        let arc = RawArc {
+            from: 0x0001_0004,
+            to: 0x0001_0014,
+            count: calls,
+        };
+        assert_eq!(rt; arcs.next(), Some(arc), "{name}");
+        assert_eq!(rt; arcs.next(), None, "{name}");
+    }
+    Ok(())
+}
+
+// What a run of these words tells of the first instructions, once it has ended so.
+fn counts_executions(
+    rt: &impl Abort,
+    alloc: Global,
+    words: &[u32],
+    end: End,
+    retired: u32,
+    wanted: [u32; 4],
+) -> Result<(), Fail> {
+    let plain = setup_of(1_000, 5, 1, ROUND);
+    let setup = Setup {
+        blocks: true,
+        ..plain
+    };
+    let mut run = started_at_text(rt, alloc, words, (None, None), setup).map_err(|_| "start")?;
+    assert_eq!(rt; run.exec_counts().len(), 64);
+    ends(rt, alloc, "executions", &mut run, no_calls(end, retired, 0))?;
+    assert_eq!(rt; run.exec_counts().get(..4), Some(wanted.as_slice()));
+    Ok(())
+}
+
+#[test]
+fn executions_are_counted(rt: HostRuntime) -> Result<(), Fail> {
+    let alloc = rt.alloc();
+    // one that exits is executed
+    let exits = [NOP, EXIT, ECALL];
+    counts_executions(&rt, alloc, &exits, End::Exit(0), 3, [1, 1, 1, 0])?;
+    // one that traps isn't
+    let trap = End::Trap(TrapKind::Breakpoint, 0x0001_0004);
+    counts_executions(&rt, alloc, &[NOP, EBREAK], trap, 1, [1, 0, 0, 0])?;
+    counts_executions(&rt, alloc, &[ENDLESS], End::Budget, 5, [5, 0, 0, 0])
+}
+
+#[test]
+fn executions_are_not_counted_unasked(rt: HostRuntime) -> Result<(), Fail> {
+    let setup = setup_of(1_000, 5, 1, ROUND);
+    let mut run = started_at_text(&rt, rt.alloc(), &[ENDLESS], (None, None), setup).map_err(
+        |_| "start",
+    )?;
+    ends(
+        &rt,
+        rt.alloc(),
+        "unasked",
+        &mut run,
+        no_calls(End::Budget, 5, 0),
+    )?;
+    assert_eq!(rt; run.exec_counts().len(), 0);
+    Ok(())
+}
+
+// Turns of these harts.
+fn takes_turns(rt: &impl Abort, alloc: Global, run: &mut Run, harts: &[u32]) -> Result<(), Fail>
+    requires { 2 ≤ run.old.machine.setup.harts }
+    ensures { 2 ≤ run.new.machine.setup.harts }
+{
+    let mut host = NeverFails::new(alloc);
+    for hart in harts {
+        assert!(rt; *hart < 2);
+        assert!(rt; run.is_live());
+        run.turn(*hart, &mut host).map_err(|_| "turn")?;
+    }
+    Ok(())
+}
+
+/// The hart of a turn, where its instruction stood and led, the sample that counted, and the return from the hook.
+type Noted = (u32, Option<(u32, u32)>, Option<u32>, Option<u32>);
+
+/// The notes of `CALLS` with a sample in two instructions: of one hart, and of two, the second of which meets
+/// the first one's call and is lost.
+const ALONE: [Noted; 5] = [
+    (0, Some((0x1_0000, 0x1_000C)), None, None),
+    (0, Some((0x1_000C, 0x1_0010)), Some(0x1_0010), None),
+    (0, Some((0x1_0010, 0x1_0008)), None, None),
+    (0, None, None, Some(0x1_0014)),
+    (0, Some((0x1_0014, 0x1_0014)), Some(0x1_0014), None),
+];
+
+const OF_TWO: [Noted; 9] = [
+    (0, Some((0x1_0000, 0x1_000C)), None, None),
+    (1, Some((0x1_0000, 0x1_000C)), Some(0x1_000C), None),
+    (0, Some((0x1_000C, 0x1_0010)), None, None),
+    (1, Some((0x1_000C, 0x1_0010)), Some(0x1_0010), None),
+    (0, Some((0x1_0010, 0x1_0008)), None, None),
+    (
+        1,
+        Some((0x1_0010, 0x1_0008)),
+        Some(0x1_0008),
+        Some(0x1_0014),
+    ),
+    (0, None, None, Some(0x1_0014)),
+    (1, Some((0x1_0014, 0x1_0014)), None, None),
+    (0, Some((0x1_0014, 0x1_0014)), Some(0x1_0014), None),
+];
+
+// What is told of a turn.
+fn told(hart: u32, note: TurnNote) -> Noted {
+    let ran = match note.ran {
+        Some(ran) => Some((ran.pc, ran.next)),
+        None => None,
+    };
+    (hart, ran, note.sample, note.returned)
+}
+
+// Turns of a plan tell what they did.
+fn tells(rt: &impl Abort, alloc: Global, harts: u32, notes: &[Noted]) -> Result<(), Fail> {
+    let setup = setup_of(2, 100, harts, ROUND);
+    let hooks = (Some(CALLS_MCOUNT), None);
+    let mut run = started_at_text(rt, alloc, CALLS, hooks, setup).map_err(|_| "start")?;
+    let mut plan = PlanWalk::new(&setup);
+    let mut host = NeverFails::new(alloc);
+    for (at, noted) in notes.iter().enumerate() {
+        let hart = plan.next_hart();
+        assert!(rt; hart < setup.harts);
+        assert!(rt; run.is_live());
+        run.turn(hart, &mut host).map_err(|_| "turn")?;
+        assert_eq!(rt;
+            told(hart, run.last_turn()),
+            *noted,
+            "turn {at} of {harts} harts"
+        );
+    }
+    Ok(())
+}
+
+#[test]
+fn turns_tell_what_they_did(rt: HostRuntime) -> Result<(), Fail> {
+    tells(&rt, rt.alloc(), 1, &ALONE)?;
+    tells(&rt, rt.alloc(), 2, &OF_TWO)
+}
+
+#[test]
+fn turns_one_by_one(rt: HostRuntime) -> Result<(), Fail> {
+    let setup = setup_of(1_000, 6, 2, ROUND);
+    let hooks = (Some(CALLS_MCOUNT), None);
+    let mut run = started_at_text(&rt, rt.alloc(), CALLS, hooks, setup).map_err(|_| "start")?;
+    takes_turns(&rt, rt.alloc(), &mut run, &[0, 0, 0])?;
+    assert_eq!(rt;
+        run.gmon().state(),
+        State::Busy,
+        "the first hart's call is being entered"
+    );
+    takes_turns(&rt, rt.alloc(), &mut run, &[1, 1])?;
+    assert_eq!(rt;
+        run.gmon().calls(),
+        0,
+        "no hart but its own looks at its arcs"
+    );
+    takes_turns(&rt, rt.alloc(), &mut run, &[0])?;
+    assert_eq!(rt; run.gmon().calls(), 1, "one look ends it");
+    assert_eq!(rt; run.gmon().state(), State::On);
+    takes_turns(&rt, rt.alloc(), &mut run, &[1])?;
+    assert!(rt;
+        !run.is_live(),
+        "the second hart's call is entered, and the budget used up"
+    );
+    Ok(())
+}
+
+/// A name, how many harts, and the plan; and the number of the hart that ends the run first, as its third
+/// instruction, with how many have retired by then.
+const FIRST_TO_END: [(&str, u32, Plan, u32, u32); 4] = [
+    ("one turn each", 2, ROUND, 0, 5),
+    ("two turns each", 2, Plan::RoundRobin { quantum: 2 }, 0, 5),
+    ("three turns each", 2, Plan::RoundRobin { quantum: 3 }, 0, 3),
+    (
+        "seed 1 begins with hart 1, three times",
+        2,
+        Plan::Seeded { seed: 1 },
+        1,
+        3,
+    ),
+];
+
+#[test]
+fn harts_take_turns_by_the_plan(rt: HostRuntime) -> Result<(), Fail> {
+    for (name, harts, plan, status, retired) in FIRST_TO_END {
+        let setup = setup_of(1_000, 100, harts, plan);
+        let words = [NOP, EXIT, ECALL];
+        let mut run = started_at_text(&rt, rt.alloc(), &words, (None, None), setup).map_err(
+            |_| "start",
+        )?;
+        let wanted = no_calls(End::Exit(status), retired, 0);
+        ends(&rt, rt.alloc(), name, &mut run, wanted)?;
+    }
+    Ok(())
+}
+
+// `lui x10, 0x10`, 50 times `jal x1` to the word 208 behind, an endless loop, and there `jalr x0, 0(x1)`.
+fn fifty_callees(alloc: Global) -> Result<Vec<u32>, AllocError> {
+    let mut words = Vec::new(alloc);
+    words.push(0x0001_0537)?;
+    for i in 1..51 {
+        words.push(0xEF + (104 - 2 * i) * 0x0020_0000)?;
+    }
+    words.push(ENDLESS)?;
+    words.push(0x0000_8067)?;
+    Ok(words)
+}
+
+#[test]
+fn arcs_run_out(rt: HostRuntime) -> Result<(), Fail> {
+    let setup = setup_of(1_000, 60, 1, ROUND);
+    let words = fifty_callees(rt.alloc())?;
+    let hooks = (Some(0x0001_00D0), None);
+    let mut run = started_at_text(&rt, rt.alloc(), words.as_slice(), hooks, setup).map_err(
+        |_| "start",
+    )?;
+    let wanted = calls_alone(60, 49, 0, State::Error);
+    ends(
+        &rt,
+        rt.alloc(),
+        "the fiftieth has no place",
+        &mut run,
+        wanted,
+    )
+}
+
+#[test]
+fn counters_of_samples(rt: HostRuntime) -> Result<(), Fail> {
+    let setup = setup_of(1, 65_536, 1, ROUND);
+    let mut run = started_at_text(&rt, rt.alloc(), &[ENDLESS], (None, None), setup).map_err(
+        |_| "start",
+    )?;
+    let wanted = no_calls(End::Budget, 65_536, 65_536);
+    ends(&rt, rt.alloc(), "65,536 samples", &mut run, wanted)?;
+    assert_eq!(rt; count_at(&run, 0), Some(65_535), "a counter is full there");
+    assert_eq!(rt; count_at(&run, 1), Some(0));
+
+    let setup = setup_of(1, 10, 1, ROUND);
+    let hooks = (None, Some(SWITCHES_MONCONTROL));
+    let mut run = started_at_text(&rt, rt.alloc(), SWITCHES, hooks, setup).map_err(|_| "start")?;
+    let wanted = RunSummary {
+        end: End::Budget,
+        retired: 10,
+        samples: 2,
+        calls: 0,
+        lost: 0,
+        state: State::Off,
+    };
+    ends(
+        &rt,
+        rt.alloc(),
+        "profiling is switched off",
+        &mut run,
+        wanted,
+    )?;
+    assert_eq!(rt;
+        count_at(&run, 0),
+        Some(0),
+        "the instruction that retired isn't sampled"
+    );
+    assert_eq!(rt; count_at(&run, 1), Some(1), "but the next one");
+    assert_eq!(rt;
+        count_at(&run, 3),
+        Some(1),
+        "the sample comes before the hook"
+    );
+    Ok(())
+}
+
+#[test]
+fn programs_that_print(rt: HostRuntime) -> Result<(), Fail> {
+    for (words, fails) in [
+        (PRINTS, false),
+        (COMPLAINS, false),
+        (PRINTS, true),
+        (COMPLAINS, true),
+    ] {
+        let setup = setup_of(1_000, 100, 1, ROUND);
+        let mut run = started_at_text(&rt, rt.alloc(), words, (None, None), setup).map_err(
+            |_| "start",
+        )?;
+        let mut host = MemHost::new(rt.alloc());
+        if fails {
+            host.fail_at(0)?;
+        }
+        assert!(rt; run.is_live());
+        let end = run.drive(&mut host);
+        assert!(rt; !run.is_live());
+        assert_eq!(rt; end.is_err(), fails);
+        assert_eq!(rt; end.ok(), if fails { None } else { Some(End::Exit(4)) });
+        assert!(rt; 1 <= words.len());
+        let first = words[0].to_le_bytes();
+        let nothing: &[u8] = &[];
+        let on_output = words[0] == PRINTS[0];
+        assert!(rt;
+            host.printed()
+                == if on_output && !fails {
+                    first.as_slice()
+                } else {
+                    nothing
+                }
+        );
+        assert!(rt;
+            host.errors()
+                == if !on_output && !fails {
+                    first.as_slice()
+                } else {
+                    nothing
+                }
+        );
+    }
+    Ok(())
+}
+
+#[test]
+fn memory_at_the_start(rt: HostRuntime) -> Result<(), Fail> {
+    let setup = setup_of(1, 10, 1, ROUND);
+    let behind = [Segment {
+        addr: 0x0001_00FC,
+        offset: 0,
+        filesz: 8,
+        memsz: 8,
+    }];
+    let words = [NOP, ENDLESS];
+    let mut run = started(
+        &rt,
+        rt.alloc(),
+        0x0001_00FC,
+        &behind,
+        &words,
+        (None, None),
+        setup,
+    )
+    .map_err(|_| "start")?;
+    let wanted = no_calls(End::Budget, 10, 0);
+    ends(
+        &rt,
+        rt.alloc(),
+        "no sample behind the text counts",
+        &mut run,
+        wanted,
+    )?;
+
+    let overlapping = [
+        Segment {
+            addr: 0x0001_0000,
+            offset: 0,
+            filesz: 8,
+            memsz: 8,
+        },
+        Segment {
+            addr: 0x0001_0004,
+            offset: 8,
+            filesz: 4,
+            memsz: 8,
+        },
+    ];
+    let words = [NO_INSTRUCTION, EBREAK, NOP];
+    let mut run = started(
+        &rt,
+        rt.alloc(),
+        0x0001_0004,
+        &overlapping,
+        &words,
+        (None, None),
+        setup,
+    )
+    .map_err(|_| "start")?;
+    let wanted = no_calls(End::Trap(TrapKind::Illegal, 0x1_0008), 1, 1);
+    ends(
+        &rt,
+        rt.alloc(),
+        "a later segment overwrites",
+        &mut run,
+        wanted,
+    )?;
+
+    let mut run = started(&rt, rt.alloc(), 0, &[], &[], (None, None), setup).map_err(|_| "start")?;
+    let wanted = no_calls(End::Trap(TrapKind::Illegal, 0), 0, 0);
+    ends(
+        &rt,
+        rt.alloc(),
+        "with no segment memory is zero",
+        &mut run,
+        wanted,
+    )
+}
+
+/// A name, the entry, and the address and bytes of a segment that has a word in the file; and why a run
+/// in 4 MiB of memory doesn't start, where it doesn't.
+const STARTS: [(&str, u32, u32, u32, Option<StartRefusal>); 12] = [
+    (
+        "program and stacks fill memory",
+        0x1_0000,
+        0x1_0000,
+        0x20_0000,
+        None,
+    ),
+    (
+        "a byte too many",
+        0x1_0000,
+        0x1_0000,
+        0x20_0001,
+        Some(StartRefusal::ProgramTooLarge {
+            need: 0x41_0001,
+            end: 0x41_0000,
+        }),
+    ),
+    (
+        "a program of 3 MiB",
+        0x1_0000,
+        0x1_0000,
+        0x30_0000,
+        Some(StartRefusal::ProgramTooLarge {
+            need: 5_308_416,
+            end: 4_259_840,
+        }),
+    ),
+    (
+        "memory begins at a page",
+        0x1_0000,
+        0x1_0FFC,
+        0x1F_F005,
+        Some(StartRefusal::ProgramTooLarge {
+            need: 0x41_0001,
+            end: 0x41_0000,
+        }),
+    ),
+    (
+        "memory ends above 2^32",
+        0xFFFF_0000,
+        0xFFFF_0000,
+        4,
+        Some(StartRefusal::ProgramTooLarge {
+            need: 0xFFFF_0004 + 2_097_152,
+            end: 0xFFFF_0000 + 4_194_304,
+        }),
+    ),
+    ("memory ends at 2^32", 0xFFC0_0000, 0xFFC0_0000, 4, None),
+    (
+        "the entry is no multiple of 4",
+        0x1_0002,
+        0x1_0000,
+        4,
+        Some(StartRefusal::EntryOutside { entry: 0x1_0002 }),
+    ),
+    (
+        "the entry lies below memory",
+        0,
+        0x1_0000,
+        4,
+        Some(StartRefusal::EntryOutside { entry: 0 }),
+    ),
+    (
+        "the entry lies at the end of memory",
+        0x41_0000,
+        0x1_0000,
+        4,
+        Some(StartRefusal::EntryOutside { entry: 0x41_0000 }),
+    ),
+    (
+        "the entry is the last word of memory",
+        0x40_FFFC,
+        0x1_0000,
+        4,
+        None,
+    ),
+    (
+        "the entry lies in memory below the program",
+        0x1_0000,
+        0x1_0FFC,
+        4,
+        None,
+    ),
+    (
+        "too large, and the entry is outside",
+        0x1_0002,
+        0x1_0000,
+        0x30_0000,
+        Some(StartRefusal::ProgramTooLarge {
+            need: 5_308_416,
+            end: 4_259_840,
+        }),
+    ),
+];
+
+#[test]
+fn starts_that_are_refused(rt: HostRuntime) {
+    for (name, entry, addr, memsz, refusal) in STARTS {
+        let segment = Segment {
+            addr,
+            offset: 0,
+            filesz: 4,
+            memsz,
+        };
+        let setup = setup_of(1, 1, 1, ROUND);
+        let run = started(
+            &rt,
+            rt.alloc(),
+            entry,
+            &[segment],
+            &[ENDLESS],
+            (None, None),
+            setup,
+        );
+        assert_eq!(rt; run.err(), refusal, "{name}");
+    }
+}

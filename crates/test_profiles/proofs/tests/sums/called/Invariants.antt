@@ -1,0 +1,6 @@
+use Rattle.std.proofs.Common.{◌*◌}
+use Rattle.gmon_data.proofs.BoundLemmas.{IsAtMost}
+use Rattle.test_profiles.proofs.tests.sums.called.Given as goal
+
+abbrev pub invariant-loop-i : goal.invariant-loop-i
+invariant-loop-i l = IsAtMost l.profile (2 * l.i)

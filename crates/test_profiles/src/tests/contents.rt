@@ -1,0 +1,613 @@
+ghost use Rattle.std.specs.Prelude.{◌≡◌, ◌+◌, ◌*◌, ◌<◌, ◌≤◌, [], ◌∷◌, length, sum, IfOk, OnOk};
+ghost use Rattle.std.specs.List.{All};
+ghost use Rattle.gp_base.specs.Spans.{HasRange};
+ghost use Rattle.gmon_data.specs.Content.{empty_content, wide_records, with_records, IsWithin};
+ghost use Rattle.gmon_data.specs.Sizes.{IsOfBytes};
+
+use gmon_data::{AddRefusal, Hist, HistRange, Profile, Unlike};
+use gp_base::{
+    BlockList, Counts, Form, RawArc, RawBlock, RawHist, Rec, RecList, Records, Totals, Unit,
+};
+use std::alloc::{AllocError, Global};
+use std::process::Abort;
+use std::test::Fail;
+
+/// A hundred samples a second.
+const PER_100: Unit = Unit {
+    rate: 100,
+    dim: *b"seconds\0\0\0\0\0\0\0\0",
+    abbrev: b's',
+};
+
+/// A unit of the given rate, with the dimension `seconds` and its abbreviation `s`.
+fn seconds(rate: u32) -> Unit {
+    Unit { rate, ..PER_100 }
+}
+
+/// A histogram of the counters 1, 2, 0 and 0.
+fn histogram(alloc: Global, rate: u32) -> Result<RawHist, AllocError>
+    ensures low { IfOk result (λ hist. hist.low ≡ 65536) }
+    ensures high { IfOk result (λ hist. hist.high ≡ 65552) }
+    ensures counters { IfOk result (λ hist. hist.counters ≡ 1 ∷ 2 ∷ 0 ∷ 0 ∷ []) }
+{
+    let mut counters = Counts::new(alloc);
+    counters.push(1)?;
+    counters.push(2)?;
+    counters.push(0)?;
+    counters.push(0)?;
+    Ok(RawHist {
+        low: 0x1_0000,
+        high: 0x1_0010,
+        unit: seconds(rate),
+        counters,
+    })
+}
+
+/// Two histograms of one range, the second of the given rate, an arc and a blocks record.
+fn file(alloc: Global, rate: u32) -> Result<Records, AllocError>
+    ensures ranges { IfOk result (λ records. All HasRange records.recs) }
+    ensures within { IfOk result (λ records. IsWithin (with_records (wide_records records.recs) empty_content)) }
+{
+    let mut blocks = BlockList::new(alloc);
+    blocks.push(RawBlock {
+        addr: 0x1_0000,
+        count: 9,
+    })?;
+    let mut recs = RecList::new(alloc);
+    recs.push(Rec::Hist(histogram(alloc, 100)?))?;
+    recs.push(Rec::Hist(histogram(alloc, rate)?))?;
+    recs.push(Rec::Arc(RawArc {
+        from: 0x1_0004,
+        to: 0x1_0008,
+        count: 0,
+    }))?;
+    recs.push(Rec::Blocks(blocks))?;
+    Ok(Records {
+        form: Form::Gnu,
+        recs,
+    })
+}
+
+/// A histogram of so many samples, one in each counter.
+fn even(alloc: Global, low: u32, high: u32, count: u8) -> Result<Hist, AllocError>
+    ensures low { IfOk result (λ hist. hist.low ≡ low) }
+    ensures high { IfOk result (λ hist. hist.high ≡ high) }
+    ensures counters { IfOk result (λ hist. length hist.counters ≤ 255) }
+    ensures samples { IfOk result (λ hist. sum hist.counters ≡ length hist.counters) }
+{
+    let mut counters = Totals::new(alloc);
+    while counters.as_slice().len() < usize::from(count) {
+        counters.push(1)?;
+    }
+    Ok(Hist {
+        low,
+        high,
+        counters,
+    })
+}
+
+/// The counters of the first histogram, if there is one.
+fn first_counters(profile: &Profile) -> &[u64] {
+    if profile.hist_count() == 0 {
+        return &[];
+    }
+    profile.hist(0).counters.as_slice()
+}
+
+/// The rate of a file's second histogram, and what adding the file answers.
+const SECOND_RATES: [(&'static str, u32, Result<(), AddRefusal>); 3] = [
+    ("the same rate", 100, Ok(())),
+    ("a rate of 0", 0, Ok(())),
+    (
+        "another rate",
+        50,
+        Err(AddRefusal::Unlike(Unlike::Rate { old: 100, new: 50 })),
+    ),
+];
+
+/// The one histogram and its unit, whether or not the second one was added to it.
+fn expect_one_histogram(rt: &impl Abort, profile: &Profile, counters: &[u64], name: &str) {
+    assert_eq!(rt; profile.unit(), Some(PER_100), "{name}");
+    assert_eq!(rt; profile.hist_count(), 1, "{name}");
+    assert_eq!(rt; first_counters(profile), counters, "{name}");
+}
+
+/// Nothing stands behind the refused histogram.
+fn expect_first_alone(rt: &impl Abort, profile: &Profile, name: &str) {
+    expect_one_histogram(rt, profile, &[1, 2, 0, 0], name);
+    assert_eq!(rt; profile.arc_count(), 0, "{name}");
+    assert_eq!(rt; profile.block_count(), 0, "{name}");
+}
+
+fn expect_whole_file(rt: &impl Abort, profile: &Profile, name: &str) {
+    expect_one_histogram(rt, profile, &[2, 4, 0, 0], name);
+    assert_eq!(rt; profile.arc_count(), 1, "{name}");
+    assert_eq!(rt; profile.block_count(), 1, "{name}");
+    assert_eq!(rt; profile.samples(), 6, "{name}");
+    assert_eq!(rt; profile.calls(), 0, "{name}");
+    assert_eq!(rt; profile.blocks(), 9, "{name}");
+}
+
+/// Adds a file whose second histogram is of the given rate.
+fn file_is_added(
+    rt: &impl Abort,
+    alloc: Global,
+    name: &str,
+    rate: u32,
+    answer: Result<(), AddRefusal>,
+) -> Result<(), AllocError> {
+    let records = file(alloc, rate)?;
+    let mut profile = Profile::new(alloc);
+    assert_eq!(rt; profile.add_records(&records), answer, "{name}");
+    if answer.is_ok() {
+        expect_whole_file(rt, &profile, name);
+    } else {
+        expect_first_alone(rt, &profile, name);
+    }
+    Ok(())
+}
+
+#[test]
+fn the_profile_of_a_file(rt: HostRuntime) -> Result<(), Fail> {
+    for (name, rate, answer) in SECOND_RATES {
+        file_is_added(&rt, rt.alloc(), name, rate, answer)?;
+    }
+    Ok(())
+}
+
+/// A profile to which a histogram, arcs and executions were added, each as a file's parts.
+fn added_in_parts(alloc: Global) -> Result<Profile, AddRefusal> {
+    let arc = RawArc {
+        from: 0x1_0004,
+        to: 0x1_0008,
+        count: 3,
+    };
+    let block = RawBlock {
+        addr: 0x1_0000,
+        count: 9,
+    };
+    let mut profile = Profile::new(alloc);
+    profile.add_counts(0x1_0000, 0x1_0010, seconds(0), &[1, 2, 0, 0])?;
+    profile.add_arcs(&[arc, RawArc { from: 0, ..arc }, arc])?;
+    profile.add_blocks(&[block, RawBlock { addr: 8, ..block }, block])?;
+    Ok(profile)
+}
+
+const ARCS_IN_PARTS: [(u32, u32, u64); 2] = [(0x1_0004, 0x1_0008, 6), (0, 0x1_0008, 3)];
+
+fn expect_arcs_in_parts(rt: &impl Abort, profile: &Profile) {
+    assert_eq!(rt; profile.arc_count(), ARCS_IN_PARTS.len());
+    for (i, arc) in ARCS_IN_PARTS.iter().enumerate() {
+        if i < profile.arc_count() {
+            assert_eq!(rt; profile.arc(i), *arc);
+        }
+    }
+}
+
+fn expect_blocks_in_parts(rt: &impl Abort, profile: &Profile) {
+    assert_eq!(rt; profile.block_count(), 2);
+    assert_eq!(rt; (profile.block_of(0x1_0000), profile.block_of(8)), (18, 9));
+}
+
+#[test]
+fn the_parts_of_a_file(rt: HostRuntime) -> Result<(), Fail> {
+    let profile = added_in_parts(rt.alloc()).map_err(|_| "a profile")?;
+    assert_eq!(rt; profile.unit(), Some(PER_100));
+    assert_eq!(rt; first_counters(&profile), [1, 2, 0, 0].as_slice());
+    expect_arcs_in_parts(&rt, &profile);
+    expect_blocks_in_parts(&rt, &profile);
+    Ok(())
+}
+
+/// The range of the one histogram that a profile has.
+const KEPT: HistRange = HistRange {
+    low: 0x1_0000,
+    high: 0x1_0010,
+    count: 4,
+};
+
+/// A profile of that histogram, of a hundred samples a second.
+fn one_histogram(alloc: Global) -> Result<Profile, AddRefusal>
+    ensures { IfOk result (λ profile. IsOfBytes 510 profile) }
+{
+    let hist = even(alloc, 0x1_0000, 0x1_0010, 4)?;
+    let mut profile = Profile::new(alloc);
+    profile.add_wide(&hist, seconds(100))?;
+    Ok(profile)
+}
+
+/// The unit of no samples a second, which counts as a hundred.
+const PER_0: Unit = Unit { rate: 0, ..PER_100 };
+
+const PER_50: Unit = Unit {
+    rate: 50,
+    ..PER_100
+};
+
+const MINUTES: Unit = Unit {
+    abbrev: b'm',
+    ..PER_100
+};
+
+const BEATS: Unit = Unit {
+    dim: *b"beats\0\0\0\0\0\0\0\0\0\0",
+    ..PER_100
+};
+
+const TOO_LOW: HistRange = HistRange {
+    low: 0xFFF0,
+    high: 0x1_0001,
+    ..KEPT
+};
+
+const TOO_HIGH: HistRange = HistRange {
+    low: 0x1_000F,
+    high: 0x1_0020,
+    ..KEPT
+};
+
+const ONE_MORE: HistRange = HistRange { count: 5, ..KEPT };
+
+/// The range of a second histogram, how many counters it has, its unit, and what it is unlike in.
+type Second = (u32, u32, u8, Unit, Option<Unlike>);
+
+const SECONDS: [(&'static str, Second); 10] = [
+    ("the same", (0x1_0000, 0x1_0010, 4, PER_0, None)),
+    ("above", (0x1_0010, 0x1_0020, 4, PER_100, None)),
+    ("below", (0xFFF0, 0x1_0000, 4, PER_100, None)),
+    ("no counters", (0x1_0008, 0x1_0018, 0, MINUTES, None)),
+    (
+        "one address too low",
+        (
+            0xFFF0,
+            0x1_0001,
+            4,
+            PER_100,
+            Some(Unlike::Range {
+                old: KEPT,
+                new: TOO_LOW,
+            }),
+        ),
+    ),
+    (
+        "one address too high",
+        (
+            0x1_000F,
+            0x1_0020,
+            4,
+            MINUTES,
+            Some(Unlike::Range {
+                old: KEPT,
+                new: TOO_HIGH,
+            }),
+        ),
+    ),
+    (
+        "one counter more",
+        (
+            0x1_0000,
+            0x1_0010,
+            5,
+            PER_50,
+            Some(Unlike::Range {
+                old: KEPT,
+                new: ONE_MORE,
+            }),
+        ),
+    ),
+    (
+        "another rate",
+        (
+            0x1_0010,
+            0x1_0020,
+            4,
+            PER_50,
+            Some(Unlike::Rate { old: 100, new: 50 }),
+        ),
+    ),
+    (
+        "another abbreviation",
+        (
+            0x1_0000,
+            0x1_0010,
+            4,
+            MINUTES,
+            Some(Unlike::Dimension {
+                old: PER_100,
+                new: MINUTES,
+            }),
+        ),
+    ),
+    (
+        "another dimension",
+        (
+            0x1_0010,
+            0x1_0020,
+            1,
+            BEATS,
+            Some(Unlike::Dimension {
+                old: PER_100,
+                new: BEATS,
+            }),
+        ),
+    ),
+];
+
+/// What adding a second histogram answers.
+fn second_added(alloc: Global, low: u32, high: u32, count: u8, unit: Unit) -> Result<(), AddRefusal>
+    requires { low < high }
+{
+    let hist = even(alloc, low, high, count)?;
+    one_histogram(alloc)?.add_wide(&hist, unit)
+}
+
+fn second_is_answered(rt: &impl Abort, alloc: Global, name: &str, second: Second) {
+    let (low, high, count, unit, unlike) = second;
+    assert!(rt; low < high, "{name}");
+    let answer = match unlike {
+        None => Ok(()),
+        Some(unlike) => Err(AddRefusal::Unlike(unlike)),
+    };
+    assert_eq!(rt;
+        second_added(alloc, low, high, count, unit),
+        answer,
+        "{name}"
+    );
+}
+
+#[test]
+fn histograms_that_are_unlike(rt: HostRuntime) {
+    for (name, second) in SECONDS {
+        second_is_answered(&rt, rt.alloc(), name, second);
+    }
+}
+
+/// A profile of one pair and one block address, whose numbers have more than 32 bits.
+fn large_numbers(alloc: Global) -> Result<Profile, AllocError>
+    ensures arcs { IfOk result (λ profile. 0 < length profile.arcs) }
+    ensures blocks { IfOk result (λ profile. 0 < length profile.blocks) }
+{
+    let mut profile = Profile::new(alloc);
+    profile.reserve_arcs(100)?;
+    profile.reserve_blocks(100)?;
+    profile.add_calls(0x1_0004, 0x1_0008, 1 << 58)?;
+    profile.add_arc(RawArc {
+        from: 0x1_0004,
+        to: 0x1_0008,
+        count: 5,
+    })?;
+    profile.add_runs(0x1_0000, 1 << 57)?;
+    profile.add_block(RawBlock {
+        addr: 0x1_0000,
+        count: 9,
+    })?;
+    Ok(profile)
+}
+
+fn expect_large_numbers(rt: &impl Abort, profile: &Profile)
+    requires arcs { 0 < length profile.now.arcs }
+    requires blocks { 0 < length profile.now.blocks }
+{
+    assert_eq!(rt; profile.arc(0), (0x1_0004, 0x1_0008, (1 << 58) + 5));
+    assert_eq!(rt; profile.block(0), (0x1_0000, (1 << 57) + 9));
+    assert_eq!(rt; profile.block_of(0x1_0000), (1 << 57) + 9);
+    assert_eq!(rt; profile.block_of(0x1_0004), 0);
+}
+
+#[test]
+fn numbers_of_64_bits(rt: HostRuntime) -> Result<(), Fail> {
+    let profile = large_numbers(rt.alloc())?;
+    expect_large_numbers(&rt, &profile);
+    Ok(())
+}
+
+/// A blocks record of 100,000 addresses, and 100,000 arcs, of one execution and of one call each.
+fn many_records(alloc: Global) -> Result<Records, AllocError>
+    ensures ranges { IfOk result (λ records. All HasRange records.recs) }
+    ensures within { IfOk result (λ records. IsWithin (with_records (wide_records records.recs) empty_content)) }
+{
+    let mut blocks = BlockList::new(alloc);
+    for i in 0..100_000u32 {
+        blocks.push(RawBlock {
+            addr: 0x1_0000 + 4 * i,
+            count: 1,
+        })?;
+    }
+    let mut recs = RecList::new(alloc);
+    recs.push(Rec::Blocks(blocks))?;
+    for k in 0..100_000u32 {
+        recs.push(Rec::Arc(RawArc {
+            from: 0x80_0000 - 4 * k,
+            to: 0x1_0000,
+            count: 1,
+        }))?;
+    }
+    Ok(Records {
+        form: Form::Gnu,
+        recs,
+    })
+}
+
+/// A profile of those records.
+fn many_added(alloc: Global) -> Result<Profile, AddRefusal> {
+    let records = many_records(alloc)?;
+    let mut profile = Profile::new(alloc);
+    profile.add_records(&records)?;
+    Ok(profile)
+}
+
+fn expect_many(rt: &impl Abort, profile: &Profile) {
+    assert_eq!(rt; (profile.unit(), profile.hist_count()), (None, 0));
+    assert_eq!(rt; (profile.calls(), profile.arc_count()), (100_000, 100_000));
+    assert_eq!(rt;
+        (profile.blocks(), profile.block_count()),
+        (100_000, 100_000)
+    );
+}
+
+fn expect_many_arcs(rt: &impl Abort, profile: &Profile) {
+    for i in 0..profile.arc_count() {
+        let (from, to, count) = profile.arc(i);
+        assert_eq!(rt; from as usize + 4 * i, 0x80_0000, "{i}");
+        assert_eq!(rt; (to, count), (0x1_0000, 1), "{i}");
+    }
+}
+
+#[test]
+fn a_hundred_thousand_records(rt: HostRuntime) -> Result<(), Fail> {
+    let profile = many_added(rt.alloc())?.try_clone()?;
+    expect_many(&rt, &profile);
+    expect_many_arcs(&rt, &profile);
+    Ok(())
+}
+
+/// The conflict of a histogram of four counters with the one that a profile has.
+fn conflict_of(alloc: Global, low: u32, rate: u32) -> Result<Option<Unlike>, AddRefusal> {
+    let range = HistRange { low, ..KEPT };
+    Ok(one_histogram(alloc)?.conflict(range, seconds(rate)))
+}
+
+/// Where a histogram begins, its rate, and its conflict.
+const CONFLICTS: [(u32, u32, Option<Unlike>); 4] = [
+    (0x1_0000, 0, None),
+    (0x1_0010, 0, None),
+    (0x1_0000, 50, Some(Unlike::Rate { old: 100, new: 50 })),
+    (
+        0x1_0004,
+        50,
+        Some(Unlike::Range {
+            old: KEPT,
+            new: HistRange {
+                low: 0x1_0004,
+                ..KEPT
+            },
+        }),
+    ),
+];
+
+#[test]
+fn a_conflict_is_told(rt: HostRuntime) -> Result<(), Fail> {
+    for (low, rate, conflict) in CONFLICTS {
+        assert_eq!(rt; conflict_of(rt.alloc(), low, rate)?, conflict);
+    }
+    Ok(())
+}
+
+/// In which order the histograms of a profile come.
+#[derive(Clone, Copy)]
+enum Order {
+    Ascending,
+    Descending,
+    EverySecondFirst,
+}
+
+/// Where the histogram that comes `k`-th lies, of so many side by side.
+fn place_at(order: Order, k: u32, count: u32) -> u32
+    requires within { k < count }
+    requires few { count ≤ 1000000 }
+    ensures { result ≤ 2000000 }
+{
+    let half = count.div_ceil(2);
+    match order {
+        Order::Ascending => k,
+        Order::Descending => count - 1 - k,
+        Order::EverySecondFirst => { if k < half { 2 * k } else { 2 * (k - half) + 1 } }
+    }
+}
+
+/// A histogram of one counter.
+fn single(alloc: Global, place: u32) -> Result<Hist, AllocError>
+    requires { place ≤ 2000000 }
+    ensures range { IfOk result (λ hist. hist.low < hist.high) }
+    ensures counters { IfOk result (λ hist. hist.counters ≡ 1 ∷ []) }
+{
+    let mut counters = Totals::new(alloc);
+    counters.push(1)?;
+    Ok(Hist {
+        low: 16 * place,
+        high: 16 * place + 16,
+        counters,
+    })
+}
+
+/// Adds the histogram that comes `k`-th.
+fn add_next(
+    profile: &mut Profile,
+    alloc: Global,
+    order: Order,
+    k: u32,
+    count: u32,
+) -> Result<(), AddRefusal>
+    requires within { k < count }
+    requires few { count ≤ 1000000 }
+    requires before { IsOfBytes (2 * k) profile.old }
+    ensures { OnOk result (IsOfBytes (2 * (k + 1)) profile.new) }
+{
+    let hist = single(alloc, place_at(order, k, count))?;
+    profile.add_wide(&hist, seconds(100))?;
+    Ok(())
+}
+
+/// A profile of so many histograms of one counter each, side by side, which came in an order.
+fn side_by_side(alloc: Global, order: Order, count: u32) -> Result<Profile, AddRefusal>
+    requires { count ≤ 1000000 }
+{
+    let mut profile = Profile::new(alloc);
+    for k in 0..count {
+        add_next(&mut profile, alloc, order, k, count)?;
+    }
+    Ok(profile)
+}
+
+/// Whether each histogram is the one of its place.
+fn is_side_by_side(profile: &Profile) -> bool {
+    for i in 0..profile.hist_count() {
+        let hist = profile.hist(i);
+        let place = hist.low / 16;
+        if place as usize != i || hist.low % 16 != 0 || hist.counters.as_slice() != [1].as_slice() {
+            return false;
+        }
+    }
+    true
+}
+
+/// An order, and how many histograms come in it.
+const ORDERS: [(&'static str, Order, u32); 6] = [
+    ("ascending", Order::Ascending, 3000),
+    ("descending", Order::Descending, 3000),
+    ("every second one first", Order::EverySecondFirst, 3000),
+    ("one chunk", Order::Descending, 512),
+    ("two chunks", Order::Descending, 513),
+    ("one", Order::EverySecondFirst, 1),
+];
+
+fn expect_side_by_side(rt: &impl Abort, profile: &Profile, name: &str, count: u32) {
+    assert_eq!(rt; profile.hist_count(), count as usize, "{name}");
+    assert_eq!(rt; profile.samples(), u64::from(count), "{name}");
+    assert!(rt; is_side_by_side(profile), "{name}");
+}
+
+/// Looks at a profile whose histograms came in an order, and at its clone.
+fn stand_in_order(
+    rt: &impl Abort,
+    alloc: Global,
+    name: &str,
+    order: Order,
+    count: u32,
+) -> Result<(), AddRefusal>
+    requires { count ≤ 1000000 }
+{
+    let added = side_by_side(alloc, order, count)?;
+    expect_side_by_side(rt, &added, name, count);
+    let profile = added.try_clone()?;
+    expect_side_by_side(rt, &profile, name, count);
+    Ok(())
+}
+
+#[test]
+fn histograms_in_any_order(rt: HostRuntime) -> Result<(), Fail> {
+    for (name, order, count) in ORDERS {
+        stand_in_order(&rt, rt.alloc(), name, order, count)?;
+    }
+    Ok(())
+}

@@ -1,0 +1,179 @@
+ghost use Rattle.std.specs.Prelude.{◌≡◌, ◌<◌, ◌≤◌, true, IfOk, length, string_bytes};
+ghost use Rattle.std.specs.List.{All};
+ghost use Rattle.elf32_syms.specs.Owners.{IsAscending};
+ghost use Rattle.arc_filter.specs.Cuts.{is_cut_word as spec};
+
+use crate::{
+    Rows, name_of, profile_of_calls, profile_of_rows, push_symbol, ring_of_calls, seconds,
+};
+use arc_filter::{cut, is_cut_word};
+use elf32_syms::SymbolList;
+use gmon_data::Profile;
+use std::alloc::{AllocError, Global};
+use std::test::Fail;
+
+/// So many functions of 16 addresses each. They have these names in turn.
+fn symbols(alloc: Global, count: u32, names: &[&str]) -> Result<SymbolList, AllocError>
+    requires count { count ≤ 65536 }
+    requires names { 0 < length names.now }
+    ensures { IfOk result IsAscending }
+{
+    let mut symbols = SymbolList::new(alloc);
+    for i in 0..count {
+        push_symbol(
+            &mut symbols,
+            i,
+            name_of(alloc, names[i as usize % names.len()])?,
+        )?;
+    }
+    Ok(symbols)
+}
+
+/// A word that has the form of a cut.
+fn cut_word(alloc: Global, word: &str) -> Result<String, AllocError>
+    ensures { IfOk result (λ s. spec (string_bytes s) ≡ true) }
+{
+    if !is_cut_word(word) {
+        return Err(AllocError);
+    }
+    let cut = String::from_str(alloc, word)?;
+    Ok(cut)
+}
+
+/// Words that have the form of a cut.
+fn cuts_of(alloc: Global, words: &[&str]) -> Result<Vec<String>, AllocError>
+    ensures { IfOk result (λ v. All (λ word. spec (string_bytes word) ≡ true) v.items) }
+{
+    let mut cuts = Vec::new(alloc);
+    for word in words {
+        cuts.push(cut_word(alloc, word)?)?;
+    }
+    Ok(cuts)
+}
+
+/// Call site, callee and count of each arc.
+fn arcs_text(alloc: Global, profile: &Profile) -> Result<String, AllocError> {
+    let mut text = String::new(alloc);
+    for i in 0..profile.arc_count() {
+        let (from, to, count) = profile.arc(i);
+        write!(&mut text, "{from:x}>{to:x}:{count} ")?;
+    }
+    Ok(text)
+}
+
+#[test]
+fn words_of_the_form(rt: HostRuntime) {
+    let rows = [
+        ("b/a", true),
+        ("main/_start", true),
+        ("a/b/c", true),
+        ("a//", true),
+        ("ba", false),
+        ("/a", false),
+        ("b/", false),
+        ("//a", false),
+        ("/", false),
+        ("", false),
+    ];
+    for (word, want) in rows {
+        assert_eq!(rt; is_cut_word(word), want, "{word}");
+    }
+}
+
+/// `main` calls `a`; `a` calls `b`; `b` calls `a` and itself; the second `a` calls `b`, too.
+const CALLS: [(u16, u16, u64); 5] = [(0, 1, 1), (1, 2, 5), (2, 1, 4), (2, 2, 2), (3, 2, 9)];
+
+const NAMES: [&str; 4] = ["main", "a", "b", "a"];
+
+#[test]
+fn arcs_that_stay(rt: HostRuntime) -> Result<(), Fail> {
+    let all = "10004>10010:1 10014>10020:5 10024>10010:4 10024>10020:2 10034>10020:9 ";
+    let rows = [
+        ("no words", [].as_slice(), all),
+        (
+            "one pair",
+            &["b/a"],
+            "10004>10010:1 10014>10020:5 10024>10020:2 10034>10020:9 ",
+        ),
+        (
+            "all functions of a name",
+            &["a/b"],
+            "10004>10010:1 10024>10010:4 10024>10020:2 ",
+        ),
+        (
+            "calls of a function by itself",
+            &["b/b"],
+            "10004>10010:1 10014>10020:5 10024>10010:4 10034>10020:9 ",
+        ),
+        (
+            "each of the words",
+            &["b/a", "main/a", "a/b"],
+            "10024>10020:2 ",
+        ),
+        (
+            "a word twice",
+            &["main/a", "main/a"],
+            "10014>10020:5 10024>10010:4 10024>10020:2 10034>10020:9 ",
+        ),
+        (
+            "names that no symbol has",
+            &["c/a", "b/c", "mai/a", "main/aa"],
+            all,
+        ),
+        (
+            "a name with a slash behind the first one",
+            &["b/a/b", "b/b/"],
+            all,
+        ),
+    ];
+    let symbols = symbols(rt.alloc(), 4, &NAMES)?;
+    let whole = profile_of_calls(rt.alloc(), &CALLS)?;
+    for (message, words, want) in rows {
+        let cuts = cuts_of(rt.alloc(), words)?;
+        let left = cut(rt.alloc(), &whole, symbols.as_slice(), cuts.as_slice())?;
+        assert_eq!(rt; arcs_text(rt.alloc(), &left)?.as_str(), want, "{message}");
+    }
+    Ok(())
+}
+
+#[test]
+fn samples_and_executions_stay(rt: HostRuntime) -> Result<(), Fail> {
+    let symbols = symbols(rt.alloc(), 4, &NAMES)?;
+    let rows = Rows {
+        hists: &[(0x1_0000, 0x1_0040, 3)],
+        unit: seconds(100),
+        arcs: &[(0x1_0004, 0x1_0010, 7)],
+        blocks: &[(0x1_0010, 5)],
+    };
+    let whole = profile_of_rows(rt.alloc(), rows)?;
+    let cuts = cuts_of(rt.alloc(), &["main/a"])?;
+    let left = cut(rt.alloc(), &whole, symbols.as_slice(), cuts.as_slice())?;
+    assert_eq!(rt; left.samples(), 3);
+    assert_eq!(rt; left.blocks(), 5);
+    assert_eq!(rt; left.calls(), 0);
+    assert_eq!(rt; left.arc_count(), 0);
+    assert_eq!(rt; left.unit(), whole.unit());
+    assert_eq!(rt; whole.calls(), 7);
+    Ok(())
+}
+
+/// Each of sixteen words cuts two calls of every sixteenth function.
+#[test]
+fn sixteen_cuts_in_two_million_arcs(rt: HostRuntime) -> Result<(), Fail> {
+    let names = [
+        "f0", "f1", "f2", "f3", "f4", "f5", "f6", "f7", "f8", "f9", "fa", "fb", "fc", "fd", "fe",
+        "ff",
+    ];
+    let words = [
+        "f0/f1", "f1/f2", "f2/f3", "f3/f4", "f4/f5", "f5/f6", "f6/f7", "f7/f8", "f8/f9", "f9/fa",
+        "fa/fb", "fb/fc", "fc/fd", "fd/fe", "fe/ff", "ff/ff",
+    ];
+    let symbols = symbols(rt.alloc(), 65_536, &names)?;
+    let whole = ring_of_calls(rt.alloc(), 16, false)?;
+    let cuts = cuts_of(rt.alloc(), &words)?;
+    assert_eq!(rt; cuts.len(), 16);
+    let left = cut(rt.alloc(), &whole, symbols.as_slice(), cuts.as_slice())?;
+    assert_eq!(rt; left.arc_count(), 2_097_152 - 16 * 8_192);
+    assert_eq!(rt; left.calls(), 2_097_152 - 16 * 8_192);
+    Ok(())
+}

@@ -1,0 +1,531 @@
+ghost use Rattle.std.specs.Prelude.{IfOk};
+ghost use Rattle.gmon_data.proofs.BoundLemmas.{IsAtMost};
+
+use crate::{Rows, profile_of_rows};
+use gmon_data::{AddRefusal, HistRange, Profile, Unlike};
+use gp_base::Unit;
+use profile_sum::{SumRefusal, add_all, add_into};
+use std::alloc::{AllocError, Global};
+use std::process::Abort;
+use std::test::Fail;
+
+/// Whether the profile has these histograms, and their unit where there are any.
+fn has_hists(profile: &Profile, hists: &[(u32, u32, u64)], unit: Unit) -> bool {
+    let kept = if hists.is_empty() { None } else { Some(unit) };
+    if profile.hist_count() != hists.len() || profile.unit() != kept {
+        return false;
+    }
+    for i in 0..hists.len() {
+        let hist = profile.hist(i);
+        let (low, high, counter) = hists[i];
+        if (hist.low, hist.high) != (low, high)
+            || hist.counters.as_slice() != [counter].as_slice()
+        {
+            return false;
+        }
+    }
+    true
+}
+
+/// Whether the profile has these arcs, in this order.
+fn has_arcs(profile: &Profile, arcs: &[(u32, u32, u64)]) -> bool {
+    if profile.arc_count() != arcs.len() {
+        return false;
+    }
+    for i in 0..arcs.len() {
+        if profile.arc(i) != arcs[i] {
+            return false;
+        }
+    }
+    true
+}
+
+/// Whether the profile has these block addresses, in this order.
+fn has_blocks(profile: &Profile, blocks: &[(u32, u64)]) -> bool {
+    if profile.block_count() != blocks.len() {
+        return false;
+    }
+    for i in 0..blocks.len() {
+        if profile.block(i) != blocks[i] {
+            return false;
+        }
+    }
+    true
+}
+
+/// What adding the second to the first answers, and the first one then.
+fn added(
+    alloc: Global,
+    first: Rows<'_>,
+    second: Rows<'_>,
+) -> Result<(Profile, Result<(), SumRefusal>), AddRefusal> {
+    let mut total = profile_of_rows(alloc, first)?;
+    let more = profile_of_rows(alloc, second)?;
+    let answer = add_all(&mut total, &more);
+    Ok((total, answer))
+}
+
+/// The sum into which the first one goes.
+fn added_into(
+    alloc: Global,
+    first: Rows<'_>,
+    second: Rows<'_>,
+) -> Result<Result<Profile, SumRefusal>, AddRefusal> {
+    let total = profile_of_rows(alloc, first)?;
+    let more = profile_of_rows(alloc, second)?;
+    Ok(add_into(total, &more))
+}
+
+/// Whether there is a sum, and it has these rows.
+fn is_sum(answer: &Result<Profile, SumRefusal>, sum: Rows<'_>) -> bool {
+    match answer {
+        Ok(total) => {
+            has_hists(total, sum.hists, sum.unit)
+                && has_arcs(total, sum.arcs)
+                && has_blocks(total, sum.blocks)
+        }
+        Err(_) => false,
+    }
+}
+
+/// Whether it is this refusal.
+fn is_refusal(answer: &Result<Profile, SumRefusal>, refusal: SumRefusal) -> bool {
+    match answer {
+        Ok(_) => false,
+        Err(other) => *other == refusal,
+    }
+}
+
+const PER_100: Unit = Unit {
+    rate: 100,
+    dim: *b"seconds\0\0\0\0\0\0\0\0",
+    abbrev: b's',
+};
+
+const PER_50: Unit = Unit {
+    rate: 50,
+    ..PER_100
+};
+
+/// A rate that counts as 100.
+const PER_0: Unit = Unit { rate: 0, ..PER_100 };
+
+const MINUTES: Unit = Unit {
+    abbrev: b'm',
+    ..PER_100
+};
+
+const NOTHING: Rows<'static> = Rows {
+    hists: &[],
+    unit: PER_100,
+    arcs: &[],
+    blocks: &[],
+};
+
+/// Some of each.
+const SOME: Rows<'static> = Rows {
+    hists: &[(0x1_0000, 0x1_0004, 1), (0x1_0010, 0x1_0020, 0)],
+    unit: PER_100,
+    arcs: &[(0x1_0000, 0x1_0004, 3), (0, 0x1_0000, 1)],
+    blocks: &[(0x1_0008, 5), (0x1_0000, 5)],
+};
+
+/// A histogram of a counter that a file could have.
+const COUNTER: Rows<'static> = Rows {
+    hists: &[(0x1_0000, 0x1_0004, 40_000)],
+    ..NOTHING
+};
+
+/// Twice that counter.
+const TWICE: Rows<'static> = Rows {
+    hists: &[(0x1_0000, 0x1_0004, 80_000)],
+    ..NOTHING
+};
+
+/// A first and a second profile, and their sum.
+type Sum = [Rows<'static>; 3];
+
+const SUMS: [(&'static str, Sum); 10] = [
+    ("nothing and nothing", [NOTHING, NOTHING, NOTHING]),
+    ("nothing after some", [SOME, NOTHING, SOME]),
+    ("some after nothing", [NOTHING, SOME, SOME]),
+    ("a counter beyond 16 bits", [COUNTER, COUNTER, TWICE]),
+    (
+        "a rate of 0 counts as 100",
+        [
+            COUNTER,
+            Rows {
+                unit: PER_0,
+                ..COUNTER
+            },
+            TWICE,
+        ],
+    ),
+    (
+        "the unit of the second, as the first has none",
+        [
+            Rows {
+                arcs: &[(0, 8, 1)],
+                ..NOTHING
+            },
+            Rows {
+                unit: PER_50,
+                ..COUNTER
+            },
+            Rows {
+                unit: PER_50,
+                arcs: &[(0, 8, 1)],
+                ..COUNTER
+            },
+        ],
+    ),
+    (
+        "the unit of the first, as the second has none",
+        [
+            Rows {
+                unit: PER_50,
+                ..COUNTER
+            },
+            Rows {
+                blocks: &[(8, 1)],
+                ..NOTHING
+            },
+            Rows {
+                unit: PER_50,
+                blocks: &[(8, 1)],
+                ..COUNTER
+            },
+        ],
+    ),
+    (
+        "ranges that touch",
+        [
+            Rows {
+                hists: &[(0x1_0000, 0x1_0004, 1)],
+                ..NOTHING
+            },
+            Rows {
+                hists: &[(0xFFFC, 0x1_0000, 3), (0x1_0004, 0x1_0008, 2)],
+                ..NOTHING
+            },
+            Rows {
+                hists: &[
+                    (0xFFFC, 0x1_0000, 3),
+                    (0x1_0000, 0x1_0004, 1),
+                    (0x1_0004, 0x1_0008, 2),
+                ],
+                ..NOTHING
+            },
+        ],
+    ),
+    (
+        "new arcs behind the old ones, equal pairs added",
+        [
+            Rows {
+                arcs: &[(0x40, 8, 1), (0x10, 8, 2)],
+                ..NOTHING
+            },
+            Rows {
+                arcs: &[
+                    (0x20, 8, 3),
+                    (0x10, 8, 4),
+                    (0x14, 8, 5),
+                    (0x40, 8, 6),
+                    (0x10, 4, 0),
+                ],
+                ..NOTHING
+            },
+            Rows {
+                arcs: &[
+                    (0x40, 8, 7),
+                    (0x10, 8, 6),
+                    (0x20, 8, 3),
+                    (0x14, 8, 5),
+                    (0x10, 4, 0),
+                ],
+                ..NOTHING
+            },
+        ],
+    ),
+    (
+        "new blocks behind the old ones, equal addresses added",
+        [
+            Rows {
+                blocks: &[(0x40, 1), (0x10, 2)],
+                ..NOTHING
+            },
+            Rows {
+                blocks: &[(0x20, 3), (0x10, 4), (0x14, 0), (0x40, 6)],
+                ..NOTHING
+            },
+            Rows {
+                blocks: &[(0x40, 7), (0x10, 6), (0x20, 3), (0x14, 0)],
+                ..NOTHING
+            },
+        ],
+    ),
+];
+
+fn expect_rows(rt: &impl Abort, profile: &Profile, rows: &Rows<'_>, name: &str) {
+    assert!(rt; has_hists(profile, rows.hists, rows.unit), "{name}");
+    assert!(rt; has_arcs(profile, rows.arcs), "{name}");
+    assert!(rt; has_blocks(profile, rows.blocks), "{name}");
+}
+
+fn is_added(rt: &impl Abort, alloc: Global, name: &str, rows: Sum) -> Result<(), AddRefusal> {
+    let [first, second, sum] = rows;
+    let (total, answer) = added(alloc, first, second)?;
+    assert_eq!(rt; answer, Ok(()), "{name}");
+    expect_rows(rt, &total, &sum, name);
+    Ok(())
+}
+
+fn is_added_into(rt: &impl Abort, alloc: Global, name: &str, rows: Sum) -> Result<(), AddRefusal> {
+    let [first, second, sum] = rows;
+    let into = added_into(alloc, first, second)?;
+    assert!(rt; is_sum(&into, sum), "{name}");
+    Ok(())
+}
+
+#[test]
+fn sums_of_profiles(rt: HostRuntime) -> Result<(), Fail> {
+    for (name, rows) in SUMS {
+        is_added(&rt, rt.alloc(), name, rows)?;
+        is_added_into(&rt, rt.alloc(), name, rows)?;
+    }
+    Ok(())
+}
+
+/// An arc and a block address, beside which histograms are refused.
+const BESIDE: Rows<'static> = Rows {
+    arcs: &[(0x20, 8, 3)],
+    blocks: &[(0x20, 3)],
+    ..NOTHING
+};
+
+const LOW: HistRange = HistRange {
+    low: 0x1_0000,
+    high: 0x1_0004,
+    count: 1,
+};
+
+const HIGH: HistRange = HistRange {
+    low: 0x1_0010,
+    high: 0x1_0020,
+    count: 1,
+};
+
+/// What is not added to some of each, and why.
+const REFUSED: [(&'static str, Rows<'static>, Unlike); 6] = [
+    (
+        "another range",
+        Rows {
+            hists: &[(0x1_0002, 0x1_0006, 1)],
+            ..BESIDE
+        },
+        Unlike::Range {
+            old: LOW,
+            new: HistRange {
+                low: 0x1_0002,
+                high: 0x1_0006,
+                count: 1,
+            },
+        },
+    ),
+    (
+        "the second histogram alone is refused",
+        Rows {
+            hists: &[(0x8000, 0x8004, 1), (0x1_0018, 0x1_0020, 1)],
+            ..BESIDE
+        },
+        Unlike::Range {
+            old: HIGH,
+            new: HistRange {
+                low: 0x1_0018,
+                high: 0x1_0020,
+                count: 1,
+            },
+        },
+    ),
+    (
+        "both are refused, the lower one by its rate",
+        Rows {
+            hists: &[(0x8000, 0x8004, 1), (0x1_0002, 0x1_0006, 1)],
+            unit: PER_50,
+            ..BESIDE
+        },
+        Unlike::Rate { old: 100, new: 50 },
+    ),
+    (
+        "both are refused, the lower one by its range",
+        Rows {
+            hists: &[(0xFFFF, 0x1_0001, 1), (0x1_0004, 0x1_0008, 1)],
+            unit: PER_50,
+            ..BESIDE
+        },
+        Unlike::Range {
+            old: LOW,
+            new: HistRange {
+                low: 0xFFFF,
+                high: 0x1_0001,
+                count: 1,
+            },
+        },
+    ),
+    (
+        "another rate in the same range",
+        Rows {
+            hists: &[(0x1_0000, 0x1_0004, 1)],
+            unit: PER_50,
+            ..BESIDE
+        },
+        Unlike::Rate { old: 100, new: 50 },
+    ),
+    (
+        "another dimension",
+        Rows {
+            hists: &[(0x1_0000, 0x1_0004, 1)],
+            unit: MINUTES,
+            ..BESIDE
+        },
+        Unlike::Dimension {
+            old: PER_100,
+            new: MINUTES,
+        },
+    ),
+];
+
+/// Nothing was added to some of each.
+fn expect_some(rt: &impl Abort, profile: &Profile, name: &str) {
+    expect_rows(rt, profile, &SOME, name);
+    assert_eq!(rt;
+        (profile.samples(), profile.calls(), profile.blocks()),
+        (1, 4, 10),
+        "{name}"
+    );
+}
+
+fn is_refused(
+    rt: &impl Abort,
+    alloc: Global,
+    name: &str,
+    second: Rows<'_>,
+    unlike: Unlike,
+) -> Result<(), AddRefusal> {
+    let (total, answer) = added(alloc, SOME, second)?;
+    assert_eq!(rt; answer, Err(SumRefusal::Unlike(unlike)), "{name}");
+    expect_some(rt, &total, name);
+    Ok(())
+}
+
+fn is_refused_into(
+    rt: &impl Abort,
+    alloc: Global,
+    name: &str,
+    second: Rows<'_>,
+    unlike: Unlike,
+) -> Result<(), AddRefusal> {
+    let into = added_into(alloc, SOME, second)?;
+    assert!(rt; is_refusal(&into, SumRefusal::Unlike(unlike)), "{name}");
+    Ok(())
+}
+
+#[test]
+fn profiles_without_a_sum(rt: HostRuntime) -> Result<(), Fail> {
+    for (name, second, unlike) in REFUSED {
+        is_refused(&rt, rt.alloc(), name, second, unlike)?;
+        is_refused_into(&rt, rt.alloc(), name, second, unlike)?;
+    }
+    Ok(())
+}
+
+/// A profile of 100,000 arcs and 100,000 block addresses, of one call and one execution each, from an
+/// address on.
+fn called(alloc: Global, first: u32) -> Result<Profile, AllocError>
+    ensures { IfOk result (λ profile. IsAtMost profile 200000) }
+{
+    let mut profile = Profile::new(alloc);
+    for i in 0..100_000 {
+        profile.add_calls(first.wrapping_add(i), 0x1_0000, 1)?;
+        profile.add_runs(first.wrapping_add(i), 1)?;
+    }
+    Ok(profile)
+}
+
+/// The sum of two of these, half of whose addresses are in both.
+fn called_twice(rt: &impl Abort, alloc: Global) -> Result<Profile, AllocError> {
+    let mut total = called(alloc, 0)?;
+    let more = called(alloc, 50_000)?;
+    assert_eq!(rt; add_all(&mut total, &more), Ok(()));
+    Ok(total)
+}
+
+fn expect_called_twice(rt: &impl Abort, total: &Profile) {
+    assert_eq!(rt; (total.arc_count(), total.calls()), (150_000, 200_000));
+    assert_eq!(rt; (total.block_count(), total.blocks()), (150_000, 200_000));
+    for i in 0..total.arc_count() {
+        let (from, to, count) = total.arc(i);
+        let both = i >= 50_000 && i < 100_000;
+        assert_eq!(rt;
+            (from as usize, to, count),
+            (i, 0x1_0000, if both { 2 } else { 1 })
+        );
+    }
+}
+
+#[test]
+fn a_hundred_thousand_of_each(rt: HostRuntime) -> Result<(), Fail> {
+    let total = called_twice(&rt, rt.alloc())?;
+    expect_called_twice(&rt, &total);
+    Ok(())
+}
+
+/// The rows of 2,000 histograms of 8 addresses, 16 apart.
+fn striped(alloc: Global, first: u32) -> Result<Vec<(u32, u32, u64)>, AllocError> {
+    let mut rows = Vec::new(alloc);
+    for i in 0..2_000u32 {
+        let low = first.wrapping_add(16 * i);
+        rows.push((low, low.wrapping_add(8), 1))?;
+    }
+    Ok(rows)
+}
+
+/// The sum of profiles of such rows.
+fn stripes_added(
+    rt: &impl Abort,
+    alloc: Global,
+    even: &[(u32, u32, u64)],
+    odd: &[(u32, u32, u64)],
+) -> Result<Profile, AddRefusal> {
+    let first = Rows {
+        hists: even,
+        ..NOTHING
+    };
+    let second = Rows {
+        hists: odd,
+        ..NOTHING
+    };
+    let (total, answer) = added(alloc, first, second)?;
+    assert_eq!(rt; answer, Ok(()));
+    Ok(total)
+}
+
+fn two_stripes(rt: &impl Abort, alloc: Global) -> Result<Profile, AddRefusal> {
+    let even = striped(alloc, 0)?;
+    let odd = striped(alloc, 8)?;
+    stripes_added(rt, alloc, even.as_slice(), odd.as_slice())
+}
+
+fn expect_stripes(rt: &impl Abort, total: &Profile) {
+    assert_eq!(rt; (total.hist_count(), total.samples()), (4_000, 4_000));
+    for i in 0..total.hist_count() {
+        assert_eq!(rt; total.hist(i).low as usize, 8 * i);
+    }
+}
+
+#[test]
+fn two_thousand_histograms_each(rt: HostRuntime) -> Result<(), Fail> {
+    let total = two_stripes(&rt, rt.alloc())?;
+    expect_stripes(&rt, &total);
+    Ok(())
+}

@@ -1,0 +1,9 @@
+use Rattle.std.proofs.Common.{◌*◌, ◌≤◌}
+use Rattle.gmon_data.proofs.BoundLemmas.{IsAtMost}
+use Rattle.test_reports.proofs.tests.listings.profile_of.Given as goal
+
+abbrev pub invariant-loop-addr : goal.invariant-loop-addr
+invariant-loop-addr l = record {
+  few : l.addr-index ≤ 8;
+  within : IsAtMost l.profile (1000 * l.addr-index);
+}

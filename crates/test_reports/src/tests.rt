@@ -1,0 +1,6 @@
+mod exact;
+mod flat;
+mod flows;
+mod graph;
+mod listings;
+mod printing;

@@ -1,0 +1,225 @@
+ghost use Rattle.std.specs.Prelude.{◌≡◌, ◌^◌, ◌<◌, IfOk, length};
+ghost use Rattle.call_cycles.specs.Graph.{all_calls, arc_count, component_count};
+
+use crate::{Program, chain_of, program_of};
+use call_cycles::{Graph, graph};
+use gmon_data::AddRefusal;
+use propagate::{Flow, flow};
+use std::alloc::{AllocError, Global};
+use std::test::Fail;
+use symbol_shares::shares;
+use test_profiles::{Calls, even_profile, ring_of_calls, symbols_of};
+
+/// Head, self time and child time of each component.
+fn components_text(alloc: Global, graph: &Graph, flow: &Flow) -> Result<String, AllocError>
+    requires selves { length flow.now.self ≡ component_count graph.now }
+    requires children { length flow.now.child ≡ component_count graph.now }
+{
+    let mut text = String::new(alloc);
+    for c in 0..graph.component_count() {
+        let head = graph.head(c);
+        let own = flow.self_of(c);
+        let child = flow.child_of(c);
+        write!(&mut text, "{head}={own}+{child} ")?;
+    }
+    Ok(text)
+}
+
+/// Caller, callee and the two parts of each arc.
+fn arcs_text(alloc: Global, graph: &Graph, flow: &Flow) -> Result<String, AllocError>
+    requires selves { length flow.now.arc_self ≡ arc_count graph.now }
+    requires children { length flow.now.arc_child ≡ arc_count graph.now }
+{
+    let mut text = String::new(alloc);
+    for i in 0..graph.arc_count() {
+        let arc = graph.arc(i);
+        let caller = arc.caller;
+        let callee = arc.callee;
+        let own = flow.arc_self(i);
+        let child = flow.arc_child(i);
+        write!(&mut text, "{caller}>{callee}={own}+{child} ")?;
+    }
+    Ok(text)
+}
+
+/// What each function gets over its arcs.
+fn functions_text(alloc: Global, graph: &Graph, flow: &Flow) -> Result<String, AllocError>
+    requires { length flow.now.member_child ≡ graph.now.functions }
+{
+    let mut text = String::new(alloc);
+    for f in 0..graph.function_count() {
+        let child = flow.member_child(f);
+        write!(&mut text, "{f}={child} ")?;
+    }
+    Ok(text)
+}
+
+/// The times of components, arcs and functions.
+fn flow_text(alloc: Global, samples: &[u64], calls: &[Calls]) -> Result<String, AddRefusal> {
+    let Program { graph, shares } = program_of(alloc, samples, calls)?;
+    let flow = flow(alloc, &graph, &shares)?;
+    let components = components_text(alloc, &graph, &flow)?;
+    let arcs = arcs_text(alloc, &graph, &flow)?;
+    let functions = functions_text(alloc, &graph, &flow)?;
+    let text = format!(in alloc; "{components}| {arcs}| {functions}")?;
+    Ok(text)
+}
+
+/// What a row shows, the samples of its functions, their calls, and the times.
+type Row = (&'static str, &'static [u64], &'static [Calls], &'static str);
+
+#[test]
+fn times_of_components_arcs_and_functions(rt: HostRuntime) -> Result<(), Fail> {
+    let rows: [Row; 10] = [
+        (
+            "three callers share a sample, the last has what is left over",
+            &[0, 0, 0, 1],
+            &[(0, 3, 1), (1, 3, 1), (2, 3, 1)],
+            "3=1000000+0 0=0+333333 1=0+333333 2=0+333334 | 0>3=333333+0 1>3=333333+0 2>3=333334+0 | 0=333333 1=333333 2=333334 3=0 ",
+        ),
+        (
+            "a cycle, and a function of it that calls itself",
+            &[1, 2, 3],
+            &[(0, 1, 1), (1, 2, 5), (2, 1, 4), (2, 2, 2)],
+            "1=5000000+0 0=1000000+5000000 | 0>1=5000000+0 1>2=0+0 2>1=0+0 | 0=5000000 1=0 2=0 ",
+        ),
+        (
+            "a chain",
+            &[1, 2, 4],
+            &[(0, 1, 3), (1, 2, 7)],
+            "2=4000000+0 1=2000000+4000000 0=1000000+6000000 | 0>1=2000000+4000000 1>2=4000000+0 | 0=6000000 1=4000000 2=0 ",
+        ),
+        (
+            "a cycle without callers",
+            &[1, 2, 4],
+            &[(0, 1, 1), (1, 0, 1), (1, 2, 3)],
+            "2=4000000+0 0=3000000+4000000 | 0>1=0+0 1>0=0+0 1>2=4000000+0 | 0=0 1=4000000 2=0 ",
+        ),
+        (
+            "two ways, and a root that has all",
+            &[1, 2, 4, 9],
+            &[(0, 1, 1), (0, 2, 1), (1, 3, 1), (2, 3, 2)],
+            "3=9000000+0 1=2000000+3000000 2=4000000+6000000 0=1000000+15000000 | 0>1=2000000+3000000 0>2=4000000+6000000 1>3=3000000+0 2>3=6000000+0 | 0=15000000 1=3000000 2=6000000 3=0 ",
+        ),
+        // A third of 1,000,000 and of 2,000,000, each rounded down, is 333,333 and 666,666.
+        (
+            "self time and child time are cut apart",
+            &[0, 0, 1, 2],
+            &[(0, 2, 1), (1, 2, 2), (2, 3, 5)],
+            "3=2000000+0 2=1000000+2000000 0=0+999999 1=0+2000001 | 0>2=333333+666666 1>2=666667+1333334 2>3=2000000+0 | 0=999999 1=2000001 2=2000000 3=0 ",
+        ),
+        (
+            "a cycle that is entered and left at both members",
+            &[0, 0, 1, 1, 4],
+            &[
+                (0, 2, 1),
+                (1, 3, 3),
+                (2, 3, 9),
+                (3, 2, 9),
+                (2, 4, 1),
+                (3, 4, 1),
+            ],
+            "4=4000000+0 2=2000000+4000000 0=0+1500000 1=0+4500000 | 0>2=500000+1000000 1>3=1500000+3000000 2>3=0+0 2>4=2000000+0 3>2=0+0 3>4=2000000+0 | 0=1500000 1=4500000 2=2000000 3=2000000 4=0 ",
+        ),
+        (
+            "a function that calls itself alone",
+            &[1],
+            &[(0, 0, 3)],
+            "0=1000000+0 | | 0=0 ",
+        ),
+        (
+            "no calls",
+            &[1, 0, 2],
+            &[],
+            "0=1000000+0 1=0+0 2=2000000+0 | | 0=0 1=0 2=0 ",
+        ),
+        ("no functions", &[], &[], "| | "),
+    ];
+    for (name, samples, calls, want) in rows {
+        let text = flow_text(rt.alloc(), samples, calls)?;
+        assert_eq!(rt; text.as_str(), want, "{name}");
+    }
+    Ok(())
+}
+
+#[test]
+fn a_chain_of_1500(rt: HostRuntime) -> Result<(), Fail> {
+    let Program { graph, shares } = chain_of(rt.alloc(), 1_499)?;
+    let flow = flow(rt.alloc(), &graph, &shares)?;
+    assert_eq!(rt; graph.component_count(), 1500);
+    assert_eq!(rt; graph.arc_count(), 1499);
+    for i in 0..graph.arc_count() {
+        let want = if i == 1498 {
+            (3_000_000, 0)
+        } else {
+            (0, 3_000_000)
+        };
+        assert_eq!(rt; (flow.arc_self(i), flow.arc_child(i)), want, "{i}");
+    }
+    for f in 0..graph.function_count() {
+        let want = if f == 1499 { 0 } else { 3_000_000 };
+        assert_eq!(rt; flow.member_child(f), want, "{f}");
+    }
+    Ok(())
+}
+
+/// 65,536 functions of 256 addresses each with a sample in each 4 addresses, and calls in a ring, cut or not.
+fn wide_ring(alloc: Global, cut: bool) -> Result<Program, AddRefusal>
+    ensures each { IfOk result (λ p. length p.shares.of ≡ p.graph.functions) }
+    ensures few { IfOk result (λ p. all_calls p.graph < 2 ^ 59) }
+{
+    let symbols = symbols_of(alloc, 65_536, 256)?;
+    let calls = ring_of_calls(alloc, 256, cut)?;
+    let samples = even_profile(alloc, 4_194_304, 4)?;
+    Ok(Program {
+        graph: graph(alloc, &calls, symbols.as_slice())?,
+        shares: shares(alloc, &samples, symbols.as_slice())?,
+    })
+}
+
+#[test]
+fn a_wide_ring_has_all_time_in_its_cycle(rt: HostRuntime) -> Result<(), Fail> {
+    let Program { graph, shares } = wide_ring(rt.alloc(), false)?;
+    assert_eq!(rt;
+        (shares.attributed(), shares.outside()),
+        (4_194_304_000_000, 0)
+    );
+    for f in 0..shares.function_count() {
+        assert_eq!(rt; shares.of(f), 64_000_000, "{f}");
+    }
+    let flow = flow(rt.alloc(), &graph, &shares)?;
+    assert_eq!(rt; graph.function_count(), 65_536);
+    assert_eq!(rt; graph.arc_count(), 2_097_152);
+    assert_eq!(rt; graph.component_count(), 1);
+    assert_eq!(rt;
+        (graph.head(0), graph.entering(0), graph.is_cycle(0)),
+        (0, 0, true)
+    );
+    assert_eq!(rt; (flow.self_of(0), flow.child_of(0)), (4_194_304_000_000, 0));
+    Ok(())
+}
+
+#[test]
+fn a_cut_ring_has_all_time_at_its_root(rt: HostRuntime) -> Result<(), Fail> {
+    let Program { graph, shares } = wide_ring(rt.alloc(), true)?;
+    assert_eq!(rt;
+        (shares.attributed(), shares.outside()),
+        (4_194_304_000_000, 0)
+    );
+    let flow = flow(rt.alloc(), &graph, &shares)?;
+    assert_eq!(rt; graph.arc_count(), 2_096_624);
+    assert_eq!(rt; graph.component_count(), 65_536);
+    assert_eq!(rt;
+        (
+            graph.head(65_535),
+            graph.entering(65_535),
+            graph.is_cycle(65_535)
+        ),
+        (0, 0, false)
+    );
+    assert_eq!(rt;
+        (flow.self_of(65_535), flow.child_of(65_535)),
+        (64_000_000, 4_194_240_000_000)
+    );
+    Ok(())
+}
