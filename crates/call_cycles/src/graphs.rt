@@ -1,6 +1,6 @@
 //! A graph of functions: arcs, components and their order.
 
-ghost use Rattle.std.specs.Prelude.{◌≡◌, ◌≢◌, ◌<◌, ℕ, slice_index};
+ghost use Rattle.std.specs.Prelude.{◌≡◌, ◌≢◌, ◌<◌, ◌^◌, ℕ, slice_index};
 ghost use Rattle.call_cycles.specs.Graph.{IsGraph, IsArcBefore, arc_count, arc_at, component_count, component_of, head_of, entering_of, is_cycle};
 
 use std::marker::Model;
@@ -41,9 +41,10 @@ impl Model for Graph {
 }
 
 impl Graph {
-    /// What is true of each graph.
+    /// What is true of each graph. Does nothing.
     pub fn holds(&self)
-        ensures { IsGraph self.now }
+        ensures graph { IsGraph self.now }
+        ensures few { self.now.functions < 2 ^ 32 }
     {
         let _functions = self.functions;
     }

@@ -8,6 +8,3 @@ pub mod demo;
 mod elf;
 
 pub use demo::program;
-
-#[cfg(test)]
-mod tests;

@@ -19,6 +19,3 @@ pub mod values;
 pub use image::{Image, Segment, SegmentList, Symbol, SymbolList, read};
 pub use owners::{owner, symbol_count};
 pub use refusal::ElfRefusal;
-
-#[cfg(test)]
-mod tests;

@@ -58,10 +58,10 @@ not_at hs i low x at other k is = by (eqb k.low low) refl
     by true e = absurd (other (ap (λ (z : Hist). z.low) (some_same x k (sym at ∙ is)) ∙ eqb-true k.low low e))
     by false e = refl
 
-pub past_end : (hs : List Hist) (i low : ℕ) → length hs ≤ i → (k : Hist) → slice_get hs i ≡ Some k → eqb k.low low ≡ false
-past_end [] i low le k is = absurd cc
-past_end (x ∷ xs) zero low le k is = absurd (let f : suc (length xs) ≤ 0 = le in omega (arith, f))
-past_end (x ∷ xs) (suc i) low le k is = past_end xs i low (omega (arith, le)) k is
+pub none_past_end : (hs : List Hist) (i low : ℕ) → length hs ≤ i → (k : Hist) → slice_get hs i ≡ Some k → eqb k.low low ≡ false
+none_past_end [] i low le k is = absurd cc
+none_past_end (x ∷ xs) zero low le k is = absurd (let f : suc (length xs) ≤ 0 = le in omega (arith, f))
+none_past_end (x ∷ xs) (suc i) low le k is = none_past_end xs i low (omega (arith, le)) k is
 
 -- ---- what putting keeps
 

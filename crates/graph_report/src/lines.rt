@@ -197,7 +197,7 @@ pub(crate) fn put_members<H: Host>(
     ensures { Adds Output (flat_map (member_line (sources_of report.now.inputs) (number_of report.now)) members.now) lines.old lines.new (H.outside host.old) (H.outside host.new) result }
 {
     // Numbers of functions have 32 bits.
-    let _count = report.inputs.sources.graph.function_count();
+    report.inputs.sources.graph.holds();
     let mut line = Line::new();
     for f in members {
         put_member(report, *f as u32, &mut line, lines, host)?;

@@ -18,9 +18,9 @@ item_added : (wanted : Wanted) (skip : ℕ) (item : Item) (o : Option (List Item
 item_added wanted skip item None = refl
 item_added wanted skip item (Some items) = refl
 
-flag_items : (takes : OptionSet) (i : ℕ) (key : Key) (items : Option (List Item)) (words : List (List ℕ)) → is_flag (kind_of key) ≡ true → items_of_option takes i (Some key) items words ≡ with_item (Given key i) items
-flag_items takes i key items [] flag = ap (λ (b : Bool). cond b (with_item (Given key i) items) None) flag
-flag_items takes i key items (value ∷ words) flag = ap (λ (b : Bool). cond b (with_item (Given key i) items) (with_item (Given key (i + 1)) (items_from takes (i + 2) words))) flag
+flag_items : (set : OptionSet) (i : ℕ) (key : Key) (items : Option (List Item)) (words : List (List ℕ)) → is_flag (kind_of key) ≡ true → items_of_option set i (Some key) items words ≡ with_item (Given key i) items
+flag_items set i key items [] flag = ap (λ (b : Bool). cond b (with_item (Given key i) items) None) flag
+flag_items set i key items (value ∷ words) flag = ap (λ (b : Bool). cond b (with_item (Given key i) items) (with_item (Given key (i + 1)) (items_from set (i + 2) words))) flag
 
 -- a list is its first element and the others
 first_and_rest : {A : Type 0} (xs : List A) (x : A) → 1 ≤ length xs → x ≡ get_or xs 0 x → xs ≡ x ∷ take (length xs - 1) (drop 1 xs)
@@ -31,36 +31,36 @@ first_and_rest (y ∷ ys) x some is = let rest = take_all (suc (length ys) - 1) 
 abbrev pub rest_of : {A : Type 0} → List A → List A
 rest_of xs = take (length xs - 1) (drop 1 xs)
 
-pub option_is : {A : Type 0} (text : A → List ℕ) (takes : OptionSet) (i : ℕ) (words : List A) (word : A) (key : Key) → 1 ≤ length words → word ≡ get_or words 0 word → is_option (text word) ≡ true → option_of takes (text word) ≡ Some key
-    → items_from takes i (map text words) ≡ items_of_option takes i (Some key) (items_from takes (i + 1) (map text (rest_of words))) (map text (rest_of words))
-option_is {A} text takes i words word key some first option is =
+pub option_is : {A : Type 0} (text : A → List ℕ) (set : OptionSet) (i : ℕ) (words : List A) (word : A) (key : Key) → 1 ≤ length words → word ≡ get_or words 0 word → is_option (text word) ≡ true → option_of set (text word) ≡ Some key
+    → items_from set i (map text words) ≡ items_of_option set i (Some key) (items_from set (i + 1) (map text (rest_of words))) (map text (rest_of words))
+option_is {A} text set i words word key some first option is =
     let rest = map text (rest_of words) in
-    ap (λ (ws : List A). items_from takes i (map text ws)) (first_and_rest words word some first)
-    ∙ ap (λ (b : Bool). cond b (items_of_option takes i (option_of takes (text word)) (items_from takes (i + 1) rest) rest) (with_item (Operand i) (items_from takes (i + 1) rest))) option
-    ∙ ap (λ (o : Option Key). items_of_option takes i o (items_from takes (i + 1) rest) rest) is
+    ap (λ (ws : List A). items_from set i (map text ws)) (first_and_rest words word some first)
+    ∙ ap (λ (b : Bool). cond b (items_of_option set i (option_of set (text word)) (items_from set (i + 1) rest) rest) (with_item (Operand i) (items_from set (i + 1) rest))) option
+    ∙ ap (λ (o : Option Key). items_of_option set i o (items_from set (i + 1) rest) rest) is
 
-pub find_flag : {A : Type 0} (text : A → List ℕ) (takes : OptionSet) (i : ℕ) (wanted : Wanted) (skip : ℕ) (words : List A) (word : A) (key : Key) → 1 ≤ length words → word ≡ get_or words 0 word → is_option (text word) ≡ true
-    → option_of takes (text word) ≡ Some key → is_flag (kind_of key) ≡ true
-    → option_map (λ items. nth skip (cons_option (place_of wanted (Given key i)) (places wanted items))) (items_from takes (i + 1) (map text (rest_of words))) ≡ option_map (λ items. nth skip (places wanted items)) (items_from takes i (map text words))
-find_flag text takes i wanted skip words word key some first option is flag =
-    item_added wanted skip (Given key i) (items_from takes (i + 1) (map text (rest_of words)))
+pub find_flag : {A : Type 0} (text : A → List ℕ) (set : OptionSet) (i : ℕ) (wanted : Wanted) (skip : ℕ) (words : List A) (word : A) (key : Key) → 1 ≤ length words → word ≡ get_or words 0 word → is_option (text word) ≡ true
+    → option_of set (text word) ≡ Some key → is_flag (kind_of key) ≡ true
+    → option_map (λ items. nth skip (cons_option (place_of wanted (Given key i)) (places wanted items))) (items_from set (i + 1) (map text (rest_of words))) ≡ option_map (λ items. nth skip (places wanted items)) (items_from set i (map text words))
+find_flag text set i wanted skip words word key some first option is flag =
+    item_added wanted skip (Given key i) (items_from set (i + 1) (map text (rest_of words)))
     ∙ ap (λ (o : Option (List Item)). option_map (λ items. nth skip (places wanted items)) o)
-    (sym (option_is text takes i words word key some first option is ∙ flag_items takes i key (items_from takes (i + 1) (map text (rest_of words))) (map text (rest_of words)) flag))
+    (sym (option_is text set i words word key some first option is ∙ flag_items set i key (items_from set (i + 1) (map text (rest_of words))) (map text (rest_of words)) flag))
 
-pub find_valued : {A : Type 0} (text : A → List ℕ) (takes : OptionSet) (i : ℕ) (wanted : Wanted) (skip : ℕ) (words : List A) (word value : A) (key : Key) → 1 ≤ length words → word ≡ get_or words 0 word → is_option (text word) ≡ true
-    → option_of takes (text word) ≡ Some key → is_flag (kind_of key) ≡ false → 1 ≤ length (rest_of words)
-    → option_map (λ items. nth skip (cons_option (place_of wanted (Given key (i + 1))) (places wanted items))) (items_from takes (i + 2) (map text (rest_of (rest_of words))))
-    ≡ option_map (λ items. nth skip (places wanted items)) (items_from takes i (map text words))
-find_valued {A} text takes i wanted skip words word value key some first option is flag more =
-    item_added wanted skip (Given key (i + 1)) (items_from takes (i + 2) (map text (rest_of (rest_of words))))
+pub find_valued : {A : Type 0} (text : A → List ℕ) (set : OptionSet) (i : ℕ) (wanted : Wanted) (skip : ℕ) (words : List A) (word value : A) (key : Key) → 1 ≤ length words → word ≡ get_or words 0 word → is_option (text word) ≡ true
+    → option_of set (text word) ≡ Some key → is_flag (kind_of key) ≡ false → 1 ≤ length (rest_of words)
+    → option_map (λ items. nth skip (cons_option (place_of wanted (Given key (i + 1))) (places wanted items))) (items_from set (i + 2) (map text (rest_of (rest_of words))))
+    ≡ option_map (λ items. nth skip (places wanted items)) (items_from set i (map text words))
+find_valued {A} text set i wanted skip words word value key some first option is flag more =
+    item_added wanted skip (Given key (i + 1)) (items_from set (i + 2) (map text (rest_of (rest_of words))))
     ∙ ap (λ (o : Option (List Item)). option_map (λ items. nth skip (places wanted items)) o)
-    (sym (option_is text takes i words word key some first option is ∙ valued (rest_of words) more))
+    (sym (option_is text set i words word key some first option is ∙ valued (rest_of words) more))
   where
-    valued : (ws : List A) → 1 ≤ length ws → items_of_option takes i (Some key) (items_from takes (i + 1) (map text ws)) (map text ws) ≡ with_item (Given key (i + 1)) (items_from takes (i + 2) (map text (rest_of ws)))
+    valued : (ws : List A) → 1 ≤ length ws → items_of_option set i (Some key) (items_from set (i + 1) (map text ws)) (map text ws) ≡ with_item (Given key (i + 1)) (items_from set (i + 2) (map text (rest_of ws)))
     valued [] none = absurd (omega arith)
     valued (v ∷ ws) some =
-        ap (λ (b : Bool). cond b (with_item (Given key i) (items_from takes (i + 1) (map text (v ∷ ws)))) (with_item (Given key (i + 1)) (items_from takes (i + 2) (map text ws)))) flag
-        ∙ ap (λ (xs : List A). with_item (Given key (i + 1)) (items_from takes (i + 2) (map text xs))) (sym (take_all (suc (length ws) - 1) ws (omega arith)))
+        ap (λ (b : Bool). cond b (with_item (Given key i) (items_from set (i + 1) (map text (v ∷ ws)))) (with_item (Given key (i + 1)) (items_from set (i + 2) (map text ws)))) flag
+        ∙ ap (λ (xs : List A). with_item (Given key (i + 1)) (items_from set (i + 2) (map text xs))) (sym (take_all (suc (length ws) - 1) ws (omega arith)))
 
 -- the first of them was found
 pub first_found : (o : Option (List Item)) (wanted : Wanted) (place : ℕ) (x : Option ℕ) → option_map (λ items. nth 0 (places wanted items)) o ≡ Some x → option_map (λ items. nth 0 (place ∷ places wanted items)) o ≡ Some (Some place)

@@ -32,65 +32,65 @@ read_item item None items is = absurd cc
 read_item item (Some more) items is = record { more = more; read = refl; all = (let same : Some (item ∷ more) ≡ Some items = is in cc) }
 
 -- what holds of no items, and of an item more wherever it stands among the words, holds of all that is read
-module _ (takes : OptionSet) (P : ℕ → List Item → Type 0) (none : P 0 [])
+module _ (set : OptionSet) (P : ℕ → List Item → Type 0) (none : P 0 [])
     (operand : (i n : ℕ) (items : List Item) → P n items → P (1 + n) (Operand i ∷ items))
-    (flag : (key : Key) (i n : ℕ) (items : List Item) → is_taken takes (group_of key) ≡ true → P n items → P (1 + n) (Given key i ∷ items))
-    (value : (key : Key) (i n : ℕ) (items : List Item) → is_taken takes (group_of key) ≡ true → P n items → P (2 + n) (Given key i ∷ items)) where
-  taken_key : (word : List ℕ) (key : Key) → option_of takes word ≡ Some key → is_taken takes (group_of key) ≡ true
+    (flag : (key : Key) (i n : ℕ) (items : List Item) → is_taken set (group_of key) ≡ true → P n items → P (1 + n) (Given key i ∷ items))
+    (value : (key : Key) (i n : ℕ) (items : List Item) → is_taken set (group_of key) ≡ true → P n items → P (2 + n) (Given key i ∷ items)) where
+  taken_key : (word : List ℕ) (key : Key) → option_of set word ≡ Some key → is_taken set (group_of key) ≡ true
   taken_key word key is = by (key_named word) is
     where
-      chosen : (named : Key) (b : Bool) → is_taken takes (group_of named) ≡ b → (if b then Some named else None) ≡ Some key → is_taken takes (group_of key) ≡ true
-      chosen named true taken is = let same : named ≡ key = cc in subst (λ (k : Key). is_taken takes (group_of k) ≡ true) same taken
+      chosen : (named : Key) (b : Bool) → is_taken set (group_of named) ≡ b → (if b then Some named else None) ≡ Some key → is_taken set (group_of key) ≡ true
+      chosen named true taken is = let same : named ≡ key = cc in subst (λ (k : Key). is_taken set (group_of k) ≡ true) same taken
       chosen named false taken is = absurd cc
 
-      by : (o : Option Key) → option_and_then (λ key. if is_taken takes (group_of key) then Some key else None) o ≡ Some key → is_taken takes (group_of key) ≡ true
+      by : (o : Option Key) → option_and_then (λ key. if is_taken set (group_of key) then Some key else None) o ≡ Some key → is_taken set (group_of key) ≡ true
       by None is = absurd cc
-      by (Some named) is = chosen named (is_taken takes (group_of named)) refl is
+      by (Some named) is = chosen named (is_taken set (group_of named)) refl is
 
   -- what is read of the words behind a position
   abbrev Holds : ℕ → List (List ℕ) → Type 0
-  Holds i words = (items : List Item) → items_from takes i words ≡ Some items → P (length words) items
+  Holds i words = (items : List Item) → items_from set i words ≡ Some items → P (length words) items
 
   abbrev HoldsBehind : ℕ → List ℕ → Option Key → List (List ℕ) → Type 0
-  HoldsBehind i word o words = option_of takes word ≡ o → Holds (i + 1) words → (items : List Item) → items_of_option takes i o (items_from takes (i + 1) words) words ≡ Some items → P (suc (length words)) items
+  HoldsBehind i word o words = option_of set word ≡ o → Holds (i + 1) words → (items : List Item) → items_of_option set i o (items_from set (i + 1) words) words ≡ Some items → P (suc (length words)) items
 
-  item_read : (i : ℕ) (word : List ℕ) (words : List (List ℕ)) → Holds (i + 1) words → HoldsBehind i word (option_of takes word) words → Holds i (word ∷ words)
+  item_read : (i : ℕ) (word : List ℕ) (words : List (List ℕ)) → Holds (i + 1) words → HoldsBehind i word (option_of set word) words → Holds i (word ∷ words)
   item_read i word words rest option items is = by (is_option word) is
     where
-      by : (b : Bool) → (if b then items_of_option takes i (option_of takes word) (items_from takes (i + 1) words) words else with_item (Operand i) (items_from takes (i + 1) words)) ≡ Some items → P (suc (length words)) items
+      by : (b : Bool) → (if b then items_of_option set i (option_of set word) (items_from set (i + 1) words) words else with_item (Operand i) (items_from set (i + 1) words)) ≡ Some items → P (suc (length words)) items
       by false is =
-          let r = read_item (Operand i) (items_from takes (i + 1) words) items is in
+          let r = read_item (Operand i) (items_from set (i + 1) words) items is in
           let n : 1 + length words ≡ suc (length words) = omega arith in
           subst (λ (m : ℕ). P m items) n (subst (P (1 + length words)) r.all (operand i (length words) r.more (rest r.more r.read)))
       by true is = option refl rest items is
 
-  flag_read : (i : ℕ) (word : List ℕ) (key : Key) (words : List (List ℕ)) (items : List Item) → option_of takes word ≡ Some key → Holds (i + 1) words → with_item (Given key i) (items_from takes (i + 1) words) ≡ Some items → P (suc (length words)) items
+  flag_read : (i : ℕ) (word : List ℕ) (key : Key) (words : List (List ℕ)) (items : List Item) → option_of set word ≡ Some key → Holds (i + 1) words → with_item (Given key i) (items_from set (i + 1) words) ≡ Some items → P (suc (length words)) items
   flag_read i word key words items named rest is =
-      let r = read_item (Given key i) (items_from takes (i + 1) words) items is in
+      let r = read_item (Given key i) (items_from set (i + 1) words) items is in
       let n : 1 + length words ≡ suc (length words) = omega arith in
       subst (λ (m : ℕ). P m items) n (subst (P (1 + length words)) r.all (flag key i (length words) r.more (taken_key word key named) (rest r.more r.read)))
 
-  value_read : (i : ℕ) (word v : List ℕ) (key : Key) (words : List (List ℕ)) (items : List Item) → option_of takes word ≡ Some key → Holds (i + 2) words → with_item (Given key (i + 1)) (items_from takes (i + 2) words) ≡ Some items → P (suc (length (v ∷ words))) items
+  value_read : (i : ℕ) (word v : List ℕ) (key : Key) (words : List (List ℕ)) (items : List Item) → option_of set word ≡ Some key → Holds (i + 2) words → with_item (Given key (i + 1)) (items_from set (i + 2) words) ≡ Some items → P (suc (length (v ∷ words))) items
   value_read i word v key words items named rest is =
-      let r = read_item (Given key (i + 1)) (items_from takes (i + 2) words) items is in
+      let r = read_item (Given key (i + 1)) (items_from set (i + 2) words) items is in
       let n : 2 + length words ≡ suc (length (v ∷ words)) = omega arith in
       subst (λ (m : ℕ). P m items) n (subst (P (2 + length words)) r.all (value key (i + 1) (length words) r.more (taken_key word key named) (rest r.more r.read)))
 
   mutual
     of_items : (i : ℕ) (words : List (List ℕ)) → Holds i words
     of_items i [] items is = let same : [] ≡ items = cc in subst (P 0) same none
-    of_items i (word ∷ words) items is = item_read i word words (of_items (i + 1) words) (of_option i word (option_of takes word) words) items is
+    of_items i (word ∷ words) items is = item_read i word words (of_items (i + 1) words) (of_option i word (option_of set word) words) items is
 
     of_option : (i : ℕ) (word : List ℕ) (o : Option Key) (words : List (List ℕ)) → HoldsBehind i word o words
     of_option i word None words named rest items is = absurd cc
     of_option i word (Some key) [] named rest items is = no_value (is_flag (kind_of key)) is
       where
-        no_value : (b : Bool) → (if b then with_item (Given key i) (items_from takes (i + 1) []) else None) ≡ Some items → P 1 items
+        no_value : (b : Bool) → (if b then with_item (Given key i) (items_from set (i + 1) []) else None) ≡ Some items → P 1 items
         no_value false is = absurd cc
         no_value true is = flag_read i word key [] items named rest is
     of_option i word (Some key) (v ∷ words) named rest items is = a_value (is_flag (kind_of key)) (of_items (i + 2) words) is
       where
-        a_value : (b : Bool) → Holds (i + 2) words → (if b then with_item (Given key i) (items_from takes (i + 1) (v ∷ words)) else with_item (Given key (i + 1)) (items_from takes (i + 2) words)) ≡ Some items → P (suc (length (v ∷ words))) items
+        a_value : (b : Bool) → Holds (i + 2) words → (if b then with_item (Given key i) (items_from set (i + 1) (v ∷ words)) else with_item (Given key (i + 1)) (items_from set (i + 2) words)) ≡ Some items → P (suc (length (v ∷ words))) items
         a_value true behind is = flag_read i word key (v ∷ words) items named rest is
         a_value false behind is = value_read i word v key words items named behind is
 
@@ -163,9 +163,9 @@ given_few key i n items within =
     let one = once key in
     omega (arith, within, more, one)
 
-few_items : (takes : OptionSet) (i : ℕ) (words : List (List ℕ)) (items : List Item) → items_from takes i words ≡ Some items → AreFew (length words) items
-few_items takes =
-    of_items takes AreFew (omega arith) (λ i n items few. operand_few i n items few) (λ key i n items taken few. given_few key i (1 + n) items (omega (arith, few))) (λ key i n items taken few. given_few key i (2 + n) items (omega (arith, few)))
+few_items : (set : OptionSet) (i : ℕ) (words : List (List ℕ)) (items : List Item) → items_from set i words ≡ Some items → AreFew (length words) items
+few_items set =
+    of_items set AreFew (omega arith) (λ i n items few. operand_few i n items few) (λ key i n items taken few. given_few key i (1 + n) items (omega (arith, few))) (λ key i n items taken few. given_few key i (2 + n) items (omega (arith, few)))
   where
     same_times : (keys : List Key) (i : ℕ) (items : List Item) → total (times (Operand i ∷ items)) keys ≡ total (times items) keys
     same_times [] i items = refl
@@ -206,14 +206,14 @@ key_back Inclusive = refl
 same_key : (key other : Key) → is_key key other ≡ true → key ≡ other
 same_key key other is = sym (key_back key) ∙ ap key_of (eqb-true (key_number key) (key_number other) is) ∙ key_back other
 
-not_taken : (takes : OptionSet) (key : Key) → is_taken takes (group_of key) ≡ false → (i : ℕ) (words : List (List ℕ)) (items : List Item) → items_from takes i words ≡ Some items → times items key ≡ 0
-not_taken takes key other = of_items takes (λ n items. times items key ≡ 0) refl (λ i n items none. none) (λ k i n items taken none. still k i items taken none) (λ k i n items taken none. still k i items taken none)
+not_taken : (set : OptionSet) (key : Key) → is_taken set (group_of key) ≡ false → (i : ℕ) (words : List (List ℕ)) (items : List Item) → items_from set i words ≡ Some items → times items key ≡ 0
+not_taken set key other = of_items set (λ n items. times items key ≡ 0) refl (λ i n items none. none) (λ k i n items taken none. still k i items taken none) (λ k i n items taken none. still k i items taken none)
   where
-    still : (k : Key) (i : ℕ) (items : List Item) → is_taken takes (group_of k) ≡ true → times items key ≡ 0 → times (Given k i ∷ items) key ≡ 0
+    still : (k : Key) (i : ℕ) (items : List Item) → is_taken set (group_of k) ≡ true → times items key ≡ 0 → times (Given k i ∷ items) key ≡ 0
     still k i items taken none = by (is_key key k) refl (one_more key k i items)
       where
         by : (b : Bool) → is_key key k ≡ b → times (Given k i ∷ items) key ≡ (if b then 1 else 0) + times items key → times (Given k i ∷ items) key ≡ 0
-        by true same more = absurd (true≢false (sym taken ∙ ap (λ (x : Key). is_taken takes (group_of x)) (sym (same_key key k same)) ∙ other))
+        by true same more = absurd (true≢false (sym taken ∙ ap (λ (x : Key). is_taken set (group_of x)) (sym (same_key key k same)) ∙ other))
         by false same more = omega (arith, more, none)
 
 -- ---- what is read of an option bounds how often it is given
@@ -365,33 +365,33 @@ all_bound items bound (key ∷ keys) =
     let rest = all_bound items bound keys in
     omega (arith, here, rest)
 
-module _ (takes : OptionSet) (words : List (List ℕ)) (items : List Item) (read : items_from takes 0 words ≡ Some items) where
+module _ (set : OptionSet) (words : List (List ℕ)) (items : List Item) (read : items_from set 0 words ≡ Some items) where
   -- no option is given too often, and there are few operands
   short_line : operands items ≤ 18 → ((key : Key) → Bound items key) → length words ≤ 200
   short_line few bound =
-      let long = few_items takes 0 words items read in
+      let long = few_items set 0 words items read in
       let most : total (times items) all_keys ≤ 49 = all_bound items bound all_keys in
       omega (arith, few, long, most)
 
-  absent : (key : Key) → is_taken takes (group_of key) ≡ false → Bound items key
-  absent key other = let none = not_taken takes key other 0 words items read in omega (arith, none)
+  absent : (key : Key) → is_taken set (group_of key) ≡ false → Bound items key
+  absent key other = let none = not_taken set key other 0 words items read in omega (arith, none)
 
-  no_runs : is_taken takes Machine ≡ false → is_taken takes Runtime ≡ false → is_taken takes Files ≡ false → RunBounds words items
+  no_runs : is_taken set Machine ≡ false → is_taken set Runtime ≡ false → is_taken set Files ≡ false → RunBounds words items
   no_runs machine runtime files = record { every = absent Every machine; budget = absent Budget machine; rate = absent Rate runtime; ram = absent Ram machine; harts = absent Harts machine; quantum = absent Quantum machine; seed = absent Seed machine; hist = absent Hist runtime; hash = absent Hash runtime; blocks = absent Blocks files }
 
-  no_reports : is_taken takes Reports ≡ false → ReportBounds words items
+  no_reports : is_taken set Reports ≡ false → ReportBounds words items
   no_reports none = record { flat = absent Flat none; graph = absent Graph none; exact = absent Exact none; cut = absent Cut none; hide = absent Hide none }
 
 -- what is read of items is read of some
-record OfItems {X : Type 0} (takes : OptionSet) (words : List (List ℕ)) (f : List Item → Option X) (x : X) : Type 0 where
+record OfItems {X : Type 0} (set : OptionSet) (words : List (List ℕ)) (f : List Item → Option X) (x : X) : Type 0 where
   items : List Item
-  read : items_from takes 0 words ≡ Some items
+  read : items_from set 0 words ≡ Some items
   gives : f items ≡ Some x
 
-of_some : {X : Type 0} (takes : OptionSet) (words : List (List ℕ)) (f : List Item → Option X) (x : X) → option_and_then f (items_from takes 0 words) ≡ Some x → OfItems takes words f x
-of_some {X} takes words f x = by (items_from takes 0 words) refl
+of_some : {X : Type 0} (set : OptionSet) (words : List (List ℕ)) (f : List Item → Option X) (x : X) → option_and_then f (items_from set 0 words) ≡ Some x → OfItems set words f x
+of_some {X} set words f x = by (items_from set 0 words) refl
   where
-    by : (o : Option (List Item)) → items_from takes 0 words ≡ o → option_and_then f o ≡ Some x → OfItems takes words f x
+    by : (o : Option (List Item)) → items_from set 0 words ≡ o → option_and_then f o ≡ Some x → OfItems set words f x
     by None at is = absurd cc
     by (Some items) at is = record { items = items; read = at; gives = is }
 
@@ -507,13 +507,13 @@ module _ (words : List (List ℕ)) where
   annotate_short c = without_options annotate_of c (λ items. annotate_operands (operands_of items) c)
 
   report_short : (c : Command) → report_reading words ≡ Some c → length words ≤ 200
-  report_short c is = short_line takes words r.items r.read parts.0 bound
+  report_short c is = short_line set words r.items r.read parts.0 bound
     where
-      takes : OptionSet
-      takes = ReportOptions
+      set : OptionSet
+      set = ReportOptions
 
-      r : OfItems takes words (report_of words) c
-      r = of_some takes words (report_of words) c is
+      r : OfItems set words (report_of words) c
+      r = of_some set words (report_of words) c is
 
       parts : (operands r.items ≤ 18) × (s : Selection) × (selection_of words r.items ≡ Some s)
       parts = report_operands (operands_of r.items) (selection_of words r.items) c r.gives
@@ -523,17 +523,17 @@ module _ (words : List (List ℕ)) where
 
       bound : (key : Key) → Bound r.items key
       bound =
-          bound_of words r.items (no_runs takes words r.items r.read refl refl refl) reports
-          (absent takes words r.items r.read Image refl) (absent takes words r.items r.read Gnu refl) (absent takes words r.items r.read Elf refl) (absent takes words r.items r.read Inclusive refl)
+          bound_of words r.items (no_runs set words r.items r.read refl refl refl) reports
+          (absent set words r.items r.read Image refl) (absent set words r.items r.read Gnu refl) (absent set words r.items r.read Elf refl) (absent set words r.items r.read Inclusive refl)
 
   run_short : (c : Command) → run_reading words ≡ Some c → length words ≤ 200
-  run_short c is = short_line takes words r.items r.read parts.few bound
+  run_short c is = short_line set words r.items r.read parts.few bound
     where
-      takes : OptionSet
-      takes = RunOptions
+      set : OptionSet
+      set = RunOptions
 
-      r : OfItems takes words (run_of words) c
-      r = of_some takes words (run_of words) c is
+      r : OfItems set words (run_of words) c
+      r = of_some set words (run_of words) c is
 
       parts : RunParts (operands_of r.items) (is_given Gnu r.items) (place_given Image r.items) (setup_of words r.items)
       parts = run_operands (operands_of r.items) (is_given Gnu r.items) (place_given Image r.items) (setup_of words r.items) c r.gives
@@ -543,17 +543,17 @@ module _ (words : List (List ℕ)) where
 
       bound : (key : Key) → Bound r.items key
       bound =
-          bound_of words r.items runs (no_reports takes words r.items r.read refl)
-          (place_bound words r.items Image parts.image_given.0 parts.image_given.1) (flag_bound words r.items Gnu parts.gnu_given.0 parts.gnu_given.1) (absent takes words r.items r.read Elf refl) (absent takes words r.items r.read Inclusive refl)
+          bound_of words r.items runs (no_reports set words r.items r.read refl)
+          (place_bound words r.items Image parts.image_given.0 parts.image_given.1) (flag_bound words r.items Gnu parts.gnu_given.0 parts.gnu_given.1) (absent set words r.items r.read Elf refl) (absent set words r.items r.read Inclusive refl)
 
   profile_short : (c : Command) → profile_reading words ≡ Some c → length words ≤ 200
-  profile_short c is = short_line takes words r.items r.read parts.few bound
+  profile_short c is = short_line set words r.items r.read parts.few bound
     where
-      takes : OptionSet
-      takes = ProfileOptions
+      set : OptionSet
+      set = ProfileOptions
 
-      r : OfItems takes words (profile_said words) c
-      r = of_some takes words (profile_said words) c is
+      r : OfItems set words (profile_said words) c
+      r = of_some set words (profile_said words) c is
 
       both : ((run : Command) × (run_of words r.items ≡ Some run)) × (s : Selection) × (selection_of words r.items ≡ Some s)
       both = profile_parts (run_of words r.items) (selection_of words r.items) c r.gives
@@ -570,16 +570,16 @@ module _ (words : List (List ℕ)) where
       bound : (key : Key) → Bound r.items key
       bound =
           bound_of words r.items runs reports
-          (place_bound words r.items Image parts.image_given.0 parts.image_given.1) (flag_bound words r.items Gnu parts.gnu_given.0 parts.gnu_given.1) (absent takes words r.items r.read Elf refl) (absent takes words r.items r.read Inclusive refl)
+          (place_bound words r.items Image parts.image_given.0 parts.image_given.1) (flag_bound words r.items Gnu parts.gnu_given.0 parts.gnu_given.1) (absent set words r.items r.read Elf refl) (absent set words r.items r.read Inclusive refl)
 
   folded_short : (c : Command) → folded_reading words ≡ Some c → length words ≤ 200
-  folded_short c is = short_line takes words r.items r.read parts.0 bound
+  folded_short c is = short_line set words r.items r.read parts.0 bound
     where
-      takes : OptionSet
-      takes = FoldedOptions
+      set : OptionSet
+      set = FoldedOptions
 
-      r : OfItems takes words (folded_said words) c
-      r = of_some takes words (folded_said words) c is
+      r : OfItems set words (folded_said words) c
+      r = of_some set words (folded_said words) c is
 
       parts : (operands r.items ≤ 18) × ((b : Bool) × (is_given Inclusive r.items ≡ Some b)) × (s : Setup) × (setup_of words r.items ≡ Some s)
       parts = folded_operands (operands_of r.items) (is_given Inclusive r.items) (setup_of words r.items) c r.gives
@@ -589,17 +589,17 @@ module _ (words : List (List ℕ)) where
 
       bound : (key : Key) → Bound r.items key
       bound =
-          bound_of words r.items runs (no_reports takes words r.items r.read refl)
-          (absent takes words r.items r.read Image refl) (absent takes words r.items r.read Gnu refl) (absent takes words r.items r.read Elf refl) (flag_bound words r.items Inclusive parts.1.0 parts.1.1)
+          bound_of words r.items runs (no_reports set words r.items r.read refl)
+          (absent set words r.items r.read Image refl) (absent set words r.items r.read Gnu refl) (absent set words r.items r.read Elf refl) (flag_bound words r.items Inclusive parts.1.0 parts.1.1)
 
   demo_short : (c : Command) → demo_reading words ≡ Some c → length words ≤ 200
-  demo_short c is = short_line takes words r.items r.read (functions_operands words (operands_of r.items) parts.0.0 parts.0.1) bound
+  demo_short c is = short_line set words r.items r.read (functions_operands words (operands_of r.items) parts.0.0 parts.0.1) bound
     where
-      takes : OptionSet
-      takes = DemoOptions
+      set : OptionSet
+      set = DemoOptions
 
-      r : OfItems takes words (demo_said words) c
-      r = of_some takes words (demo_said words) c is
+      r : OfItems set words (demo_said words) c
+      r = of_some set words (demo_said words) c is
 
       parts : ((n : ℕ) × (functions_of words r.items ≡ Some n)) × ((p : Option ℕ) × (place_given Elf r.items ≡ Some p)) × (s : Setup) × (setup_of words r.items ≡ Some s)
       parts = demo_parts (functions_of words r.items) (place_given Elf r.items) (setup_of words r.items) c r.gives
@@ -609,8 +609,8 @@ module _ (words : List (List ℕ)) where
 
       bound : (key : Key) → Bound r.items key
       bound =
-          bound_of words r.items runs (no_reports takes words r.items r.read refl)
-          (absent takes words r.items r.read Image refl) (absent takes words r.items r.read Gnu refl) (place_bound words r.items Elf parts.1.0 parts.1.1) (absent takes words r.items r.read Inclusive refl)
+          bound_of words r.items runs (no_reports set words r.items r.read refl)
+          (absent set words r.items r.read Image refl) (absent set words r.items r.read Gnu refl) (place_bound words r.items Elf parts.1.0 parts.1.1) (absent set words r.items r.read Inclusive refl)
 
   alone_short : (help c : Command) → alone help words ≡ Some c → length words ≤ 200
   alone_short help c = by words

@@ -59,10 +59,10 @@ module _ (i : ℕ) where
         rising = rest.rising;
       })
 
-  module _ (takes : OptionSet) where
+  module _ (set : OptionSet) where
     by_option : (o : Option Key) (rest : Option (List Item)) (words : List (List ℕ)) (items : List Item) → AreBehind rest
-        → ((value : List ℕ) (ws : List (List ℕ)) → words ≡ value ∷ ws → AreBehind (items_from takes (i + 2) ws))
-        → items_of_option takes i o rest words ≡ Some items → IsOrdered i (places AnOperand items)
+        → ((value : List ℕ) (ws : List (List ℕ)) → words ≡ value ∷ ws → AreBehind (items_from set (i + 2) ws))
+        → items_of_option set i o rest words ≡ Some items → IsOrdered i (places AnOperand items)
     by_option None rest words items first second e = absurd cc
     by_option (Some key) rest [] items first second e = flag (is_flag (kind_of key)) e
       where
@@ -71,30 +71,30 @@ module _ (i : ℕ) where
         flag false e = absurd cc
     by_option (Some key) rest (value ∷ ws) items first second e = flag (is_flag (kind_of key)) e
       where
-        flag : (b : Bool) → cond b (with_item (Given key i) rest) (with_item (Given key (i + 1)) (items_from takes (i + 2) ws)) ≡ Some items → IsOrdered i (places AnOperand items)
+        flag : (b : Bool) → cond b (with_item (Given key i) rest) (with_item (Given key (i + 1)) (items_from set (i + 2) ws)) ≡ Some items → IsOrdered i (places AnOperand items)
         flag true e = option_first key i rest items first e
-        flag false e = option_first key (i + 1) (items_from takes (i + 2) ws) items (second value ws refl) e
+        flag false e = option_first key (i + 1) (items_from set (i + 2) ws) items (second value ws refl) e
 
-    by_word : (word : List ℕ) (words : List (List ℕ)) (items : List Item) → AreBehind (items_from takes (i + 1) words)
-        → ((value : List ℕ) (ws : List (List ℕ)) → words ≡ value ∷ ws → AreBehind (items_from takes (i + 2) ws))
-        → items_from takes i (word ∷ words) ≡ Some items → IsOrdered i (places AnOperand items)
+    by_word : (word : List ℕ) (words : List (List ℕ)) (items : List Item) → AreBehind (items_from set (i + 1) words)
+        → ((value : List ℕ) (ws : List (List ℕ)) → words ≡ value ∷ ws → AreBehind (items_from set (i + 2) ws))
+        → items_from set i (word ∷ words) ≡ Some items → IsOrdered i (places AnOperand items)
     by_word word words items first second e = go (is_option word) e
       where
-        go : (b : Bool) → cond b (items_of_option takes i (option_of takes word) (items_from takes (i + 1) words) words) (with_item (Operand i) (items_from takes (i + 1) words)) ≡ Some items → IsOrdered i (places AnOperand items)
-        go true e = by_option (option_of takes word) (items_from takes (i + 1) words) words items first second e
-        go false e = operand_first (items_from takes (i + 1) words) items first e
+        go : (b : Bool) → cond b (items_of_option set i (option_of set word) (items_from set (i + 1) words) words) (with_item (Operand i) (items_from set (i + 1) words)) ≡ Some items → IsOrdered i (places AnOperand items)
+        go true e = by_option (option_of set word) (items_from set (i + 1) words) words items first second e
+        go false e = operand_first (items_from set (i + 1) words) items first e
 
-items_ordered : (takes : OptionSet) (i : ℕ) (words : List (List ℕ)) (items : List Item) → items_from takes i words ≡ Some items → IsOrdered i (places AnOperand items)
-items_ordered takes i [] items e =
+items_ordered : (set : OptionSet) (i : ℕ) (words : List (List ℕ)) (items : List Item) → items_from set i words ≡ Some items → IsOrdered i (places AnOperand items)
+items_ordered set i [] items e =
     let same : [] ≡ items = cc in
     subst (λ (items : List Item). IsOrdered i (places AnOperand items)) same (record { from = tt; rising = tt })
-items_ordered takes i (word ∷ []) items e =
-    by_word i takes word [] items (λ more h. items_ordered takes (i + 1) [] more h) (λ value ws is. absurd cc) e
-items_ordered takes i (word ∷ value ∷ words) items e =
-    by_word i takes word (value ∷ words) items (λ more h. items_ordered takes (i + 1) (value ∷ words) more h)
+items_ordered set i (word ∷ []) items e =
+    by_word i set word [] items (λ more h. items_ordered set (i + 1) [] more h) (λ value ws is. absurd cc) e
+items_ordered set i (word ∷ value ∷ words) items e =
+    by_word i set word (value ∷ words) items (λ more h. items_ordered set (i + 1) (value ∷ words) more h)
     (λ v ws is more h.
     let same : ws ≡ words = cc in
-    let later = items_ordered takes (i + 2) words more (subst (λ (xs : List (List ℕ)). items_from takes (i + 2) xs ≡ Some more) same h) in
+    let later = items_ordered set (i + 2) words more (subst (λ (xs : List (List ℕ)). items_from set (i + 2) xs ≡ Some more) same h) in
     record { from = weaker (i + 1) (i + 2) (places AnOperand more) (omega arith) later.from; rising = later.rising })
     e
 
@@ -104,16 +104,16 @@ rising_drop (suc n) [] rising = tt
 rising_drop (suc n) (p ∷ ps) rising = rising_drop n ps rising.1
 
 -- the operands stand in order
-pub rising_operands : (takes : OptionSet) (words : List (List ℕ)) (r : Option (List ℕ)) → r ≡ option_and_then (λ items. up_to 18 (operands_of items)) (items_from takes 0 words) → IfSome r AreRising
-rising_operands takes words r e = subst (λ (o : Option (List ℕ)). IfSome o AreRising) (sym e) (by (items_from takes 0 words) refl)
+pub rising_operands : (set : OptionSet) (words : List (List ℕ)) (r : Option (List ℕ)) → r ≡ option_and_then (λ items. up_to 18 (operands_of items)) (items_from set 0 words) → IfSome r AreRising
+rising_operands set words r e = subst (λ (o : Option (List ℕ)). IfSome o AreRising) (sym e) (by (items_from set 0 words) refl)
   where
     within : (ps : List ℕ) (b : Bool) → AreRising ps → IfSome (cond b None (Some ps)) AreRising
     within ps true rising = tt
     within ps false rising = rising
 
-    by : (o : Option (List Item)) → items_from takes 0 words ≡ o → IfSome (option_and_then (λ items. up_to 18 (operands_of items)) o) AreRising
+    by : (o : Option (List Item)) → items_from set 0 words ≡ o → IfSome (option_and_then (λ items. up_to 18 (operands_of items)) o) AreRising
     by None is = tt
-    by (Some items) is = within (operands_of items) (nat_lt 18 (length (operands_of items))) (items_ordered takes 0 words items is).rising
+    by (Some items) is = within (operands_of items) (nat_lt 18 (length (operands_of items))) (items_ordered set 0 words items is).rising
 
 few_rising : (files : List ℕ) (P : List ℕ → Type 0) → P files → IfSome (few files) P
 few_rising files P holds = by (nat_lt 0 (length files) && nat_le (length files) 16)

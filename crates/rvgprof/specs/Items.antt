@@ -26,16 +26,16 @@ with_item item items = option_map (λ more. item ∷ more) items
 -- the items of the words from a position on, where each option is one that the command takes
 abbrev mutual
   pub items_from : OptionSet → ℕ → List (List ℕ) → Option (List Item)
-  items_from takes i [] = Some []
-  items_from takes i (word ∷ words) =
-      if is_option word then items_of_option takes i (option_of takes word) (items_from takes (i + 1) words) words else with_item (Operand i) (items_from takes (i + 1) words)
+  items_from set i [] = Some []
+  items_from set i (word ∷ words) =
+      if is_option word then items_of_option set i (option_of set word) (items_from set (i + 1) words) words else with_item (Operand i) (items_from set (i + 1) words)
 
   -- the same from an option on, given the items behind its word: a value is the word that follows, whatever it is
   pub items_of_option : OptionSet → ℕ → Option Key → Option (List Item) → List (List ℕ) → Option (List Item)
-  items_of_option takes i None items words = None
-  items_of_option takes i (Some key) items [] = if is_flag (kind_of key) then with_item (Given key i) items else None
-  items_of_option takes i (Some key) items (value ∷ words) =
-      if is_flag (kind_of key) then with_item (Given key i) items else with_item (Given key (i + 1)) (items_from takes (i + 2) words)
+  items_of_option set i None items words = None
+  items_of_option set i (Some key) items [] = if is_flag (kind_of key) then with_item (Given key i) items else None
+  items_of_option set i (Some key) items (value ∷ words) =
+      if is_flag (kind_of key) then with_item (Given key i) items else with_item (Given key (i + 1)) (items_from set (i + 2) words)
 
 abbrev pub is_key : Key → Key → Bool
 is_key key other = key_number key == key_number other

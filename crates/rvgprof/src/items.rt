@@ -58,31 +58,31 @@ fn place_of_option(wanted: Wanted, key: Key, position: u32) -> Option<u32>
 /// read. They begin at `position` among all words.
 #[cycle(find)]
 fn find(
-    takes: OptionSet,
+    set: OptionSet,
     words: &[String],
     position: u32,
     wanted: Wanted,
     skip: u32,
 ) -> Option<Option<u32>>
     requires { position + length words.now < 2 ^ 32 }
-    ensures { result ≡ option_map (λ items. nth skip (places wanted items)) (items_from takes position (map string_bytes words.now)) }
+    ensures { result ≡ option_map (λ items. nth skip (places wanted items)) (items_from set position (map string_bytes words.now)) }
 {
     match words {
         [] => Some(None),
         [word, rest @ ..] => {
             if !is_hyphenated(word.as_bytes()) {
                 let place = place_of_operand(wanted, position);
-                return find_behind(takes, rest, position + 1, wanted, skip, place);
+                return find_behind(set, rest, position + 1, wanted, skip, place);
             }
-            let key = option_of(takes, word.as_str())?;
+            let key = option_of(set, word.as_str())?;
             if is_flag(kind_of(key)) {
                 let place = place_of_option(wanted, key, position);
-                return find_behind(takes, rest, position + 1, wanted, skip, place);
+                return find_behind(set, rest, position + 1, wanted, skip, place);
             }
             match rest {
                 [_, rest @ ..] => {
                     let place = place_of_option(wanted, key, position + 1);
-                    find_behind(takes, rest, position + 2, wanted, skip, place)
+                    find_behind(set, rest, position + 2, wanted, skip, place)
                 }
                 [] => None,
             }
@@ -93,7 +93,7 @@ fn find(
 /// The same behind an item, which may be one of them.
 #[cycle(find)]
 fn find_behind(
-    takes: OptionSet,
+    set: OptionSet,
     words: &[String],
     position: u32,
     wanted: Wanted,
@@ -101,27 +101,27 @@ fn find_behind(
     place: Option<u32>,
 ) -> Option<Option<u32>>
     requires { position + length words.now < 2 ^ 32 }
-    ensures { result ≡ option_map (λ items. nth skip (cons_option place (places wanted items))) (items_from takes position (map string_bytes words.now)) }
+    ensures { result ≡ option_map (λ items. nth skip (cons_option place (places wanted items))) (items_from set position (map string_bytes words.now)) }
 {
     match place {
-        None => find(takes, words, position, wanted, skip),
+        None => find(set, words, position, wanted, skip),
         Some(place) => {
             if skip == 0 {
-                find(takes, words, position, wanted, 0)?;
+                find(set, words, position, wanted, 0)?;
                 return Some(Some(place));
             }
-            find(takes, words, position, wanted, skip - 1)
+            find(set, words, position, wanted, skip - 1)
         }
     }
 }
 
 /// Where the first value of an option stands; `None` where the words can't be read or give it too often.
-pub fn place_given(takes: OptionSet, words: &[String], key: Key) -> Option<Option<u32>>
+pub fn place_given(set: OptionSet, words: &[String], key: Key) -> Option<Option<u32>>
     requires { length words.now ≤ 200 }
-    ensures { result ≡ option_and_then (place_given key) (items_from takes 0 (map string_bytes words.now)) }
+    ensures { result ≡ option_and_then (place_given key) (items_from set 0 (map string_bytes words.now)) }
 {
-    let first = find(takes, words, 0, Wanted::AnOption(key), 0)?;
-    match find(takes, words, 0, Wanted::AnOption(key), most_times(key))? {
+    let first = find(set, words, 0, Wanted::AnOption(key), 0)?;
+    match find(set, words, 0, Wanted::AnOption(key), most_times(key))? {
         Some(_) => None,
         None => Some(first),
     }
@@ -130,7 +130,7 @@ pub fn place_given(takes: OptionSet, words: &[String], key: Key) -> Option<Optio
 /// Where the operands or the values of an option stand, from the one on that comes behind `first` others;
 /// `None` where the words can't be read, or there are more than `most`.
 pub fn places_from(
-    takes: OptionSet,
+    set: OptionSet,
     words: &[String],
     wanted: Wanted,
     first: u32,
@@ -139,49 +139,49 @@ pub fn places_from(
     requires few { length words.now ≤ 200 }
     requires first { first ≤ 200 }
     requires most { most ≤ 18 }
-    ensures { result ≡ option_and_then (λ items. up_to most (drop first (places wanted items))) (items_from takes 0 (map string_bytes words.now)) }
+    ensures { result ≡ option_and_then (λ items. up_to most (drop first (places wanted items))) (items_from set 0 (map string_bytes words.now)) }
 {
     let mut found = Places::new();
     for n in 0..most {
-        let Some(place) = find(takes, words, 0, wanted, first + n)? else {
+        let Some(place) = find(set, words, 0, wanted, first + n)? else {
             return Some(found);
         };
         found.push(place);
     }
-    match find(takes, words, 0, wanted, first + most)? {
+    match find(set, words, 0, wanted, first + most)? {
         Some(_) => None,
         None => Some(found),
     }
 }
 
 /// Where the values of an option stand; `None` where the words can't be read or give it too often.
-pub fn places_given(takes: OptionSet, words: &[String], key: Key) -> Option<Places>
+pub fn places_given(set: OptionSet, words: &[String], key: Key) -> Option<Places>
     requires { length words.now ≤ 200 }
-    ensures { result ≡ option_and_then (places_given key) (items_from takes 0 (map string_bytes words.now)) }
+    ensures { result ≡ option_and_then (places_given key) (items_from set 0 (map string_bytes words.now)) }
 {
-    places_from(takes, words, Wanted::AnOption(key), 0, most_times(key))
+    places_from(set, words, Wanted::AnOption(key), 0, most_times(key))
 }
 
 /// The number that is given to an option, if one is; `None` where it is none that the option may have.
-pub fn number_given(takes: OptionSet, words: &[String], key: Key) -> Option<Option<u32>>
+pub fn number_given(set: OptionSet, words: &[String], key: Key) -> Option<Option<u32>>
     requires { length words.now ≤ 200 }
-    ensures reads { result ≡ option_and_then (number_given (map string_bytes words.now) key) (items_from takes 0 (map string_bytes words.now)) }
+    ensures reads { result ≡ option_and_then (number_given (map string_bytes words.now) key) (items_from set 0 (map string_bytes words.now)) }
     ensures within { IfSome result (λ given. IfSome given (λ n. IsNumberOf (kind_in key) n)) }
 {
-    match place_given(takes, words, key)? {
+    match place_given(set, words, key)? {
         None => Some(None),
         Some(place) => Some(Some(number_of_kind(kind_of(key), name_at(words, place))?)),
     }
 }
 
 /// The same with a default.
-pub fn setting(takes: OptionSet, words: &[String], key: Key, default: u32) -> Option<u32>
+pub fn setting(set: OptionSet, words: &[String], key: Key, default: u32) -> Option<u32>
     requires few { length words.now ≤ 200 }
     requires within { IsNumberOf (kind_in key) default }
-    ensures reads { result ≡ option_and_then (setting (map string_bytes words.now) key default) (items_from takes 0 (map string_bytes words.now)) }
+    ensures reads { result ≡ option_and_then (setting (map string_bytes words.now) key default) (items_from set 0 (map string_bytes words.now)) }
     ensures within { IfSome result (λ n. IsNumberOf (kind_in key) n) }
 {
-    match number_given(takes, words, key)? {
+    match number_given(set, words, key)? {
         None => Some(default),
         Some(number) => Some(number),
     }

@@ -18,7 +18,7 @@ pub use functions::{
 pub use rings::ring_of_calls;
 pub use rows::{Calls, Rows, calls_of_first, profile_of_arcs, profile_of_calls, profile_of_rows};
 pub use same::are_same;
-pub use samples::{Counters, even_profile, hist_of, profile_of_samples, seconds};
+pub use samples::{Counters, PER_100, even_profile, hist_of, profile_of_samples, seconds};
 pub use words::strings_of;
 
 #[cfg(test)]

@@ -9,13 +9,16 @@ use std::alloc::{AllocError, Global};
 /// A histogram: low and high address, and counters, of which the first 16 are taken.
 pub type Counters<'a> = (u32, u32, &'a [u8]);
 
+/// A hundred samples a second.
+pub const PER_100: Unit = Unit {
+    rate: 100,
+    dim: *b"seconds\0\0\0\0\0\0\0\0",
+    abbrev: b's',
+};
+
 /// A unit of the given rate, with the dimension `seconds` and its abbreviation `s`.
 pub fn seconds(rate: u32) -> Unit {
-    Unit {
-        rate,
-        dim: *b"seconds\0\0\0\0\0\0\0\0",
-        abbrev: b's',
-    }
+    Unit { rate, ..PER_100 }
 }
 
 /// These counters: the first 65,536 of them, and of their samples the first 2^45 - 1.

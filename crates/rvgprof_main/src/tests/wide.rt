@@ -10,7 +10,7 @@ use std::alloc::{AllocError, Global};
 use std::process::Abort;
 use std::test::Fail;
 
-const FUNCTIONS: [(&str, u16); 23] = [
+const FUNCTIONS: [(&str, u32); 23] = [
     ("_start", 0),
     ("f0", 4),
     ("f1", 40),

@@ -7,141 +7,12 @@ use super::sampled::{CASES, Case, DEEP, MANY_SAMPLES, NOP, same_names};
 use crate::{ROUND, setup_of};
 use elf32_syms::{Image, Symbol, read};
 use folded::{Folded, fold, write};
-use gp_base::{le2, le4};
 use host_port::MemHost;
 use prof_machine::{Run, Setup};
 use std::alloc::{AllocError, Global};
 use std::process::Abort;
 use std::test::Fail;
-
-const TEXT: u32 = 0x0001_0000;
-
-const IDENT: [u8; 16] = [0x7F, 0x45, 0x4C, 0x46, 1, 1, 1, 0, 0, 0, 0, 0, 0, 0, 0, 0];
-
-fn put_words(bytes: &mut Vec<u8>, words: &[u32]) -> Result<(), AllocError> {
-    for word in words {
-        bytes.extend_from_slice(&le4(*word))?;
-    }
-    Ok(())
-}
-
-fn put_halves(bytes: &mut Vec<u8>, halves: &[u16]) -> Result<(), AllocError> {
-    for half in halves {
-        bytes.extend_from_slice(&le2(*half))?;
-    }
-    Ok(())
-}
-
-// A symbol, and its name with a zero behind it.
-fn put_symbol(
-    rt: &impl Abort,
-    symbols: &mut Vec<u8>,
-    strings: &mut Vec<u8>,
-    name: &str,
-    at: u32,
-) -> Result<(), AllocError> {
-    assert!(rt; strings.len() <= 20_000);
-    assert!(rt; at <= 20_000);
-    put_words(symbols, &[strings.len() as u32, TEXT + at, 0])?;
-    symbols.extend_from_slice(&[0x12, 0])?;
-    put_halves(symbols, &[1])?;
-    strings.extend_from_slice(name.as_bytes())?;
-    strings.push(0)?;
-    Ok(())
-}
-
-// The symbols of these functions, and their names.
-fn put_symbols(
-    rt: &impl Abort,
-    symbols: &mut Vec<u8>,
-    strings: &mut Vec<u8>,
-    functions: &[(&str, u32)],
-) -> Result<(), AllocError> {
-    symbols.resize(16, 0)?;
-    strings.push(0)?;
-    for (name, at) in functions {
-        put_symbol(rt, symbols, strings, name, *at)?;
-    }
-    assert!(rt; strings.len() <= 19_000);
-    strings.resize((strings.len() + 3) / 4 * 4, 0)
-}
-
-// The header of a file whose section headers stand at an offset, and that of its text.
-fn put_header(bytes: &mut Vec<u8>, text: u32, sections: u32) -> Result<(), AllocError> {
-    bytes.extend_from_slice(&IDENT)?;
-    put_halves(bytes, &[2, 243])?;
-    put_words(bytes, &[1, TEXT, 52, sections, 0])?;
-    put_halves(bytes, &[52, 32, 1, 40, 4, 3])?;
-    put_words(bytes, &[1, 84, TEXT, TEXT, text, text, 5, 4096])
-}
-
-// The headers of the sections: none, the text, the symbols and the strings.
-fn put_sections(
-    bytes: &mut Vec<u8>,
-    text: u32,
-    symbols: u32,
-    strings: u32,
-) -> Result<(), AllocError>
-    requires text { text ≤ 20000 }
-    requires symbols { symbols ≤ 20000 }
-{
-    put_words(bytes, &[0; 10])?;
-    put_words(bytes, &[0, 1, 6, TEXT, 84, text, 0, 0, 4, 0])?;
-    put_words(bytes, &[0, 2, 0, 0, 84 + text, symbols, 3, 1, 4, 16])?;
-    put_words(
-        bytes,
-        &[0, 3, 0, 0, 84 + text + symbols, strings, 0, 0, 1, 0],
-    )
-}
-
-// A file of words, symbols and strings.
-fn put_file(
-    rt: &impl Abort,
-    bytes: &mut Vec<u8>,
-    words: &[u32],
-    symbols: &[u8],
-    strings: &[u8],
-) -> Result<(), AllocError> {
-    assert!(rt; words.len() <= 5_000 && symbols.len() <= 20_000 && strings.len() <= 20_000);
-    let text = 4 * words.len() as u32;
-    let (table, names) = (symbols.len() as u32, strings.len() as u32);
-    put_header(bytes, text, 84 + text + table + names)?;
-    put_words(bytes, words)?;
-    bytes.extend_from_slice(symbols)?;
-    bytes.extend_from_slice(strings)?;
-    put_sections(bytes, text, table, names)
-}
-
-// The symbols of these functions, and the strings that have their names.
-fn tables_of(
-    rt: &impl Abort,
-    alloc: Global,
-    functions: &[(&str, u32)],
-) -> Result<(Vec<u8>, Vec<u8>), AllocError> {
-    let mut symbols = Vec::new(alloc);
-    let mut strings = Vec::new(alloc);
-    put_symbols(rt, &mut symbols, &mut strings, functions)?;
-    Ok((symbols, strings))
-}
-
-// The ELF file of these words, which stand from 0x10000 on, with functions by their names and places.
-fn elf_of(
-    rt: &impl Abort,
-    alloc: Global,
-    words: &[u32],
-    functions: &[(&str, u32)],
-) -> Result<Vec<u8>, AllocError> {
-    let (symbols, strings) = tables_of(rt, alloc, functions)?;
-    let mut bytes = Vec::new(alloc);
-    put_file(
-        rt,
-        &mut bytes,
-        words,
-        symbols.as_slice(),
-        strings.as_slice(),
-    )?;
-    Ok(bytes)
-}
+use test_programs::elf_of;
 
 // The text of a run, as its stacks and by functions, and how many samples are folded.
 type Wanted<'a> = (&'a str, &'a str, u64);
@@ -211,7 +82,7 @@ fn folds(
 }
 
 fn case_folds(rt: &impl Abort, alloc: Global, case: Case) -> Result<(), Fail> {
-    let bytes = elf_of(rt, alloc, case.words, case.functions)?;
+    let bytes = elf_of(alloc, case.words, case.functions)?;
     let setup = setup_of(case.every, case.budget, case.harts, ROUND);
     let wanted = (case.stacks, case.by_function, case.total);
     folds(rt, alloc, case.name, bytes.as_slice(), setup, wanted)
@@ -263,7 +134,7 @@ fn deep_folds(
     retired: u32,
     line: &str,
 ) -> Result<(), Fail> {
-    let bytes = elf_of(rt, alloc, DEEP, &[("_start", 0), ("f", 16)])?;
+    let bytes = elf_of(alloc, DEEP, &[("_start", 0), ("f", 16)])?;
     let setup = setup_of(retired, retired, 1, ROUND);
     let wanted = (line, "_start 1\nf 1\n", 1);
     folds(rt, alloc, name, bytes.as_slice(), setup, wanted)
@@ -300,16 +171,16 @@ fn many_functions(alloc: Global) -> Result<Vec<(&'static str, u32)>, AllocError>
 }
 
 // The file of a thousand instructions, each of them such a function.
-fn same_named(rt: &impl Abort, alloc: Global) -> Result<Vec<u8>, AllocError> {
+fn same_named(alloc: Global) -> Result<Vec<u8>, AllocError> {
     let mut words = [NOP; 1_000];
     same_names(&mut words);
     let functions = many_functions(alloc)?;
-    elf_of(rt, alloc, &words, functions.as_slice())
+    elf_of(alloc, &words, functions.as_slice())
 }
 
 #[test]
 fn a_thousand_functions_of_one_name(rt: HostRuntime) -> Result<(), Fail> {
-    let bytes = same_named(&rt, rt.alloc())?;
+    let bytes = same_named(rt.alloc())?;
     let setup = setup_of(1, 5, 1, ROUND);
 
     // The stacks are function 1, 2, 2 and 999, and 3.

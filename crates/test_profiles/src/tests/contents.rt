@@ -4,6 +4,7 @@ ghost use Rattle.gp_base.specs.Spans.{HasRange};
 ghost use Rattle.gmon_data.specs.Content.{empty_content, wide_records, with_records, IsWithin};
 ghost use Rattle.gmon_data.specs.Sizes.{IsOfBytes};
 
+use crate::{PER_100, seconds};
 use gmon_data::{AddRefusal, Hist, HistRange, Profile, Unlike};
 use gp_base::{
     BlockList, Counts, Form, RawArc, RawBlock, RawHist, Rec, RecList, Records, Totals, Unit,
@@ -11,18 +12,6 @@ use gp_base::{
 use std::alloc::{AllocError, Global};
 use std::process::Abort;
 use std::test::Fail;
-
-/// A hundred samples a second.
-const PER_100: Unit = Unit {
-    rate: 100,
-    dim: *b"seconds\0\0\0\0\0\0\0\0",
-    abbrev: b's',
-};
-
-/// A unit of the given rate, with the dimension `seconds` and its abbreviation `s`.
-fn seconds(rate: u32) -> Unit {
-    Unit { rate, ..PER_100 }
-}
 
 /// A histogram of the counters 1, 2, 0 and 0.
 fn histogram(alloc: Global, rate: u32) -> Result<RawHist, AllocError>

@@ -1,7 +1,7 @@
 ghost use Rattle.std.specs.Prelude.{IfOk};
 ghost use Rattle.gmon_data.proofs.BoundLemmas.{IsAtMost};
 
-use crate::{Rows, profile_of_rows};
+use crate::{PER_100, Rows, profile_of_rows};
 use gmon_data::{AddRefusal, HistRange, Profile, Unlike};
 use gp_base::Unit;
 use profile_sum::{SumRefusal, add_all, add_into};
@@ -95,12 +95,6 @@ fn is_refusal(answer: &Result<Profile, SumRefusal>, refusal: SumRefusal) -> bool
         Err(other) => *other == refusal,
     }
 }
-
-const PER_100: Unit = Unit {
-    rate: 100,
-    dim: *b"seconds\0\0\0\0\0\0\0\0",
-    abbrev: b's',
-};
 
 const PER_50: Unit = Unit {
     rate: 50,

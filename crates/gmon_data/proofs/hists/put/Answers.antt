@@ -1,6 +1,6 @@
 use Rattle.std.proofs.Common.{◌≡◌, eqb, false, Some, slice_get, set, arith, ◌∙◌, ap, sym}
 use Rattle.gmon_data.specs.declared.hist.Hist.{Hist}
-use Rattle.gmon_data.proofs.HistLemmas.{place-within, put-old, put-new, not_at, past_end, samples-at, some_same}
+use Rattle.gmon_data.proofs.HistLemmas.{place-within, put-old, put-new, not_at, none_past_end, samples-at, some_same}
 use Rattle.gmon_data.proofs.hists.put.Goals.{else-i-len-via-then-i-len+else-get-new, else-i-len-via-else-i-len}
 use Rattle.gmon_data.proofs.hists.put.Goals as goal
 
@@ -26,6 +26,6 @@ returns-in_ok-insert-clause-added c =
     let h = c.args.new in
     let other : (k : Hist) → slice_get hists i ≡ Some k → eqb k.low h.low ≡ false = elim c.else-i-len.branch [
       | else-i-len-via-then-i-len+else-get-new w ↦ not_at hists i h.low w.get.result.now w.get.ensures w.if-get-new.false
-      | else-i-len-via-else-i-len w ↦ past_end hists i h.low (omega (arith, w.if-i-len.false, c.len.ensures))
+      | else-i-len-via-else-i-len w ↦ none_past_end hists i h.low (omega (arith, w.if-i-len.false, c.len.ensures))
     ] in
     c.in_ok-insert.ensures.added ∙ put-new h hists i c.place-i.ensures other

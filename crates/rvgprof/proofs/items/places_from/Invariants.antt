@@ -5,6 +5,6 @@ use Rattle.rvgprof.proofs.items.places_from.Given as goal
 -- those so far
 abbrev pub invariant-loop-n : goal.invariant-loop-n
 invariant-loop-n l = record {
-  found : (items : List Item) → items_from l.takes 0 (map string_bytes l.words) ≡ Some items → l.found ≡ take l.n (drop l.first (places l.wanted items));
+  found : (items : List Item) → items_from l.set 0 (map string_bytes l.words) ≡ Some items → l.found ≡ take l.n (drop l.first (places l.wanted items));
   len : length l.found ≡ l.n;
 }

@@ -7,8 +7,8 @@ use Rattle.rvgprof.proofs.words.is_given.Goals as goal
 
 pub returns-in_err-place : goal.returns-in_err-place
 returns-in_err-place c =
-    c.from_residual.ensures ∙ ap (option_map is_some) c.in_err-place.ensures ∙ given_by_items c.args.key (items_from c.args.takes 0 (map string_bytes c.args.words.now))
+    c.from_residual.ensures ∙ ap (option_map is_some) c.in_err-place.ensures ∙ given_by_items c.args.key (items_from c.args.set 0 (map string_bytes c.args.words.now))
 
 pub returns : goal.returns
 returns c =
-    ap (λ (b : _). Some b) c.is_some.ensures ∙ ap (option_map is_some) c.in_ok-place.ensures ∙ given_by_items c.args.key (items_from c.args.takes 0 (map string_bytes c.args.words.now))
+    ap (λ (b : _). Some b) c.is_some.ensures ∙ ap (option_map is_some) c.in_ok-place.ensures ∙ given_by_items c.args.key (items_from c.args.set 0 (map string_bytes c.args.words.now))

@@ -3,4 +3,4 @@ use Rattle.rvgprof.proofs.PlaceLemmas.{rising_operands}
 use Rattle.rvgprof.proofs.words.operands.Goals as goal
 
 pub returns-clause-rising : goal.returns-clause-rising
-returns-clause-rising c = rising_operands c.args.takes (map string_bytes c.args.words.now) c.places_from.result c.places_from.ensures
+returns-clause-rising c = rising_operands c.args.set (map string_bytes c.args.words.now) c.places_from.result c.places_from.ensures

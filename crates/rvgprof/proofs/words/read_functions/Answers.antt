@@ -7,4 +7,4 @@ pub returns-clause-reading : goal.returns-clause-reading
 returns-clause-reading c =
     let words = map string_bytes c.args.words.now in
     rw (c.operands.ensures.reading) at c.functions_from.ensures.reading
-    ∙ functions_by_items words (items_from c.args.takes 0 words)
+    ∙ functions_by_items words (items_from c.args.set 0 words)

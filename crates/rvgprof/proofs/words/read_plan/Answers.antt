@@ -6,4 +6,4 @@ use Rattle.rvgprof.proofs.words.read_plan.Goals as goal
 pub returns-clause-reading : goal.returns-clause-reading
 returns-clause-reading c =
     let words = map string_bytes c.args.words.now in
-    rw (c.number_given.ensures.reads, c.number_given-2.ensures.reads) at c.plan_from.ensures.reading ∙ plan_by_items words (items_from c.args.takes 0 words)
+    rw (c.number_given.ensures.reads, c.number_given-2.ensures.reads) at c.plan_from.ensures.reading ∙ plan_by_items words (items_from c.args.set 0 words)

@@ -11,7 +11,7 @@ pub returns-clause-reading : goal.returns-clause-reading
 returns-clause-reading c =
     let words = map string_bytes c.args.words.now in
     rw (c.operands.ensures.reading, c.is_given.ensures, c.place_given.ensures, c.read_setup.ensures.reading) at c.run_from.ensures
-    ∙ run_by_items words (items_from c.args.takes 0 words)
+    ∙ run_by_items words (items_from c.args.set 0 words)
 
 pub returns-clause-within : goal.returns-clause-within
 returns-clause-within c =

@@ -1,4 +1,4 @@
-use super::*;
+use demo_elf::program;
 use std::test::Fail;
 
 /// The four bytes at an offset, the lowest first.

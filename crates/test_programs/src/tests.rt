@@ -1,0 +1,2 @@
+mod demos;
+mod images;
