@@ -2,5 +2,4 @@ pub mod LoopLemmas
 pub mod ClashLemmas
 pub mod SumLemmas
 pub mod ContentLemmas
-pub mod BoundLemmas
 pub mod SplitLemmas

@@ -1,1 +1,3 @@
+pub mod AtMostLemmas
 pub mod RowLemmas
+pub mod SumLemmas

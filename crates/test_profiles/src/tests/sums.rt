@@ -1,5 +1,5 @@
 ghost use Rattle.std.specs.Prelude.{IfOk};
-ghost use Rattle.gmon_data.proofs.BoundLemmas.{IsAtMost};
+ghost use Rattle.test_profiles.specs.AtMost.{IsAtMost};
 
 use crate::{PER_100, Rows, profile_of_rows};
 use gmon_data::{AddRefusal, HistRange, Profile, Unlike};

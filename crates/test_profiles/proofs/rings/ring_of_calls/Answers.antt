@@ -1,6 +1,7 @@
 use Rattle.std.proofs.Common.{◌+◌, subst, sym, arith}
 use Rattle.gmon_data.specs.Content.{Content}
-use Rattle.gmon_data.proofs.BoundLemmas.{IsAtMost, more_at_most, one_call_more, within_at_most}
+use Rattle.test_profiles.specs.AtMost.{IsAtMost}
+use Rattle.test_profiles.proofs.AtMostLemmas.{more_at_most, one_call_more, within_at_most}
 use Rattle.test_profiles.proofs.rings.ring_of_calls.Goals as goal
 use Rattle.test_profiles.proofs.rings.ring_of_calls.Goals.{then-not-cut+in_ok-add_calls, else-not-cut+else-callee-lt65536}
 

@@ -7,7 +7,8 @@ use Rattle.gp_base.specs.declared.records.RawBlock.{RawBlock}
 use Rattle.gp_base.specs.declared.records.Rec.{Rec}
 use Rattle.gp_base.specs.declared.records.Rec.TheVariants.{Arc, Blocks}
 use Rattle.gmon_data.specs.Content.{Content, WideRec, empty_content, wide_block, wide_record, wide_records, with_records}
-use Rattle.gmon_data.proofs.BoundLemmas.{IsAtMost, more_at_most, one_call_more, one_run_more, within_at_most}
+use Rattle.test_profiles.specs.AtMost.{IsAtMost}
+use Rattle.test_profiles.proofs.AtMostLemmas.{more_at_most, one_call_more, one_run_more, within_at_most}
 use Rattle.gmon_data.proofs.RecordLemmas.{with_records-append}
 use Rattle.test_profiles.proofs.tests.contents.many_records.Goals as goal
 

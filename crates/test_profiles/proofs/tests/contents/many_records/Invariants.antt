@@ -2,7 +2,7 @@ use Rattle.std.proofs.Common.{◌+◌, map}
 use Rattle.std.specs.List.{All}
 use Rattle.gp_base.specs.Spans.{HasRange}
 use Rattle.gmon_data.specs.Content.{empty_content, wide_block, wide_records, with_records}
-use Rattle.gmon_data.proofs.BoundLemmas.{IsAtMost}
+use Rattle.test_profiles.specs.AtMost.{IsAtMost}
 use Rattle.test_profiles.proofs.tests.contents.many_records.Given as goal
 
 abbrev pub invariant-loop-i : goal.invariant-loop-i

@@ -1,6 +1,7 @@
 use Rattle.std.proofs.Common.{◌+◌, ◌*◌, ◌<◌, subst, sym, arith}
 use Rattle.gmon_data.specs.Content.{Content}
-use Rattle.gmon_data.proofs.BoundLemmas.{IsAtMost, at_most_none, more_at_most, one_hist_more, within_at_most}
+use Rattle.test_profiles.specs.AtMost.{IsAtMost}
+use Rattle.test_profiles.proofs.AtMostLemmas.{at_most_none, more_at_most, one_hist_more, within_at_most}
 use Rattle.test_profiles.proofs.tests.shares.profile_of.Goals as goal
 use Rattle.test_profiles.proofs.tests.shares.profile_of.Goals.{then-hist+in_ok-add_wide, else-hist}
 

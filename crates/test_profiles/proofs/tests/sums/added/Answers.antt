@@ -1,4 +1,4 @@
-use Rattle.profile_sum.proofs.BoundLemmas.{rows_sum_within}
+use Rattle.test_profiles.proofs.SumLemmas.{rows_sum_within}
 use Rattle.test_profiles.proofs.tests.sums.added.Goals as goal
 
 pub add_all-answer-requires : goal.add_all-answer-requires

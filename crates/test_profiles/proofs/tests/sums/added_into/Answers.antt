@@ -1,4 +1,4 @@
-use Rattle.profile_sum.proofs.BoundLemmas.{rows_sum_within}
+use Rattle.test_profiles.proofs.SumLemmas.{rows_sum_within}
 use Rattle.test_profiles.proofs.tests.sums.added_into.Goals as goal
 
 pub add_into-requires : goal.add_into-requires

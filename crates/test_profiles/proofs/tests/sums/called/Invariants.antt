@@ -1,5 +1,5 @@
 use Rattle.std.proofs.Common.{◌*◌}
-use Rattle.gmon_data.proofs.BoundLemmas.{IsAtMost}
+use Rattle.test_profiles.specs.AtMost.{IsAtMost}
 use Rattle.test_profiles.proofs.tests.sums.called.Given as goal
 
 abbrev pub invariant-loop-i : goal.invariant-loop-i

@@ -1,5 +1,5 @@
 use Rattle.std.proofs.Common.{arith}
-use Rattle.profile_sum.proofs.BoundLemmas.{small_sum_within}
+use Rattle.test_profiles.proofs.SumLemmas.{small_sum_within}
 use Rattle.test_profiles.proofs.tests.sums.called_twice.Goals as goal
 
 pub add_all-requires : goal.add_all-requires

@@ -1,7 +1,9 @@
 use Rattle.std.proofs.Common.{◌≡◌, ℕ, ◌+◌, ◌*◌, ◌<◌, ◌≤◌, nat_eq, length, take, subst, sym, arith}
 use Rattle.std.proofs.lemmas.List.{length-take}
 use Rattle.gmon_data.specs.Content.{Content, with_block}
-use Rattle.gmon_data.proofs.BoundLemmas.{IsAtMost, at_most_none, one_hist_more, tally_at_most, within_at_most}
+use Rattle.gmon_data.proofs.BoundLemmas.{tally_at_most}
+use Rattle.test_profiles.specs.AtMost.{IsAtMost}
+use Rattle.test_profiles.proofs.AtMostLemmas.{at_most_none, one_hist_more, within_at_most}
 use Rattle.gmon_data.proofs.TallyLemmas.{sum-tally}
 use Rattle.test_reports.proofs.tests.listings.profile_of.Goals as goal
 

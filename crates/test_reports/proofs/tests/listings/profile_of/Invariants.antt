@@ -1,5 +1,5 @@
 use Rattle.std.proofs.Common.{◌*◌, ◌≤◌}
-use Rattle.gmon_data.proofs.BoundLemmas.{IsAtMost}
+use Rattle.test_profiles.specs.AtMost.{IsAtMost}
 use Rattle.test_reports.proofs.tests.listings.profile_of.Given as goal
 
 abbrev pub invariant-loop-addr : goal.invariant-loop-addr

@@ -8,9 +8,10 @@ use Rattle.gmon_data.specs.Tally.{tally, total_of}
 use Rattle.gmon_data.specs.Content.{Content, same_pair, IsWithin}
 use Rattle.gmon_data.proofs.TallyLemmas.{sum-tally}
 use Rattle.gmon_data.proofs.HistLemmas.{samples-put}
-use Rattle.gmon_data.proofs.BoundLemmas.{counters_at_most, tally_at_most, IsAtMost}
-use Rattle.test_profiles.specs.Rows.{HasRows}
+use Rattle.gmon_data.proofs.BoundLemmas.{counters_at_most, tally_at_most}
 use Rattle.profile_sum.specs.Sum.{sum_of}
+use Rattle.test_profiles.specs.AtMost.{IsAtMost}
+use Rattle.test_profiles.specs.Rows.{HasRows}
 
 abbrev counters_of : List Hist → ℕ
 counters_of hs = sum_by (λ h. length h.counters) hs
@@ -32,7 +33,7 @@ entries_added same [] done = omega arith
 entries_added same (e ∷ es) done = omega (arith, entries_added same es (tally same e.0 e.1 done), tally_at_most same e.0 e.1 done)
 
 -- a sum is within the bounds where the numbers of both are together
-pub sum_within : (p q : Content) → samples_of p.hists + samples_of q.hists < 2 ^ 45 → counters_of p.hists + counters_of q.hists < 2 ^ 26
+sum_within : (p q : Content) → samples_of p.hists + samples_of q.hists < 2 ^ 45 → counters_of p.hists + counters_of q.hists < 2 ^ 26
     → total_of p.arcs + total_of q.arcs < 2 ^ 59 → total_of p.blocks + total_of q.blocks < 2 ^ 59
     → length p.arcs + length q.arcs < 2 ^ 26 → length p.blocks + length q.blocks < 2 ^ 26 → IsWithin (sum_of p q)
 sum_within p q samples counters calls runs pairs addresses = record {
