@@ -1,6 +1,7 @@
 //! The file of a run in both forms: written, read back, and added to a profile.
 
-ghost use Rattle.std.specs.Prelude.{◌≡◌};
+ghost use Rattle.std.specs.Prelude.{◌≡◌, false};
+ghost use Rattle.host_port.specs.Memory.{outside_of};
 ghost use Rattle.gmon_data.specs.Content.{empty_content};
 
 use crate::{BSD_RUN, GNU_RUN, are_of_small_run, small_run};
@@ -23,7 +24,9 @@ fn small_file(form: Form) -> &'static [u8] {
 }
 
 /// Writes the file of a run at rate 100.
-fn write_file(form: Form, gmon: &Gmon, host: &mut MemHost) -> Result<(), Failed> {
+fn write_file(form: Form, gmon: &Gmon, host: &mut MemHost) -> Result<(), Failed>
+    requires { (outside_of host.old).is_writing ≡ false }
+{
     host.create_output("gmon.out")?;
     match form {
         Form::Bsd => gmon_bsd::write_run(gmon, 100, host),
