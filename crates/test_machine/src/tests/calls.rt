@@ -131,33 +131,40 @@ fn copied(alloc: Global, gmon: &Gmon) -> Result<Vec<RawArc>, AllocError>
     Ok(arcs)
 }
 
-#[test]
-fn a_new_runtime(rt: HostRuntime) -> Result<(), Fail> {
-    let gmon = started(rt.alloc())?;
-    assert_eq!(rt; gmon.state(), State::On);
-    assert!(rt; gmon.sampling());
-    assert_eq!(rt; gmon.calls(), 0);
-    assert_eq!(rt; gmon.pairs(), 0);
-    assert_eq!(rt; copied(rt.alloc(), &gmon)?.len(), 0);
+fn expect_new(rt: &impl Abort, gmon: &Gmon) {
+    assert_eq!(rt; (gmon.state(), gmon.sampling()), (State::On, true));
+    assert_eq!(rt; (gmon.calls(), gmon.pairs()), (0, 0));
+    assert_eq!(rt; gmon.arcs().next(), None);
     let bytes = gmon.block_bytes();
     assert_eq!(rt; bytes.len(), 856);
     assert!(rt; bytes.iter().all(|byte| *byte == 0));
+}
+
+#[test]
+fn a_new_runtime(rt: HostRuntime) -> Result<(), Fail> {
+    let gmon = started(rt.alloc())?;
+    expect_new(&rt, &gmon);
     Ok(())
 }
 
-// The counters after one tick: 1 at `wanted`, and 0 elsewhere.
-fn counts_at(rt: &impl Abort, alloc: Global, pc: u32, wanted: Option<u32>) -> Result<(), Fail> {
-    let mut gmon = started(alloc)?;
-    gmon.tick(pc);
+// One counter is 1, if one is, and the others are 0.
+fn expect_one_count(rt: &impl Abort, gmon: &Gmon, pc: u32, wanted: Option<u32>) {
     for i in 0..64 {
         let count = if wanted == Some(i) { 1 } else { 0 };
         assert_eq!(rt;
-            count_at(&gmon, i),
+            count_at(gmon, i),
             Some(count),
             "counter {i} after a tick at {pc}"
         );
     }
-    assert_eq!(rt; count_at(&gmon, 64), None);
+    assert_eq!(rt; count_at(gmon, 64), None);
+}
+
+// The counters after one tick.
+fn counts_at(rt: &impl Abort, alloc: Global, pc: u32, wanted: Option<u32>) -> Result<(), Fail> {
+    let mut gmon = started(alloc)?;
+    gmon.tick(pc);
+    expect_one_count(rt, &gmon, pc, wanted);
     Ok(())
 }
 
@@ -173,15 +180,19 @@ fn a_tick_raises_the_counter_of_its_four_bytes(rt: HostRuntime) -> Result<(), Fa
     counts_at(&rt, rt.alloc(), 0xFFFF_FFFF, None)
 }
 
-#[test]
-fn a_full_counter_stays(rt: HostRuntime) -> Result<(), Fail> {
-    let mut gmon = started(rt.alloc())?;
+fn expect_full(rt: &impl Abort, gmon: &mut Gmon) {
     for _ in 0..65_535 {
         gmon.tick(0x0001_0002);
     }
-    assert_eq!(rt; count_at(&gmon, 0), Some(65_535));
+    assert_eq!(rt; count_at(gmon, 0), Some(65_535));
     gmon.tick(0x0001_0002);
-    assert_eq!(rt; count_at(&gmon, 0), Some(65_535));
+    assert_eq!(rt; count_at(gmon, 0), Some(65_535));
+}
+
+#[test]
+fn a_full_counter_stays(rt: HostRuntime) -> Result<(), Fail> {
+    let mut gmon = started(rt.alloc())?;
+    expect_full(&rt, &mut gmon);
     Ok(())
 }
 
@@ -238,47 +249,112 @@ fn begun(gmon: &mut Gmon, from: u32, to: u32) -> Option<Walk>
 
 const SITE: u32 = 0x0001_0010;
 
-#[test]
-fn a_found_arc_moves_to_the_front(rt: HostRuntime) -> Result<(), Fail> {
-    let mut gmon = started(rt.alloc())?;
-    for (to, looks) in [
-        (0x0001_0040, 1),
-        (0x0001_0080, 1),
-        (0x0001_0040, 2),
-        (0x0001_00C0, 2),
-    ] {
+/// Callees of the site, and the looks that each call takes.
+const FOUR_CALLS: [(u32, usize); 4] = [
+    (0x0001_0040, 1),
+    (0x0001_0080, 1),
+    (0x0001_0040, 2),
+    (0x0001_00C0, 2),
+];
+
+/// The arcs of those calls.
+const THREE_ARCS: [RawArc; 3] = [
+    RawArc {
+        from: SITE,
+        to: 0x0001_00C0,
+        count: 1,
+    },
+    RawArc {
+        from: SITE,
+        to: 0x0001_0040,
+        count: 2,
+    },
+    RawArc {
+        from: SITE,
+        to: 0x0001_0080,
+        count: 1,
+    },
+];
+
+/// Their entries in the block.
+const FOUR_ENTRIES: [u8; 48] = [
+    0, 0, 0, 0, 0, 0, 0, 0, 3, 0, 0, 0, // three were given out
+    0x40, 0, 1, 0, 2, 0, 0, 0, 2, 0, 0, 0, // two calls, linked to the second
+    0x80, 0, 1, 0, 1, 0, 0, 0, 0, 0, 0, 0, // the last of the chain
+    0xC0, 0, 1, 0, 1, 0, 0, 0, 1, 0, 0, 0, // the front, linked to the first
+];
+
+// Calls of the site, each of which is counted after so many looks.
+fn expect_looks(rt: &impl Abort, gmon: &mut Gmon, calls: &[(u32, usize)]) {
+    for (to, looks) in calls {
         assert_eq!(rt;
-            called(&mut gmon, SITE, to),
-            Outcome::Counted(looks),
+            called(gmon, SITE, *to),
+            Outcome::Counted(*looks),
             "a call of {to}"
         );
     }
-    assert_eq!(rt; gmon.calls(), 4);
-    assert_eq!(rt; gmon.pairs(), 3);
-    let arc = |to, count| RawArc {
-        from: SITE,
-        to,
-        count,
-    };
+}
+
+// What the runtime holds of so many calls: these arcs, in this order.
+fn expect_arcs(
+    rt: &impl Abort,
+    alloc: Global,
+    gmon: &Gmon,
+    calls: u32,
+    wanted: &[RawArc],
+) -> Result<(), AllocError> {
+    let arcs = copied(alloc, gmon)?;
+    assert_eq!(rt; arcs.as_slice(), wanted);
     assert_eq!(rt;
-        copied(rt.alloc(), &gmon)?.as_slice(),
-        [
-            arc(0x0001_00C0, 1),
-            arc(0x0001_0040, 2),
-            arc(0x0001_0080, 1)
-        ]
-        .as_slice()
+        (gmon.calls(), gmon.pairs() as usize),
+        (calls, wanted.len())
     );
-    let bytes = gmon.block_bytes();
-    let entries = [
-        0, 0, 0, 0, 0, 0, 0, 0, 3, 0, 0, 0, // three were given out
-        0x40, 0, 1, 0, 2, 0, 0, 0, 2, 0, 0, 0, // two calls, linked to the second
-        0x80, 0, 1, 0, 1, 0, 0, 0, 0, 0, 0, 0, // the last of the chain
-        0xC0, 0, 1, 0, 1, 0, 0, 0, 1, 0, 0, 0, // the front, linked to the first
-    ];
-    assert_eq!(rt; bytes.get(..48), Some(entries.as_slice()));
-    assert_eq!(rt; bytes.get(600 + 128 + 8).copied(), Some(3), "slot 4");
     Ok(())
+}
+
+fn expect_entries(rt: &impl Abort, bytes: &[u8]) {
+    assert_eq!(rt; bytes.get(..48), Some(FOUR_ENTRIES.as_slice()));
+    assert_eq!(rt; bytes.get(600 + 128 + 8).copied(), Some(3), "slot 4");
+}
+
+#[test]
+fn a_found_arc_moves_to_the_front(rt: HostRuntime) -> Result<(), Fail> {
+    let mut gmon = started(rt.alloc())?;
+    expect_looks(&rt, &mut gmon, &FOUR_CALLS);
+    expect_arcs(&rt, rt.alloc(), &gmon, 4, &THREE_ARCS)?;
+    expect_entries(&rt, gmon.block_bytes());
+    Ok(())
+}
+
+/// A call site, and how many pairs are kept after a call of it.
+const WIDE_CALLS: [(u32, u32); 3] = [(0x0001_0010, 1), (0x0001_0014, 1), (0x0001_0018, 2)];
+
+// Two call sites of one slot, and one of another.
+fn expect_wide_slots(rt: &impl Abort, gmon: &mut Gmon) {
+    for (from, pairs) in WIDE_CALLS {
+        assert_eq!(rt;
+            called(gmon, from, 0x0001_0080),
+            Outcome::Counted(1),
+            "a call from {from}"
+        );
+        assert_eq!(rt; gmon.pairs(), pairs, "a call from {from}");
+    }
+    let first = RawArc {
+        from: 0x0001_0010,
+        to: 0x0001_0080,
+        count: 2,
+    };
+    assert_eq!(rt; gmon.arcs().next(), Some(first));
+}
+
+// Counters of sixteen bytes each.
+fn expect_wide_counters(rt: &impl Abort, gmon: &mut Gmon) {
+    for pc in [0x0001_000F, 0x0001_0010, 0x0001_001F, 0x0001_00FF] {
+        gmon.tick(pc);
+    }
+    for (i, count) in [(0, Some(1)), (1, Some(2)), (15, Some(1)), (16, None)] {
+        assert_eq!(rt; count_at(gmon, i), count, "counter {i}");
+    }
 }
 
 #[test]
@@ -289,84 +365,62 @@ fn wider_counters_and_slots(rt: HostRuntime) -> Result<(), Fail> {
     };
     let mut gmon = Gmon::startup(rt.alloc(), text, 8, 4)?;
     assert_eq!(rt; gmon.block_bytes().len(), 696);
-    assert_eq!(rt;
-        called(&mut gmon, 0x0001_0010, 0x0001_0080),
-        Outcome::Counted(1)
-    );
-    assert_eq!(rt;
-        called(&mut gmon, 0x0001_0014, 0x0001_0080),
-        Outcome::Counted(1)
-    );
-    assert_eq!(rt;
-        copied(rt.alloc(), &gmon)?.as_slice(),
-        [RawArc {
-            from: 0x0001_0010,
-            to: 0x0001_0080,
-            count: 2,
-        }]
-        .as_slice(),
-        "two call sites of one slot"
-    );
-    assert_eq!(rt;
-        called(&mut gmon, 0x0001_0018, 0x0001_0080),
-        Outcome::Counted(1)
-    );
-    assert_eq!(rt; gmon.pairs(), 2);
-    gmon.tick(0x0001_000F);
-    gmon.tick(0x0001_0010);
-    gmon.tick(0x0001_001F);
-    gmon.tick(0x0001_00FF);
-    assert_eq!(rt; count_at(&gmon, 0), Some(1));
-    assert_eq!(rt; count_at(&gmon, 1), Some(2));
-    assert_eq!(rt; count_at(&gmon, 15), Some(1));
-    assert_eq!(rt; count_at(&gmon, 16), None);
+    expect_wide_slots(&rt, &mut gmon);
+    expect_wide_counters(&rt, &mut gmon);
     Ok(())
+}
+
+// The first 49 callees are counted, each after the looks at those before it; the fiftieth has no place.
+fn run_out(rt: &impl Abort, gmon: &mut Gmon) {
+    for to in 0..49u32 {
+        assert_eq!(rt;
+            called(gmon, SITE, to),
+            Outcome::Counted(to.max(1) as usize),
+            "a call of {to}"
+        );
+    }
+    assert_eq!(rt; gmon.state(), State::On);
+    assert_eq!(rt; called(gmon, SITE, 49), Outcome::Overflowed(49));
+}
+
+// The arcs are in the order of before, and entry 0 has been asked for fifty.
+fn expect_forty_nine(rt: &impl Abort, gmon: &Gmon) {
+    assert_eq!(rt; (gmon.calls(), gmon.pairs()), (49, 49));
+    assert_eq!(rt; gmon.block_bytes().get(8).copied(), Some(50));
+    let mut arcs = gmon.arcs();
+    for to in (0..49).rev() {
+        assert_eq!(rt; arcs.next().map(|arc| arc.to), Some(to));
+    }
+    assert_eq!(rt; arcs.next(), None);
+}
+
+// Samples go on, and nothing else does.
+fn expect_error(rt: &impl Abort, gmon: &mut Gmon) {
+    assert_eq!(rt; gmon.state(), State::Error);
+    assert_eq!(rt; called(gmon, SITE, 0), Outcome::Ignored);
+    gmon.tick(0x0001_0000);
+    assert_eq!(rt; count_at(gmon, 0), Some(1));
+    gmon.moncontrol(true);
+    assert_eq!(rt; gmon.state(), State::Error);
 }
 
 #[test]
 fn arcs_run_out(rt: HostRuntime) -> Result<(), Fail> {
     let mut gmon = started(rt.alloc())?;
-    assert_eq!(rt; called(&mut gmon, SITE, 0), Outcome::Counted(1));
-    for to in 1..49 {
-        assert_eq!(rt;
-            called(&mut gmon, SITE, to),
-            Outcome::Counted(to as usize),
-            "a call of {to}"
-        );
-    }
-    assert_eq!(rt; gmon.state(), State::On);
-    assert_eq!(rt; called(&mut gmon, SITE, 49), Outcome::Overflowed(49));
-    assert_eq!(rt; gmon.state(), State::Error);
-    assert_eq!(rt; gmon.calls(), 49);
-    assert_eq!(rt; gmon.pairs(), 49);
-    assert_eq!(rt;
-        gmon.block_bytes().get(8).copied(),
-        Some(50),
-        "the link of entry 0"
-    );
-    let arcs = copied(rt.alloc(), &gmon)?;
-    assert_eq!(rt; arcs.len(), 49);
-    for (arc, to) in arcs.iter().zip((0..49).rev()) {
-        assert_eq!(rt; arc.to, to, "the order is as before");
-    }
-    assert_eq!(rt; called(&mut gmon, SITE, 0), Outcome::Ignored);
-    gmon.tick(0x0001_0000);
-    assert_eq!(rt; count_at(&gmon, 0), Some(1));
-    gmon.moncontrol(true);
-    assert_eq!(rt; gmon.state(), State::Error);
+    run_out(&rt, &mut gmon);
+    expect_forty_nine(&rt, &gmon);
+    expect_error(&rt, &mut gmon);
     Ok(())
 }
 
-#[test]
-fn the_edge_of_the_text(rt: HostRuntime) -> Result<(), Fail> {
-    let mut gmon = started(rt.alloc())?;
+fn expect_edge(rt: &impl Abort, gmon: &mut Gmon) {
     for (from, outcome) in [
         (0x0001_0100, Outcome::Ignored),
         (0x0000_FFFC, Outcome::Ignored),
         (0x0001_00FC, Outcome::Counted(1)),
     ] {
         assert_eq!(rt;
-            called(&mut gmon, from, 0x0001_0040),
+            called(gmon, from, 0x0001_0040),
             outcome,
             "a call from {from}"
         );
@@ -376,30 +430,50 @@ fn the_edge_of_the_text(rt: HostRuntime) -> Result<(), Fail> {
         Some(1),
         "slot 63"
     );
+}
+
+#[test]
+fn the_edge_of_the_text(rt: HostRuntime) -> Result<(), Fail> {
+    let mut gmon = started(rt.alloc())?;
+    expect_edge(&rt, &mut gmon);
     Ok(())
+}
+
+// A tick and a call count nothing.
+fn expect_off(rt: &impl Abort, gmon: &mut Gmon) {
+    gmon.moncontrol(false);
+    gmon.tick(0x0001_0000);
+    assert_eq!(rt; called(gmon, SITE, 0x0001_0040), Outcome::Ignored);
+    assert_eq!(rt; (count_at(gmon, 0), gmon.calls()), (Some(0), 0));
+}
+
+// The same two count.
+fn expect_on(rt: &impl Abort, gmon: &mut Gmon) {
+    gmon.moncontrol(true);
+    gmon.tick(0x0001_0000);
+    assert_eq!(rt; called(gmon, SITE, 0x0001_0040), Outcome::Counted(1));
+    assert_eq!(rt; (count_at(gmon, 0), gmon.calls()), (Some(1), 1));
+}
+
+// Profiling is switched off while a call is being entered, which is counted still; another one is lost.
+fn expect_off_in_mid_walk(rt: &impl Abort, gmon: &mut Gmon) {
+    let Some(walk) = begun(gmon, SITE, 0x0001_0040) else {
+        assert!(rt; false, "a walk");
+        return;
+    };
+    assert_eq!(rt; gmon.enter(SITE, 0x0001_0080), Entered::Lost);
+    gmon.moncontrol(false);
+    assert_eq!(rt; (gmon.state(), gmon.sampling()), (State::Busy, false));
+    assert_eq!(rt; walked(gmon, walk), Outcome::Counted(1));
+    assert_eq!(rt; (gmon.state(), gmon.calls()), (State::Off, 2));
 }
 
 #[test]
 fn modes(rt: HostRuntime) -> Result<(), Fail> {
     let mut gmon = started(rt.alloc())?;
-    gmon.moncontrol(false);
-    gmon.tick(0x0001_0000);
-    assert_eq!(rt; called(&mut gmon, SITE, 0x0001_0040), Outcome::Ignored);
-    assert_eq!(rt; count_at(&gmon, 0), Some(0));
-    assert_eq!(rt; gmon.calls(), 0);
-    gmon.moncontrol(true);
-    gmon.tick(0x0001_0000);
-    assert_eq!(rt; called(&mut gmon, SITE, 0x0001_0040), Outcome::Counted(1));
-    assert_eq!(rt; count_at(&gmon, 0), Some(1));
-    assert_eq!(rt; gmon.calls(), 1);
-    let walk = begun(&mut gmon, SITE, 0x0001_0040).ok_or("no walk")?;
-    assert_eq!(rt; gmon.enter(SITE, 0x0001_0080), Entered::Lost);
-    gmon.moncontrol(false);
-    assert_eq!(rt; gmon.state(), State::Busy);
-    assert!(rt; !gmon.sampling());
-    assert_eq!(rt; walked(&mut gmon, walk), Outcome::Counted(1));
-    assert_eq!(rt; gmon.state(), State::Off);
-    assert_eq!(rt; gmon.calls(), 2);
+    expect_off(&rt, &mut gmon);
+    expect_on(&rt, &mut gmon);
+    expect_off_in_mid_walk(&rt, &mut gmon);
     Ok(())
 }
 
@@ -427,6 +501,21 @@ fn plain_looks(arcs: &mut Vec<RawArc>, to: u32) -> Result<usize, AllocError> {
     }
 }
 
+// Calls of the first thousand callees, in order or the other way round, in both.
+fn expect_plain(
+    rt: &impl Abort,
+    gmon: &mut Gmon,
+    arcs: &mut Vec<RawArc>,
+    back: bool,
+) -> Result<(), AllocError> {
+    for n in 0..1_000u32 {
+        let to = if back { 999 - n } else { n };
+        let looks = plain_looks(arcs, to)?;
+        assert_eq!(rt; called(gmon, SITE, to), Outcome::Counted(looks));
+    }
+    Ok(())
+}
+
 #[test]
 fn a_long_chain_is_a_plain_list(rt: HostRuntime) -> Result<(), Fail> {
     let text = Span {
@@ -435,15 +524,8 @@ fn a_long_chain_is_a_plain_list(rt: HostRuntime) -> Result<(), Fail> {
     };
     let mut gmon = Gmon::startup(rt.alloc(), text, 2, 2)?;
     let mut arcs = Vec::new(rt.alloc());
-    for to in 0..1_000 {
-        let looks = plain_looks(&mut arcs, to)?;
-        assert_eq!(rt; called(&mut gmon, SITE, to), Outcome::Counted(looks));
-    }
-    for to in (0..1_000).rev() {
-        let looks = plain_looks(&mut arcs, to)?;
-        assert_eq!(rt; called(&mut gmon, SITE, to), Outcome::Counted(looks));
-    }
-    assert_eq!(rt; gmon.calls(), 2_000);
-    assert_eq!(rt; copied(rt.alloc(), &gmon)?.as_slice(), arcs.as_slice());
+    expect_plain(&rt, &mut gmon, &mut arcs, false)?;
+    expect_plain(&rt, &mut gmon, &mut arcs, true)?;
+    expect_arcs(&rt, rt.alloc(), &gmon, 2_000, arcs.as_slice())?;
     Ok(())
 }

@@ -10,7 +10,7 @@ use crate::{ROUND, setup_of};
 use elf32_syms::{Image, Segment, SegmentList};
 use gp_base::{Items, RawArc, Span, le4};
 use host_port::{MemHost, NeverFails};
-use mcount_arcs::State;
+use mcount_arcs::{Gmon, State};
 use prof_machine::{End, Plan, PlanWalk, Run, RunSummary, Setup, StartRefusal, TurnNote};
 use rv_step::TrapKind;
 use std::alloc::{AllocError, Global};
@@ -124,6 +124,22 @@ fn ends(
     Ok(())
 }
 
+// A run of these words from 0x10000 on, which comes to this end.
+fn text_ends(
+    rt: &impl Abort,
+    alloc: Global,
+    name: &str,
+    words: &[u32],
+    hooks: (Option<u32>, Option<u32>),
+    setup: Setup,
+    wanted: RunSummary,
+) -> Result<(), Fail>
+    requires { IsSetup setup }
+{
+    let mut run = started_at_text(rt, alloc, words, hooks, setup).map_err(|_| "start")?;
+    ends(rt, alloc, name, &mut run, wanted)
+}
+
 // What is told of a run that made no calls.
 fn no_calls(end: End, retired: u32, samples: u32) -> RunSummary {
     RunSummary {
@@ -152,11 +168,16 @@ fn calls_alone(retired: u32, calls: u32, lost: u32, state: State) -> RunSummary 
 fn runs_to_their_ends(rt: HostRuntime) -> Result<(), Fail> {
     for row in ROWS {
         let setup = setup_of(row.every, row.budget, 1, ROUND);
-        let mut run = started_at_text(&rt, rt.alloc(), row.words, (None, None), setup).map_err(
-            |_| "start",
-        )?;
         let wanted = no_calls(row.end, row.retired, row.samples);
-        ends(&rt, rt.alloc(), row.name, &mut run, wanted)?;
+        text_ends(
+            &rt,
+            rt.alloc(),
+            row.name,
+            row.words,
+            (None, None),
+            setup,
+            wanted,
+        )?;
     }
     Ok(())
 }
@@ -178,24 +199,50 @@ const LOSSES: [(&str, u32, Plan, u32, u32, u32); 6] = [
     ("of eight harts seven lose theirs", 8, ROUND, 24, 1, 7),
 ];
 
+// The runtime holds the one arc of `CALLS`, with so many calls.
+fn expect_one_arc(rt: &impl Abort, gmon: &Gmon, calls: u32, name: &str) {
+    let mut arcs = gmon.arcs();
+    let arc = RawArc {
+        from: 0x0001_0004,
+        to: 0x0001_0014,
+        count: calls,
+    };
+    assert_eq!(rt; arcs.next(), Some(arc), "{name}");
+    assert_eq!(rt; arcs.next(), None, "{name}");
+}
+
+// Runs `CALLS` by a plan, and looks at what it told and at its arc.
+fn meets(
+    rt: &impl Abort,
+    alloc: Global,
+    name: &str,
+    setup: Setup,
+    calls: u32,
+    lost: u32,
+) -> Result<(), Fail>
+    requires { IsSetup setup }
+{
+    let hooks = (Some(CALLS_MCOUNT), None);
+    let mut run = started_at_text(rt, alloc, CALLS, hooks, setup).map_err(|_| "start")?;
+    let wanted = calls_alone(setup.budget, calls, lost, State::On);
+    ends(rt, alloc, name, &mut run, wanted)?;
+    expect_one_arc(rt, run.gmon(), calls, name);
+    Ok(())
+}
+
 #[test]
 fn calls_that_meet_another(rt: HostRuntime) -> Result<(), Fail> {
     for (name, harts, plan, budget, calls, lost) in LOSSES {
         let setup = setup_of(1_000, budget, harts, plan);
-        let hooks = (Some(CALLS_MCOUNT), None);
-        let mut run = started_at_text(&rt, rt.alloc(), CALLS, hooks, setup).map_err(|_| "start")?;
-        let wanted = calls_alone(budget, calls, lost, State::On);
-        ends(&rt, rt.alloc(), name, &mut run, wanted)?;
-        let mut arcs = run.gmon().arcs();
-        let arc = RawArc {
-            from: 0x0001_0004,
-            to: 0x0001_0014,
-            count: calls,
-        };
-        assert_eq!(rt; arcs.next(), Some(arc), "{name}");
-        assert_eq!(rt; arcs.next(), None, "{name}");
+        meets(&rt, rt.alloc(), name, setup, calls, lost)?;
     }
     Ok(())
+}
+
+// The text has 64 words, and these are the counts of the first ones.
+fn expect_counts(rt: &impl Abort, counts: &[u32], wanted: &[u32]) {
+    assert_eq!(rt; counts.len(), 64);
+    assert!(rt; counts.starts_with(wanted));
 }
 
 // What a run of these words tells of the first instructions, once it has ended so.
@@ -213,9 +260,8 @@ fn counts_executions(
         ..plain
     };
     let mut run = started_at_text(rt, alloc, words, (None, None), setup).map_err(|_| "start")?;
-    assert_eq!(rt; run.exec_counts().len(), 64);
     ends(rt, alloc, "executions", &mut run, no_calls(end, retired, 0))?;
-    assert_eq!(rt; run.exec_counts().get(..4), Some(wanted.as_slice()));
+    expect_counts(rt, run.exec_counts(), wanted.as_slice());
     Ok(())
 }
 
@@ -231,20 +277,18 @@ fn executions_are_counted(rt: HostRuntime) -> Result<(), Fail> {
     counts_executions(&rt, alloc, &[ENDLESS], End::Budget, 5, [5, 0, 0, 0])
 }
 
+// How many counts an endless run of five instructions has that weren't asked for.
+fn unasked(rt: &impl Abort, alloc: Global) -> Result<usize, Fail> {
+    let setup = setup_of(1_000, 5, 1, ROUND);
+    let mut run = started_at_text(rt, alloc, &[ENDLESS], (None, None), setup).map_err(|_| "start")?;
+    ends(rt, alloc, "unasked", &mut run, no_calls(End::Budget, 5, 0))?;
+    Ok(run.exec_counts().len())
+}
+
 #[test]
 fn executions_are_not_counted_unasked(rt: HostRuntime) -> Result<(), Fail> {
-    let setup = setup_of(1_000, 5, 1, ROUND);
-    let mut run = started_at_text(&rt, rt.alloc(), &[ENDLESS], (None, None), setup).map_err(
-        |_| "start",
-    )?;
-    ends(
-        &rt,
-        rt.alloc(),
-        "unasked",
-        &mut run,
-        no_calls(End::Budget, 5, 0),
-    )?;
-    assert_eq!(rt; run.exec_counts().len(), 0);
+    let counts = unasked(&rt, rt.alloc())?;
+    assert_eq!(rt; counts, 0);
     Ok(())
 }
 
@@ -302,10 +346,16 @@ fn told(hart: u32, note: TurnNote) -> Noted {
 }
 
 // Turns of a plan tell what they did.
-fn tells(rt: &impl Abort, alloc: Global, harts: u32, notes: &[Noted]) -> Result<(), Fail> {
-    let setup = setup_of(2, 100, harts, ROUND);
-    let hooks = (Some(CALLS_MCOUNT), None);
-    let mut run = started_at_text(rt, alloc, CALLS, hooks, setup).map_err(|_| "start")?;
+fn expect_notes(
+    rt: &impl Abort,
+    alloc: Global,
+    run: &mut Run,
+    setup: Setup,
+    notes: &[Noted],
+) -> Result<(), Fail>
+    requires setup { IsSetup setup }
+    requires own { run.old.machine.setup ≡ setup }
+{
     let mut plan = PlanWalk::new(&setup);
     let mut host = NeverFails::new(alloc);
     for (at, noted) in notes.iter().enumerate() {
@@ -313,13 +363,17 @@ fn tells(rt: &impl Abort, alloc: Global, harts: u32, notes: &[Noted]) -> Result<
         assert!(rt; hart < setup.harts);
         assert!(rt; run.is_live());
         run.turn(hart, &mut host).map_err(|_| "turn")?;
-        assert_eq!(rt;
-            told(hart, run.last_turn()),
-            *noted,
-            "turn {at} of {harts} harts"
-        );
+        assert_eq!(rt; told(hart, run.last_turn()), *noted, "turn {at}");
     }
     Ok(())
+}
+
+// The turns of `CALLS` by so many harts tell what they did.
+fn tells(rt: &impl Abort, alloc: Global, harts: u32, notes: &[Noted]) -> Result<(), Fail> {
+    let setup = setup_of(2, 100, harts, ROUND);
+    let hooks = (Some(CALLS_MCOUNT), None);
+    let mut run = started_at_text(rt, alloc, CALLS, hooks, setup).map_err(|_| "start")?;
+    expect_notes(rt, alloc, &mut run, setup, notes)
 }
 
 #[test]
@@ -328,32 +382,43 @@ fn turns_tell_what_they_did(rt: HostRuntime) -> Result<(), Fail> {
     tells(&rt, rt.alloc(), 2, &OF_TWO)
 }
 
+// How the runtime stands after turns of these harts.
+fn expect_state(
+    rt: &impl Abort,
+    alloc: Global,
+    run: &mut Run,
+    harts: &[u32],
+    state: State,
+    calls: u32,
+) -> Result<(), Fail>
+    requires { 2 ≤ run.old.machine.setup.harts }
+    ensures { 2 ≤ run.new.machine.setup.harts }
+{
+    takes_turns(rt, alloc, run, harts)?;
+    let gmon = run.gmon();
+    assert_eq!(rt; (gmon.state(), gmon.calls()), (state, calls), "{harts:?}");
+    Ok(())
+}
+
+// The first hart's call is being entered; no hart but its own looks at its arcs; one look ends it; and the
+// second hart's call is entered, and the budget used up.
+fn expect_turns(rt: &impl Abort, alloc: Global, run: &mut Run) -> Result<(), Fail>
+    requires { 2 ≤ run.old.machine.setup.harts }
+{
+    expect_state(rt, alloc, run, &[0, 0, 0], State::Busy, 0)?;
+    expect_state(rt, alloc, run, &[1, 1], State::Busy, 0)?;
+    expect_state(rt, alloc, run, &[0], State::On, 1)?;
+    takes_turns(rt, alloc, run, &[1])?;
+    assert!(rt; !run.is_live());
+    Ok(())
+}
+
 #[test]
 fn turns_one_by_one(rt: HostRuntime) -> Result<(), Fail> {
     let setup = setup_of(1_000, 6, 2, ROUND);
     let hooks = (Some(CALLS_MCOUNT), None);
     let mut run = started_at_text(&rt, rt.alloc(), CALLS, hooks, setup).map_err(|_| "start")?;
-    takes_turns(&rt, rt.alloc(), &mut run, &[0, 0, 0])?;
-    assert_eq!(rt;
-        run.gmon().state(),
-        State::Busy,
-        "the first hart's call is being entered"
-    );
-    takes_turns(&rt, rt.alloc(), &mut run, &[1, 1])?;
-    assert_eq!(rt;
-        run.gmon().calls(),
-        0,
-        "no hart but its own looks at its arcs"
-    );
-    takes_turns(&rt, rt.alloc(), &mut run, &[0])?;
-    assert_eq!(rt; run.gmon().calls(), 1, "one look ends it");
-    assert_eq!(rt; run.gmon().state(), State::On);
-    takes_turns(&rt, rt.alloc(), &mut run, &[1])?;
-    assert!(rt;
-        !run.is_live(),
-        "the second hart's call is entered, and the budget used up"
-    );
-    Ok(())
+    expect_turns(&rt, rt.alloc(), &mut run)
 }
 
 /// A name, how many harts, and the plan; and the number of the hart that ends the run first, as its third
@@ -376,11 +441,8 @@ fn harts_take_turns_by_the_plan(rt: HostRuntime) -> Result<(), Fail> {
     for (name, harts, plan, status, retired) in FIRST_TO_END {
         let setup = setup_of(1_000, 100, harts, plan);
         let words = [NOP, EXIT, ECALL];
-        let mut run = started_at_text(&rt, rt.alloc(), &words, (None, None), setup).map_err(
-            |_| "start",
-        )?;
         let wanted = no_calls(End::Exit(status), retired, 0);
-        ends(&rt, rt.alloc(), name, &mut run, wanted)?;
+        text_ends(&rt, rt.alloc(), name, &words, (None, None), setup, wanted)?;
     }
     Ok(())
 }
@@ -402,30 +464,41 @@ fn arcs_run_out(rt: HostRuntime) -> Result<(), Fail> {
     let setup = setup_of(1_000, 60, 1, ROUND);
     let words = fifty_callees(rt.alloc())?;
     let hooks = (Some(0x0001_00D0), None);
-    let mut run = started_at_text(&rt, rt.alloc(), words.as_slice(), hooks, setup).map_err(
-        |_| "start",
-    )?;
     let wanted = calls_alone(60, 49, 0, State::Error);
-    ends(
+    let name = "the fiftieth has no place";
+    text_ends(
         &rt,
         rt.alloc(),
-        "the fiftieth has no place",
-        &mut run,
+        name,
+        words.as_slice(),
+        hooks,
+        setup,
         wanted,
     )
 }
 
+// These counters of a run hold so many samples.
+fn expect_samples(rt: &impl Abort, run: &Run, wanted: &[(u32, u16)]) {
+    for (i, count) in wanted {
+        assert_eq!(rt; count_at(run, *i), Some(*count), "counter {i}");
+    }
+}
+
 #[test]
-fn counters_of_samples(rt: HostRuntime) -> Result<(), Fail> {
+fn a_full_counter_stays_full(rt: HostRuntime) -> Result<(), Fail> {
     let setup = setup_of(1, 65_536, 1, ROUND);
     let mut run = started_at_text(&rt, rt.alloc(), &[ENDLESS], (None, None), setup).map_err(
         |_| "start",
     )?;
     let wanted = no_calls(End::Budget, 65_536, 65_536);
     ends(&rt, rt.alloc(), "65,536 samples", &mut run, wanted)?;
-    assert_eq!(rt; count_at(&run, 0), Some(65_535), "a counter is full there");
-    assert_eq!(rt; count_at(&run, 1), Some(0));
+    expect_samples(&rt, &run, &[(0, 65_535), (1, 0)]);
+    Ok(())
+}
 
+// The instruction that retired isn't sampled, but the next one; and the sample comes before the hook.
+#[test]
+fn samples_until_profiling_is_switched_off(rt: HostRuntime) -> Result<(), Fail> {
     let setup = setup_of(1, 10, 1, ROUND);
     let hooks = (None, Some(SWITCHES_MONCONTROL));
     let mut run = started_at_text(&rt, rt.alloc(), SWITCHES, hooks, setup).map_err(|_| "start")?;
@@ -437,144 +510,128 @@ fn counters_of_samples(rt: HostRuntime) -> Result<(), Fail> {
         lost: 0,
         state: State::Off,
     };
-    ends(
-        &rt,
-        rt.alloc(),
-        "profiling is switched off",
-        &mut run,
-        wanted,
-    )?;
-    assert_eq!(rt;
-        count_at(&run, 0),
-        Some(0),
-        "the instruction that retired isn't sampled"
-    );
-    assert_eq!(rt; count_at(&run, 1), Some(1), "but the next one");
-    assert_eq!(rt;
-        count_at(&run, 3),
-        Some(1),
-        "the sample comes before the hook"
-    );
+    ends(&rt, rt.alloc(), "switched off", &mut run, wanted)?;
+    expect_samples(&rt, &run, &[(0, 0), (1, 1), (3, 1)]);
+    Ok(())
+}
+
+/// A program, the call on the host that fails, how the run ends where none does, and what is printed on the
+/// output and on the error output.
+type Printing = (
+    &'static [u32],
+    Option<u64>,
+    Option<End>,
+    &'static [u8],
+    &'static [u8],
+);
+
+/// The first bytes of both programs, which these print.
+const OUTPUT: &[u8] = &[0x13, 0x05, 0x10, 0x00];
+
+const ERROR_OUTPUT: &[u8] = &[0x13, 0x05, 0x20, 0x00];
+
+const PRINTINGS: [Printing; 4] = [
+    (PRINTS, None, Some(End::Exit(4)), OUTPUT, &[]),
+    (COMPLAINS, None, Some(End::Exit(4)), &[], ERROR_OUTPUT),
+    (PRINTS, Some(0), None, &[], &[]),
+    (COMPLAINS, Some(0), None, &[], &[]),
+];
+
+// A run ends so, or a print of it fails.
+fn expect_end(rt: &impl Abort, run: &mut Run, host: &mut MemHost, wanted: Option<End>) {
+    assert!(rt; run.is_live());
+    let end = run.drive(host);
+    assert!(rt; !run.is_live());
+    assert_eq!(rt; end.ok(), wanted);
+}
+
+fn expect_printed(rt: &impl Abort, host: &MemHost, out: &[u8], err: &[u8]) {
+    assert_eq!(rt; host.printed(), out);
+    assert_eq!(rt; host.errors(), err);
+}
+
+fn prints(rt: &impl Abort, alloc: Global, printing: Printing) -> Result<(), Fail> {
+    let (words, fails, end, out, err) = printing;
+    let setup = setup_of(1_000, 100, 1, ROUND);
+    let mut run = started_at_text(rt, alloc, words, (None, None), setup).map_err(|_| "start")?;
+    let mut host = MemHost::new(alloc);
+    if let Some(call) = fails {
+        host.fail_at(call)?;
+    }
+    expect_end(rt, &mut run, &mut host, end);
+    expect_printed(rt, &host, out, err);
     Ok(())
 }
 
 #[test]
 fn programs_that_print(rt: HostRuntime) -> Result<(), Fail> {
-    for (words, fails) in [
-        (PRINTS, false),
-        (COMPLAINS, false),
-        (PRINTS, true),
-        (COMPLAINS, true),
-    ] {
-        let setup = setup_of(1_000, 100, 1, ROUND);
-        let mut run = started_at_text(&rt, rt.alloc(), words, (None, None), setup).map_err(
-            |_| "start",
-        )?;
-        let mut host = MemHost::new(rt.alloc());
-        if fails {
-            host.fail_at(0)?;
-        }
-        assert!(rt; run.is_live());
-        let end = run.drive(&mut host);
-        assert!(rt; !run.is_live());
-        assert_eq!(rt; end.is_err(), fails);
-        assert_eq!(rt; end.ok(), if fails { None } else { Some(End::Exit(4)) });
-        assert!(rt; 1 <= words.len());
-        let first = words[0].to_le_bytes();
-        let nothing: &[u8] = &[];
-        let on_output = words[0] == PRINTS[0];
-        assert!(rt;
-            host.printed()
-                == if on_output && !fails {
-                    first.as_slice()
-                } else {
-                    nothing
-                }
-        );
-        assert!(rt;
-            host.errors()
-                == if !on_output && !fails {
-                    first.as_slice()
-                } else {
-                    nothing
-                }
-        );
+    for printing in PRINTINGS {
+        prints(&rt, rt.alloc(), printing)?;
     }
     Ok(())
 }
 
-#[test]
-fn memory_at_the_start(rt: HostRuntime) -> Result<(), Fail> {
+// A run of a file of these words, which comes to this end after so many instructions.
+fn file_ends(
+    rt: &impl Abort,
+    alloc: Global,
+    name: &str,
+    entry: u32,
+    segments: &[Segment],
+    words: &[u32],
+    wanted: RunSummary,
+) -> Result<(), Fail> {
     let setup = setup_of(1, 10, 1, ROUND);
-    let behind = [Segment {
-        addr: 0x0001_00FC,
+    let mut run = started(rt, alloc, entry, segments, words, (None, None), setup).map_err(
+        |_| "start",
+    )?;
+    ends(rt, alloc, name, &mut run, wanted)
+}
+
+/// Eight bytes of a file, of which the text ends behind the first four.
+const BEHIND: [Segment; 1] = [Segment {
+    addr: 0x0001_00FC,
+    offset: 0,
+    filesz: 8,
+    memsz: 8,
+}];
+
+const OVERLAPPING: [Segment; 2] = [
+    Segment {
+        addr: 0x0001_0000,
         offset: 0,
         filesz: 8,
         memsz: 8,
-    }];
-    let words = [NOP, ENDLESS];
-    let mut run = started(
-        &rt,
-        rt.alloc(),
-        0x0001_00FC,
-        &behind,
-        &words,
-        (None, None),
-        setup,
-    )
-    .map_err(|_| "start")?;
+    },
+    Segment {
+        addr: 0x0001_0004,
+        offset: 8,
+        filesz: 4,
+        memsz: 8,
+    },
+];
+
+#[test]
+fn memory_at_the_start(rt: HostRuntime) -> Result<(), Fail> {
+    let name = "no sample behind the text counts";
     let wanted = no_calls(End::Budget, 10, 0);
-    ends(
-        &rt,
-        rt.alloc(),
-        "no sample behind the text counts",
-        &mut run,
-        wanted,
-    )?;
-
-    let overlapping = [
-        Segment {
-            addr: 0x0001_0000,
-            offset: 0,
-            filesz: 8,
-            memsz: 8,
-        },
-        Segment {
-            addr: 0x0001_0004,
-            offset: 8,
-            filesz: 4,
-            memsz: 8,
-        },
-    ];
-    let words = [NO_INSTRUCTION, EBREAK, NOP];
-    let mut run = started(
-        &rt,
-        rt.alloc(),
-        0x0001_0004,
-        &overlapping,
-        &words,
-        (None, None),
-        setup,
-    )
-    .map_err(|_| "start")?;
+    let words = [NOP, ENDLESS];
+    file_ends(&rt, rt.alloc(), name, 0x1_00FC, &BEHIND, &words, wanted)?;
+    let name = "a later segment overwrites";
     let wanted = no_calls(End::Trap(TrapKind::Illegal, 0x1_0008), 1, 1);
-    ends(
+    let words = [NO_INSTRUCTION, EBREAK, NOP];
+    file_ends(
         &rt,
         rt.alloc(),
-        "a later segment overwrites",
-        &mut run,
+        name,
+        0x1_0004,
+        &OVERLAPPING,
+        &words,
         wanted,
     )?;
-
-    let mut run = started(&rt, rt.alloc(), 0, &[], &[], (None, None), setup).map_err(|_| "start")?;
+    let name = "with no segment memory is zero";
     let wanted = no_calls(End::Trap(TrapKind::Illegal, 0), 0, 0);
-    ends(
-        &rt,
-        rt.alloc(),
-        "with no segment memory is zero",
-        &mut run,
-        wanted,
-    )
+    file_ends(&rt, rt.alloc(), name, 0, &[], &[], wanted)
 }
 
 /// A name, the entry, and the address and bytes of a segment that has a word in the file; and why a run
@@ -675,25 +732,37 @@ const STARTS: [(&str, u32, u32, u32, Option<StartRefusal>); 12] = [
     ),
 ];
 
+// Why a run doesn't start, if it doesn't.
+fn refusal_of(
+    rt: &impl Abort,
+    alloc: Global,
+    entry: u32,
+    addr: u32,
+    memsz: u32,
+) -> Option<StartRefusal> {
+    let segment = Segment {
+        addr,
+        offset: 0,
+        filesz: 4,
+        memsz,
+    };
+    let setup = setup_of(1, 1, 1, ROUND);
+    started(
+        rt,
+        alloc,
+        entry,
+        &[segment],
+        &[ENDLESS],
+        (None, None),
+        setup,
+    )
+    .err()
+}
+
 #[test]
 fn starts_that_are_refused(rt: HostRuntime) {
     for (name, entry, addr, memsz, refusal) in STARTS {
-        let segment = Segment {
-            addr,
-            offset: 0,
-            filesz: 4,
-            memsz,
-        };
-        let setup = setup_of(1, 1, 1, ROUND);
-        let run = started(
-            &rt,
-            rt.alloc(),
-            entry,
-            &[segment],
-            &[ENDLESS],
-            (None, None),
-            setup,
-        );
-        assert_eq!(rt; run.err(), refusal, "{name}");
+        let answer = refusal_of(&rt, rt.alloc(), entry, addr, memsz);
+        assert_eq!(rt; answer, refusal, "{name}");
     }
 }

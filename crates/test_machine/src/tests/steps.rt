@@ -6,6 +6,7 @@ use rv_step::Stepped::*;
 use rv_step::TrapKind::*;
 use rv_step::{Ram, Regs, Stepped, step};
 use std::alloc::{AllocError, Global};
+use std::process::Abort;
 use std::test::Fail;
 
 /// A word, what x1 and x2 hold before it, and x3 after it.
@@ -162,14 +163,29 @@ fn registers(x1: u32, x2: u32) -> Regs {
     regs
 }
 
+// One step of a hart with these registers x1 and x2, by a word at 0x10000.
+fn stepped(ram: &mut Ram, x1: u32, x2: u32) -> (Stepped, Regs) {
+    let mut regs = registers(x1, x2);
+    let answer = step(&mut regs, ram);
+    (answer, regs)
+}
+
+// The answer of a step, and pc, x1 and x3 after it.
+fn step_of(alloc: Global, word: u32, x1: u32, x2: u32) -> Result<(Stepped, [u32; 3]), AllocError> {
+    let mut ram = memory(alloc, word)?;
+    let (answer, regs) = stepped(&mut ram, x1, x2);
+    Ok((answer, [regs.pc(), regs.get(1), regs.get(3)]))
+}
+
 #[test]
 fn results(rt: HostRuntime) -> Result<(), Fail> {
     for (word, x1, x2, x3) in RESULTS {
-        let mut ram = memory(rt.alloc(), word)?;
-        let mut regs = registers(x1, x2);
-        assert_eq!(rt; step(&mut regs, &mut ram), Retired, "{word:08x} of {x1:x}");
-        assert_eq!(rt; regs.get(3), x3, "{word:08x} of {x1:x}");
-        assert_eq!(rt; regs.pc(), 0x1_0004, "{word:08x} of {x1:x}");
+        let after = step_of(rt.alloc(), word, x1, x2)?;
+        assert_eq!(rt;
+            after,
+            (Retired, [0x1_0004, x1, x3]),
+            "{word:08x} of {x1:x}"
+        );
     }
     Ok(())
 }
@@ -177,12 +193,8 @@ fn results(rt: HostRuntime) -> Result<(), Fail> {
 #[test]
 fn jumps(rt: HostRuntime) -> Result<(), Fail> {
     for (word, x1, x2, answer, pc, x3) in JUMPS {
-        let mut ram = memory(rt.alloc(), word)?;
-        let mut regs = registers(x1, x2);
-        assert_eq!(rt; step(&mut regs, &mut ram), answer, "{word:08x} of {x1:x}");
-        assert_eq!(rt; regs.pc(), pc, "{word:08x} of {x1:x}");
-        assert_eq!(rt; regs.get(1), x1, "{word:08x} of {x1:x}");
-        assert_eq!(rt; regs.get(3), x3, "{word:08x} of {x1:x}");
+        let after = step_of(rt.alloc(), word, x1, x2)?;
+        assert_eq!(rt; after, (answer, [pc, x1, x3]), "{word:08x} of {x1:x}");
     }
     Ok(())
 }
@@ -190,57 +202,71 @@ fn jumps(rt: HostRuntime) -> Result<(), Fail> {
 #[test]
 fn loads(rt: HostRuntime) -> Result<(), Fail> {
     for (word, x1, answer, x3) in LOADS {
-        let mut ram = memory(rt.alloc(), word)?;
-        let mut regs = registers(x1, 0);
-        assert_eq!(rt; step(&mut regs, &mut ram), answer, "{word:08x} of {x1:x}");
-        assert_eq!(rt; regs.get(3), x3, "{word:08x} of {x1:x}");
+        let (told, [_, _, loaded]) = step_of(rt.alloc(), word, x1, 0)?;
+        assert_eq!(rt; (told, loaded), (answer, x3), "{word:08x} of {x1:x}");
     }
     Ok(())
+}
+
+// The answer of a step, and the last word of memory after it.
+fn store_of(alloc: Global, word: u32, x1: u32) -> Result<(Stepped, Option<[u8; 4]>), AllocError> {
+    let mut ram = memory(alloc, word)?;
+    let (answer, _) = stepped(&mut ram, x1, 0x1234_5678);
+    Ok((answer, last_of(&ram)))
+}
+
+fn last_of(ram: &Ram) -> Option<[u8; 4]> {
+    match ram.slice(0x1_0FFC, 4) {
+        Some([a, b, c, d]) => Some([*a, *b, *c, *d]),
+        _ => None,
+    }
 }
 
 #[test]
 fn stores(rt: HostRuntime) -> Result<(), Fail> {
     for (word, x1, answer, last) in STORES {
-        let mut ram = memory(rt.alloc(), word)?;
-        let mut regs = registers(x1, 0x1234_5678);
-        assert_eq!(rt; step(&mut regs, &mut ram), answer, "{word:08x} of {x1:x}");
-        let bytes = ram.slice(0x1_0FFC, 4).ok_or("inside")?;
-        assert_eq!(rt; bytes, le4(last).as_slice(), "{word:08x} of {x1:x}");
+        let after = store_of(rt.alloc(), word, x1)?;
+        assert_eq!(rt; after, (answer, Some(le4(last))), "{word:08x} of {x1:x}");
     }
     Ok(())
 }
 
+// x0 stays 0: after `addi x0, x0, 5`, and when it is set.
+fn expect_zero(rt: &impl Abort, ram: &mut Ram) {
+    let mut regs = Regs::new(0x1_0000);
+    assert_eq!(rt; step(&mut regs, ram), Retired);
+    assert_eq!(rt; regs.get(0), 0);
+    regs.set(0, 7);
+    assert_eq!(rt; regs.get(0), 0);
+}
+
+// `jalr x1, 8(x1)` reads before it writes. Fetches reach to the last byte, and begin at the first one.
+fn expect_fetches(rt: &impl Abort, ram: &mut Ram) {
+    let mut regs = registers(0x2_0000, 0);
+    assert_eq!(rt; step(&mut regs, ram), Retired);
+    assert_eq!(rt; (regs.pc(), regs.get(1)), (0x2_0008, 0x1_0004));
+    for pc in [0x1_0FFD, 0xFFFC] {
+        regs.set_pc(pc);
+        assert_eq!(rt; step(&mut regs, ram), Trap(FetchOutside), "at {pc:x}");
+        assert_eq!(rt; regs.pc(), pc);
+    }
+}
+
 #[test]
 fn registers_and_pc(rt: HostRuntime) -> Result<(), Fail> {
-    // addi x0, x0, 5
     let mut ram = memory(rt.alloc(), 0x0050_0013)?;
-    let mut regs = Regs::new(0x1_0000);
-    assert_eq!(rt; step(&mut regs, &mut ram), Retired);
-    assert_eq!(rt; regs.get(0), 0, "x0 stays 0");
-    regs.set(0, 7);
-    assert_eq!(rt; regs.get(0), 0, "x0 stays 0");
-
-    // jalr x1, 8(x1)
+    expect_zero(&rt, &mut ram);
     let mut ram = memory(rt.alloc(), 0x0080_80E7)?;
-    let mut regs = registers(0x2_0000, 0);
-    assert_eq!(rt; step(&mut regs, &mut ram), Retired);
-    assert_eq!(rt; regs.pc(), 0x2_0008, "jalr reads before it writes");
-    assert_eq!(rt; regs.get(1), 0x1_0004, "jalr writes");
-
-    regs.set_pc(0x1_0FFD);
-    assert_eq!(rt;
-        step(&mut regs, &mut ram),
-        Trap(FetchOutside),
-        "the last byte is outside"
-    );
-    assert_eq!(rt; regs.pc(), 0x1_0FFD);
-    regs.set_pc(0xFFFC);
-    assert_eq!(rt;
-        step(&mut regs, &mut ram),
-        Trap(FetchOutside),
-        "before the first byte"
-    );
+    expect_fetches(&rt, &mut ram);
     Ok(())
+}
+
+// Bytes behind others, and zeros where the file has none.
+fn expect_segments(rt: &impl Abort, ram: &Ram) {
+    assert_eq!(rt; ram.slice(0x100, 8), Some(b"\0\0BCAB\0\0".as_slice()));
+    assert_eq!(rt; ram.slice(0x10F, 1), Some(b"\0".as_slice()));
+    assert_eq!(rt; ram.slice(0x10F, 2), None, "past the end");
+    assert_eq!(rt; ram.slice(0xFF, 2), None, "before the start");
 }
 
 #[test]
@@ -260,10 +286,6 @@ fn segments_in_table_order(rt: HostRuntime) -> Result<(), Fail> {
     let image = image_of(rt.alloc(), first, second)?;
     let mut ram = Ram::new(rt.alloc(), 0x100, 16)?;
     ram.load_image(&image, b"ABCDE");
-    let bytes = ram.slice(0x100, 8).ok_or("inside")?;
-    assert_eq!(rt; bytes, b"\0\0BCAB\0\0".as_slice());
-    assert_eq!(rt; ram.slice(0x10F, 1), Some(b"\0".as_slice()));
-    assert_eq!(rt; ram.slice(0x10F, 2), None, "past the end");
-    assert_eq!(rt; ram.slice(0xFF, 2), None, "before the start");
+    expect_segments(&rt, &ram);
     Ok(())
 }

@@ -4,12 +4,13 @@ ghost use Rattle.elf32_syms.specs.Owners.{IsAscending};
 ghost use Rattle.arc_filter.specs.Cuts.{is_cut_word as spec};
 
 use crate::{
-    Rows, name_of, profile_of_calls, profile_of_rows, push_symbol, ring_of_calls, seconds,
+    PER_100, Rows, name_of, profile_of_calls, profile_of_rows, push_symbol, ring_of_calls,
 };
 use arc_filter::{cut, is_cut_word};
-use elf32_syms::SymbolList;
+use elf32_syms::{Symbol, SymbolList};
 use gmon_data::Profile;
 use std::alloc::{AllocError, Global};
+use std::process::Abort;
 use std::test::Fail;
 
 /// So many functions of 16 addresses each. They have these names in turn.
@@ -85,95 +86,144 @@ const CALLS: [(u16, u16, u64); 5] = [(0, 1, 1), (1, 2, 5), (2, 1, 4), (2, 2, 2),
 
 const NAMES: [&str; 4] = ["main", "a", "b", "a"];
 
-#[test]
-fn arcs_that_stay(rt: HostRuntime) -> Result<(), Fail> {
-    let all = "10004>10010:1 10014>10020:5 10024>10010:4 10024>10020:2 10034>10020:9 ";
-    let rows = [
-        ("no words", [].as_slice(), all),
-        (
-            "one pair",
-            &["b/a"],
-            "10004>10010:1 10014>10020:5 10024>10020:2 10034>10020:9 ",
-        ),
-        (
-            "all functions of a name",
-            &["a/b"],
-            "10004>10010:1 10024>10010:4 10024>10020:2 ",
-        ),
-        (
-            "calls of a function by itself",
-            &["b/b"],
-            "10004>10010:1 10014>10020:5 10024>10010:4 10034>10020:9 ",
-        ),
-        (
-            "each of the words",
-            &["b/a", "main/a", "a/b"],
-            "10024>10020:2 ",
-        ),
-        (
-            "a word twice",
-            &["main/a", "main/a"],
-            "10014>10020:5 10024>10010:4 10024>10020:2 10034>10020:9 ",
-        ),
-        (
-            "names that no symbol has",
-            &["c/a", "b/c", "mai/a", "main/aa"],
-            all,
-        ),
-        (
-            "a name with a slash behind the first one",
-            &["b/a/b", "b/b/"],
-            all,
-        ),
-    ];
-    let symbols = symbols(rt.alloc(), 4, &NAMES)?;
-    let whole = profile_of_calls(rt.alloc(), &CALLS)?;
-    for (message, words, want) in rows {
-        let cuts = cuts_of(rt.alloc(), words)?;
-        let left = cut(rt.alloc(), &whole, symbols.as_slice(), cuts.as_slice())?;
-        assert_eq!(rt; arcs_text(rt.alloc(), &left)?.as_str(), want, "{message}");
+/// What a row shows, words, and the arcs that stay.
+type Row = (&'static str, &'static [&'static str], &'static str);
+
+const ALL: &str = "10004>10010:1 10014>10020:5 10024>10010:4 10024>10020:2 10034>10020:9 ";
+
+const ROWS: [Row; 8] = [
+    ("no words", &[], ALL),
+    (
+        "one pair",
+        &["b/a"],
+        "10004>10010:1 10014>10020:5 10024>10020:2 10034>10020:9 ",
+    ),
+    (
+        "all functions of a name",
+        &["a/b"],
+        "10004>10010:1 10024>10010:4 10024>10020:2 ",
+    ),
+    (
+        "calls of a function by itself",
+        &["b/b"],
+        "10004>10010:1 10014>10020:5 10024>10010:4 10034>10020:9 ",
+    ),
+    (
+        "each of the words",
+        &["b/a", "main/a", "a/b"],
+        "10024>10020:2 ",
+    ),
+    (
+        "a word twice",
+        &["main/a", "main/a"],
+        "10014>10020:5 10024>10010:4 10024>10020:2 10034>10020:9 ",
+    ),
+    (
+        "names that no symbol has",
+        &["c/a", "b/c", "mai/a", "main/aa"],
+        ALL,
+    ),
+    (
+        "a name with a slash behind the first one",
+        &["b/a/b", "b/b/"],
+        ALL,
+    ),
+];
+
+/// A profile without the calls that words cut.
+fn cut_by(
+    alloc: Global,
+    symbols: &[Symbol],
+    whole: &Profile,
+    words: &[&str],
+) -> Result<Profile, AllocError>
+    requires { IsAscending symbols.now }
+{
+    let cuts = cuts_of(alloc, words)?;
+    cut(alloc, whole, symbols, cuts.as_slice())
+}
+
+/// The arcs that stay of a row.
+fn left_text(
+    alloc: Global,
+    symbols: &[Symbol],
+    whole: &Profile,
+    words: &[&str],
+) -> Result<String, AllocError>
+    requires { IsAscending symbols.now }
+{
+    let left = cut_by(alloc, symbols, whole, words)?;
+    arcs_text(alloc, &left)
+}
+
+/// The rows have their arcs.
+fn expect_rows(
+    rt: &impl Abort,
+    alloc: Global,
+    symbols: &[Symbol],
+    whole: &Profile,
+) -> Result<(), AllocError>
+    requires { IsAscending symbols.now }
+{
+    for (message, words, want) in ROWS {
+        let text = left_text(alloc, symbols, whole, words)?;
+        assert_eq!(rt; text.as_str(), want, "{message}");
     }
     Ok(())
 }
 
 #[test]
-fn samples_and_executions_stay(rt: HostRuntime) -> Result<(), Fail> {
+fn arcs_that_stay(rt: HostRuntime) -> Result<(), Fail> {
     let symbols = symbols(rt.alloc(), 4, &NAMES)?;
-    let rows = Rows {
-        hists: &[(0x1_0000, 0x1_0040, 3)],
-        unit: seconds(100),
-        arcs: &[(0x1_0004, 0x1_0010, 7)],
-        blocks: &[(0x1_0010, 5)],
-    };
-    let whole = profile_of_rows(rt.alloc(), rows)?;
-    let cuts = cuts_of(rt.alloc(), &["main/a"])?;
-    let left = cut(rt.alloc(), &whole, symbols.as_slice(), cuts.as_slice())?;
-    assert_eq!(rt; left.samples(), 3);
-    assert_eq!(rt; left.blocks(), 5);
-    assert_eq!(rt; left.calls(), 0);
-    assert_eq!(rt; left.arc_count(), 0);
+    let whole = profile_of_calls(rt.alloc(), &CALLS)?;
+    expect_rows(&rt, rt.alloc(), symbols.as_slice(), &whole)?;
+    Ok(())
+}
+
+/// Samples, calls by `main` of `a`, and executions.
+const SOME: Rows<'static> = Rows {
+    hists: &[(0x1_0000, 0x1_0040, 3)],
+    unit: PER_100,
+    arcs: &[(0x1_0004, 0x1_0010, 7)],
+    blocks: &[(0x1_0010, 5)],
+};
+
+fn expect_calls_gone(rt: &impl Abort, left: &Profile, whole: &Profile) {
+    assert_eq!(rt; (left.samples(), left.blocks()), (3, 5));
+    assert_eq!(rt; (left.calls(), left.arc_count()), (0, 0));
     assert_eq!(rt; left.unit(), whole.unit());
     assert_eq!(rt; whole.calls(), 7);
+}
+
+#[test]
+fn samples_and_executions_stay(rt: HostRuntime) -> Result<(), Fail> {
+    let symbols = symbols(rt.alloc(), 4, &NAMES)?;
+    let whole = profile_of_rows(rt.alloc(), SOME)?;
+    let left = cut_by(rt.alloc(), symbols.as_slice(), &whole, &["main/a"])?;
+    expect_calls_gone(&rt, &left, &whole);
     Ok(())
+}
+
+const SIXTEEN_NAMES: [&str; 16] = [
+    "f0", "f1", "f2", "f3", "f4", "f5", "f6", "f7", "f8", "f9", "fa", "fb", "fc", "fd", "fe", "ff",
+];
+
+const SIXTEEN_WORDS: [&str; 16] = [
+    "f0/f1", "f1/f2", "f2/f3", "f3/f4", "f4/f5", "f5/f6", "f6/f7", "f7/f8", "f8/f9", "f9/fa",
+    "fa/fb", "fb/fc", "fc/fd", "fd/fe", "fe/ff", "ff/ff",
+];
+
+fn expect_fewer(rt: &impl Abort, left: &Profile) {
+    assert_eq!(rt; left.arc_count(), 2_097_152 - 16 * 8_192);
+    assert_eq!(rt; left.calls(), 2_097_152 - 16 * 8_192);
 }
 
 /// Each of sixteen words cuts two calls of every sixteenth function.
 #[test]
 fn sixteen_cuts_in_two_million_arcs(rt: HostRuntime) -> Result<(), Fail> {
-    let names = [
-        "f0", "f1", "f2", "f3", "f4", "f5", "f6", "f7", "f8", "f9", "fa", "fb", "fc", "fd", "fe",
-        "ff",
-    ];
-    let words = [
-        "f0/f1", "f1/f2", "f2/f3", "f3/f4", "f4/f5", "f5/f6", "f6/f7", "f7/f8", "f8/f9", "f9/fa",
-        "fa/fb", "fb/fc", "fc/fd", "fd/fe", "fe/ff", "ff/ff",
-    ];
-    let symbols = symbols(rt.alloc(), 65_536, &names)?;
+    let symbols = symbols(rt.alloc(), 65_536, &SIXTEEN_NAMES)?;
     let whole = ring_of_calls(rt.alloc(), 16, false)?;
-    let cuts = cuts_of(rt.alloc(), &words)?;
-    assert_eq!(rt; cuts.len(), 16);
-    let left = cut(rt.alloc(), &whole, symbols.as_slice(), cuts.as_slice())?;
-    assert_eq!(rt; left.arc_count(), 2_097_152 - 16 * 8_192);
-    assert_eq!(rt; left.calls(), 2_097_152 - 16 * 8_192);
+    let left = cut_by(rt.alloc(), symbols.as_slice(), &whole, &SIXTEEN_WORDS)?;
+    expect_fewer(&rt, &left);
     Ok(())
 }
