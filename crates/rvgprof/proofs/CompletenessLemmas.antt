@@ -9,7 +9,7 @@ use Rattle.host_port.specs.Performing.{ActFailed, FailedAt}
 use Rattle.rvgprof.specs.declared.outcome.Done.{Done}
 use Rattle.rvgprof.specs.declared.outcome.Fault.{Fault}
 use Rattle.rvgprof.specs.declared.outcome.Fault.TheVariants.{Usage, ReadFault, WriteFault, OutOfMemory, TooLarge}
-use Rattle.rvgprof.specs.declared.words.Command.{Command}
+use Rattle.command_words.specs.declared.words.Command.{Command}
 use Rattle.rvgprof.specs.Texts.{last_line}
 use Rattle.rvgprof.specs.Course.{Course, Ends, Input, Does, Reply, reply_to, inputs_of, MayStop}
 use Rattle.rvgprof.specs.Answer.{command_course, course_of, contents_of}

@@ -5,7 +5,7 @@ use Rattle.host_port.specs.Outside.{Outside}
 use Rattle.rvgprof.specs.declared.outcome.Done.{Done}
 use Rattle.rvgprof.specs.declared.outcome.Fault.{Fault}
 use Rattle.rvgprof.specs.declared.outcome.Fault.TheVariants.{OutOfMemory}
-use Rattle.rvgprof.specs.Words.{command_of}
+use Rattle.command_words.specs.Words.{command_of}
 use Rattle.rvgprof.specs.Answer.{contents_of}
 use Rattle.rvgprof.specs.Contract.{Answered, WhereTold}
 use Rattle.rvgprof.specs.Completeness.{NoneFailed}

@@ -42,19 +42,20 @@ use Rattle.prof_machine.specs.Value.{summary_of}
 use Rattle.rvgprof.specs.declared.outcome.Done.{Done}
 use Rattle.rvgprof.specs.declared.outcome.Fault.{Fault}
 use Rattle.rvgprof.specs.declared.outcome.Fault.TheVariants.{BadElf, BadProfile, TooLarge, Unlike}
-use Rattle.rvgprof.specs.declared.words.Command.{Command}
-use Rattle.rvgprof.specs.declared.words.Command.TheVariants.{Show, Syms, Run, Sum, Report, Profile, Demo, Annotate, Folded, Help, Version}
+use Rattle.command_words.specs.declared.words.Command.{Command}
+use Rattle.command_words.specs.declared.words.Command.TheVariants.{Show, Syms, Run, Sum, Report, Profile, Demo, Annotate, Folded, Help, Version}
 use Rattle.arc_filter.specs.Cuts.{without_cuts}
 use Rattle.exact_flow.specs.Solution.{exact_flow_in}
 use Rattle.flat_report.specs.Sources.{AreOfOne, Sources}
 use Rattle.graph_report.specs.ExactText.{exact_text}
-use Rattle.rvgprof.specs.declared.words.Selection.{Selection}
-use Rattle.rvgprof.specs.declared.words.Shown.{Shown}
-use Rattle.rvgprof.specs.declared.words.Shown.TheVariants as shows
-use Rattle.rvgprof.specs.Items.{name_of}
-use Rattle.rvgprof.specs.Words.{command_of}
+use Rattle.command_words.specs.declared.words.Selection.{Selection}
+use Rattle.command_words.specs.declared.words.Shown.{Shown}
+use Rattle.command_words.specs.declared.words.Shown.TheVariants as shows
+use Rattle.command_words.specs.Items.{name_of}
+use Rattle.command_words.specs.Words.{command_of}
 use Rattle.rvgprof.specs.Course.{Course, Ends, Input, Does, Reply, unless, behind, reply_to}
-use Rattle.rvgprof.specs.Answer.{Chosen, RunFiles, all_reports, annotate_course, chosen_by, command_course, contents_of, ended, exact_report, file_acts, file_records, file_refusal, files_named, given_file_acts, list_profiles, print_reports, profile_in, profiles, program, report_course, report_profiles, report_run, run_acts, run_program, shown_reports, start_fault_of, told, too_wide, wide_step, written_profile}
+use Rattle.gmon_files.specs.Forms.{file_records, file_refusal}
+use Rattle.rvgprof.specs.Answer.{Chosen, RunFiles, all_reports, annotate_course, chosen_by, command_course, contents_of, ended, exact_report, file_acts, files_named, given_file_acts, list_profiles, print_reports, profile_in, profiles, program, report_course, report_profiles, report_run, run_acts, run_program, shown_reports, start_fault_of, told, too_wide, wide_step, written_profile}
 use Rattle.rvgprof.specs.Reports.{profile_sources}
 use Rattle.rvgprof.specs.Contract.{WhereTold, Answered}
 use Rattle.rvgprof.specs.Acceptance.{IsProgramFile, IsAccepted, Starts, records_of, total_of}

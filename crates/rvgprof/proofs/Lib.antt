@@ -1,9 +1,3 @@
-pub mod FileReading
-pub mod Numerals
-pub mod ItemLemmas
-pub mod WordLemmas
-pub mod PlaceLemmas
-pub mod LineLengths
 pub mod Standing
 pub mod ToldLemmas
 pub mod Accepting
@@ -21,7 +15,6 @@ pub mod TellingLemmas
 pub mod FileLemmas
 pub mod RunFileLemmas
 pub mod HeadlineLemmas
-pub mod Showable
 pub mod FindingLemmas
 pub mod Profiling
 pub mod DemoLemmas

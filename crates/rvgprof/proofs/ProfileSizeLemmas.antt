@@ -1,43 +1,16 @@
--- What a profile that was read from so many bytes holds at most.
+-- How much the sum of two profiles holds at most.
 use Rattle.std.proofs.Common.{◌≡◌, ℕ, ◌+◌, ◌≤◌, Bool, nat_eq, List, [], ◌∷◌, length, fold, sum, arith}
-use Rattle.std.specs.List.{All, AllByRecursion, sum_by}
-use Rattle.std.proofs.lemmas.List.Elements.{All-from_recursion}
+use Rattle.std.specs.List.{sum_by}
 use Rattle.std.proofs.lemmas.List.Sums.{sum_by-cons}
-use Rattle.gp_base.specs.declared.records.Records.{Records}
-use Rattle.gp_base.specs.declared.records.Form.{Form}
-use Rattle.gp_base.specs.declared.records.Form.TheVariants.{Bsd, Gnu}
-use Rattle.gp_base.specs.Spans.{HasRange}
 use Rattle.gmon_data.specs.declared.hist.Hist.{Hist}
 use Rattle.gmon_data.specs.Hists.{put_hist, samples_of}
 use Rattle.gmon_data.specs.Tally.{tally, total_of}
-use Rattle.gmon_data.specs.Content.{Content, empty_content, same_pair, wide_records, with_records}
+use Rattle.gmon_data.specs.Content.{Content, same_pair}
 use Rattle.gmon_data.specs.Sizes.{IsOfBytes}
 use Rattle.gmon_data.proofs.BoundLemmas.{counters_at_most, tally_at_most}
 use Rattle.gmon_data.proofs.HistLemmas.{samples-put}
 use Rattle.gmon_data.proofs.TallyLemmas.{sum-tally}
-use Rattle.gmon_bsd.proofs.SizeLemmas as bsd
-use Rattle.gmon_gnu.proofs.SizeLemmas as gnu
 use Rattle.profile_sum.specs.Sum.{sum_of}
-use Rattle.rvgprof.specs.FileSpelling.{FileSpells, SpellsIn}
-use Rattle.rvgprof.specs.Answer.{form_of}
-
-pub of_file : (bytes : List ℕ) (r : Records) → FileSpells bytes r → IsOfBytes (length bytes) (with_records (wide_records r.recs) empty_content)
-of_file bytes r spells = by (form_of bytes) spells
-  where
-    by : (form : Form) → SpellsIn form bytes r → IsOfBytes (length bytes) (with_records (wide_records r.recs) empty_content)
-    by Bsd spells = bsd.of_spelling bytes r spells
-    by Gnu spells = gnu.of_spelling bytes r spells
-
--- ---- histograms with counters have a range
-
-pub ranges_of_file : (bytes : List ℕ) (r : Records) → FileSpells bytes r → All HasRange r.recs
-ranges_of_file bytes r spells = All-from_recursion HasRange r.recs (by (form_of bytes) spells)
-  where
-    by : (form : Form) → SpellsIn form bytes r → AllByRecursion HasRange r.recs
-    by Bsd spells = bsd.have_ranges bytes r spells
-    by Gnu spells = gnu.have_ranges r.recs spells.recs_fit
-
--- ---- sums
 
 hists_sum : (qs ps : List Hist) → samples_of (fold (λ done h. put_hist h done) ps qs) ≡ samples_of ps + samples_of qs
 hists_sum [] ps = omega arith

@@ -18,7 +18,7 @@ use Rattle.gmon_bsd.specs.Reading.{arc_count, bsd_refusal, counter_count, high_o
 use Rattle.gmon_bsd.specs.Fields.{version as bsd_version}
 use Rattle.gmon_gnu.specs.Fields.{version as gnu_version}
 use Rattle.gmon_gnu.specs.Reading.{Front, Refused, Found, after_front, behind, body_front, gnu_refusal, hist_of_fields, pairs_front, recs_from, refusal_in as found_in}
-use Rattle.rvgprof.specs.Answer.{file_refusal, form_of, refusal_in}
+use Rattle.gmon_files.specs.Forms.{file_refusal, form_of, refusal_in}
 
 abbrev pub ElfNamed : Option ElfRefusal → Type 0
 ElfNamed (Some elf.OutOfMemory) = ⊥

@@ -13,8 +13,8 @@ use Rattle.flat_report.specs.declared.refusal.ReportRefusal.{ReportRefusal}
 use Rattle.flat_report.specs.declared.refusal.ReportRefusal.TheVariants as reports
 use Rattle.host_port.specs.Act.{Act, Out}
 use Rattle.rvgprof.specs.Course.{Course, Does, MayStop}
-use Rattle.rvgprof.specs.declared.words.Shown.{Shown}
-use Rattle.rvgprof.specs.declared.words.Shown.TheVariants as shows
+use Rattle.command_words.specs.declared.words.Shown.{Shown}
+use Rattle.command_words.specs.declared.words.Shown.TheVariants as shows
 use Rattle.host_port.specs.Outside.{Outside}
 use Rattle.host_port.specs.declared.side.Side.TheVariants.{Output}
 use Rattle.host_port.proofs.PerformingLemmas.{puts_performs}

@@ -47,8 +47,9 @@ use Rattle.prof_machine.specs.Start.{machine_of}
 use Rattle.prof_machine.specs.World.{World}
 use Rattle.prof_machine.proofs.NotedLemmas.{as_many}
 use Rattle.prof_machine.proofs.RunLemmas.{plan_ends, timed_budget, timed_exit, timed_trap}
-use Rattle.rvgprof.specs.Answer.{counts_text, file_records, form_of, profile_bytes, profile_in, records_in, refusal_in, run_text}
-use Rattle.rvgprof.specs.Words.{may_count}
+use Rattle.gmon_files.specs.Forms.{file_records, form_of, records_in, refusal_in}
+use Rattle.rvgprof.specs.Answer.{counts_text, profile_bytes, profile_in, run_text}
+use Rattle.command_words.specs.Words.{may_count}
 use Rattle.rvgprof.specs.RunFile.{FitsFile, ProfileFilesAreReadBack, RunFilesAreReadBack, SaysRun, counted, gmon_text, records_of_run, reported_profile, text_sizes, world_of}
 
 -- ---- the form of a file

@@ -7,16 +7,16 @@ use Rattle.std.proofs.lemmas.List.{append-nil, length-replicate}
 use Rattle.host_port.specs.Act.{Act, Disk, File, file_content, writes_after, next_count}
 use Rattle.host_port.specs.Outside.{Outside, Becomes, Did, Rose, KeepsCounts, opening}
 use Rattle.host_port.specs.Load.{Loads}
-use Rattle.rvgprof.specs.FileRead.{IsContent}
+use Rattle.gmon_files.specs.FileRead.{IsContent}
 use Rattle.host_port.specs.declared.loading.LoadRefusal.{LoadRefusal}
 use Rattle.host_port.specs.declared.loading.LoadRefusal.TheVariants as loads
 use Rattle.host_port.proofs.Laws.{Did-nothing, Did-then, KeepsCounts-same, KeepsCounts-then}
 use Rattle.rvgprof.specs.declared.outcome.Done.{Done}
 use Rattle.rvgprof.specs.declared.outcome.Fault.{Fault}
 use Rattle.rvgprof.specs.declared.outcome.Fault.TheVariants.{Usage, ReadFault, WriteFault, OutOfMemory, TooLarge}
-use Rattle.rvgprof.specs.declared.words.Command.{Command}
-use Rattle.rvgprof.specs.Items.{name_of}
-use Rattle.rvgprof.specs.Words.{command_of}
+use Rattle.command_words.specs.declared.words.Command.{Command}
+use Rattle.command_words.specs.Items.{name_of}
+use Rattle.command_words.specs.Words.{command_of}
 use Rattle.rvgprof.specs.Course.{Course, Ends, Input, Does, Reply, behind, one_by_one, unless, reply_to, inputs_of, ComesTo, MayStop}
 use Rattle.rvgprof.specs.Answer.{command_course, course_of, contents_of, load_fault_of}
 use Rattle.host_port.specs.Performing.{FailedAt, Performs}

@@ -23,13 +23,13 @@ use Rattle.prof_machine.specs.Start.{final_world}
 use Rattle.prof_machine.specs.Value.{RunValue, StandsFor}
 use Rattle.prof_machine.specs.World.{World}
 use Rattle.rvgprof.specs.declared.outcome.Done.{Done}
-use Rattle.rvgprof.specs.declared.words.Command.{Command}
-use Rattle.rvgprof.specs.declared.words.Command.TheVariants.{Show, Syms, Run, Sum, Report, Profile, Demo, Annotate, Folded, Help, Version}
+use Rattle.command_words.specs.declared.words.Command.{Command}
+use Rattle.command_words.specs.declared.words.Command.TheVariants.{Show, Syms, Run, Sum, Report, Profile, Demo, Annotate, Folded, Help, Version}
 use Rattle.rvgprof.specs.Contract.{WhereTold}
-use Rattle.rvgprof.specs.Items.{name_of}
+use Rattle.command_words.specs.Items.{name_of}
 use Rattle.rvgprof.specs.RunFile.{FitsFile, FitsWhereTold, RunFits}
 use Rattle.rvgprof.specs.Standing.{IsRunOf, TellsNoMore}
-use Rattle.rvgprof.specs.Words.{IsRunSetup}
+use Rattle.command_words.specs.Words.{IsRunSetup}
 use Rattle.rvgprof.proofs.Standing.{told_back, weaker}
 
 -- acts tell nothing more

@@ -9,9 +9,10 @@ use Rattle.profile_sum.specs.Sum.{clash_of}
 use Rattle.demo_elf.specs.Elf.{demo_program}
 use Rattle.prof_machine.specs.declared.setup.Setup.{Setup}
 use Rattle.prof_machine.specs.Start.{start_refusal}
-use Rattle.rvgprof.specs.declared.words.Command.{Command}
-use Rattle.rvgprof.specs.declared.words.Command.TheVariants.{Show, Syms, Run, Sum, Report, Profile, Demo, Annotate, Folded, Help, Version}
-use Rattle.rvgprof.specs.Answer.{Chosen, chosen_by, chosen_sources, file_refusal, file_records, wide_step}
+use Rattle.command_words.specs.declared.words.Command.{Command}
+use Rattle.command_words.specs.declared.words.Command.TheVariants.{Show, Syms, Run, Sum, Report, Profile, Demo, Annotate, Folded, Help, Version}
+use Rattle.gmon_files.specs.Forms.{file_refusal, file_records}
+use Rattle.rvgprof.specs.Answer.{Chosen, chosen_by, chosen_sources, wide_step}
 use Rattle.rvgprof.specs.RunFile.{reported_profile}
 
 -- a program's file isn't refused

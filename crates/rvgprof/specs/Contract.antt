@@ -9,7 +9,7 @@ use Rattle.rvgprof.specs.declared.outcome.Fault.{Fault}
 use Rattle.elf32_syms.specs.declared.refusal.ElfRefusal.TheVariants as elf
 use Rattle.gp_base.specs.declared.refusal.GmonRefusal.TheVariants as gmons
 use Rattle.rvgprof.specs.declared.outcome.Fault.TheVariants.{Usage, BadElf, BadProfile, ReadFault, WriteFault, OutOfMemory}
-use Rattle.rvgprof.specs.Words.{command_of}
+use Rattle.command_words.specs.Words.{command_of}
 use Rattle.rvgprof.specs.Texts.{last_line}
 use Rattle.rvgprof.specs.Course.{reply_to, inputs_of, ComesTo, MayStop}
 use Rattle.rvgprof.specs.Answer.{course_of, contents_of}

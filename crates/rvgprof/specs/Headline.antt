@@ -24,11 +24,11 @@ use Rattle.prof_machine.specs.declared.setup.Setup.{Setup}
 use Rattle.prof_machine.specs.Executions.{executions_at, instructions_of}
 use Rattle.prof_machine.specs.Value.{summary_of}
 use Rattle.rvgprof.specs.declared.outcome.Done.{Done}
-use Rattle.rvgprof.specs.declared.words.Command.{Command}
-use Rattle.rvgprof.specs.declared.words.Command.TheVariants.{Run, Report, Profile, Annotate}
-use Rattle.rvgprof.specs.declared.words.Shown.{Shown}
-use Rattle.rvgprof.specs.declared.words.Shown.TheVariants as shows
-use Rattle.rvgprof.specs.Items.{name_of}
+use Rattle.command_words.specs.declared.words.Command.{Command}
+use Rattle.command_words.specs.declared.words.Command.TheVariants.{Run, Report, Profile, Annotate}
+use Rattle.command_words.specs.declared.words.Shown.{Shown}
+use Rattle.command_words.specs.declared.words.Shown.TheVariants as shows
+use Rattle.command_words.specs.Items.{name_of}
 use Rattle.rvgprof.specs.Texts.{last_line}
 use Rattle.rvgprof.specs.Answer.{Chosen, chosen_by, chosen_sources, contents_of, wide_step}
 use Rattle.rvgprof.specs.Contract.{LineEnds, WhereTold}

@@ -1,7 +1,3 @@
-pub mod Numbers
-pub mod Options
-pub mod Items
-pub mod Words
 pub mod Texts
 pub mod Course
 pub mod Reports
@@ -15,6 +11,4 @@ pub mod RunFile
 pub mod Acceptance
 pub mod Headline
 pub mod Standing
-pub mod FileSpelling
-pub mod FileRead
 pub mod Claims

@@ -22,12 +22,13 @@ use Rattle.prof_machine.specs.declared.setup.Setup.{Setup}
 use Rattle.prof_machine.specs.Executions.{executions_at, executions_in, instructions_of}
 use Rattle.prof_machine.specs.Start.{final_world}
 use Rattle.prof_machine.specs.World.{World}
-use Rattle.rvgprof.specs.declared.words.Command.{Command}
-use Rattle.rvgprof.specs.declared.words.Command.TheVariants.{Run, Profile}
-use Rattle.rvgprof.specs.Answer.{file_records, file_refusal, form_of, profile_bytes, profile_in, written_profile}
+use Rattle.command_words.specs.declared.words.Command.{Command}
+use Rattle.command_words.specs.declared.words.Command.TheVariants.{Run, Profile}
+use Rattle.gmon_files.specs.Forms.{file_records, file_refusal, form_of}
+use Rattle.rvgprof.specs.Answer.{profile_bytes, profile_in, written_profile}
 use Rattle.rvgprof.specs.Contract.{WhereTold}
-use Rattle.rvgprof.specs.Items.{name_of}
-use Rattle.rvgprof.specs.Words.{IsRunSetup}
+use Rattle.command_words.specs.Items.{name_of}
+use Rattle.command_words.specs.Words.{IsRunSetup}
 
 -- the world in which the run of a program ends
 abbrev pub world_of : List ℕ → Setup → World

@@ -10,13 +10,13 @@ ghost use Rattle.host_port.specs.Performing.{Performs};
 ghost use Rattle.prof_machine.specs.Setup.{IsSetup};
 ghost use Rattle.rvgprof.specs.Answer.{demo_course, given_file_acts};
 ghost use Rattle.rvgprof.specs.Contract.{Acted};
-ghost use Rattle.rvgprof.specs.Items.{name_of};
+ghost use Rattle.command_words.specs.Items.{name_of};
 ghost use Rattle.rvgprof.specs.Reports.{cycle_count, demo_run_line, grains_line};
 ghost use Rattle.rvgprof.specs.Standing.{IsDemoRead, IsDemoRefused, RunsDemo, Stands, SumsUp, TellsDemo};
 
 use crate::files::write_file;
 use crate::findings::{Findings, findings_of};
-use crate::items::name_at;
+use command_words::name_at;
 use crate::lines::put_number;
 use crate::outcome::{Done, Fault};
 use crate::printing::print_text;

@@ -6,7 +6,7 @@ ghost use Rattle.host_port.specs.Outside.{Outside};
 ghost use Rattle.rvgprof.specs.declared.outcome.Done.{Done};
 ghost use Rattle.rvgprof.specs.declared.outcome.Fault.{Fault};
 ghost use Rattle.rvgprof.specs.declared.outcome.Fault.TheVariants.{OutOfMemory};
-ghost use Rattle.rvgprof.specs.Words.{command_of};
+ghost use Rattle.command_words.specs.Words.{command_of};
 ghost use Rattle.rvgprof.specs.Course.{Course, reply_to, MayStop};
 ghost use Rattle.rvgprof.specs.Answer.{contents_of, course_of};
 ghost use Rattle.rvgprof.specs.Contract.{Answered, LineEnds, WhereTold};

@@ -4,7 +4,7 @@ ghost use Rattle.std.specs.Prelude.{[], ◌∷◌, map, string_bytes};
 ghost use Rattle.rvgprof.specs.Answer.{annotate_course};
 ghost use Rattle.rvgprof.specs.Contract.{Acted};
 ghost use Rattle.rvgprof.specs.Standing.{Stands};
-ghost use Rattle.rvgprof.specs.Words.{AreRising};
+ghost use Rattle.command_words.specs.Words.{AreRising};
 
 use crate::inputs::{read_profiles, read_program};
 use crate::outcome::{Done, Fault};

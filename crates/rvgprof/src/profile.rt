@@ -6,13 +6,13 @@ ghost use Rattle.rvgprof.specs.Answer.{chosen_by, files_named, profile_course};
 ghost use Rattle.rvgprof.specs.Contract.{Acted};
 ghost use Rattle.rvgprof.specs.RunFile.{FitsWhereTold};
 ghost use Rattle.rvgprof.specs.Standing.{Stands};
-ghost use Rattle.rvgprof.specs.Words.{AreCuts, IsRunSetup};
+ghost use Rattle.command_words.specs.Words.{AreCuts, IsRunSetup};
 
 use crate::inputs::read_program;
 use crate::outcome::{Done, Fault};
 use crate::printing::print_reports;
 use crate::runs::{RunOutputs, run_program};
-use crate::words::Selection;
+use command_words::Selection;
 use gmon_bsd::run_profile;
 use host_port::Host;
 use prof_machine::Setup;

@@ -4,12 +4,12 @@ ghost use Rattle.std.specs.Prelude.{[], ◌∷◌, map, string_bytes};
 ghost use Rattle.rvgprof.specs.Answer.{chosen_by, report_course};
 ghost use Rattle.rvgprof.specs.Contract.{Acted};
 ghost use Rattle.rvgprof.specs.Standing.{Stands};
-ghost use Rattle.rvgprof.specs.Words.{AreCuts, AreRising};
+ghost use Rattle.command_words.specs.Words.{AreCuts, AreRising};
 
 use crate::inputs::{read_profiles, read_program};
 use crate::outcome::{Done, Fault};
 use crate::printing::print_reports;
-use crate::words::Selection;
+use command_words::Selection;
 use host_port::Host;
 use std::alloc::Global;
 

@@ -5,7 +5,7 @@ ghost use Rattle.rvgprof.specs.Answer.{files_named, run_course};
 ghost use Rattle.rvgprof.specs.Contract.{Acted};
 ghost use Rattle.rvgprof.specs.RunFile.{FitsWhereTold};
 ghost use Rattle.rvgprof.specs.Standing.{Stands};
-ghost use Rattle.rvgprof.specs.Words.{IsRunSetup};
+ghost use Rattle.command_words.specs.Words.{IsRunSetup};
 
 use crate::inputs::read_program;
 use crate::outcome::{Done, Fault};

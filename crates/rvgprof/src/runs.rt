@@ -12,12 +12,12 @@ ghost use Rattle.prof_machine.specs.Setup.{IsSetup};
 ghost use Rattle.prof_machine.specs.Value.{IsLive, StandsFor};
 ghost use Rattle.prof_machine.specs.World.{World};
 ghost use Rattle.rvgprof.specs.Answer.{file_acts, files_named, given_file_acts, held_text, run_acts, runtime_text};
-ghost use Rattle.rvgprof.specs.Items.{name_of};
+ghost use Rattle.command_words.specs.Items.{name_of};
 ghost use Rattle.rvgprof.specs.Standing.{IsRunOf, IsStartFault, IsStarted, RunsProgram, TellsNoMore};
 ghost use Rattle.std.specs.Option.{option_map};
 
 use crate::files::write_file;
-use crate::items::name_at;
+use command_words::name_at;
 use crate::outcome::Fault;
 use crate::refusals::start_fault;
 use elf32_syms::Image;

@@ -5,12 +5,12 @@ ghost use Rattle.gmon_gnu.specs.ProfileText.{profile_text};
 ghost use Rattle.host_port.specs.Performing.{Performs};
 ghost use Rattle.rvgprof.specs.Answer.{file_acts, sum_course};
 ghost use Rattle.rvgprof.specs.Contract.{Acted};
-ghost use Rattle.rvgprof.specs.Items.{name_of};
+ghost use Rattle.command_words.specs.Items.{name_of};
 ghost use Rattle.rvgprof.specs.Standing.{Stands};
-ghost use Rattle.rvgprof.specs.Words.{AreRising};
+ghost use Rattle.command_words.specs.Words.{AreRising};
 
 use crate::inputs::read_profiles;
-use crate::items::name_at;
+use command_words::name_at;
 use crate::outcome::{Done, Fault};
 use gmon_data::Profile;
 use host_port::{Failed, Host};

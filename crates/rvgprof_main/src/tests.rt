@@ -9,6 +9,7 @@ use std::process::Abort;
 mod demos;
 mod faults;
 mod helps;
+mod pieces;
 mod programs;
 mod reports;
 mod rows;

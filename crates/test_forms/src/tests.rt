@@ -2,4 +2,5 @@ mod both;
 mod bsd;
 mod cells;
 mod gnu;
+mod pieces;
 mod records;

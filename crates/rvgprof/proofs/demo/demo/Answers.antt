@@ -1,7 +1,7 @@
 use Rattle.std.proofs.Common.{refl}
 use Rattle.std.specs.Prelude.{map, string_bytes}
 use Rattle.std.specs.Option.{option_map}
-use Rattle.rvgprof.specs.Items.{name_of}
+use Rattle.command_words.specs.Items.{name_of}
 use Rattle.rvgprof.proofs.Accepting.{no_demo}
 use Rattle.rvgprof.proofs.Demonstrating.{demo_ran, demo_not_written}
 use Rattle.rvgprof.proofs.demo.demo.Goals as goal

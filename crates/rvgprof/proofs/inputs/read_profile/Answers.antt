@@ -4,11 +4,11 @@ use Rattle.gmon_data.specs.Content.{Content, conflict_of, with_records}
 use Rattle.gmon_data.specs.Refusals.{IsReadRefusal}
 use Rattle.gmon_data.specs.Sizes.{IsOfBytes}
 use Rattle.gmon_data.proofs.SizeLemmas.{within_limits}
-use Rattle.rvgprof.specs.Answer.{file_records, file_refusal}
-use Rattle.rvgprof.specs.FileRead.{spelled_records}
+use Rattle.gmon_files.specs.Forms.{file_records, file_refusal}
+use Rattle.gmon_files.specs.FileRead.{spelled_records}
 use Rattle.rvgprof.proofs.Accepting.{not_read, one_read}
-use Rattle.rvgprof.proofs.FileReading.{file_spelled}
-use Rattle.rvgprof.proofs.ProfileSizeLemmas.{of_file}
+use Rattle.gmon_files.proofs.FileReading.{file_spelled}
+use Rattle.gmon_files.proofs.RecordLemmas.{of_file}
 use Rattle.rvgprof.proofs.Standing.{not_loaded}
 use Rattle.rvgprof.proofs.inputs.read_profile.Goals as goal
 

@@ -7,9 +7,9 @@ use Rattle.gp_base.specs.declared.limits.TheConstants.{MAX_PROFILE_BYTES}
 use Rattle.rvgprof.specs.Answer.{profiles}
 use Rattle.gmon_data.specs.Sizes.{IsOfBytes}
 use Rattle.rvgprof.specs.Standing.{Stands}
-use Rattle.rvgprof.specs.Words.{AreRising}
+use Rattle.command_words.specs.Words.{AreRising}
 use Rattle.gmon_data.proofs.SizeLemmas.{of_nothing}
-use Rattle.rvgprof.proofs.PlaceLemmas.{rising_drop}
+use Rattle.command_words.proofs.PlaceLemmas.{rising_drop}
 use Rattle.rvgprof.proofs.Summing.{all_behind}
 use Rattle.rvgprof.proofs.inputs.read_profiles.Goals as goal
 

@@ -1,4 +1,4 @@
-use Rattle.rvgprof.proofs.LineLengths.{no_reading}
+use Rattle.command_words.proofs.LineLengths.{no_reading}
 use Rattle.rvgprof.proofs.laws.lines_are_short.Goals as goal
 
 pub returns : goal.returns

@@ -6,9 +6,9 @@ use Rattle.elf32_syms.specs.declared.image.Symbol.{Symbol}
 use Rattle.gmon_data.specs.Content.{Content}
 use Rattle.arc_filter.specs.Cuts.{is_cut_word, without_cuts}
 use Rattle.arc_filter.proofs.ProfileLemmas.{nothing_cut}
-use Rattle.rvgprof.specs.Answer.{names_at}
+use Rattle.command_words.specs.Items.{names_at}
 use Rattle.rvgprof.specs.Findings.{AreFindings}
-use Rattle.rvgprof.proofs.PlaceLemmas.{cut_words}
+use Rattle.command_words.proofs.PlaceLemmas.{cut_words}
 use Rattle.rvgprof.proofs.printing.chosen_findings.Goals as goal
 
 -- without words nothing is cut

@@ -1,6 +1,7 @@
 use Rattle.std.proofs.Common.{◌≡◌, ◌∙◌, ℕ, List, ap, subst, sym}
 use Rattle.std.specs.Prelude.{map, string_bytes, is_some}
-use Rattle.rvgprof.specs.Answer.{chosen_by, exact_report, names_at, print_reports, shown_reports}
+use Rattle.command_words.specs.Items.{names_at}
+use Rattle.rvgprof.specs.Answer.{chosen_by, exact_report, print_reports, shown_reports}
 use Rattle.rvgprof.specs.Standing.{Stands}
 use Rattle.rvgprof.specs.Findings.{given_sources}
 use Rattle.rvgprof.proofs.Reporting.{may_stop_reports, narrow, no_exact, of_findings}

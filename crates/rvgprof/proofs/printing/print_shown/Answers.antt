@@ -2,7 +2,7 @@ use Rattle.std.proofs.Common.{◌++◌, ◌∷◌, [], ap, subst}
 use Rattle.std.specs.Prelude.{codes, map, string_bytes}
 use Rattle.std.proofs.lemmas.Result.{err_from_is_err_and}
 use Rattle.host_port.specs.Act.{Out}
-use Rattle.rvgprof.specs.declared.words.Shown.{Shown}
+use Rattle.command_words.specs.declared.words.Shown.{Shown}
 use Rattle.rvgprof.specs.Answer.{shown_reports}
 use Rattle.rvgprof.specs.Course.{Does}
 use Rattle.flat_report.specs.FlatText.{flat_text}

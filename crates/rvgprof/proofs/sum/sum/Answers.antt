@@ -2,7 +2,7 @@ use Rattle.std.proofs.Common.{[], None, inl, refl}
 use Rattle.std.specs.Prelude.{map, string_bytes}
 use Rattle.gmon_gnu.specs.ProfileText.{profile_text}
 use Rattle.rvgprof.specs.Answer.{ended, file_acts, sum_file}
-use Rattle.rvgprof.specs.Items.{name_of}
+use Rattle.command_words.specs.Items.{name_of}
 use Rattle.rvgprof.proofs.Performing.{last_acts}
 use Rattle.rvgprof.proofs.Standing.{fails}
 use Rattle.rvgprof.proofs.Summing.{all_from_0}

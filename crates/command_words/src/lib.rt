@@ -1,0 +1,16 @@
+//! The words of the command line: what command they say, and with which options.
+#![tactic(auto)]
+
+mod items;
+pub mod names;
+mod numbers;
+mod options;
+pub mod places;
+pub mod words;
+
+pub use names::{name_at, names_at};
+pub use places::Places;
+pub use words::{Command, Selection, Shown, read_command};
+
+#[cfg(test)]
+mod tests;

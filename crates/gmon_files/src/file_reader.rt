@@ -1,0 +1,188 @@
+//! Reading a profile file in pieces; its form is told by its first four bytes.
+
+ghost use Rattle.std.specs.Prelude.{◌≡◌, ℕ, List, [], ◌+◌, ◌^◌, ◌<◌, ◌≤◌, ◌++◌, true, false, length, None, Err, IfErr, IfOk, IfSome, OnOk};
+ghost use Rattle.gp_base.specs.Refusal.{IsRefusal};
+ghost use Rattle.host_port.specs.Host.{Moves, Reads};
+ghost use Rattle.gmon_data.specs.Content.{conflict_of, with_records};
+ghost use Rattle.gmon_data.specs.Refusals.{IsLeft, IsReadRefusal};
+ghost use Rattle.gmon_files.specs.Forms.{form_of, file_records, file_refusal, FileSpells};
+ghost use Rattle.gmon_files.specs.FileRead.{spelled_records, HasRoomFor, StandsFor, len_of, IsFed, IsReadFrom};
+
+use gmon_cells::Remnant;
+use gmon_data::{Profile, ReadRefusal};
+use gp_base::limits::MAX_PROFILE_BYTES;
+use gp_base::{Form, GmonRefusal, Records};
+use host_port::{Failed, Host, LoadRefusal};
+use std::alloc::{AllocError, Global};
+
+/// What a file of the GNU form begins with.
+const GNU: &[u8] = b"gmon";
+
+/// How many bytes are asked for at a time.
+const PIECE: usize = 4_096;
+
+/// A reader of a profile file that comes in pieces: its first bytes, while they don't tell the form yet, or
+/// the form's reader.
+#[derive(Drop)]
+pub enum FileReader {
+    Front(Remnant),
+    Bsd(gmon_bsd::Reader),
+    Gnu(gmon_gnu::Reader),
+}
+
+impl FileReader {
+    /// A reader to which nothing was fed.
+    pub fn new() -> FileReader
+        ensures stands { StandsFor [] result }
+        ensures len { len_of result ≡ 0 }
+        ensures fed { IsFed result }
+    {
+        FileReader::Front(Remnant::new())
+    }
+
+    /// Takes the next piece.
+    pub fn feed(self, alloc: Global, piece: &[u8]) -> Result<FileReader, AllocError>
+        requires small { len_of self + length piece.now < 2 ^ 32 }
+        requires fed { IsFed self }
+        ensures fed { IfOk result IsFed }
+        ensures stands { IfOk result (λ now. (bytes : List ℕ) → StandsFor bytes self → StandsFor (bytes ++ piece.now) now) }
+        ensures len { IfOk result (λ now. len_of now ≡ len_of self + length piece.now) }
+    {
+        match self {
+            FileReader::Front(mut front) => {
+                if front.len() + piece.len() < GNU.len() {
+                    front.put(piece);
+                    return Ok(FileReader::Front(front));
+                }
+                let rest = front.fill(GNU.len(), piece);
+                begin(alloc, front.as_slice(), rest)
+            }
+            FileReader::Bsd(mut reader) => {
+                reader.feed(piece)?;
+                Ok(FileReader::Bsd(reader))
+            }
+            FileReader::Gnu(mut reader) => {
+                reader.feed(piece)?;
+                Ok(FileReader::Gnu(reader))
+            }
+        }
+    }
+
+    /// What the bytes that were fed are: the records that they spell, or their first refusal. A refusal takes
+    /// no memory, so that want of it doesn't stand in for one.
+    pub fn finish(self) -> Result<Records, GmonRefusal>
+        requires { IsFed self }
+        ensures refused { (bytes : List ℕ) → StandsFor bytes self → IfSome (file_refusal bytes) (λ refusal. result ≡ Err refusal) }
+        ensures refusal { (bytes : List ℕ) → StandsFor bytes self → IfErr result (λ refusal. IsRefusal refusal (file_refusal bytes)) }
+        ensures accepted { (bytes : List ℕ) → StandsFor bytes self → OnOk result (file_refusal bytes ≡ None) }
+        ensures records { (bytes : List ℕ) → StandsFor bytes self → IfOk result (λ records. records ≡ file_records bytes) }
+        ensures spelled { (bytes : List ℕ) → StandsFor bytes self → IfOk result (λ records. FileSpells bytes records) }
+    {
+        match self {
+            FileReader::Front(front) => Err(GmonRefusal::Short {
+                at: front.len() as u32,
+            }),
+            FileReader::Bsd(reader) => reader.finish(),
+            FileReader::Gnu(reader) => reader.finish(),
+        }
+    }
+
+    /// Adds the records that the bytes spell to a profile, without a list of them: it answers the file's
+    /// first refusal, before memory is taken, or else what adding the records answers. After a refusal of
+    /// the file the profile is unchanged.
+    pub fn add_to(self, profile: &mut Profile) -> Result<(), ReadRefusal>
+        requires fed { IsFed self }
+        requires room { HasRoomFor profile.old self }
+        ensures accepted { (bytes : List ℕ) → StandsFor bytes self → OnOk result (file_refusal bytes ≡ None) }
+        ensures like { (bytes : List ℕ) → StandsFor bytes self → OnOk result (conflict_of profile.old (spelled_records bytes) ≡ None) }
+        ensures added { (bytes : List ℕ) → StandsFor bytes self → OnOk result (profile.new ≡ with_records (spelled_records bytes) profile.old) }
+        ensures refusal { (bytes : List ℕ) → StandsFor bytes self → IfErr result (λ refusal. IsReadRefusal refusal (file_refusal bytes) (conflict_of profile.old (spelled_records bytes))) }
+        ensures left { (bytes : List ℕ) → StandsFor bytes self → IfErr result (λ refusal. IsLeft refusal (spelled_records bytes) profile.old profile.new) }
+    {
+        match self {
+            FileReader::Front(front) => Err(ReadRefusal::File(GmonRefusal::Short {
+                at: front.len() as u32,
+            })),
+            FileReader::Bsd(reader) => reader.add_to(profile),
+            FileReader::Gnu(reader) => reader.add_to(profile),
+        }
+    }
+}
+
+/// Begins to read a file by its first four bytes, and takes what follows them.
+fn begin(alloc: Global, front: &[u8], rest: &[u8]) -> Result<FileReader, AllocError>
+    requires front { length front.now ≡ 4 }
+    requires small { length front.now + length rest.now < 2 ^ 32 }
+    ensures stands { IfOk result (StandsFor (front.now ++ rest.now)) }
+    ensures len { IfOk result (λ now. len_of now ≡ length front.now + length rest.now) }
+    ensures fed { IfOk result IsFed }
+{
+    match form_of(front) {
+        Form::Bsd => {
+            let mut reader = gmon_bsd::Reader::new(alloc);
+            reader.feed(front)?;
+            reader.feed(rest)?;
+            Ok(FileReader::Bsd(reader))
+        }
+        Form::Gnu => {
+            let mut reader = gmon_gnu::Reader::new(alloc);
+            reader.feed(front)?;
+            reader.feed(rest)?;
+            Ok(FileReader::Gnu(reader))
+        }
+    }
+}
+
+/// The form of a profile file, by its first four bytes.
+#[tactic(auto, unfolding(crate::specs::Forms::form_of))]
+fn form_of(bytes: &[u8]) -> Form
+    ensures { result ≡ form_of bytes.now }
+{
+    let front = bytes.split_at(GNU.len().min(bytes.len())).0;
+    if front == GNU { Form::Gnu } else { Form::Bsd }
+}
+
+/// Reads the named file, which has at most `limit` bytes, in pieces: a reader that stands for its bytes, and
+/// how many they are. It reads no more than one byte beyond the limit.
+pub fn read_pieces<H: Host>(
+    alloc: Global,
+    host: &mut H,
+    name: &str,
+    limit: u32,
+) -> Result<(FileReader, u32), LoadRefusal>
+    requires idle { (H.outside host.old).is_writing ≡ false }
+    requires limit { limit ≤ MAX_PROFILE_BYTES }
+    ensures read { IsReadFrom name.now limit (H.outside host.old) (H.outside host.new) result }
+    ensures fed { IfOk result (λ pair. IsFed pair.0) }
+{
+    host.open_input(name)?;
+    let mut reader = FileReader::new();
+    let mut len: u32 = 0;
+    let mut piece = [0; PIECE];
+    loop {
+        let left = (limit - len) as usize;
+        let n = read_front(host, &mut piece, PIECE.min(left + 1))?;
+        if n == 0 {
+            return Ok((reader, len));
+        }
+        if n > left {
+            return Err(LoadRefusal::TooLarge);
+        }
+        reader = reader.feed(alloc, piece.split_at(n).0)?;
+        len += n as u32;
+    }
+}
+
+/// Moves at most `most` bytes of the input to the front of a piece, and answers how many.
+fn read_front<H: Host>(host: &mut H, piece: &mut [u8], most: usize) -> Result<usize, Failed>
+    requires is_open { (H.outside host.old).is_open ≡ true }
+    requires some { 0 < most }
+    requires room { most ≤ length piece.old }
+    ensures moves { Moves piece.old piece.new (H.outside host.old) (H.outside host.new) result }
+    ensures few { IfOk result (λ n. n ≤ most) }
+    ensures counts { Reads (H.outside host.old) (H.outside host.new) result }
+    ensures room { length piece.new ≡ length piece.old }
+{
+    let (front, _) = piece.split_at_mut(most);
+    host.read(front)
+}

@@ -1,0 +1,663 @@
+//! Profile files of both forms that come in pieces.
+
+ghost use Rattle.std.specs.Prelude.{◌≡◌, ◌<◌, ◌≤◌, length, IfOk};
+ghost use Rattle.gmon_data.specs.Content.{empty_content};
+ghost use Rattle.gmon_files.specs.FileRead.{IsFed, StandsFor};
+ghost use Rattle.gmon_files.specs.Forms.{FileSpells};
+
+use gmon_files::FileReader;
+use gmon_data::{AddRefusal, Profile, ReadRefusal, Unlike};
+use gp_base::{Form, GmonRefusal, Rec, Records};
+use std::alloc::{AllocError, Global};
+use std::process::Abort;
+use std::test::Fail;
+use crate::{
+    BSD_RUN, GNU_RUN, HEADER_ALONE, LARGE_NUMBERS, SEVERAL, TWO_OF_EACH, large_bsd_file,
+    large_gnu_file,
+};
+use test_profiles::are_same;
+
+/// A GNU file of a histogram of rate 100, an arc of 7 calls, a histogram of rate 50, and an arc of 9 calls.
+const UNLIKE: [u8; 128] = *b"gmon\x01\0\0\0\x01\x02\x03\x04\x05\x06\x07\x08\x09\x0A\x0B\x0C\
+    \0\0\0\x01\0\x10\0\x01\0\x04\0\0\0d\0\0\0\
+    seconds\0\0\0\0\0\0\0\0s\
+    \x01\0\x02\0\0\0\0\0\
+    \x01\x04\0\x01\0\x08\0\x01\0\x07\0\0\0\
+    \0\0\0\x01\0\x10\0\x01\0\x04\0\0\0\x32\0\0\0\
+    seconds\0\0\0\0\0\0\0\0s\
+    \x01\0\x02\0\0\0\0\0\
+    \x01\x04\0\x01\0\x08\0\x01\0\x09\0\0\0";
+
+/// A reader that was fed the bytes in pieces of at most `size`.
+fn fed(alloc: Global, bytes: &[u8], size: usize) -> Result<FileReader, AllocError>
+    requires some { 0 < size }
+    requires small { length bytes.now ≤ 100000 }
+    ensures fed { IfOk result IsFed }
+    ensures stands { IfOk result (StandsFor bytes.now) }
+{
+    let mut reader = FileReader::new();
+    let mut fed = 0;
+    while fed < bytes.len() {
+        let rest = bytes.split_at(fed).1;
+        let piece = rest.split_at(size.min(rest.len())).0;
+        reader = reader.feed(alloc, piece)?;
+        fed += piece.len();
+    }
+    Ok(reader)
+}
+
+/// What a reader answers that is fed the bytes in pieces of at most `size`.
+fn in_pieces(alloc: Global, bytes: &[u8], size: usize) -> Result<Records, GmonRefusal>
+    requires some { 0 < size }
+    requires small { length bytes.now ≤ 100000 }
+    ensures { IfOk result (FileSpells bytes.now) }
+{
+    fed(alloc, bytes, size)?.finish()
+}
+
+/// What a reader answers that is fed the bytes in two pieces.
+fn in_two(alloc: Global, front: &[u8], rest: &[u8]) -> Result<Records, GmonRefusal>
+    requires front { length front.now ≤ 1000 }
+    requires rest { length rest.now ≤ 1000 }
+{
+    let reader = FileReader::new().feed(alloc, front)?;
+    reader.feed(alloc, rest)?.finish()
+}
+
+/// What the form's own reader of whole files answers.
+fn whole(alloc: Global, form: Form, bytes: &[u8]) -> Result<Records, GmonRefusal>
+    requires { length bytes.now ≤ 100000 }
+{
+    match form {
+        Form::Bsd => gmon_bsd::read(alloc, bytes),
+        Form::Gnu => gmon_gnu::read(alloc, bytes),
+    }
+}
+
+/// Adds what a reader was fed to an empty profile.
+fn add_fed(
+    alloc: Global,
+    bytes: &[u8],
+    size: usize,
+    profile: &mut Profile,
+) -> Result<(), ReadRefusal>
+    requires some { 0 < size }
+    requires small { length bytes.now ≤ 100000 }
+    requires empty { profile.old ≡ empty_content }
+{
+    match fed(alloc, bytes, size) {
+        Ok(reader) => reader.add_to(profile),
+        Err(_) => Err(ReadRefusal::Profile(AddRefusal::OutOfMemory)),
+    }
+}
+
+/// Adds the records that a reader lists to an empty profile.
+fn add_listed(
+    alloc: Global,
+    bytes: &[u8],
+    size: usize,
+    profile: &mut Profile,
+) -> Result<(), ReadRefusal>
+    requires some { 0 < size }
+    requires small { length bytes.now ≤ 100000 }
+    requires empty { profile.old ≡ empty_content }
+{
+    let records = in_pieces(alloc, bytes, size)?;
+    profile.add_records(&records)?;
+    Ok(())
+}
+
+/// Whether two lists of records are the same.
+fn have_same_recs(a: &[Rec], b: &[Rec]) -> bool {
+    if a.len() != b.len() {
+        return false;
+    }
+    for (a, b) in a.iter().zip(b.iter()) {
+        if !are_same_recs(a, b) {
+            return false;
+        }
+    }
+    true
+}
+
+fn are_same_recs(a: &Rec, b: &Rec) -> bool {
+    match (a, b) {
+        (Rec::Hist(a), Rec::Hist(b)) => {
+            a.low == b.low
+                && a.high == b.high
+                && a.unit == b.unit
+                && a.counters.as_slice() == b.counters.as_slice()
+        }
+        (Rec::Arc(a), Rec::Arc(b)) => *a == *b,
+        (Rec::Blocks(a), Rec::Blocks(b)) => a.as_slice() == b.as_slice(),
+        _ => false,
+    }
+}
+
+/// Whether two answers are the same.
+fn are_same_answers(a: &Result<Records, GmonRefusal>, b: &Result<Records, GmonRefusal>) -> bool {
+    match (a, b) {
+        (Ok(a), Ok(b)) => {
+            a.form == b.form && have_same_recs(a.recs.as_slice(), b.recs.as_slice())
+        }
+        (Err(a), Err(b)) => *a == *b,
+        _ => false,
+    }
+}
+
+/// How many records an answer has, or the refusal.
+fn told(answer: &Result<Records, GmonRefusal>) -> Result<usize, GmonRefusal> {
+    match answer {
+        Ok(records) => Ok(records.recs.as_slice().len()),
+        Err(refusal) => Err(*refusal),
+    }
+}
+
+/// What is due of a file in pieces is also answered of the whole.
+fn expect_answers(
+    rt: &impl Abort,
+    answer: &Result<Records, GmonRefusal>,
+    whole: &Result<Records, GmonRefusal>,
+    due: Result<usize, GmonRefusal>,
+) {
+    assert_eq!(rt; told(answer), due);
+    assert!(rt;
+        are_same_answers(answer, whole),
+        "in pieces and whole, {due:?}"
+    );
+}
+
+/// What is due of a file that comes in pieces of at most `size`.
+fn expect(
+    rt: &impl Abort,
+    alloc: Global,
+    form: Form,
+    bytes: &[u8],
+    size: usize,
+    due: Result<usize, GmonRefusal>,
+)
+    requires some { 0 < size }
+    requires small { length bytes.now ≤ 100000 }
+{
+    let answer = in_pieces(alloc, bytes, size);
+    let whole = whole(alloc, form, bytes);
+    expect_answers(rt, &answer, &whole, due);
+}
+
+/// What is due of a file that comes in two pieces.
+fn expect_cut(
+    rt: &impl Abort,
+    alloc: Global,
+    form: Form,
+    bytes: &[u8],
+    cut: usize,
+    due: Result<usize, GmonRefusal>,
+)
+    requires cut { cut ≤ length bytes.now }
+    requires small { length bytes.now ≤ 1000 }
+{
+    let (front, rest) = bytes.split_at(cut);
+    let answer = in_two(alloc, front, rest);
+    let whole = whole(alloc, form, bytes);
+    expect_answers(rt, &answer, &whole, due);
+}
+
+/// What adding a file to an empty profile answers, and how many samples, calls and executions are held then.
+#[derive(Clone, Copy)]
+struct Due {
+    name: &'static str,
+    answer: Result<(), ReadRefusal>,
+    numbers: [u64; 3],
+}
+
+/// How many samples, calls and executions a profile holds.
+fn numbers_of(profile: &Profile) -> [u64; 3] {
+    [profile.samples(), profile.calls(), profile.blocks()]
+}
+
+/// Adds what a reader was fed to an empty profile, beside a list of its records to another one. Both answer what
+/// is due, and give the same profile.
+fn expect_added(rt: &impl Abort, alloc: Global, bytes: &[u8], size: usize, due: Due)
+    requires some { 0 < size }
+    requires small { length bytes.now ≤ 100000 }
+{
+    let mut added = Profile::new(alloc);
+    let mut listed = Profile::new(alloc);
+    let answer = add_fed(alloc, bytes, size, &mut added);
+    let other = add_listed(alloc, bytes, size, &mut listed);
+    let same = are_same(&added, &listed);
+    expect_due(rt, due, answer, other, same, numbers_of(&added));
+}
+
+fn expect_due(
+    rt: &impl Abort,
+    due: Due,
+    answer: Result<(), ReadRefusal>,
+    listed: Result<(), ReadRefusal>,
+    same: bool,
+    numbers: [u64; 3],
+) {
+    let name = due.name;
+    assert_eq!(rt; answer, due.answer, "{name}");
+    assert_eq!(rt; listed, due.answer, "{name}, listed");
+    assert!(rt; same, "{name}");
+    assert_eq!(rt; numbers, due.numbers, "{name}");
+}
+
+/// A file is refused, as a whole, byte by byte and while it is added.
+fn expect_refused(
+    rt: &impl Abort,
+    alloc: Global,
+    form: Form,
+    bytes: &[u8],
+    name: &'static str,
+    refusal: GmonRefusal,
+) {
+    assert!(rt; bytes.len() <= 1_000, "{name}");
+    expect(rt, alloc, form, bytes, 1, Err(refusal));
+    let due = Due {
+        name,
+        answer: Err(ReadRefusal::File(refusal)),
+        numbers: [0, 0, 0],
+    };
+    expect_added(rt, alloc, bytes, 1, due);
+    expect_added(rt, alloc, bytes, 1_000, due);
+}
+
+/// A 4.4BSD file of `len` bytes that has zeros behind these first 20.
+struct BsdFault {
+    name: &'static str,
+    header: [u8; 20],
+    len: usize,
+    refusal: GmonRefusal,
+}
+
+/// Changed in a byte or in length, a file of 160 bytes up to the arcs, whose range is from 0x10000 to 0x10100, at
+/// rate 100.
+const BSD_FAULTS: [BsdFault; 9] = [
+    BsdFault {
+        name: "empty",
+        header: *b"\0\0\x01\0\0\x01\x01\0\xA0\0\0\0y\x18\x05\0d\0\0\0",
+        len: 0,
+        refusal: GmonRefusal::Short { at: 0 },
+    },
+    BsdFault {
+        name: "one byte less",
+        header: *b"\0\0\x01\0\0\x01\x01\0\xA0\0\0\0y\x18\x05\0d\0\0\0",
+        len: 159,
+        refusal: GmonRefusal::Short { at: 159 },
+    },
+    BsdFault {
+        name: "one byte more",
+        header: *b"\0\0\x01\0\0\x01\x01\0\xA0\0\0\0y\x18\x05\0d\0\0\0",
+        len: 161,
+        refusal: GmonRefusal::Rest { at: 160 },
+    },
+    BsdFault {
+        name: "another version",
+        header: *b"\0\0\x01\0\0\x01\x01\0\xA0\0\0\0x\x18\x05\0d\0\0\0",
+        len: 160,
+        refusal: GmonRefusal::Version { value: 0x0005_1878 },
+    },
+    BsdFault {
+        name: "size 31",
+        header: *b"\0\0\x01\0\0\x01\x01\0\x1F\0\0\0y\x18\x05\0d\0\0\0",
+        len: 160,
+        refusal: GmonRefusal::Size { value: 31 },
+    },
+    BsdFault {
+        name: "size 161",
+        header: *b"\0\0\x01\0\0\x01\x01\0\xA1\0\0\0y\x18\x05\0d\0\0\0",
+        len: 160,
+        refusal: GmonRefusal::Size { value: 161 },
+    },
+    BsdFault {
+        name: "high at low",
+        header: *b"\0\0\x01\0\0\0\x01\0\xA0\0\0\0y\x18\x05\0d\0\0\0",
+        len: 160,
+        refusal: GmonRefusal::Range {
+            at: 0,
+            low: 0x1_0000,
+            high: 0x1_0000,
+        },
+    },
+    BsdFault {
+        name: "size 162",
+        header: *b"\0\0\x01\0\0\x01\x01\0\xA2\0\0\0y\x18\x05\0d\0\0\0",
+        len: 160,
+        refusal: GmonRefusal::Short { at: 160 },
+    },
+    BsdFault {
+        name: "size 32",
+        header: *b"\0\0\x01\0\0\x01\x01\0\x20\0\0\0y\x18\x05\0d\0\0\0",
+        len: 160,
+        refusal: GmonRefusal::Rest { at: 152 },
+    },
+];
+
+fn expect_bsd_fault(rt: &impl Abort, alloc: Global, fault: &BsdFault) {
+    let mut bytes = [0; 161];
+    bytes[..20].copy_from_slice(&fault.header);
+    let file = bytes.split_at(fault.len.min(161)).0;
+    expect_refused(rt, alloc, Form::Bsd, file, fault.name, fault.refusal);
+}
+
+#[test]
+fn the_first_fault_of_a_bsd_file_is_answered(rt: HostRuntime) -> Result<(), Fail> {
+    for fault in &BSD_FAULTS {
+        expect_bsd_fault(&rt, rt.alloc(), fault);
+    }
+    Ok(())
+}
+
+/// A GNU file, whose spare bytes are not zeros.
+struct GnuFault {
+    name: &'static str,
+    bytes: &'static [u8],
+    refusal: GmonRefusal,
+}
+
+/// No address is from 0x10000 to below 0x10000.
+const EMPTY: GmonRefusal = GmonRefusal::Range {
+    at: 20,
+    low: 0x1_0000,
+    high: 0x1_0000,
+};
+
+const GNU_FAULTS: [GnuFault; 14] = [
+    GnuFault {
+        name: "another version",
+        bytes: b"gmon\x02\0\0\0\x01\x02\x03\x04\x05\x06\x07\x08\x09\x0A\x0B\x0C",
+        refusal: GmonRefusal::Version { value: 2 },
+    },
+    GnuFault {
+        name: "version before tag",
+        bytes: b"gmon\0\0\0\0\x01\x02\x03\x04\x05\x06\x07\x08\x09\x0A\x0B\x0C\
+            \x03",
+        refusal: GmonRefusal::Version { value: 0 },
+    },
+    GnuFault {
+        name: "tag 3",
+        bytes: b"gmon\x01\0\0\0\x01\x02\x03\x04\x05\x06\x07\x08\x09\x0A\x0B\x0C\
+            \x03",
+        refusal: GmonRefusal::Tag { at: 20, value: 3 },
+    },
+    GnuFault {
+        name: "tag 255",
+        bytes: b"gmon\x01\0\0\0\x01\x02\x03\x04\x05\x06\x07\x08\x09\x0A\x0B\x0C\
+            \xFF\0\0",
+        refusal: GmonRefusal::Tag { at: 20, value: 255 },
+    },
+    GnuFault {
+        name: "a histogram's tag",
+        bytes: b"gmon\x01\0\0\0\x01\x02\x03\x04\x05\x06\x07\x08\x09\x0A\x0B\x0C\
+            \0",
+        refusal: GmonRefusal::Short { at: 21 },
+    },
+    GnuFault {
+        name: "a histogram's fields less a byte",
+        bytes: b"gmon\x01\0\0\0\x01\x02\x03\x04\x05\x06\x07\x08\x09\x0A\x0B\x0C\
+            \0\0\0\x01\0\0\0\x01\0\x01\0\0\0d\0\0\0\
+            seconds\0\0\0\0\0\0\0\0",
+        refusal: GmonRefusal::Short { at: 52 },
+    },
+    GnuFault {
+        name: "an empty range",
+        bytes: b"gmon\x01\0\0\0\x01\x02\x03\x04\x05\x06\x07\x08\x09\x0A\x0B\x0C\
+            \0\0\0\x01\0\0\0\x01\0\x01\0\0\0d\0\0\0\
+            seconds\0\0\0\0\0\0\0\0s\
+            \x05\0",
+        refusal: EMPTY,
+    },
+    GnuFault {
+        name: "a range before its counters",
+        bytes: b"gmon\x01\0\0\0\x01\x02\x03\x04\x05\x06\x07\x08\x09\x0A\x0B\x0C\
+            \0\0\0\x01\0\0\0\x01\0\x01\0\0\0d\0\0\0\
+            seconds\0\0\0\0\0\0\0\0s\
+            \x05",
+        refusal: EMPTY,
+    },
+    GnuFault {
+        name: "a counter less a byte",
+        bytes: b"gmon\x01\0\0\0\x01\x02\x03\x04\x05\x06\x07\x08\x09\x0A\x0B\x0C\
+            \0\0\0\x01\0\x10\0\x01\0\x04\0\0\0d\0\0\0\
+            seconds\0\0\0\0\0\0\0\0s\
+            \x01\0\x02\0\0\0\0",
+        refusal: GmonRefusal::Short { at: 60 },
+    },
+    GnuFault {
+        name: "an arc's tag",
+        bytes: b"gmon\x01\0\0\0\x01\x02\x03\x04\x05\x06\x07\x08\x09\x0A\x0B\x0C\
+            \x01",
+        refusal: GmonRefusal::Short { at: 21 },
+    },
+    GnuFault {
+        name: "an arc less a byte",
+        bytes: b"gmon\x01\0\0\0\x01\x02\x03\x04\x05\x06\x07\x08\x09\x0A\x0B\x0C\
+            \x01\x04\0\x01\0\x08\0\x01\0\0\0\0",
+        refusal: GmonRefusal::Short { at: 32 },
+    },
+    GnuFault {
+        name: "a number less a byte",
+        bytes: b"gmon\x01\0\0\0\x01\x02\x03\x04\x05\x06\x07\x08\x09\x0A\x0B\x0C\
+            \x02\0\0\0",
+        refusal: GmonRefusal::Short { at: 24 },
+    },
+    GnuFault {
+        name: "more pairs than there are bytes",
+        bytes: b"gmon\x01\0\0\0\x01\x02\x03\x04\x05\x06\x07\x08\x09\x0A\x0B\x0C\
+            \x02\xFF\xFF\xFF\xFF",
+        refusal: GmonRefusal::Short { at: 25 },
+    },
+    GnuFault {
+        name: "a pair less a byte",
+        bytes: b"gmon\x01\0\0\0\x01\x02\x03\x04\x05\x06\x07\x08\x09\x0A\x0B\x0C\
+            \0\0\0\x01\0\x10\0\x01\0\x04\0\0\0d\0\0\0\
+            seconds\0\0\0\0\0\0\0\0s\
+            \x01\0\x02\0\0\0\0\0\
+            \0\0\0\x01\0\x10\0\x01\0\x04\0\0\0d\0\0\0\
+            seconds\0\0\0\0\0\0\0\0s\
+            \x01\0\x02\0\0\0\0\0\
+            \x01\x04\0\x01\0\x08\0\x01\0\0\0\0\0\
+            \x02\x01\0\0\0\0\0\x01\0\x09\0\0",
+        refusal: GmonRefusal::Short { at: 127 },
+    },
+];
+
+#[test]
+fn the_first_fault_of_a_gnu_file_is_answered(rt: HostRuntime) -> Result<(), Fail> {
+    for fault in &GNU_FAULTS {
+        expect_refused(
+            &rt,
+            rt.alloc(),
+            Form::Gnu,
+            fault.bytes,
+            fault.name,
+            fault.refusal,
+        );
+    }
+    Ok(())
+}
+
+/// How many records the first `len` bytes of the file of two of each have.
+fn bsd_front(len: u32) -> Result<usize, GmonRefusal> {
+    match len {
+        36 => Ok(1),
+        48 => Ok(2),
+        60 => Ok(3),
+        0..36 => Err(GmonRefusal::Short { at: len }),
+        37..48 => Err(GmonRefusal::Rest { at: 36 }),
+        _ => Err(GmonRefusal::Rest { at: 48 }),
+    }
+}
+
+/// How many records the first `len` bytes of the GNU file of several have.
+fn gnu_front(len: u32) -> Result<usize, GmonRefusal> {
+    match len {
+        20 => Ok(0),
+        61 => Ok(1),
+        102 => Ok(2),
+        115 => Ok(3),
+        128 => Ok(4),
+        _ => Err(GmonRefusal::Short { at: len }),
+    }
+}
+
+#[test]
+fn every_front_is_told_byte_by_byte(rt: HostRuntime) -> Result<(), Fail> {
+    for len in 0..61u32 {
+        let front = TWO_OF_EACH.split_at(len as usize).0;
+        expect(&rt, rt.alloc(), Form::Bsd, front, 1, bsd_front(len));
+    }
+    for len in 0..129u32 {
+        let front = SEVERAL.split_at(len as usize).0;
+        expect(&rt, rt.alloc(), Form::Gnu, front, 1, gnu_front(len));
+    }
+    Ok(())
+}
+
+#[test]
+fn every_cut_into_two_gives_the_same(rt: HostRuntime) -> Result<(), Fail> {
+    for cut in 0..61usize {
+        expect_cut(&rt, rt.alloc(), Form::Bsd, &TWO_OF_EACH, cut, Ok(3));
+    }
+    for cut in 0..129usize {
+        expect_cut(&rt, rt.alloc(), Form::Gnu, &SEVERAL, cut, Ok(4));
+    }
+    Ok(())
+}
+
+/// A file of 100,000 bytes in pieces of 4,096 is read as the whole, with so many records.
+fn expect_large(rt: &impl Abort, alloc: Global, form: Form, bytes: &[u8], count: usize) {
+    assert_eq!(rt; bytes.len(), 100_000);
+    expect(rt, alloc, form, bytes, 4_096, Ok(count));
+}
+
+#[test]
+fn a_file_of_100_000_bytes_is_read_in_pieces(rt: HostRuntime) -> Result<(), Fail> {
+    let bsd = large_bsd_file(rt.alloc())?;
+    expect_large(&rt, rt.alloc(), Form::Bsd, &bsd, 7_665);
+    let gnu = large_gnu_file(rt.alloc())?;
+    expect_large(&rt, rt.alloc(), Form::Gnu, &gnu, 4_008);
+    Ok(())
+}
+
+/// The first bytes of a file, and what is due when they are added.
+struct Added {
+    file: &'static [u8],
+    len: usize,
+    due: Due,
+}
+
+const ADDED: [Added; 10] = [
+    Added {
+        file: &HEADER_ALONE,
+        len: 32,
+        due: Due {
+            name: "no counter and no arc",
+            answer: Ok(()),
+            numbers: [0, 0, 0],
+        },
+    },
+    Added {
+        file: &TWO_OF_EACH,
+        len: 60,
+        due: Due {
+            name: "two of each",
+            answer: Ok(()),
+            numbers: [259, 16, 0],
+        },
+    },
+    Added {
+        file: &TWO_OF_EACH,
+        len: 48,
+        due: Due {
+            name: "counters and an arc",
+            answer: Ok(()),
+            numbers: [259, 7, 0],
+        },
+    },
+    Added {
+        file: &BSD_RUN,
+        len: 76,
+        due: Due {
+            name: "a small run",
+            answer: Ok(()),
+            numbers: [304, 4, 0],
+        },
+    },
+    Added {
+        file: &SEVERAL,
+        len: 20,
+        due: Due {
+            name: "a header",
+            answer: Ok(()),
+            numbers: [0, 0, 0],
+        },
+    },
+    Added {
+        file: &SEVERAL,
+        len: 128,
+        due: Due {
+            name: "two histograms",
+            answer: Ok(()),
+            numbers: [6, 0, 9],
+        },
+    },
+    Added {
+        file: &GNU_RUN,
+        len: 100,
+        due: Due {
+            name: "arcs behind a histogram",
+            answer: Ok(()),
+            numbers: [304, 4, 0],
+        },
+    },
+    Added {
+        file: &LARGE_NUMBERS,
+        len: 275,
+        due: Due {
+            name: "large numbers",
+            answer: Ok(()),
+            numbers: [265_535, 0x2_0000_0000, 0x2_0000_0005],
+        },
+    },
+    Added {
+        file: &UNLIKE,
+        len: 74,
+        due: Due {
+            name: "no record behind an arc",
+            answer: Ok(()),
+            numbers: [3, 7, 0],
+        },
+    },
+    Added {
+        file: &UNLIKE,
+        len: 128,
+        due: Due {
+            name: "another rate behind an arc",
+            answer: Err(ReadRefusal::Profile(AddRefusal::Unlike(Unlike::Rate {
+                old: 100,
+                new: 50,
+            }))),
+            numbers: [3, 7, 0],
+        },
+    },
+];
+
+fn expect_added_in_pieces(rt: &impl Abort, alloc: Global, row: &Added) {
+    assert!(rt; row.len <= row.file.len(), "{}", row.due.name);
+    assert!(rt; row.file.len() <= 1_000, "{}", row.due.name);
+    let bytes = row.file.split_at(row.len).0;
+    for size in [1usize, 7, 100, 1_000] {
+        expect_added(rt, alloc, bytes, size, row.due);
+    }
+}
+
+#[test]
+fn what_was_fed_is_added(rt: HostRuntime) -> Result<(), Fail> {
+    for row in &ADDED {
+        expect_added_in_pieces(&rt, rt.alloc(), row);
+    }
+    Ok(())
+}
