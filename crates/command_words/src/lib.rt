@@ -2,6 +2,7 @@
 #![tactic(auto)]
 
 mod items;
+pub mod laws;
 pub mod names;
 mod numbers;
 mod options;

@@ -1,6 +1,6 @@
 //! What follows from the contract of the program.
 
-ghost use Rattle.std.specs.Prelude.{◌≡◌, ◌<◌, ◌↔◌, ◌⊎◌, ◌++◌, ℕ, List, true, None, Result, Err, IsOk, [], length};
+ghost use Rattle.std.specs.Prelude.{◌≡◌, ◌↔◌, ◌⊎◌, ◌++◌, ℕ, List, true, Result, Err, IsOk, []};
 ghost use Rattle.host_port.specs.Act.{Act};
 ghost use Rattle.host_port.specs.Outside.{Outside};
 ghost use Rattle.rvgprof.specs.declared.outcome.Done.{Done};
@@ -57,12 +57,6 @@ pub fn accepted_is_done()
 pub fn what_memory_leaves()
     ensures prefix { (contents : ℕ → List ℕ) (course : Course) (acts : List Act) → MayStop contents course acts → (rest : List Act) × ((reply_to contents course).acts ≡ acts ++ rest) }
     ensures nothing { (words : List (List ℕ)) (contents : ℕ → List ℕ) (acts : List Act) → acts_at_once (command_of words) ≡ true → MayStop contents (course_of words) acts → acts ≡ [] }
-{}
-
-/// No line of more than 200 words has a reading: a command has few operands, and each of its options may be
-/// given only so often.
-pub fn lines_are_short()
-    ensures { (words : List (List ℕ)) → 200 < length words → command_of words ≡ None }
 {}
 
 /// What the words of the headline rest on in the layers below, in one statement. Each claim is written out, and

@@ -1,9 +1,9 @@
 //! Profile files that come in pieces.
 
 use super::words_from;
-use super::{Done, Fault, rvgprof};
 use gp_base::GmonRefusal;
 use host_port::MemHost;
+use rvgprof::{Done, Fault, rvgprof};
 use std::alloc::{AllocError, Global};
 use std::process::Abort;
 use std::test::Fail;
