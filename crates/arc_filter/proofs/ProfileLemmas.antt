@@ -11,7 +11,7 @@ use Rattle.gmon_data.specs.declared.refusal.AddRefusal.TheVariants as answers
 use Rattle.gmon_data.specs.declared.refusal.Unlike.{Unlike}
 use Rattle.gmon_data.specs.Hists.{put_hist, IsApart, IsKept, IsUnlike}
 use Rattle.gmon_data.specs.Tally.{tally, total_of}
-use Rattle.gmon_data.specs.Content.{Content, PairFits, IsProfile, IsWithin, WideRec, empty_content, same_pair, with_arc, with_records}
+use Rattle.gmon_data.specs.Content.{Content, PairFits, IsProfile, IsWithin, WideRec, empty_content, same_ends, with_arc, with_records}
 use Rattle.gmon_data.proofs.ContentLemmas.{pair-equal, pair-self, same-self}
 use Rattle.gmon_data.proofs.RecordLemmas.{IsUnderway, cut_at, one_added, one_more, within_next}
 use Rattle.gmon_data.proofs.TallyLemmas.{turned}
@@ -72,9 +72,9 @@ profile_left p symbols cuts is = record {
   within = record {
     samples = is.within.samples;
     counters = is.within.counters;
-    calls = omega (arith, is.within.calls, total_less same_pair (stays symbols cuts) p.arcs);
+    calls = omega (arith, is.within.calls, total_less same_ends (stays symbols cuts) p.arcs);
     runs = is.within.runs;
-    pairs = omega (arith, is.within.pairs, fewer same_pair (stays symbols cuts) p.arcs);
+    pairs = omega (arith, is.within.pairs, fewer same_ends (stays symbols cuts) p.arcs);
     addresses = is.within.addresses;
   };
   numbers = record {
@@ -86,7 +86,7 @@ profile_left p symbols cuts is = record {
   hists = is.hists;
   apart = is.apart;
   «unit» = is.«unit»;
-  arcs = distinct_still same_pair (stays symbols cuts) p.arcs is.arcs;
+  arcs = distinct_still same_ends (stays symbols cuts) p.arcs is.arcs;
   blocks = is.blocks;
 }
 
@@ -124,7 +124,7 @@ hists_put (h ∷ hs) kept apart = hist_passed h hs [] kept.0.range apart.0 ∙ a
 pub sum_with_nothing : (q : Content) → IsProfile q → sum_of empty_content q ≡ q
 sum_with_nothing q is =
     let hists = hists_put q.hists is.hists is.apart in
-    let arcs = tallied same_pair pair-self pair-equal q.arcs is.arcs in
+    let arcs = tallied same_ends pair-self pair-equal q.arcs is.arcs in
     let blocks = tallied nat_eq same-self eqb-true q.blocks is.blocks in
     λ i. record q { hists = hists i; arcs = arcs i; blocks = blocks i }
 

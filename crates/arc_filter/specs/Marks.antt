@@ -1,4 +1,5 @@
 -- Which functions the words of cuts name, function by function.
+-- Only private functions and invariants speak of it.
 use Rattle.std.specs.Prelude.{◌≡◌, ℕ, ◌&&◌, false, Bool, List, map, length, slice_index_or}
 use Rattle.std.specs.List.{All, list_any}
 use Rattle.std.specs.Str.{bytes_eq}

@@ -15,7 +15,7 @@ use Rattle.command_words.specs.declared.words.Command.TheVariants.{Show, Syms, R
 use Rattle.command_words.specs.declared.words.Selection.{Selection}
 use Rattle.prof_machine.specs.declared.setup.Setup.{Setup}
 use Rattle.prof_machine.specs.Setup.{IsSetup}
-use Rattle.command_words.specs.Words.{annotate_from, are_cuts, demo_from, few, folded_from, form_asked, may_count, operands_of, profile_from, report_from, run_from, selection_from, shown_asked, sum_from, AreCuts, AreRising, IsCommandOf}
+use Rattle.command_words.specs.Words.{annotate_from, are_cuts, demo_from, few, folded_from, form_asked, may_count, operands_of, profile_from, report_from, run_from, sum_from, AreCuts, AreRising, IsCommandOf}
 
 -- they stand from i on, each behind those before it
 pub record IsOrdered (i : ℕ) (ps : List ℕ) : Type 0 where
@@ -192,20 +192,6 @@ module _ (words : List (List ℕ)) where
   demo_holds (Some n) None setup numbers is = tt
   demo_holds (Some n) (Some elf) None numbers is = tt
   demo_holds (Some n) (Some elf) (Some setup) numbers is = (numbers.0, numbers.1, is)
-
-  -- what is cut is words FROM/TO
-  pub selection_holds : (flat graph exact : Option Bool) (cuts hidden : Option (List ℕ)) → IfSome (selection_from words flat graph exact cuts hidden) (AreCuts words)
-  selection_holds None graph exact cuts hidden = tt
-  selection_holds (Some flat) None exact cuts hidden = tt
-  selection_holds (Some flat) (Some graph) None cuts hidden = tt
-  selection_holds (Some flat) (Some graph) (Some exact) None hidden = tt
-  selection_holds (Some flat) (Some graph) (Some exact) (Some cuts) None = tt
-  selection_holds (Some flat) (Some graph) (Some exact) (Some cuts) (Some hidden) = by (are_cuts words cuts) refl
-    where
-      by : (b : Bool) → are_cuts words cuts ≡ b
-          → IfSome (if b then Some (record { shown = shown_asked flat graph; exact = exact; cuts = cuts; hidden = hidden }) else None) (AreCuts words)
-      by true is = is
-      by false is = tt
 
 -- ---- what is cut
 

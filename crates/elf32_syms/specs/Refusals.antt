@@ -10,7 +10,7 @@ use Rattle.elf32_syms.specs.declared.symbols.Entry.{Entry}
 use Rattle.elf32_syms.specs.Header.{has_flag, has_magic, header_of}
 use Rattle.elf32_syms.specs.Segments.{segments_of, is_cut_off}
 use Rattle.elf32_syms.specs.Sections.{sections_of, executables, text_low, text_high, symbol_table, table_of, strings_of}
-use Rattle.elf32_syms.specs.Symbols.{fitting, is_unnamed, candidates, kept}
+use Rattle.elf32_syms.specs.Symbols.{fitting, has_endless_name, candidates, kept}
 
 -- the kind of file that the header tells
 unfoldable pub kind_refusal : Header → Option ElfRefusal
@@ -70,7 +70,7 @@ table_refusal len sections =
 
 -- the first fitting symbol whose name has no end
 unfoldable pub names_refusal : List ℕ → List Entry → Option ElfRefusal
-names_refusal strings entries = option_map (λ e. Link e.number) (find (is_unnamed strings) entries)
+names_refusal strings entries = option_map (λ e. Link e.number) (find (has_endless_name strings) entries)
 
 -- too many kept symbols
 unfoldable pub count_refusal : List Entry → Option ElfRefusal

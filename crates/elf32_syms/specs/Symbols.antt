@@ -45,8 +45,8 @@ abbrev pub symbol_name : List ℕ → Entry → List ℕ
 symbol_name strings e = name_at strings e.name
 
 -- no zero byte ends the name
-abbrev pub is_unnamed : List ℕ → Entry → Bool
-is_unnamed strings e = not (name_ends strings e.name)
+abbrev pub has_endless_name : List ℕ → Entry → Bool
+has_endless_name strings e = not (name_ends strings e.name)
 
 -- the candidates: the fitting symbols with a name of at least one byte
 abbrev pub has_name : List ℕ → Entry → Bool

@@ -75,7 +75,7 @@ impl Image {
 ///
 /// A file that is refused is refused for the first reason in this order: its header; the sizes of
 /// its tables' entries, and their places; a segment that is cut off; the range of its text; the
-/// place of its symbol table, the link to its strings, and their place; a symbol with no name; too
+/// place of its symbol table, the link to its strings, and their place; a symbol whose name doesn't end within the strings; too
 /// many kept symbols. `OutOfMemory` may come at any point.
 pub fn read(alloc: Global, bytes: &[u8]) -> Result<Image, ElfRefusal>
     requires { length bytes.now ≤ MAX_ELF_BYTES }

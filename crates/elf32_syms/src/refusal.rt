@@ -27,8 +27,8 @@ pub enum ElfRefusal {
     TableSize { value: u32 },
     /// What begins at this offset of the file does not end within it.
     OutOfFile { at: u32 },
-    /// No string section stands at this section number, or the symbol of this number has no name
-    /// in it.
+    /// No string section stands at this section number, or the name of the symbol of this number
+    /// doesn't end within it.
     Link { index: u32 },
     /// The executable sections reach from `low` to below `high`, which is nothing at all, too
     /// long, or too high.

@@ -1,4 +1,5 @@
 -- What the fields of an exact flow stand for.
+-- Only private functions and invariants speak of it.
 use Rattle.std.specs.Prelude.{map}
 use Rattle.fraction128.specs.Values.{value_of}
 use Rattle.exact_flow.specs.Times.{ExactFlowValue}

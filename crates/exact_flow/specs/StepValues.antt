@@ -1,4 +1,5 @@
 -- What a step's fractions stand for.
+-- Only private functions and invariants speak of it.
 use Rattle.fraction128.specs.Values.{value_of}
 use Rattle.exact_flow.specs.Steps.{StepNumbers}
 use Rattle.exact_flow.specs.declared.step.Given.{Given}

@@ -40,6 +40,9 @@ const HEADINGS: &[u8] =
 /// A function whose name is among `hidden` has no line. The seconds of the lines up to another one count it
 /// as if it had.
 ///
+/// Symbols and shares are as many as the graph has functions, the flow is that of the graph with these shares,
+/// all calls are fewer than 2^59, and `rate` is at least 1.
+///
 /// After `WriteFault` a prefix of the text is printed, and not all of it. `OutOfMemory` comes before the
 /// first byte.
 pub fn write<H: Host>(

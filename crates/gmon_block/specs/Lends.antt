@@ -1,4 +1,5 @@
 -- What `Bytes` holds after a write through the slice that it lent.
+-- Only private functions and invariants speak of it.
 use Rattle.std.specs.Prelude.{ℕ, List}
 use Rattle.std.specs.List.{refill, length_refill}
 use Rattle.std.specs.Borrow.{Lends, MutBor, Fml, Array, u8}

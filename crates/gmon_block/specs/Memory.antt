@@ -1,4 +1,5 @@
 -- What the parts of the raw memory own.
+-- Only private functions and invariants speak of it.
 use Rattle.std.specs.Prelude.{ℕ, List}
 use base.Fraction.{full_share}
 use base.Fml.{Fml, Lft}

@@ -8,7 +8,7 @@ use Rattle.gp_base.specs.declared.records.Records.{Records}
 use Rattle.gp_base.specs.declared.records.Unit as units
 use Rattle.gmon_data.specs.declared.hist.Hist.{Hist}
 use Rattle.gmon_data.specs.Hists.{has_counters, kept_unit, put_hist}
-use Rattle.gmon_data.specs.Content.{Content, WideRec, WideHist, IsWithin, content_of, empty_content, same_pair, wide_arc, wide_records, with_arc, with_hist}
+use Rattle.gmon_data.specs.Content.{Content, WideRec, WideHist, IsWithin, content_of, empty_content, same_ends, wide_arc, wide_records, with_arc, with_hist}
 use Rattle.gmon_data.proofs.BoundLemmas.{counters_at_most, tally_at_most}
 use Rattle.gmon_data.proofs.HistLemmas.{samples-put}
 use Rattle.gmon_data.proofs.RecordLemmas.{arcs_widened}
@@ -48,8 +48,8 @@ pub one_arc : (from to count : ℕ) (c : Content) (n : ℕ) → count < 2 ^ 32 �
 one_arc from to count c n few of = record {
   samples = of.samples;
   counters = of.counters;
-  calls = omega (arith, of.calls, few, sum-tally same_pair (from, to) count c.arcs);
-  pairs = omega (arith, of.pairs, tally_at_most same_pair (from, to) count c.arcs);
+  calls = omega (arith, of.calls, few, sum-tally same_ends (from, to) count c.arcs);
+  pairs = omega (arith, of.pairs, tally_at_most same_ends (from, to) count c.arcs);
   runs = of.runs;
   addresses = of.addresses;
 }

@@ -1,4 +1,5 @@
 -- How a reader holds what it has kept.
+-- Only private functions and invariants speak of it.
 use Rattle.std.specs.Prelude.{◌≤◌, length}
 use Rattle.gmon_bsd.specs.declared.reader.Reader.TheInside.{Inside}
 use Rattle.gmon_bsd.specs.Fed.{Kept}

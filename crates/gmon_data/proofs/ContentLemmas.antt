@@ -10,20 +10,20 @@ use Rattle.gmon_data.specs.declared.hist.HistRange.{HistRange}
 use Rattle.gmon_data.specs.Hists.{conflict_with, has_counters, kept_unit, put_hist, range_conflict, unit_conflict}
 use Rattle.gmon_data.proofs.HistLemmas.{first_none}
 use Rattle.gmon_data.specs.Tally.{tally, sums_by_key, total_of}
-use Rattle.gmon_data.specs.Content.{WideRec, WideHist, WideArc, WideBlock, Content, same_pair, arc_in, block_in, hist_in, unit_in, hists_of, arcs_of, blocks_of, unit_of, content_of, with_hist, with_arc, with_block, IsWithin}
+use Rattle.gmon_data.specs.Content.{WideRec, WideHist, WideArc, WideBlock, Content, same_ends, arc_in, block_in, hist_in, unit_in, hists_of, arcs_of, blocks_of, unit_of, content_of, with_hist, with_arc, with_block, IsWithin}
 use Rattle.gmon_data.proofs.TallyLemmas.{sums_by_key-more, sum-tally}
 
 pub same-self : (k : ℕ) → nat_eq k k ≡ true
 same-self k = eq-eqb k k refl
 
-pub pair-self : (p : ℕ × ℕ) → same_pair p p ≡ true
+pub pair-self : (p : ℕ × ℕ) → same_ends p p ≡ true
 pair-self p = ap (λ b. b && nat_eq p.1 p.1) (same-self p.0) ∙ same-self p.1
 
 both : (a b : Bool) → (a && b) ≡ true → (a ≡ true) × (b ≡ true)
 both true b h = (refl, h)
 both false b h = absurd (true≢false (sym h))
 
-pub pair-equal : (p q : ℕ × ℕ) → same_pair p q ≡ true → p ≡ q
+pub pair-equal : (p q : ℕ × ℕ) → same_ends p q ≡ true → p ≡ q
 pair-equal p q h =
     let parts = both (nat_eq p.0 q.0) (nat_eq p.1 q.1) h in
     let first : p.0 ≡ q.0 = eqb-true p.0 q.0 parts.0 in
@@ -34,7 +34,7 @@ pub content-arc : (from to count : ℕ) (recs : List WideRec) → content_of (re
 unfolding content_of
 content-arc from to count recs =
     let arc = WideArc from to count ∷ [] in
-    let arcs = ap (sums_by_key same_pair) (filter_map-append arc_in recs arc) ∙ sums_by_key-more same_pair pair-self pair-equal (from, to) count (filter_map arc_in recs) in
+    let arcs = ap (sums_by_key same_ends) (filter_map-append arc_in recs arc) ∙ sums_by_key-more same_ends pair-self pair-equal (from, to) count (filter_map arc_in recs) in
     let blocks = ap (sums_by_key nat_eq) (filter_map-append block_in recs arc ∙ append-nil (filter_map block_in recs)) in
     let hists = filter_map-append hist_in recs arc ∙ append-nil (filter_map hist_in recs) in
     let units = filter_map-append unit_in recs arc ∙ append-nil (filter_map unit_in recs) in
@@ -45,7 +45,7 @@ unfolding content_of
 content-block addr count recs =
     let block = WideBlock addr count ∷ [] in
     let blocks = ap (sums_by_key nat_eq) (filter_map-append block_in recs block) ∙ sums_by_key-more nat_eq same-self eqb-true addr count (filter_map block_in recs) in
-    let arcs = ap (sums_by_key same_pair) (filter_map-append arc_in recs block ∙ append-nil (filter_map arc_in recs)) in
+    let arcs = ap (sums_by_key same_ends) (filter_map-append arc_in recs block ∙ append-nil (filter_map arc_in recs)) in
     let hists = filter_map-append hist_in recs block ∙ append-nil (filter_map hist_in recs) in
     let units = filter_map-append unit_in recs block ∙ append-nil (filter_map unit_in recs) in
     λ i. record { hists = fold (λ done h. put_hist h done) [] (hists i); arcs = arcs i; blocks = blocks i; «unit» = slice_get (units i) 0 }
@@ -58,7 +58,7 @@ pub content-hist : (h : Hist) (u : units.Unit) (recs : List WideRec) → content
 unfolding content_of
 content-hist h u recs =
     let more = WideHist h u ∷ [] in
-    let arcs = ap (sums_by_key same_pair) (filter_map-append arc_in recs more ∙ append-nil (filter_map arc_in recs)) in
+    let arcs = ap (sums_by_key same_ends) (filter_map-append arc_in recs more ∙ append-nil (filter_map arc_in recs)) in
     let blocks = ap (sums_by_key nat_eq) (filter_map-append block_in recs more ∙ append-nil (filter_map block_in recs)) in
     let hists = ap (fold (λ done h. put_hist h done) []) (filter_map-append hist_in recs more) in
     let units = ap (λ us. slice_get us 0) (filter_map-append unit_in recs more) in
@@ -104,10 +104,10 @@ on_ok (Err e) p f = p
 module _ (from to count : ℕ) (v w : Content) where
   pub arc_fits : v ≡ w → IsWithin (with_arc from to count w) → total_of v.arcs + count < 2 ^ 64
   arc_fits is fits =
-      let same : total_of (tally same_pair (from, to) count v.arcs) ≡ total_of (tally same_pair (from, to) count w.arcs) = ap (λ c. total_of (tally same_pair (from, to) count c.arcs)) is in
-      omega (arith, same, fits.calls, sum-tally same_pair (from, to) count v.arcs)
+      let same : total_of (tally same_ends (from, to) count v.arcs) ≡ total_of (tally same_ends (from, to) count w.arcs) = ap (λ c. total_of (tally same_ends (from, to) count c.arcs)) is in
+      omega (arith, same, fits.calls, sum-tally same_ends (from, to) count v.arcs)
 
-  pub arc_stands : (new : List ((ℕ × ℕ) × ℕ)) → v ≡ w → new ≡ tally same_pair (from, to) count v.arcs
+  pub arc_stands : (new : List ((ℕ × ℕ) × ℕ)) → v ≡ w → new ≡ tally same_ends (from, to) count v.arcs
       → (recs : List WideRec) → w ≡ content_of recs → record v { arcs = new } ≡ content_of (recs ++ WideArc from to count ∷ [])
   arc_stands new is added recs before =
       ap (λ l. record v { arcs = l }) added ∙ ap (with_arc from to count) (is ∙ before) ∙ sym (content-arc from to count recs)

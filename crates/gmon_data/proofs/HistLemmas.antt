@@ -110,11 +110,6 @@ samples-at [] i k at = absurd cc
 samples-at (x ∷ xs) zero k at = omega (arith, ap (λ (z : Hist). sum z.counters) (some_same x k at), sum_by-cons (λ (z : Hist). sum z.counters) x xs)
 samples-at (x ∷ xs) (suc i) k at = omega (arith, samples-at xs i k at, sum_by-cons (λ (z : Hist). sum z.counters) x xs)
 
-pub counters-at : (hs : List Hist) (i : ℕ) (k : Hist) → slice_get hs i ≡ Some k → length k.counters ≤ sum_by (λ k. length k.counters) hs
-counters-at [] i k at = absurd cc
-counters-at (x ∷ xs) zero k at = omega (arith, ap (λ (z : Hist). length z.counters) (some_same x k at), sum_by-cons (λ (k : Hist). length k.counters) x xs)
-counters-at (x ∷ xs) (suc i) k at = omega (arith, counters-at xs i k at, sum_by-cons (λ (k : Hist). length k.counters) x xs)
-
 kept_plus : (k h : Hist) → IsKept k → IsKept h → IsKept (hist_sum k h)
 kept_plus k h a b = record { range = a.range; some = omega (arith, longer k.counters h.counters, b.some) }
 

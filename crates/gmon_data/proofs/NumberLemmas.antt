@@ -11,7 +11,7 @@ use Rattle.gp_base.specs.declared.records.Rec.TheVariants as raw
 use Rattle.gmon_data.specs.declared.hist.Hist.{Hist}
 use Rattle.gmon_data.specs.Hists.{has_counters, hist_sum, kept_unit, pointwise_sum, put_hist}
 use Rattle.gmon_data.specs.Tally.{tally}
-use Rattle.gmon_data.specs.Content.{Content, same_pair, wide_hist, wide_record, with_arc, with_block, with_hist, with_records, AddressFits, HistNumbersFit, IsProfile, IsWithin, NumbersFit, PairFits}
+use Rattle.gmon_data.specs.Content.{Content, same_ends, wide_hist, wide_record, with_arc, with_block, with_hist, with_records, AddressFits, HistNumbersFit, IsProfile, IsWithin, NumbersFit, PairFits}
 use Rattle.gmon_data.proofs.HistLemmas.{counters-put}
 
 all_tally : {K : Type 0} (P : K × ℕ → Type 0) (same : K → K → Bool) (k : K) (n : ℕ) (es : List (K × ℕ))
@@ -42,7 +42,7 @@ hists_fit h (k ∷ ks) mine all = by (ltb k.low h.low) (eqb k.low h.low) (hists_
 module _ (c : Content) (fit : NumbersFit c) where
   pub numbers_with_arc : (from to count : ℕ) → from < 2 ^ 32 → to < 2 ^ 32 → NumbersFit (with_arc from to count c)
   numbers_with_arc from to count low high =
-      record { hists = fit.hists; arcs = all_tally PairFits same_pair (from, to) count c.arcs (low, high) (λ e h. h) fit.arcs; blocks = fit.blocks; «unit» = fit.«unit» }
+      record { hists = fit.hists; arcs = all_tally PairFits same_ends (from, to) count c.arcs (low, high) (λ e h. h) fit.arcs; blocks = fit.blocks; «unit» = fit.«unit» }
 
   pub numbers_with_block : (addr count : ℕ) → addr < 2 ^ 32 → NumbersFit (with_block addr count c)
   numbers_with_block addr count low =
@@ -63,7 +63,7 @@ few_of_record rec hist c is within = few_counters (wide_hist hist) hist.«unit»
 
 module _ (v w : Content) (is : v ≡ w) (profile : IsProfile v) where
   pub arcs_stay : (from to count : ℕ) (new : List ((ℕ × ℕ) × ℕ)) (r : Result (Unit {0}) AllocError) → from < 2 ^ 32 → to < 2 ^ 32 → IsWithin (with_arc from to count w)
-      → OnOk r (new ≡ tally same_pair (from, to) count v.arcs) → OnErr r (new ≡ v.arcs) → IsDistinct same_pair (keys_of new) → IsProfile (record v { arcs = new })
+      → OnOk r (new ≡ tally same_ends (from, to) count v.arcs) → OnErr r (new ≡ v.arcs) → IsDistinct same_ends (keys_of new) → IsProfile (record v { arcs = new })
   arcs_stay from to count new (Ok u) low high within added same distinct =
       subst (λ (es : List ((ℕ × ℕ) × ℕ)). IsProfile (record v { arcs = es })) (sym added) (record {
         within = subst (λ (c : Content). IsWithin (with_arc from to count c)) (sym is) within;
@@ -71,7 +71,7 @@ module _ (v w : Content) (is : v ≡ w) (profile : IsProfile v) where
         hists = profile.hists;
         apart = profile.apart;
         «unit» = profile.«unit»;
-        arcs = subst (λ (es : List ((ℕ × ℕ) × ℕ)). IsDistinct same_pair (keys_of es)) added distinct;
+        arcs = subst (λ (es : List ((ℕ × ℕ) × ℕ)). IsDistinct same_ends (keys_of es)) added distinct;
         blocks = profile.blocks;
       })
   arcs_stay from to count new (Err e) low high within added same distinct = subst (λ (es : List ((ℕ × ℕ) × ℕ)). IsProfile (record v { arcs = es })) (sym same) profile

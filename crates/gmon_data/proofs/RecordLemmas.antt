@@ -18,7 +18,7 @@ use Rattle.gmon_data.specs.declared.refusal.AddRefusal.{AddRefusal}
 use Rattle.gmon_data.specs.declared.refusal.AddRefusal.TheVariants as answers
 use Rattle.gmon_data.specs.Hists.{put_hist, hist_sum, has_counters, kept_unit, pointwise_sum, unlike_in, IsUnlike}
 use Rattle.gmon_data.specs.Tally.{tally}
-use Rattle.gmon_data.specs.Content.{Content, WideRec, WideHist, WideArc, WideBlock, same_pair, with_hist, with_record, with_records, record_conflict, conflict_of, content_of, wide_arc, wide_block, wide_record, wide_records, IsWithin, IsAdded, IsStopped, IsRefusedFirst}
+use Rattle.gmon_data.specs.Content.{Content, WideRec, WideHist, WideArc, WideBlock, same_ends, with_hist, with_record, with_records, record_conflict, conflict_of, content_of, wide_arc, wide_block, wide_record, wide_records, IsWithin, IsAdded, IsStopped, IsRefusedFirst}
 use Rattle.gmon_data.proofs.TallyLemmas.{sum-tally}
 use Rattle.gmon_data.proofs.HistLemmas.{samples-put, some_same}
 use Rattle.gmon_data.proofs.ContentLemmas.{content-hist, content-arc, content-block}
@@ -105,8 +105,8 @@ within_record (WideArc from to count) c w = record {
   counters = w.counters;
   runs = w.runs;
   addresses = w.addresses;
-  calls = omega (arith, w.calls, sum-tally same_pair (from, to) count c.arcs);
-  pairs = omega (arith, w.pairs, tally_grows same_pair (from, to) count c.arcs);
+  calls = omega (arith, w.calls, sum-tally same_ends (from, to) count c.arcs);
+  pairs = omega (arith, w.pairs, tally_grows same_ends (from, to) count c.arcs);
 }
 within_record (WideBlock addr count) c w = record {
   samples = w.samples;

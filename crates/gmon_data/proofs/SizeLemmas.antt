@@ -8,7 +8,7 @@ use Rattle.gp_base.specs.declared.records.RawBlock.{RawBlock}
 use Rattle.gp_base.specs.Fields.{ArcFits, BlockFits}
 use Rattle.gmon_data.specs.declared.hist.Hist.{Hist}
 use Rattle.gmon_data.specs.Hists.{has_counters, kept_unit, put_hist}
-use Rattle.gmon_data.specs.Content.{Content, IsWithin, empty_content, same_pair, wide_arc, wide_block, with_arc, with_block, with_hist, with_records}
+use Rattle.gmon_data.specs.Content.{Content, IsWithin, empty_content, same_ends, wide_arc, wide_block, with_arc, with_block, with_hist, with_records}
 use Rattle.gmon_data.specs.Sizes.{IsOfBytes}
 use Rattle.gmon_data.proofs.BoundLemmas.{counters_at_most, tally_at_most}
 use Rattle.gmon_data.proofs.HistLemmas.{samples-put}
@@ -54,9 +54,9 @@ pub one_arc : (from to count : ℕ) (c : Content) (n : ℕ) → count < 2 ^ 32 �
 one_arc from to count c n few of = record {
   samples = omega (arith, of.samples);
   counters = omega (arith, of.counters);
-  calls = omega (arith, of.calls, few, sum-tally same_pair (from, to) count c.arcs);
+  calls = omega (arith, of.calls, few, sum-tally same_ends (from, to) count c.arcs);
   runs = omega (arith, of.runs);
-  pairs = omega (arith, of.pairs, tally_at_most same_pair (from, to) count c.arcs);
+  pairs = omega (arith, of.pairs, tally_at_most same_ends (from, to) count c.arcs);
   addresses = omega (arith, of.addresses);
 }
 

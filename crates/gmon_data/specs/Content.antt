@@ -37,8 +37,8 @@ empty_content = record { hists = []; arcs = []; blocks = []; «unit» = None }
 abbrev pub runs_at : ℕ → List (ℕ × ℕ) → ℕ
 runs_at addr blocks = unwrap_or (lookup (nat_eq addr) blocks) 0
 
-abbrev pub same_pair : ℕ × ℕ → ℕ × ℕ → Bool
-same_pair p q = nat_eq p.0 q.0 && nat_eq p.1 q.1
+abbrev pub same_ends : ℕ × ℕ → ℕ × ℕ → Bool
+same_ends p q = nat_eq p.0 q.0 && nat_eq p.1 q.1
 
 abbrev pub arc_in : WideRec → Option ((ℕ × ℕ) × ℕ)
 arc_in (WideHist h u) = None
@@ -68,7 +68,7 @@ abbrev pub unit_of : List WideRec → Option units.Unit
 unit_of recs = slice_get (filter_map unit_in recs) 0
 
 abbrev pub arcs_of : List WideRec → List ((ℕ × ℕ) × ℕ)
-arcs_of recs = sums_by_key same_pair (filter_map arc_in recs)
+arcs_of recs = sums_by_key same_ends (filter_map arc_in recs)
 
 abbrev pub blocks_of : List WideRec → List (ℕ × ℕ)
 blocks_of recs = sums_by_key nat_eq (filter_map block_in recs)
@@ -84,7 +84,7 @@ abbrev pub hist_conflict : Content → Hist → units.Unit → Option Unlike
 hist_conflict c h u = if has_counters h then conflict_with c.hists c.«unit» (range_of h) (kept_unit u) else None
 
 abbrev pub with_arc : ℕ → ℕ → ℕ → Content → Content
-with_arc from to count c = record c { arcs = tally same_pair (from, to) count c.arcs }
+with_arc from to count c = record c { arcs = tally same_ends (from, to) count c.arcs }
 
 abbrev pub with_block : ℕ → ℕ → Content → Content
 with_block addr count c = record c { blocks = tally nat_eq addr count c.blocks }
@@ -203,5 +203,5 @@ pub record IsProfile (c : Content) : Type 0 where
   pub hists : AllByRecursion IsKept c.hists
   pub apart : IsApart c.hists
   pub «unit» : IsUnitOf c.hists c.«unit»
-  pub arcs : IsDistinct same_pair (keys_of c.arcs)
+  pub arcs : IsDistinct same_ends (keys_of c.arcs)
   pub blocks : IsDistinct nat_eq (keys_of c.blocks)

@@ -13,7 +13,6 @@ use Rattle.host_port.specs.Load.{Loads}
 use Rattle.host_port.specs.declared.loading.LoadRefusal.TheVariants.{TooLarge}
 use Rattle.host_port.proofs.Laws.{Did-then}
 use Rattle.host_port.proofs.LoadLemmas.{Joins, Loading}
-use Rattle.gp_base.specs.declared.records.Records.{Records}
 use Rattle.gp_base.specs.declared.refusal.GmonRefusal.TheVariants.{Short}
 use Rattle.gmon_bsd.specs.Reading.{bsd_refusal}
 use Rattle.gmon_bsd.proofs.FieldLemmas.{spelled_of as bsd_spelled}

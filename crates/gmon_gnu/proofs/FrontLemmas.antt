@@ -1,10 +1,8 @@
 -- What stands at the front of a text.
-use Rattle.std.proofs.Common.{◌≡◌, ℕ, zero, suc, ◌*◌, ◌≤◌, Bool, true, false, ltb, leb, ◌&&◌, List, [], length, drop, length-drop, Option, Some, if◌then◌else◌, refl, ap, subst, arith}
+use Rattle.std.proofs.Common.{◌≡◌, ℕ, zero, suc, ◌*◌, ◌≤◌, Bool, true, false, ltb, leb, ◌&&◌, List, [], length, drop, length-drop, if◌then◌else◌, refl, ap, subst, arith}
 use Rattle.gp_base.specs.declared.records.Rec.{Rec}
 use Rattle.gp_base.specs.declared.refusal.GmonRefusal.{GmonRefusal}
-use Rattle.gp_base.specs.declared.refusal.GmonRefusal.TheVariants.{Short, Version, Tag, Range, Size, Rest, OutOfMemory}
 use Rattle.gp_base.specs.Bytes.{word_at}
-use Rattle.gp_base.specs.Refusal.{IsRefusal}
 use Rattle.gmon_gnu.specs.Reading.{Front, Refused, Found, body_front}
 
 pub found_then : (b : Bool) (e : GmonRefusal) (f : Front) (r : Rec) (rest : List ℕ) → (if b then Refused e else f) ≡ Found r rest → (b ≡ false) × (f ≡ Found r rest)
@@ -44,13 +42,3 @@ front_shorter len at (suc (suc zero)) body r rest is =
     let d = found_then (ltb (length (drop 4 body)) (n * 8)) _ _ r rest a.1 in
     no_longer (drop (n * 8) (drop 4 body)) rest body (same_found _ r _ rest d.1).1 (omega (arith, length-drop (n * 8) (drop 4 body), length-drop 4 body))
 front_shorter len at (suc (suc (suc tag))) body r rest is = absurd cc
-
--- a refusal that is given in one place, and so in another
-pub refusal_moved : (e : GmonRefusal) (given other : Option GmonRefusal) → (given ≡ Some e → other ≡ Some e) → IsRefusal e given → IsRefusal e other
-refusal_moved (Short at) given other moved is = moved is
-refusal_moved (Version value) given other moved is = moved is
-refusal_moved (Tag at value) given other moved is = moved is
-refusal_moved (Range at low high) given other moved is = moved is
-refusal_moved (Size value) given other moved is = moved is
-refusal_moved (Rest at) given other moved is = moved is
-refusal_moved OutOfMemory given other moved is = tt

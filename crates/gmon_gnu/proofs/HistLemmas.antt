@@ -1,10 +1,6 @@
 -- Histograms and counts of blocks that were read field by field.
-use Rattle.std.proofs.Common.{◌≡◌, ℕ, ◌<◌, ◌≤◌, false, ltb, leb, ◌&&◌, List, [], ◌∷◌, take, slice_index, refl, ◌⊎◌, inl, inr}
+use Rattle.std.proofs.Common.{◌≡◌, ℕ, ◌<◌, ◌≤◌, false, ltb, leb, ◌&&◌, ◌⊎◌, inl, inr}
 use Rattle.std.proofs.lemmas.Bool.{le-ltb, lt-leb, and_left, and_right}
-
-first_of_one : (xs : List ℕ) → slice_index (take 1 xs) 0 ≡ slice_index xs 0
-first_of_one [] = refl
-first_of_one (x ∷ xs) = refl
 
 pub ranged : (n low high : ℕ) → (0 < n × low < high) ⊎ (n ≤ 0) → (ltb 0 n && leb high low) ≡ false
 ranged n low high (inl some) = and_right (ltb 0 n) (leb high low) (lt-leb high low some.1)

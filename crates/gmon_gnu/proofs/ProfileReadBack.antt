@@ -11,7 +11,7 @@ use Rattle.gp_base.specs.declared.records.Records.{Records}
 use Rattle.gmon_data.specs.declared.hist.Hist.{Hist}
 use Rattle.gmon_data.specs.Hists.{put_hist, kept_unit, has_counters, IsKept, IsUnitOf}
 use Rattle.gmon_data.specs.Tally.{sums_by_key}
-use Rattle.gmon_data.specs.Content.{WideRec, WideHist, WideArc, WideBlock, Content, same_pair, hist_in, unit_in, arc_in, block_in, content_of, wide_block, wide_record, wide_records, IsProfile}
+use Rattle.gmon_data.specs.Content.{WideRec, WideHist, WideArc, WideBlock, Content, same_ends, hist_in, unit_in, arc_in, block_in, content_of, wide_block, wide_record, wide_records, IsProfile}
 use Rattle.gmon_data.proofs.ContentLemmas.{pair-self, pair-equal, same-self}
 use Rattle.gmon_data.proofs.TallyLemmas.{sums_by_key-fold}
 use Rattle.gmon_gnu.specs.ProfileText.{profile_text, profile_records, ProfilesAreReadBack}
@@ -121,10 +121,10 @@ content_back p sound =
     ∙ append-nil es in
     let blocks = three block_in A B C
     ∙ (λ i. other_hists block_in (λ _ _. refl) o p.hists i ++ (none-arcs block_in (λ _ _ _. refl) es i ++ all-blocks rs i)) in
-    (λ i. record { hists = fold (λ done h. put_hist h done) [] (hists i); arcs = sums_by_key same_pair (arcs i); blocks = sums_by_key nat_eq (blocks i); «unit» = slice_get (units i) 0 })
+    (λ i. record { hists = fold (λ done h. put_hist h done) [] (hists i); arcs = sums_by_key same_ends (arcs i); blocks = sums_by_key nat_eq (blocks i); «unit» = slice_get (units i) 0 })
     ∙ (λ i. record {
       hists = hists-merge p.hists (ascending_of p.hists sound.hists sound.apart) i;
-      arcs = (sums_by_key-fold same_pair pair-self pair-equal es ∙ numbers-merge same_pair pair-self pair-equal 4294967295 enough4 p.arcs sound.arcs) i;
+      arcs = (sums_by_key-fold same_ends pair-self pair-equal es ∙ numbers-merge same_ends pair-self pair-equal 4294967295 enough4 p.arcs sound.arcs) i;
       blocks = (sums_by_key-fold nat_eq same-self eqb-true (flat_map (λ r. r) rs) ∙ rounds-merge p.blocks sound.blocks) i;
       «unit» = unit_back p.hists o sound.«unit» sound.hists i;
     })

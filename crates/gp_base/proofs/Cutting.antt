@@ -1,5 +1,5 @@
 -- Items of one width, one after the other.
-use Rattle.std.proofs.Common.{◌≡◌, ◌-◌, ℕ, zero, suc, ◌+◌, ◌*◌, ◌<◌, ◌≤◌, slice_get, Some, List, [], ◌∷◌, ◌++◌, length, take, drop, map, length-take, length-drop, length-append, refl, sym, ap, ◌∙◌, append_assoc, arith}
+use Rattle.std.proofs.Common.{◌≡◌, ◌-◌, ℕ, zero, suc, ◌+◌, ◌*◌, ◌<◌, ◌≤◌, slice_get, Some, List, [], ◌∷◌, ◌++◌, length, take, drop, length-take, length-drop, length-append, refl, sym, ap, ◌∙◌, append_assoc, arith}
 use Rattle.std.specs.List.{flat_map, AllByRecursion}
 use Rattle.std.proofs.lemmas.List.{take_at, drop_at, take-take, drop-take, drop-drop}
 use Rattle.gp_base.specs.Bytes.{cut, IsBytes}
@@ -46,10 +46,6 @@ pub length-spelled : {X : Type 0} (w : ℕ) (spelling : X → List ℕ) → ((x 
 length-spelled w spelling long [] = omega arith
 length-spelled w spelling long (x ∷ xs) =
     omega (arith, length-append (spelling x) (flat_map spelling xs), long x, length-spelled w spelling long xs)
-
-pub map-cut : {X Y : Type 0} (f : X → Y) (w : ℕ) (item : List ℕ → X) (n : ℕ) (bs : List ℕ) → map f (cut w item n bs) ≡ cut w (λ b. f (item b)) n bs
-map-cut f w item zero bs = refl
-map-cut {X} {Y} f w item (suc n) bs = ap (λ (v : List Y). f (item (take w bs)) ∷ v) (map-cut f w item n (drop w bs))
 
 -- items within a front are those of the whole
 pub cut-take : {X : Type 0} (w : ℕ) (item : List ℕ → X) (n k : ℕ) (bs : List ℕ) → n * w ≤ k → cut w item n (take k bs) ≡ cut w item n bs

@@ -30,7 +30,7 @@ pub const MIN_RAM_MIB: u32 = 4;
 /// MiB of the largest RAM.
 pub const MAX_RAM_MIB: u32 = 256;
 
-/// The largest value of `--every`, `--budget` and `--rate`, which begin at 1.
+/// The largest value of `--every`, `--budget`, `--rate`, `--quantum` and `--seed`, which begin at 1.
 pub const MAX_NUMBER: u32 = 2_147_483_647;
 
 /// Harts of a run.

@@ -2,7 +2,7 @@
 
 ghost use Rattle.std.specs.Prelude.{◌≡◌, ◌/◌, ◌<◌};
 
-/// `num / den`, rounded down. Where both have 64 bits, so has the division.
+/// `num / den`, rounded down. Where both have 64 bits, it is divided in 64 bits.
 pub fn quotient(num: u128, den: u128) -> u128
     requires { 0 < den }
     ensures { result ≡ num / den }

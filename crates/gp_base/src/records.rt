@@ -9,7 +9,7 @@ pub struct Span {
     pub high: u32,
 }
 
-/// How often code at `from` called the function at `to`.
+/// How often code at `from` called the function at `to`: an arc of 4.4BSD `gmon.h` (`struct rawarc`).
 #[derive(Clone, Copy, Debug, PartialEq, Eq)]
 pub struct RawArc {
     /// The address in the caller that the call came from: the call site.
@@ -19,7 +19,7 @@ pub struct RawArc {
     pub count: u32,
 }
 
-/// How often the basic block at `addr` was executed.
+/// How often the basic block at `addr` was executed: a pair of GNU gmon.out's record of block counts.
 #[derive(Clone, Copy, Debug, PartialEq, Eq)]
 pub struct RawBlock {
     pub addr: u32,
@@ -37,7 +37,8 @@ pub struct Unit {
     pub abbrev: u8,
 }
 
-/// A histogram: `counters` share the addresses from `low` to below `high` evenly.
+/// A histogram: `counters` share the addresses from `low` to below `high` evenly. In GNU gmon.out a record with
+/// tag 0, in 4.4BSD's what the header and the counters say.
 #[derive(Drop)]
 pub struct RawHist {
     pub low: u32,

@@ -12,8 +12,8 @@ use Rattle.flat_report.specs.Sources.{calls_by_others}
 use Rattle.graph_report.specs.Cycles.{inner_calls, is_inside}
 use Rattle.graph_report.specs.Entries.{calls_of_others}
 use Rattle.graph_report.specs.GraphText.{arcs_from, arcs_into, arcs_to, members_of}
-use Rattle.graph_report.specs.Tables.{AreGroups, arc_key, calls_with, places_with}
-use Rattle.graph_report.specs.Prepared.{AreLists}
+use Rattle.graph_report.specs.Groups.{AreGroups, arc_key, calls_with, places_with}
+use Rattle.graph_report.specs.Tables.{AreLists}
 use Rattle.graph_report.specs.declared.keys.ArcKey.TheVariants.{Caller, Callee, Entered, Inner}
 use Rattle.graph_report.proofs.GroupLemmas.{filter_next}
 

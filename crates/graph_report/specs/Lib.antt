@@ -2,8 +2,8 @@ pub mod Cycles
 pub mod Entries
 pub mod GraphText
 pub mod ExactText
+pub mod Groups
 pub mod Tables
-pub mod Prepared
 pub mod Inputs
 pub mod Rows
 pub mod Numbers

@@ -2,7 +2,7 @@
 use Rattle.std.specs.Prelude.{◌≡◌, ◌<◌, ℕ, length, slice_index}
 use Rattle.flat_report.specs.Sources.{Sources}
 use Rattle.graph_report.specs.Entries.{number_in, ordered}
-use Rattle.graph_report.specs.Inputs.{AreInputs, sources_of}
+use Rattle.graph_report.specs.Inputs.{AreInputs, sources_in}
 use Rattle.graph_report.specs.Labels.{AreLabels}
 use Rattle.graph_report.specs.declared.numbers.Numbers.{Numbers}
 use Rattle.graph_report.specs.declared.numbers.Report.{Report}
@@ -18,9 +18,9 @@ pub record AreNumbers (s : Sources) (n : Numbers) : Type 0 where
 
 -- the number of an entry
 abbrev pub number_of : Report → Subject → ℕ
-number_of r = number_in (ordered (sources_of r.inputs))
+number_of r = number_in (ordered (sources_in r.inputs))
 
 pub record IsReport (r : Report) : Type 0 where
   pub inputs : AreInputs r.inputs
-  pub numbers : AreNumbers (sources_of r.inputs) r.numbers
-  pub labels : AreLabels (sources_of r.inputs) r.labels
+  pub numbers : AreNumbers (sources_in r.inputs) r.numbers
+  pub labels : AreLabels (sources_in r.inputs) r.labels

@@ -4,7 +4,7 @@ ghost use Rattle.std.specs.Prelude.{◌≡◌, ◌+◌, ◌<◌, ◌≤◌, ◌+
 ghost use Rattle.call_cycles.specs.Graph.{component_count};
 ghost use Rattle.graph_report.specs.ArcTimes.{AreTimes, times_columns};
 ghost use Rattle.graph_report.specs.GraphText.{cycle_columns, function_columns};
-ghost use Rattle.graph_report.specs.Inputs.{AreInputs, sources_of};
+ghost use Rattle.graph_report.specs.Inputs.{AreInputs, sources_in};
 
 use crate::inputs::{ArcTimes, Inputs};
 use crate::line;
@@ -14,9 +14,9 @@ use text_cols::Line;
 /// has its calls alone.
 pub(crate) fn put_arc(line: &mut Line, inputs: &Inputs<'_>, times: &ArcTimes)
     requires inputs { AreInputs inputs.now }
-    requires times { AreTimes (sources_of inputs.now) times.now }
+    requires times { AreTimes (sources_in inputs.now) times.now }
     requires room { length line.old ≤ 100 }
-    ensures text { line.new ≡ line.old ++ times_columns (sources_of inputs.now) times.now }
+    ensures text { line.new ≡ line.old ++ times_columns (sources_in inputs.now) times.now }
     ensures short { length line.new ≤ length line.old + 128 }
 {
     let a = times.arc;
@@ -35,7 +35,7 @@ pub(crate) fn put_function(line: &mut Line, inputs: &Inputs<'_>, f: u32)
     requires inputs { AreInputs inputs.now }
     requires function { f < inputs.now.sources.graph.now.functions }
     requires room { length line.old ≤ 100 }
-    ensures text { line.new ≡ line.old ++ function_columns (sources_of inputs.now) f }
+    ensures text { line.new ≡ line.old ++ function_columns (sources_in inputs.now) f }
     ensures short { length line.new ≤ length line.old + 128 }
 {
     line::put_times(line, inputs.sources.rate, inputs.share(f), inputs.child(f));
@@ -47,7 +47,7 @@ pub(crate) fn put_cycle(line: &mut Line, inputs: &Inputs<'_>, c: u32)
     requires inputs { AreInputs inputs.now }
     requires component { c < component_count inputs.now.sources.graph.now }
     requires room { length line.old ≤ 100 }
-    ensures text { line.new ≡ line.old ++ cycle_columns (sources_of inputs.now) c }
+    ensures text { line.new ≡ line.old ++ cycle_columns (sources_in inputs.now) c }
     ensures short { length line.new ≤ length line.old + 128 }
 {
     let own = inputs.sources.flow.self_of(c);

@@ -3,7 +3,7 @@
 ghost use Rattle.std.specs.Prelude.{◌≡◌, ◌<◌, ◌++◌, ◌==◌, ◌&&◌, ℕ, true, IfOk, codes, length, slice_index, decimal};
 ghost use Rattle.call_cycles.specs.Graph.{component_count, head_of, is_cycle};
 ghost use Rattle.graph_report.specs.Cycles.{cycle_number};
-ghost use Rattle.graph_report.specs.Tables.{AreNames};
+ghost use Rattle.graph_report.specs.Groups.{AreNames};
 
 use call_cycles::Graph;
 use std::alloc::{AllocError, Global};

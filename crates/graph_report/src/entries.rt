@@ -7,7 +7,7 @@ ghost use Rattle.call_cycles.specs.Flow.{time_of};
 ghost use Rattle.call_cycles.specs.Graph.{component_of, is_cycle};
 ghost use Rattle.flat_report.specs.Sources.{total_of};
 ghost use Rattle.graph_report.specs.GraphText.{cycle_columns, cycle_text, front_text, function_columns, function_text, subject_text};
-ghost use Rattle.graph_report.specs.Inputs.{sources_of};
+ghost use Rattle.graph_report.specs.Inputs.{sources_in};
 ghost use Rattle.graph_report.specs.Numbers.{IsReport, number_of};
 ghost use Rattle.graph_report.specs.Subjects.{IsSubject, cycle_line, function_line};
 ghost use Rattle.graph_report.specs.declared.subjects.Subject.TheVariants.{Cycle, Function};
@@ -27,7 +27,7 @@ const RULE: &[u8] = b"----------------------------------------------------------
 fn function_front(report: &Report<'_>, f: u32) -> Line
     requires report { IsReport report.now }
     requires function { f < report.now.inputs.sources.graph.now.functions }
-    ensures { let s = sources_of report.now.inputs in
+    ensures { let s = sources_in report.now.inputs in
         result ≡ front_text s (number_of report.now (Function f)) (total_of s f) (function_columns s f) }
 {
     let all = report.inputs.sources.shares.attributed();
@@ -52,7 +52,7 @@ fn put_function_line<H: Host>(
 ) -> Result<(), Failed>
     requires report { IsReport report.now }
     requires function { f < report.now.inputs.sources.graph.now.functions }
-    ensures { Adds Output (function_line (sources_of report.now.inputs) (number_of report.now) f) lines.old lines.new (H.outside host.old) (H.outside host.new) result }
+    ensures { Adds Output (function_line (sources_in report.now.inputs) (number_of report.now) f) lines.old lines.new (H.outside host.old) (H.outside host.new) result }
 {
     lines.put(host, function_front(report, f).bytes())?;
     lines.put(host, report.label(f))
@@ -62,7 +62,7 @@ fn put_function_line<H: Host>(
 fn cycle_front(report: &Report<'_>, head: u32) -> Line
     requires report { IsReport report.now }
     requires function { head < report.now.inputs.sources.graph.now.functions }
-    ensures { let s = sources_of report.now.inputs in
+    ensures { let s = sources_in report.now.inputs in
         let c = component_of s.graph head in
         result ≡ front_text s (number_of report.now (Cycle head)) (time_of s.flow c) (cycle_columns s c) }
 {
@@ -90,7 +90,7 @@ fn put_cycle_line<H: Host>(
     requires report { IsReport report.now }
     requires function { head < report.now.inputs.sources.graph.now.functions }
     requires cycle { is_cycle report.now.inputs.sources.graph.now (component_of report.now.inputs.sources.graph.now head) ≡ true }
-    ensures { Adds Output (cycle_line (sources_of report.now.inputs) (number_of report.now) head) lines.old lines.new (H.outside host.old) (H.outside host.new) result }
+    ensures { Adds Output (cycle_line (sources_in report.now.inputs) (number_of report.now) head) lines.old lines.new (H.outside host.old) (H.outside host.new) result }
 {
     lines.put(host, cycle_front(report, head).bytes())?;
     put_cycle_name(report, head, lines, host)
@@ -105,7 +105,7 @@ fn put_function<H: Host>(
 ) -> Result<(), Failed>
     requires report { IsReport report.now }
     requires function { f < report.now.inputs.sources.graph.now.functions }
-    ensures { Adds Output (function_text (sources_of report.now.inputs) (number_of report.now) f) lines.old lines.new (H.outside host.old) (H.outside host.new) result }
+    ensures { Adds Output (function_text (sources_in report.now.inputs) (number_of report.now) f) lines.old lines.new (H.outside host.old) (H.outside host.new) result }
 {
     put_callers(report, report.inputs.arcs_to(f), lines, host)?;
     put_function_line(report, f, lines, host)?;
@@ -123,7 +123,7 @@ fn put_cycle<H: Host>(
     requires report { IsReport report.now }
     requires function { head < report.now.inputs.sources.graph.now.functions }
     requires cycle { is_cycle report.now.inputs.sources.graph.now (component_of report.now.inputs.sources.graph.now head) ≡ true }
-    ensures { Adds Output (cycle_text (sources_of report.now.inputs) (number_of report.now) head) lines.old lines.new (H.outside host.old) (H.outside host.new) result }
+    ensures { Adds Output (cycle_text (sources_in report.now.inputs) (number_of report.now) head) lines.old lines.new (H.outside host.old) (H.outside host.new) result }
 {
     let c = report.inputs.sources.graph.component(head);
     put_callers(report, report.inputs.arcs_into(c), lines, host)?;
@@ -141,7 +141,7 @@ pub(crate) fn put_entry<H: Host>(
 ) -> Result<(), Failed>
     requires report { IsReport report.now }
     requires subject { IsSubject report.now.inputs.sources.graph.now subject }
-    ensures { Adds Output (subject_text (sources_of report.now.inputs) (number_of report.now) subject) lines.old lines.new (H.outside host.old) (H.outside host.new) result }
+    ensures { Adds Output (subject_text (sources_in report.now.inputs) (number_of report.now) subject) lines.old lines.new (H.outside host.old) (H.outside host.new) result }
 {
     match subject {
         Subject::Cycle(head) => put_cycle(report, head, lines, host),

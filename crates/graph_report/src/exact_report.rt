@@ -20,6 +20,9 @@ use text_cols::Line;
 /// Prints the text of an exact flow on the output: its components in order with the outside arcs that leave
 /// them, and the grains of all functions. It takes no memory, and the time grows as components and arcs. After
 /// `Failed` a prefix of the text is printed, and not all of it.
+///
+/// Symbols are as many as the graph has functions, and the times are those of the arcs that lie between
+/// components, in the graph's order.
 pub fn write_exact<H: Host>(
     symbols: &[Symbol],
     graph: &Graph,

@@ -8,7 +8,7 @@ ghost use Rattle.graph_report.specs.ArcTimes.{AreTimes, arc_times};
 ghost use Rattle.graph_report.specs.Cycles.{cycle_name as name_of_cycle, cycle_number as number_of_cycle, inner_calls};
 ghost use Rattle.graph_report.specs.Entries.{calls_of_others};
 ghost use Rattle.graph_report.specs.GraphText.{arcs_from as arcs_that_leave, arcs_into as arcs_that_enter, arcs_to as arcs_that_call, members_of};
-ghost use Rattle.graph_report.specs.Inputs.{AreInputs, sources_of};
+ghost use Rattle.graph_report.specs.Inputs.{AreInputs, sources_in};
 
 use crate::tables::Tables;
 use call_cycles::FunArc;
@@ -34,7 +34,7 @@ impl<'a> Inputs<'a> {
     pub fn name(&self, f: u32) -> &'a [u8]
         requires inputs { AreInputs self.now }
         requires function { f < self.now.sources.graph.now.functions }
-        ensures { result.now ≡ name_of (sources_of self.now) f }
+        ensures { result.now ≡ name_of (sources_in self.now) f }
     {
         self.sources.symbols[f as usize].name.as_slice()
     }
@@ -43,7 +43,7 @@ impl<'a> Inputs<'a> {
     pub fn share(&self, f: u32) -> u128
         requires inputs { AreInputs self.now }
         requires function { f < self.now.sources.graph.now.functions }
-        ensures value { result ≡ share_of (sources_of self.now) f }
+        ensures value { result ≡ share_of (sources_in self.now) f }
         ensures within { result < 2 ^ 65 }
     {
         self.sources.shares.of(f)
@@ -53,7 +53,7 @@ impl<'a> Inputs<'a> {
     pub fn child(&self, f: u32) -> u128
         requires inputs { AreInputs self.now }
         requires function { f < self.now.sources.graph.now.functions }
-        ensures value { result ≡ child_of (sources_of self.now) f }
+        ensures value { result ≡ child_of (sources_in self.now) f }
         ensures within { result < 2 ^ 65 }
     {
         self.sources.flow.member_child(f)
@@ -63,7 +63,7 @@ impl<'a> Inputs<'a> {
     pub fn total(&self, f: u32) -> u128
         requires inputs { AreInputs self.now }
         requires function { f < self.now.sources.graph.now.functions }
-        ensures value { result ≡ total_of (sources_of self.now) f }
+        ensures value { result ≡ total_of (sources_in self.now) f }
         ensures within { result < 2 ^ 65 }
     {
         self.share(f) + self.child(f)
@@ -110,8 +110,8 @@ impl<'a> Inputs<'a> {
     pub fn arc(&self, i: usize) -> ArcTimes
         requires inputs { AreInputs self.now }
         requires arc { i < arc_count self.now.sources.graph.now }
-        ensures value { result ≡ arc_times (sources_of self.now) i }
-        ensures times { AreTimes (sources_of self.now) result }
+        ensures value { result ≡ arc_times (sources_in self.now) i }
+        ensures times { AreTimes (sources_in self.now) result }
     {
         ArcTimes {
             arc: self.sources.graph.arc(i),

@@ -3,7 +3,7 @@
 ghost use Rattle.std.specs.Prelude.{◌≡◌, ◌<◌, IfOk};
 ghost use Rattle.call_cycles.specs.Graph.{arc_count, component_of};
 ghost use Rattle.call_cycles.specs.Sums.{list_of};
-ghost use Rattle.graph_report.specs.Tables.{arc_key};
+ghost use Rattle.graph_report.specs.Groups.{arc_key};
 
 use call_cycles::Graph;
 use std::alloc::{AllocError, Global};

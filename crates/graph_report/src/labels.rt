@@ -1,7 +1,7 @@
 //! The ends of lines that name functions.
 
 ghost use Rattle.std.specs.Prelude.{IfOk};
-ghost use Rattle.graph_report.specs.Inputs.{AreInputs, sources_of};
+ghost use Rattle.graph_report.specs.Inputs.{AreInputs, sources_in};
 ghost use Rattle.graph_report.specs.Labels.{AreLabels};
 ghost use Rattle.graph_report.specs.Numbers.{AreNumbers};
 
@@ -25,8 +25,8 @@ pub(crate) fn function_labels(
     numbers: &Numbers,
 ) -> Result<Labels, AllocError>
     requires inputs { AreInputs inputs.now }
-    requires numbers { AreNumbers (sources_of inputs.now) numbers.now }
-    ensures { IfOk result (AreLabels (sources_of inputs.now)) }
+    requires numbers { AreNumbers (sources_in inputs.now) numbers.now }
+    ensures { IfOk result (AreLabels (sources_in inputs.now)) }
 {
     let mut text = Vec::new(alloc);
     let mut starts = Vec::new(alloc);

@@ -8,7 +8,7 @@ ghost use Rattle.text_cols.specs.Columns.{spaces};
 ghost use Rattle.call_cycles.specs.Graph.{arc_count};
 ghost use Rattle.graph_report.specs.ArcTimes.{AreTimes, arc_times, times_columns};
 ghost use Rattle.graph_report.specs.GraphText.{callee_line, caller_line, callers_text, function_columns, function_name, member_line, other_line};
-ghost use Rattle.graph_report.specs.Inputs.{AreInputs, sources_of};
+ghost use Rattle.graph_report.specs.Inputs.{AreInputs, sources_in};
 ghost use Rattle.graph_report.specs.Numbers.{IsReport, number_of};
 
 use crate::columns;
@@ -33,8 +33,8 @@ const BATCH: usize = 16;
 /// Makes a line of what stands in front of a function's name: the columns of an arc.
 fn arc_front(line: &mut Line, inputs: &Inputs<'_>, times: &ArcTimes)
     requires inputs { AreInputs inputs.now }
-    requires times { AreTimes (sources_of inputs.now) times.now }
-    ensures { line.new ≡ spaces 15 ++ times_columns (sources_of inputs.now) times.now ++ spaces 6 }
+    requires times { AreTimes (sources_in inputs.now) times.now }
+    ensures { line.new ≡ spaces 15 ++ times_columns (sources_in inputs.now) times.now ++ spaces 6 }
 {
     line.clear();
     line.put(FRONT);
@@ -52,9 +52,9 @@ fn put_arc<H: Host>(
     host: &mut H,
 ) -> Result<(), Failed>
     requires report { IsReport report.now }
-    requires times { AreTimes (sources_of report.now.inputs) times.now }
+    requires times { AreTimes (sources_in report.now.inputs) times.now }
     requires function { f < report.now.inputs.sources.graph.now.functions }
-    ensures { let s = sources_of report.now.inputs in
+    ensures { let s = sources_in report.now.inputs in
         Adds Output (other_line (times_columns s times.now) (function_name s (number_of report.now) f)) lines.old lines.new (H.outside host.old) (H.outside host.new) result }
 {
     arc_front(line, &report.inputs, times);
@@ -66,7 +66,7 @@ fn put_arc<H: Host>(
 fn member_front(line: &mut Line, inputs: &Inputs<'_>, f: u32)
     requires inputs { AreInputs inputs.now }
     requires function { f < inputs.now.sources.graph.now.functions }
-    ensures { line.new ≡ spaces 15 ++ function_columns (sources_of inputs.now) f ++ spaces 6 }
+    ensures { line.new ≡ spaces 15 ++ function_columns (sources_in inputs.now) f ++ spaces 6 }
 {
     line.clear();
     line.put(FRONT);
@@ -84,7 +84,7 @@ fn put_member<H: Host>(
 ) -> Result<(), Failed>
     requires report { IsReport report.now }
     requires function { f < report.now.inputs.sources.graph.now.functions }
-    ensures { Adds Output (member_line (sources_of report.now.inputs) (number_of report.now) f) lines.old lines.new (H.outside host.old) (H.outside host.new) result }
+    ensures { Adds Output (member_line (sources_in report.now.inputs) (number_of report.now) f) lines.old lines.new (H.outside host.old) (H.outside host.new) result }
 {
     member_front(line, &report.inputs, f);
     lines.put(host, line.bytes())?;
@@ -112,7 +112,7 @@ fn looked_up(inputs: &Inputs<'_>, arcs: &[usize]) -> [ArcTimes; BATCH]
     requires arcs { All (λ i. i < arc_count inputs.now.sources.graph.now) arcs.now }
     requires some { 0 < length arcs.now }
     requires few { length arcs.now ≤ 16 }
-    ensures { take (length arcs.now) result ≡ map (arc_times (sources_of inputs.now)) arcs.now }
+    ensures { take (length arcs.now) result ≡ map (arc_times (sources_in inputs.now)) arcs.now }
 {
     let mut batch = [inputs.arc(arcs[0]); BATCH];
     for k in 1..arcs.len() {
@@ -133,7 +133,7 @@ fn put_batch<H: Host>(
     requires arcs { All (λ i. i < arc_count report.now.inputs.sources.graph.now) arcs.now }
     requires some { 0 < length arcs.now }
     requires few { length arcs.now ≤ 16 }
-    ensures { Adds Output (flat_map (caller_line (sources_of report.now.inputs) (number_of report.now)) arcs.now) lines.old lines.new (H.outside host.old) (H.outside host.new) result }
+    ensures { Adds Output (flat_map (caller_line (sources_in report.now.inputs) (number_of report.now)) arcs.now) lines.old lines.new (H.outside host.old) (H.outside host.new) result }
 {
     let batch = looked_up(&report.inputs, arcs);
     for times in batch.split_at(arcs.len()).0 {
@@ -151,7 +151,7 @@ pub(crate) fn put_callers<H: Host>(
 ) -> Result<(), Failed>
     requires report { IsReport report.now }
     requires arcs { All (λ i. i < arc_count report.now.inputs.sources.graph.now) arcs.now }
-    ensures { Adds Output (callers_text (sources_of report.now.inputs) (number_of report.now) arcs.now) lines.old lines.new (H.outside host.old) (H.outside host.new) result }
+    ensures { Adds Output (callers_text (sources_in report.now.inputs) (number_of report.now) arcs.now) lines.old lines.new (H.outside host.old) (H.outside host.new) result }
 {
     if is_spontaneous(arcs) {
         return put_spontaneous(lines, host);
@@ -175,7 +175,7 @@ pub(crate) fn put_callees<H: Host>(
 ) -> Result<(), Failed>
     requires report { IsReport report.now }
     requires arcs { All (λ i. i < arc_count report.now.inputs.sources.graph.now) arcs.now }
-    ensures { Adds Output (flat_map (callee_line (sources_of report.now.inputs) (number_of report.now)) arcs.now) lines.old lines.new (H.outside host.old) (H.outside host.new) result }
+    ensures { Adds Output (flat_map (callee_line (sources_in report.now.inputs) (number_of report.now)) arcs.now) lines.old lines.new (H.outside host.old) (H.outside host.new) result }
 {
     let mut line = Line::new();
     for i in arcs {
@@ -194,7 +194,7 @@ pub(crate) fn put_members<H: Host>(
 ) -> Result<(), Failed>
     requires report { IsReport report.now }
     requires members { All (λ f. f < report.now.inputs.sources.graph.now.functions) members.now }
-    ensures { Adds Output (flat_map (member_line (sources_of report.now.inputs) (number_of report.now)) members.now) lines.old lines.new (H.outside host.old) (H.outside host.new) result }
+    ensures { Adds Output (flat_map (member_line (sources_in report.now.inputs) (number_of report.now)) members.now) lines.old lines.new (H.outside host.old) (H.outside host.new) result }
 {
     // Numbers of functions have 32 bits.
     report.inputs.sources.graph.holds();

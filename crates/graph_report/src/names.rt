@@ -7,7 +7,7 @@ ghost use Rattle.call_cycles.specs.Graph.{component_count, component_of, head_of
 ghost use Rattle.graph_report.specs.Cycles.{cycle_name};
 ghost use Rattle.graph_report.specs.Entries.{number_in, ordered};
 ghost use Rattle.graph_report.specs.GraphText.{bracketed, cycle_mark, tail_of};
-ghost use Rattle.graph_report.specs.Inputs.{AreInputs, sources_of};
+ghost use Rattle.graph_report.specs.Inputs.{AreInputs, sources_in};
 ghost use Rattle.graph_report.specs.Numbers.{AreNumbers, IsReport, number_of};
 ghost use Rattle.graph_report.specs.declared.subjects.Subject.TheVariants.{Cycle};
 
@@ -38,9 +38,9 @@ fn mark(inputs: &Inputs<'_>, f: u32) -> Line
 /// What stands behind the name of a function: its cycle, the number of its entry, and the end of the line.
 pub(crate) fn function_tail(inputs: &Inputs<'_>, numbers: &Numbers, f: u32) -> Line
     requires inputs { AreInputs inputs.now }
-    requires numbers { AreNumbers (sources_of inputs.now) numbers.now }
+    requires numbers { AreNumbers (sources_in inputs.now) numbers.now }
     requires function { f < inputs.now.sources.graph.now.functions }
-    ensures { result ≡ tail_of inputs.now.sources.graph.now (number_in (ordered (sources_of inputs.now))) f }
+    ensures { result ≡ tail_of inputs.now.sources.graph.now (number_in (ordered (sources_in inputs.now))) f }
 {
     let mut line = mark(inputs, f);
     put_tail(&mut line, numbers.functions[f as usize]);

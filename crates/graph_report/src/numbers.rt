@@ -2,7 +2,7 @@
 
 ghost use Rattle.std.specs.Prelude.{◌≡◌, ◌<◌, ℕ, IfOk, length, slice_index, if◌then◌else◌};
 ghost use Rattle.graph_report.specs.Entries.{first_function, is_same, ordered};
-ghost use Rattle.graph_report.specs.Inputs.{AreInputs, sources_of};
+ghost use Rattle.graph_report.specs.Inputs.{AreInputs, sources_in};
 ghost use Rattle.graph_report.specs.Labels.{label_of};
 ghost use Rattle.graph_report.specs.Numbers.{AreNumbers, IsReport, number_of};
 ghost use Rattle.graph_report.specs.Rows.{entries_of_rows};
@@ -46,7 +46,7 @@ impl Report<'_> {
     pub fn label(&self, f: u32) -> &[u8]
         requires report { IsReport self.now }
         requires function { f < self.now.inputs.sources.graph.now.functions }
-        ensures { result.now ≡ label_of (sources_of self.now.inputs) (number_of self.now) f }
+        ensures { result.now ≡ label_of (sources_in self.now.inputs) (number_of self.now) f }
     {
         let f = f as usize;
         let start = self.labels.starts[f];
@@ -87,8 +87,8 @@ pub(crate) fn entry_numbers(
     rows: &[Row<'_>],
 ) -> Result<Numbers, AllocError>
     requires inputs { AreInputs inputs.now }
-    requires rows { entries_of_rows rows.now ≡ ordered (sources_of inputs.now) }
-    ensures { IfOk result (AreNumbers (sources_of inputs.now)) }
+    requires rows { entries_of_rows rows.now ≡ ordered (sources_in inputs.now) }
+    ensures { IfOk result (AreNumbers (sources_in inputs.now)) }
 {
     let count = inputs.sources.graph.function_count() as usize;
     let mut numbers = Numbers {

@@ -11,7 +11,7 @@ ghost use Rattle.flat_report.specs.Reports.{Reports};
 ghost use Rattle.flat_report.specs.declared.refusal.ReportRefusal.TheVariants.{OutOfMemory};
 ghost use Rattle.graph_report.specs.Entries.{ordered};
 ghost use Rattle.graph_report.specs.GraphText.{graph_text, is_shown as spec};
-ghost use Rattle.graph_report.specs.Inputs.{sources_of};
+ghost use Rattle.graph_report.specs.Inputs.{sources_in};
 ghost use Rattle.graph_report.specs.Numbers.{IsReport};
 ghost use Rattle.graph_report.specs.Rows.{entries_of_rows, entry_of_row};
 ghost use Rattle.graph_report.specs.Subjects.{IsSubject, entry_text, shown_text};
@@ -42,6 +42,9 @@ const HEADER: &[u8] =
 ///
 /// A function whose name is among `hidden` has no entry. Numbers count it as if it had, and its lines in
 /// other entries stay. The entry of a cycle can't be hidden.
+///
+/// Symbols and shares are as many as the graph has functions, the flow is that of the graph with these shares,
+/// all calls are fewer than 2^59, and `rate` is at least 1.
 ///
 /// After `WriteFault` a prefix of the text is printed, and not all of it. `OutOfMemory` comes before the
 /// first byte.
@@ -95,8 +98,8 @@ fn print<H: Host>(
     host: &mut H,
 ) -> Result<(), Failed>
     requires report { IsReport report.now }
-    requires rows { entries_of_rows rows.now ≡ ordered (sources_of report.now.inputs) }
-    ensures { Puts Output (graph_text (sources_of report.now.inputs) (map string_bytes hidden.now)) (H.outside host.old) (H.outside host.new) result }
+    requires rows { entries_of_rows rows.now ≡ ordered (sources_in report.now.inputs) }
+    ensures { Puts Output (graph_text (sources_in report.now.inputs) (map string_bytes hidden.now)) (H.outside host.old) (H.outside host.new) result }
 {
     let mut lines = PrintBuf::new();
     put_report(report, rows, hidden, &mut lines, host)?;
@@ -111,8 +114,8 @@ fn put_report<H: Host>(
     host: &mut H,
 ) -> Result<(), Failed>
     requires report { IsReport report.now }
-    requires rows { entries_of_rows rows.now ≡ ordered (sources_of report.now.inputs) }
-    ensures { Adds Output (graph_text (sources_of report.now.inputs) (map string_bytes hidden.now)) lines.old lines.new (H.outside host.old) (H.outside host.new) result }
+    requires rows { entries_of_rows rows.now ≡ ordered (sources_in report.now.inputs) }
+    ensures { Adds Output (graph_text (sources_in report.now.inputs) (map string_bytes hidden.now)) lines.old lines.new (H.outside host.old) (H.outside host.new) result }
 {
     lines.put(host, HEADER)?;
     put_entries(report, rows, hidden, lines, host)
@@ -126,8 +129,8 @@ fn put_entries<H: Host>(
     host: &mut H,
 ) -> Result<(), Failed>
     requires report { IsReport report.now }
-    requires rows { entries_of_rows rows.now ≡ ordered (sources_of report.now.inputs) }
-    ensures { let s = sources_of report.now.inputs in
+    requires rows { entries_of_rows rows.now ≡ ordered (sources_in report.now.inputs) }
+    ensures { let s = sources_in report.now.inputs in
         Adds Output (flat_map (entry_text s) (filter (λ e. spec (map string_bytes hidden.now) e.subject e.name) (ordered s))) lines.old lines.new (H.outside host.old) (H.outside host.new) result }
 {
     for row in rows {
@@ -156,7 +159,7 @@ fn put_row<H: Host>(
 ) -> Result<(), Failed>
     requires report { IsReport report.now }
     requires subject { IsSubject report.now.inputs.sources.graph.now row.now.subject }
-    ensures { Adds Output (shown_text (sources_of report.now.inputs) (map string_bytes hidden.now) (entry_of_row row.now)) lines.old lines.new
+    ensures { Adds Output (shown_text (sources_in report.now.inputs) (map string_bytes hidden.now) (entry_of_row row.now)) lines.old lines.new
         (H.outside host.old) (H.outside host.new) result }
 {
     if !is_shown(hidden, row) {

@@ -3,7 +3,7 @@
 ghost use Rattle.std.specs.Prelude.{◌≡◌, ◌<◌, ◌++◌, IfOk, OnOk};
 ghost use Rattle.graph_report.specs.Entries.{entry_cmp, ordered};
 ghost use Rattle.graph_report.specs.Entries.{has_entry as has};
-ghost use Rattle.graph_report.specs.Inputs.{AreInputs, sources_of};
+ghost use Rattle.graph_report.specs.Inputs.{AreInputs, sources_in};
 ghost use Rattle.graph_report.specs.Rows.{cycle_entries, entries_of_rows, entry_of_row, function_entries};
 
 use crate::inputs::Inputs;
@@ -40,7 +40,7 @@ fn order(one: &Row<'_>, other: &Row<'_>) -> Ordering
 fn has_entry(inputs: &Inputs<'_>, f: u32) -> bool
     requires inputs { AreInputs inputs.now }
     requires function { f < inputs.now.sources.graph.now.functions }
-    ensures { result ≡ has (sources_of inputs.now) f }
+    ensures { result ≡ has (sources_in inputs.now) f }
 {
     let called = inputs.calls_to(f);
     let calls = inputs.calls_from(f);
@@ -51,7 +51,7 @@ fn has_entry(inputs: &Inputs<'_>, f: u32) -> bool
 /// Adds the cycles, in the order of components.
 fn put_cycles<'a>(inputs: &Inputs<'a>, rows: &mut Vec<Row<'a>>) -> Result<(), AllocError>
     requires { AreInputs inputs.now }
-    ensures { OnOk result (entries_of_rows rows.new.items ≡ entries_of_rows rows.old.items ++ cycle_entries (sources_of inputs.now)) }
+    ensures { OnOk result (entries_of_rows rows.new.items ≡ entries_of_rows rows.old.items ++ cycle_entries (sources_in inputs.now)) }
 {
     for c in 0..inputs.sources.graph.component_count() {
         if inputs.sources.graph.is_cycle(c) {
@@ -68,7 +68,7 @@ fn put_cycles<'a>(inputs: &Inputs<'a>, rows: &mut Vec<Row<'a>>) -> Result<(), Al
 /// Adds the functions that have an entry, in the order of their addresses.
 fn put_functions<'a>(inputs: &Inputs<'a>, rows: &mut Vec<Row<'a>>) -> Result<(), AllocError>
     requires { AreInputs inputs.now }
-    ensures { OnOk result (entries_of_rows rows.new.items ≡ entries_of_rows rows.old.items ++ function_entries (sources_of inputs.now)) }
+    ensures { OnOk result (entries_of_rows rows.new.items ≡ entries_of_rows rows.old.items ++ function_entries (sources_in inputs.now)) }
 {
     for f in 0..inputs.sources.graph.function_count() {
         if has_entry(inputs, f) {
@@ -88,7 +88,7 @@ pub(crate) fn rows_in_order<'a>(
     inputs: &Inputs<'a>,
 ) -> Result<Vec<Row<'a>>, AllocError>
     requires { AreInputs inputs.now }
-    ensures { IfOk result (λ rows. entries_of_rows rows.items ≡ ordered (sources_of inputs.now)) }
+    ensures { IfOk result (λ rows. entries_of_rows rows.items ≡ ordered (sources_in inputs.now)) }
 {
     let mut rows = Vec::new(alloc);
     put_cycles(inputs, &mut rows)?;

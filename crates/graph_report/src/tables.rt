@@ -3,8 +3,8 @@
 ghost use Rattle.std.specs.Prelude.{◌≡◌, ◌^◌, ◌<◌, IfOk};
 ghost use Rattle.call_cycles.specs.Graph.{IsGraph, all_calls, arc_count};
 ghost use Rattle.call_cycles.specs.Sums.{list_of};
-ghost use Rattle.graph_report.specs.Prepared.{AreTables};
-ghost use Rattle.graph_report.specs.Tables.{AreGroups, arc_key, calls_with};
+ghost use Rattle.graph_report.specs.Tables.{AreTables};
+ghost use Rattle.graph_report.specs.Groups.{AreGroups, arc_key, calls_with};
 
 use crate::cycles::{cycle_names, cycle_numbers};
 use crate::groups::{call_sums, grouped};

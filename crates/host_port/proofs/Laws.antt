@@ -1,7 +1,7 @@
 -- How acts follow one another.
 use Rattle.std.proofs.Common.{◌≡◌, ℕ, Bool, List, [], ◌∷◌, ◌++◌, Option, Some, None, refl, sym, ap, subst, ◌∙◌, append_assoc}
 use Rattle.std.proofs.lemmas.List.{append-nil}
-use Rattle.host_port.specs.Act.{Act, Create, Write, Close, Out, Err, Disk, disk_after_act, disk_after, printed, complained, writes_after_act, writes_after, turns_after_act, turns_after}
+use Rattle.host_port.specs.Act.{Act, Create, Write, Close, Out, Err, Disk, disk_after_act, disk_after, printed, complained, writes_after_act, writes_after, file_changes_after_act, file_changes_after}
 use Rattle.host_port.specs.Outside.{Outside, Becomes, Did, KeepsInput, KeepsCounts}
 
 -- what is told at last was told in between
@@ -47,9 +47,9 @@ pub writes_after-append : (front back : List Act) (w : Bool) → writes_after (f
 writes_after-append [] back w = refl
 writes_after-append (a ∷ front) back w = writes_after-append front back (writes_after_act a w)
 
-pub turns_after-append : (front back : List Act) (n : ℕ) → turns_after (front ++ back) n ≡ turns_after back (turns_after front n)
-turns_after-append [] back n = refl
-turns_after-append (a ∷ front) back n = turns_after-append front back (turns_after_act a n)
+pub file_changes_after-append : (front back : List Act) (n : ℕ) → file_changes_after (front ++ back) n ≡ file_changes_after back (file_changes_after front n)
+file_changes_after-append [] back n = refl
+file_changes_after-append (a ∷ front) back n = file_changes_after-append front back (file_changes_after_act a n)
 
 -- acts that leave the same, whatever was before them
 pub record AreAlike (front back : List Act) : Type 0 where
@@ -57,7 +57,7 @@ pub record AreAlike (front back : List Act) : Type 0 where
   pub out : printed front ≡ printed back
   pub err : complained front ≡ complained back
   pub writing : (w : Bool) → writes_after front w ≡ writes_after back w
-  pub turns : (n : ℕ) → turns_after front n ≡ turns_after back n
+  pub file_changes : (n : ℕ) → file_changes_after front n ≡ file_changes_after back n
 
 pub Did-alike : (front back : List Act) (x y : Outside) → AreAlike front back → Did front x y → Did back x y
 Did-alike front back x y same did = record {
@@ -65,7 +65,7 @@ Did-alike front back x y same did = record {
   out = subst (λ (v : List ℕ). Becomes (λ b. b ++ v) x.out y.out) same.out did.out;
   err = subst (λ (v : List ℕ). Becomes (λ b. b ++ v) x.err y.err) same.err did.err;
   writing = did.writing ∙ same.writing x.is_writing;
-  turns = did.turns ∙ same.turns x.turns;
+  file_changes = did.file_changes ∙ same.file_changes x.file_changes;
   opened = did.opened;
 }
 
@@ -76,7 +76,7 @@ Did-then front back x y z first second = record {
   out = Becomes-by _ _ x.out z.out (λ b. append_assoc b (printed front) (printed back) ∙ ap (λ (v : List ℕ). b ++ v) (sym (printed-append front back))) (Becomes-then (λ b. b ++ printed front) (λ b. b ++ printed back) x.out y.out z.out first.out second.out);
   err = Becomes-by _ _ x.err z.err (λ b. append_assoc b (complained front) (complained back) ∙ ap (λ (v : List ℕ). b ++ v) (sym (complained-append front back))) (Becomes-then (λ b. b ++ complained front) (λ b. b ++ complained back) x.err y.err z.err first.err second.err);
   writing = second.writing ∙ ap (writes_after back) first.writing ∙ sym (writes_after-append front back x.is_writing);
-  turns = second.turns ∙ ap (turns_after back) first.turns ∙ sym (turns_after-append front back x.turns);
+  file_changes = second.file_changes ∙ ap (file_changes_after back) first.file_changes ∙ sym (file_changes_after-append front back x.file_changes);
   opened = second.opened ∙ first.opened;
 }
 
@@ -87,7 +87,7 @@ Did-nothing x = record {
   out = Becomes-by _ _ x.out x.out (λ b. sym (append-nil b)) (Becomes-same x.out);
   err = Becomes-by _ _ x.err x.err (λ b. sym (append-nil b)) (Becomes-same x.err);
   writing = refl;
-  turns = refl;
+  file_changes = refl;
   opened = refl;
 }
 

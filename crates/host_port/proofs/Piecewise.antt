@@ -39,20 +39,20 @@ pub record IsPiecewise (act : List ℕ → Act) : Type 0 where
 
 pub write_piecewise : IsPiecewise Write
 write_piecewise = record {
-  nothing = record { disk = λ d. ap (λ (v : List File). record { files = v; writing = d.writing }) (sym (written-nil d.writing d.files)); out = refl; err = refl; writing = λ w. refl; turns = λ n. refl };
-  join = λ x y. record { disk = λ d. ap (λ (v : List File). record { files = v; writing = d.writing }) (written-twice d.writing x y d.files); out = refl; err = refl; writing = λ w. refl; turns = λ n. refl };
+  nothing = record { disk = λ d. ap (λ (v : List File). record { files = v; writing = d.writing }) (sym (written-nil d.writing d.files)); out = refl; err = refl; writing = λ w. refl; file_changes = λ n. refl };
+  join = λ x y. record { disk = λ d. ap (λ (v : List File). record { files = v; writing = d.writing }) (written-twice d.writing x y d.files); out = refl; err = refl; writing = λ w. refl; file_changes = λ n. refl };
 }
 
 pub out_piecewise : IsPiecewise Out
 out_piecewise = record {
-  nothing = record { disk = λ d. refl; out = refl; err = refl; writing = λ w. refl; turns = λ n. refl };
-  join = λ x y. record { disk = λ d. refl; out = sym (append_assoc x y []); err = refl; writing = λ w. refl; turns = λ n. refl };
+  nothing = record { disk = λ d. refl; out = refl; err = refl; writing = λ w. refl; file_changes = λ n. refl };
+  join = λ x y. record { disk = λ d. refl; out = sym (append_assoc x y []); err = refl; writing = λ w. refl; file_changes = λ n. refl };
 }
 
 pub err_piecewise : IsPiecewise Err
 err_piecewise = record {
-  nothing = record { disk = λ d. refl; out = refl; err = refl; writing = λ w. refl; turns = λ n. refl };
-  join = λ x y. record { disk = λ d. refl; out = refl; err = sym (append_assoc x y []); writing = λ w. refl; turns = λ n. refl };
+  nothing = record { disk = λ d. refl; out = refl; err = refl; writing = λ w. refl; file_changes = λ n. refl };
+  join = λ x y. record { disk = λ d. refl; out = refl; err = sym (append_assoc x y []); writing = λ w. refl; file_changes = λ n. refl };
 }
 
 -- two parts that follow one another
@@ -97,7 +97,7 @@ along_fail act p piece rest old mid new e far some failed = record {
   part =
       let front_is : take (length far.front) piece ≡ far.front = ap (take (length far.front)) (sym far.parts) ∙ take_at far.front rest (length far.front) refl in
       let shorter : length far.front < length piece = omega (arith, ap length far.parts, length-append far.front rest) in
-      let did : Did (act far.front ∷ []) old new = Did-alike (act far.front ∷ [] ++ []) (act far.front ∷ []) old new (record { disk = λ d. refl; out = refl; err = refl; writing = λ w. refl; turns = λ n. refl }) (Did-then (act far.front ∷ []) [] old mid new far.did failed.failed) in
+      let did : Did (act far.front ∷ []) old new = Did-alike (act far.front ∷ [] ++ []) (act far.front ∷ []) old new (record { disk = λ d. refl; out = refl; err = refl; writing = λ w. refl; file_changes = λ n. refl }) (Did-then (act far.front ∷ []) [] old mid new far.did failed.failed) in
       (length far.front, shorter, subst (λ (v : List ℕ). Did (act v ∷ []) old new) (sym front_is) did);
   input = KeepsInput-then old mid new far.input failed.input;
 }

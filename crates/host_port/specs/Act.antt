@@ -92,13 +92,13 @@ abbrev pub next_count : ℕ → ℕ
 next_count n = min (n + 1) (2 ^ 64 - 1)
 
 -- how often files were created and closed after acts
-abbrev pub turns_after_act : Act → ℕ → ℕ
-turns_after_act (Create name) before = next_count before
-turns_after_act (Write bytes) before = before
-turns_after_act Close before = next_count before
-turns_after_act (Out bytes) before = before
-turns_after_act (Err bytes) before = before
+abbrev pub file_changes_after_act : Act → ℕ → ℕ
+file_changes_after_act (Create name) before = next_count before
+file_changes_after_act (Write bytes) before = before
+file_changes_after_act Close before = next_count before
+file_changes_after_act (Out bytes) before = before
+file_changes_after_act (Err bytes) before = before
 
-abbrev pub turns_after : List Act → ℕ → ℕ
-turns_after [] before = before
-turns_after (act ∷ acts) before = turns_after acts (turns_after_act act before)
+abbrev pub file_changes_after : List Act → ℕ → ℕ
+file_changes_after [] before = before
+file_changes_after (act ∷ acts) before = file_changes_after acts (file_changes_after_act act before)

@@ -1,5 +1,5 @@
 -- What loading a file answers.
-use Rattle.std.specs.Prelude.{◌≡◌, ℕ, ◌<◌, ◌≤◌, true, List, [], length, Result, Ok, Err, IfOk, ⊤}
+use Rattle.std.specs.Prelude.{◌≡◌, ℕ, ◌+◌, ◌<◌, ◌≤◌, true, List, [], length, Result, Ok, Err, IfOk, IfSome, ⊤}
 use Rattle.std.specs.Global.{Vec}
 use Rattle.host_port.specs.declared.loading.LoadRefusal.{LoadRefusal}
 use Rattle.host_port.specs.declared.loading.LoadRefusal.TheVariants.{ReadFault, TooLarge, OutOfMemory}
@@ -14,6 +14,13 @@ AnswersFor content limit (Err TooLarge) = limit < length content
 AnswersFor content limit (Err ReadFault) = ⊤
 AnswersFor content limit (Err OutOfMemory) = ⊤
 
+-- above the limit no more was read than the piece of 4,096 bytes in which it is passed
+abbrev pub IsLeftBehind : List ℕ → ℕ → List ℕ → Result (Vec ℕ) LoadRefusal → Type 0
+IsLeftBehind content limit rest (Err TooLarge) = length content ≤ limit + 4096 + length rest
+IsLeftBehind content limit rest (Err ReadFault) = ⊤
+IsLeftBehind content limit rest (Err OutOfMemory) = ⊤
+IsLeftBehind content limit rest (Ok bytes) = rest ≡ []
+
 -- read_faults rises exactly at ReadFault, and no call follows the one that failed
 abbrev pub LoadCounts : {T : Type 0} → Outside → Outside → Result T LoadRefusal → Type 0
 LoadCounts old new (Ok bytes) = KeepsCounts old new
@@ -25,5 +32,6 @@ pub record Loads (name : List ℕ) (limit : ℕ) (old new : Outside) (result : R
   -- one input was opened
   pub nothing_done : Did [] (opening 1 old) new
   pub answer : IfTold new (λ d. AnswersFor (file_content name d.files) limit result)
+  pub left : IfTold new (λ d. IfSome new.rest (λ rest. IsLeftBehind (file_content name d.files) limit rest result))
   pub within : IfOk result (λ bytes. length bytes.items ≤ limit)
   pub counts : LoadCounts old new result

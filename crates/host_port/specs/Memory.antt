@@ -26,7 +26,7 @@ pub record Memory : Type 0 where
   pub write_faults : ℕ
   pub err_faults : ℕ
   pub opened : ℕ
-  pub turns : ℕ
+  pub file_changes : ℕ
   pub last_failed : Bool
 
 -- it tells everything
@@ -42,7 +42,7 @@ outside_of m = record {
   write_faults = m.write_faults;
   err_faults = m.err_faults;
   opened = m.opened;
-  turns = m.turns;
+  file_changes = m.file_changes;
   last_failed = m.last_failed;
 }
 
@@ -61,7 +61,7 @@ empty_memory = record {
   write_faults = 0;
   err_faults = 0;
   opened = 0;
-  turns = 0;
+  file_changes = 0;
   last_failed = false;
 }
 

@@ -12,7 +12,7 @@ pub record Never : Type 0 where
   pub tells : Bool
   pub is_writing : Bool
   pub opened : ℕ
-  pub turns : ℕ
+  pub file_changes : ℕ
 
 -- it tells its files, and no output
 abbrev pub outside_of : Never → Outside
@@ -27,7 +27,7 @@ outside_of n = record {
   write_faults = 0;
   err_faults = 0;
   opened = n.opened;
-  turns = n.turns;
+  file_changes = n.file_changes;
   last_failed = false;
 }
 

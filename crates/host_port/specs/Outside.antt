@@ -1,6 +1,6 @@
 -- The outside of a program, as far as a host tells it, before and after calls on it.
 use Rattle.std.specs.Prelude.{◌≡◌, ℕ, zero, suc, ◌+◌, ◌-◌, ◌^◌, ◌≤◌, min, Bool, ◌&&◌, List, ◌++◌, Option, Some, None, option_map, is_some, IfSome, ⊤}
-use Rattle.host_port.specs.Act.{Act, Disk, disk_after, printed, complained, writes_after, next_count, turns_after}
+use Rattle.host_port.specs.Act.{Act, Disk, disk_after, printed, complained, writes_after, next_count, file_changes_after}
 
 -- what a host tells of the outside. Each content is there only where the host tells it.
 pub record Outside : Type 0 where
@@ -19,7 +19,7 @@ pub record Outside : Type 0 where
   pub err_faults : ℕ
   -- how many calls were made to open an input, and how often files were created and closed
   pub opened : ℕ
-  pub turns : ℕ
+  pub file_changes : ℕ
   -- whether the last call failed. A call that complains leaves it as it is.
   pub last_failed : Bool
 
@@ -49,7 +49,7 @@ pub record Did (acts : List Act) (old new : Outside) : Type 0 where
   pub out : Becomes (λ bytes. bytes ++ printed acts) old.out new.out
   pub err : Becomes (λ bytes. bytes ++ complained acts) old.err new.err
   pub writing : new.is_writing ≡ writes_after acts old.is_writing
-  pub turns : new.turns ≡ turns_after acts old.turns
+  pub file_changes : new.file_changes ≡ file_changes_after acts old.file_changes
   pub opened : new.opened ≡ old.opened
 
 -- the input stays as it was

@@ -44,8 +44,8 @@ impl<T: Drop> From<AllocFailed<T>> for LoadRefusal {
 /// How many bytes are asked for at a time.
 const PIECE: usize = 4_096;
 
-/// The bytes of the named file, which are at most `limit`. It reads no further than the piece in which
-/// the limit is passed. After a refusal part of the input may be read.
+/// The bytes of the named file, which are at most `limit`; all of the input was read. It reads no further than
+/// the piece of 4,096 bytes in which the limit is passed. After a refusal part of the input may be read.
 pub fn load<H: Host>(
     alloc: Global,
     host: &mut H,

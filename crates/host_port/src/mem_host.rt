@@ -53,7 +53,7 @@ pub struct MemHost {
     write_faults: u64,
     err_faults: u64,
     opened: u64,
-    turns: u64,
+    file_changes: u64,
     last_failed: bool,
 }
 
@@ -77,7 +77,7 @@ impl Model for MemHost {
       write_faults = a.write_faults;
       err_faults = a.err_faults;
       opened = a.opened;
-      turns = a.turns;
+      file_changes = a.file_changes;
       last_failed = a.last_failed;
     } };
 
@@ -112,7 +112,7 @@ impl MemHost {
             write_faults: 0,
             err_faults: 0,
             opened: 0,
-            turns: 0,
+            file_changes: 0,
             last_failed: false,
         }
     }
@@ -309,14 +309,14 @@ impl MemHost {
           files = with_file name.now [] self.old.files;
           rest = None;
           writing = Some name.now;
-          turns = next_count self.old.turns;
+          file_changes = next_count self.old.file_changes;
         }) }
         ensures unchanged { OnErr result (self.new ≡ self.old) }
     {
         let writing = String::from_str(self.alloc, name)?;
         files::set(self.alloc, &mut self.entries, name, Vec::new(self.alloc))?;
         self.stage = Stage::Writing(writing);
-        self.turns = self.turns.saturating_add(1);
+        self.file_changes = self.file_changes.saturating_add(1);
         Ok(())
     }
 
@@ -333,9 +333,9 @@ impl MemHost {
     }
 
     fn end_writing(&mut self)
-        ensures { self.new ≡ record self.old { writing = None; turns = next_count self.old.turns } }
+        ensures { self.new ≡ record self.old { writing = None; file_changes = next_count self.old.file_changes } }
     {
-        self.turns = self.turns.saturating_add(1);
+        self.file_changes = self.file_changes.saturating_add(1);
         if let Stage::Writing(_) = &self.stage {
             self.stage = Stage::Idle;
         }

@@ -1,8 +1,8 @@
 //! A host that never fails.
 
-ghost use Rattle.std.specs.Prelude.{◌≡◌, ◌<◌, [], true, false, length, min, unwrap_or, None, IsOk, IfOk, OnOk, OnErr};
-ghost use Rattle.host_port.specs.Act.{Write, Out, Err as Complain, with_file};
-ghost use Rattle.host_port.specs.Host.{Opens, Moves, Creates, Takes, Closes, Reads, Writes, Complains};
+ghost use Rattle.std.specs.Prelude.{◌≡◌, ◌<◌, [], true, false, length, min, drop, unwrap_or, option_map, Some, None, IsOk, IfOk, IfSome, OnOk, OnErr};
+ghost use Rattle.host_port.specs.Act.{Write, Out, Err as Complain, file_content, next_count, with_file};
+ghost use Rattle.host_port.specs.Host.{Came, Opens, Moves, Creates, Takes, Closes, Reads, Writes, Complains};
 ghost use Rattle.host_port.specs.Never.{outside_of, is_consistent};
 
 use crate::files;
@@ -22,7 +22,7 @@ pub struct NeverFails {
     tells: bool,
     is_writing: bool,
     opened: u64,
-    turns: u64,
+    file_changes: u64,
 }
 
 impl Model for NeverFails {
@@ -37,14 +37,14 @@ impl Model for NeverFails {
       tells = a.tells;
       is_writing = a.is_writing;
       opened = a.opened;
-      turns = a.turns;
+      file_changes = a.file_changes;
     } };
 }
 
 impl NeverFails {
     /// A host with no files, which takes no memory yet.
     pub fn new(alloc: Global) -> NeverFails
-        ensures { result ≡ record { files = []; rest = None; tells = true; is_writing = false; opened = 0; turns = 0 } }
+        ensures { result ≡ record { files = []; rest = None; tells = true; is_writing = false; opened = 0; file_changes = 0 } }
     {
         NeverFails {
             alloc,
@@ -53,7 +53,7 @@ impl NeverFails {
             tells: true,
             is_writing: false,
             opened: 0,
-            turns: 0,
+            file_changes: 0,
         }
     }
 
@@ -80,8 +80,10 @@ impl Host for NeverFails {
         ensures opens { Opens name.now (outside_of self.old) (outside_of self.new) result }
         ensures counts { Reads (outside_of self.old) (outside_of self.new) result }
         ensures succeeds { IsOk result }
-        ensures tells { self.new.tells ≡ self.old.tells }
-        ensures files { self.new.files ≡ self.old.files }
+        ensures after { self.new ≡ record self.old {
+          rest = Some (file_content name.now self.old.files);
+          opened = next_count self.old.opened;
+        } }
     {
         self.opened = self.opened.saturating_add(1);
         self.input = Some(files::start_of(self.entries.as_slice(), name));
@@ -95,8 +97,8 @@ impl Host for NeverFails {
         ensures counts { Reads (outside_of self.old) (outside_of self.new) result }
         ensures succeeds { IsOk result }
         ensures whole { IfOk result (λ n. n ≡ min (length buf.old) (length (unwrap_or self.old.rest []))) }
-        ensures tells { self.new.tells ≡ self.old.tells }
-        ensures files { self.new.files ≡ self.old.files }
+        ensures came { IfOk result (λ n. IfSome self.old.rest (λ rest. Came n rest buf.new)) }
+        ensures after { IfOk result (λ n. self.new ≡ record self.old { rest = option_map (drop n) self.old.rest }) }
     {
         match &mut self.input {
             Some(place) => Ok(files::read_from(self.entries.as_slice(), place, buf)),
@@ -109,12 +111,17 @@ impl Host for NeverFails {
         ensures creates { Creates _name.now (outside_of self.old) (outside_of self.new) result }
         ensures counts { Writes (outside_of self.old) (outside_of self.new) result }
         ensures succeeds { IsOk result }
-        ensures tells { self.new.tells ≡ false }
+        ensures after { self.new ≡ record self.old {
+          rest = None;
+          tells = false;
+          is_writing = true;
+          file_changes = next_count self.old.file_changes;
+        } }
     {
         self.input = None;
         self.tells = false;
         self.is_writing = true;
-        self.turns = self.turns.saturating_add(1);
+        self.file_changes = self.file_changes.saturating_add(1);
         Ok(())
     }
 
@@ -124,10 +131,8 @@ impl Host for NeverFails {
         ensures takes { Takes Write piece.now (outside_of self.old) (outside_of self.new) result }
         ensures counts { Writes (outside_of self.old) (outside_of self.new) result }
         ensures succeeds { result ≡ Ok (length piece.now) }
-        ensures tells { self.new.tells ≡ self.old.tells }
-        ensures files { self.new.files ≡ self.old.files }
+        ensures after { self.new ≡ self.old }
     {
-        let _ = &self.tells;
         Ok(piece.len())
     }
 
@@ -135,11 +140,10 @@ impl Host for NeverFails {
         ensures closes { Closes (outside_of self.old) (outside_of self.new) }
         ensures counts { Writes (outside_of self.old) (outside_of self.new) result }
         ensures succeeds { IsOk result }
-        ensures tells { self.new.tells ≡ self.old.tells }
-        ensures files { self.new.files ≡ self.old.files }
+        ensures after { self.new ≡ record self.old { is_writing = false; file_changes = next_count self.old.file_changes } }
     {
         self.is_writing = false;
-        self.turns = self.turns.saturating_add(1);
+        self.file_changes = self.file_changes.saturating_add(1);
         Ok(())
     }
 
@@ -148,10 +152,8 @@ impl Host for NeverFails {
         ensures takes { Takes Out piece.now (outside_of self.old) (outside_of self.new) result }
         ensures counts { Writes (outside_of self.old) (outside_of self.new) result }
         ensures succeeds { result ≡ Ok (length piece.now) }
-        ensures tells { self.new.tells ≡ self.old.tells }
-        ensures files { self.new.files ≡ self.old.files }
+        ensures after { self.new ≡ self.old }
     {
-        let _ = &self.tells;
         Ok(piece.len())
     }
 
@@ -161,10 +163,8 @@ impl Host for NeverFails {
         ensures counts { Complains (outside_of self.old) (outside_of self.new) result }
         ensures last { (outside_of self.new).last_failed ≡ (outside_of self.old).last_failed }
         ensures succeeds { result ≡ Ok (length piece.now) }
-        ensures tells { self.new.tells ≡ self.old.tells }
-        ensures files { self.new.files ≡ self.old.files }
+        ensures after { self.new ≡ self.old }
     {
-        let _ = &self.tells;
         Ok(piece.len())
     }
 }

@@ -117,8 +117,8 @@ impl Run {
     }
 
     /// One turn of a hart: a look of its walk, or one instruction with its sample and its hook. What the
-    /// program prints is printed. `Failed` comes only where this failed; then the run isn't live. Takes
-    /// no memory.
+    /// program prints is printed. `Failed` comes only where this failed; then the run isn't live, and has no
+    /// ending. Takes no memory.
     #[inline(always)]
     pub fn turn<H: Host>(&mut self, hart: u32, host: &mut H) -> Result<Turned, Failed>
         requires live { IsLive self.old }
@@ -129,6 +129,7 @@ impl Run {
         ensures machine { self.new.machine ≡ self.old.machine }
         ensures note { OnOk result ((w : World) → StandsFor w self.old → self.new.note ≡ note_of self.old.machine w hart) }
         ensures kept { OnErr result (self.new.note ≡ self.old.note) }
+        ensures open { OnErr result (self.new.ending ≡ None) }
 
         // What the outside has gained.
         ensures prints { OnOk result ((w : World) → StandsFor w self.old
@@ -158,11 +159,13 @@ impl Run {
     }
 
     /// The turns of the plan, from its first one on, up to the end of the run. What the program prints is
-    /// printed. `Failed` comes only where this failed; then the run isn't live. Takes no memory.
+    /// printed. `Failed` comes only where this failed; then the run isn't live, and has no ending. Takes no
+    /// memory.
     pub fn drive<H: Host>(&mut self, host: &mut H) -> Result<End, Failed>
         requires { IsLive self.old }
         ensures stands { OnOk result ((w : World) → StandsFor w self.old → StandsFor (driven self.old.machine w) self.new) }
         ensures answer { IfOk result (λ end. self.new.ending ≡ Some end) }
+        ensures open { OnErr result (self.new.ending ≡ None) }
         ensures live { IsLive self.new → ⊥ }
         ensures machine { self.new.machine ≡ self.old.machine }
         ensures note { self.new.note ≡ self.old.note }

@@ -93,6 +93,7 @@ impl Run {
         ensures due { OnOk result (self.new.ending ≡ None → 1 ≤ self.new.due) }
         ensures less { OnOk result (self.new.ending ≡ None → work_left self.new < work_left self.old) }
         ensures note { IfOk result (λ note. (w : World) → StandsFor w self.old → note ≡ instruction_note self.old.machine hart w) }
+        ensures open { OnErr result (self.new.ending ≡ None) }
     {
         let begin = self.begin(hart);
         let instr = self.execute(hart, host)?;
@@ -150,6 +151,7 @@ impl Run {
         ensures input { KeepsInput (H.outside host.old) (H.outside host.new) }
         ensures same { Steps self.old self.new }
         ensures executes { OnOk result (Executes self.old self.new) }
+        ensures open { OnErr result (self.new.ending ≡ None) }
         ensures instr { IfOk result (λ instr. instr ≡ instruction_at self.old.memory (hart_of self.old.harts hart).pc) }
     {
         let regs = &mut self.harts[hart as usize];
@@ -188,6 +190,7 @@ impl Run {
         ensures input { KeepsInput (H.outside host.old) (H.outside host.new) }
         ensures same { Steps self.old self.new }
         ensures executes { OnOk result (Executes self.old self.new) }
+        ensures open { OnErr result (self.new.ending ≡ None) }
     {
         match ecall_of(&self.machine, &self.harts[hart as usize], self.break_at) {
             Call::Answers(n) => self.answer(hart, n),

@@ -9,14 +9,12 @@ use Rattle.gmon_data.specs.declared.hist.Hist.{Hist}
 use Rattle.gmon_data.specs.declared.hist.HistRange.{HistRange}
 use Rattle.gmon_data.specs.declared.refusal.Unlike.{Unlike}
 use Rattle.gmon_data.specs.declared.refusal.Unlike.TheVariants.{Range}
-use Rattle.gmon_data.specs.Hists.{put_hist, hist_sum, range_of, range_conflict, overlap, same_range, conflict_with, unit_conflict, kept_unit, IsUnlike, has_counters, IsKept, IsApart, IsUnitOf}
+use Rattle.gmon_data.specs.Hists.{put_hist, hist_sum, range_of, range_conflict, overlap, same_range, conflict_with, unit_conflict, kept_unit, has_counters, IsKept, IsApart, IsUnitOf}
 use Rattle.gmon_data.specs.Content.{Content, empty_content, with_hist, hist_conflict, conflict_of, IsProfile}
 use Rattle.gmon_data.proofs.CounterLemmas.{length-pointwise}
 use Rattle.gmon_data.proofs.HistLemmas.{alike_counters, all_kept, first_none}
 use Rattle.gmon_data.proofs.RecordLemmas.{cut_at, past_end}
-use Rattle.gmon_data.specs.declared.refusal.AddRefusal.{AddRefusal}
-use Rattle.gmon_data.specs.declared.refusal.AddRefusal.TheVariants as adding
-use Rattle.profile_sum.specs.Sum.{clash_of, hist_record, sum_refusal, IsClash}
+use Rattle.profile_sum.specs.Sum.{clash_of, hist_record}
 use Rattle.profile_sum.proofs.LoopLemmas.{at_all}
 
 -- a histogram that was put in changes no conflict of a range that it doesn't overlap
@@ -157,11 +155,6 @@ module _ (p : Content) (u : units.Unit) (hs : List Hist) (kept : AllByRecursion 
 
 pub clash_ends : (p : Content) (u : units.Unit) (hs : List Hist) (i : ℕ) → length hs ≤ i → first_clash p u (drop i hs) ≡ None
 clash_ends p u hs i le = ap (first_clash p u) (past_end hs i le)
-
--- where there is no clash, what is told of histograms is want of memory
-pub none_told : (refusal : AddRefusal) (given : Option Unlike) → given ≡ None → IsUnlike refusal given → IsClash (sum_refusal refusal) given
-none_told adding.OutOfMemory given none h = none
-none_told (adding.Unlike u) given none h = h
 
 -- ---- nothing is unlike nothing
 

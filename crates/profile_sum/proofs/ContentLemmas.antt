@@ -8,7 +8,7 @@ use Rattle.gp_base.specs.declared.records.Unit as units
 use Rattle.gmon_data.specs.declared.hist.Hist.{Hist}
 use Rattle.gmon_data.specs.Hists.{put_hist, hist_sum, pointwise_sum, has_counters, kept_unit}
 use Rattle.gmon_data.specs.Tally.{tally}
-use Rattle.gmon_data.specs.Content.{Content, WideRec, WideHist, WideArc, WideBlock, empty_content, same_pair, content_of, with_hist, with_record, with_records}
+use Rattle.gmon_data.specs.Content.{Content, WideRec, WideHist, WideArc, WideBlock, empty_content, same_ends, content_of, with_hist, with_record, with_records}
 use Rattle.gmon_data.proofs.ContentLemmas.{same-self, pair-self, pair-equal}
 use Rattle.gmon_data.proofs.HistLemmas.{above_put, higher}
 use Rattle.gmon_data.proofs.RecordLemmas.{content-more}
@@ -218,7 +218,7 @@ rising_with (WideBlock addr count) q rising = rising
 
 pub record_later : (r : WideRec) (p q : Content) → IsRising q.hists → sum_of p (with_record r q) ≡ with_record r (sum_of p q)
 record_later (WideHist h u) p q rising = hist_later h u p q rising
-record_later (WideArc from to count) p q rising = ap (λ l. record (sum_of p q) { arcs = l }) (fold_tally same_pair pair-self pair-equal (from, to) count q.arcs p.arcs)
+record_later (WideArc from to count) p q rising = ap (λ l. record (sum_of p q) { arcs = l }) (fold_tally same_ends pair-self pair-equal (from, to) count q.arcs p.arcs)
 record_later (WideBlock addr count) p q rising = ap (λ l. record (sum_of p q) { blocks = l }) (fold_tally nat_eq same-self eqb-true addr count q.blocks p.blocks)
 
 records_later : (recs : List WideRec) (p q : Content) → IsRising q.hists → sum_of p (with_records recs q) ≡ with_records recs (sum_of p q)

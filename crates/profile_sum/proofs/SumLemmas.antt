@@ -7,7 +7,7 @@ use Rattle.gp_base.specs.declared.records.Unit as units
 use Rattle.gmon_data.specs.declared.hist.Hist.{Hist}
 use Rattle.gmon_data.specs.Hists.{put_hist, kept_unit, has_counters, IsKept, IsUnitOf}
 use Rattle.gmon_data.specs.Tally.{tally}
-use Rattle.gmon_data.specs.Content.{Content, same_pair, with_hist, with_records, IsProfile, IsWithin}
+use Rattle.gmon_data.specs.Content.{Content, same_ends, with_hist, with_records, IsProfile, IsWithin}
 use Rattle.gmon_data.proofs.RecordLemmas.{within_records}
 use Rattle.profile_sum.specs.Sum.{arc_record, block_record, hist_record, hist_records, records_of_unit, sum_of}
 
@@ -41,9 +41,9 @@ hists_added (h ∷ hs) o p is kept =
     let un = ap (λ v. Some (unwrap_or p.«unit» v)) is.2 ∙ or_some p.«unit» u in
     rw is.1 (ap (with_records (map (hist_record u) hs)) first ∙ rest ∙ (λ i. record p { hists = fold put p.hists (h ∷ hs); «unit» = un i }))
 
-arcs_added : (es : List ((ℕ × ℕ) × ℕ)) (c : Content) → with_records (map arc_record es) c ≡ record c { arcs = fold (λ done e. tally same_pair e.0 e.1 done) c.arcs es }
+arcs_added : (es : List ((ℕ × ℕ) × ℕ)) (c : Content) → with_records (map arc_record es) c ≡ record c { arcs = fold (λ done e. tally same_ends e.0 e.1 done) c.arcs es }
 arcs_added [] c = refl
-arcs_added (e ∷ es) c = arcs_added es (record c { arcs = tally same_pair e.0 e.1 c.arcs })
+arcs_added (e ∷ es) c = arcs_added es (record c { arcs = tally same_ends e.0 e.1 c.arcs })
 
 blocks_added : (es : List (ℕ × ℕ)) (c : Content) → with_records (map block_record es) c ≡ record c { blocks = fold (λ done e. tally nat_eq e.0 e.1 done) c.blocks es }
 blocks_added [] c = refl

@@ -8,7 +8,7 @@ use Rattle.gmon_data.specs.declared.refusal.AddRefusal.{AddRefusal}
 use Rattle.gmon_data.specs.declared.refusal.AddRefusal.TheVariants as adding
 use Rattle.gmon_data.specs.Hists.{put_hist}
 use Rattle.gmon_data.specs.Tally.{tally}
-use Rattle.gmon_data.specs.Content.{Content, WideRec, WideHist, WideArc, WideBlock, same_pair, hist_conflict}
+use Rattle.gmon_data.specs.Content.{Content, WideRec, WideHist, WideArc, WideBlock, same_ends, hist_conflict}
 use Rattle.profile_sum.specs.declared.refusal.SumRefusal.{SumRefusal}
 use Rattle.profile_sum.specs.declared.refusal.SumRefusal.TheVariants as answers
 
@@ -17,7 +17,7 @@ use Rattle.profile_sum.specs.declared.refusal.SumRefusal.TheVariants as answers
 abbrev pub sum_of : Content → Content → Content
 sum_of p q = record {
   hists = fold (λ done h. put_hist h done) p.hists q.hists;
-  arcs = fold (λ done e. tally same_pair e.0 e.1 done) p.arcs q.arcs;
+  arcs = fold (λ done e. tally same_ends e.0 e.1 done) p.arcs q.arcs;
   blocks = fold (λ done e. tally nat_eq e.0 e.1 done) p.blocks q.blocks;
   «unit» = option_or p.«unit» q.«unit»;
 }

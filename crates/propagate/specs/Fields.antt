@@ -1,4 +1,5 @@
 -- What a flow's fields stand for.
+-- Only private functions and invariants speak of it.
 use Rattle.call_cycles.specs.Flow.{FlowValue}
 use Rattle.propagate.specs.declared.flows.Flow.TheInside.{Inside}
 

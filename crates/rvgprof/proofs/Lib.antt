@@ -2,7 +2,6 @@ pub mod Standing
 pub mod ToldLemmas
 pub mod Accepting
 pub mod Performing
-pub mod ProfileSizeLemmas
 pub mod Summing
 pub mod Reporting
 pub mod Running

@@ -20,7 +20,7 @@ use Rattle.gp_base.specs.declared.records.Unit as units
 use Rattle.gmon_bsd.specs.Run.{run_text as bsd_run_text}
 use Rattle.gmon_bsd.proofs.RunReadBack.{run_read_back as bsd_read_back}
 use Rattle.gmon_data.specs.declared.hist.Hist.{Hist}
-use Rattle.gmon_data.specs.Content.{Content, WideRec, arc_in, block_in, content_of, hist_in, runs_at, same_pair, unit_in, wide_block, wide_record, wide_records}
+use Rattle.gmon_data.specs.Content.{Content, WideRec, arc_in, block_in, content_of, hist_in, runs_at, same_ends, unit_in, wide_block, wide_record, wide_records}
 use Rattle.gmon_data.specs.Hists.{put_hist}
 use Rattle.gmon_data.specs.Tally.{sums_by_key, tally}
 use Rattle.gmon_data.proofs.ContentLemmas.{same-self}
@@ -360,7 +360,7 @@ module _ (form : Form) (program : List ℕ) (setup : Setup) (fits : FitsFile for
         accepted = ap (λ (f : Form). refusal_in f text) is.form_is ∙ is.accepted;
         records = records;
         hists = ap (λ (c : Content). c.hists) content ∙ hists ∙ sym (ap (λ (c : Content). c.hists) own);
-        arcs = ap (λ (c : Content). c.arcs) content ∙ ap (sums_by_key same_pair) arcs ∙ sym (ap (λ (c : Content). c.arcs) own);
+        arcs = ap (λ (c : Content). c.arcs) content ∙ ap (sums_by_key same_ends) arcs ∙ sym (ap (λ (c : Content). c.arcs) own);
         «unit» = ap (λ (c : Content). c.«unit») content ∙ ap (λ (us : List units.Unit). slice_get us 0) unit_found ∙ sym (ap (λ (c : Content). c.«unit») own);
         executions = λ counts i below.
             ap (λ (c : Content). runs_at (z.low + 4 * i) c.blocks) content ∙ ap (λ (es : List (ℕ × ℕ)). runs_at (z.low + 4 * i) (sums_by_key nat_eq es)) all

@@ -109,7 +109,7 @@ not_understood words x idle none =
 -- one input more was opened
 opened_more : (n : ℕ) (old mid new : Outside) → Did [] (opening n old) mid → Did [] (opening 1 mid) new → Did [] (opening (suc n) old) new
 opened_more n old mid new p q =
-    let before : Did [] (opening (suc n) old) (opening 1 mid) = record { disk = p.disk; out = p.out; err = p.err; writing = p.writing; turns = p.turns; opened = ap next_count p.opened } in
+    let before : Did [] (opening (suc n) old) (opening 1 mid) = record { disk = p.disk; out = p.out; err = p.err; writing = p.writing; file_changes = p.file_changes; opened = ap next_count p.opened } in
     Did-then [] [] (opening (suc n) old) (opening 1 mid) new before q
 
 nothing_failed : (old new : Outside) → KeepsCounts old new → NothingFailed old new new.err_faults

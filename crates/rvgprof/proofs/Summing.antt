@@ -1,13 +1,13 @@
 -- Profile files were read and added up, as the words ask for it.
-use Rattle.std.proofs.Common.{◌≡◌, ℕ, ◌+◌, ◌-◌, ◌<◌, ◌≤◌, Bool, true, false, List, [], ◌∷◌, length, filter_map, slice_get, option_and_then, Option, Some, None, Err, inl, refl, sym, ap, subst, ◌∙◌, if◌then◌else◌, arith}
+use Rattle.std.proofs.Common.{◌≡◌, ℕ, ◌+◌, ◌-◌, ◌<◌, ◌≤◌, List, [], ◌∷◌, length, Option, None, Err, inl, refl, sym, ap, subst, ◌∙◌, arith}
 use Rattle.std.specs.List.{AllByRecursion}
 use Rattle.gp_base.specs.declared.records.Unit as units
 use Rattle.gmon_data.specs.declared.hist.Hist.{Hist}
-use Rattle.gmon_data.specs.Content.{Content, IsProfile, WideRec, content_of, empty_content, conflict_of, hist_conflict, wide_records, with_records}
+use Rattle.gmon_data.specs.Content.{Content, IsProfile, WideRec, content_of, empty_content, conflict_of, wide_records, with_records}
 use Rattle.gmon_data.specs.declared.refusal.AddRefusal.{AddRefusal}
 use Rattle.gmon_data.specs.declared.refusal.AddRefusal.TheVariants as adding
 use Rattle.gmon_data.specs.declared.refusal.Unlike.{Unlike as Difference}
-use Rattle.gmon_data.specs.Hists.{IsUnitOf, IsUnlike, conflict_with, has_counters, kept_unit, range_of}
+use Rattle.gmon_data.specs.Hists.{IsUnitOf, IsUnlike}
 use Rattle.gp_base.specs.declared.records.Records.{Records}
 use Rattle.host_port.specs.Outside.{Outside}
 use Rattle.profile_sum.specs.Sum.{sum_of, clash_of, IsClash}

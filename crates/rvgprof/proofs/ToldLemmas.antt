@@ -1,16 +1,13 @@
 -- What is told of the files was told before.
 use Rattle.std.proofs.Common.{◌≡◌, true, List, Option, Some, None, Result, Ok, Err, refl, subst}
 use Rattle.std.specs.Global.{Vec}
-use Rattle.std.specs.Prelude.{IfSome, MatchOption, OnOk, is_some, length, ⊤, ℕ}
+use Rattle.std.specs.Prelude.{IfSome, MatchOption, is_some, length, ⊤, ℕ}
 use Rattle.std.specs.List.{All}
 use Rattle.host_port.specs.Act.{Act, Disk, File, file_content}
 use Rattle.host_port.specs.Outside.{Outside, Becomes, Did}
 use Rattle.host_port.specs.Host.{Puts}
 use Rattle.host_port.specs.Load.{Loads}
-use Rattle.host_port.specs.declared.side.Side.TheVariants.{ErrorOutput, Output}
-use Rattle.host_port.proofs.PerformingLemmas.{puts_performs}
-use Rattle.flat_report.specs.Reports.{Reports}
-use Rattle.flat_report.specs.declared.refusal.ReportRefusal.{ReportRefusal}
+use Rattle.host_port.specs.declared.side.Side.TheVariants.{ErrorOutput}
 use Rattle.elf32_syms.specs.declared.image.Image.{Image}
 use Rattle.elf32_syms.specs.Image.{IsWithinLimits, image_of}
 use Rattle.gp_base.specs.declared.records.Form.{Form}
@@ -22,7 +19,6 @@ use Rattle.prof_machine.specs.declared.setup.Setup.{Setup}
 use Rattle.prof_machine.specs.Start.{final_world}
 use Rattle.prof_machine.specs.Value.{RunValue, StandsFor}
 use Rattle.prof_machine.specs.World.{World}
-use Rattle.rvgprof.specs.declared.outcome.Done.{Done}
 use Rattle.command_words.specs.declared.words.Command.{Command}
 use Rattle.command_words.specs.declared.words.Command.TheVariants.{Show, Syms, Run, Sum, Report, Profile, Demo, Annotate, Folded, Help, Version}
 use Rattle.rvgprof.specs.Contract.{WhereTold}

@@ -1,49 +1,186 @@
--- What the words of the headline rest on in the layers below. Each claim is written out here, so that a law of a layer
--- no longer proves it once the law says less.
-use Rattle.std.specs.Prelude.{◌≡◌, ◌≢◌, ◌<◌, ◌≤◌, ◌+◌, ◌-◌, ◌*◌, ◌/◌, ◌++◌, ◌&&◌, ◌↔◌, ℕ, true, false, List, length, map, take, slice_index, Option, Some, None, IsSome, count_by, sum}
-use Rattle.std.specs.List.{AllByRecursion, sum_by}
-use Rattle.std.specs.List.Sorted.{IsStrictlyIncreasing}
-use Rattle.gp_base.specs.Bytes.{IsBytes}
+-- What the words of the headline rest on in the layers below, a record for each. Each claim is written out here, so
+-- that a law of a layer no longer proves it once the law says less.
+use Rattle.std.specs.Prelude.{◌≡◌, ◌≢◌, ◌<◌, ◌≤◌, ◌+◌, ◌-◌, ◌*◌, ◌/◌, ◌^◌, ◌==◌, ◌++◌, ◌&&◌, ◌↔◌, ◌⊎◌, ℕ, suc, Bool, true, false, not, nat_eq, List, [], ◌∷◌, length, map, filter, filter_map, take, slice_get, slice_index, slice_index_or, Option, Some, None, IsSome, MatchOption, All, Contains, count_by, sum, if◌then◌else◌}
+use Rattle.std.specs.List.{AllByRecursion, AllPairs, enumerate_from, flat_map, sum_by}
+use Rattle.std.specs.List.Sorted.{IsPermutation, IsSortedBy, IsStrictlyIncreasing, IsStrictlySortedBy}
+use Rattle.std.specs.Int.{IsGcd, abs_diff}
+use Rattle.std.specs.Map.{keys_of}
+use Rattle.gp_base.specs.Bytes.{IsBytes, le, value_of}
+use Rattle.gp_base.specs.Spans.{is_in}
+use Rattle.gp_base.specs.declared.records.Form.TheVariants.{Bsd, Gnu}
 use Rattle.gp_base.specs.declared.records.Records.{Records}
 use Rattle.gp_base.specs.declared.refusal.GmonRefusal.{GmonRefusal}
+use Rattle.host_port.specs.Act.{Act}
+use Rattle.host_port.specs.Outside.{Did, Outside}
+use Rattle.command_words.specs.Words.{command_of}
 use Rattle.elf32_syms.specs.declared.image.Image.{Image}
 use Rattle.elf32_syms.specs.declared.image.Symbol.{Symbol}
-use Rattle.elf32_syms.specs.Owners.{IsAscending}
+use Rattle.elf32_syms.specs.Owners.{IsAscending, owner_of}
+use Rattle.elf32_syms.specs.Symbols.{comes_before as is_kept_before, kept_at}
+use Rattle.rv_decode.specs.Table.{Matches, row_of, table}
+use Rattle.rv_step.specs.Memory.{IsInside, Memory, byte_at, read_at, write_at}
 use Rattle.gmon_bsd.specs.Grammar.{BsdSpells}
 use Rattle.gmon_bsd.specs.Reading.{bsd_refusal, bsd_records}
+use Rattle.gmon_bsd.specs.Run.{run_text as bsd_run_text}
+use Rattle.gmon_gnu.specs.Blocks.{block_record, executed_blocks}
+use Rattle.gmon_gnu.specs.CountedRun.{block_recs}
 use Rattle.gmon_gnu.specs.Faults.{HasFault}
 use Rattle.gmon_gnu.specs.Grammar.{GnuSpells}
+use Rattle.gmon_gnu.specs.ProfileText.{profile_text}
 use Rattle.gmon_gnu.specs.Reading.{gnu_refusal, gnu_records}
+use Rattle.gmon_gnu.specs.Run.{run_recs, run_text as gnu_run_text}
+use Rattle.gmon_gnu.specs.Splitting.{profile_recs}
 use Rattle.gmon_data.specs.declared.hist.Hist.{Hist}
-use Rattle.gmon_data.specs.Content.{WideRec, content_of}
-use Rattle.gmon_data.specs.Hists.{IsKept, samples_of}
-use Rattle.profile_sum.specs.Sum.{sum_of}
+use Rattle.gmon_data.specs.declared.hist.HistRange.{HistRange}
+use Rattle.gmon_data.specs.Content.{Content, HasSpan, IsProfile, WideRec, block_in, conflict_of, content_of, empty_content, hist_in, runs_at, wide_records, with_records}
+use Rattle.gmon_data.specs.Hists.{IsApart, IsKept, count_at, range_of, samples_of}
+use Rattle.gmon_data.specs.Tally.{sum_at}
+use Rattle.profile_sum.specs.Sum.{clash_of, sum_of}
+use Rattle.arc_filter.specs.Cuts.{is_cut_pair, without_cuts}
 use Rattle.mcount_arcs.specs.declared.sizes.Sizes.{Sizes}
-use Rattle.mcount_arcs.specs.Log.{LogEntry, distinct_count, entered_calls, kept_calls}
-use Rattle.mcount_arcs.specs.Samples.{counted_samples}
+use Rattle.mcount_arcs.specs.declared.state.State.TheVariants.{Busy, On}
+use Rattle.mcount_arcs.specs.Arcs.{CallFits, arcs_of, chain_in, looks_of}
+use Rattle.mcount_arcs.specs.Image.{entry_in, front_in, index_in}
+use Rattle.mcount_arcs.specs.Log.{CallIgnored, CallLost, Enter, IsLegal, LogEntry, Mode, Pair, Sample, distinct_count, entered_calls, is_busy, is_on, kept_calls, state_of}
+use Rattle.mcount_arcs.specs.Samples.{buckets_of, counted_samples}
+use Rattle.mcount_arcs.specs.Sizes.{AreSizes, bucket_range, text_span}
 use Rattle.prof_machine.specs.declared.ending.End.{End}
 use Rattle.prof_machine.specs.declared.ending.End.TheVariants.{Budget, Exit, Trap}
 use Rattle.prof_machine.specs.declared.machine.Machine.{Machine}
 use Rattle.prof_machine.specs.declared.setup.Setup.{Setup}
+use Rattle.prof_machine.specs.Executions.{counted_pairs, executed_pairs, executions_in}
 use Rattle.prof_machine.specs.Laws.{noted_pcs, noted_samples}
 use Rattle.prof_machine.specs.Notes.{note_of}
-use Rattle.prof_machine.specs.Plan.{most_turns}
-use Rattle.prof_machine.specs.Start.{machine_of, start_of}
+use Rattle.prof_machine.specs.Plan.{driven, most_turns, planned}
+use Rattle.prof_machine.specs.Start.{final_world, machine_of, start_of}
 use Rattle.prof_machine.specs.Turn.{turn_of, world_after}
 use Rattle.prof_machine.specs.Value.{is_sample}
 use Rattle.prof_machine.specs.World.{World}
-use Rattle.symbol_shares.specs.Parts.{IsCovered}
-use Rattle.symbol_shares.specs.Shares.{attributed_of, shares_of}
-use Rattle.call_cycles.specs.Sums.{sum_below, when}
-use Rattle.call_cycles.specs.Graph.{GraphValue, IsGraph, all_calls, arc_at, arc_count, component_count, entering_of, is_outside, target_of}
-use Rattle.call_cycles.specs.Flow.{FlowValue, IsFlow, is_root, time_of, time_of_roots}
+use Rattle.symbol_shares.specs.Parts.{IsCovered, overlap_of}
+use Rattle.symbol_shares.specs.Ranges.{grains_of_range}
+use Rattle.symbol_shares.specs.Shares.{attributed_of, bucket_begin, share_of, share_of_bucket, shares_of}
+use Rattle.annotate.specs.Cells.{cells_of, part_in, word_count}
+use Rattle.call_cycles.specs.declared.graphs.FunArc.{FunArc}
+use Rattle.call_cycles.specs.Calls.{calls_between, function_arcs, own_calls}
+use Rattle.call_cycles.specs.Sums.{list_of, sum_below, when}
+use Rattle.call_cycles.specs.Graph.{GraphValue, IsArcBefore, IsGraph, all_calls, arc_at, arc_count, component_count, component_of, entering_of, head_of, is_cycle, is_outside, no_arc, source_of, target_of}
+use Rattle.call_cycles.specs.Values.{graph_in, profile_graph}
+use Rattle.call_cycles.specs.Flow.{FlowValue, IsFlow, carried_by, is_root, time_of, time_of_roots}
+use Rattle.call_cycles.specs.ExactFlow.{ExactTimes, IsExactFlow, exact_time_of_roots, outside_count}
+use Rattle.propagate.specs.ExactSolution.{exact_in}
 use Rattle.propagate.specs.Proportion.{carried_to}
 use Rattle.propagate.specs.Solution.{flow_in}
+use Rattle.fraction128.specs.Fractions.{Fraction, gcd, lowest, product_of, sum_of as fraction_sum}
+use Rattle.exact_flow.specs.Solution.{exact_flow_in, times_in}
+use Rattle.exact_flow.specs.Steps.{FitsStep, step_at}
+use Rattle.exact_flow.specs.Wide.{WideStep, first_wide, first_wide_of}
 use Rattle.flat_report.specs.Sources.{AreOfOne, Sources}
-use Rattle.flat_report.specs.Entries.{entries_of}
-use Rattle.flat_report.specs.FlatText.{cumulative_of}
-use Rattle.graph_report.specs.GraphText.{arcs_from, arcs_to}
+use Rattle.flat_report.specs.Entries.{comes_before as is_listed_before, entries_of, functions_of, ordered as functions_in_order}
+use Rattle.flat_report.specs.FlatText.{cumulative_of, flat_text, header_text as flat_header, line_at}
+use Rattle.flat_report.specs.Hidden.{is_hidden}
+use Rattle.graph_report.specs.declared.subjects.Subject.TheVariants.{Function}
+use Rattle.graph_report.specs.Entries.{Entry, comes_before, number_in, ordered}
+use Rattle.graph_report.specs.GraphText.{arcs_from, arcs_to, graph_text, header_text, is_shown, subject_text}
 use Rattle.graph_report.specs.Roots.{has_own_entry, shown_total}
+use Rattle.graph_report.specs.Rows.{cycle_entries, function_entries}
+use Rattle.folded.specs.Stacks.{caller_in, lines_of, same_stack, stack_cmp, stack_of, times_in as times_in_lines}
+use Rattle.folded.specs.Trail.{StackSample, samples_after}
+
+-- ---- words, bytes and the outside
+
+pub record WordClaims : Type 0 where
+  -- no line of more than 200 words has a reading
+  pub short_lines : (words : List (List ℕ)) → 200 < length words → command_of words ≡ None
+  -- a number has as many bytes as are asked for, and is read back from them where they are enough
+  pub number_bytes : (n k : ℕ) → (length (le n k) ≡ k) × IsBytes (le n k) × (n < 256 ^ k → value_of (le n k) ≡ n)
+  -- bytes are those of the number that they stand for, so that no others of as many stand for it
+  pub one_spelling : (bs : List ℕ) → IsBytes bs → (le (value_of bs) (length bs) ≡ bs) × (value_of bs < 256 ^ length bs)
+  -- nothing is done between a moment and itself
+  pub nothing_done : (x : Outside) → Did [] x x
+  -- and acts that follow one another are done together
+  pub done_together : (front back : List Act) (x y z : Outside) → Did front x y → Did back y z → Did (front ++ back) x z
+
+-- ---- files
+
+pub record FileClaims : Type 0 where
+  -- a file of 4.4BSD has a meaning exactly where nothing is refused, and then no other
+  pub bsd_meaning : (bytes : List ℕ) → (IsBytes bytes → bsd_refusal bytes ≡ None → BsdSpells bytes (bsd_records bytes)) × ((r : Records) → BsdSpells bytes r → (bsd_refusal bytes ≡ None) × (r ≡ bsd_records bytes))
+  -- and so has a file of GNU
+  pub gnu_meaning : (bytes : List ℕ) → (IsBytes bytes → gnu_refusal bytes ≡ None → GnuSpells bytes (gnu_records bytes)) × ((r : Records) → GnuSpells bytes r → (gnu_refusal bytes ≡ None) × (r ≡ gnu_records bytes))
+  -- a file of GNU is refused exactly where it has a fault by the grammar, and with that one
+  pub gnu_faults : (bytes : List ℕ) → IsBytes bytes → (refusal : GmonRefusal) → (gnu_refusal bytes ≡ Some refusal) ↔ HasFault bytes refusal
+  -- the file of 4.4BSD of what was logged spells its counters and its arcs, and is read as these
+  pub bsd_run : (z : Sizes) (log : List LogEntry) (rate : ℕ) → AreSizes z → rate < 2 ^ 32 → All CallFits (arcs_of z log) →
+      let text = bsd_run_text z log rate in
+      let records : Records = record { form = Bsd; recs = run_recs z.low z.high rate (buckets_of z log) (arcs_of z log) } in
+      BsdSpells text records × (bsd_refusal text ≡ None) × (bsd_records text ≡ records)
+  -- and so does that of GNU ..
+  pub gnu_run : (z : Sizes) (log : List LogEntry) (rate : ℕ) → AreSizes z → rate < 2 ^ 32 → All CallFits (arcs_of z log) →
+      let text = gnu_run_text z log rate in
+      let records : Records = record { form = Gnu; recs = run_recs z.low z.high rate (buckets_of z log) (arcs_of z log) } in
+      GnuSpells text records × (gnu_refusal text ≡ None) × (gnu_records text ≡ records)
+  -- .. with the counts of executed instructions behind it, where these and their addresses have four bytes
+  pub counted_run : (z : Sizes) (log : List LogEntry) (rate low : ℕ) (counts : List ℕ) → AreSizes z → rate < 2 ^ 32 → All CallFits (arcs_of z log)
+      → ((i : ℕ) → slice_index counts i < 2 ^ 32) → ((i : ℕ) → i < length counts → low + 4 * i < 2 ^ 32) →
+      let text = gnu_run_text z log rate ++ block_record low counts in
+      let records : Records = record { form = Gnu; recs = run_recs z.low z.high rate (buckets_of z log) (arcs_of z log) ++ block_recs (executed_blocks low counts) } in
+      GnuSpells text records × (gnu_refusal text ≡ None) × (gnu_records text ≡ records)
+  -- the file of a profile spells its pieces, and what is read of it has the profile's content
+  pub profile_file : (p : Content) → IsProfile p →
+      let text = profile_text p in
+      let records : Records = record { form = Gnu; recs = profile_recs p } in
+      GnuSpells text records × (gnu_refusal text ≡ None) × (content_of (wide_records (gnu_records text).recs) ≡ p)
+
+-- ---- profiles
+
+pub record ProfileClaims : Type 0 where
+  -- the sum of the contents of two lists of records is the content of both
+  pub sums : (a b : List WideRec) → sum_of (content_of a) (content_of b) ≡ content_of (a ++ b)
+  -- records without conflict can be split between two profiles, which then have a sum
+  pub splits : (a b : List WideRec) → All HasSpan (a ++ b) → conflict_of empty_content (a ++ b) ≡ None → clash_of (content_of a) (content_of b) ≡ None
+  -- the content of records and more records is that of the first ones, with the others added one by one
+  pub more_records : (recs more : List WideRec) → content_of (recs ++ more) ≡ with_records more (content_of recs)
+  -- for each low address and each place, a content counts there what the histograms among its records count
+  pub counters : (recs : List WideRec) (low i : ℕ) → sum_by (count_at low i) (content_of recs).hists ≡ sum_by (count_at low i) (filter_map hist_in recs)
+  -- the executions at an address are all that the records have there
+  pub executions : (recs : List WideRec) (addr : ℕ) → runs_at addr (content_of recs).blocks ≡ sum_at nat_eq addr (filter_map block_in recs)
+  -- the histograms of records without conflict have the records' ranges, each once, in ascending order and apart
+  pub ranges : (recs : List WideRec) → All HasSpan recs → conflict_of empty_content recs ≡ None →
+      let hists = (content_of recs).hists in
+      ((range : HistRange) → Contains (map range_of hists) range ↔ Contains (map range_of (filter_map hist_in recs)) range) × IsApart hists × AllByRecursion IsKept hists
+  -- the function arcs that stay are those whose two names are no cut, with the same counts and in the same order
+  pub arcs_stay : (p : Content) (symbols : List Symbol) (cuts : List (List ℕ))
+      → function_arcs (without_cuts p symbols cuts).arcs symbols ≡ filter (λ a. not (is_cut_pair symbols cuts a.caller a.callee)) (function_arcs p.arcs symbols)
+  -- and so it is for the calls of functions by themselves
+  pub self_calls_stay : (p : Content) (symbols : List Symbol) (cuts : List (List ℕ))
+      → own_calls (without_cuts p symbols cuts).arcs symbols ≡ list_of (length symbols) (λ f. when (not (is_cut_pair symbols cuts f f)) (calls_between p.arcs symbols f f))
+  -- no time is cut
+  pub times_stay : (p : Content) (symbols : List Symbol) (cuts : List (List ℕ)) → shares_of (without_cuts p symbols cuts).hists symbols ≡ shares_of p.hists symbols
+  -- what cuts leave is a profile
+  pub profiles_stay : (p : Content) (symbols : List Symbol) (cuts : List (List ℕ)) → IsProfile p → IsProfile (without_cuts p symbols cuts)
+  -- and without cuts it is the whole
+  pub nothing_cut : (p : Content) (symbols : List Symbol) → without_cuts p symbols [] ≡ p
+
+-- ---- programs
+
+pub record ProgramClaims : Type 0 where
+  -- of the candidates at an address one is kept, before which no other of them comes, and none only where there is none;
+  -- they are entries of a symbol table, whose type has no name here
+  pub kept_symbol : (strings : List ℕ) (cs : _) (addr : ℕ) → MatchOption (kept_at strings cs addr)
+      (All (λ d. ¬ (d.addr ≡ addr)) cs)
+      (λ c. Contains cs c × (c.addr ≡ addr) × All (λ d. d.addr ≡ addr → is_kept_before strings d c ≡ false) cs)
+  -- no word matches two lines of the table of instructions
+  pub one_row : (w : ℕ) → AllPairs (λ r s. ¬ (Matches w r × Matches w s)) table
+  -- the row of a word is a line that it matches, and there is none only where it matches no line
+  pub row : (w : ℕ) → MatchOption (row_of w) (All (λ r. ¬ (Matches w r)) table) (λ r. Contains table r × Matches w r)
+  -- to read memory is to look up one address after the other
+  pub read_bytes : (m : Memory) (a n k : ℕ) → IsInside m a n → k < n → slice_get (read_at m a n) k ≡ byte_at m (a + k)
+  -- to write it changes the addresses that are written ..
+  pub written_bytes : (m : Memory) (a : ℕ) (bs : List ℕ) (k : ℕ) → IsInside m a (length bs) → k < length bs → byte_at (write_at m a bs) (a + k) ≡ slice_get bs k
+  -- .. and no other
+  pub other_bytes : (m : Memory) (a : ℕ) (bs : List ℕ) (p : ℕ) → IsInside m a (length bs) → (p < a) ⊎ (a + length bs ≤ p) → byte_at (write_at m a bs) p ≡ byte_at m p
+
+-- ---- runs
 
 -- of the instructions that retired, those that the clock has counted: all but an exit
 abbrev pub ticked_of : Option End → ℕ → ℕ
@@ -58,24 +195,21 @@ pub record IsWithinBudget (budget : ℕ) (w : World) : Type 0 where
   pub going : w.ending ≡ None → w.retired < budget
   pub ended : w.ending ≡ Some Budget → w.retired ≡ budget
 
--- a part of a time is less than one away from what so many of all calls get in proportion, time * calls / all
-abbrev pub IsNear : ℕ → ℕ → ℕ → ℕ → Type 0
-IsNear part time calls all = (part * all < time * calls + all) × (time * calls < (part + 1) * all)
-
-pub record Claims : Type 0 where
-  -- ---- files
-  -- a file of 4.4BSD has a meaning exactly where nothing is refused, and then no other
-  pub bsd_meaning : (bytes : List ℕ) → (IsBytes bytes → bsd_refusal bytes ≡ None → BsdSpells bytes (bsd_records bytes)) × ((r : Records) → BsdSpells bytes r → (bsd_refusal bytes ≡ None) × (r ≡ bsd_records bytes))
-  -- and so has a file of GNU
-  pub gnu_meaning : (bytes : List ℕ) → (IsBytes bytes → gnu_refusal bytes ≡ None → GnuSpells bytes (gnu_records bytes)) × ((r : Records) → GnuSpells bytes r → (gnu_refusal bytes ≡ None) × (r ≡ gnu_records bytes))
-  -- a file of GNU is refused exactly where it has a fault by the grammar, and with that one
-  pub gnu_faults : (bytes : List ℕ) → IsBytes bytes → (refusal : GmonRefusal) → (gnu_refusal bytes ≡ Some refusal) ↔ HasFault bytes refusal
-  -- the sum of the contents of two lists of records is the content of both
-  pub sums : (a b : List WideRec) → sum_of (content_of a) (content_of b) ≡ content_of (a ++ b)
-  -- ---- runs
-  -- every run ends, whichever harts take its turns
+pub record RunClaims : Type 0 where
+  -- without turns a world stays as it is ..
+  pub no_turn : (m : Machine) (w : World) → world_after m w [] ≡ w
+  -- .. a turn more is taken in the world after the others ..
+  pub one_turn_more : (m : Machine) (w : World) (turns : List ℕ) (h : ℕ) → world_after m w (turns ++ h ∷ []) ≡ turn_of m (world_after m w turns) h
+  -- .. and a run that has ended takes none
+  pub ended_stays : (m : Machine) (w : World) (h : ℕ) → IsSome w.ending → turn_of m w h ≡ w
+  -- every run ends, whichever harts take its turns ..
   pub ends : (image : Image) (bytes : List ℕ) (setup : Setup) (turns : List ℕ) → 1 ≤ setup.every → 1 ≤ setup.budget → most_turns setup ≤ length turns
       → IsSome (world_after (machine_of image setup) (start_of image bytes setup) turns).ending
+  -- .. by its plan too ..
+  pub plan_ends : (image : Image) (bytes : List ℕ) (setup : Setup) → 1 ≤ setup.every → 1 ≤ setup.budget → IsSome (final_world image bytes setup).ending
+  -- .. and then in the same world for every number of turns that suffices
+  pub one_ending : (image : Image) (bytes : List ℕ) (setup : Setup) (n : ℕ) → 1 ≤ setup.every → 1 ≤ setup.budget →
+      let w = planned (machine_of image setup) (start_of image bytes setup) n in IsSome w.ending → w ≡ final_world image bytes setup
   -- samples are one in `every` of the instructions that the clock has counted, and no more retire than the budget allows
   pub clock : (image : Image) (bytes : List ℕ) (setup : Setup) (turns : List ℕ) → 1 ≤ setup.every → 1 ≤ setup.budget →
       let w = world_after (machine_of image setup) (start_of image bytes setup) turns in
@@ -87,19 +221,131 @@ pub record Claims : Type 0 where
   -- .. one in each turn in which their number rose, and none in any other
   pub one_noted : (m : Machine) (w : World) (h : ℕ) →
       (IsSome (note_of m w h).ran ↔ ((turn_of m w h).retired ≡ w.retired + 1)) × (((note_of m w h).ran ≡ None) ↔ ((turn_of m w h).retired ≡ w.retired))
+  -- as many places are kept as instructions have retired
+  pub as_many : (image : Image) (bytes : List ℕ) (setup : Setup) (turns : List ℕ) →
+      let w = world_after (machine_of image setup) (start_of image bytes setup) turns in length w.ran ≡ w.retired
+  -- the counts of executed instructions are the pairs of the addresses at which some were executed
+  pub pairs : (z : Sizes) (ran : List ℕ) → counted_pairs z.low (executions_in z ran) ≡ executed_pairs z ran
+  -- what is printed stays, from turn to turn of a plan ..
+  pub prints_stay : (m : Machine) (w : World) (k n : ℕ) → k ≤ n → (more : List Act) × ((planned m w n).prints ≡ (planned m w k).prints ++ more)
+  -- .. up to those in which the run ends
+  pub last_prints : (m : Machine) (w : World) (n : ℕ) → n ≤ most_turns m.setup → (more : List Act) × ((driven m w).prints ≡ (planned m w n).prints ++ more)
+  -- no call is being entered once a run has ended ..
+  pub none_busy : (image : Image) (bytes : List ℕ) (setup : Setup) (turns : List ℕ) → All (λ h. h < setup.harts) turns →
+      let w = world_after (machine_of image setup) (start_of image bytes setup) turns in IsSome w.ending → state_of (machine_of image setup).sizes w.log ≢ Busy
+  -- .. by its plan too
+  pub plan_not_busy : (image : Image) (bytes : List ℕ) (setup : Setup) → 1 ≤ setup.harts →
+      let w = final_world image bytes setup in IsSome w.ending → state_of (machine_of image setup).sizes w.log ≢ Busy
+
+-- ---- what the runtime counts
+
+pub record CountClaims : Type 0 where
+  -- where the clock alone ticked, the samples in the text are counted, and there are no arcs
+  pub samples_alone : (z : Sizes) (pcs : List ℕ) →
+      let log = map Sample pcs in
+      IsLegal z log × (counted_samples z log ≡ filter (is_in (text_span z)) pcs) × (0 < z.tolimit → state_of z log ≡ On) × (kept_calls z log ≡ []) × (arcs_of z log ≡ [])
+  -- one sample more is counted where sampling is on and its address in the text ..
+  pub one_sample_more : (z : Sizes) (log : List LogEntry) (pc : ℕ) → counted_samples z (log ++ Sample pc ∷ []) ≡ counted_samples z log ++ (if is_on log && is_in (text_span z) pc then pc ∷ [] else [])
+  -- .. and nothing else changes
+  pub only_sample : (z : Sizes) (log : List LogEntry) (pc : ℕ) →
+      let more = log ++ Sample pc ∷ [] in
+      (IsLegal z log → IsLegal z more) × (is_on more ≡ is_on log) × (state_of z more ≡ state_of z log) × (kept_calls z more ≡ kept_calls z log) × (arcs_of z more ≡ arcs_of z log)
+  -- each address of the text lies in the range of one counter ..
+  pub one_bucket : (z : Sizes) (pc : ℕ) → AreSizes z → is_in (text_span z) pc ≡ true → (i : ℕ) × (i < z.counters) × (is_in (bucket_range z i) pc ≡ true)
+  -- .. and of no other
+  pub no_other_bucket : (z : Sizes) (pc i j : ℕ) → is_in (bucket_range z i) pc ≡ true → is_in (bucket_range z j) pc ≡ true → i ≡ j
   -- the calls that are kept are the longest prefix of those that were entered which has a place for each different call
   pub kept : (z : Sizes) (log : List LogEntry) → (kept_calls z log ≡ take (length (kept_calls z log)) (entered_calls z log)) × (distinct_count (kept_calls z log) ≤ z.tolimit - 1)
       × ((n : ℕ) → n ≤ length (entered_calls z log) → distinct_count (take n (entered_calls z log)) ≤ z.tolimit - 1 → n ≤ length (kept_calls z log))
-  -- ---- graphs, and the time that flows over them
+  -- and all of them where they have places
+  pub all_kept : (z : Sizes) (log : List LogEntry) → distinct_count (entered_calls z log) < z.tolimit → kept_calls z log ≡ entered_calls z log
+  -- one call more comes to the front of its slot's chain, where the other callees keep their order ..
+  pub front : (pairs : List Pair) (slot to : ℕ) → chain_in (pairs ++ record { slot = slot; to = to } ∷ []) slot ≡ to ∷ filter (λ x. not (to == x)) (chain_in pairs slot)
+  -- .. and the chains of other slots stay
+  pub other_chains : (pairs : List Pair) (p : Pair) (slot : ℕ) → p.slot ≢ slot → chain_in (pairs ++ p ∷ []) slot ≡ chain_in pairs slot
+  -- indices stay, a pair that is new gets the next one, and no two have the same
+  pub indices : (pairs : List Pair) (p q : Pair) → (0 < index_in pairs q → index_in (pairs ++ p ∷ []) q ≡ index_in pairs q)
+      × (index_in pairs p ≡ 0 → index_in (pairs ++ p ∷ []) p ≡ distinct_count pairs + 1) × (0 < index_in pairs p → index_in pairs p ≡ index_in pairs q → p ≡ q)
+  -- one call more makes the entry of a new pair ..
+  pub new_entry : (pairs : List Pair) (p : Pair) → index_in pairs p ≡ 0 → entry_in (pairs ++ p ∷ []) p ≡ record { selfpc = p.to; count = 1; link = front_in pairs p.slot }
+  -- .. counts it in that of a pair at the front of its chain ..
+  pub first_entry : (pairs : List Pair) (p : Pair) → slice_get (chain_in pairs p.slot) 0 ≡ Some p.to → entry_in (pairs ++ p ∷ []) p ≡ record (entry_in pairs p) { count = (entry_in pairs p).count + 1 }
+  -- .. and links one further back to what was the front, and its predecessor past it
+  pub behind_entry : (pairs : List Pair) (p : Pair) (i : ℕ) → slice_get (chain_in pairs p.slot) (suc i) ≡ Some p.to →
+      (entry_in (pairs ++ p ∷ []) p ≡ record { selfpc = p.to; count = (entry_in pairs p).count + 1; link = front_in pairs p.slot })
+      × ((q : Pair) → q.slot ≡ p.slot → slice_get (chain_in pairs q.slot) i ≡ Some q.to → entry_in (pairs ++ p ∷ []) q ≡ record (entry_in pairs q) { link = (entry_in pairs p).link })
+  -- no other entry changes
+  pub other_entries : (pairs : List Pair) (p q : Pair) → 0 < index_in pairs q → (index_in pairs p ≡ 0 → entry_in (pairs ++ p ∷ []) q ≡ entry_in pairs q)
+      × (0 < index_in pairs p → q ≢ p → (entry_in pairs q).link ≢ index_in pairs p → entry_in (pairs ++ p ∷ []) q ≡ entry_in pairs q)
+  -- a call takes at least one look, and fewer than there are entries
+  pub looks : (z : Sizes) (log : List LogEntry) (slot to : ℕ) → (1 ≤ looks_of z log slot to) × (2 ≤ z.tolimit → looks_of z log slot to < z.tolimit)
+  -- and only the end of a call changes how many
+  pub looks_stay : (z : Sizes) (log : List LogEntry) (slot to : ℕ) →
+      ((pc : ℕ) → looks_of z (log ++ Sample pc ∷ []) slot to ≡ looks_of z log slot to) × ((on : Bool) → looks_of z (log ++ Mode on ∷ []) slot to ≡ looks_of z log slot to)
+      × ((from other : ℕ) → is_busy log ≡ false → looks_of z (log ++ Enter from other ∷ []) slot to ≡ looks_of z log slot to)
+      × ((from other : ℕ) → looks_of z (log ++ CallLost from other ∷ []) slot to ≡ looks_of z log slot to)
+      × ((from other : ℕ) → looks_of z (log ++ CallIgnored from other ∷ []) slot to ≡ looks_of z log slot to)
+
+-- ---- shares of samples
+
+pub record ShareClaims : Type 0 where
   -- symbols that cover the ranges of all histograms have all samples, and none lie outside
   pub covered : (hists : List Hist) (symbols : List Symbol) → AllByRecursion IsKept hists → IsAscending symbols → AllByRecursion (IsCovered symbols) hists
       → (attributed_of (shares_of hists symbols) ≡ 1000000 * samples_of hists) × ((shares_of hists symbols).outside ≡ 0)
+  -- a bucket that lies in one symbol gives it all of its grains
+  pub whole_bucket : (h : Hist) (i : ℕ) (s : Symbol) → IsKept h → s.addr * length h.counters ≤ bucket_begin h i → bucket_begin h (i + 1) ≤ s.end * length h.counters
+      → share_of_bucket h i s ≡ 1000000 * slice_index h.counters i
+  -- and of any bucket a symbol gets the part that it overlaps, but for less than a grain
+  pub part_of_bucket : (h : Hist) (i : ℕ) (s : Symbol) → IsKept h → s.addr ≤ s.end →
+      (share_of_bucket h i s * (h.high - h.low) < 1000000 * slice_index h.counters i * overlap_of h i s + (h.high - h.low))
+      × (1000000 * slice_index h.counters i * overlap_of h i s < (share_of_bucket h i s + 1) * (h.high - h.low))
+  -- ranges of addresses that follow one another have together what the whole range has
+  pub ranges_follow : (hists : List Hist) (a b c : ℕ) → AllByRecursion IsKept hists → a ≤ b → b ≤ c → grains_of_range hists a b + grains_of_range hists b c ≡ grains_of_range hists a c
+  -- a symbol's share is what its addresses have
+  pub range_of_symbol : (hists : List Hist) (s : Symbol) → share_of hists s ≡ grains_of_range hists s.addr s.end
+  -- the cells of a symbol have its share together
+  pub cells : (hists : List Hist) (s : Symbol) → AllByRecursion IsKept hists → s.addr ≤ s.end → sum_by (λ cell. grains_of_range hists cell.low cell.high) (cells_of s) ≡ share_of hists s
+  -- so the whole listing has the grains of all symbols
+  pub listing : (hists : List Hist) (symbols : List Symbol) → AllByRecursion IsKept hists → IsAscending symbols
+      → sum_by (λ s. sum_by (λ cell. grains_of_range hists cell.low cell.high) (cells_of s)) symbols ≡ attributed_of (shares_of hists symbols)
+  -- an address of a symbol lies in the cell of its own word, and in no other
+  pub one_cell : (s : Symbol) (x w : ℕ) → s.addr ≤ x → x < s.end → (((part_in s w).low ≤ x) × (x < (part_in s w).high)) ↔ (w ≡ x / 4)
+  -- and that word is among those that the symbol reaches into
+  pub word_reached : (s : Symbol) (x : ℕ) → s.addr ≤ x → x < s.end → (s.addr / 4 ≤ x / 4) × (x / 4 < s.addr / 4 + word_count s)
+
+-- ---- graphs, and the time that flows over them
+
+-- a part of a time is less than one away from what so many of all calls get in proportion, time * calls / all
+abbrev pub IsNear : ℕ → ℕ → ℕ → ℕ → Type 0
+IsNear part time calls all = (part * all < time * calls + all) × (time * calls < (part + 1) * all)
+
+pub record GraphClaims : Type 0 where
   -- functions and arcs have one numbering of components
   pub numbering : (g h : GraphValue) → IsGraph g → IsGraph h → g.functions ≡ h.functions → g.arcs ≡ h.arcs → (g.component ≡ h.component) × (g.heads ≡ h.heads)
+  -- a component is a cycle exactly where it has a member besides its head
+  pub cycles : (g : GraphValue) (c : ℕ) → IsGraph g → c < component_count g → (is_cycle g c ≡ true) ↔ ((f : ℕ) × (f < g.functions) × (component_of g f ≡ c) × (f ≢ head_of g c))
+  -- the plain rules give a graph for functions and for arcs in order that have calls and join two of them ..
+  pub graph_of_arcs : (n : ℕ) (arcs : List FunArc) (self_calls : List ℕ) → ((i : ℕ) → i < length arcs → ((slice_index_or arcs i no_arc).caller < n) × ((slice_index_or arcs i no_arc).callee < n))
+      → ((i : ℕ) → i < length arcs → (0 < (slice_index_or arcs i no_arc).count) × ((slice_index_or arcs i no_arc).caller ≢ (slice_index_or arcs i no_arc).callee))
+      → ((i j : ℕ) → i < j → j < length arcs → IsArcBefore (slice_index_or arcs i no_arc) (slice_index_or arcs j no_arc)) → IsGraph (graph_in n arcs self_calls)
+  -- .. for a profile too ..
+  pub graph_of_profile : (arcs : List ((ℕ × ℕ) × ℕ)) (symbols : List Symbol) → IsGraph (profile_graph arcs symbols)
+  -- .. and each graph is the one that they give
+  pub no_other_graph : (g : GraphValue) → IsGraph g → g ≡ graph_in g.functions g.arcs g.self_calls
   -- the equations of a graph's flow have one solution and no other
   pub one_flow : (g : GraphValue) (shares : List ℕ) → IsGraph g → IsFlow g shares (flow_in g shares) × ((t u : FlowValue) → IsFlow g shares t → IsFlow g shares u → t ≡ u)
   -- the roots have all time
   pub roots : (g : GraphValue) (shares : List ℕ) (t : FlowValue) → IsGraph g → length shares ≡ g.functions → IsFlow g shares t → time_of_roots g t ≡ sum shares
+  -- no time is lost over a set of components that has with each all that it calls: its roots and what comes in have its shares
+  pub no_time_lost : (g : GraphValue) (shares : List ℕ) (t : FlowValue) (set : ℕ → Bool) → IsGraph g → IsFlow g shares t
+      → ((i : ℕ) → i < arc_count g → set (source_of g i) ≡ true → set (target_of g i) ≡ true)
+      → sum_below (component_count g) (λ c. when (set c && is_root g c) (time_of t c)) + sum_below (arc_count g) (λ i. when (not (set (source_of g i)) && set (target_of g i)) (carried_by t i))
+      ≡ sum_below (component_count g) (λ c. when (set c) (slice_index t.self c))
+  -- no component has more than all shares together ..
+  pub most_of_component : (g : GraphValue) (shares : List ℕ) (t : FlowValue) (c : ℕ) → IsGraph g → length shares ≡ g.functions → IsFlow g shares t → c < component_count g → time_of t c ≤ sum shares
+  -- .. and no function more than its component
+  pub most_of_function : (g : GraphValue) (shares : List ℕ) (t : FlowValue) (f : ℕ) → IsGraph g → length shares ≡ g.functions → IsFlow g shares t → f < g.functions
+      → slice_index shares f + slice_index t.member_child f ≤ time_of t (component_of g f)
   -- an arc carries of both times of the component that it enters what its calls are of all that enter it ..
   pub parts : (g : GraphValue) (shares : List ℕ) (t : FlowValue) (i : ℕ) → IsGraph g → IsFlow g shares t → i < arc_count g → is_outside g i ≡ true →
       let d = target_of g i in
@@ -107,17 +353,132 @@ pub record Claims : Type 0 where
   -- .. and all arcs that enter a component carry together all that it has
   pub whole : (g : GraphValue) (shares : List ℕ) (t : FlowValue) (d : ℕ) → IsGraph g → IsFlow g shares t → d < component_count g → entering_of g d ≢ 0
       → (carried_to g (slice_index t.arc_self) d ≡ slice_index t.self d) × (carried_to g (slice_index t.arc_child) d ≡ slice_index t.child d)
-  -- ---- reports
+
+-- ---- exact times
+
+-- two times, each in its own parts of a grain, are the same
+abbrev pub IsSameTime : ExactTimes → ExactTimes → ℕ → ℕ → Type 0
+IsSameTime x y of_x of_y = of_x * y.grain ≡ of_y * x.grain
+
+-- a time in grains and an exact one are at most two grains apart for each outside arc of the graph
+abbrev pub IsNearExact : GraphValue → ExactTimes → ℕ → ℕ → Type 0
+IsNearExact g x rounded exact = abs_diff (rounded * x.grain) exact ≤ 2 * outside_count g * x.grain
+
+pub record ExactClaims : Type 0 where
+  -- the equations of exact times have a solution ..
+  pub solved : (g : GraphValue) (shares : List ℕ) → IsGraph g → IsExactFlow g shares (exact_in g shares)
+  -- .. in each the roots have all shares ..
+  pub exact_roots : (g : GraphValue) (shares : List ℕ) (x : ExactTimes) → IsGraph g → length shares ≡ g.functions → IsExactFlow g shares x → exact_time_of_roots g shares x ≡ x.grain * sum shares
+  -- .. and all have the same times ..
+  pub same_times : (g : GraphValue) (shares : List ℕ) (x y : ExactTimes) → IsGraph g → IsExactFlow g shares x → IsExactFlow g shares y →
+      ((c : ℕ) → c < component_count g → IsSameTime x y (x.child c) (y.child c))
+      × ((i : ℕ) → i < arc_count g → is_outside g i ≡ true → IsSameTime x y (x.arc_self i) (y.arc_self i) × IsSameTime x y (x.arc_child i) (y.arc_child i))
+      × ((f : ℕ) → f < g.functions → IsSameTime x y (x.member_child f) (y.member_child f))
+  -- .. in lowest terms too
+  pub one_exact_flow : (g : GraphValue) (shares : List ℕ) (x : ExactTimes) → IsGraph g → IsExactFlow g shares x → times_in g shares x ≡ exact_flow_in g shares
+  -- the times of a flow are near the exact ones
+  pub near : (g : GraphValue) (shares : List ℕ) (t : FlowValue) (x : ExactTimes) → IsGraph g → IsFlow g shares t → IsExactFlow g shares x →
+      ((c : ℕ) → c < component_count g → IsNearExact g x (slice_index t.child c) (x.child c))
+      × ((i : ℕ) → i < arc_count g → is_outside g i ≡ true → IsNearExact g x (slice_index t.arc_self i) (x.arc_self i) × IsNearExact g x (slice_index t.arc_child i) (x.arc_child i))
+      × ((f : ℕ) → f < g.functions → IsNearExact g x (slice_index t.member_child f) (x.member_child f))
+  -- two solutions have the same fractions in each step
+  pub same_steps : (g : GraphValue) (shares : List ℕ) (x y : ExactTimes) → IsGraph g → IsExactFlow g shares x → IsExactFlow g shares y
+      → (i : ℕ) → i < arc_count g → is_outside g i ≡ true → step_at g shares x i ≡ step_at g shares y i
+  -- so the first step that does not fit into 128 bits is one and the same for every solution
+  pub one_first : (g : GraphValue) (shares : List ℕ) (x : ExactTimes) → IsGraph g → IsExactFlow g shares x → first_wide_of g shares x ≡ first_wide g shares
+  -- where there is none, each step fits
+  pub none_wide : (g : GraphValue) (shares : List ℕ) (x : ExactTimes) → IsGraph g → IsExactFlow g shares x → first_wide g shares ≡ None
+      → (i : ℕ) → i < arc_count g → is_outside g i ≡ true → FitsStep (step_at g shares x i)
+  -- where there is one, it does not fit, and each step before it does
+  pub first_is_wide : (g : GraphValue) (shares : List ℕ) (x : ExactTimes) (w : WideStep) → IsGraph g → IsExactFlow g shares x → first_wide g shares ≡ Some w →
+      (w.arc < arc_count g) × (is_outside g w.arc ≡ true) × (w.head ≡ head_of g (source_of g w.arc)) × (FitsStep (step_at g shares x w.arc) → ⊥)
+      × ((j : ℕ) → j < arc_count g → is_outside g j ≡ true → (source_of g j < source_of g w.arc) ⊎ ((source_of g j ≡ source_of g w.arc) × (j < w.arc)) → FitsStep (step_at g shares x j))
+  -- lowest terms keep the value ..
+  pub lowest_value : (n d : ℕ) → 0 < d → (0 < (lowest n d).den) × ((lowest n d).num * d ≡ n * (lowest n d).den)
+  -- .. have no common divisor but 1 ..
+  pub lowest_terms : (n d : ℕ) → IsGcd n d (gcd n d) × (0 < d → gcd (lowest n d).num (lowest n d).den ≡ 1)
+  -- .. and are the only fraction of which both holds
+  pub one_fraction : (f h : Fraction) → 0 < f.den → 0 < h.den → gcd f.num f.den ≡ 1 → gcd h.num h.den ≡ 1 → f.num * h.den ≡ h.num * f.den → f ≡ h
+  -- a sum has the exact value ..
+  pub exact_sum : (f h : Fraction) → 0 < f.den → 0 < h.den → (0 < (fraction_sum f h).den) × ((fraction_sum f h).num * (f.den * h.den) ≡ (f.num * h.den + h.num * f.den) * (fraction_sum f h).den)
+  -- .. and so has a product
+  pub exact_product : (f h : Fraction) → 0 < f.den → 0 < h.den → (0 < (product_of f h).den) × ((product_of f h).num * (f.den * h.den) ≡ f.num * h.num * (product_of f h).den)
+
+-- ---- the flat profile
+
+pub record FlatClaims : Type 0 where
+  -- each function that has a line has its place in the order once ..
+  pub all_functions : (s : Sources) → IsPermutation (functions_of s) (functions_in_order s)
+  -- .. and none stands behind one that it comes before
+  pub in_order : (s : Sources) → IsSortedBy (is_listed_before s) (functions_in_order s)
   -- the time down to the last line of the flat profile is all that is attributed
   pub last_line : (s : Sources) → length s.shares.of ≡ s.graph.functions → cumulative_of (entries_of s) (length (entries_of s)) ≡ attributed_of s.shares
   -- and its lines have all calls together
   pub calls : (s : Sources) → IsGraph s.graph → sum_by (λ e. e.calls) (entries_of s) ≡ all_calls s.graph
+  -- the profile is its header and its lines ..
+  pub whole_profile : (s : Sources) → flat_text s [] ≡ flat_header s.shares s.rate ++ flat_map (line_at (attributed_of s.shares) s.rate (entries_of s)) (enumerate_from 0 (entries_of s))
+  -- .. and with hidden names the same less the lines of the functions that have them
+  pub shown_lines : (s : Sources) (hidden : List (List ℕ)) → flat_text s hidden
+      ≡ flat_header s.shares s.rate ++ flat_map (line_at (attributed_of s.shares) s.rate (entries_of s)) (filter (λ e. not (is_hidden hidden e.1.name)) (enumerate_from 0 (entries_of s)))
+
+-- ---- the call graph
+
+pub record CallGraphClaims : Type 0 where
+  -- each cycle, and each function that has an entry, has its place in the order once ..
+  pub all_entries : (s : Sources) → IsPermutation (cycle_entries s ++ function_entries s) (ordered s)
+  -- .. and none stands behind one that it comes before
+  pub in_order : (s : Sources) → IsSortedBy comes_before (ordered s)
+  -- the number of an entry is its place, counted from 1
+  pub numbers : (s : Sources) (place : ℕ) (e : Entry) → IsGraph s.graph → slice_get (ordered s) place ≡ Some e → number_in (ordered s) e.subject ≡ place + 1
+  -- each function that a line names has an entry: those that call and those that are called ..
+  pub arcs_named : (s : Sources) (i : ℕ) → IsGraph s.graph → i < arc_count s.graph
+      → (0 < number_in (ordered s) (Function (arc_at s.graph i).caller)) × (0 < number_in (ordered s) (Function (arc_at s.graph i).callee))
+  -- .. and the members of cycles
+  pub members_named : (s : Sources) (f : ℕ) → IsGraph s.graph → f < s.graph.functions → is_cycle s.graph (component_of s.graph f) ≡ true → 0 < number_in (ordered s) (Function f)
+  -- the report is its header and its entries ..
+  pub whole_report : (s : Sources) → graph_text s [] ≡ header_text ++ flat_map (λ (e : Entry). subject_text s (number_in (ordered s)) e.subject) (ordered s)
+  -- .. and with hidden names the same less the entries of the functions that have them
+  pub shown_entries : (s : Sources) (hidden : List (List ℕ)) → graph_text s hidden
+      ≡ header_text ++ flat_map (λ (e : Entry). subject_text s (number_in (ordered s)) e.subject) (filter (λ (e : Entry). is_shown hidden e.subject e.name) (ordered s))
   -- the total of a component's entry in the call graph is the component's time ..
   pub totals : (s : Sources) (c : ℕ) → AreOfOne s → c < component_count s.graph → shown_total s c ≡ time_of s.flow c
   -- .. and one that has no entry has none
   pub no_entry : (s : Sources) (c : ℕ) → AreOfOne s → c < component_count s.graph → has_own_entry s c ≡ false → time_of s.flow c ≡ 0
   -- so the entries of roots have together all that is attributed
   pub entries : (s : Sources) → AreOfOne s → sum_below (component_count s.graph) (λ c. when (is_root s.graph c && has_own_entry s c) (shown_total s c)) ≡ attributed_of s.shares
-  -- the callers of a function stand in the order of their addresses, each once, and so do its callees
+  -- the callers of a function stand in the order of their addresses, each once ..
   pub callers : (g : GraphValue) (f : ℕ) → IsGraph g → IsStrictlyIncreasing (map (λ i. (arc_at g i).caller) (arcs_to g f))
+  -- .. and so do its callees
   pub callees : (g : GraphValue) (f : ℕ) → IsGraph g → IsStrictlyIncreasing (map (λ i. (arc_at g i).callee) (arcs_from g f))
+
+-- ---- stacks
+
+pub record StackClaims : Type 0 where
+  -- the stack of a sample ends in the function that was sampled, behind one place for each call
+  pub stack_end : (symbols : List Symbol) (s : StackSample) (stack : List (Option ℕ)) → stack_of symbols s ≡ Some stack
+      → (f : ℕ) × (owner_of symbols s.pc ≡ Some f) × (stack ≡ map (caller_in symbols) s.frames ++ Some f ∷ [])
+  -- the samples that are followed, turn by turn, are those that the log counts
+  pub followed : (m : Machine) (w : World) (turns : List ℕ) →
+      counted_samples m.sizes (world_after m w turns).log ≡ counted_samples m.sizes w.log ++ map (λ (s : StackSample). s.pc) (samples_after m w turns)
+  -- the numbers of the lines add up to the number of samples
+  pub lines_add_up : (stacks : List (List (Option ℕ))) → sum_by (λ (line : List (Option ℕ) × ℕ). line.1) (lines_of stacks) ≡ length stacks
+  -- the line of a stack has the number of samples that have it
+  pub line_counts : (stacks : List (List (Option ℕ))) (stack : List (Option ℕ)) → times_in_lines (lines_of stacks) stack ≡ count_by (same_stack stack) stacks
+  -- the lines' stacks ascend, so that each has one line
+  pub lines_ascend : (stacks : List (List (Option ℕ))) → IsStrictlySortedBy stack_cmp (keys_of (lines_of stacks))
+
+-- ---- all of them
+
+pub record Claims : Type 0 where
+  pub words : WordClaims
+  pub files : FileClaims
+  pub profiles : ProfileClaims
+  pub programs : ProgramClaims
+  pub runs : RunClaims
+  pub counts : CountClaims
+  pub shares : ShareClaims
+  pub graphs : GraphClaims
+  pub exact : ExactClaims
+  pub flat : FlatClaims
+  pub call_graph : CallGraphClaims
+  pub stacks : StackClaims

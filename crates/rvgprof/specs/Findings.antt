@@ -1,4 +1,5 @@
 -- What is found of a profile, from which its reports are made.
+-- Only private functions and invariants speak of it.
 use Rattle.std.specs.Prelude.{◌≡◌, ◌<◌, ◌≤◌, ◌^◌, Bool, true, false, Option, Some, None}
 use Rattle.exact_flow.specs.Solution.{exact_flow_in}
 use Rattle.exact_flow.specs.Times.{ExactFlowValue, HasTimes}

@@ -40,8 +40,8 @@ pub fn completeness()
 {}
 
 /// The definition's ending is that the command was carried out exactly where all is accepted: the words
-/// have a reading, each input file is within its limit and not refused, the profiles are alike, and a run
-/// can start.
+/// have a reading, each input file is within its limit and not refused, the profiles are alike, no exact
+/// time that is asked for is too wide, and a run can start.
 pub fn acceptance()
     ensures { (words : List (List ℕ)) (contents : ℕ → List ℕ) → IsOk (reply_to contents (course_of words)).ending ↔ IsAccepted words contents (command_of words) }
 {}
@@ -64,21 +64,74 @@ pub fn what_memory_leaves()
 pub fn claims()
     ensures { Claims }
 {
+    command_words::laws::lines_are_short();
+    gp_base::bytes::little_endian();
+    host_port::acts::acts_follow();
     gmon_bsd::laws::one_meaning();
+    gmon_bsd::laws::run_read_back();
     gmon_gnu::laws::one_meaning();
     gmon_gnu::laws::first_fault();
+    gmon_gnu::laws::run_read_back();
+    gmon_gnu::laws::counted_run_read_back();
+    gmon_gnu::laws::profile_read_back();
     profile_sum::laws::sum_of_contents();
+    profile_sum::laws::parts_have_sum();
+    gmon_data::laws::records_add_up();
+    gmon_data::laws::counters_add_up();
+    gmon_data::laws::executions_add_up();
+    gmon_data::laws::ranges_are_of_records();
+    arc_filter::laws::calls_that_stay();
+    arc_filter::laws::times_stay();
+    arc_filter::laws::profiles_stay();
+    elf32_syms::laws::first_at_an_address();
+    rv_decode::table::instruction_table();
+    rv_step::memory::memory_map();
+    prof_machine::laws::turns_follow();
     prof_machine::laws::runs_end();
     prof_machine::laws::clock();
     prof_machine::laws::notes_tell();
+    prof_machine::laws::pairs_are_counts();
+    prof_machine::laws::prints_stay();
+    prof_machine::laws::none_ends_busy();
+    mcount_arcs::laws::samples_alone();
+    mcount_arcs::laws::one_sample_more();
+    mcount_arcs::laws::one_bucket();
     mcount_arcs::laws::longest_front_is_kept();
+    mcount_arcs::laws::one_call_more();
+    mcount_arcs::laws::indices_stay();
+    mcount_arcs::laws::links_after_one_call_more();
+    mcount_arcs::laws::looks_stay();
     symbol_shares::laws::covered_ranges();
+    symbol_shares::laws::whole_buckets();
+    symbol_shares::laws::parts_of_buckets();
+    symbol_shares::laws::ranges_add_up();
+    annotate::laws::cells_add_up();
+    annotate::laws::addresses_have_one_cell();
     call_cycles::laws::one_numbering();
+    call_cycles::laws::other_members();
+    call_cycles::laws::values_are_graphs();
     propagate::laws::one_flow();
     propagate::laws::conservation();
+    propagate::laws::no_more_than_all();
     propagate::laws::time_in_proportion();
+    propagate::laws::exact_times();
+    propagate::laws::nearness();
+    exact_flow::laws::first_steps();
+    exact_flow::laws::one_exact_flow();
+    fraction128::laws::lowest_terms();
+    fraction128::laws::exact_values();
+    flat_report::laws::functions_in_order();
     flat_report::laws::time_up_to_the_last_line();
     flat_report::laws::calls_of_all_lines();
+    flat_report::laws::lines_that_are_shown();
+    graph_report::laws::entries_in_order();
+    graph_report::laws::names_have_entries();
+    graph_report::laws::entries_that_are_shown();
     graph_report::laws::entries_of_roots();
     graph_report::laws::callers_and_callees_rise();
+    folded::laws::stacks_end_where_sampled();
+    folded::laws::samples_are_counted();
+    folded::laws::lines_add_up();
+    folded::laws::lines_count();
+    folded::laws::lines_ascend();
 }

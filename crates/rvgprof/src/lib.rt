@@ -23,6 +23,7 @@ mod stacks;
 mod sum;
 mod syms;
 pub mod top;
+pub mod values;
 
 pub use outcome::{Done, Fault};
 pub use top::rvgprof;

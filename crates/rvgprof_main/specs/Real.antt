@@ -9,7 +9,7 @@ pub record Real : Type 0 where
   pub write_faults : ℕ
   pub err_faults : ℕ
   pub opened : ℕ
-  pub turns : ℕ
+  pub file_changes : ℕ
   pub last_failed : Bool
 
 abbrev pub outside_of : Real → Outside
@@ -24,6 +24,6 @@ outside_of real = record {
   write_faults = real.write_faults;
   err_faults = real.err_faults;
   opened = real.opened;
-  turns = real.turns;
+  file_changes = real.file_changes;
   last_failed = real.last_failed;
 }

@@ -24,7 +24,7 @@ pub struct RealHost {
     write_faults: u64,
     err_faults: u64,
     opened: u64,
-    turns: u64,
+    file_changes: u64,
     // Whether the last call failed that doesn't complain.
     last_failed: bool,
 }
@@ -42,14 +42,14 @@ impl Model for RealHost {
       write_faults = a.write_faults;
       err_faults = a.err_faults;
       opened = a.opened;
-      turns = a.turns;
+      file_changes = a.file_changes;
       last_failed = a.last_failed;
     } };
 }
 
 impl RealHost {
     pub fn new(rt: HostRuntime) -> RealHost
-        ensures { result ≡ record { is_open = false; is_writing = false; read_faults = 0; write_faults = 0; err_faults = 0; opened = 0; turns = 0; last_failed = false } }
+        ensures { result ≡ record { is_open = false; is_writing = false; read_faults = 0; write_faults = 0; err_faults = 0; opened = 0; file_changes = 0; last_failed = false } }
     {
         RealHost {
             rt,
@@ -59,13 +59,13 @@ impl RealHost {
             write_faults: 0,
             err_faults: 0,
             opened: 0,
-            turns: 0,
+            file_changes: 0,
             last_failed: false,
         }
     }
 
     fn read_failed(&mut self) -> Failed
-        ensures kept { (self.new.is_open ≡ self.old.is_open) × (self.new.is_writing ≡ self.old.is_writing) × (self.new.opened ≡ self.old.opened) × (self.new.turns ≡ self.old.turns) }
+        ensures kept { (self.new.is_open ≡ self.old.is_open) × (self.new.is_writing ≡ self.old.is_writing) × (self.new.opened ≡ self.old.opened) × (self.new.file_changes ≡ self.old.file_changes) }
         ensures rose { Rose self.old.read_faults self.new.read_faults }
         ensures last { self.new.last_failed ≡ true }
         ensures others { (self.new.write_faults ≡ self.old.write_faults) × (self.new.err_faults ≡ self.old.err_faults) }
@@ -76,7 +76,7 @@ impl RealHost {
     }
 
     fn write_failed(&mut self) -> Failed
-        ensures kept { (self.new.is_open ≡ self.old.is_open) × (self.new.is_writing ≡ self.old.is_writing) × (self.new.opened ≡ self.old.opened) × (self.new.turns ≡ self.old.turns) }
+        ensures kept { (self.new.is_open ≡ self.old.is_open) × (self.new.is_writing ≡ self.old.is_writing) × (self.new.opened ≡ self.old.opened) × (self.new.file_changes ≡ self.old.file_changes) }
         ensures rose { Rose self.old.write_faults self.new.write_faults }
         ensures last { self.new.last_failed ≡ true }
         ensures others { (self.new.read_faults ≡ self.old.read_faults) × (self.new.err_faults ≡ self.old.err_faults) }
@@ -87,7 +87,7 @@ impl RealHost {
     }
 
     fn err_failed(&mut self) -> Failed
-        ensures kept { (self.new.is_open ≡ self.old.is_open) × (self.new.is_writing ≡ self.old.is_writing) × (self.new.opened ≡ self.old.opened) × (self.new.turns ≡ self.old.turns) }
+        ensures kept { (self.new.is_open ≡ self.old.is_open) × (self.new.is_writing ≡ self.old.is_writing) × (self.new.opened ≡ self.old.opened) × (self.new.file_changes ≡ self.old.file_changes) }
         ensures rose { Rose self.old.err_faults self.new.err_faults }
         ensures last { self.new.last_failed ≡ self.old.last_failed }
         ensures others { (self.new.read_faults ≡ self.old.read_faults) × (self.new.write_faults ≡ self.old.write_faults) }
@@ -143,7 +143,7 @@ impl Host for RealHost {
         match fs::create(&self.rt, name) {
             Ok(file) => {
                 self.output = Some(file);
-                self.turns = self.turns.saturating_add(1);
+                self.file_changes = self.file_changes.saturating_add(1);
                 Ok(())
             }
             Err(_) => Err(self.write_failed()),
@@ -169,7 +169,7 @@ impl Host for RealHost {
             None => true,
         };
         self.output = None;
-        self.turns = self.turns.saturating_add(1);
+        self.file_changes = self.file_changes.saturating_add(1);
         if flushed {
             Ok(())
         } else {

@@ -3,7 +3,7 @@ use Rattle.std.proofs.Common.{ℕ, ◌+◌, ◌^◌, ◌<◌, ◌≤◌, Bool, t
 use Rattle.gp_base.specs.declared.records.Unit as units
 use Rattle.gmon_data.specs.declared.hist.Hist.{Hist}
 use Rattle.gmon_data.specs.Hists.{has_counters, kept_unit, put_hist}
-use Rattle.gmon_data.specs.Content.{Content, empty_content, same_pair, with_arc, with_block, with_hist, IsWithin}
+use Rattle.gmon_data.specs.Content.{Content, empty_content, same_ends, with_arc, with_block, with_hist, IsWithin}
 use Rattle.gmon_data.proofs.BoundLemmas.{counters_at_most, tally_at_most}
 use Rattle.gmon_data.proofs.TallyLemmas.{sum-tally}
 use Rattle.gmon_data.proofs.HistLemmas.{samples-put}
@@ -38,8 +38,8 @@ one_call_more from to c n a = record {
   counters = omega (arith, a.counters);
   runs = omega (arith, a.runs);
   addresses = omega (arith, a.addresses);
-  calls = omega (arith, a.calls, sum-tally same_pair (from, to) 1 c.arcs);
-  pairs = omega (arith, a.pairs, tally_at_most same_pair (from, to) 1 c.arcs);
+  calls = omega (arith, a.calls, sum-tally same_ends (from, to) 1 c.arcs);
+  pairs = omega (arith, a.pairs, tally_at_most same_ends (from, to) 1 c.arcs);
 }
 
 pub one_run_more : (addr : ℕ) (c : Content) (n : ℕ) → IsAtMost c n → IsAtMost (with_block addr 1 c) (n + 1)

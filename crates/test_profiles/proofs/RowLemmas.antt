@@ -2,7 +2,7 @@
 use Rattle.std.proofs.Common.{ℕ, ◌+◌, ◌<◌, ◌≤◌, Bool, true, false, Some, unwrap_or, nat_eq, if◌then◌else◌, arith}
 use Rattle.gp_base.specs.declared.records.Unit as units
 use Rattle.gmon_data.specs.declared.hist.Hist.{Hist}
-use Rattle.gmon_data.specs.Content.{Content, same_pair, with_arc, with_block, with_hist, IsWithin}
+use Rattle.gmon_data.specs.Content.{Content, same_ends, with_arc, with_block, with_hist, IsWithin}
 use Rattle.gmon_data.specs.Hists.{has_counters, kept_unit, put_hist}
 use Rattle.gmon_data.proofs.BoundLemmas.{counters_at_most, tally_at_most}
 use Rattle.gmon_data.proofs.HistLemmas.{samples-put}
@@ -48,8 +48,8 @@ module _ (h a b : ℕ) (c : Content) (r : HasRows h a b c) where
   one_arc from to count few = record {
     samples = r.samples;
     counters = r.counters;
-    calls = omega (arith, r.calls, sum-tally same_pair (from, to) count c.arcs);
-    pairs = omega (arith, r.pairs, tally_at_most same_pair (from, to) count c.arcs);
+    calls = omega (arith, r.calls, sum-tally same_ends (from, to) count c.arcs);
+    pairs = omega (arith, r.pairs, tally_at_most same_ends (from, to) count c.arcs);
     runs = r.runs;
     addresses = r.addresses;
   }

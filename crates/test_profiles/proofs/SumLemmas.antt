@@ -5,7 +5,7 @@ use Rattle.std.proofs.lemmas.List.Sums.{sum_by-cons}
 use Rattle.gmon_data.specs.declared.hist.Hist.{Hist}
 use Rattle.gmon_data.specs.Hists.{put_hist, samples_of}
 use Rattle.gmon_data.specs.Tally.{tally, total_of}
-use Rattle.gmon_data.specs.Content.{Content, same_pair, IsWithin}
+use Rattle.gmon_data.specs.Content.{Content, same_ends, IsWithin}
 use Rattle.gmon_data.proofs.TallyLemmas.{sum-tally}
 use Rattle.gmon_data.proofs.HistLemmas.{samples-put}
 use Rattle.gmon_data.proofs.BoundLemmas.{counters_at_most, tally_at_most}
@@ -39,9 +39,9 @@ sum_within : (p q : Content) → samples_of p.hists + samples_of q.hists < 2 ^ 4
 sum_within p q samples counters calls runs pairs addresses = record {
   samples = omega (arith, samples, samples_added q.hists p.hists);
   counters = omega (arith, counters, counters_added q.hists p.hists);
-  calls = omega (arith, calls, total_added same_pair q.arcs p.arcs);
+  calls = omega (arith, calls, total_added same_ends q.arcs p.arcs);
   runs = omega (arith, runs, total_added nat_eq q.blocks p.blocks);
-  pairs = omega (arith, pairs, entries_added same_pair q.arcs p.arcs);
+  pairs = omega (arith, pairs, entries_added same_ends q.arcs p.arcs);
   addresses = omega (arith, addresses, entries_added nat_eq q.blocks p.blocks);
 }
 

@@ -4,7 +4,7 @@ use Rattle.std.specs.List.{All}
 use Rattle.std.proofs.lemmas.Result.{err_from_is_err_and}
 use Rattle.call_cycles.specs.Graph.{arc_count, component_of, enters}
 use Rattle.graph_report.specs.GraphText.{arcs_into, members_of}
-use Rattle.graph_report.specs.Inputs.{sources_of}
+use Rattle.graph_report.specs.Inputs.{sources_in}
 use Rattle.graph_report.specs.Numbers.{number_of}
 use Rattle.graph_report.proofs.PrintLemmas.{first_of_four_fails, second_of_four_fails, third_of_four_fails, four_put}
 use Rattle.graph_report.proofs.TextLemmas.{all_below, cycle_whole}
@@ -26,7 +26,7 @@ returns-in_err-put_callers g c =
     let r = c.args.report.now in
     let into = c.arcs_into.ensures ∙ ap (arcs_into r.inputs.sources.graph.now) c.component-c.ensures.value in
     let callers = rw into at c.in_err-put_callers.ensures in
-    rw p.1 (first_of_four_fails _ _ _ _ _ (cycle_whole (sources_of r.inputs) (number_of r) c.args.head) _ _ _ _ _ callers)
+    rw p.1 (first_of_four_fails _ _ _ _ _ (cycle_whole (sources_in r.inputs) (number_of r) c.args.head) _ _ _ _ _ callers)
 
 pub returns-in_err-put_cycle_line : goal.returns-in_err-put_cycle_line
 returns-in_err-put_cycle_line g c =
@@ -34,7 +34,7 @@ returns-in_err-put_cycle_line g c =
     let r = c.args.report.now in
     let into = c.arcs_into.ensures ∙ ap (arcs_into r.inputs.sources.graph.now) c.component-c.ensures.value in
     let callers = rw into at c.in_ok-put_callers.ensures in
-    rw p.1 (second_of_four_fails _ _ _ _ _ (cycle_whole (sources_of r.inputs) (number_of r) c.args.head) _ _ _ _ _ _ _ callers _ c.in_err-put_cycle_line.ensures)
+    rw p.1 (second_of_four_fails _ _ _ _ _ (cycle_whole (sources_in r.inputs) (number_of r) c.args.head) _ _ _ _ _ _ _ callers _ c.in_err-put_cycle_line.ensures)
 
 pub returns-in_err-put_members : goal.returns-in_err-put_members
 returns-in_err-put_members g c =
@@ -44,7 +44,7 @@ returns-in_err-put_members g c =
     let those = c.members.ensures ∙ ap (members_of r.inputs.sources.graph.now) c.component-c.ensures.value in
     let callers = rw into at c.in_ok-put_callers.ensures in
     let members = rw those at c.in_err-put_members.ensures in
-    rw p.1 (third_of_four_fails _ _ _ _ _ (cycle_whole (sources_of r.inputs) (number_of r) c.args.head) _ _ _ _ _ _ _ callers _ _ _ c.in_ok-put_cycle_line.ensures _ members)
+    rw p.1 (third_of_four_fails _ _ _ _ _ (cycle_whole (sources_in r.inputs) (number_of r) c.args.head) _ _ _ _ _ _ _ callers _ _ _ c.in_ok-put_cycle_line.ensures _ members)
 
 pub returns : goal.returns
 returns g c =
@@ -53,4 +53,4 @@ returns g c =
     let those = c.members.ensures ∙ ap (members_of r.inputs.sources.graph.now) c.component-c.ensures.value in
     let callers = rw into at c.in_ok-put_callers.ensures in
     let members = rw those at c.in_ok-put_members.ensures in
-    four_put _ _ _ _ _ (cycle_whole (sources_of r.inputs) (number_of r) c.args.head) _ _ _ _ _ _ _ callers _ _ _ c.in_ok-put_cycle_line.ensures _ _ _ _ members c.put.ensures.adds
+    four_put _ _ _ _ _ (cycle_whole (sources_in r.inputs) (number_of r) c.args.head) _ _ _ _ _ _ _ callers _ _ _ c.in_ok-put_cycle_line.ensures _ _ _ _ members c.put.ensures.adds

@@ -5,7 +5,7 @@ use Rattle.call_cycles.specs.Flow.{time_of}
 use Rattle.call_cycles.specs.Graph.{component_of}
 use Rattle.graph_report.specs.Cycles.{cycle_name}
 use Rattle.graph_report.specs.GraphText.{bracketed, cycle_columns}
-use Rattle.graph_report.specs.Inputs.{sources_of}
+use Rattle.graph_report.specs.Inputs.{sources_in}
 use Rattle.graph_report.specs.Numbers.{number_of}
 use Rattle.graph_report.specs.declared.subjects.Subject.TheVariants.{Cycle}
 use Rattle.graph_report.proofs.PrintLemmas.{first_fails, both_put}
@@ -16,7 +16,7 @@ pub returns-in_err-put : goal.returns-in_err-put
 returns-in_err-put g c =
     let p = err_from_is_err_and c.from_residual.result c.from_residual.ensures.1 in
     let r = c.args.report.now in
-    let s = sources_of r.inputs in
+    let s = sources_in r.inputs in
     let k = component_of s.graph c.args.head in
     let number = number_of r (Cycle c.args.head) in
     let front = rw (c.bytes.ensures.bytes, c.cycle_front.ensures) at c.in_err-put.ensures.adds in
@@ -25,7 +25,7 @@ returns-in_err-put g c =
 pub returns : goal.returns
 returns g c =
     let r = c.args.report.now in
-    let s = sources_of r.inputs in
+    let s = sources_in r.inputs in
     let k = component_of s.graph c.args.head in
     let number = number_of r (Cycle c.args.head) in
     let front = rw (c.bytes.ensures.bytes, c.cycle_front.ensures) at c.in_ok-put.ensures.adds in

@@ -3,7 +3,7 @@ use Rattle.std.specs.Prelude.{◌==◌}
 use Rattle.std.specs.List.{All}
 use Rattle.std.proofs.lemmas.Result.{err_from_is_err_and}
 use Rattle.call_cycles.specs.Graph.{arc_at, arc_count}
-use Rattle.graph_report.specs.Inputs.{sources_of}
+use Rattle.graph_report.specs.Inputs.{sources_in}
 use Rattle.graph_report.specs.Numbers.{number_of}
 use Rattle.graph_report.proofs.PrintLemmas.{first_of_four_fails, second_of_four_fails, third_of_four_fails, four_put}
 use Rattle.graph_report.proofs.TextLemmas.{all_below, function_whole}
@@ -24,14 +24,14 @@ returns-in_err-put_callers g c =
     let p = err_from_is_err_and c.from_residual.result c.from_residual.ensures.1 in
     let r = c.args.report.now in
     let callers = rw c.arcs_to.ensures at c.in_err-put_callers.ensures in
-    rw p.1 (first_of_four_fails _ _ _ _ _ (function_whole (sources_of r.inputs) (number_of r) c.args.f) _ _ _ _ _ callers)
+    rw p.1 (first_of_four_fails _ _ _ _ _ (function_whole (sources_in r.inputs) (number_of r) c.args.f) _ _ _ _ _ callers)
 
 pub returns-in_err-put_function_line : goal.returns-in_err-put_function_line
 returns-in_err-put_function_line g c =
     let p = err_from_is_err_and c.from_residual-in_err-put_function_line.result c.from_residual-in_err-put_function_line.ensures.1 in
     let r = c.args.report.now in
     let callers = rw c.arcs_to.ensures at c.in_ok-put_callers.ensures in
-    rw p.1 (second_of_four_fails _ _ _ _ _ (function_whole (sources_of r.inputs) (number_of r) c.args.f) _ _ _ _ _ _ _ callers _ c.in_err-put_function_line.ensures)
+    rw p.1 (second_of_four_fails _ _ _ _ _ (function_whole (sources_in r.inputs) (number_of r) c.args.f) _ _ _ _ _ _ _ callers _ c.in_err-put_function_line.ensures)
 
 pub returns-in_err-put_callees : goal.returns-in_err-put_callees
 returns-in_err-put_callees g c =
@@ -39,11 +39,11 @@ returns-in_err-put_callees g c =
     let r = c.args.report.now in
     let callers = rw c.arcs_to.ensures at c.in_ok-put_callers.ensures in
     let callees = rw c.arcs_from.ensures at c.in_err-put_callees.ensures in
-    rw p.1 (third_of_four_fails _ _ _ _ _ (function_whole (sources_of r.inputs) (number_of r) c.args.f) _ _ _ _ _ _ _ callers _ _ _ c.in_ok-put_function_line.ensures _ callees)
+    rw p.1 (third_of_four_fails _ _ _ _ _ (function_whole (sources_in r.inputs) (number_of r) c.args.f) _ _ _ _ _ _ _ callers _ _ _ c.in_ok-put_function_line.ensures _ callees)
 
 pub returns : goal.returns
 returns g c =
     let r = c.args.report.now in
     let callers = rw c.arcs_to.ensures at c.in_ok-put_callers.ensures in
     let callees = rw c.arcs_from.ensures at c.in_ok-put_callees.ensures in
-    four_put _ _ _ _ _ (function_whole (sources_of r.inputs) (number_of r) c.args.f) _ _ _ _ _ _ _ callers _ _ _ c.in_ok-put_function_line.ensures _ _ _ _ callees c.put.ensures.adds
+    four_put _ _ _ _ _ (function_whole (sources_in r.inputs) (number_of r) c.args.f) _ _ _ _ _ _ _ callers _ _ _ c.in_ok-put_function_line.ensures _ _ _ _ callees c.put.ensures.adds

@@ -1,7 +1,7 @@
 use Rattle.std.proofs.lemmas.Result.{err_from_is_err_and}
 use Rattle.flat_report.specs.Sources.{total_of}
 use Rattle.graph_report.specs.GraphText.{function_columns, function_name}
-use Rattle.graph_report.specs.Inputs.{sources_of}
+use Rattle.graph_report.specs.Inputs.{sources_in}
 use Rattle.graph_report.specs.Numbers.{number_of}
 use Rattle.graph_report.specs.declared.subjects.Subject.TheVariants.{Function}
 use Rattle.graph_report.proofs.PrintLemmas.{first_fails, both_put}
@@ -12,7 +12,7 @@ pub returns-in_err-put : goal.returns-in_err-put
 returns-in_err-put g c =
     let p = err_from_is_err_and c.from_residual.result c.from_residual.ensures.1 in
     let r = c.args.report.now in
-    let s = sources_of r.inputs in
+    let s = sources_in r.inputs in
     let f = c.args.f in
     let front = rw (c.bytes.ensures.bytes, c.function_front.ensures) at c.in_err-put.ensures.adds in
     rw p.1 (first_fails _ _ _ (primary_whole s (number_of r (Function f)) (total_of s f) (function_columns s f) (function_name s (number_of r) f)) _ _ _ _ _ front)
@@ -20,7 +20,7 @@ returns-in_err-put g c =
 pub returns : goal.returns
 returns g c =
     let r = c.args.report.now in
-    let s = sources_of r.inputs in
+    let s = sources_in r.inputs in
     let f = c.args.f in
     let front = rw (c.bytes.ensures.bytes, c.function_front.ensures) at c.in_ok-put.ensures.adds in
     let label = rw c.label.ensures at c.put-2.ensures.adds in

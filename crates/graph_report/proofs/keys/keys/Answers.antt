@@ -1,6 +1,6 @@
 use Rattle.std.proofs.Common.{ℕ, List, ◌++◌, ◌∷◌, [], ◌∙◌, sym, ap, arith}
 use Rattle.std.proofs.lemmas.List.FromFn.{map-range_with_len_more}
-use Rattle.graph_report.specs.Tables.{arc_key}
+use Rattle.graph_report.specs.Groups.{arc_key}
 use Rattle.graph_report.proofs.keys.keys.Goals as goal
 
 pub loop-i-preserved : goal.loop-i-preserved

@@ -1,6 +1,6 @@
 use Rattle.std.proofs.Common.{◌≡◌}
 use Rattle.call_cycles.specs.Sums.{list_of}
-use Rattle.graph_report.specs.Tables.{arc_key}
+use Rattle.graph_report.specs.Groups.{arc_key}
 use Rattle.graph_report.proofs.keys.keys.Given as goal
 
 abbrev pub invariant-loop-i : goal.invariant-loop-i

@@ -2,7 +2,7 @@ use Rattle.std.proofs.Common.{◌≡◌, ℕ, ◌+◌, suc, List, ◌++◌, leng
 use Rattle.call_cycles.specs.Sums.{list_of}
 use Rattle.graph_report.specs.Entries.{number_in, ordered}
 use Rattle.flat_report.specs.Sources.{name_of}
-use Rattle.graph_report.specs.Inputs.{sources_of}
+use Rattle.graph_report.specs.Inputs.{sources_in}
 use Rattle.graph_report.specs.Labels.{label_of, start_of, texts_below}
 use Rattle.graph_report.proofs.LabelLemmas.{start_added, text_added}
 use Rattle.graph_report.proofs.TextLemmas.{name_whole}
@@ -10,7 +10,7 @@ use Rattle.graph_report.proofs.labels.function_labels.Goals as goal
 
 pub loop-f-preserved : goal.loop-f-preserved
 loop-f-preserved c =
-    let s = sources_of c.args.inputs.now in
+    let s = sources_in c.args.inputs.now in
     let number = number_in (ordered s) in
     let of = label_of s number in
     let f = c.loop-f.f in
@@ -26,7 +26,7 @@ loop-f-preserved c =
 
 pub returns : goal.returns
 returns c =
-    let s = sources_of c.args.inputs.now in
+    let s = sources_in c.args.inputs.now in
     let of = label_of s (number_in (ordered s)) in
     let n = s.graph.functions in
     let text = c.loop-f.text in

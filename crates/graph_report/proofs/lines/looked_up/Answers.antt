@@ -1,11 +1,11 @@
 use Rattle.std.proofs.Common.{◌≡◌, ◌≤◌, ℕ, length, map, take, take_all, ap, sym, ◌∙◌, arith}
 use Rattle.graph_report.specs.ArcTimes.{arc_times}
-use Rattle.graph_report.specs.Inputs.{sources_of}
+use Rattle.graph_report.specs.Inputs.{sources_in}
 use Rattle.graph_report.proofs.lines.looked_up.Goals as goal
 
 pub returns : goal.returns
 returns c =
-    let s = sources_of c.args.inputs.now in
+    let s = sources_in c.args.inputs.now in
     let arcs = c.args.arcs.now in
     let some = c.requires.some in
     let at : c.loop-k.k ≡ length arcs = omega arith in

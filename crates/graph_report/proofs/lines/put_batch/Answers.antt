@@ -7,7 +7,7 @@ use Rattle.host_port.proofs.BufferLemmas.{adds_all, adds_more, adds_stop}
 use Rattle.call_cycles.specs.Graph.{arc_count, no_arc}
 use Rattle.graph_report.specs.ArcTimes.{AreTimes, arc_times}
 use Rattle.graph_report.specs.GraphText.{caller_line}
-use Rattle.graph_report.specs.Inputs.{AreInputs, sources_of}
+use Rattle.graph_report.specs.Inputs.{AreInputs, sources_in}
 use Rattle.graph_report.specs.Numbers.{number_of}
 use Rattle.graph_report.specs.declared.inputs.ArcTimes.{ArcTimes}
 use Rattle.graph_report.specs.declared.inputs.Inputs.{Inputs}
@@ -20,17 +20,17 @@ abbrev no_times : ArcTimes
 no_times = record { arc = no_arc; own = 0; child = 0 }
 
 -- what was looked up of arc k of the list
-module _ (inputs : Inputs) (arcs : List ℕ) (batch : List ArcTimes) (are : batch ≡ map (arc_times (sources_of inputs)) arcs) (k : ℕ) where
+module _ (inputs : Inputs) (arcs : List ℕ) (batch : List ArcTimes) (are : batch ≡ map (arc_times (sources_in inputs)) arcs) (k : ℕ) where
   inside : k < length batch → k < length arcs
-  inside low = omega (arith, low, ap length are, length-map arcs (arc_times (sources_of inputs)))
+  inside low = omega (arith, low, ap length are, length-map arcs (arc_times (sources_in inputs)))
 
-  found : k < length batch → get_or batch k no_times ≡ arc_times (sources_of inputs) (get_or arcs k 0)
-  found low = ap (λ (b : List ArcTimes). get_or b k no_times) are ∙ get_or-map (arc_times (sources_of inputs)) arcs k 0 no_times (inside low)
+  found : k < length batch → get_or batch k no_times ≡ arc_times (sources_in inputs) (get_or arcs k 0)
+  found low = ap (λ (b : List ArcTimes). get_or b k no_times) are ∙ get_or-map (arc_times (sources_in inputs)) arcs k 0 no_times (inside low)
 
-  within : AreInputs inputs → All (λ i. i < arc_count inputs.sources.graph.now) arcs → k < length batch → AreTimes (sources_of inputs) (get_or batch k no_times)
+  within : AreInputs inputs → All (λ i. i < arc_count inputs.sources.graph.now) arcs → k < length batch → AreTimes (sources_in inputs) (get_or batch k no_times)
   within is all low =
       let arc : get_or arcs k 0 < arc_count inputs.sources.graph.now = all k 0 (inside low) in
-      subst (AreTimes (sources_of inputs)) (sym (found low)) (times_within (sources_of inputs) is.sources is.small (get_or arcs k 0) arc)
+      subst (AreTimes (sources_in inputs)) (sym (found low)) (times_within (sources_in inputs) is.sources is.small (get_or arcs k 0) arc)
 
 pub put_arc-requires-clause-times : goal.put_arc-requires-clause-times
 put_arc-requires-clause-times g c =
@@ -44,7 +44,7 @@ pub returns-in_err-put_arc : goal.returns-in_err-put_arc
 returns-in_err-put_arc g c =
     let p = err_from_is_err_and c.from_residual.result c.from_residual.ensures.1 in
     let r = c.args.report.now in
-    let s = sources_of r.inputs in
+    let s = sources_in r.inputs in
     let xs = c.args.arcs.now in
     let k = c.loop-times.times-index in
     let are = c.split_at.ensures.front ∙ c.looked_up-batch.ensures in
@@ -56,7 +56,7 @@ returns-in_err-put_arc g c =
 pub loop-times-preserved : goal.loop-times-preserved
 loop-times-preserved g c =
     let r = c.args.report.now in
-    let s = sources_of r.inputs in
+    let s = sources_in r.inputs in
     let xs = c.args.arcs.now in
     let k = c.loop-times.times-index in
     let are = c.split_at.ensures.front ∙ c.looked_up-batch.ensures in
@@ -68,7 +68,7 @@ loop-times-preserved g c =
 pub returns : goal.returns
 returns g c =
     let r = c.args.report.now in
-    let s = sources_of r.inputs in
+    let s = sources_in r.inputs in
     let xs = c.args.arcs.now in
     let are = c.split_at.ensures.front ∙ c.looked_up-batch.ensures in
     let all : length xs ≤ c.loop-times.times-index = omega (arith, c.loop-times-test.false, ap length are, length-map xs (arc_times s)) in

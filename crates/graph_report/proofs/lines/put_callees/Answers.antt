@@ -4,7 +4,7 @@ use Rattle.std.proofs.lemmas.Result.{err_from_is_err_and}
 use Rattle.host_port.specs.declared.side.Side.TheVariants.{Output}
 use Rattle.host_port.proofs.BufferLemmas.{adds_more, adds_stop}
 use Rattle.graph_report.specs.GraphText.{callee_line}
-use Rattle.graph_report.specs.Inputs.{sources_of}
+use Rattle.graph_report.specs.Inputs.{sources_in}
 use Rattle.graph_report.specs.Numbers.{number_of}
 use Rattle.graph_report.proofs.PrintLemmas.{put_as}
 use Rattle.graph_report.proofs.TextLemmas.{callee_is}
@@ -17,8 +17,8 @@ returns-in_err-put_arc g c =
     let xs = c.args.arcs.now in
     let k = c.loop-i.i-index in
     let below : k < length xs = omega arith in
-    let one = put_as _ _ _ _ _ _ _ (callee_is (sources_of r.inputs) (number_of r) (get_or xs k 0) c.arc-times.result c.arc-times.ensures.value) c.in_err-put_arc.ensures in
-    rw p.1 (adds_stop Output (callee_line (sources_of r.inputs) (number_of r)) xs k (get_or xs k 0) _ _ _ _ _ _ tt _ below (get_or_default _ _ _ _ below) c.loop-i.invariant one)
+    let one = put_as _ _ _ _ _ _ _ (callee_is (sources_in r.inputs) (number_of r) (get_or xs k 0) c.arc-times.result c.arc-times.ensures.value) c.in_err-put_arc.ensures in
+    rw p.1 (adds_stop Output (callee_line (sources_in r.inputs) (number_of r)) xs k (get_or xs k 0) _ _ _ _ _ _ tt _ below (get_or_default _ _ _ _ below) c.loop-i.invariant one)
 
 pub loop-i-preserved : goal.loop-i-preserved
 loop-i-preserved g c =
@@ -26,5 +26,5 @@ loop-i-preserved g c =
     let xs = c.args.arcs.now in
     let k = c.loop-i.i-index in
     let below : k < length xs = omega arith in
-    let one = put_as _ _ _ _ _ _ _ (callee_is (sources_of r.inputs) (number_of r) (get_or xs k 0) c.arc-times.result c.arc-times.ensures.value) c.in_ok-put_arc.ensures in
-    adds_more Output (callee_line (sources_of r.inputs) (number_of r)) xs k (get_or xs k 0) _ _ _ _ _ _ tt _ below (get_or_default _ _ _ _ below) c.loop-i.invariant one
+    let one = put_as _ _ _ _ _ _ _ (callee_is (sources_in r.inputs) (number_of r) (get_or xs k 0) c.arc-times.result c.arc-times.ensures.value) c.in_ok-put_arc.ensures in
+    adds_more Output (callee_line (sources_in r.inputs) (number_of r)) xs k (get_or xs k 0) _ _ _ _ _ _ tt _ below (get_or_default _ _ _ _ below) c.loop-i.invariant one

@@ -4,10 +4,10 @@ use Rattle.host_port.specs.Buffered.{Adds}
 use Rattle.host_port.specs.declared.side.Side.TheVariants.{Output}
 use Rattle.host_port.specs.declared.host.Failed.{Failed}
 use Rattle.graph_report.specs.GraphText.{callee_line}
-use Rattle.graph_report.specs.Inputs.{sources_of}
+use Rattle.graph_report.specs.Inputs.{sources_in}
 use Rattle.graph_report.specs.Numbers.{number_of}
 use Rattle.graph_report.proofs.lines.put_callees.Given as goal
 
 -- the lines so far are put
 abbrev pub invariant-loop-i : goal.invariant-loop-i
-invariant-loop-i g l = Adds {E = Failed} Output (flat_map (callee_line (sources_of l.report.inputs) (number_of l.report)) (take l.i-index l.arcs)) l.initial.lines l.lines (g.H.Host.outside l.initial.host) (g.H.Host.outside l.host) (Ok (tt {0}))
+invariant-loop-i g l = Adds {E = Failed} Output (flat_map (callee_line (sources_in l.report.inputs) (number_of l.report)) (take l.i-index l.arcs)) l.initial.lines l.lines (g.H.Host.outside l.initial.host) (g.H.Host.outside l.host) (Ok (tt {0}))

@@ -4,7 +4,7 @@ use Rattle.std.proofs.lemmas.Result.{err_from_is_err_and}
 use Rattle.host_port.specs.declared.side.Side.TheVariants.{Output}
 use Rattle.host_port.proofs.BufferLemmas.{adds_more, adds_stop}
 use Rattle.graph_report.specs.GraphText.{member_line}
-use Rattle.graph_report.specs.Inputs.{sources_of}
+use Rattle.graph_report.specs.Inputs.{sources_in}
 use Rattle.graph_report.specs.Numbers.{number_of}
 use Rattle.graph_report.proofs.lines.put_members.Goals as goal
 
@@ -15,7 +15,7 @@ returns-in_err-put_member g c =
     let xs = c.args.members.now in
     let k = c.loop-f.f-index in
     let below : k < length xs = omega arith in
-    rw p.1 (adds_stop Output (member_line (sources_of r.inputs) (number_of r)) xs k (get_or xs k 0) _ _ _ _ _ _ tt _ below (get_or_default _ _ _ _ below) c.loop-f.invariant c.in_err-put_member.ensures)
+    rw p.1 (adds_stop Output (member_line (sources_in r.inputs) (number_of r)) xs k (get_or xs k 0) _ _ _ _ _ _ tt _ below (get_or_default _ _ _ _ below) c.loop-f.invariant c.in_err-put_member.ensures)
 
 pub loop-f-preserved : goal.loop-f-preserved
 loop-f-preserved g c =
@@ -23,4 +23,4 @@ loop-f-preserved g c =
     let xs = c.args.members.now in
     let k = c.loop-f.f-index in
     let below : k < length xs = omega arith in
-    adds_more Output (member_line (sources_of r.inputs) (number_of r)) xs k (get_or xs k 0) _ _ _ _ _ _ tt _ below (get_or_default _ _ _ _ below) c.loop-f.invariant c.in_ok-put_member.ensures
+    adds_more Output (member_line (sources_in r.inputs) (number_of r)) xs k (get_or xs k 0) _ _ _ _ _ _ tt _ below (get_or_default _ _ _ _ below) c.loop-f.invariant c.in_ok-put_member.ensures

@@ -1,6 +1,6 @@
 use Rattle.std.proofs.Common.{◌≡◌, ◌<◌, ℕ, ◌+◌, ◌-◌, length, get_or, sym, ap, subst, ◌∙◌, arith, []}
 use Rattle.std.proofs.lemmas.List.{get_or_default, get_or-map, length-map}
-use Rattle.graph_report.specs.Inputs.{sources_of}
+use Rattle.graph_report.specs.Inputs.{sources_in}
 use Rattle.graph_report.specs.Rows.{entries_of_rows, entry_of_row}
 use Rattle.graph_report.specs.declared.rows.Row.{Row}
 use Rattle.graph_report.specs.declared.subjects.Subject.TheVariants.{Cycle}
@@ -17,7 +17,7 @@ put_number-requires-clause-functions c =
     let row = get_or rows k no_row in
     let len = c.loop-i.invariant.function_count in
     let below : k < length rows = omega arith in
-    let inside = row_inside (sources_of c.args.inputs.now) rows k row c.requires.inputs.sources c.requires.rows below (get_or_default rows k no_row row below) in
+    let inside = row_inside (sources_in c.args.inputs.now) rows k row c.requires.inputs.sources c.requires.rows below (get_or_default rows k no_row row below) in
     omega arith
 
 pub put_number-requires-clause-cycles : goal.put_number-requires-clause-cycles
@@ -27,7 +27,7 @@ put_number-requires-clause-cycles c =
     let row = get_or rows k no_row in
     let len = c.loop-i.invariant.cycle_count in
     let below : k < length rows = omega arith in
-    let inside = row_inside (sources_of c.args.inputs.now) rows k row c.requires.inputs.sources c.requires.rows below (get_or_default rows k no_row row below) in
+    let inside = row_inside (sources_in c.args.inputs.now) rows k row c.requires.inputs.sources c.requires.rows below (get_or_default rows k no_row row below) in
     omega arith
 
 pub loop-i-preserved : goal.loop-i-preserved
@@ -50,4 +50,4 @@ pub returns : goal.returns
 returns c =
     let none : c.loop-i.i ≡ 0 = omega arith in
     let are = subst (λ (i : ℕ). AreNumbersFrom (entries_of_rows c.args.rows.now) c.args.inputs.now.sources.graph.now.functions i c.loop-i.numbers) none c.loop-i.invariant in
-    all_numbers (sources_of c.args.inputs.now) (entries_of_rows c.args.rows.now) c.loop-i.numbers c.requires.rows are
+    all_numbers (sources_in c.args.inputs.now) (entries_of_rows c.args.rows.now) c.loop-i.numbers c.requires.rows are

@@ -3,7 +3,7 @@ use Rattle.std.proofs.lemmas.List.{get_or_default, get_or-map, length-map}
 use Rattle.std.proofs.lemmas.Result.{err_from_is_err_and}
 use Rattle.host_port.specs.declared.side.Side.TheVariants.{Output}
 use Rattle.host_port.proofs.BufferLemmas.{adds_all, adds_more, adds_stop}
-use Rattle.graph_report.specs.Inputs.{sources_of}
+use Rattle.graph_report.specs.Inputs.{sources_in}
 use Rattle.graph_report.specs.Rows.{entries_of_rows, entry_of_row}
 use Rattle.graph_report.specs.Subjects.{shown_text}
 use Rattle.graph_report.specs.declared.rows.Row.{Row}
@@ -21,12 +21,12 @@ put_row-requires-clause-subject g c =
     let rows = c.args.rows.now in
     let k = c.loop-row.row-index in
     let below : k < length rows = c.loop-row-test.true in
-    row_of_graph (sources_of c.args.report.now.inputs) rows k (get_or rows k no_row) c.requires.report.inputs.sources c.requires.rows below (get_or_default rows k no_row _ below)
+    row_of_graph (sources_in c.args.report.now.inputs) rows k (get_or rows k no_row) c.requires.report.inputs.sources c.requires.rows below (get_or_default rows k no_row _ below)
 
 pub returns-in_err-put_row : goal.returns-in_err-put_row
 returns-in_err-put_row g c =
     let p = err_from_is_err_and c.from_residual.result c.from_residual.ensures.1 in
-    let s = sources_of c.args.report.now.inputs in
+    let s = sources_in c.args.report.now.inputs in
     let rows = c.args.rows.now in
     let entries = entries_of_rows rows in
     let hidden = map string_bytes c.args.hidden.now in
@@ -40,7 +40,7 @@ returns-in_err-put_row g c =
 
 pub loop-row-preserved : goal.loop-row-preserved
 loop-row-preserved g c =
-    let s = sources_of c.args.report.now.inputs in
+    let s = sources_in c.args.report.now.inputs in
     let rows = c.args.rows.now in
     let entries = entries_of_rows rows in
     let hidden = map string_bytes c.args.hidden.now in
@@ -54,7 +54,7 @@ loop-row-preserved g c =
 
 pub returns : goal.returns
 returns g c =
-    let s = sources_of c.args.report.now.inputs in
+    let s = sources_in c.args.report.now.inputs in
     let rows = c.args.rows.now in
     let entries = entries_of_rows rows in
     let hidden = map string_bytes c.args.hidden.now in

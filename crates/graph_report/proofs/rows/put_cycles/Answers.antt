@@ -1,7 +1,7 @@
 use Rattle.std.proofs.Common.{◌≡◌, sym, ap, ◌∙◌}
 use Rattle.call_cycles.specs.Graph.{is_cycle}
 use Rattle.graph_report.specs.Entries.{cycle_entry}
-use Rattle.graph_report.specs.Inputs.{sources_of}
+use Rattle.graph_report.specs.Inputs.{sources_in}
 use Rattle.graph_report.specs.Rows.{entry_of_row, entries_of_rows}
 use Rattle.graph_report.specs.declared.rows.Row.{Row}
 use Rattle.graph_report.specs.declared.subjects.Subject.TheVariants.{Cycle}
@@ -11,7 +11,7 @@ use Rattle.graph_report.proofs.rows.put_cycles.Goals.{then-is_cycle+in_ok-push, 
 
 pub loop-c-preserved : goal.loop-c-preserved
 loop-c-preserved c =
-    let s = sources_of c.args.inputs.now in
+    let s = sources_in c.args.inputs.now in
     let test = is_cycle s.graph in
     let k = c.loop-c.c in
     let start = c.args.rows.now.items in

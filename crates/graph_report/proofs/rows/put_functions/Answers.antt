@@ -1,6 +1,6 @@
 use Rattle.std.proofs.Common.{◌≡◌, sym, ap, ◌∙◌}
 use Rattle.graph_report.specs.Entries.{function_entry, has_entry}
-use Rattle.graph_report.specs.Inputs.{sources_of}
+use Rattle.graph_report.specs.Inputs.{sources_in}
 use Rattle.graph_report.specs.Rows.{entry_of_row, entries_of_rows}
 use Rattle.graph_report.specs.declared.rows.Row.{Row}
 use Rattle.graph_report.specs.declared.subjects.Subject.TheVariants.{Function}
@@ -10,7 +10,7 @@ use Rattle.graph_report.proofs.rows.put_functions.Goals.{then-has_entry+in_ok-pu
 
 pub loop-f-preserved : goal.loop-f-preserved
 loop-f-preserved c =
-    let s = sources_of c.args.inputs.now in
+    let s = sources_in c.args.inputs.now in
     let test = has_entry s in
     let f = c.loop-f.f in
     let start = c.args.rows.now.items in

@@ -5,7 +5,7 @@ use Rattle.gmon_data.specs.Content.{Content, empty_content}
 use Rattle.gmon_data.specs.Sizes.{IsOfBytes}
 use Rattle.gmon_data.proofs.SizeLemmas.{within_limits}
 use Rattle.profile_sum.specs.Sum.{clash_of, sum_of}
-use Rattle.rvgprof.proofs.ProfileSizeLemmas.{of_sum}
+use Rattle.profile_sum.proofs.SizeLemmas.{of_sum}
 use Rattle.profile_sum.proofs.ClashLemmas.{no_clash}
 use Rattle.rvgprof.proofs.Summing.{first_sum, may_stop_summed, not_summed, summed, summed_up}
 use Rattle.rvgprof.proofs.inputs.add_profile.Goals as goal

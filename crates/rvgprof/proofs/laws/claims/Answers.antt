@@ -1,4 +1,5 @@
 use Rattle.std.specs.Prelude.{count_by}
+use Rattle.gmon_gnu.specs.CountedRun.{CountsFit}
 use Rattle.prof_machine.specs.Start.{machine_of, start_of}
 use Rattle.prof_machine.specs.Turn.{world_after}
 use Rattle.prof_machine.specs.Value.{is_sample}
@@ -7,30 +8,163 @@ use Rattle.rvgprof.proofs.laws.claims.Goals as goal
 
 pub returns : goal.returns
 returns c = record {
-  bsd_meaning = λ bytes. (c.one_meaning.ensures.spelled bytes, λ r spells. (c.one_meaning.ensures.accepted bytes r spells, c.one_meaning.ensures.only bytes r spells));
-  gnu_meaning = λ bytes. (c.one_meaning-2.ensures.spelled bytes, λ r spells. (c.one_meaning-2.ensures.accepted bytes r spells, c.one_meaning-2.ensures.only bytes r spells));
-  gnu_faults = c.first_fault.ensures;
-  sums = c.sum_of_contents.ensures;
-  ends = c.runs_end.ensures.any;
-  clock = λ image bytes setup turns every budget.
-      let w = world_after (machine_of image setup) (start_of image bytes setup) turns in
-      clocked w (count_by is_sample w.log) setup.every setup.budget (c.clock.ensures.going image bytes setup turns every budget) (c.clock.ensures.budget image bytes setup turns every budget)
-      (λ status. c.clock.ensures.exit image bytes setup turns status every budget) (λ kind pc. c.clock.ensures.trap image bytes setup turns kind pc every budget);
-  samples_noted = c.notes_tell.ensures.samples;
-  retired_noted = c.notes_tell.ensures.retired;
-  one_noted = c.notes_tell.ensures.who;
-  kept = λ z log. (c.longest_front_is_kept.ensures.front z log, c.longest_front_is_kept.ensures.places z log, c.longest_front_is_kept.ensures.longest z log);
-  covered = λ hists symbols kept ascending covered. (c.covered_ranges.ensures.attributed hists symbols kept ascending covered, c.covered_ranges.ensures.outside hists symbols kept ascending covered);
-  numbering = c.one_numbering.ensures;
-  one_flow = λ g shares is. (c.one_flow.ensures.solved g shares is, λ t u. c.one_flow.ensures.one g shares t u is);
-  roots = c.conservation.ensures.whole;
-  parts = c.time_in_proportion.ensures.parts;
-  whole = c.time_in_proportion.ensures.whole;
-  last_line = c.time_up_to_the_last_line.ensures;
-  calls = c.calls_of_all_lines.ensures;
-  totals = c.entries_of_roots.ensures.totals;
-  no_entry = c.entries_of_roots.ensures.none;
-  entries = c.entries_of_roots.ensures.all;
-  callers = c.callers_and_callees_rise.ensures.callers;
-  callees = c.callers_and_callees_rise.ensures.callees;
+  words = record {
+    short_lines = c.lines_are_short.ensures;
+    number_bytes = λ n k. (c.little_endian.ensures.length n k, c.little_endian.ensures.bytes n k, c.little_endian.ensures.reads_back n k);
+    one_spelling = λ bs is. (c.little_endian.ensures.one_spelling bs is, c.little_endian.ensures.below bs is);
+    nothing_done = c.acts_follow.ensures.nothing;
+    done_together = c.acts_follow.ensures.together;
+  };
+  files = record {
+    bsd_meaning = λ bytes. (c.one_meaning.ensures.spelled bytes, λ r spells. (c.one_meaning.ensures.accepted bytes r spells, c.one_meaning.ensures.only bytes r spells));
+    gnu_meaning = λ bytes. (c.one_meaning-2.ensures.spelled bytes, λ r spells. (c.one_meaning-2.ensures.accepted bytes r spells, c.one_meaning-2.ensures.only bytes r spells));
+    gnu_faults = c.first_fault.ensures;
+    bsd_run = λ z log rate sizes fits calls.
+        let read = c.run_read_back.ensures.read z log rate sizes fits calls in (c.run_read_back.ensures.spelled z log rate sizes fits calls, read.0, read.1);
+    gnu_run = λ z log rate sizes fits calls.
+        let read = c.run_read_back-2.ensures.read z log rate sizes fits calls in (c.run_read_back-2.ensures.spelled z log rate sizes fits calls, read.0, read.1);
+    counted_run = λ z log rate low counts sizes fits calls four_bytes addresses.
+        let counts_fit : CountsFit low counts = record { four_bytes = four_bytes; addresses = addresses } in
+        let read = c.counted_run_read_back.ensures.read z log rate low counts sizes fits calls counts_fit in
+        (c.counted_run_read_back.ensures.spelled z log rate low counts sizes fits calls counts_fit, read.0, read.1);
+    profile_file = λ p is. let read = c.profile_read_back.ensures.read p is in (c.profile_read_back.ensures.spelled p is, read.0, read.1);
+  };
+  profiles = record {
+    sums = c.sum_of_contents.ensures;
+    splits = c.parts_have_sum.ensures;
+    more_records = c.records_add_up.ensures;
+    counters = c.counters_add_up.ensures;
+    executions = c.executions_add_up.ensures;
+    ranges = λ recs spans none. let have = c.ranges_are_of_records.ensures recs spans none in (have.those, have.apart, have.some);
+    arcs_stay = c.calls_that_stay.ensures.arcs;
+    self_calls_stay = c.calls_that_stay.ensures.self_calls;
+    times_stay = c.times_stay.ensures;
+    profiles_stay = c.profiles_stay.ensures.profile;
+    nothing_cut = c.profiles_stay.ensures.whole;
+  };
+  programs = record {
+    kept_symbol = c.first_at_an_address.ensures;
+    one_row = c.instruction_table.ensures.one_row;
+    row = c.instruction_table.ensures.row;
+    read_bytes = c.memory_map.ensures.read;
+    written_bytes = c.memory_map.ensures.written;
+    other_bytes = c.memory_map.ensures.kept;
+  };
+  runs = record {
+    no_turn = c.turns_follow.ensures.none;
+    one_turn_more = c.turns_follow.ensures.more;
+    ended_stays = c.turns_follow.ensures.ended;
+    ends = c.runs_end.ensures.any;
+    plan_ends = c.runs_end.ensures.ends;
+    one_ending = c.runs_end.ensures.shortest;
+    clock = λ image bytes setup turns every budget.
+        let w = world_after (machine_of image setup) (start_of image bytes setup) turns in
+        clocked w (count_by is_sample w.log) setup.every setup.budget (c.clock.ensures.going image bytes setup turns every budget) (c.clock.ensures.budget image bytes setup turns every budget)
+        (λ status. c.clock.ensures.exit image bytes setup turns status every budget) (λ kind pc. c.clock.ensures.trap image bytes setup turns kind pc every budget);
+    samples_noted = c.notes_tell.ensures.samples;
+    retired_noted = c.notes_tell.ensures.retired;
+    one_noted = c.notes_tell.ensures.who;
+    as_many = c.notes_tell.ensures.as_many;
+    pairs = c.pairs_are_counts.ensures;
+    prints_stay = c.prints_stay.ensures.stay;
+    last_prints = c.prints_stay.ensures.driven;
+    none_busy = c.none_ends_busy.ensures.any;
+    plan_not_busy = c.none_ends_busy.ensures.plan;
+  };
+  counts = record {
+    samples_alone = λ z pcs. (c.samples_alone.ensures.legal z pcs, c.samples_alone.ensures.counted z pcs, c.samples_alone.ensures.state z pcs, c.samples_alone.ensures.kept z pcs, c.samples_alone.ensures.arcs z pcs);
+    one_sample_more = c.one_sample_more.ensures.counted;
+    only_sample = λ z log pc. (c.one_sample_more.ensures.legal z log pc, c.one_sample_more.ensures.sampling log pc, c.one_sample_more.ensures.state z log pc, c.one_sample_more.ensures.kept z log pc, c.one_sample_more.ensures.arcs z log pc);
+    one_bucket = c.one_bucket.ensures.inside;
+    no_other_bucket = c.one_bucket.ensures.no_other;
+    kept = λ z log. (c.longest_front_is_kept.ensures.front z log, c.longest_front_is_kept.ensures.places z log, c.longest_front_is_kept.ensures.longest z log);
+    all_kept = c.longest_front_is_kept.ensures.all;
+    front = c.one_call_more.ensures.front;
+    other_chains = c.one_call_more.ensures.others;
+    indices = λ pairs p q. (c.indices_stay.ensures.old pairs p q, c.indices_stay.ensures.new pairs p, c.indices_stay.ensures.apart pairs p q);
+    new_entry = c.links_after_one_call_more.ensures.new;
+    first_entry = c.links_after_one_call_more.ensures.first;
+    behind_entry = λ pairs p i is. (c.links_after_one_call_more.ensures.behind pairs p i is, λ q same before. c.links_after_one_call_more.ensures.before pairs p q i is same before);
+    other_entries = λ pairs p q old. (λ new. c.links_after_one_call_more.ensures.others_of_new pairs p q new old, λ known other apart. c.links_after_one_call_more.ensures.others pairs p q known old other apart);
+    looks = λ z log slot to. (c.looks_stay.ensures.some z log slot to, c.looks_stay.ensures.few z log slot to);
+    looks_stay = λ z log slot to. (
+      c.looks_stay.ensures.sample z log slot to,
+      c.looks_stay.ensures.mode z log slot to,
+      c.looks_stay.ensures.begin z log slot to,
+      c.looks_stay.ensures.lost z log slot to,
+      c.looks_stay.ensures.ignored z log slot to,
+    );
+  };
+  shares = record {
+    covered = λ hists symbols kept ascending covered. (c.covered_ranges.ensures.attributed hists symbols kept ascending covered, c.covered_ranges.ensures.outside hists symbols kept ascending covered);
+    whole_bucket = λ h i s kept from to. c.whole_buckets.ensures h i s kept (record { from = from; to = to });
+    part_of_bucket = λ h i s kept order. (c.parts_of_buckets.ensures.most h i s kept order, c.parts_of_buckets.ensures.least h i s kept order);
+    ranges_follow = c.ranges_add_up.ensures.follow;
+    range_of_symbol = c.ranges_add_up.ensures.share;
+    cells = c.cells_add_up.ensures.symbol;
+    listing = c.cells_add_up.ensures.listing;
+    one_cell = c.addresses_have_one_cell.ensures.one;
+    word_reached = c.addresses_have_one_cell.ensures.there;
+  };
+  graphs = record {
+    numbering = c.one_numbering.ensures;
+    cycles = c.other_members.ensures;
+    graph_of_arcs = λ n arcs self_calls within called in_order. c.values_are_graphs.ensures.graph n arcs self_calls within called in_order;
+    graph_of_profile = c.values_are_graphs.ensures.profile;
+    no_other_graph = c.values_are_graphs.ensures.only;
+    one_flow = λ g shares is. (c.one_flow.ensures.solved g shares is, λ t u. c.one_flow.ensures.one g shares t u is);
+    roots = c.conservation.ensures.whole;
+    no_time_lost = c.conservation.ensures.closed;
+    most_of_component = c.no_more_than_all.ensures.components;
+    most_of_function = c.no_more_than_all.ensures.functions;
+    parts = c.time_in_proportion.ensures.parts;
+    whole = c.time_in_proportion.ensures.whole;
+  };
+  exact = record {
+    solved = c.exact_times.ensures.solved;
+    exact_roots = c.exact_times.ensures.whole;
+    same_times = λ g shares x y is of_x of_y.
+        let same = c.exact_times.ensures.same g shares x y is of_x of_y in (same.child, λ i below outside. (same.arc_self i below outside, same.arc_child i below outside), same.member_child);
+    one_exact_flow = c.one_exact_flow.ensures;
+    near = λ g shares t x is flow exact.
+        let near = c.nearness.ensures g shares t x is flow exact in (near.child, λ i below outside. (near.arc_self i below outside, near.arc_child i below outside), near.member_child);
+    same_steps = c.first_steps.ensures.same;
+    one_first = c.first_steps.ensures.one;
+    none_wide = c.first_steps.ensures.none;
+    first_is_wide = λ g shares x w is exact some. let first = c.first_steps.ensures.first g shares x w is exact some in (first.within, first.outside, first.from, first.wide, first.before);
+    lowest_value = λ n d some. let same = c.lowest_terms.ensures.value n d some in (same.some, same.value);
+    lowest_terms = λ n d. (c.lowest_terms.ensures.divisor n d, c.lowest_terms.ensures.lowest n d);
+    one_fraction = c.lowest_terms.ensures.one;
+    exact_sum = λ f h some_f some_h. let same = c.exact_values.ensures.sums f h some_f some_h in (same.some, same.value);
+    exact_product = λ f h some_f some_h. let same = c.exact_values.ensures.products f h some_f some_h in (same.some, same.value);
+  };
+  flat = record {
+    all_functions = c.functions_in_order.ensures.all;
+    in_order = c.functions_in_order.ensures.ascending;
+    last_line = c.time_up_to_the_last_line.ensures;
+    calls = c.calls_of_all_lines.ensures;
+    whole_profile = c.lines_that_are_shown.ensures.whole;
+    shown_lines = c.lines_that_are_shown.ensures.less;
+  };
+  call_graph = record {
+    all_entries = c.entries_in_order.ensures.all;
+    in_order = c.entries_in_order.ensures.ascending;
+    numbers = c.entries_in_order.ensures.numbers;
+    arcs_named = λ s i is below. (c.names_have_entries.ensures.callers s i is below, c.names_have_entries.ensures.callees s i is below);
+    members_named = c.names_have_entries.ensures.members;
+    whole_report = c.entries_that_are_shown.ensures.whole;
+    shown_entries = c.entries_that_are_shown.ensures.less;
+    totals = c.entries_of_roots.ensures.totals;
+    no_entry = c.entries_of_roots.ensures.none;
+    entries = c.entries_of_roots.ensures.all;
+    callers = c.callers_and_callees_rise.ensures.callers;
+    callees = c.callers_and_callees_rise.ensures.callees;
+  };
+  stacks = record {
+    stack_end = c.stacks_end_where_sampled.ensures;
+    followed = c.samples_are_counted.ensures;
+    lines_add_up = c.lines_add_up.ensures;
+    line_counts = c.lines_count.ensures;
+    lines_ascend = c.lines_ascend.ensures;
+  };
 }

@@ -2,7 +2,7 @@ use Rattle.std.proofs.Common.{◌≡◌, ◌<◌, ◌+◌, ◌-◌, ℕ, suc, Li
 use Rattle.std.proofs.lemmas.Grind.{get_or_default_zero}
 use Rattle.call_cycles.specs.Sums.{list_of}
 use Rattle.call_cycles.proofs.ListLemmas.{list_long, list_at}
-use Rattle.graph_report.specs.Inputs.{sources_of}
+use Rattle.graph_report.specs.Inputs.{sources_in}
 use Rattle.graph_report.specs.Labels.{label_of, start_of}
 use Rattle.graph_report.specs.Numbers.{number_of}
 use Rattle.graph_report.specs.declared.numbers.Report.{Report}
@@ -10,7 +10,7 @@ use Rattle.graph_report.proofs.LabelLemmas.{start_rises, start_within, text_at}
 use Rattle.graph_report.proofs.numbers.Report.label.Goals as goal
 
 abbrev labels_of : Report → ℕ → List ℕ
-labels_of r = label_of (sources_of r.inputs) (number_of r)
+labels_of r = label_of (sources_in r.inputs) (number_of r)
 
 start_read : (r : Report) (n k start : ℕ) → r.labels.starts.items ≡ list_of (suc n) (start_of (labels_of r)) → k < suc n → start ≡ get_or r.labels.starts.items k start → start ≡ start_of (labels_of r) k
 start_read r n k start are low is =

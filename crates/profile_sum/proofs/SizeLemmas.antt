@@ -5,7 +5,7 @@ use Rattle.std.proofs.lemmas.List.Sums.{sum_by-cons}
 use Rattle.gmon_data.specs.declared.hist.Hist.{Hist}
 use Rattle.gmon_data.specs.Hists.{put_hist, samples_of}
 use Rattle.gmon_data.specs.Tally.{tally, total_of}
-use Rattle.gmon_data.specs.Content.{Content, same_pair}
+use Rattle.gmon_data.specs.Content.{Content, same_ends}
 use Rattle.gmon_data.specs.Sizes.{IsOfBytes}
 use Rattle.gmon_data.proofs.BoundLemmas.{counters_at_most, tally_at_most}
 use Rattle.gmon_data.proofs.HistLemmas.{samples-put}
@@ -36,8 +36,8 @@ pub of_sum : (m n : ℕ) (p q : Content) → IsOfBytes m p → IsOfBytes n q →
 of_sum m n p q first second = record {
   samples = omega (arith, first.samples, second.samples, hists_sum q.hists p.hists);
   counters = omega (arith, first.counters, second.counters, hists_counters q.hists p.hists);
-  calls = omega (arith, first.calls, second.calls, totals_sum same_pair q.arcs p.arcs);
+  calls = omega (arith, first.calls, second.calls, totals_sum same_ends q.arcs p.arcs);
   runs = omega (arith, first.runs, second.runs, totals_sum nat_eq q.blocks p.blocks);
-  pairs = omega (arith, first.pairs, second.pairs, keys_sum same_pair q.arcs p.arcs);
+  pairs = omega (arith, first.pairs, second.pairs, keys_sum same_ends q.arcs p.arcs);
   addresses = omega (arith, first.addresses, second.addresses, keys_sum nat_eq q.blocks p.blocks);
 }
