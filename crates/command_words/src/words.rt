@@ -7,9 +7,7 @@ ghost use Rattle.command_words.specs.Items.{items_from, up_to};
 ghost use Rattle.command_words.specs.Options.{kind_of, IsNumberOf};
 ghost use Rattle.command_words.specs.Words.{alone, annotate_from, annotate_reading, are_cuts, command_of, demo_from, demo_reading, few, file_from, file_reading, folded_from, folded_reading, form_asked, functions_from, functions_of, is_given, may_count, operands_of, plan_from, plan_of, profile_from, profile_reading, report_from, report_reading, run_from, run_of, selection_from, selection_of, setup_from, setup_of, shown_asked, sum_from, sum_reading, AreCuts, AreRising, IsCommandOf};
 
-use crate::items::{
-    Wanted, number_given, place_given, places_from, places_given, setting,
-};
+use crate::items::{Wanted, number_given, place_given, places_from, places_given, setting};
 use crate::names::name_at;
 use crate::numbers::number_in;
 use crate::options::{Key, OptionSet};

@@ -1,5 +1,5 @@
 -- A profile file's form, and its bytes as they come.
-use Rattle.std.proofs.Common.{◌≡◌, ℕ, ◌+◌, ◌<◌, ◌≤◌, Bool, true, false, ◌&&◌, List, [], ◌++◌, length, take, drop, length-take, length-append, append_assoc, Option, Some, None, Err, refl, sym, ap, subst, ◌∙◌, if◌then◌else◌, arith}
+use Rattle.std.proofs.Common.{◌≡◌, ℕ, ◌+◌, ◌-◌, ◌<◌, ◌≤◌, Bool, true, false, ◌&&◌, List, [], ◌++◌, length, take, drop, length-take, length-drop, length-append, append_assoc, Option, Some, None, Err, refl, sym, ap, subst, ◌∙◌, if◌then◌else◌, arith}
 use Rattle.std.specs.Prelude.{bytes_eq, codes, is_some, nat_lt, IfSome}
 use Rattle.std.proofs.lemmas.Bool.{lt-ltb}
 use Rattle.std.proofs.lemmas.Slice.Eq.{bytes_eq-Decides}
@@ -88,13 +88,26 @@ longer name bytes buf limit n (Some d') (Some d) (Some r') told disk came joins 
     let whole : length bytes + length r' ≡ length (file_content name d.files) = sym (length-append bytes r') ∙ ap length (joins ∙ ap (λ (x : Disk). file_content name x.files) (same_some d' d disk)) in
     omega (arith, whole, came.available, long)
 
+-- what is left behind is all but the bytes so far and these
+behind_it : (name bytes buf : List ℕ) (limit n : ℕ) (d0 d1 : Option Disk) (r0 r1 : Option (List ℕ)) → Becomes (λ d. d) d0 d1 → Becomes (drop n) r0 r1 → IfSome r0 (λ rest. Came n rest buf) → Joins name bytes d0 r0
+    → length bytes ≤ limit → n ≤ 4096 → IfSome d1 (λ d. IfSome r1 (λ rest. length (file_content name d.files) ≤ limit + 4096 + length rest))
+behind_it name bytes buf limit n d0 None r0 r1 disk rest came joins within few = tt
+behind_it name bytes buf limit n d0 (Some d) r0 None disk rest came joins within few = tt
+behind_it name bytes buf limit n None (Some d) r0 (Some r) disk rest came joins within few = absurd cc
+behind_it name bytes buf limit n (Some d') (Some d) None (Some r) disk rest came joins within few = absurd cc
+behind_it name bytes buf limit n (Some d') (Some d) (Some r') (Some r) disk rest came joins within few =
+    let whole : length bytes + length r' ≡ length (file_content name d.files) = sym (length-append bytes r') ∙ ap length (joins ∙ ap (λ (x : Disk). file_content name x.files) (same_some d' d disk)) in
+    let left : length r ≡ length r' - n = ap length (sym (same_some (drop n r') r rest)) ∙ length-drop n r' in
+    omega (arith, whole, left, within, few, came.available)
+
 pub loading_long : (name : List ℕ) (limit n : ℕ) (bytes buf : List ℕ) (old mid new : Outside) → Loading name limit bytes old mid → IsConsistent mid → Did [] mid new → KeepsCounts mid new
-    → IfSome mid.rest (λ rest. Came n rest buf) → limit < length bytes + n → Loads name limit old new (Err TooLarge)
-loading_long name limit n bytes buf old mid new far consistent did counts came long =
+    → IfSome mid.rest (λ rest. Came n rest buf) → Becomes (drop n) mid.rest new.rest → limit < length bytes + n → n ≤ 4096 → Loads name limit old new (Err TooLarge)
+loading_long name limit n bytes buf old mid new far consistent did counts came goes long few =
     let told : is_some mid.rest ≡ is_some mid.disk = consistent.rest ∙ ap (λ (b : Bool). b && is_some mid.disk) far.is_open in
     record {
       nothing_done = Did-then [] [] (opening 1 old) mid new far.did did;
       answer = longer name bytes buf limit n mid.disk new.disk mid.rest told did.disk came far.joins long;
+      left = behind_it name bytes buf limit n mid.disk new.disk mid.rest new.rest did.disk goes came far.joins far.within few;
       within = tt;
       counts = record { read = counts.read ∙ far.counts.read; write = counts.write ∙ far.counts.write; err = counts.err ∙ far.counts.err };
     }

@@ -1,7 +1,8 @@
-//! Profile files of both forms: which form a file is of, told by its first four bytes, and reading it in
-//! pieces.
+//! Profile files of both forms: which form a file is of, told by its first four bytes, reading it in pieces,
+//! and that the file of a run is read as the run.
 #![tactic(auto)]
 
 pub mod file_reader;
+pub mod laws;
 
 pub use file_reader::{FileReader, read_pieces};

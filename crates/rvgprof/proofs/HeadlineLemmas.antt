@@ -6,6 +6,7 @@ use Rattle.std.specs.List.{flat_map}
 use Rattle.std.proofs.lemmas.List.Concat.{flat_map-append}
 use Rattle.std.proofs.lemmas.List.{length-map}
 use Rattle.gp_base.specs.declared.records.Form.{Form}
+use Rattle.gp_base.specs.declared.records.Form.TheVariants.{Bsd}
 use Rattle.gp_base.specs.declared.records.Records.{Records}
 use Rattle.gp_base.specs.declared.limits.TheConstants.{MAX_ELF_BYTES, MAX_PROFILE_BYTES}
 use Rattle.elf32_syms.specs.declared.image.Image.{Image}
@@ -55,12 +56,13 @@ use Rattle.command_words.specs.Items.{name_of}
 use Rattle.command_words.specs.Words.{command_of}
 use Rattle.rvgprof.specs.Course.{Course, Ends, Input, Does, Reply, unless, behind, reply_to}
 use Rattle.gmon_files.specs.Forms.{file_records, file_refusal}
-use Rattle.rvgprof.specs.Answer.{Chosen, RunFiles, all_reports, annotate_course, chosen_by, command_course, contents_of, ended, exact_report, file_acts, files_named, given_file_acts, list_profiles, print_reports, profile_in, profiles, program, report_course, report_profiles, report_run, run_acts, run_program, shown_reports, start_fault_of, told, too_wide, wide_step, written_profile}
+use Rattle.rvgprof.specs.Answer.{Chosen, RunFiles, all_reports, annotate_course, chosen_by, command_course, contents_of, demo_course, demo_lines, ended, exact_report, file_acts, files_named, given_file_acts, list_profiles, print_reports, profile_in, profiles, program, report_course, report_profiles, report_run, run_acts, run_program, shown_reports, start_fault_of, told, too_wide, wide_step, written_profile}
+use Rattle.demo_elf.specs.Elf.{demo_program}
 use Rattle.rvgprof.specs.Reports.{profile_sources}
 use Rattle.rvgprof.specs.Contract.{WhereTold, Answered}
 use Rattle.rvgprof.specs.Acceptance.{IsProgramFile, IsAccepted, Starts, records_of, total_of}
-use Rattle.rvgprof.specs.Headline.{ExecutionsAreListed, Headline, IsApart, Leaves, ListingLeaves, ReportLeaves, RunIsTold, RunIsWritten, RunLeaves, TimeIsShared, exact_of, printed_of, reported, reported_of, reports_of}
-use Rattle.rvgprof.specs.RunFile.{FitsFile, FitsWhereTold, RunFits, SaysRun, gmon_text, memory_text, text_sizes, world_of}
+use Rattle.rvgprof.specs.Headline.{DemoLeaves, ExecutionsAreListed, Headline, IsApart, Leaves, ListingLeaves, ReportLeaves, RunIsTold, RunIsWritten, RunLeaves, TimeIsShared, demo_lines_of, exact_of, printed_of, reported, reported_of, reports_of}
+use Rattle.rvgprof.specs.RunFile.{FitsFile, FitsWhereTold, RunFits, SaysRun, gmon_text, memory_text, reported_profile, text_sizes, world_of}
 use Rattle.rvgprof.proofs.AcceptanceLemmas.{accepted}
 use Rattle.rvgprof.proofs.Summing.{nothing_added}
 use Rattle.rvgprof.proofs.FileLemmas.{file_written, file_stays}
@@ -216,6 +218,20 @@ no_complaints : (name : Option (List ℕ)) (bytes : List ℕ) → complained (gi
 no_complaints None bytes = refl
 no_complaints (Some name) bytes = refl
 
+-- what is printed of a demo, behind the file of its program
+demo_prints : (name : Option (List ℕ)) (bytes : List ℕ) (prints : List Act) (text line : List ℕ) → prints_of ((given_file_acts name bytes ++ (prints ++ Out text ∷ [])) ++ Complain line ∷ []) ≡ prints_of prints ++ text
+demo_prints name bytes prints text line =
+    let run : List Act = prints ++ Out text ∷ [] in
+    printed-append (given_file_acts name bytes ++ run) (Complain line ∷ []) ∙ append-nil (prints_of (given_file_acts name bytes ++ run)) ∙ printed-append (given_file_acts name bytes) run
+    ∙ ap (λ (t : List ℕ). t ++ prints_of run) (no_prints name bytes) ∙ printed-append prints (Out text ∷ []) ∙ ap (λ (t : List ℕ). prints_of prints ++ t) (append-nil text)
+
+demo_complains : (name : Option (List ℕ)) (bytes : List ℕ) (prints : List Act) (text line : List ℕ) → complained ((given_file_acts name bytes ++ (prints ++ Out text ∷ [])) ++ Complain line ∷ []) ≡ complained prints ++ line
+demo_complains name bytes prints text line =
+    let run : List Act = prints ++ Out text ∷ [] in
+    let own : complained (given_file_acts name bytes ++ run) ≡ complained prints =
+    complained-append (given_file_acts name bytes) run ∙ ap (λ (t : List ℕ). t ++ complained run) (no_complaints name bytes) ∙ complained-append prints (Out text ∷ []) ∙ append-nil (complained prints) in
+    complained-append (given_file_acts name bytes ++ run) (Complain line ∷ []) ∙ ap (λ (t : List ℕ). complained (given_file_acts name bytes ++ run) ++ t) (append-nil line) ∙ ap (λ (t : List ℕ). t ++ line) own
+
 told_file : (old new : Option Disk) (f : Disk → Disk) (name text : List ℕ) → Becomes f old new → ((d : Disk) → file_content name (f d).files ≡ text) → IfSome new (λ d. file_content name d.files ≡ text)
 told_file old None f name text same holds = tt
 told_file None (Some new) f name text same holds = absurd cc
@@ -310,6 +326,24 @@ module _ (words : List (List ℕ)) (contents : ℕ → List ℕ) (elf gmon : ℕ
       let files_print : prints_of (one ++ two) ≡ [] = no_prints (option_map (name_of words) image) memory in
       let run : prints_of (prints ++ (one ++ two)) ≡ prints_of prints = printed-append prints (one ++ two) ∙ ap (λ (text : List ℕ). prints_of prints ++ text) files_print ∙ append-nil (prints_of prints) in
       printed-append (prints ++ (one ++ two)) rest ∙ ap (λ (text : List ℕ). text ++ prints_of rest) run
+
+-- ---- a demo
+
+module _ (contents : ℕ → List ℕ) (functions : ℕ) (elf : Option (List ℕ)) (setup : Setup) where
+  -- it is carried out up to its end
+  demo_goes : IsDone contents (demo_course functions elf setup)
+      → reply_to contents (demo_course functions elf setup)
+      ≡ behind (given_file_acts elf (demo_program functions)) (behind (world_of (demo_program functions) setup).prints
+      (reply_to contents (demo_lines functions setup.rate (image_of (demo_program functions)) (text_sizes (demo_program functions) setup) (world_of (demo_program functions) setup))))
+  demo_goes done =
+      let bytes = demo_program functions in
+      let image = image_of bytes in
+      let lines : Course = demo_lines functions setup.rate image (text_sizes bytes setup) (world_of bytes setup) in
+      let started : Course = unless start_fault_of (start_refusal image setup) (Does (world_of bytes setup).prints lines) in
+      let writes : Course = Does (given_file_acts elf bytes) started in
+      let read = unless_goes contents BadElf (elf_refusal bytes) writes done in
+      let goes = still_done contents (demo_course functions elf setup) writes read done in
+      read ∙ ap (behind (given_file_acts elf bytes)) (unless_goes contents start_fault_of (start_refusal image setup) (Does (world_of bytes setup).prints lines) goes)
 
 -- ---- reports
 
@@ -517,6 +551,20 @@ module _ (words : List (List ℕ)) (old new : Outside) (done : Done) (answered :
         fits = taken.2;
       }
 
+  demo_leaves : (functions : ℕ) (elf : Option ℕ) (setup : Setup) → command_of words ≡ Some (Demo functions elf setup) → DemoLeaves words old new done functions setup
+  demo_leaves functions elf setup said =
+      let command = Some (Demo functions elf setup) in
+      let name = option_map (name_of words) elf in
+      let bytes = demo_program functions in
+      let prints = (world_of bytes setup).prints in
+      let reply = demo_goes contents functions name setup (well_done command said) in
+      let did = done_by command _ said reply in
+      record {
+        output = was_printed _ _ (demo_prints name bytes prints (demo_lines_of functions setup) answered.line) did;
+        told = run_is_told bytes setup _ (ended_by command _ said reply) (demo_complains name bytes prints (demo_lines_of functions setup) answered.line) did;
+        shared = time_is_shared (image_of bytes) (reported_profile Bsd bytes setup);
+      }
+
   leaves_by : (command : Option Command) → command_of words ≡ command → RunFits words old new command → Leaves words old new done command
   leaves_by None said fits = tt
   leaves_by (Some (Show gmon)) said fits = tt
@@ -525,7 +573,7 @@ module _ (words : List (List ℕ)) (old new : Outside) (done : Done) (answered :
   leaves_by (Some (Report elf gmons selection)) said fits = report_leaves elf gmons selection said
   leaves_by (Some (Run elf gmon form image setup)) said fits = run_leaves elf gmon form image setup said fits
   leaves_by (Some (Profile elf gmon form image setup selection)) said fits = profile_leaves elf gmon form image setup selection said fits
-  leaves_by (Some (Demo functions elf setup)) said fits = tt
+  leaves_by (Some (Demo functions elf setup)) said fits = demo_leaves functions elf setup said
   leaves_by (Some (Annotate elf gmons)) said fits = listing_leaves elf gmons said
   leaves_by (Some (Folded elf inclusive setup)) said fits = tt
   leaves_by (Some Help) said fits = tt

@@ -25,7 +25,8 @@ use Rattle.prof_machine.specs.declared.setup.Setup.{Setup}
 use Rattle.gmon_gnu.specs.Blocks.{block_record, executed_blocks, record_of}
 use Rattle.prof_machine.proofs.ActLemmas.{driven_front}
 use Rattle.command_words.specs.Items.{name_of}
-use Rattle.rvgprof.specs.Answer.{RunFiles, counts_text, file_acts, given_file_acts, held_text, profile_bytes, run_acts, run_text, runtime_text}
+use Rattle.gmon_files.specs.Runs.{run_text}
+use Rattle.rvgprof.specs.Answer.{RunFiles, counts_text, file_acts, given_file_acts, held_text, profile_bytes, run_acts, runtime_text}
 use Rattle.rvgprof.specs.declared.outcome.Done.{Done}
 use Rattle.rvgprof.specs.Course.{Ends, Does}
 use Rattle.rvgprof.specs.Contract.{Acted}

@@ -48,35 +48,11 @@ use Rattle.prof_machine.specs.World.{World}
 use Rattle.prof_machine.proofs.NotedLemmas.{as_many}
 use Rattle.prof_machine.proofs.RunLemmas.{plan_ends, timed_budget, timed_exit, timed_trap}
 use Rattle.gmon_files.specs.Forms.{file_records, form_of, records_in, refusal_in}
-use Rattle.rvgprof.specs.Answer.{counts_text, profile_bytes, profile_in, run_text}
+use Rattle.gmon_files.specs.Runs.{run_text}
+use Rattle.gmon_files.proofs.RunLemmas.{bsd_form, gnu_form}
+use Rattle.rvgprof.specs.Answer.{counts_text, profile_bytes, profile_in}
 use Rattle.command_words.specs.Words.{may_count}
 use Rattle.rvgprof.specs.RunFile.{FitsFile, ProfileFilesAreReadBack, RunFilesAreReadBack, SaysRun, counted, gmon_text, records_of_run, reported_profile, text_sizes, world_of}
-
--- ---- the form of a file
-
--- a file that begins with the low address of a text isn't of the GNU form: the address is even, and a `g` is odd
-even_front : (low k : ℕ) (rest : List ℕ) → low ≡ 2 * k → form_of (low % 256 ∷ rest) ≡ Bsd
-unfolding form_of
-even_front low k rest even =
-    let other : eqb (low % 256) 103 ≡ false = grind (arith, nat_tests, even) in
-    ap (λ (b : Bool). if b && bytes_eq (take 3 rest) (109 ∷ 111 ∷ 110 ∷ []) then Gnu else Bsd) other
-
-half_of_low : (text_low m : ℕ) → text_low / (2 * m) * (2 * m) ≡ 2 * (text_low / (2 * m) * m)
-half_of_low text_low m = let q : ℕ = text_low / (2 * m) in product q
-  where
-    product : (q : ℕ) → q * (2 * m) ≡ 2 * (q * m)
-    product q = omega arith
-
-bsd_form : (program : List ℕ) (setup : Setup) (log : List LogEntry) → form_of (bsd_run_text (text_sizes program setup) log setup.rate) ≡ Bsd
-unfolding bsd_run_text
-bsd_form program setup log =
-    let low = (image_of program).text.low in
-    let m = max setup.hist setup.hash in
-    even_front (text_sizes program setup).low (low / (2 * m) * m) _ (half_of_low low m)
-
-gnu_form : (z : Sizes) (log : List LogEntry) (rate : ℕ) (more : List ℕ) → form_of (gnu_run_text z log rate ++ more) ≡ Gnu
-unfolding form_of gnu_run_text
-gnu_form z log rate more = refl
 
 -- ---- how often instructions were executed
 
@@ -334,7 +310,7 @@ module _ (form : Form) (program : List ℕ) (setup : Setup) (fits : FitsFile for
           let none : front ++ block_recs blocks ≡ front = ap (λ (b : Bool). front ++ block_recs (executed_blocks z.low (counted b z w))) is ∙ append-nil front in
           let read = bsd_read_back z w.log setup.rate fits.sizes rate_fits fits.calls in
           record {
-            form_is = ap form_of text ∙ bsd_form program setup w.log;
+            form_is = ap form_of text ∙ bsd_form (image_of program).text setup.hist setup.hash w.log setup.rate;
             accepted = ap (refusal_in Bsd) text ∙ read.0;
             records = ap (records_in Bsd) text ∙ read.1 ∙ ap (λ (rs : List Rec). record { form = Bsd; recs = rs }) (sym none);
             own = read.1;

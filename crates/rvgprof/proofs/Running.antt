@@ -28,7 +28,7 @@ use Rattle.rvgprof.proofs.Standing.{no_memory, may_stop_unless, refuses, goes_on
 pub not_started : (words : List (List ℕ)) (old new : Outside) (below : ℕ) (done : List Act) (image : Image) (setup : Setup) (next : Course) (fault : Fault) → ((contents : ℕ → List ℕ) → MayStop contents next [])
     → Stands words old new below done (unless start_fault_of (start_refusal image setup) next) → IsStartFault image setup fault → Acted words old new (Err fault)
 not_started words old new below done image setup next fault may s is =
-    subst (λ (fault : Fault). Acted words old new (Err fault)) (sym is.1) (by_refusal is.0 is.2)
+    subst (λ (fault : Fault). Acted words old new (Err fault)) (sym is.is) (by_refusal is.refusal is.due)
   where
     by_refusal : (refusal : StartRefusal) → IsRefusal refusal (start_refusal image setup) → Acted words old new (Err (start_fault_of refusal))
     by_refusal starts.OutOfMemory is =

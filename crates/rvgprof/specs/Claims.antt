@@ -7,6 +7,8 @@ use Rattle.std.specs.Int.{IsGcd, abs_diff}
 use Rattle.std.specs.Map.{keys_of}
 use Rattle.gp_base.specs.Bytes.{IsBytes, le, value_of}
 use Rattle.gp_base.specs.Spans.{is_in}
+use Rattle.gp_base.specs.declared.records.Span.{Span}
+use Rattle.gp_base.specs.declared.records.Form.{Form}
 use Rattle.gp_base.specs.declared.records.Form.TheVariants.{Bsd, Gnu}
 use Rattle.gp_base.specs.declared.records.Records.{Records}
 use Rattle.gp_base.specs.declared.refusal.GmonRefusal.{GmonRefusal}
@@ -27,6 +29,8 @@ use Rattle.gmon_gnu.specs.CountedRun.{block_recs}
 use Rattle.gmon_gnu.specs.Faults.{HasFault}
 use Rattle.gmon_gnu.specs.Grammar.{GnuSpells}
 use Rattle.gmon_gnu.specs.ProfileText.{profile_text}
+use Rattle.gmon_files.specs.Forms.{file_records, file_refusal, form_of}
+use Rattle.gmon_files.specs.Runs.{run_records, run_text}
 use Rattle.gmon_gnu.specs.Reading.{gnu_refusal, gnu_records}
 use Rattle.gmon_gnu.specs.Run.{run_recs, run_text as gnu_run_text}
 use Rattle.gmon_gnu.specs.Splitting.{profile_recs}
@@ -43,7 +47,7 @@ use Rattle.mcount_arcs.specs.Arcs.{CallFits, arcs_of, chain_in, looks_of}
 use Rattle.mcount_arcs.specs.Image.{entry_in, front_in, index_in}
 use Rattle.mcount_arcs.specs.Log.{CallIgnored, CallLost, Enter, IsLegal, LogEntry, Mode, Pair, Sample, distinct_count, entered_calls, is_busy, is_on, kept_calls, state_of}
 use Rattle.mcount_arcs.specs.Samples.{buckets_of, counted_samples}
-use Rattle.mcount_arcs.specs.Sizes.{AreSizes, bucket_range, text_span}
+use Rattle.mcount_arcs.specs.Sizes.{AreSizes, bucket_range, sizes_of, text_span}
 use Rattle.prof_machine.specs.declared.ending.End.{End}
 use Rattle.prof_machine.specs.declared.ending.End.TheVariants.{Budget, Exit, Trap}
 use Rattle.prof_machine.specs.declared.machine.Machine.{Machine}
@@ -130,6 +134,10 @@ pub record FileClaims : Type 0 where
       let text = profile_text p in
       let records : Records = record { form = Gnu; recs = profile_recs p } in
       GnuSpells text records × (gnu_refusal text ≡ None) × (content_of (wide_records (gnu_records text).recs) ≡ p)
+  -- in the form that its first four bytes choose, the file of a text's log is read as what was logged
+  pub run_file : (form : Form) (text : Span) (hist hash rate : ℕ) (log : List LogEntry) → AreSizes (sizes_of text hist hash) → rate < 2 ^ 32 → All CallFits (arcs_of (sizes_of text hist hash) log) →
+      let bytes = run_text form (sizes_of text hist hash) log rate in
+      (form_of bytes ≡ form) × (file_refusal bytes ≡ None) × (file_records bytes ≡ run_records form (sizes_of text hist hash) log rate)
 
 -- ---- profiles
 

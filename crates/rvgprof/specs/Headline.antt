@@ -1,9 +1,9 @@
--- What the commands leave that write, report or list a profile, in sentences of several parts: the file, the output, and
--- the time in the report.
+-- What the commands leave that write, report, sum up or list a profile, in sentences of several parts: the file, the
+-- output, and the time in the report.
 use Rattle.std.specs.Prelude.{◌≡◌, ◌≢◌, ◌<◌, ◌+◌, ◌*◌, ◌&&◌, ℕ, slice_index, Bool, true, false, List, [], ◌∷◌, ◌++◌, codes, Option, Some, None, option_map, Ok, IfSome, ⊤}
 use Rattle.elf32_syms.specs.Image.{image_of}
 use Rattle.gp_base.specs.declared.records.Form.{Form}
-use Rattle.gp_base.specs.declared.records.Form.TheVariants.{Gnu}
+use Rattle.gp_base.specs.declared.records.Form.TheVariants.{Bsd, Gnu}
 use Rattle.gmon_data.specs.Content.{runs_at}
 use Rattle.annotate.specs.Listing.{annotated_text}
 use Rattle.host_port.specs.Act.{complained, file_content}
@@ -25,10 +25,13 @@ use Rattle.prof_machine.specs.Executions.{executions_at, instructions_of}
 use Rattle.prof_machine.specs.Value.{summary_of}
 use Rattle.rvgprof.specs.declared.outcome.Done.{Done}
 use Rattle.command_words.specs.declared.words.Command.{Command}
-use Rattle.command_words.specs.declared.words.Command.TheVariants.{Run, Report, Profile, Annotate}
+use Rattle.command_words.specs.declared.words.Command.TheVariants.{Run, Report, Profile, Demo, Annotate}
 use Rattle.command_words.specs.declared.words.Shown.{Shown}
 use Rattle.command_words.specs.declared.words.Shown.TheVariants as shows
 use Rattle.command_words.specs.Items.{name_of}
+use Rattle.demo_elf.specs.Elf.{demo_program}
+use Rattle.mcount_arcs.specs.Log.{distinct_count, kept_calls}
+use Rattle.rvgprof.specs.Reports.{demo_summary, profile_sources}
 use Rattle.rvgprof.specs.Texts.{last_line}
 use Rattle.rvgprof.specs.Answer.{Chosen, chosen_by, chosen_sources, contents_of, wide_step}
 use Rattle.rvgprof.specs.Contract.{LineEnds, WhereTold}
@@ -153,10 +156,32 @@ pub record Headline (words : List (List ℕ)) (old new : Outside) (done : Done) 
   pub shared : TimeIsShared (reported chosen form program setup)
   pub fits : wide_step chosen.exact (reported chosen form program setup) ≡ None
 
--- what a command leaves where it is carried out, of those that write, report or list a profile
+-- what a demo's summary is made from
+abbrev pub demo_sources : ℕ → Setup → Sources
+demo_sources functions setup = profile_sources (image_of (demo_program functions)) (reported_profile Bsd (demo_program functions) setup)
+
+-- the summary: how its run went, its calls and cycles, all grains that are attributed, and those of the entries without
+-- callers from outside
+abbrev pub demo_lines_of : ℕ → Setup → List ℕ
+demo_lines_of functions setup =
+    let z = text_sizes (demo_program functions) setup in
+    let w = world_of (demo_program functions) setup in
+    let s = demo_sources functions setup in
+    demo_summary functions (distinct_count (kept_calls z w.log)) s.graph s.flow s.shares (summary_of z w)
+
+-- what `demo` leaves
+pub record DemoLeaves (words : List (List ℕ)) (old new : Outside) (done : Done) (functions : ℕ) (setup : Setup) : Type 0 where
+  -- what its program prints, and then the summary, were printed
+  pub output : Becomes (λ bytes. bytes ++ (prints_of (world_of (demo_program functions) setup).prints ++ demo_lines_of functions setup)) old.out new.out
+  pub told : RunIsTold words old new done setup (demo_program functions)
+  -- so that both numbers of grains in it are the same
+  pub shared : TimeIsShared (demo_sources functions setup)
+
+-- what a command leaves where it is carried out, of those that write, report, sum up or list a profile
 abbrev pub Leaves : List (List ℕ) → Outside → Outside → Done → Option Command → Type 0
 Leaves words old new done (Some (Run elf gmon form image setup)) = RunLeaves words old new done elf gmon form image setup
 Leaves words old new done (Some (Report elf gmons selection)) = ReportLeaves words old new elf gmons (chosen_by words selection)
 Leaves words old new done (Some (Profile elf gmon form image setup selection)) = Headline words old new done elf gmon form image setup (chosen_by words selection)
+Leaves words old new done (Some (Demo functions elf setup)) = DemoLeaves words old new done functions setup
 Leaves words old new done (Some (Annotate elf gmons)) = ListingLeaves words old new elf gmons
 Leaves words old new done command = ⊤

@@ -16,13 +16,13 @@ ghost use Rattle.rvgprof.specs.Standing.{IsDemoRead, IsDemoRefused, RunsDemo, St
 
 use crate::files::write_file;
 use crate::findings::{Findings, findings_of};
-use command_words::name_at;
 use crate::lines::put_number;
 use crate::outcome::{Done, Fault};
 use crate::printing::print_text;
 use crate::refusals::{elf_fault, report_fault};
 use crate::runs::run_alone;
 use call_cycles::Graph;
+use command_words::name_at;
 use elf32_syms::Image;
 use flat_report::ReportRefusal;
 use gmon_bsd::run_profile;

@@ -74,6 +74,7 @@ pub fn claims()
     gmon_gnu::laws::run_read_back();
     gmon_gnu::laws::counted_run_read_back();
     gmon_gnu::laws::profile_read_back();
+    gmon_files::laws::run_read_back();
     profile_sum::laws::sum_of_contents();
     profile_sum::laws::parts_have_sum();
     gmon_data::laws::records_add_up();

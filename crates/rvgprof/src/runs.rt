@@ -17,9 +17,9 @@ ghost use Rattle.rvgprof.specs.Standing.{IsRunOf, IsStartFault, IsStarted, RunsP
 ghost use Rattle.std.specs.Option.{option_map};
 
 use crate::files::write_file;
-use command_words::name_at;
 use crate::outcome::Fault;
 use crate::refusals::start_fault;
+use command_words::name_at;
 use elf32_syms::Image;
 use gp_base::Form;
 use host_port::{Failed, Host};

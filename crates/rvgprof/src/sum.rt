@@ -10,8 +10,8 @@ ghost use Rattle.rvgprof.specs.Standing.{Stands};
 ghost use Rattle.command_words.specs.Words.{AreRising};
 
 use crate::inputs::read_profiles;
-use command_words::name_at;
 use crate::outcome::{Done, Fault};
+use command_words::name_at;
 use gmon_data::Profile;
 use host_port::{Failed, Host};
 use std::alloc::Global;

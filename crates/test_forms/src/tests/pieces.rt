@@ -5,16 +5,16 @@ ghost use Rattle.gmon_data.specs.Content.{empty_content};
 ghost use Rattle.gmon_files.specs.FileRead.{IsFed, StandsFor};
 ghost use Rattle.gmon_files.specs.Forms.{FileSpells};
 
-use gmon_files::FileReader;
-use gmon_data::{AddRefusal, Profile, ReadRefusal, Unlike};
-use gp_base::{Form, GmonRefusal, Rec, Records};
-use std::alloc::{AllocError, Global};
-use std::process::Abort;
-use std::test::Fail;
 use crate::{
     BSD_RUN, GNU_RUN, HEADER_ALONE, LARGE_NUMBERS, SEVERAL, TWO_OF_EACH, large_bsd_file,
     large_gnu_file,
 };
+use gmon_data::{AddRefusal, Profile, ReadRefusal, Unlike};
+use gmon_files::FileReader;
+use gp_base::{Form, GmonRefusal, Rec, Records};
+use std::alloc::{AllocError, Global};
+use std::process::Abort;
+use std::test::Fail;
 use test_profiles::are_same;
 
 /// A GNU file of a histogram of rate 100, an arc of 7 calls, a histogram of rate 50, and an arc of 9 calls.

@@ -11,7 +11,8 @@ returns-then-n-left-clause-read g c =
     let moves = c.in_ok-n.ensures.moves in
     let reads = c.in_ok-n.ensures.counts in
     loading_long c.args.name.now c.args.limit c.in_ok-n.n far.0 c.read_front.new.piece (g.H.Host.outside c.args.host.now) (g.H.Host.outside c.loop-reader.host) (g.H.Host.outside c.read_front.new.host)
-    far.1 (g.met.H.Host.consistent c.loop-reader.host) moves.nothing_done (record { read = reads.own; write = reads.write; err = reads.err }) moves.came (omega (arith, len, c.if-n-left.true, was.within))
+    far.1 (g.met.H.Host.consistent c.loop-reader.host) moves.nothing_done (record { read = reads.own; write = reads.write; err = reads.err }) moves.came moves.rest (omega (arith, len, c.if-n-left.true, was.within))
+    (omega (arith, c.in_ok-n.ensures.few, c.min.ensures))
 
 pub loop-reader-preserved : goal.loop-reader-preserved
 loop-reader-preserved g c =
