@@ -2,7 +2,7 @@
 
 ghost use Rattle.std.specs.Prelude.{◌≤◌};
 
-use super::programs::{CALLS, LOOP, PRINTS, Program, elf, host_with};
+use super::programs::{CALLS, LOOP, PRINTS, Program, TELLS, elf, host_with};
 use super::rows::{Files, Row, gives, prints};
 use super::runs::{CALL_ANSWER, CALL_LINE};
 use super::{expect_printed, expect_status, joined, status};
@@ -235,17 +235,18 @@ fn words_of_a_profile_and_a_demo_are_refused(rt: HostRuntime) -> Result<(), Fail
     Ok(())
 }
 
-/// Profiles with one call that fails, looks at the answer, and tells the kind of the call, if it was made.
+/// Profiles a program with one call that fails, looks at the answer, and tells the kind of the call, if it was made.
 fn fails_at(
     rt: &impl Abort,
     alloc: Global,
+    program: &Program,
     whole: &[u8],
     step: usize,
     call: u64,
 ) -> Result<Option<HostCall>, AllocError>
     requires { 1 ≤ step }
 {
-    let mut host = host_with(alloc, &PRINTS)?;
+    let mut host = host_with(alloc, program)?;
     host.set_step(step);
     host.fail_at(call)?;
     let answer = status(alloc, &["profile", "e", "g", "--ram", "4"], &mut host)?;
@@ -281,25 +282,27 @@ fn expect_failed(
     assert!(rt; answer != 0 || is_whole, "call {call}, step {step}");
 }
 
-/// Lets each call of a profile fail in turn: so many of each kind, in their order, and no others.
+/// Lets each call of a profile fail in turn, from one on: so many of each kind, in their order, and no others.
 fn fail_by_kinds(
     rt: &impl Abort,
     alloc: Global,
+    program: &Program,
     whole: &[u8],
     step: usize,
-    kinds: &[(usize, HostCall)],
+    calls: (u64, &[(usize, HostCall)]),
 ) -> Result<(), AllocError>
     requires { 1 ≤ step }
 {
-    let mut call = 0u64;
+    let (first, kinds) = calls;
+    let mut call = first;
     for (calls, kind) in kinds {
         for _ in 0..*calls {
-            let failed = fails_at(rt, alloc, whole, step, call)?;
+            let failed = fails_at(rt, alloc, program, whole, step, call)?;
             assert_eq!(rt; failed, Some(*kind), "call {call}, step {step}");
             call = call.saturating_add(1);
         }
     }
-    let failed = fails_at(rt, alloc, whole, step, call)?;
+    let failed = fails_at(rt, alloc, program, whole, step, call)?;
     assert_eq!(rt; failed, None, "call {call}, step {step}");
     Ok(())
 }
@@ -307,13 +310,14 @@ fn fail_by_kinds(
 fn fail_in_turn(
     rt: &impl Abort,
     alloc: Global,
+    program: &Program,
     step: usize,
-    kinds: &[(usize, HostCall)],
+    calls: (u64, &[(usize, HostCall)]),
 ) -> Result<(), AllocError>
     requires { 1 ≤ step }
 {
     let whole = joined(alloc, &["\u{13}\u{5}\u{10}\0", EMPTY])?;
-    fail_by_kinds(rt, alloc, &whole, step, kinds)
+    fail_by_kinds(rt, alloc, program, &whole, step, calls)
 }
 
 const KINDS: [(usize, HostCall); 9] = [
@@ -328,9 +332,22 @@ const KINDS: [(usize, HostCall); 9] = [
     (1, HostCall::ErrOut),
 ];
 
+/// The same of the program that prints on the output alone.
+const TELLS_KINDS: [(usize, HostCall); 8] = [
+    (1, HostCall::OpenInput),
+    (3, HostCall::Read),
+    (1, HostCall::Out),
+    (1, HostCall::CreateOutput),
+    (1, HostCall::Write),
+    (1, HostCall::CloseOutput),
+    (3, HostCall::Out),
+    (1, HostCall::ErrOut),
+];
+
 #[test]
 fn each_failing_call_of_a_profile_has_its_answer(rt: HostRuntime) -> Result<(), Fail> {
-    fail_in_turn(&rt, rt.alloc(), usize::MAX, &KINDS)?;
+    fail_in_turn(&rt, rt.alloc(), &PRINTS, usize::MAX, (0, &KINDS))?;
+    fail_in_turn(&rt, rt.alloc(), &TELLS, usize::MAX, (0, &TELLS_KINDS))?;
     Ok(())
 }
 
@@ -353,7 +370,31 @@ fn each_failing_call_of_a_profile_has_its_answer_byte_by_byte(rt: HostRuntime) -
         (EMPTY.len(), HostCall::Out),
         (PRINTS_LINE.len(), HostCall::ErrOut),
     ];
-    fail_in_turn(&rt, rt.alloc(), 1, &kinds)?;
+    fail_in_turn(&rt, rt.alloc(), &PRINTS, 1, (0, &kinds))?;
+    Ok(())
+}
+
+const TELLS_LINE: &str =
+    "rvgprof: exit 4 after 7 instructions: 0 samples, 0 calls, 0 lost, arcs on\n";
+
+#[test]
+fn each_failing_call_of_a_profile_without_complaints_has_its_answer_byte_by_byte(
+    rt: HostRuntime,
+) -> Result<(), Fail> {
+    let program = elf(rt.alloc(), &TELLS)?;
+
+    // One call opens the program, and one reads each of its bytes. From the last one of these on.
+    let last_read = program.len() as u64;
+    let kinds = [
+        (2, HostCall::Read),
+        (4, HostCall::Out),
+        (1, HostCall::CreateOutput),
+        (32 + 2 * 7, HostCall::Write),
+        (1, HostCall::CloseOutput),
+        (EMPTY.len(), HostCall::Out),
+        (TELLS_LINE.len(), HostCall::ErrOut),
+    ];
+    fail_in_turn(&rt, rt.alloc(), &TELLS, 1, (last_read, &kinds))?;
     Ok(())
 }
 
@@ -559,6 +600,53 @@ fn profiles_of_the_demo_are_shown(rt: HostRuntime) -> Result<(), Fail> {
     let program = elf(rt.alloc(), &DEMO)?;
     for (options, line, len, text) in DEMO_PROFILES {
         demo_profile_is_shown(&rt, rt.alloc(), &program, options, (line, len, text))?;
+    }
+    Ok(())
+}
+
+/// So many bytes of the profile of the demo's run and a zero behind it, and the line that refuses them.
+const DEMO_REFUSED: [(usize, &str); 2] = [
+    (205, "rvgprof: bad profile d.out: rest at 204\n"),
+    (203, "rvgprof: bad profile d.out: rest at 192\n"),
+];
+
+/// The program that the demo writes.
+fn written_program(rt: &impl Abort, alloc: Global) -> Result<Vec<u8>, AllocError> {
+    let mut host = MemHost::new(alloc);
+    expect_status(rt, alloc, &["demo", "1", "--elf", "d.elf"], &mut host, 0)?;
+    host.file("d.elf").unwrap_or_default().to_vec(alloc)
+}
+
+/// The profile that a run of it writes.
+fn written_profile(rt: &impl Abort, alloc: Global) -> Result<Vec<u8>, AllocError> {
+    let mut host = MemHost::new(alloc);
+    host.put("d.elf", &written_program(rt, alloc)?)?;
+    expect_status(rt, alloc, &["run", "d.elf", "d.out"], &mut host, 0)?;
+    host.file("d.out").unwrap_or_default().to_vec(alloc)
+}
+
+fn demo_is_refused(
+    rt: &impl Abort,
+    alloc: Global,
+    profile: &[u8],
+    line: &str,
+) -> Result<(), AllocError> {
+    let mut host = MemHost::new(alloc);
+    host.put("d.out", profile)?;
+    expect_status(rt, alloc, &["show", "d.out"], &mut host, 3)?;
+    assert_eq!(rt; host.errors(), line.as_bytes());
+    assert_eq!(rt; host.printed().len(), 0, "{line}");
+    Ok(())
+}
+
+#[test]
+fn a_profile_of_the_demo_has_neither_more_nor_fewer_bytes(rt: HostRuntime) -> Result<(), Fail> {
+    let alloc = rt.alloc();
+    let mut profile = written_profile(&rt, alloc)?;
+    assert_eq!(rt; profile.len(), 204);
+    profile.push(0)?;
+    for (len, line) in DEMO_REFUSED {
+        demo_is_refused(&rt, alloc, profile.get(..len).unwrap_or_default(), line)?;
     }
     Ok(())
 }

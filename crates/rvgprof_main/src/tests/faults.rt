@@ -3,7 +3,7 @@
 ghost use Rattle.std.specs.Prelude.{◌≡◌, ◌≤◌, false, IfOk};
 ghost use Rattle.host_port.specs.Memory.{outside_of};
 
-use super::programs::{LOOP, PRINTS, TELLS, elf, patch, twisted};
+use super::programs::{LOOP, PRINTS, TELLS, ZERO, elf, patch, twisted};
 use super::rows::{Files, Row, fails_in_turn, gives_by};
 use super::sums::SUM;
 use super::{expect_status, status, status_of};
@@ -341,6 +341,19 @@ fn ends_without_its_line(
     Ok(())
 }
 
+#[test]
+fn no_profile_of_an_illegal_word_is_made(rt: HostRuntime) -> Result<(), Fail> {
+    let alloc = rt.alloc();
+    let file = elf(alloc, &ZERO)?;
+
+    // One call opens the program, and three read it.
+    let mut host = failing_host(alloc, &file, usize::MAX, 4)?;
+    expect_status(&rt, alloc, &["run", "e", "g"], &mut host, 6)?;
+    assert_eq!(rt; host.first_failed(), Some(HostCall::CreateOutput));
+    expect_line_alone(&rt, &host, "rvgprof: write fault\n");
+    Ok(())
+}
+
 /// The profile of four instructions of the endless loop, with a sample and an execution of each.
 const COUNTED: [u8; 68] = [
     0x67, 0x6D, 0x6F, 0x6E, 1, 0, 0, 0, 0, 0, 0, 0, 0, 0, 0, 0, 0, 0, 0, 0, // header
@@ -450,7 +463,7 @@ const TOLD: [u8; 46] = [
 ];
 
 /// Commands over the program that prints and ends.
-const TELLING: [Row<'static>; 2] = [
+const TELLING: [Row<'static>; 3] = [
     Row {
         words: &["profile", "e", "g", "--flat", "--exact", "--ram", "4"],
         answer: "Ok(Done { run: Some(RunSummary { end: Exit(4), retired: 7, samples: 0, calls: 0, lost: 0, state: On }) })",
@@ -461,6 +474,19 @@ attributed 0, outside 0, rate 100
 exact flow
 component 00010000 self 0 child 0/1
 attributed 0
+",
+        err: "rvgprof: exit 4 after 7 instructions: 0 samples, 0 calls, 0 lost, arcs on\n",
+        left: &TOLD,
+    },
+    Row {
+        words: &["profile", "e", "g", "--ram", "4"],
+        answer: "Ok(Done { run: Some(RunSummary { end: Exit(4), retired: 7, samples: 0, calls: 0, lost: 0, state: On }) })",
+        out: b"\x13\x05\x10\x00flat profile
+attributed 0, outside 0, rate 100
+  %time   cumulative       self      calls  self ms/call  total ms/call  name
+
+call graph
+index     %time        self    children                called  name
 ",
         err: "rvgprof: exit 4 after 7 instructions: 0 samples, 0 calls, 0 lost, arcs on\n",
         left: &TOLD,

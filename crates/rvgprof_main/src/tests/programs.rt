@@ -64,6 +64,12 @@ pub const TELLS: Program = Program {
     functions: &[("_start", 0)],
 };
 
+/// No instruction.
+pub const ZERO: Program = Program {
+    words: &[0],
+    functions: &[("_start", 0)],
+};
+
 /// The ELF file of a program. Its text stands at offset 4,096.
 pub fn elf(alloc: Global, program: &Program) -> Result<Vec<u8>, AllocError> {
     elf_of(alloc, program.words, program.functions)

@@ -1,6 +1,6 @@
 //! Programs that are run, what they print, and the files that they leave.
 
-use super::programs::{CALLS, LOOP, PRINTS, Program, elf, host_with, twisted};
+use super::programs::{CALLS, LOOP, PRINTS, Program, TELLS, ZERO, elf, host_with, twisted};
 use super::rows::{Files, Row, gives};
 use super::{expect_status, status};
 use gp_base::le4;
@@ -60,12 +60,6 @@ const WRITES: Program = Program {
 /// It makes an environment call that there is not, and ends with the answer.
 const ASKS: Program = Program {
     words: &[0x0010_0893, 0x0000_0073, 0x05D0_0893, 0x0000_0073],
-    functions: &[("_start", 0)],
-};
-
-/// No instruction.
-const ZERO: Program = Program {
-    words: &[0],
     functions: &[("_start", 0)],
 };
 
@@ -150,13 +144,20 @@ fn samples_are_counted_by_the_options(rt: HostRuntime) -> Result<(), Fail> {
     Ok(())
 }
 
-const ENDINGS: [Case; 5] = [
+const ENDINGS: [Case; 6] = [
     Case {
         program: &PRINTS,
         words: &["run", "e", "g", "--every", "9", "--ram", "4"],
         out: &[0x13, 0x05, 0x10, 0x00],
         err: b"\x13\x05\x10\x00rvgprof: exit 4 after 9 instructions: 0 samples, 0 calls, 0 lost, arcs on\n",
         shown: "bsd low 00010000 high 00010024 counters 9 rate 100\n",
+    },
+    Case {
+        program: &TELLS,
+        words: &["run", "e", "g"],
+        out: &[0x13, 0x05, 0x10, 0x00],
+        err: b"rvgprof: exit 4 after 7 instructions: 0 samples, 0 calls, 0 lost, arcs on\n",
+        shown: "bsd low 00010000 high 0001001c counters 7 rate 100\n",
     },
     Case {
         program: &ENDS,
@@ -394,14 +395,6 @@ const INCLUSIVE: Row = Row {
     ..STACKS
 };
 
-const UNKNOWN: Row = Row {
-    words: &SIX,
-    answer: "Ok(Done { run: Some(RunSummary { end: Budget, retired: 6, samples: 6, calls: 0, lost: 0, state: On }) })",
-    out: b"",
-    err: "rvgprof: budget after 6 instructions: 6 samples, 0 calls, 0 lost, arcs on\n",
-    left: b"",
-};
-
 const MANY: Row = Row {
     words: &[
         "folded", "e", "--every", "1", "--budget", "65536", "--ram", "4",
@@ -411,6 +404,9 @@ const MANY: Row = Row {
     err: "rvgprof: budget after 65536 instructions: 65536 samples, 0 calls, 0 lost, arcs on\n",
     left: b"",
 };
+
+/// No function has a sample.
+const UNKNOWN: Row = Row { out: b"", ..MANY };
 
 /// The file of the endless loop, whose symbol is no function, but an object.
 fn nameless(alloc: Global) -> Result<Vec<u8>, AllocError> {

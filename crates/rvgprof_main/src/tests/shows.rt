@@ -3,7 +3,7 @@
 use super::expect_status;
 use super::programs::{CALLS, LOOP, elf, twisted};
 use super::rows::{Files, Row, gives, prints, refuses};
-use host_port::MemHost;
+use host_port::{HostCall, MemHost};
 use std::alloc::{AllocError, Global};
 use std::process::Abort;
 use std::test::Fail;
@@ -161,6 +161,27 @@ const GNU_SHOWN: [Shown; 2] = [(87, &[], GNU_LINES), (20, &[], "gnu\n")];
 fn files_of_the_gnu_form_are_shown_or_refused(rt: HostRuntime) -> Result<(), Fail> {
     are_refused(&rt, rt.alloc(), &GNU, &GNU_REFUSED)?;
     are_shown(&rt, rt.alloc(), &GNU, &GNU_SHOWN)?;
+    Ok(())
+}
+
+/// A file of the GNU form with that histogram twice, the arc and the block.
+const TWO_HISTOGRAMS: [u8; 128] = [
+    0x67, 0x6D, 0x6F, 0x6E, 1, 0, 0, 0, 0, 0, 0, 0, 0, 0, 0, 0, 0, 0, 0, 0, // header
+    0, 0, 0, 1, 0, 0x10, 0, 1, 0, 4, 0, 0, 0, 100, 0, 0, 0, // tag, low, high, number, rate
+    0x73, 0x65, 0x63, 0x6F, 0x6E, 0x64, 0x73, 0, 0, 0, 0, 0, 0, 0, 0, 0x73, // seconds, s
+    1, 0, 2, 0, 0, 0, 0, 0, // counters
+    0, 0, 0, 1, 0, 0x10, 0, 1, 0, 4, 0, 0, 0, 100, 0, 0, 0, //
+    0x73, 0x65, 0x63, 0x6F, 0x6E, 0x64, 0x73, 0, 0, 0, 0, 0, 0, 0, 0, 0x73, //
+    1, 0, 2, 0, 0, 0, 0, 0, //
+    1, 4, 0, 1, 0, 8, 0, 1, 0, 0, 0, 0, 0, // from 0x10004 to 0x10008
+    2, 1, 0, 0, 0, 0, 0, 1, 0, 9, 0, 0, 0, // 9 at 0x10000
+];
+
+const TWO_HISTOGRAMS_REFUSED: [Refused; 1] = [(127, &[], "Short { at: 127 }", "short at 127")];
+
+#[test]
+fn a_file_of_two_histograms_is_refused_without_its_last_byte(rt: HostRuntime) -> Result<(), Fail> {
+    are_refused(&rt, rt.alloc(), &TWO_HISTOGRAMS, &TWO_HISTOGRAMS_REFUSED)?;
     Ok(())
 }
 
@@ -353,6 +374,38 @@ fn files_above_the_limit_are_too_large(rt: HostRuntime) -> Result<(), Fail> {
     let file = too_large(rt.alloc(), 67_108_864)?;
     for (command, len, answer, line) in LARGE {
         large_is_answered(&rt, rt.alloc(), front_of(&file, len), command, answer, line)?;
+    }
+    Ok(())
+}
+
+/// Looks at a command over a file above the limit where the call that tells of it fails.
+fn large_is_untold(
+    rt: &impl Abort,
+    alloc: Global,
+    file: &[u8],
+    command: &str,
+) -> Result<(), AllocError> {
+    let mut host = MemHost::new(alloc);
+    host.put("g", file)?;
+
+    // One call opens the file, 16,384 read the bytes up to the limit, and one more the last byte.
+    host.fail_at(16_386)?;
+    expect_status(rt, alloc, &[command, "g"], &mut host, 9)?;
+    expect_untold(rt, &host, command);
+    Ok(())
+}
+
+fn expect_untold(rt: &impl Abort, host: &MemHost, command: &str) {
+    assert_eq!(rt; host.first_failed(), Some(HostCall::ErrOut), "{command}");
+    assert_eq!(rt; host.errors().len(), 0, "{command}");
+    assert_eq!(rt; host.printed().len(), 0, "{command}");
+}
+
+#[test]
+fn files_above_the_limit_are_too_large_where_their_line_fails(rt: HostRuntime) -> Result<(), Fail> {
+    let file = too_large(rt.alloc(), 67_108_864)?;
+    for command in ["show", "syms"] {
+        large_is_untold(&rt, rt.alloc(), &file, command)?;
     }
     Ok(())
 }
