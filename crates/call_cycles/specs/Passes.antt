@@ -1,4 +1,5 @@
 -- A depth-first pass over functions and their arcs, and what holds after each of its steps.
+-- Only private functions and invariants speak of it.
 use Rattle.std.specs.Prelude.{◌≡◌, ◌≢◌, ◌<◌, ◌≤◌, ◌+◌, ◌-◌, ◌*◌, ◌^◌, ◌==◌, if◌then◌else◌, ℕ, suc, List, [], ◌∷◌, ◌++◌, length, take, drop, fold, replicate, slice_index, slice_index_or, slice_set}
 use Rattle.std.proofs.Common.{◌⊎◌}
 use Rattle.std.specs.List.{All, AllPairs, Contains, count_by, sum_by}

@@ -1,4 +1,5 @@
 -- What the symbols of the code stand for.
+-- Only private functions and invariants speak of it.
 use Rattle.std.specs.Prelude.{ℕ, ◌<◌, ◌≤◌, ◌^◌, List, length, string_bytes}
 use Rattle.std.specs.List.{All}
 use Rattle.demo_elf.specs.declared.code.DemoSymbol.{DemoSymbol}

@@ -1,4 +1,5 @@
 -- What holds while exact times are found: what steps read and write in a flow that is not whole yet.
+-- Only private functions and invariants speak of it.
 use Rattle.std.specs.Prelude.{◌≡◌, ◌<◌, ℕ, false, List, length, slice_index, slice_set}
 use Rattle.call_cycles.specs.Graph.{GraphValue, arc_at, arc_count, component_count, source_of, target_of, is_outside, entering_of}
 use Rattle.call_cycles.specs.Flow.{self_in}

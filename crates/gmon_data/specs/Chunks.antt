@@ -1,4 +1,5 @@
 -- A list that is kept in chunks.
+-- Only private functions and invariants speak of it.
 use Rattle.std.specs.Prelude.{◌≡◌, ℕ, ◌+◌, ◌<◌, ◌≤◌, List, [], ◌∷◌, length, slice_index}
 use Rattle.std.specs.List.{flat_map, AllByRecursion}
 use Rattle.std.specs.Global.{Vec}

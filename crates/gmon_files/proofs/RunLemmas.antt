@@ -1,5 +1,5 @@
 -- The file of a run has the form in which it is written, and is read as what was logged.
-use Rattle.std.proofs.Common.{◌≡◌, ℕ, ◌*◌, ◌/◌, ◌%◌, ◌^◌, ◌<◌, max, Bool, false, eqb, List, [], ◌∷◌, ◌++◌, take, None, refl, sym, ap, subst, if◌then◌else◌, arith}
+use Rattle.std.proofs.Common.{◌≡◌, ℕ, ◌*◌, ◌/◌, ◌%◌, ◌^◌, ◌<◌, max, Bool, false, eqb, List, [], ◌∷◌, ◌++◌, take, None, refl, sym, ap, subst, append-nil, if◌then◌else◌, arith}
 use Rattle.std.specs.Prelude.{bytes_eq, ◌&&◌}
 use Rattle.std.specs.List.{All}
 use Rattle.std.proofs.lemmas.Bool.Decides.{nat_tests}
@@ -40,10 +40,6 @@ pub gnu_form : (z : Sizes) (log : List LogEntry) (rate : ℕ) (more : List ℕ) 
 unfolding form_of gnu_run_text
 gnu_form z log rate more = refl
 
-gnu_form_alone : (z : Sizes) (log : List LogEntry) (rate : ℕ) → form_of (gnu_run_text z log rate) ≡ Gnu
-unfolding form_of gnu_run_text
-gnu_form_alone z log rate = refl
-
 pub says_log : RunFilesSayTheirLogs
 says_log Bsd text hist hash rate log sizes fits calls =
     let z = sizes_of text hist hash in
@@ -56,7 +52,7 @@ says_log Bsd text hist hash rate log sizes fits calls =
     }
 says_log Gnu text hist hash rate log sizes fits calls =
     let z = sizes_of text hist hash in
-    let is = gnu_form_alone z log rate in
+    let is = subst (λ (t : List ℕ). form_of t ≡ Gnu) (append-nil (gnu_run_text z log rate)) (gnu_form z log rate []) in
     let read = gnu_read_back z log rate sizes fits calls in
     record {
       form_is = is;

@@ -1,4 +1,5 @@
 -- The bytes of a profile's pieces, as they are written one after the other.
+-- Only private functions and invariants speak of it.
 use Rattle.std.specs.Prelude.{ℕ, List, [], ◌∷◌, ◌++◌, length, map, if◌then◌else◌}
 use Rattle.std.specs.List.{flat_map, range_with_len}
 use Rattle.gp_base.specs.declared.records.Unit as units

@@ -1,4 +1,5 @@
 -- What a call that is entered to its end changes in the block.
+-- Only private functions and invariants speak of it.
 use Rattle.std.specs.Prelude.{ℕ, zero, suc, ◌+◌, nat_lt, List, length, slice_index, slice_index_or, slice_set, if◌then◌else◌}
 use Rattle.gmon_block.specs.declared.entry.Tos.{Tos}
 use Rattle.gmon_block.specs.Layout.{Parts, no_entry}

@@ -1,4 +1,5 @@
 -- What the stages of a turn leave of a run's parts.
+-- Only private functions and invariants speak of it.
 use Rattle.std.specs.Prelude.{◌≡◌, ℕ, ◌+◌, ◌-◌, ◌%◌, ◌<◌, ◌≤◌, ◌==◌, Bool, false, Option, Some, None, slice_set, if◌then◌else◌, IsSome}
 use Rattle.rv_decode.specs.declared.instruction.Instr.{Instr}
 use Rattle.rv_step.specs.declared.stepped.TrapKind.TheVariants.{JumpMisaligned}

@@ -234,7 +234,7 @@ impl Run {
     /// What is told of a run that has ended. Its arcs' callees and counts have four bytes each.
     pub fn summary(&self) -> RunSummary
         requires { IsSome self.now.ending }
-        ensures told { (w : World) → StandsFor w self.now → summary_of self.now.machine.sizes w ≡ Some result }
+        ensures sums_up { (w : World) → StandsFor w self.now → summary_of self.now.machine.sizes w ≡ Some result }
         ensures end { self.now.ending ≡ Some result.end }
         ensures retired { result.retired ≡ self.now.retired }
         ensures fits { (w : World) → StandsFor w self.now → All CallFits (arcs_of self.now.machine.sizes w.log) }

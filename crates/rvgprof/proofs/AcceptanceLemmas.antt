@@ -40,7 +40,7 @@ use Rattle.annotate.specs.Listing.{annotated_text}
 use Rattle.flat_report.specs.Sources.{Sources}
 use Rattle.rvgprof.specs.Help.{help_text, version_text}
 use Rattle.gmon_files.specs.Forms.{file_refusal, file_records}
-use Rattle.rvgprof.specs.Answer.{Chosen, RunActs, chosen_by, chosen_sources, command_course, course_of, demo_lines, ended, exact_report, file_acts, files_named, fold_program, given_file_acts, list_profiles, print_reports, profile_file, profile_in, profiles, program, report_profiles, report_run, run_acts, run_program, show_lines, shown_reports, stacks_told, start_fault_of, sum_file, syms_lines, told, too_wide, wide_step, written_profile}
+use Rattle.rvgprof.specs.Answer.{Chosen, RunActs, chosen_by, chosen_sources, command_course, course_of, demo_lines, ended, exact_report, file_acts, files_named, fold_program, given_file_acts, list_profiles, print_reports, profile_file, profile_in, profiles, program, report_profiles, report_run, run_acts, run_program, show_lines, shown_reports, stacks_told, start_fault_of, sum_file, syms_lines, sums_up, too_wide, wide_step, written_profile}
 use Rattle.rvgprof.proofs.Summing.{nothing_added}
 use Rattle.rvgprof.specs.Acceptance.{IsProgramFile, IsLike, AreProfileFiles, IsAccepted, records_of, total_of, acts_at_once}
 
@@ -245,8 +245,8 @@ module _ (contents : ℕ → List ℕ) where
   accepted_by words (Some (Run elf gmon form image setup)) =
       let bytes = contents elf in
       let acts = run_acts (files_named words gmon form image) setup in
-      let read = program_done elf (run_program acts setup told) in
-      let starts = started_alone acts setup told bytes (image_of bytes) (λ z w. refl) in (
+      let read = program_done elf (run_program acts setup sums_up) in
+      let starts = started_alone acts setup sums_up bytes (image_of bytes) (λ z w. refl) in (
         (λ h.
             let one = read.0 h in
             (one.0, starts.0 one.1)),
@@ -261,7 +261,7 @@ module _ (contents : ℕ → List ℕ) where
       let next : Image → Sizes → World → Course = report_run form setup.rate chosen in
       let read = program_done elf (λ b i. run_program acts setup (next i) b i) in
       let starts = run_done acts setup (next (image_of bytes)) bytes (image_of bytes) in
-      let narrow = reports_done chosen (image_of bytes) (written_profile form z w.log setup.rate) (told z w) refl in (
+      let narrow = reports_done chosen (image_of bytes) (written_profile form z w.log setup.rate) (sums_up z w) refl in (
         (λ h.
             let one = read.0 h in
             let two = starts.0 one.1 in
@@ -347,10 +347,10 @@ module _ (contents : ℕ → List ℕ) where
   idle_by words (Some (Report elf gmons selection)) at_once = absurd cc
   idle_by words (Some (Run elf gmon form image setup)) at_once =
       let acts = run_acts (files_named words gmon form image) setup in
-      idle_program elf (run_program acts setup told) (λ bytes program.
+      idle_program elf (run_program acts setup sums_up) (λ bytes program.
       let z = sizes_of program.text setup.hist setup.hash in
       let w = final_world program bytes setup in
-      idle_unless start_fault_of (start_refusal program setup) (Does (acts z w) (told z w)) (idle_does (acts z w) (record { run = summary_of z w })))
+      idle_unless start_fault_of (start_refusal program setup) (Does (acts z w) (sums_up z w)) (idle_does (acts z w) (record { run = summary_of z w })))
   idle_by words (Some (Profile elf gmon form image setup selection)) at_once = absurd cc
   idle_by words (Some (Demo functions elf setup)) at_once = absurd cc
   idle_by words (Some (Annotate elf gmons)) at_once =

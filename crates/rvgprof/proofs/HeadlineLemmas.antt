@@ -56,12 +56,12 @@ use Rattle.command_words.specs.Items.{name_of}
 use Rattle.command_words.specs.Words.{command_of}
 use Rattle.rvgprof.specs.Course.{Course, Ends, Input, Does, Reply, unless, behind, reply_to}
 use Rattle.gmon_files.specs.Forms.{file_records, file_refusal}
-use Rattle.rvgprof.specs.Answer.{Chosen, RunFiles, all_reports, annotate_course, chosen_by, command_course, contents_of, demo_course, demo_lines, ended, exact_report, file_acts, files_named, given_file_acts, list_profiles, print_reports, profile_in, profiles, program, report_course, report_profiles, report_run, run_acts, run_program, shown_reports, start_fault_of, told, too_wide, wide_step, written_profile}
+use Rattle.rvgprof.specs.Answer.{Chosen, RunFiles, all_reports, annotate_course, chosen_by, command_course, contents_of, demo_course, demo_lines, ended, exact_report, file_acts, files_named, given_file_acts, list_profiles, print_reports, profile_in, profiles, program, report_course, report_profiles, report_run, run_acts, run_program, shown_reports, start_fault_of, sums_up, too_wide, wide_step, written_profile}
 use Rattle.demo_elf.specs.Elf.{demo_program}
 use Rattle.rvgprof.specs.Reports.{profile_sources}
 use Rattle.rvgprof.specs.Contract.{WhereTold, Answered}
 use Rattle.rvgprof.specs.Acceptance.{IsProgramFile, IsAccepted, Starts, records_of, total_of}
-use Rattle.rvgprof.specs.Headline.{DemoLeaves, ExecutionsAreListed, Headline, IsApart, Leaves, ListingLeaves, ReportLeaves, RunIsTold, RunIsWritten, RunLeaves, TimeIsShared, demo_lines_of, exact_of, printed_of, reported, reported_of, reports_of}
+use Rattle.rvgprof.specs.Headline.{DemoLeaves, ExecutionsAreListed, Headline, IsApart, Leaves, ListingLeaves, ReportLeaves, RunIsSummedUp, RunIsWritten, RunLeaves, TimeIsShared, demo_printed, exact_of, printed_of, reported, reported_of, reports_of}
 use Rattle.rvgprof.specs.RunFile.{FitsFile, FitsWhereTold, RunFits, SaysRun, gmon_text, memory_text, reported_profile, text_sizes, world_of}
 use Rattle.rvgprof.proofs.AcceptanceLemmas.{accepted}
 use Rattle.rvgprof.proofs.Summing.{nothing_added}
@@ -449,9 +449,9 @@ module _ (words : List (List ℕ)) (old new : Outside) (done : Done) (answered :
   was_printed acts text is did = Becomes-by _ _ old.out new.out (λ b. ap (λ (t : List ℕ). b ++ t) is) did.out
 
   -- a run, of which the acts that follow print nothing on the error output but the last line
-  run_is_told : (program : List ℕ) (setup : Setup) (acts : List Act) → Ok done ≡ ended_with program setup → complained acts ≡ complained (world_of program setup).prints ++ answered.line
-      → Did acts (opening answered.opens old) new → RunIsTold words old new done setup program
-  run_is_told program setup acts ending is did = record {
+  run_is_summed_up : (program : List ℕ) (setup : Setup) (acts : List Act) → Ok done ≡ ended_with program setup → complained acts ≡ complained (world_of program setup).prints ++ answered.line
+      → Did acts (opening answered.opens old) new → RunIsSummedUp words old new done setup program
+  run_is_summed_up program setup acts ending is did = record {
     summary = ap run_in ending;
     line = answered.line;
     before = answered.err;
@@ -467,13 +467,13 @@ module _ (words : List (List ℕ)) (old new : Outside) (done : Done) (answered :
       let line = Complain answered.line ∷ [] in
       let prints = (world_of (contents elf) setup).prints in
       let taken : IsAccepted words contents command = all_taken command said in
-      let reply = run_goes words contents elf gmon form image setup (λ i. told) (well_done command said) in
+      let reply = run_goes words contents elf gmon form image setup (λ i. sums_up) (well_done command said) in
       let did = subst (λ (acts : List Act). Did acts (opening answered.opens old) new) (append_assoc acts [] line) (done_by command _ said reply) in
       record {
         program = contents elf;
         written = run_is_written elf gmon form image setup line taken.0 taken.1 fits (λ x. refl) did;
         output = was_printed (acts ++ line) _ (run_prints words contents elf gmon form image setup line ∙ append-nil (prints_of prints)) did;
-        told = run_is_told (contents elf) setup (acts ++ line) (ended_by command _ said reply)
+        run = run_is_summed_up (contents elf) setup (acts ++ line) (ended_by command _ said reply)
             (run_complains words contents elf gmon form image setup line ∙ ap (λ (text : List ℕ). complained prints ++ text) (append-nil answered.line)) did;
       }
 
@@ -545,7 +545,7 @@ module _ (words : List (List ℕ)) (old new : Outside) (done : Done) (answered :
         written = run_is_written elf gmon form image setup (last ++ line) taken.0 taken.1 fits (reports_keep contents chosen sources _ answered.line) did;
         output = was_printed (acts ++ (last ++ line)) _ (run_prints words contents elf gmon form image setup (last ++ line)
             ∙ ap (λ (text : List ℕ). prints_of w.prints ++ text) (reports_print contents chosen sources _ answered.line)) did;
-        told = run_is_told program setup (acts ++ (last ++ line)) (ended_by command _ said reply ∙ reports_end contents chosen sources _)
+        run = run_is_summed_up program setup (acts ++ (last ++ line)) (ended_by command _ said reply ∙ reports_end contents chosen sources _)
             (run_complains words contents elf gmon form image setup (last ++ line) ∙ ap (λ (text : List ℕ). complained w.prints ++ text) (reports_complain contents chosen sources _ answered.line)) did;
         shared = time_is_shared (image_of program) (without_cuts (written_profile form z w.log setup.rate) (image_of program).symbols chosen.cuts);
         fits = taken.2;
@@ -560,8 +560,8 @@ module _ (words : List (List ℕ)) (old new : Outside) (done : Done) (answered :
       let reply = demo_goes contents functions name setup (well_done command said) in
       let did = done_by command _ said reply in
       record {
-        output = was_printed _ _ (demo_prints name bytes prints (demo_lines_of functions setup) answered.line) did;
-        told = run_is_told bytes setup _ (ended_by command _ said reply) (demo_complains name bytes prints (demo_lines_of functions setup) answered.line) did;
+        output = was_printed _ _ (demo_prints name bytes prints (demo_printed functions setup) answered.line) did;
+        run = run_is_summed_up bytes setup _ (ended_by command _ said reply) (demo_complains name bytes prints (demo_printed functions setup) answered.line) did;
         shared = time_is_shared (image_of bytes) (reported_profile Bsd bytes setup);
       }
 

@@ -18,7 +18,7 @@ use Rattle.prof_machine.specs.World.{World}
 use Rattle.rvgprof.specs.declared.outcome.Fault.{Fault}
 use Rattle.rvgprof.specs.declared.outcome.Fault.TheVariants.{WriteFault}
 use Rattle.rvgprof.specs.Course.{Course, Ends, Does, MayStop, unless}
-use Rattle.rvgprof.specs.Answer.{RunActs, run_program, start_fault_of, told}
+use Rattle.rvgprof.specs.Answer.{RunActs, run_program, start_fault_of, sums_up}
 use Rattle.host_port.specs.Performing.{Performs}
 use Rattle.rvgprof.specs.Contract.{Acted}
 use Rattle.rvgprof.specs.Standing.{IsRunOf, IsStartFault, IsStarted, Stands}
@@ -107,7 +107,7 @@ summary_is image bytes setup v summary is told =
 
 -- it is told
 pub run_told : (words : List (List ℕ)) (old new : Outside) (below : ℕ) (done : List Act) (image : Image) (bytes : List ℕ) (setup : Setup) (v : RunValue) (summary : RunSummary) → IsRunOf image bytes setup v
-    → ((w : World) → StandsFor w v → summary_of v.machine.sizes w ≡ Some summary) → Stands words old new below done (told (sizes_of image.text setup.hist setup.hash) (final_world image bytes setup)) → Acted words old new (Ok (record { run = Some summary }))
+    → ((w : World) → StandsFor w v → summary_of v.machine.sizes w ≡ Some summary) → Stands words old new below done (sums_up (sizes_of image.text setup.hist setup.hash) (final_world image bytes setup)) → Acted words old new (Ok (record { run = Some summary }))
 run_told words old new below done image bytes setup v summary is tells s =
     ends words old new below done (Ok (record { run = Some summary }))
     (subst (λ (r : Option RunSummary). Stands words old new below done (Ends (Ok (record { run = r })))) (summary_is image bytes setup v summary is tells) s) tt

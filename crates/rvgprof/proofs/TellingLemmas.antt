@@ -34,7 +34,7 @@ use Rattle.annotate.specs.Listing.{annotated_text}
 use Rattle.flat_report.specs.Sources.{Sources}
 use Rattle.host_port.specs.Act.{Act, Out}
 use Rattle.gmon_files.specs.Forms.{file_refusal, file_records}
-use Rattle.rvgprof.specs.Answer.{Chosen, RunActs, chosen_by, chosen_sources, command_course, course_of, demo_lines, ended, exact_report, files_named, fold_program, given_file_acts, list_profiles, print_reports, profile_file, profile_in, profiles, program, report_profiles, report_run, run_acts, run_program, show_lines, shown_reports, stacks_told, start_fault_of, sum_file, syms_lines, told, too_wide, wide_step, written_profile}
+use Rattle.rvgprof.specs.Answer.{Chosen, RunActs, chosen_by, chosen_sources, command_course, course_of, demo_lines, ended, exact_report, files_named, fold_program, given_file_acts, list_profiles, print_reports, profile_file, profile_in, profiles, program, report_profiles, report_run, run_acts, run_program, show_lines, shown_reports, stacks_told, start_fault_of, sum_file, syms_lines, sums_up, too_wide, wide_step, written_profile}
 use Rattle.elf32_syms.specs.declared.refusal.ElfRefusal.{ElfRefusal}
 use Rattle.elf32_syms.specs.declared.refusal.ElfRefusal.TheVariants as elf
 use Rattle.gp_base.specs.declared.refusal.GmonRefusal.{GmonRefusal}
@@ -125,7 +125,7 @@ told_of : {A : Type 0} (f : End → A) (ending : Option End) → IsSome ending �
 told_of f None h = absurd cc
 told_of f (Some end) h = refl
 
-summed_up : (contents : ℕ → List ℕ) (image : Image) (bytes : List ℕ) (setup : Setup) → IsSetup setup → Tells contents true (told (sizes_of image.text setup.hist setup.hash) (final_world image bytes setup))
+summed_up : (contents : ℕ → List ℕ) (image : Image) (bytes : List ℕ) (setup : Setup) → IsSetup setup → Tells contents true (sums_up (sizes_of image.text setup.hist setup.hash) (final_world image bytes setup))
 summed_up contents image bytes setup is = told_of _ (final_world image bytes setup).ending (plan_ends image bytes setup is.some_every is.some_budget)
 
 -- where nothing is told of a run, none was started
@@ -139,7 +139,7 @@ tells_by words contents (Report elf gmons selection) within =
     tells_profiles contents false gmons MAX_PROFILE_BYTES empty_content (λ total. print_reports chosen image total ended) (λ t. tells_reports contents false chosen image t ended refl))
 tells_by words contents (Run elf gmon form image setup) within =
     let acts = run_acts (files_named words gmon form image) setup in
-    tells_program contents true elf (run_program acts setup told) (λ bytes program. tells_run contents true acts setup told bytes program (summed_up contents program bytes setup within.0))
+    tells_program contents true elf (run_program acts setup sums_up) (λ bytes program. tells_run contents true acts setup sums_up bytes program (summed_up contents program bytes setup within.0))
 tells_by words contents (Profile elf gmon form image setup selection) within =
     let acts = run_acts (files_named words gmon form image) setup in
     let chosen = chosen_by words selection in
@@ -147,7 +147,7 @@ tells_by words contents (Profile elf gmon form image setup selection) within =
     tells_program contents true elf (λ b i. run_program acts setup (next i) b i) (λ bytes program.
     let z = sizes_of program.text setup.hist setup.hash in
     let w = final_world program bytes setup in
-    tells_run contents true acts setup (next program) bytes program (tells_reports contents true chosen program (written_profile form z w.log setup.rate) (told z w) (summed_up contents program bytes setup within.0.0)))
+    tells_run contents true acts setup (next program) bytes program (tells_reports contents true chosen program (written_profile form z w.log setup.rate) (sums_up z w) (summed_up contents program bytes setup within.0.0)))
 tells_by words contents (Annotate elf gmons) within =
     tells_program contents false elf (list_profiles gmons) (λ bytes image.
     tells_profiles contents false gmons MAX_PROFILE_BYTES empty_content (λ total. Does (Out (annotated_text image bytes total) ∷ []) ended) (λ t. refl))

@@ -72,7 +72,7 @@ use Rattle.call_cycles.specs.Values.{graph_in, profile_graph}
 use Rattle.call_cycles.specs.Flow.{FlowValue, IsFlow, carried_by, is_root, time_of, time_of_roots}
 use Rattle.call_cycles.specs.ExactFlow.{ExactTimes, IsExactFlow, exact_time_of_roots, outside_count}
 use Rattle.propagate.specs.ExactSolution.{exact_in}
-use Rattle.propagate.specs.Proportion.{carried_to}
+use Rattle.propagate.specs.Proportion.{IsInProportion, carried_to}
 use Rattle.propagate.specs.Solution.{flow_in}
 use Rattle.fraction128.specs.Fractions.{Fraction, gcd, lowest, product_of, sum_of as fraction_sum}
 use Rattle.exact_flow.specs.Solution.{exact_flow_in, times_in}
@@ -323,10 +323,6 @@ pub record ShareClaims : Type 0 where
 
 -- ---- graphs, and the time that flows over them
 
--- a part of a time is less than one away from what so many of all calls get in proportion, time * calls / all
-abbrev pub IsNear : ℕ → ℕ → ℕ → ℕ → Type 0
-IsNear part time calls all = (part * all < time * calls + all) × (time * calls < (part + 1) * all)
-
 pub record GraphClaims : Type 0 where
   -- functions and arcs have one numbering of components
   pub numbering : (g h : GraphValue) → IsGraph g → IsGraph h → g.functions ≡ h.functions → g.arcs ≡ h.arcs → (g.component ≡ h.component) × (g.heads ≡ h.heads)
@@ -357,7 +353,7 @@ pub record GraphClaims : Type 0 where
   -- an arc carries of both times of the component that it enters what its calls are of all that enter it ..
   pub parts : (g : GraphValue) (shares : List ℕ) (t : FlowValue) (i : ℕ) → IsGraph g → IsFlow g shares t → i < arc_count g → is_outside g i ≡ true →
       let d = target_of g i in
-      IsNear (slice_index t.arc_self i) (slice_index t.self d) (arc_at g i).count (entering_of g d) × IsNear (slice_index t.arc_child i) (slice_index t.child d) (arc_at g i).count (entering_of g d)
+      IsInProportion (slice_index t.arc_self i) (slice_index t.self d) (arc_at g i).count (entering_of g d) × IsInProportion (slice_index t.arc_child i) (slice_index t.child d) (arc_at g i).count (entering_of g d)
   -- .. and all arcs that enter a component carry together all that it has
   pub whole : (g : GraphValue) (shares : List ℕ) (t : FlowValue) (d : ℕ) → IsGraph g → IsFlow g shares t → d < component_count g → entering_of g d ≢ 0
       → (carried_to g (slice_index t.arc_self) d ≡ slice_index t.self d) × (carried_to g (slice_index t.arc_child) d ≡ slice_index t.child d)

@@ -73,9 +73,9 @@ pub record RunIsWritten (words : List (List ℕ)) (old new : Outside) (elf gmon 
   -- the file that is named for it holds the memory of the runtime, also where that is GMON
   pub memory : (place : ℕ) → image ≡ Some place → IfSome new.disk (λ d. file_content (name_of words place) d.files ≡ memory_text program setup)
 
--- How a run went is told: in the answer, and in the end line, of which a prefix is printed where complaining fails. The
+-- A run is summed up: in the answer, and in the end line, of which a prefix is printed where complaining fails. The
 -- number is how often complaining had failed before it.
-pub record RunIsTold (words : List (List ℕ)) (old new : Outside) (done : Done) (setup : Setup) (program : List ℕ) : Type 0 where
+pub record RunIsSummedUp (words : List (List ℕ)) (old new : Outside) (done : Done) (setup : Setup) (program : List ℕ) : Type 0 where
   pub summary : done.run ≡ summary_of (text_sizes program setup) (world_of program setup)
   pub line : List ℕ
   pub before : ℕ
@@ -114,7 +114,7 @@ pub record RunLeaves (words : List (List ℕ)) (old new : Outside) (done : Done)
   pub written : RunIsWritten words old new elf gmon form image setup program
   -- what the program prints was printed
   pub output : Becomes (λ bytes. bytes ++ prints_of (world_of program setup).prints) old.out new.out
-  pub told : RunIsTold words old new done setup program
+  pub run : RunIsSummedUp words old new done setup program
 
 -- what is reported of files: the sum of what they say, without the calls that are cut
 abbrev pub reported_of : Chosen → (ℕ → List ℕ) → ℕ → List ℕ → Sources
@@ -152,7 +152,7 @@ pub record Headline (words : List (List ℕ)) (old new : Outside) (done : Done) 
   pub written : RunIsWritten words old new elf gmon form image setup program
   -- what the program prints, and then the reports, were printed
   pub output : Becomes (λ bytes. bytes ++ (prints_of (world_of program setup).prints ++ printed_of chosen (reported chosen form program setup))) old.out new.out
-  pub told : RunIsTold words old new done setup program
+  pub run : RunIsSummedUp words old new done setup program
   pub shared : TimeIsShared (reported chosen form program setup)
   pub fits : wide_step chosen.exact (reported chosen form program setup) ≡ None
 
@@ -162,8 +162,8 @@ demo_sources functions setup = profile_sources (image_of (demo_program functions
 
 -- the summary: how its run went, its calls and cycles, all grains that are attributed, and those of the entries without
 -- callers from outside
-abbrev pub demo_lines_of : ℕ → Setup → List ℕ
-demo_lines_of functions setup =
+abbrev pub demo_printed : ℕ → Setup → List ℕ
+demo_printed functions setup =
     let z = text_sizes (demo_program functions) setup in
     let w = world_of (demo_program functions) setup in
     let s = demo_sources functions setup in
@@ -172,8 +172,8 @@ demo_lines_of functions setup =
 -- what `demo` leaves
 pub record DemoLeaves (words : List (List ℕ)) (old new : Outside) (done : Done) (functions : ℕ) (setup : Setup) : Type 0 where
   -- what its program prints, and then the summary, were printed
-  pub output : Becomes (λ bytes. bytes ++ (prints_of (world_of (demo_program functions) setup).prints ++ demo_lines_of functions setup)) old.out new.out
-  pub told : RunIsTold words old new done setup (demo_program functions)
+  pub output : Becomes (λ bytes. bytes ++ (prints_of (world_of (demo_program functions) setup).prints ++ demo_printed functions setup)) old.out new.out
+  pub run : RunIsSummedUp words old new done setup (demo_program functions)
   -- so that both numbers of grains in it are the same
   pub shared : TimeIsShared (demo_sources functions setup)
 

@@ -180,7 +180,7 @@ fn expect_blocks_in_parts(rt: &impl Abort, profile: &Profile) {
 
 #[test]
 fn the_parts_of_a_file(rt: HostRuntime) -> Result<(), Fail> {
-    let profile = added_in_parts(rt.alloc()).map_err(|_| "a profile")?;
+    let profile = added_in_parts(rt.alloc())?;
     assert_eq!(rt; profile.unit(), Some(PER_100));
     assert_eq!(rt; first_counters(&profile), [1, 2, 0, 0].as_slice());
     expect_arcs_in_parts(&rt, &profile);
@@ -351,20 +351,27 @@ fn histograms_that_are_unlike(rt: HostRuntime) {
     }
 }
 
-/// A profile of one pair and one block address, whose numbers have more than 32 bits.
-fn large_numbers(alloc: Global) -> Result<Profile, AllocError>
-    ensures arcs { IfOk result (λ profile. 0 < length profile.arcs) }
-    ensures blocks { IfOk result (λ profile. 0 < length profile.blocks) }
+/// A profile of one pair, with more calls than 32 bits can say.
+fn large_pair(alloc: Global) -> Result<Profile, AllocError>
+    ensures { IfOk result (λ profile. 0 < length profile.arcs) }
 {
     let mut profile = Profile::new(alloc);
     profile.reserve_arcs(100)?;
-    profile.reserve_blocks(100)?;
     profile.add_calls(0x1_0004, 0x1_0008, 1 << 58)?;
     profile.add_arc(RawArc {
         from: 0x1_0004,
         to: 0x1_0008,
         count: 5,
     })?;
+    Ok(profile)
+}
+
+/// A profile of one block address, with more executions than 32 bits can say.
+fn large_block(alloc: Global) -> Result<Profile, AllocError>
+    ensures { IfOk result (λ profile. 0 < length profile.blocks) }
+{
+    let mut profile = Profile::new(alloc);
+    profile.reserve_blocks(100)?;
     profile.add_runs(0x1_0000, 1 << 57)?;
     profile.add_block(RawBlock {
         addr: 0x1_0000,
@@ -373,20 +380,19 @@ fn large_numbers(alloc: Global) -> Result<Profile, AllocError>
     Ok(profile)
 }
 
-fn expect_large_numbers(rt: &impl Abort, profile: &Profile)
-    requires arcs { 0 < length profile.now.arcs }
-    requires blocks { 0 < length profile.now.blocks }
-{
+#[test]
+fn calls_of_64_bits(rt: HostRuntime) -> Result<(), Fail> {
+    let profile = large_pair(rt.alloc())?;
     assert_eq!(rt; profile.arc(0), (0x1_0004, 0x1_0008, (1 << 58) + 5));
-    assert_eq!(rt; profile.block(0), (0x1_0000, (1 << 57) + 9));
-    assert_eq!(rt; profile.block_of(0x1_0000), (1 << 57) + 9);
-    assert_eq!(rt; profile.block_of(0x1_0004), 0);
+    Ok(())
 }
 
 #[test]
-fn numbers_of_64_bits(rt: HostRuntime) -> Result<(), Fail> {
-    let profile = large_numbers(rt.alloc())?;
-    expect_large_numbers(&rt, &profile);
+fn executions_of_64_bits(rt: HostRuntime) -> Result<(), Fail> {
+    let profile = large_block(rt.alloc())?;
+    assert_eq!(rt; profile.block(0), (0x1_0000, (1 << 57) + 9));
+    assert_eq!(rt; profile.block_of(0x1_0000), (1 << 57) + 9);
+    assert_eq!(rt; profile.block_of(0x1_0004), 0);
     Ok(())
 }
 

@@ -8,7 +8,7 @@ use crate::{
 };
 use arc_filter::{cut, is_cut_word};
 use elf32_syms::{Symbol, SymbolList};
-use gmon_data::Profile;
+use gmon_data::{AddRefusal, Profile};
 use std::alloc::{AllocError, Global};
 use std::process::Abort;
 use std::test::Fail;
@@ -195,12 +195,20 @@ fn expect_calls_gone(rt: &impl Abort, left: &Profile, whole: &Profile) {
     assert_eq!(rt; whole.calls(), 7);
 }
 
+/// The calls by `main` of `a` are cut from some of each.
+fn calls_are_cut(rt: &impl Abort, alloc: Global, symbols: &[Symbol]) -> Result<(), AddRefusal>
+    requires { IsAscending symbols.now }
+{
+    let whole = profile_of_rows(alloc, SOME)?;
+    let left = cut_by(alloc, symbols, &whole, &["main/a"])?;
+    expect_calls_gone(rt, &left, &whole);
+    Ok(())
+}
+
 #[test]
 fn samples_and_executions_stay(rt: HostRuntime) -> Result<(), Fail> {
     let symbols = symbols(rt.alloc(), 4, &NAMES)?;
-    let whole = profile_of_rows(rt.alloc(), SOME)?;
-    let left = cut_by(rt.alloc(), symbols.as_slice(), &whole, &["main/a"])?;
-    expect_calls_gone(&rt, &left, &whole);
+    calls_are_cut(&rt, rt.alloc(), symbols.as_slice())?;
     Ok(())
 }
 
@@ -219,11 +227,18 @@ fn expect_fewer(rt: &impl Abort, left: &Profile) {
 }
 
 /// Each of sixteen words cuts two calls of every sixteenth function.
+fn ring_is_cut(rt: &impl Abort, alloc: Global, symbols: &[Symbol]) -> Result<(), AllocError>
+    requires { IsAscending symbols.now }
+{
+    let whole = ring_of_calls(alloc, 16, false)?;
+    let left = cut_by(alloc, symbols, &whole, &SIXTEEN_WORDS)?;
+    expect_fewer(rt, &left);
+    Ok(())
+}
+
 #[test]
 fn sixteen_cuts_in_two_million_arcs(rt: HostRuntime) -> Result<(), Fail> {
     let symbols = symbols(rt.alloc(), 65_536, &SIXTEEN_NAMES)?;
-    let whole = ring_of_calls(rt.alloc(), 16, false)?;
-    let left = cut_by(rt.alloc(), symbols.as_slice(), &whole, &SIXTEEN_WORDS)?;
-    expect_fewer(&rt, &left);
+    ring_is_cut(&rt, rt.alloc(), symbols.as_slice())?;
     Ok(())
 }

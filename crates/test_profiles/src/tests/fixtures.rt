@@ -1,8 +1,13 @@
+ghost use Rattle.std.specs.Prelude.{◌≤◌};
+
 use crate::{
-    Rows, are_same, even_profile, named_symbols, profile_of_calls, profile_of_rows,
-    profile_of_samples, ring_of_calls, seconds, symbols_at, symbols_in_reverse, symbols_of,
+    Calls, PER_100, Rows, are_same, even_profile, named_symbols, profile_of_calls, profile_of_rows,
+    profile_of_samples, ring_of_calls, symbols_at, symbols_in_reverse, symbols_of,
 };
-use gmon_data::Profile;
+use gmon_data::{AddRefusal, Profile};
+use gp_base::Unit;
+use std::alloc::{AllocError, Global};
+use std::process::Abort;
 use std::test::Fail;
 
 /// Low and high address, and samples, of the first histogram.
@@ -22,76 +27,118 @@ fn first_arc(profile: &Profile) -> (u32, u32, u64) {
     profile.arc(0)
 }
 
+const PER_50: Unit = Unit {
+    rate: 50,
+    ..PER_100
+};
+
+/// Histograms of which one has no addresses, more calls than are taken, and executions of one address.
+const SOME: Rows<'static> = Rows {
+    hists: &[(8, 16, 3), (16, 16, 9), (16, 20, 4)],
+    unit: PER_50,
+    arcs: &[(4, 8, 1 << 40), (12, 8, 0)],
+    blocks: &[(8, 5), (8, 6)],
+};
+
+fn expect_some(rt: &impl Abort, profile: &Profile) {
+    assert_eq!(rt; first_hist(profile), (8, 16, 7));
+    assert_eq!(rt; first_arc(profile), (4, 8, 2_147_483_647));
+    assert_eq!(rt;
+        (profile.hist_count(), profile.arc_count(), profile.blocks()),
+        (2, 2, 11)
+    );
+}
+
 #[test]
 fn profiles_of_rows(rt: HostRuntime) -> Result<(), Fail> {
-    let rows = Rows {
-        hists: &[(8, 16, 3), (16, 16, 9), (16, 20, 4)],
-        unit: seconds(50),
-        arcs: &[(4, 8, 1 << 40), (12, 8, 0)],
-        blocks: &[(8, 5), (8, 6)],
-    };
-    let profile = profile_of_rows(rt.alloc(), rows)?;
-    assert_eq!(rt; first_hist(&profile), (8, 16, 7));
-    assert_eq!(rt; first_arc(&profile), (4, 8, 2_147_483_647));
-    assert_eq!(rt; profile.hist_count(), 2);
-    assert_eq!(rt; profile.arc_count(), 2);
-    assert_eq!(rt; profile.blocks(), 11);
+    let profile = profile_of_rows(rt.alloc(), SOME)?;
+    expect_some(&rt, &profile);
     Ok(())
+}
+
+/// One of each.
+const ONE: Rows<'static> = Rows {
+    hists: &[(8, 16, 3)],
+    unit: PER_50,
+    arcs: &[(4, 8, 1), (12, 8, 0)],
+    blocks: &[(8, 5)],
+};
+
+/// What differs from one of each.
+const OTHERS: [(&'static str, Rows<'static>); 4] = [
+    (
+        "a histogram",
+        Rows {
+            hists: &[(8, 16, 4)],
+            ..ONE
+        },
+    ),
+    (
+        "its unit",
+        Rows {
+            unit: PER_100,
+            ..ONE
+        },
+    ),
+    (
+        "the order of arcs",
+        Rows {
+            arcs: &[(12, 8, 0), (4, 8, 1)],
+            ..ONE
+        },
+    ),
+    (
+        "executions",
+        Rows {
+            blocks: &[(8, 6)],
+            ..ONE
+        },
+    ),
+];
+
+/// Whether the profiles of two rows hold the same.
+fn have_same(alloc: Global, one: Rows<'_>, other: Rows<'_>) -> Result<bool, AddRefusal> {
+    let first = profile_of_rows(alloc, one)?;
+    let second = profile_of_rows(alloc, other)?;
+    Ok(are_same(&first, &second))
 }
 
 #[test]
 fn profiles_that_hold_the_same(rt: HostRuntime) -> Result<(), Fail> {
-    let rows = Rows {
-        hists: &[(8, 16, 3)],
-        unit: seconds(50),
-        arcs: &[(4, 8, 1), (12, 8, 0)],
-        blocks: &[(8, 5)],
-    };
-    let profile = profile_of_rows(rt.alloc(), rows)?;
-    let others = [
-        (
-            "a histogram",
-            Rows {
-                hists: &[(8, 16, 4)],
-                ..rows
-            },
-        ),
-        (
-            "its unit",
-            Rows {
-                unit: seconds(51),
-                ..rows
-            },
-        ),
-        (
-            "the order of arcs",
-            Rows {
-                arcs: &[(12, 8, 0), (4, 8, 1)],
-                ..rows
-            },
-        ),
-        (
-            "executions",
-            Rows {
-                blocks: &[(8, 6)],
-                ..rows
-            },
-        ),
-    ];
-    assert!(rt; are_same(&profile, &profile_of_rows(rt.alloc(), rows)?));
-    for (name, other) in others {
-        let other = profile_of_rows(rt.alloc(), other)?;
-        assert!(rt; !are_same(&profile, &other), "{name}");
+    assert!(rt; have_same(rt.alloc(), ONE, ONE)?);
+    for (name, other) in OTHERS {
+        assert!(rt; !have_same(rt.alloc(), ONE, other)?, "{name}");
     }
     Ok(())
 }
 
+/// The first arc of calls of functions.
+fn arc_of_calls(alloc: Global, calls: &[Calls]) -> Result<(u32, u32, u64), AllocError> {
+    let profile = profile_of_calls(alloc, calls)?;
+    Ok(first_arc(&profile))
+}
+
+/// The histogram of samples of functions.
+fn hist_of_samples(alloc: Global, samples: &[u64]) -> Result<(u32, u32, u64), AddRefusal> {
+    let profile = profile_of_samples(alloc, samples)?;
+    Ok(first_hist(&profile))
+}
+
 #[test]
 fn samples_and_calls_of_functions(rt: HostRuntime) -> Result<(), Fail> {
-    let calls = profile_of_calls(rt.alloc(), &[(1, 2, 9)])?;
-    assert_eq!(rt; first_arc(&calls), (0x1_0014, 0x1_0020, 9));
-    let samples = profile_of_samples(rt.alloc(), &[2, 0, 1])?;
-    assert_eq!(rt; first_hist(&samples), (0x1_0000, 0x1_0030, 3));
+    assert_eq!(rt;
+        arc_of_calls(rt.alloc(), &[(1, 2, 9)])?,
+        (0x1_0014, 0x1_0020, 9)
+    );
+    assert_eq!(rt;
+        hist_of_samples(rt.alloc(), &[2, 0, 1])?,
+        (0x1_0000, 0x1_0030, 3)
+    );
+    Ok(())
+}
+
+#[test]
+fn even_samples(rt: HostRuntime) -> Result<(), Fail> {
     let even = even_profile(rt.alloc(), 10, 4)?;
     assert_eq!(rt; first_hist(&even), (0x1_0000, 0x1_0028, 10));
     Ok(())
@@ -115,11 +162,17 @@ fn places_that_are_apart(rt: HostRuntime) -> Result<(), Fail> {
     Ok(())
 }
 
+/// How many arcs a ring of calls has.
+fn arcs_of_ring(alloc: Global, size: u32, cut: bool) -> Result<usize, AllocError>
+    requires { size ≤ 256 }
+{
+    let ring = ring_of_calls(alloc, size, cut)?;
+    Ok(ring.arc_count())
+}
+
 #[test]
 fn a_ring_and_a_cut_one(rt: HostRuntime) -> Result<(), Fail> {
-    let ring = ring_of_calls(rt.alloc(), 16, false)?;
-    assert_eq!(rt; ring.arc_count(), 2_097_152);
-    let cut = ring_of_calls(rt.alloc(), 256, true)?;
-    assert_eq!(rt; cut.arc_count(), 2_096_624);
+    assert_eq!(rt; arcs_of_ring(rt.alloc(), 16, false)?, 2_097_152);
+    assert_eq!(rt; arcs_of_ring(rt.alloc(), 256, true)?, 2_096_624);
     Ok(())
 }

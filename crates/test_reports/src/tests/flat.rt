@@ -2,18 +2,15 @@ ghost use Rattle.std.specs.Prelude.{IfOk};
 ghost use Rattle.elf32_syms.specs.Owners.{IsAscending};
 
 use super::printing::{
-    Report, THREE, THREE_CALLS, expect_each_failed, expect_long, expect_one_call, expect_text,
-    long_name, print_functions, with_lines,
+    Report, THREE, THREE_CALLS, called_by, expect_each_failed, expect_long, expect_one_call,
+    expect_text, long_name, print_functions, with_lines,
 };
 use gmon_data::AddRefusal;
 use host_port::MemHost;
 use std::alloc::{AllocError, Global};
 use std::process::Abort;
 use std::test::Fail;
-use test_profiles::{
-    Calls, Counted, Function, calls_of_first, even_profile, large_program, strings_of,
-    symbols_in_reverse,
-};
+use test_profiles::{Calls, Counted, Function, even_profile, large_program, strings_of};
 
 /// The first line.
 const TITLE: &[u8] = b"flat profile\n";
@@ -406,14 +403,9 @@ fn a_short_report_makes_one_call(rt: HostRuntime) -> Result<(), Fail> {
 fn many_callers(alloc: Global) -> Result<Counted, AddRefusal>
     ensures { IfOk result (λ counted. IsAscending counted.symbols) }
 {
-    let symbols = symbols_in_reverse(alloc, 4096)?;
-    let calls = calls_of_first(alloc, 2000)?;
     let samples = even_profile(alloc, 4096, 16)?;
-    Ok(Counted {
-        symbols,
-        samples,
-        calls,
-    })
+    let counted = called_by(alloc, 4096, 2000, samples)?;
+    Ok(counted)
 }
 
 const FIRST_OF_MANY: [&str; 3] = [
@@ -425,22 +417,28 @@ const FIRST_OF_MANY: [&str; 3] = [
 const LAST_OF_MANY: &[u8] =
     b"   0.02      4095.00       1.00                                          0ffd\n   0.02      4096.00       1.00                                          0ffe\n";
 
-#[test]
-fn many_functions(rt: HostRuntime) -> Result<(), Fail> {
-    let counted = many_callers(rt.alloc())?;
+fn expect_many(rt: &impl Abort, alloc: Global, counted: &Counted) -> Result<(), AllocError>
+    requires { IsAscending counted.now.symbols }
+{
     let totals = "attributed 4096000000, outside 0, rate 1";
-    let first = text(rt.alloc(), totals, &FIRST_OF_MANY)?;
+    let first = text(alloc, totals, &FIRST_OF_MANY)?;
     let len = 132 + 4096 * 78;
     expect_long(
-        &rt,
-        rt.alloc(),
+        rt,
+        alloc,
         Report::Flat,
-        &counted,
+        counted,
         1,
         first.as_slice(),
         LAST_OF_MANY,
         len,
-    )?;
+    )
+}
+
+#[test]
+fn many_functions(rt: HostRuntime) -> Result<(), Fail> {
+    let counted = many_callers(rt.alloc())?;
+    expect_many(&rt, rt.alloc(), &counted)?;
     Ok(())
 }
 

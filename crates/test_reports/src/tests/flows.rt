@@ -1,13 +1,15 @@
 ghost use Rattle.std.specs.Prelude.{◌≡◌, ◌^◌, ◌<◌, IfOk, length};
+ghost use Rattle.elf32_syms.specs.Owners.{IsAscending};
 ghost use Rattle.call_cycles.specs.Graph.{all_calls, arc_count, component_count};
 
 use crate::{Program, chain_of, program_of};
 use call_cycles::{Graph, graph};
+use elf32_syms::Symbol;
 use gmon_data::AddRefusal;
 use propagate::{Flow, flow};
 use std::alloc::{AllocError, Global};
 use std::test::Fail;
-use symbol_shares::shares;
+use symbol_shares::{Shares, shares};
 use test_profiles::{Calls, even_profile, ring_of_calls, symbols_of};
 
 /// Head, self time and child time of each component.
@@ -163,18 +165,35 @@ fn a_chain_of_1500(rt: HostRuntime) -> Result<(), Fail> {
     Ok(())
 }
 
+/// The graph of calls in a ring of these functions, of 256 addresses each, cut or not.
+fn ring_graph(alloc: Global, symbols: &[Symbol], cut: bool) -> Result<Graph, AllocError>
+    requires { IsAscending symbols.now }
+    ensures functions { IfOk result (λ g. g.functions ≡ length symbols.now) }
+    ensures few { IfOk result (λ g. all_calls g < 2 ^ 59) }
+{
+    let calls = ring_of_calls(alloc, 256, cut)?;
+    graph(alloc, &calls, symbols)
+}
+
+/// The shares of these functions, with a sample in each 4 addresses.
+fn even_shares(alloc: Global, symbols: &[Symbol]) -> Result<Shares, AddRefusal>
+    requires { IsAscending symbols.now }
+    ensures { IfOk result (λ s. length s.of ≡ length symbols.now) }
+{
+    let samples = even_profile(alloc, 4_194_304, 4)?;
+    let shares = shares(alloc, &samples, symbols)?;
+    Ok(shares)
+}
+
 /// 65,536 functions of 256 addresses each with a sample in each 4 addresses, and calls in a ring, cut or not.
 fn wide_ring(alloc: Global, cut: bool) -> Result<Program, AddRefusal>
     ensures each { IfOk result (λ p. length p.shares.of ≡ p.graph.functions) }
     ensures few { IfOk result (λ p. all_calls p.graph < 2 ^ 59) }
 {
     let symbols = symbols_of(alloc, 65_536, 256)?;
-    let calls = ring_of_calls(alloc, 256, cut)?;
-    let samples = even_profile(alloc, 4_194_304, 4)?;
-    Ok(Program {
-        graph: graph(alloc, &calls, symbols.as_slice())?,
-        shares: shares(alloc, &samples, symbols.as_slice())?,
-    })
+    let graph = ring_graph(alloc, symbols.as_slice(), cut)?;
+    let shares = even_shares(alloc, symbols.as_slice())?;
+    Ok(Program { graph, shares })
 }
 
 #[test]

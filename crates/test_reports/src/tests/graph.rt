@@ -4,8 +4,8 @@ ghost use Rattle.elf32_syms.specs.Owners.{IsAscending};
 mod rows;
 
 use super::printing::{
-    Report, THREE, THREE_CALLS, expect_each_failed, expect_long, expect_one_call, expect_text,
-    long_name, print_functions, with_lines,
+    Report, THREE, THREE_CALLS, called_by, expect_each_failed, expect_long, expect_one_call,
+    expect_text, long_name, print_functions, with_lines,
 };
 use call_cycles::graph;
 use exact_flow::exact;
@@ -21,8 +21,8 @@ use std::process::Abort;
 use std::test::Fail;
 use symbol_shares::shares;
 use test_profiles::{
-    Counted, calls_of_first, counted_functions, large_program, profile_of_calls,
-    profile_of_samples, strings_of, symbols_in_reverse,
+    Counted, counted_functions, large_program, profile_of_calls, profile_of_samples, strings_of,
+    symbols_in_reverse,
 };
 
 /// Prints the text of the exact flow of what was counted; false where a fraction is too wide.
@@ -180,19 +180,17 @@ fn exact_times(rt: HostRuntime) -> Result<(), Fail> {
     Ok(())
 }
 
+/// 35 samples of the first function.
+const SAMPLES_OF_THE_FIRST: &[u64] = &[35];
+
 /// A function that 35 others call once each. Those have greater addresses and names that fall, and its
 /// 35 samples are shared among them.
 fn many_callers(alloc: Global) -> Result<Counted, AddRefusal>
     ensures { IfOk result (λ counted. IsAscending counted.symbols) }
 {
-    let symbols = symbols_in_reverse(alloc, 36)?;
-    let calls = calls_of_first(alloc, 35)?;
-    let samples = profile_of_samples(alloc, &[35])?;
-    Ok(Counted {
-        symbols,
-        samples,
-        calls,
-    })
+    let samples = profile_of_samples(alloc, SAMPLES_OF_THE_FIRST)?;
+    let counted = called_by(alloc, 36, 35, samples)?;
+    Ok(counted)
 }
 
 /// The first entry of that report. Callers stand by address, and are numbered by name.
@@ -276,22 +274,28 @@ const FIRST_OF_THE_CHAIN: [&str; 8] = [
 const LAST_OF_THE_CHAIN: &[u8] =
     b"[1200]   100.00        0.00        0.03                        04af [1200]\n                       0.00        0.03                   2/2      04ae [1199]\n------------------------------------------------------------------------\n";
 
-#[test]
-fn many_functions(rt: HostRuntime) -> Result<(), Fail> {
-    let counted = chain(rt.alloc())?;
-    let first = text(rt.alloc(), &FIRST_OF_THE_CHAIN)?;
+fn expect_chain(rt: &impl Abort, alloc: Global, counted: &Counted) -> Result<(), AllocError>
+    requires { IsAscending counted.now.symbols }
+{
+    let first = text(alloc, &FIRST_OF_THE_CHAIN)?;
     // The two first lines, 1,200 own lines, 1,199 callers, 1,199 callees, one without callers, 1,200 rules.
     let len = 79 + 88_893 + 93_617 + 93_614 + 81 + 87_600;
     expect_long(
-        &rt,
-        rt.alloc(),
+        rt,
+        alloc,
         Report::Graph,
-        &counted,
+        counted,
         100,
         first.as_slice(),
         LAST_OF_THE_CHAIN,
         len,
-    )?;
+    )
+}
+
+#[test]
+fn many_functions(rt: HostRuntime) -> Result<(), Fail> {
+    let counted = chain(rt.alloc())?;
+    expect_chain(&rt, rt.alloc(), &counted)?;
     Ok(())
 }
 
@@ -315,21 +319,28 @@ fn expect_large_exact(rt: &impl Abort, alloc: Global, counted: &Counted) -> Resu
     Ok(())
 }
 
-#[test]
-fn functions_of_a_large_program(rt: HostRuntime) -> Result<(), Fail> {
-    let counted = large_program(rt.alloc())?;
+/// The call graph and the exact flow of a large program have their lengths.
+fn expect_large(rt: &impl Abort, alloc: Global, counted: &Counted) -> Result<(), AllocError>
+    requires { IsAscending counted.now.symbols }
+{
     // The two first lines; lines without callers, own lines but for their numbers, rules; the numbers.
     let len = 79 + 65_536 * (81 + 67 + 73) + 316_574;
     expect_long(
-        &rt,
-        rt.alloc(),
+        rt,
+        alloc,
         Report::Graph,
-        &counted,
+        counted,
         1,
         HEADER.as_bytes(),
         LAST_OF_A_LARGE_PROGRAM,
         len,
     )?;
-    expect_large_exact(&rt, rt.alloc(), &counted)?;
+    expect_large_exact(rt, alloc, counted)
+}
+
+#[test]
+fn functions_of_a_large_program(rt: HostRuntime) -> Result<(), Fail> {
+    let counted = large_program(rt.alloc())?;
+    expect_large(&rt, rt.alloc(), &counted)?;
     Ok(())
 }

@@ -1,17 +1,19 @@
 //! Reports that are printed, and what is expected of them.
 
-ghost use Rattle.std.specs.Prelude.{◌≤◌};
+ghost use Rattle.std.specs.Prelude.{◌≤◌, IfOk};
 ghost use Rattle.elf32_syms.specs.Owners.{IsAscending};
 
 use call_cycles::graph;
 use flat_report::ReportRefusal;
-use gmon_data::AddRefusal;
+use gmon_data::{AddRefusal, Profile};
 use host_port::{HostCall, MemHost};
 use propagate::flow;
 use std::alloc::{AllocError, Global};
 use std::process::Abort;
 use symbol_shares::shares;
-use test_profiles::{Calls, Counted, Function, counted_functions};
+use test_profiles::{
+    Calls, Counted, Function, calls_of_first, counted_functions, symbols_in_reverse,
+};
 
 /// Which report is printed.
 #[derive(Clone, Copy)]
@@ -64,6 +66,24 @@ pub fn print_functions(
     let counted = counted_functions(alloc, functions, calls)?;
     let printed = print(alloc, report, &counted, rate, hidden, host)?;
     Ok(printed)
+}
+
+/// Functions whose names fall, of which the first is called once by each of so many next ones.
+pub fn called_by(
+    alloc: Global,
+    functions: u16,
+    callers: u16,
+    samples: Profile,
+) -> Result<Counted, AllocError>
+    ensures { IfOk result (λ counted. IsAscending counted.symbols) }
+{
+    let symbols = symbols_in_reverse(alloc, functions)?;
+    let calls = calls_of_first(alloc, callers)?;
+    Ok(Counted {
+        symbols,
+        samples,
+        calls,
+    })
 }
 
 /// A text, and these lines behind it.

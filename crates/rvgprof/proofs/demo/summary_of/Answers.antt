@@ -25,4 +25,4 @@ returns c = λ w stands.
     ∙ ap (λ (n : ℕ). demo_run_line functions run counted n ++ grains_line c.attributed-attributed.result c.roots_of-roots.result) c.cycles_of-cycles.ensures
     ∙ ap (λ (n : ℕ). demo_run_line functions run counted (cycle_count s.graph) ++ grains_line n c.roots_of-roots.result) c.attributed-attributed.ensures.value
     ∙ ap (λ (n : ℕ). demo_run_line functions run counted (cycle_count s.graph) ++ grains_line (attributed_of s.shares) n) c.roots_of-roots.ensures.roots
-    ∙ ap (λ (o : Option RunSummary). demo_summary functions counted s.graph s.flow s.shares o) (sym (c.summary.ensures.told w stands))
+    ∙ ap (λ (o : Option RunSummary). demo_summary functions counted s.graph s.flow s.shares o) (sym (c.summary.ensures.sums_up w stands))

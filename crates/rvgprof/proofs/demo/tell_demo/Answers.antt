@@ -7,7 +7,7 @@ use Rattle.mcount_arcs.specs.Log.{distinct_count, kept_calls}
 use Rattle.mcount_arcs.specs.Sizes.{sizes_of}
 use Rattle.prof_machine.specs.Start.{final_world}
 use Rattle.prof_machine.specs.Value.{summary_of}
-use Rattle.rvgprof.specs.Answer.{demo_lines, told, written_profile}
+use Rattle.rvgprof.specs.Answer.{demo_lines, sums_up, written_profile}
 use Rattle.rvgprof.specs.Reports.{demo_summary, profile_sources}
 use Rattle.rvgprof.proofs.DemoLemmas.{summary_due}
 use Rattle.rvgprof.proofs.Profiling.{profile_written}
@@ -40,5 +40,5 @@ returns g c = λ words start below done bytes setup is rate s.
     let text = demo_summary c.args.functions (distinct_count (kept_calls z w.log)) made.graph made.flow made.shares (summary_of z w) in
     let due : c.bytes.result.now ≡ text = c.bytes.ensures.bytes ∙ summary_due c.args.functions image c.args.run.now c.in_ok-findings.findings total c.args.rate c.summary_of.result z w c.in_ok-findings.ensures c.summary_of.ensures is.stands is.sizes written in
     let printed = subst (λ (t : List ℕ). Reports t (g.H.Host.outside c.args.host.now) (g.H.Host.outside c.print_text.new.host) c.print_text.result) due c.print_text.ensures.printed in
-    goes_on_anyhow words start _ below (done ++ Out text ∷ []) (told z w) c.print_text.result
-    (after_text words start _ _ below done text (told z w) c.print_text.result s printed (λ e. ap g.H.Host.outside (c.print_text.ensures.idle e)))
+    goes_on_anyhow words start _ below (done ++ Out text ∷ []) (sums_up z w) c.print_text.result
+    (after_text words start _ _ below done text (sums_up z w) c.print_text.result s printed (λ e. ap g.H.Host.outside (c.print_text.ensures.idle e)))

@@ -3,7 +3,7 @@ use Rattle.std.specs.Prelude.{map, string_bytes}
 use Rattle.elf32_syms.specs.declared.image.Image.{Image}
 use Rattle.mcount_arcs.specs.Sizes.{sizes_of}
 use Rattle.prof_machine.specs.Start.{final_world}
-use Rattle.rvgprof.specs.Answer.{chosen_by, files_named, report_run, run_acts, run_program, told, written_profile}
+use Rattle.rvgprof.specs.Answer.{chosen_by, files_named, report_run, run_acts, run_program, sums_up, written_profile}
 use Rattle.rvgprof.specs.Course.{Course}
 use Rattle.rvgprof.proofs.Profiling.{profile_written}
 use Rattle.rvgprof.proofs.Reporting.{may_stop_reports, of_the_same}
@@ -38,7 +38,7 @@ returns-in_default-clause-acted g c =
     let ran = rw c.as_slice.ensures.value at c.in-Ok-run_program.ensures.runs in
     let s = ran _ (c.args.elf + 1) [] (report_run files.form c.args.setup.rate (chosen_by (map string_bytes c.args.words.now) c.args.selection.now) image) stands in
     no_memory words _ _ (c.args.elf + 1) s.0 (report_run files.form c.args.setup.rate (chosen_by (map string_bytes c.args.words.now) c.args.selection.now) image z w) s.1
-    (may_stop_reports (chosen_by (map string_bytes c.args.words.now) c.args.selection.now) image (written_profile files.form z w.log c.args.setup.rate) (told z w))
+    (may_stop_reports (chosen_by (map string_bytes c.args.words.now) c.args.selection.now) image (written_profile files.form z w.log c.args.setup.rate) (sums_up z w))
 
 pub returns-in-Ok-print_reports-clause-acted : goal.returns-in-Ok-print_reports-clause-acted
 returns-in-Ok-print_reports-clause-acted g c =
@@ -58,9 +58,9 @@ returns-in-Ok-print_reports-clause-acted g c =
     let fits = c.in-Ok-run_profile.ensures.fits in
     let rate = c.requires.within.0.rate in
     let written : total ≡ written_profile files.form z w.log c.args.setup.rate = profile_written files.form c.gmon.result.now z w.log c.args.setup.rate total (gmon.log w is.stands) (gmon.sizes ∙ is.sizes) fits.0 fits.1 (omega arith) (c.in-Ok-run_profile.ensures.log w.log (gmon.log w is.stands)) in
-    let here = of_the_same words _ _ (c.args.elf + 1) s.0 (chosen_by (map string_bytes c.args.words.now) c.args.selection.now) image total (written_profile files.form z w.log c.args.setup.rate) (told z w) written s.1 in
-    let told_so = c.in-Ok-print_reports.ensures.prints words _ (c.args.elf + 1) s.0 (told z w) here in
-    run_told words _ _ (c.args.elf + 1) told_so.0 image bytes c.args.setup c.in-Ok-run_program.run' c.summary.result is c.summary.ensures.told told_so.1
+    let here = of_the_same words _ _ (c.args.elf + 1) s.0 (chosen_by (map string_bytes c.args.words.now) c.args.selection.now) image total (written_profile files.form z w.log c.args.setup.rate) (sums_up z w) written s.1 in
+    let told_so = c.in-Ok-print_reports.ensures.prints words _ (c.args.elf + 1) s.0 (sums_up z w) here in
+    run_told words _ _ (c.args.elf + 1) told_so.0 image bytes c.args.setup c.in-Ok-run_program.run' c.summary.result is c.summary.ensures.sums_up told_so.1
 
 pub returns-clause-acted : goal.returns-clause-acted
 returns-clause-acted g c =
@@ -80,8 +80,8 @@ returns-clause-acted g c =
     let fits = c.in-Ok-run_profile.ensures.fits in
     let rate = c.requires.within.0.rate in
     let written : total ≡ written_profile files.form z w.log c.args.setup.rate = profile_written files.form c.gmon.result.now z w.log c.args.setup.rate total (gmon.log w is.stands) (gmon.sizes ∙ is.sizes) fits.0 fits.1 (omega arith) (c.in-Ok-run_profile.ensures.log w.log (gmon.log w is.stands)) in
-    let here = of_the_same words _ _ (c.args.elf + 1) s.0 (chosen_by (map string_bytes c.args.words.now) c.args.selection.now) image total (written_profile files.form z w.log c.args.setup.rate) (told z w) written s.1 in
-    c.in-Err-print_reports.ensures.prints words _ (c.args.elf + 1) s.0 (told z w) here
+    let here = of_the_same words _ _ (c.args.elf + 1) s.0 (chosen_by (map string_bytes c.args.words.now) c.args.selection.now) image total (written_profile files.form z w.log c.args.setup.rate) (sums_up z w) written s.1 in
+    c.in-Err-print_reports.ensures.prints words _ (c.args.elf + 1) s.0 (sums_up z w) here
 
 pub returns-in-Ok-print_reports-clause-fits : goal.returns-in-Ok-print_reports-clause-fits
 returns-in-Ok-print_reports-clause-fits g c =

@@ -5,7 +5,7 @@ use Rattle.host_port.specs.declared.side.Side.TheVariants.{Output}
 use Rattle.host_port.proofs.PerformingLemmas.{puts_performs}
 use Rattle.prof_machine.specs.Start.{final_world}
 use Rattle.mcount_arcs.specs.Sizes.{sizes_of}
-use Rattle.rvgprof.specs.Answer.{fold_program, told}
+use Rattle.rvgprof.specs.Answer.{fold_program, sums_up}
 use Rattle.rvgprof.specs.FoldedReport.{folded_report}
 use Rattle.rvgprof.proofs.Folding.{text_is}
 use Rattle.rvgprof.proofs.Running.{run_told}
@@ -36,9 +36,9 @@ returns-in-Ok-write g c =
     let t = ran words _ (c.args.elf + 1) [] c.args.inclusive s in
     let text = folded_report c.args.inclusive image bytes setup in
     let puts = rw (text_is c.args.inclusive image bytes setup c.in-Ok-fold_program.done.1 t.2) at (rw c.as_slice-2.ensures at c.in-Ok-write.ensures) in
-    let after = told (sizes_of image.text setup.hist setup.hash) (final_world image bytes setup) in
+    let after = sums_up (sizes_of image.text setup.hist setup.hash) (final_world image bytes setup) in
     let u = does {T = Unit {0}} words _ _ _ (c.args.elf + 1) t.0 (Out text ∷ []) after (tt {0}) t.1 (puts_performs Output text _ _ _ puts) refl in
-    run_told words _ _ (c.args.elf + 1) _ image bytes setup c.in-Ok-fold_program.done.0 c.summary.result is c.summary.ensures.told u
+    run_told words _ _ (c.args.elf + 1) _ image bytes setup c.in-Ok-fold_program.done.0 c.summary.result is c.summary.ensures.sums_up u
 
 pub returns : goal.returns
 returns g c =
@@ -51,4 +51,4 @@ returns g c =
     let t = ran words _ (c.args.elf + 1) [] c.args.inclusive s in
     let text = folded_report c.args.inclusive image bytes setup in
     let puts = rw (text_is c.args.inclusive image bytes setup c.in-Ok-fold_program.done.1 t.2) at (rw c.as_slice-2.ensures at c.in-Err-write.ensures) in
-    fails {T = Unit {0}} words _ _ _ (c.args.elf + 1) t.0 (Out text ∷ []) (told (sizes_of image.text setup.hist setup.hash) (final_world image bytes setup)) c.in-Err-write.field-0 t.1 (puts_performs {T = Unit {0}} Output text _ _ _ puts)
+    fails {T = Unit {0}} words _ _ _ (c.args.elf + 1) t.0 (Out text ∷ []) (sums_up (sizes_of image.text setup.hist setup.hash) (final_world image bytes setup)) c.in-Err-write.field-0 t.1 (puts_performs {T = Unit {0}} Output text _ _ _ puts)
