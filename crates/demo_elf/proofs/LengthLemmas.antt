@@ -1,8 +1,7 @@
 -- How long a file is.
-use Rattle.std.proofs.Common.{◌≡◌, ◌<◌, ◌≤◌, ◌^◌, ◌%◌, ℕ, ◌+◌, ◌-◌, ◌*◌, List, [], ◌∷◌, ◌++◌, length, map, replicate, refl, ap, sym, ◌∙◌, arith, length-append}
+use Rattle.std.proofs.Common.{◌≡◌, ◌≤◌, ◌^◌, ℕ, ◌+◌, ◌*◌, List, [], ◌∷◌, ◌++◌, length, map, replicate, refl, arith, length-append}
 use Rattle.std.specs.List.{flat_map}
 use Rattle.std.proofs.lemmas.List.{length-replicate, length-map}
-use Rattle.std.proofs.lemmas.List.Concat.{flat_map-cons}
 use Rattle.demo_elf.specs.declared.code.DemoSymbol.{DemoSymbol}
 use Rattle.demo_elf.specs.Elf.{word, words_text, halves_text, padding_of, names_at, headers_at, file_header, program_header, symbol_text, symbols_from, symbols_text, strings_text, names_text, section_headers, front_text, back_text, elf_file}
 use Rattle.demo_elf.specs.Symbols.{symbol_of, AreSmall}

@@ -1,6 +1,6 @@
 -- The rows from which a report is printed.
 -- Only private functions and invariants speak of it.
-use Rattle.std.specs.Prelude.{◌≡◌, ℕ, ◌^◌, ◌<◌, ◌≤◌, List, [], length, map, if◌then◌else◌}
+use Rattle.std.specs.Prelude.{◌≡◌, ℕ, ◌^◌, ◌<◌, ◌≤◌, List, [], map, if◌then◌else◌}
 use Rattle.flat_report.specs.declared.sources.Sources as declared
 use Rattle.flat_report.specs.declared.rows.Row.{Row}
 use Rattle.flat_report.specs.Sources.{Sources}

@@ -1,7 +1,6 @@
 -- The file of a run has the form in which it is written, and is read as what was logged.
-use Rattle.std.proofs.Common.{◌≡◌, ℕ, ◌*◌, ◌/◌, ◌%◌, ◌^◌, ◌<◌, max, Bool, false, eqb, List, [], ◌∷◌, ◌++◌, take, None, refl, sym, ap, subst, append-nil, if◌then◌else◌, arith}
+use Rattle.std.proofs.Common.{◌≡◌, ℕ, ◌*◌, ◌/◌, ◌%◌, max, Bool, false, eqb, List, [], ◌∷◌, ◌++◌, take, None, refl, sym, ap, subst, append-nil, if◌then◌else◌, arith}
 use Rattle.std.specs.Prelude.{bytes_eq, ◌&&◌}
-use Rattle.std.specs.List.{All}
 use Rattle.std.proofs.lemmas.Bool.Decides.{nat_tests}
 use Rattle.gp_base.specs.declared.records.Form.{Form}
 use Rattle.gp_base.specs.declared.records.Form.TheVariants.{Bsd, Gnu}
@@ -11,11 +10,10 @@ use Rattle.gmon_bsd.proofs.RunReadBack.{run_read_back as bsd_read_back}
 use Rattle.gmon_gnu.specs.Run.{run_text as gnu_run_text, run_records as gnu_run_records}
 use Rattle.gmon_gnu.proofs.RunReadBack.{run_read_back as gnu_read_back}
 use Rattle.mcount_arcs.specs.declared.sizes.Sizes.{Sizes}
-use Rattle.mcount_arcs.specs.Arcs.{CallFits, arcs_of}
 use Rattle.mcount_arcs.specs.Log.{LogEntry}
-use Rattle.mcount_arcs.specs.Sizes.{AreSizes, sizes_of}
+use Rattle.mcount_arcs.specs.Sizes.{sizes_of}
 use Rattle.gmon_files.specs.Forms.{form_of, records_in, refusal_in}
-use Rattle.gmon_files.specs.Runs.{RunFilesSayTheirLogs, SaysLog, run_text}
+use Rattle.gmon_files.specs.Runs.{RunFilesSayTheirLogs}
 
 -- a file that begins with the low address of a text isn't of the GNU form: the address is even, and a `g` is odd
 even_front : (low k : ℕ) (rest : List ℕ) → low ≡ 2 * k → form_of (low % 256 ∷ rest) ≡ Bsd

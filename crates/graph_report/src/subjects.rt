@@ -4,7 +4,7 @@ ghost use Rattle.std.specs.Prelude.{◌≡◌};
 ghost use Rattle.graph_report.specs.Entries.{first_function, kind_of};
 
 /// A cycle as a whole, known by its head, or a function.
-#[derive(Clone, Copy, Debug, PartialEq, Eq)]
+#[derive(Clone, Copy)]
 pub enum Subject {
     Cycle(u32),
     Function(u32),

@@ -2,7 +2,7 @@
 
 ghost use Rattle.std.specs.Prelude.{◌≡◌, ◌↔◌, IsTrue, IfOk};
 
-use crate::stepped::Stepped;
+use crate::stepped::{Stepped, TracedStep};
 use std::alloc::AllocError;
 
 /// Whether two answers are the same.
@@ -14,6 +14,13 @@ pub fn same_answers(a: &Stepped, b: &Stepped) -> bool
 
 /// The same answer.
 pub fn copied_answers(a: &Stepped) -> Result<Stepped, AllocError>
+    ensures { IfOk result (λ b. b ≡ a.now) }
+{
+    a.clone()
+}
+
+/// The same answer with its instruction.
+pub fn copied_traced(a: &TracedStep) -> Result<TracedStep, AllocError>
     ensures { IfOk result (λ b. b ≡ a.now) }
 {
     a.clone()

@@ -1,6 +1,6 @@
 -- The file of a run is read as what happened in it.
-use Rattle.std.proofs.Common.{◌≡◌, ℕ, zero, suc, ◌+◌, ◌*◌, ◌/◌, ◌%◌, ◌^◌, ◌<◌, ◌≤◌, max, Bool, true, false, eqb, cond, List, [], ◌∷◌, ◌++◌, take, map, fold, length, slice_get, slice_index, filter_map, Option, Some, None, unwrap_or, append-nil, refl, sym, ap, subst, ◌∙◌, true≢false, if◌then◌else◌, arith}
-use Rattle.std.specs.Prelude.{bytes_eq, not, IsSome, nat_eq, ◌&&◌}
+use Rattle.std.proofs.Common.{◌≡◌, ℕ, zero, suc, ◌+◌, ◌*◌, ◌^◌, ◌<◌, ◌≤◌, Bool, true, false, eqb, cond, List, [], ◌∷◌, ◌++◌, map, fold, length, slice_get, slice_index, filter_map, Option, Some, None, unwrap_or, append-nil, refl, sym, ap, subst, ◌∙◌, true≢false, if◌then◌else◌, arith}
+use Rattle.std.specs.Prelude.{not, IsSome, nat_eq}
 use Rattle.std.specs.List.{AllByRecursion, cons_option, range_with_len}
 use Rattle.std.specs.Map.{lookup}
 use Rattle.std.proofs.lemmas.Bool.{eq-eqb, eqb-true}
@@ -34,7 +34,6 @@ use Rattle.gmon_gnu.proofs.ProfileReadBack.{profile_read_back}
 use Rattle.gmon_gnu.proofs.RunReadBack.{run_read_back as gnu_read_back}
 use Rattle.mcount_arcs.specs.declared.sizes.Sizes.{Sizes}
 use Rattle.mcount_arcs.specs.Arcs.{arcs_of}
-use Rattle.mcount_arcs.specs.Log.{LogEntry}
 use Rattle.mcount_arcs.specs.Samples.{buckets_of}
 use Rattle.mcount_arcs.specs.Sizes.{AreSizes}
 use Rattle.prof_machine.specs.declared.ending.End.{End}

@@ -1,6 +1,6 @@
 use Rattle.std.proofs.Common.{◌≤◌, ◌+◌, ◌*◌, length, sum, subst, sym, arith}
 use Rattle.gmon_data.specs.declared.hist.Hist.{Hist}
-use Rattle.gmon_data.specs.Content.{Content, with_hist}
+use Rattle.gmon_data.specs.Content.{Content}
 use Rattle.gmon_data.specs.Sizes.{IsOfBytes}
 use Rattle.gmon_data.proofs.SizeLemmas.{more_bytes, of_nothing, one_hist, within_limits}
 use Rattle.test_profiles.proofs.tests.contents.one_histogram.Goals as goal

@@ -1,4 +1,4 @@
-use Rattle.std.proofs.Common.{◌≡◌, ◌+◌, ◌*◌, subst, sym, arith}
+use Rattle.std.proofs.Common.{◌+◌, ◌*◌, subst, sym, arith}
 use Rattle.gmon_data.specs.Content.{Content}
 use Rattle.test_profiles.specs.AtMost.{IsAtMost}
 use Rattle.test_profiles.proofs.AtMostLemmas.{at_most_none, more_at_most, one_call_more, one_run_more, within_at_most}

@@ -1,0 +1,34 @@
+//! That equality and copies of operations and instructions say what they seem to: each is pinned by a clause.
+
+ghost use Rattle.std.specs.Prelude.{◌≡◌, ◌↔◌, IsTrue, IfOk};
+
+use crate::instruction::{Instr, Op};
+use std::alloc::AllocError;
+
+/// Whether two operations are the same.
+pub fn same_ops(a: &Op, b: &Op) -> bool
+    ensures { IsTrue result ↔ (a.now ≡ b.now) }
+{
+    a == b
+}
+
+/// The same operation.
+pub fn copied_ops(a: &Op) -> Result<Op, AllocError>
+    ensures { IfOk result (λ b. b ≡ a.now) }
+{
+    a.clone()
+}
+
+/// Whether two instructions are the same.
+pub fn same_instrs(a: &Instr, b: &Instr) -> bool
+    ensures { IsTrue result ↔ (a.now ≡ b.now) }
+{
+    a == b
+}
+
+/// The same instruction.
+pub fn copied_instrs(a: &Instr) -> Result<Instr, AllocError>
+    ensures { IfOk result (λ b. b ≡ a.now) }
+{
+    a.clone()
+}
