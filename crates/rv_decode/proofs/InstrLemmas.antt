@@ -32,6 +32,7 @@ op_decides x y = search rules
 pub instr_decides : (a b : Instr) → Decides (sameb the_type a.op b.op && (eqb a.rd b.rd && (eqb a.rs1 b.rs1 && (eqb a.rs2 b.rs2 && int_eq a.imm b.imm)))) (a ≡ b)
 instr_decides a b =
     let numbers = Decides-and _ _ (Decides-eqb a.rd b.rd) (Decides-and _ _ (Decides-eqb a.rs1 b.rs1) (Decides-and _ _ (Decides-eqb a.rs2 b.rs2) (Decides-int_eq a.imm b.imm))) in
-    let fields = Decides-and _ _ (op_decides a.op b.op) numbers in
-    (λ yes. let p = fields.0 yes in same_fields a b p.0 p.1.0 p.1.1.0 p.1.1.1.0 p.1.1.1.1,
-     λ same. fields.1 (ap (λ (i : Instr). i.op) same, (ap (λ (i : Instr). i.rd) same, (ap (λ (i : Instr). i.rs1) same, (ap (λ (i : Instr). i.rs2) same, ap (λ (i : Instr). i.imm) same)))))
+    let fields = Decides-and _ _ (op_decides a.op b.op) numbers in (
+      λ yes. let p = fields.0 yes in same_fields a b p.0 p.1.0 p.1.1.0 p.1.1.1.0 p.1.1.1.1,
+      λ same. fields.1 (ap (λ (i : Instr). i.op) same, (ap (λ (i : Instr). i.rd) same, (ap (λ (i : Instr). i.rs1) same, (ap (λ (i : Instr). i.rs2) same, ap (λ (i : Instr). i.imm) same)))),
+    )
