@@ -69,12 +69,13 @@ joins_more name bytes buf n (Some d') (Some d) (Some r') (Some r) disk rest came
     ∙ joins
     ∙ ap (λ (x : Disk). file_content name x.files) d_is
 
-pub loading_more : (name : List ℕ) (limit n : ℕ) (bytes before buf : List ℕ) (old mid new : Outside) → Loading name limit bytes old mid → Did [] mid new → new.is_open ≡ true → KeepsCounts mid new
+pub loading_more : (name : List ℕ) (limit n : ℕ) (bytes before buf : List ℕ) (old mid new : Outside) → Loading name limit bytes old mid → Did [] mid new → new.is_open ≡ true → new.at_end ≡ false → KeepsCounts mid new
     → IfSome mid.rest (λ rest. Came n rest buf) → Becomes (drop n) mid.rest new.rest → length bytes + n ≤ limit → Loading name limit (bytes ++ take n buf) old new
-loading_more name limit n bytes before buf old mid new far did open_still counts came rest fits = record {
+loading_more name limit n bytes before buf old mid new far did open_still going counts came rest fits = record {
   did = Did-then [] [] (opening 1 old) mid new far.did did;
   counts = record { read = counts.read ∙ far.counts.read; write = counts.write ∙ far.counts.write; err = counts.err ∙ far.counts.err };
   is_open = open_still;
+  going = going;
   within = omega (arith, length-append bytes (take n buf), length-take n buf, fits);
   joins = joins_more name bytes buf n mid.disk new.disk mid.rest new.rest did.disk rest came far.joins;
 }

@@ -176,6 +176,7 @@ pub fn read_pieces<H: Host>(
 /// Moves at most `most` bytes of the input to the front of a piece, and answers how many.
 fn read_front<H: Host>(host: &mut H, piece: &mut [u8], most: usize) -> Result<usize, Failed>
     requires is_open { (H.outside host.old).is_open ≡ true }
+    requires going { (H.outside host.old).at_end ≡ false }
     requires some { 0 < most }
     requires room { most ≤ length piece.old }
     ensures moves { Moves piece.old piece.new (H.outside host.old) (H.outside host.new) result }

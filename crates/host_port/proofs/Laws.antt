@@ -92,11 +92,12 @@ Did-nothing x = record {
 }
 
 pub KeepsInput-same : (x : Outside) → KeepsInput x x
-KeepsInput-same x = record { open_stays = refl; rest_stays = Becomes-same x.rest }
+KeepsInput-same x = record { open_stays = refl; end_stays = refl; rest_stays = Becomes-same x.rest }
 
 pub KeepsInput-then : (x y z : Outside) → KeepsInput x y → KeepsInput y z → KeepsInput x z
 KeepsInput-then x y z p q = record {
   open_stays = q.open_stays ∙ p.open_stays;
+  end_stays = q.end_stays ∙ p.end_stays;
   rest_stays = Becomes-then (λ r. r) (λ r. r) x.rest y.rest z.rest p.rest_stays q.rest_stays;
 }
 

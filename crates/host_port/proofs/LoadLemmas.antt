@@ -1,5 +1,5 @@
 -- Loading a file piece by piece.
-use Rattle.std.proofs.Common.{◌≡◌, ℕ, ◌≤◌, true, List, [], ◌++◌, length, Option}
+use Rattle.std.proofs.Common.{◌≡◌, ℕ, ◌≤◌, true, false, List, [], ◌++◌, length, Option}
 use Rattle.std.specs.Prelude.{IfSome}
 use Rattle.host_port.specs.Act.{Disk, file_content}
 use Rattle.host_port.specs.Outside.{Outside, Did, KeepsCounts, opening}
@@ -13,5 +13,6 @@ pub record Loading (name : List ℕ) (limit : ℕ) (bytes : List ℕ) (old now :
   pub did : Did [] (opening 1 old) now
   pub counts : KeepsCounts old now
   pub is_open : now.is_open ≡ true
+  pub going : now.at_end ≡ false
   pub within : length bytes ≤ limit
   pub joins : Joins name bytes now.disk now.rest

@@ -1,5 +1,5 @@
 -- What each call on a host does, by the outside before and after it.
-use Rattle.std.specs.Prelude.{◌≡◌, ℕ, ◌<◌, ◌≤◌, true, false, List, [], ◌∷◌, length, take, drop, Some, Result, IfOk, OnOk, OnErr, IfSome, MatchResult, is_ok, is_err, ◌↔◌}
+use Rattle.std.specs.Prelude.{◌≡◌, ◌==◌, ℕ, ◌<◌, ◌≤◌, true, false, List, [], ◌∷◌, length, take, drop, Some, Result, IfOk, OnOk, OnErr, IfSome, MatchResult, is_ok, is_err, ◌↔◌}
 use Rattle.host_port.specs.Act.{Act, Disk, file_content, Create, Write, Close, Out}
 use Rattle.host_port.specs.Act.{Err as Complain}
 use Rattle.host_port.specs.Outside.{Outside, Becomes, Did, KeepsInput, Rose, opening}
@@ -42,6 +42,7 @@ IfTold o P = IfSome o.disk P
 pub record Opens {T E : Type 0} (name : List ℕ) (old new : Outside) (result : Result T E) : Type 0 where
   pub nothing_done : Did [] (opening 1 old) new
   pub opened : new.is_open ≡ is_ok result
+  pub from_start : OnOk result (new.at_end ≡ false)
   pub rest : OnOk result (IfTold new (λ d. new.rest ≡ Some (file_content name d.files)))
 
 -- n bytes of the rest came into the buffer, none exactly where none was left
@@ -53,6 +54,7 @@ pub record Came (n : ℕ) (rest after : List ℕ) : Type 0 where
 pub record Moves {E : Type 0} (before after : List ℕ) (old new : Outside) (result : Result ℕ E) : Type 0 where
   pub nothing_done : Did [] old new
   pub still_open : OnOk result (new.is_open ≡ true)
+  pub at_end : MatchResult result (λ n. new.at_end ≡ (n == 0)) (λ _. new.at_end ≡ old.at_end)
   pub fits : IfOk result (λ n. n ≤ length before)
   pub came : IfOk result (λ n. IfSome old.rest (λ rest. Came n rest after))
   pub rest : MatchResult result (λ n. Becomes (drop n) old.rest new.rest) (λ _. Becomes (λ rest. rest) old.rest new.rest)

@@ -9,8 +9,9 @@ use Rattle.host_port.specs.Entries.{rest_at}
 
 pub record Memory : Type 0 where
   pub files : List File
-  -- what is left of the open input
+  -- what is left of the open input, and whether a read has come to its end
   pub rest : Option (List ℕ)
+  pub at_end : Bool
   -- the file that is being written
   pub writing : Option (List ℕ)
   pub out : List ℕ
@@ -36,6 +37,7 @@ outside_of m = record {
   out = Some m.out;
   err = Some m.err;
   is_open = is_some m.rest;
+  at_end = m.at_end;
   rest = m.rest;
   is_writing = is_some m.writing;
   read_faults = m.read_faults;
@@ -50,6 +52,7 @@ abbrev pub empty_memory : Memory
 empty_memory = record {
   files = [];
   rest = None;
+  at_end = false;
   writing = None;
   out = [];
   err = [];

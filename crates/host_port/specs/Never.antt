@@ -8,6 +8,8 @@ use Rattle.host_port.specs.Outside.{Outside, IsConsistent}
 pub record Never : Type 0 where
   pub files : List File
   pub rest : Option (List ℕ)
+  -- whether a read has come to the end of the open input
+  pub at_end : Bool
   -- whether it still tells its files
   pub tells : Bool
   pub is_writing : Bool
@@ -21,6 +23,7 @@ outside_of n = record {
   out = None;
   err = None;
   is_open = is_some n.rest;
+  at_end = n.at_end;
   rest = if n.tells then n.rest else None;
   is_writing = not n.tells && n.is_writing;
   read_faults = 0;

@@ -9,8 +9,9 @@ pub record Outside : Type 0 where
   -- what was printed on the output and on the error output
   pub out : Option (List ℕ)
   pub err : Option (List ℕ)
-  -- whether an input is open, and what is left of it
+  -- whether an input is open, whether a read has come to its end, and what is left of it
   pub is_open : Bool
+  pub at_end : Bool
   pub rest : Option (List ℕ)
   pub is_writing : Bool
   -- how often reading, writing and complaining failed
@@ -55,6 +56,7 @@ pub record Did (acts : List Act) (old new : Outside) : Type 0 where
 -- the input stays as it was
 pub record KeepsInput (old new : Outside) : Type 0 where
   pub open_stays : new.is_open ≡ old.is_open
+  pub end_stays : new.at_end ≡ old.at_end
   pub rest_stays : Becomes (λ rest. rest) old.rest new.rest
 
 -- a count of faults rose, or stands at its end

@@ -14,7 +14,7 @@ pub struct Entry {
 }
 
 /// A place in a file: its number among the files, and how many bytes were read.
-#[derive(Clone, Copy)]
+#[derive(Drop)]
 pub struct Place {
     pub file: usize,
     pub at: usize,

@@ -24,9 +24,11 @@ pub trait Host {
         ensures opens { Opens name.now (outside self.old) (outside self.new) result }
         ensures counts { Reads (outside self.old) (outside self.new) result };
 
-    /// Moves bytes of the input to the front of `buf`, and answers how many: 0 exactly at its end.
+    /// Moves bytes of the input to the front of `buf`, and answers how many: 0 exactly at its end, behind
+    /// which nothing more is read.
     fn read(&mut self, buf: &mut [u8]) -> Result<usize, Failed>
         requires is_open { (outside self.old).is_open ≡ true }
+        requires going { (outside self.old).at_end ≡ false }
         requires some_room { 0 < length buf.old }
         ensures moves { Moves buf.old buf.new (outside self.old) (outside self.new) result }
         ensures counts { Reads (outside self.old) (outside self.new) result };

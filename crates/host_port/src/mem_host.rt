@@ -42,6 +42,8 @@ pub struct MemHost {
     alloc: Global,
     entries: Vec<Entry>,
     stage: Stage,
+    // A read has come to the end of the input.
+    at_end: bool,
     out: Vec<u8>,
     err: Vec<u8>,
     calls: u64,
@@ -66,6 +68,7 @@ impl Model for MemHost {
     ghost view = { λ a. record {
       files = files_of a.entries.items;
       rest = rest_of (files_of a.entries.items) a.stage;
+      at_end = a.at_end;
       writing = writing_of a.stage;
       out = a.out.items;
       err = a.err.items;
@@ -102,6 +105,7 @@ impl MemHost {
             alloc,
             entries: Vec::new(alloc),
             stage: Stage::Idle,
+            at_end: false,
             out: Vec::new(alloc),
             err: Vec::new(alloc),
             calls: 0,
@@ -358,6 +362,7 @@ impl Host for MemHost {
         let fails = self.starts_work();
         self.opened = self.opened.saturating_add(1);
         self.close_input();
+        self.at_end = false;
         if fails || !self.begin_reading(name) {
             return Err(self.read_failed(HostCall::OpenInput));
         }
@@ -366,6 +371,7 @@ impl Host for MemHost {
 
     fn read(&mut self, buf: &mut [u8]) -> Result<usize, Failed>
         requires is_open { (outside_of self.old).is_open ≡ true }
+        requires going { (outside_of self.old).at_end ≡ false }
         requires some_room { 0 < length buf.old }
         ensures moves { Moves buf.old buf.new (outside_of self.old) (outside_of self.new) result }
         ensures counts { Reads (outside_of self.old) (outside_of self.new) result }
@@ -377,7 +383,9 @@ impl Host for MemHost {
         if self.starts_work() {
             return Err(self.read_failed(HostCall::Read));
         }
-        Ok(self.take_rest(buf))
+        let n = self.take_rest(buf);
+        self.at_end = n == 0;
+        Ok(n)
     }
 
     fn create_output(&mut self, name: &str) -> Result<(), Failed>

@@ -1,6 +1,6 @@
 //! A host that never fails.
 
-ghost use Rattle.std.specs.Prelude.{◌≡◌, ◌<◌, [], true, false, length, min, drop, unwrap_or, option_map, Some, None, IsOk, IfOk, IfSome, OnOk, OnErr};
+ghost use Rattle.std.specs.Prelude.{◌≡◌, ◌==◌, ◌<◌, [], true, false, length, min, drop, unwrap_or, option_map, Some, None, IsOk, IfOk, IfSome, OnOk, OnErr};
 ghost use Rattle.host_port.specs.Act.{Write, Out, Err as Complain, file_content, next_count, with_file};
 ghost use Rattle.host_port.specs.Host.{Came, Opens, Moves, Creates, Takes, Closes, Reads, Writes, Complains};
 ghost use Rattle.host_port.specs.Never.{outside_of, is_consistent};
@@ -19,6 +19,7 @@ pub struct NeverFails {
     alloc: Global,
     entries: Vec<Entry>,
     input: Option<Place>,
+    at_end: bool,
     tells: bool,
     is_writing: bool,
     opened: u64,
@@ -34,6 +35,7 @@ impl Model for NeverFails {
     ghost view = { λ a. record {
       files = files_of a.entries.items;
       rest = rest_in (files_of a.entries.items) a.input;
+      at_end = a.at_end;
       tells = a.tells;
       is_writing = a.is_writing;
       opened = a.opened;
@@ -44,12 +46,13 @@ impl Model for NeverFails {
 impl NeverFails {
     /// A host with no files, which takes no memory yet.
     pub fn new(alloc: Global) -> NeverFails
-        ensures { result ≡ record { files = []; rest = None; tells = true; is_writing = false; opened = 0; file_changes = 0 } }
+        ensures { result ≡ record { files = []; rest = None; at_end = false; tells = true; is_writing = false; opened = 0; file_changes = 0 } }
     {
         NeverFails {
             alloc,
             entries: Vec::new(alloc),
             input: None,
+            at_end: false,
             tells: true,
             is_writing: false,
             opened: 0,
@@ -82,28 +85,36 @@ impl Host for NeverFails {
         ensures succeeds { IsOk result }
         ensures after { self.new ≡ record self.old {
           rest = Some (file_content name.now self.old.files);
+          at_end = false;
           opened = next_count self.old.opened;
         } }
     {
         self.opened = self.opened.saturating_add(1);
         self.input = Some(files::start_of(self.entries.as_slice(), name));
+        self.at_end = false;
         Ok(())
     }
 
     fn read(&mut self, buf: &mut [u8]) -> Result<usize, Failed>
         requires is_open { (outside_of self.old).is_open ≡ true }
+        requires going { (outside_of self.old).at_end ≡ false }
         requires some_room { 0 < length buf.old }
         ensures moves { Moves buf.old buf.new (outside_of self.old) (outside_of self.new) result }
         ensures counts { Reads (outside_of self.old) (outside_of self.new) result }
         ensures succeeds { IsOk result }
         ensures whole { IfOk result (λ n. n ≡ min (length buf.old) (length (unwrap_or self.old.rest []))) }
         ensures came { IfOk result (λ n. IfSome self.old.rest (λ rest. Came n rest buf.new)) }
-        ensures after { IfOk result (λ n. self.new ≡ record self.old { rest = option_map (drop n) self.old.rest }) }
+        ensures after { IfOk result (λ n. self.new ≡ record self.old {
+          rest = option_map (drop n) self.old.rest;
+          at_end = n == 0;
+        }) }
     {
-        match &mut self.input {
-            Some(place) => Ok(files::read_from(self.entries.as_slice(), place, buf)),
-            None => Ok(0),
-        }
+        let n = match &mut self.input {
+            Some(place) => files::read_from(self.entries.as_slice(), place, buf),
+            None => 0,
+        };
+        self.at_end = n == 0;
+        Ok(n)
     }
 
     fn create_output(&mut self, _name: &str) -> Result<(), Failed>

@@ -1,11 +1,26 @@
-//! That equality and copies of refusals and calls say what they seem to: each is pinned by a clause.
+//! That equality and copies of failures, refusals and calls say what they seem to: each is pinned by a clause.
 
-ghost use Rattle.std.specs.Prelude.{◌≡◌, ◌↔◌, IsTrue, IfOk};
+ghost use Rattle.std.specs.Prelude.{◌≡◌, ◌↔◌, IsTrue, Ok};
 
+use crate::host::Failed;
 use crate::loading::LoadRefusal;
 use crate::mem_host::HostCall;
 use crate::side::Side;
 use std::alloc::AllocError;
+
+/// Whether two failures are the same, as all are.
+pub fn same_failures(a: &Failed, b: &Failed) -> bool
+    ensures { IsTrue result ↔ (a.now ≡ b.now) }
+{
+    a == b
+}
+
+/// The same failure.
+pub fn copied_failures(a: &Failed) -> Result<Failed, AllocError>
+    ensures { result ≡ Ok a.now }
+{
+    a.clone()
+}
 
 /// Whether two refusals are the same.
 pub fn same_refusals(a: &LoadRefusal, b: &LoadRefusal) -> bool
@@ -16,7 +31,7 @@ pub fn same_refusals(a: &LoadRefusal, b: &LoadRefusal) -> bool
 
 /// The same refusal.
 pub fn copied_refusals(a: &LoadRefusal) -> Result<LoadRefusal, AllocError>
-    ensures { IfOk result (λ b. b ≡ a.now) }
+    ensures { result ≡ Ok a.now }
 {
     a.clone()
 }
@@ -30,7 +45,7 @@ pub fn same_calls(a: &HostCall, b: &HostCall) -> bool
 
 /// The same call.
 pub fn copied_calls(a: &HostCall) -> Result<HostCall, AllocError>
-    ensures { IfOk result (λ b. b ≡ a.now) }
+    ensures { result ≡ Ok a.now }
 {
     a.clone()
 }
@@ -44,7 +59,7 @@ pub fn same_sides(a: &Side, b: &Side) -> bool
 
 /// The same side.
 pub fn copied_sides(a: &Side) -> Result<Side, AllocError>
-    ensures { IfOk result (λ b. b ≡ a.now) }
+    ensures { result ≡ Ok a.now }
 {
     a.clone()
 }

@@ -24,9 +24,10 @@ loop-reader-preserved g c =
     let reads = c.in_ok-n.ensures.counts in
     let piece = c.split_at.result.0.now in
     let front = c.split_at.ensures.front in
+    let going : (g.H.Host.outside c.read_front.new.host).at_end ≡ false = moves.at_end ∙ ltb-false n c.if-n-eq-0.false in
     let fits : length far.0 + n ≤ c.args.limit = omega (arith, len, c.if-n-left.false, was.within) in
     let more = loading_more c.args.name.now c.args.limit n far.0 far.0 c.read_front.new.piece (g.H.Host.outside c.args.host.now) (g.H.Host.outside c.loop-reader.host) (g.H.Host.outside c.read_front.new.host)
-    far.1 moves.nothing_done moves.still_open (record { read = reads.own; write = reads.write; err = reads.err }) moves.came moves.rest fits in
+    far.1 moves.nothing_done moves.still_open going (record { read = reads.own; write = reads.write; err = reads.err }) moves.came moves.rest fits in
     let long : length piece ≡ n = omega (arith, c.split_at.ensures.front_len) in
     record {
       far = (
