@@ -1,0 +1,121 @@
+-- A file of few words and symbols, and where its parts stand.
+use Rattle.std.proofs.Common.{◌≡◌, ℕ, ◌+◌, ◌*◌, List, [], ◌∷◌, ◌++◌, length, replicate, refl, sym, ap, ◌∙◌, arith, append_assoc, length-append}
+use Rattle.std.specs.List.{flat_map}
+use Rattle.std.proofs.lemmas.List.{length-replicate}
+use Rattle.demo_elf.specs.Elf.{word, words_text, halves_text, padding_of, strings_at, names_at, headers_at, file_header, program_header, symbol_text, symbols_from, symbols_text, strings_text, names_text, section_headers, front_text, back_text, elf_file}
+
+-- ---- how long the parts are
+
+words_long : (words : List ℕ) → length (flat_map word words) ≡ 4 * length words
+words_long [] = refl
+words_long (w ∷ words) = omega (arith, words_long words)
+
+file_header_long : (headers : ℕ) → length (file_header headers) ≡ 52
+unfolding file_header halves_text words_text
+file_header_long headers = refl
+
+program_header_long : (text : ℕ) → length (program_header text) ≡ 32
+unfolding program_header words_text
+program_header_long text = refl
+
+from_long : (at : ℕ) (symbols : List (List ℕ × ℕ)) → length (symbols_from at symbols) ≡ 16 * length symbols
+unfolding symbol_text words_text
+from_long at [] = refl
+from_long at (s ∷ symbols) = omega (arith, from_long (at + (length s.0 + 1)) symbols)
+
+pub symbols_long : (symbols : List (List ℕ × ℕ)) → length (symbols_text symbols) ≡ 16 * (length symbols + 1)
+unfolding symbols_text
+symbols_long symbols = omega (arith, length-append (replicate 16 0) (symbols_from 1 symbols), length-replicate {A = ℕ} 16 0, from_long 1 symbols)
+
+section_headers_long : (text symbols strings : ℕ) → length (section_headers text symbols strings) ≡ 200
+unfolding section_headers words_text
+section_headers_long text symbols strings = refl
+
+names_long : length names_text ≡ 33
+unfolding names_text
+names_long = refl
+
+pub front_long : (words : List ℕ) (symbols strings : ℕ) → length (front_text words symbols strings) ≡ 4096 + 4 * length words
+unfolding front_text words_text
+front_long words symbols strings =
+    let a = file_header (headers_at (length words) symbols strings) in
+    let b = program_header (length words) in
+    let zeros : List ℕ = replicate 4012 0 in
+    omega (
+      arith,
+      length-append (a ++ b ++ zeros) (flat_map word words),
+      length-append (a ++ b) zeros,
+      length-append a b,
+      file_header_long (headers_at (length words) symbols strings),
+      program_header_long (length words),
+      length-replicate {A = ℕ} 4012 0,
+      words_long words,
+    )
+
+-- ---- where they stand
+
+seven_parts : {X : Type 0} (a b c d e f g : List X) → a ++ b ++ c ++ d ++ e ++ f ++ g ≡ a ++ (b ++ (c ++ (d ++ (e ++ (f ++ g)))))
+seven_parts a b c d e f g = simp append_assoc
+
+module _ (words : List ℕ) (symbols : List (List ℕ × ℕ)) where
+  abbrev pub headers_of : ℕ
+  headers_of = headers_at (length words) (length symbols) (length (strings_text symbols))
+
+  abbrev pub front_of : List ℕ
+  front_of = front_text words (length symbols) (length (strings_text symbols))
+
+  abbrev pub back_of : List ℕ
+  back_of = back_text (length words) (length symbols) (length (strings_text symbols))
+
+  -- behind the program header
+  abbrev pub body_of : List ℕ
+  body_of = replicate 4012 0 ++ (words_text words ++ (symbols_text symbols ++ (strings_text symbols ++ back_of)))
+
+  -- before the section headers
+  abbrev pub sections_front : List ℕ
+  sections_front = front_of ++ symbols_text symbols ++ strings_text symbols
+      ++ (names_text ++ replicate (padding_of (names_at (length words) (length symbols) (length (strings_text symbols)) + 33)) 0)
+
+  pub by_header : elf_file words symbols ≡ file_header headers_of ++ (program_header (length words) ++ body_of)
+  unfolding elf_file front_text
+  by_header = seven_parts (file_header headers_of) (program_header (length words)) (replicate 4012 0) (words_text words) (symbols_text symbols) (strings_text symbols) back_of
+
+  pub by_table : elf_file words symbols ≡ front_of ++ (symbols_text symbols ++ (strings_text symbols ++ back_of))
+  unfolding elf_file
+  by_table =
+      append_assoc (front_of ++ symbols_text symbols) (strings_text symbols) back_of ∙ append_assoc front_of (symbols_text symbols) (strings_text symbols ++ back_of)
+
+  pub by_strings : elf_file words symbols ≡ (front_of ++ symbols_text symbols) ++ (strings_text symbols ++ back_of)
+  unfolding elf_file
+  by_strings = append_assoc (front_of ++ symbols_text symbols) (strings_text symbols) back_of
+
+  pub by_sections : elf_file words symbols ≡ sections_front ++ section_headers (length words) (length symbols) (length (strings_text symbols))
+  unfolding elf_file back_text
+  by_sections =
+      sym (append_assoc (front_of ++ symbols_text symbols ++ strings_text symbols)
+      (names_text ++ replicate (padding_of (names_at (length words) (length symbols) (length (strings_text symbols)) + 33)) 0)
+      (section_headers (length words) (length symbols) (length (strings_text symbols))))
+
+  pub sections_front_long : length sections_front ≡ headers_of
+  sections_front_long =
+      let n = padding_of (names_at (length words) (length symbols) (length (strings_text symbols)) + 33) in
+      let zeros : List ℕ = replicate n 0 in
+      omega (
+        arith,
+        length-append (front_of ++ symbols_text symbols ++ strings_text symbols) (names_text ++ zeros),
+        length-append names_text zeros,
+        length-append (front_of ++ symbols_text symbols) (strings_text symbols),
+        length-append front_of (symbols_text symbols),
+        names_long,
+        length-replicate {A = ℕ} n 0,
+        front_long words (length symbols) (length (strings_text symbols)),
+        symbols_long symbols,
+      )
+
+  pub strings_front_long : length (front_of ++ symbols_text symbols) ≡ strings_at (length words) (length symbols)
+  strings_front_long = omega (arith, length-append front_of (symbols_text symbols), front_long words (length symbols) (length (strings_text symbols)), symbols_long symbols)
+
+  pub file_long : length (elf_file words symbols) ≡ headers_of + 200
+  file_long =
+      let headers = section_headers (length words) (length symbols) (length (strings_text symbols)) in
+      ap length by_sections ∙ omega (arith, length-append sections_front headers, sections_front_long, section_headers_long (length words) (length symbols) (length (strings_text symbols)))

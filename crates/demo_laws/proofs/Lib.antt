@@ -1,0 +1,10 @@
+pub mod Reading
+pub mod HeaderLemmas
+pub mod SectionLemmas
+pub mod SymbolLemmas
+pub mod NameLemmas
+pub mod KeptLemmas
+pub mod FileLemmas
+pub mod Accepting
+pub mod ImageLemmas
+pub mod DemoLemmas
