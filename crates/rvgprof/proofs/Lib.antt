@@ -21,3 +21,5 @@ pub mod LineLemmas
 pub mod Demonstrating
 pub mod DoneLemmas
 pub mod ClaimLemmas
+pub mod DemoWords
+pub mod DemoClaims

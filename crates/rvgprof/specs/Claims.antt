@@ -17,8 +17,12 @@ use Rattle.host_port.specs.Outside.{Did, Outside}
 use Rattle.command_words.specs.Words.{command_of}
 use Rattle.elf32_syms.specs.declared.image.Image.{Image}
 use Rattle.elf32_syms.specs.declared.image.Symbol.{Symbol}
+use Rattle.elf32_syms.specs.Image.{image_of}
 use Rattle.elf32_syms.specs.Owners.{IsAscending, owner_of}
+use Rattle.elf32_syms.specs.Refusals.{elf_refusal}
 use Rattle.elf32_syms.specs.Symbols.{comes_before as is_kept_before, kept_at}
+use Rattle.demo_elf.specs.Elf.{demo_program, elf_file}
+use Rattle.demo_laws.specs.Programs.{IsProgram, program_image}
 use Rattle.rv_decode.specs.Table.{Matches, row_of, table}
 use Rattle.rv_step.specs.Memory.{IsInside, Memory, byte_at, read_at, write_at}
 use Rattle.gmon_bsd.specs.Grammar.{BsdSpells}
@@ -56,7 +60,7 @@ use Rattle.prof_machine.specs.Executions.{counted_pairs, executed_pairs, executi
 use Rattle.prof_machine.specs.Laws.{noted_pcs, noted_samples}
 use Rattle.prof_machine.specs.Notes.{note_of}
 use Rattle.prof_machine.specs.Plan.{driven, most_turns, planned}
-use Rattle.prof_machine.specs.Start.{final_world, machine_of, start_of}
+use Rattle.prof_machine.specs.Start.{final_world, machine_of, start_of, start_refusal}
 use Rattle.prof_machine.specs.Turn.{turn_of, world_after}
 use Rattle.prof_machine.specs.Value.{is_sample}
 use Rattle.prof_machine.specs.World.{World}
@@ -471,6 +475,23 @@ pub record StackClaims : Type 0 where
   -- the lines' stacks ascend, so that each has one line
   pub lines_ascend : (stacks : List (List (Option ℕ))) → IsStrictlySortedBy stack_cmp (keys_of (lines_of stacks))
 
+-- ---- the demo
+
+pub record DemoClaims : Type 0 where
+  -- the file of words and symbols is accepted, and its image is what it was made from
+  pub read_back : (words : List ℕ) (symbols : List (List ℕ × ℕ)) → IsProgram words symbols
+      → (elf_refusal (elf_file words symbols) ≡ None) × (image_of (elf_file words symbols) ≡ program_image words symbols)
+  -- its program is accepted, of up to 2,000 functions
+  pub accepted : (n : ℕ) → n ≤ 2000 → (length (demo_program n) ≤ 67108864) × (elf_refusal (demo_program n) ≡ None)
+  -- it begins at 0x10000, where its text begins too: 64 bytes, and 256 for each function
+  pub entry : (n : ℕ) → n ≤ 2000 → (image_of (demo_program n)).entry ≡ 0x10000
+  pub text : (n : ℕ) → n ≤ 2000 → ((image_of (demo_program n)).text.low ≡ 0x10000) × ((image_of (demo_program n)).text.high ≡ 0x10000 + (64 + 256 * n))
+  -- it has two symbols more than functions, and `_mcount` is its hook
+  pub symbols : (n : ℕ) → n ≤ 2000 → length (image_of (demo_program n)).symbols ≡ n + 2
+  pub hooks : (n : ℕ) → n ≤ 2000 → ((image_of (demo_program n)).mcount ≡ Some 0x10020) × ((image_of (demo_program n)).moncontrol ≡ None)
+  -- a run of it starts, with 4 to 256 MiB of memory
+  pub starts : (n : ℕ) (setup : Setup) → n ≤ 2000 → 4 ≤ setup.ram_mib → setup.ram_mib ≤ 256 → start_refusal (image_of (demo_program n)) setup ≡ None
+
 -- ---- all of them
 
 pub record Claims : Type 0 where
@@ -486,3 +507,4 @@ pub record Claims : Type 0 where
   pub flat : FlatClaims
   pub call_graph : CallGraphClaims
   pub stacks : StackClaims
+  pub demo : DemoClaims

@@ -1,11 +1,13 @@
 //! What follows from the contract of the program.
 
-ghost use Rattle.std.specs.Prelude.{◌≡◌, ◌↔◌, ◌⊎◌, ◌++◌, ℕ, List, true, Result, Err, IsOk, []};
+ghost use Rattle.std.specs.Prelude.{◌≡◌, ◌↔◌, ◌⊎◌, ◌++◌, ℕ, List, true, Option, Some, Result, Err, IsOk, []};
 ghost use Rattle.host_port.specs.Act.{Act};
 ghost use Rattle.host_port.specs.Outside.{Outside};
 ghost use Rattle.rvgprof.specs.declared.outcome.Done.{Done};
 ghost use Rattle.rvgprof.specs.declared.outcome.Fault.{Fault};
 ghost use Rattle.rvgprof.specs.declared.outcome.Fault.TheVariants.{OutOfMemory};
+ghost use Rattle.prof_machine.specs.declared.setup.Setup.{Setup};
+ghost use Rattle.command_words.specs.declared.words.Command.TheVariants.{Demo};
 ghost use Rattle.command_words.specs.Words.{command_of};
 ghost use Rattle.rvgprof.specs.Course.{Course, reply_to, MayStop};
 ghost use Rattle.rvgprof.specs.Answer.{contents_of, course_of};
@@ -51,6 +53,16 @@ pub fn accepted_is_done()
     ensures { (words : List (List ℕ)) (old new : Outside) (result : Result Done Fault) → Answered words old new result → NoneFailed words old new
         → ((contents : ℕ → List ℕ) → WhereTold old new (λ files. contents ≡ contents_of words files) → IsAccepted words contents (command_of words)) → (result ≡ Err OutOfMemory) ⊎ IsOk result }
 {}
+
+/// Words that say a demo are accepted, whatever the inputs: its program is never refused, and a run of it
+/// starts. So it is carried out, unless a call on the host failed or memory ran out.
+pub fn demo_is_done()
+    ensures accepted { (words : List (List ℕ)) (contents : ℕ → List ℕ) (functions : ℕ) (elf : Option ℕ) (setup : Setup) → command_of words ≡ Some (Demo functions elf setup) → IsAccepted words contents (command_of words) }
+    ensures done { (words : List (List ℕ)) (functions : ℕ) (elf : Option ℕ) (setup : Setup) (old new : Outside) (result : Result Done Fault) → command_of words ≡ Some (Demo functions elf setup) → Answered words old new result → NoneFailed words old new → (result ≡ Err OutOfMemory) ⊎ IsOk result }
+{
+    demo_laws::laws::demo_is_accepted();
+    demo_laws::laws::demo_starts();
+}
 
 /// Where memory ran out, what was done is a prefix of what is due, and nothing for the commands that do
 /// all at once.
@@ -135,4 +147,8 @@ pub fn claims()
     folded::laws::lines_add_up();
     folded::laws::lines_count();
     folded::laws::lines_ascend();
+    demo_laws::laws::programs_are_read_back();
+    demo_laws::laws::demo_is_accepted();
+    demo_laws::laws::demo_has_image();
+    demo_laws::laws::demo_starts();
 }

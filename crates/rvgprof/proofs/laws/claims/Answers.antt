@@ -3,7 +3,10 @@ use Rattle.gmon_gnu.specs.CountedRun.{CountsFit}
 use Rattle.prof_machine.specs.Start.{machine_of, start_of}
 use Rattle.prof_machine.specs.Turn.{world_after}
 use Rattle.prof_machine.specs.Value.{is_sample}
+use Rattle.demo_elf.specs.Elf.{demo_program}
+use Rattle.elf32_syms.specs.Image.{image_of}
 use Rattle.rvgprof.proofs.ClaimLemmas.{clocked}
+use Rattle.rvgprof.proofs.DemoClaims.{demo_entry, demo_text, demo_hooks}
 use Rattle.rvgprof.proofs.laws.claims.Goals as goal
 
 pub returns : goal.returns
@@ -167,5 +170,14 @@ returns c = record {
     lines_add_up = c.lines_add_up.ensures;
     line_counts = c.lines_count.ensures;
     lines_ascend = c.lines_ascend.ensures;
+  };
+  demo = record {
+    read_back = c.programs_are_read_back.ensures;
+    accepted = λ n few. let file = c.demo_is_accepted.ensures n few in (file.limit, file.accepted);
+    entry = λ n few. demo_entry n (image_of (demo_program n)) (c.demo_has_image.ensures.image n few);
+    text = λ n few. demo_text n (image_of (demo_program n)) (c.demo_has_image.ensures.image n few);
+    symbols = c.demo_has_image.ensures.symbols;
+    hooks = λ n few. demo_hooks n (image_of (demo_program n)) (c.demo_has_image.ensures.image n few);
+    starts = c.demo_starts.ensures;
   };
 }
