@@ -1,0 +1,181 @@
+-- The calls of the host over a system, as they change what it shows.
+use Rattle.std.proofs.Common.{◌≡◌, ℕ, ◌<◌, ◌≤◌, Bool, true, false, List, [], ◌∷◌, ◌++◌, length, take, drop, Option, Some, None, Ok, Err, refl, sym, ap, subst, ◌∙◌, append_assoc, arith}
+use Rattle.std.specs.Prelude.{option_map, is_some, IfSome, if◌then◌else◌, bytes_eq, ⊤}
+use Rattle.std.proofs.lemmas.List.{append-nil}
+use Rattle.host_port.specs.declared.host.Failed.{Failed}
+use Rattle.host_port.specs.Act.{Create, Write, Disk, File, disk_after, written, with_file, with_more, next_count}
+use Rattle.host_port.specs.Outside.{Becomes}
+use Rattle.host_port.specs.Host.{Came, Moves, Creates, Takes}
+use Rattle.host_port.proofs.Laws.{Did-nothing, Becomes-same}
+use Rattle.system_host.specs.Seen.{Seen, disk_with, writes_with, outside_of}
+use Rattle.system_host.proofs.Told.{Gives, Grows, came, left_of}
+
+-- ---- bytes that are written one after the other
+
+twice_at : (name first more : List ℕ) (file : File) (files : List File) (is_it : Bool) → bytes_eq file.0 name ≡ is_it → with_more name more (with_more name first files) ≡ with_more name (first ++ more) files
+    → with_more name more (with_more name first (file ∷ files)) ≡ with_more name (first ++ more) (file ∷ files)
+twice_at name first more file files true is rest = rw is (rw is (ap (λ (bytes : List ℕ). (file.0, bytes) ∷ files) (append_assoc file.1 first more)))
+twice_at name first more file files false is rest = rw is (rw is (ap (λ (fs : List File). file ∷ fs) rest))
+
+pub with_more-twice : (name first more : List ℕ) (files : List File) → with_more name more (with_more name first files) ≡ with_more name (first ++ more) files
+with_more-twice name first more [] = refl
+with_more-twice name first more (file ∷ files) = twice_at name first more file files (bytes_eq file.0 name) refl (with_more-twice name first more files)
+
+none_at : (name : List ℕ) (file : File) (files : List File) (is_it : Bool) → bytes_eq file.0 name ≡ is_it → with_more name [] files ≡ files → with_more name [] (file ∷ files) ≡ file ∷ files
+none_at name file files true is rest = rw is (ap (λ (bytes : List ℕ). (file.0, bytes) ∷ files) (append-nil file.1))
+none_at name file files false is rest = rw is (ap (λ (fs : List File). file ∷ fs) rest)
+
+pub with_more-none : (name : List ℕ) (files : List File) → with_more name [] files ≡ files
+with_more-none name [] = refl
+with_more-none name (file ∷ files) = none_at name file files (bytes_eq file.0 name) refl (with_more-none name files)
+
+written-twice : (first more : List ℕ) (writing : Option (List ℕ)) (files : List File) → written more writing (written first writing files) ≡ written (first ++ more) writing files
+written-twice first more None files = refl
+written-twice first more (Some name) files = with_more-twice name first more files
+
+-- the open output holds more bytes
+grown : (disk : Option Disk) (old new : Option (List ℕ)) (bytes : List ℕ) → is_some new ≡ is_some old → writes_with old disk ≡ true → IfSome disk (λ _. Grows old new bytes)
+    → Becomes (disk_after (Write bytes ∷ [])) (option_map (disk_with old) disk) (option_map (disk_with new) disk)
+grown None old new bytes same writes told = tt
+grown (Some d) None new bytes same writes told = absurd cc
+grown (Some d) (Some held) None bytes same writes told = absurd cc
+grown (Some d) (Some held) (Some now) bytes same writes told =
+    ap (λ (files : List File). Some (record { files = files; writing = d.writing })) (written-twice held bytes d.writing d.files ∙ ap (λ (v : List ℕ). written v d.writing d.files) (sym told))
+
+still_writes : (disk : Option Disk) (old new : Option (List ℕ)) → is_some new ≡ is_some old → writes_with new disk ≡ writes_with old disk
+still_writes None old new same = same
+still_writes (Some d) None None same = refl
+still_writes (Some d) None (Some now) same = absurd cc
+still_writes (Some d) (Some held) None same = absurd cc
+still_writes (Some d) (Some held) (Some now) same = refl
+
+-- ---- a call that writes
+
+pub takes : (piece : List ℕ) (s : Seen) (output : Option (List ℕ)) (faults n : ℕ) (last : Bool) → 1 ≤ n → n ≤ length piece → is_some output ≡ is_some s.output → writes_with s.output s.disk ≡ true
+    → IfSome s.disk (λ _. Grows s.output output (take n piece))
+    → Takes {E = Failed} (λ bytes. Write bytes) piece (outside_of s) (outside_of (record s { output = output; write_faults = faults; last_failed = last })) (Ok n)
+takes piece s output faults n last some fits same writes told =
+    let nothing = Did-nothing (outside_of s) in
+    record {
+      done = record {
+        disk = grown s.disk s.output output (take n piece) same writes told;
+        out = nothing.out;
+        err = nothing.err;
+        writing = still_writes s.disk s.output output same;
+        file_changes = refl;
+        opened = refl;
+      };
+      some = some;
+      fits = fits;
+      failed = tt;
+      input = record { open_stays = refl; rest_stays = Becomes-same (outside_of s).rest };
+    }
+
+kept_disk : (disk : Option Disk) (old new : Option (List ℕ)) → IfSome disk (λ _. new ≡ old) → Becomes (disk_after []) (option_map (disk_with old) disk) (option_map (disk_with new) disk)
+kept_disk None old new told = tt
+kept_disk (Some d) old new told = ap (λ (output : Option (List ℕ)). Some (disk_with output d)) (sym told)
+
+pub takes_none : (piece : List ℕ) (s : Seen) (output : Option (List ℕ)) (faults : ℕ) (last : Bool) (failed : Failed) → is_some output ≡ is_some s.output → IfSome s.disk (λ _. output ≡ s.output)
+    → Takes {E = Failed} (λ bytes. Write bytes) piece (outside_of s) (outside_of (record s { output = output; write_faults = faults; last_failed = last })) (Err failed)
+takes_none piece s output faults last failed same told =
+    let nothing = Did-nothing (outside_of s) in
+    record {
+      done = tt;
+      some = tt;
+      fits = tt;
+      failed = record {
+        disk = kept_disk s.disk s.output output told;
+        out = nothing.out;
+        err = nothing.err;
+        writing = still_writes s.disk s.output output same;
+        file_changes = refl;
+        opened = refl;
+      };
+      input = record { open_stays = refl; rest_stays = Becomes-same (outside_of s).rest };
+    }
+
+-- ---- a call that reads
+
+moved_bytes : (disk : Option Disk) (old new : Option (List ℕ)) (buf : List ℕ) (n : ℕ) → n ≤ length buf → 0 < length buf → is_some new ≡ is_some old → IfSome disk (λ _. Gives old new buf n)
+    → IfSome (if is_some disk then old else None) (λ rest. Came n rest buf)
+moved_bytes None old new buf n fits room same told = tt
+moved_bytes (Some d) None new buf n fits room same told = tt
+moved_bytes (Some d) (Some rest) None buf n fits room same told = absurd told
+moved_bytes (Some d) (Some rest) (Some left) buf n fits room same told = came buf rest left n fits room told.0 told.1
+
+moved_rest : (disk : Option Disk) (old new : Option (List ℕ)) (buf : List ℕ) (n : ℕ) → n ≤ length buf → is_some new ≡ is_some old → IfSome disk (λ _. Gives old new buf n)
+    → Becomes (drop n) (if is_some disk then old else None) (if is_some disk then new else None)
+moved_rest None old new buf n fits same told = tt
+moved_rest (Some d) old None buf n fits same told = tt
+moved_rest (Some d) None (Some left) buf n fits same told = absurd cc
+moved_rest (Some d) (Some rest) (Some left) buf n fits same told = ap (λ (bytes : List ℕ). Some bytes) (left_of buf rest left n fits told.0)
+
+pub moves : (before after : List ℕ) (s : Seen) (input : Option (List ℕ)) (faults n : ℕ) (last : Bool) → length after ≡ length before → n ≤ length after → 0 < length before → is_some s.input ≡ true → is_some input ≡ is_some s.input
+    → IfSome s.disk (λ _. Gives s.input input after n)
+    → Moves {E = Failed} before after (outside_of s) (outside_of (record s { input = input; read_faults = faults; last_failed = last })) (Ok n)
+moves before after s input faults n last len fits room is_open same told =
+    let nothing = Did-nothing (outside_of s) in
+    record {
+      nothing_done = record { disk = nothing.disk; out = nothing.out; err = nothing.err; writing = refl; file_changes = refl; opened = refl };
+      still_open = same ∙ is_open;
+      fits = omega (arith, len, fits);
+      came = moved_bytes s.disk s.input input after n fits (omega (arith, len, room)) same told;
+      rest = moved_rest s.disk s.input input after n fits same told;
+    }
+
+kept_rest : (disk : Option Disk) (old new : Option (List ℕ)) → IfSome disk (λ _. new ≡ old) → Becomes (λ rest. rest) (if is_some disk then old else None) (if is_some disk then new else None)
+kept_rest None old new told = tt
+kept_rest (Some d) old new told = subst (Becomes (λ rest. rest) old) (sym told) (Becomes-same old)
+
+pub moves_none : (before after : List ℕ) (s : Seen) (input : Option (List ℕ)) (faults : ℕ) (last : Bool) (failed : Failed) → IfSome s.disk (λ _. input ≡ s.input)
+    → Moves {E = Failed} before after (outside_of s) (outside_of (record s { input = input; read_faults = faults; last_failed = last })) (Err failed)
+moves_none before after s input faults last failed told =
+    let nothing = Did-nothing (outside_of s) in
+    record {
+      nothing_done = record { disk = nothing.disk; out = nothing.out; err = nothing.err; writing = refl; file_changes = refl; opened = refl };
+      still_open = tt;
+      fits = tt;
+      came = tt;
+      rest = kept_rest s.disk s.input input told;
+    }
+
+-- ---- a call that creates a file
+
+nothing_held : (held : List ℕ) (writing : Option (List ℕ)) (files : List File) → is_some writing ≡ false → written held writing files ≡ files
+nothing_held held None files none = refl
+nothing_held held (Some name) files none = absurd cc
+
+not_writing : (output : Option (List ℕ)) (d : Disk) → is_some (disk_with output d).writing ≡ false → (disk_with output d).files ≡ d.files
+not_writing None d none = refl
+not_writing (Some held) d none = nothing_held held d.writing d.files none
+
+created : (name : List ℕ) (disk now : Option Disk) (output : Option (List ℕ)) (bytes : List ℕ) → writes_with output disk ≡ false → now ≡ option_map (disk_after (Create name ∷ [])) disk → IfSome disk (λ _. bytes ≡ [])
+    → Becomes (disk_after (Create name ∷ [])) (option_map (disk_with output) disk) (option_map (disk_with (Some bytes)) now)
+created name None now output bytes none is empty = subst (λ (o : Option Disk). Becomes (disk_after (Create name ∷ [])) None (option_map (disk_with (Some bytes)) o)) (sym is) tt
+created name (Some d) now output bytes none is empty =
+    let files : with_file name [] (disk_with output d).files ≡ with_more name bytes (with_file name [] d.files) =
+    ap (with_file name []) (not_writing output d none) ∙ sym (with_more-none name (with_file name [] d.files)) ∙ ap (λ (v : List ℕ). with_more name v (with_file name [] d.files)) (sym empty) in
+    subst (λ (o : Option Disk). Becomes (disk_after (Create name ∷ [])) (Some (disk_with output d)) (option_map (disk_with (Some bytes)) o)) (sym is)
+    (ap (λ (fs : List File). Some (record { files = fs; writing = Some name })) files)
+
+begins : (name : List ℕ) (disk now : Option Disk) (bytes : List ℕ) → now ≡ option_map (disk_after (Create name ∷ [])) disk → writes_with (Some bytes) now ≡ true
+begins name None now bytes is = ap (writes_with (Some bytes)) is
+begins name (Some d) now bytes is = ap (writes_with (Some bytes)) is
+
+pub creates : (name : List ℕ) (s : Seen) (disk : Option Disk) (out err : Option (List ℕ)) (bytes : List ℕ) (changes : ℕ) (last : Bool) → writes_with s.output s.disk ≡ false
+    → disk ≡ option_map (disk_after (Create name ∷ [])) s.disk → IfSome s.disk (λ _. bytes ≡ []) → out ≡ s.out → err ≡ s.err → changes ≡ next_count s.file_changes
+    → Creates {T = ⊤} {E = Failed} name (outside_of s) (outside_of (record s { disk = disk; out = out; err = err; input = None; output = Some bytes; file_changes = changes; last_failed = last })) (Ok tt)
+creates name s disk out err bytes changes last none is empty same_out same_err counted =
+    let nothing = Did-nothing (outside_of s) in
+    record {
+      done = record {
+        disk = created name s.disk disk s.output bytes none is empty;
+        out = subst (λ (o : Option (List ℕ)). Becomes (λ b. b ++ []) s.out o) (sym same_out) nothing.out;
+        err = subst (λ (o : Option (List ℕ)). Becomes (λ b. b ++ []) s.err o) (sym same_err) nothing.err;
+        writing = begins name s.disk disk bytes is;
+        file_changes = counted;
+        opened = refl;
+      };
+      failed = tt;
+      closed_input = refl;
+    }

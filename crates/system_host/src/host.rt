@@ -1,0 +1,177 @@
+//! The host over a system.
+
+ghost use Rattle.std.specs.Prelude.{◌≡◌, ◌<◌, true, false, length, Some, None, is_some, is_ok, IfSome};
+ghost use Rattle.host_port.specs.Act.{Write, Out, Err as Complain, next_count};
+ghost use Rattle.host_port.specs.Outside.{Rose};
+ghost use Rattle.host_port.specs.Host.{Opens, Moves, Creates, Takes, Closes, Reads, Writes, Complains};
+ghost use Rattle.system_host.specs.Seen.{outside_of, is_consistent};
+
+use crate::parts::{moved, some_taken, written};
+use crate::system::System;
+use host_port::{Failed, Host};
+use std::marker::Model;
+
+/// A system with one input and one output open. It loops over nothing and counts each error. A write of
+/// no bytes is an error.
+#[derive(Drop)]
+pub struct SystemHost<S: System> {
+    system: S,
+    input: Option<S::Input>,
+    output: Option<S::Output>,
+    read_faults: u64,
+    write_faults: u64,
+    err_faults: u64,
+    opened: u64,
+    file_changes: u64,
+    // Whether the last call failed that doesn't complain.
+    last_failed: bool,
+}
+
+impl<S: System> Model for SystemHost<S> {
+    ghost use Rattle.std.specs.Prelude.{option_map};
+    ghost use Rattle.system_host.specs.Told.{bytes_of};
+    ghost use Rattle.system_host.specs.Seen.{Seen};
+
+    ghost Value = { Seen };
+
+    ghost view = { λ a. record {
+      disk = S.disk a.system;
+      out = S.printed a.system;
+      err = S.complained a.system;
+      last_close = S.last_close a.system;
+      input = option_map (λ i. bytes_of (S.Input.remaining i)) a.input;
+      output = option_map (λ o. bytes_of (S.Output.contents o)) a.output;
+      read_faults = a.read_faults;
+      write_faults = a.write_faults;
+      err_faults = a.err_faults;
+      opened = a.opened;
+      file_changes = a.file_changes;
+      last_failed = a.last_failed;
+    } };
+}
+
+impl<S: System + Drop> SystemHost<S> {
+    /// A host with nothing open.
+    pub fn new(system: S) -> SystemHost<S>
+        ensures { result ≡ record { disk = S.disk system; out = S.printed system; err = S.complained system; last_close = S.last_close system; input = None; output = None; read_faults = 0; write_faults = 0; err_faults = 0; opened = 0; file_changes = 0; last_failed = false } }
+    {
+        SystemHost {
+            system,
+            input: None,
+            output: None,
+            read_faults: 0,
+            write_faults: 0,
+            err_faults: 0,
+            opened: 0,
+            file_changes: 0,
+            last_failed: false,
+        }
+    }
+
+    fn read_failed(&mut self) -> Failed
+        ensures counted { self.new ≡ record self.old { read_faults = next_count self.old.read_faults; last_failed = true } }
+        ensures rose { Rose self.old.read_faults self.new.read_faults }
+    {
+        self.read_faults = self.read_faults.saturating_add(1);
+        self.last_failed = true;
+        Failed
+    }
+
+    fn write_failed(&mut self) -> Failed
+        ensures counted { self.new ≡ record self.old { write_faults = next_count self.old.write_faults; last_failed = true } }
+        ensures rose { Rose self.old.write_faults self.new.write_faults }
+    {
+        self.write_faults = self.write_faults.saturating_add(1);
+        self.last_failed = true;
+        Failed
+    }
+
+    fn err_failed(&mut self) -> Failed
+        ensures counted { self.new ≡ record self.old { err_faults = next_count self.old.err_faults } }
+        ensures rose { Rose self.old.err_faults self.new.err_faults }
+    {
+        self.err_faults = self.err_faults.saturating_add(1);
+        Failed
+    }
+}
+
+impl<S: System + Drop> Host for SystemHost<S> {
+    ghost outside = { outside_of };
+
+    ghost consistent = { is_consistent };
+
+    fn open_input(&mut self, name: &str) -> Result<(), Failed> {
+        self.input = None;
+        self.opened = self.opened.saturating_add(1);
+        self.last_failed = false;
+        match self.system.open(name) {
+            Ok(input) => {
+                self.input = Some(input);
+                Ok(())
+            }
+            Err(_) => Err(self.read_failed()),
+        }
+    }
+
+    fn read(&mut self, buf: &mut [u8]) -> Result<usize, Failed> {
+        self.last_failed = false;
+        match moved(&mut self.input, buf) {
+            Some(n) => Ok(n),
+            None => Err(self.read_failed()),
+        }
+    }
+
+    fn create_output(&mut self, name: &str) -> Result<(), Failed> {
+        self.input = None;
+        self.last_failed = false;
+        match self.system.create(name) {
+            Ok(output) => {
+                self.output = Some(output);
+                self.file_changes = self.file_changes.saturating_add(1);
+                Ok(())
+            }
+            Err(_) => Err(self.write_failed()),
+        }
+    }
+
+    fn write(&mut self, piece: &[u8]) -> Result<usize, Failed> {
+        self.last_failed = false;
+        match written(&mut self.output, piece) {
+            Some(n) => Ok(n),
+            None => Err(self.write_failed()),
+        }
+    }
+
+    fn close_output(&mut self) -> Result<(), Failed>
+        ensures closes { Closes (outside_of self.old) (outside_of self.new) }
+        ensures counts { Writes (outside_of self.old) (outside_of self.new) result }
+        ensures told { is_some self.old.output ≡ true → IfSome self.new.last_close (λ succeeded. succeeded ≡ is_ok result) }
+    {
+        self.last_failed = false;
+        self.file_changes = self.file_changes.saturating_add(1);
+        let is_closed = match self.output.take() {
+            Some(output) => self.system.close(output).is_ok(),
+            None => true,
+        };
+        if is_closed {
+            Ok(())
+        } else {
+            Err(self.write_failed())
+        }
+    }
+
+    fn out(&mut self, piece: &[u8]) -> Result<usize, Failed> {
+        self.last_failed = false;
+        match some_taken(self.system.out(piece)) {
+            Some(n) => Ok(n),
+            None => Err(self.write_failed()),
+        }
+    }
+
+    fn err(&mut self, piece: &[u8]) -> Result<usize, Failed> {
+        match some_taken(self.system.err(piece)) {
+            Some(n) => Ok(n),
+            None => Err(self.err_failed()),
+        }
+    }
+}

@@ -1,0 +1,72 @@
+//! What is asked of the system: each method is one call.
+
+ghost use Rattle.std.specs.Prelude.{◌≡◌, ℕ, List, [], ◌∷◌, Bool, Option, is_ok, is_some, option_map, IfOk, IfSome, OnOk, OnErr};
+ghost use Rattle.std.specs.Io.{WritesAtMost};
+ghost use Rattle.host_port.specs.Act.{Disk, Create, Write as Put, Close, disk_after, file_content};
+ghost use Rattle.system_host.specs.Told.{bytes_of, Prints};
+
+use std::io;
+use std::io::{Read, Write};
+
+/// The files, the output and the error output of a system.
+///
+/// Contracts see what a system tells of them: its files with the name of the one that is being written,
+/// what was printed on each output, and whether the last close succeeded. A system that tells its files
+/// tells what is left of each input and what was written to each output, and one that doesn't tells
+/// neither. The bytes that were written are in the file once it is closed.
+pub trait System {
+    type Input: Read + Drop;
+
+    type Output: Write + Drop;
+
+    ghost disk: { Self → Option Disk };
+
+    ghost printed: { Self → Option (List ℕ) };
+
+    ghost complained: { Self → Option (List ℕ) };
+
+    ghost last_close: { Self → Option Bool };
+
+    /// Opens the named file to be read from its beginning.
+    fn open(&self, name: &str) -> io::Result<Self::Input>
+        ensures { IfOk result (λ input. IfSome (disk self.now)
+            (λ d. bytes_of (Self.Input.remaining input) ≡ file_content name.now d.files)) };
+
+    /// Makes the named file empty, and opens it to be written.
+    fn create(&mut self, name: &str) -> io::Result<Self::Output>
+        ensures done { OnOk result (disk self.new ≡ option_map (disk_after (Create name.now ∷ [])) (disk self.old)) }
+        ensures failed { OnErr result (disk self.new ≡ disk self.old) }
+        ensures empty { IfOk result (λ output. IfSome (disk self.old) (λ _. bytes_of (Self.Output.contents output) ≡ [])) }
+        ensures out { printed self.new ≡ printed self.old }
+        ensures err { complained self.new ≡ complained self.old };
+
+    /// Ends the writing, also where it answers an error.
+    fn close(&mut self, output: Self::Output) -> io::Result<()>
+        ensures done { disk self.new ≡ option_map
+            (disk_after (Put (bytes_of (Self.Output.contents output)) ∷ Close ∷ [])) (disk self.old) }
+        ensures told { IfSome (last_close self.new) (λ succeeded. succeeded ≡ is_ok result) }
+        ensures out { printed self.new ≡ printed self.old }
+        ensures err { complained self.new ≡ complained self.old };
+
+    /// Prints a prefix of `piece` on the output, and answers how many bytes.
+    fn out(&mut self, piece: &[u8]) -> io::Result<usize>
+        ensures bound { WritesAtMost result piece.now }
+        ensures out { Prints (printed self.old) (printed self.new) piece.now result }
+        ensures err { complained self.new ≡ complained self.old }
+        ensures disk { disk self.new ≡ disk self.old };
+
+    /// Prints a prefix of `piece` on the error output, and answers how many bytes.
+    fn err(&mut self, piece: &[u8]) -> io::Result<usize>
+        ensures bound { WritesAtMost result piece.now }
+        ensures out { printed self.new ≡ printed self.old }
+        ensures err { Prints (complained self.old) (complained self.new) piece.now result }
+        ensures disk { disk self.new ≡ disk self.old };
+
+    /// What is left of an input is told exactly where the files are.
+    ghost told_inputs: { (s : Self) (input : Self.Input) →
+        is_some (Self.Input.remaining input) ≡ is_some (disk s) };
+
+    /// What was written to an output is told exactly where the files are.
+    ghost told_outputs: { (s : Self) (output : Self.Output) →
+        is_some (Self.Output.contents output) ≡ is_some (disk s) };
+}
