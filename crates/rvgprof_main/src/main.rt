@@ -1,15 +1,16 @@
 //! The program: the words of the command line, the system as a host, and the exit status.
 #![tactic(auto)]
 
-mod real_host;
+mod real_system;
 
 ghost use Rattle.std.specs.Prelude.{◌≡◌};
 ghost use Rattle.rvgprof_main.specs.Exit.{exit_status};
 
-use real_host::RealHost;
+use real_system::RealSystem;
 use rvgprof::{Done, Fault, rvgprof};
 use std::process::ExitCode;
 use std::{env, io};
+use system_host::SystemHost;
 
 #[cfg(test)]
 mod tests;
@@ -26,7 +27,7 @@ fn main(rt: HostRuntime) -> ExitCode {
         Ok(words) => words,
         Err(e) => return ExitCode::from(status_without_words(&e)),
     };
-    let mut host = RealHost::new(rt);
+    let mut host = SystemHost::new(RealSystem::new(rt));
     ExitCode::from(status_of(&rvgprof(alloc, words.as_slice(), &mut host)))
 }
 

@@ -1,15 +1,16 @@
 //! Files of the system.
 
 ghost use Rattle.std.specs.Prelude.{◌≡◌, false};
-ghost use Rattle.rvgprof_main.specs.Real.{outside_of};
+ghost use Rattle.system_host.specs.Seen.{outside_of};
 
 use super::words_from;
-use crate::real_host::{RealHost, some_of};
+use crate::real_system::RealSystem;
 use crate::status_of;
 use host_port::{Host, write_all_of};
 use rvgprof::rvgprof;
 use std::alloc::{AllocError, Global};
 use std::test::Fail;
+use system_host::SystemHost;
 
 /// A file of the 4.4BSD form that has no counter and no arc.
 const EMPTY: [u8; 32] = [
@@ -17,7 +18,11 @@ const EMPTY: [u8; 32] = [
     0, 0, 0,
 ];
 
-fn status(alloc: Global, host: &mut RealHost, texts: &[&str]) -> Result<u8, AllocError>
+fn status(
+    alloc: Global,
+    host: &mut SystemHost<RealSystem>,
+    texts: &[&str],
+) -> Result<u8, AllocError>
     requires { (outside_of host.old).is_writing ≡ false }
     ensures { (outside_of host.new).is_writing ≡ false }
 {
@@ -30,7 +35,7 @@ fn status(alloc: Global, host: &mut RealHost, texts: &[&str]) -> Result<u8, Allo
 #[test]
 fn a_file_that_was_written_is_shown(rt: HostRuntime) -> Result<(), Fail> {
     let alloc = rt.alloc();
-    let mut host = RealHost::new(rt);
+    let mut host = SystemHost::new(RealSystem::new(rt));
     host.create_output("written.gmon").map_err(|_| "created")?;
     write_all_of(&mut host, &EMPTY).map_err(|_| "written")?;
     host.close_output().map_err(|_| "closed")?;
@@ -50,13 +55,4 @@ fn a_file_that_was_written_is_shown(rt: HostRuntime) -> Result<(), Fail> {
         5 => Ok(()),
         _ => Err("a folder is read")?,
     }
-}
-
-#[test]
-fn a_short_write_is_no_whole_one(rt: HostRuntime) {
-    let mut room = [0; 3];
-    let mut left = room.as_mut_slice();
-    assert_eq!(rt; some_of(&mut left, b"ab"), Some(2));
-    assert_eq!(rt; some_of(&mut left, b"cd"), Some(1), "one byte fits");
-    assert_eq!(rt; some_of(&mut left, b"d"), None, "none fits");
 }
