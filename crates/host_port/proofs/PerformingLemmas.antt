@@ -21,12 +21,12 @@ failed_before act [] (due ∷ acts) more h = h
 failed_before act (first ∷ part) (due ∷ acts) more (inl h) = inl (h.0, failed_before act part acts more h.1)
 failed_before act (first ∷ part) (due ∷ acts) more (inr h) = inr h
 
-fault_since : (act : Act) (old mid new : Outside) (err : ℕ) → KeepsCounts old mid → FaultOf act mid new err → FaultOf act old new err
-fault_since (Err bytes) old mid new err k f = (subst (λ (n : ℕ). Rose n err) k.err f.0, f.1 ∙ k.write)
-fault_since act old mid new err k f = (subst (λ (n : ℕ). Rose n new.write_faults) k.write f.0, f.1 ∙ k.err, f.2)
+fault_since : (act : Act) (old mid new : Outside) → KeepsCounts old mid → FaultOf act mid new → FaultOf act old new
+fault_since (Err bytes) old mid new k f = (subst (λ (n : ℕ). Rose n new.err_faults) k.err f.0, f.1 ∙ k.write)
+fault_since act old mid new k f = (subst (λ (n : ℕ). Rose n new.write_faults) k.write f.0, f.1 ∙ k.err, f.2)
 
-pub failed_since : (act : Act) (old mid new : Outside) (err : ℕ) → KeepsCounts old mid → ActFailed act mid new err → ActFailed act old new err
-failed_since act old mid new err k f = record { own = fault_since act old mid new err k f.own; read = f.read ∙ k.read }
+pub failed_since : (act : Act) (old mid new : Outside) → KeepsCounts old mid → ActFailed act mid new → ActFailed act old new
+failed_since act old mid new k f = record { own = fault_since act old mid new k f.own; read = f.read ∙ k.read }
 
 -- acts were done, and then others, or others failed
 pub performs_then : {T U E : Type 0} (front back : List Act) (x y z : Outside) (u : T) (r : Result U E) → Performs {T = T} {E = E} front x y (Ok u) → Performs back y z r → Performs (front ++ back) x z r
@@ -41,7 +41,7 @@ performs_then front back x y z u (Error e) p q =
     record {
       done = tt;
       kept = tt;
-      failed = (front ++ part, act, failed_behind act front part back q.failed.2, Did-then front part x y z p.done q.failed.3, failed_since act x y z z.err_faults p.kept q.failed.4);
+      failed = (front ++ part, act, failed_behind act front part back q.failed.2, Did-then front part x y z p.done q.failed.3, failed_since act x y z p.kept q.failed.4);
     }
 
 -- acts failed that others follow
@@ -54,7 +54,7 @@ performs_front front back x y e p =
 -- one act: a text that goes to a side, a file that is created, one that is closed
 
 -- a call that put a piece to a side failed
-pub piece_failed : (T E : Type 0) (side : Side) (piece : List ℕ) (x y : Outside) (e : E) → CountsOf {T = T} {E = E} side x y (Error e) → ActFailed (act_of side piece) x y y.err_faults
+pub piece_failed : (T E : Type 0) (side : Side) (piece : List ℕ) (x y : Outside) (e : E) → CountsOf {T = T} {E = E} side x y (Error e) → ActFailed (act_of side piece) x y
 piece_failed T E File piece x y e counts = record { own = (counts.own, counts.err, counts.last); read = counts.read }
 piece_failed T E Output piece x y e counts = record { own = (counts.own, counts.err, counts.last); read = counts.read }
 piece_failed T E ErrorOutput piece x y e counts = record { own = (counts.own, counts.write); read = counts.read }

@@ -22,18 +22,20 @@ FailedAt failed [] (act ∷ acts) = act ≡ failed
 FailedAt failed (first ∷ more) (act ∷ acts) = ((first ≡ act) × FailedAt failed more acts) ⊎ (IsPartOf first act × (more ≡ []) × (act ≡ failed))
 
 -- The call that an act takes failed, and no other that writes or complains; none followed it but calls that
--- complain. The number is how often complaining had failed by then.
-abbrev pub FaultOf : Act → Outside → Outside → ℕ → Type 0
-FaultOf (Err bytes) old new err = Rose old.err_faults err × (new.write_faults ≡ old.write_faults)
-FaultOf act old new err = Rose old.write_faults new.write_faults × (err ≡ old.err_faults) × (new.last_failed ≡ true)
+-- complain.
+abbrev pub FaultOf : Act → Outside → Outside → Type 0
+FaultOf (Err bytes) old new =
+    Rose old.err_faults new.err_faults × (new.write_faults ≡ old.write_faults)
+FaultOf act old new =
+    Rose old.write_faults new.write_faults × (new.err_faults ≡ old.err_faults) × (new.last_failed ≡ true)
 
 -- the same, and none that reads
-pub record ActFailed (act : Act) (old new : Outside) (err : ℕ) : Type 0 where
-  pub own : FaultOf act old new err
+pub record ActFailed (act : Act) (old new : Outside) : Type 0 where
+  pub own : FaultOf act old new
   pub read : new.read_faults ≡ old.read_faults
 
 -- the acts were done in order and nothing else; or one of them failed
 pub record Performs {T E : Type 0} (acts : List Act) (old new : Outside) (result : Result T E) : Type 0 where
   pub done : OnOk result (Did acts old new)
   pub kept : OnOk result (KeepsCounts old new)
-  pub failed : OnErr result ((done : List Act) × (act : Act) × FailedAt act done acts × Did done old new × ActFailed act old new new.err_faults)
+  pub failed : OnErr result ((done : List Act) × (act : Act) × FailedAt act done acts × Did done old new × ActFailed act old new)

@@ -6,14 +6,17 @@ use Rattle.host_port.specs.Act.{Act}
 use Rattle.host_port.specs.Act.{Err as Complain}
 use Rattle.host_port.specs.Outside.{Outside, Did, Rose, opening}
 use Rattle.host_port.specs.Performing.{ActFailed, FailedAt}
+use Rattle.host_port.proofs.Laws.{Did-then}
 use Rattle.rvgprof.specs.declared.outcome.Done.{Done}
 use Rattle.rvgprof.specs.declared.outcome.Fault.{Fault}
-use Rattle.rvgprof.specs.declared.outcome.Fault.TheVariants.{Usage, ReadFault, WriteFault, OutOfMemory, TooLarge}
+use Rattle.rvgprof.specs.declared.outcome.Fault.TheVariants.{Usage, BadElf, BadProfile, Unlike, TooWide, ProgramTooLarge, EntryOutside, ReadFault, WriteFault, OutOfMemory, TooLarge}
 use Rattle.command_words.specs.declared.words.Command.{Command}
 use Rattle.rvgprof.specs.Texts.{last_line}
 use Rattle.rvgprof.specs.Course.{Course, Ends, Input, Does, Reply, reply_to, inputs_of, MayStop}
 use Rattle.rvgprof.specs.Answer.{command_course, course_of, contents_of}
-use Rattle.rvgprof.specs.Contract.{NothingFailed, Owes, WhereTold, LineEnds, Answered}
+use Rattle.rvgprof.specs.Contract.{IsReply, LineEnds, LineIsPrinted, Owes, WhereTold}
+use Rattle.rvgprof.specs.Headline.{Answered}
+use Rattle.rvgprof.proofs.Standing.{further}
 use Rattle.rvgprof.specs.Completeness.{Stayed, is_complaint, IsSilent, NoneFailed, Complete}
 
 -- a count that stayed didn't rise on the way
@@ -43,49 +46,76 @@ failed_too P failed [] (act ∷ acts) at all = subst P at all.0
 failed_too P failed (first ∷ more) (act ∷ acts) (inl at) all = failed_too P failed more acts at.1 all.1
 failed_too P failed (first ∷ more) (act ∷ acts) (inr at) all = subst P at.2 all.0
 
--- no act failed
-module _ (words : List (List ℕ)) (old new : Outside) (contents : ℕ → List ℕ) where
+-- The moment `mid` lies before the last line, which is then printed, and nothing else.
+module _ (words : List (List ℕ)) (contents : ℕ → List ℕ) (old mid new : Outside) where
   abbrev due : List Act
   due = (reply_to contents (course_of words)).acts
 
-  no_complaint_failed : (bytes : List ℕ) (err : ℕ) (done : List Act) → WhereTold old new (λ files. contents ≡ contents_of words files) → FailedAt (Complain bytes) done due → Rose old.err_faults err → err ≤ new.err_faults
+  abbrev IsTold : Type 0
+  IsTold = WhereTold old new (λ files. contents ≡ contents_of words files)
+
+  -- no act failed
+  no_complaint_failed : (bytes : List ℕ) (done : List Act) → IsTold → FailedAt (Complain bytes) done due → Rose old.err_faults mid.err_faults → mid.err_faults ≤ new.err_faults
       → Stayed old.err_faults new.err_faults ⊎ IsSilent words old new → ⊥
-  no_complaint_failed bytes err done told failed rose within (inl stayed) = not_risen old.err_faults err new.err_faults stayed rose within
-  no_complaint_failed bytes err done told failed rose within (inr silent) =
+  no_complaint_failed bytes done told failed rose within (inl stayed) = not_risen old.err_faults mid.err_faults new.err_faults stayed rose within
+  no_complaint_failed bytes done told failed rose within (inr silent) =
       true≢false (failed_too (λ (act : Act). is_complaint act ≡ false) (Complain bytes) done due failed (silent contents told))
 
-  no_act_failed : (act : Act) (err : ℕ) (done : List Act) → WhereTold old new (λ files. contents ≡ contents_of words files) → NoneFailed words old new → FailedAt act done due → ActFailed act old new err → err ≤ new.err_faults → ⊥
-  no_act_failed (Complain bytes) err done told none failed at within = no_complaint_failed bytes err done told failed at.own.0 within none.complain
-  no_act_failed act err done told none failed at within = not_risen old.write_faults new.write_faults new.write_faults none.write at.own.0 (omega arith)
+  no_act_failed : (act : Act) (done : List Act) → IsTold → NoneFailed words old new → FailedAt act done due → ActFailed act old mid → new.write_faults ≡ mid.write_faults → mid.err_faults ≤ new.err_faults → ⊥
+  no_act_failed (Complain bytes) done told none failed at same within = no_complaint_failed bytes done told failed at.own.0 within none.complain
+  no_act_failed act done told none failed at same within = not_risen old.write_faults mid.write_faults new.write_faults none.write at.own.0 (omega (arith, same))
 
--- what was done is what is due, and the last line stands behind it
-all_done : (words : List (List ℕ)) (contents : ℕ → List ℕ) (old new : Outside) (err opens : ℕ) (done : List Act) (line : List ℕ) (result : Result Done Fault) → WhereTold old new (λ files. contents ≡ contents_of words files)
-    → Did (done ++ Complain line ∷ []) (opening opens old) new → LineEnds line (last_line words result) err new.err_faults → result ≡ (reply_to contents (course_of words)).ending → done ≡ (reply_to contents (course_of words)).acts
-    → NothingFailed old new err → opens ≡ inputs_of contents (course_of words) → Complete words old new result
-all_done words contents old new err opens done line result told did ends ending acts nothing inputs = record {
-  contents = contents;
-  told = told;
-  ending = ending;
-  line = line;
-  did = subst (λ (due : List Act). Did (due ++ Complain line ∷ []) (opening (inputs_of contents (course_of words)) old) new) acts (subst (λ (n : ℕ). Did (done ++ Complain line ∷ []) (opening n old) new) inputs did);
-  ends = subst (λ (n : ℕ). LineEnds line (last_line words result) n new.err_faults) nothing.complain ends;
-}
+  -- what was done is what is due, and the last line stands behind it
+  all_done : (opens : ℕ) (done : List Act) (result : Result Done Fault) (last : LineIsPrinted (last_line words result) mid new) → IsTold → Did done (opening opens old) mid
+      → IsReply words contents old mid opens done result → Complete words old new result
+  all_done opens done result last told did reply =
+      let all : Did (done ++ Complain last.line ∷ []) (opening opens old) new = Did-then done (Complain last.line ∷ []) (opening opens old) mid new did last.did in
+      record {
+        contents = contents;
+        told = told;
+        ending = reply.ending;
+        line = last.line;
+        did = subst (λ (acts : List Act). Did (acts ++ Complain last.line ∷ []) (opening (inputs_of contents (course_of words)) old) new) reply.acts
+            (subst (λ (n : ℕ). Did (done ++ Complain last.line ∷ []) (opening n old) new) reply.inputs all);
+        ends = subst (λ (n : ℕ). LineEnds last.line (last_line words result) n new.err_faults) reply.counts.err last.ends;
+      }
 
-complete_by : (words : List (List ℕ)) (contents : ℕ → List ℕ) (old new : Outside) (err opens : ℕ) (done : List Act) (line : List ℕ) (result : Result Done Fault) → WhereTold old new (λ files. contents ≡ contents_of words files)
-    → Did (done ++ Complain line ∷ []) (opening opens old) new → LineEnds line (last_line words result) err new.err_faults → NoneFailed words old new → Owes words contents old new err opens done result → (result ≡ Err OutOfMemory) ⊎ Complete words old new result
-complete_by words contents old new err opens done line (Err Usage) told did ends none owes =
-    let due : reply_to contents (course_of words) ≡ record { ending = Err Usage; acts = [] } = ap (λ (o : Option Command). reply_to contents (command_course words o)) owes.0 in
-    let none_read : inputs_of contents (course_of words) ≡ 0 = ap (λ (o : Option Command). inputs_of contents (command_course words o)) owes.0 in
-    inr (all_done words contents old new err opens done line (Err Usage) told did ends (ap (λ (r : Reply). r.ending) (sym due)) (owes.1 ∙ ap (λ (r : Reply). r.acts) (sym due)) owes.2 (owes.3 ∙ sym none_read))
-complete_by words contents old new err opens done line (Err (ReadFault word)) told did ends none owes = absurd (not_risen old.read_faults new.read_faults new.read_faults none.read owes.2.read (omega arith))
-complete_by words contents old new err opens done line (Err WriteFault) told did ends none owes =
-    absurd (no_act_failed words old new contents owes.0 err done told none owes.1 owes.2 (line_counts line (last_line words (Err WriteFault)) err new.err_faults ends))
-complete_by words contents old new err opens done line (Err OutOfMemory) told did ends none owes = inl refl
-complete_by words contents old new err opens done line result told did ends none owes = inr (all_done words contents old new err opens done line result told did ends owes.0 owes.1 owes.2 owes.3)
+  -- words without a reading have nothing due
+  nothing_due : (opens : ℕ) (done : List Act) → Owes words contents old mid opens done (Err Usage) → IsReply words contents old mid opens done (Err Usage)
+  nothing_due opens done owes =
+      let reply : reply_to contents (course_of words) ≡ record { ending = Err Usage; acts = [] } = ap (λ (o : Option Command). reply_to contents (command_course words o)) owes.0 in
+      let none_read : inputs_of contents (course_of words) ≡ 0 = ap (λ (o : Option Command). inputs_of contents (command_course words o)) owes.0 in
+      record {
+        ending = ap (λ (r : Reply). r.ending) (sym reply);
+        acts = owes.1 ∙ ap (λ (r : Reply). r.acts) (sym reply);
+        counts = owes.2;
+        inputs = owes.3 ∙ sym none_read;
+      }
+
+  complete_by : (opens : ℕ) (done : List Act) (result : Result Done Fault) (last : LineIsPrinted (last_line words result) mid new) → IsTold → Did done (opening opens old) mid → NoneFailed words old new
+      → Owes words contents old mid opens done result → (result ≡ Err OutOfMemory) ⊎ Complete words old new result
+  complete_by opens done (Err Usage) last told did none owes = inr (all_done opens done (Err Usage) last told did (nothing_due opens done owes))
+  complete_by opens done (Err (ReadFault word)) last told did none owes =
+      absurd (not_risen old.read_faults mid.read_faults new.read_faults none.read owes.2.read (omega (arith, last.read)))
+  complete_by opens done (Err WriteFault) last told did none owes =
+      absurd (no_act_failed owes.0 done told none owes.1 owes.2 last.write (line_counts last.line (last_line words (Err WriteFault)) mid.err_faults new.err_faults last.ends))
+  complete_by opens done (Err OutOfMemory) last told did none owes = inl refl
+  complete_by opens done (Ok carried) last told did none owes = inr (all_done opens done (Ok carried) last told did owes)
+  complete_by opens done (Err (BadElf refusal)) last told did none owes = inr (all_done opens done (Err (BadElf refusal)) last told did owes)
+  complete_by opens done (Err (BadProfile refusal word)) last told did none owes = inr (all_done opens done (Err (BadProfile refusal word)) last told did owes)
+  complete_by opens done (Err (Unlike unlike word)) last told did none owes = inr (all_done opens done (Err (Unlike unlike word)) last told did owes)
+  complete_by opens done (Err (TooWide head arc)) last told did none owes = inr (all_done opens done (Err (TooWide head arc)) last told did owes)
+  complete_by opens done (Err (TooLarge word limit)) last told did none owes = inr (all_done opens done (Err (TooLarge word limit)) last told did owes)
+  complete_by opens done (Err (ProgramTooLarge need end)) last told did none owes = inr (all_done opens done (Err (ProgramTooLarge need end)) last told did owes)
+  complete_by opens done (Err (EntryOutside entry)) last told did none owes = inr (all_done opens done (Err (EntryOutside entry)) last told did owes)
 
 pub complete : (words : List (List ℕ)) (old new : Outside) (result : Result Done Fault) → Answered words old new result → NoneFailed words old new → (result ≡ Err OutOfMemory) ⊎ Complete words old new result
 complete words old new result answered none =
-    complete_by words answered.owed.contents old new answered.err answered.opens answered.done answered.line result answered.owed.told answered.did answered.ends none answered.owed.owes
+    let acted = answered.acted in
+    let mid = answered.before in
+    let contents = acted.owed.contents in
+    let told = further _ old.disk mid.disk new.disk (λ files. contents ≡ contents_of words files) answered.line.did.disk acted.owed.told in
+    complete_by words contents old mid new acted.opens acted.done result answered.line told acted.did none acted.owed.owes
 
 -- where nothing was done, all is left
 all_left : (acts due : List Act) → acts ≡ [] → (rest : List Act) × (due ≡ acts ++ rest)

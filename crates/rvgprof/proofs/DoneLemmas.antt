@@ -7,7 +7,8 @@ use Rattle.rvgprof.specs.declared.outcome.Fault.{Fault}
 use Rattle.rvgprof.specs.declared.outcome.Fault.TheVariants.{OutOfMemory}
 use Rattle.command_words.specs.Words.{command_of}
 use Rattle.rvgprof.specs.Answer.{contents_of}
-use Rattle.rvgprof.specs.Contract.{Answered, WhereTold}
+use Rattle.rvgprof.specs.Contract.{WhereTold}
+use Rattle.rvgprof.specs.Headline.{Answered}
 use Rattle.rvgprof.specs.Completeness.{NoneFailed}
 use Rattle.rvgprof.specs.Acceptance.{IsAccepted}
 use Rattle.rvgprof.proofs.AcceptanceLemmas.{accepted}

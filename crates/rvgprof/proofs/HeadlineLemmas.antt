@@ -13,7 +13,7 @@ use Rattle.elf32_syms.specs.declared.image.Image.{Image}
 use Rattle.elf32_syms.specs.Refusals.{elf_refusal}
 use Rattle.elf32_syms.specs.Image.{image_of}
 use Rattle.gmon_block.specs.Layout.{layout_of}
-use Rattle.gmon_data.specs.Content.{Content, WideRec, conflict_of, empty_content, runs_at, wide_records}
+use Rattle.gmon_data.specs.Content.{Content, IsProfile, WideRec, conflict_of, empty_content, runs_at, wide_records}
 use Rattle.gmon_data.specs.Content.{content_of}
 use Rattle.gmon_data.specs.declared.refusal.Unlike.{Unlike as Difference}
 use Rattle.profile_sum.specs.Sum.{sum_of, clash_of}
@@ -24,7 +24,7 @@ use Rattle.host_port.specs.Act.{Act, Disk, Out, complained, file_content, disk_a
 use Rattle.annotate.specs.Listing.{annotated_text}
 use Rattle.host_port.specs.Act.{printed as prints_of, Err as Complain}
 use Rattle.host_port.specs.Outside.{Outside, Becomes, Did, opening}
-use Rattle.host_port.proofs.Laws.{Becomes-by, complained-append, disk_after-append, printed-append}
+use Rattle.host_port.proofs.Laws.{Becomes-by, Did-then, complained-append, disk_after-append, printed-append}
 use Rattle.symbol_shares.specs.Shares.{attributed_of, share_of, shares_of}
 use Rattle.call_cycles.specs.Graph.{IsGraph}
 use Rattle.call_cycles.specs.Flow.{IsFlow, time_of_roots}
@@ -54,19 +54,26 @@ use Rattle.command_words.specs.declared.words.Shown.{Shown}
 use Rattle.command_words.specs.declared.words.Shown.TheVariants as shows
 use Rattle.command_words.specs.Items.{name_of}
 use Rattle.command_words.specs.Words.{command_of}
-use Rattle.rvgprof.specs.Course.{Course, Ends, Input, Does, Reply, unless, behind, reply_to}
+use Rattle.rvgprof.specs.Course.{Course, Ends, Input, Does, Reply, one_by_one, unless, behind, reply_to}
 use Rattle.gmon_files.specs.Forms.{file_records, file_refusal}
-use Rattle.rvgprof.specs.Answer.{Chosen, RunFiles, all_reports, annotate_course, chosen_by, command_course, contents_of, demo_course, demo_lines, ended, exact_report, file_acts, files_named, given_file_acts, list_profiles, print_reports, profile_in, profiles, program, report_course, report_profiles, report_run, run_acts, run_program, shown_reports, start_fault_of, sums_up, too_wide, wide_step, written_profile}
+use Rattle.rvgprof.specs.Answer.{Chosen, RunFiles, all_reports, annotate_course, chosen_by, command_course, contents_of, demo_course, demo_lines, ended, exact_report, file_acts, files_named, fold_program, folded_course, given_file_acts, list_profiles, print_reports, profile_in, profiles, program, report_course, report_profiles, report_run, run_acts, run_program, show_course, show_lines, shown_reports, stacks_told, start_fault_of, sum_course, sum_file, sums_up, syms_course, syms_lines, too_wide, wide_step, written_profile}
 use Rattle.demo_elf.specs.Elf.{demo_program}
 use Rattle.rvgprof.specs.Reports.{profile_sources}
-use Rattle.rvgprof.specs.Contract.{WhereTold, Answered}
+use Rattle.rvgprof.specs.Contract.{Acted, LineEnds, LineIsPrinted, WhereTold}
+use Rattle.rvgprof.specs.FoldedReport.{folded_report}
+use Rattle.rvgprof.specs.Help.{help_text, version_text}
+use Rattle.rvgprof.specs.Texts.{last_line}
+use Rattle.gmon_gnu.specs.ProfileText.{profile_text}
+use Rattle.text_lines.specs.Lines.{image_text, show_text}
 use Rattle.rvgprof.specs.Acceptance.{IsProgramFile, IsAccepted, Starts, records_of, total_of}
-use Rattle.rvgprof.specs.Headline.{DemoLeaves, ExecutionsAreListed, Headline, IsApart, Leaves, ListingLeaves, ReportLeaves, RunIsSummedUp, RunIsWritten, RunLeaves, TimeIsShared, demo_printed, exact_of, printed_of, reported, reported_of, reports_of}
-use Rattle.rvgprof.specs.RunFile.{FitsFile, FitsWhereTold, RunFits, SaysRun, gmon_text, memory_text, reported_profile, text_sizes, world_of}
+use Rattle.rvgprof.specs.Headline.{Answered, DemoLeaves, ExecutionsAreListed, FoldedLeaves, Headline, Holds, IsApart, IsPrinted, Leaves, ListingLeaves, ReportLeaves, RunIsSummedUp, RunIsWritten, RunLeaves, ShowLeaves, SumLeaves, SymsLeaves, TimeIsShared, demo_printed, exact_of, printed_of, reported, reported_of, reports_of}
+use Rattle.rvgprof.specs.Fitting.{FitsWhereTold, FileFits, SumIsProfile}
+use Rattle.rvgprof.specs.RunFile.{FitsFile, SaysProfile, SaysRun, gmon_text, memory_text, reported_profile, text_sizes, world_of}
 use Rattle.rvgprof.proofs.AcceptanceLemmas.{accepted}
-use Rattle.rvgprof.proofs.Summing.{nothing_added}
+use Rattle.rvgprof.proofs.Summing.{all_records, nothing_added, total_more}
 use Rattle.rvgprof.proofs.FileLemmas.{file_written, file_stays}
-use Rattle.rvgprof.proofs.RunFileLemmas.{run_files_read_back}
+use Rattle.rvgprof.proofs.RunFileLemmas.{profile_files_read_back, run_files_read_back}
+use Rattle.rvgprof.proofs.Standing.{further}
 
 -- ---- the sources of each report
 
@@ -126,20 +133,10 @@ module _ (contents : ℕ → List ℕ) where
       let read = input_goes word MAX_ELF_BYTES judged done in
       read ∙ unless_goes BadElf (elf_refusal bytes) (next bytes (image_of bytes)) (still_done (program word next) (judged bytes) read done)
 
-  abbrev all_records : List ℕ → List WideRec
-  all_records words = flat_map (λ word. records_of (contents word)) words
-
-  total_more : (earlier : List ℕ) (word : ℕ) (total : Content) → total ≡ content_of (all_records earlier) → sum_of total (profile_in (file_records (contents word))) ≡ content_of (all_records (earlier ++ word ∷ []))
-  total_more earlier word total is =
-      let here = records_of (contents word) in
-      let front : all_records earlier ++ here ≡ all_records (earlier ++ word ∷ []) =
-      ap (λ (recs : List WideRec). all_records earlier ++ recs) (sym (append-nil here)) ∙ sym (flat_map-append (λ w. records_of (contents w)) earlier (word ∷ [])) in
-      ap (λ (t : Content). sum_of t (content_of here)) is ∙ content_sum (all_records earlier) here ∙ ap content_of front
-
-  profiles_go : (earlier words : List ℕ) (left : ℕ) (total : Content) (next : Content → Course) → total ≡ content_of (all_records earlier)
-      → IsDone (profiles words left total next) → reply_to contents (profiles words left total next) ≡ reply_to contents (next (content_of (all_records (earlier ++ words))))
+  profiles_go : (earlier words : List ℕ) (left : ℕ) (total : Content) (next : Content → Course) → total ≡ content_of (all_records contents earlier)
+      → IsDone (profiles words left total next) → reply_to contents (profiles words left total next) ≡ reply_to contents (next (content_of (all_records contents (earlier ++ words))))
   profiles_go earlier [] left total next is done =
-      ap (λ (t : Content). reply_to contents (next t)) (is ∙ ap (λ (ws : List ℕ). content_of (all_records ws)) (sym (append-nil earlier)))
+      ap (λ (t : Content). reply_to contents (next t)) (is ∙ ap (λ (ws : List ℕ). content_of (all_records contents ws)) (sym (append-nil earlier)))
   profiles_go earlier (word ∷ words) left total next is done =
       let bytes = contents word in
       let records = file_records bytes in
@@ -161,8 +158,8 @@ module _ (contents : ℕ → List ℕ) where
       let four = still_done second rest others three in
       let grouped : (earlier ++ word ∷ []) ++ words ≡ earlier ++ word ∷ words = append_assoc earlier (word ∷ []) words in
       read ∙ accepted ∙ itself ∙ others
-      ∙ profiles_go (earlier ++ word ∷ []) words (left - length bytes) sum next (total_more earlier word total is) four
-      ∙ ap (λ (ws : List ℕ). reply_to contents (next (content_of (all_records ws)))) grouped
+      ∙ profiles_go (earlier ++ word ∷ []) words (left - length bytes) sum next (total_more contents earlier word total is) four
+      ∙ ap (λ (ws : List ℕ). reply_to contents (next (content_of (all_records contents ws)))) grouped
 
 -- what the reports print, and that they leave the files as they are
 module _ (contents : ℕ → List ℕ) (s : Sources) where
@@ -327,6 +324,11 @@ module _ (words : List (List ℕ)) (contents : ℕ → List ℕ) (elf gmon : ℕ
       let run : prints_of (prints ++ (one ++ two)) ≡ prints_of prints = printed-append prints (one ++ two) ∙ ap (λ (text : List ℕ). prints_of prints ++ text) files_print ∙ append-nil (prints_of prints) in
       printed-append (prints ++ (one ++ two)) rest ∙ ap (λ (text : List ℕ). text ++ prints_of rest) run
 
+-- acts that are done one by one are done
+each_done : (contents : ℕ → List ℕ) (acts : List Act) (next : Course) → reply_to contents (one_by_one acts next) ≡ behind acts (reply_to contents next)
+each_done contents [] next = refl
+each_done contents (act ∷ acts) next = ap (behind (act ∷ [])) (each_done contents acts next)
+
 -- ---- a demo
 
 module _ (contents : ℕ → List ℕ) (functions : ℕ) (elf : Option (List ℕ)) (setup : Setup) where
@@ -405,79 +407,92 @@ says_run words program elf gmon form setup f None (Some z) is_told fits file sam
 says_run words program elf gmon form setup f (Some x) (Some z) is_told fits file same =
     subst (SaysRun form program setup) (sym file) (run_files_read_back form program setup (subst (λ (bytes : List ℕ). FitsFile form bytes setup) (sym is_told) fits))
 
-module _ (words : List (List ℕ)) (old new : Outside) (done : Done) (answered : Answered words old new (Ok done)) where
+-- where the file is told, the profiles are told too
+says_sum : (words : List (List ℕ)) (contents : ℕ → List ℕ) (gmons : List ℕ) (out : ℕ) (f : Disk → Disk) (a c : Option Disk)
+    → MatchOption c ⊤ (λ _. IfSome a (λ d. contents ≡ contents_of words d.files))
+    → MatchOption c ⊤ (λ _. IfSome a (λ d. IsProfile (total_of (contents_of words d.files) gmons)))
+    → IfSome c (λ d. file_content (name_of words out) d.files ≡ profile_text (total_of contents gmons))
+    → Becomes f a c → IfSome c (λ d. SaysProfile (total_of contents gmons) (file_content (name_of words out) d.files))
+says_sum words contents gmons out f a None is_told fits file same = tt
+says_sum words contents gmons out f None (Some z) is_told fits file same = absurd cc
+says_sum words contents gmons out f (Some x) (Some z) is_told fits file same =
+    subst (SaysProfile (total_of contents gmons)) (sym file)
+    (profile_files_read_back (total_of contents gmons) (subst (λ (c : ℕ → List ℕ). IsProfile (total_of c gmons)) (sym is_told) fits))
+
+module _ (words : List (List ℕ)) (old mid new : Outside) (done : Done) (acted : Acted words old mid (Ok done)) (last : LineIsPrinted (last_line words (Ok done)) mid new) where
   abbrev contents : ℕ → List ℕ
-  contents = answered.owed.contents
+  contents = acted.owed.contents
+
+  -- the contents are those of the files that are told before and after
+  told : WhereTold old new (λ files. contents ≡ contents_of words files)
+  told = further _ old.disk mid.disk new.disk (λ files. contents ≡ contents_of words files) last.did.disk acted.owed.told
 
   well_done : (command : Option Command) → command_of words ≡ command → IsDone contents (command_course words command)
-  well_done command said = ap is_ok (ap (λ (r : Reply). r.ending) (ap (reply_to contents) (sym (ap (command_course words) said))) ∙ sym answered.owed.owes.0)
+  well_done command said = ap is_ok (ap (λ (r : Reply). r.ending) (ap (reply_to contents) (sym (ap (command_course words) said))) ∙ sym acted.owed.owes.ending)
 
   all_taken : (command : Option Command) → command_of words ≡ command → IsAccepted words contents command
-  all_taken command said = subst (IsAccepted words contents) said ((accepted words contents).0 (ap is_ok (sym answered.owed.owes.0)))
+  all_taken command said = subst (IsAccepted words contents) said ((accepted words contents).0 (ap is_ok (sym acted.owed.owes.ending)))
 
   -- what was done, by the course
   done_by : (command : Option Command) (reply : Reply) → command_of words ≡ command → reply_to contents (command_course words command) ≡ reply
-      → Did (reply.acts ++ Complain answered.line ∷ []) (opening answered.opens old) new
+      → Did (reply.acts ++ Complain last.line ∷ []) (opening acted.opens old) new
   done_by command reply said is =
-      let acts = answered.owed.owes.1 ∙ ap (λ (r : Reply). r.acts) (ap (reply_to contents) (ap (command_course words) said) ∙ is) in
-      subst (λ (acts : List Act). Did (acts ++ Complain answered.line ∷ []) (opening answered.opens old) new) acts answered.did
+      let acts = acted.owed.owes.acts ∙ ap (λ (r : Reply). r.acts) (ap (reply_to contents) (ap (command_course words) said) ∙ is) in
+      subst (λ (acts : List Act). Did (acts ++ Complain last.line ∷ []) (opening acted.opens old) new) acts
+      (Did-then acted.done (Complain last.line ∷ []) (opening acted.opens old) mid new acted.did last.did)
 
   -- how it ended, by the course
   ended_by : (command : Option Command) (reply : Reply) → command_of words ≡ command → reply_to contents (command_course words command) ≡ reply → Ok done ≡ reply.ending
-  ended_by command reply said is = answered.owed.owes.0 ∙ ap (λ (r : Reply). r.ending) (ap (reply_to contents) (ap (command_course words) said) ∙ is)
+  ended_by command reply said is = acted.owed.owes.ending ∙ ap (λ (r : Reply). r.ending) (ap (reply_to contents) (ap (command_course words) said) ∙ is)
 
   -- a run, of which the acts that follow leave all files as they are
-  run_is_written : (elf gmon : ℕ) (form : Form) (image : Option ℕ) (setup : Setup) (rest : List Act) → IsProgramFile (contents elf) → Starts (contents elf) setup → FitsWhereTold words old new elf form setup
-      → ((x : Disk) → disk_after rest x ≡ x) → Did (due words contents elf gmon form image setup ++ rest) (opening answered.opens old) new
-      → RunIsWritten words old new elf gmon form image setup (contents elf)
-  run_is_written elf gmon form image setup rest accepted starts fits keeps did =
+  run_is_written : (elf gmon : ℕ) (form : Form) (image : Option ℕ) (setup : Setup) (rest : List Act) → FitsWhereTold words old new elf form setup
+      → ((x : Disk) → disk_after rest x ≡ x) → Did (due words contents elf gmon form image setup ++ rest) (opening acted.opens old) new
+      → RunIsWritten words new gmon form image setup (contents elf)
+  run_is_written elf gmon form image setup rest fits keeps did =
       let program = contents elf in
-      let is_told = told_word old new words contents elf answered.owed.told in
+      let is_told = told_word old new words contents elf told in
       let file : IsApart words gmon image → IfSome new.disk (λ d. file_content (name_of words gmon) d.files ≡ gmon_text form program setup) =
       λ apart. told_file old.disk new.disk _ (name_of words gmon) (gmon_text form program setup) did.disk (λ d. file_holds words contents elf gmon form image setup rest d keeps apart) in
       record {
-        told = is_told;
-        accepted = accepted;
-        starts = starts;
         file = file;
         says = λ apart. says_run words program elf gmon form setup _ old.disk new.disk is_told fits (file apart) did.disk;
         memory = λ place is. told_file old.disk new.disk _ (name_of words place) (memory_text program setup) did.disk (λ d. memory_holds words contents elf gmon form image setup rest d place keeps is);
       }
 
   -- what acts print was printed
-  was_printed : (acts : List Act) (text : List ℕ) → prints_of acts ≡ text → Did acts (opening answered.opens old) new → Becomes (λ bytes. bytes ++ text) old.out new.out
+  was_printed : (acts : List Act) (text : List ℕ) → prints_of acts ≡ text → Did acts (opening acted.opens old) new → Becomes (λ bytes. bytes ++ text) old.out new.out
   was_printed acts text is did = Becomes-by _ _ old.out new.out (λ b. ap (λ (t : List ℕ). b ++ t) is) did.out
 
   -- a run, of which the acts that follow print nothing on the error output but the last line
-  run_is_summed_up : (program : List ℕ) (setup : Setup) (acts : List Act) → Ok done ≡ ended_with program setup → complained acts ≡ complained (world_of program setup).prints ++ answered.line
-      → Did acts (opening answered.opens old) new → RunIsSummedUp words old new done setup program
+  run_is_summed_up : (program : List ℕ) (setup : Setup) (acts : List Act) → Ok done ≡ ended_with program setup → complained acts ≡ complained (world_of program setup).prints ++ last.line
+      → Did acts (opening acted.opens old) new → RunIsSummedUp words old new done setup program
   run_is_summed_up program setup acts ending is did = record {
     summary = ap run_in ending;
-    line = answered.line;
-    before = answered.err;
-    ends = answered.ends;
+    line = last.line;
+    ends = subst (λ (n : ℕ). LineEnds last.line (last_line words (Ok done)) n new.err_faults) acted.owed.owes.counts.err last.ends;
     errors = Becomes-by _ _ old.err new.err (λ b. ap (λ (t : List ℕ). b ++ t) is) did.err;
   }
 
   run_leaves : (elf gmon : ℕ) (form : Form) (image : Option ℕ) (setup : Setup) → command_of words ≡ Some (Run elf gmon form image setup) → FitsWhereTold words old new elf form setup
-      → RunLeaves words old new done elf gmon form image setup
+      → RunLeaves words contents old new done elf gmon form image setup
   run_leaves elf gmon form image setup said fits =
       let command = Some (Run elf gmon form image setup) in
       let acts = due words contents elf gmon form image setup in
-      let line = Complain answered.line ∷ [] in
+      let line = Complain last.line ∷ [] in
       let prints = (world_of (contents elf) setup).prints in
       let taken : IsAccepted words contents command = all_taken command said in
       let reply = run_goes words contents elf gmon form image setup (λ i. sums_up) (well_done command said) in
-      let did = subst (λ (acts : List Act). Did acts (opening answered.opens old) new) (append_assoc acts [] line) (done_by command _ said reply) in
+      let did = subst (λ (acts : List Act). Did acts (opening acted.opens old) new) (append_assoc acts [] line) (done_by command _ said reply) in
       record {
-        program = contents elf;
-        written = run_is_written elf gmon form image setup line taken.0 taken.1 fits (λ x. refl) did;
+        runs = record { accepted = taken.0; starts = taken.1 };
+        written = run_is_written elf gmon form image setup line fits (λ x. refl) did;
         output = was_printed (acts ++ line) _ (run_prints words contents elf gmon form image setup line ∙ append-nil (prints_of prints)) did;
         run = run_is_summed_up (contents elf) setup (acts ++ line) (ended_by command _ said reply)
-            (run_complains words contents elf gmon form image setup line ∙ ap (λ (text : List ℕ). complained prints ++ text) (append-nil answered.line)) did;
+            (run_complains words contents elf gmon form image setup line ∙ ap (λ (text : List ℕ). complained prints ++ text) (append-nil last.line)) did;
       }
 
-  report_leaves : (elf : ℕ) (gmons : List ℕ) (selection : Selection) → command_of words ≡ Some (Report elf gmons selection) → ReportLeaves words old new elf gmons (chosen_by words selection)
+  report_leaves : (elf : ℕ) (gmons : List ℕ) (selection : Selection) → command_of words ≡ Some (Report elf gmons selection) → ReportLeaves contents old new elf gmons (chosen_by words selection)
   report_leaves elf gmons selection said =
       let command = Some (Report elf gmons selection) in
       let chosen = chosen_by words selection in
@@ -493,16 +508,14 @@ module _ (words : List (List ℕ)) (old new : Outside) (done : Done) (answered :
       let printed = reports_go contents chosen sources _ (still_done contents (report_profiles gmons chosen (contents elf) image) (next total) added summed) in
       let did = done_by command _ said (read ∙ added ∙ printed) in
       record {
-        contents = contents;
-        told = answered.owed.told;
         accepted = taken.0;
         profiles = taken.1;
-        output = was_printed _ _ (reports_print contents chosen sources _ answered.line) did;
+        output = was_printed _ _ (reports_print contents chosen sources _ last.line) did;
         shared = time_is_shared image (without_cuts total image.symbols chosen.cuts);
         fits = taken.2;
       }
 
-  listing_leaves : (elf : ℕ) (gmons : List ℕ) → command_of words ≡ Some (Annotate elf gmons) → ListingLeaves words old new elf gmons
+  listing_leaves : (elf : ℕ) (gmons : List ℕ) → command_of words ≡ Some (Annotate elf gmons) → ListingLeaves contents old new elf gmons
   listing_leaves elf gmons said =
       let command = Some (Annotate elf gmons) in
       let program = contents elf in
@@ -515,15 +528,13 @@ module _ (words : List (List ℕ)) (old new : Outside) (done : Done) (answered :
       let added = profiles_go contents [] gmons MAX_PROFILE_BYTES empty_content next nothing_added summed in
       let did = done_by command _ said (read ∙ added) in
       record {
-        contents = contents;
-        told = answered.owed.told;
         accepted = taken.0;
         profiles = taken.1;
         output = was_printed _ _ (append-nil (annotated_text image program (total_of contents gmons))) did;
       }
 
   profile_leaves : (elf gmon : ℕ) (form : Form) (image : Option ℕ) (setup : Setup) (selection : Selection) → command_of words ≡ Some (Profile elf gmon form image setup selection) → FitsWhereTold words old new elf form setup
-      → Headline words old new done elf gmon form image setup (chosen_by words selection)
+      → Headline words contents old new done elf gmon form image setup (chosen_by words selection)
   profile_leaves elf gmon form image setup selection said fits =
       let command = Some (Profile elf gmon form image setup selection) in
       let chosen = chosen_by words selection in
@@ -531,22 +542,22 @@ module _ (words : List (List ℕ)) (old new : Outside) (done : Done) (answered :
       let z = text_sizes program setup in
       let w = world_of program setup in
       let acts = due words contents elf gmon form image setup in
-      let line = Complain answered.line ∷ [] in
+      let line = Complain last.line ∷ [] in
       let sources = reported chosen form program setup in
       let taken : IsAccepted words contents command = all_taken command said in
       let goes = well_done command said in
       let ran = run_goes words contents elf gmon form image setup (report_run form setup.rate chosen) goes in
       let printed = reports_go contents chosen sources _ (subst (λ (r : Reply). IsOk r.ending) ran goes) in
       let reply = ran ∙ ap (behind acts) printed in
-      let last = (reply_to contents (reports contents chosen sources _)).acts in
-      let did = subst (λ (acts : List Act). Did acts (opening answered.opens old) new) (append_assoc acts last line) (done_by command _ said reply) in
+      let printed_last = (reply_to contents (reports contents chosen sources _)).acts in
+      let did = subst (λ (acts : List Act). Did acts (opening acted.opens old) new) (append_assoc acts printed_last line) (done_by command _ said reply) in
       record {
-        program = program;
-        written = run_is_written elf gmon form image setup (last ++ line) taken.0 taken.1 fits (reports_keep contents chosen sources _ answered.line) did;
-        output = was_printed (acts ++ (last ++ line)) _ (run_prints words contents elf gmon form image setup (last ++ line)
-            ∙ ap (λ (text : List ℕ). prints_of w.prints ++ text) (reports_print contents chosen sources _ answered.line)) did;
-        run = run_is_summed_up program setup (acts ++ (last ++ line)) (ended_by command _ said reply ∙ reports_end contents chosen sources _)
-            (run_complains words contents elf gmon form image setup (last ++ line) ∙ ap (λ (text : List ℕ). complained w.prints ++ text) (reports_complain contents chosen sources _ answered.line)) did;
+        runs = record { accepted = taken.0; starts = taken.1 };
+        written = run_is_written elf gmon form image setup (printed_last ++ line) fits (reports_keep contents chosen sources _ last.line) did;
+        output = was_printed (acts ++ (printed_last ++ line)) _ (run_prints words contents elf gmon form image setup (printed_last ++ line)
+            ∙ ap (λ (text : List ℕ). prints_of w.prints ++ text) (reports_print contents chosen sources _ last.line)) did;
+        run = run_is_summed_up program setup (acts ++ (printed_last ++ line)) (ended_by command _ said reply ∙ reports_end contents chosen sources _)
+            (run_complains words contents elf gmon form image setup (printed_last ++ line) ∙ ap (λ (text : List ℕ). complained w.prints ++ text) (reports_complain contents chosen sources _ last.line)) did;
         shared = time_is_shared (image_of program) (without_cuts (written_profile form z w.log setup.rate) (image_of program).symbols chosen.cuts);
         fits = taken.2;
       }
@@ -560,29 +571,98 @@ module _ (words : List (List ℕ)) (old new : Outside) (done : Done) (answered :
       let reply = demo_goes contents functions name setup (well_done command said) in
       let did = done_by command _ said reply in
       record {
-        output = was_printed _ _ (demo_prints name bytes prints (demo_printed functions setup) answered.line) did;
-        run = run_is_summed_up bytes setup _ (ended_by command _ said reply) (demo_complains name bytes prints (demo_printed functions setup) answered.line) did;
+        output = was_printed _ _ (demo_prints name bytes prints (demo_printed functions setup) last.line) did;
+        run = run_is_summed_up bytes setup _ (ended_by command _ said reply) (demo_complains name bytes prints (demo_printed functions setup) last.line) did;
         shared = time_is_shared (image_of bytes) (reported_profile Bsd bytes setup);
       }
 
-  leaves_by : (command : Option Command) → command_of words ≡ command → RunFits words old new command → Leaves words old new done command
-  leaves_by None said fits = tt
-  leaves_by (Some (Show gmon)) said fits = tt
-  leaves_by (Some (Syms elf)) said fits = tt
-  leaves_by (Some (Sum out gmons)) said fits = tt
+  -- a text is all that was printed
+  text_leaves : (command : Command) (text : List ℕ) → command_of words ≡ Some command
+      → reply_to contents (command_course words (Some command)) ≡ record { ending = Ok (record { run = None }); acts = Out text ∷ [] } → IsPrinted text old new
+  text_leaves command text said is = was_printed _ _ (append-nil text) (done_by (Some command) _ said is)
+
+  show_leaves : (gmon : ℕ) → command_of words ≡ Some (Show gmon) → ShowLeaves contents old new gmon
+  show_leaves gmon said =
+      let goes = well_done (Some (Show gmon)) said in
+      let read = input_goes contents gmon MAX_PROFILE_BYTES (λ b. unless (λ refusal. BadProfile refusal gmon) (file_refusal b) (show_lines (length b) (file_records b))) goes in
+      let judged = unless (λ refusal. BadProfile refusal gmon) (file_refusal (contents gmon)) (show_lines (length (contents gmon)) (file_records (contents gmon))) in
+      let accepted = unless_goes contents (λ refusal. BadProfile refusal gmon) (file_refusal (contents gmon)) (show_lines (length (contents gmon)) (file_records (contents gmon)))
+          (still_done contents (show_course gmon) judged read goes) in
+      record {
+        accepted = all_taken (Some (Show gmon)) said;
+        output = text_leaves (Show gmon) (show_text (file_records (contents gmon))) said (read ∙ accepted);
+      }
+
+  syms_leaves : (elf : ℕ) → command_of words ≡ Some (Syms elf) → SymsLeaves contents old new elf
+  syms_leaves elf said = record {
+    accepted = all_taken (Some (Syms elf)) said;
+    output = text_leaves (Syms elf) (image_text (image_of (contents elf))) said (program_goes contents elf syms_lines (well_done (Some (Syms elf)) said));
+  }
+
+  sum_leaves : (out : ℕ) (gmons : List ℕ) → command_of words ≡ Some (Sum out gmons) → SumIsProfile words old new gmons → SumLeaves words contents old new out gmons
+  sum_leaves out gmons said fits =
+      let command = Some (Sum out gmons) in
+      let total = total_of contents gmons in
+      let text = profile_text total in
+      let line = Complain last.line ∷ [] in
+      let added = profiles_go contents [] gmons MAX_PROFILE_BYTES empty_content (sum_file (name_of words out)) nothing_added (well_done command said) in
+      let did = done_by command _ said added in
+      let file : Holds words new out text = told_file old.disk new.disk _ (name_of words out) text did.disk (λ d. file_written (name_of words out) text d) in
+      record {
+        profiles = all_taken command said;
+        file = file;
+        says = says_sum words contents gmons out _ old.disk new.disk told fits file did.disk;
+        output = was_printed (file_acts (name_of words out) text ++ line) [] refl did;
+      }
+
+  folded_leaves : (elf : ℕ) (inclusive : Bool) (setup : Setup) → command_of words ≡ Some (Folded elf inclusive setup) → FoldedLeaves words contents old new done elf inclusive setup
+  folded_leaves elf inclusive setup said =
+      let command = Some (Folded elf inclusive setup) in
+      let bytes = contents elf in
+      let image = image_of bytes in
+      let prints = (world_of bytes setup).prints in
+      let text = folded_report inclusive image bytes setup in
+      let taken : IsAccepted words contents command = all_taken command said in
+      let goes = well_done command said in
+      let read = program_goes contents elf (fold_program inclusive setup) goes in
+      let started = unless_goes contents start_fault_of (start_refusal image setup) (one_by_one prints (stacks_told inclusive image bytes setup))
+          (still_done contents (folded_course elf inclusive setup) (fold_program inclusive setup bytes image) read goes) in
+      let reply = read ∙ started ∙ each_done contents prints (stacks_told inclusive image bytes setup) in
+      let did = done_by command _ said reply in
+      record {
+        runs = record { accepted = taken.0; starts = taken.1 };
+        output = was_printed _ _ (demo_prints None bytes prints text last.line) did;
+        run = run_is_summed_up bytes setup _ (ended_by command _ said reply) (demo_complains None bytes prints text last.line) did;
+      }
+
+  leaves_by : (command : Option Command) → command_of words ≡ command → FileFits words old new command → Leaves words contents old new done command
+  leaves_by None said fits = all_taken None said
+  leaves_by (Some (Show gmon)) said fits = show_leaves gmon said
+  leaves_by (Some (Syms elf)) said fits = syms_leaves elf said
+  leaves_by (Some (Sum out gmons)) said fits = sum_leaves out gmons said fits
   leaves_by (Some (Report elf gmons selection)) said fits = report_leaves elf gmons selection said
   leaves_by (Some (Run elf gmon form image setup)) said fits = run_leaves elf gmon form image setup said fits
   leaves_by (Some (Profile elf gmon form image setup selection)) said fits = profile_leaves elf gmon form image setup selection said fits
   leaves_by (Some (Demo functions elf setup)) said fits = demo_leaves functions elf setup said
   leaves_by (Some (Annotate elf gmons)) said fits = listing_leaves elf gmons said
-  leaves_by (Some (Folded elf inclusive setup)) said fits = tt
-  leaves_by (Some Help) said fits = tt
-  leaves_by (Some Version) said fits = tt
+  leaves_by (Some (Folded elf inclusive setup)) said fits = folded_leaves elf inclusive setup said
+  leaves_by (Some Help) said fits = text_leaves Help help_text said refl
+  leaves_by (Some Version) said fits = text_leaves Version version_text said refl
 
 pub executions_listed : ExecutionsAreListed
 executions_listed program setup contents gmon i says counts below =
     let at = (text_sizes program setup).low + 4 * i in
     ap (λ (recs : List WideRec). runs_at at (content_of recs).blocks) (append-nil (records_of (contents gmon))) ∙ says.executions counts i below
 
-pub leaves : (words : List (List ℕ)) (old new : Outside) (done : Done) → Answered words old new (Ok done) → RunFits words old new (command_of words) → Leaves words old new done (command_of words)
-leaves words old new done answered fits = leaves_by words old new done answered (command_of words) refl fits
+-- what a command leaves, once the last line was printed behind what it did
+pub carried_out : (words : List (List ℕ)) (old mid new : Outside) (done : Done) → Acted words old mid (Ok done) → LineIsPrinted (last_line words (Ok done)) mid new → FileFits words old new (command_of words)
+    → Answered words old new (Ok done)
+carried_out words old mid new done acted last fits = record {
+  before = mid;
+  acted = acted;
+  line = last;
+  leaves = leaves_by words old mid new done acted last (command_of words) refl fits;
+}
+
+pub ended_badly : (words : List (List ℕ)) (old mid new : Outside) (fault : Fault) → Acted words old mid (Err fault) → LineIsPrinted (last_line words (Err fault)) mid new → Answered words old new (Err fault)
+ended_badly words old mid new fault acted last = record { before = mid; acted = acted; line = last; leaves = tt }

@@ -354,8 +354,9 @@ profile_form p = refl
 pub profile_files_read_back : ProfileFilesAreReadBack
 profile_files_read_back p is =
     let text = profile_text p in
-    let read = profile_read_back p is in (
-      profile_form p,
-      ap (λ (f : Form). refusal_in f text) (profile_form p) ∙ read.0,
-      ap (λ (f : Form). profile_in (records_in f text)) (profile_form p) ∙ read.1,
-    )
+    let read = profile_read_back p is in
+    record {
+      form_is = profile_form p;
+      accepted = ap (λ (f : Form). refusal_in f text) (profile_form p) ∙ read.0;
+      content = ap (λ (f : Form). profile_in (records_in f text)) (profile_form p) ∙ read.1;
+    }

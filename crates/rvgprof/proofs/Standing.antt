@@ -13,7 +13,7 @@ use Rattle.host_port.specs.declared.loading.LoadRefusal.TheVariants as loads
 use Rattle.host_port.proofs.Laws.{Did-nothing, Did-then, KeepsCounts-same, KeepsCounts-then}
 use Rattle.rvgprof.specs.declared.outcome.Done.{Done}
 use Rattle.rvgprof.specs.declared.outcome.Fault.{Fault}
-use Rattle.rvgprof.specs.declared.outcome.Fault.TheVariants.{Usage, ReadFault, WriteFault, OutOfMemory, TooLarge}
+use Rattle.rvgprof.specs.declared.outcome.Fault.TheVariants.{Usage, BadElf, BadProfile, Unlike, TooWide, ProgramTooLarge, EntryOutside, ReadFault, WriteFault, OutOfMemory, TooLarge}
 use Rattle.command_words.specs.declared.words.Command.{Command}
 use Rattle.command_words.specs.Items.{name_of}
 use Rattle.command_words.specs.Words.{command_of}
@@ -21,14 +21,14 @@ use Rattle.rvgprof.specs.Course.{Course, Ends, Input, Does, Reply, behind, one_b
 use Rattle.rvgprof.specs.Answer.{command_course, course_of, contents_of, load_fault_of}
 use Rattle.host_port.specs.Performing.{FailedAt, Performs}
 use Rattle.host_port.proofs.PerformingLemmas.{failed_behind, failed_before, failed_since}
-use Rattle.rvgprof.specs.Contract.{NothingFailed, ReadingFailed, Owes, Owed, WhereTold, Acted}
+use Rattle.rvgprof.specs.Contract.{IsReply, ReadingFailed, Owes, Owed, WhereTold, Acted}
 use Rattle.rvgprof.specs.Standing.{LeadsTo, Stands}
 
 -- what holds of the files before, where they are told at one moment and at another
 abbrev Told : Option Disk → Option Disk → (List File → Type 0) → Type 0
 Told a c P = MatchOption c ⊤ (λ _. IfSome a (λ d. P d.files))
 
-everywhere : (a c : Option Disk) (P : List File → Type 0) → ((files : List File) → P files) → Told a c P
+pub everywhere : (a c : Option Disk) (P : List File → Type 0) → ((files : List File) → P files) → Told a c P
 everywhere a None P h = tt
 everywhere None (Some z) P h = tt
 everywhere (Some x) (Some z) P h = h x.files
@@ -62,10 +62,10 @@ choose words a None P some p q = (some, tt, p)
 choose words None (Some z) P some p q = (some, tt, p)
 choose words (Some x) (Some z) P some p q = (contents_of words x.files, refl, q)
 
-owed_by : (words : List (List ℕ)) (old new : Outside) (err opens : ℕ) (done : List Act) (result : Result Done Fault) (some : ℕ → List ℕ) → Owes words some old new err opens done result
-    → WhereTold old new (λ files. Owes words (contents_of words files) old new err opens done result) → Owed words old new err opens done result
-owed_by words old new err opens done result some p q =
-    let h = choose words old.disk new.disk (λ contents. Owes words contents old new err opens done result) some p q in
+owed_by : (words : List (List ℕ)) (old new : Outside) (opens : ℕ) (done : List Act) (result : Result Done Fault) (some : ℕ → List ℕ) → Owes words some old new opens done result
+    → WhereTold old new (λ files. Owes words (contents_of words files) old new opens done result) → Owed words old new opens done result
+owed_by words old new opens done result some p q =
+    let h = choose words old.disk new.disk (λ contents. Owes words contents old new opens done result) some p q in
     record { contents = h.0; told = h.1; owes = h.2 }
 
 -- a course leads to itself
@@ -96,13 +96,13 @@ begun words x command said idle =
 -- the words were not understood
 pub not_understood : (words : List (List ℕ)) (x : Outside) → x.is_writing ≡ false → command_of words ≡ None → Acted words x x (Err Usage)
 not_understood words x idle none =
-    let owes : (contents : ℕ → List ℕ) → Owes words contents x x x.err_faults 0 [] (Err Usage) = λ contents. (none, refl, record { read = refl; write = refl; complain = refl }, refl) in
+    let owes : (contents : ℕ → List ℕ) → Owes words contents x x 0 [] (Err Usage) = λ contents. (none, refl, KeepsCounts-same x, refl) in
     record {
       done = [];
       opens = 0;
       did = Did-nothing x;
-      owed = owed_by words x x x.err_faults 0 [] (Err Usage) (λ word. []) (owes (λ word. []))
-          (everywhere x.disk x.disk (λ files. Owes words (contents_of words files) x x x.err_faults 0 [] (Err Usage)) (λ files. owes (contents_of words files)));
+      owed = owed_by words x x 0 [] (Err Usage) (λ word. []) (owes (λ word. []))
+          (everywhere x.disk x.disk (λ files. Owes words (contents_of words files) x x 0 [] (Err Usage)) (λ files. owes (contents_of words files)));
       shut = λ _. idle;
     }
 
@@ -111,9 +111,6 @@ opened_more : (n : ℕ) (old mid new : Outside) → Did [] (opening n old) mid �
 opened_more n old mid new p q =
     let before : Did [] (opening (suc n) old) (opening 1 mid) = record { disk = p.disk; out = p.out; err = p.err; writing = p.writing; file_changes = p.file_changes; opened = ap next_count p.opened } in
     Did-then [] [] (opening (suc n) old) (opening 1 mid) new before q
-
-nothing_failed : (old new : Outside) → KeepsCounts old new → NothingFailed old new new.err_faults
-nothing_failed old new counts = record { read = counts.read; write = counts.write; complain = counts.err }
 
 -- what was read, and one input more
 abbrev with_read : ℕ → List ℕ → (ℕ → List ℕ) → ℕ → List ℕ
@@ -170,28 +167,28 @@ loaded words old mid new below word limit next bytes s later loads =
           (told_back old.disk new.disk (λ files. bytes ≡ file_content (name_of words word) files) did.disk loads.answer);
     }
 
-too_large : (words : List (List ℕ)) (contents : ℕ → List ℕ) (old new : Outside) (err opens word limit : ℕ) (next : List ℕ → Course) → LeadsTo contents (course_of words) opens [] (Input word limit next) → limit < length (contents word)
-    → NothingFailed old new err → Owes words contents old new err (suc opens) [] (Err (TooLarge word limit))
-too_large words contents old new err opens word limit next l long nothing =
+too_large : (words : List (List ℕ)) (contents : ℕ → List ℕ) (old new : Outside) (opens word limit : ℕ) (next : List ℕ → Course) → LeadsTo contents (course_of words) opens [] (Input word limit next) → limit < length (contents word)
+    → KeepsCounts old new → Owes words contents old new (suc opens) [] (Err (TooLarge word limit))
+too_large words contents old new opens word limit next l long nothing =
     let test = lt-ltb limit (length (contents word)) long in
     let due : reply_to contents (course_of words) ≡ record { ending = Err (TooLarge word limit); acts = [] } =
     l.reply ∙ ap (λ (b : Bool). cond b (record { ending = Err (TooLarge word limit); acts = [] }) (reply_to contents (next (contents word)))) test in
     let inputs : inputs_of contents (course_of words) ≡ opens + 1 = l.inputs ∙ ap (λ (b : Bool). opens + suc (cond b 0 (inputs_of contents (next (contents word))))) test in
-    (ap (λ (r : Reply). r.ending) (sym due), ap (λ (r : Reply). r.acts) (sym due), nothing, omega (arith, inputs))
+    record { ending = ap (λ (r : Reply). r.ending) (sym due); acts = ap (λ (r : Reply). r.acts) (sym due); counts = nothing; inputs = omega (arith, inputs) }
 
 -- there was no memory for what comes next, where so many inputs were opened
 memory_out : (words : List (List ℕ)) (old new : Outside) (opens opened : ℕ) (done : List Act) (rest : Course) (read : ℕ → List ℕ) → Did done (opening opened old) new → KeepsCounts old new → new.is_writing ≡ false
     → LeadsTo read (course_of words) opens done rest → WhereTold old new (λ files. LeadsTo (contents_of words files) (course_of words) opens done rest) → ((contents : ℕ → List ℕ) → MayStop contents rest [])
     → Acted words old new (Err OutOfMemory)
 memory_out words old new opens opened done rest read did counts shut leads told may =
-    let owes : (contents : ℕ → List ℕ) → LeadsTo contents (course_of words) opens done rest → Owes words contents old new new.err_faults opened done (Err OutOfMemory) =
-    λ contents l. (subst (λ (acts : List Act). MayStop contents (course_of words) acts) (append-nil done) (l.may_stop [] (may contents)), nothing_failed old new counts) in
+    let owes : (contents : ℕ → List ℕ) → LeadsTo contents (course_of words) opens done rest → Owes words contents old new opened done (Err OutOfMemory) =
+    λ contents l. (subst (λ (acts : List Act). MayStop contents (course_of words) acts) (append-nil done) (l.may_stop [] (may contents)), counts) in
     record {
       done = done;
       opens = opened;
       did = did;
-      owed = owed_by words old new new.err_faults opened done (Err OutOfMemory) read (owes read leads)
-          (weaker old.disk new.disk (λ files. LeadsTo (contents_of words files) (course_of words) opens done rest) (λ files. Owes words (contents_of words files) old new new.err_faults opened done (Err OutOfMemory))
+      owed = owed_by words old new opened done (Err OutOfMemory) read (owes read leads)
+          (weaker old.disk new.disk (λ files. LeadsTo (contents_of words files) (course_of words) opens done rest) (λ files. Owes words (contents_of words files) old new opened done (Err OutOfMemory))
           (λ files. owes (contents_of words files)) told);
       shut = λ _. shut;
     }
@@ -218,28 +215,28 @@ comes_next contents whole opens word limit next l =
 pub not_loaded : (words : List (List ℕ)) (old mid new : Outside) (below word limit : ℕ) (next : List ℕ → Course) (refusal : LoadRefusal) → Stands words old mid below [] (Input word limit next) → below ≤ word
     → Loads (name_of words word) limit mid new (Err refusal) → Acted words old new (Err (load_fault_of refusal word limit))
 not_loaded words old mid new below word limit next loads.ReadFault s later loads =
-    let failed : ReadingFailed old new new.err_faults = record {
+    let failed : ReadingFailed old new = record {
       read = subst (λ (k : ℕ). Rose k new.read_faults) s.counts.read loads.counts.0;
       write = loads.counts.1 ∙ s.counts.write;
       complain = loads.counts.2 ∙ s.counts.err;
       last = loads.counts.3;
     } in
     let did = opened_more s.opens old mid new s.did loads.nothing_done in
-    let comes : (contents : ℕ → List ℕ) → LeadsTo contents (course_of words) s.opens [] (Input word limit next) → Owes words contents old new new.err_faults (suc s.opens) [] (Err (ReadFault word)) =
+    let comes : (contents : ℕ → List ℕ) → LeadsTo contents (course_of words) s.opens [] (Input word limit next) → Owes words contents old new (suc s.opens) [] (Err (ReadFault word)) =
     λ contents l. ((s.opens, refl, comes_next contents (course_of words) s.opens word limit next l), refl, failed) in
     record {
       done = [];
       opens = suc s.opens;
       did = did;
-      owed = owed_by words old new new.err_faults (suc s.opens) [] (Err (ReadFault word)) s.read (comes s.read (s.leads s.read (λ w less. refl)))
-          (weaker old.disk new.disk (λ files. LeadsTo (contents_of words files) (course_of words) s.opens [] (Input word limit next)) (λ files. Owes words (contents_of words files) old new new.err_faults (suc s.opens) [] (Err (ReadFault word)))
+      owed = owed_by words old new (suc s.opens) [] (Err (ReadFault word)) s.read (comes s.read (s.leads s.read (λ w less. refl)))
+          (weaker old.disk new.disk (λ files. LeadsTo (contents_of words files) (course_of words) s.opens [] (Input word limit next)) (λ files. Owes words (contents_of words files) old new (suc s.opens) [] (Err (ReadFault word)))
           (λ files. comes (contents_of words files))
           (further (λ d. d) old.disk mid.disk new.disk (λ files. LeadsTo (contents_of words files) (course_of words) s.opens [] (Input word limit next)) loads.nothing_done.disk s.told));
       shut = λ _. loads.nothing_done.writing ∙ s.shut;
     }
 not_loaded words old mid new below word limit next loads.TooLarge s later loads =
     let did = opened_more s.opens old mid new s.did loads.nothing_done in
-    let nothing = nothing_failed old new (KeepsCounts-then old mid new s.counts loads.counts) in
+    let nothing = KeepsCounts-then old mid new s.counts loads.counts in
     let zeros : List ℕ = replicate (limit + 1) 0 in
     let some = with_read word zeros s.read in
     let long : limit < length (some word) = subst (λ (bs : List ℕ). limit < length bs) (sym (read_at word zeros s.read)) (subst (λ (n : ℕ). limit < n) (sym (length-replicate (limit + 1) 0)) (omega arith)) in
@@ -247,11 +244,11 @@ not_loaded words old mid new below word limit next loads.TooLarge s later loads 
       done = [];
       opens = suc s.opens;
       did = did;
-      owed = owed_by words old new new.err_faults (suc s.opens) [] (Err (TooLarge word limit)) some
-          (too_large words some old new new.err_faults s.opens word limit next (s.leads some (λ w less. read_before word zeros s.read w (omega arith))) long nothing)
+      owed = owed_by words old new (suc s.opens) [] (Err (TooLarge word limit)) some
+          (too_large words some old new s.opens word limit next (s.leads some (λ w less. read_before word zeros s.read w (omega arith))) long nothing)
           (both old.disk new.disk (λ files. LeadsTo (contents_of words files) (course_of words) s.opens [] (Input word limit next)) (λ files. limit < length (file_content (name_of words word) files))
-          (λ files. Owes words (contents_of words files) old new new.err_faults (suc s.opens) [] (Err (TooLarge word limit)))
-          (λ files l more. too_large words (contents_of words files) old new new.err_faults s.opens word limit next l more nothing)
+          (λ files. Owes words (contents_of words files) old new (suc s.opens) [] (Err (TooLarge word limit)))
+          (λ files l more. too_large words (contents_of words files) old new s.opens word limit next l more nothing)
           (further (λ d. d) old.disk mid.disk new.disk (λ files. LeadsTo (contents_of words files) (course_of words) s.opens [] (Input word limit next)) loads.nothing_done.disk s.told)
           (told_back old.disk new.disk (λ files. limit < length (file_content (name_of words word) files)) did.disk loads.answer));
       shut = λ _. loads.nothing_done.writing ∙ s.shut;
@@ -277,26 +274,33 @@ IsAnswer (Err WriteFault) = ⊥
 IsAnswer (Err OutOfMemory) = ⊥
 IsAnswer result = ⊤
 
-answer_owed : (words : List (List ℕ)) (contents : ℕ → List ℕ) (old new : Outside) (err opens : ℕ) (done : List Act) (result : Result Done Fault) → IsAnswer result
-    → result ≡ (reply_to contents (course_of words)).ending → done ≡ (reply_to contents (course_of words)).acts → NothingFailed old new err → opens ≡ inputs_of contents (course_of words) → Owes words contents old new err opens done result
-answer_owed words contents old new err opens done (Err Usage) is e a n o = absurd is
-answer_owed words contents old new err opens done (Err (ReadFault word)) is e a n o = absurd is
-answer_owed words contents old new err opens done (Err WriteFault) is e a n o = absurd is
-answer_owed words contents old new err opens done (Err OutOfMemory) is e a n o = absurd is
-answer_owed words contents old new err opens done result is e a n o = (e, a, n, o)
+answer_owed : (words : List (List ℕ)) (contents : ℕ → List ℕ) (old new : Outside) (opens : ℕ) (done : List Act) (result : Result Done Fault) → IsAnswer result
+    → result ≡ (reply_to contents (course_of words)).ending → done ≡ (reply_to contents (course_of words)).acts → KeepsCounts old new → opens ≡ inputs_of contents (course_of words) → Owes words contents old new opens done result
+answer_owed words contents old new opens done (Err Usage) is e a n o = absurd is
+answer_owed words contents old new opens done (Err (ReadFault word)) is e a n o = absurd is
+answer_owed words contents old new opens done (Err WriteFault) is e a n o = absurd is
+answer_owed words contents old new opens done (Err OutOfMemory) is e a n o = absurd is
+answer_owed words contents old new opens done (Ok carried) is e a n o = record { ending = e; acts = a; counts = n; inputs = o }
+answer_owed words contents old new opens done (Err (BadElf refusal)) is e a n o = record { ending = e; acts = a; counts = n; inputs = o }
+answer_owed words contents old new opens done (Err (BadProfile refusal word)) is e a n o = record { ending = e; acts = a; counts = n; inputs = o }
+answer_owed words contents old new opens done (Err (Unlike unlike word)) is e a n o = record { ending = e; acts = a; counts = n; inputs = o }
+answer_owed words contents old new opens done (Err (TooWide head arc)) is e a n o = record { ending = e; acts = a; counts = n; inputs = o }
+answer_owed words contents old new opens done (Err (TooLarge word limit)) is e a n o = record { ending = e; acts = a; counts = n; inputs = o }
+answer_owed words contents old new opens done (Err (ProgramTooLarge need end)) is e a n o = record { ending = e; acts = a; counts = n; inputs = o }
+answer_owed words contents old new opens done (Err (EntryOutside entry)) is e a n o = record { ending = e; acts = a; counts = n; inputs = o }
 
 -- it ends
 pub ends : (words : List (List ℕ)) (old new : Outside) (below : ℕ) (done : List Act) (result : Result Done Fault) → Stands words old new below done (Ends result) → IsAnswer result → Acted words old new result
 ends words old new below done result s is =
-    let owes : (contents : ℕ → List ℕ) → LeadsTo contents (course_of words) s.opens done (Ends result) → Owes words contents old new new.err_faults s.opens done result =
-    λ contents l. answer_owed words contents old new new.err_faults s.opens done result is
-    (sym (ap (λ (r : Reply). r.ending) l.reply)) (sym (ap (λ (r : Reply). r.acts) l.reply ∙ append-nil done)) (nothing_failed old new s.counts) (omega (arith, l.inputs)) in
+    let owes : (contents : ℕ → List ℕ) → LeadsTo contents (course_of words) s.opens done (Ends result) → Owes words contents old new s.opens done result =
+    λ contents l. answer_owed words contents old new s.opens done result is
+    (sym (ap (λ (r : Reply). r.ending) l.reply)) (sym (ap (λ (r : Reply). r.acts) l.reply ∙ append-nil done)) s.counts (omega (arith, l.inputs)) in
     record {
       done = done;
       opens = s.opens;
       did = s.did;
-      owed = owed_by words old new new.err_faults s.opens done result s.read (owes s.read (s.leads s.read (λ w less. refl)))
-          (weaker old.disk new.disk (λ files. LeadsTo (contents_of words files) (course_of words) s.opens done (Ends result)) (λ files. Owes words (contents_of words files) old new new.err_faults s.opens done result)
+      owed = owed_by words old new s.opens done result s.read (owes s.read (s.leads s.read (λ w less. refl)))
+          (weaker old.disk new.disk (λ files. LeadsTo (contents_of words files) (course_of words) s.opens done (Ends result)) (λ files. Owes words (contents_of words files) old new s.opens done result)
           (λ files. owes (contents_of words files)) s.told);
       shut = λ _. s.shut;
     }
@@ -408,18 +412,18 @@ pub fails : {T E : Type 0} (words : List (List ℕ)) (old mid new : Outside) (be
 fails words old mid new below done acts next e s performs =
     let part = performs.failed.0 in
     let act = performs.failed.1 in
-    let owes : (contents : ℕ → List ℕ) → LeadsTo contents (course_of words) s.opens done (Does acts next) → Owes words contents old new new.err_faults s.opens (done ++ part) (Err WriteFault) =
+    let owes : (contents : ℕ → List ℕ) → LeadsTo contents (course_of words) s.opens done (Does acts next) → Owes words contents old new s.opens (done ++ part) (Err WriteFault) =
     λ contents l. (
       act,
       subst (λ (r : Reply). FailedAt act (done ++ part) r.acts) (sym l.reply) (failed_behind act done part (acts ++ (reply_to contents next).acts) (failed_before act part acts (reply_to contents next).acts performs.failed.2)),
-      failed_since act old mid new new.err_faults s.counts performs.failed.4,
+      failed_since act old mid new s.counts performs.failed.4,
     ) in
     record {
       done = done ++ part;
       opens = s.opens;
       did = Did-then done part (opening s.opens old) mid new s.did performs.failed.3;
-      owed = owed_by words old new new.err_faults s.opens (done ++ part) (Err WriteFault) s.read (owes s.read (s.leads s.read (λ w less. refl)))
-          (weaker old.disk new.disk (λ files. LeadsTo (contents_of words files) (course_of words) s.opens done (Does acts next)) (λ files. Owes words (contents_of words files) old new new.err_faults s.opens (done ++ part) (Err WriteFault))
+      owed = owed_by words old new s.opens (done ++ part) (Err WriteFault) s.read (owes s.read (s.leads s.read (λ w less. refl)))
+          (weaker old.disk new.disk (λ files. LeadsTo (contents_of words files) (course_of words) s.opens done (Does acts next)) (λ files. Owes words (contents_of words files) old new s.opens (done ++ part) (Err WriteFault))
           (λ files. owes (contents_of words files))
           (further _ old.disk mid.disk new.disk (λ files. LeadsTo (contents_of words files) (course_of words) s.opens done (Does acts next)) performs.failed.3.disk s.told));
       shut = λ other. absurd (other refl);

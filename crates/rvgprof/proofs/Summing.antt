@@ -1,6 +1,8 @@
 -- Profile files were read and added up, as the words ask for it.
-use Rattle.std.proofs.Common.{◌≡◌, ℕ, ◌+◌, ◌-◌, ◌<◌, ◌≤◌, List, [], ◌∷◌, length, Option, None, Err, inl, refl, sym, ap, subst, ◌∙◌, arith}
-use Rattle.std.specs.List.{AllByRecursion}
+use Rattle.std.proofs.Common.{◌≡◌, ℕ, ◌+◌, ◌-◌, ◌<◌, ◌≤◌, List, [], ◌∷◌, ◌++◌, append-nil, length, Option, Some, None, Err, inl, refl, sym, ap, subst, ◌∙◌, arith}
+use Rattle.std.specs.Prelude.{IfSome, MatchOption, ⊤}
+use Rattle.std.specs.List.{AllByRecursion, flat_map}
+use Rattle.std.proofs.lemmas.List.Concat.{flat_map-append}
 use Rattle.gp_base.specs.declared.records.Unit as units
 use Rattle.gmon_data.specs.declared.hist.Hist.{Hist}
 use Rattle.gmon_data.specs.Content.{Content, IsProfile, WideRec, content_of, empty_content, conflict_of, wide_records, with_records}
@@ -9,18 +11,23 @@ use Rattle.gmon_data.specs.declared.refusal.AddRefusal.TheVariants as adding
 use Rattle.gmon_data.specs.declared.refusal.Unlike.{Unlike as Difference}
 use Rattle.gmon_data.specs.Hists.{IsUnitOf, IsUnlike}
 use Rattle.gp_base.specs.declared.records.Records.{Records}
-use Rattle.host_port.specs.Outside.{Outside}
+use Rattle.host_port.specs.Act.{Disk, File, file_content}
+use Rattle.host_port.specs.Outside.{Becomes, Outside}
+use Rattle.host_port.proofs.Laws.{Becomes-same, Becomes-then}
 use Rattle.profile_sum.specs.Sum.{sum_of, clash_of, IsClash}
 use Rattle.profile_sum.specs.declared.refusal.SumRefusal.{SumRefusal}
 use Rattle.profile_sum.specs.declared.refusal.SumRefusal.TheVariants as summing
 use Rattle.rvgprof.specs.declared.outcome.Fault.{Fault}
 use Rattle.rvgprof.specs.declared.outcome.Fault.TheVariants.{Unlike}
 use Rattle.rvgprof.specs.Course.{Course, MayStop, unless}
+use Rattle.gmon_files.specs.Forms.{file_records}
+use Rattle.gmon_files.specs.FileRead.{IsContent}
+use Rattle.rvgprof.specs.Acceptance.{records_of}
 use Rattle.rvgprof.specs.Answer.{profiles, profile_in, add_fault_of, sum_fault_of}
 use Rattle.rvgprof.specs.Contract.{Acted}
-use Rattle.rvgprof.specs.Standing.{Stands, MayYetStop, added_up}
+use Rattle.rvgprof.specs.Standing.{HasRead, Stands, MayYetStop, added_up}
 use Rattle.profile_sum.proofs.ContentLemmas.{content_is_added, content_sum}
-use Rattle.rvgprof.proofs.Standing.{no_memory, may_stop_unless, refuses, goes_on}
+use Rattle.rvgprof.proofs.Standing.{everywhere, told_back, weaker, no_memory, may_stop_unless, refuses, goes_on}
 
 -- what the command does with a file's profile
 abbrev pub summed_up : ℕ → ℕ → Content → List ℕ → (Content → Course) → ℕ → Content → Course
@@ -107,3 +114,46 @@ all_from_0 (word ∷ gmons) = (omega arith, all_from_0 gmons)
 pub all_behind : (word : ℕ) (gmons : List ℕ) → AllByRecursion (λ y. word < y) gmons → AllByRecursion (λ y. word + 1 ≤ y) gmons
 all_behind word [] all = tt
 all_behind word (y ∷ gmons) all = (omega (arith, all.0), all_behind word gmons all.1)
+
+-- ---- what was read, where it is told
+
+-- one thing was read, and then another
+pub read_both : (a b c : Outside) (P Q R : List File → Type 0) → ((files : List File) → P files → Q files → R files) → HasRead a b P → HasRead b c Q → HasRead a c R
+read_both a b c P Q R then first second = record {
+  same = Becomes-then (λ d. d) (λ d. d) a.disk b.disk c.disk first.same second.same;
+  told = by a.disk b.disk c.disk first.same first.told second.same second.told;
+}
+  where
+    by : (x y z : Option Disk) → Becomes (λ d. d) x y → MatchOption y ⊤ (λ _. IfSome x (λ d. P d.files)) → Becomes (λ d. d) y z → MatchOption z ⊤ (λ _. IfSome y (λ d. Q d.files)) → MatchOption z ⊤ (λ _. IfSome x (λ d. R d.files))
+    by x y None same p more q = tt
+    by x None (Some z) same p more q = absurd cc
+    by None (Some y) (Some z) same p more q = absurd cc
+    by (Some x) (Some y) (Some z) same p more q =
+        let e : x ≡ y = cc in
+        then x.files p (subst (λ (d : Disk). Q d.files) (sym e) q)
+
+pub read_weaker : (a c : Outside) (P R : List File → Type 0) → ((files : List File) → P files → R files) → HasRead a c P → HasRead a c R
+read_weaker a c P R h read = record { same = read.same; told = weaker a.disk c.disk P R h read.told }
+
+-- nothing was read
+pub read_nothing : (a : Outside) (P : List File → Type 0) → ((files : List File) → P files) → HasRead a a P
+read_nothing a P h = record { same = Becomes-same a.disk; told = everywhere a.disk a.disk P h }
+
+-- what holds of the bytes that were read holds of the file's
+pub was_read : (name : List ℕ) (limit : ℕ) (old new : Outside) (bytes : List ℕ) (P : List ℕ → Type 0) → IsContent name limit old new bytes → P bytes → HasRead old new (λ files. P (file_content name files))
+was_read name limit old new bytes P content holds = record {
+  same = content.nothing_done.disk;
+  told = weaker old.disk new.disk (λ files. bytes ≡ file_content name files) (λ files. P (file_content name files)) (λ files is. subst P is holds)
+      (told_back old.disk new.disk (λ files. bytes ≡ file_content name files) content.nothing_done.disk content.answer);
+}
+
+module _ (contents : ℕ → List ℕ) where
+  abbrev pub all_records : List ℕ → List WideRec
+  all_records words = flat_map (λ word. records_of (contents word)) words
+
+  pub total_more : (earlier : List ℕ) (word : ℕ) (total : Content) → total ≡ content_of (all_records earlier) → sum_of total (profile_in (file_records (contents word))) ≡ content_of (all_records (earlier ++ word ∷ []))
+  total_more earlier word total is =
+      let here = records_of (contents word) in
+      let front : all_records earlier ++ here ≡ all_records (earlier ++ word ∷ []) =
+      ap (λ (recs : List WideRec). all_records earlier ++ recs) (sym (append-nil here)) ∙ sym (flat_map-append (λ w. records_of (contents w)) earlier (word ∷ [])) in
+      ap (λ (t : Content). sum_of t (content_of here)) is ∙ content_sum (all_records earlier) here ∙ ap content_of front

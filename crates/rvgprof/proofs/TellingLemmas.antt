@@ -175,14 +175,14 @@ told_so contents some course result is = subst (λ (r : Result Done Fault). Matc
 pub told_where_run : (words : List (List ℕ)) (command : Command) (old new : Outside) (result : Result Done Fault) → command_of words ≡ Some command → IsCommandOf words command → Acted words old new result
     → IfOk result (λ done. is_some done.run ≡ starts_run (command_of words))
 told_where_run words command old new (Ok done) said within acted =
-    told_so acted.owed.contents (starts_run (command_of words)) (course_of words) (Ok done) acted.owed.owes.0 (by_command words acted.owed.contents command (command_of words) said within)
+    told_so acted.owed.contents (starts_run (command_of words)) (course_of words) (Ok done) acted.owed.owes.ending (by_command words acted.owed.contents command (command_of words) said within)
 told_where_run words command old new (Err fault) said within acted = tt
 
 pub named_where_refused : (words : List (List ℕ)) (command : Command) (old new : Outside) (result : Result Done Fault) → command_of words ≡ Some command → IsCommandOf words command → Acted words old new result
     → IfErr result NamesRefusal
 named_where_refused words command old new (Err (BadElf r)) said within acted =
-    told_so acted.owed.contents (starts_run (command_of words)) (course_of words) (Err (BadElf r)) acted.owed.owes.0 (by_command words acted.owed.contents command (command_of words) said within)
+    told_so acted.owed.contents (starts_run (command_of words)) (course_of words) (Err (BadElf r)) acted.owed.owes.ending (by_command words acted.owed.contents command (command_of words) said within)
 named_where_refused words command old new (Err (BadProfile r word)) said within acted =
-    told_so acted.owed.contents (starts_run (command_of words)) (course_of words) (Err (BadProfile r word)) acted.owed.owes.0 (by_command words acted.owed.contents command (command_of words) said within)
+    told_so acted.owed.contents (starts_run (command_of words)) (course_of words) (Err (BadProfile r word)) acted.owed.owes.ending (by_command words acted.owed.contents command (command_of words) said within)
 named_where_refused words command old new (Ok done) said within acted = tt
 named_where_refused words command old new (Err fault) said within acted = tt

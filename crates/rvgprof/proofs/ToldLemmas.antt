@@ -21,9 +21,13 @@ use Rattle.prof_machine.specs.Value.{RunValue, StandsFor}
 use Rattle.prof_machine.specs.World.{World}
 use Rattle.command_words.specs.declared.words.Command.{Command}
 use Rattle.command_words.specs.declared.words.Command.TheVariants.{Show, Syms, Run, Sum, Report, Profile, Demo, Annotate, Folded, Help, Version}
+use Rattle.gmon_data.specs.Content.{IsProfile}
+use Rattle.rvgprof.specs.Acceptance.{total_of}
+use Rattle.rvgprof.specs.Answer.{contents_of}
 use Rattle.rvgprof.specs.Contract.{WhereTold}
 use Rattle.command_words.specs.Items.{name_of}
-use Rattle.rvgprof.specs.RunFile.{FitsFile, FitsWhereTold, RunFits}
+use Rattle.rvgprof.specs.RunFile.{FitsFile}
+use Rattle.rvgprof.specs.Fitting.{FitsWhereTold, FileFits}
 use Rattle.rvgprof.specs.Standing.{IsRunOf, TellsNoMore}
 use Rattle.command_words.specs.Words.{IsRunSetup}
 use Rattle.rvgprof.proofs.Standing.{told_back, weaker}
@@ -79,13 +83,13 @@ run_fits words old mid new elf form setup bytes image v same limits within is ca
     (λ files is. subst (λ (b : List ℕ). FitsFile form b setup) is fits) told)
 
 -- it still does
-pub fits_still : (words : List (List ℕ)) (old mid new : Outside) (command : Option Command) → TellsNoMore mid new → RunFits words old mid command → RunFits words old new command
+pub fits_still : (words : List (List ℕ)) (old mid new : Outside) (command : Option Command) → TellsNoMore mid new → FileFits words old mid command → FileFits words old new command
 fits_still words old mid new (Some (Run elf gmon form image setup)) tells fits = later_told old mid new (λ files. FitsFile form (file_content (name_of words elf) files) setup) tells fits
 fits_still words old mid new (Some (Profile elf gmon form image setup selection)) tells fits = later_told old mid new (λ files. FitsFile form (file_content (name_of words elf) files) setup) tells fits
 fits_still words old mid new None tells fits = tt
 fits_still words old mid new (Some (Show gmon)) tells fits = tt
 fits_still words old mid new (Some (Syms elf)) tells fits = tt
-fits_still words old mid new (Some (Sum out gmons)) tells fits = tt
+fits_still words old mid new (Some (Sum out gmons)) tells fits = later_told old mid new (λ files. IsProfile (total_of (contents_of words files) gmons)) tells fits
 fits_still words old mid new (Some (Report elf gmons selection)) tells fits = tt
 fits_still words old mid new (Some (Demo functions elf setup)) tells fits = tt
 fits_still words old mid new (Some (Annotate elf gmons)) tells fits = tt

@@ -1,11 +1,14 @@
--- What the commands leave that write, report, sum up or list a profile, in sentences of several parts: the file, the
--- output, and the time in the report.
-use Rattle.std.specs.Prelude.{◌≡◌, ◌≢◌, ◌<◌, ◌+◌, ◌*◌, ◌&&◌, ℕ, slice_index, Bool, true, false, List, [], ◌∷◌, ◌++◌, codes, Option, Some, None, option_map, Ok, IfSome, ⊤}
+-- What each command leaves where it is carried out, in sentences of several parts: the file, the output, and the time
+-- in the report. All of it is said of the contents of the command's inputs.
+use Rattle.std.specs.Prelude.{◌≡◌, ◌≢◌, ◌<◌, ◌+◌, ◌*◌, ◌&&◌, ℕ, slice_index, Bool, true, false, List, [], ◌∷◌, ◌++◌, codes, Option, Some, None, option_map, Result, Ok, IfOk, IfSome}
 use Rattle.elf32_syms.specs.Image.{image_of}
 use Rattle.gp_base.specs.declared.records.Form.{Form}
 use Rattle.gp_base.specs.declared.records.Form.TheVariants.{Bsd, Gnu}
 use Rattle.gmon_data.specs.Content.{runs_at}
+use Rattle.gmon_files.specs.Forms.{file_records}
+use Rattle.gmon_gnu.specs.ProfileText.{profile_text}
 use Rattle.annotate.specs.Listing.{annotated_text}
+use Rattle.text_lines.specs.Lines.{image_text, show_text}
 use Rattle.host_port.specs.Act.{complained, file_content}
 use Rattle.host_port.specs.Act.{printed as prints_of}
 use Rattle.host_port.specs.Outside.{Outside, Becomes}
@@ -24,19 +27,23 @@ use Rattle.prof_machine.specs.declared.setup.Setup.{Setup}
 use Rattle.prof_machine.specs.Executions.{executions_at, instructions_of}
 use Rattle.prof_machine.specs.Value.{summary_of}
 use Rattle.rvgprof.specs.declared.outcome.Done.{Done}
+use Rattle.rvgprof.specs.declared.outcome.Fault.{Fault}
 use Rattle.command_words.specs.declared.words.Command.{Command}
-use Rattle.command_words.specs.declared.words.Command.TheVariants.{Run, Report, Profile, Demo, Annotate}
+use Rattle.command_words.specs.declared.words.Command.TheVariants.{Show, Syms, Run, Sum, Report, Profile, Demo, Annotate, Folded, Help, Version}
 use Rattle.command_words.specs.declared.words.Shown.{Shown}
 use Rattle.command_words.specs.declared.words.Shown.TheVariants as shows
 use Rattle.command_words.specs.Items.{name_of}
+use Rattle.command_words.specs.Words.{command_of}
 use Rattle.demo_elf.specs.Elf.{demo_program}
 use Rattle.mcount_arcs.specs.Log.{distinct_count, kept_calls}
 use Rattle.rvgprof.specs.Reports.{demo_summary, profile_sources}
 use Rattle.rvgprof.specs.Texts.{last_line}
-use Rattle.rvgprof.specs.Answer.{Chosen, chosen_by, chosen_sources, contents_of, wide_step}
-use Rattle.rvgprof.specs.Contract.{LineEnds, WhereTold}
-use Rattle.rvgprof.specs.RunFile.{SaysRun, gmon_text, memory_text, reported_profile, text_sizes, world_of}
-use Rattle.rvgprof.specs.Acceptance.{IsProgramFile, AreProfileFiles, Starts, total_of}
+use Rattle.rvgprof.specs.Answer.{Chosen, chosen_by, chosen_sources, wide_step}
+use Rattle.rvgprof.specs.Contract.{Acted, LineEnds, LineIsPrinted}
+use Rattle.rvgprof.specs.FoldedReport.{folded_report}
+use Rattle.rvgprof.specs.Help.{help_text, version_text}
+use Rattle.rvgprof.specs.RunFile.{SaysProfile, SaysRun, gmon_text, memory_text, reported_profile, text_sizes, world_of}
+use Rattle.rvgprof.specs.Acceptance.{IsProfileFile, IsProgramFile, AreProfileFiles, Starts, total_of}
 
 -- what is reported: what that file says, without the calls that are cut
 abbrev pub reported : Chosen → Form → List ℕ → Setup → Sources
@@ -60,26 +67,36 @@ printed_of chosen s = reports_of chosen.shown chosen.hidden s ++ exact_of chosen
 abbrev pub IsApart : List (List ℕ) → ℕ → Option ℕ → Type 0
 IsApart words gmon image = option_map (name_of words) image ≢ Some (name_of words gmon)
 
--- A run's program is accepted and its run starts, for some bytes of it: for those that are told before and after,
--- where they are.
-pub record RunIsWritten (words : List (List ℕ)) (old new : Outside) (elf gmon : ℕ) (form : Form) (image : Option ℕ) (setup : Setup) (program : List ℕ) : Type 0 where
-  pub told : WhereTold old new (λ files. program ≡ file_content (name_of words elf) files)
+-- a text was printed on the output, and nothing else
+abbrev pub IsPrinted : List ℕ → Outside → Outside → Type 0
+IsPrinted text old new = Becomes (λ bytes. bytes ++ text) old.out new.out
+
+-- where the files are told, the one that a word names holds a text
+abbrev pub Holds : List (List ℕ) → Outside → ℕ → List ℕ → Type 0
+Holds words new word text = IfSome new.disk (λ d. file_content (name_of words word) d.files ≡ text)
+
+-- A program is accepted, and a run of it starts.
+pub record Runs (program : List ℕ) (setup : Setup) : Type 0 where
   pub accepted : IsProgramFile program
   pub starts : Starts program setup
-  -- GMON holds the file of the run ..
-  pub file : IsApart words gmon image → IfSome new.disk (λ d. file_content (name_of words gmon) d.files ≡ gmon_text form program setup)
-  -- .. which is read as what happened in the run
-  pub says : IsApart words gmon image → IfSome new.disk (λ d. SaysRun form program setup (file_content (name_of words gmon) d.files))
-  -- the file that is named for it holds the memory of the runtime, also where that is GMON
-  pub memory : (place : ℕ) → image ≡ Some place → IfSome new.disk (λ d. file_content (name_of words place) d.files ≡ memory_text program setup)
 
--- A run is summed up: in the answer, and in the end line, of which a prefix is printed where complaining fails. The
--- number is how often complaining had failed before it.
-pub record RunIsSummedUp (words : List (List ℕ)) (old new : Outside) (done : Done) (setup : Setup) (program : List ℕ) : Type 0 where
+-- The file of a run is written, and that of its runtime's memory where one is named.
+pub record RunIsWritten (words : List (List ℕ)) (new : Outside) (gmon : ℕ) (form : Form)
+    (image : Option ℕ) (setup : Setup) (program : List ℕ) : Type 0 where
+  -- GMON holds the file of the run ..
+  pub file : IsApart words gmon image → Holds words new gmon (gmon_text form program setup)
+  -- .. which is read as what happened in the run
+  pub says : IsApart words gmon image
+      → IfSome new.disk (λ d. SaysRun form program setup (file_content (name_of words gmon) d.files))
+  -- the file that is named for it holds the memory of the runtime, also where that is GMON
+  pub memory : (place : ℕ) → image ≡ Some place → Holds words new place (memory_text program setup)
+
+-- A run is summed up: in the answer, and in the end line, of which a prefix is printed where complaining fails.
+pub record RunIsSummedUp (words : List (List ℕ)) (old new : Outside) (done : Done)
+    (setup : Setup) (program : List ℕ) : Type 0 where
   pub summary : done.run ≡ summary_of (text_sizes program setup) (world_of program setup)
   pub line : List ℕ
-  pub before : ℕ
-  pub ends : LineEnds line (last_line words (Ok done)) before new.err_faults
+  pub ends : LineEnds line (last_line words (Ok done)) old.err_faults new.err_faults
   -- what the program prints on the error output stands before the line
   pub errors : Becomes (λ bytes. bytes ++ (complained (world_of program setup).prints ++ line)) old.err new.err
 
@@ -109,36 +126,63 @@ pub record TimeIsShared (s : Sources) : Type 0 where
   pub entries : sum_below (component_count s.graph) (λ c. when (is_root s.graph c && has_own_entry s c) (shown_total s c)) ≡ attributed_of s.shares
 
 -- what `run` leaves
-pub record RunLeaves (words : List (List ℕ)) (old new : Outside) (done : Done) (elf gmon : ℕ) (form : Form) (image : Option ℕ) (setup : Setup) : Type 0 where
-  pub program : List ℕ
-  pub written : RunIsWritten words old new elf gmon form image setup program
+pub record RunLeaves (words : List (List ℕ)) (contents : ℕ → List ℕ) (old new : Outside) (done : Done)
+    (elf gmon : ℕ) (form : Form) (image : Option ℕ) (setup : Setup) : Type 0 where
+  pub runs : Runs (contents elf) setup
+  pub written : RunIsWritten words new gmon form image setup (contents elf)
   -- what the program prints was printed
-  pub output : Becomes (λ bytes. bytes ++ prints_of (world_of program setup).prints) old.out new.out
-  pub run : RunIsSummedUp words old new done setup program
+  pub output : IsPrinted (prints_of (world_of (contents elf) setup).prints) old new
+  pub run : RunIsSummedUp words old new done setup (contents elf)
 
 -- what is reported of files: the sum of what they say, without the calls that are cut
 abbrev pub reported_of : Chosen → (ℕ → List ℕ) → ℕ → List ℕ → Sources
 reported_of chosen contents elf gmons = chosen_sources chosen (image_of (contents elf)) (total_of contents gmons)
 
--- what `report` leaves, for some contents of its files: for those that are told before and after, where they are
-pub record ReportLeaves (words : List (List ℕ)) (old new : Outside) (elf : ℕ) (gmons : List ℕ) (chosen : Chosen) : Type 0 where
-  pub contents : ℕ → List ℕ
-  pub told : WhereTold old new (λ files. contents ≡ contents_of words files)
+-- what `report` leaves
+pub record ReportLeaves (contents : ℕ → List ℕ) (old new : Outside) (elf : ℕ) (gmons : List ℕ)
+    (chosen : Chosen) : Type 0 where
   pub accepted : IsProgramFile (contents elf)
   pub profiles : AreProfileFiles contents gmons
   -- the reports were printed
-  pub output : Becomes (λ bytes. bytes ++ printed_of chosen (reported_of chosen contents elf gmons)) old.out new.out
+  pub output : IsPrinted (printed_of chosen (reported_of chosen contents elf gmons)) old new
   pub shared : TimeIsShared (reported_of chosen contents elf gmons)
   -- no step of the exact times is too wide, where these are asked for
   pub fits : wide_step chosen.exact (reported_of chosen contents elf gmons) ≡ None
 
--- what `annotate` leaves, for some contents of its files: the listing of the sum of what they say
-pub record ListingLeaves (words : List (List ℕ)) (old new : Outside) (elf : ℕ) (gmons : List ℕ) : Type 0 where
-  pub contents : ℕ → List ℕ
-  pub told : WhereTold old new (λ files. contents ≡ contents_of words files)
+-- what `annotate` leaves: the listing of the sum of what its files say
+pub record ListingLeaves (contents : ℕ → List ℕ) (old new : Outside) (elf : ℕ) (gmons : List ℕ) : Type 0 where
   pub accepted : IsProgramFile (contents elf)
   pub profiles : AreProfileFiles contents gmons
-  pub output : Becomes (λ bytes. bytes ++ annotated_text (image_of (contents elf)) (contents elf) (total_of contents gmons)) old.out new.out
+  pub output : IsPrinted (annotated_text (image_of (contents elf)) (contents elf) (total_of contents gmons)) old new
+
+-- what `sum` leaves
+pub record SumLeaves (words : List (List ℕ)) (contents : ℕ → List ℕ) (old new : Outside) (out : ℕ)
+    (gmons : List ℕ) : Type 0 where
+  pub profiles : AreProfileFiles contents gmons
+  -- OUT holds the file of the sum ..
+  pub file : Holds words new out (profile_text (total_of contents gmons))
+  -- .. which is read back as the sum
+  pub says : IfSome new.disk
+      (λ d. SaysProfile (total_of contents gmons) (file_content (name_of words out) d.files))
+  pub output : IsPrinted [] old new
+
+-- what `show` leaves: the records of its file as lines
+pub record ShowLeaves (contents : ℕ → List ℕ) (old new : Outside) (gmon : ℕ) : Type 0 where
+  pub accepted : IsProfileFile (contents gmon)
+  pub output : IsPrinted (show_text (file_records (contents gmon))) old new
+
+-- what `syms` leaves: the text, the hooks and the symbols of its program as lines
+pub record SymsLeaves (contents : ℕ → List ℕ) (old new : Outside) (elf : ℕ) : Type 0 where
+  pub accepted : IsProgramFile (contents elf)
+  pub output : IsPrinted (image_text (image_of (contents elf))) old new
+
+-- what `folded` leaves: what the program prints, and behind it the text of its samples' stacks
+pub record FoldedLeaves (words : List (List ℕ)) (contents : ℕ → List ℕ) (old new : Outside) (done : Done)
+    (elf : ℕ) (inclusive : Bool) (setup : Setup) : Type 0 where
+  pub runs : Runs (contents elf) setup
+  pub output : IsPrinted (prints_of (world_of (contents elf) setup).prints
+      ++ folded_report inclusive (image_of (contents elf)) (contents elf) setup) old new
+  pub run : RunIsSummedUp words old new done setup (contents elf)
 
 -- A cell of a listing shows the executions at its address. In that of one file of a run that counted them, these are how
 -- often the instruction there retired in the run.
@@ -147,14 +191,16 @@ ExecutionsAreListed = (program : List ℕ) (setup : Setup) (contents : ℕ → L
     → runs_at ((text_sizes program setup).low + 4 * i) (total_of contents (gmon ∷ [])).blocks ≡ executions_at (world_of program setup).ran ((text_sizes program setup).low + 4 * i)
 
 -- what `profile` leaves
-pub record Headline (words : List (List ℕ)) (old new : Outside) (done : Done) (elf gmon : ℕ) (form : Form) (image : Option ℕ) (setup : Setup) (chosen : Chosen) : Type 0 where
-  pub program : List ℕ
-  pub written : RunIsWritten words old new elf gmon form image setup program
+pub record Headline (words : List (List ℕ)) (contents : ℕ → List ℕ) (old new : Outside) (done : Done)
+    (elf gmon : ℕ) (form : Form) (image : Option ℕ) (setup : Setup) (chosen : Chosen) : Type 0 where
+  pub runs : Runs (contents elf) setup
+  pub written : RunIsWritten words new gmon form image setup (contents elf)
   -- what the program prints, and then the reports, were printed
-  pub output : Becomes (λ bytes. bytes ++ (prints_of (world_of program setup).prints ++ printed_of chosen (reported chosen form program setup))) old.out new.out
-  pub run : RunIsSummedUp words old new done setup program
-  pub shared : TimeIsShared (reported chosen form program setup)
-  pub fits : wide_step chosen.exact (reported chosen form program setup) ≡ None
+  pub output : IsPrinted (prints_of (world_of (contents elf) setup).prints
+      ++ printed_of chosen (reported chosen form (contents elf) setup)) old new
+  pub run : RunIsSummedUp words old new done setup (contents elf)
+  pub shared : TimeIsShared (reported chosen form (contents elf) setup)
+  pub fits : wide_step chosen.exact (reported chosen form (contents elf) setup) ≡ None
 
 -- what a demo's summary is made from
 abbrev pub demo_sources : ℕ → Setup → Sources
@@ -170,18 +216,39 @@ demo_printed functions setup =
     demo_summary functions (distinct_count (kept_calls z w.log)) s.graph s.flow s.shares (summary_of z w)
 
 -- what `demo` leaves
-pub record DemoLeaves (words : List (List ℕ)) (old new : Outside) (done : Done) (functions : ℕ) (setup : Setup) : Type 0 where
+pub record DemoLeaves (words : List (List ℕ)) (old new : Outside) (done : Done) (functions : ℕ)
+    (setup : Setup) : Type 0 where
   -- what its program prints, and then the summary, were printed
-  pub output : Becomes (λ bytes. bytes ++ (prints_of (world_of (demo_program functions) setup).prints ++ demo_printed functions setup)) old.out new.out
+  pub output : IsPrinted (prints_of (world_of (demo_program functions) setup).prints
+      ++ demo_printed functions setup) old new
   pub run : RunIsSummedUp words old new done setup (demo_program functions)
   -- so that both numbers of grains in it are the same
   pub shared : TimeIsShared (demo_sources functions setup)
 
--- what a command leaves where it is carried out, of those that write, report, sum up or list a profile
-abbrev pub Leaves : List (List ℕ) → Outside → Outside → Done → Option Command → Type 0
-Leaves words old new done (Some (Run elf gmon form image setup)) = RunLeaves words old new done elf gmon form image setup
-Leaves words old new done (Some (Report elf gmons selection)) = ReportLeaves words old new elf gmons (chosen_by words selection)
-Leaves words old new done (Some (Profile elf gmon form image setup selection)) = Headline words old new done elf gmon form image setup (chosen_by words selection)
-Leaves words old new done (Some (Demo functions elf setup)) = DemoLeaves words old new done functions setup
-Leaves words old new done (Some (Annotate elf gmons)) = ListingLeaves words old new elf gmons
-Leaves words old new done command = ⊤
+-- what a command leaves where it is carried out
+abbrev pub Leaves : List (List ℕ) → (ℕ → List ℕ) → Outside → Outside → Done → Option Command → Type 0
+Leaves words contents old new done None = ⊥
+Leaves words contents old new done (Some (Show gmon)) = ShowLeaves contents old new gmon
+Leaves words contents old new done (Some (Syms elf)) = SymsLeaves contents old new elf
+Leaves words contents old new done (Some (Sum out gmons)) = SumLeaves words contents old new out gmons
+Leaves words contents old new done (Some (Report elf gmons selection)) =
+    ReportLeaves contents old new elf gmons (chosen_by words selection)
+Leaves words contents old new done (Some (Run elf gmon form image setup)) =
+    RunLeaves words contents old new done elf gmon form image setup
+Leaves words contents old new done (Some (Profile elf gmon form image setup selection)) =
+    Headline words contents old new done elf gmon form image setup (chosen_by words selection)
+Leaves words contents old new done (Some (Demo functions elf setup)) = DemoLeaves words old new done functions setup
+Leaves words contents old new done (Some (Annotate elf gmons)) = ListingLeaves contents old new elf gmons
+Leaves words contents old new done (Some (Folded elf inclusive setup)) =
+    FoldedLeaves words contents old new done elf inclusive setup
+Leaves words contents old new done (Some Help) = IsPrinted help_text old new
+Leaves words contents old new done (Some Version) = IsPrinted version_text old new
+
+-- What the program answers, and what it leaves.
+pub record Answered (words : List (List ℕ)) (old new : Outside) (result : Result Done Fault) : Type 0 where
+  -- the moment before the last line
+  pub before : Outside
+  pub acted : Acted words old before result
+  pub line : LineIsPrinted (last_line words result) before new
+  -- for the inputs with the contents that the answer is for
+  pub leaves : IfOk result (λ done. Leaves words acted.owed.contents old new done (command_of words))

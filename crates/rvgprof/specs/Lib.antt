@@ -12,3 +12,4 @@ pub mod Acceptance
 pub mod Headline
 pub mod Standing
 pub mod Claims
+pub mod Fitting

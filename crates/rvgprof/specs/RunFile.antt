@@ -1,5 +1,5 @@
 -- The file that a run leaves, and what is read of it.
-use Rattle.std.specs.Prelude.{◌≡◌, ℕ, ◌+◌, ◌*◌, ◌<◌, Bool, true, false, List, [], ◌++◌, Option, Some, None, ⊤}
+use Rattle.std.specs.Prelude.{◌≡◌, ℕ, ◌+◌, ◌*◌, ◌<◌, Bool, true, false, List, [], ◌++◌, Option, Some, None}
 use Rattle.std.specs.List.{All}
 use Rattle.elf32_syms.specs.Image.{image_of}
 use Rattle.gp_base.specs.declared.records.Form.{Form}
@@ -11,8 +11,6 @@ use Rattle.gmon_gnu.specs.Blocks.{executed_blocks}
 use Rattle.gmon_gnu.specs.CountedRun.{block_recs}
 use Rattle.gmon_gnu.specs.ProfileText.{profile_text}
 use Rattle.gmon_gnu.specs.Run.{run_recs}
-use Rattle.host_port.specs.Act.{file_content}
-use Rattle.host_port.specs.Outside.{Outside}
 use Rattle.mcount_arcs.specs.declared.sizes.Sizes.{Sizes}
 use Rattle.mcount_arcs.specs.Arcs.{CallFits, arcs_of}
 use Rattle.mcount_arcs.specs.Image.{block_image}
@@ -22,12 +20,8 @@ use Rattle.prof_machine.specs.declared.setup.Setup.{Setup}
 use Rattle.prof_machine.specs.Executions.{executions_at, executions_in, instructions_of}
 use Rattle.prof_machine.specs.Start.{final_world}
 use Rattle.prof_machine.specs.World.{World}
-use Rattle.command_words.specs.declared.words.Command.{Command}
-use Rattle.command_words.specs.declared.words.Command.TheVariants.{Run, Profile}
 use Rattle.gmon_files.specs.Forms.{file_records, file_refusal, form_of}
 use Rattle.rvgprof.specs.Answer.{profile_bytes, profile_in, written_profile}
-use Rattle.rvgprof.specs.Contract.{WhereTold}
-use Rattle.command_words.specs.Items.{name_of}
 use Rattle.command_words.specs.Words.{IsRunSetup}
 
 -- the world in which the run of a program ends
@@ -87,18 +81,12 @@ pub record FitsFile (form : Form) (program : List ℕ) (setup : Setup) : Type 0 
 abbrev pub RunFilesAreReadBack : Type 0
 RunFilesAreReadBack = (form : Form) (program : List ℕ) (setup : Setup) → FitsFile form program setup → SaysRun form program setup (gmon_text form program setup)
 
--- and the file of every profile, which is of the GNU form, has the profile's content
+-- A text is of the GNU form, and is read as a profile.
+pub record SaysProfile (p : Content) (text : List ℕ) : Type 0 where
+  pub form_is : form_of text ≡ Gnu
+  pub accepted : file_refusal text ≡ None
+  pub content : profile_in (file_records text) ≡ p
+
+-- and the file of every profile says it
 abbrev pub ProfileFilesAreReadBack : Type 0
-ProfileFilesAreReadBack = (p : Content) → IsProfile p → (form_of (profile_text p) ≡ Gnu) × (file_refusal (profile_text p) ≡ None) × (profile_in (file_records (profile_text p)) ≡ p)
-
--- ---- the run of a command
-
--- where the program's file is told, its run fits the file
-abbrev pub FitsWhereTold : List (List ℕ) → Outside → Outside → ℕ → Form → Setup → Type 0
-FitsWhereTold words old new elf form setup = WhereTold old new (λ files. FitsFile form (file_content (name_of words elf) files) setup)
-
--- of the commands that write a run's file
-abbrev pub RunFits : List (List ℕ) → Outside → Outside → Option Command → Type 0
-RunFits words old new (Some (Run elf gmon form image setup)) = FitsWhereTold words old new elf form setup
-RunFits words old new (Some (Profile elf gmon form image setup selection)) = FitsWhereTold words old new elf form setup
-RunFits words old new command = ⊤
+ProfileFilesAreReadBack = (p : Content) → IsProfile p → SaysProfile p (profile_text p)

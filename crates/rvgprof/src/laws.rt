@@ -11,10 +11,10 @@ ghost use Rattle.command_words.specs.declared.words.Command.TheVariants.{Demo};
 ghost use Rattle.command_words.specs.Words.{command_of};
 ghost use Rattle.rvgprof.specs.Course.{Course, reply_to, MayStop};
 ghost use Rattle.rvgprof.specs.Answer.{contents_of, course_of};
-ghost use Rattle.rvgprof.specs.Contract.{Answered, LineEnds, WhereTold};
+ghost use Rattle.rvgprof.specs.Contract.{LineEnds, WhereTold};
 ghost use Rattle.rvgprof.specs.Completeness.{Stayed, NoneFailed, Complete};
 ghost use Rattle.rvgprof.specs.Acceptance.{IsAccepted, acts_at_once};
-ghost use Rattle.rvgprof.specs.Headline.{ExecutionsAreListed};
+ghost use Rattle.rvgprof.specs.Headline.{Answered, ExecutionsAreListed};
 ghost use Rattle.rvgprof.specs.Claims.{Claims};
 ghost use Rattle.rvgprof.specs.RunFile.{ProfileFilesAreReadBack, RunFilesAreReadBack};
 

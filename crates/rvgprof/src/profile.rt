@@ -4,7 +4,7 @@ ghost use Rattle.std.specs.Prelude.{◌≡◌, [], map, string_bytes, IfOk, OnOk
 ghost use Rattle.elf32_syms.specs.Owners.{IsAscending};
 ghost use Rattle.rvgprof.specs.Answer.{chosen_by, files_named, profile_course};
 ghost use Rattle.rvgprof.specs.Contract.{Acted};
-ghost use Rattle.rvgprof.specs.RunFile.{FitsWhereTold};
+ghost use Rattle.rvgprof.specs.Fitting.{FitsWhereTold};
 ghost use Rattle.rvgprof.specs.Standing.{Stands};
 ghost use Rattle.command_words.specs.Words.{AreCuts, IsRunSetup};
 

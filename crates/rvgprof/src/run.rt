@@ -3,7 +3,7 @@
 ghost use Rattle.std.specs.Prelude.{[], map, string_bytes, OnOk};
 ghost use Rattle.rvgprof.specs.Answer.{files_named, run_course};
 ghost use Rattle.rvgprof.specs.Contract.{Acted};
-ghost use Rattle.rvgprof.specs.RunFile.{FitsWhereTold};
+ghost use Rattle.rvgprof.specs.Fitting.{FitsWhereTold};
 ghost use Rattle.rvgprof.specs.Standing.{Stands};
 ghost use Rattle.command_words.specs.Words.{IsRunSetup};
 

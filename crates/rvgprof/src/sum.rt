@@ -1,10 +1,11 @@
 //! The command `sum`.
 
-ghost use Rattle.std.specs.Prelude.{◌≡◌, [], false, map, string_bytes};
+ghost use Rattle.std.specs.Prelude.{◌≡◌, [], false, map, string_bytes, OnOk};
 ghost use Rattle.gmon_gnu.specs.ProfileText.{profile_text};
 ghost use Rattle.host_port.specs.Performing.{Performs};
 ghost use Rattle.rvgprof.specs.Answer.{file_acts, sum_course};
 ghost use Rattle.rvgprof.specs.Contract.{Acted};
+ghost use Rattle.rvgprof.specs.Fitting.{SumIsProfile};
 ghost use Rattle.command_words.specs.Items.{name_of};
 ghost use Rattle.rvgprof.specs.Standing.{Stands};
 ghost use Rattle.command_words.specs.Words.{AreRising};
@@ -26,12 +27,14 @@ pub fn sum<H: Host>(
 ) -> Result<Done, Fault>
     requires stands { Stands (map string_bytes words.now) (H.outside host.old) (H.outside host.old) 0 [] (sum_course (name_of (map string_bytes words.now) out) gmons.now) }
     requires rising { AreRising gmons.now }
-    ensures { Acted (map string_bytes words.now) (H.outside host.old) (H.outside host.new) result }
+    ensures acted { Acted (map string_bytes words.now) (H.outside host.old) (H.outside host.new) result }
+    ensures fits { OnOk result (SumIsProfile (map string_bytes words.now) (H.outside host.old) (H.outside host.new) gmons.now) }
 {
     let total = match read_profiles(alloc, words, gmons, host) {
         Ok(total) => total,
         Err(fault) => return Err(fault),
     };
+    total.holds();
     match write_profile(&total, name_at(words, out), host) {
         Ok(()) => Ok(Done { run: None }),
         Err(_) => Err(Fault::WriteFault),

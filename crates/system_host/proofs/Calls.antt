@@ -1,6 +1,6 @@
 -- The calls of the host over a system, as they change what it shows.
 use Rattle.std.proofs.Common.{◌≡◌, ℕ, ◌<◌, ◌≤◌, Bool, true, false, List, [], ◌∷◌, ◌++◌, length, take, drop, Option, Some, None, Ok, Err, refl, sym, ap, subst, ◌∙◌, append_assoc, arith}
-use Rattle.std.specs.Prelude.{option_map, is_some, IfSome, if◌then◌else◌, bytes_eq, ⊤}
+use Rattle.std.specs.Prelude.{◌==◌, option_map, is_some, IfSome, if◌then◌else◌, bytes_eq, ⊤}
 use Rattle.std.proofs.lemmas.List.{append-nil}
 use Rattle.host_port.specs.declared.host.Failed.{Failed}
 use Rattle.host_port.specs.Act.{Create, Write, Disk, File, disk_after, written, with_file, with_more, next_count}
@@ -68,7 +68,7 @@ takes piece s output faults n last some fits same writes told =
       some = some;
       fits = fits;
       failed = tt;
-      input = record { open_stays = refl; rest_stays = Becomes-same (outside_of s).rest };
+      input = record { open_stays = refl; end_stays = refl; rest_stays = Becomes-same (outside_of s).rest };
     }
 
 kept_disk : (disk : Option Disk) (old new : Option (List ℕ)) → IfSome disk (λ _. new ≡ old) → Becomes (disk_after []) (option_map (disk_with old) disk) (option_map (disk_with new) disk)
@@ -91,7 +91,7 @@ takes_none piece s output faults last failed same told =
         file_changes = refl;
         opened = refl;
       };
-      input = record { open_stays = refl; rest_stays = Becomes-same (outside_of s).rest };
+      input = record { open_stays = refl; end_stays = refl; rest_stays = Becomes-same (outside_of s).rest };
     }
 
 -- ---- a call that reads
@@ -110,14 +110,15 @@ moved_rest (Some d) old None buf n fits same told = tt
 moved_rest (Some d) None (Some left) buf n fits same told = absurd cc
 moved_rest (Some d) (Some rest) (Some left) buf n fits same told = ap (λ (bytes : List ℕ). Some bytes) (left_of buf rest left n fits told.0)
 
-pub moves : (before after : List ℕ) (s : Seen) (input : Option (List ℕ)) (faults n : ℕ) (last : Bool) → length after ≡ length before → n ≤ length after → 0 < length before → is_some s.input ≡ true → is_some input ≡ is_some s.input
+pub moves : (before after : List ℕ) (s : Seen) (input : Option (List ℕ)) (at_end : Bool) (faults n : ℕ) (last : Bool) → at_end ≡ (n == 0) → length after ≡ length before → n ≤ length after → 0 < length before → is_some s.input ≡ true → is_some input ≡ is_some s.input
     → IfSome s.disk (λ _. Gives s.input input after n)
-    → Moves {E = Failed} before after (outside_of s) (outside_of (record s { input = input; read_faults = faults; last_failed = last })) (Ok n)
-moves before after s input faults n last len fits room is_open same told =
+    → Moves {E = Failed} before after (outside_of s) (outside_of (record s { input = input; at_end = at_end; read_faults = faults; last_failed = last })) (Ok n)
+moves before after s input at_end faults n last ends len fits room is_open same told =
     let nothing = Did-nothing (outside_of s) in
     record {
       nothing_done = record { disk = nothing.disk; out = nothing.out; err = nothing.err; writing = refl; file_changes = refl; opened = refl };
       still_open = same ∙ is_open;
+      at_end = ends;
       fits = omega (arith, len, fits);
       came = moved_bytes s.disk s.input input after n fits (omega (arith, len, room)) same told;
       rest = moved_rest s.disk s.input input after n fits same told;
@@ -134,6 +135,7 @@ moves_none before after s input faults last failed told =
     record {
       nothing_done = record { disk = nothing.disk; out = nothing.out; err = nothing.err; writing = refl; file_changes = refl; opened = refl };
       still_open = tt;
+      at_end = refl;
       fits = tt;
       came = tt;
       rest = kept_rest s.disk s.input input told;

@@ -10,8 +10,11 @@ pub record Seen : Type 0 where
   pub err : Option (List ℕ)
   -- whether the last close succeeded, where the system tells it
   pub last_close : Option Bool
-  -- what is left of the open input, and what was written to the open output; none where it isn't told
+  -- what is left of the open input; none where it isn't told
   pub input : Option (List ℕ)
+  -- whether a read has come to the end of the open input
+  pub at_end : Bool
+  -- what was written to the open output, likewise
   pub output : Option (List ℕ)
   pub read_faults : ℕ
   pub write_faults : ℕ
@@ -36,6 +39,7 @@ outside_of s = record {
   out = s.out;
   err = s.err;
   is_open = is_some s.input;
+  at_end = s.at_end;
   rest = if is_some s.disk then s.input else None;
   is_writing = writes_with s.output s.disk;
   read_faults = s.read_faults;

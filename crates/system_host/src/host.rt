@@ -17,6 +17,8 @@ use std::marker::Model;
 pub struct SystemHost<S: System> {
     system: S,
     input: Option<S::Input>,
+    // A read has come to the end of the input.
+    at_end: bool,
     output: Option<S::Output>,
     read_faults: u64,
     write_faults: u64,
@@ -40,6 +42,7 @@ impl<S: System> Model for SystemHost<S> {
       err = S.complained a.system;
       last_close = S.last_close a.system;
       input = option_map (λ i. bytes_of (S.Input.remaining i)) a.input;
+      at_end = a.at_end;
       output = option_map (λ o. bytes_of (S.Output.contents o)) a.output;
       read_faults = a.read_faults;
       write_faults = a.write_faults;
@@ -53,11 +56,12 @@ impl<S: System> Model for SystemHost<S> {
 impl<S: System + Drop> SystemHost<S> {
     /// A host with nothing open.
     pub fn new(system: S) -> SystemHost<S>
-        ensures { result ≡ record { disk = S.disk system; out = S.printed system; err = S.complained system; last_close = S.last_close system; input = None; output = None; read_faults = 0; write_faults = 0; err_faults = 0; opened = 0; file_changes = 0; last_failed = false } }
+        ensures { result ≡ record { disk = S.disk system; out = S.printed system; err = S.complained system; last_close = S.last_close system; input = None; at_end = false; output = None; read_faults = 0; write_faults = 0; err_faults = 0; opened = 0; file_changes = 0; last_failed = false } }
     {
         SystemHost {
             system,
             input: None,
+            at_end: false,
             output: None,
             read_faults: 0,
             write_faults: 0,
@@ -102,6 +106,7 @@ impl<S: System + Drop> Host for SystemHost<S> {
 
     fn open_input(&mut self, name: &str) -> Result<(), Failed> {
         self.input = None;
+        self.at_end = false;
         self.opened = self.opened.saturating_add(1);
         self.last_failed = false;
         match self.system.open(name) {
@@ -116,7 +121,10 @@ impl<S: System + Drop> Host for SystemHost<S> {
     fn read(&mut self, buf: &mut [u8]) -> Result<usize, Failed> {
         self.last_failed = false;
         match moved(&mut self.input, buf) {
-            Some(n) => Ok(n),
+            Some(n) => {
+                self.at_end = n == 0;
+                Ok(n)
+            }
             None => Err(self.read_failed()),
         }
     }

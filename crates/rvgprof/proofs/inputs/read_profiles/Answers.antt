@@ -1,16 +1,18 @@
-use Rattle.std.proofs.Common.{◌≡◌, ℕ, ◌+◌, ◌-◌, ◌≤◌, List, [], ◌∷◌, drop, get_or, sym, subst, arith}
+use Rattle.std.proofs.Common.{◌≡◌, ℕ, ◌+◌, ◌-◌, ◌≤◌, List, [], ◌∷◌, ◌∙◌, ap, drop, take, get_or, sym, subst, arith}
 use Rattle.std.specs.Prelude.{map, string_bytes}
 use Rattle.std.specs.List.{AllByRecursion}
-use Rattle.std.proofs.lemmas.List.{drop_more, drop_all}
-use Rattle.gmon_data.specs.Content.{Content}
+use Rattle.std.proofs.lemmas.List.{drop_more, drop_all, take_all, take_more}
+use Rattle.gmon_data.specs.Content.{Content, content_of}
+use Rattle.profile_sum.specs.Sum.{sum_of}
 use Rattle.gp_base.specs.declared.limits.TheConstants.{MAX_PROFILE_BYTES}
-use Rattle.rvgprof.specs.Answer.{profiles}
+use Rattle.rvgprof.specs.Acceptance.{records_of, total_of}
+use Rattle.rvgprof.specs.Answer.{contents_of, profiles}
 use Rattle.gmon_data.specs.Sizes.{IsOfBytes}
 use Rattle.rvgprof.specs.Standing.{Stands}
 use Rattle.command_words.specs.Words.{AreRising}
 use Rattle.gmon_data.proofs.SizeLemmas.{of_nothing}
 use Rattle.command_words.proofs.PlaceLemmas.{rising_drop}
-use Rattle.rvgprof.proofs.Summing.{all_behind}
+use Rattle.rvgprof.proofs.Summing.{all_behind, read_both, read_nothing, read_weaker, total_more}
 use Rattle.rvgprof.proofs.inputs.read_profiles.Goals as goal
 
 pub loop-i-init : goal.loop-i-init
@@ -23,6 +25,7 @@ loop-i-init g c =
       idle = c.requires.idle;
       size = subst (λ (t : Content). IsOfBytes 0 t) (sym c.new-total.ensures.content) of_nothing;
       limit = omega arith;
+      told = read_nothing host (λ files. c.new-total.result ≡ total_of (contents_of words files) (take 0 gmons)) (λ files. c.new-total.ensures.stands);
     }
 
 pub loop-i-preserved : goal.loop-i-preserved
@@ -46,6 +49,10 @@ loop-i-preserved g c =
       idle = one.still_idle;
       size = subst (λ (n : ℕ). IsOfBytes n c.add_profile.new.total) less one.size;
       limit = omega (arith, was.limit);
+      told = read_both (g.H.Host.outside c.args.host.now) (g.H.Host.outside c.loop-i.host) (g.H.Host.outside c.add_profile.new.host) (λ files. c.loop-i.total ≡ total_of (contents_of words files) (take i gmons))
+          (λ files. c.add_profile.new.total ≡ sum_of c.loop-i.total (content_of (records_of (contents_of words files word)))) (λ files. c.add_profile.new.total ≡ total_of (contents_of words files) (take (i + 1) gmons))
+          (λ files is sum. sum ∙ total_more (contents_of words files) (take i gmons) word c.loop-i.total is ∙ ap (total_of (contents_of words files)) (sym (take_more gmons i 0 c.loop-i-test.true)))
+          was.told one.told;
     }
 
 pub returns-in-Err-clause-reads : goal.returns-in-Err-clause-reads
@@ -68,3 +75,11 @@ returns-clause-reads g c = λ start below next may all s.
     let none : drop c.loop-i.i gmons ≡ [] = drop_all c.loop-i.i gmons c.loop-i-test.false in
     let before = c.loop-i.invariant.reads start below next may all s in
     (before.0, subst (λ (ws : List ℕ). Stands words start (g.H.Host.outside c.loop-i.host) before.0 [] (profiles ws c.loop-i.left c.loop-i.total next)) none before.2)
+
+pub returns-clause-told : goal.returns-clause-told
+returns-clause-told g c =
+    let words = map string_bytes c.args.words.now in
+    let gmons = c.args.gmons.now in
+    let all : take c.loop-i.i gmons ≡ gmons = take_all c.loop-i.i gmons (omega (arith, c.loop-i-test.false)) in
+    read_weaker _ _ (λ files. c.loop-i.total ≡ total_of (contents_of words files) (take c.loop-i.i gmons)) (λ files. c.loop-i.total ≡ total_of (contents_of words files) gmons)
+    (λ files is. is ∙ ap (total_of (contents_of words files)) all) c.loop-i.invariant.told

@@ -1,12 +1,13 @@
-use Rattle.std.proofs.Common.{◌≡◌, ℕ, ◌-◌, ◌≤◌, [], drop, map, string_bytes, false}
+use Rattle.std.proofs.Common.{◌≡◌, ℕ, ◌-◌, ◌≤◌, [], drop, take, map, string_bytes, false}
 use Rattle.std.specs.List.{AllByRecursion}
 use Rattle.gmon_data.specs.Content.{Content, empty_content}
 use Rattle.gp_base.specs.declared.limits.TheConstants.{MAX_PROFILE_BYTES}
 use Rattle.host_port.specs.Outside.{Outside}
-use Rattle.rvgprof.specs.Answer.{profiles}
+use Rattle.rvgprof.specs.Acceptance.{total_of}
+use Rattle.rvgprof.specs.Answer.{contents_of, profiles}
 use Rattle.rvgprof.specs.Course.{Course}
 use Rattle.gmon_data.specs.Sizes.{IsOfBytes}
-use Rattle.rvgprof.specs.Standing.{Stands, MayYetStop}
+use Rattle.rvgprof.specs.Standing.{HasRead, Stands, MayYetStop}
 use Rattle.rvgprof.proofs.inputs.read_profiles.Given as goal
 
 -- the command goes on with the files that are left
@@ -18,4 +19,5 @@ invariant-loop-i g l = record {
   idle : (g.H.Host.outside l.host).is_writing ≡ false;
   size : IsOfBytes (MAX_PROFILE_BYTES - l.left) l.total;
   limit : l.left ≤ MAX_PROFILE_BYTES;
+  told : HasRead (g.H.Host.outside l.initial.host) (g.H.Host.outside l.host) (λ files. l.total ≡ total_of (contents_of (map string_bytes l.words) files) (take l.i l.gmons));
 }

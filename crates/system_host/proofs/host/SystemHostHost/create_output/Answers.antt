@@ -13,6 +13,7 @@ returns-in-Ok-clause-creates g c =
       err = g.S.System.complained before.system;
       last_close = g.S.System.last_close before.system;
       input = shown g.S.Input.Read.remaining before.input;
+      at_end = before.at_end;
       output = shown g.S.Output.Write.contents before.output;
       read_faults = before.read_faults;
       write_faults = before.write_faults;

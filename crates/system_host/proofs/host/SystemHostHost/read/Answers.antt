@@ -1,4 +1,4 @@
-use Rattle.std.proofs.Common.{◌≡◌, true, subst, sym}
+use Rattle.std.proofs.Common.{◌≡◌, true, refl, subst, sym}
 use Rattle.std.specs.Prelude.{is_some}
 use Rattle.system_host.specs.Seen.{Seen, outside_of}
 use Rattle.system_host.proofs.Told.{shown, Gives, gives, keeps, where_told, still}
@@ -14,6 +14,7 @@ returns-in-Some-clause-moves g c =
       err = g.S.System.complained before.system;
       last_close = g.S.System.last_close before.system;
       input = shown g.S.Input.Read.remaining before.input;
+      at_end = before.at_end;
       output = shown g.S.Output.Write.contents before.output;
       read_faults = before.read_faults;
       write_faults = before.write_faults;
@@ -27,7 +28,7 @@ returns-in-Some-clause-moves g c =
     let buf = c.moved.new.buf in
     let is_open = subst (λ (m : Seen). (outside_of m).is_open ≡ true) (sym c.self.view_is) c.requires.is_open in
     let told = where_told s.disk (Gives s.input (shown tells now) buf c.in-Some.n) (λ is. gives tells (is_some s.disk) before.input now buf c.in-Some.n (g.met.S.System.told_inputs before.system) is c.in-Some.ensures.still_open c.in-Some.ensures.gave) in
-    rw (sym c.self.view_is) (moves c.args.buf.now buf s (shown tells now) _ c.in-Some.n _ c.moved.auto.buf c.in-Some.ensures.fits c.requires.some_room is_open (still tells before.input now c.in-Some.ensures.still_open) told)
+    rw (sym c.self.view_is) (moves c.args.buf.now buf s (shown tells now) _ _ c.in-Some.n _ refl c.moved.auto.buf c.in-Some.ensures.fits c.requires.some_room is_open (still tells before.input now c.in-Some.ensures.still_open) told)
 
 pub returns-in-None-clause-moves : goal.returns-in-None-clause-moves
 returns-in-None-clause-moves g c =
@@ -38,6 +39,7 @@ returns-in-None-clause-moves g c =
       err = g.S.System.complained before.system;
       last_close = g.S.System.last_close before.system;
       input = shown g.S.Input.Read.remaining before.input;
+      at_end = before.at_end;
       output = shown g.S.Output.Write.contents before.output;
       read_faults = before.read_faults;
       write_faults = before.write_faults;
