@@ -1,15 +1,22 @@
 //! The program: the words of the command line, the system as a host, and the exit status.
 #![tactic(auto)]
 
+mod beside;
 mod real_system;
 
-ghost use Rattle.std.specs.Prelude.{◌≡◌};
-ghost use Rattle.rvgprof_main.specs.Exit.{exit_status};
+ghost use Rattle.std.specs.Prelude.{◌≡◌, false, map, string_bytes};
+ghost use Rattle.std.specs.IoError.{error_kind};
+ghost use Rattle.std.specs.Process.{exit_status};
+ghost use Rattle.rvgprof_main.specs.Exit.{EndsWith, status_of_answer, status_without_words as status_without};
 
+use host_port::Host;
 use real_system::RealSystem;
 use rvgprof::{Done, Fault, rvgprof};
+use std::alloc::Global;
+use std::os::fd::AsRawFd;
+use std::fs::File;
 use std::process::ExitCode;
-use std::{env, io};
+use std::{env, fs, io};
 use system_host::SystemHost;
 
 #[cfg(test)]
@@ -22,18 +29,25 @@ const NO_MEMORY: u8 = 7;
 const NO_WORDS: u8 = 12;
 
 fn main(rt: HostRuntime) -> ExitCode {
-    let alloc = rt.alloc();
-    let words = match words_of(&rt) {
-        Ok(words) => words,
-        Err(e) => return ExitCode::from(status_without_words(&e)),
-    };
-    let mut host = SystemHost::new(RealSystem::new(rt));
-    ExitCode::from(status_of(&rvgprof(alloc, words.as_slice(), &mut host)))
+    let _held = (held(&rt), held(&rt), held(&rt));
+    match words_of(&rt) {
+        Ok(words) => carry_out(rt.alloc(), words.as_slice(), &mut SystemHost::new(RealSystem::new(rt))),
+        Err(e) => ExitCode::from(status_without_words(&e)),
+    }
+}
+
+/// Does all that the program does, and ends with the status of the answer.
+fn carry_out<H: Host>(alloc: Global, words: &[String], host: &mut H) -> ExitCode
+    requires { (H.outside host.old).is_writing ≡ false }
+    ensures { EndsWith (map string_bytes words.now) (H.outside host.old) (H.outside host.new) (exit_status result) }
+{
+    let answer = rvgprof(alloc, words, host);
+    ExitCode::from(status_of(&answer))
 }
 
 /// The exit status of an answer.
 fn status_of(answer: &Result<Done, Fault>) -> u8
-    ensures { result ≡ exit_status answer.now }
+    ensures { result ≡ status_of_answer answer.now }
 {
     match answer {
         Ok(done) => done.status(),
@@ -48,10 +62,19 @@ fn words_of(rt: &HostRuntime) -> io::Result<Vec<String>> {
 }
 
 /// The exit status where the words can't be had.
-fn status_without_words(e: &io::Error) -> u8 {
+fn status_without_words(e: &io::Error) -> u8
+    ensures { result ≡ status_without (error_kind e.now) }
+{
     if e.kind() == io::ErrorKind::OutOfMemory {
         NO_MEMORY
     } else {
         NO_WORDS
     }
+}
+
+/// Holds a descriptor below 3 that is closed, so that no file that is written gets it: by `/dev/null`, open to
+/// be read alone, so that a print on it still fails.
+fn held(rt: &HostRuntime) -> Option<File> {
+    let file = fs::open(rt, "/dev/null").ok()?;
+    if file.as_raw_fd() < 3 { Some(file) } else { None }
 }

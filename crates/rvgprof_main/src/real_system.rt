@@ -3,20 +3,32 @@
 ghost use Rattle.std.specs.Prelude.{◌≡◌, ◌↔◌, ◌⊎◌, None, refl, IsOk, IsTrue, IfErr, OnOk};
 ghost use Rattle.std.specs.IoError.{error_kind};
 
+use crate::beside::Beside;
 use std::fs::File;
 use std::io::{ErrorKind, Write};
 use std::{fs, io};
 use system_host::System;
 
 /// Files, output and error output of the system. It tells no content.
-#[derive(Drop)]
 pub struct RealSystem {
     rt: HostRuntime,
+    // An output that isn't closed yet, and is to take the place of a file.
+    beside: Option<Beside>,
 }
 
 impl RealSystem {
     pub fn new(rt: HostRuntime) -> RealSystem {
-        RealSystem { rt }
+        RealSystem { rt, beside: None }
+    }
+}
+
+impl Drop for RealSystem {
+    /// An output that wasn't closed is taken away.
+    fn drop(self) {
+        let RealSystem { rt, beside } = self;
+        if let Some(beside) = beside {
+            beside.remove(&rt);
+        }
     }
 }
 
@@ -42,11 +54,21 @@ impl System for RealSystem {
     }
 
     fn create(&mut self, name: &str) -> io::Result<File> {
-        fs::create(&self.rt, name)
+        match Beside::make(&self.rt, name) {
+            Some((file, beside)) => {
+                self.beside = Some(beside);
+                Ok(file)
+            }
+            None => fs::create(&self.rt, name),
+        }
     }
 
     fn close(&mut self, output: File) -> io::Result<()> {
-        synced(output.sync_all())
+        synced(output.sync_all())?;
+        match self.beside.take() {
+            Some(beside) => beside.take_place(&self.rt),
+            None => Ok(()),
+        }
     }
 
     fn out(&mut self, piece: &[u8]) -> io::Result<usize> {
