@@ -1,13 +1,14 @@
 -- What the words of the headline rest on in the layers below, a record for each. Each claim is written out here, so
 -- that a law of a layer no longer proves it once the law says less.
-use Rattle.std.specs.Prelude.{◌≡◌, ◌≢◌, ◌<◌, ◌≤◌, ◌+◌, ◌-◌, ◌*◌, ◌/◌, ◌^◌, ◌==◌, ◌++◌, ◌&&◌, ◌↔◌, ◌⊎◌, ℕ, suc, Bool, true, false, not, nat_eq, List, [], ◌∷◌, length, map, filter, filter_map, take, slice_get, slice_index, slice_index_or, Option, Some, None, IsSome, MatchOption, All, Contains, count_by, sum, if◌then◌else◌}
-use Rattle.std.specs.List.{AllByRecursion, AllPairs, enumerate_from, flat_map, sum_by}
+use Rattle.std.specs.Prelude.{◌≡◌, ◌≢◌, ◌<◌, ◌≤◌, ◌+◌, ◌-◌, ◌*◌, ◌/◌, ◌^◌, ◌==◌, ◌++◌, ◌&&◌, ◌↔◌, ◌⊎◌, ℕ, suc, Bool, true, false, not, nat_eq, List, [], ◌∷◌, length, map, filter, filter_map, take, slice_get, slice_index, slice_index_or, Option, Some, None, IsSome, MatchOption, All, Contains, count_by, sum, if◌then◌else◌, nat_le, nat_lt, option_map}
+use Rattle.std.specs.List.{AllByRecursion, AllPairs, enumerate_from, flat_map, sum_by, cons_option, list_any, range_with_len}
 use Rattle.std.specs.List.Sorted.{IsPermutation, IsSortedBy, IsStrictlyIncreasing, IsStrictlySortedBy}
 use Rattle.std.specs.Int.{IsGcd, abs_diff}
 use Rattle.std.specs.Map.{keys_of}
 use Rattle.gp_base.specs.Bytes.{IsBytes, le, value_of}
 use Rattle.gp_base.specs.Spans.{is_in}
 use Rattle.gp_base.specs.declared.records.Span.{Span}
+use Rattle.gp_base.specs.declared.records.Unit.{Unit}
 use Rattle.gp_base.specs.declared.records.Form.{Form}
 use Rattle.gp_base.specs.declared.records.Form.TheVariants.{Bsd, Gnu}
 use Rattle.gp_base.specs.declared.records.Records.{Records}
@@ -40,7 +41,7 @@ use Rattle.gmon_gnu.specs.Run.{run_recs, run_text as gnu_run_text}
 use Rattle.gmon_gnu.specs.Splitting.{profile_recs}
 use Rattle.gmon_data.specs.declared.hist.Hist.{Hist}
 use Rattle.gmon_data.specs.declared.hist.HistRange.{HistRange}
-use Rattle.gmon_data.specs.Content.{Content, HasSpan, IsProfile, WideRec, block_in, conflict_of, content_of, empty_content, hist_in, runs_at, wide_records, with_records}
+use Rattle.gmon_data.specs.Content.{Content, HasSpan, IsProfile, WideArc, WideBlock, WideHist, WideRec, block_in, conflict_of, content_of, empty_content, hist_in, runs_at, wide_records, with_records}
 use Rattle.gmon_data.specs.Hists.{IsApart, IsKept, count_at, range_of, samples_of}
 use Rattle.gmon_data.specs.Tally.{sum_at}
 use Rattle.profile_sum.specs.Sum.{clash_of, sum_of}
@@ -49,14 +50,14 @@ use Rattle.mcount_arcs.specs.declared.sizes.Sizes.{Sizes}
 use Rattle.mcount_arcs.specs.declared.state.State.TheVariants.{Busy, On}
 use Rattle.mcount_arcs.specs.Arcs.{CallFits, arcs_of, chain_in, looks_of}
 use Rattle.mcount_arcs.specs.Image.{entry_in, front_in, index_in}
-use Rattle.mcount_arcs.specs.Log.{CallIgnored, CallLost, Enter, IsLegal, LogEntry, Mode, Pair, Sample, distinct_count, entered_calls, is_busy, is_on, kept_calls, state_of}
+use Rattle.mcount_arcs.specs.Log.{CallIgnored, CallLost, WalkDone, Enter, IsLegal, LogEntry, Mode, Pair, Sample, distinct_count, entered_calls, is_busy, is_on, kept_calls, state_of}
 use Rattle.mcount_arcs.specs.Samples.{buckets_of, counted_samples}
 use Rattle.mcount_arcs.specs.Sizes.{AreSizes, bucket_range, sizes_of, text_span}
 use Rattle.prof_machine.specs.declared.ending.End.{End}
 use Rattle.prof_machine.specs.declared.ending.End.TheVariants.{Budget, Exit, Trap}
 use Rattle.prof_machine.specs.declared.machine.Machine.{Machine}
 use Rattle.prof_machine.specs.declared.setup.Setup.{Setup}
-use Rattle.prof_machine.specs.Executions.{counted_pairs, executed_pairs, executions_in}
+use Rattle.prof_machine.specs.Executions.{counted_pairs, executed_pairs, executions_at, executions_in, instructions_of, pair_of}
 use Rattle.prof_machine.specs.Laws.{noted_pcs, noted_samples}
 use Rattle.prof_machine.specs.Notes.{note_of}
 use Rattle.prof_machine.specs.Plan.{driven, most_turns, planned}
@@ -492,6 +493,43 @@ pub record DemoClaims : Type 0 where
   -- a run of it starts, with 4 to 256 MiB of memory
   pub starts : (n : ℕ) (setup : Setup) → n ≤ 2000 → 4 ≤ setup.ram_mib → setup.ram_mib ≤ 256 → start_refusal (image_of (demo_program n)) setup ≡ None
 
+-- ---- what words mean that no clause of a call says
+
+pub record MeaningClaims : Type 0 where
+  -- what a histogram counts at a place, where it begins at an address
+  pub count : (low i : ℕ) (h : Hist) → count_at low i h ≡ (if h.low == low then slice_index h.counters i else 0)
+  -- a histogram with counters has a range that isn't empty, and of an arc and a block count nothing is asked
+  pub span : (h : Hist) (u : Unit) → HasSpan (WideHist h u) ↔ (0 < length h.counters → h.low < h.high)
+  pub no_span : (a b c : ℕ) → HasSpan (WideArc a b c) × HasSpan (WideBlock a b)
+  -- each address of a covered histogram lies in a symbol
+  pub covered : (symbols : List Symbol) (h : Hist) → IsCovered symbols h
+      ↔ ((x : ℕ) → h.low ≤ x → x < h.high → list_any (λ s. nat_le s.addr x && nat_lt x s.end) symbols ≡ true)
+  -- the pairs of executions by address, of those that aren't 0
+  pub no_pair : (addr : ℕ) → pair_of addr 0 ≡ None
+  pub pair : (addr n : ℕ) → pair_of addr (suc n) ≡ Some (record { addr = addr; count = suc n })
+  pub executed : (z : Sizes) (ran : List ℕ) → executed_pairs z ran
+      ≡ filter_map (λ i. pair_of (z.low + 4 * i) (executions_at ran (z.low + 4 * i))) (range_with_len 0 (instructions_of z))
+  pub counted : (low : ℕ) (counts : List ℕ) → counted_pairs low counts
+      ≡ filter_map (λ i. pair_of (low + 4 * i) (slice_index counts i)) (range_with_len 0 (length counts))
+  -- what the notes of turns tell, one turn after the other
+  pub no_samples : (m : Machine) (w : World) → noted_samples m w [] ≡ []
+  pub samples : (m : Machine) (w : World) (h : ℕ) (turns : List ℕ) → noted_samples m w (h ∷ turns)
+      ≡ cons_option (note_of m w h).sample (noted_samples m (turn_of m w h) turns)
+  pub no_pcs : (m : Machine) (w : World) → noted_pcs m w [] ≡ []
+  pub pcs : (m : Machine) (w : World) (h : ℕ) (turns : List ℕ) → noted_pcs m w (h ∷ turns)
+      ≡ cons_option (option_map (λ r. r.pc) (note_of m w h).ran) (noted_pcs m (turn_of m w h) turns)
+  -- of what is logged a sample is one, and nothing else
+  pub sample : (pc : ℕ) → is_sample (Sample pc) ≡ true
+  pub no_sample : (from to : ℕ) (on : Bool) → (is_sample (Mode on) ≡ false) × (is_sample (Enter from to) ≡ false)
+      × (is_sample WalkDone ≡ false) × (is_sample (CallLost from to) ≡ false) × (is_sample (CallIgnored from to) ≡ false)
+  -- a part is less than a grain away from its time in proportion to calls
+  pub proportion : (part time calls all : ℕ) → IsInProportion part time calls all
+      ↔ ((part * all < time * calls + all) × (time * calls < (part + 1) * all))
+  -- what the outside arcs that enter a component carry, and how many outside arcs there are
+  pub carried : (g : GraphValue) (of_arc : ℕ → ℕ) (d : ℕ) → carried_to g of_arc d
+      ≡ sum_below (arc_count g) (λ i. when (is_outside g i && (target_of g i == d)) (of_arc i))
+  pub outside_arcs : (g : GraphValue) → outside_count g ≡ sum_below (arc_count g) (λ i. when (is_outside g i) 1)
+
 -- ---- all of them
 
 pub record Claims : Type 0 where
@@ -508,3 +546,4 @@ pub record Claims : Type 0 where
   pub call_graph : CallGraphClaims
   pub stacks : StackClaims
   pub demo : DemoClaims
+  pub meanings : MeaningClaims

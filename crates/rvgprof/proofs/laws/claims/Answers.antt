@@ -1,3 +1,4 @@
+use Rattle.std.proofs.Common.{refl}
 use Rattle.std.specs.Prelude.{count_by}
 use Rattle.gmon_gnu.specs.CountedRun.{CountsFit}
 use Rattle.prof_machine.specs.Start.{machine_of, start_of}
@@ -179,5 +180,24 @@ returns c = record {
     symbols = c.demo_has_image.ensures.symbols;
     hooks = λ n few. demo_hooks n (image_of (demo_program n)) (c.demo_has_image.ensures.image n few);
     starts = c.demo_starts.ensures;
+  };
+  meanings = record {
+    count = λ low i h. refl;
+    span = λ h u. (λ x. x, λ x. x);
+    no_span = λ a b c. (tt, tt);
+    covered = λ symbols h. (λ x. x, λ x. x);
+    no_pair = λ addr. refl;
+    pair = λ addr n. refl;
+    executed = λ z ran. refl;
+    counted = λ low counts. refl;
+    no_samples = λ m w. refl;
+    samples = λ m w h turns. refl;
+    no_pcs = λ m w. refl;
+    pcs = λ m w h turns. refl;
+    sample = λ pc. refl;
+    no_sample = λ from to on. (refl, refl, refl, refl, refl);
+    proportion = λ part time calls all. (λ x. x, λ x. x);
+    carried = λ g of_arc d. refl;
+    outside_arcs = λ g. refl;
   };
 }
