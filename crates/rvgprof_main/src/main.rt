@@ -2,6 +2,7 @@
 #![tactic(auto)]
 
 mod beside;
+pub mod laws;
 mod real_system;
 
 ghost use Rattle.std.specs.Prelude.{◌≡◌, false, map, string_bytes};
