@@ -1,4 +1,5 @@
-use Rattle.std.proofs.Common.{◌≡◌, ◌+◌, ◌≤◌, ◌++◌, ℕ, List, length, length-append, sym, subst, arith}
+use Rattle.std.proofs.Common.{◌≡◌, ◌+◌, ◌≤◌, ◌++◌, ◌∙◌, ℕ, false, List, length, length-append, sym, subst, arith}
+use Rattle.std.proofs.lemmas.Bool.{ne_eqb}
 use Rattle.host_port.proofs.LoadLemmas.{Loading}
 use Rattle.gmon_files.proofs.FileReading.{loading_more, loading_long}
 use Rattle.gmon_files.proofs.file_reader.read_pieces.Goals as goal
@@ -24,7 +25,7 @@ loop-reader-preserved g c =
     let reads = c.in_ok-n.ensures.counts in
     let piece = c.split_at.result.0.now in
     let front = c.split_at.ensures.front in
-    let going : (g.H.Host.outside c.read_front.new.host).at_end ≡ false = moves.at_end ∙ ltb-false n c.if-n-eq-0.false in
+    let going : (g.H.Host.outside c.read_front.new.host).at_end ≡ false = moves.at_end ∙ ne_eqb n 0 c.if-n-eq0.false in
     let fits : length far.0 + n ≤ c.args.limit = omega (arith, len, c.if-n-left.false, was.within) in
     let more = loading_more c.args.name.now c.args.limit n far.0 far.0 c.read_front.new.piece (g.H.Host.outside c.args.host.now) (g.H.Host.outside c.loop-reader.host) (g.H.Host.outside c.read_front.new.host)
     far.1 moves.nothing_done moves.still_open going (record { read = reads.own; write = reads.write; err = reads.err }) moves.came moves.rest fits in
