@@ -8,9 +8,9 @@ MEMORY
 
 SECTIONS
 {
-    /* There is an arc for 50 bytes of text. `room` bytes that no function has make more of them. */
+    /* There is an arc for 50 bytes of text. `__room` bytes that no function has make more of them. */
     .text : {
-        . += DEFINED(room) ? room : 0;
+        . += DEFINED(__room) ? __room : 0;
         KEEP(*(.text.start))
         *(.text .text.*)
     } > ram
