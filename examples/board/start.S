@@ -13,18 +13,20 @@ _start:
         la      tp, __tls_base          # errno of picolibc lies there; further harts use no library
         la      t0, hart_count
         sw      a1, 0(t0)
+#ifdef NO_CONSTRUCTORS
         call    main
         call    _exit
+#else
+        call    __libc_init_array       # .preinit_array, .init_array
+        call    main
+        call    exit                    # what atexit was given, and destructors
+#endif
 1:      call    help
+        .weak   help                    # a program that has no help(hart) for further harts lets them wait here
+help:
 2:      j       2b
         .size   _start, . - _start
 
-# Functions that are built with -pg call this first: their caller's return address is in a0, and ra is
-# the return address of the call here. The profiler counts the call when the pc arrives, and goes back.
-# The instruction runs only where nothing profiles.
-        .section .text._mcount, "ax"
-        .globl  _mcount
-        .type   _mcount, @function
-_mcount:
-        ret
-        .size   _mcount, . - _mcount
+        .comm   hart_count, 4, 4        # a program that declares `extern volatile unsigned hart_count` reads it
+
+#include "mcount.S"
