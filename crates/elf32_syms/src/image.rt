@@ -1,7 +1,7 @@
 //! The image of a program.
 
-ghost use Rattle.std.specs.Prelude.{◌≡◌, ◌≤◌, length, OnOk, IfOk, IfErr};
-ghost use Rattle.elf32_syms.specs.Refusals.{IsRefusal, elf_refusal};
+ghost use Rattle.std.specs.Prelude.{◌≡◌, ◌≤◌, length, Err, OnOk, IfOk, IfErr, IfSome};
+ghost use Rattle.elf32_syms.specs.Refusals.{IsRefusal, header_refusal, elf_refusal};
 ghost use Rattle.elf32_syms.specs.Image.{IsWithinLimits, image_of};
 
 use crate::header::read_header;
@@ -76,9 +76,12 @@ impl Image {
 /// A file that is refused is refused for the first reason in this order: its header; the sizes of
 /// its tables' entries, and their places; a segment that is cut off; the range of its text; the
 /// place of its symbol table, the link to its strings, and their place; a symbol whose name doesn't end within the strings; too
-/// many kept symbols. `OutOfMemory` may come at any point.
+/// many kept symbols. `OutOfMemory` may come at any point behind the header, whose refusals take no memory.
 pub fn read(alloc: Global, bytes: &[u8]) -> Result<Image, ElfRefusal>
     requires { length bytes.now ≤ MAX_ELF_BYTES }
+
+    // What is wrong with the header is told whatever memory there is.
+    ensures header { IfSome (header_refusal bytes.now) (λ refusal. result ≡ Err refusal) }
 
     // The first refusal whose conditions the bytes meet, or running out of memory; and Ok only where none
     // is met.

@@ -12,7 +12,7 @@ ghost use Rattle.exact_flow.specs.Steps.{FitsStep, self_part, child_part, with_b
 ghost use Rattle.exact_flow.specs.Solution.{times_in, exact_flow_in};
 ghost use Rattle.exact_flow.specs.Wide.{first_wide};
 ghost use Rattle.exact_flow.specs.Progress.{IsSized, step_in, put_at};
-ghost use Rattle.exact_flow.specs.Answers.{IsWideAnswer};
+ghost use Rattle.exact_flow.specs.Answers.{IsTooWide, IsWideAnswer};
 ghost use Rattle.exact_flow.specs.declared.refusal.ExactRefusal.TheVariants.{TooWide};
 
 use crate::flows::ExactFlow;
@@ -100,6 +100,33 @@ fn too_wide(graph: &Graph, i: usize) -> ExactRefusal
     }
 }
 
+/// Does the steps from callees to callers, in a flow in which none is done yet. It takes no memory: its one refusal is the
+/// first step at which a fraction does not fit, and it comes exactly where there is one.
+fn solve(graph: &Graph, shares: &Shares, flow: ExactFlow) -> Result<ExactFlow, ExactRefusal>
+    requires each { length shares.now.of ≡ graph.now.functions }
+    requires few { arc_count graph.now < 2 ^ 32 }
+    requires sized { IsSized graph.now shares.now.of flow }
+    requires none { (c : ℕ) → time_at flow.child c ≡ fraction 0 1 }
+    ensures sized { IfOk result (HasTimes graph.now) }
+    ensures value { IfOk result (λ e. e ≡ exact_flow_in graph.now shares.now.of) }
+    ensures times { IfOk result (λ e. (x : ExactTimes) → IsExactFlow graph.now shares.now.of x → e ≡ times_in graph.now shares.now.of x) }
+    ensures whole { IfOk result (λ e. (x : ExactTimes) → IsExactFlow graph.now shares.now.of x → exact_time_of_roots graph.now shares.now.of x ≡ x.grain * attributed_of shares.now) }
+    ensures fits { IfOk result (λ e. first_wide graph.now shares.now.of ≡ None) }
+    ensures wide { IfErr result (IsTooWide graph.now shares.now.of) }
+{
+    graph.holds();
+    shares.holds();
+    let mut flow = flow;
+    for k in 0..flow.outside_arcs().len() {
+        let (c, i) = flow.outside_arcs()[k];
+        match step(graph, &flow, i) {
+            Some(handed) => put(&mut flow, c, i, &handed),
+            None => return Err(too_wide(graph, i)),
+        }
+    }
+    Ok(flow)
+}
+
 /// The exact times of a graph of functions with these shares: those of the one flow in which nothing is rounded,
 /// in lowest terms, or the first step at which a fraction does not fit.
 ///
@@ -117,13 +144,6 @@ pub fn exact(alloc: Global, graph: &Graph, shares: &Shares) -> Result<ExactFlow,
     if graph.arc_count() > u32::MAX as usize {
         return Err(ExactRefusal::OutOfMemory);
     }
-    let mut flow = start(alloc, graph, shares)?;
-    for k in 0..flow.outside_arcs().len() {
-        let (c, i) = flow.outside_arcs()[k];
-        match step(graph, &flow, i) {
-            Some(handed) => put(&mut flow, c, i, &handed),
-            None => return Err(too_wide(graph, i)),
-        }
-    }
-    Ok(flow)
+    let flow = start(alloc, graph, shares)?;
+    solve(graph, shares, flow)
 }

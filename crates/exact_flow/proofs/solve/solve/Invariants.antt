@@ -1,5 +1,5 @@
 use Rattle.exact_flow.proofs.StateLemmas.{IsSoFar}
-use Rattle.exact_flow.proofs.solve.exact.Given as goal
+use Rattle.exact_flow.proofs.solve.solve.Given as goal
 
 -- the arcs so far are done
 abbrev pub invariant-loop-k : goal.invariant-loop-k
