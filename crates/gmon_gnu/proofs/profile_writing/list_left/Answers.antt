@@ -1,43 +1,41 @@
-use Rattle.std.proofs.Common.{◌<◌, ◌+◌, ℕ, List, [], ◌∷◌, ◌++◌, true, false, length, take, sym, ap, ◌∙◌, append-nil, length-append, arith}
-use Rattle.std.proofs.lemmas.List.{take_more_set}
-use Rattle.std.proofs.lemmas.Option.{get_or_from_slice_get}
-use Rattle.gmon_gnu.specs.Pieces.{left_of}
-use Rattle.gmon_gnu.proofs.RoundLemmas.{left_of_more}
+use Rattle.std.proofs.Common.{◌≡◌, ◌<◌, ◌≤◌, ◌+◌, ◌*◌, ℕ, List, [], ◌++◌, Bool, true, false, length, take, sym, ap, ◌∙◌, append-nil, length-append, arith}
+use Rattle.std.proofs.lemmas.Bool.{ltb-false}
+use Rattle.std.proofs.lemmas.List.{get_or_default, nil_from_length}
+use Rattle.gmon_gnu.specs.Pieces.{left_of, part_of}
+use Rattle.gmon_gnu.proofs.RoundLemmas.{few_left, left_of_part_more, marks_set}
 use Rattle.gmon_gnu.proofs.profile_writing.list_left.Goals as goal
 
-pub loop-i-preserved : goal.loop-i-preserved
-loop-i-preserved c =
+pub list_part-left-requires-clause-listed : goal.list_part-left-requires-clause-listed
+list_part-left-requires-clause-listed c = omega (arith, c.loop-part.invariant.counted, few_left c.args.j (c.loop-part.part * 64) c.args.profile.now.blocks)
+
+pub loop-part-preserved : goal.loop-part-preserved
+loop-part-preserved c =
     let j = c.args.j in
     let es = c.args.profile.now.blocks in
-    let i = c.loop-i.i in
-    let e : ℕ × ℕ = (c.block-addr.result.0, c.block-addr.result.1) in
-    let within : i < length es = omega (arith, c.loop-i-test.true, c.block_count-i-end.ensures.value) in
-    let is = sym (get_or_from_slice_get es i e e c.block-addr.ensures) in
-    let before = left_of j (take i es) in
-    let so_far = c.loop-i.invariant in
-    elim c.if-has_left.branch [
-      | goal.then-has_left w ↦
-          let more = left_of_more j es i e true within is (sym c.has_left.ensures ∙ w.if-has_left.true) in
-          let counted = ap (λ (n : ℕ). n + 1) so_far.counted ∙ sym (length-append before (e ∷ [])) ∙ ap length (sym more) in
-          elim w.if-left-few.branch [
-            | goal.then-left-few v ↦
-                rw (w.few-is, w.left-is, v.few-is) record {
-                  counted = counted;
-                  listed = λ _. take_more_set c.loop-i.few c.loop-i.left e v.if-left-few.true ∙ ap (λ (l : List (ℕ × ℕ)). l ++ e ∷ []) (so_far.listed (omega (arith, v.if-left-few.true))) ∙ sym more;
-                  few = omega (arith, so_far.few);
-                }
-            | goal.else-left-few v ↦
-                rw (w.few-is, w.left-is, v.few-is) record {
-                  counted = counted;
-                  listed = λ fits. absurd (omega (arith, v.if-left-few.false, fits));
-                  few = omega (arith, so_far.few);
-                }
-          ]
-      | goal.else-has_left w ↦
-          let more = left_of_more j es i e false within is (sym c.has_left.ensures ∙ w.if-has_left.false) ∙ append-nil before in
-          rw (w.few-is, w.left-is) record {
-            counted = so_far.counted ∙ ap length (sym more);
-            listed = λ fits. so_far.listed fits ∙ sym more;
-            few = omega (arith, so_far.few);
+    let part = c.loop-part.part in
+    let marks = c.loop-part.marks in
+    let left = c.loop-part.left in
+    let before = left_of j (take (part * 64) es) in
+    let here = left_of j (part_of part es) in
+    let more = left_of_part_more j part es in
+    let longer = ap length more ∙ length-append before here in
+    let so_far = c.loop-part.invariant in
+    let within : part < length marks = omega (arith, c.loop-part-test.true, c.parts-part-end.ensures.few, so_far.marked.count) in
+    elim c.if-marks-part.branch [
+      | goal.then-marks-part w ↦
+          let now = w.list_part-left.result in
+          let counted = w.list_part-left.ensures.counted in
+          rw (w.marks-is, w.few-is, w.left-is) record {
+            marked = marks_set j part es marks _ so_far.marked within (λ is. nil_from_length here (omega (arith, counted, ltb-false left now is)));
+            counted = omega (arith, counted, so_far.counted, longer);
+            listed = λ fits. w.list_part-left.ensures.listed fits ∙ ap (λ (l : List (ℕ × ℕ)). l ++ here) (so_far.listed (omega (arith, counted, fits))) ∙ sym more;
+          }
+      | goal.else-marks-part w ↦
+          let none = so_far.marked.unmarked part (get_or_default marks part true false within ∙ w.if-marks-part.false) in
+          let same = more ∙ ap (λ (l : List (ℕ × ℕ)). before ++ l) none ∙ append-nil before in
+          rw (w.marks-is, w.few-is, w.left-is) record {
+            marked = so_far.marked;
+            counted = so_far.counted ∙ ap length (sym same);
+            listed = λ fits. so_far.listed fits ∙ sym same;
           }
     ]

@@ -1,15 +1,15 @@
-use Rattle.std.proofs.Common.{◌≡◌, ◌<◌, ◌-◌, length, take, get_or, refl, arith}
+use Rattle.std.proofs.Common.{◌≡◌, ◌<◌, ◌+◌, ◌-◌, length, take, get_or, refl, arith}
 use Rattle.std.specs.List.{flat_map, range_with_len}
 use Rattle.std.proofs.lemmas.List.FromFn.{length-range_with_len, get_or-range_with_len}
 use Rattle.std.proofs.lemmas.Result.{err_from_is_err_and}
 use Rattle.host_port.specs.declared.side.Side.TheVariants.{File}
 use Rattle.host_port.proofs.BufferLemmas.{adds_nothing, adds_then, adds_more, adds_stop, adds_all, adds_ready}
 use Rattle.gmon_gnu.specs.Pieces.{left_of, round_bytes, rounds_text}
-use Rattle.gmon_gnu.proofs.RoundLemmas.{kept_same, rounds_same, rounds_split}
+use Rattle.gmon_gnu.proofs.RoundLemmas.{all_marked, kept_same, marks_later, rounds_same, rounds_split}
 use Rattle.gmon_gnu.proofs.profile_writing.put_rounds.Goals as goal
 
 pub loop-j-init : goal.loop-j-init
-loop-j-init g c = record { put = adds_nothing File _ _ (tt {0}); ready = c.requires.ready }
+loop-j-init g c = record { put = adds_nothing File _ _ (tt {0}); marked = all_marked 0 1048576 c.args.profile.now.blocks refl; ready = c.requires.ready }
 
 pub loop-j-preserved : goal.loop-j-preserved
 loop-j-preserved g c =
@@ -23,6 +23,7 @@ loop-j-preserved g c =
     let one = c.in_ok-put_round.ensures.adds in
     record {
       put = adds_more File f xs i i _ _ _ _ _ _ (tt {0}) (tt {0}) within is c.loop-j.invariant.put one;
+      marked = marks_later i (i + 1) c.args.profile.now.blocks c.list_left-left.new.marks (omega arith) c.list_left-left.ensures.marked;
       ready = adds_ready File (f i) _ _ _ _ (tt {0}) one c.loop-j.invariant.ready;
     }
 
