@@ -23,7 +23,7 @@ use Rattle.gmon_gnu.proofs.SizeLemmas.{have_ranges}
 
 -- ---- the whole file
 
-records_of : (bytes : List ℕ) → file_recs bytes ≡ records_on (length bytes) (drop 20 bytes)
+pub records_of : (bytes : List ℕ) → file_recs bytes ≡ records_on (length bytes) (drop 20 bytes)
 records_of bytes = allowance (length bytes) (length bytes) (length (drop 20 bytes)) (drop 20 bytes) (omega (arith, length-drop 20 bytes)) (omega arith)
 
 two_tests : (a b : Bool) (x y : GmonRefusal) (o : Result (List Rec) GmonRefusal) → (if a then Some x else (if b then Some y else refusal_in o)) ≡ refusal_in (if a then Err x else (if b then Err y else o))

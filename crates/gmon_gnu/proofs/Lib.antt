@@ -6,6 +6,7 @@ pub mod FedLemmas
 pub mod HistLemmas
 pub mod SpellingLemmas
 pub mod FaultLemmas
+pub mod SkipLemmas
 pub mod MeaningLemmas
 pub mod RunTextLemmas
 pub mod RunReadBack
@@ -13,6 +14,7 @@ pub mod CountedReadBack
 pub mod BlockTextLemmas
 pub mod PieceLemmas
 pub mod ProfileTextLemmas
+pub mod RoundLemmas
 pub mod SplitLemmas
 pub mod ProfileSpelling
 pub mod ProfileReadBack

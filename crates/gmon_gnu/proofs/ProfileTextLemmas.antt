@@ -86,10 +86,10 @@ round_text j es n is =
     ∙ ap (λ (t : List ℕ). 2 ∷ (le (length (map raw_block (round_of es j))) 4 ++ t)) (left_text j es)
 
 pub rounds_of_some : (es : List (ℕ × ℕ)) (n : ℕ) → 0 < length es → n ≡ pieces_of most_calls (largest (map (λ e. e.1) es))
-    → rounds_text n es ≡ flat_map (λ rs. blocks_bytes (map raw_block rs)) (rounds_of es)
+    → rounds_text 0 n es ≡ flat_map (λ rs. blocks_bytes (map raw_block rs)) (rounds_of es)
 rounds_of_some [] n some is = absurd (omega (arith, some))
 rounds_of_some (e ∷ es) n some is =
-    ap (λ (m : ℕ). rounds_text m (e ∷ es)) is
+    ap (λ (m : ℕ). rounds_text 0 m (e ∷ es)) is
     ∙ sym (flat_map-map (λ (rs : List (ℕ × ℕ)). blocks_bytes (map raw_block rs)) (round_of (e ∷ es)) (range_with_len 0 (pieces_of most_calls (largest (map (λ e. e.1) (e ∷ es))))))
 
 pub rounds_of_none : (es : List (ℕ × ℕ)) → length es ≡ 0 → rounds_of es ≡ []

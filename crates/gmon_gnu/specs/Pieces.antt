@@ -1,7 +1,7 @@
 -- The bytes of a profile's pieces, as they are written one after the other.
 -- Only private functions and invariants speak of it.
-use Rattle.std.specs.Prelude.{ℕ, List, [], ◌∷◌, ◌++◌, length, map, if◌then◌else◌}
-use Rattle.std.specs.List.{flat_map, range_with_len}
+use Rattle.std.specs.Prelude.{◌≡◌, ℕ, ◌*◌, Bool, true, false, List, [], ◌∷◌, ◌++◌, length, map, take, drop, get_or, if◌then◌else◌}
+use Rattle.std.specs.List.{flat_map, filter, range_with_len}
 use Rattle.gp_base.specs.declared.records.Unit as units
 use Rattle.gp_base.specs.Bytes.{le}
 use Rattle.gmon_data.specs.declared.hist.Hist.{Hist}
@@ -29,5 +29,22 @@ arc_text_of e = flat_map (λ j. rec_bytes (arc_rec (arc_piece e j))) (range_with
 abbrev pub left_bytes : ℕ → ℕ × ℕ → List ℕ
 left_bytes j e = if has_left j e.1 then block_bytes (raw_block (e.0, piece most_calls j e.1)) else []
 
-abbrev pub rounds_text : ℕ → List (ℕ × ℕ) → List ℕ
-rounds_text rounds blocks = flat_map (λ j. blocks_bytes (map raw_block (round_of blocks j))) (range_with_len 0 rounds)
+-- the entries that have something left for round j
+abbrev pub left_of : ℕ → List (ℕ × ℕ) → List (ℕ × ℕ)
+left_of j blocks = filter (λ e. has_left j e.1) blocks
+
+-- 64 entries, or the last ones
+abbrev pub part_of : {T : Type 0} → ℕ → List T → List T
+part_of part blocks = take 64 (drop (part * 64) blocks)
+
+-- there is a mark for each part, and a part without it has nothing left for round j
+pub record AreMarks (j : ℕ) (blocks : List (ℕ × ℕ)) (marks : List Bool) : Type 0 where
+  pub count : length marks ≡ 1048576
+  pub unmarked : (part : ℕ) → get_or marks part true ≡ false → left_of j (part_of part blocks) ≡ []
+
+abbrev pub round_bytes : List (ℕ × ℕ) → ℕ → List ℕ
+round_bytes blocks j = blocks_bytes (map raw_block (round_of blocks j))
+
+-- n rounds, from round j on
+abbrev pub rounds_text : ℕ → ℕ → List (ℕ × ℕ) → List ℕ
+rounds_text j n blocks = flat_map (round_bytes blocks) (range_with_len j n)

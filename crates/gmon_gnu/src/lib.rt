@@ -8,6 +8,7 @@
 mod adding;
 pub mod block_writing;
 pub(crate) mod building;
+mod checking;
 pub mod laws;
 pub mod profile_writing;
 pub mod reader;

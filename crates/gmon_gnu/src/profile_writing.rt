@@ -1,6 +1,6 @@
 //! Writing the file of a profile.
 
-ghost use Rattle.std.specs.Prelude.{◌≡◌, ◌*◌, ◌-◌, ◌^◌, ◌<◌, true, length, map, OnOk, unwrap_or};
+ghost use Rattle.std.specs.Prelude.{◌≡◌, ◌+◌, ◌*◌, ◌-◌, ◌^◌, ◌<◌, ◌≤◌, true, false, [], ◌++◌, length, take, map, slice_get, Some, OnOk, unwrap_or};
 ghost use Rattle.std.specs.List.{flat_map};
 ghost use Rattle.host_port.specs.Buffered.{Adds};
 ghost use Rattle.host_port.specs.Host.{Puts};
@@ -8,8 +8,8 @@ ghost use Rattle.host_port.specs.declared.side.Side.TheVariants.{File};
 ghost use Rattle.gp_base.specs.Fields.{counter_bytes};
 ghost use Rattle.gmon_gnu.specs.Grammar.{rec_bytes, hist_bytes, blocks_bytes};
 ghost use Rattle.gmon_gnu.specs.ProfileText.{profile_text, IsReadBack};
-ghost use Rattle.gmon_gnu.specs.Splitting.{piece as spec_piece, largest as spec_largest, hist_piece, raw_hist, hist_recs, arc_rec, arc_pieces, raw_block, blocks_rec, round_of, rounds_of};
-ghost use Rattle.gmon_gnu.specs.Pieces.{hist_header, hist_pieces_text, arc_text_of, left_bytes, rounds_text};
+ghost use Rattle.gmon_gnu.specs.Splitting.{piece as spec_piece, largest as spec_largest, hist_piece, raw_hist, hist_recs, arc_rec, arc_pieces, raw_block, rounds_of};
+ghost use Rattle.gmon_gnu.specs.Pieces.{hist_header, hist_pieces_text, arc_text_of, left_bytes, left_of, part_of, round_bytes, rounds_text, AreMarks};
 
 use crate::splitting::{MOST_CALLS, MOST_SAMPLES, has_left, largest, piece, pieces};
 use crate::writing::{ARC_TAG, hist_text};
@@ -194,7 +194,21 @@ fn put_runs<H: Host>(profile: &Profile, out: &mut OutBuf, host: &mut H) -> Resul
     put_rounds(pieces(MOST_CALLS, largest_run(profile)), profile, out, host)
 }
 
-/// The counts of basic blocks in so many rounds.
+/// How many addresses are listed at most.
+const FEW: usize = 16_384;
+
+/// How many addresses share a mark.
+const PART: usize = 64;
+
+/// Marks for all addresses of a profile, of which there are fewer than 2^26.
+const MARKS: usize = 1_048_576;
+
+/// The counts of basic blocks in so many rounds. What a round looks at is bounded by what it writes.
+///
+/// A mark says of `PART` addresses whether one of them has something left; where none has, they aren't looked at
+/// again. So a round looks at `PART` addresses for each one that it writes at most, and at the marks. Those are few
+/// beside what it writes, since it writes more than `FEW` addresses: from the first round on in which at most `FEW`
+/// have something left, these are listed, and a round looks at what the round before wrote.
 fn put_rounds<H: Host>(
     rounds: u64,
     profile: &Profile,
@@ -203,11 +217,17 @@ fn put_rounds<H: Host>(
 ) -> Result<(), Failed>
     requires within { (rounds - 1) * 4294967295 < 2 ^ 64 }
     requires ready { (H.outside host.old).is_writing ≡ true }
-    ensures adds { Adds File (rounds_text rounds profile.now.blocks) out.old out.new (H.outside host.old) (H.outside host.new) result }
+    ensures adds { Adds File (rounds_text 0 rounds profile.now.blocks) out.old out.new (H.outside host.old) (H.outside host.new) result }
     ensures ready { OnOk result ((H.outside host.new).is_writing ≡ true) }
 {
+    let mut few = [(0, 0); FEW];
+    let mut marks = [true; MARKS];
     for j in 0..rounds {
-        put_round(j, profile, out, host)?;
+        let left = list_left(j, profile, &mut marks, &mut few);
+        if left as usize <= FEW {
+            return put_few_rounds(j, rounds, left as usize, &mut few, out, host);
+        }
+        put_round(j, left, profile, &marks, out, host)?;
     }
     Ok(())
 }
@@ -215,46 +235,213 @@ fn put_rounds<H: Host>(
 /// The addresses that have something left for round `j`, with their piece.
 fn put_round<H: Host>(
     j: u64,
+    left: u32,
     profile: &Profile,
+    marks: &[bool],
     out: &mut OutBuf,
     host: &mut H,
 ) -> Result<(), Failed>
     requires within { j * 4294967295 < 2 ^ 64 }
+    requires counted { left ≡ length (left_of j profile.now.blocks) }
+    requires marked { AreMarks j profile.now.blocks marks.now }
     requires ready { (H.outside host.old).is_writing ≡ true }
-    ensures adds { Adds File (blocks_bytes (map raw_block (round_of profile.now.blocks j))) out.old out.new (H.outside host.old) (H.outside host.new) result }
+    ensures adds { Adds File (round_bytes profile.now.blocks j) out.old out.new (H.outside host.old) (H.outside host.new) result }
     ensures ready { OnOk result ((H.outside host.new).is_writing ≡ true) }
 {
     out.put(host, &[BLOCKS_TAG])?;
-    out.put(host, &le4(count_left(j, profile)))?;
-    put_left(j, profile, out, host)
+    out.put(host, &le4(left))?;
+    put_left(j, profile, marks, out, host)
 }
 
-/// How many addresses have something left for round `j`.
-fn count_left(j: u64, profile: &Profile) -> u32
-    requires { j * 4294967295 < 2 ^ 64 }
-    ensures { result ≡ length (round_of profile.now.blocks j) }
+/// How many addresses have something left for round `j`. These are listed from the front of `few` on, if it has room for all.
+/// Looks at marked addresses alone, and takes the marks away where none has something left.
+fn list_left(j: u64, profile: &Profile, marks: &mut [bool], few: &mut [(u32, u64)]) -> u32
+    requires within { j * 4294967295 < 2 ^ 64 }
+    requires marked { AreMarks j profile.now.blocks marks.old }
+    ensures marked { AreMarks j profile.now.blocks marks.new }
+    ensures counted { result ≡ length (left_of j profile.now.blocks) }
+    ensures listed { result ≤ length few.new → take result few.new ≡ left_of j profile.now.blocks }
 {
     let mut left = 0;
-    for i in 0..profile.block_count() {
-        let (_, runs) = profile.block(i);
-        left += u32::from(has_left(j, runs));
+    for part in 0..parts(profile) {
+        if marks[part] {
+            let before = left;
+            left = list_part(j, part, before, profile, few);
+            marks[part] = before < left;
+        }
     }
     left
 }
 
-fn put_left<H: Host>(
+/// Lists behind `listed` others the addresses of a part that have something left for round `j`, and answers how many
+/// are listed then.
+fn list_part(j: u64, part: usize, listed: u32, profile: &Profile, few: &mut [(u32, u64)]) -> u32
+    requires within { j * 4294967295 < 2 ^ 64 }
+    requires part { part * 64 ≤ length profile.now.blocks }
+    requires listed { listed ≤ part * 64 }
+    ensures counted { result ≡ listed + length (left_of j (part_of part profile.now.blocks)) }
+    ensures listed { result ≤ length few.new → take result few.new ≡ take listed few.old ++ left_of j (part_of part profile.now.blocks) }
+{
+    let mut left = listed;
+    for k in 0..part_len(part, profile) {
+        let (addr, runs) = part_block(part, k, profile);
+        if has_left(j, runs) {
+            if (left as usize) < few.len() {
+                few[left as usize] = (addr, runs);
+            }
+            left += 1;
+        }
+    }
+    left
+}
+
+/// How many addresses a part has.
+fn part_len(part: usize, profile: &Profile) -> usize
+    requires { part * 64 ≤ length profile.now.blocks }
+    ensures value { result ≡ length (part_of part profile.now.blocks) }
+    ensures fits { part * 64 + result < 2 ^ 26 }
+{
+    (profile.block_count() - part * PART).min(PART)
+}
+
+/// Address `k` of a part, and its executions.
+fn part_block(part: usize, k: usize, profile: &Profile) -> (u32, u64)
+    requires part { part * 64 ≤ length profile.now.blocks }
+    requires within { k < length (part_of part profile.now.blocks) }
+    ensures { slice_get (part_of part profile.now.blocks) k ≡ Some (result.0, result.1) }
+{
+    profile.holds();
+    profile.block(part * PART + k)
+}
+
+/// How many parts the addresses have, of which the last one may be empty.
+fn parts(profile: &Profile) -> usize
+    ensures all { length profile.now.blocks ≤ result * 64 }
+    ensures begun { (result - 1) * 64 ≤ length profile.now.blocks }
+    ensures few { result ≤ 1048576 }
+{
+    profile.block_count() / PART + 1
+}
+
+/// Of the first `left` addresses of a list, keeps those that have something left for round `j`, in front, and says how many.
+fn keep_left(j: u64, left: usize, few: &mut [(u32, u64)]) -> usize
+    requires within { j * 4294967295 < 2 ^ 64 }
+    requires listed { left ≤ length few.old }
+    ensures kept { take result few.new ≡ left_of j (take left few.old) }
+    ensures fewer { result ≤ left }
+{
+    let mut kept = 0;
+    for i in 0..left {
+        if has_left(j, few[i].1) {
+            few[kept] = few[i];
+            kept += 1;
+        }
+    }
+    kept
+}
+
+/// The rounds from `first` on, of the first `listed` addresses of a list.
+fn put_few_rounds<H: Host>(
+    first: u64,
+    rounds: u64,
+    listed: usize,
+    few: &mut [(u32, u64)],
+    out: &mut OutBuf,
+    host: &mut H,
+) -> Result<(), Failed>
+    requires within { (rounds - 1) * 4294967295 < 2 ^ 64 }
+    requires listed { listed ≤ length few.old }
+    requires short { length few.old < 2 ^ 32 }
+    requires ready { (H.outside host.old).is_writing ≡ true }
+    ensures adds { Adds File (rounds_text first (rounds - first) (take listed few.old)) out.old out.new (H.outside host.old) (H.outside host.new) result }
+    ensures ready { OnOk result ((H.outside host.new).is_writing ≡ true) }
+{
+    let mut left = listed;
+    for j in first..rounds {
+        left = keep_left(j, left, few);
+        put_few(j, &few[..left], out, host)?;
+    }
+    Ok(())
+}
+
+/// The addresses of a list, all of which have something left for round `j`, with their piece.
+fn put_few<H: Host>(
     j: u64,
-    profile: &Profile,
+    few: &[(u32, u64)],
+    out: &mut OutBuf,
+    host: &mut H,
+) -> Result<(), Failed>
+    requires within { j * 4294967295 < 2 ^ 64 }
+    requires counted { length few.now ≡ length (left_of j few.now) }
+    requires short { length few.now < 2 ^ 32 }
+    requires ready { (H.outside host.old).is_writing ≡ true }
+    ensures adds { Adds File (round_bytes few.now j) out.old out.new (H.outside host.old) (H.outside host.new) result }
+    ensures ready { OnOk result ((H.outside host.new).is_writing ≡ true) }
+{
+    out.put(host, &[BLOCKS_TAG])?;
+    out.put(host, &le4(few.len() as u32))?;
+    put_listed(j, few, out, host)
+}
+
+fn put_listed<H: Host>(
+    j: u64,
+    few: &[(u32, u64)],
     out: &mut OutBuf,
     host: &mut H,
 ) -> Result<(), Failed>
     requires within { j * 4294967295 < 2 ^ 64 }
     requires ready { (H.outside host.old).is_writing ≡ true }
+    ensures adds { Adds File (flat_map (left_bytes j) few.now) out.old out.new (H.outside host.old) (H.outside host.new) result }
+    ensures ready { OnOk result ((H.outside host.new).is_writing ≡ true) }
+{
+    for i in 0..few.len() {
+        let (addr, runs) = few[i];
+        put_block(j, addr, runs, out, host)?;
+    }
+    Ok(())
+}
+
+/// The pieces of round `j`: of the marked parts, since the others have none.
+fn put_left<H: Host>(
+    j: u64,
+    profile: &Profile,
+    marks: &[bool],
+    out: &mut OutBuf,
+    host: &mut H,
+) -> Result<(), Failed>
+    requires within { j * 4294967295 < 2 ^ 64 }
+    requires marked { AreMarks j profile.now.blocks marks.now }
+    requires ready { (H.outside host.old).is_writing ≡ true }
     ensures adds { Adds File (flat_map (left_bytes j) profile.now.blocks) out.old out.new (H.outside host.old) (H.outside host.new) result }
     ensures ready { OnOk result ((H.outside host.new).is_writing ≡ true) }
 {
-    for i in 0..profile.block_count() {
-        let (addr, runs) = profile.block(i);
+    for part in 0..parts(profile) {
+        put_part(j, part, marks[part], profile, out, host)?;
+    }
+    Ok(())
+}
+
+/// The pieces of a part for round `j`, of which there are none without a mark.
+fn put_part<H: Host>(
+    j: u64,
+    part: usize,
+    mark: bool,
+    profile: &Profile,
+    out: &mut OutBuf,
+    host: &mut H,
+) -> Result<(), Failed>
+    requires within { j * 4294967295 < 2 ^ 64 }
+    requires part { part * 64 ≤ length profile.now.blocks }
+    requires marked { mark ≡ false → left_of j (part_of part profile.now.blocks) ≡ [] }
+    requires ready { (H.outside host.old).is_writing ≡ true }
+    ensures adds { Adds File (flat_map (left_bytes j) (part_of part profile.now.blocks)) out.old out.new (H.outside host.old) (H.outside host.new) result }
+    ensures ready { OnOk result ((H.outside host.new).is_writing ≡ true) }
+{
+    if !mark {
+        return Ok(());
+    }
+    for k in 0..part_len(part, profile) {
+        let (addr, runs) = part_block(part, k, profile);
         put_block(j, addr, runs, out, host)?;
     }
     Ok(())

@@ -333,7 +333,7 @@ impl State {
 
 /// How many bytes a record takes up to its counters or pairs, by its tag; of one that is none only the tag
 /// is read.
-fn width_of(tag: u8) -> usize
+pub(crate) fn width_of(tag: u8) -> usize
     ensures width { result ≡ width_of tag }
     ensures some { 0 < result }
     ensures fits { result ≤ 33 }
@@ -347,7 +347,7 @@ fn width_of(tag: u8) -> usize
 }
 
 /// What the front of a record that stands at `at` says.
-fn front_of(at: u32, front: &[u8]) -> Begun
+pub(crate) fn front_of(at: u32, front: &[u8]) -> Begun
     requires { IsFront front.now }
     ensures says { (len : ℕ) (rest : List ℕ) → at ≡ len - length (front.now ++ rest) → records_on len (front.now ++ rest) ≡ begun_on len result rest }
     ensures cost { 5 * cost_of result ≤ length front.now }

@@ -1,36 +1,44 @@
-use Rattle.std.proofs.Common.{◌≡◌, ◌<◌, ℕ, length, get_or, sym, arith}
-use Rattle.std.proofs.lemmas.Option.{get_or_from_slice_get}
+use Rattle.std.proofs.Common.{◌≡◌, ◌<◌, ◌*◌, ◌+◌, ℕ, List, [], ◌++◌, length, take, drop, sym, ap, ◌∙◌, arith}
+use Rattle.std.specs.List.{flat_map}
+use Rattle.std.proofs.lemmas.List.{take-append-drop}
+use Rattle.std.proofs.lemmas.List.Concat.{flat_map-append}
 use Rattle.std.proofs.lemmas.Result.{err_from_is_err_and}
 use Rattle.host_port.specs.declared.side.Side.TheVariants.{File}
-use Rattle.host_port.proofs.BufferLemmas.{adds_nothing, adds_more, adds_stop, adds_ready}
-use Rattle.gmon_gnu.specs.Pieces.{left_bytes}
+use Rattle.host_port.proofs.BufferLemmas.{adds_nothing, adds_then, adds_front, adds_all, adds_ready}
+use Rattle.gmon_gnu.specs.Pieces.{left_bytes, part_of}
+use Rattle.gmon_gnu.proofs.RoundLemmas.{bytes_of_part_more}
 use Rattle.gmon_gnu.proofs.profile_writing.put_left.Goals as goal
 
-pub loop-i-init : goal.loop-i-init
-loop-i-init g c = record { put = adds_nothing File _ _ (tt {0}); ready = c.requires.ready }
+pub loop-part-init : goal.loop-part-init
+loop-part-init g c = record { put = adds_nothing File _ _ (tt {0}); ready = c.requires.ready }
 
-pub loop-i-preserved : goal.loop-i-preserved
-loop-i-preserved g c =
+pub loop-part-preserved : goal.loop-part-preserved
+loop-part-preserved g c =
     let f = left_bytes c.args.j in
-    let xs = c.args.profile.now.blocks in
-    let i = c.loop-i.i in
-    let item : ℕ × ℕ = (c.block-addr.result.0, c.block-addr.result.1) in
-    let within : i < length xs = omega (arith, c.loop-i-test.true, c.block_count-i-end.ensures.value) in
-    let is : item ≡ get_or xs i item = sym (get_or_from_slice_get xs i item item c.block-addr.ensures) in
-    let one = c.in_ok-put_block.ensures.adds in
+    let es = c.args.profile.now.blocks in
+    let part = c.loop-part.part in
+    let before = flat_map f (take (part * 64) es) in
+    let here = flat_map f (part_of part es) in
+    let one = c.in_ok-put_part.ensures.adds in
     record {
-      put = adds_more File f xs i item _ _ _ _ _ _ (tt {0}) (tt {0}) within is c.loop-i.invariant.put one;
-      ready = adds_ready File (f item) _ _ _ _ (tt {0}) one c.loop-i.invariant.ready;
+      put = rw (bytes_of_part_more c.args.j part es) (adds_then File before here _ _ _ _ _ _ (tt {0}) _ c.loop-part.invariant.put one);
+      ready = adds_ready File here _ _ _ _ (tt {0}) one c.loop-part.invariant.ready;
     }
 
-pub returns-in_err-put_block-clause-adds : goal.returns-in_err-put_block-clause-adds
-returns-in_err-put_block-clause-adds g c =
+pub returns-in_err-put_part-clause-adds : goal.returns-in_err-put_part-clause-adds
+returns-in_err-put_part-clause-adds g c =
     let p = err_from_is_err_and c.from_residual.result c.from_residual.ensures.1 in
     let f = left_bytes c.args.j in
-    let xs = c.args.profile.now.blocks in
-    let i = c.loop-i.i in
-    let item : ℕ × ℕ = (c.block-addr.result.0, c.block-addr.result.1) in
-    let within : i < length xs = omega (arith, c.loop-i-test.true, c.block_count-i-end.ensures.value) in
-    let is : item ≡ get_or xs i item = sym (get_or_from_slice_get xs i item item c.block-addr.ensures) in
-    let one = c.in_err-put_block.ensures.adds in
-    rw p.1 (adds_stop File f xs i item _ _ _ _ _ _ (tt {0}) _ within is c.loop-i.invariant.put one)
+    let es = c.args.profile.now.blocks in
+    let part = c.loop-part.part in
+    let n = (part + 1) * 64 in
+    let before = flat_map f (take (part * 64) es) in
+    let here = flat_map f (part_of part es) in
+    let rest = flat_map f (drop n es) in
+    let whole : (before ++ here) ++ rest ≡ flat_map f es = ap (λ (t : List ℕ). t ++ rest) (sym (bytes_of_part_more c.args.j part es)) ∙ sym (flat_map-append f (take n es) (drop n es)) ∙ ap (flat_map f) (take-append-drop n es) in
+    let one = c.in_err-put_part.ensures.adds in
+    rw (p.1, ← whole) (adds_front File (before ++ here) rest _ _ _ _ _ (adds_then File before here _ _ _ _ _ _ (tt {0}) _ c.loop-part.invariant.put one))
+
+pub returns-clause-adds : goal.returns-clause-adds
+returns-clause-adds g c =
+    adds_all File (left_bytes c.args.j) c.args.profile.now.blocks (c.loop-part.part * 64) _ _ _ _ _ (omega (arith, c.loop-part-test.false, c.parts-part-end.ensures.all)) c.loop-part.invariant.put
