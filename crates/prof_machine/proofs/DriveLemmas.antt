@@ -20,6 +20,7 @@ pub record Drives (old new : RunValue) (before now : Outside) (next : PlanPlace)
   pub live : IsLive new
   pub going : new.ending ≡ None
   pub machine : new.machine ≡ old.machine
+  pub note : new.note ≡ old.note
   pub turns : ℕ
   pub draws : Draws old.machine.setup turns next
   pub few : turns + work_left new ≤ most_turns old.machine.setup

@@ -5,7 +5,6 @@ use Rattle.std.specs.Prelude.{is_some}
 use Rattle.std.specs.Bool.{then_some}
 use Rattle.std.proofs.lemmas.Bool.{eqb-true}
 use Rattle.gp_base.specs.Spans.{is_in}
-use Rattle.rv_decode.specs.declared.instruction.Instr.{Instr}
 use Rattle.rv_step.specs.Memory.{Memory}
 use Rattle.rv_step.specs.Registers.{Registers, register}
 use Rattle.rv_step.specs.Step.{instruction_at}
@@ -129,7 +128,7 @@ over_note w a f g h result held is mine looks over stands =
 
 -- ---- an instruction
 
-ran_as : (h : ℕ) (w v : World) (old new : RunValue) → StandsFor w old → StandsFor v new → ran_since h (begin_of h old) (instruction_at old.memory (hart_of old.harts h).pc) new ≡ ran_of h w v
+ran_as : (h : ℕ) (w v : World) (old new : RunValue) → StandsFor w old → StandsFor v new → ran_since h (begin_of h old) new ≡ ran_of h w v
 ran_as h w v old new first last =
     ap (λ (n : ℕ). if eqb n old.retired then None else ran_from (hart_of old.harts h).pc (hart_of new.harts h).pc (instruction_at old.memory (hart_of old.harts h).pc)) last.retired
     ∙ ap (λ (n : ℕ). if eqb v.retired n then None else ran_from (hart_of old.harts h).pc (hart_of new.harts h).pc (instruction_at old.memory (hart_of old.harts h).pc)) first.retired
@@ -137,14 +136,14 @@ ran_as h w v old new first last =
     ∙ ap (λ (x : List Registers). if eqb v.retired w.retired then None else ran_from (hart_of w.harts h).pc (hart_of x h).pc (instruction_at old.memory (hart_of w.harts h).pc)) last.harts
     ∙ ap (λ (x : Memory). if eqb v.retired w.retired then None else ran_from (hart_of w.harts h).pc (hart_of v.harts h).pc (instruction_at x (hart_of w.harts h).pc)) first.memory
 
-pub instruction_noted : (m m1 m2 : Machine) (h : ℕ) (w : World) (old new : RunValue) (t : TurnNote) (b : Begin) (instr : Option Instr) → m1 ≡ m → m2 ≡ m → StandsFor w old → StandsFor (executed m h w) new
-    → b ≡ begin_of h old → instr ≡ instruction_at old.memory (hart_of old.harts h).pc → t.ran ≡ ran_since h b instr new
+pub instruction_noted : (m m1 m2 : Machine) (h : ℕ) (w : World) (old new : RunValue) (t : TurnNote) (b : Begin) → m1 ≡ m → m2 ≡ m → StandsFor w old → StandsFor (executed m h w) new
+    → b ≡ begin_of h old → t.ran ≡ ran_since h b new
     → t.sample ≡ if_going (sample_in m1 h) (executed m h w) → t.returned ≡ if_going (return_in m2 h) (while_going (sampled m1 h) (executed m h w)) → t ≡ instruction_note m h w
 unfolding instruction_note
-instruction_noted m m1 m2 h w old new t b instr p q first last begin told ran sample returned =
+instruction_noted m m1 m2 h w old new t b p q first last begin ran sample returned =
     let v = executed m h w in
     let ran_is : t.ran ≡ ran_of h w v =
-    ran ∙ ap (λ (x : Begin). ran_since h x instr new) begin ∙ ap (λ (x : Option Instr). ran_since h (begin_of h old) x new) told ∙ ran_as h w v old new first last in
+    ran ∙ ap (λ (x : Begin). ran_since h x new) begin ∙ ran_as h w v old new first last in
     let sample_is : t.sample ≡ if_going (sample_in m h) v = sample ∙ ap (λ (x : Machine). if_going (sample_in x h) v) p in
     let returned_is : t.returned ≡ if_going (return_in m h) (while_going (sampled m h) v) =
     returned ∙ ap (λ (x : Machine). if_going (return_in x h) (while_going (sampled m1 h) v)) q ∙ ap (λ (x : Machine). if_going (return_in m h) (while_going (sampled x h) v)) p in

@@ -1,9 +1,9 @@
 -- What the stages of a turn leave of a run's parts.
 -- Only private functions and invariants speak of it.
 use Rattle.std.specs.Prelude.{◌≡◌, ℕ, ◌+◌, ◌-◌, ◌%◌, ◌<◌, ◌≤◌, ◌==◌, Bool, false, Option, Some, None, slice_set, if◌then◌else◌, IsSome}
-use Rattle.rv_decode.specs.declared.instruction.Instr.{Instr}
 use Rattle.rv_step.specs.declared.stepped.TrapKind.TheVariants.{JumpMisaligned}
 use Rattle.rv_step.specs.Registers.{Registers}
+use Rattle.rv_step.specs.Step.{instruction_at}
 use Rattle.prof_machine.specs.declared.ending.End.TheVariants.{Trap}
 use Rattle.prof_machine.specs.declared.flight.Flight.{Flight}
 use Rattle.prof_machine.specs.Executions.{with_execution}
@@ -67,7 +67,11 @@ pub record Serves (old new : RunValue) : Type 0 where
 
 -- where a turn of hart h begins, and the instruction that stood there, if it has retired since then
 abbrev pub begin_of : ℕ → RunValue → Begin
-begin_of h r = record { pc = (hart_of r.harts h).pc; retired = r.retired }
+begin_of h r = record {
+  pc = (hart_of r.harts h).pc;
+  instr = instruction_at r.memory (hart_of r.harts h).pc;
+  retired = r.retired;
+}
 
-abbrev pub ran_since : ℕ → Begin → Option Instr → RunValue → Option Ran
-ran_since h b instr r = if r.retired == b.retired then None else ran_from b.pc (hart_of r.harts h).pc instr
+abbrev pub ran_since : ℕ → Begin → RunValue → Option Ran
+ran_since h b r = if r.retired == b.retired then None else ran_from b.pc (hart_of r.harts h).pc b.instr

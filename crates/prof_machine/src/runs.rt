@@ -150,11 +150,49 @@ impl Run {
         let note = if self.holds_walk(hart) {
             TurnNote::of_look(self.look(hart))
         } else {
-            self.instruct(hart, host)?
+            self.instruct_noted(hart, host)?
         };
         self.close();
         self.live = self.ending.is_none();
         self.note = note;
+        Ok(self.turned())
+    }
+
+    // The same, of which nothing is noted.
+    #[inline(always)]
+    fn advance<H: Host>(&mut self, hart: u32, host: &mut H) -> Result<Turned, Failed>
+        requires live { IsLive self.old }
+        requires hart { hart < self.old.machine.setup.harts }
+        ensures stands { OnOk result ((w : World) → StandsFor w self.old → StandsFor (turn_of self.old.machine w hart) self.new) }
+        ensures answer { IfOk result (λ turned. turned ≡ turned_of self.new.ending) }
+        ensures live { IsLive self.new ↔ (result ≡ Ok Going) }
+        ensures machine { self.new.machine ≡ self.old.machine }
+        ensures note { self.new.note ≡ self.old.note }
+        ensures open { OnErr result (self.new.ending ≡ None) }
+
+        // What the outside has gained.
+        ensures prints { OnOk result ((w : World) → StandsFor w self.old
+            → ArePrinted w (turn_of self.old.machine w hart) (H.outside host.old) (H.outside host.new)) }
+        ensures fails { OnErr result ((w : World) → StandsFor w self.old
+            → BreaksOff w (turn_of self.old.machine w hart) (H.outside host.old) (H.outside host.new)) }
+        ensures counts { MatchResult result (λ _. KeepsCounts (H.outside host.old) (H.outside host.new)) (λ _. PrintFailed (H.outside host.old) (H.outside host.new)) }
+        ensures writing { (H.outside host.new).is_writing ≡ (H.outside host.old).is_writing }
+        ensures input { KeepsInput (H.outside host.old) (H.outside host.new) }
+
+        // A run has only so many turns left, and one that has ended has none.
+        ensures going { self.old.ending ≡ None }
+        ensures left { 0 < work_left self.old }
+        ensures few { work_left self.old ≤ most_turns self.old.machine.setup }
+        ensures less { IsLive self.new → work_left self.new < work_left self.old }
+    {
+        self.live = false;
+        if self.holds_walk(hart) {
+            let _ = self.look(hart);
+        } else {
+            self.instruct(hart, host)?;
+        }
+        self.close();
+        self.live = self.ending.is_none();
         Ok(self.turned())
     }
 
@@ -180,20 +218,12 @@ impl Run {
         ensures writing { (H.outside host.new).is_writing ≡ (H.outside host.old).is_writing }
         ensures input { KeepsInput (H.outside host.old) (H.outside host.new) }
     {
-        let kept = self.note;
         let mut plan = PlanWalk::new(&self.machine.setup);
         'turns: loop {
             let hart = plan.next_hart();
-            match self.turn(hart, host) {
-                Ok(Turned::Going) => {}
-                Ok(Turned::Ended(end)) => {
-                    self.note = kept;
-                    return Ok(end);
-                }
-                Err(failed) => {
-                    self.note = kept;
-                    return Err(failed);
-                }
+            match self.advance(hart, host)? {
+                Turned::Going => {}
+                Turned::Ended(end) => return Ok(end),
             }
         }
     }

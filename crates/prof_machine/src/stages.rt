@@ -11,7 +11,6 @@ ghost use Rattle.prof_machine.specs.Stages.{Executes, Serves, Steps, Ticks, answ
 ghost use Rattle.prof_machine.specs.Turn.{after_ecall, arrived, called, closed, executed, instructed, sampled, spent, switched, taken, while_going};
 ghost use Rattle.prof_machine.specs.Value.{StandsFor, calls_met, work_left};
 ghost use Rattle.prof_machine.specs.World.{World, hart_of, left_of};
-ghost use Rattle.rv_step.specs.Step.{instruction_at};
 
 use crate::ecalls::{A0, Call, ecall_of, write};
 use crate::ending::End;
@@ -21,12 +20,14 @@ use crate::runs::Run;
 use host_port::{Failed, Host};
 use mcount_arcs::{Entered, Gmon, Looked};
 use rv_decode::Instr;
-use rv_step::{Stepped, TracedStep, TrapKind, traced_step};
+use rv_step::{Stepped, TrapKind, instruction, step};
 
 /// Where a turn begins.
 #[derive(Clone, Copy)]
 struct Begin {
     pc: u32,
+    // The instruction that stands there, if there is one.
+    instr: Option<Instr>,
     // How many instructions have retired.
     retired: u32,
 }
@@ -73,7 +74,41 @@ impl Run {
     }
 
     // One instruction of this hart, with its tick and its hook.
-    pub(crate) fn instruct<H: Host>(&mut self, hart: u32, host: &mut H) -> Result<TurnNote, Failed>
+    #[inline(always)]
+    pub(crate) fn instruct<H: Host>(&mut self, hart: u32, host: &mut H) -> Result<(), Failed>
+        requires none { holds self.old.flight hart ≡ false }
+        requires hart { hart < self.old.machine.setup.harts }
+        requires going { self.old.ending ≡ None }
+        requires left { self.old.retired < self.old.machine.setup.budget }
+        requires due { 1 ≤ self.old.due }
+        requires dead { self.old.live ≡ false }
+        ensures stands { OnOk result ((w : World) → StandsFor w self.old → StandsFor (instructed self.old.machine hart w) self.new) }
+        ensures prints { OnOk result ((w : World) → StandsFor w self.old
+            → ArePrinted w (instructed self.old.machine hart w) (H.outside host.old) (H.outside host.new)) }
+        ensures fails { OnErr result ((w : World) → StandsFor w self.old
+            → BreaksOff w (instructed self.old.machine hart w) (H.outside host.old) (H.outside host.new)) }
+        ensures counts { MatchResult result (λ _. KeepsCounts (H.outside host.old) (H.outside host.new)) (λ _. PrintFailed (H.outside host.old) (H.outside host.new)) }
+        ensures writing { (H.outside host.new).is_writing ≡ (H.outside host.old).is_writing }
+        ensures input { KeepsInput (H.outside host.old) (H.outside host.new) }
+        ensures same { Steps self.old self.new }
+        ensures left { OnOk result (self.new.ending ≡ None → self.new.retired < self.new.machine.setup.budget) }
+        ensures due { OnOk result (self.new.ending ≡ None → 1 ≤ self.new.due) }
+        ensures less { OnOk result (self.new.ending ≡ None → work_left self.new < work_left self.old) }
+        ensures open { OnErr result (self.new.ending ≡ None) }
+    {
+        self.execute(hart, host)?;
+        let _ = self.sample(hart);
+        let _ = self.arrive(hart);
+        self.spend();
+        Ok(())
+    }
+
+    // The same, and what it did.
+    pub(crate) fn instruct_noted<H: Host>(
+        &mut self,
+        hart: u32,
+        host: &mut H,
+    ) -> Result<TurnNote, Failed>
         requires none { holds self.old.flight hart ≡ false }
         requires hart { hart < self.old.machine.setup.harts }
         requires going { self.old.ending ≡ None }
@@ -96,8 +131,8 @@ impl Run {
         ensures open { OnErr result (self.new.ending ≡ None) }
     {
         let begin = self.begin(hart);
-        let instr = self.execute(hart, host)?;
-        let ran = self.ran_since(hart, begin, instr);
+        self.execute(hart, host)?;
+        let ran = self.ran_since(hart, begin);
         let sample = self.sample(hart);
         let returned = self.arrive(hart);
         self.spend();
@@ -113,29 +148,32 @@ impl Run {
         requires { hart < self.now.machine.setup.harts }
         ensures { result ≡ begin_of hart self.now }
     {
+        let regs = &self.harts[hart as usize];
         Begin {
-            pc: self.harts[hart as usize].pc(),
+            pc: regs.pc(),
+            instr: instruction(regs, &self.ram),
             retired: self.retired,
         }
     }
 
     // The instruction that stood there, if it has retired since then.
-    fn ran_since(&self, hart: u32, begin: Begin, instr: Option<Instr>) -> Option<Ran>
+    fn ran_since(&self, hart: u32, begin: Begin) -> Option<Ran>
         requires { hart < self.now.machine.setup.harts }
-        ensures { result ≡ ran_since hart begin instr self.now }
+        ensures { result ≡ ran_since hart begin self.now }
     {
         if self.retired == begin.retired {
             return None;
         }
         Some(Ran {
             pc: begin.pc,
-            instr: instr?,
+            instr: begin.instr?,
             next: self.harts[hart as usize].pc(),
         })
     }
 
-    // The instruction, which is answered if there is one.
-    fn execute<H: Host>(&mut self, hart: u32, host: &mut H) -> Result<Option<Instr>, Failed>
+    // The instruction.
+    #[inline(always)]
+    fn execute<H: Host>(&mut self, hart: u32, host: &mut H) -> Result<(), Failed>
         requires hart { hart < self.old.machine.setup.harts }
         requires left { self.old.retired < self.old.machine.setup.budget }
         requires due { 1 ≤ self.old.due }
@@ -152,23 +190,18 @@ impl Run {
         ensures same { Steps self.old self.new }
         ensures executes { OnOk result (Executes self.old self.new) }
         ensures open { OnErr result (self.new.ending ≡ None) }
-        ensures instr { IfOk result (λ instr. instr ≡ instruction_at self.old.memory (hart_of self.old.harts hart).pc) }
     {
         let regs = &mut self.harts[hart as usize];
         let pc = regs.pc();
-        let TracedStep { answer, instr } = traced_step(regs, &mut self.ram);
-        match answer {
+        match step(regs, &mut self.ram) {
             Stepped::Retired => {
                 self.retire(pc);
-                Ok(instr)
+                Ok(())
             }
-            Stepped::Ecall => {
-                self.call(hart, host)?;
-                Ok(instr)
-            }
+            Stepped::Ecall => self.call(hart, host),
             Stepped::Trap(kind) => {
                 self.ending = Some(End::Trap(kind, pc));
-                Ok(instr)
+                Ok(())
             }
         }
     }
@@ -231,6 +264,7 @@ impl Run {
     }
 
     // The instruction at `pc` has retired.
+    #[inline(always)]
     fn retire(&mut self, pc: u32)
         requires left { self.old.retired < self.old.machine.setup.budget }
         requires due { 1 ≤ self.old.due }
@@ -244,6 +278,7 @@ impl Run {
 
     // The clock's tick, if a sample is due. The address is answered if the sample counts.
     #[tactic(auto, using(crate::proofs::ClockLemmas::again))]
+    #[inline(always)]
     fn sample(&mut self, hart: u32) -> Option<u32>
         requires hart { hart < self.old.machine.setup.harts }
         requires due { self.old.ending ≡ None → self.old.due < self.old.machine.setup.every }
@@ -271,6 +306,7 @@ impl Run {
 
     // Serves the hook at which the hart stands, if it does. It may go on at once, at the address that is
     // answered.
+    #[inline(always)]
     fn arrive(&mut self, hart: u32) -> Option<u32>
         requires hart { hart < self.old.machine.setup.harts }
         requires calls { self.old.ending ≡ None → calls_met self.old < self.old.retired }

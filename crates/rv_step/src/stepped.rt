@@ -15,7 +15,6 @@ pub enum Stepped {
 
 /// The answer of a step, and the instruction that stood at pc before it: None exactly where memory has not
 /// all of its four bytes, or they are none.
-#[derive(Clone, Copy, Debug, PartialEq, Eq)]
 pub struct TracedStep {
     pub answer: Stepped,
     pub instr: Option<Instr>,

@@ -7,7 +7,7 @@ use crate::execution::execute;
 use crate::memory::Ram;
 use crate::registers::Regs;
 use crate::stepped::{Stepped, TracedStep, TrapKind};
-use rv_decode::decode;
+use rv_decode::{Instr, decode};
 
 /// Executes the instruction at pc, as the RISC-V unprivileged manual describes RV32I, M and Zifencei.
 /// After Ecall and Trap registers, pc and memory are as before. Takes no memory.
@@ -22,7 +22,21 @@ pub fn step(regs: &mut Regs, ram: &mut Ram) -> Stepped
     ensures base { ram.new.base ≡ ram.old.base }
     ensures size { length ram.new.bytes ≡ length ram.old.bytes }
 {
-    traced_step(regs, ram).answer
+    let Some(word) = fetch(regs, ram) else {
+        return Stepped::Trap(TrapKind::FetchOutside);
+    };
+    match &decode(word) {
+        Some(instr) => execute(instr, regs, ram),
+        None => Stepped::Trap(TrapKind::Illegal),
+    }
+}
+
+/// The instruction at pc: None exactly where memory has not all of its four bytes, or they are none. Takes
+/// no memory.
+pub fn instruction(regs: &Regs, ram: &Ram) -> Option<Instr>
+    ensures { result ≡ instruction_at ram.now regs.now.pc }
+{
+    decode(fetch(regs, ram)?)
 }
 
 /// As `step`, and tells the instruction that stood at pc. Takes no memory.
@@ -38,23 +52,9 @@ pub fn traced_step(regs: &mut Regs, ram: &mut Ram) -> TracedStep
     ensures base { ram.new.base ≡ ram.old.base }
     ensures size { length ram.new.bytes ≡ length ram.old.bytes }
 {
-    let Some(word) = fetch(regs, ram) else {
-        return TracedStep {
-            answer: Stepped::Trap(TrapKind::FetchOutside),
-            instr: None,
-        };
-    };
-    let Some(instr) = decode(word) else {
-        return TracedStep {
-            answer: Stepped::Trap(TrapKind::Illegal),
-            instr: None,
-        };
-    };
-    let answer = execute(&instr, regs, ram);
-    TracedStep {
-        answer,
-        instr: Some(instr),
-    }
+    let instr = instruction(regs, ram);
+    let answer = step(regs, ram);
+    TracedStep { answer, instr }
 }
 
 /// The word at pc, if its four bytes are all in memory.

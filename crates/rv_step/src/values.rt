@@ -1,8 +1,8 @@
 //! That equality and copies of a step's answers say what they seem to: each is pinned by a clause.
 
-ghost use Rattle.std.specs.Prelude.{◌≡◌, ◌↔◌, IsTrue, IfOk};
+ghost use Rattle.std.specs.Prelude.{◌≡◌, ◌↔◌, IsTrue, Ok};
 
-use crate::stepped::{Stepped, TracedStep};
+use crate::stepped::Stepped;
 use std::alloc::AllocError;
 
 /// Whether two answers are the same.
@@ -14,14 +14,7 @@ pub fn same_answers(a: &Stepped, b: &Stepped) -> bool
 
 /// The same answer.
 pub fn copied_answers(a: &Stepped) -> Result<Stepped, AllocError>
-    ensures { IfOk result (λ b. b ≡ a.now) }
-{
-    a.clone()
-}
-
-/// The same answer with its instruction.
-pub fn copied_traced(a: &TracedStep) -> Result<TracedStep, AllocError>
-    ensures { IfOk result (λ b. b ≡ a.now) }
+    ensures { result ≡ Ok a.now }
 {
     a.clone()
 }

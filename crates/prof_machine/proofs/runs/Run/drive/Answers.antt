@@ -3,7 +3,8 @@ use Rattle.prof_machine.specs.declared.ending.Turned.{Turned}
 use Rattle.host_port.proofs.Laws.{KeepsCounts-same, KeepsCounts-then, KeepsInput-same, KeepsInput-then}
 use Rattle.prof_machine.proofs.ActLemmas.{breaks_after, nothing_printed, printed_then}
 use Rattle.prof_machine.proofs.DriveLemmas.{ended_answer, going_answer, in_first, in_last, in_next, work_bound}
-use Rattle.prof_machine.specs.Plan.{driven, most_turns}
+use Rattle.prof_machine.proofs.ResultLemmas.{on_err_any}
+use Rattle.prof_machine.specs.Plan.{most_turns}
 use Rattle.prof_machine.specs.Prints.{ArePrinted, BreaksOff}
 use Rattle.prof_machine.specs.Schedule.{Draws}
 use Rattle.prof_machine.specs.Value.{RunValue, StandsFor, work_left}
@@ -20,6 +21,7 @@ turns-init g c =
       live = c.requires;
       going = subst G c.self.view_is c.self.invariant.going c.requires;
       machine = refl;
+      note = refl;
       turns = 0;
       draws = subst (λ (v : RunValue). Draws v.machine.setup 0 c.new-plan.result) c.self.view_is c.new-plan.ensures;
       few = omega (arith, bound);
@@ -34,64 +36,52 @@ pub turns-preserved : goal.turns-preserved
 turns-preserved g c =
     let m = c.args.self.now.machine in
     let i = c.turns.invariant in
-    let t = c.in-Ok-Going.ensures in
+    let t = c.in_ok-advance.ensures in
     let hart = c.next_hart-hart.ensures in
-    let going = going_answer c.turn.new.self.ending (sym t.answer ∙ c.in-Ok-Going.field-0-is) in
-    let live = t.live.1 (ap (λ (x : Turned). Ok x) c.in-Ok-Going.field-0-is) in
+    let going = going_answer c.advance.new.self.ending (sym t.answer ∙ c.in-Going.is) in
+    let live = t.live.1 (ap (λ (x : Turned). Ok x) c.in-Going.is) in
     record {
       live = live;
       going = going;
       machine = t.machine ∙ i.machine;
+      note = t.note ∙ i.note;
       turns = i.turns + 1;
       draws = hart.draws _ _ i.draws;
       few = omega (arith, i.few, t.less live);
-      stands = λ w st. in_next (λ v. StandsFor v c.turn.new.self) m c.turns.self.machine w i.turns c.next_hart-hart.result i.machine (hart.taker _ _ i.draws) (t.stands _ (i.stands w st));
-      prints = λ w st. in_next (λ v. ArePrinted w v (g.H.Host.outside c.args.host.now) (g.H.Host.outside c.turn.new.host)) m c.turns.self.machine w i.turns c.next_hart-hart.result i.machine (hart.taker _ _ i.draws)
+      stands = λ w st. in_next (λ v. StandsFor v c.advance.new.self) m c.turns.self.machine w i.turns c.next_hart-hart.result i.machine (hart.taker _ _ i.draws) (t.stands _ (i.stands w st));
+      prints = λ w st. in_next (λ v. ArePrinted w v (g.H.Host.outside c.args.host.now) (g.H.Host.outside c.advance.new.host)) m c.turns.self.machine w i.turns c.next_hart-hart.result i.machine (hart.taker _ _ i.draws)
           (printed_then w _ _ _ _ _ (i.prints w st) (t.prints _ (i.stands w st)));
       counts = KeepsCounts-then _ _ _ i.counts t.counts;
       writing = t.writing ∙ i.writing;
       input = KeepsInput-then _ _ _ i.input t.input;
     }
 
-pub returns-in-Ok-Ended-clause-stands : goal.returns-in-Ok-Ended-clause-stands
-returns-in-Ok-Ended-clause-stands g c = λ w st.
+pub returns-in-Ended-clause-stands : goal.returns-in-Ended-clause-stands
+returns-in-Ended-clause-stands g c = λ w st.
     let m = c.args.self.now.machine in
     let i = c.turns.invariant in
-    let t = c.in-Ok-Ended.ensures in
-    let P : World → Type 0 = λ v. StandsFor v c.turn.new.self in
+    let t = c.in_ok-advance.ensures in
+    let P : World → Type 0 = λ v. StandsFor v c.advance.new.self in
     let stands = in_next P m c.turns.self.machine w i.turns c.next_hart-hart.result i.machine (c.next_hart-hart.ensures.taker _ _ i.draws) (t.stands _ (i.stands w st)) in
-    let last = in_last P m w c.turn.new.self (i.turns + 1) c.in-Ok-Ended.end (omega (arith, i.few, t.left)) (ended_answer c.turn.new.self.ending c.in-Ok-Ended.end (sym t.answer ∙ c.in-Ok-Ended.field-0-is)) stands stands in
-    let here = subst (λ (v : RunValue). StandsFor (driven m w) v) (sym c.self-in-turns.view_is) last in
-    record {
-      harts = here.harts;
-      left = here.left;
-      memory = here.memory;
-      break_at = here.break_at;
-      retired = here.retired;
-      ending = here.ending;
-      gmon = here.gmon;
-      samples = here.samples;
-      lost = here.lost;
-      counts = here.counts;
-    }
+    in_last P m w c.advance.new.self (i.turns + 1) c.in-Ended.end (omega (arith, i.few, t.left)) (ended_answer c.advance.new.self.ending c.in-Ended.end (sym t.answer ∙ c.in-Ended.is)) stands stands
 
-pub returns-in-Ok-Ended-clause-prints : goal.returns-in-Ok-Ended-clause-prints
-returns-in-Ok-Ended-clause-prints g c = λ w st.
+pub returns-in-Ended-clause-prints : goal.returns-in-Ended-clause-prints
+returns-in-Ended-clause-prints g c = λ w st.
     let m = c.args.self.now.machine in
     let i = c.turns.invariant in
-    let t = c.in-Ok-Ended.ensures in
-    let P : World → Type 0 = λ v. StandsFor v c.turn.new.self in
-    let Q : World → Type 0 = λ v. ArePrinted w v (g.H.Host.outside c.args.host.now) (g.H.Host.outside c.turn.new.host) in
-    in_last Q m w c.turn.new.self (i.turns + 1) c.in-Ok-Ended.end (omega (arith, i.few, t.left)) (ended_answer c.turn.new.self.ending c.in-Ok-Ended.end (sym t.answer ∙ c.in-Ok-Ended.field-0-is))
+    let t = c.in_ok-advance.ensures in
+    let P : World → Type 0 = λ v. StandsFor v c.advance.new.self in
+    let Q : World → Type 0 = λ v. ArePrinted w v (g.H.Host.outside c.args.host.now) (g.H.Host.outside c.advance.new.host) in
+    in_last Q m w c.advance.new.self (i.turns + 1) c.in-Ended.end (omega (arith, i.few, t.left)) (ended_answer c.advance.new.self.ending c.in-Ended.end (sym t.answer ∙ c.in-Ended.is))
     (in_next P m c.turns.self.machine w i.turns c.next_hart-hart.result i.machine (c.next_hart-hart.ensures.taker _ _ i.draws) (t.stands _ (i.stands w st)))
     (in_next Q m c.turns.self.machine w i.turns c.next_hart-hart.result i.machine (c.next_hart-hart.ensures.taker _ _ i.draws) (printed_then w _ _ _ _ _ (i.prints w st) (t.prints _ (i.stands w st))))
 
-pub returns-in-Err-clause-fails : goal.returns-in-Err-clause-fails
-returns-in-Err-clause-fails g c = (λ w st.
+pub returns-in_err-advance-clause-fails : goal.returns-in_err-advance-clause-fails
+returns-in_err-advance-clause-fails g c = on_err_any _ _ c.from_residual.result _ (λ w st.
     let m = c.args.self.now.machine in
     let i = c.turns.invariant in
-    let t = c.in-Err.ensures in
-    let Q : World → Type 0 = λ v. BreaksOff w v (g.H.Host.outside c.args.host.now) (g.H.Host.outside c.turn.new.host) in (
+    let t = c.in_err-advance.ensures in
+    let Q : World → Type 0 = λ v. BreaksOff w v (g.H.Host.outside c.args.host.now) (g.H.Host.outside c.advance.new.host) in (
       i.turns,
       omega (arith, i.few, t.left),
       sym (i.stands w st).ending ∙ i.going,

@@ -19,7 +19,7 @@ pub returns-in_err-note-clause-fails : goal.returns-in_err-note-clause-fails
 returns-in_err-note-clause-fails g c = on_err_any _ _ c.from_residual.result _ (λ w st.
     let a = c.self.inside in
     let h = c.args.hart in
-    let P : RunValue → Type 0 = λ v. v.live ≡ true → StandsFor w v → BreaksOff w (turn_of v.machine w h) (g.H.Host.outside c.args.host.now) (g.H.Host.outside c.instruct.new.host) in
+    let P : RunValue → Type 0 = λ v. v.live ≡ true → StandsFor w v → BreaksOff w (turn_of v.machine w h) (g.H.Host.outside c.args.host.now) (g.H.Host.outside c.instruct_noted.new.host) in
     subst P c.self.view_is (λ live (s : StandsFor w (value_of a)).
     let s' = with_live w (value_of a) false s in
     breaks_as w (instructed a.machine h w) (turn_of a.machine w h) _ _
@@ -38,7 +38,7 @@ returns-clause-stands g c = λ w st.
       | then-holds_walk b ↦ (let Q : RunValue → Type 0 = λ v. StandsFor (taken a.machine h (left_of w.left h) w) v in subst Q (sym b.self-is) (b.look.ensures.stands w s'))
       | else-holds_walk+in_ok-note b ↦
           let Q : RunValue → Type 0 = λ v. StandsFor (taken a.machine h (left_of w.left h) w) v in
-          let R : World → Type 0 = λ v. StandsFor v b.instruct.new.self in
+          let R : World → Type 0 = λ v. StandsFor v b.instruct_noted.new.self in
           subst Q (sym b.self-is) (subst R (sym (taken_instructed a.machine h w (value_of (record a { live = false })) (sym b.if-holds_walk.ensures) s')) (b.in_ok-note.ensures.stands w s'))
     ] in
     turn_stands a.machine h w (value_of a) _ (c.self.invariant.going live) s
