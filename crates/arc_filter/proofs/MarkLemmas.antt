@@ -1,15 +1,16 @@
 -- Marks say what the words say.
-use Rattle.std.proofs.Common.{◌≡◌, ℕ, zero, suc, Bool, true, false, ◌&&◌, ◌||◌, List, [], ◌∷◌, length, map, Some, None, refl, sym, ap, ◌∙◌}
+use Rattle.std.proofs.Common.{◌≡◌, ◌<◌, ℕ, Option, true≢false, zero, suc, Bool, true, false, ◌&&◌, ◌||◌, List, [], ◌∷◌, length, map, Some, None, refl, sym, ap, ◌∙◌, arith}
 use Rattle.std.specs.Prelude.{slice_index_or}
-use Rattle.std.specs.List.{list_any}
+use Rattle.std.specs.List.{list_any, range_with_len}
 use Rattle.std.proofs.lemmas.List.{length-map}
 use Rattle.std.proofs.lemmas.List.Elements.{All-cons, All-nil}
+use Rattle.std.proofs.lemmas.List.FromFn.{get_or-map-range_with_len, length-range_with_len}
 use Rattle.std.specs.Str.{bytes_eq}
 use Rattle.elf32_syms.specs.declared.image.Symbol.{Symbol}
 use Rattle.elf32_syms.specs.Owners.{owner_of}
 use Rattle.arc_filter.specs.declared.marks.Marks.{Marks}
 use Rattle.arc_filter.specs.Cuts.{from_of, has_name, is_cut, is_cut_pair, to_of}
-use Rattle.arc_filter.specs.Marks.{AreMarks, AreOf, is_marked, named, sides_named, sides_of}
+use Rattle.arc_filter.specs.Marks.{AreMarks, AreOf, callers_marked, is_caller_marked, is_marked, named, sides_named, sides_of}
 use Rattle.arc_filter.proofs.PairLemmas.{cut_by_owners, cut_of_functions}
 
 abbrev IsOf : ℕ → Marks → Type 0
@@ -79,3 +80,27 @@ caller_unknown symbols words from to none =
 pub callee_unknown : (symbols : List Symbol) (words : List (List ℕ)) (from to : ℕ) → owner_of symbols to ≡ None → false ≡ is_cut symbols words from to
 callee_unknown symbols words from to none =
     sym (cut_by_owners symbols words from to (owner_of symbols from) None refl none ∙ none_passes _ (λ word. and_false _) words)
+
+-- no marks have both functions where none have the caller
+none_both : (marks : List Marks) (f g : ℕ) → is_caller_marked marks f ≡ false → is_marked marks f g ≡ false
+none_both [] f g none = refl
+none_both (m ∷ ms) f g none = by (slice_index_or m.from.items f false) (slice_index_or m.to.items g false) none (none_both ms f g)
+  where
+    by : (a b : Bool) → (a || is_caller_marked ms f) ≡ false → (is_caller_marked ms f ≡ false → is_marked ms f g ≡ false) → ((a && b) || is_marked ms f g) ≡ false
+    by true b is rest = absurd (true≢false is)
+    by false b is rest = rest is
+
+-- a caller that no word names
+pub caller_unnamed : (symbols : List Symbol) (words : List (List ℕ)) (marks : List Marks) (from to f : ℕ) → AreMarks symbols words marks → owner_of symbols from ≡ Some f → is_caller_marked marks f ≡ false → false ≡ is_cut symbols words from to
+caller_unnamed symbols words marks from to f are caller none = by (owner_of symbols to) refl
+  where
+    by : (callee : Option ℕ) → owner_of symbols to ≡ callee → false ≡ is_cut symbols words from to
+    by None is = callee_unknown symbols words from to is
+    by (Some g) is = sym (none_both marks f g none) ∙ pair_marked symbols f g words marks from to are caller is
+
+-- what the table says of a function
+pub caller_at : (n f : ℕ) (marks : List Marks) (d : Bool) → f < n → slice_index_or (callers_marked n marks) f d ≡ is_caller_marked marks f
+caller_at n f marks d below = get_or-map-range_with_len (is_caller_marked marks) 0 n f f d below (omega arith)
+
+pub callers_long : (n : ℕ) (marks : List Marks) → length (callers_marked n marks) ≡ n
+callers_long n marks = length-map (range_with_len 0 n) (is_caller_marked marks) ∙ length-range_with_len 0 n

@@ -1,7 +1,7 @@
 -- Which functions the words of cuts name, function by function.
 -- Only private functions and invariants speak of it.
 use Rattle.std.specs.Prelude.{◌≡◌, ℕ, ◌&&◌, false, Bool, List, map, length, slice_index_or}
-use Rattle.std.specs.List.{All, list_any}
+use Rattle.std.specs.List.{All, list_any, range_with_len}
 use Rattle.std.specs.Str.{bytes_eq}
 use Rattle.elf32_syms.specs.declared.image.Symbol.{Symbol}
 use Rattle.arc_filter.specs.declared.marks.Marks.{Marks}
@@ -28,3 +28,11 @@ AreOf n marks = All (λ (m : Marks). (length m.from.items ≡ n) × (length m.to
 -- some marks have both functions, the one as FROM and the other as TO
 abbrev pub is_marked : List Marks → ℕ → ℕ → Bool
 is_marked marks f g = list_any (λ (m : Marks). slice_index_or m.from.items f false && slice_index_or m.to.items g false) marks
+
+-- some marks have the function as FROM
+abbrev pub is_caller_marked : List Marks → ℕ → Bool
+is_caller_marked marks f = list_any (λ (m : Marks). slice_index_or m.from.items f false) marks
+
+-- of each of n functions, whether some marks have it as FROM
+abbrev pub callers_marked : ℕ → List Marks → List Bool
+callers_marked n marks = map (is_caller_marked marks) (range_with_len 0 n)

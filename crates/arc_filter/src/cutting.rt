@@ -7,7 +7,7 @@ ghost use Rattle.gmon_data.specs.Content.{IsProfile, IsWithin, empty_content, wi
 ghost use Rattle.profile_sum.specs.Sum.{arc_record, hist_records};
 ghost use Rattle.arc_filter.specs.Cuts.{is_cut_word, stays, without_cuts};
 
-use crate::marks::{is_cut, marks_of};
+use crate::marks::{is_cut, table_of};
 use elf32_syms::Symbol;
 use gmon_data::{AddRefusal, Profile};
 use profile_sum::adding::{add_blocks, add_hists};
@@ -41,10 +41,10 @@ fn put_arcs(
     requires within { IsWithin (with_records (map arc_record (filter (stays symbols.now (map string_bytes cuts.now)) profile.now.arcs)) left.old) }
     ensures { OnOk result (left.new ≡ with_records (map arc_record (filter (stays symbols.now (map string_bytes cuts.now)) profile.now.arcs)) left.old) }
 {
-    let marks = marks_of(alloc, symbols, cuts)?;
+    let table = table_of(alloc, symbols, cuts)?;
     for i in 0..profile.arc_count() {
         let (from, to, count) = profile.arc(i);
-        if !is_cut(symbols, &marks, from, to) {
+        if !is_cut(symbols, &table, from, to) {
             left.add_calls(from, to, count)?;
         }
     }
@@ -55,8 +55,8 @@ fn put_arcs(
 /// and whose callee in one with the name TO, for some word FROM/TO. All else stays, and so does the order.
 /// Of several symbols with one name all are meant; a name that no symbol has cuts nothing.
 ///
-/// Names are compared once for each symbol and word, so the time grows as the arcs times the words, and as
-/// a look-up among the symbols for each arc.
+/// Names are compared once for each symbol and word. The time grows as a look-up among the symbols for each arc, and
+/// as the words for each arc whose caller some word names.
 pub fn cut(
     alloc: Global,
     profile: &Profile,

@@ -14,8 +14,6 @@ pub mod NumberingLemmas
 pub mod EnteringLemmas
 pub mod ArcLemmas
 pub mod MergeLemmas
-pub mod OwnerLemmas
-pub mod EndLemmas
 pub mod CallLemmas
 pub mod ValueLemmas
 pub mod MemberLemmas

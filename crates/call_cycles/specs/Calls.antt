@@ -1,5 +1,5 @@
 -- The calls of a profile by function, and the arcs between functions.
-use Rattle.std.specs.Prelude.{◌≡◌, ◌≢◌, ℕ, ◌==◌, ◌&&◌, ◌||◌, Bool, false, if◌then◌else◌, List, [], ◌∷◌, length, map}
+use Rattle.std.specs.Prelude.{◌≡◌, ◌≢◌, ℕ, ◌==◌, ◌&&◌, ◌||◌, Bool, false, if◌then◌else◌, List, [], ◌∷◌, length}
 use Rattle.std.specs.List.{All, flat_map, sum_by}
 use Rattle.std.specs.Option.{option_map_or}
 use Rattle.std.specs.Ordering.{nat_cmp, ordering_then}
@@ -9,10 +9,6 @@ use Rattle.elf32_syms.specs.Owners.{owner_of}
 use Rattle.call_cycles.specs.declared.graphs.FunArc.{FunArc}
 use Rattle.call_cycles.specs.Arcs.{IsArcBelow}
 use Rattle.call_cycles.specs.Sums.{when, numbers_below, list_of}
-
--- the end of each symbol
-abbrev pub ends_of : List Symbol → List ℕ
-ends_of symbols = map (λ (s : Symbol). s.end) symbols
 
 -- the address lies in the function of number f
 abbrev pub lies_in : List Symbol → ℕ → ℕ → Bool

@@ -1,17 +1,19 @@
 //! The calls of a profile by caller and callee.
 
-ghost use Rattle.std.specs.Prelude.{◌≡◌, ◌<◌, ◌≤◌, ◌^◌, ◌+◌, ◌++◌, ◌∷◌, [], true, false, ℕ, nat_le, List, length, take, slice_index, slice_index_or, IfOk, IsTrue, OnOk, Some, ◌↔◌};
+ghost use Rattle.std.specs.Prelude.{◌≡◌, ◌<◌, ◌≤◌, ◌^◌, ◌+◌, ◌++◌, ◌∷◌, [], ℕ, List, length, take, slice_index, slice_index_or, IfOk, OnOk};
 ghost use Rattle.std.specs.List.{All};
-ghost use Rattle.std.specs.List.Sorted.{IsSorted, IsPartitionPoint};
-ghost use Rattle.elf32_syms.specs.Owners.{IsAscending, owner_of};
+ghost use Rattle.std.specs.List.Sorted.{IsSorted};
+ghost use Rattle.elf32_syms.specs.Owners.{IsAscending};
 ghost use Rattle.call_cycles.specs.declared.graphs.FunArc.{FunArc as Arc};
 ghost use Rattle.call_cycles.specs.Arcs.{IsArcBelow};
 ghost use Rattle.call_cycles.specs.Graph.{no_arc};
 ghost use Rattle.call_cycles.specs.Merging.{AreMerged, IsUpTo};
-ghost use Rattle.call_cycles.specs.Calls.{HaveCalls, by_ends, calls_of, calls_in, calls_between, count_of, arcs_among, ends_of};
+ghost use Rattle.call_cycles.specs.Calls.{HaveCalls, by_ends, calls_of, calls_in, calls_between, count_of, arcs_among};
 ghost use Rattle.gmon_data.specs.Tally.{total_of};
 
 use crate::graphs::FunArc;
+use crate::order::in_order;
+use elf32_syms::pages::OwnerPages;
 use elf32_syms::{Symbol, symbol_count};
 use gmon_data::Profile;
 use std::alloc::{AllocError, Global};
@@ -27,77 +29,16 @@ pub(crate) struct Calls {
     last_caller: u32,
 }
 
-/// Whether an address lies in the symbol of this number, if there is such a symbol.
-fn is_owner(symbols: &[Symbol], i: u32, address: u32) -> bool
-    requires ordered { IsAscending symbols.now }
-    ensures { IsTrue result ↔ owner_of symbols.now address ≡ Some i }
-{
-    let i = i as usize;
-    if i >= symbols.len() {
-        return false;
-    }
-    let symbol = &symbols[i];
-    symbol.addr <= address && address < symbol.end
-}
-
-/// The end of each symbol.
-fn symbol_ends(alloc: Global, symbols: &[Symbol]) -> Result<Vec<u32>, AllocError>
-    ensures { IfOk result (λ v. v.items ≡ ends_of symbols.now) }
-{
-    symbols.iter().map(|symbol| symbol.end).collect(alloc)
-}
-
-/// How many symbols end at or below an address, which are the first ones. The bisection of their
-/// ends alone reads less memory than that of the symbols.
-fn count_ended(symbols: &[Symbol], ends: &[u32], address: u32) -> usize
-    requires ordered { IsAscending symbols.now }
-    requires each { ends.now ≡ ends_of symbols.now }
-    ensures point { IsPartitionPoint (λ s. nat_le s.end address ≡ true) (λ s. nat_le s.end address ≡ false) symbols.now result }
-{
-    ends.partition_point(|end| *end <= address)
-}
-
-/// The symbol in which an address lies, if there is one.
-fn owner(symbols: &[Symbol], ends: &[u32], address: u32) -> Option<u32>
-    requires ordered { IsAscending symbols.now }
-    requires each { ends.now ≡ ends_of symbols.now }
-    ensures { result ≡ owner_of symbols.now address }
-{
-    let index = count_ended(symbols, ends, address);
-    if index >= symbols.len() || address < symbols[index].addr {
-        return None;
-    }
-    Some(index as u32)
-}
-
-/// The symbol in which an address lies, if there is one: the fastest where it is the symbol of the
-/// given number, or the one behind it.
-fn owner_near(symbols: &[Symbol], ends: &[u32], near: u32, address: u32) -> Option<u32>
-    requires ordered { IsAscending symbols.now }
-    requires each { ends.now ≡ ends_of symbols.now }
-    ensures { result ≡ owner_of symbols.now address }
-{
-    if is_owner(symbols, near, address) {
-        return Some(near);
-    }
-    let next = near.wrapping_add(1);
-    if is_owner(symbols, next, address) {
-        return Some(next);
-    }
-    owner(symbols, ends, address)
-}
-
 /// Adds calls to those of their functions: none where an address lies in no symbol.
 fn add_arc(
     calls: &mut Calls,
     symbols: &[Symbol],
-    ends: &[u32],
+    pages: &OwnerPages,
     from: u32,
     to: u32,
     count: u64,
 ) -> Result<(), AllocError>
     requires ordered { IsAscending symbols.now }
-    requires each { ends.now ≡ ends_of symbols.now }
     requires own { length calls.old.own.items ≡ length symbols.now }
     requires fits { (f : ℕ) → slice_index calls.old.own.items f + count < 2 ^ 64 }
     ensures added { OnOk result ((c : ℕ → ℕ → ℕ) → HaveCalls (length symbols.now) c calls.old.between.items calls.old.own.items → HaveCalls (length symbols.now) (λ f g. c f g + calls_of symbols.now ((from, to), count) f g) calls.new.between.items calls.new.own.items) }
@@ -106,11 +47,11 @@ fn add_arc(
     if count == 0 {
         return Ok(());
     }
-    let Some(caller) = owner_near(symbols, ends, calls.last_caller, from) else {
+    let Some(caller) = pages.owner_near(symbols, calls.last_caller, from) else {
         return Ok(());
     };
     calls.last_caller = caller;
-    let Some(callee) = owner(symbols, ends, to) else {
+    let Some(callee) = pages.owner(symbols, to) else {
         return Ok(());
     };
     if caller == callee {
@@ -141,10 +82,10 @@ pub(crate) fn found_calls(
         own: vec![in alloc; 0u64; symbol_count(symbols) as usize]?,
         last_caller: 0,
     };
-    let ends = symbol_ends(alloc, symbols)?;
+    let pages = OwnerPages::new(alloc, symbols)?;
     for i in 0..profile.arc_count() {
         let (from, to, count) = profile.arc(i);
-        add_arc(&mut calls, symbols, &ends, from, to, count)?;
+        add_arc(&mut calls, symbols, &pages, from, to, count)?;
     }
     Ok(calls)
 }
@@ -184,12 +125,12 @@ fn merge_neighbours(arcs: &mut [FunArc]) -> usize
 }
 
 /// The arcs in order of caller, then callee, those of one caller and callee made one.
-pub(crate) fn merged(mut arcs: Vec<FunArc>) -> Vec<FunArc>
+pub(crate) fn merged(arcs: Vec<FunArc>) -> Vec<FunArc>
     requires few { count_of arcs.items < 2 ^ 64 }
     ensures merged { (n : ℕ) → All (IsArcBelow n) arcs.items → result.items ≡ arcs_among n (calls_in arcs.items) }
 {
-    arcs.sort_unstable_by_key(|a| (a.caller, a.callee));
-    let count = merge_neighbours(&mut arcs);
-    arcs.truncate(count);
-    arcs
+    let mut sorted = in_order(arcs);
+    let count = merge_neighbours(&mut sorted);
+    sorted.truncate(count);
+    sorted
 }

@@ -13,6 +13,7 @@ pub mod graphs;
 pub mod laws;
 mod level;
 mod number;
+mod order;
 pub mod values;
 
 pub use build::graph;

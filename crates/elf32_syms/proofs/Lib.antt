@@ -7,3 +7,4 @@ pub mod RowLemmas
 pub mod RefusalLemmas
 pub mod OrderLemmas
 pub mod FirstLemmas
+pub mod OwnerLemmas

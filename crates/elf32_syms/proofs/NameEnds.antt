@@ -8,9 +8,10 @@ use Rattle.std.proofs.lemmas.Cmp.{nat_list_cmp_total}
 use Rattle.std.specs.Cmp.Lexicographic.{slice_cmp}
 use Rattle.std.proofs.lemmas.Bool.Decides.{nat_tests}
 use Rattle.std.proofs.lemmas.Bool.{cases_lt}
-use Rattle.std.proofs.lemmas.List.{length-drop, get_or-drop, take-take, take_min, drop_all, drop_more, get_or_default}
+use Rattle.std.proofs.lemmas.List.{length-drop, get_or-drop, take-take, drop_all, drop_more, get_or_default}
 use Rattle.std.proofs.lemmas.List.Folds.{list_any_at, list_any_none}
 use Rattle.std.proofs.lemmas.List.Sums.{take_while-cons, position_or_len_is}
+use Rattle.memchr.specs.Find.{is_byte}
 use Rattle.elf32_syms.specs.Names.{is_zero, name_ends, name_at}
 
 pub is_zero_not : (b : ℕ) → (b ≡ 0 → ⊥) → is_zero b ≡ false
@@ -60,21 +61,28 @@ before_first_front p (suc n) (x ∷ xs) =
     ])
 
 pub front_is : (strings : List ℕ) (at limit : ℕ) → limit ≤ 4095
-    → take limit (name_at strings at) ≡ before_first is_zero (take (min limit (length (drop at strings))) (drop at strings))
+    → take limit (name_at strings at) ≡ before_first is_zero (take limit (drop at strings))
 unfolding name_at
 front_is strings at limit h =
     take-take limit 4095 (before_first is_zero (drop at strings)) h
     ∙ before_first_front is_zero limit (drop at strings)
-    ∙ ap (before_first is_zero) (sym (take_min limit (drop at strings)))
 
--- there is no name past the end
-pub front_past : (strings : List ℕ) (at limit : ℕ) → length strings ≤ at → [] ≡ take limit (name_at strings at)
+-- the same bytes are the same name
+pub same_cut : (strings : List ℕ) (one other : ℕ) → take 4095 (drop one strings) ≡ take 4095 (drop other strings) → name_at strings one ≡ name_at strings other
 unfolding name_at
-front_past strings at limit h = rw (drop_all at strings h) (sym (take_nil limit))
+same_cut strings one other same =
+    before_first_front is_zero 4095 (drop one strings) ∙ ap (before_first is_zero) same ∙ sym (before_first_front is_zero 4095 (drop other strings))
+
+-- there is nothing past the end
+pub cut_past : (strings : List ℕ) (at limit : ℕ) → length strings ≤ at → [] ≡ take limit (drop at strings)
+cut_past strings at limit h = short limit (drop at strings) (drop_all at strings h)
   where
-    take_nil : (n : ℕ) → take n (take 4095 (before_first is_zero [])) ≡ []
-    take_nil zero = refl
-    take_nil (suc n) = refl
+    short : (n : ℕ) (xs : List ℕ) → xs ≡ [] → [] ≡ take n xs
+    short zero xs none = refl
+    short (suc n) xs none = rw none refl
+
+pub zero_byte : (b : ℕ) → b ≡ 0 → is_byte 0 b ≡ true
+zero_byte b is = rw is refl
 
 pub whole_name : (strings : List ℕ) (at : ℕ) → take 4095 (name_at strings at) ≡ name_at strings at
 unfolding name_at

@@ -10,6 +10,7 @@ mod kept;
 pub mod laws;
 mod names;
 pub mod owners;
+pub mod pages;
 pub mod refusal;
 mod sections;
 mod segments;

@@ -5,7 +5,7 @@ ghost use Rattle.std.specs.Ordering.{nat_cmp};
 ghost use Rattle.std.specs.Cmp.Lexicographic.{slice_cmp};
 ghost use Rattle.elf32_syms.specs.Symbols.{entry_at as entry_at_of, fits as fits_of, may_be_function as may_be_function_of, fitting as fitting_of, symbol_name, comes_before as comes_before_of, binding_rank as binding_rank_of, type_rank as type_rank_of};
 
-use crate::names::name_at;
+use crate::names::{have_same_bytes, name_at};
 use crate::sections::Section;
 use gp_base::{half, word};
 use std::alloc::{AllocError, Global};
@@ -119,6 +119,10 @@ fn by_name(strings: &[u8], one: Entry, other: Entry) -> Ordering
 {
     // The same bytes of the file are the same name.
     if one.name == other.name {
+        return Ordering::Equal;
+    }
+    // So are names of the same bytes, which are compared faster than names are found.
+    if have_same_bytes(strings, one.name as usize, other.name as usize) {
         return Ordering::Equal;
     }
     let name = name_at(strings, one.name as usize);

@@ -9,7 +9,7 @@ ghost use Rattle.exact_flow.specs.StepValues.{numbers_of};
 use fraction128::Frac;
 
 /// What goes into a step.
-#[derive(Clone, Copy)]
+#[derive(Drop)]
 pub(crate) struct Given {
     /// The self time of the component that the arc enters.
     pub self_time: u128,
@@ -22,7 +22,7 @@ pub(crate) struct Given {
 }
 
 /// What comes of a step.
-#[derive(Clone, Copy)]
+#[derive(Drop)]
 pub(crate) struct Handed {
     pub arc_self: Frac,
     pub arc_child: Frac,

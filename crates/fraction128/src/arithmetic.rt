@@ -6,6 +6,7 @@ ghost use Rattle.fraction128.specs.Values.{value_of};
 
 use crate::divisors::divisor;
 use crate::fracs::Frac;
+use gp_base::quotient;
 
 /// Two numbers, each divided by their greatest common divisor.
 fn quotients(a: u128, b: u128) -> (u128, u128)
@@ -14,7 +15,10 @@ fn quotients(a: u128, b: u128) -> (u128, u128)
     ensures second { result.1 ≡ b / gcd a b }
 {
     let g = divisor(a, b);
-    (a / g, b / g)
+    if g == 1 {
+        return (a, b);
+    }
+    (quotient(a, g), quotient(b, g))
 }
 
 /// The fraction of two numbers, brought to lowest terms.

@@ -10,15 +10,13 @@ use Rattle.arc_filter.proofs.cutting.put_arcs.Goals as goal
 use Rattle.arc_filter.proofs.cutting.put_arcs.Goals.{then-not-is_cut+in_ok-add_calls, else-not-is_cut}
 
 pub is_cut-requires-clause-marks : goal.is_cut-requires-clause-marks
-is_cut-requires-clause-marks c =
-    let words = map string_bytes c.args.cuts.now in
-    subst (λ (marks : List Marks). AreOf (length c.args.symbols.now) marks) (sym c.deref.ensures.value) (marks_long c.args.symbols.now words c.in_ok-marks.marks.items c.in_ok-marks.ensures)
+is_cut-requires-clause-marks c = marks_long c.args.symbols.now (map string_bytes c.args.cuts.now) c.in_ok-table.table.marks.items c.in_ok-table.ensures.marks
 
 pub add_calls-requires : goal.add_calls-requires
 add_calls-requires c =
     let words = map string_bytes c.args.cuts.now in
     let arc : (ℕ × ℕ) × ℕ = ((c.arc-from.result.0, c.arc-from.result.1), c.arc-from.result.2) in
-    let are = subst (λ (marks : List Marks). AreMarks c.args.symbols.now words marks) (sym c.deref.ensures.value) c.in_ok-marks.ensures in
+    let are = c.in_ok-table.ensures.marks in
     let stays : is_cut c.args.symbols.now words arc.0.0 arc.0.1 ≡ false = sym (c.is_cut.ensures words are) ∙ c.if-not-is_cut.true in
     kept_within c.args.symbols.now words c.args.profile.now.arcs c.loop-i.i c.args.left.now c.loop-i.left c.loop-i.invariant arc (omega arith) c.arc-from.ensures stays c.requires.within
 
@@ -28,7 +26,7 @@ loop-i-preserved c =
     let words = map string_bytes c.args.cuts.now in
     let arcs = c.args.profile.now.arcs in
     let arc : (ℕ × ℕ) × ℕ = ((c.arc-from.result.0, c.arc-from.result.1), c.arc-from.result.2) in
-    let are = subst (λ (marks : List Marks). AreMarks symbols words marks) (sym c.deref.ensures.value) c.in_ok-marks.ensures in
+    let are = c.in_ok-table.ensures.marks in
     let said = c.is_cut.ensures words are in
     elim c.if-not-is_cut.branch [
       | then-not-is_cut+in_ok-add_calls w ↦

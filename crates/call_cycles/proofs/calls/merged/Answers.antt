@@ -1,6 +1,5 @@
-use Rattle.std.proofs.Common.{◌≡◌, List, length, take, ap, sym, subst, ◌∙◌, arith, rules}
+use Rattle.std.proofs.Common.{◌≡◌, List, length, take, ap, sym, subst, ◌∙◌, arith}
 use Rattle.std.specs.List.Sorted.{IsSorted}
-use Rattle.std.proofs.lemmas.Fn.{always_returns_same}
 use Rattle.std.proofs.lemmas.List.Sorted.{sum_by-IsPermutation}
 use Rattle.call_cycles.specs.declared.graphs.FunArc.{FunArc}
 use Rattle.call_cycles.specs.Calls.{by_ends, count_of}
@@ -10,25 +9,23 @@ use Rattle.call_cycles.proofs.MergeLemmas.{all_merged}
 use Rattle.call_cycles.proofs.calls.merged.Goals as goal
 
 pub merge_neighbours-count-requires-clause-sorted : goal.merge_neighbours-count-requires-clause-sorted
-merge_neighbours-count-requires-clause-sorted c =
-    subst (IsSorted by_ends) (sym c.deref_mut.ensures.value)
-    (c.sort_unstable_by_key.ensures.sorted (λ (a : FunArc). (a.caller, a.callee)) (always_returns_same _ _ _ (λ a r q k. search rules)))
+merge_neighbours-count-requires-clause-sorted c = subst (IsSorted by_ends) (sym c.deref_mut.ensures.value) c.in_order-sorted.ensures.sorted
 
 pub merge_neighbours-count-requires-clause-few : goal.merge_neighbours-count-requires-clause-few
 merge_neighbours-count-requires-clause-few c =
     let few = c.requires.few in
     let same = ap count_of c.deref_mut.ensures.value in
-    let moved = sum_by-IsPermutation (λ (a : FunArc). a.count) _ _ c.sort_unstable_by_key.ensures.permutation in
+    let moved = sum_by-IsPermutation (λ (a : FunArc). a.count) _ _ c.in_order-sorted.ensures.permutation in
     omega arith
 
 pub returns : goal.returns
 returns c =
-    let sorted = c.sort_unstable_by_key.new.self in
+    let sorted = c.in_order-sorted.result in
     let new = c.merge_neighbours-count.new.arcs in
     let len : length new ≡ length sorted.items = c.merge_neighbours-count.auto.arcs ∙ ap length c.deref_mut.ensures.value in
     let back = whole_back new sorted.items sorted.len len (sorted.ok.0 ∙ sym len) in
     let made : c.truncate.new.self.items ≡ take c.merge_neighbours-count.result new = c.truncate.ensures.items ∙ ap (take c.merge_neighbours-count.result) back in
     record {
-      merged = λ n below. made ∙ all_merged c.args.arcs.items sorted.items (take c.merge_neighbours-count.result new) c.sort_unstable_by_key.ensures.permutation
+      merged = λ n below. made ∙ all_merged c.args.arcs.items sorted.items (take c.merge_neighbours-count.result new) c.in_order-sorted.ensures.permutation
           (subst (λ (xs : List FunArc). AreMerged xs (take c.merge_neighbours-count.result new)) c.deref_mut.ensures.value c.merge_neighbours-count.ensures.merged) n below;
     }

@@ -1,12 +1,16 @@
-use Rattle.std.proofs.Common.{arith, length}
-use Rattle.elf32_syms.proofs.NameEnds.{first_zero}
+use Rattle.std.proofs.Common.{length, get_or, arith}
+use Rattle.std.proofs.lemmas.Bool.{eqb-true}
+use Rattle.elf32_syms.proofs.NameEnds.{first_zero, zero_byte}
 use Rattle.elf32_syms.proofs.names.zero_or_len.Goals as goal
 
-pub returns-then-b-eq0-clause-is : goal.returns-then-b-eq0-clause-is
-returns-then-b-eq0-clause-is c =
-    first_zero c.args.bytes.now c.loop-i.i (omega arith) c.loop-i.invariant.none_before (λ _. c.if-b-eq0.true)
-
-pub returns-clause-is : goal.returns-clause-is
-returns-clause-is c =
+pub returns-in-Some-clause-is : goal.returns-in-Some-clause-is
+returns-in-Some-clause-is c =
     let bs = c.args.bytes.now in
-    first_zero bs (length bs) (omega arith) (λ k below. c.loop-i.invariant.none_before k (omega arith)) (λ below. absurd (omega arith))
+    let first = c.in-Some.ensures in
+    let found = first.0 in
+    first_zero bs c.in-Some.place (omega (arith, found.high)) (λ k below is. found.before k (omega arith) below (zero_byte (get_or bs k 0) is)) (λ _. eqb-true (get_or bs c.in-Some.place 0) 0 first.1)
+
+pub returns-in-None-clause-is : goal.returns-in-None-clause-is
+returns-in-None-clause-is c =
+    let bs = c.args.bytes.now in
+    first_zero bs (length bs) (omega arith) (λ k below is. c.in-None.ensures k (omega arith) below (zero_byte (get_or bs k 0) is)) (λ below. absurd (omega arith))

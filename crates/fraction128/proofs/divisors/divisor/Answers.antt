@@ -1,6 +1,7 @@
-use Rattle.std.proofs.Common.{arith}
+use Rattle.std.proofs.Common.{ℕ, sym, subst, ◌∙◌, arith}
+use Rattle.std.specs.Int.{IsGcd}
 use Rattle.std.proofs.lemmas.Nat.Gcd.{IsGcd-from_zero, IsGcd-from_mod}
-use Rattle.fraction128.proofs.DivisorLemmas.{is_gcd, gcd_some}
+use Rattle.fraction128.proofs.DivisorLemmas.{gcd_is, is_gcd, gcd_some}
 use Rattle.fraction128.proofs.divisors.divisor.Goals as goal
 
 pub loop-y-preserved : goal.loop-y-preserved
@@ -11,3 +12,10 @@ returns-clause-value c = is_gcd _ _ _ (c.loop-y.invariant _ (IsGcd-from_zero _ _
 
 pub returns-clause-some : goal.returns-clause-some
 returns-clause-some c = λ some. let is = returns-clause-value c in let more = gcd_some c.args.a c.args.b some in omega arith
+
+pub returns-then-not-is_wide-2-clause-value : goal.returns-then-not-is_wide-2-clause-value
+returns-then-not-is_wide-2-clause-value c =
+    is_gcd _ _ _ (c.loop-y.invariant _ (subst (λ (g : ℕ). IsGcd c.loop-y.x c.loop-y.y g) (sym (c.from.ensures ∙ c.narrow_divisor.ensures)) (gcd_is c.loop-y.x c.loop-y.y)))
+
+pub returns-then-not-is_wide-2-clause-some : goal.returns-then-not-is_wide-2-clause-some
+returns-then-not-is_wide-2-clause-some c = λ some. let is = returns-then-not-is_wide-2-clause-value c in let more = gcd_some c.args.a c.args.b some in omega arith
