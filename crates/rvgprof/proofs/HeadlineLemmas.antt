@@ -587,7 +587,7 @@ module _ (words : List (List ℕ)) (old mid new : Outside) (done : Done) (acted 
       let read = input_goes contents gmon MAX_PROFILE_BYTES (λ b. unless (λ refusal. BadProfile refusal gmon) (file_refusal b) (show_lines (length b) (file_records b))) goes in
       let judged = unless (λ refusal. BadProfile refusal gmon) (file_refusal (contents gmon)) (show_lines (length (contents gmon)) (file_records (contents gmon))) in
       let accepted = unless_goes contents (λ refusal. BadProfile refusal gmon) (file_refusal (contents gmon)) (show_lines (length (contents gmon)) (file_records (contents gmon)))
-          (still_done contents (show_course gmon) judged read goes) in
+      (still_done contents (show_course gmon) judged read goes) in
       record {
         accepted = all_taken (Some (Show gmon)) said;
         output = text_leaves (Show gmon) (show_text (file_records (contents gmon))) said (read ∙ accepted);
@@ -626,7 +626,7 @@ module _ (words : List (List ℕ)) (old mid new : Outside) (done : Done) (acted 
       let goes = well_done command said in
       let read = program_goes contents elf (fold_program inclusive setup) goes in
       let started = unless_goes contents start_fault_of (start_refusal image setup) (one_by_one prints (stacks_told inclusive image bytes setup))
-          (still_done contents (folded_course elf inclusive setup) (fold_program inclusive setup bytes image) read goes) in
+      (still_done contents (folded_course elf inclusive setup) (fold_program inclusive setup bytes image) read goes) in
       let reply = read ∙ started ∙ each_done contents prints (stacks_told inclusive image bytes setup) in
       let did = done_by command _ said reply in
       record {

@@ -55,7 +55,7 @@ pub record FileLaws : Type 0 where
   pub listed : (program : List ℕ) (setup : Setup) (contents : ℕ → List ℕ) (gmon i : ℕ)
       → SaysRun Gnu program setup (contents gmon) → setup.blocks ≡ true → i < instructions_of (text_sizes program setup)
       → let at = (text_sizes program setup).low + 4 * i in
-        runs_at at (total_of contents (gmon ∷ [])).blocks ≡ executions_at (world_of program setup).ran at
+      runs_at at (total_of contents (gmon ∷ [])).blocks ≡ executions_at (world_of program setup).ran at
 
 -- whether a command takes memory, does its acts at once, and starts a run
 pub record CommandTraits (command : Option Command) (memory at_once run : Bool) : Type 0 where

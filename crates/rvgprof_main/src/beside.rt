@@ -1,8 +1,7 @@
 //! An output that takes the place of the file of its name once it is whole.
 
 use std::fs::{File, Permissions};
-use std::process;
-use std::{fs, io};
+use std::{fs, io, process};
 
 /// The names of an output that stands beside the file whose place it takes.
 #[derive(Drop)]

@@ -14,8 +14,8 @@ use host_port::Host;
 use real_system::RealSystem;
 use rvgprof::{Done, Fault, rvgprof};
 use std::alloc::Global;
-use std::os::fd::AsRawFd;
 use std::fs::File;
+use std::os::fd::AsRawFd;
 use std::process::ExitCode;
 use std::{env, fs, io};
 use system_host::SystemHost;
@@ -32,7 +32,11 @@ const NO_WORDS: u8 = 12;
 fn main(rt: HostRuntime) -> ExitCode {
     let _held = (held(&rt), held(&rt), held(&rt));
     match words_of(&rt) {
-        Ok(words) => carry_out(rt.alloc(), words.as_slice(), &mut SystemHost::new(RealSystem::new(rt))),
+        Ok(words) => carry_out(
+            rt.alloc(),
+            words.as_slice(),
+            &mut SystemHost::new(RealSystem::new(rt)),
+        ),
         Err(e) => ExitCode::from(status_without_words(&e)),
     }
 }
@@ -77,5 +81,9 @@ fn status_without_words(e: &io::Error) -> u8
 /// be read alone, so that a print on it still fails.
 fn held(rt: &HostRuntime) -> Option<File> {
     let file = fs::open(rt, "/dev/null").ok()?;
-    if file.as_raw_fd() < 3 { Some(file) } else { None }
+    if file.as_raw_fd() < 3 {
+        Some(file)
+    } else {
+        None
+    }
 }

@@ -38,5 +38,5 @@ returns-in-Ok-write_profile-clause-fits g c =
     let new = g.H.Host.outside c.write_profile.new.host in
     let total = c.in-Ok.total in
     let told = weaker old.disk mid.disk (λ files. total ≡ total_of (contents_of words files) c.args.gmons.now) (λ files. IsProfile (total_of (contents_of words files) c.args.gmons.now))
-        (λ files is. subst IsProfile is c.holds.ensures) c.in-Ok.ensures.told.told in
+    (λ files is. subst IsProfile is c.holds.ensures) c.in-Ok.ensures.told.told in
     later_told old mid new (λ files. IsProfile (total_of (contents_of words files) c.args.gmons.now)) (acts_tell _ mid new c.in-Ok-write_profile.ensures.done) told
