@@ -1,4 +1,6 @@
-use Rattle.std.proofs.Common.{refl}
+use Rattle.std.proofs.Common.{Bool, None, Some, suc, ap, refl, if◌then◌else◌}
+use Rattle.std.proofs.Math.Dec.{eqb-suc-zero}
+use Rattle.gp_base.specs.declared.records.RawBlock.{RawBlock}
 use Rattle.std.specs.Prelude.{count_by}
 use Rattle.gmon_gnu.specs.CountedRun.{CountsFit}
 use Rattle.prof_machine.specs.Start.{machine_of, start_of}
@@ -187,7 +189,7 @@ returns c = record {
     no_span = λ a b c. (tt, tt);
     covered = λ symbols h. (λ x. x, λ x. x);
     no_pair = λ addr. refl;
-    pair = λ addr n. refl;
+    pair = λ addr n. ap (λ (none : Bool). if none then None else Some (record { addr = addr; count = suc n })) (eqb-suc-zero n);
     executed = λ z ran. refl;
     counted = λ low counts. refl;
     no_samples = λ m w. refl;
