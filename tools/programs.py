@@ -12,7 +12,11 @@ def elf(text, symbols):
         table.append(struct.pack("<IIIBBH", at, addr, 0, 0x12, 0, 1))
         strings.append(name + b"\0")
         at += len(name) + 1
-    strings, table = b"".join(strings), b"".join(table)
+    return elf_of(text, b"".join(table), b"".join(strings))
+
+
+def elf_of(text, table, strings):
+    """A program of this text, symbol table and strings."""
     behind = 84 + len(text) + len(table)
     head = b"\x7fELF\1\1\1" + bytes(9) + struct.pack("<HHIIIIIHHHHHH", 2, 243, 1, LOW, 52, behind + len(strings), 0, 52, 32, 1, 40, 4, 0)
     segment = struct.pack("<8I", 1, 84, LOW, LOW, len(text), len(text), 5, 4)
