@@ -12,6 +12,7 @@ use Rattle.gmon_gnu.proofs.RunReadBack.{run_read_back as gnu_read_back}
 use Rattle.mcount_arcs.specs.declared.sizes.Sizes.{Sizes}
 use Rattle.mcount_arcs.specs.Log.{LogEntry}
 use Rattle.mcount_arcs.specs.Sizes.{sizes_of}
+use Rattle.mcount_arcs.proofs.SizeLemmas.{AreSizes-of}
 use Rattle.gmon_files.specs.Forms.{form_of, records_in, refusal_in}
 use Rattle.gmon_files.specs.Runs.{RunFilesSayTheirLogs}
 
@@ -39,8 +40,9 @@ unfolding form_of gnu_run_text
 gnu_form z log rate more = refl
 
 pub says_log : RunFilesSayTheirLogs
-says_log Bsd text hist hash rate log sizes fits calls =
+says_log Bsd text hist hash rate log is_text is_hist is_hash fits calls =
     let z = sizes_of text hist hash in
+    let sizes = AreSizes-of text hist hash is_text is_hist is_hash in
     let is = bsd_form text hist hash log rate in
     let read = bsd_read_back z log rate sizes fits calls in
     record {
@@ -48,8 +50,9 @@ says_log Bsd text hist hash rate log sizes fits calls =
       accepted = subst (λ (f : Form). refusal_in f (bsd_run_text z log rate) ≡ None) (sym is) read.0;
       records = subst (λ (f : Form). records_in f (bsd_run_text z log rate) ≡ bsd_run_records z log rate) (sym is) read.1;
     }
-says_log Gnu text hist hash rate log sizes fits calls =
+says_log Gnu text hist hash rate log is_text is_hist is_hash fits calls =
     let z = sizes_of text hist hash in
+    let sizes = AreSizes-of text hist hash is_text is_hist is_hash in
     let is = subst (λ (t : List ℕ). form_of t ≡ Gnu) (append-nil (gnu_run_text z log rate)) (gnu_form z log rate []) in
     let read = gnu_read_back z log rate sizes fits calls in
     record {

@@ -10,7 +10,7 @@ use Rattle.gmon_gnu.specs.Run.{run_text as gnu_run_text, run_records as gnu_run_
 use Rattle.mcount_arcs.specs.declared.sizes.Sizes.{Sizes}
 use Rattle.mcount_arcs.specs.Arcs.{CallFits, arcs_of}
 use Rattle.mcount_arcs.specs.Log.{LogEntry}
-use Rattle.mcount_arcs.specs.Sizes.{AreSizes, sizes_of}
+use Rattle.mcount_arcs.specs.Sizes.{IsFraction, IsText, sizes_of}
 use Rattle.gmon_files.specs.Forms.{file_records, file_refusal, form_of}
 
 -- the file of a run's log in a form
@@ -29,8 +29,8 @@ pub record SaysLog (form : Form) (z : Sizes) (log : List LogEntry) (rate : ℕ) 
   pub accepted : file_refusal text ≡ None
   pub records : file_records text ≡ run_records form z log rate
 
--- So is the file of every log: for the sizes of every text, by every two fractions and at every rate of four bytes,
--- where callees and numbers of calls have four bytes.
+-- So is the file of every log: for every text, every two fractions and every rate of four bytes, where callees and
+-- numbers of calls have four bytes.
 abbrev pub RunFilesSayTheirLogs : Type 0
-RunFilesSayTheirLogs = (form : Form) (text : Span) (hist hash rate : ℕ) (log : List LogEntry) → AreSizes (sizes_of text hist hash) → rate < 2 ^ 32 → All CallFits (arcs_of (sizes_of text hist hash) log)
+RunFilesSayTheirLogs = (form : Form) (text : Span) (hist hash rate : ℕ) (log : List LogEntry) → IsText text → IsFraction hist → IsFraction hash → rate < 2 ^ 32 → All CallFits (arcs_of (sizes_of text hist hash) log)
     → SaysLog form (sizes_of text hist hash) log rate (run_text form (sizes_of text hist hash) log rate)

@@ -52,7 +52,7 @@ use Rattle.mcount_arcs.specs.Arcs.{CallFits, arcs_of, chain_in, looks_of}
 use Rattle.mcount_arcs.specs.Image.{entry_in, front_in, index_in}
 use Rattle.mcount_arcs.specs.Log.{CallIgnored, CallLost, WalkDone, Enter, IsLegal, LogEntry, Mode, Pair, Sample, distinct_count, entered_calls, is_busy, is_on, kept_calls, state_of}
 use Rattle.mcount_arcs.specs.Samples.{buckets_of, counted_samples}
-use Rattle.mcount_arcs.specs.Sizes.{AreSizes, bucket_range, sizes_of, text_span}
+use Rattle.mcount_arcs.specs.Sizes.{AreSizes, IsFraction, IsText, bucket_range, sizes_of, text_span}
 use Rattle.prof_machine.specs.declared.ending.End.{End}
 use Rattle.prof_machine.specs.declared.ending.End.TheVariants.{Budget, Exit, Trap}
 use Rattle.prof_machine.specs.declared.machine.Machine.{Machine}
@@ -140,7 +140,8 @@ pub record FileClaims : Type 0 where
       let records : Records = record { form = Gnu; recs = profile_recs p } in
       GnuSpells text records × (gnu_refusal text ≡ None) × (content_of (wide_records (gnu_records text).recs) ≡ p)
   -- in the form that its first four bytes choose, the file of a text's log is read as what was logged
-  pub run_file : (form : Form) (text : Span) (hist hash rate : ℕ) (log : List LogEntry) → AreSizes (sizes_of text hist hash) → rate < 2 ^ 32 → All CallFits (arcs_of (sizes_of text hist hash) log) →
+  pub run_file : (form : Form) (text : Span) (hist hash rate : ℕ) (log : List LogEntry) → IsText text → IsFraction hist → IsFraction hash
+      → rate < 2 ^ 32 → All CallFits (arcs_of (sizes_of text hist hash) log) →
       let bytes = run_text form (sizes_of text hist hash) log rate in
       (form_of bytes ≡ form) × (file_refusal bytes ≡ None) × (file_records bytes ≡ run_records form (sizes_of text hist hash) log rate)
 

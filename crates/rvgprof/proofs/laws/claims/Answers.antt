@@ -34,7 +34,8 @@ returns c = record {
         let read = c.counted_run_read_back.ensures.read z log rate low counts sizes fits calls counts_fit in
         (c.counted_run_read_back.ensures.spelled z log rate low counts sizes fits calls counts_fit, read.0, read.1);
     profile_file = λ p is. let read = c.profile_read_back.ensures.read p is in (c.profile_read_back.ensures.spelled p is, read.0, read.1);
-    run_file = λ form text hist hash rate log sizes fits calls. let says = c.run_read_back-3.ensures form text hist hash rate log sizes fits calls in (says.form_is, says.accepted, says.records);
+    run_file = λ form text hist hash rate log is_text is_hist is_hash fits calls.
+        let says = c.run_read_back-3.ensures form text hist hash rate log is_text is_hist is_hash fits calls in (says.form_is, says.accepted, says.records);
   };
   profiles = record {
     sums = c.sum_of_contents.ensures;
