@@ -154,6 +154,7 @@ fn add_parts(
         abbrev: b's',
     };
     profile.add_counts(header.low, header.high, unit, counters)?;
+    let _ = profile.make_room_for_arcs(arcs);
     profile.add_arcs(arcs)?;
     Ok(())
 }

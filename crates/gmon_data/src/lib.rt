@@ -4,6 +4,7 @@
 mod chunks;
 pub mod hist;
 mod hists;
+mod keyed;
 pub mod laws;
 pub mod profile;
 pub mod refusal;

@@ -12,6 +12,7 @@ ghost use Rattle.gmon_data.specs.declared.refusal.AddRefusal.TheVariants.{OutOfM
 use crate::chunks::ChunkedList;
 use crate::hist::{Hist, HistRange, clone_hists, samples, widened};
 use crate::hists::{conflict, count_ended, normal_unit, put};
+use crate::keyed::{AddressesOf, Keyed, PairsOf, make_room, make_room_for_new};
 use crate::refusal::{AddRefusal, Unlike};
 use crate::tally::{add_to, total};
 use gp_base::{RawArc, RawBlock, RawHist, Rec, Records, Unit};
@@ -24,8 +25,10 @@ use std::marker::Model;
 pub struct Profile {
     alloc: Global,
     hists: ChunkedList<Hist>,
-    arcs: IndexMap<(u32, u32), u64>,
-    blocks: IndexMap<u32, u64>,
+    arcs: IndexMap<(u32, u32), u64, Keyed>,
+    blocks: IndexMap<u32, u64, Keyed>,
+    arc_counts: Vec<u32>,
+    block_counts: Vec<u32>,
     unit: Option<Unit>,
 }
 
@@ -38,6 +41,9 @@ impl Model for Profile {
 
     ghost invariant = { λ a. IsProfile (record { hists = a.hists; arcs = a.arcs.entries; blocks = a.blocks.entries; «unit» = a.«unit» }) };
 }
+
+/// How many arcs, or block counts, are looked up before the first one is added.
+const BATCH: usize = 16;
 
 /// The number of arcs among records.
 fn count_arcs(recs: &[Rec]) -> usize
@@ -55,8 +61,10 @@ impl Profile {
         Profile {
             alloc,
             hists: ChunkedList::new(alloc),
-            arcs: IndexMap::new(alloc),
-            blocks: IndexMap::new(alloc),
+            arcs: IndexMap::with_hasher(alloc, Keyed::new(0)),
+            blocks: IndexMap::with_hasher(alloc, Keyed::new(0)),
+            arc_counts: Vec::new(alloc),
+            block_counts: Vec::new(alloc),
             unit: None,
         }
     }
@@ -70,6 +78,8 @@ impl Profile {
             hists: clone_hists(self.alloc, &self.hists)?,
             arcs: self.arcs.clone()?,
             blocks: self.blocks.clone()?,
+            arc_counts: Vec::new(self.alloc),
+            block_counts: Vec::new(self.alloc),
             unit: self.unit,
         })
     }
@@ -233,6 +243,52 @@ impl Profile {
         self.blocks.reserve(more)
     }
 
+    /// Takes room for arcs that are about to be added, so that their pairs don't crowd in the table. The content is the
+    /// same, whatever the answer.
+    pub fn make_room_for_arcs(&mut self, arcs: &[RawArc]) -> Result<(), AllocError>
+        ensures { self.new ≡ self.old }
+    {
+        make_room(
+            self.alloc,
+            &mut self.arcs,
+            &mut self.arc_counts,
+            &PairsOf { arcs },
+        )
+    }
+
+    /// Takes room for block counts that are about to be added, so that their addresses don't crowd in the table. The
+    /// content is the same, whatever the answer.
+    pub fn make_room_for_blocks(&mut self, blocks: &[RawBlock]) -> Result<(), AllocError>
+        ensures { self.new ≡ self.old }
+    {
+        make_room(
+            self.alloc,
+            &mut self.blocks,
+            &mut self.block_counts,
+            &AddressesOf { blocks },
+        )
+    }
+
+    /// Takes room for the pairs of a profile that is about to be added, so that they don't crowd in the table. The
+    /// content is the same, whatever the answer.
+    pub fn make_room_for_arcs_of(&mut self, more: &Profile) -> Result<(), AllocError>
+        ensures { self.new ≡ self.old }
+    {
+        make_room(self.alloc, &mut self.arcs, &mut self.arc_counts, &more.arcs)
+    }
+
+    /// The same for block addresses.
+    pub fn make_room_for_blocks_of(&mut self, more: &Profile) -> Result<(), AllocError>
+        ensures { self.new ≡ self.old }
+    {
+        make_room(
+            self.alloc,
+            &mut self.blocks,
+            &mut self.block_counts,
+            &more.blocks,
+        )
+    }
+
     /// Adds the records of a file in order.
     ///
     /// Refusals: those of `add_hist` for the first refused histogram. After a refusal the records before
@@ -286,7 +342,37 @@ impl Profile {
         ensures stopped { OnErr result (IsStopped OutOfMemory (map wide_arc arcs.now) self.old self.new) }
     {
         let _ = self.reserve_arcs(arcs.len());
+        self.add_arc_batches(arcs)
+    }
+
+    fn add_arc_batches(&mut self, arcs: &[RawArc]) -> Result<(), AllocError>
+        requires { IsWithin (with_records (map wide_arc arcs.now) self.old) }
+        ensures added { OnOk result (self.new ≡ with_records (map wide_arc arcs.now) self.old) }
+        ensures stopped { OnErr result (IsStopped OutOfMemory (map wide_arc arcs.now) self.old self.new) }
+    {
+        let mut rest = arcs;
+        while !rest.is_empty() {
+            let (batch, behind) = rest.split_at(rest.len().min(BATCH));
+            self.add_arc_batch(batch)?;
+            rest = behind;
+        }
+        Ok(())
+    }
+
+    fn add_arc_batch(&mut self, arcs: &[RawArc]) -> Result<(), AllocError>
+        requires { IsWithin (with_records (map wide_arc arcs.now) self.old) }
+        ensures added { OnOk result (self.new ≡ with_records (map wide_arc arcs.now) self.old) }
+        ensures stopped { OnErr result (IsStopped OutOfMemory (map wide_arc arcs.now) self.old self.new) }
+    {
+        self.make_room_for_new_arcs(arcs);
         self.add_each_arc(arcs)
+    }
+
+    /// Takes room for those that are new, where there is some.
+    fn make_room_for_new_arcs(&mut self, arcs: &[RawArc])
+        ensures { self.new ≡ self.old }
+    {
+        let _ = make_room_for_new(&mut self.arcs, &PairsOf { arcs });
     }
 
     fn add_each_arc(&mut self, arcs: &[RawArc]) -> Result<(), AllocError>
@@ -309,7 +395,37 @@ impl Profile {
         ensures stopped { OnErr result (IsStopped OutOfMemory (map wide_block blocks.now) self.old self.new) }
     {
         let _ = self.reserve_blocks(blocks.len());
+        self.add_block_batches(blocks)
+    }
+
+    fn add_block_batches(&mut self, blocks: &[RawBlock]) -> Result<(), AllocError>
+        requires { IsWithin (with_records (map wide_block blocks.now) self.old) }
+        ensures added { OnOk result (self.new ≡ with_records (map wide_block blocks.now) self.old) }
+        ensures stopped { OnErr result (IsStopped OutOfMemory (map wide_block blocks.now) self.old self.new) }
+    {
+        let mut rest = blocks;
+        while !rest.is_empty() {
+            let (batch, behind) = rest.split_at(rest.len().min(BATCH));
+            self.add_block_batch(batch)?;
+            rest = behind;
+        }
+        Ok(())
+    }
+
+    fn add_block_batch(&mut self, blocks: &[RawBlock]) -> Result<(), AllocError>
+        requires { IsWithin (with_records (map wide_block blocks.now) self.old) }
+        ensures added { OnOk result (self.new ≡ with_records (map wide_block blocks.now) self.old) }
+        ensures stopped { OnErr result (IsStopped OutOfMemory (map wide_block blocks.now) self.old self.new) }
+    {
+        self.make_room_for_new_blocks(blocks);
         self.add_each_block(blocks)
+    }
+
+    /// Takes room for those that are new, where there is some.
+    fn make_room_for_new_blocks(&mut self, blocks: &[RawBlock])
+        ensures { self.new ≡ self.old }
+    {
+        let _ = make_room_for_new(&mut self.blocks, &AddressesOf { blocks });
     }
 
     fn add_each_block(&mut self, blocks: &[RawBlock]) -> Result<(), AllocError>

@@ -7,11 +7,11 @@ ghost use Rattle.gmon_data.specs.Tally.{tally, total_of};
 
 use indexmap::IndexMap;
 use std::alloc::AllocError;
-use std::hash::Hash;
+use std::hash::{BuildHasher, Hash};
 
 /// Adds `n` to the number of a key; a new key goes last. After want of memory the numbers are unchanged.
-pub(crate) fn add_to<K: Eq + Hash + Copy + Drop>(
-    numbers: &mut IndexMap<K, u64>,
+pub(crate) fn add_to<K: Eq + Hash + Copy + Drop, S: BuildHasher>(
+    numbers: &mut IndexMap<K, u64, S>,
     key: K,
     n: u64,
 ) -> Result<(), AllocError>
@@ -26,7 +26,7 @@ pub(crate) fn add_to<K: Eq + Hash + Copy + Drop>(
 }
 
 /// The sum of all numbers.
-pub(crate) fn total<K: Eq + Hash>(numbers: &IndexMap<K, u64>) -> u64
+pub(crate) fn total<K: Eq + Hash, S: BuildHasher>(numbers: &IndexMap<K, u64, S>) -> u64
     requires { total_of numbers.now.entries < 2 ^ 64 }
     ensures { result ≡ total_of numbers.now.entries }
 {

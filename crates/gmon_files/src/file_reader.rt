@@ -6,7 +6,7 @@ ghost use Rattle.host_port.specs.Host.{Moves, Reads};
 ghost use Rattle.gmon_data.specs.Content.{conflict_of, with_records};
 ghost use Rattle.gmon_data.specs.Refusals.{IsLeft, IsReadRefusal};
 ghost use Rattle.gmon_files.specs.Forms.{form_of, file_records, file_refusal, FileSpells};
-ghost use Rattle.gmon_files.specs.FileRead.{spelled_records, HasRoomFor, StandsFor, len_of, IsFed, IsReadFrom};
+ghost use Rattle.gmon_files.specs.FileRead.{spelled_records, HasRoomFor, StandsFor, len_of, IsFed, IsReadFrom, IsReadNoFurther};
 
 use gmon_cells::Remnant;
 use gmon_data::{Profile, ReadRefusal};
@@ -153,6 +153,7 @@ pub fn read_pieces<H: Host>(
     requires idle { (H.outside host.old).is_writing ≡ false }
     requires limit { limit ≤ MAX_PROFILE_BYTES }
     ensures read { IsReadFrom name.now limit (H.outside host.old) (H.outside host.new) result }
+    ensures further { IsReadNoFurther name.now limit (H.outside host.new) result }
     ensures fed { IfOk result (λ pair. IsFed pair.0) }
 {
     host.open_input(name)?;

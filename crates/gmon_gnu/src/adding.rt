@@ -10,8 +10,7 @@ use gmon_data::{AddRefusal, Profile};
 use gp_base::{RawArc, RawBlock};
 
 impl State {
-    /// Adds the records to a profile, without a list of them. Room for all arcs is taken first, where there
-    /// is some.
+    /// Adds the records to a profile, without a list of them. Room is taken first, where there is some.
     pub(crate) fn add_to(&self, profile: &mut Profile) -> Result<(), AddRefusal>
         requires held { AreWithin self.now }
         requires run { self.now.run ≤ length self.now.arcs.items }
@@ -21,10 +20,18 @@ impl State {
         ensures stopped { IfErr result (λ refusal. IsStopped refusal (wide_records (recs_of self.now)) profile.old profile.new) }
     {
         let arcs = self.arcs.as_slice();
-        let _ = profile.reserve_arcs(arcs.len());
+        self.make_room(profile);
         self.add_entries(profile)?;
         profile.add_arcs(&arcs[self.run..])?;
         Ok(())
+    }
+
+    /// Takes room for all arcs and block counts, where there is some.
+    fn make_room(&self, profile: &mut Profile)
+        ensures { profile.new ≡ profile.old }
+    {
+        let _ = profile.make_room_for_arcs(self.arcs.as_slice());
+        let _ = profile.make_room_for_blocks(self.pairs.cells.as_slice());
     }
 
     /// Adds the records of the entries.

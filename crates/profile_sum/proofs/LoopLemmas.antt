@@ -4,7 +4,7 @@ use Rattle.std.specs.List.{AllByRecursion}
 use Rattle.std.proofs.lemmas.List.{append-nil}
 use Rattle.gmon_data.specs.declared.refusal.AddRefusal.{AddRefusal}
 use Rattle.gmon_data.specs.Hists.{unlike_in, IsUnlike}
-use Rattle.gmon_data.specs.Content.{Content, WideRec, with_record, with_records, record_conflict, conflict_of, IsAdded, IsWithin}
+use Rattle.gmon_data.specs.Content.{Content, WideRec, with_record, with_records, record_conflict, conflict_of, IsAdded, IsStopped, IsWithin}
 use Rattle.gmon_data.proofs.HistLemmas.{some_same}
 use Rattle.gmon_data.proofs.RecordLemmas.{IsUnderway, cut_at, past_end, one_added, one_more, stop, stopped_before, stopped_conflict, within_next}
 
@@ -33,6 +33,10 @@ module _ {A : Type 0} (as_record : A → WideRec) (xs : List A) (i : ℕ) (old n
     -- it was added
     pub item_added : (new : Content) → record_conflict now (as_record x) ≡ None → new ≡ with_record (as_record x) now → IsUnderway (map as_record xs) (map as_record (drop (i + 1) xs)) old new
     item_added new none is = one_more (map as_record xs) (as_record x ∷ []) (map as_record (drop (i + 1) xs)) old now next new (one_added (as_record x) now new none is)
+
+    -- it was refused, and nothing was added
+    pub item_stopped : (refusal : AddRefusal) (new : Content) → record_conflict now (as_record x) ≡ unlike_in refusal → new ≡ now → IsStopped refusal (map as_record xs) old new
+    item_stopped refusal new h same = stop (map as_record xs) (as_record x ∷ []) (map as_record (drop (i + 1) xs)) old now next refusal new (stopped_before refusal (as_record x) now new same h)
 
     -- it was refused
     pub item_refused : (refusal : AddRefusal) → record_conflict now (as_record x) ≡ unlike_in refusal → IsUnlike refusal (conflict_of old (map as_record xs))

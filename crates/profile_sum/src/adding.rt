@@ -1,8 +1,9 @@
 //! A profile, added to another.
 
 ghost use Rattle.std.specs.Prelude.{◌≡◌, map, Some, None, IfOk, IfErr, OnOk, OnErr};
-ghost use Rattle.gmon_data.specs.Content.{IsProfile, IsWithin, conflict_of, with_records};
+ghost use Rattle.gmon_data.specs.Content.{IsProfile, IsStopped, IsWithin, conflict_of, with_records};
 ghost use Rattle.gmon_data.specs.Hists.{IsUnlike};
+ghost use Rattle.gmon_data.specs.declared.refusal.AddRefusal.TheVariants.{OutOfMemory};
 ghost use Rattle.profile_sum.specs.Sum.{arc_record, block_record, clash_of, hist_record, hist_records, sum_of, IsClash};
 
 use crate::refusal::SumRefusal;
@@ -74,15 +75,12 @@ fn add_parts(total: &mut Profile, more: &Profile) -> Result<(), SumRefusal>
     Ok(())
 }
 
-/// Takes the room that the sum needs in any case, if there is as much: it has as many pairs and addresses as
-/// either profile.
+/// Takes room for the pairs and addresses, so that they don't crowd in their tables; where there is none, for some.
 fn take_room(total: &mut Profile, more: &Profile)
     ensures { total.new ≡ total.old }
 {
-    let arcs = more.arc_count().saturating_sub(total.arc_count());
-    let _ = total.reserve_arcs(arcs);
-    let blocks = more.block_count().saturating_sub(total.block_count());
-    let _ = total.reserve_blocks(blocks);
+    let _ = total.make_room_for_arcs_of(more);
+    let _ = total.make_room_for_blocks_of(more);
 }
 
 /// Why the first histogram that can't be added to the total alone can't be, if there is one.
@@ -108,6 +106,7 @@ pub fn add_hists(total: &mut Profile, more: &Profile) -> Result<(), AddRefusal>
     ensures refusal { IfErr result (λ refusal. IsUnlike refusal (clash_of total.old more.now)) }
     ensures accepted { OnOk result (clash_of total.old more.now ≡ None) }
     ensures added { OnOk result (total.new ≡ with_records (hist_records more.now) total.old) }
+    ensures stopped { IfErr result (λ refusal. IsStopped refusal (hist_records more.now) total.old total.new) }
 {
     match more.unit() {
         Some(unit) => add_hists_of(total, more, unit),
@@ -122,6 +121,7 @@ fn add_hists_of(total: &mut Profile, more: &Profile, unit: Unit) -> Result<(), A
     ensures refusal { IfErr result (λ refusal. IsUnlike refusal (conflict_of total.old (map (hist_record «unit») more.now.hists))) }
     ensures accepted { OnOk result (conflict_of total.old (map (hist_record «unit») more.now.hists) ≡ None) }
     ensures added { OnOk result (total.new ≡ with_records (map (hist_record «unit») more.now.hists) total.old) }
+    ensures stopped { IfErr result (λ refusal. IsStopped refusal (map (hist_record «unit») more.now.hists) total.old total.new) }
 {
     for i in 0..more.hist_count() {
         total.add_wide(more.hist(i), unit)?;
@@ -132,7 +132,8 @@ fn add_hists_of(total: &mut Profile, more: &Profile, unit: Unit) -> Result<(), A
 /// Adds the calls of each pair. After want of memory those of some first pairs are added.
 fn add_arcs(total: &mut Profile, more: &Profile) -> Result<(), AllocError>
     requires { IsWithin (with_records (map arc_record more.now.arcs) total.old) }
-    ensures { OnOk result (total.new ≡ with_records (map arc_record more.now.arcs) total.old) }
+    ensures added { OnOk result (total.new ≡ with_records (map arc_record more.now.arcs) total.old) }
+    ensures stopped { OnErr result (IsStopped OutOfMemory (map arc_record more.now.arcs) total.old total.new) }
 {
     for i in 0..more.arc_count() {
         let (from, to, count) = more.arc(i);
@@ -144,7 +145,8 @@ fn add_arcs(total: &mut Profile, more: &Profile) -> Result<(), AllocError>
 /// Adds the executions of each block address. After want of memory those of some first ones are added.
 pub fn add_blocks(total: &mut Profile, more: &Profile) -> Result<(), AllocError>
     requires { IsWithin (with_records (map block_record more.now.blocks) total.old) }
-    ensures { OnOk result (total.new ≡ with_records (map block_record more.now.blocks) total.old) }
+    ensures added { OnOk result (total.new ≡ with_records (map block_record more.now.blocks) total.old) }
+    ensures stopped { OnErr result (IsStopped OutOfMemory (map block_record more.now.blocks) total.old total.new) }
 {
     for i in 0..more.block_count() {
         let (addr, count) = more.block(i);

@@ -27,7 +27,7 @@ pub returns : goal.returns
 returns c =
     let p = c.args.profile.now in
     let words = map string_bytes c.args.cuts.now in
-    c.in_ok-add_blocks.ensures
+    c.in_ok-add_blocks.ensures.added
     ∙ ap (with_records (map block_record p.blocks))
     (c.in_ok-put_arcs.ensures
     ∙ ap (with_records (map arc_record (filter (stays c.args.symbols.now words) p.arcs))) (c.in_ok-put_hists.ensures ∙ ap (with_records (hist_records p)) c.new-left.ensures.content))

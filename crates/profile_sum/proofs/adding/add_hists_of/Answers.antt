@@ -4,7 +4,7 @@ use Rattle.gmon_data.specs.Content.{HistNumbersFit}
 use Rattle.gmon_data.specs.Hists.{IsKept}
 use Rattle.gmon_data.proofs.RecordLemmas.{at_begin}
 use Rattle.profile_sum.specs.Sum.{hist_record}
-use Rattle.profile_sum.proofs.LoopLemmas.{at_all, item_added, item_refused, item_within, items_done}
+use Rattle.profile_sum.proofs.LoopLemmas.{at_all, item_added, item_refused, item_stopped, item_within, items_done}
 use Rattle.profile_sum.proofs.adding.add_hists_of.Goals as goal
 
 pub loop-i-init : goal.loop-i-init
@@ -23,6 +23,11 @@ pub returns-in_err-add_wide-clause-refusal : goal.returns-in_err-add_wide-clause
 returns-in_err-add_wide-clause-refusal c =
     let p = err_from_is_err_and c.from_residual.result c.from_residual.ensures.1 in
     rw (p.1, p.2) (item_refused (hist_record c.args.«unit») c.args.more.now.hists c.loop-i.i c.args.total.now c.loop-i.total c.loop-i.invariant c.hist.result.now c.hist.ensures _ c.in_err-add_wide.ensures.refusal)
+
+pub returns-in_err-add_wide-clause-stopped : goal.returns-in_err-add_wide-clause-stopped
+returns-in_err-add_wide-clause-stopped c =
+    let p = err_from_is_err_and c.from_residual.result c.from_residual.ensures.1 in
+    rw (p.1, p.2) (item_stopped (hist_record c.args.«unit») c.args.more.now.hists c.loop-i.i c.args.total.now c.loop-i.total c.loop-i.invariant c.hist.result.now c.hist.ensures _ _ c.in_err-add_wide.ensures.refusal c.in_err-add_wide.ensures.unchanged)
 
 pub loop-i-preserved : goal.loop-i-preserved
 loop-i-preserved c =

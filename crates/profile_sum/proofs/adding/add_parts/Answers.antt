@@ -15,10 +15,10 @@ add_arcs-requires c =
 pub add_blocks-requires : goal.add_blocks-requires
 add_blocks-requires c =
     blocks_fit c.args.total.now c.args.more.now c.holds-2.ensures c.requires.within c.add_arcs.new.total
-    (c.in_ok-add_arcs.ensures ∙ ap (with_records (map arc_record c.args.more.now.arcs)) (c.in_ok-add_hists.ensures.added ∙ ap (with_records (hist_records c.args.more.now)) c.take_room.ensures))
+    (c.in_ok-add_arcs.ensures.added ∙ ap (with_records (map arc_record c.args.more.now.arcs)) (c.in_ok-add_hists.ensures.added ∙ ap (with_records (hist_records c.args.more.now)) c.take_room.ensures))
 
 pub returns-clause-added : goal.returns-clause-added
 returns-clause-added c =
-    c.in_ok-add_blocks.ensures
-    ∙ ap (with_records (map block_record c.args.more.now.blocks)) (c.in_ok-add_arcs.ensures ∙ ap (with_records (map arc_record c.args.more.now.arcs)) (c.in_ok-add_hists.ensures.added ∙ ap (with_records (hist_records c.args.more.now)) c.take_room.ensures))
+    c.in_ok-add_blocks.ensures.added
+    ∙ ap (with_records (map block_record c.args.more.now.blocks)) (c.in_ok-add_arcs.ensures.added ∙ ap (with_records (map arc_record c.args.more.now.arcs)) (c.in_ok-add_hists.ensures.added ∙ ap (with_records (hist_records c.args.more.now)) c.take_room.ensures))
     ∙ all_added c.args.total.now c.args.more.now c.holds-2.ensures

@@ -54,7 +54,7 @@ returns-clause-records c = λ bytes stands.
     let header = c.as_slice.ensures in
     let accepted = sym (given bytes c.as_slice.result.now kept s header) ∙ c.in_ok-header.ensures.accepted in
     let one = c.push_reserved.ensures.items ∙ ap (λ (v : List ℕ). c.in_ok-recs.recs.items ++ hist h.low h.high h.rate v ∷ []) c.from.ensures in
-    let both = c.in_ok-push_arcs.ensures ∙ ap (λ (v : List RawArc). c.push_reserved.new.self.items ++ map Arc v) c.as_slice-2.ensures.value in
+    let both = c.in_ok-push_arcs.ensures.added ∙ ap (λ (v : List RawArc). c.push_reserved.new.self.items ++ map Arc v) c.as_slice-2.ensures.value in
     whole_file bytes kept s accepted h.low h.high h.rate c.in_ok-recs.recs.items c.push_reserved.new.self.items c.from-2.result
     (ap (λ (x : Header). x.low) words ∙ ap low_of header) (ap (λ (x : Header). x.high) words ∙ ap high_of header) (ap (λ (x : Header). x.rate) words ∙ ap rate_of header)
     c.in_ok-recs.ensures.items one (c.from-2.ensures ∙ both)
