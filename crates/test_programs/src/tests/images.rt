@@ -80,7 +80,11 @@ fn owners_are_found_by_pages(rt: HostRuntime) -> Result<(), Fail> {
     let image = read(rt.alloc(), &six_nops(rt.alloc(), symbols)?)?;
     let pages = OwnerPages::new(rt.alloc(), image.symbols.as_slice())?;
     for (address, want) in OWNERS {
-        assert_eq!(rt; pages.owner(image.symbols.as_slice(), address), want, "{address}");
+        assert_eq!(rt;
+            pages.owner(image.symbols.as_slice(), address),
+            want,
+            "{address}"
+        );
         for near in [0, 1, 2, 3, u32::MAX] {
             assert_eq!(rt;
                 pages.owner_near(image.symbols.as_slice(), near, address),
