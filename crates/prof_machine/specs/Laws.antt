@@ -1,11 +1,13 @@
 -- What follows from the definitions on turns: the statements of the laws.
-use Rattle.std.specs.Prelude.{◌≡◌, ◌≢◌, ℕ, ◌+◌, ◌<◌, ◌≤◌, ◌↔◌, List, [], ◌∷◌, ◌++◌, length, None, option_map, IsSome, All}
+use Rattle.std.specs.Prelude.{◌≡◌, ◌≢◌, ◌⊎◌, ℕ, ◌+◌, ◌<◌, ◌≤◌, ◌↔◌, Bool, true, false, List, [], ◌∷◌, ◌++◌, length, count_by, None, Some, option_map, IsSome, All}
 use Rattle.std.specs.List.{cons_option}
 use Rattle.elf32_syms.specs.declared.image.Image.{Image}
 use Rattle.host_port.specs.Act.{Act}
 use Rattle.mcount_arcs.specs.declared.state.State.TheVariants.{Busy}
-use Rattle.mcount_arcs.specs.Log.{state_of}
+use Rattle.mcount_arcs.specs.Log.{CallIgnored, CallLost, Enter, LogEntry, Mode, Sample, WalkDone, state_of}
 use Rattle.mcount_arcs.specs.Samples.{counted_samples}
+use Rattle.rv_step.specs.declared.stepped.TrapKind.{TrapKind}
+use Rattle.prof_machine.specs.declared.ending.End.TheVariants.{Trap}
 use Rattle.prof_machine.specs.declared.machine.Machine.{Machine}
 use Rattle.prof_machine.specs.declared.notes.Ran.{Ran}
 use Rattle.prof_machine.specs.declared.setup.Setup.{Setup}
@@ -13,7 +15,7 @@ use Rattle.prof_machine.specs.Notes.{note_of}
 use Rattle.prof_machine.specs.Plan.{driven, most_turns, planned}
 use Rattle.prof_machine.specs.Start.{final_world, machine_of, start_of}
 use Rattle.prof_machine.specs.Turn.{turn_of, world_after}
-use Rattle.prof_machine.specs.World.{World}
+use Rattle.prof_machine.specs.World.{World, hart_of, left_of}
 
 -- the samples that the notes of turns tell, in order
 abbrev pub noted_samples : Machine → World → List ℕ → List ℕ
@@ -60,3 +62,28 @@ PrintsStay = (m : Machine) (w : World) (k n : ℕ) → k ≤ n → (more : List 
 
 abbrev pub PrintsStayToTheEnd : Type 0
 PrintsStayToTheEnd = (m : Machine) (w : World) (n : ℕ) → n ≤ most_turns m.setup → (more : List Act) × ((driven m w).prints ≡ (planned m w n).prints ++ more)
+
+-- ---- a hart that leaves a hook
+
+-- what a hook logs that a hart leaves at once
+abbrev pub leaves_hook : LogEntry → Bool
+leaves_hook (Sample pc) = false
+leaves_hook (Mode on) = true
+leaves_hook (Enter from to) = false
+leaves_hook WalkDone = false
+leaves_hook (CallLost from to) = true
+leaves_hook (CallIgnored from to) = true
+
+abbrev pub hooks_left : World → ℕ
+hooks_left w = count_by leaves_hook w.log
+
+-- from world w to world v hart h has served such a hook, or its walk is over, which was at its last look
+abbrev pub HasServed : World → World → ℕ → Type 0
+HasServed w v h = (hooks_left v ≡ hooks_left w + 1) ⊎ ((w.ending ≡ None) × (left_of w.left h ≡ 1))
+
+-- a return from a hook is told exactly where one was served in this turn and none trapped, and it is the pc that the
+-- turn left
+abbrev pub ReturnsAreNoted : Type 0
+ReturnsAreNoted = (m : Machine) (w : World) (h r : ℕ) → h < length w.harts →
+    let v = turn_of m w h in
+    ((note_of m w h).returned ≡ Some r) ↔ (HasServed w v h × ((kind : TrapKind) (pc : ℕ) → v.ending ≢ Some (Trap kind pc)) × ((hart_of v.harts h).pc ≡ r))

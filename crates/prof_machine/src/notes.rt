@@ -6,7 +6,7 @@ ghost use Rattle.prof_machine.specs.Notes.{look_note};
 use rv_decode::Instr;
 
 /// What a turn did, besides the world that it left. A part is None where the turn had no such thing.
-#[derive(Clone, Copy, Debug, PartialEq, Eq)]
+#[derive(Clone, Copy)]
 pub struct TurnNote {
     /// The instruction that retired.
     pub ran: Option<Ran>,
@@ -17,7 +17,7 @@ pub struct TurnNote {
 }
 
 /// An instruction that retired.
-#[derive(Clone, Copy, Debug, PartialEq, Eq)]
+#[derive(Clone, Copy)]
 pub struct Ran {
     /// Where it stands.
     pub pc: u32,

@@ -23,7 +23,7 @@ use rv_decode::Instr;
 use rv_step::{Stepped, TrapKind, instruction, step};
 
 /// Where a turn begins.
-#[derive(Clone, Copy)]
+#[derive(Drop)]
 struct Begin {
     pc: u32,
     // The instruction that stands there, if there is one.

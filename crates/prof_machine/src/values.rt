@@ -1,9 +1,9 @@
 //! That equality and copies of the values that are told say what they seem to: each is pinned by a clause.
 
-ghost use Rattle.std.specs.Prelude.{◌≡◌, ◌↔◌, IsTrue, IfOk};
+ghost use Rattle.std.specs.Prelude.{◌≡◌, ◌↔◌, IsTrue, Ok};
 
-use crate::ending::{RunSummary, StartRefusal, Turned};
-use crate::notes::TurnNote;
+use crate::ending::{End, RunSummary, StartRefusal, Turned};
+use crate::notes::{Ran, TurnNote};
 use crate::setup::Setup;
 use std::alloc::AllocError;
 
@@ -16,7 +16,7 @@ pub fn same_answers(a: &Turned, b: &Turned) -> bool
 
 /// The same answer.
 pub fn copied_answers(a: &Turned) -> Result<Turned, AllocError>
-    ensures { IfOk result (λ b. b ≡ a.now) }
+    ensures { result ≡ Ok a.now }
 {
     a.clone()
 }
@@ -30,7 +30,7 @@ pub fn same_summaries(a: &RunSummary, b: &RunSummary) -> bool
 
 /// The same summary.
 pub fn copied_summaries(a: &RunSummary) -> Result<RunSummary, AllocError>
-    ensures { IfOk result (λ b. b ≡ a.now) }
+    ensures { result ≡ Ok a.now }
 {
     a.clone()
 }
@@ -44,14 +44,35 @@ pub fn same_refusals(a: &StartRefusal, b: &StartRefusal) -> bool
 
 /// The same refusal.
 pub fn copied_refusals(a: &StartRefusal) -> Result<StartRefusal, AllocError>
-    ensures { IfOk result (λ b. b ≡ a.now) }
+    ensures { result ≡ Ok a.now }
+{
+    a.clone()
+}
+
+/// Whether two ends are the same.
+pub fn same_ends(a: &End, b: &End) -> bool
+    ensures { IsTrue result ↔ (a.now ≡ b.now) }
+{
+    a == b
+}
+
+/// The same end.
+pub fn copied_ends(a: &End) -> Result<End, AllocError>
+    ensures { result ≡ Ok a.now }
+{
+    a.clone()
+}
+
+/// The same instruction that retired.
+pub fn copied_instructions(a: &Ran) -> Result<Ran, AllocError>
+    ensures { result ≡ Ok a.now }
 {
     a.clone()
 }
 
 /// The same note.
 pub fn copied_notes(a: &TurnNote) -> Result<TurnNote, AllocError>
-    ensures { IfOk result (λ b. b ≡ a.now) }
+    ensures { result ≡ Ok a.now }
 {
     a.clone()
 }
@@ -65,7 +86,7 @@ pub fn same_setups(a: &Setup, b: &Setup) -> bool
 
 /// The same setup.
 pub fn copied_setups(a: &Setup) -> Result<Setup, AllocError>
-    ensures { IfOk result (λ b. b ≡ a.now) }
+    ensures { result ≡ Ok a.now }
 {
     a.clone()
 }
