@@ -58,13 +58,14 @@ use Rattle.prof_machine.specs.declared.ending.End.TheVariants.{Budget, Exit, Tra
 use Rattle.prof_machine.specs.declared.machine.Machine.{Machine}
 use Rattle.prof_machine.specs.declared.setup.Setup.{Setup}
 use Rattle.prof_machine.specs.Executions.{counted_pairs, executed_pairs, executions_at, executions_in, instructions_of, pair_of}
-use Rattle.prof_machine.specs.Laws.{noted_pcs, noted_samples}
+use Rattle.prof_machine.specs.Laws.{leaves_hook, noted_pcs, noted_samples}
+use Rattle.rv_step.specs.declared.stepped.TrapKind.{TrapKind}
 use Rattle.prof_machine.specs.Notes.{note_of}
 use Rattle.prof_machine.specs.Plan.{driven, most_turns, planned}
 use Rattle.prof_machine.specs.Start.{final_world, machine_of, start_of, start_refusal}
 use Rattle.prof_machine.specs.Turn.{turn_of, world_after}
 use Rattle.prof_machine.specs.Value.{is_sample}
-use Rattle.prof_machine.specs.World.{World}
+use Rattle.prof_machine.specs.World.{World, hart_of, left_of}
 use Rattle.symbol_shares.specs.Parts.{IsCovered, overlap_of}
 use Rattle.symbol_shares.specs.Ranges.{grains_of_range}
 use Rattle.symbol_shares.specs.Shares.{attributed_of, bucket_begin, share_of, share_of_bucket, shares_of}
@@ -235,6 +236,12 @@ pub record RunClaims : Type 0 where
   -- .. one in each turn in which their number rose, and none in any other
   pub one_noted : (m : Machine) (w : World) (h : ℕ) →
       (IsSome (note_of m w h).ran ↔ ((turn_of m w h).retired ≡ w.retired + 1)) × (((note_of m w h).ran ≡ None) ↔ ((turn_of m w h).retired ≡ w.retired))
+  -- a return from a hook is told exactly where one was served in the turn and none trapped, with the pc that the turn left
+  pub returns_noted : (m : Machine) (w : World) (h r : ℕ) → h < length w.harts →
+      let v = turn_of m w h in
+      ((note_of m w h).returned ≡ Some r)
+      ↔ (((count_by leaves_hook v.log ≡ count_by leaves_hook w.log + 1) ⊎ ((w.ending ≡ None) × (left_of w.left h ≡ 1)))
+      × ((kind : TrapKind) (pc : ℕ) → v.ending ≢ Some (Trap kind pc)) × ((hart_of v.harts h).pc ≡ r))
   -- as many places are kept as instructions have retired
   pub as_many : (image : Image) (bytes : List ℕ) (setup : Setup) (turns : List ℕ) →
       let w = world_after (machine_of image setup) (start_of image bytes setup) turns in length w.ran ≡ w.retired
@@ -523,6 +530,11 @@ pub record MeaningClaims : Type 0 where
   pub sample : (pc : ℕ) → is_sample (Sample pc) ≡ true
   pub no_sample : (from to : ℕ) (on : Bool) → (is_sample (Mode on) ≡ false) × (is_sample (Enter from to) ≡ false)
       × (is_sample WalkDone ≡ false) × (is_sample (CallLost from to) ≡ false) × (is_sample (CallIgnored from to) ≡ false)
+  -- and a hart leaves a hook at once where profiling is switched, and where its call is lost or ignored
+  pub leaves : (from to : ℕ) (on : Bool) → (leaves_hook (Mode on) ≡ true) × (leaves_hook (CallLost from to) ≡ true)
+      × (leaves_hook (CallIgnored from to) ≡ true)
+  pub stays : (from to pc : ℕ) → (leaves_hook (Sample pc) ≡ false) × (leaves_hook (Enter from to) ≡ false)
+      × (leaves_hook WalkDone ≡ false)
   -- a part is less than a grain away from its time in proportion to calls
   pub proportion : (part time calls all : ℕ) → IsInProportion part time calls all
       ↔ ((part * all < time * calls + all) × (time * calls < (part + 1) * all))
