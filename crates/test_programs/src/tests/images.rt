@@ -1,5 +1,4 @@
 use crate::{Entry, FUNCTION, elf, function, len_of, push_words};
-use elf32_syms::pages::OwnerPages;
 use elf32_syms::{ElfRefusal, Segment, Symbol, owner, read};
 use gp_base::{Span, le4};
 use std::alloc::{AllocError, Global};
@@ -59,40 +58,6 @@ fn a_program_of_one_instruction(rt: HostRuntime) -> Result<(), Fail> {
     assert_eq!(rt; owner(image.symbols.as_slice(), 0x10000), Some(0));
     assert_eq!(rt; image.lookup(0x10003), Some(0));
     assert_eq!(rt; image.lookup(0x10004), None);
-    Ok(())
-}
-
-/// Addresses with the symbols that they lie in.
-const OWNERS: [(u32, Option<u32>); 8] = [
-    (0, None),
-    (0xFFFF, None),
-    (0x10000, Some(0)),
-    (0x10007, Some(0)),
-    (0x10008, Some(1)),
-    (0x1000C, Some(2)),
-    (0x10017, Some(2)),
-    (0x10018, None),
-];
-
-#[test]
-fn owners_are_found_by_pages(rt: HostRuntime) -> Result<(), Fail> {
-    let symbols = [function("a", 0), function("b", 8), function("c", 12)];
-    let image = read(rt.alloc(), &six_nops(rt.alloc(), symbols)?)?;
-    let pages = OwnerPages::new(rt.alloc(), image.symbols.as_slice())?;
-    for (address, want) in OWNERS {
-        assert_eq!(rt;
-            pages.owner(image.symbols.as_slice(), address),
-            want,
-            "{address}"
-        );
-        for near in [0, 1, 2, 3, u32::MAX] {
-            assert_eq!(rt;
-                pages.owner_near(image.symbols.as_slice(), near, address),
-                want,
-                "{address} near {near}"
-            );
-        }
-    }
     Ok(())
 }
 
