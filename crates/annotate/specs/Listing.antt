@@ -37,11 +37,11 @@ cell_line segments bytes profile cell =
     ++ codes "  " ++ word_text (cell_word segments bytes cell) cell.low ++ codes "\n"
 
 -- a symbol: its name, and its cells
-unfoldable pub symbol_text : List Segment → List ℕ → Content → Symbol → List ℕ
-symbol_text segments bytes profile symbol =
+unfoldable pub symbol_listing : List Segment → List ℕ → Content → Symbol → List ℕ
+symbol_listing segments bytes profile symbol =
     symbol.name ++ codes ":\n" ++ flat_map (cell_line segments bytes profile) (cells_of symbol)
 
 -- the listing of a program, its file and a profile
 unfoldable pub annotated_text : Image → List ℕ → Content → List ℕ
 annotated_text image bytes profile =
-    codes "annotated listing\n" ++ flat_map (symbol_text image.segments bytes profile) image.symbols
+    codes "annotated listing\n" ++ flat_map (symbol_listing image.segments bytes profile) image.symbols

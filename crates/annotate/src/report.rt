@@ -7,7 +7,7 @@ ghost use Rattle.host_port.specs.Host.{Puts};
 ghost use Rattle.host_port.specs.declared.side.Side.TheVariants.{Output};
 ghost use Rattle.elf32_syms.specs.Image.{IsWithinLimits};
 ghost use Rattle.annotate.specs.Cells.{cells_of};
-ghost use Rattle.annotate.specs.Listing.{annotated_text, cell_line, symbol_text};
+ghost use Rattle.annotate.specs.Listing.{annotated_text, cell_line, symbol_listing};
 
 use crate::cells::{cell, cell_count};
 use crate::line;
@@ -64,7 +64,7 @@ fn put_symbols<H: Host>(
 ) -> Result<(), Failed>
     requires segments { All (λ s. s.offset + s.filesz ≤ length bytes.now) segments.now }
     requires some { All (λ s. s.addr < s.end) symbols.now }
-    ensures { Adds Output (flat_map (symbol_text segments.now bytes.now profile.now) symbols.now) lines.old lines.new
+    ensures { Adds Output (flat_map (symbol_listing segments.now bytes.now profile.now) symbols.now) lines.old lines.new
         (H.outside host.old) (H.outside host.new) result }
 {
     for symbol in symbols {
@@ -83,7 +83,7 @@ fn put_symbol<H: Host>(
 ) -> Result<(), Failed>
     requires segments { All (λ s. s.offset + s.filesz ≤ length bytes.now) segments.now }
     requires some { symbol.now.addr < symbol.now.end }
-    ensures { Adds Output (symbol_text segments.now bytes.now profile.now symbol.now) lines.old lines.new
+    ensures { Adds Output (symbol_listing segments.now bytes.now profile.now symbol.now) lines.old lines.new
         (H.outside host.old) (H.outside host.new) result }
 {
     lines.put(host, symbol.name.as_slice())?;

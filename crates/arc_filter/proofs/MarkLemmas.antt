@@ -9,8 +9,8 @@ use Rattle.std.specs.Str.{bytes_eq}
 use Rattle.elf32_syms.specs.declared.image.Symbol.{Symbol}
 use Rattle.elf32_syms.specs.Owners.{owner_of}
 use Rattle.arc_filter.specs.declared.marks.Marks.{Marks}
-use Rattle.arc_filter.specs.Cuts.{from_of, has_name, is_cut, is_cut_pair, to_of}
-use Rattle.arc_filter.specs.Marks.{AreMarks, AreOf, callers_marked, is_caller_marked, is_marked, named, sides_named, sides_of}
+use Rattle.arc_filter.specs.Cuts.{from_of, is_named, is_cut, is_cut_pair, to_of}
+use Rattle.arc_filter.specs.Marks.{AreMarks, AreOf, callers_marked, is_caller_marked, is_marked, name_marks, sides_named, sides_of}
 use Rattle.arc_filter.proofs.PairLemmas.{cut_by_owners, cut_of_functions}
 
 abbrev IsOf : ℕ → Marks → Type 0
@@ -26,7 +26,7 @@ rest_same : (x y : Sides) (xs ys : List Sides) → x ∷ xs ≡ y ∷ ys → xs 
 rest_same x y xs ys e = cc
 
 module _ (symbols : List Symbol) where
-  named_long : (name : List ℕ) → length (named symbols name) ≡ length symbols
+  named_long : (name : List ℕ) → length (name_marks symbols name) ≡ length symbols
   named_long name = length-map symbols (λ (s : Symbol). bytes_eq s.name name)
 
   pub marks_long : (words : List (List ℕ)) (marks : List Marks) → AreMarks symbols words marks → AreOf (length symbols) marks
@@ -39,7 +39,7 @@ module _ (symbols : List Symbol) where
       (ap (λ (p : Sides). length p.0) here ∙ named_long (from_of w), ap (λ (p : Sides). length p.1) here ∙ named_long (to_of w))
       (marks_long ws ms rest)
 
-named_at : (symbols : List Symbol) (name : List ℕ) (f : ℕ) → slice_index_or (named symbols name) f false ≡ has_name symbols name f
+named_at : (symbols : List Symbol) (name : List ℕ) (f : ℕ) → slice_index_or (name_marks symbols name) f false ≡ is_named symbols name f
 named_at [] name f = refl
 named_at (s ∷ ss) name zero = refl
 named_at (s ∷ ss) name (suc f) = named_at ss name f

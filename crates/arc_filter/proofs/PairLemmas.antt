@@ -12,12 +12,12 @@ use Rattle.call_cycles.specs.declared.graphs.FunArc.{FunArc}
 use Rattle.call_cycles.specs.Calls.{arc_between, arcs_among, calls_between, calls_of, function_arcs, lies_in, own_calls}
 use Rattle.call_cycles.specs.Sums.{list_of, numbers_below, when}
 use Rattle.gmon_data.specs.Content.{Content}
-use Rattle.arc_filter.specs.Cuts.{from_of, has_name, is_cut, is_cut_pair, stays, to_of, without_cuts}
+use Rattle.arc_filter.specs.Cuts.{from_of, is_named, is_cut, is_cut_pair, stays, to_of, without_cuts}
 
 module _ (symbols : List Symbol) (cuts : List (List ℕ)) where
   -- cut or not, by the owners of two addresses
   abbrev pub cut_between : Option ℕ → Option ℕ → Bool
-  cut_between caller callee = list_any (λ word. option_map_or (has_name symbols (from_of word)) caller false && option_map_or (has_name symbols (to_of word)) callee false) cuts
+  cut_between caller callee = list_any (λ word. option_map_or (is_named symbols (from_of word)) caller false && option_map_or (is_named symbols (to_of word)) callee false) cuts
 
   pub cut_by_owners : (from to : ℕ) (caller callee : Option ℕ) → owner_of symbols from ≡ caller → owner_of symbols to ≡ callee → is_cut symbols cuts from to ≡ cut_between caller callee
   unfolding is_cut

@@ -10,7 +10,7 @@ use Rattle.gmon_data.specs.declared.refusal.AddRefusal.{AddRefusal}
 use Rattle.gmon_data.specs.declared.refusal.AddRefusal.TheVariants as answers
 use Rattle.gmon_data.specs.declared.refusal.Unlike.{Unlike}
 use Rattle.gmon_data.specs.Hists.{put_hist, IsApart, IsKept, IsUnlike}
-use Rattle.gmon_data.specs.Tally.{tally, total_of}
+use Rattle.gmon_data.specs.Tally.{tally, tally_total}
 use Rattle.gmon_data.specs.Content.{Content, PairFits, IsProfile, IsWithin, WideRec, empty_content, same_ends, with_arc, with_records}
 use Rattle.gmon_data.proofs.ContentLemmas.{pair-equal, pair-self, same-self}
 use Rattle.gmon_data.proofs.RecordLemmas.{IsUnderway, cut_at, one_added, one_more, within_next}
@@ -41,11 +41,11 @@ module _ {K : Type 0} (same : K → K → Bool) (p : K × ℕ → Bool) where
       by true rest = (apart_still e.0 es distinct.0, rest)
       by false rest = rest
 
-  pub total_less : (es : List (K × ℕ)) → total_of (filter p es) ≤ total_of es
+  pub total_less : (es : List (K × ℕ)) → tally_total (filter p es) ≤ tally_total es
   total_less [] = omega arith
   total_less (e ∷ es) = by (p e) (total_less es)
     where
-      by : (b : Bool) → total_of (filter p es) ≤ total_of es → total_of (cond b (e ∷ filter p es) (filter p es)) ≤ total_of (e ∷ es)
+      by : (b : Bool) → tally_total (filter p es) ≤ tally_total es → tally_total (cond b (e ∷ filter p es) (filter p es)) ≤ tally_total (e ∷ es)
       by true rest = omega (arith, rest, sum_by-cons (λ (x : K × ℕ). x.1) e (filter p es), sum_by-cons (λ (x : K × ℕ). x.1) e es)
       by false rest = omega (arith, rest, sum_by-cons (λ (x : K × ℕ). x.1) e es)
 

@@ -19,16 +19,16 @@ abbrev pub is_cut_word : List ℕ → Bool
 is_cut_word word = nat_lt 0 (length (from_of word)) && nat_lt 0 (length (to_of word))
 
 -- function f has the name
-abbrev pub has_name : List Symbol → List ℕ → ℕ → Bool
-has_name symbols name f = option_map_or (λ (s : Symbol). bytes_eq s.name name) (slice_get symbols f) false
+abbrev pub is_named : List Symbol → List ℕ → ℕ → Bool
+is_named symbols name f = option_map_or (λ (s : Symbol). bytes_eq s.name name) (slice_get symbols f) false
 
 -- calls from function f to function g are cut
 unfoldable pub is_cut_pair : List Symbol → List (List ℕ) → ℕ → ℕ → Bool
-is_cut_pair symbols cuts f g = list_any (λ word. has_name symbols (from_of word) f && has_name symbols (to_of word) g) cuts
+is_cut_pair symbols cuts f g = list_any (λ word. is_named symbols (from_of word) f && is_named symbols (to_of word) g) cuts
 
 -- the address lies in a function with the name
 abbrev pub lies_in_named : List Symbol → List ℕ → ℕ → Bool
-lies_in_named symbols name address = option_map_or (has_name symbols name) (owner_of symbols address) false
+lies_in_named symbols name address = option_map_or (is_named symbols name) (owner_of symbols address) false
 
 -- some word cuts the calls from one address to another: each lies in a function with the name on its side
 unfoldable pub is_cut : List Symbol → List (List ℕ) → ℕ → ℕ → Bool

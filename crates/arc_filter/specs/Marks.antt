@@ -8,14 +8,14 @@ use Rattle.arc_filter.specs.declared.marks.Marks.{Marks}
 use Rattle.arc_filter.specs.Cuts.{from_of, to_of}
 
 -- of each symbol, whether it has the name
-abbrev pub named : List Symbol → List ℕ → List Bool
-named symbols name = map (λ (s : Symbol). bytes_eq s.name name) symbols
+abbrev pub name_marks : List Symbol → List ℕ → List Bool
+name_marks symbols name = map (λ (s : Symbol). bytes_eq s.name name) symbols
 
 abbrev pub sides_of : Marks → List Bool × List Bool
 sides_of m = (m.from.items, m.to.items)
 
 abbrev pub sides_named : List Symbol → List ℕ → List Bool × List Bool
-sides_named symbols word = (named symbols (from_of word), named symbols (to_of word))
+sides_named symbols word = (name_marks symbols (from_of word), name_marks symbols (to_of word))
 
 -- the marks are those of these words, one after the other
 abbrev pub AreMarks : List Symbol → List (List ℕ) → List Marks → Type 0

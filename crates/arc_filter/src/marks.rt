@@ -4,7 +4,7 @@ ghost use Rattle.std.specs.Prelude.{◌≡◌, ◌<◌, true, ℕ, List, IfOk, l
 ghost use Rattle.std.specs.List.{All};
 ghost use Rattle.elf32_syms.specs.Owners.{IsAscending};
 ghost use Rattle.arc_filter.specs.Cuts.{is_cut as spec, is_cut_word};
-ghost use Rattle.arc_filter.specs.Marks.{AreMarks, AreOf, callers_marked, is_caller_marked, is_marked, named, sides_named, sides_of};
+ghost use Rattle.arc_filter.specs.Marks.{AreMarks, AreOf, callers_marked, is_caller_marked, is_marked, name_marks, sides_named, sides_of};
 
 use crate::words::sides;
 use elf32_syms::pages::OwnerPages;
@@ -20,7 +20,7 @@ pub(crate) struct Marks {
 
 /// Of each symbol, whether it has the name.
 fn marks_of_name(alloc: Global, symbols: &[Symbol], name: &str) -> Result<Vec<bool>, AllocError>
-    ensures { IfOk result (λ v. v.items ≡ named symbols.now name.now) }
+    ensures { IfOk result (λ v. v.items ≡ name_marks symbols.now name.now) }
 {
     let mut marks = Vec::new(alloc);
     for symbol in symbols {

@@ -10,7 +10,7 @@ use Rattle.std.proofs.lemmas.List.Elements.{All-nil, All-cons}
 use Rattle.std.proofs.lemmas.List.Sums.{sum_by-cons}
 use Rattle.elf32_syms.specs.declared.image.Symbol.{Symbol}
 use Rattle.elf32_syms.specs.Owners.{owns, owner_of}
-use Rattle.gmon_data.specs.Tally.{total_of}
+use Rattle.gmon_data.specs.Tally.{tally_total}
 use Rattle.call_cycles.specs.declared.graphs.FunArc.{FunArc}
 use Rattle.call_cycles.specs.Sums.{sum_below, when, numbers_below}
 use Rattle.call_cycles.specs.Graph.{no_arc, IsArcBefore}
@@ -187,7 +187,7 @@ one_pair n symbols e =
     let one = one_owner n (owner_of symbols e.0.0) e.1 in
     omega arith
 
-all_pairs : (n : ℕ) (es : List ((ℕ × ℕ) × ℕ)) (symbols : List Symbol) → sum_below n (λ f. sum_below n (calls_between es symbols f)) ≤ total_of es
+all_pairs : (n : ℕ) (es : List ((ℕ × ℕ) × ℕ)) (symbols : List Symbol) → sum_below n (λ f. sum_below n (calls_between es symbols f)) ≤ tally_total es
 all_pairs n [] symbols =
     let none : sum_below n (λ f. sum_below n (calls_between [] symbols f)) ≡ 0 = sum_none n (λ f. sum_below n (calls_between [] symbols f)) (λ f low. sum_none n (calls_between [] symbols f) (λ g at. between_nil symbols f g)) in
     omega arith
@@ -236,7 +236,7 @@ arcs_calls_is arcs = sum_places (λ (a : FunArc). a.count) arcs no_arc (length a
 
 -- all calls of the functions are calls of the profile
 pub calls_few : (es : List ((ℕ × ℕ) × ℕ)) (symbols : List Symbol)
-    → arcs_calls (arcs_among (length symbols) (calls_between es symbols)) + sum_below (length symbols) (λ f. calls_between es symbols f f) ≤ total_of es
+    → arcs_calls (arcs_among (length symbols) (calls_between es symbols)) + sum_below (length symbols) (λ f. calls_between es symbols f f) ≤ tally_total es
 calls_few es symbols =
     let is = arcs_calls_is (arcs_among (length symbols) (calls_between es symbols)) in
     let all = arcs_and_selves (calls_between es symbols) (length symbols) in
@@ -246,7 +246,7 @@ calls_few es symbols =
 -- ---- the parts of a graph of a profile
 
 pub made_few : (es : List ((ℕ × ℕ) × ℕ)) (symbols : List Symbol) (arcs : List FunArc) (n : ℕ) (selves : List ℕ) → arcs ≡ function_arcs es symbols → n ≡ length symbols → selves ≡ own_calls es symbols
-    → arcs_calls arcs + sum_below n (slice_index selves) ≤ total_of es
+    → arcs_calls arcs + sum_below n (slice_index selves) ≤ tally_total es
 made_few es symbols arcs n selves is is_n is_selves =
     let few = calls_few es symbols in
     let one : arcs_calls arcs ≡ arcs_calls (function_arcs es symbols) = ap arcs_calls is in

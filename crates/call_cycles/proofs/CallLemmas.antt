@@ -13,7 +13,7 @@ use Rattle.std.proofs.lemmas.List.FromFn.{fill_by_all}
 use Rattle.std.proofs.lemmas.List.Sums.{sum_by_more, sum_by_more_le_part}
 use Rattle.elf32_syms.specs.declared.image.Symbol.{Symbol}
 use Rattle.elf32_syms.specs.Owners.{owns, owner_of}
-use Rattle.gmon_data.specs.Tally.{total_of}
+use Rattle.gmon_data.specs.Tally.{tally_total}
 use Rattle.call_cycles.specs.declared.graphs.FunArc.{FunArc}
 use Rattle.call_cycles.specs.Sums.{when, list_of}
 use Rattle.call_cycles.specs.Arcs.{IsArcBelow}
@@ -113,22 +113,22 @@ module _ (arcs : List ((ℕ × ℕ) × ℕ)) (symbols : List Symbol) (i : ℕ) (
       sum_by_more (λ (e : (ℕ × ℕ) × ℕ). calls_of symbols e f g) arcs i ((0, 0), 0) below
       ∙ ap (λ (e : (ℕ × ℕ) × ℕ). calls_between (take i arcs) symbols f g + calls_of symbols e f g) at
 
-  pub calls_fit : (f g : ℕ) → calls_between (take i arcs) symbols f g + entry.1 ≤ total_of arcs
+  pub calls_fit : (f g : ℕ) → calls_between (take i arcs) symbols f g + entry.1 ≤ tally_total arcs
   unfolding calls_between
   calls_fit f g =
       let le = sum_by_more_le_part (λ (e : (ℕ × ℕ) × ℕ). calls_of symbols e f g) (λ (e : (ℕ × ℕ) × ℕ). e.1) arcs i ((0, 0), 0) below (λ e. when_le _ e.1) in
       let same : (get_or arcs i ((0, 0), 0)).1 ≡ entry.1 = ap (λ (e : (ℕ × ℕ) × ℕ). e.1) at in
       omega arith
 
-  pub total_more : total_of (take (i + 1) arcs) ≡ total_of (take i arcs) + entry.1
-  total_more = sum_by_more (λ (e : (ℕ × ℕ) × ℕ). e.1) arcs i ((0, 0), 0) below ∙ ap (λ (e : (ℕ × ℕ) × ℕ). total_of (take i arcs) + e.1) at
+  pub total_more : tally_total (take (i + 1) arcs) ≡ tally_total (take i arcs) + entry.1
+  total_more = sum_by_more (λ (e : (ℕ × ℕ) × ℕ). e.1) arcs i ((0, 0), 0) below ∙ ap (λ (e : (ℕ × ℕ) × ℕ). tally_total (take i arcs) + e.1) at
 
   -- with this arc's calls
   pub found_more : (n : ℕ) (between : List FunArc) (selves : List ℕ) → HaveCalls n (λ f g. calls_between (take i arcs) symbols f g + calls_of symbols entry f g) between selves
       → HaveCalls n (calls_between (take (i + 1) arcs) symbols) between selves
   found_more n between selves = subst (λ (calls : ℕ → ℕ → ℕ). HaveCalls n calls between selves) (λ j. λ f g. sym (calls_more f g) j)
 
-  pub selves_fit : (n : ℕ) (between : List FunArc) (selves : List ℕ) → HaveCalls n (calls_between (take i arcs) symbols) between selves → (f : ℕ) → slice_index selves f + entry.1 ≤ total_of arcs
+  pub selves_fit : (n : ℕ) (between : List FunArc) (selves : List ℕ) → HaveCalls n (calls_between (take i arcs) symbols) between selves → (f : ℕ) → slice_index selves f + entry.1 ≤ tally_total arcs
   selves_fit n between selves have f =
       ⊎_elim
       (λ (low : f < n).

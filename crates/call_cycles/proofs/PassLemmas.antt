@@ -14,7 +14,7 @@ use Rattle.call_cycles.specs.Graph.{no_arc}
 use Rattle.call_cycles.specs.Walks.{Reaches}
 use Rattle.call_cycles.specs.Arcs.{AreWithin, AreByCaller}
 use Rattle.call_cycles.specs.Leaders.{AreRanks, IsRankOrder}
-use Rattle.call_cycles.specs.Passes.{caller_at, callee_at, IsOpen, AllFollowed, IsSearch, PassValue, IsPass, IsNext, EndsIn, rank_in, place_in, unseen_count, work_left, seen, with_rank, completed, CanLeave, left}
+use Rattle.call_cycles.specs.Passes.{caller_at, callee_at, IsOpen, AllFollowed, IsSearch, PassValue, IsPass, IsNext, EndsIn, rank_in, place_in, unseen_count, work_left, with_seen, with_rank, with_component, CanLeave, left}
 use Rattle.call_cycles.proofs.RankLemmas.{falls_along}
 use Rattle.call_cycles.proofs.RowLemmas.{row_contains, pairs_join, pairs_taken}
 use Rattle.call_cycles.proofs.SearchLemmas.{none_open, search_sees, search_passes, search_joins, search_returns, search_completes, part_le, reach_callee}
@@ -44,7 +44,7 @@ module _ (n : ℕ) (arcs : List FunArc) (p : PassValue) (is : IsPass n arcs p) w
 
   module _ (f : ℕ) (below : f < n) (new : place_in p f ≡ 0) (to_new : (w : ℕ) → IsOpen (place_in p) (rank_in p) w → Reaches arcs w f) where
     abbrev q : PassValue
-    q = seen p f
+    q = with_seen p f
 
     at_f : place_in q f ≡ length p.path + 1
     at_f = let len = is.places in set_at p.places f (length p.path + 1) f (omega arith) refl
@@ -97,7 +97,7 @@ module _ (n : ℕ) (arcs : List FunArc) (p : PassValue) (is : IsPass n arcs p) w
         let b2 = b.2 in
         omega arith
 
-    seen_pass : IsPass n arcs (seen p f)
+    seen_pass : IsPass n arcs (with_seen p f)
     seen_pass = record {
       search = search_sees arcs (place_in p) (rank_in p) (slice_index p.next) p.parts p.calls (length p.order) is.search f new to_new
           (length p.path + 1) (λ e. omega arith) late (place_in q) at_f at_other
@@ -124,7 +124,7 @@ module _ (n : ℕ) (arcs : List FunArc) (p : PassValue) (is : IsPass n arcs p) w
           omega arith);
     }
 
-    seen_nearer : work_left arcs (seen p f) < work_left arcs p
+    seen_nearer : work_left arcs (with_seen p f) < work_left arcs p
     seen_nearer =
         let one = one_fewer f below new (length p.path + 1) (λ e. omega arith) in
         let long = length_push p.calls f in
@@ -484,7 +484,7 @@ module _ (n : ℕ) (arcs : List FunArc) (p : PassValue) (is : IsPass n arcs p) (
         swapped (inl a) = inr a
         swapped (inr b) = inl b
 
-    completed_next : IsNext n arcs p (completed (record p { calls = last.0 }) (place_in p v - 1))
+    completed_next : IsNext n arcs p (with_component (record p { calls = last.0 }) (place_in p v - 1))
     unfolding last_part
     completed_next = record {
       pass = record {
@@ -529,7 +529,7 @@ module _ (n : ℕ) (arcs : List FunArc) (p : PassValue) (is : IsPass n arcs p) (
 
 -- ---- what a pass has before and after
 
-pub seen_next : (n : ℕ) (arcs : List FunArc) (p : PassValue) → IsPass n arcs p → (f : ℕ) → f < n → place_in p f ≡ 0 → ((w : ℕ) → IsOpen (place_in p) (rank_in p) w → Reaches arcs w f) → IsNext n arcs p (seen p f)
+pub seen_next : (n : ℕ) (arcs : List FunArc) (p : PassValue) → IsPass n arcs p → (f : ℕ) → f < n → place_in p f ≡ 0 → ((w : ℕ) → IsOpen (place_in p) (rank_in p) w → Reaches arcs w f) → IsNext n arcs p (with_seen p f)
 seen_next n arcs p is f below new to_new = record {
   pass = seen_pass n arcs p is f below new to_new;
   nearer = seen_nearer n arcs p is f below new to_new;
@@ -581,12 +581,12 @@ can_leave n arcs p is few f last =
 
 pub left_next : (n : ℕ) (arcs : List FunArc) (p : PassValue) → IsPass n arcs p → (f : ℕ) → EndsIn p.calls f → AllFollowed arcs (slice_index p.next) f → IsNext n arcs p (left p f)
 left_next n arcs p is f last all =
-    subst (λ (xs : List ℕ). IsNext n arcs p (if slice_index p.parts (length p.parts - 1) == place_in p f then completed (record p { calls = xs }) (place_in p f - 1) else record p { calls = xs })) (sym (popped p.calls f last (length p.calls) refl))
+    subst (λ (xs : List ℕ). IsNext n arcs p (if slice_index p.parts (length p.parts - 1) == place_in p f then with_component (record p { calls = xs }) (place_in p f - 1) else record p { calls = xs })) (sym (popped p.calls f last (length p.calls) refl))
     (⊎_elim
     (λ (own : slice_index p.parts (length p.parts - 1) ≡ place_in p f).
-    subst (λ (b : Bool). IsNext n arcs p (if b then completed (record p { calls = last.0 }) (place_in p f - 1) else record p { calls = last.0 })) (sym (eq-eqb _ _ own)) (completed_next n arcs p is f last all own))
+    subst (λ (b : Bool). IsNext n arcs p (if b then with_component (record p { calls = last.0 }) (place_in p f - 1) else record p { calls = last.0 })) (sym (eq-eqb _ _ own)) (completed_next n arcs p is f last all own))
     (λ (other : slice_index p.parts (length p.parts - 1) ≢ place_in p f).
-    subst (λ (b : Bool). IsNext n arcs p (if b then completed (record p { calls = last.0 }) (place_in p f - 1) else record p { calls = last.0 })) (sym (ne_eqb _ _ other)) (returned_next n arcs p is f last all other))
+    subst (λ (b : Bool). IsNext n arcs p (if b then with_component (record p { calls = last.0 }) (place_in p f - 1) else record p { calls = last.0 })) (sym (ne_eqb _ _ other)) (returned_next n arcs p is f last all other))
     (cases_eq (slice_index p.parts (length p.parts - 1)) (place_in p f)))
 
 -- the next arc is none of the function's own
@@ -608,7 +608,7 @@ module _ (n : ℕ) (arcs : List FunArc) (p : PassValue) (is : IsPass n arcs p) (
   none_left : (w : ℕ) → IsOpen (place_in p) (rank_in p) w → ⊥
   none_left = none_open arcs (place_in p) (rank_in p) (slice_index p.next) p.parts p.calls (length p.order) is.search ended
 
-  pub started : (f : ℕ) → f < n → place_in p f ≡ 0 → IsPass n arcs (seen p f)
+  pub started : (f : ℕ) → f < n → place_in p f ≡ 0 → IsPass n arcs (with_seen p f)
   started f below new = seen_pass n arcs p is f below new (λ w open_w. absurd (none_left w open_w))
 
   module _ (all_seen : (w : ℕ) → w < n → place_in p w ≢ 0) where

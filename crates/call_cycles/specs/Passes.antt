@@ -121,8 +121,8 @@ abbrev pub start_of : ℕ → List ℕ → PassValue
 start_of n first = record { places = replicate n 0; ranks = replicate n 0; next = first; path = []; parts = []; calls = []; order = [] }
 
 -- a function is seen
-abbrev pub seen : PassValue → ℕ → PassValue
-seen p f = record {
+abbrev pub with_seen : PassValue → ℕ → PassValue
+with_seen p f = record {
   places = slice_set p.places f (length p.path + 1);
   ranks = p.ranks;
   next = p.next;
@@ -137,8 +137,8 @@ abbrev pub with_rank : List ℕ → List ℕ → ℕ → List ℕ
 with_rank ranks functions rank = fold (λ xs f. slice_set xs f rank) ranks functions
 
 -- the functions of the path from a place on become a component
-abbrev pub completed : PassValue → ℕ → PassValue
-completed p from = record {
+abbrev pub with_component : PassValue → ℕ → PassValue
+with_component p from = record {
   places = p.places;
   ranks = with_rank p.ranks (drop from p.path) (length p.order + (length p.path - from));
   next = p.next;
@@ -152,7 +152,7 @@ completed p from = record {
 abbrev pub left : PassValue → ℕ → PassValue
 left p f =
     let q : PassValue = record p { calls = take (length p.calls - 1) p.calls } in
-    if slice_index p.parts (length p.parts - 1) == place_in p f then completed q (place_in p f - 1) else q
+    if slice_index p.parts (length p.parts - 1) == place_in p f then with_component q (place_in p f - 1) else q
 
 -- what leaving a function takes
 pub record CanLeave (p : PassValue) (f : ℕ) : Type 0 where

@@ -9,7 +9,7 @@ ghost use Rattle.call_cycles.specs.Arcs.{IsArcBelow};
 ghost use Rattle.call_cycles.specs.Graph.{no_arc};
 ghost use Rattle.call_cycles.specs.Merging.{AreMerged, IsUpTo};
 ghost use Rattle.call_cycles.specs.Calls.{HaveCalls, by_ends, calls_of, calls_in, calls_between, count_of, arcs_among};
-ghost use Rattle.gmon_data.specs.Tally.{total_of};
+ghost use Rattle.gmon_data.specs.Tally.{tally_total};
 
 use crate::graphs::FunArc;
 use crate::order::in_order;
@@ -74,8 +74,8 @@ pub(crate) fn found_calls(
 ) -> Result<Calls, AllocError>
     requires ordered { IsAscending symbols.now }
     ensures calls { IfOk result (λ c. HaveCalls (length symbols.now) (calls_between profile.now.arcs symbols.now) c.between.items c.own.items) }
-    ensures few { IfOk result (λ c. count_of c.between.items ≤ total_of profile.now.arcs) }
-    ensures all { total_of profile.now.arcs < 2 ^ 59 }
+    ensures few { IfOk result (λ c. count_of c.between.items ≤ tally_total profile.now.arcs) }
+    ensures all { tally_total profile.now.arcs < 2 ^ 59 }
 {
     let mut calls = Calls {
         between: Vec::with_capacity(alloc, profile.arc_count())?,

@@ -11,7 +11,7 @@ ghost use Rattle.std.specs.Prelude.{◌≡◌, ◌<◌, ◌≤◌, ◌+◌, ◌^
 ghost use Rattle.std.specs.List.{All, AllPairs};
 ghost use Rattle.call_cycles.specs.Leaders.{AreRanks, IsRankOrder};
 ghost use Rattle.call_cycles.specs.Arcs.{AreWithin, AreByCaller};
-ghost use Rattle.call_cycles.specs.Passes.{AreFirst, IsPass, IsNext, IsSeenOn, EndsIn, pass_of, start_of, seen, with_rank, completed, CanLeave, left, caller_at};
+ghost use Rattle.call_cycles.specs.Passes.{AreFirst, IsPass, IsNext, IsSeenOn, EndsIn, pass_of, start_of, with_seen, with_rank, with_component, CanLeave, left, caller_at};
 
 use crate::graphs::FunArc;
 use std::alloc::{AllocError, Global};
@@ -63,7 +63,7 @@ struct Pass {
 fn see(pass: &mut Pass, f: u32) -> Result<(), AllocError>
     requires within { f < length pass.old.places.items }
     requires few { length pass.old.path.items + 1 < 2 ^ 32 }
-    ensures seen { OnOk result (pass_of pass.new ≡ seen (pass_of pass.old) f) }
+    ensures seen { OnOk result (pass_of pass.new ≡ with_seen (pass_of pass.old) f) }
 {
     pass.path.push(f)?;
     let place = pass.path.len() as u32;
@@ -106,7 +106,7 @@ fn complete(pass: &mut Pass, from: usize) -> Result<(), AllocError>
     requires inside { from ≤ length pass.old.path.items }
     requires within { All (λ f. f < length pass.old.ranks.items) pass.old.path.items }
     requires few { length pass.old.order.items + length pass.old.path.items < 2 ^ 32 }
-    ensures completed { OnOk result (pass_of pass.new ≡ completed (pass_of pass.old) from) }
+    ensures completed { OnOk result (pass_of pass.new ≡ with_component (pass_of pass.old) from) }
 {
     let component = pass.path.split_at(from).1;
     let rank = pass.order.len() + component.len();

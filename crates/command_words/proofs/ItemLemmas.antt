@@ -9,7 +9,7 @@ use Rattle.command_words.specs.declared.options.Key.{Key}
 use Rattle.command_words.specs.declared.options.OptionSet.{OptionSet}
 use Rattle.command_words.specs.declared.items.Wanted.{Wanted}
 use Rattle.command_words.specs.declared.items.Wanted.TheVariants.{AnOption}
-use Rattle.command_words.specs.Items.{Item, Operand, Given, is_option, with_item, items_from, items_of_option, place_of, places, nth, place_given, name_of, number_at, number_given, setting, up_to}
+use Rattle.command_words.specs.Items.{Item, Operand, Given, is_option, with_item, items_from, items_of_option, place_of, places, nth, place_given, nth_word, number_at, number_given, value_given, up_to}
 use Rattle.command_words.specs.Options.{option_of, kind_of, is_flag, most_times, number_of_kind}
 
 -- what is found behind an item is what is found with it
@@ -133,12 +133,12 @@ number_found words key o place e = in_steps (place_given key) (number_at words (
 
 -- the default where no number is given, and else the number
 pub setting_found : (words : List (List ℕ)) (key : Key) (default : ℕ) (o : Option (List Item)) (given : Option (Option ℕ)) → option_and_then (number_given words key) o ≡ given
-    → option_and_then (setting words key default) o ≡ option_map (λ n. unwrap_or n default) given
+    → option_and_then (value_given words key default) o ≡ option_map (λ n. unwrap_or n default) given
 setting_found words key default None given e = ap (option_map (λ (n : Option ℕ). unwrap_or n default)) e
 setting_found words key default (Some items) given e = ap (option_map (λ (n : Option ℕ). unwrap_or n default)) e
 
 pub number_read : (words : List (List ℕ)) (key : Key) (o : Option (List Item)) (place : ℕ) (n : Option ℕ) → Some (Some place) ≡ option_and_then (place_given key) o
-    → n ≡ number_of_kind (kind_of key) (name_of words place) → option_and_then (number_given words key) o ≡ option_map Some n
+    → n ≡ number_of_kind (kind_of key) (nth_word words place) → option_and_then (number_given words key) o ≡ option_map Some n
 number_read words key o place n is read =
     number_found words key o (Some (Some place)) (sym is) ∙ ap (λ (m : Option ℕ). option_map Some m) (sym read)
 

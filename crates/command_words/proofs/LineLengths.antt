@@ -16,8 +16,8 @@ use Rattle.command_words.specs.declared.options.OptionSet.TheVariants.{RunOption
 use Rattle.command_words.specs.declared.words.Command.{Command}
 use Rattle.command_words.specs.declared.words.Command.TheVariants.{Show, Syms, Run, Sum, Report, Profile, Demo, Annotate, Folded, Help, Version}
 use Rattle.command_words.specs.declared.words.Selection.{Selection}
-use Rattle.command_words.specs.Items.{Item, Operand, Given, first_within, is_key, is_option, items_from, items_of_option, nth, number_at, number_given, place_given, places, places_given, setting, up_to, with_item}
-use Rattle.command_words.specs.Words.{alone, annotate_from, annotate_of, annotate_reading, command_of, demo_from, demo_reading, demo_said, few, file_from, file_of, file_reading, folded_from, folded_reading, folded_said, functions_from, functions_of, is_given, operands_of, plan_from, plan_of, profile_from, profile_reading, profile_said, report_from, report_of, report_reading, run_from, run_of, run_reading, selection_from, selection_of, setup_from, setup_of, sum_from, sum_of as sum_said, sum_reading}
+use Rattle.command_words.specs.Items.{Item, Operand, Given, first_within, is_key, is_option, items_from, items_of_option, nth, number_at, number_given, place_given, places, places_given, value_given, up_to, with_item}
+use Rattle.command_words.specs.Words.{command_alone, annotate_from, annotate_of, annotate_reading, command_of, demo_from, demo_reading, demo_said, few, file_from, file_of, file_reading, folded_from, folded_reading, folded_said, functions_from, functions_of, is_given, operand_places, plan_from, plan_given, profile_from, profile_reading, profile_said, report_from, report_of, report_reading, run_from, run_of, run_reading, selection_from, selection_of, setup_from, setup_of, sum_from, sum_command as sum_said, sum_reading}
 use Rattle.command_words.specs.Options.{group_of, is_flag, is_taken, key_named, key_number, kind_of, most_times, option_of}
 
 -- ---- what is read behind an item
@@ -254,7 +254,7 @@ module _ (words : List (List ℕ)) (items : List Item) where
       by None at is = absurd cc
       by (Some p) at is = place_bound key p at
 
-  setting_bound : (key : Key) (default n : ℕ) → setting words key default items ≡ Some n → Bound items key
+  setting_bound : (key : Key) (default n : ℕ) → value_given words key default items ≡ Some n → Bound items key
   setting_bound key default n is = by (number_given words key items) refl is
     where
       by : (o : Option (Option ℕ)) → number_given words key items ≡ o → option_map (λ m. unwrap_or m default) o ≡ Some n → Bound items key
@@ -282,12 +282,12 @@ module _ (words : List (List ℕ)) (items : List Item) where
 
   setup_bounds : (setup : Setup) → setup_of words items ≡ Some setup → RunBounds
   setup_bounds setup =
-      by (setting words Every 1000 items) (setting words Budget 100000000 items) (setting words Rate 100 items) (setting words Ram 64 items) (setting words Harts 1 items) (plan_of words items)
-      (setting words Hist 2 items) (setting words Hash 2 items) (is_given Blocks items) refl refl refl refl refl refl refl refl refl
+      by (value_given words Every 1000 items) (value_given words Budget 100000000 items) (value_given words Rate 100 items) (value_given words Ram 64 items) (value_given words Harts 1 items) (plan_given words items)
+      (value_given words Hist 2 items) (value_given words Hash 2 items) (is_given Blocks items) refl refl refl refl refl refl refl refl refl
     where
       by : (every budget rate ram harts : Option ℕ) (plan : Option Plan) (hist hash : Option ℕ) (blocks : Option Bool)
-          → setting words Every 1000 items ≡ every → setting words Budget 100000000 items ≡ budget → setting words Rate 100 items ≡ rate → setting words Ram 64 items ≡ ram → setting words Harts 1 items ≡ harts → plan_of words items ≡ plan
-          → setting words Hist 2 items ≡ hist → setting words Hash 2 items ≡ hash → is_given Blocks items ≡ blocks
+          → value_given words Every 1000 items ≡ every → value_given words Budget 100000000 items ≡ budget → value_given words Rate 100 items ≡ rate → value_given words Ram 64 items ≡ ram → value_given words Harts 1 items ≡ harts → plan_given words items ≡ plan
+          → value_given words Hist 2 items ≡ hist → value_given words Hash 2 items ≡ hash → is_given Blocks items ≡ blocks
           → setup_from every budget rate ram harts plan hist hash blocks ≡ Some setup → RunBounds
       by None budget rate ram harts plan hist hash blocks a b c d e f g h k is = absurd cc
       by (Some n) None rate ram harts plan hist hash blocks a b c d e f g h k is = absurd cc
@@ -498,13 +498,13 @@ module _ (words : List (List ℕ)) where
       short_line NoOptions words r.items r.read (few r.items r.gives) (λ key. absent NoOptions words r.items r.read key refl)
 
   file_short : (n : ℕ) → file_reading words ≡ Some n → length words ≤ 200
-  file_short n = without_options file_of n (λ items. file_operands (operands_of items) n)
+  file_short n = without_options file_of n (λ items. file_operands (operand_places items) n)
 
   sum_short : (c : Command) → sum_reading words ≡ Some c → length words ≤ 200
-  sum_short c = without_options sum_said c (λ items. sum_operands (operands_of items) c)
+  sum_short c = without_options sum_said c (λ items. sum_operands (operand_places items) c)
 
   annotate_short : (c : Command) → annotate_reading words ≡ Some c → length words ≤ 200
-  annotate_short c = without_options annotate_of c (λ items. annotate_operands (operands_of items) c)
+  annotate_short c = without_options annotate_of c (λ items. annotate_operands (operand_places items) c)
 
   report_short : (c : Command) → report_reading words ≡ Some c → length words ≤ 200
   report_short c is = short_line set words r.items r.read parts.0 bound
@@ -516,7 +516,7 @@ module _ (words : List (List ℕ)) where
       r = of_some set words (report_of words) c is
 
       parts : (operands r.items ≤ 18) × (s : Selection) × (selection_of words r.items ≡ Some s)
-      parts = report_operands (operands_of r.items) (selection_of words r.items) c r.gives
+      parts = report_operands (operand_places r.items) (selection_of words r.items) c r.gives
 
       reports : ReportBounds words r.items
       reports = selection_bounds words r.items parts.1 parts.2
@@ -535,8 +535,8 @@ module _ (words : List (List ℕ)) where
       r : OfItems set words (run_of words) c
       r = of_some set words (run_of words) c is
 
-      parts : RunParts (operands_of r.items) (is_given Gnu r.items) (place_given Image r.items) (setup_of words r.items)
-      parts = run_operands (operands_of r.items) (is_given Gnu r.items) (place_given Image r.items) (setup_of words r.items) c r.gives
+      parts : RunParts (operand_places r.items) (is_given Gnu r.items) (place_given Image r.items) (setup_of words r.items)
+      parts = run_operands (operand_places r.items) (is_given Gnu r.items) (place_given Image r.items) (setup_of words r.items) c r.gives
 
       runs : RunBounds words r.items
       runs = setup_bounds words r.items parts.setup_said.0 parts.setup_said.1
@@ -558,8 +558,8 @@ module _ (words : List (List ℕ)) where
       both : ((run : Command) × (run_of words r.items ≡ Some run)) × (s : Selection) × (selection_of words r.items ≡ Some s)
       both = profile_parts (run_of words r.items) (selection_of words r.items) c r.gives
 
-      parts : RunParts (operands_of r.items) (is_given Gnu r.items) (place_given Image r.items) (setup_of words r.items)
-      parts = run_operands (operands_of r.items) (is_given Gnu r.items) (place_given Image r.items) (setup_of words r.items) both.0.0 both.0.1
+      parts : RunParts (operand_places r.items) (is_given Gnu r.items) (place_given Image r.items) (setup_of words r.items)
+      parts = run_operands (operand_places r.items) (is_given Gnu r.items) (place_given Image r.items) (setup_of words r.items) both.0.0 both.0.1
 
       runs : RunBounds words r.items
       runs = setup_bounds words r.items parts.setup_said.0 parts.setup_said.1
@@ -582,7 +582,7 @@ module _ (words : List (List ℕ)) where
       r = of_some set words (folded_said words) c is
 
       parts : (operands r.items ≤ 18) × ((b : Bool) × (is_given Inclusive r.items ≡ Some b)) × (s : Setup) × (setup_of words r.items ≡ Some s)
-      parts = folded_operands (operands_of r.items) (is_given Inclusive r.items) (setup_of words r.items) c r.gives
+      parts = folded_operands (operand_places r.items) (is_given Inclusive r.items) (setup_of words r.items) c r.gives
 
       runs : RunBounds words r.items
       runs = setup_bounds words r.items parts.2 parts.3
@@ -593,7 +593,7 @@ module _ (words : List (List ℕ)) where
           (absent set words r.items r.read Image refl) (absent set words r.items r.read Gnu refl) (absent set words r.items r.read Elf refl) (flag_bound words r.items Inclusive parts.1.0 parts.1.1)
 
   demo_short : (c : Command) → demo_reading words ≡ Some c → length words ≤ 200
-  demo_short c is = short_line set words r.items r.read (functions_operands words (operands_of r.items) parts.0.0 parts.0.1) bound
+  demo_short c is = short_line set words r.items r.read (functions_operands words (operand_places r.items) parts.0.0 parts.0.1) bound
     where
       set : OptionSet
       set = DemoOptions
@@ -612,10 +612,10 @@ module _ (words : List (List ℕ)) where
           bound_of words r.items runs (no_reports set words r.items r.read refl)
           (absent set words r.items r.read Image refl) (absent set words r.items r.read Gnu refl) (place_bound words r.items Elf parts.1.0 parts.1.1) (absent set words r.items r.read Inclusive refl)
 
-  alone_short : (help c : Command) → alone help words ≡ Some c → length words ≤ 200
+  alone_short : (help c : Command) → command_alone help words ≡ Some c → length words ≤ 200
   alone_short help c = by words
     where
-      by : (ws : List (List ℕ)) → alone help ws ≡ Some c → length ws ≤ 200
+      by : (ws : List (List ℕ)) → command_alone help ws ≡ Some c → length ws ≤ 200
       by [] is = absurd cc
       by (w ∷ []) is = omega arith
       by (w ∷ v ∷ ws) is = absurd cc
@@ -632,7 +632,7 @@ said_short (name ∷ words) c is =
     by : (show syms run sum report profile demo annotate folded help version : Bool)
         → (if show then option_map Show (file_reading line) else (if syms then option_map Syms (file_reading line) else (if run then run_reading line else (if sum then sum_reading line else (
         if report then report_reading line else (if profile then profile_reading line else (if demo then demo_reading line else (if annotate then annotate_reading line else (if folded then folded_reading line else (
-        if help then alone Help line else (if version then alone Version line else None))))))))))) ≡ Some c → length line ≤ 200
+        if help then command_alone Help line else (if version then command_alone Version line else None))))))))))) ≡ Some c → length line ≤ 200
     by true b2 b3 b4 b5 b6 b7 b8 b9 b10 b11 is = let file = mapped Show (file_reading line) c is in file_short line file.0 file.1
     by false true b3 b4 b5 b6 b7 b8 b9 b10 b11 is = let file = mapped Syms (file_reading line) c is in file_short line file.0 file.1
     by false false true b4 b5 b6 b7 b8 b9 b10 b11 is = run_short line c is

@@ -8,14 +8,14 @@ use Rattle.std.specs.Option.{option_map, option_and_then}
 use Rattle.command_words.specs.declared.options.Key.{Key}
 use Rattle.command_words.specs.declared.options.OptionSet.{OptionSet}
 use Rattle.command_words.specs.declared.items.Wanted.TheVariants.{AnOperand}
-use Rattle.command_words.specs.Items.{Item, Operand, Given, is_option, with_item, items_from, items_of_option, name_of, names_at, places, up_to}
+use Rattle.command_words.specs.Items.{Item, Operand, Given, is_option, with_item, items_from, items_of_option, nth_word, words_at, places, up_to}
 use Rattle.command_words.specs.Options.{option_of, kind_of, is_flag}
 use Rattle.command_words.specs.declared.words.Command.{Command}
 use Rattle.command_words.specs.declared.words.Command.TheVariants.{Show, Syms, Run, Sum, Report, Profile, Demo, Annotate, Folded, Help, Version}
 use Rattle.command_words.specs.declared.words.Selection.{Selection}
 use Rattle.prof_machine.specs.declared.setup.Setup.{Setup}
 use Rattle.prof_machine.specs.Setup.{IsSetup}
-use Rattle.command_words.specs.Words.{annotate_from, are_cuts, demo_from, few, folded_from, form_asked, may_count, operands_of, profile_from, report_from, run_from, sum_from, AreCuts, AreRising, IsCommandOf}
+use Rattle.command_words.specs.Words.{annotate_from, are_cuts, demo_from, few, folded_from, form_asked, may_count, operand_places, profile_from, report_from, run_from, sum_from, AreCuts, AreRising, IsCommandOf}
 
 -- they stand from i on, each behind those before it
 pub record IsOrdered (i : ℕ) (ps : List ℕ) : Type 0 where
@@ -103,16 +103,16 @@ rising_drop (suc n) [] rising = tt
 rising_drop (suc n) (p ∷ ps) rising = rising_drop n ps rising.1
 
 -- the operands stand in order
-pub rising_operands : (set : OptionSet) (words : List (List ℕ)) (r : Option (List ℕ)) → r ≡ option_and_then (λ items. up_to 18 (operands_of items)) (items_from set 0 words) → IfSome r AreRising
+pub rising_operands : (set : OptionSet) (words : List (List ℕ)) (r : Option (List ℕ)) → r ≡ option_and_then (λ items. up_to 18 (operand_places items)) (items_from set 0 words) → IfSome r AreRising
 rising_operands set words r e = subst (λ (o : Option (List ℕ)). IfSome o AreRising) (sym e) (by (items_from set 0 words) refl)
   where
     within : (ps : List ℕ) (b : Bool) → AreRising ps → IfSome (cond b None (Some ps)) AreRising
     within ps true rising = tt
     within ps false rising = rising
 
-    by : (o : Option (List Item)) → items_from set 0 words ≡ o → IfSome (option_and_then (λ items. up_to 18 (operands_of items)) o) AreRising
+    by : (o : Option (List Item)) → items_from set 0 words ≡ o → IfSome (option_and_then (λ items. up_to 18 (operand_places items)) o) AreRising
     by None is = tt
-    by (Some items) is = within (operands_of items) (nat_lt 18 (length (operands_of items))) (items_ordered set 0 words items is).rising
+    by (Some items) is = within (operand_places items) (nat_lt 18 (length (operand_places items))) (items_ordered set 0 words items is).rising
 
 few_rising : (files : List ℕ) (P : List ℕ → Type 0) → P files → IfSome (few files) P
 few_rising files P holds = by (nat_lt 0 (length files) && nat_le (length files) 16)
@@ -199,17 +199,17 @@ both_true : (a b : Bool) → (a && b) ≡ true → (a ≡ true) × (b ≡ true)
 both_true true b e = (refl, e)
 both_true false b e = absurd cc
 
-each_cut : (words : List (List ℕ)) (places : List ℕ) (names : List (String Global)) → are_cuts words places ≡ true → map string_bytes names ≡ names_at words places
+each_cut : (words : List (List ℕ)) (places : List ℕ) (names : List (String Global)) → are_cuts words places ≡ true → map string_bytes names ≡ words_at words places
     → AllByRecursion (λ (name : String Global). is_cut_word (string_bytes name) ≡ true) names
 each_cut words [] [] all same = tt
 each_cut words (place ∷ places) [] all same = tt
 each_cut words [] (name ∷ names) all same = absurd cc
 each_cut words (place ∷ places) (name ∷ names) all same =
-    let first : string_bytes name ≡ name_of words place = cc in
-    let others : map string_bytes names ≡ names_at words places = cc in
-    let both = both_true (is_cut_word (name_of words place)) (are_cuts words places) all in
+    let first : string_bytes name ≡ nth_word words place = cc in
+    let others : map string_bytes names ≡ words_at words places = cc in
+    let both = both_true (is_cut_word (nth_word words place)) (are_cuts words places) all in
     (ap is_cut_word first ∙ both.0, each_cut words places names both.1 others)
 
 -- the words at these positions are words FROM/TO
-pub cut_words : (words : List (List ℕ)) (places : List ℕ) (names : List (String Global)) → are_cuts words places ≡ true → map string_bytes names ≡ names_at words places → All (λ name. is_cut_word (string_bytes name) ≡ true) names
+pub cut_words : (words : List (List ℕ)) (places : List ℕ) (names : List (String Global)) → are_cuts words places ≡ true → map string_bytes names ≡ words_at words places → All (λ name. is_cut_word (string_bytes name) ≡ true) names
 cut_words words places names all same = All-from_recursion (λ (name : String Global). is_cut_word (string_bytes name) ≡ true) names (each_cut words places names all same)

@@ -62,12 +62,12 @@ abbrev pub place_given : Key → List Item → Option (Option ℕ)
 place_given key items = first_within (most_times key) (places (AnOption key) items)
 
 -- the word at a position
-abbrev pub name_of : List (List ℕ) → ℕ → List ℕ
-name_of words i = get_or words i []
+abbrev pub nth_word : List (List ℕ) → ℕ → List ℕ
+nth_word words i = get_or words i []
 
 -- the words at some positions
-abbrev pub names_at : List (List ℕ) → List ℕ → List (List ℕ)
-names_at words places = map (name_of words) places
+abbrev pub words_at : List (List ℕ) → List ℕ → List (List ℕ)
+words_at words places = map (nth_word words) places
 
 -- at most so many
 abbrev pub up_to : ℕ → List ℕ → Option (List ℕ)
@@ -80,12 +80,12 @@ places_given key items = up_to (most_times key) (places (AnOption key) items)
 -- the number that the word at a position writes for an option of a kind
 abbrev pub number_at : List (List ℕ) → Kind → Option ℕ → Option (Option ℕ)
 number_at words kind None = Some None
-number_at words kind (Some place) = option_map Some (number_of_kind kind (name_of words place))
+number_at words kind (Some place) = option_map Some (number_of_kind kind (nth_word words place))
 
 -- the number that is given to an option, if one is
 abbrev pub number_given : List (List ℕ) → Key → List Item → Option (Option ℕ)
 number_given words key items = option_and_then (number_at words (kind_of key)) (place_given key items)
 
 -- the same with a default
-abbrev pub setting : List (List ℕ) → Key → ℕ → List Item → Option ℕ
-setting words key default items = option_map (λ n. unwrap_or n default) (number_given words key items)
+abbrev pub value_given : List (List ℕ) → Key → ℕ → List Item → Option ℕ
+value_given words key default items = option_map (λ n. unwrap_or n default) (number_given words key items)

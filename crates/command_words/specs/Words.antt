@@ -19,11 +19,11 @@ use Rattle.command_words.specs.declared.words.Selection.{Selection}
 use Rattle.command_words.specs.declared.words.Shown.{Shown}
 use Rattle.command_words.specs.declared.words.Shown.TheVariants as shows
 use Rattle.command_words.specs.Numbers.{number_within}
-use Rattle.command_words.specs.Items.{Item, items_from, name_of, places, place_given, places_given, number_given, setting}
+use Rattle.command_words.specs.Items.{Item, items_from, nth_word, places, place_given, places_given, number_given, value_given}
 
 -- the positions of the operands: the command's own word, and what it is to work on
-abbrev pub operands_of : List Item → List ℕ
-operands_of items = places AnOperand items
+abbrev pub operand_places : List Item → List ℕ
+operand_places items = places AnOperand items
 
 -- whether an option is given
 abbrev pub is_given : Key → List Item → Option Bool
@@ -37,7 +37,7 @@ file_from (Some (command ∷ file ∷ [])) = Some file
 file_from operands = None
 
 abbrev pub file_of : List Item → Option ℕ
-file_of items = file_from (Some (operands_of items))
+file_of items = file_from (Some (operand_places items))
 
 -- the one file that the words name behind the command
 abbrev pub file_reading : List (List ℕ) → Option ℕ
@@ -56,8 +56,8 @@ plan_from (Some (Some quantum)) (Some None) = Some (RoundRobin quantum)
 plan_from (Some None) (Some (Some seed)) = Some (Seeded seed)
 plan_from quantum seed = None
 
-abbrev pub plan_of : List (List ℕ) → List Item → Option Plan
-plan_of words items = plan_from (number_given words keys.Quantum items) (number_given words keys.Seed items)
+abbrev pub plan_given : List (List ℕ) → List Item → Option Plan
+plan_given words items = plan_from (number_given words keys.Quantum items) (number_given words keys.Seed items)
 
 -- the machine and its clock
 abbrev pub setup_from : Option ℕ → Option ℕ → Option ℕ → Option ℕ → Option ℕ → Option Plan → Option ℕ → Option ℕ → Option Bool → Option Setup
@@ -68,9 +68,9 @@ setup_from every budget rate ram harts plan hist hash blocks = None
 -- what the options say of a run, with their defaults
 abbrev pub setup_of : List (List ℕ) → List Item → Option Setup
 setup_of words items =
-    setup_from (setting words keys.Every 1000 items) (setting words keys.Budget 100000000 items) (setting words keys.Rate 100 items)
-    (setting words keys.Ram 64 items) (setting words keys.Harts 1 items) (plan_of words items)
-    (setting words keys.Hist 2 items) (setting words keys.Hash 2 items) (is_given keys.Blocks items)
+    setup_from (value_given words keys.Every 1000 items) (value_given words keys.Budget 100000000 items) (value_given words keys.Rate 100 items)
+    (value_given words keys.Ram 64 items) (value_given words keys.Harts 1 items) (plan_given words items)
+    (value_given words keys.Hist 2 items) (value_given words keys.Hash 2 items) (is_given keys.Blocks items)
 
 -- the form in which a profile is written, by whether the GNU form is asked for
 abbrev pub form_asked : Bool → Form
@@ -89,7 +89,7 @@ run_from (Some (command ∷ elf ∷ gmon ∷ [])) (Some gnu) (Some image) (Some 
 run_from operands gnu image setup = None
 
 abbrev pub run_of : List (List ℕ) → List Item → Option Command
-run_of words items = run_from (Some (operands_of items)) (is_given keys.Gnu items) (place_given keys.Image items) (setup_of words items)
+run_of words items = run_from (Some (operand_places items)) (is_given keys.Gnu items) (place_given keys.Image items) (setup_of words items)
 
 abbrev pub run_reading : List (List ℕ) → Option Command
 run_reading words = option_and_then (run_of words) (items_from RunOptions 0 words)
@@ -101,11 +101,11 @@ abbrev pub sum_from : Option (List ℕ) → Option Command
 sum_from (Some (command ∷ out ∷ gmons)) = option_map (Sum out) (few gmons)
 sum_from operands = None
 
-abbrev pub sum_of : List Item → Option Command
-sum_of items = sum_from (Some (operands_of items))
+abbrev pub sum_command : List Item → Option Command
+sum_command items = sum_from (Some (operand_places items))
 
 abbrev pub sum_reading : List (List ℕ) → Option Command
-sum_reading words = option_and_then sum_of (items_from NoOptions 0 words)
+sum_reading words = option_and_then sum_command (items_from NoOptions 0 words)
 
 -- the reports that are printed, by whether each is asked for: both where none is
 abbrev pub shown_asked : Bool → Bool → Shown
@@ -115,7 +115,7 @@ shown_asked flat graph = shows.Both
 
 -- words FROM/TO by their positions
 abbrev pub are_cuts : List (List ℕ) → List ℕ → Bool
-are_cuts words cuts = list_all (λ place. is_cut_word (name_of words place)) cuts
+are_cuts words cuts = list_all (λ place. is_cut_word (nth_word words place)) cuts
 
 -- which reports are printed, and what they leave out
 abbrev pub selection_from : List (List ℕ) → Option Bool → Option Bool → Option Bool → Option (List ℕ) → Option (List ℕ) → Option Selection
@@ -133,7 +133,7 @@ report_from (Some (command ∷ elf ∷ gmons)) (Some selection) = option_map (λ
 report_from operands selection = None
 
 abbrev pub report_of : List (List ℕ) → List Item → Option Command
-report_of words items = report_from (Some (operands_of items)) (selection_of words items)
+report_of words items = report_from (Some (operand_places items)) (selection_of words items)
 
 abbrev pub report_reading : List (List ℕ) → Option Command
 report_reading words = option_and_then (report_of words) (items_from ReportOptions 0 words)
@@ -144,7 +144,7 @@ annotate_from (Some (command ∷ elf ∷ gmons)) = option_map (Annotate elf) (fe
 annotate_from operands = None
 
 abbrev pub annotate_of : List Item → Option Command
-annotate_of items = annotate_from (Some (operands_of items))
+annotate_of items = annotate_from (Some (operand_places items))
 
 abbrev pub annotate_reading : List (List ℕ) → Option Command
 annotate_reading words = option_and_then annotate_of (items_from NoOptions 0 words)
@@ -168,18 +168,18 @@ folded_from (Some (command ∷ elf ∷ [])) (Some inclusive) (Some setup) = Some
 folded_from operands inclusive setup = None
 
 abbrev pub folded_said : List (List ℕ) → List Item → Option Command
-folded_said words items = folded_from (Some (operands_of items)) (is_given keys.Inclusive items) (setup_of words items)
+folded_said words items = folded_from (Some (operand_places items)) (is_given keys.Inclusive items) (setup_of words items)
 
 abbrev pub folded_reading : List (List ℕ) → Option Command
 folded_reading words = option_and_then (folded_said words) (items_from FoldedOptions 0 words)
 
 -- a demo has a number of functions alone, and perhaps a file for its program
 abbrev pub functions_from : List (List ℕ) → Option (List ℕ) → Option ℕ
-functions_from words (Some (command ∷ place ∷ [])) = number_within 1 2000 (name_of words place)
+functions_from words (Some (command ∷ place ∷ [])) = number_within 1 2000 (nth_word words place)
 functions_from words operands = None
 
 abbrev pub functions_of : List (List ℕ) → List Item → Option ℕ
-functions_of words items = functions_from words (Some (operands_of items))
+functions_of words items = functions_from words (Some (operand_places items))
 
 abbrev pub demo_from : Option ℕ → Option (Option ℕ) → Option Setup → Option Command
 demo_from (Some functions) (Some elf) (Some setup) = Some (Demo functions elf setup)
@@ -192,9 +192,9 @@ abbrev pub demo_reading : List (List ℕ) → Option Command
 demo_reading words = option_and_then (demo_said words) (items_from DemoOptions 0 words)
 
 -- a command that is the only word
-abbrev pub alone : Command → List (List ℕ) → Option Command
-alone command (name ∷ []) = Some command
-alone command words = None
+abbrev pub command_alone : Command → List (List ℕ) → Option Command
+command_alone command (name ∷ []) = Some command
+command_alone command words = None
 
 -- The command that the words say, if they have a reading: by the first word.
 abbrev pub command_of : List (List ℕ) → Option Command
@@ -209,8 +209,8 @@ command_of (name ∷ words) =
     if bytes_eq name (codes "demo") then demo_reading (name ∷ words) else (
     if bytes_eq name (codes "annotate") then annotate_reading (name ∷ words) else (
     if bytes_eq name (codes "folded") then folded_reading (name ∷ words) else (
-    if bytes_eq name (codes "--help") then alone Help (name ∷ words) else (
-    if bytes_eq name (codes "--version") then alone Version (name ∷ words) else None))))))))))
+    if bytes_eq name (codes "--help") then command_alone Help (name ∷ words) else (
+    if bytes_eq name (codes "--version") then command_alone Version (name ∷ words) else None))))))))))
 
 -- ---- what holds of each command that words say
 

@@ -3,7 +3,7 @@
 ghost use Rattle.std.specs.Prelude.{◌≡◌, ◌+◌, ◌<◌, ◌≤◌, ◌^◌, drop, length, map, string_bytes, IfSome};
 ghost use Rattle.std.specs.Option.{option_map, option_and_then};
 ghost use Rattle.std.specs.List.{cons_option};
-ghost use Rattle.command_words.specs.Items.{Operand, Given, place_of, is_option, items_from, places, nth, place_given, places_given, up_to, number_given, setting, is_key};
+ghost use Rattle.command_words.specs.Items.{Operand, Given, place_of, is_option, items_from, places, nth, place_given, places_given, up_to, number_given, value_given, is_key};
 ghost use Rattle.command_words.specs.Options.{kind_of as kind_in, IsNumberOf};
 
 use crate::names::name_at;
@@ -179,7 +179,7 @@ pub fn number_given(set: OptionSet, words: &[String], key: Key) -> Option<Option
 pub fn setting(set: OptionSet, words: &[String], key: Key, default: u32) -> Option<u32>
     requires few { length words.now ≤ 200 }
     requires within { IsNumberOf (kind_in key) default }
-    ensures reads { result ≡ option_and_then (setting (map string_bytes words.now) key default) (items_from set 0 (map string_bytes words.now)) }
+    ensures reads { result ≡ option_and_then (value_given (map string_bytes words.now) key default) (items_from set 0 (map string_bytes words.now)) }
     ensures within { IfSome result (λ n. IsNumberOf (kind_in key) n) }
 {
     match number_given(set, words, key)? {

@@ -5,7 +5,7 @@ ghost use Rattle.std.specs.Option.{option_and_then};
 ghost use Rattle.prof_machine.specs.Setup.{IsSetup, plan_number};
 ghost use Rattle.command_words.specs.Items.{items_from, up_to};
 ghost use Rattle.command_words.specs.Options.{kind_of, IsNumberOf};
-ghost use Rattle.command_words.specs.Words.{alone, annotate_from, annotate_reading, are_cuts, command_of, demo_from, demo_reading, few, file_from, file_reading, folded_from, folded_reading, form_asked, functions_from, functions_of, is_given, may_count, operands_of, plan_from, plan_of, profile_from, profile_reading, report_from, report_reading, run_from, run_of, selection_from, selection_of, setup_from, setup_of, shown_asked, sum_from, sum_reading, AreCuts, AreRising, IsCommandOf};
+ghost use Rattle.command_words.specs.Words.{command_alone, annotate_from, annotate_reading, are_cuts, command_of, demo_from, demo_reading, few, file_from, file_reading, folded_from, folded_reading, form_asked, functions_from, functions_of, is_given, may_count, operand_places, plan_from, plan_given, profile_from, profile_reading, report_from, report_reading, run_from, run_of, selection_from, selection_of, setup_from, setup_of, shown_asked, sum_from, sum_reading, AreCuts, AreRising, IsCommandOf};
 
 use crate::items::{Wanted, number_given, place_given, places_from, places_given, setting};
 use crate::names::name_at;
@@ -172,7 +172,7 @@ fn command_named(words: &[String]) -> Option<Command>
 
 /// A command that is the only word.
 fn alone(command: Command, words: &[String]) -> Option<Command>
-    ensures { result ≡ alone command (map string_bytes words.now) }
+    ensures { result ≡ command_alone command (map string_bytes words.now) }
 {
     match words {
         [_] => Some(command),
@@ -184,7 +184,7 @@ fn alone(command: Command, words: &[String]) -> Option<Command>
 /// for.
 fn operands(set: OptionSet, words: &[String]) -> Option<Places>
     requires { length words.now ≤ 200 }
-    ensures reading { result ≡ option_and_then (λ items. up_to 18 (operands_of items)) (items_from set 0 (map string_bytes words.now)) }
+    ensures reading { result ≡ option_and_then (λ items. up_to 18 (operand_places items)) (items_from set 0 (map string_bytes words.now)) }
     ensures rising { IfSome result AreRising }
 {
     places_from(set, words, Wanted::AnOperand, 0, MAX_PLACES as u32)
@@ -617,7 +617,7 @@ fn setup_from(
 /// The schedule that the options say.
 fn read_plan(set: OptionSet, words: &[String]) -> Option<Plan>
     requires { length words.now ≤ 200 }
-    ensures reading { result ≡ option_and_then (plan_of (map string_bytes words.now)) (items_from set 0 (map string_bytes words.now)) }
+    ensures reading { result ≡ option_and_then (plan_given (map string_bytes words.now)) (items_from set 0 (map string_bytes words.now)) }
     ensures within { IfSome result (λ p. 1 ≤ plan_number p) }
 {
     plan_from(

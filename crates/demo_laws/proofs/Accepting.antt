@@ -4,7 +4,7 @@ use Rattle.std.specs.List.{flat_map, filter, range_with_len}
 use Rattle.elf32_syms.specs.Header.{has_magic, header_of}
 use Rattle.elf32_syms.specs.Segments.{segments_of}
 use Rattle.elf32_syms.specs.Sections.{sections_of, table_of, strings_of}
-use Rattle.elf32_syms.specs.Symbols.{entry_at, fits, fitting, candidates, kept}
+use Rattle.elf32_syms.specs.Symbols.{entry_at, is_candidate, fitting_entries, candidates, kept_entries}
 use Rattle.elf32_syms.specs.Refusals.{header_refusal, segments_refusal, text_refusal, table_refusal, names_refusal, symbols_refusal, elf_refusal}
 use Rattle.elf32_syms.proofs.RefusalLemmas.{all_accepted, symbols_judged, few}
 use Rattle.demo_elf.specs.Elf.{strings_at, names_at, program_header, symbols_text, strings_text, string_text, elf_file}
@@ -91,15 +91,15 @@ module _ (words : List ℕ) (symbols : List (List ℕ × ℕ)) (program : IsProg
   unfolding symbols_text
   entries_are = entries_read (replicate 16 0) 1 1 0 (4 * length words) symbols refl (strings_end_fits symbols program.strings) (omega (arith, program.text)) program.order
 
-  first_fits_not : fits sections_in (entry_at (symbols_text symbols) 0) ≡ false
-  unfolding fits entry_at
+  first_fits_not : is_candidate sections_in (entry_at (symbols_text symbols) 0) ≡ false
+  unfolding is_candidate entry_at
   first_fits_not = refl
 
-  pub fitting_are : fitting sections_in (symbols_text symbols) ≡ entries_in
-  unfolding fitting
+  pub fitting_are : fitting_entries sections_in (symbols_text symbols) ≡ entries_in
+  unfolding fitting_entries
   fitting_are =
       let count : length (symbols_text symbols) / 16 ≡ suc (length symbols) = omega (arith, symbols_long symbols) in
-      rw count (rw first_fits_not (ap (filter (fits sections_in)) entries_are ∙ all_fit (length words) (length symbols) (length (strings_text symbols)) program.some 1 1 0 symbols (omega arith) program.order))
+      rw count (rw first_fits_not (ap (filter (is_candidate sections_in)) entries_are ∙ all_fit (length words) (length symbols) (length (strings_text symbols)) program.some 1 1 0 symbols (omega arith) program.order))
 
   pub names_pass : names_refusal (strings_text symbols) entries_in ≡ None
   unfolding names_refusal strings_text
@@ -109,7 +109,7 @@ module _ (words : List ℕ) (symbols : List (List ℕ × ℕ)) (program : IsProg
   unfolding strings_text
   candidates_are = names_some (0 ∷ []) 1 1 symbols refl program.named
 
-  pub kept_are : kept sections_in (strings_text symbols) entries_in ≡ entries_in
+  pub kept_are : kept_entries sections_in (strings_text symbols) entries_in ≡ entries_in
   kept_are =
       let low = low_read (length words) (length symbols) (length (strings_text symbols)) program.some in
       let high = high_read (length words) (length symbols) (length (strings_text symbols)) program.some in

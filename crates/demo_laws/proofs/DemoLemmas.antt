@@ -11,7 +11,7 @@ use Rattle.elf32_syms.specs.Names.{is_zero}
 use Rattle.elf32_syms.specs.declared.image.Image.{Image}
 use Rattle.elf32_syms.specs.Image.{image_of}
 use Rattle.prof_machine.specs.declared.setup.Setup.{Setup}
-use Rattle.prof_machine.specs.Start.{start_refusal, base_of, program_end_of, is_too_small, is_outside, stacks_bytes, size_of}
+use Rattle.prof_machine.specs.Start.{start_refusal, base_of, program_end_of, is_too_small, is_entry_outside, stacks_bytes, memory_size}
 use Rattle.demo_elf.specs.Code.{function_at, start_words, mcount_words, function_words, demo_words, function_symbol, demo_symbols}
 use Rattle.demo_elf.specs.Elf.{string_text, strings_text, demo_program}
 use Rattle.demo_laws.specs.Programs.{IsName, IsNamed, IsProgram, AreInOrder, symbols_in_row, hook_in, program_image}
@@ -153,8 +153,8 @@ demo_symbols_read n h = ap (λ (image : Image). length image.symbols) (demo_imag
 image_starts : (n : ℕ) (setup : Setup) → n ≤ 2000 → 4 ≤ setup.ram_mib → setup.ram_mib ≤ 256 → start_refusal (demo_image n) setup ≡ None
 unfolding start_refusal base_of program_end_of demo_image
 image_starts n setup h least most =
-    let room : is_too_small (0x10000 + text_bytes n + stacks_bytes) (0x10000 + size_of setup) ≡ false = grind (arith, nat_tests) in
-    let inside : is_outside 0x10000 (0x10000 + size_of setup) 0x10000 ≡ false = grind (arith, nat_tests) in
+    let room : is_too_small (0x10000 + text_bytes n + stacks_bytes) (0x10000 + memory_size setup) ≡ false = grind (arith, nat_tests) in
+    let inside : is_entry_outside 0x10000 (0x10000 + memory_size setup) 0x10000 ≡ false = grind (arith, nat_tests) in
     let end : max (0x10000 + text_bytes n) 0 ≡ 0x10000 + text_bytes n = omega arith in
     rw (end, room, inside) refl
 

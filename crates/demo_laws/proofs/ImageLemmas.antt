@@ -4,11 +4,11 @@ use Rattle.std.specs.List.{AllByRecursion, find, flat_map}
 use Rattle.std.specs.Str.{bytes_eq}
 use Rattle.elf32_syms.specs.Header.{header_of}
 use Rattle.elf32_syms.specs.Sections.{text_high}
-use Rattle.elf32_syms.specs.Symbols.{symbol_name, fitting, candidates, kept, hook_of}
+use Rattle.elf32_syms.specs.Symbols.{symbol_name, fitting_entries, candidates, kept_entries, hook_of}
 use Rattle.elf32_syms.specs.Image.{in_a_row, end_before as end_in_row, image_of}
 use Rattle.elf32_syms.proofs.RefusalLemmas.{image_is}
 use Rattle.demo_elf.specs.Elf.{string_text, strings_text, symbols_text, elf_file}
-use Rattle.demo_laws.specs.Programs.{IsNamed, IsProgram, end_before, symbols_in_row, hook_in, program_image}
+use Rattle.demo_laws.specs.Programs.{IsNamed, IsProgram, next_address, symbols_in_row, hook_in, program_image}
 use Rattle.demo_laws.proofs.Reading.{Entry}
 use Rattle.demo_laws.proofs.HeaderLemmas.{header_to, segment_long}
 use Rattle.demo_laws.proofs.SectionLemmas.{low_read, high_read}
@@ -16,7 +16,7 @@ use Rattle.demo_laws.proofs.SymbolLemmas.{entry_of, entries_from}
 use Rattle.demo_laws.proofs.NameLemmas.{name_read, regroup, longer}
 use Rattle.demo_laws.proofs.Accepting.{sections_in, entries_in, header_in, segments_in, sections_are, table_is, strings_are, fitting_are, candidates_are, kept_are}
 
-end_read : (high number at : ℕ) (symbols : List (List ℕ × ℕ)) → end_in_row high (entries_from number at symbols) ≡ end_before high symbols
+end_read : (high number at : ℕ) (symbols : List (List ℕ × ℕ)) → end_in_row high (entries_from number at symbols) ≡ next_address high symbols
 unfolding entry_of
 end_read high number at [] = refl
 end_read high number at (s ∷ symbols) = refl
@@ -57,10 +57,10 @@ hook_read front name number at (s ∷ symbols) long named =
     by false rest = rest
 
 module _ (words : List ℕ) (symbols : List (List ℕ × ℕ)) (program : IsProgram words symbols) where
-  candidates_in : candidates (strings_text symbols) (fitting (sections_in words symbols program) (symbols_text symbols)) ≡ entries_in words symbols program
+  candidates_in : candidates (strings_text symbols) (fitting_entries (sections_in words symbols program) (symbols_text symbols)) ≡ entries_in words symbols program
   candidates_in = rw (fitting_are words symbols program) (candidates_are words symbols program)
 
-  symbols_in : symbols_in_row (0x10000 + 4 * length words) symbols ≡ in_a_row (strings_text symbols) (text_high (sections_in words symbols program)) (kept (sections_in words symbols program) (strings_text symbols) (entries_in words symbols program))
+  symbols_in : symbols_in_row (0x10000 + 4 * length words) symbols ≡ in_a_row (strings_text symbols) (text_high (sections_in words symbols program)) (kept_entries (sections_in words symbols program) (strings_text symbols) (entries_in words symbols program))
   unfolding strings_text
   symbols_in =
       rw (kept_are words symbols program, high_read (length words) (length symbols) (length (strings_text symbols)) program.some)

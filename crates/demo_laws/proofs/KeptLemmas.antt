@@ -5,7 +5,7 @@ use Rattle.std.specs.List.{filter, filter_map, range_with_len}
 use Rattle.std.proofs.lemmas.Bool.{cases_lt}
 use Rattle.std.proofs.lemmas.Bool.Decides.{nat_tests}
 use Rattle.elf32_syms.specs.Sections.{text_low, text_high}
-use Rattle.elf32_syms.specs.Symbols.{kept_at, kept}
+use Rattle.elf32_syms.specs.Symbols.{kept_at, kept_entries}
 use Rattle.demo_laws.proofs.Reading.{Section, Entry}
 
 -- addresses ascend, and lie between two numbers
@@ -68,8 +68,8 @@ module _ (strings : List ℕ) where
           let others : Ascend (low + 1) (low + 1 + n) cs = subst (λ (to : ℕ). Ascend (low + 1) to cs) end (subst (λ (a : ℕ). Ascend (a + 1) (low + suc n) cs) at order.2) in
           rw some (ap (λ (es : List Entry). c ∷ es) (rest others (λ addr le. same addr (omega arith) ∙ later_kept addr c cs (omega arith))))
 
-pub all_kept : (sections : List Section) (strings : List ℕ) (cs : List Entry) → text_low sections ≤ text_high sections → Ascend (text_low sections) (text_high sections) cs → kept sections strings cs ≡ cs
-unfolding kept
+pub all_kept : (sections : List Section) (strings : List ℕ) (cs : List Entry) → text_low sections ≤ text_high sections → Ascend (text_low sections) (text_high sections) cs → kept_entries sections strings cs ≡ cs
+unfolding kept_entries
 all_kept sections strings cs h order =
     let end : text_high sections ≡ text_low sections + (text_high sections - text_low sections) = omega arith in
     along strings (kept_at strings cs) (text_high sections - text_low sections) (text_low sections) cs (subst (λ (to : ℕ). Ascend (text_low sections) to cs) end order) (λ addr le. refl)

@@ -4,7 +4,7 @@ use Rattle.std.specs.List.{filter, flat_map, range_with_len}
 use Rattle.std.proofs.lemmas.Bool.Decides.{nat_tests}
 use Rattle.std.proofs.lemmas.List.{drop_at, get_or-drop}
 use Rattle.gp_base.specs.Bytes.{word_at, half_at}
-use Rattle.elf32_syms.specs.Symbols.{entry_at, fits}
+use Rattle.elf32_syms.specs.Symbols.{entry_at, is_candidate}
 use Rattle.demo_elf.specs.Elf.{words_text, symbol_text, symbols_from, string_text}
 use Rattle.demo_laws.specs.Programs.{AreInOrder}
 use Rattle.demo_laws.proofs.Reading.{word_back, word_behind, half_behind, Entry}
@@ -84,8 +84,8 @@ entries_read front number at low high (s ∷ symbols) long named inside order =
 -- ---- they fit
 
 module _ (text symbols strings : ℕ) (some : 0 < text) where
-  symbol_fits : (number name offset : ℕ) → 0 < number → offset < 4 * text → fits (sections_to text symbols strings) (entry_of number name offset) ≡ true
-  unfolding fits entry_of sections_to text_section
+  symbol_fits : (number name offset : ℕ) → 0 < number → offset < 4 * text → is_candidate (sections_to text symbols strings) (entry_of number name offset) ≡ true
+  unfolding is_candidate entry_of sections_to text_section
   symbol_fits number name offset positive inside =
       let p : nat_lt 0 number ≡ true = grind (arith, nat_tests) in
       let low : nat_le 0x10000 (0x10000 + offset) ≡ true = grind (arith, nat_tests) in
@@ -93,7 +93,7 @@ module _ (text symbols strings : ℕ) (some : 0 < text) where
       rw (p, text_executable text some, low, high) refl
 
   pub all_fit : (number at low : ℕ) (named : List (List ℕ × ℕ)) → 0 < number → AreInOrder low (4 * text) named
-      → filter (fits (sections_to text symbols strings)) (entries_from number at named) ≡ entries_from number at named
+      → filter (is_candidate (sections_to text symbols strings)) (entries_from number at named) ≡ entries_from number at named
   all_fit number at low [] positive order = refl
   all_fit number at low (s ∷ named) positive order =
       rw (symbol_fits number at s.1 positive order.1)

@@ -36,14 +36,14 @@ pub record IsProgram (words : List ℕ) (symbols : List (List ℕ × ℕ)) : Typ
   pub order : AreInOrder 0 (4 * length words) symbols
 
 -- where a symbol ends that others follow: at the first of these, and the last one at the end of the text
-abbrev pub end_before : ℕ → List (List ℕ × ℕ) → ℕ
-end_before high [] = high
-end_before high (s ∷ more) = 0x10000 + s.1
+abbrev pub next_address : ℕ → List (List ℕ × ℕ) → ℕ
+next_address high [] = high
+next_address high (s ∷ more) = 0x10000 + s.1
 
 -- symbols in a row: each is at its offset of the text, which begins at 0x10000, and reaches to the next one
 abbrev pub symbols_in_row : ℕ → List (List ℕ × ℕ) → List Symbol
 symbols_in_row high [] = []
-symbols_in_row high (s ∷ more) = record { addr = 0x10000 + s.1; end = end_before high more; name = s.0 } ∷ symbols_in_row high more
+symbols_in_row high (s ∷ more) = record { addr = 0x10000 + s.1; end = next_address high more; name = s.0 } ∷ symbols_in_row high more
 
 -- the address of the first symbol with a name
 abbrev pub hook_in : List ℕ → List (List ℕ × ℕ) → Option ℕ

@@ -8,7 +8,7 @@ use Rattle.std.proofs.lemmas.List.{get_or_default}
 use Rattle.std.proofs.lemmas.List.Sorted.{ranks_by}
 use Rattle.std.proofs.lemmas.List.Elements.{All-head, All-tail, All-cons, All-nil}
 use Rattle.elf32_syms.specs.declared.symbols.Entry.{Entry}
-use Rattle.elf32_syms.specs.Symbols.{symbol_name, binding_rank, type_rank, rank_cmp, comes_before, kept_of_two, kept_at}
+use Rattle.elf32_syms.specs.Symbols.{symbol_name, binding_rank, type_rank, rank_cmp, ranks_before, kept_of_two, kept_at}
 use Rattle.elf32_syms.proofs.KeptLemmas.{kept_at_holds}
 
 rank_total : (strings : List ℕ) → IsTotalOrder (rank_cmp strings)
@@ -17,43 +17,43 @@ rank_total strings =
     (then_total (on_total type_rank nat_cmp_total)
     (then_total (on_total (symbol_name strings) nat_list_cmp_total) (on_total (λ (e : Entry). e.number) nat_cmp_total)))
 
-before_order : (strings : List ℕ) → IsStrictWeakOrder (comes_before strings)
-unfolding comes_before
+before_order : (strings : List ℕ) → IsStrictWeakOrder (ranks_before strings)
+unfolding ranks_before
 before_order strings = ranks_by (rank_total strings) (λ (e : Entry). e)
 
 module _ (strings : List ℕ) where
   -- c comes behind none of them
   abbrev IsFirstOf : Entry → List Entry → Type 0
-  IsFirstOf c ds = All (λ d. comes_before strings d c ≡ false) ds
+  IsFirstOf c ds = All (λ d. ranks_before strings d c ≡ false) ds
 
-  not_before_itself : (c : Entry) → comes_before strings c c ≡ false
+  not_before_itself : (c : Entry) → ranks_before strings c c ≡ false
   not_before_itself c =
-      elim (cases_Bool (comes_before strings c c)) [
+      elim (cases_Bool (ranks_before strings c c)) [
         | inl yes_it ↦ (before_order strings).one_way c c yes_it
         | inr not_it ↦ not_it
       ]
 
-  fold_first : (best c : Entry) (ds : List Entry) → fold (kept_of_two strings) (Some best) ds ≡ Some c → (comes_before strings best c ≡ false) × IsFirstOf c ds
-  fold_first best c [] h = let same : best ≡ c = cc in (ap (λ (x : Entry). comes_before strings x c) same ∙ not_before_itself c, All-nil (λ d. comes_before strings d c ≡ false))
-  fold_first best c (d ∷ ds) h = by (λ x. fold_first x c ds) (comes_before strings d best) refl h
+  fold_first : (best c : Entry) (ds : List Entry) → fold (kept_of_two strings) (Some best) ds ≡ Some c → (ranks_before strings best c ≡ false) × IsFirstOf c ds
+  fold_first best c [] h = let same : best ≡ c = cc in (ap (λ (x : Entry). ranks_before strings x c) same ∙ not_before_itself c, All-nil (λ d. ranks_before strings d c ≡ false))
+  fold_first best c (d ∷ ds) h = by (λ x. fold_first x c ds) (ranks_before strings d best) refl h
     where
-      by : ((x : Entry) → fold (kept_of_two strings) (Some x) ds ≡ Some c → (comes_before strings x c ≡ false) × IsFirstOf c ds)
-          → (b : Bool) → comes_before strings d best ≡ b → fold (kept_of_two strings) (if b then Some d else Some best) ds ≡ Some c
-          → (comes_before strings best c ≡ false) × IsFirstOf c (d ∷ ds)
+      by : ((x : Entry) → fold (kept_of_two strings) (Some x) ds ≡ Some c → (ranks_before strings x c ≡ false) × IsFirstOf c ds)
+          → (b : Bool) → ranks_before strings d best ≡ b → fold (kept_of_two strings) (if b then Some d else Some best) ds ≡ Some c
+          → (ranks_before strings best c ≡ false) × IsFirstOf c (d ∷ ds)
       by rest true e g =
           let r = rest d g in
-          ((before_order strings).chain best d c ((before_order strings).one_way d best e) r.0, All-cons (λ x. comes_before strings x c ≡ false) d ds r.0 r.1)
+          ((before_order strings).chain best d c ((before_order strings).one_way d best e) r.0, All-cons (λ x. ranks_before strings x c ≡ false) d ds r.0 r.1)
       by rest false e g =
           let r = rest best g in
-          (r.0, All-cons (λ x. comes_before strings x c ≡ false) d ds ((before_order strings).chain d best c e r.0) r.1)
+          (r.0, All-cons (λ x. ranks_before strings x c ≡ false) d ds ((before_order strings).chain d best c e r.0) r.1)
 
   all_first : (c : Entry) (ds : List Entry) → fold (kept_of_two strings) None ds ≡ Some c → IsFirstOf c ds
   all_first c [] h = cc
-  all_first c (d ∷ ds) h = let r = fold_first d c ds h in All-cons (λ x. comes_before strings x c ≡ false) d ds r.0 r.1
+  all_first c (d ∷ ds) h = let r = fold_first d c ds h in All-cons (λ x. ranks_before strings x c ≡ false) d ds r.0 r.1
 
   some_kept : (best : Entry) (ds : List Entry) → fold (kept_of_two strings) (Some best) ds ≡ None → ⊥
   some_kept best [] h = cc
-  some_kept best (d ∷ ds) h = by (λ x. some_kept x ds) (comes_before strings d best) h
+  some_kept best (d ∷ ds) h = by (λ x. some_kept x ds) (ranks_before strings d best) h
     where
       by : ((x : Entry) → fold (kept_of_two strings) (Some x) ds ≡ None → ⊥) → (b : Bool) → fold (kept_of_two strings) (if b then Some d else Some best) ds ≡ None → ⊥
       by rest true g = rest d g
@@ -73,7 +73,7 @@ of_filter {X} p Q (x ∷ xs) all = by (p x) refl (λ rest. of_filter p Q xs rest
     by false e rest h = All-cons (λ y. p y ≡ true → Q y) x xs (λ passes. absurd (false≢true (sym e ∙ passes))) (rest h)
 
 pub kept_first : (strings : List ℕ) (cs : List Entry) (addr : ℕ) (o : Option Entry) → kept_at strings cs addr ≡ o
-    → MatchOption o (All (λ (d : Entry). d.addr ≡ addr → ⊥) cs) (λ c. Contains cs c × (c.addr ≡ addr) × All (λ (d : Entry). d.addr ≡ addr → comes_before strings d c ≡ false) cs)
+    → MatchOption o (All (λ (d : Entry). d.addr ≡ addr → ⊥) cs) (λ c. Contains cs c × (c.addr ≡ addr) × All (λ (d : Entry). d.addr ≡ addr → ranks_before strings d c ≡ false) cs)
 unfolding kept_at
 kept_first strings cs addr None h =
     let at : Entry → Bool = λ c. nat_eq c.addr addr in
@@ -83,5 +83,5 @@ kept_first strings cs addr None h =
 kept_first strings cs addr (Some c) h =
     let at : Entry → Bool = λ c. nat_eq c.addr addr in
     let one = kept_at_holds strings (Contains cs) cs addr c (λ k d below. (k, below, get_or_default cs k (get_or cs k d) d below)) h in
-    let all = of_filter at (λ d. comes_before strings d c ≡ false) cs (all_first strings c (filter at cs) h) in
+    let all = of_filter at (λ d. ranks_before strings d c ≡ false) cs (all_first strings c (filter at cs) h) in
     (one.0, one.1, λ k d below there. all k d below (eq-eqb (get_or cs k d).addr addr there))

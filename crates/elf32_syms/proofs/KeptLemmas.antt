@@ -21,7 +21,7 @@ use Rattle.std.proofs.lemmas.Option.{none-some}
 use Rattle.elf32_syms.specs.declared.sections.Section.{Section}
 use Rattle.elf32_syms.specs.declared.symbols.Entry.{Entry}
 use Rattle.elf32_syms.specs.Sections.{section_end, is_executable, text_low, text_high}
-use Rattle.elf32_syms.specs.Symbols.{may_be_function, is_in_section, fits, fitting, candidates, has_name, IsInText, comes_before, kept_of_two, kept_at, kept}
+use Rattle.elf32_syms.specs.Symbols.{may_be_function, is_in_section, is_candidate, fitting_entries, candidates, has_name, IsInText, ranks_before, kept_of_two, kept_at, kept_entries}
 use Rattle.elf32_syms.proofs.TextLemmas.{section_in_text}
 
 -- one candidate more
@@ -45,22 +45,22 @@ abbrev pub HasFirst : List ℕ → List Entry → BTreeMap ℕ Entry → Type 0
 HasFirst strings cs m = (addr : ℕ) → get nat_cmp m addr ≡ kept_at strings cs addr
 
 module _ (strings : List ℕ) (cs : List Entry) (c : Entry) (m : BTreeMap ℕ Entry) (so_far : HasFirst strings cs m) where
-  best_stays : (o : Option Entry) → option_map_or (comes_before strings c) o true ≡ false → o ≡ kept_of_two strings o c
+  best_stays : (o : Option Entry) → option_map_or (ranks_before strings c) o true ≡ false → o ≡ kept_of_two strings o c
   best_stays None h = cc
   best_stays (Some best) h = rw h refl
 
-  best_changes : (o : Option Entry) → option_map_or (comes_before strings c) o true ≡ true → Some c ≡ kept_of_two strings o c
+  best_changes : (o : Option Entry) → option_map_or (ranks_before strings c) o true ≡ true → Some c ≡ kept_of_two strings o c
   best_changes None h = refl
   best_changes (Some best) h = rw h refl
 
-  pub first_stays : option_map_or (comes_before strings c) (get nat_cmp m c.addr) true ≡ false → HasFirst strings (cs ++ c ∷ []) m
+  pub first_stays : option_map_or (ranks_before strings c) (get nat_cmp m c.addr) true ≡ false → HasFirst strings (cs ++ c ∷ []) m
   first_stays stays addr = by (nat_eq c.addr addr) refl ∙ ap (λ (o : Option Entry). with_one strings addr o c) (so_far addr) ∙ sym (kept_more strings cs c addr)
     where
       by : (b : Bool) → nat_eq c.addr addr ≡ b → get nat_cmp m addr ≡ cond b (kept_of_two strings (get nat_cmp m addr) c) (get nat_cmp m addr)
-      by true e = best_stays (get nat_cmp m addr) (subst (λ (a : ℕ). option_map_or (comes_before strings c) (get nat_cmp m a) true ≡ false) (eqb-true c.addr addr e) stays)
+      by true e = best_stays (get nat_cmp m addr) (subst (λ (a : ℕ). option_map_or (ranks_before strings c) (get nat_cmp m a) true ≡ false) (eqb-true c.addr addr e) stays)
       by false e = refl
 
-  pub first_changes : (new : BTreeMap ℕ Entry) → option_map_or (comes_before strings c) (get nat_cmp m c.addr) true ≡ true → Updates nat_cmp m new c.addr (Some c) → HasFirst strings (cs ++ c ∷ []) new
+  pub first_changes : (new : BTreeMap ℕ Entry) → option_map_or (ranks_before strings c) (get nat_cmp m c.addr) true ≡ true → Updates nat_cmp m new c.addr (Some c) → HasFirst strings (cs ++ c ∷ []) new
   first_changes new changes is_new addr = by (nat_eq c.addr addr) refl ∙ ap (λ (o : Option Entry). with_one strings addr o c) (so_far addr) ∙ sym (kept_more strings cs c addr)
     where
       not_at : (k q : ℕ) → nat_eq k q ≡ false → is_at (nat_cmp k) q ≡ false
@@ -78,7 +78,7 @@ first_none strings m empty addr = rw empty refl
 module _ (strings : List ℕ) (P : Entry → Type 0) where
   first_holds : (best : Option Entry) (c : Entry) → IfSome best P → P c → IfSome (kept_of_two strings best c) P
   first_holds None c h p = p
-  first_holds (Some best) c h p = by (comes_before strings c best)
+  first_holds (Some best) c h p = by (ranks_before strings c best)
     where
       by : (b : Bool) → IfSome (if b then Some c else Some best) P
       by true = p
@@ -170,8 +170,8 @@ module _ {X : Type 0} where
 
 -- so the map's values are the kept symbols
 pub values_kept : (sections : List Section) (strings : List ℕ) (cs : List Entry) (m : BTreeMap ℕ Entry)
-    → IsOrdered nat_cmp m → HasFirst strings cs m → All (IsInText sections) cs → values m ≡ kept sections strings cs
-unfolding kept
+    → IsOrdered nat_cmp m → HasFirst strings cs m → All (IsInText sections) cs → values m ≡ kept_entries sections strings cs
+unfolding kept_entries
 values_kept sections strings cs m ordered firsts all =
     sym (range_values (high - low) (kept_at strings cs) m.entries low ordered (λ addr _. sym (firsts addr)) inside)
   where
@@ -198,8 +198,8 @@ length_filter_map {X} f (n ∷ ns) = by (f n) (length_filter_map f ns)
     by None h = omega arith
     by (Some x) h = omega arith
 
-pub length_kept : (sections : List Section) (strings : List ℕ) (cs : List Entry) → length (kept sections strings cs) ≤ text_high sections - text_low sections
-unfolding kept
+pub length_kept : (sections : List Section) (strings : List ℕ) (cs : List Entry) → length (kept_entries sections strings cs) ≤ text_high sections - text_low sections
+unfolding kept_entries
 length_kept sections strings cs =
     let h = length_filter_map (kept_at strings cs) (range_with_len (text_low sections) (text_high sections - text_low sections)) in
     omega (arith, length-range_with_len (text_low sections) (text_high sections - text_low sections))
@@ -209,8 +209,8 @@ both : (a b : Bool) → (a && b) ≡ true → (a ≡ true) × (b ≡ true)
 both true b h = (refl, h)
 both false b h = absurd (false≢true h)
 
-fits_in_text : (sections : List Section) (e : Entry) → fits sections e ≡ true → IsInText sections e
-unfolding fits
+fits_in_text : (sections : List Section) (e : Entry) → is_candidate sections e ≡ true → IsInText sections e
+unfolding is_candidate
 fits_in_text sections e fit =
     by (slice_get sections e.section) refl (both (nat_lt 0 e.number && may_be_function e) (option_map_or (is_in_section e) (slice_get sections e.section) false) fit).1
   where
@@ -226,7 +226,7 @@ fits_in_text sections e fit =
         let to = last.1 in
         (grind (arith, nat_tests), grind (arith, nat_tests))
 
-pub candidates_in_text : (sections : List Section) (table strings : List ℕ) → All (IsInText sections) (candidates strings (fitting sections table))
-unfolding fitting
+pub candidates_in_text : (sections : List Section) (table strings : List ℕ) → All (IsInText sections) (candidates strings (fitting_entries sections table))
+unfolding fitting_entries
 candidates_in_text sections table strings k d below =
-    fits_in_text sections _ (All-filter (has_name strings) (λ e. fits sections e ≡ true) _ (filter_passes (fits sections) _) k d below)
+    fits_in_text sections _ (All-filter (has_name strings) (λ e. is_candidate sections e ≡ true) _ (filter_passes (is_candidate sections) _) k d below)

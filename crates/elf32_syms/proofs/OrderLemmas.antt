@@ -12,7 +12,7 @@ use Rattle.elf32_syms.specs.declared.sections.Section.{Section}
 use Rattle.elf32_syms.specs.declared.symbols.Entry.{Entry}
 use Rattle.elf32_syms.specs.Sections.{text_low, text_high}
 use Rattle.elf32_syms.specs.Segments.{segments_of, is_cut_off}
-use Rattle.elf32_syms.specs.Symbols.{kept_at, kept}
+use Rattle.elf32_syms.specs.Symbols.{kept_at, kept_entries}
 use Rattle.elf32_syms.specs.Refusals.{segments_refusal, text_refusal}
 use Rattle.elf32_syms.specs.Owners.{IsAscending}
 use Rattle.elf32_syms.specs.Image.{end_before, in_a_row, IsWithinLimits}
@@ -72,19 +72,19 @@ module _ (strings : List ℕ) (high : ℕ) where
           let from = end.0 in
           (omega arith, omega arith, end.1)
 
-row_ascending : (sections : List Section) (strings : List ℕ) (cs : List Entry) → text_low sections < text_high sections → IsAscending (in_a_row strings (text_high sections) (kept sections strings cs))
-unfolding kept
+row_ascending : (sections : List Section) (strings : List ℕ) (cs : List Entry) → text_low sections < text_high sections → IsAscending (in_a_row strings (text_high sections) (kept_entries sections strings cs))
+unfolding kept_entries
 row_ascending sections strings cs some =
     let low = text_low sections in
     let high = text_high sections in
     let there : (a : ℕ) (c : Entry) → kept_at strings cs a ≡ Some c → c.addr ≡ a = λ a c e. (kept_at_holds strings (λ _. Unit {0}) cs a c (λ k d below. tt) e).1 in
     let order = rows_in_order strings high (kept_at strings cs) there (high - low) low (omega arith) in
-    let ss = in_a_row strings high (kept sections strings cs) in
+    let ss = in_a_row strings high (kept_entries sections strings cs) in
     record { each = each_in_order low high ss order; apart = apart_in_order low high ss order }
 
 pub within_limits : (bs : List ℕ) (sections : List Section) (strings : List ℕ) (cs : List Entry) (image : Image) → segments_refusal bs ≡ None → text_refusal sections ≡ None
     → image.segments ≡ segments_of bs → image.text.low ≡ text_low sections → image.text.high ≡ text_high sections
-    → image.symbols ≡ in_a_row strings (text_high sections) (kept sections strings cs) → IsWithinLimits (length bs) image
+    → image.symbols ≡ in_a_row strings (text_high sections) (kept_entries sections strings cs) → IsWithinLimits (length bs) image
 within_limits bs sections strings cs image segments text s l h f =
     let limits = text_limits sections text in
     let some = limits.0 in

@@ -14,7 +14,7 @@ use Rattle.elf32_syms.specs.declared.kept.Functions.{Functions}
 use Rattle.elf32_syms.specs.Header.{header_of}
 use Rattle.elf32_syms.specs.Image.{AreFunctions, in_a_row, candidates_of, symbols_of, image_of}
 use Rattle.elf32_syms.specs.Sections.{sections_of, text_low, text_high, table_of, strings_of}
-use Rattle.elf32_syms.specs.Symbols.{fitting, candidates, kept, hook_of}
+use Rattle.elf32_syms.specs.Symbols.{fitting_entries, candidates, kept_entries, hook_of}
 use Rattle.elf32_syms.specs.Refusals.{IsRefusal, header_refusal, segments_refusal, text_refusal, table_refusal, names_refusal, count_refusal, symbols_refusal, elf_refusal}
 
 -- an error that is the refusal
@@ -37,12 +37,12 @@ unfolding segments_refusal
 segments_judged bs segments same = ap (λ (xs : List Segment). option_map (λ (s : Segment). OutOfFile s.offset) (find (is_cut_off (length bs)) xs)) (sym same)
 
 -- the refusal of the symbols, where each has a name
-pub symbols_judged : (sections : List Section) (table strings : List ℕ) (entries cs ks : List Entry) → entries ≡ fitting sections table
-    → cs ≡ candidates strings entries → ks ≡ kept sections strings cs → names_refusal strings entries ≡ None → symbols_refusal sections table strings ≡ count_refusal ks
+pub symbols_judged : (sections : List Section) (table strings : List ℕ) (entries cs ks : List Entry) → entries ≡ fitting_entries sections table
+    → cs ≡ candidates strings entries → ks ≡ kept_entries sections strings cs → names_refusal strings entries ≡ None → symbols_refusal sections table strings ≡ count_refusal ks
 unfolding symbols_refusal
 symbols_judged sections table strings entries cs ks e f g none =
-    ap (λ (es : List Entry). option_or (names_refusal strings es) (count_refusal (kept sections strings (candidates strings es)))) (sym e)
-    ∙ rw none (ap count_refusal (ap (kept sections strings) (sym f) ∙ sym g))
+    ap (λ (es : List Entry). option_or (names_refusal strings es) (count_refusal (kept_entries sections strings (candidates strings es)))) (sym e)
+    ∙ rw none (ap count_refusal (ap (kept_entries sections strings) (sym f) ∙ sym g))
 
 pub too_many : (ks : List Entry) → 65536 < length ks → count_refusal ks ≡ Some (TooManySymbols (length ks))
 unfolding count_refusal
@@ -91,18 +91,18 @@ all_accepted bs sections table strings same t r h1 h2 h3 h4 h5 =
 
 -- the image, by its parts
 pub image_is : (bs : List ℕ) (sections : List Section) (table strings : List ℕ) (f : Functions) (image : Image) → sections ≡ sections_of bs → table ≡ table_of bs sections → strings ≡ strings_of bs sections
-    → AreFunctions sections strings (candidates strings (fitting sections table)) f
+    → AreFunctions sections strings (candidates strings (fitting_entries sections table)) f
     → image.entry ≡ (header_of bs).entry → image.segments ≡ segments_of bs → image.text.low ≡ text_low sections → image.text.high ≡ text_high sections
     → image.symbols ≡ f.symbols → image.mcount ≡ f.mcount → image.moncontrol ≡ f.moncontrol → image ≡ image_of bs
 unfolding image_of symbols_of candidates_of
 image_is bs sections table strings f image same t r are entry segments low high symbols mcount moncontrol =
     let table_is : table ≡ table_of bs (sections_of bs) = t ∙ ap (table_of bs) same in
     let strings_is : strings ≡ strings_of bs (sections_of bs) = r ∙ ap (strings_of bs) same in
-    let cs : candidates strings (fitting sections table) ≡ candidates (strings_of bs (sections_of bs)) (fitting (sections_of bs) (table_of bs (sections_of bs))) =
-    λ i. candidates (strings_is i) (fitting (same i) (table_is i)) in
-    let kept_is : image.symbols ≡ in_a_row (strings_of bs (sections_of bs)) (text_high (sections_of bs)) (kept (sections_of bs) (strings_of bs (sections_of bs)) (candidates (strings_of bs (sections_of bs)) (fitting (sections_of bs) (table_of bs (sections_of bs))))) =
-    symbols ∙ are.symbols ∙ (λ i. in_a_row (strings_is i) (text_high (same i)) (kept (same i) (strings_is i) (cs i))) in
-    let hook : (name : List ℕ) → hook_of strings (candidates strings (fitting sections table)) name ≡ hook_of (strings_of bs (sections_of bs)) (candidates (strings_of bs (sections_of bs)) (fitting (sections_of bs) (table_of bs (sections_of bs)))) name =
+    let cs : candidates strings (fitting_entries sections table) ≡ candidates (strings_of bs (sections_of bs)) (fitting_entries (sections_of bs) (table_of bs (sections_of bs))) =
+    λ i. candidates (strings_is i) (fitting_entries (same i) (table_is i)) in
+    let kept_is : image.symbols ≡ in_a_row (strings_of bs (sections_of bs)) (text_high (sections_of bs)) (kept_entries (sections_of bs) (strings_of bs (sections_of bs)) (candidates (strings_of bs (sections_of bs)) (fitting_entries (sections_of bs) (table_of bs (sections_of bs))))) =
+    symbols ∙ are.symbols ∙ (λ i. in_a_row (strings_is i) (text_high (same i)) (kept_entries (same i) (strings_is i) (cs i))) in
+    let hook : (name : List ℕ) → hook_of strings (candidates strings (fitting_entries sections table)) name ≡ hook_of (strings_of bs (sections_of bs)) (candidates (strings_of bs (sections_of bs)) (fitting_entries (sections_of bs) (table_of bs (sections_of bs)))) name =
     λ name i. hook_of (strings_is i) (cs i) name in
     let low_is = low ∙ ap text_low same in
     let high_is = high ∙ ap text_high same in

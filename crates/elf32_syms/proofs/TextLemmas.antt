@@ -5,15 +5,15 @@ use Rattle.std.proofs.lemmas.Bool.Decides.{nat_tests}
 use Rattle.std.proofs.lemmas.List.Elements.{filter_passes}
 use Rattle.elf32_syms.specs.declared.refusal.ElfRefusal.TheVariants.{TextRange}
 use Rattle.elf32_syms.specs.declared.sections.Section.{Section}
-use Rattle.elf32_syms.specs.Sections.{section_end, is_executable, executables, lowest, highest, text_low, text_high}
+use Rattle.elf32_syms.specs.Sections.{section_end, is_executable, executables, least_of, highest, text_low, text_high}
 use Rattle.elf32_syms.specs.Refusals.{is_too_far, text_refusal}
 
 -- the least and the greatest number, by a fold
-fold_min : (x : ℕ) (xs : List ℕ) → fold min x xs ≡ lowest (x ∷ xs)
+fold_min : (x : ℕ) (xs : List ℕ) → fold min x xs ≡ least_of (x ∷ xs)
 fold_min x [] = refl
 fold_min x (y ∷ ys) = fold_min (min x y) ys ∙ by ys
   where
-    by : (ys : List ℕ) → lowest (min x y ∷ ys) ≡ min x (lowest (y ∷ ys))
+    by : (ys : List ℕ) → least_of (min x y ∷ ys) ≡ min x (least_of (y ∷ ys))
     by [] = refl
     by (z ∷ zs) = omega arith
 
@@ -21,7 +21,7 @@ fold_max : (x : ℕ) (xs : List ℕ) → fold max x xs ≡ max x (highest xs)
 fold_max x [] = omega arith
 fold_max x (y ∷ ys) = let e = fold_max (max x y) ys in omega arith
 
-pub reduce_min : (xs : List ℕ) → unwrap_or (reduce min xs) 0 ≡ lowest xs
+pub reduce_min : (xs : List ℕ) → unwrap_or (reduce min xs) 0 ≡ least_of xs
 reduce_min [] = refl
 reduce_min (x ∷ xs) = fold_min x xs
 
@@ -29,7 +29,7 @@ pub reduce_max : (xs : List ℕ) → unwrap_or (reduce max xs) 0 ≡ highest xs
 reduce_max [] = refl
 reduce_max (x ∷ xs) = fold_max x xs
 
-first_low : (x : ℕ) (xs : List ℕ) → lowest (x ∷ xs) ≤ x
+first_low : (x : ℕ) (xs : List ℕ) → least_of (x ∷ xs) ≤ x
 first_low x [] = omega arith
 first_low x (y ∷ ys) = omega arith
 
@@ -40,7 +40,7 @@ executable_some s taken = grind (arith, nat_tests)
 
 -- so the range is empty exactly where there is none
 empty_range : (xs : List Section) → All (λ (s : Section). is_executable s ≡ true) xs
-    → nat_eq (length xs) 0 ≡ nat_le (highest (map section_end xs)) (lowest (map (λ (s : Section). s.addr) xs))
+    → nat_eq (length xs) 0 ≡ nat_le (highest (map section_end xs)) (least_of (map (λ (s : Section). s.addr) xs))
 empty_range [] all = refl
 empty_range (x ∷ xs) all =
     let low = first_low x.addr (map (λ (s : Section). s.addr) xs) in
@@ -83,7 +83,7 @@ module _ (sections : List Section) where
 
 -- what lies in an executable section lies in the text
 record Spans (xs : List Section) (s : Section) : Type 0 where
-  pub low : lowest (map (λ (x : Section). x.addr) xs) ≤ s.addr
+  pub low : least_of (map (λ (x : Section). x.addr) xs) ≤ s.addr
   pub high : section_end s ≤ highest (map section_end xs)
   pub some : 0 < length xs
 

@@ -10,7 +10,7 @@ use Rattle.elf32_syms.specs.declared.symbols.Entry.{Entry}
 use Rattle.elf32_syms.specs.Header.{header_of}
 use Rattle.elf32_syms.specs.Segments.{segments_of}
 use Rattle.elf32_syms.specs.Sections.{sections_of, text_low, text_high, table_of, strings_of}
-use Rattle.elf32_syms.specs.Symbols.{symbol_name, fitting, candidates, kept, hook_of}
+use Rattle.elf32_syms.specs.Symbols.{symbol_name, fitting_entries, candidates, kept_entries, hook_of}
 use Rattle.elf32_syms.specs.Owners.{IsAscending}
 
 -- where a symbol ends: at the address of the first of those that follow it, and the last one at the end of the text
@@ -26,7 +26,7 @@ in_a_row strings high (e ∷ es) =
 
 -- kept symbols and hooks of some candidates
 pub record AreFunctions (sections : List Section) (strings : List ℕ) (cs : List Entry) (f : Functions) : Type 0 where
-  pub symbols : f.symbols ≡ in_a_row strings (text_high sections) (kept sections strings cs)
+  pub symbols : f.symbols ≡ in_a_row strings (text_high sections) (kept_entries sections strings cs)
   pub mcount : f.mcount ≡ hook_of strings cs (codes "_mcount")
   pub moncontrol : f.moncontrol ≡ hook_of strings cs (codes "moncontrol")
 
@@ -34,14 +34,14 @@ pub record AreFunctions (sections : List Section) (strings : List ℕ) (cs : Lis
 unfoldable pub candidates_of : List ℕ → List Entry
 candidates_of bs =
     let sections = sections_of bs in
-    candidates (strings_of bs sections) (fitting sections (table_of bs sections))
+    candidates (strings_of bs sections) (fitting_entries sections (table_of bs sections))
 
 -- its kept symbols
 unfoldable pub symbols_of : List ℕ → List Symbol
 symbols_of bs =
     let sections = sections_of bs in
     let strings = strings_of bs sections in
-    in_a_row strings (text_high sections) (kept sections strings (candidates_of bs))
+    in_a_row strings (text_high sections) (kept_entries sections strings (candidates_of bs))
 
 unfoldable pub image_of : List ℕ → Image
 image_of bs =

@@ -10,7 +10,7 @@ use Rattle.elf32_syms.specs.declared.symbols.Entry.{Entry}
 use Rattle.elf32_syms.specs.Header.{has_flag, has_magic, header_of}
 use Rattle.elf32_syms.specs.Segments.{segments_of, is_cut_off}
 use Rattle.elf32_syms.specs.Sections.{sections_of, executables, text_low, text_high, symbol_table, table_of, strings_of}
-use Rattle.elf32_syms.specs.Symbols.{fitting, has_endless_name, candidates, kept}
+use Rattle.elf32_syms.specs.Symbols.{fitting_entries, has_endless_name, candidates, kept_entries}
 
 -- the kind of file that the header tells
 unfoldable pub kind_refusal : Header → Option ElfRefusal
@@ -74,13 +74,13 @@ names_refusal strings entries = option_map (λ e. Link e.number) (find (has_endl
 
 -- too many kept symbols
 unfoldable pub count_refusal : List Entry → Option ElfRefusal
-count_refusal kept = if nat_lt MAX_SYMBOLS (length kept) then Some (TooManySymbols (length kept)) else None
+count_refusal kept_entries = if nat_lt MAX_SYMBOLS (length kept_entries) then Some (TooManySymbols (length kept_entries)) else None
 
 -- the fitting symbols' names, and how many are kept
 unfoldable pub symbols_refusal : List Section → List ℕ → List ℕ → Option ElfRefusal
 symbols_refusal sections table strings =
-    let entries = fitting sections table in
-    option_or (names_refusal strings entries) (count_refusal (kept sections strings (candidates strings entries)))
+    let entries = fitting_entries sections table in
+    option_or (names_refusal strings entries) (count_refusal (kept_entries sections strings (candidates strings entries)))
 
 -- the first of them all
 unfoldable pub elf_refusal : List ℕ → Option ElfRefusal

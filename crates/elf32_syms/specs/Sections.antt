@@ -32,10 +32,10 @@ abbrev pub section_end : Section → ℕ
 section_end s = s.addr + s.size
 
 -- the least and the greatest of some numbers, and 0 where there is none
-abbrev pub lowest : List ℕ → ℕ
-lowest [] = 0
-lowest (x ∷ []) = x
-lowest (x ∷ y ∷ ys) = min x (lowest (y ∷ ys))
+abbrev pub least_of : List ℕ → ℕ
+least_of [] = 0
+least_of (x ∷ []) = x
+least_of (x ∷ y ∷ ys) = min x (least_of (y ∷ ys))
 
 abbrev pub highest : List ℕ → ℕ
 highest [] = 0
@@ -43,7 +43,7 @@ highest (x ∷ xs) = max x (highest xs)
 
 -- the text: from the lowest address of an executable section to the highest end of one
 unfoldable pub text_low : List Section → ℕ
-text_low sections = lowest (map (λ (s : Section). s.addr) (executables sections))
+text_low sections = least_of (map (λ (s : Section). s.addr) (executables sections))
 
 unfoldable pub text_high : List Section → ℕ
 text_high sections = highest (map section_end (executables sections))

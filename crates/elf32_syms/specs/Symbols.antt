@@ -32,13 +32,13 @@ abbrev pub is_in_section : Entry → Section → Bool
 is_in_section e s = is_executable s && nat_le s.addr e.addr && nat_lt e.addr (section_end s)
 
 -- symbol 0 is none
-unfoldable pub fits : List Section → Entry → Bool
-fits sections e =
+unfoldable pub is_candidate : List Section → Entry → Bool
+is_candidate sections e =
     nat_lt 0 e.number && may_be_function e && option_map_or (is_in_section e) (slice_get sections e.section) false
 
 -- the fitting symbols of a table
-unfoldable pub fitting : List Section → List ℕ → List Entry
-fitting sections table = filter (fits sections) (map (entry_at table) (range_with_len 0 (length table / 16)))
+unfoldable pub fitting_entries : List Section → List ℕ → List Entry
+fitting_entries sections table = filter (is_candidate sections) (map (entry_at table) (range_with_len 0 (length table / 16)))
 
 -- a symbol's name
 abbrev pub symbol_name : List ℕ → Entry → List ℕ
@@ -70,8 +70,8 @@ rank_cmp strings c d =
     (ordering_then (nat_cmp (type_rank c) (type_rank d))
     (ordering_then (slice_cmp nat_cmp (symbol_name strings c) (symbol_name strings d)) (nat_cmp c.number d.number)))
 
-unfoldable pub comes_before : List ℕ → Entry → Entry → Bool
-comes_before strings c d = is_lt (rank_cmp strings c d)
+unfoldable pub ranks_before : List ℕ → Entry → Entry → Bool
+ranks_before strings c d = is_lt (rank_cmp strings c d)
 
 -- its address lies in the text
 abbrev pub IsInText : List Section → Entry → Type 0
@@ -80,15 +80,15 @@ IsInText sections e = (text_low sections ≤ e.addr) × (e.addr < text_high sect
 -- the first of two, of which there may be only one
 abbrev pub kept_of_two : List ℕ → Option Entry → Entry → Option Entry
 kept_of_two strings None c = Some c
-kept_of_two strings (Some best) c = if comes_before strings c best then Some c else Some best
+kept_of_two strings (Some best) c = if ranks_before strings c best then Some c else Some best
 
 -- the one that is kept of the candidates at an address, if there are any: the first of them
 unfoldable pub kept_at : List ℕ → List Entry → ℕ → Option Entry
 kept_at strings cs addr = fold (kept_of_two strings) None (filter (λ c. c.addr == addr) cs)
 
 -- the kept ones, in the order of their addresses, which are those of the text
-unfoldable pub kept : List Section → List ℕ → List Entry → List Entry
-kept sections strings cs =
+unfoldable pub kept_entries : List Section → List ℕ → List Entry → List Entry
+kept_entries sections strings cs =
     filter_map (kept_at strings cs) (range_with_len (text_low sections) (text_high sections - text_low sections))
 
 -- the address of the first candidate by number with this name

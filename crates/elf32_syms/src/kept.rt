@@ -6,7 +6,7 @@ ghost use Rattle.std.specs.Ordering.{nat_cmp};
 ghost use Rattle.std.specs.BTreeMap.{get, values as values_of_map, IsOrdered};
 ghost use Rattle.elf32_syms.specs.declared.refusal.ElfRefusal.TheVariants.{Link};
 ghost use Rattle.elf32_syms.specs.Sections.{text_low, text_high};
-ghost use Rattle.elf32_syms.specs.Symbols.{fitting as fitting_of, candidates as candidates_of, has_name as has_name_of, IsInText, comes_before as comes_before_of, kept_at, kept as kept_of, hook_of};
+ghost use Rattle.elf32_syms.specs.Symbols.{fitting_entries as fitting_of, candidates as candidates_of, has_name as has_name_of, IsInText, ranks_before as comes_before_of, kept_at, kept_entries as kept_of, hook_of};
 ghost use Rattle.elf32_syms.specs.Refusals.{IsRefusal, text_refusal, names_refusal, count_refusal, symbols_refusal};
 ghost use Rattle.elf32_syms.specs.Image.{in_a_row as in_a_row_of, AreFunctions};
 

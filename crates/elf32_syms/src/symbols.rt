@@ -3,7 +3,7 @@
 ghost use Rattle.std.specs.Prelude.{◌≡◌, ◌+◌, ◌*◌, ◌≤◌, ◌<◌, length, option_map, find, filter, OnOk, IfOk, All};
 ghost use Rattle.std.specs.Ordering.{nat_cmp};
 ghost use Rattle.std.specs.Cmp.Lexicographic.{slice_cmp};
-ghost use Rattle.elf32_syms.specs.Symbols.{entry_at as entry_at_of, fits as fits_of, may_be_function as may_be_function_of, fitting as fitting_of, symbol_name, comes_before as comes_before_of, binding_rank as binding_rank_of, type_rank as type_rank_of};
+ghost use Rattle.elf32_syms.specs.Symbols.{entry_at as entry_at_of, is_candidate as fits_of, may_be_function as may_be_function_of, fitting_entries as fitting_of, symbol_name, ranks_before as comes_before_of, binding_rank as binding_rank_of, type_rank as type_rank_of};
 
 use crate::names::{have_same_bytes, name_at};
 use crate::sections::Section;

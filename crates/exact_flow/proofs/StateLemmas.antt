@@ -12,7 +12,7 @@ use Rattle.call_cycles.specs.Flow.{self_in}
 use Rattle.call_cycles.specs.ExactFlow.{ExactTimes, IsExactFlow, carried_exactly}
 use Rattle.call_cycles.proofs.ListLemmas.{list_at, list_long}
 use Rattle.call_cycles.proofs.NumberingLemmas.{source_within, target_within, goes_down}
-use Rattle.fraction128.specs.Fractions.{Fraction, fraction, lowest, sum_of, IsValue}
+use Rattle.fraction128.specs.Fractions.{Fraction, fraction, lowest, fraction_sum, IsValue}
 use Rattle.fraction128.specs.declared.fracs.Frac.{Frac}
 use Rattle.fraction128.specs.Values.{value_of}
 use Rattle.fraction128.proofs.ValueLemmas.{lowest_is, lowest_same, whole_is, whole_lowest, product_value, sum_value}
@@ -22,7 +22,7 @@ use Rattle.propagate.proofs.TimeLemmas.{arc_here, all_done, one_more}
 use Rattle.exact_flow.specs.Times.{ExactFlowValue, HasTimes, time_at, in_grains}
 use Rattle.exact_flow.specs.Steps.{StepNumbers, FitsStep, self_part, child_part, with_both, step_at, brought_before, IsNoneWide}
 use Rattle.exact_flow.specs.Progress.{IsSized, step_in, put_at}
-use Rattle.exact_flow.specs.Solution.{by_arcs, times_in}
+use Rattle.exact_flow.specs.Solution.{by_arcs, flow_of_times}
 use Rattle.exact_flow.proofs.OrderLemmas.{lower_numbers}
 
 -- an arc has its two times, and its step fits
@@ -69,14 +69,14 @@ module _ (g : GraphValue) (shares : List ℕ) (is : IsGraph g) (x : ExactTimes) 
       product_value numbers.child numbers.calls (x.child (target_of g i)) x.grain exact.some (lowest_is (x.child (target_of g i)) x.grain exact.some)
       (arc_at g i).count (entering_of g (target_of g i)) (x.arc_child i) (entered g is i below out) is_calls (exact.arc_child i below out)
 
-  sum_in_grains : (a b : ℕ) → sum_of (in_grains x a) (in_grains x b) ≡ in_grains x (a + b)
+  sum_in_grains : (a b : ℕ) → fraction_sum (in_grains x a) (in_grains x b) ≡ in_grains x (a + b)
   sum_in_grains a b = sum_value (in_grains x a) (in_grains x b) a x.grain exact.some (lowest_is a x.grain exact.some) b (lowest_is b x.grain exact.some)
 
   pub both_is : with_both numbers ≡ in_grains x (brought + x.arc_self i + x.arc_child i)
   both_is =
-      ap (λ (s : Fraction). sum_of (sum_of numbers.before s) (child_part numbers)) self_is
-      ∙ ap (λ (s : Fraction). sum_of s (child_part numbers)) (sum_in_grains brought (x.arc_self i))
-      ∙ ap (sum_of (in_grains x (brought + x.arc_self i))) child_is
+      ap (λ (s : Fraction). fraction_sum (fraction_sum numbers.before s) (child_part numbers)) self_is
+      ∙ ap (λ (s : Fraction). fraction_sum s (child_part numbers)) (sum_in_grains brought (x.arc_self i))
+      ∙ ap (fraction_sum (in_grains x (brought + x.arc_self i))) child_is
       ∙ sum_in_grains (brought + x.arc_self i) (x.arc_child i)
 
 -- ---- one arc after another
@@ -229,7 +229,7 @@ module _ (g : GraphValue) (shares : List ℕ) (order : List (ℕ × ℕ)) (n : �
       so_far.child x exact c low
       ∙ ap (in_grains x) (ap (λ (xs : List (ℕ × ℕ)). sum_by (λ (p : ℕ × ℕ). when (p.0 == c) (carried_exactly x p.1)) xs) (take_all n order (omega arith)) ∙ ordered.all (carried_exactly x) c ∙ sym (exact.child c low))
 
-  pub all_times : e ≡ times_in g shares x
+  pub all_times : e ≡ flow_of_times g shares x
   all_times = λ i. record { self = self i; child = child i; arc_self = arc_self i; arc_child = arc_child i; outside = so_far.sized.outside.whole i }
     where
       self : e.self ≡ list_of (component_count g) (self_in g shares)

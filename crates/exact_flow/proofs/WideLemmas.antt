@@ -20,7 +20,7 @@ use Rattle.propagate.proofs.ArcOrderLemmas.{each_leaves, each_there}
 use Rattle.propagate.proofs.OrderLemmas.{caller_order}
 use Rattle.propagate.proofs.UniqueLemmas.{when_ext}
 use Rattle.exact_flow.specs.Times.{ExactFlowValue, in_grains}
-use Rattle.exact_flow.specs.Solution.{by_arcs, times_in, exact_flow_in}
+use Rattle.exact_flow.specs.Solution.{by_arcs, flow_of_times, exact_flow_in}
 use Rattle.exact_flow.proofs.OrderLemmas.{stands_before}
 use Rattle.exact_flow.specs.Progress.{step_in}
 use Rattle.exact_flow.proofs.StateLemmas.{IsSoFar, all_times, map_below, none_wide, same_numbers}
@@ -131,7 +131,7 @@ module _ (g : GraphValue) (shares : List ℕ) (x y : ExactTimes) (is : IsGraph g
       (find_same (λ (p : ℕ × ℕ). not (fits_step (step_at g shares x p.1))) (λ (p : ℕ × ℕ). not (fits_step (step_at g shares y p.1))) (outside_arcs_of g)
       (λ k d low. let l = each_leaves g k d low in ap (λ (n : StepNumbers). not (fits_step n)) (same_step _ l.0 l.2)))
 
-  pub same_flow : times_in g shares x ≡ times_in g shares y
+  pub same_flow : flow_of_times g shares x ≡ flow_of_times g shares y
   same_flow = λ j. record { self = list_of (component_count g) (self_in g shares); child = child j; arc_self = arcs x.arc_self y.arc_self same.arc_self j; arc_child = arcs x.arc_child y.arc_child same.arc_child j; outside = outside_arcs_of g }
     where
       child : map (λ c. in_grains x (x.child c)) (numbers_below (component_count g)) ≡ map (λ c. in_grains y (y.child c)) (numbers_below (component_count g))
@@ -149,7 +149,7 @@ module _ (g : GraphValue) (shares : List ℕ) (x : ExactTimes) (is : IsGraph g) 
   unfolding first_wide
   one_first = same_first g shares x (exact_in g shares) is exact (exact_solution g shares is)
 
-  pub one_flow : times_in g shares x ≡ exact_flow_in g shares
+  pub one_flow : flow_of_times g shares x ≡ exact_flow_in g shares
   unfolding exact_flow_in
   one_flow = same_flow g shares x (exact_in g shares) is exact (exact_solution g shares is)
 

@@ -3,7 +3,7 @@ use Rattle.std.specs.Prelude.{◌≡◌, ◌<◌, ℕ, true, List, Some, None}
 use Rattle.call_cycles.specs.Graph.{GraphValue, IsGraph, arc_count, is_outside}
 use Rattle.call_cycles.specs.ExactFlow.{ExactTimes, IsExactFlow}
 use Rattle.exact_flow.specs.Steps.{step_at, IsNoneWide, IsFirstWide}
-use Rattle.exact_flow.specs.Solution.{times_in, exact_flow_in}
+use Rattle.exact_flow.specs.Solution.{flow_of_times, exact_flow_in}
 use Rattle.exact_flow.specs.Wide.{WideStep, first_wide, first_wide_of}
 
 -- two solutions have the same fractions in each step
@@ -17,7 +17,7 @@ HasOneFirst = (g : GraphValue) (shares : List ℕ) (x : ExactTimes) → IsGraph 
 
 -- and so are the times in lowest terms
 abbrev pub HasOneFlow : Type 0
-HasOneFlow = (g : GraphValue) (shares : List ℕ) (x : ExactTimes) → IsGraph g → IsExactFlow g shares x → times_in g shares x ≡ exact_flow_in g shares
+HasOneFlow = (g : GraphValue) (shares : List ℕ) (x : ExactTimes) → IsGraph g → IsExactFlow g shares x → flow_of_times g shares x ≡ exact_flow_in g shares
 
 -- where there is none, each step of each solution fits
 abbrev pub NoneIsWide : Type 0

@@ -14,8 +14,8 @@ abbrev pub by_arcs : GraphValue → (ℕ → Fraction) → List Fraction
 by_arcs g time = map (λ i. if is_outside g i then time i else fraction 0 1) (numbers_below (arc_count g))
 
 -- the times of a solution of the equations
-abbrev pub times_in : GraphValue → List ℕ → ExactTimes → ExactFlowValue
-times_in g shares x = record {
+abbrev pub flow_of_times : GraphValue → List ℕ → ExactTimes → ExactFlowValue
+flow_of_times g shares x = record {
   self = list_of (component_count g) (self_in g shares);
   child = map (λ c. in_grains x (x.child c)) (numbers_below (component_count g));
   arc_self = by_arcs g (λ i. in_grains x (x.arc_self i));
@@ -25,4 +25,4 @@ times_in g shares x = record {
 
 -- those of the solution that is found from callees to callers; every other one has the same
 unfoldable pub exact_flow_in : GraphValue → List ℕ → ExactFlowValue
-exact_flow_in g shares = times_in g shares (exact_in g shares)
+exact_flow_in g shares = flow_of_times g shares (exact_in g shares)

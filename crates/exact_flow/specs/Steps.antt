@@ -6,7 +6,7 @@ use Rattle.call_cycles.specs.Sums.{sum_below, when}
 use Rattle.call_cycles.specs.Graph.{GraphValue, arc_at, arc_count, head_of, source_of, target_of, is_outside, leaves, entering_of}
 use Rattle.call_cycles.specs.Flow.{self_in}
 use Rattle.call_cycles.specs.ExactFlow.{ExactTimes, carried_exactly}
-use Rattle.fraction128.specs.Fractions.{Fraction, fraction, lowest, sum_of, product_of, FitsSum, FitsProduct, fits_sum, fits_product}
+use Rattle.fraction128.specs.Fractions.{Fraction, fraction, lowest, fraction_sum, product_of, FitsSum, FitsProduct, fits_sum, fits_product}
 use Rattle.exact_flow.specs.Times.{in_grains}
 
 -- the time of a component goes to an arc in proportion to its calls, and comes to what arcs before it brought to its caller
@@ -23,10 +23,10 @@ abbrev pub child_part : StepNumbers → Fraction
 child_part n = product_of n.child n.calls
 
 abbrev pub with_self : StepNumbers → Fraction
-with_self n = sum_of n.before (self_part n)
+with_self n = fraction_sum n.before (self_part n)
 
 abbrev pub with_both : StepNumbers → Fraction
-with_both n = sum_of (with_self n) (child_part n)
+with_both n = fraction_sum (with_self n) (child_part n)
 
 -- two products, and two sums
 pub record FitsStep (n : StepNumbers) : Type 0 where

@@ -9,7 +9,7 @@ ghost use Rattle.fraction128.specs.Values.{value_of};
 ghost use Rattle.propagate.specs.ExactSolution.{exact_in};
 ghost use Rattle.exact_flow.specs.Times.{HasTimes, time_at};
 ghost use Rattle.exact_flow.specs.Steps.{FitsStep, self_part, child_part, with_both};
-ghost use Rattle.exact_flow.specs.Solution.{times_in, exact_flow_in};
+ghost use Rattle.exact_flow.specs.Solution.{flow_of_times, exact_flow_in};
 ghost use Rattle.exact_flow.specs.Wide.{first_wide};
 ghost use Rattle.exact_flow.specs.Progress.{IsSized, step_in, put_at};
 ghost use Rattle.exact_flow.specs.Answers.{IsTooWide, IsWideAnswer};
@@ -109,7 +109,7 @@ fn solve(graph: &Graph, shares: &Shares, flow: ExactFlow) -> Result<ExactFlow, E
     requires none { (c : ℕ) → time_at flow.child c ≡ fraction 0 1 }
     ensures sized { IfOk result (HasTimes graph.now) }
     ensures value { IfOk result (λ e. e ≡ exact_flow_in graph.now shares.now.of) }
-    ensures times { IfOk result (λ e. (x : ExactTimes) → IsExactFlow graph.now shares.now.of x → e ≡ times_in graph.now shares.now.of x) }
+    ensures times { IfOk result (λ e. (x : ExactTimes) → IsExactFlow graph.now shares.now.of x → e ≡ flow_of_times graph.now shares.now.of x) }
     ensures whole { IfOk result (λ e. (x : ExactTimes) → IsExactFlow graph.now shares.now.of x → exact_time_of_roots graph.now shares.now.of x ≡ x.grain * attributed_of shares.now) }
     ensures fits { IfOk result (λ e. first_wide graph.now shares.now.of ≡ None) }
     ensures wide { IfErr result (IsTooWide graph.now shares.now.of) }
@@ -136,7 +136,7 @@ pub fn exact(alloc: Global, graph: &Graph, shares: &Shares) -> Result<ExactFlow,
     ensures sized { IfOk result (HasTimes graph.now) }
     ensures solved { IsExactFlow graph.now shares.now.of (exact_in graph.now shares.now.of) }
     ensures value { IfOk result (λ e. e ≡ exact_flow_in graph.now shares.now.of) }
-    ensures times { IfOk result (λ e. (x : ExactTimes) → IsExactFlow graph.now shares.now.of x → e ≡ times_in graph.now shares.now.of x) }
+    ensures times { IfOk result (λ e. (x : ExactTimes) → IsExactFlow graph.now shares.now.of x → e ≡ flow_of_times graph.now shares.now.of x) }
     ensures whole { IfOk result (λ e. (x : ExactTimes) → IsExactFlow graph.now shares.now.of x → exact_time_of_roots graph.now shares.now.of x ≡ x.grain * attributed_of shares.now) }
     ensures fits { IfOk result (λ e. first_wide graph.now shares.now.of ≡ None) }
     ensures wide { IfErr result (IsWideAnswer graph.now shares.now.of) }

@@ -7,7 +7,7 @@ use Rattle.call_cycles.specs.Graph.{GraphValue, IsGraph, all_calls, arc_at, arc_
 use Rattle.call_cycles.specs.Sums.{sum_below, when, list_of}
 use Rattle.call_cycles.proofs.SumLemmas.{sum_front_le}
 use Rattle.call_cycles.proofs.ListLemmas.{list_long, list_at}
-use Rattle.flat_report.specs.Sources.{calls_by_itself, calls_of}
+use Rattle.flat_report.specs.Sources.{calls_by_itself, calls_in_all}
 use Rattle.flat_report.proofs.FunctionLemmas.{calls_within}
 
 -- the calls of function f by itself, and by the arcs with numbers below i
@@ -23,8 +23,8 @@ pub none_counted : (g : GraphValue) (calls : List ℕ) → calls ≡ list_of g.f
 none_counted g calls are = record { len = list_long _ _ calls are; each = λ f h. list_at _ _ calls are f h ∙ omega arith }
 
 module _ (g : GraphValue) (i : ℕ) (calls : List ℕ) (are : AreCounted g i calls) where
-  pub all_counted : i ≡ arc_count g → calls ≡ list_of g.functions (calls_of g)
-  all_counted last = fill_by_all (calls_of g) calls g.functions 0 are.len (λ f h. are.each f h ∙ ap (λ (n : ℕ). called_below g n f) last)
+  pub all_counted : i ≡ arc_count g → calls ≡ list_of g.functions (calls_in_all g)
+  all_counted last = fill_by_all (calls_in_all g) calls g.functions 0 are.len (λ f h. are.each f h ∙ ap (λ (n : ℕ). called_below g n f) last)
 
   module _ (below : i < arc_count g) (k : ℕ) (callee : k ≡ (arc_at g i).callee) (low : k < g.functions) where
     counted : when ((arc_at g i).callee == k) (arc_at g i).count ≡ (arc_at g i).count

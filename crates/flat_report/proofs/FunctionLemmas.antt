@@ -14,8 +14,8 @@ use Rattle.call_cycles.proofs.SumLemmas.{sum_add}
 use Rattle.symbol_shares.specs.Shares.{attributed_of}
 use Rattle.propagate.proofs.SumLemmas.{sum_by_key, term_le_sum, sum_of_places}
 use Rattle.propagate.proofs.BoundLemmas.{within_all, function_within}
-use Rattle.flat_report.specs.Sources.{AreOfOne, Sources, total_of, calls_by_others, calls_by_itself, calls_of}
-use Rattle.flat_report.specs.Entries.{Entry, entry_of, has_line, functions_of, comes_before, ordered, entries_of}
+use Rattle.flat_report.specs.Sources.{AreOfOne, Sources, inclusive_total, calls_by_others, calls_by_itself, calls_in_all}
+use Rattle.flat_report.specs.Entries.{FlatEntry, entry_of, has_line, listed_functions, flat_comes_before, flat_order, flat_entries}
 use Rattle.flat_report.specs.Rows.{FitsIn}
 use Rattle.flat_report.proofs.OrderLemmas.{moved_in_order, sum_in_order}
 
@@ -46,12 +46,12 @@ sum_mapped weight g [] = refl
 sum_mapped weight g (f ∷ fs) = omega (arith, sum_mapped weight g fs, sum_by-cons weight (g f) (map g fs), sum_by-cons (λ f. weight (g f)) f fs)
 
 -- the lines have together what all functions have
-sum_of_lines : (s : Sources) (weight : Entry → ℕ) → ((e : Entry) → has_line e ≡ false → weight e ≡ 0) → sum_by weight (entries_of s) ≡ sum_below s.graph.functions (λ f. weight (entry_of s f))
-unfolding functions_of
+sum_of_lines : (s : Sources) (weight : FlatEntry → ℕ) → ((e : FlatEntry) → has_line e ≡ false → weight e ≡ 0) → sum_by weight (flat_entries s) ≡ sum_below s.graph.functions (λ f. weight (entry_of s f))
+unfolding listed_functions
 sum_of_lines s weight none =
     let of_function = λ (f : ℕ). weight (entry_of s f) in
-    sum_mapped weight (entry_of s) (ordered s)
-    ∙ sum_in_order (comes_before s) of_function (functions_of s)
+    sum_mapped weight (entry_of s) (flat_order s)
+    ∙ sum_in_order (flat_comes_before s) of_function (listed_functions s)
     ∙ sum_filtered of_function (λ f. has_line (entry_of s f)) (λ f h. none (entry_of s f) h) (numbers_below s.graph.functions)
     ∙ sum_numbers of_function s.graph.functions
 
@@ -62,26 +62,26 @@ neither_of false b h = (refl, h)
 none_of : (n : ℕ) → nat_lt 0 n ≡ false → n ≡ 0
 none_of n h = grind arith
 
-pub shares_of_lines : (s : Sources) → length s.shares.of ≡ s.graph.functions → sum_by (λ (e : Entry). e.share) (entries_of s) ≡ attributed_of s.shares
+pub shares_of_lines : (s : Sources) → length s.shares.of ≡ s.graph.functions → sum_by (λ (e : FlatEntry). e.share) (flat_entries s) ≡ attributed_of s.shares
 shares_of_lines s each = sum_of_lines s (λ e. e.share) (λ e h. none_of e.share (neither_of _ _ h).0) ∙ sum_of_places s.graph.functions s.shares.of each
 
 -- ---- calls
 
-calls_of_all : (g : GraphValue) → IsGraph g → sum_below g.functions (calls_of g) ≡ all_calls g
+calls_of_all : (g : GraphValue) → IsGraph g → sum_below g.functions (calls_in_all g) ≡ all_calls g
 unfolding all_calls
 calls_of_all g is =
     let others = sum_by_key (arc_count g) g.functions (λ f. true) (λ i. true) (λ i. (arc_at g i).callee) (λ i. (arc_at g i).count) is.arcs.callees in
     sum_add g.functions (calls_by_others g) (calls_by_itself g) ∙ ap (λ (n : ℕ). n + sum_below g.functions (calls_by_itself g)) others
 
-pub calls_of_lines : (s : Sources) → IsGraph s.graph → sum_by (λ (e : Entry). e.calls) (entries_of s) ≡ all_calls s.graph
+pub calls_of_lines : (s : Sources) → IsGraph s.graph → sum_by (λ (e : FlatEntry). e.calls) (flat_entries s) ≡ all_calls s.graph
 calls_of_lines s is = sum_of_lines s (λ e. e.calls) (λ e h. none_of e.calls (neither_of _ _ h).1) ∙ calls_of_all s.graph is
 
-pub calls_within : (g : GraphValue) (f : ℕ) → IsGraph g → f < g.functions → calls_of g f ≤ all_calls g
-calls_within g f is below = omega (arith, term_le_sum g.functions (calls_of g) f below, calls_of_all g is)
+pub calls_within : (g : GraphValue) (f : ℕ) → IsGraph g → f < g.functions → calls_in_all g f ≤ all_calls g
+calls_within g f is below = omega (arith, term_le_sum g.functions (calls_in_all g) f below, calls_of_all g is)
 
 -- ---- bounds
 
-pub total_within : (s : Sources) (f : ℕ) → AreOfOne s → f < s.graph.functions → total_of s f ≤ attributed_of s.shares
+pub total_within : (s : Sources) (f : ℕ) → AreOfOne s → f < s.graph.functions → inclusive_total s f ≤ attributed_of s.shares
 total_within s f are below =
     let own = function_within s.graph s.shares.of s.flow f are.graph are.flow below in
     let all = within_all s.graph s.shares.of are.graph (are.each ∙ sym are.functions) s.flow are.flow (component_of s.graph f) (are.graph.components.within f below) in
@@ -97,17 +97,17 @@ entry_fits s are few f below = record {
 numbers_are_below : (n : ℕ) → All (λ f. f < n) (numbers_below n)
 numbers_are_below n k d below = omega (arith, length-range_with_len 0 n, get_or-range_with_len 0 n k d (omega (arith, length-range_with_len 0 n)))
 
-ordered_are_below : (s : Sources) → All (λ f. f < s.graph.functions) (ordered s)
-unfolding functions_of
+ordered_are_below : (s : Sources) → All (λ f. f < s.graph.functions) (flat_order s)
+unfolding listed_functions
 ordered_are_below s =
     let below = λ (f : ℕ). f < s.graph.functions in
-    All-permutation below (functions_of s) (ordered s) (moved_in_order (comes_before s) (functions_of s))
+    All-permutation below (listed_functions s) (flat_order s) (moved_in_order (flat_comes_before s) (listed_functions s))
     (All-filter (λ f. has_line (entry_of s f)) below (numbers_below s.graph.functions) (numbers_are_below s.graph.functions))
 
-pub entries_fit : (s : Sources) → AreOfOne s → all_calls s.graph < 2 ^ 59 → All (FitsIn (attributed_of s.shares)) (entries_of s)
+pub entries_fit : (s : Sources) → AreOfOne s → all_calls s.graph < 2 ^ 59 → All (FitsIn (attributed_of s.shares)) (flat_entries s)
 entries_fit s are few =
-    All-map (FitsIn (attributed_of s.shares)) (entry_of s) (ordered s)
-    (All-weaker (λ f. f < s.graph.functions) (λ f. FitsIn (attributed_of s.shares) (entry_of s f)) (λ f below. entry_fits s are few f below) (ordered s) (ordered_are_below s))
+    All-map (FitsIn (attributed_of s.shares)) (entry_of s) (flat_order s)
+    (All-weaker (λ f. f < s.graph.functions) (λ f. FitsIn (attributed_of s.shares) (entry_of s f)) (λ f below. entry_fits s are few f below) (flat_order s) (ordered_are_below s))
 
 -- ---- the first functions
 
@@ -122,6 +122,6 @@ functions_more s k =
     ∙ filter_of_map_range_with_len_more test (λ f. f) 0 k k (omega arith)
     ∙ ap (λ (fs : List ℕ). filter test fs ++ cond (has_line (entry_of s k)) (k ∷ []) []) (map-id (numbers_below k))
 
-pub functions_to_all : (s : Sources) (k : ℕ) → k ≡ s.graph.functions → functions_to s k ≡ functions_of s
-unfolding functions_of
+pub functions_to_all : (s : Sources) (k : ℕ) → k ≡ s.graph.functions → functions_to s k ≡ listed_functions s
+unfolding listed_functions
 functions_to_all s k all = ap (functions_to s) all

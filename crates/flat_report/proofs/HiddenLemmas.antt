@@ -7,13 +7,13 @@ use Rattle.host_port.specs.Outside.{Outside}
 use Rattle.host_port.specs.Buffered.{Adds}
 use Rattle.host_port.specs.declared.side.Side.TheVariants.{Output}
 use Rattle.host_port.specs.declared.host.Failed.{Failed}
-use Rattle.flat_report.specs.Entries.{Entry}
-use Rattle.flat_report.specs.FlatText.{cumulative_of, line_at, lines_of}
-use Rattle.flat_report.specs.Hidden.{is_hidden, shown}
+use Rattle.flat_report.specs.Entries.{FlatEntry}
+use Rattle.flat_report.specs.FlatText.{cumulative_of, line_at, flat_lines}
+use Rattle.flat_report.specs.Hidden.{is_hidden, shown_entries}
 use Rattle.flat_report.specs.Rows.{shown_line}
 
 -- the line of an entry, given with its number, unless its function is hidden
-abbrev pub shown_at : ℕ → ℕ → List (List ℕ) → List Entry → ℕ × Entry → List ℕ
+abbrev pub shown_at : ℕ → ℕ → List (List ℕ) → List FlatEntry → ℕ × FlatEntry → List ℕ
 shown_at total rate hidden entries numbered = shown_line hidden total rate (cumulative_of entries (numbered.0 + 1)) numbered.1
 
 -- to leave items out is to give them no text
@@ -26,11 +26,11 @@ left_out {X} f gone (x ∷ xs) = by (gone x) (left_out f gone xs)
     by true rest = rest
     by false rest = ap (λ (l : List ℕ). f x ++ l) rest
 
-pub shown_lines : (total rate : ℕ) (hidden : List (List ℕ)) (entries : List Entry) (numbered : List (ℕ × Entry)) → flat_map (shown_at total rate hidden entries) numbered ≡ flat_map (line_at total rate entries) (shown hidden numbered)
-shown_lines total rate hidden entries numbered = left_out (line_at total rate entries) (λ (e : ℕ × Entry). is_hidden hidden e.1.name) numbered
+pub shown_lines : (total rate : ℕ) (hidden : List (List ℕ)) (entries : List FlatEntry) (numbered : List (ℕ × FlatEntry)) → flat_map (shown_at total rate hidden entries) numbered ≡ flat_map (line_at total rate entries) (shown_entries hidden numbered)
+shown_lines total rate hidden entries numbered = left_out (line_at total rate entries) (λ (e : ℕ × FlatEntry). is_hidden hidden e.1.name) numbered
 
-pub put_shown : (total rate : ℕ) (hidden : List (List ℕ)) (entries : List Entry) (p q : List ℕ) (x y : Outside) (result : Result (Unit {0}) Failed)
-    → Adds Output (flat_map (shown_at total rate hidden entries) (enumerate_from 0 entries)) p q x y result → Adds Output (lines_of total rate hidden entries) p q x y result
+pub put_shown : (total rate : ℕ) (hidden : List (List ℕ)) (entries : List FlatEntry) (p q : List ℕ) (x y : Outside) (result : Result (Unit {0}) Failed)
+    → Adds Output (flat_map (shown_at total rate hidden entries) (enumerate_from 0 entries)) p q x y result → Adds Output (flat_lines total rate hidden entries) p q x y result
 put_shown total rate hidden entries p q x y result put = subst (λ (t : List ℕ). Adds Output t p q x y result) (shown_lines total rate hidden entries (enumerate_from 0 entries)) put
 
 -- where each item passes, none is left out

@@ -6,7 +6,7 @@ use Rattle.host_port.specs.declared.side.Side.TheVariants.{Output}
 use Rattle.host_port.specs.declared.host.Failed.{Failed}
 use Rattle.flat_report.specs.declared.refusal.ReportRefusal.TheVariants.{WriteFault}
 use Rattle.flat_report.specs.Sources.{Sources}
-use Rattle.flat_report.specs.Entries.{Entry, entries_of}
+use Rattle.flat_report.specs.Entries.{FlatEntry, flat_entries}
 use Rattle.flat_report.specs.FlatText.{flat_text, text_of}
 use Rattle.flat_report.specs.Reports.{Reports}
 
@@ -19,6 +19,6 @@ pub report_cut : (text whole : List ℕ) (x y : Outside) (e : Failed) → text �
 report_cut text whole x y e same puts = subst (λ (t : List ℕ). Reports t x y (Err WriteFault)) same (record { takes = record { done = tt; part = puts.takes.part; input = puts.takes.input }; counts = record { own = puts.counts.own; last = puts.counts.last; read = puts.counts.read; err = puts.counts.err }; last = puts.last })
 
 -- the text of the entries is the flat profile
-pub text_of_entries : (s : Sources) (hidden : List (List ℕ)) (entries : List Entry) → entries ≡ entries_of s → text_of s hidden entries ≡ flat_text s hidden
+pub text_of_entries : (s : Sources) (hidden : List (List ℕ)) (entries : List FlatEntry) → entries ≡ flat_entries s → text_of s hidden entries ≡ flat_text s hidden
 unfolding flat_text
 text_of_entries s hidden entries same = ap (text_of s hidden) same

@@ -11,8 +11,8 @@ use Rattle.std.specs.List.Sorted.{IsPermutation, IsSortedBy}
 use Rattle.std.proofs.lemmas.List.Elements.{All-nil, All-cons, All-append, All-head, All-tail}
 use Rattle.std.proofs.lemmas.List.Sorted.{All-permutation}
 use Rattle.flat_report.specs.Order.{in_order}
-use Rattle.flat_report.specs.Sources.{Sources, name_of, share_of, child_of, calls_of}
-use Rattle.flat_report.specs.Entries.{Entry, entry_of, has_line, functions_of, comes_before, entries_of}
+use Rattle.flat_report.specs.Sources.{Sources, name_of, self_share, child_of, calls_in_all}
+use Rattle.flat_report.specs.Entries.{FlatEntry, entry_of, has_line, listed_functions, flat_comes_before, flat_entries}
 use Rattle.flat_report.specs.FlatText.{cumulative_of}
 use Rattle.flat_report.specs.Rows.{FitsIn, IsRowOf, entry_of_row, entries_of_rows}
 use Rattle.flat_report.specs.declared.rows.Row.{Row}
@@ -31,10 +31,10 @@ pub record IsRowAt (rows : List Row) (k n : ℕ) (row : Row) : Type 0 where
   pub before : n ≡ cumulative_of (entries_of_rows rows) k
 
 module _ (rows : List Row) (k n : ℕ) (row : Row) (h : IsRowAt rows k n row) where
-  abbrev entries : List Entry
+  abbrev entries : List FlatEntry
   entries = entries_of_rows rows
 
-  abbrev entry : Entry
+  abbrev entry : FlatEntry
   entry = entry_of_row row
 
   entry_inside : k < length entries
@@ -49,15 +49,15 @@ module _ (rows : List Row) (k n : ℕ) (row : Row) (h : IsRowAt rows k n row) wh
   pub numbered_at : (k, entry) ≡ get_or (enumerate_from 0 entries) k (k, entry)
   numbered_at =
       let number : 0 + k ≡ k = omega arith in
-      sym (get_or-enumerate_from 0 entries k (k, entry) entry_inside ∙ ap (λ (e : Entry). (0 + k, e)) (sym entry_at) ∙ ap (λ (m : ℕ). (m, entry)) number)
+      sym (get_or-enumerate_from 0 entries k (k, entry) entry_inside ∙ ap (λ (e : FlatEntry). (0 + k, e)) (sym entry_at) ∙ ap (λ (m : ℕ). (m, entry)) number)
 
   -- the grains with its own
   pub cumulative_more : n + row.share ≡ cumulative_of entries (k + 1)
   cumulative_more =
-      ap (λ (m : ℕ). m + row.share) h.before ∙ ap (λ (e : Entry). cumulative_of entries k + e.share) entry_at ∙ sym (sum_by_more (λ (e : Entry). e.share) entries k entry entry_inside)
+      ap (λ (m : ℕ). m + row.share) h.before ∙ ap (λ (e : FlatEntry). cumulative_of entries k + e.share) entry_at ∙ sym (sum_by_more (λ (e : FlatEntry). e.share) entries k entry entry_inside)
 
-  pub cumulative_within : (total : ℕ) → sum_by (λ (e : Entry). e.share) entries ≤ total → n + row.share ≤ total
-  cumulative_within total all = omega (arith, all, cumulative_more, sum_by-take-le (λ (e : Entry). e.share) entries (k + 1))
+  pub cumulative_within : (total : ℕ) → sum_by (λ (e : FlatEntry). e.share) entries ≤ total → n + row.share ≤ total
+  cumulative_within total all = omega (arith, all, cumulative_more, sum_by-take-le (λ (e : FlatEntry). e.share) entries (k + 1))
 
   pub row_fits : (total : ℕ) → All (FitsIn total) entries → FitsIn total entry
   row_fits total fit = subst (FitsIn total) (sym entry_at) (fit k entry entry_inside)
@@ -67,7 +67,7 @@ module _ (rows : List Row) (k n : ℕ) (row : Row) (h : IsRowAt rows k n row) wh
 pub name_is : (s : Sources) (f : ℕ) (d : Symbol) → f < length s.symbols → (get_or s.symbols f d).name ≡ name_of s f
 name_is s f d below = sym (ap (λ (o : Option Symbol). option_map_or (λ (symbol : Symbol). symbol.name) o []) (slice_get-get_or s.symbols f d below))
 
-pub entry_is : (s : Sources) (f share child calls : ℕ) (name : List ℕ) → share ≡ share_of s f → child ≡ child_of s f → calls ≡ calls_of s.graph f → name ≡ name_of s f
+pub entry_is : (s : Sources) (f share child calls : ℕ) (name : List ℕ) → share ≡ self_share s f → child ≡ child_of s f → calls ≡ calls_in_all s.graph f → name ≡ name_of s f
     → record { share = share; total = share + child; calls = calls; name = name } ≡ entry_of s f
 entry_is s f share child calls name p q r n = λ i. record { share = p i; total = p i + q i; calls = r i; name = n i }
 
@@ -113,10 +113,10 @@ module _ (s : Sources) where
       λ i. here i ∷ rest i
 
   -- rows that are sorted are in the order of their functions
-  pub rows_in_order : (old new : List Row) → All (IsRowOf s) old → map (λ (row : Row). row.number) old ≡ functions_of s → IsPermutation old new → IsSortedBy row_before new → entries_of_rows new ≡ entries_of s
+  pub rows_in_order : (old new : List Row) → All (IsRowOf s) old → map (λ (row : Row). row.number) old ≡ listed_functions s → IsPermutation old new → IsSortedBy row_before new → entries_of_rows new ≡ flat_entries s
   rows_in_order old new all functions moved up =
       let those = All-permutation (IsRowOf s) old new moved all in
-      let sorted : IsSortedBy (λ a b. comes_before s a.number b.number) new =
+      let sorted : IsSortedBy (λ a b. flat_comes_before s a.number b.number) new =
       λ k d low below. sym (rows_before s (get_or new (k + 1) d) (get_or new k d) (those (k + 1) d (omega arith)) (those k d (omega arith))) ∙ up k d low below in
       rows_are_entries new those
-      ∙ ap (map (entry_of s)) (sorted_in_order (comes_before s) (function_order s) (λ (row : Row). row.number) old new moved sorted ∙ ap (in_order (comes_before s)) functions)
+      ∙ ap (map (entry_of s)) (sorted_in_order (flat_comes_before s) (function_order s) (λ (row : Row). row.number) old new moved sorted ∙ ap (in_order (flat_comes_before s)) functions)

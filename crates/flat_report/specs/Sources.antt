@@ -28,16 +28,16 @@ abbrev pub name_of : Sources → ℕ → List ℕ
 name_of s f = option_map_or (λ (symbol : Symbol). symbol.name) (slice_get s.symbols f) []
 
 -- the grains of a function itself
-abbrev pub share_of : Sources → ℕ → ℕ
-share_of s f = slice_index s.shares.of f
+abbrev pub self_share : Sources → ℕ → ℕ
+self_share s f = slice_index s.shares.of f
 
 -- what it gets from those that it calls outside its cycle
 abbrev pub child_of : Sources → ℕ → ℕ
 child_of s f = slice_index s.flow.member_child f
 
 -- both together
-abbrev pub total_of : Sources → ℕ → ℕ
-total_of s f = share_of s f + child_of s f
+abbrev pub inclusive_total : Sources → ℕ → ℕ
+inclusive_total s f = self_share s f + child_of s f
 
 -- the calls of a function by other functions
 abbrev pub calls_by_others : GraphValue → ℕ → ℕ
@@ -48,5 +48,5 @@ abbrev pub calls_by_itself : GraphValue → ℕ → ℕ
 calls_by_itself g f = slice_index g.self_calls f
 
 -- both together
-abbrev pub calls_of : GraphValue → ℕ → ℕ
-calls_of g f = calls_by_others g f + calls_by_itself g f
+abbrev pub calls_in_all : GraphValue → ℕ → ℕ
+calls_in_all g f = calls_by_others g f + calls_by_itself g f

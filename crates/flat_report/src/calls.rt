@@ -3,7 +3,7 @@
 ghost use Rattle.std.specs.Prelude.{◌≡◌, ◌^◌, ◌<◌, IfOk};
 ghost use Rattle.call_cycles.specs.Graph.{all_calls};
 ghost use Rattle.call_cycles.specs.Sums.{list_of};
-ghost use Rattle.flat_report.specs.Sources.{calls_by_itself, calls_of};
+ghost use Rattle.flat_report.specs.Sources.{calls_by_itself, calls_in_all};
 
 use call_cycles::Graph;
 use std::alloc::{AllocError, Global};
@@ -22,7 +22,7 @@ fn self_calls(alloc: Global, graph: &Graph) -> Result<Vec<u64>, AllocError>
 /// The calls of each function by all functions, those inside its cycle and itself included.
 pub(crate) fn calls_of_functions(alloc: Global, graph: &Graph) -> Result<Vec<u64>, AllocError>
     requires { all_calls graph.now < 2 ^ 59 }
-    ensures { IfOk result (λ v. v.items ≡ list_of graph.now.functions (calls_of graph.now)) }
+    ensures { IfOk result (λ v. v.items ≡ list_of graph.now.functions (calls_in_all graph.now)) }
 {
     let mut calls = self_calls(alloc, graph)?;
     for i in 0..graph.arc_count() {

@@ -8,7 +8,7 @@ ghost use Rattle.host_port.specs.declared.side.Side.TheVariants.{Output};
 ghost use Rattle.call_cycles.specs.Flow.{IsFlow};
 ghost use Rattle.call_cycles.specs.Graph.{all_calls};
 ghost use Rattle.symbol_shares.specs.Shares.{attributed_of};
-ghost use Rattle.flat_report.specs.FlatText.{flat_text, header_text, lines_of, line_of, text_of};
+ghost use Rattle.flat_report.specs.FlatText.{flat_text, flat_header, flat_lines, line_of, text_of};
 ghost use Rattle.flat_report.specs.Reports.{Reports};
 ghost use Rattle.flat_report.specs.Rows.{FitsIn, entry_of_row, entries_of_rows, shown_line, sources_of};
 ghost use Rattle.flat_report.specs.declared.refusal.ReportRefusal.TheVariants.{OutOfMemory};
@@ -117,7 +117,7 @@ fn put_header<H: Host>(
     lines: &mut PrintBuf,
     host: &mut H,
 ) -> Result<(), Failed>
-    ensures { Adds Output (header_text shares.now rate) lines.old lines.new (H.outside host.old) (H.outside host.new) result }
+    ensures { Adds Output (flat_header shares.now rate) lines.old lines.new (H.outside host.old) (H.outside host.new) result }
 {
     lines.put(host, b"flat profile\n")?;
     lines.put(host, line::totals(shares, rate).bytes())?;
@@ -136,7 +136,7 @@ fn put_rows<H: Host>(
     requires sum { sum_by (λ e. e.share) (entries_of_rows rows.now) ≤ total }
     requires within { total < 2 ^ 65 }
     requires rate { 1 ≤ rate }
-    ensures { Adds Output (lines_of total rate (map string_bytes hidden.now) (entries_of_rows rows.now)) lines.old lines.new
+    ensures { Adds Output (flat_lines total rate (map string_bytes hidden.now) (entries_of_rows rows.now)) lines.old lines.new
         (H.outside host.old) (H.outside host.new) result }
 {
     let mut cumulative = 0;

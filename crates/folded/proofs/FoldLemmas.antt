@@ -9,7 +9,7 @@ use Rattle.elf32_syms.specs.declared.image.Symbol.{Symbol}
 use Rattle.host_port.specs.Outside.{KeepsCounts, KeepsInput, Outside}
 use Rattle.prof_machine.specs.Notes.{note_of}
 use Rattle.prof_machine.specs.declared.notes.TurnNote.{TurnNote}
-use Rattle.prof_machine.specs.Plan.{most_turns, plan_of, planned, taker_of}
+use Rattle.prof_machine.specs.Plan.{most_turns, plan_of, world_at, taker_of}
 use Rattle.prof_machine.specs.Prints.{ArePrinted}
 use Rattle.prof_machine.specs.Schedule.{Draws, PlanPlace}
 use Rattle.prof_machine.specs.Value.{IsLive, RunValue, StandsFor, work_left}
@@ -20,7 +20,7 @@ use Rattle.folded.specs.Folding.{Follows, HasRoom, StopsShort}
 use Rattle.folded.specs.Shadow.{Shadow, empty_shadow}
 use Rattle.folded.specs.Stacks.{stacks_of}
 use Rattle.folded.specs.Tally.{Folds}
-use Rattle.folded.specs.Trail.{StackSample, Trail, first_trail, followed, run_samples, trail_after}
+use Rattle.folded.specs.Trail.{StackSample, Trail, first_trail, trail_with, run_samples, trail_after}
 use Rattle.folded.specs.declared.trail.Tracker.{Tracker}
 use Rattle.folded.proofs.TrailLemmas.{run_samples_at, trail_next}
 
@@ -31,9 +31,9 @@ pub record Goes (symbols : List Symbol) (old new : RunValue) (before now : Outsi
   pub turns : ℕ
   pub draws : Draws old.machine.setup turns next
   pub few : (turns ≡ 0) ⊎ (turns + work_left new ≤ most_turns old.machine.setup)
-  pub stands : (w : World) → StandsFor w old → StandsFor (planned old.machine w turns) new
+  pub stands : (w : World) → StandsFor w old → StandsFor (world_at old.machine w turns) new
   pub follows : (w : World) → StandsFor w old → Follows symbols (trail_after old.machine w (plan_of old.machine.setup turns)) v
-  pub prints : (w : World) → StandsFor w old → ArePrinted w (planned old.machine w turns) before now
+  pub prints : (w : World) → StandsFor w old → ArePrinted w (world_at old.machine w turns) before now
   pub counts : KeepsCounts before now
   pub writing : now.is_writing ≡ before.is_writing
   pub input : KeepsInput before now
@@ -51,7 +51,7 @@ pub more_room : (a b : ℕ) (xs : List Shadow) → a ≤ b → HasRoom a xs → 
 more_room a b xs le room = grind (arith, le, room)
 
 -- the turn in which the run ends is the last
-pub folds_last : (symbols : List Symbol) (m : Machine) (w : World) (n : ℕ) (v : Tracker) (end : End) → n ≤ most_turns m.setup → (planned m w n).ending ≡ Some end → Follows symbols (trail_after m w (plan_of m.setup n)) v
+pub folds_last : (symbols : List Symbol) (m : Machine) (w : World) (n : ℕ) (v : Tracker) (end : End) → n ≤ most_turns m.setup → (world_at m w n).ending ≡ Some end → Follows symbols (trail_after m w (plan_of m.setup n)) v
     → Folds (length symbols) (stacks_of symbols (run_samples m w)) v.folded
 folds_last symbols m w n v end enough is follows =
     let P : List StackSample → Type 0 = λ s. Folds (length symbols) (stacks_of symbols s) v.folded in
@@ -62,11 +62,11 @@ pub first_follows : (symbols : List Symbol) (m : Machine) (w : World) (v : Track
 unfolding plan_of
 first_follows symbols m w v is = is
 
-pub next_follows : (symbols : List Symbol) (m v : Machine) (w : World) (n h : ℕ) (note : TurnNote) (t : Tracker) → v ≡ m → h ≡ taker_of m.setup.plan m.setup.harts n → note ≡ note_of v (planned m w n) h
-    → Follows symbols (followed h note (trail_after m w (plan_of m.setup n))) t → Follows symbols (trail_after m w (plan_of m.setup (n + 1))) t
+pub next_follows : (symbols : List Symbol) (m v : Machine) (w : World) (n h : ℕ) (note : TurnNote) (t : Tracker) → v ≡ m → h ≡ taker_of m.setup.plan m.setup.harts n → note ≡ note_of v (world_at m w n) h
+    → Follows symbols (trail_with h note (trail_after m w (plan_of m.setup n))) t → Follows symbols (trail_after m w (plan_of m.setup (n + 1))) t
 next_follows symbols m v w n h note t same taker is follows =
     let P : Trail → Type 0 = λ x. Follows symbols x t in
-    subst P (ap (λ (x : TurnNote). followed h x (trail_after m w (plan_of m.setup n))) is ∙ trail_next m v w n h same taker) follows
+    subst P (ap (λ (x : TurnNote). trail_with h x (trail_after m w (plan_of m.setup n))) is ∙ trail_next m v w n h same taker) follows
 
 pub first_harts : (v : List Shadow) (n : ℕ) → v ≡ replicate n empty_shadow → length v ≡ n
 first_harts v n is = ap (λ (x : List Shadow). length x) is ∙ length-replicate n empty_shadow

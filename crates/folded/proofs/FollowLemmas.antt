@@ -16,15 +16,15 @@ use Rattle.folded.specs.Folding.{Follows, HasRoom}
 use Rattle.folded.specs.Shadow.{Shadow, after_hook, after_instruction, after_ran, empty_shadow, frames_before, is_call, is_return, keeps_shadow, with_call, with_return}
 use Rattle.folded.specs.Stacks.{caller_in, site_before, stack_at, stack_of, stacks_of}
 use Rattle.folded.specs.Tally.{AreBelow, Folds}
-use Rattle.folded.specs.Trail.{StackSample, Trail, followed, followed_by, is_quiet, samples_of, shadow_of}
+use Rattle.folded.specs.Trail.{StackSample, Trail, trail_with, followed_by, is_quiet, stack_samples, shadow_of}
 use Rattle.folded.specs.declared.trail.Tracker.{Tracker}
 
 pub shadow_read : (shadows : List Shadow) (h : ℕ) (s : Shadow) → h < length shadows → s ≡ get_or shadows h s → shadow_of shadows h ≡ s
 shadow_read shadows h s inside is = get_or_default shadows h empty_shadow s inside ∙ sym is
 
 pub followed_follows : (symbols : List Symbol) (h : ℕ) (note : TurnNote) (t : Trail) (s : Shadow) (v : Tracker) → after_ran note.ran (shadow_of t.shadows h) ≡ s → v.shadows.items ≡ set t.shadows h (after_hook note.returned s)
-    → Folds (length symbols) (stacks_of symbols (t.samples ++ samples_of note.sample s.frames)) v.folded → Follows symbols (followed h note t) v
-unfolding followed
+    → Folds (length symbols) (stacks_of symbols (t.samples ++ stack_samples note.sample s.frames)) v.folded → Follows symbols (trail_with h note t) v
+unfolding trail_with
 followed_follows symbols h note t s v was shadows folds =
     let P : Shadow → Type 0 = λ x. Follows symbols (followed_by h note x t) v in
     subst P (sym was) (record { shadows = shadows; folds = folds })
@@ -41,8 +41,8 @@ still_ran (Some r) s is = by_case (is_call r.instr) (is_return r.instr) is
     by_case false true is = absurd cc
     by_case false false is = refl
 
-pub quiet_followed : (h : ℕ) (note : TurnNote) (t : Trail) → is_quiet note ≡ true → followed h note t ≡ t
-unfolding followed
+pub quiet_followed : (h : ℕ) (note : TurnNote) (t : Trail) → is_quiet note ≡ true → trail_with h note t ≡ t
+unfolding trail_with
 quiet_followed h note t is = by_parts note.ran note.sample note.returned is
   where
     by_parts : (ran : Option Ran) (sample returned : Option ℕ) → (not (is_some sample) && not (is_some returned) && keeps_shadow ran) ≡ true
@@ -54,7 +54,7 @@ quiet_followed h note t is = by_parts note.ran note.sample note.returned is
     by_parts ran None (Some to) is = absurd cc
     by_parts ran (Some pc) returned is = absurd cc
 
-pub quiet_follows : (symbols : List Symbol) (h : ℕ) (note : TurnNote) (t : Trail) (v : Tracker) → is_quiet note ≡ true → Follows symbols t v → Follows symbols (followed h note t) v
+pub quiet_follows : (symbols : List Symbol) (h : ℕ) (note : TurnNote) (t : Trail) (v : Tracker) → is_quiet note ≡ true → Follows symbols t v → Follows symbols (trail_with h note t) v
 quiet_follows symbols h note t v is follows =
     let P : Trail → Type 0 = λ x. Follows symbols x v in
     subst P (sym (quiet_followed h note t is)) follows
@@ -112,13 +112,13 @@ room_set n (x ∷ xs) (suc h) y room le = by_place (room_set n xs h y (λ j e wi
 pub stacks-more : (symbols : List Symbol) (samples : List StackSample) (s : StackSample) → stacks_of symbols (samples ++ s ∷ []) ≡ stacks_of symbols samples ++ cons_option (stack_of symbols s) []
 stacks-more symbols samples s = filter_map-append (stack_of symbols) samples (s ∷ [])
 
-pub stacks-none : (symbols : List Symbol) (samples : List StackSample) (frames : List ℕ) (pc : ℕ) → owner_of symbols pc ≡ None → stacks_of symbols (samples ++ samples_of (Some pc) frames) ≡ stacks_of symbols samples
+pub stacks-none : (symbols : List Symbol) (samples : List StackSample) (frames : List ℕ) (pc : ℕ) → owner_of symbols pc ≡ None → stacks_of symbols (samples ++ stack_samples (Some pc) frames) ≡ stacks_of symbols samples
 stacks-none symbols samples frames pc is =
     stacks-more symbols samples (record { frames = frames; pc = pc })
     ∙ ap (λ (o : Option ℕ). stacks_of symbols samples ++ cons_option (option_map (stack_at symbols frames) o) []) is
     ∙ append-nil (stacks_of symbols samples)
 
-pub stacks-some : (symbols : List Symbol) (samples : List StackSample) (frames : List ℕ) (pc f : ℕ) → owner_of symbols pc ≡ Some f → stacks_of symbols (samples ++ samples_of (Some pc) frames) ≡ stacks_of symbols samples ++ stack_at symbols frames f ∷ []
+pub stacks-some : (symbols : List Symbol) (samples : List StackSample) (frames : List ℕ) (pc f : ℕ) → owner_of symbols pc ≡ Some f → stacks_of symbols (samples ++ stack_samples (Some pc) frames) ≡ stacks_of symbols samples ++ stack_at symbols frames f ∷ []
 stacks-some symbols samples frames pc f is =
     stacks-more symbols samples (record { frames = frames; pc = pc })
     ∙ ap (λ (o : Option ℕ). stacks_of symbols samples ++ cons_option (option_map (stack_at symbols frames) o) []) is

@@ -3,7 +3,7 @@ use Rattle.std.specs.Prelude.{◌≡◌, ℕ, ◌+◌, ◌<◌, ◌≤◌, List,
 use Rattle.elf32_syms.specs.declared.image.Symbol.{Symbol}
 use Rattle.host_port.specs.Outside.{KeepsCounts, Outside}
 use Rattle.prof_machine.specs.declared.machine.Machine.{Machine}
-use Rattle.prof_machine.specs.Plan.{most_turns, planned}
+use Rattle.prof_machine.specs.Plan.{most_turns, world_at}
 use Rattle.prof_machine.specs.Prints.{ArePrinted, BreaksOff, PrintFailed}
 use Rattle.prof_machine.specs.World.{World}
 use Rattle.folded.specs.declared.trail.Tracker.{Tracker}
@@ -18,8 +18,8 @@ use Rattle.folded.specs.declared.refusal.FoldRefusal.TheVariants.{HostFailed, Ou
 -- that were made
 abbrev pub StopsShort : Machine → World → Outside → Outside → FoldRefusal → Type 0
 StopsShort m w old new HostFailed =
-    (n : ℕ) × (n < most_turns m.setup) × ((planned m w n).ending ≡ None) × BreaksOff w (planned m w (n + 1)) old new
-StopsShort m w old new OutOfMemory = (n : ℕ) × (n ≤ most_turns m.setup) × ArePrinted w (planned m w n) old new
+    (n : ℕ) × (n < most_turns m.setup) × ((world_at m w n).ending ≡ None) × BreaksOff w (world_at m w (n + 1)) old new
+StopsShort m w old new OutOfMemory = (n : ℕ) × (n ≤ most_turns m.setup) × ArePrinted w (world_at m w n) old new
 
 -- only a print that failed raises a count of faults
 abbrev pub HasCause : Outside → Outside → FoldRefusal → Type 0

@@ -27,11 +27,11 @@ abbrev pub lines_text : List Symbol → List (List (Option ℕ) × ℕ) → List
 lines_text symbols lines = flat_map (line_text symbols) lines
 
 -- a function that samples have, and how many
-unfoldable pub function_text : List Symbol → ℕ → ℕ → List ℕ
-function_text symbols f n = if n == 0 then [] else name_in symbols (Some f) ++ count_text n
+unfoldable pub inclusive_line : List Symbol → ℕ → ℕ → List ℕ
+inclusive_line symbols f n = if n == 0 then [] else name_in symbols (Some f) ++ count_text n
 
 abbrev pub function_line : List Symbol → List ℕ → ℕ → List ℕ
-function_line symbols inclusive f = function_text symbols f (slice_index inclusive f)
+function_line symbols inclusive f = inclusive_line symbols f (slice_index inclusive f)
 
 abbrev pub functions_text : List Symbol → List ℕ → List ℕ
 functions_text symbols inclusive = flat_map (function_line symbols inclusive) (range_with_len 0 (length inclusive))

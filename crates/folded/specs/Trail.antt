@@ -21,19 +21,19 @@ pub record Trail : Type 0 where
 abbrev pub shadow_of : List Shadow → ℕ → Shadow
 shadow_of shadows h = slice_index_or shadows h empty_shadow
 
-abbrev pub samples_of : Option ℕ → List ℕ → List StackSample
-samples_of None frames = []
-samples_of (Some pc) frames = record { frames = frames; pc = pc } ∷ []
+abbrev pub stack_samples : Option ℕ → List ℕ → List StackSample
+stack_samples None frames = []
+stack_samples (Some pc) frames = record { frames = frames; pc = pc } ∷ []
 
 -- one more turn, of hart h: the instruction comes first, then the sample, then the return from a hook
 abbrev pub followed_by : ℕ → TurnNote → Shadow → Trail → Trail
 followed_by h note s t = record {
   shadows = slice_set t.shadows h (after_hook note.returned s);
-  samples = t.samples ++ samples_of note.sample s.frames;
+  samples = t.samples ++ stack_samples note.sample s.frames;
 }
 
-unfoldable pub followed : ℕ → TurnNote → Trail → Trail
-followed h note t = followed_by h note (after_ran note.ran (shadow_of t.shadows h)) t
+unfoldable pub trail_with : ℕ → TurnNote → Trail → Trail
+trail_with h note t = followed_by h note (after_ran note.ran (shadow_of t.shadows h)) t
 
 -- a turn in which there is nothing to follow
 abbrev pub is_quiet : TurnNote → Bool
@@ -46,7 +46,7 @@ first_trail harts = record { shadows = replicate harts empty_shadow; samples = [
 -- after more turns from world w on
 abbrev pub trail_from : Machine → World → Trail → List ℕ → Trail
 trail_from m w t [] = t
-trail_from m w t (h ∷ turns) = trail_from m (turn_of m w h) (followed h (note_of m w h) t) turns
+trail_from m w t (h ∷ turns) = trail_from m (turn_of m w h) (trail_with h (note_of m w h) t) turns
 
 abbrev pub trail_after : Machine → World → List ℕ → Trail
 trail_after m w turns = trail_from m w (first_trail m.setup.harts) turns

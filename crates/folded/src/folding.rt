@@ -3,7 +3,7 @@
 ghost use Rattle.std.specs.Prelude.{◌≡◌, ℕ, ◌<◌, length, IfOk, OnOk, IfErr, MatchResult};
 ghost use Rattle.elf32_syms.specs.Owners.{IsAscending};
 ghost use Rattle.host_port.specs.Outside.{KeepsCounts, KeepsInput};
-ghost use Rattle.prof_machine.specs.Plan.{driven};
+ghost use Rattle.prof_machine.specs.Plan.{after_drive};
 ghost use Rattle.prof_machine.specs.Prints.{ArePrinted};
 ghost use Rattle.prof_machine.specs.Setup.{IsSetup};
 ghost use Rattle.prof_machine.specs.Value.{IsLive, StandsFor};
@@ -35,7 +35,7 @@ pub fn fold<H: Host>(
     requires setup { run.old.machine.setup ≡ setup.now }
     requires limits { IsSetup setup.now }
     requires symbols { IsAscending image.now.symbols }
-    ensures stands { OnOk result ((w : World) → StandsFor w run.old → StandsFor (driven run.old.machine w) run.new) }
+    ensures stands { OnOk result ((w : World) → StandsFor w run.old → StandsFor (after_drive run.old.machine w) run.new) }
     ensures folds { IfOk result (λ f. (w : World) → StandsFor w run.old
         → Folds (length image.now.symbols) (stacks_of image.now.symbols (run_samples run.old.machine w)) f) }
     ensures functions { IfOk result (λ f. length f.inclusive ≡ length image.now.symbols) }
@@ -44,7 +44,7 @@ pub fn fold<H: Host>(
 
     // What the outside has gained.
     ensures prints { OnOk result ((w : World) → StandsFor w run.old
-        → ArePrinted w (driven run.old.machine w) (H.outside host.old) (H.outside host.new)) }
+        → ArePrinted w (after_drive run.old.machine w) (H.outside host.old) (H.outside host.new)) }
     ensures stops { IfErr result (λ e. (w : World) → StandsFor w run.old
         → StopsShort run.old.machine w (H.outside host.old) (H.outside host.new) e) }
     ensures counts { MatchResult result (λ _. KeepsCounts (H.outside host.old) (H.outside host.new)) (HasCause (H.outside host.old) (H.outside host.new)) }

@@ -7,7 +7,7 @@ ghost use Rattle.folded.specs.Folding.{Follows, HasRoom};
 ghost use Rattle.folded.specs.Shadow.{empty_shadow};
 ghost use Rattle.folded.specs.Stacks.{stacks_of};
 ghost use Rattle.folded.specs.Tally.{Folds};
-ghost use Rattle.folded.specs.Trail.{StackSample, Trail, first_trail, followed, is_quiet as is_quiet_of, samples_of};
+ghost use Rattle.folded.specs.Trail.{StackSample, Trail, first_trail, trail_with, is_quiet as is_quiet_of, stack_samples};
 
 use crate::shadow::{ShadowStack, keeps_shadow};
 use crate::tally::{Folded, stack_at};
@@ -51,7 +51,7 @@ impl Tracker {
         requires room { HasRoom (2 ^ 62) self.old.shadows.items }
         requires total { self.old.folded.total < 2 ^ 62 }
         requires functions { length self.old.folded.inclusive ≡ length symbols.now }
-        ensures follows { OnOk result ((t : Trail) → Follows symbols.now t self.old → Follows symbols.now (followed hart note t) self.new) }
+        ensures follows { OnOk result ((t : Trail) → Follows symbols.now t self.old → Follows symbols.now (trail_with hart note t) self.new) }
         ensures harts { OnOk result (length self.new.shadows.items ≡ length self.old.shadows.items) }
         ensures functions { OnOk result (length self.new.folded.inclusive ≡ length self.old.folded.inclusive) }
         ensures total { OnOk result (self.new.folded.total ≤ self.old.folded.total + 1) }
@@ -93,7 +93,7 @@ fn sample(
     requires total { folded.old.total < 2 ^ 62 }
     requires functions { length folded.old.inclusive ≡ length symbols.now }
     ensures folds { OnOk result ((samples : List StackSample) → Folds (length symbols.now) (stacks_of symbols.now samples) folded.old
-        → Folds (length symbols.now) (stacks_of symbols.now (samples ++ samples_of pc frames.now)) folded.new) }
+        → Folds (length symbols.now) (stacks_of symbols.now (samples ++ stack_samples pc frames.now)) folded.new) }
     ensures functions { OnOk result (length folded.new.inclusive ≡ length folded.old.inclusive) }
     ensures total { OnOk result (folded.new.total ≤ folded.old.total + 1) }
 {

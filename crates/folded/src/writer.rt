@@ -5,7 +5,7 @@ ghost use Rattle.std.specs.List.{flat_map};
 ghost use Rattle.host_port.specs.Buffered.{Adds};
 ghost use Rattle.host_port.specs.Host.{Puts};
 ghost use Rattle.host_port.specs.declared.side.Side.TheVariants.{Output};
-ghost use Rattle.folded.specs.Text.{callee_text, count_text, folded_text, function_text, functions_text, inclusive_text, line_text, name_in, stack_text};
+ghost use Rattle.folded.specs.Text.{callee_text, count_text, folded_text, inclusive_line, functions_text, inclusive_text, line_text, name_in, stack_text};
 
 use crate::tally::{Folded, Stack};
 use elf32_syms::Symbol;
@@ -171,7 +171,7 @@ fn put_function<H: Host>(
     lines: &mut PrintBuf,
     host: &mut H,
 ) -> Result<(), Failed>
-    ensures { Adds Output (function_text symbols.now f count) lines.old lines.new (H.outside host.old) (H.outside host.new) result }
+    ensures { Adds Output (inclusive_line symbols.now f count) lines.old lines.new (H.outside host.old) (H.outside host.new) result }
 {
     if count == 0 {
         return Ok(());

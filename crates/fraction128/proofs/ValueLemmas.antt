@@ -1,7 +1,7 @@
 -- Sums and products of fractions with known values.
 use Rattle.std.proofs.Common.{◌≡◌, ◌<◌, ℕ, ◌+◌, ◌*◌, ◌/◌, refl, ap, sym, ◌∙◌, subst, arith}
 use Rattle.std.proofs.Math.Nat.{div-mul_cancel, mul-pos, eq-one_of_dvd-one, eq_of_mul-eq-mul_right}
-use Rattle.fraction128.specs.Fractions.{Fraction, fraction, gcd, lowest, sum_num, sum_den, sum_of, product_of, IsValue}
+use Rattle.fraction128.specs.Fractions.{Fraction, fraction, gcd, lowest, sum_num, sum_den, fraction_sum, product_of, IsValue}
 use Rattle.fraction128.proofs.DivisorLemmas.{gcd_divides, coprime_from, lowest_value, lowest_some, lowest_of, coprime_quotients, same_fraction, same_lowest, sum_den_some}
 
 -- lowest terms depend on the value alone
@@ -52,14 +52,14 @@ module _ (f h : Fraction) (a d : ℕ) (some : 0 < d) (is_f : IsValue f a d) wher
           let second : z * u * d ≡ b * (u * w) = let e = ap (λ (k : ℕ). k * u) q in omega arith in
           omega arith
 
-  pub sum_value : (b : ℕ) → IsValue h b d → sum_of f h ≡ lowest (a + b) d
+  pub sum_value : (b : ℕ) → IsValue h b d → fraction_sum f h ≡ lowest (a + b) d
   sum_value b is_h = let cross = sum_cross b is_h in lowest_same (sum_num f h) (sum_den f h) (a + b) d cross.1 some cross.0
 
 -- a fraction in lowest terms is known by its value
 pub one_lowest : (f h : Fraction) → 0 < f.den → 0 < h.den → gcd f.num f.den ≡ 1 → gcd h.num h.den ≡ 1 → f.num * h.den ≡ h.num * f.den → f ≡ h
 one_lowest f h some_f some_h one two same = let both = same_lowest f.num f.den h.num h.den some_f some_h one two same in same_fraction f.num f.den h.num h.den both.0 both.1
 
-pub exact_sum : (f h : Fraction) → 0 < f.den → 0 < h.den → IsValue (sum_of f h) (f.num * h.den + h.num * f.den) (f.den * h.den)
+pub exact_sum : (f h : Fraction) → 0 < f.den → 0 < h.den → IsValue (fraction_sum f h) (f.num * h.den + h.num * f.den) (f.den * h.den)
 exact_sum f h some_f some_h =
     let d = f.den * h.den in
     let some = mul-pos some_f some_h in

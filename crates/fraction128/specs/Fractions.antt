@@ -35,8 +35,8 @@ sum_num a b = a.num * (b.den / gcd a.den b.den) + b.num * (a.den / gcd a.den b.d
 abbrev pub sum_den : Fraction → Fraction → ℕ
 sum_den a b = a.den / gcd a.den b.den * b.den
 
-abbrev pub sum_of : Fraction → Fraction → Fraction
-sum_of a b = lowest (sum_num a b) (sum_den a b)
+abbrev pub fraction_sum : Fraction → Fraction → Fraction
+fraction_sum a b = lowest (sum_num a b) (sum_den a b)
 
 abbrev pub product_of : Fraction → Fraction → Fraction
 product_of a b = lowest (a.num * b.num) (a.den * b.den)

@@ -1,7 +1,7 @@
 //! Fractions made of two numbers, sums and products.
 
 ghost use Rattle.std.specs.Prelude.{◌≡◌, ◌<◌, ◌≢◌, ◌↔◌, ◌*◌, ◌/◌, IfSome, IsSome};
-ghost use Rattle.fraction128.specs.Fractions.{gcd, lowest, sum_num, sum_den, sum_of, product_of, FitsSum, FitsProduct};
+ghost use Rattle.fraction128.specs.Fractions.{gcd, lowest, sum_num, sum_den, fraction_sum, product_of, FitsSum, FitsProduct};
 ghost use Rattle.fraction128.specs.Values.{value_of};
 
 use crate::divisors::divisor;
@@ -85,7 +85,7 @@ impl Frac {
 
     /// The exact sum; `None` where over the least common denominator one of its two numbers is 2^128 or more.
     pub fn add(&self, other: &Frac) -> Option<Frac>
-        ensures value { IfSome result (λ f. value_of f ≡ sum_of (value_of self.now) (value_of other.now)) }
+        ensures value { IfSome result (λ f. value_of f ≡ fraction_sum (value_of self.now) (value_of other.now)) }
         ensures fits { IsSome result ↔ FitsSum (value_of self.now) (value_of other.now) }
     {
         let (num, den) = sum_numbers(self, other)?;

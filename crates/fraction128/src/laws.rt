@@ -2,7 +2,7 @@
 
 ghost use Rattle.std.specs.Prelude.{◌≡◌, ◌<◌, ◌+◌, ◌*◌, ℕ};
 ghost use Rattle.std.specs.Int.{IsGcd};
-ghost use Rattle.fraction128.specs.Fractions.{Fraction, IsValue, gcd, lowest, sum_of, product_of};
+ghost use Rattle.fraction128.specs.Fractions.{Fraction, IsValue, gcd, lowest, fraction_sum, product_of};
 
 /// Lowest terms keep the value, have no common divisor but 1, and are the only fraction of which both holds.
 pub fn lowest_terms()
@@ -14,6 +14,6 @@ pub fn lowest_terms()
 
 /// Sums and products have the exact values.
 pub fn exact_values()
-    ensures sums { (f h : Fraction) → 0 < f.den → 0 < h.den → IsValue (sum_of f h) (f.num * h.den + h.num * f.den) (f.den * h.den) }
+    ensures sums { (f h : Fraction) → 0 < f.den → 0 < h.den → IsValue (fraction_sum f h) (f.num * h.den + h.num * f.den) (f.den * h.den) }
     ensures products { (f h : Fraction) → 0 < f.den → 0 < h.den → IsValue (product_of f h) (f.num * h.num) (f.den * h.den) }
 {}

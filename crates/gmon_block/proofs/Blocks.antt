@@ -3,7 +3,7 @@ use Rattle.std.proofs.Common.{◌≡◌, ℕ, zero, suc, ◌+◌, ◌*◌, ◌<�
 use Rattle.std.proofs.lemmas.List.{drop_at, append-nil, replicate-append-replicate}
 use Rattle.std.specs.List.{flat_map, All, AllByRecursion}
 use Rattle.std.proofs.lemmas.List.Elements.{All-head, All-tail}
-use Rattle.gp_base.specs.Bytes.{value_of, cut, overwritten}
+use Rattle.gp_base.specs.Bytes.{value_of, items_of_text, with_piece_at}
 use Rattle.gp_base.proofs.Cutting.{length-spelled, cut-flat_map}
 use Rattle.gp_base.proofs.LittleEndian.{value_of-le}
 use Rattle.gp_base.proofs.Overwriting.{overwritten-item}
@@ -72,46 +72,46 @@ module _ (p : Parts) (t c f : ℕ) (counts : Counts p t c f) where
   unfolding layout_of
   parts_of-layout_of fits =
       let whole : (entries ++ words) ++ slots ≡ entries ++ (words ++ slots) = append_assoc entries words slots in
-      let tos : cut 12 entry_of t ((entries ++ words) ++ slots) ≡ p.tos =
-      ap (cut 12 entry_of t) whole ∙ ap (λ (k : ℕ). cut 12 entry_of k (entries ++ (words ++ slots))) (sym counts.tos)
+      let tos : items_of_text 12 entry_of t ((entries ++ words) ++ slots) ≡ p.tos =
+      ap (items_of_text 12 entry_of t) whole ∙ ap (λ (k : ℕ). items_of_text 12 entry_of k (entries ++ (words ++ slots))) (sym counts.tos)
       ∙ cut-flat_map 12 entry_of entry_bytes EntryFits length-entry entry_of-spelled p.tos (words ++ slots) (by_recursion EntryFits p.tos fits.tos) in
       let at_words : drop (12 * t) ((entries ++ words) ++ slots) ≡ words ++ slots =
       ap (drop (12 * t)) whole ∙ drop_at entries (words ++ slots) (12 * t) length-entries in
-      let counters : cut 2 value_of c (drop (12 * t) ((entries ++ words) ++ slots)) ≡ p.counters =
-      ap (cut 2 value_of c) at_words ∙ ap (λ (k : ℕ). cut 2 value_of k (words ++ slots)) (sym counts.counters)
+      let counters : items_of_text 2 value_of c (drop (12 * t) ((entries ++ words) ++ slots)) ≡ p.counters =
+      ap (items_of_text 2 value_of c) at_words ∙ ap (λ (k : ℕ). items_of_text 2 value_of k (words ++ slots)) (sym counts.counters)
       ∙ cut-flat_map 2 value_of word_bytes WordFits length-word word_spelled p.counters slots (by_recursion WordFits p.counters fits.counters) in
       let at_slots : drop (12 * t + 2 * c) ((entries ++ words) ++ slots) ≡ slots ++ [] =
       drop_at (entries ++ words) slots (12 * t + 2 * c) (omega (arith, length-append entries words, length-entries, length-words)) ∙ sym (append-nil slots) in
-      let froms : cut 2 value_of f (drop (12 * t + 2 * c) ((entries ++ words) ++ slots)) ≡ p.froms =
-      ap (cut 2 value_of f) at_slots ∙ ap (λ (k : ℕ). cut 2 value_of k (slots ++ [])) (sym counts.froms)
+      let froms : items_of_text 2 value_of f (drop (12 * t + 2 * c) ((entries ++ words) ++ slots)) ≡ p.froms =
+      ap (items_of_text 2 value_of f) at_slots ∙ ap (λ (k : ℕ). items_of_text 2 value_of k (slots ++ [])) (sym counts.froms)
       ∙ cut-flat_map 2 value_of word_bytes WordFits length-word word_spelled p.froms [] (by_recursion WordFits p.froms fits.froms) in
       λ i. record { tos = tos i; counters = counters i; froms = froms i }
 
   -- a write over one item changes that item
-  pub set_entry : (i at : ℕ) (x : Tos) → i < t → 12 * i ≡ at → overwritten at (entry_bytes x) (layout_of p) ≡ layout_of (record p { tos = set p.tos i x })
+  pub set_entry : (i at : ℕ) (x : Tos) → i < t → 12 * i ≡ at → with_piece_at at (entry_bytes x) (layout_of p) ≡ layout_of (record p { tos = set p.tos i x })
   unfolding layout_of
   set_entry i at x inside place =
       let inside' : i < length p.tos = omega (arith, counts.tos) in
       let new : List ℕ = flat_map entry_bytes (set p.tos i x) in
-      ap (overwritten at (entry_bytes x)) (append_assoc entries words slots)
+      ap (with_piece_at at (entry_bytes x)) (append_assoc entries words slots)
       ∙ overwritten-item 12 entry_bytes length-entry [] (words ++ slots) p.tos i at x inside' (omega (arith, place))
       ∙ sym (append_assoc new words slots)
 
-  pub set_counter : (i at n : ℕ) → i < c → 12 * t + 2 * i ≡ at → overwritten at (word_bytes n) (layout_of p) ≡ layout_of (record p { counters = set p.counters i n })
+  pub set_counter : (i at n : ℕ) → i < c → 12 * t + 2 * i ≡ at → with_piece_at at (word_bytes n) (layout_of p) ≡ layout_of (record p { counters = set p.counters i n })
   unfolding layout_of
   set_counter i at n inside place =
       let inside' : i < length p.counters = omega (arith, counts.counters) in
       let new : List ℕ = flat_map word_bytes (set p.counters i n) in
-      ap (overwritten at (word_bytes n)) (append_assoc entries words slots)
+      ap (with_piece_at at (word_bytes n)) (append_assoc entries words slots)
       ∙ overwritten-item 2 word_bytes length-word entries slots p.counters i at n inside' (omega (arith, length-entries, place))
       ∙ sym (append_assoc entries new slots)
 
-  pub set_slot : (i at n : ℕ) → i < f → 12 * t + 2 * c + 2 * i ≡ at → overwritten at (word_bytes n) (layout_of p) ≡ layout_of (record p { froms = set p.froms i n })
+  pub set_slot : (i at n : ℕ) → i < f → 12 * t + 2 * c + 2 * i ≡ at → with_piece_at at (word_bytes n) (layout_of p) ≡ layout_of (record p { froms = set p.froms i n })
   unfolding layout_of
   set_slot i at n inside place =
       let inside' : i < length p.froms = omega (arith, counts.froms) in
       let new : List ℕ = flat_map word_bytes (set p.froms i n) in
-      ap (λ (bs : List ℕ). overwritten at (word_bytes n) ((entries ++ words) ++ bs)) (sym (append-nil slots))
+      ap (λ (bs : List ℕ). with_piece_at at (word_bytes n) ((entries ++ words) ++ bs)) (sym (append-nil slots))
       ∙ overwritten-item 2 word_bytes length-word (entries ++ words) [] p.froms i at n inside' (omega (arith, length-append entries words, length-entries, length-words, place))
       ∙ ap (λ (bs : List ℕ). (entries ++ words) ++ bs) (append-nil new)
 

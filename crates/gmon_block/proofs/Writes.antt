@@ -2,7 +2,7 @@
 use Rattle.std.proofs.Common.{◌≡◌, ℕ, ◌+◌, ◌*◌, ◌^◌, ◌<◌, ◌≤◌, List, length, take, drop, set, replicate, slice_get, Some, sym, ap, ◌∙◌, subst, arith, length-set}
 use Rattle.std.proofs.lemmas.List.{drop-drop, length-replicate, length-drop, length-take}
 use Rattle.std.proofs.lemmas.List.Elements.{All-set, All-replicate}
-use Rattle.gp_base.specs.Bytes.{value_of, cut, overwritten}
+use Rattle.gp_base.specs.Bytes.{value_of, items_of_text, with_piece_at}
 use Rattle.gp_base.proofs.LittleEndian.{length-cut}
 use Rattle.gp_base.proofs.Cutting.{get_cut}
 use Rattle.gmon_block.specs.declared.entry.Tos.{Tos}
@@ -49,31 +49,31 @@ module _ (a : Inside) (h : IsHeld a) where
   abbrev was : Parts
   was = view_of a
 
-  pub with_entry : (i at : ℕ) (x : Tos) (bs : List ℕ) → i < a.tos → 12 * i ≡ at → EntryFits x → bs ≡ overwritten at (entry_bytes x) a.raw
+  pub with_entry : (i at : ℕ) (x : Tos) (bs : List ℕ) → i < a.tos → 12 * i ≡ at → EntryFits x → bs ≡ with_piece_at at (entry_bytes x) a.raw
       → Holds (record a { raw = bs }) (record was { tos = set was.tos i x })
   with_entry i at x bs inside place fits e =
       let p : Parts = record was { tos = set was.tos i x } in
       let n : Counts p a.tos a.counters a.froms = record { tos = length-set was.tos i x ∙ (counts a).tos; counters = (counts a).counters; froms = (counts a).froms } in
       holds (record a { raw = bs }) p h.entries h.words h.slots
-      (sym (set_entry was a.tos a.counters a.froms (counts a) i at x inside place) ∙ ap (overwritten at (entry_bytes x)) h.laid ∙ sym e)
+      (sym (set_entry was a.tos a.counters a.froms (counts a) i at x inside place) ∙ ap (with_piece_at at (entry_bytes x)) h.laid ∙ sym e)
       n (record { tos = All-set EntryFits was.tos i x fits h.fits.tos; counters = h.fits.counters; froms = h.fits.froms })
 
-  pub with_counter : (i at n : ℕ) (bs : List ℕ) → i < a.counters → 12 * a.tos + 2 * i ≡ at → n < 2 ^ 16 → bs ≡ overwritten at (word_bytes n) a.raw
+  pub with_counter : (i at n : ℕ) (bs : List ℕ) → i < a.counters → 12 * a.tos + 2 * i ≡ at → n < 2 ^ 16 → bs ≡ with_piece_at at (word_bytes n) a.raw
       → Holds (record a { raw = bs }) (record was { counters = set was.counters i n })
   with_counter i at n bs inside place fits e =
       let p : Parts = record was { counters = set was.counters i n } in
       let k : Counts p a.tos a.counters a.froms = record { tos = (counts a).tos; counters = length-set was.counters i n ∙ (counts a).counters; froms = (counts a).froms } in
       holds (record a { raw = bs }) p h.entries h.words h.slots
-      (sym (set_counter was a.tos a.counters a.froms (counts a) i at n inside place) ∙ ap (overwritten at (word_bytes n)) h.laid ∙ sym e)
+      (sym (set_counter was a.tos a.counters a.froms (counts a) i at n inside place) ∙ ap (with_piece_at at (word_bytes n)) h.laid ∙ sym e)
       k (record { tos = h.fits.tos; counters = All-set WordFits was.counters i n fits h.fits.counters; froms = h.fits.froms })
 
-  pub with_slot : (i at n : ℕ) (bs : List ℕ) → i < a.froms → 12 * a.tos + 2 * a.counters + 2 * i ≡ at → n < 2 ^ 16 → bs ≡ overwritten at (word_bytes n) a.raw
+  pub with_slot : (i at n : ℕ) (bs : List ℕ) → i < a.froms → 12 * a.tos + 2 * a.counters + 2 * i ≡ at → n < 2 ^ 16 → bs ≡ with_piece_at at (word_bytes n) a.raw
       → Holds (record a { raw = bs }) (record was { froms = set was.froms i n })
   with_slot i at n bs inside place fits e =
       let p : Parts = record was { froms = set was.froms i n } in
       let k : Counts p a.tos a.counters a.froms = record { tos = (counts a).tos; counters = (counts a).counters; froms = length-set was.froms i n ∙ (counts a).froms } in
       holds (record a { raw = bs }) p h.entries h.words h.slots
-      (sym (set_slot was a.tos a.counters a.froms (counts a) i at n inside place) ∙ ap (overwritten at (word_bytes n)) h.laid ∙ sym e)
+      (sym (set_slot was a.tos a.counters a.froms (counts a) i at n inside place) ∙ ap (with_piece_at at (word_bytes n)) h.laid ∙ sym e)
       k (record { tos = h.fits.tos; counters = h.fits.counters; froms = All-set WordFits was.froms i n fits h.fits.froms })
 
 -- a new block
@@ -97,7 +97,7 @@ get_entry a i at inside place =
     let there : i * 12 ≡ at = omega arith in
     get_cut 12 entry_of a.tos i a.raw inside ∙ ap (λ (k : ℕ). Some (entry_of (take 12 (drop k a.raw)))) there
 
-get_word : (bs : List ℕ) (n i from at : ℕ) → i < n → from + 2 * i ≡ at → slice_get (cut 2 value_of n (drop from bs)) i ≡ Some (value_of (take 2 (drop at bs)))
+get_word : (bs : List ℕ) (n i from at : ℕ) → i < n → from + 2 * i ≡ at → slice_get (items_of_text 2 value_of n (drop from bs)) i ≡ Some (value_of (take 2 (drop at bs)))
 get_word bs n i from at inside place =
     let there : drop (i * 2) (drop from bs) ≡ drop at bs = drop-drop (i * 2) from bs ∙ ap (λ (k : ℕ). drop k bs) (omega arith) in
     get_cut 2 value_of n i (drop from bs) inside ∙ ap (λ (v : List ℕ). Some (value_of (take 2 v))) there

@@ -130,7 +130,7 @@ impl Drop for RawBytes {
 }
 
 impl RawBytes {
-    ghost use Rattle.gp_base.specs.Bytes.{overwritten};
+    ghost use Rattle.gp_base.specs.Bytes.{with_piece_at};
 
     // `len` bytes that are 0, in one allocation.
     pub(crate) fn zeroed(alloc: Global, len: usize) -> Result<RawBytes, AllocError>
@@ -163,7 +163,7 @@ impl RawBytes {
     // Writes `piece` over the bytes from `at` on.
     pub(crate) fn put(&mut self, at: usize, piece: &[u8])
         requires { at + length piece.now ≤ length self.old }
-        ensures { self.new ≡ overwritten at piece.now self.old }
+        ensures { self.new ≡ with_piece_at at piece.now self.old }
     {
         let bytes = self.bytes.as_mut_slice();
         bytes[at..at + piece.len()].copy_from_slice(piece);

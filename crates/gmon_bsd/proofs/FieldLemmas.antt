@@ -6,17 +6,17 @@ use Rattle.gp_base.specs.Bytes.{value_of, le, IsBytes}
 use Rattle.gp_base.proofs.LittleEndian.{length-cut, IsBytes-drop, field_below, field_then}
 use Rattle.gp_base.proofs.Cutting.{all_cut, flat_map-cut}
 use Rattle.gp_base.specs.Fields.{arc_bytes, arc_of, counter_bytes, ArcFits, CounterFits}
-use Rattle.gmon_bsd.specs.Fields.{version}
+use Rattle.gmon_bsd.specs.Fields.{bsd_version}
 use Rattle.gp_base.proofs.FieldLemmas.{counter_spelled, counter_fits, arc_spelled, arc_fits}
-use Rattle.gmon_bsd.specs.Grammar.{spelling, BsdSpells}
-use Rattle.gmon_bsd.specs.Reading.{low_of, high_of, size_of, version_of, rate_of, counter_count, arc_count, file_counters, file_arcs, bsd_refusal, bsd_records}
+use Rattle.gmon_bsd.specs.Grammar.{bsd_spelling, BsdSpells}
+use Rattle.gmon_bsd.specs.Reading.{low_of, high_of, size_of, version_of, rate_of, counter_count, whole_arcs, file_counters, file_arcs, bsd_refusal, bsd_records}
 use Rattle.gmon_bsd.proofs.RefusalLemmas.{Accepted, accepted_of}
 
 -- the counters and the arcs are all that follows the header
 bodies : (bs : List ℕ) → IsBytes bs → Accepted bs → flat_map counter_bytes (file_counters bs) ++ flat_map arc_bytes (file_arcs bs) ≡ drop 32 bs
 bodies bs bytes a =
     let n = counter_count bs in
-    let m = arc_count bs in
+    let m = whole_arcs bs in
     let size = size_of bs in
     let even : 32 + n * 2 ≡ size = omega (arith, a.size_least, a.size_even) in
     let whole : m * 12 ≡ length bs - size = omega (arith, a.arcs) in
@@ -29,7 +29,7 @@ bodies bs bytes a =
     ∙ ap (λ (v : List ℕ). take (n * 2) (drop 32 bs) ++ v) (arcs ∙ all ∙ rest)
     ∙ take-append-drop (n * 2) (drop 32 bs)
 
-spells_text : (bs : List ℕ) → IsBytes bs → Accepted bs → bs ≡ spelling (low_of bs) (high_of bs) (rate_of bs) (take 12 (drop 20 bs)) (file_counters bs) (file_arcs bs)
+spells_text : (bs : List ℕ) → IsBytes bs → Accepted bs → bs ≡ bsd_spelling (low_of bs) (high_of bs) (rate_of bs) (take 12 (drop 20 bs)) (file_counters bs) (file_arcs bs)
 spells_text bs bytes a =
     let n = counter_count bs in
     let body = flat_map counter_bytes (file_counters bs) ++ flat_map arc_bytes (file_arcs bs) in
@@ -38,10 +38,10 @@ spells_text bs bytes a =
     let even : 32 + length (file_counters bs) * 2 ≡ size_of bs = omega (arith, a.size_least, a.size_even, length-cut 2 value_of n (drop 32 bs)) in
     let t20 : spare ++ body ≡ drop 20 bs = ap (λ (v : List ℕ). spare ++ v) (bodies bs bytes a ∙ sym (drop-drop 12 20 bs)) ∙ take-append-drop 12 (drop 20 bs) in
     let t16 : le (rate_of bs) 4 ++ (spare ++ body) ≡ drop 16 bs = ap (λ (v : List ℕ). le (rate_of bs) 4 ++ v) t20 ∙ field_then 4 16 bs bytes (omega arith) in
-    let t12 : le version 4 ++ (le (rate_of bs) 4 ++ (spare ++ body)) ≡ drop 12 bs =
+    let t12 : le bsd_version 4 ++ (le (rate_of bs) 4 ++ (spare ++ body)) ≡ drop 12 bs =
     ap (λ (k : ℕ). le k 4 ++ (le (rate_of bs) 4 ++ (spare ++ body))) (sym a.version_is) ∙ ap (λ (v : List ℕ). le (version_of bs) 4 ++ v) t16 ∙ field_then 4 12 bs bytes (omega arith) in
-    let t8 : le (32 + length (file_counters bs) * 2) 4 ++ (le version 4 ++ (le (rate_of bs) 4 ++ (spare ++ body))) ≡ drop 8 bs =
-    ap (λ (k : ℕ). le k 4 ++ (le version 4 ++ (le (rate_of bs) 4 ++ (spare ++ body)))) even ∙ ap (λ (v : List ℕ). le (size_of bs) 4 ++ v) t12 ∙ field_then 4 8 bs bytes (omega arith) in
+    let t8 : le (32 + length (file_counters bs) * 2) 4 ++ (le bsd_version 4 ++ (le (rate_of bs) 4 ++ (spare ++ body))) ≡ drop 8 bs =
+    ap (λ (k : ℕ). le k 4 ++ (le bsd_version 4 ++ (le (rate_of bs) 4 ++ (spare ++ body)))) even ∙ ap (λ (v : List ℕ). le (size_of bs) 4 ++ v) t12 ∙ field_then 4 8 bs bytes (omega arith) in
     let t4 = ap (λ (v : List ℕ). le (high_of bs) 4 ++ v) t8 ∙ field_then 4 4 bs bytes (omega arith) in
     sym (ap (λ (v : List ℕ). le (low_of bs) 4 ++ v) t4 ∙ field_then 4 0 bs bytes (omega arith))
 
@@ -49,7 +49,7 @@ pub spelled_of : (bs : List ℕ) → IsBytes bs → bsd_refusal bs ≡ None → 
 spelled_of bs bytes e =
     let a = accepted_of bs e in
     let n = counter_count bs in
-    let m = arc_count bs in
+    let m = whole_arcs bs in
     let header = a.header in
     let count = length-cut 2 value_of n (drop 32 bs) in
     record {

@@ -5,11 +5,11 @@ use Rattle.mcount_arcs.specs.Samples.{buckets_of}
 use Rattle.mcount_arcs.proofs.BucketLemmas.{length-buckets_of}
 use Rattle.mcount_arcs.proofs.SizeLemmas.{some_text}
 use Rattle.gmon_cells.proofs.LogFitLemmas.{counters_fit, arcs_fit}
-use Rattle.gmon_bsd.specs.Run.{run_text, spare_words, RunsAreSpelled, RunsAreReadBack}
+use Rattle.gmon_bsd.specs.Run.{bsd_run_text, spare_words, RunsAreSpelled, RunsAreReadBack}
 use Rattle.gmon_bsd.proofs.SpellingLemmas.{accepted_where_spelled, only_where_spelled}
 
 pub run_spelled : RunsAreSpelled
-unfolding run_text
+unfolding bsd_run_text
 run_spelled z log rate sizes rate_fits calls = record {
   low = z.low;
   high = z.high;

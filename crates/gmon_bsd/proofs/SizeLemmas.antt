@@ -10,7 +10,7 @@ use Rattle.gp_base.specs.Spans.{HasRange}
 use Rattle.gmon_data.specs.Content.{WideRec, empty_content, hist_over, wide_records, with_hist, with_records}
 use Rattle.gmon_data.specs.Sizes.{IsOfBytes}
 use Rattle.gmon_data.proofs.SizeLemmas.{all_arcs, counters_sum, more_bytes, of_nothing, one_hist}
-use Rattle.gmon_bsd.specs.Grammar.{BsdSpells, spelling}
+use Rattle.gmon_bsd.specs.Grammar.{BsdSpells, bsd_spelling}
 use Rattle.gmon_data.proofs.RecordLemmas.{arcs_widened}
 
 counters_long : (counters : List ℕ) → length (flat_map counter_bytes counters) ≡ 2 * length counters
@@ -21,7 +21,7 @@ arcs_long : (arcs : List RawArc) → length (flat_map arc_bytes arcs) ≡ 12 * l
 arcs_long [] = refl
 arcs_long (a ∷ arcs) = omega (arith, arcs_long arcs)
 
-spelling_long : (low high rate : ℕ) (spare counters : List ℕ) (arcs : List RawArc) → 2 * length counters + 12 * length arcs ≤ length (spelling low high rate spare counters arcs)
+spelling_long : (low high rate : ℕ) (spare counters : List ℕ) (arcs : List RawArc) → 2 * length counters + 12 * length arcs ≤ length (bsd_spelling low high rate spare counters arcs)
 spelling_long low high rate spare counters arcs =
     omega (arith, counters_long counters, arcs_long arcs, length-append spare (flat_map counter_bytes counters ++ flat_map arc_bytes arcs), length-append (flat_map counter_bytes counters) (flat_map arc_bytes arcs))
 

@@ -2,5 +2,5 @@
 use Rattle.std.specs.Prelude.{ℕ}
 
 -- GMONVERSION of gmon.h
-abbrev pub version : ℕ
-version = 0x00051879
+abbrev pub bsd_version : ℕ
+bsd_version = 0x00051879

@@ -2,7 +2,7 @@
 use Rattle.std.proofs.Common.{◌≡◌, ℕ, zero, suc, ◌+◌, ◌-◌, ◌*◌, ◌/◌, ◌%◌, ◌<◌, ◌≤◌, List, [], ◌∷◌, ◌++◌, length, take, drop, length-take, length-drop, length-append, refl, sym, ap, ◌∙◌, append_assoc, arith}
 use Rattle.std.proofs.lemmas.Nat.{div-add-mod', div-mul-add, mod_below}
 use Rattle.std.proofs.lemmas.List.{take_at, drop_at, take_all, take-append-drop, drop-drop}
-use Rattle.gp_base.specs.Bytes.{cut, IsBytes}
+use Rattle.gp_base.specs.Bytes.{items_of_text, IsBytes}
 use Rattle.gp_base.proofs.LittleEndian.{IsBytes-rest}
 use Rattle.gmon_cells.specs.Cells.{cells_of, torn_of, StandsFor}
 
@@ -21,7 +21,7 @@ div_more n w some more =
 -- ---- a text that is shorter than a cell
 
 pub cells_none : {X : Type 0} (w : ℕ) (cell : List ℕ → X) (bs : List ℕ) → length bs < w → cells_of w cell bs ≡ []
-cells_none w cell bs less = ap (λ (n : ℕ). cut w cell n bs) (div_less (length bs) w less)
+cells_none w cell bs less = ap (λ (n : ℕ). items_of_text w cell n bs) (div_less (length bs) w less)
 
 pub torn_whole : (w : ℕ) (bs : List ℕ) → length bs < w → torn_of w bs ≡ bs
 torn_whole w bs less =
@@ -38,9 +38,9 @@ count_then w first rest some whole =
 
 pub cells_then : {X : Type 0} (w : ℕ) (cell : List ℕ → X) (first rest : List ℕ) → 0 < w → length first ≡ w → cells_of w cell (first ++ rest) ≡ cell first ∷ cells_of w cell rest
 cells_then {X} w cell first rest some whole =
-    ap (λ (n : ℕ). cut w cell n (first ++ rest)) (count_then w first rest some whole)
-    ∙ ap (λ (v : List ℕ). cell v ∷ cut w cell (length rest / w) (drop w (first ++ rest))) (take_at first rest w whole)
-    ∙ ap (λ (v : List ℕ). cell first ∷ cut w cell (length rest / w) v) (drop_at first rest w whole)
+    ap (λ (n : ℕ). items_of_text w cell n (first ++ rest)) (count_then w first rest some whole)
+    ∙ ap (λ (v : List ℕ). cell v ∷ items_of_text w cell (length rest / w) (drop w (first ++ rest))) (take_at first rest w whole)
+    ∙ ap (λ (v : List ℕ). cell first ∷ items_of_text w cell (length rest / w) v) (drop_at first rest w whole)
 
 pub torn_then : (w : ℕ) (first rest : List ℕ) → 0 < w → length first ≡ w → torn_of w (first ++ rest) ≡ torn_of w rest
 torn_then w first rest some whole =

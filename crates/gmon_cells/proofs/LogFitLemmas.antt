@@ -5,7 +5,7 @@ use Rattle.std.proofs.lemmas.List.Elements.{recursion_from_All, All-nil, All-app
 use Rattle.gp_base.specs.declared.records.RawArc.{RawArc}
 use Rattle.gp_base.specs.Fields.{ArcFits, CounterFits}
 use Rattle.mcount_arcs.specs.declared.sizes.Sizes.{Sizes}
-use Rattle.mcount_arcs.specs.Arcs.{CallFits, arcs_of, slot_arcs, arc_in, chain_in}
+use Rattle.mcount_arcs.specs.Arcs.{CallFits, arcs_of, slot_arcs, arc_of_pairs, chain_in}
 use Rattle.mcount_arcs.specs.Log.{LogEntry, Pair, kept_calls}
 use Rattle.mcount_arcs.specs.Samples.{buckets_of, bucket_of}
 use Rattle.mcount_arcs.specs.Sizes.{AreSizes, site_of}
@@ -24,7 +24,7 @@ slots_fit : (z : Sizes) (pairs : List Pair) (a n : ℕ) → site_of z (a + n) < 
 slots_fit z pairs a zero fits = All-nil SiteFits
 slots_fit z pairs a (suc n) fits =
     All-append SiteFits (slot_arcs z pairs a) (flat_map (slot_arcs z pairs) (range_with_len (a + 1) n))
-    (All-map SiteFits (arc_in z pairs a) (chain_in pairs a) (λ k d lt. omega (arith, fits, sites_in_order z a (a + suc n) (omega arith))))
+    (All-map SiteFits (arc_of_pairs z pairs a) (chain_in pairs a) (λ k d lt. omega (arith, fits, sites_in_order z a (a + suc n) (omega arith))))
     (slots_fit z pairs (a + 1) n (omega (arith, fits, sites_in_order z (a + 1 + n) (a + suc n) (omega arith))))
 
 sites_fit : (z : Sizes) (log : List LogEntry) → AreSizes z → All SiteFits (arcs_of z log)

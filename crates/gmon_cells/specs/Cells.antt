@@ -1,9 +1,9 @@
 -- The cells of a text in which each takes w bytes: those that are whole, and what there is of the next.
 use Rattle.std.specs.Prelude.{◌≡◌, ℕ, ◌*◌, ◌/◌, List, drop, length}
-use Rattle.gp_base.specs.Bytes.{cut}
+use Rattle.gp_base.specs.Bytes.{items_of_text}
 
 abbrev pub cells_of : {X : Type 0} → ℕ → (List ℕ → X) → List ℕ → List X
-cells_of w cell bytes = cut w cell (length bytes / w) bytes
+cells_of w cell bytes = items_of_text w cell (length bytes / w) bytes
 
 abbrev pub torn_of : ℕ → List ℕ → List ℕ
 torn_of w bytes = drop (length bytes / w * w) bytes

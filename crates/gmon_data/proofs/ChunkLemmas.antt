@@ -8,7 +8,7 @@ use Rattle.std.proofs.lemmas.Option.{slice_get_read}
 use Rattle.std.proofs.lemmas.List.{get_or-map, get_or-set_same, get_or_default, length-map, length-set, length-take-le, set-append_left, set-append_right}
 use Rattle.std.proofs.lemmas.List.Edits.{get_or-insert_above, get_or-insert_at, get_or-insert_below, length-insert, insert-append_left, insert-append_right}
 use Rattle.gmon_data.specs.Chunks.{items_of, starts_from, IsChunk, IsChunked, IsChunkOf}
-use Rattle.gmon_data.specs.ChunkSteps.{bumped, HasRoom}
+use Rattle.gmon_data.specs.ChunkSteps.{starts_with_one_more, HasRoom}
 
 -- ---- plain lists
 
@@ -35,12 +35,12 @@ insert_past_first xs ys j x =
 
 -- ---- starts that are bumped one after the other
 
-length-bumped : (c : ℕ) (starts : List ℕ) → length (bumped c starts) ≡ length starts
+length-bumped : (c : ℕ) (starts : List ℕ) → length (starts_with_one_more c starts) ≡ length starts
 length-bumped zero starts = length-map starts (λ (n : ℕ). n + 1)
 length-bumped (suc c) [] = refl
 length-bumped (suc c) (s ∷ ss) = ap suc (length-bumped c ss)
 
-bumped_at : (c k : ℕ) (starts : List ℕ) → c ≤ k → k < length starts → get_or (bumped c starts) k 0 ≡ get_or starts k 0 + 1
+bumped_at : (c k : ℕ) (starts : List ℕ) → c ≤ k → k < length starts → get_or (starts_with_one_more c starts) k 0 ≡ get_or starts k 0 + 1
 bumped_at c k [] le lt = absurd (let f : suc k ≤ 0 = lt in omega (arith, f))
 bumped_at zero k (s ∷ ss) le lt = get_or-map (λ (n : ℕ). n + 1) (s ∷ ss) k 0 0 lt
 bumped_at (suc c) zero (s ∷ ss) le lt = absurd (let f : suc c ≤ 0 = le in omega (arith, f))
@@ -58,14 +58,14 @@ one_more_new [] (y ∷ ys) k x same lt is = absurd cc
 one_more_new (n ∷ ns) (y ∷ ys) zero x same lt is = ap (λ (z : ℕ). z ∷ ys) (sym is)
 one_more_new (n ∷ ns) (y ∷ ys) (suc k) x same lt is = ap (λ (l : List ℕ). n ∷ l) (one_more_new ns ys k x (omega (arith, same)) (omega (arith, lt)) is)
 
-pub one_more_bumped : (starts now : List ℕ) (c k x : ℕ) → now ≡ take k (bumped c starts) ++ drop k starts → c ≤ k → k < length starts → x ≡ get_or now k x
-    → set now k (x + 1) ≡ take (k + 1) (bumped c starts) ++ drop (k + 1) starts
+pub one_more_bumped : (starts now : List ℕ) (c k x : ℕ) → now ≡ take k (starts_with_one_more c starts) ++ drop k starts → c ≤ k → k < length starts → x ≡ get_or now k x
+    → set now k (x + 1) ≡ take (k + 1) (starts_with_one_more c starts) ++ drop (k + 1) starts
 one_more_bumped starts now c k x is le lt read =
     let long = length-bumped c starts in
-    let at : x ≡ get_or starts k 0 = read ∙ ap (λ (l : List ℕ). get_or l k x) is ∙ old_at (bumped c starts) starts k x long lt ∙ get_or_default starts k x 0 lt in
-    let more : get_or (bumped c starts) k 0 ≡ x + 1 = bumped_at c k starts le lt ∙ ap (λ (n : ℕ). n + 1) (sym at) in
-    ap (λ (l : List ℕ). set l k (x + 1)) is ∙ one_more_new (bumped c starts) starts k (x + 1) long lt more
-    ∙ ap (λ (n : ℕ). take n (bumped c starts) ++ drop n starts) (sym (add-one k))
+    let at : x ≡ get_or starts k 0 = read ∙ ap (λ (l : List ℕ). get_or l k x) is ∙ old_at (starts_with_one_more c starts) starts k x long lt ∙ get_or_default starts k x 0 lt in
+    let more : get_or (starts_with_one_more c starts) k 0 ≡ x + 1 = bumped_at c k starts le lt ∙ ap (λ (n : ℕ). n + 1) (sym at) in
+    ap (λ (l : List ℕ). set l k (x + 1)) is ∙ one_more_new (starts_with_one_more c starts) starts k (x + 1) long lt more
+    ∙ ap (λ (n : ℕ). take n (starts_with_one_more c starts) ++ drop n starts) (sym (add-one k))
 
 module _ {T : Type 0} where
   abbrev items : Vec T → List T
@@ -319,7 +319,7 @@ module _ {T : Type 0} where
       let next : (n + 1) + length x.items ≡ (n + length x.items) + 1 = omega arith in
       ap (λ (l : List ℕ). (n + 1) ∷ l) (ap (λ (k : ℕ). starts_from k xs) next ∙ starts_shift (n + length x.items) xs)
 
-  starts_bumped : (n c : ℕ) (cs : List (Vec T)) (w new : Vec T) → c < length cs → length new.items ≡ length (get_or cs c w).items + 1 → starts_from n (set cs c new) ≡ bumped (suc c) (starts_from n cs)
+  starts_bumped : (n c : ℕ) (cs : List (Vec T)) (w new : Vec T) → c < length cs → length new.items ≡ length (get_or cs c w).items + 1 → starts_from n (set cs c new) ≡ starts_with_one_more (suc c) (starts_from n cs)
   starts_bumped n c [] w new lt more = absurd (let f : suc c ≤ 0 = lt in omega (arith, f))
   starts_bumped n zero (x ∷ xs) w new lt more =
       let next : n + length new.items ≡ (n + length x.items) + 1 = omega (arith, more) in
@@ -327,7 +327,7 @@ module _ {T : Type 0} where
   starts_bumped n (suc c) (x ∷ xs) w new lt more = ap (λ (l : List ℕ). n ∷ l) (starts_bumped (n + length x.items) c xs w new (omega (arith, lt)) more)
 
   pub chunk_longer : (cs : List (Vec T)) (starts : List ℕ) (len i c start : ℕ) (w new : Vec T) (x : T) → IsChunked cs starts len → IsInChunk cs i c → start ≡ before c cs → w ≡ get_or cs c w → length w.items < 512
-      → new.items ≡ insert w.items (i - start) x → IsChunked (set cs c new) (bumped (c + 1) starts) (len + 1) × (items_of (set cs c new) ≡ insert (items_of cs) i x)
+      → new.items ≡ insert w.items (i - start) x → IsChunked (set cs c new) (starts_with_one_more (c + 1) starts) (len + 1) × (items_of (set cs c new) ≡ insert (items_of cs) i x)
   chunk_longer cs starts len i c start w new x chunked at is read room made =
       let inside = below_read cs i c start w at is read in
       let inside' : i - start ≤ length w.items = omega (arith, inside) in
@@ -340,7 +340,7 @@ module _ {T : Type 0} where
       let below = items_before cs c w at.inside in (
         record {
           filled = filled_set cs c new (record { some = omega (arith, more); few = omega (arith, more, room) }) chunked.filled;
-          placed = ap (bumped (c + 1)) chunked.placed ∙ ap (λ (k : ℕ). bumped k (starts_from 0 cs)) (add-one c) ∙ sym (starts_bumped 0 c cs w new at.inside more');
+          placed = ap (starts_with_one_more (c + 1)) chunked.placed ∙ ap (λ (k : ℕ). starts_with_one_more k (starts_from 0 cs)) (add-one c) ∙ sym (starts_bumped 0 c cs w new at.inside more');
           counted = omega (arith, chunked.counted, ap length all, length-insert (items_of cs) i x (omega (arith, at.below w, below)));
         },
         all,

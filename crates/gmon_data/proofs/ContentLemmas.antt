@@ -9,8 +9,8 @@ use Rattle.gmon_data.specs.declared.hist.Hist.{Hist}
 use Rattle.gmon_data.specs.declared.hist.HistRange.{HistRange}
 use Rattle.gmon_data.specs.Hists.{conflict_with, has_counters, kept_unit, put_hist, range_conflict, unit_conflict}
 use Rattle.gmon_data.proofs.HistLemmas.{first_none}
-use Rattle.gmon_data.specs.Tally.{tally, sums_by_key, total_of}
-use Rattle.gmon_data.specs.Content.{WideRec, WideHist, WideArc, WideBlock, Content, same_ends, arc_in, block_in, hist_in, unit_in, hists_of, arcs_of, blocks_of, unit_of, content_of, with_hist, with_arc, with_block, IsWithin}
+use Rattle.gmon_data.specs.Tally.{tally, sums_by_key, tally_total}
+use Rattle.gmon_data.specs.Content.{WideRec, WideHist, WideArc, WideBlock, Content, same_ends, arc_in, block_in, hist_in, unit_in, hists_of, summed_arcs, blocks_of, unit_of, content_of, with_hist, with_arc, with_block, IsWithin}
 use Rattle.gmon_data.proofs.TallyLemmas.{sums_by_key-more, sum-tally}
 
 pub same-self : (k : ℕ) → nat_eq k k ≡ true
@@ -65,16 +65,16 @@ content-hist h u recs =
     (λ i. record { hists = hists i; arcs = arcs i; blocks = blocks i; «unit» = units i }) ∙ by (has_counters h) refl
   where
     by : (b : Bool) → has_counters h ≡ b
-        → record { hists = fold (λ done h. put_hist h done) [] (filter_map hist_in recs ++ filter_map hist_in (WideHist h u ∷ [])); arcs = arcs_of recs; blocks = blocks_of recs; «unit» = slice_get (filter_map unit_in recs ++ filter_map unit_in (WideHist h u ∷ [])) 0 }
-        ≡ with_hist h u (record { hists = hists_of recs; arcs = arcs_of recs; blocks = blocks_of recs; «unit» = unit_of recs })
+        → record { hists = fold (λ done h. put_hist h done) [] (filter_map hist_in recs ++ filter_map hist_in (WideHist h u ∷ [])); arcs = summed_arcs recs; blocks = blocks_of recs; «unit» = slice_get (filter_map unit_in recs ++ filter_map unit_in (WideHist h u ∷ [])) 0 }
+        ≡ with_hist h u (record { hists = hists_of recs; arcs = summed_arcs recs; blocks = blocks_of recs; «unit» = unit_of recs })
     by true e =
         let hists = fold-append (λ done h. put_hist h done) [] (filter_map hist_in recs) (h ∷ []) in
         let units = first_more (filter_map unit_in recs) (kept_unit u) in
-        rw e (λ i. record { hists = hists i; arcs = arcs_of recs; blocks = blocks_of recs; «unit» = units i })
+        rw e (λ i. record { hists = hists i; arcs = summed_arcs recs; blocks = blocks_of recs; «unit» = units i })
     by false e =
         let hists = append-nil (filter_map hist_in recs) in
         let units = append-nil (filter_map unit_in recs) in
-        rw e (λ i. record { hists = fold (λ done h. put_hist h done) [] (hists i); arcs = arcs_of recs; blocks = blocks_of recs; «unit» = slice_get (units i) 0 })
+        rw e (λ i. record { hists = fold (λ done h. put_hist h done) [] (hists i); arcs = summed_arcs recs; blocks = blocks_of recs; «unit» = slice_get (units i) 0 })
 
 pub hist_stands : (h : Hist) (u : units.Unit) (v w new : Content) → v ≡ w → new ≡ with_hist h u v → (recs : List WideRec) → w ≡ content_of recs → new ≡ content_of (recs ++ WideHist h u ∷ [])
 hist_stands h u v w new is added recs before = added ∙ ap (with_hist h u) (is ∙ before) ∙ sym (content-hist h u recs)
@@ -102,9 +102,9 @@ on_ok (Err e) p f = p
 
 -- what adds to a profile: the fields that it is seen by are those of its value
 module _ (from to count : ℕ) (v w : Content) where
-  pub arc_fits : v ≡ w → IsWithin (with_arc from to count w) → total_of v.arcs + count < 2 ^ 64
+  pub arc_fits : v ≡ w → IsWithin (with_arc from to count w) → tally_total v.arcs + count < 2 ^ 64
   arc_fits is fits =
-      let same : total_of (tally same_ends (from, to) count v.arcs) ≡ total_of (tally same_ends (from, to) count w.arcs) = ap (λ c. total_of (tally same_ends (from, to) count c.arcs)) is in
+      let same : tally_total (tally same_ends (from, to) count v.arcs) ≡ tally_total (tally same_ends (from, to) count w.arcs) = ap (λ c. tally_total (tally same_ends (from, to) count c.arcs)) is in
       omega (arith, same, fits.calls, sum-tally same_ends (from, to) count v.arcs)
 
   pub arc_stands : (new : List ((ℕ × ℕ) × ℕ)) → v ≡ w → new ≡ tally same_ends (from, to) count v.arcs
@@ -113,9 +113,9 @@ module _ (from to count : ℕ) (v w : Content) where
       ap (λ l. record v { arcs = l }) added ∙ ap (with_arc from to count) (is ∙ before) ∙ sym (content-arc from to count recs)
 
 module _ (addr count : ℕ) (v w : Content) where
-  pub block_fits : v ≡ w → IsWithin (with_block addr count w) → total_of v.blocks + count < 2 ^ 64
+  pub block_fits : v ≡ w → IsWithin (with_block addr count w) → tally_total v.blocks + count < 2 ^ 64
   block_fits is fits =
-      let same : total_of (tally nat_eq addr count v.blocks) ≡ total_of (tally nat_eq addr count w.blocks) = ap (λ c. total_of (tally nat_eq addr count c.blocks)) is in
+      let same : tally_total (tally nat_eq addr count v.blocks) ≡ tally_total (tally nat_eq addr count w.blocks) = ap (λ c. tally_total (tally nat_eq addr count c.blocks)) is in
       omega (arith, same, fits.runs, sum-tally nat_eq addr count v.blocks)
 
   pub block_stands : (new : List (ℕ × ℕ)) → v ≡ w → new ≡ tally nat_eq addr count v.blocks

@@ -6,7 +6,7 @@ use Rattle.std.proofs.lemmas.List.{append-nil, map-append}
 use Rattle.std.proofs.lemmas.List.Sums.{fold-append, sum_by-append, sum_by-cons}
 use Rattle.std.proofs.lemmas.List.Folds.{list_any-append}
 use Rattle.indexmap.specs.IndexMap.{insert_entry}
-use Rattle.gmon_data.specs.Tally.{total_of, tally, distinct_keys, sum_at, sums_by_key}
+use Rattle.gmon_data.specs.Tally.{tally_total, tally, distinct_keys, sum_at, sums_by_key}
 
 abbrev one_entry : {K : Type 0} → K → ℕ → List (K × ℕ)
 one_entry k n = (k, n) ∷ []
@@ -26,42 +26,42 @@ insert-tally same k n sum (e ∷ es) is =
     put_at k n sum e es (insert_entry same es k sum) (tally same k n es) (lookup (same k) es) (same k e.0) is (insert-tally same k n sum es)
 
 -- the sum of all numbers rises by what is added
-sum_step : {K : Type 0} (n : ℕ) (e : K × ℕ) (es added : List (K × ℕ)) (here : Bool) → total_of added ≡ total_of es + n
-    → total_of (cond here ((e.0, e.1 + n) ∷ es) (e ∷ added)) ≡ total_of (e ∷ es) + n
+sum_step : {K : Type 0} (n : ℕ) (e : K × ℕ) (es added : List (K × ℕ)) (here : Bool) → tally_total added ≡ tally_total es + n
+    → tally_total (cond here ((e.0, e.1 + n) ∷ es) (e ∷ added)) ≡ tally_total (e ∷ es) + n
 sum_step {K} n e es added true h =
     let f = λ (x : K × ℕ). x.1 in
-    let g : total_of (◌∷◌ (e.0, e.1 + n) es) ≡ total_of (e ∷ es) + n = omega (arith, sum_by-cons f (e.0, e.1 + n) es, sum_by-cons f e es) in g
+    let g : tally_total (◌∷◌ (e.0, e.1 + n) es) ≡ tally_total (e ∷ es) + n = omega (arith, sum_by-cons f (e.0, e.1 + n) es, sum_by-cons f e es) in g
 sum_step {K} n e es added false h =
     let f = λ (x : K × ℕ). x.1 in
-    let g : total_of (e ∷ added) ≡ total_of (e ∷ es) + n = omega (arith, h, sum_by-cons f e added, sum_by-cons f e es) in g
+    let g : tally_total (e ∷ added) ≡ tally_total (e ∷ es) + n = omega (arith, h, sum_by-cons f e added, sum_by-cons f e es) in g
 
-pub sum-tally : {K : Type 0} (same : K → K → Bool) (k : K) (n : ℕ) (es : List (K × ℕ)) → total_of (tally same k n es) ≡ total_of es + n
+pub sum-tally : {K : Type 0} (same : K → K → Bool) (k : K) (n : ℕ) (es : List (K × ℕ)) → tally_total (tally same k n es) ≡ tally_total es + n
 sum-tally same k n [] = refl
 sum-tally same k n (e ∷ es) = sum_step n e es (tally same k n es) (same k e.0) (sum-tally same k n es)
 
 -- each number is within the sum of all
-pub lookup-within : {K : Type 0} (test : K → Bool) (es : List (K × ℕ)) → unwrap_or (lookup test es) 0 ≤ total_of es
+pub lookup-within : {K : Type 0} (test : K → Bool) (es : List (K × ℕ)) → unwrap_or (lookup test es) 0 ≤ tally_total es
 lookup-within test [] = omega arith
 lookup-within {K} test (e ∷ es) = by (test e.0) (sum_by-cons (λ (x : K × ℕ). x.1) e es) (lookup-within test es)
   where
-    by : (b : Bool) → total_of (e ∷ es) ≡ e.1 + total_of es → unwrap_or (lookup test es) 0 ≤ total_of es → unwrap_or (cond b (Some e.1) (lookup test es)) 0 ≤ total_of (e ∷ es)
-    by true cons rest = let g : e.1 ≤ total_of (e ∷ es) = omega (arith, cons) in g
-    by false cons rest = let g : unwrap_or (lookup test es) 0 ≤ total_of (e ∷ es) = omega (arith, cons, rest) in g
+    by : (b : Bool) → tally_total (e ∷ es) ≡ e.1 + tally_total es → unwrap_or (lookup test es) 0 ≤ tally_total es → unwrap_or (cond b (Some e.1) (lookup test es)) 0 ≤ tally_total (e ∷ es)
+    by true cons rest = let g : e.1 ≤ tally_total (e ∷ es) = omega (arith, cons) in g
+    by false cons rest = let g : unwrap_or (lookup test es) 0 ≤ tally_total (e ∷ es) = omega (arith, cons, rest) in g
 
 -- the numbers from one place on
-pub total-drop : {K : Type 0} (es : List (K × ℕ)) (i : ℕ) (e : K × ℕ) → slice_get es i ≡ Some e → total_of (drop i es) ≡ e.1 + total_of (drop (i + 1) es)
+pub total-drop : {K : Type 0} (es : List (K × ℕ)) (i : ℕ) (e : K × ℕ) → slice_get es i ≡ Some e → tally_total (drop i es) ≡ e.1 + tally_total (drop (i + 1) es)
 total-drop [] i e at = absurd cc
 total-drop {K} (x ∷ xs) zero e at =
     let same : x.1 ≡ e.1 = ap (λ (o : Option (K × ℕ)). MatchNumber o) at in
     let f = λ (x : K × ℕ). x.1 in
-    let g : total_of (x ∷ xs) ≡ e.1 + total_of xs = omega (arith, same, sum_by-cons f x xs) in g
+    let g : tally_total (x ∷ xs) ≡ e.1 + tally_total xs = omega (arith, same, sum_by-cons f x xs) in g
   where
     MatchNumber : Option (K × ℕ) → ℕ
     MatchNumber (Some x) = x.1
     MatchNumber None = 0
 total-drop (x ∷ xs) (suc i) e at =
     let others = total-drop xs i e at in
-    others ∙ ap (λ k. e.1 + total_of (drop k xs)) (add-one i) ∙ ap (λ k. e.1 + total_of (drop k (x ∷ xs))) (sym (add-one (suc i)))
+    others ∙ ap (λ k. e.1 + tally_total (drop k xs)) (add-one i) ∙ ap (λ k. e.1 + tally_total (drop k (x ∷ xs))) (sym (add-one (suc i)))
 
 abbrev pub one : {K : Type 0} → K → ℕ → K × ℕ
 one k n = (k, n)

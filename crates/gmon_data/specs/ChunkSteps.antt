@@ -9,5 +9,5 @@ abbrev pub HasRoom : {T : Type 0} → List (Vec T) → List ℕ → ℕ → Type
 HasRoom {T} chunks starts i = (c : ℕ) (w : Vec T) → IsChunkOf starts i c → length (slice_index_or chunks c w).items < CHUNK
 
 -- the starts, where one item more stands before each chunk from c on
-abbrev pub bumped : ℕ → List ℕ → List ℕ
-bumped c starts = take c starts ++ map (λ n. n + 1) (drop c starts)
+abbrev pub starts_with_one_more : ℕ → List ℕ → List ℕ
+starts_with_one_more c starts = take c starts ++ map (λ n. n + 1) (drop c starts)

@@ -13,7 +13,7 @@ use Rattle.std.specs.Map.{keys_of, lookup}
 use Rattle.gmon_data.specs.declared.refusal.Unlike.{Unlike}
 use Rattle.gmon_data.specs.declared.refusal.AddRefusal.{AddRefusal}
 use Rattle.gmon_data.specs.Hists.{range_of, put_hist, kept_unit, has_counters, conflict_with, samples_of, unlike_in, IsKept, IsApart, IsUnitOf}
-use Rattle.gmon_data.specs.Tally.{tally, sums_by_key, total_of}
+use Rattle.gmon_data.specs.Tally.{tally, sums_by_key, tally_total}
 
 -- a record whose numbers have 64 bits
 pub data WideRec : Type 0 where
@@ -67,14 +67,14 @@ hists_of recs = fold (λ done h. put_hist h done) [] (filter_map hist_in recs)
 abbrev pub unit_of : List WideRec → Option units.Unit
 unit_of recs = slice_get (filter_map unit_in recs) 0
 
-abbrev pub arcs_of : List WideRec → List ((ℕ × ℕ) × ℕ)
-arcs_of recs = sums_by_key same_ends (filter_map arc_in recs)
+abbrev pub summed_arcs : List WideRec → List ((ℕ × ℕ) × ℕ)
+summed_arcs recs = sums_by_key same_ends (filter_map arc_in recs)
 
 abbrev pub blocks_of : List WideRec → List (ℕ × ℕ)
 blocks_of recs = sums_by_key nat_eq (filter_map block_in recs)
 
 unfoldable pub content_of : List WideRec → Content
-content_of recs = record { hists = hists_of recs; arcs = arcs_of recs; blocks = blocks_of recs; «unit» = unit_of recs }
+content_of recs = record { hists = hists_of recs; arcs = summed_arcs recs; blocks = blocks_of recs; «unit» = unit_of recs }
 
 abbrev pub with_hist : Hist → units.Unit → Content → Content
 with_hist h u c = if has_counters h then record c { hists = put_hist h c.hists; «unit» = Some (unwrap_or c.«unit» (kept_unit u)) } else c
@@ -169,8 +169,8 @@ pub record IsAdded (recs : List WideRec) (old new : Content) : Type 0 where
 pub record IsWithin (c : Content) : Type 0 where
   pub samples : samples_of c.hists < 2 ^ 45
   pub counters : sum_by (λ h. length h.counters) c.hists < 2 ^ 26
-  pub calls : total_of c.arcs < 2 ^ 59
-  pub runs : total_of c.blocks < 2 ^ 59
+  pub calls : tally_total c.arcs < 2 ^ 59
+  pub runs : tally_total c.blocks < 2 ^ 59
   pub pairs : length c.arcs < 2 ^ 26
   pub addresses : length c.blocks < 2 ^ 26
 

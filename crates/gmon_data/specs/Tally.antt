@@ -20,5 +20,5 @@ abbrev pub sums_by_key : {K : Type 0} → (K → K → Bool) → List (K × ℕ)
 sums_by_key same es = map (λ k. (k, sum_at same k es)) (distinct_keys same (map (λ e. e.0) es))
 
 -- the sum of all numbers
-abbrev pub total_of : {K : Type 0} → List (K × ℕ) → ℕ
-total_of es = sum_by (λ e. e.1) es
+abbrev pub tally_total : {K : Type 0} → List (K × ℕ) → ℕ
+tally_total es = sum_by (λ e. e.1) es

@@ -4,7 +4,7 @@ ghost use Rattle.std.specs.Prelude.{◌≡◌, ◌+◌, ◌^◌, ◌<◌, ◌≤
 ghost use Rattle.std.specs.Fn.{ComputesKey};
 ghost use Rattle.std.specs.List.Sorted.{IsNonDecreasing, IsPartitionedBy, IsPartitionPoint};
 ghost use Rattle.gmon_data.specs.Chunks.{items_of, IsChunked, IsChunkOf};
-ghost use Rattle.gmon_data.specs.ChunkSteps.{bumped, HasRoom};
+ghost use Rattle.gmon_data.specs.ChunkSteps.{starts_with_one_more, HasRoom};
 
 use std::alloc::{AllocError, Global};
 use std::marker::Model;
@@ -247,7 +247,7 @@ fn split_full<T: Drop>(
 /// One item more stands before each chunk from `c` on.
 fn bump(starts: &mut Vec<usize>, c: usize)
     requires { (k : ℕ) → k < length starts.old.items → slice_index starts.old.items k + 1 < 2 ^ 64 }
-    ensures { starts.new.items ≡ bumped c starts.old.items }
+    ensures { starts.new.items ≡ starts_with_one_more c starts.old.items }
 {
     for k in c..starts.len() {
         starts[k] += 1;

@@ -6,7 +6,7 @@ ghost use Rattle.std.specs.List.Sorted.{IsPartitionPoint};
 ghost use Rattle.gp_base.specs.Spans.{HasRange};
 ghost use Rattle.gmon_data.specs.Content.{hist_over, HistNumbersFit, IsProfile, WideRec, WideHist, WideArc, WideBlock, empty_content, with_hist, with_arc, hist_conflict, is_arc, with_block, content_of, IsWithin, IsAdded, IsStopped, conflict_of, runs_at, wide_arc, wide_block, wide_hist, wide_record, wide_records, with_records};
 ghost use Rattle.gmon_data.specs.Hists.{IsKept, IsUnlike, conflict_with, kept_unit, range_of, samples_of, unlike_in};
-ghost use Rattle.gmon_data.specs.Tally.{total_of};
+ghost use Rattle.gmon_data.specs.Tally.{tally_total};
 ghost use Rattle.gmon_data.specs.declared.refusal.AddRefusal.TheVariants.{OutOfMemory};
 
 use crate::chunks::ChunkedList;
@@ -508,7 +508,7 @@ impl Profile {
 
     /// The calls of all pairs.
     pub fn calls(&self) -> u64
-        ensures { result ≡ total_of self.now.arcs }
+        ensures { result ≡ tally_total self.now.arcs }
     {
         total(&self.arcs)
     }
@@ -539,7 +539,7 @@ impl Profile {
 
     /// The executions of all basic blocks.
     pub fn blocks(&self) -> u64
-        ensures { result ≡ total_of self.now.blocks }
+        ensures { result ≡ tally_total self.now.blocks }
     {
         total(&self.blocks)
     }

@@ -3,7 +3,7 @@
 ghost use Rattle.std.specs.Prelude.{◌≡◌, ◌+◌, ◌^◌, ◌<◌, OnOk, OnErr};
 ghost use Rattle.std.specs.List.{IsDistinct};
 ghost use Rattle.std.specs.Map.{keys_of};
-ghost use Rattle.gmon_data.specs.Tally.{tally, total_of};
+ghost use Rattle.gmon_data.specs.Tally.{tally, tally_total};
 
 use indexmap::IndexMap;
 use std::alloc::AllocError;
@@ -15,7 +15,7 @@ pub(crate) fn add_to<K: Eq + Hash + Copy + Drop, S: BuildHasher>(
     key: K,
     n: u64,
 ) -> Result<(), AllocError>
-    requires { total_of numbers.old.entries + n < 2 ^ 64 }
+    requires { tally_total numbers.old.entries + n < 2 ^ 64 }
     ensures added { OnOk result (numbers.new.entries ≡ tally K.eq key n numbers.old.entries) }
     ensures distinct { IsDistinct K.eq (keys_of numbers.new.entries) }
     ensures unchanged { OnErr result (numbers.new.entries ≡ numbers.old.entries) }
@@ -27,8 +27,8 @@ pub(crate) fn add_to<K: Eq + Hash + Copy + Drop, S: BuildHasher>(
 
 /// The sum of all numbers.
 pub(crate) fn total<K: Eq + Hash, S: BuildHasher>(numbers: &IndexMap<K, u64, S>) -> u64
-    requires { total_of numbers.now.entries < 2 ^ 64 }
-    ensures { result ≡ total_of numbers.now.entries }
+    requires { tally_total numbers.now.entries < 2 ^ 64 }
+    ensures { result ≡ tally_total numbers.now.entries }
 {
     let mut sum = 0;
     for i in 0..numbers.len() {

@@ -7,7 +7,7 @@ use Rattle.std.proofs.lemmas.List.{take-append-le, take-append-drop}
 use Rattle.gp_base.specs.declared.records.Form.{Form}
 use Rattle.gp_base.specs.declared.records.Form.TheVariants.{Bsd, Gnu}
 use Rattle.host_port.specs.Act.{Disk, file_content}
-use Rattle.host_port.specs.Outside.{Outside, IsConsistent, Becomes, Did, KeepsCounts, opening}
+use Rattle.host_port.specs.Outside.{Outside, IsConsistent, Becomes, Did, KeepsCounts, with_openings}
 use Rattle.host_port.specs.Host.{Came}
 use Rattle.host_port.specs.Load.{Loads}
 use Rattle.host_port.specs.declared.loading.LoadRefusal.TheVariants.{TooLarge}
@@ -72,7 +72,7 @@ joins_more name bytes buf n (Some d') (Some d) (Some r') (Some r) disk rest came
 pub loading_more : (name : List ℕ) (limit n : ℕ) (bytes before buf : List ℕ) (old mid new : Outside) → Loading name limit bytes old mid → Did [] mid new → new.is_open ≡ true → new.at_end ≡ false → KeepsCounts mid new
     → IfSome mid.rest (λ rest. Came n rest buf) → Becomes (drop n) mid.rest new.rest → length bytes + n ≤ limit → Loading name limit (bytes ++ take n buf) old new
 loading_more name limit n bytes before buf old mid new far did open_still going counts came rest fits = record {
-  did = Did-then [] [] (opening 1 old) mid new far.did did;
+  did = Did-then [] [] (with_openings 1 old) mid new far.did did;
   counts = record { read = counts.read ∙ far.counts.read; write = counts.write ∙ far.counts.write; err = counts.err ∙ far.counts.err };
   is_open = open_still;
   going = going;
@@ -106,7 +106,7 @@ pub loading_long : (name : List ℕ) (limit n : ℕ) (bytes buf : List ℕ) (old
 loading_long name limit n bytes buf old mid new far consistent did counts came goes long few =
     let told : is_some mid.rest ≡ is_some mid.disk = consistent.rest ∙ ap (λ (b : Bool). b && is_some mid.disk) far.is_open in
     record {
-      nothing_done = Did-then [] [] (opening 1 old) mid new far.did did;
+      nothing_done = Did-then [] [] (with_openings 1 old) mid new far.did did;
       answer = longer name bytes buf limit n mid.disk new.disk mid.rest told did.disk came far.joins long;
       left = behind_it name bytes buf limit 4096 n mid.disk new.disk mid.rest new.rest did.disk goes came far.joins (omega (arith, far.within, few));
       within = tt;

@@ -5,9 +5,9 @@ use Rattle.std.proofs.lemmas.Bool.Decides.{nat_tests}
 use Rattle.gp_base.specs.declared.records.Form.{Form}
 use Rattle.gp_base.specs.declared.records.Form.TheVariants.{Bsd, Gnu}
 use Rattle.gp_base.specs.declared.records.Span.{Span}
-use Rattle.gmon_bsd.specs.Run.{run_text as bsd_run_text, run_records as bsd_run_records}
+use Rattle.gmon_bsd.specs.Run.{bsd_run_text, bsd_run_records}
 use Rattle.gmon_bsd.proofs.RunReadBack.{run_read_back as bsd_read_back}
-use Rattle.gmon_gnu.specs.Run.{run_text as gnu_run_text, run_records as gnu_run_records}
+use Rattle.gmon_gnu.specs.Run.{gnu_run_text, gnu_run_records}
 use Rattle.gmon_gnu.proofs.RunReadBack.{run_read_back as gnu_read_back}
 use Rattle.mcount_arcs.specs.declared.sizes.Sizes.{Sizes}
 use Rattle.mcount_arcs.specs.Log.{LogEntry}

@@ -6,7 +6,7 @@ use Rattle.gmon_gnu.specs.Fed as gnu
 use Rattle.host_port.specs.declared.loading.LoadRefusal.{LoadRefusal}
 use Rattle.host_port.specs.declared.loading.LoadRefusal.TheVariants.{ReadFault, TooLarge, OutOfMemory}
 use Rattle.host_port.specs.Act.{file_content}
-use Rattle.host_port.specs.Outside.{Outside, Did, KeepsCounts, opening}
+use Rattle.host_port.specs.Outside.{Outside, Did, KeepsCounts, with_openings}
 use Rattle.host_port.specs.Host.{IfTold}
 use Rattle.host_port.specs.Load.{Loads}
 use Rattle.gmon_files.specs.declared.file_reader.FileReader.{FileReader}
@@ -44,7 +44,7 @@ HasRoomFor profile r = HasRoomForSome (λ bytes. StandsFor bytes r) file_refusal
 
 -- the named file was read to its end, and these are its bytes, as far as it is told
 pub record IsContent (name : List ℕ) (limit : ℕ) (old new : Outside) (bytes : List ℕ) : Type 0 where
-  pub nothing_done : Did [] (opening 1 old) new
+  pub nothing_done : Did [] (with_openings 1 old) new
   pub answer : IfTold new (λ d. bytes ≡ file_content name d.files)
   pub within : length bytes ≤ limit
   pub counts : KeepsCounts old new

@@ -9,7 +9,7 @@ use Rattle.gp_base.specs.declared.records.Rec.{Rec}
 use Rattle.gp_base.specs.declared.records.Records.{Records}
 use Rattle.gp_base.specs.Bytes.{le}
 use Rattle.gp_base.specs.Fields.{BlockFits}
-use Rattle.gmon_gnu.specs.Fields.{version}
+use Rattle.gmon_gnu.specs.Fields.{gnu_version}
 use Rattle.gmon_gnu.specs.Blocks.{block_at, block_record, executed_blocks, record_of}
 use Rattle.gmon_gnu.specs.CountedRun.{block_recs, CountsFit, CountedRunsAreSpelled, CountedRunsAreReadBack}
 use Rattle.gmon_gnu.specs.Grammar.{rec_bytes, RecFits, GnuSpells}
@@ -19,14 +19,14 @@ use Rattle.gmon_gnu.proofs.SpellingLemmas.{accepted_where_spelled, only_where_sp
 
 -- ---- records behind those of a file
 
-more_text : (first spare : List ℕ) (recs more : List Rec) → (first ++ (le version 4 ++ (spare ++ flat_map rec_bytes recs))) ++ flat_map rec_bytes more ≡ first ++ (le version 4 ++ (spare ++ flat_map rec_bytes (recs ++ more)))
+more_text : (first spare : List ℕ) (recs more : List Rec) → (first ++ (le gnu_version 4 ++ (spare ++ flat_map rec_bytes recs))) ++ flat_map rec_bytes more ≡ first ++ (le gnu_version 4 ++ (spare ++ flat_map rec_bytes (recs ++ more)))
 more_text first spare recs more =
     let text = flat_map rec_bytes recs in
     let text1 = flat_map rec_bytes more in
-    append_assoc first (le version 4 ++ (spare ++ text)) text1
-    ∙ ap (λ (v : List ℕ). first ++ v) (append_assoc (le version 4) (spare ++ text) text1)
-    ∙ ap (λ (v : List ℕ). first ++ (le version 4 ++ v)) (append_assoc spare text text1)
-    ∙ ap (λ (v : List ℕ). first ++ (le version 4 ++ (spare ++ v))) (sym (flat_map-append rec_bytes recs more))
+    append_assoc first (le gnu_version 4 ++ (spare ++ text)) text1
+    ∙ ap (λ (v : List ℕ). first ++ v) (append_assoc (le gnu_version 4) (spare ++ text) text1)
+    ∙ ap (λ (v : List ℕ). first ++ (le gnu_version 4 ++ v)) (append_assoc spare text text1)
+    ∙ ap (λ (v : List ℕ). first ++ (le gnu_version 4 ++ (spare ++ v))) (sym (flat_map-append rec_bytes recs more))
 
 spelled_more : (bytes text : List ℕ) (r : Records) (more : List Rec) → text ≡ flat_map rec_bytes more → AllByRecursion RecFits more → GnuSpells bytes r → GnuSpells (bytes ++ text) (record r { recs = r.recs ++ more })
 spelled_more bytes text r more text_is fit s = record {

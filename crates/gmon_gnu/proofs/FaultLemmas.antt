@@ -8,9 +8,9 @@ use Rattle.gp_base.specs.declared.refusal.GmonRefusal.{GmonRefusal}
 use Rattle.gp_base.specs.declared.refusal.GmonRefusal.TheVariants.{Short, Version, Tag, Range}
 use Rattle.gp_base.specs.Bytes.{value_of, le, word_at, IsBytes}
 use Rattle.gp_base.proofs.LittleEndian.{IsBytes-drop, IsBytes-rest}
-use Rattle.gmon_gnu.specs.Fields.{version}
-use Rattle.gmon_gnu.specs.Grammar.{rec_bytes, spelling, RecFits}
-use Rattle.gmon_gnu.specs.Reading.{Front, Refused, Found, body_front, front_refusal, behind, recs_from, after_front, file_recs, refusal_in, gnu_refusal}
+use Rattle.gmon_gnu.specs.Fields.{gnu_version}
+use Rattle.gmon_gnu.specs.Grammar.{rec_bytes, gnu_spelling, RecFits}
+use Rattle.gmon_gnu.specs.Reading.{Front, Refused, Found, body_front, front_refusal, behind_records, recs_from, after_front, file_recs, refusal_read, gnu_refusal}
 use Rattle.gmon_gnu.specs.Faults.{RecordAt, low_in, high_in, counters_in, pairs_in, HasEmptyRange, IsTorn, TornFields, TornCounters, TornArc, TornNumber, TornPairs, HasFault, TornHeader, OtherVersion, OtherTag, EmptyRange, TornRecord, FaultsAreAnswered}
 use Rattle.gmon_gnu.proofs.SpellingLemmas.{no_range, rec_text, rec_then, shorter, front_read}
 use Rattle.gmon_gnu.proofs.MeaningLemmas.{Spelled, front_spelled, header_then, right_of}
@@ -24,10 +24,10 @@ next_shorter : (r : Rec) (recs : List Rec) (tail : List ℕ) → length (flat_ma
 next_shorter r recs tail = omega (arith, ap length (next_text r recs tail), shorter r (flat_map rec_bytes recs ++ tail))
 
 -- the text behind the header
-spelling_then : (first spare : List ℕ) (recs : List Rec) (tail : List ℕ) → spelling first spare recs ++ tail ≡ first ++ (le version 4 ++ (spare ++ (flat_map rec_bytes recs ++ tail)))
+spelling_then : (first spare : List ℕ) (recs : List Rec) (tail : List ℕ) → gnu_spelling first spare recs ++ tail ≡ first ++ (le gnu_version 4 ++ (spare ++ (flat_map rec_bytes recs ++ tail)))
 spelling_then first spare recs tail =
     let front = flat_map rec_bytes recs in
-    append_assoc first (le version 4 ++ (spare ++ front)) tail ∙ ap (λ (v : List ℕ). first ++ (le version 4 ++ v)) (append_assoc spare front tail)
+    append_assoc first (le gnu_version 4 ++ (spare ++ front)) tail ∙ ap (λ (v : List ℕ). first ++ (le gnu_version 4 ++ v)) (append_assoc spare front tail)
 
 -- the place of a text that ends a file
 place_of : (bytes text tail : List ℕ) → bytes ≡ text ++ tail → length bytes - length tail ≡ length text
@@ -35,23 +35,23 @@ place_of bytes text tail e = omega (arith, ap length e, length-append text tail)
 
 -- ---- what has a fault is refused
 
-refusal_behind : (r : Rec) (o : Result (List Rec) GmonRefusal) → refusal_in (behind (r ∷ []) o) ≡ refusal_in o
+refusal_behind : (r : Rec) (o : Result (List Rec) GmonRefusal) → refusal_read (behind_records (r ∷ []) o) ≡ refusal_read o
 refusal_behind r (Ok rs) = refl
 refusal_behind r (Err e) = refl
 
-refusal_after : (f : Front) (more : List ℕ → Result (List Rec) GmonRefusal) (e : GmonRefusal) → front_refusal f ≡ Some e → refusal_in (after_front more f) ≡ Some e
+refusal_after : (f : Front) (more : List ℕ → Result (List Rec) GmonRefusal) (e : GmonRefusal) → front_refusal f ≡ Some e → refusal_read (after_front more f) ≡ Some e
 refusal_after (Refused refusal) more e is = is
 refusal_after (Found r rest) more e is = absurd cc
 
 fault_behind : (len n : ℕ) (recs : List Rec) (tag : ℕ) (body : List ℕ) (e : GmonRefusal) → length (flat_map rec_bytes recs ++ tag ∷ body) ≤ n → AllByRecursion RecFits recs
-    → front_refusal (body_front len (len - length (tag ∷ body)) tag body) ≡ Some e → refusal_in (recs_from len n (flat_map rec_bytes recs ++ tag ∷ body)) ≡ Some e
+    → front_refusal (body_front len (len - length (tag ∷ body)) tag body) ≡ Some e → refusal_read (recs_from len n (flat_map rec_bytes recs ++ tag ∷ body)) ≡ Some e
 fault_behind len zero [] tag body e long fits is = absurd (let f : suc (length body) ≤ 0 = long in omega (arith, f))
 fault_behind len (suc n) [] tag body e long fits is = refusal_after (body_front len (len - length (tag ∷ body)) tag body) (λ rest. recs_from len n rest) e is
 fault_behind len zero (r ∷ recs) tag body e long fits is = absurd (let f = next_shorter r recs (tag ∷ body) in omega (arith, long, f))
 fault_behind len (suc n) (r ∷ recs) tag body e long fits is =
     let rest = flat_map rec_bytes recs ++ tag ∷ body in
-    ap (λ (v : List ℕ). refusal_in (recs_from len (suc n) v)) (next_text r recs (tag ∷ body))
-    ∙ ap refusal_in (front_read len n r rest fits.0)
+    ap (λ (v : List ℕ). refusal_read (recs_from len (suc n) v)) (next_text r recs (tag ∷ body))
+    ∙ ap refusal_read (front_read len n r rest fits.0)
     ∙ refusal_behind r (recs_from len n rest)
     ∙ fault_behind len n recs tag body e (omega (arith, long, next_shorter r recs (tag ∷ body))) fits.1 is
 
@@ -60,17 +60,17 @@ record_refused : (bytes : List ℕ) (at tag : ℕ) (body : List ℕ) (e : GmonRe
 record_refused bytes at tag body e here is =
     let tail = tag ∷ body in
     let rest = flat_map rec_bytes here.recs ++ tail in
-    let after = le version 4 ++ (here.spare ++ rest) in
+    let after = le gnu_version 4 ++ (here.spare ++ rest) in
     let bytes_are : bytes ≡ here.first ++ after = here.text ∙ spelling_then here.first here.spare here.recs tail in
     let long : length bytes ≡ 20 + length rest = omega (arith, here.first_fits, here.spare_fits, ap length bytes_are, length-append here.first after, length-append here.spare rest) in
     let len = length bytes in
-    let place : at ≡ len - length tail = here.place ∙ sym (place_of bytes (spelling here.first here.spare here.recs) tail here.text) in
+    let place : at ≡ len - length tail = here.place ∙ sym (place_of bytes (gnu_spelling here.first here.spare here.recs) tail here.text) in
     let behind_header : drop 20 bytes ≡ rest = ap (drop 20) bytes_are ∙ sym (drop-drop 16 4 (here.first ++ after)) ∙ ap (drop 16) (drop_at here.first after 4 here.first_fits) ∙ drop_at here.spare rest 12 here.spare_fits in
-    let version_is : word_at bytes 4 ≡ version = ap (λ (v : List ℕ). word_at v 4) bytes_are ∙ ap (λ (l : List ℕ). value_of (take 4 l)) (drop_at here.first after 4 here.first_fits) in
+    let version_is : word_at bytes 4 ≡ gnu_version = ap (λ (v : List ℕ). word_at v 4) bytes_are ∙ ap (λ (l : List ℕ). value_of (take 4 l)) (drop_at here.first after 4 here.first_fits) in
     let whole : ltb len 20 ≡ false = le-ltb len 20 (omega (arith, long)) in
-    let same : not (eqb (word_at bytes 4) version) ≡ false = ap not (eq-eqb (word_at bytes 4) version version_is) in
+    let same : not (eqb (word_at bytes 4) gnu_version) ≡ false = ap not (eq-eqb (word_at bytes 4) gnu_version version_is) in
     let fault : front_refusal (body_front len (len - length tail) tag body) ≡ Some e = ap (λ (k : ℕ). front_refusal (body_front len k tag body)) (sym place) ∙ is in
-    rw (whole, same) (ap (λ (v : List ℕ). refusal_in (recs_from len len v)) behind_header ∙ fault_behind len len here.recs tag body e (omega (arith, long)) here.recs_fit fault)
+    rw (whole, same) (ap (λ (v : List ℕ). refusal_read (recs_from len len v)) behind_header ∙ fault_behind len len here.recs tag body e (omega (arith, long)) here.recs_fit fault)
 
 -- the counters' text is what stands behind the fields
 counters_long : (body : List ℕ) → length (drop 1 (drop 15 (drop 16 body))) ≡ length body - 32
@@ -117,7 +117,7 @@ fault_answered : (bytes : List ℕ) (e : GmonRefusal) → HasFault bytes e → g
 fault_answered bytes e (TornHeader short) = let here : ltb (length bytes) 20 ≡ true = lt-ltb (length bytes) 20 short in rw here refl
 fault_answered bytes e (OtherVersion long other) =
     let here : ltb (length bytes) 20 ≡ false = le-ltb (length bytes) 20 long in
-    let differs : not (eqb (word_at bytes 4) version) ≡ true = ap not (ne_eqb (word_at bytes 4) version other) in
+    let differs : not (eqb (word_at bytes 4) gnu_version) ≡ true = ap not (ne_eqb (word_at bytes 4) gnu_version other) in
     rw (here, differs) refl
 fault_answered bytes e (OtherTag at tag body here other) = record_refused bytes at tag body (Tag at tag) here (other_tag (length bytes) at tag body other)
 fault_answered bytes e (EmptyRange at body here fault) = record_refused bytes at 0 body (Range at (low_in body) (high_in body)) here (empty_range (length bytes) at body fault)
@@ -193,13 +193,13 @@ one_more len text r rest e spelled behind_it =
       refused = behind_it.refused;
     }
 
-recs_refused : (len n : ℕ) (bs : List ℕ) (e : GmonRefusal) → length bs ≤ n → IsBytes bs → refusal_in (recs_from len n bs) ≡ Some e → RefusedIn len bs e
+recs_refused : (len n : ℕ) (bs : List ℕ) (e : GmonRefusal) → length bs ≤ n → IsBytes bs → refusal_read (recs_from len n bs) ≡ Some e → RefusedIn len bs e
 recs_refused len n [] e le bytes is = absurd cc
 recs_refused len zero (tag ∷ body) e le bytes is = absurd cc
 recs_refused len (suc n) (tag ∷ body) e le bytes is = by (body_front len (len - length (tag ∷ body)) tag body) refl is (recs_refused len n)
   where
-    by : (f : Front) → body_front len (len - length (tag ∷ body)) tag body ≡ f → refusal_in (after_front (λ rest. recs_from len n rest) f) ≡ Some e
-        → ((bs : List ℕ) (e : GmonRefusal) → length bs ≤ n → IsBytes bs → refusal_in (recs_from len n bs) ≡ Some e → RefusedIn len bs e) → RefusedIn len (tag ∷ body) e
+    by : (f : Front) → body_front len (len - length (tag ∷ body)) tag body ≡ f → refusal_read (after_front (λ rest. recs_from len n rest) f) ≡ Some e
+        → ((bs : List ℕ) (e : GmonRefusal) → length bs ≤ n → IsBytes bs → refusal_read (recs_from len n bs) ≡ Some e → RefusedIn len bs e) → RefusedIn len (tag ∷ body) e
     by (Refused x) f_is is others = record { recs = []; tag = tag; body = body; text_is = refl; fits = tt; refused = ap front_refusal f_is ∙ is }
     by (Found r rest) f_is is others =
         let spelled = front_spelled len (len - length (tag ∷ body)) tag body r rest (IsBytes-rest tag body bytes) f_is in
@@ -207,15 +207,15 @@ recs_refused len (suc n) (tag ∷ body) e le bytes is = by (body_front len (len 
         (others rest e (omega (arith, le, shorter r rest, ap length spelled.text_is)) spelled.bytes (sym (refusal_behind r (recs_from len n rest)) ∙ is))
 
 -- behind a header without a fault
-file_fault : (bytes : List ℕ) (e : GmonRefusal) → IsBytes bytes → 20 ≤ length bytes → word_at bytes 4 ≡ version → refusal_in (file_recs bytes) ≡ Some e → HasFault bytes e
+file_fault : (bytes : List ℕ) (e : GmonRefusal) → IsBytes bytes → 20 ≤ length bytes → word_at bytes 4 ≡ gnu_version → refusal_read (file_recs bytes) ≡ Some e → HasFault bytes e
 file_fault bytes e are long version_is is =
     let found = recs_refused (length bytes) (length bytes) (drop 20 bytes) e (omega (arith, length-drop 20 bytes)) (IsBytes-drop 20 bytes are) is in
     let first = take 4 bytes in
     let spare = take 12 (drop 8 bytes) in
     let tail = found.tag ∷ found.body in
-    let text = spelling first spare found.recs in
+    let text = gnu_spelling first spare found.recs in
     let bytes_are : bytes ≡ text ++ tail =
-    sym (header_then bytes are long version_is) ∙ ap (λ (v : List ℕ). first ++ (le version 4 ++ (spare ++ v))) found.text_is ∙ sym (spelling_then first spare found.recs tail) in
+    sym (header_then bytes are long version_is) ∙ ap (λ (v : List ℕ). first ++ (le gnu_version 4 ++ (spare ++ v))) found.text_is ∙ sym (spelling_then first spare found.recs tail) in
     front_fault bytes (length bytes - length tail) found.tag found.body e
     (record {
       first = first;
@@ -238,9 +238,9 @@ refused_has_fault bytes e are is =
     let found = word_at bytes 4 in
     elim (some_by (ltb (length bytes) 20) (Short (length bytes)) e _ is) [
       | inl few ↦ subst (HasFault bytes) few.1 (TornHeader (ltb-true (length bytes) 20 few.0))
-      | inr header ↦ elim (some_by (not (eqb found version)) (Version found) e _ header.1) [
-        | inl other ↦ subst (HasFault bytes) other.1 (OtherVersion (ltb-false (length bytes) 20 header.0) (eqb-false found version (not-true (eqb found version) other.0)))
-        | inr same ↦ file_fault bytes e are (ltb-false (length bytes) 20 header.0) (eqb-true found version (not-false (eqb found version) same.0)) same.1
+      | inr header ↦ elim (some_by (not (eqb found gnu_version)) (Version found) e _ header.1) [
+        | inl other ↦ subst (HasFault bytes) other.1 (OtherVersion (ltb-false (length bytes) 20 header.0) (eqb-false found gnu_version (not-true (eqb found gnu_version) other.0)))
+        | inr same ↦ file_fault bytes e are (ltb-false (length bytes) 20 header.0) (eqb-true found gnu_version (not-false (eqb found gnu_version) same.0)) same.1
       ]
     ]
 

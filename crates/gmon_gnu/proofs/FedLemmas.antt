@@ -12,10 +12,10 @@ use Rattle.gp_base.specs.Refusal.{IsRefusal}
 use Rattle.gp_base.specs.Spans.{HasRange}
 use Rattle.gmon_data.specs.Content.{wide_records}
 use Rattle.gmon_gnu.specs.Adding.{spelled_records}
-use Rattle.gmon_gnu.specs.Fields.{version}
-use Rattle.gmon_gnu.specs.Reading.{behind, file_recs, refusal_in, recs_in, gnu_refusal, gnu_records}
+use Rattle.gmon_gnu.specs.Fields.{gnu_version}
+use Rattle.gmon_gnu.specs.Reading.{behind_records, file_recs, refusal_read, recs_in, gnu_refusal, gnu_records}
 use Rattle.gmon_gnu.specs.Going.{records_on, header_on, resume}
-use Rattle.gmon_gnu.specs.Ending.{ended}
+use Rattle.gmon_gnu.specs.Ending.{ending_result}
 use Rattle.gmon_gnu.specs.Fed.{Kept, StandsFor}
 use Rattle.gmon_gnu.proofs.MeaningLemmas.{spelled_of}
 use Rattle.gmon_gnu.proofs.RecordLemmas.{allowance}
@@ -26,7 +26,7 @@ use Rattle.gmon_gnu.proofs.SizeLemmas.{have_ranges}
 pub records_of : (bytes : List ℕ) → file_recs bytes ≡ records_on (length bytes) (drop 20 bytes)
 records_of bytes = allowance (length bytes) (length bytes) (length (drop 20 bytes)) (drop 20 bytes) (omega (arith, length-drop 20 bytes)) (omega arith)
 
-two_tests : (a b : Bool) (x y : GmonRefusal) (o : Result (List Rec) GmonRefusal) → (if a then Some x else (if b then Some y else refusal_in o)) ≡ refusal_in (if a then Err x else (if b then Err y else o))
+two_tests : (a b : Bool) (x y : GmonRefusal) (o : Result (List Rec) GmonRefusal) → (if a then Some x else (if b then Some y else refusal_read o)) ≡ refusal_read (if a then Err x else (if b then Err y else o))
 two_tests true b x y o = refl
 two_tests false true x y o = refl
 two_tests false false x y o = refl
@@ -36,25 +36,25 @@ both_pass true b x y o recs is = absurd cc
 both_pass false true x y o recs is = absurd cc
 both_pass false false x y o recs is = is
 
-pub refusal_on : (bytes : List ℕ) → gnu_refusal bytes ≡ refusal_in (header_on (length bytes) bytes)
+pub refusal_on : (bytes : List ℕ) → gnu_refusal bytes ≡ refusal_read (header_on (length bytes) bytes)
 refusal_on bytes =
-    (λ i. if ltb (length bytes) 20 then Some (Short (length bytes)) else (if not (eqb (word_at bytes 4) version) then Some (Version (word_at bytes 4)) else refusal_in (records_of bytes i)))
-    ∙ two_tests (ltb (length bytes) 20) (not (eqb (word_at bytes 4) version)) (Short (length bytes)) (Version (word_at bytes 4)) (records_on (length bytes) (drop 20 bytes))
+    (λ i. if ltb (length bytes) 20 then Some (Short (length bytes)) else (if not (eqb (word_at bytes 4) gnu_version) then Some (Version (word_at bytes 4)) else refusal_read (records_of bytes i)))
+    ∙ two_tests (ltb (length bytes) 20) (not (eqb (word_at bytes 4) gnu_version)) (Short (length bytes)) (Version (word_at bytes 4)) (records_on (length bytes) (drop 20 bytes))
 
 pub records_are : (bytes : List ℕ) (recs : List Rec) → header_on (length bytes) bytes ≡ Ok recs → file_recs bytes ≡ Ok recs
 records_are bytes recs is =
-    records_of bytes ∙ both_pass (ltb (length bytes) 20) (not (eqb (word_at bytes 4) version)) (Short (length bytes)) (Version (word_at bytes 4)) (records_on (length bytes) (drop 20 bytes)) recs is
+    records_of bytes ∙ both_pass (ltb (length bytes) 20) (not (eqb (word_at bytes 4) gnu_version)) (Short (length bytes)) (Version (word_at bytes 4)) (records_on (length bytes) (drop 20 bytes)) recs is
 
 -- ---- it ends here
 
-pub read_out : (bytes : List ℕ) (kept : Kept) (o : Option GmonRefusal) → StandsFor bytes kept → resume kept.len kept.open_now kept.rest ≡ ended o → header_on (length bytes) bytes ≡ behind kept.recs (ended o)
+pub read_out : (bytes : List ℕ) (kept : Kept) (o : Option GmonRefusal) → StandsFor bytes kept → resume kept.len kept.open_now kept.rest ≡ ending_result o → header_on (length bytes) bytes ≡ behind_records kept.recs (ending_result o)
 read_out bytes kept o s is =
     let none : bytes ++ [] ≡ bytes = append-nil bytes in
     sym (λ i. header_on (length (none i)) (none i))
     ∙ s.reads []
-    ∙ (λ i. behind kept.recs (resume (length (none i)) kept.open_now (append-nil kept.rest i)))
-    ∙ ap (λ (n : ℕ). behind kept.recs (resume n kept.open_now kept.rest)) (sym s.len)
-    ∙ ap (behind kept.recs) is
+    ∙ (λ i. behind_records kept.recs (resume (length (none i)) kept.open_now (append-nil kept.rest i)))
+    ∙ ap (λ (n : ℕ). behind_records kept.recs (resume n kept.open_now kept.rest)) (sym s.len)
+    ∙ ap (behind_records kept.recs) is
 
 pub is_refusal : (e : GmonRefusal) (given : Option GmonRefusal) → given ≡ Some e → IsRefusal e given
 is_refusal (Short at) given is = is
@@ -66,13 +66,13 @@ is_refusal (Rest at) given is = is
 is_refusal OutOfMemory given is = tt
 
 pub refused_out : (bytes : List ℕ) (kept : Kept) (e : GmonRefusal) → StandsFor bytes kept → resume kept.len kept.open_now kept.rest ≡ Err e → IsRefusal e (gnu_refusal bytes)
-refused_out bytes kept e s is = is_refusal e (gnu_refusal bytes) (refusal_on bytes ∙ ap refusal_in (read_out bytes kept (Some e) s is))
+refused_out bytes kept e s is = is_refusal e (gnu_refusal bytes) (refusal_on bytes ∙ ap refusal_read (read_out bytes kept (Some e) s is))
 
 all_out : (bytes : List ℕ) (kept : Kept) → StandsFor bytes kept → resume kept.len kept.open_now kept.rest ≡ Ok [] → header_on (length bytes) bytes ≡ Ok kept.recs
 all_out bytes kept s is = read_out bytes kept None s is ∙ ap (λ (v : List Rec). let x : Result (List Rec) GmonRefusal = Ok v in x) (append-nil kept.recs)
 
 pub accepted_out : (bytes : List ℕ) (kept : Kept) → StandsFor bytes kept → resume kept.len kept.open_now kept.rest ≡ Ok [] → gnu_refusal bytes ≡ None
-accepted_out bytes kept s is = refusal_on bytes ∙ ap refusal_in (all_out bytes kept s is)
+accepted_out bytes kept s is = refusal_on bytes ∙ ap refusal_read (all_out bytes kept s is)
 
 pub records_out : (bytes : List ℕ) (kept : Kept) (recs : List Rec) → StandsFor bytes kept → resume kept.len kept.open_now kept.rest ≡ Ok [] → recs ≡ kept.recs
     → (let x : Records = record { form = Gnu; recs = recs } in x) ≡ gnu_records bytes

@@ -9,36 +9,36 @@ use Rattle.gp_base.specs.declared.records.Rec.{Rec}
 use Rattle.gp_base.specs.declared.records.Rec.TheVariants.{Hist, Arc, Blocks}
 use Rattle.gp_base.specs.declared.refusal.GmonRefusal.{GmonRefusal}
 use Rattle.gp_base.specs.declared.refusal.GmonRefusal.TheVariants.{Short, Version, Range}
-use Rattle.gp_base.specs.Bytes.{value_of, word_at, cut}
+use Rattle.gp_base.specs.Bytes.{value_of, word_at, items_of_text}
 use Rattle.gp_base.specs.Fields.{arc_of, block_of}
-use Rattle.gmon_gnu.specs.Fields.{version}
-use Rattle.gmon_gnu.specs.Reading.{Front, Refused, Found, hist_of_fields, pairs_front, behind, after_front, recs_from}
+use Rattle.gmon_gnu.specs.Fields.{gnu_version}
+use Rattle.gmon_gnu.specs.Reading.{Front, Refused, Found, hist_of_fields, pairs_front, behind_records, after_front, recs_from}
 use Rattle.gmon_gnu.specs.Going.{Open, records_on, header_on, hist_on, blocks_on, resume, Reads}
 use Rattle.gmon_gnu.proofs.RecordLemmas.{allowance}
 
 -- ---- records so far
 
-pub behind_both : (recs added : List Rec) (o : Result (List Rec) GmonRefusal) → behind recs (behind added o) ≡ behind (recs ++ added) o
+pub behind_both : (recs added : List Rec) (o : Result (List Rec) GmonRefusal) → behind_records recs (behind_records added o) ≡ behind_records (recs ++ added) o
 behind_both recs added (Ok more) = ap (λ (v : List Rec). let x : Result (List Rec) GmonRefusal = Ok v in x) (sym (append_assoc recs added more))
 behind_both recs added (Err refusal) = refl
 
 pub reads_then : (whole : List ℕ) (recs added : List Rec) (was now : Open) (rest left : List ℕ)
-    → ((more : List ℕ) → resume (length (whole ++ more)) was (rest ++ more) ≡ behind added (resume (length (whole ++ more)) now (left ++ more)))
+    → ((more : List ℕ) → resume (length (whole ++ more)) was (rest ++ more) ≡ behind_records added (resume (length (whole ++ more)) now (left ++ more)))
     → Reads whole recs was rest → Reads whole (recs ++ added) now left
 reads_then whole recs added was now rest left step reads = λ more.
-    reads more ∙ ap (behind recs) (step more) ∙ behind_both recs added (resume (length (whole ++ more)) now (left ++ more))
+    reads more ∙ ap (behind_records recs) (step more) ∙ behind_both recs added (resume (length (whole ++ more)) now (left ++ more))
 
 pub reads_same : (whole : List ℕ) (recs : List Rec) (was now : Open) (rest left : List ℕ)
     → ((more : List ℕ) → resume (length (whole ++ more)) was (rest ++ more) ≡ resume (length (whole ++ more)) now (left ++ more))
     → Reads whole recs was rest → Reads whole recs now left
-reads_same whole recs was now rest left step reads = λ more. reads more ∙ ap (behind recs) (step more)
+reads_same whole recs was now rest left step reads = λ more. reads more ∙ ap (behind_records recs) (step more)
 
 -- what follows comes to the bytes
 pub reads_more : (whole piece : List ℕ) (recs : List Rec) (now : Open) (rest : List ℕ) → Reads whole recs now rest → Reads (whole ++ piece) recs now (rest ++ piece)
 reads_more whole piece recs now rest reads = λ more.
     (λ i. header_on (length (append_assoc whole piece more i)) (append_assoc whole piece more i))
     ∙ reads (piece ++ more)
-    ∙ (λ i. behind recs (resume (length (sym (append_assoc whole piece more) i)) now (sym (append_assoc rest piece more) i)))
+    ∙ (λ i. behind_records recs (resume (length (sym (append_assoc whole piece more) i)) now (sym (append_assoc rest piece more) i)))
 
 -- ---- cells
 
@@ -49,7 +49,7 @@ ltb_both a b c =
       | inr more ↦ let m : b + c ≤ a + c = omega arith in le-ltb (a + c) (b + c) m ∙ sym (le-ltb a b more)
     ]
 
-cut_sum : {X : Type 0} (w : ℕ) (cell : List ℕ → X) (k m : ℕ) (t rest : List ℕ) → k * w ≤ length t → cut w cell (k + m) (t ++ rest) ≡ cut w cell k t ++ cut w cell m (drop (k * w) t ++ rest)
+cut_sum : {X : Type 0} (w : ℕ) (cell : List ℕ → X) (k m : ℕ) (t rest : List ℕ) → k * w ≤ length t → items_of_text w cell (k + m) (t ++ rest) ≡ items_of_text w cell k t ++ items_of_text w cell m (drop (k * w) t ++ rest)
 cut_sum w cell zero m t rest long = let e : 0 + m ≡ m = omega arith in let z : 0 * w ≡ 0 = omega arith in rw (e, z) refl
 cut_sum {X} w cell (suc k) m t rest long =
     let e : suc k + m ≡ suc (k + m) = omega arith in
@@ -57,10 +57,10 @@ cut_sum {X} w cell (suc k) m t rest long =
     let front : take w (t ++ rest) ≡ take w t = take-append-le w t rest (omega arith) in
     let after : drop w (t ++ rest) ≡ drop w t ++ rest = drop-append-le w t rest (omega arith) in
     let past : drop (k * w) (drop w t) ≡ drop (suc k * w) t = drop-drop (k * w) w t ∙ ap (λ (n : ℕ). drop n t) (sym split) in
-    ap (λ (n : ℕ). cut w cell n (t ++ rest)) e
-    ∙ (λ i. cell (front i) ∷ cut w cell (k + m) (after i))
+    ap (λ (n : ℕ). items_of_text w cell n (t ++ rest)) e
+    ∙ (λ i. cell (front i) ∷ items_of_text w cell (k + m) (after i))
     ∙ ap (λ (v : List X). cell (take w t) ∷ v) (cut_sum w cell k m (drop w t) rest (omega (arith, length-drop w t)))
-    ∙ ap (λ (v : List ℕ). (cell (take w t) ∷ cut w cell k (drop w t)) ++ cut w cell m (v ++ rest)) past
+    ∙ ap (λ (v : List ℕ). (cell (take w t) ∷ items_of_text w cell k (drop w t)) ++ items_of_text w cell m (v ++ rest)) past
 
 -- k of the cells that are due came with a text
 due_less : (w k left : ℕ) (t rest : List ℕ) → k ≤ left → k * w ≤ length t → ltb (length (t ++ rest)) (left * w) ≡ ltb (length (drop (k * w) t ++ rest)) ((left - k) * w)
@@ -71,12 +71,12 @@ due_less w k left t rest within long =
     (λ i. ltb (a i) (b i)) ∙ ltb_both (length (drop (k * w) t ++ rest)) ((left - k) * w) (k * w)
 
 due_cells : {X : Type 0} (w : ℕ) (cell : List ℕ → X) (k left : ℕ) (before : List X) (t rest : List ℕ) → k ≤ left → k * w ≤ length t
-    → before ++ cut w cell left (t ++ rest) ≡ (before ++ cut w cell k t) ++ cut w cell (left - k) (drop (k * w) t ++ rest)
+    → before ++ items_of_text w cell left (t ++ rest) ≡ (before ++ items_of_text w cell k t) ++ items_of_text w cell (left - k) (drop (k * w) t ++ rest)
 due_cells {X} w cell k left before t rest within long =
     let split : left ≡ k + (left - k) = omega arith in
-    ap (λ (n : ℕ). before ++ cut w cell n (t ++ rest)) split
+    ap (λ (n : ℕ). before ++ items_of_text w cell n (t ++ rest)) split
     ∙ ap (λ (v : List X). before ++ v) (cut_sum w cell k (left - k) t rest long)
-    ∙ sym (append_assoc before (cut w cell k t) (cut w cell (left - k) (drop (k * w) t ++ rest)))
+    ∙ sym (append_assoc before (items_of_text w cell k t) (items_of_text w cell (left - k) (drop (k * w) t ++ rest)))
 
 due_rest : (w k left : ℕ) (t rest : List ℕ) → k ≤ left → k * w ≤ length t → drop (left * w) (t ++ rest) ≡ drop ((left - k) * w) (drop (k * w) t ++ rest)
 due_rest w k left t rest within long =
@@ -85,27 +85,27 @@ due_rest w k left t rest within long =
     ap (λ (n : ℕ). drop n (t ++ rest)) b ∙ sym (drop-drop ((left - k) * w) (k * w) (t ++ rest)) ∙ ap (drop ((left - k) * w)) (drop-append-le (k * w) t rest long)
 
 pub counters_on : (len : ℕ) (h : RawHist) (left k : ℕ) (t rest : List ℕ) → k ≤ left → k * 2 ≤ length t
-    → hist_on len h left (t ++ rest) ≡ hist_on len (record h { counters = h.counters ++ cut 2 value_of k t }) (left - k) (drop (k * 2) t ++ rest)
+    → hist_on len h left (t ++ rest) ≡ hist_on len (record h { counters = h.counters ++ items_of_text 2 value_of k t }) (left - k) (drop (k * 2) t ++ rest)
 counters_on len h left k t rest within long =
     λ i. cond (due_less 2 k left t rest within long i) (Err (Short len))
-    (behind (Hist (record h { counters = due_cells 2 value_of k left h.counters t rest within long i }) ∷ []) (records_on len (due_rest 2 k left t rest within long i)))
+    (behind_records (Hist (record h { counters = due_cells 2 value_of k left h.counters t rest within long i }) ∷ []) (records_on len (due_rest 2 k left t rest within long i)))
 
 pub pairs_on : (len : ℕ) (blocks : List RawBlock) (left k : ℕ) (t rest : List ℕ) → k ≤ left → k * 8 ≤ length t
-    → blocks_on len blocks left (t ++ rest) ≡ blocks_on len (blocks ++ cut 8 block_of k t) (left - k) (drop (k * 8) t ++ rest)
+    → blocks_on len blocks left (t ++ rest) ≡ blocks_on len (blocks ++ items_of_text 8 block_of k t) (left - k) (drop (k * 8) t ++ rest)
 pairs_on len blocks left k t rest within long =
     λ i. cond (due_less 8 k left t rest within long i) (Err (Short len))
-    (behind (Blocks (due_cells 8 block_of k left blocks t rest within long i) ∷ []) (records_on len (due_rest 8 k left t rest within long i)))
+    (behind_records (Blocks (due_cells 8 block_of k left blocks t rest within long i) ∷ []) (records_on len (due_rest 8 k left t rest within long i)))
 
 -- a record ends where nothing is due
-pub hist_ends : (len : ℕ) (h : RawHist) (rest : List ℕ) → hist_on len h 0 rest ≡ behind (Hist h ∷ []) (records_on len rest)
+pub hist_ends : (len : ℕ) (h : RawHist) (rest : List ℕ) → hist_on len h 0 rest ≡ behind_records (Hist h ∷ []) (records_on len rest)
 hist_ends len h rest =
     let none : ltb (length rest) 0 ≡ false = le-ltb (length rest) 0 (omega arith) in
-    λ i. cond (none i) (Err (Short len)) (behind (Hist (record h { counters = append-nil h.counters i }) ∷ []) (records_on len rest))
+    λ i. cond (none i) (Err (Short len)) (behind_records (Hist (record h { counters = append-nil h.counters i }) ∷ []) (records_on len rest))
 
-pub blocks_end : (len : ℕ) (blocks : List RawBlock) (rest : List ℕ) → blocks_on len blocks 0 rest ≡ behind (Blocks blocks ∷ []) (records_on len rest)
+pub blocks_end : (len : ℕ) (blocks : List RawBlock) (rest : List ℕ) → blocks_on len blocks 0 rest ≡ behind_records (Blocks blocks ∷ []) (records_on len rest)
 blocks_end len blocks rest =
     let none : ltb (length rest) 0 ≡ false = le-ltb (length rest) 0 (omega arith) in
-    λ i. cond (none i) (Err (Short len)) (behind (Blocks (append-nil blocks i) ∷ []) (records_on len rest))
+    λ i. cond (none i) (Err (Short len)) (behind_records (Blocks (append-nil blocks i) ∷ []) (records_on len rest))
 
 -- ---- the header
 
@@ -114,22 +114,22 @@ number_of header rest whole =
     let past : drop 4 (header ++ rest) ≡ drop 4 header ++ rest = drop-append-le 4 header rest (omega arith) in
     ap (λ (v : List ℕ). value_of (take 4 v)) past ∙ ap value_of (take-append-le 4 (drop 4 header) rest (omega (arith, length-drop 4 header)))
 
-header_by : (len number : ℕ) (header rest : List ℕ) → length header ≡ 20 → number ≡ word_at header 4 → (b : Bool) → not (eqb number version) ≡ b
+header_by : (len number : ℕ) (header rest : List ℕ) → length header ≡ 20 → number ≡ word_at header 4 → (b : Bool) → not (eqb number gnu_version) ≡ b
     → header_on len (header ++ rest) ≡ cond b (Err (Version number)) (records_on len rest)
 header_by len number header rest whole number_is b is =
     let long : ltb (length (header ++ rest)) 20 ≡ false = le-ltb (length (header ++ rest)) 20 (omega (arith, whole, length-append header rest)) in
     let n : word_at (header ++ rest) 4 ≡ number = number_of header rest whole ∙ sym number_is in
-    (λ i. cond (long i) (Err (Short len)) (cond (not (eqb (n i) version)) (Err (Version (n i))) (records_on len (drop_at header rest 20 whole i))))
+    (λ i. cond (long i) (Err (Short len)) (cond (not (eqb (n i) gnu_version)) (Err (Version (n i))) (records_on len (drop_at header rest 20 whole i))))
     ∙ ap (λ (c : Bool). cond c (Err (Version number)) (records_on len rest)) is
 
-pub header_read : (len number : ℕ) (header rest : List ℕ) → length header ≡ 20 → number ≡ word_at header 4 → number ≡ version → header_on len (header ++ rest) ≡ records_on len rest
-header_read len number header rest whole number_is same = header_by len number header rest whole number_is false (ap not (eq-eqb number version same))
+pub header_read : (len number : ℕ) (header rest : List ℕ) → length header ≡ 20 → number ≡ word_at header 4 → number ≡ gnu_version → header_on len (header ++ rest) ≡ records_on len rest
+header_read len number header rest whole number_is same = header_by len number header rest whole number_is false (ap not (eq-eqb number gnu_version same))
 
-pub header_refused : (len number : ℕ) (header rest : List ℕ) → length header ≡ 20 → number ≡ word_at header 4 → (number ≡ version → ⊥) → header_on len (header ++ rest) ≡ Err (Version number)
-header_refused len number header rest whole number_is other = by (eqb number version) refl
+pub header_refused : (len number : ℕ) (header rest : List ℕ) → length header ≡ 20 → number ≡ word_at header 4 → (number ≡ gnu_version → ⊥) → header_on len (header ++ rest) ≡ Err (Version number)
+header_refused len number header rest whole number_is other = by (eqb number gnu_version) refl
   where
-    by : (b : Bool) → eqb number version ≡ b → header_on len (header ++ rest) ≡ Err (Version number)
-    by true e = absurd (other (eqb-true number version e))
+    by : (b : Bool) → eqb number gnu_version ≡ b → header_on len (header ++ rest) ≡ Err (Version number)
+    by true e = absurd (other (eqb-true number gnu_version e))
     by false e = header_by len number header rest whole number_is true (ap not e)
 
 -- ---- fronts
@@ -139,7 +139,7 @@ after_choice more true e f = refl
 after_choice more false e f = refl
 
 pub arc_begun : (len from to count : ℕ) (front rest : List ℕ) → slice_index front 0 ≡ 1 → length front ≡ 13 → from ≡ word_at front 1 → to ≡ word_at front 5 → count ≡ word_at front 9
-    → records_on len (front ++ rest) ≡ behind (Arc (record { from = from; to = to; count = count }) ∷ []) (records_on len rest)
+    → records_on len (front ++ rest) ≡ behind_records (Arc (record { from = from; to = to; count = count }) ∷ []) (records_on len rest)
 arc_begun len from to count [] rest tag long from_is to_is count_is = absurd (omega arith)
 arc_begun len from to count (zero ∷ body) rest tag long from_is to_is count_is = absurd (omega arith)
 arc_begun len from to count (suc (suc t) ∷ body) rest tag long from_is to_is count_is = absurd (omega arith)
@@ -150,8 +150,8 @@ arc_begun len from to count (suc zero ∷ body) rest tag long from_is to_is coun
     let here : ltb (length all) 12 ≡ false = le-ltb (length all) 12 (omega (arith, whole, length-append body rest)) in
     let arc : arc_of body ≡ record { from = from; to = to; count = count } = λ i. record { from = sym from_is i; to = sym to_is i; count = sym count_is i } in
     after_choice more (ltb (length all) 12) (Short len) (Found (Arc (arc_of (take 12 all))) (drop 12 all))
-    ∙ (λ i. cond (here i) (Err (Short len)) (behind (Arc (arc_of (take_at body rest 12 whole i)) ∷ []) (more (drop_at body rest 12 whole i))))
-    ∙ (λ i. behind (Arc (arc i) ∷ []) (allowance len (length all) (length rest) rest (omega (arith, length-append body rest)) (omega arith) i))
+    ∙ (λ i. cond (here i) (Err (Short len)) (behind_records (Arc (arc_of (take_at body rest 12 whole i)) ∷ []) (more (drop_at body rest 12 whole i))))
+    ∙ (λ i. behind_records (Arc (arc i) ∷ []) (allowance len (length all) (length rest) rest (omega (arith, length-append body rest)) (omega arith) i))
 
 pub blocks_begun : (len count : ℕ) (front rest : List ℕ) → slice_index front 0 ≡ 2 → length front ≡ 5 → count ≡ word_at front 1 → records_on len (front ++ rest) ≡ blocks_on len [] count rest
 blocks_begun len count [] rest tag long count_is = absurd (omega arith)
@@ -167,8 +167,8 @@ blocks_begun len count (suc (suc zero) ∷ body) rest tag long count_is =
     let behind_it : records_on len (drop (count * 8) rest) ≡ more (drop (count * 8) rest) = allowance len (length (drop (count * 8) rest)) (length all) (drop (count * 8) rest) (omega arith) (omega (arith, length-append body rest, length-drop (count * 8) rest)) in
     after_choice more (ltb (length all) 4) (Short len) (pairs_front len (word_at all 0) (drop 4 all))
     ∙ (λ i. cond (here i) (Err (Short len)) (after_front more (pairs_front len (number i) (drop_at body rest 4 whole i))))
-    ∙ after_choice more (ltb (length rest) (count * 8)) (Short len) (Found (Blocks (cut 8 block_of count rest)) (drop (count * 8) rest))
-    ∙ ap (λ (o : Result (List Rec) GmonRefusal). cond (ltb (length rest) (count * 8)) (Err (Short len)) (behind (Blocks (cut 8 block_of count rest) ∷ []) o)) (sym behind_it)
+    ∙ after_choice more (ltb (length rest) (count * 8)) (Short len) (Found (Blocks (items_of_text 8 block_of count rest)) (drop (count * 8) rest))
+    ∙ ap (λ (o : Result (List Rec) GmonRefusal). cond (ltb (length rest) (count * 8)) (Err (Short len)) (behind_records (Blocks (items_of_text 8 block_of count rest) ∷ []) o)) (sym behind_it)
 
 word_before : (k : ℕ) (body rest : List ℕ) → k + 4 ≤ length body → word_at (body ++ rest) k ≡ word_at body k
 word_before k body rest within =
@@ -219,7 +219,7 @@ hist_refused len at low high count (zero ∷ body) rest tag long low_is high_is 
     let bad : (ltb 0 count && leb high low) ≡ true = (λ i. lt-ltb 0 count some i && leb high low) ∙ (λ i. true && le-leb high low order i) in
     let found : Front =
     if nat_lt (length rest) (count * 2) then Refused (Short len) else
-    Found (Hist (record { low = low; high = high; unit = record { rate = rate; dim = dim; «abbrev» = short }; counters = cut 2 value_of count rest })) (drop (count * 2) rest) in
+    Found (Hist (record { low = low; high = high; unit = record { rate = rate; dim = dim; «abbrev» = short }; counters = items_of_text 2 value_of count rest })) (drop (count * 2) rest) in
     hist_fields len at low high count rate short dim body rest (omega arith) low_is high_is count_is refl refl refl at_is
     ∙ after_choice more (ltb 0 count && leb high low) (Range at low high) found
     ∙ ap (λ (b : Bool). cond b (Err (Range at low high)) (after_front more found)) bad
@@ -232,11 +232,11 @@ hist_begun len at low high count rate short dim (suc t ∷ body) rest tag long l
 hist_begun len at low high count rate short dim (zero ∷ body) rest tag long low_is high_is count_is rate_is dim_is short_is at_is good =
     let all = body ++ rest in
     let more : List ℕ → Result (List Rec) GmonRefusal = λ (r : List ℕ). recs_from len (length all) r in
-    let hist : Rec = Hist (record { low = low; high = high; unit = record { rate = rate; dim = dim; «abbrev» = short }; counters = cut 2 value_of count rest }) in
+    let hist : Rec = Hist (record { low = low; high = high; unit = record { rate = rate; dim = dim; «abbrev» = short }; counters = items_of_text 2 value_of count rest }) in
     let found : Front = if nat_lt (length rest) (count * 2) then Refused (Short len) else Found hist (drop (count * 2) rest) in
     let behind_it : records_on len (drop (count * 2) rest) ≡ more (drop (count * 2) rest) = allowance len (length (drop (count * 2) rest)) (length all) (drop (count * 2) rest) (omega arith) (omega (arith, length-append body rest, length-drop (count * 2) rest)) in
     hist_fields len at low high count rate short dim body rest (omega arith) low_is high_is count_is rate_is dim_is short_is at_is
     ∙ after_choice more (ltb 0 count && leb high low) (Range at low high) found
     ∙ ap (λ (b : Bool). cond b (Err (Range at low high)) (after_front more found)) good
     ∙ after_choice more (ltb (length rest) (count * 2)) (Short len) (Found hist (drop (count * 2) rest))
-    ∙ ap (λ (o : Result (List Rec) GmonRefusal). cond (ltb (length rest) (count * 2)) (Err (Short len)) (behind (hist ∷ []) o)) (sym behind_it)
+    ∙ ap (λ (o : Result (List Rec) GmonRefusal). cond (ltb (length rest) (count * 2)) (Err (Short len)) (behind_records (hist ∷ []) o)) (sym behind_it)

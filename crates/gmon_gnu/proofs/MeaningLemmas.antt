@@ -7,13 +7,13 @@ use Rattle.gp_base.specs.declared.records.RawHist.{RawHist}
 use Rattle.gp_base.specs.declared.records.Rec.{Rec}
 use Rattle.gp_base.specs.declared.records.Rec.TheVariants.{Hist, Arc, Blocks}
 use Rattle.gp_base.specs.declared.refusal.GmonRefusal.{GmonRefusal}
-use Rattle.gp_base.specs.Bytes.{value_of, le, cut, word_at, IsBytes}
+use Rattle.gp_base.specs.Bytes.{value_of, le, items_of_text, word_at, IsBytes}
 use Rattle.gp_base.proofs.LittleEndian.{length-cut, IsBytes-take, IsBytes-drop, IsBytes-rest, field_below, field_then}
 use Rattle.gp_base.proofs.Cutting.{flat_map-cut, all_cut}
 use Rattle.gp_base.specs.Fields.{arc_of, block_bytes, block_of, counter_bytes, BlockFits, CounterFits}
-use Rattle.gmon_gnu.specs.Fields.{version}
+use Rattle.gmon_gnu.specs.Fields.{gnu_version}
 use Rattle.gmon_gnu.specs.Grammar.{rec_bytes, RecFits, GnuSpells}
-use Rattle.gmon_gnu.specs.Reading.{Front, Found, Refused, body_front, behind, recs_from, after_front, file_recs, refusal_in, recs_in, gnu_refusal, gnu_records}
+use Rattle.gmon_gnu.specs.Reading.{Front, Found, Refused, body_front, behind_records, recs_from, after_front, file_recs, refusal_read, recs_in, gnu_refusal, gnu_records}
 use Rattle.gp_base.proofs.FieldLemmas.{counter_spelled, counter_fits, arc_spelled, arc_fits, block_spelled, block_fits}
 use Rattle.gmon_gnu.proofs.FrontLemmas.{found_then, same_found}
 use Rattle.gmon_gnu.proofs.SpellingLemmas.{rec_text, rec_then, shorter}
@@ -53,7 +53,7 @@ hist_front_spelled len at body r rest bytes is =
     let d = found_then (ltb (length after) (n * 2)) _ _ r rest b.1 in
     let long = ltb-false (length body) 32 a.0 in
     let enough = ltb-false (length after) (n * 2) d.0 in
-    let cs = cut 2 value_of n after in
+    let cs = items_of_text 2 value_of n after in
     let count : length cs ≡ n = length-cut 2 value_of n after in
     let short_bytes = IsBytes-drop 15 from_name (IsBytes-drop 16 body bytes) in
     let after_bytes = IsBytes-drop 1 from_letter short_bytes in
@@ -102,7 +102,7 @@ blocks_front_spelled len at body r rest bytes is =
     let d = found_then (ltb (length after) (n * 8)) _ _ r rest a.1 in
     let long = ltb-false (length body) 4 a.0 in
     let enough = ltb-false (length after) (n * 8) d.0 in
-    let blocks = cut 8 block_of n after in
+    let blocks = items_of_text 8 block_of n after in
     let count : length blocks ≡ n = length-cut 8 block_of n after in
     let after_bytes = IsBytes-drop 4 body bytes in
     let pairs : flat_map block_bytes blocks ++ drop (n * 8) after ≡ after = ap (λ (v : List ℕ). v ++ drop (n * 8) after) (flat_map-cut 8 block_of block_bytes block_spelled n after enough after_bytes) ∙ take-append-drop (n * 8) after in
@@ -140,7 +140,7 @@ recs_spelled len n [] rs le bytes is = subst (λ (x : List Rec). AllSpelled [] x
 recs_spelled len zero (tag ∷ body) rs le bytes is = absurd (let f : suc (length body) ≤ 0 = le in omega (arith, f))
 recs_spelled len (suc n) (tag ∷ body) rs le bytes is = by (body_front len (len - length (tag ∷ body)) tag body) refl is (recs_spelled len n)
   where
-    go : (r : Rec) (rest : List ℕ) → Spelled (tag ∷ body) r rest → (o : Result (List Rec) GmonRefusal) → behind (r ∷ []) o ≡ Ok rs → ((more : List Rec) → o ≡ Ok more → AllSpelled rest more) → AllSpelled (tag ∷ body) rs
+    go : (r : Rec) (rest : List ℕ) → Spelled (tag ∷ body) r rest → (o : Result (List Rec) GmonRefusal) → behind_records (r ∷ []) o ≡ Ok rs → ((more : List Rec) → o ≡ Ok more → AllSpelled rest more) → AllSpelled (tag ∷ body) rs
     go r rest spelled (Err e) is others = absurd cc
     go r rest spelled (Ok more) is others =
         let tail = others more refl in
@@ -160,24 +160,24 @@ none_then : (b : Bool) (x : GmonRefusal) (o : Option GmonRefusal) → (if b then
 none_then true x o e = absurd cc
 none_then false x o e = (refl, e)
 
-ok_where_accepted : (o : Result (List Rec) GmonRefusal) → refusal_in o ≡ None → o ≡ Ok (recs_in o)
+ok_where_accepted : (o : Result (List Rec) GmonRefusal) → refusal_read o ≡ None → o ≡ Ok (recs_in o)
 ok_where_accepted (Ok rs) e = refl
 ok_where_accepted (Err refusal) e = absurd cc
 
 -- the header of a text, and what stands behind it
-pub header_then : (bs : List ℕ) → IsBytes bs → 20 ≤ length bs → word_at bs 4 ≡ version → take 4 bs ++ (le version 4 ++ (take 12 (drop 8 bs) ++ drop 20 bs)) ≡ bs
+pub header_then : (bs : List ℕ) → IsBytes bs → 20 ≤ length bs → word_at bs 4 ≡ gnu_version → take 4 bs ++ (le gnu_version 4 ++ (take 12 (drop 8 bs) ++ drop 20 bs)) ≡ bs
 header_then bs bytes long version_is =
     let t8 : take 12 (drop 8 bs) ++ drop 20 bs ≡ drop 8 bs = ap (λ (v : List ℕ). take 12 (drop 8 bs) ++ v) (sym (drop-drop 12 8 bs)) ∙ take-append-drop 12 (drop 8 bs) in
-    let t4 : le version 4 ++ (take 12 (drop 8 bs) ++ drop 20 bs) ≡ drop 4 bs =
+    let t4 : le gnu_version 4 ++ (take 12 (drop 8 bs) ++ drop 20 bs) ≡ drop 4 bs =
     ap (λ (k : ℕ). le k 4 ++ (take 12 (drop 8 bs) ++ drop 20 bs)) (sym version_is) ∙ ap (λ (v : List ℕ). le (word_at bs 4) 4 ++ v) t8 ∙ field_then 4 4 bs bytes (omega (arith, long)) in
     ap (λ (v : List ℕ). take 4 bs ++ v) t4 ∙ take-append-drop 4 bs
 
 pub spelled_of : (bytes : List ℕ) → IsBytes bytes → gnu_refusal bytes ≡ None → GnuSpells bytes (gnu_records bytes)
 spelled_of bs bytes e =
     let a = none_then (ltb (length bs) 20) _ _ e in
-    let b = none_then (not (eqb (word_at bs 4) version)) _ _ a.1 in
+    let b = none_then (not (eqb (word_at bs 4) gnu_version)) _ _ a.1 in
     let long = ltb-false (length bs) 20 a.0 in
-    let version_is : word_at bs 4 ≡ version = eqb-true (word_at bs 4) version (not-false (eqb (word_at bs 4) version) b.0) in
+    let version_is : word_at bs 4 ≡ gnu_version = eqb-true (word_at bs 4) gnu_version (not-false (eqb (word_at bs 4) gnu_version) b.0) in
     let recs = recs_in (file_recs bs) in
     let all = recs_spelled (length bs) (length bs) (drop 20 bs) recs (omega (arith, length-drop 20 bs)) (IsBytes-drop 20 bs bytes) (ok_where_accepted (file_recs bs) b.1) in
     let spare = take 12 (drop 8 bs) in
@@ -185,7 +185,7 @@ spelled_of bs bytes e =
       first = take 4 bs;
       spare = spare;
       form = refl;
-      text = sym (header_then bs bytes long version_is) ∙ ap (λ (v : List ℕ). take 4 bs ++ (le version 4 ++ (spare ++ v))) all.text_is;
+      text = sym (header_then bs bytes long version_is) ∙ ap (λ (v : List ℕ). take 4 bs ++ (le gnu_version 4 ++ (spare ++ v))) all.text_is;
       first_fits = omega (arith, long, length-take 4 bs);
       spare_fits = omega (arith, long, length-take 12 (drop 8 bs), length-drop 8 bs);
       recs_fit = all.fits;

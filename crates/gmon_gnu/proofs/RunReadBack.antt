@@ -10,7 +10,7 @@ use Rattle.gmon_cells.proofs.LogFitLemmas.{counters_fit, arcs_fit}
 use Rattle.gp_base.specs.Fields.{ArcFits}
 use Rattle.gmon_gnu.specs.Fields.{magic, spare_bytes}
 use Rattle.gmon_gnu.specs.Grammar.{RecFits}
-use Rattle.gmon_gnu.specs.Run.{run_text, RunsAreSpelled, RunsAreReadBack}
+use Rattle.gmon_gnu.specs.Run.{gnu_run_text, RunsAreSpelled, RunsAreReadBack}
 use Rattle.gmon_gnu.proofs.SpellingLemmas.{accepted_where_spelled, only_where_spelled}
 
 recs_fit : (arcs : List RawArc) → AllByRecursion ArcFits arcs → AllByRecursion RecFits (map Arc arcs)
@@ -18,7 +18,7 @@ recs_fit [] fit = tt
 recs_fit (arc ∷ arcs) fit = (fit.0, recs_fit arcs fit.1)
 
 pub run_spelled : RunsAreSpelled
-unfolding run_text
+unfolding gnu_run_text
 run_spelled z log rate sizes rate_fits calls = record {
   first = magic;
   spare = spare_bytes;

@@ -8,9 +8,9 @@ use Rattle.mcount_arcs.specs.Log.{LogEntry}
 use Rattle.mcount_arcs.specs.Samples.{buckets_of}
 use Rattle.mcount_arcs.specs.Value.{GmonValue, StandsFor}
 use Rattle.gmon_gnu.specs.Fields.{magic, spare_bytes}
-use Rattle.gmon_gnu.specs.Grammar.{rec_bytes, tagged_arc, spelling}
+use Rattle.gmon_gnu.specs.Grammar.{rec_bytes, tagged_arc, gnu_spelling}
 use Rattle.gp_base.specs.Fields.{counters_text}
-use Rattle.gmon_gnu.specs.Run.{run_recs, run_text, runtime_text, header_of}
+use Rattle.gmon_gnu.specs.Run.{run_recs, gnu_run_text, runtime_text, header_of}
 
 arcs_tagged : (arcs : List RawArc) → flat_map tagged_arc arcs ≡ flat_map rec_bytes (map Arc arcs)
 arcs_tagged [] = refl
@@ -25,8 +25,8 @@ text_parts v rate z is count =
     ∙ ap (λ (t : List ℕ). header_of v.sizes.low v.sizes.high (length v.counters) rate ++ (counters_text v.counters ++ t)) (arcs_tagged v.arcs)
 
 -- what a runtime holds follows from the log that it stands for
-pub text_stands : (v : GmonValue) (rate : ℕ) (log : List LogEntry) → StandsFor log v → runtime_text v rate ≡ run_text v.sizes log rate
-unfolding runtime_text run_text
+pub text_stands : (v : GmonValue) (rate : ℕ) (log : List LogEntry) → StandsFor log v → runtime_text v rate ≡ gnu_run_text v.sizes log rate
+unfolding runtime_text gnu_run_text
 text_stands v rate log stands =
-    ap (λ (counters : List ℕ). spelling magic spare_bytes (run_recs v.sizes.low v.sizes.high rate counters v.arcs)) stands.counters
-    ∙ ap (λ (arcs : List RawArc). spelling magic spare_bytes (run_recs v.sizes.low v.sizes.high rate (buckets_of v.sizes log) arcs)) stands.arcs
+    ap (λ (counters : List ℕ). gnu_spelling magic spare_bytes (run_recs v.sizes.low v.sizes.high rate counters v.arcs)) stands.counters
+    ∙ ap (λ (arcs : List RawArc). gnu_spelling magic spare_bytes (run_recs v.sizes.low v.sizes.high rate (buckets_of v.sizes log) arcs)) stands.arcs

@@ -12,7 +12,7 @@ use Rattle.gmon_data.specs.Content.{Content, empty_content, wide_hist, wide_reco
 use Rattle.gmon_data.specs.Sizes.{IsOfBytes}
 use Rattle.gmon_data.proofs.RecordLemmas.{with_records-append}
 use Rattle.gmon_data.proofs.SizeLemmas.{all_blocks, counters_sum, more_bytes, of_nothing, one_arc, one_hist}
-use Rattle.gmon_gnu.specs.Grammar.{GnuSpells, RecFits, rec_bytes, spelling}
+use Rattle.gmon_gnu.specs.Grammar.{GnuSpells, RecFits, rec_bytes, gnu_spelling}
 
 -- the bytes that its numbers take at least
 abbrev weight : Rec → ℕ
@@ -55,7 +55,7 @@ records_long : (recs : List Rec) → weights recs ≤ length (flat_map rec_bytes
 records_long [] = omega arith
 records_long (r ∷ recs) = omega (arith, record_long r, records_long recs, sum_by-cons weight r recs, length-append (rec_bytes r) (flat_map rec_bytes recs))
 
-spelling_long : (first spare : List ℕ) (recs : List Rec) → weights recs ≤ length (spelling first spare recs)
+spelling_long : (first spare : List ℕ) (recs : List Rec) → weights recs ≤ length (gnu_spelling first spare recs)
 spelling_long first spare recs = omega (arith, records_long recs, length-append first (behind_first spare recs), length-append spare (flat_map rec_bytes recs))
   where
     behind_first : List ℕ → List Rec → List ℕ

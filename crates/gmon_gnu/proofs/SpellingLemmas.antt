@@ -15,9 +15,9 @@ use Rattle.gp_base.specs.Bytes.{value_of, le, word_at}
 use Rattle.gp_base.proofs.LittleEndian.{value_of-le}
 use Rattle.gp_base.proofs.Cutting.{cut-flat_map, length-spelled}
 use Rattle.gp_base.specs.Fields.{arc_bytes, block_bytes, block_of, counter_bytes, ArcFits, BlockFits, CounterFits}
-use Rattle.gmon_gnu.specs.Fields.{version}
-use Rattle.gmon_gnu.specs.Grammar.{rec_bytes, spelling, RecFits, HistFits, BlocksFit, GnuSpells}
-use Rattle.gmon_gnu.specs.Reading.{Found, hist_of_fields, pairs_front, body_front, behind, recs_from, after_front, file_recs, refusal_in, recs_in, gnu_refusal, gnu_records}
+use Rattle.gmon_gnu.specs.Fields.{gnu_version}
+use Rattle.gmon_gnu.specs.Grammar.{rec_bytes, gnu_spelling, RecFits, HistFits, BlocksFit, GnuSpells}
+use Rattle.gmon_gnu.specs.Reading.{Found, hist_of_fields, pairs_front, body_front, behind_records, recs_from, after_front, file_recs, refusal_read, recs_in, gnu_refusal, gnu_records}
 use Rattle.gp_base.proofs.FieldLemmas.{counter_length, block_length, arc_back, block_back}
 
 -- ---- a record with the text behind it
@@ -88,7 +88,7 @@ shorter (Hist h) rest =
 shorter (Arc arc) rest = omega (arith, length-append (arc_bytes arc) rest)
 shorter (Blocks blocks) rest = omega (arith, length-append (flat_map block_bytes blocks) rest)
 
-pub front_read : (len n : ℕ) (r : Rec) (rest : List ℕ) → RecFits r → recs_from len (suc n) (rec_text r rest) ≡ behind (r ∷ []) (recs_from len n rest)
+pub front_read : (len n : ℕ) (r : Rec) (rest : List ℕ) → RecFits r → recs_from len (suc n) (rec_text r rest) ≡ behind_records (r ∷ []) (recs_from len n rest)
 front_read len n (Hist h) rest fits = ap (after_front (λ rest. recs_from len n rest)) (hist_read len (len - length (rec_text (Hist h) rest)) h rest fits)
 front_read len n (Arc arc) rest fits = ap (after_front (λ rest. recs_from len n rest)) (arc_read len (len - length (rec_text (Arc arc) rest)) arc rest fits)
 front_read len n (Blocks blocks) rest fits = ap (after_front (λ rest. recs_from len n rest)) (blocks_read len (len - length (rec_text (Blocks blocks) rest)) blocks rest fits)
@@ -103,20 +103,20 @@ recs_read len n [] le fits = refl
 recs_read len zero (r ∷ rs) le fits = absurd (let f : length (flat_map rec_bytes rs) < 0 = omega (arith, le, shorter_recs r rs) in omega (arith, f))
 recs_read len (suc n) (r ∷ rs) le fits =
     ap (recs_from len (suc n)) (rec_then r (flat_map rec_bytes rs))
-    ∙ front_read len n r (flat_map rec_bytes rs) fits.0 ∙ ap (behind (r ∷ [])) (recs_read len n rs (omega (arith, le, shorter_recs r rs)) fits.1)
+    ∙ front_read len n r (flat_map rec_bytes rs) fits.0 ∙ ap (behind_records (r ∷ [])) (recs_read len n rs (omega (arith, le, shorter_recs r rs)) fits.1)
 
 -- ---- the whole text
 
 pub record Whole (bytes : List ℕ) (recs : List Rec) : Type 0 where
   pub header : 20 ≤ length bytes
-  pub version_is : word_at bytes 4 ≡ version
+  pub version_is : word_at bytes 4 ≡ gnu_version
   pub recs_are : file_recs bytes ≡ Ok recs
 
-whole_spelling : (first spare : List ℕ) (recs : List Rec) → length first ≡ 4 → length spare ≡ 12 → AllByRecursion RecFits recs → Whole (spelling first spare recs) recs
+whole_spelling : (first spare : List ℕ) (recs : List Rec) → length first ≡ 4 → length spare ≡ 12 → AllByRecursion RecFits recs → Whole (gnu_spelling first spare recs) recs
 whole_spelling first spare recs four twelve fit =
     let text = flat_map rec_bytes recs in
-    let after = le version 4 ++ (spare ++ text) in
-    let bytes = spelling first spare recs in
+    let after = le gnu_version 4 ++ (spare ++ text) in
+    let bytes = gnu_spelling first spare recs in
     let long : length bytes ≡ 20 + length text = omega (arith, four, twelve, length-append first after, length-append spare text) in
     let rest : drop 20 bytes ≡ text = sym (drop-drop 16 4 bytes) ∙ ap (drop 16) (drop_at first after 4 four) ∙ drop_at spare text 12 twelve in
     record {
@@ -128,15 +128,15 @@ whole_spelling first spare recs four twelve fit =
 pub whole_accepted : (bytes : List ℕ) (recs : List Rec) → Whole bytes recs → gnu_refusal bytes ≡ None
 whole_accepted bytes recs whole =
     let here : ltb (length bytes) 20 ≡ false = le-ltb (length bytes) 20 whole.header in
-    let same : not (eqb (word_at bytes 4) version) ≡ false = ap not (eq-eqb (word_at bytes 4) version whole.version_is) in
-    rw (here, same) (ap refusal_in whole.recs_are)
+    let same : not (eqb (word_at bytes 4) gnu_version) ≡ false = ap not (eq-eqb (word_at bytes 4) gnu_version whole.version_is) in
+    rw (here, same) (ap refusal_read whole.recs_are)
 
 abbrev pub gnu : List Rec → Records
 gnu recs = record { form = Gnu; recs = recs }
 
 pub accepted_where_spelled : (bytes : List ℕ) (r : Records) → GnuSpells bytes r → gnu_refusal bytes ≡ None
 accepted_where_spelled bytes r s =
-    ap gnu_refusal s.text ∙ whole_accepted (spelling s.first s.spare r.recs) r.recs (whole_spelling s.first s.spare r.recs s.first_fits s.spare_fits s.recs_fit)
+    ap gnu_refusal s.text ∙ whole_accepted (gnu_spelling s.first s.spare r.recs) r.recs (whole_spelling s.first s.spare r.recs s.first_fits s.spare_fits s.recs_fit)
 
 pub only_where_spelled : (bytes : List ℕ) (r : Records) → GnuSpells bytes r → r ≡ gnu_records bytes
 only_where_spelled bytes r s =

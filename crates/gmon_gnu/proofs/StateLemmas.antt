@@ -8,10 +8,10 @@ use Rattle.gp_base.specs.declared.records.RawBlock.{RawBlock}
 use Rattle.gp_base.specs.declared.records.Rec.{Rec}
 use Rattle.gp_base.specs.declared.records.Rec.TheVariants.{Hist, Arc, Blocks}
 use Rattle.gp_base.specs.declared.refusal.GmonRefusal.TheVariants.{Version}
-use Rattle.gp_base.specs.Bytes.{value_of, word_at, cut}
+use Rattle.gp_base.specs.Bytes.{value_of, word_at, items_of_text}
 use Rattle.gmon_cells.specs.Cells.{cells_of, torn_of}
 use Rattle.gp_base.specs.Fields.{block_of}
-use Rattle.gmon_gnu.specs.Fields.{version}
+use Rattle.gmon_gnu.specs.Fields.{gnu_version}
 use Rattle.gmon_gnu.specs.declared.state.HistFields.{HistFields}
 use Rattle.gmon_gnu.specs.declared.state.Entry.{Entry}
 use Rattle.gmon_gnu.specs.declared.state.Body.{Body}
@@ -21,7 +21,7 @@ use Rattle.gmon_gnu.specs.declared.state.Part.TheVariants as part
 use Rattle.gmon_gnu.specs.declared.state.State.{State}
 use Rattle.gmon_gnu.specs.declared.state.Begun.{Begun}
 use Rattle.gmon_gnu.specs.declared.state.Begun.TheVariants as begun
-use Rattle.gmon_gnu.specs.Reading.{behind}
+use Rattle.gmon_gnu.specs.Reading.{behind_records}
 use Rattle.gmon_gnu.specs.Going.{Open, InHeader, Between, InHist, InBlocks, Stopped, records_on, header_on, hist_on, blocks_on, resume, Reads}
 use Rattle.gmon_gnu.specs.Held.{hist_with, rec_of, entry_recs, recs_in, IsBodyWithin, IsWithin, recs_of, open_of, rest_of, width_of, IsFront, IsPartial, Goes}
 use Rattle.gmon_gnu.specs.Begun.{begun_on, Follows}
@@ -44,14 +44,14 @@ reads_rest whole recs now rest left is reads = subst (λ (v : List ℕ). Reads w
 
 -- ---- the header
 
-pub header_goes : (whole : List ℕ) (recs : List Rec) (number : ℕ) (header rest taken : List ℕ) → length header ≡ 20 → header ++ rest ≡ taken → number ≡ word_at header 4 → number ≡ version
+pub header_goes : (whole : List ℕ) (recs : List Rec) (number : ℕ) (header rest taken : List ℕ) → length header ≡ 20 → header ++ rest ≡ taken → number ≡ word_at header 4 → number ≡ gnu_version
     → Reads whole recs InHeader taken → Reads whole recs Between rest
 header_goes whole recs number header rest taken whole_header taken_is number_is same reads =
     reads_same whole recs InHeader Between (header ++ rest) rest
     (λ more. ap (header_on (length (whole ++ more))) (append_assoc header rest more) ∙ header_read (length (whole ++ more)) number header (rest ++ more) whole_header number_is same)
     (reads_rest whole recs InHeader taken (header ++ rest) (sym taken_is) reads)
 
-pub header_stops : (whole : List ℕ) (recs : List Rec) (number : ℕ) (header rest taken left : List ℕ) → length header ≡ 20 → header ++ rest ≡ taken → number ≡ word_at header 4 → (number ≡ version → ⊥)
+pub header_stops : (whole : List ℕ) (recs : List Rec) (number : ℕ) (header rest taken left : List ℕ) → length header ≡ 20 → header ++ rest ≡ taken → number ≡ word_at header 4 → (number ≡ gnu_version → ⊥)
     → Reads whole recs InHeader taken → Reads whole recs (Stopped (Version number)) left
 header_stops whole recs number header rest taken left whole_header taken_is number_is other reads =
     reads_same whole recs InHeader (Stopped (Version number)) (header ++ rest) left
@@ -70,21 +70,21 @@ follows_front whole recs front rest taken b at taken_is at_is says reads = λ mo
     let l = length (whole ++ more) in
     let there : at ≡ l - length (front ++ (rest ++ more)) = omega (arith, at_is, length-append whole more, length-append front rest, length-append front (rest ++ more), length-append rest more) in
     reads more
-    ∙ ap (λ (v : List ℕ). behind recs (records_on l (v ++ more))) (sym taken_is)
-    ∙ ap (λ (v : List ℕ). behind recs (records_on l v)) (append_assoc front rest more)
-    ∙ ap (behind recs) (says l (rest ++ more) there)
+    ∙ ap (λ (v : List ℕ). behind_records recs (records_on l (v ++ more))) (sym taken_is)
+    ∙ ap (λ (v : List ℕ). behind_records recs (records_on l v)) (append_assoc front rest more)
+    ∙ ap (behind_records recs) (says l (rest ++ more) there)
 
 pub begins_hist : (whole : List ℕ) (recs : List Rec) (f : HistFields) (start count : ℕ) (counters half rest : List ℕ) → half ≡ [] → start ≡ length counters
     → Follows whole recs (begun.Hist f count) rest → Reads whole recs (InHist (hist_with f (drop start counters)) count) (half ++ rest)
 begins_hist whole recs f start count counters half rest half_is start_is follows = λ more.
     let none : drop start counters ≡ [] = drop_all start counters (omega (arith, start_is)) in
-    follows more ∙ (λ i. behind recs (hist_on (length (whole ++ more)) (hist_with f (sym none i)) count ((sym half_is i ++ rest) ++ more)))
+    follows more ∙ (λ i. behind_records recs (hist_on (length (whole ++ more)) (hist_with f (sym none i)) count ((sym half_is i ++ rest) ++ more)))
 
 pub begins_blocks : (whole : List ℕ) (recs : List Rec) (start count : ℕ) (pairs : List RawBlock) (pair rest : List ℕ) → pair ≡ [] → start ≡ length pairs
     → Follows whole recs (begun.Blocks count) rest → Reads whole recs (InBlocks (drop start pairs) count) (pair ++ rest)
 begins_blocks whole recs start count pairs pair rest pair_is start_is follows = λ more.
     let none : drop start pairs ≡ [] = drop_all start pairs (omega (arith, start_is)) in
-    follows more ∙ (λ i. behind recs (blocks_on (length (whole ++ more)) (sym none i) count ((sym pair_is i ++ rest) ++ more)))
+    follows more ∙ (λ i. behind_records recs (blocks_on (length (whole ++ more)) (sym none i) count ((sym pair_is i ++ rest) ++ more)))
 
 -- ---- a record ends
 
@@ -117,7 +117,7 @@ hist_ended whole counters pairs arcs es es1 run run1 last f start end left half 
     let more_recs : recs ++ Hist h ∷ [] ≡ recs_in counters pairs arcs es1 run1 = entry_more counters pairs arcs es es1 run run1 last (body.Hist f start end) (Hist h) last_is run1_is es_are same in
     subst (λ (v : List Rec). Reads whole v Between (torn ++ rest)) more_recs
     (reads_then whole recs (Hist h ∷ []) (InHist h left) Between (half ++ rest) (torn ++ rest)
-    (λ more. (λ i. hist_on (length (whole ++ more)) h (none i) ((half_is i ++ rest) ++ more)) ∙ hist_ends (length (whole ++ more)) h (rest ++ more) ∙ (λ i. behind (Hist h ∷ []) (records_on (length (whole ++ more)) ((sym torn_is i ++ rest) ++ more))))
+    (λ more. (λ i. hist_on (length (whole ++ more)) h (none i) ((half_is i ++ rest) ++ more)) ∙ hist_ends (length (whole ++ more)) h (rest ++ more) ∙ (λ i. behind_records (Hist h ∷ []) (records_on (length (whole ++ more)) ((sym torn_is i ++ rest) ++ more))))
     reads)
 
 pub blocks_ended : (whole counters : List ℕ) (pairs : List RawBlock) (arcs : List RawArc) (es es1 : List Entry) (run run1 last start end left : ℕ) (pair torn rest : List ℕ)
@@ -130,7 +130,7 @@ blocks_ended whole counters pairs arcs es es1 run run1 last start end left pair 
     let more_recs : recs ++ Blocks blocks ∷ [] ≡ recs_in counters pairs arcs es1 run1 = entry_more counters pairs arcs es es1 run run1 last (body.Blocks start end) (Blocks blocks) last_is run1_is es_are same in
     subst (λ (v : List Rec). Reads whole v Between (torn ++ rest)) more_recs
     (reads_then whole recs (Blocks blocks ∷ []) (InBlocks blocks left) Between (pair ++ rest) (torn ++ rest)
-    (λ more. (λ i. blocks_on (length (whole ++ more)) blocks (none i) ((pair_is i ++ rest) ++ more)) ∙ blocks_end (length (whole ++ more)) blocks (rest ++ more) ∙ (λ i. behind (Blocks blocks ∷ []) (records_on (length (whole ++ more)) ((sym torn_is i ++ rest) ++ more))))
+    (λ more. (λ i. blocks_on (length (whole ++ more)) blocks (none i) ((pair_is i ++ rest) ++ more)) ∙ blocks_end (length (whole ++ more)) blocks (rest ++ more) ∙ (λ i. behind_records (Blocks blocks ∷ []) (records_on (length (whole ++ more)) ((sym torn_is i ++ rest) ++ more))))
     reads)
 
 -- the entry was added, and all else is as before
@@ -138,7 +138,7 @@ pub added_goes : (whole rest : List ℕ) (s n : State) → n.counters ≡ s.coun
     → Reads whole (recs_in s.counters.cells.items s.pairs.cells.items s.arcs.items n.entries.items n.run) Between (s.torn ++ rest) → Reads whole (recs_of n) Between (n.torn ++ rest)
 added_goes whole rest s n counters_is pairs_is arcs_is torn_is reads = λ more.
     reads more
-    ∙ (λ i. behind (recs_in (sym counters_is i).cells.items (sym pairs_is i).cells.items (sym arcs_is i).items n.entries.items n.run) (records_on (length (whole ++ more)) ((sym torn_is i ++ rest) ++ more)))
+    ∙ (λ i. behind_records (recs_in (sym counters_is i).cells.items (sym pairs_is i).cells.items (sym arcs_is i).items n.entries.items n.run) (records_on (length (whole ++ more)) ((sym torn_is i ++ rest) ++ more)))
 
 -- ---- cells come
 
@@ -184,7 +184,7 @@ arc_came whole counters pairs arcs arcs1 es run arc torn rest within order arcs_
     let l = length (whole ++ more) in
     follows more
     ∙ behind_both recs (Arc arc ∷ []) (records_on l (rest ++ more))
-    ∙ (λ i. behind (now i) (records_on l ((sym torn_is i ++ rest) ++ more)))
+    ∙ (λ i. behind_records (now i) (records_on l ((sym torn_is i ++ rest) ++ more)))
 
 -- the piece, behind what had come before
 in_two : (n : ℕ) (before piece mine rest more : List ℕ) → mine ≡ take n piece → rest ≡ drop n piece → (before ++ piece) ++ more ≡ (before ++ mine) ++ (rest ++ more)
@@ -200,10 +200,10 @@ pub counters_came : (whole counters counters1 : List ℕ) (pairs : List RawBlock
 counters_came whole counters counters1 pairs arcs es run f n start left came half half1 piece mine rest within order counters_are half_is mine_is rest_is came_is few reads =
     let t = half ++ mine in
     let k : length t / 2 ≡ came = ap (λ (m : ℕ). m / 2) (length-append half mine) ∙ sym came_is in
-    let cells : counters1 ≡ counters ++ cut 2 value_of came t = counters_are ∙ ap (λ (m : ℕ). counters ++ cut 2 value_of m t) k in
+    let cells : counters1 ≡ counters ++ items_of_text 2 value_of came t = counters_are ∙ ap (λ (m : ℕ). counters ++ items_of_text 2 value_of m t) k in
     let torn : half1 ≡ drop (came * 2) t = half_is ∙ ap (λ (m : ℕ). drop (m * 2) t) k in
-    let now : drop start counters1 ≡ drop start counters ++ cut 2 value_of came t = ap (drop start) cells ∙ drop-append-le start counters (cut 2 value_of came t) order in
-    let entries = entries_stay counters counters1 pairs pairs arcs arcs (more_stays counters counters1 (cut 2 value_of came t) cells) (same_stays pairs) (same_stays arcs) es within in
+    let now : drop start counters1 ≡ drop start counters ++ items_of_text 2 value_of came t = ap (drop start) cells ∙ drop-append-le start counters (items_of_text 2 value_of came t) order in
+    let entries = entries_stay counters counters1 pairs pairs arcs arcs (more_stays counters counters1 (items_of_text 2 value_of came t) cells) (same_stays pairs) (same_stays arcs) es within in
     let recs : recs_in counters pairs arcs es run ≡ recs_in counters1 pairs arcs es run = ap (λ (v : List Rec). v ++ map Arc (drop run arcs)) (sym entries) in
     let long : came * 2 ≤ length t = omega (arith, k) in
     let h = hist_with f (drop start counters) in
@@ -225,10 +225,10 @@ pub pairs_came : (whole counters : List ℕ) (pairs pairs1 : List RawBlock) (arc
 pairs_came whole counters pairs pairs1 arcs es run n start left came pair pair1 piece mine rest within order pairs_are pair_is mine_is rest_is came_is few reads =
     let t = pair ++ mine in
     let k : length t / 8 ≡ came = ap (λ (m : ℕ). m / 8) (length-append pair mine) ∙ sym came_is in
-    let cells : pairs1 ≡ pairs ++ cut 8 block_of came t = pairs_are ∙ ap (λ (m : ℕ). pairs ++ cut 8 block_of m t) k in
+    let cells : pairs1 ≡ pairs ++ items_of_text 8 block_of came t = pairs_are ∙ ap (λ (m : ℕ). pairs ++ items_of_text 8 block_of m t) k in
     let torn : pair1 ≡ drop (came * 8) t = pair_is ∙ ap (λ (m : ℕ). drop (m * 8) t) k in
-    let now : drop start pairs1 ≡ drop start pairs ++ cut 8 block_of came t = ap (drop start) cells ∙ drop-append-le start pairs (cut 8 block_of came t) order in
-    let entries = entries_stay counters counters pairs pairs1 arcs arcs (same_stays counters) (more_stays pairs pairs1 (cut 8 block_of came t) cells) (same_stays arcs) es within in
+    let now : drop start pairs1 ≡ drop start pairs ++ items_of_text 8 block_of came t = ap (drop start) cells ∙ drop-append-le start pairs (items_of_text 8 block_of came t) order in
+    let entries = entries_stay counters counters pairs pairs1 arcs arcs (same_stays counters) (more_stays pairs pairs1 (items_of_text 8 block_of came t) cells) (same_stays arcs) es within in
     let recs : recs_in counters pairs arcs es run ≡ recs_in counters pairs1 arcs es run = ap (λ (v : List Rec). v ++ map Arc (drop run arcs)) (sym entries) in
     let long : came * 8 ≤ length t = omega (arith, k) in
     let blocks = drop start pairs in
@@ -252,4 +252,4 @@ pub goes_moved : (whole rest : List ℕ) (a b : State) → b.part ≡ a.part →
     → b.pairs.cells.items ≡ a.pairs.cells.items → b.pairs.torn ≡ a.pairs.torn → b.arcs.items ≡ a.arcs.items → b.entries.items ≡ a.entries.items → b.run ≡ a.run → Goes whole a rest → Goes whole b rest
 goes_moved whole rest a b part_is torn_is counters_is half_is pairs_is pair_is arcs_is entries_is run_is goes = λ more.
     goes more
-    ∙ sym (λ i. behind (recs_in (counters_is i) (pairs_is i) (arcs_is i) (entries_is i) (run_is i)) (resume (length (whole ++ more)) (open_of (part_is i) (counters_is i) (pairs_is i)) ((rest_of (part_is i) (torn_is i) (half_is i) (pair_is i) ++ rest) ++ more)))
+    ∙ sym (λ i. behind_records (recs_in (counters_is i) (pairs_is i) (arcs_is i) (entries_is i) (run_is i)) (resume (length (whole ++ more)) (open_of (part_is i) (counters_is i) (pairs_is i)) ((rest_of (part_is i) (torn_is i) (half_is i) (pair_is i) ++ rest) ++ more)))

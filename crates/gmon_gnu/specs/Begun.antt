@@ -6,13 +6,13 @@ use Rattle.gp_base.specs.declared.records.Rec.TheVariants.{Arc}
 use Rattle.gp_base.specs.declared.refusal.GmonRefusal.{GmonRefusal}
 use Rattle.gmon_gnu.specs.declared.state.Begun.{Begun}
 use Rattle.gmon_gnu.specs.declared.state.Begun.TheVariants as begun
-use Rattle.gmon_gnu.specs.Reading.{behind}
+use Rattle.gmon_gnu.specs.Reading.{behind_records}
 use Rattle.gmon_gnu.specs.Going.{records_on, header_on, hist_on, blocks_on}
 use Rattle.gmon_gnu.specs.Held.{hist_with}
 
 abbrev pub begun_on : ℕ → Begun → List ℕ → Result (List Rec) GmonRefusal
 begun_on len (begun.Hist f count) rest = hist_on len (hist_with f []) count rest
-begun_on len (begun.Arc arc) rest = behind (Arc arc ∷ []) (records_on len rest)
+begun_on len (begun.Arc arc) rest = behind_records (Arc arc ∷ []) (records_on len rest)
 begun_on len (begun.Blocks count) rest = blocks_on len [] count rest
 begun_on len (begun.Refused refusal) rest = Err refusal
 
@@ -31,4 +31,4 @@ arcs_of (begun.Refused refusal) = 0
 
 -- However the file goes on: what is read of it is the records so far, and what is read on behind that front.
 abbrev pub Follows : List ℕ → List Rec → Begun → List ℕ → Type 0
-Follows whole recs b rest = (more : List ℕ) → header_on (length (whole ++ more)) (whole ++ more) ≡ behind recs (begun_on (length (whole ++ more)) b (rest ++ more))
+Follows whole recs b rest = (more : List ℕ) → header_on (length (whole ++ more)) (whole ++ more) ≡ behind_records recs (begun_on (length (whole ++ more)) b (rest ++ more))

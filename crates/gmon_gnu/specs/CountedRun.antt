@@ -14,7 +14,7 @@ use Rattle.mcount_arcs.specs.Arcs.{CallFits, arcs_of}
 use Rattle.gmon_gnu.specs.Blocks.{block_record, executed_blocks}
 use Rattle.gmon_gnu.specs.Grammar.{GnuSpells}
 use Rattle.gmon_gnu.specs.Reading.{gnu_refusal, gnu_records}
-use Rattle.gmon_gnu.specs.Run.{run_recs, run_text}
+use Rattle.gmon_gnu.specs.Run.{run_recs, gnu_run_text}
 
 -- one record of them, or none where nothing was executed
 abbrev pub block_recs : List RawBlock → List Rec
@@ -22,7 +22,7 @@ block_recs [] = []
 block_recs (b ∷ bs) = Blocks (b ∷ bs) ∷ []
 
 abbrev pub counted_text : Sizes → List LogEntry → ℕ → ℕ → List ℕ → List ℕ
-counted_text z log rate low counts = run_text z log rate ++ block_record low counts
+counted_text z log rate low counts = gnu_run_text z log rate ++ block_record low counts
 
 -- what that file says: the run's records, and behind them each instruction that was executed with its count
 abbrev pub counted_records : Sizes → List LogEntry → ℕ → ℕ → List ℕ → Records

@@ -5,6 +5,6 @@ use Rattle.gp_base.specs.declared.records.Rec.{Rec}
 use Rattle.gp_base.specs.declared.refusal.GmonRefusal.{GmonRefusal}
 
 -- by a refusal, or with no record more
-abbrev pub ended : Option GmonRefusal → Result (List Rec) GmonRefusal
-ended None = Ok []
-ended (Some refusal) = Err refusal
+abbrev pub ending_result : Option GmonRefusal → Result (List Rec) GmonRefusal
+ending_result None = Ok []
+ending_result (Some refusal) = Err refusal

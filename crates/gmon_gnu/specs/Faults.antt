@@ -5,8 +5,8 @@ use Rattle.gp_base.specs.declared.records.Rec.{Rec}
 use Rattle.gp_base.specs.declared.refusal.GmonRefusal.{GmonRefusal}
 use Rattle.gp_base.specs.declared.refusal.GmonRefusal.TheVariants.{Short, Version, Tag, Range}
 use Rattle.gp_base.specs.Bytes.{word_at, IsBytes}
-use Rattle.gmon_gnu.specs.Fields.{version}
-use Rattle.gmon_gnu.specs.Grammar.{spelling, RecFits}
+use Rattle.gmon_gnu.specs.Fields.{gnu_version}
+use Rattle.gmon_gnu.specs.Grammar.{gnu_spelling, RecFits}
 use Rattle.gmon_gnu.specs.Reading.{gnu_refusal}
 
 -- Behind a header and records without a fault, a record's tag stands at `at`, and the body is all that follows the tag
@@ -16,8 +16,8 @@ pub record RecordAt (bytes : List ℕ) (at tag : ℕ) (body : List ℕ) : Type 0
   pub first : List ℕ
   pub spare : List ℕ
   pub recs : List Rec
-  pub text : bytes ≡ spelling first spare recs ++ tag ∷ body
-  pub place : at ≡ length (spelling first spare recs)
+  pub text : bytes ≡ gnu_spelling first spare recs ++ tag ∷ body
+  pub place : at ≡ length (gnu_spelling first spare recs)
   pub first_fits : length first ≡ 4
   pub spare_fits : length spare ≡ 12
   pub recs_fit : AllByRecursion RecFits recs
@@ -60,7 +60,7 @@ pub data HasFault (bytes : List ℕ) : GmonRefusal → Type 0 where
   -- the header isn't all there
   TornHeader : length bytes < 20 → HasFault bytes (Short (length bytes))
   -- it has another version
-  OtherVersion : 20 ≤ length bytes → word_at bytes 4 ≢ version → HasFault bytes (Version (word_at bytes 4))
+  OtherVersion : 20 ≤ length bytes → word_at bytes 4 ≢ gnu_version → HasFault bytes (Version (word_at bytes 4))
   -- a record has none of the three tags
   OtherTag : (at tag : ℕ) (body : List ℕ) → RecordAt bytes at tag body → 2 < tag → HasFault bytes (Tag at tag)
   -- the range of a histogram with counters is empty

@@ -2,8 +2,8 @@
 use Rattle.std.specs.Prelude.{ℕ, List, [], ◌∷◌, replicate}
 
 -- GMON_VERSION of gmon_out.h
-abbrev pub version : ℕ
-version = 1
+abbrev pub gnu_version : ℕ
+gnu_version = 1
 
 -- GMON_MAGIC of gmon_out.h: `gmon`
 abbrev pub magic : List ℕ

@@ -11,7 +11,7 @@ use Rattle.gp_base.specs.declared.records.Form.TheVariants.{Gnu}
 use Rattle.gp_base.specs.Bytes.{le}
 use Rattle.gp_base.specs.Fields.{block_bytes, counter_bytes, ArcFits, BlockFits, CounterFits}
 use Rattle.gmon_cells.specs.FileText.{tagged_by}
-use Rattle.gmon_gnu.specs.Fields.{version}
+use Rattle.gmon_gnu.specs.Fields.{gnu_version}
 
 -- a histogram, behind its tag 0: its fields, and its counters
 abbrev pub hist_bytes : RawHist → List ℕ
@@ -32,8 +32,8 @@ rec_bytes (Arc arc) = tagged_arc arc
 rec_bytes (Blocks blocks) = blocks_bytes blocks
 
 -- the header, which is four bytes, the version and twelve spare bytes; and the records, one after the other
-abbrev pub spelling : List ℕ → List ℕ → List Rec → List ℕ
-spelling first spare recs = first ++ (le version 4 ++ (spare ++ flat_map rec_bytes recs))
+abbrev pub gnu_spelling : List ℕ → List ℕ → List Rec → List ℕ
+gnu_spelling first spare recs = first ++ (le gnu_version 4 ++ (spare ++ flat_map rec_bytes recs))
 
 -- each number has the bytes of its field, and counters share a range that isn't empty
 pub record HistFits (h : RawHist) : Type 0 where
@@ -61,7 +61,7 @@ pub record GnuSpells (bytes : List ℕ) (r : Records) : Type 0 where
   -- the spare bytes, which may be anything
   pub spare : List ℕ
   pub form : r.form ≡ Gnu
-  pub text : bytes ≡ spelling first spare r.recs
+  pub text : bytes ≡ gnu_spelling first spare r.recs
   pub first_fits : length first ≡ 4
   pub spare_fits : length spare ≡ 12
   pub recs_fit : AllByRecursion RecFits r.recs

@@ -109,16 +109,16 @@ pub record IsHeld (s : State) : Type 0 where
   pub at_part : IsPart s.part (length s.counters.cells.items) (length s.pairs.cells.items) s.torn s.counters.torn s.pairs.torn
 
 -- a record that was begun has no place among the entries yet
-abbrev pub owed : Part → ℕ
-owed part.Header = 0
-owed part.Between = 0
-owed (part.Hist f start left) = 1
-owed (part.Blocks start left) = 1
-owed (part.Refused refusal) = 0
+abbrev pub pending_entries : Part → ℕ
+pending_entries part.Header = 0
+pending_entries part.Between = 0
+pending_entries (part.Hist f start left) = 1
+pending_entries (part.Blocks start left) = 1
+pending_entries (part.Refused refusal) = 0
 
 -- there is room for what n bytes more can make whole
 pub record HasRoom (n : ℕ) (s : State) : Type 0 where
   pub counters : vec_len s.counters.cells + (length s.counters.torn + n) / 2 ≤ vec_capacity s.counters.cells
   pub pairs : vec_len s.pairs.cells + (length s.pairs.torn + n) / 8 ≤ vec_capacity s.pairs.cells
   pub arcs : vec_len s.arcs + (length s.torn + n) / 13 ≤ vec_capacity s.arcs
-  pub entries : vec_len s.entries + (owed s.part + (length s.torn + n) / 5) ≤ vec_capacity s.entries
+  pub entries : vec_len s.entries + (pending_entries s.part + (length s.torn + n) / 5) ≤ vec_capacity s.entries

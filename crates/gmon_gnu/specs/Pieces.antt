@@ -6,14 +6,14 @@ use Rattle.gp_base.specs.declared.records.Unit as units
 use Rattle.gp_base.specs.Bytes.{le}
 use Rattle.gmon_data.specs.declared.hist.Hist.{Hist}
 use Rattle.gp_base.specs.Fields.{block_bytes}
-use Rattle.gmon_gnu.specs.Fields.{magic, version, spare_bytes}
+use Rattle.gmon_gnu.specs.Fields.{magic, gnu_version, spare_bytes}
 use Rattle.gmon_gnu.specs.Grammar.{hist_bytes, rec_bytes, blocks_bytes}
 use Rattle.gmon_gnu.specs.Run.{hist_words}
 use Rattle.gmon_gnu.specs.Splitting.{most_samples, most_calls, piece, pieces_of, largest, hist_piece, raw_hist, arc_piece, arc_rec, has_left, raw_block, round_of}
 
 -- the header, with its spare bytes
 abbrev pub header : List ℕ
-header = magic ++ (le version 4 ++ spare_bytes)
+header = magic ++ (le gnu_version 4 ++ spare_bytes)
 
 -- a histogram's tag and fields up to its counters
 abbrev pub hist_header : units.Unit → Hist → List ℕ

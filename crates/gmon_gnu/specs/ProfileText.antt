@@ -4,13 +4,13 @@ use Rattle.gp_base.specs.declared.records.Records.{Records}
 use Rattle.gp_base.specs.declared.records.Form.TheVariants.{Gnu}
 use Rattle.gmon_data.specs.Content.{Content, IsProfile, content_of, wide_records}
 use Rattle.gmon_gnu.specs.Fields.{magic, spare_bytes}
-use Rattle.gmon_gnu.specs.Grammar.{spelling, GnuSpells}
+use Rattle.gmon_gnu.specs.Grammar.{gnu_spelling, GnuSpells}
 use Rattle.gmon_gnu.specs.Reading.{gnu_refusal, gnu_records}
 use Rattle.gmon_gnu.specs.Splitting.{profile_recs}
 
 -- its histograms, its arcs and its block counts, each in the profile's order
 unfoldable pub profile_text : Content → List ℕ
-profile_text p = spelling magic spare_bytes (profile_recs p)
+profile_text p = gnu_spelling magic spare_bytes (profile_recs p)
 
 -- what that file says
 abbrev pub profile_records : Content → Records

@@ -6,9 +6,9 @@ use Rattle.gp_base.specs.declared.records.Records.{Records}
 use Rattle.gp_base.specs.declared.records.Form.TheVariants.{Gnu}
 use Rattle.gp_base.specs.declared.refusal.GmonRefusal.{GmonRefusal}
 use Rattle.gp_base.specs.declared.refusal.GmonRefusal.TheVariants.{Short, Version, Tag, Range}
-use Rattle.gp_base.specs.Bytes.{value_of, word_at, cut}
+use Rattle.gp_base.specs.Bytes.{value_of, word_at, items_of_text}
 use Rattle.gp_base.specs.Fields.{arc_of, block_of}
-use Rattle.gmon_gnu.specs.Fields.{version}
+use Rattle.gmon_gnu.specs.Fields.{gnu_version}
 
 -- what stands at the front of a text: a refusal, or a record and the text behind it
 pub data Front : Type 0 where
@@ -17,10 +17,10 @@ pub data Front : Type 0 where
 
 -- a histogram by its fields and the text behind them, in a file of `len` bytes, where its tag stands at `at`
 abbrev pub hist_of_fields : ℕ → ℕ → ℕ → ℕ → ℕ → ℕ → List ℕ → ℕ → List ℕ → Front
-hist_of_fields len at low high count rate dim short behind =
+hist_of_fields len at low high count rate dim short behind_records =
     if nat_lt 0 count && nat_le high low then Refused (Range at low high) else (
-    if nat_lt (length behind) (count * 2) then Refused (Short len) else
-    Found (Hist (record { low = low; high = high; unit = record { rate = rate; dim = dim; «abbrev» = short }; counters = cut 2 value_of count behind })) (drop (count * 2) behind))
+    if nat_lt (length behind_records) (count * 2) then Refused (Short len) else
+    Found (Hist (record { low = low; high = high; unit = record { rate = rate; dim = dim; «abbrev» = short }; counters = items_of_text 2 value_of count behind_records })) (drop (count * 2) behind_records))
 
 -- the body of a histogram: its fields take 32 bytes
 abbrev pub hist_front : ℕ → ℕ → List ℕ → Front
@@ -35,8 +35,8 @@ arc_front len body =
 
 -- pairs of an address and a count, by their number and the text behind it
 abbrev pub pairs_front : ℕ → ℕ → List ℕ → Front
-pairs_front len count behind =
-    if nat_lt (length behind) (count * 8) then Refused (Short len) else Found (Blocks (cut 8 block_of count behind)) (drop (count * 8) behind)
+pairs_front len count behind_records =
+    if nat_lt (length behind_records) (count * 8) then Refused (Short len) else Found (Blocks (items_of_text 8 block_of count behind_records)) (drop (count * 8) behind_records)
 
 -- the body of counts of basic blocks: their number takes 4 bytes
 abbrev pub blocks_front : ℕ → List ℕ → Front
@@ -52,16 +52,16 @@ body_front len at (suc (suc (suc tag))) body = Refused (Tag at (suc (suc (suc ta
 
 abbrev pub front_refusal : Front → Option GmonRefusal
 front_refusal (Refused refusal) = Some refusal
-front_refusal (Found rec behind) = None
+front_refusal (Found rec behind_records) = None
 
 -- records in front of what is read behind them
-abbrev pub behind : List Rec → Result (List Rec) GmonRefusal → Result (List Rec) GmonRefusal
-behind recs (Ok more) = Ok (recs ++ more)
-behind recs (Err refusal) = Err refusal
+abbrev pub behind_records : List Rec → Result (List Rec) GmonRefusal → Result (List Rec) GmonRefusal
+behind_records recs (Ok more) = Ok (recs ++ more)
+behind_records recs (Err refusal) = Err refusal
 
 abbrev pub after_front : (List ℕ → Result (List Rec) GmonRefusal) → Front → Result (List Rec) GmonRefusal
 after_front more (Refused refusal) = Err refusal
-after_front more (Found rec rest) = behind (rec ∷ []) (more rest)
+after_front more (Found rec rest) = behind_records (rec ∷ []) (more rest)
 
 -- the records of a text of at most `most` bytes that ends a file of `len` bytes
 abbrev pub recs_from : ℕ → ℕ → List ℕ → Result (List Rec) GmonRefusal
@@ -73,9 +73,9 @@ recs_from len (suc most) (tag ∷ body) = after_front (λ rest. recs_from len mo
 abbrev pub file_recs : List ℕ → Result (List Rec) GmonRefusal
 file_recs bytes = recs_from (length bytes) (length bytes) (drop 20 bytes)
 
-abbrev pub refusal_in : Result (List Rec) GmonRefusal → Option GmonRefusal
-refusal_in (Ok recs) = None
-refusal_in (Err refusal) = Some refusal
+abbrev pub refusal_read : Result (List Rec) GmonRefusal → Option GmonRefusal
+refusal_read (Ok recs) = None
+refusal_read (Err refusal) = Some refusal
 
 abbrev pub recs_in : Result (List Rec) GmonRefusal → List Rec
 recs_in (Ok recs) = recs
@@ -85,14 +85,14 @@ recs_in (Err refusal) = []
 abbrev pub header_refusal : List ℕ → Option GmonRefusal
 header_refusal bytes =
     if nat_lt (length bytes) 20 then Some (Short (length bytes)) else (
-    if not (word_at bytes 4 == version) then Some (Version (word_at bytes 4)) else None)
+    if not (word_at bytes 4 == gnu_version) then Some (Version (word_at bytes 4)) else None)
 
 -- the first fault, in the order in which faults are looked for: the header's, and then those of each record in file order
 abbrev pub gnu_refusal : List ℕ → Option GmonRefusal
 gnu_refusal bytes =
     if nat_lt (length bytes) 20 then Some (Short (length bytes)) else (
-    if not (word_at bytes 4 == version) then Some (Version (word_at bytes 4)) else
-    refusal_in (file_recs bytes))
+    if not (word_at bytes 4 == gnu_version) then Some (Version (word_at bytes 4)) else
+    refusal_read (file_recs bytes))
 
 -- the records in file order
 abbrev pub gnu_records : List ℕ → Records

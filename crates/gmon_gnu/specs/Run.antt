@@ -14,8 +14,8 @@ use Rattle.mcount_arcs.specs.Sizes.{AreSizes}
 use Rattle.mcount_arcs.specs.Arcs.{CallFits, arcs_of}
 use Rattle.mcount_arcs.specs.Value.{GmonValue}
 use Rattle.gp_base.specs.Fields.{seconds}
-use Rattle.gmon_gnu.specs.Fields.{version, magic, spare_bytes}
-use Rattle.gmon_gnu.specs.Grammar.{spelling, GnuSpells}
+use Rattle.gmon_gnu.specs.Fields.{gnu_version, magic, spare_bytes}
+use Rattle.gmon_gnu.specs.Grammar.{gnu_spelling, GnuSpells}
 use Rattle.gmon_gnu.specs.Reading.{gnu_refusal, gnu_records}
 
 -- one histogram, in seconds, and a record for each arc
@@ -23,25 +23,25 @@ abbrev pub run_recs : ℕ → ℕ → ℕ → List ℕ → List RawArc → List 
 run_recs low high rate counters arcs = Hist (record { low = low; high = high; unit = seconds rate; counters = counters }) ∷ map Arc arcs
 
 -- the file of what was logged, at a rate of samples per second
-unfoldable pub run_text : Sizes → List LogEntry → ℕ → List ℕ
-run_text z log rate = spelling magic spare_bytes (run_recs z.low z.high rate (buckets_of z log) (arcs_of z log))
+unfoldable pub gnu_run_text : Sizes → List LogEntry → ℕ → List ℕ
+gnu_run_text z log rate = gnu_spelling magic spare_bytes (run_recs z.low z.high rate (buckets_of z log) (arcs_of z log))
 
 -- what that file says
-abbrev pub run_records : Sizes → List LogEntry → ℕ → Records
-run_records z log rate = record { form = Gnu; recs = run_recs z.low z.high rate (buckets_of z log) (arcs_of z log) }
+abbrev pub gnu_run_records : Sizes → List LogEntry → ℕ → Records
+gnu_run_records z log rate = record { form = Gnu; recs = run_recs z.low z.high rate (buckets_of z log) (arcs_of z log) }
 
 -- the file of every log of a text, at every rate of four bytes, spells what was logged
 abbrev pub RunsAreSpelled : Type 0
-RunsAreSpelled = (z : Sizes) (log : List LogEntry) (rate : ℕ) → AreSizes z → rate < 2 ^ 32 → All CallFits (arcs_of z log) → GnuSpells (run_text z log rate) (run_records z log rate)
+RunsAreSpelled = (z : Sizes) (log : List LogEntry) (rate : ℕ) → AreSizes z → rate < 2 ^ 32 → All CallFits (arcs_of z log) → GnuSpells (gnu_run_text z log rate) (gnu_run_records z log rate)
 
 -- so it is accepted, and read as the counters and the arcs of the log, in order
 abbrev pub RunsAreReadBack : Type 0
 RunsAreReadBack = (z : Sizes) (log : List LogEntry) (rate : ℕ) → AreSizes z → rate < 2 ^ 32 → All CallFits (arcs_of z log)
-    → (gnu_refusal (run_text z log rate) ≡ None) × (gnu_records (run_text z log rate) ≡ run_records z log rate)
+    → (gnu_refusal (gnu_run_text z log rate) ≡ None) × (gnu_records (gnu_run_text z log rate) ≡ gnu_run_records z log rate)
 
 -- the file of what a runtime holds
 unfoldable pub runtime_text : GmonValue → ℕ → List ℕ
-runtime_text v rate = spelling magic spare_bytes (run_recs v.sizes.low v.sizes.high rate v.counters v.arcs)
+runtime_text v rate = gnu_spelling magic spare_bytes (run_recs v.sizes.low v.sizes.high rate v.counters v.arcs)
 
 -- the numbers of a histogram
 abbrev pub hist_words : ℕ → ℕ → ℕ → ℕ → List ℕ
@@ -49,7 +49,7 @@ hist_words low high counters rate = le low 4 ++ (le high 4 ++ (le counters 4 ++ 
 
 -- the header with its spare bytes, and a histogram's tag
 abbrev pub header_and_tag : List ℕ
-header_and_tag = magic ++ (le version 4 ++ (spare_bytes ++ 0 ∷ []))
+header_and_tag = magic ++ (le gnu_version 4 ++ (spare_bytes ++ 0 ∷ []))
 
 -- the usual dimension, and its abbreviation
 abbrev pub dimension_bytes : List ℕ

@@ -3,7 +3,7 @@
 ghost use Rattle.std.specs.Prelude.{◌≡◌, ◌≤◌, ◌++◌, length, IfOk, OnOk};
 ghost use Rattle.gmon_gnu.specs.Going.{resume};
 ghost use Rattle.gmon_gnu.specs.Held.{IsHeld, IsWithin, AreWithin, recs_of, entry_recs, rec_of, IsBodyWithin, open_of, rest_of};
-ghost use Rattle.gmon_gnu.specs.Ending.{ended};
+ghost use Rattle.gmon_gnu.specs.Ending.{ending_result};
 
 use crate::state::{Body, Entry, Part, State};
 use gmon_cells::push_arcs;
@@ -14,7 +14,7 @@ impl State {
     /// What is wrong with a file of `len` bytes that ends here.
     pub(crate) fn end_fault(&self, len: u32) -> Option<GmonRefusal>
         requires { IsHeld self.now }
-        ensures { resume len (open_of self.now.part self.now.counters.cells.items self.now.pairs.cells.items) (rest_of self.now.part self.now.torn self.now.counters.torn self.now.pairs.torn) ≡ ended result }
+        ensures { resume len (open_of self.now.part self.now.counters.cells.items self.now.pairs.cells.items) (rest_of self.now.part self.now.torn self.now.counters.torn self.now.pairs.torn) ≡ ending_result result }
     {
         match self.part {
             Part::Between => {

@@ -2,7 +2,7 @@
 
 ghost use Rattle.std.specs.Prelude.{◌≡◌, ◌*◌, ◌^◌, ◌<◌, ◌≤◌, length, drop, Some, IfOk, IfErr};
 ghost use Rattle.gp_base.specs.declared.refusal.GmonRefusal.TheVariants.{Short};
-ghost use Rattle.gmon_gnu.specs.Reading.{header_refusal, gnu_refusal, refusal_in};
+ghost use Rattle.gmon_gnu.specs.Reading.{header_refusal, gnu_refusal, refusal_read};
 ghost use Rattle.gmon_gnu.specs.Going.{records_on};
 
 use crate::reading::{HEADER, VERSION};
@@ -41,7 +41,7 @@ fn header_fault(bytes: &[u8]) -> Option<GmonRefusal>
 /// The first fault of the records that end a file of `len` bytes.
 fn records_fault(len: u32, records: &[u8]) -> Option<GmonRefusal>
     requires { length records.now ≤ len }
-    ensures { result ≡ refusal_in (records_on len records.now) }
+    ensures { result ≡ refusal_read (records_on len records.now) }
 {
     let mut rest = records;
     while !rest.is_empty() {
@@ -57,9 +57,9 @@ fn records_fault(len: u32, records: &[u8]) -> Option<GmonRefusal>
 fn skip_record<'a>(len: u32, text: &'a [u8]) -> Result<&'a [u8], GmonRefusal>
     requires some { 0 < length text.now }
     requires within { length text.now ≤ len }
-    ensures behind { IfOk result (λ rest. refusal_in (records_on len text.now) ≡ refusal_in (records_on len rest.now)) }
+    ensures behind { IfOk result (λ rest. refusal_read (records_on len text.now) ≡ refusal_read (records_on len rest.now)) }
     ensures less { IfOk result (λ rest. length rest.now < length text.now) }
-    ensures refused { IfErr result (λ refusal. refusal_in (records_on len text.now) ≡ Some refusal) }
+    ensures refused { IfErr result (λ refusal. refusal_read (records_on len text.now) ≡ Some refusal) }
 {
     let width = width_of(text[0]);
     if text.len() < width {

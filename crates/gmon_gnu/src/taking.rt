@@ -1,7 +1,7 @@
 //! Taking the next bytes of a file.
 
 ghost use Rattle.std.specs.Prelude.{◌≡◌, ℕ, List, [], ◌∷◌, ◌+◌, ◌-◌, ◌*◌, ◌^◌, ◌<◌, ◌≤◌, ◌++◌, length, drop, OnOk, slice_index, vec_len, vec_capacity};
-ghost use Rattle.gmon_gnu.specs.Held.{width_of, IsFront, IsHeld, HasRoom, AreWithin, Goes, recs_of, hist_with, owed};
+ghost use Rattle.gmon_gnu.specs.Held.{width_of, IsFront, IsHeld, HasRoom, AreWithin, Goes, recs_of, hist_with, pending_entries};
 ghost use Rattle.gmon_gnu.specs.Begun.{begun_on, cost_of, arcs_of, Follows};
 ghost use Rattle.gmon_gnu.specs.Going.{InHist, InBlocks, Reads, records_on};
 ghost use Rattle.gmon_gnu.specs.declared.state.Part.TheVariants as part;
@@ -174,7 +174,7 @@ impl State {
         ensures pair { length self.new.pairs.torn ≤ length self.old.pairs.torn }
         ensures arcs { vec_len self.new.arcs ≡ vec_len self.old.arcs + arcs_of begun }
         ensures arcs_room { vec_capacity self.new.arcs ≡ vec_capacity self.old.arcs }
-        ensures entries { vec_len self.new.entries + owed self.new.part ≤ vec_len self.old.entries + cost_of begun }
+        ensures entries { vec_len self.new.entries + pending_entries self.new.part ≤ vec_len self.old.entries + cost_of begun }
         ensures capacity { vec_capacity self.new.entries ≡ vec_capacity self.old.entries }
     {
         match begun {
@@ -209,7 +209,7 @@ impl State {
         ensures counters { self.new.counters ≡ self.old.counters }
         ensures pairs { self.new.pairs ≡ self.old.pairs }
         ensures arcs { self.new.arcs ≡ self.old.arcs }
-        ensures entries { vec_len self.new.entries + owed self.new.part ≤ vec_len self.old.entries + 1 }
+        ensures entries { vec_len self.new.entries + pending_entries self.new.part ≤ vec_len self.old.entries + 1 }
         ensures capacity { vec_capacity self.new.entries ≡ vec_capacity self.old.entries }
     {
         if left > 0 {
@@ -241,7 +241,7 @@ impl State {
         ensures counters { self.new.counters ≡ self.old.counters }
         ensures pairs { self.new.pairs ≡ self.old.pairs }
         ensures arcs { self.new.arcs ≡ self.old.arcs }
-        ensures entries { vec_len self.new.entries + owed self.new.part ≤ vec_len self.old.entries + 1 }
+        ensures entries { vec_len self.new.entries + pending_entries self.new.part ≤ vec_len self.old.entries + 1 }
         ensures capacity { vec_capacity self.new.entries ≡ vec_capacity self.old.entries }
     {
         if left > 0 {

@@ -5,7 +5,7 @@ ghost use Rattle.host_port.specs.Host.{Puts};
 ghost use Rattle.host_port.specs.declared.side.Side.TheVariants.{File};
 ghost use Rattle.mcount_arcs.specs.Log.{LogEntry};
 ghost use Rattle.mcount_arcs.specs.Value.{StandsFor};
-ghost use Rattle.gmon_gnu.specs.Run.{run_text, runtime_text, header_of, hist_words};
+ghost use Rattle.gmon_gnu.specs.Run.{gnu_run_text, runtime_text, header_of, hist_words};
 
 use byteorder::{ByteOrder, LittleEndian};
 use host_port::{Failed, Host};
@@ -29,7 +29,7 @@ pub fn write_run<H: Host>(gmon: &Gmon, rate: u32, host: &mut H) -> Result<(), Fa
     requires { (H.outside host.old).is_writing ≡ true }
     ensures puts { Puts File (runtime_text gmon.now rate) (H.outside host.old) (H.outside host.new) result }
     ensures log { (log : List LogEntry) → StandsFor log gmon.now →
-        runtime_text gmon.now rate ≡ run_text gmon.now.sizes log rate }
+        runtime_text gmon.now rate ≡ gnu_run_text gmon.now.sizes log rate }
 {
     gmon_cells::write_run(gmon, &header(gmon.sizes(), rate), &ARC_TAG, host)
 }

@@ -5,7 +5,7 @@ use Rattle.std.proofs.Math.Seq.{drop-cons}
 use Rattle.std.proofs.lemmas.Bool.{cases_lt}
 use Rattle.std.proofs.lemmas.List.{get_or-drop, get_or-take, get_or_past, take-append-drop, drop-drop}
 use Rattle.byteorder.specs.Endian.{little_from}
-use Rattle.gp_base.specs.Bytes.{value_of, le, IsBytes, cut}
+use Rattle.gp_base.specs.Bytes.{value_of, le, IsBytes, items_of_text}
 
 pub length-le : (k n : ℕ) → length (le n k) ≡ k
 length-le zero n = refl
@@ -49,7 +49,7 @@ field_is (suc k) i bs le =
     rw (drop-cons bs i 0) (ap (λ (n : ℕ). get_or bs i 0 + 256 * n) (field_is k (suc i) bs (omega arith)))
 
 -- each of the items
-pub length-cut : {X : Type 0} (w : ℕ) (item : List ℕ → X) (n : ℕ) (bs : List ℕ) → length (cut w item n bs) ≡ n
+pub length-cut : {X : Type 0} (w : ℕ) (item : List ℕ → X) (n : ℕ) (bs : List ℕ) → length (items_of_text w item n bs) ≡ n
 length-cut w item zero bs = refl
 length-cut w item (suc n) bs = ap suc (length-cut w item n (drop w bs))
 

@@ -3,7 +3,7 @@ use Rattle.std.proofs.Common.{◌≡◌, ℕ, zero, suc, ◌+◌, ◌-◌, ◌*�
 use Rattle.std.proofs.lemmas.List.{set_split, take-append-drop, take_at, drop_at, drop-drop}
 use Rattle.std.specs.List.{flat_map}
 use Rattle.std.proofs.lemmas.List.Concat.{flat_map-append}
-use Rattle.gp_base.specs.Bytes.{overwritten}
+use Rattle.gp_base.specs.Bytes.{with_piece_at}
 use Rattle.gp_base.proofs.Cutting.{length-spelled}
 
 module _ {X : Type 0} where
@@ -33,25 +33,25 @@ module _ {X : Type 0} where
       ap (slice_get (x ∷ (xs ++ ys))) e ∙ get_back xs ys (length xs) k refl
 
   -- the piece stands from `at` on
-  pub get_overwritten : (at k : ℕ) (piece xs : List X) → at + length piece ≤ length xs → k < length piece → slice_get (overwritten at piece xs) (at + k) ≡ slice_get piece k
+  pub get_overwritten : (at k : ℕ) (piece xs : List X) → at + length piece ≤ length xs → k < length piece → slice_get (with_piece_at at piece xs) (at + k) ≡ slice_get piece k
   get_overwritten at k piece xs h lt =
       let rest = drop (at + length piece) xs in
       let front : at ≡ length (take at xs) = omega (arith, length-take at xs) in
       get_back (take at xs) (piece ++ rest) at k front ∙ get_front piece rest k lt
 
   -- and elsewhere all is as before
-  pub get_before : (at k : ℕ) (piece xs : List X) → at + length piece ≤ length xs → k < at → slice_get (overwritten at piece xs) k ≡ slice_get xs k
+  pub get_before : (at k : ℕ) (piece xs : List X) → at + length piece ≤ length xs → k < at → slice_get (with_piece_at at piece xs) k ≡ slice_get xs k
   get_before at k piece xs h lt =
       get_front (take at xs) (piece ++ drop (at + length piece) xs) k (omega (arith, length-take at xs)) ∙ get_take at k xs lt
 
-  pub get_behind : (at k : ℕ) (piece xs : List X) → at + length piece ≤ length xs → at + length piece ≤ k → slice_get (overwritten at piece xs) k ≡ slice_get xs k
+  pub get_behind : (at k : ℕ) (piece xs : List X) → at + length piece ≤ length xs → at + length piece ≤ k → slice_get (with_piece_at at piece xs) k ≡ slice_get xs k
   get_behind at k piece xs h past =
       let r = k - (at + length piece) in
       let rest = drop (at + length piece) xs in
       let e : k ≡ at + (length piece + r) = omega arith in
       let back : (at + length piece) + r ≡ k = omega arith in
       let front : at ≡ length (take at xs) = omega (arith, length-take at xs) in
-      ap (slice_get (overwritten at piece xs)) e
+      ap (slice_get (with_piece_at at piece xs)) e
       ∙ get_back (take at xs) (piece ++ rest) at (length piece + r) front
       ∙ get_back piece rest (length piece) r refl
       ∙ get_drop (at + length piece) r xs
@@ -59,7 +59,7 @@ module _ {X : Type 0} where
 
   -- a piece written over as many items between others
   pub overwritten-middle : (at : ℕ) (xs old piece ys : List X) → length xs ≡ at → length old ≡ length piece
-      → overwritten at piece (xs ++ (old ++ ys)) ≡ xs ++ (piece ++ ys)
+      → with_piece_at at piece (xs ++ (old ++ ys)) ≡ xs ++ (piece ++ ys)
   overwritten-middle at xs old piece ys e same =
       let front : take at (xs ++ (old ++ ys)) ≡ xs = take_at xs (old ++ ys) at e in
       let back : drop (at + length piece) (xs ++ (old ++ ys)) ≡ ys =
@@ -69,7 +69,7 @@ module _ {X : Type 0} where
 -- one of several items of w bytes each, written over in their text
 pub overwritten-item : {X : Type 0} (w : ℕ) (spelling : X → List ℕ) → ((x : X) → length (spelling x) ≡ w)
     → (before after : List ℕ) (xs : List X) (i at : ℕ) (x : X) → i < length xs → length before + i * w ≡ at
-    → overwritten at (spelling x) (before ++ (flat_map spelling xs ++ after)) ≡ before ++ (flat_map spelling (set xs i x) ++ after)
+    → with_piece_at at (spelling x) (before ++ (flat_map spelling xs ++ after)) ≡ before ++ (flat_map spelling (set xs i x) ++ after)
 overwritten-item {X} w spelling wide before after xs i at x inside place =
     let old : X = get_or xs i x in
     let front : List ℕ = flat_map spelling (take i xs) in
@@ -82,7 +82,7 @@ overwritten-item {X} w spelling wide before after xs i at x inside place =
     λ ys. simp append_assoc in
     let count : length (take i xs) ≡ i = omega (arith, length-take i xs) in
     let start : length (before ++ front) ≡ at = omega (arith, length-append before front, length-spelled w spelling wide (take i xs), ap (λ (k : ℕ). k * w) count) in
-    ap (λ (bs : List ℕ). overwritten at (spelling x) (before ++ (bs ++ after))) was
-    ∙ ap (overwritten at (spelling x)) (shape (spelling old))
+    ap (λ (bs : List ℕ). with_piece_at at (spelling x) (before ++ (bs ++ after))) was
+    ∙ ap (with_piece_at at (spelling x)) (shape (spelling old))
     ∙ overwritten-middle at (before ++ front) (spelling old) (spelling x) (back ++ after) start (wide old ∙ sym (wide x))
     ∙ sym (shape (spelling x)) ∙ ap (λ (bs : List ℕ). before ++ (bs ++ after)) (sym now)

@@ -23,10 +23,10 @@ abbrev pub word_at : List ℕ → ℕ → ℕ
 word_at bs at = value_of (take 4 (drop at bs))
 
 -- the first n items of a text in which each takes w bytes
-abbrev pub cut : {X : Type 0} → ℕ → (List ℕ → X) → ℕ → List ℕ → List X
-cut w item zero bs = []
-cut w item (suc n) bs = item (take w bs) ∷ cut w item n (drop w bs)
+abbrev pub items_of_text : {X : Type 0} → ℕ → (List ℕ → X) → ℕ → List ℕ → List X
+items_of_text w item zero bs = []
+items_of_text w item (suc n) bs = item (take w bs) ∷ items_of_text w item n (drop w bs)
 
 -- a list with `piece` in place of as many items from `at` on
-abbrev pub overwritten : {X : Type 0} → ℕ → List X → List X → List X
-overwritten at piece xs = take at xs ++ (piece ++ drop (at + length piece) xs)
+abbrev pub with_piece_at : {X : Type 0} → ℕ → List X → List X → List X
+with_piece_at at piece xs = take at xs ++ (piece ++ drop (at + length piece) xs)

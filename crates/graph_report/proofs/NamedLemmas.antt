@@ -11,9 +11,9 @@ use Rattle.call_cycles.specs.Sums.{sum_below, when}
 use Rattle.call_cycles.specs.Walks.{IsWalk, Reaches}
 use Rattle.call_cycles.proofs.MemberLemmas.{cycles_are}
 use Rattle.call_cycles.proofs.SumLemmas.{sum_front_le}
-use Rattle.flat_report.specs.Sources.{Sources, calls_by_itself, calls_by_others, total_of}
+use Rattle.flat_report.specs.Sources.{Sources, calls_by_itself, calls_by_others, inclusive_total}
 use Rattle.flat_report.proofs.OrderLemmas.{sum_in_order}
-use Rattle.graph_report.specs.Entries.{Entry, calls_of_others, comes_before, entries_of, function_entry, has_entry, is_same, number_in, ordered}
+use Rattle.graph_report.specs.Entries.{GraphEntry, calls_of_others, graph_comes_before, graph_entries, function_entry, has_entry, is_same, number_in, graph_order}
 use Rattle.graph_report.specs.Rows.{cycle_entries, function_entries}
 use Rattle.graph_report.specs.declared.subjects.Subject.{Subject}
 use Rattle.graph_report.specs.declared.subjects.Subject.TheVariants.{Function}
@@ -21,7 +21,7 @@ use Rattle.graph_report.proofs.NumberLemmas.{first_number, first_of_all}
 use Rattle.graph_report.proofs.PlaceLemmas.{count_below, count_one, next_counted, one_counted}
 
 -- a subject that has an entry has a number
-numbered : (subject : Subject) (base : ℕ) (es : List Entry) → 1 ≤ sum_by (count_one subject) es → 0 < first_number base es subject
+numbered : (subject : Subject) (base : ℕ) (es : List GraphEntry) → 1 ≤ sum_by (count_one subject) es → 0 < first_number base es subject
 numbered subject base [] some = absurd (omega (arith, some))
 numbered subject base (e ∷ es) some = by (λ more. numbered subject (base + 1) es more) (is_same e.subject subject) refl
   where
@@ -31,7 +31,7 @@ numbered subject base (e ∷ es) some = by (λ more. numbered subject (base + 1)
         let none : count_one subject e ≡ 0 = ap (λ (b : Bool). cond b 1 0) other in
         rest (omega (arith, some, sum_by-cons (count_one subject) e es, none))
 
-module _ (subject : Subject) (make : ℕ → Entry) (p : ℕ → Bool) where
+module _ (subject : Subject) (make : ℕ → GraphEntry) (p : ℕ → Bool) where
   some_below : (n k : ℕ) → k < n → p k ≡ true → is_same (make k).subject subject ≡ true → 1 ≤ count_below subject make p n
   some_below zero k low passes same = absurd (omega (arith, low))
   some_below (suc n) k low passes same = by (λ lower. some_below n k lower passes same) (nat_lt k n) refl
@@ -46,8 +46,8 @@ module _ (subject : Subject) (make : ℕ → Entry) (p : ℕ → Bool) where
           ∙ one_counted subject (make k) same in
           omega (arith, next_counted subject make p n, one)
 
-some_entry : (s : Sources) (f : ℕ) → f < s.graph.functions → has_entry s f ≡ true → 1 ≤ sum_by (count_one (Function f)) (entries_of s)
-unfolding entries_of
+some_entry : (s : Sources) (f : ℕ) → f < s.graph.functions → has_entry s f ≡ true → 1 ≤ sum_by (count_one (Function f)) (graph_entries s)
+unfolding graph_entries
 some_entry s f low has =
     omega (
       arith,
@@ -55,12 +55,12 @@ some_entry s f low has =
       some_below (Function f) (function_entry s) (has_entry s) s.graph.functions f low has (eq-eqb f f refl),
     )
 
-some_ordered : (s : Sources) (f : ℕ) → f < s.graph.functions → has_entry s f ≡ true → 1 ≤ sum_by (count_one (Function f)) (ordered s)
-unfolding ordered
-some_ordered s f low has = omega (arith, some_entry s f low has, sum_in_order comes_before (count_one (Function f)) (entries_of s))
+some_ordered : (s : Sources) (f : ℕ) → f < s.graph.functions → has_entry s f ≡ true → 1 ≤ sum_by (count_one (Function f)) (graph_order s)
+unfolding graph_order
+some_ordered s f low has = omega (arith, some_entry s f low has, sum_in_order graph_comes_before (count_one (Function f)) (graph_entries s))
 
-function_numbered : (s : Sources) (f : ℕ) → f < s.graph.functions → has_entry s f ≡ true → 0 < number_in (ordered s) (Function f)
-function_numbered s f low has = subst (λ (n : ℕ). 0 < n) (first_of_all (ordered s) (Function f)) (numbered (Function f) 0 (ordered s) (some_ordered s f low has))
+function_numbered : (s : Sources) (f : ℕ) → f < s.graph.functions → has_entry s f ≡ true → 0 < number_in (graph_order s) (Function f)
+function_numbered s f low has = subst (λ (n : ℕ). 0 < n) (first_of_all (graph_order s) (Function f)) (numbered (Function f) 0 (graph_order s) (some_ordered s f low has))
 
 second_holds : (a b c d : Bool) → b ≡ true → (a || b || c || d) ≡ true
 second_holds true b c d holds = refl
@@ -80,19 +80,19 @@ some_calls g p i is low passes =
     sum_front_le (suc i) (arc_count g) (λ j. when (p j) (arc_at g j).count) (omega arith) in
     omega (arith, is.arcs.called i low, here, part)
 
-pub caller_named : (s : Sources) (i : ℕ) → IsGraph s.graph → i < arc_count s.graph → 0 < number_in (ordered s) (Function (arc_at s.graph i).caller)
+pub caller_named : (s : Sources) (i : ℕ) → IsGraph s.graph → i < arc_count s.graph → 0 < number_in (graph_order s) (Function (arc_at s.graph i).caller)
 caller_named s i is low =
     let f = (arc_at s.graph i).caller in
     let calls : 0 < calls_of_others s.graph f = some_calls s.graph (λ j. (arc_at s.graph j).caller == f) i is low (eq-eqb f f refl) in
     function_numbered s f (is.arcs.callers i low)
-    (third_holds (nat_lt 0 (total_of s f)) (nat_lt 0 (calls_by_others s.graph f)) (nat_lt 0 (calls_of_others s.graph f)) (nat_lt 0 (calls_by_itself s.graph f)) (lt-ltb 0 (calls_of_others s.graph f) calls))
+    (third_holds (nat_lt 0 (inclusive_total s f)) (nat_lt 0 (calls_by_others s.graph f)) (nat_lt 0 (calls_of_others s.graph f)) (nat_lt 0 (calls_by_itself s.graph f)) (lt-ltb 0 (calls_of_others s.graph f) calls))
 
-pub callee_named : (s : Sources) (i : ℕ) → IsGraph s.graph → i < arc_count s.graph → 0 < number_in (ordered s) (Function (arc_at s.graph i).callee)
+pub callee_named : (s : Sources) (i : ℕ) → IsGraph s.graph → i < arc_count s.graph → 0 < number_in (graph_order s) (Function (arc_at s.graph i).callee)
 callee_named s i is low =
     let f = (arc_at s.graph i).callee in
     let calls : 0 < calls_by_others s.graph f = some_calls s.graph (λ j. (arc_at s.graph j).callee == f) i is low (eq-eqb f f refl) in
     function_numbered s f (is.arcs.callees i low)
-    (second_holds (nat_lt 0 (total_of s f)) (nat_lt 0 (calls_by_others s.graph f)) (nat_lt 0 (calls_of_others s.graph f)) (nat_lt 0 (calls_by_itself s.graph f)) (lt-ltb 0 (calls_by_others s.graph f) calls))
+    (second_holds (nat_lt 0 (inclusive_total s f)) (nat_lt 0 (calls_by_others s.graph f)) (nat_lt 0 (calls_of_others s.graph f)) (nat_lt 0 (calls_by_itself s.graph f)) (lt-ltb 0 (calls_by_others s.graph f) calls))
 
 -- ---- a member of a cycle calls another one
 
@@ -126,7 +126,7 @@ member_calls g f is low cycle =
         let inside = is.components.within f low in
         calls_of_member g f (head_of g (component_of g f)) is low (is.components.heads_below (component_of g f) inside) (sym (is.components.heads_in (component_of g f) inside)) (eqb-false f (head_of g (component_of g f)) not_head)
 
-pub member_named : (s : Sources) (f : ℕ) → IsGraph s.graph → f < s.graph.functions → is_cycle s.graph (component_of s.graph f) ≡ true → 0 < number_in (ordered s) (Function f)
+pub member_named : (s : Sources) (f : ℕ) → IsGraph s.graph → f < s.graph.functions → is_cycle s.graph (component_of s.graph f) ≡ true → 0 < number_in (graph_order s) (Function f)
 member_named s f is low cycle =
     let call = member_calls s.graph f is low cycle in
-    subst (λ (h : ℕ). 0 < number_in (ordered s) (Function h)) call.2 (caller_named s call.0 is call.1)
+    subst (λ (h : ℕ). 0 < number_in (graph_order s) (Function h)) call.2 (caller_named s call.0 is call.1)

@@ -11,7 +11,7 @@ use Rattle.call_cycles.specs.Sums.{numbers_below}
 use Rattle.flat_report.specs.Sources.{AreOfOne, Sources}
 use Rattle.flat_report.specs.Order.{in_order}
 use Rattle.flat_report.proofs.OrderLemmas.{all_in_order}
-use Rattle.graph_report.specs.Entries.{Entry, comes_before, cycle_entry, entries_of, first_function, function_entry, has_entry, is_same, number_in, ordered}
+use Rattle.graph_report.specs.Entries.{GraphEntry, graph_comes_before, cycle_entry, graph_entries, first_function, function_entry, has_entry, is_same, number_in, graph_order}
 use Rattle.graph_report.specs.Numbers.{AreNumbers}
 use Rattle.graph_report.specs.Rows.{entries_of_rows, entry_of_row}
 use Rattle.graph_report.specs.Subjects.{IsSubject}
@@ -22,7 +22,7 @@ use Rattle.graph_report.specs.declared.subjects.Subject.TheVariants.{Cycle, Func
 use Rattle.graph_report.proofs.GroupLemmas.{filter_next}
 
 -- the number of the first entry of a subject, where the first of all has one more than the base
-abbrev pub first_number : ℕ → List Entry → Subject → ℕ
+abbrev pub first_number : ℕ → List GraphEntry → Subject → ℕ
 first_number base [] subject = 0
 first_number base (e ∷ es) subject = if is_same e.subject subject then base + 1 else first_number (base + 1) es subject
 
@@ -38,52 +38,52 @@ number_found : (b : Bool) (n : ℕ) → option_map_or (λ (place : ℕ). place +
 number_found true n = refl
 number_found false n = refl
 
-number_is : (es : List Entry) (subject : Subject) → number_in es subject ≡ number_at (position_or_len (λ (e : Entry). is_same e.subject subject) es) (length es)
+number_is : (es : List GraphEntry) (subject : Subject) → number_in es subject ≡ number_at (position_or_len (λ (e : GraphEntry). is_same e.subject subject) es) (length es)
 unfolding number_in
 number_is es subject =
-    let n = position_or_len (λ (e : Entry). is_same e.subject subject) es in
+    let n = position_or_len (λ (e : GraphEntry). is_same e.subject subject) es in
     number_found (nat_lt n (length es)) n
 
 one_before : (b : Bool) (base n m rest : ℕ) → rest ≡ with_base (base + 1) (number_at n m) → (if b then base + 1 else rest) ≡ with_base base (number_at (cond (not b) (1 + n) 0) (suc m))
 one_before true base n m rest is = grind (arith, nat_tests)
 one_before false base n m rest is = grind (arith, nat_tests)
 
-first_is : (base : ℕ) (es : List Entry) (subject : Subject) → first_number base es subject ≡ with_base base (number_at (position_or_len (λ (e : Entry). is_same e.subject subject) es) (length es))
+first_is : (base : ℕ) (es : List GraphEntry) (subject : Subject) → first_number base es subject ≡ with_base base (number_at (position_or_len (λ (e : GraphEntry). is_same e.subject subject) es) (length es))
 first_is base [] subject = grind (arith, nat_tests)
 first_is base (e ∷ es) subject =
-    one_before (is_same e.subject subject) base (position_or_len (λ (f : Entry). is_same f.subject subject) es) (length es) (first_number (base + 1) es subject) (first_is (base + 1) es subject)
+    one_before (is_same e.subject subject) base (position_or_len (λ (f : GraphEntry). is_same f.subject subject) es) (length es) (first_number (base + 1) es subject) (first_is (base + 1) es subject)
 
 no_base : (n : ℕ) → with_base 0 n ≡ n
 no_base n = grind (arith, nat_tests)
 
-pub first_of_all : (es : List Entry) (subject : Subject) → first_number 0 es subject ≡ number_in es subject
+pub first_of_all : (es : List GraphEntry) (subject : Subject) → first_number 0 es subject ≡ number_in es subject
 first_of_all es subject = first_is 0 es subject ∙ ap (with_base 0) (sym (number_is es subject)) ∙ no_base (number_in es subject)
 
 -- ---- tables of numbers
 
 -- the numbers of the entries from place k on, by functions and by heads below n
-pub record AreNumbersFrom (entries : List Entry) (n k : ℕ) (numbers : Numbers) : Type 0 where
+pub record AreNumbersFrom (entries : List GraphEntry) (n k : ℕ) (numbers : Numbers) : Type 0 where
   pub function_count : length numbers.functions.items ≡ n
   pub cycle_count : length numbers.cycles.items ≡ n
   pub functions : (f : ℕ) → f < n → slice_index numbers.functions.items f ≡ first_number k (drop k entries) (Function f)
   pub cycles : (head : ℕ) → head < n → slice_index numbers.cycles.items head ≡ first_number k (drop k entries) (Cycle head)
 
-pub no_numbers : (entries : List Entry) (n k : ℕ) (numbers : Numbers) → length entries ≤ k → length numbers.functions.items ≡ n → length numbers.cycles.items ≡ n
+pub no_numbers : (entries : List GraphEntry) (n k : ℕ) (numbers : Numbers) → length entries ≤ k → length numbers.functions.items ≡ n → length numbers.cycles.items ≡ n
     → ((f : ℕ) → f < n → slice_index numbers.functions.items f ≡ 0) → ((f : ℕ) → f < n → slice_index numbers.cycles.items f ≡ 0) → AreNumbersFrom entries n k numbers
 no_numbers entries n k numbers past function_count cycle_count functions cycles = record {
   function_count = function_count;
   cycle_count = cycle_count;
-  functions = λ f low. functions f low ∙ ap (λ (es : List Entry). first_number k es (Function f)) (sym (drop_all k entries past));
-  cycles = λ head low. cycles head low ∙ ap (λ (es : List Entry). first_number k es (Cycle head)) (sym (drop_all k entries past));
+  functions = λ f low. functions f low ∙ ap (λ (es : List GraphEntry). first_number k es (Function f)) (sym (drop_all k entries past));
+  cycles = λ head low. cycles head low ∙ ap (λ (es : List GraphEntry). first_number k es (Cycle head)) (sym (drop_all k entries past));
 }
 
-first_step : (entries : List Entry) (k : ℕ) (e : Entry) (subject : Subject) → k < length entries → e ≡ get_or entries k e
+first_step : (entries : List GraphEntry) (k : ℕ) (e : GraphEntry) (subject : Subject) → k < length entries → e ≡ get_or entries k e
     → first_number k (drop k entries) subject ≡ (if is_same e.subject subject then k + 1 else first_number (k + 1) (drop (k + 1) entries) subject)
 first_step entries k e subject below at =
-    ap (λ (es : List Entry). first_number k es subject) (drop_more entries k e below)
-    ∙ ap (λ (d : Entry). first_number k (d ∷ drop (k + 1) entries) subject) (sym at)
+    ap (λ (es : List GraphEntry). first_number k es subject) (drop_more entries k e below)
+    ∙ ap (λ (d : GraphEntry). first_number k (d ∷ drop (k + 1) entries) subject) (sym at)
 
-module _ (entries : List Entry) (n k : ℕ) (old new : Numbers) (e : Entry) (are : AreNumbersFrom entries n (k + 1) old) (below : k < length entries) (at : e ≡ get_or entries k e)
+module _ (entries : List GraphEntry) (n k : ℕ) (old new : Numbers) (e : GraphEntry) (are : AreNumbersFrom entries n (k + 1) old) (below : k < length entries) (at : e ≡ get_or entries k e)
     (function_count : length new.functions.items ≡ length old.functions.items) (cycle_count : length new.cycles.items ≡ length old.cycles.items)
     (functions : (f : ℕ) → f < length old.functions.items → slice_index new.functions.items f ≡ (if is_same e.subject (Function f) then k + 1 else slice_index old.functions.items f))
     (cycles : (head : ℕ) → head < length old.cycles.items → slice_index new.cycles.items head ≡ (if is_same e.subject (Cycle head) then k + 1 else slice_index old.cycles.items head)) where
@@ -99,17 +99,17 @@ module _ (entries : List Entry) (n k : ℕ) (old new : Numbers) (e : Entry) (are
         cycles head (omega arith) ∙ ap (λ (x : ℕ). if is_same e.subject (Cycle head) then k + 1 else x) (are.cycles head low) ∙ sym (first_step entries k e (Cycle head) below at);
   }
 
-pub all_numbers : (s : Sources) (entries : List Entry) (numbers : Numbers) → entries ≡ ordered s → AreNumbersFrom entries s.graph.functions 0 numbers → AreNumbers s numbers
+pub all_numbers : (s : Sources) (entries : List GraphEntry) (numbers : Numbers) → entries ≡ graph_order s → AreNumbersFrom entries s.graph.functions 0 numbers → AreNumbers s numbers
 all_numbers s entries numbers are_all are = record {
   function_count = are.function_count;
   cycle_count = are.cycle_count;
-  functions = λ f low. are.functions f low ∙ first_of_all entries (Function f) ∙ ap (λ (es : List Entry). number_in es (Function f)) are_all;
-  cycles = λ head low. are.cycles head low ∙ first_of_all entries (Cycle head) ∙ ap (λ (es : List Entry). number_in es (Cycle head)) are_all;
+  functions = λ f low. are.functions f low ∙ first_of_all entries (Function f) ∙ ap (λ (es : List GraphEntry). number_in es (Function f)) are_all;
+  cycles = λ head low. are.cycles head low ∙ first_of_all entries (Cycle head) ∙ ap (λ (es : List GraphEntry). number_in es (Cycle head)) are_all;
 }
 
 -- ---- each entry is of a function, or of a cycle whose head is one
 
-numbers_inside : (make : ℕ → Entry) (P : Entry → Type 0) (p : ℕ → Bool) (n : ℕ) → ((k : ℕ) → k < n → p k ≡ true → P (make k)) → All P (map make (filter p (numbers_below n)))
+numbers_inside : (make : ℕ → GraphEntry) (P : GraphEntry → Type 0) (p : ℕ → Bool) (n : ℕ) → ((k : ℕ) → k < n → p k ≡ true → P (make k)) → All P (map make (filter p (numbers_below n)))
 numbers_inside make P p zero each = All-nil P
 numbers_inside make P p (suc n) each =
     subst (λ (es : List ℕ). All P (map make es)) (sym (filter_next p n) ∙ ap (λ (m : ℕ). filter p (numbers_below m)) (add-one n))
@@ -120,24 +120,24 @@ numbers_inside make P p (suc n) each =
     last true passes = All-cons P (make n) [] (each n (omega arith) passes) (All-nil P)
     last false fails = All-nil P
 
-abbrev IsOfGraph : Sources → Entry → Type 0
+abbrev IsOfGraph : Sources → GraphEntry → Type 0
 IsOfGraph s e = IsSubject s.graph e.subject
 
-entries_of_graph : (s : Sources) → AreOfOne s → All (IsOfGraph s) (entries_of s)
-unfolding entries_of
+entries_of_graph : (s : Sources) → AreOfOne s → All (IsOfGraph s) (graph_entries s)
+unfolding graph_entries
 entries_of_graph s are =
     All-append (IsOfGraph s) _ _
     (numbers_inside (cycle_entry s) (IsOfGraph s) (is_cycle s.graph) (component_count s.graph) (λ c low cycle. (are.graph.components.heads_below c low, ap (is_cycle s.graph) (are.graph.components.heads_in c low) ∙ cycle)))
     (numbers_inside (function_entry s) (IsOfGraph s) (has_entry s) s.graph.functions (λ f low shown. low))
 
-ordered_of_graph : (s : Sources) → AreOfOne s → All (IsOfGraph s) (ordered s)
-unfolding ordered
+ordered_of_graph : (s : Sources) → AreOfOne s → All (IsOfGraph s) (graph_order s)
+unfolding graph_order
 ordered_of_graph s are =
-    All-from_recursion (IsOfGraph s) (in_order comes_before (entries_of s))
-    (all_in_order comes_before (IsOfGraph s) (entries_of s) (recursion_from_All (IsOfGraph s) (entries_of s) (entries_of_graph s are)))
+    All-from_recursion (IsOfGraph s) (in_order graph_comes_before (graph_entries s))
+    (all_in_order graph_comes_before (IsOfGraph s) (graph_entries s) (recursion_from_All (IsOfGraph s) (graph_entries s) (entries_of_graph s are)))
 
 -- so it is with rows
-pub row_of_graph : (s : Sources) (rows : List Row) (k : ℕ) (row : Row) → AreOfOne s → entries_of_rows rows ≡ ordered s → k < length rows → row ≡ get_or rows k row → IsSubject s.graph row.subject
+pub row_of_graph : (s : Sources) (rows : List Row) (k : ℕ) (row : Row) → AreOfOne s → entries_of_rows rows ≡ graph_order s → k < length rows → row ≡ get_or rows k row → IsSubject s.graph row.subject
 row_of_graph s rows k row are all below at =
     let here : entry_of_row row ≡ get_or (entries_of_rows rows) k (entry_of_row row) = ap entry_of_row at ∙ sym (get_or-map entry_of_row rows k row (entry_of_row row) below) in
     let each : All (IsOfGraph s) (entries_of_rows rows) = subst (All (IsOfGraph s)) (sym all) (ordered_of_graph s are) in
@@ -147,5 +147,5 @@ subject_inside : (g : GraphValue) (subject : Subject) → IsSubject g subject �
 subject_inside g (Cycle head) is = is.0
 subject_inside g (Function f) is = is
 
-pub row_inside : (s : Sources) (rows : List Row) (k : ℕ) (row : Row) → AreOfOne s → entries_of_rows rows ≡ ordered s → k < length rows → row ≡ get_or rows k row → first_function row.subject < s.graph.functions
+pub row_inside : (s : Sources) (rows : List Row) (k : ℕ) (row : Row) → AreOfOne s → entries_of_rows rows ≡ graph_order s → k < length rows → row ≡ get_or rows k row → first_function row.subject < s.graph.functions
 row_inside s rows k row are all below at = subject_inside s.graph row.subject (row_of_graph s rows k row are all below at)

@@ -10,7 +10,7 @@ use Rattle.call_cycles.specs.Graph.{GraphValue, IsGraph, component_count, compon
 use Rattle.call_cycles.specs.Sums.{numbers_below}
 use Rattle.flat_report.specs.Sources.{Sources}
 use Rattle.flat_report.proofs.OrderLemmas.{moved_in_order, order_is_sorted, sum_in_order}
-use Rattle.graph_report.specs.Entries.{Entry, comes_before, cycle_entry, entries_of, function_entry, has_entry, is_same, number_in, ordered}
+use Rattle.graph_report.specs.Entries.{GraphEntry, graph_comes_before, cycle_entry, graph_entries, function_entry, has_entry, is_same, number_in, graph_order}
 use Rattle.graph_report.specs.Rows.{cycle_entries, function_entries}
 use Rattle.graph_report.specs.declared.subjects.Subject.{Subject}
 use Rattle.graph_report.specs.declared.subjects.Subject.TheVariants.{Cycle, Function}
@@ -18,25 +18,25 @@ use Rattle.graph_report.proofs.EntryOrder.{entry_order}
 use Rattle.graph_report.proofs.GroupLemmas.{filter_next}
 use Rattle.graph_report.proofs.NumberLemmas.{first_number, first_of_all}
 
-pub all_ordered : (s : Sources) → IsPermutation (cycle_entries s ++ function_entries s) (ordered s)
-unfolding entries_of ordered
-all_ordered s = moved_in_order comes_before (entries_of s)
+pub all_ordered : (s : Sources) → IsPermutation (cycle_entries s ++ function_entries s) (graph_order s)
+unfolding graph_entries graph_order
+all_ordered s = moved_in_order graph_comes_before (graph_entries s)
 
-pub ascending_ordered : (s : Sources) → IsSortedBy comes_before (ordered s)
-unfolding ordered
-ascending_ordered s = order_is_sorted comes_before entry_order (entries_of s)
+pub ascending_ordered : (s : Sources) → IsSortedBy graph_comes_before (graph_order s)
+unfolding graph_order
+ascending_ordered s = order_is_sorted graph_comes_before entry_order (graph_entries s)
 
 -- ---- how many entries are of a subject
 
 -- 1 for an entry of the subject
-abbrev pub count_one : Subject → Entry → ℕ
+abbrev pub count_one : Subject → GraphEntry → ℕ
 count_one subject e = cond (is_same e.subject subject) 1 0
 
-pub one_counted : (subject : Subject) (e : Entry) → is_same e.subject subject ≡ true → count_one subject e ≡ 1
+pub one_counted : (subject : Subject) (e : GraphEntry) → is_same e.subject subject ≡ true → count_one subject e ≡ 1
 one_counted subject e is = ap (λ (b : Bool). cond b 1 0) is
 
 -- an entry of the subject is counted
-counted : (subject : Subject) (es : List Entry) (place : ℕ) (e : Entry) → slice_get es place ≡ Some e → is_same e.subject subject ≡ true → 1 ≤ sum_by (count_one subject) es
+counted : (subject : Subject) (es : List GraphEntry) (place : ℕ) (e : GraphEntry) → slice_get es place ≡ Some e → is_same e.subject subject ≡ true → 1 ≤ sum_by (count_one subject) es
 counted subject [] place e at is = absurd (cc)
 counted subject (f ∷ fs) zero e at is =
     let same : f ≡ e = cc in
@@ -45,12 +45,12 @@ counted subject (f ∷ fs) zero e at is =
 counted subject (f ∷ fs) (suc k) e at is = omega (arith, sum_by-cons (count_one subject) f fs, counted subject fs k e at is)
 
 -- where a subject has one entry only, its number is the place of that
-only_number : (subject : Subject) (base : ℕ) (es : List Entry) (place : ℕ) (e : Entry) → sum_by (count_one subject) es ≤ 1
+only_number : (subject : Subject) (base : ℕ) (es : List GraphEntry) (place : ℕ) (e : GraphEntry) → sum_by (count_one subject) es ≤ 1
     → slice_get es place ≡ Some e → is_same e.subject subject ≡ true → first_number base es subject ≡ base + place + 1
 only_number subject base [] place e few at is = absurd (cc)
 only_number subject base (f ∷ fs) zero e few at is =
     let same : f ≡ e = cc in
-    let here : is_same f.subject subject ≡ true = ap (λ (g : Entry). is_same g.subject subject) same ∙ is in
+    let here : is_same f.subject subject ≡ true = ap (λ (g : GraphEntry). is_same g.subject subject) same ∙ is in
     let first : base + 1 ≡ base + 0 + 1 = omega arith in
     ap (λ (b : Bool). if b then base + 1 else first_number (base + 1) fs subject) here ∙ first
 only_number subject base (f ∷ fs) (suc k) e few at is =
@@ -66,7 +66,7 @@ not_true : (b : Bool) → (b ≡ true → ⊥) → b ≡ false
 not_true true is_not = absurd (is_not refl)
 not_true false is_not = refl
 
-module _ (subject : Subject) (make : ℕ → Entry) (p : ℕ → Bool) where
+module _ (subject : Subject) (make : ℕ → GraphEntry) (p : ℕ → Bool) where
   -- the entries of the subject among those that are made from numbers below n
   abbrev pub count_below : ℕ → ℕ
   count_below n = sum_by (count_one subject) (map make (filter p (numbers_below n)))
@@ -120,8 +120,8 @@ two_heads g is head k l lower low here there =
 two_functions : (f k l : ℕ) → k < l → (k == f) ≡ true → (l == f) ≡ true → ⊥
 two_functions f k l lower here there = omega (arith, eqb-true k f here, eqb-true l f there)
 
-one_of_each : (s : Sources) → IsGraph s.graph → (subject : Subject) → sum_by (count_one subject) (entries_of s) ≤ 1
-unfolding entries_of
+one_of_each : (s : Sources) → IsGraph s.graph → (subject : Subject) → sum_by (count_one subject) (graph_entries s) ≤ 1
+unfolding graph_entries
 one_of_each s is (Cycle head) =
     omega (
       arith,
@@ -137,15 +137,15 @@ one_of_each s is (Function f) =
       one_below (Function f) (function_entry s) (has_entry s) s.graph.functions (λ k l lower low. two_functions f k l lower),
     )
 
-one_ordered : (s : Sources) → IsGraph s.graph → (subject : Subject) → sum_by (count_one subject) (ordered s) ≤ 1
-unfolding ordered
-one_ordered s is subject = omega (arith, one_of_each s is subject, sum_in_order comes_before (count_one subject) (entries_of s))
+one_ordered : (s : Sources) → IsGraph s.graph → (subject : Subject) → sum_by (count_one subject) (graph_order s) ≤ 1
+unfolding graph_order
+one_ordered s is subject = omega (arith, one_of_each s is subject, sum_in_order graph_comes_before (count_one subject) (graph_entries s))
 
 same_itself : (subject : Subject) → is_same subject subject ≡ true
 same_itself (Cycle head) = eq-eqb head head refl
 same_itself (Function f) = eq-eqb f f refl
 
-pub number_of_place : (s : Sources) (place : ℕ) (e : Entry) → IsGraph s.graph → slice_get (ordered s) place ≡ Some e → number_in (ordered s) e.subject ≡ place + 1
+pub number_of_place : (s : Sources) (place : ℕ) (e : GraphEntry) → IsGraph s.graph → slice_get (graph_order s) place ≡ Some e → number_in (graph_order s) e.subject ≡ place + 1
 number_of_place s place e is at =
     let count : 0 + place + 1 ≡ place + 1 = omega arith in
-    sym (first_of_all (ordered s) e.subject) ∙ only_number e.subject 0 (ordered s) place e (one_ordered s is e.subject) at (same_itself e.subject) ∙ count
+    sym (first_of_all (graph_order s) e.subject) ∙ only_number e.subject 0 (graph_order s) place e (one_ordered s is e.subject) at (same_itself e.subject) ∙ count

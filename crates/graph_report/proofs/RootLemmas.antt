@@ -10,7 +10,7 @@ use Rattle.call_cycles.proofs.MemberLemmas.{cycles_are}
 use Rattle.call_cycles.proofs.SumLemmas.{sum_ext, sum_at}
 use Rattle.symbol_shares.specs.Shares.{attributed_of}
 use Rattle.propagate.proofs.BoundLemmas.{roots_have_all}
-use Rattle.flat_report.specs.Sources.{AreOfOne, Sources, calls_by_itself, calls_by_others, total_of}
+use Rattle.flat_report.specs.Sources.{AreOfOne, Sources, calls_by_itself, calls_by_others, inclusive_total}
 use Rattle.graph_report.specs.Entries.{calls_of_others}
 use Rattle.graph_report.specs.Roots.{has_own_entry, shown_total}
 
@@ -56,7 +56,7 @@ module _ (s : Sources) (fit : AreOfOne s) where
   is : IsGraph s.graph
   is = fit.graph
 
-  single_total : (c : ℕ) → c < component_count s.graph → is_cycle s.graph c ≡ false → total_of s (head_of s.graph c) ≡ time_of s.flow c
+  single_total : (c : ℕ) → c < component_count s.graph → is_cycle s.graph c ≡ false → inclusive_total s (head_of s.graph c) ≡ time_of s.flow c
   single_total c low single =
       let self = fit.flow.self c low ∙ own_share s.graph is c low single s.shares.of in
       let child = fit.flow.member_child (head_of s.graph c) (is.components.heads_below c low) ∙ own_arcs s.graph is c low single (carried_by s.flow) ∙ sym (fit.flow.child c low) in
@@ -65,17 +65,17 @@ module _ (s : Sources) (fit : AreOfOne s) where
   pub totals_are_times : (c : ℕ) → c < component_count s.graph → shown_total s c ≡ time_of s.flow c
   totals_are_times c low = by (is_cycle s.graph c) refl
     where
-      by : (b : Bool) → is_cycle s.graph c ≡ b → (if b then time_of s.flow c else total_of s (head_of s.graph c)) ≡ time_of s.flow c
+      by : (b : Bool) → is_cycle s.graph c ≡ b → (if b then time_of s.flow c else inclusive_total s (head_of s.graph c)) ≡ time_of s.flow c
       by true at = refl
       by false at = single_total c low at
 
   pub no_time : (c : ℕ) → c < component_count s.graph → has_own_entry s c ≡ false → time_of s.flow c ≡ 0
-  no_time c low none = by (is_cycle s.graph c) (nat_lt 0 (total_of s h)) (nat_lt 0 (calls_by_others s.graph h)) (nat_lt 0 (calls_of_others s.graph h)) (nat_lt 0 (calls_by_itself s.graph h)) refl refl none
+  no_time c low none = by (is_cycle s.graph c) (nat_lt 0 (inclusive_total s h)) (nat_lt 0 (calls_by_others s.graph h)) (nat_lt 0 (calls_of_others s.graph h)) (nat_lt 0 (calls_by_itself s.graph h)) refl refl none
     where
       h : ℕ
       h = head_of s.graph c
 
-      by : (b t o m i : Bool) → is_cycle s.graph c ≡ b → nat_lt 0 (total_of s (head_of s.graph c)) ≡ t → (b || (t || o || m || i)) ≡ false → time_of s.flow c ≡ 0
+      by : (b t o m i : Bool) → is_cycle s.graph c ≡ b → nat_lt 0 (inclusive_total s (head_of s.graph c)) ≡ t → (b || (t || o || m || i)) ≡ false → time_of s.flow c ≡ 0
       by true t o m i at time gone = absurd (true≢false gone)
       by false true true true true at time gone = absurd (true≢false gone)
       by false true o m i at time gone = absurd (first o m i gone)
@@ -83,7 +83,7 @@ module _ (s : Sources) (fit : AreOfOne s) where
           first : (o m i : Bool) → (true || o || m || i) ≡ false → ⊥
           first o m i is_false = true≢false is_false
       by false false o m i at time gone =
-          let zero = ltb-false 0 (total_of s (head_of s.graph c)) time in
+          let zero = ltb-false 0 (inclusive_total s (head_of s.graph c)) time in
           let total = single_total c low at in
           omega arith
 

@@ -9,7 +9,7 @@ use Rattle.call_cycles.specs.Sums.{sum_below, when, list_of, numbers_below}
 use Rattle.call_cycles.proofs.SumLemmas.{sum_ext}
 use Rattle.call_cycles.proofs.ListLemmas.{list_long, list_at}
 use Rattle.flat_report.specs.Sources.{calls_by_others}
-use Rattle.graph_report.specs.Cycles.{inner_calls, is_inside}
+use Rattle.graph_report.specs.Cycles.{inner_calls, is_inner_arc}
 use Rattle.graph_report.specs.Entries.{calls_of_others}
 use Rattle.graph_report.specs.GraphText.{arcs_from, arcs_into, arcs_to, members_of}
 use Rattle.graph_report.specs.Groups.{AreGroups, arc_key, calls_with, places_with}
@@ -83,4 +83,4 @@ module _ (g : GraphValue) (keys : List ℕ) where
   sums_inside sums are is =
       is
       ∙ list_same (component_count g) (calls_with g keys) (inner_calls g)
-      (calls_same (arc_key g Inner) (is_inside g) (component_count g) sums are (λ k low i h. inner_key (is_outside g i) (target_of g i) (component_count g) k low))
+      (calls_same (arc_key g Inner) (is_inner_arc g) (component_count g) sums are (λ k low i h. inner_key (is_outside g i) (target_of g i) (component_count g) k low))

@@ -12,19 +12,19 @@ use Rattle.call_cycles.specs.Graph.{arc_at, component_of, entering_of}
 use Rattle.flat_report.specs.FlatText.{seconds_of}
 use Rattle.flat_report.specs.Sources.{Sources, name_of}
 use Rattle.graph_report.specs.ArcTimes.{arc_times, times_columns}
-use Rattle.graph_report.specs.GraphText.{arc_columns, arcs_from, arcs_into, arcs_to, bracketed, callee_line, caller_line, callers_text, calls_of_all, cycle_mark, cycle_text, front_text, function_columns, function_name, function_text, member_line, members_of, other_line, rule, primary_line, timed_columns, untimed_columns}
+use Rattle.graph_report.specs.GraphText.{arc_columns, arcs_from, arcs_into, arcs_to, bracket_text, callee_line, caller_line, callers_text, calls_of_all, cycle_mark, cycle_text, front_columns, function_columns, function_name, function_text, member_line, members_of, other_line, rule, primary_line, timed_columns, untimed_columns}
 use Rattle.graph_report.specs.Subjects.{cycle_line, function_line}
 use Rattle.graph_report.specs.declared.inputs.ArcTimes.{ArcTimes}
 use Rattle.graph_report.specs.declared.subjects.Subject.{Subject}
 use Rattle.graph_report.specs.declared.subjects.Subject.TheVariants.{Function}
 
 -- a name, its mark and what follows
-pub name_whole : (s : Sources) (number : Subject → ℕ) (f : ℕ) → name_of s f ++ (cycle_mark s.graph f ++ (codes " " ++ bracketed (number (Function f)) ++ codes "\n")) ≡ function_name s number f ++ codes "\n"
+pub name_whole : (s : Sources) (number : Subject → ℕ) (f : ℕ) → name_of s f ++ (cycle_mark s.graph f ++ (codes " " ++ bracket_text (number (Function f)) ++ codes "\n")) ≡ function_name s number f ++ codes "\n"
 unfolding function_name
 name_whole s number f =
     let name = name_of s f in
     let mark = cycle_mark s.graph f in
-    let tail = bracketed (number (Function f)) in
+    let tail = bracket_text (number (Function f)) in
     sym (append_assoc name mark (codes " " ++ tail ++ codes "\n"))
     ∙ sym (append_assoc (name ++ mark) (codes " " ++ tail) (codes "\n"))
     ∙ ap (λ (t : List ℕ). t ++ codes "\n") (sym (append_assoc (name ++ mark) (codes " ") tail))
@@ -35,9 +35,9 @@ end_whole name tail =
     sym (append_assoc name (codes " " ++ tail) (codes "\n")) ∙ ap (λ (t : List ℕ). t ++ codes "\n") (sym (append_assoc name (codes " ") tail))
 
 -- what stands in front of a subject's name, and the name
-pub primary_whole : (s : Sources) (number total : ℕ) (columns name : List ℕ) → front_text s number total columns ++ (name ++ codes "\n") ≡ primary_line s number total columns name
+pub primary_whole : (s : Sources) (number total : ℕ) (columns name : List ℕ) → front_columns s number total columns ++ (name ++ codes "\n") ≡ primary_line s number total columns name
 unfolding primary_line
-primary_whole s number total columns name = sym (append_assoc (front_text s number total columns) name (codes "\n"))
+primary_whole s number total columns name = sym (append_assoc (front_columns s number total columns) name (codes "\n"))
 
 -- ---- what is left of the numbers below an end
 

@@ -18,12 +18,12 @@ unfoldable pub cycle_number : GraphValue → ℕ → ℕ
 cycle_number g c = count_by (is_cycle_before g (head_of g c)) (numbers_below (component_count g)) + 1
 
 -- the arc of number i goes between two members of component c
-abbrev pub is_inside : GraphValue → ℕ → ℕ → Bool
-is_inside g c i = not (is_outside g i) && target_of g i == c
+abbrev pub is_inner_arc : GraphValue → ℕ → ℕ → Bool
+is_inner_arc g c i = not (is_outside g i) && target_of g i == c
 
 -- the calls between different members of a component
 unfoldable pub inner_calls : GraphValue → ℕ → ℕ
-inner_calls g c = sum_below (arc_count g) (λ i. when (is_inside g c i) (arc_at g i).count)
+inner_calls g c = sum_below (arc_count g) (λ i. when (is_inner_arc g c i) (arc_at g i).count)
 
 -- how a cycle is named where it has a line as a whole
 unfoldable pub cycle_name : GraphValue → ℕ → List ℕ

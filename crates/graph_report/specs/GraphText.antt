@@ -10,17 +10,17 @@ use Rattle.call_cycles.specs.Flow.{time_of}
 use Rattle.call_cycles.specs.Sums.{numbers_below}
 use Rattle.flat_report.specs.FlatText.{percent_of, seconds_of}
 use Rattle.flat_report.specs.Hidden.{is_hidden}
-use Rattle.flat_report.specs.Sources.{Sources, name_of, share_of, child_of, total_of, calls_by_others, calls_by_itself}
+use Rattle.flat_report.specs.Sources.{Sources, name_of, self_share, child_of, inclusive_total, calls_by_others, calls_by_itself}
 use Rattle.graph_report.specs.Cycles.{is_member, cycle_number, inner_calls, cycle_name}
-use Rattle.graph_report.specs.Entries.{Entry, ordered, number_in}
+use Rattle.graph_report.specs.Entries.{GraphEntry, graph_order, number_in}
 use Rattle.graph_report.specs.declared.subjects.Subject.{Subject}
 use Rattle.graph_report.specs.declared.subjects.Subject.TheVariants.{Cycle, Function}
 
 -- ---- names
 
 -- the number of an entry
-abbrev pub bracketed : ℕ → List ℕ
-bracketed number = codes "[" ++ decimal number ++ codes "]"
+abbrev pub bracket_text : ℕ → List ℕ
+bracket_text number = codes "[" ++ decimal number ++ codes "]"
 
 -- the cycle of which a function is a member, where there is one
 unfoldable pub cycle_mark : GraphValue → ℕ → List ℕ
@@ -28,11 +28,11 @@ cycle_mark g f = if is_member g f then codes " <cycle " ++ decimal (cycle_number
 
 -- what stands behind a function's name in a line: its cycle, the number of its entry, and the end of the line
 abbrev pub tail_of : GraphValue → (Subject → ℕ) → ℕ → List ℕ
-tail_of g number f = cycle_mark g f ++ (codes " " ++ bracketed (number (Function f)) ++ codes "\n")
+tail_of g number f = cycle_mark g f ++ (codes " " ++ bracket_text (number (Function f)) ++ codes "\n")
 
 -- a function's name in a line, with its cycle and the number of its entry
 unfoldable pub function_name : Sources → (Subject → ℕ) → ℕ → List ℕ
-function_name s number f = name_of s f ++ cycle_mark s.graph f ++ codes " " ++ bracketed (number (Function f))
+function_name s number f = name_of s f ++ cycle_mark s.graph f ++ codes " " ++ bracket_text (number (Function f))
 
 -- ---- columns
 
@@ -61,13 +61,13 @@ calls_with_inner entering inner = decimal entering ++ codes "+" ++ decimal inner
 
 -- what stands in front of the name of an entry's subject: the number of the entry, the part of all time that the subject's
 -- is, in percent, and its columns
-abbrev pub front_text : Sources → ℕ → ℕ → List ℕ → List ℕ
-front_text s number total columns =
-    left_of (bracketed number) 8 ++ right_of (percent_of total (attributed_of s.shares)) 7 ++ columns ++ spaces 2
+abbrev pub front_columns : Sources → ℕ → ℕ → List ℕ → List ℕ
+front_columns s number total columns =
+    left_of (bracket_text number) 8 ++ right_of (percent_of total (attributed_of s.shares)) 7 ++ columns ++ spaces 2
 
 -- the line of the subject of an entry
 unfoldable pub primary_line : Sources → ℕ → ℕ → List ℕ → List ℕ → List ℕ
-primary_line s number total columns name = front_text s number total columns ++ name ++ codes "\n"
+primary_line s number total columns name = front_columns s number total columns ++ name ++ codes "\n"
 
 -- any other line
 unfoldable pub other_line : List ℕ → List ℕ → List ℕ
@@ -92,7 +92,7 @@ callee_line s number i = other_line (columns_at s i) (function_name s number (ar
 
 -- a function's own times and calls
 unfoldable pub function_columns : Sources → ℕ → List ℕ
-function_columns s f = timed_columns s.rate (share_of s f) (child_of s f) (calls_with_own (calls_by_others s.graph f) (calls_by_itself s.graph f))
+function_columns s f = timed_columns s.rate (self_share s f) (child_of s f) (calls_with_own (calls_by_others s.graph f) (calls_by_itself s.graph f))
 
 -- a member of a cycle, in the entry of the cycle
 unfoldable pub member_line : Sources → (Subject → ℕ) → ℕ → List ℕ
@@ -126,7 +126,7 @@ members_of g c = filter (λ f. component_of g f == c) (numbers_below g.functions
 unfoldable pub function_text : Sources → (Subject → ℕ) → ℕ → List ℕ
 function_text s number f =
     callers_text s number (arcs_to s.graph f)
-    ++ primary_line s (number (Function f)) (total_of s f) (function_columns s f) (function_name s number f)
+    ++ primary_line s (number (Function f)) (inclusive_total s f) (function_columns s f) (function_name s number f)
     ++ flat_map (callee_line s number) (arcs_from s.graph f)
     ++ rule
 
@@ -139,7 +139,7 @@ unfoldable pub cycle_text : Sources → (Subject → ℕ) → ℕ → List ℕ
 cycle_text s number head =
     let c = component_of s.graph head in
     callers_text s number (arcs_into s.graph c)
-    ++ primary_line s (number (Cycle head)) (time_of s.flow c) (cycle_columns s c) (cycle_name s.graph c ++ codes " " ++ bracketed (number (Cycle head)))
+    ++ primary_line s (number (Cycle head)) (time_of s.flow c) (cycle_columns s c) (cycle_name s.graph c ++ codes " " ++ bracket_text (number (Cycle head)))
     ++ flat_map (member_line s number) (members_of s.graph c)
     ++ rule
 
@@ -150,8 +150,8 @@ subject_text s number (Function f) = function_text s number f
 -- ---- the report
 
 -- what stands above the entries
-abbrev pub header_text : List ℕ
-header_text = codes "call graph\nindex     %time        self    children                called  name\n"
+abbrev pub graph_header : List ℕ
+graph_header = codes "call graph\nindex     %time        self    children                called  name\n"
 
 -- an entry is shown, unless it is that of a function with a hidden name; the entry of a cycle can't be hidden
 abbrev pub is_shown : List (List ℕ) → Subject → List ℕ → Bool
@@ -161,4 +161,4 @@ is_shown hidden (Function f) name = not (is_hidden hidden name)
 -- The call graph: an entry for each cycle and each function that took time or has calls, in order, but for functions with
 -- a hidden name. The others have the entries, with their numbers and lines, that they have where none is hidden.
 unfoldable pub graph_text : Sources → List (List ℕ) → List ℕ
-graph_text s hidden = header_text ++ flat_map (λ (e : Entry). subject_text s (number_in (ordered s)) e.subject) (filter (λ (e : Entry). is_shown hidden e.subject e.name) (ordered s))
+graph_text s hidden = graph_header ++ flat_map (λ (e : GraphEntry). subject_text s (number_in (graph_order s)) e.subject) (filter (λ (e : GraphEntry). is_shown hidden e.subject e.name) (graph_order s))

@@ -3,7 +3,7 @@ use Rattle.std.specs.Prelude.{◌≡◌, ◌++◌, ℕ, suc, List, codes, length
 use Rattle.std.specs.List.{flat_map}
 use Rattle.call_cycles.specs.Sums.{list_of, numbers_below}
 use Rattle.flat_report.specs.Sources.{Sources}
-use Rattle.graph_report.specs.Entries.{number_in, ordered}
+use Rattle.graph_report.specs.Entries.{number_in, graph_order}
 use Rattle.graph_report.specs.GraphText.{function_name}
 use Rattle.graph_report.specs.declared.labels.Labels.{Labels}
 use Rattle.graph_report.specs.declared.subjects.Subject.{Subject}
@@ -26,4 +26,4 @@ pub record AreTexts (count : ℕ) (of : ℕ → List ℕ) (text starts : List �
   pub each : starts ≡ list_of (suc count) (start_of of)
 
 abbrev pub AreLabels : Sources → Labels → Type 0
-AreLabels s l = AreTexts s.graph.functions (label_of s (number_in (ordered s))) l.text.items l.starts.items
+AreLabels s l = AreTexts s.graph.functions (label_of s (number_in (graph_order s))) l.text.items l.starts.items

@@ -5,7 +5,7 @@ use Rattle.call_cycles.specs.Sums.{sum_below, when}
 use Rattle.call_cycles.specs.Graph.{GraphValue, IsGraph, arc_at, component_count, head_of, is_cycle}
 use Rattle.call_cycles.specs.Flow.{is_root, time_of}
 use Rattle.symbol_shares.specs.Shares.{attributed_of}
-use Rattle.flat_report.specs.Sources.{AreOfOne, Sources, total_of}
+use Rattle.flat_report.specs.Sources.{AreOfOne, Sources, inclusive_total}
 use Rattle.graph_report.specs.Entries.{has_entry}
 use Rattle.graph_report.specs.GraphText.{arcs_from, arcs_to}
 
@@ -15,7 +15,7 @@ has_own_entry s c = is_cycle s.graph c || has_entry s (head_of s.graph c)
 
 -- the total that this entry shows
 abbrev pub shown_total : Sources → ℕ → ℕ
-shown_total s c = if is_cycle s.graph c then time_of s.flow c else total_of s (head_of s.graph c)
+shown_total s c = if is_cycle s.graph c then time_of s.flow c else inclusive_total s (head_of s.graph c)
 
 -- it is the component's time
 abbrev pub TotalsAreTimes : Type 0

@@ -5,8 +5,8 @@ ghost use Rattle.host_port.specs.Buffered.{Adds};
 ghost use Rattle.host_port.specs.declared.side.Side.TheVariants.{Output};
 ghost use Rattle.call_cycles.specs.Flow.{time_of};
 ghost use Rattle.call_cycles.specs.Graph.{component_of, is_cycle};
-ghost use Rattle.flat_report.specs.Sources.{total_of};
-ghost use Rattle.graph_report.specs.GraphText.{cycle_columns, cycle_text, front_text, function_columns, function_text, subject_text};
+ghost use Rattle.flat_report.specs.Sources.{inclusive_total};
+ghost use Rattle.graph_report.specs.GraphText.{cycle_columns, cycle_text, front_columns, function_columns, function_text, subject_text};
 ghost use Rattle.graph_report.specs.Inputs.{sources_in};
 ghost use Rattle.graph_report.specs.Numbers.{IsReport, number_of};
 ghost use Rattle.graph_report.specs.Subjects.{IsSubject, cycle_line, function_line};
@@ -28,7 +28,7 @@ fn function_front(report: &Report<'_>, f: u32) -> Line
     requires report { IsReport report.now }
     requires function { f < report.now.inputs.sources.graph.now.functions }
     ensures { let s = sources_in report.now.inputs in
-        result ≡ front_text s (number_of report.now (Function f)) (total_of s f) (function_columns s f) }
+        result ≡ front_columns s (number_of report.now (Function f)) (inclusive_total s f) (function_columns s f) }
 {
     let all = report.inputs.sources.shares.attributed();
     let mut line = Line::new();
@@ -64,7 +64,7 @@ fn cycle_front(report: &Report<'_>, head: u32) -> Line
     requires function { head < report.now.inputs.sources.graph.now.functions }
     ensures { let s = sources_in report.now.inputs in
         let c = component_of s.graph head in
-        result ≡ front_text s (number_of report.now (Cycle head)) (time_of s.flow c) (cycle_columns s c) }
+        result ≡ front_columns s (number_of report.now (Cycle head)) (time_of s.flow c) (cycle_columns s c) }
 {
     let all = report.inputs.sources.shares.attributed();
     let c = report.inputs.sources.graph.component(head);

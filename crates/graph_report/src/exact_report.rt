@@ -8,7 +8,7 @@ ghost use Rattle.host_port.specs.declared.side.Side.TheVariants.{Output};
 ghost use Rattle.call_cycles.specs.Graph.{arc_count, component_count};
 ghost use Rattle.propagate.specs.Arcs.{outside_arcs_from};
 ghost use Rattle.exact_flow.specs.Times.{HasTimes};
-ghost use Rattle.graph_report.specs.ExactText.{address_of, arc_text, head_text, component_text, components_text, exact_text};
+ghost use Rattle.graph_report.specs.ExactText.{symbol_address, arc_text, head_text, component_text, components_text, exact_text};
 
 use crate::exact_line;
 use call_cycles::Graph;
@@ -132,7 +132,7 @@ fn put_arcs<H: Host>(
 /// The address of a function.
 fn address(symbols: &[Symbol], f: u32) -> u32
     requires { f < length symbols.now }
-    ensures { result ≡ address_of symbols.now f }
+    ensures { result ≡ symbol_address symbols.now f }
 {
     symbols[f as usize].addr
 }

@@ -3,7 +3,7 @@
 ghost use Rattle.std.specs.Prelude.{◌≡◌, ◌^◌, ◌<◌, ◌+◌, true, length, slice_index};
 ghost use Rattle.call_cycles.specs.Flow.{carried_by, time_of};
 ghost use Rattle.call_cycles.specs.Graph.{arc_count, component_count, is_cycle as is_a_cycle, is_outside};
-ghost use Rattle.flat_report.specs.Sources.{calls_by_others, child_of, name_of, share_of, total_of};
+ghost use Rattle.flat_report.specs.Sources.{calls_by_others, child_of, name_of, self_share, inclusive_total};
 ghost use Rattle.graph_report.specs.ArcTimes.{AreTimes, arc_times};
 ghost use Rattle.graph_report.specs.Cycles.{cycle_name as name_of_cycle, cycle_number as number_of_cycle, inner_calls};
 ghost use Rattle.graph_report.specs.Entries.{calls_of_others};
@@ -43,7 +43,7 @@ impl<'a> Inputs<'a> {
     pub fn share(&self, f: u32) -> u128
         requires inputs { AreInputs self.now }
         requires function { f < self.now.sources.graph.now.functions }
-        ensures value { result ≡ share_of (sources_in self.now) f }
+        ensures value { result ≡ self_share (sources_in self.now) f }
         ensures within { result < 2 ^ 65 }
     {
         self.sources.shares.of(f)
@@ -63,7 +63,7 @@ impl<'a> Inputs<'a> {
     pub fn total(&self, f: u32) -> u128
         requires inputs { AreInputs self.now }
         requires function { f < self.now.sources.graph.now.functions }
-        ensures value { result ≡ total_of (sources_in self.now) f }
+        ensures value { result ≡ inclusive_total (sources_in self.now) f }
         ensures within { result < 2 ^ 65 }
     {
         self.share(f) + self.child(f)

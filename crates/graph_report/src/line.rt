@@ -3,7 +3,7 @@
 ghost use Rattle.std.specs.Prelude.{◌≡◌, ◌+◌, ◌^◌, ◌<◌, ◌≤◌, ◌++◌, length, codes, decimal};
 ghost use Rattle.text_cols.specs.Columns.{left_of, right_of};
 ghost use Rattle.flat_report.specs.FlatText.{percent_of, seconds_of};
-ghost use Rattle.graph_report.specs.GraphText.{bracketed, calls_of_all, calls_with_inner, calls_with_own, untimed_columns};
+ghost use Rattle.graph_report.specs.GraphText.{bracket_text, calls_of_all, calls_with_inner, calls_with_own, untimed_columns};
 
 use flat_report::line::{GRAINS, put_percent, put_quotient};
 use text_cols::Line;
@@ -12,7 +12,7 @@ use text_cols::Line;
 #[tactic(auto, using(text_cols::proofs::Lengths::lengths))]
 fn put_number(line: &mut Line, number: usize)
     requires room { length line.old ≤ 200 }
-    ensures text { line.new ≡ line.old ++ bracketed number }
+    ensures text { line.new ≡ line.old ++ bracket_text number }
     ensures short { length line.new ≤ length line.old + 22 }
 {
     line.put(b"[");
@@ -91,7 +91,7 @@ pub(crate) fn put_index(line: &mut Line, number: usize, total: u128, all: u128)
     requires total { total < 2 ^ 65 }
     requires all { all < 2 ^ 65 }
     requires room { length line.old ≤ 10 }
-    ensures text { line.new ≡ line.old ++ (left_of (bracketed number) 8 ++ right_of (percent_of total all) 7) }
+    ensures text { line.new ≡ line.old ++ (left_of (bracket_text number) 8 ++ right_of (percent_of total all) 7) }
     ensures short { length line.new ≤ length line.old + 65 }
 {
     let mut index = Line::new();
@@ -104,7 +104,7 @@ pub(crate) fn put_index(line: &mut Line, number: usize, total: u128, all: u128)
 #[tactic(auto, using(text_cols::proofs::Lengths::lengths))]
 pub(crate) fn put_tail(line: &mut Line, number: usize)
     requires { length line.old ≤ 100 }
-    ensures text { line.new ≡ line.old ++ codes " " ++ bracketed number ++ codes "\n" }
+    ensures text { line.new ≡ line.old ++ codes " " ++ bracket_text number ++ codes "\n" }
     ensures short { length line.new ≤ length line.old + 24 }
 {
     line.put(b" ");

@@ -5,8 +5,8 @@ ghost use Rattle.host_port.specs.Buffered.{Adds};
 ghost use Rattle.host_port.specs.declared.side.Side.TheVariants.{Output};
 ghost use Rattle.call_cycles.specs.Graph.{component_count, component_of, head_of, is_cycle};
 ghost use Rattle.graph_report.specs.Cycles.{cycle_name};
-ghost use Rattle.graph_report.specs.Entries.{number_in, ordered};
-ghost use Rattle.graph_report.specs.GraphText.{bracketed, cycle_mark, tail_of};
+ghost use Rattle.graph_report.specs.Entries.{number_in, graph_order};
+ghost use Rattle.graph_report.specs.GraphText.{bracket_text, cycle_mark, tail_of};
 ghost use Rattle.graph_report.specs.Inputs.{AreInputs, sources_in};
 ghost use Rattle.graph_report.specs.Numbers.{AreNumbers, IsReport, number_of};
 ghost use Rattle.graph_report.specs.declared.subjects.Subject.TheVariants.{Cycle};
@@ -40,7 +40,7 @@ pub(crate) fn function_tail(inputs: &Inputs<'_>, numbers: &Numbers, f: u32) -> L
     requires inputs { AreInputs inputs.now }
     requires numbers { AreNumbers (sources_in inputs.now) numbers.now }
     requires function { f < inputs.now.sources.graph.now.functions }
-    ensures { result ≡ tail_of inputs.now.sources.graph.now (number_in (ordered (sources_in inputs.now))) f }
+    ensures { result ≡ tail_of inputs.now.sources.graph.now (number_in (graph_order (sources_in inputs.now))) f }
 {
     let mut line = mark(inputs, f);
     put_tail(&mut line, numbers.functions[f as usize]);
@@ -51,7 +51,7 @@ pub(crate) fn function_tail(inputs: &Inputs<'_>, numbers: &Numbers, f: u32) -> L
 fn cycle_tail(report: &Report<'_>, head: u32) -> Line
     requires report { IsReport report.now }
     requires function { head < report.now.inputs.sources.graph.now.functions }
-    ensures { result ≡ codes " " ++ bracketed (number_of report.now (Cycle head)) ++ codes "\n" }
+    ensures { result ≡ codes " " ++ bracket_text (number_of report.now (Cycle head)) ++ codes "\n" }
 {
     let mut line = Line::new();
     put_tail(&mut line, report.cycle_number(head));
@@ -68,7 +68,7 @@ pub(crate) fn put_cycle_name<H: Host>(
     requires report { IsReport report.now }
     requires function { head < report.now.inputs.sources.graph.now.functions }
     requires cycle { is_cycle report.now.inputs.sources.graph.now (component_of report.now.inputs.sources.graph.now head) ≡ true }
-    ensures { Adds Output (cycle_name report.now.inputs.sources.graph.now (component_of report.now.inputs.sources.graph.now head) ++ codes " " ++ bracketed (number_of report.now (Cycle head)) ++ codes "\n")
+    ensures { Adds Output (cycle_name report.now.inputs.sources.graph.now (component_of report.now.inputs.sources.graph.now head) ++ codes " " ++ bracket_text (number_of report.now (Cycle head)) ++ codes "\n")
         lines.old lines.new (H.outside host.old) (H.outside host.new) result }
 {
     let c = report.inputs.sources.graph.component(head);

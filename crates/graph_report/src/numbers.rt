@@ -1,7 +1,7 @@
 //! The numbers of entries.
 
 ghost use Rattle.std.specs.Prelude.{◌≡◌, ◌<◌, ℕ, IfOk, length, slice_index, if◌then◌else◌};
-ghost use Rattle.graph_report.specs.Entries.{first_function, is_same, ordered};
+ghost use Rattle.graph_report.specs.Entries.{first_function, is_same, graph_order};
 ghost use Rattle.graph_report.specs.Inputs.{AreInputs, sources_in};
 ghost use Rattle.graph_report.specs.Labels.{label_of};
 ghost use Rattle.graph_report.specs.Numbers.{AreNumbers, IsReport, number_of};
@@ -87,7 +87,7 @@ pub(crate) fn entry_numbers(
     rows: &[Row<'_>],
 ) -> Result<Numbers, AllocError>
     requires inputs { AreInputs inputs.now }
-    requires rows { entries_of_rows rows.now ≡ ordered (sources_in inputs.now) }
+    requires rows { entries_of_rows rows.now ≡ graph_order (sources_in inputs.now) }
     ensures { IfOk result (AreNumbers (sources_in inputs.now)) }
 {
     let count = inputs.sources.graph.function_count() as usize;

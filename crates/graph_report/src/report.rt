@@ -9,7 +9,7 @@ ghost use Rattle.call_cycles.specs.Flow.{IsFlow};
 ghost use Rattle.call_cycles.specs.Graph.{all_calls};
 ghost use Rattle.flat_report.specs.Reports.{Reports};
 ghost use Rattle.flat_report.specs.declared.refusal.ReportRefusal.TheVariants.{OutOfMemory};
-ghost use Rattle.graph_report.specs.Entries.{ordered};
+ghost use Rattle.graph_report.specs.Entries.{graph_order};
 ghost use Rattle.graph_report.specs.GraphText.{graph_text, is_shown as spec};
 ghost use Rattle.graph_report.specs.Inputs.{sources_in};
 ghost use Rattle.graph_report.specs.Numbers.{IsReport};
@@ -98,7 +98,7 @@ fn print<H: Host>(
     host: &mut H,
 ) -> Result<(), Failed>
     requires report { IsReport report.now }
-    requires rows { entries_of_rows rows.now ≡ ordered (sources_in report.now.inputs) }
+    requires rows { entries_of_rows rows.now ≡ graph_order (sources_in report.now.inputs) }
     ensures { Puts Output (graph_text (sources_in report.now.inputs) (map string_bytes hidden.now)) (H.outside host.old) (H.outside host.new) result }
 {
     let mut lines = PrintBuf::new();
@@ -114,7 +114,7 @@ fn put_report<H: Host>(
     host: &mut H,
 ) -> Result<(), Failed>
     requires report { IsReport report.now }
-    requires rows { entries_of_rows rows.now ≡ ordered (sources_in report.now.inputs) }
+    requires rows { entries_of_rows rows.now ≡ graph_order (sources_in report.now.inputs) }
     ensures { Adds Output (graph_text (sources_in report.now.inputs) (map string_bytes hidden.now)) lines.old lines.new (H.outside host.old) (H.outside host.new) result }
 {
     lines.put(host, HEADER)?;
@@ -129,9 +129,9 @@ fn put_entries<H: Host>(
     host: &mut H,
 ) -> Result<(), Failed>
     requires report { IsReport report.now }
-    requires rows { entries_of_rows rows.now ≡ ordered (sources_in report.now.inputs) }
+    requires rows { entries_of_rows rows.now ≡ graph_order (sources_in report.now.inputs) }
     ensures { let s = sources_in report.now.inputs in
-        Adds Output (flat_map (entry_text s) (filter (λ e. spec (map string_bytes hidden.now) e.subject e.name) (ordered s))) lines.old lines.new (H.outside host.old) (H.outside host.new) result }
+        Adds Output (flat_map (entry_text s) (filter (λ e. spec (map string_bytes hidden.now) e.subject e.name) (graph_order s))) lines.old lines.new (H.outside host.old) (H.outside host.new) result }
 {
     for row in rows {
         put_row(report, row, hidden, lines, host)?;

@@ -1,7 +1,7 @@
 //! The entries, in their order.
 
 ghost use Rattle.std.specs.Prelude.{◌≡◌, ◌<◌, ◌++◌, IfOk, OnOk};
-ghost use Rattle.graph_report.specs.Entries.{entry_cmp, ordered};
+ghost use Rattle.graph_report.specs.Entries.{graph_entry_cmp, graph_order};
 ghost use Rattle.graph_report.specs.Entries.{has_entry as has};
 ghost use Rattle.graph_report.specs.Inputs.{AreInputs, sources_in};
 ghost use Rattle.graph_report.specs.Rows.{cycle_entries, entries_of_rows, entry_of_row, function_entries};
@@ -22,7 +22,7 @@ pub(crate) struct Row<'a> {
 /// Which of two entries stands first: that with the greater total, then by the bytes of their names, then
 /// by their addresses, and then a cycle before a function.
 fn order(one: &Row<'_>, other: &Row<'_>) -> Ordering
-    ensures { result ≡ entry_cmp (entry_of_row one.now) (entry_of_row other.now) }
+    ensures { result ≡ graph_entry_cmp (entry_of_row one.now) (entry_of_row other.now) }
 {
     let by_total = other.total.cmp(&one.total);
     if by_total != Ordering::Equal {
@@ -88,7 +88,7 @@ pub(crate) fn rows_in_order<'a>(
     inputs: &Inputs<'a>,
 ) -> Result<Vec<Row<'a>>, AllocError>
     requires { AreInputs inputs.now }
-    ensures { IfOk result (λ rows. entries_of_rows rows.items ≡ ordered (sources_in inputs.now)) }
+    ensures { IfOk result (λ rows. entries_of_rows rows.items ≡ graph_order (sources_in inputs.now)) }
 {
     let mut rows = Vec::new(alloc);
     put_cycles(inputs, &mut rows)?;

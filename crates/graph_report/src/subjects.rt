@@ -1,7 +1,7 @@
 //! What an entry of the call graph is of.
 
 ghost use Rattle.std.specs.Prelude.{◌≡◌};
-ghost use Rattle.graph_report.specs.Entries.{first_function, kind_of};
+ghost use Rattle.graph_report.specs.Entries.{first_function, subject_rank};
 
 /// A cycle as a whole, known by its head, or a function.
 #[derive(Clone, Copy)]
@@ -22,7 +22,7 @@ pub(crate) fn first_of(subject: Subject) -> u32
 
 /// Cycles stand before functions.
 pub(crate) fn rank_of(subject: Subject) -> u8
-    ensures { result ≡ kind_of subject }
+    ensures { result ≡ subject_rank subject }
 {
     match subject {
         Subject::Cycle(_) => 0,

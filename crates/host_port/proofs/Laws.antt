@@ -1,7 +1,7 @@
 -- How acts follow one another.
 use Rattle.std.proofs.Common.{◌≡◌, ℕ, Bool, List, [], ◌∷◌, ◌++◌, Option, Some, None, refl, sym, ap, subst, ◌∙◌, append_assoc}
 use Rattle.std.proofs.lemmas.List.{append-nil}
-use Rattle.host_port.specs.Act.{Act, Create, Write, Close, Out, Err, Disk, disk_after_act, disk_after, printed, complained, writes_after_act, writes_after, file_changes_after_act, file_changes_after}
+use Rattle.host_port.specs.Act.{Act, Create, Write, Close, Out, Err, Disk, disk_after_act, disk_after, print_of, complaint_of, writes_after_act, writes_after, file_changes_after_act, file_changes_after}
 use Rattle.host_port.specs.Outside.{Outside, Becomes, Did, KeepsInput, KeepsCounts}
 
 -- what is told at last was told in between
@@ -27,17 +27,17 @@ pub disk_after-append : (front back : List Act) (d : Disk) → disk_after (front
 disk_after-append [] back d = refl
 disk_after-append (a ∷ front) back d = disk_after-append front back (disk_after_act a d)
 
-pub printed-append : (front back : List Act) → printed (front ++ back) ≡ printed front ++ printed back
+pub printed-append : (front back : List Act) → print_of (front ++ back) ≡ print_of front ++ print_of back
 printed-append [] back = refl
-printed-append (Out x ∷ front) back = ap (λ (v : List ℕ). x ++ v) (printed-append front back) ∙ sym (append_assoc x (printed front) (printed back))
+printed-append (Out x ∷ front) back = ap (λ (v : List ℕ). x ++ v) (printed-append front back) ∙ sym (append_assoc x (print_of front) (print_of back))
 printed-append (Create x ∷ front) back = printed-append front back
 printed-append (Write x ∷ front) back = printed-append front back
 printed-append (Close ∷ front) back = printed-append front back
 printed-append (Err x ∷ front) back = printed-append front back
 
-pub complained-append : (front back : List Act) → complained (front ++ back) ≡ complained front ++ complained back
+pub complained-append : (front back : List Act) → complaint_of (front ++ back) ≡ complaint_of front ++ complaint_of back
 complained-append [] back = refl
-complained-append (Err x ∷ front) back = ap (λ (v : List ℕ). x ++ v) (complained-append front back) ∙ sym (append_assoc x (complained front) (complained back))
+complained-append (Err x ∷ front) back = ap (λ (v : List ℕ). x ++ v) (complained-append front back) ∙ sym (append_assoc x (complaint_of front) (complaint_of back))
 complained-append (Create x ∷ front) back = complained-append front back
 complained-append (Write x ∷ front) back = complained-append front back
 complained-append (Close ∷ front) back = complained-append front back
@@ -54,8 +54,8 @@ file_changes_after-append (a ∷ front) back n = file_changes_after-append front
 -- acts that leave the same, whatever was before them
 pub record AreAlike (front back : List Act) : Type 0 where
   pub disk : (d : Disk) → disk_after front d ≡ disk_after back d
-  pub out : printed front ≡ printed back
-  pub err : complained front ≡ complained back
+  pub out : print_of front ≡ print_of back
+  pub err : complaint_of front ≡ complaint_of back
   pub writing : (w : Bool) → writes_after front w ≡ writes_after back w
   pub file_changes : (n : ℕ) → file_changes_after front n ≡ file_changes_after back n
 
@@ -73,8 +73,8 @@ Did-alike front back x y same did = record {
 pub Did-then : (front back : List Act) (x y z : Outside) → Did front x y → Did back y z → Did (front ++ back) x z
 Did-then front back x y z first second = record {
   disk = Becomes-by _ _ x.disk z.disk (λ d. sym (disk_after-append front back d)) (Becomes-then (disk_after front) (disk_after back) x.disk y.disk z.disk first.disk second.disk);
-  out = Becomes-by _ _ x.out z.out (λ b. append_assoc b (printed front) (printed back) ∙ ap (λ (v : List ℕ). b ++ v) (sym (printed-append front back))) (Becomes-then (λ b. b ++ printed front) (λ b. b ++ printed back) x.out y.out z.out first.out second.out);
-  err = Becomes-by _ _ x.err z.err (λ b. append_assoc b (complained front) (complained back) ∙ ap (λ (v : List ℕ). b ++ v) (sym (complained-append front back))) (Becomes-then (λ b. b ++ complained front) (λ b. b ++ complained back) x.err y.err z.err first.err second.err);
+  out = Becomes-by _ _ x.out z.out (λ b. append_assoc b (print_of front) (print_of back) ∙ ap (λ (v : List ℕ). b ++ v) (sym (printed-append front back))) (Becomes-then (λ b. b ++ print_of front) (λ b. b ++ print_of back) x.out y.out z.out first.out second.out);
+  err = Becomes-by _ _ x.err z.err (λ b. append_assoc b (complaint_of front) (complaint_of back) ∙ ap (λ (v : List ℕ). b ++ v) (sym (complained-append front back))) (Becomes-then (λ b. b ++ complaint_of front) (λ b. b ++ complaint_of back) x.err y.err z.err first.err second.err);
   writing = second.writing ∙ ap (writes_after back) first.writing ∙ sym (writes_after-append front back x.is_writing);
   file_changes = second.file_changes ∙ ap (file_changes_after back) first.file_changes ∙ sym (file_changes_after-append front back x.file_changes);
   opened = second.opened ∙ first.opened;

@@ -2,7 +2,7 @@
 use Rattle.std.proofs.Common.{◌≡◌, ℕ, ◌<◌, eqb, Bool, true, false, cond, List, [], ◌∷◌, ◌++◌, length, take, drop, Option, Some, None, Ok, Err as Error, refl, sym, ap, subst, ◌∙◌, append_assoc, arith, length-append}
 use Rattle.std.specs.Prelude.{bytes_eq}
 use Rattle.std.proofs.lemmas.List.{append-nil, take-append-drop, take_at}
-use Rattle.host_port.specs.Act.{Act, Write, Out, Err, File, with_more, written}
+use Rattle.host_port.specs.Act.{Act, Write, Out, Err, File, with_more, files_with}
 use Rattle.host_port.specs.Outside.{Outside, Did, KeepsInput, KeepsCounts}
 use Rattle.host_port.specs.Host.{Takes, TakesAll}
 use Rattle.host_port.proofs.Laws.{Did-then, Did-alike, AreAlike, Did-nothing, KeepsInput-then, KeepsInput-same, KeepsCounts-same, KeepsCounts-then}
@@ -24,11 +24,11 @@ with_more-twice : (name x y : List ℕ) (files : List File) → with_more name y
 with_more-twice name x y [] = refl
 with_more-twice name x y (f ∷ fs) = more-twice (bytes_eq f.0 name) name x y f fs refl (with_more-twice name x y fs)
 
-written-nil : (w : Option (List ℕ)) (files : List File) → written [] w files ≡ files
+written-nil : (w : Option (List ℕ)) (files : List File) → files_with [] w files ≡ files
 written-nil None files = refl
 written-nil (Some name) files = with_more-nil name files
 
-written-twice : (w : Option (List ℕ)) (x y : List ℕ) (files : List File) → written y w (written x w files) ≡ written (x ++ y) w files
+written-twice : (w : Option (List ℕ)) (x y : List ℕ) (files : List File) → files_with y w (files_with x w files) ≡ files_with (x ++ y) w files
 written-twice None x y files = refl
 written-twice (Some name) x y files = with_more-twice name x y files
 

@@ -42,13 +42,13 @@ pub data Act : Type 0 where
   Err : List ℕ → Act
 
 -- the files once bytes were written to the one that is being written, if any is
-abbrev pub written : List ℕ → Option (List ℕ) → List File → List File
-written bytes None files = files
-written bytes (Some name) files = with_more name bytes files
+abbrev pub files_with : List ℕ → Option (List ℕ) → List File → List File
+files_with bytes None files = files
+files_with bytes (Some name) files = with_more name bytes files
 
 abbrev pub disk_after_act : Act → Disk → Disk
 disk_after_act (Create name) d = record { files = with_file name [] d.files; writing = Some name }
-disk_after_act (Write bytes) d = record { files = written bytes d.writing d.files; writing = d.writing }
+disk_after_act (Write bytes) d = record { files = files_with bytes d.writing d.files; writing = d.writing }
 disk_after_act Close d = record { files = d.files; writing = None }
 disk_after_act (Out bytes) d = d
 disk_after_act (Err bytes) d = d
@@ -58,22 +58,22 @@ disk_after [] d = d
 disk_after (act ∷ acts) d = disk_after acts (disk_after_act act d)
 
 -- what acts print on the output
-abbrev pub printed : List Act → List ℕ
-printed [] = []
-printed (Out bytes ∷ acts) = bytes ++ printed acts
-printed (Create name ∷ acts) = printed acts
-printed (Write bytes ∷ acts) = printed acts
-printed (Close ∷ acts) = printed acts
-printed (Err bytes ∷ acts) = printed acts
+abbrev pub print_of : List Act → List ℕ
+print_of [] = []
+print_of (Out bytes ∷ acts) = bytes ++ print_of acts
+print_of (Create name ∷ acts) = print_of acts
+print_of (Write bytes ∷ acts) = print_of acts
+print_of (Close ∷ acts) = print_of acts
+print_of (Err bytes ∷ acts) = print_of acts
 
 -- what acts print on the error output
-abbrev pub complained : List Act → List ℕ
-complained [] = []
-complained (Err bytes ∷ acts) = bytes ++ complained acts
-complained (Create name ∷ acts) = complained acts
-complained (Write bytes ∷ acts) = complained acts
-complained (Close ∷ acts) = complained acts
-complained (Out bytes ∷ acts) = complained acts
+abbrev pub complaint_of : List Act → List ℕ
+complaint_of [] = []
+complaint_of (Err bytes ∷ acts) = bytes ++ complaint_of acts
+complaint_of (Create name ∷ acts) = complaint_of acts
+complaint_of (Write bytes ∷ acts) = complaint_of acts
+complaint_of (Close ∷ acts) = complaint_of acts
+complaint_of (Out bytes ∷ acts) = complaint_of acts
 
 -- whether a file is being written after acts
 abbrev pub writes_after_act : Act → Bool → Bool

@@ -2,7 +2,7 @@
 use Rattle.std.specs.Prelude.{◌≡◌, ◌==◌, ℕ, ◌<◌, ◌≤◌, true, false, List, [], ◌∷◌, length, take, drop, Some, Result, IfOk, OnOk, OnErr, IfSome, MatchResult, is_ok, is_err, ◌↔◌}
 use Rattle.host_port.specs.Act.{Act, Disk, file_content, Create, Write, Close, Out}
 use Rattle.host_port.specs.Act.{Err as Complain}
-use Rattle.host_port.specs.Outside.{Outside, Becomes, Did, KeepsInput, Rose, opening}
+use Rattle.host_port.specs.Outside.{Outside, Becomes, Did, KeepsInput, Rose, with_openings}
 -- where bytes go: to the file that is being written, or to one of the two outputs
 use Rattle.host_port.specs.declared.side.Side.{Side}
 use Rattle.host_port.specs.declared.side.Side.TheVariants.{File, Output, ErrorOutput}
@@ -40,7 +40,7 @@ IfTold o P = IfSome o.disk P
 
 -- the named file is open, and all of it is left; after a failure no input is open
 pub record Opens {T E : Type 0} (name : List ℕ) (old new : Outside) (result : Result T E) : Type 0 where
-  pub nothing_done : Did [] (opening 1 old) new
+  pub nothing_done : Did [] (with_openings 1 old) new
   pub opened : new.is_open ≡ is_ok result
   pub from_start : OnOk result (new.at_end ≡ false)
   pub rest : OnOk result (IfTold new (λ d. new.rest ≡ Some (file_content name d.files)))

@@ -4,7 +4,7 @@ use Rattle.std.specs.Global.{Vec}
 use Rattle.host_port.specs.declared.loading.LoadRefusal.{LoadRefusal}
 use Rattle.host_port.specs.declared.loading.LoadRefusal.TheVariants.{ReadFault, TooLarge, OutOfMemory}
 use Rattle.host_port.specs.Act.{file_content}
-use Rattle.host_port.specs.Outside.{Outside, Did, Rose, KeepsCounts, opening}
+use Rattle.host_port.specs.Outside.{Outside, Did, Rose, KeepsCounts, with_openings}
 use Rattle.host_port.specs.Host.{IfTold}
 
 -- what is answered for a file with this content
@@ -30,7 +30,7 @@ LoadCounts old new (Err ReadFault) = Rose old.read_faults new.read_faults × (ne
 
 pub record Loads (name : List ℕ) (limit : ℕ) (old new : Outside) (result : Result (Vec ℕ) LoadRefusal) : Type 0 where
   -- one input was opened
-  pub nothing_done : Did [] (opening 1 old) new
+  pub nothing_done : Did [] (with_openings 1 old) new
   pub answer : IfTold new (λ d. AnswersFor (file_content name d.files) limit result)
   pub left : IfTold new (λ d. IfSome new.rest (λ rest. IsLeftBehind (file_content name d.files) limit rest result))
   pub within : IfOk result (λ bytes. length bytes.items ≤ limit)

@@ -1,6 +1,6 @@
 -- The outside of a program, as far as a host tells it, before and after calls on it.
 use Rattle.std.specs.Prelude.{◌≡◌, ℕ, zero, suc, ◌+◌, ◌-◌, ◌^◌, ◌≤◌, min, Bool, ◌&&◌, List, ◌++◌, Option, Some, None, option_map, is_some, IfSome, ⊤}
-use Rattle.host_port.specs.Act.{Act, Disk, disk_after, printed, complained, writes_after, next_count, file_changes_after}
+use Rattle.host_port.specs.Act.{Act, Disk, disk_after, print_of, complaint_of, writes_after, next_count, file_changes_after}
 
 -- what a host tells of the outside. Each content is there only where the host tells it.
 pub record Outside : Type 0 where
@@ -25,12 +25,12 @@ pub record Outside : Type 0 where
   pub last_failed : Bool
 
 -- the same once so many calls more were made to open an input
-abbrev pub counted : ℕ → ℕ → ℕ
-counted zero before = before
-counted (suc n) before = next_count (counted n before)
+abbrev pub count_after : ℕ → ℕ → ℕ
+count_after zero before = before
+count_after (suc n) before = next_count (count_after n before)
 
-abbrev pub opening : ℕ → Outside → Outside
-opening n o = record o { opened = counted n o.opened }
+abbrev pub with_openings : ℕ → Outside → Outside
+with_openings n o = record o { opened = count_after n o.opened }
 
 -- What is left of the input is told exactly while one is open and the files are told. With the files
 -- the name of the file that is being written is told.
@@ -47,8 +47,8 @@ Becomes f old (Some new) = option_map f old ≡ Some new
 -- the acts were done, nothing else was done to files and outputs, and no input was opened
 pub record Did (acts : List Act) (old new : Outside) : Type 0 where
   pub disk : Becomes (disk_after acts) old.disk new.disk
-  pub out : Becomes (λ bytes. bytes ++ printed acts) old.out new.out
-  pub err : Becomes (λ bytes. bytes ++ complained acts) old.err new.err
+  pub out : Becomes (λ bytes. bytes ++ print_of acts) old.out new.out
+  pub err : Becomes (λ bytes. bytes ++ complaint_of acts) old.err new.err
   pub writing : new.is_writing ≡ writes_after acts old.is_writing
   pub file_changes : new.file_changes ≡ file_changes_after acts old.file_changes
   pub opened : new.opened ≡ old.opened

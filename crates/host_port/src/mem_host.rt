@@ -1,7 +1,7 @@
 //! A host in memory.
 
 ghost use Rattle.std.specs.Prelude.{◌≡◌, ◌+◌, ◌-◌, ◌^◌, ◌<◌, ◌≤◌, ◌↔◌, ◌⊎◌, [], ◌∷◌, ◌++◌, true, false, length, min, take, drop, Some, None, unwrap_or, option_map, if◌then◌else◌, Contains, IsErr, IfOk, IfSome, IsTrue, OnOk, OnErr, MatchOption};
-ghost use Rattle.host_port.specs.Act.{Write, Out, Err as Complain, file_content, has_file, with_file, written, next_count};
+ghost use Rattle.host_port.specs.Act.{Write, Out, Err as Complain, file_content, has_file, with_file, files_with, next_count};
 ghost use Rattle.host_port.specs.Outside.{Rose};
 ghost use Rattle.host_port.specs.Host.{Came, Opens, Moves, Creates, Takes, Closes, Reads, Writes, Complains};
 ghost use Rattle.host_port.specs.Memory.{empty_memory, first_failure, outside_of, is_consistent, IsFirstOf, IsMarked, Called, Tallies};
@@ -326,7 +326,7 @@ impl MemHost {
 
     fn append(&mut self, piece: &[u8]) -> Result<(), AllocError>
         ensures done { OnOk result (self.new ≡ record self.old {
-          files = written piece.now self.old.writing self.old.files;
+          files = files_with piece.now self.old.writing self.old.files;
         }) }
         ensures unchanged { OnErr result (self.new ≡ self.old) }
     {

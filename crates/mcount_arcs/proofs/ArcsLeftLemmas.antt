@@ -7,7 +7,7 @@ use Rattle.mcount_arcs.specs.Arcs.{chain_in}
 use Rattle.mcount_arcs.specs.Image.{index_at, entries_in}
 use Rattle.mcount_arcs.specs.declared.sizes.Sizes.{Sizes}
 use Rattle.mcount_arcs.specs.Sizes.{AreSizes, site_of}
-use Rattle.mcount_arcs.specs.Held.{linked, arc_read, slot_read, arcs_read}
+use Rattle.mcount_arcs.specs.Held.{linked_entries, arc_read, slot_read, arcs_read}
 use Rattle.mcount_arcs.specs.ArcsLeft.{AreZero, arcs_left, arcs_from, IsAmong}
 use Rattle.mcount_arcs.specs.declared.arcs.Arcs.TheInside.{Inside}
 use Rattle.mcount_arcs.specs.Value.{StandsFor, GmonValue}
@@ -45,7 +45,7 @@ left-start v next some is =
     let n : ℕ = z.slots - 1 in
     let same : z.slots ≡ suc n = omega arith in
     let also : z.slots - (0 + 1) ≡ n = omega arith in
-    ap (λ (i : ℕ). map (arc_read (site_of z 0)) (linked (length v.tos) v.tos i) ++ flat_map (slot_read z v.tos v.froms) (range_with_len (0 + 1) (z.slots - (0 + 1)))) is
+    ap (λ (i : ℕ). map (arc_read (site_of z 0)) (linked_entries (length v.tos) v.tos i) ++ flat_map (slot_read z v.tos v.froms) (range_with_len (0 + 1) (z.slots - (0 + 1)))) is
     ∙ ap (λ (k : ℕ). slot_read z v.tos v.froms 0 ++ flat_map (slot_read z v.tos v.froms) (range_with_len (0 + 1) k)) also
     ∙ ap (λ (k : ℕ). flat_map (slot_read z v.tos v.froms) (range_with_len 0 k)) (sym same)
 
@@ -74,20 +74,20 @@ left-empty v slot to next within none after before zeros =
     let all : z.slots - (slot + 1) ≡ m + n = omega arith in
     let end : slot + 1 + m ≡ to = omega arith in
     let P : ℕ → Type 0 = λ k. AreZero v.froms (slot + 1) k in
-    ap (λ (i : ℕ). map (arc_read (site_of z slot)) (linked (length v.tos) v.tos i) ++ flat_map (slot_read z v.tos v.froms) (range_with_len (slot + 1) (z.slots - (slot + 1)))) none
+    ap (λ (i : ℕ). map (arc_read (site_of z slot)) (linked_entries (length v.tos) v.tos i) ++ flat_map (slot_read z v.tos v.froms) (range_with_len (slot + 1) (z.slots - (slot + 1)))) none
     ∙ ap (λ (es : List Tos). map (arc_read (site_of z slot)) es ++ flat_map (slot_read z v.tos v.froms) (range_with_len (slot + 1) (z.slots - (slot + 1)))) (linked_zero (length v.tos) v.tos)
     ∙ ap (λ (k : ℕ). flat_map (slot_read z v.tos v.froms) (range_with_len (slot + 1) k)) all
     ∙ skip_empty z v.tos v.froms (slot + 1) n m (subst P (sym end) zeros)
     ∙ ap (λ (k : ℕ). flat_map (slot_read z v.tos v.froms) (range_with_len k n)) end
 
 linked_on : (b : Inside) (e : Tos) → (among : IsAmong b) → (b.next ≡ 0 → ⊥) → slice_get b.gmon.now.tos b.next ≡ Some e
-    → (linked (length b.gmon.now.tos) b.gmon.now.tos b.next ≡ e ∷ linked (length b.gmon.now.tos) b.gmon.now.tos e.link) × (e.link ≡ index_at (kept_calls b.gmon.now.sizes among.log) b.slot (slice_get (chain_in (kept_calls b.gmon.now.sizes among.log) b.slot) (suc among.given)))
+    → (linked_entries (length b.gmon.now.tos) b.gmon.now.tos b.next ≡ e ∷ linked_entries (length b.gmon.now.tos) b.gmon.now.tos e.link) × (e.link ≡ index_at (kept_calls b.gmon.now.sizes among.log) b.slot (slice_get (chain_in (kept_calls b.gmon.now.sizes among.log) b.slot) (suc among.given)))
 linked_on b e among some read =
     let v = b.gmon.now in
     let z = v.sizes in
     let ps = kept_calls z among.log in
     let is = tos_is v among.log among.stands in
-    let P : List Tos → Type 0 = λ es. slice_get es b.next ≡ Some e → (linked (length es) es b.next ≡ e ∷ linked (length es) es e.link) × (e.link ≡ index_at ps b.slot (slice_get (chain_in ps b.slot) (suc among.given))) in
+    let P : List Tos → Type 0 = λ es. slice_get es b.next ≡ Some e → (linked_entries (length es) es b.next ≡ e ∷ linked_entries (length es) es e.link) × (e.link ≡ index_at ps b.slot (slice_get (chain_in ps b.slot) (suc among.given))) in
     subst P (sym is) (linked_more z.tolimit (entered_calls z among.log) ps b.slot among.given b.next e (places z among.log among.sizes) among.next some) read
 
 read_b : (a b : Inside) (e : Tos) → IsReady a b → slice_get a.gmon.now.tos b.next ≡ Some e → slice_get b.gmon.now.tos b.next ≡ Some e
@@ -103,7 +103,7 @@ given a b e site ready read_a site_is_a =
     let rest = flat_map (slot_read z v.tos v.froms) (range_with_len (b.slot + 1) (z.slots - (b.slot + 1))) in
     ready.left
     ∙ ap (λ (es : List Tos). map (arc_read (site_of z b.slot)) es ++ rest) (linked_on b e ready.among ready.some read).0
-    ∙ ap (λ (s : ℕ). record { from = s; to = e.selfpc; count = e.count } ∷ (map (arc_read (site_of z b.slot)) (linked (length v.tos) v.tos e.link) ++ rest)) (sym site_is)
+    ∙ ap (λ (s : ℕ). record { from = s; to = e.selfpc; count = e.count } ∷ (map (arc_read (site_of z b.slot)) (linked_entries (length v.tos) v.tos e.link) ++ rest)) (sym site_is)
 
 pub ready-next : (a b : Inside) (slot first : ℕ) → b ≡ record a { slot = slot; next = first } → IsAmong a → a.next ≡ 0
     → a.slot + 1 ≤ slot → slot < a.gmon.now.sizes.slots → slice_index a.gmon.now.froms slot ≡ first → 0 < first → AreZero a.gmon.now.froms (a.slot + 1) slot → IsReady a b
@@ -126,7 +126,7 @@ ready-next a b slot first same among none after within is some zeros =
       some = λ zero_next. omega arith;
       left = left-empty v a.slot slot a.next among.slot none after (omega arith) zeros
           ∙ ap (λ (k : ℕ). flat_map (slot_read z v.tos v.froms) (range_with_len slot k)) rest
-          ∙ ap (λ (i : ℕ). map (arc_read (site_of z slot)) (linked (length v.tos) v.tos i) ++ flat_map (slot_read z v.tos v.froms) (range_with_len (slot + 1) n)) is;
+          ∙ ap (λ (i : ℕ). map (arc_read (site_of z slot)) (linked_entries (length v.tos) v.tos i) ++ flat_map (slot_read z v.tos v.froms) (range_with_len (slot + 1) n)) is;
     })
 
 -- none is left
@@ -168,17 +168,17 @@ read_fits tos i all = elim (cases_lt i (length tos)) [
   | inr past ↦ subst EntryFits (sym (get_or_past tos i no_entry past)) (record { selfpc = omega arith; count = omega arith; link = omega arith })
 ]
 
-linked_fit : (n : ℕ) (tos : List Tos) (i : ℕ) → All EntryFits tos → All EntryFits (linked n tos i)
+linked_fit : (n : ℕ) (tos : List Tos) (i : ℕ) → All EntryFits tos → All EntryFits (linked_entries n tos i)
 linked_fit zero tos i all = All-nil EntryFits
 linked_fit (suc n) tos zero all = All-nil EntryFits
 linked_fit (suc n) tos (suc i) all =
     let e = slice_index_or tos (suc i) no_entry in
-    All-cons EntryFits e (linked n tos e.link) (read_fits tos (suc i) all) (linked_fit n tos e.link all)
+    All-cons EntryFits e (linked_entries n tos e.link) (read_fits tos (suc i) all) (linked_fit n tos e.link all)
 
 slots_fit : (z : Sizes) (tos : List Tos) (froms : List ℕ) (a n : ℕ) → All EntryFits tos → All CallFits (flat_map (slot_read z tos froms) (range_with_len a n))
 slots_fit z tos froms a zero all = All-nil CallFits
 slots_fit z tos froms a (suc n) all =
-    let es = linked (length tos) tos (slice_index froms a) in
+    let es = linked_entries (length tos) tos (slice_index froms a) in
     let fit = linked_fit (length tos) tos (slice_index froms a) all in
     All-append CallFits (slot_read z tos froms a) (flat_map (slot_read z tos froms) (range_with_len (a + 1) n))
     (All-map CallFits (arc_read (site_of z a)) es (λ k d lt. let e = fit k d lt in record { to = e.selfpc; count = e.count }))

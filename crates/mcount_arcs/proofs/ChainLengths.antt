@@ -3,7 +3,7 @@ use Rattle.std.proofs.Common.{◌≡◌, ℕ, zero, suc, ◌<◌, ◌≤◌, tru
 use Rattle.std.proofs.lemmas.Bool.{cases_Bool, false≢true, or_cases, eqb-true, ne_eqb, cases_eq}
 use Rattle.std.proofs.lemmas.Grind.{reverse_onto}
 use Rattle.mcount_arcs.specs.Log.{Pair, same_pair, distinct_count}
-use Rattle.mcount_arcs.specs.Arcs.{chain_in, arcs_in, slot_arcs, arc_in}
+use Rattle.mcount_arcs.specs.Arcs.{chain_in, arcs_in, slot_arcs, arc_of_pairs}
 use Rattle.std.proofs.lemmas.List.{length-map, reverse-reverse}
 use Rattle.std.specs.List.{flat_map, range_with_len, sum_by}
 use Rattle.mcount_arcs.specs.declared.sizes.Sizes.{Sizes}
@@ -116,7 +116,7 @@ chains_few slots ps = by_pushes (λ qs. all_chains slots qs ≤ distinct_count q
 length_arcs : (z : Sizes) (ps : List Pair) (a n : ℕ) → length (flat_map (slot_arcs z ps) (range_with_len a n)) ≡ sum_by (λ k. length (chain_in ps k)) (range_with_len a n)
 length_arcs z ps a zero = refl
 length_arcs z ps a (suc n) =
-    omega (arith, sum_by-cons (λ k. length (chain_in ps k)) a (range_with_len (a + 1) n), length-append (slot_arcs z ps a) (flat_map (slot_arcs z ps) (range_with_len (a + 1) n)), length-map (chain_in ps a) (arc_in z ps a), length_arcs z ps (a + 1) n)
+    omega (arith, sum_by-cons (λ k. length (chain_in ps k)) a (range_with_len (a + 1) n), length-append (slot_arcs z ps a) (flat_map (slot_arcs z ps) (range_with_len (a + 1) n)), length-map (chain_in ps a) (arc_of_pairs z ps a), length_arcs z ps (a + 1) n)
 
 pub arcs_few : (z : Sizes) (ps : List Pair) → length (arcs_in z ps) ≤ distinct_count ps
 unfolding all_chains

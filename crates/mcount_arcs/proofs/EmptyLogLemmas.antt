@@ -13,7 +13,7 @@ use Rattle.mcount_arcs.specs.declared.state.State.TheVariants.{On, Busy, Error}
 use Rattle.mcount_arcs.specs.Arcs.{arcs_of, slot_arcs}
 use Rattle.std.proofs.lemmas.List.{length-replicate, get_or-replicate}
 use Rattle.mcount_arcs.specs.Sizes.{AreSizes, IsWidth, site_of}
-use Rattle.mcount_arcs.specs.Held.{linked, arc_read, slot_read, arcs_read, view_of, IsHeld}
+use Rattle.mcount_arcs.specs.Held.{linked_entries, arc_read, slot_read, arcs_read, view_of, IsHeld}
 use Rattle.mcount_arcs.specs.declared.gmon.Cursor.{Cursor}
 use Rattle.mcount_arcs.specs.Value.{StandsFor}
 use Rattle.mcount_arcs.proofs.LinkLemmas.{linked_zero}
@@ -70,7 +70,7 @@ slice_index-zeros (suc n) (suc i) = slice_index-zeros n i
 pub arcs_read-none : (z : Sizes) (tos : List Tos) (froms : List ℕ) (n : ℕ) → froms ≡ replicate n 0 → arcs_read z tos froms ≡ []
 arcs_read-none z tos froms n none =
     ap (arcs_read z tos) none
-    ∙ flat_map-none (slot_read z tos (replicate n 0)) (λ slot. ap (λ (i : ℕ). map (arc_read (site_of z slot)) (linked (length tos) tos i)) (slice_index-zeros n slot) ∙ ap (map (arc_read (site_of z slot))) (linked_zero (length tos) tos)) (range_with_len 0 z.slots)
+    ∙ flat_map-none (slot_read z tos (replicate n 0)) (λ slot. ap (λ (i : ℕ). map (arc_read (site_of z slot)) (linked_entries (length tos) tos i)) (slice_index-zeros n slot) ∙ ap (map (arc_read (site_of z slot))) (linked_zero (length tos) tos)) (range_with_len 0 z.slots)
 
 -- a new one has no log
 pub StandsFor-nil : (z : Sizes) (block : Parts) → AreSizes z → block.tos ≡ replicate z.tolimit no_entry → block.counters ≡ replicate z.counters 0 → block.froms ≡ replicate z.slots 0

@@ -8,7 +8,7 @@ use Rattle.mcount_arcs.specs.Arcs.{chain_in, arcs_in, slot_arcs}
 use Rattle.mcount_arcs.specs.Image.{index_in, index_at, entry_in, entries_in, fronts_in}
 use Rattle.gmon_block.specs.Layout.{no_entry}
 use Rattle.mcount_arcs.specs.declared.sizes.Sizes.{Sizes}
-use Rattle.mcount_arcs.specs.Held.{linked, arc_read, slot_read, arcs_read}
+use Rattle.mcount_arcs.specs.Held.{linked_entries, arc_read, slot_read, arcs_read}
 use Rattle.mcount_arcs.specs.Sizes.{site_of}
 use Rattle.std.proofs.lemmas.List.{drop_all, drop_more}
 use Rattle.mcount_arcs.specs.ArcsLeft.{AreZero}
@@ -21,33 +21,33 @@ use Rattle.mcount_arcs.proofs.IndexLemmas.{at_place}
 abbrev spelled : List Pair → ℕ → List ℕ → List Tos
 spelled ps slot xs = map (λ x. entry_in ps (pair slot x)) xs
 
-pub linked_zero : (n : ℕ) (tos : List Tos) → linked n tos 0 ≡ []
+pub linked_zero : (n : ℕ) (tos : List Tos) → linked_entries n tos 0 ≡ []
 linked_zero zero tos = refl
 linked_zero (suc n) tos = refl
 
-linked_some : (n : ℕ) (tos : List Tos) (i : ℕ) (e : Tos) → 0 < i → slice_get tos i ≡ Some e → linked (suc n) tos i ≡ e ∷ linked n tos e.link
+linked_some : (n : ℕ) (tos : List Tos) (i : ℕ) (e : Tos) → 0 < i → slice_get tos i ≡ Some e → linked_entries (suc n) tos i ≡ e ∷ linked_entries n tos e.link
 linked_some n tos zero e some at = absurd (omega arith)
 linked_some n tos (suc i) e some at =
-    ap (λ (t : Tos). t ∷ linked n tos t.link) (get_or_from_slice_get tos (suc i) e no_entry at)
+    ap (λ (t : Tos). t ∷ linked_entries n tos t.link) (get_or_from_slice_get tos (suc i) e no_entry at)
 
 -- the links spell the chain
-pub links_spell : (limit : ℕ) (all ps : List Pair) (slot n i : ℕ) → length (chain_in ps slot) ≤ n + i → linked n (entries_in limit all ps) (index_at ps slot (slice_get (chain_in ps slot) i)) ≡ spelled ps slot (drop i (chain_in ps slot))
+pub links_spell : (limit : ℕ) (all ps : List Pair) (slot n i : ℕ) → length (chain_in ps slot) ≤ n + i → linked_entries n (entries_in limit all ps) (index_at ps slot (slice_get (chain_in ps slot) i)) ≡ spelled ps slot (drop i (chain_in ps slot))
 links_spell limit all ps slot zero i long =
     ap (spelled ps slot) (sym (drop_all i (chain_in ps slot) (omega arith)))
 links_spell limit all ps slot (suc n) i long =
     let c = chain_in ps slot in
     let tos = entries_in limit all ps in
     elim (at_place ps slot i) [
-      | inl past ↦ ap (linked (suc n) tos) past.1 ∙ linked_zero (suc n) tos ∙ ap (spelled ps slot) (sym (drop_all i c past.0))
+      | inl past ↦ ap (linked_entries (suc n) tos) past.1 ∙ linked_zero (suc n) tos ∙ ap (spelled ps slot) (sym (drop_all i c past.0))
       | inr here ↦
           let x = here.0 in
           let e = entry_in ps (pair slot x) in
           let lt = slice_get_within c i x here.1 in
           let next : i + 1 ≡ suc i = omega arith in
           let rest : drop i c ≡ x ∷ drop (suc i) c = drop_more c i 0 lt ∙ ap (λ (y : ℕ). y ∷ drop (i + 1) c) (get_or_from_slice_get c i x 0 here.1) ∙ ap (λ (k : ℕ). x ∷ drop k c) next in
-          ap (linked (suc n) tos) here.2
+          ap (linked_entries (suc n) tos) here.2
           ∙ linked_some n tos (index_in ps (pair slot x)) e here.3 (read-entry limit all ps (pair slot x) (in_chain ps slot i x here.1))
-          ∙ ap (λ (l : ℕ). e ∷ linked n tos l) (ap (λ (t : Tos). t.link) (entry-at ps slot i x here.1))
+          ∙ ap (λ (l : ℕ). e ∷ linked_entries n tos l) (ap (λ (t : Tos). t.link) (entry-at ps slot i x here.1))
           ∙ ap (λ (es : List Tos). e ∷ es) (links_spell limit all ps slot n (suc i) (omega arith))
           ∙ ap (spelled ps slot) (sym rest)
     ]
@@ -69,7 +69,7 @@ slot_reads z all ps slot places within =
     let long : length es ≡ z.tolimit = length-entries_in z.tolimit all ps places in
     let start : slice_index (fronts_in z.slots ps) slot ≡ index_at ps slot (slice_get c 0) = read-front z.slots ps slot within ∙ ap (index_at ps slot) (first_at_zero c) in
     let short = chain_short ps slot in
-    ap (λ (i : ℕ). map (arc_read (site_of z slot)) (linked (length es) es i)) start
+    ap (λ (i : ℕ). map (arc_read (site_of z slot)) (linked_entries (length es) es i)) start
     ∙ ap (map (arc_read (site_of z slot))) (links_spell z.tolimit all ps slot (length es) 0 (omega arith))
     ∙ map_map (arc_read (site_of z slot)) (λ x. entry_in ps (pair slot x)) c
 
@@ -81,7 +81,7 @@ arcs_reads z all ps places =
 -- behind an entry of a chain stands the rest of the chain
 pub linked_more : (limit : ℕ) (all ps : List Pair) (slot i next : ℕ) (e : Tos) → distinct_count ps < limit
     → next ≡ index_at ps slot (slice_get (chain_in ps slot) i) → (next ≡ 0 → ⊥) → slice_get (entries_in limit all ps) next ≡ Some e
-    → (linked (length (entries_in limit all ps)) (entries_in limit all ps) next ≡ e ∷ linked (length (entries_in limit all ps)) (entries_in limit all ps) e.link) × (e.link ≡ index_at ps slot (slice_get (chain_in ps slot) (suc i)))
+    → (linked_entries (length (entries_in limit all ps)) (entries_in limit all ps) next ≡ e ∷ linked_entries (length (entries_in limit all ps)) (entries_in limit all ps) e.link) × (e.link ≡ index_at ps slot (slice_get (chain_in ps slot) (suc i)))
 linked_more limit all ps slot i next e places is some read =
     let es = entries_in limit all ps in
     let c = chain_in ps slot in
@@ -97,8 +97,8 @@ linked_more limit all ps slot i next e places is some read =
           let lt = slice_get_within c i x here.1 in
           let next_i : i + 1 ≡ suc i = omega arith in
           let rest : drop i c ≡ x ∷ drop (suc i) c = drop_more c i 0 lt ∙ ap (λ (y : ℕ). y ∷ drop (i + 1) c) (get_or_from_slice_get c i x 0 here.1) ∙ ap (λ (k : ℕ). x ∷ drop k c) next_i in (
-            ap (linked n es) is ∙ links_spell limit all ps slot n i (omega arith) ∙ ap (spelled ps slot) rest ∙ ap (λ (t : Tos). t ∷ spelled ps slot (drop (suc i) c)) (sym entry)
-                ∙ ap (λ (ts : List Tos). e ∷ ts) (sym (ap (linked n es) link ∙ links_spell limit all ps slot n (suc i) (omega arith))),
+            ap (linked_entries n es) is ∙ links_spell limit all ps slot n i (omega arith) ∙ ap (spelled ps slot) rest ∙ ap (λ (t : Tos). t ∷ spelled ps slot (drop (suc i) c)) (sym entry)
+                ∙ ap (λ (ts : List Tos). e ∷ ts) (sym (ap (linked_entries n es) link ∙ links_spell limit all ps slot n (suc i) (omega arith))),
             link,
           )
     ]
@@ -114,7 +114,7 @@ skip_empty z es fs a n (suc m) none =
     let same : suc m + n ≡ suc (m + n) = omega arith in
     let also : a + 1 + m ≡ a + suc m = omega arith in
     ap (λ (k : ℕ). flat_map (slot_read z es fs) (range_with_len a k)) same
-    ∙ ap (λ (i : ℕ). map (arc_read (site_of z a)) (linked (length es) es i) ++ flat_map (slot_read z es fs) (range_with_len (a + 1) (m + n))) first
+    ∙ ap (λ (i : ℕ). map (arc_read (site_of z a)) (linked_entries (length es) es i) ++ flat_map (slot_read z es fs) (range_with_len (a + 1) (m + n))) first
     ∙ ap (λ (ts : List Tos). map (arc_read (site_of z a)) ts ++ flat_map (slot_read z es fs) (range_with_len (a + 1) (m + n))) (linked_zero (length es) es)
     ∙ skip_empty z es fs (a + 1) n m (λ k from to. none k (omega arith) (omega arith))
     ∙ ap (λ (k : ℕ). flat_map (slot_read z es fs) (range_with_len k n)) also

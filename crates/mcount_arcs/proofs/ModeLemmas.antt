@@ -10,7 +10,7 @@ use Rattle.mcount_arcs.specs.declared.gmon.Cursor.{Cursor}
 use Rattle.mcount_arcs.specs.declared.gmon.Gmon.TheInside.{Inside}
 use Rattle.mcount_arcs.specs.declared.walk.Walk.{Walk}
 use Rattle.mcount_arcs.specs.Held.{flight, view_of, IsHeld}
-use Rattle.mcount_arcs.specs.Value.{idle_state, StandsFor, GmonValue, switched_state, switched}
+use Rattle.mcount_arcs.specs.Value.{idle_state, StandsFor, GmonValue, switched_state, with_switch}
 use Rattle.mcount_arcs.proofs.LogLemmas.{state_by, more, one_more, last_of-push, IsQuiet, is_busy-quiet, entered_calls-quiet, buckets_of-same, state_of-by}
 use Rattle.mcount_arcs.proofs.WalkLemmas.{no_flight, not_busy}
 use Rattle.mcount_arcs.proofs.QuietEntryLemmas.{StandsFor-quiet}
@@ -36,7 +36,7 @@ state_of-mode z log on =
     ∙ ap (λ (ps : List Pair). state_by z.tolimit (is_busy log) ps (is_on (more log (Mode on)))) (entered_calls-quiet z log (Mode on) (quiet z on))
     ∙ ap (state_by z.tolimit (is_busy log) (entered_calls z log)) (is_on-mode log on))
 
-pub StandsFor-switched : (log : List LogEntry) (v : GmonValue) (on : Bool) → StandsFor log v → StandsFor (more log (Mode on)) (switched on v)
+pub StandsFor-switched : (log : List LogEntry) (v : GmonValue) (on : Bool) → StandsFor log v → StandsFor (more log (Mode on)) (with_switch on v)
 StandsFor-switched log v on stands =
     StandsFor-quiet log (Mode on) v v.counters (switched_state on v.state) on (quiet v.sizes on) tt stands
     (stands.counters ∙ sym (buckets_of-same v.sizes log (Mode on) (λ before. refl))) (ap (switched_state on) stands.state ∙ state_of-mode v.sizes log on) (sym (is_on-mode log on))
@@ -59,7 +59,7 @@ is_error on s e = ap (switched_state on) e
 abbrev pub switched_as : Bool → Inside → Inside
 switched_as on a = record a { sampling = on; state = switched_state on a.state }
 
-pub switched-value : (on : Bool) (a : Inside) → view_of (switched_as on a) ≡ switched on (view_of a)
+pub switched-value : (on : Bool) (a : Inside) → view_of (switched_as on a) ≡ with_switch on (view_of a)
 switched-value on a = ap (λ (o : Option Walk). record (view_of (switched_as on a)) { walk = o }) (flight_stays on a.state a.cursor)
 
 pub held_switched : (on : Bool) (a : Inside) → IsHeld a → IsHeld (switched_as on a)

@@ -6,7 +6,7 @@ use Rattle.gp_base.specs.declared.records.Span.{Span}
 use Rattle.gp_base.specs.declared.limits.TheConstants.{MAX_TEXT_BYTES, MAX_TEXT_END}
 use Rattle.mcount_arcs.specs.declared.sizes.Sizes.{Sizes}
 use Rattle.mcount_arcs.specs.declared.sizes.Width.{Width}
-use Rattle.mcount_arcs.specs.Sizes.{AreSizes, IsFraction, IsText, IsWidth, rounded_down, rounded_up, site_of, sizes_of, unit_of, width_of}
+use Rattle.mcount_arcs.specs.Sizes.{AreSizes, IsFraction, IsText, IsWidth, rounded_down, rounded_up, site_of, sizes_of, cell_unit, width_of}
 
 -- what is so for each of the four numbers
 pub by_fraction : (P : ℕ → Type 0) (n : ℕ) → IsFraction n → P 2 → P 4 → P 8 → P 16 → P n
@@ -80,10 +80,10 @@ record AreParts (w low high n : ℕ) : Type 0 where
   pub some : 1 ≤ n
   pub few : n ≤ 4194312
 
-parts_of : (f h low high : ℕ) → IsFraction f → max f h ≡ max f h / f * f → low < high → AreEnds (unit_of f h) low high
-    → AreParts (width_of f) (rounded_down (unit_of f h) low) (rounded_up (unit_of f h) high) ((rounded_up (unit_of f h) high - rounded_down (unit_of f h) low) / width_of f)
+parts_of : (f h low high : ℕ) → IsFraction f → max f h ≡ max f h / f * f → low < high → AreEnds (cell_unit f h) low high
+    → AreParts (width_of f) (rounded_down (cell_unit f h) low) (rounded_up (cell_unit f h) high) ((rounded_up (cell_unit f h) high - rounded_down (cell_unit f h) low) / width_of f)
 parts_of f h low high is whole some ends =
-    let unit = unit_of f h in
+    let unit = cell_unit f h in
     let w = width_of f in
     let bounds = fraction_bounds f is in
     let wide : 4 ≤ w = omega arith in

@@ -10,7 +10,7 @@ use Rattle.mcount_arcs.specs.Samples.{buckets_of}
 use Rattle.std.proofs.lemmas.Option.{get_or_from_slice_get}
 use Rattle.mcount_arcs.specs.declared.gmon.Gmon.TheInside.{Inside}
 use Rattle.mcount_arcs.specs.Held.{view_of, IsHeld, IsAt}
-use Rattle.mcount_arcs.specs.Value.{StandsFor, GmonValue, with_sample, ticked}
+use Rattle.mcount_arcs.specs.Value.{StandsFor, GmonValue, with_sample, with_tick}
 use Rattle.mcount_arcs.proofs.LogLemmas.{more, counts, sample-quiet, state_of-quiet, is_on-same}
 use Rattle.mcount_arcs.proofs.BucketLemmas.{buckets_of-uncounted, buckets_of-counted_samples}
 use Rattle.mcount_arcs.proofs.QuietEntryLemmas.{StandsFor-quiet}
@@ -36,7 +36,7 @@ by_test log v pc false are stands test =
     StandsFor-sample log v pc v.counters stands (stands.counters ∙ sym (buckets_of-uncounted v.sizes log pc none))
 
 -- a tick adds its sample
-pub StandsFor-ticked : (log : List LogEntry) (v : GmonValue) (pc : ℕ) → AreSizes v.sizes → StandsFor log v → StandsFor (more log (Sample pc)) (ticked pc v)
+pub StandsFor-ticked : (log : List LogEntry) (v : GmonValue) (pc : ℕ) → AreSizes v.sizes → StandsFor log v → StandsFor (more log (Sample pc)) (with_tick pc v)
 StandsFor-ticked log v pc are stands =
     by_test log v pc (v.sampling && is_in (text_span v.sizes) pc) are stands refl
 
@@ -68,7 +68,7 @@ tested a v pc b same is yes_it = ap (λ (u : GmonValue). u.sampling && is_in (te
 pub wrote : (a : Inside) (pc k n m : ℕ) (block : Parts) → k ≡ counter_of a.sizes pc → (a.sampling && is_in (text_span a.sizes) pc) ≡ true
     → slice_get a.block.counters k ≡ Some n → m ≡ min (n + 1) 65535
     → block ≡ record a.block { counters = slice_set a.block.counters k m }
-    → view_of (record a { block = block }) ≡ ticked pc (view_of a)
+    → view_of (record a { block = block }) ≡ with_tick pc (view_of a)
 wrote a pc k n m block is test read more_one set =
     let was : slice_index a.block.counters k ≡ n = get_or_from_slice_get a.block.counters k n 0 read in
     let value : m ≡ min 65535 (slice_index a.block.counters k + 1) = omega arith in
@@ -78,7 +78,7 @@ wrote a pc k n m block is test read more_one set =
     ∙ sym (ap (λ (b : Bool). if b then with_sample (counter_of a.sizes pc) (view_of a) else view_of a) test)
 
 -- a tick leaves all but the counters
-pub ticked_others : (pc : ℕ) (v : GmonValue) → ticked pc v ≡ record v { counters = (ticked pc v).counters }
+pub ticked_others : (pc : ℕ) (v : GmonValue) → with_tick pc v ≡ record v { counters = (with_tick pc v).counters }
 ticked_others pc v = by_test (v.sampling && is_in (text_span v.sizes) pc)
   where
     by_test : (b : Bool) → (let w = if b then with_sample (counter_of v.sizes pc) v else v in w ≡ record v { counters = w.counters })

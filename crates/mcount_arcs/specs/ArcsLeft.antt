@@ -4,7 +4,7 @@ use Rattle.std.specs.List.{range_with_len}
 use Rattle.gp_base.specs.declared.records.RawArc.{RawArc}
 use Rattle.mcount_arcs.specs.declared.arcs.Arcs.TheInside.{Inside}
 use Rattle.mcount_arcs.specs.Arcs.{chain_in}
-use Rattle.mcount_arcs.specs.Held.{linked, arc_read, slot_read}
+use Rattle.mcount_arcs.specs.Held.{linked_entries, arc_read, slot_read}
 use Rattle.mcount_arcs.specs.Image.{index_at}
 use Rattle.mcount_arcs.specs.Log.{LogEntry, kept_calls}
 use Rattle.mcount_arcs.specs.Sizes.{AreSizes, site_of}
@@ -13,7 +13,7 @@ use Rattle.mcount_arcs.specs.Value.{GmonValue, StandsFor}
 -- those from an entry on, and those of the slots behind
 abbrev pub arcs_from : GmonValue → ℕ → ℕ → List RawArc
 arcs_from v slot next =
-    map (arc_read (site_of v.sizes slot)) (linked (length v.tos) v.tos next)
+    map (arc_read (site_of v.sizes slot)) (linked_entries (length v.tos) v.tos next)
     ++ flat_map (slot_read v.sizes v.tos v.froms) (range_with_len (slot + 1) (v.sizes.slots - (slot + 1)))
 
 abbrev pub arcs_left : Inside → List RawArc

@@ -12,7 +12,7 @@ use Rattle.host_port.specs.Outside.{Did, KeepsCounts, Outside, Rose}
 use Rattle.rv_step.specs.Memory.{IsInside, Memory, is_inside, read_at}
 use Rattle.prof_machine.proofs.PrintLemmas.{prints_planned}
 use Rattle.prof_machine.specs.Ecalls.{is_output, side_of, write_acts}
-use Rattle.prof_machine.specs.Plan.{driven, most_turns, planned}
+use Rattle.prof_machine.specs.Plan.{after_drive, most_turns, world_at}
 use Rattle.prof_machine.specs.Prints.{ArePrinted, BreaksOff, IsCutShort}
 use Rattle.prof_machine.specs.World.{World}
 use Rattle.prof_machine.specs.declared.machine.Machine.{Machine}
@@ -99,8 +99,8 @@ breaks_after u v w x y z p keeps off = record {
 }
 
 -- of all that the turns of the plan print, what was printed is the front, and the piece that was cut comes next
-pub breaks_front : (m : Machine) (w : World) (k n : ℕ) (x y : Outside) → k ≤ n → (off : BreaksOff w (planned m w k) x y)
-    → (more : List Act) × ((planned m w n).prints ≡ w.prints ++ (off.cut.before ++ act_of off.cut.side off.cut.piece ∷ more))
+pub breaks_front : (m : Machine) (w : World) (k n : ℕ) (x y : Outside) → k ≤ n → (off : BreaksOff w (world_at m w k) x y)
+    → (more : List Act) × ((world_at m w n).prints ≡ w.prints ++ (off.cut.before ++ act_of off.cut.side off.cut.piece ∷ more))
 breaks_front m w k n x y le off =
     let p = prints_planned m w k n le in
     let whole = act_of off.cut.side off.cut.piece in (
@@ -113,9 +113,9 @@ breaks_front m w k n x y le off =
 
 -- The same of a run that was driven: a print failed in turn n of the plan, and this is what the whole run would
 -- have printed.
-pub driven_front : (m : Machine) (w : World) (n : ℕ) (x y : Outside) → n < most_turns m.setup → (off : BreaksOff w (planned m w (n + 1)) x y)
-    → (more : List Act) × ((driven m w).prints ≡ w.prints ++ (off.cut.before ++ act_of off.cut.side off.cut.piece ∷ more))
-unfolding driven
+pub driven_front : (m : Machine) (w : World) (n : ℕ) (x y : Outside) → n < most_turns m.setup → (off : BreaksOff w (world_at m w (n + 1)) x y)
+    → (more : List Act) × ((after_drive m w).prints ≡ w.prints ++ (off.cut.before ++ act_of off.cut.side off.cut.piece ∷ more))
+unfolding after_drive
 driven_front m w n x y few off = breaks_front m w (n + 1) (most_turns m.setup) x y (omega (arith, few)) off
 
 -- ---- what a write prints

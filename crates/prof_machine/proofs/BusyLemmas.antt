@@ -24,10 +24,10 @@ use Rattle.prof_machine.proofs.HookLemmas.{walk_is}
 use Rattle.prof_machine.proofs.RunLemmas.{given_setup}
 use Rattle.prof_machine.proofs.WalkLemmas.{all_zero, none_at, none_here, on_idle, zero_again, zeros_set}
 use Rattle.prof_machine.proofs.WorldLemmas.{by_executed, by_going, by_returned}
-use Rattle.prof_machine.specs.Plan.{driven, most_turns, plan_of, state_after, taker_of}
+use Rattle.prof_machine.specs.Plan.{after_drive, most_turns, plan_of, state_after, taker_of}
 use Rattle.prof_machine.specs.Start.{final_world, machine_of, start_of}
-use Rattle.prof_machine.specs.Turn.{after_entering, arrived, closed, executed, instructed, is_at, returned, sampled, spent, taken, turn_of, while_going, with_entry, world_after}
-use Rattle.prof_machine.specs.World.{World, hart_of, left_of}
+use Rattle.prof_machine.specs.Turn.{after_entering, after_arrival, after_close, after_execution, after_ordinary_turn, is_at, after_return, after_sample, after_budget, after_look, turn_of, while_going, with_entry, world_after}
+use Rattle.prof_machine.specs.World.{World, hart_of, looks_of_hart}
 use Rattle.prof_machine.specs.declared.ending.End.{End}
 use Rattle.prof_machine.specs.declared.ending.End.TheVariants.{Budget}
 use Rattle.prof_machine.specs.declared.machine.Machine.{Machine}
@@ -60,16 +60,16 @@ busy-done log = ap (last_of false) (one_more walk_in log WalkDone false refl) �
 
 -- ---- stage by stage
 
-told_returned : (n h : ℕ) (w : World) → IsTold n w.log w.left → IsTold n (returned h w).log (returned h w).left
+told_returned : (n h : ℕ) (w : World) → IsTold n w.log w.left → IsTold n (after_return h w).log (after_return h w).left
 told_returned n h w told =
     let r = by_returned h w in
-    let L : List LogEntry → Type 0 = λ x. IsTold n x (returned h w).left in
+    let L : List LogEntry → Type 0 = λ x. IsTold n x (after_return h w).left in
     let K : List ℕ → Type 0 = λ x. IsTold n w.log x in
     subst L (sym r.2) (subst K (sym r.3) told)
 
-told_executed : (n : ℕ) (m : Machine) (h : ℕ) (w : World) → IsTold n w.log w.left → IsTold n (executed m h w).log (executed m h w).left
+told_executed : (n : ℕ) (m : Machine) (h : ℕ) (w : World) → IsTold n w.log w.left → IsTold n (after_execution m h w).log (after_execution m h w).left
 told_executed n m h w told =
-    let v = executed m h w in
+    let v = after_execution m h w in
     let L : List LogEntry → Type 0 = λ x. IsTold n x v.left in
     let K : List ℕ → Type 0 = λ x. IsTold n w.log x in
     elim (by_executed m h w) [
@@ -80,23 +80,23 @@ told_executed n m h w told =
       ]
     ]
 
-told_sampled : (n : ℕ) (m : Machine) (h : ℕ) (w : World) → IsTold n w.log w.left → IsTold n (sampled m h w).log (sampled m h w).left
-unfolding sampled
+told_sampled : (n : ℕ) (m : Machine) (h : ℕ) (w : World) → IsTold n w.log w.left → IsTold n (after_sample m h w).log (after_sample m h w).left
+unfolding after_sample
 told_sampled n m h w told = by_test (eqb (w.retired % m.setup.every) 0)
   where
     by_test : (b : Bool) → (let v = if b then with_entry (Sample (hart_of w.harts h).pc) w else w in IsTold n v.log v.left)
     by_test true = busy-quiet m.sizes w.log (Sample (hart_of w.harts h).pc) n w.left (record { walk = refl; pair = refl }) told
     by_test false = told
 
-told_spent : (n : ℕ) (m : Machine) (w : World) → IsTold n w.log w.left → IsTold n (spent m w).log (spent m w).left
-unfolding spent
+told_spent : (n : ℕ) (m : Machine) (w : World) → IsTold n w.log w.left → IsTold n (after_budget m w).log (after_budget m w).left
+unfolding after_budget
 told_spent n m w told = by_test (eqb w.retired m.setup.budget)
   where
     by_test : (b : Bool) → (let v = if b then record w { ending = Some Budget } else w in IsTold n v.log v.left)
     by_test true = told
     by_test false = told
 
-told_back : (n : ℕ) (m : Machine) (h : ℕ) (w : World) (e : LogEntry) → IsQuiet m.sizes e → IsTold n w.log w.left → (let v = returned h (with_entry e w) in IsTold n v.log v.left)
+told_back : (n : ℕ) (m : Machine) (h : ℕ) (w : World) (e : LogEntry) → IsQuiet m.sizes e → IsTold n w.log w.left → (let v = after_return h (with_entry e w) in IsTold n v.log v.left)
 told_back n m h w e quiet told = told_returned n h (with_entry e w) (busy-quiet m.sizes w.log e n w.left quiet told)
 
 some_looks : (z : Sizes) (log : List LogEntry) (slot to : ℕ) → (k : ℕ) × (looks_of z log slot to ≡ suc k)
@@ -121,8 +121,8 @@ told_entering n m h from to (Walking walk) w inside met told =
 told_entering n m h from to Lost w inside met told = told_back n m h w (CallLost from to) (record { walk = refl; pair = refl }) told
 told_entering n m h from to Ignored w inside met told = told_back n m h w (CallIgnored from to) (record { walk = refl; pair = refl }) told
 
-told_arrived : (n : ℕ) (m : Machine) (h : ℕ) (w : World) → h < n → IsTold n w.log w.left → IsTold n (arrived m h w).log (arrived m h w).left
-unfolding arrived
+told_arrived : (n : ℕ) (m : Machine) (h : ℕ) (w : World) → h < n → IsTold n w.log w.left → IsTold n (after_arrival m h w).log (after_arrival m h w).left
+unfolding after_arrival
 told_arrived n m h w inside told =
     let s = hart_of w.harts h in
     let from = register s 10 in
@@ -138,31 +138,31 @@ told_arrived n m h w inside told =
 told_stage : (n : ℕ) (f : World → World) (w : World) → IsTold n (f w).log (f w).left → IsTold n w.log w.left → IsTold n (while_going f w).log (while_going f w).left
 told_stage n f w after before = by_going f w (λ v. IsTold n v.log v.left) (λ on. after) (λ end off. before)
 
-told_instructed : (n : ℕ) (m : Machine) (h : ℕ) (w : World) → h < n → IsTold n w.log w.left → IsTold n (instructed m h w).log (instructed m h w).left
-unfolding instructed
+told_instructed : (n : ℕ) (m : Machine) (h : ℕ) (w : World) → h < n → IsTold n w.log w.left → IsTold n (after_ordinary_turn m h w).log (after_ordinary_turn m h w).left
+unfolding after_ordinary_turn
 told_instructed n m h w inside told =
-    let a = executed m h w in
-    let b = while_going (sampled m h) a in
-    let c = while_going (arrived m h) b in
+    let a = after_execution m h w in
+    let b = while_going (after_sample m h) a in
+    let c = while_going (after_arrival m h) b in
     let first : IsTold n a.log a.left = told_executed n m h w told in
-    let second : IsTold n b.log b.left = told_stage n (sampled m h) a (told_sampled n m h a first) first in
-    let third : IsTold n c.log c.left = told_stage n (arrived m h) b (told_arrived n m h b inside second) second in
-    told_stage n (spent m) c (told_spent n m c third) third
+    let second : IsTold n b.log b.left = told_stage n (after_sample m h) a (told_sampled n m h a first) first in
+    let third : IsTold n c.log c.left = told_stage n (after_arrival m h) b (told_arrived n m h b inside second) second in
+    told_stage n (after_budget m) c (told_spent n m c third) third
 
 -- a hart that has looks left is the one
-same_hart : (n h k x y : ℕ) (left : List ℕ) → h < n → left ≡ set (replicate n 0) h (suc k) → left_of left x ≡ suc y → x ≡ h
+same_hart : (n h k x y : ℕ) (left : List ℕ) → h < n → left ≡ set (replicate n 0) h (suc k) → looks_of_hart left x ≡ suc y → x ≡ h
 same_hart n h k x y left inside is some = by_test (eqb h x) refl
   where
     by_test : (b : Bool) → eqb h x ≡ b → x ≡ h
     by_test true same = sym (eqb-true h x same)
     by_test false other =
-        let none : left_of left x ≡ 0 = ap (λ (xs : List ℕ). left_of xs x) is ∙ none_here n x h (suc k) (λ e. let t : eqb h x ≡ true = grind (arith, nat_tests, e) in let f : true ≡ false = sym t ∙ other in cc) in
+        let none : looks_of_hart left x ≡ 0 = ap (λ (xs : List ℕ). looks_of_hart xs x) is ∙ none_here n x h (suc k) (λ e. let t : eqb h x ≡ true = grind (arith, nat_tests, e) in let f : true ≡ false = sym t ∙ other in cc) in
         absurd (omega (arith, none, some))
 
-none_left : (n h k : ℕ) (left : List ℕ) → left ≡ replicate n 0 → left_of left h ≡ suc k → ⊥
-none_left n h k left is some = let none : left_of left h ≡ 0 = ap (λ (xs : List ℕ). left_of xs h) is ∙ none_at n h in omega (arith, none, some)
+none_left : (n h k : ℕ) (left : List ℕ) → left ≡ replicate n 0 → looks_of_hart left h ≡ suc k → ⊥
+none_left n h k left is some = let none : looks_of_hart left h ≡ 0 = ap (λ (xs : List ℕ). looks_of_hart xs h) is ∙ none_at n h in omega (arith, none, some)
 
-told_taken : (n : ℕ) (m : Machine) (h k : ℕ) (w : World) → h < n → left_of w.left h ≡ k → IsTold n w.log w.left → IsTold n (taken m h k w).log (taken m h k w).left
+told_taken : (n : ℕ) (m : Machine) (h k : ℕ) (w : World) → h < n → looks_of_hart w.left h ≡ k → IsTold n w.log w.left → IsTold n (after_look m h k w).log (after_look m h k w).left
 told_taken n m h zero w inside is told = told_instructed n m h w inside told
 told_taken n m h (suc zero) w inside is (inl (idle, none)) = absurd (none_left n h 0 w.left none is)
 told_taken n m h (suc zero) w inside is (inr (busy, (x, y, below, left))) =
@@ -203,15 +203,15 @@ over_by n w (Some end) is (inr (busy, (h, k, inside, left))) =
     let zeros : map {A = ℕ} {B = ℕ} (λ x. 0) w.left ≡ replicate n 0 = ap (map {A = ℕ} {B = ℕ} (λ x. 0)) left ∙ zeros_set n h (suc k) in
     subst P (sym on) (inl (busy-done w.log, zeros), λ some. busy-done w.log)
 
-over_closed : (n : ℕ) (w : World) → IsTold n w.log w.left → IsOver n (closed w)
-unfolding closed
+over_closed : (n : ℕ) (w : World) → IsTold n w.log w.left → IsOver n (after_close w)
+unfolding after_close
 over_closed n w told = over_by n w w.ending refl told
 
 over_turn : (n : ℕ) (m : Machine) (w : World) (h : ℕ) → h < n → IsOver n w → IsOver n (turn_of m w h)
 unfolding turn_of
 over_turn n m w h inside over =
-    by_going (λ v. closed (taken m h (left_of v.left h) v)) w (λ v. IsOver n v)
-    (λ on. over_closed n (taken m h (left_of w.left h) w) (told_taken n m h (left_of w.left h) w inside refl over.0)) (λ end off. over)
+    by_going (λ v. after_close (after_look m h (looks_of_hart v.left h) v)) w (λ v. IsOver n v)
+    (λ on. over_closed n (after_look m h (looks_of_hart w.left h) w) (told_taken n m h (looks_of_hart w.left h) w inside refl over.0)) (λ end off. over)
 
 over_after : (n : ℕ) (m : Machine) (w : World) (turns : List ℕ) → All (λ h. h < n) turns → IsOver n w → IsOver n (world_after m w turns)
 over_after n m w [] below over = over
@@ -255,7 +255,7 @@ takers_below setup n some = λ k d inside.
     subst (λ (h : ℕ). h < setup.harts) (sym (get_or-map-range_with_len (taker_of setup.plan setup.harts) 0 n k k d short (omega arith))) (taker_below setup.plan setup.harts k some)
 
 pub no_plan_ends_busy : (image : Image) (bytes : List ℕ) (setup : Setup) → 1 ≤ setup.harts → (let w = final_world image bytes setup in IsSome w.ending → state_of (machine_of image setup).sizes w.log ≢ Busy)
-unfolding driven
+unfolding after_drive
 no_plan_ends_busy image bytes setup some =
     let m = machine_of image setup in
     let below : All (λ h. h < setup.harts) (plan_of m.setup (most_turns m.setup)) = subst (λ (s : Setup). All (λ h. h < setup.harts) (plan_of s (most_turns s))) (sym (given_setup image setup)) (takers_below setup (most_turns setup) some) in

@@ -8,9 +8,9 @@ use Rattle.std.proofs.lemmas.Bool.Decides.{nat_tests}
 use Rattle.std.proofs.lemmas.List.Sums.{sum_by_push}
 use Rattle.mcount_arcs.specs.Log.{Sample, WalkDone}
 use Rattle.prof_machine.proofs.WorldLemmas.{by_arrived, by_executed, by_going, by_returned, no_sample}
-use Rattle.prof_machine.specs.Turn.{arrived, closed, executed, instructed, returned, sampled, spent, taken, turn_of, while_going, with_entry, world_after}
+use Rattle.prof_machine.specs.Turn.{after_arrival, after_close, after_execution, after_ordinary_turn, after_return, after_sample, after_budget, after_look, turn_of, while_going, with_entry, world_after}
 use Rattle.prof_machine.specs.Value.{is_sample}
-use Rattle.prof_machine.specs.World.{World, hart_of, left_of}
+use Rattle.prof_machine.specs.World.{World, hart_of, looks_of_hart}
 use Rattle.prof_machine.specs.declared.ending.End.{End}
 use Rattle.prof_machine.specs.declared.ending.End.TheVariants.{Budget, Exit, Trap}
 use Rattle.prof_machine.specs.declared.machine.Machine.{Machine}
@@ -87,12 +87,12 @@ timed_as P m w end is within Q =
     let B : Option End → Type 0 = λ o. Within Q m w o in
     subst B (sym is) (subst A is within)
 
-timed_executed : (m : Machine) (h : ℕ) (w : World) → w.ending ≡ None → Timed m w None → Within Early m (executed m h w) (executed m h w).ending
+timed_executed : (m : Machine) (h : ℕ) (w : World) → w.ending ≡ None → Timed m w None → Within Early m (after_execution m h w) (after_execution m h w).ending
 timed_executed m h w going timed = elim (by_executed m h w) [
-  | inl p ↦ (let A : Option End → Type 0 = λ o. Within Early m (executed m h w) o in subst A (sym (p.1 ∙ going)) (w.retired, p.0, timed.1, ap (count_by is_sample) p.2 ∙ timed.0))
+  | inl p ↦ (let A : Option End → Type 0 = λ o. Within Early m (after_execution m h w) o in subst A (sym (p.1 ∙ going)) (w.retired, p.0, timed.1, ap (count_by is_sample) p.2 ∙ timed.0))
   | inr q ↦ elim q [
-    | inl p ↦ (let A : Option End → Type 0 = λ o. Within Early m (executed m h w) o in subst A (sym p.1.1) (w.retired, p.0, timed.1, ap (count_by is_sample) p.2 ∙ timed.0))
-    | inr p ↦ (let A : Option End → Type 0 = λ o. Within Early m (executed m h w) o in
+    | inl p ↦ (let A : Option End → Type 0 = λ o. Within Early m (after_execution m h w) o in subst A (sym p.1.1) (w.retired, p.0, timed.1, ap (count_by is_sample) p.2 ∙ timed.0))
+    | inr p ↦ (let A : Option End → Type 0 = λ o. Within Early m (after_execution m h w) o in
         subst A (sym p.1.2) (ap (count_by is_sample) p.2 ∙ timed.0 ∙ ap (λ (n : ℕ). n / m.setup.every) (sym p.0), omega (arith, p.0, timed.1)))
   ]
 ]
@@ -108,8 +108,8 @@ sampled_ending : (m : Machine) (w : World) (pc : ℕ) (b : Bool) → (if b then 
 sampled_ending m w pc true = refl
 sampled_ending m w pc false = refl
 
-timed_sampled : (m : Machine) (h : ℕ) (w : World) → 1 ≤ m.setup.every → w.ending ≡ None → Early m w → Within OnTime m (sampled m h w) (sampled m h w).ending
-unfolding sampled
+timed_sampled : (m : Machine) (h : ℕ) (w : World) → 1 ≤ m.setup.every → w.ending ≡ None → Early m w → Within OnTime m (after_sample m h w) (after_sample m h w).ending
+unfolding after_sample
 timed_sampled m h w some going early =
     let pc = (hart_of w.harts h).pc in
     let b = eqb (w.retired % m.setup.every) 0 in
@@ -117,11 +117,11 @@ timed_sampled m h w some going early =
     let A : Option End → Type 0 = λ o. Within OnTime m v o in
     subst A (sym (sampled_ending m w pc b ∙ going)) (sampled_test m w pc b refl some early)
 
-timed_arrived : (m : Machine) (h : ℕ) (w : World) → w.ending ≡ None → OnTime m w → Within OnTime m (arrived m h w) (arrived m h w).ending
+timed_arrived : (m : Machine) (h : ℕ) (w : World) → w.ending ≡ None → OnTime m w → Within OnTime m (after_arrival m h w) (after_arrival m h w).ending
 timed_arrived m h w going timed =
     let p = by_arrived m h w in
-    let A : Option End → Type 0 = λ o. Within OnTime m (arrived m h w) o in
-    let on : OnTime m (arrived m h w) = (p.2 ∙ timed.0 ∙ ap (λ (n : ℕ). n / m.setup.every) (sym p.0), omega (arith, p.0, timed.1)) in
+    let A : Option End → Type 0 = λ o. Within OnTime m (after_arrival m h w) o in
+    let on : OnTime m (after_arrival m h w) = (p.2 ∙ timed.0 ∙ ap (λ (n : ℕ). n / m.setup.every) (sym p.0), omega (arith, p.0, timed.1)) in
     elim p.1 [
       | inl is ↦ subst A (sym (is ∙ going)) on
       | inr t ↦ subst A (sym t.2) on
@@ -133,8 +133,8 @@ spent_test m w false is going timed =
     let A : Option End → Type 0 = λ o. Timed m w o in
     subst A (sym going) (timed.0, grind (arith, nat_tests, is, timed.1))
 
-timed_spent : (m : Machine) (w : World) → w.ending ≡ None → OnTime m w → Timed m (spent m w) (spent m w).ending
-unfolding spent
+timed_spent : (m : Machine) (w : World) → w.ending ≡ None → OnTime m w → Timed m (after_budget m w) (after_budget m w).ending
+unfolding after_budget
 timed_spent m w going timed = spent_test m w (eqb w.retired m.setup.budget) refl going timed
 
 on_none : (P : Machine → World → Type 0) (m : Machine) (w : World) → w.ending ≡ None → Within P m w w.ending → P m w
@@ -146,16 +146,16 @@ to_timed P m w end is within =
     let B : Option End → Type 0 = λ o. Timed m w o in
     subst B (sym is) (subst A is within)
 
-timed_instructed : (m : Machine) (h : ℕ) (w : World) → 1 ≤ m.setup.every → w.ending ≡ None → Timed m w None → Timed m (instructed m h w) (instructed m h w).ending
-unfolding instructed
+timed_instructed : (m : Machine) (h : ℕ) (w : World) → 1 ≤ m.setup.every → w.ending ≡ None → Timed m w None → Timed m (after_ordinary_turn m h w) (after_ordinary_turn m h w).ending
+unfolding after_ordinary_turn
 timed_instructed m h w some going timed =
-    let a = executed m h w in
-    let b = while_going (sampled m h) a in
-    let c = while_going (arrived m h) b in
+    let a = after_execution m h w in
+    let b = while_going (after_sample m h) a in
+    let c = while_going (after_arrival m h) b in
     let first : Within Early m a a.ending = timed_executed m h w going timed in
-    let second : Within OnTime m b b.ending = by_going (sampled m h) a (λ v. Within OnTime m v v.ending) (λ on. timed_sampled m h a some on (on_none Early m a on first)) (λ end off. timed_as Early m a end off first OnTime) in
-    let third : Within OnTime m c c.ending = by_going (arrived m h) b (λ v. Within OnTime m v v.ending) (λ on. timed_arrived m h b on (on_none OnTime m b on second)) (λ end off. second) in
-    by_going (spent m) c (λ v. Timed m v v.ending) (λ on. timed_spent m c on (on_none OnTime m c on third)) (λ end off. to_timed OnTime m c end off third)
+    let second : Within OnTime m b b.ending = by_going (after_sample m h) a (λ v. Within OnTime m v v.ending) (λ on. timed_sampled m h a some on (on_none Early m a on first)) (λ end off. timed_as Early m a end off first OnTime) in
+    let third : Within OnTime m c c.ending = by_going (after_arrival m h) b (λ v. Within OnTime m v v.ending) (λ on. timed_arrived m h b on (on_none OnTime m b on second)) (λ end off. second) in
+    by_going (after_budget m) c (λ v. Timed m v v.ending) (λ on. timed_spent m c on (on_none OnTime m c on third)) (λ end off. to_timed OnTime m c end off third)
 
 timed_same : (m : Machine) (v w : World) (o : Option End) → v.retired ≡ w.retired → count_by is_sample v.log ≡ count_by is_sample w.log → Timed m w o → Timed m v o
 timed_same m v w None r c (count, few) = (c ∙ count ∙ ap (λ (n : ℕ). n / m.setup.every) (sym r), omega (arith, r, few))
@@ -163,15 +163,15 @@ timed_same m v w (Some Budget) r c (count, at) = (c ∙ count ∙ ap (λ (n : �
 timed_same m v w (Some (Exit status)) r c (n, is, few, count) = (n, r ∙ is, few, c ∙ count)
 timed_same m v w (Some (Trap kind pc)) r c (count, few) = (c ∙ count ∙ ap (λ (n : ℕ). n / m.setup.every) (sym r), omega (arith, r, few))
 
-timed_taken : (m : Machine) (h n : ℕ) (w : World) → 1 ≤ m.setup.every → w.ending ≡ None → Timed m w None → Timed m (taken m h n w) (taken m h n w).ending
+timed_taken : (m : Machine) (h n : ℕ) (w : World) → 1 ≤ m.setup.every → w.ending ≡ None → Timed m w None → Timed m (after_look m h n w) (after_look m h n w).ending
 timed_taken m h zero w some going timed = timed_instructed m h w some going timed
 timed_taken m h (suc zero) w some going timed =
     let v : World = record (with_entry WalkDone w) { left = set w.left h 0 } in
     let r = by_returned h v in
-    let count : count_by is_sample (returned h v).log ≡ count_by is_sample w.log = ap (count_by is_sample) r.2 ∙ no_sample w.log WalkDone refl in
-    let A : Option End → Type 0 = λ o. Timed m (returned h v) o in
+    let count : count_by is_sample (after_return h v).log ≡ count_by is_sample w.log = ap (count_by is_sample) r.2 ∙ no_sample w.log WalkDone refl in
+    let A : Option End → Type 0 = λ o. Timed m (after_return h v) o in
     elim r.1 [
-      | inl is ↦ subst A (sym (is ∙ going)) (timed_same m (returned h v) w None r.0 count timed)
+      | inl is ↦ subst A (sym (is ∙ going)) (timed_same m (after_return h v) w None r.0 count timed)
       | inr t ↦ subst A (sym t.2) (count ∙ timed.0 ∙ ap (λ (n : ℕ). n / m.setup.every) (sym r.0), omega (arith, r.0, timed.1))
     ]
 timed_taken m h (suc (suc n)) w some going timed =
@@ -182,8 +182,8 @@ closed_test : (m : Machine) (w : World) (b : Bool) → Timed m w w.ending → Ti
 closed_test m w true timed = timed_same m (record (with_entry WalkDone w) { left = map (λ n. 0) w.left }) w w.ending refl (no_sample w.log WalkDone refl) timed
 closed_test m w false timed = timed
 
-timed_closed : (m : Machine) (w : World) → Timed m w w.ending → Timed m (closed w) (closed w).ending
-unfolding closed
+timed_closed : (m : Machine) (w : World) → Timed m w w.ending → Timed m (after_close w) (after_close w).ending
+unfolding after_close
 timed_closed m w timed = closed_test m w (is_some w.ending && list_any (λ n. nat_lt 0 n) w.left) timed
 
 pub at_none : (m : Machine) (w : World) → w.ending ≡ None → Timed m w w.ending → Timed m w None
@@ -192,8 +192,8 @@ at_none m w going timed = let A : Option End → Type 0 = λ o. Timed m w o in s
 pub timed_turn : (m : Machine) (w : World) (h : ℕ) → 1 ≤ m.setup.every → Timed m w w.ending → Timed m (turn_of m w h) (turn_of m w h).ending
 unfolding turn_of
 timed_turn m w h some timed =
-    by_going (λ v. closed (taken m h (left_of v.left h) v)) w (λ v. Timed m v v.ending)
-    (λ on. timed_closed m (taken m h (left_of w.left h) w) (timed_taken m h (left_of w.left h) w some on (at_none m w on timed))) (λ end off. timed)
+    by_going (λ v. after_close (after_look m h (looks_of_hart v.left h) v)) w (λ v. Timed m v v.ending)
+    (λ on. timed_closed m (after_look m h (looks_of_hart w.left h) w) (timed_taken m h (looks_of_hart w.left h) w some on (at_none m w on timed))) (λ end off. timed)
 
 pub timed_after : (m : Machine) (w : World) (turns : List ℕ) → 1 ≤ m.setup.every → Timed m w w.ending → Timed m (world_after m w turns) (world_after m w turns).ending
 timed_after m w [] some timed = timed

@@ -3,7 +3,7 @@ use Rattle.std.proofs.Common.{◌*◌, ◌+◌, ◌-◌, None, Option, Some, ap,
 use Rattle.std.specs.Prelude.{IfSome}
 use Rattle.host_port.specs.Outside.{KeepsCounts, KeepsInput, Outside}
 use Rattle.prof_machine.proofs.PlanLemmas.{driven_at, next_turn}
-use Rattle.prof_machine.specs.Plan.{driven, most_turns, plan_of, planned, taker_of}
+use Rattle.prof_machine.specs.Plan.{after_drive, most_turns, plan_of, world_at, taker_of}
 use Rattle.prof_machine.specs.Prints.{ArePrinted}
 use Rattle.prof_machine.specs.Schedule.{Draws, PlanPlace}
 use Rattle.prof_machine.specs.Turn.{turn_of}
@@ -24,23 +24,23 @@ pub record Drives (old new : RunValue) (before now : Outside) (next : PlanPlace)
   pub turns : ℕ
   pub draws : Draws old.machine.setup turns next
   pub few : turns + work_left new ≤ most_turns old.machine.setup
-  pub stands : (w : World) → StandsFor w old → StandsFor (planned old.machine w turns) new
-  pub prints : (w : World) → StandsFor w old → ArePrinted w (planned old.machine w turns) before now
+  pub stands : (w : World) → StandsFor w old → StandsFor (world_at old.machine w turns) new
+  pub prints : (w : World) → StandsFor w old → ArePrinted w (world_at old.machine w turns) before now
   pub counts : KeepsCounts before now
   pub writing : now.is_writing ≡ before.is_writing
   pub input : KeepsInput before now
 
 -- what holds of the world is said of the plan's world before its first turn ..
-pub in_first : (P : World → Type 0) (m : Machine) (w : World) → P w → P (planned m w 0)
+pub in_first : (P : World → Type 0) (m : Machine) (w : World) → P w → P (world_at m w 0)
 unfolding plan_of
 in_first P m w p = p
 
 -- .. behind one more turn ..
-pub in_next : (P : World → Type 0) (m v : Machine) (w : World) (n h : ℕ) → v ≡ m → h ≡ taker_of m.setup.plan m.setup.harts n → P (turn_of v (planned m w n) h) → P (planned m w (n + 1))
+pub in_next : (P : World → Type 0) (m v : Machine) (w : World) (n h : ℕ) → v ≡ m → h ≡ taker_of m.setup.plan m.setup.harts n → P (turn_of v (world_at m w n) h) → P (world_at m w (n + 1))
 in_next P m v w n h same taker p = subst P (next_turn m v w n h same taker) p
 
 -- .. and behind its last one
-pub in_last : (P : World → Type 0) (m : Machine) (w : World) (r : RunValue) (n : ℕ) (end : End) → n ≤ most_turns m.setup → r.ending ≡ Some end → StandsFor (planned m w n) r → P (planned m w n) → P (driven m w)
+pub in_last : (P : World → Type 0) (m : Machine) (w : World) (r : RunValue) (n : ℕ) (end : End) → n ≤ most_turns m.setup → r.ending ≡ Some end → StandsFor (world_at m w n) r → P (world_at m w n) → P (after_drive m w)
 in_last P m w r n end enough is stands p = subst P (driven_at m w n end enough (sym stands.ending ∙ is)) p
 
 work_by : (a : Inside) (f : Option Flight) → IsHeld a → a.flight ≡ f → IfSome f (λ x. 1 ≤ x.walk.place) → 65535 * (a.machine.setup.budget - a.retired) + looks_at_most f ≤ most_turns a.machine.setup

@@ -15,7 +15,7 @@ use Rattle.rv_step.specs.Registers.{Registers, register}
 use Rattle.prof_machine.proofs.StandingLemmas.{quiet_stands, returns_stands}
 use Rattle.prof_machine.proofs.WalkLemmas.{enter_stands}
 use Rattle.prof_machine.specs.Stages.{returns}
-use Rattle.prof_machine.specs.Turn.{after_entering, arrived, called, is_at, returned, switched, with_entry}
+use Rattle.prof_machine.specs.Turn.{after_entering, after_arrival, after_mcount, is_at, after_return, after_moncontrol, with_entry}
 use Rattle.prof_machine.specs.Value.{RunValue, StandsFor}
 use Rattle.prof_machine.specs.World.{World, hart_of}
 
@@ -30,12 +30,12 @@ walk_is z Error from to walk is = absurd cc
 walk_is z Off from to walk is = absurd cc
 
 pub called_as : (w : World) (r : RunValue) (h from to : ℕ) (s : Registers) (e : Entered) → hart_of r.harts h ≡ s → from ≡ register s 10 → to ≡ register s 1 → e ≡ meets r.gmon.sizes r.gmon.state from to → r.gmon.sizes ≡ r.machine.sizes → StandsFor w r
-    → called r.machine h (hart_of w.harts h) w ≡ after_entering r.machine h from to e w
+    → after_mcount r.machine h (hart_of w.harts h) w ≡ after_entering r.machine h from to e w
 called_as w r h from to s e read f t met sizes stands =
     let m = r.machine in
     let hart : hart_of w.harts h ≡ s = ap (λ (x : List Registers). hart_of x h) (sym stands.harts) ∙ read in
     let state : state_of m.sizes w.log ≡ r.gmon.state = ap (λ (z : Sizes). state_of z w.log) (sym sizes) ∙ sym stands.gmon.state in
-    ap (λ (x : Registers). called m h x w) hart
+    ap (λ (x : Registers). after_mcount m h x w) hart
     ∙ ap (λ (x : ℕ). after_entering m h x (register s 1) (meets m.sizes (state_of m.sizes w.log) x (register s 1)) w) (sym f)
     ∙ ap (λ (x : ℕ). after_entering m h from x (meets m.sizes (state_of m.sizes w.log) from x) w) (sym t)
     ∙ ap (λ (x : State). after_entering m h from to (meets m.sizes x from to) w) state
@@ -59,11 +59,11 @@ ignored_stands w r g h from to gmon stands =
     returns_stands (with_entry (CallIgnored from to) w) (record r { gmon = g }) h (quiet_stands w r g r.lost (CallIgnored from to) (record { walk = refl; pair = refl }) (λ before. refl) (omega arith) gmon stands)
 
 pub switched_stands : (w : World) (r : RunValue) (g : GmonValue) (h : ℕ) (on : Bool) (s : Registers) → hart_of r.harts h ≡ s → on ≡ not (eqb (register s 10) 0) → RuntimeStandsFor (w.log ++ Mode on ∷ []) g → StandsFor w r
-    → StandsFor (switched h (hart_of w.harts h) w) (returns h (record r { gmon = g }))
+    → StandsFor (after_moncontrol h (hart_of w.harts h) w) (returns h (record r { gmon = g }))
 switched_stands w r g h on s read is gmon stands =
     let hart : s ≡ hart_of w.harts h = sym read ∙ ap (λ (x : List Registers). hart_of x h) stands.harts in
     let same : on ≡ not (eqb (register (hart_of w.harts h) 10) 0) = is ∙ ap (λ (x : Registers). not (eqb (register x 10) 0)) hart in
-    let P : Bool → Type 0 = λ b. StandsFor (returned h (with_entry (Mode b) w)) (returns h (record r { gmon = g })) in
+    let P : Bool → Type 0 = λ b. StandsFor (after_return h (with_entry (Mode b) w)) (returns h (record r { gmon = g })) in
     subst P same (returns_stands (with_entry (Mode on) w) (record r { gmon = g }) h (quiet_stands w r g r.lost (Mode on) (record { walk = refl; pair = refl }) (λ before. refl) (omega arith) gmon stands))
 
 -- whether the hart stands at a hook
@@ -72,13 +72,13 @@ at_is None pc = refl
 at_is (Some a) pc = refl
 
 pub arrived_as : (w : World) (r : RunValue) (h pc : ℕ) (s : Registers) (b c : Bool) → hart_of r.harts h ≡ s → pc ≡ s.pc → b ≡ option_eq eqb r.machine.mcount (Some pc) → c ≡ option_eq eqb r.machine.moncontrol (Some pc) → StandsFor w r
-    → arrived r.machine h w ≡ (if b then called r.machine h (hart_of w.harts h) w else (if c then switched h (hart_of w.harts h) w else w))
-unfolding arrived
+    → after_arrival r.machine h w ≡ (if b then after_mcount r.machine h (hart_of w.harts h) w else (if c then after_moncontrol h (hart_of w.harts h) w else w))
+unfolding after_arrival
 arrived_as w r h pc s b c read pc_is b_is c_is stands =
     let m = r.machine in
     let t = hart_of w.harts h in
     let here : t.pc ≡ pc = ap (λ (x : List Registers). (hart_of x h).pc) (sym stands.harts) ∙ ap (λ (x : Registers). x.pc) read ∙ sym pc_is in
     let p : is_at m.mcount t.pc ≡ b = ap (is_at m.mcount) here ∙ sym (at_is m.mcount pc) ∙ sym b_is in
     let q : is_at m.moncontrol t.pc ≡ c = ap (is_at m.moncontrol) here ∙ sym (at_is m.moncontrol pc) ∙ sym c_is in
-    ap (λ (x : Bool). if x then called m h t w else (if is_at m.moncontrol t.pc then switched h t w else w)) p
-    ∙ ap (λ (x : Bool). if b then called m h t w else (if x then switched h t w else w)) q
+    ap (λ (x : Bool). if x then after_mcount m h t w else (if is_at m.moncontrol t.pc then after_moncontrol h t w else w)) p
+    ∙ ap (λ (x : Bool). if b then after_mcount m h t w else (if x then after_moncontrol h t w else w)) q

@@ -13,7 +13,7 @@ use Rattle.rv_step.specs.declared.stepped.TrapKind.{TrapKind}
 use Rattle.prof_machine.proofs.StandingLemmas.{answers_stands, with_ending, with_harts, with_memory, with_retired}
 use Rattle.prof_machine.specs.Ecalls.{ecall_of, write_acts, write_answer}
 use Rattle.prof_machine.specs.Stages.{answers, retires}
-use Rattle.prof_machine.specs.Turn.{after_call, after_ecall, after_outcome, after_step, executed, one_retired, retired_with}
+use Rattle.prof_machine.specs.Turn.{after_call, after_ecall, after_outcome, after_step, after_execution, one_retired, retired_with}
 use Rattle.prof_machine.specs.Value.{RunValue, StandsFor, value_of}
 use Rattle.prof_machine.specs.World.{World, blank, hart_of}
 use Rattle.prof_machine.specs.declared.ecalls.Call.{Call}
@@ -24,14 +24,14 @@ use Rattle.prof_machine.specs.declared.runs.Run.TheInside.{Inside}
 
 -- ---- the instruction
 
-executed_at : (w : World) (r : RunValue) (m : Machine) (h : ℕ) → StandsFor w r → executed m h w ≡ after_outcome m h (step_of (hart_of r.harts h) r.memory) w
-unfolding executed
+executed_at : (w : World) (r : RunValue) (m : Machine) (h : ℕ) → StandsFor w r → after_execution m h w ≡ after_outcome m h (step_of (hart_of r.harts h) r.memory) w
+unfolding after_execution
 executed_at w r m h stands =
     ap (λ (x : List Registers). after_outcome m h (step_of (hart_of x h) w.memory) w) (sym stands.harts) ∙ ap (λ (x : Memory). after_outcome m h (step_of (hart_of r.harts h) x) w) (sym stands.memory)
 
 -- what the step answered, and left
 pub executed_by : (w : World) (r : RunValue) (m : Machine) (h : ℕ) (answer : Stepped) (s : Registers) (memory : Memory) → StandsFor w r
-    → answer ≡ (step_of (hart_of r.harts h) r.memory).answer → s ≡ (step_of (hart_of r.harts h) r.memory).registers → memory ≡ (step_of (hart_of r.harts h) r.memory).memory → executed m h w ≡ after_step m h answer s memory w
+    → answer ≡ (step_of (hart_of r.harts h) r.memory).answer → s ≡ (step_of (hart_of r.harts h) r.memory).registers → memory ≡ (step_of (hart_of r.harts h) r.memory).memory → after_execution m h w ≡ after_step m h answer s memory w
 executed_by w r m h answer s memory stands a b c =
     let o = step_of (hart_of r.harts h) r.memory in
     executed_at w r m h stands
@@ -87,19 +87,19 @@ unchanged o s0 s m0 m other (inl is) = absurd (other is)
 unchanged o s0 s m0 m other (inr same) = same
 
 step_as : (w : World) (a : Inside) (h : ℕ) (answer : Stepped) (s0 s : Registers) (m : Memory) → hart_of a.harts.items h ≡ s0 → answer ≡ (step_of s0 a.ram).answer → s ≡ (step_of s0 a.ram).registers → m ≡ (step_of s0 a.ram).memory → StandsFor w (value_of a)
-    → executed a.machine h w ≡ after_step a.machine h answer s m w
+    → after_execution a.machine h w ≡ after_step a.machine h answer s m w
 step_as w a h answer s0 s m read x y z stands =
     executed_by w (value_of a) a.machine h answer s m stands (x ∙ ap (λ (t : Registers). (step_of t a.ram).answer) (sym read)) (y ∙ ap (λ (t : Registers). (step_of t a.ram).registers) (sym read)) (z ∙ ap (λ (t : Registers). (step_of t a.ram).memory) (sym read))
 
 pub step_retired : (w : World) (a : Inside) (h pc : ℕ) (s0 s : Registers) (m : Memory) → hart_of a.harts.items h ≡ s0 → pc ≡ s0.pc → Retired ≡ (step_of s0 a.ram).answer → s ≡ (step_of s0 a.ram).registers → m ≡ (step_of s0 a.ram).memory → StandsFor w (value_of a)
-    → StandsFor (executed a.machine h w) (retires pc (value_of (record a { harts = with_item a.harts h s; ram = m }))) × ((executed a.machine h w).prints ≡ w.prints)
+    → StandsFor (after_execution a.machine h w) (retires pc (value_of (record a { harts = with_item a.harts h s; ram = m }))) × ((after_execution a.machine h w).prints ≡ w.prints)
 step_retired w a h pc s0 s m read at x y z stands =
     let P : World → Type 0 = λ v. StandsFor v (retires pc (value_of (record a { harts = with_item a.harts h s; ram = m }))) × (v.prints ≡ w.prints) in
     subst P (sym (step_as w a h Retired s0 s m read x y z stands)) (retired_stands w (value_of a) h pc s m (at ∙ ap (λ (t : Registers). t.pc) (sym read)) stands, refl)
 
 pub step_trapped : (w : World) (a : Inside) (h : ℕ) (kind : TrapKind) (pc : ℕ) (s0 s : Registers) (m : Memory) → hart_of a.harts.items h ≡ s0 → Trapped kind ≡ (step_of s0 a.ram).answer → s ≡ (step_of s0 a.ram).registers → m ≡ (step_of s0 a.ram).memory
     → ((Trapped kind ≡ Retired) ⊎ ((s ≡ s0) × (m ≡ a.ram))) → pc ≡ s0.pc → StandsFor w (value_of a)
-    → StandsFor (executed a.machine h w) (value_of (record a { harts = with_item a.harts h s; ram = m; ending = Some (Trap kind pc) })) × ((executed a.machine h w).prints ≡ w.prints)
+    → StandsFor (after_execution a.machine h w) (value_of (record a { harts = with_item a.harts h s; ram = m; ending = Some (Trap kind pc) })) × ((after_execution a.machine h w).prints ≡ w.prints)
 step_trapped w a h kind pc s0 s m read x y z stays pc_is stands =
     let same = unchanged (Trapped kind) s0 s a.ram m (λ is. absurd cc) stays in
     let here : pc ≡ (hart_of w.harts h).pc = pc_is ∙ ap (λ (t : Registers). t.pc) (sym read) ∙ ap (λ (t : List Registers). (hart_of t h).pc) stands.harts in
@@ -111,7 +111,7 @@ step_trapped w a h kind pc s0 s m read x y z stays pc_is stands =
     subst P (sym (step_as w a h (Trapped kind) s0 s m read x y z stands)) (subst Q (sym back) (subst R here (with_ending w (value_of a) (Trap kind pc) stands)), refl)
 
 pub step_called : (w : World) (a : Inside) (h : ℕ) (s0 s : Registers) (m : Memory) → hart_of a.harts.items h ≡ s0 → Ecall ≡ (step_of s0 a.ram).answer → s ≡ (step_of s0 a.ram).registers → m ≡ (step_of s0 a.ram).memory
-    → ((Ecall ≡ Retired) ⊎ ((s ≡ s0) × (m ≡ a.ram))) → StandsFor w (value_of a) → (executed a.machine h w ≡ after_ecall a.machine h w) × StandsFor w (value_of (record a { harts = with_item a.harts h s; ram = m }))
+    → ((Ecall ≡ Retired) ⊎ ((s ≡ s0) × (m ≡ a.ram))) → StandsFor w (value_of a) → (after_execution a.machine h w ≡ after_ecall a.machine h w) × StandsFor w (value_of (record a { harts = with_item a.harts h s; ram = m }))
 step_called w a h s0 s m read x y z stays stands =
     let same = unchanged Ecall s0 s a.ram m (λ is. absurd cc) stays in
     let P : RunValue → Type 0 = λ r. StandsFor w r in

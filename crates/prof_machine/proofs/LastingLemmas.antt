@@ -8,7 +8,7 @@ use Rattle.mcount_arcs.specs.Value.{meets}
 use Rattle.mcount_arcs.specs.declared.walk.Entered.{Entered}
 use Rattle.mcount_arcs.specs.declared.walk.Entered.TheVariants.{Ignored, Lost, Walking}
 use Rattle.rv_step.specs.Registers.{register}
-use Rattle.prof_machine.specs.Turn.{after_entering, arrived, closed, executed, instructed, is_at, returned, sampled, spent, target_of, while_going, with_entry}
+use Rattle.prof_machine.specs.Turn.{after_entering, after_arrival, after_close, after_execution, after_ordinary_turn, is_at, after_return, after_sample, after_budget, return_target, while_going, with_entry}
 use Rattle.prof_machine.specs.World.{World, hart_of}
 use Rattle.prof_machine.specs.declared.ending.End.{End}
 use Rattle.prof_machine.specs.declared.machine.Machine.{Machine}
@@ -33,46 +33,46 @@ pub lasts_stage : (f : World → World) (w : World) → lasting (f w) ≡ lastin
 unfolding while_going
 lasts_stage f w same = lasts_ended f w w.ending same
 
-pub lasts_sampled : (m : Machine) (h : ℕ) (w : World) → lasting (sampled m h w) ≡ lasting w
-unfolding sampled
+pub lasts_sampled : (m : Machine) (h : ℕ) (w : World) → lasting (after_sample m h w) ≡ lasting w
+unfolding after_sample
 lasts_sampled m h w = lasts_if (eqb (w.retired % m.setup.every) 0) _ w refl
 
-pub lasts_spent : (m : Machine) (w : World) → lasting (spent m w) ≡ lasting w
-unfolding spent
+pub lasts_spent : (m : Machine) (w : World) → lasting (after_budget m w) ≡ lasting w
+unfolding after_budget
 lasts_spent m w = lasts_if (eqb w.retired m.setup.budget) _ w refl
 
 lasts_either : (b : Bool) (u v w : World) → lasting u ≡ lasting w → lasting v ≡ lasting w → lasting (if b then u else v) ≡ lasting w
 lasts_either true u v w p q = p
 lasts_either false u v w p q = q
 
-pub lasts_returned : (h : ℕ) (w : World) → lasting (returned h w) ≡ lasting w
-unfolding returned
-lasts_returned h w = lasts_either (eqb (target_of (hart_of w.harts h) % 4) 0) _ _ w refl refl
+pub lasts_returned : (h : ℕ) (w : World) → lasting (after_return h w) ≡ lasting w
+unfolding after_return
+lasts_returned h w = lasts_either (eqb (return_target (hart_of w.harts h) % 4) 0) _ _ w refl refl
 
 lasts_entering : (m : Machine) (h from to : ℕ) (e : Entered) (w : World) → lasting (after_entering m h from to e w) ≡ lasting w
 lasts_entering m h from to (Walking walk) w = refl
 lasts_entering m h from to Lost w = lasts_returned h _
 lasts_entering m h from to Ignored w = lasts_returned h _
 
-pub lasts_arrived : (m : Machine) (h : ℕ) (w : World) → lasting (arrived m h w) ≡ lasting w
-unfolding arrived
+pub lasts_arrived : (m : Machine) (h : ℕ) (w : World) → lasting (after_arrival m h w) ≡ lasting w
+unfolding after_arrival
 lasts_arrived m h w =
     let s = hart_of w.harts h in
     lasts_either (is_at m.mcount s.pc) _ _ w (lasts_entering m h (register s 10) (register s 1) (meets m.sizes (state_of m.sizes w.log) (register s 10) (register s 1)) w)
     (lasts_if (is_at m.moncontrol s.pc) _ w (lasts_returned h _))
 
-pub lasts_closed : (w : World) → lasting (closed w) ≡ lasting w
-unfolding closed
+pub lasts_closed : (w : World) → lasting (after_close w) ≡ lasting w
+unfolding after_close
 lasts_closed w = lasts_if (is_some w.ending && list_any (λ n. nat_lt 0 n) w.left) _ w refl
 
-pub lasts_instructed : (m : Machine) (h : ℕ) (w : World) → lasting (instructed m h w) ≡ lasting (executed m h w)
-unfolding instructed
+pub lasts_instructed : (m : Machine) (h : ℕ) (w : World) → lasting (after_ordinary_turn m h w) ≡ lasting (after_execution m h w)
+unfolding after_ordinary_turn
 lasts_instructed m h w =
-    let a = executed m h w in
-    let b = while_going (sampled m h) a in
-    let c = while_going (arrived m h) b in
-    lasts_stage (spent m) c (lasts_spent m c) ∙ lasts_stage (arrived m h) b (lasts_arrived m h b) ∙ lasts_stage (sampled m h) a (lasts_sampled m h a)
+    let a = after_execution m h w in
+    let b = while_going (after_sample m h) a in
+    let c = while_going (after_arrival m h) b in
+    lasts_stage (after_budget m) c (lasts_spent m c) ∙ lasts_stage (after_arrival m h) b (lasts_arrived m h b) ∙ lasts_stage (after_sample m h) a (lasts_sampled m h a)
 
 -- the last look of a walk, after which the hart returns
-pub lasts_over : (h : ℕ) (w : World) → lasting (returned h (record (with_entry WalkDone w) { left = set w.left h 0 })) ≡ lasting w
+pub lasts_over : (h : ℕ) (w : World) → lasting (after_return h (record (with_entry WalkDone w) { left = set w.left h 0 })) ≡ lasting w
 lasts_over h w = lasts_returned h (record (with_entry WalkDone w) { left = set w.left h 0 })

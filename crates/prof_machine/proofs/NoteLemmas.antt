@@ -22,9 +22,9 @@ use Rattle.prof_machine.proofs.HookLemmas.{at_is}
 use Rattle.prof_machine.proofs.WalkLemmas.{goes_on_left, held_inside, left_here, left_none, more_left}
 use Rattle.prof_machine.specs.Notes.{if_going, instruction_note, look_note, note_by, note_of, ran_from, ran_of, return_after, return_from_call, return_in, return_of, sample_in}
 use Rattle.prof_machine.specs.Stages.{begin_of, holds, ran_since}
-use Rattle.prof_machine.specs.Turn.{executed, is_at, sampled, while_going}
+use Rattle.prof_machine.specs.Turn.{after_execution, is_at, after_sample, while_going}
 use Rattle.prof_machine.specs.Value.{IsHeld, RunValue, StandsFor, value_of}
-use Rattle.prof_machine.specs.World.{World, hart_of, left_of}
+use Rattle.prof_machine.specs.World.{World, hart_of, looks_of_hart}
 use Rattle.prof_machine.specs.declared.ending.End.{End}
 use Rattle.prof_machine.specs.declared.flight.Flight.{Flight}
 use Rattle.prof_machine.specs.declared.machine.Machine.{Machine}
@@ -105,25 +105,25 @@ call_return_as w r h from to s e read f t met sizes stands =
 
 -- ---- a look
 
-note_at : (m : Machine) (h n : ℕ) (w : World) → left_of w.left h ≡ n → note_by m h n w ≡ note_by m h (left_of w.left h) w
+note_at : (m : Machine) (h n : ℕ) (w : World) → looks_of_hart w.left h ≡ n → note_by m h n w ≡ note_by m h (looks_of_hart w.left h) w
 note_at m h n w is = sym (ap (λ (k : ℕ). note_by m h k w) is)
 
 pub moved_note : (w : World) (a : Inside) (f : Flight) (g : GmonValue) (h : ℕ) (next : Walk) → IsHeld a → a.flight ≡ Some f → holds a.flight h ≡ true → Looks w.log f.walk a.gmon g (More next) → StandsFor w (value_of a)
-    → look_note None ≡ note_by a.machine h (left_of w.left h) w
+    → look_note None ≡ note_by a.machine h (looks_of_hart w.left h) w
 moved_note w a f g h next held is mine looks stands =
     let here : f.hart ≡ h = eqb-true f.hart h (sym (ap (λ (o : Option Flight). holds o h) is) ∙ mine) in
     let (n, two, gmon, next_is) = goes_on_left w a f g next held is stands looks in
-    let left : left_of w.left f.hart ≡ suc (suc n) = left_here w (value_of a) f (held_inside a f held is) is stands ∙ two in
-    let R : ℕ → Type 0 = λ k. look_note None ≡ note_by a.machine k (left_of w.left k) w in
+    let left : looks_of_hart w.left f.hart ≡ suc (suc n) = left_here w (value_of a) f (held_inside a f held is) is stands ∙ two in
+    let R : ℕ → Type 0 = λ k. look_note None ≡ note_by a.machine k (looks_of_hart w.left k) w in
     subst R here (note_at a.machine f.hart (suc (suc n)) w left)
 
 pub over_note : (w : World) (a : Inside) (f : Flight) (g : GmonValue) (h : ℕ) (result : Looked) → IsHeld a → a.flight ≡ Some f → holds a.flight h ≡ true → Looks w.log f.walk a.gmon g result → ((x : Walk) → result ≡ More x → ⊥) → StandsFor w (value_of a)
-    → look_note (return_of (hart_of w.harts h)) ≡ note_by a.machine h (left_of w.left h) w
+    → look_note (return_of (hart_of w.harts h)) ≡ note_by a.machine h (looks_of_hart w.left h) w
 over_note w a f g h result held is mine looks over stands =
     let here : f.hart ≡ h = eqb-true f.hart h (sym (ap (λ (o : Option Flight). holds o h) is) ∙ mine) in
     let last = more_left w a f g result held is stands looks over in
-    let left : left_of w.left f.hart ≡ suc zero = left_here w (value_of a) f (held_inside a f held is) is stands ∙ last.0 in
-    let R : ℕ → Type 0 = λ k. look_note (return_of (hart_of w.harts k)) ≡ note_by a.machine k (left_of w.left k) w in
+    let left : looks_of_hart w.left f.hart ≡ suc zero = left_here w (value_of a) f (held_inside a f held is) is stands ∙ last.0 in
+    let R : ℕ → Type 0 = λ k. look_note (return_of (hart_of w.harts k)) ≡ note_by a.machine k (looks_of_hart w.left k) w in
     subst R here (note_at a.machine f.hart (suc zero) w left)
 
 -- ---- an instruction
@@ -136,17 +136,17 @@ ran_as h w v old new first last =
     ∙ ap (λ (x : List Registers). if eqb v.retired w.retired then None else ran_from (hart_of w.harts h).pc (hart_of x h).pc (instruction_at old.memory (hart_of w.harts h).pc)) last.harts
     ∙ ap (λ (x : Memory). if eqb v.retired w.retired then None else ran_from (hart_of w.harts h).pc (hart_of v.harts h).pc (instruction_at x (hart_of w.harts h).pc)) first.memory
 
-pub instruction_noted : (m m1 m2 : Machine) (h : ℕ) (w : World) (old new : RunValue) (t : TurnNote) (b : Begin) → m1 ≡ m → m2 ≡ m → StandsFor w old → StandsFor (executed m h w) new
+pub instruction_noted : (m m1 m2 : Machine) (h : ℕ) (w : World) (old new : RunValue) (t : TurnNote) (b : Begin) → m1 ≡ m → m2 ≡ m → StandsFor w old → StandsFor (after_execution m h w) new
     → b ≡ begin_of h old → t.ran ≡ ran_since h b new
-    → t.sample ≡ if_going (sample_in m1 h) (executed m h w) → t.returned ≡ if_going (return_in m2 h) (while_going (sampled m1 h) (executed m h w)) → t ≡ instruction_note m h w
+    → t.sample ≡ if_going (sample_in m1 h) (after_execution m h w) → t.returned ≡ if_going (return_in m2 h) (while_going (after_sample m1 h) (after_execution m h w)) → t ≡ instruction_note m h w
 unfolding instruction_note
 instruction_noted m m1 m2 h w old new t b p q first last begin ran sample returned =
-    let v = executed m h w in
+    let v = after_execution m h w in
     let ran_is : t.ran ≡ ran_of h w v =
     ran ∙ ap (λ (x : Begin). ran_since h x new) begin ∙ ran_as h w v old new first last in
     let sample_is : t.sample ≡ if_going (sample_in m h) v = sample ∙ ap (λ (x : Machine). if_going (sample_in x h) v) p in
-    let returned_is : t.returned ≡ if_going (return_in m h) (while_going (sampled m h) v) =
-    returned ∙ ap (λ (x : Machine). if_going (return_in x h) (while_going (sampled m1 h) v)) q ∙ ap (λ (x : Machine). if_going (return_in m h) (while_going (sampled x h) v)) p in
+    let returned_is : t.returned ≡ if_going (return_in m h) (while_going (after_sample m h) v) =
+    returned ∙ ap (λ (x : Machine). if_going (return_in x h) (while_going (after_sample m1 h) v)) q ∙ ap (λ (x : Machine). if_going (return_in m h) (while_going (after_sample x h) v)) p in
     let R : Option Ran → TurnNote = λ x. record { ran = x; sample = t.sample; returned = t.returned } in
     let S : Option ℕ → TurnNote = λ x. record { ran = ran_of h w v; sample = x; returned = t.returned } in
     let B : Option ℕ → TurnNote = λ x. record { ran = ran_of h w v; sample = if_going (sample_in m h) v; returned = x } in
@@ -155,10 +155,10 @@ instruction_noted m m1 m2 h w old new t b p q first last begin ran sample return
 -- ---- a turn
 
 -- of a hart that holds no walk
-pub instructed_note : (m : Machine) (h : ℕ) (w : World) (r : RunValue) → holds r.flight h ≡ false → StandsFor w r → instruction_note m h w ≡ note_by m h (left_of w.left h) w
+pub instructed_note : (m : Machine) (h : ℕ) (w : World) (r : RunValue) → holds r.flight h ≡ false → StandsFor w r → instruction_note m h w ≡ note_by m h (looks_of_hart w.left h) w
 instructed_note m h w r none stands = note_at m h zero w (left_none w r h r.flight refl none stands)
 
-pub turn_noted : (m : Machine) (h : ℕ) (w : World) (r : RunValue) (note : TurnNote) → r.ending ≡ None → StandsFor w r → note ≡ note_by m h (left_of w.left h) w → note ≡ note_of m w h
+pub turn_noted : (m : Machine) (h : ℕ) (w : World) (r : RunValue) (note : TurnNote) → r.ending ≡ None → StandsFor w r → note ≡ note_by m h (looks_of_hart w.left h) w → note ≡ note_of m w h
 unfolding note_of
 turn_noted m h w r note going stands is =
-    is ∙ sym (ap (λ (o : Option End). if is_some o then look_note None else note_by m h (left_of w.left h) w) (sym stands.ending ∙ going))
+    is ∙ sym (ap (λ (o : Option End). if is_some o then look_note None else note_by m h (looks_of_hart w.left h) w) (sym stands.ending ∙ going))

@@ -28,8 +28,8 @@ use Rattle.prof_machine.specs.Ecalls.{ecall_of}
 use Rattle.prof_machine.specs.Laws.{noted_pcs, noted_samples}
 use Rattle.prof_machine.specs.Notes.{if_going, instruction_note, look_note, note_by, note_of, ran_from, ran_of, sample_in}
 use Rattle.prof_machine.specs.Start.{machine_of, start_of}
-use Rattle.prof_machine.specs.Turn.{after_call, after_ecall, after_entering, after_step, arrived, closed, executed, instructed, is_at, returned, sampled, spent, taken, turn_of, while_going, with_entry, world_after}
-use Rattle.prof_machine.specs.World.{World, hart_of, left_of}
+use Rattle.prof_machine.specs.Turn.{after_call, after_ecall, after_entering, after_step, after_arrival, after_close, after_execution, after_ordinary_turn, is_at, after_return, after_sample, after_budget, after_look, turn_of, while_going, with_entry, world_after}
+use Rattle.prof_machine.specs.World.{World, hart_of, looks_of_hart}
 use Rattle.prof_machine.specs.declared.ecalls.Call.{Call}
 use Rattle.prof_machine.specs.declared.ecalls.Call.TheVariants.{Answers, Exits, SetsBreak, Writes}
 use Rattle.prof_machine.specs.declared.ending.End.{End}
@@ -89,17 +89,17 @@ told_step m h w Ecall s memory is =
     inl (told_ecall m h w (has_instr h w (instruction_at w.memory (hart_of w.harts h).pc) refl (λ kind trap. let e : Trapped kind ≡ Ecall = sym trap ∙ is in cc)))
 told_step m h w (Trapped kind) s memory is = inr (told_none h w (after_step m h (Trapped kind) s memory w) refl refl)
 
-told_executed : (m : Machine) (h : ℕ) (w : World) → Tells (hart_of w.harts h).pc w (lasting (executed m h w)) (ran_of h w (executed m h w))
-unfolding executed
+told_executed : (m : Machine) (h : ℕ) (w : World) → Tells (hart_of w.harts h).pc w (lasting (after_execution m h w)) (ran_of h w (after_execution m h w))
+unfolding after_execution
 told_executed m h w = let o = step_of (hart_of w.harts h) w.memory in told_step m h w o.answer o.registers o.memory refl
 
-told_instructed : (m : Machine) (h : ℕ) (w : World) → Tells (hart_of w.harts h).pc w (lasting (instructed m h w)) (instruction_note m h w).ran
+told_instructed : (m : Machine) (h : ℕ) (w : World) → Tells (hart_of w.harts h).pc w (lasting (after_ordinary_turn m h w)) (instruction_note m h w).ran
 unfolding instruction_note
 told_instructed m h w =
-    let P : Lasting → Type 0 = λ l. Tells (hart_of w.harts h).pc w l (ran_of h w (executed m h w)) in
+    let P : Lasting → Type 0 = λ l. Tells (hart_of w.harts h).pc w l (ran_of h w (after_execution m h w)) in
     subst P (sym (lasts_instructed m h w)) (told_executed m h w)
 
-told_taken : (m : Machine) (h n : ℕ) (w : World) → Tells (hart_of w.harts h).pc w (lasting (taken m h n w)) (note_by m h n w).ran
+told_taken : (m : Machine) (h n : ℕ) (w : World) → Tells (hart_of w.harts h).pc w (lasting (after_look m h n w)) (note_by m h n w).ran
 told_taken m h zero w = told_instructed m h w
 told_taken m h (suc zero) w =
     let P : Lasting → Type 0 = λ l. HasNone w l None in
@@ -107,17 +107,17 @@ told_taken m h (suc zero) w =
 told_taken m h (suc (suc n)) w = inr (refl, refl, refl)
 
 -- by whether the run goes on
-told_by : (m : Machine) (h : ℕ) (w u : World) (o : Option End) → Tells (hart_of w.harts h).pc w (lasting u) (note_by m h (left_of w.left h) w).ran
-    → Tells (hart_of w.harts h).pc w (lasting (if is_some o then w else u)) (if is_some o then look_note None else note_by m h (left_of w.left h) w).ran
+told_by : (m : Machine) (h : ℕ) (w u : World) (o : Option End) → Tells (hart_of w.harts h).pc w (lasting u) (note_by m h (looks_of_hart w.left h) w).ran
+    → Tells (hart_of w.harts h).pc w (lasting (if is_some o then w else u)) (if is_some o then look_note None else note_by m h (looks_of_hart w.left h) w).ran
 told_by m h w u None told = told
 told_by m h w u (Some end) told = inr (refl, refl, refl)
 
 pub told_turn : (m : Machine) (w : World) (h : ℕ) → Tells (hart_of w.harts h).pc w (lasting (turn_of m w h)) (note_of m w h).ran
 unfolding turn_of note_of while_going
 told_turn m w h =
-    let t = taken m h (left_of w.left h) w in
-    let P : Lasting → Type 0 = λ l. Tells (hart_of w.harts h).pc w l (note_by m h (left_of w.left h) w).ran in
-    told_by m h w (closed t) w.ending (subst P (sym (lasts_closed t)) (told_taken m h (left_of w.left h) w))
+    let t = after_look m h (looks_of_hart w.left h) w in
+    let P : Lasting → Type 0 = λ l. Tells (hart_of w.harts h).pc w l (note_by m h (looks_of_hart w.left h) w).ran in
+    told_by m h w (after_close t) w.ending (subst P (sym (lasts_closed t)) (told_taken m h (looks_of_hart w.left h) w))
 
 who_by : (pc : ℕ) (w : World) (v : Lasting) (o : Option Ran) → Tells pc w v o → (IsSome o ↔ (v.retired ≡ w.retired + 1)) × ((o ≡ None) ↔ (v.retired ≡ w.retired))
 who_by pc w v o (inl (more, ran, (r, is, at))) =
@@ -167,10 +167,10 @@ as_many image bytes setup turns = many_after (machine_of image setup) (start_of 
 abbrev seen : Sizes → World → List ℕ
 seen z w = counted_samples z w.log
 
-seen_returned : (z : Sizes) (h : ℕ) (w : World) → seen z (returned h w) ≡ seen z w
+seen_returned : (z : Sizes) (h : ℕ) (w : World) → seen z (after_return h w) ≡ seen z w
 seen_returned z h w = let r = by_returned h w in ap (counted_samples z) r.2
 
-seen_back : (z : Sizes) (h : ℕ) (w : World) (e : LogEntry) → ((before : List LogEntry) → counted_in z before e ≡ None) → seen z (returned h (with_entry e w)) ≡ seen z w
+seen_back : (z : Sizes) (h : ℕ) (w : World) (e : LogEntry) → ((before : List LogEntry) → counted_in z before e ≡ None) → seen z (after_return h (with_entry e w)) ≡ seen z w
 seen_back z h w e none = seen_returned z h (with_entry e w) ∙ counted_samples-same z w.log e none
 
 seen_entering : (m : Machine) (h from to : ℕ) (e : Entered) (w : World) → seen m.sizes (after_entering m h from to e w) ≡ seen m.sizes w
@@ -183,14 +183,14 @@ seen_hooks z w u v true c p q = p
 seen_hooks z w u v false true p q = q
 seen_hooks z w u v false false p q = refl
 
-seen_arrived : (m : Machine) (h : ℕ) (w : World) → seen m.sizes (arrived m h w) ≡ seen m.sizes w
-unfolding arrived
+seen_arrived : (m : Machine) (h : ℕ) (w : World) → seen m.sizes (after_arrival m h w) ≡ seen m.sizes w
+unfolding after_arrival
 seen_arrived m h w =
     let s = hart_of w.harts h in
     seen_hooks m.sizes w _ _ (is_at m.mcount s.pc) (is_at m.moncontrol s.pc) (seen_entering m h (register s 10) (register s 1) (meets m.sizes (state_of m.sizes w.log) (register s 10) (register s 1)) w)
     (seen_back m.sizes h w (Mode _) (λ before. refl))
 
-seen_executed : (m : Machine) (h : ℕ) (w : World) → seen m.sizes (executed m h w) ≡ seen m.sizes w
+seen_executed : (m : Machine) (h : ℕ) (w : World) → seen m.sizes (after_execution m h w) ≡ seen m.sizes w
 seen_executed m h w = elim (by_executed m h w) [
   | inl p ↦ ap (counted_samples m.sizes) p.2
   | inr q ↦ elim q [
@@ -199,16 +199,16 @@ seen_executed m h w = elim (by_executed m h w) [
   ]
 ]
 
-seen_spent : (m : Machine) (w : World) → seen m.sizes (spent m w) ≡ seen m.sizes w
-unfolding spent
+seen_spent : (m : Machine) (w : World) → seen m.sizes (after_budget m w) ≡ seen m.sizes w
+unfolding after_budget
 seen_spent m w = by_test (eqb w.retired m.setup.budget)
   where
     by_test : (b : Bool) → seen m.sizes (if b then record w { ending = Some Budget } else w) ≡ seen m.sizes w
     by_test true = refl
     by_test false = refl
 
-seen_closed : (m : Machine) (w : World) → seen m.sizes (closed w) ≡ seen m.sizes w
-unfolding closed
+seen_closed : (m : Machine) (w : World) → seen m.sizes (after_close w) ≡ seen m.sizes w
+unfolding after_close
 seen_closed m w = by_test (is_some w.ending && list_any (λ n. nat_lt 0 n) w.left)
   where
     by_test : (b : Bool) → seen m.sizes (if b then record (with_entry WalkDone w) { left = map (λ n. 0) w.left } else w) ≡ seen m.sizes w
@@ -227,8 +227,8 @@ ticks_by : (m : Machine) (pc : ℕ) (w : World) (b : Bool)
 ticks_by m pc w true = counted_samples-sampled m.sizes w.log pc ∙ ap (λ (x : List ℕ). seen m.sizes w ++ x) (counted (is_on w.log && is_in (text_span m.sizes) pc) pc)
 ticks_by m pc w false = sym (append-nil (seen m.sizes w))
 
-ticks : (m : Machine) (h : ℕ) (w : World) → seen m.sizes (sampled m h w) ≡ seen m.sizes w ++ cons_option (sample_in m h w) []
-unfolding sampled sample_in
+ticks : (m : Machine) (h : ℕ) (w : World) → seen m.sizes (after_sample m h w) ≡ seen m.sizes w ++ cons_option (sample_in m h w) []
+unfolding after_sample sample_in
 ticks m h w = ticks_by m (hart_of w.harts h).pc w (eqb (w.retired % m.setup.every) 0)
 
 going_by : (m : Machine) (w u : World) (part : Option ℕ) (o : Option End) → seen m.sizes u ≡ seen m.sizes w ++ cons_option part []
@@ -236,35 +236,35 @@ going_by : (m : Machine) (w u : World) (part : Option ℕ) (o : Option End) → 
 going_by m w u part None is = is
 going_by m w u part (Some end) is = sym (append-nil (seen m.sizes w))
 
-ticks_going : (m : Machine) (h : ℕ) (w : World) → seen m.sizes (while_going (sampled m h) w) ≡ seen m.sizes w ++ cons_option (if_going (sample_in m h) w) []
+ticks_going : (m : Machine) (h : ℕ) (w : World) → seen m.sizes (while_going (after_sample m h) w) ≡ seen m.sizes w ++ cons_option (if_going (sample_in m h) w) []
 unfolding while_going
-ticks_going m h w = going_by m w (sampled m h w) (sample_in m h w) w.ending (ticks m h w)
+ticks_going m h w = going_by m w (after_sample m h w) (sample_in m h w) w.ending (ticks m h w)
 
-seen_instructed : (m : Machine) (h : ℕ) (w : World) → seen m.sizes (instructed m h w) ≡ seen m.sizes w ++ cons_option (instruction_note m h w).sample []
-unfolding instructed instruction_note
+seen_instructed : (m : Machine) (h : ℕ) (w : World) → seen m.sizes (after_ordinary_turn m h w) ≡ seen m.sizes w ++ cons_option (instruction_note m h w).sample []
+unfolding after_ordinary_turn instruction_note
 seen_instructed m h w =
-    let a = executed m h w in
-    let b = while_going (sampled m h) a in
-    let c = while_going (arrived m h) b in
-    seen_stage m (spent m) c (seen_spent m c) ∙ seen_stage m (arrived m h) b (seen_arrived m h b) ∙ ticks_going m h a
+    let a = after_execution m h w in
+    let b = while_going (after_sample m h) a in
+    let c = while_going (after_arrival m h) b in
+    seen_stage m (after_budget m) c (seen_spent m c) ∙ seen_stage m (after_arrival m h) b (seen_arrived m h b) ∙ ticks_going m h a
     ∙ ap (λ (x : List ℕ). x ++ cons_option (if_going (sample_in m h) a) []) (seen_executed m h w)
 
-seen_taken : (m : Machine) (h n : ℕ) (w : World) → seen m.sizes (taken m h n w) ≡ seen m.sizes w ++ cons_option (note_by m h n w).sample []
+seen_taken : (m : Machine) (h n : ℕ) (w : World) → seen m.sizes (after_look m h n w) ≡ seen m.sizes w ++ cons_option (note_by m h n w).sample []
 seen_taken m h zero w = seen_instructed m h w
 seen_taken m h (suc zero) w =
     seen_returned m.sizes h (record (with_entry WalkDone w) { left = set w.left h 0 }) ∙ counted_samples-same m.sizes w.log WalkDone (λ before. refl) ∙ sym (append-nil (seen m.sizes w))
 seen_taken m h (suc (suc n)) w = sym (append-nil (seen m.sizes w))
 
 note_going : (m : Machine) (h : ℕ) (w : World) (o : Option End)
-    → (if is_some o then None else (note_by m h (left_of w.left h) w).sample) ≡ (if is_some o then look_note None else note_by m h (left_of w.left h) w).sample
+    → (if is_some o then None else (note_by m h (looks_of_hart w.left h) w).sample) ≡ (if is_some o then look_note None else note_by m h (looks_of_hart w.left h) w).sample
 note_going m h w None = refl
 note_going m h w (Some end) = refl
 
 seen_turn : (m : Machine) (w : World) (h : ℕ) → seen m.sizes (turn_of m w h) ≡ seen m.sizes w ++ cons_option (note_of m w h).sample []
 unfolding turn_of note_of while_going
 seen_turn m w h =
-    let t = taken m h (left_of w.left h) w in
-    going_by m w (closed t) (note_by m h (left_of w.left h) w).sample w.ending (seen_closed m t ∙ seen_taken m h (left_of w.left h) w)
+    let t = after_look m h (looks_of_hart w.left h) w in
+    going_by m w (after_close t) (note_by m h (looks_of_hart w.left h) w).sample w.ending (seen_closed m t ∙ seen_taken m h (looks_of_hart w.left h) w)
     ∙ ap (λ (x : Option ℕ). seen m.sizes w ++ cons_option x []) (note_going m h w w.ending)
 
 pub samples_noted : (m : Machine) (w : World) (turns : List ℕ) → counted_samples m.sizes (world_after m w turns).log ≡ counted_samples m.sizes w.log ++ noted_samples m w turns

@@ -4,7 +4,7 @@ use Rattle.std.proofs.lemmas.List.FromFn.{map-range_with_len_more, take-map-rang
 use Rattle.std.specs.List.{range_with_len}
 use Rattle.std.proofs.lemmas.List.{take-append-drop}
 use Rattle.prof_machine.proofs.WorldLemmas.{ended_stays, world_after-append}
-use Rattle.prof_machine.specs.Plan.{driven, most_turns, plan_of, planned, taker_of}
+use Rattle.prof_machine.specs.Plan.{after_drive, most_turns, plan_of, world_at, taker_of}
 use Rattle.prof_machine.specs.Turn.{turn_of, world_after}
 use Rattle.prof_machine.specs.World.{World}
 use Rattle.prof_machine.specs.declared.ending.End.{End}
@@ -16,7 +16,7 @@ unfolding plan_of
 plan_more setup n = map-range_with_len_more (taker_of setup.plan setup.harts) 0 n n (omega arith)
 
 -- one more turn of the plan
-pub planned_more : (m : Machine) (w : World) (n : ℕ) → turn_of m (planned m w n) (taker_of m.setup.plan m.setup.harts n) ≡ planned m w (n + 1)
+pub planned_more : (m : Machine) (w : World) (n : ℕ) → turn_of m (world_at m w n) (taker_of m.setup.plan m.setup.harts n) ≡ world_at m w (n + 1)
 planned_more m w n =
     sym (ap (λ (turns : List ℕ). world_after m w turns) (plan_more m.setup n) ∙ world_after-append m w (plan_of m.setup n) (taker_of m.setup.plan m.setup.harts n ∷ []))
 
@@ -27,20 +27,20 @@ plan_front setup k n le =
     ∙ take-append-drop k (map (taker_of setup.plan setup.harts) (range_with_len 0 n))
 
 -- the first turns of a plan, and the others
-pub planned_split : (m : Machine) (w : World) (k n : ℕ) → k ≤ n → planned m w n ≡ world_after m (planned m w k) (drop k (plan_of m.setup n))
+pub planned_split : (m : Machine) (w : World) (k n : ℕ) → k ≤ n → world_at m w n ≡ world_after m (world_at m w k) (drop k (plan_of m.setup n))
 planned_split m w k n le = ap (λ (turns : List ℕ). world_after m w turns) (sym (plan_front m.setup k n le)) ∙ world_after-append m w (plan_of m.setup k) (drop k (plan_of m.setup n))
 
 -- a run that has ended after k turns has so after more
-pub planned_ended : (m : Machine) (w : World) (k n : ℕ) (end : End) → k ≤ n → (planned m w k).ending ≡ Some end → planned m w n ≡ planned m w k
+pub planned_ended : (m : Machine) (w : World) (k n : ℕ) (end : End) → k ≤ n → (world_at m w k).ending ≡ Some end → world_at m w n ≡ world_at m w k
 planned_ended m w k n end le is =
     ap (λ (turns : List ℕ). world_after m w turns) (sym (plan_front m.setup k n le))
     ∙ world_after-append m w (plan_of m.setup k) (drop k (plan_of m.setup n))
-    ∙ ended_stays m (planned m w k) (drop k (plan_of m.setup n)) end is
+    ∙ ended_stays m (world_at m w k) (drop k (plan_of m.setup n)) end is
 
 -- the turn in which it ends is the last
-pub driven_at : (m : Machine) (w : World) (n : ℕ) (end : End) → n ≤ most_turns m.setup → (planned m w n).ending ≡ Some end → planned m w n ≡ driven m w
-unfolding driven
+pub driven_at : (m : Machine) (w : World) (n : ℕ) (end : End) → n ≤ most_turns m.setup → (world_at m w n).ending ≡ Some end → world_at m w n ≡ after_drive m w
+unfolding after_drive
 driven_at m w n end enough is = sym (planned_ended m w n (most_turns m.setup) end enough is)
 
-pub next_turn : (m v : Machine) (w : World) (n h : ℕ) → v ≡ m → h ≡ taker_of m.setup.plan m.setup.harts n → turn_of v (planned m w n) h ≡ planned m w (n + 1)
-next_turn m v w n h same taker = ap (λ (x : Machine). turn_of x (planned m w n) h) same ∙ ap (λ (k : ℕ). turn_of m (planned m w n) k) taker ∙ planned_more m w n
+pub next_turn : (m v : Machine) (w : World) (n h : ℕ) → v ≡ m → h ≡ taker_of m.setup.plan m.setup.harts n → turn_of v (world_at m w n) h ≡ world_at m w (n + 1)
+next_turn m v w n h same taker = ap (λ (x : Machine). turn_of x (world_at m w n) h) same ∙ ap (λ (k : ℕ). turn_of m (world_at m w n) k) taker ∙ planned_more m w n

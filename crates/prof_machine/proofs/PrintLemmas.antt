@@ -12,22 +12,22 @@ use Rattle.prof_machine.proofs.PlanLemmas.{planned_split}
 use Rattle.prof_machine.proofs.LastingLemmas.{Lasting, lasts_closed, lasts_instructed, lasts_returned}
 use Rattle.prof_machine.proofs.WorldLemmas.{by_going}
 use Rattle.prof_machine.specs.Ecalls.{ecall_of}
-use Rattle.prof_machine.specs.Plan.{driven, most_turns, plan_of, planned}
-use Rattle.prof_machine.specs.Turn.{after_call, after_ecall, after_step, closed, executed, instructed, returned, taken, turn_of, with_entry, world_after}
-use Rattle.prof_machine.specs.World.{World, hart_of, left_of}
+use Rattle.prof_machine.specs.Plan.{after_drive, most_turns, plan_of, world_at}
+use Rattle.prof_machine.specs.Turn.{after_call, after_ecall, after_step, after_close, after_execution, after_ordinary_turn, after_return, after_look, turn_of, with_entry, world_after}
+use Rattle.prof_machine.specs.World.{World, hart_of, looks_of_hart}
 use Rattle.prof_machine.specs.declared.ecalls.Call.{Call}
 use Rattle.prof_machine.specs.declared.ecalls.Call.TheVariants.{Answers, Exits, SetsBreak, Writes}
 use Rattle.prof_machine.specs.declared.machine.Machine.{Machine}
 
 -- ---- only instructions print
 
-pub prints_returned : (h : ℕ) (w : World) → (returned h w).prints ≡ w.prints
+pub prints_returned : (h : ℕ) (w : World) → (after_return h w).prints ≡ w.prints
 prints_returned h w = ap (λ (l : Lasting). l.prints) (lasts_returned h w)
 
-pub prints_closed : (w : World) → (closed w).prints ≡ w.prints
+pub prints_closed : (w : World) → (after_close w).prints ≡ w.prints
 prints_closed w = ap (λ (l : Lasting). l.prints) (lasts_closed w)
 
-pub prints_instructed : (m : Machine) (h : ℕ) (w : World) → (instructed m h w).prints ≡ (executed m h w).prints
+pub prints_instructed : (m : Machine) (h : ℕ) (w : World) → (after_ordinary_turn m h w).prints ≡ (after_execution m h w).prints
 prints_instructed m h w = ap (λ (l : Lasting). l.prints) (lasts_instructed m h w)
 
 -- ---- what is printed stays
@@ -55,21 +55,21 @@ prints_step m h w Retired s memory = nothing_more w _ refl
 prints_step m h w Ecall s memory = prints_ecall m h w
 prints_step m h w (Trapped kind) s memory = nothing_more w _ refl
 
-prints_executed : (m : Machine) (h : ℕ) (w : World) → Prints_on w (executed m h w)
-unfolding executed
+prints_executed : (m : Machine) (h : ℕ) (w : World) → Prints_on w (after_execution m h w)
+unfolding after_execution
 prints_executed m h w = let o = step_of (hart_of w.harts h) w.memory in prints_step m h w o.answer o.registers o.memory
 
-prints_taken : (m : Machine) (h n : ℕ) (w : World) → Prints_on w (taken m h n w)
+prints_taken : (m : Machine) (h n : ℕ) (w : World) → Prints_on w (after_look m h n w)
 unfolding Prints_on
 prints_taken m h zero w = let p = prints_executed m h w in (p.0, prints_instructed m h w ∙ p.1)
-prints_taken m h (suc zero) w = nothing_more w (returned h (record (with_entry WalkDone w) { left = set w.left h 0 })) (prints_returned h (record (with_entry WalkDone w) { left = set w.left h 0 }))
+prints_taken m h (suc zero) w = nothing_more w (after_return h (record (with_entry WalkDone w) { left = set w.left h 0 })) (prints_returned h (record (with_entry WalkDone w) { left = set w.left h 0 }))
 prints_taken m h (suc (suc n)) w = nothing_more w (record w { left = set w.left h (suc n) }) refl
 
 prints_turn : (m : Machine) (w : World) (h : ℕ) → Prints_on w (turn_of m w h)
 unfolding turn_of Prints_on
 prints_turn m w h =
-    by_going (λ v. closed (taken m h (left_of v.left h) v)) w (λ v. Prints_on w v)
-    (λ on. (let p = prints_taken m h (left_of w.left h) w in (p.0, prints_closed (taken m h (left_of w.left h) w) ∙ p.1))) (λ end off. nothing_more w w refl)
+    by_going (λ v. after_close (after_look m h (looks_of_hart v.left h) v)) w (λ v. Prints_on w v)
+    (λ on. (let p = prints_taken m h (looks_of_hart w.left h) w in (p.0, prints_closed (after_look m h (looks_of_hart w.left h) w) ∙ p.1))) (λ end off. nothing_more w w refl)
 
 -- what turns print stands behind what was printed
 pub prints_after : (m : Machine) (w : World) (turns : List ℕ) → (more : List Act) × ((world_after m w turns).prints ≡ w.prints ++ more)
@@ -80,12 +80,12 @@ prints_after m w (h ∷ turns) =
     let q = prints_after m (turn_of m w h) turns in
     (p.0 ++ q.0, q.1 ∙ ap (λ (front : List Act). front ++ q.0) p.1 ∙ append_assoc w.prints p.0 q.0)
 
-pub prints_planned : (m : Machine) (w : World) (k n : ℕ) → k ≤ n → (more : List Act) × ((planned m w n).prints ≡ (planned m w k).prints ++ more)
+pub prints_planned : (m : Machine) (w : World) (k n : ℕ) → k ≤ n → (more : List Act) × ((world_at m w n).prints ≡ (world_at m w k).prints ++ more)
 prints_planned m w k n le =
-    let p = prints_after m (planned m w k) (drop k (plan_of m.setup n)) in
+    let p = prints_after m (world_at m w k) (drop k (plan_of m.setup n)) in
     (p.0, ap (λ (v : World). v.prints) (planned_split m w k n le) ∙ p.1)
 
 -- and of the turns in which a run ends
-pub prints_driven : (m : Machine) (w : World) (n : ℕ) → n ≤ most_turns m.setup → (more : List Act) × ((driven m w).prints ≡ (planned m w n).prints ++ more)
-unfolding driven
+pub prints_driven : (m : Machine) (w : World) (n : ℕ) → n ≤ most_turns m.setup → (more : List Act) × ((after_drive m w).prints ≡ (world_at m w n).prints ++ more)
+unfolding after_drive
 prints_driven m w n le = prints_planned m w n (most_turns m.setup) le

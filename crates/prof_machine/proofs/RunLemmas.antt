@@ -18,7 +18,7 @@ use Rattle.prof_machine.proofs.ClockLemmas.{Timed, at_none, timed_after}
 use Rattle.prof_machine.proofs.PlanLemmas.{planned_ended}
 use Rattle.prof_machine.proofs.TurnCountLemmas.{Short, room_after, room_of, total_zeros}
 use Rattle.prof_machine.proofs.WorldLemmas.{the_end}
-use Rattle.prof_machine.specs.Plan.{driven, most_turns, plan_of, planned, taker_of}
+use Rattle.prof_machine.specs.Plan.{after_drive, most_turns, plan_of, world_at, taker_of}
 use Rattle.prof_machine.specs.Start.{final_world, machine_of, start_of}
 use Rattle.prof_machine.specs.Turn.{world_after}
 use Rattle.prof_machine.specs.Value.{is_sample}
@@ -83,19 +83,19 @@ turns_end image bytes setup turns every budget enough = by_end w.ending refl
         absurd (no_room m w (start_of image bytes setup) turns fits few many start)
 
 pub plan_ends : (image : Image) (bytes : List ℕ) (setup : Setup) → 1 ≤ setup.every → 1 ≤ setup.budget → IsSome (final_world image bytes setup).ending
-unfolding driven
+unfolding after_drive
 plan_ends image bytes setup every budget =
     let m = machine_of image setup in
     let long : length (plan_of m.setup (most_turns m.setup)) ≡ most_turns setup = length-plan_of m.setup (most_turns m.setup) ∙ ap most_turns (given_setup image setup) in
     turns_end image bytes setup (plan_of m.setup (most_turns m.setup)) every budget (omega (arith, long))
 
-pub plan_shortest : (image : Image) (bytes : List ℕ) (setup : Setup) (n : ℕ) → 1 ≤ setup.every → 1 ≤ setup.budget → IsSome (planned (machine_of image setup) (start_of image bytes setup) n).ending
-    → planned (machine_of image setup) (start_of image bytes setup) n ≡ final_world image bytes setup
-unfolding driven
+pub plan_shortest : (image : Image) (bytes : List ℕ) (setup : Setup) (n : ℕ) → 1 ≤ setup.every → 1 ≤ setup.budget → IsSome (world_at (machine_of image setup) (start_of image bytes setup) n).ending
+    → world_at (machine_of image setup) (start_of image bytes setup) n ≡ final_world image bytes setup
+unfolding after_drive
 plan_shortest image bytes setup n every budget is_some =
     let m = machine_of image setup in
     let w = start_of image bytes setup in
-    let (end, is) = the_end (planned m w n).ending is_some in
+    let (end, is) = the_end (world_at m w n).ending is_some in
     let (last, is_last) = the_end (final_world image bytes setup).ending (plan_ends image bytes setup every budget) in
     elim (cases_lt n (most_turns m.setup)) [
       | inl few ↦ sym (planned_ended m w n (most_turns m.setup) end (omega arith) is)

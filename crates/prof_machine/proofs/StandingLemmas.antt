@@ -12,7 +12,7 @@ use Rattle.mcount_arcs.specs.Samples.{counted_in, counted_samples}
 use Rattle.gp_base.specs.Spans.{is_in}
 use Rattle.mcount_arcs.specs.Sizes.{text_span}
 use Rattle.mcount_arcs.proofs.TickLemmas.{ticked_others}
-use Rattle.mcount_arcs.specs.Value.{GmonValue, StandsFor as RuntimeStandsFor, ticked}
+use Rattle.mcount_arcs.specs.Value.{GmonValue, StandsFor as RuntimeStandsFor, with_tick}
 use Rattle.mcount_arcs.specs.declared.sizes.Sizes.{Sizes}
 use Rattle.rv_step.specs.Memory.{Memory}
 use Rattle.rv_step.specs.Registers.{Registers}
@@ -22,7 +22,7 @@ use Rattle.prof_machine.proofs.ExecutionLemmas.{exec_counts_of-push}
 use Rattle.prof_machine.proofs.WorldLemmas.{ended_stage, going_stage}
 use Rattle.prof_machine.specs.Executions.{exec_counts_of}
 use Rattle.prof_machine.specs.Stages.{answers, retires, returns}
-use Rattle.prof_machine.specs.Turn.{answered, one_retired, returned, returned_by, sampled, spent, target_of, while_going, with_answer, with_entry, with_hart}
+use Rattle.prof_machine.specs.Turn.{after_answer, one_retired, after_return, returned_by, after_sample, after_budget, return_target, while_going, with_answer, with_entry, with_hart}
 use Rattle.prof_machine.specs.Value.{IsHeld, RunValue, StandsFor, is_lost, left_by, value_of}
 use Rattle.prof_machine.specs.World.{World, blank, hart_of}
 use Rattle.prof_machine.specs.declared.ending.End.{End}
@@ -127,22 +127,22 @@ with_break w r to stands = record {
 
 -- ---- an answer, and a return
 
-pub answers_stands : (w : World) (r : RunValue) (h n : ℕ) → StandsFor w r → StandsFor (answered h n w) (answers h n r)
+pub answers_stands : (w : World) (r : RunValue) (h n : ℕ) → StandsFor w r → StandsFor (after_answer h n w) (answers h n r)
 answers_stands w r h n stands =
     let pc = (hart_of r.harts h).pc in
     with_harts (one_retired h w) (retires pc r) _ _ (ap (λ (x : List Registers). set x h (with_answer (hart_of x h) n)) stands.harts) (with_retired w r h pc refl stands)
 
 by_target : (w : World) (r : RunValue) (h : ℕ) (s : Registers) (b : Bool) → StandsFor w r
-    → StandsFor (if b then with_hart h (record s { pc = target_of s }) w else record w { ending = Some (Trap JumpMisaligned s.pc) })
-    (if b then record r { harts = set r.harts h (record s { pc = target_of s }) } else record r { ending = Some (Trap JumpMisaligned s.pc) })
-by_target w r h s true stands = with_harts w r _ _ (ap (λ (x : List Registers). set x h (record s { pc = target_of s })) stands.harts) stands
+    → StandsFor (if b then with_hart h (record s { pc = return_target s }) w else record w { ending = Some (Trap JumpMisaligned s.pc) })
+    (if b then record r { harts = set r.harts h (record s { pc = return_target s }) } else record r { ending = Some (Trap JumpMisaligned s.pc) })
+by_target w r h s true stands = with_harts w r _ _ (ap (λ (x : List Registers). set x h (record s { pc = return_target s })) stands.harts) stands
 by_target w r h s false stands = with_ending w r (Trap JumpMisaligned s.pc) stands
 
-pub returns_stands : (w : World) (r : RunValue) (h : ℕ) → StandsFor w r → StandsFor (returned h w) (returns h r)
-unfolding returned
+pub returns_stands : (w : World) (r : RunValue) (h : ℕ) → StandsFor w r → StandsFor (after_return h w) (returns h r)
+unfolding after_return
 returns_stands w r h stands =
     let P : List Registers → Type 0 = λ x. StandsFor (returned_by h (hart_of x h) w) (returns h r) in
-    subst P stands.harts (by_target w r h (hart_of r.harts h) (eqb (target_of (hart_of r.harts h) % 4) 0) stands)
+    subst P stands.harts (by_target w r h (hart_of r.harts h) (eqb (return_target (hart_of r.harts h) % 4) 0) stands)
 
 -- ---- one entry more in the log
 
@@ -230,8 +230,8 @@ there a now h held view inside = omega (arith, ap (λ (v : RunValue). v.machine.
 -- ---- a sample
 
 pub sampled_stands : (w : World) (a : Inside) (g : GmonValue) (h pc k d : ℕ) (s : Registers) (b : Bool) → IsHeld a → hart_of a.harts.items h ≡ s → pc ≡ s.pc → a.due ≡ 0 → b ≡ (a.gmon.sampling && is_in (text_span a.gmon.sizes) pc)
-    → k ≡ a.samples + (if b then 1 else 0) → RuntimeStandsFor (w.log ++ Sample pc ∷ []) g → StandsFor w (value_of a) → StandsFor (sampled a.machine h w) (record (value_of a) { gmon = g; samples = k; due = d })
-unfolding sampled
+    → k ≡ a.samples + (if b then 1 else 0) → RuntimeStandsFor (w.log ++ Sample pc ∷ []) g → StandsFor w (value_of a) → StandsFor (after_sample a.machine h w) (record (value_of a) { gmon = g; samples = k; due = d })
+unfolding after_sample
 sampled_stands w a g h pc k d s b held read pc_is none may count gmon stands =
     let m = a.machine in
     let test : eqb (w.retired % m.setup.every) 0 ≡ true = ap (λ (n : ℕ). eqb (n % m.setup.every) 0) (sym stands.retired) ∙ due_now a.retired a.due m.setup.every held.clock none in
@@ -243,8 +243,8 @@ sampled_stands w a g h pc k d s b held read pc_is none may count gmon stands =
     let Q : ℕ → Type 0 = λ n. StandsFor (with_entry (Sample n) w) new in
     subst P (sym test) (subst Q here (sample_stands w (value_of a) g k d pc b on count gmon stands))
 
-pub unsampled_stands : (w : World) (a : Inside) (h : ℕ) → IsHeld a → (a.due ≡ 0 → ⊥) → a.due < a.machine.setup.every → StandsFor w (value_of a) → StandsFor (sampled a.machine h w) (value_of a)
-unfolding sampled
+pub unsampled_stands : (w : World) (a : Inside) (h : ℕ) → IsHeld a → (a.due ≡ 0 → ⊥) → a.due < a.machine.setup.every → StandsFor w (value_of a) → StandsFor (after_sample a.machine h w) (value_of a)
+unfolding after_sample
 unsampled_stands w a h held some most stands =
     let m = a.machine in
     let one : 1 ≤ a.due = grind (arith, some) in
@@ -253,7 +253,7 @@ unsampled_stands w a h held some most stands =
     subst P (sym test) stands
 
 -- what is true of a run stays true where the clock has ticked
-pub held_sampled : (a : Inside) (k pc : ℕ) (g : GmonValue) → IsHeld a → a.live ≡ false → a.due ≡ 0 → k ≤ a.retired → g ≡ ticked pc a.gmon → IsHeld (record a { due = a.machine.setup.every; samples = k; gmon = g })
+pub held_sampled : (a : Inside) (k pc : ℕ) (g : GmonValue) → IsHeld a → a.live ≡ false → a.due ≡ 0 → k ≤ a.retired → g ≡ with_tick pc a.gmon → IsHeld (record a { due = a.machine.setup.every; samples = k; gmon = g })
 held_sampled a k pc g held dead none few changed =
     let others : g ≡ record a.gmon { counters = g.counters } = changed ∙ ticked_others pc a.gmon ∙ ap (λ (v : GmonValue). record a.gmon { counters = v.counters }) (sym changed) in
     let calls : g.calls ≡ a.gmon.calls = ap (λ (v : GmonValue). v.calls) others in
@@ -277,15 +277,15 @@ held_sampled a k pc g held dead none few changed =
 
 -- ---- the budget
 
-pub spent_stands : (w : World) (r : RunValue) → StandsFor w r → r.retired ≡ r.machine.setup.budget → StandsFor (spent r.machine w) (record r { ending = Some Budget })
-unfolding spent
+pub spent_stands : (w : World) (r : RunValue) → StandsFor w r → r.retired ≡ r.machine.setup.budget → StandsFor (after_budget r.machine w) (record r { ending = Some Budget })
+unfolding after_budget
 spent_stands w r stands is =
     let test : eqb w.retired r.machine.setup.budget ≡ true = eq-eqb w.retired r.machine.setup.budget (sym stands.retired ∙ is) in
     let P : Bool → Type 0 = λ b. StandsFor (if b then record w { ending = Some Budget } else w) (record r { ending = Some Budget }) in
     subst P (sym test) (with_ending w r Budget stands)
 
-pub unspent_stands : (w : World) (r : RunValue) → StandsFor w r → (r.retired ≡ r.machine.setup.budget → ⊥) → StandsFor (spent r.machine w) r
-unfolding spent
+pub unspent_stands : (w : World) (r : RunValue) → StandsFor w r → (r.retired ≡ r.machine.setup.budget → ⊥) → StandsFor (after_budget r.machine w) r
+unfolding after_budget
 unspent_stands w r stands is =
     let test : eqb w.retired r.machine.setup.budget ≡ false = ne_eqb w.retired r.machine.setup.budget (λ same. is (stands.retired ∙ same)) in
     let P : Bool → Type 0 = λ b. StandsFor (if b then record w { ending = Some Budget } else w) r in

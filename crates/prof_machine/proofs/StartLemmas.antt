@@ -3,7 +3,7 @@ use Rattle.std.proofs.Common.{◌%◌, ◌+◌, ◌<◌, All, Bool, List, None, 
 use Rattle.std.specs.Prelude.{IfSome, option_map}
 use Rattle.std.proofs.lemmas.Bool.Decides.{nat_tests}
 use Rattle.std.specs.List.{range_with_len}
-use Rattle.elf32_syms.specs.Sections.{lowest}
+use Rattle.elf32_syms.specs.Sections.{least_of}
 use Rattle.elf32_syms.specs.declared.image.Image.{Image}
 use Rattle.elf32_syms.specs.declared.image.Segment.{Segment}
 use Rattle.mcount_arcs.proofs.CallLemmas.{pending_call-idle}
@@ -11,14 +11,14 @@ use Rattle.mcount_arcs.proofs.EmptyLogLemmas.{kept_calls-nil}
 use Rattle.mcount_arcs.specs.Samples.{counted_samples}
 use Rattle.mcount_arcs.specs.Sizes.{AreSizes}
 use Rattle.mcount_arcs.specs.Value.{StandsFor as RuntimeStandsFor}
-use Rattle.rv_step.specs.Loading.{CanLoad, loaded}
+use Rattle.rv_step.specs.Loading.{CanLoad, with_segments}
 use Rattle.rv_step.specs.Memory.{Memory}
 use Rattle.prof_machine.proofs.ClockLemmas.{first}
 use Rattle.prof_machine.proofs.ExecutionLemmas.{exec_counts_of-nil, first_counts}
 use Rattle.prof_machine.proofs.WalkLemmas.{no_walk}
 use Rattle.prof_machine.specs.Executions.{instructions_of}
 use Rattle.prof_machine.specs.Setup.{IsSetup}
-use Rattle.prof_machine.specs.Start.{HasRoom, IsLayout, base_in, base_of, first_registers, is_outside_of, is_too_small_of, machine_of, program_end_in, program_end_of, size_of, start_of, start_refusal}
+use Rattle.prof_machine.specs.Start.{HasRoom, IsLayout, base_in, base_of, first_registers, is_outside_of, is_too_small_of, machine_of, program_end_in, program_end_of, memory_size, start_of, start_refusal}
 use Rattle.prof_machine.specs.Value.{AreCounts, IsHeld, RunValue, StandsFor, calls_met, flights, left_by, value_of}
 use Rattle.prof_machine.specs.declared.ending.StartRefusal.{StartRefusal}
 use Rattle.prof_machine.specs.declared.ending.StartRefusal.TheVariants.{EntryOutside, ProgramTooLarge}
@@ -54,7 +54,7 @@ has_room l h = record { stacks = grind (arith, nat_tests); fits = grind (arith, 
 
 -- ---- segments lie in memory
 
-lowest_least : (segments : List Segment) (k : ℕ) (d : Segment) → k < length segments → lowest (map (λ (s : Segment). s.addr) segments) ≤ (get_or segments k d).addr
+lowest_least : (segments : List Segment) (k : ℕ) (d : Segment) → k < length segments → least_of (map (λ (s : Segment). s.addr) segments) ≤ (get_or segments k d).addr
 lowest_least [] k d inside = absurd (omega arith)
 lowest_least (s ∷ []) zero d inside = omega arith
 lowest_least (s ∷ []) (suc k) d inside = absurd (omega arith)
@@ -78,17 +78,17 @@ can_load image setup bytes l m h room base size end in_file = λ k d inside.
     ((omega arith, omega arith), in_file k d inside)
 
 pub layout_end : (image : Image) (setup : Setup) (l : Layout) → IsLayout image setup l → l.end ≡ l.base + l.size
-layout_end image setup l h = h.end ∙ ap (λ (b : ℕ). b + size_of setup) (sym h.base) ∙ ap (λ (n : ℕ). l.base + n) (sym h.size)
+layout_end image setup l h = h.end ∙ ap (λ (b : ℕ). b + memory_size setup) (sym h.base) ∙ ap (λ (n : ℕ). l.base + n) (sym h.size)
 
 -- the first world, as the code makes it
 pub stands_at_start : (image : Image) (bytes : List ℕ) (setup : Setup) (l : Layout) (empty : Memory) (r : RunValue) → IsLayout image setup l → r.machine ≡ machine_of image setup
-    → r.harts ≡ map (first_registers image.entry l.end setup.harts) (range_with_len 0 setup.harts) → r.flight ≡ None → empty.base ≡ l.base → empty.bytes ≡ replicate l.size 0 → r.memory ≡ loaded image.segments bytes empty → r.break_at ≡ (machine_of image setup).first_break
+    → r.harts ≡ map (first_registers image.entry l.end setup.harts) (range_with_len 0 setup.harts) → r.flight ≡ None → empty.base ≡ l.base → empty.bytes ≡ replicate l.size 0 → r.memory ≡ with_segments image.segments bytes empty → r.break_at ≡ (machine_of image setup).first_break
     → r.retired ≡ 0 → r.samples ≡ 0 → r.lost ≡ 0 → r.counts ≡ (if setup.blocks then replicate (instructions_of r.machine.sizes) 0 else []) → r.ending ≡ None → RuntimeStandsFor [] r.gmon → StandsFor (start_of image bytes setup) r
 unfolding start_of counted_samples machine_of
 stands_at_start image bytes setup l empty r h machine harts flight base zeros memory break_at retired samples lost counts ending gmon = record {
   harts = harts ∙ ap (λ (n : ℕ). map (first_registers image.entry n setup.harts) (range_with_len 0 setup.harts)) h.end;
   left = ap (λ (f : Option Flight). left_by r.machine.sizes [] r.machine.setup.harts f) flight ∙ ap (λ (m : Machine). replicate m.setup.harts 0) machine;
-  memory = memory ∙ ap (λ (m : Memory). loaded image.segments bytes m)
+  memory = memory ∙ ap (λ (m : Memory). with_segments image.segments bytes m)
       (ap (λ (n : ℕ). record { base = n; bytes = empty.bytes }) (base ∙ h.base) ∙ ap (λ (x : List ℕ). record { base = base_of image; bytes = x }) (zeros ∙ ap (λ (n : ℕ). replicate n 0) h.size));
   break_at = break_at;
   retired = retired;

@@ -6,8 +6,8 @@ use Rattle.mcount_arcs.specs.Arcs.{looks_of}
 use Rattle.mcount_arcs.specs.Log.{LogEntry, Sample, WalkDone}
 use Rattle.prof_machine.proofs.ClockLemmas.{Timed, at_none, timed_turn}
 use Rattle.prof_machine.proofs.WorldLemmas.{by_arrived, by_executed, by_going, by_returned, closed_going, ended_stays, ended_turn, going_stage}
-use Rattle.prof_machine.specs.Turn.{arrived, closed, executed, instructed, sampled, spent, taken, turn_of, while_going, with_entry, world_after}
-use Rattle.prof_machine.specs.World.{World, hart_of, left_of}
+use Rattle.prof_machine.specs.Turn.{after_arrival, after_close, after_execution, after_ordinary_turn, after_sample, after_budget, after_look, turn_of, while_going, with_entry, world_after}
+use Rattle.prof_machine.specs.World.{World, hart_of, looks_of_hart}
 use Rattle.prof_machine.specs.declared.ending.End.{End}
 use Rattle.prof_machine.specs.declared.ending.End.TheVariants.{Budget, Exit, Trap}
 use Rattle.prof_machine.specs.declared.machine.Machine.{Machine}
@@ -16,7 +16,7 @@ pub total : List ℕ → ℕ
 total [] = 0
 total (x ∷ xs) = x + total xs
 
-total_set : (xs : List ℕ) (h k : ℕ) → total (set xs h k) + left_of xs h ≤ total xs + k
+total_set : (xs : List ℕ) (h k : ℕ) → total (set xs h k) + looks_of_hart xs h ≤ total xs + k
 unfolding total
 total_set [] h k = omega arith
 total_set (x ∷ xs) zero k = omega arith
@@ -41,12 +41,12 @@ Longer w v = v.ending ≡ None → (v.retired ≡ w.retired + 1) × (total v.lef
 never : {A : Type 0} (o : Option End) (end : End) → o ≡ Some end → o ≡ None → A
 never o end is none = absurd cc
 
-untouched_executed : (m : Machine) (h : ℕ) (w : World) → Untouched w (executed m h w)
+untouched_executed : (m : Machine) (h : ℕ) (w : World) → Untouched w (after_execution m h w)
 untouched_executed m h w = elim (by_executed m h w) [
   | inl p ↦ λ going. (p.0, p.3)
   | inr q ↦ elim q [
-    | inl p ↦ λ going. never (executed m h w).ending (Exit p.1.0) p.1.1 going
-    | inr p ↦ λ going. never (executed m h w).ending (Trap p.1.0 p.1.1) p.1.2 going
+    | inl p ↦ λ going. never (after_execution m h w).ending (Exit p.1.0) p.1.1 going
+    | inr p ↦ λ going. never (after_execution m h w).ending (Trap p.1.0 p.1.1) p.1.2 going
   ]
 ]
 
@@ -54,14 +54,14 @@ sampled_parts : (w : World) (pc : ℕ) (b : Bool) → ((if b then with_entry (Sa
 sampled_parts w pc true = (refl, refl)
 sampled_parts w pc false = (refl, refl)
 
-untouched_sampled : (m : Machine) (h : ℕ) (w v : World) → v.ending ≡ None → Untouched w v → Untouched w (sampled m h v)
-unfolding sampled
+untouched_sampled : (m : Machine) (h : ℕ) (w v : World) → v.ending ≡ None → Untouched w v → Untouched w (after_sample m h v)
+unfolding after_sample
 untouched_sampled m h w v on so_far = λ going.
     let p = sampled_parts v (hart_of v.harts h).pc (eqb (v.retired % m.setup.every) 0) in
     let q = so_far on in
     (p.0 ∙ q.0, p.1 ∙ q.1)
 
-longer_arrived : (m : Machine) (h : ℕ) (w v : World) → Short m → v.ending ≡ None → Untouched w v → Longer w (arrived m h v)
+longer_arrived : (m : Machine) (h : ℕ) (w v : World) → Short m → v.ending ≡ None → Untouched w v → Longer w (after_arrival m h v)
 longer_arrived m h w v short on so_far = λ going.
     let p = by_arrived m h v in
     let q = so_far on in
@@ -73,29 +73,29 @@ longer_arrived m h w v short on so_far = λ going.
       ],
     )
 
-longer_spent : (m : Machine) (w v : World) → v.ending ≡ None → Longer w v → Longer w (spent m v)
-unfolding spent
+longer_spent : (m : Machine) (w v : World) → v.ending ≡ None → Longer w v → Longer w (after_budget m v)
+unfolding after_budget
 longer_spent m w v on so_far = by_test (eqb v.retired m.setup.budget)
   where
     by_test : (b : Bool) → Longer w (if b then record v { ending = Some Budget } else v)
     by_test true = λ going. absurd cc
     by_test false = so_far
 
-longer_instructed : (m : Machine) (h : ℕ) (w : World) → Short m → Longer w (instructed m h w)
-unfolding instructed
+longer_instructed : (m : Machine) (h : ℕ) (w : World) → Short m → Longer w (after_ordinary_turn m h w)
+unfolding after_ordinary_turn
 longer_instructed m h w short =
-    let a = executed m h w in
-    let b = while_going (sampled m h) a in
-    let c = while_going (arrived m h) b in
-    let first : Untouched w b = by_going (sampled m h) a (λ v. Untouched w v) (λ on. untouched_sampled m h w a on (untouched_executed m h w)) (λ end off. λ going. never a.ending end off going) in
-    let second : Longer w c = by_going (arrived m h) b (λ v. Longer w v) (λ on. longer_arrived m h w b short on first) (λ end off. λ going. never b.ending end off going) in
-    by_going (spent m) c (λ v. Longer w v) (λ on. longer_spent m w c on second) (λ end off. λ going. never c.ending end off going)
+    let a = after_execution m h w in
+    let b = while_going (after_sample m h) a in
+    let c = while_going (after_arrival m h) b in
+    let first : Untouched w b = by_going (after_sample m h) a (λ v. Untouched w v) (λ on. untouched_sampled m h w a on (untouched_executed m h w)) (λ end off. λ going. never a.ending end off going) in
+    let second : Longer w c = by_going (after_arrival m h) b (λ v. Longer w v) (λ on. longer_arrived m h w b short on first) (λ end off. λ going. never b.ending end off going) in
+    by_going (after_budget m) c (λ v. Longer w v) (λ on. longer_spent m w c on second) (λ end off. λ going. never c.ending end off going)
 
 -- what is left of the budget, in turns
 unfoldable pub room_of : Machine → World → ℕ
 room_of m w = 65535 * (m.setup.budget - w.retired) + total w.left
 
-less_taken : (m : Machine) (h n : ℕ) (w : World) → Short m → w.retired < m.setup.budget → left_of w.left h ≡ n → (taken m h n w).ending ≡ None → room_of m (taken m h n w) < room_of m w
+less_taken : (m : Machine) (h n : ℕ) (w : World) → Short m → w.retired < m.setup.budget → looks_of_hart w.left h ≡ n → (after_look m h n w).ending ≡ None → room_of m (after_look m h n w) < room_of m w
 unfolding room_of
 less_taken m h zero w short few is going = let p = longer_instructed m h w short going in omega (arith, p.0, p.1, few)
 less_taken m h (suc zero) w short few is going =
@@ -104,8 +104,8 @@ less_taken m h (suc zero) w short few is going =
     omega (arith, r.0, ap total r.3, total_set w.left h 0, is)
 less_taken m h (suc (suc n)) w short few is going = omega (arith, total_set w.left h (suc n), is)
 
-closed_ending : (w : World) → (closed w).ending ≡ w.ending
-unfolding closed
+closed_ending : (w : World) → (after_close w).ending ≡ w.ending
+unfolding after_close
 closed_ending w = by_test (is_some w.ending && list_any (λ n. nat_lt 0 n) w.left)
   where
     by_test : (b : Bool) → (if b then record (with_entry WalkDone w) { left = map (λ n. 0) w.left } else w).ending ≡ w.ending
@@ -116,12 +116,12 @@ closed_ending w = by_test (is_some w.ending && list_any (λ n. nat_lt 0 n) w.lef
 pub less_turn : (m : Machine) (w : World) (h : ℕ) → Short m → w.retired < m.setup.budget → w.ending ≡ None → (turn_of m w h).ending ≡ None → room_of m (turn_of m w h) < room_of m w
 unfolding turn_of
 less_turn m w h short few live going =
-    let f : World → World = λ v. closed (taken m h (left_of v.left h) v) in
-    let x = taken m h (left_of w.left h) w in
-    let turn : while_going f w ≡ closed x = going_stage f w live in
+    let f : World → World = λ v. after_close (after_look m h (looks_of_hart v.left h) v) in
+    let x = after_look m h (looks_of_hart w.left h) w in
+    let turn : while_going f w ≡ after_close x = going_stage f w live in
     let x_going : x.ending ≡ None = sym (closed_ending x) ∙ ap (λ (v : World). v.ending) (sym turn) ∙ going in
     let same : room_of m (while_going f w) ≡ room_of m x = ap (room_of m) (turn ∙ closed_going x x_going) in
-    omega (arith, same, less_taken m h (left_of w.left h) w short few refl x_going)
+    omega (arith, same, less_taken m h (looks_of_hart w.left h) w short few refl x_going)
 
 -- turns after which the run goes on are not more than there was room for
 abbrev Fits : Machine → World → List ℕ → Type 0

@@ -20,9 +20,9 @@ use Rattle.mcount_arcs.specs.declared.walk.Walk.{Walk}
 use Rattle.prof_machine.proofs.PrintLemmas.{prints_returned}
 use Rattle.prof_machine.proofs.StandingLemmas.{lost_more, returns_stands}
 use Rattle.prof_machine.specs.Stages.{holds, returns}
-use Rattle.prof_machine.specs.Turn.{closed, taken, with_entry}
+use Rattle.prof_machine.specs.Turn.{after_close, after_look, with_entry}
 use Rattle.prof_machine.specs.Value.{IsHeld, RunValue, StandsFor, left_by, looks_left, value_of}
-use Rattle.prof_machine.specs.World.{World, left_of}
+use Rattle.prof_machine.specs.World.{World, looks_of_hart}
 use Rattle.prof_machine.specs.declared.ending.End.{End}
 use Rattle.prof_machine.specs.declared.flight.Flight.{Flight}
 use Rattle.prof_machine.specs.declared.machine.Machine.{Machine}
@@ -73,9 +73,9 @@ left_is : (w : World) (r : RunValue) (f : Flight) → r.flight ≡ Some f → St
 left_is w r f is stands = sym (ap (λ (o : Option Flight). left_by r.machine.sizes w.log r.machine.setup.harts o) is) ∙ stands.left
 
 -- the looks that the hart's walk still takes
-pub left_here : (w : World) (r : RunValue) (f : Flight) → f.hart < r.machine.setup.harts → r.flight ≡ Some f → StandsFor w r → left_of w.left f.hart ≡ looks_left r.machine.sizes w.log f.walk
+pub left_here : (w : World) (r : RunValue) (f : Flight) → f.hart < r.machine.setup.harts → r.flight ≡ Some f → StandsFor w r → looks_of_hart w.left f.hart ≡ looks_left r.machine.sizes w.log f.walk
 left_here w r f inside is stands =
-    ap (λ (xs : List ℕ). left_of xs f.hart) (sym (left_is w r f is stands))
+    ap (λ (xs : List ℕ). looks_of_hart xs f.hart) (sym (left_is w r f is stands))
     ∙ get_or-set_same (replicate r.machine.setup.harts 0) f.hart (looks_left r.machine.sizes w.log f.walk) 0 (omega (arith, length-replicate {A = ℕ} r.machine.setup.harts 0))
 
 pub none_at : (n h : ℕ) → get_or {A = ℕ} (replicate n 0) h 0 ≡ 0
@@ -87,11 +87,11 @@ none_at (suc n) (suc h) = none_at n h
 pub none_here : (n h k x : ℕ) → (k ≡ h → ⊥) → get_or {A = ℕ} (set (replicate n 0) k x) h 0 ≡ 0
 none_here n h k x other = get_or-set_other (replicate n 0) k h x 0 (λ same. other (sym same)) ∙ none_at n h
 
-pub left_none : (w : World) (r : RunValue) (h : ℕ) (f : Option Flight) → r.flight ≡ f → holds f h ≡ false → StandsFor w r → left_of w.left h ≡ 0
+pub left_none : (w : World) (r : RunValue) (h : ℕ) (f : Option Flight) → r.flight ≡ f → holds f h ≡ false → StandsFor w r → looks_of_hart w.left h ≡ 0
 left_none w r h None is none stands =
-    ap (λ (xs : List ℕ). left_of xs h) (sym stands.left ∙ ap (λ (o : Option Flight). left_by r.machine.sizes w.log r.machine.setup.harts o) is) ∙ none_at r.machine.setup.harts h
+    ap (λ (xs : List ℕ). looks_of_hart xs h) (sym stands.left ∙ ap (λ (o : Option Flight). left_by r.machine.sizes w.log r.machine.setup.harts o) is) ∙ none_at r.machine.setup.harts h
 left_none w r h (Some f) is none stands =
-    ap (λ (xs : List ℕ). left_of xs h) (sym (left_is w r f is stands)) ∙ none_here r.machine.setup.harts h f.hart (looks_left r.machine.sizes w.log f.walk) (λ same. absurd (cc (eq-eqb f.hart h same, none)))
+    ap (λ (xs : List ℕ). looks_of_hart xs h) (sym (left_is w r f is stands)) ∙ none_here r.machine.setup.harts h f.hart (looks_left r.machine.sizes w.log f.walk) (λ same. absurd (cc (eq-eqb f.hart h same, none)))
 
 -- the walk is over
 pub zero_again : (n h k : ℕ) → h < n → set (set (replicate n 0) h k) h 0 ≡ replicate n 0
@@ -159,8 +159,8 @@ closed_none w None b none = refl
 closed_none w (Some end) b none = ap (λ (t : Bool). if t then record (with_entry WalkDone w) { left = map (λ n. 0) w.left } else w) none
 
 -- no hart holds a walk
-pub closed_idle : (w : World) (r : RunValue) → r.flight ≡ None → StandsFor w r → StandsFor (closed w) r
-unfolding closed
+pub closed_idle : (w : World) (r : RunValue) → r.flight ≡ None → StandsFor w r → StandsFor (after_close w) r
+unfolding after_close
 closed_idle w r is stands =
     let left : w.left ≡ replicate r.machine.setup.harts 0 = sym stands.left ∙ ap (λ (o : Option Flight). left_by r.machine.sizes w.log r.machine.setup.harts o) is in
     let none : list_any (λ k. nat_lt 0 k) w.left ≡ false = ap (list_any (λ k. nat_lt 0 k)) left ∙ all_zero r.machine.setup.harts in
@@ -169,14 +169,14 @@ closed_idle w r is stands =
 
 -- a hart holds one
 pub closed_here : (w : World) (r : RunValue) (g : GmonValue) (f : Flight) → f.hart < r.machine.setup.harts → r.flight ≡ Some f → is_some r.ending ≡ true → 1 ≤ looks_left r.machine.sizes w.log f.walk
-    → RuntimeStandsFor (w.log ++ WalkDone ∷ []) g → StandsFor w r → StandsFor (closed w) (record r { flight = None; gmon = g })
-unfolding closed
+    → RuntimeStandsFor (w.log ++ WalkDone ∷ []) g → StandsFor w r → StandsFor (after_close w) (record r { flight = None; gmon = g })
+unfolding after_close
 closed_here w r g f inside is ended some gmon stands =
     let left = left_is w r f is stands in
     let here = left_here w r f inside is stands in
     let long : f.hart < length w.left =
     omega (arith, ap length left, length-set (replicate r.machine.setup.harts 0) f.hart (looks_left r.machine.sizes w.log f.walk), length-replicate {A = ℕ} r.machine.setup.harts 0) in
-    let positive : nat_lt 0 (left_of w.left f.hart) ≡ true = grind (arith, nat_tests, here, some) in
+    let positive : nat_lt 0 (looks_of_hart w.left f.hart) ≡ true = grind (arith, nat_tests, here, some) in
     let any : list_any (λ k. nat_lt 0 k) w.left ≡ true = list_any_at (λ k. nat_lt 0 k) w.left f.hart 0 long positive in
     let test : (is_some w.ending && list_any (λ k. nat_lt 0 k) w.left) ≡ true = ap (λ (o : Option End). is_some o && list_any (λ k. nat_lt 0 k) w.left) (sym stands.ending) ∙ ap (λ (b : Bool). b && list_any (λ k. nat_lt 0 k) w.left) ended ∙ any in
     let is_closed : (if is_some w.ending && list_any (λ k. nat_lt 0 k) w.left then record (with_entry WalkDone w) { left = map (λ n. 0) w.left } else w) ≡ record (with_entry WalkDone w) { left = map (λ n. 0) w.left } =
@@ -244,28 +244,28 @@ goes_on_left w a f g next held is stands looks =
     never_more next false is = cc
 
 -- the looks that are left, as a turn reads them
-pub taken_by : (m : Machine) (h n : ℕ) (w : World) → left_of w.left h ≡ n → taken m h (left_of w.left h) w ≡ taken m h n w
-taken_by m h n w is = ap (λ (k : ℕ). taken m h k w) is
+pub taken_by : (m : Machine) (h n : ℕ) (w : World) → looks_of_hart w.left h ≡ n → after_look m h (looks_of_hart w.left h) w ≡ after_look m h n w
+taken_by m h n w is = ap (λ (k : ℕ). after_look m h k w) is
 
 pub moved_stands : (w : World) (a : Inside) (f : Flight) (g : GmonValue) (h : ℕ) (next : Walk) → IsHeld a → a.flight ≡ Some f → holds a.flight h ≡ true → Looks w.log f.walk a.gmon g (More next) → StandsFor w (value_of a)
-    → StandsFor (taken a.machine h (left_of w.left h) w) (record (value_of a) { flight = Some (record { hart = h; walk = next }); gmon = g }) × ((taken a.machine h (left_of w.left h) w).prints ≡ w.prints)
+    → StandsFor (after_look a.machine h (looks_of_hart w.left h) w) (record (value_of a) { flight = Some (record { hart = h; walk = next }); gmon = g }) × ((after_look a.machine h (looks_of_hart w.left h) w).prints ≡ w.prints)
 moved_stands w a f g h next held is mine looks stands =
     let here : f.hart ≡ h = eqb-true f.hart h (sym (ap (λ (o : Option Flight). holds o h) is) ∙ mine) in
     let (n, two, gmon, next_is) = goes_on_left w a f g next held is stands looks in
-    let left : left_of w.left f.hart ≡ suc (suc n) = left_here w (value_of a) f (held_inside a f held is) is stands ∙ two in
+    let left : looks_of_hart w.left f.hart ≡ suc (suc n) = left_here w (value_of a) f (held_inside a f held is) is stands ∙ two in
     let moved = moved_here w (value_of a) g f (suc n) is gmon (sym two) stands in
     let P : Walk → Type 0 = λ x. StandsFor (record w { left = set w.left f.hart (suc n) }) (record (value_of a) { flight = Some (record { hart = f.hart; walk = x }); gmon = g }) in
     let Q : World → Type 0 = λ v. StandsFor v (record (value_of a) { flight = Some (record { hart = f.hart; walk = next }); gmon = g }) × (v.prints ≡ w.prints) in
-    let R : ℕ → Type 0 = λ k. StandsFor (taken a.machine k (left_of w.left k) w) (record (value_of a) { flight = Some (record { hart = k; walk = next }); gmon = g }) × ((taken a.machine k (left_of w.left k) w).prints ≡ w.prints) in
+    let R : ℕ → Type 0 = λ k. StandsFor (after_look a.machine k (looks_of_hart w.left k) w) (record (value_of a) { flight = Some (record { hart = k; walk = next }); gmon = g }) × ((after_look a.machine k (looks_of_hart w.left k) w).prints ≡ w.prints) in
     subst R here (subst Q (sym (taken_by a.machine f.hart (suc (suc n)) w left)) (subst P (sym next_is) moved, refl))
 
 pub over_stands : (w : World) (a : Inside) (f : Flight) (g : GmonValue) (h : ℕ) (result : Looked) → IsHeld a → a.flight ≡ Some f → holds a.flight h ≡ true → Looks w.log f.walk a.gmon g result → ((x : Walk) → result ≡ More x → ⊥) → StandsFor w (value_of a)
-    → StandsFor (taken a.machine h (left_of w.left h) w) (returns h (record (value_of a) { flight = None; gmon = g })) × ((taken a.machine h (left_of w.left h) w).prints ≡ w.prints)
+    → StandsFor (after_look a.machine h (looks_of_hart w.left h) w) (returns h (record (value_of a) { flight = None; gmon = g })) × ((after_look a.machine h (looks_of_hart w.left h) w).prints ≡ w.prints)
 over_stands w a f g h result held is mine looks over stands =
     let here : f.hart ≡ h = eqb-true f.hart h (sym (ap (λ (o : Option Flight). holds o h) is) ∙ mine) in
     let last = more_left w a f g result held is stands looks over in
-    let left : left_of w.left f.hart ≡ suc zero = left_here w (value_of a) f (held_inside a f held is) is stands ∙ last.0 in
+    let left : looks_of_hart w.left f.hart ≡ suc zero = left_here w (value_of a) f (held_inside a f held is) is stands ∙ last.0 in
     let done = over_here w (value_of a) g f (held_inside a f held is) is last.1 stands in
     let Q : World → Type 0 = λ v. StandsFor v (returns f.hart (record (value_of a) { flight = None; gmon = g })) × (v.prints ≡ w.prints) in
-    let R : ℕ → Type 0 = λ k. StandsFor (taken a.machine k (left_of w.left k) w) (returns k (record (value_of a) { flight = None; gmon = g })) × ((taken a.machine k (left_of w.left k) w).prints ≡ w.prints) in
+    let R : ℕ → Type 0 = λ k. StandsFor (after_look a.machine k (looks_of_hart w.left k) w) (returns k (record (value_of a) { flight = None; gmon = g })) × ((after_look a.machine k (looks_of_hart w.left k) w).prints ≡ w.prints) in
     subst R here (subst Q (sym (taken_by a.machine f.hart (suc zero) w left)) (returns_stands _ _ f.hart done, prints_returned f.hart _))

@@ -17,7 +17,7 @@ use Rattle.rv_step.specs.declared.stepped.Stepped.TheVariants.{Ecall, Retired, T
 use Rattle.rv_step.specs.declared.stepped.TrapKind.{TrapKind}
 use Rattle.rv_step.specs.declared.stepped.TrapKind.TheVariants.{JumpMisaligned}
 use Rattle.prof_machine.specs.Ecalls.{ecall_of}
-use Rattle.prof_machine.specs.Turn.{after_call, after_ecall, after_entering, after_step, arrived, closed, executed, is_at, returned, target_of, turn_of, while_going, with_entry, world_after}
+use Rattle.prof_machine.specs.Turn.{after_call, after_ecall, after_entering, after_step, after_arrival, after_close, after_execution, is_at, after_return, return_target, turn_of, while_going, with_entry, world_after}
 use Rattle.prof_machine.specs.Value.{is_sample}
 use Rattle.prof_machine.specs.World.{World, hart_of}
 use Rattle.prof_machine.specs.declared.ecalls.Call.{Call}
@@ -40,8 +40,8 @@ unfolding while_going
 ended_stage f w is = ap (λ (o : Option End). if is_some o then w else f w) (the_end w.ending is).1
 
 -- it hasn't ended
-pub closed_going : (w : World) → w.ending ≡ None → closed w ≡ w
-unfolding closed
+pub closed_going : (w : World) → w.ending ≡ None → after_close w ≡ w
+unfolding after_close
 closed_going w is = ap (λ (o : Option End). if is_some o && list_any (λ k. nat_lt 0 k) w.left then record (with_entry WalkDone w) { left = map (λ n. 0) w.left } else w) is
 
 going_by : (f : World → World) (w : World) (Q : World → Type 0) (o : Option End) → w.ending ≡ o → (w.ending ≡ None → Q (f w)) → ((end : End) → w.ending ≡ Some end → Q w) → Q (if is_some o then w else f w)
@@ -83,8 +83,8 @@ by_step m h w Retired s memory = inl (refl, refl, refl, refl)
 by_step m h w Ecall s memory = left_side (by_ecall m h w)
 by_step m h w (Trapped kind) s memory = inr (inr (refl, (kind, (hart_of w.harts h).pc, refl), refl, refl))
 
-pub by_executed : (m : Machine) (h : ℕ) (w : World) → WentOn w (executed m h w) ⊎ (Exited w (executed m h w) ⊎ HasTrapped w (executed m h w))
-unfolding executed
+pub by_executed : (m : Machine) (h : ℕ) (w : World) → WentOn w (after_execution m h w) ⊎ (Exited w (after_execution m h w) ⊎ HasTrapped w (after_execution m h w))
+unfolding after_execution
 by_executed m h w = let o = step_of (hart_of w.harts h) w.memory in by_step m h w o.answer o.registers o.memory
 
 -- a hart is at no hook, or returns from one, or begins to enter a call
@@ -95,9 +95,9 @@ returned_test : (h : ℕ) (w : World) (harts : List Registers) (pc : ℕ) (b : B
 returned_test h w harts pc true = (refl, inl refl, refl, refl)
 returned_test h w harts pc false = (refl, inr (JumpMisaligned, pc, refl), refl, refl)
 
-pub by_returned : (h : ℕ) (w : World) → Returned w (returned h w)
-unfolding returned
-by_returned h w = let s = hart_of w.harts h in returned_test h w (set w.harts h (record s { pc = target_of s })) s.pc (eqb (target_of s % 4) 0)
+pub by_returned : (h : ℕ) (w : World) → Returned w (after_return h w)
+unfolding after_return
+by_returned h w = let s = hart_of w.harts h in returned_test h w (set w.harts h (record s { pc = return_target s })) s.pc (eqb (return_target s % 4) 0)
 
 -- what is served adds at most one entry, which is no sample
 abbrev Served : Machine → ℕ → World → World → Type 0
@@ -108,7 +108,7 @@ Served m h w v =
 pub no_sample : (log : List LogEntry) (e : LogEntry) → is_sample e ≡ false → count_by is_sample (log ++ e ∷ []) ≡ count_by is_sample log
 no_sample log e is = sum_by_push (λ x. cond (is_sample x) 1 0) log e ∙ ap (λ (b : Bool). count_by is_sample log + cond b 1 0) is ∙ omega arith
 
-back_from : (m : Machine) (h : ℕ) (w : World) (e : LogEntry) → is_sample e ≡ false → Served m h w (returned h (with_entry e w))
+back_from : (m : Machine) (h : ℕ) (w : World) (e : LogEntry) → is_sample e ≡ false → Served m h w (after_return h (with_entry e w))
 back_from m h w e is =
     let r = by_returned h (with_entry e w) in
     (r.0, r.1, ap (count_by is_sample) r.2 ∙ no_sample w.log e is, inl r.3)
@@ -123,8 +123,8 @@ by_hooks m h w u v true c p q = p
 by_hooks m h w u v false true p q = q
 by_hooks m h w u v false false p q = (refl, inl refl, refl, inl refl)
 
-pub by_arrived : (m : Machine) (h : ℕ) (w : World) → Served m h w (arrived m h w)
-unfolding arrived
+pub by_arrived : (m : Machine) (h : ℕ) (w : World) → Served m h w (after_arrival m h w)
+unfolding after_arrival
 by_arrived m h w =
     let s = hart_of w.harts h in
     by_hooks m h w _ _ (is_at m.mcount s.pc) (is_at m.moncontrol s.pc) (by_entering m h (register s 10) (register s 1) w (meets m.sizes (state_of m.sizes w.log) (register s 10) (register s 1))) (back_from m h w (Mode _) refl)

@@ -12,10 +12,10 @@ use Rattle.prof_machine.specs.declared.machine.Machine.{Machine}
 use Rattle.prof_machine.specs.declared.notes.Ran.{Ran}
 use Rattle.prof_machine.specs.declared.setup.Setup.{Setup}
 use Rattle.prof_machine.specs.Notes.{note_of}
-use Rattle.prof_machine.specs.Plan.{driven, most_turns, planned}
+use Rattle.prof_machine.specs.Plan.{after_drive, most_turns, world_at}
 use Rattle.prof_machine.specs.Start.{final_world, machine_of, start_of}
 use Rattle.prof_machine.specs.Turn.{turn_of, world_after}
-use Rattle.prof_machine.specs.World.{World, hart_of, left_of}
+use Rattle.prof_machine.specs.World.{World, hart_of, looks_of_hart}
 
 -- the samples that the notes of turns tell, in order
 abbrev pub noted_samples : Machine → World → List ℕ → List ℕ
@@ -58,10 +58,10 @@ NoPlanEndsBusy = (image : Image) (bytes : List ℕ) (setup : Setup) → 1 ≤ se
 
 -- what is printed stays, up to the end of the run
 abbrev pub PrintsStay : Type 0
-PrintsStay = (m : Machine) (w : World) (k n : ℕ) → k ≤ n → (more : List Act) × ((planned m w n).prints ≡ (planned m w k).prints ++ more)
+PrintsStay = (m : Machine) (w : World) (k n : ℕ) → k ≤ n → (more : List Act) × ((world_at m w n).prints ≡ (world_at m w k).prints ++ more)
 
 abbrev pub PrintsStayToTheEnd : Type 0
-PrintsStayToTheEnd = (m : Machine) (w : World) (n : ℕ) → n ≤ most_turns m.setup → (more : List Act) × ((driven m w).prints ≡ (planned m w n).prints ++ more)
+PrintsStayToTheEnd = (m : Machine) (w : World) (n : ℕ) → n ≤ most_turns m.setup → (more : List Act) × ((after_drive m w).prints ≡ (world_at m w n).prints ++ more)
 
 -- ---- a hart that leaves a hook
 
@@ -79,7 +79,7 @@ hooks_left w = count_by leaves_hook w.log
 
 -- from world w to world v hart h has served such a hook, or its walk is over, which was at its last look
 abbrev pub HasServed : World → World → ℕ → Type 0
-HasServed w v h = (hooks_left v ≡ hooks_left w + 1) ⊎ ((w.ending ≡ None) × (left_of w.left h ≡ 1))
+HasServed w v h = (hooks_left v ≡ hooks_left w + 1) ⊎ ((w.ending ≡ None) × (looks_of_hart w.left h ≡ 1))
 
 -- a return from a hook is told exactly where one was served in this turn and none trapped, and it is the pc that the
 -- turn left

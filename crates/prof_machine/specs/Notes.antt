@@ -13,8 +13,8 @@ use Rattle.prof_machine.specs.declared.machine.Machine.{Machine}
 use Rattle.prof_machine.specs.declared.notes.Ran.{Ran}
 use Rattle.prof_machine.specs.declared.notes.TurnNote.{TurnNote}
 use Rattle.prof_machine.specs.Registers.{a0, ra}
-use Rattle.prof_machine.specs.Turn.{executed, is_at, sampled, target_of, while_going}
-use Rattle.prof_machine.specs.World.{World, hart_of, left_of}
+use Rattle.prof_machine.specs.Turn.{after_execution, is_at, after_sample, return_target, while_going}
+use Rattle.prof_machine.specs.World.{World, hart_of, looks_of_hart}
 
 -- ---- the instruction
 
@@ -40,7 +40,7 @@ sample_in m h w = if w.retired % m.setup.every == 0 then counted_in m.sizes w.lo
 
 -- where a hart goes on after a hook; a return that traps is none
 abbrev pub return_of : Registers → Option ℕ
-return_of s = if target_of s % 4 == 0 then Some (target_of s) else None
+return_of s = if return_target s % 4 == 0 then Some (return_target s) else None
 
 -- at once, unless its call is entered
 abbrev pub return_after : Registers → Entered → Option ℕ
@@ -67,11 +67,11 @@ abbrev pub instruction_note_by : Machine → ℕ → World → World → TurnNot
 instruction_note_by m h w v = record {
   ran = ran_of h w v;
   sample = if_going (sample_in m h) v;
-  returned = if_going (return_in m h) (while_going (sampled m h) v);
+  returned = if_going (return_in m h) (while_going (after_sample m h) v);
 }
 
 unfoldable pub instruction_note : Machine → ℕ → World → TurnNote
-instruction_note m h w = instruction_note_by m h w (executed m h w)
+instruction_note m h w = instruction_note_by m h w (after_execution m h w)
 
 -- a look of a walk: after the last one the hart returns
 abbrev pub look_note : Option ℕ → TurnNote
@@ -85,4 +85,4 @@ note_by m h (suc (suc more)) w = look_note None
 
 -- of hart h in world w. A run that has ended has none
 unfoldable pub note_of : Machine → World → ℕ → TurnNote
-note_of m w h = if is_some w.ending then look_note None else note_by m h (left_of w.left h) w
+note_of m w h = if is_some w.ending then look_note None else note_by m h (looks_of_hart w.left h) w

@@ -10,7 +10,7 @@ use Rattle.prof_machine.specs.Executions.{with_execution}
 use Rattle.prof_machine.specs.declared.notes.Ran.{Ran}
 use Rattle.prof_machine.specs.declared.stages.Begin.{Begin}
 use Rattle.prof_machine.specs.Notes.{ran_from}
-use Rattle.prof_machine.specs.Turn.{target_of, with_answer}
+use Rattle.prof_machine.specs.Turn.{return_target, with_answer}
 use Rattle.prof_machine.specs.Value.{RunValue, calls_met, looks_at_most}
 use Rattle.prof_machine.specs.World.{hart_of}
 
@@ -28,7 +28,7 @@ answers h n r = retires (hart_of r.harts h).pc (record r { harts = slice_set r.h
 
 abbrev pub returns_by : ℕ → Registers → RunValue → RunValue
 returns_by h s r =
-    if target_of s % 4 == 0 then record r { harts = slice_set r.harts h (record s { pc = target_of s }) } else record r { ending = Some (Trap JumpMisaligned s.pc) }
+    if return_target s % 4 == 0 then record r { harts = slice_set r.harts h (record s { pc = return_target s }) } else record r { ending = Some (Trap JumpMisaligned s.pc) }
 
 abbrev pub returns : ℕ → RunValue → RunValue
 returns h r = returns_by h (hart_of r.harts h) r

@@ -13,7 +13,7 @@ ghost use Rattle.prof_machine.specs.Notes.{look_note, note_of};
 ghost use Rattle.prof_machine.specs.Setup.{IsSetup};
 ghost use Rattle.prof_machine.specs.Start.{IsRefusal, first_registers as first_registers_of, machine_of, stacks_bytes, start_of, start_refusal};
 ghost use Rattle.prof_machine.specs.Turn.{turn_of};
-ghost use Rattle.prof_machine.specs.Plan.{driven, most_turns, planned};
+ghost use Rattle.prof_machine.specs.Plan.{after_drive, most_turns, world_at};
 ghost use Rattle.prof_machine.specs.Prints.{ArePrinted, BreaksOff, PrintFailed};
 ghost use Rattle.prof_machine.specs.Value.{IsLive, StandsFor, summary_of, turned_of, work_left};
 ghost use Rattle.prof_machine.specs.World.{World};
@@ -201,7 +201,7 @@ impl Run {
     /// memory.
     pub fn drive<H: Host>(&mut self, host: &mut H) -> Result<End, Failed>
         requires { IsLive self.old }
-        ensures stands { OnOk result ((w : World) → StandsFor w self.old → StandsFor (driven self.old.machine w) self.new) }
+        ensures stands { OnOk result ((w : World) → StandsFor w self.old → StandsFor (after_drive self.old.machine w) self.new) }
         ensures answer { IfOk result (λ end. self.new.ending ≡ Some end) }
         ensures open { OnErr result (self.new.ending ≡ None) }
         ensures live { IsLive self.new → ⊥ }
@@ -210,10 +210,10 @@ impl Run {
 
         // What the outside has gained. A print fails in a turn of the plan before which the run hasn't ended.
         ensures prints { OnOk result ((w : World) → StandsFor w self.old
-            → ArePrinted w (driven self.old.machine w) (H.outside host.old) (H.outside host.new)) }
+            → ArePrinted w (after_drive self.old.machine w) (H.outside host.old) (H.outside host.new)) }
         ensures fails { OnErr result ((w : World) → StandsFor w self.old
-            → (n : ℕ) × (n < most_turns self.old.machine.setup) × ((planned self.old.machine w n).ending ≡ None)
-            × BreaksOff w (planned self.old.machine w (n + 1)) (H.outside host.old) (H.outside host.new)) }
+            → (n : ℕ) × (n < most_turns self.old.machine.setup) × ((world_at self.old.machine w n).ending ≡ None)
+            × BreaksOff w (world_at self.old.machine w (n + 1)) (H.outside host.old) (H.outside host.new)) }
         ensures counts { MatchResult result (λ _. KeepsCounts (H.outside host.old) (H.outside host.new)) (λ _. PrintFailed (H.outside host.old) (H.outside host.new)) }
         ensures writing { (H.outside host.new).is_writing ≡ (H.outside host.old).is_writing }
         ensures input { KeepsInput (H.outside host.old) (H.outside host.new) }

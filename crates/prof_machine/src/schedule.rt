@@ -2,7 +2,7 @@
 
 ghost use Rattle.std.specs.Prelude.{◌≡◌, ◌+◌, ◌%◌, ◌<◌, ◌≤◌, ℕ};
 ghost use Rattle.prof_machine.specs.declared.setup.Setup.{Setup as AnySetup};
-ghost use Rattle.prof_machine.specs.Plan.{shuffled as spec, taker_of};
+ghost use Rattle.prof_machine.specs.Plan.{shuffle_of as spec, taker_of};
 ghost use Rattle.prof_machine.specs.Schedule.{Draws, IsRound};
 ghost use Rattle.prof_machine.specs.Setup.{IsSetup};
 

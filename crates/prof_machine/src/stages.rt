@@ -8,9 +8,9 @@ ghost use Rattle.prof_machine.specs.Executions.{with_execution};
 ghost use Rattle.prof_machine.specs.Notes.{if_going, instruction_note, look_note, note_by, return_from_call, return_in, return_of, sample_in};
 ghost use Rattle.prof_machine.specs.Prints.{ArePrinted, BreaksOff, PrintFailed};
 ghost use Rattle.prof_machine.specs.Stages.{Executes, Serves, Steps, Ticks, answers, begin_of, holds, ran_since, retires, returns};
-ghost use Rattle.prof_machine.specs.Turn.{after_ecall, arrived, called, closed, executed, instructed, sampled, spent, switched, taken, while_going};
+ghost use Rattle.prof_machine.specs.Turn.{after_ecall, after_arrival, after_mcount, after_close, after_execution, after_ordinary_turn, after_sample, after_budget, after_moncontrol, after_look, while_going};
 ghost use Rattle.prof_machine.specs.Value.{StandsFor, calls_met, work_left};
-ghost use Rattle.prof_machine.specs.World.{World, hart_of, left_of};
+ghost use Rattle.prof_machine.specs.World.{World, hart_of, looks_of_hart};
 
 use crate::ecalls::{A0, Call, ecall_of, write};
 use crate::ending::End;
@@ -52,13 +52,13 @@ impl Run {
         requires hart { hart < self.old.machine.setup.harts }
         requires going { self.old.ending ≡ None }
         requires dead { self.old.live ≡ false }
-        ensures stands { (w : World) → StandsFor w self.old → StandsFor (taken self.old.machine hart (left_of w.left hart) w) self.new }
-        ensures prints { (w : World) → StandsFor w self.old → (taken self.old.machine hart (left_of w.left hart) w).prints ≡ w.prints }
+        ensures stands { (w : World) → StandsFor w self.old → StandsFor (after_look self.old.machine hart (looks_of_hart w.left hart) w) self.new }
+        ensures prints { (w : World) → StandsFor w self.old → (after_look self.old.machine hart (looks_of_hart w.left hart) w).prints ≡ w.prints }
         ensures same { Steps self.old self.new }
         ensures retired { self.new.retired ≡ self.old.retired }
         ensures due { self.new.due ≡ self.old.due }
         ensures less { work_left self.new < work_left self.old }
-        ensures note { (w : World) → StandsFor w self.old → look_note result ≡ note_by self.old.machine hart (left_of w.left hart) w }
+        ensures note { (w : World) → StandsFor w self.old → look_note result ≡ note_by self.old.machine hart (looks_of_hart w.left hart) w }
     {
         let Some(flight) = self.flight.take() else {
             return None;
@@ -82,11 +82,11 @@ impl Run {
         requires left { self.old.retired < self.old.machine.setup.budget }
         requires due { 1 ≤ self.old.due }
         requires dead { self.old.live ≡ false }
-        ensures stands { OnOk result ((w : World) → StandsFor w self.old → StandsFor (instructed self.old.machine hart w) self.new) }
+        ensures stands { OnOk result ((w : World) → StandsFor w self.old → StandsFor (after_ordinary_turn self.old.machine hart w) self.new) }
         ensures prints { OnOk result ((w : World) → StandsFor w self.old
-            → ArePrinted w (instructed self.old.machine hart w) (H.outside host.old) (H.outside host.new)) }
+            → ArePrinted w (after_ordinary_turn self.old.machine hart w) (H.outside host.old) (H.outside host.new)) }
         ensures fails { OnErr result ((w : World) → StandsFor w self.old
-            → BreaksOff w (instructed self.old.machine hart w) (H.outside host.old) (H.outside host.new)) }
+            → BreaksOff w (after_ordinary_turn self.old.machine hart w) (H.outside host.old) (H.outside host.new)) }
         ensures counts { MatchResult result (λ _. KeepsCounts (H.outside host.old) (H.outside host.new)) (λ _. PrintFailed (H.outside host.old) (H.outside host.new)) }
         ensures writing { (H.outside host.new).is_writing ≡ (H.outside host.old).is_writing }
         ensures input { KeepsInput (H.outside host.old) (H.outside host.new) }
@@ -115,11 +115,11 @@ impl Run {
         requires left { self.old.retired < self.old.machine.setup.budget }
         requires due { 1 ≤ self.old.due }
         requires dead { self.old.live ≡ false }
-        ensures stands { OnOk result ((w : World) → StandsFor w self.old → StandsFor (instructed self.old.machine hart w) self.new) }
+        ensures stands { OnOk result ((w : World) → StandsFor w self.old → StandsFor (after_ordinary_turn self.old.machine hart w) self.new) }
         ensures prints { OnOk result ((w : World) → StandsFor w self.old
-            → ArePrinted w (instructed self.old.machine hart w) (H.outside host.old) (H.outside host.new)) }
+            → ArePrinted w (after_ordinary_turn self.old.machine hart w) (H.outside host.old) (H.outside host.new)) }
         ensures fails { OnErr result ((w : World) → StandsFor w self.old
-            → BreaksOff w (instructed self.old.machine hart w) (H.outside host.old) (H.outside host.new)) }
+            → BreaksOff w (after_ordinary_turn self.old.machine hart w) (H.outside host.old) (H.outside host.new)) }
         ensures counts { MatchResult result (λ _. KeepsCounts (H.outside host.old) (H.outside host.new)) (λ _. PrintFailed (H.outside host.old) (H.outside host.new)) }
         ensures writing { (H.outside host.new).is_writing ≡ (H.outside host.old).is_writing }
         ensures input { KeepsInput (H.outside host.old) (H.outside host.new) }
@@ -179,11 +179,11 @@ impl Run {
         requires due { 1 ≤ self.old.due }
         requires going { self.old.ending ≡ None }
         requires dead { self.old.live ≡ false }
-        ensures stands { OnOk result ((w : World) → StandsFor w self.old → StandsFor (executed self.old.machine hart w) self.new) }
+        ensures stands { OnOk result ((w : World) → StandsFor w self.old → StandsFor (after_execution self.old.machine hart w) self.new) }
         ensures prints { OnOk result ((w : World) → StandsFor w self.old
-            → ArePrinted w (executed self.old.machine hart w) (H.outside host.old) (H.outside host.new)) }
+            → ArePrinted w (after_execution self.old.machine hart w) (H.outside host.old) (H.outside host.new)) }
         ensures fails { OnErr result ((w : World) → StandsFor w self.old
-            → BreaksOff w (executed self.old.machine hart w) (H.outside host.old) (H.outside host.new)) }
+            → BreaksOff w (after_execution self.old.machine hart w) (H.outside host.old) (H.outside host.new)) }
         ensures counts { MatchResult result (λ _. KeepsCounts (H.outside host.old) (H.outside host.new)) (λ _. PrintFailed (H.outside host.old) (H.outside host.new)) }
         ensures writing { (H.outside host.new).is_writing ≡ (H.outside host.old).is_writing }
         ensures input { KeepsInput (H.outside host.old) (H.outside host.new) }
@@ -284,7 +284,7 @@ impl Run {
         requires due { self.old.ending ≡ None → self.old.due < self.old.machine.setup.every }
         requires samples { self.old.ending ≡ None → self.old.samples < self.old.retired }
         requires dead { self.old.live ≡ false }
-        ensures stands { (w : World) → StandsFor w self.old → StandsFor (while_going (sampled self.old.machine hart) w) self.new }
+        ensures stands { (w : World) → StandsFor w self.old → StandsFor (while_going (after_sample self.old.machine hart) w) self.new }
         ensures ticks { Ticks self.old self.new }
         ensures note { (w : World) → StandsFor w self.old → result ≡ if_going (sample_in self.old.machine hart) w }
     {
@@ -311,7 +311,7 @@ impl Run {
         requires hart { hart < self.old.machine.setup.harts }
         requires calls { self.old.ending ≡ None → calls_met self.old < self.old.retired }
         requires dead { self.old.live ≡ false }
-        ensures stands { (w : World) → StandsFor w self.old → StandsFor (while_going (arrived self.old.machine hart) w) self.new }
+        ensures stands { (w : World) → StandsFor w self.old → StandsFor (while_going (after_arrival self.old.machine hart) w) self.new }
         ensures serves { Serves self.old self.new }
         ensures note { (w : World) → StandsFor w self.old → result ≡ if_going (return_in self.old.machine hart) w }
     {
@@ -334,7 +334,7 @@ impl Run {
         requires calls { calls_met self.old < self.old.retired }
         requires going { self.old.ending ≡ None }
         requires dead { self.old.live ≡ false }
-        ensures stands { (w : World) → StandsFor w self.old → StandsFor (called self.old.machine hart (hart_of w.harts hart) w) self.new }
+        ensures stands { (w : World) → StandsFor w self.old → StandsFor (after_mcount self.old.machine hart (hart_of w.harts hart) w) self.new }
         ensures serves { Serves self.old self.new }
         ensures note { (w : World) → StandsFor w self.old → result ≡ return_from_call self.old.machine w.log (hart_of w.harts hart) }
     {
@@ -357,7 +357,7 @@ impl Run {
         requires hart { hart < self.old.machine.setup.harts }
         requires going { self.old.ending ≡ None }
         requires dead { self.old.live ≡ false }
-        ensures stands { (w : World) → StandsFor w self.old → StandsFor (switched hart (hart_of w.harts hart) w) self.new }
+        ensures stands { (w : World) → StandsFor w self.old → StandsFor (after_moncontrol hart (hart_of w.harts hart) w) self.new }
         ensures serves { Serves self.old self.new }
         ensures note { (w : World) → StandsFor w self.old → result ≡ return_of (hart_of w.harts hart) }
     {
@@ -389,7 +389,7 @@ impl Run {
     // The end of the run, once the budget is used up.
     fn spend(&mut self)
         requires dead { self.old.live ≡ false }
-        ensures stands { (w : World) → StandsFor w self.old → StandsFor (while_going (spent self.old.machine) w) self.new }
+        ensures stands { (w : World) → StandsFor w self.old → StandsFor (while_going (after_budget self.old.machine) w) self.new }
         ensures changed { self.new ≡ record self.old { ending = self.new.ending } }
         ensures left { self.new.ending ≡ None → self.new.retired < self.new.machine.setup.budget }
         ensures ended { IsSome self.old.ending → self.new.ending ≡ self.old.ending }
@@ -402,7 +402,7 @@ impl Run {
     // Once the run has ended, looks at the walk in flight to its end.
     pub(crate) fn close(&mut self)
         requires dead { self.old.live ≡ false }
-        ensures stands { (w : World) → StandsFor w self.old → StandsFor (closed w) self.new }
+        ensures stands { (w : World) → StandsFor w self.old → StandsFor (after_close w) self.new }
         ensures going { self.old.ending ≡ None → self.new ≡ self.old }
         ensures ending { self.new.ending ≡ self.old.ending }
         ensures same { Steps self.old self.new }

@@ -4,7 +4,7 @@ use Rattle.std.specs.List.{sum_by}
 use Rattle.std.proofs.lemmas.List.Sums.{sum_by-cons}
 use Rattle.gmon_data.specs.declared.hist.Hist.{Hist}
 use Rattle.gmon_data.specs.Hists.{put_hist, samples_of}
-use Rattle.gmon_data.specs.Tally.{tally, total_of}
+use Rattle.gmon_data.specs.Tally.{tally, tally_total}
 use Rattle.gmon_data.specs.Content.{Content, same_ends}
 use Rattle.gmon_data.specs.Sizes.{IsOfBytes}
 use Rattle.gmon_data.proofs.BoundLemmas.{counters_at_most, tally_at_most}
@@ -24,7 +24,7 @@ module _ {K : Type 0} (same : K → K → Bool) where
   abbrev all_tallied : List (K × ℕ) → List (K × ℕ) → List (K × ℕ)
   all_tallied ps qs = fold (λ done e. tally same e.0 e.1 done) ps qs
 
-  totals_sum : (qs ps : List (K × ℕ)) → total_of (all_tallied ps qs) ≡ total_of ps + total_of qs
+  totals_sum : (qs ps : List (K × ℕ)) → tally_total (all_tallied ps qs) ≡ tally_total ps + tally_total qs
   totals_sum [] ps = omega arith
   totals_sum (e ∷ qs) ps = omega (arith, totals_sum qs (tally same e.0 e.1 ps), sum-tally same e.0 e.1 ps, sum_by-cons (λ (e : K × ℕ). e.1) e qs)
 

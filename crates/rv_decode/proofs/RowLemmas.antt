@@ -6,7 +6,7 @@ use Rattle.std.proofs.lemmas.Bool.{and_parts, eqb-true, ne_eqb, cases_Bool}
 use Rattle.std.proofs.lemmas.Bool.Decides.{nat_tests}
 use Rattle.rv_decode.specs.Fields.{field}
 use Rattle.rv_decode.specs.declared.instruction.Instr.{Instr}
-use Rattle.rv_decode.specs.Table.{Row, table, row_of, instr_of, instr_in, form_of, row}
+use Rattle.rv_decode.specs.Table.{Row, table, row_of, instr_of, instr_in, operand_form, row}
 use Rattle.rv_decode.specs.declared.instruction.Op.TheVariants.{Lui}
 
 -- a word under each of the masks
@@ -50,7 +50,7 @@ unfolding table
 table_sound = refl
 
 abbrev pub instr_at : ℕ → ℕ → ℕ → ℕ → Option Instr
-instr_at w o f g = option_map (λ r. instr_in (form_of r.op) r.op w) (find (fits w o f g) table)
+instr_at w o f g = option_map (λ r. instr_in (operand_form r.op) r.op w) (find (fits w o f g) table)
 
 find_same : (p q good : Row → Bool) → ((r : Row) → good r ≡ true → p r ≡ q r) → (rs : List Row) → list_all good rs ≡ true → find p rs ≡ find q rs
 find_same p q good same [] h = refl
@@ -94,7 +94,7 @@ pub instr_of_fields : (w o f g : ℕ) → w < 2 ^ 32 → bit_and w 127 ≡ o →
 unfolding instr_of row_of
 instr_of_fields w o f g h ho hf hg =
     let low : w % 128 ≡ o = sym (and_mask w 7) ∙ ho in
-    rw (← low, ← hf, ← hg) (ap (λ (r : Option Row). option_map (λ r. instr_in (form_of r.op) r.op w) r) (find_same _ _ sound (fits_is w h) table table_sound))
+    rw (← low, ← hf, ← hg) (ap (λ (r : Option Row). option_map (λ r. instr_in (operand_form r.op) r.op w) r) (find_same _ _ sound (fits_is w h) table table_sound))
 
 -- the same where the code has read the opcode, funct3 and funct7
 pub at_opcode : (w o : ℕ) → w < 2 ^ 32 → bit_and w 127 ≡ o → instr_of w ≡ instr_at w o (field w 12 3) (field w 25 7)

@@ -34,5 +34,5 @@ imm_j w =
     signed_of (2 ^ 20) (field w 31 1 * 2 ^ 20 + field w 12 8 * 2 ^ 12 + field w 20 1 * 2 ^ 11 + field w 21 10 * 2)
 
 -- where a jump or a branch at pc goes by its constant, modulo 2 ^ 32
-abbrev pub target_of : ℕ → ℤ → ℕ
-target_of pc imm = (pc + cast_unsigned w32 imm) % 2 ^ 32
+abbrev pub jump_target : ℕ → ℤ → ℕ
+jump_target pc imm = (pc + cast_unsigned w32 imm) % 2 ^ 32

@@ -3,8 +3,8 @@ use Rattle.std.specs.Prelude.{ℕ, ◌/◌, ◌^◌, ℤ, List, [], ◌∷◌, �
 use Rattle.std.specs.Fmt.{decimal, signed_decimal}
 use Rattle.std.specs.Int.{cast_unsigned, w32}
 use Rattle.text_cols.specs.Columns.{hex_of, hex8_of}
-use Rattle.rv_decode.specs.Fields.{target_of}
-use Rattle.rv_decode.specs.Table.{form_of}
+use Rattle.rv_decode.specs.Fields.{jump_target}
+use Rattle.rv_decode.specs.Table.{operand_form}
 use Rattle.rv_decode.specs.declared.instruction.Op.{Op}
 use Rattle.rv_decode.specs.declared.instruction.Op.TheVariants.{Lui, Auipc, Jal, Jalr, Beq, Bne, Blt, Bge, Bltu, Bgeu, Lb, Lh, Lw, Lbu, Lhu, Sb, Sh, Sw, Addi, Slti, Sltiu, Xori, Ori, Andi, Slli, Srli, Srai, Add, Sub, Sll, Slt, Sltu, Xor, Srl, Sra, Or, And, Fence, FenceI, Ecall, Ebreak, Mul, Mulh, Mulhsu, Mulhu, Div, Divu, Rem, Remu}
 use Rattle.rv_decode.specs.declared.instruction.Instr.{Instr}
@@ -12,56 +12,56 @@ use Rattle.rv_decode.specs.declared.forms.Form.{Form}
 use Rattle.rv_decode.specs.declared.forms.Form.TheVariants.{Upper, Jump, Branch, Offset, Store, Immediate, Shift, Register, Plain}
 
 -- the name of an operation
-abbrev pub name_of : Op → List ℕ
-name_of Lui = codes "lui"
-name_of Auipc = codes "auipc"
-name_of Jal = codes "jal"
-name_of Jalr = codes "jalr"
-name_of Beq = codes "beq"
-name_of Bne = codes "bne"
-name_of Blt = codes "blt"
-name_of Bge = codes "bge"
-name_of Bltu = codes "bltu"
-name_of Bgeu = codes "bgeu"
-name_of Lb = codes "lb"
-name_of Lh = codes "lh"
-name_of Lw = codes "lw"
-name_of Lbu = codes "lbu"
-name_of Lhu = codes "lhu"
-name_of Sb = codes "sb"
-name_of Sh = codes "sh"
-name_of Sw = codes "sw"
-name_of Addi = codes "addi"
-name_of Slti = codes "slti"
-name_of Sltiu = codes "sltiu"
-name_of Xori = codes "xori"
-name_of Ori = codes "ori"
-name_of Andi = codes "andi"
-name_of Slli = codes "slli"
-name_of Srli = codes "srli"
-name_of Srai = codes "srai"
-name_of Add = codes "add"
-name_of Sub = codes "sub"
-name_of Sll = codes "sll"
-name_of Slt = codes "slt"
-name_of Sltu = codes "sltu"
-name_of Xor = codes "xor"
-name_of Srl = codes "srl"
-name_of Sra = codes "sra"
-name_of Or = codes "or"
-name_of And = codes "and"
-name_of Fence = codes "fence"
-name_of FenceI = codes "fence.i"
-name_of Ecall = codes "ecall"
-name_of Ebreak = codes "ebreak"
-name_of Mul = codes "mul"
-name_of Mulh = codes "mulh"
-name_of Mulhsu = codes "mulhsu"
-name_of Mulhu = codes "mulhu"
-name_of Div = codes "div"
-name_of Divu = codes "divu"
-name_of Rem = codes "rem"
-name_of Remu = codes "remu"
+abbrev pub mnemonic_of : Op → List ℕ
+mnemonic_of Lui = codes "lui"
+mnemonic_of Auipc = codes "auipc"
+mnemonic_of Jal = codes "jal"
+mnemonic_of Jalr = codes "jalr"
+mnemonic_of Beq = codes "beq"
+mnemonic_of Bne = codes "bne"
+mnemonic_of Blt = codes "blt"
+mnemonic_of Bge = codes "bge"
+mnemonic_of Bltu = codes "bltu"
+mnemonic_of Bgeu = codes "bgeu"
+mnemonic_of Lb = codes "lb"
+mnemonic_of Lh = codes "lh"
+mnemonic_of Lw = codes "lw"
+mnemonic_of Lbu = codes "lbu"
+mnemonic_of Lhu = codes "lhu"
+mnemonic_of Sb = codes "sb"
+mnemonic_of Sh = codes "sh"
+mnemonic_of Sw = codes "sw"
+mnemonic_of Addi = codes "addi"
+mnemonic_of Slti = codes "slti"
+mnemonic_of Sltiu = codes "sltiu"
+mnemonic_of Xori = codes "xori"
+mnemonic_of Ori = codes "ori"
+mnemonic_of Andi = codes "andi"
+mnemonic_of Slli = codes "slli"
+mnemonic_of Srli = codes "srli"
+mnemonic_of Srai = codes "srai"
+mnemonic_of Add = codes "add"
+mnemonic_of Sub = codes "sub"
+mnemonic_of Sll = codes "sll"
+mnemonic_of Slt = codes "slt"
+mnemonic_of Sltu = codes "sltu"
+mnemonic_of Xor = codes "xor"
+mnemonic_of Srl = codes "srl"
+mnemonic_of Sra = codes "sra"
+mnemonic_of Or = codes "or"
+mnemonic_of And = codes "and"
+mnemonic_of Fence = codes "fence"
+mnemonic_of FenceI = codes "fence.i"
+mnemonic_of Ecall = codes "ecall"
+mnemonic_of Ebreak = codes "ebreak"
+mnemonic_of Mul = codes "mul"
+mnemonic_of Mulh = codes "mulh"
+mnemonic_of Mulhsu = codes "mulhsu"
+mnemonic_of Mulhu = codes "mulhu"
+mnemonic_of Div = codes "div"
+mnemonic_of Divu = codes "divu"
+mnemonic_of Rem = codes "rem"
+mnemonic_of Remu = codes "remu"
 
 -- a register, as x5
 abbrev pub register_text : ℕ → List ℕ
@@ -76,7 +76,7 @@ unfoldable pub upper_text : ℤ → List ℕ
 upper_text imm = codes "0x" ++ hex_of 5 (cast_unsigned w32 imm / 2 ^ 12)
 
 abbrev pub target_text : ℕ → ℤ → List ℕ
-target_text pc imm = codes "0x" ++ hex8_of (target_of pc imm)
+target_text pc imm = codes "0x" ++ hex8_of (jump_target pc imm)
 
 -- the operands, in the order in which they are spelled
 abbrev pub operands_of : Form → Instr → ℕ → List (List ℕ)
@@ -97,4 +97,4 @@ listed_after mark (t ∷ ts) = mark ++ t ++ listed_after (codes ", ") ts
 
 -- the spelling of an instruction at pc: its name and, after a space, its operands
 unfoldable pub spelling_of : Instr → ℕ → List ℕ
-spelling_of i pc = name_of i.op ++ listed_after (codes " ") (operands_of (form_of i.op) i pc)
+spelling_of i pc = mnemonic_of i.op ++ listed_after (codes " ") (operands_of (operand_form i.op) i pc)

@@ -13,56 +13,56 @@ use Rattle.rv_decode.specs.declared.forms.Form.{Form}
 use Rattle.rv_decode.specs.declared.forms.Form.TheVariants.{Upper, Jump, Branch, Offset, Store, Immediate, Shift, Register, Plain}
 
 -- how the operands of an operation lie in its word, and how they are spelled
-abbrev pub form_of : Op → Form
-form_of Lui = Upper
-form_of Auipc = Upper
-form_of Jal = Jump
-form_of Jalr = Offset
-form_of Beq = Branch
-form_of Bne = Branch
-form_of Blt = Branch
-form_of Bge = Branch
-form_of Bltu = Branch
-form_of Bgeu = Branch
-form_of Lb = Offset
-form_of Lh = Offset
-form_of Lw = Offset
-form_of Lbu = Offset
-form_of Lhu = Offset
-form_of Sb = Store
-form_of Sh = Store
-form_of Sw = Store
-form_of Addi = Immediate
-form_of Slti = Immediate
-form_of Sltiu = Immediate
-form_of Xori = Immediate
-form_of Ori = Immediate
-form_of Andi = Immediate
-form_of Slli = Shift
-form_of Srli = Shift
-form_of Srai = Shift
-form_of Add = Register
-form_of Sub = Register
-form_of Sll = Register
-form_of Slt = Register
-form_of Sltu = Register
-form_of Xor = Register
-form_of Srl = Register
-form_of Sra = Register
-form_of Or = Register
-form_of And = Register
-form_of Fence = Plain
-form_of FenceI = Plain
-form_of Ecall = Plain
-form_of Ebreak = Plain
-form_of Mul = Register
-form_of Mulh = Register
-form_of Mulhsu = Register
-form_of Mulhu = Register
-form_of Div = Register
-form_of Divu = Register
-form_of Rem = Register
-form_of Remu = Register
+abbrev pub operand_form : Op → Form
+operand_form Lui = Upper
+operand_form Auipc = Upper
+operand_form Jal = Jump
+operand_form Jalr = Offset
+operand_form Beq = Branch
+operand_form Bne = Branch
+operand_form Blt = Branch
+operand_form Bge = Branch
+operand_form Bltu = Branch
+operand_form Bgeu = Branch
+operand_form Lb = Offset
+operand_form Lh = Offset
+operand_form Lw = Offset
+operand_form Lbu = Offset
+operand_form Lhu = Offset
+operand_form Sb = Store
+operand_form Sh = Store
+operand_form Sw = Store
+operand_form Addi = Immediate
+operand_form Slti = Immediate
+operand_form Sltiu = Immediate
+operand_form Xori = Immediate
+operand_form Ori = Immediate
+operand_form Andi = Immediate
+operand_form Slli = Shift
+operand_form Srli = Shift
+operand_form Srai = Shift
+operand_form Add = Register
+operand_form Sub = Register
+operand_form Sll = Register
+operand_form Slt = Register
+operand_form Sltu = Register
+operand_form Xor = Register
+operand_form Srl = Register
+operand_form Sra = Register
+operand_form Or = Register
+operand_form And = Register
+operand_form Fence = Plain
+operand_form FenceI = Plain
+operand_form Ecall = Plain
+operand_form Ebreak = Plain
+operand_form Mul = Register
+operand_form Mulh = Register
+operand_form Mulhsu = Register
+operand_form Mulhu = Register
+operand_form Div = Register
+operand_form Divu = Register
+operand_form Rem = Register
+operand_form Remu = Register
 
 -- a line of the table: the operation of the words whose bits under the mask are these
 pub record Row : Type 0 where
@@ -160,4 +160,4 @@ instr_in Plain op w = instr op 0 0 0 (pos 0)
 
 -- the instruction of a word
 unfoldable pub instr_of : ℕ → Option Instr
-instr_of w = option_map (λ r. instr_in (form_of r.op) r.op w) (row_of w)
+instr_of w = option_map (λ r. instr_in (operand_form r.op) r.op w) (row_of w)

@@ -1,7 +1,7 @@
 //! The forms of instructions.
 
 ghost use Rattle.std.specs.Prelude.{◌≡◌};
-ghost use Rattle.rv_decode.specs.Table.{form_of};
+ghost use Rattle.rv_decode.specs.Table.{operand_form};
 
 use crate::instruction::Op;
 
@@ -30,7 +30,7 @@ pub enum Form {
 
 /// The form of an operation.
 pub fn form_of(op: Op) -> Form
-    ensures { result ≡ form_of op }
+    ensures { result ≡ operand_form op }
 {
     match op {
         Op::Lui | Op::Auipc => Form::Upper,

@@ -2,8 +2,8 @@
 
 ghost use Rattle.std.specs.Prelude.{◌≡◌, ◌+◌, ◌*◌, ◌<◌, ◌≤◌, ◌++◌, length, codes};
 ghost use Rattle.std.specs.Fmt.{signed_decimal};
-ghost use Rattle.rv_decode.specs.Table.{form_of};
-ghost use Rattle.rv_decode.specs.Spelling.{listed_after, name_of, offset_text, operands_of, register_text, spelling_of, target_text, upper_text};
+ghost use Rattle.rv_decode.specs.Table.{operand_form};
+ghost use Rattle.rv_decode.specs.Spelling.{listed_after, mnemonic_of, offset_text, operands_of, register_text, spelling_of, target_text, upper_text};
 
 use crate::forms::{Form, form_of};
 use crate::instruction::{Instr, Op};
@@ -23,7 +23,7 @@ pub fn spell(instr: &Instr, pc: u32, line: &mut Line)
 
 fn put_operands(instr: &Instr, pc: u32, line: &mut Line)
     requires { length line.old + 40 ≤ 256 }
-    ensures operands { line.new ≡ line.old ++ listed_after (codes " ") (operands_of (form_of instr.now.op) instr.now pc) }
+    ensures operands { line.new ≡ line.old ++ listed_after (codes " ") (operands_of (operand_form instr.now.op) instr.now pc) }
     ensures short { length line.new ≤ length line.old + 40 }
 {
     match form_of(instr.op) {
@@ -122,7 +122,7 @@ fn put_upper(mark: &[u8], imm: i32, line: &mut Line)
 }
 
 fn name(op: Op) -> &'static [u8]
-    ensures name { result.now ≡ name_of op }
+    ensures name { result.now ≡ mnemonic_of op }
     ensures short { length result.now ≤ 7 }
 {
     match op {

@@ -4,31 +4,31 @@ use Rattle.std.proofs.lemmas.Bool.Decides.{nat_tests}
 use Rattle.rv_decode.specs.declared.instruction.Op.{Op}
 use Rattle.rv_decode.specs.declared.instruction.Op.TheVariants.{Lui, Auipc, Jal, Jalr, Beq, Bne, Blt, Bge, Bltu, Bgeu, Lb, Lh, Lw, Lbu, Lhu, Sb, Sh, Sw, Addi, Slti, Sltiu, Xori, Ori, Andi, Slli, Srli, Srai, Add, Sub, Sll, Slt, Sltu, Xor, Srl, Sra, Or, And, Fence, FenceI, Ecall, Ebreak, Mul, Mulh, Mulhsu, Mulhu, Div, Divu, Rem, Remu}
 use Rattle.rv_decode.specs.declared.instruction.Instr.{Instr}
-use Rattle.rv_decode.specs.Fields.{target_of}
+use Rattle.rv_decode.specs.Fields.{jump_target}
 use Rattle.rv_step.specs.declared.stepped.Stepped.{Stepped}
 use Rattle.rv_step.specs.declared.stepped.Stepped.TheVariants.{Retired, Trap, Ecall as EnvironmentCall}
 use Rattle.rv_step.specs.declared.stepped.TrapKind.TheVariants.{Breakpoint, JumpMisaligned, LoadMisaligned, LoadOutside, StoreMisaligned, StoreOutside}
 use Rattle.rv_step.specs.Alu.{taken_of, load_width, store_width}
 use Rattle.rv_step.specs.Memory.{Memory, is_inside}
 use Rattle.rv_step.specs.Registers.{Registers, register, with_register}
-use Rattle.rv_step.specs.Step.{Outcome, stopped, trapped, next_of, retired, address_of, register_target, jumps, branches, loads, stores, computes, computes_with, multiplies, executed}
+use Rattle.rv_step.specs.Step.{Outcome, stop_at, trap_at, next_of, retirement, address_of, register_target, jumps, branches, loads, stores, computes, computes_with, multiplies, outcome_of}
 
 -- an outcome after these registers and this memory: only a retired instruction changes them, and pc stays a multiple of 4
 pub record Keeps (s : Registers) (m : Memory) (o : Outcome) : Type 0 where
   pub unchanged : (o.answer ≡ Retired) ⊎ ((o.registers ≡ s) × (o.memory ≡ m))
   pub aligned : s.pc % 4 ≡ 0 → o.registers.pc % 4 ≡ 0
 
-pub keeps_stopped : (answer : Stepped) (s : Registers) (m : Memory) → Keeps s m (stopped answer s m)
+pub keeps_stopped : (answer : Stepped) (s : Registers) (m : Memory) → Keeps s m (stop_at answer s m)
 keeps_stopped answer s m = record { unchanged = inr (refl, refl); aligned = λ h. h }
 
-keeps_next : (s : Registers) (m after : Memory) (x : List ℕ) → Keeps s m (retired (record { x = x; pc = next_of s.pc }) after)
+keeps_next : (s : Registers) (m after : Memory) (x : List ℕ) → Keeps s m (retirement (record { x = x; pc = next_of s.pc }) after)
 keeps_next s m after x = record { unchanged = inl refl; aligned = λ h. omega arith }
 
 keeps_if : (b : Bool) (s : Registers) (m : Memory) (o p : Outcome) → Keeps s m o → Keeps s m p → Keeps s m (cond b o p)
 keeps_if true s m o p h k = h
 keeps_if false s m o p h k = k
 
-keeps_target : (b : Bool) (s : Registers) (m : Memory) (x : List ℕ) (target : ℕ) → (b ≡ true → target % 4 ≡ 0) → Keeps s m (cond b (retired (record { x = x; pc = target }) m) (trapped JumpMisaligned s m))
+keeps_target : (b : Bool) (s : Registers) (m : Memory) (x : List ℕ) (target : ℕ) → (b ≡ true → target % 4 ≡ 0) → Keeps s m (cond b (retirement (record { x = x; pc = target }) m) (trap_at JumpMisaligned s m))
 keeps_target true s m x target h = record { unchanged = inl refl; aligned = λ _. h refl }
 keeps_target false s m x target h = keeps_stopped (Trap JumpMisaligned) s m
 
@@ -42,7 +42,7 @@ keeps_jumps i target s m = keeps_target (eqb (target % 4) 0) s m (with_register 
 keeps_branches : (i : Instr) (s : Registers) (m : Memory) → Keeps s m (branches i s m)
 unfolding branches
 keeps_branches i s m =
-    let target = target_of s.pc i.imm in
+    let target = jump_target s.pc i.imm in
     keeps_if (taken_of i.op (register s i.rs1) (register s i.rs2)) s m _ _
     (keeps_target (eqb (target % 4) 0) s m s.x target (is_multiple target))
     (keeps_next s m m s.x)
@@ -77,11 +77,11 @@ keeps_multiplies : (i : Instr) (s : Registers) (m : Memory) → Keeps s m (multi
 unfolding multiplies
 keeps_multiplies i s m = keeps_next s m m _
 
-pub keeps_executed : (op : Op) (i : Instr) (s : Registers) (m : Memory) → Keeps s m (executed op i s m)
-unfolding executed
+pub keeps_executed : (op : Op) (i : Instr) (s : Registers) (m : Memory) → Keeps s m (outcome_of op i s m)
+unfolding outcome_of
 keeps_executed Lui i s m = keeps_next s m m _
 keeps_executed Auipc i s m = keeps_next s m m _
-keeps_executed Jal i s m = keeps_jumps i (target_of s.pc i.imm) s m
+keeps_executed Jal i s m = keeps_jumps i (jump_target s.pc i.imm) s m
 keeps_executed Jalr i s m = keeps_jumps i (register_target i s) s m
 keeps_executed Beq i s m = keeps_branches i s m
 keeps_executed Bne i s m = keeps_branches i s m

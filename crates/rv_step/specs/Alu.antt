@@ -6,8 +6,8 @@ use Rattle.rv_decode.specs.declared.instruction.Op.{Op}
 use Rattle.rv_decode.specs.declared.instruction.Op.TheVariants.{Beq, Bne, Blt, Bge, Bltu, Lb, Lh, Lbu, Lhu, Sb, Sh, Addi, Slti, Sltiu, Xori, Ori, Slli, Srli, Srai, Add, Sub, Sll, Slt, Sltu, Xor, Srl, Sra, Or, Mul, Mulh, Mulhsu, Mulhu, Div, Divu, Rem}
 
 -- the value in two's complement of a number below 2 ^ 32
-abbrev pub signed : ℕ → ℤ
-signed n = cast_signed w32 n
+abbrev pub signed_value : ℕ → ℤ
+signed_value n = cast_signed w32 n
 
 -- an integer modulo 2 ^ 32
 abbrev pub word_of : ℤ → ℕ
@@ -24,16 +24,16 @@ result_of Addi a b = (a + b) % 2 ^ 32
 result_of Sub a b = word_of (pos a -ℤ pos b)
 result_of Sll a b = a * 2 ^ (b % 32) % 2 ^ 32
 result_of Slli a b = a * 2 ^ (b % 32) % 2 ^ 32
-result_of Slt a b = flag (int_lt (signed a) (signed b))
-result_of Slti a b = flag (int_lt (signed a) (signed b))
+result_of Slt a b = flag (int_lt (signed_value a) (signed_value b))
+result_of Slti a b = flag (int_lt (signed_value a) (signed_value b))
 result_of Sltu a b = flag (nat_lt a b)
 result_of Sltiu a b = flag (nat_lt a b)
 result_of Xor a b = bit_xor a b
 result_of Xori a b = bit_xor a b
 result_of Srl a b = a / 2 ^ (b % 32)
 result_of Srli a b = a / 2 ^ (b % 32)
-result_of Sra a b = word_of (int_shr (signed a) (b % 32))
-result_of Srai a b = word_of (int_shr (signed a) (b % 32))
+result_of Sra a b = word_of (int_shr (signed_value a) (b % 32))
+result_of Srai a b = word_of (int_shr (signed_value a) (b % 32))
 result_of Or a b = bit_or a b
 result_of Ori a b = bit_or a b
 -- `and`, `andi`
@@ -46,10 +46,10 @@ high_half z = word_of (int_shr z 32)
 -- Quotients are rounded toward zero, remainders have the dividend's sign. By 0 the quotient is all ones and the
 -- remainder the dividend. The one signed quotient that is too large, 2 ^ 31, is -2 ^ 31 modulo 2 ^ 32.
 abbrev pub signed_quotient_of : ℕ → ℕ → ℕ
-signed_quotient_of a b = if b == 0 then 2 ^ 32 - 1 else word_of (int_div (signed a) (signed b))
+signed_quotient_of a b = if b == 0 then 2 ^ 32 - 1 else word_of (int_div (signed_value a) (signed_value b))
 
 abbrev pub signed_remainder_of : ℕ → ℕ → ℕ
-signed_remainder_of a b = if b == 0 then a else word_of (int_rem (signed a) (signed b))
+signed_remainder_of a b = if b == 0 then a else word_of (int_rem (signed_value a) (signed_value b))
 
 abbrev pub quotient_of : ℕ → ℕ → ℕ
 quotient_of a b = if b == 0 then 2 ^ 32 - 1 else a / b
@@ -58,23 +58,23 @@ abbrev pub remainder_of : ℕ → ℕ → ℕ
 remainder_of a b = if b == 0 then a else a % b
 
 -- M
-unfoldable pub product_of : Op → ℕ → ℕ → ℕ
-product_of Mul a b = a * b % 2 ^ 32
-product_of Mulh a b = high_half (signed a *ℤ signed b)
-product_of Mulhsu a b = high_half (signed a *ℤ pos b)
-product_of Mulhu a b = high_half (pos (a * b))
-product_of Div a b = signed_quotient_of a b
-product_of Divu a b = quotient_of a b
-product_of Rem a b = signed_remainder_of a b
+unfoldable pub mul_div_of : Op → ℕ → ℕ → ℕ
+mul_div_of Mul a b = a * b % 2 ^ 32
+mul_div_of Mulh a b = high_half (signed_value a *ℤ signed_value b)
+mul_div_of Mulhsu a b = high_half (signed_value a *ℤ pos b)
+mul_div_of Mulhu a b = high_half (pos (a * b))
+mul_div_of Div a b = signed_quotient_of a b
+mul_div_of Divu a b = quotient_of a b
+mul_div_of Rem a b = signed_remainder_of a b
 -- `remu`
-product_of _ a b = remainder_of a b
+mul_div_of _ a b = remainder_of a b
 
 -- whether a branch is taken
 unfoldable pub taken_of : Op → ℕ → ℕ → Bool
 taken_of Beq a b = a == b
 taken_of Bne a b = not (a == b)
-taken_of Blt a b = int_lt (signed a) (signed b)
-taken_of Bge a b = not (int_lt (signed a) (signed b))
+taken_of Blt a b = int_lt (signed_value a) (signed_value b)
+taken_of Bge a b = not (int_lt (signed_value a) (signed_value b))
 taken_of Bltu a b = nat_lt a b
 -- `bgeu`
 taken_of _ a b = not (nat_lt a b)
@@ -96,8 +96,8 @@ store_width Sh = 2
 store_width _ = 4
 
 -- the number that a load makes of the number in memory: `lb` and `lh` extend its sign
-unfoldable pub extended : Op → ℕ → ℕ
-extended Lb n = word_of (cast_signed w8 n)
-extended Lh n = word_of (cast_signed w16 n)
+unfoldable pub extension_of : Op → ℕ → ℕ
+extension_of Lb n = word_of (cast_signed w8 n)
+extension_of Lh n = word_of (cast_signed w16 n)
 -- `lbu`, `lhu`, `lw`
-extended _ n = n
+extension_of _ n = n

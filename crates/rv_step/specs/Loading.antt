@@ -8,8 +8,8 @@ abbrev pub segment_bytes : List ℕ → Segment → List ℕ
 segment_bytes bytes s = take (min s.filesz s.memsz) (drop s.offset bytes)
 
 -- memory after segments are loaded one after the other, so that a later one overwrites an earlier one
-abbrev pub loaded : List Segment → List ℕ → Memory → Memory
-loaded segments bytes m = fold (λ m s. write_at m s.addr (segment_bytes bytes s)) m segments
+abbrev pub with_segments : List Segment → List ℕ → Memory → Memory
+with_segments segments bytes m = fold (λ m s. write_at m s.addr (segment_bytes bytes s)) m segments
 
 -- a segment's addresses lie in memory, and its bytes in the file
 abbrev pub CanLoad : Memory → List ℕ → Segment → Type 0

@@ -1,6 +1,6 @@
 -- Memory: a map from addresses to bytes, which has the addresses from `base` on.
 use Rattle.std.specs.Prelude.{ℕ, ◌+◌, ◌-◌, ◌≤◌, Bool, ◌&&◌, nat_le, if◌then◌else◌, List, length, take, drop, slice_get, Option, None}
-use Rattle.gp_base.specs.Bytes.{value_of, overwritten}
+use Rattle.gp_base.specs.Bytes.{value_of, with_piece_at}
 
 -- the byte of address `base` stands first
 pub record Memory : Type 0 where
@@ -29,4 +29,4 @@ value_at m a n = value_of (read_at m a n)
 
 -- memory after bytes are written from address a on
 unfoldable pub write_at : Memory → ℕ → List ℕ → Memory
-write_at m a bs = record m { bytes = overwritten (a - m.base) bs m.bytes }
+write_at m a bs = record m { bytes = with_piece_at (a - m.base) bs m.bytes }

@@ -1,7 +1,7 @@
 //! Results of operations on numbers.
 
 ghost use Rattle.std.specs.Prelude.{◌≡◌};
-ghost use Rattle.rv_step.specs.Alu.{high_half, product_of, quotient_of, remainder_of, result_of, signed_quotient_of, signed_remainder_of, taken_of};
+ghost use Rattle.rv_step.specs.Alu.{high_half, mul_div_of, quotient_of, remainder_of, result_of, signed_quotient_of, signed_remainder_of, taken_of};
 
 use rv_decode::Op;
 
@@ -26,9 +26,9 @@ pub(crate) fn computed(op: Op, a: u32, b: u32) -> u32
 }
 
 /// The result of an operation of M.
-#[tactic(auto, unfolding(crate::specs::Alu::product_of))]
+#[tactic(auto, unfolding(crate::specs::Alu::mul_div_of))]
 pub(crate) fn multiplied(op: Op, a: u32, b: u32) -> u32
-    ensures { result ≡ product_of op a b }
+    ensures { result ≡ mul_div_of op a b }
 {
     match op {
         Op::Mul => a.wrapping_mul(b),

@@ -1,12 +1,12 @@
 //! What each instruction does.
 
 ghost use Rattle.std.specs.Prelude.{◌≡◌, ◌+◌, ◌%◌, ◌^◌, ◌<◌, ◌≤◌, length};
-ghost use Rattle.rv_decode.specs.Fields.{target_of};
+ghost use Rattle.rv_decode.specs.Fields.{jump_target};
 ghost use Rattle.gp_base.specs.Bytes.{le};
-ghost use Rattle.rv_step.specs.Alu.{extended, load_width, store_width};
+ghost use Rattle.rv_step.specs.Alu.{extension_of, load_width, store_width};
 ghost use Rattle.rv_step.specs.Memory.{Memory, value_at, write_at};
 ghost use Rattle.rv_step.specs.Registers.{register, with_register};
-ghost use Rattle.rv_step.specs.Step.{address_of, branches, computes, computes_with, executed, given, gives, jumps, loads, multiplies, next_of, outcome, passed, register_target, stores};
+ghost use Rattle.rv_step.specs.Step.{address_of, branches, computes, computes_with, outcome_of, with_result, gives, jumps, loads, multiplies, next_of, outcome, at_next, register_target, stores};
 
 use crate::alu::{computed, is_taken, multiplied};
 use crate::memory::Ram;
@@ -17,7 +17,7 @@ use rv_decode::{Instr, Op};
 
 /// Executes an instruction.
 pub(crate) fn execute(instr: &Instr, regs: &mut Regs, ram: &mut Ram) -> Stepped
-    ensures outcome { outcome result regs.new ram.new ≡ executed instr.now.op instr.now regs.old ram.old }
+    ensures outcome { outcome result regs.new ram.new ≡ outcome_of instr.now.op instr.now regs.old ram.old }
     ensures base { ram.new.base ≡ ram.old.base }
     ensures size { length ram.new.bytes ≡ length ram.old.bytes }
 {
@@ -58,13 +58,13 @@ pub(crate) fn execute(instr: &Instr, regs: &mut Regs, ram: &mut Ram) -> Stepped
 
 /// An address and a constant, modulo 2^32.
 fn target(from: u32, imm: i32) -> u32
-    ensures { result ≡ target_of from imm }
+    ensures { result ≡ jump_target from imm }
 {
     from.wrapping_add(imm.cast_unsigned())
 }
 
 fn pass(regs: &mut Regs) -> Stepped
-    ensures { (m : Memory) → outcome result regs.new m ≡ outcome Stepped.Retired (passed regs.old) m }
+    ensures { (m : Memory) → outcome result regs.new m ≡ outcome Stepped.Retired (at_next regs.old) m }
 {
     regs.set_pc(regs.pc().wrapping_add(4));
     Stepped::Retired
@@ -72,7 +72,7 @@ fn pass(regs: &mut Regs) -> Stepped
 
 fn give(rd: u32, value: u32, regs: &mut Regs) -> Stepped
     requires { rd < 32 }
-    ensures { (m : Memory) → outcome result regs.new m ≡ outcome Stepped.Retired (given regs.old rd value) m }
+    ensures { (m : Memory) → outcome result regs.new m ≡ outcome Stepped.Retired (with_result regs.old rd value) m }
 {
     regs.set(rd, value);
     pass(regs)
@@ -161,10 +161,10 @@ fn load(instr: &Instr, regs: &mut Regs, ram: &Ram) -> Stepped
 }
 
 /// What a load makes of the bytes at a place.
-#[tactic(auto, unfolding(crate::specs::Alu::extended, crate::specs::Alu::load_width))]
+#[tactic(auto, unfolding(crate::specs::Alu::extension_of, crate::specs::Alu::load_width))]
 fn value(op: Op, ram: &Ram, at: usize) -> u32
     requires { at + load_width op ≤ length ram.now.bytes }
-    ensures { result ≡ extended op (value_at ram.now (ram.now.base + at) (load_width op)) }
+    ensures { result ≡ extension_of op (value_at ram.now (ram.now.base + at) (load_width op)) }
 {
     match op {
         Op::Lb => i32::from(ram.byte(at).cast_signed()).cast_unsigned(),

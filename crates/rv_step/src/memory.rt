@@ -2,7 +2,7 @@
 
 ghost use Rattle.std.specs.Prelude.{◌≡◌, ◌⊎◌, ℕ, List, slice_get, ◌+◌, ◌-◌, ◌^◌, ◌<◌, ◌≤◌, ◌↔◌, length, replicate, IfOk, IfSome, IsSome, IsNone, All, if◌then◌else◌};
 ghost use Rattle.rv_step.specs.Memory.{IsInside, Memory, byte_at, is_inside, read_at, value_at, write_at};
-ghost use Rattle.rv_step.specs.Loading.{CanLoad, loaded, segment_bytes};
+ghost use Rattle.rv_step.specs.Loading.{CanLoad, with_segments, segment_bytes};
 
 use byteorder::{ByteOrder, LittleEndian};
 use elf32_syms::{Image, Segment};
@@ -43,7 +43,7 @@ impl Ram {
     /// one. Takes no memory.
     pub fn load_image(&mut self, image: &Image, bytes: &[u8])
         requires { All (CanLoad self.old bytes.now) image.now.segments }
-        ensures loaded { self.new ≡ loaded image.now.segments bytes.now self.old }
+        ensures loaded { self.new ≡ with_segments image.now.segments bytes.now self.old }
         ensures base { self.new.base ≡ self.old.base }
         ensures size { length self.new.bytes ≡ length self.old.bytes }
     {

@@ -1,7 +1,7 @@
 //! One step.
 
 ghost use Rattle.std.specs.Prelude.{◌≡◌, ◌⊎◌, ◌%◌, length};
-ghost use Rattle.rv_step.specs.Step.{fetched, instruction_at, outcome, step_of};
+ghost use Rattle.rv_step.specs.Step.{word_at_pc, instruction_at, outcome, step_of};
 
 use crate::execution::execute;
 use crate::memory::Ram;
@@ -59,7 +59,7 @@ pub fn traced_step(regs: &mut Regs, ram: &mut Ram) -> TracedStep
 
 /// The word at pc, if its four bytes are all in memory.
 fn fetch(regs: &Regs, ram: &Ram) -> Option<u32>
-    ensures { result ≡ fetched regs.now ram.now }
+    ensures { result ≡ word_at_pc regs.now ram.now }
 {
     let at = ram.place(regs.pc(), 4)?;
     Some(ram.word(at))

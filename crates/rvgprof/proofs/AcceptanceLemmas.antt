@@ -33,14 +33,14 @@ use Rattle.command_words.specs.declared.words.Command.{Command}
 use Rattle.command_words.specs.declared.words.Command.TheVariants.{Show, Syms, Run, Sum, Report, Profile, Demo, Annotate, Folded, Help, Version}
 use Rattle.command_words.specs.declared.words.Shown.{Shown}
 use Rattle.command_words.specs.declared.words.Shown.TheVariants as shows
-use Rattle.command_words.specs.Items.{name_of}
+use Rattle.command_words.specs.Items.{nth_word}
 use Rattle.command_words.specs.Words.{command_of}
 use Rattle.rvgprof.specs.Course.{Course, Ends, Input, Does, one_by_one, unless, reply_to, MayStop}
 use Rattle.annotate.specs.Listing.{annotated_text}
 use Rattle.flat_report.specs.Sources.{Sources}
 use Rattle.rvgprof.specs.Help.{help_text, version_text}
 use Rattle.gmon_files.specs.Forms.{file_refusal, file_records}
-use Rattle.rvgprof.specs.Answer.{Chosen, RunActs, chosen_by, chosen_sources, command_course, course_of, demo_lines, ended, exact_report, file_acts, files_named, fold_program, given_file_acts, list_profiles, print_reports, profile_file, profile_in, profiles, program, report_profiles, report_run, run_acts, run_program, show_lines, shown_reports, stacks_told, start_fault_of, sum_file, syms_lines, sums_up, too_wide, wide_step, written_profile}
+use Rattle.rvgprof.specs.Answer.{Chosen, RunActs, chosen_by, chosen_sources, command_course, course_of, demo_lines, end_course, exact_report, file_acts, files_named, fold_program, given_file_acts, list_profiles, print_reports, profile_file, profile_in, profiles, program, report_profiles, report_run, run_acts, run_program, show_lines, shown_reports, stacks_told, start_fault_of, sum_file, syms_lines, sums_up, too_wide, wide_step, written_profile}
 use Rattle.rvgprof.proofs.Summing.{nothing_added}
 use Rattle.rvgprof.specs.Acceptance.{IsProgramFile, IsLike, AreProfileFiles, IsAccepted, records_of, total_of, acts_at_once}
 
@@ -229,13 +229,13 @@ module _ (contents : ℕ → List ℕ) where
   accepted_by words (Some (Syms elf)) =
       let read = program_done elf syms_lines in
       ((λ h. (read.0 h).0), (λ h. read.1 (h, refl)))
-  accepted_by words (Some (Sum out gmons)) = files_alone gmons (sum_file (name_of words out)) refl
+  accepted_by words (Some (Sum out gmons)) = files_alone gmons (sum_file (nth_word words out)) refl
   accepted_by words (Some (Report elf gmons selection)) =
       let bytes = contents elf in
       let chosen = chosen_by words selection in
       let read = program_done elf (report_profiles gmons chosen) in
-      let files = files_done gmons (λ total. print_reports chosen (image_of bytes) total ended) in
-      let narrow = reports_done chosen (image_of bytes) (total_of contents gmons) ended refl in (
+      let files = files_done gmons (λ total. print_reports chosen (image_of bytes) total end_course) in
+      let narrow = reports_done chosen (image_of bytes) (total_of contents gmons) end_course refl in (
         (λ h.
             let one = read.0 h in
             let two = files.0 one.1 in
@@ -273,7 +273,7 @@ module _ (contents : ℕ → List ℕ) where
       let image = image_of bytes in
       let acts : RunActs = λ z w. w.prints in
       let run = run_program acts setup (demo_lines functions setup.rate image) bytes image in
-      let judged = unless_done BadElf (elf_refusal bytes) (Does (given_file_acts (option_map (name_of words) elf) bytes) run) in
+      let judged = unless_done BadElf (elf_refusal bytes) (Does (given_file_acts (option_map (nth_word words) elf) bytes) run) in
       let starts = started_alone acts setup (demo_lines functions setup.rate image) bytes image (λ z w. refl) in (
         (λ h.
             let one = judged.0 h in
@@ -283,7 +283,7 @@ module _ (contents : ℕ → List ℕ) where
   accepted_by words (Some (Annotate elf gmons)) =
       let bytes = contents elf in
       let read = program_done elf (list_profiles gmons) in
-      let files = files_alone gmons (λ total. Does (Out (annotated_text (image_of bytes) bytes total) ∷ []) ended) refl in (
+      let files = files_alone gmons (λ total. Does (Out (annotated_text (image_of bytes) bytes total) ∷ []) end_course) refl in (
         (λ h.
             let one = read.0 h in
             (one.0, files.0 one.1)),
@@ -343,7 +343,7 @@ module _ (contents : ℕ → List ℕ) where
   idle_by words (Some (Show gmon)) at_once = idle_file gmon MAX_PROFILE_BYTES show_lines (λ len records. idle_does (Out (show_text records) ∷ []) (record { run = None }))
   idle_by words (Some (Syms elf)) at_once = idle_program elf syms_lines (λ bytes image. idle_does (Out (image_text image) ∷ []) (record { run = None }))
   idle_by words (Some (Sum out gmons)) at_once =
-      idle_profiles gmons MAX_PROFILE_BYTES empty_content (sum_file (name_of words out)) (λ t. idle_does (file_acts (name_of words out) (profile_text t)) (record { run = None }))
+      idle_profiles gmons MAX_PROFILE_BYTES empty_content (sum_file (nth_word words out)) (λ t. idle_does (file_acts (nth_word words out) (profile_text t)) (record { run = None }))
   idle_by words (Some (Report elf gmons selection)) at_once = absurd cc
   idle_by words (Some (Run elf gmon form image setup)) at_once =
       let acts = run_acts (files_named words gmon form image) setup in
@@ -355,7 +355,7 @@ module _ (contents : ℕ → List ℕ) where
   idle_by words (Some (Demo functions elf setup)) at_once = absurd cc
   idle_by words (Some (Annotate elf gmons)) at_once =
       idle_program elf (list_profiles gmons) (λ bytes image.
-      idle_profiles gmons MAX_PROFILE_BYTES empty_content (λ total. Does (Out (annotated_text image bytes total) ∷ []) ended) (λ t. idle_does (Out (annotated_text image bytes t) ∷ []) (record { run = None })))
+      idle_profiles gmons MAX_PROFILE_BYTES empty_content (λ total. Does (Out (annotated_text image bytes total) ∷ []) end_course) (λ t. idle_does (Out (annotated_text image bytes t) ∷ []) (record { run = None })))
   idle_by words (Some (Folded elf inclusive setup)) at_once = absurd cc
   idle_by words (Some Help) at_once = idle_does (Out help_text ∷ []) (record { run = None })
   idle_by words (Some Version) at_once = idle_does (Out version_text ∷ []) (record { run = None })

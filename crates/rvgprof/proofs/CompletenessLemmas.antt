@@ -4,7 +4,7 @@ use Rattle.std.specs.List.{AllByRecursion}
 use Rattle.std.proofs.lemmas.Bool.{le-ltb}
 use Rattle.host_port.specs.Act.{Act}
 use Rattle.host_port.specs.Act.{Err as Complain}
-use Rattle.host_port.specs.Outside.{Outside, Did, Rose, opening}
+use Rattle.host_port.specs.Outside.{Outside, Did, Rose, with_openings}
 use Rattle.host_port.specs.Performing.{ActFailed, FailedAt}
 use Rattle.host_port.proofs.Laws.{Did-then}
 use Rattle.rvgprof.specs.declared.outcome.Done.{Done}
@@ -66,17 +66,17 @@ module _ (words : List (List ℕ)) (contents : ℕ → List ℕ) (old mid new : 
   no_act_failed act done told none failed at same within = not_risen old.write_faults mid.write_faults new.write_faults none.write at.own.0 (omega (arith, same))
 
   -- what was done is what is due, and the last line stands behind it
-  all_done : (opens : ℕ) (done : List Act) (result : Result Done Fault) (last : LineIsPrinted (last_line words result) mid new) → IsTold → Did done (opening opens old) mid
+  all_done : (opens : ℕ) (done : List Act) (result : Result Done Fault) (last : LineIsPrinted (last_line words result) mid new) → IsTold → Did done (with_openings opens old) mid
       → IsReply words contents old mid opens done result → Complete words old new result
   all_done opens done result last told did reply =
-      let all : Did (done ++ Complain last.line ∷ []) (opening opens old) new = Did-then done (Complain last.line ∷ []) (opening opens old) mid new did last.did in
+      let all : Did (done ++ Complain last.line ∷ []) (with_openings opens old) new = Did-then done (Complain last.line ∷ []) (with_openings opens old) mid new did last.did in
       record {
         contents = contents;
         told = told;
         ending = reply.ending;
         line = last.line;
-        did = subst (λ (acts : List Act). Did (acts ++ Complain last.line ∷ []) (opening (inputs_of contents (course_of words)) old) new) reply.acts
-            (subst (λ (n : ℕ). Did (done ++ Complain last.line ∷ []) (opening n old) new) reply.inputs all);
+        did = subst (λ (acts : List Act). Did (acts ++ Complain last.line ∷ []) (with_openings (inputs_of contents (course_of words)) old) new) reply.acts
+            (subst (λ (n : ℕ). Did (done ++ Complain last.line ∷ []) (with_openings n old) new) reply.inputs all);
         ends = subst (λ (n : ℕ). LineEnds last.line (last_line words result) n new.err_faults) reply.counts.err last.ends;
       }
 
@@ -92,7 +92,7 @@ module _ (words : List (List ℕ)) (contents : ℕ → List ℕ) (old mid new : 
         inputs = owes.3 ∙ sym none_read;
       }
 
-  complete_by : (opens : ℕ) (done : List Act) (result : Result Done Fault) (last : LineIsPrinted (last_line words result) mid new) → IsTold → Did done (opening opens old) mid → NoneFailed words old new
+  complete_by : (opens : ℕ) (done : List Act) (result : Result Done Fault) (last : LineIsPrinted (last_line words result) mid new) → IsTold → Did done (with_openings opens old) mid → NoneFailed words old new
       → Owes words contents old mid opens done result → (result ≡ Err OutOfMemory) ⊎ Complete words old new result
   complete_by opens done (Err Usage) last told did none owes = inr (all_done opens done (Err Usage) last told did (nothing_due opens done owes))
   complete_by opens done (Err (ReadFault word)) last told did none owes =

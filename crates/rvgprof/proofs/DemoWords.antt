@@ -13,8 +13,8 @@ use Rattle.command_words.specs.declared.words.Command.TheVariants.{Show, Syms, R
 use Rattle.command_words.specs.declared.words.Selection.{Selection}
 use Rattle.command_words.specs.Options.{kind_of}
 use Rattle.command_words.specs.Numbers.{in_limits, number_of, number_within}
-use Rattle.command_words.specs.Items.{Item, items_from, name_of, number_at, place_given, setting}
-use Rattle.command_words.specs.Words.{alone, annotate_from, annotate_of, command_of, demo_from, demo_said, few, file_reading, folded_from, folded_said, form_asked, functions_from, functions_of, is_given, may_count, operands_of, plan_of, profile_from, profile_said, report_from, report_of, run_from, run_of, selection_of, setup_from, setup_of, sum_from, sum_of}
+use Rattle.command_words.specs.Items.{Item, items_from, nth_word, number_at, place_given, value_given}
+use Rattle.command_words.specs.Words.{command_alone, annotate_from, annotate_of, command_of, demo_from, demo_said, few, file_reading, folded_from, folded_said, form_asked, functions_from, functions_of, is_given, may_count, operand_places, plan_given, profile_from, profile_said, report_from, report_of, run_from, run_of, selection_of, setup_from, setup_of, sum_from, sum_command}
 
 -- a demo has at most 2,000 functions, and 4 to 256 MiB of memory
 abbrev pub IsDemoWithin : Command → Type 0
@@ -92,7 +92,7 @@ folded_within (Some (a ∷ b ∷ [])) None setup = tt
 folded_within (Some (a ∷ b ∷ [])) (Some inclusive) None = tt
 folded_within (Some (a ∷ b ∷ [])) (Some inclusive) (Some setup) = tt
 
-alone_within : (command : Command) (words : List (List ℕ)) → IsDemoWithin command → Within (alone command words)
+alone_within : (command : Command) (words : List (List ℕ)) → IsDemoWithin command → Within (command_alone command words)
 alone_within command [] is = tt
 alone_within command (name ∷ []) is = is
 alone_within command (name ∷ next ∷ words) is = tt
@@ -112,13 +112,13 @@ functions_within : (words : List (List ℕ)) (operands : Option (List ℕ)) → 
 functions_within words None = tt
 functions_within words (Some []) = tt
 functions_within words (Some (a ∷ [])) = tt
-functions_within words (Some (a ∷ place ∷ [])) = limited 1 2000 (number_of (name_of words place))
+functions_within words (Some (a ∷ place ∷ [])) = limited 1 2000 (number_of (nth_word words place))
 functions_within words (Some (a ∷ place ∷ b ∷ ps)) = tt
 
 abbrev IsRam : ℕ → Type 0
 IsRam ram = (4 ≤ ram) × (ram ≤ 256)
 
-ram_within : (words : List (List ℕ)) (items : List Item) → IfSome (setting words keys.Ram 64 items) IsRam
+ram_within : (words : List (List ℕ)) (items : List Item) → IfSome (value_given words keys.Ram 64 items) IsRam
 ram_within words items = by (place_given keys.Ram items)
   where
     defaulted : (o : Option (Option ℕ)) → IfSome o (λ n. IfSome n IsRam) → IfSome (option_map (λ n. unwrap_or n 64) o) IsRam
@@ -133,7 +133,7 @@ ram_within words items = by (place_given keys.Ram items)
     by : (o : Option (Option ℕ)) → IfSome (option_map (λ n. unwrap_or n 64) (option_and_then (number_at words (kind_of keys.Ram)) o)) IsRam
     by None = tt
     by (Some None) = (omega arith, omega arith)
-    by (Some (Some place)) = defaulted (option_map Some (number_within 4 256 (name_of words place))) (given (number_within 4 256 (name_of words place)) (limited 4 256 (number_of (name_of words place))))
+    by (Some (Some place)) = defaulted (option_map Some (number_within 4 256 (nth_word words place))) (given (number_within 4 256 (nth_word words place)) (limited 4 256 (number_of (nth_word words place))))
 
 setup_within : (every budget rate ram harts : Option ℕ) (plan : Option Plan) (hist hash : Option ℕ) (blocks : Option Bool) → IfSome ram IsRam
     → IfSome (setup_from every budget rate ram harts plan hist hash blocks) (λ (setup : Setup). IsRam setup.ram_mib)
@@ -156,9 +156,9 @@ demo_within (Some n) (Some elf) (Some setup) number is = (number.1, is.0, is.1)
 
 demo_said_within : (words : List (List ℕ)) (items : List Item) → Within (demo_said words items)
 demo_said_within words items =
-    demo_within (functions_of words items) (place_given keys.Elf items) (setup_of words items) (functions_within words (Some (operands_of items)))
-    (setup_within (setting words keys.Every 1000 items) (setting words keys.Budget 100000000 items) (setting words keys.Rate 100 items) (setting words keys.Ram 64 items)
-    (setting words keys.Harts 1 items) (plan_of words items) (setting words keys.Hist 2 items) (setting words keys.Hash 2 items) (is_given keys.Blocks items) (ram_within words items))
+    demo_within (functions_of words items) (place_given keys.Elf items) (setup_of words items) (functions_within words (Some (operand_places items)))
+    (setup_within (value_given words keys.Every 1000 items) (value_given words keys.Budget 100000000 items) (value_given words keys.Rate 100 items) (value_given words keys.Ram 64 items)
+    (value_given words keys.Harts 1 items) (plan_given words items) (value_given words keys.Hist 2 items) (value_given words keys.Hash 2 items) (is_given keys.Blocks items) (ram_within words items))
 
 -- ---- the words
 
@@ -168,13 +168,13 @@ within (name ∷ words) =
     let all = name ∷ words in
     one_of (bytes_eq name (codes "show")) _ _ (mapped Show (λ file. tt) (file_reading all))
     (one_of (bytes_eq name (codes "syms")) _ _ (mapped Syms (λ file. tt) (file_reading all))
-    (one_of (bytes_eq name (codes "run")) _ _ (said (run_of all) (λ items. run_within (Some (operands_of items)) (is_given keys.Gnu items) (place_given keys.Image items) (setup_of all items)) (items_from RunOptions 0 all))
-    (one_of (bytes_eq name (codes "sum")) _ _ (said sum_of (λ items. sum_within (Some (operands_of items))) (items_from NoOptions 0 all))
-    (one_of (bytes_eq name (codes "report")) _ _ (said (report_of all) (λ items. report_within (Some (operands_of items)) (selection_of all items)) (items_from ReportOptions 0 all))
+    (one_of (bytes_eq name (codes "run")) _ _ (said (run_of all) (λ items. run_within (Some (operand_places items)) (is_given keys.Gnu items) (place_given keys.Image items) (setup_of all items)) (items_from RunOptions 0 all))
+    (one_of (bytes_eq name (codes "sum")) _ _ (said sum_command (λ items. sum_within (Some (operand_places items))) (items_from NoOptions 0 all))
+    (one_of (bytes_eq name (codes "report")) _ _ (said (report_of all) (λ items. report_within (Some (operand_places items)) (selection_of all items)) (items_from ReportOptions 0 all))
     (one_of (bytes_eq name (codes "profile")) _ _ (said (profile_said all) (λ items. profile_within (run_of all items) (selection_of all items)) (items_from ProfileOptions 0 all))
     (one_of (bytes_eq name (codes "demo")) _ _ (said (demo_said all) (demo_said_within all) (items_from DemoOptions 0 all))
-    (one_of (bytes_eq name (codes "annotate")) _ _ (said annotate_of (λ items. annotate_within (Some (operands_of items))) (items_from NoOptions 0 all))
-    (one_of (bytes_eq name (codes "folded")) _ _ (said (folded_said all) (λ items. folded_within (Some (operands_of items)) (is_given keys.Inclusive items) (setup_of all items)) (items_from FoldedOptions 0 all))
+    (one_of (bytes_eq name (codes "annotate")) _ _ (said annotate_of (λ items. annotate_within (Some (operand_places items))) (items_from NoOptions 0 all))
+    (one_of (bytes_eq name (codes "folded")) _ _ (said (folded_said all) (λ items. folded_within (Some (operand_places items)) (is_given keys.Inclusive items) (setup_of all items)) (items_from FoldedOptions 0 all))
     (one_of (bytes_eq name (codes "--help")) _ _ (alone_within Help all tt)
     (one_of (bytes_eq name (codes "--version")) _ None (alone_within Version all tt) tt))))))))))
 

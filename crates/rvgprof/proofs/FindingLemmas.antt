@@ -10,7 +10,7 @@ use Rattle.call_cycles.specs.Values.{profile_graph}
 use Rattle.propagate.specs.Solution.{flow_in}
 use Rattle.propagate.proofs.SolutionLemmas.{solution}
 use Rattle.rvgprof.specs.declared.findings.Findings.{Findings}
-use Rattle.rvgprof.specs.Reports.{rate_of, profile_sources}
+use Rattle.rvgprof.specs.Reports.{profile_rate, profile_sources}
 use Rattle.rvgprof.specs.Findings.{AreFindings}
 
 -- how many shares there are
@@ -18,7 +18,7 @@ pub shares_long : (image : Image) (total : Content) (t : ShareTable) → t ≡ s
 shares_long image total t is = ap (λ (x : ShareTable). length x.of) is ∙ length-map image.symbols (share_of total.hists)
 
 pub are_findings : (image : Image) (total : Content) (s : Findings) → s.shares ≡ shares_of total.hists image.symbols → s.graph ≡ profile_graph total.arcs image.symbols
-    → ((u : FlowValue) → IsFlow s.graph s.shares.of u → u ≡ s.flow) → s.rate ≡ rate_of total
+    → ((u : FlowValue) → IsFlow s.graph s.shares.of u → u ≡ s.flow) → s.rate ≡ profile_rate total
     → s.graph.functions ≡ length image.symbols → IsGraph s.graph → IsFlow s.graph s.shares.of s.flow → all_calls s.graph < 2 ^ 59 → 1 ≤ s.rate
     → AreFindings image total s
 unfolding profile_sources

@@ -12,7 +12,7 @@ use Rattle.folded.specs.declared.refusal.FoldRefusal.TheVariants as folds
 use Rattle.host_port.specs.Act.{Act, writes_after}
 use Rattle.host_port.specs.Outside.{Outside}
 use Rattle.prof_machine.specs.declared.setup.Setup.{Setup}
-use Rattle.prof_machine.specs.Plan.{driven, planned}
+use Rattle.prof_machine.specs.Plan.{after_drive, world_at}
 use Rattle.prof_machine.specs.Start.{final_world, start_of, start_refusal}
 use Rattle.prof_machine.specs.Value.{RunValue, StandsFor}
 use Rattle.prof_machine.specs.World.{World}
@@ -52,7 +52,7 @@ module _ (words : List (List ℕ)) (start mid new : Outside) (below : ℕ) (done
       does {T = Unit {0}} {E = E} words start mid new below done (final_world image bytes setup).prints (stacks_told inclusive image bytes setup) tt
       (at_once words start mid below done (final_world image bytes setup).prints (stacks_told inclusive image bytes setup) (may_stop_stacks inclusive image bytes setup) here) performs shut
 
-  due : {T E : Type 0} (r : Result T E) → Performs {T = T} {E = E} (driven v.machine first).prints mid new r → Performs (final_world image bytes setup).prints mid new r
+  due : {T E : Type 0} (r : Result T E) → Performs {T = T} {E = E} (after_drive v.machine first).prints mid new r → Performs (final_world image bytes setup).prints mid new r
   due r performs = subst (λ (w : World). Performs w.prints mid new r) (last_is image bytes setup v started) performs
 
   -- a print failed, or memory was wanted
@@ -64,10 +64,10 @@ module _ (words : List (List ℕ)) (start mid new : Outside) (below : ℕ) (done
       (due {T = Unit {0}} {E = Unit {0}} (Err tt) (drive_fails {T = Unit {0}} v.machine first off.0 mid new tt off.1 (first_prints_none image bytes setup) off.3))
   fold_stops folds.OutOfMemory stops cause still =
       let short = stops first started.stands in
-      let front = (planned v.machine first short.0).prints in
+      let front = (world_at v.machine first short.0).prints in
       let rest = prints_driven v.machine first short.0 short.1 in
       let whole : (final_world image bytes setup).prints ≡ front ++ rest.0 = ap (λ (w : World). w.prints) (sym (last_is image bytes setup v started)) ∙ rest.1 in
-      let performs : Performs {T = Unit {0}} {E = Unit {0}} front mid new (Ok tt) = printed_performs {T = Unit {0}} {E = Unit {0}} first (planned v.machine first short.0) mid new tt (first_prints_none image bytes setup) short.2 cause in
+      let performs : Performs {T = Unit {0}} {E = Unit {0}} front mid new (Ok tt) = printed_performs {T = Unit {0}} {E = Unit {0}} first (world_at v.machine first short.0) mid new tt (first_prints_none image bytes setup) short.2 cause in
       let shut : writes_after front false ≡ false = ap (writes_after front) (sym s.shut) ∙ sym performs.done.writing ∙ still ∙ s.shut in
       let parted = subst (λ (acts : List Act). Stands words start mid below done (one_by_one acts (stacks_told inclusive image bytes setup))) whole here in
       no_memory words start new below (done ++ front) (one_by_one rest.0 (stacks_told inclusive image bytes setup))

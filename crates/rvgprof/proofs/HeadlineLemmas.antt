@@ -20,10 +20,10 @@ use Rattle.profile_sum.specs.Sum.{sum_of, clash_of}
 use Rattle.profile_sum.proofs.ContentLemmas.{content_sum}
 use Rattle.mcount_arcs.specs.declared.sizes.Sizes.{Sizes}
 use Rattle.prof_machine.specs.World.{World}
-use Rattle.host_port.specs.Act.{Act, Disk, Out, complained, file_content, disk_after}
+use Rattle.host_port.specs.Act.{Act, Disk, Out, complaint_of, file_content, disk_after}
 use Rattle.annotate.specs.Listing.{annotated_text}
-use Rattle.host_port.specs.Act.{printed as prints_of, Err as Complain}
-use Rattle.host_port.specs.Outside.{Outside, Becomes, Did, opening}
+use Rattle.host_port.specs.Act.{print_of as prints_of, Err as Complain}
+use Rattle.host_port.specs.Outside.{Outside, Becomes, Did, with_openings}
 use Rattle.host_port.proofs.Laws.{Becomes-by, Did-then, complained-append, disk_after-append, printed-append}
 use Rattle.symbol_shares.specs.Shares.{attributed_of, share_of, shares_of}
 use Rattle.call_cycles.specs.Graph.{IsGraph}
@@ -52,11 +52,11 @@ use Rattle.graph_report.specs.ExactText.{exact_text}
 use Rattle.command_words.specs.declared.words.Selection.{Selection}
 use Rattle.command_words.specs.declared.words.Shown.{Shown}
 use Rattle.command_words.specs.declared.words.Shown.TheVariants as shows
-use Rattle.command_words.specs.Items.{name_of}
+use Rattle.command_words.specs.Items.{nth_word}
 use Rattle.command_words.specs.Words.{command_of}
 use Rattle.rvgprof.specs.Course.{Course, Ends, Input, Does, Reply, one_by_one, unless, behind, reply_to}
 use Rattle.gmon_files.specs.Forms.{file_records, file_refusal}
-use Rattle.rvgprof.specs.Answer.{Chosen, RunFiles, all_reports, annotate_course, chosen_by, command_course, contents_of, demo_course, demo_lines, ended, exact_report, file_acts, files_named, fold_program, folded_course, given_file_acts, list_profiles, print_reports, profile_in, profiles, program, report_course, report_profiles, report_run, run_acts, run_program, show_course, show_lines, shown_reports, stacks_told, start_fault_of, sum_course, sum_file, sums_up, syms_course, syms_lines, too_wide, wide_step, written_profile}
+use Rattle.rvgprof.specs.Answer.{Chosen, RunFiles, all_reports, annotate_course, chosen_by, command_course, contents_of, demo_course, demo_lines, end_course, exact_report, file_acts, files_named, fold_program, folded_course, given_file_acts, list_profiles, print_reports, profile_in, profiles, program, report_course, report_profiles, report_run, run_acts, run_program, show_course, show_lines, shown_reports, stacks_told, start_fault_of, sum_course, sum_file, sums_up, syms_course, syms_lines, too_wide, wide_step, written_profile}
 use Rattle.demo_elf.specs.Elf.{demo_program}
 use Rattle.rvgprof.specs.Reports.{profile_sources}
 use Rattle.rvgprof.specs.Contract.{Acted, LineEnds, LineIsPrinted, WhereTold}
@@ -66,7 +66,7 @@ use Rattle.rvgprof.specs.Texts.{last_line}
 use Rattle.gmon_gnu.specs.ProfileText.{profile_text}
 use Rattle.text_lines.specs.Lines.{image_text, show_text}
 use Rattle.rvgprof.specs.Acceptance.{IsProgramFile, IsAccepted, Starts, records_of, total_of}
-use Rattle.rvgprof.specs.Headline.{Answered, DemoLeaves, ExecutionsAreListed, FoldedLeaves, Headline, Holds, IsApart, IsPrinted, Leaves, ListingLeaves, ReportLeaves, RunIsSummedUp, RunIsWritten, RunLeaves, ShowLeaves, SumLeaves, SymsLeaves, TimeIsShared, demo_printed, exact_of, printed_of, reported, reported_of, reports_of}
+use Rattle.rvgprof.specs.Headline.{Answered, DemoLeaves, ExecutionsAreListed, FoldedLeaves, Headline, Holds, NamesDiffer, IsPrinted, Leaves, ListingLeaves, ReportLeaves, RunIsSummedUp, RunIsWritten, RunLeaves, ShowLeaves, SumLeaves, SymsLeaves, TimeIsShared, demo_printed, exact_of, printed_of, reported_sources, reported_of, reports_of}
 use Rattle.rvgprof.specs.Fitting.{FitsWhereTold, FileFits, SumIsProfile}
 use Rattle.rvgprof.specs.RunFile.{FitsFile, SaysProfile, SaysRun, gmon_text, memory_text, reported_profile, text_sizes, world_of}
 use Rattle.rvgprof.proofs.AcceptanceLemmas.{accepted}
@@ -189,12 +189,12 @@ module _ (contents : ℕ → List ℕ) (s : Sources) where
   exact_end false done = refl
   exact_end true done = refl
 
-  shown_complain : (shown : Shown) (hidden : List (List ℕ)) (next : Course) (behind_it : List Act) → complained (acts_along (shown_reports shown hidden s next) ++ behind_it) ≡ complained (acts_along next ++ behind_it)
+  shown_complain : (shown : Shown) (hidden : List (List ℕ)) (next : Course) (behind_it : List Act) → complaint_of (acts_along (shown_reports shown hidden s next) ++ behind_it) ≡ complaint_of (acts_along next ++ behind_it)
   shown_complain shows.Flat hidden next behind_it = refl
   shown_complain shows.Graph hidden next behind_it = refl
   shown_complain shows.Both hidden next behind_it = refl
 
-  exact_complain : (exact : Bool) (done : Done) (line : List ℕ) → complained (acts_along (exact_report exact s (Ends (Ok done))) ++ Complain line ∷ []) ≡ line
+  exact_complain : (exact : Bool) (done : Done) (line : List ℕ) → complaint_of (acts_along (exact_report exact s (Ends (Ok done))) ++ Complain line ∷ []) ≡ line
   exact_complain false done line = append-nil line
   exact_complain true done line = append-nil line
 
@@ -211,7 +211,7 @@ no_prints : (name : Option (List ℕ)) (bytes : List ℕ) → prints_of (given_f
 no_prints None bytes = refl
 no_prints (Some name) bytes = refl
 
-no_complaints : (name : Option (List ℕ)) (bytes : List ℕ) → complained (given_file_acts name bytes) ≡ []
+no_complaints : (name : Option (List ℕ)) (bytes : List ℕ) → complaint_of (given_file_acts name bytes) ≡ []
 no_complaints None bytes = refl
 no_complaints (Some name) bytes = refl
 
@@ -222,12 +222,12 @@ demo_prints name bytes prints text line =
     printed-append (given_file_acts name bytes ++ run) (Complain line ∷ []) ∙ append-nil (prints_of (given_file_acts name bytes ++ run)) ∙ printed-append (given_file_acts name bytes) run
     ∙ ap (λ (t : List ℕ). t ++ prints_of run) (no_prints name bytes) ∙ printed-append prints (Out text ∷ []) ∙ ap (λ (t : List ℕ). prints_of prints ++ t) (append-nil text)
 
-demo_complains : (name : Option (List ℕ)) (bytes : List ℕ) (prints : List Act) (text line : List ℕ) → complained ((given_file_acts name bytes ++ (prints ++ Out text ∷ [])) ++ Complain line ∷ []) ≡ complained prints ++ line
+demo_complains : (name : Option (List ℕ)) (bytes : List ℕ) (prints : List Act) (text line : List ℕ) → complaint_of ((given_file_acts name bytes ++ (prints ++ Out text ∷ [])) ++ Complain line ∷ []) ≡ complaint_of prints ++ line
 demo_complains name bytes prints text line =
     let run : List Act = prints ++ Out text ∷ [] in
-    let own : complained (given_file_acts name bytes ++ run) ≡ complained prints =
-    complained-append (given_file_acts name bytes) run ∙ ap (λ (t : List ℕ). t ++ complained run) (no_complaints name bytes) ∙ complained-append prints (Out text ∷ []) ∙ append-nil (complained prints) in
-    complained-append (given_file_acts name bytes ++ run) (Complain line ∷ []) ∙ ap (λ (t : List ℕ). complained (given_file_acts name bytes ++ run) ++ t) (append-nil line) ∙ ap (λ (t : List ℕ). t ++ line) own
+    let own : complaint_of (given_file_acts name bytes ++ run) ≡ complaint_of prints =
+    complained-append (given_file_acts name bytes) run ∙ ap (λ (t : List ℕ). t ++ complaint_of run) (no_complaints name bytes) ∙ complained-append prints (Out text ∷ []) ∙ append-nil (complaint_of prints) in
+    complained-append (given_file_acts name bytes ++ run) (Complain line ∷ []) ∙ ap (λ (t : List ℕ). complaint_of (given_file_acts name bytes ++ run) ++ t) (append-nil line) ∙ ap (λ (t : List ℕ). t ++ line) own
 
 told_file : (old new : Option Disk) (f : Disk → Disk) (name text : List ℕ) → Becomes f old new → ((d : Disk) → file_content name (f d).files ≡ text) → IfSome new (λ d. file_content name d.files ≡ text)
 told_file old None f name text same holds = tt
@@ -236,10 +236,10 @@ told_file (Some old) (Some new) f name text same holds =
     let is : f old ≡ new = cc in
     subst (λ (d : Disk). file_content name d.files ≡ text) is (holds old)
 
-told_word : (old new : Outside) (words : List (List ℕ)) (contents : ℕ → List ℕ) (word : ℕ) → WhereTold old new (λ files. contents ≡ contents_of words files) → WhereTold old new (λ files. contents word ≡ file_content (name_of words word) files)
+told_word : (old new : Outside) (words : List (List ℕ)) (contents : ℕ → List ℕ) (word : ℕ) → WhereTold old new (λ files. contents ≡ contents_of words files) → WhereTold old new (λ files. contents word ≡ file_content (nth_word words word) files)
 told_word old new words contents word told = by old.disk new.disk told
   where
-    by : (a c : Option Disk) → MatchOption c ⊤ (λ _. IfSome a (λ d. contents ≡ contents_of words d.files)) → MatchOption c ⊤ (λ _. IfSome a (λ d. contents word ≡ file_content (name_of words word) d.files))
+    by : (a c : Option Disk) → MatchOption c ⊤ (λ _. IfSome a (λ d. contents ≡ contents_of words d.files)) → MatchOption c ⊤ (λ _. IfSome a (λ d. contents word ≡ file_content (nth_word words word) d.files))
     by a None h = tt
     by None (Some z) h = tt
     by (Some x) (Some z) h = ap (λ (c : ℕ → List ℕ). c word) h
@@ -267,60 +267,60 @@ module _ (words : List (List ℕ)) (contents : ℕ → List ℕ) (elf gmon : ℕ
       (still_done contents (program elf started) (started bytes (image_of bytes)) read done)
 
   -- the file that is left, where no file is written behind the run's own
-  file_holds : (rest : List Act) (d : Disk) → ((x : Disk) → disk_after rest x ≡ x) → IsApart words gmon image
-      → file_content (name_of words gmon) (disk_after (due ++ rest) d).files ≡ gmon_text form bytes setup
+  file_holds : (rest : List Act) (d : Disk) → ((x : Disk) → disk_after rest x ≡ x) → NamesDiffer words gmon image
+      → file_content (nth_word words gmon) (disk_after (due ++ rest) d).files ≡ gmon_text form bytes setup
   file_holds rest d keeps apart =
       let prints = (world_of bytes setup).prints in
       let text = gmon_text form bytes setup in
-      let one = file_acts (name_of words gmon) text in
+      let one = file_acts (nth_word words gmon) text in
       let memory = layout_of (block_image (text_sizes bytes setup) (world_of bytes setup).log) in
-      let two = given_file_acts (option_map (name_of words) image) memory in
-      let content = λ (x : Disk). file_content (name_of words gmon) x.files in
+      let two = given_file_acts (option_map (nth_word words) image) memory in
+      let content = λ (x : Disk). file_content (nth_word words gmon) x.files in
       let behind_prints = disk_after prints d in
       let behind_file = disk_after one behind_prints in
       let behind_memory = disk_after two behind_file in
       ap content (disk_after-append (prints ++ (one ++ two)) rest d)
       ∙ ap (λ (x : Disk). content (disk_after rest x)) (disk_after-append prints (one ++ two) d ∙ disk_after-append one two behind_prints)
       ∙ ap content (keeps behind_memory)
-      ∙ file_stays (name_of words gmon) memory (option_map (name_of words) image) behind_file apart
-      ∙ file_written (name_of words gmon) text behind_prints
+      ∙ file_stays (nth_word words gmon) memory (option_map (nth_word words) image) behind_file apart
+      ∙ file_written (nth_word words gmon) text behind_prints
 
   -- the file of the runtime's memory, which is written last
   memory_holds : (rest : List Act) (d : Disk) (place : ℕ) → ((x : Disk) → disk_after rest x ≡ x) → image ≡ Some place
-      → file_content (name_of words place) (disk_after (due ++ rest) d).files ≡ memory_text bytes setup
+      → file_content (nth_word words place) (disk_after (due ++ rest) d).files ≡ memory_text bytes setup
   memory_holds rest d place keeps is =
       let prints = (world_of bytes setup).prints in
-      let one = file_acts (name_of words gmon) (gmon_text form bytes setup) in
+      let one = file_acts (nth_word words gmon) (gmon_text form bytes setup) in
       let memory = memory_text bytes setup in
-      let two = given_file_acts (option_map (name_of words) image) memory in
-      let content = λ (x : Disk). file_content (name_of words place) x.files in
+      let two = given_file_acts (option_map (nth_word words) image) memory in
+      let content = λ (x : Disk). file_content (nth_word words place) x.files in
       let behind_prints = disk_after prints d in
       let behind_file = disk_after one behind_prints in
       ap content (disk_after-append (prints ++ (one ++ two)) rest d)
       ∙ ap (λ (x : Disk). content (disk_after rest x)) (disk_after-append prints (one ++ two) d ∙ disk_after-append one two behind_prints)
       ∙ ap content (keeps (disk_after two behind_file))
-      ∙ ap (λ (o : Option ℕ). content (disk_after (given_file_acts (option_map (name_of words) o) memory) behind_file)) is
-      ∙ file_written (name_of words place) memory behind_file
+      ∙ ap (λ (o : Option ℕ). content (disk_after (given_file_acts (option_map (nth_word words) o) memory) behind_file)) is
+      ∙ file_written (nth_word words place) memory behind_file
 
   -- what is printed on the error output
-  run_complains : (rest : List Act) → complained (due ++ rest) ≡ complained (world_of bytes setup).prints ++ complained rest
+  run_complains : (rest : List Act) → complaint_of (due ++ rest) ≡ complaint_of (world_of bytes setup).prints ++ complaint_of rest
   run_complains rest =
       let prints = (world_of bytes setup).prints in
-      let one = file_acts (name_of words gmon) (gmon_text form bytes setup) in
+      let one = file_acts (nth_word words gmon) (gmon_text form bytes setup) in
       let memory = memory_text bytes setup in
-      let two = given_file_acts (option_map (name_of words) image) memory in
-      let run : complained (prints ++ (one ++ two)) ≡ complained prints =
-      complained-append prints (one ++ two) ∙ ap (λ (text : List ℕ). complained prints ++ text) (no_complaints (option_map (name_of words) image) memory) ∙ append-nil (complained prints) in
-      complained-append (prints ++ (one ++ two)) rest ∙ ap (λ (text : List ℕ). text ++ complained rest) run
+      let two = given_file_acts (option_map (nth_word words) image) memory in
+      let run : complaint_of (prints ++ (one ++ two)) ≡ complaint_of prints =
+      complained-append prints (one ++ two) ∙ ap (λ (text : List ℕ). complaint_of prints ++ text) (no_complaints (option_map (nth_word words) image) memory) ∙ append-nil (complaint_of prints) in
+      complained-append (prints ++ (one ++ two)) rest ∙ ap (λ (text : List ℕ). text ++ complaint_of rest) run
 
   -- what is printed
   run_prints : (rest : List Act) → prints_of (due ++ rest) ≡ prints_of (world_of bytes setup).prints ++ prints_of rest
   run_prints rest =
       let prints = (world_of bytes setup).prints in
-      let one = file_acts (name_of words gmon) (gmon_text form bytes setup) in
+      let one = file_acts (nth_word words gmon) (gmon_text form bytes setup) in
       let memory = layout_of (block_image (text_sizes bytes setup) (world_of bytes setup).log) in
-      let two = given_file_acts (option_map (name_of words) image) memory in
-      let files_print : prints_of (one ++ two) ≡ [] = no_prints (option_map (name_of words) image) memory in
+      let two = given_file_acts (option_map (nth_word words) image) memory in
+      let files_print : prints_of (one ++ two) ≡ [] = no_prints (option_map (nth_word words) image) memory in
       let run : prints_of (prints ++ (one ++ two)) ≡ prints_of prints = printed-append prints (one ++ two) ∙ ap (λ (text : List ℕ). prints_of prints ++ text) files_print ∙ append-nil (prints_of prints) in
       printed-append (prints ++ (one ++ two)) rest ∙ ap (λ (text : List ℕ). text ++ prints_of rest) run
 
@@ -368,7 +368,7 @@ module _ (contents : ℕ → List ℕ) (chosen : Chosen) (s : Sources) (done : D
       shown_print contents s chosen.shown chosen.hidden (exact_report chosen.exact s (Ends (Ok done))) (Complain line ∷ [])
       ∙ ap (λ (text : List ℕ). reports_of chosen.shown chosen.hidden s ++ text) (exact_print contents s chosen.exact done line)
 
-  reports_complain : (line : List ℕ) → complained ((reply_to contents reports).acts ++ Complain line ∷ []) ≡ line
+  reports_complain : (line : List ℕ) → complaint_of ((reply_to contents reports).acts ++ Complain line ∷ []) ≡ line
   reports_complain line =
       shown_complain contents s chosen.shown chosen.hidden (exact_report chosen.exact s (Ends (Ok done))) (Complain line ∷ []) ∙ exact_complain contents s chosen.exact done line
 
@@ -398,10 +398,10 @@ run_in (Err fault) = None
 
 -- where the file is told, the program's is told too
 says_run : (words : List (List ℕ)) (program : List ℕ) (elf gmon : ℕ) (form : Form) (setup : Setup) (f : Disk → Disk) (a c : Option Disk)
-    → MatchOption c ⊤ (λ _. IfSome a (λ d. program ≡ file_content (name_of words elf) d.files))
-    → MatchOption c ⊤ (λ _. IfSome a (λ d. FitsFile form (file_content (name_of words elf) d.files) setup))
-    → IfSome c (λ d. file_content (name_of words gmon) d.files ≡ gmon_text form program setup)
-    → Becomes f a c → IfSome c (λ d. SaysRun form program setup (file_content (name_of words gmon) d.files))
+    → MatchOption c ⊤ (λ _. IfSome a (λ d. program ≡ file_content (nth_word words elf) d.files))
+    → MatchOption c ⊤ (λ _. IfSome a (λ d. FitsFile form (file_content (nth_word words elf) d.files) setup))
+    → IfSome c (λ d. file_content (nth_word words gmon) d.files ≡ gmon_text form program setup)
+    → Becomes f a c → IfSome c (λ d. SaysRun form program setup (file_content (nth_word words gmon) d.files))
 says_run words program elf gmon form setup f a None is_told fits file same = tt
 says_run words program elf gmon form setup f None (Some z) is_told fits file same = absurd cc
 says_run words program elf gmon form setup f (Some x) (Some z) is_told fits file same =
@@ -411,8 +411,8 @@ says_run words program elf gmon form setup f (Some x) (Some z) is_told fits file
 says_sum : (words : List (List ℕ)) (contents : ℕ → List ℕ) (gmons : List ℕ) (out : ℕ) (f : Disk → Disk) (a c : Option Disk)
     → MatchOption c ⊤ (λ _. IfSome a (λ d. contents ≡ contents_of words d.files))
     → MatchOption c ⊤ (λ _. IfSome a (λ d. IsProfile (total_of (contents_of words d.files) gmons)))
-    → IfSome c (λ d. file_content (name_of words out) d.files ≡ profile_text (total_of contents gmons))
-    → Becomes f a c → IfSome c (λ d. SaysProfile (total_of contents gmons) (file_content (name_of words out) d.files))
+    → IfSome c (λ d. file_content (nth_word words out) d.files ≡ profile_text (total_of contents gmons))
+    → Becomes f a c → IfSome c (λ d. SaysProfile (total_of contents gmons) (file_content (nth_word words out) d.files))
 says_sum words contents gmons out f a None is_told fits file same = tt
 says_sum words contents gmons out f None (Some z) is_told fits file same = absurd cc
 says_sum words contents gmons out f (Some x) (Some z) is_told fits file same =
@@ -435,11 +435,11 @@ module _ (words : List (List ℕ)) (old mid new : Outside) (done : Done) (acted 
 
   -- what was done, by the course
   done_by : (command : Option Command) (reply : Reply) → command_of words ≡ command → reply_to contents (command_course words command) ≡ reply
-      → Did (reply.acts ++ Complain last.line ∷ []) (opening acted.opens old) new
+      → Did (reply.acts ++ Complain last.line ∷ []) (with_openings acted.opens old) new
   done_by command reply said is =
       let acts = acted.owed.owes.acts ∙ ap (λ (r : Reply). r.acts) (ap (reply_to contents) (ap (command_course words) said) ∙ is) in
-      subst (λ (acts : List Act). Did (acts ++ Complain last.line ∷ []) (opening acted.opens old) new) acts
-      (Did-then acted.done (Complain last.line ∷ []) (opening acted.opens old) mid new acted.did last.did)
+      subst (λ (acts : List Act). Did (acts ++ Complain last.line ∷ []) (with_openings acted.opens old) new) acts
+      (Did-then acted.done (Complain last.line ∷ []) (with_openings acted.opens old) mid new acted.did last.did)
 
   -- how it ended, by the course
   ended_by : (command : Option Command) (reply : Reply) → command_of words ≡ command → reply_to contents (command_course words command) ≡ reply → Ok done ≡ reply.ending
@@ -447,26 +447,26 @@ module _ (words : List (List ℕ)) (old mid new : Outside) (done : Done) (acted 
 
   -- a run, of which the acts that follow leave all files as they are
   run_is_written : (elf gmon : ℕ) (form : Form) (image : Option ℕ) (setup : Setup) (rest : List Act) → FitsWhereTold words old new elf form setup
-      → ((x : Disk) → disk_after rest x ≡ x) → Did (due words contents elf gmon form image setup ++ rest) (opening acted.opens old) new
+      → ((x : Disk) → disk_after rest x ≡ x) → Did (due words contents elf gmon form image setup ++ rest) (with_openings acted.opens old) new
       → RunIsWritten words new gmon form image setup (contents elf)
   run_is_written elf gmon form image setup rest fits keeps did =
       let program = contents elf in
       let is_told = told_word old new words contents elf told in
-      let file : IsApart words gmon image → IfSome new.disk (λ d. file_content (name_of words gmon) d.files ≡ gmon_text form program setup) =
-      λ apart. told_file old.disk new.disk _ (name_of words gmon) (gmon_text form program setup) did.disk (λ d. file_holds words contents elf gmon form image setup rest d keeps apart) in
+      let file : NamesDiffer words gmon image → IfSome new.disk (λ d. file_content (nth_word words gmon) d.files ≡ gmon_text form program setup) =
+      λ apart. told_file old.disk new.disk _ (nth_word words gmon) (gmon_text form program setup) did.disk (λ d. file_holds words contents elf gmon form image setup rest d keeps apart) in
       record {
         file = file;
         says = λ apart. says_run words program elf gmon form setup _ old.disk new.disk is_told fits (file apart) did.disk;
-        memory = λ place is. told_file old.disk new.disk _ (name_of words place) (memory_text program setup) did.disk (λ d. memory_holds words contents elf gmon form image setup rest d place keeps is);
+        memory = λ place is. told_file old.disk new.disk _ (nth_word words place) (memory_text program setup) did.disk (λ d. memory_holds words contents elf gmon form image setup rest d place keeps is);
       }
 
   -- what acts print was printed
-  was_printed : (acts : List Act) (text : List ℕ) → prints_of acts ≡ text → Did acts (opening acted.opens old) new → Becomes (λ bytes. bytes ++ text) old.out new.out
+  was_printed : (acts : List Act) (text : List ℕ) → prints_of acts ≡ text → Did acts (with_openings acted.opens old) new → Becomes (λ bytes. bytes ++ text) old.out new.out
   was_printed acts text is did = Becomes-by _ _ old.out new.out (λ b. ap (λ (t : List ℕ). b ++ t) is) did.out
 
   -- a run, of which the acts that follow print nothing on the error output but the last line
-  run_is_summed_up : (program : List ℕ) (setup : Setup) (acts : List Act) → Ok done ≡ ended_with program setup → complained acts ≡ complained (world_of program setup).prints ++ last.line
-      → Did acts (opening acted.opens old) new → RunIsSummedUp words old new done setup program
+  run_is_summed_up : (program : List ℕ) (setup : Setup) (acts : List Act) → Ok done ≡ ended_with program setup → complaint_of acts ≡ complaint_of (world_of program setup).prints ++ last.line
+      → Did acts (with_openings acted.opens old) new → RunIsSummedUp words old new done setup program
   run_is_summed_up program setup acts ending is did = record {
     summary = ap run_in ending;
     line = last.line;
@@ -483,13 +483,13 @@ module _ (words : List (List ℕ)) (old mid new : Outside) (done : Done) (acted 
       let prints = (world_of (contents elf) setup).prints in
       let taken : IsAccepted words contents command = all_taken command said in
       let reply = run_goes words contents elf gmon form image setup (λ i. sums_up) (well_done command said) in
-      let did = subst (λ (acts : List Act). Did acts (opening acted.opens old) new) (append_assoc acts [] line) (done_by command _ said reply) in
+      let did = subst (λ (acts : List Act). Did acts (with_openings acted.opens old) new) (append_assoc acts [] line) (done_by command _ said reply) in
       record {
         runs = record { accepted = taken.0; starts = taken.1 };
         written = run_is_written elf gmon form image setup line fits (λ x. refl) did;
         output = was_printed (acts ++ line) _ (run_prints words contents elf gmon form image setup line ∙ append-nil (prints_of prints)) did;
         run = run_is_summed_up (contents elf) setup (acts ++ line) (ended_by command _ said reply)
-            (run_complains words contents elf gmon form image setup line ∙ ap (λ (text : List ℕ). complained prints ++ text) (append-nil last.line)) did;
+            (run_complains words contents elf gmon form image setup line ∙ ap (λ (text : List ℕ). complaint_of prints ++ text) (append-nil last.line)) did;
       }
 
   report_leaves : (elf : ℕ) (gmons : List ℕ) (selection : Selection) → command_of words ≡ Some (Report elf gmons selection) → ReportLeaves contents old new elf gmons (chosen_by words selection)
@@ -503,7 +503,7 @@ module _ (words : List (List ℕ)) (old mid new : Outside) (done : Done) (acted 
       let goes = well_done command said in
       let read = program_goes contents elf (report_profiles gmons chosen) goes in
       let summed = still_done contents (report_course elf gmons chosen) (report_profiles gmons chosen (contents elf) image) read goes in
-      let next : Content → Course = λ t. print_reports chosen image t ended in
+      let next : Content → Course = λ t. print_reports chosen image t end_course in
       let added = profiles_go contents [] gmons MAX_PROFILE_BYTES empty_content next nothing_added summed in
       let printed = reports_go contents chosen sources _ (still_done contents (report_profiles gmons chosen (contents elf) image) (next total) added summed) in
       let did = done_by command _ said (read ∙ added ∙ printed) in
@@ -524,7 +524,7 @@ module _ (words : List (List ℕ)) (old mid new : Outside) (done : Done) (acted 
       let goes = well_done command said in
       let read = program_goes contents elf (list_profiles gmons) goes in
       let summed = still_done contents (annotate_course elf gmons) (list_profiles gmons program image) read goes in
-      let next : Content → Course = λ t. Does (Out (annotated_text image program t) ∷ []) ended in
+      let next : Content → Course = λ t. Does (Out (annotated_text image program t) ∷ []) end_course in
       let added = profiles_go contents [] gmons MAX_PROFILE_BYTES empty_content next nothing_added summed in
       let did = done_by command _ said (read ∙ added) in
       record {
@@ -543,21 +543,21 @@ module _ (words : List (List ℕ)) (old mid new : Outside) (done : Done) (acted 
       let w = world_of program setup in
       let acts = due words contents elf gmon form image setup in
       let line = Complain last.line ∷ [] in
-      let sources = reported chosen form program setup in
+      let sources = reported_sources chosen form program setup in
       let taken : IsAccepted words contents command = all_taken command said in
       let goes = well_done command said in
       let ran = run_goes words contents elf gmon form image setup (report_run form setup.rate chosen) goes in
       let printed = reports_go contents chosen sources _ (subst (λ (r : Reply). IsOk r.ending) ran goes) in
       let reply = ran ∙ ap (behind acts) printed in
       let printed_last = (reply_to contents (reports contents chosen sources _)).acts in
-      let did = subst (λ (acts : List Act). Did acts (opening acted.opens old) new) (append_assoc acts printed_last line) (done_by command _ said reply) in
+      let did = subst (λ (acts : List Act). Did acts (with_openings acted.opens old) new) (append_assoc acts printed_last line) (done_by command _ said reply) in
       record {
         runs = record { accepted = taken.0; starts = taken.1 };
         written = run_is_written elf gmon form image setup (printed_last ++ line) fits (reports_keep contents chosen sources _ last.line) did;
         output = was_printed (acts ++ (printed_last ++ line)) _ (run_prints words contents elf gmon form image setup (printed_last ++ line)
             ∙ ap (λ (text : List ℕ). prints_of w.prints ++ text) (reports_print contents chosen sources _ last.line)) did;
         run = run_is_summed_up program setup (acts ++ (printed_last ++ line)) (ended_by command _ said reply ∙ reports_end contents chosen sources _)
-            (run_complains words contents elf gmon form image setup (printed_last ++ line) ∙ ap (λ (text : List ℕ). complained w.prints ++ text) (reports_complain contents chosen sources _ last.line)) did;
+            (run_complains words contents elf gmon form image setup (printed_last ++ line) ∙ ap (λ (text : List ℕ). complaint_of w.prints ++ text) (reports_complain contents chosen sources _ last.line)) did;
         shared = time_is_shared (image_of program) (without_cuts (written_profile form z w.log setup.rate) (image_of program).symbols chosen.cuts);
         fits = taken.2;
       }
@@ -565,7 +565,7 @@ module _ (words : List (List ℕ)) (old mid new : Outside) (done : Done) (acted 
   demo_leaves : (functions : ℕ) (elf : Option ℕ) (setup : Setup) → command_of words ≡ Some (Demo functions elf setup) → DemoLeaves words old new done functions setup
   demo_leaves functions elf setup said =
       let command = Some (Demo functions elf setup) in
-      let name = option_map (name_of words) elf in
+      let name = option_map (nth_word words) elf in
       let bytes = demo_program functions in
       let prints = (world_of bytes setup).prints in
       let reply = demo_goes contents functions name setup (well_done command said) in
@@ -605,14 +605,14 @@ module _ (words : List (List ℕ)) (old mid new : Outside) (done : Done) (acted 
       let total = total_of contents gmons in
       let text = profile_text total in
       let line = Complain last.line ∷ [] in
-      let added = profiles_go contents [] gmons MAX_PROFILE_BYTES empty_content (sum_file (name_of words out)) nothing_added (well_done command said) in
+      let added = profiles_go contents [] gmons MAX_PROFILE_BYTES empty_content (sum_file (nth_word words out)) nothing_added (well_done command said) in
       let did = done_by command _ said added in
-      let file : Holds words new out text = told_file old.disk new.disk _ (name_of words out) text did.disk (λ d. file_written (name_of words out) text d) in
+      let file : Holds words new out text = told_file old.disk new.disk _ (nth_word words out) text did.disk (λ d. file_written (nth_word words out) text d) in
       record {
         profiles = all_taken command said;
         file = file;
         says = says_sum words contents gmons out _ old.disk new.disk told fits file did.disk;
-        output = was_printed (file_acts (name_of words out) text ++ line) [] refl did;
+        output = was_printed (file_acts (nth_word words out) text ++ line) [] refl did;
       }
 
   folded_leaves : (elf : ℕ) (inclusive : Bool) (setup : Setup) → command_of words ≡ Some (Folded elf inclusive setup) → FoldedLeaves words contents old new done elf inclusive setup

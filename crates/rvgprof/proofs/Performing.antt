@@ -17,14 +17,14 @@ use Rattle.mcount_arcs.specs.Image.{block_image}
 use Rattle.mcount_arcs.specs.Log.{LogEntry}
 use Rattle.mcount_arcs.specs.Value.{GmonValue, StandsFor as RuntimeStandsFor, block_parts}
 use Rattle.prof_machine.specs.declared.machine.Machine.{Machine}
-use Rattle.prof_machine.specs.Plan.{driven, planned, most_turns}
+use Rattle.prof_machine.specs.Plan.{after_drive, world_at, most_turns}
 use Rattle.prof_machine.specs.Prints.{ArePrinted, BreaksOff}
 use Rattle.prof_machine.specs.World.{World}
 use Rattle.prof_machine.specs.Executions.{exec_counts_of, executions_in}
 use Rattle.prof_machine.specs.declared.setup.Setup.{Setup}
 use Rattle.gmon_gnu.specs.Blocks.{block_record, executed_blocks, record_of}
 use Rattle.prof_machine.proofs.ActLemmas.{driven_front}
-use Rattle.command_words.specs.Items.{name_of}
+use Rattle.command_words.specs.Items.{nth_word}
 use Rattle.gmon_files.specs.Runs.{run_text}
 use Rattle.rvgprof.specs.Answer.{RunFiles, counts_text, file_acts, given_file_acts, held_text, profile_bytes, run_acts, runtime_text}
 use Rattle.rvgprof.specs.declared.outcome.Done.{Done}
@@ -53,13 +53,13 @@ printed_performs {T} {E} w v x y u none p kept =
     record { done = subst (λ (acts : List Act). Did acts x y) (sym all) p.did; kept = kept; failed = tt }
 
 -- a print failed in a turn of the plan
-pub drive_fails : {T E : Type 0} (m : Machine) (w : World) (n : ℕ) (x y : Outside) (e : E) → n < most_turns m.setup → w.prints ≡ [] → BreaksOff w (planned m w (n + 1)) x y → Performs {T = T} (driven m w).prints x y (Err e)
+pub drive_fails : {T E : Type 0} (m : Machine) (w : World) (n : ℕ) (x y : Outside) (e : E) → n < most_turns m.setup → w.prints ≡ [] → BreaksOff w (world_at m w (n + 1)) x y → Performs {T = T} (after_drive m w).prints x y (Err e)
 drive_fails {T} {E} m w n x y e below none off =
     let front = driven_front m w n x y below off in
     let cut = off.cut in
     let act = act_of cut.side cut.piece in
     let part = act_of cut.side (take cut.n cut.piece) in
-    let due : (driven m w).prints ≡ cut.before ++ act ∷ front.0 = front.1 ∙ ap (λ (acts : List Act). acts ++ (cut.before ++ act ∷ front.0)) none in
+    let due : (after_drive m w).prints ≡ cut.before ++ act ∷ front.0 = front.1 ∙ ap (λ (acts : List Act). acts ++ (cut.before ++ act ∷ front.0)) none in
     record {
       done = tt;
       kept = tt;
@@ -107,13 +107,13 @@ image_is v z log stands sizes =
 pub file_as : {T E : Type 0} (name text whole : List ℕ) (x y : Outside) (r : Result T E) → text ≡ whole → Performs (file_acts name text) x y r → Performs (file_acts name whole) x y r
 file_as name text whole x y r is p = subst (λ (t : List ℕ). Performs (file_acts name t) x y r) is p
 
-pub given_as : {T E : Type 0} (words : List (List ℕ)) (place : ℕ) (image : Option ℕ) (bytes : List ℕ) (x y : Outside) (r : Result T E) → image ≡ Some place → Performs (file_acts (name_of words place) bytes) x y r
-    → Performs (given_file_acts (option_map (name_of words) image) bytes) x y r
-given_as words place image bytes x y r is p = subst (λ (i : Option ℕ). Performs (given_file_acts (option_map (name_of words) i) bytes) x y r) (sym is) p
+pub given_as : {T E : Type 0} (words : List (List ℕ)) (place : ℕ) (image : Option ℕ) (bytes : List ℕ) (x y : Outside) (r : Result T E) → image ≡ Some place → Performs (file_acts (nth_word words place) bytes) x y r
+    → Performs (given_file_acts (option_map (nth_word words) image) bytes) x y r
+given_as words place image bytes x y r is p = subst (λ (i : Option ℕ). Performs (given_file_acts (option_map (nth_word words) i) bytes) x y r) (sym is) p
 
-pub given_nothing : {T E : Type 0} (words : List (List ℕ)) (image : Option ℕ) (bytes : List ℕ) (x : Outside) (u : T) → image ≡ None → Performs {T = T} {E = E} (given_file_acts (option_map (name_of words) image) bytes) x x (Ok u)
+pub given_nothing : {T E : Type 0} (words : List (List ℕ)) (image : Option ℕ) (bytes : List ℕ) (x : Outside) (u : T) → image ≡ None → Performs {T = T} {E = E} (given_file_acts (option_map (nth_word words) image) bytes) x x (Ok u)
 given_nothing {T} {E} words image bytes x u none =
-    subst (λ (i : Option ℕ). Performs {T = T} {E = E} (given_file_acts (option_map (name_of words) i) bytes) x x (Ok u)) (sym none) (record { done = Did-nothing x; kept = KeepsCounts-same x; failed = tt })
+    subst (λ (i : Option ℕ). Performs {T = T} {E = E} (given_file_acts (option_map (nth_word words) i) bytes) x x (Ok u)) (sym none) (record { done = Did-nothing x; kept = KeepsCounts-same x; failed = tt })
 
 -- the last acts of a command were done
 pub last_acts : {T E : Type 0} (words : List (List ℕ)) (old mid new : Outside) (below : ℕ) (done acts : List Act) (d : Done) (u : T) → Stands words old mid below done (Does acts (Ends (Ok d)))

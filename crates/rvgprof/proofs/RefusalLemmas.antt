@@ -14,10 +14,10 @@ use Rattle.gp_base.specs.declared.records.Form.TheVariants.{Bsd, Gnu}
 use Rattle.gp_base.specs.declared.records.Rec.{Rec}
 use Rattle.gp_base.specs.declared.refusal.GmonRefusal.{GmonRefusal}
 use Rattle.gp_base.specs.declared.refusal.GmonRefusal.TheVariants as gmons
-use Rattle.gmon_bsd.specs.Reading.{arc_count, bsd_refusal, counter_count, high_of, low_of, size_of, version_of}
-use Rattle.gmon_bsd.specs.Fields.{version as bsd_version}
-use Rattle.gmon_gnu.specs.Fields.{version as gnu_version}
-use Rattle.gmon_gnu.specs.Reading.{Front, Refused, Found, after_front, behind, body_front, gnu_refusal, hist_of_fields, pairs_front, recs_from, refusal_in as found_in}
+use Rattle.gmon_bsd.specs.Reading.{whole_arcs, bsd_refusal, counter_count, high_of, low_of, size_of, version_of}
+use Rattle.gmon_bsd.specs.Fields.{bsd_version}
+use Rattle.gmon_gnu.specs.Fields.{gnu_version}
+use Rattle.gmon_gnu.specs.Reading.{Front, Refused, Found, after_front, behind_records, body_front, gnu_refusal, hist_of_fields, pairs_front, recs_from, refusal_read as found_in}
 use Rattle.gmon_files.specs.Forms.{file_refusal, form_of, refusal_in}
 
 abbrev pub ElfNamed : Option ElfRefusal → Type 0
@@ -135,7 +135,7 @@ bsd_never bytes =
     (one_of (nat_lt (size_of bytes) 32 || not (size_of bytes % 2 == 0)) (Some (gmons.Size (size_of bytes))) _ (record { named = tt {0} })
     (one_of (nat_lt 0 (counter_count bytes) && nat_le (high_of bytes) (low_of bytes)) (Some (gmons.Range 0 (low_of bytes) (high_of bytes))) _ (record { named = tt {0} })
     (one_of (nat_lt (length bytes) (size_of bytes)) (Some (gmons.Short (length bytes))) _ (record { named = tt {0} })
-    (one_of (not ((length bytes - size_of bytes) % 12 == 0)) (Some (gmons.Rest (size_of bytes + arc_count bytes * 12))) _ (record { named = tt {0} }) (record { named = tt {0} }))))))
+    (one_of (not ((length bytes - size_of bytes) % 12 == 0)) (Some (gmons.Rest (size_of bytes + whole_arcs bytes * 12))) _ (record { named = tt {0} }) (record { named = tt {0} }))))))
 
 abbrev FrontNamed : Front → Type 0
 FrontNamed (Refused refusal) = GmonNamed (Some refusal)
@@ -163,7 +163,7 @@ body_named len at (suc zero) body = front_of (nat_lt (length body) 12) (Refused 
 body_named len at (suc (suc zero)) body = front_of (nat_lt (length body) 4) (Refused (gmons.Short len)) _ (record { named = tt {0} }) (pairs_named len (word_at body 0) (drop 4 body))
 body_named len at (suc (suc (suc tag))) body = record { named = tt {0} }
 
-behind_named : (recs : List Rec) (more : Result (List Rec) GmonRefusal) → GmonIs (found_in more) → GmonIs (found_in (behind recs more))
+behind_named : (recs : List Rec) (more : Result (List Rec) GmonRefusal) → GmonIs (found_in more) → GmonIs (found_in (behind_records recs more))
 behind_named recs (Ok more) named = record { named = tt {0} }
 behind_named recs (Err refusal) named = named
 

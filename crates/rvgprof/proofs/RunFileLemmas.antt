@@ -17,7 +17,7 @@ use Rattle.gp_base.specs.declared.records.RawBlock.{RawBlock}
 use Rattle.gp_base.specs.declared.records.Rec.{Rec}
 use Rattle.gp_base.specs.declared.records.Rec.TheVariants as recs
 use Rattle.gp_base.specs.declared.records.Unit as units
-use Rattle.gmon_bsd.specs.Run.{run_text as bsd_run_text}
+use Rattle.gmon_bsd.specs.Run.{bsd_run_text}
 use Rattle.gmon_bsd.proofs.RunReadBack.{run_read_back as bsd_read_back}
 use Rattle.gmon_data.specs.declared.hist.Hist.{Hist}
 use Rattle.gmon_data.specs.Content.{Content, WideRec, arc_in, block_in, content_of, hist_in, runs_at, same_ends, unit_in, wide_block, wide_record, wide_records}
@@ -28,7 +28,7 @@ use Rattle.gmon_data.proofs.TallyLemmas.{sums_by_key-fold}
 use Rattle.gmon_gnu.specs.Blocks.{block_at, block_record, executed_blocks}
 use Rattle.gmon_gnu.specs.CountedRun.{CountsFit, block_recs, counted_text}
 use Rattle.gmon_gnu.specs.ProfileText.{profile_text}
-use Rattle.gmon_gnu.specs.Run.{run_recs, run_text as gnu_run_text}
+use Rattle.gmon_gnu.specs.Run.{run_recs, gnu_run_text}
 use Rattle.gmon_gnu.proofs.CountedReadBack.{counted_read_back}
 use Rattle.gmon_gnu.proofs.ProfileReadBack.{profile_read_back}
 use Rattle.gmon_gnu.proofs.RunReadBack.{run_read_back as gnu_read_back}
@@ -40,7 +40,7 @@ use Rattle.prof_machine.specs.declared.ending.End.{End}
 use Rattle.prof_machine.specs.declared.ending.End.TheVariants.{Budget, Exit, Trap}
 use Rattle.prof_machine.specs.declared.setup.Setup.{Setup}
 use Rattle.prof_machine.specs.Executions.{executions_at, executions_in, instructions_of}
-use Rattle.prof_machine.specs.Plan.{driven, most_turns, plan_of}
+use Rattle.prof_machine.specs.Plan.{after_drive, most_turns, plan_of}
 use Rattle.prof_machine.specs.Setup.{IsSetup}
 use Rattle.prof_machine.specs.Start.{machine_of}
 use Rattle.prof_machine.specs.World.{World}
@@ -51,13 +51,13 @@ use Rattle.gmon_files.specs.Runs.{run_text}
 use Rattle.gmon_files.proofs.RunLemmas.{bsd_form, gnu_form}
 use Rattle.rvgprof.specs.Answer.{counts_text, profile_bytes, profile_in}
 use Rattle.command_words.specs.Words.{may_count}
-use Rattle.rvgprof.specs.RunFile.{FitsFile, ProfileFilesAreReadBack, RunFilesAreReadBack, SaysRun, counted, gmon_text, records_of_run, reported_profile, text_sizes, world_of}
+use Rattle.rvgprof.specs.RunFile.{FitsFile, ProfileFilesAreReadBack, RunFilesAreReadBack, SaysRun, execution_blocks, gmon_text, records_of_run, reported_profile, text_sizes, world_of}
 
 -- ---- how often instructions were executed
 
 -- no more instructions retire than the budget allows
 few_retired : (program : List ℕ) (setup : Setup) → IsSetup setup → (world_of program setup).retired ≤ 2147483647
-unfolding driven
+unfolding after_drive
 few_retired program setup within =
     let image = image_of program in
     let m = machine_of image setup in
@@ -79,7 +79,7 @@ few_retired program setup within =
     by turns (Some (Trap kind pc)) is some one two three = three kind pc is
 
 retired_here : (program : List ℕ) (setup : Setup) → length (world_of program setup).ran ≡ (world_of program setup).retired
-unfolding driven
+unfolding after_drive
 retired_here program setup =
     let image = image_of program in
     let m = machine_of image setup in
@@ -106,7 +106,7 @@ module _ (program : List ℕ) (setup : Setup) (within : IsSetup setup) where
   all_fit low [] = tt
   all_fit low (i ∷ is) = (count_fits (low + 4 * i), all_fit low is)
 
-  counts_fit : AreSizes (text_sizes program setup) → (blocks : Bool) → CountsFit (text_sizes program setup).low (counted blocks (text_sizes program setup) (world_of program setup))
+  counts_fit : AreSizes (text_sizes program setup) → (blocks : Bool) → CountsFit (text_sizes program setup).low (execution_blocks blocks (text_sizes program setup) (world_of program setup))
   counts_fit sizes false = record { four_bytes = λ i. omega arith; addresses = λ i less. absurd (omega (arith, less)) }
   counts_fit sizes true =
       let z = text_sizes program setup in
@@ -272,7 +272,7 @@ module _ (form : Form) (program : List ℕ) (setup : Setup) (fits : FitsFile for
   front = run_recs z.low z.high setup.rate (buckets_of z w.log) (arcs_of z w.log)
 
   abbrev blocks : List RawBlock
-  blocks = executed_blocks z.low (counted setup.blocks z w)
+  blocks = executed_blocks z.low (execution_blocks setup.blocks z w)
 
   rate_fits : setup.rate < 2 ^ 32
   rate_fits = let most = fits.within.0.rate in omega arith
@@ -285,7 +285,7 @@ module _ (form : Form) (program : List ℕ) (setup : Setup) (fits : FitsFile for
     -- the run's own records are read of the run's own text
     own : records_in f (run_text f z w.log setup.rate) ≡ record { form = f; recs = front }
 
-  gnu_text : (b : Bool) → gnu_run_text z w.log setup.rate ++ counts_text b z w ≡ counted_text z w.log setup.rate z.low (counted b z w)
+  gnu_text : (b : Bool) → gnu_run_text z w.log setup.rate ++ counts_text b z w ≡ counted_text z w.log setup.rate z.low (execution_blocks b z w)
   unfolding block_record
   gnu_text false = refl
   gnu_text true = refl
@@ -293,7 +293,7 @@ module _ (form : Form) (program : List ℕ) (setup : Setup) (fits : FitsFile for
   is_text : (f : Form) → may_count f setup.blocks ≡ true → IsText f (profile_bytes f setup z w)
   is_text Gnu may =
       let text = gnu_text setup.blocks in
-      let read = counted_read_back z w.log setup.rate z.low (counted setup.blocks z w) fits.sizes rate_fits fits.calls (counts_fit program setup fits.within.0 fits.sizes setup.blocks) in
+      let read = counted_read_back z w.log setup.rate z.low (execution_blocks setup.blocks z w) fits.sizes rate_fits fits.calls (counts_fit program setup fits.within.0 fits.sizes setup.blocks) in
       record {
         form_is = gnu_form z w.log setup.rate (counts_text setup.blocks z w);
         accepted = ap (refusal_in Gnu) text ∙ read.0;
@@ -306,7 +306,7 @@ module _ (form : Form) (program : List ℕ) (setup : Setup) (fits : FitsFile for
       by true is may = absurd cc
       by false is may =
           let text : profile_bytes Bsd setup z w ≡ bsd_run_text z w.log setup.rate = ap (λ (b : Bool). bsd_run_text z w.log setup.rate ++ counts_text b z w) is ∙ append-nil (bsd_run_text z w.log setup.rate) in
-          let none : front ++ block_recs blocks ≡ front = ap (λ (b : Bool). front ++ block_recs (executed_blocks z.low (counted b z w))) is ∙ append-nil front in
+          let none : front ++ block_recs blocks ≡ front = ap (λ (b : Bool). front ++ block_recs (executed_blocks z.low (execution_blocks b z w))) is ∙ append-nil front in
           let read = bsd_read_back z w.log setup.rate fits.sizes rate_fits fits.calls in
           record {
             form_is = ap form_of text ∙ bsd_form (image_of program).text setup.hist setup.hash w.log setup.rate;
@@ -339,7 +339,7 @@ module _ (form : Form) (program : List ℕ) (setup : Setup) (fits : FitsFile for
         «unit» = ap (λ (c : Content). c.«unit») content ∙ ap (λ (us : List units.Unit). slice_get us 0) unit_found ∙ sym (ap (λ (c : Content). c.«unit») own);
         executions = λ counts i below.
             ap (λ (c : Content). runs_at (z.low + 4 * i) c.blocks) content ∙ ap (λ (es : List (ℕ × ℕ)). runs_at (z.low + 4 * i) (sums_by_key nat_eq es)) all
-            ∙ ap (λ (b : Bool). runs_at (z.low + 4 * i) (sums_by_key nat_eq (map pair_of (executed_blocks z.low (counted b z w))))) counts
+            ∙ ap (λ (b : Bool). runs_at (z.low + 4 * i) (sums_by_key nat_eq (map pair_of (executed_blocks z.low (execution_blocks b z w))))) counts
             ∙ runs_counted z.low (executions_in z w.ran) i (subst (λ (n : ℕ). i < n) (sym (length-map-range_with_len (λ j. executions_at w.ran (z.low + 4 * j)) 0 (instructions_of z))) below)
             ∙ get_or-map-range_with_len (λ j. executions_at w.ran (z.low + 4 * j)) 0 (instructions_of z) i i 0 below (omega arith);
       }

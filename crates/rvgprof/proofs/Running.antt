@@ -10,7 +10,7 @@ use Rattle.prof_machine.specs.declared.ending.RunSummary.{RunSummary}
 use Rattle.prof_machine.specs.declared.ending.StartRefusal.{StartRefusal}
 use Rattle.prof_machine.specs.declared.ending.StartRefusal.TheVariants as starts
 use Rattle.prof_machine.specs.declared.setup.Setup.{Setup}
-use Rattle.prof_machine.specs.Plan.{driven}
+use Rattle.prof_machine.specs.Plan.{after_drive}
 use Rattle.prof_machine.specs.declared.machine.Machine.{Machine}
 use Rattle.prof_machine.specs.Start.{IsRefusal, final_world, machine_of, start_of, start_refusal}
 use Rattle.prof_machine.specs.Value.{RunValue, StandsFor, summary_of}
@@ -48,23 +48,23 @@ unfolding start_of
 first_prints_none image bytes setup = refl
 
 module _ (image : Image) (bytes : List ℕ) (setup : Setup) (v : RunValue) (s : IsStarted image bytes setup v) where
-  pub last_is : driven v.machine (start_of image bytes setup) ≡ final_world image bytes setup
-  last_is = ap (λ (m : Machine). driven m (start_of image bytes setup)) s.machine
+  pub last_is : after_drive v.machine (start_of image bytes setup) ≡ final_world image bytes setup
+  last_is = ap (λ (m : Machine). after_drive m (start_of image bytes setup)) s.machine
 
   sizes_are : v.machine.sizes ≡ sizes_of image.text setup.hist setup.hash
   sizes_are = ap (λ (m : Machine). m.sizes) s.machine ∙ machine_sizes image setup
 
   -- what was done is what is due
   pub performs_due : {T E : Type 0} (acts : RunActs) (x y : Outside) (r : Result T E)
-      → ((w : World) → StandsFor w v → w.prints ≡ [] → Performs (acts v.machine.sizes (driven v.machine w)) x y r)
+      → ((w : World) → StandsFor w v → w.prints ≡ [] → Performs (acts v.machine.sizes (after_drive v.machine w)) x y r)
       → Performs (acts (sizes_of image.text setup.hist setup.hash) (final_world image bytes setup)) x y r
   performs_due acts x y r performs =
       subst (λ (acts : List Act). Performs acts x y r)
-      (ap (λ (z : Sizes). acts z (driven v.machine (start_of image bytes setup))) sizes_are ∙ ap (acts (sizes_of image.text setup.hist setup.hash)) last_is)
+      (ap (λ (z : Sizes). acts z (after_drive v.machine (start_of image bytes setup))) sizes_are ∙ ap (acts (sizes_of image.text setup.hist setup.hash)) last_is)
       (performs (start_of image bytes setup) s.stands (first_prints_none image bytes setup))
 
   -- it stands for the world in which it ends
-  pub run_of : (v' : RunValue) → ((w : World) → StandsFor w v → StandsFor (driven v.machine w) v') → v'.machine ≡ v.machine → IsSome v'.ending → IsRunOf image bytes setup v'
+  pub run_of : (v' : RunValue) → ((w : World) → StandsFor w v → StandsFor (after_drive v.machine w) v') → v'.machine ≡ v.machine → IsSome v'.ending → IsRunOf image bytes setup v'
   run_of v' stands same ended = record {
     stands = subst (λ (w : World). StandsFor w v') last_is (stands (start_of image bytes setup) s.stands);
     ended = ended;
@@ -75,7 +75,7 @@ module _ (image : Image) (bytes : List ℕ) (setup : Setup) (v : RunValue) (s : 
 pub run_done : {E : Type 0} (words : List (List ℕ)) (old mid new : Outside) (below : ℕ) (done : List Act) (acts : RunActs) (next : Sizes → World → Course) (image : Image) (bytes : List ℕ) (setup : Setup) (v : RunValue)
     → (Performs {T = Unit {0}} {E = E} (acts (sizes_of image.text setup.hist setup.hash) (final_world image bytes setup)) mid new (Ok tt) → mid.is_writing ≡ false → writes_after (acts (sizes_of image.text setup.hist setup.hash) (final_world image bytes setup)) false ≡ false)
     → Stands words old mid below done (run_program acts setup next bytes image) → IsStarted image bytes setup v
-    → ((w : World) → StandsFor w v → w.prints ≡ [] → Performs {T = Unit {0}} {E = E} (acts v.machine.sizes (driven v.machine w)) mid new (Ok tt))
+    → ((w : World) → StandsFor w v → w.prints ≡ [] → Performs {T = Unit {0}} {E = E} (acts v.machine.sizes (after_drive v.machine w)) mid new (Ok tt))
     → (all : List Act) × Stands words old new below all (next (sizes_of image.text setup.hist setup.hash) (final_world image bytes setup))
 run_done {E} words old mid new below done acts next image bytes setup v shut s started performs =
     let z = sizes_of image.text setup.hist setup.hash in
@@ -90,7 +90,7 @@ run_done {E} words old mid new below done acts next image bytes setup v shut s s
 -- a call on the host failed
 pub run_failed : {E : Type 0} (words : List (List ℕ)) (old mid new : Outside) (below : ℕ) (done : List Act) (acts : RunActs) (next : Sizes → World → Course) (image : Image) (bytes : List ℕ) (setup : Setup) (v : RunValue) (e : E)
     → Stands words old mid below done (run_program acts setup next bytes image) → IsStarted image bytes setup v
-    → ((w : World) → StandsFor w v → w.prints ≡ [] → Performs {T = Unit {0}} (acts v.machine.sizes (driven v.machine w)) mid new (Err e))
+    → ((w : World) → StandsFor w v → w.prints ≡ [] → Performs {T = Unit {0}} (acts v.machine.sizes (after_drive v.machine w)) mid new (Err e))
     → Acted words old new (Err WriteFault)
 run_failed {E} words old mid new below done acts next image bytes setup v e s started performs =
     let z = sizes_of image.text setup.hist setup.hash in

@@ -5,7 +5,7 @@ use Rattle.std.proofs.lemmas.Bool.{lt-ltb, le-ltb}
 use Rattle.std.proofs.lemmas.Bool.Decides.{nat_tests}
 use Rattle.std.proofs.lemmas.List.{append-nil, length-replicate}
 use Rattle.host_port.specs.Act.{Act, Disk, File, file_content, writes_after, next_count}
-use Rattle.host_port.specs.Outside.{Outside, Becomes, Did, Rose, KeepsCounts, opening}
+use Rattle.host_port.specs.Outside.{Outside, Becomes, Did, Rose, KeepsCounts, with_openings}
 use Rattle.host_port.specs.Load.{Loads}
 use Rattle.gmon_files.specs.FileRead.{IsContent}
 use Rattle.host_port.specs.declared.loading.LoadRefusal.{LoadRefusal}
@@ -15,7 +15,7 @@ use Rattle.rvgprof.specs.declared.outcome.Done.{Done}
 use Rattle.rvgprof.specs.declared.outcome.Fault.{Fault}
 use Rattle.rvgprof.specs.declared.outcome.Fault.TheVariants.{Usage, BadElf, BadProfile, Unlike, TooWide, ProgramTooLarge, EntryOutside, ReadFault, WriteFault, OutOfMemory, TooLarge}
 use Rattle.command_words.specs.declared.words.Command.{Command}
-use Rattle.command_words.specs.Items.{name_of}
+use Rattle.command_words.specs.Items.{nth_word}
 use Rattle.command_words.specs.Words.{command_of}
 use Rattle.rvgprof.specs.Course.{Course, Ends, Input, Does, Reply, behind, one_by_one, unless, reply_to, inputs_of, ComesTo, MayStop}
 use Rattle.rvgprof.specs.Answer.{command_course, course_of, contents_of, load_fault_of}
@@ -107,10 +107,10 @@ not_understood words x idle none =
     }
 
 -- one input more was opened
-opened_more : (n : ℕ) (old mid new : Outside) → Did [] (opening n old) mid → Did [] (opening 1 mid) new → Did [] (opening (suc n) old) new
+opened_more : (n : ℕ) (old mid new : Outside) → Did [] (with_openings n old) mid → Did [] (with_openings 1 mid) new → Did [] (with_openings (suc n) old) new
 opened_more n old mid new p q =
-    let before : Did [] (opening (suc n) old) (opening 1 mid) = record { disk = p.disk; out = p.out; err = p.err; writing = p.writing; file_changes = p.file_changes; opened = ap next_count p.opened } in
-    Did-then [] [] (opening (suc n) old) (opening 1 mid) new before q
+    let before : Did [] (with_openings (suc n) old) (with_openings 1 mid) = record { disk = p.disk; out = p.out; err = p.err; writing = p.writing; file_changes = p.file_changes; opened = ap next_count p.opened } in
+    Did-then [] [] (with_openings (suc n) old) (with_openings 1 mid) new before q
 
 -- what was read, and one input more
 abbrev with_read : ℕ → List ℕ → (ℕ → List ℕ) → ℕ → List ℕ
@@ -146,7 +146,7 @@ input_read contents whole opens word limit next bytes l is short =
     }
 
 pub loaded : (words : List (List ℕ)) (old mid new : Outside) (below word limit : ℕ) (next : List ℕ → Course) (bytes : List ℕ) → Stands words old mid below [] (Input word limit next) → below ≤ word
-    → IsContent (name_of words word) limit mid new bytes → Stands words old new (word + 1) [] (next bytes)
+    → IsContent (nth_word words word) limit mid new bytes → Stands words old new (word + 1) [] (next bytes)
 loaded words old mid new below word limit next bytes s later loads =
     let did = opened_more s.opens old mid new s.did loads.nothing_done in
     record {
@@ -160,11 +160,11 @@ loaded words old mid new below word limit next bytes s later loads =
           input_read contents (course_of words) s.opens word limit next bytes
           (s.leads contents (λ w less. agrees w (omega arith) ∙ read_before word bytes s.read w (omega arith)))
           (agrees word (omega arith) ∙ read_at word bytes s.read) loads.within;
-      told = both old.disk new.disk (λ files. LeadsTo (contents_of words files) (course_of words) s.opens [] (Input word limit next)) (λ files. bytes ≡ file_content (name_of words word) files)
+      told = both old.disk new.disk (λ files. LeadsTo (contents_of words files) (course_of words) s.opens [] (Input word limit next)) (λ files. bytes ≡ file_content (nth_word words word) files)
           (λ files. LeadsTo (contents_of words files) (course_of words) (suc s.opens) [] (next bytes))
           (λ files l is. input_read (contents_of words files) (course_of words) s.opens word limit next bytes l (sym is) loads.within)
           (further (λ d. d) old.disk mid.disk new.disk (λ files. LeadsTo (contents_of words files) (course_of words) s.opens [] (Input word limit next)) loads.nothing_done.disk s.told)
-          (told_back old.disk new.disk (λ files. bytes ≡ file_content (name_of words word) files) did.disk loads.answer);
+          (told_back old.disk new.disk (λ files. bytes ≡ file_content (nth_word words word) files) did.disk loads.answer);
     }
 
 too_large : (words : List (List ℕ)) (contents : ℕ → List ℕ) (old new : Outside) (opens word limit : ℕ) (next : List ℕ → Course) → LeadsTo contents (course_of words) opens [] (Input word limit next) → limit < length (contents word)
@@ -177,7 +177,7 @@ too_large words contents old new opens word limit next l long nothing =
     record { ending = ap (λ (r : Reply). r.ending) (sym due); acts = ap (λ (r : Reply). r.acts) (sym due); counts = nothing; inputs = omega (arith, inputs) }
 
 -- there was no memory for what comes next, where so many inputs were opened
-memory_out : (words : List (List ℕ)) (old new : Outside) (opens opened : ℕ) (done : List Act) (rest : Course) (read : ℕ → List ℕ) → Did done (opening opened old) new → KeepsCounts old new → new.is_writing ≡ false
+memory_out : (words : List (List ℕ)) (old new : Outside) (opens opened : ℕ) (done : List Act) (rest : Course) (read : ℕ → List ℕ) → Did done (with_openings opened old) new → KeepsCounts old new → new.is_writing ≡ false
     → LeadsTo read (course_of words) opens done rest → WhereTold old new (λ files. LeadsTo (contents_of words files) (course_of words) opens done rest) → ((contents : ℕ → List ℕ) → MayStop contents rest [])
     → Acted words old new (Err OutOfMemory)
 memory_out words old new opens opened done rest read did counts shut leads told may =
@@ -199,7 +199,7 @@ pub no_memory : (words : List (List ℕ)) (old new : Outside) (below : ℕ) (don
 no_memory words old new below done rest s may = memory_out words old new s.opens s.opens done rest s.read s.did s.counts s.shut (s.leads s.read (λ w less. refl)) s.told may
 
 -- there was none once the next input was opened
-pub no_memory_opened : (words : List (List ℕ)) (old mid new : Outside) (below : ℕ) (rest : Course) → Stands words old mid below [] rest → Did [] (opening 1 mid) new → KeepsCounts mid new → ((contents : ℕ → List ℕ) → MayStop contents rest [])
+pub no_memory_opened : (words : List (List ℕ)) (old mid new : Outside) (below : ℕ) (rest : Course) → Stands words old mid below [] rest → Did [] (with_openings 1 mid) new → KeepsCounts mid new → ((contents : ℕ → List ℕ) → MayStop contents rest [])
     → Acted words old new (Err OutOfMemory)
 no_memory_opened words old mid new below rest s did counts may =
     memory_out words old new s.opens (suc s.opens) [] rest s.read (opened_more s.opens old mid new s.did did) (KeepsCounts-then old mid new s.counts counts) (did.writing ∙ s.shut) (s.leads s.read (λ w less. refl))
@@ -213,7 +213,7 @@ comes_next contents whole opens word limit next l =
 
 -- the input couldn't be loaded
 pub not_loaded : (words : List (List ℕ)) (old mid new : Outside) (below word limit : ℕ) (next : List ℕ → Course) (refusal : LoadRefusal) → Stands words old mid below [] (Input word limit next) → below ≤ word
-    → Loads (name_of words word) limit mid new (Err refusal) → Acted words old new (Err (load_fault_of refusal word limit))
+    → Loads (nth_word words word) limit mid new (Err refusal) → Acted words old new (Err (load_fault_of refusal word limit))
 not_loaded words old mid new below word limit next loads.ReadFault s later loads =
     let failed : ReadingFailed old new = record {
       read = subst (λ (k : ℕ). Rose k new.read_faults) s.counts.read loads.counts.0;
@@ -246,11 +246,11 @@ not_loaded words old mid new below word limit next loads.TooLarge s later loads 
       did = did;
       owed = owed_by words old new (suc s.opens) [] (Err (TooLarge word limit)) some
           (too_large words some old new s.opens word limit next (s.leads some (λ w less. read_before word zeros s.read w (omega arith))) long nothing)
-          (both old.disk new.disk (λ files. LeadsTo (contents_of words files) (course_of words) s.opens [] (Input word limit next)) (λ files. limit < length (file_content (name_of words word) files))
+          (both old.disk new.disk (λ files. LeadsTo (contents_of words files) (course_of words) s.opens [] (Input word limit next)) (λ files. limit < length (file_content (nth_word words word) files))
           (λ files. Owes words (contents_of words files) old new (suc s.opens) [] (Err (TooLarge word limit)))
           (λ files l more. too_large words (contents_of words files) old new s.opens word limit next l more nothing)
           (further (λ d. d) old.disk mid.disk new.disk (λ files. LeadsTo (contents_of words files) (course_of words) s.opens [] (Input word limit next)) loads.nothing_done.disk s.told)
-          (told_back old.disk new.disk (λ files. limit < length (file_content (name_of words word) files)) did.disk loads.answer));
+          (told_back old.disk new.disk (λ files. limit < length (file_content (nth_word words word) files)) did.disk loads.answer));
       shut = λ _. loads.nothing_done.writing ∙ s.shut;
     }
 not_loaded words old mid new below word limit next loads.OutOfMemory s later loads =
@@ -328,7 +328,7 @@ pub does_by : {T E : Type 0} (words : List (List ℕ)) (old mid new : Outside) (
     → Stands words old mid below done rest → Performs {T = T} {E = E} acts mid new (Ok u) → writes_after acts false ≡ false → Stands words old new below (done ++ acts) next
 does_by words old mid new below done acts rest next u leads s performs shut = record {
   opens = s.opens;
-  did = Did-then done acts (opening s.opens old) mid new s.did performs.done;
+  did = Did-then done acts (with_openings s.opens old) mid new s.did performs.done;
   counts = KeepsCounts-then old mid new s.counts performs.kept;
   idle = s.idle;
   shut = performs.done.writing ∙ ap (writes_after acts) s.shut ∙ shut;
@@ -421,7 +421,7 @@ fails words old mid new below done acts next e s performs =
     record {
       done = done ++ part;
       opens = s.opens;
-      did = Did-then done part (opening s.opens old) mid new s.did performs.failed.3;
+      did = Did-then done part (with_openings s.opens old) mid new s.did performs.failed.3;
       owed = owed_by words old new s.opens (done ++ part) (Err WriteFault) s.read (owes s.read (s.leads s.read (λ w less. refl)))
           (weaker old.disk new.disk (λ files. LeadsTo (contents_of words files) (course_of words) s.opens done (Does acts next)) (λ files. Owes words (contents_of words files) old new s.opens (done ++ part) (Err WriteFault))
           (λ files. owes (contents_of words files))

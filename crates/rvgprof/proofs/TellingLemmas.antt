@@ -29,12 +29,12 @@ use Rattle.command_words.specs.declared.words.Shown.{Shown}
 use Rattle.command_words.specs.declared.words.Shown.TheVariants as shows
 use Rattle.command_words.specs.Words.{command_of, IsCommandOf}
 use Rattle.rvgprof.specs.Course.{Course, Input, Does, one_by_one, unless, reply_to}
-use Rattle.command_words.specs.Items.{name_of}
+use Rattle.command_words.specs.Items.{nth_word}
 use Rattle.annotate.specs.Listing.{annotated_text}
 use Rattle.flat_report.specs.Sources.{Sources}
 use Rattle.host_port.specs.Act.{Act, Out}
 use Rattle.gmon_files.specs.Forms.{file_refusal, file_records}
-use Rattle.rvgprof.specs.Answer.{Chosen, RunActs, chosen_by, chosen_sources, command_course, course_of, demo_lines, ended, exact_report, files_named, fold_program, given_file_acts, list_profiles, print_reports, profile_file, profile_in, profiles, program, report_profiles, report_run, run_acts, run_program, show_lines, shown_reports, stacks_told, start_fault_of, sum_file, syms_lines, sums_up, too_wide, wide_step, written_profile}
+use Rattle.rvgprof.specs.Answer.{Chosen, RunActs, chosen_by, chosen_sources, command_course, course_of, demo_lines, end_course, exact_report, files_named, fold_program, given_file_acts, list_profiles, print_reports, profile_file, profile_in, profiles, program, report_profiles, report_run, run_acts, run_program, show_lines, shown_reports, stacks_told, start_fault_of, sum_file, syms_lines, sums_up, too_wide, wide_step, written_profile}
 use Rattle.elf32_syms.specs.declared.refusal.ElfRefusal.{ElfRefusal}
 use Rattle.elf32_syms.specs.declared.refusal.ElfRefusal.TheVariants as elf
 use Rattle.gp_base.specs.declared.refusal.GmonRefusal.{GmonRefusal}
@@ -132,11 +132,11 @@ summed_up contents image bytes setup is = told_of _ (final_world image bytes set
 tells_by : (words : List (List ℕ)) (contents : ℕ → List ℕ) (command : Command) → IsCommandOf words command → Tells contents (starts_run (Some command)) (command_course words (Some command))
 tells_by words contents (Show gmon) within = tells_file contents false gmon MAX_PROFILE_BYTES show_lines (λ len records. refl)
 tells_by words contents (Syms elf) within = tells_program contents false elf syms_lines (λ bytes image. refl)
-tells_by words contents (Sum out gmons) within = tells_profiles contents false gmons MAX_PROFILE_BYTES empty_content (sum_file (name_of words out)) (λ t. refl)
+tells_by words contents (Sum out gmons) within = tells_profiles contents false gmons MAX_PROFILE_BYTES empty_content (sum_file (nth_word words out)) (λ t. refl)
 tells_by words contents (Report elf gmons selection) within =
     let chosen = chosen_by words selection in
     tells_program contents false elf (report_profiles gmons chosen) (λ bytes image.
-    tells_profiles contents false gmons MAX_PROFILE_BYTES empty_content (λ total. print_reports chosen image total ended) (λ t. tells_reports contents false chosen image t ended refl))
+    tells_profiles contents false gmons MAX_PROFILE_BYTES empty_content (λ total. print_reports chosen image total end_course) (λ t. tells_reports contents false chosen image t end_course refl))
 tells_by words contents (Run elf gmon form image setup) within =
     let acts = run_acts (files_named words gmon form image) setup in
     tells_program contents true elf (run_program acts setup sums_up) (λ bytes program. tells_run contents true acts setup sums_up bytes program (summed_up contents program bytes setup within.0))
@@ -150,7 +150,7 @@ tells_by words contents (Profile elf gmon form image setup selection) within =
     tells_run contents true acts setup (next program) bytes program (tells_reports contents true chosen program (written_profile form z w.log setup.rate) (sums_up z w) (summed_up contents program bytes setup within.0.0)))
 tells_by words contents (Annotate elf gmons) within =
     tells_program contents false elf (list_profiles gmons) (λ bytes image.
-    tells_profiles contents false gmons MAX_PROFILE_BYTES empty_content (λ total. Does (Out (annotated_text image bytes total) ∷ []) ended) (λ t. refl))
+    tells_profiles contents false gmons MAX_PROFILE_BYTES empty_content (λ total. Does (Out (annotated_text image bytes total) ∷ []) end_course) (λ t. refl))
 tells_by words contents (Folded elf inclusive setup) within =
     tells_program contents true elf (fold_program inclusive setup) (λ bytes image.
     tells_start contents true image setup (one_by_one (final_world image bytes setup).prints (stacks_told inclusive image bytes setup))
@@ -162,7 +162,7 @@ tells_by words contents (Demo functions elf setup) within =
     let program = image_of bytes in
     let acts : RunActs = λ z w. w.prints in
     let next : Sizes → World → Course = demo_lines functions setup.rate program in
-    tells_unless contents true BadElf (elf_refusal bytes) (Does (given_file_acts (option_map (name_of words) elf) bytes) (run_program acts setup next bytes program)) (elf_named bytes)
+    tells_unless contents true BadElf (elf_refusal bytes) (Does (given_file_acts (option_map (nth_word words) elf) bytes) (run_program acts setup next bytes program)) (elf_named bytes)
     (tells_run contents true acts setup next bytes program (summed_up contents program bytes setup within.2))
 
 by_command : (words : List (List ℕ)) (contents : ℕ → List ℕ) (command : Command) (o : Option Command) → o ≡ Some command → IsCommandOf words command → Tells contents (starts_run o) (command_course words o)

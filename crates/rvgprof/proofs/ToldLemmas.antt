@@ -25,7 +25,7 @@ use Rattle.gmon_data.specs.Content.{IsProfile}
 use Rattle.rvgprof.specs.Acceptance.{total_of}
 use Rattle.rvgprof.specs.Answer.{contents_of}
 use Rattle.rvgprof.specs.Contract.{WhereTold}
-use Rattle.command_words.specs.Items.{name_of}
+use Rattle.command_words.specs.Items.{nth_word}
 use Rattle.rvgprof.specs.RunFile.{FitsFile}
 use Rattle.rvgprof.specs.Fitting.{FitsWhereTold, FileFits}
 use Rattle.rvgprof.specs.Standing.{IsRunOf, TellsNoMore}
@@ -66,7 +66,7 @@ line_tells text old new (Err e) puts = acts_tell _ old new puts.takes.part.2
 
 -- what a run has logged fits its file, for the program that was read
 pub run_fits : (words : List (List ℕ)) (old mid new : Outside) (elf : ℕ) (form : Form) (setup : Setup) (bytes : List ℕ) (image : Image) (v : RunValue) → image ≡ image_of bytes → IsWithinLimits (length bytes) image → IsRunSetup form setup
-    → IsRunOf image bytes setup v → ((w : World) → StandsFor w v → All CallFits (arcs_of v.machine.sizes w.log)) → WhereTold old mid (λ files. bytes ≡ file_content (name_of words elf) files) → TellsNoMore mid new
+    → IsRunOf image bytes setup v → ((w : World) → StandsFor w v → All CallFits (arcs_of v.machine.sizes w.log)) → WhereTold old mid (λ files. bytes ≡ file_content (nth_word words elf) files) → TellsNoMore mid new
     → FitsWhereTold words old new elf form setup
 run_fits words old mid new elf form setup bytes image v same limits within is calls told tells =
     let w : Image → World = λ i. final_world i bytes setup in
@@ -78,14 +78,14 @@ run_fits words old mid new elf form setup bytes image v same limits within is ca
       sizes = subst (λ (i : Image). AreSizes (sizes_of i.text setup.hist setup.hash)) same sizes;
       calls = subst (λ (i : Image). All CallFits (arcs_of (sizes_of i.text setup.hist setup.hash) (w i).log)) same logged;
     } in
-    later_told old mid new (λ files. FitsFile form (file_content (name_of words elf) files) setup) tells
-    (weaker old.disk mid.disk (λ files. bytes ≡ file_content (name_of words elf) files) (λ files. FitsFile form (file_content (name_of words elf) files) setup)
+    later_told old mid new (λ files. FitsFile form (file_content (nth_word words elf) files) setup) tells
+    (weaker old.disk mid.disk (λ files. bytes ≡ file_content (nth_word words elf) files) (λ files. FitsFile form (file_content (nth_word words elf) files) setup)
     (λ files is. subst (λ (b : List ℕ). FitsFile form b setup) is fits) told)
 
 -- it still does
 pub fits_still : (words : List (List ℕ)) (old mid new : Outside) (command : Option Command) → TellsNoMore mid new → FileFits words old mid command → FileFits words old new command
-fits_still words old mid new (Some (Run elf gmon form image setup)) tells fits = later_told old mid new (λ files. FitsFile form (file_content (name_of words elf) files) setup) tells fits
-fits_still words old mid new (Some (Profile elf gmon form image setup selection)) tells fits = later_told old mid new (λ files. FitsFile form (file_content (name_of words elf) files) setup) tells fits
+fits_still words old mid new (Some (Run elf gmon form image setup)) tells fits = later_told old mid new (λ files. FitsFile form (file_content (nth_word words elf) files) setup) tells fits
+fits_still words old mid new (Some (Profile elf gmon form image setup selection)) tells fits = later_told old mid new (λ files. FitsFile form (file_content (nth_word words elf) files) setup) tells fits
 fits_still words old mid new None tells fits = tt
 fits_still words old mid new (Some (Show gmon)) tells fits = tt
 fits_still words old mid new (Some (Syms elf)) tells fits = tt

@@ -21,14 +21,14 @@ use Rattle.elf32_syms.specs.declared.image.Symbol.{Symbol}
 use Rattle.elf32_syms.specs.Image.{image_of}
 use Rattle.elf32_syms.specs.Owners.{IsAscending, owner_of}
 use Rattle.elf32_syms.specs.Refusals.{elf_refusal}
-use Rattle.elf32_syms.specs.Symbols.{comes_before as is_kept_before, kept_at}
+use Rattle.elf32_syms.specs.Symbols.{ranks_before as is_kept_before, kept_at}
 use Rattle.demo_elf.specs.Elf.{demo_program, elf_file}
 use Rattle.demo_laws.specs.Programs.{IsProgram, program_image}
 use Rattle.rv_decode.specs.Table.{Matches, row_of, table}
 use Rattle.rv_step.specs.Memory.{IsInside, Memory, byte_at, read_at, write_at}
 use Rattle.gmon_bsd.specs.Grammar.{BsdSpells}
 use Rattle.gmon_bsd.specs.Reading.{bsd_refusal, bsd_records}
-use Rattle.gmon_bsd.specs.Run.{run_text as bsd_run_text}
+use Rattle.gmon_bsd.specs.Run.{bsd_run_text}
 use Rattle.gmon_gnu.specs.Blocks.{block_record, executed_blocks}
 use Rattle.gmon_gnu.specs.CountedRun.{block_recs}
 use Rattle.gmon_gnu.specs.Faults.{HasFault}
@@ -37,7 +37,7 @@ use Rattle.gmon_gnu.specs.ProfileText.{profile_text}
 use Rattle.gmon_files.specs.Forms.{file_records, file_refusal, form_of}
 use Rattle.gmon_files.specs.Runs.{run_records, run_text}
 use Rattle.gmon_gnu.specs.Reading.{gnu_refusal, gnu_records}
-use Rattle.gmon_gnu.specs.Run.{run_recs, run_text as gnu_run_text}
+use Rattle.gmon_gnu.specs.Run.{run_recs, gnu_run_text}
 use Rattle.gmon_gnu.specs.Splitting.{profile_recs}
 use Rattle.gmon_data.specs.declared.hist.Hist.{Hist}
 use Rattle.gmon_data.specs.declared.hist.HistRange.{HistRange}
@@ -61,11 +61,11 @@ use Rattle.prof_machine.specs.Executions.{counted_pairs, executed_pairs, executi
 use Rattle.prof_machine.specs.Laws.{leaves_hook, noted_pcs, noted_samples}
 use Rattle.rv_step.specs.declared.stepped.TrapKind.{TrapKind}
 use Rattle.prof_machine.specs.Notes.{note_of}
-use Rattle.prof_machine.specs.Plan.{driven, most_turns, planned}
+use Rattle.prof_machine.specs.Plan.{after_drive, most_turns, world_at}
 use Rattle.prof_machine.specs.Start.{final_world, machine_of, start_of, start_refusal}
 use Rattle.prof_machine.specs.Turn.{turn_of, world_after}
 use Rattle.prof_machine.specs.Value.{is_sample}
-use Rattle.prof_machine.specs.World.{World, hart_of, left_of}
+use Rattle.prof_machine.specs.World.{World, hart_of, looks_of_hart}
 use Rattle.symbol_shares.specs.Parts.{IsCovered, overlap_of}
 use Rattle.symbol_shares.specs.Ranges.{grains_of_range}
 use Rattle.symbol_shares.specs.Shares.{attributed_of, bucket_begin, share_of, share_of_bucket, shares_of}
@@ -80,17 +80,17 @@ use Rattle.call_cycles.specs.ExactFlow.{ExactTimes, IsExactFlow, exact_time_of_r
 use Rattle.propagate.specs.ExactSolution.{exact_in}
 use Rattle.propagate.specs.Proportion.{IsInProportion, carried_to}
 use Rattle.propagate.specs.Solution.{flow_in}
-use Rattle.fraction128.specs.Fractions.{Fraction, gcd, lowest, product_of, sum_of as fraction_sum}
-use Rattle.exact_flow.specs.Solution.{exact_flow_in, times_in}
+use Rattle.fraction128.specs.Fractions.{Fraction, gcd, lowest, product_of, fraction_sum}
+use Rattle.exact_flow.specs.Solution.{exact_flow_in, flow_of_times}
 use Rattle.exact_flow.specs.Steps.{FitsStep, step_at}
 use Rattle.exact_flow.specs.Wide.{WideStep, first_wide, first_wide_of}
 use Rattle.flat_report.specs.Sources.{AreOfOne, Sources}
-use Rattle.flat_report.specs.Entries.{comes_before as is_listed_before, entries_of, functions_of, ordered as functions_in_order}
-use Rattle.flat_report.specs.FlatText.{cumulative_of, flat_text, header_text as flat_header, line_at}
+use Rattle.flat_report.specs.Entries.{flat_comes_before as is_listed_before, flat_entries, listed_functions, flat_order as functions_in_order}
+use Rattle.flat_report.specs.FlatText.{cumulative_of, flat_text, flat_header, line_at}
 use Rattle.flat_report.specs.Hidden.{is_hidden}
 use Rattle.graph_report.specs.declared.subjects.Subject.TheVariants.{Function}
-use Rattle.graph_report.specs.Entries.{Entry, comes_before, number_in, ordered}
-use Rattle.graph_report.specs.GraphText.{arcs_from, arcs_to, graph_text, header_text, is_shown, subject_text}
+use Rattle.graph_report.specs.Entries.{GraphEntry, graph_comes_before, number_in, graph_order}
+use Rattle.graph_report.specs.GraphText.{arcs_from, arcs_to, graph_text, graph_header, is_shown, subject_text}
 use Rattle.graph_report.specs.Roots.{has_own_entry, shown_total}
 use Rattle.graph_report.specs.Rows.{cycle_entries, function_entries}
 use Rattle.folded.specs.Stacks.{caller_in, lines_of, same_stack, stack_cmp, stack_of, times_in as times_in_lines}
@@ -224,7 +224,7 @@ pub record RunClaims : Type 0 where
   pub plan_ends : (image : Image) (bytes : List ℕ) (setup : Setup) → 1 ≤ setup.every → 1 ≤ setup.budget → IsSome (final_world image bytes setup).ending
   -- .. and then in the same world for every number of turns that suffices
   pub one_ending : (image : Image) (bytes : List ℕ) (setup : Setup) (n : ℕ) → 1 ≤ setup.every → 1 ≤ setup.budget →
-      let w = planned (machine_of image setup) (start_of image bytes setup) n in IsSome w.ending → w ≡ final_world image bytes setup
+      let w = world_at (machine_of image setup) (start_of image bytes setup) n in IsSome w.ending → w ≡ final_world image bytes setup
   -- samples are one in `every` of the instructions that the clock has counted, and no more retire than the budget allows
   pub clock : (image : Image) (bytes : List ℕ) (setup : Setup) (turns : List ℕ) → 1 ≤ setup.every → 1 ≤ setup.budget →
       let w = world_after (machine_of image setup) (start_of image bytes setup) turns in
@@ -240,7 +240,7 @@ pub record RunClaims : Type 0 where
   pub returns_noted : (m : Machine) (w : World) (h r : ℕ) → h < length w.harts →
       let v = turn_of m w h in
       ((note_of m w h).returned ≡ Some r)
-      ↔ (((count_by leaves_hook v.log ≡ count_by leaves_hook w.log + 1) ⊎ ((w.ending ≡ None) × (left_of w.left h ≡ 1)))
+      ↔ (((count_by leaves_hook v.log ≡ count_by leaves_hook w.log + 1) ⊎ ((w.ending ≡ None) × (looks_of_hart w.left h ≡ 1)))
       × ((kind : TrapKind) (pc : ℕ) → v.ending ≢ Some (Trap kind pc)) × ((hart_of v.harts h).pc ≡ r))
   -- as many places are kept as instructions have retired
   pub as_many : (image : Image) (bytes : List ℕ) (setup : Setup) (turns : List ℕ) →
@@ -248,9 +248,9 @@ pub record RunClaims : Type 0 where
   -- the counts of executed instructions are the pairs of the addresses at which some were executed
   pub pairs : (z : Sizes) (ran : List ℕ) → counted_pairs z.low (executions_in z ran) ≡ executed_pairs z ran
   -- what is printed stays, from turn to turn of a plan ..
-  pub prints_stay : (m : Machine) (w : World) (k n : ℕ) → k ≤ n → (more : List Act) × ((planned m w n).prints ≡ (planned m w k).prints ++ more)
+  pub prints_stay : (m : Machine) (w : World) (k n : ℕ) → k ≤ n → (more : List Act) × ((world_at m w n).prints ≡ (world_at m w k).prints ++ more)
   -- .. up to those in which the run ends
-  pub last_prints : (m : Machine) (w : World) (n : ℕ) → n ≤ most_turns m.setup → (more : List Act) × ((driven m w).prints ≡ (planned m w n).prints ++ more)
+  pub last_prints : (m : Machine) (w : World) (n : ℕ) → n ≤ most_turns m.setup → (more : List Act) × ((after_drive m w).prints ≡ (world_at m w n).prints ++ more)
   -- no call is being entered once a run has ended ..
   pub none_busy : (image : Image) (bytes : List ℕ) (setup : Setup) (turns : List ℕ) → All (λ h. h < setup.harts) turns →
       let w = world_after (machine_of image setup) (start_of image bytes setup) turns in IsSome w.ending → state_of (machine_of image setup).sizes w.log ≢ Busy
@@ -392,7 +392,7 @@ pub record ExactClaims : Type 0 where
       × ((i : ℕ) → i < arc_count g → is_outside g i ≡ true → IsSameTime x y (x.arc_self i) (y.arc_self i) × IsSameTime x y (x.arc_child i) (y.arc_child i))
       × ((f : ℕ) → f < g.functions → IsSameTime x y (x.member_child f) (y.member_child f))
   -- .. in lowest terms too
-  pub one_exact_flow : (g : GraphValue) (shares : List ℕ) (x : ExactTimes) → IsGraph g → IsExactFlow g shares x → times_in g shares x ≡ exact_flow_in g shares
+  pub one_exact_flow : (g : GraphValue) (shares : List ℕ) (x : ExactTimes) → IsGraph g → IsExactFlow g shares x → flow_of_times g shares x ≡ exact_flow_in g shares
   -- the times of a flow are near the exact ones
   pub near : (g : GraphValue) (shares : List ℕ) (t : FlowValue) (x : ExactTimes) → IsGraph g → IsFlow g shares t → IsExactFlow g shares x →
       ((c : ℕ) → c < component_count g → IsNearExact g x (slice_index t.child c) (x.child c))
@@ -425,38 +425,38 @@ pub record ExactClaims : Type 0 where
 
 pub record FlatClaims : Type 0 where
   -- each function that has a line has its place in the order once ..
-  pub all_functions : (s : Sources) → IsPermutation (functions_of s) (functions_in_order s)
+  pub all_functions : (s : Sources) → IsPermutation (listed_functions s) (functions_in_order s)
   -- .. and none stands behind one that it comes before
   pub in_order : (s : Sources) → IsSortedBy (is_listed_before s) (functions_in_order s)
   -- the time down to the last line of the flat profile is all that is attributed
-  pub last_line : (s : Sources) → length s.shares.of ≡ s.graph.functions → cumulative_of (entries_of s) (length (entries_of s)) ≡ attributed_of s.shares
+  pub last_line : (s : Sources) → length s.shares.of ≡ s.graph.functions → cumulative_of (flat_entries s) (length (flat_entries s)) ≡ attributed_of s.shares
   -- and its lines have all calls together
-  pub calls : (s : Sources) → IsGraph s.graph → sum_by (λ e. e.calls) (entries_of s) ≡ all_calls s.graph
+  pub calls : (s : Sources) → IsGraph s.graph → sum_by (λ e. e.calls) (flat_entries s) ≡ all_calls s.graph
   -- the profile is its header and its lines ..
-  pub whole_profile : (s : Sources) → flat_text s [] ≡ flat_header s.shares s.rate ++ flat_map (line_at (attributed_of s.shares) s.rate (entries_of s)) (enumerate_from 0 (entries_of s))
+  pub whole_profile : (s : Sources) → flat_text s [] ≡ flat_header s.shares s.rate ++ flat_map (line_at (attributed_of s.shares) s.rate (flat_entries s)) (enumerate_from 0 (flat_entries s))
   -- .. and with hidden names the same less the lines of the functions that have them
   pub shown_lines : (s : Sources) (hidden : List (List ℕ)) → flat_text s hidden
-      ≡ flat_header s.shares s.rate ++ flat_map (line_at (attributed_of s.shares) s.rate (entries_of s)) (filter (λ e. not (is_hidden hidden e.1.name)) (enumerate_from 0 (entries_of s)))
+      ≡ flat_header s.shares s.rate ++ flat_map (line_at (attributed_of s.shares) s.rate (flat_entries s)) (filter (λ e. not (is_hidden hidden e.1.name)) (enumerate_from 0 (flat_entries s)))
 
 -- ---- the call graph
 
 pub record CallGraphClaims : Type 0 where
   -- each cycle, and each function that has an entry, has its place in the order once ..
-  pub all_entries : (s : Sources) → IsPermutation (cycle_entries s ++ function_entries s) (ordered s)
+  pub all_entries : (s : Sources) → IsPermutation (cycle_entries s ++ function_entries s) (graph_order s)
   -- .. and none stands behind one that it comes before
-  pub in_order : (s : Sources) → IsSortedBy comes_before (ordered s)
+  pub in_order : (s : Sources) → IsSortedBy graph_comes_before (graph_order s)
   -- the number of an entry is its place, counted from 1
-  pub numbers : (s : Sources) (place : ℕ) (e : Entry) → IsGraph s.graph → slice_get (ordered s) place ≡ Some e → number_in (ordered s) e.subject ≡ place + 1
+  pub numbers : (s : Sources) (place : ℕ) (e : GraphEntry) → IsGraph s.graph → slice_get (graph_order s) place ≡ Some e → number_in (graph_order s) e.subject ≡ place + 1
   -- each function that a line names has an entry: those that call and those that are called ..
   pub arcs_named : (s : Sources) (i : ℕ) → IsGraph s.graph → i < arc_count s.graph
-      → (0 < number_in (ordered s) (Function (arc_at s.graph i).caller)) × (0 < number_in (ordered s) (Function (arc_at s.graph i).callee))
+      → (0 < number_in (graph_order s) (Function (arc_at s.graph i).caller)) × (0 < number_in (graph_order s) (Function (arc_at s.graph i).callee))
   -- .. and the members of cycles
-  pub members_named : (s : Sources) (f : ℕ) → IsGraph s.graph → f < s.graph.functions → is_cycle s.graph (component_of s.graph f) ≡ true → 0 < number_in (ordered s) (Function f)
+  pub members_named : (s : Sources) (f : ℕ) → IsGraph s.graph → f < s.graph.functions → is_cycle s.graph (component_of s.graph f) ≡ true → 0 < number_in (graph_order s) (Function f)
   -- the report is its header and its entries ..
-  pub whole_report : (s : Sources) → graph_text s [] ≡ header_text ++ flat_map (λ (e : Entry). subject_text s (number_in (ordered s)) e.subject) (ordered s)
+  pub whole_report : (s : Sources) → graph_text s [] ≡ graph_header ++ flat_map (λ (e : GraphEntry). subject_text s (number_in (graph_order s)) e.subject) (graph_order s)
   -- .. and with hidden names the same less the entries of the functions that have them
   pub shown_entries : (s : Sources) (hidden : List (List ℕ)) → graph_text s hidden
-      ≡ header_text ++ flat_map (λ (e : Entry). subject_text s (number_in (ordered s)) e.subject) (filter (λ (e : Entry). is_shown hidden e.subject e.name) (ordered s))
+      ≡ graph_header ++ flat_map (λ (e : GraphEntry). subject_text s (number_in (graph_order s)) e.subject) (filter (λ (e : GraphEntry). is_shown hidden e.subject e.name) (graph_order s))
   -- the total of a component's entry in the call graph is the component's time ..
   pub totals : (s : Sources) (c : ℕ) → AreOfOne s → c < component_count s.graph → shown_total s c ≡ time_of s.flow c
   -- .. and one that has no entry has none

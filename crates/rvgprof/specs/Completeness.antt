@@ -3,7 +3,7 @@ use Rattle.std.specs.Prelude.{◌≡◌, ℕ, ◌-◌, ◌^◌, ◌<◌, Bool, t
 use Rattle.std.specs.List.{AllByRecursion}
 use Rattle.host_port.specs.Act.{Act}
 use Rattle.host_port.specs.Act.{Err as Complain}
-use Rattle.host_port.specs.Outside.{Outside, Did, opening}
+use Rattle.host_port.specs.Outside.{Outside, Did, with_openings}
 use Rattle.rvgprof.specs.declared.outcome.Done.{Done}
 use Rattle.rvgprof.specs.declared.outcome.Fault.{Fault}
 use Rattle.rvgprof.specs.Texts.{last_line}
@@ -42,5 +42,5 @@ pub record Complete (words : List (List ℕ)) (old new : Outside) (result : Resu
   -- what was printed of the last line
   pub line : List ℕ
   -- each input was opened once
-  pub did : Did ((reply_to contents (course_of words)).acts ++ Complain line ∷ []) (opening (inputs_of contents (course_of words)) old) new
+  pub did : Did ((reply_to contents (course_of words)).acts ++ Complain line ∷ []) (with_openings (inputs_of contents (course_of words)) old) new
   pub ends : LineEnds line (last_line words result) old.err_faults new.err_faults

@@ -2,7 +2,7 @@
 use Rattle.std.specs.Prelude.{◌≡◌, ◌≢◌, ℕ, suc, true, false, List, [], ◌∷◌, None, Result, Ok, Err, ◌⊎◌, MatchOption, IfSome, ⊤}
 use Rattle.host_port.specs.Act.{Act, File}
 use Rattle.host_port.specs.Act.{Err as Complain}
-use Rattle.host_port.specs.Outside.{Outside, Did, KeepsCounts, Rose, opening}
+use Rattle.host_port.specs.Outside.{Outside, Did, KeepsCounts, Rose, with_openings}
 use Rattle.host_port.specs.Performing.{IsProperPrefix, FailedAt, ActFailed}
 use Rattle.rvgprof.specs.declared.outcome.Done.{Done}
 use Rattle.rvgprof.specs.declared.outcome.Fault.{Fault}
@@ -88,7 +88,7 @@ pub record Acted (words : List (List ℕ)) (old new : Outside) (result : Result 
   pub done : List Act
   -- how many inputs were opened
   pub opens : ℕ
-  pub did : Did done (opening opens old) new
+  pub did : Did done (with_openings opens old) new
   pub owed : Owed words old new opens done result
   pub shut : IsShut result new
 

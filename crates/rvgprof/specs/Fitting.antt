@@ -8,7 +8,7 @@ use Rattle.host_port.specs.Outside.{Outside}
 use Rattle.prof_machine.specs.declared.setup.Setup.{Setup}
 use Rattle.command_words.specs.declared.words.Command.{Command}
 use Rattle.command_words.specs.declared.words.Command.TheVariants.{Run, Profile, Sum}
-use Rattle.command_words.specs.Items.{name_of}
+use Rattle.command_words.specs.Items.{nth_word}
 use Rattle.rvgprof.specs.Answer.{contents_of}
 use Rattle.rvgprof.specs.Contract.{WhereTold}
 use Rattle.rvgprof.specs.RunFile.{FitsFile}
@@ -16,7 +16,7 @@ use Rattle.rvgprof.specs.Acceptance.{total_of}
 
 -- where the program's file is told, its run fits the file
 abbrev pub FitsWhereTold : List (List ℕ) → Outside → Outside → ℕ → Form → Setup → Type 0
-FitsWhereTold words old new elf form setup = WhereTold old new (λ files. FitsFile form (file_content (name_of words elf) files) setup)
+FitsWhereTold words old new elf form setup = WhereTold old new (λ files. FitsFile form (file_content (nth_word words elf) files) setup)
 
 -- where the files are told, what they add up to is a profile
 abbrev pub SumIsProfile : List (List ℕ) → Outside → Outside → List ℕ → Type 0

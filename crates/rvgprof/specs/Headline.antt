@@ -9,8 +9,8 @@ use Rattle.gmon_files.specs.Forms.{file_records}
 use Rattle.gmon_gnu.specs.ProfileText.{profile_text}
 use Rattle.annotate.specs.Listing.{annotated_text}
 use Rattle.text_lines.specs.Lines.{image_text, show_text}
-use Rattle.host_port.specs.Act.{complained, file_content}
-use Rattle.host_port.specs.Act.{printed as prints_of}
+use Rattle.host_port.specs.Act.{complaint_of, file_content}
+use Rattle.host_port.specs.Act.{print_of as prints_of}
 use Rattle.host_port.specs.Outside.{Outside, Becomes}
 use Rattle.symbol_shares.specs.Shares.{attributed_of}
 use Rattle.call_cycles.specs.Graph.{IsGraph, arc_at, arc_count, component_count, entering_of, is_outside, target_of}
@@ -32,7 +32,7 @@ use Rattle.command_words.specs.declared.words.Command.{Command}
 use Rattle.command_words.specs.declared.words.Command.TheVariants.{Show, Syms, Run, Sum, Report, Profile, Demo, Annotate, Folded, Help, Version}
 use Rattle.command_words.specs.declared.words.Shown.{Shown}
 use Rattle.command_words.specs.declared.words.Shown.TheVariants as shows
-use Rattle.command_words.specs.Items.{name_of}
+use Rattle.command_words.specs.Items.{nth_word}
 use Rattle.command_words.specs.Words.{command_of}
 use Rattle.demo_elf.specs.Elf.{demo_program}
 use Rattle.mcount_arcs.specs.Log.{distinct_count, kept_calls}
@@ -46,8 +46,8 @@ use Rattle.rvgprof.specs.RunFile.{SaysProfile, SaysRun, gmon_text, memory_text, 
 use Rattle.rvgprof.specs.Acceptance.{IsProfileFile, IsProgramFile, AreProfileFiles, Starts, total_of}
 
 -- what is reported: what that file says, without the calls that are cut
-abbrev pub reported : Chosen → Form → List ℕ → Setup → Sources
-reported chosen form program setup = chosen_sources chosen (image_of program) (reported_profile form program setup)
+abbrev pub reported_sources : Chosen → Form → List ℕ → Setup → Sources
+reported_sources chosen form program setup = chosen_sources chosen (image_of program) (reported_profile form program setup)
 
 -- the reports that are asked for
 abbrev pub reports_of : Shown → List (List ℕ) → Sources → List ℕ
@@ -64,8 +64,8 @@ abbrev pub printed_of : Chosen → Sources → List ℕ
 printed_of chosen s = reports_of chosen.shown chosen.hidden s ++ exact_of chosen.exact s
 
 -- the memory of the runtime isn't written into the file of the profile
-abbrev pub IsApart : List (List ℕ) → ℕ → Option ℕ → Type 0
-IsApart words gmon image = option_map (name_of words) image ≢ Some (name_of words gmon)
+abbrev pub NamesDiffer : List (List ℕ) → ℕ → Option ℕ → Type 0
+NamesDiffer words gmon image = option_map (nth_word words) image ≢ Some (nth_word words gmon)
 
 -- a text was printed on the output, and nothing else
 abbrev pub IsPrinted : List ℕ → Outside → Outside → Type 0
@@ -73,7 +73,7 @@ IsPrinted text old new = Becomes (λ bytes. bytes ++ text) old.out new.out
 
 -- where the files are told, the one that a word names holds a text
 abbrev pub Holds : List (List ℕ) → Outside → ℕ → List ℕ → Type 0
-Holds words new word text = IfSome new.disk (λ d. file_content (name_of words word) d.files ≡ text)
+Holds words new word text = IfSome new.disk (λ d. file_content (nth_word words word) d.files ≡ text)
 
 -- A program is accepted, and a run of it starts.
 pub record Runs (program : List ℕ) (setup : Setup) : Type 0 where
@@ -84,10 +84,10 @@ pub record Runs (program : List ℕ) (setup : Setup) : Type 0 where
 pub record RunIsWritten (words : List (List ℕ)) (new : Outside) (gmon : ℕ) (form : Form)
     (image : Option ℕ) (setup : Setup) (program : List ℕ) : Type 0 where
   -- GMON holds the file of the run ..
-  pub file : IsApart words gmon image → Holds words new gmon (gmon_text form program setup)
+  pub file : NamesDiffer words gmon image → Holds words new gmon (gmon_text form program setup)
   -- .. which is read as what happened in the run
-  pub says : IsApart words gmon image
-      → IfSome new.disk (λ d. SaysRun form program setup (file_content (name_of words gmon) d.files))
+  pub says : NamesDiffer words gmon image
+      → IfSome new.disk (λ d. SaysRun form program setup (file_content (nth_word words gmon) d.files))
   -- the file that is named for it holds the memory of the runtime, also where that is GMON
   pub memory : (place : ℕ) → image ≡ Some place → Holds words new place (memory_text program setup)
 
@@ -98,7 +98,7 @@ pub record RunIsSummedUp (words : List (List ℕ)) (old new : Outside) (done : D
   pub line : List ℕ
   pub ends : LineEnds line (last_line words (Ok done)) old.err_faults new.err_faults
   -- what the program prints on the error output stands before the line
-  pub errors : Becomes (λ bytes. bytes ++ (complained (world_of program setup).prints ++ line)) old.err new.err
+  pub errors : Becomes (λ bytes. bytes ++ (complaint_of (world_of program setup).prints ++ line)) old.err new.err
 
 -- an arc carries its part of both times of the component that it enters
 abbrev pub ArcIsInProportion : Sources → ℕ → Type 0
@@ -163,7 +163,7 @@ pub record SumLeaves (words : List (List ℕ)) (contents : ℕ → List ℕ) (ol
   pub file : Holds words new out (profile_text (total_of contents gmons))
   -- .. which is read back as the sum
   pub says : IfSome new.disk
-      (λ d. SaysProfile (total_of contents gmons) (file_content (name_of words out) d.files))
+      (λ d. SaysProfile (total_of contents gmons) (file_content (nth_word words out) d.files))
   pub output : IsPrinted [] old new
 
 -- what `show` leaves: the records of its file as lines
@@ -197,10 +197,10 @@ pub record Headline (words : List (List ℕ)) (contents : ℕ → List ℕ) (old
   pub written : RunIsWritten words new gmon form image setup (contents elf)
   -- what the program prints, and then the reports, were printed
   pub output : IsPrinted (prints_of (world_of (contents elf) setup).prints
-      ++ printed_of chosen (reported chosen form (contents elf) setup)) old new
+      ++ printed_of chosen (reported_sources chosen form (contents elf) setup)) old new
   pub run : RunIsSummedUp words old new done setup (contents elf)
-  pub shared : TimeIsShared (reported chosen form (contents elf) setup)
-  pub fits : wide_step chosen.exact (reported chosen form (contents elf) setup) ≡ None
+  pub shared : TimeIsShared (reported_sources chosen form (contents elf) setup)
+  pub fits : wide_step chosen.exact (reported_sources chosen form (contents elf) setup) ≡ None
 
 -- what a demo's summary is made from
 abbrev pub demo_sources : ℕ → Setup → Sources

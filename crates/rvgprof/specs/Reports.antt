@@ -15,8 +15,8 @@ use Rattle.flat_report.specs.Sources.{Sources}
 use Rattle.prof_machine.specs.declared.ending.RunSummary.{RunSummary}
 
 -- the samples per second of a profile, and 100 where it has no unit
-abbrev pub rate_of : Content → ℕ
-rate_of p = option_map_or (λ u. u.rate) p.«unit» 100
+abbrev pub profile_rate : Content → ℕ
+profile_rate p = option_map_or (λ u. u.rate) p.«unit» 100
 
 -- what its reports are made from: how its samples are shared among the symbols, and how time flows over the graph of
 -- its calls
@@ -24,7 +24,7 @@ unfoldable pub profile_sources : Image → Content → Sources
 profile_sources image total =
     let shares = shares_of total.hists image.symbols in
     let graph = profile_graph total.arcs image.symbols in
-    record { symbols = image.symbols; graph = graph; flow = flow_in graph shares.of; shares = shares; rate = rate_of total }
+    record { symbols = image.symbols; graph = graph; flow = flow_in graph shares.of; shares = shares; rate = profile_rate total }
 
 -- ---- the summary of a demo
 

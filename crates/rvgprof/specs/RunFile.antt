@@ -42,15 +42,15 @@ memory_text program setup = layout_of (block_image (text_sizes program setup) (w
 -- ---- what is read of that file
 
 -- how often each instruction was executed, where that is counted
-abbrev pub counted : Bool → Sizes → World → List ℕ
-counted false z w = []
-counted true z w = executions_in z w.ran
+abbrev pub execution_blocks : Bool → Sizes → World → List ℕ
+execution_blocks false z w = []
+execution_blocks true z w = executions_in z w.ran
 
 -- one histogram, an arc for each pair of call site and callee, and the executions that are counted
 abbrev pub records_of_run : Form → Setup → Sizes → World → Records
 records_of_run form setup z w = record {
   form = form;
-  recs = run_recs z.low z.high setup.rate (buckets_of z w.log) (arcs_of z w.log) ++ block_recs (executed_blocks z.low (counted setup.blocks z w));
+  recs = run_recs z.low z.high setup.rate (buckets_of z w.log) (arcs_of z w.log) ++ block_recs (executed_blocks z.low (execution_blocks setup.blocks z w));
 }
 
 -- the profile that is reported of a run

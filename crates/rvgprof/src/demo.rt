@@ -10,7 +10,7 @@ ghost use Rattle.host_port.specs.Performing.{Performs};
 ghost use Rattle.prof_machine.specs.Setup.{IsSetup};
 ghost use Rattle.rvgprof.specs.Answer.{demo_course, given_file_acts};
 ghost use Rattle.rvgprof.specs.Contract.{Acted};
-ghost use Rattle.command_words.specs.Items.{name_of};
+ghost use Rattle.command_words.specs.Items.{nth_word};
 ghost use Rattle.rvgprof.specs.Reports.{cycle_count, demo_run_line, grains_line};
 ghost use Rattle.rvgprof.specs.Standing.{IsDemoRead, IsDemoRefused, RunsDemo, Stands, SumsUp, TellsDemo};
 
@@ -43,7 +43,7 @@ pub fn demo<H: Host>(
     host: &mut H,
 ) -> Result<Done, Fault>
     requires stands { Stands (map string_bytes words.now) (H.outside host.old) (H.outside host.old) 0 []
-        (demo_course functions (option_map (name_of (map string_bytes words.now)) elf) setup) }
+        (demo_course functions (option_map (nth_word (map string_bytes words.now)) elf) setup) }
     requires some { 1 ≤ functions }
     requires few { functions ≤ 2000 }
     requires within { IsSetup setup }
@@ -108,7 +108,7 @@ fn write_program<H: Host>(
     host: &mut H,
 ) -> Result<(), Failed>
     requires { (H.outside host.old).is_writing ≡ false }
-    ensures { Performs (given_file_acts (option_map (name_of (map string_bytes words.now)) elf) bytes.now) (H.outside host.old) (H.outside host.new) result }
+    ensures { Performs (given_file_acts (option_map (nth_word (map string_bytes words.now)) elf) bytes.now) (H.outside host.old) (H.outside host.new) result }
 {
     match elf {
         None => Ok(()),

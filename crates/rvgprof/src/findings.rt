@@ -2,7 +2,7 @@
 
 ghost use Rattle.std.specs.Prelude.{◌≡◌, ◌≤◌, IfOk};
 ghost use Rattle.elf32_syms.specs.Owners.{IsAscending};
-ghost use Rattle.rvgprof.specs.Reports.{rate_of as spec_rate};
+ghost use Rattle.rvgprof.specs.Reports.{profile_rate as spec_rate};
 ghost use Rattle.rvgprof.specs.Findings.{AreFindings};
 
 use call_cycles::{Graph, graph};

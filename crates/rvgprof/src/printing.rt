@@ -10,7 +10,7 @@ ghost use Rattle.flat_report.specs.Reports.{Reports};
 ghost use Rattle.flat_report.specs.declared.refusal.ReportRefusal.TheVariants.{OutOfMemory};
 ghost use Rattle.flat_report.specs.FlatText.{flat_text};
 ghost use Rattle.graph_report.specs.GraphText.{graph_text};
-ghost use Rattle.command_words.specs.Items.{names_at};
+ghost use Rattle.command_words.specs.Items.{words_at};
 ghost use Rattle.rvgprof.specs.Answer.{chosen_by};
 ghost use Rattle.rvgprof.specs.Findings.{AreFindings, FitTogether, IsAsked, given_sources};
 ghost use Rattle.rvgprof.specs.Standing.{PrintsAll, PrintsExact, PrintsReports, PrintsShown, TellsNoMore};
@@ -78,7 +78,7 @@ fn chosen_findings(
 ) -> Result<Findings, AllocError>
     requires ascending { IsAscending image.now.symbols }
     requires cuts { AreCuts (map string_bytes words.now) selection.now }
-    ensures { IfOk result (λ f. AreFindings image.now (without_cuts total image.now.symbols (names_at (map string_bytes words.now) selection.now.cuts)) f) }
+    ensures { IfOk result (λ f. AreFindings image.now (without_cuts total image.now.symbols (words_at (map string_bytes words.now) selection.now.cuts)) f) }
 {
     if selection.cuts.as_slice().is_empty() {
         return findings_of(alloc, image, total);

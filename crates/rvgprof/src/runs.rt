@@ -7,12 +7,12 @@ ghost use Rattle.host_port.specs.Host.{Puts};
 ghost use Rattle.host_port.specs.declared.side.Side.TheVariants.{File};
 ghost use Rattle.host_port.specs.Performing.{Performs};
 ghost use Rattle.mcount_arcs.specs.Value.{block_parts};
-ghost use Rattle.prof_machine.specs.Plan.{driven};
+ghost use Rattle.prof_machine.specs.Plan.{after_drive};
 ghost use Rattle.prof_machine.specs.Setup.{IsSetup};
 ghost use Rattle.prof_machine.specs.Value.{IsLive, StandsFor};
 ghost use Rattle.prof_machine.specs.World.{World};
 ghost use Rattle.rvgprof.specs.Answer.{file_acts, files_named, given_file_acts, held_text, run_acts, runtime_text};
-ghost use Rattle.command_words.specs.Items.{name_of};
+ghost use Rattle.command_words.specs.Items.{nth_word};
 ghost use Rattle.rvgprof.specs.Standing.{IsRunOf, IsStartFault, IsStarted, RunsProgram, TellsNoMore};
 ghost use Rattle.std.specs.Option.{option_map};
 
@@ -107,8 +107,8 @@ fn perform<H: Host>(
     requires setup { run.old.machine.setup ≡ setup }
     requires idle { (H.outside host.old).is_writing ≡ false }
     ensures performs { (w : World) → StandsFor w run.old → w.prints ≡ []
-        → Performs (run_acts (files_named (map string_bytes words.now) outputs.gmon outputs.form outputs.image) setup run.old.machine.sizes (driven run.old.machine w)) (H.outside host.old) (H.outside host.new) result }
-    ensures stands { OnOk result ((w : World) → StandsFor w run.old → StandsFor (driven run.old.machine w) run.new) }
+        → Performs (run_acts (files_named (map string_bytes words.now) outputs.gmon outputs.form outputs.image) setup run.old.machine.sizes (after_drive run.old.machine w)) (H.outside host.old) (H.outside host.new) result }
+    ensures stands { OnOk result ((w : World) → StandsFor w run.old → StandsFor (after_drive run.old.machine w) run.new) }
     ensures machine { OnOk result (run.new.machine ≡ run.old.machine) }
     ensures ended { OnOk result (IsSome run.new.ending) }
 {

@@ -6,7 +6,7 @@ ghost use Rattle.host_port.specs.Performing.{Performs};
 ghost use Rattle.rvgprof.specs.Answer.{file_acts, sum_course};
 ghost use Rattle.rvgprof.specs.Contract.{Acted};
 ghost use Rattle.rvgprof.specs.Fitting.{SumIsProfile};
-ghost use Rattle.command_words.specs.Items.{name_of};
+ghost use Rattle.command_words.specs.Items.{nth_word};
 ghost use Rattle.rvgprof.specs.Standing.{Stands};
 ghost use Rattle.command_words.specs.Words.{AreRising};
 
@@ -25,7 +25,7 @@ pub fn sum<H: Host>(
     gmons: &[u32],
     host: &mut H,
 ) -> Result<Done, Fault>
-    requires stands { Stands (map string_bytes words.now) (H.outside host.old) (H.outside host.old) 0 [] (sum_course (name_of (map string_bytes words.now) out) gmons.now) }
+    requires stands { Stands (map string_bytes words.now) (H.outside host.old) (H.outside host.old) 0 [] (sum_course (nth_word (map string_bytes words.now) out) gmons.now) }
     requires rising { AreRising gmons.now }
     ensures acted { Acted (map string_bytes words.now) (H.outside host.old) (H.outside host.new) result }
     ensures fits { OnOk result (SumIsProfile (map string_bytes words.now) (H.outside host.old) (H.outside host.new) gmons.now) }

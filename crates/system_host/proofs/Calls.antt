@@ -3,7 +3,7 @@ use Rattle.std.proofs.Common.{◌≡◌, ℕ, ◌<◌, ◌≤◌, Bool, true, fa
 use Rattle.std.specs.Prelude.{◌==◌, option_map, is_some, IfSome, if◌then◌else◌, bytes_eq, ⊤}
 use Rattle.std.proofs.lemmas.List.{append-nil}
 use Rattle.host_port.specs.declared.host.Failed.{Failed}
-use Rattle.host_port.specs.Act.{Create, Write, Disk, File, disk_after, written, with_file, with_more, next_count}
+use Rattle.host_port.specs.Act.{Create, Write, Disk, File, disk_after, files_with, with_file, with_more, next_count}
 use Rattle.host_port.specs.Outside.{Becomes}
 use Rattle.host_port.specs.Host.{Came, Moves, Creates, Takes}
 use Rattle.host_port.proofs.Laws.{Did-nothing, Becomes-same}
@@ -29,7 +29,7 @@ pub with_more-none : (name : List ℕ) (files : List File) → with_more name []
 with_more-none name [] = refl
 with_more-none name (file ∷ files) = none_at name file files (bytes_eq file.0 name) refl (with_more-none name files)
 
-written-twice : (first more : List ℕ) (writing : Option (List ℕ)) (files : List File) → written more writing (written first writing files) ≡ written (first ++ more) writing files
+written-twice : (first more : List ℕ) (writing : Option (List ℕ)) (files : List File) → files_with more writing (files_with first writing files) ≡ files_with (first ++ more) writing files
 written-twice first more None files = refl
 written-twice first more (Some name) files = with_more-twice name first more files
 
@@ -40,7 +40,7 @@ grown None old new bytes same writes told = tt
 grown (Some d) None new bytes same writes told = absurd cc
 grown (Some d) (Some held) None bytes same writes told = absurd cc
 grown (Some d) (Some held) (Some now) bytes same writes told =
-    ap (λ (files : List File). Some (record { files = files; writing = d.writing })) (written-twice held bytes d.writing d.files ∙ ap (λ (v : List ℕ). written v d.writing d.files) (sym told))
+    ap (λ (files : List File). Some (record { files = files; writing = d.writing })) (written-twice held bytes d.writing d.files ∙ ap (λ (v : List ℕ). files_with v d.writing d.files) (sym told))
 
 still_writes : (disk : Option Disk) (old new : Option (List ℕ)) → is_some new ≡ is_some old → writes_with new disk ≡ writes_with old disk
 still_writes None old new same = same
@@ -143,7 +143,7 @@ moves_none before after s input faults last failed told =
 
 -- ---- a call that creates a file
 
-nothing_held : (held : List ℕ) (writing : Option (List ℕ)) (files : List File) → is_some writing ≡ false → written held writing files ≡ files
+nothing_held : (held : List ℕ) (writing : Option (List ℕ)) (files : List File) → is_some writing ≡ false → files_with held writing files ≡ files
 nothing_held held None files none = refl
 nothing_held held (Some name) files none = absurd cc
 

@@ -4,7 +4,7 @@ use Rattle.std.specs.List.{sum_by}
 use Rattle.std.proofs.lemmas.List.Sums.{sum_by-cons}
 use Rattle.gmon_data.specs.declared.hist.Hist.{Hist}
 use Rattle.gmon_data.specs.Hists.{put_hist, samples_of}
-use Rattle.gmon_data.specs.Tally.{tally, total_of}
+use Rattle.gmon_data.specs.Tally.{tally, tally_total}
 use Rattle.gmon_data.specs.Content.{Content, same_ends, IsWithin}
 use Rattle.gmon_data.proofs.TallyLemmas.{sum-tally}
 use Rattle.gmon_data.proofs.HistLemmas.{samples-put}
@@ -24,7 +24,7 @@ counters_added : (hs done : List Hist) → counters_of (fold (λ done h. put_his
 counters_added [] done = omega arith
 counters_added (h ∷ hs) done = omega (arith, counters_added hs (put_hist h done), counters_at_most h done, sum_by-cons (λ (k : Hist). length k.counters) h hs)
 
-total_added : {K : Type 0} (same : K → K → Bool) (es done : List (K × ℕ)) → total_of (fold (λ done e. tally same e.0 e.1 done) done es) ≡ total_of done + total_of es
+total_added : {K : Type 0} (same : K → K → Bool) (es done : List (K × ℕ)) → tally_total (fold (λ done e. tally same e.0 e.1 done) done es) ≡ tally_total done + tally_total es
 total_added same [] done = omega arith
 total_added {K} same (e ∷ es) done = omega (arith, total_added same es (tally same e.0 e.1 done), sum-tally same e.0 e.1 done, sum_by-cons (λ (x : K × ℕ). x.1) e es)
 
@@ -34,7 +34,7 @@ entries_added same (e ∷ es) done = omega (arith, entries_added same es (tally 
 
 -- a sum is within the bounds where the numbers of both are together
 sum_within : (p q : Content) → samples_of p.hists + samples_of q.hists < 2 ^ 45 → counters_of p.hists + counters_of q.hists < 2 ^ 26
-    → total_of p.arcs + total_of q.arcs < 2 ^ 59 → total_of p.blocks + total_of q.blocks < 2 ^ 59
+    → tally_total p.arcs + tally_total q.arcs < 2 ^ 59 → tally_total p.blocks + tally_total q.blocks < 2 ^ 59
     → length p.arcs + length q.arcs < 2 ^ 26 → length p.blocks + length q.blocks < 2 ^ 26 → IsWithin (sum_of p q)
 sum_within p q samples counters calls runs pairs addresses = record {
   samples = omega (arith, samples, samples_added q.hists p.hists);

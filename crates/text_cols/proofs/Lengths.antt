@@ -3,7 +3,7 @@ use Rattle.std.proofs.Common.{◌≡◌, ℕ, ◌+◌, ◌-◌, ◌*◌, ◌/◌
 use Rattle.std.proofs.lemmas.List.{length-replicate}
 use Rattle.std.proofs.Math.Nat.{div-le_self}
 use Rattle.std.proofs.lemmas.Fmt.{length-decimal-le_wide}
-use Rattle.text_cols.specs.Columns.{left_of, right_of, spaces, hex8_of, hundredths_of, rounded, two_digits}
+use Rattle.text_cols.specs.Columns.{left_of, right_of, spaces, hex8_of, hundredths_of, rounded_quotient, two_digits}
 
 pub length-spaces : (n : ℕ) → length (spaces n) ≡ n
 length-spaces n = length-replicate n 32
@@ -38,12 +38,12 @@ pub length-decimal_128 : (n : ℕ) → n < 2 ^ 128 → length (decimal n) ≤ 39
 length-decimal_128 n h = length-decimal-le_wide 39 n (omega arith) (omega arith) (omega arith)
 
 -- a point and two digits follow the whole ones
-pub length-hundredths_of : (num den : ℕ) → length (hundredths_of num den) ≡ length (decimal (rounded num den / 100)) + 3
+pub length-hundredths_of : (num den : ℕ) → length (hundredths_of num den) ≡ length (decimal (rounded_quotient num den / 100)) + 3
 unfolding hundredths_of
-length-hundredths_of num den = length-append (decimal (rounded num den / 100)) _
+length-hundredths_of num den = length-append (decimal (rounded_quotient num den / 100)) _
 
 -- what stands at the right of its column: spaces, the whole ones, a point and two digits
-pub right_of-hundredths : (num den width : ℕ) → right_of (hundredths_of num den) width ≡ spaces (max (width - (length (decimal (rounded num den / 100)) + 3)) 1) ++ (decimal (rounded num den / 100) ++ 46 ∷ two_digits (rounded num den % 100))
+pub right_of-hundredths : (num den width : ℕ) → right_of (hundredths_of num den) width ≡ spaces (max (width - (length (decimal (rounded_quotient num den / 100)) + 3)) 1) ++ (decimal (rounded_quotient num den / 100) ++ 46 ∷ two_digits (rounded_quotient num den % 100))
 unfolding right_of hundredths_of
 right_of-hundredths num den width =
     ap (λ (n : ℕ). spaces (max (width - n) 1) ++ hundredths_of num den) (length-hundredths_of num den)
@@ -60,8 +60,8 @@ right_of-pair first second sign width =
 -- what a quotient that meets the conditions of `hundredths` takes at most
 pub length-hundredths_of-le : (num den : ℕ) → 200 * num + den < 2 ^ 128 → length (hundredths_of num den) ≤ 42
 length-hundredths_of-le num den h =
-    let small : rounded num den / 100 < 2 ^ 128 = omega (arith, div-le_self (200 * num + den) (2 * den)) in
-    omega (arith, length-hundredths_of num den, length-decimal_128 (rounded num den / 100) small)
+    let small : rounded_quotient num den / 100 < 2 ^ 128 = omega (arith, div-le_self (200 * num + den) (2 * den)) in
+    omega (arith, length-hundredths_of num den, length-decimal_128 (rounded_quotient num den / 100) small)
 
 -- what the calls of a line ask of its room
 pub ruleset lengths = (length-left_of, length-right_of, length-hex8_of, length-decimal_16, length-decimal_32, length-decimal_64, length-decimal_128, length-hundredths_of-le)

@@ -28,17 +28,17 @@ unfoldable pub hex8_of : ℕ → List ℕ
 hex8_of n = hex_of 8 n
 
 -- a quotient in hundredths, rounded to the nearest, and a half up
-abbrev pub rounded : ℕ → ℕ → ℕ
-rounded num den = (200 * num + den) / (2 * den)
+abbrev pub rounded_quotient : ℕ → ℕ → ℕ
+rounded_quotient num den = (200 * num + den) / (2 * den)
 
 -- the two decimal digits of a number below 100
 abbrev pub two_digits : ℕ → List ℕ
 two_digits n = (48 + n / 10) ∷ (48 + n % 10) ∷ []
 
 -- a number of hundredths: the whole ones, a point, and two digits
-abbrev pub pointed : ℕ → List ℕ
-pointed n = decimal (n / 100) ++ 46 ∷ two_digits (n % 100)
+abbrev pub point_text : ℕ → List ℕ
+point_text n = decimal (n / 100) ++ 46 ∷ two_digits (n % 100)
 
 -- a quotient with two digits after the point
 unfoldable pub hundredths_of : ℕ → ℕ → List ℕ
-hundredths_of num den = pointed (rounded num den)
+hundredths_of num den = point_text (rounded_quotient num den)

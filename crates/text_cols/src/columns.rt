@@ -1,7 +1,7 @@
 //! A line that is filled from left to right.
 
 ghost use Rattle.std.specs.Prelude.{◌≡◌, ◌+◌, ◌-◌, ◌*◌, ◌/◌, ◌%◌, ◌^◌, ◌<◌, ◌≤◌, max, [], ◌∷◌, ◌++◌, length, decimal};
-ghost use Rattle.text_cols.specs.Columns.{hex8_of, hex_digit_of, hundredths_of, left_of, right_of, rounded, spaces, two_digits};
+ghost use Rattle.text_cols.specs.Columns.{hex8_of, hex_digit_of, hundredths_of, left_of, right_of, rounded_quotient, spaces, two_digits};
 
 use gp_base::quotient;
 use itoa::Buffer;
@@ -195,8 +195,8 @@ fn in_hundredths(num: u128, den: u128) -> (u128, u8)
     requires divisor { 0 < den }
     requires sum { 200 * num + den < 2 ^ 128 }
     requires double { 2 * den < 2 ^ 128 }
-    ensures whole { result.0 ≡ rounded num den / 100 }
-    ensures rest { result.1 ≡ rounded num den % 100 }
+    ensures whole { result.0 ≡ rounded_quotient num den / 100 }
+    ensures rest { result.1 ≡ rounded_quotient num den % 100 }
 {
     let rounded = quotient(200 * num + den, 2 * den);
     let whole = quotient(rounded, 100);

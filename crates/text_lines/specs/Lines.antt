@@ -41,8 +41,8 @@ unfoldable pub count_line : ℕ → ℕ → List ℕ
 count_line address counter = codes "count " ++ hex8_of address ++ codes " " ++ decimal counter ++ codes "\n"
 
 -- a counter that is 0 has no line
-abbrev pub count_text : RawHist → ℕ × ℕ → List ℕ
-count_text hist numbered = if numbered.1 == 0 then [] else count_line (counter_address hist numbered.0) numbered.1
+abbrev pub counter_text : RawHist → ℕ × ℕ → List ℕ
+counter_text hist numbered = if numbered.1 == 0 then [] else count_line (counter_address hist numbered.0) numbered.1
 
 unfoldable pub arc_line : RawArc → List ℕ
 arc_line arc = codes "arc " ++ hex8_of arc.from ++ codes " " ++ hex8_of arc.to ++ codes " " ++ decimal arc.count ++ codes "\n"
@@ -55,7 +55,7 @@ block_line block = codes "block " ++ hex8_of block.addr ++ codes " " ++ decimal 
 
 -- the lines of a record of a file of a form
 unfoldable pub rec_text : Form → Rec → List ℕ
-rec_text form (Hist hist) = hist_line form hist ++ flat_map (count_text hist) (enumerate_from 0 hist.counters)
+rec_text form (Hist hist) = hist_line form hist ++ flat_map (counter_text hist) (enumerate_from 0 hist.counters)
 rec_text form (Arc arc) = arc_line arc
 rec_text form (Blocks blocks) = blocks_line blocks ++ flat_map block_line blocks
 

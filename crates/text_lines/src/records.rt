@@ -6,7 +6,7 @@ ghost use Rattle.host_port.specs.Buffered.{Adds};
 ghost use Rattle.host_port.specs.Host.{Puts};
 ghost use Rattle.host_port.specs.declared.side.Side.TheVariants.{Output};
 ghost use Rattle.gp_base.specs.Spans.{HasRange};
-ghost use Rattle.text_lines.specs.Lines.{IsShowable, show_text, form_line, rec_text, block_line, count_text, counter_address};
+ghost use Rattle.text_lines.specs.Lines.{IsShowable, show_text, form_line, rec_text, block_line, counter_text, counter_address};
 
 use crate::line;
 use gp_base::{Form, RawBlock, RawHist, Rec, Records};
@@ -88,7 +88,7 @@ fn put_blocks<H: Host>(
 
 fn put_counters<H: Host>(hist: &RawHist, lines: &mut PrintBuf, host: &mut H) -> Result<(), Failed>
     requires { 0 < length hist.now.counters → hist.now.low < hist.now.high }
-    ensures { Adds Output (flat_map (count_text hist.now) (enumerate_from 0 hist.now.counters)) lines.old lines.new
+    ensures { Adds Output (flat_map (counter_text hist.now) (enumerate_from 0 hist.now.counters)) lines.old lines.new
         (H.outside host.old) (H.outside host.new) result }
 {
     for (i, counter) in hist.counters.as_slice().iter().enumerate() {
@@ -106,7 +106,7 @@ fn put_counter<H: Host>(
 ) -> Result<(), Failed>
     requires within { i < length hist.now.counters }
     requires range { hist.now.low < hist.now.high }
-    ensures { Adds Output (count_text hist.now (i, counter)) lines.old lines.new (H.outside host.old) (H.outside host.new) result }
+    ensures { Adds Output (counter_text hist.now (i, counter)) lines.old lines.new (H.outside host.old) (H.outside host.new) result }
 {
     if counter == 0 {
         return Ok(());

@@ -1,7 +1,7 @@
 use Rattle.std.proofs.lemmas.Result.{err_from_is_err_and}
 use Rattle.host_port.specs.declared.side.Side.TheVariants.{Output}
 use Rattle.host_port.proofs.BufferLemmas.{adds_nothing, adds_more, adds_stop, adds_all}
-use Rattle.annotate.specs.Listing.{symbol_text}
+use Rattle.annotate.specs.Listing.{symbol_listing}
 use Rattle.annotate.proofs.report.put_symbols.Goals as goal
 
 pub loop-symbol-init : goal.loop-symbol-init
@@ -10,12 +10,12 @@ loop-symbol-init g c = adds_nothing Output _ _ tt
 pub returns-in_err-put_symbol : goal.returns-in_err-put_symbol
 returns-in_err-put_symbol g c =
     let p = err_from_is_err_and c.from_residual.result c.from_residual.ensures.1 in
-    rw p.1 (adds_stop Output (symbol_text c.args.segments.now c.args.bytes.now c.args.profile.now) c.args.symbols.now c.loop-symbol.symbol-index c.symbol-item.result _ _ _ _ _ _ _ _ c.loop-symbol-test.true c.symbol-item.is c.loop-symbol.invariant c.in_err-put_symbol.ensures)
+    rw p.1 (adds_stop Output (symbol_listing c.args.segments.now c.args.bytes.now c.args.profile.now) c.args.symbols.now c.loop-symbol.symbol-index c.symbol-item.result _ _ _ _ _ _ _ _ c.loop-symbol-test.true c.symbol-item.is c.loop-symbol.invariant c.in_err-put_symbol.ensures)
 
 pub loop-symbol-preserved : goal.loop-symbol-preserved
 loop-symbol-preserved g c =
-    adds_more Output (symbol_text c.args.segments.now c.args.bytes.now c.args.profile.now) c.args.symbols.now c.loop-symbol.symbol-index c.symbol-item.result _ _ _ _ _ _ _ _ c.loop-symbol-test.true c.symbol-item.is c.loop-symbol.invariant c.in_ok-put_symbol.ensures
+    adds_more Output (symbol_listing c.args.segments.now c.args.bytes.now c.args.profile.now) c.args.symbols.now c.loop-symbol.symbol-index c.symbol-item.result _ _ _ _ _ _ _ _ c.loop-symbol-test.true c.symbol-item.is c.loop-symbol.invariant c.in_ok-put_symbol.ensures
 
 pub returns : goal.returns
 returns g c =
-    adds_all Output (symbol_text c.args.segments.now c.args.bytes.now c.args.profile.now) c.args.symbols.now c.loop-symbol.symbol-index _ _ _ _ _ c.loop-symbol-test.false c.loop-symbol.invariant
+    adds_all Output (symbol_listing c.args.segments.now c.args.bytes.now c.args.profile.now) c.args.symbols.now c.loop-symbol.symbol-index _ _ _ _ _ c.loop-symbol-test.false c.loop-symbol.invariant

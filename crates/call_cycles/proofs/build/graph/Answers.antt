@@ -1,6 +1,6 @@
 use Rattle.std.proofs.Common.{◌≡◌, ◌≤◌, ◌+◌, slice_index, sym, ◌∙◌, arith}
 use Rattle.std.proofs.lemmas.Result.{IfOk-weaker}
-use Rattle.gmon_data.specs.Tally.{total_of}
+use Rattle.gmon_data.specs.Tally.{tally_total}
 use Rattle.call_cycles.specs.Calls.{function_arcs}
 use Rattle.call_cycles.specs.Parts.{arcs_calls}
 use Rattle.call_cycles.specs.Sums.{sum_below}
@@ -24,7 +24,7 @@ graph_of-requires-clause-ordered c = are_in_order c.args.profile.now.arcs c.args
 pub graph_of-requires-clause-called : goal.graph_of-requires-clause-called
 graph_of-requires-clause-called c = are_called c.args.profile.now.arcs c.args.symbols.now c.merged-arcs.result.items (are_arcs c)
 
-few : (c : goal.After-merged-arcs) → arcs_calls c.merged-arcs.result.items + sum_below c.symbol_count-functions.result (slice_index c.in_ok-found.found.own.items) ≤ total_of c.args.profile.now.arcs
+few : (c : goal.After-merged-arcs) → arcs_calls c.merged-arcs.result.items + sum_below c.symbol_count-functions.result (slice_index c.in_ok-found.found.own.items) ≤ tally_total c.args.profile.now.arcs
 few c = made_few c.args.profile.now.arcs c.args.symbols.now c.merged-arcs.result.items c.symbol_count-functions.result c.in_ok-found.found.own.items (are_arcs c) c.symbol_count-functions.ensures c.in_ok-found.ensures.calls.own
 
 pub graph_of-requires-clause-few : goal.graph_of-requires-clause-few

@@ -1,7 +1,7 @@
 use Rattle.std.proofs.Common.{◌≡◌, ◌<◌, ◌≤◌, ℕ, List, length, All, Some, sym, ap, subst, ◌∙◌, arith}
 use Rattle.elf32_syms.specs.declared.refusal.ElfRefusal.TheVariants.{TooManySymbols}
 use Rattle.elf32_syms.specs.declared.symbols.Entry.{Entry}
-use Rattle.elf32_syms.specs.Symbols.{IsInText, fitting, candidates}
+use Rattle.elf32_syms.specs.Symbols.{IsInText, fitting_entries, candidates}
 use Rattle.elf32_syms.specs.Refusals.{names_refusal}
 use Rattle.elf32_syms.proofs.KeptLemmas.{candidates_in_text, length_kept}
 use Rattle.elf32_syms.proofs.RefusalLemmas.{symbols_judged, too_many, few}
@@ -11,7 +11,7 @@ use Rattle.elf32_syms.proofs.kept.read_functions.Goals as goal
 pub kept-requires : goal.kept-requires
 kept-requires c =
     let P : List Entry → Type 0 = λ cs. All (IsInText c.args.sections.now) cs in
-    let are : c.deref-3.result.now ≡ candidates c.args.strings.now (fitting c.args.sections.now c.args.table.now) =
+    let are : c.deref-3.result.now ≡ candidates c.args.strings.now (fitting_entries c.args.sections.now c.args.table.now) =
     c.deref-3.ensures.value ∙ c.in_ok-candidates.ensures ∙ ap (candidates c.args.strings.now) (c.deref-2.ensures.value ∙ c.in_ok-entries.ensures) in
     subst P (sym are) (candidates_in_text c.args.sections.now c.args.table.now c.args.strings.now)
 

@@ -3,7 +3,7 @@ use Rattle.std.specs.List.{All}
 use Rattle.std.specs.Ordering.{is_lt}
 use Rattle.std.proofs.lemmas.List.Sorted.{answers_always}
 use Rattle.symbol_shares.specs.Shares.{attributed_of}
-use Rattle.flat_report.specs.Entries.{Entry}
+use Rattle.flat_report.specs.Entries.{FlatEntry}
 use Rattle.flat_report.specs.Rows.{FitsIn, sources_of}
 use Rattle.flat_report.proofs.EntryOrder.{row_before, row_order, compared}
 use Rattle.flat_report.proofs.FunctionLemmas.{entries_fit}
@@ -18,5 +18,5 @@ returns-clause-entries c =
 
 pub returns-clause-fit : goal.returns-clause-fit
 returns-clause-fit c =
-    subst (λ (es : List Entry). All (FitsIn (attributed_of c.args.sources.now.shares.now)) es) (sym (returns-clause-entries c))
+    subst (λ (es : List FlatEntry). All (FitsIn (attributed_of c.args.sources.now.shares.now)) es) (sym (returns-clause-entries c))
     (entries_fit (sources_of c.args.sources.now) c.requires.of_one c.requires.few)

@@ -1,5 +1,5 @@
 use Rattle.std.proofs.Common.{◌≡◌, ◌≤◌, length}
-use Rattle.gmon_gnu.specs.Reading.{refusal_in}
+use Rattle.gmon_gnu.specs.Reading.{refusal_read}
 use Rattle.gmon_gnu.specs.Going.{records_on}
 use Rattle.gmon_gnu.proofs.checking.records_fault.Given as goal
 
@@ -7,7 +7,7 @@ use Rattle.gmon_gnu.proofs.checking.records_fault.Given as goal
 abbrev pub invariant-loop-rest : goal.invariant-loop-rest
 invariant-loop-rest l = record {
   within : length l.rest ≤ l.len;
-  same : refusal_in (records_on l.len l.records) ≡ refusal_in (records_on l.len l.rest);
+  same : refusal_read (records_on l.len l.records) ≡ refusal_read (records_on l.len l.rest);
 }
 
 abbrev pub decreases-loop-rest : goal.decreases-loop-rest

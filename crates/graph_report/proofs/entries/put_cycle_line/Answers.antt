@@ -4,7 +4,7 @@ use Rattle.std.proofs.lemmas.Result.{err_from_is_err_and}
 use Rattle.call_cycles.specs.Flow.{time_of}
 use Rattle.call_cycles.specs.Graph.{component_of}
 use Rattle.graph_report.specs.Cycles.{cycle_name}
-use Rattle.graph_report.specs.GraphText.{bracketed, cycle_columns}
+use Rattle.graph_report.specs.GraphText.{bracket_text, cycle_columns}
 use Rattle.graph_report.specs.Inputs.{sources_in}
 use Rattle.graph_report.specs.Numbers.{number_of}
 use Rattle.graph_report.specs.declared.subjects.Subject.TheVariants.{Cycle}
@@ -20,7 +20,7 @@ returns-in_err-put g c =
     let k = component_of s.graph c.args.head in
     let number = number_of r (Cycle c.args.head) in
     let front = rw (c.bytes.ensures.bytes, c.cycle_front.ensures) at c.in_err-put.ensures.adds in
-    rw p.1 (first_fails _ _ _ (primary_whole s number (time_of s.flow k) (cycle_columns s k) (cycle_name s.graph k ++ codes " " ++ bracketed number)) _ _ _ _ _ front)
+    rw p.1 (first_fails _ _ _ (primary_whole s number (time_of s.flow k) (cycle_columns s k) (cycle_name s.graph k ++ codes " " ++ bracket_text number)) _ _ _ _ _ front)
 
 pub returns : goal.returns
 returns g c =
@@ -29,4 +29,4 @@ returns g c =
     let k = component_of s.graph c.args.head in
     let number = number_of r (Cycle c.args.head) in
     let front = rw (c.bytes.ensures.bytes, c.cycle_front.ensures) at c.in_ok-put.ensures.adds in
-    both_put _ _ _ (primary_whole s number (time_of s.flow k) (cycle_columns s k) (cycle_name s.graph k ++ codes " " ++ bracketed number)) _ _ _ _ _ _ _ _ front c.put_cycle_name.ensures
+    both_put _ _ _ (primary_whole s number (time_of s.flow k) (cycle_columns s k) (cycle_name s.graph k ++ codes " " ++ bracket_text number)) _ _ _ _ _ _ _ _ front c.put_cycle_name.ensures

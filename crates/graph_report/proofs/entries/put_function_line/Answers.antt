@@ -1,5 +1,5 @@
 use Rattle.std.proofs.lemmas.Result.{err_from_is_err_and}
-use Rattle.flat_report.specs.Sources.{total_of}
+use Rattle.flat_report.specs.Sources.{inclusive_total}
 use Rattle.graph_report.specs.GraphText.{function_columns, function_name}
 use Rattle.graph_report.specs.Inputs.{sources_in}
 use Rattle.graph_report.specs.Numbers.{number_of}
@@ -15,7 +15,7 @@ returns-in_err-put g c =
     let s = sources_in r.inputs in
     let f = c.args.f in
     let front = rw (c.bytes.ensures.bytes, c.function_front.ensures) at c.in_err-put.ensures.adds in
-    rw p.1 (first_fails _ _ _ (primary_whole s (number_of r (Function f)) (total_of s f) (function_columns s f) (function_name s (number_of r) f)) _ _ _ _ _ front)
+    rw p.1 (first_fails _ _ _ (primary_whole s (number_of r (Function f)) (inclusive_total s f) (function_columns s f) (function_name s (number_of r) f)) _ _ _ _ _ front)
 
 pub returns : goal.returns
 returns g c =
@@ -24,4 +24,4 @@ returns g c =
     let f = c.args.f in
     let front = rw (c.bytes.ensures.bytes, c.function_front.ensures) at c.in_ok-put.ensures.adds in
     let label = rw c.label.ensures at c.put-2.ensures.adds in
-    both_put _ _ _ (primary_whole s (number_of r (Function f)) (total_of s f) (function_columns s f) (function_name s (number_of r) f)) _ _ _ _ _ _ _ _ front label
+    both_put _ _ _ (primary_whole s (number_of r (Function f)) (inclusive_total s f) (function_columns s f) (function_name s (number_of r) f)) _ _ _ _ _ _ _ _ front label

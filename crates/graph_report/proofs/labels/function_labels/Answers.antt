@@ -1,6 +1,6 @@
 use Rattle.std.proofs.Common.{◌≡◌, ℕ, ◌+◌, suc, List, ◌++◌, length, ap, ◌∙◌, arith}
 use Rattle.call_cycles.specs.Sums.{list_of}
-use Rattle.graph_report.specs.Entries.{number_in, ordered}
+use Rattle.graph_report.specs.Entries.{number_in, graph_order}
 use Rattle.flat_report.specs.Sources.{name_of}
 use Rattle.graph_report.specs.Inputs.{sources_in}
 use Rattle.graph_report.specs.Labels.{label_of, start_of, texts_below}
@@ -11,7 +11,7 @@ use Rattle.graph_report.proofs.labels.function_labels.Goals as goal
 pub loop-f-preserved : goal.loop-f-preserved
 loop-f-preserved c =
     let s = sources_in c.args.inputs.now in
-    let number = number_in (ordered s) in
+    let number = number_in (graph_order s) in
     let of = label_of s number in
     let f = c.loop-f.f in
     let text = c.loop-f.text in
@@ -27,7 +27,7 @@ loop-f-preserved c =
 pub returns : goal.returns
 returns c =
     let s = sources_in c.args.inputs.now in
-    let of = label_of s (number_in (ordered s)) in
+    let of = label_of s (number_in (graph_order s)) in
     let n = s.graph.functions in
     let text = c.loop-f.text in
     let at : c.loop-f.f ≡ n = omega (arith, c.function_count-f-end.ensures.value) in

@@ -3,12 +3,12 @@ use Rattle.std.specs.Int.{w32, w64}
 use Rattle.std.specs.Int.RustNames.{FitsSigned, unsigned_abs}
 use Rattle.std.proofs.lemmas.Int.{to_z-of_z}
 use Rattle.rv_decode.specs.declared.instruction.Op.{Op}
-use Rattle.rv_step.specs.Alu.{high_half, product_of, signed}
+use Rattle.rv_step.specs.Alu.{high_half, mul_div_of, signed_value}
 use Rattle.rv_step.proofs.Products.{abs_below, high_half_wide}
 use Rattle.rv_step.proofs.alu.multiplied.Goals as goal
 
 pub returns-in-Mulh : goal.returns-in-Mulh
-unfolding product_of
+unfolding mul_div_of
 returns-in-Mulh c =
     let x = c.from.result in
     let y = c.from-in-Mulh.result in
@@ -23,5 +23,5 @@ returns-in-Mulh c =
     c.high_half.ensures
     ∙ high_half_wide x y fits_x fits_y below_x below_y
     ∙ ap (λ (z : ℤ). high_half (z *ℤ y)) (same_x ∙ c.cast_signed.ensures)
-    ∙ ap (λ (z : ℤ). high_half (signed c.args.a *ℤ z)) (same_y ∙ c.cast_signed-in-Mulh.ensures)
-    ∙ ap (λ (o : Op). product_of o c.args.a c.args.b) (sym c.in-Mulh.is)
+    ∙ ap (λ (z : ℤ). high_half (signed_value c.args.a *ℤ z)) (same_y ∙ c.cast_signed-in-Mulh.ensures)
+    ∙ ap (λ (o : Op). mul_div_of o c.args.a c.args.b) (sym c.in-Mulh.is)

@@ -2,7 +2,7 @@ use Rattle.std.proofs.Common.{ℕ, sym, ap, ◌∙◌, ◌+◌}
 use Rattle.gp_base.specs.Bytes.{le}
 use Rattle.rv_step.specs.Alu.{store_width}
 use Rattle.rv_step.specs.Memory.{Memory, write_at}
-use Rattle.rv_step.specs.Step.{retired, passed}
+use Rattle.rv_step.specs.Step.{retirement, at_next}
 use Rattle.rv_step.proofs.Accesses.{store_retires}
 use Rattle.rv_step.proofs.execution.store.Goals as goal
 
@@ -13,5 +13,5 @@ returns-in-Some-clause-outcome c =
     let m = c.args.ram.now in
     let stored = c.put.ensures.stored ∙ ap (λ (v : ℕ). write_at m (m.base + c.in-Some.at) (le v (store_width i.op))) c.get.ensures.value in
     c.pass.ensures c.put.new.ram
-    ∙ ap (λ (v : Memory). retired (passed s) v) stored
+    ∙ ap (λ (v : Memory). retirement (at_next s) v) stored
     ∙ sym (store_retires i s m c.address-addr.result c.store_width-width.result c.in-Some.at c.address-addr.ensures c.store_width-width.ensures.width c.if-addr-width-ne0.false c.in-Some.ensures)

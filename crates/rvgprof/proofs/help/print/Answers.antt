@@ -3,7 +3,7 @@ use Rattle.std.specs.Prelude.{map, string_bytes}
 use Rattle.host_port.specs.Act.{Out}
 use Rattle.host_port.specs.declared.side.Side.TheVariants.{Output}
 use Rattle.host_port.proofs.PerformingLemmas.{puts_performs}
-use Rattle.rvgprof.specs.Answer.{ended}
+use Rattle.rvgprof.specs.Answer.{end_course}
 use Rattle.rvgprof.proofs.Performing.{last_acts}
 use Rattle.rvgprof.proofs.Standing.{fails}
 use Rattle.rvgprof.proofs.help.print.Goals as goal
@@ -14,4 +14,4 @@ returns-in-Ok-clause-acted g c =
 
 pub returns-in-Err-clause-acted : goal.returns-in-Err-clause-acted
 returns-in-Err-clause-acted g c =
-    fails {T = Unit {0}} (map string_bytes c.args._words.now) _ _ _ 0 [] (Out c.args.text.now ∷ []) ended c.in-Err.field-0 c.requires (puts_performs {T = Unit {0}} Output c.args.text.now _ _ _ c.in-Err.ensures.puts)
+    fails {T = Unit {0}} (map string_bytes c.args._words.now) _ _ _ 0 [] (Out c.args.text.now ∷ []) end_course c.in-Err.field-0 c.requires (puts_performs {T = Unit {0}} Output c.args.text.now _ _ _ c.in-Err.ensures.puts)

@@ -2,7 +2,7 @@ use Rattle.std.proofs.Common.{◌≡◌, None, length, ap, subst, sym, ◌∙◌
 use Rattle.std.specs.Prelude.{map, string_bytes}
 use Rattle.gmon_data.specs.Content.{Content, conflict_of, content_of, with_records}
 use Rattle.profile_sum.proofs.ContentLemmas.{content_is_added}
-use Rattle.command_words.specs.Items.{name_of}
+use Rattle.command_words.specs.Items.{nth_word}
 use Rattle.rvgprof.specs.Acceptance.{records_of}
 use Rattle.rvgprof.proofs.Summing.{was_read}
 use Rattle.gmon_data.specs.Refusals.{IsReadRefusal}
@@ -65,4 +65,4 @@ returns-in-Ok-add_to-clause-told g c =
     let r = rw c.name_at.ensures at c.in-Ok.ensures.read in
     let is = c.in-Ok-add_to.ensures.added r.0 r.2 ∙ ap (λ (p : Content). with_records (spelled_records r.0) p) c.new-profile.ensures.content in
     let content : c.add_to.new.profile ≡ content_of (records_of r.0) = is ∙ sym (content_is_added (records_of r.0)) in
-    was_read (name_of words c.args.word) _ _ _ r.0 (λ bytes. c.add_to.new.profile ≡ content_of (records_of bytes)) r.1 content
+    was_read (nth_word words c.args.word) _ _ _ r.0 (λ bytes. c.add_to.new.profile ≡ content_of (records_of bytes)) r.1 content

@@ -6,13 +6,13 @@ use Rattle.elf32_syms.specs.declared.image.Symbol.{Symbol}
 use Rattle.gmon_data.specs.Content.{Content}
 use Rattle.arc_filter.specs.Cuts.{is_cut_word, without_cuts}
 use Rattle.arc_filter.proofs.ProfileLemmas.{nothing_cut}
-use Rattle.command_words.specs.Items.{names_at}
+use Rattle.command_words.specs.Items.{words_at}
 use Rattle.rvgprof.specs.Findings.{AreFindings}
 use Rattle.command_words.proofs.PlaceLemmas.{cut_words}
 use Rattle.rvgprof.proofs.printing.chosen_findings.Goals as goal
 
 -- without words nothing is cut
-uncut : (total : Content) (symbols : List Symbol) (words : List (List ℕ)) (places : List ℕ) → length places ≡ 0 → total ≡ without_cuts total symbols (names_at words places)
+uncut : (total : Content) (symbols : List Symbol) (words : List (List ℕ)) (places : List ℕ) → length places ≡ 0 → total ≡ without_cuts total symbols (words_at words places)
 uncut total symbols words [] none = sym (nothing_cut total symbols)
 uncut total symbols words (p ∷ ps) none = absurd cc
 
@@ -25,4 +25,4 @@ returns-then-is_empty c =
 pub cut-requires-clause-words : goal.cut-requires-clause-words
 cut-requires-clause-words c =
     subst (λ (names : List (String Global)). All (λ name. is_cut_word (string_bytes name) ≡ true) names) (sym c.deref.ensures.value)
-    (cut_words (map string_bytes c.args.words.now) c.args.selection.now.cuts c.in_ok-cuts.cuts.items c.requires.cuts (c.in_ok-cuts.ensures ∙ ap (names_at (map string_bytes c.args.words.now)) c.as_slice-2.ensures))
+    (cut_words (map string_bytes c.args.words.now) c.args.selection.now.cuts c.in_ok-cuts.cuts.items c.requires.cuts (c.in_ok-cuts.ensures ∙ ap (words_at (map string_bytes c.args.words.now)) c.as_slice-2.ensures))

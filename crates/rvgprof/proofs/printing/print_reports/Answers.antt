@@ -1,6 +1,6 @@
 use Rattle.std.proofs.Common.{◌≡◌, ◌∙◌, ℕ, List, ap, subst, sym}
 use Rattle.std.specs.Prelude.{map, string_bytes, is_some}
-use Rattle.command_words.specs.Items.{names_at}
+use Rattle.command_words.specs.Items.{words_at}
 use Rattle.rvgprof.specs.Answer.{chosen_by, exact_report, print_reports, shown_reports}
 use Rattle.rvgprof.specs.Standing.{Stands}
 use Rattle.rvgprof.specs.Findings.{given_sources}
@@ -32,7 +32,7 @@ returns-in-Ok-print_all-clause-prints g c = λ words start below done next s.
     let findings = c.in-Ok-chosen_findings.findings in
     let all = of_findings words start _ below done chosen c.args.image.now c.args.total findings next c.in-Ok-chosen_findings.ensures s in
     let here = narrow words start _ below done chosen c.args.image.now findings next c.in-Ok-exact_asked.exact c.in-Ok-exact_asked.ensures.found all in
-    let hidden : map string_bytes c.deref.result.now ≡ chosen.hidden = ap (map string_bytes) c.deref.ensures.value ∙ c.in-Ok.ensures ∙ ap (names_at (map string_bytes c.args.words.now)) c.as_slice.ensures in
+    let hidden : map string_bytes c.deref.result.now ≡ chosen.hidden = ap (map string_bytes) c.deref.ensures.value ∙ c.in-Ok.ensures ∙ ap (words_at (map string_bytes c.args.words.now)) c.as_slice.ensures in
     c.in-Ok-print_all.ensures.prints words start below done next
     (subst (λ (names : List (List ℕ)). Stands words start (g.H.Host.outside c.args.host.now) below done (shown_reports chosen.shown names (given_sources c.args.image.now findings) (exact_report (is_some c.in-Ok-exact_asked.exact) (given_sources c.args.image.now findings) next))) (sym hidden) here)
 
@@ -42,7 +42,7 @@ returns-clause-prints g c = λ words start below done next s.
     let findings = c.in-Ok-chosen_findings.findings in
     let all = of_findings words start _ below done chosen c.args.image.now c.args.total findings next c.in-Ok-chosen_findings.ensures s in
     let here = narrow words start _ below done chosen c.args.image.now findings next c.in-Ok-exact_asked.exact c.in-Ok-exact_asked.ensures.found all in
-    let hidden : map string_bytes c.deref.result.now ≡ chosen.hidden = ap (map string_bytes) c.deref.ensures.value ∙ c.in-Ok.ensures ∙ ap (names_at (map string_bytes c.args.words.now)) c.as_slice.ensures in
+    let hidden : map string_bytes c.deref.result.now ≡ chosen.hidden = ap (map string_bytes) c.deref.ensures.value ∙ c.in-Ok.ensures ∙ ap (words_at (map string_bytes c.args.words.now)) c.as_slice.ensures in
     rw c.report_fault.ensures (c.in-Err-print_all.ensures.prints words start below done next
     (subst (λ (names : List (List ℕ)). Stands words start (g.H.Host.outside c.args.host.now) below done (shown_reports chosen.shown names (given_sources c.args.image.now findings) (exact_report (is_some c.in-Ok-exact_asked.exact) (given_sources c.args.image.now findings) next))) (sym hidden) here))
 

@@ -4,7 +4,7 @@ use Rattle.gmon_block.specs.Layout.{layout_of}
 use Rattle.host_port.proofs.PerformingLemmas.{performs_then, performs_front}
 use Rattle.mcount_arcs.specs.Image.{block_image}
 use Rattle.prof_machine.specs.declared.machine.Machine.{Machine}
-use Rattle.prof_machine.specs.Plan.{driven}
+use Rattle.prof_machine.specs.Plan.{after_drive}
 use Rattle.prof_machine.specs.Executions.{exec_counts_of}
 use Rattle.rvgprof.specs.Answer.{file_acts, files_named, given_file_acts, profile_bytes}
 use Rattle.rvgprof.proofs.Performing.{printed_performs, drive_fails, held_is, image_is, file_as, given_as, given_nothing}
@@ -14,7 +14,7 @@ pub returns-in_err-drive-clause-performs : goal.returns-in_err-drive-clause-perf
 returns-in_err-drive-clause-performs g c = λ w stands none.
     let p = err_from_is_err_and c.from_residual.result c.from_residual.ensures.1 in
     let m = c.args.run.now.machine in
-    let last = driven m w in
+    let last = after_drive m w in
     let files = files_named (map string_bytes c.args.words.now) c.args.outputs.gmon c.args.outputs.form c.args.outputs.image in
     let off = c.in_err-drive.ensures.fails w stands in
     rw p.1 (performs_front {T = Unit {0}} last.prints (file_acts files.gmon (profile_bytes files.form c.args.setup m.sizes last) ++ given_file_acts files.image (layout_of (block_image m.sizes last.log))) _ _ _
@@ -24,7 +24,7 @@ pub returns-in_err-write_profile-clause-performs : goal.returns-in_err-write_pro
 returns-in_err-write_profile-clause-performs g c = λ w stands none.
     let p = err_from_is_err_and c.from_residual-in_err-write_profile.result c.from_residual-in_err-write_profile.ensures.1 in
     let m = c.args.run.now.machine in
-    let last = driven m w in
+    let last = after_drive m w in
     let d = c.in_ok-drive.ensures in
     let files = files_named (map string_bytes c.args.words.now) c.args.outputs.gmon c.args.outputs.form c.args.outputs.image in
     let text = profile_bytes files.form c.args.setup m.sizes last in
@@ -39,7 +39,7 @@ returns-in_err-write_profile-clause-performs g c = λ w stands none.
 pub returns-in-Some-clause-performs : goal.returns-in-Some-clause-performs
 returns-in-Some-clause-performs g c = λ w stands none.
     let m = c.args.run.now.machine in
-    let last = driven m w in
+    let last = after_drive m w in
     let d = c.in_ok-drive.ensures in
     let words = map string_bytes c.args.words.now in
     let files = files_named words c.args.outputs.gmon c.args.outputs.form c.args.outputs.image in
@@ -59,7 +59,7 @@ returns-in-Some-clause-performs g c = λ w stands none.
 pub returns-in-None-clause-performs : goal.returns-in-None-clause-performs
 returns-in-None-clause-performs g c = λ w stands none.
     let m = c.args.run.now.machine in
-    let last = driven m w in
+    let last = after_drive m w in
     let d = c.in_ok-drive.ensures in
     let words = map string_bytes c.args.words.now in
     let files = files_named words c.args.outputs.gmon c.args.outputs.form c.args.outputs.image in

@@ -3,7 +3,7 @@ use Rattle.std.proofs.lemmas.Result.{err_from_is_err_and}
 use Rattle.host_port.specs.Act.{writes_after}
 use Rattle.host_port.specs.declared.host.Failed.{Failed}
 use Rattle.std.specs.Prelude.{IsSome}
-use Rattle.prof_machine.specs.Plan.{driven}
+use Rattle.prof_machine.specs.Plan.{after_drive}
 use Rattle.prof_machine.specs.Start.{final_world}
 use Rattle.prof_machine.specs.declared.ending.End.{End}
 use Rattle.std.proofs.Common.{Option}
@@ -21,7 +21,7 @@ returns-in-Ok-clause-runs g c = λ words start below done next s.
     let m = c.in_ok-run.run'.machine in
     let d = c.in-Ok.ensures in
     run_done {E = Failed} words start _ _ below done (λ z w. w.prints) next c.args.image.now c.args.bytes.now c.args.setup c.in_ok-run.run' (λ p idle. ap (writes_after (final_world c.args.image.now c.args.bytes.now c.args.setup).prints) (sym idle) ∙ sym p.done.writing ∙ c.drive.ensures.writing ∙ idle) s c.in_ok-run.ensures.started
-    (λ w stands none. printed_performs {T = Unit {0}} w (driven m w) _ _ (tt {0}) none (d.prints w stands) d.counts)
+    (λ w stands none. printed_performs {T = Unit {0}} w (after_drive m w) _ _ (tt {0}) none (d.prints w stands) d.counts)
 
 pub returns-in-Ok-clause-ended : goal.returns-in-Ok-clause-ended
 returns-in-Ok-clause-ended g c =

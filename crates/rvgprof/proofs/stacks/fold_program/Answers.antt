@@ -8,7 +8,7 @@ use Rattle.prof_machine.proofs.RunLemmas.{plan_ends}
 use Rattle.host_port.specs.Act.{writes_after}
 use Rattle.host_port.specs.declared.host.Failed.{Failed}
 use Rattle.prof_machine.specs.declared.machine.Machine.{Machine}
-use Rattle.prof_machine.specs.Plan.{driven}
+use Rattle.prof_machine.specs.Plan.{after_drive}
 use Rattle.prof_machine.specs.Start.{final_world, start_of}
 use Rattle.folded.specs.Stacks.{stacks_of}
 use Rattle.folded.specs.Tally.{Folds}
@@ -35,7 +35,7 @@ returns-in-Ok-clause-folds g c = λ words start below done inclusive s.
     let setup = c.args.setup in
     let m = c.in_ok-run.run'.machine in
     let d = c.in-Ok.ensures in
-    let performs = performs_due image bytes setup c.in_ok-run.run' c.in_ok-run.ensures.started {T = Unit {0}} {E = Failed} (λ z w. w.prints) _ _ (Ok tt) (λ w stands none. printed_performs {T = Unit {0}} {E = Failed} w (driven m w) _ _ (tt {0}) none (d.prints w stands) d.counts) in
+    let performs = performs_due image bytes setup c.in_ok-run.run' c.in_ok-run.ensures.started {T = Unit {0}} {E = Failed} (λ z w. w.prints) _ _ (Ok tt) (λ w stands none. printed_performs {T = Unit {0}} {E = Failed} w (after_drive m w) _ _ (tt {0}) none (d.prints w stands) d.counts) in
     let shut = ap (writes_after (final_world image bytes setup).prints) (sym s.shut) ∙ sym performs.done.writing ∙ c.fold.ensures.writing ∙ s.shut in
     let folds = subst (λ (x : Machine). Folds (length image.symbols) (stacks_of image.symbols (run_samples x (start_of image bytes setup))) c.in-Ok.folded) c.in_ok-run.ensures.started.machine (d.folds (start_of image bytes setup) c.in_ok-run.ensures.started.stands) in (
       done ++ (final_world image bytes setup).prints,

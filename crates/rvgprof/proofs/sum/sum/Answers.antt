@@ -3,8 +3,8 @@ use Rattle.std.specs.Prelude.{map, string_bytes}
 use Rattle.gmon_gnu.specs.ProfileText.{profile_text}
 use Rattle.gmon_data.specs.Content.{IsProfile}
 use Rattle.rvgprof.specs.Acceptance.{total_of}
-use Rattle.rvgprof.specs.Answer.{contents_of, ended, file_acts, sum_file}
-use Rattle.command_words.specs.Items.{name_of}
+use Rattle.rvgprof.specs.Answer.{contents_of, end_course, file_acts, sum_file}
+use Rattle.command_words.specs.Items.{nth_word}
 use Rattle.rvgprof.proofs.Performing.{last_acts}
 use Rattle.rvgprof.proofs.Standing.{fails, weaker}
 use Rattle.rvgprof.proofs.ToldLemmas.{acts_tell, later_told}
@@ -14,21 +14,21 @@ use Rattle.rvgprof.proofs.sum.sum.Goals as goal
 pub returns-in-Err-clause-acted : goal.returns-in-Err-clause-acted
 returns-in-Err-clause-acted g c =
     let words = map string_bytes c.args.words.now in
-    c.in-Err.ensures.reads _ 0 (sum_file (name_of words c.args.out)) (λ contents total. inl refl) (all_from_0 c.args.gmons.now) c.requires.stands
+    c.in-Err.ensures.reads _ 0 (sum_file (nth_word words c.args.out)) (λ contents total. inl refl) (all_from_0 c.args.gmons.now) c.requires.stands
 
 pub returns-in-Ok-write_profile-clause-acted : goal.returns-in-Ok-write_profile-clause-acted
 returns-in-Ok-write_profile-clause-acted g c =
     let words = map string_bytes c.args.words.now in
-    let s = c.in-Ok.ensures.reads _ 0 (sum_file (name_of words c.args.out)) (λ contents total. inl refl) (all_from_0 c.args.gmons.now) c.requires.stands in
+    let s = c.in-Ok.ensures.reads _ 0 (sum_file (nth_word words c.args.out)) (λ contents total. inl refl) (all_from_0 c.args.gmons.now) c.requires.stands in
     let performs = rw c.name_at.ensures at c.in-Ok-write_profile.ensures in
-    last_acts words _ _ _ s.0 [] (file_acts (name_of words c.args.out) (profile_text c.in-Ok.total)) (record { run = None }) tt s.1 performs refl
+    last_acts words _ _ _ s.0 [] (file_acts (nth_word words c.args.out) (profile_text c.in-Ok.total)) (record { run = None }) tt s.1 performs refl
 
 pub returns-clause-acted : goal.returns-clause-acted
 returns-clause-acted g c =
     let words = map string_bytes c.args.words.now in
-    let s = c.in-Ok.ensures.reads _ 0 (sum_file (name_of words c.args.out)) (λ contents total. inl refl) (all_from_0 c.args.gmons.now) c.requires.stands in
+    let s = c.in-Ok.ensures.reads _ 0 (sum_file (nth_word words c.args.out)) (λ contents total. inl refl) (all_from_0 c.args.gmons.now) c.requires.stands in
     let performs = rw c.name_at.ensures at c.in-Err-write_profile.ensures in
-    fails words _ _ _ s.0 [] (file_acts (name_of words c.args.out) (profile_text c.in-Ok.total)) ended c.in-Err-write_profile.field-0 s.1 performs
+    fails words _ _ _ s.0 [] (file_acts (nth_word words c.args.out) (profile_text c.in-Ok.total)) end_course c.in-Err-write_profile.field-0 s.1 performs
 
 pub returns-in-Ok-write_profile-clause-fits : goal.returns-in-Ok-write_profile-clause-fits
 returns-in-Ok-write_profile-clause-fits g c =

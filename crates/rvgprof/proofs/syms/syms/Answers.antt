@@ -3,7 +3,7 @@ use Rattle.std.specs.Prelude.{map, string_bytes}
 use Rattle.host_port.specs.Act.{Out}
 use Rattle.host_port.specs.declared.side.Side.TheVariants.{Output}
 use Rattle.text_lines.specs.Lines.{image_text}
-use Rattle.rvgprof.specs.Answer.{ended, syms_lines}
+use Rattle.rvgprof.specs.Answer.{end_course, syms_lines}
 use Rattle.rvgprof.proofs.Standing.{fails}
 use Rattle.host_port.proofs.PerformingLemmas.{puts_performs}
 use Rattle.rvgprof.proofs.Performing.{last_acts}
@@ -22,4 +22,4 @@ pub returns : goal.returns
 returns g c =
     let stands = c.in-Ok.ensures.reads _ 0 syms_lines (omega arith) c.requires in
     let text = image_text c.in-Ok.read.1 in
-    fails (map string_bytes c.args.words.now) _ _ _ (c.args.elf + 1) [] (Out text ∷ []) ended c.in-Err-show_image.field-0 stands (puts_performs Output text _ _ _ c.in-Err-show_image.ensures)
+    fails (map string_bytes c.args.words.now) _ _ _ (c.args.elf + 1) [] (Out text ∷ []) end_course c.in-Err-show_image.field-0 stands (puts_performs Output text _ _ _ c.in-Err-show_image.ensures)

@@ -4,7 +4,7 @@ use Rattle.std.proofs.lemmas.Result.{err_from_is_err_and}
 use Rattle.std.proofs.lemmas.List.FromFn.{length-enumerate_from}
 use Rattle.host_port.specs.declared.side.Side.TheVariants.{Output}
 use Rattle.host_port.proofs.BufferLemmas.{adds_nothing, adds_more, adds_stop, adds_all}
-use Rattle.text_lines.specs.Lines.{count_text}
+use Rattle.text_lines.specs.Lines.{counter_text}
 use Rattle.text_lines.proofs.Numbered.{numbered, numbered_in_range}
 use Rattle.text_lines.proofs.records.put_counters.Goals as goal
 
@@ -18,7 +18,7 @@ returns-in_err-put_counter g c =
     let items = c.as_slice-counter-items.result.now in
     let i = c.loop-i.i in
     let same = c.as_slice-counter-items.ensures in
-    rw p.1 (adds_stop Output (count_text c.args.hist.now) (enumerate_from 0 xs) i (i, get_or items i 0) _ _ _ _ _ _ tt _ (numbered_in_range xs items i same c.loop-i-test.true) (numbered xs items i same c.loop-i-test.true) c.loop-i.invariant c.in_err-put_counter.ensures)
+    rw p.1 (adds_stop Output (counter_text c.args.hist.now) (enumerate_from 0 xs) i (i, get_or items i 0) _ _ _ _ _ _ tt _ (numbered_in_range xs items i same c.loop-i-test.true) (numbered xs items i same c.loop-i-test.true) c.loop-i.invariant c.in_err-put_counter.ensures)
 
 pub loop-i-preserved : goal.loop-i-preserved
 loop-i-preserved g c =
@@ -26,10 +26,10 @@ loop-i-preserved g c =
     let items = c.as_slice-counter-items.result.now in
     let i = c.loop-i.i in
     let same = c.as_slice-counter-items.ensures in
-    adds_more Output (count_text c.args.hist.now) (enumerate_from 0 xs) i (i, get_or items i 0) _ _ _ _ _ _ tt _ (numbered_in_range xs items i same c.loop-i-test.true) (numbered xs items i same c.loop-i-test.true) c.loop-i.invariant c.in_ok-put_counter.ensures
+    adds_more Output (counter_text c.args.hist.now) (enumerate_from 0 xs) i (i, get_or items i 0) _ _ _ _ _ _ tt _ (numbered_in_range xs items i same c.loop-i-test.true) (numbered xs items i same c.loop-i-test.true) c.loop-i.invariant c.in_ok-put_counter.ensures
 
 pub returns : goal.returns
 returns g c =
     let xs = c.args.hist.now.counters in
     let le : length (enumerate_from 0 xs) ≤ c.loop-i.i = omega (arith, ap length c.as_slice-counter-items.ensures, length-enumerate_from 0 xs) in
-    adds_all Output (count_text c.args.hist.now) (enumerate_from 0 xs) c.loop-i.i _ _ _ _ _ le c.loop-i.invariant
+    adds_all Output (counter_text c.args.hist.now) (enumerate_from 0 xs) c.loop-i.i _ _ _ _ _ le c.loop-i.invariant

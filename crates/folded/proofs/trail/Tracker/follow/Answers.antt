@@ -2,7 +2,7 @@ use Rattle.std.proofs.Common.{◌≡◌, ◌∙◌, ◌++◌, ◌≤◌, ℕ, Li
 use Rattle.folded.specs.Shadow.{Shadow, after_hook, after_ran}
 use Rattle.folded.specs.Stacks.{stacks_of}
 use Rattle.folded.specs.Tally.{Folds}
-use Rattle.folded.specs.Trail.{samples_of, shadow_of}
+use Rattle.folded.specs.Trail.{stack_samples, shadow_of}
 use Rattle.folded.proofs.FollowLemmas.{followed_follows, hook_room, ran_room, room_set, shadow_read, quiet_follows}
 use Rattle.folded.proofs.FoldLemmas.{more_room}
 use Rattle.folded.proofs.trail.Tracker.follow.Goals as goal
@@ -24,7 +24,7 @@ returns-clause-follows c = λ t st.
     let was : after_ran note.ran (shadow_of t.shadows h) ≡ c.run.new.self =
     ap (λ (x : List Shadow). after_ran note.ran (shadow_of x h)) (sym st.shadows) ∙ ap (after_ran note.ran) read ∙ sym c.run.ensures in
     let shadows = ap (set c.args.self.now.shadows.items h) c.leave_hook.ensures ∙ ap (λ (x : List Shadow). set x h (after_hook note.returned c.run.new.self)) st.shadows in
-    let F : List ℕ → Type 0 = λ x. Folds (length symbols) (stacks_of symbols (t.samples ++ samples_of note.sample x)) c.sample.new.folded in
+    let F : List ℕ → Type 0 = λ x. Folds (length symbols) (stacks_of symbols (t.samples ++ stack_samples note.sample x)) c.sample.new.folded in
     followed_follows symbols h note t c.run.new.self _ was shadows (subst F c.frames.ensures (c.in_ok-sample.ensures.folds t.samples st.folds))
 
 pub returns-clause-room : goal.returns-clause-room

@@ -1,6 +1,6 @@
 use Rattle.std.proofs.Common.{◌≡◌, ◌∙◌, true, false, sym, ap, subst}
-use Rattle.prof_machine.specs.Turn.{closed, instructed, taken, turn_of}
-use Rattle.prof_machine.specs.World.{World, left_of}
+use Rattle.prof_machine.specs.Turn.{after_close, after_ordinary_turn, after_look, turn_of}
+use Rattle.prof_machine.specs.World.{World, looks_of_hart}
 use Rattle.prof_machine.specs.Prints.{ArePrinted, BreaksOff}
 use Rattle.prof_machine.proofs.ActLemmas.{breaks_as, nothing_printed, printed_as}
 use Rattle.prof_machine.proofs.ResultLemmas.{on_err_any}
@@ -20,7 +20,7 @@ returns-in_err-instruct-clause-fails g c = on_err_any _ _ c.from_residual.result
     let P : RunValue → Type 0 = λ v. v.live ≡ true → StandsFor w v → BreaksOff w (turn_of v.machine w h) (g.H.Host.outside c.args.host.now) (g.H.Host.outside c.instruct.new.host) in
     subst P c.self.view_is (λ live (s : StandsFor w (value_of a)).
     let s' = with_live w (value_of a) false s in
-    breaks_as w (instructed a.machine h w) (turn_of a.machine w h) _ _
+    breaks_as w (after_ordinary_turn a.machine h w) (turn_of a.machine w h) _ _
     (turn_prints a.machine h w (value_of a) (c.self.invariant.going live) s ∙ ap (λ (v : World). v.prints) (taken_instructed a.machine h w (value_of (record a { live = false })) (sym c.if-holds_walk.ensures) s'))
     (c.in_err-instruct.ensures.fails w s')) c.requires.live st)
 
@@ -29,13 +29,13 @@ returns-clause-stands g c = λ w st.
     let a = c.self.inside in
     let h = c.args.hart in
     let P : RunValue → Type 0 = λ v. v.live ≡ true → StandsFor w v → StandsFor (turn_of v.machine w h) (value_of (record c.self-2.inside { live = c.is_none-self-inside.result })) in
-    let V : RunValue → Type 0 = λ v. StandsFor (closed (taken a.machine h (left_of w.left h) w)) v in
+    let V : RunValue → Type 0 = λ v. StandsFor (after_close (after_look a.machine h (looks_of_hart w.left h) w)) v in
     subst P c.self.view_is (λ live (s : StandsFor w (value_of a)).
     let s' : StandsFor w (value_of (record a { live = false })) = with_live w (value_of a) false s in
-    let mid : StandsFor (taken a.machine h (left_of w.left h) w) c.if-holds_walk.self = elim c.if-holds_walk.branch [
-      | then-holds_walk b ↦ (let Q : RunValue → Type 0 = λ v. StandsFor (taken a.machine h (left_of w.left h) w) v in subst Q (sym b.self-is) (b.look.ensures.stands w s'))
+    let mid : StandsFor (after_look a.machine h (looks_of_hart w.left h) w) c.if-holds_walk.self = elim c.if-holds_walk.branch [
+      | then-holds_walk b ↦ (let Q : RunValue → Type 0 = λ v. StandsFor (after_look a.machine h (looks_of_hart w.left h) w) v in subst Q (sym b.self-is) (b.look.ensures.stands w s'))
       | else-holds_walk+in_ok-instruct b ↦
-          let Q : RunValue → Type 0 = λ v. StandsFor (taken a.machine h (left_of w.left h) w) v in
+          let Q : RunValue → Type 0 = λ v. StandsFor (after_look a.machine h (looks_of_hart w.left h) w) v in
           let R : World → Type 0 = λ v. StandsFor v b.instruct.new.self in
           subst Q (sym b.self-is) (subst R (sym (taken_instructed a.machine h w (value_of (record a { live = false })) (sym b.if-holds_walk.ensures) s')) (b.in_ok-instruct.ensures.stands w s'))
     ] in
@@ -50,11 +50,11 @@ returns-clause-prints g c = λ w st.
     let P : RunValue → Type 0 = λ v. v.live ≡ true → StandsFor w v → ArePrinted w (turn_of v.machine w h) old (g.H.Host.outside c.if-holds_walk.host) in
     subst P c.self.view_is (λ live (s : StandsFor w (value_of a)).
     let s' : StandsFor w (value_of (record a { live = false })) = with_live w (value_of a) false s in
-    let v = taken a.machine h (left_of w.left h) w in
+    let v = after_look a.machine h (looks_of_hart w.left h) w in
     let H : _ → Type 0 = λ x. ArePrinted w v old (g.H.Host.outside x) in
     printed_as w v (turn_of a.machine w h) _ _ (turn_prints a.machine h w (value_of a) (c.self.invariant.going live) s) (elim c.if-holds_walk.branch [
       | then-holds_walk b ↦ subst H (sym b.host-is) (nothing_printed w v old (b.look.ensures.prints w s'))
-      | else-holds_walk+in_ok-instruct b ↦ subst H (sym b.host-is) (printed_as w (instructed a.machine h w) v _ _
+      | else-holds_walk+in_ok-instruct b ↦ subst H (sym b.host-is) (printed_as w (after_ordinary_turn a.machine h w) v _ _
           (ap (λ (x : World). x.prints) (taken_instructed a.machine h w (value_of (record a { live = false })) (sym b.if-holds_walk.ensures) s')) (b.in_ok-instruct.ensures.prints w s'))
     ])) c.requires.live st
 

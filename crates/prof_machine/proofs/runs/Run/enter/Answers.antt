@@ -1,6 +1,6 @@
 use Rattle.std.proofs.Common.{sym, subst, Some}
 use Rattle.mcount_arcs.specs.declared.walk.Entered.TheVariants.{Ignored, Lost, Walking}
-use Rattle.prof_machine.specs.Turn.{after_entering, called}
+use Rattle.prof_machine.specs.Turn.{after_entering, after_mcount}
 use Rattle.prof_machine.specs.World.{World, hart_of}
 use Rattle.prof_machine.specs.Value.{RunValue, StandsFor, value_of}
 use Rattle.prof_machine.proofs.HookLemmas.{called_as, ignored_stands, lost_stands, walking_stands}
@@ -16,7 +16,7 @@ returns-in-Walking-clause-stands c = λ w st.
     let h = c.args.hart in
     let new = value_of (record a { flight = Some (record { hart = h; walk = c.in-Walking.walk }); gmon = c.enter.new.self }) in
     let read = hart_read a.harts.items h _ (there a c.args.self.now h c.self.invariant c.self.view_is c.requires.hart) c.index-regs.ensures in
-    let P : RunValue → Type 0 = λ v. StandsFor w v → StandsFor (called v.machine h (hart_of w.harts h) w) new in
+    let P : RunValue → Type 0 = λ v. StandsFor w v → StandsFor (after_mcount v.machine h (hart_of w.harts h) w) new in
     let Q : World → Type 0 = λ v. StandsFor v new in
     subst P c.self.view_is (λ (s : StandsFor w (value_of a)).
     subst Q (sym (called_as w (value_of a) h _ _ _ (Walking c.in-Walking.walk) read c.get.ensures.value c.get-2.ensures.value c.in-Walking.ensures.answer c.self.invariant.sizes s))
@@ -28,7 +28,7 @@ returns-in-Lost-clause-stands c = λ w st.
     let h = c.args.hart in
     let new = c.return_from_hook.new.self in
     let read = hart_read a.harts.items h _ (there a c.args.self.now h c.self.invariant c.self.view_is c.requires.hart) c.index-regs.ensures in
-    let P : RunValue → Type 0 = λ v. StandsFor w v → StandsFor (called v.machine h (hart_of w.harts h) w) new in
+    let P : RunValue → Type 0 = λ v. StandsFor w v → StandsFor (after_mcount v.machine h (hart_of w.harts h) w) new in
     let Q : World → Type 0 = λ v. StandsFor v new in
     subst P c.self.view_is (λ (s : StandsFor w (value_of a)).
     subst Q (sym (called_as w (value_of a) h _ _ _ Lost read c.get.ensures.value c.get-2.ensures.value c.in-Lost.ensures.answer c.self.invariant.sizes s))
@@ -40,7 +40,7 @@ returns-in-Ignored-clause-stands c = λ w st.
     let h = c.args.hart in
     let new = c.return_from_hook-in-Ignored.new.self in
     let read = hart_read a.harts.items h _ (there a c.args.self.now h c.self.invariant c.self.view_is c.requires.hart) c.index-regs.ensures in
-    let P : RunValue → Type 0 = λ v. StandsFor w v → StandsFor (called v.machine h (hart_of w.harts h) w) new in
+    let P : RunValue → Type 0 = λ v. StandsFor w v → StandsFor (after_mcount v.machine h (hart_of w.harts h) w) new in
     let Q : World → Type 0 = λ v. StandsFor v new in
     subst P c.self.view_is (λ (s : StandsFor w (value_of a)).
     subst Q (sym (called_as w (value_of a) h _ _ _ Ignored read c.get.ensures.value c.get-2.ensures.value c.in-Ignored.ensures.answer c.self.invariant.sizes s))

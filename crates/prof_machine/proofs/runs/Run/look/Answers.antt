@@ -1,7 +1,7 @@
 use Rattle.std.proofs.Common.{◌≡◌, ◌∙◌, true, sym, subst, Some, None, Option}
 use Rattle.prof_machine.specs.declared.flight.Flight.{Flight}
-use Rattle.prof_machine.specs.Turn.{taken}
-use Rattle.prof_machine.specs.World.{left_of}
+use Rattle.prof_machine.specs.Turn.{after_look}
+use Rattle.prof_machine.specs.World.{looks_of_hart}
 use Rattle.prof_machine.specs.Value.{RunValue, StandsFor, value_of}
 use Rattle.prof_machine.specs.Stages.{holds, returns}
 use Rattle.prof_machine.proofs.WalkLemmas.{moved_stands, over_stands}
@@ -17,7 +17,7 @@ returns-in-More-clause-stands c = λ w st.
     let a = c.self.inside in
     let f = c.in-Some.flight in
     let is : a.flight ≡ Some f = sym c.take.ensures.value ∙ c.in-Some.is in
-    let P : RunValue → Type 0 = λ v. StandsFor w v → holds v.flight c.args.hart ≡ true → StandsFor (taken v.machine c.args.hart (left_of w.left c.args.hart) w) (value_of (record a { flight = Some (record { hart = c.args.hart; walk = c.in-More.next }); gmon = c.look.new.self })) in
+    let P : RunValue → Type 0 = λ v. StandsFor w v → holds v.flight c.args.hart ≡ true → StandsFor (after_look v.machine c.args.hart (looks_of_hart w.left c.args.hart) w) (value_of (record a { flight = Some (record { hart = c.args.hart; walk = c.in-More.next }); gmon = c.look.new.self })) in
     subst P c.self.view_is (λ (s : StandsFor w (value_of a)) (mine : holds a.flight c.args.hart ≡ true).
     (moved_stands w a f c.look.new.self c.args.hart c.in-More.next c.self.invariant is mine (c.in-More.ensures.looks w.log s.gmon) s).0) st c.requires.holds
 
@@ -26,7 +26,7 @@ returns-in-More-clause-prints c = λ w st.
     let a = c.self.inside in
     let f = c.in-Some.flight in
     let is : a.flight ≡ Some f = sym c.take.ensures.value ∙ c.in-Some.is in
-    let P : RunValue → Type 0 = λ v. StandsFor w v → holds v.flight c.args.hart ≡ true → (taken v.machine c.args.hart (left_of w.left c.args.hart) w).prints ≡ w.prints in
+    let P : RunValue → Type 0 = λ v. StandsFor w v → holds v.flight c.args.hart ≡ true → (after_look v.machine c.args.hart (looks_of_hart w.left c.args.hart) w).prints ≡ w.prints in
     subst P c.self.view_is (λ (s : StandsFor w (value_of a)) (mine : holds a.flight c.args.hart ≡ true).
     (moved_stands w a f c.look.new.self c.args.hart c.in-More.next c.self.invariant is mine (c.in-More.ensures.looks w.log s.gmon) s).1) st c.requires.holds
 
@@ -35,9 +35,9 @@ returns-in-Counted-clause-stands c = λ w st.
     let a = c.self.inside in
     let f = c.in-Some.flight in
     let is : a.flight ≡ Some f = sym c.take.ensures.value ∙ c.in-Some.is in
-    let P : RunValue → Type 0 = λ v. StandsFor w v → holds v.flight c.args.hart ≡ true → StandsFor (taken v.machine c.args.hart (left_of w.left c.args.hart) w) (returns c.args.hart (value_of (record a { flight = None; gmon = c.look.new.self }))) in
-    let Q : Option Flight → Type 0 = λ o. StandsFor (taken c.args.self.now.machine c.args.hart (left_of w.left c.args.hart) w) (returns c.args.hart (value_of (record a { flight = o; gmon = c.look.new.self }))) in
-    let R : RunValue → Type 0 = λ v. StandsFor (taken c.args.self.now.machine c.args.hart (left_of w.left c.args.hart) w) v in
+    let P : RunValue → Type 0 = λ v. StandsFor w v → holds v.flight c.args.hart ≡ true → StandsFor (after_look v.machine c.args.hart (looks_of_hart w.left c.args.hart) w) (returns c.args.hart (value_of (record a { flight = None; gmon = c.look.new.self }))) in
+    let Q : Option Flight → Type 0 = λ o. StandsFor (after_look c.args.self.now.machine c.args.hart (looks_of_hart w.left c.args.hart) w) (returns c.args.hart (value_of (record a { flight = o; gmon = c.look.new.self }))) in
+    let R : RunValue → Type 0 = λ v. StandsFor (after_look c.args.self.now.machine c.args.hart (looks_of_hart w.left c.args.hart) w) v in
     subst R (sym c.return_from_hook.ensures.run) (subst Q (sym c.take.ensures.after)
     (subst P c.self.view_is (λ (s : StandsFor w (value_of a)) (mine : holds a.flight c.args.hart ≡ true).
     (over_stands w a f c.look.new.self c.args.hart _ c.self.invariant is mine (c.in-Counted.ensures.looks w.log s.gmon) (λ x same. absurd cc) s).0) st c.requires.holds))
@@ -47,7 +47,7 @@ returns-in-Counted-clause-prints c = λ w st.
     let a = c.self.inside in
     let f = c.in-Some.flight in
     let is : a.flight ≡ Some f = sym c.take.ensures.value ∙ c.in-Some.is in
-    let P : RunValue → Type 0 = λ v. StandsFor w v → holds v.flight c.args.hart ≡ true → (taken v.machine c.args.hart (left_of w.left c.args.hart) w).prints ≡ w.prints in
+    let P : RunValue → Type 0 = λ v. StandsFor w v → holds v.flight c.args.hart ≡ true → (after_look v.machine c.args.hart (looks_of_hart w.left c.args.hart) w).prints ≡ w.prints in
     subst P c.self.view_is (λ (s : StandsFor w (value_of a)) (mine : holds a.flight c.args.hart ≡ true).
     (over_stands w a f c.look.new.self c.args.hart _ c.self.invariant is mine (c.in-Counted.ensures.looks w.log s.gmon) (λ x same. absurd cc) s).1) st c.requires.holds
 
@@ -56,9 +56,9 @@ returns-in-Overflowed-clause-stands c = λ w st.
     let a = c.self.inside in
     let f = c.in-Some.flight in
     let is : a.flight ≡ Some f = sym c.take.ensures.value ∙ c.in-Some.is in
-    let P : RunValue → Type 0 = λ v. StandsFor w v → holds v.flight c.args.hart ≡ true → StandsFor (taken v.machine c.args.hart (left_of w.left c.args.hart) w) (returns c.args.hart (value_of (record a { flight = None; gmon = c.look.new.self }))) in
-    let Q : Option Flight → Type 0 = λ o. StandsFor (taken c.args.self.now.machine c.args.hart (left_of w.left c.args.hart) w) (returns c.args.hart (value_of (record a { flight = o; gmon = c.look.new.self }))) in
-    let R : RunValue → Type 0 = λ v. StandsFor (taken c.args.self.now.machine c.args.hart (left_of w.left c.args.hart) w) v in
+    let P : RunValue → Type 0 = λ v. StandsFor w v → holds v.flight c.args.hart ≡ true → StandsFor (after_look v.machine c.args.hart (looks_of_hart w.left c.args.hart) w) (returns c.args.hart (value_of (record a { flight = None; gmon = c.look.new.self }))) in
+    let Q : Option Flight → Type 0 = λ o. StandsFor (after_look c.args.self.now.machine c.args.hart (looks_of_hart w.left c.args.hart) w) (returns c.args.hart (value_of (record a { flight = o; gmon = c.look.new.self }))) in
+    let R : RunValue → Type 0 = λ v. StandsFor (after_look c.args.self.now.machine c.args.hart (looks_of_hart w.left c.args.hart) w) v in
     subst R (sym c.return_from_hook-in-Overflowed.ensures.run) (subst Q (sym c.take.ensures.after)
     (subst P c.self.view_is (λ (s : StandsFor w (value_of a)) (mine : holds a.flight c.args.hart ≡ true).
     (over_stands w a f c.look.new.self c.args.hart _ c.self.invariant is mine (c.in-Overflowed.ensures.looks w.log s.gmon) (λ x same. absurd cc) s).0) st c.requires.holds))
@@ -68,7 +68,7 @@ returns-in-Overflowed-clause-prints c = λ w st.
     let a = c.self.inside in
     let f = c.in-Some.flight in
     let is : a.flight ≡ Some f = sym c.take.ensures.value ∙ c.in-Some.is in
-    let P : RunValue → Type 0 = λ v. StandsFor w v → holds v.flight c.args.hart ≡ true → (taken v.machine c.args.hart (left_of w.left c.args.hart) w).prints ≡ w.prints in
+    let P : RunValue → Type 0 = λ v. StandsFor w v → holds v.flight c.args.hart ≡ true → (after_look v.machine c.args.hart (looks_of_hart w.left c.args.hart) w).prints ≡ w.prints in
     subst P c.self.view_is (λ (s : StandsFor w (value_of a)) (mine : holds a.flight c.args.hart ≡ true).
     (over_stands w a f c.look.new.self c.args.hart _ c.self.invariant is mine (c.in-Overflowed.ensures.looks w.log s.gmon) (λ x same. absurd cc) s).1) st c.requires.holds
 
@@ -77,7 +77,7 @@ returns-in-More-clause-note c = λ w st.
     let a = c.self.inside in
     let f = c.in-Some.flight in
     let is : a.flight ≡ Some f = sym c.take.ensures.value ∙ c.in-Some.is in
-    let P : RunValue → Type 0 = λ v. StandsFor w v → holds v.flight c.args.hart ≡ true → look_note None ≡ note_by v.machine c.args.hart (left_of w.left c.args.hart) w in
+    let P : RunValue → Type 0 = λ v. StandsFor w v → holds v.flight c.args.hart ≡ true → look_note None ≡ note_by v.machine c.args.hart (looks_of_hart w.left c.args.hart) w in
     subst P c.self.view_is (λ (s : StandsFor w (value_of a)) (mine : holds a.flight c.args.hart ≡ true).
     moved_note w a f c.look.new.self c.args.hart c.in-More.next c.self.invariant is mine (c.in-More.ensures.looks w.log s.gmon) s) st c.requires.holds
 
@@ -86,7 +86,7 @@ returns-in-Counted-clause-note c = λ w st.
     let a = c.self.inside in
     let f = c.in-Some.flight in
     let is : a.flight ≡ Some f = sym c.take.ensures.value ∙ c.in-Some.is in
-    let P : RunValue → Type 0 = λ v. StandsFor w v → holds v.flight c.args.hart ≡ true → look_note c.return_from_hook.result ≡ note_by v.machine c.args.hart (left_of w.left c.args.hart) w in
+    let P : RunValue → Type 0 = λ v. StandsFor w v → holds v.flight c.args.hart ≡ true → look_note c.return_from_hook.result ≡ note_by v.machine c.args.hart (looks_of_hart w.left c.args.hart) w in
     subst P c.self.view_is (λ (s : StandsFor w (value_of a)) (mine : holds a.flight c.args.hart ≡ true).
     ap look_note (c.return_from_hook.ensures.to ∙ ap (λ (x : List Registers). return_of (hart_of x c.args.hart)) s.harts)
     ∙ over_note w a f c.look.new.self c.args.hart _ c.self.invariant is mine (c.in-Counted.ensures.looks w.log s.gmon) (λ x same. absurd cc) s) st c.requires.holds
@@ -96,7 +96,7 @@ returns-in-Overflowed-clause-note c = λ w st.
     let a = c.self.inside in
     let f = c.in-Some.flight in
     let is : a.flight ≡ Some f = sym c.take.ensures.value ∙ c.in-Some.is in
-    let P : RunValue → Type 0 = λ v. StandsFor w v → holds v.flight c.args.hart ≡ true → look_note c.return_from_hook-in-Overflowed.result ≡ note_by v.machine c.args.hart (left_of w.left c.args.hart) w in
+    let P : RunValue → Type 0 = λ v. StandsFor w v → holds v.flight c.args.hart ≡ true → look_note c.return_from_hook-in-Overflowed.result ≡ note_by v.machine c.args.hart (looks_of_hart w.left c.args.hart) w in
     subst P c.self.view_is (λ (s : StandsFor w (value_of a)) (mine : holds a.flight c.args.hart ≡ true).
     ap look_note (c.return_from_hook-in-Overflowed.ensures.to ∙ ap (λ (x : List Registers). return_of (hart_of x c.args.hart)) s.harts)
     ∙ over_note w a f c.look.new.self c.args.hart _ c.self.invariant is mine (c.in-Overflowed.ensures.looks w.log s.gmon) (λ x same. absurd cc) s) st c.requires.holds

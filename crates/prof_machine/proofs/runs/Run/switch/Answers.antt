@@ -1,5 +1,5 @@
 use Rattle.std.proofs.Common.{sym, ap, subst, not, eqb}
-use Rattle.prof_machine.specs.Turn.{switched}
+use Rattle.prof_machine.specs.Turn.{after_moncontrol}
 use Rattle.prof_machine.specs.World.{hart_of}
 use Rattle.prof_machine.specs.Value.{RunValue, StandsFor, value_of}
 use Rattle.prof_machine.proofs.StandingLemmas.{hart_read, there}
@@ -15,9 +15,9 @@ returns-clause-stands c = λ w st.
     let h = c.args.hart in
     let new = c.return_from_hook.new.self in
     let read = hart_read a.harts.items h _ (there a c.args.self.now h c.self.invariant c.self.view_is c.requires.hart) c.index.ensures in
-    let P : RunValue → Type 0 = λ v. StandsFor w v → StandsFor (switched h (hart_of w.harts h) w) new in
+    let P : RunValue → Type 0 = λ v. StandsFor w v → StandsFor (after_moncontrol h (hart_of w.harts h) w) new in
     subst P c.self.view_is (λ (s : StandsFor w (value_of a)).
-    (let R : RunValue → Type 0 = λ v. StandsFor (switched h (hart_of w.harts h) w) v in subst R (sym c.return_from_hook.ensures.run)
+    (let R : RunValue → Type 0 = λ v. StandsFor (after_moncontrol h (hart_of w.harts h) w) v in subst R (sym c.return_from_hook.ensures.run)
     (switched_stands w (value_of a) c.moncontrol.new.self h _ _ read (ap (λ n. not (eqb n 0)) c.get-on.ensures.value) (c.moncontrol.ensures.stands w.log s.gmon) s))) st
 
 pub returns-clause-note : goal.returns-clause-note
