@@ -30,7 +30,8 @@ pub fn write<H: Host>(
     host: &mut H,
 ) -> Result<(), Failed>
     requires { IsWithinLimits (length bytes.now) image.now }
-    ensures { Puts Output (annotated_text image.now bytes.now profile.now) (H.outside host.old) (H.outside host.new) result }
+    ensures { Puts Output (annotated_text image.now bytes.now profile.now) (H.outside host.old)
+        (H.outside host.new) result }
 {
     let mut lines = PrintBuf::new();
     put_listing(image, bytes, profile, &mut lines, host)?;
@@ -64,7 +65,8 @@ fn put_symbols<H: Host>(
 ) -> Result<(), Failed>
     requires segments { All (λ s. s.offset + s.filesz ≤ length bytes.now) segments.now }
     requires some { All (λ s. s.addr < s.end) symbols.now }
-    ensures { Adds Output (flat_map (symbol_listing segments.now bytes.now profile.now) symbols.now) lines.old lines.new
+    ensures { Adds Output (flat_map (symbol_listing segments.now bytes.now profile.now) symbols.now)
+        lines.old lines.new
         (H.outside host.old) (H.outside host.new) result }
 {
     for symbol in symbols {
@@ -83,7 +85,8 @@ fn put_symbol<H: Host>(
 ) -> Result<(), Failed>
     requires segments { All (λ s. s.offset + s.filesz ≤ length bytes.now) segments.now }
     requires some { symbol.now.addr < symbol.now.end }
-    ensures { Adds Output (symbol_listing segments.now bytes.now profile.now symbol.now) lines.old lines.new
+    ensures { Adds Output (symbol_listing segments.now bytes.now profile.now symbol.now) lines.old
+        lines.new
         (H.outside host.old) (H.outside host.new) result }
 {
     lines.put(host, symbol.name.as_slice())?;
@@ -101,7 +104,8 @@ fn put_cells<H: Host>(
 ) -> Result<(), Failed>
     requires segments { All (λ s. s.offset + s.filesz ≤ length bytes.now) segments.now }
     requires some { symbol.now.addr < symbol.now.end }
-    ensures { Adds Output (flat_map (cell_line segments.now bytes.now profile.now) (cells_of symbol.now)) lines.old lines.new
+    ensures { Adds Output (flat_map (cell_line segments.now bytes.now profile.now)
+        (cells_of symbol.now)) lines.old lines.new
         (H.outside host.old) (H.outside host.new) result }
 {
     for k in 0..cell_count(symbol) {

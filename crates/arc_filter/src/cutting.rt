@@ -38,8 +38,12 @@ fn put_arcs(
 ) -> Result<(), AllocError>
     requires ordered { IsAscending symbols.now }
     requires words { All (λ word. is_cut_word (string_bytes word) ≡ true) cuts.now }
-    requires within { IsWithin (with_records (map arc_record (filter (stays symbols.now (map string_bytes cuts.now)) profile.now.arcs)) left.old) }
-    ensures { OnOk result (left.new ≡ with_records (map arc_record (filter (stays symbols.now (map string_bytes cuts.now)) profile.now.arcs)) left.old) }
+    requires within { IsWithin (with_records
+        (map arc_record (filter (stays symbols.now (map string_bytes cuts.now)) profile.now.arcs))
+        left.old) }
+    ensures { OnOk result (left.new ≡ with_records
+        (map arc_record (filter (stays symbols.now (map string_bytes cuts.now)) profile.now.arcs))
+        left.old) }
 {
     let table = table_of(alloc, symbols, cuts)?;
     for i in 0..profile.arc_count() {
@@ -65,7 +69,8 @@ pub fn cut(
 ) -> Result<Profile, AllocError>
     requires ordered { IsAscending symbols.now }
     requires words { All (λ word. is_cut_word (string_bytes word) ≡ true) cuts.now }
-    ensures { IfOk result (λ p. p ≡ without_cuts profile.now symbols.now (map string_bytes cuts.now)) }
+    ensures { IfOk result (λ p. p ≡ without_cuts profile.now symbols.now
+        (map string_bytes cuts.now)) }
 {
     profile.holds();
     let mut left = Profile::new(alloc);

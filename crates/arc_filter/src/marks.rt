@@ -111,8 +111,10 @@ pub(crate) fn table_of(
 ) -> Result<CutTable, AllocError>
     requires ordered { IsAscending symbols.now }
     requires words { All (λ word. is_cut_word (string_bytes word) ≡ true) words.now }
-    ensures marks { IfOk result (λ t. AreMarks symbols.now (map string_bytes words.now) t.marks.items) }
-    ensures callers { IfOk result (λ t. t.callers.items ≡ callers_marked (length symbols.now) t.marks.items) }
+    ensures marks { IfOk result (λ t. AreMarks symbols.now
+        (map string_bytes words.now) t.marks.items) }
+    ensures callers { IfOk result (λ t. t.callers.items
+        ≡ callers_marked (length symbols.now) t.marks.items) }
 {
     let marks = marks_of(alloc, symbols, words)?;
     let callers = callers_of(alloc, symbol_count(symbols), &marks)?;
@@ -127,8 +129,10 @@ pub(crate) fn table_of(
 pub(crate) fn is_cut(symbols: &[Symbol], cuts: &CutTable, from: u32, to: u32) -> bool
     requires ordered { IsAscending symbols.now }
     requires marks { AreOf (length symbols.now) cuts.now.marks.items }
-    requires callers { cuts.now.callers.items ≡ callers_marked (length symbols.now) cuts.now.marks.items }
-    ensures { (words : List (List ℕ)) → AreMarks symbols.now words cuts.now.marks.items → result ≡ spec symbols.now words from to }
+    requires callers { cuts.now.callers.items ≡ callers_marked
+        (length symbols.now) cuts.now.marks.items }
+    ensures { (words : List (List ℕ)) → AreMarks symbols.now words cuts.now.marks.items
+        → result ≡ spec symbols.now words from to }
 {
     let Some(caller) = cuts.pages.owner(symbols, from) else {
         return false;

@@ -25,7 +25,8 @@ fn entering(
     requires within { AreWithin (length component.now) arcs.now }
     requires components { (f : ℕ) → f < length component.now → slice_index component.now f < count }
     requires few { arcs_calls arcs.now < 2 ^ 59 }
-    ensures each { IfOk result (λ v. v.items ≡ list_of count (entering_of (headless_graph component.now arcs.now))) }
+    ensures each { IfOk result (λ v. v.items ≡ list_of count
+        (entering_of (headless_graph component.now arcs.now))) }
 {
     let mut calls = vec![in alloc; 0u64; count]?;
     for a in arcs {
@@ -49,7 +50,9 @@ struct Found {
 fn found_components(alloc: Global, functions: u32, arcs: &[FunArc]) -> Result<Found, AllocError>
     requires within { AreWithin functions arcs.now }
     requires ordered { AreByCaller arcs.now }
-    ensures components { IfOk result (λ f. (self_calls : List ℕ) → AreComponents (graph_of_parts functions arcs.now self_calls f.component.items f.heads.items)) }
+    ensures components { IfOk result (λ f. (self_calls : List ℕ)
+        → AreComponents (graph_of_parts functions arcs.now self_calls
+        f.component.items f.heads.items)) }
     ensures few { IfOk result (λ f. length f.heads.items ≤ functions) }
 {
     let first = depth::first_arcs(alloc, functions, arcs)?;
@@ -79,7 +82,8 @@ fn graph_of(
     ensures arcs { IfOk result (λ g. g.arcs ≡ arcs.items) }
     ensures self_calls { IfOk result (λ g. g.self_calls ≡ self_calls.items) }
     ensures components { IfOk result IsGraph }
-    ensures calls { IfOk result (λ g. all_calls g ≡ arcs_calls arcs.items + sum_below functions (slice_index self_calls.items)) }
+    ensures calls { IfOk result (λ g. all_calls g ≡ arcs_calls arcs.items
+        + sum_below functions (slice_index self_calls.items)) }
 {
     let found = found_components(alloc, functions, &arcs)?;
     let entering = entering(alloc, &found.component, found.heads.len(), &arcs)?;

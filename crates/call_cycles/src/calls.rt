@@ -41,8 +41,13 @@ fn add_arc(
     requires ordered { IsAscending symbols.now }
     requires own { length calls.old.own.items ≡ length symbols.now }
     requires fits { (f : ℕ) → slice_index calls.old.own.items f + count < 2 ^ 64 }
-    ensures added { OnOk result ((c : ℕ → ℕ → ℕ) → HaveCalls (length symbols.now) c calls.old.between.items calls.old.own.items → HaveCalls (length symbols.now) (λ f g. c f g + calls_of symbols.now ((from, to), count) f g) calls.new.between.items calls.new.own.items) }
-    ensures few { OnOk result (count_of calls.new.between.items ≤ count_of calls.old.between.items + count) }
+    ensures added { OnOk result ((c : ℕ → ℕ → ℕ)
+        → HaveCalls (length symbols.now) c calls.old.between.items calls.old.own.items
+        → HaveCalls (length symbols.now)
+        (λ f g. c f g + calls_of symbols.now ((from, to), count) f g)
+        calls.new.between.items calls.new.own.items) }
+    ensures few { OnOk result (count_of calls.new.between.items
+        ≤ count_of calls.old.between.items + count) }
 {
     if count == 0 {
         return Ok(());
@@ -73,7 +78,8 @@ pub(crate) fn found_calls(
     symbols: &[Symbol],
 ) -> Result<Calls, AllocError>
     requires ordered { IsAscending symbols.now }
-    ensures calls { IfOk result (λ c. HaveCalls (length symbols.now) (calls_between profile.now.arcs symbols.now) c.between.items c.own.items) }
+    ensures calls { IfOk result (λ c. HaveCalls (length symbols.now)
+        (calls_between profile.now.arcs symbols.now) c.between.items c.own.items) }
     ensures few { IfOk result (λ c. count_of c.between.items ≤ tally_total profile.now.arcs) }
     ensures all { tally_total profile.now.arcs < 2 ^ 59 }
 {
@@ -95,8 +101,10 @@ pub(crate) fn found_calls(
 fn merge_arc(arcs: &mut [FunArc], n: usize, a: FunArc) -> usize
     requires inside { n < length arcs.old }
     requires fits { (f g : ℕ) → calls_in (take n arcs.old) f g + a.count < 2 ^ 64 }
-    ensures merged { (sorted : List Arc) → All (IsUpTo a.caller a.callee) sorted → AreMerged sorted (take n arcs.old) → AreMerged (sorted ++ a ∷ []) (take result arcs.new) }
-    ensures rest { (k : ℕ) → n < k → slice_index_or arcs.new k no_arc ≡ slice_index_or arcs.old k no_arc }
+    ensures merged { (sorted : List Arc) → All (IsUpTo a.caller a.callee) sorted
+        → AreMerged sorted (take n arcs.old) → AreMerged (sorted ++ a ∷ []) (take result arcs.new) }
+    ensures rest { (k : ℕ) → n < k → slice_index_or arcs.new k no_arc
+        ≡ slice_index_or arcs.old k no_arc }
     ensures few { result ≤ n + 1 }
 {
     if n > 0 {
@@ -127,7 +135,8 @@ fn merge_neighbours(arcs: &mut [FunArc]) -> usize
 /// The arcs in order of caller, then callee, those of one caller and callee made one.
 pub(crate) fn merged(arcs: Vec<FunArc>) -> Vec<FunArc>
     requires few { count_of arcs.items < 2 ^ 64 }
-    ensures merged { (n : ℕ) → All (IsArcBelow n) arcs.items → result.items ≡ arcs_among n (calls_in arcs.items) }
+    ensures merged { (n : ℕ) → All (IsArcBelow n) arcs.items
+        → result.items ≡ arcs_among n (calls_in arcs.items) }
 {
     let mut sorted = in_order(arcs);
     let count = merge_neighbours(&mut sorted);

@@ -126,7 +126,8 @@ fn follow(pass: &mut Pass, arcs: &[FunArc], i: usize) -> Result<(), AllocError>
     requires pass { IsPass (length pass.old.places.items) arcs.now (pass_of pass.old) }
     requires last { EndsIn pass.old.calls.items (caller_at arcs.now i) }
     requires next { slice_index pass.old.next.items (caller_at arcs.now i) ≡ i }
-    ensures step { OnOk result (IsNext (length pass.old.places.items) arcs.now (pass_of pass.old) (pass_of pass.new)) }
+    ensures step { OnOk result (IsNext (length pass.old.places.items) arcs.now
+        (pass_of pass.old) (pass_of pass.new)) }
 {
     let FunArc { caller, callee, .. } = arcs[i];
     let place = pass.places[callee as usize];

@@ -15,7 +15,8 @@ fn least_functions(alloc: Global, functions: u32, ranks: &[u32]) -> Result<Vec<u
     requires functions { length ranks.now ≡ functions }
     requires within { (f : ℕ) → f < functions → slice_index ranks.now f ≤ functions }
     ensures len { IfOk result (λ v. length v.items ≡ functions + 1) }
-    ensures least { IfOk result (λ v. (f : ℕ) → f < functions → IsLeast functions ranks.now 0 f (slice_index v.items (slice_index ranks.now f))) }
+    ensures least { IfOk result (λ v. (f : ℕ) → f < functions
+        → IsLeast functions ranks.now 0 f (slice_index v.items (slice_index ranks.now f))) }
 {
     let mut least = vec![in alloc; 0u32; functions as usize + 1]?;
     for f in (0..functions).rev() {
@@ -47,8 +48,11 @@ fn raise(arcs: &[FunArc], first: &[usize], leaders: &[u32], f: u32, levels: &mut
     requires ordered { AreByCaller arcs.now }
     requires first { AreFirst (length levels.old) arcs.now first.now }
     requires few { (h : ℕ) → slice_index levels.old h < 2 ^ 32 }
-    ensures raised { slice_index levels.new (slice_index leaders.now f) ≡ max (slice_index levels.old (slice_index leaders.now f)) (max_below (length arcs.now) (level_over arcs.now leaders.now f levels.old)) }
-    ensures others { (h : ℕ) → h ≢ slice_index leaders.now f → slice_index levels.new h ≡ slice_index levels.old h }
+    ensures raised { slice_index levels.new (slice_index leaders.now f)
+        ≡ max (slice_index levels.old (slice_index leaders.now f))
+        (max_below (length arcs.now) (level_over arcs.now leaders.now f levels.old)) }
+    ensures others { (h : ℕ) → h ≢ slice_index leaders.now f
+        → slice_index levels.new h ≡ slice_index levels.old h }
 {
     let c = leaders[f as usize] as usize;
     for i in first[f as usize]..arcs.len() {
@@ -77,8 +81,10 @@ pub(crate) fn levels(
     requires first { AreFirst (length leaders.now) arcs.now first.now }
     requires leaders { AreLeaders (length leaders.now) arcs.now leaders.now }
     requires ranks { AreRanks (length leaders.now) arcs.now ranking.now.ranks.items }
-    requires order { IsRankOrder (length leaders.now) ranking.now.ranks.items ranking.now.order.items }
-    ensures levels { IfOk result (λ v. AreLevels (length leaders.now) arcs.now leaders.now v.items) }
+    requires order { IsRankOrder (length leaders.now)
+        ranking.now.ranks.items ranking.now.order.items }
+    ensures levels { IfOk result (λ v. AreLevels (length leaders.now)
+        arcs.now leaders.now v.items) }
 {
     let mut levels = vec![in alloc; 0usize; leaders.len()]?;
     for f in &ranking.order {

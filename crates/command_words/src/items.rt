@@ -66,7 +66,8 @@ fn find(
     skip: u32,
 ) -> Option<Option<u32>>
     requires { position + length words.now < 2 ^ 32 }
-    ensures { result ≡ option_map (λ items. nth skip (places wanted items)) (items_from set position (map string_bytes words.now)) }
+    ensures { result ≡ option_map (λ items. nth skip (places wanted items))
+        (items_from set position (map string_bytes words.now)) }
 {
     match words {
         [] => Some(None),
@@ -102,7 +103,8 @@ fn find_behind(
     place: Option<u32>,
 ) -> Option<Option<u32>>
     requires { position + length words.now < 2 ^ 32 }
-    ensures { result ≡ option_map (λ items. nth skip (cons_option place (places wanted items))) (items_from set position (map string_bytes words.now)) }
+    ensures { result ≡ option_map (λ items. nth skip (cons_option place (places wanted items)))
+        (items_from set position (map string_bytes words.now)) }
 {
     match place {
         None => find(set, words, position, wanted, skip),
@@ -119,7 +121,8 @@ fn find_behind(
 /// Where the first value of an option stands; `None` where the words can't be read or give it too often.
 pub fn place_given(set: OptionSet, words: &[String], key: Key) -> Option<Option<u32>>
     requires { length words.now ≤ 200 }
-    ensures { result ≡ option_and_then (place_given key) (items_from set 0 (map string_bytes words.now)) }
+    ensures { result ≡ option_and_then (place_given key)
+        (items_from set 0 (map string_bytes words.now)) }
 {
     let first = find(set, words, 0, Wanted::AnOption(key), 0)?;
     match find(set, words, 0, Wanted::AnOption(key), most_times(key))? {
@@ -140,7 +143,8 @@ pub fn places_from(
     requires few { length words.now ≤ 200 }
     requires first { first ≤ 200 }
     requires most { most ≤ 18 }
-    ensures { result ≡ option_and_then (λ items. up_to most (drop first (places wanted items))) (items_from set 0 (map string_bytes words.now)) }
+    ensures { result ≡ option_and_then (λ items. up_to most (drop first (places wanted items)))
+        (items_from set 0 (map string_bytes words.now)) }
 {
     let mut found = Places::new();
     for n in 0..most {
@@ -158,7 +162,8 @@ pub fn places_from(
 /// Where the values of an option stand; `None` where the words can't be read or give it too often.
 pub fn places_given(set: OptionSet, words: &[String], key: Key) -> Option<Places>
     requires { length words.now ≤ 200 }
-    ensures { result ≡ option_and_then (places_given key) (items_from set 0 (map string_bytes words.now)) }
+    ensures { result ≡ option_and_then (places_given key)
+        (items_from set 0 (map string_bytes words.now)) }
 {
     places_from(set, words, Wanted::AnOption(key), 0, most_times(key))
 }
@@ -166,7 +171,8 @@ pub fn places_given(set: OptionSet, words: &[String], key: Key) -> Option<Places
 /// The number that is given to an option, if one is; `None` where it is none that the option may have.
 pub fn number_given(set: OptionSet, words: &[String], key: Key) -> Option<Option<u32>>
     requires { length words.now ≤ 200 }
-    ensures reads { result ≡ option_and_then (number_given (map string_bytes words.now) key) (items_from set 0 (map string_bytes words.now)) }
+    ensures reads { result ≡ option_and_then (number_given (map string_bytes words.now) key)
+        (items_from set 0 (map string_bytes words.now)) }
     ensures within { IfSome result (λ given. IfSome given (λ n. IsNumberOf (kind_in key) n)) }
 {
     match place_given(set, words, key)? {
@@ -179,7 +185,8 @@ pub fn number_given(set: OptionSet, words: &[String], key: Key) -> Option<Option
 pub fn setting(set: OptionSet, words: &[String], key: Key, default: u32) -> Option<u32>
     requires few { length words.now ≤ 200 }
     requires within { IsNumberOf (kind_in key) default }
-    ensures reads { result ≡ option_and_then (value_given (map string_bytes words.now) key default) (items_from set 0 (map string_bytes words.now)) }
+    ensures reads { result ≡ option_and_then (value_given (map string_bytes words.now) key default)
+        (items_from set 0 (map string_bytes words.now)) }
     ensures within { IfSome result (λ n. IsNumberOf (kind_in key) n) }
 {
     match number_given(set, words, key)? {

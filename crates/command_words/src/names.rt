@@ -17,7 +17,8 @@ pub fn name_at(words: &[String], word: u32) -> &str
 
 /// The words at these positions.
 pub fn names_at(alloc: Global, words: &[String], places: &[u32]) -> Result<Vec<String>, AllocError>
-    ensures { IfOk result (λ names. map string_bytes names.items ≡ words_at (map string_bytes words.now) places.now) }
+    ensures { IfOk result (λ names. map string_bytes names.items
+        ≡ words_at (map string_bytes words.now) places.now) }
 {
     let mut names = Vec::new(alloc);
     for place in places {

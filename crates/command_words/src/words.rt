@@ -184,7 +184,8 @@ fn alone(command: Command, words: &[String]) -> Option<Command>
 /// for.
 fn operands(set: OptionSet, words: &[String]) -> Option<Places>
     requires { length words.now ≤ 200 }
-    ensures reading { result ≡ option_and_then (λ items. up_to 18 (operand_places items)) (items_from set 0 (map string_bytes words.now)) }
+    ensures reading { result ≡ option_and_then (λ items. up_to 18 (operand_places items))
+        (items_from set 0 (map string_bytes words.now)) }
     ensures rising { IfSome result AreRising }
 {
     places_from(set, words, Wanted::AnOperand, 0, MAX_PLACES as u32)
@@ -193,7 +194,8 @@ fn operands(set: OptionSet, words: &[String]) -> Option<Places>
 /// Whether an option is given.
 fn is_given(set: OptionSet, words: &[String], key: Key) -> Option<bool>
     requires { length words.now ≤ 200 }
-    ensures { result ≡ option_and_then (is_given key) (items_from set 0 (map string_bytes words.now)) }
+    ensures { result ≡ option_and_then (is_given key)
+        (items_from set 0 (map string_bytes words.now)) }
 {
     let place = place_given(set, words, key)?;
     Some(place.is_some())
@@ -304,7 +306,8 @@ fn annotate_from(operands: Option<Places>) -> Option<Command>
 /// The reports that the options ask for, and what these leave out.
 fn read_selection(set: OptionSet, words: &[String]) -> Option<Selection>
     requires { length words.now ≤ 200 }
-    ensures reading { result ≡ option_and_then (selection_of (map string_bytes words.now)) (items_from set 0 (map string_bytes words.now)) }
+    ensures reading { result ≡ option_and_then (selection_of (map string_bytes words.now))
+        (items_from set 0 (map string_bytes words.now)) }
     ensures cuts { IfSome result (AreCuts (map string_bytes words.now)) }
 {
     selection_from(
@@ -326,7 +329,8 @@ fn selection_from(
     cuts: Option<Places>,
     hidden: Option<Places>,
 ) -> Option<Selection>
-    ensures reading { result ≡ selection_from (map string_bytes words.now) flat graph exact cuts hidden }
+    ensures reading { result ≡ selection_from (map string_bytes words.now)
+        flat graph exact cuts hidden }
     ensures cuts { IfSome result (AreCuts (map string_bytes words.now)) }
 {
     let (Some(flat), Some(graph), Some(exact)) = (flat, graph, exact) else {
@@ -455,7 +459,8 @@ fn read_demo(words: &[String]) -> Option<Command>
 /// The number of the demo's functions.
 fn read_functions(set: OptionSet, words: &[String]) -> Option<u32>
     requires { length words.now ≤ 200 }
-    ensures reading { result ≡ option_and_then (functions_of (map string_bytes words.now)) (items_from set 0 (map string_bytes words.now)) }
+    ensures reading { result ≡ option_and_then (functions_of (map string_bytes words.now))
+        (items_from set 0 (map string_bytes words.now)) }
     ensures within { IfSome result (λ n. (1 ≤ n) × (n ≤ 2000)) }
 {
     functions_from(words, operands(set, words))
@@ -494,7 +499,8 @@ fn demo_from(
 /// The run that the words say, by the options that the command takes.
 fn read_run(set: OptionSet, words: &[String]) -> Option<Command>
     requires { length words.now ≤ 200 }
-    ensures reading { result ≡ option_and_then (run_of (map string_bytes words.now)) (items_from set 0 (map string_bytes words.now)) }
+    ensures reading { result ≡ option_and_then (run_of (map string_bytes words.now))
+        (items_from set 0 (map string_bytes words.now)) }
     ensures within { IfSome result (IsCommandOf (map string_bytes words.now)) }
 {
     run_from(
@@ -553,7 +559,8 @@ fn may_count(form: Form, blocks: bool) -> bool
 /// What the options say of a run.
 fn read_setup(set: OptionSet, words: &[String]) -> Option<Setup>
     requires { length words.now ≤ 200 }
-    ensures reading { result ≡ option_and_then (setup_of (map string_bytes words.now)) (items_from set 0 (map string_bytes words.now)) }
+    ensures reading { result ≡ option_and_then (setup_of (map string_bytes words.now))
+        (items_from set 0 (map string_bytes words.now)) }
     ensures within { IfSome result (λ s. IsSetup s) }
 {
     setup_from(
@@ -617,7 +624,8 @@ fn setup_from(
 /// The schedule that the options say.
 fn read_plan(set: OptionSet, words: &[String]) -> Option<Plan>
     requires { length words.now ≤ 200 }
-    ensures reading { result ≡ option_and_then (plan_given (map string_bytes words.now)) (items_from set 0 (map string_bytes words.now)) }
+    ensures reading { result ≡ option_and_then (plan_given (map string_bytes words.now))
+        (items_from set 0 (map string_bytes words.now)) }
     ensures within { IfSome result (λ p. 1 ≤ plan_number p) }
 {
     plan_from(
@@ -628,7 +636,8 @@ fn read_plan(set: OptionSet, words: &[String]) -> Option<Plan>
 
 /// A schedule with a quantum or a seed, and not both.
 fn plan_from(quantum: Option<Option<u32>>, seed: Option<Option<u32>>) -> Option<Plan>
-    requires quantum { IfSome quantum (λ given. IfSome given (λ n. IsNumberOf (kind_of Key.Quantum) n)) }
+    requires quantum { IfSome quantum (λ given. IfSome given
+        (λ n. IsNumberOf (kind_of Key.Quantum) n)) }
     requires seed { IfSome seed (λ given. IfSome given (λ n. IsNumberOf (kind_of Key.Seed) n)) }
     ensures reading { result ≡ plan_from quantum seed }
     ensures within { IfSome result (λ p. 1 ≤ plan_number p) }

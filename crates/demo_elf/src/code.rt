@@ -62,7 +62,8 @@ fn slot(from: u32, j: u32, wanted: bool) -> u32
 /// Adds the words of `_start` and of `_mcount`.
 #[tactic(auto, unfolding(crate::specs::Code::start_words, crate::specs::Code::mcount_words))]
 fn put_start(words: &mut Vec<u32>) -> Result<(), AllocError>
-    ensures words { OnOk result (words.new.items ≡ words.old.items ++ (spec.start_words ++ spec.mcount_words)) }
+    ensures words { OnOk result (words.new.items ≡ words.old.items
+        ++ (spec.start_words ++ spec.mcount_words)) }
     ensures len { OnOk result (length words.new.items ≡ length words.old.items + 16) }
 {
     words.extend_from_slice(&[

@@ -135,7 +135,8 @@ fn put_symbol(bytes: &mut Vec<u8>, name: u32, offset: u32) -> Result<(), AllocEr
 /// A first symbol of zeros, and then the symbols.
 fn put_symbols(bytes: &mut Vec<u8>, symbols: &[DemoSymbol]) -> Result<(), AllocError>
     requires { AreSmall symbols.now }
-    ensures { OnOk result (bytes.new.items ≡ bytes.old.items ++ spec.symbols_text (map symbol_of symbols.now)) }
+    ensures { OnOk result (bytes.new.items ≡ bytes.old.items
+        ++ spec.symbols_text (map symbol_of symbols.now)) }
 {
     put_zeros(bytes, 16)?;
     let mut name = 1;
@@ -149,7 +150,8 @@ fn put_symbols(bytes: &mut Vec<u8>, symbols: &[DemoSymbol]) -> Result<(), AllocE
 /// The names of symbols, each with a zero behind it.
 #[tactic(auto, unfolding(crate::specs::Elf::strings_text))]
 fn put_strings(bytes: &mut Vec<u8>, symbols: &[DemoSymbol]) -> Result<(), AllocError>
-    ensures { OnOk result (bytes.new.items ≡ bytes.old.items ++ spec.strings_text (map symbol_of symbols.now)) }
+    ensures { OnOk result (bytes.new.items ≡ bytes.old.items
+        ++ spec.strings_text (map symbol_of symbols.now)) }
 {
     bytes.push(0)?;
     for symbol in symbols {
@@ -165,7 +167,8 @@ fn put_section_headers(bytes: &mut Vec<u8>, parts: Parts) -> Result<(), AllocErr
     requires words { parts.words ≤ 2 ^ 18 }
     requires symbols { parts.symbols ≤ 2 ^ 12 }
     requires strings { parts.strings ≤ 2 ^ 20 }
-    ensures { OnOk result (bytes.new.items ≡ bytes.old.items ++ spec.section_headers parts.words parts.symbols parts.strings) }
+    ensures { OnOk result (bytes.new.items ≡ bytes.old.items
+        ++ spec.section_headers parts.words parts.symbols parts.strings) }
 {
     let text = 4 * parts.words;
     let symbols = 16 * (parts.symbols + 1);
@@ -196,7 +199,8 @@ fn put_front(bytes: &mut Vec<u8>, words: &[u32], parts: Parts) -> Result<(), All
     requires words { parts.words ≤ 2 ^ 18 }
     requires symbols { parts.symbols ≤ 2 ^ 12 }
     requires strings { parts.strings ≤ 2 ^ 20 }
-    ensures { OnOk result (bytes.new.items ≡ bytes.old.items ++ spec.front_text words.now parts.symbols parts.strings) }
+    ensures { OnOk result (bytes.new.items ≡ bytes.old.items
+        ++ spec.front_text words.now parts.symbols parts.strings) }
 {
     put_file_header(bytes, parts.headers_at())?;
     put_program_header(bytes, parts.words)?;
@@ -210,7 +214,8 @@ fn put_back(bytes: &mut Vec<u8>, parts: Parts) -> Result<(), AllocError>
     requires words { parts.words ≤ 2 ^ 18 }
     requires symbols { parts.symbols ≤ 2 ^ 12 }
     requires strings { parts.strings ≤ 2 ^ 20 }
-    ensures { OnOk result (bytes.new.items ≡ bytes.old.items ++ spec.back_text parts.words parts.symbols parts.strings) }
+    ensures { OnOk result (bytes.new.items ≡ bytes.old.items
+        ++ spec.back_text parts.words parts.symbols parts.strings) }
 {
     put_names(bytes)?;
     put_zeros(bytes, padding_of(parts.names_at() + 33))?;
@@ -226,7 +231,8 @@ pub(crate) fn elf_file(
 ) -> Result<Vec<u8>, AllocError>
     requires words { length words.now ≤ 2 ^ 18 }
     requires small { AreSmall symbols.now }
-    ensures file { IfOk result (λ v. v.items ≡ spec.elf_file words.now (map symbol_of symbols.now)) }
+    ensures file { IfOk result (λ v. v.items ≡ spec.elf_file words.now
+        (map symbol_of symbols.now)) }
     ensures short { IfOk result (λ v. length v.items ≤ 2 ^ 22) }
 {
     let mut strings = Vec::new(alloc);

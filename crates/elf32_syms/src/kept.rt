@@ -79,7 +79,8 @@ fn hook(strings: &[u8], candidates: &[Entry], name: &[u8]) -> Option<u32>
 
 /// Whether a candidate comes before the one that is kept at its address so far.
 fn is_first(first: &BTreeMap<u32, Entry>, strings: &[u8], entry: Entry) -> bool
-    ensures { result ≡ option_map_or (comes_before_of strings.now entry) (get nat_cmp first.now entry.addr) true }
+    ensures { result ≡ option_map_or (comes_before_of strings.now entry)
+        (get nat_cmp first.now entry.addr) true }
 {
     match first.get(&entry.addr) {
         Some(best) => comes_before(strings, entry, *best),
@@ -93,7 +94,8 @@ fn first_at_each(
     strings: &[u8],
     candidates: &[Entry],
 ) -> Result<BTreeMap<u32, Entry>, AllocError>
-    ensures { IfOk result (λ first. (addr : ℕ) → get nat_cmp first addr ≡ kept_at strings.now candidates.now addr) }
+    ensures { IfOk result (λ first. (addr : ℕ) → get nat_cmp first addr
+        ≡ kept_at strings.now candidates.now addr) }
 {
     let mut first = BTreeMap::new(alloc);
     for entry in candidates {
@@ -164,7 +166,8 @@ pub(crate) fn read_functions(
     requires table { length table.now ≤ 67108864 }
     requires text { text_refusal sections.now ≡ None }
     requires high { high ≡ text_high sections.now }
-    ensures refusal { IfErr result (λ e. IsRefusal e (symbols_refusal sections.now table.now strings.now)) }
+    ensures refusal { IfErr result (λ e.
+        IsRefusal e (symbols_refusal sections.now table.now strings.now)) }
     ensures accepted { OnOk result (symbols_refusal sections.now table.now strings.now ≡ None) }
     ensures functions { IfOk result (λ f. AreFunctions sections.now strings.now
         (candidates_of strings.now (fitting_of sections.now table.now)) f) }

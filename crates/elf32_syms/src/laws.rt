@@ -7,7 +7,9 @@ ghost use Rattle.elf32_syms.specs.Symbols.{ranks_before, kept_at};
 /// Of the candidates at an address one is kept, before which no other of them comes, and none only
 /// where there is none.
 pub fn first_at_an_address()
-    ensures { (strings : List ℕ) (cs : List AnyEntry) (addr : ℕ) → MatchOption (kept_at strings cs addr)
+    ensures { (strings : List ℕ) (cs : List AnyEntry) (addr : ℕ)
+        → MatchOption (kept_at strings cs addr)
         (All (λ d. ¬ (d.addr ≡ addr)) cs)
-        (λ c. Contains cs c × (c.addr ≡ addr) × All (λ d. d.addr ≡ addr → ranks_before strings d c ≡ false) cs) }
+        (λ c. Contains cs c × (c.addr ≡ addr)
+        × All (λ d. d.addr ≡ addr → ranks_before strings d c ≡ false) cs) }
 {}

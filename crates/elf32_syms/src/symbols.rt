@@ -115,7 +115,8 @@ fn type_rank(entry: Entry) -> u8
 
 /// The order of two symbols' names.
 fn by_name(strings: &[u8], one: Entry, other: Entry) -> Ordering
-    ensures { result ≡ slice_cmp nat_cmp (symbol_name strings.now one) (symbol_name strings.now other) }
+    ensures { result ≡ slice_cmp nat_cmp (symbol_name strings.now one)
+        (symbol_name strings.now other) }
 {
     // The same bytes of the file are the same name.
     if one.name == other.name {

@@ -85,7 +85,8 @@ impl Frac {
 
     /// The exact sum; `None` where over the least common denominator one of its two numbers is 2^128 or more.
     pub fn add(&self, other: &Frac) -> Option<Frac>
-        ensures value { IfSome result (λ f. value_of f ≡ fraction_sum (value_of self.now) (value_of other.now)) }
+        ensures value { IfSome result (λ f. value_of f ≡ fraction_sum
+            (value_of self.now) (value_of other.now)) }
         ensures fits { IsSome result ↔ FitsSum (value_of self.now) (value_of other.now) }
     {
         let (num, den) = sum_numbers(self, other)?;
@@ -94,7 +95,8 @@ impl Frac {
 
     /// The exact product; `None` where in lowest terms one of its two numbers is 2^128 or more.
     pub fn mul(&self, other: &Frac) -> Option<Frac>
-        ensures value { IfSome result (λ f. value_of f ≡ product_of (value_of self.now) (value_of other.now)) }
+        ensures value { IfSome result (λ f. value_of f ≡ product_of
+            (value_of self.now) (value_of other.now)) }
         ensures fits { IsSome result ↔ FitsProduct (value_of self.now) (value_of other.now) }
     {
         let (num, den) = product_numbers(self, other)?;

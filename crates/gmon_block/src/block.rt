@@ -140,7 +140,8 @@ impl Block {
     /// each. Numbers have their lowest byte first; the last two bytes of an entry are 0.
     pub fn bytes(&self) -> &[u8]
         ensures layout { result.now ≡ layout_of self.now }
-        ensures size { length result.now ≡ 12 * length self.now.tos + 2 * length self.now.counters + 2 * length self.now.froms }
+        ensures size { length result.now ≡ 12 * length self.now.tos + 2 * length self.now.counters
+            + 2 * length self.now.froms }
         ensures fits { Fits self.now }
     {
         self.raw.as_slice()

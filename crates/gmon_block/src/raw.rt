@@ -51,7 +51,8 @@ impl<A: Allocator> Model for Lease<A> {
 impl Room {
     fn new<A: Allocator>(alloc: &A, len: usize) -> Result<(Room, Lease<A>), AllocError>
         requires { len < 2 ^ 63 }
-        ensures { IfOk result (λ r. (r.0.len ≡ len) × (r.1.alloc ≡ alloc.now) × (r.1.start ≡ r.0.start) × (r.1.len ≡ len)) }
+        ensures { IfOk result (λ r. (r.0.len ≡ len) × (r.1.alloc ≡ alloc.now)
+            × (r.1.start ≡ r.0.start) × (r.1.len ≡ len)) }
     {
         match alloc.allocate(len, 1) {
             Ok(start) => {
@@ -64,7 +65,8 @@ impl Room {
 
     // Each byte is written once.
     fn zeroed(self) -> Bytes
-        ensures { (result.start ≡ self.start) × (result.len ≡ self.len) × (result.items ≡ replicate self.len 0) }
+        ensures { (result.start ≡ self.start) × (result.len ≡ self.len)
+            × (result.items ≡ replicate self.len 0) }
     {
         let Room { start, len } = self;
         let mut i = 0;
@@ -115,7 +117,8 @@ impl Model for RawBytes {
 
     ghost view = { λ r. r.bytes.items };
 
-    ghost invariant = { λ r. (r.lease.alloc ≡ r.alloc) × (r.lease.start ≡ r.bytes.start) × (r.lease.len ≡ r.bytes.len) };
+    ghost invariant = { λ r. (r.lease.alloc ≡ r.alloc) × (r.lease.start ≡ r.bytes.start)
+        × (r.lease.len ≡ r.bytes.len) };
 }
 
 impl Drop for RawBytes {

@@ -19,7 +19,8 @@ use std::alloc::{AllocError, Global};
 /// 100. No file is written or read.
 pub fn run_profile(alloc: Global, gmon: &Gmon, rate: u32) -> Result<Profile, AllocError>
     ensures records { IfOk result (λ p. p ≡ content_of (runtime_records gmon.now rate)) }
-    ensures log { (log : List LogEntry) → StandsFor log gmon.now → IfOk result (λ p. p ≡ run_content gmon.now.sizes log rate) }
+    ensures log { (log : List LogEntry) → StandsFor log gmon.now
+        → IfOk result (λ p. p ≡ run_content gmon.now.sizes log rate) }
     ensures fits { IfOk result (λ _. AreSizes gmon.now.sizes × All CallFits gmon.now.arcs) }
 {
     let mut profile = hist_profile(alloc, gmon, rate)?;
@@ -44,7 +45,8 @@ fn counters_of(alloc: Global, gmon: &Gmon) -> Result<Totals, AllocError>
 
 /// A profile of the counters of a run alone.
 fn hist_profile(alloc: Global, gmon: &Gmon, rate: u32) -> Result<Profile, AllocError>
-    ensures hist { IfOk result (λ p. p ≡ content_of (WideHist (runtime_hist gmon.now) (seconds rate) ∷ [])) }
+    ensures hist { IfOk result (λ p. p ≡ content_of
+        (WideHist (runtime_hist gmon.now) (seconds rate) ∷ [])) }
     ensures bounds { IfOk result (λ p. IsOfRun 0 p) }
     ensures sizes { AreSizes gmon.now.sizes }
 {

@@ -58,7 +58,8 @@ impl Reader {
     /// have fewer than 2^32 bytes. A refusal is kept until `finish`.
     pub fn feed(&mut self, piece: &[u8]) -> Result<(), AllocError>
         requires { self.old.len + length piece.now < 2 ^ 32 }
-        ensures stands { OnOk result ((bytes : List ℕ) → StandsFor bytes self.old → StandsFor (bytes ++ piece.now) self.new) }
+        ensures stands { OnOk result ((bytes : List ℕ) → StandsFor bytes self.old
+            → StandsFor (bytes ++ piece.now) self.new) }
         ensures len { OnOk result (self.new.len ≡ self.old.len + length piece.now) }
         ensures unchanged { OnErr result (self.new ≡ self.old) }
     {
@@ -79,11 +80,16 @@ impl Reader {
     /// What the bytes that were fed are: the records that they spell, or their first refusal, in the order
     /// of `read`. A refusal takes no memory, so that want of it doesn't stand in for one.
     pub fn finish(self) -> Result<Records, GmonRefusal>
-        ensures refused { (bytes : List ℕ) → StandsFor bytes self → IfSome (bsd_refusal bytes) (λ refusal. result ≡ Err refusal) }
-        ensures refusal { (bytes : List ℕ) → StandsFor bytes self → IfErr result (λ refusal. IsRefusal refusal (bsd_refusal bytes)) }
-        ensures accepted { (bytes : List ℕ) → StandsFor bytes self → OnOk result (bsd_refusal bytes ≡ None) }
-        ensures records { (bytes : List ℕ) → StandsFor bytes self → IfOk result (λ records. records ≡ bsd_records bytes) }
-        ensures spelled { (bytes : List ℕ) → StandsFor bytes self → IfOk result (λ records. BsdSpells bytes records) }
+        ensures refused { (bytes : List ℕ) → StandsFor bytes self
+            → IfSome (bsd_refusal bytes) (λ refusal. result ≡ Err refusal) }
+        ensures refusal { (bytes : List ℕ) → StandsFor bytes self
+            → IfErr result (λ refusal. IsRefusal refusal (bsd_refusal bytes)) }
+        ensures accepted { (bytes : List ℕ) → StandsFor bytes self
+            → OnOk result (bsd_refusal bytes ≡ None) }
+        ensures records { (bytes : List ℕ) → StandsFor bytes self
+            → IfOk result (λ records. records ≡ bsd_records bytes) }
+        ensures spelled { (bytes : List ℕ) → StandsFor bytes self
+            → IfOk result (λ records. BsdSpells bytes records) }
     {
         let Reader {
             alloc,
@@ -116,11 +122,18 @@ impl Reader {
     /// records answers. After a refusal of the file the profile is unchanged.
     pub fn add_to(self, profile: &mut Profile) -> Result<(), ReadRefusal>
         requires { HasRoomFor profile.old self }
-        ensures accepted { (bytes : List ℕ) → StandsFor bytes self → OnOk result (bsd_refusal bytes ≡ None) }
-        ensures like { (bytes : List ℕ) → StandsFor bytes self → OnOk result (conflict_of profile.old (spelled_records bytes) ≡ None) }
-        ensures added { (bytes : List ℕ) → StandsFor bytes self → OnOk result (profile.new ≡ with_records (spelled_records bytes) profile.old) }
-        ensures refusal { (bytes : List ℕ) → StandsFor bytes self → IfErr result (λ refusal. IsReadRefusal refusal (bsd_refusal bytes) (conflict_of profile.old (spelled_records bytes))) }
-        ensures left { (bytes : List ℕ) → StandsFor bytes self → IfErr result (λ refusal. IsLeft refusal (spelled_records bytes) profile.old profile.new) }
+        ensures accepted { (bytes : List ℕ) → StandsFor bytes self
+            → OnOk result (bsd_refusal bytes ≡ None) }
+        ensures like { (bytes : List ℕ) → StandsFor bytes self
+            → OnOk result (conflict_of profile.old (spelled_records bytes) ≡ None) }
+        ensures added { (bytes : List ℕ) → StandsFor bytes self
+            → OnOk result (profile.new ≡ with_records (spelled_records bytes) profile.old) }
+        ensures refusal { (bytes : List ℕ) → StandsFor bytes self
+            → IfErr result (λ refusal. IsReadRefusal refusal (bsd_refusal bytes)
+            (conflict_of profile.old (spelled_records bytes))) }
+        ensures left { (bytes : List ℕ) → StandsFor bytes self
+            → IfErr result
+            (λ refusal. IsLeft refusal (spelled_records bytes) profile.old profile.new) }
     {
         let Reader {
             alloc: _,
@@ -144,9 +157,14 @@ fn add_parts(
     arcs: &[RawArc],
 ) -> Result<(), AddRefusal>
     requires range { 0 < length counters.now → header.low < header.high }
-    requires within { IsWithin (with_records (hist_and_arcs header.low header.high header.rate counters.now arcs.now) profile.old) }
-    ensures added { OnOk result (IsAdded (hist_and_arcs header.low header.high header.rate counters.now arcs.now) profile.old profile.new) }
-    ensures stopped { IfErr result (λ refusal. IsStopped refusal (hist_and_arcs header.low header.high header.rate counters.now arcs.now) profile.old profile.new) }
+    requires within { IsWithin (with_records
+        (hist_and_arcs header.low header.high header.rate counters.now arcs.now) profile.old) }
+    ensures added { OnOk result (IsAdded
+        (hist_and_arcs header.low header.high header.rate counters.now arcs.now) profile.old
+        profile.new) }
+    ensures stopped { IfErr result (λ refusal. IsStopped refusal
+        (hist_and_arcs header.low header.high header.rate counters.now arcs.now) profile.old
+        profile.new) }
 {
     let unit = Unit {
         rate: header.rate,

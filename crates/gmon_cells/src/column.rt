@@ -32,7 +32,8 @@ impl<T: Cell + Drop> Column<T> {
         requires { len ≤ 2 ^ 32 }
         ensures cells { self.new.cells.items ≡ self.old.cells.items }
         ensures torn { self.new.torn ≡ self.old.torn }
-        ensures room { OnOk result (vec_len self.new.cells + (length self.new.torn + len) / T.width ≤ vec_capacity self.new.cells) }
+        ensures room { OnOk result (vec_len self.new.cells + (length self.new.torn + len) / T.width
+            ≤ vec_capacity self.new.cells) }
     {
         let more = (self.torn.len() + len) / T::width();
         self.cells.reserve(more)
@@ -40,14 +41,19 @@ impl<T: Cell + Drop> Column<T> {
 
     /// Takes the next piece. There needs to be room for the cells that it makes whole.
     pub fn feed(&mut self, piece: &[u8])
-        requires room { vec_len self.old.cells + (length self.old.torn + length piece.now) / T.width ≤ vec_capacity self.old.cells }
+        requires room { vec_len self.old.cells + (length self.old.torn + length piece.now) / T.width
+            ≤ vec_capacity self.old.cells }
         requires torn { length self.old.torn ≤ T.width }
-        ensures cells { self.new.cells.items ≡ self.old.cells.items ++ cells_of T.width T.cell (self.old.torn ++ piece.now) }
+        ensures cells { self.new.cells.items ≡ self.old.cells.items
+            ++ cells_of T.width T.cell (self.old.torn ++ piece.now) }
         ensures torn { self.new.torn ≡ torn_of T.width (self.old.torn ++ piece.now) }
-        ensures count { vec_len self.new.cells ≡ vec_len self.old.cells + (length self.old.torn + length piece.now) / T.width }
+        ensures count { vec_len self.new.cells ≡ vec_len self.old.cells
+            + (length self.old.torn + length piece.now) / T.width }
         ensures capacity { vec_capacity self.new.cells ≡ vec_capacity self.old.cells }
         ensures short { length self.new.torn < T.width }
-        ensures stands { (bytes : List ℕ) → StandsFor T.width T.cell bytes self.old.cells.items self.old.torn → StandsFor T.width T.cell (bytes ++ piece.now) self.new.cells.items self.new.torn }
+        ensures stands { (bytes : List ℕ)
+            → StandsFor T.width T.cell bytes self.old.cells.items self.old.torn
+            → StandsFor T.width T.cell (bytes ++ piece.now) self.new.cells.items self.new.torn }
     {
         let width = T::width();
         let mut rest = piece;

@@ -22,7 +22,8 @@ pub fn write_run<H: Host>(
     host: &mut H,
 ) -> Result<(), Failed>
     requires { (H.outside host.old).is_writing ≡ true }
-    ensures puts { Puts File (file_text header.now tag.now gmon.now.counters gmon.now.arcs) (H.outside host.old) (H.outside host.new) result }
+    ensures puts { Puts File (file_text header.now tag.now gmon.now.counters gmon.now.arcs)
+        (H.outside host.old) (H.outside host.new) result }
 {
     let mut out = OutBuf::new();
     put_run(gmon, header, tag, &mut out, host)?;
@@ -37,7 +38,8 @@ fn put_run<H: Host>(
     host: &mut H,
 ) -> Result<(), Failed>
     requires { (H.outside host.old).is_writing ≡ true }
-    ensures adds { Adds File (file_text header.now tag.now gmon.now.counters gmon.now.arcs) out.old out.new (H.outside host.old) (H.outside host.new) result }
+    ensures adds { Adds File (file_text header.now tag.now gmon.now.counters gmon.now.arcs) out.old
+        out.new (H.outside host.old) (H.outside host.new) result }
     ensures ready { OnOk result ((H.outside host.new).is_writing ≡ true) }
 {
     out.put(host, header)?;
@@ -48,7 +50,8 @@ fn put_run<H: Host>(
 /// Puts the counters of a run, two bytes each.
 fn put_counters<H: Host>(gmon: &Gmon, out: &mut OutBuf, host: &mut H) -> Result<(), Failed>
     requires { (H.outside host.old).is_writing ≡ true }
-    ensures adds { Adds File (counters_text gmon.now.counters) out.old out.new (H.outside host.old) (H.outside host.new) result }
+    ensures adds { Adds File (counters_text gmon.now.counters) out.old out.new (H.outside host.old)
+        (H.outside host.new) result }
     ensures ready { OnOk result ((H.outside host.new).is_writing ≡ true) }
 {
     for i in 0..gmon.sizes().counters {
@@ -59,7 +62,8 @@ fn put_counters<H: Host>(gmon: &Gmon, out: &mut OutBuf, host: &mut H) -> Result<
 
 fn put_arcs<H: Host>(gmon: &Gmon, tag: &[u8], out: &mut OutBuf, host: &mut H) -> Result<(), Failed>
     requires { (H.outside host.old).is_writing ≡ true }
-    ensures adds { Adds File (flat_map (tagged_by tag.now) gmon.now.arcs) out.old out.new (H.outside host.old) (H.outside host.new) result }
+    ensures adds { Adds File (flat_map (tagged_by tag.now) gmon.now.arcs) out.old out.new
+        (H.outside host.old) (H.outside host.new) result }
     ensures ready { OnOk result ((H.outside host.new).is_writing ≡ true) }
 {
     for arc in gmon.arcs() {
@@ -76,7 +80,8 @@ pub fn put_arc<H: Host>(
     host: &mut H,
 ) -> Result<(), Failed>
     requires { (H.outside host.old).is_writing ≡ true }
-    ensures adds { Adds File (tagged_by tag.now arc) out.old out.new (H.outside host.old) (H.outside host.new) result }
+    ensures adds { Adds File (tagged_by tag.now arc) out.old out.new (H.outside host.old)
+        (H.outside host.new) result }
     ensures ready { OnOk result ((H.outside host.new).is_writing ≡ true) }
 {
     out.put(host, tag)?;

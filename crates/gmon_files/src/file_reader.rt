@@ -45,7 +45,8 @@ impl FileReader {
         requires small { len_of self + length piece.now < 2 ^ 32 }
         requires fed { IsFed self }
         ensures fed { IfOk result IsFed }
-        ensures stands { IfOk result (λ now. (bytes : List ℕ) → StandsFor bytes self → StandsFor (bytes ++ piece.now) now) }
+        ensures stands { IfOk result (λ now. (bytes : List ℕ) → StandsFor bytes self
+            → StandsFor (bytes ++ piece.now) now) }
         ensures len { IfOk result (λ now. len_of now ≡ len_of self + length piece.now) }
     {
         match self {
@@ -72,11 +73,16 @@ impl FileReader {
     /// no memory, so that want of it doesn't stand in for one.
     pub fn finish(self) -> Result<Records, GmonRefusal>
         requires { IsFed self }
-        ensures refused { (bytes : List ℕ) → StandsFor bytes self → IfSome (file_refusal bytes) (λ refusal. result ≡ Err refusal) }
-        ensures refusal { (bytes : List ℕ) → StandsFor bytes self → IfErr result (λ refusal. IsRefusal refusal (file_refusal bytes)) }
-        ensures accepted { (bytes : List ℕ) → StandsFor bytes self → OnOk result (file_refusal bytes ≡ None) }
-        ensures records { (bytes : List ℕ) → StandsFor bytes self → IfOk result (λ records. records ≡ file_records bytes) }
-        ensures spelled { (bytes : List ℕ) → StandsFor bytes self → IfOk result (λ records. FileSpells bytes records) }
+        ensures refused { (bytes : List ℕ) → StandsFor bytes self
+            → IfSome (file_refusal bytes) (λ refusal. result ≡ Err refusal) }
+        ensures refusal { (bytes : List ℕ) → StandsFor bytes self
+            → IfErr result (λ refusal. IsRefusal refusal (file_refusal bytes)) }
+        ensures accepted { (bytes : List ℕ) → StandsFor bytes self
+            → OnOk result (file_refusal bytes ≡ None) }
+        ensures records { (bytes : List ℕ) → StandsFor bytes self
+            → IfOk result (λ records. records ≡ file_records bytes) }
+        ensures spelled { (bytes : List ℕ) → StandsFor bytes self
+            → IfOk result (λ records. FileSpells bytes records) }
     {
         match self {
             FileReader::Front(front) => Err(GmonRefusal::Short {
@@ -93,11 +99,18 @@ impl FileReader {
     pub fn add_to(self, profile: &mut Profile) -> Result<(), ReadRefusal>
         requires fed { IsFed self }
         requires room { HasRoomFor profile.old self }
-        ensures accepted { (bytes : List ℕ) → StandsFor bytes self → OnOk result (file_refusal bytes ≡ None) }
-        ensures like { (bytes : List ℕ) → StandsFor bytes self → OnOk result (conflict_of profile.old (spelled_records bytes) ≡ None) }
-        ensures added { (bytes : List ℕ) → StandsFor bytes self → OnOk result (profile.new ≡ with_records (spelled_records bytes) profile.old) }
-        ensures refusal { (bytes : List ℕ) → StandsFor bytes self → IfErr result (λ refusal. IsReadRefusal refusal (file_refusal bytes) (conflict_of profile.old (spelled_records bytes))) }
-        ensures left { (bytes : List ℕ) → StandsFor bytes self → IfErr result (λ refusal. IsLeft refusal (spelled_records bytes) profile.old profile.new) }
+        ensures accepted { (bytes : List ℕ) → StandsFor bytes self
+            → OnOk result (file_refusal bytes ≡ None) }
+        ensures like { (bytes : List ℕ) → StandsFor bytes self
+            → OnOk result (conflict_of profile.old (spelled_records bytes) ≡ None) }
+        ensures added { (bytes : List ℕ) → StandsFor bytes self
+            → OnOk result (profile.new ≡ with_records (spelled_records bytes) profile.old) }
+        ensures refusal { (bytes : List ℕ) → StandsFor bytes self
+            → IfErr result (λ refusal. IsReadRefusal refusal (file_refusal bytes)
+            (conflict_of profile.old (spelled_records bytes))) }
+        ensures left { (bytes : List ℕ) → StandsFor bytes self
+            → IfErr result
+            (λ refusal. IsLeft refusal (spelled_records bytes) profile.old profile.new) }
     {
         match self {
             FileReader::Front(front) => Err(ReadRefusal::File(GmonRefusal::Short {

@@ -15,9 +15,12 @@ impl State {
         requires held { AreWithin self.now }
         requires run { self.now.run ≤ length self.now.arcs.items }
         requires ranges { HaveRanges self.now }
-        requires within { IsWithinLimits (with_records (wide_records (recs_of self.now)) profile.old) }
-        ensures added { OnOk result (IsAdded (wide_records (recs_of self.now)) profile.old profile.new) }
-        ensures stopped { IfErr result (λ refusal. IsStopped refusal (wide_records (recs_of self.now)) profile.old profile.new) }
+        requires within { IsWithinLimits
+            (with_records (wide_records (recs_of self.now)) profile.old) }
+        ensures added { OnOk result (IsAdded
+            (wide_records (recs_of self.now)) profile.old profile.new) }
+        ensures stopped { IfErr result (λ refusal. IsStopped refusal
+            (wide_records (recs_of self.now)) profile.old profile.new) }
     {
         let arcs = self.arcs.as_slice();
         self.make_room(profile);
@@ -38,9 +41,15 @@ impl State {
     fn add_entries(&self, profile: &mut Profile) -> Result<(), AddRefusal>
         requires held { AreWithin self.now }
         requires ranges { HaveRanges self.now }
-        requires within { IsWithinLimits (with_records (entries_recs self.now.counters.cells.items self.now.pairs.cells.items self.now.arcs.items self.now.entries.items) profile.old) }
-        ensures added { OnOk result (IsAdded (entries_recs self.now.counters.cells.items self.now.pairs.cells.items self.now.arcs.items self.now.entries.items) profile.old profile.new) }
-        ensures stopped { IfErr result (λ refusal. IsStopped refusal (entries_recs self.now.counters.cells.items self.now.pairs.cells.items self.now.arcs.items self.now.entries.items) profile.old profile.new) }
+        requires within { IsWithinLimits
+            (with_records (entries_recs self.now.counters.cells.items self.now.pairs.cells.items
+            self.now.arcs.items self.now.entries.items) profile.old) }
+        ensures added { OnOk result (IsAdded
+            (entries_recs self.now.counters.cells.items self.now.pairs.cells.items
+            self.now.arcs.items self.now.entries.items) profile.old profile.new) }
+        ensures stopped { IfErr result (λ refusal. IsStopped refusal
+            (entries_recs self.now.counters.cells.items self.now.pairs.cells.items
+            self.now.arcs.items self.now.entries.items) profile.old profile.new) }
     {
         let counters = self.counters.cells.as_slice();
         let pairs = self.pairs.cells.as_slice();
@@ -63,9 +72,13 @@ fn add_entry(
 ) -> Result<(), AddRefusal>
     requires spans { IsWithin (length counters.now) (length pairs.now) (length arcs.now) entry }
     requires range { HasRange (rec_of counters.now pairs.now entry.body) }
-    requires within { IsWithinLimits (with_records (wide_records (entry_recs counters.now pairs.now arcs.now entry)) profile.old) }
-    ensures added { OnOk result (IsAdded (wide_records (entry_recs counters.now pairs.now arcs.now entry)) profile.old profile.new) }
-    ensures stopped { IfErr result (λ refusal. IsStopped refusal (wide_records (entry_recs counters.now pairs.now arcs.now entry)) profile.old profile.new) }
+    requires within { IsWithinLimits
+        (with_records (wide_records (entry_recs counters.now pairs.now arcs.now entry))
+        profile.old) }
+    ensures added { OnOk result (IsAdded
+        (wide_records (entry_recs counters.now pairs.now arcs.now entry)) profile.old profile.new) }
+    ensures stopped { IfErr result (λ refusal. IsStopped refusal
+        (wide_records (entry_recs counters.now pairs.now arcs.now entry)) profile.old profile.new) }
 {
     profile.add_arcs(&arcs[entry.first..entry.last])?;
     add_body(profile, entry.body, counters, pairs)
@@ -80,9 +93,12 @@ fn add_body(
 ) -> Result<(), AddRefusal>
     requires spans { IsBodyWithin (length counters.now) (length pairs.now) body }
     requires range { HasRange (rec_of counters.now pairs.now body) }
-    requires within { IsWithinLimits (with_records (wide_record (rec_of counters.now pairs.now body)) profile.old) }
-    ensures added { OnOk result (IsAdded (wide_record (rec_of counters.now pairs.now body)) profile.old profile.new) }
-    ensures stopped { IfErr result (λ refusal. IsStopped refusal (wide_record (rec_of counters.now pairs.now body)) profile.old profile.new) }
+    requires within { IsWithinLimits
+        (with_records (wide_record (rec_of counters.now pairs.now body)) profile.old) }
+    ensures added { OnOk result (IsAdded
+        (wide_record (rec_of counters.now pairs.now body)) profile.old profile.new) }
+    ensures stopped { IfErr result (λ refusal. IsStopped refusal
+        (wide_record (rec_of counters.now pairs.now body)) profile.old profile.new) }
 {
     match body {
         Body::Hist { fields, start, end } => {

@@ -18,7 +18,8 @@ use host_port::{Failed, Host, OutBuf};
 pub fn write_blocks<H: Host>(low: u32, counts: &[u32], host: &mut H) -> Result<(), Failed>
     requires within { (i : ℕ) → i < length counts.now → low + 4 * i < 2 ^ 32 }
     requires ready { (H.outside host.old).is_writing ≡ true }
-    ensures { Puts File (block_record low counts.now) (H.outside host.old) (H.outside host.new) result }
+    ensures { Puts File (block_record low counts.now) (H.outside host.old)
+        (H.outside host.new) result }
 {
     let mut out = OutBuf::new();
     put_record(low, counts, &mut out, host)?;
@@ -33,7 +34,8 @@ fn put_record<H: Host>(
 ) -> Result<(), Failed>
     requires within { (i : ℕ) → i < length counts.now → low + 4 * i < 2 ^ 32 }
     requires ready { (H.outside host.old).is_writing ≡ true }
-    ensures adds { Adds File (block_record low counts.now) out.old out.new (H.outside host.old) (H.outside host.new) result }
+    ensures adds { Adds File (block_record low counts.now) out.old out.new (H.outside host.old)
+        (H.outside host.new) result }
     ensures ready { OnOk result ((H.outside host.new).is_writing ≡ true) }
 {
     let number = executed(counts);
@@ -65,7 +67,9 @@ fn put_pairs<H: Host>(
 ) -> Result<(), Failed>
     requires within { (i : ℕ) → i < length counts.now → low + 4 * i < 2 ^ 32 }
     requires ready { (H.outside host.old).is_writing ≡ true }
-    ensures adds { Adds File (flat_map (λ i. pair_bytes (low + 4 * i) (slice_index counts.now i)) (range_with_len 0 (length counts.now))) out.old out.new (H.outside host.old) (H.outside host.new) result }
+    ensures adds { Adds File (flat_map (λ i. pair_bytes (low + 4 * i) (slice_index counts.now i))
+        (range_with_len 0 (length counts.now))) out.old out.new (H.outside host.old)
+        (H.outside host.new) result }
     ensures ready { OnOk result ((H.outside host.new).is_writing ≡ true) }
 {
     for i in 0..counts.len() {
@@ -77,7 +81,8 @@ fn put_pairs<H: Host>(
 /// An address and its count, unless that is 0.
 fn put_pair<H: Host>(addr: u32, count: u32, out: &mut OutBuf, host: &mut H) -> Result<(), Failed>
     requires { (H.outside host.old).is_writing ≡ true }
-    ensures adds { Adds File (pair_bytes addr count) out.old out.new (H.outside host.old) (H.outside host.new) result }
+    ensures adds { Adds File (pair_bytes addr count) out.old out.new (H.outside host.old)
+        (H.outside host.new) result }
     ensures ready { OnOk result ((H.outside host.new).is_writing ≡ true) }
 {
     if count == 0 {

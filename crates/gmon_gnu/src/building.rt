@@ -14,7 +14,9 @@ impl State {
     /// What is wrong with a file of `len` bytes that ends here.
     pub(crate) fn end_fault(&self, len: u32) -> Option<GmonRefusal>
         requires { IsHeld self.now }
-        ensures { resume len (open_of self.now.part self.now.counters.cells.items self.now.pairs.cells.items) (rest_of self.now.part self.now.torn self.now.counters.torn self.now.pairs.torn) ≡ ending_result result }
+        ensures { resume len (open_of self.now.part self.now.counters.cells.items
+            self.now.pairs.cells.items) (rest_of self.now.part self.now.torn self.now.counters.torn
+            self.now.pairs.torn) ≡ ending_result result }
     {
         match self.part {
             Part::Between => {
@@ -58,7 +60,8 @@ fn push_entry(
     arcs: &[RawArc],
 ) -> Result<(), AllocError>
     requires { IsWithin (length counters.now) (length pairs.now) (length arcs.now) entry }
-    ensures { OnOk result (recs.new.items ≡ recs.old.items ++ entry_recs counters.now pairs.now arcs.now entry) }
+    ensures { OnOk result (recs.new.items ≡ recs.old.items
+        ++ entry_recs counters.now pairs.now arcs.now entry) }
 {
     push_arcs(recs, &arcs[entry.first..entry.last])?;
     recs.push(record_of(alloc, entry.body, counters, pairs)?)?;

@@ -57,9 +57,11 @@ fn records_fault(len: u32, records: &[u8]) -> Option<GmonRefusal>
 fn skip_record<'a>(len: u32, text: &'a [u8]) -> Result<&'a [u8], GmonRefusal>
     requires some { 0 < length text.now }
     requires within { length text.now ≤ len }
-    ensures behind { IfOk result (λ rest. refusal_read (records_on len text.now) ≡ refusal_read (records_on len rest.now)) }
+    ensures behind { IfOk result (λ rest. refusal_read (records_on len text.now)
+        ≡ refusal_read (records_on len rest.now)) }
     ensures less { IfOk result (λ rest. length rest.now < length text.now) }
-    ensures refused { IfErr result (λ refusal. refusal_read (records_on len text.now) ≡ Some refusal) }
+    ensures refused { IfErr result (λ refusal. refusal_read
+        (records_on len text.now) ≡ Some refusal) }
 {
     let width = width_of(text[0]);
     if text.len() < width {

@@ -12,8 +12,10 @@ ghost use Rattle.gmon_gnu.specs.Run.{RunsAreSpelled, RunsAreReadBack};
 
 /// A text has exactly one meaning, exactly where nothing is refused.
 pub fn one_meaning()
-    ensures spelled { (bytes : List ℕ) → IsBytes bytes → gnu_refusal bytes ≡ None → GnuSpells bytes (gnu_records bytes) }
-    ensures accepted { (bytes : List ℕ) (r : Records) → GnuSpells bytes r → gnu_refusal bytes ≡ None }
+    ensures spelled { (bytes : List ℕ) → IsBytes bytes → gnu_refusal bytes ≡ None
+        → GnuSpells bytes (gnu_records bytes) }
+    ensures accepted { (bytes : List ℕ) (r : Records) → GnuSpells bytes r
+        → gnu_refusal bytes ≡ None }
     ensures only { (bytes : List ℕ) (r : Records) → GnuSpells bytes r → r ≡ gnu_records bytes }
 {}
 

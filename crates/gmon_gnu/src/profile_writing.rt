@@ -33,7 +33,8 @@ pub(crate) const BLOCKS_TAG: u8 = 2;
 /// written, and not the whole. The text is read back as the profile. Takes no memory.
 pub fn write<H: Host>(profile: &Profile, host: &mut H) -> Result<(), Failed>
     requires { (H.outside host.old).is_writing ≡ true }
-    ensures puts { Puts File (profile_text profile.now) (H.outside host.old) (H.outside host.new) result }
+    ensures puts { Puts File (profile_text profile.now) (H.outside host.old)
+        (H.outside host.new) result }
     ensures read { IsReadBack profile.now }
 {
     profile.holds();
@@ -44,7 +45,8 @@ pub fn write<H: Host>(profile: &Profile, host: &mut H) -> Result<(), Failed>
 
 fn put_profile<H: Host>(profile: &Profile, out: &mut OutBuf, host: &mut H) -> Result<(), Failed>
     requires { (H.outside host.old).is_writing ≡ true }
-    ensures adds { Adds File (profile_text profile.now) out.old out.new (H.outside host.old) (H.outside host.new) result }
+    ensures adds { Adds File (profile_text profile.now) out.old out.new (H.outside host.old)
+        (H.outside host.new) result }
     ensures ready { OnOk result ((H.outside host.new).is_writing ≡ true) }
 {
     out.put(host, &HEADER)?;
@@ -55,7 +57,8 @@ fn put_profile<H: Host>(profile: &Profile, out: &mut OutBuf, host: &mut H) -> Re
 
 fn put_hists<H: Host>(profile: &Profile, out: &mut OutBuf, host: &mut H) -> Result<(), Failed>
     requires { (H.outside host.old).is_writing ≡ true }
-    ensures adds { Adds File (flat_map rec_bytes (hist_recs profile.now.«unit» profile.now.hists)) out.old out.new (H.outside host.old) (H.outside host.new) result }
+    ensures adds { Adds File (flat_map rec_bytes (hist_recs profile.now.«unit» profile.now.hists))
+        out.old out.new (H.outside host.old) (H.outside host.new) result }
     ensures ready { OnOk result ((H.outside host.new).is_writing ≡ true) }
 {
     match profile.unit() {
@@ -71,7 +74,8 @@ fn put_hists_in<H: Host>(
     host: &mut H,
 ) -> Result<(), Failed>
     requires { (H.outside host.old).is_writing ≡ true }
-    ensures adds { Adds File (flat_map (hist_pieces_text «unit») profile.now.hists) out.old out.new (H.outside host.old) (H.outside host.new) result }
+    ensures adds { Adds File (flat_map (hist_pieces_text «unit») profile.now.hists) out.old out.new
+        (H.outside host.old) (H.outside host.new) result }
     ensures ready { OnOk result ((H.outside host.new).is_writing ≡ true) }
 {
     for i in 0..profile.hist_count() {
@@ -89,7 +93,8 @@ fn put_hist_pieces<H: Host>(
 ) -> Result<(), Failed>
     requires few { length hist.now.counters < 2 ^ 32 }
     requires ready { (H.outside host.old).is_writing ≡ true }
-    ensures adds { Adds File (hist_pieces_text «unit» hist.now) out.old out.new (H.outside host.old) (H.outside host.new) result }
+    ensures adds { Adds File (hist_pieces_text «unit» hist.now) out.old out.new (H.outside host.old)
+        (H.outside host.new) result }
     ensures ready { OnOk result ((H.outside host.new).is_writing ≡ true) }
 {
     for j in 0..pieces(MOST_SAMPLES, largest(hist.counters.as_slice())) {
@@ -109,7 +114,8 @@ fn put_hist_piece<H: Host>(
     requires few { length hist.now.counters < 2 ^ 32 }
     requires within { j * 65535 < 2 ^ 64 }
     requires ready { (H.outside host.old).is_writing ≡ true }
-    ensures adds { Adds File (hist_bytes (raw_hist «unit» (hist_piece hist.now j))) out.old out.new (H.outside host.old) (H.outside host.new) result }
+    ensures adds { Adds File (hist_bytes (raw_hist «unit» (hist_piece hist.now j))) out.old out.new
+        (H.outside host.old) (H.outside host.new) result }
     ensures ready { OnOk result ((H.outside host.new).is_writing ≡ true) }
 {
     put_hist_header(hist, unit, out, host)?;
@@ -124,7 +130,8 @@ fn put_hist_header<H: Host>(
 ) -> Result<(), Failed>
     requires few { length hist.now.counters < 2 ^ 32 }
     requires ready { (H.outside host.old).is_writing ≡ true }
-    ensures adds { Adds File (hist_header «unit» hist.now) out.old out.new (H.outside host.old) (H.outside host.new) result }
+    ensures adds { Adds File (hist_header «unit» hist.now) out.old out.new (H.outside host.old)
+        (H.outside host.new) result }
     ensures ready { OnOk result ((H.outside host.new).is_writing ≡ true) }
 {
     let counters = hist.counters.as_slice().len() as u32;
@@ -143,7 +150,8 @@ fn put_counters<H: Host>(
 ) -> Result<(), Failed>
     requires within { j * 65535 < 2 ^ 64 }
     requires ready { (H.outside host.old).is_writing ≡ true }
-    ensures adds { Adds File (flat_map (λ n. counter_bytes (spec_piece 65535 j n)) counters.now) out.old out.new (H.outside host.old) (H.outside host.new) result }
+    ensures adds { Adds File (flat_map (λ n. counter_bytes (spec_piece 65535 j n)) counters.now)
+        out.old out.new (H.outside host.old) (H.outside host.new) result }
     ensures ready { OnOk result ((H.outside host.new).is_writing ≡ true) }
 {
     for i in 0..counters.len() {
@@ -154,7 +162,8 @@ fn put_counters<H: Host>(
 
 fn put_calls<H: Host>(profile: &Profile, out: &mut OutBuf, host: &mut H) -> Result<(), Failed>
     requires { (H.outside host.old).is_writing ≡ true }
-    ensures adds { Adds File (flat_map arc_text_of profile.now.arcs) out.old out.new (H.outside host.old) (H.outside host.new) result }
+    ensures adds { Adds File (flat_map arc_text_of profile.now.arcs) out.old out.new
+        (H.outside host.old) (H.outside host.new) result }
     ensures ready { OnOk result ((H.outside host.new).is_writing ≡ true) }
 {
     for i in 0..profile.arc_count() {
@@ -173,7 +182,8 @@ fn put_pair<H: Host>(
     host: &mut H,
 ) -> Result<(), Failed>
     requires { (H.outside host.old).is_writing ≡ true }
-    ensures adds { Adds File (arc_text_of ((from, to), calls)) out.old out.new (H.outside host.old) (H.outside host.new) result }
+    ensures adds { Adds File (arc_text_of ((from, to), calls)) out.old out.new (H.outside host.old)
+        (H.outside host.new) result }
     ensures ready { OnOk result ((H.outside host.new).is_writing ≡ true) }
 {
     for j in 0..pieces(MOST_CALLS, calls) {
@@ -185,7 +195,9 @@ fn put_pair<H: Host>(
 
 fn put_runs<H: Host>(profile: &Profile, out: &mut OutBuf, host: &mut H) -> Result<(), Failed>
     requires { (H.outside host.old).is_writing ≡ true }
-    ensures adds { Adds File (flat_map (λ es. blocks_bytes (map raw_block es)) (rounds_of profile.now.blocks)) out.old out.new (H.outside host.old) (H.outside host.new) result }
+    ensures adds { Adds File (flat_map (λ es. blocks_bytes (map raw_block es))
+        (rounds_of profile.now.blocks)) out.old out.new (H.outside host.old)
+        (H.outside host.new) result }
     ensures ready { OnOk result ((H.outside host.new).is_writing ≡ true) }
 {
     if profile.block_count() == 0 {
@@ -217,7 +229,8 @@ fn put_rounds<H: Host>(
 ) -> Result<(), Failed>
     requires within { (rounds - 1) * 4294967295 < 2 ^ 64 }
     requires ready { (H.outside host.old).is_writing ≡ true }
-    ensures adds { Adds File (rounds_text 0 rounds profile.now.blocks) out.old out.new (H.outside host.old) (H.outside host.new) result }
+    ensures adds { Adds File (rounds_text 0 rounds profile.now.blocks) out.old out.new
+        (H.outside host.old) (H.outside host.new) result }
     ensures ready { OnOk result ((H.outside host.new).is_writing ≡ true) }
 {
     let mut few = [(0, 0); FEW];
@@ -245,7 +258,8 @@ fn put_round<H: Host>(
     requires counted { left ≡ length (left_of j profile.now.blocks) }
     requires marked { AreMarks j profile.now.blocks marks.now }
     requires ready { (H.outside host.old).is_writing ≡ true }
-    ensures adds { Adds File (round_bytes profile.now.blocks j) out.old out.new (H.outside host.old) (H.outside host.new) result }
+    ensures adds { Adds File (round_bytes profile.now.blocks j) out.old out.new (H.outside host.old)
+        (H.outside host.new) result }
     ensures ready { OnOk result ((H.outside host.new).is_writing ≡ true) }
 {
     out.put(host, &[BLOCKS_TAG])?;
@@ -280,7 +294,8 @@ fn list_part(j: u64, part: usize, listed: u32, profile: &Profile, few: &mut [(u3
     requires part { part * 64 ≤ length profile.now.blocks }
     requires listed { listed ≤ part * 64 }
     ensures counted { result ≡ listed + length (left_of j (part_of part profile.now.blocks)) }
-    ensures listed { result ≤ length few.new → take result few.new ≡ take listed few.old ++ left_of j (part_of part profile.now.blocks) }
+    ensures listed { result ≤ length few.new → take result few.new ≡ take listed few.old
+        ++ left_of j (part_of part profile.now.blocks) }
 {
     let mut left = listed;
     for k in 0..part_len(part, profile) {
@@ -353,7 +368,8 @@ fn put_few_rounds<H: Host>(
     requires listed { listed ≤ length few.old }
     requires short { length few.old < 2 ^ 32 }
     requires ready { (H.outside host.old).is_writing ≡ true }
-    ensures adds { Adds File (rounds_text first (rounds - first) (take listed few.old)) out.old out.new (H.outside host.old) (H.outside host.new) result }
+    ensures adds { Adds File (rounds_text first (rounds - first) (take listed few.old)) out.old
+        out.new (H.outside host.old) (H.outside host.new) result }
     ensures ready { OnOk result ((H.outside host.new).is_writing ≡ true) }
 {
     let mut left = listed;
@@ -375,7 +391,8 @@ fn put_few<H: Host>(
     requires counted { length few.now ≡ length (left_of j few.now) }
     requires short { length few.now < 2 ^ 32 }
     requires ready { (H.outside host.old).is_writing ≡ true }
-    ensures adds { Adds File (round_bytes few.now j) out.old out.new (H.outside host.old) (H.outside host.new) result }
+    ensures adds { Adds File (round_bytes few.now j) out.old out.new (H.outside host.old)
+        (H.outside host.new) result }
     ensures ready { OnOk result ((H.outside host.new).is_writing ≡ true) }
 {
     out.put(host, &[BLOCKS_TAG])?;
@@ -391,7 +408,8 @@ fn put_listed<H: Host>(
 ) -> Result<(), Failed>
     requires within { j * 4294967295 < 2 ^ 64 }
     requires ready { (H.outside host.old).is_writing ≡ true }
-    ensures adds { Adds File (flat_map (left_bytes j) few.now) out.old out.new (H.outside host.old) (H.outside host.new) result }
+    ensures adds { Adds File (flat_map (left_bytes j) few.now) out.old out.new (H.outside host.old)
+        (H.outside host.new) result }
     ensures ready { OnOk result ((H.outside host.new).is_writing ≡ true) }
 {
     for i in 0..few.len() {
@@ -412,7 +430,8 @@ fn put_left<H: Host>(
     requires within { j * 4294967295 < 2 ^ 64 }
     requires marked { AreMarks j profile.now.blocks marks.now }
     requires ready { (H.outside host.old).is_writing ≡ true }
-    ensures adds { Adds File (flat_map (left_bytes j) profile.now.blocks) out.old out.new (H.outside host.old) (H.outside host.new) result }
+    ensures adds { Adds File (flat_map (left_bytes j) profile.now.blocks) out.old out.new
+        (H.outside host.old) (H.outside host.new) result }
     ensures ready { OnOk result ((H.outside host.new).is_writing ≡ true) }
 {
     for part in 0..parts(profile) {
@@ -434,7 +453,8 @@ fn put_part<H: Host>(
     requires part { part * 64 ≤ length profile.now.blocks }
     requires marked { mark ≡ false → left_of j (part_of part profile.now.blocks) ≡ [] }
     requires ready { (H.outside host.old).is_writing ≡ true }
-    ensures adds { Adds File (flat_map (left_bytes j) (part_of part profile.now.blocks)) out.old out.new (H.outside host.old) (H.outside host.new) result }
+    ensures adds { Adds File (flat_map (left_bytes j) (part_of part profile.now.blocks)) out.old
+        out.new (H.outside host.old) (H.outside host.new) result }
     ensures ready { OnOk result ((H.outside host.new).is_writing ≡ true) }
 {
     if !mark {
@@ -457,7 +477,8 @@ fn put_block<H: Host>(
 ) -> Result<(), Failed>
     requires within { j * 4294967295 < 2 ^ 64 }
     requires ready { (H.outside host.old).is_writing ≡ true }
-    ensures adds { Adds File (left_bytes j (addr, runs)) out.old out.new (H.outside host.old) (H.outside host.new) result }
+    ensures adds { Adds File (left_bytes j (addr, runs)) out.old out.new (H.outside host.old)
+        (H.outside host.new) result }
     ensures ready { OnOk result ((H.outside host.new).is_writing ≡ true) }
 {
     if !has_left(j, runs) {

@@ -53,7 +53,8 @@ impl Reader {
     /// have fewer than 2^32 bytes. A refusal is kept until `finish`.
     pub fn feed(&mut self, piece: &[u8]) -> Result<(), AllocError>
         requires { self.old.len + length piece.now < 2 ^ 32 }
-        ensures stands { OnOk result ((bytes : List ℕ) → StandsFor bytes self.old → StandsFor (bytes ++ piece.now) self.new) }
+        ensures stands { OnOk result ((bytes : List ℕ) → StandsFor bytes self.old
+            → StandsFor (bytes ++ piece.now) self.new) }
         ensures len { OnOk result (self.new.len ≡ self.old.len + length piece.now) }
         ensures unchanged { OnErr result (self.new ≡ self.old) }
     {
@@ -67,11 +68,16 @@ impl Reader {
     /// What the bytes that were fed are: the records that they spell, or their first refusal, in the order
     /// of `read`. A refusal takes no memory, so that want of it doesn't stand in for one.
     pub fn finish(self) -> Result<Records, GmonRefusal>
-        ensures refused { (bytes : List ℕ) → StandsFor bytes self → IfSome (gnu_refusal bytes) (λ refusal. result ≡ Err refusal) }
-        ensures refusal { (bytes : List ℕ) → StandsFor bytes self → IfErr result (λ refusal. IsRefusal refusal (gnu_refusal bytes)) }
-        ensures accepted { (bytes : List ℕ) → StandsFor bytes self → OnOk result (gnu_refusal bytes ≡ None) }
-        ensures records { (bytes : List ℕ) → StandsFor bytes self → IfOk result (λ records. records ≡ gnu_records bytes) }
-        ensures spelled { (bytes : List ℕ) → StandsFor bytes self → IfOk result (λ records. GnuSpells bytes records) }
+        ensures refused { (bytes : List ℕ) → StandsFor bytes self
+            → IfSome (gnu_refusal bytes) (λ refusal. result ≡ Err refusal) }
+        ensures refusal { (bytes : List ℕ) → StandsFor bytes self
+            → IfErr result (λ refusal. IsRefusal refusal (gnu_refusal bytes)) }
+        ensures accepted { (bytes : List ℕ) → StandsFor bytes self
+            → OnOk result (gnu_refusal bytes ≡ None) }
+        ensures records { (bytes : List ℕ) → StandsFor bytes self
+            → IfOk result (λ records. records ≡ gnu_records bytes) }
+        ensures spelled { (bytes : List ℕ) → StandsFor bytes self
+            → IfOk result (λ records. GnuSpells bytes records) }
     {
         let Reader { alloc, len, state } = self;
         match state.end_fault(len) {
@@ -91,11 +97,18 @@ impl Reader {
     /// records answers. After a refusal of the file the profile is unchanged.
     pub fn add_to(self, profile: &mut Profile) -> Result<(), ReadRefusal>
         requires { HasRoomFor profile.old self }
-        ensures accepted { (bytes : List ℕ) → StandsFor bytes self → OnOk result (gnu_refusal bytes ≡ None) }
-        ensures like { (bytes : List ℕ) → StandsFor bytes self → OnOk result (conflict_of profile.old (spelled_records bytes) ≡ None) }
-        ensures added { (bytes : List ℕ) → StandsFor bytes self → OnOk result (profile.new ≡ with_records (spelled_records bytes) profile.old) }
-        ensures refusal { (bytes : List ℕ) → StandsFor bytes self → IfErr result (λ refusal. IsReadRefusal refusal (gnu_refusal bytes) (conflict_of profile.old (spelled_records bytes))) }
-        ensures left { (bytes : List ℕ) → StandsFor bytes self → IfErr result (λ refusal. IsLeft refusal (spelled_records bytes) profile.old profile.new) }
+        ensures accepted { (bytes : List ℕ) → StandsFor bytes self
+            → OnOk result (gnu_refusal bytes ≡ None) }
+        ensures like { (bytes : List ℕ) → StandsFor bytes self
+            → OnOk result (conflict_of profile.old (spelled_records bytes) ≡ None) }
+        ensures added { (bytes : List ℕ) → StandsFor bytes self
+            → OnOk result (profile.new ≡ with_records (spelled_records bytes) profile.old) }
+        ensures refusal { (bytes : List ℕ) → StandsFor bytes self
+            → IfErr result (λ refusal. IsReadRefusal refusal (gnu_refusal bytes)
+            (conflict_of profile.old (spelled_records bytes))) }
+        ensures left { (bytes : List ℕ) → StandsFor bytes self
+            → IfErr result
+            (λ refusal. IsLeft refusal (spelled_records bytes) profile.old profile.new) }
     {
         let Reader {
             alloc: _,

@@ -59,7 +59,8 @@ impl State {
         requires room { HasRoom (length piece.now) self.old }
         requires within { length self.old.torn + length piece.now ≤ total }
         ensures held { IsHeld self.new }
-        ensures goes { (whole : List ℕ) → length whole ≡ total → Goes whole self.old piece.now → Goes whole self.new [] }
+        ensures goes { (whole : List ℕ) → length whole ≡ total
+            → Goes whole self.old piece.now → Goes whole self.new [] }
         ensures within { length self.new.torn ≤ total }
     {
         let mut rest = piece;
@@ -77,7 +78,8 @@ impl State {
         ensures held { IsHeld self.new }
         ensures room { HasRoom (length result.now) self.new }
         ensures within { length self.new.torn + length result.now ≤ total }
-        ensures goes { (whole : List ℕ) → length whole ≡ total → Goes whole self.old piece.now → Goes whole self.new result.now }
+        ensures goes { (whole : List ℕ) → length whole ≡ total → Goes whole self.old piece.now
+            → Goes whole self.new result.now }
         ensures less { length result.now < length piece.now }
     {
         match self.part {
@@ -102,7 +104,8 @@ impl State {
         ensures held { IsHeld self.new }
         ensures room { HasRoom (length result.now) self.new }
         ensures within { length self.new.torn + length result.now ≤ total }
-        ensures goes { (whole : List ℕ) → length whole ≡ total → Goes whole self.old piece.now → Goes whole self.new result.now }
+        ensures goes { (whole : List ℕ) → length whole ≡ total → Goes whole self.old piece.now
+            → Goes whole self.new result.now }
         ensures less { length result.now < length piece.now }
     {
         let rest = self.torn.fill(HEADER, piece);
@@ -128,7 +131,8 @@ impl State {
         ensures held { IsHeld self.new }
         ensures room { HasRoom (length result.now) self.new }
         ensures within { length self.new.torn + length result.now ≤ total }
-        ensures goes { (whole : List ℕ) → length whole ≡ total → Goes whole self.old piece.now → Goes whole self.new result.now }
+        ensures goes { (whole : List ℕ) → length whole ≡ total → Goes whole self.old piece.now
+            → Goes whole self.new result.now }
         ensures less { length result.now < length piece.now }
     {
         if self.torn.len() == 0 {
@@ -166,7 +170,8 @@ impl State {
         requires arcs_room { vec_len self.old.arcs + arcs_of begun ≤ vec_capacity self.old.arcs }
         requires room { vec_len self.old.entries + cost_of begun ≤ vec_capacity self.old.entries }
         ensures held { IsHeld self.new }
-        ensures goes { (whole rest : List ℕ) → Follows whole (recs_of self.old) begun rest → Goes whole self.new rest }
+        ensures goes { (whole rest : List ℕ) → Follows whole (recs_of self.old) begun rest
+            → Goes whole self.new rest }
         ensures torn { self.new.torn ≡ [] }
         ensures counters { self.new.counters.cells ≡ self.old.counters.cells }
         ensures half { length self.new.counters.torn ≤ length self.old.counters.torn }
@@ -174,7 +179,8 @@ impl State {
         ensures pair { length self.new.pairs.torn ≤ length self.old.pairs.torn }
         ensures arcs { vec_len self.new.arcs ≡ vec_len self.old.arcs + arcs_of begun }
         ensures arcs_room { vec_capacity self.new.arcs ≡ vec_capacity self.old.arcs }
-        ensures entries { vec_len self.new.entries + pending_entries self.new.part ≤ vec_len self.old.entries + cost_of begun }
+        ensures entries { vec_len self.new.entries + pending_entries self.new.part
+            ≤ vec_len self.old.entries + cost_of begun }
         ensures capacity { vec_capacity self.new.entries ≡ vec_capacity self.old.entries }
     {
         match begun {
@@ -204,12 +210,16 @@ impl State {
         requires run { self.old.run ≤ length self.old.arcs.items }
         requires room { vec_len self.old.entries + 1 ≤ vec_capacity self.old.entries }
         ensures held { IsHeld self.new }
-        ensures goes { (whole rest : List ℕ) → Reads whole (recs_of self.old) (InHist (hist_with fields (drop start self.old.counters.cells.items)) left) (self.old.counters.torn ++ rest) → Goes whole self.new rest }
+        ensures goes { (whole rest : List ℕ)
+            → Reads whole (recs_of self.old)
+            (InHist (hist_with fields (drop start self.old.counters.cells.items)) left)
+            (self.old.counters.torn ++ rest) → Goes whole self.new rest }
         ensures torn { self.new.torn ≡ [] }
         ensures counters { self.new.counters ≡ self.old.counters }
         ensures pairs { self.new.pairs ≡ self.old.pairs }
         ensures arcs { self.new.arcs ≡ self.old.arcs }
-        ensures entries { vec_len self.new.entries + pending_entries self.new.part ≤ vec_len self.old.entries + 1 }
+        ensures entries { vec_len self.new.entries + pending_entries self.new.part
+            ≤ vec_len self.old.entries + 1 }
         ensures capacity { vec_capacity self.new.entries ≡ vec_capacity self.old.entries }
     {
         if left > 0 {
@@ -236,12 +246,15 @@ impl State {
         requires run { self.old.run ≤ length self.old.arcs.items }
         requires room { vec_len self.old.entries + 1 ≤ vec_capacity self.old.entries }
         ensures held { IsHeld self.new }
-        ensures goes { (whole rest : List ℕ) → Reads whole (recs_of self.old) (InBlocks (drop start self.old.pairs.cells.items) left) (self.old.pairs.torn ++ rest) → Goes whole self.new rest }
+        ensures goes { (whole rest : List ℕ)
+            → Reads whole (recs_of self.old) (InBlocks (drop start self.old.pairs.cells.items) left)
+            (self.old.pairs.torn ++ rest) → Goes whole self.new rest }
         ensures torn { self.new.torn ≡ [] }
         ensures counters { self.new.counters ≡ self.old.counters }
         ensures pairs { self.new.pairs ≡ self.old.pairs }
         ensures arcs { self.new.arcs ≡ self.old.arcs }
-        ensures entries { vec_len self.new.entries + pending_entries self.new.part ≤ vec_len self.old.entries + 1 }
+        ensures entries { vec_len self.new.entries + pending_entries self.new.part
+            ≤ vec_len self.old.entries + 1 }
         ensures capacity { vec_capacity self.new.entries ≡ vec_capacity self.old.entries }
     {
         if left > 0 {
@@ -256,7 +269,9 @@ impl State {
     /// Adds a record behind the arcs that have come since the last one.
     fn add(&mut self, body: Body)
         requires { vec_len self.old.entries < vec_capacity self.old.entries }
-        ensures entries { self.new.entries.items ≡ self.old.entries.items ++ record { first = self.old.run; last = length self.old.arcs.items; body = body } ∷ [] }
+        ensures entries { self.new.entries.items ≡ self.old.entries.items
+            ++ record { first = self.old.run; last = length self.old.arcs.items; body = body }
+            ∷ [] }
         ensures len { vec_len self.new.entries ≡ vec_len self.old.entries + 1 }
         ensures capacity { vec_capacity self.new.entries ≡ vec_capacity self.old.entries }
         ensures run { self.new.run ≡ length self.old.arcs.items }
@@ -295,7 +310,8 @@ impl State {
         ensures held { IsHeld self.new }
         ensures room { HasRoom (length result.now) self.new }
         ensures within { length self.new.torn + length result.now ≤ total }
-        ensures goes { (whole : List ℕ) → length whole ≡ total → Goes whole self.old piece.now → Goes whole self.new result.now }
+        ensures goes { (whole : List ℕ) → length whole ≡ total → Goes whole self.old piece.now
+            → Goes whole self.new result.now }
         ensures less { length result.now < length piece.now }
     {
         let due = left as usize * 2 - self.counters.torn.len();
@@ -319,7 +335,8 @@ impl State {
         ensures held { IsHeld self.new }
         ensures room { HasRoom (length result.now) self.new }
         ensures within { length self.new.torn + length result.now ≤ total }
-        ensures goes { (whole : List ℕ) → length whole ≡ total → Goes whole self.old piece.now → Goes whole self.new result.now }
+        ensures goes { (whole : List ℕ) → length whole ≡ total → Goes whole self.old piece.now
+            → Goes whole self.new result.now }
         ensures less { length result.now < length piece.now }
     {
         let due = left as usize * 8 - self.pairs.torn.len();
@@ -349,7 +366,8 @@ pub(crate) fn width_of(tag: u8) -> usize
 /// What the front of a record that stands at `at` says.
 pub(crate) fn front_of(at: u32, front: &[u8]) -> Begun
     requires { IsFront front.now }
-    ensures says { (len : ℕ) (rest : List ℕ) → at ≡ len - length (front.now ++ rest) → records_on len (front.now ++ rest) ≡ begun_on len result rest }
+    ensures says { (len : ℕ) (rest : List ℕ) → at ≡ len - length (front.now ++ rest)
+        → records_on len (front.now ++ rest) ≡ begun_on len result rest }
     ensures cost { 5 * cost_of result ≤ length front.now }
     ensures arcs { 13 * arcs_of result ≤ length front.now }
 {
@@ -371,7 +389,8 @@ pub(crate) fn front_of(at: u32, front: &[u8]) -> Begun
 fn hist_front(at: u32, front: &[u8]) -> Begun
     requires width { length front.now ≡ 33 }
     requires tag { slice_index front.now 0 ≡ 0 }
-    ensures says { (len : ℕ) (rest : List ℕ) → at ≡ len - length (front.now ++ rest) → records_on len (front.now ++ rest) ≡ begun_on len result rest }
+    ensures says { (len : ℕ) (rest : List ℕ) → at ≡ len - length (front.now ++ rest)
+        → records_on len (front.now ++ rest) ≡ begun_on len result rest }
     ensures cost { cost_of result ≤ 1 }
     ensures arcs { arcs_of result ≡ 0 }
 {

@@ -27,7 +27,8 @@ pub(crate) const ARC_TAG: [u8; 1] = [1];
 /// not the whole. Takes no memory.
 pub fn write_run<H: Host>(gmon: &Gmon, rate: u32, host: &mut H) -> Result<(), Failed>
     requires { (H.outside host.old).is_writing ≡ true }
-    ensures puts { Puts File (runtime_text gmon.now rate) (H.outside host.old) (H.outside host.new) result }
+    ensures puts { Puts File (runtime_text gmon.now rate) (H.outside host.old)
+        (H.outside host.new) result }
     ensures log { (log : List LogEntry) → StandsFor log gmon.now →
         runtime_text gmon.now rate ≡ gnu_run_text gmon.now.sizes log rate }
 {

@@ -40,8 +40,10 @@ impl OutBuf {
     /// `Failed` nothing is pending, and what was written is a prefix of what it would be, and not the whole.
     pub fn put<H: Host>(&mut self, host: &mut H, bytes: &[u8]) -> Result<(), Failed>
         requires { (H.outside host.old).is_writing ≡ true }
-        ensures adds { Adds Side.File bytes.now self.old self.new (H.outside host.old) (H.outside host.new) result }
-        ensures fits { length self.old + length bytes.now ≤ 4096 → self.new ≡ self.old ++ bytes.now }
+        ensures adds { Adds Side.File bytes.now self.old self.new (H.outside host.old)
+            (H.outside host.new) result }
+        ensures fits { length self.old + length bytes.now ≤ 4096
+            → self.new ≡ self.old ++ bytes.now }
         ensures idle { length self.old + length bytes.now ≤ 4096 → host.new ≡ host.old }
         ensures within { length self.new ≤ 4096 }
     {
@@ -51,7 +53,8 @@ impl OutBuf {
     /// Writes the pending bytes. After `Failed` too nothing is pending.
     pub fn flush<H: Host>(&mut self, host: &mut H) -> Result<(), Failed>
         requires { (H.outside host.old).is_writing ≡ true }
-        ensures adds { Adds Side.File [] self.old self.new (H.outside host.old) (H.outside host.new) result }
+        ensures adds { Adds Side.File [] self.old self.new (H.outside host.old)
+            (H.outside host.new) result }
         ensures emptied { self.new ≡ [] }
         ensures idle { self.old ≡ [] → host.new ≡ host.old }
     {
@@ -86,8 +89,10 @@ impl PrintBuf {
     /// Puts bytes behind those that are pending. No call is made on the host while all of them fit. After
     /// `Failed` nothing is pending, and what was printed is a prefix of what it would be, and not the whole.
     pub fn put<H: Host>(&mut self, host: &mut H, bytes: &[u8]) -> Result<(), Failed>
-        ensures adds { Adds Side.Output bytes.now self.old self.new (H.outside host.old) (H.outside host.new) result }
-        ensures fits { length self.old + length bytes.now ≤ 4096 → self.new ≡ self.old ++ bytes.now }
+        ensures adds { Adds Side.Output bytes.now self.old self.new (H.outside host.old)
+            (H.outside host.new) result }
+        ensures fits { length self.old + length bytes.now ≤ 4096
+            → self.new ≡ self.old ++ bytes.now }
         ensures idle { length self.old + length bytes.now ≤ 4096 → host.new ≡ host.old }
         ensures within { length self.new ≤ 4096 }
     {
@@ -96,7 +101,8 @@ impl PrintBuf {
 
     /// Prints the pending bytes. After `Failed` too nothing is pending.
     pub fn flush<H: Host>(&mut self, host: &mut H) -> Result<(), Failed>
-        ensures adds { Adds Side.Output [] self.old self.new (H.outside host.old) (H.outside host.new) result }
+        ensures adds { Adds Side.Output [] self.old self.new (H.outside host.old)
+            (H.outside host.new) result }
         ensures emptied { self.new ≡ [] }
         ensures idle { self.old ≡ [] → host.new ≡ host.old }
     {
@@ -133,8 +139,10 @@ impl Pending {
 
     fn put<H: Host>(&mut self, side: Side, host: &mut H, bytes: &[u8]) -> Result<(), Failed>
         requires { IsReady side (H.outside host.old) }
-        ensures adds { Adds side bytes.now self.old self.new (H.outside host.old) (H.outside host.new) result }
-        ensures fits { length self.old + length bytes.now ≤ 4096 → self.new ≡ self.old ++ bytes.now }
+        ensures adds { Adds side bytes.now self.old self.new (H.outside host.old)
+            (H.outside host.new) result }
+        ensures fits { length self.old + length bytes.now ≤ 4096
+            → self.new ≡ self.old ++ bytes.now }
         ensures idle { length self.old + length bytes.now ≤ 4096 → host.new ≡ host.old }
         ensures within { length self.new ≤ 4096 }
     {
@@ -152,7 +160,8 @@ impl Pending {
 
     fn flush<H: Host>(&mut self, side: Side, host: &mut H) -> Result<(), Failed>
         requires { IsReady side (H.outside host.old) }
-        ensures adds { Adds side [] self.old self.new (H.outside host.old) (H.outside host.new) result }
+        ensures adds { Adds side [] self.old self.new (H.outside host.old)
+            (H.outside host.new) result }
         ensures emptied { self.new ≡ [] }
         ensures idle { self.old ≡ [] → host.new ≡ host.old }
     {

@@ -25,8 +25,10 @@ pub fn find(entries: &[Entry], name: &str) -> Option<usize>
     ensures place { result ≡ place_of name.now (files_of entries.now) }
     ensures in_range { IfSome result (λ i. i < length entries.now) }
     ensures found { MatchOption result
-        ((has_file name.now (files_of entries.now) ≡ false) × (file_content name.now (files_of entries.now) ≡ []))
-        (λ i. (has_file name.now (files_of entries.now) ≡ true) × (file_content name.now (files_of entries.now) ≡ bytes_at (files_of entries.now) i)) }
+        ((has_file name.now (files_of entries.now) ≡ false)
+        × (file_content name.now (files_of entries.now) ≡ []))
+        (λ i. (has_file name.now (files_of entries.now) ≡ true)
+        × (file_content name.now (files_of entries.now) ≡ bytes_at (files_of entries.now) i)) }
 {
     for (i, entry) in entries.iter().enumerate() {
         if entry.name.as_str() == name {
@@ -51,9 +53,11 @@ pub fn start_of(entries: &[Entry], name: &str) -> Place
 
 /// Moves bytes from a place in a file to the front of `buf`, goes on by them, and answers how many.
 pub fn read_from(entries: &[Entry], place: &mut Place, buf: &mut [u8]) -> usize
-    ensures number { result ≡ min (length buf.old) (length (rest_at (files_of entries.now) place.old)) }
+    ensures number { result ≡ min (length buf.old)
+        (length (rest_at (files_of entries.now) place.old)) }
     ensures bytes { take result buf.new ≡ take result (rest_at (files_of entries.now) place.old) }
-    ensures rest { rest_at (files_of entries.now) place.new ≡ drop result (rest_at (files_of entries.now) place.old) }
+    ensures rest { rest_at (files_of entries.now) place.new
+        ≡ drop result (rest_at (files_of entries.now) place.old) }
 {
     if place.file >= entries.len() {
         return 0;
@@ -73,7 +77,8 @@ pub fn read_from(entries: &[Entry], place: &mut Place, buf: &mut [u8]) -> usize
 pub fn content<'a>(entries: &'a [Entry], name: &str) -> Option<&'a [u8]>
     ensures { MatchOption result
         (has_file name.now (files_of entries.now) ≡ false)
-        (λ bytes. (has_file name.now (files_of entries.now) ≡ true) × (bytes.now ≡ file_content name.now (files_of entries.now))) }
+        (λ bytes. (has_file name.now (files_of entries.now) ≡ true)
+        × (bytes.now ≡ file_content name.now (files_of entries.now))) }
 {
     let i = find(entries, name)?;
     Some(entries[i].bytes.as_slice())
@@ -86,7 +91,8 @@ pub fn set(
     name: &str,
     bytes: Vec<u8>,
 ) -> Result<(), AllocError>
-    ensures done { OnOk result (files_of entries.new.items ≡ with_file name.now bytes.items (files_of entries.old.items)) }
+    ensures done { OnOk result (files_of entries.new.items
+        ≡ with_file name.now bytes.items (files_of entries.old.items)) }
     ensures unchanged { OnErr result (files_of entries.new.items ≡ files_of entries.old.items) }
 {
     match find(entries, name) {
@@ -101,7 +107,8 @@ pub fn set(
 
 /// Gives the named file these bytes more.
 pub fn append(entries: &mut Vec<Entry>, name: &str, bytes: &[u8]) -> Result<(), AllocError>
-    ensures done { OnOk result (files_of entries.new.items ≡ with_more name.now bytes.now (files_of entries.old.items)) }
+    ensures done { OnOk result (files_of entries.new.items
+        ≡ with_more name.now bytes.now (files_of entries.old.items)) }
     ensures unchanged { OnErr result (files_of entries.new.items ≡ files_of entries.old.items) }
 {
     match find(entries, name) {

@@ -87,7 +87,8 @@ impl Model for MemHost {
     ghost use Rattle.std.specs.Prelude.{◌≤◌, ◌+◌};
     ghost use Rattle.host_port.specs.Memory.{IsFirstOf};
 
-    ghost invariant = { λ a. (1 ≤ a.step) × IsFirstOf a.first_failed (a.read_faults + a.write_faults + a.err_faults) };
+    ghost invariant = { λ a. (1 ≤ a.step) × IsFirstOf a.first_failed
+        (a.read_faults + a.write_faults + a.err_faults) };
 }
 
 fn is_marked(marks: &[u64], call: u64) -> bool
@@ -124,7 +125,11 @@ impl MemHost {
     /// Gives the named file these bytes. An input that is open is closed.
     pub fn put(&mut self, name: &str, bytes: &[u8]) -> Result<(), AllocError>
         ensures done { OnOk result
-            (self.new ≡ record self.old { files = with_file name.now bytes.now self.old.files; rest = None }) }
+            (self.new ≡ record self.old {
+              files = with_file name.now bytes.now
+                  self.old.files;
+              rest = None;
+            }) }
         ensures unchanged { OnErr result (self.new ≡ self.old) }
     {
         let bytes = Vec::from_slice(self.alloc, bytes)?;
@@ -156,14 +161,16 @@ impl MemHost {
     /// The kind of the first call of the trait that failed, `None` exactly where none did.
     pub fn first_failed(&self) -> Option<HostCall>
         ensures first { result ≡ self.now.first_failed }
-        ensures some { IsFirstOf result (self.now.read_faults + self.now.write_faults + self.now.err_faults) }
+        ensures some { IsFirstOf result (self.now.read_faults
+            + self.now.write_faults + self.now.err_faults) }
     {
         self.first_failed
     }
 
     /// How many calls of the trait failed; it stays at 2^64 - 1.
     pub fn failures(&self) -> u64
-        ensures { result ≡ min (self.now.read_faults + self.now.write_faults + self.now.err_faults) (2 ^ 64 - 1) }
+        ensures { result ≡ min (self.now.read_faults + self.now.write_faults + self.now.err_faults)
+            (2 ^ 64 - 1) }
     {
         self.read_faults
             .saturating_add(self.write_faults)
@@ -174,7 +181,8 @@ impl MemHost {
     pub fn file(&self, name: &str) -> Option<&[u8]>
         ensures { MatchOption result
             (has_file name.now self.now.files ≡ false)
-            (λ bytes. (has_file name.now self.now.files ≡ true) × (bytes.now ≡ file_content name.now self.now.files)) }
+            (λ bytes. (has_file name.now self.now.files ≡ true)
+            × (bytes.now ≡ file_content name.now self.now.files)) }
     {
         files::content(self.entries.as_slice(), name)
     }
@@ -206,7 +214,8 @@ impl MemHost {
     /// The same of a call that doesn't complain.
     fn starts_work(&mut self) -> bool
         ensures fails { IsTrue result ↔ IsMarked self.old }
-        ensures counted { self.new ≡ record self.old { calls = next_count self.old.calls; last_failed = false } }
+        ensures counted { self.new ≡ record self.old
+            { calls = next_count self.old.calls; last_failed = false } }
     {
         let fails = self.starts_call();
         self.last_failed = false;
@@ -267,7 +276,8 @@ impl MemHost {
         requires { self.old.writing ≡ None }
         ensures found { result ≡ has_file name.now self.old.files }
         ensures after { self.new ≡ record self.old {
-          rest = if has_file name.now self.old.files then Some (file_content name.now self.old.files) else None;
+          rest = if has_file name.now self.old.files then Some
+              (file_content name.now self.old.files) else None;
         } }
     {
         match files::find(self.entries.as_slice(), name) {
@@ -295,9 +305,11 @@ impl MemHost {
     /// Moves bytes of the open input.
     fn take_rest(&mut self, buf: &mut [u8]) -> usize
         requires { 0 < length buf.old }
-        ensures number { result ≡ min (min (length buf.old) self.old.step) (length (unwrap_or self.old.rest [])) }
+        ensures number { result ≡ min (min (length buf.old) self.old.step)
+            (length (unwrap_or self.old.rest [])) }
         ensures came { IfSome self.old.rest (λ rest. Came result rest buf.new) }
-        ensures after { self.new ≡ record self.old { rest = option_map (drop result) self.old.rest } }
+        ensures after { self.new ≡ record self.old
+            { rest = option_map (drop result) self.old.rest } }
     {
         let room = buf.len().min(self.step);
         match &mut self.stage {
@@ -337,7 +349,8 @@ impl MemHost {
     }
 
     fn end_writing(&mut self)
-        ensures { self.new ≡ record self.old { writing = None; file_changes = next_count self.old.file_changes } }
+        ensures { self.new ≡ record self.old
+            { writing = None; file_changes = next_count self.old.file_changes } }
     {
         self.file_changes = self.file_changes.saturating_add(1);
         if let Stage::Writing(_) = &self.stage {
@@ -355,7 +368,8 @@ impl Host for MemHost {
         requires { (outside_of self.old).is_writing ≡ false }
         ensures opens { Opens name.now (outside_of self.old) (outside_of self.new) result }
         ensures counts { Reads (outside_of self.old) (outside_of self.new) result }
-        ensures fails { IsErr result ↔ (IsMarked self.old ⊎ (has_file name.now self.old.files ≡ false)) }
+        ensures fails { IsErr result ↔ (IsMarked self.old
+            ⊎ (has_file name.now self.old.files ≡ false)) }
         ensures called { Called HostCall.OpenInput self.old self.new result }
         ensures tally { Tallies (λ m. m.read_faults) self.old self.new result }
     {
@@ -376,7 +390,8 @@ impl Host for MemHost {
         ensures moves { Moves buf.old buf.new (outside_of self.old) (outside_of self.new) result }
         ensures counts { Reads (outside_of self.old) (outside_of self.new) result }
         ensures fails { IsErr result ↔ IsMarked self.old }
-        ensures step { IfOk result (λ n. n ≡ min (min (length buf.old) self.old.step) (length (unwrap_or self.old.rest []))) }
+        ensures step { IfOk result (λ n. n ≡ min (min (length buf.old) self.old.step)
+            (length (unwrap_or self.old.rest []))) }
         ensures called { Called HostCall.Read self.old self.new result }
         ensures tally { Tallies (λ m. m.read_faults) self.old self.new result }
     {
@@ -454,7 +469,8 @@ impl Host for MemHost {
 
     fn err(&mut self, piece: &[u8]) -> Result<usize, Failed>
         requires { 0 < length piece.now }
-        ensures takes { Takes Complain piece.now (outside_of self.old) (outside_of self.new) result }
+        ensures takes { Takes Complain piece.now (outside_of self.old)
+            (outside_of self.new) result }
         ensures counts { Complains (outside_of self.old) (outside_of self.new) result }
         ensures last { (outside_of self.new).last_failed ≡ (outside_of self.old).last_failed }
         ensures fails { IsMarked self.old → IsErr result }

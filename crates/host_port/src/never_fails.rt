@@ -46,7 +46,15 @@ impl Model for NeverFails {
 impl NeverFails {
     /// A host with no files, which takes no memory yet.
     pub fn new(alloc: Global) -> NeverFails
-        ensures { result ≡ record { files = []; rest = None; at_end = false; tells = true; is_writing = false; opened = 0; file_changes = 0 } }
+        ensures { result ≡ record {
+          files = [];
+          rest = None;
+          at_end = false;
+          tells = true;
+          is_writing = false;
+          opened = 0;
+          file_changes = 0;
+        } }
     {
         NeverFails {
             alloc,
@@ -63,7 +71,11 @@ impl NeverFails {
     /// Gives the named file these bytes. An input that is open is closed.
     pub fn put(&mut self, name: &str, bytes: &[u8]) -> Result<(), AllocError>
         ensures done { OnOk result
-            (self.new ≡ record self.old { files = with_file name.now bytes.now self.old.files; rest = None }) }
+            (self.new ≡ record self.old {
+              files = with_file name.now bytes.now
+                  self.old.files;
+              rest = None;
+            }) }
         ensures unchanged { OnErr result (self.new ≡ self.old) }
     {
         let bytes = Vec::from_slice(self.alloc, bytes)?;
@@ -102,7 +114,8 @@ impl Host for NeverFails {
         ensures moves { Moves buf.old buf.new (outside_of self.old) (outside_of self.new) result }
         ensures counts { Reads (outside_of self.old) (outside_of self.new) result }
         ensures succeeds { IsOk result }
-        ensures whole { IfOk result (λ n. n ≡ min (length buf.old) (length (unwrap_or self.old.rest []))) }
+        ensures whole { IfOk result (λ n. n ≡ min (length buf.old)
+            (length (unwrap_or self.old.rest []))) }
         ensures came { IfOk result (λ n. IfSome self.old.rest (λ rest. Came n rest buf.new)) }
         ensures after { IfOk result (λ n. self.new ≡ record self.old {
           rest = option_map (drop n) self.old.rest;
@@ -151,7 +164,8 @@ impl Host for NeverFails {
         ensures closes { Closes (outside_of self.old) (outside_of self.new) }
         ensures counts { Writes (outside_of self.old) (outside_of self.new) result }
         ensures succeeds { IsOk result }
-        ensures after { self.new ≡ record self.old { is_writing = false; file_changes = next_count self.old.file_changes } }
+        ensures after { self.new ≡ record self.old
+            { is_writing = false; file_changes = next_count self.old.file_changes } }
     {
         self.is_writing = false;
         self.file_changes = self.file_changes.saturating_add(1);
@@ -170,7 +184,8 @@ impl Host for NeverFails {
 
     fn err(&mut self, piece: &[u8]) -> Result<usize, Failed>
         requires { 0 < length piece.now }
-        ensures takes { Takes Complain piece.now (outside_of self.old) (outside_of self.new) result }
+        ensures takes { Takes Complain piece.now (outside_of self.old)
+            (outside_of self.new) result }
         ensures counts { Complains (outside_of self.old) (outside_of self.new) result }
         ensures last { (outside_of self.new).last_failed ≡ (outside_of self.old).last_failed }
         ensures succeeds { result ≡ Ok (length piece.now) }

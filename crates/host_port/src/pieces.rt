@@ -29,7 +29,8 @@ pub fn out_all_of<H: Host>(host: &mut H, piece: &[u8]) -> Result<(), Failed>
 /// Prints the whole piece on the error output. After `Failed` a prefix of the piece was printed, and not
 /// the whole. An empty piece makes no call on the host.
 pub fn err_all_of<H: Host>(host: &mut H, piece: &[u8]) -> Result<(), Failed>
-    ensures puts { Puts Side.ErrorOutput piece.now (H.outside host.old) (H.outside host.new) result }
+    ensures puts { Puts Side.ErrorOutput piece.now (H.outside host.old)
+        (H.outside host.new) result }
     ensures idle { length piece.now ≡ 0 → host.new ≡ host.old }
 {
     put_all(Side::ErrorOutput, host, piece)

@@ -123,20 +123,26 @@ impl Run {
     pub fn turn<H: Host>(&mut self, hart: u32, host: &mut H) -> Result<Turned, Failed>
         requires live { IsLive self.old }
         requires hart { hart < self.old.machine.setup.harts }
-        ensures stands { OnOk result ((w : World) → StandsFor w self.old → StandsFor (turn_of self.old.machine w hart) self.new) }
+        ensures stands { OnOk result ((w : World) → StandsFor w self.old
+            → StandsFor (turn_of self.old.machine w hart) self.new) }
         ensures answer { IfOk result (λ turned. turned ≡ turned_of self.new.ending) }
         ensures live { IsLive self.new ↔ (result ≡ Ok Going) }
         ensures machine { self.new.machine ≡ self.old.machine }
-        ensures note { OnOk result ((w : World) → StandsFor w self.old → self.new.note ≡ note_of self.old.machine w hart) }
+        ensures note { OnOk result ((w : World) → StandsFor w self.old
+            → self.new.note ≡ note_of self.old.machine w hart) }
         ensures kept { OnErr result (self.new.note ≡ self.old.note) }
         ensures open { OnErr result (self.new.ending ≡ None) }
 
         // What the outside has gained.
         ensures prints { OnOk result ((w : World) → StandsFor w self.old
-            → ArePrinted w (turn_of self.old.machine w hart) (H.outside host.old) (H.outside host.new)) }
+            → ArePrinted w (turn_of self.old.machine w hart)
+            (H.outside host.old) (H.outside host.new)) }
         ensures fails { OnErr result ((w : World) → StandsFor w self.old
-            → BreaksOff w (turn_of self.old.machine w hart) (H.outside host.old) (H.outside host.new)) }
-        ensures counts { MatchResult result (λ _. KeepsCounts (H.outside host.old) (H.outside host.new)) (λ _. PrintFailed (H.outside host.old) (H.outside host.new)) }
+            → BreaksOff w (turn_of self.old.machine w hart)
+            (H.outside host.old) (H.outside host.new)) }
+        ensures counts { MatchResult result
+            (λ _. KeepsCounts (H.outside host.old) (H.outside host.new))
+            (λ _. PrintFailed (H.outside host.old) (H.outside host.new)) }
         ensures writing { (H.outside host.new).is_writing ≡ (H.outside host.old).is_writing }
         ensures input { KeepsInput (H.outside host.old) (H.outside host.new) }
 
@@ -163,7 +169,8 @@ impl Run {
     fn advance<H: Host>(&mut self, hart: u32, host: &mut H) -> Result<Turned, Failed>
         requires live { IsLive self.old }
         requires hart { hart < self.old.machine.setup.harts }
-        ensures stands { OnOk result ((w : World) → StandsFor w self.old → StandsFor (turn_of self.old.machine w hart) self.new) }
+        ensures stands { OnOk result ((w : World) → StandsFor w self.old
+            → StandsFor (turn_of self.old.machine w hart) self.new) }
         ensures answer { IfOk result (λ turned. turned ≡ turned_of self.new.ending) }
         ensures live { IsLive self.new ↔ (result ≡ Ok Going) }
         ensures machine { self.new.machine ≡ self.old.machine }
@@ -172,10 +179,14 @@ impl Run {
 
         // What the outside has gained.
         ensures prints { OnOk result ((w : World) → StandsFor w self.old
-            → ArePrinted w (turn_of self.old.machine w hart) (H.outside host.old) (H.outside host.new)) }
+            → ArePrinted w (turn_of self.old.machine w hart)
+            (H.outside host.old) (H.outside host.new)) }
         ensures fails { OnErr result ((w : World) → StandsFor w self.old
-            → BreaksOff w (turn_of self.old.machine w hart) (H.outside host.old) (H.outside host.new)) }
-        ensures counts { MatchResult result (λ _. KeepsCounts (H.outside host.old) (H.outside host.new)) (λ _. PrintFailed (H.outside host.old) (H.outside host.new)) }
+            → BreaksOff w (turn_of self.old.machine w hart)
+            (H.outside host.old) (H.outside host.new)) }
+        ensures counts { MatchResult result
+            (λ _. KeepsCounts (H.outside host.old) (H.outside host.new))
+            (λ _. PrintFailed (H.outside host.old) (H.outside host.new)) }
         ensures writing { (H.outside host.new).is_writing ≡ (H.outside host.old).is_writing }
         ensures input { KeepsInput (H.outside host.old) (H.outside host.new) }
 
@@ -201,7 +212,8 @@ impl Run {
     /// memory.
     pub fn drive<H: Host>(&mut self, host: &mut H) -> Result<End, Failed>
         requires { IsLive self.old }
-        ensures stands { OnOk result ((w : World) → StandsFor w self.old → StandsFor (after_drive self.old.machine w) self.new) }
+        ensures stands { OnOk result ((w : World) → StandsFor w self.old
+            → StandsFor (after_drive self.old.machine w) self.new) }
         ensures answer { IfOk result (λ end. self.new.ending ≡ Some end) }
         ensures open { OnErr result (self.new.ending ≡ None) }
         ensures live { IsLive self.new → ⊥ }
@@ -210,11 +222,16 @@ impl Run {
 
         // What the outside has gained. A print fails in a turn of the plan before which the run hasn't ended.
         ensures prints { OnOk result ((w : World) → StandsFor w self.old
-            → ArePrinted w (after_drive self.old.machine w) (H.outside host.old) (H.outside host.new)) }
+            → ArePrinted w (after_drive self.old.machine w)
+            (H.outside host.old) (H.outside host.new)) }
         ensures fails { OnErr result ((w : World) → StandsFor w self.old
-            → (n : ℕ) × (n < most_turns self.old.machine.setup) × ((world_at self.old.machine w n).ending ≡ None)
-            × BreaksOff w (world_at self.old.machine w (n + 1)) (H.outside host.old) (H.outside host.new)) }
-        ensures counts { MatchResult result (λ _. KeepsCounts (H.outside host.old) (H.outside host.new)) (λ _. PrintFailed (H.outside host.old) (H.outside host.new)) }
+            → (n : ℕ) × (n < most_turns self.old.machine.setup)
+            × ((world_at self.old.machine w n).ending ≡ None)
+            × BreaksOff w (world_at self.old.machine w (n + 1))
+            (H.outside host.old) (H.outside host.new)) }
+        ensures counts { MatchResult result
+            (λ _. KeepsCounts (H.outside host.old) (H.outside host.new))
+            (λ _. PrintFailed (H.outside host.old) (H.outside host.new)) }
         ensures writing { (H.outside host.new).is_writing ≡ (H.outside host.old).is_writing }
         ensures input { KeepsInput (H.outside host.old) (H.outside host.new) }
     {
@@ -255,8 +272,10 @@ impl Run {
     /// doesn't ask for it. An instruction that traps isn't executed, one that exits is.
     pub fn exec_counts(&self) -> &[u32]
         ensures value { result.now ≡ self.now.counts }
-        ensures log { (w : World) → StandsFor w self.now → result.now ≡ exec_counts_of self.now.machine w.ran }
-        ensures within { (i : ℕ) → i < length result.now → self.now.machine.sizes.low + 4 * i < 2 ^ 32 }
+        ensures log { (w : World) → StandsFor w self.now
+            → result.now ≡ exec_counts_of self.now.machine w.ran }
+        ensures within { (i : ℕ) → i < length result.now
+            → self.now.machine.sizes.low + 4 * i < 2 ^ 32 }
     {
         &self.counts
     }
@@ -264,10 +283,12 @@ impl Run {
     /// What is told of a run that has ended. Its arcs' callees and counts have four bytes each.
     pub fn summary(&self) -> RunSummary
         requires { IsSome self.now.ending }
-        ensures sums_up { (w : World) → StandsFor w self.now → summary_of self.now.machine.sizes w ≡ Some result }
+        ensures sums_up { (w : World) → StandsFor w self.now
+            → summary_of self.now.machine.sizes w ≡ Some result }
         ensures end { self.now.ending ≡ Some result.end }
         ensures retired { result.retired ≡ self.now.retired }
-        ensures fits { (w : World) → StandsFor w self.now → All CallFits (arcs_of self.now.machine.sizes w.log) }
+        ensures fits { (w : World) → StandsFor w self.now
+            → All CallFits (arcs_of self.now.machine.sizes w.log) }
     {
         RunSummary {
             end: self.ending.unwrap(),
@@ -295,7 +316,8 @@ fn first_harts(alloc: Global, entry: u32, end: u64, harts: u32) -> Result<Vec<Re
     requires stacks { stacks_bytes ≤ end }
     requires fits { end ≤ 2 ^ 32 }
     requires harts { harts ≤ 8 }
-    ensures { IfOk result (λ list. list.items ≡ map (first_registers_of entry end harts) (range_with_len 0 harts)) }
+    ensures { IfOk result (λ list. list.items ≡ map (first_registers_of entry end harts)
+        (range_with_len 0 harts)) }
 {
     let mut list = Vec::new(alloc);
     for hart in 0..harts {
@@ -307,7 +329,8 @@ fn first_harts(alloc: Global, entry: u32, end: u64, harts: u32) -> Result<Vec<Re
 /// A count for each instruction of the text, if they are asked for.
 fn first_counts(alloc: Global, sizes: Sizes, asked: bool) -> Result<Vec<u32>, AllocError>
     requires { AreSizes sizes }
-    ensures { IfOk result (λ counts. counts.items ≡ (if asked then replicate (instructions_of sizes) 0 else [])) }
+    ensures { IfOk result (λ counts. counts.items
+        ≡ (if asked then replicate (instructions_of sizes) 0 else [])) }
 {
     if asked {
         let instructions = (sizes.high - sizes.low) / 4;

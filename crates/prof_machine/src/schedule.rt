@@ -52,8 +52,10 @@ impl PlanWalk {
 
     /// The hart that takes the next turn. Takes no memory.
     pub fn next_hart(&mut self) -> u32
-        ensures taker { (setup : AnySetup) (n : ℕ) → Draws setup n self.old → result ≡ taker_of setup.plan setup.harts n }
-        ensures draws { (setup : AnySetup) (n : ℕ) → Draws setup n self.old → Draws setup (n + 1) self.new }
+        ensures taker { (setup : AnySetup) (n : ℕ) → Draws setup n self.old
+            → result ≡ taker_of setup.plan setup.harts n }
+        ensures draws { (setup : AnySetup) (n : ℕ) → Draws setup n self.old
+            → Draws setup (n + 1) self.new }
         ensures below { result < self.old.harts }
         ensures harts { self.new.harts ≡ self.old.harts }
     {

@@ -52,13 +52,16 @@ impl Run {
         requires hart { hart < self.old.machine.setup.harts }
         requires going { self.old.ending ≡ None }
         requires dead { self.old.live ≡ false }
-        ensures stands { (w : World) → StandsFor w self.old → StandsFor (after_look self.old.machine hart (looks_of_hart w.left hart) w) self.new }
-        ensures prints { (w : World) → StandsFor w self.old → (after_look self.old.machine hart (looks_of_hart w.left hart) w).prints ≡ w.prints }
+        ensures stands { (w : World) → StandsFor w self.old
+            → StandsFor (after_look self.old.machine hart (looks_of_hart w.left hart) w) self.new }
+        ensures prints { (w : World) → StandsFor w self.old
+            → (after_look self.old.machine hart (looks_of_hart w.left hart) w).prints ≡ w.prints }
         ensures same { Steps self.old self.new }
         ensures retired { self.new.retired ≡ self.old.retired }
         ensures due { self.new.due ≡ self.old.due }
         ensures less { work_left self.new < work_left self.old }
-        ensures note { (w : World) → StandsFor w self.old → look_note result ≡ note_by self.old.machine hart (looks_of_hart w.left hart) w }
+        ensures note { (w : World) → StandsFor w self.old
+            → look_note result ≡ note_by self.old.machine hart (looks_of_hart w.left hart) w }
     {
         let Some(flight) = self.flight.take() else {
             return None;
@@ -82,18 +85,25 @@ impl Run {
         requires left { self.old.retired < self.old.machine.setup.budget }
         requires due { 1 ≤ self.old.due }
         requires dead { self.old.live ≡ false }
-        ensures stands { OnOk result ((w : World) → StandsFor w self.old → StandsFor (after_ordinary_turn self.old.machine hart w) self.new) }
+        ensures stands { OnOk result ((w : World) → StandsFor w self.old
+            → StandsFor (after_ordinary_turn self.old.machine hart w) self.new) }
         ensures prints { OnOk result ((w : World) → StandsFor w self.old
-            → ArePrinted w (after_ordinary_turn self.old.machine hart w) (H.outside host.old) (H.outside host.new)) }
+            → ArePrinted w (after_ordinary_turn self.old.machine hart w)
+            (H.outside host.old) (H.outside host.new)) }
         ensures fails { OnErr result ((w : World) → StandsFor w self.old
-            → BreaksOff w (after_ordinary_turn self.old.machine hart w) (H.outside host.old) (H.outside host.new)) }
-        ensures counts { MatchResult result (λ _. KeepsCounts (H.outside host.old) (H.outside host.new)) (λ _. PrintFailed (H.outside host.old) (H.outside host.new)) }
+            → BreaksOff w (after_ordinary_turn self.old.machine hart w)
+            (H.outside host.old) (H.outside host.new)) }
+        ensures counts { MatchResult result
+            (λ _. KeepsCounts (H.outside host.old) (H.outside host.new))
+            (λ _. PrintFailed (H.outside host.old) (H.outside host.new)) }
         ensures writing { (H.outside host.new).is_writing ≡ (H.outside host.old).is_writing }
         ensures input { KeepsInput (H.outside host.old) (H.outside host.new) }
         ensures same { Steps self.old self.new }
-        ensures left { OnOk result (self.new.ending ≡ None → self.new.retired < self.new.machine.setup.budget) }
+        ensures left { OnOk result (self.new.ending ≡ None
+            → self.new.retired < self.new.machine.setup.budget) }
         ensures due { OnOk result (self.new.ending ≡ None → 1 ≤ self.new.due) }
-        ensures less { OnOk result (self.new.ending ≡ None → work_left self.new < work_left self.old) }
+        ensures less { OnOk result (self.new.ending ≡ None
+            → work_left self.new < work_left self.old) }
         ensures open { OnErr result (self.new.ending ≡ None) }
     {
         self.execute(hart, host)?;
@@ -115,19 +125,27 @@ impl Run {
         requires left { self.old.retired < self.old.machine.setup.budget }
         requires due { 1 ≤ self.old.due }
         requires dead { self.old.live ≡ false }
-        ensures stands { OnOk result ((w : World) → StandsFor w self.old → StandsFor (after_ordinary_turn self.old.machine hart w) self.new) }
+        ensures stands { OnOk result ((w : World) → StandsFor w self.old
+            → StandsFor (after_ordinary_turn self.old.machine hart w) self.new) }
         ensures prints { OnOk result ((w : World) → StandsFor w self.old
-            → ArePrinted w (after_ordinary_turn self.old.machine hart w) (H.outside host.old) (H.outside host.new)) }
+            → ArePrinted w (after_ordinary_turn self.old.machine hart w)
+            (H.outside host.old) (H.outside host.new)) }
         ensures fails { OnErr result ((w : World) → StandsFor w self.old
-            → BreaksOff w (after_ordinary_turn self.old.machine hart w) (H.outside host.old) (H.outside host.new)) }
-        ensures counts { MatchResult result (λ _. KeepsCounts (H.outside host.old) (H.outside host.new)) (λ _. PrintFailed (H.outside host.old) (H.outside host.new)) }
+            → BreaksOff w (after_ordinary_turn self.old.machine hart w)
+            (H.outside host.old) (H.outside host.new)) }
+        ensures counts { MatchResult result
+            (λ _. KeepsCounts (H.outside host.old) (H.outside host.new))
+            (λ _. PrintFailed (H.outside host.old) (H.outside host.new)) }
         ensures writing { (H.outside host.new).is_writing ≡ (H.outside host.old).is_writing }
         ensures input { KeepsInput (H.outside host.old) (H.outside host.new) }
         ensures same { Steps self.old self.new }
-        ensures left { OnOk result (self.new.ending ≡ None → self.new.retired < self.new.machine.setup.budget) }
+        ensures left { OnOk result (self.new.ending ≡ None
+            → self.new.retired < self.new.machine.setup.budget) }
         ensures due { OnOk result (self.new.ending ≡ None → 1 ≤ self.new.due) }
-        ensures less { OnOk result (self.new.ending ≡ None → work_left self.new < work_left self.old) }
-        ensures note { IfOk result (λ note. (w : World) → StandsFor w self.old → note ≡ instruction_note self.old.machine hart w) }
+        ensures less { OnOk result (self.new.ending ≡ None
+            → work_left self.new < work_left self.old) }
+        ensures note { IfOk result (λ note. (w : World) → StandsFor w self.old
+            → note ≡ instruction_note self.old.machine hart w) }
         ensures open { OnErr result (self.new.ending ≡ None) }
     {
         let begin = self.begin(hart);
@@ -179,12 +197,17 @@ impl Run {
         requires due { 1 ≤ self.old.due }
         requires going { self.old.ending ≡ None }
         requires dead { self.old.live ≡ false }
-        ensures stands { OnOk result ((w : World) → StandsFor w self.old → StandsFor (after_execution self.old.machine hart w) self.new) }
+        ensures stands { OnOk result ((w : World) → StandsFor w self.old
+            → StandsFor (after_execution self.old.machine hart w) self.new) }
         ensures prints { OnOk result ((w : World) → StandsFor w self.old
-            → ArePrinted w (after_execution self.old.machine hart w) (H.outside host.old) (H.outside host.new)) }
+            → ArePrinted w (after_execution self.old.machine hart w)
+            (H.outside host.old) (H.outside host.new)) }
         ensures fails { OnErr result ((w : World) → StandsFor w self.old
-            → BreaksOff w (after_execution self.old.machine hart w) (H.outside host.old) (H.outside host.new)) }
-        ensures counts { MatchResult result (λ _. KeepsCounts (H.outside host.old) (H.outside host.new)) (λ _. PrintFailed (H.outside host.old) (H.outside host.new)) }
+            → BreaksOff w (after_execution self.old.machine hart w)
+            (H.outside host.old) (H.outside host.new)) }
+        ensures counts { MatchResult result
+            (λ _. KeepsCounts (H.outside host.old) (H.outside host.new))
+            (λ _. PrintFailed (H.outside host.old) (H.outside host.new)) }
         ensures writing { (H.outside host.new).is_writing ≡ (H.outside host.old).is_writing }
         ensures input { KeepsInput (H.outside host.old) (H.outside host.new) }
         ensures same { Steps self.old self.new }
@@ -213,12 +236,17 @@ impl Run {
         requires due { 1 ≤ self.old.due }
         requires going { self.old.ending ≡ None }
         requires dead { self.old.live ≡ false }
-        ensures stands { OnOk result ((w : World) → StandsFor w self.old → StandsFor (after_ecall self.old.machine hart w) self.new) }
+        ensures stands { OnOk result ((w : World) → StandsFor w self.old
+            → StandsFor (after_ecall self.old.machine hart w) self.new) }
         ensures prints { OnOk result ((w : World) → StandsFor w self.old
-            → ArePrinted w (after_ecall self.old.machine hart w) (H.outside host.old) (H.outside host.new)) }
+            → ArePrinted w (after_ecall self.old.machine hart w)
+            (H.outside host.old) (H.outside host.new)) }
         ensures fails { OnErr result ((w : World) → StandsFor w self.old
-            → BreaksOff w (after_ecall self.old.machine hart w) (H.outside host.old) (H.outside host.new)) }
-        ensures counts { MatchResult result (λ _. KeepsCounts (H.outside host.old) (H.outside host.new)) (λ _. PrintFailed (H.outside host.old) (H.outside host.new)) }
+            → BreaksOff w (after_ecall self.old.machine hart w)
+            (H.outside host.old) (H.outside host.new)) }
+        ensures counts { MatchResult result
+            (λ _. KeepsCounts (H.outside host.old) (H.outside host.new))
+            (λ _. PrintFailed (H.outside host.old) (H.outside host.new)) }
         ensures writing { (H.outside host.new).is_writing ≡ (H.outside host.old).is_writing }
         ensures input { KeepsInput (H.outside host.old) (H.outside host.new) }
         ensures same { Steps self.old self.new }
@@ -284,9 +312,11 @@ impl Run {
         requires due { self.old.ending ≡ None → self.old.due < self.old.machine.setup.every }
         requires samples { self.old.ending ≡ None → self.old.samples < self.old.retired }
         requires dead { self.old.live ≡ false }
-        ensures stands { (w : World) → StandsFor w self.old → StandsFor (while_going (after_sample self.old.machine hart) w) self.new }
+        ensures stands { (w : World) → StandsFor w self.old
+            → StandsFor (while_going (after_sample self.old.machine hart) w) self.new }
         ensures ticks { Ticks self.old self.new }
-        ensures note { (w : World) → StandsFor w self.old → result ≡ if_going (sample_in self.old.machine hart) w }
+        ensures note { (w : World) → StandsFor w self.old
+            → result ≡ if_going (sample_in self.old.machine hart) w }
     {
         if self.ending.is_some() {
             return None;
@@ -311,9 +341,11 @@ impl Run {
         requires hart { hart < self.old.machine.setup.harts }
         requires calls { self.old.ending ≡ None → calls_met self.old < self.old.retired }
         requires dead { self.old.live ≡ false }
-        ensures stands { (w : World) → StandsFor w self.old → StandsFor (while_going (after_arrival self.old.machine hart) w) self.new }
+        ensures stands { (w : World) → StandsFor w self.old
+            → StandsFor (while_going (after_arrival self.old.machine hart) w) self.new }
         ensures serves { Serves self.old self.new }
-        ensures note { (w : World) → StandsFor w self.old → result ≡ if_going (return_in self.old.machine hart) w }
+        ensures note { (w : World) → StandsFor w self.old
+            → result ≡ if_going (return_in self.old.machine hart) w }
     {
         if self.ending.is_some() {
             return None;
@@ -334,9 +366,11 @@ impl Run {
         requires calls { calls_met self.old < self.old.retired }
         requires going { self.old.ending ≡ None }
         requires dead { self.old.live ≡ false }
-        ensures stands { (w : World) → StandsFor w self.old → StandsFor (after_mcount self.old.machine hart (hart_of w.harts hart) w) self.new }
+        ensures stands { (w : World) → StandsFor w self.old
+            → StandsFor (after_mcount self.old.machine hart (hart_of w.harts hart) w) self.new }
         ensures serves { Serves self.old self.new }
-        ensures note { (w : World) → StandsFor w self.old → result ≡ return_from_call self.old.machine w.log (hart_of w.harts hart) }
+        ensures note { (w : World) → StandsFor w self.old
+            → result ≡ return_from_call self.old.machine w.log (hart_of w.harts hart) }
     {
         let regs = &self.harts[hart as usize];
         match self.gmon.enter(regs.get(A0), regs.get(RA)) {
@@ -357,9 +391,11 @@ impl Run {
         requires hart { hart < self.old.machine.setup.harts }
         requires going { self.old.ending ≡ None }
         requires dead { self.old.live ≡ false }
-        ensures stands { (w : World) → StandsFor w self.old → StandsFor (after_moncontrol hart (hart_of w.harts hart) w) self.new }
+        ensures stands { (w : World) → StandsFor w self.old
+            → StandsFor (after_moncontrol hart (hart_of w.harts hart) w) self.new }
         ensures serves { Serves self.old self.new }
-        ensures note { (w : World) → StandsFor w self.old → result ≡ return_of (hart_of w.harts hart) }
+        ensures note { (w : World) → StandsFor w self.old
+            → result ≡ return_of (hart_of w.harts hart) }
     {
         let on = self.harts[hart as usize].get(A0) != 0;
         self.gmon.moncontrol(on);
@@ -389,7 +425,8 @@ impl Run {
     // The end of the run, once the budget is used up.
     fn spend(&mut self)
         requires dead { self.old.live ≡ false }
-        ensures stands { (w : World) → StandsFor w self.old → StandsFor (while_going (after_budget self.old.machine) w) self.new }
+        ensures stands { (w : World) → StandsFor w self.old
+            → StandsFor (while_going (after_budget self.old.machine) w) self.new }
         ensures changed { self.new ≡ record self.old { ending = self.new.ending } }
         ensures left { self.new.ending ≡ None → self.new.retired < self.new.machine.setup.budget }
         ensures ended { IsSome self.old.ending → self.new.ending ≡ self.old.ending }

@@ -23,7 +23,8 @@ pub fn spell(instr: &Instr, pc: u32, line: &mut Line)
 
 fn put_operands(instr: &Instr, pc: u32, line: &mut Line)
     requires { length line.old + 40 ≤ 256 }
-    ensures operands { line.new ≡ line.old ++ listed_after (codes " ") (operands_of (operand_form instr.now.op) instr.now pc) }
+    ensures operands { line.new ≡ line.old ++ listed_after (codes " ")
+        (operands_of (operand_form instr.now.op) instr.now pc) }
     ensures short { length line.new ≤ length line.old + 40 }
 {
     match form_of(instr.op) {

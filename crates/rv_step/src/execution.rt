@@ -17,7 +17,8 @@ use rv_decode::{Instr, Op};
 
 /// Executes an instruction.
 pub(crate) fn execute(instr: &Instr, regs: &mut Regs, ram: &mut Ram) -> Stepped
-    ensures outcome { outcome result regs.new ram.new ≡ outcome_of instr.now.op instr.now regs.old ram.old }
+    ensures outcome { outcome result regs.new ram.new ≡ outcome_of instr.now.op
+        instr.now regs.old ram.old }
     ensures base { ram.new.base ≡ ram.old.base }
     ensures size { length ram.new.bytes ≡ length ram.old.bytes }
 {
@@ -64,7 +65,8 @@ fn target(from: u32, imm: i32) -> u32
 }
 
 fn pass(regs: &mut Regs) -> Stepped
-    ensures { (m : Memory) → outcome result regs.new m ≡ outcome Stepped.Retired (at_next regs.old) m }
+    ensures { (m : Memory) → outcome result regs.new m ≡ outcome
+        Stepped.Retired (at_next regs.old) m }
 {
     regs.set_pc(regs.pc().wrapping_add(4));
     Stepped::Retired
@@ -72,7 +74,8 @@ fn pass(regs: &mut Regs) -> Stepped
 
 fn give(rd: u32, value: u32, regs: &mut Regs) -> Stepped
     requires { rd < 32 }
-    ensures { (m : Memory) → outcome result regs.new m ≡ outcome Stepped.Retired (with_result regs.old rd value) m }
+    ensures { (m : Memory) → outcome result regs.new m ≡ outcome Stepped.Retired
+        (with_result regs.old rd value) m }
 {
     regs.set(rd, value);
     pass(regs)
@@ -91,7 +94,8 @@ fn jump(instr: &Instr, to: u32, regs: &mut Regs) -> Stepped
 }
 
 fn jump_to_register(instr: &Instr, regs: &mut Regs) -> Stepped
-    ensures { (m : Memory) → outcome result regs.new m ≡ jumps instr.now (register_target instr.now regs.old) regs.old m }
+    ensures { (m : Memory) → outcome result regs.new m ≡ jumps instr.now
+        (register_target instr.now regs.old) regs.old m }
 {
     let sum = address(instr, regs);
     jump(instr, sum - sum % 2, regs)

@@ -54,7 +54,8 @@ impl Ram {
 
     fn load_segment(&mut self, segment: Segment, bytes: &[u8])
         requires { CanLoad self.old bytes.now segment }
-        ensures loaded { self.new ≡ write_at self.old segment.addr (segment_bytes bytes.now segment) }
+        ensures loaded { self.new ≡ write_at self.old segment.addr
+            (segment_bytes bytes.now segment) }
         ensures base { self.new.base ≡ self.old.base }
         ensures size { length self.new.bytes ≡ length self.old.bytes }
     {
@@ -80,7 +81,8 @@ impl Ram {
 
     /// Where the byte of an address stands, if it and all up to `len` bytes are in memory.
     pub(crate) fn place(&self, addr: u32, len: u32) -> Option<usize>
-        ensures { result ≡ (if is_inside self.now addr len then Some (addr - self.now.base) else None) }
+        ensures { result ≡ (if is_inside self.now addr len then Some
+            (addr - self.now.base) else None) }
     {
         if addr < self.base {
             return None;
@@ -133,8 +135,10 @@ impl Ram {
 pub fn memory_map()
     ensures read { (m : Memory) (a n k : ℕ) → IsInside m a n → k < n
         → slice_get (read_at m a n) k ≡ byte_at m (a + k) }
-    ensures written { (m : Memory) (a : ℕ) (bs : List ℕ) (k : ℕ) → IsInside m a (length bs) → k < length bs
+    ensures written { (m : Memory) (a : ℕ) (bs : List ℕ) (k : ℕ)
+        → IsInside m a (length bs) → k < length bs
         → byte_at (write_at m a bs) (a + k) ≡ slice_get bs k }
-    ensures kept { (m : Memory) (a : ℕ) (bs : List ℕ) (p : ℕ) → IsInside m a (length bs) → (p < a) ⊎ (a + length bs ≤ p)
+    ensures kept { (m : Memory) (a : ℕ) (bs : List ℕ) (p : ℕ) → IsInside m a (length bs)
+        → (p < a) ⊎ (a + length bs ≤ p)
         → byte_at (write_at m a bs) p ≡ byte_at m p }
 {}

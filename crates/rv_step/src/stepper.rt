@@ -47,7 +47,8 @@ pub fn traced_step(regs: &mut Regs, ram: &mut Ram) -> TracedStep
     ensures instr { result.instr ≡ instruction_at ram.old regs.old.pc }
 
     // What callers rely on.
-    ensures unchanged { (result.answer ≡ Stepped.Retired) ⊎ ((regs.new ≡ regs.old) × (ram.new ≡ ram.old)) }
+    ensures unchanged { (result.answer ≡ Stepped.Retired)
+        ⊎ ((regs.new ≡ regs.old) × (ram.new ≡ ram.old)) }
     ensures aligned { regs.old.pc % 4 ≡ 0 → regs.new.pc % 4 ≡ 0 }
     ensures base { ram.new.base ≡ ram.old.base }
     ensures size { length ram.new.bytes ≡ length ram.old.bytes }

@@ -42,7 +42,8 @@ pub fn demo<H: Host>(
     setup: Setup,
     host: &mut H,
 ) -> Result<Done, Fault>
-    requires stands { Stands (map string_bytes words.now) (H.outside host.old) (H.outside host.old) 0 []
+    requires stands { Stands (map string_bytes words.now)
+        (H.outside host.old) (H.outside host.old) 0 []
         (demo_course functions (option_map (nth_word (map string_bytes words.now)) elf) setup) }
     requires some { 1 ≤ functions }
     requires few { functions ≤ 2000 }
@@ -70,7 +71,8 @@ fn run_demo<H: Host>(
 ) -> Result<Done, Fault>
     requires limits { IsWithinLimits (length bytes.now) image.now }
     requires within { IsSetup setup }
-    ensures { RunsDemo functions setup image.now bytes.now (H.outside host.old) (H.outside host.new) result }
+    ensures { RunsDemo functions setup image.now bytes.now (H.outside host.old)
+        (H.outside host.new) result }
 {
     let run = match run_alone(alloc, image, bytes, setup, host) {
         Ok(run) => run,
@@ -108,7 +110,8 @@ fn write_program<H: Host>(
     host: &mut H,
 ) -> Result<(), Failed>
     requires { (H.outside host.old).is_writing ≡ false }
-    ensures { Performs (given_file_acts (option_map (nth_word (map string_bytes words.now)) elf) bytes.now) (H.outside host.old) (H.outside host.new) result }
+    ensures { Performs (given_file_acts (option_map (nth_word (map string_bytes words.now)) elf)
+        bytes.now) (H.outside host.old) (H.outside host.new) result }
 {
     match elf {
         None => Ok(()),
@@ -127,7 +130,8 @@ fn tell_demo<H: Host>(
 ) -> Result<(), ReportRefusal>
     requires ascending { IsAscending image.now.symbols }
     requires ended { IsSome run.now.ending }
-    ensures { TellsDemo functions image.now run.now rate (H.outside host.old) (H.outside host.new) result }
+    ensures { TellsDemo functions image.now run.now rate (H.outside host.old)
+        (H.outside host.new) result }
 {
     let total = run_profile(alloc, run.gmon(), rate)?;
     let findings = findings_of(alloc, image, total)?;

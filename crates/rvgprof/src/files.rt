@@ -9,7 +9,8 @@ use host_port::{Failed, Host, write_all_of};
 /// Writes bytes to the named file.
 pub fn write_file<H: Host>(name: &str, bytes: &[u8], host: &mut H) -> Result<(), Failed>
     requires { (H.outside host.old).is_writing ≡ false }
-    ensures { Performs (file_acts name.now bytes.now) (H.outside host.old) (H.outside host.new) result }
+    ensures { Performs (file_acts name.now bytes.now) (H.outside host.old)
+        (H.outside host.new) result }
 {
     host.create_output(name)?;
     write_all_of(host, bytes)?;

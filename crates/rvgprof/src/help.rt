@@ -27,8 +27,10 @@ fn version_text() -> &'static [u8]
 
 /// Prints what the commands and options are. Takes no memory.
 pub fn help<H: Host>(words: &[String], host: &mut H) -> Result<Done, Fault>
-    requires { Stands (map string_bytes words.now) (H.outside host.old) (H.outside host.old) 0 [] (text_course spec_help) }
-    ensures acted { Acted (map string_bytes words.now) (H.outside host.old) (H.outside host.new) result }
+    requires { Stands (map string_bytes words.now) (H.outside host.old)
+        (H.outside host.old) 0 [] (text_course spec_help) }
+    ensures acted { Acted (map string_bytes words.now) (H.outside host.old)
+        (H.outside host.new) result }
     ensures memory { result ≢ Err Fault.OutOfMemory }
 {
     print(words, help_text(), host)
@@ -36,8 +38,10 @@ pub fn help<H: Host>(words: &[String], host: &mut H) -> Result<Done, Fault>
 
 /// Prints the program's name and version. Takes no memory.
 pub fn version<H: Host>(words: &[String], host: &mut H) -> Result<Done, Fault>
-    requires { Stands (map string_bytes words.now) (H.outside host.old) (H.outside host.old) 0 [] (text_course spec_version) }
-    ensures acted { Acted (map string_bytes words.now) (H.outside host.old) (H.outside host.new) result }
+    requires { Stands (map string_bytes words.now) (H.outside host.old) (H.outside host.old) 0 []
+        (text_course spec_version) }
+    ensures acted { Acted (map string_bytes words.now) (H.outside host.old)
+        (H.outside host.new) result }
     ensures memory { result ≢ Err Fault.OutOfMemory }
 {
     print(words, version_text(), host)
@@ -45,8 +49,10 @@ pub fn version<H: Host>(words: &[String], host: &mut H) -> Result<Done, Fault>
 
 /// Prints a text, and does nothing else.
 fn print<H: Host>(_words: &[String], text: &[u8], host: &mut H) -> Result<Done, Fault>
-    requires { Stands (map string_bytes _words.now) (H.outside host.old) (H.outside host.old) 0 [] (text_course text.now) }
-    ensures acted { Acted (map string_bytes _words.now) (H.outside host.old) (H.outside host.new) result }
+    requires { Stands (map string_bytes _words.now) (H.outside host.old)
+        (H.outside host.old) 0 [] (text_course text.now) }
+    ensures acted { Acted (map string_bytes _words.now) (H.outside host.old)
+        (H.outside host.new) result }
     ensures memory { result ≢ Err Fault.OutOfMemory }
 {
     match out_all_of(host, text) {

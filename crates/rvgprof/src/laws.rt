@@ -37,28 +37,41 @@ pub fn executions_are_listed()
 /// stands at its end. The call that prints the last line may fail where nothing else is to be printed on
 /// the error output; where it didn't, the line is there as a whole.
 pub fn completeness()
-    ensures answer { (words : List (List ℕ)) (old new : Outside) (result : Result Done Fault) → Answered words old new result → NoneFailed words old new → (result ≡ Err OutOfMemory) ⊎ Complete words old new result }
-    ensures line { (line whole : List ℕ) (before after : ℕ) → LineEnds line whole before after → Stayed before after → line ≡ whole }
+    ensures answer { (words : List (List ℕ)) (old new : Outside) (result : Result Done Fault)
+        → Answered words old new result → NoneFailed words old new
+        → (result ≡ Err OutOfMemory) ⊎ Complete words old new result }
+    ensures line { (line whole : List ℕ) (before after : ℕ) → LineEnds line whole before after
+        → Stayed before after → line ≡ whole }
 {}
 
 /// The definition's ending is that the command was carried out exactly where all is accepted: the words
 /// have a reading, each input file is within its limit and not refused, the profiles are alike, no exact
 /// time that is asked for is too wide, and a run can start.
 pub fn acceptance()
-    ensures { (words : List (List ℕ)) (contents : ℕ → List ℕ) → IsOk (reply_to contents (course_of words)).ending ↔ IsAccepted words contents (command_of words) }
+    ensures { (words : List (List ℕ)) (contents : ℕ → List ℕ)
+        → IsOk (reply_to contents (course_of words)).ending
+        ↔ IsAccepted words contents (command_of words) }
 {}
 
 /// What is accepted is carried out, unless a call on the host failed or memory ran out.
 pub fn accepted_is_done()
-    ensures { (words : List (List ℕ)) (old new : Outside) (result : Result Done Fault) → Answered words old new result → NoneFailed words old new
-        → ((contents : ℕ → List ℕ) → WhereTold old new (λ files. contents ≡ contents_of words files) → IsAccepted words contents (command_of words)) → (result ≡ Err OutOfMemory) ⊎ IsOk result }
+    ensures { (words : List (List ℕ)) (old new : Outside) (result : Result Done Fault)
+        → Answered words old new result → NoneFailed words old new
+        → ((contents : ℕ → List ℕ) → WhereTold old new (λ files. contents ≡ contents_of words files)
+        → IsAccepted words contents (command_of words))
+        → (result ≡ Err OutOfMemory) ⊎ IsOk result }
 {}
 
 /// Words that say a demo are accepted, whatever the inputs: its program is never refused, and a run of it
 /// starts. So it is carried out, unless a call on the host failed or memory ran out.
 pub fn demo_is_done()
-    ensures accepted { (words : List (List ℕ)) (contents : ℕ → List ℕ) (functions : ℕ) (elf : Option ℕ) (setup : Setup) → command_of words ≡ Some (Demo functions elf setup) → IsAccepted words contents (command_of words) }
-    ensures done { (words : List (List ℕ)) (functions : ℕ) (elf : Option ℕ) (setup : Setup) (old new : Outside) (result : Result Done Fault) → command_of words ≡ Some (Demo functions elf setup) → Answered words old new result → NoneFailed words old new → (result ≡ Err OutOfMemory) ⊎ IsOk result }
+    ensures accepted { (words : List (List ℕ)) (contents : ℕ → List ℕ) (functions : ℕ)
+        (elf : Option ℕ) (setup : Setup) → command_of words ≡ Some (Demo functions elf setup)
+        → IsAccepted words contents (command_of words) }
+    ensures done { (words : List (List ℕ)) (functions : ℕ) (elf : Option ℕ) (setup : Setup)
+        (old new : Outside) (result : Result Done Fault)
+        → command_of words ≡ Some (Demo functions elf setup) → Answered words old new result
+        → NoneFailed words old new → (result ≡ Err OutOfMemory) ⊎ IsOk result }
 {
     demo_laws::laws::demo_is_accepted();
     demo_laws::laws::demo_starts();
@@ -67,8 +80,12 @@ pub fn demo_is_done()
 /// Where memory ran out, what was done is a prefix of what is due, and nothing for the commands that do
 /// all at once.
 pub fn what_memory_leaves()
-    ensures prefix { (contents : ℕ → List ℕ) (course : Course) (acts : List Act) → MayStop contents course acts → (rest : List Act) × ((reply_to contents course).acts ≡ acts ++ rest) }
-    ensures nothing { (words : List (List ℕ)) (contents : ℕ → List ℕ) (acts : List Act) → acts_at_once (command_of words) ≡ true → MayStop contents (course_of words) acts → acts ≡ [] }
+    ensures prefix { (contents : ℕ → List ℕ) (course : Course) (acts : List Act)
+        → MayStop contents course acts → (rest : List Act)
+        × ((reply_to contents course).acts ≡ acts ++ rest) }
+    ensures nothing { (words : List (List ℕ)) (contents : ℕ → List ℕ) (acts : List Act)
+        → acts_at_once (command_of words) ≡ true
+        → MayStop contents (course_of words) acts → acts ≡ [] }
 {}
 
 /// What the words of the headline rest on in the layers below, in one statement. Each claim is written out, and

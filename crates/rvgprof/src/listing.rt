@@ -19,7 +19,8 @@ pub fn print_listing<H: Host>(
     gmons: &[u32],
     host: &mut H,
 ) -> Result<Done, Fault>
-    requires stands { Stands (map string_bytes words.now) (H.outside host.old) (H.outside host.old) 0 [] (annotate_course elf gmons.now) }
+    requires stands { Stands (map string_bytes words.now) (H.outside host.old)
+        (H.outside host.old) 0 [] (annotate_course elf gmons.now) }
     requires rising { AreRising (elf ∷ gmons.now) }
     ensures { Acted (map string_bytes words.now) (H.outside host.old) (H.outside host.new) result }
 {

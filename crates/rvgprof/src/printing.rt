@@ -41,7 +41,8 @@ pub fn print_reports<H: Host>(
 ) -> Result<(), Fault>
     requires ascending { IsAscending image.now.symbols }
     requires cuts { AreCuts (map string_bytes words.now) selection.now }
-    ensures prints { PrintsReports (chosen_by (map string_bytes words.now) selection.now) image.now total (H.outside host.old) (H.outside host.new) result }
+    ensures prints { PrintsReports (chosen_by (map string_bytes words.now) selection.now) image.now
+        total (H.outside host.old) (H.outside host.new) result }
     ensures told { OnOk result (TellsNoMore (H.outside host.old) (H.outside host.new)) }
 {
     let Ok(hidden) = names_at(alloc, words, selection.hidden.as_slice()) else {
@@ -78,7 +79,9 @@ fn chosen_findings(
 ) -> Result<Findings, AllocError>
     requires ascending { IsAscending image.now.symbols }
     requires cuts { AreCuts (map string_bytes words.now) selection.now }
-    ensures { IfOk result (λ f. AreFindings image.now (without_cuts total image.now.symbols (words_at (map string_bytes words.now) selection.now.cuts)) f) }
+    ensures { IfOk result (λ f. AreFindings image.now
+        (without_cuts total image.now.symbols
+        (words_at (map string_bytes words.now) selection.now.cuts)) f) }
 {
     if selection.cuts.as_slice().is_empty() {
         return findings_of(alloc, image, total);
@@ -97,7 +100,8 @@ fn exact_asked(
 ) -> Result<Option<ExactFlow>, ExactRefusal>
     requires { length findings.now.shares.of ≡ findings.now.graph.functions }
     ensures found { IfOk result (IsAsked asked findings.now) }
-    ensures refused { IfErr result (λ refusal. (asked ≡ true) × IsWideAnswer findings.now.graph findings.now.shares.of refusal) }
+    ensures refused { IfErr result (λ refusal. (asked ≡ true)
+        × IsWideAnswer findings.now.graph findings.now.shares.of refusal) }
 {
     if !asked {
         return Ok(None);
@@ -119,9 +123,11 @@ fn print_all<H: Host>(
     host: &mut H,
 ) -> Result<(), ReportRefusal>
     requires fit { FitTogether image.now findings.now }
-    requires exact { IfSome exact.now (λ e. e ≡ exact_flow_in findings.now.graph findings.now.shares.of) }
+    requires exact { IfSome exact.now (λ e.
+        e ≡ exact_flow_in findings.now.graph findings.now.shares.of) }
     requires times { IfSome exact.now (HasTimes findings.now.graph) }
-    ensures prints { PrintsAll shown (map string_bytes hidden.now) (is_some exact.now) (given_sources image.now findings.now) (H.outside host.old) (H.outside host.new) result }
+    ensures prints { PrintsAll shown (map string_bytes hidden.now) (is_some exact.now)
+        (given_sources image.now findings.now) (H.outside host.old) (H.outside host.new) result }
     ensures told { OnOk result (TellsNoMore (H.outside host.old) (H.outside host.new)) }
 {
     print_shown(alloc, shown, image, findings, hidden, host)?;
@@ -141,7 +147,8 @@ fn print_shown<H: Host>(
     host: &mut H,
 ) -> Result<(), ReportRefusal>
     requires { FitTogether image.now findings.now }
-    ensures prints { PrintsShown shown (map string_bytes hidden.now) (given_sources image.now findings.now) (H.outside host.old) (H.outside host.new) result }
+    ensures prints { PrintsShown shown (map string_bytes hidden.now)
+        (given_sources image.now findings.now) (H.outside host.old) (H.outside host.new) result }
     ensures told { OnOk result (TellsNoMore (H.outside host.old) (H.outside host.new)) }
 {
     match shown {
@@ -165,7 +172,8 @@ fn print_exact<H: Host>(
     requires fit { FitTogether image.now findings.now }
     requires exact { exact.now ≡ exact_flow_in findings.now.graph findings.now.shares.of }
     requires times { HasTimes findings.now.graph exact.now }
-    ensures prints { PrintsExact (given_sources image.now findings.now) (H.outside host.old) (H.outside host.new) result }
+    ensures prints { PrintsExact (given_sources image.now findings.now) (H.outside host.old)
+        (H.outside host.new) result }
     ensures told { OnOk result (TellsNoMore (H.outside host.old) (H.outside host.new)) }
 {
     print_text(b"\n", host)?;
@@ -188,7 +196,8 @@ fn print_flat<H: Host>(
     host: &mut H,
 ) -> Result<(), ReportRefusal>
     requires { FitTogether image.now findings.now }
-    ensures printed { Reports (flat_text (given_sources image.now findings.now) (map string_bytes hidden.now)) (H.outside host.old) (H.outside host.new) result }
+    ensures printed { Reports (flat_text (given_sources image.now findings.now)
+        (map string_bytes hidden.now)) (H.outside host.old) (H.outside host.new) result }
     ensures idle { result ≡ Err OutOfMemory → host.new ≡ host.old }
 {
     flat_report::write(
@@ -212,7 +221,8 @@ fn print_graph<H: Host>(
     host: &mut H,
 ) -> Result<(), ReportRefusal>
     requires { FitTogether image.now findings.now }
-    ensures printed { Reports (graph_text (given_sources image.now findings.now) (map string_bytes hidden.now)) (H.outside host.old) (H.outside host.new) result }
+    ensures printed { Reports (graph_text (given_sources image.now findings.now)
+        (map string_bytes hidden.now)) (H.outside host.old) (H.outside host.new) result }
     ensures idle { result ≡ Err OutOfMemory → host.new ≡ host.old }
 {
     graph_report::write(

@@ -28,12 +28,16 @@ pub fn profile<H: Host>(
     selection: &Selection,
     host: &mut H,
 ) -> Result<Done, Fault>
-    requires stands { Stands (map string_bytes words.now) (H.outside host.old) (H.outside host.old) 0 []
-        (profile_course elf (files_named (map string_bytes words.now) outputs.gmon outputs.form outputs.image) setup (chosen_by (map string_bytes words.now) selection.now)) }
+    requires stands { Stands (map string_bytes words.now)
+        (H.outside host.old) (H.outside host.old) 0 []
+        (profile_course elf (files_named (map string_bytes words.now) outputs.gmon outputs.form
+        outputs.image) setup (chosen_by (map string_bytes words.now) selection.now)) }
     requires within { IsRunSetup outputs.form setup }
     requires cuts { AreCuts (map string_bytes words.now) selection.now }
-    ensures acted { Acted (map string_bytes words.now) (H.outside host.old) (H.outside host.new) result }
-    ensures fits { OnOk result (FitsWhereTold (map string_bytes words.now) (H.outside host.old) (H.outside host.new) elf outputs.form setup) }
+    ensures acted { Acted (map string_bytes words.now) (H.outside host.old)
+        (H.outside host.new) result }
+    ensures fits { OnOk result (FitsWhereTold (map string_bytes words.now) (H.outside host.old)
+        (H.outside host.new) elf outputs.form setup) }
 {
     let (bytes, image) = match read_program(alloc, words, elf, host) {
         Ok(read) => read,

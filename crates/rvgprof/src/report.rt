@@ -22,7 +22,8 @@ pub fn report<H: Host>(
     selection: &Selection,
     host: &mut H,
 ) -> Result<Done, Fault>
-    requires stands { Stands (map string_bytes words.now) (H.outside host.old) (H.outside host.old) 0 []
+    requires stands { Stands (map string_bytes words.now)
+        (H.outside host.old) (H.outside host.old) 0 []
         (report_course elf gmons.now (chosen_by (map string_bytes words.now) selection.now)) }
     requires rising { AreRising (elf ∷ gmons.now) }
     requires cuts { AreCuts (map string_bytes words.now) selection.now }

@@ -23,11 +23,15 @@ pub fn run<H: Host>(
     setup: Setup,
     host: &mut H,
 ) -> Result<Done, Fault>
-    requires stands { Stands (map string_bytes words.now) (H.outside host.old) (H.outside host.old) 0 []
-        (run_course elf (files_named (map string_bytes words.now) outputs.gmon outputs.form outputs.image) setup) }
+    requires stands { Stands (map string_bytes words.now)
+        (H.outside host.old) (H.outside host.old) 0 []
+        (run_course elf (files_named (map string_bytes words.now) outputs.gmon
+        outputs.form outputs.image) setup) }
     requires within { IsRunSetup outputs.form setup }
-    ensures acted { Acted (map string_bytes words.now) (H.outside host.old) (H.outside host.new) result }
-    ensures fits { OnOk result (FitsWhereTold (map string_bytes words.now) (H.outside host.old) (H.outside host.new) elf outputs.form setup) }
+    ensures acted { Acted (map string_bytes words.now) (H.outside host.old)
+        (H.outside host.new) result }
+    ensures fits { OnOk result (FitsWhereTold (map string_bytes words.now) (H.outside host.old)
+        (H.outside host.new) elf outputs.form setup) }
 {
     let (bytes, image) = match read_program(alloc, words, elf, host) {
         Ok(read) => read,

@@ -62,7 +62,8 @@ pub fn run_program<H: Host>(
     requires setup { IsSetup setup }
     requires idle { (H.outside host.old).is_writing ≡ false }
     ensures runs { RunsProgram (map string_bytes words.now)
-        (run_acts (files_named (map string_bytes words.now) outputs.gmon outputs.form outputs.image) setup) setup image.now bytes.now
+        (run_acts (files_named (map string_bytes words.now) outputs.gmon outputs.form outputs.image)
+        setup) setup image.now bytes.now
         (H.outside host.old) (H.outside host.new) result }
     ensures ended { IfOk result (IsRunOf image.now bytes.now setup) }
     ensures told { OnOk result (TellsNoMore (H.outside host.old) (H.outside host.new)) }
@@ -84,7 +85,8 @@ pub fn run_alone<H: Host>(
 ) -> Result<Run, Fault>
     requires limits { IsWithinLimits (length bytes.now) image.now }
     requires setup { IsSetup setup }
-    ensures runs { (words : List (List ℕ)) → RunsProgram words (λ z w. w.prints) setup image.now bytes.now
+    ensures runs { (words : List (List ℕ))
+        → RunsProgram words (λ z w. w.prints) setup image.now bytes.now
         (H.outside host.old) (H.outside host.new) result }
     ensures ended { IfOk result (IsRunOf image.now bytes.now setup) }
 {
@@ -107,8 +109,11 @@ fn perform<H: Host>(
     requires setup { run.old.machine.setup ≡ setup }
     requires idle { (H.outside host.old).is_writing ≡ false }
     ensures performs { (w : World) → StandsFor w run.old → w.prints ≡ []
-        → Performs (run_acts (files_named (map string_bytes words.now) outputs.gmon outputs.form outputs.image) setup run.old.machine.sizes (after_drive run.old.machine w)) (H.outside host.old) (H.outside host.new) result }
-    ensures stands { OnOk result ((w : World) → StandsFor w run.old → StandsFor (after_drive run.old.machine w) run.new) }
+        → Performs (run_acts (files_named (map string_bytes words.now) outputs.gmon outputs.form
+        outputs.image) setup run.old.machine.sizes (after_drive run.old.machine w))
+        (H.outside host.old) (H.outside host.new) result }
+    ensures stands { OnOk result ((w : World) → StandsFor w run.old
+        → StandsFor (after_drive run.old.machine w) run.new) }
     ensures machine { OnOk result (run.new.machine ≡ run.old.machine) }
     ensures ended { OnOk result (IsSome run.new.ending) }
 {
@@ -140,7 +145,8 @@ fn write_profile<H: Host>(
 ) -> Result<(), Failed>
     requires idle { (H.outside host.old).is_writing ≡ false }
     requires within { (i : ℕ) → i < length counts.now → gmon.now.sizes.low + 4 * i < 2 ^ 32 }
-    ensures performs { Performs (file_acts name.now (held_text form rate gmon.now counts.now)) (H.outside host.old) (H.outside host.new) result }
+    ensures performs { Performs (file_acts name.now (held_text form rate gmon.now counts.now))
+        (H.outside host.old) (H.outside host.new) result }
     ensures idle { OnOk result ((H.outside host.new).is_writing ≡ false) }
 {
     host.create_output(name)?;
@@ -158,7 +164,8 @@ fn write_held<H: Host>(
 ) -> Result<(), Failed>
     requires ready { (H.outside host.old).is_writing ≡ true }
     requires within { (i : ℕ) → i < length counts.now → gmon.now.sizes.low + 4 * i < 2 ^ 32 }
-    ensures { Puts File (held_text form rate gmon.now counts.now) (H.outside host.old) (H.outside host.new) result }
+    ensures { Puts File (held_text form rate gmon.now counts.now) (H.outside host.old)
+        (H.outside host.new) result }
 {
     write_runtime(gmon, form, rate, host)?;
     gmon_gnu::write_blocks(gmon.sizes().low, counts, host)
@@ -167,7 +174,8 @@ fn write_held<H: Host>(
 /// Writes the profile of a runtime in a form to the file that is being written.
 fn write_runtime<H: Host>(gmon: &Gmon, form: Form, rate: u32, host: &mut H) -> Result<(), Failed>
     requires { (H.outside host.old).is_writing ≡ true }
-    ensures puts { Puts File (runtime_text form gmon.now rate) (H.outside host.old) (H.outside host.new) result }
+    ensures puts { Puts File (runtime_text form gmon.now rate) (H.outside host.old)
+        (H.outside host.new) result }
     ensures ready { OnOk result ((H.outside host.new).is_writing ≡ true) }
 {
     match form {
@@ -179,7 +187,8 @@ fn write_runtime<H: Host>(gmon: &Gmon, form: Form, rate: u32, host: &mut H) -> R
 /// Writes the memory of a runtime to the named file.
 fn write_image<H: Host>(gmon: &Gmon, name: &str, host: &mut H) -> Result<(), Failed>
     requires { (H.outside host.old).is_writing ≡ false }
-    ensures { Performs (file_acts name.now (layout_of (block_parts gmon.now))) (H.outside host.old) (H.outside host.new) result }
+    ensures { Performs (file_acts name.now (layout_of (block_parts gmon.now))) (H.outside host.old)
+        (H.outside host.new) result }
 {
     write_file(name, gmon.block_bytes(), host)
 }

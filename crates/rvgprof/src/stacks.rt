@@ -26,7 +26,8 @@ pub fn print_stacks<H: Host>(
     setup: Setup,
     host: &mut H,
 ) -> Result<Done, Fault>
-    requires stands { Stands (map string_bytes words.now) (H.outside host.old) (H.outside host.old) 0 [] (folded_course elf inclusive setup) }
+    requires stands { Stands (map string_bytes words.now) (H.outside host.old)
+        (H.outside host.old) 0 [] (folded_course elf inclusive setup) }
     requires within { IsSetup setup }
     ensures { Acted (map string_bytes words.now) (H.outside host.old) (H.outside host.new) result }
 {
@@ -56,7 +57,8 @@ fn fold_program<H: Host>(
 ) -> Result<(Run, Folded), Fault>
     requires limits { IsWithinLimits (length bytes.now) image.now }
     requires setup { IsSetup setup }
-    ensures folds { FoldsProgram image.now bytes.now setup (H.outside host.old) (H.outside host.new) result }
+    ensures folds { FoldsProgram image.now bytes.now setup (H.outside host.old)
+        (H.outside host.new) result }
     ensures functions { IfOk result (λ done. length done.1.inclusive ≡ length image.now.symbols) }
     ensures ended { IfOk result (λ done. IsRunOf image.now bytes.now setup done.0) }
 {

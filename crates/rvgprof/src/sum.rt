@@ -25,10 +25,14 @@ pub fn sum<H: Host>(
     gmons: &[u32],
     host: &mut H,
 ) -> Result<Done, Fault>
-    requires stands { Stands (map string_bytes words.now) (H.outside host.old) (H.outside host.old) 0 [] (sum_course (nth_word (map string_bytes words.now) out) gmons.now) }
+    requires stands { Stands (map string_bytes words.now) (H.outside host.old)
+        (H.outside host.old) 0 []
+        (sum_course (nth_word (map string_bytes words.now) out) gmons.now) }
     requires rising { AreRising gmons.now }
-    ensures acted { Acted (map string_bytes words.now) (H.outside host.old) (H.outside host.new) result }
-    ensures fits { OnOk result (SumIsProfile (map string_bytes words.now) (H.outside host.old) (H.outside host.new) gmons.now) }
+    ensures acted { Acted (map string_bytes words.now) (H.outside host.old)
+        (H.outside host.new) result }
+    ensures fits { OnOk result (SumIsProfile (map string_bytes words.now) (H.outside host.old)
+        (H.outside host.new) gmons.now) }
 {
     let total = match read_profiles(alloc, words, gmons, host) {
         Ok(total) => total,
@@ -44,7 +48,8 @@ pub fn sum<H: Host>(
 /// Writes a profile to the named file.
 fn write_profile<H: Host>(profile: &Profile, name: &str, host: &mut H) -> Result<(), Failed>
     requires { (H.outside host.old).is_writing ≡ false }
-    ensures { Performs (file_acts name.now (profile_text profile.now)) (H.outside host.old) (H.outside host.new) result }
+    ensures { Performs (file_acts name.now (profile_text profile.now)) (H.outside host.old)
+        (H.outside host.new) result }
 {
     host.create_output(name)?;
     gmon_gnu::write(profile, host)?;

@@ -44,7 +44,8 @@ fn main(rt: HostRuntime) -> ExitCode {
 /// Does all that the program does, and ends with the status of the answer.
 fn carry_out<H: Host>(alloc: Global, words: &[String], host: &mut H) -> ExitCode
     requires { (H.outside host.old).is_writing ≡ false }
-    ensures { EndsWith (map string_bytes words.now) (H.outside host.old) (H.outside host.new) (exit_status result) }
+    ensures { EndsWith (map string_bytes words.now) (H.outside host.old)
+        (H.outside host.new) (exit_status result) }
 {
     let answer = rvgprof(alloc, words, host);
     ExitCode::from(status_of(&answer))

@@ -90,7 +90,8 @@ fn cannot_sync(kind: ErrorKind) -> bool
 /// What a sync answered, where one was possible.
 fn synced(answer: io::Result<()>) -> io::Result<()>
     ensures done { OnOk answer (IsOk result) }
-    ensures failed { IfErr answer (λ e. IsOk result ↔ ((error_kind e ≡ ErrorKind.InvalidInput) ⊎ (error_kind e ≡ ErrorKind.Unsupported))) }
+    ensures failed { IfErr answer (λ e. IsOk result
+        ↔ ((error_kind e ≡ ErrorKind.InvalidInput) ⊎ (error_kind e ≡ ErrorKind.Unsupported))) }
 {
     match answer {
         Err(e) if !cannot_sync(e.kind()) => Err(e),

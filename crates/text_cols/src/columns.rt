@@ -144,9 +144,12 @@ impl Line {
 
     /// Adds spaces and then two numbers with a sign between them, as `right` does with a text.
     pub fn right_pair(&mut self, first: u128, sign: u8, second: u128, width: usize)
-        requires { length self.old + max width (length (decimal first) + length (decimal second) + 2) ≤ 256 }
-        ensures bytes { self.new ≡ self.old ++ right_of (decimal first ++ sign ∷ decimal second) width }
-        ensures len { length self.new ≡ length self.old + max width (length (decimal first) + length (decimal second) + 2) }
+        requires { length self.old + max width
+            (length (decimal first) + length (decimal second) + 2) ≤ 256 }
+        ensures bytes { self.new ≡ self.old ++ right_of
+            (decimal first ++ sign ∷ decimal second) width }
+        ensures len { length self.new ≡ length self.old
+            + max width (length (decimal first) + length (decimal second) + 2) }
     {
         let mut front = Buffer::new();
         let mut back = Buffer::new();
@@ -165,7 +168,8 @@ impl Line {
         requires double { 2 * den < 2 ^ 128 }
         requires room { length self.old + max width (length (hundredths_of num den) + 1) ≤ 256 }
         ensures bytes { self.new ≡ self.old ++ right_of (hundredths_of num den) width }
-        ensures len { length self.new ≡ length self.old + max width (length (hundredths_of num den) + 1) }
+        ensures len { length self.new ≡ length self.old
+            + max width (length (hundredths_of num den) + 1) }
     {
         let (whole, rest) = in_hundredths(num, den);
         let mut buffer = Buffer::new();

@@ -25,7 +25,8 @@ pub fn show_image<H: Host>(image: &Image, host: &mut H) -> Result<(), Failed>
 
 fn put_image<H: Host>(image: &Image, lines: &mut PrintBuf, host: &mut H) -> Result<(), Failed>
     requires { IsAscending image.now.symbols }
-    ensures { Adds Output (image_text image.now) lines.old lines.new (H.outside host.old) (H.outside host.new) result }
+    ensures { Adds Output (image_text image.now) lines.old lines.new (H.outside host.old)
+        (H.outside host.new) result }
 {
     lines.put(host, line::program(image).bytes())?;
     put_symbols(image.symbols.as_slice(), lines, host)
@@ -37,7 +38,8 @@ fn put_symbols<H: Host>(
     host: &mut H,
 ) -> Result<(), Failed>
     requires { All (λ s. s.addr < s.end) symbols.now }
-    ensures { Adds Output (flat_map symbol_line symbols.now) lines.old lines.new (H.outside host.old) (H.outside host.new) result }
+    ensures { Adds Output (flat_map symbol_line symbols.now) lines.old lines.new
+        (H.outside host.old) (H.outside host.new) result }
 {
     for symbol in symbols {
         put_symbol(symbol, lines, host)?;
@@ -47,7 +49,8 @@ fn put_symbols<H: Host>(
 
 fn put_symbol<H: Host>(symbol: &Symbol, lines: &mut PrintBuf, host: &mut H) -> Result<(), Failed>
     requires { symbol.now.addr < symbol.now.end }
-    ensures { Adds Output (symbol_line symbol.now) lines.old lines.new (H.outside host.old) (H.outside host.new) result }
+    ensures { Adds Output (symbol_line symbol.now) lines.old lines.new (H.outside host.old)
+        (H.outside host.new) result }
 {
     lines.put(host, line::symbol(symbol).bytes())?;
     lines.put(host, symbol.name.as_slice())?;

@@ -26,14 +26,16 @@ pub fn show_records<H: Host>(records: &Records, host: &mut H) -> Result<(), Fail
 
 fn put_records<H: Host>(records: &Records, lines: &mut PrintBuf, host: &mut H) -> Result<(), Failed>
     requires { IsShowable records.now }
-    ensures { Adds Output (show_text records.now) lines.old lines.new (H.outside host.old) (H.outside host.new) result }
+    ensures { Adds Output (show_text records.now) lines.old lines.new (H.outside host.old)
+        (H.outside host.new) result }
 {
     put_form(records.form, lines, host)?;
     put_recs(records.form, records.recs.as_slice(), lines, host)
 }
 
 fn put_form<H: Host>(form: Form, lines: &mut PrintBuf, host: &mut H) -> Result<(), Failed>
-    ensures { Adds Output (form_line form) lines.old lines.new (H.outside host.old) (H.outside host.new) result }
+    ensures { Adds Output (form_line form) lines.old lines.new (H.outside host.old)
+        (H.outside host.new) result }
 {
     match form {
         Form::Bsd => Ok(()),
@@ -48,7 +50,8 @@ fn put_recs<H: Host>(
     host: &mut H,
 ) -> Result<(), Failed>
     requires { All HasRange recs.now }
-    ensures { Adds Output (flat_map (rec_text form) recs.now) lines.old lines.new (H.outside host.old) (H.outside host.new) result }
+    ensures { Adds Output (flat_map (rec_text form) recs.now) lines.old lines.new
+        (H.outside host.old) (H.outside host.new) result }
 {
     for rec in recs {
         put_rec(form, rec, lines, host)?;
@@ -58,7 +61,8 @@ fn put_recs<H: Host>(
 
 fn put_rec<H: Host>(form: Form, rec: &Rec, lines: &mut PrintBuf, host: &mut H) -> Result<(), Failed>
     requires { HasRange rec.now }
-    ensures { Adds Output (rec_text form rec.now) lines.old lines.new (H.outside host.old) (H.outside host.new) result }
+    ensures { Adds Output (rec_text form rec.now) lines.old lines.new (H.outside host.old)
+        (H.outside host.new) result }
 {
     match rec {
         Rec::Hist(hist) => {
@@ -78,7 +82,8 @@ fn put_blocks<H: Host>(
     lines: &mut PrintBuf,
     host: &mut H,
 ) -> Result<(), Failed>
-    ensures { Adds Output (flat_map block_line blocks.now) lines.old lines.new (H.outside host.old) (H.outside host.new) result }
+    ensures { Adds Output (flat_map block_line blocks.now) lines.old lines.new (H.outside host.old)
+        (H.outside host.new) result }
 {
     for block in blocks {
         lines.put(host, line::block(block).bytes())?;
@@ -88,7 +93,8 @@ fn put_blocks<H: Host>(
 
 fn put_counters<H: Host>(hist: &RawHist, lines: &mut PrintBuf, host: &mut H) -> Result<(), Failed>
     requires { 0 < length hist.now.counters → hist.now.low < hist.now.high }
-    ensures { Adds Output (flat_map (counter_text hist.now) (enumerate_from 0 hist.now.counters)) lines.old lines.new
+    ensures { Adds Output (flat_map (counter_text hist.now) (enumerate_from 0 hist.now.counters))
+        lines.old lines.new
         (H.outside host.old) (H.outside host.new) result }
 {
     for (i, counter) in hist.counters.as_slice().iter().enumerate() {
@@ -106,7 +112,8 @@ fn put_counter<H: Host>(
 ) -> Result<(), Failed>
     requires within { i < length hist.now.counters }
     requires range { hist.now.low < hist.now.high }
-    ensures { Adds Output (counter_text hist.now (i, counter)) lines.old lines.new (H.outside host.old) (H.outside host.new) result }
+    ensures { Adds Output (counter_text hist.now (i, counter)) lines.old lines.new
+        (H.outside host.old) (H.outside host.new) result }
 {
     if counter == 0 {
         return Ok(());

@@ -34,7 +34,8 @@ fn stacks_lie_one_below_the_other()
 
 fn harts_take_turns()
     ensures alone { map (taker_of (RoundRobin 1) 1) (range_with_len 0 3) ≡ 0 ∷ 0 ∷ 0 ∷ [] }
-    ensures round { map (taker_of (RoundRobin 2) 3) (range_with_len 0 8) ≡ 0 ∷ 0 ∷ 1 ∷ 1 ∷ 2 ∷ 2 ∷ 0 ∷ 0 ∷ [] }
+    ensures round { map (taker_of (RoundRobin 2) 3) (range_with_len 0 8)
+        ≡ 0 ∷ 0 ∷ 1 ∷ 1 ∷ 2 ∷ 2 ∷ 0 ∷ 0 ∷ [] }
     ensures drawn { state_after 1 1 ≡ 0x40822041 }
     ensures again { state_after 1 2 ≡ 0x100041060C011441 }
     ensures seeded { map (taker_of (Seeded 1) 2) (range_with_len 0 3) ≡ 1 ∷ 1 ∷ 1 ∷ [] }

@@ -35,7 +35,8 @@ fn histogram(alloc: Global, rate: u32) -> Result<RawHist, AllocError>
 /// Two histograms of one range, the second of the given rate, an arc and a blocks record.
 fn file(alloc: Global, rate: u32) -> Result<Records, AllocError>
     ensures ranges { IfOk result (λ records. All HasRange records.recs) }
-    ensures within { IfOk result (λ records. IsWithin (with_records (wide_records records.recs) empty_content)) }
+    ensures within { IfOk result (λ records.
+        IsWithin (with_records (wide_records records.recs) empty_content)) }
 {
     let mut blocks = BlockList::new(alloc);
     blocks.push(RawBlock {
@@ -399,7 +400,8 @@ fn executions_of_64_bits(rt: HostRuntime) -> Result<(), Fail> {
 /// A blocks record of 100,000 addresses, and 100,000 arcs, of one execution and of one call each.
 fn many_records(alloc: Global) -> Result<Records, AllocError>
     ensures ranges { IfOk result (λ records. All HasRange records.recs) }
-    ensures within { IfOk result (λ records. IsWithin (with_records (wide_records records.recs) empty_content)) }
+    ensures within { IfOk result (λ records.
+        IsWithin (with_records (wide_records records.recs) empty_content)) }
 {
     let mut blocks = BlockList::new(alloc);
     for i in 0..100_000u32 {
