@@ -74,7 +74,7 @@ names_refusal strings entries = option_map (λ e. Link e.number) (find (has_endl
 
 -- too many kept symbols
 unfoldable pub count_refusal : List Entry → Option ElfRefusal
-count_refusal kept_entries = if nat_lt MAX_SYMBOLS (length kept_entries) then Some (TooManySymbols (length kept_entries)) else None
+count_refusal kept = if nat_lt MAX_SYMBOLS (length kept) then Some (TooManySymbols (length kept)) else None
 
 -- the fitting symbols' names, and how many are kept
 unfoldable pub symbols_refusal : List Section → List ℕ → List ℕ → Option ElfRefusal

@@ -17,10 +17,10 @@ pub data Front : Type 0 where
 
 -- a histogram by its fields and the text behind them, in a file of `len` bytes, where its tag stands at `at`
 abbrev pub hist_of_fields : ℕ → ℕ → ℕ → ℕ → ℕ → ℕ → List ℕ → ℕ → List ℕ → Front
-hist_of_fields len at low high count rate dim short behind_records =
+hist_of_fields len at low high count rate dim short behind =
     if nat_lt 0 count && nat_le high low then Refused (Range at low high) else (
-    if nat_lt (length behind_records) (count * 2) then Refused (Short len) else
-    Found (Hist (record { low = low; high = high; unit = record { rate = rate; dim = dim; «abbrev» = short }; counters = items_of_text 2 value_of count behind_records })) (drop (count * 2) behind_records))
+    if nat_lt (length behind) (count * 2) then Refused (Short len) else
+    Found (Hist (record { low = low; high = high; unit = record { rate = rate; dim = dim; «abbrev» = short }; counters = items_of_text 2 value_of count behind })) (drop (count * 2) behind))
 
 -- the body of a histogram: its fields take 32 bytes
 abbrev pub hist_front : ℕ → ℕ → List ℕ → Front
@@ -35,8 +35,8 @@ arc_front len body =
 
 -- pairs of an address and a count, by their number and the text behind it
 abbrev pub pairs_front : ℕ → ℕ → List ℕ → Front
-pairs_front len count behind_records =
-    if nat_lt (length behind_records) (count * 8) then Refused (Short len) else Found (Blocks (items_of_text 8 block_of count behind_records)) (drop (count * 8) behind_records)
+pairs_front len count behind =
+    if nat_lt (length behind) (count * 8) then Refused (Short len) else Found (Blocks (items_of_text 8 block_of count behind)) (drop (count * 8) behind)
 
 -- the body of counts of basic blocks: their number takes 4 bytes
 abbrev pub blocks_front : ℕ → List ℕ → Front
@@ -52,7 +52,7 @@ body_front len at (suc (suc (suc tag))) body = Refused (Tag at (suc (suc (suc ta
 
 abbrev pub front_refusal : Front → Option GmonRefusal
 front_refusal (Refused refusal) = Some refusal
-front_refusal (Found rec behind_records) = None
+front_refusal (Found rec behind) = None
 
 -- records in front of what is read behind them
 abbrev pub behind_records : List Rec → Result (List Rec) GmonRefusal → Result (List Rec) GmonRefusal
