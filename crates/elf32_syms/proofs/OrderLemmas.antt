@@ -1,5 +1,6 @@
 -- What callers rely on in an accepted image.
 use Rattle.std.proofs.Common.{◌≡◌, ◌<◌, ◌≤◌, ℕ, zero, suc, ◌+◌, ◌-◌, false, List, [], ◌∷◌, length, get_or, All, Option, Some, None, option_map, refl, arith}
+use Rattle.std.specs.Option.{option_or}
 use Rattle.std.specs.List.{find, filter_map, cons_option, range_with_len, AllAdjacentBelow}
 use Rattle.std.proofs.lemmas.Bool.Decides.{nat_tests}
 use Rattle.std.proofs.lemmas.List.Elements.{All-cons, All-nil}
@@ -10,12 +11,12 @@ use Rattle.elf32_syms.specs.declared.image.Segment.{Segment}
 use Rattle.elf32_syms.specs.declared.image.Image.{Image}
 use Rattle.elf32_syms.specs.declared.sections.Section.{Section}
 use Rattle.elf32_syms.specs.declared.symbols.Entry.{Entry}
-use Rattle.elf32_syms.specs.Sections.{text_low, text_high}
+use Rattle.elf32_syms.specs.Sections.{sections_of, strings_of, table_of, text_low, text_high}
 use Rattle.elf32_syms.specs.Segments.{segments_of, is_cut_off}
 use Rattle.elf32_syms.specs.Symbols.{kept_at, kept_entries}
-use Rattle.elf32_syms.specs.Refusals.{segments_refusal, text_refusal}
+use Rattle.elf32_syms.specs.Refusals.{elf_refusal, header_refusal, segments_refusal, symbols_refusal, table_refusal, text_refusal}
 use Rattle.elf32_syms.specs.Owners.{IsAscending}
-use Rattle.elf32_syms.specs.Image.{end_before, in_a_row, IsWithinLimits}
+use Rattle.elf32_syms.specs.Image.{candidates_of, end_before, image_of, in_a_row, symbols_of, IsWithinLimits}
 use Rattle.elf32_syms.proofs.KeptLemmas.{kept_at_holds}
 use Rattle.elf32_syms.proofs.TextLemmas.{text_limits}
 
@@ -97,3 +98,20 @@ within_limits bs sections strings cs image segments text s l h f =
       segments_in_file = rw s (segments_in_file bs segments);
       ascending = rw f (row_ascending sections strings cs some);
     }
+
+-- where the first of two refusals doesn't come and the second neither, none comes
+neither : {X : Type 0} (r s : Option X) → option_or r s ≡ None → (r ≡ None) × (s ≡ None)
+neither None s none = (refl, none)
+neither (Some e) s none = absurd cc
+
+pub accepted_within : (bs : List ℕ) → elf_refusal bs ≡ None → IsWithinLimits (length bs) (image_of bs)
+unfolding elf_refusal image_of symbols_of
+accepted_within bs none =
+    let sections = sections_of bs in
+    let strings = strings_of bs sections in
+    let symbols = symbols_refusal sections (table_of bs sections) strings in
+    let later = option_or (text_refusal sections) (option_or (table_refusal (length bs) sections) symbols) in
+    let behind_header = (neither (header_refusal bs) (option_or (segments_refusal bs) later) none).1 in
+    let segments = neither (segments_refusal bs) later behind_header in
+    let text = neither (text_refusal sections) (option_or (table_refusal (length bs) sections) symbols) segments.1 in
+    within_limits bs sections strings (candidates_of bs) (image_of bs) segments.0 text.0 refl refl refl refl

@@ -6,3 +6,4 @@ pub mod Symbols
 pub mod Refusals
 pub mod Owners
 pub mod Image
+pub mod Laws

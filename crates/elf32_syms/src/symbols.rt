@@ -63,7 +63,7 @@ fn may_be_function(entry: Entry) -> bool
 
 /// Whether a symbol is one of the text: its section is executable and has its address. Symbol 0 is
 /// none.
-#[tactic(auto, unfolding(crate::specs::Symbols::fits))]
+#[tactic(auto, unfolding(crate::specs::Symbols::is_candidate))]
 fn fits(sections: &[Section], entry: Entry) -> bool
     ensures { result ≡ fits_of sections.now entry }
 {
@@ -131,7 +131,7 @@ fn by_name(strings: &[u8], one: Entry, other: Entry) -> Ordering
 }
 
 /// Whether one symbol is kept rather than another at the same address.
-#[tactic(auto, unfolding(crate::specs::Symbols::comes_before))]
+#[tactic(auto, unfolding(crate::specs::Symbols::ranks_before))]
 pub(crate) fn comes_before(strings: &[u8], one: Entry, other: Entry) -> bool
     ensures { result ≡ comes_before_of strings.now one other }
 {

@@ -4,6 +4,7 @@ use Rattle.std.specs.Prelude.{bytes_eq, codes, is_some, nat_lt, IfSome}
 use Rattle.std.proofs.lemmas.Bool.{lt-ltb}
 use Rattle.std.proofs.lemmas.Slice.Eq.{bytes_eq-Decides}
 use Rattle.std.proofs.lemmas.List.{take-append-le, take-append-drop}
+use Rattle.gp_base.specs.Bytes.{IsBytes}
 use Rattle.gp_base.specs.declared.records.Form.{Form}
 use Rattle.gp_base.specs.declared.records.Form.TheVariants.{Bsd, Gnu}
 use Rattle.host_port.specs.Act.{Disk, file_content}
@@ -42,12 +43,17 @@ short_refused bytes few =
     ap (λ (f : Form). refusal_in f bytes) (form_short bytes few) ∙ due
 
 -- a file that isn't refused spells what its form reads
+pub accepted_spelled : (bytes : List ℕ) → IsBytes bytes → file_refusal bytes ≡ None → FileSpells bytes (file_records bytes)
+accepted_spelled bytes are none = by (form_of bytes) none
+  where
+    by : (form : Form) → refusal_in form bytes ≡ None → SpellsIn form bytes (records_in form bytes)
+    by Bsd none = bsd_spelled bytes are none
+    by Gnu none = gnu_spelled bytes are none
+
 pub file_spelled : (bytes : List ℕ) (r : FileReader) → StandsFor bytes r → file_refusal bytes ≡ None → FileSpells bytes (file_records bytes)
 file_spelled bytes (reader.Front front) s none = absurd (let e : Some (Short (length bytes)) ≡ None = sym (short_refused bytes s.1) ∙ none in cc)
-file_spelled bytes (reader.Bsd r) s none =
-    subst (λ (f : Form). SpellsIn f bytes (records_in f bytes)) (sym s.1) (bsd_spelled bytes s.0.are_bytes (subst (λ (f : Form). refusal_in f bytes ≡ None) s.1 none))
-file_spelled bytes (reader.Gnu r) s none =
-    subst (λ (f : Form). SpellsIn f bytes (records_in f bytes)) (sym s.1) (gnu_spelled bytes s.0.are_bytes (subst (λ (f : Form). refusal_in f bytes ≡ None) s.1 none))
+file_spelled bytes (reader.Bsd r) s none = accepted_spelled bytes s.0.are_bytes none
+file_spelled bytes (reader.Gnu r) s none = accepted_spelled bytes s.0.are_bytes none
 
 -- ---- one piece more of the input
 

@@ -1,9 +1,12 @@
 -- The two forms of a profile file: which one its bytes are of, and which records they spell.
-use Rattle.std.specs.Prelude.{ℕ, List, Option, take, bytes_eq, codes, if◌then◌else◌}
+use Rattle.std.specs.Prelude.{◌≡◌, ℕ, None, List, Option, take, bytes_eq, codes, if◌then◌else◌}
+use Rattle.std.specs.List.{All}
+use Rattle.gp_base.specs.Bytes.{IsBytes}
 use Rattle.gp_base.specs.declared.records.Form.{Form}
 use Rattle.gp_base.specs.declared.records.Form.TheVariants.{Bsd, Gnu}
 use Rattle.gp_base.specs.declared.records.Records.{Records}
 use Rattle.gp_base.specs.declared.refusal.GmonRefusal.{GmonRefusal}
+use Rattle.gmon_data.specs.Content.{HasSpan, wide_records}
 use Rattle.gmon_bsd.specs.Grammar.{BsdSpells}
 use Rattle.gmon_bsd.specs.Reading.{bsd_refusal, bsd_records}
 use Rattle.gmon_gnu.specs.Grammar.{GnuSpells}
@@ -37,3 +40,7 @@ SpellsIn Gnu bytes r = GnuSpells bytes r
 -- or in the form that they tell
 abbrev pub FileSpells : List ℕ → Records → Type 0
 FileSpells bytes r = SpellsIn (form_of bytes) bytes r
+
+-- in a file that isn't refused, the counters of each histogram that has any share a range that isn't empty
+abbrev pub RecordsHaveSpans : Type 0
+RecordsHaveSpans = (bytes : List ℕ) → IsBytes bytes → file_refusal bytes ≡ None → All HasSpan (wide_records (file_records bytes).recs)

@@ -9,6 +9,7 @@ use crate::instruction::{Instr, Op};
 
 /// The instruction of a word, as the RISC-V unprivileged manual lists RV32I, M and Zifencei, or None
 /// where the word is none of these. A field that the instruction does not use is 0.
+#[inline(always)]
 pub fn decode(word: u32) -> Option<Instr>
     ensures { result ≡ instr_of word }
 {

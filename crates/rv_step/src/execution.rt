@@ -15,7 +15,8 @@ use crate::stepped::{Stepped, TrapKind};
 use gp_base::{le2, le4};
 use rv_decode::{Instr, Op};
 
-/// Executes an instruction.
+/// Executes an instruction. Each has an arm of its own, so that it is told by one jump.
+#[inline(always)]
 pub(crate) fn execute(instr: &Instr, regs: &mut Regs, ram: &mut Ram) -> Stepped
     ensures outcome { outcome result regs.new ram.new ≡ outcome_of instr.now.op
         instr.now regs.old ram.old }
@@ -27,33 +28,50 @@ pub(crate) fn execute(instr: &Instr, regs: &mut Regs, ram: &mut Ram) -> Stepped
         Op::Auipc => give(instr.rd, target(regs.pc(), instr.imm), regs),
         Op::Jal => jump(instr, target(regs.pc(), instr.imm), regs),
         Op::Jalr => jump_to_register(instr, regs),
-        Op::Beq | Op::Bne | Op::Blt | Op::Bge | Op::Bltu | Op::Bgeu => branch(instr, regs),
-        Op::Lb | Op::Lh | Op::Lw | Op::Lbu | Op::Lhu => load(instr, regs, ram),
-        Op::Sb | Op::Sh | Op::Sw => store(instr, regs, ram),
-        Op::Addi
-        | Op::Slti
-        | Op::Sltiu
-        | Op::Xori
-        | Op::Ori
-        | Op::Andi
-        | Op::Slli
-        | Op::Srli
-        | Op::Srai => compute_with(instr, regs),
-        Op::Add
-        | Op::Sub
-        | Op::Sll
-        | Op::Slt
-        | Op::Sltu
-        | Op::Xor
-        | Op::Srl
-        | Op::Sra
-        | Op::Or
-        | Op::And => compute(instr, regs),
+        Op::Beq => branch(Op::Beq, instr, regs),
+        Op::Bne => branch(Op::Bne, instr, regs),
+        Op::Blt => branch(Op::Blt, instr, regs),
+        Op::Bge => branch(Op::Bge, instr, regs),
+        Op::Bltu => branch(Op::Bltu, instr, regs),
+        Op::Bgeu => branch(Op::Bgeu, instr, regs),
+        Op::Lb => load(Op::Lb, instr, regs, ram),
+        Op::Lh => load(Op::Lh, instr, regs, ram),
+        Op::Lw => load(Op::Lw, instr, regs, ram),
+        Op::Lbu => load(Op::Lbu, instr, regs, ram),
+        Op::Lhu => load(Op::Lhu, instr, regs, ram),
+        Op::Sb => store(Op::Sb, instr, regs, ram),
+        Op::Sh => store(Op::Sh, instr, regs, ram),
+        Op::Sw => store(Op::Sw, instr, regs, ram),
+        Op::Addi => compute_with(Op::Addi, instr, regs),
+        Op::Slti => compute_with(Op::Slti, instr, regs),
+        Op::Sltiu => compute_with(Op::Sltiu, instr, regs),
+        Op::Xori => compute_with(Op::Xori, instr, regs),
+        Op::Ori => compute_with(Op::Ori, instr, regs),
+        Op::Andi => compute_with(Op::Andi, instr, regs),
+        Op::Slli => compute_with(Op::Slli, instr, regs),
+        Op::Srli => compute_with(Op::Srli, instr, regs),
+        Op::Srai => compute_with(Op::Srai, instr, regs),
+        Op::Add => compute(Op::Add, instr, regs),
+        Op::Sub => compute(Op::Sub, instr, regs),
+        Op::Sll => compute(Op::Sll, instr, regs),
+        Op::Slt => compute(Op::Slt, instr, regs),
+        Op::Sltu => compute(Op::Sltu, instr, regs),
+        Op::Xor => compute(Op::Xor, instr, regs),
+        Op::Srl => compute(Op::Srl, instr, regs),
+        Op::Sra => compute(Op::Sra, instr, regs),
+        Op::Or => compute(Op::Or, instr, regs),
+        Op::And => compute(Op::And, instr, regs),
         Op::Fence | Op::FenceI => pass(regs),
         Op::Ecall => Stepped::Ecall,
         Op::Ebreak => Stepped::Trap(TrapKind::Breakpoint),
-        Op::Mul | Op::Mulh | Op::Mulhsu | Op::Mulhu | Op::Div | Op::Divu | Op::Rem | Op::Remu =>
-            multiply(instr, regs),
+        Op::Mul => multiply(Op::Mul, instr, regs),
+        Op::Mulh => multiply(Op::Mulh, instr, regs),
+        Op::Mulhsu => multiply(Op::Mulhsu, instr, regs),
+        Op::Mulhu => multiply(Op::Mulhu, instr, regs),
+        Op::Div => multiply(Op::Div, instr, regs),
+        Op::Divu => multiply(Op::Divu, instr, regs),
+        Op::Rem => multiply(Op::Rem, instr, regs),
+        Op::Remu => multiply(Op::Remu, instr, regs),
     }
 }
 
@@ -102,10 +120,12 @@ fn jump_to_register(instr: &Instr, regs: &mut Regs) -> Stepped
 }
 
 #[tactic(auto, unfolding(crate::specs::Step::branches))]
-fn branch(instr: &Instr, regs: &mut Regs) -> Stepped
+#[inline(always)]
+fn branch(op: Op, instr: &Instr, regs: &mut Regs) -> Stepped
+    requires { instr.now.op ≡ op }
     ensures { (m : Memory) → outcome result regs.new m ≡ branches instr.now regs.old m }
 {
-    if !is_taken(instr.op, regs.get(instr.rs1), regs.get(instr.rs2)) {
+    if !is_taken(op, regs.get(instr.rs1), regs.get(instr.rs2)) {
         return pass(regs);
     }
     let to = target(regs.pc(), instr.imm);
@@ -150,16 +170,18 @@ fn store_width(op: Op) -> u32
 }
 
 #[tactic(auto, unfolding(crate::specs::Step::loads))]
-fn load(instr: &Instr, regs: &mut Regs, ram: &Ram) -> Stepped
+#[inline(always)]
+fn load(op: Op, instr: &Instr, regs: &mut Regs, ram: &Ram) -> Stepped
+    requires { instr.now.op ≡ op }
     ensures { outcome result regs.new ram.now ≡ loads instr.now regs.old ram.now }
 {
     let addr = address(instr, regs);
-    let width = load_width(instr.op);
+    let width = load_width(op);
     if addr % width != 0 {
         return Stepped::Trap(TrapKind::LoadMisaligned);
     }
     match ram.place(addr, width) {
-        Some(at) => give(instr.rd, value(instr.op, ram, at), regs),
+        Some(at) => give(instr.rd, value(op, ram, at), regs),
         None => Stepped::Trap(TrapKind::LoadOutside),
     }
 }
@@ -180,19 +202,21 @@ fn value(op: Op, ram: &Ram, at: usize) -> u32
 }
 
 #[tactic(auto, unfolding(crate::specs::Step::stores))]
-fn store(instr: &Instr, regs: &mut Regs, ram: &mut Ram) -> Stepped
+#[inline(always)]
+fn store(op: Op, instr: &Instr, regs: &mut Regs, ram: &mut Ram) -> Stepped
+    requires { instr.now.op ≡ op }
     ensures outcome { outcome result regs.new ram.new ≡ stores instr.now regs.old ram.old }
     ensures base { ram.new.base ≡ ram.old.base }
     ensures size { length ram.new.bytes ≡ length ram.old.bytes }
 {
     let addr = address(instr, regs);
-    let width = store_width(instr.op);
+    let width = store_width(op);
     if addr % width != 0 {
         return Stepped::Trap(TrapKind::StoreMisaligned);
     }
     match ram.place(addr, width) {
         Some(at) => {
-            put(instr.op, at, regs.get(instr.rs2), ram);
+            put(op, at, regs.get(instr.rs2), ram);
             pass(regs)
         }
         None => Stepped::Trap(TrapKind::StoreOutside),
@@ -215,25 +239,31 @@ fn put(op: Op, at: usize, value: u32, ram: &mut Ram)
 }
 
 #[tactic(auto, unfolding(crate::specs::Step::computes))]
-fn compute(instr: &Instr, regs: &mut Regs) -> Stepped
+#[inline(always)]
+fn compute(op: Op, instr: &Instr, regs: &mut Regs) -> Stepped
+    requires { instr.now.op ≡ op }
     ensures { (m : Memory) → outcome result regs.new m ≡ computes instr.now regs.old m }
 {
-    let value = computed(instr.op, regs.get(instr.rs1), regs.get(instr.rs2));
+    let value = computed(op, regs.get(instr.rs1), regs.get(instr.rs2));
     give(instr.rd, value, regs)
 }
 
 #[tactic(auto, unfolding(crate::specs::Step::computes_with))]
-fn compute_with(instr: &Instr, regs: &mut Regs) -> Stepped
+#[inline(always)]
+fn compute_with(op: Op, instr: &Instr, regs: &mut Regs) -> Stepped
+    requires { instr.now.op ≡ op }
     ensures { (m : Memory) → outcome result regs.new m ≡ computes_with instr.now regs.old m }
 {
-    let value = computed(instr.op, regs.get(instr.rs1), instr.imm.cast_unsigned());
+    let value = computed(op, regs.get(instr.rs1), instr.imm.cast_unsigned());
     give(instr.rd, value, regs)
 }
 
 #[tactic(auto, unfolding(crate::specs::Step::multiplies))]
-fn multiply(instr: &Instr, regs: &mut Regs) -> Stepped
+#[inline(always)]
+fn multiply(op: Op, instr: &Instr, regs: &mut Regs) -> Stepped
+    requires { instr.now.op ≡ op }
     ensures { (m : Memory) → outcome result regs.new m ≡ multiplies instr.now regs.old m }
 {
-    let value = multiplied(instr.op, regs.get(instr.rs1), regs.get(instr.rs2));
+    let value = multiplied(op, regs.get(instr.rs1), regs.get(instr.rs2));
     give(instr.rd, value, regs)
 }

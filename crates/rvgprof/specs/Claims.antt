@@ -153,6 +153,8 @@ pub record ProfileClaims : Type 0 where
   pub sums : (a b : List WideRec) → sum_of (content_of a) (content_of b) ≡ content_of (a ++ b)
   -- records without conflict can be split between two profiles, which then have a sum
   pub splits : (a b : List WideRec) → All HasSpan (a ++ b) → conflict_of empty_content (a ++ b) ≡ None → clash_of (content_of a) (content_of b) ≡ None
+  -- the records of a file that isn't refused have such spans
+  pub spans : (bytes : List ℕ) → IsBytes bytes → file_refusal bytes ≡ None → All HasSpan (wide_records (file_records bytes).recs)
   -- the content of records and more records is that of the first ones, with the others added one by one
   pub more_records : (recs more : List WideRec) → content_of (recs ++ more) ≡ with_records more (content_of recs)
   -- for each low address and each place, a content counts there what the histograms among its records count
@@ -184,6 +186,8 @@ pub record ProgramClaims : Type 0 where
   pub kept_symbol : (strings : List ℕ) (cs : _) (addr : ℕ) → MatchOption (kept_at strings cs addr)
       (All (λ d. ¬ (d.addr ≡ addr)) cs)
       (λ c. Contains cs c × (c.addr ≡ addr) × All (λ d. d.addr ≡ addr → is_kept_before strings d c ≡ false) cs)
+  -- the symbols of a program that isn't refused are in the order of their addresses and apart
+  pub ascending : (bytes : List ℕ) → elf_refusal bytes ≡ None → IsAscending (image_of bytes).symbols
   -- no word matches two lines of the table of instructions
   pub one_row : (w : ℕ) → AllPairs (λ r s. ¬ (Matches w r × Matches w s)) table
   -- the row of a word is a line that it matches, and there is none only where it matches no line

@@ -104,6 +104,7 @@ pub fn claims()
     gmon_gnu::laws::counted_run_read_back();
     gmon_gnu::laws::profile_read_back();
     gmon_files::laws::run_read_back();
+    gmon_files::laws::records_have_spans();
     profile_sum::laws::sum_of_contents();
     profile_sum::laws::parts_have_sum();
     gmon_data::laws::records_add_up();
@@ -114,6 +115,7 @@ pub fn claims()
     arc_filter::laws::times_stay();
     arc_filter::laws::profiles_stay();
     elf32_syms::laws::first_at_an_address();
+    elf32_syms::laws::accepted_within_limits();
     rv_decode::table::instruction_table();
     rv_step::memory::memory_map();
     prof_machine::laws::turns_follow();

@@ -40,6 +40,7 @@ returns c = record {
   profiles = record {
     sums = c.sum_of_contents.ensures;
     splits = c.parts_have_sum.ensures;
+    spans = c.records_have_spans.ensures;
     more_records = c.records_add_up.ensures;
     counters = c.counters_add_up.ensures;
     executions = c.executions_add_up.ensures;
@@ -52,6 +53,7 @@ returns c = record {
   };
   programs = record {
     kept_symbol = c.first_at_an_address.ensures;
+    ascending = λ bytes none. (c.accepted_within_limits.ensures bytes none).ascending;
     one_row = c.instruction_table.ensures.one_row;
     row = c.instruction_table.ensures.row;
     read_bytes = c.memory_map.ensures.read;
