@@ -23,9 +23,7 @@ const GNU_END: [u8; 13] = *b"\x01\x04\0\x01\0\x14\0\x01\0\x01\0\0\0";
 
 /// A file at the limit, of zeros between a front and an end.
 fn file_of(alloc: Global, front: &[u8], end: &[u8]) -> Result<Vec<u8>, AllocError> {
-    let zeros = LIMIT
-        .saturating_sub(front.len())
-        .saturating_sub(end.len());
+    let zeros = LIMIT.saturating_sub(front.len()).saturating_sub(end.len());
     let mut bytes = front.to_vec(alloc)?;
     bytes.extend_from_slice(&vec![in alloc; 0u8; zeros]?)?;
     bytes.extend_from_slice(end)?;
