@@ -2,6 +2,5 @@ mod both;
 mod bsd;
 mod cells;
 mod gnu;
-mod limits;
 mod pieces;
 mod records;
