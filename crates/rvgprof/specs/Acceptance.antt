@@ -15,12 +15,12 @@ use Rattle.gmon_files.specs.Forms.{file_refusal, file_records}
 use Rattle.rvgprof.specs.Answer.{Chosen, chosen_by, chosen_sources, wide_step}
 use Rattle.rvgprof.specs.RunFile.{reported_profile}
 
--- a program's file isn't refused
+-- a program's file is within its limit and isn't refused
 pub record IsProgramFile (bytes : List ℕ) : Type 0 where
   pub limit : length bytes ≤ MAX_ELF_BYTES
   pub accepted : elf_refusal bytes ≡ None
 
--- nor is a profile file
+-- and so is a profile file
 pub record IsProfileFile (bytes : List ℕ) : Type 0 where
   pub limit : length bytes ≤ MAX_PROFILE_BYTES
   pub accepted : file_refusal bytes ≡ None
@@ -76,7 +76,7 @@ starts_run (Some (Demo functions elf setup)) = true
 starts_run (Some (Folded elf inclusive setup)) = true
 starts_run command = false
 
--- whether a command does all its acts at once, so that memory runs out before them all
+-- whether a command does all its acts at once, so that memory runs out before the first of them
 abbrev pub acts_at_once : Option Command → Bool
 acts_at_once (Some (Show gmon)) = true
 acts_at_once (Some (Syms elf)) = true
@@ -87,7 +87,7 @@ acts_at_once (Some Help) = true
 acts_at_once (Some Version) = true
 acts_at_once command = false
 
--- whether carrying it out takes memory
+-- whether it may answer want of memory
 abbrev pub may_want_memory : Option Command → Bool
 may_want_memory None = false
 may_want_memory (Some Help) = false

@@ -25,7 +25,7 @@ abbrev pub LastOpened : (ℕ → List ℕ) → List (List ℕ) → ℕ → ℕ �
 LastOpened contents words opens word =
     (before : ℕ) × (opens ≡ suc before) × ComesTo contents (course_of words) before word
 
--- all of the course was done and is answered, each input was opened once, and no call on the host failed
+-- all of the course was done and is answered, each input was opened once, and no count of faults rose
 pub record IsReply (words : List (List ℕ)) (contents : ℕ → List ℕ) (old new : Outside)
     (opens : ℕ) (done : List Act) (result : Result Done Fault) : Type 0 where
   pub ending : result ≡ (reply_to contents (course_of words)).ending
@@ -33,7 +33,8 @@ pub record IsReply (words : List (List ℕ)) (contents : ℕ → List ℕ) (old 
   pub counts : KeepsCounts old new
   pub inputs : opens ≡ inputs_of contents (course_of words)
 
--- what was done, how many inputs were opened and which calls on the host failed, by the answer
+-- by the answer: what was done, which counts of faults rose, and how many inputs were opened, but after a fault of a write
+-- and want of memory
 abbrev pub Owes : List (List ℕ) → (ℕ → List ℕ) → Outside → Outside → ℕ → List Act → Result Done Fault → Type 0
 Owes words contents old new opens done (Err Usage) =
     (command_of words ≡ None) × (done ≡ []) × KeepsCounts old new × (opens ≡ 0)
@@ -64,15 +65,15 @@ Owes words contents old new opens done (Ok carried) =
 abbrev pub WhereTold : Outside → Outside → (List File → Type 0) → Type 0
 WhereTold old new P = MatchOption new.disk ⊤ (λ _. IfSome old.disk (λ d. P d.files))
 
--- The answer is that for inputs with some contents: for those of the files that are told before and after,
--- where they are.
+-- This answer is owed for some contents of the inputs; where the files are told before and after, these are theirs
+-- before.
 pub record Owed (words : List (List ℕ)) (old new : Outside)
     (opens : ℕ) (done : List Act) (result : Result Done Fault) : Type 0 where
   pub contents : ℕ → List ℕ
   pub told : WhereTold old new (λ files. contents ≡ contents_of words files)
   pub owes : Owes words contents old new opens done result
 
--- what a file is refused for is a fault of its bytes, and never want of memory
+-- what a file is refused for is never want of memory
 abbrev pub RefusalIsNoWant : Fault → Type 0
 RefusalIsNoWant (BadElf elf.OutOfMemory) = ⊥
 RefusalIsNoWant (BadProfile gmons.OutOfMemory word) = ⊥

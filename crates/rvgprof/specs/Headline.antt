@@ -45,7 +45,7 @@ use Rattle.rvgprof.specs.Help.{help_text, version_text}
 use Rattle.rvgprof.specs.RunFile.{SaysProfile, SaysRun, gmon_text, memory_text, reported_profile, text_sizes, end_world}
 use Rattle.rvgprof.specs.Acceptance.{IsProfileFile, IsProgramFile, AreProfileFiles, Starts, total_of}
 
--- what is reported: what that file says, without the calls that are cut
+-- what is reported of a run: what its file says of samples and calls, without the calls that are cut
 abbrev pub run_sources : Chosen → Form → List ℕ → Setup → Sources
 run_sources chosen form program setup = chosen_sources chosen (image_of program) (reported_profile form program setup)
 
@@ -63,11 +63,12 @@ exact_section true s = codes "\n" ++ exact_text s.symbols s.graph (exact_flow_in
 abbrev pub printed_text : Chosen → Sources → List ℕ
 printed_text chosen s = reports_text chosen.shown chosen.hidden s ++ exact_section chosen.exact s
 
--- the memory of the runtime isn't written into the file of the profile
+-- The word of `--image`, where there is one, isn't that of GMON: what is said of GMON's file is said where the memory of
+-- the runtime isn't written into it. Two words that differ are taken for two files.
 abbrev pub NamesDiffer : List (List ℕ) → ℕ → Option ℕ → Type 0
 NamesDiffer words gmon image = option_map (nth_word words) image ≢ Some (nth_word words gmon)
 
--- a text was printed on the output, and nothing else
+-- where the output is told: a text was printed on it, and nothing else
 abbrev pub IsPrinted : List ℕ → Outside → Outside → Type 0
 IsPrinted text old new = Becomes (λ bytes. bytes ++ text) old.out new.out
 
@@ -83,7 +84,7 @@ pub record Runs (program : List ℕ) (setup : Setup) : Type 0 where
 -- The file of a run is written, and that of its runtime's memory where one is named.
 pub record RunIsWritten (words : List (List ℕ)) (new : Outside) (gmon : ℕ) (form : Form)
     (image : Option ℕ) (setup : Setup) (program : List ℕ) : Type 0 where
-  -- GMON holds the file of the run ..
+  -- GMON holds the file of the run, where `--image` names no file or another ..
   pub file : NamesDiffer words gmon image → Holds words new gmon (gmon_text form program setup)
   -- .. which is read as what happened in the run
   pub says : NamesDiffer words gmon image
@@ -95,6 +96,7 @@ pub record RunIsWritten (words : List (List ℕ)) (new : Outside) (gmon : ℕ) (
 pub record RunIsSummedUp (words : List (List ℕ)) (old new : Outside) (done : Done)
     (setup : Setup) (program : List ℕ) : Type 0 where
   pub summary : done.run ≡ summary_of (text_sizes program setup) (end_world program setup)
+  -- what was printed of the end line
   pub line : List ℕ
   pub ends : LineEnds line (last_line words (Ok done)) old.err_faults new.err_faults
   -- what the program prints on the error output stands before the line
@@ -111,18 +113,19 @@ ArcIsInProportion s i =
 abbrev pub CallersGetAll : Sources → ℕ → Type 0
 CallersGetAll s d = (carried_to s.graph (slice_index s.flow.arc_self) d ≡ slice_index s.flow.self d) × (carried_to s.graph (slice_index s.flow.arc_child) d ≡ slice_index s.flow.child d)
 
--- The time of a report is shared out.
+-- The time of a report is shared out, in grains: a million are a sample.
 pub record TimeIsShared (s : Sources) : Type 0 where
-  -- each caller gets of its callee's time what its calls are of all that enter the callee's component ..
+  -- functions, arcs and components are a graph, and its times solve the equations of `IsFlow` ..
   pub graph : IsGraph s.graph
   pub flow : IsFlow s.graph s.shares.of s.flow
-  -- .. that is its time in proportion to the calls, but for less than a grain ..
+  -- .. of an arc from one component to another each part is its callee's component's time in proportion to the calls, but
+  -- for less than a grain ..
   pub parts : (i : ℕ) → i < arc_count s.graph → is_outside s.graph i ≡ true → ArcIsInProportion s i
   -- .. and the callers together get all of it
   pub whole : (d : ℕ) → d < component_count s.graph → entering_of s.graph d ≢ 0 → CallersGetAll s d
-  -- those without callers from outside have together all that is attributed ..
+  -- the components that none outside them calls have together all that is attributed ..
   pub conserved : time_of_roots s.graph s.flow ≡ attributed_of s.shares
-  -- .. and so have their entries in the call graph
+  -- .. and so have their entries in the call graph, of a cycle that of the whole, hidden ones too
   pub entries : sum_below (component_count s.graph) (λ c. when (is_root s.graph c && has_own_entry s c) (shown_total s c)) ≡ attributed_of s.shares
 
 -- what `run` leaves
@@ -164,6 +167,7 @@ pub record SumLeaves (words : List (List ℕ)) (contents : ℕ → List ℕ) (ol
   -- .. which is read back as the sum
   pub says : IfSome new.disk
       (λ d. SaysProfile (total_of contents gmons) (file_content (nth_word words out) d.files))
+  -- nothing was printed
   pub output : IsPrinted [] old new
 
 -- what `show` leaves: the records of its file as lines
@@ -184,8 +188,8 @@ pub record FoldedLeaves (words : List (List ℕ)) (contents : ℕ → List ℕ) 
       ++ folded_report inclusive (image_of (contents elf)) (contents elf) setup) old new
   pub run : RunIsSummedUp words old new done setup (contents elf)
 
--- A cell of a listing shows the executions at its address. In that of one file of a run that counted them, these are how
--- often the instruction there retired in the run.
+-- In the profile of one file that says a run which counted executions, as `profile` leaves it, the executions at an
+-- instruction's address are how often it retired in that run. A cell of the listing shows these (`cell_line`).
 abbrev pub ExecutionsAreListed : Type 0
 ExecutionsAreListed = (program : List ℕ) (setup : Setup) (contents : ℕ → List ℕ) (gmon i : ℕ) → SaysRun Gnu program setup (contents gmon) → setup.blocks ≡ true → i < instructions_of (text_sizes program setup)
     → runs_at ((text_sizes program setup).low + 4 * i) (total_of contents (gmon ∷ [])).blocks ≡ executions_at (end_world program setup).ran ((text_sizes program setup).low + 4 * i)
@@ -222,10 +226,10 @@ pub record DemoLeaves (words : List (List ℕ)) (old new : Outside) (done : Done
   pub output : IsPrinted (prints_of (end_world (demo_program functions) setup).prints
       ++ demo_printed functions setup) old new
   pub run : RunIsSummedUp words old new done setup (demo_program functions)
-  -- so that both numbers of grains in it are the same
+  -- of its time the grains of all samples are those of the components that none calls: the two numbers in the summary
   pub shared : TimeIsShared (demo_sources functions setup)
 
--- what a command leaves where it is carried out
+-- what a command leaves where it is carried out; words without a reading never are
 abbrev pub Leaves : List (List ℕ) → (ℕ → List ℕ) → Outside → Outside → Done → Option Command → Type 0
 Leaves words contents old new done None = ⊥
 Leaves words contents old new done (Some (Show gmon)) = ShowLeaves contents old new gmon
