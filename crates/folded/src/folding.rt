@@ -57,10 +57,10 @@ pub fn fold<H: Host>(
     loop {
         let hart = plan.next_hart();
         let turned = run.turn(hart, host)?;
-        tracker.follow(alloc, symbols, hart, run.last_turn())?;
+        tracker.follow(symbols, hart, run.last_turn())?;
         match turned {
             Turned::Going => {}
-            Turned::Ended(_) => return Ok(tracker.folded),
+            Turned::Ended(_) => return Ok(Folded::of(alloc, tracker.tree)?),
         }
     }
 }

@@ -7,7 +7,7 @@ ghost use Rattle.host_port.specs.Host.{Puts};
 ghost use Rattle.host_port.specs.declared.side.Side.TheVariants.{Output};
 ghost use Rattle.folded.specs.Text.{callee_text, count_text, folded_text, inclusive_line, functions_text, inclusive_text, line_text, name_in, stack_text};
 
-use crate::tally::{Folded, Stack};
+use crate::tally::Folded;
 use elf32_syms::Symbol;
 use host_port::{Failed, Host, PrintBuf};
 use text_cols::Line;
@@ -54,22 +54,23 @@ fn put_lines<H: Host>(
 ) -> Result<(), Failed>
     ensures { Adds Output (folded_text symbols.now folded.now) lines.old lines.new (H.outside host.old) (H.outside host.new) result }
 {
-    for (stack, count) in folded.lines() {
-        put_line(stack, *count, symbols, lines, host)?;
+    for i in 0..folded.line_count() {
+        let (path, count) = folded.line(i);
+        put_line(path.as_slice(), count, symbols, lines, host)?;
     }
     Ok(())
 }
 
 fn put_line<H: Host>(
-    stack: &Stack,
+    stack: &[Option<u32>],
     count: u64,
     symbols: &[Symbol],
     lines: &mut PrintBuf,
     host: &mut H,
 ) -> Result<(), Failed>
-    ensures { Adds Output (line_text symbols.now (stack.now.items, count)) lines.old lines.new (H.outside host.old) (H.outside host.new) result }
+    ensures { Adds Output (line_text symbols.now (stack.now, count)) lines.old lines.new (H.outside host.old) (H.outside host.new) result }
 {
-    put_stack(stack.as_slice(), symbols, lines, host)?;
+    put_stack(stack, symbols, lines, host)?;
     put_count(count, lines, host)
 }
 
