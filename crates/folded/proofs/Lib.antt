@@ -4,3 +4,8 @@ pub mod TallyLemmas
 pub mod FoldLemmas
 pub mod FollowLemmas
 pub mod LineLemmas
+pub mod NodeLemmas
+pub mod AddLemmas
+pub mod CompareLemmas
+pub mod OrderLemmas
+pub mod PlaceLemmas

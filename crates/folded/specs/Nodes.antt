@@ -45,19 +45,25 @@ any_stack s = true
 abbrev pub IsShort : ℕ → List (Option ℕ) → Type 0
 IsShort functions s = (length s ≤ 129) × AreBelow functions s
 
-pub record IsTree (t : Tree) : Type 0 where
+pub record AreNodes (nodes : List (ℕ × Option ℕ)) (counts : List ℕ) (total functions : ℕ) : Type 0 where
   -- callers come before
-  pub callers : (i : ℕ) → i < length t.nodes.keys → (slice_index_or t.nodes.keys i (0, None)).0 ≤ i
-  pub distinct : (i j : ℕ) → i < length t.nodes.keys → j < length t.nodes.keys → slice_index_or t.nodes.keys i (0, None) ≡ slice_index_or t.nodes.keys j (0, None) → i ≡ j
-  pub numbers : length t.counts.items ≡ length t.nodes.keys + 1
-  pub few : length t.nodes.keys < 2 ^ 32
-  pub stacks : All (IsShort t.functions) (node_stacks t.nodes.keys)
-  pub counts : samples_on any_stack (node_stacks t.nodes.keys) t.counts.items ≤ t.total
+  pub callers : (i : ℕ) → i < length nodes → (slice_index_or nodes i (0, None)).0 ≤ i
+  pub distinct : (i j : ℕ) → i < length nodes → j < length nodes → slice_index_or nodes i (0, None) ≡ slice_index_or nodes j (0, None) → i ≡ j
+  pub numbers : length counts ≡ length nodes + 1
+  pub few : length nodes < 2 ^ 32
+  pub stacks : All (IsShort functions) (node_stacks nodes)
+  pub counts : samples_on any_stack (node_stacks nodes) counts ≤ total
 
--- the tree of samples with these stacks
-pub record IsTreeOf (stacks : List (List (Option ℕ))) (t : Tree) : Type 0 where
-  pub samples : (test : List (Option ℕ) → Bool) → samples_on test (node_stacks t.nodes.keys) t.counts.items ≡ count_by test stacks
-  pub total : t.total ≡ length stacks
+abbrev pub IsTree : Tree → Type 0
+IsTree t = AreNodes t.nodes.keys t.counts.items t.total t.functions
+
+-- the nodes have samples with these stacks
+pub record HaveSamples (stacks : List (List (Option ℕ))) (nodes : List (ℕ × Option ℕ)) (counts : List ℕ) (total : ℕ) : Type 0 where
+  pub samples : (test : List (Option ℕ) → Bool) → samples_on test (node_stacks nodes) counts ≡ count_by test stacks
+  pub total : total ≡ length stacks
+
+abbrev pub IsTreeOf : List (List (Option ℕ)) → Tree → Type 0
+IsTreeOf stacks t = HaveSamples stacks t.nodes.keys t.counts.items t.total
 
 -- nodes were added, and no sample
 pub record IsGrown (old new : Tree) : Type 0 where
