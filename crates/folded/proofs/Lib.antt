@@ -9,3 +9,4 @@ pub mod AddLemmas
 pub mod CompareLemmas
 pub mod OrderLemmas
 pub mod PlaceLemmas
+pub mod TrackLemmas

@@ -1,10 +1,14 @@
-use Rattle.std.proofs.Common.{◌≡◌, ◌∙◌, ◌++◌, ◌≤◌, ℕ, List, length, ap, arith, set, subst, sym, ◌+◌}
-use Rattle.folded.specs.Shadow.{Shadow, after_hook, after_ran}
-use Rattle.folded.specs.Stacks.{stacks_of}
-use Rattle.folded.specs.Tally.{Folds}
+use Rattle.std.proofs.Common.{◌≡◌, ◌∙◌, ◌++◌, ◌≤◌, ◌<◌, ℕ, List, Option, length, take, map, ap, arith, get_or, set, subst, sym, ◌+◌}
+use Rattle.std.proofs.lemmas.List.{get_or_default}
+use Rattle.folded.specs.Folding.{IsTracked}
+use Rattle.folded.specs.Nodes.{IsOn, IsTreeFor, IsTreeOf, NodesAdded, first_place, stack_of_node}
+use Rattle.folded.specs.Shadow.{Shadow, after_hook, after_ran, empty_shadow}
+use Rattle.folded.specs.Stacks.{caller_in, stacks_of}
 use Rattle.folded.specs.Trail.{stack_samples, shadow_of}
+use Rattle.folded.specs.declared.place.Place.{Place}
 use Rattle.folded.proofs.FollowLemmas.{followed_follows, hook_room, ran_room, room_set, shadow_read, quiet_follows}
 use Rattle.folded.proofs.FoldLemmas.{more_room}
+use Rattle.folded.proofs.TrackLemmas.{Agree, agree_hook, agree_ran, on_frames, tracked_next}
 use Rattle.folded.proofs.trail.Tracker.follow.Goals as goal
 
 pub returns-then-is_quiet-clause-follows : goal.returns-then-is_quiet-clause-follows
@@ -24,8 +28,8 @@ returns-clause-follows c = λ t st.
     let was : after_ran note.ran (shadow_of t.shadows h) ≡ c.run.new.self =
     ap (λ (x : List Shadow). after_ran note.ran (shadow_of x h)) (sym st.shadows) ∙ ap (after_ran note.ran) read ∙ sym c.run.ensures in
     let shadows = ap (set c.args.self.now.shadows.items h) c.leave_hook.ensures ∙ ap (λ (x : List Shadow). set x h (after_hook note.returned c.run.new.self)) st.shadows in
-    let F : List ℕ → Type 0 = λ x. Folds (length symbols) (stacks_of symbols (t.samples ++ stack_samples note.sample x)) c.sample.new.folded in
-    followed_follows symbols h note t c.run.new.self _ was shadows (subst F c.frames.ensures (c.in_ok-sample.ensures.folds t.samples st.folds))
+    let F : List ℕ → Type 0 = λ x. IsTreeOf (stacks_of symbols (t.samples ++ stack_samples note.sample x)) c.sample.new.tree in
+    followed_follows symbols h note t c.run.new.self _ was shadows (subst F c.frames-2.ensures.frames (c.in_ok-sample.ensures.samples t.samples st.samples))
 
 pub returns-clause-room : goal.returns-clause-room
 returns-clause-room c = λ turns room.
