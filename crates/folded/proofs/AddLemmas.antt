@@ -50,9 +50,9 @@ no_or false b is = (refl, is)
 pub absent_at : (node : ℕ × Option ℕ) (nodes : Nodes) (i : ℕ) → list_any (same_node node) nodes ≡ false → i < length nodes → get_or nodes i (0, None) ≡ node → ⊥
 absent_at node [] i absent inside is = omega (arith, inside)
 absent_at node (n ∷ nodes) zero absent inside is =
-    let no = no_or (same_node node n) (list_any (same_node node) nodes) absent in
-    let yes : same_node node n ≡ true = ap (same_node node) is ∙ same_itself node in
-    let wrong : true ≡ false = sym yes ∙ no.0 in
+    let other = no_or (same_node node n) (list_any (same_node node) nodes) absent in
+    let same : same_node node n ≡ true = ap (same_node node) is ∙ same_itself node in
+    let wrong : true ≡ false = sym same ∙ other.0 in
     cc
 absent_at node (n ∷ nodes) (suc i) absent inside is =
     absent_at node nodes i (no_or (same_node node n) (list_any (same_node node) nodes) absent).1 (omega (arith, inside)) is
@@ -109,7 +109,7 @@ module _ (nodes : Nodes) (counts : List ℕ) (total functions : ℕ) (is : AreNo
     numbers = omega (arith, length_push counts 0, length_push nodes (caller, function), is.numbers);
     few = omega (arith, few, length_push nodes (caller, function));
     stacks = subst (λ (x : List Stack). All (IsShort functions) x) (sym (stacks_with nodes (caller, function))) (All-push (IsShort functions) (node_stacks nodes) (stack_of_node nodes caller ++ function ∷ []) is.stacks short_one);
-    counts = omega (arith, samples_same any_stack, is.counts);
+    sum = omega (arith, samples_same any_stack, is.sum);
   }
     where
       front : IsShort functions (stack_of_node nodes caller)
@@ -126,7 +126,7 @@ module _ (nodes : Nodes) (counts : List ℕ) (total functions : ℕ) (is : AreNo
       apart i j (inr a) (inr b) same = a ∙ sym b
 
   pub samples_kept : (stacks : List Stack) → HaveSamples stacks nodes counts total → HaveSamples stacks more (counts ++ 0 ∷ []) total
-  samples_kept stacks have = record { samples = λ test. samples_same test ∙ have.samples test; total = have.total }
+  samples_kept stacks have = record { samples = λ test. samples_same test ∙ have.samples test; number = have.number }
 
 -- ---- one more sample
 
@@ -141,13 +141,13 @@ module _ (nodes : Nodes) (counts : List ℕ) (total functions : ℕ) (is : AreNo
     numbers = length-set counts node (get_or counts node 0 + 1) ∙ is.numbers;
     few = is.few;
     stacks = is.stacks;
-    counts = omega (arith, one_more any_stack, is.counts);
+    sum = omega (arith, one_more any_stack, is.sum);
   }
 
   pub samples_added : (stacks : List Stack) → HaveSamples stacks nodes counts total → HaveSamples (stacks ++ stack_of_node nodes node ∷ []) nodes (set counts node (get_or counts node 0 + 1)) (total + 1)
   samples_added stacks have = record {
     samples = λ test. one_more test ∙ ap (λ (n : ℕ). n + cond (test (stack_of_node nodes node)) 1 0) (have.samples test) ∙ sym (sum_by_push (λ (x : Stack). cond (test x) 1 0) stacks (stack_of_node nodes node));
-    total = ap (λ (n : ℕ). n + 1) have.total ∙ sym (length_push stacks (stack_of_node nodes node));
+    number = ap (λ (n : ℕ). n + 1) have.number ∙ sym (length_push stacks (stack_of_node nodes node));
   }
 
 -- ---- no node
@@ -159,11 +159,11 @@ no_nodes functions = record {
   numbers = omega arith;
   few = omega arith;
   stacks = All-cons (IsShort functions) [] [] (omega arith, All-nil (λ (o : Option ℕ). IfSome o (λ f. f < functions))) (All-nil (IsShort functions));
-  counts = omega (arith, samples_first any_stack);
+  sum = omega (arith, samples_first any_stack);
 }
 
 pub no_samples : HaveSamples [] [] (0 ∷ []) 0
-no_samples = record { samples = samples_first; total = refl }
+no_samples = record { samples = samples_first; number = refl }
 
 -- ---- what grew
 

@@ -2,7 +2,7 @@
 use Rattle.std.proofs.Common.{◌≡◌, ◌∙◌, ◌+◌, ◌<◌, ◌≤◌, ◌++◌, ℕ, zero, suc, List, [], ◌∷◌, length, get_or, append_assoc, append-nil, ap, arith, refl, sym, subst, Option, Some, None}
 use Rattle.std.specs.declared.cmp.Ordering.{Ordering}
 use Rattle.std.specs.declared.cmp.Ordering.TheVariants.{Less, Equal, Greater}
-use Rattle.std.specs.Ordering.{nat_cmp, ordering_then}
+use Rattle.std.specs.Ordering.{nat_cmp, ordering_reverse, ordering_then}
 use Rattle.std.specs.Option.{option_cmp}
 use Rattle.std.specs.Cmp.{IsTotalOrder, nat_cmp_total}
 use Rattle.std.specs.Cmp.Lexicographic.{lists_total, options_total}
@@ -42,9 +42,9 @@ pub same_stacks : (a : Stack) → stack_cmp a a ≡ Equal
 same_stacks a = by (stack_cmp a a) refl
   where
     by : (o : Ordering) → stack_cmp a a ≡ o → stack_cmp a a ≡ Equal
-    by Less is = absurd (let turned = stacks_total.antisymm a a in let wrong : Less ≡ Greater = sym is ∙ turned ∙ ap Rattle.std.specs.Ordering.ordering_reverse is in cc)
+    by Less is = absurd (let turned = stacks_total.antisymm a a in let wrong : Less ≡ Greater = sym is ∙ turned ∙ ap ordering_reverse is in cc)
     by Equal is = is
-    by Greater is = absurd (let turned = stacks_total.antisymm a a in let wrong : Greater ≡ Less = sym is ∙ turned ∙ ap Rattle.std.specs.Ordering.ordering_reverse is in cc)
+    by Greater is = absurd (let turned = stacks_total.antisymm a a in let wrong : Greater ≡ Less = sym is ∙ turned ∙ ap ordering_reverse is in cc)
 
 -- ---- behind a common front
 

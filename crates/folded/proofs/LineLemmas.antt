@@ -214,36 +214,36 @@ alike_below : (q a : Stack) (keys : List Stack) → stack_cmp q a ≡ Equal → 
 alike_below q a [] is all = tt
 alike_below q a (k ∷ keys) is all = (alike q a k is ∙ all.0, alike_below q a keys is all.1)
 
-one_by : (a : Stack × ℕ) (as : Lines) (b : Stack × ℕ) (bs : Lines) (o : Ordering) → stack_cmp a.0 b.0 ≡ o → Ascends (a ∷ as) → Ascends (b ∷ bs) → 0 < a.1 → 0 < b.1 → ((q : Stack) → times_in (a ∷ as) q ≡ times_in (b ∷ bs) q)
-    → (((q : Stack) → times_in as q ≡ times_in bs q) → as ≡ bs) → a ∷ as ≡ b ∷ bs
+one_by : (a : Stack × ℕ) (xs : Lines) (b : Stack × ℕ) (ys : Lines) (o : Ordering) → stack_cmp a.0 b.0 ≡ o → Ascends (a ∷ xs) → Ascends (b ∷ ys) → 0 < a.1 → 0 < b.1 → ((q : Stack) → times_in (a ∷ xs) q ≡ times_in (b ∷ ys) q)
+    → (((q : Stack) → times_in xs q ≡ times_in ys q) → xs ≡ ys) → a ∷ xs ≡ b ∷ ys
 unfolding IsStrictlySortedBy
-one_by a as b bs Less is up_a up_b some_a some_b same rest =
-    absurd (omega (arith, some_a, times_first a.0 a as (same_stacks a.0), same a.0, times_below a.0 (b ∷ bs) (is, below_all a.0 b.0 (keys_of bs) is up_b.0)))
-one_by a as b bs Equal is up_a up_b some_a some_b same rest =
+one_by a xs b ys Less is up_a up_b some_a some_b same rest =
+    absurd (omega (arith, some_a, times_first a.0 a xs (same_stacks a.0), same a.0, times_below a.0 (b ∷ ys) (is, below_all a.0 b.0 (keys_of ys) is up_b.0)))
+one_by a xs b ys Equal is up_a up_b some_a some_b same rest =
     let stack = exact_stack a.0 b.0 is in
-    let count : a.1 ≡ b.1 = sym (times_first a.0 a as (same_stacks a.0)) ∙ same a.0 ∙ times_first a.0 b bs is in
+    let count : a.1 ≡ b.1 = sym (times_first a.0 a xs (same_stacks a.0)) ∙ same a.0 ∙ times_first a.0 b ys is in
     let later = rest (λ q. by q (same_stack q a.0) refl) in
     λ t. (stack t, count t) ∷ later t
   where
-    by : (q : Stack) (c : Bool) → same_stack q a.0 ≡ c → times_in as q ≡ times_in bs q
+    by : (q : Stack) (c : Bool) → same_stack q a.0 ≡ c → times_in xs q ≡ times_in ys q
     by q true one =
         let at_a = equal (stack_cmp q a.0) one in
         let at_b : stack_cmp q b.0 ≡ Equal = alike q a.0 b.0 at_a ∙ is in
-        times_below q as (alike_below q a.0 (keys_of as) at_a up_a.0) ∙ sym (times_below q bs (alike_below q b.0 (keys_of bs) at_b up_b.0))
+        times_below q xs (alike_below q a.0 (keys_of xs) at_a up_a.0) ∙ sym (times_below q ys (alike_below q b.0 (keys_of ys) at_b up_b.0))
     by q false one =
         let other : same_stack q b.0 ≡ false = sym (ap is_eq (alike_right a.0 b.0 q is)) ∙ one in
-        sym (times_later q a as one) ∙ same q ∙ times_later q b bs other
-one_by a as b bs Greater is up_a up_b some_a some_b same rest =
+        sym (times_later q a xs one) ∙ same q ∙ times_later q b ys other
+one_by a xs b ys Greater is up_a up_b some_a some_b same rest =
     let less = above a.0 b.0 is in
-    absurd (omega (arith, some_b, times_first b.0 b bs (same_stacks b.0), same b.0, times_below b.0 (a ∷ as) (less, below_all b.0 a.0 (keys_of as) less up_a.0)))
+    absurd (omega (arith, some_b, times_first b.0 b ys (same_stacks b.0), same b.0, times_below b.0 (a ∷ xs) (less, below_all b.0 a.0 (keys_of xs) less up_a.0)))
 
-one_list : (as bs : Lines) → Ascends as → Ascends bs → HaveEach as → HaveEach bs → ((q : Stack) → times_in as q ≡ times_in bs q) → as ≡ bs
+one_list : (xs ys : Lines) → Ascends xs → Ascends ys → HaveEach xs → HaveEach ys → ((q : Stack) → times_in xs q ≡ times_in ys q) → xs ≡ ys
 unfolding IsStrictlySortedBy
 one_list [] [] up_a up_b some_a some_b same = refl
-one_list [] (b ∷ bs) up_a up_b some_a some_b same = absurd (omega (arith, some_b.0, same b.0, times_first b.0 b bs (same_stacks b.0)))
-one_list (a ∷ as) [] up_a up_b some_a some_b same = absurd (omega (arith, some_a.0, same a.0, times_first a.0 a as (same_stacks a.0)))
-one_list (a ∷ as) (b ∷ bs) up_a up_b some_a some_b same =
-    one_by a as b bs (stack_cmp a.0 b.0) refl up_a up_b some_a.0 some_b.0 same (one_list as bs up_a.1 up_b.1 some_a.1 some_b.1)
+one_list [] (b ∷ ys) up_a up_b some_a some_b same = absurd (omega (arith, some_b.0, same b.0, times_first b.0 b ys (same_stacks b.0)))
+one_list (a ∷ xs) [] up_a up_b some_a some_b same = absurd (omega (arith, some_a.0, same a.0, times_first a.0 a xs (same_stacks a.0)))
+one_list (a ∷ xs) (b ∷ ys) up_a up_b some_a some_b same =
+    one_by a xs b ys (stack_cmp a.0 b.0) refl up_a up_b some_a.0 some_b.0 same (one_list xs ys up_a.1 up_b.1 some_a.1 some_b.1)
 
 sum_below : (q : Stack) (lines : Lines) → AllByRecursion (λ (y : Stack). stack_cmp q y ≡ Less) (keys_of lines) → samples_of_lines (same_stack q) lines ≡ 0
 sum_below q [] all = refl

@@ -111,7 +111,7 @@ pub folds_of : (t : Tree) (order : List ℕ) (marks : List Mark) (stacks : List 
 folds_of t order marks stacks ordered have long counts = record {
   lines = lines_are (map (line_of_node t) order) stacks (subst (λ (x : List Stack). IsStrictlySortedBy stack_cmp x) (sym (keys_are t order)) ordered.ascend) (each_are t order ordered.sampled)
       (λ test. ordered.samples test ∙ have.samples test);
-  total = have.total;
+  total = have.number;
   functions_are = length-map marks (λ (m : Mark). m.count) ∙ long;
   inclusive = λ g below. (
       let inside : g < length marks = omega (arith, below, long) in

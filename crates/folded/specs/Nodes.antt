@@ -52,7 +52,7 @@ pub record AreNodes (nodes : List (ℕ × Option ℕ)) (counts : List ℕ) (tota
   pub numbers : length counts ≡ length nodes + 1
   pub few : length nodes < 2 ^ 32
   pub stacks : All (IsShort functions) (node_stacks nodes)
-  pub counts : samples_on any_stack (node_stacks nodes) counts ≤ total
+  pub sum : samples_on any_stack (node_stacks nodes) counts ≤ total
 
 abbrev pub IsTree : Tree → Type 0
 IsTree t = AreNodes t.nodes.keys t.counts.items t.total t.functions
@@ -60,7 +60,7 @@ IsTree t = AreNodes t.nodes.keys t.counts.items t.total t.functions
 -- the nodes have samples with these stacks
 pub record HaveSamples (stacks : List (List (Option ℕ))) (nodes : List (ℕ × Option ℕ)) (counts : List ℕ) (total : ℕ) : Type 0 where
   pub samples : (test : List (Option ℕ) → Bool) → samples_on test (node_stacks nodes) counts ≡ count_by test stacks
-  pub total : total ≡ length stacks
+  pub number : total ≡ length stacks
 
 abbrev pub IsTreeOf : List (List (Option ℕ)) → Tree → Type 0
 IsTreeOf stacks t = HaveSamples stacks t.nodes.keys t.counts.items t.total

@@ -57,10 +57,9 @@ impl Tree {
         }
         let (place, is_new) = self.nodes.insert_full((caller, function))?;
         self.last = place;
-        if !is_new {
-            return Ok(place as u32 + 1);
+        if is_new {
+            self.counts.push(0)?;
         }
-        self.counts.push(0)?;
         Ok(place as u32 + 1)
     }
 

@@ -6,9 +6,9 @@ use Rattle.folded.proofs.path.Path.of.Given as goal
 abbrev pub invariant-loop-node : goal.invariant-loop-node
 invariant-loop-node l = record {
   node : l.node ≤ length l.tree.nodes.keys;
-  start : l.path.start ≤ 129;
-  whole : stack_of_node l.tree.nodes.keys l.fn.node ≡ stack_of_node l.tree.nodes.keys l.node ++ drop l.path.start l.path.functions;
+  start : l.path-inside.start ≤ 129;
+  whole : stack_of_node l.tree.nodes.keys l.fn.node ≡ stack_of_node l.tree.nodes.keys l.node ++ drop l.path-inside.start l.path-inside.functions;
 }
 
 abbrev pub decreases-loop-node : goal.decreases-loop-node
-decreases-loop-node l = l.path.start
+decreases-loop-node l = l.path-inside.start

@@ -11,7 +11,7 @@ overflow_add-index_mut c =
     let n = c.args.node in
     let inside : n < length t.counts.items = omega (arith, c.requires.node, c.requires.tree.numbers) in
     let below : get_or t.counts.items n 0 ≤ samples_on any_stack (node_stacks t.nodes.keys) t.counts.items = samples_below (node_stacks t.nodes.keys) t.counts.items n inside (length_stacks t.nodes.keys ∙ sym c.requires.tree.numbers) in
-    omega (arith, below, c.requires.tree.counts, c.requires.total, c.index_mut.ensures.value, get_or_default t.counts.items n 0 c.index_mut.result.now inside)
+    omega (arith, below, c.requires.tree.sum, c.requires.total, c.index_mut.ensures.value, get_or_default t.counts.items n 0 c.index_mut.result.now inside)
 
 pub returns-clause-tree : goal.returns-clause-tree
 returns-clause-tree c =

@@ -10,12 +10,12 @@ use Rattle.folded.proofs.tree.Tree.child.Goals as goal
 use Rattle.folded.proofs.tree.Tree.child.Goals.{then-is_new+in_ok-push, else-is_new}
 
 is_absent : (b c : Bool) → b ≡ not c → b ≡ true → c ≡ false
-is_absent b true is yes = absurd (let wrong : false ≡ true = sym is ∙ yes in cc)
-is_absent b false is yes = refl
+is_absent b true is told = absurd (let wrong : false ≡ true = sym is ∙ told in cc)
+is_absent b false is told = refl
 
 is_present : (b c : Bool) → b ≡ not c → b ≡ false → c ≡ true
-is_present b true is no = refl
-is_present b false is no = absurd (let wrong : true ≡ false = sym is ∙ no in cc)
+is_present b true is told = refl
+is_present b false is told = absurd (let wrong : true ≡ false = sym is ∙ told in cc)
 
 pub returns-then-is_last-clause-node : goal.returns-then-is_last-clause-node
 returns-then-is_last-clause-node c =
