@@ -114,11 +114,14 @@ module _ (nodes : Nodes) (counts : List ℕ) (total functions : ℕ) (is : AreNo
     where
       front : IsShort functions (stack_of_node nodes caller)
       front = All-get_or (IsShort functions) (node_stacks nodes) caller [] (omega (arith, low, length_stacks nodes)) is.stacks
+
       short_one : IsShort functions (stack_of_node nodes caller ++ function ∷ [])
       short_one = (omega (arith, length_push (stack_of_node nodes caller) function, short), All-push (λ (o : Option ℕ). IfSome o (λ f. f < functions)) (stack_of_node nodes caller) function front.1 below)
+
       caller_at : (i : ℕ) → (i < length nodes) ⊎ (i ≡ length nodes) → (get_or more i (0, None)).0 ≤ i
       caller_at i (inl inside) = let same = ap (λ (n : ℕ × Option ℕ). n.0) (before i inside) in let old = is.callers i inside in omega (arith, same, old)
       caller_at i (inr at) = let same = ap (λ (n : ℕ × Option ℕ). n.0) (last i at) in omega (arith, same, at, low)
+
       apart : (i j : ℕ) → (i < length nodes) ⊎ (i ≡ length nodes) → (j < length nodes) ⊎ (j ≡ length nodes) → get_or more i (0, None) ≡ get_or more j (0, None) → i ≡ j
       apart i j (inl a) (inl b) same = is.distinct i j a b (sym (before i a) ∙ same ∙ before j b)
       apart i j (inl a) (inr b) same = absurd (absent_at (caller, function) nodes i absent a (sym (before i a) ∙ same ∙ last j b))
@@ -185,27 +188,27 @@ pub tree_made : (old new : Tree) (caller : ℕ) (function : Option ℕ) → IsTr
     → caller ≤ length old.nodes.keys → length old.nodes.keys + 1 < 2 ^ 32 → length (stack_of_node old.nodes.keys caller) < 129 → IfSome function (λ f. f < old.functions) → list_any (same_node (caller, function)) old.nodes.keys ≡ false
     → IsTree new × IsGrown old new
 tree_made old new caller function is nodes counts total functions low few short below absent = (
-    same_parts new.nodes.keys (old.nodes.keys ++ (caller, function) ∷ []) new.counts.items (old.counts.items ++ 0 ∷ []) new.total old.total new.functions old.functions nodes counts total functions
-    (node_made old.nodes.keys old.counts.items old.total old.functions is caller function low few short below absent),
-    record {
-      more = (caller, function) ∷ [];
-      nodes = nodes;
-      functions = functions;
-      total = total;
-      samples = λ stacks have. same_samples stacks new.nodes.keys (old.nodes.keys ++ (caller, function) ∷ []) new.counts.items (old.counts.items ++ 0 ∷ []) new.total old.total nodes counts total
-          (samples_kept old.nodes.keys old.counts.items old.total old.functions is caller function stacks have);
-    },
+  same_parts new.nodes.keys (old.nodes.keys ++ (caller, function) ∷ []) new.counts.items (old.counts.items ++ 0 ∷ []) new.total old.total new.functions old.functions nodes counts total functions
+      (node_made old.nodes.keys old.counts.items old.total old.functions is caller function low few short below absent),
+  record {
+    more = (caller, function) ∷ [];
+    nodes = nodes;
+    functions = functions;
+    total = total;
+    samples = λ stacks have. same_samples stacks new.nodes.keys (old.nodes.keys ++ (caller, function) ∷ []) new.counts.items (old.counts.items ++ 0 ∷ []) new.total old.total nodes counts total
+        (samples_kept old.nodes.keys old.counts.items old.total old.functions is caller function stacks have);
+  },
 )
 
 -- and where it was there
 pub tree_kept : (old new : Tree) → IsTree old → new.nodes.keys ≡ old.nodes.keys → new.counts.items ≡ old.counts.items → new.total ≡ old.total → new.functions ≡ old.functions → IsTree new × IsGrown old new
 tree_kept old new is nodes counts total functions = (
-    same_parts new.nodes.keys old.nodes.keys new.counts.items old.counts.items new.total old.total new.functions old.functions nodes counts total functions is,
-    record {
-      more = [];
-      nodes = nodes ∙ sym (append-nil old.nodes.keys);
-      functions = functions;
-      total = total;
-      samples = λ stacks have. same_samples stacks new.nodes.keys old.nodes.keys new.counts.items old.counts.items new.total old.total nodes counts total have;
-    },
+  same_parts new.nodes.keys old.nodes.keys new.counts.items old.counts.items new.total old.total new.functions old.functions nodes counts total functions is,
+  record {
+    more = [];
+    nodes = nodes ∙ sym (append-nil old.nodes.keys);
+    functions = functions;
+    total = total;
+    samples = λ stacks have. same_samples stacks new.nodes.keys old.nodes.keys new.counts.items old.counts.items new.total old.total nodes counts total have;
+  },
 )

@@ -125,6 +125,7 @@ tracked_next symbols v w h s p inside shadows places tree added on was = record 
         let stays = on_stays v.tree.nodes.keys w.tree.nodes.keys (map (caller_in symbols) (get_or v.shadows.items k empty_shadow).frames) (get_or v.places.items k first_place) added (was.places k short) in
         subst (λ (x : Shadow). IsOn w.tree.nodes.keys (map (caller_in symbols) x.frames) (get_or w.places.items k first_place)) (sym shadow)
         (subst (λ (y : Place). IsOn w.tree.nodes.keys (map (caller_in symbols) (get_or v.shadows.items k empty_shadow).frames) y) (sym place) stays)
+
     same_or_not : (k h : ℕ) → (k ≡ h) ⊎ ((k ≡ h) → ⊥)
     same_or_not zero zero = inl refl
     same_or_not zero (suc h) = inr (λ is. omega (arith, is))

@@ -36,11 +36,7 @@ impl Tree {
     }
 
     /// The node of a function that a stack calls, which is made where there is none.
-    pub(crate) fn child(
-        &mut self,
-        caller: u32,
-        function: Option<u32>,
-    ) -> Result<u32, AllocError>
+    pub(crate) fn child(&mut self, caller: u32, function: Option<u32>) -> Result<u32, AllocError>
         requires tree { IsTree self.old }
         requires caller { caller ≤ length self.old.nodes.keys }
         requires depth { length (stack_of_node self.old.nodes.keys caller) < 129 }

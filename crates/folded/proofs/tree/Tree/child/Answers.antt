@@ -29,16 +29,16 @@ returns-clause-tree c =
     let node = (c.args.caller, c.args.function) in
     elim c.if-is_new.branch [
       | then-is_new+in_ok-push w ↦ (
-        let absent = is_absent c.in_ok-place.is_new (list_any (same_node node) t.nodes.keys) c.in_ok-place.ensures.added w.if-is_new.true in
-        let keys = ap (λ (x : Tree). x.nodes.keys) w.self-is ∙ c.in_ok-place.ensures.keys ∙ ap (λ (b : Bool). if b then t.nodes.keys else t.nodes.keys ++ node ∷ []) absent in
-        (tree_made t c.if-is_new.self c.args.caller c.args.function c.requires.tree keys (ap (λ (x : Tree). x.counts.items) w.self-is ∙ w.in_ok-push.ensures.items)
-        (ap (λ (x : Tree). x.total) w.self-is) (ap (λ (x : Tree). x.functions) w.self-is) c.requires.caller (omega (arith, c.if-len.false, c.len.ensures.len)) c.requires.depth c.requires.function absent).0
-        )
+          let absent = is_absent c.in_ok-place.is_new (list_any (same_node node) t.nodes.keys) c.in_ok-place.ensures.added w.if-is_new.true in
+          let keys = ap (λ (x : Tree). x.nodes.keys) w.self-is ∙ c.in_ok-place.ensures.keys ∙ ap (λ (b : Bool). if b then t.nodes.keys else t.nodes.keys ++ node ∷ []) absent in
+          (tree_made t c.if-is_new.self c.args.caller c.args.function c.requires.tree keys (ap (λ (x : Tree). x.counts.items) w.self-is ∙ w.in_ok-push.ensures.items)
+          (ap (λ (x : Tree). x.total) w.self-is) (ap (λ (x : Tree). x.functions) w.self-is) c.requires.caller (omega (arith, c.if-len.false, c.len.ensures.len)) c.requires.depth c.requires.function absent).0
+          )
       | else-is_new w ↦ (
-        let present = is_present c.in_ok-place.is_new (list_any (same_node node) t.nodes.keys) c.in_ok-place.ensures.added w.if-is_new.false in
-        let keys = ap (λ (x : Tree). x.nodes.keys) w.self-is ∙ c.in_ok-place.ensures.keys ∙ ap (λ (b : Bool). if b then t.nodes.keys else t.nodes.keys ++ node ∷ []) present in
-        (tree_kept t c.if-is_new.self c.requires.tree keys (ap (λ (x : Tree). x.counts.items) w.self-is) (ap (λ (x : Tree). x.total) w.self-is) (ap (λ (x : Tree). x.functions) w.self-is)).0
-        )
+          let present = is_present c.in_ok-place.is_new (list_any (same_node node) t.nodes.keys) c.in_ok-place.ensures.added w.if-is_new.false in
+          let keys = ap (λ (x : Tree). x.nodes.keys) w.self-is ∙ c.in_ok-place.ensures.keys ∙ ap (λ (b : Bool). if b then t.nodes.keys else t.nodes.keys ++ node ∷ []) present in
+          (tree_kept t c.if-is_new.self c.requires.tree keys (ap (λ (x : Tree). x.counts.items) w.self-is) (ap (λ (x : Tree). x.total) w.self-is) (ap (λ (x : Tree). x.functions) w.self-is)).0
+          )
     ]
 
 pub returns-clause-grown : goal.returns-clause-grown
@@ -47,16 +47,16 @@ returns-clause-grown c =
     let node = (c.args.caller, c.args.function) in
     elim c.if-is_new.branch [
       | then-is_new+in_ok-push w ↦ (
-        let absent = is_absent c.in_ok-place.is_new (list_any (same_node node) t.nodes.keys) c.in_ok-place.ensures.added w.if-is_new.true in
-        let keys = ap (λ (x : Tree). x.nodes.keys) w.self-is ∙ c.in_ok-place.ensures.keys ∙ ap (λ (b : Bool). if b then t.nodes.keys else t.nodes.keys ++ node ∷ []) absent in
-        (tree_made t c.if-is_new.self c.args.caller c.args.function c.requires.tree keys (ap (λ (x : Tree). x.counts.items) w.self-is ∙ w.in_ok-push.ensures.items)
-        (ap (λ (x : Tree). x.total) w.self-is) (ap (λ (x : Tree). x.functions) w.self-is) c.requires.caller (omega (arith, c.if-len.false, c.len.ensures.len)) c.requires.depth c.requires.function absent).1
-        )
+          let absent = is_absent c.in_ok-place.is_new (list_any (same_node node) t.nodes.keys) c.in_ok-place.ensures.added w.if-is_new.true in
+          let keys = ap (λ (x : Tree). x.nodes.keys) w.self-is ∙ c.in_ok-place.ensures.keys ∙ ap (λ (b : Bool). if b then t.nodes.keys else t.nodes.keys ++ node ∷ []) absent in
+          (tree_made t c.if-is_new.self c.args.caller c.args.function c.requires.tree keys (ap (λ (x : Tree). x.counts.items) w.self-is ∙ w.in_ok-push.ensures.items)
+          (ap (λ (x : Tree). x.total) w.self-is) (ap (λ (x : Tree). x.functions) w.self-is) c.requires.caller (omega (arith, c.if-len.false, c.len.ensures.len)) c.requires.depth c.requires.function absent).1
+          )
       | else-is_new w ↦ (
-        let present = is_present c.in_ok-place.is_new (list_any (same_node node) t.nodes.keys) c.in_ok-place.ensures.added w.if-is_new.false in
-        let keys = ap (λ (x : Tree). x.nodes.keys) w.self-is ∙ c.in_ok-place.ensures.keys ∙ ap (λ (b : Bool). if b then t.nodes.keys else t.nodes.keys ++ node ∷ []) present in
-        (tree_kept t c.if-is_new.self c.requires.tree keys (ap (λ (x : Tree). x.counts.items) w.self-is) (ap (λ (x : Tree). x.total) w.self-is) (ap (λ (x : Tree). x.functions) w.self-is)).1
-        )
+          let present = is_present c.in_ok-place.is_new (list_any (same_node node) t.nodes.keys) c.in_ok-place.ensures.added w.if-is_new.false in
+          let keys = ap (λ (x : Tree). x.nodes.keys) w.self-is ∙ c.in_ok-place.ensures.keys ∙ ap (λ (b : Bool). if b then t.nodes.keys else t.nodes.keys ++ node ∷ []) present in
+          (tree_kept t c.if-is_new.self c.requires.tree keys (ap (λ (x : Tree). x.counts.items) w.self-is) (ap (λ (x : Tree). x.total) w.self-is) (ap (λ (x : Tree). x.functions) w.self-is)).1
+          )
     ]
 
 pub returns-clause-node : goal.returns-clause-node
