@@ -248,23 +248,24 @@ one_list (a ∷ xs) (b ∷ ys) up_a up_b some_a some_b same =
 sum_below : (q : Stack) (lines : Lines) → AllByRecursion (λ (y : Stack). stack_cmp q y ≡ Less) (keys_of lines) → samples_of_lines (same_stack q) lines ≡ 0
 sum_below q [] all = refl
 sum_below q (e ∷ es) all =
-    sum_by-cons (λ (l : Stack × ℕ). cond (same_stack q l.0) l.1 0) e es ∙ ap (λ (b : Bool). cond b e.1 0 + samples_of_lines (same_stack q) es) (not_same q e.0 all.0) ∙ sum_below q es all.1
+    let here : cond (same_stack q e.0) e.1 0 ≡ 0 = ap (λ (b : Bool). cond b e.1 0) (not_same q e.0 all.0) in
+    omega (arith, sum_by-cons (λ (l : Stack × ℕ). cond (same_stack q l.0) l.1 0) e es, here, sum_below q es all.1)
 
 -- by what each line adds
 times_sum : (q : Stack) (lines : Lines) → Ascends lines → times_in lines q ≡ samples_of_lines (same_stack q) lines
 unfolding IsStrictlySortedBy
 times_sum q [] up = refl
-times_sum q (e ∷ es) up = by (same_stack q e.0) refl ∙ sym (sum_by-cons (λ (l : Stack × ℕ). cond (same_stack q l.0) l.1 0) e es)
+times_sum q (e ∷ es) up = by (times_sum q es up.1) (same_stack q e.0) refl ∙ sym (sum_by-cons (λ (l : Stack × ℕ). cond (same_stack q l.0) l.1 0) e es)
   where
-    by : (b : Bool) → same_stack q e.0 ≡ b → times_in (e ∷ es) q ≡ cond (same_stack q e.0) e.1 0 + samples_of_lines (same_stack q) es
-    by true one =
+    by : times_in es q ≡ samples_of_lines (same_stack q) es → (b : Bool) → same_stack q e.0 ≡ b → times_in (e ∷ es) q ≡ cond (same_stack q e.0) e.1 0 + samples_of_lines (same_stack q) es
+    by rest true one =
         let at_e = equal (stack_cmp q e.0) one in
         let none = sum_below q es (alike_below q e.0 (keys_of es) at_e up.0) in
         let here : cond (same_stack q e.0) e.1 0 ≡ e.1 = ap (λ (b : Bool). cond b e.1 0) one in
         omega (arith, times_first q e es at_e, none, here)
-    by false one =
+    by rest false one =
         let here : cond (same_stack q e.0) e.1 0 ≡ 0 = ap (λ (b : Bool). cond b e.1 0) one in
-        omega (arith, times_later q e es one, times_sum q es up.1, here)
+        omega (arith, times_later q e es one, rest, here)
 
 pub lines_are : (lines : Lines) (stacks : List Stack) → Ascends lines → HaveEach lines → ((test : Stack → Bool) → samples_of_lines test lines ≡ count_by test stacks) → lines ≡ lines_of stacks
 lines_are lines stacks up some counts =

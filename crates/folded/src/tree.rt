@@ -1,6 +1,6 @@
 //! A tree of calls: a node for each stack that was entered, with the number of samples that have it.
 
-ghost use Rattle.std.specs.Prelude.{◌≡◌, ◌+◌, ◌^◌, ◌<◌, ◌≤◌, ℕ, List, [], ◌∷◌, ◌++◌, Option, None, IfOk, IfSome, IsTrue, OnOk, length, slice_index, slice_index_or};
+ghost use Rattle.std.specs.Prelude.{◌≡◌, ◌+◌, ◌^◌, ◌<◌, ◌≤◌, ℕ, List, [], ◌∷◌, ◌++◌, Option, None, IfOk, IfSome, true, OnOk, length, slice_index, slice_index_or};
 ghost use Rattle.folded.specs.Nodes.{HasStack, IsGrown, IsInOrder, IsTree, IsTreeOf, called_of, node_cmp, node_of, numbers_from, stack_of_node};
 
 use indexmap::IndexSet;
@@ -61,7 +61,7 @@ impl Tree {
 
     /// Whether this child was asked for last, as it mostly is when samples are near each other.
     fn is_last(&self, caller: u32, function: Option<u32>) -> bool
-        ensures { IsTrue result → (self.now.last < length self.now.nodes.keys) × (slice_index_or self.now.nodes.keys self.now.last (0, None) ≡ (caller, function)) }
+        ensures { result ≡ true → (self.now.last < length self.now.nodes.keys) × (slice_index_or self.now.nodes.keys self.now.last (0, None) ≡ (caller, function)) }
     {
         match self.nodes.get_index(self.last) {
             Some(node) => node.0 == caller && node.1 == function,

@@ -1,4 +1,4 @@
-use Rattle.std.proofs.Common.{◌≡◌, ◌∙◌, ◌+◌, ◌<◌, ◌≤◌, ◌++◌, ◌∷◌, [], ℕ, Bool, true, false, not, List, Option, IsTrue, arith, ap, get_or, length, refl, subst, sym, None}
+use Rattle.std.proofs.Common.{◌≡◌, ◌∙◌, ◌+◌, ◌<◌, ◌≤◌, ◌++◌, ◌∷◌, [], ℕ, Bool, true, false, not, List, Option, arith, ap, get_or, length, refl, subst, sym, None}
 use Rattle.std.specs.Prelude.{if◌then◌else◌}
 use Rattle.std.specs.List.{list_any}
 use Rattle.folded.specs.Nodes.{HasStack, IsGrown, IsTree, stack_of_node}
@@ -20,13 +20,13 @@ is_present b false is told = absurd (let wrong : true ≡ false = sym is ∙ tol
 pub returns-then-is_last-clause-node : goal.returns-then-is_last-clause-node
 returns-then-is_last-clause-node c =
     let t = c.args.self.now in
-    let last = c.is_last.ensures (subst IsTrue (sym c.if-is_last.true) tt) in
+    let last = c.is_last.ensures c.if-is_last.true in
     has_stack t.nodes.keys t.last c.args.caller c.args.function c.requires.tree.callers last.0 last.1
 
 pub returns-clause-tree : goal.returns-clause-tree
 returns-clause-tree c =
     let t = c.args.self.now in
-    let node = (c.args.caller, c.args.function) in
+    let node : ℕ × Option ℕ = (c.args.caller, c.args.function) in
     elim c.if-is_new.branch [
       | then-is_new+in_ok-push w ↦ (
           let absent = is_absent c.in_ok-place.is_new (list_any (same_node node) t.nodes.keys) c.in_ok-place.ensures.added w.if-is_new.true in
@@ -44,7 +44,7 @@ returns-clause-tree c =
 pub returns-clause-grown : goal.returns-clause-grown
 returns-clause-grown c =
     let t = c.args.self.now in
-    let node = (c.args.caller, c.args.function) in
+    let node : ℕ × Option ℕ = (c.args.caller, c.args.function) in
     elim c.if-is_new.branch [
       | then-is_new+in_ok-push w ↦ (
           let absent = is_absent c.in_ok-place.is_new (list_any (same_node node) t.nodes.keys) c.in_ok-place.ensures.added w.if-is_new.true in
@@ -63,7 +63,7 @@ pub returns-clause-node : goal.returns-clause-node
 returns-clause-node c =
     let t = c.args.self.now in
     let new = c.if-is_new.self in
-    let node = (c.args.caller, c.args.function) in
+    let node : ℕ × Option ℕ = (c.args.caller, c.args.function) in
     let same : c.insert_full.new.self.keys ≡ new.nodes.keys = elim c.if-is_new.branch [
       | then-is_new+in_ok-push w ↦ sym (ap (λ (x : Tree). x.nodes.keys) w.self-is)
       | else-is_new w ↦ sym (ap (λ (x : Tree). x.nodes.keys) w.self-is)
