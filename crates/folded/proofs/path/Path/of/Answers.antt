@@ -16,8 +16,16 @@ overflow_sub-path c =
     let some : 0 < n = grind (arith, c.loop-node-test.true) in
     let last = last_of t.nodes.keys t.counts.items t.total t.functions c.requires.tree n some i.node in
     let short = All-get_or (IsShort t.functions) (node_stacks t.nodes.keys) c.args.node [] (omega (arith, c.requires.node, length_stacks t.nodes.keys)) c.requires.tree.stacks in
-    omega (arith, short.0, i.long, ap (λ (s : Stack). length s) i.whole, length-append (stack_of_node t.nodes.keys n) (drop p.start p.functions), length-drop p.start p.functions,
-    ap (λ (s : Stack). length s) last.1, length_push (stack_of_node t.nodes.keys (node_of t.nodes.keys n).0) (node_of t.nodes.keys n).1)
+    omega (
+      arith,
+      short.0,
+      i.long,
+      ap (λ (s : Stack). length s) i.whole,
+      length-append (stack_of_node t.nodes.keys n) (drop p.start p.functions),
+      length-drop p.start p.functions,
+      ap (λ (s : Stack). length s) last.1,
+      length_push (stack_of_node t.nodes.keys (node_of t.nodes.keys n).0) (node_of t.nodes.keys n).1,
+    )
 
 pub loop-node-smaller : goal.loop-node-smaller
 loop-node-smaller c =
