@@ -41,8 +41,16 @@ loop-node-preserved c =
     let some : 0 < n = grind (arith, c.loop-node-test.true) in
     let last = last_of t.nodes.keys t.counts.items t.total t.functions c.requires.tree n some i.node in
     let short = All-get_or (IsShort t.functions) (node_stacks t.nodes.keys) c.args.node [] (omega (arith, c.requires.node, length_stacks t.nodes.keys)) c.requires.tree.stacks in
-    let first : 1 ≤ p.start = omega (arith, short.0, i.long, ap (λ (s : Stack). length s) i.whole, length-append (stack_of_node t.nodes.keys n) (drop p.start p.functions), length-drop p.start p.functions,
-    ap (λ (s : Stack). length s) last.1, length_push (stack_of_node t.nodes.keys (node_of t.nodes.keys n).0) (node_of t.nodes.keys n).1) in
+    let first : 1 ≤ p.start = omega (
+      arith,
+      short.0,
+      i.long,
+      ap (λ (s : Stack). length s) i.whole,
+      length-append (stack_of_node t.nodes.keys n) (drop p.start p.functions),
+      length-drop p.start p.functions,
+      ap (λ (s : Stack). length s) last.1,
+      length_push (stack_of_node t.nodes.keys (node_of t.nodes.keys n).0) (node_of t.nodes.keys n).1,
+    ) in
     let is = c.caller-node.ensures in
     let f : c.function.result ≡ (node_of t.nodes.keys n).1 = c.function.ensures in
     let ends : stack_of_node t.nodes.keys n ≡ stack_of_node t.nodes.keys c.caller-node.result ++ c.function.result ∷ [] = last.1 ∙ (λ j. stack_of_node t.nodes.keys (sym is j) ++ sym f j ∷ []) in
