@@ -5,22 +5,28 @@ import struct
 LOW = 0x10000
 
 
-def elf(text, symbols):
-    """A program of this text at 0x10000, with functions as names and addresses."""
+def elf(text, symbols, segments=()):
+    """A program of this text at 0x10000, with functions as names and addresses, and more segments as addresses and bytes."""
     strings, table, at = [b"\0"], [bytes(16)], 1
     for name, addr in symbols:
         table.append(struct.pack("<IIIBBH", at, addr, 0, 0x12, 0, 1))
         strings.append(name + b"\0")
         at += len(name) + 1
-    return elf_of(text, b"".join(table), b"".join(strings))
+    return elf_of(text, b"".join(table), b"".join(strings), segments)
 
 
-def elf_of(text, table, strings):
-    """A program of this text, symbol table and strings."""
-    behind = 84 + len(text) + len(table)
-    head = b"\x7fELF\1\1\1" + bytes(9) + struct.pack("<HHIIIIIHHHHHH", 2, 243, 1, LOW, 52, behind + len(strings), 0, 52, 32, 1, 40, 4, 0)
-    segment = struct.pack("<8I", 1, 84, LOW, LOW, len(text), len(text), 5, 4)
-    sections = bytes(40) + struct.pack("<10I", 0, 1, 6, LOW, 84, len(text), 0, 0, 4, 0)
-    sections += struct.pack("<10I", 0, 2, 0, 0, 84 + len(text), len(table), 3, 1, 4, 16)
+def elf_of(text, table, strings, segments=()):
+    """A program of this text, symbol table and strings, and more segments."""
+    count = 1 + len(segments)
+    front = 52 + 32 * count
+    behind = front + len(text) + len(table)
+    at = behind + len(strings)
+    headers = struct.pack("<8I", 1, front, LOW, LOW, len(text), len(text), 5, 4)
+    for addr, data in segments:
+        headers += struct.pack("<8I", 1, at, addr, addr, len(data), len(data), 4, 1)
+        at += len(data)
+    head = b"\x7fELF\1\1\1" + bytes(9) + struct.pack("<HHIIIIIHHHHHH", 2, 243, 1, LOW, 52, at, 0, 52, 32, count, 40, 4, 0)
+    sections = bytes(40) + struct.pack("<10I", 0, 1, 6, LOW, front, len(text), 0, 0, 4, 0)
+    sections += struct.pack("<10I", 0, 2, 0, 0, front + len(text), len(table), 3, 1, 4, 16)
     sections += struct.pack("<10I", 0, 3, 0, 0, behind, len(strings), 0, 0, 1, 0)
-    return b"".join((head, segment, text, table, strings, sections))
+    return b"".join((head, headers, text, table, strings, *(data for _, data in segments), sections))

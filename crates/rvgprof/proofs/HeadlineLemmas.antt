@@ -66,9 +66,9 @@ use Rattle.rvgprof.specs.Texts.{last_line}
 use Rattle.gmon_gnu.specs.ProfileText.{profile_text}
 use Rattle.text_lines.specs.Lines.{image_text, show_text}
 use Rattle.rvgprof.specs.Acceptance.{IsProgramFile, IsAccepted, Starts, records_of, total_of}
-use Rattle.rvgprof.specs.Headline.{Answered, DemoLeaves, ExecutionsAreListed, FoldedLeaves, Headline, Holds, NamesDiffer, IsPrinted, Leaves, ListingLeaves, ReportLeaves, RunIsSummedUp, RunIsWritten, RunLeaves, ShowLeaves, SumLeaves, SymsLeaves, TimeIsShared, demo_printed, exact_of, printed_of, reported_sources, reported_of, reports_of}
+use Rattle.rvgprof.specs.Headline.{Answered, DemoLeaves, ExecutionsAreListed, FoldedLeaves, ProfileLeaves, Holds, NamesDiffer, IsPrinted, Leaves, AnnotateLeaves, ReportLeaves, RunIsSummedUp, RunIsWritten, RunLeaves, ShowLeaves, SumLeaves, SymsLeaves, TimeIsShared, demo_printed, exact_section, printed_text, run_sources, sum_sources, reports_text}
 use Rattle.rvgprof.specs.Fitting.{FitsWhereTold, FileFits, SumIsProfile}
-use Rattle.rvgprof.specs.RunFile.{FitsFile, SaysProfile, SaysRun, gmon_text, memory_text, reported_profile, text_sizes, world_of}
+use Rattle.rvgprof.specs.RunFile.{FitsFile, SaysProfile, SaysRun, gmon_text, memory_text, reported_profile, text_sizes, end_world}
 use Rattle.rvgprof.proofs.AcceptanceLemmas.{accepted}
 use Rattle.rvgprof.proofs.Summing.{all_records, nothing_added, total_more}
 use Rattle.rvgprof.proofs.FileLemmas.{file_written, file_stays}
@@ -166,16 +166,16 @@ module _ (contents : ℕ → List ℕ) (s : Sources) where
   abbrev acts_along : Course → List Act
   acts_along course = (reply_to contents course).acts
 
-  shown_print : (shown : Shown) (hidden : List (List ℕ)) (next : Course) (behind_it : List Act) → prints_of (acts_along (shown_reports shown hidden s next) ++ behind_it) ≡ reports_of shown hidden s ++ prints_of (acts_along next ++ behind_it)
+  shown_print : (shown : Shown) (hidden : List (List ℕ)) (next : Course) (behind_it : List Act) → prints_of (acts_along (shown_reports shown hidden s next) ++ behind_it) ≡ reports_text shown hidden s ++ prints_of (acts_along next ++ behind_it)
   shown_print shows.Flat hidden next behind_it = refl
   shown_print shows.Graph hidden next behind_it = refl
   shown_print shows.Both hidden next behind_it =
-      let flat = reports_of shows.Flat hidden s in
-      let graph = reports_of shows.Graph hidden s in
+      let flat = reports_text shows.Flat hidden s in
+      let graph = reports_text shows.Graph hidden s in
       let rest = prints_of (acts_along next ++ behind_it) in
       ap (λ (text : List ℕ). flat ++ text) (sym (append_assoc (codes "\n") graph rest)) ∙ sym (append_assoc flat (codes "\n" ++ graph) rest)
 
-  exact_print : (exact : Bool) (done : Done) (line : List ℕ) → prints_of (acts_along (exact_report exact s (Ends (Ok done))) ++ Complain line ∷ []) ≡ exact_of exact s
+  exact_print : (exact : Bool) (done : Done) (line : List ℕ) → prints_of (acts_along (exact_report exact s (Ends (Ok done))) ++ Complain line ∷ []) ≡ exact_section exact s
   exact_print false done line = refl
   exact_print true done line =
       ap (λ (text : List ℕ). codes "\n" ++ text) (append-nil (exact_text s.symbols s.graph (exact_flow_in s.graph s.shares.of) (attributed_of s.shares)))
@@ -254,26 +254,26 @@ module _ (words : List (List ℕ)) (contents : ℕ → List ℕ) (elf gmon : ℕ
   files = files_named words gmon form image
 
   abbrev due : List Act
-  due = run_acts files setup (text_sizes bytes setup) (world_of bytes setup)
+  due = run_acts files setup (text_sizes bytes setup) (end_world bytes setup)
 
   -- it is carried out up to its end, and goes on
   run_goes : (next : Image → Sizes → World → Course) → IsDone contents (program elf (λ b i. run_program (run_acts files setup) setup (next i) b i))
-      → reply_to contents (program elf (λ b i. run_program (run_acts files setup) setup (next i) b i)) ≡ behind due (reply_to contents (next (image_of bytes) (text_sizes bytes setup) (world_of bytes setup)))
+      → reply_to contents (program elf (λ b i. run_program (run_acts files setup) setup (next i) b i)) ≡ behind due (reply_to contents (next (image_of bytes) (text_sizes bytes setup) (end_world bytes setup)))
   run_goes next done =
       let started : List ℕ → Image → Course = λ b i. run_program (run_acts files setup) setup (next i) b i in
       let read = program_goes contents elf started done in
       read
-      ∙ unless_goes contents start_fault_of (start_refusal (image_of bytes) setup) (Does due (next (image_of bytes) (text_sizes bytes setup) (world_of bytes setup)))
+      ∙ unless_goes contents start_fault_of (start_refusal (image_of bytes) setup) (Does due (next (image_of bytes) (text_sizes bytes setup) (end_world bytes setup)))
       (still_done contents (program elf started) (started bytes (image_of bytes)) read done)
 
   -- the file that is left, where no file is written behind the run's own
   file_holds : (rest : List Act) (d : Disk) → ((x : Disk) → disk_after rest x ≡ x) → NamesDiffer words gmon image
       → file_content (nth_word words gmon) (disk_after (due ++ rest) d).files ≡ gmon_text form bytes setup
   file_holds rest d keeps apart =
-      let prints = (world_of bytes setup).prints in
+      let prints = (end_world bytes setup).prints in
       let text = gmon_text form bytes setup in
       let one = file_acts (nth_word words gmon) text in
-      let memory = layout_of (block_image (text_sizes bytes setup) (world_of bytes setup).log) in
+      let memory = layout_of (block_image (text_sizes bytes setup) (end_world bytes setup).log) in
       let two = given_file_acts (option_map (nth_word words) image) memory in
       let content = λ (x : Disk). file_content (nth_word words gmon) x.files in
       let behind_prints = disk_after prints d in
@@ -289,7 +289,7 @@ module _ (words : List (List ℕ)) (contents : ℕ → List ℕ) (elf gmon : ℕ
   memory_holds : (rest : List Act) (d : Disk) (place : ℕ) → ((x : Disk) → disk_after rest x ≡ x) → image ≡ Some place
       → file_content (nth_word words place) (disk_after (due ++ rest) d).files ≡ memory_text bytes setup
   memory_holds rest d place keeps is =
-      let prints = (world_of bytes setup).prints in
+      let prints = (end_world bytes setup).prints in
       let one = file_acts (nth_word words gmon) (gmon_text form bytes setup) in
       let memory = memory_text bytes setup in
       let two = given_file_acts (option_map (nth_word words) image) memory in
@@ -303,9 +303,9 @@ module _ (words : List (List ℕ)) (contents : ℕ → List ℕ) (elf gmon : ℕ
       ∙ file_written (nth_word words place) memory behind_file
 
   -- what is printed on the error output
-  run_complains : (rest : List Act) → complaint_of (due ++ rest) ≡ complaint_of (world_of bytes setup).prints ++ complaint_of rest
+  run_complains : (rest : List Act) → complaint_of (due ++ rest) ≡ complaint_of (end_world bytes setup).prints ++ complaint_of rest
   run_complains rest =
-      let prints = (world_of bytes setup).prints in
+      let prints = (end_world bytes setup).prints in
       let one = file_acts (nth_word words gmon) (gmon_text form bytes setup) in
       let memory = memory_text bytes setup in
       let two = given_file_acts (option_map (nth_word words) image) memory in
@@ -314,11 +314,11 @@ module _ (words : List (List ℕ)) (contents : ℕ → List ℕ) (elf gmon : ℕ
       complained-append (prints ++ (one ++ two)) rest ∙ ap (λ (text : List ℕ). text ++ complaint_of rest) run
 
   -- what is printed
-  run_prints : (rest : List Act) → prints_of (due ++ rest) ≡ prints_of (world_of bytes setup).prints ++ prints_of rest
+  run_prints : (rest : List Act) → prints_of (due ++ rest) ≡ prints_of (end_world bytes setup).prints ++ prints_of rest
   run_prints rest =
-      let prints = (world_of bytes setup).prints in
+      let prints = (end_world bytes setup).prints in
       let one = file_acts (nth_word words gmon) (gmon_text form bytes setup) in
-      let memory = layout_of (block_image (text_sizes bytes setup) (world_of bytes setup).log) in
+      let memory = layout_of (block_image (text_sizes bytes setup) (end_world bytes setup).log) in
       let two = given_file_acts (option_map (nth_word words) image) memory in
       let files_print : prints_of (one ++ two) ≡ [] = no_prints (option_map (nth_word words) image) memory in
       let run : prints_of (prints ++ (one ++ two)) ≡ prints_of prints = printed-append prints (one ++ two) ∙ ap (λ (text : List ℕ). prints_of prints ++ text) files_print ∙ append-nil (prints_of prints) in
@@ -335,17 +335,17 @@ module _ (contents : ℕ → List ℕ) (functions : ℕ) (elf : Option (List ℕ
   -- it is carried out up to its end
   demo_goes : IsDone contents (demo_course functions elf setup)
       → reply_to contents (demo_course functions elf setup)
-      ≡ behind (given_file_acts elf (demo_program functions)) (behind (world_of (demo_program functions) setup).prints
-      (reply_to contents (demo_lines functions setup.rate (image_of (demo_program functions)) (text_sizes (demo_program functions) setup) (world_of (demo_program functions) setup))))
+      ≡ behind (given_file_acts elf (demo_program functions)) (behind (end_world (demo_program functions) setup).prints
+      (reply_to contents (demo_lines functions setup.rate (image_of (demo_program functions)) (text_sizes (demo_program functions) setup) (end_world (demo_program functions) setup))))
   demo_goes done =
       let bytes = demo_program functions in
       let image = image_of bytes in
-      let lines : Course = demo_lines functions setup.rate image (text_sizes bytes setup) (world_of bytes setup) in
-      let started : Course = unless start_fault_of (start_refusal image setup) (Does (world_of bytes setup).prints lines) in
+      let lines : Course = demo_lines functions setup.rate image (text_sizes bytes setup) (end_world bytes setup) in
+      let started : Course = unless start_fault_of (start_refusal image setup) (Does (end_world bytes setup).prints lines) in
       let writes : Course = Does (given_file_acts elf bytes) started in
       let read = unless_goes contents BadElf (elf_refusal bytes) writes done in
       let goes = still_done contents (demo_course functions elf setup) writes read done in
-      read ∙ ap (behind (given_file_acts elf bytes)) (unless_goes contents start_fault_of (start_refusal image setup) (Does (world_of bytes setup).prints lines) goes)
+      read ∙ ap (behind (given_file_acts elf bytes)) (unless_goes contents start_fault_of (start_refusal image setup) (Does (end_world bytes setup).prints lines) goes)
 
 -- ---- reports
 
@@ -363,10 +363,10 @@ module _ (contents : ℕ → List ℕ) (chosen : Chosen) (s : Sources) (done : D
   reports_keep line d =
       shown_keep contents s chosen.shown chosen.hidden (exact_report chosen.exact s (Ends (Ok done))) (Complain line ∷ []) d ∙ exact_keep contents s chosen.exact done line d
 
-  reports_print : (line : List ℕ) → prints_of ((reply_to contents reports).acts ++ Complain line ∷ []) ≡ printed_of chosen s
+  reports_print : (line : List ℕ) → prints_of ((reply_to contents reports).acts ++ Complain line ∷ []) ≡ printed_text chosen s
   reports_print line =
       shown_print contents s chosen.shown chosen.hidden (exact_report chosen.exact s (Ends (Ok done))) (Complain line ∷ [])
-      ∙ ap (λ (text : List ℕ). reports_of chosen.shown chosen.hidden s ++ text) (exact_print contents s chosen.exact done line)
+      ∙ ap (λ (text : List ℕ). reports_text chosen.shown chosen.hidden s ++ text) (exact_print contents s chosen.exact done line)
 
   reports_complain : (line : List ℕ) → complaint_of ((reply_to contents reports).acts ++ Complain line ∷ []) ≡ line
   reports_complain line =
@@ -390,7 +390,7 @@ time_is_shared image total =
 
 -- how a command ends that ran a program
 abbrev ended_with : List ℕ → Setup → Result Done Fault
-ended_with program setup = Ok (record { run = summary_of (text_sizes program setup) (world_of program setup) })
+ended_with program setup = Ok (record { run = summary_of (text_sizes program setup) (end_world program setup) })
 
 abbrev run_in : Result Done Fault → Option RunSummary
 run_in (Ok done) = done.run
@@ -465,7 +465,7 @@ module _ (words : List (List ℕ)) (old mid new : Outside) (done : Done) (acted 
   was_printed acts text is did = Becomes-by _ _ old.out new.out (λ b. ap (λ (t : List ℕ). b ++ t) is) did.out
 
   -- a run, of which the acts that follow print nothing on the error output but the last line
-  run_is_summed_up : (program : List ℕ) (setup : Setup) (acts : List Act) → Ok done ≡ ended_with program setup → complaint_of acts ≡ complaint_of (world_of program setup).prints ++ last.line
+  run_is_summed_up : (program : List ℕ) (setup : Setup) (acts : List Act) → Ok done ≡ ended_with program setup → complaint_of acts ≡ complaint_of (end_world program setup).prints ++ last.line
       → Did acts (with_openings acted.opens old) new → RunIsSummedUp words old new done setup program
   run_is_summed_up program setup acts ending is did = record {
     summary = ap run_in ending;
@@ -480,7 +480,7 @@ module _ (words : List (List ℕ)) (old mid new : Outside) (done : Done) (acted 
       let command = Some (Run elf gmon form image setup) in
       let acts = due words contents elf gmon form image setup in
       let line = Complain last.line ∷ [] in
-      let prints = (world_of (contents elf) setup).prints in
+      let prints = (end_world (contents elf) setup).prints in
       let taken : IsAccepted words contents command = all_taken command said in
       let reply = run_goes words contents elf gmon form image setup (λ i. sums_up) (well_done command said) in
       let did = subst (λ (acts : List Act). Did acts (with_openings acted.opens old) new) (append_assoc acts [] line) (done_by command _ said reply) in
@@ -498,7 +498,7 @@ module _ (words : List (List ℕ)) (old mid new : Outside) (done : Done) (acted 
       let chosen = chosen_by words selection in
       let image = image_of (contents elf) in
       let total = total_of contents gmons in
-      let sources = reported_of chosen contents elf gmons in
+      let sources = sum_sources chosen contents elf gmons in
       let taken : IsAccepted words contents command = all_taken command said in
       let goes = well_done command said in
       let read = program_goes contents elf (report_profiles gmons chosen) goes in
@@ -515,7 +515,7 @@ module _ (words : List (List ℕ)) (old mid new : Outside) (done : Done) (acted 
         fits = taken.2;
       }
 
-  listing_leaves : (elf : ℕ) (gmons : List ℕ) → command_of words ≡ Some (Annotate elf gmons) → ListingLeaves contents old new elf gmons
+  listing_leaves : (elf : ℕ) (gmons : List ℕ) → command_of words ≡ Some (Annotate elf gmons) → AnnotateLeaves contents old new elf gmons
   listing_leaves elf gmons said =
       let command = Some (Annotate elf gmons) in
       let program = contents elf in
@@ -534,16 +534,16 @@ module _ (words : List (List ℕ)) (old mid new : Outside) (done : Done) (acted 
       }
 
   profile_leaves : (elf gmon : ℕ) (form : Form) (image : Option ℕ) (setup : Setup) (selection : Selection) → command_of words ≡ Some (Profile elf gmon form image setup selection) → FitsWhereTold words old new elf form setup
-      → Headline words contents old new done elf gmon form image setup (chosen_by words selection)
+      → ProfileLeaves words contents old new done elf gmon form image setup (chosen_by words selection)
   profile_leaves elf gmon form image setup selection said fits =
       let command = Some (Profile elf gmon form image setup selection) in
       let chosen = chosen_by words selection in
       let program = contents elf in
       let z = text_sizes program setup in
-      let w = world_of program setup in
+      let w = end_world program setup in
       let acts = due words contents elf gmon form image setup in
       let line = Complain last.line ∷ [] in
-      let sources = reported_sources chosen form program setup in
+      let sources = run_sources chosen form program setup in
       let taken : IsAccepted words contents command = all_taken command said in
       let goes = well_done command said in
       let ran = run_goes words contents elf gmon form image setup (report_run form setup.rate chosen) goes in
@@ -567,7 +567,7 @@ module _ (words : List (List ℕ)) (old mid new : Outside) (done : Done) (acted 
       let command = Some (Demo functions elf setup) in
       let name = option_map (nth_word words) elf in
       let bytes = demo_program functions in
-      let prints = (world_of bytes setup).prints in
+      let prints = (end_world bytes setup).prints in
       let reply = demo_goes contents functions name setup (well_done command said) in
       let did = done_by command _ said reply in
       record {
@@ -620,7 +620,7 @@ module _ (words : List (List ℕ)) (old mid new : Outside) (done : Done) (acted 
       let command = Some (Folded elf inclusive setup) in
       let bytes = contents elf in
       let image = image_of bytes in
-      let prints = (world_of bytes setup).prints in
+      let prints = (end_world bytes setup).prints in
       let text = folded_report inclusive image bytes setup in
       let taken : IsAccepted words contents command = all_taken command said in
       let goes = well_done command said in

@@ -51,34 +51,34 @@ use Rattle.gmon_files.specs.Runs.{run_text}
 use Rattle.gmon_files.proofs.RunLemmas.{bsd_form, gnu_form}
 use Rattle.rvgprof.specs.Answer.{counts_text, profile_bytes, profile_in}
 use Rattle.command_words.specs.Words.{may_count}
-use Rattle.rvgprof.specs.RunFile.{FitsFile, ProfileFilesAreReadBack, RunFilesAreReadBack, SaysRun, execution_blocks, gmon_text, records_of_run, reported_profile, text_sizes, world_of}
+use Rattle.rvgprof.specs.RunFile.{FitsFile, ProfileFilesAreReadBack, RunFilesAreReadBack, SaysRun, execution_blocks, gmon_text, records_of_run, reported_profile, text_sizes, end_world}
 
 -- ---- how often instructions were executed
 
 -- no more instructions retire than the budget allows
-few_retired : (program : List ℕ) (setup : Setup) → IsSetup setup → (world_of program setup).retired ≤ 2147483647
+few_retired : (program : List ℕ) (setup : Setup) → IsSetup setup → (end_world program setup).retired ≤ 2147483647
 unfolding after_drive
 few_retired program setup within =
     let image = image_of program in
     let m = machine_of image setup in
     let turns = plan_of m.setup (most_turns m.setup) in
     let most = within.budget in
-    by turns (world_of program setup).ending refl (plan_ends image program setup within.some_every within.some_budget)
+    by turns (end_world program setup).ending refl (plan_ends image program setup within.some_every within.some_budget)
     (λ is. let e = (timed_budget image program setup turns within.some_every within.some_budget is).1 in omega arith)
     (λ status is. let e = (timed_exit image program setup turns status within.some_every within.some_budget is).1 in omega arith)
     (λ kind pc is. let e = (timed_trap image program setup turns kind pc within.some_every within.some_budget is).1 in omega arith)
   where
-    by : (turns : List ℕ) (o : Option End) → (world_of program setup).ending ≡ o → IsSome (world_of program setup).ending
-        → ((world_of program setup).ending ≡ Some Budget → (world_of program setup).retired ≤ 2147483647)
-        → ((status : ℕ) → (world_of program setup).ending ≡ Some (Exit status) → (world_of program setup).retired ≤ 2147483647)
-        → ((kind : _) (pc : ℕ) → (world_of program setup).ending ≡ Some (Trap kind pc) → (world_of program setup).retired ≤ 2147483647)
-        → (world_of program setup).retired ≤ 2147483647
+    by : (turns : List ℕ) (o : Option End) → (end_world program setup).ending ≡ o → IsSome (end_world program setup).ending
+        → ((end_world program setup).ending ≡ Some Budget → (end_world program setup).retired ≤ 2147483647)
+        → ((status : ℕ) → (end_world program setup).ending ≡ Some (Exit status) → (end_world program setup).retired ≤ 2147483647)
+        → ((kind : _) (pc : ℕ) → (end_world program setup).ending ≡ Some (Trap kind pc) → (end_world program setup).retired ≤ 2147483647)
+        → (end_world program setup).retired ≤ 2147483647
     by turns None is some one two three = absurd (let none : IsSome {T = End} None = subst IsSome is some in cc)
     by turns (Some Budget) is some one two three = one is
     by turns (Some (Exit status)) is some one two three = two status is
     by turns (Some (Trap kind pc)) is some one two three = three kind pc is
 
-retired_here : (program : List ℕ) (setup : Setup) → length (world_of program setup).ran ≡ (world_of program setup).retired
+retired_here : (program : List ℕ) (setup : Setup) → length (end_world program setup).ran ≡ (end_world program setup).retired
 unfolding after_drive
 retired_here program setup =
     let image = image_of program in
@@ -93,7 +93,7 @@ each_below most (x ∷ xs) all some (suc i) = each_below most xs all.1 some i
 -- so the counts have four bytes
 module _ (program : List ℕ) (setup : Setup) (within : IsSetup setup) where
   abbrev ran : List ℕ
-  ran = (world_of program setup).ran
+  ran = (end_world program setup).ran
 
   count_fits : (pc : ℕ) → executions_at ran pc < 2 ^ 32
   count_fits pc =
@@ -106,7 +106,7 @@ module _ (program : List ℕ) (setup : Setup) (within : IsSetup setup) where
   all_fit low [] = tt
   all_fit low (i ∷ is) = (count_fits (low + 4 * i), all_fit low is)
 
-  counts_fit : AreSizes (text_sizes program setup) → (blocks : Bool) → CountsFit (text_sizes program setup).low (execution_blocks blocks (text_sizes program setup) (world_of program setup))
+  counts_fit : AreSizes (text_sizes program setup) → (blocks : Bool) → CountsFit (text_sizes program setup).low (execution_blocks blocks (text_sizes program setup) (end_world program setup))
   counts_fit sizes false = record { four_bytes = λ i. omega arith; addresses = λ i less. absurd (omega (arith, less)) }
   counts_fit sizes true =
       let z = text_sizes program setup in
@@ -266,7 +266,7 @@ module _ (form : Form) (program : List ℕ) (setup : Setup) (fits : FitsFile for
   z = text_sizes program setup
 
   abbrev w : World
-  w = world_of program setup
+  w = end_world program setup
 
   abbrev front : List Rec
   front = run_recs z.low z.high setup.rate (buckets_of z w.log) (arcs_of z w.log)

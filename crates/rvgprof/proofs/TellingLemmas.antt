@@ -41,21 +41,21 @@ use Rattle.gp_base.specs.declared.refusal.GmonRefusal.{GmonRefusal}
 use Rattle.gp_base.specs.declared.refusal.GmonRefusal.TheVariants as gmons
 use Rattle.prof_machine.specs.declared.ending.StartRefusal.{StartRefusal}
 use Rattle.prof_machine.specs.declared.ending.StartRefusal.TheVariants as starts
-use Rattle.rvgprof.specs.Contract.{Acted, NamesRefusal}
+use Rattle.rvgprof.specs.Contract.{Acted, RefusalIsNoWant}
 use Rattle.rvgprof.proofs.RefusalLemmas.{ElfNamed, GmonNamed, elf_never, file_never}
 use Rattle.rvgprof.specs.Acceptance.{starts_run}
 
 -- ---- refusals of files are never want of memory
 
-elf_named : (bytes : List ℕ) (r : ElfRefusal) → elf_refusal bytes ≡ Some r → NamesRefusal (BadElf r)
+elf_named : (bytes : List ℕ) (r : ElfRefusal) → elf_refusal bytes ≡ Some r → RefusalIsNoWant (BadElf r)
 elf_named bytes elf.OutOfMemory is = subst ElfNamed is (elf_never bytes)
 elf_named bytes r is = tt
 
-profile_named : (bytes : List ℕ) (word : ℕ) (r : GmonRefusal) → file_refusal bytes ≡ Some r → NamesRefusal (BadProfile r word)
+profile_named : (bytes : List ℕ) (word : ℕ) (r : GmonRefusal) → file_refusal bytes ≡ Some r → RefusalIsNoWant (BadProfile r word)
 profile_named bytes word gmons.OutOfMemory is = subst GmonNamed is (file_never bytes)
 profile_named bytes word r is = tt
 
-start_named : (r : StartRefusal) → NamesRefusal (start_fault_of r)
+start_named : (r : StartRefusal) → RefusalIsNoWant (start_fault_of r)
 start_named (starts.ProgramTooLarge need end) = tt
 start_named (starts.EntryOutside entry) = tt
 start_named starts.OutOfMemory = tt
@@ -63,16 +63,16 @@ start_named starts.OutOfMemory = tt
 module _ (contents : ℕ → List ℕ) (some : Bool) where
   -- where it ends well, something is told of a run or nothing is; and no refusal of a file is want of memory
   abbrev Tells : Course → Type 0
-  Tells course = MatchResult (reply_to contents course).ending (λ done. is_some done.run ≡ some) NamesRefusal
+  Tells course = MatchResult (reply_to contents course).ending (λ done. is_some done.run ≡ some) RefusalIsNoWant
 
-  tells_unless : {R : Type 0} (fault : R → Fault) (refusal : Option R) (next : Course) → ((r : R) → refusal ≡ Some r → NamesRefusal (fault r)) → Tells next → Tells (unless fault refusal next)
+  tells_unless : {R : Type 0} (fault : R → Fault) (refusal : Option R) (next : Course) → ((r : R) → refusal ≡ Some r → RefusalIsNoWant (fault r)) → Tells next → Tells (unless fault refusal next)
   tells_unless fault None next named tells = tells
   tells_unless fault (Some r) next named tells = named r refl
 
   tells_input : (word limit : ℕ) (next : List ℕ → Course) → ((bytes : List ℕ) → Tells (next bytes)) → Tells (Input word limit next)
   tells_input word limit next tells = by (ltb limit (length (contents word)))
     where
-      by : (b : Bool) → MatchResult (cond b (record { ending = Err (TooLarge word limit); acts = [] }) (reply_to contents (next (contents word)))).ending (λ done. is_some done.run ≡ some) NamesRefusal
+      by : (b : Bool) → MatchResult (cond b (record { ending = Err (TooLarge word limit); acts = [] }) (reply_to contents (next (contents word)))).ending (λ done. is_some done.run ≡ some) RefusalIsNoWant
       by true = tt
       by false = tells (contents word)
 
@@ -169,8 +169,8 @@ by_command : (words : List (List ℕ)) (contents : ℕ → List ℕ) (command : 
 by_command words contents command o is within = subst (λ (c : Option Command). Tells contents (starts_run c) (command_course words c)) (sym is) (tells_by words contents command within)
 
 -- what is told of the course is told by the answer
-told_so : (contents : ℕ → List ℕ) (some : Bool) (course : Course) (result : Result Done Fault) → result ≡ (reply_to contents course).ending → Tells contents some course → MatchResult result (λ done. is_some done.run ≡ some) NamesRefusal
-told_so contents some course result is = subst (λ (r : Result Done Fault). MatchResult r (λ done. is_some done.run ≡ some) NamesRefusal) (sym is)
+told_so : (contents : ℕ → List ℕ) (some : Bool) (course : Course) (result : Result Done Fault) → result ≡ (reply_to contents course).ending → Tells contents some course → MatchResult result (λ done. is_some done.run ≡ some) RefusalIsNoWant
+told_so contents some course result is = subst (λ (r : Result Done Fault). MatchResult r (λ done. is_some done.run ≡ some) RefusalIsNoWant) (sym is)
 
 pub told_where_run : (words : List (List ℕ)) (command : Command) (old new : Outside) (result : Result Done Fault) → command_of words ≡ Some command → IsCommandOf words command → Acted words old new result
     → IfOk result (λ done. is_some done.run ≡ starts_run (command_of words))
@@ -179,7 +179,7 @@ told_where_run words command old new (Ok done) said within acted =
 told_where_run words command old new (Err fault) said within acted = tt
 
 pub named_where_refused : (words : List (List ℕ)) (command : Command) (old new : Outside) (result : Result Done Fault) → command_of words ≡ Some command → IsCommandOf words command → Acted words old new result
-    → IfErr result NamesRefusal
+    → IfErr result RefusalIsNoWant
 named_where_refused words command old new (Err (BadElf r)) said within acted =
     told_so acted.owed.contents (starts_run (command_of words)) (course_of words) (Err (BadElf r)) acted.owed.owes.ending (by_command words acted.owed.contents command (command_of words) said within)
 named_where_refused words command old new (Err (BadProfile r word)) said within acted =

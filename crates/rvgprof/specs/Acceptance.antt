@@ -88,8 +88,8 @@ acts_at_once (Some Version) = true
 acts_at_once command = false
 
 -- whether carrying it out takes memory
-abbrev pub takes_memory : Option Command → Bool
-takes_memory None = false
-takes_memory (Some Help) = false
-takes_memory (Some Version) = false
-takes_memory command = true
+abbrev pub may_want_memory : Option Command → Bool
+may_want_memory None = false
+may_want_memory (Some Help) = false
+may_want_memory (Some Version) = false
+may_want_memory command = true

@@ -73,10 +73,10 @@ pub record Owed (words : List (List ℕ)) (old new : Outside)
   pub owes : Owes words contents old new opens done result
 
 -- what a file is refused for is a fault of its bytes, and never want of memory
-abbrev pub NamesRefusal : Fault → Type 0
-NamesRefusal (BadElf elf.OutOfMemory) = ⊥
-NamesRefusal (BadProfile gmons.OutOfMemory word) = ⊥
-NamesRefusal fault = ⊤
+abbrev pub RefusalIsNoWant : Fault → Type 0
+RefusalIsNoWant (BadElf elf.OutOfMemory) = ⊥
+RefusalIsNoWant (BadProfile gmons.OutOfMemory word) = ⊥
+RefusalIsNoWant fault = ⊤
 
 -- no file is being written, after every answer but a write fault
 abbrev pub IsShut : Result Done Fault → Outside → Type 0

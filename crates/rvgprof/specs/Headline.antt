@@ -42,26 +42,26 @@ use Rattle.rvgprof.specs.Answer.{Chosen, chosen_by, chosen_sources, wide_step}
 use Rattle.rvgprof.specs.Contract.{Acted, LineEnds, LineIsPrinted}
 use Rattle.rvgprof.specs.FoldedReport.{folded_report}
 use Rattle.rvgprof.specs.Help.{help_text, version_text}
-use Rattle.rvgprof.specs.RunFile.{SaysProfile, SaysRun, gmon_text, memory_text, reported_profile, text_sizes, world_of}
+use Rattle.rvgprof.specs.RunFile.{SaysProfile, SaysRun, gmon_text, memory_text, reported_profile, text_sizes, end_world}
 use Rattle.rvgprof.specs.Acceptance.{IsProfileFile, IsProgramFile, AreProfileFiles, Starts, total_of}
 
 -- what is reported: what that file says, without the calls that are cut
-abbrev pub reported_sources : Chosen → Form → List ℕ → Setup → Sources
-reported_sources chosen form program setup = chosen_sources chosen (image_of program) (reported_profile form program setup)
+abbrev pub run_sources : Chosen → Form → List ℕ → Setup → Sources
+run_sources chosen form program setup = chosen_sources chosen (image_of program) (reported_profile form program setup)
 
 -- the reports that are asked for
-abbrev pub reports_of : Shown → List (List ℕ) → Sources → List ℕ
-reports_of shows.Flat hidden s = flat_text s hidden
-reports_of shows.Graph hidden s = graph_text s hidden
-reports_of shows.Both hidden s = flat_text s hidden ++ (codes "\n" ++ graph_text s hidden)
+abbrev pub reports_text : Shown → List (List ℕ) → Sources → List ℕ
+reports_text shows.Flat hidden s = flat_text s hidden
+reports_text shows.Graph hidden s = graph_text s hidden
+reports_text shows.Both hidden s = flat_text s hidden ++ (codes "\n" ++ graph_text s hidden)
 
 -- the times with nothing rounded, behind an empty line
-abbrev pub exact_of : Bool → Sources → List ℕ
-exact_of false s = []
-exact_of true s = codes "\n" ++ exact_text s.symbols s.graph (exact_flow_in s.graph s.shares.of) (attributed_of s.shares)
+abbrev pub exact_section : Bool → Sources → List ℕ
+exact_section false s = []
+exact_section true s = codes "\n" ++ exact_text s.symbols s.graph (exact_flow_in s.graph s.shares.of) (attributed_of s.shares)
 
-abbrev pub printed_of : Chosen → Sources → List ℕ
-printed_of chosen s = reports_of chosen.shown chosen.hidden s ++ exact_of chosen.exact s
+abbrev pub printed_text : Chosen → Sources → List ℕ
+printed_text chosen s = reports_text chosen.shown chosen.hidden s ++ exact_section chosen.exact s
 
 -- the memory of the runtime isn't written into the file of the profile
 abbrev pub NamesDiffer : List (List ℕ) → ℕ → Option ℕ → Type 0
@@ -94,11 +94,11 @@ pub record RunIsWritten (words : List (List ℕ)) (new : Outside) (gmon : ℕ) (
 -- A run is summed up: in the answer, and in the end line, of which a prefix is printed where complaining fails.
 pub record RunIsSummedUp (words : List (List ℕ)) (old new : Outside) (done : Done)
     (setup : Setup) (program : List ℕ) : Type 0 where
-  pub summary : done.run ≡ summary_of (text_sizes program setup) (world_of program setup)
+  pub summary : done.run ≡ summary_of (text_sizes program setup) (end_world program setup)
   pub line : List ℕ
   pub ends : LineEnds line (last_line words (Ok done)) old.err_faults new.err_faults
   -- what the program prints on the error output stands before the line
-  pub errors : Becomes (λ bytes. bytes ++ (complaint_of (world_of program setup).prints ++ line)) old.err new.err
+  pub errors : Becomes (λ bytes. bytes ++ (complaint_of (end_world program setup).prints ++ line)) old.err new.err
 
 -- an arc carries its part of both times of the component that it enters
 abbrev pub ArcIsInProportion : Sources → ℕ → Type 0
@@ -108,8 +108,8 @@ ArcIsInProportion s i =
     × IsInProportion (slice_index s.flow.arc_child i) (slice_index s.flow.child d) (arc_at s.graph i).count (entering_of s.graph d)
 
 -- the arcs that enter a component carry all of both
-abbrev pub IsCarried : Sources → ℕ → Type 0
-IsCarried s d = (carried_to s.graph (slice_index s.flow.arc_self) d ≡ slice_index s.flow.self d) × (carried_to s.graph (slice_index s.flow.arc_child) d ≡ slice_index s.flow.child d)
+abbrev pub CallersGetAll : Sources → ℕ → Type 0
+CallersGetAll s d = (carried_to s.graph (slice_index s.flow.arc_self) d ≡ slice_index s.flow.self d) × (carried_to s.graph (slice_index s.flow.arc_child) d ≡ slice_index s.flow.child d)
 
 -- The time of a report is shared out.
 pub record TimeIsShared (s : Sources) : Type 0 where
@@ -119,7 +119,7 @@ pub record TimeIsShared (s : Sources) : Type 0 where
   -- .. that is its time in proportion to the calls, but for less than a grain ..
   pub parts : (i : ℕ) → i < arc_count s.graph → is_outside s.graph i ≡ true → ArcIsInProportion s i
   -- .. and the callers together get all of it
-  pub whole : (d : ℕ) → d < component_count s.graph → entering_of s.graph d ≢ 0 → IsCarried s d
+  pub whole : (d : ℕ) → d < component_count s.graph → entering_of s.graph d ≢ 0 → CallersGetAll s d
   -- those without callers from outside have together all that is attributed ..
   pub conserved : time_of_roots s.graph s.flow ≡ attributed_of s.shares
   -- .. and so have their entries in the call graph
@@ -131,12 +131,12 @@ pub record RunLeaves (words : List (List ℕ)) (contents : ℕ → List ℕ) (ol
   pub runs : Runs (contents elf) setup
   pub written : RunIsWritten words new gmon form image setup (contents elf)
   -- what the program prints was printed
-  pub output : IsPrinted (prints_of (world_of (contents elf) setup).prints) old new
+  pub output : IsPrinted (prints_of (end_world (contents elf) setup).prints) old new
   pub run : RunIsSummedUp words old new done setup (contents elf)
 
 -- what is reported of files: the sum of what they say, without the calls that are cut
-abbrev pub reported_of : Chosen → (ℕ → List ℕ) → ℕ → List ℕ → Sources
-reported_of chosen contents elf gmons = chosen_sources chosen (image_of (contents elf)) (total_of contents gmons)
+abbrev pub sum_sources : Chosen → (ℕ → List ℕ) → ℕ → List ℕ → Sources
+sum_sources chosen contents elf gmons = chosen_sources chosen (image_of (contents elf)) (total_of contents gmons)
 
 -- what `report` leaves
 pub record ReportLeaves (contents : ℕ → List ℕ) (old new : Outside) (elf : ℕ) (gmons : List ℕ)
@@ -144,13 +144,13 @@ pub record ReportLeaves (contents : ℕ → List ℕ) (old new : Outside) (elf :
   pub accepted : IsProgramFile (contents elf)
   pub profiles : AreProfileFiles contents gmons
   -- the reports were printed
-  pub output : IsPrinted (printed_of chosen (reported_of chosen contents elf gmons)) old new
-  pub shared : TimeIsShared (reported_of chosen contents elf gmons)
+  pub output : IsPrinted (printed_text chosen (sum_sources chosen contents elf gmons)) old new
+  pub shared : TimeIsShared (sum_sources chosen contents elf gmons)
   -- no step of the exact times is too wide, where these are asked for
-  pub fits : wide_step chosen.exact (reported_of chosen contents elf gmons) ≡ None
+  pub fits : wide_step chosen.exact (sum_sources chosen contents elf gmons) ≡ None
 
 -- what `annotate` leaves: the listing of the sum of what its files say
-pub record ListingLeaves (contents : ℕ → List ℕ) (old new : Outside) (elf : ℕ) (gmons : List ℕ) : Type 0 where
+pub record AnnotateLeaves (contents : ℕ → List ℕ) (old new : Outside) (elf : ℕ) (gmons : List ℕ) : Type 0 where
   pub accepted : IsProgramFile (contents elf)
   pub profiles : AreProfileFiles contents gmons
   pub output : IsPrinted (annotated_text (image_of (contents elf)) (contents elf) (total_of contents gmons)) old new
@@ -180,7 +180,7 @@ pub record SymsLeaves (contents : ℕ → List ℕ) (old new : Outside) (elf : �
 pub record FoldedLeaves (words : List (List ℕ)) (contents : ℕ → List ℕ) (old new : Outside) (done : Done)
     (elf : ℕ) (inclusive : Bool) (setup : Setup) : Type 0 where
   pub runs : Runs (contents elf) setup
-  pub output : IsPrinted (prints_of (world_of (contents elf) setup).prints
+  pub output : IsPrinted (prints_of (end_world (contents elf) setup).prints
       ++ folded_report inclusive (image_of (contents elf)) (contents elf) setup) old new
   pub run : RunIsSummedUp words old new done setup (contents elf)
 
@@ -188,19 +188,19 @@ pub record FoldedLeaves (words : List (List ℕ)) (contents : ℕ → List ℕ) 
 -- often the instruction there retired in the run.
 abbrev pub ExecutionsAreListed : Type 0
 ExecutionsAreListed = (program : List ℕ) (setup : Setup) (contents : ℕ → List ℕ) (gmon i : ℕ) → SaysRun Gnu program setup (contents gmon) → setup.blocks ≡ true → i < instructions_of (text_sizes program setup)
-    → runs_at ((text_sizes program setup).low + 4 * i) (total_of contents (gmon ∷ [])).blocks ≡ executions_at (world_of program setup).ran ((text_sizes program setup).low + 4 * i)
+    → runs_at ((text_sizes program setup).low + 4 * i) (total_of contents (gmon ∷ [])).blocks ≡ executions_at (end_world program setup).ran ((text_sizes program setup).low + 4 * i)
 
 -- what `profile` leaves
-pub record Headline (words : List (List ℕ)) (contents : ℕ → List ℕ) (old new : Outside) (done : Done)
+pub record ProfileLeaves (words : List (List ℕ)) (contents : ℕ → List ℕ) (old new : Outside) (done : Done)
     (elf gmon : ℕ) (form : Form) (image : Option ℕ) (setup : Setup) (chosen : Chosen) : Type 0 where
   pub runs : Runs (contents elf) setup
   pub written : RunIsWritten words new gmon form image setup (contents elf)
   -- what the program prints, and then the reports, were printed
-  pub output : IsPrinted (prints_of (world_of (contents elf) setup).prints
-      ++ printed_of chosen (reported_sources chosen form (contents elf) setup)) old new
+  pub output : IsPrinted (prints_of (end_world (contents elf) setup).prints
+      ++ printed_text chosen (run_sources chosen form (contents elf) setup)) old new
   pub run : RunIsSummedUp words old new done setup (contents elf)
-  pub shared : TimeIsShared (reported_sources chosen form (contents elf) setup)
-  pub fits : wide_step chosen.exact (reported_sources chosen form (contents elf) setup) ≡ None
+  pub shared : TimeIsShared (run_sources chosen form (contents elf) setup)
+  pub fits : wide_step chosen.exact (run_sources chosen form (contents elf) setup) ≡ None
 
 -- what a demo's summary is made from
 abbrev pub demo_sources : ℕ → Setup → Sources
@@ -211,7 +211,7 @@ demo_sources functions setup = profile_sources (image_of (demo_program functions
 abbrev pub demo_printed : ℕ → Setup → List ℕ
 demo_printed functions setup =
     let z = text_sizes (demo_program functions) setup in
-    let w = world_of (demo_program functions) setup in
+    let w = end_world (demo_program functions) setup in
     let s = demo_sources functions setup in
     demo_summary functions (distinct_count (kept_calls z w.log)) s.graph s.flow s.shares (summary_of z w)
 
@@ -219,7 +219,7 @@ demo_printed functions setup =
 pub record DemoLeaves (words : List (List ℕ)) (old new : Outside) (done : Done) (functions : ℕ)
     (setup : Setup) : Type 0 where
   -- what its program prints, and then the summary, were printed
-  pub output : IsPrinted (prints_of (world_of (demo_program functions) setup).prints
+  pub output : IsPrinted (prints_of (end_world (demo_program functions) setup).prints
       ++ demo_printed functions setup) old new
   pub run : RunIsSummedUp words old new done setup (demo_program functions)
   -- so that both numbers of grains in it are the same
@@ -236,9 +236,9 @@ Leaves words contents old new done (Some (Report elf gmons selection)) =
 Leaves words contents old new done (Some (Run elf gmon form image setup)) =
     RunLeaves words contents old new done elf gmon form image setup
 Leaves words contents old new done (Some (Profile elf gmon form image setup selection)) =
-    Headline words contents old new done elf gmon form image setup (chosen_by words selection)
+    ProfileLeaves words contents old new done elf gmon form image setup (chosen_by words selection)
 Leaves words contents old new done (Some (Demo functions elf setup)) = DemoLeaves words old new done functions setup
-Leaves words contents old new done (Some (Annotate elf gmons)) = ListingLeaves contents old new elf gmons
+Leaves words contents old new done (Some (Annotate elf gmons)) = AnnotateLeaves contents old new elf gmons
 Leaves words contents old new done (Some (Folded elf inclusive setup)) =
     FoldedLeaves words contents old new done elf inclusive setup
 Leaves words contents old new done (Some Help) = IsPrinted help_text old new

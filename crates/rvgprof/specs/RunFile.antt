@@ -25,19 +25,19 @@ use Rattle.rvgprof.specs.Answer.{profile_bytes, profile_in, written_profile}
 use Rattle.command_words.specs.Words.{IsRunSetup}
 
 -- the world in which the run of a program ends
-abbrev pub world_of : List ℕ → Setup → World
-world_of program setup = final_world (image_of program) program setup
+abbrev pub end_world : List ℕ → Setup → World
+end_world program setup = final_world (image_of program) program setup
 
 abbrev pub text_sizes : List ℕ → Setup → Sizes
 text_sizes program setup = sizes_of (image_of program).text setup.hist setup.hash
 
 -- the gmon.out file of that run, in a form
 abbrev pub gmon_text : Form → List ℕ → Setup → List ℕ
-gmon_text form program setup = profile_bytes form setup (text_sizes program setup) (world_of program setup)
+gmon_text form program setup = profile_bytes form setup (text_sizes program setup) (end_world program setup)
 
 -- the memory of its runtime
 abbrev pub memory_text : List ℕ → Setup → List ℕ
-memory_text program setup = layout_of (block_image (text_sizes program setup) (world_of program setup).log)
+memory_text program setup = layout_of (block_image (text_sizes program setup) (end_world program setup).log)
 
 -- ---- what is read of that file
 
@@ -55,27 +55,27 @@ records_of_run form setup z w = record {
 
 -- the profile that is reported of a run
 abbrev pub reported_profile : Form → List ℕ → Setup → Content
-reported_profile form program setup = written_profile form (text_sizes program setup) (world_of program setup).log setup.rate
+reported_profile form program setup = written_profile form (text_sizes program setup) (end_world program setup).log setup.rate
 
 -- A text is read as what happened in a run of a program.
 pub record SaysRun (form : Form) (program : List ℕ) (setup : Setup) (text : List ℕ) : Type 0 where
   pub form_is : form_of text ≡ form
   pub accepted : file_refusal text ≡ None
-  pub records : file_records text ≡ records_of_run form setup (text_sizes program setup) (world_of program setup)
+  pub records : file_records text ≡ records_of_run form setup (text_sizes program setup) (end_world program setup)
   -- its samples and calls are those that are reported of the run
   pub hists : (profile_in (file_records text)).hists ≡ (reported_profile form program setup).hists
   pub arcs : (profile_in (file_records text)).arcs ≡ (reported_profile form program setup).arcs
   pub «unit» : (profile_in (file_records text)).«unit» ≡ (reported_profile form program setup).«unit»
   -- and where executions are counted, those of each instruction of the text are how often it retired
   pub executions : setup.blocks ≡ true → (i : ℕ) → i < instructions_of (text_sizes program setup)
-      → runs_at ((text_sizes program setup).low + 4 * i) (profile_in (file_records text)).blocks ≡ executions_at (world_of program setup).ran ((text_sizes program setup).low + 4 * i)
+      → runs_at ((text_sizes program setup).low + 4 * i) (profile_in (file_records text)).blocks ≡ executions_at (end_world program setup).ran ((text_sizes program setup).low + 4 * i)
 
 -- The setup is one that words may ask for, the text one that the runtime is made for, and callees and numbers of calls
 -- have four bytes.
 pub record FitsFile (form : Form) (program : List ℕ) (setup : Setup) : Type 0 where
   pub within : IsRunSetup form setup
   pub sizes : AreSizes (text_sizes program setup)
-  pub calls : All CallFits (arcs_of (text_sizes program setup) (world_of program setup).log)
+  pub calls : All CallFits (arcs_of (text_sizes program setup) (end_world program setup).log)
 
 -- the file of every such run says it
 abbrev pub RunFilesAreReadBack : Type 0

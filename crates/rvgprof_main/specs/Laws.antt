@@ -18,13 +18,13 @@ use Rattle.prof_machine.specs.Executions.{executions_at, instructions_of}
 use Rattle.rvgprof.specs.declared.outcome.Done.{Done}
 use Rattle.rvgprof.specs.declared.outcome.Fault.{Fault}
 use Rattle.rvgprof.specs.declared.outcome.Fault.TheVariants.{OutOfMemory}
-use Rattle.rvgprof.specs.Acceptance.{acts_at_once, starts_run, takes_memory, total_of}
+use Rattle.rvgprof.specs.Acceptance.{acts_at_once, starts_run, may_want_memory, total_of}
 use Rattle.rvgprof.specs.Answer.{contents_of, course_of, profile_in}
 use Rattle.rvgprof.specs.Completeness.{Complete, is_complaint}
 use Rattle.rvgprof.specs.Contract.{WhereTold}
 use Rattle.rvgprof.specs.Course.{reply_to}
 use Rattle.rvgprof.specs.Headline.{Answered}
-use Rattle.rvgprof.specs.RunFile.{SaysRun, text_sizes, world_of}
+use Rattle.rvgprof.specs.RunFile.{SaysRun, text_sizes, end_world}
 
 -- a count of faults stayed below its end
 abbrev pub IsKept : ℕ → ℕ → Type 0
@@ -55,11 +55,11 @@ pub record FileLaws : Type 0 where
   pub listed : (program : List ℕ) (setup : Setup) (contents : ℕ → List ℕ) (gmon i : ℕ)
       → SaysRun Gnu program setup (contents gmon) → setup.blocks ≡ true → i < instructions_of (text_sizes program setup)
       → let at = (text_sizes program setup).low + 4 * i in
-      runs_at at (total_of contents (gmon ∷ [])).blocks ≡ executions_at (world_of program setup).ran at
+      runs_at at (total_of contents (gmon ∷ [])).blocks ≡ executions_at (end_world program setup).ran at
 
 -- whether a command takes memory, does its acts at once, and starts a run
 pub record CommandTraits (command : Option Command) (memory at_once run : Bool) : Type 0 where
-  pub memory_is : takes_memory command ≡ memory
+  pub memory_is : may_want_memory command ≡ memory
   pub at_once_is : acts_at_once command ≡ at_once
   pub run_is : starts_run command ≡ run
 

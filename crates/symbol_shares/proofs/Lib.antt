@@ -3,5 +3,6 @@ pub mod OrderLemmas
 pub mod SumLemmas
 pub mod WalkLemmas
 pub mod PartLemmas
+pub mod SpanLemmas
 pub mod CoverLemmas
 pub mod RangeLemmas

@@ -25,6 +25,10 @@ share_of_bucket h i s = grains_up_to h i s.end - grains_up_to h i s.addr
 abbrev pub share_of_buckets : Hist → ℕ → Symbol → ℕ
 share_of_buckets h m s = sum_by (λ i. share_of_bucket h i s) (range_with_len 0 m)
 
+-- what a symbol gets of the buckets from i to below j
+abbrev pub share_between : Hist → ℕ → ℕ → Symbol → ℕ
+share_between h i j s = share_of_buckets h j s - share_of_buckets h i s
+
 -- what a symbol gets of all buckets of a histogram
 abbrev pub share_in_hist : Hist → Symbol → ℕ
 share_in_hist h s = share_of_buckets h (length h.counters) s

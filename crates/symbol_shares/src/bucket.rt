@@ -1,6 +1,7 @@
 //! The grains of a bucket.
 
-ghost use Rattle.std.specs.Prelude.{◌≡◌, ◌+◌, ◌-◌, ◌*◌, ◌/◌, ◌^◌, ◌<◌, ◌≤◌, ◌↔◌, IsTrue, length, slice_index};
+ghost use Rattle.std.specs.Prelude.{◌≡◌, ℕ, ◌+◌, ◌-◌, ◌*◌, ◌/◌, ◌^◌, ◌<◌, ◌≤◌, ◌↔◌, IsTrue, length, slice_index};
+ghost use Rattle.symbol_shares.specs.Parts.{IsInside};
 ghost use Rattle.symbol_shares.specs.Shares.{bucket_begin as begin_of, place_in_bucket as place_in, share_of_bucket as share_of};
 ghost use Rattle.symbol_shares.specs.Ranges.{grains_of_bucket as grains_of};
 
@@ -98,6 +99,24 @@ pub(crate) fn share_of_bucket(hist: &Hist, i: usize, symbol: &Symbol) -> u128
     ensures { result ≡ share_of hist.now i symbol.now }
 {
     grains_of_bucket(hist, i, symbol.addr, symbol.end)
+}
+
+/// Up to which bucket those from bucket `i` on lie in a symbol as a whole: `i` where that one doesn't.
+pub(crate) fn end_of_whole(hist: &Hist, i: usize, symbol: &Symbol) -> usize
+    requires range { hist.now.low < hist.now.high }
+    requires few { length hist.now.counters < 2 ^ 26 }
+    requires inside { i < length hist.now.counters }
+    ensures rising { i ≤ result }
+    ensures inside { result ≤ length hist.now.counters }
+    ensures whole { (m : ℕ) → i ≤ m → m < result → IsInside hist.now m symbol.now }
+{
+    let count = hist.counters.as_slice().len() as u64;
+    if bucket_begin(hist, i) < u64::from(symbol.addr) * count {
+        return i;
+    }
+    let above = (u64::from(symbol.end) * count).saturating_sub(u64::from(hist.low) * count);
+    let end = (above / u64::from(width(hist))).min(count) as usize;
+    end.max(i)
 }
 
 /// Whether an address lies above the end of bucket `i`.

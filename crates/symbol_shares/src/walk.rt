@@ -1,14 +1,14 @@
 //! One walk over the buckets of all histograms, and over the symbols beside them.
 
-ghost use Rattle.std.specs.Prelude.{◌≡◌, ◌+◌, ◌*◌, ◌^◌, ◌<◌, ◌≤◌, length, map, sum, slice_get, slice_index, take, Some, IfOk};
+ghost use Rattle.std.specs.Prelude.{◌≡◌, ◌+◌, ◌*◌, ◌^◌, ◌<◌, ◌≤◌, length, drop, map, sum, slice_get, slice_index, take, Some, IfOk};
 ghost use Rattle.std.specs.List.{All};
 ghost use Rattle.elf32_syms.specs.declared.image.Symbol.{Symbol as AnySymbol};
 ghost use Rattle.elf32_syms.specs.Owners.{IsAscending};
 ghost use Rattle.gmon_data.specs.Content.{IsProfile};
 ghost use Rattle.gmon_data.specs.Hists.{IsKept, pointwise_sum, samples_of};
-ghost use Rattle.symbol_shares.specs.Shares.{attributed_of, bucket_begin, share_in_hist, share_of_bucket as bucket_share_of, shares_of};
+ghost use Rattle.symbol_shares.specs.Shares.{attributed_of, bucket_begin, share_between, share_in_hist, share_of_bucket as bucket_share_of, shares_of};
 
-use crate::bucket::{GRAINS, is_above, share_of_bucket};
+use crate::bucket::{GRAINS, end_of_whole, is_above, share_of_bucket};
 use crate::table::Shares;
 use elf32_syms::{Symbol, symbol_count};
 use gmon_data::{Hist, Profile};
@@ -40,6 +40,39 @@ fn add_bucket(of: &mut [u128], symbols: &[Symbol], from: usize, hist: &Hist, i: 
     symbols.len()
 }
 
+/// The sum of counters.
+fn samples(counters: &[u64]) -> u64
+    requires { sum counters.now < 2 ^ 64 }
+    ensures { result ≡ sum counters.now }
+{
+    counters.iter().sum()
+}
+
+/// Adds those buckets from bucket `i` on that lie in the symbol of number `from` as a whole, where the first
+/// `from` symbols end at or below its begin: a division finds them all. Answers which bucket comes next.
+fn add_whole(of: &mut [u128], symbols: &[Symbol], from: usize, hist: &Hist, i: usize) -> usize
+    requires same { length of.old ≡ length symbols.now }
+    requires ascending { IsAscending symbols.now }
+    requires kept { IsKept hist.now }
+    requires few { length hist.now.counters < 2 ^ 26 }
+    requires ended { All (λ s. s.end * length hist.now.counters ≤ bucket_begin hist.now i) (take from symbols.now) }
+    requires fits { sum of.old + 1000000 * sum (drop i hist.now.counters) < 2 ^ 65 }
+    ensures added { of.new ≡ pointwise_sum of.old (map (share_between hist.now i result) symbols.now) }
+    ensures rising { i ≤ result }
+    ensures inside { i ≤ length hist.now.counters → result ≤ length hist.now.counters }
+{
+    let counters = hist.counters.as_slice();
+    if from >= symbols.len() {
+        return i;
+    }
+    if i >= counters.len() {
+        return i;
+    }
+    let end = end_of_whole(hist, i, &symbols[from]);
+    of[from] += u128::from(samples(&counters[i..end])) * GRAINS;
+    end
+}
+
 /// Adds what each symbol gets of a histogram, where the first `from` symbols end at or below its
 /// low address. Answers how many symbols have ended at its high address, at least.
 fn add_hist(of: &mut [u128], symbols: &[Symbol], from: usize, hist: &Hist) -> usize
@@ -49,14 +82,17 @@ fn add_hist(of: &mut [u128], symbols: &[Symbol], from: usize, hist: &Hist) -> us
     requires few { length hist.now.counters < 2 ^ 26 }
     requires from { from ≤ length symbols.now }
     requires ended { All (λ s. s.end ≤ hist.now.low) (take from symbols.now) }
-    requires fits { sum of.old + 1000000 * sum hist.now.counters < 2 ^ 128 }
+    requires fits { sum of.old + 1000000 * sum hist.now.counters < 2 ^ 65 }
     ensures added { of.new ≡ pointwise_sum of.old (map (share_in_hist hist.now) symbols.now) }
     ensures inside { result ≤ length symbols.now }
     ensures ended { All (λ s. s.end ≤ hist.now.high) (take result symbols.now) }
 {
+    let count = hist.counters.as_slice().len();
     let mut from = from;
-    for i in 0..hist.counters.as_slice().len() {
+    let mut i = add_whole(of, symbols, from, hist, 0);
+    while i < count {
         from = add_bucket(of, symbols, from, hist, i);
+        i = add_whole(of, symbols, from, hist, i + 1);
     }
     from
 }

@@ -10,4 +10,4 @@ unfolding computes_with
 returns c =
     λ m.
     let fits : FitsSigned w32 c.args.instr.now.imm = search rules in
-    rw (c.computed-value.ensures, c.get.ensures.value, c.cast_unsigned.ensures, to_z-of_z w32 c.args.instr.now.imm fits) at c.give.ensures m
+    rw (c.computed-value.ensures, c.get.ensures.value, c.cast_unsigned.ensures, to_z-of_z w32 c.args.instr.now.imm fits, ← c.requires) at c.give.ensures m

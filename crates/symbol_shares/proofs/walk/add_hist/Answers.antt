@@ -1,38 +1,54 @@
-use Rattle.std.proofs.Common.{◌≡◌, ◌+◌, length, map, ◌∙◌, ap, refl, sym, arith}
-use Rattle.gmon_data.specs.Hists.{pointwise_sum}
-use Rattle.symbol_shares.specs.Shares.{share_of_bucket, share_of_buckets}
-use Rattle.symbol_shares.proofs.SumLemmas.{added-twice, buckets-more, zeros-added}
-use Rattle.symbol_shares.proofs.WalkLemmas.{hist-begun, hist-ended, bucket-fits}
+use Rattle.std.proofs.Common.{◌≡◌, ◌<◌, ◌≤◌, ◌+◌, length, refl, ap, sym, arith}
+use Rattle.symbol_shares.specs.Shares.{bucket_begin, share_of_buckets}
+use Rattle.symbol_shares.proofs.SpanLemmas.{begin-rises, bucket-added, left-fits, spans-added}
+use Rattle.symbol_shares.proofs.SumLemmas.{zeros-added}
+use Rattle.symbol_shares.proofs.WalkLemmas.{bucket-fits, ended-later, hist-begun, hist-ended}
 use Rattle.symbol_shares.proofs.walk.add_hist.Goals as goal
 
 pub loop-i-init : goal.loop-i-init
 loop-i-init c =
     let h = c.args.hist.now in
+    let symbols = c.args.symbols.now in
+    let j = c.add_whole-i.result in
+    let none = sym (zeros-added (share_of_buckets h 0) c.args.of.now symbols c.requires.same (λ s. refl)) in
     record {
-      inside = c.requires.from;
-      added = sym (zeros-added (share_of_buckets h 0) c.args.of.now c.args.symbols.now c.requires.same (λ s. refl));
-      ended = hist-begun h c.args.symbols.now c.args.from c.requires.ended;
+      inside = c.add_whole-i.ensures.inside (omega arith);
+      from = c.requires.from;
+      added = spans-added h 0 j symbols c.args.of.now c.args.of.now c.add_whole-i.new.of c.add_whole-i.ensures.rising none c.add_whole-i.ensures.added;
+      ended = ended-later symbols c.args.from (length h.counters) (bucket_begin h 0) (bucket_begin h j) (begin-rises h 0 j (omega arith)) (hist-begun h symbols c.args.from c.requires.ended);
     }
 
 pub add_bucket-from-requires-clause-fits : goal.add_bucket-from-requires-clause-fits
 add_bucket-from-requires-clause-fits c =
-    bucket-fits c.args.hist.now c.loop-i.i c.args.symbols.now c.args.of.now c.loop-i.of _ c.requires.kept.range c.requires.ascending (omega (arith, c.loop-i-test.true, ap length c.as_slice-i-end.ensures)) c.loop-i.invariant.added c.requires.fits
+    let below : c.loop-i.i < length c.args.hist.now.counters = omega (arith, c.loop-i-test.true, ap length c.as_slice-count.ensures) in
+    let fits = bucket-fits c.args.hist.now c.loop-i.i c.args.symbols.now c.args.of.now c.loop-i.of _ c.requires.kept.range c.requires.ascending below c.loop-i.invariant.added c.requires.fits in
+    omega (arith, fits)
+
+pub add_whole-i-requires-in-loop-i-clause-fits : goal.add_whole-i-requires-in-loop-i-clause-fits
+add_whole-i-requires-in-loop-i-clause-fits c =
+    let h = c.args.hist.now in
+    let i = c.loop-i.i in
+    let below : i + 1 ≤ length h.counters = omega (arith, c.loop-i-test.true, ap length c.as_slice-count.ensures) in
+    let added = bucket-added h i c.args.symbols.now c.args.of.now c.loop-i.of c.add_bucket-from.new.of c.loop-i.invariant.added c.add_bucket-from.ensures.added in
+    left-fits h (i + 1) c.args.symbols.now c.args.of.now c.add_bucket-from.new.of _ c.requires.kept.range c.requires.ascending below added c.requires.fits
 
 pub loop-i-preserved : goal.loop-i-preserved
 loop-i-preserved c =
     let h = c.args.hist.now in
+    let symbols = c.args.symbols.now in
     let i = c.loop-i.i in
+    let j = c.add_whole-i-in-loop-i.result in
+    let below : i + 1 ≤ length h.counters = omega (arith, c.loop-i-test.true, ap length c.as_slice-count.ensures) in
+    let added = bucket-added h i symbols c.args.of.now c.loop-i.of c.add_bucket-from.new.of c.loop-i.invariant.added c.add_bucket-from.ensures.added in
     record {
-      inside = c.add_bucket-from.ensures.inside;
-      added =
-          c.add_bucket-from.ensures.added
-          ∙ ap (λ l. pointwise_sum l (map (share_of_bucket h i) c.args.symbols.now)) c.loop-i.invariant.added
-          ∙ added-twice c.args.of.now (share_of_buckets h i) (share_of_bucket h i) (share_of_buckets h (i + 1)) c.args.symbols.now (buckets-more h i);
-      ended = c.add_bucket-from.ensures.ended;
+      inside = c.add_whole-i-in-loop-i.ensures.inside below;
+      from = c.add_bucket-from.ensures.inside;
+      added = spans-added h (i + 1) j symbols c.args.of.now c.add_bucket-from.new.of c.add_whole-i-in-loop-i.new.of c.add_whole-i-in-loop-i.ensures.rising added c.add_whole-i-in-loop-i.ensures.added;
+      ended = ended-later symbols c.add_bucket-from.result (length h.counters) (bucket_begin h (i + 1)) (bucket_begin h j) (begin-rises h (i + 1) j c.add_whole-i-in-loop-i.ensures.rising) c.add_bucket-from.ensures.ended;
     }
 
 pub returns-clause-ended : goal.returns-clause-ended
 returns-clause-ended c =
     let h = c.args.hist.now in
-    let all : c.loop-i.i ≡ length h.counters = omega (arith, c.loop-i-test.false, c.loop-i.auto.i-end, ap length c.as_slice-i-end.ensures) in
+    let all : c.loop-i.i ≡ length h.counters = omega (arith, c.loop-i-test.false, c.loop-i.invariant.inside, ap length c.as_slice-count.ensures) in
     hist-ended h c.args.symbols.now c.loop-i.from c.loop-i.i c.requires.kept.range c.requires.kept.some all c.loop-i.invariant.ended
