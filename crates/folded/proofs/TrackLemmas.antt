@@ -1,6 +1,6 @@
 -- Each hart's place follows its shadow.
-use Rattle.std.proofs.Common.{◌≡◌, ◌∙◌, ◌+◌, ◌-◌, ◌<◌, ◌≤◌, ◌++◌, ◌&&◌, ◌⊎◌, inl, inr, ℕ, zero, suc, Bool, true, false, not, nat_lt, eqb, List, [], ◌∷◌, length, get_or, set, take, map, min, ap, arith, refl, sym, subst, Option, Some, None, if◌then◌else◌}
-use Rattle.std.proofs.lemmas.List.{get_or-set_other, get_or-set_same, length-append, length-map, length_push, length-set, length-take, take-map, take-take, take_all, take_at, take_min}
+use Rattle.std.proofs.Common.{◌≡◌, ◌∙◌, ◌+◌, ◌-◌, ◌<◌, ◌≤◌, ◌++◌, ◌&&◌, ◌⊎◌, inl, inr, ℕ, zero, suc, Bool, true, false, not, nat_lt, eqb, List, [], ◌∷◌, length, get_or, replicate, set, take, map, min, ap, arith, refl, sym, subst, Option, Some, None, if◌then◌else◌}
+use Rattle.std.proofs.lemmas.List.{get_or-replicate, get_or-set_other, get_or-set_same, length-append, length-map, length-replicate, length_push, length-set, length-take, take-map, take-take, take_all, take_at, take_min}
 use Rattle.elf32_syms.specs.declared.image.Symbol.{Symbol}
 use Rattle.rv_step.specs.Step.{next_of}
 use Rattle.prof_machine.specs.declared.notes.Ran.{Ran}
@@ -10,7 +10,7 @@ use Rattle.folded.specs.Shadow.{Shadow, after_hook, after_instruction, after_ran
 use Rattle.folded.specs.Stacks.{caller_in}
 use Rattle.folded.specs.declared.place.Place.{Place}
 use Rattle.folded.specs.declared.trail.Tracker.{Tracker}
-use Rattle.folded.proofs.NodeLemmas.{Nodes, Stack}
+use Rattle.folded.proofs.NodeLemmas.{Nodes, Stack, stack_of_none}
 use Rattle.folded.proofs.PlaceLemmas.{stack_stays}
 
 -- one list is a front of the other
@@ -101,6 +101,25 @@ on_stays nodes new calls p added was =
     }
 
 -- ---- all harts
+
+first_on : (nodes : Nodes) → IsOn nodes [] first_place
+first_on nodes = record {
+  placed = record { node = omega arith; depth = ap (λ (s : Stack). length s) (stack_of_none nodes) };
+  begins = stack_of_none nodes;
+}
+
+pub first_tracked : (symbols : List Symbol) (v : Tracker) (harts : ℕ) → v.shadows.items ≡ replicate harts empty_shadow → v.places.items ≡ replicate harts first_place → IsTreeFor symbols v.tree → IsTracked symbols v
+first_tracked symbols v harts shadows places tree = record {
+  tree = tree;
+  harts = ap (λ (x : List Place). length x) places ∙ length-replicate harts first_place ∙ sym (ap (λ (x : List Shadow). length x) shadows ∙ length-replicate harts empty_shadow);
+  places = λ h fits. (
+      let below : h < harts = omega (arith, fits, ap (λ (x : List Shadow). length x) shadows, length-replicate harts empty_shadow) in
+      let shadow : get_or v.shadows.items h empty_shadow ≡ empty_shadow = ap (λ (x : List Shadow). get_or x h empty_shadow) shadows ∙ get_or-replicate harts h empty_shadow empty_shadow below in
+      let place : get_or v.places.items h first_place ≡ first_place = ap (λ (x : List Place). get_or x h first_place) places ∙ get_or-replicate harts h first_place first_place below in
+      subst (λ (x : Shadow). IsOn v.tree.nodes.keys (map (caller_in symbols) x.frames) (get_or v.places.items h first_place)) (sym shadow)
+      (subst (λ (y : Place). IsOn v.tree.nodes.keys (map (caller_in symbols) empty_shadow.frames) y) (sym place) (first_on v.tree.nodes.keys))
+      );
+}
 
 pub tracked_next : (symbols : List Symbol) (v w : Tracker) (h : ℕ) (s : Shadow) (p : Place) → h < length v.shadows.items → w.shadows.items ≡ set v.shadows.items h s → w.places.items ≡ set v.places.items h p → IsTreeFor symbols w.tree
     → NodesAdded v.tree.nodes.keys w.tree.nodes.keys → IsOn w.tree.nodes.keys (map (caller_in symbols) s.frames) p → IsTracked symbols v → IsTracked symbols w

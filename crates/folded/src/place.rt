@@ -31,7 +31,8 @@ impl Place {
         requires tree { IsTree tree.now }
         requires placed { IsPlaced tree.now.nodes.keys self.old }
         ensures placed { IsPlaced tree.now.nodes.keys self.new }
-        ensures stack { stack_of_node tree.now.nodes.keys self.new.node ≡ take calls (stack_of_node tree.now.nodes.keys self.old.node) }
+        ensures stack { stack_of_node tree.now.nodes.keys self.new.node
+            ≡ take calls (stack_of_node tree.now.nodes.keys self.old.node) }
     {
         while self.depth > calls {
             self.node = tree.caller(self.node);
@@ -54,7 +55,8 @@ impl Place {
         ensures tree { OnOk result (IsTree tree.new) }
         ensures grown { OnOk result (IsGrown tree.old tree.new) }
         ensures placed { OnOk result (IsPlaced tree.new.nodes.keys self.new) }
-        ensures all { OnOk result (HasStack tree.new.nodes.keys self.new.node (map (caller_in symbols.now) frames.now)) }
+        ensures all { OnOk result (HasStack tree.new.nodes.keys self.new.node
+            (map (caller_in symbols.now) frames.now)) }
     {
         while self.depth < frames.len() {
             let caller = owner(symbols, frames[self.depth].wrapping_sub(4));

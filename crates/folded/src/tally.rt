@@ -41,7 +41,8 @@ impl Folded {
     pub(crate) fn of(alloc: Global, tree: Tree) -> Result<Folded, AllocError>
         requires tree { IsTree tree }
         requires total { tree.total < 2 ^ 62 }
-        ensures folds { IfOk result (λ f. (stacks : List (List (Option ℕ))) → IsTreeOf stacks tree → Folds tree.functions stacks f) }
+        ensures folds { IfOk result (λ f. (stacks : List (List (Option ℕ))) → IsTreeOf stacks tree
+            → Folds tree.functions stacks f) }
         ensures functions { IfOk result (λ f. length f.inclusive ≡ tree.functions) }
     {
         let order = tree.in_order(alloc)?;
@@ -93,9 +94,12 @@ fn marks_of(alloc: Global, tree: &Tree, order: &[u32]) -> Result<Vec<Mark>, Allo
     requires tree { IsTree tree.now }
     requires total { tree.now.total < 2 ^ 62 }
     requires order { All (λ n. n ≤ length tree.now.nodes.keys) order.now }
-    requires samples { samples_of_lines any_stack (map (line_of_node tree.now) order.now) ≤ tree.now.total }
+    requires samples { samples_of_lines any_stack (map (line_of_node tree.now) order.now)
+        ≤ tree.now.total }
     ensures functions { IfOk result (λ marks. length marks.items ≡ tree.now.functions) }
-    ensures counts { IfOk result (λ marks. (g : ℕ) → g < tree.now.functions → (mark_at marks.items g).count ≡ samples_of_lines (has_function g) (map (line_of_node tree.now) order.now)) }
+    ensures counts { IfOk result (λ marks. (g : ℕ) → g < tree.now.functions
+        → (mark_at marks.items g).count ≡ samples_of_lines (has_function g)
+        (map (line_of_node tree.now) order.now)) }
 {
     let mut marks = blank_marks(alloc, tree.functions as usize)?;
     for i in 0..order.len() {
@@ -112,7 +116,8 @@ fn marks_of(alloc: Global, tree: &Tree, order: &[u32]) -> Result<Vec<Mark>, Allo
 
 /// Marks of functions that no sample has.
 fn blank_marks(alloc: Global, functions: usize) -> Result<Vec<Mark>, AllocError>
-    ensures { IfOk result (λ marks. marks.items ≡ replicate functions (record { count = 0; last = 0 })) }
+    ensures { IfOk result (λ marks. marks.items ≡ replicate functions
+        (record { count = 0; last = 0 })) }
 {
     vec![in alloc; Mark { count: 0, last: 0 }; functions]
 }
@@ -124,7 +129,8 @@ fn mark_all(marks: &mut [Mark], stack: &[Option<u32>], line: u64, samples: u64)
     requires samples { samples < 2 ^ 62 }
     requires functions { AreBelow (length marks.old) stack.now }
     ensures length { length marks.new ≡ length marks.old }
-    ensures marked { (g : ℕ) → g < length marks.old → mark_at marks.new g ≡ marked_if (has_function g stack.now) line samples (mark_at marks.old g) }
+    ensures marked { (g : ℕ) → g < length marks.old → mark_at marks.new g
+        ≡ marked_if (has_function g stack.now) line samples (mark_at marks.old g) }
 {
     for i in 0..stack.len() {
         if let Some(f) = stack[i] {

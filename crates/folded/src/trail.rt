@@ -28,8 +28,10 @@ pub(crate) struct Tracker {
 impl Tracker {
     /// Before the first turn.
     pub(crate) fn new(alloc: Global, functions: u32, harts: u32) -> Result<Tracker, AllocError>
-        ensures follows { IfOk result (λ t. (symbols : List AnySymbol) → Follows symbols (first_trail harts) t) }
-        ensures tracked { IfOk result (λ t. (symbols : List AnySymbol) → length symbols ≡ functions → IsTracked symbols t) }
+        ensures follows { IfOk result (λ t. (symbols : List AnySymbol)
+            → Follows symbols (first_trail harts) t) }
+        ensures tracked { IfOk result (λ t. (symbols : List AnySymbol)
+            → length symbols ≡ functions → IsTracked symbols t) }
         ensures total { IfOk result (λ t. t.tree.total ≡ 0) }
         ensures harts { IfOk result (λ t. t.shadows.items ≡ replicate harts empty_shadow) }
     {
@@ -53,11 +55,14 @@ impl Tracker {
         requires room { HasRoom (2 ^ 62) self.old.shadows.items }
         requires total { self.old.tree.total < 2 ^ 62 }
         requires tracked { IsTracked symbols.now self.old }
-        ensures follows { OnOk result ((t : Trail) → Follows symbols.now t self.old → Follows symbols.now (trail_with hart note t) self.new) }
-        ensures harts { OnOk result (length self.new.shadows.items ≡ length self.old.shadows.items) }
+        ensures follows { OnOk result ((t : Trail) → Follows symbols.now t self.old
+            → Follows symbols.now (trail_with hart note t) self.new) }
+        ensures harts { OnOk result (length self.new.shadows.items
+            ≡ length self.old.shadows.items) }
         ensures tracked { OnOk result (IsTracked symbols.now self.new) }
         ensures total { OnOk result (self.new.tree.total ≤ self.old.tree.total + 1) }
-        ensures room { OnOk result ((turns : ℕ) → HasRoom turns self.old.shadows.items → HasRoom (turns + 1) self.new.shadows.items) }
+        ensures room { OnOk result ((turns : ℕ) → HasRoom turns self.old.shadows.items
+            → HasRoom (turns + 1) self.new.shadows.items) }
     {
         if is_quiet(&note) {
             return Ok(());
@@ -94,10 +99,12 @@ fn sample(
     requires tree { IsTreeFor symbols.now tree.old }
     requires on { IsOn tree.old.nodes.keys (map (caller_in symbols.now) frames.now) place.old }
     ensures tree { OnOk result (IsTreeFor symbols.now tree.new) }
-    ensures on { OnOk result (IsOn tree.new.nodes.keys (map (caller_in symbols.now) frames.now) place.new) }
+    ensures on { OnOk result (IsOn tree.new.nodes.keys
+        (map (caller_in symbols.now) frames.now) place.new) }
     ensures nodes { OnOk result (NodesAdded tree.old.nodes.keys tree.new.nodes.keys) }
     ensures total { OnOk result (tree.new.total ≤ tree.old.total + 1) }
-    ensures samples { OnOk result ((samples : List StackSample) → IsTreeOf (stacks_of symbols.now samples) tree.old
+    ensures samples { OnOk result ((samples : List StackSample)
+        → IsTreeOf (stacks_of symbols.now samples) tree.old
         → IsTreeOf (stacks_of symbols.now (samples ++ stack_samples pc frames.now)) tree.new) }
 {
     let Some(pc) = pc else {

@@ -43,7 +43,8 @@ impl Tree {
         requires function { IfSome function (λ f. f < self.old.functions) }
         ensures tree { OnOk result (IsTree self.new) }
         ensures grown { OnOk result (IsGrown self.old self.new) }
-        ensures node { IfOk result (λ n. HasStack self.new.nodes.keys n (stack_of_node self.old.nodes.keys caller ++ function ∷ [])) }
+        ensures node { IfOk result (λ n. HasStack self.new.nodes.keys n
+            (stack_of_node self.old.nodes.keys caller ++ function ∷ [])) }
     {
         if self.is_last(caller, function) {
             return Ok(self.last as u32 + 1);
@@ -61,7 +62,8 @@ impl Tree {
 
     /// Whether this child was asked for last, as it mostly is when samples are near each other.
     fn is_last(&self, caller: u32, function: Option<u32>) -> bool
-        ensures { result ≡ true → (self.now.last < length self.now.nodes.keys) × (slice_index_or self.now.nodes.keys self.now.last (0, None) ≡ (caller, function)) }
+        ensures { result ≡ true → (self.now.last < length self.now.nodes.keys)
+            × (slice_index_or self.now.nodes.keys self.now.last (0, None) ≡ (caller, function)) }
     {
         match self.nodes.get_index(self.last) {
             Some(node) => node.0 == caller && node.1 == function,
@@ -78,7 +80,8 @@ impl Tree {
         ensures nodes { self.new.nodes.keys ≡ self.old.nodes.keys }
         ensures functions { self.new.functions ≡ self.old.functions }
         ensures total { self.new.total ≡ self.old.total + 1 }
-        ensures one_more { (stacks : List (List (Option ℕ))) → IsTreeOf stacks self.old → IsTreeOf (stacks ++ stack_of_node self.old.nodes.keys node ∷ []) self.new }
+        ensures one_more { (stacks : List (List (Option ℕ))) → IsTreeOf stacks self.old
+            → IsTreeOf (stacks ++ stack_of_node self.old.nodes.keys node ∷ []) self.new }
     {
         self.counts[node as usize] += 1;
         self.total += 1;

@@ -22,7 +22,8 @@ pub fn write<H: Host>(
     host: &mut H,
 ) -> Result<(), Failed>
     requires { length symbols.now ≡ length folded.now.inclusive }
-    ensures { Puts Output (if inclusive then inclusive_text symbols.now folded.now else folded_text symbols.now folded.now) (H.outside host.old) (H.outside host.new) result }
+    ensures { Puts Output (if inclusive then inclusive_text symbols.now folded.now else folded_text
+        symbols.now folded.now) (H.outside host.old) (H.outside host.new) result }
 {
     let mut lines = PrintBuf::new();
     put_text(folded, symbols, inclusive, &mut lines, host)?;
@@ -36,7 +37,8 @@ fn put_text<H: Host>(
     lines: &mut PrintBuf,
     host: &mut H,
 ) -> Result<(), Failed>
-    ensures { Adds Output (if inclusive then inclusive_text symbols.now folded.now else folded_text symbols.now folded.now) lines.old lines.new
+    ensures { Adds Output (if inclusive then inclusive_text symbols.now folded.now else folded_text
+        symbols.now folded.now) lines.old lines.new
         (H.outside host.old) (H.outside host.new) result }
 {
     if inclusive {
@@ -52,7 +54,8 @@ fn put_lines<H: Host>(
     lines: &mut PrintBuf,
     host: &mut H,
 ) -> Result<(), Failed>
-    ensures { Adds Output (folded_text symbols.now folded.now) lines.old lines.new (H.outside host.old) (H.outside host.new) result }
+    ensures { Adds Output (folded_text symbols.now folded.now) lines.old lines.new
+        (H.outside host.old) (H.outside host.new) result }
 {
     for i in 0..folded.line_count() {
         let (path, count) = folded.line(i);
@@ -68,7 +71,8 @@ fn put_line<H: Host>(
     lines: &mut PrintBuf,
     host: &mut H,
 ) -> Result<(), Failed>
-    ensures { Adds Output (line_text symbols.now (stack.now, count)) lines.old lines.new (H.outside host.old) (H.outside host.new) result }
+    ensures { Adds Output (line_text symbols.now (stack.now, count)) lines.old lines.new
+        (H.outside host.old) (H.outside host.new) result }
 {
     put_stack(stack, symbols, lines, host)?;
     put_count(count, lines, host)
@@ -81,7 +85,8 @@ fn put_stack<H: Host>(
     lines: &mut PrintBuf,
     host: &mut H,
 ) -> Result<(), Failed>
-    ensures { Adds Output (stack_text symbols.now stack.now) lines.old lines.new (H.outside host.old) (H.outside host.new) result }
+    ensures { Adds Output (stack_text symbols.now stack.now) lines.old lines.new
+        (H.outside host.old) (H.outside host.new) result }
 {
     let Some((first, callees)) = stack.split_first() else {
         return Ok(());
@@ -96,7 +101,8 @@ fn put_callees<H: Host>(
     lines: &mut PrintBuf,
     host: &mut H,
 ) -> Result<(), Failed>
-    ensures { Adds Output (flat_map (callee_text symbols.now) callees.now) lines.old lines.new (H.outside host.old) (H.outside host.new) result }
+    ensures { Adds Output (flat_map (callee_text symbols.now) callees.now) lines.old lines.new
+        (H.outside host.old) (H.outside host.new) result }
 {
     for callee in callees {
         put_callee(callee, symbols, lines, host)?;
@@ -110,7 +116,8 @@ fn put_callee<H: Host>(
     lines: &mut PrintBuf,
     host: &mut H,
 ) -> Result<(), Failed>
-    ensures { Adds Output (callee_text symbols.now callee.now) lines.old lines.new (H.outside host.old) (H.outside host.new) result }
+    ensures { Adds Output (callee_text symbols.now callee.now) lines.old lines.new
+        (H.outside host.old) (H.outside host.new) result }
 {
     lines.put(host, b";")?;
     put_name(*callee, symbols, lines, host)
@@ -122,7 +129,8 @@ fn put_name<H: Host>(
     lines: &mut PrintBuf,
     host: &mut H,
 ) -> Result<(), Failed>
-    ensures { Adds Output (name_in symbols.now function) lines.old lines.new (H.outside host.old) (H.outside host.new) result }
+    ensures { Adds Output (name_in symbols.now function) lines.old lines.new (H.outside host.old)
+        (H.outside host.new) result }
 {
     let Some(f) = function else {
         return lines.put(host, b"[unknown]");
@@ -134,7 +142,8 @@ fn put_name<H: Host>(
 }
 
 fn put_count<H: Host>(count: u64, lines: &mut PrintBuf, host: &mut H) -> Result<(), Failed>
-    ensures { Adds Output (count_text count) lines.old lines.new (H.outside host.old) (H.outside host.new) result }
+    ensures { Adds Output (count_text count) lines.old lines.new (H.outside host.old)
+        (H.outside host.new) result }
 {
     lines.put(host, count_line(count).bytes())
 }
@@ -156,7 +165,8 @@ fn put_functions<H: Host>(
     lines: &mut PrintBuf,
     host: &mut H,
 ) -> Result<(), Failed>
-    ensures { Adds Output (inclusive_text symbols.now folded.now) lines.old lines.new (H.outside host.old) (H.outside host.new) result }
+    ensures { Adds Output (inclusive_text symbols.now folded.now) lines.old lines.new
+        (H.outside host.old) (H.outside host.new) result }
 {
     for f in 0..folded.function_count() {
         put_function(f, folded.inclusive(f), symbols, lines, host)?;
@@ -172,7 +182,8 @@ fn put_function<H: Host>(
     lines: &mut PrintBuf,
     host: &mut H,
 ) -> Result<(), Failed>
-    ensures { Adds Output (inclusive_line symbols.now f count) lines.old lines.new (H.outside host.old) (H.outside host.new) result }
+    ensures { Adds Output (inclusive_line symbols.now f count) lines.old lines.new
+        (H.outside host.old) (H.outside host.new) result }
 {
     if count == 0 {
         return Ok(());

@@ -49,7 +49,7 @@ returns-clause-on c =
 
 pub returns-clause-nodes : goal.returns-clause-nodes
 returns-clause-nodes c =
-    let grown = IsGrown-then c.args.tree.now c.go_down.new.tree c.child-node.new.self c.in_ok-go_down.ensures.grown c.in_ok-node.ensures.grown in
+    let grown = IsGrown-then c.args.tree.now c.go_down.new.tree c.child.new.self c.in_ok-go_down.ensures.grown c.in_ok-node.ensures.grown in
     record { more = grown.more; is = c.add.ensures.nodes ∙ grown.nodes }
 
 pub returns-clause-total : goal.returns-clause-total
@@ -60,11 +60,11 @@ returns-clause-samples c = λ samples have.
     let symbols = c.args.symbols.now in
     let frames = c.args.frames.now in
     let some = sym c.owner.ensures ∙ c.in-Some-owner.is in
-    let grown = IsGrown-then c.args.tree.now c.go_down.new.tree c.child-node.new.self c.in_ok-go_down.ensures.grown c.in_ok-node.ensures.grown in
+    let grown = IsGrown-then c.args.tree.now c.go_down.new.tree c.child.new.self c.in_ok-go_down.ensures.grown c.in_ok-node.ensures.grown in
     let more = c.add.ensures.one_more (stacks_of symbols samples) (grown.samples (stacks_of symbols samples) have) in
-    let stack : stack_of_node c.child-node.new.self.nodes.keys c.in_ok-node.node ≡ stack_at symbols frames c.in-Some-owner.f =
+    let stack : stack_of_node c.child.new.self.nodes.keys c.in_ok-node.node ≡ stack_at symbols frames c.in-Some-owner.f =
     c.in_ok-node.ensures.node.1 ∙ ap (λ (s : Stack). s ++ Some c.in-Some-owner.f ∷ []) c.in_ok-go_down.ensures.all.1 in
-    let same : stacks_of symbols (samples ++ stack_samples c.args.pc frames) ≡ stacks_of symbols samples ++ stack_of_node c.child-node.new.self.nodes.keys c.in_ok-node.node ∷ [] =
+    let same : stacks_of symbols (samples ++ stack_samples c.args.pc frames) ≡ stacks_of symbols samples ++ stack_of_node c.child.new.self.nodes.keys c.in_ok-node.node ∷ [] =
     ap (λ (o : Option ℕ). stacks_of symbols (samples ++ stack_samples o frames)) c.in-Some.is ∙ stacks-some symbols samples frames c.in-Some.pc c.in-Some-owner.f some
     ∙ ap (λ (s : Stack). stacks_of symbols samples ++ s ∷ []) (sym stack) in
     subst (λ (x : List Stack). IsTreeOf x c.add.new.self) (sym same) more

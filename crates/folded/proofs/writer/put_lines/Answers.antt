@@ -12,7 +12,7 @@ returns-in_err-put_line g c =
     let lines = c.args.folded.now.lines in
     let i = c.loop-i.i in
     let inside : i < length lines = omega (arith, c.loop-i-test.true, c.line_count-i-end.ensures) in
-    let line = rw (c.as_slice.ensures, c.line.ensures) at c.in_err-put_line.ensures in
+    let line = rw (c.as_slice.ensures, c.line-path.ensures) at c.in_err-put_line.ensures in
     rw p.1 (adds_stop Output (line_text c.args.symbols.now) lines i (get_or lines i ([], 0)) _ _ _ _ _ _ tt _ inside (sym (get_or_default lines i (get_or lines i ([], 0)) ([], 0) inside)) c.loop-i.invariant line)
 
 pub loop-i-preserved : goal.loop-i-preserved
@@ -20,7 +20,7 @@ loop-i-preserved g c =
     let lines = c.args.folded.now.lines in
     let i = c.loop-i.i in
     let inside : i < length lines = omega (arith, c.loop-i-test.true, c.line_count-i-end.ensures) in
-    let line = rw (c.as_slice.ensures, c.line.ensures) at c.in_ok-put_line.ensures in
+    let line = rw (c.as_slice.ensures, c.line-path.ensures) at c.in_ok-put_line.ensures in
     adds_more Output (line_text c.args.symbols.now) lines i (get_or lines i ([], 0)) _ _ _ _ _ _ tt _ inside (sym (get_or_default lines i (get_or lines i ([], 0)) ([], 0) inside)) c.loop-i.invariant line
 
 pub returns : goal.returns
