@@ -16,10 +16,10 @@ use Rattle.prof_machine.specs.Value.{IsLive, RunValue, StandsFor, work_left}
 use Rattle.prof_machine.specs.World.{World}
 use Rattle.prof_machine.specs.declared.ending.End.{End}
 use Rattle.prof_machine.specs.declared.machine.Machine.{Machine}
-use Rattle.folded.specs.Folding.{Follows, HasRoom, StopsShort}
+use Rattle.folded.specs.Folding.{Follows, HasRoom, IsTracked, StopsShort}
+use Rattle.folded.specs.Nodes.{IsTreeOf}
 use Rattle.folded.specs.Shadow.{Shadow, empty_shadow}
 use Rattle.folded.specs.Stacks.{stacks_of}
-use Rattle.folded.specs.Tally.{Folds}
 use Rattle.folded.specs.Trail.{StackSample, Trail, first_trail, trail_with, run_samples, trail_after}
 use Rattle.folded.specs.declared.trail.Tracker.{Tracker}
 use Rattle.folded.proofs.TrailLemmas.{run_samples_at, trail_next}
@@ -38,9 +38,9 @@ pub record Goes (symbols : List Symbol) (old new : RunValue) (before now : Outsi
   pub writing : now.is_writing ≡ before.is_writing
   pub input : KeepsInput before now
   pub harts : length v.shadows.items ≡ old.machine.setup.harts
-  pub functions : length v.folded.inclusive ≡ length symbols
+  pub tracked : IsTracked symbols v
   pub room : HasRoom turns v.shadows.items
-  pub total : v.folded.total ≤ turns
+  pub total : v.tree.total ≤ turns
 
 -- what is left of a run before its next turn
 pub few_at : (turns work most : ℕ) → ((turns ≡ 0) ⊎ (turns + work ≤ most)) → work ≤ most → turns + work ≤ most
@@ -52,10 +52,10 @@ more_room a b xs le room = grind (arith, le, room)
 
 -- the turn in which the run ends is the last
 pub folds_last : (symbols : List Symbol) (m : Machine) (w : World) (n : ℕ) (v : Tracker) (end : End) → n ≤ most_turns m.setup → (world_at m w n).ending ≡ Some end → Follows symbols (trail_after m w (plan_of m.setup n)) v
-    → Folds (length symbols) (stacks_of symbols (run_samples m w)) v.folded
+    → IsTreeOf (stacks_of symbols (run_samples m w)) v.tree
 folds_last symbols m w n v end enough is follows =
-    let P : List StackSample → Type 0 = λ s. Folds (length symbols) (stacks_of symbols s) v.folded in
-    subst P (run_samples_at m w n end enough is) follows.folds
+    let P : List StackSample → Type 0 = λ s. IsTreeOf (stacks_of symbols s) v.tree in
+    subst P (run_samples_at m w n end enough is) follows.samples
 
 -- what holds of the trail is said of the plan's trail before its first turn, and behind one more turn
 pub first_follows : (symbols : List Symbol) (m : Machine) (w : World) (v : Tracker) → Follows symbols (first_trail m.setup.harts) v → Follows symbols (trail_after m w (plan_of m.setup 0)) v

@@ -14,8 +14,8 @@ use Rattle.prof_machine.specs.declared.notes.Ran.{Ran}
 use Rattle.prof_machine.specs.declared.notes.TurnNote.{TurnNote}
 use Rattle.folded.specs.Folding.{Follows, HasRoom}
 use Rattle.folded.specs.Shadow.{Shadow, after_hook, after_instruction, after_ran, empty_shadow, frames_before, is_call, is_return, keeps_shadow, with_call, with_return}
-use Rattle.folded.specs.Stacks.{caller_in, site_before, stack_at, stack_of, stacks_of}
-use Rattle.folded.specs.Tally.{AreBelow, Folds}
+use Rattle.folded.specs.Nodes.{IsTreeOf}
+use Rattle.folded.specs.Stacks.{caller_in, stack_at, stack_of, stacks_of}
 use Rattle.folded.specs.Trail.{StackSample, Trail, trail_with, followed_by, is_quiet, stack_samples, shadow_of}
 use Rattle.folded.specs.declared.trail.Tracker.{Tracker}
 
@@ -23,11 +23,11 @@ pub shadow_read : (shadows : List Shadow) (h : ℕ) (s : Shadow) → h < length 
 shadow_read shadows h s inside is = get_or_default shadows h empty_shadow s inside ∙ sym is
 
 pub followed_follows : (symbols : List Symbol) (h : ℕ) (note : TurnNote) (t : Trail) (s : Shadow) (v : Tracker) → after_ran note.ran (shadow_of t.shadows h) ≡ s → v.shadows.items ≡ set t.shadows h (after_hook note.returned s)
-    → Folds (length symbols) (stacks_of symbols (t.samples ++ stack_samples note.sample s.frames)) v.folded → Follows symbols (trail_with h note t) v
+    → IsTreeOf (stacks_of symbols (t.samples ++ stack_samples note.sample s.frames)) v.tree → Follows symbols (trail_with h note t) v
 unfolding trail_with
-followed_follows symbols h note t s v was shadows folds =
+followed_follows symbols h note t s v was shadows samples =
     let P : Shadow → Type 0 = λ x. Follows symbols (followed_by h note x t) v in
-    subst P (sym was) (record { shadows = shadows; folds = folds })
+    subst P (sym was) (record { shadows = shadows; samples = samples })
 
 -- ---- a turn in which there is nothing to follow
 
@@ -133,27 +133,6 @@ pub owner_below : (symbols : List Symbol) (pc : ℕ) → IfSome (owner_of symbol
 owner_below symbols pc = owner_by symbols pc (owner_of symbols pc) refl
 
 -- ---- a stack
-
-pub caller_more : (symbols : List Symbol) (frames : List ℕ) (i : ℕ) (xs : List (Option ℕ)) (o : Option ℕ) → i < length frames → xs ≡ map (caller_in symbols) (take i frames) → o ≡ caller_in symbols (get_or frames i 0)
-    → xs ++ o ∷ [] ≡ map (caller_in symbols) (take (i + 1) frames)
-caller_more symbols frames i xs o inside is here =
-    ap (λ (x : List (Option ℕ)). x ++ o ∷ []) is
-    ∙ ap (λ (x : Option ℕ). map (caller_in symbols) (take i frames) ++ x ∷ []) here
-    ∙ sym (map-append (caller_in symbols) (take i frames) (get_or frames i 0 ∷ []))
-    ∙ ap (map (caller_in symbols)) (sym (take_more frames i 0 inside))
-
-pub stack_below : (symbols : List Symbol) (frames : List ℕ) (f : ℕ) → f < length symbols → AreBelow (length symbols) (map (caller_in symbols) frames ++ Some f ∷ [])
-stack_below symbols [] f below = by_place
-  where
-    by_place : (k : ℕ) (d : Option ℕ) → k < 1 → IfSome (get_or (Some f ∷ []) k d) (λ g. g < length symbols)
-    by_place zero d inside = below
-    by_place (suc k) d inside = absurd (omega (arith, inside))
-stack_below symbols (to ∷ frames) f below = by_place (stack_below symbols frames f below)
-  where
-    by_place : AreBelow (length symbols) (map (caller_in symbols) frames ++ Some f ∷ []) → (k : ℕ) (d : Option ℕ) → k < length (caller_in symbols to ∷ (map (caller_in symbols) frames ++ Some f ∷ []))
-        → IfSome (get_or (caller_in symbols to ∷ (map (caller_in symbols) frames ++ Some f ∷ [])) k d) (λ g. g < length symbols)
-    by_place later zero d inside = owner_below symbols (site_before to)
-    by_place later (suc k) d inside = later k d (omega (arith, inside))
 
 stack_ends_by : (symbols : List Symbol) (frames : List ℕ) (o : Option ℕ) (stack : List (Option ℕ)) → option_map (stack_at symbols frames) o ≡ Some stack → (f : ℕ) × (o ≡ Some f) × (stack ≡ map (caller_in symbols) frames ++ Some f ∷ [])
 stack_ends_by symbols frames None stack is = absurd cc

@@ -4,3 +4,9 @@ pub mod TallyLemmas
 pub mod FoldLemmas
 pub mod FollowLemmas
 pub mod LineLemmas
+pub mod NodeLemmas
+pub mod AddLemmas
+pub mod CompareLemmas
+pub mod OrderLemmas
+pub mod PlaceLemmas
+pub mod TrackLemmas

@@ -1,27 +1,24 @@
 -- Lines of stacks: in order, each stack once, with the number of samples that have it.
-use Rattle.std.proofs.Common.{◌≡◌, ◌∙◌, ◌+◌, ℕ, Bool, true, false, List, [], ◌∷◌, length, ap, arith, cond, refl, sym, Option, Some, None}
+use Rattle.std.proofs.Common.{◌≡◌, ◌∙◌, ◌+◌, ◌<◌, ℕ, Bool, true, false, List, [], ◌∷◌, length, ap, arith, cond, refl, sym, Option, Some, None}
 use Rattle.std.specs.Prelude.{count_by, fold, sum_by, option_map, unwrap_or}
 use Rattle.std.specs.List.{AllByRecursion}
 use Rattle.std.specs.List.Sorted.{IsStrictlySortedBy}
 use Rattle.std.specs.BTreeMap.{insert_entry}
-use Rattle.std.specs.Cmp.{IsTotalOrder, nat_cmp_total}
-use Rattle.std.specs.Cmp.Lexicographic.{lists_total, options_total}
 use Rattle.std.specs.Map.{keys_of, lookup, values_of}
 use Rattle.std.specs.Ordering.{is_eq, match_ordering, ordering_reverse}
 use Rattle.std.specs.declared.cmp.Ordering.{Ordering}
 use Rattle.std.specs.declared.cmp.Ordering.TheVariants.{Less, Equal, Greater}
 use Rattle.std.proofs.lemmas.List.Sums.{sum_by-cons}
 use Rattle.std.proofs.lemmas.Map.Entries.{sum_by-insert_entry}
+use Rattle.folded.specs.Nodes.{samples_of_lines}
 use Rattle.folded.specs.Stacks.{lines_of, same_stack, stack_cmp, times_in, with_stack}
+use Rattle.folded.proofs.CompareLemmas.{exact_stack, same_stacks, stacks_total}
 
 abbrev Stack : Type 0
 Stack = List (Option ℕ)
 
 abbrev Lines : Type 0
 Lines = List (Stack × ℕ)
-
-stacks_total : IsTotalOrder stack_cmp
-stacks_total = lists_total (options_total nat_cmp_total)
 
 -- ---- the order
 
@@ -176,3 +173,100 @@ total_all (s ∷ stacks) lines sorted =
 pub lines_total : (stacks : List Stack) → sum_by (λ (line : Stack × ℕ). line.1) (lines_of stacks) ≡ length stacks
 unfolding IsStrictlySortedBy
 lines_total stacks = let all = total_all stacks [] tt in omega (arith, all)
+
+-- ---- lines that ascend, with a sample each, are those that they count
+
+abbrev pub HaveEach : Lines → Type 0
+HaveEach lines = AllByRecursion (λ (line : Stack × ℕ). 0 < line.1) lines
+
+each_by : (o : Ordering) (e : Stack × ℕ) (es : Lines) (k : Stack) (v : ℕ) → 0 < v → HaveEach (e ∷ es) → HaveEach (insert_entry stack_cmp es k v) → HaveEach (match_ordering o ((k, v) ∷ e ∷ es) ((e.0, v) ∷ es) (e ∷ insert_entry stack_cmp es k v))
+each_by Less e es k v some all later = (some, all)
+each_by Equal e es k v some all later = (some, all.1)
+each_by Greater e es k v some all later = (all.0, later)
+
+each_inserted : (es : Lines) (k : Stack) (v : ℕ) → 0 < v → HaveEach es → HaveEach (insert_entry stack_cmp es k v)
+each_inserted [] k v some all = (some, tt)
+each_inserted (e ∷ es) k v some all = each_by (stack_cmp k e.0) e es k v some all (each_inserted es k v some all.1)
+
+each_more : (lines : Lines) (s : Stack) → HaveEach lines → HaveEach (with_stack lines s)
+unfolding with_stack
+each_more lines s all = each_inserted lines s (times_in lines s + 1) (omega arith) all
+
+each_all : (stacks : List Stack) (lines : Lines) → HaveEach lines → HaveEach (folded_lines lines stacks)
+each_all [] lines all = all
+each_all (s ∷ stacks) lines all = each_all stacks (with_stack lines s) (each_more lines s all)
+
+not_same : (q y : Stack) → stack_cmp q y ≡ Less → same_stack q y ≡ false
+not_same q y less = ap is_eq less
+
+-- a stack below all lines has none
+times_below : (q : Stack) (lines : Lines) → AllByRecursion (λ (y : Stack). stack_cmp q y ≡ Less) (keys_of lines) → times_in lines q ≡ 0
+times_below q [] all = refl
+times_below q (e ∷ es) all = ap (λ (b : Bool). unwrap_or (cond b (Some e.1) (found es q)) 0) (not_same q e.0 all.0) ∙ times_below q es all.1
+
+times_first : (q : Stack) (e : Stack × ℕ) (es : Lines) → stack_cmp q e.0 ≡ Equal → times_in (e ∷ es) q ≡ e.1
+times_first q e es is = ap (λ (o : Ordering). unwrap_or (cond (is_eq o) (Some e.1) (found es q)) 0) is
+
+times_later : (q : Stack) (e : Stack × ℕ) (es : Lines) → same_stack q e.0 ≡ false → times_in (e ∷ es) q ≡ times_in es q
+times_later q e es is = ap (λ (b : Bool). unwrap_or (cond b (Some e.1) (found es q)) 0) is
+
+alike_below : (q a : Stack) (keys : List Stack) → stack_cmp q a ≡ Equal → AllByRecursion (λ (y : Stack). stack_cmp a y ≡ Less) keys → AllByRecursion (λ (y : Stack). stack_cmp q y ≡ Less) keys
+alike_below q a [] is all = tt
+alike_below q a (k ∷ keys) is all = (alike q a k is ∙ all.0, alike_below q a keys is all.1)
+
+one_by : (a : Stack × ℕ) (xs : Lines) (b : Stack × ℕ) (ys : Lines) (o : Ordering) → stack_cmp a.0 b.0 ≡ o → Ascends (a ∷ xs) → Ascends (b ∷ ys) → 0 < a.1 → 0 < b.1 → ((q : Stack) → times_in (a ∷ xs) q ≡ times_in (b ∷ ys) q)
+    → (((q : Stack) → times_in xs q ≡ times_in ys q) → xs ≡ ys) → a ∷ xs ≡ b ∷ ys
+unfolding IsStrictlySortedBy
+one_by a xs b ys Less is up_a up_b some_a some_b same rest =
+    absurd (omega (arith, some_a, times_first a.0 a xs (same_stacks a.0), same a.0, times_below a.0 (b ∷ ys) (is, below_all a.0 b.0 (keys_of ys) is up_b.0)))
+one_by a xs b ys Equal is up_a up_b some_a some_b same rest =
+    let stack = exact_stack a.0 b.0 is in
+    let count : a.1 ≡ b.1 = sym (times_first a.0 a xs (same_stacks a.0)) ∙ same a.0 ∙ times_first a.0 b ys is in
+    let later = rest (λ q. by q (same_stack q a.0) refl) in
+    λ t. (stack t, count t) ∷ later t
+  where
+    by : (q : Stack) (c : Bool) → same_stack q a.0 ≡ c → times_in xs q ≡ times_in ys q
+    by q true one =
+        let at_a = equal (stack_cmp q a.0) one in
+        let at_b : stack_cmp q b.0 ≡ Equal = alike q a.0 b.0 at_a ∙ is in
+        times_below q xs (alike_below q a.0 (keys_of xs) at_a up_a.0) ∙ sym (times_below q ys (alike_below q b.0 (keys_of ys) at_b up_b.0))
+    by q false one =
+        let other : same_stack q b.0 ≡ false = sym (ap is_eq (alike_right a.0 b.0 q is)) ∙ one in
+        sym (times_later q a xs one) ∙ same q ∙ times_later q b ys other
+one_by a xs b ys Greater is up_a up_b some_a some_b same rest =
+    let less = above a.0 b.0 is in
+    absurd (omega (arith, some_b, times_first b.0 b ys (same_stacks b.0), same b.0, times_below b.0 (a ∷ xs) (less, below_all b.0 a.0 (keys_of xs) less up_a.0)))
+
+one_list : (xs ys : Lines) → Ascends xs → Ascends ys → HaveEach xs → HaveEach ys → ((q : Stack) → times_in xs q ≡ times_in ys q) → xs ≡ ys
+unfolding IsStrictlySortedBy
+one_list [] [] up_a up_b some_a some_b same = refl
+one_list [] (b ∷ ys) up_a up_b some_a some_b same = absurd (omega (arith, some_b.0, same b.0, times_first b.0 b ys (same_stacks b.0)))
+one_list (a ∷ xs) [] up_a up_b some_a some_b same = absurd (omega (arith, some_a.0, same a.0, times_first a.0 a xs (same_stacks a.0)))
+one_list (a ∷ xs) (b ∷ ys) up_a up_b some_a some_b same =
+    one_by a xs b ys (stack_cmp a.0 b.0) refl up_a up_b some_a.0 some_b.0 same (one_list xs ys up_a.1 up_b.1 some_a.1 some_b.1)
+
+sum_below : (q : Stack) (lines : Lines) → AllByRecursion (λ (y : Stack). stack_cmp q y ≡ Less) (keys_of lines) → samples_of_lines (same_stack q) lines ≡ 0
+sum_below q [] all = refl
+sum_below q (e ∷ es) all =
+    let here : cond (same_stack q e.0) e.1 0 ≡ 0 = ap (λ (b : Bool). cond b e.1 0) (not_same q e.0 all.0) in
+    omega (arith, sum_by-cons (λ (l : Stack × ℕ). cond (same_stack q l.0) l.1 0) e es, here, sum_below q es all.1)
+
+-- by what each line adds
+times_sum : (q : Stack) (lines : Lines) → Ascends lines → times_in lines q ≡ samples_of_lines (same_stack q) lines
+unfolding IsStrictlySortedBy
+times_sum q [] up = refl
+times_sum q (e ∷ es) up = by (times_sum q es up.1) (same_stack q e.0) refl ∙ sym (sum_by-cons (λ (l : Stack × ℕ). cond (same_stack q l.0) l.1 0) e es)
+  where
+    by : times_in es q ≡ samples_of_lines (same_stack q) es → (b : Bool) → same_stack q e.0 ≡ b → times_in (e ∷ es) q ≡ cond (same_stack q e.0) e.1 0 + samples_of_lines (same_stack q) es
+    by rest true one =
+        let at_e = equal (stack_cmp q e.0) one in
+        let none = sum_below q es (alike_below q e.0 (keys_of es) at_e up.0) in
+        let here : cond (same_stack q e.0) e.1 0 ≡ e.1 = ap (λ (b : Bool). cond b e.1 0) one in
+        omega (arith, times_first q e es at_e, none, here)
+    by rest false one =
+        let here : cond (same_stack q e.0) e.1 0 ≡ 0 = ap (λ (b : Bool). cond b e.1 0) one in
+        omega (arith, times_later q e es one, rest, here)
+
+pub lines_are : (lines : Lines) (stacks : List Stack) → Ascends lines → HaveEach lines → ((test : Stack → Bool) → samples_of_lines test lines ≡ count_by test stacks) → lines ≡ lines_of stacks
+lines_are lines stacks up some counts =
+    one_list lines (lines_of stacks) up (lines_ascending stacks) some (each_all stacks [] tt) (λ q. times_sum q lines up ∙ counts (same_stack q) ∙ sym (lines_counted stacks q))

@@ -1,5 +1,5 @@
 -- How a run that is folded ends.
-use Rattle.std.specs.Prelude.{◌≡◌, ℕ, ◌+◌, ◌<◌, ◌≤◌, List, length, None, All}
+use Rattle.std.specs.Prelude.{◌≡◌, ℕ, ◌+◌, ◌<◌, ◌≤◌, List, length, map, slice_index_or, None, All}
 use Rattle.elf32_syms.specs.declared.image.Symbol.{Symbol}
 use Rattle.host_port.specs.Outside.{KeepsCounts, Outside}
 use Rattle.prof_machine.specs.declared.machine.Machine.{Machine}
@@ -7,9 +7,9 @@ use Rattle.prof_machine.specs.Plan.{most_turns, world_at}
 use Rattle.prof_machine.specs.Prints.{ArePrinted, BreaksOff, PrintFailed}
 use Rattle.prof_machine.specs.World.{World}
 use Rattle.folded.specs.declared.trail.Tracker.{Tracker}
-use Rattle.folded.specs.Shadow.{Shadow}
-use Rattle.folded.specs.Stacks.{stacks_of}
-use Rattle.folded.specs.Tally.{Folds}
+use Rattle.folded.specs.Nodes.{IsOn, IsTreeFor, IsTreeOf, first_place}
+use Rattle.folded.specs.Shadow.{Shadow, empty_shadow}
+use Rattle.folded.specs.Stacks.{caller_in, stacks_of}
 use Rattle.folded.specs.Trail.{Trail}
 use Rattle.folded.specs.declared.refusal.FoldRefusal.{FoldRefusal}
 use Rattle.folded.specs.declared.refusal.FoldRefusal.TheVariants.{HostFailed, OutOfMemory}
@@ -29,7 +29,13 @@ HasCause old new OutOfMemory = KeepsCounts old new
 -- shadows and samples that were followed stand for those of the definitions
 pub record Follows (symbols : List Symbol) (t : Trail) (v : Tracker) : Type 0 where
   pub shadows : v.shadows.items ≡ t.shadows
-  pub folds : Folds (length symbols) (stacks_of symbols t.samples) v.folded
+  pub samples : IsTreeOf (stacks_of symbols t.samples) v.tree
+
+-- each hart has its place in the tree
+pub record IsTracked (symbols : List Symbol) (v : Tracker) : Type 0 where
+  pub tree : IsTreeFor symbols v.tree
+  pub harts : length v.places.items ≡ length v.shadows.items
+  pub places : (h : ℕ) → h < length v.shadows.items → IsOn v.tree.nodes.keys (map (caller_in symbols) (slice_index_or v.shadows.items h empty_shadow).frames) (slice_index_or v.places.items h first_place)
 
 -- no shadow has more calls without room than there were turns
 abbrev pub HasRoom : ℕ → List Shadow → Type 0

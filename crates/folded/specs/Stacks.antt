@@ -1,5 +1,5 @@
 -- Stacks of functions, and how many samples have each.
-use Rattle.std.specs.Prelude.{ℕ, ◌+◌, ◌-◌, ◌%◌, ◌^◌, ◌==◌, Bool, false, List, [], ◌∷◌, ◌++◌, map, fold, count_by, unwrap_or, Option, Some, None, option_map}
+use Rattle.std.specs.Prelude.{ℕ, ◌+◌, ◌-◌, ◌%◌, ◌^◌, ◌==◌, ◌<◌, All, IfSome, Bool, false, List, [], ◌∷◌, ◌++◌, map, fold, count_by, unwrap_or, Option, Some, None, option_map}
 use Rattle.std.specs.List.{filter_map, list_any}
 use Rattle.std.specs.Ordering.{nat_cmp, is_eq}
 use Rattle.std.specs.Option.{option_cmp}
@@ -60,3 +60,7 @@ has_function f stack = list_any (is_function f) stack
 
 abbrev pub inclusive_of : List (List (Option ℕ)) → ℕ → ℕ
 inclusive_of stacks f = count_by (has_function f) stacks
+
+-- the functions of a stack, each below a number
+abbrev pub AreBelow : ℕ → List (Option ℕ) → Type 0
+AreBelow functions stack = All (λ (o : Option ℕ). IfSome o (λ f. f < functions)) stack

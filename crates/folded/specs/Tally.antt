@@ -1,8 +1,8 @@
 -- What contracts see of folded stacks.
-use Rattle.std.specs.Prelude.{◌≡◌, ℕ, ◌+◌, ◌^◌, ◌<◌, ◌≤◌, List, length, map, slice_index, slice_index_or, Bool, Option, IfSome, All, if◌then◌else◌}
-use Rattle.std.specs.BTreeMap.{values}
+use Rattle.std.specs.Prelude.{◌≡◌, ℕ, ◌+◌, ◌^◌, ◌<◌, ◌≤◌, List, length, map, slice_index, slice_index_or, Bool, Option, All, if◌then◌else◌}
 use Rattle.folded.specs.declared.tally.Folded.TheInside.{Inside}
 use Rattle.folded.specs.declared.tally.Mark.{Mark}
+use Rattle.folded.specs.Nodes.{IsTree, line_of_node}
 use Rattle.folded.specs.Stacks.{inclusive_of, lines_of}
 
 pub record FoldedValue : Type 0 where
@@ -15,18 +15,16 @@ pub record FoldedValue : Type 0 where
 
 abbrev pub value_of : Inside → FoldedValue
 value_of a = record {
-  lines = map (λ e. (e.0.items, e.1)) a.lines.entries;
-  total = a.total;
+  lines = map (line_of_node a.tree) a.order.items;
+  total = a.tree.total;
   inclusive = map (λ m. m.count) a.marks.items;
 }
 
--- what keeps its numbers within their ranges: none is above the number of samples, and each function has a number of
--- 32 bits
+-- its lines are those of nodes of its tree, and each function has a number of 32 bits
 pub record IsMarked (a : Inside) : Type 0 where
   pub functions : length a.marks.items < 2 ^ 32
-  pub counts : All (λ m. m.count ≤ a.total) a.marks.items
-  pub lasts : All (λ m. m.last ≤ a.total) a.marks.items
-  pub lines : All (λ n. n ≤ a.total) (values a.lines)
+  pub tree : IsTree a.tree
+  pub order : All (λ n. n ≤ length a.tree.nodes.keys) a.order.items
 
 -- it has these stacks, of so many functions
 pub record Folds (functions : ℕ) (stacks : List (List (Option ℕ))) (f : FoldedValue) : Type 0 where
@@ -39,10 +37,6 @@ pub record Folds (functions : ℕ) (stacks : List (List (Option ℕ))) (f : Fold
 abbrev pub mark_at : List Mark → ℕ → Mark
 mark_at marks g = slice_index_or marks g (record { count = 0; last = 0 })
 
--- once a sample has the function
-abbrev pub marked_if : Bool → ℕ → Mark → Mark
-marked_if has sample m = if has then record { count = m.count + 1; last = sample } else m
-
--- the functions of a stack, each below a number
-abbrev pub AreBelow : ℕ → List (Option ℕ) → Type 0
-AreBelow functions stack = All (λ (o : Option ℕ). IfSome o (λ f. f < functions)) stack
+-- once the samples of a line have the function
+abbrev pub marked_if : Bool → ℕ → ℕ → Mark → Mark
+marked_if has line samples m = if has then record { count = m.count + samples; last = line } else m

@@ -35,9 +35,11 @@ pub fn fold<H: Host>(
     requires setup { run.old.machine.setup ≡ setup.now }
     requires limits { IsSetup setup.now }
     requires symbols { IsAscending image.now.symbols }
-    ensures stands { OnOk result ((w : World) → StandsFor w run.old → StandsFor (after_drive run.old.machine w) run.new) }
+    ensures stands { OnOk result ((w : World) → StandsFor w run.old
+        → StandsFor (after_drive run.old.machine w) run.new) }
     ensures folds { IfOk result (λ f. (w : World) → StandsFor w run.old
-        → Folds (length image.now.symbols) (stacks_of image.now.symbols (run_samples run.old.machine w)) f) }
+        → Folds (length image.now.symbols)
+        (stacks_of image.now.symbols (run_samples run.old.machine w)) f) }
     ensures functions { IfOk result (λ f. length f.inclusive ≡ length image.now.symbols) }
     ensures live { OnOk result (IsLive run.new → ⊥) }
     ensures machine { run.new.machine ≡ run.old.machine }
@@ -47,7 +49,8 @@ pub fn fold<H: Host>(
         → ArePrinted w (after_drive run.old.machine w) (H.outside host.old) (H.outside host.new)) }
     ensures stops { IfErr result (λ e. (w : World) → StandsFor w run.old
         → StopsShort run.old.machine w (H.outside host.old) (H.outside host.new) e) }
-    ensures counts { MatchResult result (λ _. KeepsCounts (H.outside host.old) (H.outside host.new)) (HasCause (H.outside host.old) (H.outside host.new)) }
+    ensures counts { MatchResult result (λ _. KeepsCounts (H.outside host.old) (H.outside host.new))
+        (HasCause (H.outside host.old) (H.outside host.new)) }
     ensures writing { (H.outside host.new).is_writing ≡ (H.outside host.old).is_writing }
     ensures input { KeepsInput (H.outside host.old) (H.outside host.new) }
 {
@@ -57,10 +60,10 @@ pub fn fold<H: Host>(
     loop {
         let hart = plan.next_hart();
         let turned = run.turn(hart, host)?;
-        tracker.follow(alloc, symbols, hart, run.last_turn())?;
+        tracker.follow(symbols, hart, run.last_turn())?;
         match turned {
             Turned::Going => {}
-            Turned::Ended(_) => return Ok(tracker.folded),
+            Turned::Ended(_) => return Ok(Folded::of(alloc, tracker.tree)?),
         }
     }
 }

@@ -3,10 +3,13 @@
 
 pub mod folding;
 pub mod laws;
+mod path;
+mod place;
 pub mod refusal;
 mod shadow;
 pub mod tally;
 mod trail;
+mod tree;
 pub mod values;
 pub mod writer;
 

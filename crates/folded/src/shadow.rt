@@ -49,7 +49,8 @@ impl ShadowStack {
 
     /// The return addresses of the calls that haven't returned, the oldest first.
     pub(crate) fn frames(&self) -> &[u32]
-        ensures { result.now ≡ self.now.frames }
+        ensures frames { result.now ≡ self.now.frames }
+        ensures few { length result.now ≤ 128 }
     {
         &self.frames[..self.len]
     }

@@ -7,7 +7,7 @@ ghost use Rattle.host_port.specs.Host.{Puts};
 ghost use Rattle.host_port.specs.declared.side.Side.TheVariants.{Output};
 ghost use Rattle.folded.specs.Text.{callee_text, count_text, folded_text, inclusive_line, functions_text, inclusive_text, line_text, name_in, stack_text};
 
-use crate::tally::{Folded, Stack};
+use crate::tally::Folded;
 use elf32_syms::Symbol;
 use host_port::{Failed, Host, PrintBuf};
 use text_cols::Line;
@@ -22,7 +22,8 @@ pub fn write<H: Host>(
     host: &mut H,
 ) -> Result<(), Failed>
     requires { length symbols.now ≡ length folded.now.inclusive }
-    ensures { Puts Output (if inclusive then inclusive_text symbols.now folded.now else folded_text symbols.now folded.now) (H.outside host.old) (H.outside host.new) result }
+    ensures { Puts Output (if inclusive then inclusive_text symbols.now folded.now else folded_text
+        symbols.now folded.now) (H.outside host.old) (H.outside host.new) result }
 {
     let mut lines = PrintBuf::new();
     put_text(folded, symbols, inclusive, &mut lines, host)?;
@@ -36,7 +37,8 @@ fn put_text<H: Host>(
     lines: &mut PrintBuf,
     host: &mut H,
 ) -> Result<(), Failed>
-    ensures { Adds Output (if inclusive then inclusive_text symbols.now folded.now else folded_text symbols.now folded.now) lines.old lines.new
+    ensures { Adds Output (if inclusive then inclusive_text symbols.now folded.now else folded_text
+        symbols.now folded.now) lines.old lines.new
         (H.outside host.old) (H.outside host.new) result }
 {
     if inclusive {
@@ -52,24 +54,27 @@ fn put_lines<H: Host>(
     lines: &mut PrintBuf,
     host: &mut H,
 ) -> Result<(), Failed>
-    ensures { Adds Output (folded_text symbols.now folded.now) lines.old lines.new (H.outside host.old) (H.outside host.new) result }
+    ensures { Adds Output (folded_text symbols.now folded.now) lines.old lines.new
+        (H.outside host.old) (H.outside host.new) result }
 {
-    for (stack, count) in folded.lines() {
-        put_line(stack, *count, symbols, lines, host)?;
+    for i in 0..folded.line_count() {
+        let (path, count) = folded.line(i);
+        put_line(path.as_slice(), count, symbols, lines, host)?;
     }
     Ok(())
 }
 
 fn put_line<H: Host>(
-    stack: &Stack,
+    stack: &[Option<u32>],
     count: u64,
     symbols: &[Symbol],
     lines: &mut PrintBuf,
     host: &mut H,
 ) -> Result<(), Failed>
-    ensures { Adds Output (line_text symbols.now (stack.now.items, count)) lines.old lines.new (H.outside host.old) (H.outside host.new) result }
+    ensures { Adds Output (line_text symbols.now (stack.now, count)) lines.old lines.new
+        (H.outside host.old) (H.outside host.new) result }
 {
-    put_stack(stack.as_slice(), symbols, lines, host)?;
+    put_stack(stack, symbols, lines, host)?;
     put_count(count, lines, host)
 }
 
@@ -80,7 +85,8 @@ fn put_stack<H: Host>(
     lines: &mut PrintBuf,
     host: &mut H,
 ) -> Result<(), Failed>
-    ensures { Adds Output (stack_text symbols.now stack.now) lines.old lines.new (H.outside host.old) (H.outside host.new) result }
+    ensures { Adds Output (stack_text symbols.now stack.now) lines.old lines.new
+        (H.outside host.old) (H.outside host.new) result }
 {
     let Some((first, callees)) = stack.split_first() else {
         return Ok(());
@@ -95,7 +101,8 @@ fn put_callees<H: Host>(
     lines: &mut PrintBuf,
     host: &mut H,
 ) -> Result<(), Failed>
-    ensures { Adds Output (flat_map (callee_text symbols.now) callees.now) lines.old lines.new (H.outside host.old) (H.outside host.new) result }
+    ensures { Adds Output (flat_map (callee_text symbols.now) callees.now) lines.old lines.new
+        (H.outside host.old) (H.outside host.new) result }
 {
     for callee in callees {
         put_callee(callee, symbols, lines, host)?;
@@ -109,7 +116,8 @@ fn put_callee<H: Host>(
     lines: &mut PrintBuf,
     host: &mut H,
 ) -> Result<(), Failed>
-    ensures { Adds Output (callee_text symbols.now callee.now) lines.old lines.new (H.outside host.old) (H.outside host.new) result }
+    ensures { Adds Output (callee_text symbols.now callee.now) lines.old lines.new
+        (H.outside host.old) (H.outside host.new) result }
 {
     lines.put(host, b";")?;
     put_name(*callee, symbols, lines, host)
@@ -121,7 +129,8 @@ fn put_name<H: Host>(
     lines: &mut PrintBuf,
     host: &mut H,
 ) -> Result<(), Failed>
-    ensures { Adds Output (name_in symbols.now function) lines.old lines.new (H.outside host.old) (H.outside host.new) result }
+    ensures { Adds Output (name_in symbols.now function) lines.old lines.new (H.outside host.old)
+        (H.outside host.new) result }
 {
     let Some(f) = function else {
         return lines.put(host, b"[unknown]");
@@ -133,7 +142,8 @@ fn put_name<H: Host>(
 }
 
 fn put_count<H: Host>(count: u64, lines: &mut PrintBuf, host: &mut H) -> Result<(), Failed>
-    ensures { Adds Output (count_text count) lines.old lines.new (H.outside host.old) (H.outside host.new) result }
+    ensures { Adds Output (count_text count) lines.old lines.new (H.outside host.old)
+        (H.outside host.new) result }
 {
     lines.put(host, count_line(count).bytes())
 }
@@ -155,7 +165,8 @@ fn put_functions<H: Host>(
     lines: &mut PrintBuf,
     host: &mut H,
 ) -> Result<(), Failed>
-    ensures { Adds Output (inclusive_text symbols.now folded.now) lines.old lines.new (H.outside host.old) (H.outside host.new) result }
+    ensures { Adds Output (inclusive_text symbols.now folded.now) lines.old lines.new
+        (H.outside host.old) (H.outside host.new) result }
 {
     for f in 0..folded.function_count() {
         put_function(f, folded.inclusive(f), symbols, lines, host)?;
@@ -171,7 +182,8 @@ fn put_function<H: Host>(
     lines: &mut PrintBuf,
     host: &mut H,
 ) -> Result<(), Failed>
-    ensures { Adds Output (inclusive_line symbols.now f count) lines.old lines.new (H.outside host.old) (H.outside host.new) result }
+    ensures { Adds Output (inclusive_line symbols.now f count) lines.old lines.new
+        (H.outside host.old) (H.outside host.new) result }
 {
     if count == 0 {
         return Ok(());

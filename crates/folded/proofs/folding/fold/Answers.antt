@@ -1,4 +1,4 @@
-use Rattle.std.proofs.Common.{List, ◌∙◌, ◌+◌, ◌≤◌, arith, inl, inr, length, refl, subst, sym, ap}
+use Rattle.std.proofs.Common.{List, ◌∙◌, ◌+◌, ◌≤◌, arith, inl, inr, length, refl, subst, sym, ap, ℕ}
 use Rattle.host_port.proofs.Laws.{KeepsCounts-same, KeepsCounts-then, KeepsInput-same, KeepsInput-then}
 use Rattle.prof_machine.proofs.ActLemmas.{breaks_after, nothing_printed, printed_then}
 use Rattle.prof_machine.proofs.DriveLemmas.{ended_answer, in_first, in_last, in_next}
@@ -36,13 +36,13 @@ loop-tracker-init g c =
       draws = subst (λ (s : Setup). Draws s 0 c.new-plan.result) (sym c.requires.setup) c.new-plan.ensures;
       few = inl refl;
       stands = λ w st. in_first (λ v. StandsFor v c.args.run.now) m w st;
-      follows = λ w st. first_follows symbols m w v (subst (λ (s : Setup). Follows symbols (first_trail s.harts) v) (sym c.requires.setup) (c.in_ok-tracker.ensures.follows symbols (sym c.symbol_count.ensures)));
+      follows = λ w st. first_follows symbols m w v (subst (λ (s : Setup). Follows symbols (first_trail s.harts) v) (sym c.requires.setup) (c.in_ok-tracker.ensures.follows symbols));
       prints = λ w st. in_first (λ v. ArePrinted w v o o) m w (nothing_printed w w o refl);
       counts = KeepsCounts-same _;
       writing = refl;
       input = KeepsInput-same _;
       harts = first_harts v.shadows.items c.args.setup.now.harts c.in_ok-tracker.ensures.harts ∙ sym (ap (λ (s : Setup). s.harts) c.requires.setup);
-      functions = c.in_ok-tracker.ensures.functions ∙ c.symbol_count.ensures;
+      tracked = c.in_ok-tracker.ensures.tracked symbols (sym c.symbol_count.ensures);
       room = first_room v.shadows.items c.args.setup.now.harts c.in_ok-tracker.ensures.harts;
       total = omega (arith, c.in_ok-tracker.ensures.total);
     }
@@ -72,7 +72,7 @@ loop-tracker-preserved g c =
       writing = t.writing ∙ i.writing;
       input = KeepsInput-then _ _ _ i.input t.input;
       harts = f.harts ∙ i.harts;
-      functions = f.functions ∙ i.functions;
+      tracked = f.tracked;
       room = f.room _ i.room;
       total = omega (arith, f.total, i.total);
     }
@@ -137,8 +137,29 @@ returns-in-Ended-clause-folds g c = λ w st.
     let follows = next_follows symbols m c.loop-tracker.run.machine w i.turns c.next_hart-hart.result c.last_turn.result c.follow.new.self i.machine (hart.taker _ _ i.draws)
     (c.last_turn.ensures ∙ t.note _ (i.stands w st)) (f.follows _ (i.follows w st)) in
     let ended = sym stands.ending ∙ ended_answer c.turn.new.self.ending c.in-Ended.field-0 (sym t.answer ∙ c.in-Ended.is) in
-    let S : List Symbol → Type 0 = λ x. Folds (length x) (stacks_of x (run_samples m w)) c.follow.new.self.folded in
-    subst S c.as_slice-symbols.ensures (folds_last symbols m w (i.turns + 1) c.follow.new.self c.in-Ended.field-0 (omega (arith, bound, t.left)) ended follows)
+    let told = c.in_ok-of-in-Ended.ensures.folds (stacks_of symbols (run_samples m w)) (folds_last symbols m w (i.turns + 1) c.follow.new.self c.in-Ended.field-0 (omega (arith, bound, t.left)) ended follows) in
+    let S : List Symbol → Type 0 = λ x. Folds (length x) (stacks_of x (run_samples m w)) c.in_ok-of-in-Ended.field-0 in
+    subst S c.as_slice-symbols.ensures (subst (λ (n : ℕ). Folds n (stacks_of symbols (run_samples m w)) c.in_ok-of-in-Ended.field-0) f.tracked.tree.functions told)
+
+pub returns-in-Ended-clause-functions : goal.returns-in-Ended-clause-functions
+returns-in-Ended-clause-functions g c =
+    c.in_ok-of-in-Ended.ensures.functions ∙ c.in_ok-follow.ensures.tracked.tree.functions ∙ ap (λ (x : List Symbol). length x) c.as_slice-symbols.ensures
+
+pub returns-in_err-of-in-Ended-clause-stops : goal.returns-in_err-of-in-Ended-clause-stops
+returns-in_err-of-in-Ended-clause-stops g c =
+    let m = c.args.run.now.machine in
+    let i = c.loop-tracker.invariant in
+    let t = c.in_ok-turned.ensures in
+    let hart = c.next_hart-hart.ensures in
+    let M : Machine → Type 0 = λ x. work_left c.loop-tracker.run ≤ most_turns x.setup in
+    let bound : i.turns + work_left c.loop-tracker.run ≤ most_turns m.setup = few_at i.turns (work_left c.loop-tracker.run) (most_turns m.setup) i.few (subst M i.machine t.few) in
+    let p = err_from_is_err_and c.from_residual-in_err-of-in-Ended.result c.from_residual-in_err-of-in-Ended.ensures.1 in
+    rw (p.1, p.2) (λ w st.
+    let Q : World → Type 0 = λ v. ArePrinted w v (g.H.Host.outside c.args.host.now) (g.H.Host.outside c.turn.new.host) in (
+      i.turns + 1,
+      omega (arith, bound, t.left),
+      in_next Q m c.loop-tracker.run.machine w i.turns c.next_hart-hart.result i.machine (hart.taker _ _ i.draws) (printed_then w _ _ _ _ _ (i.prints w st) (t.prints _ (i.stands w st))),
+    ))
 
 pub returns-in-Ended-clause-prints : goal.returns-in-Ended-clause-prints
 returns-in-Ended-clause-prints g c = λ w st.

@@ -8,11 +8,9 @@ pub returns-in_err-put_stack : goal.returns-in_err-put_stack
 unfolding line_text
 returns-in_err-put_stack g c =
     let p = err_from_is_err_and c.from_residual.result c.from_residual.ensures.1 in
-    let stack = rw c.as_slice.ensures.value at c.in_err-put_stack.ensures in
-    rw p.1 (adds_front Output (stack_text c.args.symbols.now c.args.stack.now.items) (count_text c.args.count) _ _ _ _ _ stack)
+    rw p.1 (adds_front Output (stack_text c.args.symbols.now c.args.stack.now) (count_text c.args.count) _ _ _ _ _ c.in_err-put_stack.ensures)
 
 pub returns : goal.returns
 unfolding line_text
 returns g c =
-    let stack = rw c.as_slice.ensures.value at c.in_ok-put_stack.ensures in
-    adds_then Output (stack_text c.args.symbols.now c.args.stack.now.items) (count_text c.args.count) _ _ _ _ _ _ _ _ stack c.put_count.ensures
+    adds_then Output (stack_text c.args.symbols.now c.args.stack.now) (count_text c.args.count) _ _ _ _ _ _ _ _ c.in_ok-put_stack.ensures c.put_count.ensures

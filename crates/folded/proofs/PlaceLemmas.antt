@@ -1,0 +1,79 @@
+-- Places go up and down, and stacks are read from their ends.
+use Rattle.std.proofs.Common.{◌≡◌, ◌∙◌, ◌+◌, ◌-◌, ◌<◌, ◌≤◌, ◌++◌, ℕ, zero, suc, List, [], ◌∷◌, length, get_or, set, drop, take, map, min, append_assoc, ap, arith, refl, sym, subst, Option, Some, None}
+use Rattle.std.proofs.lemmas.List.{drop-set, get_or-map, length-map, length-take, length_push, take_all, take_at, take-take, take_min, take_more}
+use Rattle.elf32_syms.specs.declared.image.Symbol.{Symbol}
+use Rattle.folded.specs.Nodes.{AreNodes, HaveSamples, HasStack, IsGrown, IsOn, IsPlaced, IsTree, IsTreeOf, node_of, stack_of_node}
+use Rattle.folded.specs.Stacks.{caller_in}
+use Rattle.folded.specs.declared.place.Place.{Place}
+use Rattle.folded.specs.declared.tree.Tree.{Tree}
+use Rattle.folded.proofs.NodeLemmas.{Nodes, Stack, stack_behind, stack_of_made, stack_of_none}
+
+module _ (nodes : Nodes) (counts : List ℕ) (total functions : ℕ) (is : AreNodes nodes counts total functions) where
+  abbrev caller_of : ℕ → ℕ
+  caller_of n = (node_of nodes n).0
+
+  -- a stack that isn't empty ends in the function of its node
+  pub last_of : (n : ℕ) → 0 < n → n ≤ length nodes → (caller_of n ≤ length nodes) × (stack_of_node nodes n ≡ stack_of_node nodes (caller_of n) ++ (node_of nodes n).1 ∷ [])
+  last_of zero some inside = absurd (omega (arith, some))
+  last_of (suc n) some inside =
+      let fits : n < length nodes = omega (arith, inside) in
+      let low = is.callers n fits in
+      let one : suc n ≡ n + 1 = omega arith in
+      (omega (arith, low, fits), ap (λ (k : ℕ). stack_of_node nodes k) one ∙ stack_of_made nodes n fits low)
+
+  some_node : (n depth : ℕ) → length (stack_of_node nodes n) ≡ depth → 0 < depth → 0 < n
+  some_node zero depth long some = absurd (omega (arith, long, some, ap (λ (s : Stack). length s) (stack_of_none nodes)))
+  some_node (suc n) depth long some = omega arith
+
+  pub placed_up : (n depth : ℕ) → n ≤ length nodes → length (stack_of_node nodes n) ≡ depth → 0 < depth
+      → (caller_of n ≤ length nodes) × (length (stack_of_node nodes (caller_of n)) ≡ depth - 1) × (stack_of_node nodes (caller_of n) ≡ take (depth - 1) (stack_of_node nodes n))
+  placed_up n depth inside long some =
+      let last = last_of n (some_node n depth long some) inside in
+      let front = stack_of_node nodes (caller_of n) in
+      let less : length front ≡ depth - 1 = omega (arith, long, ap (λ (s : Stack). length s) last.1, length_push front (node_of nodes n).1) in
+      (last.0, less, sym (ap (take (depth - 1)) last.1 ∙ take_at front ((node_of nodes n).1 ∷ []) (depth - 1) less))
+
+-- so many of the first functions
+pub up_more : (s top now : Stack) (depth : ℕ) → top ≡ take depth s → now ≡ take (depth - 1) top → now ≡ take (depth - 1) s
+up_more s top now depth is next = next ∙ ap (take (depth - 1)) is ∙ take-take (depth - 1) depth s (omega arith)
+
+pub ends_up : (s : Stack) (depth calls : ℕ) → min calls (length s) ≤ depth → depth ≤ length s → depth ≤ calls → take depth s ≡ take calls s
+ends_up s depth calls least most few =
+    let same : depth ≡ min calls (length s) = omega (arith, least, most, few) in
+    ap (λ (k : ℕ). take k s) same ∙ take_min calls s
+
+-- ---- one call more
+
+pub call_more : (symbols : List Symbol) (frames : List ℕ) (depth : ℕ) (stack : Stack) (f : Option ℕ) → depth < length frames → stack ≡ take depth (map (caller_in symbols) frames) → f ≡ caller_in symbols (get_or frames depth 0)
+    → stack ++ f ∷ [] ≡ take (depth + 1) (map (caller_in symbols) frames)
+call_more symbols frames depth stack f inside is here =
+    let calls = map (caller_in symbols) frames in
+    let fits : depth < length calls = omega (arith, inside, length-map frames (caller_in symbols)) in
+    (λ t. is t ++ here t ∷ []) ∙ ap (λ (x : Option ℕ). take depth calls ++ x ∷ []) (sym (get_or-map (caller_in symbols) frames depth 0 None inside)) ∙ sym (take_more calls depth None fits)
+
+pub all_calls : (calls stack : Stack) (depth : ℕ) → length calls ≤ depth → stack ≡ take depth calls → stack ≡ calls
+all_calls calls stack depth all is = is ∙ take_all depth calls all
+
+-- ---- what stays when nodes are added
+
+pub IsGrown-then : (a b c : Tree) → IsGrown a b → IsGrown b c → IsGrown a c
+IsGrown-then a b c one two = record {
+  more = one.more ++ two.more;
+  nodes = two.nodes ∙ ap (λ (x : Nodes). x ++ two.more) one.nodes ∙ append_assoc a.nodes.keys one.more two.more;
+  functions = two.functions ∙ one.functions;
+  total = two.total ∙ one.total;
+  samples = λ stacks have. two.samples stacks (one.samples stacks have);
+}
+
+pub stack_stays : (nodes new more : Nodes) (n : ℕ) → new ≡ nodes ++ more → n ≤ length nodes → stack_of_node new n ≡ stack_of_node nodes n
+stack_stays nodes new more n is inside = ap (λ (x : Nodes). stack_of_node x n) is ∙ stack_behind nodes more n inside
+
+-- ---- a stack is read from its end
+
+pub read_more : (whole front rest : Stack) (f : Option ℕ) (functions : List (Option ℕ)) (start : ℕ) → 0 < start → start ≤ length functions → whole ≡ (front ++ f ∷ []) ++ drop start functions
+    → whole ≡ front ++ drop (start - 1) (set functions (start - 1) f)
+read_more whole front rest f functions start some fits is =
+    let inside : start - 1 < length functions = omega (arith, some, fits) in
+    let next : start - 1 + 1 ≡ start = omega (arith, some) in
+    is ∙ append_assoc front (f ∷ []) (drop start functions)
+    ∙ ap (λ (x : Stack). front ++ x) (ap (λ (k : ℕ). f ∷ drop k functions) (sym next) ∙ sym (drop-set functions (start - 1) f inside))

@@ -1,0 +1,14 @@
+use Rattle.std.proofs.Common.{◌≡◌, ◌-◌, length, map}
+use Rattle.folded.specs.Nodes.{IsGrown, IsOn, IsTree}
+use Rattle.folded.specs.Stacks.{caller_in}
+use Rattle.folded.proofs.place.Place.go_down.Given as goal
+
+abbrev pub invariant-loop-self : goal.invariant-loop-self
+invariant-loop-self l = record {
+  tree : IsTree l.tree;
+  grown : IsGrown l.initial.tree l.tree;
+  on : IsOn l.tree.nodes.keys (map (caller_in l.symbols) l.frames) l.self;
+}
+
+abbrev pub decreases-loop-self : goal.decreases-loop-self
+decreases-loop-self l = length l.frames - l.self.depth

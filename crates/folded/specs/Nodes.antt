@@ -1,0 +1,124 @@
+-- The tree of calls: a node for each stack that was entered, with the number of samples that have it.
+use Rattle.std.specs.Prelude.{◌≡◌, ℕ, zero, suc, ◌+◌, ◌^◌, ◌<◌, ◌≤◌, nat_lt, min, Bool, true, List, [], ◌∷◌, ◌++◌, length, map, fold, count_by, sum_by, take, slice_index_or, Option, Some, None, IfSome, All, if◌then◌else◌}
+use Rattle.std.specs.List.{AllByRecursion}
+use Rattle.std.specs.List.Sorted.{IsStrictlySortedBy}
+use Rattle.std.specs.declared.cmp.Ordering.{Ordering}
+use Rattle.elf32_syms.specs.declared.image.Symbol.{Symbol}
+use Rattle.folded.specs.declared.place.Place.{Place}
+use Rattle.folded.specs.declared.tree.Tree.{Tree}
+use Rattle.folded.specs.Stacks.{AreBelow, stack_cmp}
+
+-- by number: the stacks with that of one more node, which is its caller's with its function
+abbrev pub with_node : List (List (Option ℕ)) → ℕ × Option ℕ → List (List (Option ℕ))
+with_node stacks node = stacks ++ (slice_index_or stacks node.0 [] ++ node.1 ∷ []) ∷ []
+
+-- 0 is the number of the empty stack, which has no node
+abbrev pub node_stacks : List (ℕ × Option ℕ) → List (List (Option ℕ))
+node_stacks nodes = fold with_node ([] ∷ []) nodes
+
+abbrev pub stack_of_node : List (ℕ × Option ℕ) → ℕ → List (Option ℕ)
+stack_of_node nodes n = slice_index_or (node_stacks nodes) n []
+
+-- its caller's node and its function, where it is one
+abbrev pub node_of : List (ℕ × Option ℕ) → ℕ → ℕ × Option ℕ
+node_of nodes zero = (0, None)
+node_of nodes (suc n) = slice_index_or nodes n (0, None)
+
+abbrev pub called_of : List (ℕ × Option ℕ) → ℕ → Option (Option ℕ)
+called_of nodes zero = None
+called_of nodes (suc n) = Some (slice_index_or nodes n (0, None)).1
+
+-- the order of nodes is that of their stacks; the last one's stands for those of all numbers above it
+abbrev pub node_cmp : List (ℕ × Option ℕ) → ℕ → ℕ → Ordering
+node_cmp nodes a b = stack_cmp (stack_of_node nodes (min a (length nodes))) (stack_of_node nodes (min b (length nodes)))
+
+-- how many samples have a stack that passes a test, where each stack has so many
+abbrev pub samples_on : (List (Option ℕ) → Bool) → List (List (Option ℕ)) → List ℕ → ℕ
+samples_on test [] counts = 0
+samples_on test (s ∷ stacks) [] = 0
+samples_on test (s ∷ stacks) (n ∷ counts) = (if test s then n else 0) + samples_on test stacks counts
+
+abbrev pub any_stack : List (Option ℕ) → Bool
+any_stack s = true
+
+-- a stack that can be kept: of 128 calls and the function that is sampled
+abbrev pub IsShort : ℕ → List (Option ℕ) → Type 0
+IsShort functions s = (length s ≤ 129) × AreBelow functions s
+
+pub record AreNodes (nodes : List (ℕ × Option ℕ)) (counts : List ℕ) (total functions : ℕ) : Type 0 where
+  -- callers come before
+  pub callers : (i : ℕ) → i < length nodes → (slice_index_or nodes i (0, None)).0 ≤ i
+  pub distinct : (i j : ℕ) → i < length nodes → j < length nodes → slice_index_or nodes i (0, None) ≡ slice_index_or nodes j (0, None) → i ≡ j
+  pub numbers : length counts ≡ length nodes + 1
+  pub few : length nodes < 2 ^ 32
+  pub stacks : All (IsShort functions) (node_stacks nodes)
+  pub sum : samples_on any_stack (node_stacks nodes) counts ≤ total
+
+abbrev pub IsTree : Tree → Type 0
+IsTree t = AreNodes t.nodes.keys t.counts.items t.total t.functions
+
+-- the nodes have samples with these stacks
+pub record HaveSamples (stacks : List (List (Option ℕ))) (nodes : List (ℕ × Option ℕ)) (counts : List ℕ) (total : ℕ) : Type 0 where
+  pub samples : (test : List (Option ℕ) → Bool) → samples_on test (node_stacks nodes) counts ≡ count_by test stacks
+  pub number : total ≡ length stacks
+
+abbrev pub IsTreeOf : List (List (Option ℕ)) → Tree → Type 0
+IsTreeOf stacks t = HaveSamples stacks t.nodes.keys t.counts.items t.total
+
+-- nodes were added, and no sample
+pub record IsGrown (old new : Tree) : Type 0 where
+  pub more : List (ℕ × Option ℕ)
+  pub nodes : new.nodes.keys ≡ old.nodes.keys ++ more
+  pub functions : new.functions ≡ old.functions
+  pub total : new.total ≡ old.total
+  pub samples : (stacks : List (List (Option ℕ))) → IsTreeOf stacks old → IsTreeOf stacks new
+
+-- what is kept of a run with these symbols
+pub record IsTreeFor (symbols : List Symbol) (t : Tree) : Type 0 where
+  pub tree : IsTree t
+  pub functions : t.functions ≡ length symbols
+
+-- nodes stand behind those that were there
+pub record NodesAdded (old new : List (ℕ × Option ℕ)) : Type 0 where
+  pub more : List (ℕ × Option ℕ)
+  pub is : new ≡ old ++ more
+
+-- node n is that of a stack
+abbrev pub HasStack : List (ℕ × Option ℕ) → ℕ → List (Option ℕ) → Type 0
+HasStack nodes n stack = (n ≤ length nodes) × (stack_of_node nodes n ≡ stack)
+
+-- ---- where a hart's calls stand in it
+
+abbrev pub first_place : Place
+first_place = record { node = 0; depth = 0 }
+
+-- at the node of its stack's first functions
+pub record IsPlaced (nodes : List (ℕ × Option ℕ)) (p : Place) : Type 0 where
+  pub node : p.node ≤ length nodes
+  pub depth : length (stack_of_node nodes p.node) ≡ p.depth
+
+-- the calls begin with its stack
+pub record IsOn (nodes : List (ℕ × Option ℕ)) (calls : List (Option ℕ)) (p : Place) : Type 0 where
+  pub placed : IsPlaced nodes p
+  pub begins : stack_of_node nodes p.node ≡ take p.depth calls
+
+-- ---- the lines of a tree
+
+abbrev pub line_of_node : Tree → ℕ → List (Option ℕ) × ℕ
+line_of_node t n = (stack_of_node t.nodes.keys n, slice_index_or t.counts.items n 0)
+
+-- the numbers from n on whose nodes have samples
+abbrev pub numbers_from : ℕ → List ℕ → List ℕ
+numbers_from n [] = []
+numbers_from n (c ∷ counts) = if nat_lt 0 c then n ∷ numbers_from (n + 1) counts else numbers_from (n + 1) counts
+
+-- how many samples have a stack that passes a test, by lines
+abbrev pub samples_of_lines : (List (Option ℕ) → Bool) → List (List (Option ℕ) × ℕ) → ℕ
+samples_of_lines test lines = sum_by (λ (line : List (Option ℕ) × ℕ). if test line.0 then line.1 else 0) lines
+
+-- these are the nodes that have samples, in the order of their stacks
+pub record IsInOrder (t : Tree) (order : List ℕ) : Type 0 where
+  pub ascend : IsStrictlySortedBy stack_cmp (map (stack_of_node t.nodes.keys) order)
+  pub numbers : All (λ n. n ≤ length t.nodes.keys) order
+  pub sampled : AllByRecursion (λ n. 0 < slice_index_or t.counts.items n 0) order
+  pub samples : (test : List (Option ℕ) → Bool) → samples_of_lines test (map (line_of_node t) order) ≡ samples_on test (node_stacks t.nodes.keys) t.counts.items

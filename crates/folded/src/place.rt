@@ -1,0 +1,68 @@
+//! Where the calls of a hart stand in the tree of calls.
+
+ghost use Rattle.std.specs.Prelude.{◌≡◌, ◌≤◌, IfOk, OnOk, length, map, take};
+ghost use Rattle.elf32_syms.specs.Owners.{IsAscending};
+ghost use Rattle.folded.specs.Nodes.{HasStack, IsGrown, IsOn, IsPlaced, IsTree, stack_of_node};
+ghost use Rattle.folded.specs.Stacks.{caller_in};
+
+use crate::tree::Tree;
+use elf32_syms::Symbol;
+use elf32_syms::owners::owner;
+use std::alloc::AllocError;
+
+/// The node of a hart's oldest calls, and how many these are. Younger ones get a node when a sample needs it.
+#[derive(Clone, Copy)]
+pub(crate) struct Place {
+    pub(crate) node: u32,
+    pub(crate) depth: usize,
+}
+
+impl Place {
+    /// That of no call.
+    pub(crate) fn new() -> Place
+        ensures node { result.node ≡ 0 }
+        ensures depth { result.depth ≡ 0 }
+    {
+        Place { node: 0, depth: 0 }
+    }
+
+    /// So many calls are left.
+    pub(crate) fn go_up(&mut self, tree: &Tree, calls: usize)
+        requires tree { IsTree tree.now }
+        requires placed { IsPlaced tree.now.nodes.keys self.old }
+        ensures placed { IsPlaced tree.now.nodes.keys self.new }
+        ensures stack { stack_of_node tree.now.nodes.keys self.new.node
+            ≡ take calls (stack_of_node tree.now.nodes.keys self.old.node) }
+    {
+        while self.depth > calls {
+            self.node = tree.caller(self.node);
+            self.depth -= 1;
+        }
+    }
+
+    /// To the node of all calls, which are to return to these addresses.
+    pub(crate) fn go_down(
+        &mut self,
+        tree: &mut Tree,
+        symbols: &[Symbol],
+        frames: &[u32],
+    ) -> Result<(), AllocError>
+        requires symbols { IsAscending symbols.now }
+        requires tree { IsTree tree.old }
+        requires functions { tree.old.functions ≡ length symbols.now }
+        requires on { IsOn tree.old.nodes.keys (map (caller_in symbols.now) frames.now) self.old }
+        requires few { length frames.now ≤ 128 }
+        ensures tree { OnOk result (IsTree tree.new) }
+        ensures grown { OnOk result (IsGrown tree.old tree.new) }
+        ensures placed { OnOk result (IsPlaced tree.new.nodes.keys self.new) }
+        ensures all { OnOk result (HasStack tree.new.nodes.keys self.new.node
+            (map (caller_in symbols.now) frames.now)) }
+    {
+        while self.depth < frames.len() {
+            let caller = owner(symbols, frames[self.depth].wrapping_sub(4));
+            self.node = tree.child(self.node, caller)?;
+            self.depth += 1;
+        }
+        Ok(())
+    }
+}

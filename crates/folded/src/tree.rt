@@ -1,0 +1,177 @@
+//! A tree of calls: a node for each stack that was entered, with the number of samples that have it.
+
+ghost use Rattle.std.specs.Prelude.{◌≡◌, ◌+◌, ◌^◌, ◌<◌, ◌≤◌, ℕ, List, [], ◌∷◌, ◌++◌, Option, None, IfOk, IfSome, true, OnOk, length, slice_index, slice_index_or};
+ghost use Rattle.folded.specs.Nodes.{HasStack, IsGrown, IsInOrder, IsTree, IsTreeOf, called_of, node_cmp, node_of, numbers_from, stack_of_node};
+
+use indexmap::IndexSet;
+use std::alloc::{AllocError, Global};
+use std::cmp::Ordering;
+
+/// Nodes with their numbers of samples. A node is that of its caller, by number, with a function; None where no
+/// function has the call. Numbers count from 1 on, a caller's first, and 0 is that of the empty stack.
+#[derive(Drop)]
+pub(crate) struct Tree {
+    pub(crate) nodes: IndexSet<(u32, Option<u32>)>,
+    pub(crate) counts: Vec<u64>,
+    pub(crate) total: u64,
+    pub(crate) functions: u32,
+    last: usize,
+}
+
+impl Tree {
+    /// No call and no sample, for so many functions.
+    pub(crate) fn new(alloc: Global, functions: u32) -> Result<Tree, AllocError>
+        ensures tree { IfOk result IsTree }
+        ensures none { IfOk result (IsTreeOf []) }
+        ensures functions { IfOk result (λ t. t.functions ≡ functions) }
+        ensures total { IfOk result (λ t. t.total ≡ 0) }
+    {
+        Ok(Tree {
+            nodes: IndexSet::new(alloc),
+            counts: vec![in alloc; 0u64; 1]?,
+            total: 0,
+            functions,
+            last: 0,
+        })
+    }
+
+    /// The node of a function that a stack calls, which is made where there is none.
+    pub(crate) fn child(&mut self, caller: u32, function: Option<u32>) -> Result<u32, AllocError>
+        requires tree { IsTree self.old }
+        requires caller { caller ≤ length self.old.nodes.keys }
+        requires depth { length (stack_of_node self.old.nodes.keys caller) < 129 }
+        requires function { IfSome function (λ f. f < self.old.functions) }
+        ensures tree { OnOk result (IsTree self.new) }
+        ensures grown { OnOk result (IsGrown self.old self.new) }
+        ensures node { IfOk result (λ n. HasStack self.new.nodes.keys n
+            (stack_of_node self.old.nodes.keys caller ++ function ∷ [])) }
+    {
+        if self.is_last(caller, function) {
+            return Ok(self.last as u32 + 1);
+        }
+        if self.nodes.len() >= u32::MAX as usize {
+            return Err(AllocError);
+        }
+        let (place, is_new) = self.nodes.insert_full((caller, function))?;
+        self.last = place;
+        if is_new {
+            self.counts.push(0)?;
+        }
+        Ok(place as u32 + 1)
+    }
+
+    /// Whether this child was asked for last, as it mostly is when samples are near each other.
+    fn is_last(&self, caller: u32, function: Option<u32>) -> bool
+        ensures { result ≡ true → (self.now.last < length self.now.nodes.keys)
+            × (slice_index_or self.now.nodes.keys self.now.last (0, None) ≡ (caller, function)) }
+    {
+        match self.nodes.get_index(self.last) {
+            Some(node) => node.0 == caller && node.1 == function,
+            None => false,
+        }
+    }
+
+    /// One more sample with the stack of this node.
+    pub(crate) fn add(&mut self, node: u32)
+        requires tree { IsTree self.old }
+        requires node { node ≤ length self.old.nodes.keys }
+        requires total { self.old.total < 2 ^ 62 }
+        ensures tree { IsTree self.new }
+        ensures nodes { self.new.nodes.keys ≡ self.old.nodes.keys }
+        ensures functions { self.new.functions ≡ self.old.functions }
+        ensures total { self.new.total ≡ self.old.total + 1 }
+        ensures one_more { (stacks : List (List (Option ℕ))) → IsTreeOf stacks self.old
+            → IsTreeOf (stacks ++ stack_of_node self.old.nodes.keys node ∷ []) self.new }
+    {
+        self.counts[node as usize] += 1;
+        self.total += 1;
+    }
+
+    /// The number of samples with the stack of this node.
+    pub(crate) fn samples(&self, node: u32) -> u64
+        requires { node < length self.now.counts.items }
+        ensures { result ≡ slice_index self.now.counts.items node }
+    {
+        self.counts[node as usize]
+    }
+
+    /// The node of its caller; 0 where there is none.
+    pub(crate) fn caller(&self, node: u32) -> u32
+        ensures { result ≡ (node_of self.now.nodes.keys node).0 }
+    {
+        self.node(node).0
+    }
+
+    /// The function of a node.
+    pub(crate) fn function(&self, node: u32) -> Option<u32>
+        ensures { result ≡ (node_of self.now.nodes.keys node).1 }
+    {
+        self.node(node).1
+    }
+
+    fn node(&self, node: u32) -> (u32, Option<u32>)
+        ensures { result ≡ node_of self.now.nodes.keys node }
+    {
+        if node == 0 {
+            return (0, None);
+        }
+        match self.nodes.get_index(node as usize - 1) {
+            Some(node) => *node,
+            None => (0, None),
+        }
+    }
+
+    /// How the stacks of two nodes compare; the last node's stands for those of all numbers above it.
+    pub(crate) fn compare(&self, a: u32, b: u32) -> Ordering
+        requires { IsTree self.now }
+        ensures { result ≡ node_cmp self.now.nodes.keys a b }
+    {
+        let last = self.nodes.len() as u32;
+        let (mut x, mut y) = (a.min(last), b.min(last));
+        let (mut below_x, mut below_y) = (0, 0);
+        while x != y {
+            if x > y {
+                below_x = x;
+                x = self.caller(x);
+            } else {
+                below_y = y;
+                y = self.caller(y);
+            }
+        }
+        self.called(below_x).cmp(&self.called(below_y))
+    }
+
+    /// The function of a node, if it is one.
+    fn called(&self, node: u32) -> Option<Option<u32>>
+        ensures { result ≡ called_of self.now.nodes.keys node }
+    {
+        if node == 0 {
+            return None;
+        }
+        Some(self.function(node))
+    }
+
+    /// The nodes whose stacks samples have, by their numbers.
+    fn sampled(&self, alloc: Global) -> Result<Vec<u32>, AllocError>
+        requires { length self.now.counts.items ≤ 2 ^ 32 }
+        ensures { IfOk result (λ numbers. numbers.items ≡ numbers_from 0 self.now.counts.items) }
+    {
+        let mut numbers = Vec::new(alloc);
+        for n in 0..self.counts.len() {
+            if self.counts[n] > 0 {
+                numbers.push(n as u32)?;
+            }
+        }
+        Ok(numbers)
+    }
+
+    /// The nodes whose stacks samples have, in the order of these.
+    pub(crate) fn in_order(&self, alloc: Global) -> Result<Vec<u32>, AllocError>
+        requires { IsTree self.now }
+        ensures { IfOk result (λ order. IsInOrder self.now order.items) }
+    {
+        let mut numbers = self.sampled(alloc)?;
+        numbers.sort_unstable_by(|a, b| self.compare(*a, *b));
+        Ok(numbers)
+    }
+}
