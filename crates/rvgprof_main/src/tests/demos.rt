@@ -358,10 +358,10 @@ const PRINTS_LINE: &str =
 fn each_failing_call_of_a_profile_has_its_answer_byte_by_byte(rt: HostRuntime) -> Result<(), Fail> {
     let program = elf(rt.alloc(), &PRINTS)?;
 
-    // One call opens the program, and one reads each of its bytes. From the last one of these on.
-    let last_read = program.len() as u64;
+    // The bytes of the program and its end, its prints, the file of nine counters, the reports, the last line.
     let kinds = [
-        (2, HostCall::Read),
+        (1, HostCall::OpenInput),
+        (program.len().saturating_add(1), HostCall::Read),
         (4, HostCall::Out),
         (4, HostCall::ErrOut),
         (1, HostCall::CreateOutput),
@@ -370,7 +370,7 @@ fn each_failing_call_of_a_profile_has_its_answer_byte_by_byte(rt: HostRuntime) -
         (EMPTY.len(), HostCall::Out),
         (PRINTS_LINE.len(), HostCall::ErrOut),
     ];
-    fail_in_turn(&rt, rt.alloc(), &PRINTS, 1, (last_read, &kinds))?;
+    fail_in_turn(&rt, rt.alloc(), &PRINTS, 1, (0, &kinds))?;
     Ok(())
 }
 
@@ -383,10 +383,10 @@ fn each_failing_call_of_a_profile_without_complaints_has_its_answer_byte_by_byte
 ) -> Result<(), Fail> {
     let program = elf(rt.alloc(), &TELLS)?;
 
-    // The bytes of the program and its end, its print, the file of seven counters, the reports, the last line.
+    // One call opens the program, and one reads each of its bytes. From the last one of these on.
+    let last_read = program.len() as u64;
     let kinds = [
-        (1, HostCall::OpenInput),
-        (program.len().saturating_add(1), HostCall::Read),
+        (2, HostCall::Read),
         (4, HostCall::Out),
         (1, HostCall::CreateOutput),
         (32 + 2 * 7, HostCall::Write),
@@ -394,7 +394,7 @@ fn each_failing_call_of_a_profile_without_complaints_has_its_answer_byte_by_byte
         (EMPTY.len(), HostCall::Out),
         (TELLS_LINE.len(), HostCall::ErrOut),
     ];
-    fail_in_turn(&rt, rt.alloc(), &TELLS, 1, (0, &kinds))?;
+    fail_in_turn(&rt, rt.alloc(), &TELLS, 1, (last_read, &kinds))?;
     Ok(())
 }
 
