@@ -1,6 +1,6 @@
 //! That equality and copies of arcs say what they seem to: each is pinned by a clause.
 
-ghost use Rattle.std.specs.Prelude.{◌≡◌, ◌↔◌, IsTrue, IfOk};
+ghost use Rattle.std.specs.Prelude.{◌≡◌, ◌↔◌, IsTrue, Ok};
 
 use crate::graphs::FunArc;
 use std::alloc::AllocError;
@@ -14,7 +14,7 @@ pub fn same_arcs(a: &FunArc, b: &FunArc) -> bool
 
 /// The same arc.
 pub fn copied_arcs(a: &FunArc) -> Result<FunArc, AllocError>
-    ensures { IfOk result (λ b. b ≡ a.now) }
+    ensures { result ≡ Ok a.now }
 {
     a.clone()
 }

@@ -1,6 +1,6 @@
 //! That equality and copies of segments and refusals say what they seem to: each is pinned by a clause.
 
-ghost use Rattle.std.specs.Prelude.{◌≡◌, ◌↔◌, IsTrue, IfOk};
+ghost use Rattle.std.specs.Prelude.{◌≡◌, ◌↔◌, IsTrue, Ok};
 
 use crate::image::Segment;
 use crate::refusal::ElfRefusal;
@@ -15,7 +15,7 @@ pub fn same_segments(a: &Segment, b: &Segment) -> bool
 
 /// The same segment.
 pub fn copied_segments(a: &Segment) -> Result<Segment, AllocError>
-    ensures { IfOk result (λ b. b ≡ a.now) }
+    ensures { result ≡ Ok a.now }
 {
     a.clone()
 }
@@ -29,7 +29,7 @@ pub fn same_refusals(a: &ElfRefusal, b: &ElfRefusal) -> bool
 
 /// The same refusal.
 pub fn copied_refusals(a: &ElfRefusal) -> Result<ElfRefusal, AllocError>
-    ensures { IfOk result (λ b. b ≡ a.now) }
+    ensures { result ≡ Ok a.now }
 {
     a.clone()
 }

@@ -1,6 +1,6 @@
 //! That equality and copies of refusals say what they seem to: each is pinned by a clause.
 
-ghost use Rattle.std.specs.Prelude.{◌≡◌, ◌↔◌, IsTrue, IfOk};
+ghost use Rattle.std.specs.Prelude.{◌≡◌, ◌↔◌, IsTrue, Ok};
 
 use crate::refusal::FoldRefusal;
 use std::alloc::AllocError;
@@ -14,7 +14,7 @@ pub fn same_refusals(a: &FoldRefusal, b: &FoldRefusal) -> bool
 
 /// The same refusal.
 pub fn copied_refusals(a: &FoldRefusal) -> Result<FoldRefusal, AllocError>
-    ensures { IfOk result (λ b. b ≡ a.now) }
+    ensures { result ≡ Ok a.now }
 {
     a.clone()
 }

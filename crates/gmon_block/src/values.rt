@@ -1,6 +1,6 @@
 //! That equality and copies of entries say what they seem to: each is pinned by a clause.
 
-ghost use Rattle.std.specs.Prelude.{◌≡◌, ◌↔◌, IsTrue, IfOk};
+ghost use Rattle.std.specs.Prelude.{◌≡◌, ◌↔◌, IsTrue, Ok};
 
 use crate::entry::Tos;
 use std::alloc::AllocError;
@@ -14,7 +14,7 @@ pub fn same_entries(a: &Tos, b: &Tos) -> bool
 
 /// The same entry.
 pub fn copied_entries(a: &Tos) -> Result<Tos, AllocError>
-    ensures { IfOk result (λ b. b ≡ a.now) }
+    ensures { result ≡ Ok a.now }
 {
     a.clone()
 }

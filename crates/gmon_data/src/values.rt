@@ -1,6 +1,6 @@
 //! That equality and copies of ranges and refusals say what they seem to: each is pinned by a clause.
 
-ghost use Rattle.std.specs.Prelude.{◌≡◌, ◌↔◌, IsTrue, IfOk};
+ghost use Rattle.std.specs.Prelude.{◌≡◌, ◌↔◌, IsTrue, Ok};
 
 use crate::hist::HistRange;
 use crate::refusal::{AddRefusal, ReadRefusal, Unlike};
@@ -15,7 +15,7 @@ pub fn same_ranges(a: &HistRange, b: &HistRange) -> bool
 
 /// The same range.
 pub fn copied_ranges(a: &HistRange) -> Result<HistRange, AllocError>
-    ensures { IfOk result (λ b. b ≡ a.now) }
+    ensures { result ≡ Ok a.now }
 {
     a.clone()
 }
@@ -29,7 +29,7 @@ pub fn same_conflicts(a: &Unlike, b: &Unlike) -> bool
 
 /// The same conflict.
 pub fn copied_conflicts(a: &Unlike) -> Result<Unlike, AllocError>
-    ensures { IfOk result (λ b. b ≡ a.now) }
+    ensures { result ≡ Ok a.now }
 {
     a.clone()
 }
@@ -43,7 +43,7 @@ pub fn same_refusals(a: &AddRefusal, b: &AddRefusal) -> bool
 
 /// The same refusal.
 pub fn copied_refusals(a: &AddRefusal) -> Result<AddRefusal, AllocError>
-    ensures { IfOk result (λ b. b ≡ a.now) }
+    ensures { result ≡ Ok a.now }
 {
     a.clone()
 }
@@ -57,7 +57,7 @@ pub fn same_read_refusals(a: &ReadRefusal, b: &ReadRefusal) -> bool
 
 /// The same refusal of a file and a profile.
 pub fn copied_read_refusals(a: &ReadRefusal) -> Result<ReadRefusal, AllocError>
-    ensures { IfOk result (λ b. b ≡ a.now) }
+    ensures { result ≡ Ok a.now }
 {
     a.clone()
 }

@@ -1,6 +1,6 @@
 //! Why a profile file was refused.
 
-ghost use Rattle.std.specs.Prelude.{◌≡◌, ◌↔◌, IsTrue, IfOk};
+ghost use Rattle.std.specs.Prelude.{◌≡◌, ◌↔◌, IsTrue, Ok};
 ghost use Rattle.gp_base.specs.declared.refusal.GmonRefusal.TheVariants.{OutOfMemory};
 
 use std::alloc::{AllocError, AllocFailed};
@@ -33,7 +33,7 @@ pub fn is_same(a: &GmonRefusal, b: &GmonRefusal) -> bool
 
 /// The same refusal.
 pub fn copied(a: &GmonRefusal) -> Result<GmonRefusal, AllocError>
-    ensures { IfOk result (λ b. b ≡ a.now) }
+    ensures { result ≡ Ok a.now }
 {
     a.clone()
 }

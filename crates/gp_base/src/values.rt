@@ -1,6 +1,6 @@
 //! That equality and copies of the values of records say what they seem to: each is pinned by a clause.
 
-ghost use Rattle.std.specs.Prelude.{◌≡◌, ◌↔◌, IsTrue, IfOk};
+ghost use Rattle.std.specs.Prelude.{◌≡◌, ◌↔◌, IsTrue, Ok};
 
 use crate::records::{Form, RawArc, RawBlock, Span, Unit};
 use std::alloc::AllocError;
@@ -14,7 +14,7 @@ pub fn same_spans(a: &Span, b: &Span) -> bool
 
 /// The same range.
 pub fn copied_spans(a: &Span) -> Result<Span, AllocError>
-    ensures { IfOk result (λ b. b ≡ a.now) }
+    ensures { result ≡ Ok a.now }
 {
     a.clone()
 }
@@ -28,7 +28,7 @@ pub fn same_arcs(a: &RawArc, b: &RawArc) -> bool
 
 /// The same arc.
 pub fn copied_arcs(a: &RawArc) -> Result<RawArc, AllocError>
-    ensures { IfOk result (λ b. b ≡ a.now) }
+    ensures { result ≡ Ok a.now }
 {
     a.clone()
 }
@@ -42,7 +42,7 @@ pub fn same_blocks(a: &RawBlock, b: &RawBlock) -> bool
 
 /// The same block count.
 pub fn copied_blocks(a: &RawBlock) -> Result<RawBlock, AllocError>
-    ensures { IfOk result (λ b. b ≡ a.now) }
+    ensures { result ≡ Ok a.now }
 {
     a.clone()
 }
@@ -56,7 +56,7 @@ pub fn same_units(a: &Unit, b: &Unit) -> bool
 
 /// The same unit.
 pub fn copied_units(a: &Unit) -> Result<Unit, AllocError>
-    ensures { IfOk result (λ b. b ≡ a.now) }
+    ensures { result ≡ Ok a.now }
 {
     a.clone()
 }
@@ -70,7 +70,7 @@ pub fn same_forms(a: &Form, b: &Form) -> bool
 
 /// The same form.
 pub fn copied_forms(a: &Form) -> Result<Form, AllocError>
-    ensures { IfOk result (λ b. b ≡ a.now) }
+    ensures { result ≡ Ok a.now }
 {
     a.clone()
 }

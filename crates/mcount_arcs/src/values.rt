@@ -1,6 +1,6 @@
 //! That equality and copies of the values that are told say what they seem to: each is pinned by a clause.
 
-ghost use Rattle.std.specs.Prelude.{◌≡◌, ◌↔◌, IsTrue, IfOk};
+ghost use Rattle.std.specs.Prelude.{◌≡◌, ◌↔◌, IsTrue, Ok};
 
 use crate::sizes::Sizes;
 use crate::state::State;
@@ -16,7 +16,7 @@ pub fn same_sizes(a: &Sizes, b: &Sizes) -> bool
 
 /// The same sizes.
 pub fn copied_sizes(a: &Sizes) -> Result<Sizes, AllocError>
-    ensures { IfOk result (λ b. b ≡ a.now) }
+    ensures { result ≡ Ok a.now }
 {
     a.clone()
 }
@@ -30,7 +30,7 @@ pub fn same_states(a: &State, b: &State) -> bool
 
 /// The same state.
 pub fn copied_states(a: &State) -> Result<State, AllocError>
-    ensures { IfOk result (λ b. b ≡ a.now) }
+    ensures { result ≡ Ok a.now }
 {
     a.clone()
 }

@@ -1,6 +1,6 @@
 //! Why two profiles have no sum.
 
-ghost use Rattle.std.specs.Prelude.{◌≡◌, ◌↔◌, IsTrue, IfOk};
+ghost use Rattle.std.specs.Prelude.{◌≡◌, ◌↔◌, IsTrue, Ok};
 ghost use Rattle.profile_sum.specs.declared.refusal.SumRefusal.TheVariants.{OutOfMemory};
 ghost use Rattle.profile_sum.specs.Sum.{sum_refusal};
 
@@ -24,7 +24,7 @@ pub fn is_same(a: &SumRefusal, b: &SumRefusal) -> bool
 
 /// The same refusal.
 pub fn copied(a: &SumRefusal) -> Result<SumRefusal, AllocError>
-    ensures { IfOk result (λ b. b ≡ a.now) }
+    ensures { result ≡ Ok a.now }
 {
     a.clone()
 }

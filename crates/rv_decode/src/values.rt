@@ -1,6 +1,6 @@
 //! That equality and copies of operations and instructions say what they seem to: each is pinned by a clause.
 
-ghost use Rattle.std.specs.Prelude.{◌≡◌, ◌↔◌, IsTrue, IfOk};
+ghost use Rattle.std.specs.Prelude.{◌≡◌, ◌↔◌, IsTrue, Ok};
 
 use crate::instruction::{Instr, Op};
 use std::alloc::AllocError;
@@ -14,7 +14,7 @@ pub fn same_ops(a: &Op, b: &Op) -> bool
 
 /// The same operation.
 pub fn copied_ops(a: &Op) -> Result<Op, AllocError>
-    ensures { IfOk result (λ b. b ≡ a.now) }
+    ensures { result ≡ Ok a.now }
 {
     a.clone()
 }
@@ -28,7 +28,7 @@ pub fn same_instrs(a: &Instr, b: &Instr) -> bool
 
 /// The same instruction.
 pub fn copied_instrs(a: &Instr) -> Result<Instr, AllocError>
-    ensures { IfOk result (λ b. b ≡ a.now) }
+    ensures { result ≡ Ok a.now }
 {
     a.clone()
 }

@@ -1,6 +1,6 @@
 //! That equality and copies of answers say what they seem to: each is pinned by a clause.
 
-ghost use Rattle.std.specs.Prelude.{◌≡◌, ◌↔◌, IsTrue, IfOk};
+ghost use Rattle.std.specs.Prelude.{◌≡◌, ◌↔◌, IsTrue, Ok};
 
 use crate::outcome::Done;
 use std::alloc::AllocError;
@@ -14,7 +14,7 @@ pub fn same_answers(a: &Done, b: &Done) -> bool
 
 /// The same answer.
 pub fn copied_answers(a: &Done) -> Result<Done, AllocError>
-    ensures { IfOk result (λ b. b ≡ a.now) }
+    ensures { result ≡ Ok a.now }
 {
     a.clone()
 }
