@@ -84,9 +84,9 @@ may_count Gnu blocks = true
 
 -- a run has two files, the program and the profile that is written, and perhaps a third for the runtime's memory
 abbrev pub run_from : Option (List ℕ) → Option Bool → Option (Option ℕ) → Option Setup → Option Command
-run_from (Some (command ∷ elf ∷ gmon ∷ [])) (Some gnu) (Some image) (Some setup) =
-    if may_count (form_asked gnu) setup.blocks then Some (Run elf gmon (form_asked gnu) image setup) else None
-run_from operands gnu image setup = None
+run_from (Some (command ∷ elf ∷ gmon ∷ [])) (Some gnu) (Some memory) (Some setup) =
+    if may_count (form_asked gnu) setup.blocks then Some (Run elf gmon (form_asked gnu) memory setup) else None
+run_from operands gnu memory setup = None
 
 abbrev pub run_of : List (List ℕ) → List Item → Option Command
 run_of words items = run_from (Some (operand_places items)) (is_given keys.Gnu items) (place_given keys.Image items) (setup_of words items)
@@ -151,7 +151,7 @@ annotate_reading words = option_and_then annotate_of (items_from NoOptions 0 wor
 
 -- a profile is a run and a report of it
 abbrev pub profile_from : Option Command → Option Selection → Option Command
-profile_from (Some (Run elf gmon form image setup)) (Some selection) = Some (Profile elf gmon form image setup selection)
+profile_from (Some (Run elf gmon form memory setup)) (Some selection) = Some (Profile elf gmon form memory setup selection)
 profile_from command selection = None
 
 abbrev pub profile_said : List (List ℕ) → List Item → Option Command
@@ -230,10 +230,10 @@ IsRunSetup form setup = IsSetup setup × (may_count form setup.blocks ≡ true)
 abbrev pub IsCommandOf : List (List ℕ) → Command → Type 0
 IsCommandOf words (Show gmon) = ⊤
 IsCommandOf words (Syms elf) = ⊤
-IsCommandOf words (Run elf gmon form image setup) = IsRunSetup form setup
+IsCommandOf words (Run elf gmon form memory setup) = IsRunSetup form setup
 IsCommandOf words (Sum out gmons) = AreRising gmons
 IsCommandOf words (Report elf gmons selection) = AreRising (elf ∷ gmons) × AreCuts words selection
-IsCommandOf words (Profile elf gmon form image setup selection) = IsRunSetup form setup × AreCuts words selection
+IsCommandOf words (Profile elf gmon form memory setup selection) = IsRunSetup form setup × AreCuts words selection
 IsCommandOf words (Demo functions elf setup) = (1 ≤ functions) × (functions ≤ 2000) × IsSetup setup
 IsCommandOf words (Annotate elf gmons) = AreRising (elf ∷ gmons)
 IsCommandOf words (Folded elf inclusive setup) = IsSetup setup

@@ -7,9 +7,10 @@ pub mod names;
 mod numbers;
 mod options;
 pub mod places;
+pub mod values;
 pub mod words;
 
-pub use names::{name_at, names_at};
+pub use names::Words;
 pub use places::Places;
 pub use words::{Command, Selection, Shown, read_command};
 

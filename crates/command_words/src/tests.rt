@@ -28,13 +28,13 @@ const PLAIN: Setup = Setup {
 /// The program, the profile and its form, the file for the runtime's memory, and the numbers of a run.
 type Said = (u32, u32, Form, Option<u32>, Setup);
 
-fn run(elf: u32, gmon: u32, image: Option<u32>, setup: Setup) -> Option<Said> {
-    Some((elf, gmon, Form::Bsd, image, setup))
+fn run(elf: u32, gmon: u32, memory: Option<u32>, setup: Setup) -> Option<Said> {
+    Some((elf, gmon, Form::Bsd, memory, setup))
 }
 
 /// The same in the GNU form.
-fn gnu_run(elf: u32, gmon: u32, image: Option<u32>, setup: Setup) -> Option<Said> {
-    Some((elf, gmon, Form::Gnu, image, setup))
+fn gnu_run(elf: u32, gmon: u32, memory: Option<u32>, setup: Setup) -> Option<Said> {
+    Some((elf, gmon, Form::Gnu, memory, setup))
 }
 
 /// The run that words say.
@@ -44,9 +44,9 @@ fn run_said(words: &[String]) -> Option<Said> {
             elf,
             gmon,
             form,
-            image,
+            memory,
             setup,
-        } => Some((elf, gmon, form, image, setup)),
+        } => Some((elf, gmon, form, memory, setup)),
         _ => None,
     }
 }
@@ -261,8 +261,8 @@ fn no_long_line_has_a_reading(rt: HostRuntime) -> Result<(), Fail> {
     let alloc = rt.alloc();
     let mut words = words_of(alloc, &["show", "g"])?;
     assert!(rt; matches!(read_command(&words), Some(Command::Show { gmon: 1 })));
-    assert_eq!(rt; name_at(&words, 1), "g");
-    assert_eq!(rt; name_at(&words, 2), "");
+    assert_eq!(rt; Words::new(&words).name(1), "g");
+    assert_eq!(rt; Words::new(&words).name(2), "");
     for _ in 0..100_000 {
         words.push(String::from_str(alloc, "g")?)?;
     }

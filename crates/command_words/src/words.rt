@@ -28,13 +28,13 @@ pub enum Command {
     Syms {
         elf: u32,
     },
-    /// Run a program, and write its profile in a form, and the memory of its runtime to `image` where that
+    /// Run a program, and write its profile in a form, and the memory of its runtime to `memory` where that
     /// is given.
     Run {
         elf: u32,
         gmon: u32,
         form: Form,
-        image: Option<u32>,
+        memory: Option<u32>,
         setup: Setup,
     },
     /// Add up profile files, and write their sum to `out`.
@@ -53,7 +53,7 @@ pub enum Command {
         elf: u32,
         gmon: u32,
         form: Form,
-        image: Option<u32>,
+        memory: Option<u32>,
         setup: Setup,
         selection: Selection,
     },
@@ -388,7 +388,7 @@ fn profile_from(run: Option<Command>, selection: Option<Selection>) -> Option<Co
                 elf,
                 gmon,
                 form,
-                image,
+                memory,
                 setup,
             },
         ),
@@ -401,7 +401,7 @@ fn profile_from(run: Option<Command>, selection: Option<Selection>) -> Option<Co
         elf,
         gmon,
         form,
-        image,
+        memory,
         setup,
         selection,
     })
@@ -515,12 +515,13 @@ fn read_run(set: OptionSet, words: &[String]) -> Option<Command>
 fn run_from(
     operands: Option<Places>,
     gnu: Option<bool>,
-    image: Option<Option<u32>>,
+    memory: Option<Option<u32>>,
     setup: Option<Setup>,
 ) -> Option<Command>
-    ensures { result ≡ run_from operands gnu image setup }
+    ensures { result ≡ run_from operands gnu memory setup }
 {
-    let (Some(operands), Some(gnu), Some(image), Some(setup)) = (operands, gnu, image, setup) else {
+    let (Some(operands), Some(gnu), Some(memory), Some(setup)) = (operands, gnu, memory, setup)
+    else {
         return None;
     };
     let [_, elf, gmon] = operands.as_slice() else {
@@ -534,7 +535,7 @@ fn run_from(
         elf: *elf,
         gmon: *gmon,
         form,
-        image,
+        memory,
         setup,
     })
 }

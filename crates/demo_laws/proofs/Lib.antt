@@ -8,3 +8,4 @@ pub mod FileLemmas
 pub mod Accepting
 pub mod ImageLemmas
 pub mod DemoLemmas
+pub mod WitnessLemmas

@@ -2,6 +2,7 @@
 
 ghost use Rattle.demo_laws.specs.Programs.{ProgramsAreReadBack};
 ghost use Rattle.demo_laws.specs.Laws.{DemoHasImage, DemoHasSymbols, DemoIsAccepted, DemoStarts};
+ghost use Rattle.demo_laws.specs.Witness.{WitnessHasImage, WitnessIsAccepted, WitnessStarts};
 
 /// The file of each program is accepted, and its image is what it was made from.
 pub fn programs_are_read_back()
@@ -22,4 +23,11 @@ pub fn demo_has_image()
 /// A run of it starts, with any memory that a run can be given: 4 to 256 MiB.
 pub fn demo_starts()
     ensures { DemoStarts }
+{}
+
+/// A file that is written out in full is accepted, has its image, and a run of it starts.
+pub fn witness_is_accepted()
+    ensures accepted { WitnessIsAccepted }
+    ensures image { WitnessHasImage }
+    ensures starts { WitnessStarts }
 {}

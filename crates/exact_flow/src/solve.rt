@@ -28,7 +28,8 @@ use symbol_shares::Shares;
 fn calls(graph: &Graph, i: usize) -> Frac
     requires arc { i < arc_count graph.now }
     requires outside { is_outside graph.now i ≡ true }
-    ensures { value_of result ≡ lowest (arc_at graph.now i).count (entering_of graph.now (target_of graph.now i)) }
+    ensures { value_of result ≡ lowest (arc_at graph.now i).count
+        (entering_of graph.now (target_of graph.now i)) }
 {
     let arc = graph.arc(i);
     let all = graph.entering(graph.component(arc.callee));
@@ -42,9 +43,12 @@ fn step(graph: &Graph, flow: &ExactFlow, i: usize) -> Option<Handed>
     requires outside { is_outside graph.now i ≡ true }
     requires selves { length flow.now.self ≡ component_count graph.now }
     requires children { length flow.now.child ≡ component_count graph.now }
-    ensures arc_self { IfSome result (λ h. value_of h.arc_self ≡ self_part (step_in graph.now flow.now i)) }
-    ensures arc_child { IfSome result (λ h. value_of h.arc_child ≡ child_part (step_in graph.now flow.now i)) }
-    ensures after { IfSome result (λ h. value_of h.after ≡ with_both (step_in graph.now flow.now i)) }
+    ensures arc_self { IfSome result (λ h. value_of h.arc_self
+        ≡ self_part (step_in graph.now flow.now i)) }
+    ensures arc_child { IfSome result (λ h. value_of h.arc_child
+        ≡ child_part (step_in graph.now flow.now i)) }
+    ensures after { IfSome result (λ h. value_of h.after
+        ≡ with_both (step_in graph.now flow.now i)) }
     ensures fits { IsSome result ↔ FitsStep (step_in graph.now flow.now i) }
 {
     let arc = graph.arc(i);
@@ -63,7 +67,8 @@ fn put(flow: &mut ExactFlow, c: u32, i: usize, handed: &Handed)
     requires child { c < length flow.old.child }
     requires arc_self { i < length flow.old.arc_self }
     requires arc_child { i < length flow.old.arc_child }
-    ensures { flow.new ≡ put_at flow.old c i (value_of handed.now.arc_self) (value_of handed.now.arc_child) (value_of handed.now.after) }
+    ensures { flow.new ≡ put_at flow.old c i (value_of handed.now.arc_self)
+        (value_of handed.now.arc_child) (value_of handed.now.after) }
 {
     flow.arc_selves[i] = handed.arc_self;
     flow.arc_children[i] = handed.arc_child;
@@ -109,8 +114,10 @@ fn solve(graph: &Graph, shares: &Shares, flow: ExactFlow) -> Result<ExactFlow, E
     requires none { (c : ℕ) → time_at flow.child c ≡ fraction 0 1 }
     ensures sized { IfOk result (HasTimes graph.now) }
     ensures value { IfOk result (λ e. e ≡ exact_flow_in graph.now shares.now.of) }
-    ensures times { IfOk result (λ e. (x : ExactTimes) → IsExactFlow graph.now shares.now.of x → e ≡ flow_of_times graph.now shares.now.of x) }
-    ensures whole { IfOk result (λ e. (x : ExactTimes) → IsExactFlow graph.now shares.now.of x → exact_time_of_roots graph.now shares.now.of x ≡ x.grain * attributed_of shares.now) }
+    ensures times { IfOk result (λ e. (x : ExactTimes) → IsExactFlow graph.now shares.now.of x
+        → e ≡ flow_of_times graph.now shares.now.of x) }
+    ensures whole { IfOk result (λ e. (x : ExactTimes) → IsExactFlow graph.now shares.now.of x
+        → exact_time_of_roots graph.now shares.now.of x ≡ x.grain * attributed_of shares.now) }
     ensures fits { IfOk result (λ e. first_wide graph.now shares.now.of ≡ None) }
     ensures wide { IfErr result (IsTooWide graph.now shares.now.of) }
 {
@@ -136,8 +143,10 @@ pub fn exact(alloc: Global, graph: &Graph, shares: &Shares) -> Result<ExactFlow,
     ensures sized { IfOk result (HasTimes graph.now) }
     ensures solved { IsExactFlow graph.now shares.now.of (exact_in graph.now shares.now.of) }
     ensures value { IfOk result (λ e. e ≡ exact_flow_in graph.now shares.now.of) }
-    ensures times { IfOk result (λ e. (x : ExactTimes) → IsExactFlow graph.now shares.now.of x → e ≡ flow_of_times graph.now shares.now.of x) }
-    ensures whole { IfOk result (λ e. (x : ExactTimes) → IsExactFlow graph.now shares.now.of x → exact_time_of_roots graph.now shares.now.of x ≡ x.grain * attributed_of shares.now) }
+    ensures times { IfOk result (λ e. (x : ExactTimes) → IsExactFlow graph.now shares.now.of x
+        → e ≡ flow_of_times graph.now shares.now.of x) }
+    ensures whole { IfOk result (λ e. (x : ExactTimes) → IsExactFlow graph.now shares.now.of x
+        → exact_time_of_roots graph.now shares.now.of x ≡ x.grain * attributed_of shares.now) }
     ensures fits { IfOk result (λ e. first_wide graph.now shares.now.of ≡ None) }
     ensures wide { IfErr result (IsWideAnswer graph.now shares.now.of) }
 {

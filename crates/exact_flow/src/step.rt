@@ -40,7 +40,8 @@ pub(crate) fn whole(n: u128) -> Frac
 /// The arc's parts of both times, and their sum with what came before; `None` where one of them does not fit.
 pub(crate) fn hand_on(given: &Given) -> Option<Handed>
     ensures arc_self { IfSome result (λ h. value_of h.arc_self ≡ self_part (numbers_of given.now)) }
-    ensures arc_child { IfSome result (λ h. value_of h.arc_child ≡ child_part (numbers_of given.now)) }
+    ensures arc_child { IfSome result (λ h. value_of h.arc_child
+        ≡ child_part (numbers_of given.now)) }
     ensures after { IfSome result (λ h. value_of h.after ≡ with_both (numbers_of given.now)) }
     ensures fits { IsSome result ↔ FitsStep (numbers_of given.now) }
 {

@@ -20,18 +20,24 @@ pub fn functions_in_order()
 /// The time up to the last line, this one included, is that of all functions: none that has a share is
 /// left out.
 pub fn time_up_to_the_last_line()
-    ensures { (s : AnySources) → length s.shares.of ≡ s.graph.functions → cumulative_of (flat_entries s) (length (flat_entries s)) ≡ attributed_of s.shares }
+    ensures { (s : AnySources) → length s.shares.of ≡ s.graph.functions
+        → cumulative_of (flat_entries s) (length (flat_entries s)) ≡ attributed_of s.shares }
 {}
 
 /// The lines have all calls together: each call is counted once, where its callee is.
 pub fn calls_of_all_lines()
-    ensures { (s : AnySources) → IsGraph s.graph → sum_by (λ e. e.calls) (flat_entries s) ≡ all_calls s.graph }
+    ensures { (s : AnySources) → IsGraph s.graph
+        → sum_by (λ e. e.calls) (flat_entries s) ≡ all_calls s.graph }
 {}
 
 /// The profile is its header and its lines. With hidden names it is the same less the lines of the functions
 /// that have them: the other lines, with their cumulative times, stay as they are.
 pub fn lines_that_are_shown()
-    ensures whole { (s : AnySources) → flat_text s [] ≡ flat_header s.shares s.rate ++ flat_map (line_at (attributed_of s.shares) s.rate (flat_entries s)) (enumerate_from 0 (flat_entries s)) }
-    ensures less { (s : AnySources) (hidden : List (List ℕ)) → flat_text s hidden ≡ flat_header s.shares s.rate
+    ensures whole { (s : AnySources) → flat_text s []
+        ≡ flat_header s.shares s.rate
+        ++ flat_map (line_at (attributed_of s.shares) s.rate (flat_entries s))
+        (enumerate_from 0 (flat_entries s)) }
+    ensures less { (s : AnySources) (hidden : List (List ℕ))
+        → flat_text s hidden ≡ flat_header s.shares s.rate
         ++ flat_map (line_at (attributed_of s.shares) s.rate (flat_entries s)) (filter (λ e. not (is_hidden hidden e.1.name)) (enumerate_from 0 (flat_entries s))) }
 {}

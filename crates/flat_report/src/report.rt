@@ -60,7 +60,15 @@ pub fn write<H: Host>(
     requires flow { IsFlow graph.now shares.now.of flow.now }
     requires few { all_calls graph.now < 2 ^ 59 }
     requires rate { 1 ≤ rate }
-    ensures printed { Reports (flat_text (record { symbols = symbols.now; graph = graph.now; flow = flow.now; shares = shares.now; rate = rate }) (map string_bytes hidden.now)) (H.outside host.old) (H.outside host.new) result }
+    ensures printed { Reports (flat_text
+        (record {
+          symbols = symbols.now;
+          graph = graph.now;
+          flow = flow.now;
+          shares = shares.now;
+          rate = rate;
+        }) (map string_bytes hidden.now)) (H.outside host.old) (H.outside host.new)
+        result }
     ensures idle { result ≡ Err OutOfMemory → host.new ≡ host.old }
 {
     graph.holds();
@@ -83,9 +91,11 @@ fn print<H: Host>(
     host: &mut H,
 ) -> Result<(), Failed>
     requires fit { All (FitsIn (attributed_of sources.now.shares.now)) (entries_of_rows rows.now) }
-    requires sum { sum_by (λ e. e.share) (entries_of_rows rows.now) ≤ attributed_of sources.now.shares.now }
+    requires sum { sum_by (λ e. e.share) (entries_of_rows rows.now)
+        ≤ attributed_of sources.now.shares.now }
     requires rate { 1 ≤ sources.now.rate }
-    ensures { Puts Output (text_of (sources_of sources.now) (map string_bytes hidden.now) (entries_of_rows rows.now)) (H.outside host.old) (H.outside host.new) result }
+    ensures { Puts Output (text_of (sources_of sources.now) (map string_bytes hidden.now)
+        (entries_of_rows rows.now)) (H.outside host.old) (H.outside host.new) result }
 {
     let mut lines = PrintBuf::new();
     put_report(rows, sources, hidden, &mut lines, host)?;
@@ -100,9 +110,11 @@ fn put_report<H: Host>(
     host: &mut H,
 ) -> Result<(), Failed>
     requires fit { All (FitsIn (attributed_of sources.now.shares.now)) (entries_of_rows rows.now) }
-    requires sum { sum_by (λ e. e.share) (entries_of_rows rows.now) ≤ attributed_of sources.now.shares.now }
+    requires sum { sum_by (λ e. e.share) (entries_of_rows rows.now)
+        ≤ attributed_of sources.now.shares.now }
     requires rate { 1 ≤ sources.now.rate }
-    ensures { Adds Output (text_of (sources_of sources.now) (map string_bytes hidden.now) (entries_of_rows rows.now)) lines.old lines.new
+    ensures { Adds Output (text_of (sources_of sources.now) (map string_bytes hidden.now)
+        (entries_of_rows rows.now)) lines.old lines.new
         (H.outside host.old) (H.outside host.new) result }
 {
     let shares = sources.shares;
@@ -117,7 +129,8 @@ fn put_header<H: Host>(
     lines: &mut PrintBuf,
     host: &mut H,
 ) -> Result<(), Failed>
-    ensures { Adds Output (flat_header shares.now rate) lines.old lines.new (H.outside host.old) (H.outside host.new) result }
+    ensures { Adds Output (flat_header shares.now rate) lines.old lines.new (H.outside host.old)
+        (H.outside host.new) result }
 {
     lines.put(host, b"flat profile\n")?;
     lines.put(host, line::totals(shares, rate).bytes())?;
@@ -136,7 +149,8 @@ fn put_rows<H: Host>(
     requires sum { sum_by (λ e. e.share) (entries_of_rows rows.now) ≤ total }
     requires within { total < 2 ^ 65 }
     requires rate { 1 ≤ rate }
-    ensures { Adds Output (flat_lines total rate (map string_bytes hidden.now) (entries_of_rows rows.now)) lines.old lines.new
+    ensures { Adds Output (flat_lines total rate (map string_bytes hidden.now)
+        (entries_of_rows rows.now)) lines.old lines.new
         (H.outside host.old) (H.outside host.new) result }
 {
     let mut cumulative = 0;
@@ -161,7 +175,8 @@ fn put_row<H: Host>(
     requires rate { 1 ≤ rate }
     requires cumulative { cumulative ≤ total }
     requires fits { FitsIn total (entry_of_row row.now) }
-    ensures { Adds Output (shown_line (map string_bytes hidden.now) total rate cumulative (entry_of_row row.now)) lines.old lines.new
+    ensures { Adds Output (shown_line (map string_bytes hidden.now) total rate cumulative
+        (entry_of_row row.now)) lines.old lines.new
         (H.outside host.old) (H.outside host.new) result }
 {
     if is_hidden(hidden, row.symbol.name.as_slice()) {

@@ -30,7 +30,8 @@ pub(crate) struct Row<'a> {
 /// Which of two functions has its line first: that with the greater share, then that with more
 /// calls, then by the bytes of their names, then by their addresses.
 fn order(one: &Row<'_>, other: &Row<'_>) -> Ordering
-    ensures { result ≡ flat_entry_cmp (one.now.number, entry_of_row one.now) (other.now.number, entry_of_row other.now) }
+    ensures { result ≡ flat_entry_cmp (one.now.number, entry_of_row one.now)
+        (other.now.number, entry_of_row other.now) }
 {
     let by_share = other.share.cmp(&one.share);
     let by_numbers = by_share.then(other.calls.cmp(&one.calls));
@@ -53,7 +54,8 @@ fn is_shown(row: &Row<'_>) -> bool
 fn row_of<'a>(sources: &Sources<'a>, calls: &[u64], f: u32) -> Row<'a>
     requires of_one { AreOfOne (sources_of sources.now) }
     requires small { attributed_of sources.now.shares.now < 2 ^ 65 }
-    requires calls { calls.now ≡ list_of sources.now.graph.now.functions (calls_in_all sources.now.graph.now) }
+    requires calls { calls.now ≡ list_of sources.now.graph.now.functions
+        (calls_in_all sources.now.graph.now) }
     requires inside { f < sources.now.graph.now.functions }
     ensures function { IsRowOf (sources_of sources.now) result }
     ensures number { result.number ≡ f }
@@ -75,9 +77,11 @@ fn rows_with_lines<'a>(
     calls: &[u64],
 ) -> Result<Vec<Row<'a>>, AllocError>
     requires of_one { AreOfOne (sources_of sources.now) }
-    requires calls { calls.now ≡ list_of sources.now.graph.now.functions (calls_in_all sources.now.graph.now) }
+    requires calls { calls.now ≡ list_of sources.now.graph.now.functions
+        (calls_in_all sources.now.graph.now) }
     ensures rows { IfOk result (λ rows. All (IsRowOf (sources_of sources.now)) rows.items) }
-    ensures functions { IfOk result (λ rows. map (λ row. row.number) rows.items ≡ listed_functions (sources_of sources.now)) }
+    ensures functions { IfOk result (λ rows. map (λ row. row.number) rows.items
+        ≡ listed_functions (sources_of sources.now)) }
 {
     sources.shares.holds();
     let mut rows = Vec::new(alloc);
@@ -97,8 +101,10 @@ pub(crate) fn rows_in_order<'a>(
 ) -> Result<Vec<Row<'a>>, AllocError>
     requires of_one { AreOfOne (sources_of sources.now) }
     requires few { all_calls sources.now.graph.now < 2 ^ 59 }
-    ensures entries { IfOk result (λ rows. entries_of_rows rows.items ≡ flat_entries (sources_of sources.now)) }
-    ensures fit { IfOk result (λ rows. All (FitsIn (attributed_of sources.now.shares.now)) (entries_of_rows rows.items)) }
+    ensures entries { IfOk result (λ rows. entries_of_rows rows.items
+        ≡ flat_entries (sources_of sources.now)) }
+    ensures fit { IfOk result (λ rows. All (FitsIn (attributed_of sources.now.shares.now))
+        (entries_of_rows rows.items)) }
 {
     let calls = calls_of_functions(alloc, sources.graph)?;
     let mut rows = rows_with_lines(alloc, sources, &calls)?;

@@ -7,3 +7,4 @@ pub mod RunReadBack
 pub mod ProfileLemmas
 pub mod SizeLemmas
 pub mod WholeFile
+pub mod ViewLemmas

@@ -19,6 +19,7 @@ use Rattle.mcount_arcs.specs.Samples.{buckets_of}
 use Rattle.mcount_arcs.specs.Sizes.{AreSizes}
 use Rattle.mcount_arcs.specs.Value.{GmonValue, StandsFor}
 use Rattle.gp_base.specs.Fields.{seconds}
+use Rattle.gmon_cells.specs.RunRecords.{log_recs}
 use Rattle.gmon_bsd.specs.Profile.{IsOfRun, run_profile, runtime_records}
 use Rattle.gmon_bsd.proofs.RunReadBack.{run_read_back}
 
@@ -65,17 +66,22 @@ within_bounds n c few of = record {
   addresses = omega (arith, of.addresses);
 }
 
--- it is the profile that the run's file gives
-pub of_its_file : (v : GmonValue) (log : List LogEntry) (rate : ℕ) → AreSizes v.sizes → rate < 2 ^ 32 → All CallFits v.arcs → StandsFor log v
-    → content_of (runtime_records v rate) ≡ run_profile v.sizes log rate
-of_its_file v log rate sizes small fits stands =
+-- it is the profile of what was logged ..
+pub of_what_is_logged : (v : GmonValue) (log : List LogEntry) (rate : ℕ) → StandsFor log v
+    → content_of (runtime_records v rate) ≡ content_of (wide_records (log_recs v.sizes log rate))
+of_what_is_logged v log rate stands =
     let z = v.sizes in
     let hist : List ℕ → WideRec = λ counters. WideHist (record { low = z.low; high = z.high; counters = counters }) (seconds rate) in
-    let read = (run_read_back z log rate sizes small (subst (All CallFits) stands.arcs fits)).1 in
     ap (λ (counters : List ℕ). content_of (hist counters ∷ map wide_arc v.arcs)) stands.counters
     ∙ ap (λ (arcs : List RawArc). content_of (hist (buckets_of z log) ∷ map wide_arc arcs)) stands.arcs
     ∙ ap (λ (rs : List WideRec). content_of (hist (buckets_of z log) ∷ rs)) (sym (arcs_widened (arcs_of z log)))
-    ∙ ap (λ (r : Records). content_of (wide_records r.recs)) (sym read)
+
+-- .. which the run's file gives
+pub of_its_file : (v : GmonValue) (log : List LogEntry) (rate : ℕ) → AreSizes v.sizes → rate < 2 ^ 32 → All CallFits v.arcs → StandsFor log v
+    → content_of (runtime_records v rate) ≡ run_profile v.sizes log rate
+of_its_file v log rate sizes small fits stands =
+    let read = (run_read_back v.sizes log rate sizes small (subst (All CallFits) stands.arcs fits)).1 in
+    of_what_is_logged v log rate stands ∙ ap (λ (r : Records). content_of (wide_records r.recs)) (sym read)
 
 last_fit : (done rest : List RawArc) → All CallFits (done ++ rest) → All CallFits rest
 last_fit [] rest fits = fits

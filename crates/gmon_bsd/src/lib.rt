@@ -7,10 +7,12 @@ pub mod laws;
 pub mod profile;
 pub mod reader;
 pub mod reading;
+pub mod viewing;
 pub mod writing;
 
 pub use gp_base::GmonRefusal;
 pub use profile::run_profile;
 pub use reader::Reader;
-pub use reading::read;
+pub use reading::{fault, read};
+pub use viewing::RecordViews;
 pub use writing::write_run;

@@ -1,2 +1,4 @@
 pub mod Cells
 pub mod FileText
+pub mod RunRecords
+pub mod Views

@@ -67,7 +67,9 @@ impl<T> ChunkedList<T> {
     pub fn partition_point<P: FnMut(&T) -> bool>(&self, mut pred: P) -> usize
         requires { P.IsAlwaysCallable pred }
         ensures bound { result ≤ length self.now }
-        ensures partitioned { (p : T → Bool) → ComputesKey P.FnMut p pred → IsPartitionedBy p self.now → IsPartitionPoint (λ y. p y ≡ true) (λ y. p y ≡ false) self.now result }
+        ensures partitioned { (p : T → Bool) → ComputesKey P.FnMut p pred
+            → IsPartitionedBy p self.now
+            → IsPartitionPoint (λ y. p y ≡ true) (λ y. p y ≡ false) self.now result }
     {
         if self.len == 0 {
             return 0;
@@ -140,7 +142,8 @@ fn push<T: Drop>(
     requires chunked { IsChunked chunks.old.items starts.old.items len }
     requires fits { len + 1 < 2 ^ 64 }
     ensures chunked { OnOk result (IsChunked chunks.new.items starts.new.items (len + 1)) }
-    ensures added { OnOk result (items_of chunks.new.items ≡ items_of chunks.old.items ++ item ∷ []) }
+    ensures added { OnOk result (items_of chunks.new.items
+        ≡ items_of chunks.old.items ++ item ∷ []) }
     ensures still { OnErr result (IsChunked chunks.new.items starts.new.items len) }
     ensures unchanged { OnErr result (items_of chunks.new.items ≡ items_of chunks.old.items) }
 {
@@ -162,7 +165,8 @@ fn push_chunk<T: Drop>(
 ) -> Result<(), AllocError>
     requires { IsChunked chunks.old.items starts.old.items len }
     ensures chunked { OnOk result (IsChunked chunks.new.items starts.new.items (len + 1)) }
-    ensures added { OnOk result (items_of chunks.new.items ≡ items_of chunks.old.items ++ item ∷ []) }
+    ensures added { OnOk result (items_of chunks.new.items
+        ≡ items_of chunks.old.items ++ item ∷ []) }
     ensures still { OnErr result (IsChunked chunks.new.items starts.new.items len) }
     ensures unchanged { OnErr result (items_of chunks.new.items ≡ items_of chunks.old.items) }
 {
@@ -181,12 +185,16 @@ fn insert_before<T: Drop>(
     i: usize,
     item: T,
 ) -> Result<(), AllocError>
-    requires chunked { IsChunked chunks.old.items starts.old.items (length (items_of chunks.old.items)) }
+    requires chunked { IsChunked chunks.old.items starts.old.items
+        (length (items_of chunks.old.items)) }
     requires inside { i < length (items_of chunks.old.items) }
     requires fits { length (items_of chunks.old.items) + 1 < 2 ^ 64 }
-    ensures chunked { OnOk result (IsChunked chunks.new.items starts.new.items (length (items_of chunks.old.items) + 1)) }
-    ensures added { OnOk result (items_of chunks.new.items ≡ insert (items_of chunks.old.items) i item) }
-    ensures still { OnErr result (IsChunked chunks.new.items starts.new.items (length (items_of chunks.old.items))) }
+    ensures chunked { OnOk result (IsChunked chunks.new.items starts.new.items
+        (length (items_of chunks.old.items) + 1)) }
+    ensures added { OnOk result (items_of chunks.new.items
+        ≡ insert (items_of chunks.old.items) i item) }
+    ensures still { OnErr result (IsChunked chunks.new.items starts.new.items
+        (length (items_of chunks.old.items))) }
     ensures unchanged { OnErr result (items_of chunks.new.items ≡ items_of chunks.old.items) }
 {
     let c = chunk_of(starts.as_slice(), i);
@@ -201,13 +209,17 @@ fn insert_in_chunk<T: Drop>(
     i: usize,
     item: T,
 ) -> Result<(), AllocError>
-    requires chunked { IsChunked chunks.old.items starts.old.items (length (items_of chunks.old.items)) }
+    requires chunked { IsChunked chunks.old.items starts.old.items
+        (length (items_of chunks.old.items)) }
     requires inside { i < length (items_of chunks.old.items) }
     requires room { HasRoom chunks.old.items starts.old.items i }
     requires fits { length (items_of chunks.old.items) + 1 < 2 ^ 64 }
-    ensures chunked { OnOk result (IsChunked chunks.new.items starts.new.items (length (items_of chunks.old.items) + 1)) }
-    ensures added { OnOk result (items_of chunks.new.items ≡ insert (items_of chunks.old.items) i item) }
-    ensures still { OnErr result (IsChunked chunks.new.items starts.new.items (length (items_of chunks.old.items))) }
+    ensures chunked { OnOk result (IsChunked chunks.new.items starts.new.items
+        (length (items_of chunks.old.items) + 1)) }
+    ensures added { OnOk result (items_of chunks.new.items
+        ≡ insert (items_of chunks.old.items) i item) }
+    ensures still { OnErr result (IsChunked chunks.new.items starts.new.items
+        (length (items_of chunks.old.items))) }
     ensures unchanged { OnErr result (items_of chunks.new.items ≡ items_of chunks.old.items) }
 {
     let c = chunk_of(starts.as_slice(), i);
@@ -223,12 +235,15 @@ fn split_full<T: Drop>(
     starts: &mut Vec<usize>,
     c: usize,
 ) -> Result<(), AllocError>
-    requires chunked { IsChunked chunks.old.items starts.old.items (length (items_of chunks.old.items)) }
+    requires chunked { IsChunked chunks.old.items starts.old.items
+        (length (items_of chunks.old.items)) }
     requires inside { c < length chunks.old.items }
     requires fits { length (items_of chunks.old.items) < 2 ^ 64 }
-    ensures chunked { IsChunked chunks.new.items starts.new.items (length (items_of chunks.old.items)) }
+    ensures chunked { IsChunked chunks.new.items starts.new.items
+        (length (items_of chunks.old.items)) }
     ensures unchanged { items_of chunks.new.items ≡ items_of chunks.old.items }
-    ensures room { OnOk result ((i : ℕ) → IsChunkOf starts.old.items i c → HasRoom chunks.new.items starts.new.items i) }
+    ensures room { OnOk result ((i : ℕ) → IsChunkOf starts.old.items i c
+        → HasRoom chunks.new.items starts.new.items i) }
 {
     let len = chunks[c].len();
     if len < CHUNK {

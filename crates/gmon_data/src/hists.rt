@@ -17,7 +17,8 @@ pub(crate) fn count_ended(hists: &ChunkedList<Hist>, address: u32) -> usize
     requires kept { AllByRecursion IsKept hists.now }
     requires apart { IsApart hists.now }
     ensures inside { result ≤ length hists.now }
-    ensures point { IsPartitionPoint (λ h. nat_le h.high address ≡ true) (λ h. nat_le h.high address ≡ false) hists.now result }
+    ensures point { IsPartitionPoint (λ h. nat_le h.high address ≡ true)
+        (λ h. nat_le h.high address ≡ false) hists.now result }
 {
     hists.partition_point(|hist| hist.high <= address)
 }
@@ -26,7 +27,8 @@ pub(crate) fn count_ended(hists: &ChunkedList<Hist>, address: u32) -> usize
 /// first one that ends above the new low address can be: of those behind it none overlaps where it is the
 /// new range itself, and none where it lies above.
 fn find_range_conflict(hists: &ChunkedList<Hist>, new: HistRange) -> Option<Unlike>
-    requires counters { (i : ℕ) (k : AnyHist) → slice_get hists.now i ≡ Some k → length k.counters < 2 ^ 32 }
+    requires counters { (i : ℕ) (k : AnyHist) → slice_get hists.now i ≡ Some k
+        → length k.counters < 2 ^ 32 }
     requires kept { AllByRecursion IsKept hists.now }
     requires apart { IsApart hists.now }
     ensures { result ≡ range_conflict hists.now new }
@@ -77,7 +79,8 @@ pub(crate) fn conflict(
     range: HistRange,
     unit: Unit,
 ) -> Option<Unlike>
-    requires counters { (i : ℕ) (k : AnyHist) → slice_get hists.now i ≡ Some k → length k.counters < 2 ^ 32 }
+    requires counters { (i : ℕ) (k : AnyHist) → slice_get hists.now i ≡ Some k
+        → length k.counters < 2 ^ 32 }
     requires kept { AllByRecursion IsKept hists.now }
     requires apart { IsApart hists.now }
     ensures { result ≡ conflict_with hists.now kept range «unit» }
@@ -102,7 +105,8 @@ pub(crate) fn put(hists: &mut ChunkedList<Hist>, new: Hist) -> Result<(), AllocE
     requires kept { AllByRecursion IsKept hists.old }
     requires apart { IsApart hists.old }
     requires few { length hists.old + 1 < 2 ^ 64 }
-    requires same { (i : ℕ) (k : AnyHist) → slice_get hists.old i ≡ Some k → k.low ≡ new.low → length k.counters ≡ length new.counters }
+    requires same { (i : ℕ) (k : AnyHist) → slice_get hists.old i ≡ Some k → k.low ≡ new.low
+        → length k.counters ≡ length new.counters }
     requires fits { samples_of hists.old + sum new.counters < 2 ^ 64 }
     ensures added { OnOk result (hists.new ≡ put_hist new hists.old) }
     ensures unchanged { OnErr result (hists.new ≡ hists.old) }

@@ -89,11 +89,15 @@ impl Profile {
     pub fn add_hist(&mut self, h: &RawHist) -> Result<(), AddRefusal>
         requires range { 0 < length h.now.counters → h.now.low < h.now.high }
         requires count { length h.now.counters < 2 ^ 32 }
-        requires within { hist_conflict self.old (wide_hist h.now) h.now.«unit» ≡ None → IsWithin (with_hist (wide_hist h.now) h.now.«unit» self.old) }
-        ensures refusal { IfErr result (λ refusal. hist_conflict self.old (wide_hist h.now) h.now.«unit» ≡ unlike_in refusal) }
-        ensures accepted { OnOk result (hist_conflict self.old (wide_hist h.now) h.now.«unit» ≡ None) }
+        requires within { hist_conflict self.old (wide_hist h.now) h.now.«unit» ≡ None
+            → IsWithin (with_hist (wide_hist h.now) h.now.«unit» self.old) }
+        ensures refusal { IfErr result (λ refusal. hist_conflict self.old (wide_hist h.now)
+            h.now.«unit» ≡ unlike_in refusal) }
+        ensures accepted { OnOk result (hist_conflict self.old (wide_hist h.now) h.now.«unit»
+            ≡ None) }
         ensures added { OnOk result (self.new ≡ with_hist (wide_hist h.now) h.now.«unit» self.old) }
-        ensures stands { OnOk result ((recs : List WideRec) → self.old ≡ content_of recs → self.new ≡ content_of (recs ++ WideHist (wide_hist h.now) h.now.«unit» ∷ [])) }
+        ensures stands { OnOk result ((recs : List WideRec) → self.old ≡ content_of recs
+            → self.new ≡ content_of (recs ++ WideHist (wide_hist h.now) h.now.«unit» ∷ [])) }
         ensures unchanged { OnErr result (self.new ≡ self.old) }
     {
         self.add_counts(h.low, h.high, h.unit, h.counters.as_slice())
@@ -109,11 +113,17 @@ impl Profile {
     ) -> Result<(), AddRefusal>
         requires range { 0 < length counts.now → low < high }
         requires count { length counts.now < 2 ^ 32 }
-        requires within { hist_conflict self.old (hist_over low high counts.now) «unit» ≡ None → IsWithin (with_hist (hist_over low high counts.now) «unit» self.old) }
-        ensures refusal { IfErr result (λ refusal. hist_conflict self.old (hist_over low high counts.now) «unit» ≡ unlike_in refusal) }
-        ensures accepted { OnOk result (hist_conflict self.old (hist_over low high counts.now) «unit» ≡ None) }
-        ensures added { OnOk result (self.new ≡ with_hist (hist_over low high counts.now) «unit» self.old) }
-        ensures stands { OnOk result ((recs : List WideRec) → self.old ≡ content_of recs → self.new ≡ content_of (recs ++ WideHist (hist_over low high counts.now) «unit» ∷ [])) }
+        requires within { hist_conflict self.old (hist_over low high counts.now) «unit» ≡ None
+            → IsWithin (with_hist (hist_over low high counts.now) «unit» self.old) }
+        ensures refusal { IfErr result (λ refusal. hist_conflict self.old
+            (hist_over low high counts.now) «unit» ≡ unlike_in refusal) }
+        ensures accepted { OnOk result (hist_conflict self.old (hist_over low high counts.now)
+            «unit» ≡ None) }
+        ensures added { OnOk result (self.new
+            ≡ with_hist (hist_over low high counts.now) «unit» self.old) }
+        ensures stands { OnOk result ((recs : List WideRec) → self.old ≡ content_of recs
+            → self.new ≡ content_of
+            (recs ++ WideHist (hist_over low high counts.now) «unit» ∷ [])) }
         ensures unchanged { OnErr result (self.new ≡ self.old) }
     {
         if counts.is_empty() {
@@ -137,11 +147,14 @@ impl Profile {
     pub fn add_wide(&mut self, h: &Hist, unit: Unit) -> Result<(), AddRefusal>
         requires range { 0 < length h.now.counters → h.now.low < h.now.high }
         requires count { length h.now.counters < 2 ^ 32 }
-        requires within { hist_conflict self.old h.now «unit» ≡ None → IsWithin (with_hist h.now «unit» self.old) }
-        ensures refusal { IfErr result (λ refusal. hist_conflict self.old h.now «unit» ≡ unlike_in refusal) }
+        requires within { hist_conflict self.old h.now «unit» ≡ None
+            → IsWithin (with_hist h.now «unit» self.old) }
+        ensures refusal { IfErr result (λ refusal. hist_conflict self.old h.now «unit»
+            ≡ unlike_in refusal) }
         ensures accepted { OnOk result (hist_conflict self.old h.now «unit» ≡ None) }
         ensures added { OnOk result (self.new ≡ with_hist h.now «unit» self.old) }
-        ensures stands { OnOk result ((recs : List WideRec) → self.old ≡ content_of recs → self.new ≡ content_of (recs ++ WideHist h.now «unit» ∷ [])) }
+        ensures stands { OnOk result ((recs : List WideRec) → self.old ≡ content_of recs
+            → self.new ≡ content_of (recs ++ WideHist h.now «unit» ∷ [])) }
         ensures unchanged { OnErr result (self.new ≡ self.old) }
     {
         if h.counters.as_slice().is_empty() {
@@ -163,8 +176,10 @@ impl Profile {
 
     /// Refuses a histogram with counters that is unlike those that are kept.
     fn compare(&self, range: HistRange, unit: Unit) -> Result<(), AddRefusal>
-        ensures unlike { IfErr result (λ refusal. conflict_with self.now.hists self.now.«unit» range (kept_unit «unit») ≡ unlike_in refusal) }
-        ensures like { OnOk result (conflict_with self.now.hists self.now.«unit» range (kept_unit «unit») ≡ None) }
+        ensures unlike { IfErr result (λ refusal. conflict_with self.now.hists self.now.«unit»
+            range (kept_unit «unit») ≡ unlike_in refusal) }
+        ensures like { OnOk result (conflict_with self.now.hists self.now.«unit» range
+            (kept_unit «unit») ≡ None) }
     {
         match self.conflict(range, unit) {
             Some(unlike) => Err(AddRefusal::Unlike(unlike)),
@@ -176,7 +191,8 @@ impl Profile {
     fn keep(&mut self, hist: Hist, unit: Unit) -> Result<(), AllocError>
         requires kept { IsKept hist }
         requires numbers { HistNumbersFit hist }
-        requires like { conflict_with self.old.hists self.old.«unit» (range_of hist) (kept_unit «unit») ≡ None }
+        requires like { conflict_with self.old.hists self.old.«unit» (range_of hist)
+            (kept_unit «unit») ≡ None }
         requires within { IsWithin (with_hist hist «unit» self.old) }
         ensures added { OnOk result (self.new ≡ with_hist hist «unit» self.old) }
         ensures unchanged { OnErr result (self.new ≡ self.old) }
@@ -190,7 +206,8 @@ impl Profile {
     pub fn add_arc(&mut self, a: RawArc) -> Result<(), AllocError>
         requires { IsWithin (with_arc a.from a.to a.count self.old) }
         ensures added { OnOk result (self.new ≡ with_arc a.from a.to a.count self.old) }
-        ensures stands { OnOk result ((recs : List WideRec) → self.old ≡ content_of recs → self.new ≡ content_of (recs ++ WideArc a.from a.to a.count ∷ [])) }
+        ensures stands { OnOk result ((recs : List WideRec) → self.old ≡ content_of recs
+            → self.new ≡ content_of (recs ++ WideArc a.from a.to a.count ∷ [])) }
         ensures unchanged { OnErr result (self.new ≡ self.old) }
     {
         self.add_calls(a.from, a.to, u64::from(a.count))
@@ -201,7 +218,8 @@ impl Profile {
     pub fn add_calls(&mut self, from: u32, to: u32, count: u64) -> Result<(), AllocError>
         requires { IsWithin (with_arc from to count self.old) }
         ensures added { OnOk result (self.new ≡ with_arc from to count self.old) }
-        ensures stands { OnOk result ((recs : List WideRec) → self.old ≡ content_of recs → self.new ≡ content_of (recs ++ WideArc from to count ∷ [])) }
+        ensures stands { OnOk result ((recs : List WideRec) → self.old ≡ content_of recs
+            → self.new ≡ content_of (recs ++ WideArc from to count ∷ [])) }
         ensures unchanged { OnErr result (self.new ≡ self.old) }
     {
         add_to(&mut self.arcs, (from, to), count)
@@ -211,7 +229,8 @@ impl Profile {
     pub fn add_block(&mut self, b: RawBlock) -> Result<(), AllocError>
         requires { IsWithin (with_block b.addr b.count self.old) }
         ensures added { OnOk result (self.new ≡ with_block b.addr b.count self.old) }
-        ensures stands { OnOk result ((recs : List WideRec) → self.old ≡ content_of recs → self.new ≡ content_of (recs ++ WideBlock b.addr b.count ∷ [])) }
+        ensures stands { OnOk result ((recs : List WideRec) → self.old ≡ content_of recs
+            → self.new ≡ content_of (recs ++ WideBlock b.addr b.count ∷ [])) }
         ensures unchanged { OnErr result (self.new ≡ self.old) }
     {
         self.add_runs(b.addr, u64::from(b.count))
@@ -222,7 +241,8 @@ impl Profile {
     pub fn add_runs(&mut self, addr: u32, count: u64) -> Result<(), AllocError>
         requires { IsWithin (with_block addr count self.old) }
         ensures added { OnOk result (self.new ≡ with_block addr count self.old) }
-        ensures stands { OnOk result ((recs : List WideRec) → self.old ≡ content_of recs → self.new ≡ content_of (recs ++ WideBlock addr count ∷ [])) }
+        ensures stands { OnOk result ((recs : List WideRec) → self.old ≡ content_of recs
+            → self.new ≡ content_of (recs ++ WideBlock addr count ∷ [])) }
         ensures unchanged { OnErr result (self.new ≡ self.old) }
     {
         add_to(&mut self.blocks, addr, count)
@@ -297,11 +317,14 @@ impl Profile {
     pub fn add_records(&mut self, r: &Records) -> Result<(), AddRefusal>
         requires ranges { All HasRange r.now.recs }
         requires within { IsWithin (with_records (wide_records r.now.recs) self.old) }
-        ensures refusal { IfErr result (λ refusal. IsUnlike refusal (conflict_of self.old (wide_records r.now.recs))) }
+        ensures refusal { IfErr result (λ refusal. IsUnlike refusal
+            (conflict_of self.old (wide_records r.now.recs))) }
         ensures accepted { OnOk result (conflict_of self.old (wide_records r.now.recs) ≡ None) }
         ensures added { OnOk result (self.new ≡ with_records (wide_records r.now.recs) self.old) }
-        ensures stands { OnOk result ((recs : List WideRec) → self.old ≡ content_of recs → self.new ≡ content_of (recs ++ wide_records r.now.recs)) }
-        ensures stopped { IfErr result (λ refusal. IsStopped refusal (wide_records r.now.recs) self.old self.new) }
+        ensures stands { OnOk result ((recs : List WideRec) → self.old ≡ content_of recs
+            → self.new ≡ content_of (recs ++ wide_records r.now.recs)) }
+        ensures stopped { IfErr result (λ refusal. IsStopped refusal (wide_records r.now.recs)
+            self.old self.new) }
     {
         let recs = r.recs.as_slice();
         let _ = self.reserve_arcs(count_arcs(recs));
@@ -312,7 +335,8 @@ impl Profile {
         requires ranges { All HasRange recs.now }
         requires within { IsWithin (with_records (wide_records recs.now) self.old) }
         ensures added { OnOk result (IsAdded (wide_records recs.now) self.old self.new) }
-        ensures stopped { IfErr result (λ refusal. IsStopped refusal (wide_records recs.now) self.old self.new) }
+        ensures stopped { IfErr result (λ refusal. IsStopped refusal (wide_records recs.now)
+            self.old self.new) }
     {
         for rec in recs {
             self.add_record(rec)?;
@@ -324,7 +348,8 @@ impl Profile {
         requires range { HasRange rec.now }
         requires within { IsWithin (with_records (wide_record rec.now) self.old) }
         ensures added { OnOk result (IsAdded (wide_record rec.now) self.old self.new) }
-        ensures stopped { IfErr result (λ refusal. IsStopped refusal (wide_record rec.now) self.old self.new) }
+        ensures stopped { IfErr result (λ refusal. IsStopped refusal (wide_record rec.now) self.old
+            self.new) }
     {
         match rec {
             Rec::Hist(hist) => self.add_hist(hist),
@@ -338,8 +363,10 @@ impl Profile {
     pub fn add_arcs(&mut self, arcs: &[RawArc]) -> Result<(), AllocError>
         requires { IsWithin (with_records (map wide_arc arcs.now) self.old) }
         ensures added { OnOk result (self.new ≡ with_records (map wide_arc arcs.now) self.old) }
-        ensures stands { OnOk result ((recs : List WideRec) → self.old ≡ content_of recs → self.new ≡ content_of (recs ++ map wide_arc arcs.now)) }
-        ensures stopped { OnErr result (IsStopped OutOfMemory (map wide_arc arcs.now) self.old self.new) }
+        ensures stands { OnOk result ((recs : List WideRec) → self.old ≡ content_of recs
+            → self.new ≡ content_of (recs ++ map wide_arc arcs.now)) }
+        ensures stopped { OnErr result (IsStopped OutOfMemory (map wide_arc arcs.now) self.old
+            self.new) }
     {
         let _ = self.reserve_arcs(arcs.len());
         self.add_arc_batches(arcs)
@@ -348,7 +375,8 @@ impl Profile {
     fn add_arc_batches(&mut self, arcs: &[RawArc]) -> Result<(), AllocError>
         requires { IsWithin (with_records (map wide_arc arcs.now) self.old) }
         ensures added { OnOk result (self.new ≡ with_records (map wide_arc arcs.now) self.old) }
-        ensures stopped { OnErr result (IsStopped OutOfMemory (map wide_arc arcs.now) self.old self.new) }
+        ensures stopped { OnErr result (IsStopped OutOfMemory (map wide_arc arcs.now) self.old
+            self.new) }
     {
         let mut rest = arcs;
         while !rest.is_empty() {
@@ -362,7 +390,8 @@ impl Profile {
     fn add_arc_batch(&mut self, arcs: &[RawArc]) -> Result<(), AllocError>
         requires { IsWithin (with_records (map wide_arc arcs.now) self.old) }
         ensures added { OnOk result (self.new ≡ with_records (map wide_arc arcs.now) self.old) }
-        ensures stopped { OnErr result (IsStopped OutOfMemory (map wide_arc arcs.now) self.old self.new) }
+        ensures stopped { OnErr result (IsStopped OutOfMemory (map wide_arc arcs.now) self.old
+            self.new) }
     {
         self.make_room_for_new_arcs(arcs);
         self.add_each_arc(arcs)
@@ -378,7 +407,8 @@ impl Profile {
     fn add_each_arc(&mut self, arcs: &[RawArc]) -> Result<(), AllocError>
         requires { IsWithin (with_records (map wide_arc arcs.now) self.old) }
         ensures added { OnOk result (self.new ≡ with_records (map wide_arc arcs.now) self.old) }
-        ensures stopped { OnErr result (IsStopped OutOfMemory (map wide_arc arcs.now) self.old self.new) }
+        ensures stopped { OnErr result (IsStopped OutOfMemory (map wide_arc arcs.now) self.old
+            self.new) }
     {
         for arc in arcs {
             self.add_arc(*arc)?;
@@ -391,8 +421,10 @@ impl Profile {
     pub fn add_blocks(&mut self, blocks: &[RawBlock]) -> Result<(), AllocError>
         requires { IsWithin (with_records (map wide_block blocks.now) self.old) }
         ensures added { OnOk result (self.new ≡ with_records (map wide_block blocks.now) self.old) }
-        ensures stands { OnOk result ((recs : List WideRec) → self.old ≡ content_of recs → self.new ≡ content_of (recs ++ map wide_block blocks.now)) }
-        ensures stopped { OnErr result (IsStopped OutOfMemory (map wide_block blocks.now) self.old self.new) }
+        ensures stands { OnOk result ((recs : List WideRec) → self.old ≡ content_of recs
+            → self.new ≡ content_of (recs ++ map wide_block blocks.now)) }
+        ensures stopped { OnErr result (IsStopped OutOfMemory (map wide_block blocks.now) self.old
+            self.new) }
     {
         let _ = self.reserve_blocks(blocks.len());
         self.add_block_batches(blocks)
@@ -401,7 +433,8 @@ impl Profile {
     fn add_block_batches(&mut self, blocks: &[RawBlock]) -> Result<(), AllocError>
         requires { IsWithin (with_records (map wide_block blocks.now) self.old) }
         ensures added { OnOk result (self.new ≡ with_records (map wide_block blocks.now) self.old) }
-        ensures stopped { OnErr result (IsStopped OutOfMemory (map wide_block blocks.now) self.old self.new) }
+        ensures stopped { OnErr result (IsStopped OutOfMemory (map wide_block blocks.now) self.old
+            self.new) }
     {
         let mut rest = blocks;
         while !rest.is_empty() {
@@ -415,7 +448,8 @@ impl Profile {
     fn add_block_batch(&mut self, blocks: &[RawBlock]) -> Result<(), AllocError>
         requires { IsWithin (with_records (map wide_block blocks.now) self.old) }
         ensures added { OnOk result (self.new ≡ with_records (map wide_block blocks.now) self.old) }
-        ensures stopped { OnErr result (IsStopped OutOfMemory (map wide_block blocks.now) self.old self.new) }
+        ensures stopped { OnErr result (IsStopped OutOfMemory (map wide_block blocks.now) self.old
+            self.new) }
     {
         self.make_room_for_new_blocks(blocks);
         self.add_each_block(blocks)
@@ -431,7 +465,8 @@ impl Profile {
     fn add_each_block(&mut self, blocks: &[RawBlock]) -> Result<(), AllocError>
         requires { IsWithin (with_records (map wide_block blocks.now) self.old) }
         ensures added { OnOk result (self.new ≡ with_records (map wide_block blocks.now) self.old) }
-        ensures stopped { OnErr result (IsStopped OutOfMemory (map wide_block blocks.now) self.old self.new) }
+        ensures stopped { OnErr result (IsStopped OutOfMemory (map wide_block blocks.now) self.old
+            self.new) }
     {
         for block in blocks {
             self.add_block(*block)?;
@@ -475,7 +510,8 @@ impl Profile {
     /// logarithm of the number of histograms.
     pub fn ended_hists(&self, address: u32) -> usize
         ensures inside { result ≤ length self.now.hists }
-        ensures point { IsPartitionPoint (λ h. nat_le h.high address ≡ true) (λ h. nat_le h.high address ≡ false) self.now.hists result }
+        ensures point { IsPartitionPoint (λ h. nat_le h.high address ≡ true)
+            (λ h. nat_le h.high address ≡ false) self.now.hists result }
         ensures profile { IsProfile self.now }
     {
         count_ended(&self.hists, address)

@@ -5,9 +5,10 @@ use Rattle.std.proofs.lemmas.Bool.Decides.{nat_tests}
 use Rattle.gp_base.specs.declared.records.Form.{Form}
 use Rattle.gp_base.specs.declared.records.Form.TheVariants.{Bsd, Gnu}
 use Rattle.gp_base.specs.declared.records.Span.{Span}
-use Rattle.gmon_bsd.specs.Run.{bsd_run_text, bsd_run_records}
+use Rattle.gmon_cells.specs.RunRecords.{run_records}
+use Rattle.gmon_bsd.specs.Run.{bsd_run_text}
 use Rattle.gmon_bsd.proofs.RunReadBack.{run_read_back as bsd_read_back}
-use Rattle.gmon_gnu.specs.Run.{gnu_run_text, gnu_run_records}
+use Rattle.gmon_gnu.specs.Run.{gnu_run_text}
 use Rattle.gmon_gnu.proofs.RunReadBack.{run_read_back as gnu_read_back}
 use Rattle.mcount_arcs.specs.declared.sizes.Sizes.{Sizes}
 use Rattle.mcount_arcs.specs.Log.{LogEntry}
@@ -48,7 +49,7 @@ says_log Bsd text hist hash rate log is_text is_hist is_hash fits calls =
     record {
       form_is = is;
       accepted = subst (λ (f : Form). refusal_in f (bsd_run_text z log rate) ≡ None) (sym is) read.0;
-      records = subst (λ (f : Form). records_in f (bsd_run_text z log rate) ≡ bsd_run_records z log rate) (sym is) read.1;
+      records = subst (λ (f : Form). records_in f (bsd_run_text z log rate) ≡ run_records Bsd z log rate) (sym is) read.1;
     }
 says_log Gnu text hist hash rate log is_text is_hist is_hash fits calls =
     let z = sizes_of text hist hash in
@@ -58,5 +59,5 @@ says_log Gnu text hist hash rate log is_text is_hist is_hash fits calls =
     record {
       form_is = is;
       accepted = subst (λ (f : Form). refusal_in f (gnu_run_text z log rate) ≡ None) (sym is) read.0;
-      records = subst (λ (f : Form). records_in f (gnu_run_text z log rate) ≡ gnu_run_records z log rate) (sym is) read.1;
+      records = subst (λ (f : Form). records_in f (gnu_run_text z log rate) ≡ run_records Gnu z log rate) (sym is) read.1;
     }

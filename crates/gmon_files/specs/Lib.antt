@@ -1,3 +1,4 @@
 pub mod Forms
 pub mod FileRead
 pub mod Runs
+pub mod Viewed

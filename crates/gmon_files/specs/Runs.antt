@@ -3,10 +3,10 @@ use Rattle.std.specs.Prelude.{◌≡◌, ℕ, ◌^◌, ◌<◌, List, None}
 use Rattle.std.specs.List.{All}
 use Rattle.gp_base.specs.declared.records.Form.{Form}
 use Rattle.gp_base.specs.declared.records.Form.TheVariants.{Bsd, Gnu}
-use Rattle.gp_base.specs.declared.records.Records.{Records}
 use Rattle.gp_base.specs.declared.records.Span.{Span}
-use Rattle.gmon_bsd.specs.Run.{bsd_run_text, bsd_run_records}
-use Rattle.gmon_gnu.specs.Run.{gnu_run_text, gnu_run_records}
+use Rattle.gmon_cells.specs.RunRecords.{run_records}
+use Rattle.gmon_bsd.specs.Run.{bsd_run_text}
+use Rattle.gmon_gnu.specs.Run.{gnu_run_text}
 use Rattle.mcount_arcs.specs.declared.sizes.Sizes.{Sizes}
 use Rattle.mcount_arcs.specs.Arcs.{CallFits, arcs_of}
 use Rattle.mcount_arcs.specs.Log.{LogEntry}
@@ -17,11 +17,6 @@ use Rattle.gmon_files.specs.Forms.{file_records, file_refusal, form_of}
 abbrev pub run_text : Form → Sizes → List LogEntry → ℕ → List ℕ
 run_text Bsd z log rate = bsd_run_text z log rate
 run_text Gnu z log rate = gnu_run_text z log rate
-
--- what it says: the counters of one histogram, and an arc for each pair of call site and callee
-abbrev pub run_records : Form → Sizes → List LogEntry → ℕ → Records
-run_records Bsd z log rate = bsd_run_records z log rate
-run_records Gnu z log rate = gnu_run_records z log rate
 
 -- A text is read, in the form that its first four bytes choose, as what was logged.
 pub record SaysLog (form : Form) (z : Sizes) (log : List LogEntry) (rate : ℕ) (text : List ℕ) : Type 0 where

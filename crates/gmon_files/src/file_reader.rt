@@ -5,18 +5,16 @@ ghost use Rattle.gp_base.specs.Refusal.{IsRefusal};
 ghost use Rattle.host_port.specs.Host.{Moves, Reads};
 ghost use Rattle.gmon_data.specs.Content.{conflict_of, with_records};
 ghost use Rattle.gmon_data.specs.Refusals.{IsLeft, IsReadRefusal};
-ghost use Rattle.gmon_files.specs.Forms.{form_of, file_records, file_refusal, FileSpells};
+ghost use Rattle.gmon_files.specs.Forms.{file_records, file_refusal, FileSpells};
 ghost use Rattle.gmon_files.specs.FileRead.{spelled_records, HasRoomFor, StandsFor, len_of, IsFed, IsReadFrom, IsReadNoFurther};
 
+use crate::forms::{GNU, form_of};
 use gmon_cells::Remnant;
 use gmon_data::{Profile, ReadRefusal};
 use gp_base::limits::MAX_PROFILE_BYTES;
 use gp_base::{Form, GmonRefusal, Records};
 use host_port::{Failed, Host, LoadRefusal};
 use std::alloc::{AllocError, Global};
-
-/// What a file of the GNU form begins with.
-const GNU: &[u8] = b"gmon";
 
 /// How many bytes are asked for at a time.
 const PIECE: usize = 4_096;
@@ -144,15 +142,6 @@ fn begin(alloc: Global, front: &[u8], rest: &[u8]) -> Result<FileReader, AllocEr
             Ok(FileReader::Gnu(reader))
         }
     }
-}
-
-/// The form of a profile file, by its first four bytes.
-#[tactic(auto, unfolding(crate::specs::Forms::form_of))]
-fn form_of(bytes: &[u8]) -> Form
-    ensures { result ≡ form_of bytes.now }
-{
-    let front = bytes.split_at(GNU.len().min(bytes.len())).0;
-    if front == GNU { Form::Gnu } else { Form::Bsd }
 }
 
 /// Reads the named file, which has at most `limit` bytes, in pieces: a reader that stands for its bytes, and

@@ -3,6 +3,10 @@
 #![tactic(auto)]
 
 pub mod file_reader;
+pub mod forms;
 pub mod laws;
+pub mod viewing;
 
 pub use file_reader::{FileReader, read_pieces};
+pub use forms::{fault, form_of};
+pub use viewing::RecordViews;

@@ -2,11 +2,12 @@ pub mod FrontLemmas
 pub mod RecordLemmas
 pub mod GoingLemmas
 pub mod StateLemmas
+pub mod TakingLemmas
 pub mod FedLemmas
 pub mod HistLemmas
 pub mod SpellingLemmas
 pub mod FaultLemmas
-pub mod SkipLemmas
+pub mod ViewLemmas
 pub mod MeaningLemmas
 pub mod RunTextLemmas
 pub mod RunReadBack

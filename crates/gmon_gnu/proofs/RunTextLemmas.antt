@@ -10,7 +10,8 @@ use Rattle.mcount_arcs.specs.Value.{GmonValue, StandsFor}
 use Rattle.gmon_gnu.specs.Fields.{magic, spare_bytes}
 use Rattle.gmon_gnu.specs.Grammar.{rec_bytes, tagged_arc, gnu_spelling}
 use Rattle.gp_base.specs.Fields.{counters_text}
-use Rattle.gmon_gnu.specs.Run.{run_recs, gnu_run_text, runtime_text, header_of}
+use Rattle.gmon_cells.specs.RunRecords.{run_recs}
+use Rattle.gmon_gnu.specs.Run.{gnu_run_text, runtime_text, header_of}
 
 arcs_tagged : (arcs : List RawArc) → flat_map tagged_arc arcs ≡ flat_map rec_bytes (map Arc arcs)
 arcs_tagged [] = refl

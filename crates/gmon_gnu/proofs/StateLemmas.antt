@@ -25,6 +25,7 @@ use Rattle.gmon_gnu.specs.Reading.{behind_records}
 use Rattle.gmon_gnu.specs.Going.{Open, InHeader, Between, InHist, InBlocks, Stopped, records_on, header_on, hist_on, blocks_on, resume, Reads}
 use Rattle.gmon_gnu.specs.Held.{hist_with, rec_of, entry_recs, recs_in, IsBodyWithin, IsWithin, recs_of, open_of, rest_of, width_of, IsFront, IsPartial, Goes}
 use Rattle.gmon_gnu.specs.Begun.{begun_on, Follows}
+use Rattle.gmon_gnu.specs.Taking.{HoldsSame, KeepsItems}
 use Rattle.gmon_gnu.proofs.GoingLemmas.{behind_both, reads_then, reads_same, header_read, header_refused, hist_ends, blocks_end, counters_on, pairs_on}
 
 -- ---- by the part
@@ -134,11 +135,11 @@ blocks_ended whole counters pairs arcs es es1 run run1 last start end left pair 
     reads)
 
 -- the entry was added, and all else is as before
-pub added_goes : (whole rest : List ℕ) (s n : State) → n.counters ≡ s.counters → n.pairs ≡ s.pairs → n.arcs ≡ s.arcs → n.torn ≡ s.torn
+pub added_goes : (whole rest : List ℕ) (s n : State) → KeepsItems s n
     → Reads whole (recs_in s.counters.cells.items s.pairs.cells.items s.arcs.items n.entries.items n.run) Between (s.torn ++ rest) → Reads whole (recs_of n) Between (n.torn ++ rest)
-added_goes whole rest s n counters_is pairs_is arcs_is torn_is reads = λ more.
+added_goes whole rest s n k reads = λ more.
     reads more
-    ∙ (λ i. behind_records (recs_in (sym counters_is i).cells.items (sym pairs_is i).cells.items (sym arcs_is i).items n.entries.items n.run) (records_on (length (whole ++ more)) ((sym torn_is i ++ rest) ++ more)))
+    ∙ (λ i. behind_records (recs_in (sym k.counters i).cells.items (sym k.pairs i).cells.items (sym k.arcs i).items n.entries.items n.run) (records_on (length (whole ++ more)) ((sym k.torn i ++ rest) ++ more)))
 
 -- ---- cells come
 
@@ -248,8 +249,7 @@ partial_less (tag ∷ body) partial some = partial
 
 -- ---- a state that holds the same
 
-pub goes_moved : (whole rest : List ℕ) (a b : State) → b.part ≡ a.part → b.torn ≡ a.torn → b.counters.cells.items ≡ a.counters.cells.items → b.counters.torn ≡ a.counters.torn
-    → b.pairs.cells.items ≡ a.pairs.cells.items → b.pairs.torn ≡ a.pairs.torn → b.arcs.items ≡ a.arcs.items → b.entries.items ≡ a.entries.items → b.run ≡ a.run → Goes whole a rest → Goes whole b rest
-goes_moved whole rest a b part_is torn_is counters_is half_is pairs_is pair_is arcs_is entries_is run_is goes = λ more.
+pub goes_moved : (whole rest : List ℕ) (a b : State) → HoldsSame a b → Goes whole a rest → Goes whole b rest
+goes_moved whole rest a b h goes = λ more.
     goes more
-    ∙ sym (λ i. behind_records (recs_in (counters_is i) (pairs_is i) (arcs_is i) (entries_is i) (run_is i)) (resume (length (whole ++ more)) (open_of (part_is i) (counters_is i) (pairs_is i)) ((rest_of (part_is i) (torn_is i) (half_is i) (pair_is i) ++ rest) ++ more)))
+    ∙ sym (λ i. behind_records (recs_in (h.counters i) (h.pairs i) (h.arcs i) (h.entries i) (h.run i)) (resume (length (whole ++ more)) (open_of (h.at_part i) (h.counters i) (h.pairs i)) ((rest_of (h.at_part i) (h.torn i) (h.half i) (h.pair i) ++ rest) ++ more)))

@@ -8,13 +8,13 @@ use Rattle.gp_base.specs.declared.records.Records.{Records}
 use Rattle.gp_base.specs.declared.records.Form.TheVariants.{Gnu}
 use Rattle.mcount_arcs.specs.declared.sizes.Sizes.{Sizes}
 use Rattle.mcount_arcs.specs.Log.{LogEntry}
-use Rattle.mcount_arcs.specs.Samples.{buckets_of}
 use Rattle.mcount_arcs.specs.Sizes.{AreSizes}
 use Rattle.mcount_arcs.specs.Arcs.{CallFits, arcs_of}
+use Rattle.gmon_cells.specs.RunRecords.{log_recs}
 use Rattle.gmon_gnu.specs.Blocks.{block_record, executed_blocks}
 use Rattle.gmon_gnu.specs.Grammar.{GnuSpells}
 use Rattle.gmon_gnu.specs.Reading.{gnu_refusal, gnu_records}
-use Rattle.gmon_gnu.specs.Run.{run_recs, gnu_run_text}
+use Rattle.gmon_gnu.specs.Run.{gnu_run_text}
 
 -- one record of them, or none where nothing was executed
 abbrev pub block_recs : List RawBlock → List Rec
@@ -26,7 +26,7 @@ counted_text z log rate low counts = gnu_run_text z log rate ++ block_record low
 
 -- what that file says: the run's records, and behind them each instruction that was executed with its count
 abbrev pub counted_records : Sizes → List LogEntry → ℕ → ℕ → List ℕ → Records
-counted_records z log rate low counts = record { form = Gnu; recs = run_recs z.low z.high rate (buckets_of z log) (arcs_of z log) ++ block_recs (executed_blocks low counts) }
+counted_records z log rate low counts = record { form = Gnu; recs = log_recs z log rate ++ block_recs (executed_blocks low counts) }
 
 -- the counts have four bytes each, and so have the addresses of their instructions
 pub record CountsFit (low : ℕ) (counts : List ℕ) : Type 0 where

@@ -1,43 +1,31 @@
 -- The file that a run of the profiling runtime writes in the GNU form.
-use Rattle.std.specs.Prelude.{◌≡◌, ℕ, ◌^◌, ◌<◌, List, [], ◌∷◌, ◌++◌, map, None}
+use Rattle.std.specs.Prelude.{◌≡◌, ℕ, ◌^◌, ◌<◌, List, [], ◌∷◌, ◌++◌, None}
 use Rattle.std.specs.List.{All}
-use Rattle.gp_base.specs.declared.records.RawArc.{RawArc}
-use Rattle.gp_base.specs.declared.records.Rec.{Rec}
-use Rattle.gp_base.specs.declared.records.Rec.TheVariants.{Hist, Arc}
-use Rattle.gp_base.specs.declared.records.Records.{Records}
 use Rattle.gp_base.specs.declared.records.Form.TheVariants.{Gnu}
 use Rattle.gp_base.specs.Bytes.{le}
 use Rattle.mcount_arcs.specs.declared.sizes.Sizes.{Sizes}
 use Rattle.mcount_arcs.specs.Log.{LogEntry}
-use Rattle.mcount_arcs.specs.Samples.{buckets_of}
 use Rattle.mcount_arcs.specs.Sizes.{AreSizes}
 use Rattle.mcount_arcs.specs.Arcs.{CallFits, arcs_of}
 use Rattle.mcount_arcs.specs.Value.{GmonValue}
 use Rattle.gp_base.specs.Fields.{seconds}
+use Rattle.gmon_cells.specs.RunRecords.{log_recs, run_recs, run_records}
 use Rattle.gmon_gnu.specs.Fields.{gnu_version, magic, spare_bytes}
 use Rattle.gmon_gnu.specs.Grammar.{gnu_spelling, GnuSpells}
 use Rattle.gmon_gnu.specs.Reading.{gnu_refusal, gnu_records}
 
--- one histogram, in seconds, and a record for each arc
-abbrev pub run_recs : ℕ → ℕ → ℕ → List ℕ → List RawArc → List Rec
-run_recs low high rate counters arcs = Hist (record { low = low; high = high; unit = seconds rate; counters = counters }) ∷ map Arc arcs
-
 -- the file of what was logged, at a rate of samples per second
 unfoldable pub gnu_run_text : Sizes → List LogEntry → ℕ → List ℕ
-gnu_run_text z log rate = gnu_spelling magic spare_bytes (run_recs z.low z.high rate (buckets_of z log) (arcs_of z log))
-
--- what that file says
-abbrev pub gnu_run_records : Sizes → List LogEntry → ℕ → Records
-gnu_run_records z log rate = record { form = Gnu; recs = run_recs z.low z.high rate (buckets_of z log) (arcs_of z log) }
+gnu_run_text z log rate = gnu_spelling magic spare_bytes (log_recs z log rate)
 
 -- the file of every log of a text, at every rate of four bytes, spells what was logged
 abbrev pub RunsAreSpelled : Type 0
-RunsAreSpelled = (z : Sizes) (log : List LogEntry) (rate : ℕ) → AreSizes z → rate < 2 ^ 32 → All CallFits (arcs_of z log) → GnuSpells (gnu_run_text z log rate) (gnu_run_records z log rate)
+RunsAreSpelled = (z : Sizes) (log : List LogEntry) (rate : ℕ) → AreSizes z → rate < 2 ^ 32 → All CallFits (arcs_of z log) → GnuSpells (gnu_run_text z log rate) (run_records Gnu z log rate)
 
 -- so it is accepted, and read as the counters and the arcs of the log, in order
 abbrev pub RunsAreReadBack : Type 0
 RunsAreReadBack = (z : Sizes) (log : List LogEntry) (rate : ℕ) → AreSizes z → rate < 2 ^ 32 → All CallFits (arcs_of z log)
-    → (gnu_refusal (gnu_run_text z log rate) ≡ None) × (gnu_records (gnu_run_text z log rate) ≡ gnu_run_records z log rate)
+    → (gnu_refusal (gnu_run_text z log rate) ≡ None) × (gnu_records (gnu_run_text z log rate) ≡ run_records Gnu z log rate)
 
 -- the file of what a runtime holds
 unfoldable pub runtime_text : GmonValue → ℕ → List ℕ

@@ -8,10 +8,11 @@ ghost use Rattle.gmon_gnu.specs.Going.{records_on};
 use crate::reading::{HEADER, VERSION};
 use crate::state::Begun;
 use crate::taking::{front_of, width_of};
+use crate::viewing::part;
 use gp_base::{GmonRefusal, word};
 
-/// The first fault of a file.
-pub(crate) fn fault(bytes: &[u8]) -> Option<GmonRefusal>
+/// The first fault of a file, in the order of `read`.
+pub fn fault(bytes: &[u8]) -> Option<GmonRefusal>
     requires { length bytes.now < 2 ^ 32 }
     ensures { result ≡ gnu_refusal bytes.now }
 {
@@ -38,7 +39,8 @@ fn header_fault(bytes: &[u8]) -> Option<GmonRefusal>
     None
 }
 
-/// The first fault of the records that end a file of `len` bytes.
+/// The first fault of the records that end a file of `len` bytes. No view is made of them, which takes most of
+/// the time where records are short.
 fn records_fault(len: u32, records: &[u8]) -> Option<GmonRefusal>
     requires { length records.now ≤ len }
     ensures { result ≡ refusal_read (records_on len records.now) }
@@ -53,15 +55,15 @@ fn records_fault(len: u32, records: &[u8]) -> Option<GmonRefusal>
     None
 }
 
-/// What stands behind the first record of a text that ends a file of `len` bytes, or what is wrong with that record.
-fn skip_record<'a>(len: u32, text: &'a [u8]) -> Result<&'a [u8], GmonRefusal>
+/// What stands behind the first of the records that end a file of `len` bytes, or what is wrong with that record.
+fn skip_record<'b>(len: u32, text: &'b [u8]) -> Result<&'b [u8], GmonRefusal>
     requires some { 0 < length text.now }
     requires within { length text.now ≤ len }
-    ensures behind { IfOk result (λ rest. refusal_read (records_on len text.now)
-        ≡ refusal_read (records_on len rest.now)) }
-    ensures less { IfOk result (λ rest. length rest.now < length text.now) }
-    ensures refused { IfErr result (λ refusal. refusal_read
-        (records_on len text.now) ≡ Some refusal) }
+    ensures behind { IfOk result (λ behind. refusal_read (records_on len text.now)
+        ≡ refusal_read (records_on len behind.now)) }
+    ensures less { IfOk result (λ behind. length behind.now < length text.now) }
+    ensures refused { IfErr result (λ refusal. refusal_read (records_on len text.now)
+        ≡ Some refusal) }
 {
     let width = width_of(text[0]);
     if text.len() < width {
@@ -77,14 +79,14 @@ fn skip_record<'a>(len: u32, text: &'a [u8]) -> Result<&'a [u8], GmonRefusal>
 }
 
 /// What stands behind so many bytes of a text that ends a file of `len` bytes.
-fn skip<'a>(len: u32, due: usize, text: &'a [u8]) -> Result<&'a [u8], GmonRefusal>
+fn skip<'b>(len: u32, due: usize, text: &'b [u8]) -> Result<&'b [u8], GmonRefusal>
     ensures rest { IfOk result (λ rest. rest.now ≡ drop due text.now) }
     ensures whole { IfOk result (λ rest. due ≤ length text.now) }
     ensures short { IfErr result (λ refusal. refusal ≡ Short len) }
     ensures torn { IfErr result (λ refusal. length text.now < due) }
 {
-    if text.len() < due {
-        return Err(GmonRefusal::Short { at: len });
+    match part(len, due, text) {
+        Ok((_, rest)) => Ok(rest),
+        Err(refusal) => Err(refusal),
     }
-    Ok(text.split_at(due).1)
 }

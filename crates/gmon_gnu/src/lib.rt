@@ -8,7 +8,7 @@
 mod adding;
 pub mod block_writing;
 pub(crate) mod building;
-mod checking;
+pub mod checking;
 pub mod laws;
 pub mod profile_writing;
 pub mod reader;
@@ -16,11 +16,14 @@ pub mod reading;
 mod splitting;
 pub(crate) mod state;
 pub(crate) mod taking;
+pub mod viewing;
 pub mod writing;
 
 pub use block_writing::write_blocks;
+pub use checking::fault;
 pub use gp_base::GmonRefusal;
 pub use profile_writing::write;
 pub use reader::Reader;
 pub use reading::read;
+pub use viewing::RecordViews;
 pub use writing::write_run;

@@ -63,8 +63,10 @@ pub(crate) enum Begun {
     Refused(GmonRefusal),
 }
 
-/// The records so far, in flat lists: the arcs from `run` on stand behind all entries. What the next bytes
-/// belong to, and what has come of an item that isn't whole.
+/// The records so far, in four flat lists, where spans tell them apart: a list of its own for each record
+/// would take far more memory, so records are made of spans only where they are asked for. The arcs from
+/// `run` on stand behind all entries. What the next bytes belong to, and what has come of an item that isn't
+/// whole.
 #[derive(Drop)]
 pub(crate) struct State {
     pub(crate) part: Part,

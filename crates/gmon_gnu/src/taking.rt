@@ -1,9 +1,10 @@
 //! Taking the next bytes of a file.
 
-ghost use Rattle.std.specs.Prelude.{◌≡◌, ℕ, List, [], ◌∷◌, ◌+◌, ◌-◌, ◌*◌, ◌^◌, ◌<◌, ◌≤◌, ◌++◌, length, drop, OnOk, slice_index, vec_len, vec_capacity};
-ghost use Rattle.gmon_gnu.specs.Held.{width_of, IsFront, IsHeld, HasRoom, AreWithin, Goes, recs_of, hist_with, pending_entries};
+ghost use Rattle.std.specs.Prelude.{◌≡◌, ℕ, List, [], ◌+◌, ◌-◌, ◌*◌, ◌^◌, ◌<◌, ◌≤◌, ◌++◌, length, drop, OnOk, slice_index, vec_len, vec_capacity};
+ghost use Rattle.gmon_gnu.specs.Held.{width_of, IsFront, IsHeld, HasRoom, Goes, recs_of, hist_with};
 ghost use Rattle.gmon_gnu.specs.Begun.{begun_on, cost_of, arcs_of, Follows};
 ghost use Rattle.gmon_gnu.specs.Going.{InHist, InBlocks, Reads, records_on};
+ghost use Rattle.gmon_gnu.specs.Taking.{AddsEntry, AwaitsCounters, AwaitsPairs, Begins, CanTake, EndsOrGoesOn, HasPlaceFor, HoldsNoFront, HoldsSame, IsInBlocks, IsInHist, TakesSome};
 ghost use Rattle.gmon_gnu.specs.declared.state.Part.TheVariants as part;
 
 use crate::reading::{HEADER, VERSION};
@@ -37,15 +38,7 @@ impl State {
     pub(crate) fn reserve(&mut self, len: usize) -> Result<(), AllocError>
         requires { len < 2 ^ 32 }
         ensures room { OnOk result (HasRoom len self.new) }
-        ensures part { self.new.part ≡ self.old.part }
-        ensures torn { self.new.torn ≡ self.old.torn }
-        ensures counters { self.new.counters.cells.items ≡ self.old.counters.cells.items }
-        ensures half { self.new.counters.torn ≡ self.old.counters.torn }
-        ensures pairs { self.new.pairs.cells.items ≡ self.old.pairs.cells.items }
-        ensures pair { self.new.pairs.torn ≡ self.old.pairs.torn }
-        ensures arcs { self.new.arcs.items ≡ self.old.arcs.items }
-        ensures entries { self.new.entries.items ≡ self.old.entries.items }
-        ensures run { self.new.run ≡ self.old.run }
+        ensures same { HoldsSame self.old self.new }
     {
         self.counters.reserve(len)?;
         self.pairs.reserve(len)?;
@@ -55,9 +48,7 @@ impl State {
 
     /// Takes a piece. `total` is how many bytes the file has with it.
     pub(crate) fn take(&mut self, total: u32, piece: &[u8])
-        requires held { IsHeld self.old }
-        requires room { HasRoom (length piece.now) self.old }
-        requires within { length self.old.torn + length piece.now ≤ total }
+        requires { CanTake total piece.now self.old }
         ensures held { IsHeld self.new }
         ensures goes { (whole : List ℕ) → length whole ≡ total
             → Goes whole self.old piece.now → Goes whole self.new [] }
@@ -71,16 +62,9 @@ impl State {
 
     /// Takes some of the piece: one item, or as much of the counters or pairs as there is. The rest of it.
     fn take_some<'p>(&mut self, total: u32, piece: &'p [u8]) -> &'p [u8]
-        requires held { IsHeld self.old }
-        requires room { HasRoom (length piece.now) self.old }
-        requires within { length self.old.torn + length piece.now ≤ total }
+        requires can { CanTake total piece.now self.old }
         requires some { 0 < length piece.now }
-        ensures held { IsHeld self.new }
-        ensures room { HasRoom (length result.now) self.new }
-        ensures within { length self.new.torn + length result.now ≤ total }
-        ensures goes { (whole : List ℕ) → length whole ≡ total → Goes whole self.old piece.now
-            → Goes whole self.new result.now }
-        ensures less { length result.now < length piece.now }
+        ensures { TakesSome total piece.now result.now self.old self.new }
     {
         match self.part {
             Part::Header => self.take_header(total, piece),
@@ -96,17 +80,10 @@ impl State {
     }
 
     fn take_header<'p>(&mut self, total: u32, piece: &'p [u8]) -> &'p [u8]
-        requires held { IsHeld self.old }
-        requires room { HasRoom (length piece.now) self.old }
-        requires within { length self.old.torn + length piece.now ≤ total }
+        requires can { CanTake total piece.now self.old }
         requires some { 0 < length piece.now }
         requires part { self.old.part ≡ part.Header }
-        ensures held { IsHeld self.new }
-        ensures room { HasRoom (length result.now) self.new }
-        ensures within { length self.new.torn + length result.now ≤ total }
-        ensures goes { (whole : List ℕ) → length whole ≡ total → Goes whole self.old piece.now
-            → Goes whole self.new result.now }
-        ensures less { length result.now < length piece.now }
+        ensures { TakesSome total piece.now result.now self.old self.new }
     {
         let rest = self.torn.fill(HEADER, piece);
         if self.torn.len() < HEADER {
@@ -123,17 +100,10 @@ impl State {
     }
 
     fn take_front<'p>(&mut self, total: u32, piece: &'p [u8]) -> &'p [u8]
-        requires held { IsHeld self.old }
-        requires room { HasRoom (length piece.now) self.old }
-        requires within { length self.old.torn + length piece.now ≤ total }
+        requires can { CanTake total piece.now self.old }
         requires some { 0 < length piece.now }
         requires part { self.old.part ≡ part.Between }
-        ensures held { IsHeld self.new }
-        ensures room { HasRoom (length result.now) self.new }
-        ensures within { length self.new.torn + length result.now ≤ total }
-        ensures goes { (whole : List ℕ) → length whole ≡ total → Goes whole self.old piece.now
-            → Goes whole self.new result.now }
-        ensures less { length result.now < length piece.now }
+        ensures { TakesSome total piece.now result.now self.old self.new }
     {
         if self.torn.len() == 0 {
             let width = width_of(piece[0]);
@@ -161,27 +131,13 @@ impl State {
 
     /// Goes on behind the front of a record, of which nothing is held any more.
     fn begin(&mut self, begun: Begun)
-        requires spans { AreWithin self.old }
-        requires torn { self.old.torn ≡ [] }
-        requires half { length self.old.counters.torn ≤ 2 }
-        requires pair { length self.old.pairs.torn ≤ 8 }
         requires part { self.old.part ≡ part.Between }
-        requires run { self.old.run ≤ length self.old.arcs.items }
-        requires arcs_room { vec_len self.old.arcs + arcs_of begun ≤ vec_capacity self.old.arcs }
-        requires room { vec_len self.old.entries + cost_of begun ≤ vec_capacity self.old.entries }
+        requires front { HoldsNoFront self.old }
+        requires room { HasPlaceFor begun self.old }
         ensures held { IsHeld self.new }
         ensures goes { (whole rest : List ℕ) → Follows whole (recs_of self.old) begun rest
             → Goes whole self.new rest }
-        ensures torn { self.new.torn ≡ [] }
-        ensures counters { self.new.counters.cells ≡ self.old.counters.cells }
-        ensures half { length self.new.counters.torn ≤ length self.old.counters.torn }
-        ensures pairs { self.new.pairs.cells ≡ self.old.pairs.cells }
-        ensures pair { length self.new.pairs.torn ≤ length self.old.pairs.torn }
-        ensures arcs { vec_len self.new.arcs ≡ vec_len self.old.arcs + arcs_of begun }
-        ensures arcs_room { vec_capacity self.new.arcs ≡ vec_capacity self.old.arcs }
-        ensures entries { vec_len self.new.entries + pending_entries self.new.part
-            ≤ vec_len self.old.entries + cost_of begun }
-        ensures capacity { vec_capacity self.new.entries ≡ vec_capacity self.old.entries }
+        ensures begins { Begins begun self.old self.new }
     {
         match begun {
             Begun::Hist { fields, count } => {
@@ -201,26 +157,15 @@ impl State {
 
     /// Goes on with the histogram whose counters begin at `start`; it ends where no counter is still to come.
     fn go_on_hist(&mut self, fields: HistFields, start: usize, left: u32)
-        requires spans { AreWithin self.old }
-        requires torn { self.old.torn ≡ [] }
-        requires half { length self.old.counters.torn < 2 }
-        requires pair { length self.old.pairs.torn ≤ 8 }
-        requires ended { left ≡ 0 → self.old.counters.torn ≡ [] }
-        requires start { start ≤ length self.old.counters.cells.items }
-        requires run { self.old.run ≤ length self.old.arcs.items }
+        requires front { HoldsNoFront self.old }
+        requires counters { AwaitsCounters start left self.old }
         requires room { vec_len self.old.entries + 1 ≤ vec_capacity self.old.entries }
         ensures held { IsHeld self.new }
         ensures goes { (whole rest : List ℕ)
             → Reads whole (recs_of self.old)
             (InHist (hist_with fields (drop start self.old.counters.cells.items)) left)
             (self.old.counters.torn ++ rest) → Goes whole self.new rest }
-        ensures torn { self.new.torn ≡ [] }
-        ensures counters { self.new.counters ≡ self.old.counters }
-        ensures pairs { self.new.pairs ≡ self.old.pairs }
-        ensures arcs { self.new.arcs ≡ self.old.arcs }
-        ensures entries { vec_len self.new.entries + pending_entries self.new.part
-            ≤ vec_len self.old.entries + 1 }
-        ensures capacity { vec_capacity self.new.entries ≡ vec_capacity self.old.entries }
+        ensures ends { EndsOrGoesOn self.old self.new }
     {
         if left > 0 {
             self.part = Part::Hist {
@@ -237,25 +182,14 @@ impl State {
 
     /// The same with counts of blocks.
     fn go_on_blocks(&mut self, start: usize, left: u32)
-        requires spans { AreWithin self.old }
-        requires torn { self.old.torn ≡ [] }
-        requires half { length self.old.counters.torn ≤ 2 }
-        requires pair { length self.old.pairs.torn < 8 }
-        requires ended { left ≡ 0 → self.old.pairs.torn ≡ [] }
-        requires start { start ≤ length self.old.pairs.cells.items }
-        requires run { self.old.run ≤ length self.old.arcs.items }
+        requires front { HoldsNoFront self.old }
+        requires pairs { AwaitsPairs start left self.old }
         requires room { vec_len self.old.entries + 1 ≤ vec_capacity self.old.entries }
         ensures held { IsHeld self.new }
         ensures goes { (whole rest : List ℕ)
             → Reads whole (recs_of self.old) (InBlocks (drop start self.old.pairs.cells.items) left)
             (self.old.pairs.torn ++ rest) → Goes whole self.new rest }
-        ensures torn { self.new.torn ≡ [] }
-        ensures counters { self.new.counters ≡ self.old.counters }
-        ensures pairs { self.new.pairs ≡ self.old.pairs }
-        ensures arcs { self.new.arcs ≡ self.old.arcs }
-        ensures entries { vec_len self.new.entries + pending_entries self.new.part
-            ≤ vec_len self.old.entries + 1 }
-        ensures capacity { vec_capacity self.new.entries ≡ vec_capacity self.old.entries }
+        ensures ends { EndsOrGoesOn self.old self.new }
     {
         if left > 0 {
             self.part = Part::Blocks { start, left };
@@ -269,17 +203,10 @@ impl State {
     /// Adds a record behind the arcs that have come since the last one.
     fn add(&mut self, body: Body)
         requires { vec_len self.old.entries < vec_capacity self.old.entries }
-        ensures entries { self.new.entries.items ≡ self.old.entries.items
-            ++ record { first = self.old.run; last = length self.old.arcs.items; body = body }
-            ∷ [] }
-        ensures len { vec_len self.new.entries ≡ vec_len self.old.entries + 1 }
-        ensures capacity { vec_capacity self.new.entries ≡ vec_capacity self.old.entries }
+        ensures adds { AddsEntry
+            (record { first = self.old.run; last = length self.old.arcs.items; body = body })
+            self.old self.new }
         ensures run { self.new.run ≡ length self.old.arcs.items }
-        ensures part { self.new.part ≡ self.old.part }
-        ensures torn { self.new.torn ≡ self.old.torn }
-        ensures counters { self.new.counters ≡ self.old.counters }
-        ensures pairs { self.new.pairs ≡ self.old.pairs }
-        ensures arcs { self.new.arcs ≡ self.old.arcs }
     {
         let last = self.arcs.len();
         self.entries.push_reserved(Entry {
@@ -298,21 +225,10 @@ impl State {
         left: u32,
         piece: &'p [u8],
     ) -> &'p [u8]
-        requires held { IsHeld self.old }
-        requires room { HasRoom (length piece.now) self.old }
-        requires within { length self.old.torn + length piece.now ≤ total }
+        requires can { CanTake total piece.now self.old }
         requires some { 0 < length piece.now }
-        requires part { self.old.part ≡ part.Hist fields start left }
-        requires left { 0 < left }
-        requires half { length self.old.counters.torn < 2 }
-        requires torn { self.old.torn ≡ [] }
-        requires start { start ≤ length self.old.counters.cells.items }
-        ensures held { IsHeld self.new }
-        ensures room { HasRoom (length result.now) self.new }
-        ensures within { length self.new.torn + length result.now ≤ total }
-        ensures goes { (whole : List ℕ) → length whole ≡ total → Goes whole self.old piece.now
-            → Goes whole self.new result.now }
-        ensures less { length result.now < length piece.now }
+        requires part { IsInHist fields start left self.old }
+        ensures { TakesSome total piece.now result.now self.old self.new }
     {
         let due = left as usize * 2 - self.counters.torn.len();
         let (mine, rest) = piece.split_at(due.min(piece.len()));
@@ -323,21 +239,10 @@ impl State {
     }
 
     fn take_pairs<'p>(&mut self, total: u32, start: usize, left: u32, piece: &'p [u8]) -> &'p [u8]
-        requires held { IsHeld self.old }
-        requires room { HasRoom (length piece.now) self.old }
-        requires within { length self.old.torn + length piece.now ≤ total }
+        requires can { CanTake total piece.now self.old }
         requires some { 0 < length piece.now }
-        requires part { self.old.part ≡ part.Blocks start left }
-        requires left { 0 < left }
-        requires pair { length self.old.pairs.torn < 8 }
-        requires torn { self.old.torn ≡ [] }
-        requires start { start ≤ length self.old.pairs.cells.items }
-        ensures held { IsHeld self.new }
-        ensures room { HasRoom (length result.now) self.new }
-        ensures within { length self.new.torn + length result.now ≤ total }
-        ensures goes { (whole : List ℕ) → length whole ≡ total → Goes whole self.old piece.now
-            → Goes whole self.new result.now }
-        ensures less { length result.now < length piece.now }
+        requires part { IsInBlocks start left self.old }
+        ensures { TakesSome total piece.now result.now self.old self.new }
     {
         let due = left as usize * 8 - self.pairs.torn.len();
         let (mine, rest) = piece.split_at(due.min(piece.len()));

@@ -20,7 +20,8 @@ fn is_head(graph: &Graph, f: u32, c: u32) -> bool
 /// The number of each cycle, by its component. A component that is no cycle has 0.
 pub(crate) fn cycle_numbers(alloc: Global, graph: &Graph) -> Result<Vec<u32>, AllocError>
     ensures len { IfOk result (λ v. length v.items ≡ component_count graph.now) }
-    ensures numbers { IfOk result (λ v. (c : ℕ) → c < component_count graph.now → is_cycle graph.now c ≡ true → slice_index v.items c ≡ cycle_number graph.now c) }
+    ensures numbers { IfOk result (λ v. (c : ℕ) → c < component_count graph.now
+        → is_cycle graph.now c ≡ true → slice_index v.items c ≡ cycle_number graph.now c) }
 {
     let mut numbers = vec![in alloc; 0u32; graph.component_count() as usize]?;
     let mut count = 0;
@@ -37,7 +38,8 @@ pub(crate) fn cycle_numbers(alloc: Global, graph: &Graph) -> Result<Vec<u32>, Al
 /// The name of the cycle of that number, as a whole.
 #[tactic(auto, using(text_cols::proofs::Lengths::lengths))]
 fn name_of(alloc: Global, number: u32) -> Result<Vec<u8>, AllocError>
-    ensures { IfOk result (λ v. v.items ≡ codes "<cycle " ++ decimal number ++ codes " as a whole>") }
+    ensures { IfOk result (λ v. v.items
+        ≡ codes "<cycle " ++ decimal number ++ codes " as a whole>") }
 {
     let mut line = Line::new();
     line.put(b"<cycle ");
@@ -53,7 +55,8 @@ pub(crate) fn cycle_names(
     numbers: &[u32],
 ) -> Result<Vec<Vec<u8>>, AllocError>
     requires len { length numbers.now ≡ component_count graph.now }
-    requires numbers { (c : ℕ) → c < component_count graph.now → is_cycle graph.now c ≡ true → slice_index numbers.now c ≡ cycle_number graph.now c }
+    requires numbers { (c : ℕ) → c < component_count graph.now → is_cycle graph.now c ≡ true
+        → slice_index numbers.now c ≡ cycle_number graph.now c }
     ensures { IfOk result (λ v. AreNames graph.now v.items) }
 {
     let mut names = Vec::new(alloc);

@@ -52,7 +52,8 @@ fn put_function_line<H: Host>(
 ) -> Result<(), Failed>
     requires report { IsReport report.now }
     requires function { f < report.now.inputs.sources.graph.now.functions }
-    ensures { Adds Output (function_line (sources_in report.now.inputs) (number_of report.now) f) lines.old lines.new (H.outside host.old) (H.outside host.new) result }
+    ensures { Adds Output (function_line (sources_in report.now.inputs) (number_of report.now) f)
+        lines.old lines.new (H.outside host.old) (H.outside host.new) result }
 {
     lines.put(host, function_front(report, f).bytes())?;
     lines.put(host, report.label(f))
@@ -89,8 +90,10 @@ fn put_cycle_line<H: Host>(
 ) -> Result<(), Failed>
     requires report { IsReport report.now }
     requires function { head < report.now.inputs.sources.graph.now.functions }
-    requires cycle { is_cycle report.now.inputs.sources.graph.now (component_of report.now.inputs.sources.graph.now head) ≡ true }
-    ensures { Adds Output (cycle_line (sources_in report.now.inputs) (number_of report.now) head) lines.old lines.new (H.outside host.old) (H.outside host.new) result }
+    requires cycle { is_cycle report.now.inputs.sources.graph.now
+        (component_of report.now.inputs.sources.graph.now head) ≡ true }
+    ensures { Adds Output (cycle_line (sources_in report.now.inputs) (number_of report.now) head)
+        lines.old lines.new (H.outside host.old) (H.outside host.new) result }
 {
     lines.put(host, cycle_front(report, head).bytes())?;
     put_cycle_name(report, head, lines, host)
@@ -105,7 +108,8 @@ fn put_function<H: Host>(
 ) -> Result<(), Failed>
     requires report { IsReport report.now }
     requires function { f < report.now.inputs.sources.graph.now.functions }
-    ensures { Adds Output (function_text (sources_in report.now.inputs) (number_of report.now) f) lines.old lines.new (H.outside host.old) (H.outside host.new) result }
+    ensures { Adds Output (function_text (sources_in report.now.inputs) (number_of report.now) f)
+        lines.old lines.new (H.outside host.old) (H.outside host.new) result }
 {
     put_callers(report, report.inputs.arcs_to(f), lines, host)?;
     put_function_line(report, f, lines, host)?;
@@ -122,8 +126,10 @@ fn put_cycle<H: Host>(
 ) -> Result<(), Failed>
     requires report { IsReport report.now }
     requires function { head < report.now.inputs.sources.graph.now.functions }
-    requires cycle { is_cycle report.now.inputs.sources.graph.now (component_of report.now.inputs.sources.graph.now head) ≡ true }
-    ensures { Adds Output (cycle_text (sources_in report.now.inputs) (number_of report.now) head) lines.old lines.new (H.outside host.old) (H.outside host.new) result }
+    requires cycle { is_cycle report.now.inputs.sources.graph.now
+        (component_of report.now.inputs.sources.graph.now head) ≡ true }
+    ensures { Adds Output (cycle_text (sources_in report.now.inputs) (number_of report.now) head)
+        lines.old lines.new (H.outside host.old) (H.outside host.new) result }
 {
     let c = report.inputs.sources.graph.component(head);
     put_callers(report, report.inputs.arcs_into(c), lines, host)?;
@@ -141,7 +147,8 @@ pub(crate) fn put_entry<H: Host>(
 ) -> Result<(), Failed>
     requires report { IsReport report.now }
     requires subject { IsSubject report.now.inputs.sources.graph.now subject }
-    ensures { Adds Output (subject_text (sources_in report.now.inputs) (number_of report.now) subject) lines.old lines.new (H.outside host.old) (H.outside host.new) result }
+    ensures { Adds Output (subject_text (sources_in report.now.inputs) (number_of report.now)
+        subject) lines.old lines.new (H.outside host.old) (H.outside host.new) result }
 {
     match subject {
         Subject::Cycle(head) => put_cycle(report, head, lines, host),

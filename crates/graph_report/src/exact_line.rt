@@ -38,7 +38,8 @@ pub(crate) fn component(address: u32, self_time: u128, child_time: &Frac) -> Lin
 /// The line of an outside arc.
 #[tactic(auto, using(text_cols::proofs::Lengths::lengths), unfolding(crate::specs::ExactText::exact_arc_line))]
 pub(crate) fn arc(caller: u32, callee: u32, self_part: &Frac, child_part: &Frac) -> Line
-    ensures { result ≡ exact_arc_line caller callee (value_of self_part.now) (value_of child_part.now) }
+    ensures { result ≡ exact_arc_line caller callee (value_of self_part.now)
+        (value_of child_part.now) }
 {
     let mut line = Line::new();
     line.put(b"arc ");

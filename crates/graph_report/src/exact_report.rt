@@ -32,7 +32,8 @@ pub fn write_exact<H: Host>(
 ) -> Result<(), Failed>
     requires functions { graph.now.functions ≡ length symbols.now }
     requires times { HasTimes graph.now exact.now }
-    ensures { Puts Output (exact_text symbols.now graph.now exact.now attributed) (H.outside host.old) (H.outside host.new) result }
+    ensures { Puts Output (exact_text symbols.now graph.now exact.now attributed)
+        (H.outside host.old) (H.outside host.new) result }
 {
     let mut lines = PrintBuf::new();
     put_all(symbols, graph, exact, attributed, &mut lines, host)?;
@@ -49,7 +50,8 @@ fn put_all<H: Host>(
 ) -> Result<(), Failed>
     requires functions { graph.now.functions ≡ length symbols.now }
     requires times { HasTimes graph.now exact.now }
-    ensures { Adds Output (exact_text symbols.now graph.now exact.now attributed) lines.old lines.new (H.outside host.old) (H.outside host.new) result }
+    ensures { Adds Output (exact_text symbols.now graph.now exact.now attributed) lines.old
+        lines.new (H.outside host.old) (H.outside host.new) result }
 {
     lines.put(host, b"exact flow\n")?;
     put_components(symbols, graph, exact, lines, host)?;
@@ -65,7 +67,8 @@ fn put_components<H: Host>(
 ) -> Result<(), Failed>
     requires functions { graph.now.functions ≡ length symbols.now }
     requires times { HasTimes graph.now exact.now }
-    ensures { Adds Output (components_text symbols.now graph.now exact.now) lines.old lines.new (H.outside host.old) (H.outside host.new) result }
+    ensures { Adds Output (components_text symbols.now graph.now exact.now) lines.old lines.new
+        (H.outside host.old) (H.outside host.new) result }
 {
     let mut rest = exact.outside_arcs();
     for c in 0..graph.component_count() {
@@ -80,7 +83,8 @@ fn put_components<H: Host>(
 fn leaving(arcs: &[(u32, usize)], c: u32) -> usize
     ensures within { result ≤ length arcs.now }
     ensures those { (k : ℕ) (d : ℕ × ℕ) → k < result → (slice_index_or arcs.now k d).0 ≡ c }
-    ensures next { (d : ℕ × ℕ) → result < length arcs.now → (slice_index_or arcs.now result d).0 ≢ c }
+    ensures next { (d : ℕ × ℕ) → result < length arcs.now
+        → (slice_index_or arcs.now result d).0 ≢ c }
 {
     for (n, arc) in arcs.iter().enumerate() {
         if arc.0 != c {
@@ -104,7 +108,8 @@ fn put_component<H: Host>(
     requires times { HasTimes graph.now exact.now }
     requires component { c < component_count graph.now }
     requires arcs { arcs.now ≡ outside_arcs_from graph.now c }
-    ensures { Adds Output (component_text symbols.now graph.now exact.now c) lines.old lines.new (H.outside host.old) (H.outside host.new) result }
+    ensures { Adds Output (component_text symbols.now graph.now exact.now c) lines.old lines.new
+        (H.outside host.old) (H.outside host.new) result }
 {
     lines.put(host, head_line(symbols, graph, exact, c).bytes())?;
     put_arcs(symbols, graph, exact, arcs, lines, host)
@@ -121,7 +126,8 @@ fn put_arcs<H: Host>(
     requires functions { graph.now.functions ≡ length symbols.now }
     requires times { HasTimes graph.now exact.now }
     requires arcs { All (λ p. p.1 < arc_count graph.now) arcs.now }
-    ensures { Adds Output (flat_map (λ p. arc_text symbols.now graph.now exact.now p.1) arcs.now) lines.old lines.new (H.outside host.old) (H.outside host.new) result }
+    ensures { Adds Output (flat_map (λ p. arc_text symbols.now graph.now exact.now p.1) arcs.now)
+        lines.old lines.new (H.outside host.old) (H.outside host.new) result }
 {
     for p in arcs {
         lines.put(host, arc_line(symbols, graph, exact, p.1).bytes())?;

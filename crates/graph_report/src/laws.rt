@@ -15,25 +15,36 @@ ghost use Rattle.graph_report.specs.declared.subjects.Subject.TheVariants.{Funct
 /// Each cycle, and each function that has an entry, has its place in the order once, and none stands
 /// behind one that it comes before. The number of an entry, as lines give it, is its place, counted from 1.
 pub fn entries_in_order()
-    ensures all { (s : AnySources) → IsPermutation (cycle_entries s ++ function_entries s) (graph_order s) }
+    ensures all { (s : AnySources) → IsPermutation (cycle_entries s ++ function_entries s)
+        (graph_order s) }
     ensures ascending { (s : AnySources) → IsSortedBy graph_comes_before (graph_order s) }
-    ensures numbers { (s : AnySources) (place : ℕ) (e : GraphEntry) → IsGraph s.graph → slice_get (graph_order s) place ≡ Some e → number_in (graph_order s) e.subject ≡ place + 1 }
+    ensures numbers { (s : AnySources) (place : ℕ) (e : GraphEntry) → IsGraph s.graph
+        → slice_get (graph_order s) place ≡ Some e
+        → number_in (graph_order s) e.subject ≡ place + 1 }
 {}
 
 /// Each function that a line names has an entry, so that the number behind its name is never 0: those
 /// that call, those that are called, and the members of cycles.
 pub fn names_have_entries()
-    ensures callers { (s : AnySources) (i : ℕ) → IsGraph s.graph → i < arc_count s.graph → 0 < number_in (graph_order s) (Function (arc_at s.graph i).caller) }
-    ensures callees { (s : AnySources) (i : ℕ) → IsGraph s.graph → i < arc_count s.graph → 0 < number_in (graph_order s) (Function (arc_at s.graph i).callee) }
-    ensures members { (s : AnySources) (f : ℕ) → IsGraph s.graph → f < s.graph.functions → is_cycle s.graph (component_of s.graph f) ≡ true → 0 < number_in (graph_order s) (Function f) }
+    ensures callers { (s : AnySources) (i : ℕ) → IsGraph s.graph → i < arc_count s.graph
+        → 0 < number_in (graph_order s) (Function (arc_at s.graph i).caller) }
+    ensures callees { (s : AnySources) (i : ℕ) → IsGraph s.graph → i < arc_count s.graph
+        → 0 < number_in (graph_order s) (Function (arc_at s.graph i).callee) }
+    ensures members { (s : AnySources) (f : ℕ) → IsGraph s.graph → f < s.graph.functions
+        → is_cycle s.graph (component_of s.graph f) ≡ true
+        → 0 < number_in (graph_order s) (Function f) }
 {}
 
 /// The report is its header and its entries. With hidden names it is the same less the entries of the
 /// functions that have them, each with the line below it: the other entries, with their numbers and all
 /// their lines, stay as they are.
 pub fn entries_that_are_shown()
-    ensures whole { (s : AnySources) → graph_text s [] ≡ graph_header ++ flat_map (entry_text s) (graph_order s) }
-    ensures less { (s : AnySources) (hidden : List (List ℕ)) → graph_text s hidden ≡ graph_header ++ flat_map (entry_text s) (filter (λ e. is_shown hidden e.subject e.name) (graph_order s)) }
+    ensures whole { (s : AnySources) → graph_text s []
+        ≡ graph_header ++ flat_map (entry_text s) (graph_order s) }
+    ensures less { (s : AnySources) (hidden : List (List ℕ))
+        → graph_text s hidden
+        ≡ graph_header ++ flat_map (entry_text s)
+        (filter (λ e. is_shown hidden e.subject e.name) (graph_order s)) }
 {}
 
 /// The total of an entry is the time of its component; a component that has no entry has no time. So the totals

@@ -65,7 +65,8 @@ pub(crate) fn put_times(line: &mut Line, rate: u32, own: u128, child: u128)
     requires own { own < 2 ^ 65 }
     requires child { child < 2 ^ 65 }
     requires room { length line.old ≤ 100 }
-    ensures text { line.new ≡ line.old ++ (right_of (seconds_of rate own) 12 ++ right_of (seconds_of rate child) 12) }
+    ensures text { line.new ≡ line.old
+        ++ (right_of (seconds_of rate own) 12 ++ right_of (seconds_of rate child) 12) }
     ensures short { length line.new ≤ length line.old + 86 }
 {
     let second = GRAINS * u128::from(rate);
@@ -91,7 +92,8 @@ pub(crate) fn put_index(line: &mut Line, number: usize, total: u128, all: u128)
     requires total { total < 2 ^ 65 }
     requires all { all < 2 ^ 65 }
     requires room { length line.old ≤ 10 }
-    ensures text { line.new ≡ line.old ++ (left_of (bracket_text number) 8 ++ right_of (percent_of total all) 7) }
+    ensures text { line.new ≡ line.old
+        ++ (left_of (bracket_text number) 8 ++ right_of (percent_of total all) 7) }
     ensures short { length line.new ≤ length line.old + 65 }
 {
     let mut index = Line::new();

@@ -84,7 +84,8 @@ fn put_member<H: Host>(
 ) -> Result<(), Failed>
     requires report { IsReport report.now }
     requires function { f < report.now.inputs.sources.graph.now.functions }
-    ensures { Adds Output (member_line (sources_in report.now.inputs) (number_of report.now) f) lines.old lines.new (H.outside host.old) (H.outside host.new) result }
+    ensures { Adds Output (member_line (sources_in report.now.inputs) (number_of report.now) f)
+        lines.old lines.new (H.outside host.old) (H.outside host.new) result }
 {
     member_front(line, &report.inputs, f);
     lines.put(host, line.bytes())?;
@@ -101,7 +102,8 @@ fn is_spontaneous(arcs: &[usize]) -> bool
 /// Puts the line that stands in place of callers.
 #[tactic(auto, unfolding(crate::specs::GraphText::other_line))]
 fn put_spontaneous<H: Host>(lines: &mut PrintBuf, host: &mut H) -> Result<(), Failed>
-    ensures { Adds Output (other_line (spaces 46) (codes "<spontaneous>")) lines.old lines.new (H.outside host.old) (H.outside host.new) result }
+    ensures { Adds Output (other_line (spaces 46) (codes "<spontaneous>")) lines.old lines.new
+        (H.outside host.old) (H.outside host.new) result }
 {
     lines.put(host, SPONTANEOUS)
 }
@@ -133,7 +135,9 @@ fn put_batch<H: Host>(
     requires arcs { All (λ i. i < arc_count report.now.inputs.sources.graph.now) arcs.now }
     requires some { 0 < length arcs.now }
     requires few { length arcs.now ≤ 16 }
-    ensures { Adds Output (flat_map (caller_line (sources_in report.now.inputs) (number_of report.now)) arcs.now) lines.old lines.new (H.outside host.old) (H.outside host.new) result }
+    ensures { Adds Output (flat_map
+        (caller_line (sources_in report.now.inputs) (number_of report.now)) arcs.now) lines.old
+        lines.new (H.outside host.old) (H.outside host.new) result }
 {
     let batch = looked_up(&report.inputs, arcs);
     for times in batch.split_at(arcs.len()).0 {
@@ -151,7 +155,8 @@ pub(crate) fn put_callers<H: Host>(
 ) -> Result<(), Failed>
     requires report { IsReport report.now }
     requires arcs { All (λ i. i < arc_count report.now.inputs.sources.graph.now) arcs.now }
-    ensures { Adds Output (callers_text (sources_in report.now.inputs) (number_of report.now) arcs.now) lines.old lines.new (H.outside host.old) (H.outside host.new) result }
+    ensures { Adds Output (callers_text (sources_in report.now.inputs) (number_of report.now)
+        arcs.now) lines.old lines.new (H.outside host.old) (H.outside host.new) result }
 {
     if is_spontaneous(arcs) {
         return put_spontaneous(lines, host);
@@ -175,7 +180,9 @@ pub(crate) fn put_callees<H: Host>(
 ) -> Result<(), Failed>
     requires report { IsReport report.now }
     requires arcs { All (λ i. i < arc_count report.now.inputs.sources.graph.now) arcs.now }
-    ensures { Adds Output (flat_map (callee_line (sources_in report.now.inputs) (number_of report.now)) arcs.now) lines.old lines.new (H.outside host.old) (H.outside host.new) result }
+    ensures { Adds Output (flat_map
+        (callee_line (sources_in report.now.inputs) (number_of report.now)) arcs.now) lines.old
+        lines.new (H.outside host.old) (H.outside host.new) result }
 {
     let mut line = Line::new();
     for i in arcs {
@@ -194,7 +201,9 @@ pub(crate) fn put_members<H: Host>(
 ) -> Result<(), Failed>
     requires report { IsReport report.now }
     requires members { All (λ f. f < report.now.inputs.sources.graph.now.functions) members.now }
-    ensures { Adds Output (flat_map (member_line (sources_in report.now.inputs) (number_of report.now)) members.now) lines.old lines.new (H.outside host.old) (H.outside host.new) result }
+    ensures { Adds Output (flat_map
+        (member_line (sources_in report.now.inputs) (number_of report.now)) members.now) lines.old
+        lines.new (H.outside host.old) (H.outside host.new) result }
 {
     // Numbers of functions have 32 bits.
     report.inputs.sources.graph.holds();

@@ -40,7 +40,8 @@ pub(crate) fn function_tail(inputs: &Inputs<'_>, numbers: &Numbers, f: u32) -> L
     requires inputs { AreInputs inputs.now }
     requires numbers { AreNumbers (sources_in inputs.now) numbers.now }
     requires function { f < inputs.now.sources.graph.now.functions }
-    ensures { result ≡ tail_of inputs.now.sources.graph.now (number_in (graph_order (sources_in inputs.now))) f }
+    ensures { result ≡ tail_of inputs.now.sources.graph.now
+        (number_in (graph_order (sources_in inputs.now))) f }
 {
     let mut line = mark(inputs, f);
     put_tail(&mut line, numbers.functions[f as usize]);
@@ -67,8 +68,11 @@ pub(crate) fn put_cycle_name<H: Host>(
 ) -> Result<(), Failed>
     requires report { IsReport report.now }
     requires function { head < report.now.inputs.sources.graph.now.functions }
-    requires cycle { is_cycle report.now.inputs.sources.graph.now (component_of report.now.inputs.sources.graph.now head) ≡ true }
-    ensures { Adds Output (cycle_name report.now.inputs.sources.graph.now (component_of report.now.inputs.sources.graph.now head) ++ codes " " ++ bracket_text (number_of report.now (Cycle head)) ++ codes "\n")
+    requires cycle { is_cycle report.now.inputs.sources.graph.now
+        (component_of report.now.inputs.sources.graph.now head) ≡ true }
+    ensures { Adds Output (cycle_name report.now.inputs.sources.graph.now
+        (component_of report.now.inputs.sources.graph.now head) ++ codes " "
+        ++ bracket_text (number_of report.now (Cycle head)) ++ codes "\n")
         lines.old lines.new (H.outside host.old) (H.outside host.new) result }
 {
     let c = report.inputs.sources.graph.component(head);

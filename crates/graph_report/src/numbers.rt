@@ -69,10 +69,17 @@ impl Report<'_> {
 fn put_number(numbers: &mut Numbers, subject: Subject, number: usize)
     requires functions { first_function subject < length numbers.old.functions.items }
     requires cycles { first_function subject < length numbers.old.cycles.items }
-    ensures function_count { length numbers.new.functions.items ≡ length numbers.old.functions.items }
+    ensures function_count { length numbers.new.functions.items
+        ≡ length numbers.old.functions.items }
     ensures cycle_count { length numbers.new.cycles.items ≡ length numbers.old.cycles.items }
-    ensures functions { (f : ℕ) → f < length numbers.old.functions.items → slice_index numbers.new.functions.items f ≡ (if is_same subject (Function f) then number else slice_index numbers.old.functions.items f) }
-    ensures cycles { (head : ℕ) → head < length numbers.old.cycles.items → slice_index numbers.new.cycles.items head ≡ (if is_same subject (Cycle head) then number else slice_index numbers.old.cycles.items head) }
+    ensures functions { (f : ℕ) → f < length numbers.old.functions.items
+        → slice_index numbers.new.functions.items f
+        ≡ (if is_same subject (Function f) then number else slice_index numbers.old.functions.items
+        f) }
+    ensures cycles { (head : ℕ) → head < length numbers.old.cycles.items
+        → slice_index numbers.new.cycles.items head
+        ≡ (if is_same subject (Cycle head) then number else slice_index numbers.old.cycles.items
+        head) }
 {
     match subject {
         Subject::Cycle(head) => numbers.cycles[head as usize] = number,

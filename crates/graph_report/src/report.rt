@@ -63,7 +63,15 @@ pub fn write<H: Host>(
     requires flow { IsFlow graph.now shares.now.of flow.now }
     requires few { all_calls graph.now < 2 ^ 59 }
     requires rate { 1 ≤ rate }
-    ensures printed { Reports (graph_text (record { symbols = symbols.now; graph = graph.now; flow = flow.now; shares = shares.now; rate = rate }) (map string_bytes hidden.now)) (H.outside host.old) (H.outside host.new) result }
+    ensures printed { Reports (graph_text
+        (record {
+          symbols = symbols.now;
+          graph = graph.now;
+          flow = flow.now;
+          shares = shares.now;
+          rate = rate;
+        }) (map string_bytes hidden.now)) (H.outside host.old) (H.outside host.new)
+        result }
     ensures idle { result ≡ Err OutOfMemory → host.new ≡ host.old }
 {
     shares.holds();
@@ -99,7 +107,8 @@ fn print<H: Host>(
 ) -> Result<(), Failed>
     requires report { IsReport report.now }
     requires rows { entries_of_rows rows.now ≡ graph_order (sources_in report.now.inputs) }
-    ensures { Puts Output (graph_text (sources_in report.now.inputs) (map string_bytes hidden.now)) (H.outside host.old) (H.outside host.new) result }
+    ensures { Puts Output (graph_text (sources_in report.now.inputs) (map string_bytes hidden.now))
+        (H.outside host.old) (H.outside host.new) result }
 {
     let mut lines = PrintBuf::new();
     put_report(report, rows, hidden, &mut lines, host)?;
@@ -115,7 +124,8 @@ fn put_report<H: Host>(
 ) -> Result<(), Failed>
     requires report { IsReport report.now }
     requires rows { entries_of_rows rows.now ≡ graph_order (sources_in report.now.inputs) }
-    ensures { Adds Output (graph_text (sources_in report.now.inputs) (map string_bytes hidden.now)) lines.old lines.new (H.outside host.old) (H.outside host.new) result }
+    ensures { Adds Output (graph_text (sources_in report.now.inputs) (map string_bytes hidden.now))
+        lines.old lines.new (H.outside host.old) (H.outside host.new) result }
 {
     lines.put(host, HEADER)?;
     put_entries(report, rows, hidden, lines, host)
@@ -159,7 +169,8 @@ fn put_row<H: Host>(
 ) -> Result<(), Failed>
     requires report { IsReport report.now }
     requires subject { IsSubject report.now.inputs.sources.graph.now row.now.subject }
-    ensures { Adds Output (shown_text (sources_in report.now.inputs) (map string_bytes hidden.now) (entry_of_row row.now)) lines.old lines.new
+    ensures { Adds Output (shown_text (sources_in report.now.inputs) (map string_bytes hidden.now)
+        (entry_of_row row.now)) lines.old lines.new
         (H.outside host.old) (H.outside host.new) result }
 {
     if !is_shown(hidden, row) {

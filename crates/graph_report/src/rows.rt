@@ -51,7 +51,8 @@ fn has_entry(inputs: &Inputs<'_>, f: u32) -> bool
 /// Adds the cycles, in the order of components.
 fn put_cycles<'a>(inputs: &Inputs<'a>, rows: &mut Vec<Row<'a>>) -> Result<(), AllocError>
     requires { AreInputs inputs.now }
-    ensures { OnOk result (entries_of_rows rows.new.items ≡ entries_of_rows rows.old.items ++ cycle_entries (sources_in inputs.now)) }
+    ensures { OnOk result (entries_of_rows rows.new.items
+        ≡ entries_of_rows rows.old.items ++ cycle_entries (sources_in inputs.now)) }
 {
     for c in 0..inputs.sources.graph.component_count() {
         if inputs.sources.graph.is_cycle(c) {
@@ -68,7 +69,8 @@ fn put_cycles<'a>(inputs: &Inputs<'a>, rows: &mut Vec<Row<'a>>) -> Result<(), Al
 /// Adds the functions that have an entry, in the order of their addresses.
 fn put_functions<'a>(inputs: &Inputs<'a>, rows: &mut Vec<Row<'a>>) -> Result<(), AllocError>
     requires { AreInputs inputs.now }
-    ensures { OnOk result (entries_of_rows rows.new.items ≡ entries_of_rows rows.old.items ++ function_entries (sources_in inputs.now)) }
+    ensures { OnOk result (entries_of_rows rows.new.items
+        ≡ entries_of_rows rows.old.items ++ function_entries (sources_in inputs.now)) }
 {
     for f in 0..inputs.sources.graph.function_count() {
         if has_entry(inputs, f) {
@@ -88,7 +90,8 @@ pub(crate) fn rows_in_order<'a>(
     inputs: &Inputs<'a>,
 ) -> Result<Vec<Row<'a>>, AllocError>
     requires { AreInputs inputs.now }
-    ensures { IfOk result (λ rows. entries_of_rows rows.items ≡ graph_order (sources_in inputs.now)) }
+    ensures { IfOk result (λ rows. entries_of_rows rows.items
+        ≡ graph_order (sources_in inputs.now)) }
 {
     let mut rows = Vec::new(alloc);
     put_cycles(inputs, &mut rows)?;

@@ -42,7 +42,8 @@ fn arcs_by(
     count: usize,
     key: ArcKey,
 ) -> Result<Vec<Vec<usize>>, AllocError>
-    ensures { IfOk result (λ v. AreGroups count (list_of (arc_count graph.now) (arc_key graph.now key)) v.items) }
+    ensures { IfOk result (λ v. AreGroups count
+        (list_of (arc_count graph.now) (arc_key graph.now key)) v.items) }
 {
     let keys = keys(alloc, graph, key)?;
     grouped(alloc, count, &keys)
@@ -51,7 +52,9 @@ fn arcs_by(
 /// The calls of the arcs with each key below `count`.
 fn calls_by(alloc: Global, graph: &Graph, count: usize, key: ArcKey) -> Result<Vec<u64>, AllocError>
     requires { all_calls graph.now < 2 ^ 59 }
-    ensures { IfOk result (λ v. v.items ≡ list_of count (calls_with graph.now (list_of (arc_count graph.now) (arc_key graph.now key)))) }
+    ensures { IfOk result (λ v. v.items
+        ≡ list_of count (calls_with graph.now
+        (list_of (arc_count graph.now) (arc_key graph.now key)))) }
 {
     let keys = keys(alloc, graph, key)?;
     call_sums(alloc, graph, count, &keys)

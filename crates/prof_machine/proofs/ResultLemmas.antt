@@ -5,10 +5,6 @@ pub on_ok : (T E : Type 0) (r : Result T E) (P Q : Type 0) → (P → Q) → OnO
 on_ok T E (Ok x) P Q f p = f p
 on_ok T E (Err e) P Q f p = tt
 
-pub on_err : (T E : Type 0) (r : Result T E) (P Q : Type 0) → (P → Q) → OnErr r P → OnErr r Q
-on_err T E (Ok x) P Q f p = tt
-on_err T E (Err e) P Q f p = f p
-
 pub on_err_any : (T E : Type 0) (r : Result T E) (P : Type 0) → P → OnErr r P
 on_err_any T E (Ok x) P p = tt
 on_err_any T E (Err e) P p = p

@@ -2,7 +2,7 @@
 use Rattle.std.specs.Prelude.{◌≡◌, ◌≢◌, ◌⊎◌, ℕ, ◌+◌, ◌<◌, ◌≤◌, ◌↔◌, Bool, true, false, List, [], ◌∷◌, ◌++◌, length, count_by, None, Some, option_map, IsSome, All}
 use Rattle.std.specs.List.{cons_option}
 use Rattle.elf32_syms.specs.declared.image.Image.{Image}
-use Rattle.host_port.specs.Act.{Act}
+use Rattle.host_port.specs.Act.{Act, Disk, disk_after}
 use Rattle.mcount_arcs.specs.declared.state.State.TheVariants.{Busy}
 use Rattle.mcount_arcs.specs.Log.{CallIgnored, CallLost, Enter, LogEntry, Mode, Sample, WalkDone, state_of}
 use Rattle.mcount_arcs.specs.Samples.{counted_samples}
@@ -62,6 +62,10 @@ PrintsStay = (m : Machine) (w : World) (k n : ℕ) → k ≤ n → (more : List 
 
 abbrev pub PrintsStayToTheEnd : Type 0
 PrintsStayToTheEnd = (m : Machine) (w : World) (n : ℕ) → n ≤ most_turns m.setup → (more : List Act) × ((after_drive m w).prints ≡ (world_at m w n).prints ++ more)
+
+-- and a run touches no file
+abbrev pub PrintsLeaveFiles : Type 0
+PrintsLeaveFiles = (image : Image) (bytes : List ℕ) (setup : Setup) (d : Disk) → disk_after (final_world image bytes setup).prints d ≡ d
 
 -- ---- a hart that leaves a hook
 

@@ -15,6 +15,7 @@ ghost use Rattle.prof_machine.specs.Start.{IsRefusal, first_registers as first_r
 ghost use Rattle.prof_machine.specs.Turn.{turn_of};
 ghost use Rattle.prof_machine.specs.Plan.{after_drive, most_turns, world_at};
 ghost use Rattle.prof_machine.specs.Prints.{ArePrinted, BreaksOff, PrintFailed};
+ghost use Rattle.prof_machine.specs.Stages.{Advances, LeavesFewerTurns, PrintsAs, StandsAfter};
 ghost use Rattle.prof_machine.specs.Value.{IsLive, StandsFor, summary_of, turned_of, work_left};
 ghost use Rattle.prof_machine.specs.World.{World};
 
@@ -169,32 +170,12 @@ impl Run {
     fn advance<H: Host>(&mut self, hart: u32, host: &mut H) -> Result<Turned, Failed>
         requires live { IsLive self.old }
         requires hart { hart < self.old.machine.setup.harts }
-        ensures stands { OnOk result ((w : World) → StandsFor w self.old
-            → StandsFor (turn_of self.old.machine w hart) self.new) }
-        ensures answer { IfOk result (λ turned. turned ≡ turned_of self.new.ending) }
-        ensures live { IsLive self.new ↔ (result ≡ Ok Going) }
-        ensures machine { self.new.machine ≡ self.old.machine }
-        ensures note { self.new.note ≡ self.old.note }
-        ensures open { OnErr result (self.new.ending ≡ None) }
-
-        // What the outside has gained.
-        ensures prints { OnOk result ((w : World) → StandsFor w self.old
-            → ArePrinted w (turn_of self.old.machine w hart)
-            (H.outside host.old) (H.outside host.new)) }
-        ensures fails { OnErr result ((w : World) → StandsFor w self.old
-            → BreaksOff w (turn_of self.old.machine w hart)
-            (H.outside host.old) (H.outside host.new)) }
-        ensures counts { MatchResult result
-            (λ _. KeepsCounts (H.outside host.old) (H.outside host.new))
-            (λ _. PrintFailed (H.outside host.old) (H.outside host.new)) }
-        ensures writing { (H.outside host.new).is_writing ≡ (H.outside host.old).is_writing }
-        ensures input { KeepsInput (H.outside host.old) (H.outside host.new) }
-
-        // A run has only so many turns left, and one that has ended has none.
-        ensures going { self.old.ending ≡ None }
-        ensures left { 0 < work_left self.old }
-        ensures few { work_left self.old ≤ most_turns self.old.machine.setup }
-        ensures less { IsLive self.new → work_left self.new < work_left self.old }
+        ensures stands { OnOk result (StandsAfter (λ w. turn_of self.old.machine w hart)
+            self.old self.new) }
+        ensures outside { PrintsAs (λ w. turn_of self.old.machine w hart) self.old
+            (H.outside host.old) (H.outside host.new) result }
+        ensures advances { Advances self.old self.new result }
+        ensures fewer { LeavesFewerTurns self.old self.new }
     {
         self.live = false;
         if self.holds_walk(hart) {

@@ -1,15 +1,13 @@
 //! The stages of a turn.
 
-ghost use Rattle.std.specs.Prelude.{◌≡◌, ◌+◌, ◌<◌, ◌≤◌, ◌&&◌, ℕ, None, IfOk, OnOk, OnErr, IsSome, true, false, MatchResult, All};
-ghost use Rattle.host_port.specs.Outside.{KeepsCounts, KeepsInput};
+ghost use Rattle.std.specs.Prelude.{◌≡◌, ◌<◌, ◌≤◌, ◌&&◌, None, IfOk, OnOk, IsSome, false, MatchResult, All};
 ghost use Rattle.gp_base.specs.Spans.{is_in};
 ghost use Rattle.mcount_arcs.specs.Sizes.{text_span};
 ghost use Rattle.prof_machine.specs.Executions.{with_execution};
 ghost use Rattle.prof_machine.specs.Notes.{if_going, instruction_note, look_note, note_by, return_from_call, return_in, return_of, sample_in};
-ghost use Rattle.prof_machine.specs.Prints.{ArePrinted, BreaksOff, PrintFailed};
-ghost use Rattle.prof_machine.specs.Stages.{Executes, Serves, Steps, Ticks, answers, begin_of, holds, ran_since, retires, returns};
+ghost use Rattle.prof_machine.specs.Stages.{CanExecute, CanLook, Executes, InTurn, Instructs, PrintsAs, Serves, StandsAfter, StaysOpen, Steps, TakesLook, Ticks, answers, begin_of, holds, ran_since, retires, returns};
 ghost use Rattle.prof_machine.specs.Turn.{after_ecall, after_arrival, after_mcount, after_close, after_execution, after_ordinary_turn, after_sample, after_budget, after_moncontrol, after_look, while_going};
-ghost use Rattle.prof_machine.specs.Value.{StandsFor, calls_met, work_left};
+ghost use Rattle.prof_machine.specs.Value.{StandsFor, calls_met};
 ghost use Rattle.prof_machine.specs.World.{World, hart_of, looks_of_hart};
 
 use crate::ecalls::{A0, Call, ecall_of, write};
@@ -48,18 +46,12 @@ impl Run {
 
     // One look of this hart's walk. Behind the last one the hart goes on at the address that is answered.
     pub(crate) fn look(&mut self, hart: u32) -> Option<u32>
-        requires holds { holds self.old.flight hart ≡ true }
-        requires hart { hart < self.old.machine.setup.harts }
-        requires going { self.old.ending ≡ None }
-        requires dead { self.old.live ≡ false }
-        ensures stands { (w : World) → StandsFor w self.old
-            → StandsFor (after_look self.old.machine hart (looks_of_hart w.left hart) w) self.new }
+        requires { CanLook hart self.old }
+        ensures stands { StandsAfter
+            (λ w. after_look self.old.machine hart (looks_of_hart w.left hart) w) self.old self.new }
         ensures prints { (w : World) → StandsFor w self.old
             → (after_look self.old.machine hart (looks_of_hart w.left hart) w).prints ≡ w.prints }
-        ensures same { Steps self.old self.new }
-        ensures retired { self.new.retired ≡ self.old.retired }
-        ensures due { self.new.due ≡ self.old.due }
-        ensures less { work_left self.new < work_left self.old }
+        ensures takes_look { TakesLook self.old self.new }
         ensures note { (w : World) → StandsFor w self.old
             → look_note result ≡ note_by self.old.machine hart (looks_of_hart w.left hart) w }
     {
@@ -80,31 +72,13 @@ impl Run {
     #[inline(always)]
     pub(crate) fn instruct<H: Host>(&mut self, hart: u32, host: &mut H) -> Result<(), Failed>
         requires none { holds self.old.flight hart ≡ false }
-        requires hart { hart < self.old.machine.setup.harts }
-        requires going { self.old.ending ≡ None }
-        requires left { self.old.retired < self.old.machine.setup.budget }
-        requires due { 1 ≤ self.old.due }
-        requires dead { self.old.live ≡ false }
-        ensures stands { OnOk result ((w : World) → StandsFor w self.old
-            → StandsFor (after_ordinary_turn self.old.machine hart w) self.new) }
-        ensures prints { OnOk result ((w : World) → StandsFor w self.old
-            → ArePrinted w (after_ordinary_turn self.old.machine hart w)
-            (H.outside host.old) (H.outside host.new)) }
-        ensures fails { OnErr result ((w : World) → StandsFor w self.old
-            → BreaksOff w (after_ordinary_turn self.old.machine hart w)
-            (H.outside host.old) (H.outside host.new)) }
-        ensures counts { MatchResult result
-            (λ _. KeepsCounts (H.outside host.old) (H.outside host.new))
-            (λ _. PrintFailed (H.outside host.old) (H.outside host.new)) }
-        ensures writing { (H.outside host.new).is_writing ≡ (H.outside host.old).is_writing }
-        ensures input { KeepsInput (H.outside host.old) (H.outside host.new) }
-        ensures same { Steps self.old self.new }
-        ensures left { OnOk result (self.new.ending ≡ None
-            → self.new.retired < self.new.machine.setup.budget) }
-        ensures due { OnOk result (self.new.ending ≡ None → 1 ≤ self.new.due) }
-        ensures less { OnOk result (self.new.ending ≡ None
-            → work_left self.new < work_left self.old) }
-        ensures open { OnErr result (self.new.ending ≡ None) }
+        requires can { CanExecute hart self.old }
+        ensures stands { OnOk result (StandsAfter (after_ordinary_turn self.old.machine hart)
+            self.old self.new) }
+        ensures outside { PrintsAs (after_ordinary_turn self.old.machine hart) self.old
+            (H.outside host.old) (H.outside host.new) result }
+        ensures instructs { MatchResult result (λ _. Instructs self.old self.new)
+            (λ _. StaysOpen self.old self.new) }
     {
         self.execute(hart, host)?;
         let _ = self.sample(hart);
@@ -120,33 +94,15 @@ impl Run {
         host: &mut H,
     ) -> Result<TurnNote, Failed>
         requires none { holds self.old.flight hart ≡ false }
-        requires hart { hart < self.old.machine.setup.harts }
-        requires going { self.old.ending ≡ None }
-        requires left { self.old.retired < self.old.machine.setup.budget }
-        requires due { 1 ≤ self.old.due }
-        requires dead { self.old.live ≡ false }
-        ensures stands { OnOk result ((w : World) → StandsFor w self.old
-            → StandsFor (after_ordinary_turn self.old.machine hart w) self.new) }
-        ensures prints { OnOk result ((w : World) → StandsFor w self.old
-            → ArePrinted w (after_ordinary_turn self.old.machine hart w)
-            (H.outside host.old) (H.outside host.new)) }
-        ensures fails { OnErr result ((w : World) → StandsFor w self.old
-            → BreaksOff w (after_ordinary_turn self.old.machine hart w)
-            (H.outside host.old) (H.outside host.new)) }
-        ensures counts { MatchResult result
-            (λ _. KeepsCounts (H.outside host.old) (H.outside host.new))
-            (λ _. PrintFailed (H.outside host.old) (H.outside host.new)) }
-        ensures writing { (H.outside host.new).is_writing ≡ (H.outside host.old).is_writing }
-        ensures input { KeepsInput (H.outside host.old) (H.outside host.new) }
-        ensures same { Steps self.old self.new }
-        ensures left { OnOk result (self.new.ending ≡ None
-            → self.new.retired < self.new.machine.setup.budget) }
-        ensures due { OnOk result (self.new.ending ≡ None → 1 ≤ self.new.due) }
-        ensures less { OnOk result (self.new.ending ≡ None
-            → work_left self.new < work_left self.old) }
+        requires can { CanExecute hart self.old }
+        ensures stands { OnOk result (StandsAfter (after_ordinary_turn self.old.machine hart)
+            self.old self.new) }
+        ensures outside { PrintsAs (after_ordinary_turn self.old.machine hart) self.old
+            (H.outside host.old) (H.outside host.new) result }
+        ensures instructs { MatchResult result (λ _. Instructs self.old self.new)
+            (λ _. StaysOpen self.old self.new) }
         ensures note { IfOk result (λ note. (w : World) → StandsFor w self.old
             → note ≡ instruction_note self.old.machine hart w) }
-        ensures open { OnErr result (self.new.ending ≡ None) }
     {
         let begin = self.begin(hart);
         self.execute(hart, host)?;
@@ -192,27 +148,13 @@ impl Run {
     // The instruction.
     #[inline(always)]
     fn execute<H: Host>(&mut self, hart: u32, host: &mut H) -> Result<(), Failed>
-        requires hart { hart < self.old.machine.setup.harts }
-        requires left { self.old.retired < self.old.machine.setup.budget }
-        requires due { 1 ≤ self.old.due }
-        requires going { self.old.ending ≡ None }
-        requires dead { self.old.live ≡ false }
-        ensures stands { OnOk result ((w : World) → StandsFor w self.old
-            → StandsFor (after_execution self.old.machine hart w) self.new) }
-        ensures prints { OnOk result ((w : World) → StandsFor w self.old
-            → ArePrinted w (after_execution self.old.machine hart w)
-            (H.outside host.old) (H.outside host.new)) }
-        ensures fails { OnErr result ((w : World) → StandsFor w self.old
-            → BreaksOff w (after_execution self.old.machine hart w)
-            (H.outside host.old) (H.outside host.new)) }
-        ensures counts { MatchResult result
-            (λ _. KeepsCounts (H.outside host.old) (H.outside host.new))
-            (λ _. PrintFailed (H.outside host.old) (H.outside host.new)) }
-        ensures writing { (H.outside host.new).is_writing ≡ (H.outside host.old).is_writing }
-        ensures input { KeepsInput (H.outside host.old) (H.outside host.new) }
-        ensures same { Steps self.old self.new }
-        ensures executes { OnOk result (Executes self.old self.new) }
-        ensures open { OnErr result (self.new.ending ≡ None) }
+        requires { CanExecute hart self.old }
+        ensures stands { OnOk result (StandsAfter (after_execution self.old.machine hart)
+            self.old self.new) }
+        ensures outside { PrintsAs (after_execution self.old.machine hart) self.old
+            (H.outside host.old) (H.outside host.new) result }
+        ensures executes { MatchResult result (λ _. Executes self.old self.new)
+            (λ _. StaysOpen self.old self.new) }
     {
         let regs = &mut self.harts[hart as usize];
         let pc = regs.pc();
@@ -231,27 +173,13 @@ impl Run {
 
     // The environment call at the hart's pc is carried out.
     fn call<H: Host>(&mut self, hart: u32, host: &mut H) -> Result<(), Failed>
-        requires hart { hart < self.old.machine.setup.harts }
-        requires left { self.old.retired < self.old.machine.setup.budget }
-        requires due { 1 ≤ self.old.due }
-        requires going { self.old.ending ≡ None }
-        requires dead { self.old.live ≡ false }
-        ensures stands { OnOk result ((w : World) → StandsFor w self.old
-            → StandsFor (after_ecall self.old.machine hart w) self.new) }
-        ensures prints { OnOk result ((w : World) → StandsFor w self.old
-            → ArePrinted w (after_ecall self.old.machine hart w)
-            (H.outside host.old) (H.outside host.new)) }
-        ensures fails { OnErr result ((w : World) → StandsFor w self.old
-            → BreaksOff w (after_ecall self.old.machine hart w)
-            (H.outside host.old) (H.outside host.new)) }
-        ensures counts { MatchResult result
-            (λ _. KeepsCounts (H.outside host.old) (H.outside host.new))
-            (λ _. PrintFailed (H.outside host.old) (H.outside host.new)) }
-        ensures writing { (H.outside host.new).is_writing ≡ (H.outside host.old).is_writing }
-        ensures input { KeepsInput (H.outside host.old) (H.outside host.new) }
-        ensures same { Steps self.old self.new }
-        ensures executes { OnOk result (Executes self.old self.new) }
-        ensures open { OnErr result (self.new.ending ≡ None) }
+        requires { CanExecute hart self.old }
+        ensures stands { OnOk result (StandsAfter (after_ecall self.old.machine hart)
+            self.old self.new) }
+        ensures outside { PrintsAs (after_ecall self.old.machine hart) self.old
+            (H.outside host.old) (H.outside host.new) result }
+        ensures executes { MatchResult result (λ _. Executes self.old self.new)
+            (λ _. StaysOpen self.old self.new) }
     {
         match ecall_of(&self.machine, &self.harts[hart as usize], self.break_at) {
             Call::Answers(n) => self.answer(hart, n),
@@ -278,10 +206,9 @@ impl Run {
 
     // An environment call answers n, and retires.
     fn answer(&mut self, hart: u32, n: u32)
-        requires hart { hart < self.old.machine.setup.harts }
+        requires turn { InTurn hart self.old }
         requires left { self.old.retired < self.old.machine.setup.budget }
         requires due { 1 ≤ self.old.due }
-        requires dead { self.old.live ≡ false }
         ensures { self.new ≡ answers hart n self.old }
     {
         let regs = &mut self.harts[hart as usize];
@@ -308,12 +235,11 @@ impl Run {
     #[tactic(auto, using(crate::proofs::ClockLemmas::again))]
     #[inline(always)]
     fn sample(&mut self, hart: u32) -> Option<u32>
-        requires hart { hart < self.old.machine.setup.harts }
+        requires turn { InTurn hart self.old }
         requires due { self.old.ending ≡ None → self.old.due < self.old.machine.setup.every }
         requires samples { self.old.ending ≡ None → self.old.samples < self.old.retired }
-        requires dead { self.old.live ≡ false }
-        ensures stands { (w : World) → StandsFor w self.old
-            → StandsFor (while_going (after_sample self.old.machine hart) w) self.new }
+        ensures stands { StandsAfter (while_going (after_sample self.old.machine hart))
+            self.old self.new }
         ensures ticks { Ticks self.old self.new }
         ensures note { (w : World) → StandsFor w self.old
             → result ≡ if_going (sample_in self.old.machine hart) w }
@@ -338,11 +264,10 @@ impl Run {
     // answered.
     #[inline(always)]
     fn arrive(&mut self, hart: u32) -> Option<u32>
-        requires hart { hart < self.old.machine.setup.harts }
+        requires turn { InTurn hart self.old }
         requires calls { self.old.ending ≡ None → calls_met self.old < self.old.retired }
-        requires dead { self.old.live ≡ false }
-        ensures stands { (w : World) → StandsFor w self.old
-            → StandsFor (while_going (after_arrival self.old.machine hart) w) self.new }
+        ensures stands { StandsAfter (while_going (after_arrival self.old.machine hart))
+            self.old self.new }
         ensures serves { Serves self.old self.new }
         ensures note { (w : World) → StandsFor w self.old
             → result ≡ if_going (return_in self.old.machine hart) w }
@@ -362,12 +287,11 @@ impl Run {
 
     // The hart stands at `_mcount`.
     fn enter(&mut self, hart: u32) -> Option<u32>
-        requires hart { hart < self.old.machine.setup.harts }
+        requires turn { InTurn hart self.old }
         requires calls { calls_met self.old < self.old.retired }
         requires going { self.old.ending ≡ None }
-        requires dead { self.old.live ≡ false }
-        ensures stands { (w : World) → StandsFor w self.old
-            → StandsFor (after_mcount self.old.machine hart (hart_of w.harts hart) w) self.new }
+        ensures stands { StandsAfter
+            (λ w. after_mcount self.old.machine hart (hart_of w.harts hart) w) self.old self.new }
         ensures serves { Serves self.old self.new }
         ensures note { (w : World) → StandsFor w self.old
             → result ≡ return_from_call self.old.machine w.log (hart_of w.harts hart) }
@@ -388,11 +312,10 @@ impl Run {
 
     // The hart stands at `moncontrol`.
     fn switch(&mut self, hart: u32) -> Option<u32>
-        requires hart { hart < self.old.machine.setup.harts }
+        requires turn { InTurn hart self.old }
         requires going { self.old.ending ≡ None }
-        requires dead { self.old.live ≡ false }
-        ensures stands { (w : World) → StandsFor w self.old
-            → StandsFor (after_moncontrol hart (hart_of w.harts hart) w) self.new }
+        ensures stands { StandsAfter
+            (λ w. after_moncontrol hart (hart_of w.harts hart) w) self.old self.new }
         ensures serves { Serves self.old self.new }
         ensures note { (w : World) → StandsFor w self.old
             → result ≡ return_of (hart_of w.harts hart) }
@@ -404,9 +327,8 @@ impl Run {
 
     // Goes on at ra, which is answered, unless that traps.
     fn return_from_hook(&mut self, hart: u32) -> Option<u32>
-        requires hart { hart < self.old.machine.setup.harts }
+        requires turn { InTurn hart self.old }
         requires going { self.old.ending ≡ None }
-        requires dead { self.old.live ≡ false }
         ensures run { self.new ≡ returns hart self.old }
         ensures to { result ≡ return_of (hart_of self.old.harts hart) }
     {
@@ -425,8 +347,8 @@ impl Run {
     // The end of the run, once the budget is used up.
     fn spend(&mut self)
         requires dead { self.old.live ≡ false }
-        ensures stands { (w : World) → StandsFor w self.old
-            → StandsFor (while_going (after_budget self.old.machine) w) self.new }
+        ensures stands { StandsAfter (while_going (after_budget self.old.machine))
+            self.old self.new }
         ensures changed { self.new ≡ record self.old { ending = self.new.ending } }
         ensures left { self.new.ending ≡ None → self.new.retired < self.new.machine.setup.budget }
         ensures ended { IsSome self.old.ending → self.new.ending ≡ self.old.ending }
@@ -439,7 +361,7 @@ impl Run {
     // Once the run has ended, looks at the walk in flight to its end.
     pub(crate) fn close(&mut self)
         requires dead { self.old.live ≡ false }
-        ensures stands { (w : World) → StandsFor w self.old → StandsFor (after_close w) self.new }
+        ensures stands { StandsAfter after_close self.old self.new }
         ensures going { self.old.ending ≡ None → self.new ≡ self.old }
         ensures ending { self.new.ending ≡ self.old.ending }
         ensures same { Steps self.old self.new }

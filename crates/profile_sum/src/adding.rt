@@ -106,7 +106,8 @@ pub fn add_hists(total: &mut Profile, more: &Profile) -> Result<(), AddRefusal>
     ensures refusal { IfErr result (λ refusal. IsUnlike refusal (clash_of total.old more.now)) }
     ensures accepted { OnOk result (clash_of total.old more.now ≡ None) }
     ensures added { OnOk result (total.new ≡ with_records (hist_records more.now) total.old) }
-    ensures stopped { IfErr result (λ refusal. IsStopped refusal (hist_records more.now) total.old total.new) }
+    ensures stopped { IfErr result (λ refusal. IsStopped refusal (hist_records more.now) total.old
+        total.new) }
 {
     match more.unit() {
         Some(unit) => add_hists_of(total, more, unit),
@@ -118,10 +119,14 @@ pub fn add_hists(total: &mut Profile, more: &Profile) -> Result<(), AddRefusal>
 fn add_hists_of(total: &mut Profile, more: &Profile, unit: Unit) -> Result<(), AddRefusal>
     requires more { IsProfile more.now }
     requires within { IsWithin (with_records (map (hist_record «unit») more.now.hists) total.old) }
-    ensures refusal { IfErr result (λ refusal. IsUnlike refusal (conflict_of total.old (map (hist_record «unit») more.now.hists))) }
-    ensures accepted { OnOk result (conflict_of total.old (map (hist_record «unit») more.now.hists) ≡ None) }
-    ensures added { OnOk result (total.new ≡ with_records (map (hist_record «unit») more.now.hists) total.old) }
-    ensures stopped { IfErr result (λ refusal. IsStopped refusal (map (hist_record «unit») more.now.hists) total.old total.new) }
+    ensures refusal { IfErr result (λ refusal. IsUnlike refusal
+        (conflict_of total.old (map (hist_record «unit») more.now.hists))) }
+    ensures accepted { OnOk result (conflict_of total.old (map (hist_record «unit») more.now.hists)
+        ≡ None) }
+    ensures added { OnOk result (total.new
+        ≡ with_records (map (hist_record «unit») more.now.hists) total.old) }
+    ensures stopped { IfErr result (λ refusal. IsStopped refusal
+        (map (hist_record «unit») more.now.hists) total.old total.new) }
 {
     for i in 0..more.hist_count() {
         total.add_wide(more.hist(i), unit)?;
@@ -132,8 +137,10 @@ fn add_hists_of(total: &mut Profile, more: &Profile, unit: Unit) -> Result<(), A
 /// Adds the calls of each pair. After want of memory those of some first pairs are added.
 fn add_arcs(total: &mut Profile, more: &Profile) -> Result<(), AllocError>
     requires { IsWithin (with_records (map arc_record more.now.arcs) total.old) }
-    ensures added { OnOk result (total.new ≡ with_records (map arc_record more.now.arcs) total.old) }
-    ensures stopped { OnErr result (IsStopped OutOfMemory (map arc_record more.now.arcs) total.old total.new) }
+    ensures added { OnOk result (total.new
+        ≡ with_records (map arc_record more.now.arcs) total.old) }
+    ensures stopped { OnErr result (IsStopped OutOfMemory (map arc_record more.now.arcs) total.old
+        total.new) }
 {
     for i in 0..more.arc_count() {
         let (from, to, count) = more.arc(i);
@@ -145,8 +152,10 @@ fn add_arcs(total: &mut Profile, more: &Profile) -> Result<(), AllocError>
 /// Adds the executions of each block address. After want of memory those of some first ones are added.
 pub fn add_blocks(total: &mut Profile, more: &Profile) -> Result<(), AllocError>
     requires { IsWithin (with_records (map block_record more.now.blocks) total.old) }
-    ensures added { OnOk result (total.new ≡ with_records (map block_record more.now.blocks) total.old) }
-    ensures stopped { OnErr result (IsStopped OutOfMemory (map block_record more.now.blocks) total.old total.new) }
+    ensures added { OnOk result (total.new
+        ≡ with_records (map block_record more.now.blocks) total.old) }
+    ensures stopped { OnErr result (IsStopped OutOfMemory (map block_record more.now.blocks)
+        total.old total.new) }
 {
     for i in 0..more.block_count() {
         let (addr, count) = more.block(i);

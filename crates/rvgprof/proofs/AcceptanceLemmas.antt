@@ -40,7 +40,7 @@ use Rattle.annotate.specs.Listing.{annotated_text}
 use Rattle.flat_report.specs.Sources.{Sources}
 use Rattle.rvgprof.specs.Help.{help_text, version_text}
 use Rattle.gmon_files.specs.Forms.{file_refusal, file_records}
-use Rattle.rvgprof.specs.Answer.{Chosen, RunActs, chosen_by, chosen_sources, command_course, course_of, demo_lines, end_course, exact_report, file_acts, files_named, fold_program, given_file_acts, list_profiles, print_reports, profile_file, profile_in, profiles, program, report_profiles, report_run, run_acts, run_program, show_lines, shown_reports, stacks_told, start_fault_of, sum_file, syms_lines, sums_up, too_wide, wide_step, written_profile}
+use Rattle.rvgprof.specs.Answer.{Chosen, RunActs, chosen_by, chosen_sources, command_course, course_of, demo_lines, end_course, exact_report, file_acts, files_named, fold_program, given_file_acts, list_profiles, print_reports, profile_file, profile_in, profiles, program, report_profiles, report_run, run_acts, run_program, show_lines, shown_reports, stacks_told, start_fault_of, sum_file, syms_lines, sums_up, too_wide, wide_step, logged_profile}
 use Rattle.rvgprof.proofs.Summing.{nothing_added}
 use Rattle.rvgprof.specs.Acceptance.{IsProgramFile, IsLike, AreProfileFiles, IsAccepted, records_of, total_of, acts_at_once}
 
@@ -242,9 +242,9 @@ module _ (contents : ℕ → List ℕ) where
             (one.0, two.0, narrow.0 two.1)),
         (λ h. read.1 (h.0, files.1 (h.1, narrow.1 h.2))),
       )
-  accepted_by words (Some (Run elf gmon form image setup)) =
+  accepted_by words (Some (Run elf gmon form memory setup)) =
       let bytes = contents elf in
-      let acts = run_acts (files_named words gmon form image) setup in
+      let acts = run_acts (files_named words gmon form memory) setup in
       let read = program_done elf (run_program acts setup sums_up) in
       let starts = started_alone acts setup sums_up bytes (image_of bytes) (λ z w. refl) in (
         (λ h.
@@ -252,16 +252,16 @@ module _ (contents : ℕ → List ℕ) where
             (one.0, starts.0 one.1)),
         (λ h. read.1 (h.0, starts.1 h.1)),
       )
-  accepted_by words (Some (Profile elf gmon form image setup selection)) =
+  accepted_by words (Some (Profile elf gmon form memory setup selection)) =
       let bytes = contents elf in
       let chosen = chosen_by words selection in
       let z = sizes_of (image_of bytes).text setup.hist setup.hash in
       let w = final_world (image_of bytes) bytes setup in
-      let acts = run_acts (files_named words gmon form image) setup in
-      let next : Image → Sizes → World → Course = report_run form setup.rate chosen in
+      let acts = run_acts (files_named words gmon form memory) setup in
+      let next : Image → Sizes → World → Course = report_run setup.rate chosen in
       let read = program_done elf (λ b i. run_program acts setup (next i) b i) in
       let starts = run_done acts setup (next (image_of bytes)) bytes (image_of bytes) in
-      let narrow = reports_done chosen (image_of bytes) (written_profile form z w.log setup.rate) (sums_up z w) refl in (
+      let narrow = reports_done chosen (image_of bytes) (logged_profile z w.log setup.rate) (sums_up z w) refl in (
         (λ h.
             let one = read.0 h in
             let two = starts.0 one.1 in
@@ -345,13 +345,13 @@ module _ (contents : ℕ → List ℕ) where
   idle_by words (Some (Sum out gmons)) at_once =
       idle_profiles gmons MAX_PROFILE_BYTES empty_content (sum_file (nth_word words out)) (λ t. idle_does (file_acts (nth_word words out) (profile_text t)) (record { run = None }))
   idle_by words (Some (Report elf gmons selection)) at_once = absurd cc
-  idle_by words (Some (Run elf gmon form image setup)) at_once =
-      let acts = run_acts (files_named words gmon form image) setup in
+  idle_by words (Some (Run elf gmon form memory setup)) at_once =
+      let acts = run_acts (files_named words gmon form memory) setup in
       idle_program elf (run_program acts setup sums_up) (λ bytes program.
       let z = sizes_of program.text setup.hist setup.hash in
       let w = final_world program bytes setup in
       idle_unless start_fault_of (start_refusal program setup) (Does (acts z w) (sums_up z w)) (idle_does (acts z w) (record { run = summary_of z w })))
-  idle_by words (Some (Profile elf gmon form image setup selection)) at_once = absurd cc
+  idle_by words (Some (Profile elf gmon form memory setup selection)) at_once = absurd cc
   idle_by words (Some (Demo functions elf setup)) at_once = absurd cc
   idle_by words (Some (Annotate elf gmons)) at_once =
       idle_program elf (list_profiles gmons) (λ bytes image.

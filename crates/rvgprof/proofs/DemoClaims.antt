@@ -1,7 +1,8 @@
--- What the image of the demo program has.
-use Rattle.std.proofs.Common.{◌≡◌, ℕ, ◌+◌, ◌*◌, None, Some, ap}
+-- What the images of the demo program and of the program that is written out have.
+use Rattle.std.proofs.Common.{◌≡◌, ℕ, ◌+◌, ◌*◌, [], ◌∷◌, codes, None, Some, ap}
 use Rattle.elf32_syms.specs.declared.image.Image.{Image}
 use Rattle.demo_laws.specs.Laws.{demo_image}
+use Rattle.demo_laws.specs.Witness.{witness_image}
 
 module _ (n : ℕ) (image : Image) (is : image ≡ demo_image n) where
   pub demo_entry : image.entry ≡ 0x10000
@@ -15,3 +16,14 @@ module _ (n : ℕ) (image : Image) (is : image ≡ demo_image n) where
   pub demo_hooks : (image.mcount ≡ Some 0x10020) × (image.moncontrol ≡ None)
   unfolding demo_image
   demo_hooks = (ap (λ (i : Image). i.mcount) is, ap (λ (i : Image). i.moncontrol) is)
+
+pub witness_image_is : (image : Image) → image ≡ witness_image → image ≡ record {
+  entry = 0x10000;
+  segments = record { addr = 0x10000; offset = 84; filesz = 16; memsz = 16 } ∷ [];
+  text = record { low = 0x10000; high = 0x10010 };
+  symbols = record { addr = 0x10000; end = 0x1000c; name = codes "_start" } ∷ record { addr = 0x1000c; end = 0x10010; name = codes "_mcount" } ∷ [];
+  mcount = Some 0x1000c;
+  moncontrol = None;
+}
+unfolding witness_image
+witness_image_is image is = is

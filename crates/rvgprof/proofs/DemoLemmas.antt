@@ -10,7 +10,6 @@ use Rattle.call_cycles.specs.Flow.{FlowValue, is_root, time_of, time_of_roots}
 use Rattle.call_cycles.specs.Sums.{numbers_below, sum_below, when}
 use Rattle.call_cycles.proofs.SumLemmas.{sum_front_le}
 use Rattle.elf32_syms.specs.declared.image.Image.{Image}
-use Rattle.gp_base.specs.declared.records.Form.TheVariants.{Bsd}
 use Rattle.gmon_data.specs.Content.{Content}
 use Rattle.flat_report.specs.Sources.{Sources}
 use Rattle.mcount_arcs.specs.declared.sizes.Sizes.{Sizes}
@@ -18,7 +17,7 @@ use Rattle.mcount_arcs.specs.Log.{distinct_count, kept_calls}
 use Rattle.prof_machine.specs.Value.{RunValue, StandsFor, summary_of}
 use Rattle.prof_machine.specs.World.{World}
 use Rattle.rvgprof.specs.declared.findings.Findings.{Findings}
-use Rattle.rvgprof.specs.Answer.{written_profile}
+use Rattle.rvgprof.specs.Answer.{logged_profile}
 use Rattle.rvgprof.specs.Findings.{AreFindings}
 use Rattle.rvgprof.specs.Reports.{demo_summary, profile_sources}
 use Rattle.rvgprof.specs.Standing.{SumsUp}
@@ -66,8 +65,8 @@ module _ (g : GraphValue) (t : FlowValue) (c grains entering : ℕ) (so_far : gr
 
 -- the summary of a run that stands for a world is the one that is due
 pub summary_due : (functions : ℕ) (image : Image) (run : RunValue) (s : Findings) (total : Content) (rate : ℕ) (line : List ℕ) (z : Sizes) (w : World) → AreFindings image total s → SumsUp functions run s line → StandsFor w run → run.machine.sizes ≡ z
-    → total ≡ written_profile Bsd z w.log rate
-    → (let due = profile_sources image (written_profile Bsd z w.log rate) in line ≡ demo_summary functions (distinct_count (kept_calls z w.log)) due.graph due.flow due.shares (summary_of z w))
+    → total ≡ logged_profile z w.log rate
+    → (let due = profile_sources image (logged_profile z w.log rate) in line ≡ demo_summary functions (distinct_count (kept_calls z w.log)) due.graph due.flow due.shares (summary_of z w))
 summary_due functions image run s total rate line z w are sums stands same written =
     sums w stands
     ∙ ap (λ (y : Sizes). demo_summary functions (distinct_count (kept_calls y w.log)) s.graph s.flow s.shares (summary_of y w)) same

@@ -70,13 +70,13 @@ annotate_within (Some (a ∷ elf ∷ gmons)) = mapped (Annotate elf) (λ files. 
 
 profile_within : (run : Option Command) (selection : Option Selection) → Within (profile_from run selection)
 profile_within None selection = tt
-profile_within (Some (Run elf gmon form image setup)) None = tt
-profile_within (Some (Run elf gmon form image setup)) (Some selection) = tt
+profile_within (Some (Run elf gmon form memory setup)) None = tt
+profile_within (Some (Run elf gmon form memory setup)) (Some selection) = tt
 profile_within (Some (Show gmon)) selection = tt
 profile_within (Some (Syms elf)) selection = tt
 profile_within (Some (Sum out gmons)) selection = tt
 profile_within (Some (Report elf gmons other)) selection = tt
-profile_within (Some (Profile elf gmon form image setup other)) selection = tt
+profile_within (Some (Profile elf gmon form memory setup other)) selection = tt
 profile_within (Some (Demo functions elf setup)) selection = tt
 profile_within (Some (Annotate elf gmons)) selection = tt
 profile_within (Some (Folded elf inclusive setup)) selection = tt

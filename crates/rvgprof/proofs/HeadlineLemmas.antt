@@ -2,11 +2,8 @@
 use Rattle.std.proofs.Common.{◌≡◌, ◌+◌, ◌*◌, ℕ, Bool, true, false, cond, ltb, ◌-◌, List, [], ◌∷◌, ◌++◌, append-nil, append_assoc, length, Option, Some, None, Result, Ok, Err, refl, sym, ap, subst, ◌∙◌}
 use Rattle.std.specs.Prelude.{codes, is_ok, option_map, IfSome, MatchOption, ⊤}
 use Rattle.std.specs.Result.{IsOk}
-use Rattle.std.specs.List.{flat_map}
-use Rattle.std.proofs.lemmas.List.Concat.{flat_map-append}
 use Rattle.std.proofs.lemmas.List.{length-map}
 use Rattle.gp_base.specs.declared.records.Form.{Form}
-use Rattle.gp_base.specs.declared.records.Form.TheVariants.{Bsd}
 use Rattle.gp_base.specs.declared.records.Records.{Records}
 use Rattle.gp_base.specs.declared.limits.TheConstants.{MAX_ELF_BYTES, MAX_PROFILE_BYTES}
 use Rattle.elf32_syms.specs.declared.image.Image.{Image}
@@ -17,7 +14,6 @@ use Rattle.gmon_data.specs.Content.{Content, IsProfile, WideRec, conflict_of, em
 use Rattle.gmon_data.specs.Content.{content_of}
 use Rattle.gmon_data.specs.declared.refusal.Unlike.{Unlike as Difference}
 use Rattle.profile_sum.specs.Sum.{sum_of, clash_of}
-use Rattle.profile_sum.proofs.ContentLemmas.{content_sum}
 use Rattle.mcount_arcs.specs.declared.sizes.Sizes.{Sizes}
 use Rattle.prof_machine.specs.World.{World}
 use Rattle.host_port.specs.Act.{Act, Disk, Out, complaint_of, file_content, disk_after}
@@ -56,7 +52,7 @@ use Rattle.command_words.specs.Items.{nth_word}
 use Rattle.command_words.specs.Words.{command_of}
 use Rattle.rvgprof.specs.Course.{Course, Ends, Input, Does, Reply, one_by_one, unless, behind, reply_to}
 use Rattle.gmon_files.specs.Forms.{file_records, file_refusal}
-use Rattle.rvgprof.specs.Answer.{Chosen, RunFiles, all_reports, annotate_course, chosen_by, command_course, contents_of, demo_course, demo_lines, end_course, exact_report, file_acts, files_named, fold_program, folded_course, given_file_acts, list_profiles, print_reports, profile_in, profiles, program, report_course, report_profiles, report_run, run_acts, run_program, show_course, show_lines, shown_reports, stacks_told, start_fault_of, sum_course, sum_file, sums_up, syms_course, syms_lines, too_wide, wide_step, written_profile}
+use Rattle.rvgprof.specs.Answer.{Chosen, RunFiles, all_reports, annotate_course, chosen_by, command_course, contents_of, demo_course, demo_lines, end_course, exact_report, file_acts, files_named, fold_program, folded_course, given_file_acts, list_profiles, print_reports, profile_in, profiles, program, report_course, report_profiles, report_run, run_acts, run_program, show_course, show_lines, shown_reports, stacks_told, start_fault_of, sum_file, sums_up, syms_lines, too_wide, wide_step, logged_profile}
 use Rattle.demo_elf.specs.Elf.{demo_program}
 use Rattle.rvgprof.specs.Reports.{profile_sources}
 use Rattle.rvgprof.specs.Contract.{Acted, LineEnds, LineIsPrinted, WhereTold}
@@ -65,12 +61,13 @@ use Rattle.rvgprof.specs.Help.{help_text, version_text}
 use Rattle.rvgprof.specs.Texts.{last_line}
 use Rattle.gmon_gnu.specs.ProfileText.{profile_text}
 use Rattle.text_lines.specs.Lines.{image_text, show_text}
-use Rattle.rvgprof.specs.Acceptance.{IsProgramFile, IsAccepted, Starts, records_of, total_of}
+use Rattle.rvgprof.specs.Acceptance.{IsAccepted, records_of, total_of}
 use Rattle.rvgprof.specs.Headline.{Answered, DemoLeaves, ExecutionsAreListed, FoldedLeaves, ProfileLeaves, Holds, NamesDiffer, IsPrinted, Leaves, AnnotateLeaves, ReportLeaves, RunIsSummedUp, RunIsWritten, RunLeaves, ShowLeaves, SumLeaves, SymsLeaves, TimeIsShared, demo_printed, exact_section, printed_text, run_sources, sum_sources, reports_text}
 use Rattle.rvgprof.specs.Fitting.{FitsWhereTold, FileFits, SumIsProfile}
 use Rattle.rvgprof.specs.RunFile.{FitsFile, SaysProfile, SaysRun, gmon_text, memory_text, reported_profile, text_sizes, end_world}
 use Rattle.rvgprof.proofs.AcceptanceLemmas.{accepted}
 use Rattle.rvgprof.proofs.Summing.{all_records, nothing_added, total_more}
+use Rattle.prof_machine.proofs.PrintLemmas.{files_driven}
 use Rattle.rvgprof.proofs.FileLemmas.{file_written, file_stays}
 use Rattle.rvgprof.proofs.RunFileLemmas.{profile_files_read_back, run_files_read_back}
 use Rattle.rvgprof.proofs.Standing.{further}
@@ -229,6 +226,20 @@ demo_complains name bytes prints text line =
     complained-append (given_file_acts name bytes) run ∙ ap (λ (t : List ℕ). t ++ complaint_of run) (no_complaints name bytes) ∙ complained-append prints (Out text ∷ []) ∙ append-nil (complaint_of prints) in
     complained-append (given_file_acts name bytes ++ run) (Complain line ∷ []) ∙ ap (λ (t : List ℕ). complaint_of (given_file_acts name bytes ++ run) ++ t) (append-nil line) ∙ ap (λ (t : List ℕ). t ++ line) own
 
+-- the file of a demo's program, behind which none is written
+demo_file : (words : List (List ℕ)) (elf : Option ℕ) (word : ℕ) (bytes : List ℕ) (prints : List Act) (text line : List ℕ) (d : Disk)
+    → ((x : Disk) → disk_after prints x ≡ x) → elf ≡ Some word
+    → file_content (nth_word words word) (disk_after ((given_file_acts (option_map (nth_word words) elf) bytes ++ (prints ++ Out text ∷ [])) ++ Complain line ∷ []) d).files ≡ bytes
+demo_file words elf word bytes prints text line d keeps is =
+    let name = nth_word words word in
+    let content = λ (x : Disk). file_content name x.files in
+    let file = given_file_acts (option_map (nth_word words) elf) bytes in
+    let run : List Act = prints ++ Out text ∷ [] in
+    let behind_file = disk_after file d in
+    ap content (disk_after-append (file ++ run) (Complain line ∷ []) d ∙ disk_after-append file run d ∙ disk_after-append prints (Out text ∷ []) behind_file ∙ keeps behind_file)
+    ∙ ap (λ (o : Option ℕ). content (disk_after (given_file_acts (option_map (nth_word words) o) bytes) d)) is
+    ∙ file_written name bytes d
+
 told_file : (old new : Option Disk) (f : Disk → Disk) (name text : List ℕ) → Becomes f old new → ((d : Disk) → file_content name (f d).files ≡ text) → IfSome new (λ d. file_content name d.files ≡ text)
 told_file old None f name text same holds = tt
 told_file None (Some new) f name text same holds = absurd cc
@@ -246,12 +257,12 @@ told_word old new words contents word told = by old.disk new.disk told
 
 -- ---- a run
 
-module _ (words : List (List ℕ)) (contents : ℕ → List ℕ) (elf gmon : ℕ) (form : Form) (image : Option ℕ) (setup : Setup) where
+module _ (words : List (List ℕ)) (contents : ℕ → List ℕ) (elf gmon : ℕ) (form : Form) (memory : Option ℕ) (setup : Setup) where
   abbrev bytes : List ℕ
   bytes = contents elf
 
   abbrev files : RunFiles
-  files = files_named words gmon form image
+  files = files_named words gmon form memory
 
   abbrev due : List Act
   due = run_acts files setup (text_sizes bytes setup) (end_world bytes setup)
@@ -267,14 +278,14 @@ module _ (words : List (List ℕ)) (contents : ℕ → List ℕ) (elf gmon : ℕ
       (still_done contents (program elf started) (started bytes (image_of bytes)) read done)
 
   -- the file that is left, where no file is written behind the run's own
-  file_holds : (rest : List Act) (d : Disk) → ((x : Disk) → disk_after rest x ≡ x) → NamesDiffer words gmon image
+  file_holds : (rest : List Act) (d : Disk) → ((x : Disk) → disk_after rest x ≡ x) → NamesDiffer words gmon memory
       → file_content (nth_word words gmon) (disk_after (due ++ rest) d).files ≡ gmon_text form bytes setup
   file_holds rest d keeps apart =
       let prints = (end_world bytes setup).prints in
       let text = gmon_text form bytes setup in
       let one = file_acts (nth_word words gmon) text in
-      let memory = layout_of (block_image (text_sizes bytes setup) (end_world bytes setup).log) in
-      let two = given_file_acts (option_map (nth_word words) image) memory in
+      let held = layout_of (block_image (text_sizes bytes setup) (end_world bytes setup).log) in
+      let two = given_file_acts (option_map (nth_word words) memory) held in
       let content = λ (x : Disk). file_content (nth_word words gmon) x.files in
       let behind_prints = disk_after prints d in
       let behind_file = disk_after one behind_prints in
@@ -282,35 +293,35 @@ module _ (words : List (List ℕ)) (contents : ℕ → List ℕ) (elf gmon : ℕ
       ap content (disk_after-append (prints ++ (one ++ two)) rest d)
       ∙ ap (λ (x : Disk). content (disk_after rest x)) (disk_after-append prints (one ++ two) d ∙ disk_after-append one two behind_prints)
       ∙ ap content (keeps behind_memory)
-      ∙ file_stays (nth_word words gmon) memory (option_map (nth_word words) image) behind_file apart
+      ∙ file_stays (nth_word words gmon) held (option_map (nth_word words) memory) behind_file apart
       ∙ file_written (nth_word words gmon) text behind_prints
 
   -- the file of the runtime's memory, which is written last
-  memory_holds : (rest : List Act) (d : Disk) (place : ℕ) → ((x : Disk) → disk_after rest x ≡ x) → image ≡ Some place
+  memory_holds : (rest : List Act) (d : Disk) (place : ℕ) → ((x : Disk) → disk_after rest x ≡ x) → memory ≡ Some place
       → file_content (nth_word words place) (disk_after (due ++ rest) d).files ≡ memory_text bytes setup
   memory_holds rest d place keeps is =
       let prints = (end_world bytes setup).prints in
       let one = file_acts (nth_word words gmon) (gmon_text form bytes setup) in
-      let memory = memory_text bytes setup in
-      let two = given_file_acts (option_map (nth_word words) image) memory in
+      let held = memory_text bytes setup in
+      let two = given_file_acts (option_map (nth_word words) memory) held in
       let content = λ (x : Disk). file_content (nth_word words place) x.files in
       let behind_prints = disk_after prints d in
       let behind_file = disk_after one behind_prints in
       ap content (disk_after-append (prints ++ (one ++ two)) rest d)
       ∙ ap (λ (x : Disk). content (disk_after rest x)) (disk_after-append prints (one ++ two) d ∙ disk_after-append one two behind_prints)
       ∙ ap content (keeps (disk_after two behind_file))
-      ∙ ap (λ (o : Option ℕ). content (disk_after (given_file_acts (option_map (nth_word words) o) memory) behind_file)) is
-      ∙ file_written (nth_word words place) memory behind_file
+      ∙ ap (λ (o : Option ℕ). content (disk_after (given_file_acts (option_map (nth_word words) o) held) behind_file)) is
+      ∙ file_written (nth_word words place) held behind_file
 
   -- what is printed on the error output
   run_complains : (rest : List Act) → complaint_of (due ++ rest) ≡ complaint_of (end_world bytes setup).prints ++ complaint_of rest
   run_complains rest =
       let prints = (end_world bytes setup).prints in
       let one = file_acts (nth_word words gmon) (gmon_text form bytes setup) in
-      let memory = memory_text bytes setup in
-      let two = given_file_acts (option_map (nth_word words) image) memory in
+      let held = memory_text bytes setup in
+      let two = given_file_acts (option_map (nth_word words) memory) held in
       let run : complaint_of (prints ++ (one ++ two)) ≡ complaint_of prints =
-      complained-append prints (one ++ two) ∙ ap (λ (text : List ℕ). complaint_of prints ++ text) (no_complaints (option_map (nth_word words) image) memory) ∙ append-nil (complaint_of prints) in
+      complained-append prints (one ++ two) ∙ ap (λ (text : List ℕ). complaint_of prints ++ text) (no_complaints (option_map (nth_word words) memory) held) ∙ append-nil (complaint_of prints) in
       complained-append (prints ++ (one ++ two)) rest ∙ ap (λ (text : List ℕ). text ++ complaint_of rest) run
 
   -- what is printed
@@ -318,9 +329,9 @@ module _ (words : List (List ℕ)) (contents : ℕ → List ℕ) (elf gmon : ℕ
   run_prints rest =
       let prints = (end_world bytes setup).prints in
       let one = file_acts (nth_word words gmon) (gmon_text form bytes setup) in
-      let memory = layout_of (block_image (text_sizes bytes setup) (end_world bytes setup).log) in
-      let two = given_file_acts (option_map (nth_word words) image) memory in
-      let files_print : prints_of (one ++ two) ≡ [] = no_prints (option_map (nth_word words) image) memory in
+      let held = layout_of (block_image (text_sizes bytes setup) (end_world bytes setup).log) in
+      let two = given_file_acts (option_map (nth_word words) memory) held in
+      let files_print : prints_of (one ++ two) ≡ [] = no_prints (option_map (nth_word words) memory) held in
       let run : prints_of (prints ++ (one ++ two)) ≡ prints_of prints = printed-append prints (one ++ two) ∙ ap (λ (text : List ℕ). prints_of prints ++ text) files_print ∙ append-nil (prints_of prints) in
       printed-append (prints ++ (one ++ two)) rest ∙ ap (λ (text : List ℕ). text ++ prints_of rest) run
 
@@ -446,18 +457,18 @@ module _ (words : List (List ℕ)) (old mid new : Outside) (done : Done) (acted 
   ended_by command reply said is = acted.owed.owes.ending ∙ ap (λ (r : Reply). r.ending) (ap (reply_to contents) (ap (command_course words) said) ∙ is)
 
   -- a run, of which the acts that follow leave all files as they are
-  run_is_written : (elf gmon : ℕ) (form : Form) (image : Option ℕ) (setup : Setup) (rest : List Act) → FitsWhereTold words old new elf form setup
-      → ((x : Disk) → disk_after rest x ≡ x) → Did (due words contents elf gmon form image setup ++ rest) (with_openings acted.opens old) new
-      → RunIsWritten words new gmon form image setup (contents elf)
-  run_is_written elf gmon form image setup rest fits keeps did =
+  run_is_written : (elf gmon : ℕ) (form : Form) (memory : Option ℕ) (setup : Setup) (rest : List Act) → FitsWhereTold words old new elf form setup
+      → ((x : Disk) → disk_after rest x ≡ x) → Did (due words contents elf gmon form memory setup ++ rest) (with_openings acted.opens old) new
+      → RunIsWritten words new gmon form memory setup (contents elf)
+  run_is_written elf gmon form memory setup rest fits keeps did =
       let program = contents elf in
       let is_told = told_word old new words contents elf told in
-      let file : NamesDiffer words gmon image → IfSome new.disk (λ d. file_content (nth_word words gmon) d.files ≡ gmon_text form program setup) =
-      λ apart. told_file old.disk new.disk _ (nth_word words gmon) (gmon_text form program setup) did.disk (λ d. file_holds words contents elf gmon form image setup rest d keeps apart) in
+      let file : NamesDiffer words gmon memory → IfSome new.disk (λ d. file_content (nth_word words gmon) d.files ≡ gmon_text form program setup) =
+      λ apart. told_file old.disk new.disk _ (nth_word words gmon) (gmon_text form program setup) did.disk (λ d. file_holds words contents elf gmon form memory setup rest d keeps apart) in
       record {
         file = file;
         says = λ apart. says_run words program elf gmon form setup _ old.disk new.disk is_told fits (file apart) did.disk;
-        memory = λ place is. told_file old.disk new.disk _ (nth_word words place) (memory_text program setup) did.disk (λ d. memory_holds words contents elf gmon form image setup rest d place keeps is);
+        runtime = λ place is. told_file old.disk new.disk _ (nth_word words place) (memory_text program setup) did.disk (λ d. memory_holds words contents elf gmon form memory setup rest d place keeps is);
       }
 
   -- what acts print was printed
@@ -474,22 +485,22 @@ module _ (words : List (List ℕ)) (old mid new : Outside) (done : Done) (acted 
     errors = Becomes-by _ _ old.err new.err (λ b. ap (λ (t : List ℕ). b ++ t) is) did.err;
   }
 
-  run_leaves : (elf gmon : ℕ) (form : Form) (image : Option ℕ) (setup : Setup) → command_of words ≡ Some (Run elf gmon form image setup) → FitsWhereTold words old new elf form setup
-      → RunLeaves words contents old new done elf gmon form image setup
-  run_leaves elf gmon form image setup said fits =
-      let command = Some (Run elf gmon form image setup) in
-      let acts = due words contents elf gmon form image setup in
+  run_leaves : (elf gmon : ℕ) (form : Form) (memory : Option ℕ) (setup : Setup) → command_of words ≡ Some (Run elf gmon form memory setup) → FitsWhereTold words old new elf form setup
+      → RunLeaves words contents old new done elf gmon form memory setup
+  run_leaves elf gmon form memory setup said fits =
+      let command = Some (Run elf gmon form memory setup) in
+      let acts = due words contents elf gmon form memory setup in
       let line = Complain last.line ∷ [] in
       let prints = (end_world (contents elf) setup).prints in
       let taken : IsAccepted words contents command = all_taken command said in
-      let reply = run_goes words contents elf gmon form image setup (λ i. sums_up) (well_done command said) in
+      let reply = run_goes words contents elf gmon form memory setup (λ i. sums_up) (well_done command said) in
       let did = subst (λ (acts : List Act). Did acts (with_openings acted.opens old) new) (append_assoc acts [] line) (done_by command _ said reply) in
       record {
         runs = record { accepted = taken.0; starts = taken.1 };
-        written = run_is_written elf gmon form image setup line fits (λ x. refl) did;
-        output = was_printed (acts ++ line) _ (run_prints words contents elf gmon form image setup line ∙ append-nil (prints_of prints)) did;
+        written = run_is_written elf gmon form memory setup line fits (λ x. refl) did;
+        output = was_printed (acts ++ line) _ (run_prints words contents elf gmon form memory setup line ∙ append-nil (prints_of prints)) did;
         run = run_is_summed_up (contents elf) setup (acts ++ line) (ended_by command _ said reply)
-            (run_complains words contents elf gmon form image setup line ∙ ap (λ (text : List ℕ). complaint_of prints ++ text) (append-nil last.line)) did;
+            (run_complains words contents elf gmon form memory setup line ∙ ap (λ (text : List ℕ). complaint_of prints ++ text) (append-nil last.line)) did;
       }
 
   report_leaves : (elf : ℕ) (gmons : List ℕ) (selection : Selection) → command_of words ≡ Some (Report elf gmons selection) → ReportLeaves contents old new elf gmons (chosen_by words selection)
@@ -533,36 +544,36 @@ module _ (words : List (List ℕ)) (old mid new : Outside) (done : Done) (acted 
         output = was_printed _ _ (append-nil (annotated_text image program (total_of contents gmons))) did;
       }
 
-  profile_leaves : (elf gmon : ℕ) (form : Form) (image : Option ℕ) (setup : Setup) (selection : Selection) → command_of words ≡ Some (Profile elf gmon form image setup selection) → FitsWhereTold words old new elf form setup
-      → ProfileLeaves words contents old new done elf gmon form image setup (chosen_by words selection)
-  profile_leaves elf gmon form image setup selection said fits =
-      let command = Some (Profile elf gmon form image setup selection) in
+  profile_leaves : (elf gmon : ℕ) (form : Form) (memory : Option ℕ) (setup : Setup) (selection : Selection) → command_of words ≡ Some (Profile elf gmon form memory setup selection) → FitsWhereTold words old new elf form setup
+      → ProfileLeaves words contents old new done elf gmon form memory setup (chosen_by words selection)
+  profile_leaves elf gmon form memory setup selection said fits =
+      let command = Some (Profile elf gmon form memory setup selection) in
       let chosen = chosen_by words selection in
       let program = contents elf in
       let z = text_sizes program setup in
       let w = end_world program setup in
-      let acts = due words contents elf gmon form image setup in
+      let acts = due words contents elf gmon form memory setup in
       let line = Complain last.line ∷ [] in
-      let sources = run_sources chosen form program setup in
+      let sources = run_sources chosen program setup in
       let taken : IsAccepted words contents command = all_taken command said in
       let goes = well_done command said in
-      let ran = run_goes words contents elf gmon form image setup (report_run form setup.rate chosen) goes in
+      let ran = run_goes words contents elf gmon form memory setup (report_run setup.rate chosen) goes in
       let printed = reports_go contents chosen sources _ (subst (λ (r : Reply). IsOk r.ending) ran goes) in
       let reply = ran ∙ ap (behind acts) printed in
       let printed_last = (reply_to contents (reports contents chosen sources _)).acts in
       let did = subst (λ (acts : List Act). Did acts (with_openings acted.opens old) new) (append_assoc acts printed_last line) (done_by command _ said reply) in
       record {
         runs = record { accepted = taken.0; starts = taken.1 };
-        written = run_is_written elf gmon form image setup (printed_last ++ line) fits (reports_keep contents chosen sources _ last.line) did;
-        output = was_printed (acts ++ (printed_last ++ line)) _ (run_prints words contents elf gmon form image setup (printed_last ++ line)
+        written = run_is_written elf gmon form memory setup (printed_last ++ line) fits (reports_keep contents chosen sources _ last.line) did;
+        output = was_printed (acts ++ (printed_last ++ line)) _ (run_prints words contents elf gmon form memory setup (printed_last ++ line)
             ∙ ap (λ (text : List ℕ). prints_of w.prints ++ text) (reports_print contents chosen sources _ last.line)) did;
         run = run_is_summed_up program setup (acts ++ (printed_last ++ line)) (ended_by command _ said reply ∙ reports_end contents chosen sources _)
-            (run_complains words contents elf gmon form image setup (printed_last ++ line) ∙ ap (λ (text : List ℕ). complaint_of w.prints ++ text) (reports_complain contents chosen sources _ last.line)) did;
-        shared = time_is_shared (image_of program) (without_cuts (written_profile form z w.log setup.rate) (image_of program).symbols chosen.cuts);
+            (run_complains words contents elf gmon form memory setup (printed_last ++ line) ∙ ap (λ (text : List ℕ). complaint_of w.prints ++ text) (reports_complain contents chosen sources _ last.line)) did;
+        shared = time_is_shared (image_of program) (without_cuts (logged_profile z w.log setup.rate) (image_of program).symbols chosen.cuts);
         fits = taken.2;
       }
 
-  demo_leaves : (functions : ℕ) (elf : Option ℕ) (setup : Setup) → command_of words ≡ Some (Demo functions elf setup) → DemoLeaves words old new done functions setup
+  demo_leaves : (functions : ℕ) (elf : Option ℕ) (setup : Setup) → command_of words ≡ Some (Demo functions elf setup) → DemoLeaves words old new done functions elf setup
   demo_leaves functions elf setup said =
       let command = Some (Demo functions elf setup) in
       let name = option_map (nth_word words) elf in
@@ -571,9 +582,11 @@ module _ (words : List (List ℕ)) (old mid new : Outside) (done : Done) (acted 
       let reply = demo_goes contents functions name setup (well_done command said) in
       let did = done_by command _ said reply in
       record {
+        file = λ word is. told_file old.disk new.disk _ (nth_word words word) bytes did.disk
+            (λ d. demo_file words elf word bytes prints (demo_printed functions setup) last.line d (files_driven (image_of bytes) bytes setup) is);
         output = was_printed _ _ (demo_prints name bytes prints (demo_printed functions setup) last.line) did;
         run = run_is_summed_up bytes setup _ (ended_by command _ said reply) (demo_complains name bytes prints (demo_printed functions setup) last.line) did;
-        shared = time_is_shared (image_of bytes) (reported_profile Bsd bytes setup);
+        shared = time_is_shared (image_of bytes) (reported_profile bytes setup);
       }
 
   -- a text is all that was printed
@@ -641,8 +654,8 @@ module _ (words : List (List ℕ)) (old mid new : Outside) (done : Done) (acted 
   leaves_by (Some (Syms elf)) said fits = syms_leaves elf said
   leaves_by (Some (Sum out gmons)) said fits = sum_leaves out gmons said fits
   leaves_by (Some (Report elf gmons selection)) said fits = report_leaves elf gmons selection said
-  leaves_by (Some (Run elf gmon form image setup)) said fits = run_leaves elf gmon form image setup said fits
-  leaves_by (Some (Profile elf gmon form image setup selection)) said fits = profile_leaves elf gmon form image setup selection said fits
+  leaves_by (Some (Run elf gmon form memory setup)) said fits = run_leaves elf gmon form memory setup said fits
+  leaves_by (Some (Profile elf gmon form memory setup selection)) said fits = profile_leaves elf gmon form memory setup selection said fits
   leaves_by (Some (Demo functions elf setup)) said fits = demo_leaves functions elf setup said
   leaves_by (Some (Annotate elf gmons)) said fits = listing_leaves elf gmons said
   leaves_by (Some (Folded elf inclusive setup)) said fits = folded_leaves elf inclusive setup said

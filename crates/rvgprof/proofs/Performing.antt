@@ -33,7 +33,7 @@ use Rattle.rvgprof.specs.Contract.{Acted}
 use Rattle.rvgprof.specs.Standing.{Stands}
 use Rattle.rvgprof.proofs.Standing.{ends, does}
 
-pub given_shut : (image : Option (List ℕ)) (bytes : List ℕ) → writes_after (given_file_acts image bytes) false ≡ false
+pub given_shut : (memory : Option (List ℕ)) (bytes : List ℕ) → writes_after (given_file_acts memory bytes) false ≡ false
 given_shut None bytes = refl
 given_shut (Some name) bytes = refl
 
@@ -41,8 +41,8 @@ given_shut (Some name) bytes = refl
 pub shut_after : (files : RunFiles) (setup : Setup) (z : Sizes) (w : World) (b : Bool) → writes_after (run_acts files setup z w) b ≡ false
 shut_after files setup z w b =
     let front = file_acts files.gmon (profile_bytes files.form setup z w) in
-    let back = given_file_acts files.image (layout_of (block_image z w.log)) in
-    writes_after-append w.prints (front ++ back) b ∙ writes_after-append front back (writes_after w.prints b) ∙ given_shut files.image (layout_of (block_image z w.log))
+    let back = given_file_acts files.memory (layout_of (block_image z w.log)) in
+    writes_after-append w.prints (front ++ back) b ∙ writes_after-append front back (writes_after w.prints b) ∙ given_shut files.memory (layout_of (block_image z w.log))
 
 -- ---- the prints
 
@@ -107,12 +107,12 @@ image_is v z log stands sizes =
 pub file_as : {T E : Type 0} (name text whole : List ℕ) (x y : Outside) (r : Result T E) → text ≡ whole → Performs (file_acts name text) x y r → Performs (file_acts name whole) x y r
 file_as name text whole x y r is p = subst (λ (t : List ℕ). Performs (file_acts name t) x y r) is p
 
-pub given_as : {T E : Type 0} (words : List (List ℕ)) (place : ℕ) (image : Option ℕ) (bytes : List ℕ) (x y : Outside) (r : Result T E) → image ≡ Some place → Performs (file_acts (nth_word words place) bytes) x y r
-    → Performs (given_file_acts (option_map (nth_word words) image) bytes) x y r
-given_as words place image bytes x y r is p = subst (λ (i : Option ℕ). Performs (given_file_acts (option_map (nth_word words) i) bytes) x y r) (sym is) p
+pub given_as : {T E : Type 0} (words : List (List ℕ)) (place : ℕ) (memory : Option ℕ) (bytes : List ℕ) (x y : Outside) (r : Result T E) → memory ≡ Some place → Performs (file_acts (nth_word words place) bytes) x y r
+    → Performs (given_file_acts (option_map (nth_word words) memory) bytes) x y r
+given_as words place memory bytes x y r is p = subst (λ (i : Option ℕ). Performs (given_file_acts (option_map (nth_word words) i) bytes) x y r) (sym is) p
 
-pub given_nothing : {T E : Type 0} (words : List (List ℕ)) (image : Option ℕ) (bytes : List ℕ) (x : Outside) (u : T) → image ≡ None → Performs {T = T} {E = E} (given_file_acts (option_map (nth_word words) image) bytes) x x (Ok u)
-given_nothing {T} {E} words image bytes x u none =
+pub given_nothing : {T E : Type 0} (words : List (List ℕ)) (memory : Option ℕ) (bytes : List ℕ) (x : Outside) (u : T) → memory ≡ None → Performs {T = T} {E = E} (given_file_acts (option_map (nth_word words) memory) bytes) x x (Ok u)
+given_nothing {T} {E} words memory bytes x u none =
     subst (λ (i : Option ℕ). Performs {T = T} {E = E} (given_file_acts (option_map (nth_word words) i) bytes) x x (Ok u)) (sym none) (record { done = Did-nothing x; kept = KeepsCounts-same x; failed = tt })
 
 -- the last acts of a command were done

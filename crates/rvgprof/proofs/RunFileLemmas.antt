@@ -17,6 +17,7 @@ use Rattle.gp_base.specs.declared.records.RawBlock.{RawBlock}
 use Rattle.gp_base.specs.declared.records.Rec.{Rec}
 use Rattle.gp_base.specs.declared.records.Rec.TheVariants as recs
 use Rattle.gp_base.specs.declared.records.Unit as units
+use Rattle.gmon_cells.specs.RunRecords.{log_recs}
 use Rattle.gmon_bsd.specs.Run.{bsd_run_text}
 use Rattle.gmon_bsd.proofs.RunReadBack.{run_read_back as bsd_read_back}
 use Rattle.gmon_data.specs.declared.hist.Hist.{Hist}
@@ -28,13 +29,11 @@ use Rattle.gmon_data.proofs.TallyLemmas.{sums_by_key-fold}
 use Rattle.gmon_gnu.specs.Blocks.{block_at, block_record, executed_blocks}
 use Rattle.gmon_gnu.specs.CountedRun.{CountsFit, block_recs, counted_text}
 use Rattle.gmon_gnu.specs.ProfileText.{profile_text}
-use Rattle.gmon_gnu.specs.Run.{run_recs, gnu_run_text}
+use Rattle.gmon_gnu.specs.Run.{gnu_run_text}
 use Rattle.gmon_gnu.proofs.CountedReadBack.{counted_read_back}
 use Rattle.gmon_gnu.proofs.ProfileReadBack.{profile_read_back}
-use Rattle.gmon_gnu.proofs.RunReadBack.{run_read_back as gnu_read_back}
 use Rattle.mcount_arcs.specs.declared.sizes.Sizes.{Sizes}
 use Rattle.mcount_arcs.specs.Arcs.{arcs_of}
-use Rattle.mcount_arcs.specs.Samples.{buckets_of}
 use Rattle.mcount_arcs.specs.Sizes.{AreSizes}
 use Rattle.prof_machine.specs.declared.ending.End.{End}
 use Rattle.prof_machine.specs.declared.ending.End.TheVariants.{Budget, Exit, Trap}
@@ -47,11 +46,10 @@ use Rattle.prof_machine.specs.World.{World}
 use Rattle.prof_machine.proofs.NotedLemmas.{as_many}
 use Rattle.prof_machine.proofs.RunLemmas.{plan_ends, timed_budget, timed_exit, timed_trap}
 use Rattle.gmon_files.specs.Forms.{file_records, form_of, records_in, refusal_in}
-use Rattle.gmon_files.specs.Runs.{run_text}
 use Rattle.gmon_files.proofs.RunLemmas.{bsd_form, gnu_form}
 use Rattle.rvgprof.specs.Answer.{counts_text, profile_bytes, profile_in}
 use Rattle.command_words.specs.Words.{may_count}
-use Rattle.rvgprof.specs.RunFile.{FitsFile, ProfileFilesAreReadBack, RunFilesAreReadBack, SaysRun, execution_blocks, gmon_text, records_of_run, reported_profile, text_sizes, end_world}
+use Rattle.rvgprof.specs.RunFile.{FitsFile, ProfileFilesAreReadBack, RunFilesAreReadBack, SaysRun, execution_blocks, gmon_text, records_of_run, text_sizes, end_world}
 
 -- ---- how often instructions were executed
 
@@ -269,7 +267,7 @@ module _ (form : Form) (program : List ℕ) (setup : Setup) (fits : FitsFile for
   w = end_world program setup
 
   abbrev front : List Rec
-  front = run_recs z.low z.high setup.rate (buckets_of z w.log) (arcs_of z w.log)
+  front = log_recs z w.log setup.rate
 
   abbrev blocks : List RawBlock
   blocks = executed_blocks z.low (execution_blocks setup.blocks z w)
@@ -282,8 +280,6 @@ module _ (form : Form) (program : List ℕ) (setup : Setup) (fits : FitsFile for
     form_is : form_of text ≡ f
     accepted : refusal_in f text ≡ None
     records : records_in f text ≡ record { form = f; recs = front ++ block_recs blocks }
-    -- the run's own records are read of the run's own text
-    own : records_in f (run_text f z w.log setup.rate) ≡ record { form = f; recs = front }
 
   gnu_text : (b : Bool) → gnu_run_text z w.log setup.rate ++ counts_text b z w ≡ counted_text z w.log setup.rate z.low (execution_blocks b z w)
   unfolding block_record
@@ -298,7 +294,6 @@ module _ (form : Form) (program : List ℕ) (setup : Setup) (fits : FitsFile for
         form_is = gnu_form z w.log setup.rate (counts_text setup.blocks z w);
         accepted = ap (refusal_in Gnu) text ∙ read.0;
         records = ap (records_in Gnu) text ∙ read.1;
-        own = (gnu_read_back z w.log setup.rate fits.sizes rate_fits fits.calls).1;
       }
   is_text Bsd may = by setup.blocks refl may
     where
@@ -312,7 +307,6 @@ module _ (form : Form) (program : List ℕ) (setup : Setup) (fits : FitsFile for
             form_is = ap form_of text ∙ bsd_form (image_of program).text setup.hist setup.hash w.log setup.rate;
             accepted = ap (refusal_in Bsd) text ∙ read.0;
             records = ap (records_in Bsd) text ∙ read.1 ∙ ap (λ (rs : List Rec). record { form = Bsd; recs = rs }) (sym none);
-            own = read.1;
           }
 
   no_front_blocks : filter_map block_in (wide_records front) ≡ []
@@ -325,7 +319,6 @@ module _ (form : Form) (program : List ℕ) (setup : Setup) (fits : FitsFile for
       let is = is_text form fits.within.1 in
       let records : file_records text ≡ records_of_run form setup z w = ap (λ (f : Form). records_in f text) is.form_is ∙ is.records in
       let content : profile_in (file_records text) ≡ content_of (wide_records (front ++ block_recs blocks)) = ap profile_in records in
-      let own : reported_profile form program setup ≡ content_of (wide_records front) = ap profile_in is.own in
       let hists = ap (λ (hs : List Hist). fold (λ done h. put_hist h done) [] hs) (found front blocks hist_in [] (no_hists blocks) ∙ append-nil (filter_map hist_in (wide_records front))) in
       let arcs = found front blocks arc_in [] (no_arcs blocks) ∙ append-nil (filter_map arc_in (wide_records front)) in
       let unit_found = found front blocks unit_in [] (no_units blocks) ∙ append-nil (filter_map unit_in (wide_records front)) in
@@ -334,9 +327,9 @@ module _ (form : Form) (program : List ℕ) (setup : Setup) (fits : FitsFile for
         form_is = is.form_is;
         accepted = ap (λ (f : Form). refusal_in f text) is.form_is ∙ is.accepted;
         records = records;
-        hists = ap (λ (c : Content). c.hists) content ∙ hists ∙ sym (ap (λ (c : Content). c.hists) own);
-        arcs = ap (λ (c : Content). c.arcs) content ∙ ap (sums_by_key same_ends) arcs ∙ sym (ap (λ (c : Content). c.arcs) own);
-        «unit» = ap (λ (c : Content). c.«unit») content ∙ ap (λ (us : List units.Unit). slice_get us 0) unit_found ∙ sym (ap (λ (c : Content). c.«unit») own);
+        hists = ap (λ (c : Content). c.hists) content ∙ hists;
+        arcs = ap (λ (c : Content). c.arcs) content ∙ ap (sums_by_key same_ends) arcs;
+        «unit» = ap (λ (c : Content). c.«unit») content ∙ ap (λ (us : List units.Unit). slice_get us 0) unit_found;
         executions = λ counts i below.
             ap (λ (c : Content). runs_at (z.low + 4 * i) c.blocks) content ∙ ap (λ (es : List (ℕ × ℕ)). runs_at (z.low + 4 * i) (sums_by_key nat_eq es)) all
             ∙ ap (λ (b : Bool). runs_at (z.low + 4 * i) (sums_by_key nat_eq (map pair_of (executed_blocks z.low (execution_blocks b z w))))) counts

@@ -34,7 +34,7 @@ use Rattle.annotate.specs.Listing.{annotated_text}
 use Rattle.flat_report.specs.Sources.{Sources}
 use Rattle.host_port.specs.Act.{Act, Out}
 use Rattle.gmon_files.specs.Forms.{file_refusal, file_records}
-use Rattle.rvgprof.specs.Answer.{Chosen, RunActs, chosen_by, chosen_sources, command_course, course_of, demo_lines, end_course, exact_report, files_named, fold_program, given_file_acts, list_profiles, print_reports, profile_file, profile_in, profiles, program, report_profiles, report_run, run_acts, run_program, show_lines, shown_reports, stacks_told, start_fault_of, sum_file, syms_lines, sums_up, too_wide, wide_step, written_profile}
+use Rattle.rvgprof.specs.Answer.{Chosen, RunActs, chosen_by, chosen_sources, command_course, course_of, demo_lines, end_course, exact_report, files_named, fold_program, given_file_acts, list_profiles, print_reports, profile_file, profile_in, profiles, program, report_profiles, report_run, run_acts, run_program, show_lines, shown_reports, stacks_told, start_fault_of, sum_file, syms_lines, sums_up, too_wide, wide_step, logged_profile}
 use Rattle.elf32_syms.specs.declared.refusal.ElfRefusal.{ElfRefusal}
 use Rattle.elf32_syms.specs.declared.refusal.ElfRefusal.TheVariants as elf
 use Rattle.gp_base.specs.declared.refusal.GmonRefusal.{GmonRefusal}
@@ -137,17 +137,17 @@ tells_by words contents (Report elf gmons selection) within =
     let chosen = chosen_by words selection in
     tells_program contents false elf (report_profiles gmons chosen) (λ bytes image.
     tells_profiles contents false gmons MAX_PROFILE_BYTES empty_content (λ total. print_reports chosen image total end_course) (λ t. tells_reports contents false chosen image t end_course refl))
-tells_by words contents (Run elf gmon form image setup) within =
-    let acts = run_acts (files_named words gmon form image) setup in
+tells_by words contents (Run elf gmon form memory setup) within =
+    let acts = run_acts (files_named words gmon form memory) setup in
     tells_program contents true elf (run_program acts setup sums_up) (λ bytes program. tells_run contents true acts setup sums_up bytes program (summed_up contents program bytes setup within.0))
-tells_by words contents (Profile elf gmon form image setup selection) within =
-    let acts = run_acts (files_named words gmon form image) setup in
+tells_by words contents (Profile elf gmon form memory setup selection) within =
+    let acts = run_acts (files_named words gmon form memory) setup in
     let chosen = chosen_by words selection in
-    let next : Image → Sizes → World → Course = report_run form setup.rate chosen in
+    let next : Image → Sizes → World → Course = report_run setup.rate chosen in
     tells_program contents true elf (λ b i. run_program acts setup (next i) b i) (λ bytes program.
     let z = sizes_of program.text setup.hist setup.hash in
     let w = final_world program bytes setup in
-    tells_run contents true acts setup (next program) bytes program (tells_reports contents true chosen program (written_profile form z w.log setup.rate) (sums_up z w) (summed_up contents program bytes setup within.0.0)))
+    tells_run contents true acts setup (next program) bytes program (tells_reports contents true chosen program (logged_profile z w.log setup.rate) (sums_up z w) (summed_up contents program bytes setup within.0.0)))
 tells_by words contents (Annotate elf gmons) within =
     tells_program contents false elf (list_profiles gmons) (λ bytes image.
     tells_profiles contents false gmons MAX_PROFILE_BYTES empty_content (λ total. Does (Out (annotated_text image bytes total) ∷ []) end_course) (λ t. refl))

@@ -84,8 +84,8 @@ run_fits words old mid new elf form setup bytes image v same limits within is ca
 
 -- it still does
 pub fits_still : (words : List (List ℕ)) (old mid new : Outside) (command : Option Command) → TellsNoMore mid new → FileFits words old mid command → FileFits words old new command
-fits_still words old mid new (Some (Run elf gmon form image setup)) tells fits = later_told old mid new (λ files. FitsFile form (file_content (nth_word words elf) files) setup) tells fits
-fits_still words old mid new (Some (Profile elf gmon form image setup selection)) tells fits = later_told old mid new (λ files. FitsFile form (file_content (nth_word words elf) files) setup) tells fits
+fits_still words old mid new (Some (Run elf gmon form memory setup)) tells fits = later_told old mid new (λ files. FitsFile form (file_content (nth_word words elf) files) setup) tells fits
+fits_still words old mid new (Some (Profile elf gmon form memory setup selection)) tells fits = later_told old mid new (λ files. FitsFile form (file_content (nth_word words elf) files) setup) tells fits
 fits_still words old mid new None tells fits = tt
 fits_still words old mid new (Some (Show gmon)) tells fits = tt
 fits_still words old mid new (Some (Syms elf)) tells fits = tt

@@ -60,8 +60,8 @@ IsAccepted words contents (Some (Show gmon)) = IsProfileFile (contents gmon)
 IsAccepted words contents (Some (Syms elf)) = IsProgramFile (contents elf)
 IsAccepted words contents (Some (Sum out gmons)) = AreProfileFiles contents gmons
 IsAccepted words contents (Some (Report elf gmons selection)) = IsProgramFile (contents elf) × AreProfileFiles contents gmons × AreNarrow (chosen_by words selection) (contents elf) (total_of contents gmons)
-IsAccepted words contents (Some (Run elf gmon form image setup)) = IsProgramFile (contents elf) × Starts (contents elf) setup
-IsAccepted words contents (Some (Profile elf gmon form image setup selection)) = IsProgramFile (contents elf) × Starts (contents elf) setup × AreNarrow (chosen_by words selection) (contents elf) (reported_profile form (contents elf) setup)
+IsAccepted words contents (Some (Run elf gmon form memory setup)) = IsProgramFile (contents elf) × Starts (contents elf) setup
+IsAccepted words contents (Some (Profile elf gmon form memory setup selection)) = IsProgramFile (contents elf) × Starts (contents elf) setup × AreNarrow (chosen_by words selection) (contents elf) (reported_profile (contents elf) setup)
 IsAccepted words contents (Some (Demo functions elf setup)) = (elf_refusal (demo_program functions) ≡ None) × Starts (demo_program functions) setup
 IsAccepted words contents (Some (Annotate elf gmons)) = IsProgramFile (contents elf) × AreProfileFiles contents gmons
 IsAccepted words contents (Some (Folded elf inclusive setup)) = IsProgramFile (contents elf) × Starts (contents elf) setup
@@ -70,8 +70,8 @@ IsAccepted words contents (Some Version) = ⊤
 
 -- whether a command starts a run
 abbrev pub starts_run : Option Command → Bool
-starts_run (Some (Run elf gmon form image setup)) = true
-starts_run (Some (Profile elf gmon form image setup selection)) = true
+starts_run (Some (Run elf gmon form memory setup)) = true
+starts_run (Some (Profile elf gmon form memory setup selection)) = true
 starts_run (Some (Demo functions elf setup)) = true
 starts_run (Some (Folded elf inclusive setup)) = true
 starts_run command = false
@@ -80,7 +80,7 @@ starts_run command = false
 abbrev pub acts_at_once : Option Command → Bool
 acts_at_once (Some (Show gmon)) = true
 acts_at_once (Some (Syms elf)) = true
-acts_at_once (Some (Run elf gmon form image setup)) = true
+acts_at_once (Some (Run elf gmon form memory setup)) = true
 acts_at_once (Some (Sum out gmons)) = true
 acts_at_once (Some (Annotate elf gmons)) = true
 acts_at_once (Some Help) = true

@@ -1,6 +1,6 @@
 -- What the words of the headline rest on in the layers below, a record for each. Each claim is written out here, so
 -- that a law of a layer no longer proves it once the law says less.
-use Rattle.std.specs.Prelude.{◌≡◌, ◌≢◌, ◌<◌, ◌≤◌, ◌+◌, ◌-◌, ◌*◌, ◌/◌, ◌^◌, ◌==◌, ◌++◌, ◌&&◌, ◌↔◌, ◌⊎◌, ℕ, suc, Bool, true, false, not, nat_eq, List, [], ◌∷◌, length, map, filter, filter_map, take, slice_get, slice_index, slice_index_or, Option, Some, None, IsSome, MatchOption, All, Contains, count_by, sum, if◌then◌else◌, nat_le, nat_lt, option_map}
+use Rattle.std.specs.Prelude.{◌≡◌, ◌≢◌, ◌<◌, ◌≤◌, ◌+◌, ◌-◌, ◌*◌, ◌/◌, ◌^◌, ◌==◌, ◌++◌, ◌&&◌, ◌↔◌, ◌⊎◌, ℕ, suc, Bool, true, false, not, nat_eq, List, [], ◌∷◌, codes, length, map, filter, filter_map, take, slice_get, slice_index, slice_index_or, Option, Some, None, IsSome, MatchOption, All, Contains, count_by, sum, if◌then◌else◌, nat_le, nat_lt, option_map}
 use Rattle.std.specs.List.{AllByRecursion, AllPairs, enumerate_from, flat_map, sum_by, cons_option, list_any, range_with_len}
 use Rattle.std.specs.List.Sorted.{IsPermutation, IsSortedBy, IsStrictlyIncreasing, IsStrictlySortedBy}
 use Rattle.std.specs.Int.{IsGcd, abs_diff}
@@ -13,7 +13,7 @@ use Rattle.gp_base.specs.declared.records.Form.{Form}
 use Rattle.gp_base.specs.declared.records.Form.TheVariants.{Bsd, Gnu}
 use Rattle.gp_base.specs.declared.records.Records.{Records}
 use Rattle.gp_base.specs.declared.refusal.GmonRefusal.{GmonRefusal}
-use Rattle.host_port.specs.Act.{Act}
+use Rattle.host_port.specs.Act.{Act, Disk, disk_after}
 use Rattle.host_port.specs.Outside.{Did, Outside}
 use Rattle.command_words.specs.Words.{command_of}
 use Rattle.elf32_syms.specs.declared.image.Image.{Image}
@@ -24,10 +24,12 @@ use Rattle.elf32_syms.specs.Refusals.{elf_refusal}
 use Rattle.elf32_syms.specs.Symbols.{ranks_before as is_kept_before, kept_at}
 use Rattle.demo_elf.specs.Elf.{demo_program, elf_file}
 use Rattle.demo_laws.specs.Programs.{IsProgram, program_image}
+use Rattle.demo_laws.specs.Witness.{witness_file}
 use Rattle.rv_decode.specs.Table.{Matches, row_of, table}
 use Rattle.rv_step.specs.Memory.{IsInside, Memory, byte_at, read_at, write_at}
 use Rattle.gmon_bsd.specs.Grammar.{BsdSpells}
 use Rattle.gmon_bsd.specs.Reading.{bsd_refusal, bsd_records}
+use Rattle.gmon_cells.specs.RunRecords.{run_recs, run_records}
 use Rattle.gmon_bsd.specs.Run.{bsd_run_text}
 use Rattle.gmon_gnu.specs.Blocks.{block_record, executed_blocks}
 use Rattle.gmon_gnu.specs.CountedRun.{block_recs}
@@ -35,9 +37,9 @@ use Rattle.gmon_gnu.specs.Faults.{HasFault}
 use Rattle.gmon_gnu.specs.Grammar.{GnuSpells}
 use Rattle.gmon_gnu.specs.ProfileText.{profile_text}
 use Rattle.gmon_files.specs.Forms.{file_records, file_refusal, form_of}
-use Rattle.gmon_files.specs.Runs.{run_records, run_text}
+use Rattle.gmon_files.specs.Runs.{run_text}
 use Rattle.gmon_gnu.specs.Reading.{gnu_refusal, gnu_records}
-use Rattle.gmon_gnu.specs.Run.{run_recs, gnu_run_text}
+use Rattle.gmon_gnu.specs.Run.{gnu_run_text}
 use Rattle.gmon_gnu.specs.Splitting.{profile_recs}
 use Rattle.gmon_data.specs.declared.hist.Hist.{Hist}
 use Rattle.gmon_data.specs.declared.hist.HistRange.{HistRange}
@@ -255,6 +257,8 @@ pub record RunClaims : Type 0 where
   pub prints_stay : (m : Machine) (w : World) (k n : ℕ) → k ≤ n → (more : List Act) × ((world_at m w n).prints ≡ (world_at m w k).prints ++ more)
   -- .. up to those in which the run ends
   pub last_prints : (m : Machine) (w : World) (n : ℕ) → n ≤ most_turns m.setup → (more : List Act) × ((after_drive m w).prints ≡ (world_at m w n).prints ++ more)
+  -- and a run touches no file
+  pub files_stay : (image : Image) (bytes : List ℕ) (setup : Setup) (d : Disk) → disk_after (final_world image bytes setup).prints d ≡ d
   -- no call is being entered once a run has ended ..
   pub none_busy : (image : Image) (bytes : List ℕ) (setup : Setup) (turns : List ℕ) → All (λ h. h < setup.harts) turns →
       let w = world_after (machine_of image setup) (start_of image bytes setup) turns in IsSome w.ending → state_of (machine_of image setup).sizes w.log ≢ Busy
@@ -505,6 +509,24 @@ pub record DemoClaims : Type 0 where
   -- a run of it starts, with 4 to 256 MiB of memory
   pub starts : (n : ℕ) (setup : Setup) → n ≤ 2000 → 4 ≤ setup.ram_mib → setup.ram_mib ≤ 256 → start_refusal (image_of (demo_program n)) setup ≡ None
 
+-- ---- a program's file that is written out in full
+
+pub record WitnessClaims : Type 0 where
+  -- it is accepted ..
+  pub accepted : elf_refusal witness_file ≡ None
+  -- .. begins at 0x10000, and has a segment and a text of 16 bytes there, and two symbols, the second of which is its hook ..
+  pub image : image_of witness_file ≡ record {
+    entry = 0x10000;
+    segments = record { addr = 0x10000; offset = 84; filesz = 16; memsz = 16 } ∷ [];
+    text = record { low = 0x10000; high = 0x10010 };
+    symbols = record { addr = 0x10000; end = 0x1000c; name = codes "_start" }
+        ∷ record { addr = 0x1000c; end = 0x10010; name = codes "_mcount" } ∷ [];
+    mcount = Some 0x1000c;
+    moncontrol = None;
+  }
+  -- .. and a run of it starts, with 4 to 256 MiB of memory
+  pub starts : (setup : Setup) → 4 ≤ setup.ram_mib → setup.ram_mib ≤ 256 → start_refusal (image_of witness_file) setup ≡ None
+
 -- ---- what words mean that no clause of a call says
 
 pub record MeaningClaims : Type 0 where
@@ -563,4 +585,5 @@ pub record Claims : Type 0 where
   pub call_graph : CallGraphClaims
   pub stacks : StackClaims
   pub demo : DemoClaims
+  pub witness : WitnessClaims
   pub meanings : MeaningClaims

@@ -24,7 +24,7 @@ SumIsProfile words old new gmons = WhereTold old new (λ files. IsProfile (total
 
 -- of the commands that write a file
 abbrev pub FileFits : List (List ℕ) → Outside → Outside → Option Command → Type 0
-FileFits words old new (Some (Run elf gmon form image setup)) = FitsWhereTold words old new elf form setup
-FileFits words old new (Some (Profile elf gmon form image setup selection)) = FitsWhereTold words old new elf form setup
+FileFits words old new (Some (Run elf gmon form memory setup)) = FitsWhereTold words old new elf form setup
+FileFits words old new (Some (Profile elf gmon form memory setup selection)) = FitsWhereTold words old new elf form setup
 FileFits words old new (Some (Sum out gmons)) = SumIsProfile words old new gmons
 FileFits words old new command = ⊤

@@ -3,7 +3,7 @@
 use Rattle.std.specs.Prelude.{◌≡◌, ◌≢◌, ◌<◌, ◌+◌, ◌*◌, ◌&&◌, ℕ, slice_index, Bool, true, false, List, [], ◌∷◌, ◌++◌, codes, Option, Some, None, option_map, Result, Ok, IfOk, IfSome}
 use Rattle.elf32_syms.specs.Image.{image_of}
 use Rattle.gp_base.specs.declared.records.Form.{Form}
-use Rattle.gp_base.specs.declared.records.Form.TheVariants.{Bsd, Gnu}
+use Rattle.gp_base.specs.declared.records.Form.TheVariants.{Gnu}
 use Rattle.gmon_data.specs.Content.{runs_at}
 use Rattle.gmon_files.specs.Forms.{file_records}
 use Rattle.gmon_gnu.specs.ProfileText.{profile_text}
@@ -46,8 +46,8 @@ use Rattle.rvgprof.specs.RunFile.{SaysProfile, SaysRun, gmon_text, memory_text, 
 use Rattle.rvgprof.specs.Acceptance.{IsProfileFile, IsProgramFile, AreProfileFiles, Starts, total_of}
 
 -- what is reported of a run: what its file says of samples and calls, without the calls that are cut
-abbrev pub run_sources : Chosen → Form → List ℕ → Setup → Sources
-run_sources chosen form program setup = chosen_sources chosen (image_of program) (reported_profile form program setup)
+abbrev pub run_sources : Chosen → List ℕ → Setup → Sources
+run_sources chosen program setup = chosen_sources chosen (image_of program) (reported_profile program setup)
 
 -- the reports that are asked for
 abbrev pub reports_text : Shown → List (List ℕ) → Sources → List ℕ
@@ -66,7 +66,7 @@ printed_text chosen s = reports_text chosen.shown chosen.hidden s ++ exact_secti
 -- The word of `--image`, where there is one, isn't that of GMON: what is said of GMON's file is said where the memory of
 -- the runtime isn't written into it. Two words that differ are taken for two files.
 abbrev pub NamesDiffer : List (List ℕ) → ℕ → Option ℕ → Type 0
-NamesDiffer words gmon image = option_map (nth_word words) image ≢ Some (nth_word words gmon)
+NamesDiffer words gmon memory = option_map (nth_word words) memory ≢ Some (nth_word words gmon)
 
 -- where the output is told: a text was printed on it, and nothing else
 abbrev pub IsPrinted : List ℕ → Outside → Outside → Type 0
@@ -83,14 +83,14 @@ pub record Runs (program : List ℕ) (setup : Setup) : Type 0 where
 
 -- The file of a run is written, and that of its runtime's memory where one is named.
 pub record RunIsWritten (words : List (List ℕ)) (new : Outside) (gmon : ℕ) (form : Form)
-    (image : Option ℕ) (setup : Setup) (program : List ℕ) : Type 0 where
+    (memory : Option ℕ) (setup : Setup) (program : List ℕ) : Type 0 where
   -- GMON holds the file of the run, where `--image` names no file or another ..
-  pub file : NamesDiffer words gmon image → Holds words new gmon (gmon_text form program setup)
+  pub file : NamesDiffer words gmon memory → Holds words new gmon (gmon_text form program setup)
   -- .. which is read as what happened in the run
-  pub says : NamesDiffer words gmon image
+  pub says : NamesDiffer words gmon memory
       → IfSome new.disk (λ d. SaysRun form program setup (file_content (nth_word words gmon) d.files))
   -- the file that is named for it holds the memory of the runtime, also where that is GMON
-  pub memory : (place : ℕ) → image ≡ Some place → Holds words new place (memory_text program setup)
+  pub runtime : (place : ℕ) → memory ≡ Some place → Holds words new place (memory_text program setup)
 
 -- A run is summed up: in the answer, and in the end line, of which a prefix is printed where complaining fails.
 pub record RunIsSummedUp (words : List (List ℕ)) (old new : Outside) (done : Done)
@@ -130,9 +130,9 @@ pub record TimeIsShared (s : Sources) : Type 0 where
 
 -- what `run` leaves
 pub record RunLeaves (words : List (List ℕ)) (contents : ℕ → List ℕ) (old new : Outside) (done : Done)
-    (elf gmon : ℕ) (form : Form) (image : Option ℕ) (setup : Setup) : Type 0 where
+    (elf gmon : ℕ) (form : Form) (memory : Option ℕ) (setup : Setup) : Type 0 where
   pub runs : Runs (contents elf) setup
-  pub written : RunIsWritten words new gmon form image setup (contents elf)
+  pub written : RunIsWritten words new gmon form memory setup (contents elf)
   -- what the program prints was printed
   pub output : IsPrinted (prints_of (end_world (contents elf) setup).prints) old new
   pub run : RunIsSummedUp words old new done setup (contents elf)
@@ -196,19 +196,19 @@ ExecutionsAreListed = (program : List ℕ) (setup : Setup) (contents : ℕ → L
 
 -- what `profile` leaves
 pub record ProfileLeaves (words : List (List ℕ)) (contents : ℕ → List ℕ) (old new : Outside) (done : Done)
-    (elf gmon : ℕ) (form : Form) (image : Option ℕ) (setup : Setup) (chosen : Chosen) : Type 0 where
+    (elf gmon : ℕ) (form : Form) (memory : Option ℕ) (setup : Setup) (chosen : Chosen) : Type 0 where
   pub runs : Runs (contents elf) setup
-  pub written : RunIsWritten words new gmon form image setup (contents elf)
+  pub written : RunIsWritten words new gmon form memory setup (contents elf)
   -- what the program prints, and then the reports, were printed
   pub output : IsPrinted (prints_of (end_world (contents elf) setup).prints
-      ++ printed_text chosen (run_sources chosen form (contents elf) setup)) old new
+      ++ printed_text chosen (run_sources chosen (contents elf) setup)) old new
   pub run : RunIsSummedUp words old new done setup (contents elf)
-  pub shared : TimeIsShared (run_sources chosen form (contents elf) setup)
-  pub fits : wide_step chosen.exact (run_sources chosen form (contents elf) setup) ≡ None
+  pub shared : TimeIsShared (run_sources chosen (contents elf) setup)
+  pub fits : wide_step chosen.exact (run_sources chosen (contents elf) setup) ≡ None
 
 -- what a demo's summary is made from
 abbrev pub demo_sources : ℕ → Setup → Sources
-demo_sources functions setup = profile_sources (image_of (demo_program functions)) (reported_profile Bsd (demo_program functions) setup)
+demo_sources functions setup = profile_sources (image_of (demo_program functions)) (reported_profile (demo_program functions) setup)
 
 -- the summary: how its run went, its calls and cycles, all grains that are attributed, and those of the entries without
 -- callers from outside
@@ -221,7 +221,9 @@ demo_printed functions setup =
 
 -- what `demo` leaves
 pub record DemoLeaves (words : List (List ℕ)) (old new : Outside) (done : Done) (functions : ℕ)
-    (setup : Setup) : Type 0 where
+    (elf : Option ℕ) (setup : Setup) : Type 0 where
+  -- the file that is named for it holds its program
+  pub file : (word : ℕ) → elf ≡ Some word → Holds words new word (demo_program functions)
   -- what its program prints, and then the summary, were printed
   pub output : IsPrinted (prints_of (end_world (demo_program functions) setup).prints
       ++ demo_printed functions setup) old new
@@ -237,11 +239,11 @@ Leaves words contents old new done (Some (Syms elf)) = SymsLeaves contents old n
 Leaves words contents old new done (Some (Sum out gmons)) = SumLeaves words contents old new out gmons
 Leaves words contents old new done (Some (Report elf gmons selection)) =
     ReportLeaves contents old new elf gmons (chosen_by words selection)
-Leaves words contents old new done (Some (Run elf gmon form image setup)) =
-    RunLeaves words contents old new done elf gmon form image setup
-Leaves words contents old new done (Some (Profile elf gmon form image setup selection)) =
-    ProfileLeaves words contents old new done elf gmon form image setup (chosen_by words selection)
-Leaves words contents old new done (Some (Demo functions elf setup)) = DemoLeaves words old new done functions setup
+Leaves words contents old new done (Some (Run elf gmon form memory setup)) =
+    RunLeaves words contents old new done elf gmon form memory setup
+Leaves words contents old new done (Some (Profile elf gmon form memory setup selection)) =
+    ProfileLeaves words contents old new done elf gmon form memory setup (chosen_by words selection)
+Leaves words contents old new done (Some (Demo functions elf setup)) = DemoLeaves words old new done functions elf setup
 Leaves words contents old new done (Some (Annotate elf gmons)) = AnnotateLeaves contents old new elf gmons
 Leaves words contents old new done (Some (Folded elf inclusive setup)) =
     FoldedLeaves words contents old new done elf inclusive setup

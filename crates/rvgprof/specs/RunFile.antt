@@ -1,27 +1,26 @@
 -- The file that a run leaves, and what is read of it.
-use Rattle.std.specs.Prelude.{◌≡◌, ℕ, ◌+◌, ◌*◌, ◌<◌, Bool, true, false, List, [], ◌++◌, Option, Some, None}
+use Rattle.std.specs.Prelude.{◌≡◌, ℕ, ◌+◌, ◌*◌, ◌<◌, Bool, true, false, List, [], ◌++◌, None}
 use Rattle.std.specs.List.{All}
 use Rattle.elf32_syms.specs.Image.{image_of}
 use Rattle.gp_base.specs.declared.records.Form.{Form}
 use Rattle.gp_base.specs.declared.records.Form.TheVariants.{Gnu}
 use Rattle.gp_base.specs.declared.records.Records.{Records}
 use Rattle.gmon_block.specs.Layout.{layout_of}
+use Rattle.gmon_cells.specs.RunRecords.{log_recs}
 use Rattle.gmon_data.specs.Content.{Content, IsProfile, runs_at}
 use Rattle.gmon_gnu.specs.Blocks.{executed_blocks}
 use Rattle.gmon_gnu.specs.CountedRun.{block_recs}
 use Rattle.gmon_gnu.specs.ProfileText.{profile_text}
-use Rattle.gmon_gnu.specs.Run.{run_recs}
 use Rattle.mcount_arcs.specs.declared.sizes.Sizes.{Sizes}
 use Rattle.mcount_arcs.specs.Arcs.{CallFits, arcs_of}
 use Rattle.mcount_arcs.specs.Image.{block_image}
-use Rattle.mcount_arcs.specs.Samples.{buckets_of}
 use Rattle.mcount_arcs.specs.Sizes.{AreSizes, sizes_of}
 use Rattle.prof_machine.specs.declared.setup.Setup.{Setup}
 use Rattle.prof_machine.specs.Executions.{executions_at, executions_in, instructions_of}
 use Rattle.prof_machine.specs.Start.{final_world}
 use Rattle.prof_machine.specs.World.{World}
 use Rattle.gmon_files.specs.Forms.{file_records, file_refusal, form_of}
-use Rattle.rvgprof.specs.Answer.{profile_bytes, profile_in, written_profile}
+use Rattle.rvgprof.specs.Answer.{logged_profile, profile_bytes, profile_in}
 use Rattle.command_words.specs.Words.{IsRunSetup}
 
 -- the world in which the run of a program ends
@@ -50,12 +49,12 @@ execution_blocks true z w = executions_in z w.ran
 abbrev pub records_of_run : Form → Setup → Sizes → World → Records
 records_of_run form setup z w = record {
   form = form;
-  recs = run_recs z.low z.high setup.rate (buckets_of z w.log) (arcs_of z w.log) ++ block_recs (executed_blocks z.low (execution_blocks setup.blocks z w));
+  recs = log_recs z w.log setup.rate ++ block_recs (executed_blocks z.low (execution_blocks setup.blocks z w));
 }
 
 -- the profile that is reported of a run
-abbrev pub reported_profile : Form → List ℕ → Setup → Content
-reported_profile form program setup = written_profile form (text_sizes program setup) (end_world program setup).log setup.rate
+abbrev pub reported_profile : List ℕ → Setup → Content
+reported_profile program setup = logged_profile (text_sizes program setup) (end_world program setup).log setup.rate
 
 -- A text is read as what happened in a run of a program.
 pub record SaysRun (form : Form) (program : List ℕ) (setup : Setup) (text : List ℕ) : Type 0 where
@@ -63,9 +62,9 @@ pub record SaysRun (form : Form) (program : List ℕ) (setup : Setup) (text : Li
   pub accepted : file_refusal text ≡ None
   pub records : file_records text ≡ records_of_run form setup (text_sizes program setup) (end_world program setup)
   -- its samples and calls are those that are reported of the run
-  pub hists : (profile_in (file_records text)).hists ≡ (reported_profile form program setup).hists
-  pub arcs : (profile_in (file_records text)).arcs ≡ (reported_profile form program setup).arcs
-  pub «unit» : (profile_in (file_records text)).«unit» ≡ (reported_profile form program setup).«unit»
+  pub hists : (profile_in (file_records text)).hists ≡ (reported_profile program setup).hists
+  pub arcs : (profile_in (file_records text)).arcs ≡ (reported_profile program setup).arcs
+  pub «unit» : (profile_in (file_records text)).«unit» ≡ (reported_profile program setup).«unit»
   -- and where executions are counted, those of each instruction of the text are how often it retired
   pub executions : setup.blocks ≡ true → (i : ℕ) → i < instructions_of (text_sizes program setup)
       → runs_at ((text_sizes program setup).low + 4 * i) (profile_in (file_records text)).blocks ≡ executions_at (end_world program setup).ran ((text_sizes program setup).low + 4 * i)

@@ -1,6 +1,6 @@
 //! The command `demo`.
 
-ghost use Rattle.std.specs.Prelude.{◌≡◌, ◌+◌, ◌<◌, ◌≤◌, ◌^◌, ◌++◌, [], false, Err, codes, decimal, length, map, string_bytes, sum, IfOk, IfErr, IsSome, OnOk};
+ghost use Rattle.std.specs.Prelude.{◌≡◌, ◌+◌, ◌<◌, ◌≤◌, ◌^◌, ◌++◌, [], false, Err, codes, decimal, length, sum, IfOk, IfErr, IsSome, OnOk};
 ghost use Rattle.std.specs.Option.{option_map};
 ghost use Rattle.call_cycles.specs.Graph.{GraphValue, IsGraph, component_count};
 ghost use Rattle.call_cycles.specs.Flow.{IsFlow, time_of_roots};
@@ -22,7 +22,7 @@ use crate::printing::print_text;
 use crate::refusals::{elf_fault, report_fault};
 use crate::runs::run_alone;
 use call_cycles::Graph;
-use command_words::name_at;
+use command_words::Words;
 use elf32_syms::Image;
 use flat_report::ReportRefusal;
 use gmon_bsd::run_profile;
@@ -36,19 +36,18 @@ use text_cols::Line;
 /// runs it, and prints a summary of its run.
 pub fn demo<H: Host>(
     alloc: Global,
-    words: &[String],
+    words: &Words<'_>,
     functions: u32,
     elf: Option<u32>,
     setup: Setup,
     host: &mut H,
 ) -> Result<Done, Fault>
-    requires stands { Stands (map string_bytes words.now)
-        (H.outside host.old) (H.outside host.old) 0 []
-        (demo_course functions (option_map (nth_word (map string_bytes words.now)) elf) setup) }
+    requires stands { Stands words.now (H.outside host.old) (H.outside host.old) 0 []
+        (demo_course functions (option_map (nth_word words.now) elf) setup) }
     requires some { 1 ≤ functions }
     requires few { functions ≤ 2000 }
     requires within { IsSetup setup }
-    ensures { Acted (map string_bytes words.now) (H.outside host.old) (H.outside host.new) result }
+    ensures { Acted words.now (H.outside host.old) (H.outside host.new) result }
 {
     let (bytes, image) = match made_program(alloc, functions) {
         Ok(made) => made,
@@ -104,18 +103,18 @@ fn made_program(alloc: Global, functions: u32) -> Result<(Vec<u8>, Image), Fault
 
 /// Writes the program to the file that a word names, where one does.
 fn write_program<H: Host>(
-    words: &[String],
+    words: &Words<'_>,
     elf: Option<u32>,
     bytes: &[u8],
     host: &mut H,
 ) -> Result<(), Failed>
     requires { (H.outside host.old).is_writing ≡ false }
-    ensures { Performs (given_file_acts (option_map (nth_word (map string_bytes words.now)) elf)
+    ensures { Performs (given_file_acts (option_map (nth_word words.now) elf)
         bytes.now) (H.outside host.old) (H.outside host.new) result }
 {
     match elf {
         None => Ok(()),
-        Some(word) => write_file(name_at(words, word), bytes, host),
+        Some(word) => write_file(words.name(word), bytes, host),
     }
 }
 

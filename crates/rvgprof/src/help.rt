@@ -1,12 +1,13 @@
 //! The commands `--help` and `--version`.
 
-ghost use Rattle.std.specs.Prelude.{◌≡◌, ◌≢◌, [], Err, map, string_bytes};
+ghost use Rattle.std.specs.Prelude.{◌≡◌, ◌≢◌, [], Err};
 ghost use Rattle.rvgprof.specs.Answer.{text_course};
 ghost use Rattle.rvgprof.specs.Contract.{Acted};
 ghost use Rattle.rvgprof.specs.Standing.{Stands};
 ghost use Rattle.rvgprof.specs.Help.{help_text as spec_help, version_text as spec_version};
 
 use crate::outcome::{Done, Fault};
+use command_words::Words;
 use host_port::{Host, out_all_of};
 
 /// What the commands and options are.
@@ -26,33 +27,30 @@ fn version_text() -> &'static [u8]
 }
 
 /// Prints what the commands and options are. Takes no memory.
-pub fn help<H: Host>(words: &[String], host: &mut H) -> Result<Done, Fault>
-    requires { Stands (map string_bytes words.now) (H.outside host.old)
+pub fn help<H: Host>(words: &Words<'_>, host: &mut H) -> Result<Done, Fault>
+    requires { Stands words.now (H.outside host.old)
         (H.outside host.old) 0 [] (text_course spec_help) }
-    ensures acted { Acted (map string_bytes words.now) (H.outside host.old)
-        (H.outside host.new) result }
+    ensures acted { Acted words.now (H.outside host.old) (H.outside host.new) result }
     ensures memory { result ≢ Err Fault.OutOfMemory }
 {
     print(words, help_text(), host)
 }
 
 /// Prints the program's name and version. Takes no memory.
-pub fn version<H: Host>(words: &[String], host: &mut H) -> Result<Done, Fault>
-    requires { Stands (map string_bytes words.now) (H.outside host.old) (H.outside host.old) 0 []
+pub fn version<H: Host>(words: &Words<'_>, host: &mut H) -> Result<Done, Fault>
+    requires { Stands words.now (H.outside host.old) (H.outside host.old) 0 []
         (text_course spec_version) }
-    ensures acted { Acted (map string_bytes words.now) (H.outside host.old)
-        (H.outside host.new) result }
+    ensures acted { Acted words.now (H.outside host.old) (H.outside host.new) result }
     ensures memory { result ≢ Err Fault.OutOfMemory }
 {
     print(words, version_text(), host)
 }
 
 /// Prints a text, and does nothing else.
-fn print<H: Host>(_words: &[String], text: &[u8], host: &mut H) -> Result<Done, Fault>
-    requires { Stands (map string_bytes _words.now) (H.outside host.old)
+fn print<H: Host>(_words: &Words<'_>, text: &[u8], host: &mut H) -> Result<Done, Fault>
+    requires { Stands _words.now (H.outside host.old)
         (H.outside host.old) 0 [] (text_course text.now) }
-    ensures acted { Acted (map string_bytes _words.now) (H.outside host.old)
-        (H.outside host.new) result }
+    ensures acted { Acted _words.now (H.outside host.old) (H.outside host.new) result }
     ensures memory { result ≢ Err Fault.OutOfMemory }
 {
     match out_all_of(host, text) {

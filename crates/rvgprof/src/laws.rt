@@ -75,6 +75,7 @@ pub fn demo_is_done()
 {
     demo_laws::laws::demo_is_accepted();
     demo_laws::laws::demo_starts();
+    demo_laws::laws::witness_is_accepted();
 }
 
 /// Where memory ran out, what was done is a prefix of what is due, and nothing for the commands that do
@@ -170,4 +171,5 @@ pub fn claims()
     demo_laws::laws::demo_is_accepted();
     demo_laws::laws::demo_has_image();
     demo_laws::laws::demo_starts();
+    demo_laws::laws::witness_is_accepted();
 }

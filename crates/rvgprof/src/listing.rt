@@ -1,6 +1,6 @@
 //! The command `annotate`.
 
-ghost use Rattle.std.specs.Prelude.{[], ◌∷◌, map, string_bytes};
+ghost use Rattle.std.specs.Prelude.{[], ◌∷◌};
 ghost use Rattle.rvgprof.specs.Answer.{annotate_course};
 ghost use Rattle.rvgprof.specs.Contract.{Acted};
 ghost use Rattle.rvgprof.specs.Standing.{Stands};
@@ -8,21 +8,22 @@ ghost use Rattle.command_words.specs.Words.{AreRising};
 
 use crate::inputs::{read_profiles, read_program};
 use crate::outcome::{Done, Fault};
+use command_words::Words;
 use host_port::Host;
 use std::alloc::Global;
 
 /// Adds up profile files, and prints a program's instructions with their executions and times.
 pub fn print_listing<H: Host>(
     alloc: Global,
-    words: &[String],
+    words: &Words<'_>,
     elf: u32,
     gmons: &[u32],
     host: &mut H,
 ) -> Result<Done, Fault>
-    requires stands { Stands (map string_bytes words.now) (H.outside host.old)
+    requires stands { Stands words.now (H.outside host.old)
         (H.outside host.old) 0 [] (annotate_course elf gmons.now) }
     requires rising { AreRising (elf ∷ gmons.now) }
-    ensures { Acted (map string_bytes words.now) (H.outside host.old) (H.outside host.new) result }
+    ensures { Acted words.now (H.outside host.old) (H.outside host.new) result }
 {
     let (bytes, image) = match read_program(alloc, words, elf, host) {
         Ok(read) => read,

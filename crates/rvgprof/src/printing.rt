@@ -20,7 +20,7 @@ use crate::findings::{Findings, findings_of};
 use crate::outcome::Fault;
 use crate::refusals::{exact_fault, report_fault};
 use arc_filter::cut;
-use command_words::{Selection, Shown, names_at};
+use command_words::{Selection, Shown, Words};
 use elf32_syms::Image;
 use exact_flow::{ExactFlow, ExactRefusal, exact};
 use flat_report::ReportRefusal;
@@ -33,19 +33,19 @@ use std::alloc::{AllocError, Global};
 /// go as soon as its findings are there.
 pub fn print_reports<H: Host>(
     alloc: Global,
-    words: &[String],
+    words: &Words<'_>,
     selection: &Selection,
     image: &Image,
     total: Profile,
     host: &mut H,
 ) -> Result<(), Fault>
     requires ascending { IsAscending image.now.symbols }
-    requires cuts { AreCuts (map string_bytes words.now) selection.now }
-    ensures prints { PrintsReports (chosen_by (map string_bytes words.now) selection.now) image.now
+    requires cuts { AreCuts words.now selection.now }
+    ensures prints { PrintsReports (chosen_by words.now selection.now) image.now
         total (H.outside host.old) (H.outside host.new) result }
     ensures told { OnOk result (TellsNoMore (H.outside host.old) (H.outside host.new)) }
 {
-    let Ok(hidden) = names_at(alloc, words, selection.hidden.as_slice()) else {
+    let Ok(hidden) = words.names(alloc, selection.hidden.as_slice()) else {
         return Err(Fault::OutOfMemory);
     };
     let Ok(findings) = chosen_findings(alloc, words, selection, image, total) else {
@@ -72,21 +72,20 @@ pub fn print_reports<H: Host>(
 /// What is found of a profile without the calls that are cut.
 fn chosen_findings(
     alloc: Global,
-    words: &[String],
+    words: &Words<'_>,
     selection: &Selection,
     image: &Image,
     total: Profile,
 ) -> Result<Findings, AllocError>
     requires ascending { IsAscending image.now.symbols }
-    requires cuts { AreCuts (map string_bytes words.now) selection.now }
+    requires cuts { AreCuts words.now selection.now }
     ensures { IfOk result (λ f. AreFindings image.now
-        (without_cuts total image.now.symbols
-        (words_at (map string_bytes words.now) selection.now.cuts)) f) }
+        (without_cuts total image.now.symbols (words_at words.now selection.now.cuts)) f) }
 {
     if selection.cuts.as_slice().is_empty() {
         return findings_of(alloc, image, total);
     }
-    let cuts = names_at(alloc, words, selection.cuts.as_slice())?;
+    let cuts = words.names(alloc, selection.cuts.as_slice())?;
     let left = cut(alloc, &total, image.symbols.as_slice(), &cuts)?;
     drop(total);
     findings_of(alloc, image, left)

@@ -1,6 +1,6 @@
 //! The command `profile`.
 
-ghost use Rattle.std.specs.Prelude.{◌≡◌, [], map, string_bytes, IfOk, OnOk};
+ghost use Rattle.std.specs.Prelude.{◌≡◌, [], IfOk, OnOk};
 ghost use Rattle.elf32_syms.specs.Owners.{IsAscending};
 ghost use Rattle.rvgprof.specs.Answer.{chosen_by, files_named, profile_course};
 ghost use Rattle.rvgprof.specs.Contract.{Acted};
@@ -12,7 +12,7 @@ use crate::inputs::read_program;
 use crate::outcome::{Done, Fault};
 use crate::printing::print_reports;
 use crate::runs::{RunOutputs, run_program};
-use command_words::Selection;
+use command_words::{Selection, Words};
 use gmon_bsd::run_profile;
 use host_port::Host;
 use prof_machine::Setup;
@@ -21,22 +21,20 @@ use std::alloc::Global;
 /// Runs a program, writes its profile, and prints reports of it. The file is not read again.
 pub fn profile<H: Host>(
     alloc: Global,
-    words: &[String],
+    words: &Words<'_>,
     elf: u32,
     outputs: RunOutputs,
     setup: Setup,
     selection: &Selection,
     host: &mut H,
 ) -> Result<Done, Fault>
-    requires stands { Stands (map string_bytes words.now)
-        (H.outside host.old) (H.outside host.old) 0 []
-        (profile_course elf (files_named (map string_bytes words.now) outputs.gmon outputs.form
-        outputs.image) setup (chosen_by (map string_bytes words.now) selection.now)) }
+    requires stands { Stands words.now (H.outside host.old) (H.outside host.old) 0 []
+        (profile_course elf (files_named words.now outputs.gmon outputs.form outputs.memory) setup
+        (chosen_by words.now selection.now)) }
     requires within { IsRunSetup outputs.form setup }
-    requires cuts { AreCuts (map string_bytes words.now) selection.now }
-    ensures acted { Acted (map string_bytes words.now) (H.outside host.old)
-        (H.outside host.new) result }
-    ensures fits { OnOk result (FitsWhereTold (map string_bytes words.now) (H.outside host.old)
+    requires cuts { AreCuts words.now selection.now }
+    ensures acted { Acted words.now (H.outside host.old) (H.outside host.new) result }
+    ensures fits { OnOk result (FitsWhereTold words.now (H.outside host.old)
         (H.outside host.new) elf outputs.form setup) }
 {
     let (bytes, image) = match read_program(alloc, words, elf, host) {

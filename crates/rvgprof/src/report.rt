@@ -1,6 +1,6 @@
 //! The command `report`.
 
-ghost use Rattle.std.specs.Prelude.{[], ◌∷◌, map, string_bytes};
+ghost use Rattle.std.specs.Prelude.{[], ◌∷◌};
 ghost use Rattle.rvgprof.specs.Answer.{chosen_by, report_course};
 ghost use Rattle.rvgprof.specs.Contract.{Acted};
 ghost use Rattle.rvgprof.specs.Standing.{Stands};
@@ -9,25 +9,24 @@ ghost use Rattle.command_words.specs.Words.{AreCuts, AreRising};
 use crate::inputs::{read_profiles, read_program};
 use crate::outcome::{Done, Fault};
 use crate::printing::print_reports;
-use command_words::Selection;
+use command_words::{Selection, Words};
 use host_port::Host;
 use std::alloc::Global;
 
 /// Adds up profile files, and prints reports of their sum for a program.
 pub fn report<H: Host>(
     alloc: Global,
-    words: &[String],
+    words: &Words<'_>,
     elf: u32,
     gmons: &[u32],
     selection: &Selection,
     host: &mut H,
 ) -> Result<Done, Fault>
-    requires stands { Stands (map string_bytes words.now)
-        (H.outside host.old) (H.outside host.old) 0 []
-        (report_course elf gmons.now (chosen_by (map string_bytes words.now) selection.now)) }
+    requires stands { Stands words.now (H.outside host.old) (H.outside host.old) 0 []
+        (report_course elf gmons.now (chosen_by words.now selection.now)) }
     requires rising { AreRising (elf ∷ gmons.now) }
-    requires cuts { AreCuts (map string_bytes words.now) selection.now }
-    ensures { Acted (map string_bytes words.now) (H.outside host.old) (H.outside host.new) result }
+    requires cuts { AreCuts words.now selection.now }
+    ensures { Acted words.now (H.outside host.old) (H.outside host.new) result }
 {
     let (_, image) = match read_program(alloc, words, elf, host) {
         Ok(read) => read,

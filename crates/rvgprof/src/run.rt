@@ -1,6 +1,6 @@
 //! The command `run`.
 
-ghost use Rattle.std.specs.Prelude.{[], map, string_bytes, OnOk};
+ghost use Rattle.std.specs.Prelude.{[], OnOk};
 ghost use Rattle.rvgprof.specs.Answer.{files_named, run_course};
 ghost use Rattle.rvgprof.specs.Contract.{Acted};
 ghost use Rattle.rvgprof.specs.Fitting.{FitsWhereTold};
@@ -10,6 +10,7 @@ ghost use Rattle.command_words.specs.Words.{IsRunSetup};
 use crate::inputs::read_program;
 use crate::outcome::{Done, Fault};
 use crate::runs::{RunOutputs, run_program};
+use command_words::Words;
 use host_port::Host;
 use prof_machine::Setup;
 use std::alloc::Global;
@@ -17,20 +18,17 @@ use std::alloc::Global;
 /// Runs a program, and writes its profile.
 pub fn run<H: Host>(
     alloc: Global,
-    words: &[String],
+    words: &Words<'_>,
     elf: u32,
     outputs: RunOutputs,
     setup: Setup,
     host: &mut H,
 ) -> Result<Done, Fault>
-    requires stands { Stands (map string_bytes words.now)
-        (H.outside host.old) (H.outside host.old) 0 []
-        (run_course elf (files_named (map string_bytes words.now) outputs.gmon
-        outputs.form outputs.image) setup) }
+    requires stands { Stands words.now (H.outside host.old) (H.outside host.old) 0 []
+        (run_course elf (files_named words.now outputs.gmon outputs.form outputs.memory) setup) }
     requires within { IsRunSetup outputs.form setup }
-    ensures acted { Acted (map string_bytes words.now) (H.outside host.old)
-        (H.outside host.new) result }
-    ensures fits { OnOk result (FitsWhereTold (map string_bytes words.now) (H.outside host.old)
+    ensures acted { Acted words.now (H.outside host.old) (H.outside host.new) result }
+    ensures fits { OnOk result (FitsWhereTold words.now (H.outside host.old)
         (H.outside host.new) elf outputs.form setup) }
 {
     let (bytes, image) = match read_program(alloc, words, elf, host) {

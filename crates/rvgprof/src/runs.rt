@@ -1,6 +1,6 @@
 //! Runs of programs, and what they write.
 
-ghost use Rattle.std.specs.Prelude.{◌≡◌, ◌+◌, ◌*◌, ◌<◌, ◌^◌, ℕ, List, [], true, false, length, map, string_bytes, IsSome, IfErr, IfOk, IfSome, OnOk, Some};
+ghost use Rattle.std.specs.Prelude.{◌≡◌, ◌+◌, ◌*◌, ◌<◌, ◌^◌, ℕ, List, [], true, false, length, IsSome, IfErr, IfOk, IfSome, OnOk, Some};
 ghost use Rattle.elf32_syms.specs.Image.{IsWithinLimits};
 ghost use Rattle.gmon_block.specs.Layout.{layout_of};
 ghost use Rattle.host_port.specs.Host.{Puts};
@@ -19,7 +19,7 @@ ghost use Rattle.std.specs.Option.{option_map};
 use crate::files::write_file;
 use crate::outcome::Fault;
 use crate::refusals::start_fault;
-use command_words::name_at;
+use command_words::Words;
 use elf32_syms::Image;
 use gp_base::Form;
 use host_port::{Failed, Host};
@@ -32,7 +32,7 @@ use std::alloc::Global;
 pub struct RunOutputs {
     pub gmon: u32,
     pub form: Form,
-    pub image: Option<u32>,
+    pub memory: Option<u32>,
 }
 
 /// Starts a run of a program.
@@ -51,7 +51,7 @@ pub fn start_run(alloc: Global, image: &Image, bytes: &[u8], setup: Setup) -> Re
 /// Runs a program to its end, and writes its files.
 pub fn run_program<H: Host>(
     alloc: Global,
-    words: &[String],
+    words: &Words<'_>,
     image: &Image,
     bytes: &[u8],
     outputs: RunOutputs,
@@ -61,10 +61,9 @@ pub fn run_program<H: Host>(
     requires limits { IsWithinLimits (length bytes.now) image.now }
     requires setup { IsSetup setup }
     requires idle { (H.outside host.old).is_writing ≡ false }
-    ensures runs { RunsProgram (map string_bytes words.now)
-        (run_acts (files_named (map string_bytes words.now) outputs.gmon outputs.form outputs.image)
-        setup) setup image.now bytes.now
-        (H.outside host.old) (H.outside host.new) result }
+    ensures runs { RunsProgram words.now
+        (run_acts (files_named words.now outputs.gmon outputs.form outputs.memory) setup) setup
+        image.now bytes.now (H.outside host.old) (H.outside host.new) result }
     ensures ended { IfOk result (IsRunOf image.now bytes.now setup) }
     ensures told { OnOk result (TellsNoMore (H.outside host.old) (H.outside host.new)) }
 {
@@ -100,7 +99,7 @@ pub fn run_alone<H: Host>(
 /// Drives a run to its end, and then writes its files.
 fn perform<H: Host>(
     run: &mut Run,
-    words: &[String],
+    words: &Words<'_>,
     outputs: RunOutputs,
     setup: Setup,
     host: &mut H,
@@ -109,8 +108,8 @@ fn perform<H: Host>(
     requires setup { run.old.machine.setup ≡ setup }
     requires idle { (H.outside host.old).is_writing ≡ false }
     ensures performs { (w : World) → StandsFor w run.old → w.prints ≡ []
-        → Performs (run_acts (files_named (map string_bytes words.now) outputs.gmon outputs.form
-        outputs.image) setup run.old.machine.sizes (after_drive run.old.machine w))
+        → Performs (run_acts (files_named words.now outputs.gmon outputs.form
+        outputs.memory) setup run.old.machine.sizes (after_drive run.old.machine w))
         (H.outside host.old) (H.outside host.new) result }
     ensures stands { OnOk result ((w : World) → StandsFor w run.old
         → StandsFor (after_drive run.old.machine w) run.new) }
@@ -118,7 +117,7 @@ fn perform<H: Host>(
     ensures ended { OnOk result (IsSome run.new.ending) }
 {
     run.drive(host)?;
-    let name = name_at(words, outputs.gmon);
+    let name = words.name(outputs.gmon);
     write_profile(
         run.gmon(),
         run.exec_counts(),
@@ -127,8 +126,8 @@ fn perform<H: Host>(
         setup.rate,
         host,
     )?;
-    match outputs.image {
-        Some(image) => write_image(run.gmon(), name_at(words, image), host),
+    match outputs.memory {
+        Some(memory) => write_image(run.gmon(), words.name(memory), host),
         None => Ok(()),
     }
 }

@@ -1,6 +1,6 @@
 //! The command `folded`.
 
-ghost use Rattle.std.specs.Prelude.{◌≡◌, [], length, map, string_bytes, IfOk, IsSome};
+ghost use Rattle.std.specs.Prelude.{◌≡◌, [], length, IfOk, IsSome};
 ghost use Rattle.elf32_syms.specs.Image.{IsWithinLimits};
 ghost use Rattle.prof_machine.specs.Setup.{IsSetup};
 ghost use Rattle.rvgprof.specs.Answer.{folded_course};
@@ -11,6 +11,7 @@ use crate::inputs::read_program;
 use crate::outcome::{Done, Fault};
 use crate::refusals::fold_fault;
 use crate::runs::start_run;
+use command_words::Words;
 use elf32_syms::Image;
 use folded::{Folded, fold};
 use host_port::Host;
@@ -20,16 +21,16 @@ use std::alloc::Global;
 /// Runs a program, and prints the stacks that it was sampled in, or with `inclusive` its functions.
 pub fn print_stacks<H: Host>(
     alloc: Global,
-    words: &[String],
+    words: &Words<'_>,
     elf: u32,
     inclusive: bool,
     setup: Setup,
     host: &mut H,
 ) -> Result<Done, Fault>
-    requires stands { Stands (map string_bytes words.now) (H.outside host.old)
+    requires stands { Stands words.now (H.outside host.old)
         (H.outside host.old) 0 [] (folded_course elf inclusive setup) }
     requires within { IsSetup setup }
-    ensures { Acted (map string_bytes words.now) (H.outside host.old) (H.outside host.new) result }
+    ensures { Acted words.now (H.outside host.old) (H.outside host.new) result }
 {
     let (bytes, image) = match read_program(alloc, words, elf, host) {
         Ok(read) => read,

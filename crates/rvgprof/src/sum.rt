@@ -1,6 +1,6 @@
 //! The command `sum`.
 
-ghost use Rattle.std.specs.Prelude.{◌≡◌, [], false, map, string_bytes, OnOk};
+ghost use Rattle.std.specs.Prelude.{◌≡◌, [], false, OnOk};
 ghost use Rattle.gmon_gnu.specs.ProfileText.{profile_text};
 ghost use Rattle.host_port.specs.Performing.{Performs};
 ghost use Rattle.rvgprof.specs.Answer.{file_acts, sum_course};
@@ -12,7 +12,7 @@ ghost use Rattle.command_words.specs.Words.{AreRising};
 
 use crate::inputs::read_profiles;
 use crate::outcome::{Done, Fault};
-use command_words::name_at;
+use command_words::Words;
 use gmon_data::Profile;
 use host_port::{Failed, Host};
 use std::alloc::Global;
@@ -20,18 +20,16 @@ use std::alloc::Global;
 /// Adds up profile files, and writes their sum in the GNU form.
 pub fn sum<H: Host>(
     alloc: Global,
-    words: &[String],
+    words: &Words<'_>,
     out: u32,
     gmons: &[u32],
     host: &mut H,
 ) -> Result<Done, Fault>
-    requires stands { Stands (map string_bytes words.now) (H.outside host.old)
-        (H.outside host.old) 0 []
-        (sum_course (nth_word (map string_bytes words.now) out) gmons.now) }
+    requires stands { Stands words.now (H.outside host.old) (H.outside host.old) 0 []
+        (sum_course (nth_word words.now out) gmons.now) }
     requires rising { AreRising gmons.now }
-    ensures acted { Acted (map string_bytes words.now) (H.outside host.old)
-        (H.outside host.new) result }
-    ensures fits { OnOk result (SumIsProfile (map string_bytes words.now) (H.outside host.old)
+    ensures acted { Acted words.now (H.outside host.old) (H.outside host.new) result }
+    ensures fits { OnOk result (SumIsProfile words.now (H.outside host.old)
         (H.outside host.new) gmons.now) }
 {
     let total = match read_profiles(alloc, words, gmons, host) {
@@ -39,7 +37,7 @@ pub fn sum<H: Host>(
         Err(fault) => return Err(fault),
     };
     total.holds();
-    match write_profile(&total, name_at(words, out), host) {
+    match write_profile(&total, words.name(out), host) {
         Ok(()) => Ok(Done { run: None }),
         Err(_) => Err(Fault::WriteFault),
     }

@@ -1,13 +1,12 @@
 -- What the laws of the program say, written out: so that none of them can come to say less unseen.
 use Rattle.std.specs.Prelude.{◌≡◌, ℕ, ◌+◌, ◌-◌, ◌*◌, ◌^◌, ◌<◌, ◌⊎◌, Bool, true, false, List, [], ◌∷◌, Option, Some, None, Result, Err}
 use Rattle.std.specs.List.{AllByRecursion}
-use Rattle.host_port.specs.Act.{Act, Create, Write, Close, Out}
+use Rattle.host_port.specs.Act.{Create, Write, Close, Out}
 use Rattle.host_port.specs.Act.{Err as Complain}
 use Rattle.host_port.specs.Outside.{Outside}
 use Rattle.command_words.specs.declared.words.Command.{Command}
 use Rattle.command_words.specs.declared.words.Command.TheVariants.{Show, Syms, Run, Sum, Report, Profile, Demo, Annotate, Folded, Help, Version}
 use Rattle.command_words.specs.declared.words.Selection.{Selection}
-use Rattle.command_words.specs.Words.{command_of}
 use Rattle.gmon_data.specs.Content.{Content, IsProfile, runs_at}
 use Rattle.gmon_files.specs.Forms.{file_records, file_refusal, form_of}
 use Rattle.gmon_gnu.specs.ProfileText.{profile_text}
@@ -73,10 +72,10 @@ pub record TraitLaws : Type 0 where
   pub annotate : (elf : ℕ) (gmons : List ℕ) → CommandTraits (Some (Annotate elf gmons)) true true false
   pub report : (elf : ℕ) (gmons : List ℕ) (selection : Selection)
       → CommandTraits (Some (Report elf gmons selection)) true false false
-  pub run : (elf gmon : ℕ) (form : Form) (image : Option ℕ) (setup : Setup)
-      → CommandTraits (Some (Run elf gmon form image setup)) true true true
-  pub profile : (elf gmon : ℕ) (form : Form) (image : Option ℕ) (setup : Setup) (selection : Selection)
-      → CommandTraits (Some (Profile elf gmon form image setup selection)) true false true
+  pub run : (elf gmon : ℕ) (form : Form) (memory : Option ℕ) (setup : Setup)
+      → CommandTraits (Some (Run elf gmon form memory setup)) true true true
+  pub profile : (elf gmon : ℕ) (form : Form) (memory : Option ℕ) (setup : Setup) (selection : Selection)
+      → CommandTraits (Some (Profile elf gmon form memory setup selection)) true false true
   pub demo : (functions : ℕ) (elf : Option ℕ) (setup : Setup)
       → CommandTraits (Some (Demo functions elf setup)) true false true
   pub folded : (elf : ℕ) (inclusive : Bool) (setup : Setup)

@@ -50,7 +50,8 @@ fn grains_up_to(hist: &Hist, i: usize, place: u64) -> u128
     requires range { hist.now.low < hist.now.high }
     requires inside { i < length hist.now.counters }
     requires place { place ≤ hist.now.high - hist.now.low }
-    ensures { result ≡ slice_index hist.now.counters i * 1000000 * place / (hist.now.high - hist.now.low) }
+    ensures { result ≡ slice_index hist.now.counters i * 1000000 * place
+        / (hist.now.high - hist.now.low) }
 {
     let grains = u128::from(hist.counters.as_slice()[i]) * GRAINS;
     let width = u64::from(width(hist));

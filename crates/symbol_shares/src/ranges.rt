@@ -13,7 +13,8 @@ fn bucket_of(hist: &Hist, address: u32) -> usize
     requires few { length hist.now.counters < 2 ^ 26 }
     requires below { address < hist.now.high }
     ensures inside { result ≤ length hist.now.counters }
-    ensures begin { result * (hist.now.high - hist.now.low) ≤ (address - hist.now.low) * length hist.now.counters }
+    ensures begin { result * (hist.now.high - hist.now.low)
+        ≤ (address - hist.now.low) * length hist.now.counters }
 {
     let count = hist.counters.as_slice().len() as u64;
     let above = u64::from(address.saturating_sub(hist.low));

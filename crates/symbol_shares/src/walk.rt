@@ -23,12 +23,15 @@ fn add_bucket(of: &mut [u128], symbols: &[Symbol], from: usize, hist: &Hist, i: 
     requires few { length hist.now.counters < 2 ^ 26 }
     requires inside { i < length hist.now.counters }
     requires from { from ≤ length symbols.now }
-    requires ended { All (λ s. s.end * length hist.now.counters ≤ bucket_begin hist.now i) (take from symbols.now) }
+    requires ended { All (λ s. s.end * length hist.now.counters ≤ bucket_begin hist.now i)
+        (take from symbols.now) }
     requires fits { sum of.old + 1000000 * slice_index hist.now.counters i < 2 ^ 128 }
     ensures added { of.new ≡ pointwise_sum of.old (map (bucket_share_of hist.now i) symbols.now) }
     ensures inside { result ≤ length symbols.now }
-    ensures ended { All (λ s. s.end * length hist.now.counters ≤ bucket_begin hist.now (i + 1)) (take result symbols.now) }
-    ensures goes_on { (s : AnySymbol) → slice_get symbols.now result ≡ Some s → bucket_begin hist.now (i + 1) < s.end * length hist.now.counters }
+    ensures ended { All (λ s. s.end * length hist.now.counters ≤ bucket_begin hist.now (i + 1))
+        (take result symbols.now) }
+    ensures goes_on { (s : AnySymbol) → slice_get symbols.now result ≡ Some s
+        → bucket_begin hist.now (i + 1) < s.end * length hist.now.counters }
 {
     for k in from..symbols.len() {
         let symbol = &symbols[k];
@@ -55,9 +58,11 @@ fn add_whole(of: &mut [u128], symbols: &[Symbol], from: usize, hist: &Hist, i: u
     requires ascending { IsAscending symbols.now }
     requires kept { IsKept hist.now }
     requires few { length hist.now.counters < 2 ^ 26 }
-    requires ended { All (λ s. s.end * length hist.now.counters ≤ bucket_begin hist.now i) (take from symbols.now) }
+    requires ended { All (λ s. s.end * length hist.now.counters ≤ bucket_begin hist.now i)
+        (take from symbols.now) }
     requires fits { sum of.old + 1000000 * sum (drop i hist.now.counters) < 2 ^ 65 }
-    ensures added { of.new ≡ pointwise_sum of.old (map (share_between hist.now i result) symbols.now) }
+    ensures added { of.new ≡ pointwise_sum of.old
+        (map (share_between hist.now i result) symbols.now) }
     ensures rising { i ≤ result }
     ensures inside { i ≤ length hist.now.counters → result ≤ length hist.now.counters }
 {
@@ -132,7 +137,8 @@ fn total(numbers: &[u128]) -> u128
 pub fn shares(alloc: Global, profile: &Profile, symbols: &[Symbol]) -> Result<Shares, AllocError>
     requires { IsAscending symbols.now }
     ensures shares { IfOk result (λ s. s ≡ shares_of profile.now.hists symbols.now) }
-    ensures whole { IfOk result (λ s. attributed_of s + s.outside ≡ 1000000 * samples_of profile.now.hists) }
+    ensures whole { IfOk result (λ s. attributed_of s + s.outside
+        ≡ 1000000 * samples_of profile.now.hists) }
     ensures within { IfOk result (λ s. attributed_of s < 2 ^ 65) }
 {
     let grains = u128::from(profile.samples()) * GRAINS;

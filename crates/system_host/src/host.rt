@@ -56,7 +56,22 @@ impl<S: System> Model for SystemHost<S> {
 impl<S: System + Drop> SystemHost<S> {
     /// A host with nothing open.
     pub fn new(system: S) -> SystemHost<S>
-        ensures { result ≡ record { disk = S.disk system; out = S.printed system; err = S.complained system; last_close = S.last_close system; input = None; at_end = false; output = None; read_faults = 0; write_faults = 0; err_faults = 0; opened = 0; file_changes = 0; last_failed = false } }
+        ensures { result ≡ record {
+          disk = S.disk system;
+          out = S.printed system;
+          err =
+              S.complained system;
+          last_close = S.last_close system;
+          input = None;
+          at_end = false;
+          output = None;
+          read_faults = 0;
+          write_faults = 0;
+          err_faults = 0;
+          opened = 0;
+          file_changes = 0;
+          last_failed = false;
+        } }
     {
         SystemHost {
             system,
@@ -73,7 +88,8 @@ impl<S: System + Drop> SystemHost<S> {
     }
 
     fn read_failed(&mut self) -> Failed
-        ensures counted { self.new ≡ record self.old { read_faults = next_count self.old.read_faults; last_failed = true } }
+        ensures counted { self.new ≡ record self.old
+            { read_faults = next_count self.old.read_faults; last_failed = true } }
         ensures rose { Rose self.old.read_faults self.new.read_faults }
     {
         self.read_faults = self.read_faults.saturating_add(1);
@@ -82,7 +98,8 @@ impl<S: System + Drop> SystemHost<S> {
     }
 
     fn write_failed(&mut self) -> Failed
-        ensures counted { self.new ≡ record self.old { write_faults = next_count self.old.write_faults; last_failed = true } }
+        ensures counted { self.new ≡ record self.old
+            { write_faults = next_count self.old.write_faults; last_failed = true } }
         ensures rose { Rose self.old.write_faults self.new.write_faults }
     {
         self.write_faults = self.write_faults.saturating_add(1);
@@ -91,7 +108,8 @@ impl<S: System + Drop> SystemHost<S> {
     }
 
     fn err_failed(&mut self) -> Failed
-        ensures counted { self.new ≡ record self.old { err_faults = next_count self.old.err_faults } }
+        ensures counted { self.new ≡ record self.old
+            { err_faults = next_count self.old.err_faults } }
         ensures rose { Rose self.old.err_faults self.new.err_faults }
     {
         self.err_faults = self.err_faults.saturating_add(1);
@@ -153,7 +171,8 @@ impl<S: System + Drop> Host for SystemHost<S> {
     fn close_output(&mut self) -> Result<(), Failed>
         ensures closes { Closes (outside_of self.old) (outside_of self.new) }
         ensures counts { Writes (outside_of self.old) (outside_of self.new) result }
-        ensures told { is_some self.old.output ≡ true → IfSome self.new.last_close (λ succeeded. succeeded ≡ is_ok result) }
+        ensures told { is_some self.old.output ≡ true
+            → IfSome self.new.last_close (λ succeeded. succeeded ≡ is_ok result) }
     {
         self.last_failed = false;
         self.file_changes = self.file_changes.saturating_add(1);

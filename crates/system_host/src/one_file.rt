@@ -44,7 +44,14 @@ impl Model for OneFile {
 impl OneFile {
     /// A system whose file has these bytes.
     pub fn new(alloc: Global, name: String, bytes: Vec<u8>) -> OneFile
-        ensures { result ≡ record { name = string_bytes name; bytes = bytes.items; is_writing = false; out = []; err = [] } }
+        ensures { result ≡ record {
+          name = string_bytes name;
+          bytes = bytes.items;
+          is_writing =
+              false;
+          out = [];
+          err = [];
+        } }
     {
         OneFile {
             alloc,

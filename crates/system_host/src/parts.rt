@@ -21,7 +21,8 @@ pub fn some_taken(taken: io::Result<usize>) -> Option<usize>
 pub fn moved<R: Read>(input: &mut Option<R>, buf: &mut [u8]) -> Option<usize>
     ensures fits { IfSome result (λ n. n ≤ length buf.new) }
     ensures still_open { is_some input.new ≡ is_some input.old }
-    ensures gave { Gave (told_by R.remaining input.old) (told_by R.remaining input.new) buf.new result }
+    ensures gave { Gave (told_by R.remaining input.old) (told_by R.remaining input.new) buf.new
+        result }
 {
     match input {
         Some(input) => input.read(buf).ok(),
@@ -34,7 +35,8 @@ pub fn written<W: Write>(output: &mut Option<W>, piece: &[u8]) -> Option<usize>
     ensures some { IfSome result (λ n. 1 ≤ n) }
     ensures fits { IfSome result (λ n. n ≤ length piece.now) }
     ensures still_open { is_some output.new ≡ is_some output.old }
-    ensures took { Took (told_by W.contents output.old) (told_by W.contents output.new) piece.now result }
+    ensures took { Took (told_by W.contents output.old) (told_by W.contents output.new) piece.now
+        result }
 {
     match output {
         Some(output) => some_taken(output.write(piece)),

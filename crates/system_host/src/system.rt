@@ -34,9 +34,11 @@ pub trait System {
 
     /// Makes the named file empty, and opens it to be written.
     fn create(&mut self, name: &str) -> io::Result<Self::Output>
-        ensures done { OnOk result (disk self.new ≡ option_map (disk_after (Create name.now ∷ [])) (disk self.old)) }
+        ensures done { OnOk result (disk self.new
+            ≡ option_map (disk_after (Create name.now ∷ [])) (disk self.old)) }
         ensures failed { OnErr result (disk self.new ≡ disk self.old) }
-        ensures empty { IfOk result (λ output. IfSome (disk self.old) (λ _. bytes_of (Self.Output.contents output) ≡ [])) }
+        ensures empty { IfOk result (λ output. IfSome (disk self.old)
+            (λ _. bytes_of (Self.Output.contents output) ≡ [])) }
         ensures out { printed self.new ≡ printed self.old }
         ensures err { complained self.new ≡ complained self.old };
 

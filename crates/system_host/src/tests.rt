@@ -44,3 +44,15 @@ fn a_short_write_is_no_whole_one(rt: HostRuntime) {
     assert_eq!(rt; written(&mut left, b"cd"), Some(1), "one byte fits");
     assert_eq!(rt; written(&mut left, b"d"), None, "none fits");
 }
+
+#[test]
+fn prints_stand_one_behind_the_other(rt: HostRuntime) -> Result<(), Fail> {
+    let alloc = rt.alloc();
+    let mut system = OneFile::new(alloc, String::from_str(alloc, "out")?, Vec::new(alloc));
+    assert_eq!(rt; system.out(b"ab").map_err(|_| "print")?, 2);
+    assert_eq!(rt; system.out(b"c").map_err(|_| "print more")?, 1);
+    assert_eq!(rt; system.err(b"d").map_err(|_| "complain")?, 1);
+    assert_eq!(rt; system.printed(), b"abc".as_slice());
+    assert_eq!(rt; system.errors(), b"d".as_slice());
+    Ok(())
+}

@@ -1,1 +1,4 @@
 pub mod Numbered
+pub mod LineLemmas
+pub mod CellLemmas
+pub mod FileLemmas

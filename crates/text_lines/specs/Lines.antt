@@ -1,6 +1,6 @@
 -- The lines of `show` and `syms`.
 use Rattle.std.specs.Prelude.{ℕ, ◌+◌, ◌-◌, ◌*◌, ◌/◌, ◌%◌, ◌==◌, if◌then◌else◌, List, [], ◌∷◌, ◌++◌, length, codes, Option, Some, None}
-use Rattle.std.specs.List.{flat_map, enumerate_from, All}
+use Rattle.std.specs.List.{flat_map, enumerate_from}
 use Rattle.text_cols.specs.Columns.{decimal, hex_digit_of, hex8_of}
 use Rattle.elf32_syms.specs.declared.image.Symbol.{Symbol}
 use Rattle.elf32_syms.specs.declared.image.Image.{Image}
@@ -13,12 +13,16 @@ use Rattle.gp_base.specs.declared.records.Rec.{Rec}
 use Rattle.gp_base.specs.declared.records.Rec.TheVariants.{Hist, Arc, Blocks}
 use Rattle.gp_base.specs.declared.records.Records.{Records}
 use Rattle.gp_base.specs.declared.records.Form.TheVariants.{Bsd, Gnu}
-use Rattle.gp_base.specs.Spans.{HasRange}
+use Rattle.text_lines.specs.declared.line.HistHead.{HistHead}
+
+-- a histogram without its counters: how many they are alone
+abbrev pub hist_head : RawHist → HistHead
+hist_head hist = record { low = hist.low; high = hist.high; «unit» = hist.«unit»; counters = length hist.counters }
 
 -- the range of a histogram, its number of counters and its rate
-abbrev pub hist_fields : RawHist → List ℕ
-hist_fields hist =
-    codes "low " ++ hex8_of hist.low ++ codes " high " ++ hex8_of hist.high ++ codes " counters " ++ decimal (length hist.counters) ++ codes " rate " ++ decimal hist.unit.rate
+abbrev pub hist_fields : HistHead → List ℕ
+hist_fields head =
+    codes "low " ++ hex8_of head.low ++ codes " high " ++ hex8_of head.high ++ codes " counters " ++ decimal head.counters ++ codes " rate " ++ decimal head.unit.rate
 
 -- the two hexadecimal digits of a byte
 abbrev pub byte_digits : ℕ → List ℕ
@@ -29,35 +33,42 @@ unfoldable pub unit_text : Unit → List ℕ
 unit_text «unit» = flat_map byte_digits («unit».dim ++ «unit».«abbrev» ∷ [])
 
 -- what a histogram begins with
-unfoldable pub hist_line : Form → RawHist → List ℕ
-hist_line Bsd hist = codes "bsd " ++ hist_fields hist ++ codes "\n"
-hist_line Gnu hist = codes "hist " ++ hist_fields hist ++ codes " unit " ++ unit_text hist.unit ++ codes "\n"
+unfoldable pub hist_line : Form → HistHead → List ℕ
+hist_line Bsd head = codes "bsd " ++ hist_fields head ++ codes "\n"
+hist_line Gnu head = codes "hist " ++ hist_fields head ++ codes " unit " ++ unit_text head.unit ++ codes "\n"
 
 -- where counter i of a histogram begins
-abbrev pub counter_address : RawHist → ℕ → ℕ
-counter_address hist i = hist.low + i * (hist.high - hist.low) / length hist.counters
+abbrev pub counter_address : HistHead → ℕ → ℕ
+counter_address head i = head.low + i * (head.high - head.low) / head.counters
 
 unfoldable pub count_line : ℕ → ℕ → List ℕ
 count_line address counter = codes "count " ++ hex8_of address ++ codes " " ++ decimal counter ++ codes "\n"
 
 -- a counter that is 0 has no line
-abbrev pub counter_text : RawHist → ℕ × ℕ → List ℕ
-counter_text hist numbered = if numbered.1 == 0 then [] else count_line (counter_address hist numbered.0) numbered.1
+abbrev pub counter_text : HistHead → ℕ × ℕ → List ℕ
+counter_text head numbered = if numbered.1 == 0 then [] else count_line (counter_address head numbered.0) numbered.1
 
 unfoldable pub arc_line : RawArc → List ℕ
 arc_line arc = codes "arc " ++ hex8_of arc.from ++ codes " " ++ hex8_of arc.to ++ codes " " ++ decimal arc.count ++ codes "\n"
 
-unfoldable pub blocks_line : List RawBlock → List ℕ
-blocks_line blocks = codes "blocks " ++ decimal (length blocks) ++ codes "\n"
+unfoldable pub blocks_line : ℕ → List ℕ
+blocks_line number = codes "blocks " ++ decimal number ++ codes "\n"
 
 unfoldable pub block_line : RawBlock → List ℕ
 block_line block = codes "block " ++ hex8_of block.addr ++ codes " " ++ decimal block.count ++ codes "\n"
 
+-- the lines of a histogram, and of counts of basic blocks
+abbrev pub hist_text : Form → RawHist → List ℕ
+hist_text form hist = hist_line form (hist_head hist) ++ flat_map (counter_text (hist_head hist)) (enumerate_from 0 hist.counters)
+
+abbrev pub blocks_text : List RawBlock → List ℕ
+blocks_text blocks = blocks_line (length blocks) ++ flat_map block_line blocks
+
 -- the lines of a record of a file of a form
 unfoldable pub rec_text : Form → Rec → List ℕ
-rec_text form (Hist hist) = hist_line form hist ++ flat_map (counter_text hist) (enumerate_from 0 hist.counters)
+rec_text form (Hist hist) = hist_text form hist
 rec_text form (Arc arc) = arc_line arc
-rec_text form (Blocks blocks) = blocks_line blocks ++ flat_map block_line blocks
+rec_text form (Blocks blocks) = blocks_text blocks
 
 -- the lines of a file of the GNU form begin with one that says so
 abbrev pub form_line : Form → List ℕ
@@ -67,10 +78,6 @@ form_line Gnu = codes "gnu\n"
 -- the lines of all records, in file order
 unfoldable pub show_text : Records → List ℕ
 show_text records = form_line records.form ++ flat_map (rec_text records.form) records.recs
-
--- what can be shown, as reading a file of either form gives it
-abbrev pub IsShowable : Records → Type 0
-IsShowable records = All HasRange records.recs
 
 -- ---- the lines of `syms`
 

@@ -2,11 +2,12 @@
 #![tactic(auto)]
 
 mod line;
+mod lines;
 pub mod program;
 pub mod records;
 
 pub use program::show_image;
-pub use records::show_records;
+pub use records::{show_file, show_records};
 
 #[cfg(test)]
 mod tests;

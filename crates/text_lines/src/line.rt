@@ -1,51 +1,71 @@
 //! Single lines, made in place.
 
-ghost use Rattle.std.specs.Prelude.{◌≡◌, ◌+◌, ◌*◌, ◌<◌, ◌≤◌, ◌++◌, length};
+ghost use Rattle.std.specs.Prelude.{◌≡◌, ◌+◌, ◌*◌, ◌<◌, ◌≤◌, ◌++◌, length, decimal};
 ghost use Rattle.std.specs.List.{flat_map};
 ghost use Rattle.text_cols.specs.Columns.{hex_digit_of};
 ghost use Rattle.text_lines.specs.Lines.{hist_line, hist_fields, byte_digits, unit_text, count_line, arc_line, blocks_line, block_line, image_line, symbol_front, hook_text};
 
 use elf32_syms::{Image, Symbol};
-use gp_base::{BlockList, Form, RawArc, RawBlock, RawHist, Unit};
+use gp_base::{Form, RawArc, RawBlock, Unit};
+use itoa::Buffer;
 use text_cols::{Line, hex_digit};
 
-/// The line that a histogram of a form begins with.
+/// A histogram without its counters: how many they are alone.
+#[derive(Clone, Copy)]
+pub struct HistHead {
+    pub low: u32,
+    pub high: u32,
+    pub unit: Unit,
+    pub counters: usize,
+}
+
+/// Adds the line that a histogram of a form begins with.
 #[tactic(auto, using(text_cols::proofs::Lengths::lengths), unfolding(crate::specs::Lines::hist_line))]
-pub fn histogram(form: Form, hist: &RawHist) -> Line
-    ensures { result ≡ hist_line form hist.now }
+pub fn put_histogram(line: &mut Line, form: Form, head: HistHead)
+    requires { length line.old ≡ 0 }
+    ensures { line.new ≡ line.old ++ hist_line form head }
 {
-    let mut line = Line::new();
     match form {
         Form::Bsd => {
             line.put(b"bsd ");
-            put_fields(&mut line, hist);
+            put_fields(line, head);
         }
         Form::Gnu => {
             line.put(b"hist ");
-            put_fields(&mut line, hist);
+            put_fields(line, head);
             line.put(b" unit ");
-            put_unit(&mut line, hist.unit);
+            put_unit(line, head.unit);
         }
     }
     line.put(b"\n");
-    line
 }
 
 /// Adds the range of a histogram, its number of counters and its rate.
 #[tactic(auto, using(text_cols::proofs::Lengths::lengths))]
-fn put_fields(line: &mut Line, hist: &RawHist)
+fn put_fields(line: &mut Line, head: HistHead)
     requires { length line.old ≤ 5 }
-    ensures text { line.new ≡ line.old ++ hist_fields hist.now }
+    ensures text { line.new ≡ line.old ++ hist_fields head }
     ensures short { length line.new ≤ 100 }
 {
     line.put(b"low ");
-    line.hex8(hist.low);
+    line.hex8(head.low);
     line.put(b" high ");
-    line.hex8(hist.high);
+    line.hex8(head.high);
     line.put(b" counters ");
-    line.decimal(hist.counters.as_slice().len() as u128);
+    put_number(line, head.counters as u64);
     line.put(b" rate ");
-    line.decimal(u128::from(hist.unit.rate));
+    put_number(line, u64::from(head.unit.rate));
+}
+
+/// Adds the decimal digits of a number.
+#[tactic(auto, using(text_cols::proofs::Lengths::lengths))]
+fn put_number(line: &mut Line, n: u64)
+    requires { length line.old + length (decimal n) ≤ 256 }
+    ensures text { line.new ≡ line.old ++ decimal n }
+    ensures len { length line.new ≡ length line.old + length (decimal n) }
+{
+    let mut digits = Buffer::new();
+    line.put(digits.format(n).as_bytes());
 }
 
 /// Adds dimension and abbreviation, two hexadecimal digits for each byte.
@@ -71,60 +91,56 @@ fn put_hex(line: &mut Line, bytes: &[u8])
     }
 }
 
-/// The line of a counter at an address.
+/// Adds the line of a counter at an address.
 #[tactic(auto, using(text_cols::proofs::Lengths::lengths), unfolding(crate::specs::Lines::count_line))]
-pub fn count(address: u32, counter: u16) -> Line
-    ensures { result ≡ count_line address counter }
+pub fn put_count(line: &mut Line, address: u32, counter: u16)
+    requires { length line.old + 40 ≤ 256 }
+    ensures { line.new ≡ line.old ++ count_line address counter }
 {
-    let mut line = Line::new();
     line.put(b"count ");
     line.hex8(address);
     line.put(b" ");
-    line.decimal(u128::from(counter));
+    put_number(line, u64::from(counter));
     line.put(b"\n");
-    line
 }
 
-/// The line of an arc.
+/// Adds the line of an arc.
 #[tactic(auto, using(text_cols::proofs::Lengths::lengths), unfolding(crate::specs::Lines::arc_line))]
-pub fn arc(arc: &RawArc) -> Line
-    ensures { result ≡ arc_line arc.now }
+pub fn put_arc(line: &mut Line, arc: RawArc)
+    requires { length line.old + 40 ≤ 256 }
+    ensures { line.new ≡ line.old ++ arc_line arc }
 {
-    let mut line = Line::new();
     line.put(b"arc ");
     line.hex8(arc.from);
     line.put(b" ");
     line.hex8(arc.to);
     line.put(b" ");
-    line.decimal(u128::from(arc.count));
+    put_number(line, u64::from(arc.count));
     line.put(b"\n");
-    line
 }
 
-/// The line that counts of basic blocks begin with.
+/// Adds the line that counts of so many basic blocks begin with.
 #[tactic(auto, using(text_cols::proofs::Lengths::lengths), unfolding(crate::specs::Lines::blocks_line))]
-pub fn blocks(blocks: &BlockList) -> Line
-    ensures { result ≡ blocks_line blocks.now }
+pub fn put_blocks(line: &mut Line, blocks: usize)
+    requires { length line.old + 40 ≤ 256 }
+    ensures { line.new ≡ line.old ++ blocks_line blocks }
 {
-    let mut line = Line::new();
     line.put(b"blocks ");
-    line.decimal(blocks.as_slice().len() as u128);
+    put_number(line, blocks as u64);
     line.put(b"\n");
-    line
 }
 
-/// The line of a basic block.
+/// Adds the line of a basic block.
 #[tactic(auto, using(text_cols::proofs::Lengths::lengths), unfolding(crate::specs::Lines::block_line))]
-pub fn block(block: &RawBlock) -> Line
-    ensures { result ≡ block_line block.now }
+pub fn put_block(line: &mut Line, block: RawBlock)
+    requires { length line.old + 40 ≤ 256 }
+    ensures { line.new ≡ line.old ++ block_line block }
 {
-    let mut line = Line::new();
     line.put(b"block ");
     line.hex8(block.addr);
     line.put(b" ");
-    line.decimal(u128::from(block.count));
+    put_number(line, u64::from(block.count));
     line.put(b"\n");
-    line
 }
 
 /// The first line of a program: its text, its entry and its hooks.

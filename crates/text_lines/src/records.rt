@@ -1,57 +1,97 @@
 //! The lines of `show`.
 
-ghost use Rattle.std.specs.Prelude.{◌≡◌, ◌<◌, length};
-ghost use Rattle.std.specs.List.{flat_map, enumerate_from, All};
+ghost use Rattle.std.specs.Prelude.{◌≡◌, ◌/◌, ◌^◌, ◌<◌, length, None};
+ghost use Rattle.std.specs.List.{flat_map, enumerate_from};
 ghost use Rattle.host_port.specs.Buffered.{Adds};
 ghost use Rattle.host_port.specs.Host.{Puts};
 ghost use Rattle.host_port.specs.declared.side.Side.TheVariants.{Output};
-ghost use Rattle.gp_base.specs.Spans.{HasRange};
-ghost use Rattle.text_lines.specs.Lines.{IsShowable, show_text, form_line, rec_text, block_line, counter_text, counter_address};
+ghost use Rattle.gp_base.specs.Bytes.{value_of};
+ghost use Rattle.gp_base.specs.Fields.{block_of};
+ghost use Rattle.gmon_cells.specs.Cells.{cells_of};
+ghost use Rattle.gmon_cells.specs.Views.{hist_viewed, rec_viewed};
+ghost use Rattle.gmon_files.specs.Forms.{file_records, file_refusal};
+ghost use Rattle.gmon_files.specs.Viewed.{recs_left};
+ghost use Rattle.text_lines.specs.Lines.{show_text, form_line, rec_text, hist_text, hist_line, arc_line, blocks_text, blocks_line, block_line, counter_text, counter_address};
+ghost use Rattle.text_lines.specs.Pending.{pending};
 
-use crate::line;
-use gp_base::{Form, RawBlock, RawHist, Rec, Records};
-use host_port::{Failed, Host, PrintBuf};
+use crate::line::{HistHead, put_arc, put_block, put_blocks, put_count, put_histogram};
+use crate::lines::Lines;
+use gmon_cells::{Cell, HistView, RecView};
+use gmon_files::{RecordViews, form_of};
+use gp_base::{Form, RawArc, RawBlock, RawHist, Rec, Records, half, quotient};
+use host_port::{Failed, Host};
+
+/// How many bytes a line takes at most, other than the first one of a histogram.
+const SHORT: usize = 40;
+
+/// How many bytes any line takes at most.
+const WHOLE: usize = 256;
 
 /// Prints the lines of records on the output, as each form has them: a line for each histogram and for
 /// each of its counters that isn't 0, for each arc, and for counts of basic blocks. Takes no memory.
 /// After `Failed` a prefix of the lines is printed, and not all of them.
 pub fn show_records<H: Host>(records: &Records, host: &mut H) -> Result<(), Failed>
-    requires { IsShowable records.now }
     ensures { Puts Output (show_text records.now) (H.outside host.old) (H.outside host.new) result }
 {
-    let mut lines = PrintBuf::new();
+    let mut lines = Lines::new();
     put_records(records, &mut lines, host)?;
     lines.flush(host)
 }
 
-fn put_records<H: Host>(records: &Records, lines: &mut PrintBuf, host: &mut H) -> Result<(), Failed>
-    requires { IsShowable records.now }
-    ensures { Adds Output (show_text records.now) lines.old lines.new (H.outside host.old)
+/// Prints the lines of the records of a profile file in which nothing is refused, as `show_records` does.
+/// They are read from its bytes one after the other. Takes no memory.
+pub fn show_file<H: Host>(bytes: &[u8], host: &mut H) -> Result<(), Failed>
+    requires small { length bytes.now < 2 ^ 32 }
+    requires accepted { file_refusal bytes.now ≡ None }
+    ensures { Puts Output (show_text (file_records bytes.now)) (H.outside host.old)
         (H.outside host.new) result }
+{
+    let mut lines = Lines::new();
+    put_file(bytes, &mut lines, host)?;
+    lines.flush(host)
+}
+
+fn put_records<H: Host>(records: &Records, lines: &mut Lines, host: &mut H) -> Result<(), Failed>
+    ensures { Adds Output (show_text records.now) (pending lines.old) (pending lines.new)
+        (H.outside host.old) (H.outside host.new) result }
 {
     put_form(records.form, lines, host)?;
     put_recs(records.form, records.recs.as_slice(), lines, host)
 }
 
-fn put_form<H: Host>(form: Form, lines: &mut PrintBuf, host: &mut H) -> Result<(), Failed>
-    ensures { Adds Output (form_line form) lines.old lines.new (H.outside host.old)
-        (H.outside host.new) result }
+fn put_file<H: Host>(bytes: &[u8], lines: &mut Lines, host: &mut H) -> Result<(), Failed>
+    requires small { length bytes.now < 2 ^ 32 }
+    requires accepted { file_refusal bytes.now ≡ None }
+    ensures { Adds Output (show_text (file_records bytes.now)) (pending lines.old)
+        (pending lines.new) (H.outside host.old) (H.outside host.new) result }
+{
+    let form = form_of(bytes);
+    put_form(form, lines, host)?;
+    put_views(form, RecordViews::new(bytes), lines, host)
+}
+
+fn put_form<H: Host>(form: Form, lines: &mut Lines, host: &mut H) -> Result<(), Failed>
+    ensures { Adds Output (form_line form) (pending lines.old) (pending lines.new)
+        (H.outside host.old) (H.outside host.new) result }
 {
     match form {
         Form::Bsd => Ok(()),
-        Form::Gnu => lines.put(host, b"gnu\n"),
+        Form::Gnu => {
+            lines.make_room(SHORT, host)?;
+            lines.last.put(b"gnu\n");
+            Ok(())
+        }
     }
 }
 
 fn put_recs<H: Host>(
     form: Form,
     recs: &[Rec],
-    lines: &mut PrintBuf,
+    lines: &mut Lines,
     host: &mut H,
 ) -> Result<(), Failed>
-    requires { All HasRange recs.now }
-    ensures { Adds Output (flat_map (rec_text form) recs.now) lines.old lines.new
-        (H.outside host.old) (H.outside host.new) result }
+    ensures { Adds Output (flat_map (rec_text form) recs.now) (pending lines.old)
+        (pending lines.new) (H.outside host.old) (H.outside host.new) result }
 {
     for rec in recs {
         put_rec(form, rec, lines, host)?;
@@ -59,75 +99,242 @@ fn put_recs<H: Host>(
     Ok(())
 }
 
-fn put_rec<H: Host>(form: Form, rec: &Rec, lines: &mut PrintBuf, host: &mut H) -> Result<(), Failed>
-    requires { HasRange rec.now }
-    ensures { Adds Output (rec_text form rec.now) lines.old lines.new (H.outside host.old)
-        (H.outside host.new) result }
+fn put_views<H: Host>(
+    form: Form,
+    views: RecordViews<'_>,
+    lines: &mut Lines,
+    host: &mut H,
+) -> Result<(), Failed>
+    ensures { Adds Output (flat_map (rec_text form) (recs_left views.entry)) (pending lines.old)
+        (pending lines.new) (H.outside host.old) (H.outside host.new) result }
 {
-    match rec {
-        Rec::Hist(hist) => {
-            lines.put(host, line::histogram(form, hist).bytes())?;
-            put_counters(hist, lines, host)
-        }
-        Rec::Arc(arc) => lines.put(host, line::arc(arc).bytes()),
-        Rec::Blocks(blocks) => {
-            lines.put(host, line::blocks(blocks).bytes())?;
-            put_blocks(blocks.as_slice(), lines, host)
+    let mut views = views;
+    loop {
+        match views.next() {
+            Some(view) => put_view(form, view, lines, host)?,
+            None => return Ok(()),
         }
     }
 }
 
-fn put_blocks<H: Host>(
-    blocks: &[RawBlock],
-    lines: &mut PrintBuf,
+fn put_rec<H: Host>(form: Form, rec: &Rec, lines: &mut Lines, host: &mut H) -> Result<(), Failed>
+    ensures { Adds Output (rec_text form rec.now) (pending lines.old) (pending lines.new)
+        (H.outside host.old) (H.outside host.new) result }
+{
+    match rec {
+        Rec::Hist(hist) => put_hist(form, hist, lines, host),
+        Rec::Arc(arc) => put_arc_line(*arc, lines, host),
+        Rec::Blocks(blocks) => put_block_list(blocks.as_slice(), lines, host),
+    }
+}
+
+/// Puts the lines of the record that a view stands for.
+fn put_view<H: Host>(
+    form: Form,
+    view: RecView<'_>,
+    lines: &mut Lines,
     host: &mut H,
 ) -> Result<(), Failed>
-    ensures { Adds Output (flat_map block_line blocks.now) lines.old lines.new (H.outside host.old)
-        (H.outside host.new) result }
+    ensures { Adds Output (rec_text form (rec_viewed view.entry)) (pending lines.old)
+        (pending lines.new) (H.outside host.old) (H.outside host.new) result }
 {
-    for block in blocks {
-        lines.put(host, line::block(block).bytes())?;
+    match view {
+        RecView::Hist(hist) => put_hist_view(form, hist, lines, host),
+        RecView::Arc(arc) => put_arc_line(arc, lines, host),
+        RecView::Blocks(pairs) => put_pairs(pairs, lines, host),
+    }
+}
+
+fn put_hist<H: Host>(
+    form: Form,
+    hist: &RawHist,
+    lines: &mut Lines,
+    host: &mut H,
+) -> Result<(), Failed>
+    ensures { Adds Output (hist_text form hist.now) (pending lines.old) (pending lines.new)
+        (H.outside host.old) (H.outside host.new) result }
+{
+    let counters = hist.counters.as_slice();
+    let head = HistHead {
+        low: hist.low,
+        high: hist.high,
+        unit: hist.unit,
+        counters: counters.len(),
+    };
+    put_head(form, head, lines, host)?;
+    put_counters(head, counters, lines, host)
+}
+
+fn put_hist_view<H: Host>(
+    form: Form,
+    hist: HistView<'_>,
+    lines: &mut Lines,
+    host: &mut H,
+) -> Result<(), Failed>
+    ensures { Adds Output (hist_text form (hist_viewed hist.entry)) (pending lines.old)
+        (pending lines.new) (H.outside host.old) (H.outside host.new) result }
+{
+    let head = HistHead {
+        low: hist.low,
+        high: hist.high,
+        unit: hist.unit,
+        counters: hist.counters.len() / 2,
+    };
+    put_head(form, head, lines, host)?;
+    put_counter_bytes(head, hist.counters, lines, host)
+}
+
+/// Puts the first line of a histogram.
+fn put_head<H: Host>(
+    form: Form,
+    head: HistHead,
+    lines: &mut Lines,
+    host: &mut H,
+) -> Result<(), Failed>
+    ensures { Adds Output (hist_line form head) (pending lines.old) (pending lines.new)
+        (H.outside host.old) (H.outside host.new) result }
+{
+    lines.make_room(WHOLE, host)?;
+    put_histogram(&mut lines.last, form, head);
+    Ok(())
+}
+
+fn put_counters<H: Host>(
+    head: HistHead,
+    counters: &[u16],
+    lines: &mut Lines,
+    host: &mut H,
+) -> Result<(), Failed>
+    requires { head.counters ≡ length counters.now }
+    ensures { Adds Output (flat_map (counter_text head) (enumerate_from 0 counters.now))
+        (pending lines.old) (pending lines.new) (H.outside host.old) (H.outside host.new) result }
+{
+    for (i, counter) in counters.iter().enumerate() {
+        put_counter(head, i, *counter, lines, host)?;
     }
     Ok(())
 }
 
-fn put_counters<H: Host>(hist: &RawHist, lines: &mut PrintBuf, host: &mut H) -> Result<(), Failed>
-    requires { 0 < length hist.now.counters → hist.now.low < hist.now.high }
-    ensures { Adds Output (flat_map (counter_text hist.now) (enumerate_from 0 hist.now.counters))
-        lines.old lines.new
-        (H.outside host.old) (H.outside host.new) result }
+/// The same by the counters' bytes.
+fn put_counter_bytes<H: Host>(
+    head: HistHead,
+    bytes: &[u8],
+    lines: &mut Lines,
+    host: &mut H,
+) -> Result<(), Failed>
+    requires { head.counters ≡ length bytes.now / 2 }
+    ensures { Adds Output
+        (flat_map (counter_text head) (enumerate_from 0 (cells_of 2 value_of bytes.now)))
+        (pending lines.old) (pending lines.new) (H.outside host.old) (H.outside host.new) result }
 {
-    for (i, counter) in hist.counters.as_slice().iter().enumerate() {
-        put_counter(hist, i, *counter, lines, host)?;
+    for i in 0..head.counters {
+        put_counter(head, i, half(bytes, i * 2), lines, host)?;
     }
     Ok(())
 }
 
 fn put_counter<H: Host>(
-    hist: &RawHist,
+    head: HistHead,
     i: usize,
     counter: u16,
-    lines: &mut PrintBuf,
+    lines: &mut Lines,
     host: &mut H,
 ) -> Result<(), Failed>
-    requires within { i < length hist.now.counters }
-    requires range { hist.now.low < hist.now.high }
-    ensures { Adds Output (counter_text hist.now (i, counter)) lines.old lines.new
+    requires { i < head.counters }
+    ensures { Adds Output (counter_text head (i, counter)) (pending lines.old) (pending lines.new)
         (H.outside host.old) (H.outside host.new) result }
 {
     if counter == 0 {
         return Ok(());
     }
-    lines.put(host, line::count(address(hist, i), counter).bytes())
+    lines.make_room(SHORT, host)?;
+    put_count(&mut lines.last, address(head, i), counter);
+    Ok(())
 }
 
 /// Where a counter begins.
-fn address(hist: &RawHist, i: usize) -> u32
-    requires within { i < length hist.now.counters }
-    requires range { hist.now.low < hist.now.high }
-    ensures { result ≡ counter_address hist.now i }
+fn address(head: HistHead, i: usize) -> u32
+    requires { i < head.counters }
+    ensures { result ≡ counter_address head i }
 {
-    let width = u128::from(hist.high - hist.low);
-    let n = hist.counters.as_slice().len() as u128;
-    hist.low + (i as u128 * width / n) as u32
+    let width = u128::from(head.high.saturating_sub(head.low));
+    head.low + quotient(i as u128 * width, head.counters as u128) as u32
+}
+
+fn put_arc_line<H: Host>(arc: RawArc, lines: &mut Lines, host: &mut H) -> Result<(), Failed>
+    ensures { Adds Output (arc_line arc) (pending lines.old) (pending lines.new)
+        (H.outside host.old) (H.outside host.new) result }
+{
+    lines.make_room(SHORT, host)?;
+    put_arc(&mut lines.last, arc);
+    Ok(())
+}
+
+fn put_block_list<H: Host>(
+    blocks: &[RawBlock],
+    lines: &mut Lines,
+    host: &mut H,
+) -> Result<(), Failed>
+    ensures { Adds Output (blocks_text blocks.now) (pending lines.old) (pending lines.new)
+        (H.outside host.old) (H.outside host.new) result }
+{
+    put_number_of_blocks(blocks.len(), lines, host)?;
+    put_block_lines(blocks, lines, host)
+}
+
+/// The same by the bytes of the pairs.
+fn put_pairs<H: Host>(pairs: &[u8], lines: &mut Lines, host: &mut H) -> Result<(), Failed>
+    ensures { Adds Output (blocks_text (cells_of 8 block_of pairs.now)) (pending lines.old)
+        (pending lines.new) (H.outside host.old) (H.outside host.new) result }
+{
+    put_number_of_blocks(pairs.len() / 8, lines, host)?;
+    put_pair_lines(pairs, lines, host)
+}
+
+/// Puts the line that counts of so many basic blocks begin with.
+fn put_number_of_blocks<H: Host>(
+    blocks: usize,
+    lines: &mut Lines,
+    host: &mut H,
+) -> Result<(), Failed>
+    ensures { Adds Output (blocks_line blocks) (pending lines.old) (pending lines.new)
+        (H.outside host.old) (H.outside host.new) result }
+{
+    lines.make_room(SHORT, host)?;
+    put_blocks(&mut lines.last, blocks);
+    Ok(())
+}
+
+fn put_block_lines<H: Host>(
+    blocks: &[RawBlock],
+    lines: &mut Lines,
+    host: &mut H,
+) -> Result<(), Failed>
+    ensures { Adds Output (flat_map block_line blocks.now) (pending lines.old) (pending lines.new)
+        (H.outside host.old) (H.outside host.new) result }
+{
+    for block in blocks {
+        put_block_line(*block, lines, host)?;
+    }
+    Ok(())
+}
+
+fn put_pair_lines<H: Host>(pairs: &[u8], lines: &mut Lines, host: &mut H) -> Result<(), Failed>
+    ensures { Adds Output (flat_map block_line (cells_of 8 block_of pairs.now))
+        (pending lines.old) (pending lines.new) (H.outside host.old) (H.outside host.new) result }
+{
+    for i in 0..pairs.len() / 8 {
+        let pair = pairs.split_at(i * 8).1.split_at(8).0;
+        put_block_line(RawBlock::read(pair), lines, host)?;
+    }
+    Ok(())
+}
+
+fn put_block_line<H: Host>(block: RawBlock, lines: &mut Lines, host: &mut H) -> Result<(), Failed>
+    ensures { Adds Output (block_line block) (pending lines.old) (pending lines.new)
+        (H.outside host.old) (H.outside host.new) result }
+{
+    lines.make_room(SHORT, host)?;
+    put_block(&mut lines.last, block);
+    Ok(())
 }

@@ -1,5 +1,6 @@
 use super::*;
 use elf32_syms::{Image, SegmentList, Symbol, SymbolList};
+use gmon_files::fault;
 use gp_base::{
     BlockList, Counts, Form, Name, RawArc, RawBlock, RawHist, Rec, RecList, Records, Span, Unit,
 };
@@ -105,5 +106,37 @@ fn hooks_and_long_names_are_shown_whole(rt: HostRuntime) -> Result<(), Fail> {
     let mut host = MemHost::new(rt.alloc());
     show_image(&image, &mut host).map_err(|_| "shown")?;
     assert_eq!(rt; host.printed(), line.as_slice());
+    Ok(())
+}
+
+/// A file of the GNU form: two block counts, a histogram of one counter in a dimension with bytes that are no text,
+/// an arc, and no block counts.
+const GNU_FILE: &[u8] =
+    b"gmon\x01\0\0\0\0\0\0\0\0\0\0\0\0\0\0\0\x02\x02\0\0\0\x01\0\0\0\0\0\0\0\xff\xff\xff\xff\xff\xff\xff\xff\0\x01\0\0\0\x02\0\0\0\x01\0\0\0\x32\0\0\0\0\x0f\xa0seconds\xff\0\0\0\0s\xff\xff\x01\x01\0\0\0\x02\0\0\0\x03\0\0\0\x02\0\0\0\0";
+
+/// A file of the 4.4BSD form: three counters and an arc.
+const BSD_FILE: &[u8] =
+    b"\xf0\xff\xff\xff\xff\xff\xff\xff\x26\0\0\0\x79\x18\x05\0\0\0\0\0\0\0\0\0\0\0\0\0\0\0\0\0\0\0\x09\0\0\0\x01\0\0\0\x02\0\0\0\xff\xff\xff\xff";
+
+#[test]
+fn whole_files_are_shown(rt: HostRuntime) -> Result<(), Fail> {
+    for (bytes, want) in [
+        (
+            GNU_FILE,
+            b"gnu\nblocks 2\nblock 00000001 0\nblock ffffffff 4294967295\nhist low 00000001 high 00000002 counters 1 rate 50 unit 000fa07365636f6e6473ff0000000073\ncount 00000001 65535\narc 00000001 00000002 3\nblocks 0\n".as_slice(),
+        ),
+        (
+            BSD_FILE,
+            b"bsd low fffffff0 high ffffffff counters 3 rate 0\ncount fffffff5 9\narc 00000001 00000002 4294967295\n".as_slice(),
+        ),
+    ] {
+        assert!(rt; bytes.len() < 200);
+        let mut host = MemHost::new(rt.alloc());
+        match fault(bytes) {
+            None => show_file(bytes, &mut host).map_err(|_| "shown")?,
+            Some(_) => return Err("refused".into()),
+        }
+        assert_eq!(rt; host.printed(), want);
+    }
     Ok(())
 }

@@ -1,7 +1,7 @@
 use Rattle.std.proofs.Common.{ℕ, List, length, sym, ap, ◌∙◌}
 use Rattle.gmon_gnu.specs.Reading.{refusal_read}
 use Rattle.gmon_gnu.specs.Going.{records_on}
-use Rattle.gmon_gnu.proofs.SkipLemmas.{past_header}
+use Rattle.gmon_gnu.proofs.ViewLemmas.{past_header}
 use Rattle.gmon_gnu.proofs.checking.fault.Goals as goal
 
 pub returns-in-None : goal.returns-in-None

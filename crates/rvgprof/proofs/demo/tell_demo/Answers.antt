@@ -1,13 +1,12 @@
 use Rattle.std.proofs.Common.{◌≡◌, ◌∙◌, ◌++◌, ◌∷◌, [], ℕ, List, inl, refl, ap, subst}
 use Rattle.std.proofs.lemmas.Result.{err_from_is_err_and}
-use Rattle.gp_base.specs.declared.records.Form.TheVariants.{Bsd}
 use Rattle.flat_report.specs.Reports.{Reports}
 use Rattle.host_port.specs.Act.{Out}
 use Rattle.mcount_arcs.specs.Log.{distinct_count, kept_calls}
 use Rattle.mcount_arcs.specs.Sizes.{sizes_of}
 use Rattle.prof_machine.specs.Start.{final_world}
 use Rattle.prof_machine.specs.Value.{summary_of}
-use Rattle.rvgprof.specs.Answer.{demo_lines, sums_up, written_profile}
+use Rattle.rvgprof.specs.Answer.{demo_lines, sums_up, logged_profile}
 use Rattle.rvgprof.specs.Reports.{demo_summary, profile_sources}
 use Rattle.rvgprof.proofs.DemoLemmas.{summary_due}
 use Rattle.rvgprof.proofs.Profiling.{profile_written}
@@ -34,9 +33,8 @@ returns g c = λ words start below done bytes setup is rate s.
     let w = final_world image bytes setup in
     let gmon = c.gmon.ensures in
     let total = c.in_ok-total.total in
-    let fits = c.in_ok-total.ensures.fits in
-    let written : total ≡ written_profile Bsd z w.log c.args.rate = profile_written Bsd c.gmon.result.now z w.log c.args.rate total (gmon.log w is.stands) (gmon.sizes ∙ is.sizes) fits.0 fits.1 c.ranges.rate.fits (c.in_ok-total.ensures.log w.log (gmon.log w is.stands)) in
-    let made = profile_sources image (written_profile Bsd z w.log c.args.rate) in
+    let written : total ≡ logged_profile z w.log c.args.rate = profile_written c.gmon.result.now z w.log c.args.rate total (gmon.log w is.stands) (gmon.sizes ∙ is.sizes) c.in_ok-total.ensures.records in
+    let made = profile_sources image (logged_profile z w.log c.args.rate) in
     let text = demo_summary c.args.functions (distinct_count (kept_calls z w.log)) made.graph made.flow made.shares (summary_of z w) in
     let due : c.bytes.result.now ≡ text = c.bytes.ensures.bytes ∙ summary_due c.args.functions image c.args.run.now c.in_ok-findings.findings total c.args.rate c.summary_of.result z w c.in_ok-findings.ensures c.summary_of.ensures is.stands is.sizes written in
     let printed = subst (λ (t : List ℕ). Reports t (g.H.Host.outside c.args.host.now) (g.H.Host.outside c.print_text.new.host) c.print_text.result) due c.print_text.ensures.printed in

@@ -1,5 +1,4 @@
 use Rattle.std.proofs.Common.{◌≡◌, ◌+◌, ◌-◌, ◌∙◌, sym, ap, subst, arith}
-use Rattle.std.specs.Prelude.{map, string_bytes}
 use Rattle.gp_base.specs.declared.limits.TheConstants.{MAX_PROFILE_BYTES}
 use Rattle.gmon_data.specs.Content.{Content, content_of, empty_content}
 use Rattle.rvgprof.specs.Acceptance.{records_of}
@@ -27,7 +26,7 @@ returns-in-Err-clause-adds g c = λ start below more next may later s.
 
 pub returns-then-is_empty-clause-adds : goal.returns-then-is_empty-clause-adds
 returns-then-is_empty-clause-adds g c = λ start below more next may later s.
-    let words = map string_bytes c.args.words.now in
+    let words = c.args.words.now in
     let word = c.args.word in
     let total = c.args.total.now in
     let profile = c.in-Ok.read.0 in
@@ -40,7 +39,7 @@ returns-then-is_empty-clause-adds g c = λ start below more next may later s.
 
 pub returns-in-Ok-add_into-clause-adds : goal.returns-in-Ok-add_into-clause-adds
 returns-in-Ok-add_into-clause-adds g c = λ start below more next may later s.
-    let words = map string_bytes c.args.words.now in
+    let words = c.args.words.now in
     let word = c.args.word in
     let total = c.args.total.now in
     let stands = c.in-Ok.ensures.reads start below (summed_up word c.args.left total more next) (may_stop_summed word c.args.left total more next may) later s in
@@ -57,7 +56,7 @@ returns-in-Ok-add_into-clause-size g c =
 
 pub returns-clause-adds : goal.returns-clause-adds
 returns-clause-adds g c = λ start below more next may later s.
-    let words = map string_bytes c.args.words.now in
+    let words = c.args.words.now in
     let word = c.args.word in
     let total = c.args.total.now in
     let stands = c.in-Ok.ensures.reads start below (summed_up word c.args.left total more next) (may_stop_summed word c.args.left total more next may) later s in
@@ -66,7 +65,7 @@ returns-clause-adds g c = λ start below more next may later s.
 
 pub returns-then-is_empty-clause-told : goal.returns-then-is_empty-clause-told
 returns-then-is_empty-clause-told g c =
-    let words = map string_bytes c.args.words.now in
+    let words = c.args.words.now in
     let total = c.args.total.now in
     let profile = c.in-Ok.read.0 in
     let empty = c.is_empty.ensures c.if-is_empty.true in
@@ -77,7 +76,7 @@ returns-then-is_empty-clause-told g c =
 
 pub returns-in-Ok-add_into-clause-told : goal.returns-in-Ok-add_into-clause-told
 returns-in-Ok-add_into-clause-told g c =
-    let words = map string_bytes c.args.words.now in
+    let words = c.args.words.now in
     let total = c.args.total.now in
     let profile = c.in-Ok.read.0 in
     let sum = rw c.replace-before.ensures.value at c.in-Ok-add_into.ensures.added in

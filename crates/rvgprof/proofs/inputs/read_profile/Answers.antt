@@ -1,5 +1,4 @@
 use Rattle.std.proofs.Common.{◌≡◌, None, length, ap, subst, sym, ◌∙◌, arith}
-use Rattle.std.specs.Prelude.{map, string_bytes}
 use Rattle.gmon_data.specs.Content.{Content, conflict_of, content_of, with_records}
 use Rattle.profile_sum.proofs.ContentLemmas.{content_is_added}
 use Rattle.command_words.specs.Items.{nth_word}
@@ -18,8 +17,8 @@ use Rattle.rvgprof.proofs.inputs.read_profile.Goals as goal
 
 pub returns-in-Err-clause-reads : goal.returns-in-Err-clause-reads
 returns-in-Err-clause-reads g c = λ start below next may later s.
-    let loads = rw c.name_at.ensures at c.in-Err.ensures.read in
-    rw c.load_fault.ensures (not_loaded (map string_bytes c.args.words.now) start _ _ below c.args.word c.args.left _ c.in-Err.refusal s later loads)
+    let loads = rw c.name.ensures at c.in-Err.ensures.read in
+    rw c.load_fault.ensures (not_loaded c.args.words.now start _ _ below c.args.word c.args.left _ c.in-Err.refusal s later loads)
 
 pub add_to-requires-clause-room : goal.add_to-requires-clause-room
 add_to-requires-clause-room g c =
@@ -34,18 +33,18 @@ add_to-requires-clause-room g c =
 
 pub returns-in-Ok-add_to-clause-reads : goal.returns-in-Ok-add_to-clause-reads
 returns-in-Ok-add_to-clause-reads g c = λ start below next may later s.
-    let r = rw c.name_at.ensures at c.in-Ok.ensures.read in
+    let r = rw c.name.ensures at c.in-Ok.ensures.read in
     let new = c.new-profile.ensures.content in
     let like = subst (λ (p : Content). conflict_of p (spelled_records r.0) ≡ None) new (c.in-Ok-add_to.ensures.like r.0 r.2) in
     let is = c.in-Ok-add_to.ensures.added r.0 r.2 ∙ ap (λ (p : Content). with_records (spelled_records r.0) p) new in
-    rw r.3 (one_read (map string_bytes c.args.words.now) start _ _ below c.args.word c.args.left next r.0 c.add_to.new.profile may s later r.1 (c.in-Ok-add_to.ensures.accepted r.0 r.2) like is)
+    rw r.3 (one_read c.args.words.now start _ _ below c.args.word c.args.left next r.0 c.add_to.new.profile may s later r.1 (c.in-Ok-add_to.ensures.accepted r.0 r.2) like is)
 
 pub returns-in-Err-add_to-clause-reads : goal.returns-in-Err-add_to-clause-reads
 returns-in-Err-add_to-clause-reads g c = λ start below next may later s.
-    let r = rw c.name_at.ensures at c.in-Ok.ensures.read in
+    let r = rw c.name.ensures at c.in-Ok.ensures.read in
     let refusal = c.in-Err-add_to.refusal in
     let due = subst (λ (p : Content). IsReadRefusal refusal (file_refusal r.0) (conflict_of p (spelled_records r.0))) c.new-profile.ensures.content (c.in-Err-add_to.ensures.refusal r.0 r.2) in
-    rw c.read_fault.ensures (not_read (map string_bytes c.args.words.now) start _ _ below c.args.word c.args.left next r.0 refusal may s later r.1 due)
+    rw c.read_fault.ensures (not_read c.args.words.now start _ _ below c.args.word c.args.left next r.0 refusal may s later r.1 due)
 
 pub returns-in-Ok-add_to-clause-records : goal.returns-in-Ok-add_to-clause-records
 returns-in-Ok-add_to-clause-records g c =
@@ -61,8 +60,8 @@ returns-in-Ok-add_to-clause-size g c =
 
 pub returns-in-Ok-add_to-clause-told : goal.returns-in-Ok-add_to-clause-told
 returns-in-Ok-add_to-clause-told g c =
-    let words = map string_bytes c.args.words.now in
-    let r = rw c.name_at.ensures at c.in-Ok.ensures.read in
+    let words = c.args.words.now in
+    let r = rw c.name.ensures at c.in-Ok.ensures.read in
     let is = c.in-Ok-add_to.ensures.added r.0 r.2 ∙ ap (λ (p : Content). with_records (spelled_records r.0) p) c.new-profile.ensures.content in
     let content : c.add_to.new.profile ≡ content_of (records_of r.0) = is ∙ sym (content_is_added (records_of r.0)) in
     was_read (nth_word words c.args.word) _ _ _ r.0 (λ bytes. c.add_to.new.profile ≡ content_of (records_of bytes)) r.1 content

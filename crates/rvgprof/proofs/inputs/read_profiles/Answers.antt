@@ -1,5 +1,4 @@
 use Rattle.std.proofs.Common.{◌≡◌, ℕ, ◌+◌, ◌-◌, ◌≤◌, List, [], ◌∷◌, ◌∙◌, ap, drop, take, get_or, sym, subst, arith}
-use Rattle.std.specs.Prelude.{map, string_bytes}
 use Rattle.std.specs.List.{AllByRecursion}
 use Rattle.std.proofs.lemmas.List.{drop_more, drop_all, take_all, take_more}
 use Rattle.gmon_data.specs.Content.{Content, content_of}
@@ -17,7 +16,7 @@ use Rattle.rvgprof.proofs.inputs.read_profiles.Goals as goal
 
 pub loop-i-init : goal.loop-i-init
 loop-i-init g c =
-    let words = map string_bytes c.args.words.now in
+    let words = c.args.words.now in
     let gmons = c.args.gmons.now in
     let host = g.H.Host.outside c.args.host.now in
     record {
@@ -30,7 +29,7 @@ loop-i-init g c =
 
 pub loop-i-preserved : goal.loop-i-preserved
 loop-i-preserved g c =
-    let words = map string_bytes c.args.words.now in
+    let words = c.args.words.now in
     let gmons = c.args.gmons.now in
     let i = c.loop-i.i in
     let word = get_or gmons i 0 in
@@ -57,7 +56,7 @@ loop-i-preserved g c =
 
 pub returns-in-Err-clause-reads : goal.returns-in-Err-clause-reads
 returns-in-Err-clause-reads g c = λ start below next may all s.
-    let words = map string_bytes c.args.words.now in
+    let words = c.args.words.now in
     let gmons = c.args.gmons.now in
     let i = c.loop-i.i in
     let word = get_or gmons i 0 in
@@ -70,7 +69,7 @@ returns-in-Err-clause-reads g c = λ start below next may all s.
 
 pub returns-clause-reads : goal.returns-clause-reads
 returns-clause-reads g c = λ start below next may all s.
-    let words = map string_bytes c.args.words.now in
+    let words = c.args.words.now in
     let gmons = c.args.gmons.now in
     let none : drop c.loop-i.i gmons ≡ [] = drop_all c.loop-i.i gmons c.loop-i-test.false in
     let before = c.loop-i.invariant.reads start below next may all s in
@@ -78,7 +77,7 @@ returns-clause-reads g c = λ start below next may all s.
 
 pub returns-clause-told : goal.returns-clause-told
 returns-clause-told g c =
-    let words = map string_bytes c.args.words.now in
+    let words = c.args.words.now in
     let gmons = c.args.gmons.now in
     let all : take c.loop-i.i gmons ≡ gmons = take_all c.loop-i.i gmons (omega (arith, c.loop-i-test.false)) in
     read_weaker _ _ (λ files. c.loop-i.total ≡ total_of (contents_of words files) (take c.loop-i.i gmons)) (λ files. c.loop-i.total ≡ total_of (contents_of words files) gmons)

@@ -1,4 +1,4 @@
-use Rattle.std.proofs.Common.{◌≡◌, ℕ, ◌-◌, ◌≤◌, [], drop, take, map, string_bytes, false}
+use Rattle.std.proofs.Common.{◌≡◌, ℕ, ◌-◌, ◌≤◌, [], drop, take, false}
 use Rattle.std.specs.List.{AllByRecursion}
 use Rattle.gmon_data.specs.Content.{Content, empty_content}
 use Rattle.gp_base.specs.declared.limits.TheConstants.{MAX_PROFILE_BYTES}
@@ -14,10 +14,10 @@ use Rattle.rvgprof.proofs.inputs.read_profiles.Given as goal
 abbrev pub invariant-loop-i : goal.invariant-loop-i
 invariant-loop-i g l = record {
   reads : (start : Outside) (below : ℕ) (next : Content → Course) → MayYetStop next → AllByRecursion (λ word. below ≤ word) l.gmons
-      → Stands (map string_bytes l.words) start (g.H.Host.outside l.initial.host) below [] (profiles l.gmons MAX_PROFILE_BYTES empty_content next)
-      → (behind : ℕ) × AllByRecursion (λ word. behind ≤ word) (drop l.i l.gmons) × Stands (map string_bytes l.words) start (g.H.Host.outside l.host) behind [] (profiles (drop l.i l.gmons) l.left l.total next);
+      → Stands l.words start (g.H.Host.outside l.initial.host) below [] (profiles l.gmons MAX_PROFILE_BYTES empty_content next)
+      → (behind : ℕ) × AllByRecursion (λ word. behind ≤ word) (drop l.i l.gmons) × Stands l.words start (g.H.Host.outside l.host) behind [] (profiles (drop l.i l.gmons) l.left l.total next);
   idle : (g.H.Host.outside l.host).is_writing ≡ false;
   size : IsOfBytes (MAX_PROFILE_BYTES - l.left) l.total;
   limit : l.left ≤ MAX_PROFILE_BYTES;
-  told : HasRead (g.H.Host.outside l.initial.host) (g.H.Host.outside l.host) (λ files. l.total ≡ total_of (contents_of (map string_bytes l.words) files) (take l.i l.gmons));
+  told : HasRead (g.H.Host.outside l.initial.host) (g.H.Host.outside l.host) (λ files. l.total ≡ total_of (contents_of l.words files) (take l.i l.gmons));
 }

@@ -1,15 +1,15 @@
 use Rattle.std.proofs.Common.{Bool, None, Some, suc, ap, refl, if◌then◌else◌}
 use Rattle.std.proofs.Math.Dec.{eqb-suc-zero}
-use Rattle.gp_base.specs.declared.records.RawBlock.{RawBlock}
 use Rattle.std.specs.Prelude.{count_by}
 use Rattle.gmon_gnu.specs.CountedRun.{CountsFit}
 use Rattle.prof_machine.specs.Start.{machine_of, start_of}
 use Rattle.prof_machine.specs.Turn.{world_after}
 use Rattle.prof_machine.specs.Value.{is_sample}
 use Rattle.demo_elf.specs.Elf.{demo_program}
+use Rattle.demo_laws.specs.Witness.{witness_file}
 use Rattle.elf32_syms.specs.Image.{image_of}
 use Rattle.rvgprof.proofs.ClaimLemmas.{clocked}
-use Rattle.rvgprof.proofs.DemoClaims.{demo_entry, demo_text, demo_hooks}
+use Rattle.rvgprof.proofs.DemoClaims.{demo_entry, demo_text, demo_hooks, witness_image_is}
 use Rattle.rvgprof.proofs.laws.claims.Goals as goal
 
 pub returns : goal.returns
@@ -79,6 +79,7 @@ returns c = record {
     pairs = c.pairs_are_counts.ensures;
     prints_stay = c.prints_stay.ensures.stay;
     last_prints = c.prints_stay.ensures.driven;
+    files_stay = c.prints_stay.ensures.files;
     none_busy = c.none_ends_busy.ensures.any;
     plan_not_busy = c.none_ends_busy.ensures.plan;
   };
@@ -186,6 +187,11 @@ returns c = record {
     symbols = c.demo_has_image.ensures.symbols;
     hooks = λ n few. demo_hooks n (image_of (demo_program n)) (c.demo_has_image.ensures.image n few);
     starts = c.demo_starts.ensures;
+  };
+  witness = record {
+    accepted = c.witness_is_accepted.ensures.accepted;
+    image = witness_image_is (image_of witness_file) c.witness_is_accepted.ensures.image;
+    starts = c.witness_is_accepted.ensures.starts;
   };
   meanings = record {
     count = λ low i h. refl;

@@ -1,5 +1,4 @@
 use Rattle.std.proofs.Common.{[], ◌∷◌, ◌+◌, None, arith, inl, refl}
-use Rattle.std.specs.Prelude.{map, string_bytes}
 use Rattle.annotate.specs.Listing.{annotated_text}
 use Rattle.gmon_data.specs.Content.{Content}
 use Rattle.host_port.specs.Act.{Out}
@@ -23,7 +22,7 @@ returns-in-Err-read_profiles g c =
 
 pub returns-in-Ok-write : goal.returns-in-Ok-write
 returns-in-Ok-write g c =
-    let words = map string_bytes c.args.words.now in
+    let words = c.args.words.now in
     let next : Content → Course = λ total. Does (Out (annotated_text c.in-Ok.read.1 c.in-Ok.read.0.items total) ∷ []) end_course in
     let s = c.in-Ok.ensures.reads _ 0 (list_profiles c.args.gmons.now) (omega arith) c.requires.stands in
     let t = c.in-Ok-read_profiles.ensures.reads _ (c.args.elf + 1) next (λ contents total. inl refl) (all_behind c.args.elf c.args.gmons.now c.requires.rising.0) s in
@@ -33,7 +32,7 @@ returns-in-Ok-write g c =
 
 pub returns : goal.returns
 returns g c =
-    let words = map string_bytes c.args.words.now in
+    let words = c.args.words.now in
     let next : Content → Course = λ total. Does (Out (annotated_text c.in-Ok.read.1 c.in-Ok.read.0.items total) ∷ []) end_course in
     let s = c.in-Ok.ensures.reads _ 0 (list_profiles c.args.gmons.now) (omega arith) c.requires.stands in
     let t = c.in-Ok-read_profiles.ensures.reads _ (c.args.elf + 1) next (λ contents total. inl refl) (all_behind c.args.elf c.args.gmons.now c.requires.rising.0) s in

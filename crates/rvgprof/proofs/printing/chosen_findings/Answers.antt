@@ -1,4 +1,4 @@
-use Rattle.std.proofs.Common.{◌≡◌, ℕ, true, List, [], ◌∷◌, Global, String, length, map, string_bytes, ap, sym, subst, ◌∙◌}
+use Rattle.std.proofs.Common.{◌≡◌, ℕ, true, List, [], ◌∷◌, Global, String, length, string_bytes, ap, sym, subst, ◌∙◌}
 use Rattle.std.specs.Prelude.{IfOk}
 use Rattle.std.specs.List.{All}
 use Rattle.std.proofs.lemmas.Bool.{eqb-true}
@@ -20,9 +20,9 @@ pub returns-then-is_empty : goal.returns-then-is_empty
 returns-then-is_empty c =
     let places = c.args.selection.now.cuts in
     let none : length places ≡ 0 = ap (λ (xs : List ℕ). length xs) (sym c.as_slice.ensures) ∙ eqb-true (length c.as_slice.result.now) 0 (sym c.is_empty.ensures ∙ c.if-is_empty.true) in
-    subst (λ (p : Content). IfOk c.findings_of.result (AreFindings c.args.image.now p)) (uncut c.args.total c.args.image.now.symbols (map string_bytes c.args.words.now) places none) c.findings_of.ensures
+    subst (λ (p : Content). IfOk c.findings_of.result (AreFindings c.args.image.now p)) (uncut c.args.total c.args.image.now.symbols c.args.words.now places none) c.findings_of.ensures
 
 pub cut-requires-clause-words : goal.cut-requires-clause-words
 cut-requires-clause-words c =
     subst (λ (names : List (String Global)). All (λ name. is_cut_word (string_bytes name) ≡ true) names) (sym c.deref.ensures.value)
-    (cut_words (map string_bytes c.args.words.now) c.args.selection.now.cuts c.in_ok-cuts.cuts.items c.requires.cuts (c.in_ok-cuts.ensures ∙ ap (words_at (map string_bytes c.args.words.now)) c.as_slice-2.ensures))
+    (cut_words c.args.words.now c.args.selection.now.cuts c.in_ok-cuts.cuts.items c.requires.cuts (c.in_ok-cuts.ensures ∙ ap (words_at c.args.words.now) c.as_slice-2.ensures))

@@ -10,17 +10,17 @@ use Rattle.rvgprof.proofs.printing.print_reports.Goals as goal
 
 pub returns-in_default-clause-prints : goal.returns-in_default-clause-prints
 returns-in_default-clause-prints g c = λ words start below done next s.
-    let chosen = chosen_by (map string_bytes c.args.words.now) c.args.selection.now in
+    let chosen = chosen_by c.args.words.now c.args.selection.now in
     no_memory words start _ below done (print_reports chosen c.args.image.now c.args.total next) s (may_stop_reports chosen c.args.image.now c.args.total next)
 
 pub returns-in_default-chosen_findings-clause-prints : goal.returns-in_default-chosen_findings-clause-prints
 returns-in_default-chosen_findings-clause-prints g c = λ words start below done next s.
-    let chosen = chosen_by (map string_bytes c.args.words.now) c.args.selection.now in
+    let chosen = chosen_by c.args.words.now c.args.selection.now in
     no_memory words start _ below done (print_reports chosen c.args.image.now c.args.total next) s (may_stop_reports chosen c.args.image.now c.args.total next)
 
 pub returns-in-Err-clause-prints : goal.returns-in-Err-clause-prints
 returns-in-Err-clause-prints g c = λ words start below done next s.
-    let chosen = chosen_by (map string_bytes c.args.words.now) c.args.selection.now in
+    let chosen = chosen_by c.args.words.now c.args.selection.now in
     let findings = c.in-Ok-chosen_findings.findings in
     let all = of_findings words start _ below done chosen c.args.image.now c.args.total findings next c.in-Ok-chosen_findings.ensures s in
     let refused = c.in-Err.ensures.refused in
@@ -28,21 +28,21 @@ returns-in-Err-clause-prints g c = λ words start below done next s.
 
 pub returns-in-Ok-print_all-clause-prints : goal.returns-in-Ok-print_all-clause-prints
 returns-in-Ok-print_all-clause-prints g c = λ words start below done next s.
-    let chosen = chosen_by (map string_bytes c.args.words.now) c.args.selection.now in
+    let chosen = chosen_by c.args.words.now c.args.selection.now in
     let findings = c.in-Ok-chosen_findings.findings in
     let all = of_findings words start _ below done chosen c.args.image.now c.args.total findings next c.in-Ok-chosen_findings.ensures s in
     let here = narrow words start _ below done chosen c.args.image.now findings next c.in-Ok-exact_asked.exact c.in-Ok-exact_asked.ensures.found all in
-    let hidden : map string_bytes c.deref.result.now ≡ chosen.hidden = ap (map string_bytes) c.deref.ensures.value ∙ c.in-Ok.ensures ∙ ap (words_at (map string_bytes c.args.words.now)) c.as_slice.ensures in
+    let hidden : map string_bytes c.deref.result.now ≡ chosen.hidden = ap (map string_bytes) c.deref.ensures.value ∙ c.in-Ok.ensures ∙ ap (words_at c.args.words.now) c.as_slice.ensures in
     c.in-Ok-print_all.ensures.prints words start below done next
     (subst (λ (names : List (List ℕ)). Stands words start (g.H.Host.outside c.args.host.now) below done (shown_reports chosen.shown names (given_sources c.args.image.now findings) (exact_report (is_some c.in-Ok-exact_asked.exact) (given_sources c.args.image.now findings) next))) (sym hidden) here)
 
 pub returns-clause-prints : goal.returns-clause-prints
 returns-clause-prints g c = λ words start below done next s.
-    let chosen = chosen_by (map string_bytes c.args.words.now) c.args.selection.now in
+    let chosen = chosen_by c.args.words.now c.args.selection.now in
     let findings = c.in-Ok-chosen_findings.findings in
     let all = of_findings words start _ below done chosen c.args.image.now c.args.total findings next c.in-Ok-chosen_findings.ensures s in
     let here = narrow words start _ below done chosen c.args.image.now findings next c.in-Ok-exact_asked.exact c.in-Ok-exact_asked.ensures.found all in
-    let hidden : map string_bytes c.deref.result.now ≡ chosen.hidden = ap (map string_bytes) c.deref.ensures.value ∙ c.in-Ok.ensures ∙ ap (words_at (map string_bytes c.args.words.now)) c.as_slice.ensures in
+    let hidden : map string_bytes c.deref.result.now ≡ chosen.hidden = ap (map string_bytes) c.deref.ensures.value ∙ c.in-Ok.ensures ∙ ap (words_at c.args.words.now) c.as_slice.ensures in
     rw c.report_fault.ensures (c.in-Err-print_all.ensures.prints words start below done next
     (subst (λ (names : List (List ℕ)). Stands words start (g.H.Host.outside c.args.host.now) below done (shown_reports chosen.shown names (given_sources c.args.image.now findings) (exact_report (is_some c.in-Ok-exact_asked.exact) (given_sources c.args.image.now findings) next))) (sym hidden) here))
 

@@ -1,5 +1,4 @@
 use Rattle.std.proofs.Common.{[], ◌+◌, None, Ok, arith}
-use Rattle.std.specs.Prelude.{map, string_bytes}
 use Rattle.gmon_data.specs.Content.{Content}
 use Rattle.rvgprof.specs.Course.{Course}
 use Rattle.rvgprof.specs.Answer.{chosen_by, end_course, print_reports, report_profiles}
@@ -9,27 +8,27 @@ use Rattle.rvgprof.proofs.Summing.{all_behind}
 use Rattle.rvgprof.proofs.report.report.Goals as goal
 
 pub returns-in-Err : goal.returns-in-Err
-returns-in-Err g c = c.in-Err.ensures.reads _ 0 (report_profiles c.args.gmons.now (chosen_by (map string_bytes c.args.words.now) c.args.selection.now)) (omega arith) c.requires.stands
+returns-in-Err g c = c.in-Err.ensures.reads _ 0 (report_profiles c.args.gmons.now (chosen_by c.args.words.now c.args.selection.now)) (omega arith) c.requires.stands
 
 pub returns-in-Err-read_profiles : goal.returns-in-Err-read_profiles
 returns-in-Err-read_profiles g c =
-    let next : Content → Course = λ total. print_reports (chosen_by (map string_bytes c.args.words.now) c.args.selection.now) c.in-Ok.read.1 total end_course in
-    let s = c.in-Ok.ensures.reads _ 0 (report_profiles c.args.gmons.now (chosen_by (map string_bytes c.args.words.now) c.args.selection.now)) (omega arith) c.requires.stands in
-    c.in-Err-read_profiles.ensures.reads _ (c.args.elf + 1) next (λ contents total. may_stop_reports (chosen_by (map string_bytes c.args.words.now) c.args.selection.now) c.in-Ok.read.1 total end_course contents) (all_behind c.args.elf c.args.gmons.now c.requires.rising.0) s
+    let next : Content → Course = λ total. print_reports (chosen_by c.args.words.now c.args.selection.now) c.in-Ok.read.1 total end_course in
+    let s = c.in-Ok.ensures.reads _ 0 (report_profiles c.args.gmons.now (chosen_by c.args.words.now c.args.selection.now)) (omega arith) c.requires.stands in
+    c.in-Err-read_profiles.ensures.reads _ (c.args.elf + 1) next (λ contents total. may_stop_reports (chosen_by c.args.words.now c.args.selection.now) c.in-Ok.read.1 total end_course contents) (all_behind c.args.elf c.args.gmons.now c.requires.rising.0) s
 
 pub returns-in-Ok-print_reports : goal.returns-in-Ok-print_reports
 returns-in-Ok-print_reports g c =
-    let words = map string_bytes c.args.words.now in
-    let next : Content → Course = λ total. print_reports (chosen_by (map string_bytes c.args.words.now) c.args.selection.now) c.in-Ok.read.1 total end_course in
-    let s = c.in-Ok.ensures.reads _ 0 (report_profiles c.args.gmons.now (chosen_by (map string_bytes c.args.words.now) c.args.selection.now)) (omega arith) c.requires.stands in
-    let t = c.in-Ok-read_profiles.ensures.reads _ (c.args.elf + 1) next (λ contents total. may_stop_reports (chosen_by (map string_bytes c.args.words.now) c.args.selection.now) c.in-Ok.read.1 total end_course contents) (all_behind c.args.elf c.args.gmons.now c.requires.rising.0) s in
+    let words = c.args.words.now in
+    let next : Content → Course = λ total. print_reports (chosen_by c.args.words.now c.args.selection.now) c.in-Ok.read.1 total end_course in
+    let s = c.in-Ok.ensures.reads _ 0 (report_profiles c.args.gmons.now (chosen_by c.args.words.now c.args.selection.now)) (omega arith) c.requires.stands in
+    let t = c.in-Ok-read_profiles.ensures.reads _ (c.args.elf + 1) next (λ contents total. may_stop_reports (chosen_by c.args.words.now c.args.selection.now) c.in-Ok.read.1 total end_course contents) (all_behind c.args.elf c.args.gmons.now c.requires.rising.0) s in
     let p = c.in-Ok-print_reports.ensures.prints words _ t.0 [] end_course t.1 in
     ends words _ _ t.0 p.0 (Ok (record { run = None })) p.1 tt
 
 pub returns : goal.returns
 returns g c =
-    let words = map string_bytes c.args.words.now in
-    let next : Content → Course = λ total. print_reports (chosen_by (map string_bytes c.args.words.now) c.args.selection.now) c.in-Ok.read.1 total end_course in
-    let s = c.in-Ok.ensures.reads _ 0 (report_profiles c.args.gmons.now (chosen_by (map string_bytes c.args.words.now) c.args.selection.now)) (omega arith) c.requires.stands in
-    let t = c.in-Ok-read_profiles.ensures.reads _ (c.args.elf + 1) next (λ contents total. may_stop_reports (chosen_by (map string_bytes c.args.words.now) c.args.selection.now) c.in-Ok.read.1 total end_course contents) (all_behind c.args.elf c.args.gmons.now c.requires.rising.0) s in
+    let words = c.args.words.now in
+    let next : Content → Course = λ total. print_reports (chosen_by c.args.words.now c.args.selection.now) c.in-Ok.read.1 total end_course in
+    let s = c.in-Ok.ensures.reads _ 0 (report_profiles c.args.gmons.now (chosen_by c.args.words.now c.args.selection.now)) (omega arith) c.requires.stands in
+    let t = c.in-Ok-read_profiles.ensures.reads _ (c.args.elf + 1) next (λ contents total. may_stop_reports (chosen_by c.args.words.now c.args.selection.now) c.in-Ok.read.1 total end_course contents) (all_behind c.args.elf c.args.gmons.now c.requires.rising.0) s in
     c.in-Err-print_reports.ensures.prints words _ t.0 [] end_course t.1

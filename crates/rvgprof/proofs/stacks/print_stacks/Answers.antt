@@ -1,5 +1,4 @@
 use Rattle.std.proofs.Common.{[], ◌∷◌, ◌+◌, ◌∙◌, length, ap, sym, arith, refl}
-use Rattle.std.specs.Prelude.{map, string_bytes}
 use Rattle.host_port.specs.Act.{Out}
 use Rattle.host_port.specs.declared.side.Side.TheVariants.{Output}
 use Rattle.host_port.proofs.PerformingLemmas.{puts_performs}
@@ -19,14 +18,14 @@ pub returns-in-Err-fold_program : goal.returns-in-Err-fold_program
 returns-in-Err-fold_program g c =
     let s = c.in-Ok.ensures.reads _ 0 (fold_program c.args.inclusive c.args.setup) (omega arith) c.requires.stands in
     let ran = rw c.as_slice.ensures.value at c.in-Err-fold_program.ensures.folds in
-    ran (map string_bytes c.args.words.now) _ (c.args.elf + 1) [] c.args.inclusive s
+    ran c.args.words.now _ (c.args.elf + 1) [] c.args.inclusive s
 
 pub write-requires : goal.write-requires
 write-requires g c = ap length c.as_slice-2.ensures ∙ sym c.in-Ok-fold_program.ensures.functions
 
 pub returns-in-Ok-write : goal.returns-in-Ok-write
 returns-in-Ok-write g c =
-    let words = map string_bytes c.args.words.now in
+    let words = c.args.words.now in
     let image = c.in-Ok.read.1 in
     let bytes = c.in-Ok.read.0.items in
     let setup = c.args.setup in
@@ -42,7 +41,7 @@ returns-in-Ok-write g c =
 
 pub returns : goal.returns
 returns g c =
-    let words = map string_bytes c.args.words.now in
+    let words = c.args.words.now in
     let image = c.in-Ok.read.1 in
     let bytes = c.in-Ok.read.0.items in
     let setup = c.args.setup in

@@ -1,5 +1,4 @@
 use Rattle.std.proofs.Common.{arith, [], ◌∷◌, ◌+◌, None, refl}
-use Rattle.std.specs.Prelude.{map, string_bytes}
 use Rattle.host_port.specs.Act.{Out}
 use Rattle.host_port.specs.declared.side.Side.TheVariants.{Output}
 use Rattle.text_lines.specs.Lines.{image_text}
@@ -16,10 +15,10 @@ pub returns-in-Ok-show_image : goal.returns-in-Ok-show_image
 returns-in-Ok-show_image g c =
     let stands = c.in-Ok.ensures.reads _ 0 syms_lines (omega arith) c.requires in
     let text = image_text c.in-Ok.read.1 in
-    last_acts (map string_bytes c.args.words.now) _ _ _ (c.args.elf + 1) [] (Out text ∷ []) (record { run = None }) tt stands (puts_performs Output text _ _ _ c.in-Ok-show_image.ensures) refl
+    last_acts c.args.words.now _ _ _ (c.args.elf + 1) [] (Out text ∷ []) (record { run = None }) tt stands (puts_performs Output text _ _ _ c.in-Ok-show_image.ensures) refl
 
 pub returns : goal.returns
 returns g c =
     let stands = c.in-Ok.ensures.reads _ 0 syms_lines (omega arith) c.requires in
     let text = image_text c.in-Ok.read.1 in
-    fails (map string_bytes c.args.words.now) _ _ _ (c.args.elf + 1) [] (Out text ∷ []) end_course c.in-Err-show_image.field-0 stands (puts_performs Output text _ _ _ c.in-Err-show_image.ensures)
+    fails c.args.words.now _ _ _ (c.args.elf + 1) [] (Out text ∷ []) end_course c.in-Err-show_image.field-0 stands (puts_performs Output text _ _ _ c.in-Err-show_image.ensures)

@@ -29,8 +29,8 @@ returns-clause-traits c = record {
   sum = λ out gmons. record { memory_is = refl; at_once_is = refl; run_is = refl };
   annotate = λ elf gmons. record { memory_is = refl; at_once_is = refl; run_is = refl };
   report = λ elf gmons selection. record { memory_is = refl; at_once_is = refl; run_is = refl };
-  run = λ elf gmon form image setup. record { memory_is = refl; at_once_is = refl; run_is = refl };
-  profile = λ elf gmon form image setup selection. record { memory_is = refl; at_once_is = refl; run_is = refl };
+  run = λ elf gmon form memory setup. record { memory_is = refl; at_once_is = refl; run_is = refl };
+  profile = λ elf gmon form memory setup selection. record { memory_is = refl; at_once_is = refl; run_is = refl };
   demo = λ functions elf setup. record { memory_is = refl; at_once_is = refl; run_is = refl };
   folded = λ elf inclusive setup. record { memory_is = refl; at_once_is = refl; run_is = refl };
 }

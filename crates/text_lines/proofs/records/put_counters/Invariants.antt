@@ -4,9 +4,10 @@ use Rattle.host_port.specs.declared.side.Side.TheVariants.{Output}
 use Rattle.host_port.specs.Buffered.{Adds}
 use Rattle.host_port.specs.declared.host.Failed.{Failed}
 use Rattle.text_lines.specs.Lines.{counter_text}
+use Rattle.text_lines.specs.Pending.{pending}
 use Rattle.text_lines.proofs.records.put_counters.Given as goal
 
 -- the lines of the counters so far are put
 abbrev pub invariant-loop-i : goal.invariant-loop-i
 invariant-loop-i g l =
-    Adds {E = Failed} Output (flat_map (counter_text l.hist) (take l.i (enumerate_from 0 l.hist.counters))) l.initial.lines l.lines (g.H.Host.outside l.initial.host) (g.H.Host.outside l.host) (Ok (tt {0}))
+    Adds {E = Failed} Output (flat_map (counter_text l.head) (take l.i (enumerate_from 0 l.counters))) (pending l.initial.lines) (pending l.lines) (g.H.Host.outside l.initial.host) (g.H.Host.outside l.host) (Ok (tt {0}))

@@ -4,6 +4,3 @@ use Rattle.text_lines.proofs.records.put_form.Goals as goal
 
 pub returns-in-Bsd : goal.returns-in-Bsd
 returns-in-Bsd g c = rw c.in-Bsd.is (adds_nothing Output _ _ _)
-
-pub returns-in-Gnu : goal.returns-in-Gnu
-returns-in-Gnu g c = rw c.in-Gnu.is c.put.ensures.adds

@@ -7,6 +7,6 @@ returns-clause-goes c = λ whole rest reads.
     let s = c.args.self.now in
     let none : c.args.left ≡ 0 = omega (arith) in
     let e = c.add.ensures in
-    added_goes whole rest s c.add.new.self e.counters e.pairs e.arcs e.torn
+    added_goes whole rest s c.add.new.self e.adds.items
     (hist_ended whole s.counters.cells.items s.pairs.cells.items s.arcs.items s.entries.items c.add.new.self.entries.items s.run c.add.new.self.run (length s.arcs.items) c.args.fields c.args.start _ c.args.left s.counters.torn s.torn rest
-    none (c.requires.ended none) c.requires.torn (omega (arith, c.len-end.ensures, s.counters.cells.ok)) refl e.run e.entries reads)
+    none (c.requires.counters.ended none) c.requires.front.torn (omega (arith, c.len-end.ensures, s.counters.cells.ok)) refl e.run e.adds.entries reads)

@@ -1,12 +1,11 @@
-use Rattle.std.proofs.Common.{◌≡◌, ℕ, ◌+◌, ◌≤◌, List, length}
-use Rattle.gmon_gnu.specs.Held.{IsHeld, HasRoom, Goes}
+use Rattle.std.proofs.Common.{◌≡◌, ℕ, List, length}
+use Rattle.gmon_gnu.specs.Held.{Goes}
+use Rattle.gmon_gnu.specs.Taking.{CanTake}
 use Rattle.gmon_gnu.proofs.state.State.take.Given as goal
 
 abbrev pub invariant-loop-rest : goal.invariant-loop-rest
 invariant-loop-rest l = record {
-  held : IsHeld l.self;
-  room : HasRoom (length l.rest) l.self;
-  within : length l.self.torn + length l.rest ≤ l.total;
+  can : CanTake l.total l.rest l.self;
   goes : (whole : List ℕ) → length whole ≡ l.total → Goes whole l.fn.self l.piece → Goes whole l.self l.rest;
 }
 

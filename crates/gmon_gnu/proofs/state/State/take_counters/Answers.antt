@@ -1,17 +1,41 @@
-use Rattle.std.proofs.Common.{◌+◌, ◌/◌, ◌≤◌, ap, length, length-take, arith}
+use Rattle.std.proofs.Common.{◌≡◌, ◌+◌, ◌-◌, ◌*◌, ◌/◌, ◌<◌, ◌≤◌, ◌++◌, ◌∙◌, ap, length, length-append, length-drop, length-take, min, arith}
 use Rattle.gmon_gnu.specs.declared.state.Part.TheVariants as part
 use Rattle.gmon_gnu.proofs.StateLemmas.{goes_at, counters_came}
+use Rattle.gmon_gnu.proofs.TakingLemmas.{room_on}
+use Rattle.gmon_gnu.specs.Held.{HasRoom, pending_entries}
 use Rattle.gmon_gnu.proofs.state.State.take_counters.Goals as goal
 
-pub returns-clause-goes : goal.returns-clause-goes
-returns-clause-goes c = λ whole long goes.
+pub returns : goal.returns
+returns c =
     let s = c.args.self.now in
     let piece = c.args.piece.now in
     let mine = c.split_at.result.0.now in
     let rest = c.split_at.result.1.now in
     let came = (c.len-2.result + length mine) / 2 in
-    let was = goes_at whole s piece (part.Hist c.args.fields c.args.start c.args.left) c.requires.part goes in
-    let few : came ≤ c.args.left = omega (arith, ap length c.split_at.ensures.front, length-take c.min.result piece, c.min.ensures, c.len.ensures.len, c.len-2.ensures.len, c.requires.half) in
-    c.go_on_hist.ensures.goes whole rest
-    (counters_came whole s.counters.cells.items c.feed.new.self.cells.items s.pairs.cells.items s.arcs.items s.entries.items s.run c.args.fields c.min.result c.args.start c.args.left came s.counters.torn c.feed.new.self.torn piece mine rest
-    c.requires.held.spans c.requires.start c.feed.ensures.cells c.feed.ensures.torn c.split_at.ensures.front c.split_at.ensures.back (ap (λ n. (n + length mine) / 2) c.len-2.ensures.len) few was)
+    let few : came ≤ c.args.left = omega (arith, ap length c.split_at.ensures.front, length-take c.min.result piece, c.min.ensures, c.len.ensures.len, c.len-2.ensures.len, c.requires.part.counters.half) in
+    let r = c.requires.can.room in
+    let all : length mine + length rest ≡ length piece = omega (arith, ap length c.split_at.ensures.front, ap length c.split_at.ensures.back, length-take c.min.result piece, length-drop c.min.result piece) in
+    let due : c.min.result ≡ min (c.args.left * 2 - c.len.result) (length piece) = c.min.ensures in
+    let less : length rest < length piece = omega (arith, ap length c.split_at.ensures.back, length-drop c.min.result piece, due, c.len.ensures.len, c.requires.some, c.requires.part.some, c.requires.part.counters.half) in
+    let bytes = s.counters.torn ++ mine in
+    let torn : length c.feed.new.self.torn ≡ length bytes - length bytes / 2 * 2 = ap length c.feed.ensures.torn ∙ length-drop (length bytes / 2 * 2) bytes in
+    let fed : HasRoom (length rest) (record s { counters = c.feed.new.self }) = record {
+      counters = omega (arith, r.counters, c.feed.ensures.count, c.feed.ensures.capacity, torn, length-append s.counters.torn mine, all);
+      pairs = omega (arith, r.pairs, less);
+      arcs = omega (arith, r.arcs, less);
+      entries = omega (arith, r.entries, less);
+    } in
+    let on = c.go_on_hist.ensures.ends in
+    record {
+      ready = record {
+        held = c.go_on_hist.ensures.held;
+        room = room_on (length rest) (record s { counters = c.feed.new.self }) c.go_on_hist.new.self fed (ap pending_entries c.requires.part.at_part) on;
+        within = omega (arith, ap length on.items.torn, c.requires.can.within, less);
+      };
+      goes = λ whole long goes.
+          let was = goes_at whole s piece (part.Hist c.args.fields c.args.start c.args.left) c.requires.part.at_part goes in
+          c.go_on_hist.ensures.goes whole rest
+          (counters_came whole s.counters.cells.items c.feed.new.self.cells.items s.pairs.cells.items s.arcs.items s.entries.items s.run c.args.fields c.min.result c.args.start c.args.left came s.counters.torn c.feed.new.self.torn piece mine rest
+          c.requires.can.held.spans c.requires.part.counters.within c.feed.ensures.cells c.feed.ensures.torn c.split_at.ensures.front c.split_at.ensures.back (ap (λ n. (n + length mine) / 2) c.len-2.ensures.len) few was);
+      less = less;
+    }

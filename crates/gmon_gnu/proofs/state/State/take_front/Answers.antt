@@ -1,20 +1,21 @@
-use Rattle.std.proofs.Common.{◌≡◌, ◌-◌, ◌++◌, ◌<◌, ◌≤◌, ℕ, List, ap, subst, length, length-append, slice_index, ◌∙◌, arith}
+use Rattle.std.proofs.Common.{◌≡◌, ◌+◌, ◌-◌, ◌*◌, ◌++◌, ◌<◌, ◌≤◌, ℕ, List, ap, subst, length, length-append, slice_index, ◌∙◌, arith}
 use Rattle.gmon_cells.proofs.CellLemmas.{filled_whole, filled_long}
 use Rattle.gmon_gnu.specs.declared.state.Part.{Part}
 use Rattle.gmon_gnu.specs.declared.state.Part.TheVariants as part
 use Rattle.gmon_gnu.specs.Held.{recs_of, IsPart, IsPartial, width_of}
 use Rattle.gmon_gnu.proofs.StateLemmas.{goes_at, follows_front, partial_less}
+use Rattle.gmon_gnu.proofs.TakingLemmas.{room_begun}
+use Rattle.gmon_gnu.specs.Begun.{arcs_of, cost_of}
 use Rattle.gmon_gnu.proofs.state.State.take_front.Goals as goal
 
-pub returns-clause-goes : goal.returns-clause-goes
-returns-clause-goes c = λ whole long goes.
+pub returns : goal.returns
+returns c =
     let s = c.args.self.now in
     let piece = c.args.piece.now in
     let front = c.fill-rest.new.self in
     let rest = c.fill-rest.result.now in
     let width = c.width_of-width-2.result in
-    let was = goes_at whole s piece part.Between c.requires.part goes in
-    let partial : IsPartial s.torn = subst (λ (q : Part). IsPart q (length s.counters.cells.items) (length s.pairs.cells.items) s.torn s.counters.torn s.pairs.torn) c.requires.part c.requires.held.at_part in
+    let partial : IsPartial s.torn = subst (λ (q : Part). IsPart q (length s.counters.cells.items) (length s.pairs.cells.items) s.torn s.counters.torn s.pairs.torn) c.requires.part c.requires.can.held.at_part in
     let some : 0 < length s.torn = omega (arith, c.if-len-eq0.false, c.len.ensures.len) in
     let width_is : width ≡ width_of (slice_index s.torn 0) = c.width_of-width-2.ensures.width ∙ ap (λ (v : List ℕ). width_of (slice_index v 0)) c.as_slice.ensures in
     let within : length s.torn ≤ width = omega (arith, partial_less s.torn partial some, width_is) in
@@ -22,6 +23,23 @@ returns-clause-goes c = λ whole long goes.
     let full = filled_long width s.torn front piece within c.fill-rest.ensures.filled all in
     let taken = filled_whole width s.torn front piece rest c.fill-rest.ensures.filled c.fill-rest.ensures.rest in
     let held = c.as_slice-2.ensures in
-    let at_is : c.args.total - width - length rest ≡ length whole - length (c.as_slice-2.result.now ++ rest) = omega (arith, long, full, ap length held, length-append c.as_slice-2.result.now rest) in
-    c.begin-2.ensures.goes whole rest
-    (follows_front whole (recs_of s) c.as_slice-2.result.now rest _ c.front_of-begun.result (c.args.total - width - length rest) (ap (λ (v : List ℕ). v ++ rest) held ∙ taken) at_is c.front_of-begun.ensures.says was)
+    let less : length rest < length piece = omega (arith, ap length taken, full, length-append front rest, length-append s.torn piece, partial_less s.torn partial some, width_is) in
+    let begins = c.begin-2.ensures.begins in
+    let b = c.front_of-begun in
+    let len : length c.as_slice-2.result.now ≡ width = omega (arith, ap length held, full) in
+    let arcs : 13 * arcs_of b.result + length rest ≤ length s.torn + length piece = omega (arith, b.ensures.arcs, len, ap length taken, full, length-append front rest, length-append s.torn piece) in
+    let entries : 5 * cost_of b.result + length rest ≤ length s.torn + length piece = omega (arith, b.ensures.cost, len, ap length taken, full, length-append front rest, length-append s.torn piece) in
+    let shorter : length rest ≤ length piece = omega (arith, less) in
+    record {
+      ready = record {
+        held = c.begin-2.ensures.held;
+        room = room_begun (length piece) (length rest) b.result c.clear.new.self s c.begin-2.new.self c.requires.can.room c.requires.part begins shorter arcs entries;
+        within = omega (arith, ap length begins.torn, c.requires.can.within, shorter);
+      };
+      goes = λ whole long goes.
+          let was = goes_at whole s piece part.Between c.requires.part goes in
+          let at_is : c.args.total - width - length rest ≡ length whole - length (c.as_slice-2.result.now ++ rest) = omega (arith, long, full, ap length held, length-append c.as_slice-2.result.now rest) in
+          c.begin-2.ensures.goes whole rest
+          (follows_front whole (recs_of s) c.as_slice-2.result.now rest _ c.front_of-begun.result (c.args.total - width - length rest) (ap (λ (v : List ℕ). v ++ rest) held ∙ taken) at_is c.front_of-begun.ensures.says was);
+      less = less;
+    }

@@ -1,28 +1,18 @@
-use Rattle.std.proofs.Common.{◌≡◌, ◌∙◌, true, false, sym, ap, subst}
-use Rattle.prof_machine.specs.Turn.{after_close, after_ordinary_turn, after_look, turn_of}
-use Rattle.prof_machine.specs.World.{World, looks_of_hart}
-use Rattle.prof_machine.specs.Prints.{ArePrinted, BreaksOff}
-use Rattle.prof_machine.proofs.ActLemmas.{breaks_as, nothing_printed, printed_as}
-use Rattle.prof_machine.proofs.ResultLemmas.{on_err_any}
-use Rattle.prof_machine.proofs.TurnLemmas.{taken_instructed, turn_prints, turn_stands}
-use Rattle.prof_machine.proofs.StandingLemmas.{with_live}
-use Rattle.prof_machine.specs.Value.{RunValue, StandsFor, value_of, work_left}
-use Rattle.std.proofs.Common.{◌≤◌, None}
+use Rattle.std.proofs.Common.{◌≡◌, ◌∙◌, ◌<◌, ◌≤◌, None, Ok, true, false, sym, subst, arith, rules}
+use Rattle.std.proofs.lemmas.Result.{err_from_is_err_and}
+use Rattle.host_port.specs.declared.host.Failed.{Failed}
 use Rattle.prof_machine.proofs.DriveLemmas.{work_bound}
+use Rattle.prof_machine.proofs.StageLemmas.{fails_like, instructed_prints, printless, prints_like}
+use Rattle.prof_machine.proofs.StandingLemmas.{with_live}
+use Rattle.prof_machine.proofs.TurnLemmas.{taken_instructed, turn_prints, turn_stands}
+use Rattle.prof_machine.specs.declared.ending.Turned.{Turned}
 use Rattle.prof_machine.specs.Plan.{most_turns}
+use Rattle.prof_machine.specs.Stages.{PrintsAs}
+use Rattle.prof_machine.specs.Turn.{after_close, after_ordinary_turn, after_look, turn_of}
+use Rattle.prof_machine.specs.Value.{RunValue, StandsFor, value_of, work_left}
+use Rattle.prof_machine.specs.World.{World, looks_of_hart}
 use Rattle.prof_machine.proofs.runs.Run.advance.Goals as goal
 use Rattle.prof_machine.proofs.runs.Run.advance.Goals.{then-holds_walk, else-holds_walk+in_ok-instruct}
-
-pub returns-in_err-instruct-clause-fails : goal.returns-in_err-instruct-clause-fails
-returns-in_err-instruct-clause-fails g c = on_err_any _ _ c.from_residual.result _ (λ w st.
-    let a = c.self.inside in
-    let h = c.args.hart in
-    let P : RunValue → Type 0 = λ v. v.live ≡ true → StandsFor w v → BreaksOff w (turn_of v.machine w h) (g.H.Host.outside c.args.host.now) (g.H.Host.outside c.instruct.new.host) in
-    subst P c.self.view_is (λ live (s : StandsFor w (value_of a)).
-    let s' = with_live w (value_of a) false s in
-    breaks_as w (after_ordinary_turn a.machine h w) (turn_of a.machine w h) _ _
-    (turn_prints a.machine h w (value_of a) (c.self.invariant.going live) s ∙ ap (λ (v : World). v.prints) (taken_instructed a.machine h w (value_of (record a { live = false })) (sym c.if-holds_walk.ensures) s'))
-    (c.in_err-instruct.ensures.fails w s')) c.requires.live st)
 
 pub returns-clause-stands : goal.returns-clause-stands
 returns-clause-stands g c = λ w st.
@@ -42,38 +32,52 @@ returns-clause-stands g c = λ w st.
     turn_stands a.machine h w (value_of a) _ (c.self.invariant.going live) s
     (with_live _ (value_of c.self-2.inside) _ (subst V (sym c.self-2.view_is) (c.close.ensures.stands _ mid)))) c.requires.live st
 
-pub returns-clause-prints : goal.returns-clause-prints
-returns-clause-prints g c = λ w st.
+pub returns-in_err-instruct-clause-outside : goal.returns-in_err-instruct-clause-outside
+returns-in_err-instruct-clause-outside g c =
     let a = c.self.inside in
     let h = c.args.hart in
+    let v = c.args.self.now in
+    let p = err_from_is_err_and c.from_residual.result c.from_residual.ensures.1 in
+    let here = instructed_prints a v h c.self.view_is c.self.invariant.going c.requires.live (sym c.if-holds_walk.ensures) in
+    rw p.1 (fails_like (λ w. turn_of v.machine w h) (after_ordinary_turn a.machine h) v (value_of (record a { live = false })) _ _ _ _ (λ w st. (here w st).0) (λ w st. (here w st).1) c.in_err-instruct.ensures.outside)
+
+pub returns-clause-outside : goal.returns-clause-outside
+returns-clause-outside g c =
+    let a = c.self.inside in
+    let h = c.args.hart in
+    let v = c.args.self.now in
     let old = g.H.Host.outside c.args.host.now in
-    let P : RunValue → Type 0 = λ v. v.live ≡ true → StandsFor w v → ArePrinted w (turn_of v.machine w h) old (g.H.Host.outside c.if-holds_walk.host) in
-    subst P c.self.view_is (λ live (s : StandsFor w (value_of a)).
-    let s' : StandsFor w (value_of (record a { live = false })) = with_live w (value_of a) false s in
-    let v = after_look a.machine h (looks_of_hart w.left h) w in
-    let H : _ → Type 0 = λ x. ArePrinted w v old (g.H.Host.outside x) in
-    printed_as w v (turn_of a.machine w h) _ _ (turn_prints a.machine h w (value_of a) (c.self.invariant.going live) s) (elim c.if-holds_walk.branch [
-      | then-holds_walk b ↦ subst H (sym b.host-is) (nothing_printed w v old (b.look.ensures.prints w s'))
-      | else-holds_walk+in_ok-instruct b ↦ subst H (sym b.host-is) (printed_as w (after_ordinary_turn a.machine h w) v _ _
-          (ap (λ (x : World). x.prints) (taken_instructed a.machine h w (value_of (record a { live = false })) (sym b.if-holds_walk.ensures) s')) (b.in_ok-instruct.ensures.prints w s'))
-    ])) c.requires.live st
+    let stage : World → World = λ w. turn_of v.machine w h in
+    let H : _ → Type 0 = λ x. PrintsAs {T = Turned} {E = Failed} stage v old (g.H.Host.outside x) (Ok c.turned.result) in
+    elim c.if-holds_walk.branch [
+      | then-holds_walk b ↦ subst H (sym b.host-is) (printless stage v old _ (λ w st.
+          let P : RunValue → Type 0 = λ v. v.live ≡ true → StandsFor w v → (turn_of v.machine w h).prints ≡ w.prints in
+          subst P c.self.view_is (λ live (s : StandsFor w (value_of a)). turn_prints a.machine h w (value_of a) (c.self.invariant.going live) s ∙ b.look.ensures.prints w (with_live w (value_of a) false s)) c.requires.live st))
+      | else-holds_walk+in_ok-instruct b ↦
+          let here = instructed_prints a v h c.self.view_is c.self.invariant.going c.requires.live (sym b.if-holds_walk.ensures) in
+          subst H (sym b.host-is) (prints_like stage (after_ordinary_turn a.machine h) v (value_of (record a { live = false })) _ _ _ _ (λ w st. (here w st).0) (λ w st. (here w st).1) b.in_ok-instruct.ensures.outside)
+    ]
 
-pub returns-in_err-instruct-clause-few : goal.returns-in_err-instruct-clause-few
-returns-in_err-instruct-clause-few g c =
+pub returns-in_err-instruct-clause-fewer : goal.returns-in_err-instruct-clause-fewer
+returns-in_err-instruct-clause-fewer g c =
     let P : RunValue → Type 0 = λ v. work_left v ≤ most_turns v.machine.setup in
-    subst P c.self.view_is (work_bound c.self.inside c.self.invariant)
+    let G : RunValue → Type 0 = λ v. v.live ≡ true → v.ending ≡ None in
+    let L : RunValue → Type 0 = λ v. v.live ≡ true → 0 < work_left v in
+    record {
+      going = subst G c.self.view_is c.self.invariant.going c.requires.live;
+      left = subst L c.self.view_is (λ live. omega (arith, c.self.invariant.left live)) c.requires.live;
+      few = subst P c.self.view_is (work_bound c.self.inside c.self.invariant);
+      less = search rules;
+    }
 
-pub returns-clause-few : goal.returns-clause-few
-returns-clause-few g c =
+pub returns-clause-fewer : goal.returns-clause-fewer
+returns-clause-fewer g c =
     let P : RunValue → Type 0 = λ v. work_left v ≤ most_turns v.machine.setup in
-    subst P c.self.view_is (work_bound c.self.inside c.self.invariant)
-
-pub returns-in_err-instruct-clause-going : goal.returns-in_err-instruct-clause-going
-returns-in_err-instruct-clause-going g c =
-    let P : RunValue → Type 0 = λ v. v.live ≡ true → v.ending ≡ None in
-    subst P c.self.view_is c.self.invariant.going c.requires.live
-
-pub returns-clause-going : goal.returns-clause-going
-returns-clause-going g c =
-    let P : RunValue → Type 0 = λ v. v.live ≡ true → v.ending ≡ None in
-    subst P c.self.view_is c.self.invariant.going c.requires.live
+    let G : RunValue → Type 0 = λ v. v.live ≡ true → v.ending ≡ None in
+    let L : RunValue → Type 0 = λ v. v.live ≡ true → 0 < work_left v in
+    record {
+      going = subst G c.self.view_is c.self.invariant.going c.requires.live;
+      left = subst L c.self.view_is (λ live. omega (arith, c.self.invariant.left live)) c.requires.live;
+      few = subst P c.self.view_is (work_bound c.self.inside c.self.invariant);
+      less = search rules;
+    }

@@ -19,7 +19,7 @@ returns-then-eq-clause-stands c = λ w st.
     let a = c.self.inside in
     let h = c.args.hart in
     let new = c.enter.new.self in
-    let read = hart_read a.harts.items h _ (there a c.args.self.now h c.self.invariant c.self.view_is c.requires.hart) c.index.ensures in
+    let read = hart_read a.harts.items h _ (there a c.args.self.now h c.self.invariant c.self.view_is c.requires.turn.hart) c.index.ensures in
     let P : RunValue → Type 0 = λ v. StandsFor w v → StandsFor (after_mcount v.machine h (hart_of w.harts h) w) new → StandsFor (while_going (after_arrival v.machine h) w) new in
     let Q : World → Type 0 = λ v. StandsFor v new in
     subst P c.self.view_is (λ (s : StandsFor w (value_of a)) (after : StandsFor (after_mcount a.machine h (hart_of w.harts h) w) new).
@@ -31,7 +31,7 @@ returns-then-eq-2-clause-stands c = λ w st.
     let a = c.self.inside in
     let h = c.args.hart in
     let new = c.switch.new.self in
-    let read = hart_read a.harts.items h _ (there a c.args.self.now h c.self.invariant c.self.view_is c.requires.hart) c.index.ensures in
+    let read = hart_read a.harts.items h _ (there a c.args.self.now h c.self.invariant c.self.view_is c.requires.turn.hart) c.index.ensures in
     let P : RunValue → Type 0 = λ v. StandsFor w v → StandsFor (after_moncontrol h (hart_of w.harts h) w) new → StandsFor (while_going (after_arrival v.machine h) w) new in
     let Q : World → Type 0 = λ v. StandsFor v new in
     subst P c.self.view_is (λ (s : StandsFor w (value_of a)) (after : StandsFor (after_moncontrol h (hart_of w.harts h) w) new).
@@ -42,7 +42,7 @@ pub returns-else-eq-2-clause-stands : goal.returns-else-eq-2-clause-stands
 returns-else-eq-2-clause-stands c = λ w st.
     let a = c.self.inside in
     let h = c.args.hart in
-    let read = hart_read a.harts.items h _ (there a c.args.self.now h c.self.invariant c.self.view_is c.requires.hart) c.index.ensures in
+    let read = hart_read a.harts.items h _ (there a c.args.self.now h c.self.invariant c.self.view_is c.requires.turn.hart) c.index.ensures in
     let P : RunValue → Type 0 = λ v. StandsFor w v → StandsFor (while_going (after_arrival v.machine h) w) v in
     let Q : World → Type 0 = λ v. StandsFor v (value_of a) in
     subst P c.self.view_is (λ (s : StandsFor w (value_of a)).
@@ -58,7 +58,7 @@ pub returns-then-eq-clause-note : goal.returns-then-eq-clause-note
 returns-then-eq-clause-note c = λ w st.
     let a = c.self.inside in
     let h = c.args.hart in
-    let read = hart_read a.harts.items h _ (there a c.args.self.now h c.self.invariant c.self.view_is c.requires.hart) c.index.ensures in
+    let read = hart_read a.harts.items h _ (there a c.args.self.now h c.self.invariant c.self.view_is c.requires.turn.hart) c.index.ensures in
     let P : RunValue → Type 0 = λ v. StandsFor w v → c.enter.result ≡ return_from_call v.machine w.log (hart_of w.harts h) → c.enter.result ≡ if_going (return_in v.machine h) w in
     subst P c.self.view_is (λ (s : StandsFor w (value_of a)) after.
     after ∙ sym (going_part (return_in a.machine h) w (value_of a) s (is_none a.ending (sym c.if-is_some.ensures)) ∙ return_as w (value_of a) h c.pc-pc.result _ true _ read c.pc-pc.ensures c.if-eq.ensures refl s)) st (c.enter.ensures.note w st)
@@ -67,7 +67,7 @@ pub returns-then-eq-2-clause-note : goal.returns-then-eq-2-clause-note
 returns-then-eq-2-clause-note c = λ w st.
     let a = c.self.inside in
     let h = c.args.hart in
-    let read = hart_read a.harts.items h _ (there a c.args.self.now h c.self.invariant c.self.view_is c.requires.hart) c.index.ensures in
+    let read = hart_read a.harts.items h _ (there a c.args.self.now h c.self.invariant c.self.view_is c.requires.turn.hart) c.index.ensures in
     let P : RunValue → Type 0 = λ v. StandsFor w v → c.switch.result ≡ return_of (hart_of w.harts h) → c.switch.result ≡ if_going (return_in v.machine h) w in
     subst P c.self.view_is (λ (s : StandsFor w (value_of a)) after.
     after ∙ sym (going_part (return_in a.machine h) w (value_of a) s (is_none a.ending (sym c.if-is_some.ensures)) ∙ return_as w (value_of a) h c.pc-pc.result _ false true read c.pc-pc.ensures c.if-eq.ensures c.if-eq-2.ensures s)) st (c.switch.ensures.note w st)
@@ -76,7 +76,7 @@ pub returns-else-eq-2-clause-note : goal.returns-else-eq-2-clause-note
 returns-else-eq-2-clause-note c = λ w st.
     let a = c.self.inside in
     let h = c.args.hart in
-    let read = hart_read a.harts.items h _ (there a c.args.self.now h c.self.invariant c.self.view_is c.requires.hart) c.index.ensures in
+    let read = hart_read a.harts.items h _ (there a c.args.self.now h c.self.invariant c.self.view_is c.requires.turn.hart) c.index.ensures in
     let P : RunValue → Type 0 = λ v. StandsFor w v → None ≡ if_going (return_in v.machine h) w in
     subst P c.self.view_is (λ (s : StandsFor w (value_of a)).
     sym (going_part (return_in a.machine h) w (value_of a) s (is_none a.ending (sym c.if-is_some.ensures)) ∙ return_as w (value_of a) h c.pc-pc.result _ false false read c.pc-pc.ensures c.if-eq.ensures c.if-eq-2.ensures s)) st

@@ -38,22 +38,22 @@ turns-preserved g c =
     let i = c.turns.invariant in
     let t = c.in_ok-advance.ensures in
     let hart = c.next_hart-hart.ensures in
-    let going = going_answer c.advance.new.self.ending (sym t.answer ∙ c.in-Going.is) in
-    let live = t.live.1 (ap (λ (x : Turned). Ok x) c.in-Going.is) in
+    let going = going_answer c.advance.new.self.ending (sym t.advances.answer ∙ c.in-Going.is) in
+    let live = t.advances.live.1 (ap (λ (x : Turned). Ok x) c.in-Going.is) in
     record {
       live = live;
       going = going;
-      machine = t.machine ∙ i.machine;
-      note = t.note ∙ i.note;
+      machine = t.advances.machine ∙ i.machine;
+      note = t.advances.note ∙ i.note;
       turns = i.turns + 1;
       draws = hart.draws _ _ i.draws;
-      few = omega (arith, i.few, t.less live);
+      few = omega (arith, i.few, t.fewer.less live);
       stands = λ w st. in_next (λ v. StandsFor v c.advance.new.self) m c.turns.self.machine w i.turns c.next_hart-hart.result i.machine (hart.taker _ _ i.draws) (t.stands _ (i.stands w st));
       prints = λ w st. in_next (λ v. ArePrinted w v (g.H.Host.outside c.args.host.now) (g.H.Host.outside c.advance.new.host)) m c.turns.self.machine w i.turns c.next_hart-hart.result i.machine (hart.taker _ _ i.draws)
-          (printed_then w _ _ _ _ _ (i.prints w st) (t.prints _ (i.stands w st)));
-      counts = KeepsCounts-then _ _ _ i.counts t.counts;
-      writing = t.writing ∙ i.writing;
-      input = KeepsInput-then _ _ _ i.input t.input;
+          (printed_then w _ _ _ _ _ (i.prints w st) (t.outside.prints _ (i.stands w st)));
+      counts = KeepsCounts-then _ _ _ i.counts t.outside.counts;
+      writing = t.outside.writing ∙ i.writing;
+      input = KeepsInput-then _ _ _ i.input t.outside.input;
     }
 
 pub returns-in-Ended-clause-stands : goal.returns-in-Ended-clause-stands
@@ -63,7 +63,7 @@ returns-in-Ended-clause-stands g c = λ w st.
     let t = c.in_ok-advance.ensures in
     let P : World → Type 0 = λ v. StandsFor v c.advance.new.self in
     let stands = in_next P m c.turns.self.machine w i.turns c.next_hart-hart.result i.machine (c.next_hart-hart.ensures.taker _ _ i.draws) (t.stands _ (i.stands w st)) in
-    in_last P m w c.advance.new.self (i.turns + 1) c.in-Ended.end (omega (arith, i.few, t.left)) (ended_answer c.advance.new.self.ending c.in-Ended.end (sym t.answer ∙ c.in-Ended.is)) stands stands
+    in_last P m w c.advance.new.self (i.turns + 1) c.in-Ended.end (omega (arith, i.few, t.fewer.left)) (ended_answer c.advance.new.self.ending c.in-Ended.end (sym t.advances.answer ∙ c.in-Ended.is)) stands stands
 
 pub returns-in-Ended-clause-prints : goal.returns-in-Ended-clause-prints
 returns-in-Ended-clause-prints g c = λ w st.
@@ -72,9 +72,9 @@ returns-in-Ended-clause-prints g c = λ w st.
     let t = c.in_ok-advance.ensures in
     let P : World → Type 0 = λ v. StandsFor v c.advance.new.self in
     let Q : World → Type 0 = λ v. ArePrinted w v (g.H.Host.outside c.args.host.now) (g.H.Host.outside c.advance.new.host) in
-    in_last Q m w c.advance.new.self (i.turns + 1) c.in-Ended.end (omega (arith, i.few, t.left)) (ended_answer c.advance.new.self.ending c.in-Ended.end (sym t.answer ∙ c.in-Ended.is))
+    in_last Q m w c.advance.new.self (i.turns + 1) c.in-Ended.end (omega (arith, i.few, t.fewer.left)) (ended_answer c.advance.new.self.ending c.in-Ended.end (sym t.advances.answer ∙ c.in-Ended.is))
     (in_next P m c.turns.self.machine w i.turns c.next_hart-hart.result i.machine (c.next_hart-hart.ensures.taker _ _ i.draws) (t.stands _ (i.stands w st)))
-    (in_next Q m c.turns.self.machine w i.turns c.next_hart-hart.result i.machine (c.next_hart-hart.ensures.taker _ _ i.draws) (printed_then w _ _ _ _ _ (i.prints w st) (t.prints _ (i.stands w st))))
+    (in_next Q m c.turns.self.machine w i.turns c.next_hart-hart.result i.machine (c.next_hart-hart.ensures.taker _ _ i.draws) (printed_then w _ _ _ _ _ (i.prints w st) (t.outside.prints _ (i.stands w st))))
 
 pub returns-in_err-advance-clause-fails : goal.returns-in_err-advance-clause-fails
 returns-in_err-advance-clause-fails g c = on_err_any _ _ c.from_residual.result _ (λ w st.
@@ -83,8 +83,8 @@ returns-in_err-advance-clause-fails g c = on_err_any _ _ c.from_residual.result 
     let t = c.in_err-advance.ensures in
     let Q : World → Type 0 = λ v. BreaksOff w v (g.H.Host.outside c.args.host.now) (g.H.Host.outside c.advance.new.host) in (
       i.turns,
-      omega (arith, i.few, t.left),
+      omega (arith, i.few, t.fewer.left),
       sym (i.stands w st).ending ∙ i.going,
       in_next Q m c.turns.self.machine w i.turns c.next_hart-hart.result i.machine (c.next_hart-hart.ensures.taker _ _ i.draws)
-          (breaks_after w _ _ _ _ _ (i.prints w st) i.counts (t.fails _ (i.stands w st))),
+          (breaks_after w _ _ _ _ _ (i.prints w st) i.counts (t.outside.fails _ (i.stands w st))),
     ))

@@ -15,7 +15,7 @@ returns-in-Walking-clause-stands c = λ w st.
     let a = c.self.inside in
     let h = c.args.hart in
     let new = value_of (record a { flight = Some (record { hart = h; walk = c.in-Walking.walk }); gmon = c.enter.new.self }) in
-    let read = hart_read a.harts.items h _ (there a c.args.self.now h c.self.invariant c.self.view_is c.requires.hart) c.index-regs.ensures in
+    let read = hart_read a.harts.items h _ (there a c.args.self.now h c.self.invariant c.self.view_is c.requires.turn.hart) c.index-regs.ensures in
     let P : RunValue → Type 0 = λ v. StandsFor w v → StandsFor (after_mcount v.machine h (hart_of w.harts h) w) new in
     let Q : World → Type 0 = λ v. StandsFor v new in
     subst P c.self.view_is (λ (s : StandsFor w (value_of a)).
@@ -27,7 +27,7 @@ returns-in-Lost-clause-stands c = λ w st.
     let a = c.self.inside in
     let h = c.args.hart in
     let new = c.return_from_hook.new.self in
-    let read = hart_read a.harts.items h _ (there a c.args.self.now h c.self.invariant c.self.view_is c.requires.hart) c.index-regs.ensures in
+    let read = hart_read a.harts.items h _ (there a c.args.self.now h c.self.invariant c.self.view_is c.requires.turn.hart) c.index-regs.ensures in
     let P : RunValue → Type 0 = λ v. StandsFor w v → StandsFor (after_mcount v.machine h (hart_of w.harts h) w) new in
     let Q : World → Type 0 = λ v. StandsFor v new in
     subst P c.self.view_is (λ (s : StandsFor w (value_of a)).
@@ -39,7 +39,7 @@ returns-in-Ignored-clause-stands c = λ w st.
     let a = c.self.inside in
     let h = c.args.hart in
     let new = c.return_from_hook-in-Ignored.new.self in
-    let read = hart_read a.harts.items h _ (there a c.args.self.now h c.self.invariant c.self.view_is c.requires.hart) c.index-regs.ensures in
+    let read = hart_read a.harts.items h _ (there a c.args.self.now h c.self.invariant c.self.view_is c.requires.turn.hart) c.index-regs.ensures in
     let P : RunValue → Type 0 = λ v. StandsFor w v → StandsFor (after_mcount v.machine h (hart_of w.harts h) w) new in
     let Q : World → Type 0 = λ v. StandsFor v new in
     subst P c.self.view_is (λ (s : StandsFor w (value_of a)).
@@ -50,7 +50,7 @@ pub returns-in-Walking-clause-note : goal.returns-in-Walking-clause-note
 returns-in-Walking-clause-note c = λ w st.
     let a = c.self.inside in
     let h = c.args.hart in
-    let read = hart_read a.harts.items h _ (there a c.args.self.now h c.self.invariant c.self.view_is c.requires.hart) c.index-regs.ensures in
+    let read = hart_read a.harts.items h _ (there a c.args.self.now h c.self.invariant c.self.view_is c.requires.turn.hart) c.index-regs.ensures in
     let P : RunValue → Type 0 = λ v. StandsFor w v → None ≡ return_from_call v.machine w.log (hart_of w.harts h) in
     subst P c.self.view_is (λ (s : StandsFor w (value_of a)).
     sym (call_return_as w (value_of a) h _ _ _ (Walking c.in-Walking.walk) read c.get.ensures.value c.get-2.ensures.value c.in-Walking.ensures.answer c.self.invariant.sizes s)) st
@@ -59,7 +59,7 @@ pub returns-in-Lost-clause-note : goal.returns-in-Lost-clause-note
 returns-in-Lost-clause-note c = λ w st.
     let a = c.self.inside in
     let h = c.args.hart in
-    let read = hart_read a.harts.items h _ (there a c.args.self.now h c.self.invariant c.self.view_is c.requires.hart) c.index-regs.ensures in
+    let read = hart_read a.harts.items h _ (there a c.args.self.now h c.self.invariant c.self.view_is c.requires.turn.hart) c.index-regs.ensures in
     let P : RunValue → Type 0 = λ v. StandsFor w v → c.return_from_hook.result ≡ return_from_call v.machine w.log (hart_of w.harts h) in
     subst P c.self.view_is (λ (s : StandsFor w (value_of a)).
     c.return_from_hook.ensures.to ∙ ap return_of read ∙ sym (call_return_as w (value_of a) h _ _ _ Lost read c.get.ensures.value c.get-2.ensures.value c.in-Lost.ensures.answer c.self.invariant.sizes s)) st
@@ -68,7 +68,7 @@ pub returns-in-Ignored-clause-note : goal.returns-in-Ignored-clause-note
 returns-in-Ignored-clause-note c = λ w st.
     let a = c.self.inside in
     let h = c.args.hart in
-    let read = hart_read a.harts.items h _ (there a c.args.self.now h c.self.invariant c.self.view_is c.requires.hart) c.index-regs.ensures in
+    let read = hart_read a.harts.items h _ (there a c.args.self.now h c.self.invariant c.self.view_is c.requires.turn.hart) c.index-regs.ensures in
     let P : RunValue → Type 0 = λ v. StandsFor w v → c.return_from_hook-in-Ignored.result ≡ return_from_call v.machine w.log (hart_of w.harts h) in
     subst P c.self.view_is (λ (s : StandsFor w (value_of a)).
     c.return_from_hook-in-Ignored.ensures.to ∙ ap return_of read ∙ sym (call_return_as w (value_of a) h _ _ _ Ignored read c.get.ensures.value c.get-2.ensures.value c.in-Ignored.ensures.answer c.self.invariant.sizes s)) st

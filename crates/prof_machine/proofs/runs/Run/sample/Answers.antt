@@ -27,7 +27,7 @@ returns-clause-stands c = λ w st.
     let a = c.self.inside in
     let h = c.args.hart in
     let new = c.tick.new.self in
-    let read = hart_read a.harts.items h _ (there a c.args.self.now h c.self.invariant c.self.view_is c.requires.hart) c.index.ensures in
+    let read = hart_read a.harts.items h _ (there a c.args.self.now h c.self.invariant c.self.view_is c.requires.turn.hart) c.index.ensures in
     let P : RunValue → Type 0 = λ v. StandsFor w v → StandsFor (while_going (after_sample v.machine h) w) (value_of (record c.if-counts.self-inside { gmon = new })) in
     let R : Inside → Type 0 = λ x. StandsFor (while_going (after_sample a.machine h) w) (value_of (record x { gmon = new })) in
     subst P c.self.view_is (λ (s : StandsFor w (value_of a)).
@@ -45,7 +45,7 @@ invariant_of-self c =
     let a = c.self.inside in
     let g = c.tick.new.self in
     let v = c.args.self.now in
-    let dead : a.live ≡ false = ap (λ (v : RunValue). v.live) c.self.view_is ∙ c.requires.dead in
+    let dead : a.live ≡ false = ap (λ (v : RunValue). v.live) c.self.view_is ∙ c.requires.turn.dead in
     let going = is_none a.ending (sym c.if-is_some.ensures) in
     let few : a.samples < a.retired = subst (λ (v : RunValue). v.ending ≡ None → v.samples < v.retired) (sym c.self.view_is) c.requires.samples going in
     let R : Inside → Type 0 = λ x. IsHeld (record x { gmon = g }) in
@@ -72,7 +72,7 @@ pub returns-clause-note : goal.returns-clause-note
 returns-clause-note c = λ w st.
     let a = c.self.inside in
     let h = c.args.hart in
-    let read = hart_read a.harts.items h _ (there a c.args.self.now h c.self.invariant c.self.view_is c.requires.hart) c.index.ensures in
+    let read = hart_read a.harts.items h _ (there a c.args.self.now h c.self.invariant c.self.view_is c.requires.turn.hart) c.index.ensures in
     let P : RunValue → Type 0 = λ v. StandsFor w v → c.then_some.result ≡ if_going (sample_in v.machine h) w in
     subst P c.self.view_is (λ (s : StandsFor w (value_of a)).
     let going = is_none a.ending (sym c.if-is_some.ensures) in

@@ -14,7 +14,7 @@ returns-clause-stands c = λ w st.
     let a = c.self.inside in
     let h = c.args.hart in
     let new = c.return_from_hook.new.self in
-    let read = hart_read a.harts.items h _ (there a c.args.self.now h c.self.invariant c.self.view_is c.requires.hart) c.index.ensures in
+    let read = hart_read a.harts.items h _ (there a c.args.self.now h c.self.invariant c.self.view_is c.requires.turn.hart) c.index.ensures in
     let P : RunValue → Type 0 = λ v. StandsFor w v → StandsFor (after_moncontrol h (hart_of w.harts h) w) new in
     subst P c.self.view_is (λ (s : StandsFor w (value_of a)).
     (let R : RunValue → Type 0 = λ v. StandsFor (after_moncontrol h (hart_of w.harts h) w) v in subst R (sym c.return_from_hook.ensures.run)

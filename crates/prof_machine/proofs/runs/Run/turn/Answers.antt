@@ -24,7 +24,7 @@ returns-in_err-note-clause-fails g c = on_err_any _ _ c.from_residual.result _ (
     let s' = with_live w (value_of a) false s in
     breaks_as w (after_ordinary_turn a.machine h w) (turn_of a.machine w h) _ _
     (turn_prints a.machine h w (value_of a) (c.self.invariant.going live) s ∙ ap (λ (v : World). v.prints) (taken_instructed a.machine h w (value_of (record a { live = false })) (sym c.if-holds_walk.ensures) s'))
-    (c.in_err-note.ensures.fails w s')) c.requires.live st)
+    (c.in_err-note.ensures.outside.fails w s')) c.requires.live st)
 
 pub returns-clause-stands : goal.returns-clause-stands
 returns-clause-stands g c = λ w st.
@@ -57,7 +57,7 @@ returns-clause-prints g c = λ w st.
     printed_as w v (turn_of a.machine w h) _ _ (turn_prints a.machine h w (value_of a) (c.self.invariant.going live) s) (elim c.if-holds_walk.branch [
       | then-holds_walk b ↦ subst H (sym b.host-is) (nothing_printed w v old (b.look.ensures.prints w s'))
       | else-holds_walk+in_ok-note b ↦ subst H (sym b.host-is) (printed_as w (after_ordinary_turn a.machine h w) v _ _
-          (ap (λ (x : World). x.prints) (taken_instructed a.machine h w (value_of (record a { live = false })) (sym b.if-holds_walk.ensures) s')) (b.in_ok-note.ensures.prints w s'))
+          (ap (λ (x : World). x.prints) (taken_instructed a.machine h w (value_of (record a { live = false })) (sym b.if-holds_walk.ensures) s')) (b.in_ok-note.ensures.outside.prints w s'))
     ])) c.requires.live st
 
 pub returns-clause-note : goal.returns-clause-note
