@@ -20,7 +20,7 @@ use Rattle.gmon_bsd.proofs.FieldLemmas.{spelled_of as bsd_spelled}
 use Rattle.gmon_gnu.proofs.MeaningLemmas.{spelled_of as gnu_spelled}
 use Rattle.gmon_files.specs.declared.file_reader.FileReader.{FileReader}
 use Rattle.gmon_files.specs.declared.file_reader.FileReader.TheVariants as reader
-use Rattle.gmon_files.specs.FileRead.{StandsFor, IsReadNoFurther}
+use Rattle.gmon_files.specs.FileRead.{StandsFor}
 use Rattle.gmon_files.specs.Forms.{form_of, file_records, file_refusal, records_in, refusal_in, SpellsIn, FileSpells}
 
 pub form_goes_on : (bytes piece : List ℕ) → 4 ≤ length bytes → form_of (bytes ++ piece) ≡ form_of bytes
@@ -96,29 +96,25 @@ longer name bytes buf limit n (Some d') (Some d) (Some r') told disk came joins 
     omega (arith, whole, came.available, long)
 
 -- what is left behind is all but the bytes so far and these
-pub behind_it : (name bytes buf : List ℕ) (limit most n : ℕ) (d0 d1 : Option Disk) (r0 r1 : Option (List ℕ)) → Becomes (λ d. d) d0 d1 → Becomes (drop n) r0 r1 → IfSome r0 (λ rest. Came n rest buf) → Joins name bytes d0 r0
-    → length bytes + n ≤ limit + most → IfSome d1 (λ d. IfSome r1 (λ rest. length (file_content name d.files) ≤ limit + most + length rest))
-behind_it name bytes buf limit most n d0 None r0 r1 disk rest came joins few = tt
-behind_it name bytes buf limit most n d0 (Some d) r0 None disk rest came joins few = tt
-behind_it name bytes buf limit most n None (Some d) r0 (Some r) disk rest came joins few = absurd cc
-behind_it name bytes buf limit most n (Some d') (Some d) None (Some r) disk rest came joins few = absurd cc
-behind_it name bytes buf limit most n (Some d') (Some d) (Some r') (Some r) disk rest came joins few =
+pub behind_it : (name bytes buf : List ℕ) (limit n : ℕ) (d0 d1 : Option Disk) (r0 r1 : Option (List ℕ)) → Becomes (λ d. d) d0 d1 → Becomes (drop n) r0 r1 → IfSome r0 (λ rest. Came n rest buf) → Joins name bytes d0 r0
+    → length bytes + n ≤ limit + 1 → IfSome d1 (λ d. IfSome r1 (λ rest. length (file_content name d.files) ≤ limit + 1 + length rest))
+behind_it name bytes buf limit n d0 None r0 r1 disk rest came joins few = tt
+behind_it name bytes buf limit n d0 (Some d) r0 None disk rest came joins few = tt
+behind_it name bytes buf limit n None (Some d) r0 (Some r) disk rest came joins few = absurd cc
+behind_it name bytes buf limit n (Some d') (Some d) None (Some r) disk rest came joins few = absurd cc
+behind_it name bytes buf limit n (Some d') (Some d) (Some r') (Some r) disk rest came joins few =
     let whole : length bytes + length r' ≡ length (file_content name d.files) = sym (length-append bytes r') ∙ ap length (joins ∙ ap (λ (x : Disk). file_content name x.files) (same_some d' d disk)) in
     let left : length r ≡ length r' - n = ap length (sym (same_some (drop n r') r rest)) ∙ length-drop n r' in
     omega (arith, whole, left, few, came.available)
 
 pub loading_long : (name : List ℕ) (limit n : ℕ) (bytes buf : List ℕ) (old mid new : Outside) → Loading name limit bytes old mid → IsConsistent mid → Did [] mid new → KeepsCounts mid new
-    → IfSome mid.rest (λ rest. Came n rest buf) → Becomes (drop n) mid.rest new.rest → limit < length bytes + n → n ≤ 4096 → Loads name limit old new (Err TooLarge)
+    → IfSome mid.rest (λ rest. Came n rest buf) → Becomes (drop n) mid.rest new.rest → limit < length bytes + n → length bytes + n ≤ limit + 1 → Loads name limit old new (Err TooLarge)
 loading_long name limit n bytes buf old mid new far consistent did counts came goes long few =
     let told : is_some mid.rest ≡ is_some mid.disk = consistent.rest ∙ ap (λ (b : Bool). b && is_some mid.disk) far.is_open in
     record {
       nothing_done = Did-then [] [] (with_openings 1 old) mid new far.did did;
       answer = longer name bytes buf limit n mid.disk new.disk mid.rest told did.disk came far.joins long;
-      left = behind_it name bytes buf limit 4096 n mid.disk new.disk mid.rest new.rest did.disk goes came far.joins (omega (arith, far.within, few));
+      left = behind_it name bytes buf limit n mid.disk new.disk mid.rest new.rest did.disk goes came far.joins few;
       within = tt;
       counts = record { read = counts.read ∙ far.counts.read; write = counts.write ∙ far.counts.write; err = counts.err ∙ far.counts.err };
     }
-
-pub one_beyond : (name : List ℕ) (limit n : ℕ) (bytes buf : List ℕ) (old mid new : Outside) → Loading name limit bytes old mid → Did [] mid new
-    → IfSome mid.rest (λ rest. Came n rest buf) → Becomes (drop n) mid.rest new.rest → length bytes + n ≤ limit + 1 → IsReadNoFurther name limit new (Err TooLarge)
-one_beyond name limit n bytes buf old mid new far did came goes few = behind_it name bytes buf limit 1 n mid.disk new.disk mid.rest new.rest did.disk goes came far.joins few

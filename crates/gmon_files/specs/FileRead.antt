@@ -4,7 +4,6 @@ use Rattle.gp_base.specs.declared.records.Form.TheVariants.{Bsd, Gnu}
 use Rattle.gmon_bsd.specs.Fed as bsd
 use Rattle.gmon_gnu.specs.Fed as gnu
 use Rattle.host_port.specs.declared.loading.LoadRefusal.{LoadRefusal}
-use Rattle.host_port.specs.declared.loading.LoadRefusal.TheVariants.{ReadFault, TooLarge, OutOfMemory}
 use Rattle.host_port.specs.Act.{file_content}
 use Rattle.host_port.specs.Outside.{Outside, Did, KeepsCounts, with_openings}
 use Rattle.host_port.specs.Host.{IfTold}
@@ -53,10 +52,3 @@ pub record IsContent (name : List ℕ) (limit : ℕ) (old new : Outside) (bytes 
 abbrev pub IsReadFrom : List ℕ → ℕ → Outside → Outside → Result (FileReader × ℕ) LoadRefusal → Type 0
 IsReadFrom name limit old new (Ok pair) = (bytes : List ℕ) × IsContent name limit old new bytes × StandsFor bytes pair.0 × (pair.1 ≡ length bytes)
 IsReadFrom name limit old new (Err refusal) = Loads name limit old new (Err refusal)
-
--- of a file that is too large no more was read than one byte beyond the limit
-abbrev pub IsReadNoFurther : List ℕ → ℕ → Outside → Result (FileReader × ℕ) LoadRefusal → Type 0
-IsReadNoFurther name limit new (Err TooLarge) = IfTold new (λ d. IfSome new.rest (λ rest. length (file_content name d.files) ≤ limit + 1 + length rest))
-IsReadNoFurther name limit new (Err ReadFault) = ⊤
-IsReadNoFurther name limit new (Err OutOfMemory) = ⊤
-IsReadNoFurther name limit new (Ok pair) = ⊤

@@ -1,19 +1,18 @@
 //! Reading a profile file in pieces; its form is told by its first four bytes.
 
-ghost use Rattle.std.specs.Prelude.{◌≡◌, ℕ, List, [], ◌+◌, ◌^◌, ◌<◌, ◌≤◌, ◌++◌, true, false, length, None, Err, IfErr, IfOk, IfSome, OnOk};
+ghost use Rattle.std.specs.Prelude.{◌≡◌, ℕ, List, [], ◌+◌, ◌^◌, ◌<◌, ◌≤◌, ◌++◌, false, length, None, Err, IfErr, IfOk, IfSome, OnOk};
 ghost use Rattle.gp_base.specs.Refusal.{IsRefusal};
-ghost use Rattle.host_port.specs.Host.{Moves, Reads};
 ghost use Rattle.gmon_data.specs.Content.{conflict_of, with_records};
 ghost use Rattle.gmon_data.specs.Refusals.{IsLeft, IsReadRefusal};
 ghost use Rattle.gmon_files.specs.Forms.{file_records, file_refusal, FileSpells};
-ghost use Rattle.gmon_files.specs.FileRead.{spelled_records, HasRoomFor, StandsFor, len_of, IsFed, IsReadFrom, IsReadNoFurther};
+ghost use Rattle.gmon_files.specs.FileRead.{spelled_records, HasRoomFor, StandsFor, len_of, IsFed, IsReadFrom};
 
 use crate::forms::{GNU, form_of};
 use gmon_cells::Remnant;
 use gmon_data::{Profile, ReadRefusal};
 use gp_base::limits::MAX_PROFILE_BYTES;
 use gp_base::{Form, GmonRefusal, Records};
-use host_port::{Failed, Host, LoadRefusal};
+use host_port::{Host, LoadRefusal, read_front};
 use std::alloc::{AllocError, Global};
 
 /// How many bytes are asked for at a time.
@@ -155,7 +154,6 @@ pub fn read_pieces<H: Host>(
     requires idle { (H.outside host.old).is_writing ≡ false }
     requires limit { limit ≤ MAX_PROFILE_BYTES }
     ensures read { IsReadFrom name.now limit (H.outside host.old) (H.outside host.new) result }
-    ensures further { IsReadNoFurther name.now limit (H.outside host.new) result }
     ensures fed { IfOk result (λ pair. IsFed pair.0) }
 {
     host.open_input(name)?;
@@ -174,19 +172,4 @@ pub fn read_pieces<H: Host>(
         reader = reader.feed(alloc, piece.split_at(n).0)?;
         len += n as u32;
     }
-}
-
-/// Moves at most `most` bytes of the input to the front of a piece, and answers how many.
-fn read_front<H: Host>(host: &mut H, piece: &mut [u8], most: usize) -> Result<usize, Failed>
-    requires is_open { (H.outside host.old).is_open ≡ true }
-    requires going { (H.outside host.old).at_end ≡ false }
-    requires some { 0 < most }
-    requires room { most ≤ length piece.old }
-    ensures moves { Moves piece.old piece.new (H.outside host.old) (H.outside host.new) result }
-    ensures few { IfOk result (λ n. n ≤ most) }
-    ensures counts { Reads (H.outside host.old) (H.outside host.new) result }
-    ensures room { length piece.new ≡ length piece.old }
-{
-    let (front, _) = piece.split_at_mut(most);
-    host.read(front)
 }

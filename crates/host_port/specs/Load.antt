@@ -14,9 +14,9 @@ AnswersFor content limit (Err TooLarge) = limit < length content
 AnswersFor content limit (Err ReadFault) = ⊤
 AnswersFor content limit (Err OutOfMemory) = ⊤
 
--- above the limit no more was read than the piece of 4,096 bytes in which it is passed
+-- above the limit no more was read than one byte
 abbrev pub IsLeftBehind : List ℕ → ℕ → List ℕ → Result (Vec ℕ) LoadRefusal → Type 0
-IsLeftBehind content limit rest (Err TooLarge) = length content ≤ limit + 4096 + length rest
+IsLeftBehind content limit rest (Err TooLarge) = length content ≤ limit + 1 + length rest
 IsLeftBehind content limit rest (Err ReadFault) = ⊤
 IsLeftBehind content limit rest (Err OutOfMemory) = ⊤
 IsLeftBehind content limit rest (Ok bytes) = rest ≡ []

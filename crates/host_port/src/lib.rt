@@ -15,7 +15,7 @@ pub mod values;
 
 pub use buffers::{OutBuf, PrintBuf};
 pub use host::{Failed, Host};
-pub use loading::{LoadRefusal, load};
+pub use loading::{LoadRefusal, load, read_front};
 pub use mem_host::{HostCall, MemHost};
 pub use never_fails::NeverFails;
 pub use pieces::{err_all_of, out_all_of, write_all_of};

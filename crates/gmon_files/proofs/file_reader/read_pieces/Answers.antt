@@ -1,7 +1,7 @@
 use Rattle.std.proofs.Common.{◌≡◌, ◌+◌, ◌≤◌, ◌++◌, ◌∙◌, ℕ, false, List, length, length-append, sym, subst, arith}
 use Rattle.std.proofs.lemmas.Bool.{ne_eqb}
 use Rattle.host_port.proofs.LoadLemmas.{Loading}
-use Rattle.gmon_files.proofs.FileReading.{loading_more, loading_long, one_beyond}
+use Rattle.gmon_files.proofs.FileReading.{loading_more, loading_long}
 use Rattle.gmon_files.proofs.file_reader.read_pieces.Goals as goal
 
 pub returns-then-n-left-clause-read : goal.returns-then-n-left-clause-read
@@ -13,14 +13,7 @@ returns-then-n-left-clause-read g c =
     let reads = c.in_ok-n.ensures.counts in
     loading_long c.args.name.now c.args.limit c.in_ok-n.n far.0 c.read_front.new.piece (g.H.Host.outside c.args.host.now) (g.H.Host.outside c.loop-reader.host) (g.H.Host.outside c.read_front.new.host)
     far.1 (g.met.H.Host.consistent c.loop-reader.host) moves.nothing_done (record { read = reads.own; write = reads.write; err = reads.err }) moves.came moves.rest (omega (arith, len, c.if-n-left.true, was.within))
-    (omega (arith, c.in_ok-n.ensures.few, c.min.ensures))
-
-pub returns-then-n-left-clause-further : goal.returns-then-n-left-clause-further
-returns-then-n-left-clause-further g c =
-    let far = c.loop-reader.invariant.far in
-    let moves = c.in_ok-n.ensures.moves in
-    one_beyond c.args.name.now c.args.limit c.in_ok-n.n far.0 c.read_front.new.piece (g.H.Host.outside c.args.host.now) (g.H.Host.outside c.loop-reader.host) (g.H.Host.outside c.read_front.new.host)
-    far.1 moves.nothing_done moves.came moves.rest (omega (arith, far.3, c.loop-reader.invariant.within, c.in_ok-n.ensures.few, c.min.ensures))
+    (omega (arith, len, was.within, c.in_ok-n.ensures.few, c.min.ensures))
 
 pub loop-reader-preserved : goal.loop-reader-preserved
 loop-reader-preserved g c =
