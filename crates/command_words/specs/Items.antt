@@ -1,5 +1,5 @@
 -- What the words say: operands and options, by their positions among the words.
-use Rattle.std.specs.Prelude.{ℕ, ◌+◌, ◌-◌, ◌==◌, nat_lt, Bool, false, List, [], ◌∷◌, length, map, Option, Some, None, get_or, if◌then◌else◌}
+use Rattle.std.specs.Prelude.{ℕ, ◌+◌, ◌-◌, ◌==◌, nat_lt, Bool, false, List, [], ◌∷◌, length, map, Option, Some, None, slice_index_or, if◌then◌else◌}
 use Rattle.std.specs.List.{filter_map}
 use Rattle.std.specs.Option.{option_map, option_and_then, unwrap_or}
 use Rattle.command_words.specs.declared.options.Key.{Key}
@@ -63,7 +63,7 @@ place_given key items = first_within (most_times key) (places (AnOption key) ite
 
 -- the word at a position
 abbrev pub nth_word : List (List ℕ) → ℕ → List ℕ
-nth_word words i = get_or words i []
+nth_word words i = slice_index_or words i []
 
 -- the words at some positions
 abbrev pub words_at : List (List ℕ) → List ℕ → List (List ℕ)

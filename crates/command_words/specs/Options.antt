@@ -1,6 +1,6 @@
 -- The table of options: the words that name them, what they take, how often they may be given, and the commands that
 -- take them.
-use Rattle.std.specs.Prelude.{ℕ, ◌≤◌, Bool, true, false, List, Option, Some, None, bytes_eq, codes, ⊤, if◌then◌else◌}
+use Rattle.std.specs.Prelude.{ℕ, ◌≤◌, Bool, true, false, List, [], ◌∷◌, Option, Some, None, find, bytes_eq, codes, ⊤, if◌then◌else◌}
 use Rattle.std.specs.Option.{option_and_then}
 use Rattle.mcount_arcs.specs.Sizes.{IsFraction}
 use Rattle.command_words.specs.Numbers.{fraction_within, number_within}
@@ -13,101 +13,61 @@ use Rattle.command_words.specs.declared.options.Group.TheVariants.{Machine, Runt
 use Rattle.command_words.specs.declared.options.OptionSet.{OptionSet}
 use Rattle.command_words.specs.declared.options.OptionSet.TheVariants.{RunOptions, ReportOptions, ProfileOptions, DemoOptions, FoldedOptions}
 
+-- a line of the table: the word that names an option; what it takes, a number from the least to the most, one of the
+-- fractions, a name, or nothing; how often it may be given; what it speaks of, the machine and its clock, the runtime,
+-- the files that a run writes, the reports, the demo's program, or the stacks; and its place
+pub record OptionRow : Type 0 where
+  pub word : List ℕ
+  pub kind : Kind
+  pub times : ℕ
+  pub group : Group
+  pub place : ℕ
+
+abbrev pub option_row : List ℕ → Kind → ℕ → Group → ℕ → OptionRow
+option_row word kind times group place = record { word = word; kind = kind; times = times; group = group; place = place }
+
+-- the line of an option
+abbrev pub row_of_key : Key → OptionRow
+row_of_key Every = option_row (codes "--every") (Number 1 2147483647) 1 Machine 0
+row_of_key Budget = option_row (codes "--budget") (Number 1 2147483647) 1 Machine 1
+row_of_key Rate = option_row (codes "--rate") (Number 1 2147483647) 1 Runtime 2
+row_of_key Ram = option_row (codes "--ram") (Number 4 256) 1 Machine 3
+row_of_key Harts = option_row (codes "--harts") (Number 1 8) 1 Machine 4
+row_of_key Quantum = option_row (codes "--quantum") (Number 1 2147483647) 1 Machine 5
+row_of_key Seed = option_row (codes "--seed") (Number 1 2147483647) 1 Machine 6
+row_of_key Image = option_row (codes "--image") Word 1 Files 7
+row_of_key Gnu = option_row (codes "--gnu") Flag 1 Files 8
+row_of_key Flat = option_row (codes "--flat") Flag 1 Reports 9
+row_of_key Graph = option_row (codes "--graph") Flag 1 Reports 10
+row_of_key Elf = option_row (codes "--elf") Word 1 Program 11
+row_of_key Hist = option_row (codes "--hist") Fraction 1 Runtime 12
+row_of_key Hash = option_row (codes "--hash") Fraction 1 Runtime 13
+row_of_key Blocks = option_row (codes "--blocks") Flag 1 Files 14
+row_of_key Exact = option_row (codes "--exact") Flag 1 Reports 15
+row_of_key Cut = option_row (codes "-k") Word 16 Reports 16
+row_of_key Hide = option_row (codes "--hide") Word 16 Reports 17
+row_of_key Inclusive = option_row (codes "--inclusive") Flag 1 Stacks 18
+
+abbrev pub all_keys : List Key
+all_keys =
+    Every ∷ Budget ∷ Rate ∷ Ram ∷ Harts ∷ Quantum ∷ Seed ∷ Image ∷ Gnu ∷ Flat ∷ Graph ∷ Elf ∷
+    Hist ∷ Hash ∷ Blocks ∷ Exact ∷ Cut ∷ Hide ∷ Inclusive ∷ []
+
 -- the option that a word names
 abbrev pub key_named : List ℕ → Option Key
-key_named word =
-    if bytes_eq word (codes "--every") then Some Every else (
-    if bytes_eq word (codes "--budget") then Some Budget else (
-    if bytes_eq word (codes "--rate") then Some Rate else (
-    if bytes_eq word (codes "--ram") then Some Ram else (
-    if bytes_eq word (codes "--harts") then Some Harts else (
-    if bytes_eq word (codes "--quantum") then Some Quantum else (
-    if bytes_eq word (codes "--seed") then Some Seed else (
-    if bytes_eq word (codes "--image") then Some Image else (
-    if bytes_eq word (codes "--gnu") then Some Gnu else (
-    if bytes_eq word (codes "--flat") then Some Flat else (
-    if bytes_eq word (codes "--graph") then Some Graph else (
-    if bytes_eq word (codes "--elf") then Some Elf else (
-    if bytes_eq word (codes "--hist") then Some Hist else (
-    if bytes_eq word (codes "--hash") then Some Hash else (
-    if bytes_eq word (codes "--blocks") then Some Blocks else (
-    if bytes_eq word (codes "--exact") then Some Exact else (
-    if bytes_eq word (codes "-k") then Some Cut else (
-    if bytes_eq word (codes "--hide") then Some Hide else (
-    if bytes_eq word (codes "--inclusive") then Some Inclusive else None))))))))))))))))))
+key_named word = find (λ key. bytes_eq word (row_of_key key).word) all_keys
 
--- what it takes: a number from the least to the most, one of the fractions, a name, or nothing
 abbrev pub kind_of : Key → Kind
-kind_of Every = Number 1 2147483647
-kind_of Budget = Number 1 2147483647
-kind_of Rate = Number 1 2147483647
-kind_of Ram = Number 4 256
-kind_of Harts = Number 1 8
-kind_of Quantum = Number 1 2147483647
-kind_of Seed = Number 1 2147483647
-kind_of Image = Word
-kind_of Gnu = Flag
-kind_of Flat = Flag
-kind_of Graph = Flag
-kind_of Elf = Word
-kind_of Hist = Fraction
-kind_of Hash = Fraction
-kind_of Blocks = Flag
-kind_of Exact = Flag
-kind_of Cut = Word
-kind_of Hide = Word
-kind_of Inclusive = Flag
+kind_of key = (row_of_key key).kind
 
--- how often it may be given
 abbrev pub most_times : Key → ℕ
-most_times Cut = 16
-most_times Hide = 16
-most_times key = 1
+most_times key = (row_of_key key).times
 
--- its place in the table
-abbrev pub key_number : Key → ℕ
-key_number Every = 0
-key_number Budget = 1
-key_number Rate = 2
-key_number Ram = 3
-key_number Harts = 4
-key_number Quantum = 5
-key_number Seed = 6
-key_number Image = 7
-key_number Gnu = 8
-key_number Flat = 9
-key_number Graph = 10
-key_number Elf = 11
-key_number Hist = 12
-key_number Hash = 13
-key_number Blocks = 14
-key_number Exact = 15
-key_number Cut = 16
-key_number Hide = 17
-key_number Inclusive = 18
-
--- what it speaks of: the machine and its clock, the runtime, the files that a run writes, the reports, the demo's
--- program, or the stacks
 abbrev pub group_of : Key → Group
-group_of Every = Machine
-group_of Budget = Machine
-group_of Rate = Runtime
-group_of Ram = Machine
-group_of Harts = Machine
-group_of Quantum = Machine
-group_of Seed = Machine
-group_of Image = Files
-group_of Gnu = Files
-group_of Flat = Reports
-group_of Graph = Reports
-group_of Elf = Program
-group_of Hist = Runtime
-group_of Hash = Runtime
-group_of Blocks = Files
-group_of Exact = Reports
-group_of Cut = Reports
-group_of Hide = Reports
-group_of Inclusive = Stacks
+group_of key = (row_of_key key).group
+
+abbrev pub key_number : Key → ℕ
+key_number key = (row_of_key key).place
 
 abbrev pub is_taken : OptionSet → Group → Bool
 is_taken RunOptions Machine = true

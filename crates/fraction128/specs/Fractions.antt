@@ -1,5 +1,5 @@
 -- Fractions of whole numbers without bound, in lowest terms, and which sums and products of them fit into 128 bits.
-use Rattle.std.specs.Prelude.{◌≡◌, ℕ, zero, suc, ◌+◌, ◌*◌, ◌/◌, ◌%◌, ◌^◌, ◌<◌, ◌==◌, ◌&&◌, nat_lt, Bool, cond}
+use Rattle.std.specs.Prelude.{◌≡◌, ℕ, zero, suc, ◌+◌, ◌*◌, ◌/◌, ◌%◌, ◌^◌, ◌<◌, ◌==◌, ◌&&◌, nat_lt, Bool, if◌then◌else◌}
 use Rattle.std.specs.Ordering.{nat_cmp}
 use Rattle.std.specs.declared.cmp.Ordering.{Ordering}
 
@@ -13,7 +13,7 @@ fraction n d = record { num = n; den = d }
 -- Euclid's remainders, n of them at most
 abbrev pub last_divisor : ℕ → ℕ → ℕ → ℕ
 last_divisor zero a b = a
-last_divisor (suc n) a b = cond (b == 0) a (last_divisor n b (a % b))
+last_divisor (suc n) a b = if b == 0 then a else last_divisor n b (a % b)
 
 -- the greatest common divisor
 unfoldable pub gcd : ℕ → ℕ → ℕ

@@ -8,6 +8,7 @@ use Rattle.rv_decode.specs.Fields.{field}
 use Rattle.rv_decode.specs.declared.instruction.Instr.{Instr}
 use Rattle.rv_decode.specs.Table.{Row, table, row_of, instr_of, instr_in, operand_form, row}
 use Rattle.rv_decode.specs.declared.instruction.Op.TheVariants.{Lui}
+use Rattle.rv_decode.specs.declared.forms.Form.TheVariants.{Upper}
 
 -- a word under each of the masks
 masked_funct3 : (w : ℕ) → bit_and w 0x0000707F ≡ field w 12 3 * 4096 + w % 128
@@ -73,7 +74,7 @@ by_funct7 w b s = let e = masked_funct7 w in grind (arith, nat_tests)
 
 abbrev fits_under : ℕ → ℕ → ℕ → Type 0
 fits_under w b m =
-    let r = row Lui m b in sound r ≡ true → (bit_and w m == b) ≡ fits w (w % 128) (field w 12 3) (field w 25 7) r
+    let r = row Lui Upper [] m b in sound r ≡ true → (bit_and w m == b) ≡ fits w (w % 128) (field w 12 3) (field w 25 7) r
 
 fits_is : (w : ℕ) → w < 2 ^ 32 → (r : Row) → sound r ≡ true → (bit_and w r.mask == r.bits) ≡ fits w (w % 128) (field w 12 3) (field w 25 7) r
 fits_is w h r s =

@@ -1,6 +1,6 @@
 -- The instructions of RV32I, M and Zifencei: the table of the RISC-V unprivileged manual, "RV32/64G
 -- Instruction Set Listings".
-use Rattle.std.specs.Prelude.{◌≡◌, ℕ, ◌/◌, ◌%◌, ◌^◌, List, [], ◌∷◌, ℤ, pos, ◌==◌, bit_and, Option}
+use Rattle.std.specs.Prelude.{◌≡◌, ℕ, ◌/◌, ◌%◌, ◌^◌, List, [], ◌∷◌, ℤ, pos, ◌==◌, bit_and, codes, map, Option}
 use Rattle.std.specs.Option.{option_map}
 use Rattle.std.specs.List.{find}
 use Rattle.std.proofs.Common.{lit<}
@@ -12,118 +12,83 @@ use Rattle.rv_decode.specs.declared.instruction.Instr.{Instr}
 use Rattle.rv_decode.specs.declared.forms.Form.{Form}
 use Rattle.rv_decode.specs.declared.forms.Form.TheVariants.{Upper, Jump, Branch, Offset, Store, Immediate, Shift, Register, Plain}
 
--- how the operands of an operation lie in its word, and how they are spelled
-abbrev pub operand_form : Op → Form
-operand_form Lui = Upper
-operand_form Auipc = Upper
-operand_form Jal = Jump
-operand_form Jalr = Offset
-operand_form Beq = Branch
-operand_form Bne = Branch
-operand_form Blt = Branch
-operand_form Bge = Branch
-operand_form Bltu = Branch
-operand_form Bgeu = Branch
-operand_form Lb = Offset
-operand_form Lh = Offset
-operand_form Lw = Offset
-operand_form Lbu = Offset
-operand_form Lhu = Offset
-operand_form Sb = Store
-operand_form Sh = Store
-operand_form Sw = Store
-operand_form Addi = Immediate
-operand_form Slti = Immediate
-operand_form Sltiu = Immediate
-operand_form Xori = Immediate
-operand_form Ori = Immediate
-operand_form Andi = Immediate
-operand_form Slli = Shift
-operand_form Srli = Shift
-operand_form Srai = Shift
-operand_form Add = Register
-operand_form Sub = Register
-operand_form Sll = Register
-operand_form Slt = Register
-operand_form Sltu = Register
-operand_form Xor = Register
-operand_form Srl = Register
-operand_form Sra = Register
-operand_form Or = Register
-operand_form And = Register
-operand_form Fence = Plain
-operand_form FenceI = Plain
-operand_form Ecall = Plain
-operand_form Ebreak = Plain
-operand_form Mul = Register
-operand_form Mulh = Register
-operand_form Mulhsu = Register
-operand_form Mulhu = Register
-operand_form Div = Register
-operand_form Divu = Register
-operand_form Rem = Register
-operand_form Remu = Register
-
--- a line of the table: the operation of the words whose bits under the mask are these
+-- a line of the table: how the operands of an operation lie in its word, and how they are spelled; its name; and that
+-- its words are those whose bits under the mask are these
 pub record Row : Type 0 where
   pub op : Op
+  pub form : Form
+  pub name : List ℕ
   pub mask : ℕ
   pub bits : ℕ
 
-abbrev pub row : Op → ℕ → ℕ → Row
-row op mask bits = record { op = op; mask = mask; bits = bits }
+abbrev pub row : Op → Form → List ℕ → ℕ → ℕ → Row
+row op form name mask bits = record { op = op; form = form; name = name; mask = mask; bits = bits }
+
+-- the line of an operation
+abbrev pub op_row : Op → Row
+op_row Lui = row Lui Upper (codes "lui") 0x0000007F 0x00000037
+op_row Auipc = row Auipc Upper (codes "auipc") 0x0000007F 0x00000017
+op_row Jal = row Jal Jump (codes "jal") 0x0000007F 0x0000006F
+op_row Jalr = row Jalr Offset (codes "jalr") 0x0000707F 0x00000067
+op_row Beq = row Beq Branch (codes "beq") 0x0000707F 0x00000063
+op_row Bne = row Bne Branch (codes "bne") 0x0000707F 0x00001063
+op_row Blt = row Blt Branch (codes "blt") 0x0000707F 0x00004063
+op_row Bge = row Bge Branch (codes "bge") 0x0000707F 0x00005063
+op_row Bltu = row Bltu Branch (codes "bltu") 0x0000707F 0x00006063
+op_row Bgeu = row Bgeu Branch (codes "bgeu") 0x0000707F 0x00007063
+op_row Lb = row Lb Offset (codes "lb") 0x0000707F 0x00000003
+op_row Lh = row Lh Offset (codes "lh") 0x0000707F 0x00001003
+op_row Lw = row Lw Offset (codes "lw") 0x0000707F 0x00002003
+op_row Lbu = row Lbu Offset (codes "lbu") 0x0000707F 0x00004003
+op_row Lhu = row Lhu Offset (codes "lhu") 0x0000707F 0x00005003
+op_row Sb = row Sb Store (codes "sb") 0x0000707F 0x00000023
+op_row Sh = row Sh Store (codes "sh") 0x0000707F 0x00001023
+op_row Sw = row Sw Store (codes "sw") 0x0000707F 0x00002023
+op_row Addi = row Addi Immediate (codes "addi") 0x0000707F 0x00000013
+op_row Slti = row Slti Immediate (codes "slti") 0x0000707F 0x00002013
+op_row Sltiu = row Sltiu Immediate (codes "sltiu") 0x0000707F 0x00003013
+op_row Xori = row Xori Immediate (codes "xori") 0x0000707F 0x00004013
+op_row Ori = row Ori Immediate (codes "ori") 0x0000707F 0x00006013
+op_row Andi = row Andi Immediate (codes "andi") 0x0000707F 0x00007013
+op_row Slli = row Slli Shift (codes "slli") 0xFE00707F 0x00001013
+op_row Srli = row Srli Shift (codes "srli") 0xFE00707F 0x00005013
+op_row Srai = row Srai Shift (codes "srai") 0xFE00707F 0x40005013
+op_row Add = row Add Register (codes "add") 0xFE00707F 0x00000033
+op_row Sub = row Sub Register (codes "sub") 0xFE00707F 0x40000033
+op_row Sll = row Sll Register (codes "sll") 0xFE00707F 0x00001033
+op_row Slt = row Slt Register (codes "slt") 0xFE00707F 0x00002033
+op_row Sltu = row Sltu Register (codes "sltu") 0xFE00707F 0x00003033
+op_row Xor = row Xor Register (codes "xor") 0xFE00707F 0x00004033
+op_row Srl = row Srl Register (codes "srl") 0xFE00707F 0x00005033
+op_row Sra = row Sra Register (codes "sra") 0xFE00707F 0x40005033
+op_row Or = row Or Register (codes "or") 0xFE00707F 0x00006033
+op_row And = row And Register (codes "and") 0xFE00707F 0x00007033
+op_row Fence = row Fence Plain (codes "fence") 0x0000707F 0x0000000F
+op_row FenceI = row FenceI Plain (codes "fence.i") 0x0000707F 0x0000100F
+op_row Ecall = row Ecall Plain (codes "ecall") 0xFFFFFFFF 0x00000073
+op_row Ebreak = row Ebreak Plain (codes "ebreak") 0xFFFFFFFF 0x00100073
+op_row Mul = row Mul Register (codes "mul") 0xFE00707F 0x02000033
+op_row Mulh = row Mulh Register (codes "mulh") 0xFE00707F 0x02001033
+op_row Mulhsu = row Mulhsu Register (codes "mulhsu") 0xFE00707F 0x02002033
+op_row Mulhu = row Mulhu Register (codes "mulhu") 0xFE00707F 0x02003033
+op_row Div = row Div Register (codes "div") 0xFE00707F 0x02004033
+op_row Divu = row Divu Register (codes "divu") 0xFE00707F 0x02005033
+op_row Rem = row Rem Register (codes "rem") 0xFE00707F 0x02006033
+op_row Remu = row Remu Register (codes "remu") 0xFE00707F 0x02007033
 
 unfoldable pub table : List Row
 table =
-    row Lui 0x0000007F 0x00000037 ∷
-    row Auipc 0x0000007F 0x00000017 ∷
-    row Jal 0x0000007F 0x0000006F ∷
-    row Jalr 0x0000707F 0x00000067 ∷
-    row Beq 0x0000707F 0x00000063 ∷
-    row Bne 0x0000707F 0x00001063 ∷
-    row Blt 0x0000707F 0x00004063 ∷
-    row Bge 0x0000707F 0x00005063 ∷
-    row Bltu 0x0000707F 0x00006063 ∷
-    row Bgeu 0x0000707F 0x00007063 ∷
-    row Lb 0x0000707F 0x00000003 ∷
-    row Lh 0x0000707F 0x00001003 ∷
-    row Lw 0x0000707F 0x00002003 ∷
-    row Lbu 0x0000707F 0x00004003 ∷
-    row Lhu 0x0000707F 0x00005003 ∷
-    row Sb 0x0000707F 0x00000023 ∷
-    row Sh 0x0000707F 0x00001023 ∷
-    row Sw 0x0000707F 0x00002023 ∷
-    row Addi 0x0000707F 0x00000013 ∷
-    row Slti 0x0000707F 0x00002013 ∷
-    row Sltiu 0x0000707F 0x00003013 ∷
-    row Xori 0x0000707F 0x00004013 ∷
-    row Ori 0x0000707F 0x00006013 ∷
-    row Andi 0x0000707F 0x00007013 ∷
-    row Slli 0xFE00707F 0x00001013 ∷
-    row Srli 0xFE00707F 0x00005013 ∷
-    row Srai 0xFE00707F 0x40005013 ∷
-    row Add 0xFE00707F 0x00000033 ∷
-    row Sub 0xFE00707F 0x40000033 ∷
-    row Sll 0xFE00707F 0x00001033 ∷
-    row Slt 0xFE00707F 0x00002033 ∷
-    row Sltu 0xFE00707F 0x00003033 ∷
-    row Xor 0xFE00707F 0x00004033 ∷
-    row Srl 0xFE00707F 0x00005033 ∷
-    row Sra 0xFE00707F 0x40005033 ∷
-    row Or 0xFE00707F 0x00006033 ∷
-    row And 0xFE00707F 0x00007033 ∷
-    row Fence 0x0000707F 0x0000000F ∷
-    row FenceI 0x0000707F 0x0000100F ∷
-    row Ecall 0xFFFFFFFF 0x00000073 ∷
-    row Ebreak 0xFFFFFFFF 0x00100073 ∷
-    row Mul 0xFE00707F 0x02000033 ∷
-    row Mulh 0xFE00707F 0x02001033 ∷
-    row Mulhsu 0xFE00707F 0x02002033 ∷
-    row Mulhu 0xFE00707F 0x02003033 ∷
-    row Div 0xFE00707F 0x02004033 ∷
-    row Divu 0xFE00707F 0x02005033 ∷
-    row Rem 0xFE00707F 0x02006033 ∷
-    row Remu 0xFE00707F 0x02007033 ∷ []
+    map op_row (Lui ∷ Auipc ∷ Jal ∷ Jalr ∷ Beq ∷ Bne ∷ Blt ∷ Bge ∷ Bltu ∷ Bgeu ∷ Lb ∷ Lh ∷ Lw ∷
+    Lbu ∷ Lhu ∷ Sb ∷ Sh ∷ Sw ∷ Addi ∷ Slti ∷ Sltiu ∷ Xori ∷ Ori ∷ Andi ∷ Slli ∷ Srli ∷ Srai ∷ Add ∷
+    Sub ∷ Sll ∷ Slt ∷ Sltu ∷ Xor ∷ Srl ∷ Sra ∷ Or ∷ And ∷ Fence ∷ FenceI ∷ Ecall ∷ Ebreak ∷ Mul ∷
+    Mulh ∷ Mulhsu ∷ Mulhu ∷ Div ∷ Divu ∷ Rem ∷ Remu ∷ [])
+
+abbrev pub operand_form : Op → Form
+operand_form op = (op_row op).form
+
+-- the name of an operation
+abbrev pub mnemonic_of : Op → List ℕ
+mnemonic_of op = (op_row op).name
 
 abbrev pub Matches : ℕ → Row → Type 0
 Matches w r = bit_and w r.mask ≡ r.bits

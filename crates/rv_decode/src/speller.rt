@@ -2,8 +2,8 @@
 
 ghost use Rattle.std.specs.Prelude.{◌≡◌, ◌+◌, ◌*◌, ◌<◌, ◌≤◌, ◌++◌, length, codes};
 ghost use Rattle.std.specs.Fmt.{signed_decimal};
-ghost use Rattle.rv_decode.specs.Table.{operand_form};
-ghost use Rattle.rv_decode.specs.Spelling.{listed_after, mnemonic_of, offset_text, operands_of, register_text, spelling_of, target_text, upper_text};
+ghost use Rattle.rv_decode.specs.Table.{mnemonic_of, operand_form};
+ghost use Rattle.rv_decode.specs.Spelling.{listed_after, offset_text, operands_of, register_text, spelling_of, target_text, upper_text};
 
 use crate::forms::{Form, form_of};
 use crate::instruction::{Instr, Op};

@@ -1,5 +1,6 @@
--- What each command leaves where it is carried out, in sentences of several parts: the file, the output, and the time
--- in the report. All of it is said of the contents of the command's inputs.
+-- What each command leaves where it is carried out, in sentences of several parts: the file, both outputs, the summary,
+-- and the time in the report. What is said of inputs is said of the contents that the answer is for: those of the files
+-- where the host tells them before and after, and else some.
 use Rattle.std.specs.Prelude.{◌≡◌, ◌≢◌, ◌<◌, ◌+◌, ◌*◌, ◌&&◌, ℕ, slice_index, Bool, true, false, List, [], ◌∷◌, ◌++◌, codes, Option, Some, None, option_map, Result, Ok, IfOk, IfSome}
 use Rattle.elf32_syms.specs.Image.{image_of}
 use Rattle.gp_base.specs.declared.records.Form.{Form}
@@ -45,21 +46,22 @@ use Rattle.rvgprof.specs.Help.{help_text, version_text}
 use Rattle.rvgprof.specs.RunFile.{SaysProfile, SaysRun, gmon_text, memory_text, reported_profile, text_sizes, end_world}
 use Rattle.rvgprof.specs.Acceptance.{IsProfileFile, IsProgramFile, AreProfileFiles, Starts, total_of}
 
--- what is reported of a run: what its file says of samples and calls, without the calls that are cut
+-- what is reported of a run: its samples and calls, as its file says them (`SaysRun`), without the calls that are cut
 abbrev pub run_sources : Chosen → List ℕ → Setup → Sources
 run_sources chosen program setup = chosen_sources chosen (image_of program) (reported_profile program setup)
 
--- the reports that are asked for
+-- the reports that are asked for; between both stands an empty line
 abbrev pub reports_text : Shown → List (List ℕ) → Sources → List ℕ
 reports_text shows.Flat hidden s = flat_text s hidden
 reports_text shows.Graph hidden s = graph_text s hidden
 reports_text shows.Both hidden s = flat_text s hidden ++ (codes "\n" ++ graph_text s hidden)
 
--- the times with nothing rounded, behind an empty line
+-- where they are asked for, behind an empty line, the times that flow from the shares with nothing rounded
 abbrev pub exact_section : Bool → Sources → List ℕ
 exact_section false s = []
 exact_section true s = codes "\n" ++ exact_text s.symbols s.graph (exact_flow_in s.graph s.shares.of) (attributed_of s.shares)
 
+-- the reports, and then these
 abbrev pub printed_text : Chosen → Sources → List ℕ
 printed_text chosen s = reports_text chosen.shown chosen.hidden s ++ exact_section chosen.exact s
 
@@ -76,7 +78,7 @@ IsPrinted text old new = Becomes (λ bytes. bytes ++ text) old.out new.out
 abbrev pub Holds : List (List ℕ) → Outside → ℕ → List ℕ → Type 0
 Holds words new word text = IfSome new.disk (λ d. file_content (nth_word words word) d.files ≡ text)
 
--- A program is accepted, and a run of it starts.
+-- A program is accepted, and nothing refuses the start of a run of it.
 pub record Runs (program : List ℕ) (setup : Setup) : Type 0 where
   pub accepted : IsProgramFile program
   pub starts : Starts program setup
@@ -86,7 +88,7 @@ pub record RunIsWritten (words : List (List ℕ)) (new : Outside) (gmon : ℕ) (
     (memory : Option ℕ) (setup : Setup) (program : List ℕ) : Type 0 where
   -- GMON holds the file of the run, where `--image` names no file or another ..
   pub file : NamesDiffer words gmon memory → Holds words new gmon (gmon_text form program setup)
-  -- .. which is read as what happened in the run
+  -- .. which is read as the records of the run
   pub says : NamesDiffer words gmon memory
       → IfSome new.disk (λ d. SaysRun form program setup (file_content (nth_word words gmon) d.files))
   -- the file that is named for it holds the memory of the runtime, also where that is GMON
@@ -102,7 +104,7 @@ pub record RunIsSummedUp (words : List (List ℕ)) (old new : Outside) (done : D
   -- what the program prints on the error output stands before the line
   pub errors : Becomes (λ bytes. bytes ++ (complaint_of (end_world program setup).prints ++ line)) old.err new.err
 
--- an arc carries its part of both times of the component that it enters
+-- an arc carries its part of both times of the component that it enters, each but for less than a grain
 abbrev pub ArcIsInProportion : Sources → ℕ → Type 0
 ArcIsInProportion s i =
     let d = target_of s.graph i in
@@ -113,7 +115,7 @@ ArcIsInProportion s i =
 abbrev pub CallersGetAll : Sources → ℕ → Type 0
 CallersGetAll s d = (carried_to s.graph (slice_index s.flow.arc_self) d ≡ slice_index s.flow.self d) × (carried_to s.graph (slice_index s.flow.arc_child) d ≡ slice_index s.flow.child d)
 
--- The time of a report is shared out, in grains: a million are a sample.
+-- The time of what reports are made from is shared out, in grains, of which a million are a sample.
 pub record TimeIsShared (s : Sources) : Type 0 where
   -- functions, arcs and components are a graph, and its times solve the equations of `IsFlow` ..
   pub graph : IsGraph s.graph
@@ -133,7 +135,7 @@ pub record RunLeaves (words : List (List ℕ)) (contents : ℕ → List ℕ) (ol
     (elf gmon : ℕ) (form : Form) (memory : Option ℕ) (setup : Setup) : Type 0 where
   pub runs : Runs (contents elf) setup
   pub written : RunIsWritten words new gmon form memory setup (contents elf)
-  -- what the program prints was printed
+  -- what the program prints on the output was printed
   pub output : IsPrinted (prints_of (end_world (contents elf) setup).prints) old new
   pub run : RunIsSummedUp words old new done setup (contents elf)
 
@@ -175,12 +177,12 @@ pub record ShowLeaves (contents : ℕ → List ℕ) (old new : Outside) (gmon : 
   pub accepted : IsProfileFile (contents gmon)
   pub output : IsPrinted (show_text (file_records (contents gmon))) old new
 
--- what `syms` leaves: the text, the hooks and the symbols of its program as lines
+-- what `syms` leaves: the entry, the text, the hooks and the symbols of its program as lines
 pub record SymsLeaves (contents : ℕ → List ℕ) (old new : Outside) (elf : ℕ) : Type 0 where
   pub accepted : IsProgramFile (contents elf)
   pub output : IsPrinted (image_text (image_of (contents elf))) old new
 
--- what `folded` leaves: what the program prints, and behind it the text of its samples' stacks
+-- what `folded` leaves: what the program prints, and behind it the text of its samples' stacks, or of their functions
 pub record FoldedLeaves (words : List (List ℕ)) (contents : ℕ → List ℕ) (old new : Outside) (done : Done)
     (elf : ℕ) (inclusive : Bool) (setup : Setup) : Type 0 where
   pub runs : Runs (contents elf) setup
@@ -210,8 +212,8 @@ pub record ProfileLeaves (words : List (List ℕ)) (contents : ℕ → List ℕ)
 abbrev pub demo_sources : ℕ → Setup → Sources
 demo_sources functions setup = profile_sources (image_of (demo_program functions)) (reported_profile (demo_program functions) setup)
 
--- the summary: how its run went, its calls and cycles, all grains that are attributed, and those of the entries without
--- callers from outside
+-- the summary: how its run went, its calls and cycles, all grains that are attributed, and those of the components that
+-- none calls from outside
 abbrev pub demo_printed : ℕ → Setup → List ℕ
 demo_printed functions setup =
     let z = text_sizes (demo_program functions) setup in
@@ -228,7 +230,7 @@ pub record DemoLeaves (words : List (List ℕ)) (old new : Outside) (done : Done
   pub output : IsPrinted (prints_of (end_world (demo_program functions) setup).prints
       ++ demo_printed functions setup) old new
   pub run : RunIsSummedUp words old new done setup (demo_program functions)
-  -- of its time the grains of all samples are those of the components that none calls: the two numbers in the summary
+  -- the grains that are attributed are those of the components that none calls: the two numbers in the summary
   pub shared : TimeIsShared (demo_sources functions setup)
 
 -- what a command leaves where it is carried out; words without a reading never are

@@ -26,8 +26,8 @@ pub fn files_read_back()
     ensures profile { ProfileFilesAreReadBack }
 {}
 
-/// The listing of the file of a run that counted executions shows, at each multiple of 4 that begins a cell, how
-/// often the instruction there retired in that run.
+/// In the profile of one file of a run that counted executions, those at an instruction's address are how often it
+/// retired in that run. A cell of the listing shows them.
 pub fn executions_are_listed()
     ensures { ExecutionsAreListed }
 {}
