@@ -7,32 +7,32 @@ use Rattle.demo_elf.specs.Elf.{word, words_text, halves_text, padding_of, names_
 use Rattle.demo_elf.specs.Symbols.{symbol_of, AreSmall}
 use Rattle.demo_elf.proofs.SymbolLemmas.{strings_short}
 
-words_long : (words : List ℕ) → length (flat_map word words) ≡ 4 * length words
+pub words_long : (words : List ℕ) → length (flat_map word words) ≡ 4 * length words
 words_long [] = refl
 words_long (w ∷ words) = omega (arith, words_long words)
 
-file_header_long : (headers : ℕ) → length (file_header headers) ≡ 52
+pub file_header_long : (headers : ℕ) → length (file_header headers) ≡ 52
 unfolding file_header halves_text words_text
 file_header_long headers = refl
 
-program_header_long : (text : ℕ) → length (program_header text) ≡ 32
+pub program_header_long : (text : ℕ) → length (program_header text) ≡ 32
 unfolding program_header words_text
 program_header_long text = refl
 
-symbols_long : (at : ℕ) (symbols : List (List ℕ × ℕ)) → length (symbols_from at symbols) ≡ 16 * length symbols
+pub from_long : (at : ℕ) (symbols : List (List ℕ × ℕ)) → length (symbols_from at symbols) ≡ 16 * length symbols
 unfolding symbol_text words_text
-symbols_long at [] = refl
-symbols_long at (s ∷ symbols) = omega (arith, symbols_long (at + (length s.0 + 1)) symbols)
+from_long at [] = refl
+from_long at (s ∷ symbols) = omega (arith, from_long (at + (length s.0 + 1)) symbols)
 
-section_headers_long : (text symbols strings : ℕ) → length (section_headers text symbols strings) ≡ 200
+pub section_headers_long : (text symbols strings : ℕ) → length (section_headers text symbols strings) ≡ 200
 unfolding section_headers words_text
 section_headers_long text symbols strings = refl
 
-names_long : length names_text ≡ 33
+pub names_long : length names_text ≡ 33
 unfolding names_text
 names_long = refl
 
-front_long : (words : List ℕ) (symbols strings : ℕ) → length (front_text words symbols strings) ≡ 4096 + 4 * length words
+pub front_long : (words : List ℕ) (symbols strings : ℕ) → length (front_text words symbols strings) ≡ 4096 + 4 * length words
 unfolding front_text words_text
 front_long words symbols strings =
     let a = file_header (headers_at (length words) symbols strings) in
@@ -75,7 +75,7 @@ file_short words symbols few small =
       length-append front (zeros ++ symbols_from 1 named),
       length-append zeros (symbols_from 1 named),
       front_long words (length named) strings,
-      symbols_long 1 named,
+      from_long 1 named,
       strings_short symbols small,
       back_long (length words) (length named) strings,
     )

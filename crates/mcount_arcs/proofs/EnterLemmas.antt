@@ -9,12 +9,14 @@ use Rattle.mcount_arcs.specs.declared.state.State.TheVariants.{On, Busy, Error, 
 use Rattle.mcount_arcs.specs.Samples.{counted_in}
 use Rattle.mcount_arcs.specs.Log.{mode_in, MayFollow, LogEntry, kept_calls, Enter, CallLost, CallIgnored, IsSite}
 use Rattle.mcount_arcs.specs.Sizes.{AreSizes, IsWidth, slot_of, offset_of}
+use Rattle.mcount_arcs.specs.declared.gmon.Cursor.{Cursor}
 use Rattle.mcount_arcs.specs.declared.gmon.Gmon.TheInside.{Inside}
-use Rattle.mcount_arcs.specs.Held.{view_of, IsHeld}
+use Rattle.mcount_arcs.specs.Held.{view_of, IsAt, IsHeld}
 use Rattle.mcount_arcs.specs.Value.{StandsFor, GmonValue}
 use Rattle.mcount_arcs.proofs.LogLemmas.{IsQuiet, state_of-quiet, is_on-same, buckets_of-same, IsLegal-push, more, kept_calls-entered_calls, is_on-same, buckets_of-same, looks_of-chain, entries_of-entered_calls, fronts_of-entered_calls, arcs_of-entered_calls}
 use Rattle.mcount_arcs.proofs.LookLemmas.{looks_bounds}
 use Rattle.mcount_arcs.proofs.CallLemmas.{is_busy-enter, entered_calls-enter, pending_call-enter, state_of-busy, is_busy-other}
+use Rattle.mcount_arcs.proofs.HeldLemmas.{held_with}
 use Rattle.mcount_arcs.proofs.QuietEntryLemmas.{StandsFor-quiet}
 use Rattle.mcount_arcs.proofs.SizeLemmas.{part_is}
 
@@ -57,26 +59,16 @@ stands_entered a log from to slot at on slot_is site stands =
     }
 
 pub held_entered : (a : Inside) (from to slot at : ℕ) → IsHeld a → a.state ≡ On → slot ≡ slot_of a.sizes from → IsSite a.sizes from → slice_get a.block.froms slot ≡ Some at → a.calls < 4294967295 → IsHeld (entered_as a slot to at)
-held_entered a from to slot at held on slot_is site read room = record {
-  sizes = held.sizes;
-  counter_width = held.counter_width;
-  slot_width = held.slot_width;
-  tos = held.tos;
-  counters = held.counters;
-  froms = held.froms;
-  fits = held.fits;
-  log = more held.log (Enter from to);
-  stands = stands_entered a held.log from to slot at on slot_is site held.stands;
-  free = λ _. held.free (λ error. let e : On ≡ Error = sym on ∙ error in cc);
-  at = λ _. record {
-    slot = slice_get_within a.block.froms slot at read;
-    looked = 0;
-    place = refl;
-    at = sym (get_or_from_slice_get a.block.froms slot at 0 read);
-    before = refl;
-  };
-  room = λ _. room;
-}
+held_entered a from to slot at held on slot_is site read room =
+    let cursor : Cursor = record { slot = slot; to = to; place = 1; at = at; before = 0 } in
+    let is_at : IsAt a.block cursor = record {
+      slot = slice_get_within a.block.froms slot at read;
+      looked = 0;
+      place = refl;
+      at = sym (get_or_from_slice_get a.block.froms slot at 0 read);
+      before = refl;
+    } in
+    held_with a Busy a.sampling cursor (more held.log (Enter from to)) held (stands_entered a held.log from to slot at on slot_is site held.stands) (λ error. let e : On ≡ Error = sym on ∙ error in cc) (λ _. is_at) (λ _. room)
 
 -- the offset as the code has it
 pub offset_is : (z : Sizes) (from : ℕ) → AreSizes z → (from + (4294967296 - z.low)) % 4294967296 ≡ offset_of z from

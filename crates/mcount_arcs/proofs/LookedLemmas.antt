@@ -5,12 +5,12 @@ use Rattle.std.specs.List.{slice_get}
 use Rattle.std.proofs.lemmas.Bool.{cases_Bool, eq-eqb, and_from, and_left, and_right, ne_eqb}
 use Rattle.std.specs.Option.{option_map, IfSome}
 use Rattle.gmon_block.specs.declared.entry.Tos.{Tos}
-use Rattle.mcount_arcs.specs.Log.{Pair, same_pair, distinct_count, LogEntry, kept_calls, WalkDone}
+use Rattle.mcount_arcs.specs.Log.{Pair, same_pair, distinct_count, LogEntry, kept_calls, state_of, WalkDone}
 use Rattle.mcount_arcs.specs.Arcs.{chain_in, arcs_in, looks_in, looks_of}
 use Rattle.mcount_arcs.specs.Image.{index_in, entries_in, fronts_in}
 use Rattle.mcount_arcs.specs.declared.state.State.{State}
 use Rattle.mcount_arcs.specs.declared.state.State.TheVariants.{Busy, Error}
-use Rattle.mcount_arcs.specs.Held.{arcs_read, flight, view_of, IsHeld}
+use Rattle.mcount_arcs.specs.Held.{arcs_read, flight, view_of, IsAt, IsHeld}
 use Rattle.gmon_block.specs.Layout.{EntryFits, Parts}
 use Rattle.mcount_arcs.specs.BlockChanges.{entry_at, with_call_found, with_next_index, with_new_front, with_call_added}
 use Rattle.mcount_arcs.specs.declared.gmon.Gmon.TheInside.{Inside}
@@ -28,6 +28,7 @@ use Rattle.mcount_arcs.proofs.LinkLemmas.{arcs_reads}
 use Rattle.mcount_arcs.proofs.BlockLemmas.{IsBlockOf, with_call_found-at, number_read, with_call_added-full, with_call_added-new}
 use Rattle.mcount_arcs.proofs.LookLemmas.{looks-found, looks_bounds}
 use Rattle.mcount_arcs.proofs.CallLemmas.{is_busy-done, kept_calls-full, pending_call-idle, state_of-done, state_of-full}
+use Rattle.mcount_arcs.proofs.HeldLemmas.{held_with}
 use Rattle.mcount_arcs.proofs.WalkLemmas.{no_flight, not_busy, InFlight, in_flight, is_found, is_passed, IsNew, is_new_empty, is_new_last}
 use Rattle.mcount_arcs.proofs.KeptCallLemmas.{kept_calls-all}
 
@@ -56,48 +57,43 @@ kept_same : (a : Inside) (w : Walk) (log : List LogEntry) → InFlight a w log �
 kept_same a w log f full =
     kept_calls-full a.sizes (more log WalkDone) (kept_calls a.sizes log) (pair w.slot w.to) f.next f.few full (omega (arith, f.few))
 
-pub stands_counted : (a : Inside) (w : Walk) (log : List LogEntry) (block : Parts) → InFlight a w log → StandsFor log (view_of a)
-    → IsBlockOf a.sizes.tolimit a.sizes.slots (pushed (kept_calls a.sizes log) w.slot w.to) (pushed (kept_calls a.sizes log) w.slot w.to) block → block.counters ≡ a.block.counters
-    → distinct_count (pushed (kept_calls a.sizes log) w.slot w.to) < a.sizes.tolimit → StandsFor (more log WalkDone) (view_of (counted_as a block))
-stands_counted a w log block f stands is counters places =
+-- an end leaves the block of the calls that are kept then, and no walk
+stands_done : (a : Inside) (w : Walk) (log : List LogEntry) (block : Parts) (s : State) (n : ℕ) (ps : List Pair) → InFlight a w log → StandsFor log (view_of a)
+    → IsBlockOf a.sizes.tolimit a.sizes.slots (pushed (kept_calls a.sizes log) w.slot w.to) ps block → block.counters ≡ a.block.counters
+    → kept_calls a.sizes (more log WalkDone) ≡ ps → distinct_count ps < a.sizes.tolimit → s ≡ state_of a.sizes (more log WalkDone) → n ≡ length ps → flight s a.cursor ≡ None
+    → StandsFor (more log WalkDone) (view_of (record a { block = block; state = s; calls = n }))
+stands_done a w log block s n ps f stands is counters kept_is places state calls no_walk =
     let z = a.sizes in
-    let ps = pushed (kept_calls z log) w.slot w.to in
+    let all = pushed (kept_calls z log) w.slot w.to in
     let after = more log WalkDone in
-    let kept_is = kept_more a w log f places in
-    record {
-      legal = IsLegal-push z log WalkDone stands.legal f.busy_log;
-      tos = is.tos ∙ sym (entries_of-by z after ∙ ap (λ (qs : List Pair). entries_in z.tolimit qs (kept_calls z after)) f.next ∙ ap (entries_in z.tolimit ps) kept_is);
-      counters = counters ∙ stands.counters ∙ sym (buckets_of-same z log WalkDone (λ before. refl));
-      froms = is.froms ∙ sym (fronts_of-by z after ∙ ap (fronts_in z.slots) kept_is);
-      state = ap idle_state stands.sampling ∙ sym (state_of-done z log (omega (arith, ap distinct_count f.next)));
-      sampling = stands.sampling ∙ sym (is_on-same log WalkDone refl);
-      calls = omega (arith, stands.calls, ap length kept_is, length-append (kept_calls z log) (pair w.slot w.to ∷ []));
-      arcs = ap (λ (es : List Tos). arcs_read z es block.froms) is.tos ∙ ap (arcs_read z (entries_in z.tolimit ps ps)) is.froms ∙ arcs_reads z ps ps places ∙ sym (arcs_of-by z after ∙ ap (arcs_in z) kept_is);
-      walk = ap (option_map call_of) (no_flight a.sampling a.cursor) ∙ sym (pending_call-idle z after (is_busy-done log));
-      place = nothing_placed (flight (idle_state a.sampling) a.cursor) (λ v. (1 ≤ v.place) × (v.place ≤ looks_of z after v.slot v.to)) (no_flight a.sampling a.cursor);
-    }
-
-pub stands_filled : (a : Inside) (w : Walk) (log : List LogEntry) (block : Parts) → InFlight a w log → StandsFor log (view_of a)
-    → IsBlockOf a.sizes.tolimit a.sizes.slots (pushed (kept_calls a.sizes log) w.slot w.to) (kept_calls a.sizes log) block → block.counters ≡ a.block.counters
-    → a.sizes.tolimit ≤ distinct_count (pushed (kept_calls a.sizes log) w.slot w.to) → StandsFor (more log WalkDone) (view_of (filled_as a block))
-stands_filled a w log block f stands is counters full =
-    let z = a.sizes in
-    let ps = kept_calls z log in
-    let all = pushed ps w.slot w.to in
-    let after = more log WalkDone in
-    let kept_is = kept_same a w log f full in
     record {
       legal = IsLegal-push z log WalkDone stands.legal f.busy_log;
       tos = is.tos ∙ sym (entries_of-by z after ∙ ap (λ (qs : List Pair). entries_in z.tolimit qs (kept_calls z after)) f.next ∙ ap (entries_in z.tolimit all) kept_is);
       counters = counters ∙ stands.counters ∙ sym (buckets_of-same z log WalkDone (λ before. refl));
       froms = is.froms ∙ sym (fronts_of-by z after ∙ ap (fronts_in z.slots) kept_is);
-      state = sym (state_of-full z log (omega (arith, ap distinct_count f.next)));
+      state = state;
       sampling = stands.sampling ∙ sym (is_on-same log WalkDone refl);
-      calls = stands.calls ∙ ap length (sym kept_is);
-      arcs = ap (λ (es : List Tos). arcs_read z es block.froms) is.tos ∙ ap (arcs_read z (entries_in z.tolimit all ps)) is.froms ∙ arcs_reads z all ps f.few ∙ sym (arcs_of-by z after ∙ ap (arcs_in z) kept_is);
-      walk = sym (pending_call-idle z after (is_busy-done log));
-      place = tt;
+      calls = calls ∙ ap length (sym kept_is);
+      arcs = ap (λ (es : List Tos). arcs_read z es block.froms) is.tos ∙ ap (arcs_read z (entries_in z.tolimit all ps)) is.froms ∙ arcs_reads z all ps places ∙ sym (arcs_of-by z after ∙ ap (arcs_in z) kept_is);
+      walk = ap (option_map call_of) no_walk ∙ sym (pending_call-idle z after (is_busy-done log));
+      place = nothing_placed (flight s a.cursor) (λ v. (1 ≤ v.place) × (v.place ≤ looks_of z after v.slot v.to)) no_walk;
     }
+
+pub stands_counted : (a : Inside) (w : Walk) (log : List LogEntry) (block : Parts) → InFlight a w log → StandsFor log (view_of a)
+    → IsBlockOf a.sizes.tolimit a.sizes.slots (pushed (kept_calls a.sizes log) w.slot w.to) (pushed (kept_calls a.sizes log) w.slot w.to) block → block.counters ≡ a.block.counters
+    → distinct_count (pushed (kept_calls a.sizes log) w.slot w.to) < a.sizes.tolimit → StandsFor (more log WalkDone) (view_of (counted_as a block))
+stands_counted a w log block f stands is counters places =
+    let ps = pushed (kept_calls a.sizes log) w.slot w.to in
+    let state = ap idle_state stands.sampling ∙ sym (state_of-done a.sizes log (omega (arith, ap distinct_count f.next))) in
+    let calls : a.calls + 1 ≡ length ps = omega (arith, stands.calls, length-append (kept_calls a.sizes log) (pair w.slot w.to ∷ [])) in
+    stands_done a w log block (idle_state a.sampling) (a.calls + 1) ps f stands is counters (kept_more a w log f places) places state calls (no_flight a.sampling a.cursor)
+
+pub stands_filled : (a : Inside) (w : Walk) (log : List LogEntry) (block : Parts) → InFlight a w log → StandsFor log (view_of a)
+    → IsBlockOf a.sizes.tolimit a.sizes.slots (pushed (kept_calls a.sizes log) w.slot w.to) (kept_calls a.sizes log) block → block.counters ≡ a.block.counters
+    → a.sizes.tolimit ≤ distinct_count (pushed (kept_calls a.sizes log) w.slot w.to) → StandsFor (more log WalkDone) (view_of (filled_as a block))
+stands_filled a w log block f stands is counters full =
+    let state = sym (state_of-full a.sizes log (omega (arith, ap distinct_count f.next))) in
+    stands_done a w log block Error a.calls (kept_calls a.sizes log) f stands is counters (kept_same a w log f full) f.few state stands.calls refl
 
 test_full : (a : Inside) (w : Walk) (log : List LogEntry) (b : Bool) → is_full a.sizes log w ≡ b → (if is_full a.sizes log w then Overflowed else Counted) ≡ (if b then Overflowed else Counted)
 test_full a w log b e = ap (λ (c : Bool). if c then Overflowed else Counted) e
@@ -126,47 +122,38 @@ ends log w old new result last e = record {
   last = λ same. e;
 }
 
+held_done : (a : Inside) (w : Walk) (log : List LogEntry) (block : Parts) (s : State) (n : ℕ) (ps : List Pair) → IsHeld a
+    → IsBlockOf a.sizes.tolimit a.sizes.slots (pushed (kept_calls a.sizes log) w.slot w.to) ps block → block.counters ≡ a.block.counters → All EntryFits block.tos → distinct_count ps < a.sizes.tolimit
+    → StandsFor (more log WalkDone) (view_of (record a { block = block; state = s; calls = n })) → ((s ≡ Error → ⊥) → (entry_at block 0).link < a.sizes.tolimit) → (s ≡ Busy → ⊥)
+    → IsHeld (record a { block = block; state = s; calls = n })
+held_done a w log block s n ps held is counters fits places stands free idle = record {
+  sizes = held.sizes;
+  counter_width = held.counter_width;
+  slot_width = held.slot_width;
+  tos = ap length is.tos ∙ length-entries_in a.sizes.tolimit (pushed (kept_calls a.sizes log) w.slot w.to) ps places;
+  counters = ap length counters ∙ held.counters;
+  froms = ap length is.froms ∙ length-fronts a.sizes.slots ps;
+  fits = fits;
+  log = more log WalkDone;
+  stands = stands;
+  free = free;
+  at = λ busy. absurd (idle busy);
+  room = λ busy. absurd (idle busy);
+}
+
 pub held_counted : (a : Inside) (w : Walk) (log : List LogEntry) (block : Parts) → IsHeld a → InFlight a w log → StandsFor log (view_of a)
     → IsBlockOf a.sizes.tolimit a.sizes.slots (pushed (kept_calls a.sizes log) w.slot w.to) (pushed (kept_calls a.sizes log) w.slot w.to) block → block.counters ≡ a.block.counters → All EntryFits block.tos
     → distinct_count (pushed (kept_calls a.sizes log) w.slot w.to) < a.sizes.tolimit → IsHeld (counted_as a block)
 held_counted a w log block held f stands is counters fits places =
-    let z = a.sizes in
-    let ps = pushed (kept_calls z log) w.slot w.to in
-    record {
-      sizes = held.sizes;
-      counter_width = held.counter_width;
-      slot_width = held.slot_width;
-      tos = ap length is.tos ∙ length-entries_in z.tolimit ps ps places;
-      counters = ap length counters ∙ held.counters;
-      froms = ap length is.froms ∙ length-fronts z.slots ps;
-      fits = fits;
-      log = more log WalkDone;
-      stands = stands_counted a w log block f stands is counters places;
-      free = λ _. omega (arith, number_read z.tolimit z.slots ps ps block is);
-      at = λ busy. absurd (not_busy a.sampling busy);
-      room = λ busy. absurd (not_busy a.sampling busy);
-    }
+    let ps = pushed (kept_calls a.sizes log) w.slot w.to in
+    held_done a w log block (idle_state a.sampling) (a.calls + 1) ps held is counters fits places (stands_counted a w log block f stands is counters places)
+    (λ _. omega (arith, number_read a.sizes.tolimit a.sizes.slots ps ps block is)) (not_busy a.sampling)
 
 pub held_filled : (a : Inside) (w : Walk) (log : List LogEntry) (block : Parts) → IsHeld a → InFlight a w log → StandsFor log (view_of a)
     → IsBlockOf a.sizes.tolimit a.sizes.slots (pushed (kept_calls a.sizes log) w.slot w.to) (kept_calls a.sizes log) block → block.counters ≡ a.block.counters → All EntryFits block.tos
     → a.sizes.tolimit ≤ distinct_count (pushed (kept_calls a.sizes log) w.slot w.to) → IsHeld (filled_as a block)
 held_filled a w log block held f stands is counters fits full =
-    let z = a.sizes in
-    let ps = kept_calls z log in
-    record {
-      sizes = held.sizes;
-      counter_width = held.counter_width;
-      slot_width = held.slot_width;
-      tos = ap length is.tos ∙ length-entries_in z.tolimit (pushed ps w.slot w.to) ps f.few;
-      counters = ap length counters ∙ held.counters;
-      froms = ap length is.froms ∙ length-fronts z.slots ps;
-      fits = fits;
-      log = more log WalkDone;
-      stands = stands_filled a w log block f stands is counters full;
-      free = λ other. absurd (other refl);
-      at = λ busy. let e : Error ≡ Busy = busy in cc;
-      room = λ busy. let e : Error ≡ Busy = busy in cc;
-    }
+    held_done a w log block Error a.calls (kept_calls a.sizes log) held is counters fits f.few (stands_filled a w log block f stands is counters full) (λ other. absurd (other refl)) (λ busy. let e : Error ≡ Busy = busy in cc)
 
 pub with_call_found-counters : (s b at : ℕ) (p : Parts) → (with_call_found s b at p).counters ≡ p.counters
 with_call_found-counters s zero at p = refl
@@ -324,26 +311,14 @@ moved_held a w e held flying sees other link =
     let log = held.log in
     let f = in_flight a w log held flying held.stands in
     let more_looks = is_passed a w log f sees.some (λ same. other (ap (λ (t : Tos). t.selfpc) (sym sees.entry) ∙ same)) (λ none. link (ap (λ (t : Tos). t.link) (sym sees.entry) ∙ none)) in
-    record {
-      sizes = held.sizes;
-      counter_width = held.counter_width;
-      slot_width = held.slot_width;
-      tos = held.tos;
-      counters = held.counters;
-      froms = held.froms;
-      fits = held.fits;
-      log = log;
-      stands = stands_moved a w log e.link f flying held.stands more_looks;
-      free = held.free;
-      at = λ busy. record {
-        slot = omega (arith, f.slot, held.froms);
-        looked = suc f.step;
-        place = omega (arith, f.place);
-        at = ap (λ (t : Tos). t.link) (sym sees.entry) ∙ ap (λ (i : ℕ). (entry_at a.block i).link) f.at;
-        before = f.at;
-      };
-      room = held.room;
-    }
+    let is_at : IsAt a.block (record { slot = w.slot; to = w.to; place = w.place + 1; at = e.link; before = a.cursor.at }) = record {
+      slot = omega (arith, f.slot, held.froms);
+      looked = suc f.step;
+      place = omega (arith, f.place);
+      at = ap (λ (t : Tos). t.link) (sym sees.entry) ∙ ap (λ (i : ℕ). (entry_at a.block i).link) f.at;
+      before = f.at;
+    } in
+    held_with a a.state a.sampling _ log held (stands_moved a w log e.link f flying held.stands more_looks) (λ error. error) (λ _. is_at) held.room
 
 pub moved_place : (a : Inside) (w : Walk) (log : List LogEntry) (e : Tos) → IsHeld a → flight a.state a.cursor ≡ Some w → Sees a w e → (e.selfpc ≡ w.to → ⊥) → (e.link ≡ 0 → ⊥) → StandsFor log (view_of a) → w.place + 1 ≤ 65534
 moved_place a w log e held flying sees other link stands =

@@ -13,6 +13,7 @@ use Rattle.mcount_arcs.specs.Held.{flight, view_of, IsHeld}
 use Rattle.mcount_arcs.specs.Value.{idle_state, StandsFor, GmonValue, switched_state, with_switch}
 use Rattle.mcount_arcs.proofs.LogLemmas.{state_by, more, one_more, last_of-push, IsQuiet, is_busy-quiet, entered_calls-quiet, buckets_of-same, state_of-by}
 use Rattle.mcount_arcs.proofs.WalkLemmas.{no_flight, not_busy}
+use Rattle.mcount_arcs.proofs.HeldLemmas.{held_with}
 use Rattle.mcount_arcs.proofs.QuietEntryLemmas.{StandsFor-quiet}
 
 is_on-mode : (log : List LogEntry) (on : Bool) → is_on (more log (Mode on)) ≡ on
@@ -65,17 +66,5 @@ switched-value on a = ap (λ (o : Option Walk). record (view_of (switched_as on 
 pub held_switched : (on : Bool) (a : Inside) → IsHeld a → IsHeld (switched_as on a)
 held_switched on a held =
     let P : GmonValue → Type 0 = λ v. StandsFor (more held.log (Mode on)) v in
-    record {
-      sizes = held.sizes;
-      counter_width = held.counter_width;
-      slot_width = held.slot_width;
-      tos = held.tos;
-      counters = held.counters;
-      froms = held.froms;
-      fits = held.fits;
-      log = more held.log (Mode on);
-      stands = subst P (sym (switched-value on a)) (StandsFor-switched held.log (view_of a) on held.stands);
-      free = λ other. held.free (λ e. other (is_error on a.state e));
-      at = λ busy. held.at (was_busy on a.state busy);
-      room = λ busy. held.room (was_busy on a.state busy);
-    }
+    let stands = subst P (sym (switched-value on a)) (StandsFor-switched held.log (view_of a) on held.stands) in
+    held_with a (switched_state on a.state) on a.cursor (more held.log (Mode on)) held stands (is_error on a.state) (λ busy. held.at (was_busy on a.state busy)) (λ busy. held.room (was_busy on a.state busy))

@@ -10,7 +10,7 @@ use Rattle.rv_step.specs.Step.{step_of}
 use Rattle.rv_step.specs.declared.stepped.Stepped.{Stepped}
 use Rattle.rv_step.specs.declared.stepped.Stepped.TheVariants.{Ecall, Retired, Trap as Trapped}
 use Rattle.rv_step.specs.declared.stepped.TrapKind.{TrapKind}
-use Rattle.prof_machine.proofs.StandingLemmas.{answers_stands, with_ending, with_harts, with_memory, with_retired}
+use Rattle.prof_machine.proofs.StandingLemmas.{answers_stands, with_ending, with_harts, with_memory, with_retired, stands_with}
 use Rattle.prof_machine.specs.Ecalls.{ecall_of, write_acts, write_answer}
 use Rattle.prof_machine.specs.Stages.{answers, retires}
 use Rattle.prof_machine.specs.Turn.{after_call, after_ecall, after_outcome, after_step, after_execution, one_retired, retired_with}
@@ -55,18 +55,7 @@ ecall_as w r h s call read is stands =
     ∙ ap (λ (x : Call). after_call h x w) (sym is)
 
 with_prints : (w : World) (r : RunValue) (acts : List Act) → StandsFor w r → StandsFor (record w { prints = acts }) r
-with_prints w r acts stands = record {
-  harts = stands.harts;
-  left = stands.left;
-  memory = stands.memory;
-  break_at = stands.break_at;
-  retired = stands.retired;
-  ending = stands.ending;
-  gmon = stands.gmon;
-  samples = stands.samples;
-  lost = stands.lost;
-  counts = stands.counts;
-}
+with_prints w r acts stands = stands_with w r acts r.live r.note stands.harts stands.memory stands.break_at stands.ending stands
 
 pub written_stands : (w : World) (r : RunValue) (h d from n answer : ℕ) → answer ≡ write_answer r.memory d from n → StandsFor w r → StandsFor (after_call h (Writes d from n) w) (answers h answer r)
 written_stands w r h d from n answer is stands =

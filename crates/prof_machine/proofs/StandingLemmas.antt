@@ -9,6 +9,7 @@ use Rattle.std.proofs.lemmas.List.Sums.{sum_by_push}
 use Rattle.mcount_arcs.proofs.LogLemmas.{IsQuiet, counted_samples-same, counted_samples-sampled, kept_calls-quiet, looks_of-kept_calls}
 use Rattle.mcount_arcs.specs.Log.{LogEntry, Sample, is_on, kept_calls}
 use Rattle.mcount_arcs.specs.Samples.{counted_in, counted_samples}
+use Rattle.host_port.specs.Act.{Act}
 use Rattle.gp_base.specs.Spans.{is_in}
 use Rattle.mcount_arcs.specs.Sizes.{text_span}
 use Rattle.mcount_arcs.proofs.TickLemmas.{ticked_others}
@@ -53,19 +54,39 @@ is_ended (Some end) is = cc
 
 -- ---- what changes one part alone
 
-pub with_ending : (w : World) (r : RunValue) (end : End) → StandsFor w r → StandsFor (record w { ending = Some end }) (record r { ending = Some end })
-with_ending w r end stands = record {
-  harts = stands.harts;
+-- registers, memory, break and end are the world's; what was printed, what can go on and what is noted say nothing more
+pub stands_with : {xs ys : List Registers} {m n : Memory} {b c : ℕ} {e f : Option End} (w : World) (r : RunValue) (acts : List Act) (live : Bool) (note : TurnNote) → xs ≡ ys → m ≡ n → b ≡ c → e ≡ f → StandsFor w r
+    → StandsFor (record w { harts = ys; memory = n; break_at = c; ending = f; prints = acts }) (record r { harts = xs; memory = m; break_at = b; ending = e; live = live; note = note })
+stands_with w r acts live note harts memory break_at ending stands = record {
+  harts = harts;
   left = stands.left;
-  memory = stands.memory;
-  break_at = stands.break_at;
+  memory = memory;
+  break_at = break_at;
   retired = stands.retired;
-  ending = refl;
+  ending = ending;
   gmon = stands.gmon;
   samples = stands.samples;
   lost = stands.lost;
   counts = stands.counts;
 }
+
+pub with_ending : (w : World) (r : RunValue) (end : End) → StandsFor w r → StandsFor (record w { ending = Some end }) (record r { ending = Some end })
+with_ending w r end stands = stands_with {e = Some end} {f = Some end} w r w.prints r.live r.note stands.harts stands.memory stands.break_at refl stands
+
+pub with_harts : (w : World) (r : RunValue) (harts other : List Registers) → harts ≡ other → StandsFor w r → StandsFor (record w { harts = other }) (record r { harts = harts })
+with_harts w r harts other same stands = stands_with w r w.prints r.live r.note same stands.memory stands.break_at stands.ending stands
+
+pub with_memory : (w : World) (r : RunValue) (m : Memory) → StandsFor w r → StandsFor (record w { memory = m }) (record r { memory = m })
+with_memory w r m stands = stands_with {m = m} {n = m} w r w.prints r.live r.note stands.harts refl stands.break_at stands.ending stands
+
+pub with_break : (w : World) (r : RunValue) (to : ℕ) → StandsFor w r → StandsFor (record w { break_at = to }) (record r { break_at = to })
+with_break w r to stands = stands_with {b = to} {c = to} w r w.prints r.live r.note stands.harts stands.memory refl stands.ending stands
+
+pub with_note : (w : World) (r : RunValue) (b : Bool) (note : TurnNote) → StandsFor w r → StandsFor w (record r { note = note; live = b })
+with_note w r b note stands = stands_with w r w.prints b note stands.harts stands.memory stands.break_at stands.ending stands
+
+pub with_live : (w : World) (r : RunValue) (b : Bool) → StandsFor w r → StandsFor w (record r { live = b })
+with_live w r b stands = with_note w r b r.note stands
 
 -- the instruction retires at which the hart stands
 pub with_retired : (w : World) (r : RunValue) (h pc : ℕ) → pc ≡ (hart_of r.harts h).pc → StandsFor w r → StandsFor (one_retired h w) (retires pc r)
@@ -81,48 +102,6 @@ with_retired w r h pc is stands = record {
   lost = stands.lost;
   counts = exec_counts_of-push r.machine w.ran r.counts pc stands.counts
       ∙ ap (λ (a : ℕ). exec_counts_of r.machine (w.ran ++ a ∷ [])) (is ∙ ap (λ (x : List Registers). (hart_of x h).pc) stands.harts);
-}
-
-pub with_harts : (w : World) (r : RunValue) (harts other : List Registers) → harts ≡ other → StandsFor w r → StandsFor (record w { harts = other }) (record r { harts = harts })
-with_harts w r harts other same stands = record {
-  harts = same;
-  left = stands.left;
-  memory = stands.memory;
-  break_at = stands.break_at;
-  retired = stands.retired;
-  ending = stands.ending;
-  gmon = stands.gmon;
-  samples = stands.samples;
-  lost = stands.lost;
-  counts = stands.counts;
-}
-
-pub with_memory : (w : World) (r : RunValue) (m : Memory) → StandsFor w r → StandsFor (record w { memory = m }) (record r { memory = m })
-with_memory w r m stands = record {
-  harts = stands.harts;
-  left = stands.left;
-  memory = refl;
-  break_at = stands.break_at;
-  retired = stands.retired;
-  ending = stands.ending;
-  gmon = stands.gmon;
-  samples = stands.samples;
-  lost = stands.lost;
-  counts = stands.counts;
-}
-
-pub with_break : (w : World) (r : RunValue) (to : ℕ) → StandsFor w r → StandsFor (record w { break_at = to }) (record r { break_at = to })
-with_break w r to stands = record {
-  harts = stands.harts;
-  left = stands.left;
-  memory = stands.memory;
-  break_at = refl;
-  retired = stands.retired;
-  ending = stands.ending;
-  gmon = stands.gmon;
-  samples = stands.samples;
-  lost = stands.lost;
-  counts = stands.counts;
 }
 
 -- ---- an answer, and a return
@@ -188,34 +167,6 @@ sample_stands w r g k d pc b may count gmon stands = record {
   gmon = gmon;
   samples = count ∙ ap (λ (n : ℕ). n + (if b then 1 else 0)) stands.samples ∙ sym (counted_more r.machine.sizes w.log pc b may);
   lost = stands.lost ∙ omega arith ∙ sym (lost_more w.log (Sample pc));
-  counts = stands.counts;
-}
-
-pub with_live : (w : World) (r : RunValue) (b : Bool) → StandsFor w r → StandsFor w (record r { live = b })
-with_live w r b stands = record {
-  harts = stands.harts;
-  left = stands.left;
-  memory = stands.memory;
-  break_at = stands.break_at;
-  retired = stands.retired;
-  ending = stands.ending;
-  gmon = stands.gmon;
-  samples = stands.samples;
-  lost = stands.lost;
-  counts = stands.counts;
-}
-
-pub with_note : (w : World) (r : RunValue) (b : Bool) (note : TurnNote) → StandsFor w r → StandsFor w (record r { note = note; live = b })
-with_note w r b note stands = record {
-  harts = stands.harts;
-  left = stands.left;
-  memory = stands.memory;
-  break_at = stands.break_at;
-  retired = stands.retired;
-  ending = stands.ending;
-  gmon = stands.gmon;
-  samples = stands.samples;
-  lost = stands.lost;
   counts = stands.counts;
 }
 

@@ -8,7 +8,8 @@ use Rattle.host_port.specs.Outside.{Becomes}
 use Rattle.host_port.specs.Host.{Came, Moves, Creates, Takes}
 use Rattle.host_port.proofs.Laws.{Did-nothing, Becomes-same}
 use Rattle.system_host.specs.Seen.{Seen, disk_with, writes_with, outside_of}
-use Rattle.system_host.proofs.Told.{Gives, Grows, came, left_of}
+use Rattle.system_host.specs.Told.{Gave, Took, told_by}
+use Rattle.system_host.proofs.Told.{shown, Gives, Grows, gives, grows, keeps, came, left_of, where_told, still}
 
 -- ---- bytes that are written one after the other
 
@@ -51,7 +52,7 @@ still_writes (Some d) (Some held) (Some now) same = refl
 
 -- ---- a call that writes
 
-pub takes : (piece : List ℕ) (s : Seen) (output : Option (List ℕ)) (faults n : ℕ) (last : Bool) → 1 ≤ n → n ≤ length piece → is_some output ≡ is_some s.output → writes_with s.output s.disk ≡ true
+takes : (piece : List ℕ) (s : Seen) (output : Option (List ℕ)) (faults n : ℕ) (last : Bool) → 1 ≤ n → n ≤ length piece → is_some output ≡ is_some s.output → writes_with s.output s.disk ≡ true
     → IfSome s.disk (λ _. Grows s.output output (take n piece))
     → Takes {E = Failed} (λ bytes. Write bytes) piece (outside_of s) (outside_of (record s { output = output; write_faults = faults; last_failed = last })) (Ok n)
 takes piece s output faults n last some fits same writes told =
@@ -75,7 +76,7 @@ kept_disk : (disk : Option Disk) (old new : Option (List ℕ)) → IfSome disk (
 kept_disk None old new told = tt
 kept_disk (Some d) old new told = ap (λ (output : Option (List ℕ)). Some (disk_with output d)) (sym told)
 
-pub takes_none : (piece : List ℕ) (s : Seen) (output : Option (List ℕ)) (faults : ℕ) (last : Bool) (failed : Failed) → is_some output ≡ is_some s.output → IfSome s.disk (λ _. output ≡ s.output)
+takes_none : (piece : List ℕ) (s : Seen) (output : Option (List ℕ)) (faults : ℕ) (last : Bool) (failed : Failed) → is_some output ≡ is_some s.output → IfSome s.disk (λ _. output ≡ s.output)
     → Takes {E = Failed} (λ bytes. Write bytes) piece (outside_of s) (outside_of (record s { output = output; write_faults = faults; last_failed = last })) (Err failed)
 takes_none piece s output faults last failed same told =
     let nothing = Did-nothing (outside_of s) in
@@ -110,7 +111,7 @@ moved_rest (Some d) old None buf n fits same told = tt
 moved_rest (Some d) None (Some left) buf n fits same told = absurd cc
 moved_rest (Some d) (Some rest) (Some left) buf n fits same told = ap (λ (bytes : List ℕ). Some bytes) (left_of buf rest left n fits told.0)
 
-pub moves : (before after : List ℕ) (s : Seen) (input : Option (List ℕ)) (at_end : Bool) (faults n : ℕ) (last : Bool) → at_end ≡ (n == 0) → length after ≡ length before → n ≤ length after → 0 < length before → is_some s.input ≡ true → is_some input ≡ is_some s.input
+moves : (before after : List ℕ) (s : Seen) (input : Option (List ℕ)) (at_end : Bool) (faults n : ℕ) (last : Bool) → at_end ≡ (n == 0) → length after ≡ length before → n ≤ length after → 0 < length before → is_some s.input ≡ true → is_some input ≡ is_some s.input
     → IfSome s.disk (λ _. Gives s.input input after n)
     → Moves {E = Failed} before after (outside_of s) (outside_of (record s { input = input; at_end = at_end; read_faults = faults; last_failed = last })) (Ok n)
 moves before after s input at_end faults n last ends len fits room is_open same told =
@@ -128,7 +129,7 @@ kept_rest : (disk : Option Disk) (old new : Option (List ℕ)) → IfSome disk (
 kept_rest None old new told = tt
 kept_rest (Some d) old new told = subst (Becomes (λ rest. rest) old) (sym told) (Becomes-same old)
 
-pub moves_none : (before after : List ℕ) (s : Seen) (input : Option (List ℕ)) (faults : ℕ) (last : Bool) (failed : Failed) → IfSome s.disk (λ _. input ≡ s.input)
+moves_none : (before after : List ℕ) (s : Seen) (input : Option (List ℕ)) (faults : ℕ) (last : Bool) (failed : Failed) → IfSome s.disk (λ _. input ≡ s.input)
     → Moves {E = Failed} before after (outside_of s) (outside_of (record s { input = input; read_faults = faults; last_failed = last })) (Err failed)
 moves_none before after s input faults last failed told =
     let nothing = Did-nothing (outside_of s) in
@@ -164,7 +165,7 @@ begins : (name : List ℕ) (disk now : Option Disk) (bytes : List ℕ) → now �
 begins name None now bytes is = ap (writes_with (Some bytes)) is
 begins name (Some d) now bytes is = ap (writes_with (Some bytes)) is
 
-pub creates : (name : List ℕ) (s : Seen) (disk : Option Disk) (out err : Option (List ℕ)) (bytes : List ℕ) (changes : ℕ) (last : Bool) → writes_with s.output s.disk ≡ false
+creates : (name : List ℕ) (s : Seen) (disk : Option Disk) (out err : Option (List ℕ)) (bytes : List ℕ) (changes : ℕ) (last : Bool) → writes_with s.output s.disk ≡ false
     → disk ≡ option_map (disk_after (Create name ∷ [])) s.disk → IfSome s.disk (λ _. bytes ≡ []) → out ≡ s.out → err ≡ s.err → changes ≡ next_count s.file_changes
     → Creates {T = ⊤} {E = Failed} name (outside_of s) (outside_of (record s { disk = disk; out = out; err = err; input = None; output = Some bytes; file_changes = changes; last_failed = last })) (Ok tt)
 creates name s disk out err bytes changes last none is empty same_out same_err counted =
@@ -181,3 +182,45 @@ creates name s disk out err bytes changes last none is empty same_out same_err c
       failed = tt;
       closed_input = refl;
     }
+
+-- ---- the calls at what the host shows, where its system tells of its files as it tells of the one that is open
+
+pub moves_seen : {T : Type 0} {s v : Seen} (tells : T → Option (List ℕ)) (old new : Option T) (before after : List ℕ) (at_end : Bool) (faults n : ℕ) (last : Bool) → s ≡ v → s.input ≡ shown tells old → ((t : T) → is_some (tells t) ≡ is_some s.disk)
+    → is_some new ≡ is_some old → Gave (told_by tells old) (told_by tells new) after (Some n) → at_end ≡ (n == 0) → length after ≡ length before → n ≤ length after → 0 < length before → (outside_of v).is_open ≡ true
+    → Moves {E = Failed} before after (outside_of v) (outside_of (record s { input = shown tells new; at_end = at_end; read_faults = faults; last_failed = last })) (Ok n)
+moves_seen {s = s} tells old new before after at_end faults n last is_seen input_is law same gave ends len fits room is_open =
+    let open_before : is_some s.input ≡ true = ap (λ (m : Seen). is_some m.input) is_seen ∙ is_open in
+    let still_open : is_some (shown tells new) ≡ is_some s.input = still tells old new same ∙ ap (λ (i : Option (List ℕ)). is_some i) (sym input_is) in
+    let told = where_told s.disk (Gives s.input (shown tells new) after n) (λ is. subst (λ (i : Option (List ℕ)). Gives i (shown tells new) after n) (sym input_is) (gives tells (is_some s.disk) old new after n law is same gave)) in
+    rw (sym is_seen) (moves before after s (shown tells new) at_end faults n last ends len fits room open_before still_open told)
+
+pub moves_none_seen : {T : Type 0} {s v : Seen} (tells : T → Option (List ℕ)) (old new : Option T) (before after : List ℕ) (faults : ℕ) (last : Bool) (failed : Failed) → s ≡ v → s.input ≡ shown tells old → ((t : T) → is_some (tells t) ≡ is_some s.disk)
+    → is_some new ≡ is_some old → Gave (told_by tells old) (told_by tells new) after None
+    → Moves {E = Failed} before after (outside_of v) (outside_of (record s { input = shown tells new; read_faults = faults; last_failed = last })) (Err failed)
+moves_none_seen {s = s} tells old new before after faults last failed is_seen input_is law same kept =
+    let told = where_told s.disk (shown tells new ≡ s.input) (λ is. keeps tells (is_some s.disk) old new law is same kept ∙ sym input_is) in
+    rw (sym is_seen) (moves_none before after s (shown tells new) faults last failed told)
+
+pub takes_seen : {T : Type 0} {s v : Seen} (tells : T → Option (List ℕ)) (old new : Option T) (piece : List ℕ) (faults n : ℕ) (last : Bool) → s ≡ v → s.output ≡ shown tells old → ((t : T) → is_some (tells t) ≡ is_some s.disk)
+    → is_some new ≡ is_some old → Took (told_by tells old) (told_by tells new) piece (Some n) → 1 ≤ n → n ≤ length piece → (outside_of v).is_writing ≡ true
+    → Takes {E = Failed} (λ bytes. Write bytes) piece (outside_of v) (outside_of (record s { output = shown tells new; write_faults = faults; last_failed = last })) (Ok n)
+takes_seen {s = s} tells old new piece faults n last is_seen output_is law same took some fits is_writing =
+    let writes : writes_with s.output s.disk ≡ true = ap (λ (m : Seen). writes_with m.output m.disk) is_seen ∙ is_writing in
+    let still_open : is_some (shown tells new) ≡ is_some s.output = still tells old new same ∙ ap (λ (o : Option (List ℕ)). is_some o) (sym output_is) in
+    let told = where_told s.disk (Grows s.output (shown tells new) (take n piece)) (λ is. subst (λ (o : Option (List ℕ)). Grows o (shown tells new) (take n piece)) (sym output_is) (grows tells (is_some s.disk) old new (take n piece) law is same took)) in
+    rw (sym is_seen) (takes piece s (shown tells new) faults n last some fits still_open writes told)
+
+pub takes_none_seen : {T : Type 0} {s v : Seen} (tells : T → Option (List ℕ)) (old new : Option T) (piece : List ℕ) (faults : ℕ) (last : Bool) (failed : Failed) → s ≡ v → s.output ≡ shown tells old → ((t : T) → is_some (tells t) ≡ is_some s.disk)
+    → is_some new ≡ is_some old → Took (told_by tells old) (told_by tells new) piece None
+    → Takes {E = Failed} (λ bytes. Write bytes) piece (outside_of v) (outside_of (record s { output = shown tells new; write_faults = faults; last_failed = last })) (Err failed)
+takes_none_seen {s = s} tells old new piece faults last failed is_seen output_is law same kept =
+    let still_open : is_some (shown tells new) ≡ is_some s.output = still tells old new same ∙ ap (λ (o : Option (List ℕ)). is_some o) (sym output_is) in
+    let told = where_told s.disk (shown tells new ≡ s.output) (λ is. keeps tells (is_some s.disk) old new law is same kept ∙ sym output_is) in
+    rw (sym is_seen) (takes_none piece s (shown tells new) faults last failed still_open told)
+
+pub creates_seen : {s v : Seen} (name : List ℕ) (disk : Option Disk) (out err : Option (List ℕ)) (bytes : List ℕ) (changes : ℕ) (last : Bool) → s ≡ v → (outside_of v).is_writing ≡ false
+    → disk ≡ option_map (disk_after (Create name ∷ [])) s.disk → IfSome s.disk (λ _. bytes ≡ []) → out ≡ s.out → err ≡ s.err → changes ≡ next_count s.file_changes
+    → Creates {T = ⊤} {E = Failed} name (outside_of v) (outside_of (record s { disk = disk; out = out; err = err; input = None; output = Some bytes; file_changes = changes; last_failed = last })) (Ok tt)
+creates_seen {s = s} name disk out err bytes changes last is_seen not_writing_yet is empty same_out same_err counted =
+    let none : writes_with s.output s.disk ≡ false = ap (λ (m : Seen). writes_with m.output m.disk) is_seen ∙ not_writing_yet in
+    rw (sym is_seen) (creates name s disk out err bytes changes last none is empty same_out same_err counted)

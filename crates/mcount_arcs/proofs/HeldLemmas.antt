@@ -1,0 +1,27 @@
+-- What is true of a runtime's fields while its block stays as it is.
+use Rattle.std.proofs.Common.{◌≡◌, ◌<◌, Bool, List}
+use Rattle.mcount_arcs.specs.declared.gmon.Cursor.{Cursor}
+use Rattle.mcount_arcs.specs.declared.gmon.Gmon.TheInside.{Inside}
+use Rattle.mcount_arcs.specs.declared.state.State.{State}
+use Rattle.mcount_arcs.specs.declared.state.State.TheVariants.{Busy, Error}
+use Rattle.mcount_arcs.specs.Held.{view_of, IsAt, IsHeld}
+use Rattle.mcount_arcs.specs.Log.{LogEntry}
+use Rattle.mcount_arcs.specs.Value.{StandsFor}
+
+-- another state, another mode and another walk
+pub held_with : (a : Inside) (s : State) (on : Bool) (c : Cursor) (log : List LogEntry) → IsHeld a → StandsFor log (view_of (record a { state = s; sampling = on; cursor = c })) → (a.state ≡ Error → s ≡ Error) → (s ≡ Busy → IsAt a.block c) → (s ≡ Busy → a.calls < 4294967295)
+    → IsHeld (record a { state = s; sampling = on; cursor = c })
+held_with a s on c log held stands run_out at room = record {
+  sizes = held.sizes;
+  counter_width = held.counter_width;
+  slot_width = held.slot_width;
+  tos = held.tos;
+  counters = held.counters;
+  froms = held.froms;
+  fits = held.fits;
+  log = log;
+  stands = stands;
+  free = λ other. held.free (λ error. other (run_out error));
+  at = at;
+  room = room;
+}
