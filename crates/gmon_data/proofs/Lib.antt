@@ -12,3 +12,5 @@ pub mod RunLemmas
 pub mod NumberLemmas
 pub mod RangeLemmas
 pub mod SizeLemmas
+pub mod ExchangeLemmas
+pub mod OrderLemmas

@@ -1,10 +1,9 @@
--- Why what was read of a file was not all added to a profile.
-use Rattle.std.specs.Prelude.{◌≡◌, List, Option, Some, None}
+-- Why there is no profile of what was read of a file.
+use Rattle.std.specs.Prelude.{◌≡◌, Option, Some, None}
 use Rattle.gp_base.specs.declared.refusal.GmonRefusal.{GmonRefusal}
 use Rattle.gmon_data.specs.declared.refusal.ReadRefusal.{ReadRefusal}
 use Rattle.gmon_data.specs.declared.refusal.ReadRefusal.TheVariants as answers
 use Rattle.gmon_data.specs.declared.refusal.Unlike.{Unlike}
-use Rattle.gmon_data.specs.Content.{Content, WideRec, IsStopped}
 use Rattle.gmon_data.specs.Hists.{IsUnlike}
 
 -- A fault of the file is answered before anything else. Where it has none, the answer is the conflict that is given,
@@ -12,8 +11,3 @@ use Rattle.gmon_data.specs.Hists.{IsUnlike}
 abbrev pub IsReadRefusal : ReadRefusal → Option GmonRefusal → Option Unlike → Type 0
 IsReadRefusal (answers.File refusal) fault conflict = fault ≡ Some refusal
 IsReadRefusal (answers.Profile refusal) fault conflict = (fault ≡ None) × IsUnlike refusal conflict
-
--- what the profile holds then: what it held, or also the records before the refused one
-abbrev pub IsLeft : ReadRefusal → List WideRec → Content → Content → Type 0
-IsLeft (answers.File refusal) recs old new = new ≡ old
-IsLeft (answers.Profile refusal) recs old new = IsStopped refusal recs old new
