@@ -1,9 +1,9 @@
--- What a reader adds to a profile.
+-- What a reader makes a profile of.
 use Rattle.std.specs.Prelude.{ℕ, List, ◌∷◌, map}
 use Rattle.gp_base.specs.declared.records.RawArc.{RawArc}
 use Rattle.gp_base.specs.Fields.{seconds}
-use Rattle.gmon_data.specs.Content.{Content, WideRec, WideHist, hist_over, wide_arc}
-use Rattle.gmon_data.specs.FileRecords.{spelled_in, HasRoomForSome}
+use Rattle.gmon_data.specs.Content.{WideRec, WideHist, hist_over, wide_arc}
+use Rattle.gmon_data.specs.FileRecords.{spelled_in, FitsForSome}
 use Rattle.gmon_bsd.specs.Fed.{Kept, StandsFor}
 use Rattle.gmon_bsd.specs.Reading.{bsd_refusal, bsd_records}
 
@@ -15,6 +15,6 @@ spelled_records = spelled_in bsd_records
 abbrev pub hist_and_arcs : ℕ → ℕ → ℕ → List ℕ → List RawArc → List WideRec
 hist_and_arcs low high rate counters arcs = WideHist (hist_over low high counters) (seconds rate) ∷ map wide_arc arcs
 
--- The reader stands for bytes that are refused, or spell records with which the profile stays within its limits.
-abbrev pub HasRoomFor : Content → Kept → Type 0
-HasRoomFor profile kept = HasRoomForSome (λ bytes. StandsFor bytes kept) bsd_refusal spelled_records profile
+-- The reader stands for bytes that are refused, or spell records whose profile stays within its limits.
+abbrev pub FitsProfile : Kept → Type 0
+FitsProfile kept = FitsForSome (λ bytes. StandsFor bytes kept) bsd_refusal spelled_records

@@ -2,9 +2,9 @@
 
 ghost use Rattle.std.specs.Prelude.{◌≡◌, ℕ, List, [], ◌+◌, ◌^◌, ◌<◌, ◌≤◌, ◌++◌, length, None, Err, IfOk, OnOk, OnErr, IfErr, IfSome};
 ghost use Rattle.gp_base.specs.Refusal.{IsRefusal};
-ghost use Rattle.gmon_data.specs.Content.{conflict_of, with_records, IsAdded, IsStopped, IsWithin};
-ghost use Rattle.gmon_data.specs.Refusals.{IsLeft, IsReadRefusal};
-ghost use Rattle.gmon_bsd.specs.Adding.{spelled_records, hist_and_arcs, HasRoomFor};
+ghost use Rattle.gmon_data.specs.Content.{conflict_of, content_of, empty_content, with_records, IsAdded, IsStopped, IsWithin};
+ghost use Rattle.gmon_data.specs.Refusals.{IsReadRefusal};
+ghost use Rattle.gmon_bsd.specs.Adding.{spelled_records, hist_and_arcs, FitsProfile};
 ghost use Rattle.gmon_bsd.specs.Grammar.{BsdSpells};
 ghost use Rattle.gmon_bsd.specs.Reading.{bsd_refusal, bsd_records};
 ghost use Rattle.gmon_bsd.specs.Fed.{StandsFor, counter_part, arc_part};
@@ -117,26 +117,22 @@ impl Reader {
         })
     }
 
-    /// Adds the records that the bytes spell to a profile, as `finish` and `Profile::add_records` do, without
-    /// a list of them: it answers the file's first refusal, before memory is taken, or else what adding the
-    /// records answers. After a refusal of the file the profile is unchanged.
-    pub fn add_to(self, profile: &mut Profile) -> Result<(), ReadRefusal>
-        requires { HasRoomFor profile.old self }
+    /// The profile of the records that the bytes spell, without a list of them. It answers the file's first refusal,
+    /// before memory is taken, or else the first refusal of `Profile::add_records`.
+    pub fn into_profile(self) -> Result<Profile, ReadRefusal>
+        requires { FitsProfile self }
         ensures accepted { (bytes : List ℕ) → StandsFor bytes self
             → OnOk result (bsd_refusal bytes ≡ None) }
         ensures like { (bytes : List ℕ) → StandsFor bytes self
-            → OnOk result (conflict_of profile.old (spelled_records bytes) ≡ None) }
-        ensures added { (bytes : List ℕ) → StandsFor bytes self
-            → OnOk result (profile.new ≡ with_records (spelled_records bytes) profile.old) }
+            → OnOk result (conflict_of empty_content (spelled_records bytes) ≡ None) }
+        ensures content { (bytes : List ℕ) → StandsFor bytes self
+            → IfOk result (λ profile. profile ≡ content_of (spelled_records bytes)) }
         ensures refusal { (bytes : List ℕ) → StandsFor bytes self
             → IfErr result (λ refusal. IsReadRefusal refusal (bsd_refusal bytes)
-            (conflict_of profile.old (spelled_records bytes))) }
-        ensures left { (bytes : List ℕ) → StandsFor bytes self
-            → IfErr result
-            (λ refusal. IsLeft refusal (spelled_records bytes) profile.old profile.new) }
+            (conflict_of empty_content (spelled_records bytes))) }
     {
         let Reader {
-            alloc: _,
+            alloc,
             len,
             header,
             counters,
@@ -144,8 +140,9 @@ impl Reader {
         } = self;
         let header = read_header(header.as_slice(), len)?;
         let counters = counters.cells.as_slice();
-        add_parts(profile, header, counters, arcs.cells.as_slice())?;
-        Ok(())
+        let mut profile = Profile::new(alloc);
+        add_parts(&mut profile, header, counters, arcs.cells.as_slice())?;
+        Ok(profile)
     }
 }
 

@@ -10,8 +10,8 @@ use Rattle.host_port.specs.Host.{IfTold}
 use Rattle.host_port.specs.Load.{Loads}
 use Rattle.gmon_files.specs.declared.file_reader.FileReader.{FileReader}
 use Rattle.gmon_files.specs.declared.file_reader.FileReader.TheVariants as reader
-use Rattle.gmon_data.specs.Content.{Content, WideRec}
-use Rattle.gmon_data.specs.FileRecords.{spelled_in, HasRoomForSome}
+use Rattle.gmon_data.specs.Content.{WideRec}
+use Rattle.gmon_data.specs.FileRecords.{spelled_in, FitsForSome}
 use Rattle.gmon_files.specs.Forms.{form_of, file_records, file_refusal}
 
 -- what a file spells, as records of a profile
@@ -37,9 +37,9 @@ StandsFor bytes (reader.Front front) = (front ≡ bytes) × (length bytes < 4)
 StandsFor bytes (reader.Bsd r) = bsd.StandsFor bytes r × (form_of bytes ≡ Bsd) × (4 ≤ length bytes)
 StandsFor bytes (reader.Gnu r) = gnu.StandsFor bytes r × (form_of bytes ≡ Gnu) × (4 ≤ length bytes)
 
--- The reader stands for bytes that are refused, or spell records with which the profile stays within its limits.
-abbrev pub HasRoomFor : Content → FileReader → Type 0
-HasRoomFor profile r = HasRoomForSome (λ bytes. StandsFor bytes r) file_refusal spelled_records profile
+-- The reader stands for bytes that are refused, or spell records whose profile stays within its limits.
+abbrev pub FitsProfile : FileReader → Type 0
+FitsProfile r = FitsForSome (λ bytes. StandsFor bytes r) file_refusal spelled_records
 
 -- the named file was read to its end, and these are its bytes, as far as it is told
 pub record IsContent (name : List ℕ) (limit : ℕ) (old new : Outside) (bytes : List ℕ) : Type 0 where

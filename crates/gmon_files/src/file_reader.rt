@@ -2,10 +2,10 @@
 
 ghost use Rattle.std.specs.Prelude.{◌≡◌, ℕ, List, [], ◌+◌, ◌^◌, ◌<◌, ◌≤◌, ◌++◌, false, length, None, Err, IfErr, IfOk, IfSome, OnOk};
 ghost use Rattle.gp_base.specs.Refusal.{IsRefusal};
-ghost use Rattle.gmon_data.specs.Content.{conflict_of, with_records};
-ghost use Rattle.gmon_data.specs.Refusals.{IsLeft, IsReadRefusal};
+ghost use Rattle.gmon_data.specs.Content.{conflict_of, content_of, empty_content};
+ghost use Rattle.gmon_data.specs.Refusals.{IsReadRefusal};
 ghost use Rattle.gmon_files.specs.Forms.{file_records, file_refusal, FileSpells};
-ghost use Rattle.gmon_files.specs.FileRead.{spelled_records, HasRoomFor, StandsFor, len_of, IsFed, IsReadFrom};
+ghost use Rattle.gmon_files.specs.FileRead.{spelled_records, FitsProfile, StandsFor, len_of, IsFed, IsReadFrom};
 
 use crate::forms::{GNU, form_of};
 use gmon_cells::Remnant;
@@ -90,31 +90,27 @@ impl FileReader {
         }
     }
 
-    /// Adds the records that the bytes spell to a profile, without a list of them: it answers the file's
-    /// first refusal, before memory is taken, or else what adding the records answers. After a refusal of
-    /// the file the profile is unchanged.
-    pub fn add_to(self, profile: &mut Profile) -> Result<(), ReadRefusal>
+    /// The profile of the records that the bytes spell, without a list of them. It answers the file's first refusal,
+    /// before memory is taken, or else the first refusal of `Profile::add_records` in the order of the file.
+    pub fn into_profile(self) -> Result<Profile, ReadRefusal>
         requires fed { IsFed self }
-        requires room { HasRoomFor profile.old self }
+        requires fits { FitsProfile self }
         ensures accepted { (bytes : List ℕ) → StandsFor bytes self
             → OnOk result (file_refusal bytes ≡ None) }
         ensures like { (bytes : List ℕ) → StandsFor bytes self
-            → OnOk result (conflict_of profile.old (spelled_records bytes) ≡ None) }
-        ensures added { (bytes : List ℕ) → StandsFor bytes self
-            → OnOk result (profile.new ≡ with_records (spelled_records bytes) profile.old) }
+            → OnOk result (conflict_of empty_content (spelled_records bytes) ≡ None) }
+        ensures content { (bytes : List ℕ) → StandsFor bytes self
+            → IfOk result (λ profile. profile ≡ content_of (spelled_records bytes)) }
         ensures refusal { (bytes : List ℕ) → StandsFor bytes self
             → IfErr result (λ refusal. IsReadRefusal refusal (file_refusal bytes)
-            (conflict_of profile.old (spelled_records bytes))) }
-        ensures left { (bytes : List ℕ) → StandsFor bytes self
-            → IfErr result
-            (λ refusal. IsLeft refusal (spelled_records bytes) profile.old profile.new) }
+            (conflict_of empty_content (spelled_records bytes))) }
     {
         match self {
             FileReader::Front(front) => Err(ReadRefusal::File(GmonRefusal::Short {
                 at: front.len() as u32,
             })),
-            FileReader::Bsd(reader) => reader.add_to(profile),
-            FileReader::Gnu(reader) => reader.add_to(profile),
+            FileReader::Bsd(reader) => reader.into_profile(),
+            FileReader::Gnu(reader) => reader.into_profile(),
         }
     }
 }

@@ -21,3 +21,4 @@ pub mod ProfileSpelling
 pub mod ProfileReadBack
 pub mod SizeLemmas
 pub mod AddingLemmas
+pub mod MakingLemmas

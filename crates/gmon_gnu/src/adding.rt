@@ -30,7 +30,7 @@ impl State {
     }
 
     /// Takes room for all arcs and block counts, where there is some.
-    fn make_room(&self, profile: &mut Profile)
+    pub(crate) fn make_room(&self, profile: &mut Profile)
         ensures { profile.new ≡ profile.old }
     {
         let _ = profile.make_room_for_arcs(self.arcs.as_slice());
@@ -85,7 +85,7 @@ fn add_entry(
 }
 
 /// Adds the record that counters or pairs belong to.
-fn add_body(
+pub(crate) fn add_body(
     profile: &mut Profile,
     body: Body,
     counters: &[u16],

@@ -10,6 +10,7 @@ pub mod block_writing;
 pub(crate) mod building;
 pub mod checking;
 pub mod laws;
+mod profile_making;
 pub mod profile_writing;
 pub mod reader;
 pub mod reading;

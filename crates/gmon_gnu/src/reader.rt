@@ -2,9 +2,9 @@
 
 ghost use Rattle.std.specs.Prelude.{◌≡◌, ℕ, List, [], ◌+◌, ◌^◌, ◌<◌, ◌++◌, length, None, Err, IfOk, OnOk, OnErr, IfErr, IfSome};
 ghost use Rattle.gp_base.specs.Refusal.{IsRefusal};
-ghost use Rattle.gmon_data.specs.Content.{conflict_of, with_records};
-ghost use Rattle.gmon_data.specs.Refusals.{IsLeft, IsReadRefusal};
-ghost use Rattle.gmon_gnu.specs.Adding.{spelled_records, HasRoomFor};
+ghost use Rattle.gmon_data.specs.Content.{conflict_of, content_of, empty_content};
+ghost use Rattle.gmon_data.specs.Refusals.{IsReadRefusal};
+ghost use Rattle.gmon_gnu.specs.Adding.{spelled_records, FitsProfile};
 ghost use Rattle.gmon_gnu.specs.Grammar.{GnuSpells};
 ghost use Rattle.gmon_gnu.specs.Reading.{gnu_refusal, gnu_records};
 ghost use Rattle.gmon_gnu.specs.Fed.{StandsFor};
@@ -92,33 +92,24 @@ impl Reader {
         }
     }
 
-    /// Adds the records that the bytes spell to a profile, as `finish` and `Profile::add_records` do, without
-    /// a list of them: it answers the file's first refusal, before memory is taken, or else what adding the
-    /// records answers. After a refusal of the file the profile is unchanged.
-    pub fn add_to(self, profile: &mut Profile) -> Result<(), ReadRefusal>
-        requires { HasRoomFor profile.old self }
+    /// The profile of the records that the bytes spell, without a list of them. It answers the file's first refusal,
+    /// before memory is taken, or else the first refusal of `Profile::add_records` in the order of the file.
+    pub fn into_profile(self) -> Result<Profile, ReadRefusal>
+        requires { FitsProfile self }
         ensures accepted { (bytes : List ℕ) → StandsFor bytes self
             → OnOk result (gnu_refusal bytes ≡ None) }
         ensures like { (bytes : List ℕ) → StandsFor bytes self
-            → OnOk result (conflict_of profile.old (spelled_records bytes) ≡ None) }
-        ensures added { (bytes : List ℕ) → StandsFor bytes self
-            → OnOk result (profile.new ≡ with_records (spelled_records bytes) profile.old) }
+            → OnOk result (conflict_of empty_content (spelled_records bytes) ≡ None) }
+        ensures content { (bytes : List ℕ) → StandsFor bytes self
+            → IfOk result (λ profile. profile ≡ content_of (spelled_records bytes)) }
         ensures refusal { (bytes : List ℕ) → StandsFor bytes self
             → IfErr result (λ refusal. IsReadRefusal refusal (gnu_refusal bytes)
-            (conflict_of profile.old (spelled_records bytes))) }
-        ensures left { (bytes : List ℕ) → StandsFor bytes self
-            → IfErr result
-            (λ refusal. IsLeft refusal (spelled_records bytes) profile.old profile.new) }
+            (conflict_of empty_content (spelled_records bytes))) }
     {
-        let Reader {
-            alloc: _,
-            len,
-            state,
-        } = self;
+        let Reader { alloc, len, state } = self;
         if let Some(refusal) = state.end_fault(len) {
             return Err(ReadRefusal::File(refusal));
         }
-        state.add_to(profile)?;
-        Ok(())
+        Ok(state.into_profile(alloc)?)
     }
 }

@@ -1,8 +1,7 @@
-//! The file of a run in both forms: written, read back, and added to a profile.
+//! The file of a run in both forms: written, read back, and made a profile of.
 
 ghost use Rattle.std.specs.Prelude.{◌≡◌, false};
 ghost use Rattle.host_port.specs.Memory.{outside_of};
-ghost use Rattle.gmon_data.specs.Content.{empty_content};
 
 use crate::{BSD_RUN, GNU_RUN, are_of_small_run, small_run};
 use gmon_data::{AddRefusal, Profile, ReadRefusal};
@@ -111,39 +110,33 @@ fn a_failed_call_leaves_a_part_that_is_not_the_whole(rt: HostRuntime) -> Result<
     Ok(())
 }
 
-/// Adds the 4.4BSD file to an empty profile while it is read.
-fn add_bsd(alloc: Global, profile: &mut Profile) -> Result<(), ReadRefusal>
-    requires { profile.old ≡ empty_content }
-{
+/// The profile of the 4.4BSD file.
+fn profile_of_bsd(alloc: Global) -> Result<Profile, ReadRefusal> {
     let mut reader = gmon_bsd::Reader::new(alloc);
     match reader.feed(&BSD_RUN) {
-        Ok(()) => reader.add_to(profile),
+        Ok(()) => reader.into_profile(),
         Err(_) => Err(ReadRefusal::Profile(AddRefusal::OutOfMemory)),
     }
 }
 
-/// Adds the GNU file to an empty profile while it is read.
-fn add_gnu(alloc: Global, profile: &mut Profile) -> Result<(), ReadRefusal>
-    requires { profile.old ≡ empty_content }
-{
+/// The profile of the GNU file.
+fn profile_of_gnu(alloc: Global) -> Result<Profile, ReadRefusal> {
     let mut reader = gmon_gnu::Reader::new(alloc);
     match reader.feed(&GNU_RUN) {
-        Ok(()) => reader.add_to(profile),
+        Ok(()) => reader.into_profile(),
         Err(_) => Err(ReadRefusal::Profile(AddRefusal::OutOfMemory)),
     }
 }
 
-fn expect_added(rt: &impl Abort, answer: Result<(), ReadRefusal>, profile: &Profile) {
-    assert_eq!(rt; answer, Ok(()));
+fn expect_of_run(rt: &impl Abort, profile: &Profile) {
     assert_eq!(rt; (profile.samples(), profile.calls()), (304, 4));
 }
 
 #[test]
-fn what_was_fed_is_added(rt: HostRuntime) {
-    let mut bsd = Profile::new(rt.alloc());
-    let answer = add_bsd(rt.alloc(), &mut bsd);
-    expect_added(&rt, answer, &bsd);
-    let mut gnu = Profile::new(rt.alloc());
-    let answer = add_gnu(rt.alloc(), &mut gnu);
-    expect_added(&rt, answer, &gnu);
+fn what_was_fed_is_a_profile(rt: HostRuntime) -> Result<(), ReadRefusal> {
+    let bsd = profile_of_bsd(rt.alloc())?;
+    expect_of_run(&rt, &bsd);
+    let gnu = profile_of_gnu(rt.alloc())?;
+    expect_of_run(&rt, &gnu);
+    Ok(())
 }

@@ -1,7 +1,6 @@
 //! Profile files of both forms that come in pieces.
 
-ghost use Rattle.std.specs.Prelude.{◌≡◌, ◌<◌, ◌≤◌, length, IfOk};
-ghost use Rattle.gmon_data.specs.Content.{empty_content};
+ghost use Rattle.std.specs.Prelude.{◌<◌, ◌≤◌, length, IfOk};
 ghost use Rattle.gmon_files.specs.FileRead.{IsFed, StandsFor};
 ghost use Rattle.gmon_files.specs.Forms.{FileSpells};
 
@@ -9,7 +8,7 @@ use crate::{
     BSD_RUN, GNU_RUN, HEADER_ALONE, LARGE_NUMBERS, SEVERAL, TWO_OF_EACH, large_bsd_file,
     large_gnu_file,
 };
-use gmon_data::{AddRefusal, Profile, ReadRefusal, Unlike};
+use gmon_data::{AddRefusal, HistRange, Profile, ReadRefusal, Unlike};
 use gmon_files::FileReader;
 use gp_base::{Form, GmonRefusal, Rec, Records};
 use std::alloc::{AllocError, Global};
@@ -27,6 +26,51 @@ const UNLIKE: [u8; 128] = *b"gmon\x01\0\0\0\x01\x02\x03\x04\x05\x06\x07\x08\x09\
     seconds\0\0\0\0\0\0\0\0s\
     \x01\0\x02\0\0\0\0\0\
     \x01\x04\0\x01\0\x08\0\x01\0\x09\0\0\0";
+
+/// A GNU file of a histogram from 0x10010 with 5 samples, an arc of 7 calls, a histogram from 0x10000 with 3, one from
+/// 0x10010 with 7 more, and an arc of 9 calls.
+const OUT_OF_ORDER: [u8; 151] = *b"gmon\x01\0\0\0\x01\x02\x03\x04\x05\x06\x07\x08\x09\x0A\x0B\x0C\
+    \0\x10\0\x01\0\x20\0\x01\0\x01\0\0\0d\0\0\0\
+    seconds\0\0\0\0\0\0\0\0s\
+    \x05\0\
+    \x01\x04\0\x01\0\x08\0\x01\0\x07\0\0\0\
+    \0\0\0\x01\0\x10\0\x01\0\x01\0\0\0d\0\0\0\
+    seconds\0\0\0\0\0\0\0\0s\
+    \x03\0\
+    \0\x10\0\x01\0\x20\0\x01\0\x01\0\0\0d\0\0\0\
+    seconds\0\0\0\0\0\0\0\0s\
+    \x07\0\
+    \x01\0\0\x01\0\x08\0\x01\0\x09\0\0\0";
+
+/// The same records, the histograms before the arcs and in ascending order.
+const IN_ORDER: [u8; 151] = *b"gmon\x01\0\0\0\x01\x02\x03\x04\x05\x06\x07\x08\x09\x0A\x0B\x0C\
+    \0\0\0\x01\0\x10\0\x01\0\x01\0\0\0d\0\0\0\
+    seconds\0\0\0\0\0\0\0\0s\
+    \x03\0\
+    \0\x10\0\x01\0\x20\0\x01\0\x01\0\0\0d\0\0\0\
+    seconds\0\0\0\0\0\0\0\0s\
+    \x05\0\
+    \0\x10\0\x01\0\x20\0\x01\0\x01\0\0\0d\0\0\0\
+    seconds\0\0\0\0\0\0\0\0s\
+    \x07\0\
+    \x01\x04\0\x01\0\x08\0\x01\0\x07\0\0\0\
+    \x01\0\0\x01\0\x08\0\x01\0\x09\0\0\0";
+
+/// A GNU file of histograms from 0x10020, from 0x10000, from 0x10024, which overlaps the first one, and from 0x10008,
+/// which overlaps the second one.
+const TWO_CONFLICTS: [u8; 160] = *b"gmon\x01\0\0\0\x01\x02\x03\x04\x05\x06\x07\x08\x09\x0A\x0B\x0C\
+    \0\x20\0\x01\0\x30\0\x01\0\x01\0\0\0d\0\0\0\
+    seconds\0\0\0\0\0\0\0\0s\
+    \x01\0\
+    \0\0\0\x01\0\x10\0\x01\0\x01\0\0\0d\0\0\0\
+    seconds\0\0\0\0\0\0\0\0s\
+    \x02\0\
+    \0\x24\0\x01\0\x34\0\x01\0\x01\0\0\0d\0\0\0\
+    seconds\0\0\0\0\0\0\0\0s\
+    \x03\0\
+    \0\x08\0\x01\0\x18\0\x01\0\x01\0\0\0d\0\0\0\
+    seconds\0\0\0\0\0\0\0\0s\
+    \x04\0";
 
 /// A reader that was fed the bytes in pieces of at most `size`.
 fn fed(alloc: Global, bytes: &[u8], size: usize) -> Result<FileReader, AllocError>
@@ -74,37 +118,26 @@ fn whole(alloc: Global, form: Form, bytes: &[u8]) -> Result<Records, GmonRefusal
     }
 }
 
-/// Adds what a reader was fed to an empty profile.
-fn add_fed(
-    alloc: Global,
-    bytes: &[u8],
-    size: usize,
-    profile: &mut Profile,
-) -> Result<(), ReadRefusal>
+/// The profile of what a reader was fed.
+fn profile_of(alloc: Global, bytes: &[u8], size: usize) -> Result<Profile, ReadRefusal>
     requires some { 0 < size }
     requires small { length bytes.now ≤ 100000 }
-    requires empty { profile.old ≡ empty_content }
 {
     match fed(alloc, bytes, size) {
-        Ok(reader) => reader.add_to(profile),
+        Ok(reader) => reader.into_profile(),
         Err(_) => Err(ReadRefusal::Profile(AddRefusal::OutOfMemory)),
     }
 }
 
-/// Adds the records that a reader lists to an empty profile.
-fn add_listed(
-    alloc: Global,
-    bytes: &[u8],
-    size: usize,
-    profile: &mut Profile,
-) -> Result<(), ReadRefusal>
+/// The profile of the records that a reader lists.
+fn profile_of_listed(alloc: Global, bytes: &[u8], size: usize) -> Result<Profile, ReadRefusal>
     requires some { 0 < size }
     requires small { length bytes.now ≤ 100000 }
-    requires empty { profile.old ≡ empty_content }
 {
     let records = in_pieces(alloc, bytes, size)?;
+    let mut profile = Profile::new(alloc);
     profile.add_records(&records)?;
-    Ok(())
+    Ok(profile)
 }
 
 /// Whether two lists of records are the same.
@@ -202,49 +235,53 @@ fn expect_cut(
     expect_answers(rt, &answer, &whole, due);
 }
 
-/// What adding a file to an empty profile answers, and how many samples, calls and executions are held then.
+/// How many samples, calls and executions the profile of a file has, or why there is none.
 #[derive(Clone, Copy)]
 struct Due {
     name: &'static str,
-    answer: Result<(), ReadRefusal>,
-    numbers: [u64; 3],
+    answer: Result<[u64; 3], ReadRefusal>,
 }
 
-/// How many samples, calls and executions a profile holds.
-fn numbers_of(profile: &Profile) -> [u64; 3] {
-    [profile.samples(), profile.calls(), profile.blocks()]
+/// How many samples, calls and executions a profile has, or why there is none.
+fn numbers_of(answer: &Result<Profile, ReadRefusal>) -> Result<[u64; 3], ReadRefusal> {
+    match answer {
+        Ok(profile) => Ok([profile.samples(), profile.calls(), profile.blocks()]),
+        Err(refusal) => Err(*refusal),
+    }
 }
 
-/// Adds what a reader was fed to an empty profile, beside a list of its records to another one. Both answer what
-/// is due, and give the same profile.
-fn expect_added(rt: &impl Abort, alloc: Global, bytes: &[u8], size: usize, due: Due)
+/// Whether two profiles, or refusals, are the same.
+fn are_same_made(a: &Result<Profile, ReadRefusal>, b: &Result<Profile, ReadRefusal>) -> bool {
+    match (a, b) {
+        (Ok(a), Ok(b)) => are_same(a, b),
+        (Err(a), Err(b)) => *a == *b,
+        _ => false,
+    }
+}
+
+/// Makes the profile of what a reader was fed, beside that of a list of its records. Both are due, and the same.
+fn expect_made(rt: &impl Abort, alloc: Global, bytes: &[u8], size: usize, due: Due)
     requires some { 0 < size }
     requires small { length bytes.now ≤ 100000 }
 {
-    let mut added = Profile::new(alloc);
-    let mut listed = Profile::new(alloc);
-    let answer = add_fed(alloc, bytes, size, &mut added);
-    let other = add_listed(alloc, bytes, size, &mut listed);
-    let same = are_same(&added, &listed);
-    expect_due(rt, due, answer, other, same, numbers_of(&added));
+    let made = profile_of(alloc, bytes, size);
+    let listed = profile_of_listed(alloc, bytes, size);
+    expect_due(rt, due, &made, &listed);
 }
 
 fn expect_due(
     rt: &impl Abort,
     due: Due,
-    answer: Result<(), ReadRefusal>,
-    listed: Result<(), ReadRefusal>,
-    same: bool,
-    numbers: [u64; 3],
+    made: &Result<Profile, ReadRefusal>,
+    listed: &Result<Profile, ReadRefusal>,
 ) {
     let name = due.name;
-    assert_eq!(rt; answer, due.answer, "{name}");
-    assert_eq!(rt; listed, due.answer, "{name}, listed");
-    assert!(rt; same, "{name}");
-    assert_eq!(rt; numbers, due.numbers, "{name}");
+    assert_eq!(rt; numbers_of(made), due.answer, "{name}");
+    assert_eq!(rt; numbers_of(listed), due.answer, "{name}, listed");
+    assert!(rt; are_same_made(made, listed), "{name}");
 }
 
-/// A file is refused, as a whole, byte by byte and while it is added.
+/// A file is refused, as a whole, byte by byte and in place of a profile.
 fn expect_refused(
     rt: &impl Abort,
     alloc: Global,
@@ -258,10 +295,9 @@ fn expect_refused(
     let due = Due {
         name,
         answer: Err(ReadRefusal::File(refusal)),
-        numbers: [0, 0, 0],
     };
-    expect_added(rt, alloc, bytes, 1, due);
-    expect_added(rt, alloc, bytes, 1_000, due);
+    expect_made(rt, alloc, bytes, 1, due);
+    expect_made(rt, alloc, bytes, 1_000, due);
 }
 
 /// A 4.4BSD file of `len` bytes that has zeros behind these first 20.
@@ -542,96 +578,87 @@ fn a_file_of_100_000_bytes_is_read_in_pieces(rt: HostRuntime) -> Result<(), Fail
     Ok(())
 }
 
-/// The first bytes of a file, and what is due when they are added.
-struct Added {
+/// The first bytes of a file, and what is due of their profile.
+struct Made {
     file: &'static [u8],
     len: usize,
     due: Due,
 }
 
-const ADDED: [Added; 10] = [
-    Added {
+const MADE: [Made; 12] = [
+    Made {
         file: &HEADER_ALONE,
         len: 32,
         due: Due {
             name: "no counter and no arc",
-            answer: Ok(()),
-            numbers: [0, 0, 0],
+            answer: Ok([0, 0, 0]),
         },
     },
-    Added {
+    Made {
         file: &TWO_OF_EACH,
         len: 60,
         due: Due {
             name: "two of each",
-            answer: Ok(()),
-            numbers: [259, 16, 0],
+            answer: Ok([259, 16, 0]),
         },
     },
-    Added {
+    Made {
         file: &TWO_OF_EACH,
         len: 48,
         due: Due {
             name: "counters and an arc",
-            answer: Ok(()),
-            numbers: [259, 7, 0],
+            answer: Ok([259, 7, 0]),
         },
     },
-    Added {
+    Made {
         file: &BSD_RUN,
         len: 76,
         due: Due {
             name: "a small run",
-            answer: Ok(()),
-            numbers: [304, 4, 0],
+            answer: Ok([304, 4, 0]),
         },
     },
-    Added {
+    Made {
         file: &SEVERAL,
         len: 20,
         due: Due {
             name: "a header",
-            answer: Ok(()),
-            numbers: [0, 0, 0],
+            answer: Ok([0, 0, 0]),
         },
     },
-    Added {
+    Made {
         file: &SEVERAL,
         len: 128,
         due: Due {
             name: "two histograms",
-            answer: Ok(()),
-            numbers: [6, 0, 9],
+            answer: Ok([6, 0, 9]),
         },
     },
-    Added {
+    Made {
         file: &GNU_RUN,
         len: 100,
         due: Due {
             name: "arcs behind a histogram",
-            answer: Ok(()),
-            numbers: [304, 4, 0],
+            answer: Ok([304, 4, 0]),
         },
     },
-    Added {
+    Made {
         file: &LARGE_NUMBERS,
         len: 275,
         due: Due {
             name: "large numbers",
-            answer: Ok(()),
-            numbers: [265_535, 0x2_0000_0000, 0x2_0000_0005],
+            answer: Ok([265_535, 0x2_0000_0000, 0x2_0000_0005]),
         },
     },
-    Added {
+    Made {
         file: &UNLIKE,
         len: 74,
         due: Due {
             name: "no record behind an arc",
-            answer: Ok(()),
-            numbers: [3, 7, 0],
+            answer: Ok([3, 7, 0]),
         },
     },
-    Added {
+    Made {
         file: &UNLIKE,
         len: 128,
         due: Due {
@@ -640,24 +667,81 @@ const ADDED: [Added; 10] = [
                 old: 100,
                 new: 50,
             }))),
-            numbers: [3, 7, 0],
+        },
+    },
+    Made {
+        file: &OUT_OF_ORDER,
+        len: 151,
+        due: Due {
+            name: "histograms out of order",
+            answer: Ok([15, 16, 0]),
+        },
+    },
+    Made {
+        file: &TWO_CONFLICTS,
+        len: 160,
+        due: Due {
+            name: "the first conflict of the file is not the lowest",
+            answer: Err(ReadRefusal::Profile(AddRefusal::Unlike(Unlike::Range {
+                old: HistRange {
+                    low: 0x1_0020,
+                    high: 0x1_0030,
+                    count: 1,
+                },
+                new: HistRange {
+                    low: 0x1_0024,
+                    high: 0x1_0034,
+                    count: 1,
+                },
+            }))),
         },
     },
 ];
 
-fn expect_added_in_pieces(rt: &impl Abort, alloc: Global, row: &Added) {
+fn expect_made_in_pieces(rt: &impl Abort, alloc: Global, row: &Made) {
     assert!(rt; row.len <= row.file.len(), "{}", row.due.name);
     assert!(rt; row.file.len() <= 1_000, "{}", row.due.name);
     let bytes = row.file.split_at(row.len).0;
     for size in [1usize, 7, 100, 1_000] {
-        expect_added(rt, alloc, bytes, size, row.due);
+        expect_made(rt, alloc, bytes, size, row.due);
     }
 }
 
 #[test]
-fn what_was_fed_is_added(rt: HostRuntime) -> Result<(), Fail> {
-    for row in &ADDED {
-        expect_added_in_pieces(&rt, rt.alloc(), row);
+fn what_was_fed_is_a_profile(rt: HostRuntime) -> Result<(), Fail> {
+    for row in &MADE {
+        expect_made_in_pieces(&rt, rt.alloc(), row);
     }
+    Ok(())
+}
+
+/// The low address, the high one and the counters of a histogram.
+fn hist_of(profile: &Profile, i: usize) -> Option<(u32, u32, &[u64])> {
+    if i >= profile.hist_count() {
+        return None;
+    }
+    let hist = profile.hist(i);
+    Some((hist.low, hist.high, hist.counters.as_slice()))
+}
+
+fn expect_in_order(rt: &impl Abort, profile: &Profile) {
+    assert_eq!(rt; profile.hist_count(), 2);
+    assert_eq!(rt;
+        hist_of(profile, 0),
+        Some((0x1_0000, 0x1_0010, &[3u64][..]))
+    );
+    assert_eq!(rt;
+        hist_of(profile, 1),
+        Some((0x1_0010, 0x1_0020, &[12u64][..]))
+    );
+}
+
+#[test]
+fn histograms_out_of_order_are_the_same_profile(rt: HostRuntime) -> Result<(), ReadRefusal> {
+    let out_of_order = profile_of(rt.alloc(), &OUT_OF_ORDER, 1_000)?;
+    expect_in_order(&rt, &out_of_order);
+    let in_order = profile_of(rt.alloc(), &IN_ORDER, 1_000)?;
+    expect_in_order(&rt, &in_order);
+    assert!(rt; are_same(&out_of_order, &in_order));
     Ok(())
 }

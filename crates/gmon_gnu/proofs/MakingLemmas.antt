@@ -1,0 +1,258 @@
+-- The profile of what was read is the same where its histograms come first, in another order.
+use Rattle.std.proofs.Common.{◌≡◌, ℕ, zero, suc, ◌+◌, ◌-◌, ◌<◌, ◌≤◌, List, [], ◌∷◌, ◌++◌, length, map, take, drop, get_or, slice_get, filter_map, Option, Some, None, if◌then◌else◌, refl, sym, ap, subst, ◌∙◌, arith}
+use Rattle.std.specs.Prelude.{⊤}
+use Rattle.std.specs.List.{AllByRecursion, flat_map, filter}
+use Rattle.std.specs.List.Sorted.{IsPermutation}
+use Rattle.std.proofs.lemmas.Grind.{flat_map-append}
+use Rattle.std.proofs.lemmas.List.{append-nil, map-append}
+use Rattle.std.proofs.lemmas.List.Concat.{flat_map-cons}
+use Rattle.std.proofs.lemmas.List.Elements.{filter-append, filter_map-append, All-from_recursion, recursion_from_All}
+use Rattle.std.proofs.lemmas.List.Sorted.{All-permutation, IsPermutation-map}
+use Rattle.gp_base.specs.declared.records.RawArc.{RawArc}
+use Rattle.gp_base.specs.declared.records.RawBlock.{RawBlock}
+use Rattle.gp_base.specs.declared.records.Rec.{Rec}
+use Rattle.gp_base.specs.declared.records.Rec.TheVariants as raw
+use Rattle.gp_base.specs.declared.records.Unit as units
+use Rattle.gp_base.specs.Spans.{HasRange}
+use Rattle.gmon_data.specs.declared.hist.Hist.{Hist}
+use Rattle.gmon_data.specs.Content.{Content, WideRec, IsAdded, IsWithin as IsWithinLimits, HasSpan, empty_content, hist_over, wide_arc, wide_block, wide_record, wide_records, with_records}
+use Rattle.gmon_data.specs.Order.{hist_pair, hist_record, hists_in, is_other, others_in}
+use Rattle.std.proofs.lemmas.Option.{slice_get-get_or}
+use Rattle.gmon_data.proofs.RecordLemmas.{IsUnderway, at_end, cut_at, past_end}
+use Rattle.gmon_data.proofs.OrderLemmas.{reordered, reordered_within}
+use Rattle.gmon_gnu.specs.declared.profile_making.Placed.{Placed}
+use Rattle.gmon_gnu.specs.declared.state.Body.{Body}
+use Rattle.gmon_gnu.specs.declared.state.Body.TheVariants as body
+use Rattle.gmon_gnu.specs.declared.state.Entry.{Entry}
+use Rattle.gmon_gnu.specs.Held.{entry_recs, entries_recs, rec_of, recs_in}
+use Rattle.gmon_gnu.specs.Making.{IsOrderOf, block_recs, body_recs, hists_among, is_hist, other_recs, place_of, placed_entries, placed_recs}
+use Rattle.gmon_gnu.proofs.AddingLemmas.{all_widened, entry_widened}
+
+-- ---- the list of histograms
+
+-- one entry more
+pub next_hist : (entries : List Entry) (order : List Placed) (i : ℕ) (e : Entry) → slice_get entries i ≡ Some e → take (i + 1) entries ≡ take i entries ++ e ∷ []
+    → placed_entries entries order ≡ map Some (hists_among (take i entries)) → placed_entries entries (order ++ place_of e.body i) ≡ map Some (hists_among (take (i + 1) entries))
+next_hist entries order i e at more before =
+    let some : Entry → Option Entry = λ x. Some x in
+    map-append (λ (p : Placed). slice_get entries p.entry) order (place_of e.body i)
+    ∙ (λ k. before k ++ last e.body k)
+    ∙ sym (map-append some (hists_among (take i entries)) (hists_among (e ∷ [])))
+    ∙ ap (map some) (sym (filter-append (λ x. is_hist x.body) (take i entries) (e ∷ [])))
+    ∙ ap (λ (l : List Entry). map some (hists_among l)) (sym more)
+  where
+    last : (b : Body) → placed_entries entries (place_of b i) ≡ map Some (if is_hist b then e ∷ [] else [])
+    last (body.Hist f s t) = ap (λ (o : Option Entry). o ∷ []) at
+    last (body.Blocks s t) = refl
+
+-- the places of an entry are within a number above its own
+pub places_below : (b : Body) (i n : ℕ) → i < n → AllByRecursion (λ p. p.entry < n) (place_of b i)
+places_below (body.Hist f s t) i n lt = (lt, tt)
+places_below (body.Blocks s t) i n lt = tt
+
+pub all_joined : {X : Type 0} (P : X → Type 0) (xs ys : List X) → AllByRecursion P xs → AllByRecursion P ys → AllByRecursion P (xs ++ ys)
+all_joined P [] ys all more = more
+all_joined P (x ∷ xs) ys all more = (all.0, all_joined P xs ys all.1 more)
+
+pub all_reordered : {X : Type 0} (P : X → Type 0) (xs ys : List X) → IsPermutation xs ys → AllByRecursion P xs → AllByRecursion P ys
+all_reordered P xs ys same all = recursion_from_All P ys (All-permutation P xs ys same (All-from_recursion P xs all))
+
+pub order_of : (entries : List Entry) (xs ys : List Placed) → IsPermutation xs ys → placed_entries entries xs ≡ map Some (hists_among entries) → IsOrderOf entries ys
+order_of entries xs ys same is =
+    subst (λ (l : List (Option Entry)). IsPermutation l (placed_entries entries ys)) is (IsPermutation-map (λ (p : Placed). slice_get entries p.entry) xs ys same)
+
+-- ---- loops over entries
+
+pub at_place : (order : List Placed) (n i : ℕ) (d : Placed) → i < length order → AllByRecursion (λ p. p.entry < n) order → (get_or order i d).entry < n
+at_place [] n i d lt all = absurd (omega (arith, lt))
+at_place (p ∷ order) n zero d lt all = all.0
+at_place (p ∷ order) n (suc i) d lt all = at_place order n i d (omega (arith, lt)) all.1
+
+pub next_of_all : (f : Entry → List WideRec) (all : List WideRec) (entries : List Entry) (i : ℕ) (e d : Entry) (old now : Content) → i < length entries → e ≡ get_or entries i d
+    → IsUnderway all (flat_map f (drop i entries)) old now → IsUnderway all (f e ++ flat_map f (drop (i + 1) entries)) old now
+next_of_all f all entries i e d old now lt is w =
+    let next = cut_at entries i e (slice_get-get_or entries i d lt ∙ ap (λ (x : Entry). Some x) (sym is)) in
+    subst (λ (l : List WideRec). IsUnderway all l old now) (ap (flat_map f) next ∙ flat_map-cons f e (drop (i + 1) entries)) w
+
+pub end_of_all : (f : Entry → List WideRec) (entries : List Entry) (i : ℕ) (old now : Content) → length entries ≤ i
+    → IsUnderway (flat_map f entries) (flat_map f (drop i entries)) old now → IsAdded (flat_map f entries) old now
+end_of_all f entries i old now le w =
+    at_end (flat_map f entries) old now (subst (λ (l : List WideRec). IsUnderway (flat_map f entries) l old now) (ap (flat_map f) (past_end entries i le)) w)
+
+module _ (counters : List ℕ) (pairs : List RawBlock) where
+  pub next_of_placed : (all : List WideRec) (entries : List Entry) (order : List Placed) (i : ℕ) (p d : Placed) (e none : Entry) (old now : Content) → i < length order → p ≡ get_or order i d
+      → p.entry < length entries → e ≡ get_or entries p.entry none
+      → IsUnderway all (placed_recs counters pairs entries (drop i order)) old now → IsUnderway all (wide_record (rec_of counters pairs e.body) ++ placed_recs counters pairs entries (drop (i + 1) order)) old now
+  next_of_placed all entries order i p d e none old now lt is inside at w =
+      let next = cut_at order i p (slice_get-get_or order i d lt ∙ ap (λ (x : Placed). Some x) (sym is)) in
+      let here : slice_get entries p.entry ≡ Some e = slice_get-get_or entries p.entry none inside ∙ ap (λ (x : Entry). Some x) (sym at) in
+      let behind = placed_entries entries (drop (i + 1) order) in
+      subst (λ (l : List WideRec). IsUnderway all l old now)
+      (ap (placed_recs counters pairs entries) next
+      ∙ flat_map-cons (body_recs counters pairs) (slice_get entries p.entry) behind
+      ∙ ap (λ (o : Option Entry). body_recs counters pairs o ++ flat_map (body_recs counters pairs) behind) here)
+      w
+
+  pub end_of_placed : (entries : List Entry) (order : List Placed) (i : ℕ) (old now : Content) → length order ≤ i
+      → IsUnderway (placed_recs counters pairs entries order) (placed_recs counters pairs entries (drop i order)) old now → IsAdded (placed_recs counters pairs entries order) old now
+  end_of_placed entries order i old now le w =
+      let all = placed_recs counters pairs entries order in
+      at_end all old now (subst (λ (l : List WideRec). IsUnderway all l old now) (ap (placed_recs counters pairs entries) (past_end order i le)) w)
+
+-- ---- histograms and other records among those that were read
+
+abbrev nothing : Hist × units.Unit
+nothing = (hist_over 0 0 [], record { rate = 0; dim = []; «abbrev» = 0 })
+
+abbrev pair_of : List ℕ → Body → Hist × units.Unit
+pair_of counters (body.Hist f start end) = (hist_over f.low f.high (take (end - start) (drop start counters)), f.«unit»)
+pair_of counters (body.Blocks start end) = nothing
+
+abbrev pair_at : List ℕ → Option Entry → Hist × units.Unit
+pair_at counters None = nothing
+pair_at counters (Some e) = pair_of counters e.body
+
+hists_in-arcs : (arcs : List RawArc) → hists_in (map wide_arc arcs) ≡ []
+hists_in-arcs [] = refl
+hists_in-arcs (a ∷ arcs) = hists_in-arcs arcs
+
+hists_in-blocks : (blocks : List RawBlock) → hists_in (map wide_block blocks) ≡ []
+hists_in-blocks [] = refl
+hists_in-blocks (b ∷ blocks) = hists_in-blocks blocks
+
+others_in-arcs : (arcs : List RawArc) → others_in (map wide_arc arcs) ≡ map wide_arc arcs
+others_in-arcs [] = refl
+others_in-arcs (a ∷ arcs) = ap (λ (l : List WideRec). wide_arc a ∷ l) (others_in-arcs arcs)
+
+others_in-blocks : (blocks : List RawBlock) → others_in (map wide_block blocks) ≡ map wide_block blocks
+others_in-blocks [] = refl
+others_in-blocks (b ∷ blocks) = ap (λ (l : List WideRec). wide_block b ∷ l) (others_in-blocks blocks)
+
+spans_of_arcs : (arcs : List RawArc) → AllByRecursion HasSpan (map wide_arc arcs)
+spans_of_arcs [] = tt
+spans_of_arcs (a ∷ arcs) = (tt, spans_of_arcs arcs)
+
+spans_of_blocks : (blocks : List RawBlock) → AllByRecursion HasSpan (map wide_block blocks)
+spans_of_blocks [] = tt
+spans_of_blocks (b ∷ blocks) = (tt, spans_of_blocks blocks)
+
+spans_of_record : (r : Rec) → HasRange r → AllByRecursion HasSpan (wide_record r)
+spans_of_record (raw.Hist h) range = (range, tt)
+spans_of_record (raw.Arc a) range = (tt, tt)
+spans_of_record (raw.Blocks blocks) range = spans_of_blocks blocks
+
+module _ (counters : List ℕ) (pairs : List RawBlock) (arcs : List RawArc) where
+  abbrev own_recs : Entry → List WideRec
+  own_recs e = wide_record (rec_of counters pairs e.body)
+
+  abbrev arcs_before : Entry → List RawArc
+  arcs_before e = take (e.last - e.first) (drop e.first arcs)
+
+  hists_of_entry : (e : Entry) → hists_in (own_recs e) ≡ map (pair_at counters) (map Some (hists_among (e ∷ [])))
+  hists_of_entry e = by e.body refl
+    where
+      by : (b : Body) → e.body ≡ b → hists_in (wide_record (rec_of counters pairs b)) ≡ map (pair_at counters) (map Some (if is_hist b then e ∷ [] else []))
+      by (body.Hist f s t) q = ap (λ (b : Body). pair_of counters b ∷ []) (sym q)
+      by (body.Blocks s t) q = hists_in-blocks (take (t - s) (drop s pairs))
+
+  others_of_entry : (e : Entry) → others_in (own_recs e) ≡ block_recs pairs e.body
+  others_of_entry e = by e.body
+    where
+      by : (b : Body) → others_in (wide_record (rec_of counters pairs b)) ≡ block_recs pairs b
+      by (body.Hist f s t) = refl
+      by (body.Blocks s t) = others_in-blocks (take (t - s) (drop s pairs))
+
+  entries_next : (e : Entry) (entries : List Entry) → entries_recs counters pairs arcs (e ∷ entries) ≡ (map wide_arc (arcs_before e) ++ own_recs e) ++ entries_recs counters pairs arcs entries
+  entries_next e entries =
+      ap wide_records (flat_map-cons (entry_recs counters pairs arcs) e entries)
+      ∙ flat_map-append wide_record (entry_recs counters pairs arcs e) (flat_map (entry_recs counters pairs arcs) entries)
+      ∙ ap (λ (l : List WideRec). l ++ entries_recs counters pairs arcs entries) (entry_widened counters pairs arcs e)
+
+  hists_read : (entries : List Entry) → hists_in (entries_recs counters pairs arcs entries) ≡ map (pair_at counters) (map Some (hists_among entries))
+  hists_read [] = refl
+  hists_read (e ∷ entries) =
+      let before = map wide_arc (arcs_before e) in
+      let rest = entries_recs counters pairs arcs entries in
+      let first = filter_map-append hist_pair before (own_recs e) ∙ (λ k. hists_in-arcs (arcs_before e) k ++ hists_of_entry e k) in
+      ap hists_in (entries_next e entries) ∙ filter_map-append hist_pair (before ++ own_recs e) rest ∙ (λ k. first k ++ hists_read entries k) ∙ by e.body
+    where
+      by : (b : Body) → map (pair_at counters) (map Some (if is_hist b then e ∷ [] else [])) ++ map (pair_at counters) (map Some (hists_among entries)) ≡ map (pair_at counters) (map Some (if is_hist b then e ∷ hists_among entries else hists_among entries))
+      by (body.Hist f s t) = refl
+      by (body.Blocks s t) = refl
+
+  others_read : (entries : List Entry) → others_in (entries_recs counters pairs arcs entries) ≡ flat_map (other_recs pairs arcs) entries
+  others_read [] = refl
+  others_read (e ∷ entries) =
+      let before = map wide_arc (arcs_before e) in
+      let rest = entries_recs counters pairs arcs entries in
+      let first = filter-append is_other before (own_recs e) ∙ (λ k. others_in-arcs (arcs_before e) k ++ others_of_entry e k) in
+      ap others_in (entries_next e entries) ∙ filter-append is_other (before ++ own_recs e) rest ∙ (λ k. first k ++ others_read entries k) ∙ sym (flat_map-cons (other_recs pairs arcs) e entries)
+
+  spans_of_entries : (entries : List Entry) → AllByRecursion (λ e. HasRange (rec_of counters pairs e.body)) entries → AllByRecursion HasSpan (entries_recs counters pairs arcs entries)
+  spans_of_entries [] all = tt
+  spans_of_entries (e ∷ entries) all =
+      let before = map wide_arc (arcs_before e) in
+      let one = all_joined HasSpan before (own_recs e) (spans_of_arcs (arcs_before e)) (spans_of_record (rec_of counters pairs e.body) all.0) in
+      subst (λ (l : List WideRec). AllByRecursion HasSpan l) (sym (entries_next e entries)) (all_joined HasSpan (before ++ own_recs e) (entries_recs counters pairs arcs entries) one (spans_of_entries entries all.1))
+
+  -- ---- what is added in an order of the histograms
+
+  abbrev IsPaired : Option Entry → Type 0
+  IsPaired o = body_recs counters pairs o ≡ hist_record (pair_at counters o) ∷ []
+
+  all_paired : (entries : List Entry) → AllByRecursion IsPaired (map Some (hists_among entries))
+  all_paired [] = tt
+  all_paired (e ∷ entries) = by e.body refl (all_paired entries)
+    where
+      by : (b : Body) → e.body ≡ b → AllByRecursion IsPaired (map Some (hists_among entries)) → AllByRecursion IsPaired (map Some (if is_hist b then e ∷ hists_among entries else hists_among entries))
+      by (body.Hist f s t) q others =
+          let one : wide_record (rec_of counters pairs e.body) ≡ wide_record (rec_of counters pairs (body.Hist f s t)) = ap (λ (b : Body). wide_record (rec_of counters pairs b)) q in
+          let two : wide_record (rec_of counters pairs (body.Hist f s t)) ≡ hist_record (pair_of counters e.body) ∷ [] = ap (λ (b : Body). hist_record (pair_of counters b) ∷ []) (sym q) in
+          (one ∙ two, others)
+      by (body.Blocks s t) q others = others
+
+  paired : (os : List (Option Entry)) → AllByRecursion IsPaired os → flat_map (body_recs counters pairs) os ≡ map hist_record (map (pair_at counters) os)
+  paired [] all = refl
+  paired (o ∷ os) all = flat_map-cons (body_recs counters pairs) o os ∙ (λ k. all.0 k ++ paired os all.1 k)
+
+  module _ (entries : List Entry) (run : ℕ) (order : List Placed) (same : IsOrderOf entries order) where
+    abbrev last_arcs : List WideRec
+    last_arcs = map wide_arc (drop run arcs)
+
+    abbrev others : List WideRec
+    others = flat_map (other_recs pairs arcs) entries
+
+    abbrev all : List WideRec
+    all = wide_records (recs_in counters pairs arcs entries run)
+
+    abbrev in_order : List (Hist × units.Unit)
+    in_order = map (pair_at counters) (placed_entries entries order)
+
+    all_hists : hists_in all ≡ map (pair_at counters) (map Some (hists_among entries))
+    all_hists =
+        ap hists_in (all_widened counters pairs arcs entries run) ∙ filter_map-append hist_pair (entries_recs counters pairs arcs entries) last_arcs
+        ∙ (λ k. hists_read entries k ++ hists_in-arcs (drop run arcs) k) ∙ append-nil (map (pair_at counters) (map Some (hists_among entries)))
+
+    all_others : others_in all ≡ others ++ last_arcs
+    all_others =
+        ap others_in (all_widened counters pairs arcs entries run) ∙ filter-append is_other (entries_recs counters pairs arcs entries) last_arcs
+        ∙ (λ k. others_read entries k ++ others_in-arcs (drop run arcs) k)
+
+    permuted : IsPermutation (hists_in all) in_order
+    permuted =
+        subst (λ (l : List (Hist × units.Unit)). IsPermutation l in_order) (sym all_hists) (IsPermutation-map (pair_at counters) (map Some (hists_among entries)) (placed_entries entries order) same)
+
+    placed_first : map hist_record in_order ++ others_in all ≡ placed_recs counters pairs entries order ++ (others ++ last_arcs)
+    placed_first =
+        let is = paired (placed_entries entries order) (all_reordered IsPaired (map Some (hists_among entries)) (placed_entries entries order) same (all_paired entries)) in
+        λ k. sym is k ++ all_others k
+
+    pub order_within : IsWithinLimits (with_records all empty_content) → IsWithinLimits (with_records (placed_recs counters pairs entries order ++ (others ++ last_arcs)) empty_content)
+    order_within w = subst (λ (l : List WideRec). IsWithinLimits (with_records l empty_content)) placed_first (reordered_within all in_order permuted empty_content w)
+
+    pub order_added : (new : Content) → AllByRecursion (λ e. HasRange (rec_of counters pairs e.body)) entries
+        → IsAdded (placed_recs counters pairs entries order ++ (others ++ last_arcs)) empty_content new → IsAdded all empty_content new
+    order_added new ranges a =
+        let widened = all_widened counters pairs arcs entries run in
+        let spans = subst (λ (l : List WideRec). AllByRecursion HasSpan l) (sym widened) (all_joined HasSpan (entries_recs counters pairs arcs entries) last_arcs (spans_of_entries entries ranges) (spans_of_arcs (drop run arcs))) in
+        reordered all in_order new spans permuted (subst (λ (l : List WideRec). IsAdded l empty_content new) (sym placed_first) a)
