@@ -15,7 +15,8 @@ use Rattle.demo_laws.proofs.SectionLemmas.{sections_to, sections_read, low_read,
 use Rattle.demo_laws.proofs.SymbolLemmas.{entry_of, entries_from, entries_read, all_fit}
 use Rattle.demo_laws.proofs.NameLemmas.{names_end, names_some}
 use Rattle.demo_laws.proofs.KeptLemmas.{Ascend, all_kept}
-use Rattle.demo_laws.proofs.FileLemmas.{headers_of, front_of, back_of, body_of, sections_front, by_header, by_table, by_strings, by_sections, front_long, symbols_long, sections_front_long, strings_front_long, file_long}
+use Rattle.demo_elf.proofs.LengthLemmas.{front_long}
+use Rattle.demo_laws.proofs.FileLemmas.{headers_of, front_of, back_of, body_of, sections_front, by_header, by_table, by_strings, by_sections, symbols_long, sections_front_long, strings_front_long, file_long}
 
 entries_ascend : (number at low high : ℕ) (symbols : List (List ℕ × ℕ)) → AreInOrder low high symbols → Ascend (0x10000 + low) (0x10000 + high) (entries_from number at symbols)
 unfolding entry_of

@@ -1,56 +1,12 @@
 -- A file of few words and symbols, and where its parts stand.
-use Rattle.std.proofs.Common.{◌≡◌, ℕ, ◌+◌, ◌*◌, List, [], ◌∷◌, ◌++◌, length, replicate, refl, sym, ap, ◌∙◌, arith, append_assoc, length-append}
-use Rattle.std.specs.List.{flat_map}
+use Rattle.std.proofs.Common.{◌≡◌, ℕ, ◌+◌, ◌*◌, List, ◌++◌, length, replicate, sym, ap, ◌∙◌, arith, append_assoc, length-append}
 use Rattle.std.proofs.lemmas.List.{length-replicate}
-use Rattle.demo_elf.specs.Elf.{word, words_text, halves_text, padding_of, strings_at, names_at, headers_at, file_header, program_header, symbol_text, symbols_from, symbols_text, strings_text, names_text, section_headers, front_text, back_text, elf_file}
-
--- ---- how long the parts are
-
-words_long : (words : List ℕ) → length (flat_map word words) ≡ 4 * length words
-words_long [] = refl
-words_long (w ∷ words) = omega (arith, words_long words)
-
-file_header_long : (headers : ℕ) → length (file_header headers) ≡ 52
-unfolding file_header halves_text words_text
-file_header_long headers = refl
-
-program_header_long : (text : ℕ) → length (program_header text) ≡ 32
-unfolding program_header words_text
-program_header_long text = refl
-
-from_long : (at : ℕ) (symbols : List (List ℕ × ℕ)) → length (symbols_from at symbols) ≡ 16 * length symbols
-unfolding symbol_text words_text
-from_long at [] = refl
-from_long at (s ∷ symbols) = omega (arith, from_long (at + (length s.0 + 1)) symbols)
+use Rattle.demo_elf.specs.Elf.{words_text, padding_of, strings_at, names_at, headers_at, file_header, program_header, symbols_from, symbols_text, strings_text, names_text, section_headers, front_text, back_text, elf_file}
+use Rattle.demo_elf.proofs.LengthLemmas.{from_long, section_headers_long, names_long, front_long}
 
 pub symbols_long : (symbols : List (List ℕ × ℕ)) → length (symbols_text symbols) ≡ 16 * (length symbols + 1)
 unfolding symbols_text
 symbols_long symbols = omega (arith, length-append (replicate 16 0) (symbols_from 1 symbols), length-replicate {A = ℕ} 16 0, from_long 1 symbols)
-
-section_headers_long : (text symbols strings : ℕ) → length (section_headers text symbols strings) ≡ 200
-unfolding section_headers words_text
-section_headers_long text symbols strings = refl
-
-names_long : length names_text ≡ 33
-unfolding names_text
-names_long = refl
-
-pub front_long : (words : List ℕ) (symbols strings : ℕ) → length (front_text words symbols strings) ≡ 4096 + 4 * length words
-unfolding front_text words_text
-front_long words symbols strings =
-    let a = file_header (headers_at (length words) symbols strings) in
-    let b = program_header (length words) in
-    let zeros : List ℕ = replicate 4012 0 in
-    omega (
-      arith,
-      length-append (a ++ b ++ zeros) (flat_map word words),
-      length-append (a ++ b) zeros,
-      length-append a b,
-      file_header_long (headers_at (length words) symbols strings),
-      program_header_long (length words),
-      length-replicate {A = ℕ} 4012 0,
-      words_long words,
-    )
 
 -- ---- where they stand
 

@@ -27,20 +27,7 @@ header_to headers = record {
 
 pub header_read : (headers : ℕ) (rest : List ℕ) → headers < 2 ^ 32 → header_of (file_header headers ++ rest) ≡ header_to headers
 unfolding header_of file_header halves_text words_text header_to
-header_read headers rest fits = λ i. record {
-  class = 1;
-  order = 1;
-  kind = 2;
-  machine = 243;
-  entry = 0x10000;
-  programs_at = 52;
-  sections_at = word_back headers fits i;
-  flags = 0;
-  program_bytes = 32;
-  programs = 1;
-  section_bytes = 40;
-  sections = 5;
-}
+header_read headers rest fits = ap header_to (word_back headers fits)
 
 pub magic_read : (headers : ℕ) (rest : List ℕ) → has_magic (file_header headers ++ rest) ≡ true
 unfolding file_header halves_text words_text
