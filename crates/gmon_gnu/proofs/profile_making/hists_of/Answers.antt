@@ -1,4 +1,4 @@
-use Rattle.std.proofs.Common.{◌≡◌, ◌+◌, ◌<◌, Some, [], List, length, map, take, get_or, ap, refl, subst, sym, ◌∙◌, arith}
+use Rattle.std.proofs.Common.{◌<◌, Some, [], List, length, map, get_or, ap, subst, sym, ◌∙◌}
 use Rattle.std.specs.List.{AllByRecursion}
 use Rattle.std.proofs.lemmas.List.{take_all, take_more}
 use Rattle.std.proofs.lemmas.Option.{slice_get-get_or}

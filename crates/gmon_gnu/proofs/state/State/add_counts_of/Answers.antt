@@ -1,9 +1,8 @@
-use Rattle.std.proofs.Common.{◌≡◌, ◌-◌, List, drop, map, ap, refl, subst, sym, take, ◌∙◌}
+use Rattle.std.proofs.Common.{◌≡◌, ◌-◌, List, drop, map, ap, subst, sym, take, ◌∙◌}
 use Rattle.gp_base.specs.declared.records.RawBlock.{RawBlock}
-use Rattle.gmon_data.specs.Content.{WideRec, IsAdded, IsWithin as IsWithinLimits, wide_block, with_records}
+use Rattle.gmon_data.specs.Content.{WideRec, IsAdded, wide_block, with_records}
 use Rattle.gmon_data.proofs.ContentLemmas.{on_ok}
 use Rattle.gmon_data.proofs.RecordLemmas.{blocks_accepted}
-use Rattle.gmon_gnu.specs.declared.state.Body.{Body}
 use Rattle.gmon_gnu.specs.Making.{block_recs}
 use Rattle.gmon_gnu.proofs.state.State.add_counts_of.Goals as goal
 

@@ -1,4 +1,4 @@
-use Rattle.std.proofs.Common.{◌≡◌, ◌-◌, List, drop, map, ap, subst, sym, take, ◌∙◌}
+use Rattle.std.proofs.Common.{◌-◌, List, drop, map, ap, subst, sym, take, ◌∙◌}
 use Rattle.gp_base.specs.declared.records.RawArc.{RawArc}
 use Rattle.gmon_data.specs.Content.{IsAdded, IsWithin as IsWithinLimits, wide_arc, with_records}
 use Rattle.gmon_data.proofs.ContentLemmas.{on_ok}

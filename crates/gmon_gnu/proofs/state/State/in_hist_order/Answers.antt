@@ -1,7 +1,7 @@
 use Rattle.std.proofs.Common.{◌≡◌, ◌<◌, ◌++◌, List, drop, length, map, ap, subst, sym, ◌∙◌}
 use Rattle.std.specs.List.{AllByRecursion, flat_map}
 use Rattle.gp_base.specs.declared.records.RawArc.{RawArc}
-use Rattle.gmon_data.specs.Content.{Content, WideRec, IsAdded, IsWithin as IsWithinLimits, empty_content, wide_arc, with_records}
+use Rattle.gmon_data.specs.Content.{Content, IsAdded, IsWithin as IsWithinLimits, empty_content, wide_arc, with_records}
 use Rattle.gmon_data.proofs.RecordLemmas.{added_both, arcs_accepted, within_first, within_second}
 use Rattle.gmon_gnu.specs.declared.profile_making.Placed.{Placed}
 use Rattle.gmon_gnu.specs.declared.state.Entry.{Entry}
