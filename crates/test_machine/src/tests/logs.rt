@@ -1,5 +1,6 @@
 //! What the definitions on logs say of small logs: four calls of one call site, a table that is full,
 //! modes, and the ends of a text.
+#![tactic(auto, unfolding(mcount_arcs::specs::Arcs::arcs_of, mcount_arcs::specs::Arcs::chain_of, mcount_arcs::specs::Arcs::looks_of, mcount_arcs::specs::Image::entries_of, mcount_arcs::specs::Image::fronts_of, mcount_arcs::specs::Log::entered_calls, mcount_arcs::specs::Log::kept_calls, mcount_arcs::specs::Log::state_of, mcount_arcs::specs::Samples::counted_samples))]
 
 ghost use Rattle.std.specs.Prelude.{◌≡◌, ◌-◌, ◌^◌, [], ◌∷◌, ◌++◌, true, false, slice_get, Some, length};
 ghost use Rattle.mcount_arcs.specs.declared.state.State.TheVariants.{On, Busy, Error, Off};
