@@ -167,7 +167,7 @@ fn hists_of(alloc: Global, entries: &[Entry]) -> Result<Vec<Placed>, AllocError>
     ensures all { IfOk result (λ order. placed_entries entries.now order.items
         ≡ map Some (hists_among entries.now)) }
 {
-    let mut order = Vec::with_capacity(alloc, entries.len())?;
+    let mut order = Vec::new(alloc);
     for i in 0..entries.len() {
         push_hist(&mut order, entries[i].body, i)?;
     }
