@@ -39,5 +39,6 @@ pub fn lines_that_are_shown()
         (enumerate_from 0 (flat_entries s)) }
     ensures less { (s : AnySources) (hidden : List (List ℕ))
         → flat_text s hidden ≡ flat_header s.shares s.rate
-        ++ flat_map (line_at (attributed_of s.shares) s.rate (flat_entries s)) (filter (λ e. not (is_hidden hidden e.1.name)) (enumerate_from 0 (flat_entries s))) }
+        ++ flat_map (line_at (attributed_of s.shares) s.rate (flat_entries s))
+        (filter (λ e. not (is_hidden hidden e.1.name)) (enumerate_from 0 (flat_entries s))) }
 {}

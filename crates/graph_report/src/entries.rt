@@ -28,7 +28,8 @@ fn function_front(report: &Report<'_>, f: u32) -> Line
     requires report { IsReport report.now }
     requires function { f < report.now.inputs.sources.graph.now.functions }
     ensures { let s = sources_in report.now.inputs in
-        result ≡ front_columns s (number_of report.now (Function f)) (inclusive_total s f) (function_columns s f) }
+        result ≡ front_columns s (number_of report.now (Function f)) (inclusive_total s f)
+        (function_columns s f) }
 {
     let all = report.inputs.sources.shares.attributed();
     let mut line = Line::new();
@@ -65,7 +66,8 @@ fn cycle_front(report: &Report<'_>, head: u32) -> Line
     requires function { head < report.now.inputs.sources.graph.now.functions }
     ensures { let s = sources_in report.now.inputs in
         let c = component_of s.graph head in
-        result ≡ front_columns s (number_of report.now (Cycle head)) (time_of s.flow c) (cycle_columns s c) }
+        result ≡ front_columns s (number_of report.now (Cycle head)) (time_of s.flow c)
+        (cycle_columns s c) }
 {
     let all = report.inputs.sources.shares.attributed();
     let c = report.inputs.sources.graph.component(head);

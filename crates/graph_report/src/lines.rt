@@ -55,7 +55,9 @@ fn put_arc<H: Host>(
     requires times { AreTimes (sources_in report.now.inputs) times.now }
     requires function { f < report.now.inputs.sources.graph.now.functions }
     ensures { let s = sources_in report.now.inputs in
-        Adds Output (other_line (times_columns s times.now) (function_name s (number_of report.now) f)) lines.old lines.new (H.outside host.old) (H.outside host.new) result }
+        Adds Output (other_line (times_columns s times.now)
+        (function_name s (number_of report.now) f)) lines.old lines.new (H.outside host.old)
+        (H.outside host.new) result }
 {
     arc_front(line, &report.inputs, times);
     lines.put(host, line.bytes())?;

@@ -141,7 +141,9 @@ fn put_entries<H: Host>(
     requires report { IsReport report.now }
     requires rows { entries_of_rows rows.now ≡ graph_order (sources_in report.now.inputs) }
     ensures { let s = sources_in report.now.inputs in
-        Adds Output (flat_map (entry_text s) (filter (λ e. spec (map string_bytes hidden.now) e.subject e.name) (graph_order s))) lines.old lines.new (H.outside host.old) (H.outside host.new) result }
+        Adds Output (flat_map (entry_text s)
+        (filter (λ e. spec (map string_bytes hidden.now) e.subject e.name) (graph_order s)))
+        lines.old lines.new (H.outside host.old) (H.outside host.new) result }
 {
     for row in rows {
         put_row(report, row, hidden, lines, host)?;

@@ -48,7 +48,8 @@ impl Run {
     pub(crate) fn look(&mut self, hart: u32) -> Option<u32>
         requires { CanLook hart self.old }
         ensures stands { StandsAfter
-            (λ w. after_look self.old.machine hart (looks_of_hart w.left hart) w) self.old self.new }
+            (λ w. after_look self.old.machine hart (looks_of_hart w.left hart) w)
+            self.old self.new }
         ensures prints { (w : World) → StandsFor w self.old
             → (after_look self.old.machine hart (looks_of_hart w.left hart) w).prints ≡ w.prints }
         ensures takes_look { TakesLook self.old self.new }

@@ -72,7 +72,8 @@ fn grains_between(hist: &Hist, i: usize, from: u64, to: u64) -> u128
     requires from { from ≤ to }
     requires to { to ≤ hist.now.high - hist.now.low }
     ensures { let grains = slice_index hist.now.counters i * 1000000 in
-        result ≡ grains * to / (hist.now.high - hist.now.low) - grains * from / (hist.now.high - hist.now.low) }
+        result ≡ grains * to / (hist.now.high - hist.now.low)
+        - grains * from / (hist.now.high - hist.now.low) }
 {
     grains_up_to(hist, i, to) - grains_up_to(hist, i, from)
 }

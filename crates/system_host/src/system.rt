@@ -45,7 +45,8 @@ pub trait System {
     /// Ends the writing, also where it answers an error.
     fn close(&mut self, output: Self::Output) -> io::Result<()>
         ensures done { disk self.new ≡ option_map
-            (disk_after (Put (bytes_of (Self.Output.contents output)) ∷ Close ∷ [])) (disk self.old) }
+            (disk_after (Put (bytes_of (Self.Output.contents output)) ∷ Close ∷ []))
+            (disk self.old) }
         ensures told { IfSome (last_close self.new) (λ succeeded. succeeded ≡ is_ok result) }
         ensures out { printed self.new ≡ printed self.old }
         ensures err { complained self.new ≡ complained self.old };
