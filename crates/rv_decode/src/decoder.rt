@@ -1,4 +1,5 @@
-//! From words to instructions.
+//! From words to instructions. All of it is inlined where it is called, so that what executes an instruction knows which
+//! it is from the jumps that told it, and its operands needn't go through memory.
 
 ghost use Rattle.std.specs.Prelude.{◌≡◌, ◌<◌, bit_and};
 ghost use Rattle.rv_decode.specs.Fields.{field};
@@ -29,6 +30,7 @@ pub fn decode(word: u32) -> Option<Instr>
     }
 }
 
+#[inline(always)]
 fn load(word: u32) -> Option<Instr>
     requires { bit_and word 0x7F ≡ 0x03 }
     ensures { result ≡ instr_of word }
@@ -43,6 +45,7 @@ fn load(word: u32) -> Option<Instr>
     }
 }
 
+#[inline(always)]
 fn stores(word: u32) -> Option<Instr>
     requires { bit_and word 0x7F ≡ 0x23 }
     ensures { result ≡ instr_of word }
@@ -55,6 +58,7 @@ fn stores(word: u32) -> Option<Instr>
     }
 }
 
+#[inline(always)]
 fn branches(word: u32) -> Option<Instr>
     requires { bit_and word 0x7F ≡ 0x63 }
     ensures { result ≡ instr_of word }
@@ -70,6 +74,7 @@ fn branches(word: u32) -> Option<Instr>
     }
 }
 
+#[inline(always)]
 fn jump_to_register(word: u32) -> Option<Instr>
     requires { bit_and word 0x7F ≡ 0x67 }
     ensures { result ≡ instr_of word }
@@ -80,6 +85,7 @@ fn jump_to_register(word: u32) -> Option<Instr>
     }
 }
 
+#[inline(always)]
 fn with_immediate(word: u32) -> Option<Instr>
     requires { bit_and word 0x7F ≡ 0x13 }
     ensures { result ≡ instr_of word }
@@ -103,6 +109,7 @@ fn with_immediate(word: u32) -> Option<Instr>
     }
 }
 
+#[inline(always)]
 fn with_registers(word: u32) -> Option<Instr>
     requires { bit_and word 0x7F ≡ 0x33 }
     ensures { result ≡ instr_of word }
@@ -115,6 +122,7 @@ fn with_registers(word: u32) -> Option<Instr>
     }
 }
 
+#[inline(always)]
 fn with_registers_00(word: u32) -> Option<Instr>
     requires opcode { bit_and word 0x7F ≡ 0x33 }
     requires funct7 { field word 25 7 ≡ 0x00 }
@@ -132,6 +140,7 @@ fn with_registers_00(word: u32) -> Option<Instr>
     }
 }
 
+#[inline(always)]
 fn with_registers_20(word: u32) -> Option<Instr>
     requires opcode { bit_and word 0x7F ≡ 0x33 }
     requires funct7 { field word 25 7 ≡ 0x20 }
@@ -144,6 +153,7 @@ fn with_registers_20(word: u32) -> Option<Instr>
     }
 }
 
+#[inline(always)]
 fn with_registers_01(word: u32) -> Option<Instr>
     requires opcode { bit_and word 0x7F ≡ 0x33 }
     requires funct7 { field word 25 7 ≡ 0x01 }
@@ -161,6 +171,7 @@ fn with_registers_01(word: u32) -> Option<Instr>
     }
 }
 
+#[inline(always)]
 fn fence(word: u32) -> Option<Instr>
     requires { bit_and word 0x7F ≡ 0x0F }
     ensures { result ≡ instr_of word }
@@ -172,6 +183,7 @@ fn fence(word: u32) -> Option<Instr>
     }
 }
 
+#[inline(always)]
 fn system(word: u32) -> Option<Instr>
     requires { bit_and word 0x7F ≡ 0x73 }
     ensures { result ≡ instr_of word }
@@ -183,6 +195,7 @@ fn system(word: u32) -> Option<Instr>
     }
 }
 
+#[inline(always)]
 fn funct3(word: u32) -> u32
     ensures funct3 { result ≡ field word 12 3 }
     ensures below { result < 8 }
@@ -190,6 +203,7 @@ fn funct3(word: u32) -> u32
     bits(word, 12, 3)
 }
 
+#[inline(always)]
 fn funct7(word: u32) -> u32
     ensures { result ≡ field word 25 7 }
 {

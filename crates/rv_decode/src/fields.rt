@@ -1,4 +1,4 @@
-//! Operands as they lie in a word.
+//! Operands as they lie in a word. They are inlined, as all of `decode` is.
 
 ghost use Rattle.std.specs.Prelude.{◌≡◌, ◌*◌, ◌^◌, ◌<◌, ◌≤◌};
 ghost use Rattle.rv_decode.specs.Fields.{field, imm_b, imm_i, imm_j, imm_s, imm_u, signed_of};
@@ -7,6 +7,7 @@ ghost use Rattle.rv_decode.specs.declared.forms.Form.TheVariants.{Branch, Immedi
 
 use crate::instruction::{Instr, Op};
 
+#[inline(always)]
 pub fn upper(op: Op, word: u32) -> Instr
     ensures { result ≡ instr_in Upper op word }
 {
@@ -19,6 +20,7 @@ pub fn upper(op: Op, word: u32) -> Instr
     }
 }
 
+#[inline(always)]
 pub fn jump(op: Op, word: u32) -> Instr
     ensures { result ≡ instr_in Jump op word }
 {
@@ -33,6 +35,7 @@ pub fn jump(op: Op, word: u32) -> Instr
     }
 }
 
+#[inline(always)]
 pub fn branch(op: Op, word: u32) -> Instr
     ensures { result ≡ instr_in Branch op word }
 {
@@ -47,6 +50,7 @@ pub fn branch(op: Op, word: u32) -> Instr
     }
 }
 
+#[inline(always)]
 pub fn immediate(op: Op, word: u32) -> Instr
     ensures { result ≡ instr_in Immediate op word }
 {
@@ -59,6 +63,7 @@ pub fn immediate(op: Op, word: u32) -> Instr
     }
 }
 
+#[inline(always)]
 pub fn shift(op: Op, word: u32) -> Instr
     ensures { result ≡ instr_in Shift op word }
 {
@@ -71,6 +76,7 @@ pub fn shift(op: Op, word: u32) -> Instr
     }
 }
 
+#[inline(always)]
 pub fn store(op: Op, word: u32) -> Instr
     ensures { result ≡ instr_in Store op word }
 {
@@ -83,6 +89,7 @@ pub fn store(op: Op, word: u32) -> Instr
     }
 }
 
+#[inline(always)]
 pub fn register(op: Op, word: u32) -> Instr
     ensures { result ≡ instr_in Register op word }
 {
@@ -95,6 +102,7 @@ pub fn register(op: Op, word: u32) -> Instr
     }
 }
 
+#[inline(always)]
 pub fn plain(op: Op, word: u32) -> Instr
     ensures { result ≡ instr_in Plain op word }
 {
@@ -107,18 +115,21 @@ pub fn plain(op: Op, word: u32) -> Instr
     }
 }
 
+#[inline(always)]
 fn rd(word: u32) -> u32
     ensures { result ≡ field word 7 5 }
 {
     bits(word, 7, 5)
 }
 
+#[inline(always)]
 fn rs1(word: u32) -> u32
     ensures { result ≡ field word 15 5 }
 {
     bits(word, 15, 5)
 }
 
+#[inline(always)]
 fn rs2(word: u32) -> u32
     ensures { result ≡ field word 20 5 }
 {
@@ -126,6 +137,7 @@ fn rs2(word: u32) -> u32
 }
 
 /// The `count` bits of the word from bit `low` on.
+#[inline(always)]
 pub fn bits(word: u32, low: u32, count: u32) -> u32
     requires low { low < 32 }
     requires count { count < 32 }
@@ -135,6 +147,7 @@ pub fn bits(word: u32, low: u32, count: u32) -> u32
 }
 
 /// The value in two's complement of bits whose highest counts `sign`.
+#[inline(always)]
 fn signed(bits: u32, sign: u32) -> i32
     requires bits { bits < 2 * sign }
     requires sign { sign ≤ 2 ^ 31 }

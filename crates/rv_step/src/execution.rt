@@ -1,4 +1,4 @@
-//! What each instruction does.
+//! What each instruction does. It is inlined, as all of `decode` is.
 
 ghost use Rattle.std.specs.Prelude.{◌≡◌, ◌+◌, ◌%◌, ◌^◌, ◌<◌, ◌≤◌, length};
 ghost use Rattle.rv_decode.specs.Fields.{jump_target};
@@ -76,12 +76,14 @@ pub(crate) fn execute(instr: &Instr, regs: &mut Regs, ram: &mut Ram) -> Stepped
 }
 
 /// An address and a constant, modulo 2^32.
+#[inline(always)]
 fn target(from: u32, imm: i32) -> u32
     ensures { result ≡ jump_target from imm }
 {
     from.wrapping_add(imm.cast_unsigned())
 }
 
+#[inline(always)]
 fn pass(regs: &mut Regs) -> Stepped
     ensures { (m : Memory) → outcome result regs.new m ≡ outcome
         Stepped.Retired (at_next regs.old) m }
@@ -90,6 +92,7 @@ fn pass(regs: &mut Regs) -> Stepped
     Stepped::Retired
 }
 
+#[inline(always)]
 fn give(rd: u32, value: u32, regs: &mut Regs) -> Stepped
     requires { rd < 32 }
     ensures { (m : Memory) → outcome result regs.new m ≡ outcome Stepped.Retired
@@ -100,6 +103,7 @@ fn give(rd: u32, value: u32, regs: &mut Regs) -> Stepped
 }
 
 #[tactic(auto, unfolding(crate::specs::Step::jumps))]
+#[inline(always)]
 fn jump(instr: &Instr, to: u32, regs: &mut Regs) -> Stepped
     ensures { (m : Memory) → outcome result regs.new m ≡ jumps instr.now to regs.old m }
 {
@@ -111,6 +115,7 @@ fn jump(instr: &Instr, to: u32, regs: &mut Regs) -> Stepped
     Stepped::Retired
 }
 
+#[inline(always)]
 fn jump_to_register(instr: &Instr, regs: &mut Regs) -> Stepped
     ensures { (m : Memory) → outcome result regs.new m ≡ jumps instr.now
         (register_target instr.now regs.old) regs.old m }
@@ -137,6 +142,7 @@ fn branch(op: Op, instr: &Instr, regs: &mut Regs) -> Stepped
 }
 
 /// The address of a load or a store.
+#[inline(always)]
 fn address(instr: &Instr, regs: &Regs) -> u32
     ensures { result ≡ address_of instr.now regs.now }
 {
@@ -145,6 +151,7 @@ fn address(instr: &Instr, regs: &Regs) -> u32
 
 /// How many bytes a load moves.
 #[tactic(auto, unfolding(crate::specs::Alu::load_width))]
+#[inline(always)]
 fn load_width(op: Op) -> u32
     ensures width { result ≡ load_width op }
     ensures positive { 0 < result }
@@ -158,6 +165,7 @@ fn load_width(op: Op) -> u32
 
 /// How many bytes a store moves.
 #[tactic(auto, unfolding(crate::specs::Alu::store_width))]
+#[inline(always)]
 fn store_width(op: Op) -> u32
     ensures width { result ≡ store_width op }
     ensures positive { 0 < result }
@@ -188,6 +196,7 @@ fn load(op: Op, instr: &Instr, regs: &mut Regs, ram: &Ram) -> Stepped
 
 /// What a load makes of the bytes at a place.
 #[tactic(auto, unfolding(crate::specs::Alu::extension_of, crate::specs::Alu::load_width))]
+#[inline(always)]
 fn value(op: Op, ram: &Ram, at: usize) -> u32
     requires { at + load_width op ≤ length ram.now.bytes }
     ensures { result ≡ extension_of op (value_at ram.now (ram.now.base + at) (load_width op)) }
@@ -225,6 +234,7 @@ fn store(op: Op, instr: &Instr, regs: &mut Regs, ram: &mut Ram) -> Stepped
 
 /// Stores the low bytes of a number at a place.
 #[tactic(auto, unfolding(crate::specs::Alu::store_width))]
+#[inline(always)]
 fn put(op: Op, at: usize, value: u32, ram: &mut Ram)
     requires { at + store_width op ≤ length ram.old.bytes }
     ensures stored { ram.new ≡ write_at ram.old (ram.old.base + at) (le value (store_width op)) }
