@@ -10,7 +10,7 @@ ghost use Rattle.arc_filter.specs.Cuts.{is_cut_word, stays, without_cuts};
 use crate::marks::{is_cut, table_of};
 use elf32_syms::Symbol;
 use gmon_data::{AddRefusal, Profile};
-use profile_sum::adding::{add_blocks, add_hists};
+use profile_sum::adding::{add_blocks, add_hists, take_room};
 use std::alloc::{AllocError, Global};
 
 /// Puts the histograms into a profile that holds nothing, which has no conflict with them.
@@ -75,6 +75,7 @@ pub fn cut(
     profile.holds();
     let mut left = Profile::new(alloc);
     put_hists(&mut left, profile)?;
+    take_room(&mut left, profile);
     put_arcs(alloc, &mut left, profile, symbols, cuts)?;
     add_blocks(&mut left, profile)?;
     Ok(left)

@@ -76,7 +76,7 @@ fn add_parts(total: &mut Profile, more: &Profile) -> Result<(), SumRefusal>
 }
 
 /// Takes room for the pairs and addresses, so that they don't crowd in their tables; where there is none, for some.
-fn take_room(total: &mut Profile, more: &Profile)
+pub fn take_room(total: &mut Profile, more: &Profile)
     ensures { total.new ≡ total.old }
 {
     let _ = total.make_room_for_arcs_of(more);
