@@ -38,6 +38,8 @@ impl OutBuf {
 
     /// Puts bytes behind those that are pending. No call is made on the host while all of them fit. After
     /// `Failed` nothing is pending, and what was written is a prefix of what it would be, and not the whole.
+    // Inlined, since most bytes come in a few at a time, whose number is known where they are put.
+    #[inline(always)]
     pub fn put<H: Host>(&mut self, host: &mut H, bytes: &[u8]) -> Result<(), Failed>
         requires { (H.outside host.old).is_writing ≡ true }
         ensures adds { Adds Side.File bytes.now self.old self.new (H.outside host.old)
@@ -137,6 +139,7 @@ impl Pending {
         }
     }
 
+    #[inline(always)]
     fn put<H: Host>(&mut self, side: Side, host: &mut H, bytes: &[u8]) -> Result<(), Failed>
         requires { IsReady side (H.outside host.old) }
         ensures adds { Adds side bytes.now self.old self.new (H.outside host.old)
@@ -158,6 +161,7 @@ impl Pending {
         Ok(())
     }
 
+    #[inline(never)]
     fn flush<H: Host>(&mut self, side: Side, host: &mut H) -> Result<(), Failed>
         requires { IsReady side (H.outside host.old) }
         ensures adds { Adds side [] self.old self.new (H.outside host.old)
@@ -178,6 +182,7 @@ impl Pending {
     }
 
     /// Holds bytes back. They need to fit.
+    #[inline(always)]
     fn keep(&mut self, bytes: &[u8])
         requires { length self.old + length bytes.now ≤ 4096 }
         ensures { self.new ≡ self.old ++ bytes.now }
