@@ -12,5 +12,7 @@ pub mod RunLemmas
 pub mod NumberLemmas
 pub mod RangeLemmas
 pub mod SizeLemmas
+pub mod PutLemmas
+pub mod ConflictLemmas
 pub mod ExchangeLemmas
 pub mod OrderLemmas
