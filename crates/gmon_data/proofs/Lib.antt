@@ -7,6 +7,7 @@ pub mod SearchLemmas
 pub mod ContentLemmas
 pub mod RecordLemmas
 pub mod BoundLemmas
+pub mod LoopLemmas
 pub mod RebuiltLemmas
 pub mod RunLemmas
 pub mod NumberLemmas

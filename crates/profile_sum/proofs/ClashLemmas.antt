@@ -12,9 +12,9 @@ use Rattle.gmon_data.specs.Hists.{put_hist, hist_sum, range_of, range_conflict, 
 use Rattle.gmon_data.specs.Content.{Content, empty_content, with_hist, hist_conflict, conflict_of, IsProfile}
 use Rattle.gmon_data.proofs.ExchangeLemmas.{unit_self}
 use Rattle.gmon_data.proofs.HistLemmas.{alike_counters, all_kept, first_none, range-sum}
+use Rattle.gmon_data.proofs.LoopLemmas.{at_all}
 use Rattle.gmon_data.proofs.RecordLemmas.{cut_at, past_end}
 use Rattle.profile_sum.specs.Sum.{clash_of, hist_record}
-use Rattle.profile_sum.proofs.LoopLemmas.{at_all}
 
 -- a histogram that was put in changes no conflict of a range that it doesn't overlap
 skip_put : (h : Hist) (hs : List Hist) (new : HistRange) → overlap (range_of h) new ≡ false
