@@ -1,13 +1,13 @@
 -- A histogram takes its place.
 use Rattle.std.proofs.Common.{◌≡◌, ◌↔◌, ℕ, zero, suc, ◌<◌, ◌≤◌, Bool, true, false, ltb, eqb, List, [], ◌∷◌, length, sum, drop, set, insert, slice_get, get_or, fold, Option, Some, None, unwrap_or, refl, sym, ap, ◌∙◌, if◌then◌else◌, true≢false, not, ◌&&◌, ◌+◌, add-one, arith}
-use Rattle.std.proofs.lemmas.Bool.{lt-ltb, ltb-false, ltb-true, eq-eqb, eqb-true}
+use Rattle.std.proofs.lemmas.Bool.{lt-ltb, ltb-false, ltb-true, eq-eqb, eqb-true, and_parts}
 use Rattle.gmon_data.specs.declared.hist.Hist.{Hist}
 use Rattle.gmon_data.specs.declared.hist.HistRange.{HistRange}
 use Rattle.gmon_data.specs.declared.refusal.Unlike.{Unlike}
 use Rattle.std.specs.List.{sum_by, AllByRecursion}
 use Rattle.std.specs.Option.{option_or}
 use Rattle.std.proofs.lemmas.List.Sums.{sum_by-cons}
-use Rattle.gmon_data.proofs.CounterLemmas.{sum-pointwise}
+use Rattle.gmon_data.proofs.CounterLemmas.{length-pointwise, sum-pointwise}
 use Rattle.gmon_data.specs.Hists.{count_at, place_of, put_hist, hist_sum, pointwise_sum, samples_of, range_of, range_conflict, overlap, same_range, kept_unit, IsKept, IsApart, IsUnitOf}
 use Rattle.gp_base.specs.declared.records.Unit as units
 
@@ -132,21 +132,27 @@ pub first_none : (o p : Option Unlike) → option_or o p ≡ None → o ≡ None
 first_none None p e = refl
 first_none (Some x) p e = absurd cc
 
-and_false : (x : Bool) → (x && false) ≡ false
-and_false true = refl
-and_false false = refl
-
-same_count : (a b : HistRange) → a.low < a.high → b.low < b.high → a.low ≡ b.low → (overlap a b && not (same_range a b)) ≡ false → a.count ≡ b.count
-same_count a b some some' low none = by (eqb a.count b.count) refl
+-- two ranges with one low address that don't differ are one
+pub one_range : (a b : HistRange) → a.low < a.high → b.low < b.high → a.low ≡ b.low → (overlap a b && not (same_range a b)) ≡ false → a ≡ b
+one_range a b some some' low none = by (same_range a b) refl
   where
-    by : (e : Bool) → eqb a.count b.count ≡ e → a.count ≡ b.count
-    by true e = eqb-true a.count b.count e
-    by false e =
+    late : overlap a b ≡ true
+    late =
         let one : ltb a.low b.high ≡ true = lt-ltb a.low b.high (omega (arith, low, some')) in
         let two : ltb b.low a.high ≡ true = lt-ltb b.low a.high (omega (arith, low, some)) in
-        let both : overlap a b ≡ true = rw (one, two) refl in
-        let differ : same_range a b ≡ false = ap (λ x. ((eqb a.low b.low && eqb a.high b.high) && x)) e ∙ and_false (eqb a.low b.low && eqb a.high b.high) in
-        absurd (true≢false (sym (ap (λ x. overlap a b && not x) differ ∙ ap (λ x. x && true) both) ∙ none))
+        rw (one, two) refl
+
+    by : (s : Bool) → same_range a b ≡ s → a ≡ b
+    by true is =
+        let whole = and_parts (eqb a.low b.low && eqb a.high b.high) (eqb a.count b.count) is in
+        let ends = and_parts (eqb a.low b.low) (eqb a.high b.high) whole.0 in
+        let high = eqb-true a.high b.high ends.1 in
+        let count = eqb-true a.count b.count whole.1 in
+        λ i. record { low = low i; high = high i; count = count i }
+    by false is = absurd (true≢false (sym (ap (λ x. overlap a b && not x) is ∙ ap (λ x. x && true) late) ∙ none))
+
+pub range-sum : (k h : Hist) → length k.counters ≡ length h.counters → range_of (hist_sum k h) ≡ range_of k
+range-sum k h same = let count = length-pointwise k.counters h.counters same in λ i. record { low = k.low; high = k.high; count = count i }
 
 pub alike_counters : (h : Hist) (hs : List Hist) → range_conflict hs (range_of h) ≡ None → AllByRecursion IsKept hs → h.low < h.high
     → (i : ℕ) (k : Hist) → slice_get hs i ≡ Some k → k.low ≡ h.low → length k.counters ≡ length h.counters
@@ -154,7 +160,7 @@ alike_counters h [] none all some i k at low = absurd cc
 alike_counters h (x ∷ xs) none all some zero k at low =
     let parts = none_of (overlap (range_of x) (range_of h) && not (same_range (range_of x) (range_of h))) _ _ none in
     let is = some_same x k at in
-    sym (ap (λ (z : Hist). length z.counters) is) ∙ same_count (range_of x) (range_of h) all.0.range some (ap (λ (z : Hist). z.low) is ∙ low) parts.0
+    sym (ap (λ (z : Hist). length z.counters) is) ∙ ap (λ (r : HistRange). r.count) (one_range (range_of x) (range_of h) all.0.range some (ap (λ (z : Hist). z.low) is ∙ low) parts.0)
 alike_counters h (x ∷ xs) none all some (suc i) k at low =
     let parts = none_of (overlap (range_of x) (range_of h) && not (same_range (range_of x) (range_of h))) _ _ none in
     alike_counters h xs parts.1 all.1 some i k at low
@@ -222,7 +228,7 @@ apart_put h (k ∷ ks) none some kept apart = by (ltb k.low h.low) (eqb k.low h.
 
 -- ---- the unit
 
-unit_twice : (u : units.Unit) → kept_unit (kept_unit u) ≡ kept_unit u
+pub unit_twice : (u : units.Unit) → kept_unit (kept_unit u) ≡ kept_unit u
 unit_twice u = by (eqb u.rate 0) refl
   where
     by : (b : Bool) → eqb u.rate 0 ≡ b → kept_unit (kept_unit u) ≡ kept_unit u

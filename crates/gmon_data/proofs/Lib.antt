@@ -7,10 +7,13 @@ pub mod SearchLemmas
 pub mod ContentLemmas
 pub mod RecordLemmas
 pub mod BoundLemmas
+pub mod LoopLemmas
 pub mod RebuiltLemmas
 pub mod RunLemmas
 pub mod NumberLemmas
 pub mod RangeLemmas
 pub mod SizeLemmas
+pub mod PutLemmas
+pub mod ConflictLemmas
 pub mod ExchangeLemmas
 pub mod OrderLemmas

@@ -13,7 +13,8 @@ use Rattle.gmon_data.specs.Content.{Content, WideRec, WideHist, WideArc, WideBlo
 use Rattle.gmon_data.specs.Order.{is_other, hists_in, others_in, hist_record}
 use Rattle.gmon_data.proofs.HistLemmas.{all_kept}
 use Rattle.gmon_data.proofs.RecordLemmas.{parts_none, records_stand}
-use Rattle.gmon_data.proofs.ExchangeLemmas.{hists_exchange, kept_of, put_exchange}
+use Rattle.gmon_data.proofs.PutLemmas.{put_exchange}
+use Rattle.gmon_data.proofs.ExchangeLemmas.{hists_exchange, kept_of}
 
 abbrev Pair : Type 0
 Pair = Hist × units.Unit

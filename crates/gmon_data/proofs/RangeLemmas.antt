@@ -1,6 +1,6 @@
 -- The ranges of the histograms of a content.
-use Rattle.std.proofs.Common.{◌≡◌, ◌↔◌, ◌⊎◌, inl, inr, ℕ, zero, suc, ◌<◌, Bool, true, false, ltb, eqb, ◌&&◌, not, List, [], ◌∷◌, length, map, filter_map, get_or, Contains, None, refl, sym, ap, subst, ◌∙◌, if◌then◌else◌, true≢false, ⊎_elim, arith}
-use Rattle.std.proofs.lemmas.Bool.{eqb-true, lt-ltb, ltb-true, and_parts}
+use Rattle.std.proofs.Common.{◌≡◌, ◌↔◌, ◌⊎◌, inl, inr, ℕ, zero, suc, ◌<◌, Bool, true, false, ltb, eqb, ◌&&◌, not, List, [], ◌∷◌, length, map, filter_map, get_or, Contains, None, refl, sym, ap, subst, ◌∙◌, if◌then◌else◌, ⊎_elim, arith}
+use Rattle.std.proofs.lemmas.Bool.{eqb-true, ltb-true}
 use Rattle.std.proofs.lemmas.List.Elements.{recursion_from_All}
 use Rattle.std.specs.List.{All, AllByRecursion}
 use Rattle.gmon_data.specs.declared.hist.Hist.{Hist}
@@ -8,8 +8,7 @@ use Rattle.gmon_data.specs.declared.hist.HistRange.{HistRange}
 use Rattle.gmon_data.specs.Content.{Content, WideRec, WideHist, WideArc, WideBlock, conflict_of, content_of, empty_content, hist_in, record_conflict, with_hist, with_records, HasSpan}
 use Rattle.gmon_data.specs.Hists.{conflict_with, has_counters, hist_sum, kept_unit, overlap, put_hist, range_conflict, range_of, same_range, unit_conflict, IsApart, IsKept}
 use Rattle.gmon_data.specs.Laws.{HaveRangesOf}
-use Rattle.gmon_data.proofs.CounterLemmas.{length-pointwise}
-use Rattle.gmon_data.proofs.HistLemmas.{all_kept, apart_put, first_none, none_of}
+use Rattle.gmon_data.proofs.HistLemmas.{all_kept, apart_put, first_none, none_of, one_range, range-sum}
 use Rattle.gmon_data.proofs.RecordLemmas.{content-more, parts_none}
 
 -- ---- elements
@@ -29,32 +28,12 @@ in_cases {A} y x xs h = by h.0 h.1 h.2
 
 -- ---- one histogram more
 
--- two ranges with one low address that don't differ are one
-one_range : (a b : HistRange) → a.low < a.high → b.low < b.high → a.low ≡ b.low → (overlap a b && not (same_range a b)) ≡ false → a ≡ b
-one_range a b some some' low none = by (same_range a b) refl
-  where
-    late : overlap a b ≡ true
-    late =
-        let one : ltb a.low b.high ≡ true = lt-ltb a.low b.high (omega (arith, low, some')) in
-        let two : ltb b.low a.high ≡ true = lt-ltb b.low a.high (omega (arith, low, some)) in
-        rw (one, two) refl
-
-    by : (s : Bool) → same_range a b ≡ s → a ≡ b
-    by true is =
-        let whole = and_parts (eqb a.low b.low && eqb a.high b.high) (eqb a.count b.count) is in
-        let ends = and_parts (eqb a.low b.low) (eqb a.high b.high) whole.0 in
-        let high = eqb-true a.high b.high ends.1 in
-        let count = eqb-true a.count b.count whole.1 in
-        λ i. record { low = low i; high = high i; count = count i }
-    by false is = absurd (true≢false (sym (ap (λ x. overlap a b && not x) is ∙ ap (λ x. x && true) late) ∙ none))
-
 module _ (h : Hist) (mine : IsKept h) (r : HistRange) where
   sum_range : (k : Hist) → IsKept k → k.low ≡ h.low → (overlap (range_of k) (range_of h) && not (same_range (range_of k) (range_of h))) ≡ false
       → (range_of k ≡ range_of h) × (range_of (hist_sum k h) ≡ range_of k)
   sum_range k kept low none =
       let same = one_range (range_of k) (range_of h) kept.range mine.range low none in
-      let long = length-pointwise k.counters h.counters (ap (λ (x : HistRange). x.count) same) in
-      (same, λ i. record { low = k.low; high = k.high; count = long i })
+      (same, range-sum k h (ap (λ (x : HistRange). x.count) same))
 
   abbrev Kept : List Hist → Type 0
   Kept hs = Contains (map range_of hs) r

@@ -1,8 +1,5 @@
 -- Records, added one after the other.
-use Rattle.std.proofs.Common.{◌≡◌, ℕ, ◌+◌, ◌≤◌, ◌<◌, Bool, true, false, zero, suc, List, [], ◌∷◌, ◌++◌, length, map, drop, slice_get, get_or, add-one, Option, Some, None, unwrap_or, nat_eq, ltb, eqb, append_assoc, refl, sym, ap, subst, ◌∙◌, if◌then◌else◌, Result, Ok, Err, arith}
-use Rattle.std.proofs.lemmas.Option.{slice_get-get_or}
-use Rattle.std.proofs.lemmas.List.Concat.{flat_map-cons}
-use Rattle.gp_base.specs.declared.records.Rec.{Rec}
+use Rattle.std.proofs.Common.{◌≡◌, ℕ, ◌+◌, ◌≤◌, Bool, true, false, zero, suc, List, [], ◌∷◌, ◌++◌, length, map, drop, slice_get, add-one, Option, Some, None, unwrap_or, nat_eq, ltb, eqb, append_assoc, refl, sym, ap, subst, ◌∙◌, if◌then◌else◌, Result, Ok, Err, arith}
 use Rattle.gp_base.specs.declared.records.Rec.TheVariants as raw
 use Rattle.std.specs.List.{sum_by}
 use Rattle.std.specs.Option.{option_or}
@@ -18,7 +15,7 @@ use Rattle.gmon_data.specs.declared.refusal.AddRefusal.{AddRefusal}
 use Rattle.gmon_data.specs.declared.refusal.AddRefusal.TheVariants as answers
 use Rattle.gmon_data.specs.Hists.{put_hist, hist_sum, has_counters, kept_unit, pointwise_sum, unlike_in, IsUnlike}
 use Rattle.gmon_data.specs.Tally.{tally}
-use Rattle.gmon_data.specs.Content.{Content, WideRec, WideHist, WideArc, WideBlock, same_ends, with_hist, with_record, with_records, record_conflict, conflict_of, content_of, wide_arc, wide_block, wide_record, wide_records, IsWithin, IsAdded, IsStopped, IsRefusedFirst}
+use Rattle.gmon_data.specs.Content.{Content, WideRec, WideHist, WideArc, WideBlock, same_ends, with_hist, with_record, with_records, record_conflict, conflict_of, content_of, wide_arc, wide_block, wide_records, IsWithin, IsAdded, IsStopped, IsRefusedFirst}
 use Rattle.gmon_data.proofs.TallyLemmas.{sum-tally}
 use Rattle.gmon_data.proofs.HistLemmas.{samples-put, some_same}
 use Rattle.gmon_data.proofs.ContentLemmas.{content-hist, content-arc, content-block}
@@ -213,7 +210,7 @@ stopped_before refusal r old new same h = record { done = []; rest = r ∷ []; s
 pub one_added : (r : WideRec) (old new : Content) → record_conflict old r ≡ None → new ≡ with_record r old → IsAdded (r ∷ []) old new
 one_added r old new none is = record { added = is; accepted = rw none refl }
 
--- ---- the records of a file one by one
+-- ---- the items of a list one by one
 
 pub cut_at : {A : Type 0} (xs : List A) (i : ℕ) (x : A) → slice_get xs i ≡ Some x → drop i xs ≡ x ∷ drop (i + 1) xs
 cut_at {A} xs i x at = rw add-one (go xs i at)
@@ -229,30 +226,6 @@ past_end [] (suc i) le = refl
 past_end (x ∷ xs) zero le = absurd (let f : suc (length xs) ≤ 0 = le in omega (arith, f))
 past_end (x ∷ xs) (suc i) le = past_end xs i (omega (arith, le))
 
-pub next_of_records : (all : List WideRec) (recs : List Rec) (i : ℕ) (rec d : Rec) (old now : Content) → i < length recs → rec ≡ get_or recs i d
-    → IsUnderway all (wide_records (drop i recs)) old now → IsUnderway all (wide_record rec ++ wide_records (drop (i + 1) recs)) old now
-next_of_records all recs i rec d old now lt is w =
-    subst (λ (l : List WideRec). IsUnderway all l old now) (ap wide_records (cut_at recs i rec (slice_get-get_or recs i d lt ∙ ap (λ r. Some r) (sym is))) ∙ flat_map-cons wide_record rec (drop (i + 1) recs)) w
-
-pub next_of_blocks : (all : List WideRec) (blocks : List RawBlock) (i : ℕ) (block d : RawBlock) (old now : Content) → i < length blocks → block ≡ get_or blocks i d
-    → IsUnderway all (map wide_block (drop i blocks)) old now → IsUnderway all ((wide_block block ∷ []) ++ map wide_block (drop (i + 1) blocks)) old now
-next_of_blocks all blocks i block d old now lt is w =
-    subst (λ (l : List WideRec). IsUnderway all l old now) (ap (map wide_block) (cut_at blocks i block (slice_get-get_or blocks i d lt ∙ ap (λ r. Some r) (sym is)))) w
-
-pub next_of_arcs : (all : List WideRec) (arcs : List RawArc) (i : ℕ) (arc d : RawArc) (old now : Content) → i < length arcs → arc ≡ get_or arcs i d
-    → IsUnderway all (map wide_arc (drop i arcs)) old now → IsUnderway all ((wide_arc arc ∷ []) ++ map wide_arc (drop (i + 1) arcs)) old now
-next_of_arcs all arcs i arc d old now lt is w =
-    subst (λ (l : List WideRec). IsUnderway all l old now) (ap (map wide_arc) (cut_at arcs i arc (slice_get-get_or arcs i d lt ∙ ap (λ r. Some r) (sym is)))) w
-
-pub end_of_records : (recs : List Rec) (i : ℕ) (old now : Content) → length recs ≤ i → IsUnderway (wide_records recs) (wide_records (drop i recs)) old now → IsAdded (wide_records recs) old now
-end_of_records recs i old now le w = at_end (wide_records recs) old now (subst (λ (l : List WideRec). IsUnderway (wide_records recs) l old now) (ap wide_records (past_end recs i le)) w)
-
-pub end_of_blocks : (blocks : List RawBlock) (i : ℕ) (old now : Content) → length blocks ≤ i → IsUnderway (map wide_block blocks) (map wide_block (drop i blocks)) old now → IsAdded (map wide_block blocks) old now
-end_of_blocks blocks i old now le w = at_end (map wide_block blocks) old now (subst (λ (l : List WideRec). IsUnderway (map wide_block blocks) l old now) (ap (map wide_block) (past_end blocks i le)) w)
-
-pub end_of_arcs : (arcs : List RawArc) (i : ℕ) (old now : Content) → length arcs ≤ i → IsUnderway (map wide_arc arcs) (map wide_arc (drop i arcs)) old now → IsAdded (map wide_arc arcs) old now
-end_of_arcs arcs i old now le w = at_end (map wide_arc arcs) old now (subst (λ (l : List WideRec). IsUnderway (map wide_arc arcs) l old now) (ap (map wide_arc) (past_end arcs i le)) w)
-
 pub arcs_widened : (arcs : List RawArc) → wide_records (map raw.Arc arcs) ≡ map wide_arc arcs
 arcs_widened [] = refl
 arcs_widened (a ∷ arcs) = ap (λ (recs : List WideRec). wide_arc a ∷ recs) (arcs_widened arcs)
@@ -261,6 +234,9 @@ arcs_widened (a ∷ arcs) = ap (λ (recs : List WideRec). wide_arc a ∷ recs) (
 pub arcs_accepted : (arcs : List RawArc) (c : Content) → conflict_of c (map wide_arc arcs) ≡ None
 arcs_accepted [] c = refl
 arcs_accepted (a ∷ arcs) c = arcs_accepted arcs (with_record (wide_arc a) c)
+
+pub arcs_added : {some all : List RawArc} → some ≡ all → (old new : Content) → new ≡ with_records (map wide_arc some) old → IsAdded (map wide_arc all) old new
+arcs_added {all = all} same old new added = record { added = added ∙ ap (λ (arcs : List RawArc). with_records (map wide_arc arcs) old) same; accepted = arcs_accepted all old }
 
 pub blocks_accepted : (blocks : List RawBlock) (c : Content) → conflict_of c (map wide_block blocks) ≡ None
 blocks_accepted [] c = refl

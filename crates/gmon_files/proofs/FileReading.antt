@@ -20,7 +20,12 @@ use Rattle.gmon_bsd.proofs.FieldLemmas.{spelled_of as bsd_spelled}
 use Rattle.gmon_gnu.proofs.MeaningLemmas.{spelled_of as gnu_spelled}
 use Rattle.gmon_files.specs.declared.file_reader.FileReader.{FileReader}
 use Rattle.gmon_files.specs.declared.file_reader.FileReader.TheVariants as reader
-use Rattle.gmon_files.specs.FileRead.{StandsFor}
+use Rattle.gmon_bsd.specs.Fed as bsd
+use Rattle.gmon_gnu.specs.Fed as gnu
+use Rattle.gmon_bsd.specs.Adding as adding_bsd
+use Rattle.gmon_gnu.specs.Adding as adding_gnu
+use Rattle.gmon_data.specs.Content.{IsWithin, empty_content, wide_records, with_records}
+use Rattle.gmon_files.specs.FileRead.{FitsProfile, StandsFor}
 use Rattle.gmon_files.specs.Forms.{form_of, file_records, file_refusal, records_in, refusal_in, SpellsIn, FileSpells}
 
 pub form_goes_on : (bytes piece : List ℕ) → 4 ≤ length bytes → form_of (bytes ++ piece) ≡ form_of bytes
@@ -54,6 +59,25 @@ pub file_spelled : (bytes : List ℕ) (r : FileReader) → StandsFor bytes r →
 file_spelled bytes (reader.Front front) s none = absurd (let e : Some (Short (length bytes)) ≡ None = sym (short_refused bytes s.1) ∙ none in cc)
 file_spelled bytes (reader.Bsd r) s none = accepted_spelled bytes s.0.are_bytes none
 file_spelled bytes (reader.Gnu r) s none = accepted_spelled bytes s.0.are_bytes none
+
+-- ---- what holds of what a form's reader stands for holds of the file
+
+pub of_bsd : {r : FileReader} {b : bsd.Kept} → r ≡ reader.Bsd b → (P : List ℕ → Form → Type 0) → ((bytes : List ℕ) → bsd.StandsFor bytes b → P bytes Bsd)
+    → (bytes : List ℕ) → StandsFor bytes r → P bytes (form_of bytes)
+of_bsd is P known bytes stands = let p = subst (λ (x : FileReader). StandsFor bytes x) is stands in subst (P bytes) (sym p.1) (known bytes p.0)
+
+pub of_gnu : {r : FileReader} {g : gnu.Kept} → r ≡ reader.Gnu g → (P : List ℕ → Form → Type 0) → ((bytes : List ℕ) → gnu.StandsFor bytes g → P bytes Gnu)
+    → (bytes : List ℕ) → StandsFor bytes r → P bytes (form_of bytes)
+of_gnu is P known bytes stands = let p = subst (λ (x : FileReader). StandsFor bytes x) is stands in subst (P bytes) (sym p.1) (known bytes p.0)
+
+abbrev Fits : List ℕ → Form → Type 0
+Fits bytes f = refusal_in f bytes ≡ None → IsWithin (with_records (wide_records (records_in f bytes).recs) empty_content)
+
+pub fits_bsd : {r : FileReader} {b : bsd.Kept} → r ≡ reader.Bsd b → FitsProfile r → adding_bsd.FitsProfile b
+fits_bsd is fits = let p = subst (λ (x : FileReader). StandsFor fits.0 x) is fits.1 in (fits.0, p.0, subst (Fits fits.0) p.1 fits.2)
+
+pub fits_gnu : {r : FileReader} {g : gnu.Kept} → r ≡ reader.Gnu g → FitsProfile r → adding_gnu.FitsProfile g
+fits_gnu is fits = let p = subst (λ (x : FileReader). StandsFor fits.0 x) is fits.1 in (fits.0, p.0, subst (Fits fits.0) p.1 fits.2)
 
 -- ---- one piece more of the input
 

@@ -1,17 +1,18 @@
 -- What a reader adds to a profile, entry by entry.
-use Rattle.std.proofs.Common.{◌≡◌, ℕ, ◌+◌, ◌-◌, ◌<◌, ◌≤◌, List, [], ◌∷◌, ◌++◌, length, map, take, drop, get_or, append_assoc, Some, length-drop, sym, ap, subst, ◌∙◌, arith}
+use Rattle.std.proofs.Common.{◌≡◌, ℕ, ◌-◌, List, [], ◌∷◌, ◌++◌, length, map, take, drop, append_assoc, length-drop, refl, sym, ap, subst, ◌∙◌, arith}
 use Rattle.std.specs.List.{AllByRecursion, flat_map}
 use Rattle.std.proofs.lemmas.Grind.{flat_map-append}
 use Rattle.std.proofs.lemmas.List.{append-nil, take_all}
 use Rattle.std.proofs.lemmas.List.Concat.{flat_map-cons}
-use Rattle.std.proofs.lemmas.Option.{slice_get-get_or}
 use Rattle.gp_base.specs.declared.records.RawArc.{RawArc}
 use Rattle.gp_base.specs.declared.records.RawBlock.{RawBlock}
 use Rattle.gp_base.specs.declared.records.Rec.{Rec}
 use Rattle.gp_base.specs.declared.records.Rec.TheVariants.{Arc}
 use Rattle.gp_base.specs.Spans.{HasRange}
-use Rattle.gmon_data.specs.Content.{Content, WideRec, IsAdded, wide_arc, wide_record, wide_records}
-use Rattle.gmon_data.proofs.RecordLemmas.{IsUnderway, arcs_widened, at_end, cut_at, past_end}
+use Rattle.gmon_data.specs.declared.refusal.AddRefusal.{AddRefusal}
+use Rattle.gmon_data.specs.Content.{Content, WideRec, IsAdded, IsStopped, IsWithin, wide_arc, wide_record, wide_records, with_records}
+use Rattle.gmon_data.proofs.LoopLemmas.{IsInTurn}
+use Rattle.gmon_data.proofs.RecordLemmas.{added_both, arcs_added, arcs_widened, stopped_first, stopped_second, within_first, within_second}
 use Rattle.gmon_gnu.specs.declared.state.Entry.{Entry}
 use Rattle.gmon_gnu.specs.Held.{entry_recs, rec_of, recs_in, entries_recs}
 
@@ -39,20 +40,13 @@ module _ (counters : List ℕ) (pairs : List RawBlock) (arcs : List RawArc) wher
       flat_map-append wide_record (flat_map (entry_recs counters pairs arcs) entries) (map Arc (drop run arcs))
       ∙ ap (λ (v : List WideRec). entries_recs counters pairs arcs entries ++ v) (arcs_widened (drop run arcs))
 
-  pub next_of_entries : (all : List WideRec) (entries : List Entry) (i : ℕ) (e d : Entry) (old now : Content) → i < length entries → e ≡ get_or entries i d
-      → IsUnderway all (entries_recs counters pairs arcs (drop i entries)) old now → IsUnderway all (wide_records (entry_recs counters pairs arcs e) ++ entries_recs counters pairs arcs (drop (i + 1) entries)) old now
-  next_of_entries all entries i e d old now lt is w =
-      let next = cut_at entries i e (slice_get-get_or entries i d lt ∙ ap (λ (x : Entry). Some x) (sym is)) in
-      subst (λ (l : List WideRec). IsUnderway all l old now)
-      (ap (entries_recs counters pairs arcs) next
-      ∙ ap wide_records (flat_map-cons (entry_recs counters pairs arcs) e (drop (i + 1) entries))
-      ∙ flat_map-append wide_record (entry_recs counters pairs arcs e) (flat_map (entry_recs counters pairs arcs) (drop (i + 1) entries)))
-      w
-
-  pub end_of_entries : (entries : List Entry) (i : ℕ) (old now : Content) → length entries ≤ i
-      → IsUnderway (entries_recs counters pairs arcs entries) (entries_recs counters pairs arcs (drop i entries)) old now → IsAdded (entries_recs counters pairs arcs entries) old now
-  end_of_entries entries i old now le w =
-      at_end (entries_recs counters pairs arcs entries) old now (subst (λ (l : List WideRec). IsUnderway (entries_recs counters pairs arcs entries) l old now) (ap (entries_recs counters pairs arcs) (past_end entries i le)) w)
+  pub entries_in_turn : IsInTurn Entry (λ e. wide_records (entry_recs counters pairs arcs e)) (entries_recs counters pairs arcs)
+  entries_in_turn = record {
+    none = refl;
+    more = λ e entries.
+        ap wide_records (flat_map-cons (entry_recs counters pairs arcs) e entries)
+        ∙ flat_map-append wide_record (entry_recs counters pairs arcs e) (flat_map (entry_recs counters pairs arcs) entries);
+  }
 
   -- the histograms of entries have ranges where all do
   pub entries_ranges : (entries : List Entry) (rest : List Rec) → AllByRecursion HasRange (flat_map (entry_recs counters pairs arcs) entries ++ rest) → AllByRecursion (λ e. HasRange (rec_of counters pairs e.body)) entries
@@ -67,3 +61,48 @@ module _ (counters : List ℕ) (pairs : List RawBlock) (arcs : List RawArc) wher
       ∙ append_assoc before (r ∷ []) (others ++ rest) in
       let behind = last_all before (r ∷ (others ++ rest)) (subst (λ (v : List Rec). AllByRecursion HasRange v) split all) in
       (behind.0, entries_ranges entries rest behind.1)
+
+  -- ---- entries, and then the arcs behind them
+
+  module _ (entries : List Entry) (run : ℕ) (old start : Content) (same : start ≡ old) where
+    abbrev all : List WideRec
+    all = wide_records (recs_in counters pairs arcs entries run)
+
+    abbrev first : List WideRec
+    first = entries_recs counters pairs arcs entries
+
+    abbrev last : List WideRec
+    last = map wide_arc (drop run arcs)
+
+    widened : all ≡ first ++ last
+    widened = all_widened entries run
+
+    split_within : IsWithin (with_records all old) → IsWithin (with_records (first ++ last) old)
+    split_within = subst (λ (recs : List WideRec). IsWithin (with_records recs old)) widened
+
+    pub entries_within : IsWithin (with_records all old) → IsWithin (with_records first start)
+    entries_within fits = subst (λ (c : Content). IsWithin (with_records first c)) (sym same) (within_first first last old (split_within fits))
+
+    pub entries_stopped : (refusal : AddRefusal) (new : Content) → IsStopped refusal first start new → IsStopped refusal all old new
+    entries_stopped refusal new stopped =
+        subst (λ (recs : List WideRec). IsStopped refusal recs old new) (sym widened) (stopped_first first last old refusal new (subst (λ (c : Content). IsStopped refusal first c new) same stopped))
+
+    module _ (mid : Content) (one : IsAdded first start mid) (slice : List RawArc) (slice_is : slice ≡ arcs) where
+      first_added : IsAdded first old mid
+      first_added = subst (λ (c : Content). IsAdded first c mid) same one
+
+      abbrev behind : List RawArc
+      behind = take (length slice - run) (drop run slice)
+
+      pub last_within : IsWithin (with_records all old) → IsWithin (with_records (map wide_arc behind) mid)
+      last_within fits =
+          subst (λ (rest : List RawArc). IsWithin (with_records (map wide_arc rest) mid)) (sym (rest_of_slice slice arcs run slice_is)) (within_second first last old mid first_added (split_within fits))
+
+      pub last_stopped : (refusal : AddRefusal) (new : Content) → IsStopped refusal (map wide_arc behind) mid new → IsStopped refusal all old new
+      last_stopped refusal new stopped =
+          subst (λ (recs : List WideRec). IsStopped refusal recs old new) (sym widened)
+          (stopped_second first last old mid first_added refusal new (subst (λ (rest : List RawArc). IsStopped refusal (map wide_arc rest) mid new) (rest_of_slice slice arcs run slice_is) stopped))
+
+      pub last_added : (new : Content) → new ≡ with_records (map wide_arc behind) mid → IsAdded all old new
+      last_added new is =
+          subst (λ (recs : List WideRec). IsAdded recs old new) (sym widened) (added_both first last old mid first_added new (arcs_added (rest_of_slice slice arcs run slice_is) mid new is))

@@ -47,6 +47,10 @@ records_are bytes recs is =
 
 -- ---- it ends here
 
+-- what is seen of a reader stands for what its inside does
+pub seen_as : {bytes : List ℕ} {kept seen : Kept} → kept ≡ seen → StandsFor bytes seen → StandsFor bytes kept
+seen_as {bytes = bytes} is = subst (λ (k : Kept). StandsFor bytes k) (sym is)
+
 pub read_out : (bytes : List ℕ) (kept : Kept) (o : Option GmonRefusal) → StandsFor bytes kept → resume kept.len kept.open_now kept.rest ≡ ending_result o → header_on (length bytes) bytes ≡ behind_records kept.recs (ending_result o)
 read_out bytes kept o s is =
     let none : bytes ++ [] ≡ bytes = append-nil bytes in

@@ -1,5 +1,5 @@
 -- The profile of what was read is the same where its histograms come first, in another order.
-use Rattle.std.proofs.Common.{◌≡◌, ℕ, zero, suc, ◌+◌, ◌-◌, ◌<◌, ◌≤◌, List, [], ◌∷◌, ◌++◌, length, map, take, drop, get_or, slice_get, Option, Some, None, if◌then◌else◌, refl, sym, ap, subst, ◌∙◌, arith}
+use Rattle.std.proofs.Common.{◌≡◌, ℕ, ◌+◌, ◌-◌, ◌<◌, List, [], ◌∷◌, ◌++◌, length, map, take, drop, get_or, slice_get, Option, Some, None, if◌then◌else◌, refl, sym, ap, subst, ◌∙◌}
 use Rattle.std.specs.List.{AllByRecursion, flat_map}
 use Rattle.std.specs.List.Sorted.{IsPermutation}
 use Rattle.std.proofs.lemmas.Grind.{flat_map-append}
@@ -14,10 +14,11 @@ use Rattle.gp_base.specs.declared.records.Rec.TheVariants as raw
 use Rattle.gp_base.specs.declared.records.Unit as units
 use Rattle.gp_base.specs.Spans.{HasRange}
 use Rattle.gmon_data.specs.declared.hist.Hist.{Hist}
-use Rattle.gmon_data.specs.Content.{Content, WideRec, IsAdded, IsWithin as IsWithinLimits, HasSpan, empty_content, hist_over, wide_arc, wide_block, wide_record, wide_records, with_records}
+use Rattle.gmon_data.specs.Content.{Content, WideRec, IsAdded, IsWithin, HasSpan, empty_content, hist_over, wide_arc, wide_block, wide_record, wide_records, with_records}
 use Rattle.gmon_data.specs.Order.{hist_pair, hist_record, hists_in, is_other, others_in}
 use Rattle.std.proofs.lemmas.Option.{slice_get-get_or}
-use Rattle.gmon_data.proofs.RecordLemmas.{IsUnderway, at_end, cut_at, past_end}
+use Rattle.gmon_data.proofs.LoopLemmas.{IsInTurn}
+use Rattle.gmon_data.proofs.RecordLemmas.{added_both, arcs_added, within_first, within_second}
 use Rattle.gmon_data.proofs.OrderLemmas.{reordered, reordered_within}
 use Rattle.gmon_gnu.specs.declared.profile_making.Placed.{Placed}
 use Rattle.gmon_gnu.specs.declared.state.Body.{Body}
@@ -25,7 +26,7 @@ use Rattle.gmon_gnu.specs.declared.state.Body.TheVariants as body
 use Rattle.gmon_gnu.specs.declared.state.Entry.{Entry}
 use Rattle.gmon_gnu.specs.Held.{entry_recs, entries_recs, rec_of, recs_in}
 use Rattle.gmon_gnu.specs.Making.{IsOrderOf, block_recs, body_recs, hists_among, is_hist, other_recs, place_of, placed_entries, placed_recs}
-use Rattle.gmon_gnu.proofs.AddingLemmas.{all_widened, entry_widened}
+use Rattle.gmon_gnu.proofs.AddingLemmas.{all_widened, entry_widened, rest_of_slice}
 
 -- ---- the list of histograms
 
@@ -60,43 +61,18 @@ pub order_of : (entries : List Entry) (xs ys : List Placed) → IsPermutation xs
 order_of entries xs ys same is =
     subst (λ (l : List (Option Entry)). IsPermutation l (placed_entries entries ys)) is (IsPermutation-map (λ (p : Placed). slice_get entries p.entry) xs ys same)
 
--- ---- loops over entries
+pub order_as : {entries entries' : List Entry} {order order' : List Placed} → entries ≡ entries' → order ≡ order' → IsOrderOf entries order' → IsOrderOf entries' order
+order_as {entries' = entries'} {order' = order'} entries_are order_is same =
+    subst (λ (o : List Placed). IsOrderOf entries' o) (sym order_is) (subst (λ (es : List Entry). IsOrderOf es order') entries_are same)
 
-pub at_place : (order : List Placed) (n i : ℕ) (d : Placed) → i < length order → AllByRecursion (λ p. p.entry < n) order → (get_or order i d).entry < n
-at_place [] n i d lt all = absurd (omega (arith, lt))
-at_place (p ∷ order) n zero d lt all = all.0
-at_place (p ∷ order) n (suc i) d lt all = at_place order n i d (omega (arith, lt)) all.1
+-- ---- what the entries with these numbers stand for
 
-pub next_of_all : (f : Entry → List WideRec) (all : List WideRec) (entries : List Entry) (i : ℕ) (e d : Entry) (old now : Content) → i < length entries → e ≡ get_or entries i d
-    → IsUnderway all (flat_map f (drop i entries)) old now → IsUnderway all (f e ++ flat_map f (drop (i + 1) entries)) old now
-next_of_all f all entries i e d old now lt is w =
-    let next = cut_at entries i e (slice_get-get_or entries i d lt ∙ ap (λ (x : Entry). Some x) (sym is)) in
-    subst (λ (l : List WideRec). IsUnderway all l old now) (ap (flat_map f) next ∙ flat_map-cons f e (drop (i + 1) entries)) w
+module _ (counters : List ℕ) (pairs : List RawBlock) (entries : List Entry) where
+  pub placed_in_turn : IsInTurn Placed (λ p. body_recs counters pairs (slice_get entries p.entry)) (placed_recs counters pairs entries)
+  placed_in_turn = record { none = refl; more = λ p order. flat_map-cons (body_recs counters pairs) (slice_get entries p.entry) (placed_entries entries order) }
 
-pub end_of_all : (f : Entry → List WideRec) (entries : List Entry) (i : ℕ) (old now : Content) → length entries ≤ i
-    → IsUnderway (flat_map f entries) (flat_map f (drop i entries)) old now → IsAdded (flat_map f entries) old now
-end_of_all f entries i old now le w =
-    at_end (flat_map f entries) old now (subst (λ (l : List WideRec). IsUnderway (flat_map f entries) l old now) (ap (flat_map f) (past_end entries i le)) w)
-
-module _ (counters : List ℕ) (pairs : List RawBlock) where
-  pub next_of_placed : (all : List WideRec) (entries : List Entry) (order : List Placed) (i : ℕ) (p d : Placed) (e none : Entry) (old now : Content) → i < length order → p ≡ get_or order i d
-      → p.entry < length entries → e ≡ get_or entries p.entry none
-      → IsUnderway all (placed_recs counters pairs entries (drop i order)) old now → IsUnderway all (wide_record (rec_of counters pairs e.body) ++ placed_recs counters pairs entries (drop (i + 1) order)) old now
-  next_of_placed all entries order i p d e none old now lt is inside at w =
-      let next = cut_at order i p (slice_get-get_or order i d lt ∙ ap (λ (x : Placed). Some x) (sym is)) in
-      let here : slice_get entries p.entry ≡ Some e = slice_get-get_or entries p.entry none inside ∙ ap (λ (x : Entry). Some x) (sym at) in
-      let behind = placed_entries entries (drop (i + 1) order) in
-      subst (λ (l : List WideRec). IsUnderway all l old now)
-      (ap (placed_recs counters pairs entries) next
-      ∙ flat_map-cons (body_recs counters pairs) (slice_get entries p.entry) behind
-      ∙ ap (λ (o : Option Entry). body_recs counters pairs o ++ flat_map (body_recs counters pairs) behind) here)
-      w
-
-  pub end_of_placed : (entries : List Entry) (order : List Placed) (i : ℕ) (old now : Content) → length order ≤ i
-      → IsUnderway (placed_recs counters pairs entries order) (placed_recs counters pairs entries (drop i order)) old now → IsAdded (placed_recs counters pairs entries order) old now
-  end_of_placed entries order i old now le w =
-      let all = placed_recs counters pairs entries order in
-      at_end all old now (subst (λ (l : List WideRec). IsUnderway all l old now) (ap (placed_recs counters pairs entries) (past_end order i le)) w)
+  pub placed_body : (p : Placed) (none : Entry) → p.entry < length entries → body_recs counters pairs (slice_get entries p.entry) ≡ wide_record (rec_of counters pairs (get_or entries p.entry none).body)
+  placed_body p none inside = ap (body_recs counters pairs) (slice_get-get_or entries p.entry none inside)
 
 -- ---- histograms and other records among those that were read
 
@@ -221,6 +197,9 @@ module _ (counters : List ℕ) (pairs : List RawBlock) (arcs : List RawArc) wher
     abbrev others : List WideRec
     others = flat_map (other_recs pairs arcs) entries
 
+    abbrev placed : List WideRec
+    placed = placed_recs counters pairs entries order
+
     abbrev all : List WideRec
     all = wide_records (recs_in counters pairs arcs entries run)
 
@@ -241,17 +220,41 @@ module _ (counters : List ℕ) (pairs : List RawBlock) (arcs : List RawArc) wher
     permuted =
         subst (λ (l : List (Hist × units.Unit)). IsPermutation l in_order) (sym all_hists) (IsPermutation-map (pair_at counters) (map Some (hists_among entries)) (placed_entries entries order) same)
 
-    placed_first : map hist_record in_order ++ others_in all ≡ placed_recs counters pairs entries order ++ (others ++ last_arcs)
+    placed_first : map hist_record in_order ++ others_in all ≡ placed ++ (others ++ last_arcs)
     placed_first =
         let is = paired (placed_entries entries order) (all_reordered IsPaired (map Some (hists_among entries)) (placed_entries entries order) same (all_paired entries)) in
         λ k. sym is k ++ all_others k
 
-    pub order_within : IsWithinLimits (with_records all empty_content) → IsWithinLimits (with_records (placed_recs counters pairs entries order ++ (others ++ last_arcs)) empty_content)
-    order_within w = subst (λ (l : List WideRec). IsWithinLimits (with_records l empty_content)) placed_first (reordered_within all in_order permuted empty_content w)
+    placed_within : IsWithin (with_records all empty_content) → IsWithin (with_records (placed ++ (others ++ last_arcs)) empty_content)
+    placed_within fits = subst (λ (l : List WideRec). IsWithin (with_records l empty_content)) placed_first (reordered_within all in_order permuted empty_content fits)
 
-    pub order_added : (new : Content) → AllByRecursion (λ e. HasRange (rec_of counters pairs e.body)) entries
-        → IsAdded (placed_recs counters pairs entries order ++ (others ++ last_arcs)) empty_content new → IsAdded all empty_content new
-    order_added new ranges a =
-        let widened = all_widened counters pairs arcs entries run in
-        let spans = subst (λ (l : List WideRec). AllByRecursion HasSpan l) (sym widened) (all_joined HasSpan (entries_recs counters pairs arcs entries) last_arcs (spans_of_entries entries ranges) (spans_of_arcs (drop run arcs))) in
-        reordered all in_order new spans permuted (subst (λ (l : List WideRec). IsAdded l empty_content new) (sym placed_first) a)
+    -- histograms are added first, in that order, then the others of the entries, and then the arcs behind them
+    module _ (start : Content) (empty : start ≡ empty_content) where
+      pub hists_within : IsWithin (with_records all empty_content) → IsWithin (with_records placed start)
+      hists_within fits = subst (λ (c : Content). IsWithin (with_records placed c)) (sym empty) (within_first placed (others ++ last_arcs) empty_content (placed_within fits))
+
+      module _ (mid : Content) (one : IsAdded placed start mid) where
+        hists_added : IsAdded placed empty_content mid
+        hists_added = subst (λ (c : Content). IsAdded placed c mid) empty one
+
+        behind_within : IsWithin (with_records all empty_content) → IsWithin (with_records (others ++ last_arcs) mid)
+        behind_within fits = within_second placed (others ++ last_arcs) empty_content mid hists_added (placed_within fits)
+
+        pub others_within : IsWithin (with_records all empty_content) → IsWithin (with_records others mid)
+        others_within fits = within_first others last_arcs mid (behind_within fits)
+
+        module _ (next : Content) (two : IsAdded others mid next) (slice : List RawArc) (slice_is : slice ≡ arcs) where
+          abbrev behind : List RawArc
+          behind = take (length slice - run) (drop run slice)
+
+          pub arcs_within : IsWithin (with_records all empty_content) → IsWithin (with_records (map wide_arc behind) next)
+          arcs_within fits =
+              subst (λ (rest : List RawArc). IsWithin (with_records (map wide_arc rest) next)) (sym (rest_of_slice slice arcs run slice_is)) (within_second others last_arcs mid next two (behind_within fits))
+
+          pub all_added : (new : Content) → AllByRecursion (λ e. HasRange (rec_of counters pairs e.body)) entries → new ≡ with_records (map wide_arc behind) next → IsAdded all empty_content new
+          all_added new ranges is =
+              let widened = all_widened counters pairs arcs entries run in
+              let spans = subst (λ (l : List WideRec). AllByRecursion HasSpan l) (sym widened) (all_joined HasSpan (entries_recs counters pairs arcs entries) last_arcs (spans_of_entries entries ranges) (spans_of_arcs (drop run arcs))) in
+              let three = arcs_added (rest_of_slice slice arcs run slice_is) next new is in
+              let parts = added_both placed (others ++ last_arcs) empty_content mid hists_added new (added_both others last_arcs mid next two new three) in
+              reordered all in_order new spans permuted (subst (λ (l : List WideRec). IsAdded l empty_content new) (sym placed_first) parts)

@@ -7,7 +7,7 @@ use Rattle.gp_base.specs.declared.records.RawHist.{RawHist}
 use Rattle.gp_base.specs.declared.records.Rec.{Rec}
 use Rattle.gp_base.specs.declared.records.Rec.TheVariants.{Hist, Arc, Blocks}
 use Rattle.gp_base.specs.Spans.{HasRange}
-use Rattle.gmon_data.specs.Content.{WideRec, wide_records}
+use Rattle.gmon_data.specs.Content.{Content, WideRec, wide_records, with_records, IsWithin as IsWithinLimits}
 use Rattle.gmon_gnu.specs.declared.state.HistFields.{HistFields}
 use Rattle.gmon_gnu.specs.declared.state.Entry.{Entry}
 use Rattle.gmon_gnu.specs.declared.state.Body.{Body}
@@ -55,6 +55,13 @@ IsWithin counters pairs arcs e = (e.first ≤ e.last) × (e.last ≤ arcs) × Is
 -- all spans lie within what there is
 abbrev pub AreWithin : State → Type 0
 AreWithin s = AllByRecursion (IsWithin (length s.counters.cells.items) (length s.pairs.cells.items) (length s.arcs.items)) s.entries.items
+
+-- what was read can be added to a profile
+pub record CanBeAdded (s : State) (old : Content) : Type 0 where
+  pub held : AreWithin s
+  pub run : s.run ≤ length s.arcs.items
+  pub ranges : HaveRanges s
+  pub within : IsWithinLimits (with_records (wide_records (recs_of s)) old)
 
 abbrev pub open_of : Part → List ℕ → List RawBlock → Open
 open_of part.Header counters pairs = InHeader

@@ -1,9 +1,9 @@
 //! Adding what was read of a file to a profile.
 
-ghost use Rattle.std.specs.Prelude.{◌≡◌, ◌≤◌, length, IfErr, OnOk};
+ghost use Rattle.std.specs.Prelude.{◌≡◌, length, IfErr, OnOk};
 ghost use Rattle.gp_base.specs.Spans.{HasRange};
 ghost use Rattle.gmon_data.specs.Content.{wide_record, wide_records, with_records, IsAdded, IsStopped, IsWithin as IsWithinLimits};
-ghost use Rattle.gmon_gnu.specs.Held.{entry_recs, rec_of, recs_of, AreWithin, IsBodyWithin, IsWithin, entries_recs, HaveRanges};
+ghost use Rattle.gmon_gnu.specs.Held.{entry_recs, rec_of, recs_of, AreWithin, CanBeAdded, IsBodyWithin, IsWithin, entries_recs, HaveRanges};
 
 use crate::state::{Body, Entry, State};
 use gmon_data::{AddRefusal, Profile};
@@ -12,11 +12,7 @@ use gp_base::{RawArc, RawBlock};
 impl State {
     /// Adds the records to a profile, without a list of them. Room is taken first, where there is some.
     pub(crate) fn add_to(&self, profile: &mut Profile) -> Result<(), AddRefusal>
-        requires held { AreWithin self.now }
-        requires run { self.now.run ≤ length self.now.arcs.items }
-        requires ranges { HaveRanges self.now }
-        requires within { IsWithinLimits
-            (with_records (wide_records (recs_of self.now)) profile.old) }
+        requires { CanBeAdded self.now profile.old }
         ensures added { OnOk result (IsAdded
             (wide_records (recs_of self.now)) profile.old profile.new) }
         ensures stopped { IfErr result (λ refusal. IsStopped refusal

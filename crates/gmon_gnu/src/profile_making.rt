@@ -1,10 +1,10 @@
 //! The profile of what was read of a file.
 
-ghost use Rattle.std.specs.Prelude.{◌≡◌, ◌<◌, ◌≤◌, ◌++◌, length, map, Some, IfErr, IfOk, OnOk};
+ghost use Rattle.std.specs.Prelude.{◌≡◌, ◌<◌, ◌++◌, length, map, Some, IfErr, IfOk, OnOk};
 ghost use Rattle.std.specs.List.{AllByRecursion, flat_map};
 ghost use Rattle.gmon_data.specs.Content.{empty_content, conflict_of, wide_records, with_records, IsAdded, IsWithin as IsWithinLimits};
 ghost use Rattle.gmon_data.specs.Hists.{IsUnlike};
-ghost use Rattle.gmon_gnu.specs.Held.{recs_of, AreWithin, IsBodyWithin, IsWithin, HaveRanges};
+ghost use Rattle.gmon_gnu.specs.Held.{recs_of, AreWithin, CanBeAdded, IsBodyWithin, IsWithin, HaveRanges};
 ghost use Rattle.gmon_gnu.specs.Making.{block_recs, other_recs, place_of, placed_recs, IsOrderOf, placed_entries, hists_among};
 
 use crate::adding::add_body;
@@ -24,11 +24,7 @@ impl State {
     /// takes its place behind those before it: a profile is the same in whatever order they come. Where one of them
     /// can't be added, the first one of the file that can't is told.
     pub(crate) fn into_profile(&self, alloc: Global) -> Result<Profile, AddRefusal>
-        requires held { AreWithin self.now }
-        requires run { self.now.run ≤ length self.now.arcs.items }
-        requires ranges { HaveRanges self.now }
-        requires within { IsWithinLimits
-            (with_records (wide_records (recs_of self.now)) empty_content) }
+        requires { CanBeAdded self.now empty_content }
         ensures made { IfOk result (λ profile. IsAdded
             (wide_records (recs_of self.now)) empty_content profile) }
         ensures refusal { IfErr result (λ refusal. IsUnlike refusal
@@ -43,11 +39,7 @@ impl State {
 
     /// The profile of the records, added in the order of the file.
     fn in_file_order(&self, alloc: Global) -> Result<Profile, AddRefusal>
-        requires held { AreWithin self.now }
-        requires run { self.now.run ≤ length self.now.arcs.items }
-        requires ranges { HaveRanges self.now }
-        requires within { IsWithinLimits
-            (with_records (wide_records (recs_of self.now)) empty_content) }
+        requires { CanBeAdded self.now empty_content }
         ensures made { IfOk result (λ profile. IsAdded
             (wide_records (recs_of self.now)) empty_content profile) }
         ensures refusal { IfErr result (λ refusal. IsUnlike refusal
@@ -60,11 +52,7 @@ impl State {
 
     /// The profile of the records: of the histograms in ascending order, and then of the others.
     fn in_hist_order(&self, alloc: Global) -> Result<Profile, AddRefusal>
-        requires held { AreWithin self.now }
-        requires run { self.now.run ≤ length self.now.arcs.items }
-        requires ranges { HaveRanges self.now }
-        requires within { IsWithinLimits
-            (with_records (wide_records (recs_of self.now)) empty_content) }
+        requires { CanBeAdded self.now empty_content }
         ensures { IfOk result (λ profile. IsAdded
             (wide_records (recs_of self.now)) empty_content profile) }
     {

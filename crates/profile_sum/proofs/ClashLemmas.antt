@@ -2,8 +2,7 @@
 use Rattle.std.proofs.Common.{◌≡◌, ℕ, suc, ◌+◌, ◌≤◌, drop, is_some, true≢false, Bool, true, false, ltb, eqb, ◌&&◌, not, List, [], ◌∷◌, length, map, slice_get, filter_map, option_and_then, Option, Some, None, unwrap_or, refl, sym, ap, subst, ◌∙◌, if◌then◌else◌}
 use Rattle.std.specs.List.{AllByRecursion}
 use Rattle.std.specs.Option.{option_or}
-use Rattle.std.specs.Str.{bytes_eq}
-use Rattle.std.proofs.lemmas.Bool.{le-ltb, lt-ltb, eqb-true, eq-eqb, and_right}
+use Rattle.std.proofs.lemmas.Bool.{le-ltb, lt-ltb, eqb-true, and_right}
 use Rattle.gp_base.specs.declared.records.Unit as units
 use Rattle.gmon_data.specs.declared.hist.Hist.{Hist}
 use Rattle.gmon_data.specs.declared.hist.HistRange.{HistRange}
@@ -11,11 +10,11 @@ use Rattle.gmon_data.specs.declared.refusal.Unlike.{Unlike}
 use Rattle.gmon_data.specs.declared.refusal.Unlike.TheVariants.{Range}
 use Rattle.gmon_data.specs.Hists.{put_hist, hist_sum, range_of, range_conflict, overlap, same_range, conflict_with, unit_conflict, kept_unit, has_counters, IsKept, IsApart, IsUnitOf}
 use Rattle.gmon_data.specs.Content.{Content, empty_content, with_hist, hist_conflict, conflict_of, IsProfile}
-use Rattle.gmon_data.proofs.CounterLemmas.{length-pointwise}
-use Rattle.gmon_data.proofs.HistLemmas.{alike_counters, all_kept, first_none}
+use Rattle.gmon_data.proofs.ExchangeLemmas.{unit_self}
+use Rattle.gmon_data.proofs.HistLemmas.{alike_counters, all_kept, first_none, range-sum}
+use Rattle.gmon_data.proofs.LoopLemmas.{at_all}
 use Rattle.gmon_data.proofs.RecordLemmas.{cut_at, past_end}
 use Rattle.profile_sum.specs.Sum.{clash_of, hist_record}
-use Rattle.profile_sum.proofs.LoopLemmas.{at_all}
 
 -- a histogram that was put in changes no conflict of a range that it doesn't overlap
 skip_put : (h : Hist) (hs : List Hist) (new : HistRange) → overlap (range_of h) new ≡ false
@@ -28,34 +27,24 @@ skip_put h (k ∷ ks) new free alike = by (ltb k.low h.low) (eqb k.low h.low) re
         → range_conflict (if b then k ∷ put_hist h ks else (if e then hist_sum k h ∷ ks else h ∷ k ∷ ks)) new ≡ range_conflict (k ∷ ks) new
     by true e eq others = ap (λ (o : Option Unlike). if overlap (range_of k) new && not (same_range (range_of k) new) then Some (Range (range_of k) new) else o) others
     by false true eq others =
-        let count : length (hist_sum k h).counters ≡ length k.counters = length-pointwise k.counters h.counters (alike 0 k refl (eqb-true k.low h.low eq)) in
-        let range : range_of (hist_sum k h) ≡ range_of k = λ i. record { low = k.low; high = k.high; count = count i } in
+        let range = range-sum k h (alike 0 k refl (eqb-true k.low h.low eq)) in
         ap (λ (r : HistRange). if overlap r new && not (same_range r new) then Some (Range r new) else range_conflict ks new) range
     by false false eq others = rw free refl
 
-bytes_self : (xs : List ℕ) → bytes_eq xs xs ≡ true
-bytes_self [] = refl
-bytes_self (x ∷ xs) = rw (eq-eqb x x refl) (bytes_self xs)
-
-none_differ : (a b c : Bool) (x y : Unlike) → a ≡ true → b ≡ true → c ≡ true → (if not a then Some x else (if not (b && c) then Some y else None)) ≡ None
-none_differ a b c x y e f g = rw (e, f, g) refl
-
 unit_more : (o : Option units.Unit) (u : units.Unit) → kept_unit u ≡ u → unit_conflict (Some (unwrap_or o (kept_unit u))) u ≡ unit_conflict o u
 unit_more (Some v) u is = refl
-unit_more None u is =
-    ap (λ (v : units.Unit). unit_conflict (Some v) u) is
-    ∙ none_differ (eqb u.rate u.rate) (bytes_eq u.dim u.dim) (eqb u.«abbrev» u.«abbrev») _ _ (eq-eqb u.rate u.rate refl) (bytes_self u.dim) (eq-eqb u.«abbrev» u.«abbrev» refl)
+unit_more None u is = ap (λ (v : units.Unit). unit_conflict (Some v) u) is ∙ unit_self u
 
 pub some_counters : (h : Hist) → IsKept h → has_counters h ≡ true
 some_counters h kept = lt-ltb 0 (length h.counters) kept.some
+
+pub with_kept : (u : units.Unit) (h : Hist) (c : Content) → IsKept h → with_hist h u c ≡ record c { hists = put_hist h c.hists; «unit» = Some (unwrap_or c.«unit» (kept_unit u)) }
+with_kept u h c kept = rw (some_counters h kept) refl
 
 module _ (u : units.Unit) (is : kept_unit u ≡ u) where
   -- a kept histogram has a conflict of range or of unit
   conflict_is : (c : Content) (h : Hist) → IsKept h → hist_conflict c h u ≡ option_or (range_conflict c.hists (range_of h)) (unit_conflict c.«unit» u)
   conflict_is c h kept = rw (some_counters h kept, is) refl
-
-  with_is : (c : Content) (h : Hist) → IsKept h → with_hist h u c ≡ record c { hists = put_hist h c.hists; «unit» = Some (unwrap_or c.«unit» (kept_unit u)) }
-  with_is c h kept = rw (some_counters h kept) refl
 
   -- adding h changes no conflict of those above it
   same_conflict : (c : Content) (h x : Hist) → AllByRecursion IsKept c.hists → IsKept h → IsKept x → h.high ≤ x.low → hist_conflict c h u ≡ None
@@ -64,7 +53,7 @@ module _ (u : units.Unit) (is : kept_unit u ≡ u) where
       let free : overlap (range_of h) (range_of x) ≡ false = and_right (ltb h.low x.high) (ltb x.low h.high) (le-ltb x.low h.high above) in
       let alike = alike_counters h c.hists (first_none (range_conflict c.hists (range_of h)) (unit_conflict c.«unit» u) (sym (conflict_is c h kept) ∙ none)) all kept.range in
       let range = skip_put h c.hists (range_of x) free alike in
-      ap (λ (d : Content). hist_conflict d x u) (with_is c h kept)
+      ap (λ (d : Content). hist_conflict d x u) (with_kept u h c kept)
       ∙ conflict_is (record c { hists = put_hist h c.hists; «unit» = Some (unwrap_or c.«unit» (kept_unit u)) }) x kept'
       ∙ (λ j. option_or (range j) (unit_more c.«unit» u is j))
       ∙ sym (conflict_is c x kept')

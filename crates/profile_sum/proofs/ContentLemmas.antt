@@ -3,14 +3,15 @@ use Rattle.std.proofs.Common.{◌≡◌, ℕ, suc, ◌+◌, ◌<◌, Bool, true,
 use Rattle.std.specs.Prelude.{⊤}
 use Rattle.std.specs.List.{list_any, AllByRecursion}
 use Rattle.std.specs.Option.{option_or}
-use Rattle.std.proofs.lemmas.Bool.{ltb-true, ltb-false, lt-ltb, le-ltb, eqb-true, eqb-false, eq-eqb, ne_eqb}
+use Rattle.std.proofs.lemmas.Bool.{ltb-true, ltb-false, eqb-true, eqb-false}
 use Rattle.gp_base.specs.declared.records.Unit as units
 use Rattle.gmon_data.specs.declared.hist.Hist.{Hist}
-use Rattle.gmon_data.specs.Hists.{put_hist, hist_sum, pointwise_sum, has_counters, kept_unit}
+use Rattle.gmon_data.specs.Hists.{put_hist, hist_sum, has_counters, kept_unit}
 use Rattle.gmon_data.specs.Tally.{tally}
 use Rattle.gmon_data.specs.Content.{Content, WideRec, WideHist, WideArc, WideBlock, empty_content, same_ends, content_of, with_hist, with_record, with_records}
 use Rattle.gmon_data.proofs.ContentLemmas.{same-self, pair-self, pair-equal}
 use Rattle.gmon_data.proofs.HistLemmas.{above_put, higher}
+use Rattle.gmon_data.proofs.PutLemmas.{put_swap, put_twice}
 use Rattle.gmon_data.proofs.RecordLemmas.{content-more}
 use Rattle.profile_sum.specs.Sum.{sum_of}
 
@@ -86,69 +87,8 @@ module _ {K : Type 0} (same : K → K → Bool) (self : (k : K) → same k k ≡
 
 -- ---- histograms: the same
 
-assoc : (xs ys zs : List ℕ) → pointwise_sum xs (pointwise_sum ys zs) ≡ pointwise_sum (pointwise_sum xs ys) zs
-assoc [] ys zs = refl
-assoc (x ∷ xs) [] zs = refl
-assoc (x ∷ xs) (y ∷ ys) [] = refl
-assoc (x ∷ xs) (y ∷ ys) (z ∷ zs) =
-    let head : x + (y + z) ≡ (x + y) + z = omega arith in
-    λ i. head i ∷ assoc xs ys zs i
-
 abbrev put : List Hist → Hist → List Hist
 put done h = put_hist h done
-
-sum_assoc : (x k h : Hist) → hist_sum x (hist_sum k h) ≡ hist_sum (hist_sum x k) h
-sum_assoc x k h = λ i. record x { counters = assoc x.counters k.counters h.counters i }
-
-put_twice : (k h : Hist) (hs : List Hist) → k.low ≡ h.low → put_hist (hist_sum k h) hs ≡ put_hist h (put_hist k hs)
-put_twice k h [] same = let here = eq-eqb k.low h.low same in let not_less : ltb k.low h.low ≡ false = le-ltb k.low h.low (omega (arith, same)) in rw (not_less, here) refl
-put_twice k h (x ∷ xs) same = by (ltb x.low k.low) (eqb x.low k.low) refl refl (put_twice k h xs same)
-  where
-    by : (b e : Bool) → ltb x.low k.low ≡ b → eqb x.low k.low ≡ e → put_hist (hist_sum k h) xs ≡ put_hist h (put_hist k xs)
-        → (if b then x ∷ put_hist (hist_sum k h) xs else (if e then hist_sum x (hist_sum k h) ∷ xs else hist_sum k h ∷ x ∷ xs))
-        ≡ put_hist h (if b then x ∷ put_hist k xs else (if e then hist_sum x k ∷ xs else k ∷ x ∷ xs))
-    by true e lt eq others =
-        let less : ltb x.low h.low ≡ true = sym (ap (ltb x.low) same) ∙ lt in
-        rw less (ap (λ (l : List Hist). x ∷ l) others)
-    by false true lt eq others =
-        let not_less : ltb x.low h.low ≡ false = sym (ap (ltb x.low) same) ∙ lt in
-        let here : eqb x.low h.low ≡ true = sym (ap (eqb x.low) same) ∙ eq in
-        rw (not_less, here) (ap (λ (z : Hist). z ∷ xs) (sum_assoc x k h))
-    by false false lt eq others =
-        let here = eq-eqb k.low h.low same in
-        let not_less : ltb k.low h.low ≡ false = le-ltb k.low h.low (omega (arith, same)) in
-        rw (not_less, here) refl
-
--- below the first one
-put_lowest : (a y : Hist) (ys : List Hist) → a.low < y.low → put_hist a (y ∷ ys) ≡ a ∷ y ∷ ys
-put_lowest a y ys below =
-    let not_less : ltb y.low a.low ≡ false = le-ltb y.low a.low (omega (arith, below)) in
-    let other : eqb y.low a.low ≡ false = ne_eqb y.low a.low (λ e. let f : a.low < a.low = omega (arith, below, e) in omega (arith, f)) in
-    rw (not_less, other) refl
-
-put_swap : (a b : Hist) (hs : List Hist) → a.low < b.low → put_hist b (put_hist a hs) ≡ put_hist a (put_hist b hs)
-put_swap a b [] below = rw (lt-ltb a.low b.low below) (sym (put_lowest a b [] below))
-put_swap a b (x ∷ xs) below = by (ltb x.low a.low) (eqb x.low a.low) refl refl (put_swap a b xs below)
-  where
-    by : (c e : Bool) → ltb x.low a.low ≡ c → eqb x.low a.low ≡ e → put_hist b (put_hist a xs) ≡ put_hist a (put_hist b xs)
-        → put_hist b (if c then x ∷ put_hist a xs else (if e then hist_sum x a ∷ xs else a ∷ x ∷ xs)) ≡ put_hist a (put_hist b (x ∷ xs))
-    by true e lt eq others =
-        let less : ltb x.low b.low ≡ true = lt-ltb x.low b.low (omega (arith, ltb-true x.low a.low lt, below)) in
-        rw (less, lt) (ap (λ (l : List Hist). x ∷ l) others)
-    by false true lt eq others =
-        let less : ltb x.low b.low ≡ true = lt-ltb x.low b.low (omega (arith, eqb-true x.low a.low eq, below)) in
-        rw (less, lt, eq) refl
-    by false false lt eq others =
-        let le = ltb-false x.low a.low lt in
-        let ne = eqb-false x.low a.low eq in
-        let above : a.low < x.low = omega (arith, le, ne) in
-        rw (lt-ltb a.low b.low below) (high (ltb x.low b.low) (eqb x.low b.low) above)
-      where
-        high : (d f : Bool) → a.low < x.low
-            → a ∷ (if d then x ∷ put_hist b xs else (if f then hist_sum x b ∷ xs else b ∷ x ∷ xs)) ≡ put_hist a (if d then x ∷ put_hist b xs else (if f then hist_sum x b ∷ xs else b ∷ x ∷ xs))
-        high true f above = sym (put_lowest a x (put_hist b xs) above)
-        high false true above = sym (put_lowest a (hist_sum x b) xs above)
-        high false false above = sym (put_lowest a b (x ∷ xs) below)
 
 fold_above : (h : Hist) (ks l : List Hist) → AllByRecursion (λ k. h.low < k.low) ks → fold put (put_hist h l) ks ≡ put_hist h (fold put l ks)
 fold_above h [] l above = refl
@@ -225,7 +165,7 @@ records_later : (recs : List WideRec) (p q : Content) → IsRising q.hists → s
 records_later [] p q rising = refl
 records_later (r ∷ recs) p q rising = records_later recs p (with_record r q) (rising_with r q rising) ∙ ap (with_records recs) (record_later r p q rising)
 
-or_none : (o : Option units.Unit) → option_or o None ≡ o
+pub or_none : (o : Option units.Unit) → option_or o None ≡ o
 or_none None = refl
 or_none (Some v) = refl
 

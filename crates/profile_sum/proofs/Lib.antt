@@ -1,4 +1,3 @@
-pub mod LoopLemmas
 pub mod ClashLemmas
 pub mod SumLemmas
 pub mod ContentLemmas

@@ -1,118 +1,20 @@
 -- Records without a conflict can be split: what both parts add up to has a sum.
-use Rattle.std.proofs.Common.{◌≡◌, ◌<◌, Bool, true, false, ltb, eqb, ◌&&◌, not, List, [], ◌∷◌, ◌++◌, length, filter_map, slice_get, option_and_then, Option, Some, None, unwrap_or, true≢false, refl, sym, ap, subst, ◌∙◌, if◌then◌else◌, arith}
+use Rattle.std.proofs.Common.{◌≡◌, Bool, true, false, ltb, eqb, List, [], ◌∷◌, ◌++◌, length, filter_map, slice_get, option_and_then, Option, Some, None, unwrap_or, refl, sym, ap, subst, ◌∙◌, if◌then◌else◌}
 use Rattle.std.specs.List.{All, AllByRecursion}
 use Rattle.std.specs.Option.{option_or}
-use Rattle.std.proofs.lemmas.Bool.{lt-ltb, ltb-true, eqb-true, and_parts}
+use Rattle.std.proofs.lemmas.Bool.{ltb-true, eqb-true}
 use Rattle.std.proofs.lemmas.List.Elements.{recursion_from_All}
 use Rattle.gp_base.specs.declared.records.Unit as units
 use Rattle.gmon_data.specs.declared.hist.Hist.{Hist}
 use Rattle.gmon_data.specs.declared.hist.HistRange.{HistRange}
-use Rattle.gmon_data.specs.declared.refusal.Unlike.{Unlike}
-use Rattle.gmon_data.specs.declared.refusal.Unlike.TheVariants.{Range}
-use Rattle.gmon_data.specs.Hists.{put_hist, hist_sum, range_of, range_conflict, overlap, same_range, unit_conflict, conflict_with, kept_unit, has_counters, IsKept}
+use Rattle.gmon_data.specs.Hists.{put_hist, hist_sum, range_of, range_conflict, unit_conflict, conflict_with, kept_unit, has_counters, IsKept}
 use Rattle.gmon_data.specs.Content.{Content, WideRec, WideHist, WideArc, WideBlock, empty_content, content_of, with_record, with_records, HasSpan, record_conflict, conflict_of, hist_conflict}
-use Rattle.gmon_data.proofs.CounterLemmas.{length-pointwise}
-use Rattle.gmon_data.proofs.HistLemmas.{all_kept}
+use Rattle.gmon_data.proofs.ConflictLemmas.{after_put, alike_of, before_put, own_clear, IsAlike}
+use Rattle.gmon_data.proofs.HistLemmas.{all_kept, range-sum, unit_twice}
+use Rattle.gmon_data.proofs.RecordLemmas.{parts_none}
 use Rattle.profile_sum.specs.Sum.{clash_of, sum_of}
 use Rattle.profile_sum.proofs.ClashLemmas.{some_counters}
-use Rattle.profile_sum.proofs.ContentLemmas.{content_is_added, fold_put, record_later, rising_put, sum_none, IsRising}
-
-none_from : (b : Bool) (x : Unlike) (o : Option Unlike) → b ≡ false → o ≡ None → (if b then Some x else o) ≡ None
-none_from b x o e f = rw (e, f) refl
-
-none_parts : (b : Bool) (x : Unlike) (o : Option Unlike) → (if b then Some x else o) ≡ None → (b ≡ false) × (o ≡ None)
-none_parts true x o e = absurd cc
-none_parts false x o e = (refl, e)
-
-both_none : (o p : Option Unlike) → option_or o p ≡ None → (o ≡ None) × (p ≡ None)
-both_none None p e = (refl, e)
-both_none (Some x) p e = absurd cc
-
-abbrev IsClear : HistRange → HistRange → Type 0
-IsClear old new = (overlap old new && not (same_range old new)) ≡ false
-
--- ---- ranges of one low address
-
-abbrev IsAlike : Hist → List Hist → Type 0
-IsAlike h hs = AllByRecursion (λ k. k.low ≡ h.low → range_of k ≡ range_of h) hs
-
-same_of_clear : (a b : HistRange) → a.low < a.high → b.low < b.high → a.low ≡ b.low → IsClear a b → same_range a b ≡ true
-same_of_clear a b some some' low clear = by (same_range a b) refl
-  where
-    by : (e : Bool) → same_range a b ≡ e → e ≡ true
-    by true e = refl
-    by false e =
-        let one : ltb a.low b.high ≡ true = lt-ltb a.low b.high (omega (arith, low, some')) in
-        let two : ltb b.low a.high ≡ true = lt-ltb b.low a.high (omega (arith, low, some)) in
-        let all : (overlap a b && not (same_range a b)) ≡ true = rw (one, two, e) refl in
-        absurd (true≢false (sym all ∙ clear))
-
-same_is : (a b : HistRange) → same_range a b ≡ true → a ≡ b
-same_is a b same =
-    let one = and_parts (eqb a.low b.low && eqb a.high b.high) (eqb a.count b.count) same in
-    let two = and_parts (eqb a.low b.low) (eqb a.high b.high) one.0 in
-    let low = eqb-true a.low b.low two.0 in
-    let high = eqb-true a.high b.high two.1 in
-    let count = eqb-true a.count b.count one.1 in
-    λ i. record { low = low i; high = high i; count = count i }
-
-alike_of : (h : Hist) (hs : List Hist) → IsKept h → AllByRecursion IsKept hs → range_conflict hs (range_of h) ≡ None → IsAlike h hs
-alike_of h [] mine kept none = tt
-alike_of h (k ∷ ks) mine kept none =
-    let parts = none_parts (overlap (range_of k) (range_of h) && not (same_range (range_of k) (range_of h))) _ _ none in
-    ((λ low. same_is (range_of k) (range_of h) (same_of_clear (range_of k) (range_of h) kept.0.range mine.range low parts.0)), alike_of h ks mine kept.1 parts.1)
-
-range_stays : (k h : Hist) → range_of k ≡ range_of h → range_of (hist_sum k h) ≡ range_of k
-range_stays k h same =
-    let count : length (hist_sum k h).counters ≡ length k.counters = length-pointwise k.counters h.counters (ap (λ (r : HistRange). r.count) same) in
-    λ i. record { low = k.low; high = k.high; count = count i }
-
--- ---- what putting a histogram in changes
-
-abbrev conflict_or : HistRange → HistRange → Option Unlike → Option Unlike
-conflict_or old new o = if overlap old new && not (same_range old new) then Some (Range old new) else o
-
-module _ (h : Hist) (new : HistRange) where
-  -- without a conflict behind it, there was none before
-  before_put : (hs : List Hist) → IsAlike h hs → range_conflict (put_hist h hs) new ≡ None → range_conflict hs new ≡ None
-  before_put [] alike none = refl
-  before_put (k ∷ ks) alike none = by (ltb k.low h.low) (eqb k.low h.low) refl none (before_put ks alike.1)
-    where
-      by : (b e : Bool) → eqb k.low h.low ≡ e → range_conflict (if b then k ∷ put_hist h ks else (if e then hist_sum k h ∷ ks else h ∷ k ∷ ks)) new ≡ None
-          → (range_conflict (put_hist h ks) new ≡ None → range_conflict ks new ≡ None) → range_conflict (k ∷ ks) new ≡ None
-      by true e eq none others =
-          let parts = none_parts (overlap (range_of k) new && not (same_range (range_of k) new)) _ _ none in
-          none_from (overlap (range_of k) new && not (same_range (range_of k) new)) _ _ parts.0 (others parts.1)
-      by false true eq none others =
-          subst (λ (r : HistRange). conflict_or r new (range_conflict ks new) ≡ None) (range_stays k h (alike.0 (eqb-true k.low h.low eq))) none
-      by false false eq none others = (none_parts (overlap (range_of h) new && not (same_range (range_of h) new)) _ _ none).1
-
-  -- nor does it have one itself
-  own_clear : (hs : List Hist) → IsAlike h hs → range_conflict (put_hist h hs) new ≡ None → IsClear (range_of h) new
-  own_clear [] alike none = (none_parts (overlap (range_of h) new && not (same_range (range_of h) new)) _ _ none).0
-  own_clear (k ∷ ks) alike none = by (ltb k.low h.low) (eqb k.low h.low) refl none (own_clear ks alike.1)
-    where
-      by : (b e : Bool) → eqb k.low h.low ≡ e → range_conflict (if b then k ∷ put_hist h ks else (if e then hist_sum k h ∷ ks else h ∷ k ∷ ks)) new ≡ None
-          → (range_conflict (put_hist h ks) new ≡ None → IsClear (range_of h) new) → IsClear (range_of h) new
-      by true e eq none others = others (none_parts (overlap (range_of k) new && not (same_range (range_of k) new)) _ _ none).1
-      by false true eq none others =
-          let same = alike.0 (eqb-true k.low h.low eq) in
-          subst (λ (r : HistRange). IsClear r new) (range_stays k h same ∙ same) (none_parts (overlap (range_of (hist_sum k h)) new && not (same_range (range_of (hist_sum k h)) new)) _ _ none).0
-      by false false eq none others = (none_parts (overlap (range_of h) new && not (same_range (range_of h) new)) _ _ none).0
-
-  -- without either there is none behind it
-  after_put : (hs : List Hist) → IsAlike h hs → range_conflict hs new ≡ None → IsClear (range_of h) new → range_conflict (put_hist h hs) new ≡ None
-  after_put [] alike none clear = none_from (overlap (range_of h) new && not (same_range (range_of h) new)) _ _ clear refl
-  after_put (k ∷ ks) alike none clear = by (ltb k.low h.low) (eqb k.low h.low) refl (after_put ks alike.1 parts.1 clear)
-    where
-      parts : IsClear (range_of k) new × (range_conflict ks new ≡ None)
-      parts = none_parts (overlap (range_of k) new && not (same_range (range_of k) new)) _ _ none
-
-      by : (b e : Bool) → eqb k.low h.low ≡ e → range_conflict (put_hist h ks) new ≡ None → range_conflict (if b then k ∷ put_hist h ks else (if e then hist_sum k h ∷ ks else h ∷ k ∷ ks)) new ≡ None
-      by true e eq others = none_from (overlap (range_of k) new && not (same_range (range_of k) new)) _ _ parts.0 others
-      by false true eq others =
-          subst (λ (r : HistRange). conflict_or r new (range_conflict ks new) ≡ None) (sym (range_stays k h (alike.0 (eqb-true k.low h.low eq)))) none
-      by false false eq others = none_from (overlap (range_of h) new && not (same_range (range_of h) new)) _ _ clear none
+use Rattle.profile_sum.proofs.ContentLemmas.{content_is_added, fold_put, or_none, record_later, rising_put, sum_none, IsRising}
 
 all_ranges : (P : HistRange → Type 0) (h : Hist) (hs : List Hist) → IsAlike h hs → P (range_of h) → AllByRecursion (λ k. P (range_of k)) hs → AllByRecursion (λ k. P (range_of k)) (put_hist h hs)
 all_ranges P h [] alike mine all = (mine, tt)
@@ -120,7 +22,7 @@ all_ranges P h (k ∷ ks) alike mine all = by (ltb k.low h.low) (eqb k.low h.low
   where
     by : (b e : Bool) → eqb k.low h.low ≡ e → AllByRecursion (λ k. P (range_of k)) (put_hist h ks) → AllByRecursion (λ k. P (range_of k)) (if b then k ∷ put_hist h ks else (if e then hist_sum k h ∷ ks else h ∷ k ∷ ks))
     by true e eq others = (all.0, others)
-    by false true eq others = (subst P (sym (range_stays k h (alike.0 (eqb-true k.low h.low eq)))) all.0, all.1)
+    by false true eq others = (subst P (sym (range-sum k h (ap (λ (r : HistRange). r.count) (alike.0 (eqb-true k.low h.low eq))))) all.0, all.1)
     by false false eq others = (mine, all)
 
 -- ---- records that are added to q, as to the sum of p and q, have no conflict with p either
@@ -133,17 +35,6 @@ record Compatible (p q : Content) : Type 0 where
   pub first : (r : HistRange) → range_conflict (sum_of p q).hists r ≡ None → range_conflict p.hists r ≡ None
   pub second : (r : HistRange) → range_conflict (sum_of p q).hists r ≡ None → range_conflict q.hists r ≡ None
   pub one_unit : (u : units.Unit) → q.«unit» ≡ Some u → (unit_conflict p.«unit» u ≡ None) × (kept_unit u ≡ u)
-
-kept_twice : (u : units.Unit) → kept_unit (kept_unit u) ≡ kept_unit u
-kept_twice u = by (eqb u.rate 0) refl
-  where
-    by : (b : Bool) → eqb u.rate 0 ≡ b → kept_unit (kept_unit u) ≡ kept_unit u
-    by true e = rw e refl
-    by false e = rw (e, e) refl
-
-or_none : (o : Option units.Unit) → option_or o None ≡ o
-or_none None = refl
-or_none (Some v) = refl
 
 module _ (p q : Content) (w : Compatible p q) (h : Hist) (v : units.Unit) (mine : IsKept h) where
   abbrev next : Content
@@ -163,7 +54,7 @@ module _ (p q : Content) (w : Compatible p q) (h : Hist) (v : units.Unit) (mine 
     units_next None e u is =
         let same : kept_unit v ≡ u = cc in
         let here : unit_conflict p.«unit» (kept_unit v) ≡ None = sym (ap (λ o. unit_conflict o (kept_unit v)) (ap (option_or p.«unit») e ∙ or_none p.«unit»)) ∙ un in
-        subst (λ (x : units.Unit). (unit_conflict p.«unit» x ≡ None) × (kept_unit x ≡ x)) same (here, kept_twice v)
+        subst (λ (x : units.Unit). (unit_conflict p.«unit» x ≡ None) × (kept_unit x ≡ x)) same (here, unit_twice v)
     units_next (Some x) e u is = let same : x ≡ u = cc in w.one_unit u (e ∙ ap (λ (z : units.Unit). Some z) same)
 
     next_compatible : Compatible p next
@@ -186,7 +77,7 @@ one_more (WideHist h v) p q w span none = by (has_counters h) refl none
         → Compatible p (if b then record q { hists = put_hist h q.hists; «unit» = Some (unwrap_or q.«unit» (kept_unit v)) } else q)
     by true e none =
         let some = ltb-true 0 (length h.counters) e in
-        let parts = both_none (range_conflict (sum_of p q).hists (range_of h)) (unit_conflict (sum_of p q).«unit» (kept_unit v)) none in
+        let parts = parts_none (range_conflict (sum_of p q).hists (range_of h)) (unit_conflict (sum_of p q).«unit» (kept_unit v)) none in
         next_compatible p q w h v (record { range = span some; some = some }) parts.0 parts.1
     by false e none = w
 one_more (WideArc from to count) p q w span none = record { rising = w.rising; kept = w.kept; sum_kept = w.sum_kept; fit = w.fit; first = w.first; second = w.second; one_unit = w.one_unit }
@@ -195,7 +86,7 @@ one_more (WideBlock addr count) p q w span none = record { rising = w.rising; ke
 all_more : (recs : List WideRec) (p q : Content) → Compatible p q → AllByRecursion HasSpan recs → conflict_of (sum_of p q) recs ≡ None → Compatible p (with_records recs q)
 all_more [] p q w spans none = w
 all_more (r ∷ recs) p q w spans none =
-    let parts = both_none (record_conflict (sum_of p q) r) (conflict_of (with_record r (sum_of p q)) recs) none in
+    let parts = parts_none (record_conflict (sum_of p q) r) (conflict_of (with_record r (sum_of p q)) recs) none in
     all_more recs p (with_record r q) (one_more r p q w spans.0 parts.0) spans.1
     (ap (λ c. conflict_of c recs) (record_later r p q w.rising) ∙ parts.1)
 
@@ -225,7 +116,7 @@ compatible_sum p q w = by q.«unit» refl
 split_none : (xs ys : List WideRec) (c : Content) → conflict_of c (xs ++ ys) ≡ None → (conflict_of c xs ≡ None) × (conflict_of (with_records xs c) ys ≡ None)
 split_none [] ys c none = (refl, none)
 split_none (x ∷ xs) ys c none =
-    let parts = both_none (record_conflict c x) (conflict_of (with_record x c) (xs ++ ys)) none in
+    let parts = parts_none (record_conflict c x) (conflict_of (with_record x c) (xs ++ ys)) none in
     let rest = split_none xs ys (with_record x c) parts.1 in
     (ap (λ o. option_or o (conflict_of (with_record x c) xs)) parts.0 ∙ rest.0, rest.1)
 

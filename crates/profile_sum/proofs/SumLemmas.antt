@@ -1,21 +1,19 @@
 -- To add a profile is to add its records.
-use Rattle.std.proofs.Common.{◌≡◌, ℕ, true, nat_eq, List, [], ◌∷◌, length, map, fold, Option, Some, None, unwrap_or, refl, sym, ap, subst, ◌∙◌}
+use Rattle.std.proofs.Common.{◌≡◌, ℕ, nat_eq, List, [], ◌∷◌, map, fold, Option, Some, None, unwrap_or, refl, sym, ap, subst, ◌∙◌}
 use Rattle.std.specs.List.{AllByRecursion}
 use Rattle.std.specs.Option.{option_or}
-use Rattle.std.proofs.lemmas.Bool.{lt-ltb}
 use Rattle.gp_base.specs.declared.records.Unit as units
 use Rattle.gmon_data.specs.declared.hist.Hist.{Hist}
-use Rattle.gmon_data.specs.Hists.{put_hist, kept_unit, has_counters, IsKept, IsUnitOf}
+use Rattle.gmon_data.specs.Hists.{put_hist, kept_unit, IsKept, IsUnitOf}
 use Rattle.gmon_data.specs.Tally.{tally}
-use Rattle.gmon_data.specs.Content.{Content, same_ends, with_hist, with_records, IsProfile, IsWithin}
+use Rattle.gmon_data.specs.Content.{Content, same_ends, with_records, IsProfile, IsWithin}
 use Rattle.gmon_data.proofs.RecordLemmas.{within_records}
 use Rattle.profile_sum.specs.Sum.{arc_record, block_record, hist_record, hist_records, records_of_unit, sum_of}
+use Rattle.profile_sum.proofs.ClashLemmas.{with_kept}
+use Rattle.profile_sum.proofs.ContentLemmas.{or_none}
 
 abbrev put : List Hist → Hist → List Hist
 put done h = put_hist h done
-
-with_kept : (u : units.Unit) (h : Hist) (c : Content) → IsKept h → with_hist h u c ≡ record c { hists = put_hist h c.hists; «unit» = Some (unwrap_or c.«unit» (kept_unit u)) }
-with_kept u h c kept = let some : has_counters h ≡ true = lt-ltb 0 (length h.counters) kept.some in rw some refl
 
 -- behind the first one the unit stays
 more_hists : (u v : units.Unit) (hs : List Hist) (c : Content) → AllByRecursion IsKept hs → with_records (map (hist_record u) hs) (record c { «unit» = Some v }) ≡ record c { hists = fold put c.hists hs; «unit» = Some v }
@@ -27,13 +25,9 @@ or_some : (o : Option units.Unit) (u : units.Unit) → Some (unwrap_or o u) ≡ 
 or_some None u = refl
 or_some (Some v) u = refl
 
-or_none : (o : Option units.Unit) → o ≡ option_or o None
-or_none None = refl
-or_none (Some v) = refl
-
 hists_added : (hs : List Hist) (o : Option units.Unit) (p : Content) → IsUnitOf hs o → AllByRecursion IsKept hs
     → with_records (records_of_unit o hs) p ≡ record p { hists = fold put p.hists hs; «unit» = option_or p.«unit» o }
-hists_added [] o p is kept = rw is (λ i. record p { «unit» = or_none p.«unit» i })
+hists_added [] o p is kept = rw is (λ i. record p { «unit» = sym (or_none p.«unit») i })
 hists_added (h ∷ hs) o p is kept =
     let u = is.0 in
     let first = with_kept u h p kept.0 in

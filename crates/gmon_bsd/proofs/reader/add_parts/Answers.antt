@@ -1,9 +1,9 @@
-use Rattle.std.proofs.Common.{[], ◌∷◌, map}
+use Rattle.std.proofs.Common.{[], ◌∷◌, map, refl}
 use Rattle.std.proofs.lemmas.Result.{err_from_is_err_and}
 use Rattle.gp_base.specs.Fields.{seconds}
-use Rattle.gmon_data.specs.Content.{WideHist, IsAdded, hist_over, wide_arc}
+use Rattle.gmon_data.specs.Content.{WideHist, hist_over, wide_arc}
 use Rattle.gmon_data.proofs.NumberLemmas.{few_counters}
-use Rattle.gmon_data.proofs.RecordLemmas.{added_both, arcs_accepted, one_added, stopped_second, within_first}
+use Rattle.gmon_data.proofs.RecordLemmas.{added_both, arcs_added, one_added, stopped_second, within_first}
 use Rattle.gmon_bsd.proofs.reader.add_parts.Goals as goal
 
 pub add_counts-requires-clause-count : goal.add_counts-requires-clause-count
@@ -32,5 +32,5 @@ returns-clause-added c =
     let arcs = map wide_arc c.args.arcs.now in
     let old = c.args.profile.now in
     let one = one_added hist old c.add_counts.new.self c.in_ok-add_counts.ensures.accepted c.in_ok-add_counts.ensures.added in
-    let rest : IsAdded arcs c.add_counts.new.self c.add_arcs.new.self = record { added = rw c.make_room_for_arcs.ensures at c.in_ok-add_arcs.ensures.added; accepted = arcs_accepted c.args.arcs.now c.add_counts.new.self } in
+    let rest = arcs_added {some = c.args.arcs.now} refl c.add_counts.new.self c.add_arcs.new.self (rw c.make_room_for_arcs.ensures at c.in_ok-add_arcs.ensures.added) in
     added_both (hist ∷ []) arcs old c.add_counts.new.self one c.add_arcs.new.self rest

@@ -1,4 +1,4 @@
-use Rattle.std.proofs.Common.{◌≡◌, ℕ, List, sym, ap, ◌∙◌}
+use Rattle.std.proofs.Common.{sym, ap, ◌∙◌}
 use Rattle.indexmap.specs.IndexMap.{insert_entry}
 use Rattle.gmon_data.proofs.RebuiltLemmas.{insert_next}
 use Rattle.gmon_data.proofs.keyed.rebuilt.Goals as goal

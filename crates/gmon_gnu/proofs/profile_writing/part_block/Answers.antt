@@ -1,4 +1,4 @@
-use Rattle.std.proofs.Common.{◌≡◌, ◌+◌, ◌*◌, ◌<◌, length, arith}
+use Rattle.std.proofs.Common.{arith}
 use Rattle.gmon_gnu.proofs.RoundLemmas.{get-part, length-part}
 use Rattle.gmon_gnu.proofs.profile_writing.part_block.Goals as goal
 

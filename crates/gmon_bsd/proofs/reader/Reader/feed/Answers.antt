@@ -1,17 +1,17 @@
-use Rattle.std.proofs.Common.{◌≡◌, ◌≤◌, ◌++◌, ℕ, List, length, take, drop, length-append, sym, ap, subst, ◌∙◌, arith}
+use Rattle.std.proofs.Common.{◌≡◌, ◌≤◌, ◌++◌, ℕ, List, length, take, drop, length-append, ap, ◌∙◌, arith}
 use Rattle.gp_base.specs.Bytes.{value_of}
 use Rattle.gp_base.specs.Fields.{arc_of}
 use Rattle.gmon_cells.proofs.CellLemmas.{IsBytes-append}
-use Rattle.gmon_bsd.specs.Fed.{Kept, StandsFor, counter_part, arc_part}
-use Rattle.gmon_bsd.specs.Held.{view_of}
+use Rattle.gmon_bsd.specs.Fed.{counter_part, arc_part}
 use Rattle.gmon_bsd.proofs.FedLemmas.{fed_parts, column_on}
+use Rattle.gmon_bsd.proofs.WholeFile.{seen_as}
 use Rattle.gmon_bsd.proofs.reader.Reader.feed.Goals as goal
 
 pub returns-clause-stands : goal.returns-clause-stands
 returns-clause-stands c = λ bytes stands.
     let inside = c.self.inside in
     let piece = c.args.piece.now in
-    let s : StandsFor bytes (view_of inside) = subst (λ (k : Kept). StandsFor bytes k) (sym c.self.view_is) stands in
+    let s = seen_as c.self.view_is stands in
     let before : c.put.new.self ≡ inside.header = c.put.ensures ∙ ap (λ (v : List ℕ). v ++ c.as_slice.result.now) c.new-header.ensures ∙ c.as_slice.ensures in
     let len = s.len in
     let first : length bytes ≤ 32 → c.max-at.result ≡ 32 = λ (short : length bytes ≤ 32). omega (arith, c.max-at.ensures, len, short) in

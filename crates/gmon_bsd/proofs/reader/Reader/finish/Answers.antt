@@ -7,39 +7,38 @@ use Rattle.gmon_cells.proofs.RefusalLemmas.{refusal_answered, nothing_refused, g
 use Rattle.gmon_bsd.specs.declared.reading.Header.{Header}
 use Rattle.gmon_bsd.specs.Grammar.{BsdSpells}
 use Rattle.gmon_bsd.specs.Reading.{bsd_refusal, low_of, high_of, rate_of}
-use Rattle.gmon_bsd.specs.Fed.{Kept, StandsFor}
 use Rattle.gmon_bsd.specs.Held.{view_of}
 use Rattle.gmon_bsd.proofs.FieldLemmas.{spelled_of}
-use Rattle.gmon_bsd.proofs.WholeFile.{given, whole_file, hist}
+use Rattle.gmon_bsd.proofs.WholeFile.{given, hist, seen_as, whole_file}
 use Rattle.gmon_bsd.proofs.reader.Reader.finish.Goals as goal
 
 pub returns-in_err-header-clause-refused : goal.returns-in_err-header-clause-refused
 returns-in_err-header-clause-refused c = λ bytes stands.
-    let s : StandsFor bytes (view_of c.self.inside) = subst (λ (k : Kept). StandsFor bytes k) (sym c.self.view_is) stands in
+    let s = seen_as c.self.view_is stands in
     let p = err_from_is_err_and c.from_residual.result c.from_residual.ensures.1 in
     let there = sym (given bytes c.as_slice.result.now (view_of c.self.inside) s c.as_slice.ensures) ∙ c.in_err-header.ensures.refusal in
     refusal_answered (bsd_refusal bytes) c.in_err-header.field-0.0 c.from_residual.result there (rw (p.1, p.2) refl)
 
 pub returns-in_err-header-clause-refusal : goal.returns-in_err-header-clause-refusal
 returns-in_err-header-clause-refusal c = λ bytes stands.
-    let s : StandsFor bytes (view_of c.self.inside) = subst (λ (k : Kept). StandsFor bytes k) (sym c.self.view_is) stands in
+    let s = seen_as c.self.view_is stands in
     let p = err_from_is_err_and c.from_residual.result c.from_residual.ensures.1 in
     let there = sym (given bytes c.as_slice.result.now (view_of c.self.inside) s c.as_slice.ensures) ∙ c.in_err-header.ensures.refusal in
     rw (p.1, p.2) (given_one c.in_err-header.field-0.0 (bsd_refusal bytes) there)
 
 pub returns-clause-accepted : goal.returns-clause-accepted
 returns-clause-accepted c = λ bytes stands.
-    let s : StandsFor bytes (view_of c.self.inside) = subst (λ (k : Kept). StandsFor bytes k) (sym c.self.view_is) stands in
+    let s = seen_as c.self.view_is stands in
     sym (given bytes c.as_slice.result.now (view_of c.self.inside) s c.as_slice.ensures) ∙ c.in_ok-header.ensures.accepted
 
 pub returns-in_err-recs-clause-refused : goal.returns-in_err-recs-clause-refused
 returns-in_err-recs-clause-refused c = λ bytes stands.
-    let s : StandsFor bytes (view_of c.self.inside) = subst (λ (k : Kept). StandsFor bytes k) (sym c.self.view_is) stands in
+    let s = seen_as c.self.view_is stands in
     nothing_refused (bsd_refusal bytes) c.from_residual-in_err-recs.result (sym (given bytes c.as_slice.result.now (view_of c.self.inside) s c.as_slice.ensures) ∙ c.in_ok-header.ensures.accepted)
 
 pub returns-in_err-push_arcs-clause-refused : goal.returns-in_err-push_arcs-clause-refused
 returns-in_err-push_arcs-clause-refused c = λ bytes stands.
-    let s : StandsFor bytes (view_of c.self.inside) = subst (λ (k : Kept). StandsFor bytes k) (sym c.self.view_is) stands in
+    let s = seen_as c.self.view_is stands in
     nothing_refused (bsd_refusal bytes) c.from_residual-in_err-push_arcs.result (sym (given bytes c.as_slice.result.now (view_of c.self.inside) s c.as_slice.ensures) ∙ c.in_ok-header.ensures.accepted)
 
 pub returns-clause-refused : goal.returns-clause-refused
@@ -48,7 +47,7 @@ returns-clause-refused c = λ bytes stands. nothing_refused (bsd_refusal bytes) 
 pub returns-clause-records : goal.returns-clause-records
 returns-clause-records c = λ bytes stands.
     let kept = view_of c.self.inside in
-    let s : StandsFor bytes kept = subst (λ (k : Kept). StandsFor bytes k) (sym c.self.view_is) stands in
+    let s = seen_as c.self.view_is stands in
     let h = c.in_ok-header.header in
     let words = c.in_ok-header.ensures.words in
     let header = c.as_slice.ensures in
@@ -61,5 +60,5 @@ returns-clause-records c = λ bytes stands.
 
 pub returns-clause-spelled : goal.returns-clause-spelled
 returns-clause-spelled c = λ bytes stands.
-    let s : StandsFor bytes (view_of c.self.inside) = subst (λ (k : Kept). StandsFor bytes k) (sym c.self.view_is) stands in
+    let s = seen_as c.self.view_is stands in
     subst (λ (r : Records). BsdSpells bytes r) (sym (returns-clause-records c bytes stands)) (spelled_of bytes s.are_bytes (returns-clause-accepted c bytes stands))

@@ -1,9 +1,9 @@
-use Rattle.std.proofs.Common.{List, length, map, sym, ap, ◌∙◌, subst}
+use Rattle.std.proofs.Common.{length, map, sym}
 use Rattle.std.proofs.lemmas.Bool.{eqb-true}
-use Rattle.std.proofs.lemmas.List.{map-append, nil_from_length}
 use Rattle.std.proofs.lemmas.Result.{err_from_is_err_and}
-use Rattle.gmon_data.specs.Content.{WideRec, wide_block}
-use Rattle.gmon_data.proofs.RecordLemmas.{blocks_accepted, at_begin, at_end, one_more, stop, within_next, IsUnderway}
+use Rattle.gmon_data.specs.Content.{wide_block}
+use Rattle.gmon_data.proofs.LoopLemmas.{batch_added, batch_stopped, batch_within, batches_done, single}
+use Rattle.gmon_data.proofs.RecordLemmas.{at_begin, blocks_accepted}
 use Rattle.gmon_data.proofs.profile.Profile.add_block_batches.Goals as goal
 
 pub loop-rest-init : goal.loop-rest-init
@@ -11,34 +11,22 @@ loop-rest-init c = at_begin (map wide_block c.args.blocks.now) c.args.self.now
 
 pub add_block_batch-requires : goal.add_block_batch-requires
 add_block_batch-requires c =
-    let all = map wide_block c.args.blocks.now in
-    let batch = map wide_block c.split_at.result.0.now in
-    let behind = map wide_block c.split_at.result.1.now in
-    let parts = ap (map wide_block) c.split_at.ensures.by_index.0 ∙ map-append wide_block c.split_at.result.0.now c.split_at.result.1.now in
-    let w = subst (λ (l : List WideRec). IsUnderway all l c.args.self.now c.loop-rest.self) parts c.loop-rest.invariant in
-    within_next all batch behind c.args.self.now c.loop-rest.self w c.requires
+    batch_within (single wide_block) (map wide_block c.args.blocks.now) c.loop-rest.rest.now c.args.self.now c.loop-rest.self c.loop-rest.invariant
+    c.split_at.result.0.now c.split_at.result.1.now c.split_at.ensures.by_index.0 c.requires
 
 pub returns-in_err-add_block_batch-clause-stopped : goal.returns-in_err-add_block_batch-clause-stopped
 returns-in_err-add_block_batch-clause-stopped c =
     let p = err_from_is_err_and c.from_residual.result c.from_residual.ensures.1 in
-    let all = map wide_block c.args.blocks.now in
-    let batch = map wide_block c.split_at.result.0.now in
-    let behind = map wide_block c.split_at.result.1.now in
-    let parts = ap (map wide_block) c.split_at.ensures.by_index.0 ∙ map-append wide_block c.split_at.result.0.now c.split_at.result.1.now in
-    let w = subst (λ (l : List WideRec). IsUnderway all l c.args.self.now c.loop-rest.self) parts c.loop-rest.invariant in
-    rw p.1 (stop all batch behind c.args.self.now c.loop-rest.self w _ _ c.in_err-add_block_batch.ensures.stopped)
+    rw p.1 (batch_stopped (single wide_block) (map wide_block c.args.blocks.now) c.loop-rest.rest.now c.args.self.now c.loop-rest.self c.loop-rest.invariant
+    c.split_at.result.0.now c.split_at.result.1.now c.split_at.ensures.by_index.0 _ _ c.in_err-add_block_batch.ensures.stopped)
 
 pub loop-rest-preserved : goal.loop-rest-preserved
 loop-rest-preserved c =
-    let all = map wide_block c.args.blocks.now in
-    let batch = map wide_block c.split_at.result.0.now in
-    let behind = map wide_block c.split_at.result.1.now in
-    let parts = ap (map wide_block) c.split_at.ensures.by_index.0 ∙ map-append wide_block c.split_at.result.0.now c.split_at.result.1.now in
-    let w = subst (λ (l : List WideRec). IsUnderway all l c.args.self.now c.loop-rest.self) parts c.loop-rest.invariant in
-    one_more all batch behind c.args.self.now c.loop-rest.self w _ (record { added = c.in_ok-add_block_batch.ensures.added; accepted = blocks_accepted c.split_at.result.0.now c.loop-rest.self })
+    batch_added (single wide_block) (map wide_block c.args.blocks.now) c.loop-rest.rest.now c.args.self.now c.loop-rest.self c.loop-rest.invariant
+    c.split_at.result.0.now c.split_at.result.1.now c.split_at.ensures.by_index.0
+    _ (record { added = c.in_ok-add_block_batch.ensures.added; accepted = blocks_accepted c.split_at.result.0.now c.loop-rest.self })
 
 pub returns-clause-added : goal.returns-clause-added
 returns-clause-added c =
-    let all = map wide_block c.args.blocks.now in
-    let none = nil_from_length c.loop-rest.rest.now (eqb-true (length c.loop-rest.rest.now) 0 (sym c.loop-rest-test.ensures)) in
-    (at_end all c.args.self.now c.loop-rest.self (subst (λ (l : List WideRec). IsUnderway all l c.args.self.now c.loop-rest.self) (ap (map wide_block) none) c.loop-rest.invariant)).added
+    let none = eqb-true (length c.loop-rest.rest.now) 0 (sym c.loop-rest-test.ensures) in
+    (batches_done (single wide_block) (map wide_block c.args.blocks.now) c.loop-rest.rest.now c.args.self.now c.loop-rest.self c.loop-rest.invariant none).added

@@ -1,65 +1,53 @@
-use Rattle.std.proofs.Common.{◌≡◌, List, None, Some, drop, map, ap, subst, sym, ◌∙◌}
+use Rattle.std.proofs.Common.{◌≡◌, List, None, Some, drop, map, ap, rules, subst, sym, ◌∙◌}
 use Rattle.std.proofs.lemmas.Result.{err_from_is_err_and}
 use Rattle.gp_base.specs.declared.records.Rec.TheVariants.{Arc}
 use Rattle.gmon_data.specs.Content.{WideRec, IsWithin, conflict_of, content_of, empty_content, wide_records, with_records}
 use Rattle.gmon_data.specs.Hists.{IsUnlike}
 use Rattle.gmon_data.proofs.OrderLemmas.{content_made}
 use Rattle.gmon_gnu.specs.Ending.{ending_result}
-use Rattle.gmon_gnu.specs.Fed.{Kept, StandsFor}
 use Rattle.gmon_gnu.specs.Held.{recs_of}
 use Rattle.gmon_gnu.specs.Reading.{refusal_read}
 use Rattle.gmon_gnu.specs.Shown.{view_of}
 use Rattle.gmon_gnu.proofs.AddingLemmas.{entries_ranges}
-use Rattle.gmon_gnu.proofs.FedLemmas.{accepted_out, all_read, ranges_read, read_out, refusal_on}
+use Rattle.gmon_gnu.proofs.FedLemmas.{accepted_out, all_read, ranges_read, read_out, refusal_on, seen_as}
 use Rattle.gmon_gnu.proofs.reader.Reader.into_profile.Goals as goal
 
 pub returns-in-Some-clause-refusal : goal.returns-in-Some-clause-refusal
 returns-in-Some-clause-refusal c = λ bytes stands.
-    let s : StandsFor bytes (view_of c.self.inside) = subst (λ (k : Kept). StandsFor bytes k) (sym c.self.view_is) stands in
-    refusal_on bytes ∙ ap refusal_read (read_out bytes (view_of c.self.inside) (Some c.in-Some.refusal) s (c.end_fault.ensures ∙ ap ending_result c.in-Some.is))
+    refusal_on bytes ∙ ap refusal_read (read_out bytes (view_of c.self.inside) (Some c.in-Some.refusal) (seen_as c.self.view_is stands) (c.end_fault.ensures ∙ ap ending_result c.in-Some.is))
 
-pub into_profile-requires-clause-ranges : goal.into_profile-requires-clause-ranges
-into_profile-requires-clause-ranges c =
+pub into_profile-requires : goal.into_profile-requires
+into_profile-requires c =
     let bytes = c.requires.0 in
     let kept = view_of c.self.inside in
-    let s : StandsFor bytes kept = subst (λ (k : Kept). StandsFor bytes k) (sym c.self.view_is) c.requires.1 in
+    let s = seen_as c.self.view_is c.requires.1 in
+    let ends = c.end_fault.ensures ∙ ap ending_result c.in_default.is in
     let state = c.self.inside.state in
-    entries_ranges state.counters.cells.items state.pairs.cells.items state.arcs.items state.entries.items (map Arc (drop state.run state.arcs.items))
-    (ranges_read bytes kept s (c.end_fault.ensures ∙ ap ending_result c.in_default.is))
-
-pub into_profile-requires-clause-within : goal.into_profile-requires-clause-within
-into_profile-requires-clause-within c =
-    let bytes = c.requires.0 in
-    let stands = c.requires.1 in
-    let kept = view_of c.self.inside in
-    let s : StandsFor bytes kept = subst (λ (k : Kept). StandsFor bytes k) (sym c.self.view_is) stands in
-    let same = all_read bytes kept s (c.end_fault.ensures ∙ ap ending_result c.in_default.is) in
-    subst (λ (recs : List WideRec). IsWithin (with_records recs empty_content)) same (c.requires.2 (accepted_out bytes kept s (c.end_fault.ensures ∙ ap ending_result c.in_default.is)))
+    record {
+      held = search rules;
+      run = search rules;
+      ranges = entries_ranges state.counters.cells.items state.pairs.cells.items state.arcs.items state.entries.items (map Arc (drop state.run state.arcs.items)) (ranges_read bytes kept s ends);
+      within = subst (λ (recs : List WideRec). IsWithin (with_records recs empty_content)) (all_read bytes kept s ends) (c.requires.2 (accepted_out bytes kept s ends));
+    }
 
 pub returns-in_err-into_profile-clause-refusal : goal.returns-in_err-into_profile-clause-refusal
 returns-in_err-into_profile-clause-refusal c = λ bytes stands.
     let kept = view_of c.self.inside in
-    let s : StandsFor bytes kept = subst (λ (k : Kept). StandsFor bytes k) (sym c.self.view_is) stands in
-    let same = all_read bytes kept s (c.end_fault.ensures ∙ ap ending_result c.in_default.is) in
+    let s = seen_as c.self.view_is stands in
+    let ends = c.end_fault.ensures ∙ ap ending_result c.in_default.is in
     let refusal = c.in_err-into_profile.field-0.0 in
     let p = err_from_is_err_and c.from_residual.result c.from_residual.ensures.1 in
-    rw (p.1, p.2) (accepted_out bytes kept s (c.end_fault.ensures ∙ ap ending_result c.in_default.is), subst (λ (recs : List WideRec). IsUnlike refusal (conflict_of empty_content recs)) (sym same) c.in_err-into_profile.ensures.refusal)
+    rw (p.1, p.2) (accepted_out bytes kept s ends, subst (λ (recs : List WideRec). IsUnlike refusal (conflict_of empty_content recs)) (sym (all_read bytes kept s ends)) c.in_err-into_profile.ensures.refusal)
 
 pub returns-clause-accepted : goal.returns-clause-accepted
-returns-clause-accepted c = λ bytes stands.
-    let s : StandsFor bytes (view_of c.self.inside) = subst (λ (k : Kept). StandsFor bytes k) (sym c.self.view_is) stands in
-    accepted_out bytes (view_of c.self.inside) s (c.end_fault.ensures ∙ ap ending_result c.in_default.is)
+returns-clause-accepted c = λ bytes stands. accepted_out bytes (view_of c.self.inside) (seen_as c.self.view_is stands) (c.end_fault.ensures ∙ ap ending_result c.in_default.is)
 
 pub returns-clause-like : goal.returns-clause-like
 returns-clause-like c = λ bytes stands.
-    let kept = view_of c.self.inside in
-    let s : StandsFor bytes kept = subst (λ (k : Kept). StandsFor bytes k) (sym c.self.view_is) stands in
-    let same = all_read bytes kept s (c.end_fault.ensures ∙ ap ending_result c.in_default.is) in
+    let same = all_read bytes (view_of c.self.inside) (seen_as c.self.view_is stands) (c.end_fault.ensures ∙ ap ending_result c.in_default.is) in
     subst (λ (recs : List WideRec). conflict_of empty_content recs ≡ None) (sym same) c.in_ok-into_profile.ensures.made.accepted
 
 pub returns-clause-content : goal.returns-clause-content
 returns-clause-content c = λ bytes stands.
-    let kept = view_of c.self.inside in
-    let s : StandsFor bytes kept = subst (λ (k : Kept). StandsFor bytes k) (sym c.self.view_is) stands in
-    let same = all_read bytes kept s (c.end_fault.ensures ∙ ap ending_result c.in_default.is) in
+    let same = all_read bytes (view_of c.self.inside) (seen_as c.self.view_is stands) (c.end_fault.ensures ∙ ap ending_result c.in_default.is) in
     content_made (wide_records (recs_of c.self.inside.state)) _ c.in_ok-into_profile.ensures.made ∙ ap content_of (sym same)

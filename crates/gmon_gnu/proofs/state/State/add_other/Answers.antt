@@ -1,8 +1,8 @@
-use Rattle.std.proofs.Common.{◌-◌, List, drop, map, ap, subst, sym, take, ◌∙◌}
+use Rattle.std.proofs.Common.{◌-◌, List, ap, drop, map, subst, sym, take}
 use Rattle.gp_base.specs.declared.records.RawArc.{RawArc}
-use Rattle.gmon_data.specs.Content.{IsAdded, IsWithin as IsWithinLimits, wide_arc, with_records}
+use Rattle.gmon_data.specs.Content.{IsWithin as IsWithinLimits, wide_arc, with_records}
 use Rattle.gmon_data.proofs.ContentLemmas.{on_ok}
-use Rattle.gmon_data.proofs.RecordLemmas.{added_both, arcs_accepted, within_first, within_second}
+use Rattle.gmon_data.proofs.RecordLemmas.{added_both, arcs_added, within_first, within_second}
 use Rattle.gmon_gnu.specs.Making.{block_recs}
 use Rattle.gmon_gnu.proofs.state.State.add_other.Goals as goal
 
@@ -19,21 +19,14 @@ add_counts_of-requires-clause-within c =
     let e = c.args.entry in
     let s = c.args.self.now in
     let old = c.args.profile.now in
-    let before = take (e.last - e.first) (drop e.first s.arcs.items) in
-    let one : IsAdded (map wide_arc before) old c.add_arcs.new.self = record {
-      added = c.in_ok-add_arcs.ensures.added ∙ ap (λ (arcs : List RawArc). with_records (map wide_arc (take (e.last - e.first) (drop e.first arcs))) old) c.as_slice-arcs.ensures.value;
-      accepted = arcs_accepted before old;
-    } in
-    within_second (map wide_arc before) (block_recs s.pairs.cells.items e.body) old c.add_arcs.new.self one c.requires.within
+    let one = arcs_added (ap (λ (arcs : List RawArc). take (e.last - e.first) (drop e.first arcs)) c.as_slice-arcs.ensures.value) old c.add_arcs.new.self c.in_ok-add_arcs.ensures.added in
+    within_second (map wide_arc (take (e.last - e.first) (drop e.first s.arcs.items))) (block_recs s.pairs.cells.items e.body) old c.add_arcs.new.self one c.requires.within
 
 pub returns : goal.returns
 returns c =
     let e = c.args.entry in
     let s = c.args.self.now in
     let old = c.args.profile.now in
-    let before = take (e.last - e.first) (drop e.first s.arcs.items) in
-    let one : IsAdded (map wide_arc before) old c.add_arcs.new.self = record {
-      added = c.in_ok-add_arcs.ensures.added ∙ ap (λ (arcs : List RawArc). with_records (map wide_arc (take (e.last - e.first) (drop e.first arcs))) old) c.as_slice-arcs.ensures.value;
-      accepted = arcs_accepted before old;
-    } in
-    on_ok c.add_counts_of.result c.add_counts_of.ensures (λ a. added_both (map wide_arc before) (block_recs s.pairs.cells.items e.body) old c.add_arcs.new.self one c.add_counts_of.new.profile a)
+    let one = arcs_added (ap (λ (arcs : List RawArc). take (e.last - e.first) (drop e.first arcs)) c.as_slice-arcs.ensures.value) old c.add_arcs.new.self c.in_ok-add_arcs.ensures.added in
+    on_ok c.add_counts_of.result c.add_counts_of.ensures
+    (added_both (map wide_arc (take (e.last - e.first) (drop e.first s.arcs.items))) (block_recs s.pairs.cells.items e.body) old c.add_arcs.new.self one c.add_counts_of.new.profile)

@@ -1,11 +1,12 @@
-use Rattle.std.proofs.Common.{◌+◌, List, [], drop, get_or, refl, subst, sym}
+use Rattle.std.proofs.Common.{List, [], get_or, subst, sym}
 use Rattle.std.specs.List.{flat_map}
+use Rattle.std.proofs.lemmas.Option.{slice_get-get_or}
 use Rattle.gmon_data.specs.Content.{IsAdded, IsWithin as IsWithinLimits, with_records}
-use Rattle.gmon_data.proofs.RecordLemmas.{at_begin, one_more, within_next}
+use Rattle.gmon_data.proofs.LoopLemmas.{item_added, item_within, items_done, joined}
+use Rattle.gmon_data.proofs.RecordLemmas.{at_begin}
 use Rattle.gmon_gnu.specs.declared.state.Body.TheVariants.{Hist}
 use Rattle.gmon_gnu.specs.declared.state.Entry.{Entry}
 use Rattle.gmon_gnu.specs.Making.{other_recs}
-use Rattle.gmon_gnu.proofs.MakingLemmas.{end_of_all, next_of_all}
 use Rattle.gmon_gnu.proofs.state.State.add_others.Goals as goal
 
 abbrev none : Entry
@@ -20,8 +21,7 @@ add_other-requires-clause-within c =
     let entries = c.as_slice-entries.result.now in
     let i = c.loop-i.i in
     let old = c.args.profile.now in
-    let w = next_of_all f (flat_map f entries) entries i (get_or entries i none) none old c.loop-i.profile c.loop-i-test.true refl c.loop-i.invariant in
-    within_next (flat_map f entries) (f (get_or entries i none)) (flat_map f (drop (i + 1) entries)) old c.loop-i.profile w
+    item_within (joined f) entries i old c.loop-i.profile c.loop-i.invariant (get_or entries i none) (slice_get-get_or entries i none c.loop-i-test.true)
     (subst (λ (es : List Entry). IsWithinLimits (with_records (flat_map f es) old)) (sym c.as_slice-entries.ensures.value) c.requires.within)
 
 pub loop-i-preserved : goal.loop-i-preserved
@@ -29,13 +29,12 @@ loop-i-preserved c =
     let f = other_recs c.args.self.now.pairs.cells.items c.args.self.now.arcs.items in
     let entries = c.as_slice-entries.result.now in
     let i = c.loop-i.i in
-    let old = c.args.profile.now in
-    let w = next_of_all f (flat_map f entries) entries i (get_or entries i none) none old c.loop-i.profile c.loop-i-test.true refl c.loop-i.invariant in
-    one_more (flat_map f entries) (f (get_or entries i none)) (flat_map f (drop (i + 1) entries)) old c.loop-i.profile w c.add_other.new.profile c.in_ok-add_other.ensures
+    item_added (joined f) entries i c.args.profile.now c.loop-i.profile c.loop-i.invariant (get_or entries i none) (slice_get-get_or entries i none c.loop-i-test.true)
+    c.add_other.new.profile c.in_ok-add_other.ensures
 
 pub returns : goal.returns
 returns c =
     let f = other_recs c.args.self.now.pairs.cells.items c.args.self.now.arcs.items in
     let old = c.args.profile.now in
     subst (λ (es : List Entry). IsAdded (flat_map f es) old c.loop-i.profile) c.as_slice-entries.ensures.value
-    (end_of_all f c.as_slice-entries.result.now c.loop-i.i old c.loop-i.profile c.loop-i-test.false c.loop-i.invariant)
+    (items_done (joined f) c.as_slice-entries.result.now c.loop-i.i old c.loop-i.profile c.loop-i.invariant c.loop-i-test.false)

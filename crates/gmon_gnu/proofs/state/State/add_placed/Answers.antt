@@ -1,12 +1,13 @@
-use Rattle.std.proofs.Common.{◌≡◌, ◌+◌, ◌<◌, List, [], drop, get_or, length, refl, subst, sym}
-use Rattle.gmon_data.specs.Content.{WideRec, IsAdded, IsWithin as IsWithinLimits, wide_record, with_records}
-use Rattle.gmon_data.proofs.RecordLemmas.{at_begin, one_more, within_next}
+use Rattle.std.proofs.Common.{◌≡◌, ◌<◌, List, [], get_or, length, subst, sym}
+use Rattle.std.proofs.lemmas.Option.{slice_get-get_or}
+use Rattle.gmon_data.specs.Content.{WideRec, IsAdded, IsWithin as IsWithinLimits, with_records}
+use Rattle.gmon_data.proofs.LoopLemmas.{at_all, item_added, item_within, items_done}
+use Rattle.gmon_data.proofs.RecordLemmas.{at_begin}
 use Rattle.gmon_gnu.specs.declared.profile_making.Placed.{Placed}
 use Rattle.gmon_gnu.specs.declared.state.Body.TheVariants.{Hist}
 use Rattle.gmon_gnu.specs.declared.state.Entry.{Entry}
-use Rattle.gmon_gnu.specs.Held.{rec_of}
 use Rattle.gmon_gnu.specs.Making.{placed_recs}
-use Rattle.gmon_gnu.proofs.MakingLemmas.{at_place, end_of_placed, next_of_placed}
+use Rattle.gmon_gnu.proofs.MakingLemmas.{placed_body, placed_in_turn}
 use Rattle.gmon_gnu.proofs.state.State.add_placed.Goals as goal
 
 abbrev none : Entry
@@ -27,14 +28,14 @@ add_body-requires-clause-within c =
     let i = c.loop-i.i in
     let old = c.args.profile.now in
     let s = c.args.self.now in
+    let p = get_or order i nowhere in
     let same : placed_recs counters pairs entries order ≡ placed_recs s.counters.cells.items s.pairs.cells.items s.entries.items order =
     λ k. placed_recs (c.as_slice-counters.ensures.value k) (c.as_slice-pairs.ensures.value k) (c.as_slice-entries.ensures.value k) order in
-    let p = get_or order i nowhere in
-    let e = get_or entries p.entry none in
-    let all = placed_recs counters pairs entries order in
-    let inside = subst (λ (es : List Entry). p.entry < length es) (sym c.as_slice-entries.ensures.value) (at_place order (length s.entries.items) i nowhere c.loop-i-test.true c.requires.inside) in
-    let w = next_of_placed counters pairs all entries order i p nowhere e none old c.loop-i.profile c.loop-i-test.true refl inside refl c.loop-i.invariant in
-    within_next all (wide_record (rec_of counters pairs e.body)) (placed_recs counters pairs entries (drop (i + 1) order)) old c.loop-i.profile w (subst (λ (recs : List WideRec). IsWithinLimits (with_records recs old)) (sym same) c.requires.within)
+    let at = slice_get-get_or order i nowhere c.loop-i-test.true in
+    let inside = subst (λ (es : List Entry). p.entry < length es) (sym c.as_slice-entries.ensures.value) (at_all (λ q. q.entry < length s.entries.items) order i p c.requires.inside at) in
+    let here = placed_body counters pairs entries p none inside in
+    subst (λ (recs : List WideRec). IsWithinLimits (with_records recs c.loop-i.profile)) here
+    (item_within (placed_in_turn counters pairs entries) order i old c.loop-i.profile c.loop-i.invariant p at (subst (λ (recs : List WideRec). IsWithinLimits (with_records recs old)) (sym same) c.requires.within))
 
 pub loop-i-preserved : goal.loop-i-preserved
 loop-i-preserved c =
@@ -43,14 +44,13 @@ loop-i-preserved c =
     let entries = c.as_slice-entries.result.now in
     let order = c.args.order.now in
     let i = c.loop-i.i in
-    let old = c.args.profile.now in
     let s = c.args.self.now in
     let p = get_or order i nowhere in
-    let e = get_or entries p.entry none in
-    let all = placed_recs counters pairs entries order in
-    let inside = subst (λ (es : List Entry). p.entry < length es) (sym c.as_slice-entries.ensures.value) (at_place order (length s.entries.items) i nowhere c.loop-i-test.true c.requires.inside) in
-    let w = next_of_placed counters pairs all entries order i p nowhere e none old c.loop-i.profile c.loop-i-test.true refl inside refl c.loop-i.invariant in
-    one_more all (wide_record (rec_of counters pairs e.body)) (placed_recs counters pairs entries (drop (i + 1) order)) old c.loop-i.profile w c.add_body.new.profile c.in_ok-add_body.ensures.added
+    let at = slice_get-get_or order i nowhere c.loop-i-test.true in
+    let inside = subst (λ (es : List Entry). p.entry < length es) (sym c.as_slice-entries.ensures.value) (at_all (λ q. q.entry < length s.entries.items) order i p c.requires.inside at) in
+    let here = placed_body counters pairs entries p none inside in
+    item_added (placed_in_turn counters pairs entries) order i c.args.profile.now c.loop-i.profile c.loop-i.invariant p at c.add_body.new.profile
+    (subst (λ (recs : List WideRec). IsAdded recs c.loop-i.profile c.add_body.new.profile) (sym here) c.in_ok-add_body.ensures.added)
 
 pub returns : goal.returns
 returns c =
@@ -62,4 +62,4 @@ returns c =
     let s = c.args.self.now in
     let same : placed_recs counters pairs entries order ≡ placed_recs s.counters.cells.items s.pairs.cells.items s.entries.items order =
     λ k. placed_recs (c.as_slice-counters.ensures.value k) (c.as_slice-pairs.ensures.value k) (c.as_slice-entries.ensures.value k) order in
-    subst (λ (recs : List WideRec). IsAdded recs old c.loop-i.profile) same (end_of_placed counters pairs entries order c.loop-i.i old c.loop-i.profile c.loop-i-test.false c.loop-i.invariant)
+    subst (λ (recs : List WideRec). IsAdded recs old c.loop-i.profile) same (items_done (placed_in_turn counters pairs entries) order c.loop-i.i old c.loop-i.profile c.loop-i.invariant c.loop-i-test.false)

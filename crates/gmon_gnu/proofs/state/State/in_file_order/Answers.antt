@@ -1,14 +1,13 @@
 use Rattle.std.proofs.Common.{subst, sym}
 use Rattle.std.proofs.lemmas.Result.{err_from_is_err_and}
-use Rattle.gmon_data.specs.Content.{Content, IsAdded, IsWithin as IsWithinLimits, conflict_of, wide_records, with_records}
+use Rattle.gmon_data.specs.Content.{Content, IsAdded, conflict_of, wide_records}
 use Rattle.gmon_data.specs.Hists.{IsUnlike}
 use Rattle.gmon_data.proofs.RecordLemmas.{stopped_conflict}
-use Rattle.gmon_gnu.specs.Held.{recs_of}
+use Rattle.gmon_gnu.specs.Held.{recs_of, CanBeAdded}
 use Rattle.gmon_gnu.proofs.state.State.in_file_order.Goals as goal
 
-pub add_to-requires-clause-within : goal.add_to-requires-clause-within
-add_to-requires-clause-within c =
-    subst (λ (p : Content). IsWithinLimits (with_records (wide_records (recs_of c.args.self.now)) p)) (sym c.new-profile.ensures.content) c.requires.within
+pub add_to-requires : goal.add_to-requires
+add_to-requires c = subst (λ (old : Content). CanBeAdded c.args.self.now old) (sym c.new-profile.ensures.content) c.requires
 
 pub returns-in_err-add_to-clause-refusal : goal.returns-in_err-add_to-clause-refusal
 returns-in_err-add_to-clause-refusal c =
