@@ -10,8 +10,10 @@ pub mod ArcOrderLemmas
 pub mod OrderLemmas
 pub mod PlaceLemmas
 pub mod TimeLemmas
+pub mod FunctionArcLemmas
+pub mod FunctionOrderLemmas
+pub mod ChildTimeLemmas
 pub mod FlowLemmas
-pub mod MemberLemmas
 pub mod ExactLemmas
 pub mod NearLemmas
 pub mod ExactRootLemmas

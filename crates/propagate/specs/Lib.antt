@@ -3,3 +3,4 @@ pub mod Solution
 pub mod Arcs
 pub mod ExactSolution
 pub mod Proportion
+pub mod Functions

@@ -4,14 +4,20 @@ ghost use Rattle.std.specs.Prelude.{◌≡◌, ◌<◌, length, slice_index};
 
 use std::marker::Model;
 
+/// What an arc carries of its callee's self time, and of its child time.
+#[derive(Clone, Copy)]
+pub(crate) struct ArcTimes {
+    pub(crate) own: u128,
+    pub(crate) child: u128,
+}
+
 /// How time flows over a graph. All times are in grains. Functions, components and arcs have the numbers
 /// that they have in the graph. No accessor takes memory.
 #[derive(Drop)]
 pub struct Flow {
     pub(crate) selves: Vec<u128>,
     pub(crate) children: Vec<u128>,
-    pub(crate) arc_selves: Vec<u128>,
-    pub(crate) arc_children: Vec<u128>,
+    pub(crate) arcs: Vec<ArcTimes>,
     pub(crate) member_children: Vec<u128>,
 }
 
@@ -48,7 +54,7 @@ impl Flow {
         requires { i < length self.now.arc_self }
         ensures { result ≡ slice_index self.now.arc_self i }
     {
-        self.arc_selves[i]
+        self.arcs[i].own
     }
 
     /// What an arc carries of its callee's child time, or of that of the callee's cycle; 0 for an arc
@@ -57,7 +63,7 @@ impl Flow {
         requires { i < length self.now.arc_child }
         ensures { result ≡ slice_index self.now.arc_child i }
     {
-        self.arc_children[i]
+        self.arcs[i].child
     }
 
     /// What a function gets over the arcs that leave it, but for those inside its cycle.
