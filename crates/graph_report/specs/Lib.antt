@@ -11,3 +11,4 @@ pub mod Subjects
 pub mod Roots
 pub mod ArcTimes
 pub mod Labels
+pub mod ArcLines
