@@ -2,6 +2,7 @@ pub mod Cycles
 pub mod Entries
 pub mod GraphText
 pub mod ExactText
+pub mod Lists
 pub mod Groups
 pub mod Tables
 pub mod Inputs

@@ -4,10 +4,10 @@ ghost use Rattle.std.specs.Prelude.{◌≡◌, ◌^◌, ◌<◌, IfOk};
 ghost use Rattle.call_cycles.specs.Graph.{IsGraph, all_calls, arc_count};
 ghost use Rattle.call_cycles.specs.Sums.{list_of};
 ghost use Rattle.graph_report.specs.Tables.{AreTables};
-ghost use Rattle.graph_report.specs.Groups.{AreGroups, arc_key, calls_with};
+ghost use Rattle.graph_report.specs.Groups.{AreGroups, arc_key, calls_with, places_with};
 
 use crate::cycles::{cycle_names, cycle_numbers};
-use crate::groups::{call_sums, grouped};
+use crate::groups::{Groups, call_sums, grouped};
 use crate::keys::{ArcKey, components, keys};
 use call_cycles::Graph;
 use std::alloc::{AllocError, Global};
@@ -16,13 +16,13 @@ use std::alloc::{AllocError, Global};
 #[derive(Drop)]
 pub(crate) struct Tables {
     /// The arcs to each function.
-    pub arcs_to: Vec<Vec<usize>>,
+    pub arcs_to: Groups,
     /// The arcs from each function.
-    pub arcs_from: Vec<Vec<usize>>,
+    pub arcs_from: Groups,
     /// The outside arcs into each component.
-    pub arcs_into: Vec<Vec<usize>>,
+    pub arcs_into: Groups,
     /// The members of each component.
-    pub members: Vec<Vec<usize>>,
+    pub members: Groups,
     /// The calls of each function by others.
     pub calls_to: Vec<u64>,
     /// The calls of others by each function.
@@ -36,14 +36,9 @@ pub(crate) struct Tables {
 }
 
 /// The arcs with each key below `count`.
-fn arcs_by(
-    alloc: Global,
-    graph: &Graph,
-    count: usize,
-    key: ArcKey,
-) -> Result<Vec<Vec<usize>>, AllocError>
-    ensures { IfOk result (λ v. AreGroups count
-        (list_of (arc_count graph.now) (arc_key graph.now key)) v.items) }
+fn arcs_by(alloc: Global, graph: &Graph, count: usize, key: ArcKey) -> Result<Groups, AllocError>
+    ensures { IfOk result (AreGroups count
+        (places_with (list_of (arc_count graph.now) (arc_key graph.now key)))) }
 {
     let keys = keys(alloc, graph, key)?;
     grouped(alloc, count, &keys)
