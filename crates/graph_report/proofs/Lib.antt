@@ -1,4 +1,5 @@
 pub mod GroupLemmas
+pub mod PlacingLemmas
 pub mod CycleLemmas
 pub mod TableLemmas
 pub mod TimeLemmas
@@ -13,4 +14,4 @@ pub mod ReportLemmas
 pub mod ExactLemmas
 pub mod RootLemmas
 pub mod RisingLemmas
-pub mod LabelLemmas
+pub mod ListLemmas

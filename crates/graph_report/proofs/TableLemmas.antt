@@ -1,7 +1,6 @@
 -- What the tables hold, from the keys of arcs.
 use Rattle.std.proofs.Common.{◌≡◌, ◌<◌, ℕ, zero, suc, Bool, true, false, cond, ◌&&◌, not, List, [], ◌∷◌, ◌++◌, refl, ap, sym, ◌∙◌, arith, add-one}
 use Rattle.std.specs.Prelude.{◌==◌, filter, slice_index, if◌then◌else◌}
-use Rattle.std.specs.Global.{Vec}
 use Rattle.std.proofs.lemmas.Bool.{ne_eqb}
 use Rattle.std.proofs.lemmas.List.FromFn.{fill_by_all, length-map-range_with_len, get_or-map-range_with_len}
 use Rattle.call_cycles.specs.Graph.{GraphValue, arc_at, arc_count, component_count, component_of, is_outside, target_of, enters}
@@ -13,9 +12,10 @@ use Rattle.graph_report.specs.Cycles.{inner_calls, is_inner_arc}
 use Rattle.graph_report.specs.Entries.{calls_of_others}
 use Rattle.graph_report.specs.GraphText.{arcs_from, arcs_into, arcs_to, members_of}
 use Rattle.graph_report.specs.Groups.{AreGroups, arc_key, calls_with, places_with}
-use Rattle.graph_report.specs.Tables.{AreLists}
+use Rattle.graph_report.specs.declared.groups.Groups.{Groups}
 use Rattle.graph_report.specs.declared.keys.ArcKey.TheVariants.{Caller, Callee, Entered, Inner}
 use Rattle.graph_report.proofs.GroupLemmas.{filter_next}
+use Rattle.graph_report.proofs.PlacingLemmas.{lists_agree}
 
 -- tests that agree below an end
 filter_same : (p q : ℕ → Bool) (n : ℕ) → ((i : ℕ) → i < n → p i ≡ q i) → filter p (numbers_below n) ≡ filter q (numbers_below n)
@@ -37,11 +37,9 @@ module _ (n : ℕ) (key : ℕ → ℕ) (keys : List ℕ) (are : keys ≡ list_of
       ap (λ (m : ℕ). filter (λ i. slice_index keys i == k) (numbers_below m)) (list_long n key keys are)
       ∙ filter_same (λ i. slice_index keys i == k) (λ i. key i == k) n (λ i h. ap (λ (x : ℕ). x == k) (list_at n key keys are i h))
 
-  pub lists_are : (count : ℕ) (test : ℕ → ℕ → Bool) (groups : List (Vec ℕ)) → AreGroups count keys groups → ((k : ℕ) → k < count → (i : ℕ) → i < n → (key i == k) ≡ test k i) → AreLists count (λ k. filter (test k) (numbers_below n)) groups
-  lists_are count test groups are_groups tests = record {
-    len = are_groups.len;
-    each = λ k d low. are_groups.each k d low ∙ places_are k ∙ filter_same (λ i. key i == k) (test k) n (tests k low);
-  }
+  pub lists_are : (count : ℕ) (test : ℕ → ℕ → Bool) (groups : Groups) → AreGroups count (places_with keys) groups → ((k : ℕ) → k < count → (i : ℕ) → i < n → (key i == k) ≡ test k i) → AreGroups count (λ k. filter (test k) (numbers_below n)) groups
+  lists_are count test groups are_groups tests =
+      lists_agree count (places_with keys) (λ k. filter (test k) (numbers_below n)) groups.places.items groups.starts.items (λ k low. places_are k ∙ filter_same (λ i. key i == k) (test k) n (tests k low)) are_groups
 
 -- outside arcs by what they enter, inside ones by where they stay
 entered_key : (b : Bool) (t n k : ℕ) → k < n → ((let x : ℕ = if b then t else n in x) == k) ≡ (b && (t == k))
@@ -53,17 +51,17 @@ inner_key true t n k low = ne_eqb n k (λ q. omega arith)
 inner_key false t n k low = refl
 
 module _ (g : GraphValue) (keys : List ℕ) where
-  pub lists_to : (groups : List (Vec ℕ)) → keys ≡ list_of (arc_count g) (arc_key g Callee) → AreGroups g.functions keys groups → AreLists g.functions (arcs_to g) groups
+  pub lists_to : (groups : Groups) → keys ≡ list_of (arc_count g) (arc_key g Callee) → AreGroups g.functions (places_with keys) groups → AreGroups g.functions (arcs_to g) groups
   lists_to groups are are_groups = lists_are (arc_count g) (arc_key g Callee) keys are g.functions (λ f i. (arc_at g i).callee == f) groups are_groups (λ k low i h. refl)
 
-  pub lists_from : (groups : List (Vec ℕ)) → keys ≡ list_of (arc_count g) (arc_key g Caller) → AreGroups g.functions keys groups → AreLists g.functions (arcs_from g) groups
+  pub lists_from : (groups : Groups) → keys ≡ list_of (arc_count g) (arc_key g Caller) → AreGroups g.functions (places_with keys) groups → AreGroups g.functions (arcs_from g) groups
   lists_from groups are are_groups = lists_are (arc_count g) (arc_key g Caller) keys are g.functions (λ f i. (arc_at g i).caller == f) groups are_groups (λ k low i h. refl)
 
-  pub lists_into : (groups : List (Vec ℕ)) → keys ≡ list_of (arc_count g) (arc_key g Entered) → AreGroups (component_count g) keys groups → AreLists (component_count g) (arcs_into g) groups
+  pub lists_into : (groups : Groups) → keys ≡ list_of (arc_count g) (arc_key g Entered) → AreGroups (component_count g) (places_with keys) groups → AreGroups (component_count g) (arcs_into g) groups
   lists_into groups are are_groups =
       lists_are (arc_count g) (arc_key g Entered) keys are (component_count g) (enters g) groups are_groups (λ k low i h. entered_key (is_outside g i) (target_of g i) (component_count g) k low)
 
-  pub lists_members : (groups : List (Vec ℕ)) → keys ≡ list_of g.functions (component_of g) → AreGroups (component_count g) keys groups → AreLists (component_count g) (members_of g) groups
+  pub lists_members : (groups : Groups) → keys ≡ list_of g.functions (component_of g) → AreGroups (component_count g) (places_with keys) groups → AreGroups (component_count g) (members_of g) groups
   lists_members groups are are_groups = lists_are g.functions (component_of g) keys are (component_count g) (λ c f. component_of g f == c) groups are_groups (λ k low i h. refl)
 
   calls_same : (key : ℕ → ℕ) (test : ℕ → ℕ → Bool) (count : ℕ) (sums : List ℕ) → keys ≡ list_of (arc_count g) key → ((k : ℕ) → k < count → (i : ℕ) → i < arc_count g → (key i == k) ≡ test k i)

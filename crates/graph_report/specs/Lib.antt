@@ -2,6 +2,7 @@ pub mod Cycles
 pub mod Entries
 pub mod GraphText
 pub mod ExactText
+pub mod Lists
 pub mod Groups
 pub mod Tables
 pub mod Inputs
@@ -11,3 +12,4 @@ pub mod Subjects
 pub mod Roots
 pub mod ArcTimes
 pub mod Labels
+pub mod ArcLines

@@ -126,7 +126,7 @@ impl<'a> Inputs<'a> {
         requires function { f < self.now.sources.graph.now.functions }
         ensures { result.now ≡ arcs_that_call self.now.sources.graph.now f }
     {
-        self.tables.arcs_to[f as usize].as_slice()
+        self.tables.arcs_to.of(f)
     }
 
     /// The arcs from a function, in the order of their numbers.
@@ -135,7 +135,7 @@ impl<'a> Inputs<'a> {
         requires function { f < self.now.sources.graph.now.functions }
         ensures { result.now ≡ arcs_that_leave self.now.sources.graph.now f }
     {
-        self.tables.arcs_from[f as usize].as_slice()
+        self.tables.arcs_from.of(f)
     }
 
     /// The outside arcs into a component, in the order of their numbers.
@@ -144,7 +144,7 @@ impl<'a> Inputs<'a> {
         requires component { c < component_count self.now.sources.graph.now }
         ensures { result.now ≡ arcs_that_enter self.now.sources.graph.now c }
     {
-        self.tables.arcs_into[c as usize].as_slice()
+        self.tables.arcs_into.of(c)
     }
 
     /// The members of a component, in the order of their addresses.
@@ -153,7 +153,7 @@ impl<'a> Inputs<'a> {
         requires component { c < component_count self.now.sources.graph.now }
         ensures { result.now ≡ members_of self.now.sources.graph.now c }
     {
-        self.tables.members[c as usize].as_slice()
+        self.tables.members.of(c)
     }
 
     /// The number of a cycle.

@@ -4,6 +4,7 @@
 //! below, and each cycle as a whole. How they are laid out is this project's own choice.
 #![tactic(auto)]
 
+mod arc_lines;
 mod columns;
 mod cycles;
 mod entries;

@@ -1,16 +1,18 @@
 //! Lines and runs of lines.
 
-ghost use Rattle.std.specs.Prelude.{◌≡◌, ◌==◌, ◌<◌, ◌≤◌, ◌++◌, codes, length, map, take};
+ghost use Rattle.std.specs.Prelude.{◌≡◌, ◌==◌, ◌<◌, ◌≤◌, ◌++◌, codes, length};
 ghost use Rattle.std.specs.List.{All, flat_map};
 ghost use Rattle.host_port.specs.Buffered.{Adds};
 ghost use Rattle.host_port.specs.declared.side.Side.TheVariants.{Output};
 ghost use Rattle.text_cols.specs.Columns.{spaces};
 ghost use Rattle.call_cycles.specs.Graph.{arc_count};
-ghost use Rattle.graph_report.specs.ArcTimes.{AreTimes, arc_times, times_columns};
+ghost use Rattle.graph_report.specs.ArcLines.{arc_text, line_by};
+ghost use Rattle.graph_report.specs.ArcTimes.{AreTimes, times_columns};
 ghost use Rattle.graph_report.specs.GraphText.{callee_line, caller_line, callers_text, function_columns, function_name, member_line, other_line};
 ghost use Rattle.graph_report.specs.Inputs.{AreInputs, sources_in};
 ghost use Rattle.graph_report.specs.Numbers.{IsReport, number_of};
 
+use crate::arc_lines::{ArcEnd, ArcLine, BATCH, looked_up};
 use crate::columns;
 use crate::inputs::{ArcTimes, Inputs};
 use crate::numbers::Report;
@@ -27,9 +29,6 @@ const FRONT: &[u8] = b"               ";
 /// What stands behind them.
 const BEHIND: &[u8] = b"      ";
 
-/// How many arcs are looked up before the first of their lines is put, so that the waits for memory overlap.
-const BATCH: usize = 16;
-
 /// Makes a line of what stands in front of a function's name: the columns of an arc.
 fn arc_front(line: &mut Line, inputs: &Inputs<'_>, times: &ArcTimes)
     requires inputs { AreInputs inputs.now }
@@ -42,26 +41,22 @@ fn arc_front(line: &mut Line, inputs: &Inputs<'_>, times: &ArcTimes)
     line.put(BEHIND);
 }
 
-/// Puts the line of an arc, at whose end stands a function.
+/// Puts the line of an arc.
 fn put_arc<H: Host>(
     report: &Report<'_>,
-    times: &ArcTimes,
-    f: u32,
+    arc: &ArcLine<'_>,
     line: &mut Line,
     lines: &mut PrintBuf,
     host: &mut H,
 ) -> Result<(), Failed>
     requires report { IsReport report.now }
-    requires times { AreTimes (sources_in report.now.inputs) times.now }
-    requires function { f < report.now.inputs.sources.graph.now.functions }
-    ensures { let s = sources_in report.now.inputs in
-        Adds Output (other_line (times_columns s times.now)
-        (function_name s (number_of report.now) f)) lines.old lines.new (H.outside host.old)
-        (H.outside host.new) result }
+    requires times { AreTimes (sources_in report.now.inputs) arc.now.times }
+    ensures { Adds Output (arc_text (sources_in report.now.inputs) arc.now) lines.old lines.new
+        (H.outside host.old) (H.outside host.new) result }
 {
-    arc_front(line, &report.inputs, times);
+    arc_front(line, &report.inputs, &arc.times);
     lines.put(host, line.bytes())?;
-    lines.put(host, report.label(f))
+    lines.put(host, arc.label)
 }
 
 /// Makes a line of what stands in front of a function's name: the columns of a member of a cycle.
@@ -110,25 +105,11 @@ fn put_spontaneous<H: Host>(lines: &mut PrintBuf, host: &mut H) -> Result<(), Fa
     lines.put(host, SPONTANEOUS)
 }
 
-/// These arcs, and what they carry.
-fn looked_up(inputs: &Inputs<'_>, arcs: &[usize]) -> [ArcTimes; BATCH]
-    requires inputs { AreInputs inputs.now }
-    requires arcs { All (λ i. i < arc_count inputs.now.sources.graph.now) arcs.now }
-    requires some { 0 < length arcs.now }
-    requires few { length arcs.now ≤ 16 }
-    ensures { take (length arcs.now) result ≡ map (arc_times (sources_in inputs.now)) arcs.now }
-{
-    let mut batch = [inputs.arc(arcs[0]); BATCH];
-    for k in 1..arcs.len() {
-        batch[k] = inputs.arc(arcs[k]);
-    }
-    batch
-}
-
-/// Puts the callers of these arcs, which are few.
+/// Puts the lines of these arcs, which are few.
 fn put_batch<H: Host>(
     report: &Report<'_>,
     arcs: &[usize],
+    end: ArcEnd,
     line: &mut Line,
     lines: &mut PrintBuf,
     host: &mut H,
@@ -138,12 +119,36 @@ fn put_batch<H: Host>(
     requires some { 0 < length arcs.now }
     requires few { length arcs.now ≤ 16 }
     ensures { Adds Output (flat_map
-        (caller_line (sources_in report.now.inputs) (number_of report.now)) arcs.now) lines.old
+        (line_by end (sources_in report.now.inputs) (number_of report.now)) arcs.now) lines.old
         lines.new (H.outside host.old) (H.outside host.new) result }
 {
-    let batch = looked_up(&report.inputs, arcs);
-    for times in batch.split_at(arcs.len()).0 {
-        put_arc(report, times, times.arc.caller, line, lines, host)?;
+    let batch = looked_up(report, arcs, end);
+    for arc in batch.split_at(arcs.len()).0 {
+        put_arc(report, arc, line, lines, host)?;
+    }
+    Ok(())
+}
+
+/// Puts the lines of these arcs, each by the function at this end.
+fn put_arcs<H: Host>(
+    report: &Report<'_>,
+    arcs: &[usize],
+    end: ArcEnd,
+    lines: &mut PrintBuf,
+    host: &mut H,
+) -> Result<(), Failed>
+    requires report { IsReport report.now }
+    requires arcs { All (λ i. i < arc_count report.now.inputs.sources.graph.now) arcs.now }
+    ensures { Adds Output (flat_map
+        (line_by end (sources_in report.now.inputs) (number_of report.now)) arcs.now) lines.old
+        lines.new (H.outside host.old) (H.outside host.new) result }
+{
+    let mut line = Line::new();
+    let mut start = 0;
+    while start < arcs.len() {
+        let next = arcs.len().min(start + BATCH);
+        put_batch(report, &arcs[start..next], end, &mut line, lines, host)?;
+        start = next;
     }
     Ok(())
 }
@@ -163,14 +168,7 @@ pub(crate) fn put_callers<H: Host>(
     if is_spontaneous(arcs) {
         return put_spontaneous(lines, host);
     }
-    let mut line = Line::new();
-    let mut start = 0;
-    while start < arcs.len() {
-        let end = arcs.len().min(start + BATCH);
-        put_batch(report, &arcs[start..end], &mut line, lines, host)?;
-        start = end;
-    }
-    Ok(())
+    put_arcs(report, arcs, ArcEnd::Caller, lines, host)
 }
 
 /// Puts the callees of these arcs.
@@ -186,12 +184,7 @@ pub(crate) fn put_callees<H: Host>(
         (callee_line (sources_in report.now.inputs) (number_of report.now)) arcs.now) lines.old
         lines.new (H.outside host.old) (H.outside host.new) result }
 {
-    let mut line = Line::new();
-    for i in arcs {
-        let times = report.inputs.arc(*i);
-        put_arc(report, &times, times.arc.callee, &mut line, lines, host)?;
-    }
-    Ok(())
+    put_arcs(report, arcs, ArcEnd::Callee, lines, host)
 }
 
 /// Puts these members of a cycle.

@@ -4,10 +4,10 @@ ghost use Rattle.std.specs.Prelude.{◌≡◌, ◌^◌, ◌<◌, IfOk};
 ghost use Rattle.call_cycles.specs.Graph.{IsGraph, all_calls, arc_count};
 ghost use Rattle.call_cycles.specs.Sums.{list_of};
 ghost use Rattle.graph_report.specs.Tables.{AreTables};
-ghost use Rattle.graph_report.specs.Groups.{AreGroups, arc_key, calls_with};
+ghost use Rattle.graph_report.specs.Groups.{AreGroups, arc_key, calls_with, places_with};
 
 use crate::cycles::{cycle_names, cycle_numbers};
-use crate::groups::{call_sums, grouped};
+use crate::groups::{Groups, call_sums, grouped};
 use crate::keys::{ArcKey, components, keys};
 use call_cycles::Graph;
 use std::alloc::{AllocError, Global};
@@ -16,13 +16,13 @@ use std::alloc::{AllocError, Global};
 #[derive(Drop)]
 pub(crate) struct Tables {
     /// The arcs to each function.
-    pub arcs_to: Vec<Vec<usize>>,
+    pub arcs_to: Groups,
     /// The arcs from each function.
-    pub arcs_from: Vec<Vec<usize>>,
+    pub arcs_from: Groups,
     /// The outside arcs into each component.
-    pub arcs_into: Vec<Vec<usize>>,
+    pub arcs_into: Groups,
     /// The members of each component.
-    pub members: Vec<Vec<usize>>,
+    pub members: Groups,
     /// The calls of each function by others.
     pub calls_to: Vec<u64>,
     /// The calls of others by each function.
@@ -35,29 +35,24 @@ pub(crate) struct Tables {
     pub cycle_names: Vec<Vec<u8>>,
 }
 
-/// The arcs with each key below `count`.
-fn arcs_by(
+/// The arcs with each key below `count`, and their calls.
+fn arcs_and_calls(
     alloc: Global,
     graph: &Graph,
     count: usize,
     key: ArcKey,
-) -> Result<Vec<Vec<usize>>, AllocError>
-    ensures { IfOk result (λ v. AreGroups count
-        (list_of (arc_count graph.now) (arc_key graph.now key)) v.items) }
-{
-    let keys = keys(alloc, graph, key)?;
-    grouped(alloc, count, &keys)
-}
-
-/// The calls of the arcs with each key below `count`.
-fn calls_by(alloc: Global, graph: &Graph, count: usize, key: ArcKey) -> Result<Vec<u64>, AllocError>
+) -> Result<(Groups, Vec<u64>), AllocError>
     requires { all_calls graph.now < 2 ^ 59 }
-    ensures { IfOk result (λ v. v.items
+    ensures arcs { IfOk result (λ p. AreGroups count
+        (places_with (list_of (arc_count graph.now) (arc_key graph.now key))) p.0) }
+    ensures calls { IfOk result (λ p. p.1.items
         ≡ list_of count (calls_with graph.now
         (list_of (arc_count graph.now) (arc_key graph.now key)))) }
 {
     let keys = keys(alloc, graph, key)?;
-    call_sums(alloc, graph, count, &keys)
+    let arcs = grouped(alloc, count, &keys)?;
+    let calls = call_sums(alloc, graph, count, &keys)?;
+    Ok((arcs, calls))
 }
 
 impl Tables {
@@ -71,14 +66,16 @@ impl Tables {
         let count = graph.component_count() as usize;
         let numbers = cycle_numbers(alloc, graph)?;
         let names = cycle_names(alloc, graph, &numbers)?;
+        let (arcs_to, calls_to) = arcs_and_calls(alloc, graph, functions, ArcKey::Callee)?;
+        let (arcs_from, calls_from) = arcs_and_calls(alloc, graph, functions, ArcKey::Caller)?;
         Ok(Tables {
-            arcs_to: arcs_by(alloc, graph, functions, ArcKey::Callee)?,
-            arcs_from: arcs_by(alloc, graph, functions, ArcKey::Caller)?,
-            arcs_into: arcs_by(alloc, graph, count, ArcKey::Entered)?,
+            arcs_to,
+            arcs_from,
+            arcs_into: grouped(alloc, count, &keys(alloc, graph, ArcKey::Entered)?)?,
             members: grouped(alloc, count, &components(alloc, graph)?)?,
-            calls_to: calls_by(alloc, graph, functions, ArcKey::Callee)?,
-            calls_from: calls_by(alloc, graph, functions, ArcKey::Caller)?,
-            calls_inside: calls_by(alloc, graph, count, ArcKey::Inner)?,
+            calls_to,
+            calls_from,
+            calls_inside: call_sums(alloc, graph, count, &keys(alloc, graph, ArcKey::Inner)?)?,
             cycle_numbers: numbers,
             cycle_names: names,
         })

@@ -3,8 +3,9 @@ use Rattle.call_cycles.specs.Sums.{list_of}
 use Rattle.graph_report.specs.Entries.{number_in, graph_order}
 use Rattle.flat_report.specs.Sources.{name_of}
 use Rattle.graph_report.specs.Inputs.{sources_in}
-use Rattle.graph_report.specs.Labels.{label_of, start_of, texts_below}
-use Rattle.graph_report.proofs.LabelLemmas.{start_added, text_added}
+use Rattle.graph_report.specs.Labels.{label_of}
+use Rattle.graph_report.specs.Lists.{lists_below, start_of}
+use Rattle.graph_report.proofs.ListLemmas.{list_added, start_added}
 use Rattle.graph_report.proofs.TextLemmas.{name_whole}
 use Rattle.graph_report.proofs.labels.function_labels.Goals as goal
 
@@ -20,7 +21,7 @@ loop-f-preserved c =
     let tail = c.bytes.ensures.bytes ∙ c.function_tail.ensures in
     let whole = ap (λ (t : List ℕ). t ++ c.bytes.result.now) c.name.ensures ∙ ap (λ (t : List ℕ). name_of s f ++ t) tail ∙ name_whole s number f in (
       c.in_ok-extend_from_slice-2.ensures.items ∙ ap (λ (t : List ℕ). t ++ c.bytes.result.now) c.in_ok-extend_from_slice.ensures.items
-          ∙ text_added of f text.items c.name.result.now c.bytes.result.now so whole,
+          ∙ list_added of f text.items c.name.result.now c.bytes.result.now so whole,
       c.in_ok-push.ensures.items ∙ start_added of f c.len.result text.items c.loop-f.starts.items so c.loop-f.invariant.1 len,
     )
 
@@ -35,6 +36,6 @@ returns c =
     let so = c.loop-f.invariant.0 in
     let len : c.len-2.result ≡ length text.items = omega (arith, c.len-2.ensures, text.ok.0) in
     record {
-      whole = so ∙ ap (texts_below of) at;
+      whole = so ∙ ap (lists_below of) at;
       each = c.in_ok-push-2.ensures.items ∙ start_added of c.loop-f.f c.len-2.result text.items c.loop-f.starts.items so c.loop-f.invariant.1 len ∙ ap (λ (m : ℕ). list_of m (start_of of)) on;
     }

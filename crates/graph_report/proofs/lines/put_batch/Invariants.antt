@@ -3,11 +3,11 @@ use Rattle.std.specs.List.{flat_map}
 use Rattle.host_port.specs.Buffered.{Adds}
 use Rattle.host_port.specs.declared.side.Side.TheVariants.{Output}
 use Rattle.host_port.specs.declared.host.Failed.{Failed}
-use Rattle.graph_report.specs.GraphText.{caller_line}
+use Rattle.graph_report.specs.ArcLines.{line_by}
 use Rattle.graph_report.specs.Inputs.{sources_in}
 use Rattle.graph_report.specs.Numbers.{number_of}
 use Rattle.graph_report.proofs.lines.put_batch.Given as goal
 
 -- the lines so far are put
-abbrev pub invariant-loop-times : goal.invariant-loop-times
-invariant-loop-times g l = Adds {E = Failed} Output (flat_map (caller_line (sources_in l.report.inputs) (number_of l.report)) (take l.times-index l.arcs)) l.initial.lines l.lines (g.H.Host.outside l.initial.host) (g.H.Host.outside l.host) (Ok (tt {0}))
+abbrev pub invariant-loop-arc : goal.invariant-loop-arc
+invariant-loop-arc g l = Adds {E = Failed} Output (flat_map (line_by l.fn.end (sources_in l.report.inputs) (number_of l.report)) (take l.arc-index l.arcs)) l.initial.lines l.lines (g.H.Host.outside l.initial.host) (g.H.Host.outside l.host) (Ok (tt {0}))

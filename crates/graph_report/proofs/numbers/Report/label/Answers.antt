@@ -1,23 +1,15 @@
-use Rattle.std.proofs.Common.{◌≡◌, ◌<◌, ◌+◌, ◌-◌, ℕ, suc, List, get_or, length, take, drop, ap, ◌∙◌, arith}
-use Rattle.std.proofs.lemmas.Grind.{get_or_default_zero}
-use Rattle.call_cycles.specs.Sums.{list_of}
-use Rattle.call_cycles.proofs.ListLemmas.{list_long, list_at}
+use Rattle.std.proofs.Common.{◌+◌, ◌-◌, ℕ, suc, List, length, take, drop, ap, ◌∙◌, arith}
+use Rattle.call_cycles.proofs.ListLemmas.{list_long}
 use Rattle.graph_report.specs.Inputs.{sources_in}
-use Rattle.graph_report.specs.Labels.{label_of, start_of}
+use Rattle.graph_report.specs.Labels.{label_of}
+use Rattle.graph_report.specs.Lists.{start_of}
 use Rattle.graph_report.specs.Numbers.{number_of}
 use Rattle.graph_report.specs.declared.numbers.Report.{Report}
-use Rattle.graph_report.proofs.LabelLemmas.{start_rises, start_within, text_at}
+use Rattle.graph_report.proofs.ListLemmas.{list_there, start_read, start_rises, start_within}
 use Rattle.graph_report.proofs.numbers.Report.label.Goals as goal
 
 abbrev labels_of : Report → ℕ → List ℕ
 labels_of r = label_of (sources_in r.inputs) (number_of r)
-
-start_read : (r : Report) (n k start : ℕ) → r.labels.starts.items ≡ list_of (suc n) (start_of (labels_of r)) → k < suc n → start ≡ get_or r.labels.starts.items k start → start ≡ start_of (labels_of r) k
-start_read r n k start are low is =
-    let starts = r.labels.starts.items in
-    let long = list_long (suc n) (start_of (labels_of r)) starts are in
-    let inside : k < length starts = omega (arith, long, low) in
-    is ∙ get_or_default_zero _ _ _ inside ∙ list_at (suc n) (start_of (labels_of r)) starts are k low
 
 pub index-start-requires : goal.index-start-requires
 index-start-requires c =
@@ -34,8 +26,8 @@ overflow_sub-len c =
     let r = c.args.self.now in
     let n = r.inputs.sources.graph.now.functions in
     let are = c.requires.report.labels in
-    let from = start_read r n c.args.f c.index-start.result.now are.each (omega (arith, c.requires.function)) c.index-start.ensures in
-    let to = start_read r n (c.args.f + 1) c.index.result.now are.each (omega (arith, c.requires.function)) c.index.ensures in
+    let from = start_read (labels_of r) n c.args.f c.index-start.result.now r.labels.starts.items are.each (omega (arith, c.requires.function)) c.index-start.ensures in
+    let to = start_read (labels_of r) n (c.args.f + 1) c.index.result.now r.labels.starts.items are.each (omega (arith, c.requires.function)) c.index.ensures in
     omega (arith, from, to, start_rises (labels_of r) c.args.f)
 
 pub split_at-requires : goal.split_at-requires
@@ -43,7 +35,7 @@ split_at-requires c =
     let r = c.args.self.now in
     let n = r.inputs.sources.graph.now.functions in
     let are = c.requires.report.labels in
-    let from = start_read r n c.args.f c.index-start.result.now are.each (omega (arith, c.requires.function)) c.index-start.ensures in
+    let from = start_read (labels_of r) n c.args.f c.index-start.result.now r.labels.starts.items are.each (omega (arith, c.requires.function)) c.index-start.ensures in
     let all = ap length (c.deref.ensures.value ∙ are.whole) in
     omega (arith, from, all, start_rises (labels_of r) c.args.f, start_within (labels_of r) c.args.f n c.requires.function)
 
@@ -52,8 +44,8 @@ split_at-requires-2 c =
     let r = c.args.self.now in
     let n = r.inputs.sources.graph.now.functions in
     let are = c.requires.report.labels in
-    let from = start_read r n c.args.f c.index-start.result.now are.each (omega (arith, c.requires.function)) c.index-start.ensures in
-    let to = start_read r n (c.args.f + 1) c.index.result.now are.each (omega (arith, c.requires.function)) c.index.ensures in
+    let from = start_read (labels_of r) n c.args.f c.index-start.result.now r.labels.starts.items are.each (omega (arith, c.requires.function)) c.index-start.ensures in
+    let to = start_read (labels_of r) n (c.args.f + 1) c.index.result.now r.labels.starts.items are.each (omega (arith, c.requires.function)) c.index.ensures in
     let all = ap length (c.deref.ensures.value ∙ are.whole) in
     omega (arith, from, to, all, c.split_at.ensures.back_len, start_within (labels_of r) c.args.f n c.requires.function)
 
@@ -64,8 +56,8 @@ returns c =
     let are = c.requires.report.labels in
     let start = c.index-start.result.now in
     let end = c.index.result.now in
-    let from = start_read r n c.args.f start are.each (omega (arith, c.requires.function)) c.index-start.ensures in
-    let to = start_read r n (c.args.f + 1) end are.each (omega (arith, c.requires.function)) c.index.ensures in
+    let from = start_read (labels_of r) n c.args.f start r.labels.starts.items are.each (omega (arith, c.requires.function)) c.index-start.ensures in
+    let to = start_read (labels_of r) n (c.args.f + 1) end r.labels.starts.items are.each (omega (arith, c.requires.function)) c.index.ensures in
     let rest = c.split_at.ensures.back in
     let text = c.split_at-2.ensures.front in
-    text ∙ ap (take (end - start)) (rest ∙ ap (drop start) (c.deref.ensures.value ∙ are.whole)) ∙ text_at (labels_of r) c.args.f n start end c.requires.function from to
+    text ∙ ap (take (end - start)) (rest ∙ ap (drop start) (c.deref.ensures.value ∙ are.whole)) ∙ list_there (labels_of r) c.args.f n start end c.requires.function from to

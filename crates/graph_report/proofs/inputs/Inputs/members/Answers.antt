@@ -1,0 +1,13 @@
+use Rattle.call_cycles.specs.Graph.{component_count}
+use Rattle.graph_report.specs.GraphText.{members_of}
+use Rattle.graph_report.proofs.inputs.Inputs.members.Goals as goal
+
+pub of-requires : goal.of-requires
+of-requires c =
+    let g = c.args.self.now.sources.graph.now in
+    record { count = component_count g; of = members_of g; groups = c.requires.inputs.tables.members; below = c.requires.component }
+
+pub returns : goal.returns
+returns c =
+    let g = c.args.self.now.sources.graph.now in
+    c.of.ensures (component_count g) (members_of g) c.requires.inputs.tables.members c.requires.component
