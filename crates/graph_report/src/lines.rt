@@ -8,7 +8,7 @@ ghost use Rattle.text_cols.specs.Columns.{spaces};
 ghost use Rattle.call_cycles.specs.Graph.{arc_count};
 ghost use Rattle.graph_report.specs.ArcLines.{arc_text, line_by};
 ghost use Rattle.graph_report.specs.ArcTimes.{AreTimes, times_columns};
-ghost use Rattle.graph_report.specs.GraphText.{callee_line, caller_line, callers_text, function_columns, function_name, member_line, other_line};
+ghost use Rattle.graph_report.specs.GraphText.{callee_line, callers_text, function_columns, member_line, other_line};
 ghost use Rattle.graph_report.specs.Inputs.{AreInputs, sources_in};
 ghost use Rattle.graph_report.specs.Numbers.{IsReport, number_of};
 

@@ -68,14 +68,17 @@ impl Tables {
         let names = cycle_names(alloc, graph, &numbers)?;
         let (arcs_to, calls_to) = arcs_and_calls(alloc, graph, functions, ArcKey::Callee)?;
         let (arcs_from, calls_from) = arcs_and_calls(alloc, graph, functions, ArcKey::Caller)?;
+        let arcs_into = grouped(alloc, count, &keys(alloc, graph, ArcKey::Entered)?)?;
+        let members = grouped(alloc, count, &components(alloc, graph)?)?;
+        let calls_inside = call_sums(alloc, graph, count, &keys(alloc, graph, ArcKey::Inner)?)?;
         Ok(Tables {
             arcs_to,
             arcs_from,
-            arcs_into: grouped(alloc, count, &keys(alloc, graph, ArcKey::Entered)?)?,
-            members: grouped(alloc, count, &components(alloc, graph)?)?,
+            arcs_into,
+            members,
             calls_to,
             calls_from,
-            calls_inside: call_sums(alloc, graph, count, &keys(alloc, graph, ArcKey::Inner)?)?,
+            calls_inside,
             cycle_numbers: numbers,
             cycle_names: names,
         })

@@ -14,11 +14,11 @@ returns-clause-tables c =
     record {
       to = lists_to g _ c.in_ok-arcs_to.arcs_to refl (rw functions at c.in_ok-arcs_to.ensures.arcs);
       from = lists_from g _ c.in_ok-arcs_from.arcs_from refl (rw functions at c.in_ok-arcs_from.ensures.arcs);
-      into = lists_into g _ c.in_ok-grouped.field-0 (c.deref-2.ensures.value ∙ c.in_ok-keys.ensures) (rw count at c.in_ok-grouped.ensures);
-      members = lists_members g _ c.in_ok-grouped-2.field-0 (c.deref-3.ensures.value ∙ c.in_ok-components.ensures) (rw count at c.in_ok-grouped-2.ensures);
+      into = lists_into g _ c.in_ok-arcs_into.arcs_into (c.deref-2.ensures.value ∙ c.in_ok-keys.ensures) (rw count at c.in_ok-arcs_into.ensures);
+      members = lists_members g _ c.in_ok-members.members (c.deref-3.ensures.value ∙ c.in_ok-components.ensures) (rw count at c.in_ok-members.ensures);
       calls_to = sums_to g _ _ refl (rw functions at c.in_ok-arcs_to.ensures.calls);
       calls_from = sums_from g _ _ refl (rw functions at c.in_ok-arcs_from.ensures.calls);
-      calls_inside = sums_inside g _ _ (c.deref-4.ensures.value ∙ c.in_ok-keys-2.ensures) (rw count at c.in_ok-call_sums.ensures);
+      calls_inside = sums_inside g _ _ (c.deref-4.ensures.value ∙ c.in_ok-keys-2.ensures) (rw count at c.in_ok-calls_inside.ensures);
       numbers_len = c.in_ok-numbers.ensures.len;
       numbers = c.in_ok-numbers.ensures.numbers;
       names = c.in_ok-names.ensures;
