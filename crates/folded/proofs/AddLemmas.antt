@@ -1,15 +1,14 @@
 -- One more node, and one more sample.
-use Rattle.std.proofs.Common.{◌≡◌, ◌∙◌, ◌+◌, ◌-◌, ◌^◌, ◌<◌, ◌≤◌, ◌++◌, ◌⊎◌, inl, inr, ℕ, zero, suc, Bool, true, false, not, ◌&&◌, ◌||◌, eqb, List, [], ◌∷◌, length, get_or, set, ap, arith, cond, refl, sym, subst, Option, Some, None, slice_get}
-use Rattle.std.specs.Prelude.{count_by, if◌then◌else◌}
+use Rattle.std.proofs.Common.{◌≡◌, ◌∙◌, ◌+◌, ◌^◌, ◌<◌, ◌≤◌, ◌++◌, ◌⊎◌, inl, inr, ℕ, zero, suc, Bool, true, false, ◌&&◌, ◌||◌, eqb, List, [], ◌∷◌, length, get_or, set, ap, arith, cond, refl, sym, subst, Option, Some, None, slice_get}
 use Rattle.std.specs.List.{All, list_any}
 use Rattle.std.specs.Option.{IfSome, option_eq}
 use Rattle.std.proofs.lemmas.Bool.{eq-eqb}
 use Rattle.std.proofs.lemmas.List.{append-nil, get_or_append_left, get_or_push, length-set, length_push}
 use Rattle.std.proofs.lemmas.List.Elements.{All-cons, All-nil, All-get_or, All-push}
 use Rattle.std.proofs.lemmas.List.Sums.{sum_by_push}
-use Rattle.folded.specs.Nodes.{AreNodes, HasStack, HaveSamples, IsGrown, IsShort, IsTree, any_stack, node_stacks, samples_on, stack_of_node, with_node}
+use Rattle.folded.specs.Nodes.{AreNodes, HasStack, HaveSamples, IsGrown, IsShort, IsTree, any_stack, node_stacks, samples_on, stack_of_node}
 use Rattle.folded.specs.declared.tree.Tree.{Tree}
-use Rattle.folded.proofs.NodeLemmas.{Nodes, Stack, length_stacks, samples-push, samples-set, samples_first, stack_behind, stack_of_made, stacks_with}
+use Rattle.folded.proofs.NodeLemmas.{Nodes, Stack, length_stacks, samples-push, samples-set, samples_first, stack_of_made, stacks_with}
 
 -- ---- equality of nodes
 

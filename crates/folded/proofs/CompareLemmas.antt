@@ -1,5 +1,5 @@
 -- Two nodes are compared where their stacks part.
-use Rattle.std.proofs.Common.{◌≡◌, ◌∙◌, ◌+◌, ◌<◌, ◌≤◌, ◌++◌, ℕ, zero, suc, List, [], ◌∷◌, length, get_or, append_assoc, append-nil, ap, arith, refl, sym, subst, Option, Some, None}
+use Rattle.std.proofs.Common.{◌≡◌, ◌∙◌, ◌+◌, ◌<◌, ◌≤◌, ◌++◌, ℕ, zero, suc, [], ◌∷◌, length, get_or, append_assoc, append-nil, ap, arith, refl, sym, Option, Some, None}
 use Rattle.std.specs.declared.cmp.Ordering.{Ordering}
 use Rattle.std.specs.declared.cmp.Ordering.TheVariants.{Less, Equal, Greater}
 use Rattle.std.specs.Ordering.{nat_cmp, ordering_reverse, ordering_then}
@@ -7,7 +7,7 @@ use Rattle.std.specs.Option.{option_cmp}
 use Rattle.std.specs.Cmp.{IsTotalOrder, nat_cmp_total}
 use Rattle.std.specs.Cmp.Lexicographic.{lists_total, options_total}
 use Rattle.std.proofs.lemmas.Map.Lookups.{exact_unsigned}
-use Rattle.folded.specs.Nodes.{IsTree, called_of, node_of, node_stacks, stack_of_node}
+use Rattle.folded.specs.Nodes.{IsTree, called_of, node_of, stack_of_node}
 use Rattle.folded.specs.Stacks.{stack_cmp}
 use Rattle.folded.specs.declared.tree.Tree.{Tree}
 use Rattle.folded.proofs.NodeLemmas.{Nodes, Stack, stack_of_made}

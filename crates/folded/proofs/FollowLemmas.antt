@@ -1,8 +1,8 @@
 -- One more turn, in the shadows and samples that are kept.
-use Rattle.std.proofs.Common.{◌≡◌, ◌∙◌, ◌+◌, ◌-◌, ◌<◌, ◌≤◌, ◌++◌, ℕ, zero, suc, Bool, true, false, List, [], ◌∷◌, length, append-nil, map, take, ap, arith, get_or, set, refl, sym, subst, Option, Some, None, nat_lt, if◌then◌else◌, not, ◌&&◌}
+use Rattle.std.proofs.Common.{◌≡◌, ◌∙◌, ◌+◌, ◌-◌, ◌<◌, ◌≤◌, ◌++◌, ℕ, zero, suc, Bool, true, false, List, [], ◌∷◌, length, append-nil, map, ap, arith, get_or, set, refl, sym, subst, Option, Some, None, nat_lt, if◌then◌else◌, not, ◌&&◌}
 use Rattle.std.specs.List.{cons_option}
 use Rattle.std.specs.Option.{IfSome, option_map}
-use Rattle.std.proofs.lemmas.List.{get_or_default, map-append, set-get_or, take_more}
+use Rattle.std.proofs.lemmas.List.{get_or_default, set-get_or}
 use Rattle.std.proofs.lemmas.List.Elements.{filter_map-append}
 use Rattle.std.proofs.lemmas.List.Quantifiers.{position-Some}
 use Rattle.elf32_syms.specs.declared.image.Symbol.{Symbol}
@@ -31,7 +31,7 @@ followed_follows symbols h note t s v was shadows samples =
 
 -- ---- a turn in which there is nothing to follow
 
-still_ran : (ran : Option Ran) (s : Shadow) → keeps_shadow ran ≡ true → after_ran ran s ≡ s
+pub still_ran : (ran : Option Ran) (s : Shadow) → keeps_shadow ran ≡ true → after_ran ran s ≡ s
 unfolding after_instruction
 still_ran None s is = refl
 still_ran (Some r) s is = by_case (is_call r.instr) (is_return r.instr) is

@@ -1,9 +1,8 @@
 -- Stacks of nodes, and how many samples they have.
-use Rattle.std.proofs.Common.{◌≡◌, ◌∙◌, ◌+◌, ◌<◌, ◌≤◌, ◌++◌, ℕ, zero, suc, Bool, true, false, List, [], ◌∷◌, length, get_or, set, take, ap, arith, cond, refl, sym, subst, Option, Some, None}
-use Rattle.std.specs.Prelude.{fold, count_by}
-use Rattle.std.specs.List.{All, list_any}
-use Rattle.std.proofs.lemmas.List.{get_or_append_left, get_or_push, length_push, same_from_push, take_at}
-use Rattle.std.proofs.lemmas.List.Sums.{fold-append, sum_by_push}
+use Rattle.std.proofs.Common.{◌≡◌, ◌∙◌, ◌+◌, ◌<◌, ◌≤◌, ◌++◌, ℕ, zero, suc, Bool, true, false, List, [], ◌∷◌, length, get_or, set, ap, arith, cond, refl, sym, Option, None}
+use Rattle.std.specs.Prelude.{fold}
+use Rattle.std.proofs.lemmas.List.{get_or_append_left, get_or_push, length_push, same_from_push}
+use Rattle.std.proofs.lemmas.List.Sums.{fold-append}
 use Rattle.folded.specs.Nodes.{any_stack, node_stacks, samples_on, stack_of_node, with_node}
 
 abbrev pub Stack : Type 0

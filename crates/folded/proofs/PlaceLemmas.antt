@@ -1,10 +1,9 @@
 -- Places go up and down, and stacks are read from their ends.
-use Rattle.std.proofs.Common.{◌≡◌, ◌∙◌, ◌+◌, ◌-◌, ◌<◌, ◌≤◌, ◌++◌, ℕ, zero, suc, List, [], ◌∷◌, length, get_or, set, drop, take, map, min, append_assoc, ap, arith, refl, sym, subst, Option, Some, None}
-use Rattle.std.proofs.lemmas.List.{drop-set, get_or-map, length-map, length-take, length_push, take_all, take_at, take-take, take_min, take_more}
+use Rattle.std.proofs.Common.{◌≡◌, ◌∙◌, ◌+◌, ◌-◌, ◌<◌, ◌≤◌, ◌++◌, ℕ, zero, suc, List, [], ◌∷◌, length, get_or, set, drop, take, map, min, append_assoc, ap, arith, sym, Option, None}
+use Rattle.std.proofs.lemmas.List.{drop-set, get_or-map, length-map, length_push, take_all, take_at, take-take, take_min, take_more}
 use Rattle.elf32_syms.specs.declared.image.Symbol.{Symbol}
-use Rattle.folded.specs.Nodes.{AreNodes, HaveSamples, HasStack, IsGrown, IsOn, IsPlaced, IsTree, IsTreeOf, node_of, stack_of_node}
+use Rattle.folded.specs.Nodes.{AreNodes, IsGrown, node_of, stack_of_node}
 use Rattle.folded.specs.Stacks.{caller_in}
-use Rattle.folded.specs.declared.place.Place.{Place}
 use Rattle.folded.specs.declared.tree.Tree.{Tree}
 use Rattle.folded.proofs.NodeLemmas.{Nodes, Stack, stack_behind, stack_of_made, stack_of_none}
 

@@ -1,6 +1,6 @@
 -- Each hart's place follows its shadow.
-use Rattle.std.proofs.Common.{◌≡◌, ◌∙◌, ◌+◌, ◌-◌, ◌<◌, ◌≤◌, ◌++◌, ◌&&◌, ◌⊎◌, inl, inr, ℕ, zero, suc, Bool, true, false, not, nat_lt, eqb, List, [], ◌∷◌, length, get_or, replicate, set, take, map, min, ap, arith, refl, sym, subst, Option, Some, None, if◌then◌else◌}
-use Rattle.std.proofs.lemmas.List.{get_or-replicate, get_or-set_other, get_or-set_same, length-append, length-map, length-replicate, length_push, length-set, length-take, take-map, take-take, take_all, take_at, take_min}
+use Rattle.std.proofs.Common.{append-nil, ◌≡◌, ◌∙◌, ◌+◌, ◌-◌, ◌<◌, ◌≤◌, ◌++◌, ◌&&◌, ◌⊎◌, inl, inr, ℕ, zero, suc, Bool, true, false, not, nat_lt, eqb, List, [], ◌∷◌, length, get_or, replicate, set, take, map, min, ap, arith, refl, sym, subst, Option, Some, None, if◌then◌else◌}
+use Rattle.std.proofs.lemmas.List.{get_or_default, get_or-replicate, get_or-set_other, get_or-set_same, length-append, length-map, length-replicate, length_push, length-set, length-take, take-map, take-take, take_all, take_at, take_min}
 use Rattle.elf32_syms.specs.declared.image.Symbol.{Symbol}
 use Rattle.rv_step.specs.Step.{next_of}
 use Rattle.prof_machine.specs.declared.notes.Ran.{Ran}
@@ -9,7 +9,9 @@ use Rattle.folded.specs.Nodes.{IsOn, IsPlaced, IsTreeFor, NodesAdded, first_plac
 use Rattle.folded.specs.Shadow.{Shadow, after_hook, after_instruction, after_ran, empty_shadow, frames_before, is_call, is_in_frames, is_return, with_call, with_return}
 use Rattle.folded.specs.Stacks.{caller_in}
 use Rattle.folded.specs.declared.place.Place.{Place}
+use Rattle.folded.specs.Trail.{shadow_of}
 use Rattle.folded.specs.declared.trail.Tracker.{Tracker}
+use Rattle.folded.specs.declared.tree.Tree.{Tree}
 use Rattle.folded.proofs.NodeLemmas.{Nodes, Stack, stack_of_none}
 use Rattle.folded.proofs.PlaceLemmas.{stack_stays}
 
@@ -154,3 +156,19 @@ tracked_next symbols v w h s p inside shadows places tree added on was = record 
         more : (k ≡ h) ⊎ ((k ≡ h) → ⊥) → (suc k ≡ suc h) ⊎ ((suc k ≡ suc h) → ⊥)
         more (inl is) = inl (ap suc is)
         more (inr apart) = inr (λ is. apart (omega (arith, is)))
+
+-- the hart's shadow has changed, one of its frames being a front of the other's, and its place has gone up with it
+pub tracked_moved : (h : ℕ) (v w : Tracker) (s t : Shadow) (p q : Place) → h < length v.shadows.items → shadow_of v.shadows.items h ≡ s → p ≡ get_or v.places.items h p → Agree s.frames t.frames
+    → IsPlaced v.tree.nodes.keys q → stack_of_node v.tree.nodes.keys q.node ≡ take (length t.frames) (stack_of_node v.tree.nodes.keys p.node)
+    → w.shadows.items ≡ set v.shadows.items h t → w.places.items ≡ set v.places.items h q → w.tree ≡ v.tree → (symbols : List Symbol) → IsTracked symbols v → IsTracked symbols w
+tracked_moved h v w s t p q inside read place agree placed is shadows places same symbols was =
+    let nodes = v.tree.nodes.keys in
+    let short : h < length v.places.items = omega (arith, inside, was.harts) in
+    let there : get_or v.places.items h first_place ≡ p = get_or_default v.places.items h first_place p short ∙ sym place in
+    let before : IsOn nodes (map (caller_in symbols) s.frames) p =
+    subst (λ (x : Shadow). IsOn nodes (map (caller_in symbols) x.frames) p) read
+    (subst (λ (y : Place). IsOn nodes (map (caller_in symbols) (shadow_of v.shadows.items h).frames) y) there (was.places h inside)) in
+    let after = on_frames symbols nodes s.frames t.frames p q agree before placed is in
+    let keys : w.tree.nodes.keys ≡ nodes = ap (λ (x : Tree). x.nodes.keys) same in
+    tracked_next symbols v w h t q inside shadows places (subst (IsTreeFor symbols) (sym same) was.tree)
+    (record { more = []; is = keys ∙ sym (append-nil nodes) }) (subst (λ (x : Nodes). IsOn x (map (caller_in symbols) t.frames) q) (sym keys) after) was

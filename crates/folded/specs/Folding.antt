@@ -1,5 +1,5 @@
 -- How a run that is folded ends.
-use Rattle.std.specs.Prelude.{◌≡◌, ℕ, ◌+◌, ◌<◌, ◌≤◌, List, length, map, slice_index_or, None, All}
+use Rattle.std.specs.Prelude.{◌≡◌, ℕ, ◌+◌, ◌<◌, ◌≤◌, List, length, map, slice_index_or, slice_set, None, All}
 use Rattle.elf32_syms.specs.declared.image.Symbol.{Symbol}
 use Rattle.host_port.specs.Outside.{KeepsCounts, Outside}
 use Rattle.prof_machine.specs.declared.machine.Machine.{Machine}
@@ -36,6 +36,12 @@ pub record IsTracked (symbols : List Symbol) (v : Tracker) : Type 0 where
   pub tree : IsTreeFor symbols v.tree
   pub harts : length v.places.items ≡ length v.shadows.items
   pub places : (h : ℕ) → h < length v.shadows.items → IsOn v.tree.nodes.keys (map (caller_in symbols) (slice_index_or v.shadows.items h empty_shadow).frames) (slice_index_or v.places.items h first_place)
+
+-- hart h has this shadow, which its place in the tree follows
+pub record WithShadow (h : ℕ) (s : Shadow) (old new : Tracker) : Type 0 where
+  pub shadows : new.shadows.items ≡ slice_set old.shadows.items h s
+  pub tree : new.tree ≡ old.tree
+  pub tracked : (symbols : List Symbol) → IsTracked symbols old → IsTracked symbols new
 
 -- no shadow has more calls without room than there were turns
 abbrev pub HasRoom : ℕ → List Shadow → Type 0

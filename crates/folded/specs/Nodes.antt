@@ -1,5 +1,5 @@
 -- The tree of calls: a node for each stack that was entered, with the number of samples that have it.
-use Rattle.std.specs.Prelude.{◌≡◌, ℕ, zero, suc, ◌+◌, ◌^◌, ◌<◌, ◌≤◌, nat_lt, min, Bool, true, List, [], ◌∷◌, ◌++◌, length, map, fold, count_by, sum_by, take, slice_index_or, Option, Some, None, IfSome, All, if◌then◌else◌}
+use Rattle.std.specs.Prelude.{◌≡◌, ℕ, zero, suc, ◌+◌, ◌^◌, ◌<◌, ◌≤◌, nat_lt, min, Bool, true, List, [], ◌∷◌, ◌++◌, length, map, fold, count_by, sum_by, take, slice_index_or, Option, Some, None, All, if◌then◌else◌}
 use Rattle.std.specs.List.{AllByRecursion}
 use Rattle.std.specs.List.Sorted.{IsStrictlySortedBy}
 use Rattle.std.specs.declared.cmp.Ordering.{Ordering}
@@ -90,7 +90,7 @@ HasStack nodes n stack = (n ≤ length nodes) × (stack_of_node nodes n ≡ stac
 -- ---- where a hart's calls stand in it
 
 abbrev pub first_place : Place
-first_place = record { node = 0; depth = 0 }
+first_place = record { node = 0; depth = 0; near = 0 }
 
 -- at the node of its stack's first functions
 pub record IsPlaced (nodes : List (ℕ × Option ℕ)) (p : Place) : Type 0 where

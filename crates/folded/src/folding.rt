@@ -17,7 +17,6 @@ use crate::refusal::FoldRefusal;
 use crate::tally::Folded;
 use crate::trail::Tracker;
 use elf32_syms::Image;
-use elf32_syms::owners::symbol_count;
 use host_port::Host;
 use prof_machine::{PlanWalk, Run, Setup, Turned};
 use std::alloc::Global;
@@ -55,7 +54,7 @@ pub fn fold<H: Host>(
     ensures input { KeepsInput (H.outside host.old) (H.outside host.new) }
 {
     let symbols = image.symbols.as_slice();
-    let mut tracker = Tracker::new(alloc, symbol_count(symbols), setup.harts)?;
+    let mut tracker = Tracker::new(alloc, symbols, setup.harts)?;
     let mut plan = PlanWalk::new(setup);
     loop {
         let hart = plan.next_hart();

@@ -7,14 +7,16 @@ ghost use Rattle.folded.specs.Stacks.{caller_in};
 
 use crate::tree::Tree;
 use elf32_syms::Symbol;
-use elf32_syms::owners::owner;
+use elf32_syms::pages::OwnerPages;
 use std::alloc::AllocError;
 
-/// The node of a hart's oldest calls, and how many these are. Younger ones get a node when a sample needs it.
+/// The node of a hart's oldest calls, and how many these are. Younger ones get a node when a sample needs it. Besides,
+/// the function of the hart's last sample, near which the next one mostly lies.
 #[derive(Clone, Copy)]
 pub(crate) struct Place {
     pub(crate) node: u32,
     pub(crate) depth: usize,
+    pub(crate) near: u32,
 }
 
 impl Place {
@@ -22,8 +24,13 @@ impl Place {
     pub(crate) fn new() -> Place
         ensures node { result.node ≡ 0 }
         ensures depth { result.depth ≡ 0 }
+        ensures near { result.near ≡ 0 }
     {
-        Place { node: 0, depth: 0 }
+        Place {
+            node: 0,
+            depth: 0,
+            near: 0,
+        }
     }
 
     /// So many calls are left.
@@ -44,6 +51,7 @@ impl Place {
     pub(crate) fn go_down(
         &mut self,
         tree: &mut Tree,
+        pages: &OwnerPages,
         symbols: &[Symbol],
         frames: &[u32],
     ) -> Result<(), AllocError>
@@ -59,7 +67,8 @@ impl Place {
             (map (caller_in symbols.now) frames.now)) }
     {
         while self.depth < frames.len() {
-            let caller = owner(symbols, frames[self.depth].wrapping_sub(4));
+            let call = frames[self.depth].wrapping_sub(4);
+            let caller = pages.owner_near(symbols, self.near, call);
             self.node = tree.child(self.node, caller)?;
             self.depth += 1;
         }

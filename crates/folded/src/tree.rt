@@ -36,6 +36,7 @@ impl Tree {
     }
 
     /// The node of a function that a stack calls, which is made where there is none.
+    #[inline(always)]
     pub(crate) fn child(&mut self, caller: u32, function: Option<u32>) -> Result<u32, AllocError>
         requires tree { IsTree self.old }
         requires caller { caller ≤ length self.old.nodes.keys }
@@ -49,6 +50,21 @@ impl Tree {
         if self.is_last(caller, function) {
             return Ok(self.last as u32 + 1);
         }
+        self.find(caller, function)
+    }
+
+    /// The same, of one that wasn't asked for last.
+    #[inline(never)]
+    fn find(&mut self, caller: u32, function: Option<u32>) -> Result<u32, AllocError>
+        requires tree { IsTree self.old }
+        requires caller { caller ≤ length self.old.nodes.keys }
+        requires depth { length (stack_of_node self.old.nodes.keys caller) < 129 }
+        requires function { IfSome function (λ f. f < self.old.functions) }
+        ensures tree { OnOk result (IsTree self.new) }
+        ensures grown { OnOk result (IsGrown self.old self.new) }
+        ensures node { IfOk result (λ n. HasStack self.new.nodes.keys n
+            (stack_of_node self.old.nodes.keys caller ++ function ∷ [])) }
+    {
         if self.nodes.len() >= u32::MAX as usize {
             return Err(AllocError);
         }

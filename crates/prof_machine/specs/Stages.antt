@@ -1,10 +1,11 @@
 -- What the stages of a turn begin with, and what they leave of a run's parts and of the outside.
 -- Only private functions and invariants speak of it.
-use Rattle.std.specs.Prelude.{◌≡◌, ℕ, ◌+◌, ◌-◌, ◌%◌, ◌<◌, ◌≤◌, ◌==◌, Bool, true, false, Option, Some, None, slice_set, if◌then◌else◌, IsSome, Result, Ok, IfOk, OnOk, OnErr, MatchResult, ◌↔◌}
+use Rattle.std.specs.Prelude.{◌≡◌, ℕ, ◌+◌, ◌-◌, ◌%◌, ◌<◌, ◌≤◌, ◌==◌, Bool, true, false, Option, Some, None, slice_set, option_and_then, if◌then◌else◌, IsSome, Result, Ok, IfOk, OnOk, OnErr, MatchResult, ◌↔◌}
 use Rattle.host_port.specs.Outside.{KeepsCounts, KeepsInput, Outside}
 use Rattle.rv_step.specs.declared.stepped.TrapKind.TheVariants.{JumpMisaligned}
+use Rattle.rv_decode.specs.Table.{instr_of}
 use Rattle.rv_step.specs.Registers.{Registers}
-use Rattle.rv_step.specs.Step.{instruction_at}
+use Rattle.rv_step.specs.Step.{word_at_pc}
 use Rattle.prof_machine.specs.declared.ending.End.TheVariants.{Trap}
 use Rattle.prof_machine.specs.declared.ending.Turned.{Turned}
 use Rattle.prof_machine.specs.declared.ending.Turned.TheVariants.{Going}
@@ -146,13 +147,13 @@ pub record LeavesFewerTurns (old new : RunValue) : Type 0 where
 
 -- ---- what a turn notes
 
--- where a turn of hart h begins, and the instruction that stood there, if it has retired since then
+-- where a turn of hart h begins, and the instruction whose word stood there, if it has retired since then
 abbrev pub begin_of : ℕ → RunValue → Begin
 begin_of h r = record {
   pc = (hart_of r.harts h).pc;
-  instr = instruction_at r.memory (hart_of r.harts h).pc;
+  word = word_at_pc (hart_of r.harts h) r.memory;
   retired = r.retired;
 }
 
 abbrev pub ran_since : ℕ → Begin → RunValue → Option Ran
-ran_since h b r = if r.retired == b.retired then None else ran_from b.pc (hart_of r.harts h).pc b.instr
+ran_since h b r = if r.retired == b.retired then None else ran_from b.pc (hart_of r.harts h).pc (option_and_then instr_of b.word)

@@ -23,7 +23,7 @@ use crate::ending::{End, RunSummary, StartRefusal, Turned};
 use crate::flight::Flight;
 use crate::layout::{Layout, first_registers};
 use crate::machine::Machine;
-use crate::notes::TurnNote;
+use crate::notes::{KeptNote, TurnNote};
 use crate::schedule::PlanWalk;
 use crate::setup::Setup;
 use elf32_syms::Image;
@@ -56,7 +56,7 @@ pub struct Run {
     pub(crate) live: bool,
     pub(crate) gmon: Gmon,
     // What the last turn did.
-    pub(crate) note: TurnNote,
+    pub(crate) note: KeptNote,
 }
 
 impl Model for Run {
@@ -113,7 +113,7 @@ impl Run {
             ending: None,
             live: true,
             gmon: Gmon::startup(alloc, image.text, setup.hist, setup.hash)?,
-            note: TurnNote::of_look(None),
+            note: KeptNote::of_look(None),
         })
     }
 
@@ -155,7 +155,7 @@ impl Run {
     {
         self.live = false;
         let note = if self.holds_walk(hart) {
-            TurnNote::of_look(self.look(hart))
+            KeptNote::of_look(self.look(hart))
         } else {
             self.instruct_noted(hart, host)?
         };
@@ -227,10 +227,11 @@ impl Run {
     }
 
     /// What the last turn did that `turn` made and answered Ok. Takes no memory.
+    #[inline(always)]
     pub fn last_turn(&self) -> TurnNote
         ensures { result ≡ self.now.note }
     {
-        self.note
+        self.note.told()
     }
 
     /// Whether the run can take a turn: true until it has ended, or a print has failed.

@@ -13,19 +13,18 @@ ghost use Rattle.prof_machine.specs.World.{World, hart_of, looks_of_hart};
 use crate::ecalls::{A0, Call, ecall_of, write};
 use crate::ending::End;
 use crate::flight::{Flight, finish_walk};
-use crate::notes::{Ran, TurnNote};
+use crate::notes::{KeptNote, KeptRan};
 use crate::runs::Run;
 use host_port::{Failed, Host};
 use mcount_arcs::{Entered, Gmon, Looked};
-use rv_decode::Instr;
-use rv_step::{Stepped, TrapKind, instruction, step};
+use rv_step::{Stepped, TrapKind, fetch, step};
 
 /// Where a turn begins.
 #[derive(Drop)]
 struct Begin {
     pc: u32,
-    // The instruction that stands there, if there is one.
-    instr: Option<Instr>,
+    // The word that stands there, if it is in memory.
+    word: Option<u32>,
     // How many instructions have retired.
     retired: u32,
 }
@@ -93,7 +92,7 @@ impl Run {
         &mut self,
         hart: u32,
         host: &mut H,
-    ) -> Result<TurnNote, Failed>
+    ) -> Result<KeptNote, Failed>
         requires none { holds self.old.flight hart ≡ false }
         requires can { CanExecute hart self.old }
         ensures stands { OnOk result (StandsAfter (after_ordinary_turn self.old.machine hart)
@@ -111,11 +110,7 @@ impl Run {
         let sample = self.sample(hart);
         let returned = self.arrive(hart);
         self.spend();
-        Ok(TurnNote {
-            ran,
-            sample,
-            returned,
-        })
+        Ok(KeptNote::of_instruction(ran, sample, returned))
     }
 
     // Where a hart's turn begins.
@@ -126,24 +121,20 @@ impl Run {
         let regs = &self.harts[hart as usize];
         Begin {
             pc: regs.pc(),
-            instr: instruction(regs, &self.ram),
+            word: fetch(regs, &self.ram),
             retired: self.retired,
         }
     }
 
     // The instruction that stood there, if it has retired since then.
-    fn ran_since(&self, hart: u32, begin: Begin) -> Option<Ran>
+    fn ran_since(&self, hart: u32, begin: Begin) -> KeptRan
         requires { hart < self.now.machine.setup.harts }
         ensures { result ≡ ran_since hart begin self.now }
     {
         if self.retired == begin.retired {
-            return None;
+            return KeptRan::none();
         }
-        Some(Ran {
-            pc: begin.pc,
-            instr: begin.instr?,
-            next: self.harts[hart as usize].pc(),
-        })
+        KeptRan::of(begin.pc, begin.word, self.harts[hart as usize].pc())
     }
 
     // The instruction.

@@ -12,4 +12,4 @@ pub mod values;
 pub use memory::Ram;
 pub use registers::Regs;
 pub use stepped::{Stepped, TracedStep, TrapKind};
-pub use stepper::{instruction, step, traced_step};
+pub use stepper::{fetch, instruction, step, traced_step};

@@ -59,8 +59,8 @@ pub fn traced_step(regs: &mut Regs, ram: &mut Ram) -> TracedStep
     TracedStep { answer, instr }
 }
 
-/// The word at pc, if its four bytes are all in memory.
-fn fetch(regs: &Regs, ram: &Ram) -> Option<u32>
+/// The word at pc, if its four bytes are all in memory. Takes no memory.
+pub fn fetch(regs: &Regs, ram: &Ram) -> Option<u32>
     ensures { result ≡ word_at_pc regs.now ram.now }
 {
     let at = ram.place(regs.pc(), 4)?;

@@ -36,13 +36,13 @@ loop-tracker-init g c =
       draws = subst (λ (s : Setup). Draws s 0 c.new-plan.result) (sym c.requires.setup) c.new-plan.ensures;
       few = inl refl;
       stands = λ w st. in_first (λ v. StandsFor v c.args.run.now) m w st;
-      follows = λ w st. first_follows symbols m w v (subst (λ (s : Setup). Follows symbols (first_trail s.harts) v) (sym c.requires.setup) (c.in_ok-tracker.ensures.follows symbols));
+      follows = λ w st. first_follows symbols m w v (subst (λ (s : Setup). Follows symbols (first_trail s.harts) v) (sym c.requires.setup) c.in_ok-tracker.ensures.follows);
       prints = λ w st. in_first (λ v. ArePrinted w v o o) m w (nothing_printed w w o refl);
       counts = KeepsCounts-same _;
       writing = refl;
       input = KeepsInput-same _;
       harts = first_harts v.shadows.items c.args.setup.now.harts c.in_ok-tracker.ensures.harts ∙ sym (ap (λ (s : Setup). s.harts) c.requires.setup);
-      tracked = c.in_ok-tracker.ensures.tracked symbols (sym c.symbol_count.ensures);
+      tracked = c.in_ok-tracker.ensures.tracked;
       room = first_room v.shadows.items c.args.setup.now.harts c.in_ok-tracker.ensures.harts;
       total = omega (arith, c.in_ok-tracker.ensures.total);
     }

@@ -1,7 +1,7 @@
 use Rattle.std.proofs.Common.{◌≡◌, ◌∙◌, ◌+◌, ◌^◌, ◌<◌, ℕ, List, Option, [], arith, ap, get_or, length, map, subst, sym}
 use Rattle.std.specs.List.{All}
 use Rattle.std.proofs.lemmas.List.{get_or-map, length-map, with_items_is}
-use Rattle.folded.specs.Nodes.{any_stack, line_of_node, samples_of_lines, stack_of_node}
+use Rattle.folded.specs.Nodes.{any_stack, line_of_node, samples_of_lines}
 use Rattle.folded.specs.Stacks.{has_function}
 use Rattle.folded.specs.Tally.{mark_at, marked_if}
 use Rattle.folded.specs.declared.tally.Mark.{Mark}

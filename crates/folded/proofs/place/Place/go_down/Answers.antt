@@ -1,4 +1,4 @@
-use Rattle.std.proofs.Common.{◌≡◌, ◌∙◌, ◌+◌, ◌<◌, ℕ, List, Option, arith, ap, length}
+use Rattle.std.proofs.Common.{◌∙◌, arith, ap, length}
 use Rattle.std.proofs.lemmas.List.{length_push}
 use Rattle.folded.specs.Nodes.{stack_of_node}
 use Rattle.folded.proofs.PlaceLemmas.{IsGrown-then, call_more}
@@ -15,7 +15,7 @@ loop-self-preserved c =
       tree = made.tree;
       grown = IsGrown-then c.args.tree.now c.loop-self.tree c.child.new.self i.grown made.grown;
       on = record {
-        placed = record { node = made.node.0; depth = omega (arith, ap (λ (s : Stack). length s) made.node.1, length_push front c.owner-caller.result, i.on.placed.depth) };
-        begins = made.node.1 ∙ call_more c.args.symbols.now c.args.frames.now p.depth front c.owner-caller.result c.loop-self-test.true i.on.begins c.owner-caller.ensures;
+        placed = record { node = made.node.0; depth = omega (arith, ap (λ (s : Stack). length s) made.node.1, length_push front c.owner_near-caller.result, i.on.placed.depth) };
+        begins = made.node.1 ∙ call_more c.args.symbols.now c.args.frames.now p.depth front c.owner_near-caller.result c.loop-self-test.true i.on.begins c.owner_near-caller.ensures;
       };
     }

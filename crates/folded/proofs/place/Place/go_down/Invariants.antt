@@ -1,4 +1,4 @@
-use Rattle.std.proofs.Common.{◌≡◌, ◌-◌, length, map}
+use Rattle.std.proofs.Common.{◌-◌, length, map}
 use Rattle.folded.specs.Nodes.{IsGrown, IsOn, IsTree}
 use Rattle.folded.specs.Stacks.{caller_in}
 use Rattle.folded.proofs.place.Place.go_down.Given as goal

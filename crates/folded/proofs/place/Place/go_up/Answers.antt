@@ -1,4 +1,4 @@
-use Rattle.std.proofs.Common.{◌≡◌, ◌∙◌, ◌≤◌, ◌-◌, ◌<◌, ℕ, List, Option, ap, arith, length, subst, sym}
+use Rattle.std.proofs.Common.{◌∙◌, ◌≤◌, ℕ, ap, arith, length, subst, sym}
 use Rattle.folded.specs.Nodes.{node_of, stack_of_node}
 use Rattle.folded.proofs.PlaceLemmas.{placed_up, up_more}
 use Rattle.folded.proofs.place.Place.go_up.Goals as goal

@@ -1,4 +1,4 @@
-use Rattle.std.proofs.Common.{◌≡◌, ◌≤◌, ◌+◌, length, min}
+use Rattle.std.proofs.Common.{◌+◌, length, min}
 use Rattle.folded.proofs.CompareLemmas.{Meets}
 use Rattle.folded.proofs.tree.Tree.compare.Given as goal
 

@@ -28,5 +28,5 @@ returns-clause-note g c = λ w st.
     let m1 : c.execute.new.self.machine ≡ c.args.self.now.machine = e.executes.same.machine in
     let m2 : c.sample-sample.new.self.machine ≡ c.args.self.now.machine = c.sample-sample.ensures.ticks.same.machine ∙ m1 in
     let after = c.sample-sample.ensures.stands _ (e.stands w st) in
-    instruction_noted c.args.self.now.machine _ _ c.args.hart w c.args.self.now c.execute.new.self _ c.begin-begin.result m1 m2 st (e.stands w st) c.begin-begin.ensures c.ran_since-ran.ensures
+    c.of_instruction.ensures ∙ instruction_noted c.args.self.now.machine _ _ c.args.hart w c.args.self.now c.execute.new.self _ c.begin-begin.result m1 m2 st (e.stands w st) c.begin-begin.ensures c.ran_since-ran.ensures
     (c.sample-sample.ensures.note _ (e.stands w st)) (c.arrive-returned.ensures.note _ after)
