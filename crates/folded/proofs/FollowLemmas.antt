@@ -9,14 +9,13 @@ use Rattle.elf32_syms.specs.declared.image.Symbol.{Symbol}
 use Rattle.elf32_syms.specs.Owners.{owner_of, owns}
 use Rattle.rv_step.specs.Step.{next_of}
 use Rattle.prof_machine.specs.Notes.{look_note}
-use Rattle.std.specs.Prelude.{is_some}
 use Rattle.prof_machine.specs.declared.notes.Ran.{Ran}
 use Rattle.prof_machine.specs.declared.notes.TurnNote.{TurnNote}
 use Rattle.folded.specs.Folding.{Follows, HasRoom}
 use Rattle.folded.specs.Shadow.{Shadow, after_hook, after_instruction, after_ran, empty_shadow, frames_before, is_call, is_return, keeps_shadow, with_call, with_return}
 use Rattle.folded.specs.Nodes.{IsTreeOf}
 use Rattle.folded.specs.Stacks.{caller_in, stack_at, stack_of, stacks_of}
-use Rattle.folded.specs.Trail.{StackSample, Trail, trail_with, followed_by, is_quiet, stack_samples, shadow_of}
+use Rattle.folded.specs.Trail.{StackSample, Trail, trail_with, followed_by, stack_samples, shadow_of}
 use Rattle.folded.specs.declared.trail.Tracker.{Tracker}
 
 pub shadow_read : (shadows : List Shadow) (h : ℕ) (s : Shadow) → h < length shadows → s ≡ get_or shadows h s → shadow_of shadows h ≡ s
@@ -29,7 +28,7 @@ followed_follows symbols h note t s v was shadows samples =
     let P : Shadow → Type 0 = λ x. Follows symbols (followed_by h note x t) v in
     subst P (sym was) (record { shadows = shadows; samples = samples })
 
--- ---- a turn in which there is nothing to follow
+-- ---- an instruction that is neither a call nor a return
 
 pub still_ran : (ran : Option Ran) (s : Shadow) → keeps_shadow ran ≡ true → after_ran ran s ≡ s
 unfolding after_instruction
@@ -41,23 +40,13 @@ still_ran (Some r) s is = by_case (is_call r.instr) (is_return r.instr) is
     by_case false true is = absurd cc
     by_case false false is = refl
 
-pub quiet_followed : (h : ℕ) (note : TurnNote) (t : Trail) → is_quiet note ≡ true → trail_with h note t ≡ t
-unfolding trail_with
-quiet_followed h note t is = by_parts note.ran note.sample note.returned is
-  where
-    by_parts : (ran : Option Ran) (sample returned : Option ℕ) → (not (is_some sample) && not (is_some returned) && keeps_shadow ran) ≡ true
-        → followed_by h (record { ran = ran; sample = sample; returned = returned }) (after_ran ran (shadow_of t.shadows h)) t ≡ t
-    by_parts ran None None is =
-        ap (λ (s : Shadow). followed_by h (look_note None) s t) (still_ran ran (shadow_of t.shadows h) is)
-        ∙ ap (λ (x : List Shadow). record { shadows = x; samples = t.samples ++ [] }) (set-get_or t.shadows h empty_shadow)
-        ∙ ap (λ (x : List StackSample). record { shadows = t.shadows; samples = x }) (append-nil t.samples)
-    by_parts ran None (Some to) is = absurd cc
-    by_parts ran (Some pc) returned is = absurd cc
+-- ---- a turn that tells nothing
 
-pub quiet_follows : (symbols : List Symbol) (h : ℕ) (note : TurnNote) (t : Trail) (v : Tracker) → is_quiet note ≡ true → Follows symbols t v → Follows symbols (trail_with h note t) v
-quiet_follows symbols h note t v is follows =
-    let P : Trail → Type 0 = λ x. Follows symbols x v in
-    subst P (sym (quiet_followed h note t is)) follows
+pub nothing_followed : (h : ℕ) (t : Trail) → trail_with h (look_note None) t ≡ t
+unfolding trail_with
+nothing_followed h t =
+    ap (λ (x : List Shadow). record { shadows = x; samples = t.samples ++ [] }) (set-get_or t.shadows h empty_shadow)
+    ∙ ap (λ (x : List StackSample). record { shadows = t.shadows; samples = x }) (append-nil t.samples)
 
 -- ---- calls without room
 

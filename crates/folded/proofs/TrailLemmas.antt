@@ -16,7 +16,7 @@ use Rattle.prof_machine.specs.declared.machine.Machine.{Machine}
 use Rattle.prof_machine.specs.declared.notes.TurnNote.{TurnNote}
 use Rattle.std.specs.Prelude.{is_some}
 use Rattle.folded.specs.Shadow.{after_ran}
-use Rattle.folded.proofs.FollowLemmas.{quiet_followed}
+use Rattle.folded.proofs.FollowLemmas.{nothing_followed}
 use Rattle.folded.specs.Trail.{StackSample, Trail, first_trail, trail_with, run_samples, samples_after, stack_samples, shadow_of, trail_after, trail_from}
 
 pub trail_from-append : (m : Machine) (w : World) (t : Trail) (front back : List ℕ) → trail_from m w t (front ++ back) ≡ trail_from m (world_after m w front) (trail_from m w t front) back
@@ -42,7 +42,7 @@ trail_ended m w t [] end is = refl
 trail_ended m w t (h ∷ turns) end is =
     ap (λ (v : World). trail_from m v (trail_with h (note_of m w h) t) turns) (ended_turn m w h end is)
     ∙ ap (λ (note : TurnNote). trail_from m w (trail_with h note t) turns) (ended_note m w h end is)
-    ∙ ap (λ (x : Trail). trail_from m w x turns) (quiet_followed h (look_note None) t refl)
+    ∙ ap (λ (x : Trail). trail_from m w x turns) (nothing_followed h t)
     ∙ trail_ended m w t turns end is
 
 -- the turn in which the run ends is the last

@@ -1,12 +1,12 @@
 -- The shadows and the samples of a run, turn by turn.
-use Rattle.std.specs.Prelude.{ℕ, List, [], ◌∷◌, ◌++◌, replicate, slice_index_or, slice_set, Option, Some, None, Bool, not, ◌&&◌, is_some}
+use Rattle.std.specs.Prelude.{ℕ, List, [], ◌∷◌, ◌++◌, replicate, slice_index_or, slice_set, Option, Some, None}
 use Rattle.prof_machine.specs.declared.machine.Machine.{Machine}
 use Rattle.prof_machine.specs.declared.notes.TurnNote.{TurnNote}
 use Rattle.prof_machine.specs.Notes.{note_of}
 use Rattle.prof_machine.specs.Plan.{most_turns, plan_of}
 use Rattle.prof_machine.specs.Turn.{turn_of}
 use Rattle.prof_machine.specs.World.{World}
-use Rattle.folded.specs.Shadow.{Shadow, after_hook, after_ran, empty_shadow, keeps_shadow}
+use Rattle.folded.specs.Shadow.{Shadow, after_hook, after_ran, empty_shadow}
 
 -- a sample that counts: where its hart's calls were to return to, and its address
 pub record StackSample : Type 0 where
@@ -34,10 +34,6 @@ followed_by h note s t = record {
 
 unfoldable pub trail_with : ℕ → TurnNote → Trail → Trail
 trail_with h note t = followed_by h note (after_ran note.ran (shadow_of t.shadows h)) t
-
--- a turn in which there is nothing to follow
-abbrev pub is_quiet : TurnNote → Bool
-is_quiet note = not (is_some note.sample) && not (is_some note.returned) && keeps_shadow note.ran
 
 -- before the first turn
 abbrev pub first_trail : ℕ → Trail
