@@ -11,13 +11,12 @@ use Rattle.call_cycles.specs.Sums.{numbers_below}
 use Rattle.call_cycles.specs.Graph.{arc_at, component_of, entering_of}
 use Rattle.flat_report.specs.FlatText.{seconds_of}
 use Rattle.flat_report.specs.Sources.{Sources, name_of}
-use Rattle.graph_report.specs.ArcLines.{IsArcLine, arc_text, function_at_end, line_by}
+use Rattle.graph_report.specs.ArcLines.{arc_text, function_at_end, line_by}
 use Rattle.graph_report.specs.ArcTimes.{arc_times, times_columns}
 use Rattle.graph_report.specs.GraphText.{arc_columns, arcs_from, arcs_into, arcs_to, bracket_text, callee_line, caller_line, callers_text, calls_of_all, cycle_mark, cycle_text, front_columns, function_columns, function_name, function_text, member_line, members_of, other_line, rule, primary_line, timed_columns, untimed_columns}
 use Rattle.graph_report.specs.Subjects.{cycle_line, function_line}
 use Rattle.graph_report.specs.declared.arc_lines.ArcEnd.{ArcEnd}
 use Rattle.graph_report.specs.declared.arc_lines.ArcEnd.TheVariants.{Caller, Callee}
-use Rattle.graph_report.specs.declared.arc_lines.ArcLine.{ArcLine}
 use Rattle.graph_report.specs.declared.inputs.ArcTimes.{ArcTimes}
 use Rattle.graph_report.specs.declared.subjects.Subject.{Subject}
 use Rattle.graph_report.specs.declared.subjects.Subject.TheVariants.{Function}
@@ -64,11 +63,10 @@ callee_whole : (s : Sources) (number : Subject → ℕ) (i : ℕ) → other_line
 unfolding callee_line
 callee_whole s number i = refl
 
--- what was looked up of an arc makes its line
-pub arc_line_is : (s : Sources) (number : Subject → ℕ) (end : ArcEnd) (i : ℕ) (l : ArcLine) → IsArcLine s number end i l → arc_text s l ≡ line_by end s number i
-arc_line_is s number end i l is =
-    ap (λ (t : ArcTimes). spaces 15 ++ times_columns s t ++ spaces 6 ++ l.label.now) is.times
-    ∙ ap (λ (t : List ℕ). spaces 15 ++ times_columns s (arc_times s i) ++ spaces 6 ++ t) is.label
+-- what an arc of the graph carries makes its line
+pub arc_line_is : (s : Sources) (number : Subject → ℕ) (end : ArcEnd) (i : ℕ) (t : ArcTimes) → t ≡ arc_times s i → arc_text s number end t ≡ line_by end s number i
+arc_line_is s number end i t is =
+    ap (arc_text s number end) is
     ∙ other_whole (times_columns s (arc_times s i)) (function_name s number (function_at_end end (arc_at s.graph i)))
     ∙ by end
   where

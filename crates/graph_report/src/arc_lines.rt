@@ -3,17 +3,33 @@
 ghost use Rattle.std.specs.Prelude.{◌≡◌, ◌<◌, ◌≤◌, ℕ, length, slice_index, slice_index_or};
 ghost use Rattle.std.specs.List.{All};
 ghost use Rattle.call_cycles.specs.Graph.{arc_count};
-ghost use Rattle.graph_report.specs.ArcLines.{IsArcLine, function_at_end};
-ghost use Rattle.graph_report.specs.Inputs.{sources_in};
+ghost use Rattle.graph_report.specs.ArcLines.{function_at_end, label_at};
+ghost use Rattle.graph_report.specs.ArcTimes.{AreTimes, arc_times};
+ghost use Rattle.graph_report.specs.Inputs.{AreInputs, sources_in};
+ghost use Rattle.graph_report.specs.Labels.{IsShort};
 ghost use Rattle.graph_report.specs.Numbers.{IsReport, number_of};
-ghost use Rattle.graph_report.specs.declared.arc_lines.ArcLine.{ArcLine};
+ghost use Rattle.graph_report.specs.declared.inputs.ArcTimes.{ArcTimes};
+ghost use Rattle.graph_report.specs.declared.labels.ShortLabel.{ShortLabel};
 
-use crate::inputs::ArcTimes;
+use crate::inputs::{ArcTimes, Inputs};
+use crate::labels::{NO_LABEL, ShortLabel};
 use crate::numbers::Report;
 use call_cycles::FunArc;
 
-/// How many arcs are looked up before the first of their lines is put, so that the waits for memory overlap.
+/// How many arcs are looked up before the first of their lines is put, and before the first of their labels is,
+/// so that the waits for memory overlap.
 pub(crate) const BATCH: usize = 16;
+
+/// What stands in a batch where no arc was looked up.
+const NO_TIMES: ArcTimes = ArcTimes {
+    arc: FunArc {
+        caller: 0,
+        callee: 0,
+        count: 0,
+    },
+    own: 0,
+    child: 0,
+};
 
 /// Which end of an arc a line names.
 #[derive(Clone, Copy)]
@@ -22,15 +38,8 @@ pub(crate) enum ArcEnd {
     Callee,
 }
 
-/// What the line of an arc is made from: what the arc carries, and the end of the line.
-#[derive(Clone, Copy)]
-pub(crate) struct ArcLine<'a> {
-    pub times: ArcTimes,
-    pub label: &'a [u8],
-}
-
 /// The function at an end of an arc.
-fn function_at(arc: FunArc, end: ArcEnd) -> u32
+pub(crate) fn function_at(arc: FunArc, end: ArcEnd) -> u32
     ensures { result ≡ function_at_end end arc }
 {
     match end {
@@ -39,34 +48,33 @@ fn function_at(arc: FunArc, end: ArcEnd) -> u32
     }
 }
 
-/// What the line of an arc is made from, which names the function at this end.
-fn arc_line<'a>(report: &'a Report<'_>, i: usize, end: ArcEnd) -> ArcLine<'a>
-    requires report { IsReport report.now }
-    requires arc { i < arc_count report.now.inputs.sources.graph.now }
-    ensures { IsArcLine (sources_in report.now.inputs) (number_of report.now) end i result }
+/// These arcs, and what they carry.
+pub(crate) fn times_of(inputs: &Inputs<'_>, arcs: &[usize]) -> [ArcTimes; BATCH]
+    requires inputs { AreInputs inputs.now }
+    requires arcs { All (λ i. i < arc_count inputs.now.sources.graph.now) arcs.now }
+    requires few { length arcs.now ≤ 16 }
+    ensures { (k : ℕ) → k < length arcs.now → (d : ArcTimes) → slice_index_or result k d
+        ≡ arc_times (sources_in inputs.now) (slice_index arcs.now k) }
 {
-    let times = report.inputs.arc(i);
-    let label = report.label(function_at(times.arc, end));
-    ArcLine { times, label }
+    let mut batch = [NO_TIMES; BATCH];
+    for k in 0..arcs.len() {
+        batch[k] = inputs.arc(arcs[k]);
+    }
+    batch
 }
 
-/// What the lines of these arcs are made from.
-pub(crate) fn looked_up<'a>(
-    report: &'a Report<'_>,
-    arcs: &[usize],
-    end: ArcEnd,
-) -> [ArcLine<'a>; BATCH]
+/// The short labels of the functions at this end of these arcs.
+pub(crate) fn labels_of(report: &Report<'_>, arcs: &[ArcTimes], end: ArcEnd) -> [ShortLabel; BATCH]
     requires report { IsReport report.now }
-    requires arcs { All (λ i. i < arc_count report.now.inputs.sources.graph.now) arcs.now }
-    requires some { 0 < length arcs.now }
+    requires arcs { All (AreTimes (sources_in report.now.inputs)) arcs.now }
     requires few { length arcs.now ≤ 16 }
-    ensures { (k : ℕ) → k < length arcs.now → (d : ArcLine)
-        → IsArcLine (sources_in report.now.inputs) (number_of report.now) end
-        (slice_index arcs.now k) (slice_index_or result k d) }
+    ensures { (k : ℕ) → k < length arcs.now → (t : ArcTimes) (d : ShortLabel)
+        → IsShort (label_at (sources_in report.now.inputs) (number_of report.now) end
+        (slice_index_or arcs.now k t).arc) (slice_index_or result k d) }
 {
-    let mut batch = [arc_line(report, arcs[0], end); BATCH];
-    for k in 1..arcs.len() {
-        batch[k] = arc_line(report, arcs[k], end);
+    let mut batch = [NO_LABEL; BATCH];
+    for k in 0..arcs.len() {
+        batch[k] = report.short_label(function_at(arcs[k].arc, end));
     }
     batch
 }

@@ -10,6 +10,7 @@ ghost use Rattle.graph_report.specs.Entries.{calls_of_others};
 ghost use Rattle.graph_report.specs.GraphText.{arcs_from as arcs_that_leave, arcs_into as arcs_that_enter, arcs_to as arcs_that_call, members_of};
 ghost use Rattle.graph_report.specs.Inputs.{AreInputs, sources_in};
 
+use crate::keys::is_inside;
 use crate::tables::Tables;
 use call_cycles::FunArc;
 use flat_report::Sources;
@@ -106,15 +107,23 @@ impl<'a> Inputs<'a> {
         self.tables.calls_inside[c as usize]
     }
 
-    /// An arc, and what it carries.
+    /// An arc, and what it carries: nothing inside a component, of which the flow isn't asked.
     pub fn arc(&self, i: usize) -> ArcTimes
         requires inputs { AreInputs self.now }
         requires arc { i < arc_count self.now.sources.graph.now }
         ensures value { result ≡ arc_times (sources_in self.now) i }
         ensures times { AreTimes (sources_in self.now) result }
     {
+        let arc = self.sources.graph.arc(i);
+        if is_inside(self.sources.graph, arc) {
+            return ArcTimes {
+                arc,
+                own: 0,
+                child: 0,
+            };
+        }
         ArcTimes {
-            arc: self.sources.graph.arc(i),
+            arc,
             own: self.sources.flow.arc_self(i),
             child: self.sources.flow.arc_child(i),
         }

@@ -1,11 +1,11 @@
 //! By what arcs are put together.
 
-ghost use Rattle.std.specs.Prelude.{◌≡◌, ◌<◌, IfOk};
+ghost use Rattle.std.specs.Prelude.{◌≡◌, ◌==◌, ◌<◌, IfOk};
 ghost use Rattle.call_cycles.specs.Graph.{arc_count, component_of};
 ghost use Rattle.call_cycles.specs.Sums.{list_of};
 ghost use Rattle.graph_report.specs.Groups.{arc_key};
 
-use call_cycles::Graph;
+use call_cycles::{FunArc, Graph};
 use std::alloc::{AllocError, Global};
 
 /// What is the same for the arcs of a group.
@@ -19,20 +19,34 @@ pub(crate) enum ArcKey {
     Inner,
 }
 
+/// Whether an arc goes from one function of a component to another one of it.
+pub(crate) fn is_inside(graph: &Graph, a: FunArc) -> bool
+    requires caller { a.caller < graph.now.functions }
+    requires callee { a.callee < graph.now.functions }
+    ensures { result ≡ (component_of graph.now a.caller == component_of graph.now a.callee) }
+{
+    graph.component(a.caller) == graph.component(a.callee)
+}
+
 /// The key of arc `i`.
 fn key_of(graph: &Graph, i: usize, key: ArcKey) -> u32
     requires { i < arc_count graph.now }
     ensures { result ≡ arc_key graph.now key i }
 {
     let a = graph.arc(i);
-    let c = graph.component(a.caller);
-    let d = graph.component(a.callee);
-    let none = graph.component_count();
     match key {
         ArcKey::Caller => a.caller,
         ArcKey::Callee => a.callee,
-        ArcKey::Entered => if c == d { none } else { d },
-        ArcKey::Inner => if c == d { d } else { none },
+        ArcKey::Entered => if is_inside(graph, a) {
+            graph.component_count()
+        } else {
+            graph.component(a.callee)
+        },
+        ArcKey::Inner => if is_inside(graph, a) {
+            graph.component(a.callee)
+        } else {
+            graph.component_count()
+        },
     }
 }
 

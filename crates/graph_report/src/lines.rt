@@ -6,15 +6,17 @@ ghost use Rattle.host_port.specs.Buffered.{Adds};
 ghost use Rattle.host_port.specs.declared.side.Side.TheVariants.{Output};
 ghost use Rattle.text_cols.specs.Columns.{spaces};
 ghost use Rattle.call_cycles.specs.Graph.{arc_count};
-ghost use Rattle.graph_report.specs.ArcLines.{arc_text, line_by};
+ghost use Rattle.graph_report.specs.ArcLines.{arc_text, label_at, line_by};
 ghost use Rattle.graph_report.specs.ArcTimes.{AreTimes, times_columns};
 ghost use Rattle.graph_report.specs.GraphText.{callee_line, callers_text, function_columns, member_line, other_line};
 ghost use Rattle.graph_report.specs.Inputs.{AreInputs, sources_in};
+ghost use Rattle.graph_report.specs.Labels.{IsShort};
 ghost use Rattle.graph_report.specs.Numbers.{IsReport, number_of};
 
-use crate::arc_lines::{ArcEnd, ArcLine, BATCH, looked_up};
+use crate::arc_lines::{ArcEnd, BATCH, function_at, labels_of, times_of};
 use crate::columns;
 use crate::inputs::{ArcTimes, Inputs};
+use crate::labels::ShortLabel;
 use crate::numbers::Report;
 use host_port::{Failed, Host, PrintBuf};
 use text_cols::Line;
@@ -41,22 +43,26 @@ fn arc_front(line: &mut Line, inputs: &Inputs<'_>, times: &ArcTimes)
     line.put(BEHIND);
 }
 
-/// Puts the line of an arc.
+/// Puts the line of an arc, given the short label of the function at this end.
 fn put_arc<H: Host>(
     report: &Report<'_>,
-    arc: &ArcLine<'_>,
+    times: &ArcTimes,
+    label: &ShortLabel,
+    end: ArcEnd,
     line: &mut Line,
     lines: &mut PrintBuf,
     host: &mut H,
 ) -> Result<(), Failed>
     requires report { IsReport report.now }
-    requires times { AreTimes (sources_in report.now.inputs) arc.now.times }
-    ensures { Adds Output (arc_text (sources_in report.now.inputs) arc.now) lines.old lines.new
-        (H.outside host.old) (H.outside host.new) result }
+    requires times { AreTimes (sources_in report.now.inputs) times.now }
+    requires label { IsShort (label_at (sources_in report.now.inputs) (number_of report.now) end
+        times.now.arc) label.now }
+    ensures { Adds Output (arc_text (sources_in report.now.inputs) (number_of report.now) end
+        times.now) lines.old lines.new (H.outside host.old) (H.outside host.new) result }
 {
-    arc_front(line, &report.inputs, &arc.times);
+    arc_front(line, &report.inputs, times);
     lines.put(host, line.bytes())?;
-    lines.put(host, arc.label)
+    lines.put(host, report.whole_label(label, function_at(times.arc, end)))
 }
 
 /// Makes a line of what stands in front of a function's name: the columns of a member of a cycle.
@@ -116,15 +122,16 @@ fn put_batch<H: Host>(
 ) -> Result<(), Failed>
     requires report { IsReport report.now }
     requires arcs { All (λ i. i < arc_count report.now.inputs.sources.graph.now) arcs.now }
-    requires some { 0 < length arcs.now }
     requires few { length arcs.now ≤ 16 }
     ensures { Adds Output (flat_map
         (line_by end (sources_in report.now.inputs) (number_of report.now)) arcs.now) lines.old
         lines.new (H.outside host.old) (H.outside host.new) result }
 {
-    let batch = looked_up(report, arcs, end);
-    for arc in batch.split_at(arcs.len()).0 {
-        put_arc(report, arc, line, lines, host)?;
+    let batch = times_of(&report.inputs, arcs);
+    let times = batch.split_at(arcs.len()).0;
+    let labels = labels_of(report, times, end);
+    for k in 0..arcs.len() {
+        put_arc(report, &times[k], &labels[k], end, line, lines, host)?;
     }
     Ok(())
 }

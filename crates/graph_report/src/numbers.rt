@@ -3,13 +3,13 @@
 ghost use Rattle.std.specs.Prelude.{◌≡◌, ◌<◌, ℕ, IfOk, length, slice_index, if◌then◌else◌};
 ghost use Rattle.graph_report.specs.Entries.{first_function, is_same, graph_order};
 ghost use Rattle.graph_report.specs.Inputs.{AreInputs, sources_in};
-ghost use Rattle.graph_report.specs.Labels.{label_of};
+ghost use Rattle.graph_report.specs.Labels.{IsShort, label_of};
 ghost use Rattle.graph_report.specs.Numbers.{AreNumbers, IsReport, number_of};
 ghost use Rattle.graph_report.specs.Rows.{entries_of_rows};
 ghost use Rattle.graph_report.specs.declared.subjects.Subject.TheVariants.{Cycle, Function};
 
 use crate::inputs::Inputs;
-use crate::labels::Labels;
+use crate::labels::{Labels, ShortLabel};
 use crate::rows::Row;
 use crate::subjects::Subject;
 use std::alloc::{AllocError, Global};
@@ -53,6 +53,29 @@ impl Report<'_> {
         let len = self.labels.starts[f + 1] - start;
         let (_, rest) = self.labels.text.split_at(start);
         rest.split_at(len).0
+    }
+
+    /// The same, where it is short.
+    pub fn short_label(&self, f: u32) -> ShortLabel
+        requires report { IsReport self.now }
+        requires function { f < self.now.inputs.sources.graph.now.functions }
+        ensures { IsShort (label_of (sources_in self.now.inputs) (number_of self.now) f) result }
+    {
+        self.labels.short[f as usize]
+    }
+
+    /// The label of a function, given its short label: that one, where it is held.
+    pub fn whole_label<'b>(&'b self, label: &'b ShortLabel, f: u32) -> &'b [u8]
+        requires report { IsReport self.now }
+        requires function { f < self.now.inputs.sources.graph.now.functions }
+        requires label { IsShort (label_of (sources_in self.now.inputs) (number_of self.now) f)
+            label.now }
+        ensures { result.now ≡ label_of (sources_in self.now.inputs) (number_of self.now) f }
+    {
+        if label.is_held() {
+            return label.text();
+        }
+        self.label(f)
     }
 
     /// The number of a cycle's entry, given by its head.

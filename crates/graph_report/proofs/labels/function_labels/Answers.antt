@@ -1,11 +1,12 @@
-use Rattle.std.proofs.Common.{◌≡◌, ℕ, ◌+◌, suc, List, ◌++◌, length, ap, ◌∙◌, arith}
+use Rattle.std.proofs.Common.{◌≡◌, ℕ, ◌+◌, suc, List, ◌++◌, length, drop, ap, subst, ◌∙◌, arith}
 use Rattle.call_cycles.specs.Sums.{list_of}
 use Rattle.graph_report.specs.Entries.{number_in, graph_order}
 use Rattle.flat_report.specs.Sources.{name_of}
 use Rattle.graph_report.specs.Inputs.{sources_in}
-use Rattle.graph_report.specs.Labels.{label_of}
+use Rattle.graph_report.specs.Labels.{AreShort, IsShort, label_of}
 use Rattle.graph_report.specs.Lists.{lists_below, start_of}
 use Rattle.graph_report.proofs.ListLemmas.{list_added, start_added}
+use Rattle.graph_report.proofs.LabelLemmas.{last_part, short_added}
 use Rattle.graph_report.proofs.TextLemmas.{name_whole}
 use Rattle.graph_report.proofs.labels.function_labels.Goals as goal
 
@@ -16,14 +17,18 @@ loop-f-preserved c =
     let of = label_of s number in
     let f = c.loop-f.f in
     let text = c.loop-f.text in
-    let so = c.loop-f.invariant.0 in
-    let len : c.len.result ≡ length text.items = omega (arith, c.len.ensures, text.ok.0) in
+    let so = c.loop-f.invariant.text in
+    let len : c.len-start.result ≡ length text.items = omega (arith, c.len-start.ensures, text.ok.0) in
     let tail = c.bytes.ensures.bytes ∙ c.function_tail.ensures in
-    let whole = ap (λ (t : List ℕ). t ++ c.bytes.result.now) c.name.ensures ∙ ap (λ (t : List ℕ). name_of s f ++ t) tail ∙ name_whole s number f in (
-      c.in_ok-extend_from_slice-2.ensures.items ∙ ap (λ (t : List ℕ). t ++ c.bytes.result.now) c.in_ok-extend_from_slice.ensures.items
-          ∙ list_added of f text.items c.name.result.now c.bytes.result.now so whole,
-      c.in_ok-push.ensures.items ∙ start_added of f c.len.result text.items c.loop-f.starts.items so c.loop-f.invariant.1 len,
-    )
+    let whole = ap (λ (t : List ℕ). t ++ c.bytes.result.now) c.name.ensures ∙ ap (λ (t : List ℕ). name_of s f ++ t) tail ∙ name_whole s number f in
+    let all = c.in_ok-extend_from_slice-2.ensures.items ∙ ap (λ (t : List ℕ). t ++ c.bytes.result.now) c.in_ok-extend_from_slice.ensures.items in
+    record {
+      text = all ∙ list_added of f text.items c.name.result.now c.bytes.result.now so whole;
+      starts = c.in_ok-push.ensures.items ∙ start_added of f c.len-start.result text.items c.loop-f.starts.items so c.loop-f.invariant.starts len;
+      short =
+          let part = c.split_at.ensures.back ∙ ap (drop c.len-start.result) (c.deref.ensures.value ∙ all) ∙ last_part text.items c.name.result.now c.bytes.result.now (of f) c.len-start.result len whole in
+          rw c.in_ok-push-2.ensures.items (short_added f of c.loop-f.short.items c.short_label.result c.loop-f.invariant.short (subst (λ (t : List ℕ). IsShort t c.short_label.result) part c.short_label.ensures));
+    }
 
 pub returns : goal.returns
 returns c =
@@ -33,9 +38,12 @@ returns c =
     let text = c.loop-f.text in
     let at : c.loop-f.f ≡ n = omega (arith, c.function_count-f-end.ensures.value) in
     let on : c.loop-f.f + 1 ≡ suc n = omega (arith, at) in
-    let so = c.loop-f.invariant.0 in
-    let len : c.len-2.result ≡ length text.items = omega (arith, c.len-2.ensures, text.ok.0) in
+    let so = c.loop-f.invariant.text in
+    let len : c.len.result ≡ length text.items = omega (arith, c.len.ensures, text.ok.0) in
     record {
-      whole = so ∙ ap (lists_below of) at;
-      each = c.in_ok-push-2.ensures.items ∙ start_added of c.loop-f.f c.len-2.result text.items c.loop-f.starts.items so c.loop-f.invariant.1 len ∙ ap (λ (m : ℕ). list_of m (start_of of)) on;
+      texts = record {
+        whole = so ∙ ap (lists_below of) at;
+        each = c.in_ok-push-3.ensures.items ∙ start_added of c.loop-f.f c.len.result text.items c.loop-f.starts.items so c.loop-f.invariant.starts len ∙ ap (λ (m : ℕ). list_of m (start_of of)) on;
+      };
+      short = subst (λ (m : ℕ). AreShort m of c.loop-f.short.items) at c.loop-f.invariant.short;
     }

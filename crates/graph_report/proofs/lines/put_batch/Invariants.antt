@@ -9,5 +9,5 @@ use Rattle.graph_report.specs.Numbers.{number_of}
 use Rattle.graph_report.proofs.lines.put_batch.Given as goal
 
 -- the lines so far are put
-abbrev pub invariant-loop-arc : goal.invariant-loop-arc
-invariant-loop-arc g l = Adds {E = Failed} Output (flat_map (line_by l.fn.end (sources_in l.report.inputs) (number_of l.report)) (take l.arc-index l.arcs)) l.initial.lines l.lines (g.H.Host.outside l.initial.host) (g.H.Host.outside l.host) (Ok (tt {0}))
+abbrev pub invariant-loop-k : goal.invariant-loop-k
+invariant-loop-k g l = Adds {E = Failed} Output (flat_map (line_by l.fn.end (sources_in l.report.inputs) (number_of l.report)) (take l.k l.arcs)) l.initial.lines l.lines (g.H.Host.outside l.initial.host) (g.H.Host.outside l.host) (Ok (tt {0}))

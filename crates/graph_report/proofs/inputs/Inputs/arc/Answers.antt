@@ -6,4 +6,4 @@ pub returns-clause-times : goal.returns-clause-times
 returns-clause-times c =
     let s = sources_in c.args.self.now in
     let all = times_within s c.requires.inputs.sources c.requires.inputs.small c.args.i c.requires.arc in
-    rw (c.arc.ensures.value, c.arc_self.ensures, c.arc_child.ensures) all
+    rw (c.arc-arc.ensures.value, c.arc_self.ensures, c.arc_child.ensures) all

@@ -14,18 +14,18 @@ labels_of r = label_of (sources_in r.inputs) (number_of r)
 pub index-start-requires : goal.index-start-requires
 index-start-requires c =
     let r = c.args.self.now in
-    omega (arith, list_long (suc r.inputs.sources.graph.now.functions) (start_of (labels_of r)) r.labels.starts.items c.requires.report.labels.each, r.labels.starts.ok.0, c.requires.function)
+    omega (arith, list_long (suc r.inputs.sources.graph.now.functions) (start_of (labels_of r)) r.labels.starts.items c.requires.report.labels.texts.each, r.labels.starts.ok.0, c.requires.function)
 
 pub index-requires : goal.index-requires
 index-requires c =
     let r = c.args.self.now in
-    omega (arith, list_long (suc r.inputs.sources.graph.now.functions) (start_of (labels_of r)) r.labels.starts.items c.requires.report.labels.each, r.labels.starts.ok.0, c.requires.function)
+    omega (arith, list_long (suc r.inputs.sources.graph.now.functions) (start_of (labels_of r)) r.labels.starts.items c.requires.report.labels.texts.each, r.labels.starts.ok.0, c.requires.function)
 
 pub overflow_sub-len : goal.overflow_sub-len
 overflow_sub-len c =
     let r = c.args.self.now in
     let n = r.inputs.sources.graph.now.functions in
-    let are = c.requires.report.labels in
+    let are = c.requires.report.labels.texts in
     let from = start_read (labels_of r) n c.args.f c.index-start.result.now r.labels.starts.items are.each (omega (arith, c.requires.function)) c.index-start.ensures in
     let to = start_read (labels_of r) n (c.args.f + 1) c.index.result.now r.labels.starts.items are.each (omega (arith, c.requires.function)) c.index.ensures in
     omega (arith, from, to, start_rises (labels_of r) c.args.f)
@@ -34,7 +34,7 @@ pub split_at-requires : goal.split_at-requires
 split_at-requires c =
     let r = c.args.self.now in
     let n = r.inputs.sources.graph.now.functions in
-    let are = c.requires.report.labels in
+    let are = c.requires.report.labels.texts in
     let from = start_read (labels_of r) n c.args.f c.index-start.result.now r.labels.starts.items are.each (omega (arith, c.requires.function)) c.index-start.ensures in
     let all = ap length (c.deref.ensures.value ∙ are.whole) in
     omega (arith, from, all, start_rises (labels_of r) c.args.f, start_within (labels_of r) c.args.f n c.requires.function)
@@ -43,7 +43,7 @@ pub split_at-requires-2 : goal.split_at-requires-2
 split_at-requires-2 c =
     let r = c.args.self.now in
     let n = r.inputs.sources.graph.now.functions in
-    let are = c.requires.report.labels in
+    let are = c.requires.report.labels.texts in
     let from = start_read (labels_of r) n c.args.f c.index-start.result.now r.labels.starts.items are.each (omega (arith, c.requires.function)) c.index-start.ensures in
     let to = start_read (labels_of r) n (c.args.f + 1) c.index.result.now r.labels.starts.items are.each (omega (arith, c.requires.function)) c.index.ensures in
     let all = ap length (c.deref.ensures.value ∙ are.whole) in
@@ -53,7 +53,7 @@ pub returns : goal.returns
 returns c =
     let r = c.args.self.now in
     let n = r.inputs.sources.graph.now.functions in
-    let are = c.requires.report.labels in
+    let are = c.requires.report.labels.texts in
     let start = c.index-start.result.now in
     let end = c.index.result.now in
     let from = start_read (labels_of r) n c.args.f start r.labels.starts.items are.each (omega (arith, c.requires.function)) c.index-start.ensures in
