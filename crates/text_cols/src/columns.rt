@@ -235,10 +235,5 @@ pub fn hex_digit(digit: u32) -> u8
     requires { digit < 16 }
     ensures { result ≡ hex_digit_of digit }
 {
-    let digit = digit as u8;
-    if digit < 10 {
-        b'0' + digit
-    } else {
-        b'a' + (digit - 10)
-    }
+    b"0123456789abcdef"[digit as usize]
 }
