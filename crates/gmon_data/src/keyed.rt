@@ -2,7 +2,9 @@
 //!
 //! The table of `indexmap` has groups of twelve places, and a group for every nine keys that it has room for. A key
 //! belongs into one group by its hash; where that is full it goes on to the next one, and so does each search for it.
-//! Keys that were made up to belong into few groups would take time in the square of their number.
+//! Keys that were made up to belong into few groups would take time in the square of their number, and so would one
+//! key that is looked up again and again behind many full groups. Under a key that is chosen here, keys go on by no
+//! more than a group each, and no search goes over more than 64 full groups.
 
 ghost use Rattle.std.specs.Prelude.{◌≡◌, IfOk};
 ghost use Rattle.std.specs.List.{IsDistinct};
@@ -106,10 +108,13 @@ const SMALL: usize = 4_096;
 /// How many keys are tried.
 const TRIES: u64 = 64;
 
-/// How many places a group has.
+/// How many places a group has. Nothing that `indexmap` has for others tells it, nor which bits of a hash choose a group.
 const PLACES: u64 = 12;
 
-/// How many keys a group is made for.
+/// How many full groups in a row may be gone over. Random keys have 23 in a row at most in the largest table.
+const ROW: u64 = 64;
+
+/// How many keys a group is made for. The capacity of a table tells it, and that the groups double.
 const LOAD: usize = 9;
 
 /// How many groups a table has with room for so many keys.
@@ -136,22 +141,41 @@ fn count_keys<K: Hash + Copy + Drop, N: Keys<K>>(counts: &mut [u32], keyed: Keye
     }
 }
 
-/// How many keys go on behind the last group, where so many come on to the first one, and how many steps they all go.
-fn steps(counts: &[u32], before: u64) -> (u64, u64) {
+/// How far keys go on from the groups into which they belong.
+#[derive(Clone, Copy)]
+struct Overflow {
+    /// How many keys go on behind the last group.
+    last: u64,
+    /// How many steps they all go.
+    steps: u64,
+    /// How many groups in a row are gone over at most.
+    row: u64,
+}
+
+/// How far the keys that are counted go on, where so many come on to the first group.
+fn counted_overflow(counts: &[u32], before: u64) -> Overflow {
     let mut on = before;
     let mut steps: u64 = 0;
+    let mut row: u64 = 0;
+    let mut longest: u64 = 0;
     for n in counts {
         on = on.saturating_add(u64::from(*n)).saturating_sub(PLACES);
         steps = steps.saturating_add(on);
+        row = if on > 0 { row.saturating_add(1) } else { 0 };
+        longest = longest.max(row);
     }
-    (on, steps)
+    Overflow {
+        last: on,
+        steps,
+        row: longest,
+    }
 }
 
-/// Whether so many keys, which are counted, would go on by more than a group each.
+/// Whether so many keys, which are counted, would go on by more than a group each, or one of them over many.
 fn is_crowded(counts: &[u32], keys: usize) -> bool {
-    let (on, _) = steps(counts, 0);
-    let (_, steps) = steps(counts, on);
-    steps > keys as u64
+    let before = counted_overflow(counts, 0).last;
+    let overflow = counted_overflow(counts, before);
+    overflow.steps > keys as u64 || overflow.row > ROW
 }
 
 /// Counts the keys that are there, and more keys, in a table with room for all of them.

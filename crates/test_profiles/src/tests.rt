@@ -4,3 +4,4 @@ mod fixtures;
 mod graphs;
 mod shares;
 mod sums;
+mod tables;
