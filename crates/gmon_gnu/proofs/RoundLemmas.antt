@@ -58,24 +58,26 @@ left_of_more j es i e b within is left =
 
 -- ---- parts of the addresses
 
-pub length-part : (part : ℕ) (es : List (ℕ × ℕ)) → length (part_of part es) ≡ min 64 (length es - part * 64)
-length-part part es = length-take 64 (drop (part * 64) es) ∙ ap (min 64) (length-drop (part * 64) es)
+-- entry k of the part of so many that starts there
+pub get-part : (start size k : ℕ) (es : List (ℕ × ℕ)) (e : ℕ × ℕ) → k < min size (length es - start) → slice_get es (start + k) ≡ Some e → slice_get (take size (drop start es)) k ≡ Some e
+get-part start size k es e within at =
+    let few : k < size = omega (arith, within) in
+    let inside : k < length (take size (drop start es)) = omega (arith, within, length-take size (drop start es), length-drop start es) in
+    slice_get-get_or (take size (drop start es)) k e inside
+    ∙ ap Some (get_or-take size (drop start es) k e few ∙ get_or-drop start es k e ∙ get_or_from_slice_get es (start + k) e e at)
 
-pub get-part : (part k : ℕ) (es : List (ℕ × ℕ)) (e : ℕ × ℕ) → k < length (part_of part es) → slice_get es (part * 64 + k) ≡ Some e → slice_get (part_of part es) k ≡ Some e
-get-part part k es e within at =
-    let few : k < 64 = omega (arith, within, length-part part es) in
-    slice_get-get_or (part_of part es) k e within
-    ∙ ap Some (get_or-take 64 (drop (part * 64) es) k e few ∙ get_or-drop (part * 64) es k e ∙ get_or_from_slice_get es (part * 64 + k) e e at)
+pub length-part : (start size : ℕ) (es : List (ℕ × ℕ)) → length (take size (drop start es)) ≡ min size (length es - start)
+length-part start size es = length-take size (drop start es) ∙ ap (min size) (length-drop start es)
 
-pub part_more : (part : ℕ) (es : List (ℕ × ℕ)) → take ((part + 1) * 64) es ≡ take (part * 64) es ++ part_of part es
-part_more part es =
-    let n = part * 64 in
-    let more : (part + 1) * 64 ≡ n + 64 = omega arith in
-    let front : take n (take (n + 64) es) ≡ take n es = take-take n (n + 64) es (omega arith) in
+pub part_more : (size part : ℕ) (es : List (ℕ × ℕ)) → take ((part + 1) * size) es ≡ take (part * size) es ++ part_of size part es
+part_more size part es =
+    let n = part * size in
+    let more : (part + 1) * size ≡ n + size = omega arith in
+    let front : take n (take (n + size) es) ≡ take n es = take-take n (n + size) es (omega arith) in
     ap (λ (m : ℕ). take m es) more
-    ∙ sym (take-append-drop n (take (n + 64) es))
-    ∙ ap (λ (t : List (ℕ × ℕ)). t ++ drop n (take (n + 64) es)) front
-    ∙ ap (λ (t : List (ℕ × ℕ)). take n es ++ t) (drop-take n 64 es)
+    ∙ sym (take-append-drop n (take (n + size) es))
+    ∙ ap (λ (t : List (ℕ × ℕ)). t ++ drop n (take (n + size) es)) front
+    ∙ ap (λ (t : List (ℕ × ℕ)). take n es ++ t) (drop-take n size es)
 
 pub few_left : (j n : ℕ) (es : List (ℕ × ℕ)) → length (left_of j (take n es)) ≤ n
 few_left j zero es = omega arith
@@ -86,38 +88,38 @@ few_left j (suc n) (e ∷ es) = by (has_left j e.1) (few_left j n es)
     by true few = omega (arith, few)
     by false few = omega (arith, few)
 
-pub left_of_part_more : (j part : ℕ) (es : List (ℕ × ℕ)) → left_of j (take ((part + 1) * 64) es) ≡ left_of j (take (part * 64) es) ++ left_of j (part_of part es)
-left_of_part_more j part es =
-    ap (left_of j) (part_more part es) ∙ filter-append (λ e. has_left j e.1) (take (part * 64) es) (part_of part es)
+pub left_of_part_more : (j size part : ℕ) (es : List (ℕ × ℕ)) → left_of j (take ((part + 1) * size) es) ≡ left_of j (take (part * size) es) ++ left_of j (part_of size part es)
+left_of_part_more j size part es =
+    ap (left_of j) (part_more size part es) ∙ filter-append (λ e. has_left j e.1) (take (part * size) es) (part_of size part es)
 
-pub bytes_of_part_more : (j part : ℕ) (es : List (ℕ × ℕ)) → flat_map (left_bytes j) (take ((part + 1) * 64) es) ≡ flat_map (left_bytes j) (take (part * 64) es) ++ flat_map (left_bytes j) (part_of part es)
-bytes_of_part_more j part es =
-    ap (flat_map (left_bytes j)) (part_more part es) ∙ flat_map-append (left_bytes j) (take (part * 64) es) (part_of part es)
+pub bytes_of_part_more : (j size part : ℕ) (es : List (ℕ × ℕ)) → flat_map (left_bytes j) (take ((part + 1) * size) es) ≡ flat_map (left_bytes j) (take (part * size) es) ++ flat_map (left_bytes j) (part_of size part es)
+bytes_of_part_more j size part es =
+    ap (flat_map (left_bytes j)) (part_more size part es) ∙ flat_map-append (left_bytes j) (take (part * size) es) (part_of size part es)
 
 -- what has nothing left for a round has nothing left for a later one
 none_left_later : (i j : ℕ) (es : List (ℕ × ℕ)) → i ≤ j → left_of i es ≡ [] → left_of j es ≡ []
 none_left_later i j es le none =
     nil_from_length (left_of j es) (sym (length-round_of j es) ∙ ap length (sym (round_of_left i j es le)) ∙ ap (λ (l : List (ℕ × ℕ)). length (round_of l j)) none)
 
-pub marks_later : (i j : ℕ) (es : List (ℕ × ℕ)) (marks : List Bool) → i ≤ j → AreMarks i es marks → AreMarks j es marks
-marks_later i j es marks le are = record { count = are.count; unmarked = λ part is. none_left_later i j (part_of part es) le (are.unmarked part is) }
+pub marks_later : (i j size : ℕ) (es : List (ℕ × ℕ)) (marks : List Bool) → i ≤ j → AreMarks i size es marks → AreMarks j size es marks
+marks_later i j size es marks le are = record { count = are.count; unmarked = λ part is. none_left_later i j (part_of size part es) le (are.unmarked part is) }
 
 -- a mark that says whether a part has something left
-pub marks_set : (j part : ℕ) (es : List (ℕ × ℕ)) (marks : List Bool) (mark : Bool) → AreMarks j es marks → part < length marks → (mark ≡ false → left_of j (part_of part es) ≡ []) → AreMarks j es (set marks part mark)
-marks_set j part es marks mark are within none = record {
+pub marks_set : (j size part : ℕ) (es : List (ℕ × ℕ)) (marks : List Bool) (mark : Bool) → AreMarks j size es marks → part < length marks → (mark ≡ false → left_of j (part_of size part es) ≡ []) → AreMarks j size es (set marks part mark)
+marks_set j size part es marks mark are within none = record {
   count = length-set marks part mark ∙ are.count;
   unmarked = λ q is. by q is (eqb_tells q part);
 }
   where
-    by : (q : ℕ) → get_or (set marks part mark) q true ≡ false → ((eqb q part ≡ true) × (q ≡ part)) ⊎ ((eqb q part ≡ false) × (q ≢ part)) → left_of j (part_of q es) ≡ []
+    by : (q : ℕ) → get_or (set marks part mark) q true ≡ false → ((eqb q part ≡ true) × (q ≡ part)) ⊎ ((eqb q part ≡ false) × (q ≢ part)) → left_of j (part_of size q es) ≡ []
     by q is (inl here) =
         let same = here.1 in
         let set_here : get_or (set marks part mark) q true ≡ mark = ap (λ (k : ℕ). get_or (set marks part mark) k true) same ∙ get_or-set_same marks part mark true within in
-        ap (λ (k : ℕ). left_of j (part_of k es)) same ∙ none (sym set_here ∙ is)
+        ap (λ (k : ℕ). left_of j (part_of size k es)) same ∙ none (sym set_here ∙ is)
     by q is (inr there) = are.unmarked q (sym (get_or-set_other marks part q mark true there.1) ∙ is)
 
-pub all_marked : (j n : ℕ) (es : List (ℕ × ℕ)) → n ≡ 1048576 → AreMarks j es (replicate n true)
-all_marked j n es is = record {
+pub all_marked : (j size n : ℕ) (es : List (ℕ × ℕ)) → n ≡ 16384 → AreMarks j size es (replicate n true)
+all_marked j size n es is = record {
   count = length-replicate n true ∙ is;
   unmarked = λ q at. absurd (true≢false (sym (marked n q) ∙ at));
 }

@@ -1,6 +1,6 @@
 -- The bytes of a profile's pieces, as they are written one after the other.
 -- Only private functions and invariants speak of it.
-use Rattle.std.specs.Prelude.{◌≡◌, ℕ, ◌*◌, Bool, true, false, List, [], ◌∷◌, ◌++◌, length, map, take, drop, get_or, if◌then◌else◌}
+use Rattle.std.specs.Prelude.{◌≡◌, ℕ, ◌*◌, ◌^◌, ◌≤◌, Bool, true, false, List, [], ◌∷◌, ◌++◌, length, map, take, drop, get_or, if◌then◌else◌}
 use Rattle.std.specs.List.{flat_map, filter, range_with_len}
 use Rattle.gp_base.specs.declared.records.Unit as units
 use Rattle.gp_base.specs.Bytes.{le}
@@ -33,14 +33,19 @@ left_bytes j e = if has_left j e.1 then block_bytes (raw_block (e.0, piece most_
 abbrev pub left_of : ℕ → List (ℕ × ℕ) → List (ℕ × ℕ)
 left_of j blocks = filter (λ e. has_left j e.1) blocks
 
--- 64 entries, or the last ones
-abbrev pub part_of : {T : Type 0} → ℕ → List T → List T
-part_of part blocks = take 64 (drop (part * 64) blocks)
+-- parts of so many entries, of which 16,384 have all
+pub record IsPartSize (size : ℕ) (blocks : List (ℕ × ℕ)) : Type 0 where
+  pub all : length blocks ≤ 16384 * size
+  pub few : size ≤ 2 ^ 26
+
+-- so many entries, or the last ones
+abbrev pub part_of : {T : Type 0} → ℕ → ℕ → List T → List T
+part_of size part blocks = take size (drop (part * size) blocks)
 
 -- there is a mark for each part, and a part without it has nothing left for round j
-pub record AreMarks (j : ℕ) (blocks : List (ℕ × ℕ)) (marks : List Bool) : Type 0 where
-  pub count : length marks ≡ 1048576
-  pub unmarked : (part : ℕ) → get_or marks part true ≡ false → left_of j (part_of part blocks) ≡ []
+pub record AreMarks (j : ℕ) (size : ℕ) (blocks : List (ℕ × ℕ)) (marks : List Bool) : Type 0 where
+  pub count : length marks ≡ 16384
+  pub unmarked : (part : ℕ) → get_or marks part true ≡ false → left_of j (part_of size part blocks) ≡ []
 
 abbrev pub round_bytes : List (ℕ × ℕ) → ℕ → List ℕ
 round_bytes blocks j = blocks_bytes (map raw_block (round_of blocks j))

@@ -7,7 +7,7 @@ ghost use Rattle.host_port.specs.Host.{Puts};
 ghost use Rattle.host_port.specs.declared.side.Side.TheVariants.{File};
 ghost use Rattle.gmon_gnu.specs.Blocks.{block_record, executed_blocks, pair_bytes};
 
-use crate::profile_writing::BLOCKS_TAG;
+use crate::rounds::BLOCKS_TAG;
 use gp_base::le4;
 use host_port::{Failed, Host, OutBuf};
 

@@ -14,6 +14,7 @@ mod profile_making;
 pub mod profile_writing;
 pub mod reader;
 pub mod reading;
+pub(crate) mod rounds;
 mod splitting;
 pub(crate) mod state;
 pub(crate) mod taking;

@@ -1,0 +1,27 @@
+use Rattle.std.proofs.Common.{sym, ◌∙◌}
+use Rattle.std.proofs.lemmas.Result.{err_from_is_err_and}
+use Rattle.gp_base.specs.Bytes.{le}
+use Rattle.host_port.specs.declared.side.Side.TheVariants.{File}
+use Rattle.host_port.proofs.BufferLemmas.{adds_nothing, adds_then, adds_front}
+use Rattle.gmon_gnu.specs.Splitting.{piece, most_calls}
+use Rattle.gmon_gnu.proofs.ProfileTextLemmas.{left_some, left_none}
+use Rattle.gmon_gnu.proofs.rounds.put_block.Goals as goal
+
+pub returns-then-not-has_left-clause-adds : goal.returns-then-not-has_left-clause-adds
+returns-then-not-has_left-clause-adds g c =
+    let none = left_none c.args.j (c.args.addr, c.args.runs) (sym c.has_left.ensures ∙ c.if-not-has_left.true) in
+    rw (← none) (adds_nothing File _ _ (tt {0}))
+
+pub returns-in_err-put-clause-adds : goal.returns-in_err-put-clause-adds
+returns-in_err-put-clause-adds g c =
+    let p = err_from_is_err_and c.from_residual.result c.from_residual.ensures.1 in
+    let some = left_some c.args.j (c.args.addr, c.args.runs) (sym c.has_left.ensures ∙ c.if-not-has_left.false) in
+    let first = rw c.le4.ensures at c.in_err-put.ensures.adds in
+    rw (p.1, ← some) (adds_front File (le c.args.addr 4) (le (piece most_calls c.args.j c.args.runs) 4) _ _ _ _ _ first)
+
+pub returns-clause-adds : goal.returns-clause-adds
+returns-clause-adds g c =
+    let some = left_some c.args.j (c.args.addr, c.args.runs) (sym c.has_left.ensures ∙ c.if-not-has_left.false) in
+    let first = rw c.le4.ensures at c.in_ok-put.ensures.adds in
+    let second = rw (c.le4-2.ensures, c.piece.ensures) at c.put-2.ensures.adds in
+    rw (← some) (adds_then File (le c.args.addr 4) (le (piece most_calls c.args.j c.args.runs) 4) _ _ _ _ _ _ (tt {0}) _ first second)
