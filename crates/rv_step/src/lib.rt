@@ -11,5 +11,5 @@ pub mod values;
 
 pub use memory::Ram;
 pub use registers::Regs;
-pub use stepped::{Stepped, TracedStep, TrapKind};
-pub use stepper::{fetch, instruction, step, traced_step};
+pub use stepped::{Stepped, TrapKind};
+pub use stepper::{fetch, step};

@@ -1,7 +1,5 @@
 //! What a step answers.
 
-use rv_decode::Instr;
-
 /// The answer of a step.
 #[derive(Clone, Copy, Debug, PartialEq, Eq)]
 pub enum Stepped {
@@ -11,13 +9,6 @@ pub enum Stepped {
     Ecall,
     /// The instruction at pc can't be executed. Registers, pc and memory are as before.
     Trap(TrapKind),
-}
-
-/// The answer of a step, and the instruction that stood at pc before it: None exactly where memory has not
-/// all of its four bytes, or they are none.
-pub struct TracedStep {
-    pub answer: Stepped,
-    pub instr: Option<Instr>,
 }
 
 /// Why an instruction can't be executed. An address that is both misaligned and outside is

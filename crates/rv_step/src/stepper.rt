@@ -1,13 +1,13 @@
 //! One step.
 
 ghost use Rattle.std.specs.Prelude.{◌≡◌, ◌⊎◌, ◌%◌, length};
-ghost use Rattle.rv_step.specs.Step.{word_at_pc, instruction_at, outcome, step_of};
+ghost use Rattle.rv_step.specs.Step.{word_at_pc, outcome, step_of};
 
 use crate::execution::execute;
 use crate::memory::Ram;
 use crate::registers::Regs;
-use crate::stepped::{Stepped, TracedStep, TrapKind};
-use rv_decode::{Instr, decode};
+use crate::stepped::{Stepped, TrapKind};
+use rv_decode::decode;
 
 /// Executes the instruction at pc, as the RISC-V unprivileged manual describes RV32I, M and Zifencei.
 /// After Ecall and Trap registers, pc and memory are as before. Takes no memory.
@@ -30,33 +30,6 @@ pub fn step(regs: &mut Regs, ram: &mut Ram) -> Stepped
         Some(instr) => execute(instr, regs, ram),
         None => Stepped::Trap(TrapKind::Illegal),
     }
-}
-
-/// The instruction at pc: None exactly where memory has not all of its four bytes, or they are none. Takes
-/// no memory.
-pub fn instruction(regs: &Regs, ram: &Ram) -> Option<Instr>
-    ensures { result ≡ instruction_at ram.now regs.now.pc }
-{
-    decode(fetch(regs, ram)?)
-}
-
-/// As `step`, and tells the instruction that stood at pc. Takes no memory.
-pub fn traced_step(regs: &mut Regs, ram: &mut Ram) -> TracedStep
-    ensures answer { result.answer ≡ (step_of regs.old ram.old).answer }
-    ensures registers { regs.new ≡ (step_of regs.old ram.old).registers }
-    ensures memory { ram.new ≡ (step_of regs.old ram.old).memory }
-    ensures instr { result.instr ≡ instruction_at ram.old regs.old.pc }
-
-    // What callers rely on.
-    ensures unchanged { (result.answer ≡ Stepped.Retired)
-        ⊎ ((regs.new ≡ regs.old) × (ram.new ≡ ram.old)) }
-    ensures aligned { regs.old.pc % 4 ≡ 0 → regs.new.pc % 4 ≡ 0 }
-    ensures base { ram.new.base ≡ ram.old.base }
-    ensures size { length ram.new.bytes ≡ length ram.old.bytes }
-{
-    let instr = instruction(regs, ram);
-    let answer = step(regs, ram);
-    TracedStep { answer, instr }
 }
 
 /// The word at pc, if its four bytes are all in memory. Takes no memory.
