@@ -21,6 +21,9 @@ struct Parts {
     symbols: u32,
     /// The bytes of the symbols' names.
     strings: u32,
+    ghost few_words: { words ≤ 2 ^ 18 },
+    ghost few_symbols: { symbols ≤ 2 ^ 12 },
+    ghost short_names: { strings ≤ 2 ^ 20 },
 }
 
 fn put_half(bytes: &mut Vec<u8>, n: u16) -> Result<(), AllocError>
@@ -72,8 +75,6 @@ fn padding_of(size: u32) -> u32
 impl Parts {
     /// Where the strings begin in the file.
     fn strings_at(self) -> u32
-        requires words { self.words ≤ 2 ^ 18 }
-        requires symbols { self.symbols ≤ 2 ^ 12 }
         ensures { result ≡ spec.strings_at self.words self.symbols }
     {
         TEXT_OFFSET + 4 * self.words + 16 * (self.symbols + 1)
@@ -81,9 +82,6 @@ impl Parts {
 
     /// Where the names of the sections begin in the file.
     fn names_at(self) -> u32
-        requires words { self.words ≤ 2 ^ 18 }
-        requires symbols { self.symbols ≤ 2 ^ 12 }
-        requires strings { self.strings ≤ 2 ^ 20 }
         ensures { result ≡ spec.names_at self.words self.symbols self.strings }
     {
         self.strings_at() + self.strings
@@ -91,9 +89,6 @@ impl Parts {
 
     /// Where the section headers begin in the file.
     fn headers_at(self) -> u32
-        requires words { self.words ≤ 2 ^ 18 }
-        requires symbols { self.symbols ≤ 2 ^ 12 }
-        requires strings { self.strings ≤ 2 ^ 20 }
         ensures { result ≡ spec.headers_at self.words self.symbols self.strings }
     {
         let end = self.names_at() + 33;
@@ -164,9 +159,6 @@ fn put_strings(bytes: &mut Vec<u8>, symbols: &[DemoSymbol]) -> Result<(), AllocE
 /// The section headers: none, the text, the symbols, the strings, and the names of the sections.
 #[tactic(auto, unfolding(crate::specs::Elf::section_headers))]
 fn put_section_headers(bytes: &mut Vec<u8>, parts: Parts) -> Result<(), AllocError>
-    requires words { parts.words ≤ 2 ^ 18 }
-    requires symbols { parts.symbols ≤ 2 ^ 12 }
-    requires strings { parts.strings ≤ 2 ^ 20 }
     ensures { OnOk result (bytes.new.items ≡ bytes.old.items
         ++ spec.section_headers parts.words parts.symbols parts.strings) }
 {
@@ -196,9 +188,6 @@ fn put_names(bytes: &mut Vec<u8>) -> Result<(), AllocError>
 /// What stands in front of the text and what it consists of.
 fn put_front(bytes: &mut Vec<u8>, words: &[u32], parts: Parts) -> Result<(), AllocError>
     requires text { parts.words ≡ length words.now }
-    requires words { parts.words ≤ 2 ^ 18 }
-    requires symbols { parts.symbols ≤ 2 ^ 12 }
-    requires strings { parts.strings ≤ 2 ^ 20 }
     ensures { OnOk result (bytes.new.items ≡ bytes.old.items
         ++ spec.front_text words.now parts.symbols parts.strings) }
 {
@@ -211,9 +200,6 @@ fn put_front(bytes: &mut Vec<u8>, words: &[u32], parts: Parts) -> Result<(), All
 
 /// What stands behind the strings.
 fn put_back(bytes: &mut Vec<u8>, parts: Parts) -> Result<(), AllocError>
-    requires words { parts.words ≤ 2 ^ 18 }
-    requires symbols { parts.symbols ≤ 2 ^ 12 }
-    requires strings { parts.strings ≤ 2 ^ 20 }
     ensures { OnOk result (bytes.new.items ≡ bytes.old.items
         ++ spec.back_text parts.words parts.symbols parts.strings) }
 {

@@ -17,14 +17,8 @@ overflow_cast-parts-3 c =
     let long = ap length (c.as_slice-strings.ensures.value ∙ put_first _ _ _ c.new-strings.ensures.items c.in_ok-put_strings.ensures) in
     omega arith
 
-pub put_front-requires-clause-strings : goal.put_front-requires-clause-strings
-put_front-requires-clause-strings c =
-    let short = strings_short c.args.symbols.now c.requires.small in
-    let long = ap length (c.as_slice-strings.ensures.value ∙ put_first _ _ _ c.new-strings.ensures.items c.in_ok-put_strings.ensures) in
-    omega arith
-
-pub put_back-requires-clause-strings : goal.put_back-requires-clause-strings
-put_back-requires-clause-strings c =
+pub invariant_of-parts-clause-short_names : goal.invariant_of-parts-clause-short_names
+invariant_of-parts-clause-short_names c =
     let short = strings_short c.args.symbols.now c.requires.small in
     let long = ap length (c.as_slice-strings.ensures.value ∙ put_first _ _ _ c.new-strings.ensures.items c.in_ok-put_strings.ensures) in
     omega arith
