@@ -72,11 +72,31 @@ pub fn cut(
     ensures { IfOk result (λ p. p ≡ without_cuts profile.now symbols.now
         (map string_bytes cuts.now)) }
 {
-    profile.holds();
     let mut left = Profile::new(alloc);
-    put_hists(&mut left, profile)?;
-    take_room(&mut left, profile);
-    put_arcs(alloc, &mut left, profile, symbols, cuts)?;
-    add_blocks(&mut left, profile)?;
-    Ok(left)
+    match put_all(alloc, &mut left, profile, symbols, cuts) {
+        Ok(()) => Ok(left),
+        Err(error) => Err(error),
+    }
+}
+
+/// Puts what isn't cut into a profile that holds nothing.
+fn put_all(
+    alloc: Global,
+    left: &mut Profile,
+    profile: &Profile,
+    symbols: &[Symbol],
+    cuts: &[String],
+) -> Result<(), AllocError>
+    requires empty { left.old ≡ empty_content }
+    requires ordered { IsAscending symbols.now }
+    requires words { All (λ word. is_cut_word (string_bytes word) ≡ true) cuts.now }
+    ensures { OnOk result (left.new ≡ without_cuts profile.now symbols.now
+        (map string_bytes cuts.now)) }
+{
+    profile.holds();
+    put_hists(left, profile)?;
+    take_room(left, profile);
+    put_arcs(alloc, left, profile, symbols, cuts)?;
+    add_blocks(left, profile)?;
+    Ok(())
 }

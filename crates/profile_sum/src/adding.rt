@@ -41,9 +41,21 @@ pub fn add_into(total: Profile, more: &Profile) -> Result<Profile, SumRefusal>
     ensures added { IfOk result (λ sum. sum ≡ sum_of total more.now) }
 {
     let mut sum = total;
-    refuse_clash(&sum, more)?;
-    add_parts(&mut sum, more)?;
-    Ok(sum)
+    match add_checked(&mut sum, more) {
+        Ok(()) => Ok(sum),
+        Err(refusal) => Err(refusal),
+    }
+}
+
+/// Adds a profile to a total that is let go after a refusal.
+fn add_checked(total: &mut Profile, more: &Profile) -> Result<(), SumRefusal>
+    requires within { clash_of total.old more.now ≡ None → IsWithin (sum_of total.old more.now) }
+    ensures refusal { IfErr result (λ refusal. IsClash refusal (clash_of total.old more.now)) }
+    ensures accepted { OnOk result (clash_of total.old more.now ≡ None) }
+    ensures added { OnOk result (total.new ≡ sum_of total.old more.now) }
+{
+    refuse_clash(total, more)?;
+    add_parts(total, more)
 }
 
 /// Refuses a profile with a histogram that can't be added to the total alone.
