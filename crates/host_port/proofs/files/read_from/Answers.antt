@@ -1,3 +1,4 @@
+use Rattle.std.proofs.lemmas.Grind.{common_steps}
 use Rattle.std.proofs.Common.{◌≡◌, length, take, drop, ap, sym, arith, length-drop, length-take, ◌∙◌}
 use Rattle.std.proofs.lemmas.List.{take_at}
 use Rattle.host_port.proofs.EntryLemmas.{rest_is, nothing_left}
@@ -28,3 +29,6 @@ returns-clause-bytes c =
     let long : length c.copy_from_slice.new.self ≡ c.min-n.result = omega (arith, ap length copied, ap length c.split_at-2.ensures.front, length-take c.min-n.result c.split_at.result.1.now) in
     take_at c.copy_from_slice.new.self (drop c.min-n.result c.args.buf.now) c.min-n.result long
     ∙ copied ∙ c.split_at-2.ensures.front ∙ ap (take c.min-n.result) (c.split_at.ensures.back ∙ sym left)
+
+pub returns-clause-rest : goal.returns-clause-rest
+returns-clause-rest c = grind (arith, common_steps)

@@ -1,3 +1,4 @@
+use Rattle.std.proofs.lemmas.Grind.{common_steps}
 use Rattle.std.proofs.Common.{length, refl, ap, ◌∙◌, arith, length-append}
 use Rattle.std.proofs.lemmas.Result.{err_from_is_err_and}
 use Rattle.host_port.specs.Host.{act_of}
@@ -32,3 +33,9 @@ returns-in_err-n-clause-puts g c =
     let p = err_from_is_err_and c.from_residual.result c.from_residual.ensures.1 in
     let some = some_left c.loop-rest.rest.now c.is_empty.result c.is_empty.ensures c.loop-rest-test.true in
     rw p.1 (puts_fail c.args.side c.args.piece.now c.loop-rest.rest.now _ _ _ tt _ c.loop-rest.invariant.far some c.in_err-n.ensures.takes c.in_err-n.ensures.counts (λ is. c.in_err-n.ensures.last is ∙ c.loop-rest.invariant.last is))
+
+pub returns-in_err-n-clause-idle : goal.returns-in_err-n-clause-idle
+returns-in_err-n-clause-idle g c = grind (arith, common_steps)
+
+pub returns-clause-puts : goal.returns-clause-puts
+returns-clause-puts g c = grind (arith, common_steps)

@@ -1,3 +1,5 @@
+use Rattle.std.proofs.Common.{arith}
+use Rattle.std.proofs.lemmas.Grind.{common_steps}
 use Rattle.std.proofs.Common.{sym, subst, Some}
 use Rattle.mcount_arcs.specs.declared.walk.Entered.TheVariants.{Ignored, Lost, Walking}
 use Rattle.prof_machine.specs.Turn.{after_entering, after_mcount}
@@ -72,3 +74,6 @@ returns-in-Ignored-clause-note c = λ w st.
     let P : RunValue → Type 0 = λ v. StandsFor w v → c.return_from_hook-in-Ignored.result ≡ return_from_call v.machine w.log (hart_of w.harts h) in
     subst P c.self.view_is (λ (s : StandsFor w (value_of a)).
     c.return_from_hook-in-Ignored.ensures.to ∙ ap return_of read ∙ sym (call_return_as w (value_of a) h _ _ _ Ignored read c.get.ensures.value c.get-2.ensures.value c.in-Ignored.ensures.answer c.self.invariant.sizes s)) st
+
+pub returns-in-Lost-clause-serves : goal.returns-in-Lost-clause-serves
+returns-in-Lost-clause-serves c = grind (arith, common_steps)
