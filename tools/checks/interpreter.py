@@ -1,7 +1,7 @@
 """An interpreter of RV32IM programs with the profiling runtime, and all that is said of a run.
 
 It was written from docs/MACHINE.md, docs/FORMATS.md and the RISC-V manual, and shares nothing with the crates. What a
-program file or words are refused for isn't here. tools/second-opinion compares it with the built program.
+program file or words are refused for isn't here. tools/checks/second-opinion compares it with the built program.
 """
 
 import collections
