@@ -78,8 +78,10 @@ class File:
         self.imports, self.aliases = imports_of(lines)
         name, is_mutual = None, False
         for line in lines:
-            if not line.strip() or line.startswith(("--", "use ", "pub mod", "infix", "mod ")):
-                name = None if not line.startswith("--") else name
+            if not line.strip() or line.startswith("--"):
+                continue
+            if line.startswith(("use ", "pub use ", "pub mod ", "mod ", "infix")):
+                name = None
                 continue
             # Definitions that speak of one another stand indented in a block.
             if line in ("mutual", "abbrev mutual"):
