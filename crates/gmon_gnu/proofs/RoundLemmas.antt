@@ -118,7 +118,7 @@ marks_set j size part es marks mark are within none = record {
         ap (λ (k : ℕ). left_of j (part_of size k es)) same ∙ none (sym set_here ∙ is)
     by q is (inr there) = are.unmarked q (sym (get_or-set_other marks part q mark true there.1) ∙ is)
 
-pub all_marked : (j size n : ℕ) (es : List (ℕ × ℕ)) → n ≡ 16384 → AreMarks j size es (replicate n true)
+pub all_marked : (j size n : ℕ) (es : List (ℕ × ℕ)) → n ≡ 32768 → AreMarks j size es (replicate n true)
 all_marked j size n es is = record {
   count = length-replicate n true ∙ is;
   unmarked = λ q at. absurd (true≢false (sym (marked n q) ∙ at));

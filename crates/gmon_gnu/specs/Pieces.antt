@@ -33,9 +33,9 @@ left_bytes j e = if has_left j e.1 then block_bytes (raw_block (e.0, piece most_
 abbrev pub left_of : ℕ → List (ℕ × ℕ) → List (ℕ × ℕ)
 left_of j blocks = filter (λ e. has_left j e.1) blocks
 
--- parts of so many entries, of which 16,384 have all
+-- parts of so many entries, of which 32,768 have all
 pub record IsPartSize (size : ℕ) (blocks : List (ℕ × ℕ)) : Type 0 where
-  pub all : length blocks ≤ 16384 * size
+  pub all : length blocks ≤ 32768 * size
   pub few : size ≤ 2 ^ 26
 
 -- so many entries, or the last ones
@@ -44,7 +44,7 @@ part_of size part blocks = take size (drop (part * size) blocks)
 
 -- there is a mark for each part, and a part without it has nothing left for round j
 pub record AreMarks (j : ℕ) (size : ℕ) (blocks : List (ℕ × ℕ)) (marks : List Bool) : Type 0 where
-  pub count : length marks ≡ 16384
+  pub count : length marks ≡ 32768
   pub unmarked : (part : ℕ) → get_or marks part true ≡ false → left_of j (part_of size part blocks) ≡ []
 
 abbrev pub round_bytes : List (ℕ × ℕ) → ℕ → List ℕ

@@ -15,10 +15,10 @@ use host_port::{Failed, Host, OutBuf};
 pub(crate) const BLOCKS_TAG: u8 = 2;
 
 /// How many addresses are listed at most.
-const FEW: usize = 1_024;
+const FEW: usize = 512;
 
 /// How many parts the addresses of a profile have.
-const PARTS: usize = 16_384;
+const PARTS: usize = 32_768;
 
 /// How many addresses a part has at least, but for the last one that has any.
 const SMALL_PART: usize = 64;
@@ -26,10 +26,10 @@ const SMALL_PART: usize = 64;
 /// The counts of basic blocks in so many rounds.
 ///
 /// A mark says of a part of the addresses whether one of them has something left; where none has, they aren't looked
-/// at again. So a round looks at the addresses of one part, 512 in the largest file, for each one that it writes at
+/// at again. So a round looks at the addresses of one part, 256 in the largest file, for each one that it writes at
 /// most, and at the marks. Those are few beside what it writes, since it writes more than `FEW` addresses: from the
 /// first round on in which at most `FEW` have something left, these are listed, and a round looks at what the round
-/// before wrote. What is marked and listed takes 32 KiB of the stack, which no other function is to pay for.
+/// before wrote. What is marked and listed takes 40 KiB of the stack, which no other function is to pay for.
 #[inline(never)]
 pub(crate) fn put_rounds<H: Host>(
     rounds: u64,
@@ -119,7 +119,7 @@ fn list_part(
 ) -> u32
     requires within { j * 4294967295 < 2 ^ 64 }
     requires sized { IsPartSize size profile.now.blocks }
-    requires part { part < 16384 }
+    requires part { part < 32768 }
     requires listed { listed ≤ part * size }
     ensures counted { result ≡ listed + length (left_of j (part_of size part profile.now.blocks)) }
     ensures listed { result ≤ length few.new → take result few.new ≡ take listed few.old
@@ -149,7 +149,7 @@ fn part_size(profile: &Profile) -> usize
 
 /// The number of the first address of a part.
 fn start_of(part: usize, size: usize) -> usize
-    requires part { part < 16384 }
+    requires part { part < 32768 }
     requires size { size ≤ 2 ^ 26 }
     ensures { result ≡ part * size }
 {
@@ -289,7 +289,7 @@ fn put_part<H: Host>(
 ) -> Result<(), Failed>
     requires within { j * 4294967295 < 2 ^ 64 }
     requires size { size ≤ 2 ^ 26 }
-    requires part { part < 16384 }
+    requires part { part < 32768 }
     requires marked { mark ≡ false → left_of j (part_of size part profile.now.blocks) ≡ [] }
     requires ready { (H.outside host.old).is_writing ≡ true }
     ensures adds { Adds File (flat_map (left_bytes j) (part_of size part profile.now.blocks)) out.old

@@ -48,7 +48,7 @@ loop-part-preserved c =
     ]
 
 -- the parts so far have all
-all_parts : (size part : ℕ) (es : List (ℕ × ℕ)) → IsPartSize size es → 16384 ≤ part → take (part * size) es ≡ es
+all_parts : (size part : ℕ) (es : List (ℕ × ℕ)) → IsPartSize size es → 32768 ≤ part → take (part * size) es ≡ es
 all_parts size part es sized end = take_all (part * size) es (omega (arith, sized.all, mul-le-mul_right size end))
 
 pub returns-clause-counted : goal.returns-clause-counted

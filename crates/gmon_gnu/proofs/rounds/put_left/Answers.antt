@@ -48,5 +48,5 @@ pub returns-clause-adds : goal.returns-clause-adds
 returns-clause-adds g c =
     let size = c.args.size in
     let part = c.loop-part.part in
-    let last : 16384 * size ≤ part * size = mul-le-mul_right size (omega (arith, c.loop-part-test.false)) in
+    let last : 32768 * size ≤ part * size = mul-le-mul_right size (omega (arith, c.loop-part-test.false)) in
     adds_all File (left_bytes c.args.j) c.args.profile.now.blocks (part * size) _ _ _ _ _ (omega (arith, last, c.requires.sized.all)) c.loop-part.invariant.put

@@ -9,7 +9,7 @@ use Rattle.gmon_gnu.proofs.RoundLemmas.{all_marked, kept_same, marks_later, roun
 use Rattle.gmon_gnu.proofs.rounds.put_rounds.Goals as goal
 
 pub loop-j-init : goal.loop-j-init
-loop-j-init g c = record { put = adds_nothing File _ _ (tt {0}); marked = all_marked 0 c.part_size-size.result 16384 c.args.profile.now.blocks refl; ready = c.requires.ready }
+loop-j-init g c = record { put = adds_nothing File _ _ (tt {0}); marked = all_marked 0 c.part_size-size.result 32768 c.args.profile.now.blocks refl; ready = c.requires.ready }
 
 pub loop-j-preserved : goal.loop-j-preserved
 loop-j-preserved g c =
