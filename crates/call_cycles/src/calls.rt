@@ -1,6 +1,6 @@
 //! The calls of a profile by caller and callee.
 
-ghost use Rattle.std.specs.Prelude.{◌≡◌, ◌<◌, ◌≤◌, ◌^◌, ◌+◌, ◌++◌, ◌∷◌, [], ℕ, List, length, take, slice_index, slice_index_or, IfOk, OnOk};
+ghost use Rattle.std.specs.Prelude.{◌≡◌, ◌↔◌, ◌<◌, ◌≤◌, ◌^◌, ◌+◌, ◌++◌, ◌∷◌, [], ℕ, List, length, take, slice_index, slice_index_or, IfOk, IsTrue, OnOk};
 ghost use Rattle.std.specs.List.{All};
 ghost use Rattle.std.specs.List.Sorted.{IsSorted};
 ghost use Rattle.elf32_syms.specs.Owners.{IsAscending};
@@ -27,6 +27,13 @@ pub(crate) struct Calls {
     pub(crate) own: Vec<u64>,
     /// The function near which the next caller is looked for first.
     last_caller: u32,
+}
+
+/// Whether a function calls itself.
+fn is_direct(caller: u32, callee: u32) -> bool
+    ensures { IsTrue result ↔ (caller ≡ callee) }
+{
+    caller == callee
 }
 
 /// Adds calls to those of their functions: none where an address lies in no symbol.
@@ -59,7 +66,7 @@ fn add_arc(
     let Some(callee) = pages.owner(symbols, to) else {
         return Ok(());
     };
-    if caller == callee {
+    if is_direct(caller, callee) {
         calls.own[caller as usize] += count;
         return Ok(());
     }

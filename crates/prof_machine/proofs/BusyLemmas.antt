@@ -36,14 +36,14 @@ use Rattle.prof_machine.specs.declared.setup.Plan.TheVariants.{RoundRobin, Seede
 use Rattle.prof_machine.specs.declared.setup.Setup.{Setup}
 
 -- no call is being entered, and no looks are left
-abbrev IsIdle : ℕ → List LogEntry → List ℕ → Type 0
+abbrev pub IsIdle : ℕ → List LogEntry → List ℕ → Type 0
 IsIdle n log left = (is_busy log ≡ false) × (left ≡ replicate n 0)
 
 -- one is, and its hart alone has looks left
-abbrev IsBusy : ℕ → List LogEntry → List ℕ → Type 0
+abbrev pub IsBusy : ℕ → List LogEntry → List ℕ → Type 0
 IsBusy n log left = (is_busy log ≡ true) × ((h : ℕ) × (k : ℕ) × (h < n) × (left ≡ set (replicate n 0) h (suc k)))
 
-abbrev IsTold : ℕ → List LogEntry → List ℕ → Type 0
+abbrev pub IsTold : ℕ → List LogEntry → List ℕ → Type 0
 IsTold n log left = IsIdle n log left ⊎ IsBusy n log left
 
 -- ---- what a log says behind one more entry
@@ -159,10 +159,10 @@ same_hart n h k x y left inside is some = by_test (eqb h x) refl
         let none : looks_of_hart left x ≡ 0 = ap (λ (xs : List ℕ). looks_of_hart xs x) is ∙ none_here n x h (suc k) (λ e. let t : eqb h x ≡ true = grind (arith, nat_tests, e) in let f : true ≡ false = sym t ∙ other in cc) in
         absurd (omega (arith, none, some))
 
-none_left : (n h k : ℕ) (left : List ℕ) → left ≡ replicate n 0 → looks_of_hart left h ≡ suc k → ⊥
+pub none_left : (n h k : ℕ) (left : List ℕ) → left ≡ replicate n 0 → looks_of_hart left h ≡ suc k → ⊥
 none_left n h k left is some = let none : looks_of_hart left h ≡ 0 = ap (λ (xs : List ℕ). looks_of_hart xs h) is ∙ none_at n h in omega (arith, none, some)
 
-told_taken : (n : ℕ) (m : Machine) (h k : ℕ) (w : World) → h < n → looks_of_hart w.left h ≡ k → IsTold n w.log w.left → IsTold n (after_look m h k w).log (after_look m h k w).left
+pub told_taken : (n : ℕ) (m : Machine) (h k : ℕ) (w : World) → h < n → looks_of_hart w.left h ≡ k → IsTold n w.log w.left → IsTold n (after_look m h k w).log (after_look m h k w).left
 told_taken n m h zero w inside is told = told_instructed n m h w inside told
 told_taken n m h (suc zero) w inside is (inl (idle, none)) = absurd (none_left n h 0 w.left none is)
 told_taken n m h (suc zero) w inside is (inr (busy, (x, y, below, left))) =
@@ -178,7 +178,7 @@ told_taken n m h (suc (suc k)) w inside is (inr (busy, (x, y, below, left))) =
 -- ---- the end
 
 -- once it has ended no call is being entered
-abbrev IsOver : ℕ → World → Type 0
+abbrev pub IsOver : ℕ → World → Type 0
 IsOver n w = IsTold n w.log w.left × (IsSome w.ending → is_busy w.log ≡ false)
 
 held_any : (n h k : ℕ) (left : List ℕ) → h < n → left ≡ set (replicate n 0) h (suc k) → list_any (λ x. nat_lt 0 x) left ≡ true
@@ -207,7 +207,7 @@ over_closed : (n : ℕ) (w : World) → IsTold n w.log w.left → IsOver n (afte
 unfolding after_close
 over_closed n w told = over_by n w w.ending refl told
 
-over_turn : (n : ℕ) (m : Machine) (w : World) (h : ℕ) → h < n → IsOver n w → IsOver n (turn_of m w h)
+pub over_turn : (n : ℕ) (m : Machine) (w : World) (h : ℕ) → h < n → IsOver n w → IsOver n (turn_of m w h)
 unfolding turn_of
 over_turn n m w h inside over =
     by_going (λ v. after_close (after_look m h (looks_of_hart v.left h) v)) w (λ v. IsOver n v)
@@ -218,7 +218,7 @@ over_after n m w [] below over = over
 over_after n m w (h ∷ turns) below over =
     over_after n m (turn_of m w h) turns (λ k d inside. below (suc k) d (omega (arith, inside))) (over_turn n m w h (below 0 0 (omega arith)) over)
 
-over_first : (image : Image) (bytes : List ℕ) (setup : Setup) → IsOver setup.harts (start_of image bytes setup)
+pub over_first : (image : Image) (bytes : List ℕ) (setup : Setup) → IsOver setup.harts (start_of image bytes setup)
 unfolding start_of
 over_first image bytes setup = (inl (refl, refl), λ some. refl)
 
@@ -248,7 +248,7 @@ taker_below : (plan : Plan) (harts k : ℕ) → 1 ≤ harts → taker_of plan ha
 taker_below (RoundRobin quantum) harts k some = mod_below (k / quantum) harts some
 taker_below (Seeded seed) harts k some = mod_below (state_after seed (suc k)) harts some
 
-takers_below : (setup : Setup) (n : ℕ) → 1 ≤ setup.harts → All (λ h. h < setup.harts) (plan_of setup n)
+pub takers_below : (setup : Setup) (n : ℕ) → 1 ≤ setup.harts → All (λ h. h < setup.harts) (plan_of setup n)
 unfolding plan_of
 takers_below setup n some = λ k d inside.
     let short : k < n = omega (arith, inside, length-map-range_with_len (taker_of setup.plan setup.harts) 0 n) in

@@ -4,7 +4,7 @@ use Rattle.std.specs.List.{cons_option}
 use Rattle.elf32_syms.specs.declared.image.Image.{Image}
 use Rattle.host_port.specs.Act.{Act, Disk, disk_after}
 use Rattle.mcount_arcs.specs.declared.state.State.TheVariants.{Busy}
-use Rattle.mcount_arcs.specs.Log.{CallIgnored, CallLost, Enter, LogEntry, Mode, Sample, WalkDone, state_of}
+use Rattle.mcount_arcs.specs.Log.{CallIgnored, CallLost, Enter, IsLegal, LogEntry, MayFollow, Mode, Sample, WalkDone, state_of}
 use Rattle.mcount_arcs.specs.Samples.{counted_samples}
 use Rattle.rv_step.specs.declared.stepped.TrapKind.{TrapKind}
 use Rattle.prof_machine.specs.declared.ending.End.TheVariants.{Trap}
@@ -55,6 +55,23 @@ NoneEndsBusy = (image : Image) (bytes : List ℕ) (setup : Setup) (turns : List 
 abbrev pub NoPlanEndsBusy : Type 0
 NoPlanEndsBusy = (image : Image) (bytes : List ℕ) (setup : Setup) → 1 ≤ setup.harts →
     let w = final_world image bytes setup in IsSome w.ending → state_of (machine_of image setup).sizes w.log ≢ Busy
+
+-- The log is legal whichever harts take the turns: a call is lost exactly where it meets another one that is being
+-- entered, and entered exactly where the table is on and the call site in the text.
+abbrev pub LogsAreLegal : Type 0
+LogsAreLegal = (image : Image) (bytes : List ℕ) (setup : Setup) (turns : List ℕ) → All (λ h. h < setup.harts) turns →
+    let m = machine_of image setup in IsLegal m.sizes (world_after m (start_of image bytes setup) turns).log
+
+-- and so is that of a run by its plan
+abbrev pub PlannedLogsAreLegal : Type 0
+PlannedLogsAreLegal = (image : Image) (bytes : List ℕ) (setup : Setup) → 1 ≤ setup.harts
+    → IsLegal (machine_of image setup).sizes (final_world image bytes setup).log
+
+-- each of its entries stands where it may, behind those in front of it
+abbrev pub EntriesMayStand : Type 0
+EntriesMayStand = (image : Image) (bytes : List ℕ) (setup : Setup) (turns : List ℕ) → All (λ h. h < setup.harts) turns →
+    let m = machine_of image setup in
+    (front : List LogEntry) (entry : LogEntry) (back : List LogEntry) → (world_after m (start_of image bytes setup) turns).log ≡ front ++ entry ∷ back → MayFollow m.sizes front entry
 
 -- what is printed stays, up to the end of the run
 abbrev pub PrintsStay : Type 0

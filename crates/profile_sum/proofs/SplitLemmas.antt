@@ -135,3 +135,22 @@ parts_have_sum a b spans none =
     let rest = ap (λ c. conflict_of c b) (sum_none p ∙ content_is_added a) ∙ parts.1 in
     let w = all_more b p empty_content (at_first p kept') all.1 rest in
     compatible_sum p q (subst (λ (c : Content). Compatible p c) (sym (content_is_added b)) w)
+
+-- ---- what records add up to has histograms with a range and counters
+
+kept_with : (r : WideRec) (c : Content) → HasSpan r → AllByRecursion IsKept c.hists → AllByRecursion IsKept (with_record r c).hists
+kept_with (WideHist h v) c span all = by (has_counters h) refl
+  where
+    by : (b : Bool) → has_counters h ≡ b → AllByRecursion IsKept (if b then record c { hists = put_hist h c.hists; «unit» = Some (unwrap_or c.«unit» (kept_unit v)) } else c).hists
+    by true e = let some = ltb-true 0 (length h.counters) e in all_kept h c.hists (record { range = span some; some = some }) all
+    by false e = all
+kept_with (WideArc from to count) c span all = all
+kept_with (WideBlock addr count) c span all = all
+
+all_with : (recs : List WideRec) (c : Content) → AllByRecursion HasSpan recs → AllByRecursion IsKept c.hists → AllByRecursion IsKept (with_records recs c).hists
+all_with [] c spans all = all
+all_with (r ∷ recs) c spans all = all_with recs (with_record r c) spans.1 (kept_with r c spans.0 all)
+
+pub hists_kept : (recs : List WideRec) → All HasSpan recs → AllByRecursion IsKept (content_of recs).hists
+hists_kept recs spans =
+    subst (λ (c : Content). AllByRecursion IsKept c.hists) (sym (content_is_added recs)) (all_with recs empty_content (recursion_from_All HasSpan recs spans) tt)

@@ -1,7 +1,8 @@
 -- What follows from the definition of a sum.
 use Rattle.std.specs.Prelude.{◌≡◌, ◌++◌, List, None}
-use Rattle.std.specs.List.{All}
+use Rattle.std.specs.List.{All, AllByRecursion}
 use Rattle.gmon_data.specs.Content.{WideRec, conflict_of, content_of, empty_content, HasSpan}
+use Rattle.gmon_data.specs.Hists.{IsKept}
 use Rattle.profile_sum.specs.Sum.{clash_of, sum_of}
 
 -- records can be split between two profiles: where they have no conflict one after the other, what any
@@ -12,3 +13,7 @@ PartsHaveSum = (a b : List WideRec) → All HasSpan (a ++ b) → conflict_of emp
 -- the sum of the contents of two lists of records is the content of the one list followed by the other
 abbrev pub SumOfContents : Type 0
 SumOfContents = (a b : List WideRec) → sum_of (content_of a) (content_of b) ≡ content_of (a ++ b)
+
+-- each histogram of what records add up to has a range and counters, whether the records are alike or not
+abbrev pub HistsAreKept : Type 0
+HistsAreKept = (recs : List WideRec) → All HasSpan recs → AllByRecursion IsKept (content_of recs).hists
