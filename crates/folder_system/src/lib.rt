@@ -5,6 +5,7 @@
 pub mod beside;
 pub mod folder;
 pub mod kinds;
+pub mod laws;
 pub mod mem_folder;
 pub mod place;
 pub mod system;
