@@ -1,12 +1,14 @@
 """An interpreter of RV32IM programs with the profiling runtime, and all that is said of a run.
 
 It was written from docs/MACHINE.md, docs/FORMATS.md and the RISC-V manual, and shares nothing with the crates. What a
-program file or words are refused for isn't here. tools/second-opinion compares it with the built program.
+program file or words are refused for isn't here. tools/checks/second-opinion compares it with the built program.
 """
 
 import collections
 import itertools
 import struct
+
+from profiles import GNU, bsd, gnu_arcs, gnu_blocks, gnu_hist
 
 MASK = 0xFFFFFFFF
 STACK, STACKS = 262_144, 2_097_152
@@ -436,17 +438,13 @@ class Machine:
 
     def bsd_file(self):
         r = self.runtime
-        head = struct.pack("<5I12x", r.low, r.high, 32 + 2 * len(r.counters), 0x51879, self.options["rate"])
-        return head + struct.pack(f"<{len(r.counters)}H", *r.counters) + b"".join(struct.pack("<3I", *arc) for arc in r.arcs())
+        return bsd(r.low, r.high, r.counters, r.arcs(), self.options["rate"])
 
     def gnu_file(self, has_blocks):
-        r, n = self.runtime, len(self.runtime.counters)
-        text = struct.pack("<4sI12xB4I15sc", b"gmon", 1, 0, r.low, r.high, n, self.options["rate"], b"seconds", b"s")
-        text += struct.pack(f"<{n}H", *r.counters) + b"".join(struct.pack("<B3I", 1, *arc) for arc in r.arcs())
+        r = self.runtime
         pairs = sorted(pair for pair in self.executed.items() if r.low <= pair[0] < r.high)
-        if has_blocks and pairs:
-            text += struct.pack("<BI", 2, len(pairs)) + b"".join(struct.pack("<II", *pair) for pair in pairs)
-        return text
+        blocks = gnu_blocks(pairs) if has_blocks and pairs else b""
+        return GNU + gnu_hist(r.low, r.high, r.counters, self.options["rate"]) + gnu_arcs(r.arcs()) + blocks
 
     def stack_functions(self):
         """Each stack as numbers of functions, -1 for none, with its samples."""
