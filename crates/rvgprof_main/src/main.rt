@@ -1,9 +1,8 @@
 //! The program: the words of the command line, the system as a host, and the exit status.
 #![tactic(auto)]
 
-mod beside;
 pub mod laws;
-mod real_system;
+mod real_folder;
 
 ghost use Rattle.std.specs.Prelude.{◌≡◌, false, map, string_bytes};
 ghost use Rattle.std.specs.IoError.{error_kind};
@@ -11,7 +10,7 @@ ghost use Rattle.std.specs.Process.{exit_status};
 ghost use Rattle.rvgprof_main.specs.Exit.{EndsWith, status_of_answer, status_without_words as status_without};
 
 use host_port::Host;
-use real_system::RealSystem;
+use real_folder::real_system;
 use rvgprof::{Done, Fault, rvgprof};
 use std::alloc::Global;
 use std::fs::File;
@@ -32,11 +31,13 @@ const NO_WORDS: u8 = 12;
 fn main(rt: HostRuntime) -> ExitCode {
     let _held = (held(&rt), held(&rt), held(&rt));
     match words_of(&rt) {
-        Ok(words) => carry_out(
-            rt.alloc(),
-            words.as_slice(),
-            &mut SystemHost::new(RealSystem::new(rt)),
-        ),
+        Ok(words) => {
+            let alloc = rt.alloc();
+            match real_system(rt) {
+                Ok(system) => carry_out(alloc, words.as_slice(), &mut SystemHost::new(system)),
+                Err(_) => ExitCode::from(NO_MEMORY),
+            }
+        }
         Err(e) => ExitCode::from(status_without_words(&e)),
     }
 }

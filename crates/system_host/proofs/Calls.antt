@@ -152,21 +152,23 @@ not_writing : (output : Option (List ℕ)) (d : Disk) → is_some (disk_with out
 not_writing None d none = refl
 not_writing (Some held) d none = nothing_held held d.writing d.files none
 
-created : (name : List ℕ) (disk now : Option Disk) (output : Option (List ℕ)) (bytes : List ℕ) → writes_with output disk ≡ false → now ≡ option_map (disk_after (Create name ∷ [])) disk → IfSome disk (λ _. bytes ≡ [])
+created : (name : List ℕ) (disk now : Option Disk) (output : Option (List ℕ)) (bytes : List ℕ) → writes_with output disk ≡ false → Becomes (disk_after (Create name ∷ [])) disk now → IfSome now (λ _. bytes ≡ [])
     → Becomes (disk_after (Create name ∷ [])) (option_map (disk_with output) disk) (option_map (disk_with (Some bytes)) now)
-created name None now output bytes none is empty = subst (λ (o : Option Disk). Becomes (disk_after (Create name ∷ [])) None (option_map (disk_with (Some bytes)) o)) (sym is) tt
-created name (Some d) now output bytes none is empty =
+created name disk None output bytes none is empty = tt
+created name None (Some n) output bytes none is empty = absurd cc
+created name (Some d) (Some n) output bytes none is empty =
     let files : with_file name [] (disk_with output d).files ≡ with_more name bytes (with_file name [] d.files) =
     ap (with_file name []) (not_writing output d none) ∙ sym (with_more-none name (with_file name [] d.files)) ∙ ap (λ (v : List ℕ). with_more name v (with_file name [] d.files)) (sym empty) in
-    subst (λ (o : Option Disk). Becomes (disk_after (Create name ∷ [])) (Some (disk_with output d)) (option_map (disk_with (Some bytes)) o)) (sym is)
+    subst (λ (o : Option Disk). Becomes (disk_after (Create name ∷ [])) (Some (disk_with output d)) (option_map (disk_with (Some bytes)) o)) is
     (ap (λ (fs : List File). Some (record { files = fs; writing = Some name })) files)
 
-begins : (name : List ℕ) (disk now : Option Disk) (bytes : List ℕ) → now ≡ option_map (disk_after (Create name ∷ [])) disk → writes_with (Some bytes) now ≡ true
-begins name None now bytes is = ap (writes_with (Some bytes)) is
-begins name (Some d) now bytes is = ap (writes_with (Some bytes)) is
+begins : (name : List ℕ) (disk now : Option Disk) (bytes : List ℕ) → Becomes (disk_after (Create name ∷ [])) disk now → writes_with (Some bytes) now ≡ true
+begins name disk None bytes is = refl
+begins name None (Some n) bytes is = absurd cc
+begins name (Some d) (Some n) bytes is = ap (writes_with (Some bytes)) (sym is)
 
 creates : (name : List ℕ) (s : Seen) (disk : Option Disk) (out err : Option (List ℕ)) (bytes : List ℕ) (changes : ℕ) (last : Bool) → writes_with s.output s.disk ≡ false
-    → disk ≡ option_map (disk_after (Create name ∷ [])) s.disk → IfSome s.disk (λ _. bytes ≡ []) → out ≡ s.out → err ≡ s.err → changes ≡ next_count s.file_changes
+    → Becomes (disk_after (Create name ∷ [])) s.disk disk → IfSome disk (λ _. bytes ≡ []) → out ≡ s.out → err ≡ s.err → changes ≡ next_count s.file_changes
     → Creates {T = ⊤} {E = Failed} name (outside_of s) (outside_of (record s { disk = disk; out = out; err = err; input = None; output = Some bytes; file_changes = changes; last_failed = last })) (Ok tt)
 creates name s disk out err bytes changes last none is empty same_out same_err counted =
     let nothing = Did-nothing (outside_of s) in
@@ -185,7 +187,7 @@ creates name s disk out err bytes changes last none is empty same_out same_err c
 
 -- ---- the calls at what the host shows, where its system tells of its files as it tells of the one that is open
 
-pub moves_seen : {T : Type 0} {s v : Seen} (tells : T → Option (List ℕ)) (old new : Option T) (before after : List ℕ) (at_end : Bool) (faults n : ℕ) (last : Bool) → s ≡ v → s.input ≡ shown tells old → ((t : T) → is_some (tells t) ≡ is_some s.disk)
+pub moves_seen : {T : Type 0} {s v : Seen} (tells : T → Option (List ℕ)) (old new : Option T) (before after : List ℕ) (at_end : Bool) (faults n : ℕ) (last : Bool) → s ≡ v → s.input ≡ shown tells old → ((t : T) → is_some s.disk ≡ true → is_some (tells t) ≡ true)
     → is_some new ≡ is_some old → Gave (told_by tells old) (told_by tells new) after (Some n) → at_end ≡ (n == 0) → length after ≡ length before → n ≤ length after → 0 < length before → (outside_of v).is_open ≡ true
     → Moves {E = Failed} before after (outside_of v) (outside_of (record s { input = shown tells new; at_end = at_end; read_faults = faults; last_failed = last })) (Ok n)
 moves_seen {s = s} tells old new before after at_end faults n last is_seen input_is law same gave ends len fits room is_open =
@@ -194,14 +196,14 @@ moves_seen {s = s} tells old new before after at_end faults n last is_seen input
     let told = where_told s.disk (Gives s.input (shown tells new) after n) (λ is. subst (λ (i : Option (List ℕ)). Gives i (shown tells new) after n) (sym input_is) (gives tells (is_some s.disk) old new after n law is same gave)) in
     rw (sym is_seen) (moves before after s (shown tells new) at_end faults n last ends len fits room open_before still_open told)
 
-pub moves_none_seen : {T : Type 0} {s v : Seen} (tells : T → Option (List ℕ)) (old new : Option T) (before after : List ℕ) (faults : ℕ) (last : Bool) (failed : Failed) → s ≡ v → s.input ≡ shown tells old → ((t : T) → is_some (tells t) ≡ is_some s.disk)
+pub moves_none_seen : {T : Type 0} {s v : Seen} (tells : T → Option (List ℕ)) (old new : Option T) (before after : List ℕ) (faults : ℕ) (last : Bool) (failed : Failed) → s ≡ v → s.input ≡ shown tells old → ((t : T) → is_some s.disk ≡ true → is_some (tells t) ≡ true)
     → is_some new ≡ is_some old → Gave (told_by tells old) (told_by tells new) after None
     → Moves {E = Failed} before after (outside_of v) (outside_of (record s { input = shown tells new; read_faults = faults; last_failed = last })) (Err failed)
 moves_none_seen {s = s} tells old new before after faults last failed is_seen input_is law same kept =
     let told = where_told s.disk (shown tells new ≡ s.input) (λ is. keeps tells (is_some s.disk) old new law is same kept ∙ sym input_is) in
     rw (sym is_seen) (moves_none before after s (shown tells new) faults last failed told)
 
-pub takes_seen : {T : Type 0} {s v : Seen} (tells : T → Option (List ℕ)) (old new : Option T) (piece : List ℕ) (faults n : ℕ) (last : Bool) → s ≡ v → s.output ≡ shown tells old → ((t : T) → is_some (tells t) ≡ is_some s.disk)
+pub takes_seen : {T : Type 0} {s v : Seen} (tells : T → Option (List ℕ)) (old new : Option T) (piece : List ℕ) (faults n : ℕ) (last : Bool) → s ≡ v → s.output ≡ shown tells old → ((t : T) → is_some s.disk ≡ true → is_some (tells t) ≡ true)
     → is_some new ≡ is_some old → Took (told_by tells old) (told_by tells new) piece (Some n) → 1 ≤ n → n ≤ length piece → (outside_of v).is_writing ≡ true
     → Takes {E = Failed} (λ bytes. Write bytes) piece (outside_of v) (outside_of (record s { output = shown tells new; write_faults = faults; last_failed = last })) (Ok n)
 takes_seen {s = s} tells old new piece faults n last is_seen output_is law same took some fits is_writing =
@@ -210,7 +212,7 @@ takes_seen {s = s} tells old new piece faults n last is_seen output_is law same 
     let told = where_told s.disk (Grows s.output (shown tells new) (take n piece)) (λ is. subst (λ (o : Option (List ℕ)). Grows o (shown tells new) (take n piece)) (sym output_is) (grows tells (is_some s.disk) old new (take n piece) law is same took)) in
     rw (sym is_seen) (takes piece s (shown tells new) faults n last some fits still_open writes told)
 
-pub takes_none_seen : {T : Type 0} {s v : Seen} (tells : T → Option (List ℕ)) (old new : Option T) (piece : List ℕ) (faults : ℕ) (last : Bool) (failed : Failed) → s ≡ v → s.output ≡ shown tells old → ((t : T) → is_some (tells t) ≡ is_some s.disk)
+pub takes_none_seen : {T : Type 0} {s v : Seen} (tells : T → Option (List ℕ)) (old new : Option T) (piece : List ℕ) (faults : ℕ) (last : Bool) (failed : Failed) → s ≡ v → s.output ≡ shown tells old → ((t : T) → is_some s.disk ≡ true → is_some (tells t) ≡ true)
     → is_some new ≡ is_some old → Took (told_by tells old) (told_by tells new) piece None
     → Takes {E = Failed} (λ bytes. Write bytes) piece (outside_of v) (outside_of (record s { output = shown tells new; write_faults = faults; last_failed = last })) (Err failed)
 takes_none_seen {s = s} tells old new piece faults last failed is_seen output_is law same kept =
@@ -219,7 +221,7 @@ takes_none_seen {s = s} tells old new piece faults last failed is_seen output_is
     rw (sym is_seen) (takes_none piece s (shown tells new) faults last failed still_open told)
 
 pub creates_seen : {s v : Seen} (name : List ℕ) (disk : Option Disk) (out err : Option (List ℕ)) (bytes : List ℕ) (changes : ℕ) (last : Bool) → s ≡ v → (outside_of v).is_writing ≡ false
-    → disk ≡ option_map (disk_after (Create name ∷ [])) s.disk → IfSome s.disk (λ _. bytes ≡ []) → out ≡ s.out → err ≡ s.err → changes ≡ next_count s.file_changes
+    → Becomes (disk_after (Create name ∷ [])) s.disk disk → IfSome disk (λ _. bytes ≡ []) → out ≡ s.out → err ≡ s.err → changes ≡ next_count s.file_changes
     → Creates {T = ⊤} {E = Failed} name (outside_of v) (outside_of (record s { disk = disk; out = out; err = err; input = None; output = Some bytes; file_changes = changes; last_failed = last })) (Ok tt)
 creates_seen {s = s} name disk out err bytes changes last is_seen not_writing_yet is empty same_out same_err counted =
     let none : writes_with s.output s.disk ≡ false = ap (λ (m : Seen). writes_with m.output m.disk) is_seen ∙ not_writing_yet in

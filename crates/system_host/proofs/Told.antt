@@ -27,34 +27,34 @@ gives_told None new buf n told still gave = absurd cc
 gives_told (Some rest) None buf n told still gave = absurd cc
 gives_told (Some rest) (Some left) buf n told still gave = gave
 
-pub gives : {T : Type 0} (tells : T → Option (List ℕ)) (told : Bool) (old new : Option T) (buf : List ℕ) (n : ℕ) → ((t : T) → is_some (tells t) ≡ told) → told ≡ true → is_some new ≡ is_some old
+pub gives : {T : Type 0} (tells : T → Option (List ℕ)) (told : Bool) (old new : Option T) (buf : List ℕ) (n : ℕ) → ((t : T) → told ≡ true → is_some (tells t) ≡ true) → told ≡ true → is_some new ≡ is_some old
     → Gave (told_by tells old) (told_by tells new) buf (Some n) → Gives (shown tells old) (shown tells new) buf n
 gives tells told None new buf n law is same gave = tt
 gives tells told (Some a) None buf n law is same gave = absurd cc
-gives tells told (Some a) (Some b) buf n law is same gave = gives_told (tells a) (tells b) buf n (law a ∙ is) (law b ∙ is) gave
+gives tells told (Some a) (Some b) buf n law is same gave = gives_told (tells a) (tells b) buf n (law a is) (law b is) gave
 
 keeps_told : (old new : Option (List ℕ)) → is_some old ≡ true → Keeps old new → Some (bytes_of new) ≡ Some (bytes_of old)
 keeps_told None new told kept = absurd cc
 keeps_told (Some rest) None told kept = absurd kept
 keeps_told (Some rest) (Some left) told kept = ap (λ (bytes : List ℕ). Some bytes) kept
 
-pub keeps : {T : Type 0} (tells : T → Option (List ℕ)) (told : Bool) (old new : Option T) → ((t : T) → is_some (tells t) ≡ told) → told ≡ true → is_some new ≡ is_some old
+pub keeps : {T : Type 0} (tells : T → Option (List ℕ)) (told : Bool) (old new : Option T) → ((t : T) → told ≡ true → is_some (tells t) ≡ true) → told ≡ true → is_some new ≡ is_some old
     → Keeps (told_by tells old) (told_by tells new) → shown tells new ≡ shown tells old
 keeps tells told None None law is same kept = refl
 keeps tells told None (Some b) law is same kept = absurd cc
 keeps tells told (Some a) None law is same kept = absurd cc
-keeps tells told (Some a) (Some b) law is same kept = keeps_told (tells a) (tells b) (law a ∙ is) kept
+keeps tells told (Some a) (Some b) law is same kept = keeps_told (tells a) (tells b) (law a is) kept
 
 grows_told : (old new : Option (List ℕ)) (bytes : List ℕ) → is_some old ≡ true → Appends old new bytes → Grows (Some (bytes_of old)) (Some (bytes_of new)) bytes
 grows_told None new bytes told took = absurd cc
 grows_told (Some held) None bytes told took = absurd took
 grows_told (Some held) (Some now) bytes told took = took
 
-pub grows : {T : Type 0} (tells : T → Option (List ℕ)) (told : Bool) (old new : Option T) (bytes : List ℕ) → ((t : T) → is_some (tells t) ≡ told) → told ≡ true → is_some new ≡ is_some old
+pub grows : {T : Type 0} (tells : T → Option (List ℕ)) (told : Bool) (old new : Option T) (bytes : List ℕ) → ((t : T) → told ≡ true → is_some (tells t) ≡ true) → told ≡ true → is_some new ≡ is_some old
     → Appends (told_by tells old) (told_by tells new) bytes → Grows (shown tells old) (shown tells new) bytes
 grows tells told None new bytes law is same took = tt
 grows tells told (Some a) None bytes law is same took = absurd cc
-grows tells told (Some a) (Some b) bytes law is same took = grows_told (tells a) (tells b) bytes (law a ∙ is) took
+grows tells told (Some a) (Some b) bytes law is same took = grows_told (tells a) (tells b) bytes (law a is) took
 
 no_bytes : (front back : List ℕ) → front ++ back ≡ [] → front ≡ []
 no_bytes [] back e = refl

@@ -149,6 +149,7 @@ impl<S: System + Drop> Host for SystemHost<S> {
 
     fn create_output(&mut self, name: &str) -> Result<(), Failed> {
         self.input = None;
+        self.output = None;
         self.last_failed = false;
         match self.system.create(name) {
             Ok(output) => {

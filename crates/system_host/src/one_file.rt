@@ -3,6 +3,7 @@
 ghost use Rattle.std.specs.Prelude.{◌≡◌, [], ◌∷◌, Option, Some, option_map, is_some, refl, string_bytes, IfOk, IfSome, OnOk, OnErr, false, true};
 ghost use Rattle.std.specs.Io.{WritesAtMost};
 ghost use Rattle.host_port.specs.Act.{Create, Write as Put, Close, disk_after, file_content};
+ghost use Rattle.host_port.specs.Outside.{Becomes};
 ghost use Rattle.system_host.specs.Told.{bytes_of, Prints};
 ghost use Rattle.system_host.specs.OneFile.{disk_of};
 ghost use Rattle.std.specs.Io.Cursor.{cursor_remaining};
@@ -91,9 +92,9 @@ impl System for OneFile {
 
     ghost last_close = { λ _. Some true };
 
-    ghost told_inputs = { λ s input. refl };
+    ghost told_inputs = { λ s input told. refl };
 
-    ghost told_outputs = { λ s output. refl };
+    ghost told_outputs = { λ s output told. refl };
 
     fn open(&self, name: &str) -> io::Result<Cursor<Vec<u8>>> {
         if self.name.as_str() != name {

@@ -1,8 +1,9 @@
 //! What is asked of the system: each method is one call.
 
-ghost use Rattle.std.specs.Prelude.{◌≡◌, ℕ, List, [], ◌∷◌, Bool, Option, is_ok, is_some, option_map, IfOk, IfSome, OnOk, OnErr};
+ghost use Rattle.std.specs.Prelude.{◌≡◌, ℕ, List, [], ◌∷◌, Bool, true, Option, is_ok, is_some, option_map, IfOk, IfSome, OnOk, OnErr};
 ghost use Rattle.std.specs.Io.{WritesAtMost};
 ghost use Rattle.host_port.specs.Act.{Disk, Create, Write as Put, Close, disk_after, file_content};
+ghost use Rattle.host_port.specs.Outside.{Becomes};
 ghost use Rattle.system_host.specs.Told.{bytes_of, Prints};
 
 use std::io;
@@ -11,9 +12,10 @@ use std::io::{Read, Write};
 /// The files, the output and the error output of a system.
 ///
 /// Contracts see what a system tells of them: its files with the name of the one that is being written,
-/// what was printed on each output, and whether the last close succeeded. A system that tells its files
-/// tells what is left of each input and what was written to each output, and one that doesn't tells
-/// neither. The bytes that were written are in the file once it is closed.
+/// what was printed on each output, and whether the last close succeeded. It may stop telling its files at
+/// any call that makes or closes one, and then never tells them again. While it tells them it tells what is
+/// left of each input and what was written to each output. The bytes that were written are in the file once
+/// it is closed.
 pub trait System {
     type Input: Read + Drop;
 
@@ -34,19 +36,19 @@ pub trait System {
 
     /// Makes the named file empty, and opens it to be written.
     fn create(&mut self, name: &str) -> io::Result<Self::Output>
-        ensures done { OnOk result (disk self.new
-            ≡ option_map (disk_after (Create name.now ∷ [])) (disk self.old)) }
-        ensures failed { OnErr result (disk self.new ≡ disk self.old) }
-        ensures empty { IfOk result (λ output. IfSome (disk self.old)
+        ensures done { OnOk result
+            (Becomes (disk_after (Create name.now ∷ [])) (disk self.old) (disk self.new)) }
+        ensures failed { OnErr result (Becomes (disk_after []) (disk self.old) (disk self.new)) }
+        ensures empty { IfOk result (λ output. IfSome (disk self.new)
             (λ _. bytes_of (Self.Output.contents output) ≡ [])) }
         ensures out { printed self.new ≡ printed self.old }
         ensures err { complained self.new ≡ complained self.old };
 
     /// Ends the writing, also where it answers an error.
     fn close(&mut self, output: Self::Output) -> io::Result<()>
-        ensures done { disk self.new ≡ option_map
+        ensures done { Becomes
             (disk_after (Put (bytes_of (Self.Output.contents output)) ∷ Close ∷ []))
-            (disk self.old) }
+            (disk self.old) (disk self.new) }
         ensures told { IfSome (last_close self.new) (λ succeeded. succeeded ≡ is_ok result) }
         ensures out { printed self.new ≡ printed self.old }
         ensures err { complained self.new ≡ complained self.old };
@@ -65,11 +67,11 @@ pub trait System {
         ensures err { Prints (complained self.old) (complained self.new) piece.now result }
         ensures disk { disk self.new ≡ disk self.old };
 
-    /// What is left of an input is told exactly where the files are.
-    ghost told_inputs: { (s : Self) (input : Self.Input) →
-        is_some (Self.Input.remaining input) ≡ is_some (disk s) };
+    /// What is left of an input is told where the files are.
+    ghost told_inputs: { (s : Self) (input : Self.Input) → is_some (disk s) ≡ true →
+        is_some (Self.Input.remaining input) ≡ true };
 
-    /// What was written to an output is told exactly where the files are.
-    ghost told_outputs: { (s : Self) (output : Self.Output) →
-        is_some (Self.Output.contents output) ≡ is_some (disk s) };
+    /// What was written to an output is told where the files are.
+    ghost told_outputs: { (s : Self) (output : Self.Output) → is_some (disk s) ≡ true →
+        is_some (Self.Output.contents output) ≡ true };
 }

@@ -4,7 +4,7 @@ ghost use Rattle.std.specs.Prelude.{◌≡◌, false};
 ghost use Rattle.system_host.specs.Seen.{outside_of};
 
 use super::words_from;
-use crate::real_system::RealSystem;
+use crate::real_folder::{RealSystem, real_system};
 use crate::status_of;
 use host_port::{Host, write_all_of};
 use rvgprof::rvgprof;
@@ -35,7 +35,7 @@ fn status(
 #[test]
 fn a_file_that_was_written_is_shown(rt: HostRuntime) -> Result<(), Fail> {
     let alloc = rt.alloc();
-    let mut host = SystemHost::new(RealSystem::new(rt));
+    let mut host = SystemHost::new(real_system(rt)?);
     host.create_output("written.gmon").map_err(|_| "created")?;
     write_all_of(&mut host, &EMPTY).map_err(|_| "written")?;
     host.close_output().map_err(|_| "closed")?;

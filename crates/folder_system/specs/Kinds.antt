@@ -1,0 +1,19 @@
+-- What the kinds of errors say.
+use Rattle.std.specs.Prelude.{Bool, true, false}
+use Rattle.std.specs.declared.io.ErrorKind.{ErrorKind}
+use Rattle.std.specs.declared.io.ErrorKind.TheVariants.{PermissionDenied, ReadOnlyFilesystem, InvalidFilename, InvalidInput, Unsupported}
+
+-- no file can be made beside another, or not one like it
+abbrev pub is_barring : ErrorKind → Bool
+is_barring PermissionDenied = true
+is_barring ReadOnlyFilesystem = true
+is_barring InvalidFilename = true
+is_barring InvalidInput = true
+is_barring Unsupported = true
+is_barring _ = false
+
+-- there is nothing to sync
+abbrev pub is_no_sync : ErrorKind → Bool
+is_no_sync InvalidInput = true
+is_no_sync Unsupported = true
+is_no_sync _ = false

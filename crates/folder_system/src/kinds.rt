@@ -1,0 +1,31 @@
+//! What the kinds of errors say.
+
+ghost use Rattle.std.specs.Prelude.{◌≡◌};
+ghost use Rattle.folder_system.specs.Kinds.{is_barring, is_no_sync};
+
+use std::io::ErrorKind;
+
+/// Whether an error of this kind says that no file can be made beside another, or not one like it. Want of
+/// memory or room isn't such a kind.
+pub fn bars(kind: ErrorKind) -> bool
+    ensures { result ≡ is_barring kind }
+{
+    match kind {
+        ErrorKind::PermissionDenied
+        | ErrorKind::ReadOnlyFilesystem
+        | ErrorKind::InvalidFilename
+        | ErrorKind::InvalidInput
+        | ErrorKind::Unsupported => true,
+        _ => false,
+    }
+}
+
+/// Whether an error of this kind says that there is nothing to sync, as for a pipe or a terminal.
+pub fn cannot_sync(kind: ErrorKind) -> bool
+    ensures { result ≡ is_no_sync kind }
+{
+    match kind {
+        ErrorKind::InvalidInput | ErrorKind::Unsupported => true,
+        _ => false,
+    }
+}

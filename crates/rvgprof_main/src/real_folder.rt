@@ -1,0 +1,126 @@
+//! The folders and the outputs of the system, by calls of std.
+
+ghost use Rattle.std.specs.Prelude.{None};
+ghost use Rattle.std.specs.Io.{WritesAtMost};
+
+use folder_system::{Folder, FolderSystem, Found, Kept, Printer};
+use std::alloc::AllocError;
+use std::fs::{File, OpenOptions, Permissions};
+use std::io::{ErrorKind, Write};
+use std::os::fd::AsFd;
+use std::os::unix::fs::{MetadataExt, OpenOptionsExt, PermissionsExt, fchown};
+use std::{fs, io};
+
+/// The system.
+pub type RealSystem = FolderSystem<RealFolder, RealPrinter>;
+
+pub fn real_system(rt: HostRuntime) -> Result<RealSystem, AllocError> {
+    let printer = RealPrinter { rt: rt.clone()? };
+    Ok(FolderSystem::new(rt.alloc(), RealFolder { rt }, printer))
+}
+
+/// The files of the system. It tells nothing.
+#[derive(Drop)]
+pub struct RealFolder {
+    rt: HostRuntime,
+}
+
+impl Folder for RealFolder {
+    type Input = File;
+
+    type Output = File;
+
+    ghost told = { λ _. None };
+
+    ghost told_inputs = { λ f input told. Prim.cc };
+
+    ghost told_outputs = { λ f output told. Prim.cc };
+
+    fn open(&self, name: &str) -> io::Result<File> {
+        fs::open(&self.rt, name)
+    }
+
+    fn look(&mut self, name: &str) -> io::Result<Found> {
+        match fs::symlink_metadata(&self.rt, name) {
+            Ok(data) if data.is_file() => Ok(Found::File(Kept {
+                mode: data.mode(),
+                owner: data.uid(),
+                group: data.gid(),
+                links: data.nlink(),
+            })),
+            Ok(_) => Ok(Found::Other),
+            Err(e) if e.kind() == ErrorKind::NotFound => Ok(Found::Nothing),
+            Err(e) => Err(e),
+        }
+    }
+
+    fn try_open(&mut self, name: &str) -> io::Result<()> {
+        File::options().write(true).open(&self.rt, name)?;
+        Ok(())
+    }
+
+    fn create_new(&mut self, name: &str, mode: u32) -> io::Result<File> {
+        OpenOptions::new()
+            .write(true)
+            .create_new(true)
+            .mode(mode)
+            .open(&self.rt, name)
+    }
+
+    fn set_owner(&mut self, output: &File, owner: u32, group: u32) -> io::Result<()> {
+        fchown(output.as_fd(), Some(owner), Some(group))
+    }
+
+    fn set_mode(&mut self, output: &File, mode: u32) -> io::Result<()> {
+        output.set_permissions(Permissions::from_mode(mode))
+    }
+
+    fn open_over(&mut self, name: &str) -> io::Result<File> {
+        fs::create(&self.rt, name)
+    }
+
+    fn sync(&mut self, _name: &str, output: &File) -> io::Result<()> {
+        output.sync_all()
+    }
+
+    fn rename(&mut self, from: &str, to: &str) -> io::Result<()> {
+        fs::rename(&self.rt, from, to)
+    }
+
+    fn remove(&mut self, name: &str) -> io::Result<()> {
+        fs::remove_file(&self.rt, name)
+    }
+
+    fn sync_names(&mut self, name: &str) -> io::Result<()> {
+        fs::open(&self.rt, folder_of(name))?.sync_all()
+    }
+}
+
+/// The folder that a name is in.
+fn folder_of(name: &str) -> &str {
+    match name.rsplit_once('/') {
+        None => ".",
+        Some(("", _)) => "/",
+        Some((folder, _)) => folder,
+    }
+}
+
+/// Both outputs of the system. It tells nothing.
+#[derive(Drop)]
+pub struct RealPrinter {
+    rt: HostRuntime,
+}
+
+impl Printer for RealPrinter {
+    ghost printed = { λ _. None };
+
+    ghost complained = { λ _. None };
+
+    fn out(&mut self, piece: &[u8]) -> io::Result<usize> {
+        self.rt.stdout().write(piece)
+    }
+
+    fn err(&mut self, piece: &[u8]) -> io::Result<usize> {
+        self.rt.stderr().write(piece)
+    }
+}
