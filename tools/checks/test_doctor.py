@@ -43,8 +43,8 @@ class Names(unittest.TestCase):
     """What `syms` prints."""
 
     def test_functions(self):
-        found = [(function.low, function.high, function.name) for function in doctor.functions_of(SYMS)]
-        self.assertEqual(found, [(LOW, LOW + 16, b"main"), (LOW + 16, LOW + 24, b"_mcount"), (LOW + 24, LOW + 32, b"f")])
+        found = [(function.low - LOW, function.high - LOW, function.name) for function in doctor.functions_of(SYMS)]
+        self.assertEqual(found, [(0, 16, b"main"), (16, 24, b"_mcount"), (24, 32, b"f")])
 
     def test_names_of_any_bytes(self):
         lines = HEAD + b"00010000 16 a\n00010004 4 b\n00010010 16 \xff;\n"
@@ -93,8 +93,9 @@ class Files(unittest.TestCase):
 
     def test_refusals(self):
         """Each refusal that docs/FORMATS.md has gets a line and a remedy."""
-        texts = ["short 3", "magic", "class 2", "class 9", "order 2", "kind 1", "kind 3", "kind 4", "kind 9", "machine 62", "flags 1",
-                 "flags 8", "flags 9", "table size 31", "out of file 9", "text range 0 0", "text range 65536 99999999", "link 3", "too many symbols 65537"]
+        texts = ["short 3", "magic", "class 2", "class 9", "order 2", "kind 1", "kind 3", "kind 4", "kind 9"]
+        texts += ["machine 62", "flags 1", "flags 8", "flags 9", "table size 31", "out of file 9", "text range 0 0"]
+        texts += ["text range 65536 99999999", "link 3", "too many symbols 65537"]
         lines = [doctor.refusal_finding(text, b"\x7fELF") for text in texts]
         self.assertTrue(all(line.what and line.remedy for line in lines))
         self.assertIn("95.3 MiB", lines[16].what)
@@ -103,9 +104,11 @@ class Files(unittest.TestCase):
 
     def test_profiles_of_64_bits(self):
         bsd = struct.pack("<QQIII", LOW, LOW + 64, 100, 0x51879, 100)
-        gnu = b"gmon" + struct.pack("<I", 1) + bytes(13) + struct.pack("<QQII", LOW, LOW + 64, 16, 100)
-        narrow = b"gmon" + struct.pack("<I", 1) + bytes(13) + struct.pack("<IIII", LOW, LOW + 64, 16, 100) + b"seconds" + bytes(8) + b"s"
-        self.assertEqual(list(map(doctor.is_of_64_bits, (bsd, gnu, narrow, b"", b"gmon", bytes(64)))), [True, True] + [False] * 4)
+        head = b"gmon" + struct.pack("<I", 1) + bytes(13)
+        gnu = head + struct.pack("<QQII", LOW, LOW + 64, 16, 100)
+        narrow = head + struct.pack("<IIII", LOW, LOW + 64, 16, 100) + b"seconds" + bytes(8) + b"s"
+        wide = [doctor.is_of_64_bits(content) for content in (bsd, gnu, narrow, b"", b"gmon", bytes(64))]
+        self.assertEqual(wide, [True, True] + [False] * 4)
         self.assertEqual(list(map(doctor.looks_like_profile, (bsd, gnu, b"", b"\x7fELF"))), [True, True, False, False])
 
 
@@ -113,10 +116,12 @@ class Instructions(unittest.TestCase):
     """What a word is and does."""
 
     def test_jumps(self):
-        self.assertEqual([doctor.jump_of(word) for word in (0x6F, 0x008000EF, 0xFE1FF0EF, 0x7FFFF06F)], [0, 8, -32, 0xFFFFE])
+        far = [doctor.jump_of(word) for word in (0x6F, 0x008000EF, 0xFE1FF0EF, 0x7FFFF06F)]
+        self.assertEqual(far, [0, 8, -32, 0xFFFFE])
 
     def test_calls(self):
-        self.assertEqual([doctor.calls(word) for word in (0x008000EF, 0x000780E7, 0x6F, 0x8067, 0x13, 0x008002EF)], [True, True] + [False] * 4)
+        words = (0x008000EF, 0x000780E7, 0x6F, 0x8067, 0x13, 0x008002EF)
+        self.assertEqual(list(map(doctor.calls, words)), [True, True] + [False] * 4)
 
     def test_targets(self):
         program = program_of([0x018000EF, 0x00000097, 0x014080E7, 0x000780E7, 0x13, 0x13, 0x13, 0x13])
@@ -131,18 +136,28 @@ class Instructions(unittest.TestCase):
             self.assertIsNone(doctor.value_before(program_of([unknown, access]), LOW + 4, 15))
 
     def test_kinds(self):
-        rows = {0: "no code", 0x8082: "compressed", 0xF1402573: "a CSR", 0x30200073: "privileged", 0x10500073: "privileged",
-                0x00A5A02F: "an atomic", 0x00052007: "a float", 0x00B57553: "a float", 0x0C05F557: "of another", 0x28A5D533: "of another"}
+        rows = {0: "no code", 0x8082: "compressed", 0xF1402573: "a CSR"}
+        rows |= {0x30200073: "privileged", 0x10500073: "privileged"}
+        rows |= {0x00A5A02F: "an atomic", 0x00052007: "a float", 0x00B57553: "a float"}
+        rows |= {0x0C05F557: "of another", 0x28A5D533: "of another"}
         for word, kind in rows.items():
             self.assertTrue(doctor.kind_of(word)[0].startswith(kind), f"{word:08x}")
 
     def test_spelling(self):
-        self.assertEqual([doctor.spelled(word) for word in (0xFFC12083, 0xFEA12E23, 0x13)], ["lw x1, -4(x2)", "sw x10, -4(x2)", "00000013"])
+        words = [doctor.spelled(word) for word in (0xFFC12083, 0xFEA12E23, 0x13)]
+        self.assertEqual(words, ["lw x1, -4(x2)", "sw x10, -4(x2)", "00000013"])
 
     def test_references(self):
         jump, upper, lower = 0x0180006F, 0x00010537, 0x01850513
-        for words, refers in (([jump], True), ([upper, lower], True), ([LOW + 24], True), ([0x0140006F], False), ([lower, upper], False)):
-            self.assertEqual(doctor.is_referred_to(program_of(words + [0x13] * (8 - len(words))), LOW + 24), refers, words)
+        rows = [([jump], True), ([upper, lower], True), ([LOW + 24], True)]
+        rows += [([0x0140006F], False), ([lower, upper], False)]
+        rows.append(([upper, 0x00000513, lower], False))     # it is 0 in between
+        for words, refers in rows:
+            program = program_of(words + [0x13] * (8 - len(words)))
+            self.assertEqual(doctor.is_referred_to(program, LOW + 24), refers, words)
+
+
+HISTOGRAM = b"bsd low 00010000 high 00010020 counters 8 rate 100\n"
 
 
 def profile_of(text):
@@ -153,18 +168,21 @@ class Profiles(unittest.TestCase):
     """What `show` prints, and what follows."""
 
     def test_records(self):
-        profile = profile_of(b"gnu\nhist low 00010000 high 00010020 counters 8 rate 100 unit 73\ncount 00010004 7\narc 00010008 0001001c 3\n"
-                             b"arc 00010008 0001001c 4\nblocks 1\nblock 00010000 99\n")
-        self.assertEqual((profile.samples(), profile.widths[LOW + 4], dict(profile.arcs)), (7, 4, {(LOW + 8, LOW + 28): 7}))
+        profile = profile_of(
+            b"gnu\nhist low 00010000 high 00010020 counters 8 rate 100 unit 73\ncount 00010004 7\n"
+            b"arc 00010008 0001001c 3\narc 00010008 0001001c 4\nblocks 1\nblock 00010000 99\n"
+        )
+        self.assertEqual((profile.samples(), profile.widths[LOW + 4]), (7, 4))
+        self.assertEqual(dict(profile.arcs), {(LOW + 8, LOW + 28): 7})
         self.assertEqual((dict(profile.executions), profile.ranges), ({LOW: 99}, {(LOW, LOW + 32)}))
 
     def test_full_counters(self):
         for count, full in ((65535, [LOW]), (131070, [LOW]), (65534, []), (65536, [])):
-            self.assertEqual(profile_of(b"bsd low 00010000 high 00010020 counters 8 rate 100\ncount 00010000 %d\n" % count).full(), full)
+            self.assertEqual(profile_of(HISTOGRAM + b"count 00010000 %d\n" % count).full(), full)
 
     def test_sites(self):
-        head = b"bsd low 00010000 high 00010020 counters 8 rate 100\n"
-        self.assertEqual([profile_of(head + b"arc %08x 00010000 1\n" % site).sites_are_exact() for site in (LOW + 4, LOW + 8)], [True, False])
+        for site, exact in ((LOW + 4, True), (LOW + 8, False)):
+            self.assertEqual(profile_of(HISTOGRAM + b"arc %08x 00010000 1\n" % site).sites_are_exact(), exact)
 
     def test_shares(self):
         program = program_of([0x13] * 8)
@@ -173,17 +191,18 @@ class Profiles(unittest.TestCase):
 
     def test_ranges(self):
         program = program_of([0x13] * 8, SYMS.replace(b"text 00010000 00010020", b"text 00010004 0001001c"))
-        self.assertEqual(list(doctor.rounded_texts(program)), [(LOW + 4, LOW + 28), (LOW, LOW + 32), (LOW, LOW + 32), (LOW, LOW + 32)])
+        self.assertEqual(list(doctor.rounded_texts(program)), [(LOW + 4, LOW + 28)] + [(LOW, LOW + 32)] * 3)
 
     def test_room(self):
         self.assertEqual([doctor.entries_of(0, size) for size in (0, 2500, 5000, 1 << 24)], [49, 49, 99, 65533])
 
     def test_rates(self):
         def made(samples, arcs=3, executed=0):
-            lines = b"bsd low 00010000 high 00010020 counters 8 rate 100\ncount 00010000 %d\narc 00010008 0001001c %d\n" % (samples, arcs)
+            lines = HISTOGRAM + b"count 00010000 %d\narc 00010008 0001001c %d\n" % (samples, arcs)
             return profile_of(lines + (b"block 00010000 %d\n" % executed if executed else b""))
-        rows = [(made(100), made(101), False), (made(100), made(1000), True), (made(100), made(1000, arcs=30), False),
-                (made(100, executed=1000), made(10, executed=1000), True), (made(100, executed=1000), made(50, arcs=9, executed=505), False)]
+        rows = [(made(100), made(101), False), (made(100), made(1000), True), (made(100), made(1000, arcs=30), False)]
+        rows.append((made(100, executed=1000), made(10, executed=1000), True))
+        rows.append((made(100, executed=1000), made(50, arcs=9, executed=505), False))
         for first, second, differ in rows:
             self.assertEqual(doctor.is_another_rate(first, second), differ)
 
@@ -198,7 +217,8 @@ class Shares(unittest.TestCase):
 
     def test_primes(self):
         self.assertEqual([doctor.next_prime(number) for number in (1, 2, 90, 1527)], [2, 2, 97, 1531])
-        for every, near in ((1000, [997, 991, 1009]), (997, [991, 1009, 983]), (10, [11, 7, 13]), (1, [2, 3, 5]), (7, [5, 3, 11])):
+        rows = {1000: [997, 991, 1009], 997: [991, 1009, 983], 10: [11, 7, 13], 1: [2, 3, 5], 7: [5, 3, 11]}
+        for every, near in rows.items():
             self.assertEqual(list(itertools.islice(doctor.primes_near(every), 3)), near)
 
     def test_factors(self):
@@ -228,23 +248,26 @@ class Words(unittest.TestCase):
         self.assertEqual(of_reports, [("-k", "a/b/c"), ("--hide", "--x")])
 
     def test_refusals(self):
-        for words in ([], ["--every", "9"], ["a", "--every"], ["a", "--every", "x"], ["a", "--every", "01"], ["a", "--every", "-1"], ["a", "--x"],
-                      ["a", "--every=9"], ["a", "-k", "/b"], ["a", "-k", "b/"], ["a", "-"], ["a"] * 18, ["a", "--gnu", "--gnu"]):
+        lines = ["", "--every 9", "a --every", "a --every x", "a --every 01", "a --every -1", "a --every=9", "a --x"]
+        lines += ["a -k /b", "a -k b/", "a -", "a --gnu --gnu", "a " * 18, "a --seed 1 --quantum 1"]
+        for words in map(str.split, lines):
             with self.assertRaises(doctor.Refused, msg=words):
                 doctor.options_of(words)
 
     def test_words_of_runs(self):
-        runs = doctor.Runs("-a.elf", {"--every": "9", "--gnu": None, "--image": "i", "--seed": "3", "--hist": "4"}, "folder")
+        options = {"--every": "9", "--gnu": None, "--image": "i", "--seed": "3", "--hist": "4"}
+        runs = doctor.Runs("-a.elf", options, "folder")
         self.assertEqual(runs.elf, "./-a.elf")
         self.assertEqual(runs.words(doctor.OF_STACKS, every=7), ["--every", "7", "--seed", "3"])
-        self.assertEqual(runs.words(doctor.WITH_VALUE[:-1], seed=None, quantum=3), ["--every", "9", "--hist", "4", "--quantum", "3"])
+        words = runs.words(doctor.WITH_VALUE[:-1], seed=None, quantum=3)
+        self.assertEqual(words, ["--every", "9", "--hist", "4", "--quantum", "3"])
 
     def test_ends(self):
         def end(text):
             answer = doctor.Answer.__new__(doctor.Answer)
             answer.errors, answer.status = text, 0
             return doctor.end_of(answer)
-        said = b"some text rvgprof: trap illegal at 00010020 after 3 instructions: 2 samples, 1 calls, 0 lost, arcs on\n"
+        said = b"text rvgprof: trap illegal at 00010020 after 3 instructions: 2 samples, 1 calls, 0 lost, arcs on\n"
         self.assertEqual(end(said), ("trap illegal at 00010020", "illegal", LOW + 32, 3, 2, 1, 0, "on"))
         self.assertEqual(end(said.replace(b"trap illegal at 00010020", b"exit 4294967295")).trap, None)
         with self.assertRaises(doctor.Refused):
