@@ -212,8 +212,61 @@ class Profiles(unittest.TestCase):
         self.assertEqual(list(doctor.calls_without_return(program, profile)), [LOW + 8])
 
 
+class StacksOf:
+    """Runs that have these stacks at these rates, and keep which rates were asked for."""
+
+    def __init__(self, **stacks):
+        self.by_rate, self.rates = {int(name[1:]): found for name, found in stacks.items()}, []
+
+    def stacks(self, every):
+        self.rates.append(every)
+        return self.by_rate[every]
+
+
 class Shares(unittest.TestCase):
     """What differs by more than chance, and the rates that are tried."""
+
+    ALL = [(b"main", 46000), (b"main;f", 54000)]
+    RIGHT = [(b"main", 46), (b"main;f", 54)]
+    WRONG = [(b"main", 100)]
+
+    def shares(self, runs):
+        """The shares of a profile with a hundred samples in `main`."""
+        profile = profile_of(HISTOGRAM + b"count 00010000 100\n")
+        return doctor.Shares(program_of([0x13] * 8), profile, runs, 1000)
+
+    def test_in_step(self):
+        runs = StacksOf(r997=self.RIGHT, r1=self.ALL)
+        found = list(self.shares(runs).findings(2))
+        self.assertEqual(len(found), 1)
+        line = "samples are in step with a loop: with --every 1000 f 0.00 % and exactly 54.00 %, main 100.00 % and"
+        self.assertTrue(found[0].what.startswith(line), found[0].what)
+        self.assertTrue(found[0].remedy.startswith("--every 997; or "), found[0].remedy)
+
+    def test_that_agrees(self):
+        runs = StacksOf(r997=self.WRONG)
+        self.assertEqual((list(self.shares(runs).findings(2)), runs.rates), ([], [997]))
+
+    def test_the_other_rate_in_step(self):
+        runs = StacksOf(r997=self.RIGHT, r1=[(b"main", 100000)])
+        self.assertEqual((list(self.shares(runs).findings(2)), runs.rates), ([], [997, 1]))
+
+    def test_another_rate_is_found(self):
+        near = [(b"main", 60), (b"main;f", 40)]
+        exact = [(b"main", 20000), (b"main;f", 80000)]
+        runs = StacksOf(r997=near, r1=exact, r991=[(b"main", 20), (b"main;f", 80)])
+        self.assertTrue(next(self.shares(runs).findings(2)).remedy.startswith("--every 991; or "))
+        runs = StacksOf(r997=near, r1=exact, r991=near, r1009=near)
+        self.assertTrue(next(self.shares(runs).findings(2)).remedy.startswith("`rvgprof folded ELF --every 1`"))
+
+    def test_wide_counters(self):
+        runs = StacksOf(r997=self.RIGHT, r1=self.ALL)
+        self.assertIn("--hist 2", next(self.shares(runs).findings(8)).remedy)
+
+    def test_deep_stacks(self):
+        runs = StacksOf(r997=[(b"main", 90), (b";".join([b"main"] * 128), 5), (b";".join([b"main"] * 129), 5)])
+        self.assertIn("of 5 samples", next(self.shares(runs).deep_findings()).what)
+        self.assertEqual(list(self.shares(StacksOf(r997=self.WRONG)).deep_findings()), [])
 
     def test_primes(self):
         self.assertEqual([doctor.next_prime(number) for number in (1, 2, 90, 1527)], [2, 2, 97, 1531])
