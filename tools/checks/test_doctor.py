@@ -91,6 +91,10 @@ class Files(unittest.TestCase):
         self.assertEqual([program.word(LOW + 8), program.word(LOW + 10), program.word(LOW - 4)], [3, 0, 0])
         self.assertEqual(list(program.words()), [(LOW, 1), (LOW + 4, 2), (LOW + 8, 3)])
 
+    def test_names_of_sources(self):
+        for text, named in ((b"\1moncontrol\0GNU", True), (b"\0moncontrol\0", True), (b"\0my_moncontrol\0", False)):
+            self.assertEqual(doctor.Program(header([], text), SYMS).names_switch, named)
+
     def test_refusals(self):
         """Each refusal that docs/FORMATS.md has gets a line and a remedy."""
         texts = ["short 3", "magic", "class 2", "class 9", "order 2", "kind 1", "kind 3", "kind 4", "kind 9"]
