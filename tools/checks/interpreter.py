@@ -8,6 +8,8 @@ import collections
 import itertools
 import struct
 
+from profiles import GNU, bsd, gnu_arcs, gnu_blocks, gnu_hist
+
 MASK = 0xFFFFFFFF
 STACK, STACKS = 262_144, 2_097_152
 RA, SP, A0, A1, A2, A7 = 1, 2, 10, 11, 12, 17
@@ -436,17 +438,13 @@ class Machine:
 
     def bsd_file(self):
         r = self.runtime
-        head = struct.pack("<5I12x", r.low, r.high, 32 + 2 * len(r.counters), 0x51879, self.options["rate"])
-        return head + struct.pack(f"<{len(r.counters)}H", *r.counters) + b"".join(struct.pack("<3I", *arc) for arc in r.arcs())
+        return bsd(r.low, r.high, r.counters, r.arcs(), self.options["rate"])
 
     def gnu_file(self, has_blocks):
-        r, n = self.runtime, len(self.runtime.counters)
-        text = struct.pack("<4sI12xB4I15sc", b"gmon", 1, 0, r.low, r.high, n, self.options["rate"], b"seconds", b"s")
-        text += struct.pack(f"<{n}H", *r.counters) + b"".join(struct.pack("<B3I", 1, *arc) for arc in r.arcs())
+        r = self.runtime
         pairs = sorted(pair for pair in self.executed.items() if r.low <= pair[0] < r.high)
-        if has_blocks and pairs:
-            text += struct.pack("<BI", 2, len(pairs)) + b"".join(struct.pack("<II", *pair) for pair in pairs)
-        return text
+        blocks = gnu_blocks(pairs) if has_blocks and pairs else b""
+        return GNU + gnu_hist(r.low, r.high, r.counters, self.options["rate"]) + gnu_arcs(r.arcs()) + blocks
 
     def stack_functions(self):
         """Each stack as numbers of functions, -1 for none, with its samples."""

@@ -1,31 +1,40 @@
-"""Programs that the tools make, for them alone."""
+"""Programs that the checks make, as ELF files."""
 
+import array
 import struct
 
 LOW = 0x10000
+NOP = 0x13
 
 
-def elf(text, symbols, segments=()):
-    """A program of this text at 0x10000, with functions as names and addresses, and more segments as addresses and bytes."""
+def words_of(numbers):
+    """Numbers as four bytes each."""
+    return array.array("I", numbers).tobytes()
+
+
+def elf(text, symbols, segments=(), entry=LOW, memory=None):
+    """A program of this text at 0x10000, with functions as names and addresses, and more segments as addresses and bytes.
+    The text's segment may have more memory than the text takes."""
     strings, table, at = [b"\0"], [bytes(16)], 1
     for name, addr in symbols:
         table.append(struct.pack("<IIIBBH", at, addr, 0, 0x12, 0, 1))
         strings.append(name + b"\0")
         at += len(name) + 1
-    return elf_of(text, b"".join(table), b"".join(strings), segments)
+    return elf_of(text, b"".join(table), b"".join(strings), segments, entry, memory)
 
 
-def elf_of(text, table, strings, segments=()):
+def elf_of(text, table, strings, segments=(), entry=LOW, memory=None):
     """A program of this text, symbol table and strings, and more segments."""
     count = 1 + len(segments)
     front = 52 + 32 * count
     behind = front + len(text) + len(table)
     at = behind + len(strings)
-    headers = struct.pack("<8I", 1, front, LOW, LOW, len(text), len(text), 5, 4)
+    headers = struct.pack("<8I", 1, front, LOW, LOW, len(text), memory or len(text), 7, 4)
     for addr, data in segments:
         headers += struct.pack("<8I", 1, at, addr, addr, len(data), len(data), 4, 1)
         at += len(data)
-    head = b"\x7fELF\1\1\1" + bytes(9) + struct.pack("<HHIIIIIHHHHHH", 2, 243, 1, LOW, 52, at, 0, 52, 32, count, 40, 4, 0)
+    head = b"\x7fELF\1\1\1" + bytes(9)
+    head += struct.pack("<HHIIIIIHHHHHH", 2, 243, 1, entry, 52, at, 0, 52, 32, count, 40, 4, 0)
     sections = bytes(40) + struct.pack("<10I", 0, 1, 6, LOW, front, len(text), 0, 0, 4, 0)
     sections += struct.pack("<10I", 0, 2, 0, 0, front + len(text), len(table), 3, 1, 4, 16)
     sections += struct.pack("<10I", 0, 3, 0, 0, behind, len(strings), 0, 0, 1, 0)
