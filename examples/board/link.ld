@@ -3,7 +3,7 @@ ENTRY(_start)
 
 MEMORY
 {
-    ram (rwx) : ORIGIN = 0x10000, LENGTH = 62M
+    ram (rwx) : ORIGIN = 0x10000, LENGTH = DEFINED(__ram_size) ? __ram_size : 62M
 }
 
 SECTIONS
@@ -40,5 +40,5 @@ SECTIONS
         . += SIZEOF(.tbss);     /* .tbss takes no room by itself */
         *(.sbss .sbss.* .bss .bss.* COMMON)
     } > ram
-    /DISCARD/ : { *(.comment .riscv.attributes .eh_frame) }
+    /DISCARD/ : { *(.comment .riscv.attributes .eh_frame __patchable_function_entries) }
 }

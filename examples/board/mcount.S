@@ -7,3 +7,11 @@
 _mcount:
         ret
         .size   _mcount, . - _mcount
+
+# moncontrol(0) switches profiling off and moncontrol(1) on: it too is seen when the pc arrives. A function in C that does
+# nothing isn't even called where the compiler sees it. A program that has one of its own takes that.
+        .weak   moncontrol
+        .type   moncontrol, @function
+moncontrol:
+        ret
+        .size   moncontrol, . - moncontrol

@@ -1,11 +1,12 @@
-// A sensor node: it takes readings, keeps some of them on the heap, and reports. Further harts share the
-// checksum at the end.
+// A sensor node: in each round it takes readings, keeps some of them on the heap, and writes a report of them, of which it
+// prints every 150th. Further harts share the checksum at the end.
 #include <stdio.h>
 #include <stdlib.h>
 #include <unistd.h>
 
 #define READINGS 64
-#define ROUNDS 4
+#define ROUNDS 600
+#define PRINTED 150                         // rounds from one printed report to the next
 #define MOST_HARTS 8
 
 struct sample {
@@ -93,9 +94,13 @@ static const struct {
     int (*measure)(void);
 } reports[] = {{"mean", mean}, {"peak", peak}, {"kept", last_kept}};
 
-static void report(void) {
-    for (int i = 0; i < 3; i++)
-        printf("%s %d\n", reports[i].name, reports[i].measure());
+static void report(int round) {
+    for (int i = 0; i < 3; i++) {
+        char line[32];
+        snprintf(line, sizeof line, "%s %d", reports[i].name, reports[i].measure());
+        if (round % PRINTED == 0)
+            puts(line);
+    }
 }
 
 static unsigned mix(unsigned sum, int value) {
@@ -129,7 +134,7 @@ int main(void) {
     for (int round = 0; round < ROUNDS; round++) {
         take_readings(offset);
         keep_some();
-        report();
+        report(round);
         forget();
     }
     __sync_synchronize();

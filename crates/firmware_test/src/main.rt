@@ -42,7 +42,7 @@ fn host_after_run(alloc: Global, program: &[u8], harts: &str) -> Result<MemHost,
         "--harts",
         harts,
         "--every",
-        "5000",
+        "99991",
         "--ram",
         "4",
     ];
