@@ -15,7 +15,7 @@ use host_port::{Failed, Host, OutBuf};
 pub(crate) const BLOCKS_TAG: u8 = 2;
 
 /// How many addresses are listed at most.
-const FEW: usize = 512;
+const FEW: usize = 256;
 
 /// How many parts the addresses of a profile have.
 const PARTS: usize = 32_768;
@@ -29,7 +29,7 @@ const SMALL_PART: usize = 64;
 /// at again. So a round looks at the addresses of one part, 256 in the largest file, for each one that it writes at
 /// most, and at the marks. Those are few beside what it writes, since it writes more than `FEW` addresses: from the
 /// first round on in which at most `FEW` have something left, these are listed, and a round looks at what the round
-/// before wrote. What is marked and listed takes 40 KiB of the stack, which no other function is to pay for.
+/// before wrote. What is marked and listed takes 36 KiB of the stack, which no other function is to pay for.
 #[inline(never)]
 pub(crate) fn put_rounds<H: Host>(
     rounds: u64,
@@ -308,6 +308,7 @@ fn put_part<H: Host>(
 }
 
 /// The piece of an address for round `j`, if something is left.
+#[inline(always)]
 fn put_block<H: Host>(
     j: u64,
     addr: u32,
