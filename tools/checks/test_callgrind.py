@@ -1,8 +1,11 @@
 """Parts of tools/bin/callgrind."""
 
+import pathlib
+import tempfile
 import unittest
 
 from comparing import program_of
+from elf_files import LOW, NOP, elf, words_of
 
 callgrind = program_of("tools/bin/callgrind")
 
@@ -30,12 +33,14 @@ class Reading(unittest.TestCase):
     def test_cells_of_annotate(self):
         (f,) = found = functions((b"f", (0, 0), {}))
         f.cells.clear()
-        callgrind.add_cells(found, b"annotated listing\nf:\n" + b"".join(b"%08x %d %d 00000013 nop\n" % (i, i, 2 * i) for i in (0, 4, 8, 12)))
+        cells = b"".join(b"%08x %d %d 00000013 nop\n" % (i, i, 2 * i) for i in (0, 4, 8, 12))
+        callgrind.add_cells(found, b"annotated listing\nf:\n" + cells)
         self.assertEqual(f.own(), [48, 24])
 
     def test_calls_of_show(self):
         found = functions((b"a", (0, 0), {}), (b"b", (0, 0), {}))
-        callgrind.add_calls(found, b"arc 00000008 00000010 3\narc 00000008 00000014 4\narc 00000008 00000040 5\narc 00000000 00000000 0\n")
+        arcs = b"arc 00000008 00000010 3\narc 00000008 00000014 4\narc 00000008 00000040 5\narc 00000000 00000000 0\n"
+        callgrind.add_calls(found, arcs)
         self.assertEqual([dict(f.calls) for f in found], [{(4, 1): 7}, {}])
 
 
@@ -57,8 +62,14 @@ class Costs(unittest.TestCase):
             list(callgrind.lines_of("e", functions((b"f", (8, 0), {})), 9, 100))
 
     def test_lines_of_a_file(self):
-        text = "\n".join(callgrind.lines_of("e", functions((b"f", (8, 0), {1: 2}), (b"f", (4, 0), {})), 12, 100))
-        self.assertIn("\nfn=(1) f 00000000\n0x0 8\ncfn=(2) f 00000010\ncalls=2 0x10\n0x4 4\n", text)
+        found = functions((b"f", (8, 0), {1: 2}), (b"f", (4, 0), {}))
+        with tempfile.TemporaryDirectory() as folder:
+            program = pathlib.Path(folder) / "e"
+            program.write_bytes(elf(words_of([NOP] * 8), [(b"f", LOW), (b"f", LOW + 16)]))
+            text = "\n".join(callgrind.lines_of(str(program), found, 12, 100))
+        # (a line's number may stand behind an address)
+        own, call = r"fn=\(1\) f 00000000\n0x0 (?:0 )?8\n", r"cfn=\(2\) f 00000010\ncalls=2 0x10(?: 0)?\n0x4 (?:0 )?4\n"
+        self.assertRegex(text, own + call)
         self.assertTrue(text.endswith("totals: 12\n"))
 
 

@@ -54,8 +54,9 @@ class Lock(unittest.TestCase):
 
 class Contracts(unittest.TestCase):
     def test_clauses_of_public_functions(self):
-        lines = ["pub fn f(n: u32)", "    requires { A n }", "    ensures x { B n", "        → C n }", "{", "    g(n)", "}", "fn g()", "    ensures { D }", "{}"]
-        self.assertEqual(claim.clauses_of(lines), {"f": lines[1:4]})
+        public = ["pub fn f(n: u32)", "    requires { A n }", "    ensures x { B n", "        → C n }", "{", "    g(n)", "}"]
+        private = ["fn g()", "    ensures { D }", "{}"]
+        self.assertEqual(claim.clauses_of(public + private), {"f": public[1:4]})
 
     def test_private_functions_and_laws_are_left_out(self):
         law = ["pub fn law()", "    ensures { A }", "{}"]
