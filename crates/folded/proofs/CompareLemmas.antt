@@ -7,7 +7,8 @@ use Rattle.std.specs.Option.{option_cmp}
 use Rattle.std.specs.Cmp.{IsTotalOrder, nat_cmp_total}
 use Rattle.std.specs.Cmp.Lexicographic.{lists_total, options_total}
 use Rattle.std.proofs.lemmas.Map.Lookups.{exact_unsigned}
-use Rattle.folded.specs.Nodes.{IsTree, called_of, node_of, stack_of_node}
+use Rattle.folded.specs.Links.{node_of}
+use Rattle.folded.specs.Nodes.{IsTree, called_of, stack_of_node}
 use Rattle.folded.specs.Stacks.{stack_cmp}
 use Rattle.folded.specs.declared.tree.Tree.{Tree}
 use Rattle.folded.proofs.NodeLemmas.{Nodes, Stack, stack_of_made}
@@ -107,7 +108,7 @@ meets_first nodes a b a_in b_in = record { one = start nodes a b a_in; other = s
 
 module _ (t : Tree) (is_tree : IsTree t) where
   abbrev nodes_of : Nodes
-  nodes_of = t.nodes.keys
+  nodes_of = t.nodes.items
 
   pub caller_below : (x : ℕ) → 0 < x → x ≤ length nodes_of → (node_of nodes_of x).0 < x
   caller_below zero some inside = absurd (omega (arith, some))

@@ -5,6 +5,7 @@ pub mod FoldLemmas
 pub mod FollowLemmas
 pub mod LineLemmas
 pub mod NodeLemmas
+pub mod LinkLemmas
 pub mod AddLemmas
 pub mod CompareLemmas
 pub mod OrderLemmas

@@ -2,7 +2,8 @@
 use Rattle.std.proofs.Common.{◌≡◌, ◌∙◌, ◌+◌, ◌-◌, ◌<◌, ◌≤◌, ◌++◌, ℕ, zero, suc, List, [], ◌∷◌, length, get_or, set, drop, take, map, min, append_assoc, ap, arith, sym, Option, None}
 use Rattle.std.proofs.lemmas.List.{drop-set, get_or-map, length-map, length_push, take_all, take_at, take-take, take_min, take_more}
 use Rattle.elf32_syms.specs.declared.image.Symbol.{Symbol}
-use Rattle.folded.specs.Nodes.{AreNodes, IsGrown, node_of, stack_of_node}
+use Rattle.folded.specs.Links.{node_of}
+use Rattle.folded.specs.Nodes.{AreNodes, IsGrown, stack_of_node}
 use Rattle.folded.specs.Stacks.{caller_in}
 use Rattle.folded.specs.declared.tree.Tree.{Tree}
 use Rattle.folded.proofs.NodeLemmas.{Nodes, Stack, stack_behind, stack_of_made, stack_of_none}
@@ -58,7 +59,7 @@ all_calls calls stack depth all is = is ∙ take_all depth calls all
 pub IsGrown-then : (a b c : Tree) → IsGrown a b → IsGrown b c → IsGrown a c
 IsGrown-then a b c one two = record {
   more = one.more ++ two.more;
-  nodes = two.nodes ∙ ap (λ (x : Nodes). x ++ two.more) one.nodes ∙ append_assoc a.nodes.keys one.more two.more;
+  nodes = two.nodes ∙ ap (λ (x : Nodes). x ++ two.more) one.nodes ∙ append_assoc a.nodes.items one.more two.more;
   functions = two.functions ∙ one.functions;
   total = two.total ∙ one.total;
   samples = λ stacks have. two.samples stacks (one.samples stacks have);

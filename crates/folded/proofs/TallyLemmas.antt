@@ -97,9 +97,9 @@ marks_all lines functions i marks all was g below = was.counts g below ∙ ap (�
 
 -- ---- all that is told of a tree in order
 
-keys_are : (t : Tree) (order : List ℕ) → keys_of (map (line_of_node t) order) ≡ map (stack_of_node t.nodes.keys) order
+keys_are : (t : Tree) (order : List ℕ) → keys_of (map (line_of_node t) order) ≡ map (stack_of_node t.nodes.items) order
 keys_are t [] = refl
-keys_are t (n ∷ order) = ap (λ (x : List Stack). stack_of_node t.nodes.keys n ∷ x) (keys_are t order)
+keys_are t (n ∷ order) = ap (λ (x : List Stack). stack_of_node t.nodes.items n ∷ x) (keys_are t order)
 
 each_are : (t : Tree) (order : List ℕ) → AllByRecursion (λ (n : ℕ). 0 < get_or t.counts.items n 0) order → HaveEach (map (line_of_node t) order)
 each_are t [] all = tt

@@ -118,13 +118,13 @@ first_tracked symbols v harts shadows places tree = record {
       let below : h < harts = omega (arith, fits, ap (λ (x : List Shadow). length x) shadows, length-replicate harts empty_shadow) in
       let shadow : get_or v.shadows.items h empty_shadow ≡ empty_shadow = ap (λ (x : List Shadow). get_or x h empty_shadow) shadows ∙ get_or-replicate harts h empty_shadow empty_shadow below in
       let place : get_or v.places.items h first_place ≡ first_place = ap (λ (x : List Place). get_or x h first_place) places ∙ get_or-replicate harts h first_place first_place below in
-      subst (λ (x : Shadow). IsOn v.tree.nodes.keys (map (caller_in symbols) x.frames) (get_or v.places.items h first_place)) (sym shadow)
-      (subst (λ (y : Place). IsOn v.tree.nodes.keys (map (caller_in symbols) empty_shadow.frames) y) (sym place) (first_on v.tree.nodes.keys))
+      subst (λ (x : Shadow). IsOn v.tree.nodes.items (map (caller_in symbols) x.frames) (get_or v.places.items h first_place)) (sym shadow)
+      (subst (λ (y : Place). IsOn v.tree.nodes.items (map (caller_in symbols) empty_shadow.frames) y) (sym place) (first_on v.tree.nodes.items))
       );
 }
 
 pub tracked_next : (symbols : List Symbol) (v w : Tracker) (h : ℕ) (s : Shadow) (p : Place) → h < length v.shadows.items → w.shadows.items ≡ set v.shadows.items h s → w.places.items ≡ set v.places.items h p → IsTreeFor symbols w.tree
-    → NodesAdded v.tree.nodes.keys w.tree.nodes.keys → IsOn w.tree.nodes.keys (map (caller_in symbols) s.frames) p → IsTracked symbols v → IsTracked symbols w
+    → NodesAdded v.tree.nodes.items w.tree.nodes.items → IsOn w.tree.nodes.items (map (caller_in symbols) s.frames) p → IsTracked symbols v → IsTracked symbols w
 tracked_next symbols v w h s p inside shadows places tree added on was = record {
   tree = tree;
   harts = ap (λ (x : List Place). length x) places ∙ length-set v.places.items h p ∙ was.harts ∙ sym (ap (λ (x : List Shadow). length x) shadows ∙ length-set v.shadows.items h s);
@@ -134,18 +134,18 @@ tracked_next symbols v w h s p inside shadows places tree added on was = record 
       );
 }
   where
-    by : (k : ℕ) → k < length v.shadows.items → (k ≡ h) ⊎ ((k ≡ h) → ⊥) → IsOn w.tree.nodes.keys (map (caller_in symbols) (get_or w.shadows.items k empty_shadow).frames) (get_or w.places.items k first_place)
+    by : (k : ℕ) → k < length v.shadows.items → (k ≡ h) ⊎ ((k ≡ h) → ⊥) → IsOn w.tree.nodes.items (map (caller_in symbols) (get_or w.shadows.items k empty_shadow).frames) (get_or w.places.items k first_place)
     by k short (inl same) =
         let shadow : get_or w.shadows.items k empty_shadow ≡ s = ap (λ (x : List Shadow). get_or x k empty_shadow) shadows ∙ ap (λ (n : ℕ). get_or (set v.shadows.items h s) n empty_shadow) same ∙ get_or-set_same v.shadows.items h s empty_shadow inside in
         let place : get_or w.places.items k first_place ≡ p =
         ap (λ (x : List Place). get_or x k first_place) places ∙ ap (λ (n : ℕ). get_or (set v.places.items h p) n first_place) same ∙ get_or-set_same v.places.items h p first_place (omega (arith, inside, was.harts)) in
-        subst (λ (x : Shadow). IsOn w.tree.nodes.keys (map (caller_in symbols) x.frames) (get_or w.places.items k first_place)) (sym shadow) (subst (λ (y : Place). IsOn w.tree.nodes.keys (map (caller_in symbols) s.frames) y) (sym place) on)
+        subst (λ (x : Shadow). IsOn w.tree.nodes.items (map (caller_in symbols) x.frames) (get_or w.places.items k first_place)) (sym shadow) (subst (λ (y : Place). IsOn w.tree.nodes.items (map (caller_in symbols) s.frames) y) (sym place) on)
     by k short (inr apart) =
         let shadow : get_or w.shadows.items k empty_shadow ≡ get_or v.shadows.items k empty_shadow = ap (λ (x : List Shadow). get_or x k empty_shadow) shadows ∙ get_or-set_other v.shadows.items h k s empty_shadow apart in
         let place : get_or w.places.items k first_place ≡ get_or v.places.items k first_place = ap (λ (x : List Place). get_or x k first_place) places ∙ get_or-set_other v.places.items h k p first_place apart in
-        let stays = on_stays v.tree.nodes.keys w.tree.nodes.keys (map (caller_in symbols) (get_or v.shadows.items k empty_shadow).frames) (get_or v.places.items k first_place) added (was.places k short) in
-        subst (λ (x : Shadow). IsOn w.tree.nodes.keys (map (caller_in symbols) x.frames) (get_or w.places.items k first_place)) (sym shadow)
-        (subst (λ (y : Place). IsOn w.tree.nodes.keys (map (caller_in symbols) (get_or v.shadows.items k empty_shadow).frames) y) (sym place) stays)
+        let stays = on_stays v.tree.nodes.items w.tree.nodes.items (map (caller_in symbols) (get_or v.shadows.items k empty_shadow).frames) (get_or v.places.items k first_place) added (was.places k short) in
+        subst (λ (x : Shadow). IsOn w.tree.nodes.items (map (caller_in symbols) x.frames) (get_or w.places.items k first_place)) (sym shadow)
+        (subst (λ (y : Place). IsOn w.tree.nodes.items (map (caller_in symbols) (get_or v.shadows.items k empty_shadow).frames) y) (sym place) stays)
 
     same_or_not : (k h : ℕ) → (k ≡ h) ⊎ ((k ≡ h) → ⊥)
     same_or_not zero zero = inl refl
@@ -159,16 +159,16 @@ tracked_next symbols v w h s p inside shadows places tree added on was = record 
 
 -- the hart's shadow has changed, one of its frames being a front of the other's, and its place has gone up with it
 pub tracked_moved : (h : ℕ) (v w : Tracker) (s t : Shadow) (p q : Place) → h < length v.shadows.items → shadow_of v.shadows.items h ≡ s → p ≡ get_or v.places.items h p → Agree s.frames t.frames
-    → IsPlaced v.tree.nodes.keys q → stack_of_node v.tree.nodes.keys q.node ≡ take (length t.frames) (stack_of_node v.tree.nodes.keys p.node)
+    → IsPlaced v.tree.nodes.items q → stack_of_node v.tree.nodes.items q.node ≡ take (length t.frames) (stack_of_node v.tree.nodes.items p.node)
     → w.shadows.items ≡ set v.shadows.items h t → w.places.items ≡ set v.places.items h q → w.tree ≡ v.tree → (symbols : List Symbol) → IsTracked symbols v → IsTracked symbols w
 tracked_moved h v w s t p q inside read place agree placed is shadows places same symbols was =
-    let nodes = v.tree.nodes.keys in
+    let nodes = v.tree.nodes.items in
     let short : h < length v.places.items = omega (arith, inside, was.harts) in
     let there : get_or v.places.items h first_place ≡ p = get_or_default v.places.items h first_place p short ∙ sym place in
     let before : IsOn nodes (map (caller_in symbols) s.frames) p =
     subst (λ (x : Shadow). IsOn nodes (map (caller_in symbols) x.frames) p) read
     (subst (λ (y : Place). IsOn nodes (map (caller_in symbols) (shadow_of v.shadows.items h).frames) y) there (was.places h inside)) in
     let after = on_frames symbols nodes s.frames t.frames p q agree before placed is in
-    let keys : w.tree.nodes.keys ≡ nodes = ap (λ (x : Tree). x.nodes.keys) same in
+    let keys : w.tree.nodes.items ≡ nodes = ap (λ (x : Tree). x.nodes.items) same in
     tracked_next symbols v w h t q inside shadows places (subst (IsTreeFor symbols) (sym same) was.tree)
     (record { more = []; is = keys ∙ sym (append-nil nodes) }) (subst (λ (x : Nodes). IsOn x (map (caller_in symbols) t.frames) q) (sym keys) after) was

@@ -35,7 +35,7 @@ pub record Follows (symbols : List Symbol) (t : Trail) (v : Tracker) : Type 0 wh
 pub record IsTracked (symbols : List Symbol) (v : Tracker) : Type 0 where
   pub tree : IsTreeFor symbols v.tree
   pub harts : length v.places.items ≡ length v.shadows.items
-  pub places : (h : ℕ) → h < length v.shadows.items → IsOn v.tree.nodes.keys (map (caller_in symbols) (slice_index_or v.shadows.items h empty_shadow).frames) (slice_index_or v.places.items h first_place)
+  pub places : (h : ℕ) → h < length v.shadows.items → IsOn v.tree.nodes.items (map (caller_in symbols) (slice_index_or v.shadows.items h empty_shadow).frames) (slice_index_or v.places.items h first_place)
 
 -- hart h has this shadow, which its place in the tree follows
 pub record WithShadow (h : ℕ) (s : Shadow) (old new : Tracker) : Type 0 where

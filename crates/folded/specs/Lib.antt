@@ -1,6 +1,7 @@
 pub mod Shadow
 pub mod Trail
 pub mod Stacks
+pub mod Links
 pub mod Nodes
 pub mod Tally
 pub mod Text

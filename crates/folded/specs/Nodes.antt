@@ -6,6 +6,7 @@ use Rattle.std.specs.declared.cmp.Ordering.{Ordering}
 use Rattle.elf32_syms.specs.declared.image.Symbol.{Symbol}
 use Rattle.folded.specs.declared.place.Place.{Place}
 use Rattle.folded.specs.declared.tree.Tree.{Tree}
+use Rattle.folded.specs.Links.{AreLinked}
 use Rattle.folded.specs.Stacks.{AreBelow, stack_cmp}
 
 -- by number: the stacks with that of one more node, which is its caller's with its function
@@ -18,11 +19,6 @@ node_stacks nodes = fold with_node ([] ∷ []) nodes
 
 abbrev pub stack_of_node : List (ℕ × Option ℕ) → ℕ → List (Option ℕ)
 stack_of_node nodes n = slice_index_or (node_stacks nodes) n []
-
--- its caller's node and its function, where it is one
-abbrev pub node_of : List (ℕ × Option ℕ) → ℕ → ℕ × Option ℕ
-node_of nodes zero = (0, None)
-node_of nodes (suc n) = slice_index_or nodes n (0, None)
 
 abbrev pub called_of : List (ℕ × Option ℕ) → ℕ → Option (Option ℕ)
 called_of nodes zero = None
@@ -55,7 +51,7 @@ pub record AreNodes (nodes : List (ℕ × Option ℕ)) (counts : List ℕ) (tota
   pub sum : samples_on any_stack (node_stacks nodes) counts ≤ total
 
 abbrev pub IsTree : Tree → Type 0
-IsTree t = AreNodes t.nodes.keys t.counts.items t.total t.functions
+IsTree t = AreNodes t.nodes.items t.counts.items t.total t.functions
 
 -- the nodes have samples with these stacks
 pub record HaveSamples (stacks : List (List (Option ℕ))) (nodes : List (ℕ × Option ℕ)) (counts : List ℕ) (total : ℕ) : Type 0 where
@@ -63,12 +59,12 @@ pub record HaveSamples (stacks : List (List (Option ℕ))) (nodes : List (ℕ ×
   pub number : total ≡ length stacks
 
 abbrev pub IsTreeOf : List (List (Option ℕ)) → Tree → Type 0
-IsTreeOf stacks t = HaveSamples stacks t.nodes.keys t.counts.items t.total
+IsTreeOf stacks t = HaveSamples stacks t.nodes.items t.counts.items t.total
 
 -- nodes were added, and no sample
 pub record IsGrown (old new : Tree) : Type 0 where
   pub more : List (ℕ × Option ℕ)
-  pub nodes : new.nodes.keys ≡ old.nodes.keys ++ more
+  pub nodes : new.nodes.items ≡ old.nodes.items ++ more
   pub functions : new.functions ≡ old.functions
   pub total : new.total ≡ old.total
   pub samples : (stacks : List (List (Option ℕ))) → IsTreeOf stacks old → IsTreeOf stacks new
@@ -76,6 +72,7 @@ pub record IsGrown (old new : Tree) : Type 0 where
 -- what is kept of a run with these symbols
 pub record IsTreeFor (symbols : List Symbol) (t : Tree) : Type 0 where
   pub tree : IsTree t
+  pub linked : AreLinked t.nodes.items t.links.items
   pub functions : t.functions ≡ length symbols
 
 -- nodes stand behind those that were there
@@ -105,7 +102,7 @@ pub record IsOn (nodes : List (ℕ × Option ℕ)) (calls : List (Option ℕ)) (
 -- ---- the lines of a tree
 
 abbrev pub line_of_node : Tree → ℕ → List (Option ℕ) × ℕ
-line_of_node t n = (stack_of_node t.nodes.keys n, slice_index_or t.counts.items n 0)
+line_of_node t n = (stack_of_node t.nodes.items n, slice_index_or t.counts.items n 0)
 
 -- the numbers from n on whose nodes have samples
 abbrev pub numbers_from : ℕ → List ℕ → List ℕ
@@ -118,7 +115,7 @@ samples_of_lines test lines = sum_by (λ (line : List (Option ℕ) × ℕ). if t
 
 -- these are the nodes that have samples, in the order of their stacks
 pub record IsInOrder (t : Tree) (order : List ℕ) : Type 0 where
-  pub ascend : IsStrictlySortedBy stack_cmp (map (stack_of_node t.nodes.keys) order)
-  pub numbers : All (λ n. n ≤ length t.nodes.keys) order
+  pub ascend : IsStrictlySortedBy stack_cmp (map (stack_of_node t.nodes.items) order)
+  pub numbers : All (λ n. n ≤ length t.nodes.items) order
   pub sampled : AllByRecursion (λ n. 0 < slice_index_or t.counts.items n 0) order
-  pub samples : (test : List (Option ℕ) → Bool) → samples_of_lines test (map (line_of_node t) order) ≡ samples_on test (node_stacks t.nodes.keys) t.counts.items
+  pub samples : (test : List (Option ℕ) → Bool) → samples_of_lines test (map (line_of_node t) order) ≡ samples_on test (node_stacks t.nodes.items) t.counts.items

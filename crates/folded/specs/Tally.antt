@@ -24,7 +24,7 @@ value_of a = record {
 pub record IsMarked (a : Inside) : Type 0 where
   pub functions : length a.marks.items < 2 ^ 32
   pub tree : IsTree a.tree
-  pub order : All (λ n. n ≤ length a.tree.nodes.keys) a.order.items
+  pub order : All (λ n. n ≤ length a.tree.nodes.items) a.order.items
 
 -- it has these stacks, of so many functions
 pub record Folds (functions : ℕ) (stacks : List (List (Option ℕ))) (f : FoldedValue) : Type 0 where

@@ -3,6 +3,8 @@
 
 pub mod folding;
 pub mod laws;
+mod links;
+mod order;
 mod path;
 mod place;
 pub mod refusal;

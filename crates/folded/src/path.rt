@@ -31,8 +31,8 @@ impl Path {
     /// The stack of a node.
     pub(crate) fn of(tree: &Tree, node: u32) -> Path
         requires tree { IsTree tree.now }
-        requires node { node ≤ length tree.now.nodes.keys }
-        ensures { result ≡ stack_of_node tree.now.nodes.keys node }
+        requires node { node ≤ length tree.now.nodes.items }
+        ensures { result ≡ stack_of_node tree.now.nodes.items node }
     {
         let mut path = Path {
             functions: [None; ROOM],

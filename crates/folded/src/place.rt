@@ -2,6 +2,7 @@
 
 ghost use Rattle.std.specs.Prelude.{◌≡◌, ◌≤◌, IfOk, OnOk, length, map, take};
 ghost use Rattle.elf32_syms.specs.Owners.{IsAscending};
+ghost use Rattle.folded.specs.Links.{AreLinked};
 ghost use Rattle.folded.specs.Nodes.{HasStack, IsGrown, IsOn, IsPlaced, IsTree, stack_of_node};
 ghost use Rattle.folded.specs.Stacks.{caller_in};
 
@@ -36,10 +37,10 @@ impl Place {
     /// So many calls are left.
     pub(crate) fn go_up(&mut self, tree: &Tree, calls: usize)
         requires tree { IsTree tree.now }
-        requires placed { IsPlaced tree.now.nodes.keys self.old }
-        ensures placed { IsPlaced tree.now.nodes.keys self.new }
-        ensures stack { stack_of_node tree.now.nodes.keys self.new.node
-            ≡ take calls (stack_of_node tree.now.nodes.keys self.old.node) }
+        requires placed { IsPlaced tree.now.nodes.items self.old }
+        ensures placed { IsPlaced tree.now.nodes.items self.new }
+        ensures stack { stack_of_node tree.now.nodes.items self.new.node
+            ≡ take calls (stack_of_node tree.now.nodes.items self.old.node) }
     {
         while self.depth > calls {
             self.node = tree.caller(self.node);
@@ -57,13 +58,15 @@ impl Place {
     ) -> Result<(), AllocError>
         requires symbols { IsAscending symbols.now }
         requires tree { IsTree tree.old }
+        requires linked { AreLinked tree.old.nodes.items tree.old.links.items }
         requires functions { tree.old.functions ≡ length symbols.now }
-        requires on { IsOn tree.old.nodes.keys (map (caller_in symbols.now) frames.now) self.old }
+        requires on { IsOn tree.old.nodes.items (map (caller_in symbols.now) frames.now) self.old }
         requires few { length frames.now ≤ 128 }
         ensures tree { OnOk result (IsTree tree.new) }
+        ensures linked { OnOk result (AreLinked tree.new.nodes.items tree.new.links.items) }
         ensures grown { OnOk result (IsGrown tree.old tree.new) }
-        ensures placed { OnOk result (IsPlaced tree.new.nodes.keys self.new) }
-        ensures all { OnOk result (HasStack tree.new.nodes.keys self.new.node
+        ensures placed { OnOk result (IsPlaced tree.new.nodes.items self.new) }
+        ensures all { OnOk result (HasStack tree.new.nodes.items self.new.node
             (map (caller_in symbols.now) frames.now)) }
     {
         while self.depth < frames.len() {

@@ -9,6 +9,7 @@ use crate::path::Path;
 use crate::tree::Tree;
 use std::alloc::{AllocError, Global};
 use std::marker::Model;
+use std::mem;
 
 /// How many samples have a function, and the last line of these, counted from 1.
 #[derive(Clone, Copy)]
@@ -45,7 +46,9 @@ impl Folded {
             → Folds tree.functions stacks f) }
         ensures functions { IfOk result (λ f. length f.inclusive ≡ tree.functions) }
     {
-        let order = tree.in_order(alloc)?;
+        let mut tree = tree;
+        let links = mem::replace(&mut tree.links, Vec::new(alloc));
+        let order = tree.in_order(alloc, links)?;
         let marks = marks_of(alloc, &tree, order.as_slice())?;
         Ok(Folded { tree, order, marks })
     }
@@ -93,7 +96,7 @@ impl Folded {
 fn marks_of(alloc: Global, tree: &Tree, order: &[u32]) -> Result<Vec<Mark>, AllocError>
     requires tree { IsTree tree.now }
     requires total { tree.now.total < 2 ^ 62 }
-    requires order { All (λ n. n ≤ length tree.now.nodes.keys) order.now }
+    requires order { All (λ n. n ≤ length tree.now.nodes.items) order.now }
     requires samples { samples_of_lines any_stack (map (line_of_node tree.now) order.now)
         ≤ tree.now.total }
     ensures functions { IfOk result (λ marks. length marks.items ≡ tree.now.functions) }

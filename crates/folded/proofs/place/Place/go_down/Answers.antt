@@ -9,10 +9,11 @@ pub loop-self-preserved : goal.loop-self-preserved
 loop-self-preserved c =
     let p = c.loop-self.self in
     let i = c.loop-self.invariant in
-    let front = stack_of_node c.loop-self.tree.nodes.keys p.node in
+    let front = stack_of_node c.loop-self.tree.nodes.items p.node in
     let made = c.in_ok-self.ensures in
     record {
       tree = made.tree;
+      linked = made.linked;
       grown = IsGrown-then c.args.tree.now c.loop-self.tree c.child.new.self i.grown made.grown;
       on = record {
         placed = record { node = made.node.0; depth = omega (arith, ap (λ (s : Stack). length s) made.node.1, length_push front c.owner_near-caller.result, i.on.placed.depth) };
