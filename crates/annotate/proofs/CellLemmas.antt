@@ -1,13 +1,12 @@
 -- The cells of a symbol follow one another, from its address to its end.
 use Rattle.std.proofs.Common.{◌≡◌, ℕ, zero, suc, ◌+◌, ◌*◌, ◌/◌, ◌<◌, ◌≤◌, max, min, List, [], ◌∷◌, length, map, get_or, refl, sym, ap, ◌∙◌, arith}
-use Rattle.std.specs.List.{AllByRecursion, range_with_len, sum_by}
+use Rattle.std.specs.List.{range_with_len, sum_by}
 use Rattle.std.proofs.lemmas.List.FromFn.{get_or-map-range_with_len, length-map-range_with_len, sum_by-map-range_with_len_more}
 use Rattle.std.proofs.lemmas.List.Sums.{sum_by-cons, sum-map}
 use Rattle.gp_base.specs.declared.records.Span.{Span}
 use Rattle.elf32_syms.specs.declared.image.Symbol.{Symbol}
 use Rattle.elf32_syms.specs.Owners.{IsAscending}
 use Rattle.gmon_data.specs.declared.hist.Hist.{Hist}
-use Rattle.gmon_data.specs.Hists.{IsKept}
 use Rattle.symbol_shares.specs.Ranges.{grains_of_range}
 use Rattle.symbol_shares.specs.Shares.{attributed_of, share_of, shares_of}
 use Rattle.symbol_shares.proofs.OrderLemmas.{ascending-tail}
@@ -18,12 +17,12 @@ use Rattle.annotate.specs.Cells.{cells_of, part_in, word_count}
 abbrev border : Symbol → ℕ → ℕ
 border s m = min s.end (max s.addr (4 * (s.addr / 4 + m)))
 
-module _ (hists : List Hist) (kept : AllByRecursion IsKept hists) where
+module _ (hists : List Hist) where
   abbrev grains : Span → ℕ
   grains cell = grains_of_range hists cell.low cell.high
 
   no-grains : (a : ℕ) → grains_of_range hists a a ≡ 0
-  no-grains a = let twice = ranges-follow hists a a a kept (omega arith) (omega arith) in omega (arith, twice)
+  no-grains a = let twice = ranges-follow hists a a a (omega arith) (omega arith) in omega (arith, twice)
 
   front-cells : (s : Symbol) (m : ℕ) → s.addr ≤ s.end → m ≤ word_count s → sum_by grains (map (part_in s) (range_with_len (s.addr / 4) m)) ≡ grains_of_range hists s.addr (border s m)
   front-cells s zero order inside =
@@ -38,7 +37,7 @@ module _ (hists : List Hist) (kept : AllByRecursion IsKept hists) where
       let more = rw one at (sum_by-map-range_with_len_more grains (part_in s) (s.addr / 4) m (s.addr / 4 + m) refl) in
       let from : s.addr ≤ border s m = omega (arith, order) in
       let to : border s m ≤ border s (suc m) = omega arith in
-      let follow = ranges-follow hists s.addr (border s m) (border s (suc m)) kept from to in
+      let follow = ranges-follow hists s.addr (border s m) (border s (suc m)) from to in
       omega (arith, front, cell, more, follow)
 
   pub symbol-cells : (s : Symbol) → s.addr ≤ s.end → sum_by grains (cells_of s) ≡ share_of hists s

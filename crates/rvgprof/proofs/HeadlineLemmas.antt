@@ -9,19 +9,24 @@ use Rattle.gp_base.specs.declared.limits.TheConstants.{MAX_ELF_BYTES, MAX_PROFIL
 use Rattle.elf32_syms.specs.declared.image.Image.{Image}
 use Rattle.elf32_syms.specs.Refusals.{elf_refusal}
 use Rattle.elf32_syms.specs.Image.{image_of}
+use Rattle.elf32_syms.specs.Owners.{IsAscending}
+use Rattle.elf32_syms.proofs.OrderLemmas.{accepted_within}
 use Rattle.gmon_block.specs.Layout.{layout_of}
 use Rattle.gmon_data.specs.Content.{Content, IsProfile, WideRec, conflict_of, empty_content, runs_at, wide_records}
 use Rattle.gmon_data.specs.Content.{content_of}
+use Rattle.gmon_data.specs.Hists.{samples_of}
 use Rattle.gmon_data.specs.declared.refusal.Unlike.{Unlike as Difference}
 use Rattle.profile_sum.specs.Sum.{sum_of, clash_of}
 use Rattle.mcount_arcs.specs.declared.sizes.Sizes.{Sizes}
 use Rattle.prof_machine.specs.World.{World}
 use Rattle.host_port.specs.Act.{Act, Disk, Out, complaint_of, file_content, disk_after}
 use Rattle.annotate.specs.Listing.{annotated_text}
+use Rattle.annotate.proofs.CellLemmas.{listing-cells}
 use Rattle.host_port.specs.Act.{print_of as prints_of, Err as Complain}
 use Rattle.host_port.specs.Outside.{Outside, Becomes, Did, with_openings}
 use Rattle.host_port.proofs.Laws.{Becomes-by, Did-then, complained-append, disk_after-append, printed-append}
 use Rattle.symbol_shares.specs.Shares.{attributed_of, share_of, shares_of}
+use Rattle.symbol_shares.proofs.SumLemmas.{all-shared}
 use Rattle.call_cycles.specs.Graph.{IsGraph}
 use Rattle.call_cycles.specs.Flow.{IsFlow, time_of_roots}
 use Rattle.call_cycles.specs.Values.{profile_graph}
@@ -52,7 +57,7 @@ use Rattle.command_words.specs.Items.{nth_word}
 use Rattle.command_words.specs.Words.{command_of}
 use Rattle.rvgprof.specs.Course.{Course, Ends, Input, Does, Reply, one_by_one, unless, behind, reply_to}
 use Rattle.gmon_files.specs.Forms.{file_records, file_refusal}
-use Rattle.rvgprof.specs.Answer.{Chosen, RunFiles, all_reports, annotate_course, chosen_by, command_course, contents_of, demo_course, demo_lines, end_course, exact_report, file_acts, files_named, fold_program, folded_course, given_file_acts, list_profiles, print_reports, profile_in, profiles, program, report_course, report_profiles, report_run, run_acts, run_program, show_course, show_lines, shown_reports, stacks_told, start_fault_of, sum_file, sums_up, syms_lines, too_wide, wide_step, logged_profile}
+use Rattle.rvgprof.specs.Answer.{Chosen, RunFiles, all_reports, annotate_course, chosen_by, chosen_sources, command_course, contents_of, demo_course, demo_lines, end_course, exact_report, file_acts, files_named, fold_program, folded_course, given_file_acts, list_profiles, print_reports, profile_in, profiles, program, report_course, report_profiles, report_run, run_acts, run_program, show_course, show_lines, shown_reports, stacks_told, start_fault_of, sum_file, sums_up, syms_lines, too_wide, wide_step}
 use Rattle.demo_elf.specs.Elf.{demo_program}
 use Rattle.rvgprof.specs.Reports.{profile_sources}
 use Rattle.rvgprof.specs.Contract.{Acted, LineEnds, LineIsPrinted, WhereTold}
@@ -90,6 +95,11 @@ module _ (image : Image) (total : Content) where
       let shares = (shares_of total.hists image.symbols).of in
       let is = profile_is_graph total.arcs image.symbols in
       roots_have_all g shares is (length-map image.symbols (share_of total.hists)) (flow_in g shares) (solution g shares is)
+
+  -- the samples of functions and those outside
+  all_samples : IsAscending image.symbols → attributed_of (profile_sources image total).shares + (profile_sources image total).shares.outside ≡ 1000000 * samples_of total.hists
+  unfolding profile_sources
+  all_samples ascending = all-shared total.hists image.symbols ascending
 
   -- its parts are of one program
   of_one : AreOfOne (profile_sources image total)
@@ -383,12 +393,13 @@ module _ (contents : ℕ → List ℕ) (chosen : Chosen) (s : Sources) (done : D
   reports_complain line =
       shown_complain contents s chosen.shown chosen.hidden (exact_report chosen.exact s (Ends (Ok done))) (Complain line ∷ []) ∙ exact_complain contents s chosen.exact done line
 
-time_is_shared : (image : Image) (total : Content) → TimeIsShared (profile_sources image total)
-time_is_shared image total =
+time_is_shared : (image : Image) (total : Content) → IsAscending image.symbols → TimeIsShared total.hists (profile_sources image total)
+time_is_shared image total ascending =
     let s = profile_sources image total in
     let is = graph_of_sources image total in
     let flow = flow_of_sources image total in
     record {
+      all = all_samples image total ascending;
       graph = is;
       flow = flow;
       parts = λ i low out. parts_near s.graph s.shares.of s.flow is flow i low out;
@@ -396,6 +407,15 @@ time_is_shared image total =
       conserved = all_attributed image total;
       entries = root_entries s (of_one image total);
     }
+
+-- no sample is cut
+cut_is_shared : (chosen : Chosen) (image : Image) (total : Content) → IsAscending image.symbols → TimeIsShared total.hists (chosen_sources chosen image total)
+unfolding without_cuts
+cut_is_shared chosen image total ascending = time_is_shared image (without_cuts total image.symbols chosen.cuts) ascending
+
+-- the symbols of a program that is accepted are in order
+in_order : (program : List ℕ) → elf_refusal program ≡ None → IsAscending (image_of program).symbols
+in_order program accepted = (accepted_within program accepted).ascending
 
 -- ---- what the commands leave
 
@@ -522,7 +542,7 @@ module _ (words : List (List ℕ)) (old mid new : Outside) (done : Done) (acted 
         accepted = taken.0;
         profiles = taken.1;
         output = was_printed _ _ (reports_print contents chosen sources _ last.line) did;
-        shared = time_is_shared image (without_cuts total image.symbols chosen.cuts);
+        shared = cut_is_shared chosen image total (in_order (contents elf) taken.0.accepted);
         fits = taken.2;
       }
 
@@ -542,6 +562,7 @@ module _ (words : List (List ℕ)) (old mid new : Outside) (done : Done) (acted 
         accepted = taken.0;
         profiles = taken.1;
         output = was_printed _ _ (append-nil (annotated_text image program (total_of contents gmons))) did;
+        times = listing-cells (total_of contents gmons).hists image.symbols (in_order program taken.0.accepted);
       }
 
   profile_leaves : (elf gmon : ℕ) (form : Form) (memory : Option ℕ) (setup : Setup) (selection : Selection) → command_of words ≡ Some (Profile elf gmon form memory setup selection) → FitsWhereTold words old new elf form setup
@@ -569,7 +590,7 @@ module _ (words : List (List ℕ)) (old mid new : Outside) (done : Done) (acted 
             ∙ ap (λ (text : List ℕ). prints_of w.prints ++ text) (reports_print contents chosen sources _ last.line)) did;
         run = run_is_summed_up program setup (acts ++ (printed_last ++ line)) (ended_by command _ said reply ∙ reports_end contents chosen sources _)
             (run_complains words contents elf gmon form memory setup (printed_last ++ line) ∙ ap (λ (text : List ℕ). complaint_of w.prints ++ text) (reports_complain contents chosen sources _ last.line)) did;
-        shared = time_is_shared (image_of program) (without_cuts (logged_profile z w.log setup.rate) (image_of program).symbols chosen.cuts);
+        shared = cut_is_shared chosen (image_of program) (reported_profile program setup) (in_order program taken.0.accepted);
         fits = taken.2;
       }
 
@@ -579,6 +600,7 @@ module _ (words : List (List ℕ)) (old mid new : Outside) (done : Done) (acted 
       let name = option_map (nth_word words) elf in
       let bytes = demo_program functions in
       let prints = (end_world bytes setup).prints in
+      let taken : IsAccepted words contents command = all_taken command said in
       let reply = demo_goes contents functions name setup (well_done command said) in
       let did = done_by command _ said reply in
       record {
@@ -586,7 +608,7 @@ module _ (words : List (List ℕ)) (old mid new : Outside) (done : Done) (acted 
             (λ d. demo_file words elf word bytes prints (demo_printed functions setup) last.line d (files_driven (image_of bytes) bytes setup) is);
         output = was_printed _ _ (demo_prints name bytes prints (demo_printed functions setup) last.line) did;
         run = run_is_summed_up bytes setup _ (ended_by command _ said reply) (demo_complains name bytes prints (demo_printed functions setup) last.line) did;
-        shared = time_is_shared (image_of bytes) (reported_profile bytes setup);
+        shared = time_is_shared (image_of bytes) (reported_profile bytes setup) (in_order bytes taken.0);
       }
 
   -- a text is all that was printed

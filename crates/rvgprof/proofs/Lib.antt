@@ -21,5 +21,7 @@ pub mod LineLemmas
 pub mod Demonstrating
 pub mod DoneLemmas
 pub mod ClaimLemmas
+pub mod MeaningLemmas
 pub mod DemoWords
 pub mod DemoClaims
+pub mod ExampleLemmas

@@ -1,11 +1,12 @@
 -- What the words of the headline rest on in the layers below, a record for each. Each claim is written out here, so
 -- that a law of a layer no longer proves it once the law says less.
-use Rattle.std.specs.Prelude.{◌≡◌, ◌≢◌, ◌<◌, ◌≤◌, ◌+◌, ◌-◌, ◌*◌, ◌/◌, ◌^◌, ◌==◌, ◌++◌, ◌&&◌, ◌↔◌, ◌⊎◌, ℕ, suc, Bool, true, false, not, nat_eq, List, [], ◌∷◌, codes, length, map, filter, filter_map, take, slice_get, slice_index, slice_index_or, Option, Some, None, IsSome, MatchOption, All, Contains, count_by, sum, if◌then◌else◌, nat_le, nat_lt, option_map}
-use Rattle.std.specs.List.{AllByRecursion, AllPairs, enumerate_from, flat_map, sum_by, cons_option, list_any, range_with_len}
+use Rattle.std.specs.Prelude.{◌≡◌, ◌≢◌, ◌<◌, ◌≤◌, ◌+◌, ◌-◌, ◌*◌, ◌/◌, ◌^◌, ◌==◌, ◌++◌, ◌&&◌, ◌||◌, ◌↔◌, ◌⊎◌, ℕ, suc, Bool, true, false, not, nat_eq, List, [], ◌∷◌, codes, length, map, filter, filter_map, take, slice_get, slice_index, slice_index_or, Option, Some, None, IsSome, MatchOption, All, Contains, count_by, sum, if◌then◌else◌, nat_le, nat_lt, option_map}
+use Rattle.std.specs.List.{AllByRecursion, AllPairs, enumerate_from, find, flat_map, sum_by, cons_option, list_any, range_with_len}
 use Rattle.std.specs.List.Sorted.{IsPermutation, IsSortedBy, IsStrictlyIncreasing, IsStrictlySortedBy}
 use Rattle.std.specs.Int.{IsGcd, abs_diff}
 use Rattle.std.specs.Map.{keys_of}
-use Rattle.gp_base.specs.Bytes.{IsBytes, le, value_of}
+use Rattle.std.specs.Str.{bytes_eq}
+use Rattle.gp_base.specs.Bytes.{IsBytes, le, value_of, word_at}
 use Rattle.gp_base.specs.Spans.{is_in}
 use Rattle.gp_base.specs.declared.records.Span.{Span}
 use Rattle.gp_base.specs.declared.records.Unit.{Unit}
@@ -13,17 +14,20 @@ use Rattle.gp_base.specs.declared.records.Form.{Form}
 use Rattle.gp_base.specs.declared.records.Form.TheVariants.{Bsd, Gnu}
 use Rattle.gp_base.specs.declared.records.Records.{Records}
 use Rattle.gp_base.specs.declared.refusal.GmonRefusal.{GmonRefusal}
+use Rattle.gp_base.specs.declared.refusal.GmonRefusal.TheVariants as refusals
+use Rattle.gp_base.specs.declared.records.Rec.{Rec}
 use Rattle.host_port.specs.Act.{Act, Disk, disk_after}
 use Rattle.host_port.specs.Outside.{Did, Outside}
 use Rattle.command_words.specs.Words.{command_of}
 use Rattle.elf32_syms.specs.declared.image.Image.{Image}
 use Rattle.elf32_syms.specs.declared.image.Symbol.{Symbol}
 use Rattle.elf32_syms.specs.Image.{image_of}
+use Rattle.elf32_syms.specs.Names.{is_zero}
 use Rattle.elf32_syms.specs.Owners.{IsAscending, owner_of}
 use Rattle.elf32_syms.specs.Refusals.{elf_refusal}
 use Rattle.elf32_syms.specs.Symbols.{ranks_before as is_kept_before, kept_at}
-use Rattle.demo_elf.specs.Elf.{demo_program, elf_file}
-use Rattle.demo_laws.specs.Programs.{IsProgram, program_image}
+use Rattle.demo_elf.specs.Elf.{demo_program, elf_file, strings_text}
+use Rattle.demo_laws.specs.Programs.{AreInOrder, IsNamed, IsProgram, next_address, program_image, symbols_in_row}
 use Rattle.demo_laws.specs.Witness.{witness_file}
 use Rattle.rv_decode.specs.Table.{Matches, row_of, table}
 use Rattle.rv_step.specs.Memory.{IsInside, Memory, byte_at, read_at, write_at}
@@ -33,8 +37,8 @@ use Rattle.gmon_cells.specs.RunRecords.{run_recs, run_records}
 use Rattle.gmon_bsd.specs.Run.{bsd_run_text}
 use Rattle.gmon_gnu.specs.Blocks.{block_record, executed_blocks}
 use Rattle.gmon_gnu.specs.CountedRun.{block_recs}
-use Rattle.gmon_gnu.specs.Faults.{HasFault}
-use Rattle.gmon_gnu.specs.Grammar.{GnuSpells}
+use Rattle.gmon_gnu.specs.Faults.{HasEmptyRange, HasFault, IsTorn, RecordAt}
+use Rattle.gmon_gnu.specs.Grammar.{GnuSpells, RecFits, gnu_spelling}
 use Rattle.gmon_gnu.specs.ProfileText.{profile_text}
 use Rattle.gmon_files.specs.Forms.{file_records, file_refusal, form_of}
 use Rattle.gmon_files.specs.Runs.{run_text}
@@ -49,12 +53,12 @@ use Rattle.gmon_data.specs.Tally.{sum_at}
 use Rattle.profile_sum.specs.Sum.{clash_of, sum_of}
 use Rattle.arc_filter.specs.Cuts.{is_cut_pair, without_cuts}
 use Rattle.mcount_arcs.specs.declared.sizes.Sizes.{Sizes}
-use Rattle.mcount_arcs.specs.declared.state.State.TheVariants.{Busy, On}
+use Rattle.mcount_arcs.specs.declared.state.State.TheVariants.{Busy, Error, Off, On}
 use Rattle.mcount_arcs.specs.Arcs.{CallFits, arcs_of, chain_in, looks_of}
 use Rattle.mcount_arcs.specs.Image.{entry_in, front_in, index_in}
 use Rattle.mcount_arcs.specs.Log.{CallIgnored, CallLost, WalkDone, Enter, IsLegal, LogEntry, Mode, Pair, Sample, distinct_count, entered_calls, is_busy, is_on, kept_calls, state_of}
 use Rattle.mcount_arcs.specs.Samples.{buckets_of, counted_samples}
-use Rattle.mcount_arcs.specs.Sizes.{AreSizes, IsFraction, IsText, bucket_range, sizes_of, text_span}
+use Rattle.mcount_arcs.specs.Sizes.{AreSizes, IsFraction, IsText, bucket_range, offset_of, sizes_of, text_span}
 use Rattle.prof_machine.specs.declared.ending.End.{End}
 use Rattle.prof_machine.specs.declared.ending.End.TheVariants.{Budget, Exit, Trap}
 use Rattle.prof_machine.specs.declared.machine.Machine.{Machine}
@@ -86,12 +90,12 @@ use Rattle.fraction128.specs.Fractions.{Fraction, gcd, lowest, product_of, fract
 use Rattle.exact_flow.specs.Solution.{exact_flow_in, flow_of_times}
 use Rattle.exact_flow.specs.Steps.{FitsStep, step_at}
 use Rattle.exact_flow.specs.Wide.{WideStep, first_wide, first_wide_of}
-use Rattle.flat_report.specs.Sources.{AreOfOne, Sources}
+use Rattle.flat_report.specs.Sources.{AreOfOne, Sources, inclusive_total}
 use Rattle.flat_report.specs.Entries.{flat_comes_before as is_listed_before, flat_entries, listed_functions, flat_order as functions_in_order}
 use Rattle.flat_report.specs.FlatText.{cumulative_of, flat_text, flat_header, line_at}
 use Rattle.flat_report.specs.Hidden.{is_hidden}
 use Rattle.graph_report.specs.declared.subjects.Subject.TheVariants.{Function}
-use Rattle.graph_report.specs.Entries.{GraphEntry, graph_comes_before, number_in, graph_order}
+use Rattle.graph_report.specs.Entries.{GraphEntry, graph_comes_before, has_entry, number_in, graph_order}
 use Rattle.graph_report.specs.GraphText.{arcs_from, arcs_to, graph_text, graph_header, is_shown, subject_text}
 use Rattle.graph_report.specs.Roots.{has_own_entry, shown_total}
 use Rattle.graph_report.specs.Rows.{cycle_entries, function_entries}
@@ -157,6 +161,8 @@ pub record ProfileClaims : Type 0 where
   pub splits : (a b : List WideRec) → All HasSpan (a ++ b) → conflict_of empty_content (a ++ b) ≡ None → clash_of (content_of a) (content_of b) ≡ None
   -- the records of a file that isn't refused have such spans
   pub spans : (bytes : List ℕ) → IsBytes bytes → file_refusal bytes ≡ None → All HasSpan (wide_records (file_records bytes).recs)
+  -- so each histogram of what such records add up to has a range and counters, also where files that were added up are unlike
+  pub kept : (recs : List WideRec) → All HasSpan recs → AllByRecursion IsKept (content_of recs).hists
   -- the content of records and more records is that of the first ones, with the others added one by one
   pub more_records : (recs more : List WideRec) → content_of (recs ++ more) ≡ with_records more (content_of recs)
   -- for each low address and each place, a content counts there what the histograms among its records count
@@ -265,6 +271,29 @@ pub record RunClaims : Type 0 where
   -- .. by its plan too
   pub plan_not_busy : (image : Image) (bytes : List ℕ) (setup : Setup) → 1 ≤ setup.harts →
       let w = final_world image bytes setup in IsSome w.ending → state_of (machine_of image setup).sizes w.log ≢ Busy
+  -- the log of a run is legal ..
+  pub legal : (image : Image) (bytes : List ℕ) (setup : Setup) (turns : List ℕ) → All (λ h. h < setup.harts) turns →
+      let m = machine_of image setup in IsLegal m.sizes (world_after m (start_of image bytes setup) turns).log
+  -- .. by its plan too
+  pub plan_legal : (image : Image) (bytes : List ℕ) (setup : Setup) → 1 ≤ setup.harts → IsLegal (machine_of image setup).sizes (final_world image bytes setup).log
+  -- a call that is lost met another one that was being entered ..
+  pub lost : (image : Image) (bytes : List ℕ) (setup : Setup) (turns : List ℕ) → All (λ h. h < setup.harts) turns →
+      let m = machine_of image setup in
+      (before : List LogEntry) (from to : ℕ) (after : List LogEntry) → (world_after m (start_of image bytes setup) turns).log ≡ before ++ CallLost from to ∷ after → state_of m.sizes before ≡ Busy
+  -- .. and no other call did: one that is entered came from the text while the table was on ..
+  pub entered : (image : Image) (bytes : List ℕ) (setup : Setup) (turns : List ℕ) → All (λ h. h < setup.harts) turns →
+      let m = machine_of image setup in
+      (before : List LogEntry) (from to : ℕ) (after : List LogEntry) → (world_after m (start_of image bytes setup) turns).log ≡ before ++ Enter from to ∷ after
+      → (state_of m.sizes before ≡ On) × (offset_of m.sizes from < m.sizes.high - m.sizes.low)
+  -- .. one that is ignored while it was off or arcs had run out, or from elsewhere while it was on ..
+  pub ignored : (image : Image) (bytes : List ℕ) (setup : Setup) (turns : List ℕ) → All (λ h. h < setup.harts) turns →
+      let m = machine_of image setup in
+      (before : List LogEntry) (from to : ℕ) (after : List LogEntry) → (world_after m (start_of image bytes setup) turns).log ≡ before ++ CallIgnored from to ∷ after
+      → (state_of m.sizes before ≡ Off) ⊎ (state_of m.sizes before ≡ Error) ⊎ ((state_of m.sizes before ≡ On) × (m.sizes.high - m.sizes.low ≤ offset_of m.sizes from))
+  -- .. and a call is done that was being entered
+  pub done : (image : Image) (bytes : List ℕ) (setup : Setup) (turns : List ℕ) → All (λ h. h < setup.harts) turns →
+      let m = machine_of image setup in
+      (before after : List LogEntry) → (world_after m (start_of image bytes setup) turns).log ≡ before ++ WalkDone ∷ after → is_busy before ≡ true
 
 -- ---- what the runtime counts
 
@@ -318,6 +347,8 @@ pub record CountClaims : Type 0 where
 -- ---- shares of samples
 
 pub record ShareClaims : Type 0 where
+  -- what symbols get and what none of them gets are together all samples
+  pub all : (hists : List Hist) (symbols : List Symbol) → IsAscending symbols → attributed_of (shares_of hists symbols) + (shares_of hists symbols).outside ≡ 1000000 * samples_of hists
   -- symbols that cover the ranges of all histograms have all samples, and none lie outside
   pub covered : (hists : List Hist) (symbols : List Symbol) → AllByRecursion IsKept hists → IsAscending symbols → AllByRecursion (IsCovered symbols) hists
       → (attributed_of (shares_of hists symbols) ≡ 1000000 * samples_of hists) × ((shares_of hists symbols).outside ≡ 0)
@@ -329,13 +360,13 @@ pub record ShareClaims : Type 0 where
       (share_of_bucket h i s * (h.high - h.low) < 1000000 * slice_index h.counters i * overlap_of h i s + (h.high - h.low))
       × (1000000 * slice_index h.counters i * overlap_of h i s < (share_of_bucket h i s + 1) * (h.high - h.low))
   -- ranges of addresses that follow one another have together what the whole range has
-  pub ranges_follow : (hists : List Hist) (a b c : ℕ) → AllByRecursion IsKept hists → a ≤ b → b ≤ c → grains_of_range hists a b + grains_of_range hists b c ≡ grains_of_range hists a c
+  pub ranges_follow : (hists : List Hist) (a b c : ℕ) → a ≤ b → b ≤ c → grains_of_range hists a b + grains_of_range hists b c ≡ grains_of_range hists a c
   -- a symbol's share is what its addresses have
   pub range_of_symbol : (hists : List Hist) (s : Symbol) → share_of hists s ≡ grains_of_range hists s.addr s.end
   -- the cells of a symbol have its share together
-  pub cells : (hists : List Hist) (s : Symbol) → AllByRecursion IsKept hists → s.addr ≤ s.end → sum_by (λ cell. grains_of_range hists cell.low cell.high) (cells_of s) ≡ share_of hists s
+  pub cells : (hists : List Hist) (s : Symbol) → s.addr ≤ s.end → sum_by (λ cell. grains_of_range hists cell.low cell.high) (cells_of s) ≡ share_of hists s
   -- so the whole listing has the grains of all symbols
-  pub listing : (hists : List Hist) (symbols : List Symbol) → AllByRecursion IsKept hists → IsAscending symbols
+  pub listing : (hists : List Hist) (symbols : List Symbol) → IsAscending symbols
       → sum_by (λ s. sum_by (λ cell. grains_of_range hists cell.low cell.high) (cells_of s)) symbols ≡ attributed_of (shares_of hists symbols)
   -- an address of a symbol lies in the cell of its own word, and in no other
   pub one_cell : (s : Symbol) (x w : ℕ) → s.addr ≤ x → x < s.end → (((part_in s w).low ≤ x) × (x < (part_in s w).high)) ↔ (w ≡ x / 4)
@@ -526,6 +557,25 @@ pub record WitnessClaims : Type 0 where
   }
   -- .. and a run of it starts, with 4 to 256 MiB of memory
   pub starts : (setup : Setup) → 4 ≤ setup.ram_mib → setup.ram_mib ≤ 256 → start_refusal (image_of witness_file) setup ≡ None
+  -- its symbols cover each histogram of its text
+  pub covered : (h : Hist) → 0x10000 ≤ h.low → h.high ≤ 0x10010 → IsCovered (image_of witness_file).symbols h
+
+-- ---- the faults of a GNU file
+
+-- a record of a tag isn't all there: of a histogram its 32 bytes of fields, or where its range isn't empty its counters; of
+-- an arc its 12 bytes; of counts of blocks the 4 bytes of their number, or their pairs
+abbrev pub IsCutOff : ℕ → List ℕ → Type 0
+IsCutOff tag body =
+    ((tag ≡ 0) × (length body < 32)) ⊎ ((tag ≡ 0) × (0 < word_at body 8 → word_at body 0 < word_at body 4) × (length body < 32 + 2 * word_at body 8))
+    ⊎ ((tag ≡ 1) × (length body < 12)) ⊎ ((tag ≡ 2) × (length body < 4)) ⊎ ((tag ≡ 2) × (length body < 4 + 8 * word_at body 0))
+
+-- each fault with the refusal that names it
+abbrev pub IsOneFault : List ℕ → GmonRefusal → Type 0
+IsOneFault bytes refusal =
+    ((length bytes < 20) × (refusal ≡ refusals.Short (length bytes))) ⊎ ((20 ≤ length bytes) × (word_at bytes 4 ≢ 1) × (refusal ≡ refusals.Version (word_at bytes 4)))
+    ⊎ ((at : ℕ) × (tag : ℕ) × (body : List ℕ) × RecordAt bytes at tag body × (2 < tag) × (refusal ≡ refusals.Tag at tag))
+    ⊎ ((at : ℕ) × (body : List ℕ) × RecordAt bytes at 0 body × HasEmptyRange body × (refusal ≡ refusals.Range at (word_at body 0) (word_at body 4)))
+    ⊎ ((at : ℕ) × (tag : ℕ) × (body : List ℕ) × RecordAt bytes at tag body × IsTorn tag body × (refusal ≡ refusals.Short (length bytes)))
 
 -- ---- what words mean that no clause of a call says
 
@@ -538,6 +588,42 @@ pub record MeaningClaims : Type 0 where
   -- each address of a covered histogram lies in a symbol
   pub covered : (symbols : List Symbol) (h : Hist) → IsCovered symbols h
       ↔ ((x : ℕ) → h.low ≤ x → x < h.high → list_any (λ s. nat_le s.addr x && nat_lt x s.end) symbols ≡ true)
+  -- the entry of a component is that of the cycle, or else of its one function, and shows the time of the cycle, or the
+  -- total of the function
+  pub own_entry : (s : Sources) (c : ℕ) → has_own_entry s c ≡ (is_cycle s.graph c || has_entry s (head_of s.graph c))
+  pub total : (s : Sources) (c : ℕ) → shown_total s c ≡ (if is_cycle s.graph c then time_of s.flow c else inclusive_total s (head_of s.graph c))
+  -- the first fault of a GNU file: its header isn't all there, or of another version; or behind records without a fault one
+  -- has none of the three tags, or an empty range, or isn't all there
+  pub fault : (bytes : List ℕ) (refusal : GmonRefusal) → HasFault bytes refusal ↔ IsOneFault bytes refusal
+  -- such a record stands behind a header and records as in a spelling
+  pub record_at : (bytes : List ℕ) (at tag : ℕ) (body : List ℕ) → RecordAt bytes at tag body
+      ↔ ((first : List ℕ) × (spare : List ℕ) × (recs : List Rec) × (bytes ≡ gnu_spelling first spare recs ++ tag ∷ body) × (at ≡ length (gnu_spelling first spare recs))
+      × (length first ≡ 4) × (length spare ≡ 12) × AllByRecursion RecFits recs)
+  -- a histogram has counters, and its low address isn't below its high one
+  pub empty_range : (body : List ℕ) → HasEmptyRange body ↔ ((32 ≤ length body) × (0 < word_at body 8) × (word_at body 4 ≤ word_at body 0))
+  -- a record of these tags ends behind the end of the file
+  pub torn : (tag : ℕ) (body : List ℕ) → IsTorn tag body ↔ IsCutOff tag body
+  -- a program's file is made of words and of symbols with names, in order
+  pub program : (words : List ℕ) (symbols : List (List ℕ × ℕ)) → IsProgram words symbols
+      ↔ ((0 < length words) × (4 * length words ≤ 16777216) × (length symbols ≤ 65536) × (length (strings_text symbols) ≤ 2 ^ 28)
+      × AllByRecursion IsNamed symbols × AreInOrder 0 (4 * length words) symbols)
+  pub named : (s : List ℕ × ℕ) → IsNamed s ↔ ((0 < length s.0) × (length s.0 ≤ 4095) × AllByRecursion (λ b. is_zero b ≡ false) s.0)
+  pub none_in_order : (low high : ℕ) → AreInOrder low high []
+  pub next_in_order : (low high : ℕ) (s : List ℕ × ℕ) (more : List (List ℕ × ℕ)) → AreInOrder low high (s ∷ more) ↔ ((low ≤ s.1) × (s.1 < high) × AreInOrder (s.1 + 1) high more)
+  -- its image has one segment, which is its text, and a symbol up to the next one for each of these
+  pub image : (words : List ℕ) (symbols : List (List ℕ × ℕ)) → program_image words symbols ≡ record {
+    entry = 0x10000;
+    segments = record { addr = 0x10000; offset = 4096; filesz = 4 * length words; memsz = 4 * length words } ∷ [];
+    text = record { low = 0x10000; high = 0x10000 + 4 * length words };
+    symbols = symbols_in_row (0x10000 + 4 * length words) symbols;
+    mcount = option_map (λ (s : List ℕ × ℕ). 0x10000 + s.1) (find (λ (s : List ℕ × ℕ). bytes_eq s.0 (codes "_mcount")) symbols);
+    moncontrol = option_map (λ (s : List ℕ × ℕ). 0x10000 + s.1) (find (λ (s : List ℕ × ℕ). bytes_eq s.0 (codes "moncontrol")) symbols);
+  }
+  pub no_symbol : (high : ℕ) → symbols_in_row high [] ≡ []
+  pub symbol : (high : ℕ) (s : List ℕ × ℕ) (more : List (List ℕ × ℕ)) → symbols_in_row high (s ∷ more)
+      ≡ record { addr = 0x10000 + s.1; end = next_address high more; name = s.0 } ∷ symbols_in_row high more
+  pub last_end : (high : ℕ) → next_address high [] ≡ high
+  pub next_end : (high : ℕ) (s : List ℕ × ℕ) (more : List (List ℕ × ℕ)) → next_address high (s ∷ more) ≡ 0x10000 + s.1
   -- the pairs of executions by address, of those that aren't 0
   pub no_pair : (addr : ℕ) → pair_of addr 0 ≡ None
   pub pair : (addr n : ℕ) → pair_of addr (suc n) ≡ Some (record { addr = addr; count = suc n })

@@ -2,18 +2,23 @@
 -- and the time in the report. What is said of inputs is said of the contents that the answer is for: those of the files
 -- where the host tells them before and after, and else some.
 use Rattle.std.specs.Prelude.{◌≡◌, ◌≢◌, ◌<◌, ◌+◌, ◌*◌, ◌&&◌, ℕ, slice_index, Bool, true, false, List, [], ◌∷◌, ◌++◌, codes, Option, Some, None, option_map, Result, Ok, IfOk, IfSome}
+use Rattle.std.specs.List.{sum_by}
 use Rattle.elf32_syms.specs.Image.{image_of}
 use Rattle.gp_base.specs.declared.records.Form.{Form}
 use Rattle.gp_base.specs.declared.records.Form.TheVariants.{Gnu}
+use Rattle.gmon_data.specs.declared.hist.Hist.{Hist}
 use Rattle.gmon_data.specs.Content.{runs_at}
+use Rattle.gmon_data.specs.Hists.{samples_of}
 use Rattle.gmon_files.specs.Forms.{file_records}
 use Rattle.gmon_gnu.specs.ProfileText.{profile_text}
+use Rattle.annotate.specs.Cells.{cells_of}
 use Rattle.annotate.specs.Listing.{annotated_text}
 use Rattle.text_lines.specs.Lines.{image_text, show_text}
 use Rattle.host_port.specs.Act.{complaint_of, file_content}
 use Rattle.host_port.specs.Act.{print_of as prints_of}
 use Rattle.host_port.specs.Outside.{Outside, Becomes}
-use Rattle.symbol_shares.specs.Shares.{attributed_of}
+use Rattle.symbol_shares.specs.Ranges.{grains_of_range}
+use Rattle.symbol_shares.specs.Shares.{attributed_of, shares_of}
 use Rattle.call_cycles.specs.Graph.{IsGraph, arc_at, arc_count, component_count, entering_of, is_outside, target_of}
 use Rattle.call_cycles.specs.Flow.{IsFlow, is_root, time_of_roots}
 use Rattle.call_cycles.specs.Sums.{sum_below, when}
@@ -115,8 +120,11 @@ ArcIsInProportion s i =
 abbrev pub CallersGetAll : Sources → ℕ → Type 0
 CallersGetAll s d = (carried_to s.graph (slice_index s.flow.arc_self) d ≡ slice_index s.flow.self d) × (carried_to s.graph (slice_index s.flow.arc_child) d ≡ slice_index s.flow.child d)
 
--- The time of what reports are made from is shared out, in grains, of which a million are a sample.
-pub record TimeIsShared (s : Sources) : Type 0 where
+-- The time of what reports are made from is shared out, in grains, of which a million are a sample of the histograms.
+pub record TimeIsShared (hists : List Hist) (s : Sources) : Type 0 where
+  -- what is attributed to functions and what is outside them, both of which the second line of a flat profile shows, are
+  -- together all samples
+  pub all : attributed_of s.shares + s.shares.outside ≡ 1000000 * samples_of hists
   -- functions, arcs and components are a graph, and its times solve the equations of `IsFlow` ..
   pub graph : IsGraph s.graph
   pub flow : IsFlow s.graph s.shares.of s.flow
@@ -150,7 +158,7 @@ pub record ReportLeaves (contents : ℕ → List ℕ) (old new : Outside) (elf :
   pub profiles : AreProfileFiles contents gmons
   -- the reports were printed
   pub output : IsPrinted (printed_text chosen (sum_sources chosen contents elf gmons)) old new
-  pub shared : TimeIsShared (sum_sources chosen contents elf gmons)
+  pub shared : TimeIsShared (total_of contents gmons).hists (sum_sources chosen contents elf gmons)
   -- no step of the exact times is too wide, where these are asked for
   pub fits : wide_step chosen.exact (sum_sources chosen contents elf gmons) ≡ None
 
@@ -159,6 +167,9 @@ pub record AnnotateLeaves (contents : ℕ → List ℕ) (old new : Outside) (elf
   pub accepted : IsProgramFile (contents elf)
   pub profiles : AreProfileFiles contents gmons
   pub output : IsPrinted (annotated_text (image_of (contents elf)) (contents elf) (total_of contents gmons)) old new
+  -- the grains of all cells are what is attributed to all functions
+  pub times : sum_by (λ s. sum_by (λ cell. grains_of_range (total_of contents gmons).hists cell.low cell.high) (cells_of s)) (image_of (contents elf)).symbols
+      ≡ attributed_of (shares_of (total_of contents gmons).hists (image_of (contents elf)).symbols)
 
 -- what `sum` leaves
 pub record SumLeaves (words : List (List ℕ)) (contents : ℕ → List ℕ) (old new : Outside) (out : ℕ)
@@ -205,7 +216,7 @@ pub record ProfileLeaves (words : List (List ℕ)) (contents : ℕ → List ℕ)
   pub output : IsPrinted (prints_of (end_world (contents elf) setup).prints
       ++ printed_text chosen (run_sources chosen (contents elf) setup)) old new
   pub run : RunIsSummedUp words old new done setup (contents elf)
-  pub shared : TimeIsShared (run_sources chosen (contents elf) setup)
+  pub shared : TimeIsShared (reported_profile (contents elf) setup).hists (run_sources chosen (contents elf) setup)
   pub fits : wide_step chosen.exact (run_sources chosen (contents elf) setup) ≡ None
 
 -- what a demo's summary is made from
@@ -231,7 +242,7 @@ pub record DemoLeaves (words : List (List ℕ)) (old new : Outside) (done : Done
       ++ demo_printed functions setup) old new
   pub run : RunIsSummedUp words old new done setup (demo_program functions)
   -- the grains that are attributed are those of the components that none calls: the two numbers in the summary
-  pub shared : TimeIsShared (demo_sources functions setup)
+  pub shared : TimeIsShared (reported_profile (demo_program functions) setup).hists (demo_sources functions setup)
 
 -- what a command leaves where it is carried out; words without a reading never are
 abbrev pub Leaves : List (List ℕ) → (ℕ → List ℕ) → Outside → Outside → Done → Option Command → Type 0

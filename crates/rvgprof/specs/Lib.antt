@@ -13,3 +13,4 @@ pub mod Headline
 pub mod Standing
 pub mod Claims
 pub mod Fitting
+pub mod Examples

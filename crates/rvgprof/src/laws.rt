@@ -16,6 +16,7 @@ ghost use Rattle.rvgprof.specs.Completeness.{Stayed, NoneFailed, Complete};
 ghost use Rattle.rvgprof.specs.Acceptance.{IsAccepted, acts_at_once};
 ghost use Rattle.rvgprof.specs.Headline.{Answered, ExecutionsAreListed};
 ghost use Rattle.rvgprof.specs.Claims.{Claims};
+ghost use Rattle.rvgprof.specs.Examples.{FileExamples, WordExamples};
 ghost use Rattle.rvgprof.specs.RunFile.{ProfileFilesAreReadBack, RunFilesAreReadBack};
 
 /// The files that the program writes say what they are made from, and are read in the form that their first
@@ -89,6 +90,13 @@ pub fn what_memory_leaves()
         → MayStop contents (course_of words) acts → acts ≡ [] }
 {}
 
+/// A profile file of each form that is written out byte by byte is accepted, and read as its records; and words of each
+/// command say it.
+pub fn examples_are_read()
+    ensures files { FileExamples }
+    ensures words { WordExamples }
+{}
+
 /// What the words of the headline rest on in the layers below, in one statement. Each claim is written out, and
 /// follows from the law of its layer that is called here, so that none of these laws can come to say less.
 pub fn claims()
@@ -108,6 +116,7 @@ pub fn claims()
     gmon_files::laws::records_have_spans();
     profile_sum::laws::sum_of_contents();
     profile_sum::laws::parts_have_sum();
+    profile_sum::laws::hists_are_kept();
     gmon_data::laws::records_add_up();
     gmon_data::laws::counters_add_up();
     gmon_data::laws::executions_add_up();
@@ -126,6 +135,7 @@ pub fn claims()
     prof_machine::laws::pairs_are_counts();
     prof_machine::laws::prints_stay();
     prof_machine::laws::none_ends_busy();
+    prof_machine::laws::logs_are_legal();
     mcount_arcs::laws::samples_alone();
     mcount_arcs::laws::one_sample_more();
     mcount_arcs::laws::one_bucket();
@@ -134,6 +144,7 @@ pub fn claims()
     mcount_arcs::laws::indices_stay();
     mcount_arcs::laws::links_after_one_call_more();
     mcount_arcs::laws::looks_stay();
+    symbol_shares::laws::all_samples_are_shared();
     symbol_shares::laws::covered_ranges();
     symbol_shares::laws::whole_buckets();
     symbol_shares::laws::parts_of_buckets();

@@ -1,6 +1,7 @@
 -- The grains of one bucket: none below it, all above it, and more from address to address.
-use Rattle.std.proofs.Common.{◌≡◌, ℕ, ◌+◌, ◌-◌, ◌*◌, ◌/◌, ◌<◌, ◌≤◌, min, length, get_or, ap, ◌∙◌, arith}
+use Rattle.std.proofs.Common.{◌≡◌, ℕ, ◌+◌, ◌-◌, ◌*◌, ◌/◌, ◌<◌, ◌≤◌, min, length, get_or, ap, ◌∙◌, ⊎_elim, arith}
 use Rattle.std.proofs.Math.Nat.{zero-div, mul-div_left, div-mul-le_self, div-le_of_le-mul, mul-le-mul_left, mul-le-mul_right, min-le_left}
+use Rattle.std.proofs.lemmas.Bool.{cases_lt}
 use Rattle.std.proofs.lemmas.Nat.{le-div}
 use Rattle.gmon_data.specs.declared.hist.Hist.{Hist}
 use Rattle.elf32_syms.specs.declared.image.Symbol.{Symbol}
@@ -46,6 +47,18 @@ grains-rise h i x y range le =
     let more = mul-le-mul_right (length h.counters) le in
     let places : place_in_bucket h i x ≤ place_in_bucket h i y = omega (arith, more) in
     quotients_rise (get_or h.counters i 0 * 1000000) (place_in_bucket h i x) (place_in_bucket h i y) (h.high - h.low) (omega arith) places
+
+-- a range that holds no address has no grains anywhere
+pub grains-ascend : (h : Hist) (i x y : ℕ) → x ≤ y → grains_up_to h i x ≤ grains_up_to h i y
+unfolding grains_up_to
+grains-ascend h i x y le = ⊎_elim
+    (λ (range : h.low < h.high). grains-rise h i x y range le)
+    (λ (none : h.high ≤ h.low).
+    let same : place_in_bucket h i x ≡ place_in_bucket h i y = omega (arith, none) in
+    let e : grains_up_to h i x ≡ grains_up_to h i y = ap (λ p. get_or h.counters i 0 * 1000000 * p / (h.high - h.low)) same in
+    let all : grains_up_to h i x ≤ grains_up_to h i y = omega (arith, e) in
+    all)
+    (cases_lt h.low h.high)
 
 pub grains-within : (h : Hist) (i x : ℕ) → grains_up_to h i x ≤ get_or h.counters i 0 * 1000000
 unfolding grains_up_to

@@ -104,7 +104,7 @@ covered-rise g low high (s ∷ symbols) rise ascending covered =
 
 bucket-covered : (h : Hist) (i : ℕ) (symbols : List Symbol) → IsKept h → IsAscending symbols → IsCovered symbols h → i < length h.counters → sum_by (share_of_bucket h i) symbols ≡ get_or h.counters i 0 * 1000000
 bucket-covered h i symbols kept ascending covered below =
-    let most = bucket-within h i symbols kept.range ascending in
+    let most = bucket-within h i symbols ascending in
     let least = covered-rise (grains_up_to h i) h.low h.high symbols (λ x y le. grains-rise h i x y kept.range le) ascending covered in
     let none = grains-none h i h.low (omega arith) in
     let place : h.high ≡ h.low + (h.high - h.low) = let r = kept.range in omega (arith, r) in

@@ -10,7 +10,7 @@ use Rattle.gmon_data.specs.declared.hist.Hist.{Hist}
 use Rattle.gmon_data.specs.Hists.{IsApart, IsKept, samples_of}
 use Rattle.symbol_shares.specs.Shares.{bucket_begin}
 use Rattle.symbol_shares.specs.Ranges.{grains_of_bucket, grains_of_buckets, grains_in_hist, grains_of_range}
-use Rattle.symbol_shares.proofs.BucketLemmas.{grains-none, grains-all, grains-rise, grains-within}
+use Rattle.symbol_shares.proofs.BucketLemmas.{grains-none, grains-all, grains-ascend, grains-within}
 use Rattle.symbol_shares.proofs.SumLemmas.{range-more, sums-added}
 use Rattle.symbol_shares.proofs.WalkLemmas.{at-place}
 
@@ -169,14 +169,14 @@ hist-samples hists k h at =
 
 -- ---- ranges that follow one another
 
-hist-follows : (a b c : ℕ) (h : Hist) → h.low < h.high → a ≤ b → b ≤ c → grains_in_hist a c h ≡ grains_in_hist a b h + grains_in_hist b c h
-hist-follows a b c h range ab bc =
+hist-follows : (a b c : ℕ) (h : Hist) → a ≤ b → b ≤ c → grains_in_hist a c h ≡ grains_in_hist a b h + grains_in_hist b c h
+hist-follows a b c h ab bc =
     sums-added (grains_of_bucket h a b) (grains_of_bucket h b c) (grains_of_bucket h a c) (range_with_len 0 (length h.counters)) (λ i.
-    let one = grains-rise h i a b range ab in
-    let two = grains-rise h i b c range bc in
+    let one = grains-ascend h i a b ab in
+    let two = grains-ascend h i b c bc in
     let e : grains_of_bucket h a c i ≡ grains_of_bucket h a b i + grains_of_bucket h b c i = omega (arith, one, two) in e)
 
-pub ranges-follow : (hists : List Hist) (a b c : ℕ) → AllByRecursion IsKept hists → a ≤ b → b ≤ c → grains_of_range hists a b + grains_of_range hists b c ≡ grains_of_range hists a c
-ranges-follow [] a b c kept ab bc = refl
-ranges-follow (h ∷ hists) a b c kept ab bc =
-    omega (arith, hist-follows a b c h kept.0.range ab bc, ranges-follow hists a b c kept.1 ab bc, sum_by-cons (grains_in_hist a b) h hists, sum_by-cons (grains_in_hist b c) h hists, sum_by-cons (grains_in_hist a c) h hists)
+pub ranges-follow : (hists : List Hist) (a b c : ℕ) → a ≤ b → b ≤ c → grains_of_range hists a b + grains_of_range hists b c ≡ grains_of_range hists a c
+ranges-follow [] a b c ab bc = refl
+ranges-follow (h ∷ hists) a b c ab bc =
+    omega (arith, hist-follows a b c h ab bc, ranges-follow hists a b c ab bc, sum_by-cons (grains_in_hist a b) h hists, sum_by-cons (grains_in_hist b c) h hists, sum_by-cons (grains_in_hist a c) h hists)

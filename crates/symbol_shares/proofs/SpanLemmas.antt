@@ -155,6 +155,6 @@ pub left-fits : (h : Hist) (i : ℕ) (symbols : List Symbol) (ns of : List ℕ) 
 left-fits h i symbols ns of most range ascending within added fits =
     let total : sum of ≡ sum ns + sum (map (share_of_buckets h i) symbols) = ap sum added ∙ sum-pointwise ns (map (share_of_buckets h i) symbols) in
     let shares = sum-map (share_of_buckets h i) symbols in
-    let front = buckets-within h i symbols range ascending within in
+    let front = buckets-within h i symbols ascending within in
     let counts = sum_by-take-drop (λ (n : ℕ). n) h.counters i in
     omega (arith, total, shares, front, counts, fits)

@@ -3,15 +3,15 @@ use Rattle.std.proofs.Common.{◌≡◌, ℕ, zero, suc, ◌+◌, ◌-◌, ◌*�
 use Rattle.std.specs.List.{All, AllByRecursion, sum_by, range_with_len}
 use Rattle.std.proofs.lemmas.List.{map-id, take_all}
 use Rattle.std.proofs.lemmas.List.FromFn.{map-range_with_len_more}
-use Rattle.std.proofs.lemmas.List.Sums.{sum_by-cons, sum_by_push, sum_by_more}
+use Rattle.std.proofs.lemmas.List.Sums.{sum_by-cons, sum_by_push, sum_by_more, sum-map}
 use Rattle.std.proofs.lemmas.List.Elements.{All-head, All-tail}
 use Rattle.gmon_data.specs.declared.hist.Hist.{Hist}
-use Rattle.gmon_data.specs.Hists.{IsKept, pointwise_sum, samples_of}
+use Rattle.gmon_data.specs.Hists.{pointwise_sum, samples_of}
 use Rattle.gmon_data.proofs.CounterLemmas.{sum-none}
 use Rattle.elf32_syms.specs.declared.image.Symbol.{Symbol}
 use Rattle.elf32_syms.specs.Owners.{IsAscending}
-use Rattle.symbol_shares.specs.Shares.{grains_up_to, share_of_bucket, share_of_buckets, share_in_hist, share_of}
-use Rattle.symbol_shares.proofs.BucketLemmas.{grains-rise, grains-within}
+use Rattle.symbol_shares.specs.Shares.{grains_up_to, share_of_bucket, share_of_buckets, attributed_of, share_in_hist, share_of, shares_of}
+use Rattle.symbol_shares.proofs.BucketLemmas.{grains-ascend, grains-within}
 use Rattle.symbol_shares.proofs.OrderLemmas.{ascending-tail}
 
 -- ---- numbers added to numbers
@@ -94,32 +94,38 @@ shares-of-rise g c low (s ∷ symbols) rise most ascending from =
     let rest = shares-of-rise g c s.end symbols rise most (ascending-tail s symbols ascending) (λ d some. ascending.apart 0 d (omega arith)) in
     omega (arith, first, each, rest, sum_by-cons (λ (s : Symbol). g s.end - g s.addr) s symbols)
 
-pub bucket-within : (h : Hist) (i : ℕ) (symbols : List Symbol) → h.low < h.high → IsAscending symbols → sum_by (share_of_bucket h i) symbols ≤ get_or h.counters i 0 * 1000000
-bucket-within h i symbols range ascending =
-    let all = shares-of-rise (grains_up_to h i) (get_or h.counters i 0 * 1000000) 0 symbols (λ x y le. grains-rise h i x y range le) (grains-within h i) ascending (λ d some. omega arith) in
+pub bucket-within : (h : Hist) (i : ℕ) (symbols : List Symbol) → IsAscending symbols → sum_by (share_of_bucket h i) symbols ≤ get_or h.counters i 0 * 1000000
+bucket-within h i symbols ascending =
+    let all = shares-of-rise (grains_up_to h i) (get_or h.counters i 0 * 1000000) 0 symbols (λ x y le. grains-ascend h i x y le) (grains-within h i) ascending (λ d some. omega arith) in
     omega (arith, all)
 
-pub buckets-within : (h : Hist) (m : ℕ) (symbols : List Symbol) → h.low < h.high → IsAscending symbols → m ≤ length h.counters → sum_by (share_of_buckets h m) symbols ≤ 1000000 * sum (take m h.counters)
-buckets-within h zero symbols range ascending le = let none = sums-of-none (share_of_buckets h 0) symbols (λ s. refl) in omega (arith, none)
-buckets-within h (suc m) symbols range ascending le =
+pub buckets-within : (h : Hist) (m : ℕ) (symbols : List Symbol) → IsAscending symbols → m ≤ length h.counters → sum_by (share_of_buckets h m) symbols ≤ 1000000 * sum (take m h.counters)
+buckets-within h zero symbols ascending le = let none = sums-of-none (share_of_buckets h 0) symbols (λ s. refl) in omega (arith, none)
+buckets-within h (suc m) symbols ascending le =
     let one : m + 1 ≡ suc m = omega arith in
-    let front = buckets-within h m symbols range ascending (omega arith) in
-    let last = bucket-within h m symbols range ascending in
+    let front = buckets-within h m symbols ascending (omega arith) in
+    let last = bucket-within h m symbols ascending in
     let shares = rw one at (sums-added (share_of_buckets h m) (share_of_bucket h m) (share_of_buckets h (m + 1)) symbols (buckets-more h m)) in
     let counts = rw one at (sum_by_more (λ (n : ℕ). n) h.counters m 0 (omega arith)) in
     omega (arith, front, last, shares, counts)
 
-pub hist-within : (h : Hist) (symbols : List Symbol) → h.low < h.high → IsAscending symbols → sum_by (share_in_hist h) symbols ≤ 1000000 * sum h.counters
-hist-within h symbols range ascending =
-    let all = buckets-within h (length h.counters) symbols range ascending (omega arith) in
+pub hist-within : (h : Hist) (symbols : List Symbol) → IsAscending symbols → sum_by (share_in_hist h) symbols ≤ 1000000 * sum h.counters
+hist-within h symbols ascending =
+    let all = buckets-within h (length h.counters) symbols ascending (omega arith) in
     let whole = ap sum (take_all (length h.counters) h.counters (omega arith)) in
     omega (arith, all, whole)
 
-pub hists-within : (hists : List Hist) (symbols : List Symbol) → AllByRecursion IsKept hists → IsAscending symbols → sum_by (share_of hists) symbols ≤ 1000000 * samples_of hists
-hists-within [] symbols kept ascending = let none = sums-of-none (share_of []) symbols (λ s. refl) in omega (arith, none)
-hists-within (h ∷ hists) symbols kept ascending =
-    let first = hist-within h symbols kept.0.range ascending in
-    let rest = hists-within hists symbols kept.1 ascending in
+pub hists-within : (hists : List Hist) (symbols : List Symbol) → IsAscending symbols → sum_by (share_of hists) symbols ≤ 1000000 * samples_of hists
+hists-within [] symbols ascending = let none = sums-of-none (share_of []) symbols (λ s. refl) in omega (arith, none)
+hists-within (h ∷ hists) symbols ascending =
+    let first = hist-within h symbols ascending in
+    let rest = hists-within hists symbols ascending in
     let shares = sums-added (share_in_hist h) (share_of hists) (share_of (h ∷ hists)) symbols (λ s. sum_by-cons (λ h. share_in_hist h s) h hists) in
     let samples = sum_by-cons (λ (h : Hist). sum h.counters) h hists in
     omega (arith, first, rest, shares, samples)
+
+-- what symbols get and what none gets is all
+pub all-shared : (hists : List Hist) (symbols : List Symbol) → IsAscending symbols → attributed_of (shares_of hists symbols) + (shares_of hists symbols).outside ≡ 1000000 * samples_of hists
+all-shared hists symbols ascending =
+    let most = hists-within hists symbols ascending in
+    omega (arith, most, sum-map (share_of hists) symbols)

@@ -1,6 +1,6 @@
 -- One bucket's walk over the symbols.
 use Rattle.std.proofs.Common.{◌≡◌, ℕ, zero, suc, ◌+◌, ◌-◌, ◌*◌, ◌<◌, ◌≤◌, List, [], ◌∷◌, ◌++◌, Some, slice_get, length, drop, get_or, map, set, take, sum, sym, ap, ◌∙◌, add-one, subst, arith}
-use Rattle.std.specs.List.{All, AllByRecursion, sum_by}
+use Rattle.std.specs.List.{All, sum_by}
 use Rattle.std.proofs.Math.Nat.{mul-le-mul_right, le_of_mul-le-mul_left}
 use Rattle.std.proofs.lemmas.List.{get_or-map, length-map, get_or_read, take_at}
 use Rattle.std.proofs.lemmas.List.Sums.{get_or-le-sum_by, sum-map, sum_by_more_le}
@@ -9,7 +9,7 @@ use Rattle.std.proofs.lemmas.Option.{slice_get-get_or, slice_get_within}
 use Rattle.elf32_syms.specs.declared.image.Symbol.{Symbol}
 use Rattle.elf32_syms.specs.Owners.{IsAscending}
 use Rattle.gmon_data.specs.declared.hist.Hist.{Hist}
-use Rattle.gmon_data.specs.Hists.{IsApart, IsKept, pointwise_sum, samples_of}
+use Rattle.gmon_data.specs.Hists.{IsApart, pointwise_sum, samples_of}
 use Rattle.gmon_data.proofs.CounterLemmas.{pointwise-at, pointwise-set, sum-pointwise}
 use Rattle.symbol_shares.specs.Shares.{bucket_begin, share_of_bucket, share_of_buckets, share_in_hist, share_of}
 use Rattle.symbol_shares.proofs.BucketLemmas.{share-below, share-above, share-within}
@@ -86,7 +86,7 @@ pub bucket-fits : (h : Hist) (i : ℕ) (symbols : List Symbol) (ns of : List ℕ
 bucket-fits h i symbols ns of most range ascending below added fits =
     let total : sum of ≡ sum ns + sum (map (share_of_buckets h i) symbols) = ap sum added ∙ sum-pointwise ns (map (share_of_buckets h i) symbols) in
     let shares = sum-map (share_of_buckets h i) symbols in
-    let front = buckets-within h i symbols range ascending (omega (arith, below)) in
+    let front = buckets-within h i symbols ascending (omega (arith, below)) in
     let counts = sum_by_more_le (λ (n : ℕ). n) h.counters i 0 below in
     omega (arith, total, shares, front, counts, fits)
 
@@ -103,16 +103,11 @@ hist-few hists k most h at few =
     let same : length h.counters ≡ length (get_or hists k h).counters = ap (λ (h : Hist). length h.counters) (at-place hists k h at) in
     omega (arith, one, same, few)
 
-kept-front : (P : Hist → Type 0) (hists : List Hist) (k : ℕ) → AllByRecursion P hists → AllByRecursion P (take k hists)
-kept-front P hists zero kept = tt
-kept-front P [] (suc k) kept = tt
-kept-front P (h ∷ hists) (suc k) kept = (kept.0, kept-front P hists k kept.1)
-
-pub hist-fits : (hists : List Hist) (k : ℕ) (h : Hist) (symbols : List Symbol) (of : List ℕ) → AllByRecursion IsKept hists → IsAscending symbols → slice_get hists k ≡ Some h → of ≡ map (share_of (take k hists)) symbols → sum of + 1000000 * sum h.counters ≤ 1000000 * samples_of hists
-hist-fits hists k h symbols of kept ascending at added =
+pub hist-fits : (hists : List Hist) (k : ℕ) (h : Hist) (symbols : List Symbol) (of : List ℕ) → IsAscending symbols → slice_get hists k ≡ Some h → of ≡ map (share_of (take k hists)) symbols → sum of + 1000000 * sum h.counters ≤ 1000000 * samples_of hists
+hist-fits hists k h symbols of ascending at added =
     let below = slice_get_within hists k h at in
     let total : sum of ≡ sum_by (share_of (take k hists)) symbols = ap sum added ∙ sum-map (share_of (take k hists)) symbols in
-    let front = hists-within (take k hists) symbols (kept-front IsKept hists k kept) ascending in
+    let front = hists-within (take k hists) symbols ascending in
     let counts = sum_by_more_le (λ (h : Hist). sum h.counters) hists k h below in
     let same : sum h.counters ≡ sum (get_or hists k h).counters = ap (λ (h : Hist). sum h.counters) (at-place hists k h at) in
     omega (arith, total, front, counts, same)

@@ -33,8 +33,13 @@ CoveredRangesLeaveNothing = (hists : List Hist) (symbols : List Symbol) → AllB
 
 -- ranges of addresses that follow one another have together what the whole range has
 abbrev pub RangesFollow : Type 0
-RangesFollow = (hists : List Hist) (a b c : ℕ) → AllByRecursion IsKept hists → a ≤ b → b ≤ c → grains_of_range hists a b + grains_of_range hists b c ≡ grains_of_range hists a c
+RangesFollow = (hists : List Hist) (a b c : ℕ) → a ≤ b → b ≤ c → grains_of_range hists a b + grains_of_range hists b c ≡ grains_of_range hists a c
 
 -- a symbol's share is what its addresses have
 abbrev pub SharesAreOfRanges : Type 0
 SharesAreOfRanges = (hists : List Hist) (s : Symbol) → share_of hists s ≡ grains_of_range hists s.addr s.end
+
+-- what the symbols get and what none of them gets are together all samples
+abbrev pub AllSamplesAreShared : Type 0
+AllSamplesAreShared = (hists : List Hist) (symbols : List Symbol) → IsAscending symbols
+    → attributed_of (shares_of hists symbols) + (shares_of hists symbols).outside ≡ 1000000 * samples_of hists

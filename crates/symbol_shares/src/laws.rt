@@ -1,6 +1,6 @@
 //! What follows from the definitions of shares.
 
-ghost use Rattle.symbol_shares.specs.Laws.{CoveredRangesAreAttributed, CoveredRangesLeaveNothing, PartsAtLeast, PartsAtMost, RangesFollow, SharesAreOfRanges, WholeBuckets};
+ghost use Rattle.symbol_shares.specs.Laws.{AllSamplesAreShared, CoveredRangesAreAttributed, CoveredRangesLeaveNothing, PartsAtLeast, PartsAtMost, RangesFollow, SharesAreOfRanges, WholeBuckets};
 
 /// A bucket that lies in one symbol gives it all of its grains: nothing is lost to rounding.
 pub fn whole_buckets()
@@ -26,4 +26,9 @@ pub fn covered_ranges()
 pub fn ranges_add_up()
     ensures follow { RangesFollow }
     ensures share { SharesAreOfRanges }
+{}
+
+/// What the symbols get and what none of them gets are together all samples, 1,000,000 grains each.
+pub fn all_samples_are_shared()
+    ensures { AllSamplesAreShared }
 {}

@@ -2,6 +2,7 @@ use Rattle.std.proofs.Common.{Bool, None, Some, suc, ap, refl, if◌then◌else�
 use Rattle.std.proofs.Math.Dec.{eqb-suc-zero}
 use Rattle.std.specs.Prelude.{count_by}
 use Rattle.gmon_gnu.specs.CountedRun.{CountsFit}
+use Rattle.mcount_arcs.specs.Log.{CallIgnored, CallLost, Enter, WalkDone}
 use Rattle.prof_machine.specs.Start.{machine_of, start_of}
 use Rattle.prof_machine.specs.Turn.{world_after}
 use Rattle.prof_machine.specs.Value.{is_sample}
@@ -9,7 +10,8 @@ use Rattle.demo_elf.specs.Elf.{demo_program}
 use Rattle.demo_laws.specs.Witness.{witness_file}
 use Rattle.elf32_syms.specs.Image.{image_of}
 use Rattle.rvgprof.proofs.ClaimLemmas.{clocked}
-use Rattle.rvgprof.proofs.DemoClaims.{demo_entry, demo_text, demo_hooks, witness_image_is}
+use Rattle.rvgprof.proofs.DemoClaims.{demo_entry, demo_text, demo_hooks, witness_covers, witness_image_is}
+use Rattle.rvgprof.proofs.MeaningLemmas.{fault_is, image_is, torn_is}
 use Rattle.rvgprof.proofs.laws.claims.Goals as goal
 
 pub returns : goal.returns
@@ -41,6 +43,7 @@ returns c = record {
     sums = c.sum_of_contents.ensures;
     splits = c.parts_have_sum.ensures;
     spans = c.records_have_spans.ensures;
+    kept = c.hists_are_kept.ensures;
     more_records = c.records_add_up.ensures;
     counters = c.counters_add_up.ensures;
     executions = c.executions_add_up.ensures;
@@ -82,6 +85,12 @@ returns c = record {
     files_stay = c.prints_stay.ensures.files;
     none_busy = c.none_ends_busy.ensures.any;
     plan_not_busy = c.none_ends_busy.ensures.plan;
+    legal = c.logs_are_legal.ensures.any;
+    plan_legal = c.logs_are_legal.ensures.plan;
+    lost = λ image bytes setup turns below before from to after is. c.logs_are_legal.ensures.each image bytes setup turns below before (CallLost from to) after is;
+    entered = λ image bytes setup turns below before from to after is. c.logs_are_legal.ensures.each image bytes setup turns below before (Enter from to) after is;
+    ignored = λ image bytes setup turns below before from to after is. c.logs_are_legal.ensures.each image bytes setup turns below before (CallIgnored from to) after is;
+    done = λ image bytes setup turns below before after is. c.logs_are_legal.ensures.each image bytes setup turns below before WalkDone after is;
   };
   counts = record {
     samples_alone = λ z pcs. (c.samples_alone.ensures.legal z pcs, c.samples_alone.ensures.counted z pcs, c.samples_alone.ensures.state z pcs, c.samples_alone.ensures.kept z pcs, c.samples_alone.ensures.arcs z pcs);
@@ -108,6 +117,7 @@ returns c = record {
     );
   };
   shares = record {
+    all = c.all_samples_are_shared.ensures;
     covered = λ hists symbols kept ascending covered. (c.covered_ranges.ensures.attributed hists symbols kept ascending covered, c.covered_ranges.ensures.outside hists symbols kept ascending covered);
     whole_bucket = λ h i s kept from to. c.whole_buckets.ensures h i s kept (record { from = from; to = to });
     part_of_bucket = λ h i s kept order. (c.parts_of_buckets.ensures.most h i s kept order, c.parts_of_buckets.ensures.least h i s kept order);
@@ -192,12 +202,31 @@ returns c = record {
     accepted = c.witness_is_accepted.ensures.accepted;
     image = witness_image_is (image_of witness_file) c.witness_is_accepted.ensures.image;
     starts = c.witness_is_accepted.ensures.starts;
+    covered = witness_covers (image_of witness_file) c.witness_is_accepted.ensures.image;
   };
   meanings = record {
     count = λ low i h. refl;
     span = λ h u. (λ x. x, λ x. x);
     no_span = λ a b c. (tt, tt);
     covered = λ symbols h. (λ x. x, λ x. x);
+    own_entry = λ s c. refl;
+    total = λ s c. refl;
+    fault = fault_is;
+    record_at = λ bytes at tag body. (
+      λ r. (r.first, r.spare, r.recs, r.text, r.place, r.first_fits, r.spare_fits, r.recs_fit),
+      λ r. record { first = r.0; spare = r.1; recs = r.2; text = r.3; place = r.4; first_fits = r.5; spare_fits = r.6; recs_fit = r.7 },
+    );
+    empty_range = λ body. (λ r. (r.fields, r.counters, r.range), λ r. record { fields = r.0; counters = r.1; range = r.2 });
+    torn = torn_is;
+    program = λ words symbols. (λ r. (r.some, r.text, r.few, r.strings, r.named, r.order), λ r. record { some = r.0; text = r.1; few = r.2; strings = r.3; named = r.4; order = r.5 });
+    named = λ s. (λ r. (r.some, r.short, r.whole), λ r. record { some = r.0; short = r.1; whole = r.2 });
+    none_in_order = λ low high. tt;
+    next_in_order = λ low high s more. (λ x. x, λ x. x);
+    image = image_is;
+    no_symbol = λ high. refl;
+    symbol = λ high s more. refl;
+    last_end = λ high. refl;
+    next_end = λ high s more. refl;
     no_pair = λ addr. refl;
     pair = λ addr n. ap (λ (none : Bool). if none then None else Some (record { addr = addr; count = suc n })) (eqb-suc-zero n);
     executed = λ z ran. refl;

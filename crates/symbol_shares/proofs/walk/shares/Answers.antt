@@ -10,7 +10,7 @@ total-attributed-requires c =
     let hists = c.args.profile.now.hists in
     let symbols = c.args.symbols.now in
     let all : sum c.as_slice.result.now ≡ sum (map (share_of hists) symbols) = ap sum (c.as_slice.ensures.value ∙ c.in_ok-of.ensures) in
-    let most = hists-within hists symbols c.samples.ensures.profile.hists c.requires in
+    let most = hists-within hists symbols c.requires in
     omega (arith, all, most, sum-map (share_of hists) symbols, c.samples.ensures.profile.within.samples)
 
 pub overflow_sub-outside : goal.overflow_sub-outside
@@ -18,7 +18,7 @@ overflow_sub-outside c =
     let hists = c.args.profile.now.hists in
     let symbols = c.args.symbols.now in
     let all : sum c.as_slice.result.now ≡ sum (map (share_of hists) symbols) = ap sum (c.as_slice.ensures.value ∙ c.in_ok-of.ensures) in
-    let most = hists-within hists symbols c.samples.ensures.profile.hists c.requires in
+    let most = hists-within hists symbols c.requires in
     omega (arith, all, most, sum-map (share_of hists) symbols, c.samples.ensures.value, c.from-grains.ensures, c.total-attributed.ensures)
 
 pub new-requires-clause-count : goal.new-requires-clause-count
@@ -31,7 +31,7 @@ new-requires-clause-within c =
     let hists = c.args.profile.now.hists in
     let symbols = c.args.symbols.now in
     let all : sum c.as_slice.result.now ≡ sum (map (share_of hists) symbols) = ap sum (c.as_slice.ensures.value ∙ c.in_ok-of.ensures) in
-    let most = hists-within hists symbols c.samples.ensures.profile.hists c.requires in
+    let most = hists-within hists symbols c.requires in
     omega (arith, all, most, sum-map (share_of hists) symbols, c.samples.ensures.value, c.samples.ensures.profile.within.samples, c.from-grains.ensures, c.total-attributed.ensures)
 
 pub returns-clause-whole : goal.returns-clause-whole
@@ -39,7 +39,7 @@ returns-clause-whole c =
     let hists = c.args.profile.now.hists in
     let symbols = c.args.symbols.now in
     let all : sum c.as_slice.result.now ≡ sum (map (share_of hists) symbols) = ap sum (c.as_slice.ensures.value ∙ c.in_ok-of.ensures) in
-    let most = hists-within hists symbols c.samples.ensures.profile.hists c.requires in
+    let most = hists-within hists symbols c.requires in
     let attributed : attributed_of c.new.result ≡ sum c.in_ok-of.of.items = ap attributed_of c.new.ensures in
     let outside = ap (λ (t : ShareTable). t.outside) c.new.ensures in
     omega (arith, all, most, sum-map (share_of hists) symbols, c.samples.ensures.value, c.from-grains.ensures, c.total-attributed.ensures, attributed, outside, ap sum c.as_slice.ensures.value)

@@ -22,7 +22,7 @@ add_hist-from-requires-clause-few c = hist-few c.args.profile.now.hists c.loop-k
 
 pub add_hist-from-requires-clause-fits : goal.add_hist-from-requires-clause-fits
 add_hist-from-requires-clause-fits c =
-    let fits = hist-fits c.args.profile.now.hists c.loop-k.k c.hist.result.now c.args.symbols.now c.as_mut_slice.result.now c.requires.profile.hists c.requires.ascending c.hist.ensures (c.as_mut_slice.ensures.value ∙ c.loop-k.invariant.added) in
+    let fits = hist-fits c.args.profile.now.hists c.loop-k.k c.hist.result.now c.args.symbols.now c.as_mut_slice.result.now c.requires.ascending c.hist.ensures (c.as_mut_slice.ensures.value ∙ c.loop-k.invariant.added) in
     omega (arith, fits, c.requires.profile.within.samples)
 
 pub loop-k-preserved : goal.loop-k-preserved
