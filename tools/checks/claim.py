@@ -58,8 +58,8 @@ def stripped(lines, piece=PIECE):
 
 
 def digest_of(lines, meaning=lambda word: None, piece=PIECE):
-    """A digest of a text, and of what its words stand for where the text doesn't tell: the names of std, those of the code,
-    and those that an import gives another name."""
+    """A digest of a text, and of what its words stand for where the text doesn't tell: the names of std, those of the
+    code, and those that an import gives another name."""
     found = set()
     for word in cited(lines):
         front, stands_for = word.split(".")[0], meaning(word)
@@ -133,7 +133,8 @@ def clauses_of(lines):
         name = begins[1] if begins else name
         words = line.strip()
         begins_clause = words.startswith(("ensures", "requires", "ghost "))
-        is_clause = is_public and (begins_clause or (is_clause and not words.startswith(("{", "fn", "///")) and bool(words)))
+        goes_on = is_clause and bool(words) and not words.startswith(("{", "fn", "///"))
+        is_clause = is_public and (begins_clause or goes_on)
         if is_clause:
             clauses[name].append(line)
     return clauses
@@ -196,7 +197,8 @@ def item_of_code(crate, module, name):
         path = CRATES / crate / "src" / f"{'/'.join(parts[:end]) or 'lib'}.rt"
         if path.is_file():
             lines = path.read_text().splitlines()
-            begins = re.compile(rf"(?:pub(?:\([^)]*\))? )?(?:struct|enum|const|trait|type|union) {re.escape(parts[end])}\b")
+            item = re.escape(parts[end])
+            begins = re.compile(rf"(?:pub(?:\([^)]*\))? )?(?:struct|enum|const|trait|type|union) {item}\b")
             first = next((i for i, line in enumerate(lines) if begins.match(line)), None)
             if first is not None:
                 last = next(i for i in range(first, len(lines)) if re.search(r"^[})]|;$|}$", lines[i]))
@@ -207,7 +209,9 @@ def item_of_code(crate, module, name):
 def lock_of(claim):
     """A line for each definition that the claim rests on, each type and constant of the code that they name, and each
     contract that it begins with: the file, the name, and a digest of the text without comments and layout."""
-    rows = {(path_of(crate, module), name, claim.files[crate, module].digest(name)) for crate, module, name in claim.needed}
+    rows = set()
+    for crate, module, name in claim.needed:
+        rows.add((path_of(crate, module), name, claim.files[crate, module].digest(name)))
     for found in filter(None, itertools.starmap(item_of_code, claim.of_code)):
         path, name, lines = found
         rows.add((path, name, digest_of(lines, piece=RUST_PIECE)))
@@ -246,7 +250,8 @@ def citing(claim, is_of):
     found.files, found.needed, found.of_code = claim.files, set(), set()
     for path in sorted(CRATES.glob("*/src/**/*.rt")):
         crate = path.relative_to(CRATES).parts[0]
-        if crate.startswith(("test_", "firmware_test")) or not is_of(crate) or "tests" in path.parts or path.stem == "tests":
+        is_test = crate.startswith(("test_", "firmware_test")) or "tests" in path.parts or path.stem == "tests"
+        if is_test or not is_of(crate):
             continue
         lines = path.read_text().splitlines()
         names = imports_of(lines)[0]

@@ -14,7 +14,7 @@ MOST = 20
 
 
 def program_given(doc):
-    """The program that the command line names. Without one the check says what it does, or that there is nothing to try."""
+    """The program that the command line names. Without one a check says what it does, or that nothing can be tried."""
     if len(sys.argv) != 2 or sys.argv[1].startswith("-"):
         sys.exit(doc)
     program = os.path.realpath(sys.argv[1])

@@ -39,8 +39,8 @@ class Following(unittest.TestCase):
             "high is proved; 3 of 3 crates after 1 min 30 s, some 0 % of the work is left"])
 
     def test_what_a_crate_is_refused_for_is_told(self):
-        said, lines = [], ["== low\n", "src/lib.rt:3:1: error: x\n", "logic=not-proved\n", "== summary\n", "low: failed (1)\n", "high: ok\n"]
-        rest = prove.follow(lines, progress(said))
+        said, wrong = [], ["src/lib.rt:3:1: error: x\n", "logic=not-proved\n"]
+        rest = prove.follow(["== low\n", *wrong, "== summary\n", "low: failed (1)\n", "high: ok\n"], progress(said))
         self.assertEqual(said[0], "src/lib.rt:3:1: error: x\nlogic=not-proved")
         self.assertTrue(said[1].startswith("low is NOT proved"))
         self.assertEqual(rest, "low: failed (1)\n")
@@ -51,7 +51,8 @@ class Following(unittest.TestCase):
         it.waits()
         self.assertEqual(said, [])
         it.waits()
-        self.assertEqual(said, ["being proved or next: low; 0 of 3 crates after 1 min 30 s, some 100 % of the work is left"])
+        far = "0 of 3 crates after 1 min 30 s, some 100 % of the work is left"
+        self.assertEqual(said, [f"being proved or next: low; {far}"])
 
 
 class Running(unittest.TestCase):
@@ -61,7 +62,8 @@ class Running(unittest.TestCase):
             top = pathlib.Path(folder)
             (top / "crates/rvgprof_main").mkdir(parents=True)
             (top / "crates.txt").write_text("low:\nhigh: low\n")
-            (top / "rt").write_text(RT.format(proved=PROVED.replace("\n", "\\n"), high=high, verdict=verdict, status=status))
+            proved = PROVED.replace("\n", "\\n")
+            (top / "rt").write_text(RT.format(proved=proved, high=high, verdict=verdict, status=status))
             (top / "rt").chmod(0o755)
             path = {"PATH": f"{folder}:{os.environ['PATH']}"}
             printed, main = io.StringIO(), top / "crates/rvgprof_main"
