@@ -1,5 +1,7 @@
 """How a check compares, fails and ends: a line for each difference, and status 1 where there is one."""
 
+import importlib.machinery
+import importlib.util
 import os
 import pathlib
 import shutil
@@ -12,7 +14,7 @@ MOST = 20
 
 
 def program_given(doc):
-    """The program that the command line names. Without one the check says what it does, or that there is nothing to try."""
+    """The program that the command line names. Without one a check says what it does, or that nothing can be tried."""
     if len(sys.argv) != 2 or sys.argv[1].startswith("-"):
         sys.exit(doc)
     program = os.path.realpath(sys.argv[1])
@@ -20,6 +22,15 @@ def program_given(doc):
         print(f"{sys.argv[1]} isn't there: nothing was tried")
         sys.exit(0)
     return program
+
+
+def program_of(path):
+    """A program of the repository as a module, so that its functions can be tried."""
+    name = path.rpartition("/")[2].replace("-", "_")
+    loader = importlib.machinery.SourceFileLoader(name, str(TOP / path))
+    module = importlib.util.module_from_spec(importlib.util.spec_from_loader(name, loader))
+    loader.exec_module(module)
+    return module
 
 
 def missing(*tools):
