@@ -3,3 +3,4 @@ pub mod SumLemmas
 pub mod ContentLemmas
 pub mod SplitLemmas
 pub mod SizeLemmas
+pub mod LikeLemmas

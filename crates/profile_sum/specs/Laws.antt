@@ -10,6 +10,12 @@ use Rattle.profile_sum.specs.Sum.{clash_of, sum_of}
 abbrev pub PartsHaveSum : Type 0
 PartsHaveSum = (a b : List WideRec) → All HasSpan (a ++ b) → conflict_of empty_content (a ++ b) ≡ None → clash_of (content_of a) (content_of b) ≡ None
 
+-- and the other way round: lists of records that have no conflict each, and whose contents have a sum, have none one after
+-- the other
+abbrev pub AlikeAreJoined : Type 0
+AlikeAreJoined = (a b : List WideRec) → All HasSpan (a ++ b) → conflict_of empty_content a ≡ None → conflict_of empty_content b ≡ None → clash_of (content_of a) (content_of b) ≡ None
+    → conflict_of empty_content (a ++ b) ≡ None
+
 -- the sum of the contents of two lists of records is the content of the one list followed by the other
 abbrev pub SumOfContents : Type 0
 SumOfContents = (a b : List WideRec) → sum_of (content_of a) (content_of b) ≡ content_of (a ++ b)

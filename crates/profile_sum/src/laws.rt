@@ -1,6 +1,6 @@
 //! What follows from the definition of a sum.
 
-ghost use Rattle.profile_sum.specs.Laws.{HistsAreKept, PartsHaveSum, SumOfContents};
+ghost use Rattle.profile_sum.specs.Laws.{AlikeAreJoined, HistsAreKept, PartsHaveSum, SumOfContents};
 
 /// Records can be split between two profiles: where they have no conflict one after the other, what any
 /// first ones add up to and what the others add up to have a sum.
@@ -16,4 +16,10 @@ pub fn sum_of_contents()
 /// Each histogram of what records add up to has a range and counters, whether the records are alike or not.
 pub fn hists_are_kept()
     ensures { HistsAreKept }
+{}
+
+/// Lists of records that have no conflict each, and whose contents have a sum, have none one after the other. So files
+/// that are each alike with those before them have none among all their records.
+pub fn alike_are_joined()
+    ensures { AlikeAreJoined }
 {}
