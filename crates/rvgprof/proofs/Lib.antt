@@ -25,3 +25,4 @@ pub mod MeaningLemmas
 pub mod DemoWords
 pub mod DemoClaims
 pub mod ExampleLemmas
+pub mod AlikeLemmas

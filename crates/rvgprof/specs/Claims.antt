@@ -101,6 +101,7 @@ use Rattle.graph_report.specs.Roots.{has_own_entry, shown_total}
 use Rattle.graph_report.specs.Rows.{cycle_entries, function_entries}
 use Rattle.folded.specs.Stacks.{caller_in, lines_of, same_stack, stack_cmp, stack_of, times_in as times_in_lines}
 use Rattle.folded.specs.Trail.{StackSample, samples_after}
+use Rattle.rvgprof.specs.Acceptance.{AreProfileFiles, records_of, total_of}
 
 -- ---- words, bytes and the outside
 
@@ -159,6 +160,9 @@ pub record ProfileClaims : Type 0 where
   pub sums : (a b : List WideRec) → sum_of (content_of a) (content_of b) ≡ content_of (a ++ b)
   -- records without conflict can be split between two profiles, which then have a sum
   pub splits : (a b : List WideRec) → All HasSpan (a ++ b) → conflict_of empty_content (a ++ b) ≡ None → clash_of (content_of a) (content_of b) ≡ None
+  -- and the other way round: records that have no conflict in each of two lists, whose contents have a sum, have none
+  pub joined : (a b : List WideRec) → All HasSpan (a ++ b) → conflict_of empty_content a ≡ None → conflict_of empty_content b ≡ None → clash_of (content_of a) (content_of b) ≡ None
+      → conflict_of empty_content (a ++ b) ≡ None
   -- the records of a file that isn't refused have such spans
   pub spans : (bytes : List ℕ) → IsBytes bytes → file_refusal bytes ≡ None → All HasSpan (wide_records (file_records bytes).recs)
   -- so each histogram of what such records add up to has a range and counters, also where files that were added up are unlike
@@ -185,6 +189,12 @@ pub record ProfileClaims : Type 0 where
   pub profiles_stay : (p : Content) (symbols : List Symbol) (cuts : List (List ℕ)) → IsProfile p → IsProfile (without_cuts p symbols cuts)
   -- and without cuts it is the whole
   pub nothing_cut : (p : Content) (symbols : List Symbol) → without_cuts p symbols [] ≡ p
+
+-- Files of bytes that are each alike with those before them have no conflict among all their records. So the histograms of
+-- what they add up to have ranges and counters, and are apart.
+abbrev pub AlikeFilesHaveNoConflict : Type 0
+AlikeFilesHaveNoConflict = (contents : ℕ → List ℕ) (words : List ℕ) → AreProfileFiles contents words → AllByRecursion (λ word. IsBytes (contents word)) words
+    → (conflict_of empty_content (flat_map (λ word. records_of (contents word)) words) ≡ None) × AllByRecursion IsKept (total_of contents words).hists × IsApart (total_of contents words).hists
 
 -- ---- programs
 

@@ -15,7 +15,7 @@ ghost use Rattle.rvgprof.specs.Contract.{LineEnds, WhereTold};
 ghost use Rattle.rvgprof.specs.Completeness.{Stayed, NoneFailed, Complete};
 ghost use Rattle.rvgprof.specs.Acceptance.{IsAccepted, acts_at_once};
 ghost use Rattle.rvgprof.specs.Headline.{Answered, ExecutionsAreListed};
-ghost use Rattle.rvgprof.specs.Claims.{Claims};
+ghost use Rattle.rvgprof.specs.Claims.{AlikeFilesHaveNoConflict, Claims};
 ghost use Rattle.rvgprof.specs.Examples.{FileExamples, WordExamples};
 ghost use Rattle.rvgprof.specs.RunFile.{ProfileFilesAreReadBack, RunFilesAreReadBack};
 
@@ -90,6 +90,12 @@ pub fn what_memory_leaves()
         → MayStop contents (course_of words) acts → acts ≡ [] }
 {}
 
+/// Files that are each alike with those before them have no conflict among all their records, so that the histograms of
+/// what they add up to have ranges and counters, and are apart.
+pub fn alike_files_have_no_conflict()
+    ensures { AlikeFilesHaveNoConflict }
+{}
+
 /// A profile file of each form that is written out byte by byte is accepted, and read as its records; and words of each
 /// command say it.
 pub fn examples_are_read()
@@ -117,6 +123,7 @@ pub fn claims()
     profile_sum::laws::sum_of_contents();
     profile_sum::laws::parts_have_sum();
     profile_sum::laws::hists_are_kept();
+    profile_sum::laws::alike_are_joined();
     gmon_data::laws::records_add_up();
     gmon_data::laws::counters_add_up();
     gmon_data::laws::executions_add_up();

@@ -42,6 +42,7 @@ returns c = record {
   profiles = record {
     sums = c.sum_of_contents.ensures;
     splits = c.parts_have_sum.ensures;
+    joined = c.alike_are_joined.ensures;
     spans = c.records_have_spans.ensures;
     kept = c.hists_are_kept.ensures;
     more_records = c.records_add_up.ensures;
