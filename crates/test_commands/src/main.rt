@@ -19,8 +19,8 @@
 //!
 //! `case NAME` is a case. Its first lines say what the host is: `files NAME=BYTES..` are its files, `step N` is how many
 //! bytes a call moves at most, and `fail N..` are the calls that fail, from 0. Then a line `$ WORDS` is a command; in its
-//! words, and behind `front` and `has`, `~` stands for a space; `""` is an empty word. The lines behind it say what is wanted of it. More
-//! commands may follow on the same host.
+//! words, and behind `front` and `has`, `~` stands for a space; `""` is an empty word. The lines behind it say what is
+//! wanted of it. More commands may follow on the same host.
 //!
 //! | Line | What is wanted |
 //! |---|---|
