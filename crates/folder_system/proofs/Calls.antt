@@ -1,14 +1,17 @@
 -- What calls that follow one another do.
-use Rattle.std.proofs.Common.{◌≡◌, inl, inr, ℕ, ◌<◌, Bool, true, false, ◌||◌, List, [], ◌∷◌, ◌++◌, length, Option, Some, None, refl, sym, ap, ◌∙◌, append_assoc, arith}
-use Rattle.std.proofs.lemmas.Slice.Eq.{bytes_eq-Decides}
-use Rattle.std.specs.Prelude.{bytes_eq, if◌then◌else◌}
+use Rattle.std.proofs.Common.{◌≡◌, inl, inr, ℕ, Bool, true, false, ◌||◌, List, [], ◌∷◌, ◌++◌, Some, None, refl, sym, ap, subst, ◌∙◌, append_assoc}
+use Rattle.std.specs.Prelude.{bytes_eq}
 use Rattle.std.specs.declared.io.ErrorKind.{ErrorKind}
 use Rattle.host_port.specs.Act.{File, with_file, has_file}
-use Rattle.folder_system.specs.Events.{Event, Made, Opened, Removed, files_after}
-use Rattle.folder_system.specs.Worlds.{Spares}
+use Rattle.folder_system.specs.declared.folder.Attributes.{Attributes}
+use Rattle.folder_system.specs.Names.{numbered}
+use Rattle.folder_system.specs.Events.{Event, Made, Opened, Removed, Answer, files_after}
+use Rattle.folder_system.specs.Entries.{Spares}
 use Rattle.folder_system.specs.Kinds.{is_barring}
-use Rattle.folder_system.specs.Place.{names_without, made_after, made_after_event, has_bar, bars_event, has_failed_removal, failed_removal, IsQuiet, IsBegun, IsBarred, IsGivenUp, IsInPlace, IsGiving, IsGiven, IsRefused}
-use Rattle.folder_system.proofs.Ran.{files_append}
+use Rattle.folder_system.specs.Place.{has_bar, bars_event, has_failed_removal, failed_removal, making, makings, makings_of, gifts_of, IsQuiet, IsBegun, IsBarred, IsTidy, IsGivenUp, IsInPlace, IsRefused}
+use Rattle.folder_system.proofs.Follows.{files_append}
+use Rattle.folder_system.proofs.Files.{made_and_removed}
+use Rattle.folder_system.proofs.NameLemmas.{apart}
 
 or_true : (b : Bool) → (b || true) ≡ true
 or_true true = refl
@@ -22,9 +25,9 @@ pub spares_append : (name : List ℕ) (es gs : List Event) → Spares name es �
 spares_append name [] gs front back = back
 spares_append name (e ∷ es) gs front back = (front.0, spares_append name es gs front.1 back)
 
-pub made_append : (es gs : List Event) (names : List (List ℕ)) → made_after (es ++ gs) names ≡ made_after gs (made_after es names)
-made_append [] gs names = refl
-made_append (e ∷ es) gs names = made_append es gs (made_after_event e names)
+pub makings_append : (es gs : List Event) → makings (es ++ gs) ≡ makings es ++ makings gs
+makings_append [] gs = refl
+makings_append (e ∷ es) gs = ap (λ (l : List Event). making e ++ l) (makings_append es gs) ∙ sym (append_assoc (making e) (makings es) (makings gs))
 
 bar_append : (es gs : List Event) → has_bar (es ++ gs) ≡ (has_bar es || has_bar gs)
 bar_append [] gs = refl
@@ -43,136 +46,137 @@ pub removal_behind : (es gs : List Event) → has_failed_removal gs ≡ true →
 removal_behind [] gs is = is
 removal_behind (e ∷ es) gs is = ap (λ (b : Bool). failed_removal e || b) (removal_behind es gs is) ∙ or_true (failed_removal e)
 
-pub same_name : (name : List ℕ) → bytes_eq name name ≡ true
-same_name name = (bytes_eq-Decides name name).1 refl
-
-other_at : (name own : List ℕ) (b : Bool) → bytes_eq name own ≡ b → length name < length own → b ≡ false
-other_at name own true is longer = absurd (let same : name ≡ own = (bytes_eq-Decides name own).0 is in let long : length name ≡ length own = ap length same in omega (arith, long, longer))
-other_at name own false is longer = refl
-
--- a name is no longer one
-pub other_name : (name own : List ℕ) → length name < length own → bytes_eq name own ≡ false
-other_name name own longer = other_at name own (bytes_eq name own) refl longer
-
-pub none_left : (own : List ℕ) → names_without own (own ∷ []) ≡ []
-none_left own = ap (λ (b : Bool). if b then [] else own ∷ []) (same_name own)
-
 -- ---- nothing happened yet
 
 pub no_call : (name : List ℕ) (fs : List File) → IsQuiet name fs []
-no_call name fs = record { spares = tt; clear = refl; made = refl; files = refl }
+no_call name fs = record { spares = tt; clear = refl; makes = refl; files = refl }
+
+no_makings : (es gs made : List Event) → makings es ≡ [] → makings gs ≡ made → makings (es ++ gs) ≡ made
+no_makings es gs made none is = makings_append es gs ∙ ap (λ (l : List Event). l ++ makings gs) none ∙ is
 
 pub quiet_quiet : (name : List ℕ) (fs : List File) (es gs : List Event) → IsQuiet name fs es → IsQuiet name (files_after es fs) gs → IsQuiet name fs (es ++ gs)
 quiet_quiet name fs es gs q r = record {
   spares = spares_append name es gs q.spares r.spares;
   clear = clear_both es gs q.clear r.clear;
-  made = made_append es gs [] ∙ ap (made_after gs) q.made ∙ r.made;
+  makes = no_makings es gs [] q.makes r.makes;
   files = files_append es gs fs ∙ r.files ∙ q.files;
 }
 
-pub quiet_begun : (name own : List ℕ) (fs : List File) (es gs : List Event) → IsQuiet name fs es → IsBegun name own (files_after es fs) gs → IsBegun name own fs (es ++ gs)
-quiet_begun name own fs es gs q r = record {
+pub quiet_begun : (name own : List ℕ) (made : List Event) (fs : List File) (es gs : List Event) → IsQuiet name fs es → IsBegun name own made (files_after es fs) gs → IsBegun name own made fs (es ++ gs)
+quiet_begun name own made fs es gs q r = record {
   spares = spares_append name es gs q.spares r.spares;
   clear = clear_both es gs q.clear r.clear;
-  made = made_append es gs [] ∙ ap (made_after gs) q.made ∙ r.made;
+  makes = no_makings es gs made q.makes r.makes;
+  next_to = r.next_to;
   fresh = ap (has_file own) (sym q.files) ∙ r.fresh;
   files = files_append es gs fs ∙ r.files ∙ ap (with_file own []) q.files;
 }
 
-pub quiet_barred : (name : List ℕ) (fs gs_files : List File) (es gs : List Event) → IsQuiet name fs es → IsBarred name gs_files gs → IsBarred name fs (es ++ gs)
-quiet_barred name fs gs_files es gs q r = record {
+pub quiet_barred : (name : List ℕ) (fs : List File) (es gs : List Event) → IsQuiet name fs es → IsBarred name (files_after es fs) gs → IsBarred name fs (es ++ gs)
+quiet_barred name fs es gs q r = record {
   spares = spares_append name es gs q.spares r.spares;
-  made = made_append es gs [] ∙ ap (made_after gs) q.made ∙ r.made;
+  files = files_append es gs fs ∙ r.files ∙ q.files;
   bars = bars_behind es gs r.bars;
 }
 
-pub quiet_given_up : (name : List ℕ) (fs gs_files : List File) (es gs : List Event) → IsQuiet name fs es → IsGivenUp name gs_files gs → IsGivenUp name fs (es ++ gs)
-quiet_given_up name fs gs_files es gs q r = record {
+tidy_behind : (fs : List File) (es gs : List Event) → files_after es fs ≡ fs → IsTidy (files_after es fs) gs → IsTidy fs (es ++ gs)
+tidy_behind fs es gs same (inl none) = inl (files_append es gs fs ∙ none ∙ same)
+tidy_behind fs es gs same (inr left) = inr (record {
+  own = left.own;
+  failed = removal_behind es gs left.failed;
+  files = files_append es gs fs ∙ left.files ∙ ap (with_file left.own []) same;
+})
+
+pub quiet_given_up : (name : List ℕ) (fs : List File) (es gs : List Event) → IsQuiet name fs es → IsGivenUp name (files_after es fs) gs → IsGivenUp name fs (es ++ gs)
+quiet_given_up name fs es gs q r = record {
   spares = spares_append name es gs q.spares r.spares;
-  made = elim r.made [
-    | inl none ↦ inl (made_append es gs [] ∙ ap (made_after gs) q.made ∙ none)
-    | inr failed ↦ inr (removal_behind es gs failed)
-  ];
+  tidy = tidy_behind fs es gs q.files r.tidy;
 }
 
-pub quiet_in_place : (name : List ℕ) (fs gs_files : List File) (es gs : List Event) → IsQuiet name fs es → IsInPlace name gs_files gs → IsInPlace name fs (es ++ gs)
-quiet_in_place name fs gs_files es gs q r = record {
+pub quiet_in_place : (name : List ℕ) (fs : List File) (es gs : List Event) → IsQuiet name fs es → IsInPlace name (files_after es fs) gs → IsInPlace name fs (es ++ gs)
+quiet_in_place name fs es gs q r = record {
   before = es ++ r.before;
-  barred = quiet_barred name fs gs_files es r.before q r.barred;
+  barred = quiet_barred name fs es r.before q r.barred;
   is = ap (λ (l : List Event). es ++ l) r.is ∙ sym (append_assoc es r.before (Opened name None ∷ []));
 }
 
 pub given_up : (name : List ℕ) (fs : List File) (es : List Event) → IsQuiet name fs es → IsGivenUp name fs es
-given_up name fs es q = record { spares = q.spares; made = inl q.made }
+given_up name fs es q = record { spares = q.spares; tidy = inl q.files }
 
 -- ---- a file beside
 
-pub is_begun : (name own : List ℕ) (fs : List File) → bytes_eq name own ≡ false → has_file own fs ≡ false → IsBegun name own fs (Made own None ∷ [])
-is_begun name own fs other fresh = record { spares = (other, tt); clear = refl; made = refl; fresh = fresh; files = refl }
+pub is_begun : (name own : List ℕ) (mode : ℕ) (fs : List File) → (n : ℕ) × (own ≡ numbered name n) → has_file own fs ≡ false → IsBegun name own (Made own mode None ∷ []) fs (Made own mode None ∷ [])
+is_begun name own mode fs next fresh = record { spares = (apart name next.0 own next.1, tt); clear = refl; makes = refl; next_to = next; fresh = fresh; files = refl }
 
-pub not_made : (name own : List ℕ) (kind : ErrorKind) (fs : List File) → is_barring kind ≡ false → IsQuiet name fs (Made own (Some kind) ∷ [])
-not_made name own kind fs clear = record { spares = (refl, tt); clear = ap (λ (b : Bool). b || false) clear; made = refl; files = refl }
+pub not_made : (name own : List ℕ) (mode : ℕ) (kind : ErrorKind) (fs : List File) → is_barring kind ≡ false → IsQuiet name fs (Made own mode (Some kind) ∷ [])
+not_made name own mode kind fs clear = record { spares = (refl, tt); clear = ap (λ (b : Bool). b || false) clear; makes = refl; files = refl }
 
-pub given_up_making : (name own : List ℕ) (kind : ErrorKind) (fs : List File) → IsGivenUp name fs (Made own (Some kind) ∷ [])
-given_up_making name own kind fs = record { spares = (refl, tt); made = inl refl }
+pub given_up_making : (name own : List ℕ) (mode : ℕ) (kind : ErrorKind) (fs : List File) → IsGivenUp name fs (Made own mode (Some kind) ∷ [])
+given_up_making name own mode kind fs = record { spares = (refl, tt); tidy = inl refl }
 
-pub barred_making : (name own : List ℕ) (kind : ErrorKind) (fs : List File) → is_barring kind ≡ true → IsBarred name fs (Made own (Some kind) ∷ [])
-barred_making name own kind fs is = record { spares = (refl, tt); made = refl; bars = ap (λ (b : Bool). b || false) is }
+pub barred_making : (name own : List ℕ) (mode : ℕ) (kind : ErrorKind) (fs : List File) → is_barring kind ≡ true → IsBarred name fs (Made own mode (Some kind) ∷ [])
+barred_making name own mode kind fs is = record { spares = (refl, tt); files = refl; bars = ap (λ (b : Bool). b || false) is }
 
-record IsThere (name own : List ℕ) (fs : List File) (es : List Event) : Type 0 where
-  pub spares : Spares name es
-  pub made : made_after es [] ≡ own ∷ []
+pub begun_given : (name own : List ℕ) (old : Attributes) (fs : List File) (es : List Event) → IsBegun name own (Made own 384 None ∷ []) fs es → IsBegun name own (makings_of own (Some old)) fs (es ++ gifts_of old None)
+begun_given name own old fs es b = record {
+  spares = spares_append name es (gifts_of old None) b.spares (refl, (refl, tt));
+  clear = clear_both es (gifts_of old None) b.clear refl;
+  makes = makings_append es (gifts_of old None) ∙ ap (λ (l : List Event). l ++ gifts_of old None) b.makes;
+  next_to = b.next_to;
+  fresh = b.fresh;
+  files = files_append es (gifts_of old None) fs ∙ b.files;
+}
 
-still_there : (name own : List ℕ) (fs : List File) (es gs : List Event) → IsBegun name own fs es → IsGiving (files_after es fs) gs → IsThere name own fs (es ++ gs)
-still_there name own fs es gs b r = record { spares = spares_append name es gs b.spares (r.spares name); made = made_append es gs [] ∙ ap (made_after gs) b.made ∙ r.made (own ∷ []) }
+-- what is known of calls that gave a file something, of which the last failed
+record IsFruitless (kind : ErrorKind) (es : List Event) : Type 0 where
+  pub spares : (name : List ℕ) → Spares name es
+  pub files : (fs : List File) → files_after es fs ≡ fs
+  pub bars : is_barring kind ≡ true → has_bar es ≡ true
 
-pub begun_given : (name own : List ℕ) (fs : List File) (es gs : List Event) → IsBegun name own fs es → IsGiven (files_after es fs) gs → IsBegun name own fs (es ++ gs)
-begun_given name own fs es gs b r =
-    let there = still_there name own fs es gs b r.giving in
-    record {
-      spares = there.spares;
-      clear = clear_both es gs b.clear r.clear;
-      made = there.made;
-      fresh = b.fresh;
-      files = files_append es gs fs ∙ r.giving.same ∙ b.files;
-    }
+fruitless : (old : Attributes) (kind : ErrorKind) (fs : List File) (es : List Event) → IsRefused old kind fs es → IsFruitless kind es
+fruitless old kind fs es (inl is) = subst (IsFruitless kind) (sym is) (record { spares = λ name. (refl, tt); files = λ fs. refl; bars = λ bars. ap (λ (v : Bool). v || false) bars })
+fruitless old kind fs es (inr is) = subst (IsFruitless kind) (sym is) (record { spares = λ name. (refl, (refl, tt)); files = λ fs. refl; bars = λ bars. ap (λ (v : Bool). v || false) bars })
 
-pub refused_barred : (name own : List ℕ) (kind : ErrorKind) (fs : List File) (es gs : List Event) → bytes_eq name own ≡ false → is_barring kind ≡ true → IsBegun name own fs es → IsRefused kind (files_after es fs) gs → IsBarred name fs ((es ++ gs) ++ Removed own None ∷ [])
-refused_barred name own kind fs es gs other is b r =
-    let all = still_there name own fs es gs b r.giving in
-    record {
-      spares = spares_append name (es ++ gs) (Removed own None ∷ []) all.spares (other, tt);
-      made = made_append (es ++ gs) (Removed own None ∷ []) [] ∙ ap (made_after (Removed own None ∷ [])) all.made ∙ none_left own;
-      bars = bars_before (es ++ gs) (Removed own None ∷ []) (bars_behind es gs (r.bars is));
-    }
+removed_files : (own : List ℕ) (fs : List File) (es : List Event) → files_after es fs ≡ with_file own [] fs → has_file own fs ≡ false → files_after (es ++ Removed own None ∷ []) fs ≡ fs
+removed_files own fs es is fresh = files_append es (Removed own None ∷ []) fs ∙ ap (files_after (Removed own None ∷ [])) is ∙ made_and_removed own fs fresh
 
-pub refused_given_up : (name own : List ℕ) (kind : ErrorKind) (answer : Option ErrorKind) (fs : List File) (es gs : List Event) → bytes_eq name own ≡ false → IsBegun name own fs es → IsRefused kind (files_after es fs) gs → IsGivenUp name fs ((es ++ gs) ++ Removed own answer ∷ [])
-refused_given_up name own kind None fs es gs other b r =
-    let all = still_there name own fs es gs b r.giving in
-    record {
-      spares = spares_append name (es ++ gs) (Removed own None ∷ []) all.spares (other, tt);
-      made = inl (made_append (es ++ gs) (Removed own None ∷ []) [] ∙ ap (made_after (Removed own None ∷ [])) all.made ∙ none_left own);
-    }
-refused_given_up name own kind (Some failure) fs es gs other b r =
-    let all = still_there name own fs es gs b r.giving in
-    record {
-      spares = spares_append name (es ++ gs) (Removed own (Some failure) ∷ []) all.spares (refl, tt);
-      made = inr (removal_behind (es ++ gs) (Removed own (Some failure) ∷ []) refl);
-    }
+module _ (name own : List ℕ) (old : Attributes) (made : List Event) (kind : ErrorKind) (fs : List File) (es gs : List Event) where
+  both_spare : (answer : Answer) → bytes_eq name own ≡ false → IsBegun name own made fs es → IsFruitless kind gs → Spares name ((es ++ gs) ++ Removed own answer ∷ [])
+  both_spare None other b f = spares_append name (es ++ gs) (Removed own None ∷ []) (spares_append name es gs b.spares (f.spares name)) (other, tt)
+  both_spare (Some failure) other b f = spares_append name (es ++ gs) (Removed own (Some failure) ∷ []) (spares_append name es gs b.spares (f.spares name)) (refl, tt)
+
+  both_files : IsBegun name own made fs es → IsFruitless kind gs → files_after (es ++ gs) fs ≡ with_file own [] fs
+  both_files b f = files_append es gs fs ∙ f.files (files_after es fs) ∙ b.files
+
+  pub refused_barred : is_barring kind ≡ true → IsBegun name own made fs es → IsRefused old kind (files_after es fs) gs → IsBarred name fs ((es ++ gs) ++ Removed own None ∷ [])
+  refused_barred is b r =
+      let f = fruitless old kind (files_after es fs) gs r in
+      record {
+        spares = both_spare None (apart name b.next_to.0 own b.next_to.1) b f;
+        files = removed_files own fs (es ++ gs) (both_files b f) b.fresh;
+        bars = bars_before (es ++ gs) (Removed own None ∷ []) (bars_behind es gs (f.bars is));
+      }
+
+  tidy_removed : (answer : Answer) → IsBegun name own made fs es → IsFruitless kind gs → IsTidy fs ((es ++ gs) ++ Removed own answer ∷ [])
+  tidy_removed None b f = inl (removed_files own fs (es ++ gs) (both_files b f) b.fresh)
+  tidy_removed (Some failure) b f = inr (record {
+    own = own;
+    failed = removal_behind (es ++ gs) (Removed own (Some failure) ∷ []) refl;
+    files = files_append (es ++ gs) (Removed own (Some failure) ∷ []) fs ∙ both_files b f;
+  })
+
+  pub refused_given_up : (answer : Answer) → IsBegun name own made fs es → IsRefused old kind (files_after es fs) gs → IsGivenUp name fs ((es ++ gs) ++ Removed own answer ∷ [])
+  refused_given_up answer b r =
+      let f = fruitless old kind (files_after es fs) gs r in
+      record { spares = both_spare answer (apart name b.next_to.0 own b.next_to.1) b f; tidy = tidy_removed answer b f }
 
 -- ---- in place
 
 pub in_place : (name : List ℕ) (fs : List File) (es : List Event) → IsBarred name fs es → IsInPlace name fs (es ++ Opened name None ∷ [])
 in_place name fs es b = record { before = es; barred = b; is = refl }
 
-pub not_opened : (name : List ℕ) (kind : ErrorKind) (fs : List File) (es : List Event) → IsBarred name fs es → IsGivenUp name fs (es ++ Opened name (Some kind) ∷ [])
-not_opened name kind fs es b = record {
-  spares = spares_append name es (Opened name (Some kind) ∷ []) b.spares (refl, tt);
-  made = inl (made_append es (Opened name (Some kind) ∷ []) [] ∙ b.made);
-}
-
-pub barred_quiet : (name : List ℕ) (fs gs_files : List File) (es gs : List Event) → IsBarred name fs es → IsQuiet name gs_files gs → IsGivenUp name fs (es ++ gs)
-barred_quiet name fs gs_files es gs b q = record {
+pub barred_quiet : (name : List ℕ) (fs : List File) (es gs : List Event) → IsBarred name fs es → IsQuiet name (files_after es fs) gs → IsGivenUp name fs (es ++ gs)
+barred_quiet name fs es gs b q = record {
   spares = spares_append name es gs b.spares q.spares;
-  made = inl (made_append es gs [] ∙ ap (made_after gs) b.made ∙ q.made);
+  tidy = inl (files_append es gs fs ∙ q.files ∙ b.files);
 }

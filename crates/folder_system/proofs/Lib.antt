@@ -1,6 +1,9 @@
-pub mod Ran
+pub mod Follows
 pub mod Calls
+pub mod Files
+pub mod NameLemmas
 pub mod Steps
-pub mod Puts
+pub mod Ends
+pub mod Causes
 pub mod Making
 pub mod Shown

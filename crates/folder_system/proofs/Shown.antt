@@ -1,70 +1,91 @@
 -- How what a system shows of its files follows its calls.
-use Rattle.std.proofs.Common.{◌≡◌, ℕ, Bool, true, false, List, [], ◌∷◌, Option, Some, None, refl, sym, ap, ◌∙◌}
-use Rattle.std.specs.Prelude.{bytes_eq, string_bytes, option_map, if◌then◌else◌}
-use Rattle.host_port.specs.Act.{File, Disk, Create, Write, Close, disk_after, has_file, with_file, with_more}
+use Rattle.std.proofs.Common.{◌≡◌, ℕ, Bool, true, false, ◌&&◌, List, [], ◌∷◌, Option, Some, None, refl, sym, ap, ◌∙◌}
+use Rattle.std.specs.Prelude.{bytes_eq, string_bytes, option_map, is_none, if◌then◌else◌}
+use Rattle.host_port.specs.Act.{File, file_content, Disk, Create, Write, Close, disk_after, has_file, with_file, with_more}
 use Rattle.host_port.specs.Outside.{Becomes}
 use Rattle.folder_system.specs.declared.beside.Beside.{Beside}
-use Rattle.folder_system.specs.declared.place.Place.TheVariants.{Beside as StandsBeside}
-use Rattle.folder_system.specs.Events.{Told, Ran, Did, without}
-use Rattle.folder_system.specs.Place.{IsBegun, IsTaken}
+use Rattle.folder_system.specs.declared.beside.Taken.TheVariants.{ByName}
+use Rattle.folder_system.specs.declared.place.Place.{Place}
+use Rattle.folder_system.specs.declared.place.Place.TheVariants.{Beside as StandsBeside, In}
+use Rattle.folder_system.specs.Events.{Event, History, Answer, Transition, Follows, without, files_after, is_stored}
+use Rattle.folder_system.specs.Place.{IsPlaced, IsTaken, IsLetGo, moving, is_beside}
 use Rattle.folder_system.specs.Disk.{disk_shown}
-use Rattle.folder_system.proofs.Ran.{the_same}
-use Rattle.folder_system.proofs.Puts.{without_new}
-use Rattle.folder_system.proofs.Calls.{same_name}
-
-without_at : (own : List ℕ) (f : File) (fs : List File) (b : Bool) → bytes_eq f.0 own ≡ b → has_file own (f ∷ fs) ≡ false → (has_file own fs ≡ false → without own fs ≡ fs) → without own (f ∷ fs) ≡ f ∷ fs
-without_at own f fs true is none rest = absurd (let e : true ≡ false = sym (ap (λ (b : Bool). if b then true else has_file own fs) is) ∙ none in cc)
-without_at own f fs false is none rest = rw is (ap (λ (l : List File). f ∷ l) (rest (sym (ap (λ (b : Bool). if b then true else has_file own fs) is) ∙ none)))
-
-pub without_fresh : (own : List ℕ) (fs : List File) → has_file own fs ≡ false → without own fs ≡ fs
-without_fresh own [] none = refl
-without_fresh own (f ∷ fs) none = without_at own f fs (bytes_eq f.0 own) refl none (without_fresh own fs)
+use Rattle.folder_system.proofs.Follows.{the_same}
+use Rattle.folder_system.proofs.Files.{same_name, if_same, content_of_new, without_new, made_and_removed}
 
 more_at : (name bytes : List ℕ) (f : File) (fs : List File) (b : Bool) → bytes_eq f.0 name ≡ b → with_more name bytes (with_file name [] fs) ≡ with_file name bytes fs → with_more name bytes (with_file name [] (f ∷ fs)) ≡ with_file name bytes (f ∷ fs)
 more_at name bytes f fs true is rest = rw is (rw is refl)
 more_at name bytes f fs false is rest = rw is (rw is (ap (λ (l : List File). f ∷ l) rest))
 
-pub more_new : (name bytes : List ℕ) (fs : List File) → with_more name bytes (with_file name [] fs) ≡ with_file name bytes fs
+more_new : (name bytes : List ℕ) (fs : List File) → with_more name bytes (with_file name [] fs) ≡ with_file name bytes fs
 more_new name bytes [] = ap (λ (b : Bool). if b then (name, bytes) ∷ [] else (name, []) ∷ []) (same_name name)
 more_new name bytes (f ∷ fs) = more_at name bytes f fs (bytes_eq f.0 name) refl (more_new name bytes fs)
 
-module _ (name own : List ℕ) where
-  shown_begun : (old : Option Told) (t : Told) (b : Beside) → string_bytes b.name ≡ name → string_bytes b.own ≡ own → Ran (IsBegun name own) old t
-      → Becomes (disk_after (Create name ∷ [])) (disk_shown None old) (disk_shown (Some (StandsBeside b)) (Some t))
-  shown_begun None t b is is_own ran = absurd (let e : None ≡ Some ran.was = ran.told in cc)
-  shown_begun (Some o) t b is is_own ran =
-      let was : o ≡ ran.was = the_same o ran.was ran.told in
-      let files : t.files ≡ with_file own [] o.files = ap (λ (v : Told). v.files) ran.is ∙ ran.so.files ∙ ap (λ (v : Told). with_file own [] v.files) (sym was) in
-      let fresh : has_file own o.files ≡ false = ap (λ (v : Told). has_file own v.files) was ∙ ran.so.fresh in
-      let hidden : without (string_bytes b.own) t.files ≡ o.files = ap (λ (n : List ℕ). without n t.files) is_own ∙ ap (without own) files ∙ without_new own [] o.files ∙ without_fresh own o.files fresh in
-      λ i. Some (record { files = with_file (sym is i) [] (sym hidden i); writing = Some (sym is i) })
+-- ---- an output that was begun
 
-  pub begun_shown : (tells : Bool) (old new : Option Told) (b : Beside) → string_bytes b.name ≡ name → string_bytes b.own ≡ own → Did (IsBegun name own) old new
-      → Becomes (disk_after (Create name ∷ [])) (if tells then disk_shown None old else None) (if tells then disk_shown (Some (StandsBeside b)) new else None)
-  begun_shown false old new b is is_own did = tt
-  begun_shown true old None b is is_own did = tt
-  begun_shown true old (Some t) b is is_own did = shown_begun old t b is is_own did
+shown_begun : (name : List ℕ) (old : Option History) (t : History) (b : Beside) → Transition (IsPlaced name (StandsBeside b)) old t
+    → Becomes (disk_after (Create name ∷ [])) (disk_shown None old) (disk_shown (Some (StandsBeside b)) (Some t))
+shown_begun name None t b ran = absurd (let e : None ≡ Some ran.was = ran.told in cc)
+shown_begun name (Some o) t b ran =
+    let own = string_bytes b.own in
+    let begun = ran.so.1.begun in
+    let was : o ≡ ran.was = the_same o ran.was ran.told in
+    let files : t.files ≡ with_file own [] o.files = ap (λ (v : History). v.files) ran.is ∙ begun.files ∙ ap (λ (v : History). with_file own [] v.files) (sym was) in
+    let fresh : has_file own o.files ≡ false = ap (λ (v : History). has_file own v.files) was ∙ begun.fresh in
+    let hidden : without own t.files ≡ o.files = ap (without own) files ∙ made_and_removed own o.files fresh in
+    λ i. Some (record { files = with_file (sym ran.so.0 i) [] (sym hidden i); writing = Some (sym ran.so.0 i) })
 
-  shown_taken : (bytes : List ℕ) (d : Bool) (old : Option Told) (t : Told) (b : Beside) → string_bytes b.name ≡ name → string_bytes b.own ≡ own → Ran (IsTaken own name bytes d) old t
-      → Becomes (disk_after (Write bytes ∷ Close ∷ [])) (disk_shown (Some (StandsBeside b)) old) (disk_shown None (Some t))
-  shown_taken bytes d None t b is is_own ran = absurd (let e : None ≡ Some ran.was = ran.told in cc)
-  shown_taken bytes d (Some o) t b is is_own ran =
-      let was : o ≡ ran.was = the_same o ran.was ran.told in
-      let files : t.files ≡ with_file name bytes (without own o.files) = ap (λ (v : Told). v.files) ran.is ∙ ran.so.files ∙ ap (λ (v : Told). with_file name bytes (without own v.files)) (sym was) in
-      let grown : with_more (string_bytes b.name) bytes (with_file (string_bytes b.name) [] (without (string_bytes b.own) o.files)) ≡ t.files =
-      (λ i. with_more (is i) bytes (with_file (is i) [] (without (is_own i) o.files))) ∙ more_new name bytes (without own o.files) ∙ sym files in
-      λ i. Some (record { files = grown i; writing = None })
+pub begun_shown : (name : List ℕ) (tells : Bool) (old new : Option History) (place : Place) → Follows (IsPlaced name place) old new
+    → Becomes (disk_after (Create name ∷ [])) (if tells then disk_shown None old else None) (if (tells && is_beside place) then disk_shown (Some place) new else None)
+begun_shown name false old new place did = tt
+begun_shown name true old None (StandsBeside b) did = tt
+begun_shown name true old (Some t) (StandsBeside b) did = shown_begun name old t b did
+begun_shown name true old new (In held) did = tt
 
-  pub taken_shown : (bytes : List ℕ) (d tells : Bool) (old new : Option Told) (b : Beside) → string_bytes b.name ≡ name → string_bytes b.own ≡ own → Did (IsTaken own name bytes d) old new
-      → Becomes (disk_after (Write bytes ∷ Close ∷ [])) (if tells then disk_shown (Some (StandsBeside b)) old else None) (if tells then disk_shown None new else None)
-  taken_shown bytes d false old new b is is_own did = tt
-  taken_shown bytes d true old None b is is_own did = tt
-  taken_shown bytes d true old (Some t) b is is_own did = shown_taken bytes d old t b is is_own did
+-- ---- an output that took the place
 
-pub none_shown : (tells : Bool) (told : Option Told) (bytes : List ℕ) → Becomes (disk_after (Write bytes ∷ Close ∷ [])) (if tells then disk_shown None told else None) (if tells then disk_shown None told else None)
+pub moved_files : (own name bytes : List ℕ) (s t : Answer) (fs : List File) → is_stored s ≡ true → files_after (moving own name bytes s t) fs ≡ with_file name bytes (without own fs)
+moved_files own name bytes s None fs stored = ap (λ (l : List File). with_file name (file_content own l) (without own l)) (if_same (is_stored s) (with_file own bytes fs) fs stored) ∙ (λ i. with_file name (content_of_new own bytes fs i) (without_new own bytes fs i))
+moved_files own name bytes s (Some kind) fs stored = ap (λ (l : List File). with_file name (file_content own l) (without own l)) (if_same (is_stored s) (with_file own bytes fs) fs stored) ∙ (λ i. with_file name (content_of_new own bytes fs i) (without_new own bytes fs i))
+
+shown_taken : (bytes : List ℕ) (old : Option History) (t : History) (b : Beside) → Transition (IsTaken (string_bytes b.own) (string_bytes b.name) bytes ByName) old t
+    → Becomes (disk_after (Write bytes ∷ Close ∷ [])) (disk_shown (Some (StandsBeside b)) old) (disk_shown None (Some t))
+shown_taken bytes None t b ran = absurd (let e : None ≡ Some ran.was = ran.told in cc)
+shown_taken bytes (Some o) t b ran =
+    let own = string_bytes b.own in
+    let name = string_bytes b.name in
+    let was : o ≡ ran.was = the_same o ran.was ran.told in
+    let files : t.files ≡ with_file name bytes (without own o.files) =
+    ap (λ (v : History). v.files) ran.is ∙ ap (λ (l : List Event). files_after l ran.was.files) ran.so.is ∙ moved_files own name bytes ran.so.synced ran.so.settled ran.was.files ran.so.stored ∙ ap (λ (v : History). with_file name bytes (without own v.files)) (sym was) in
+    let grown : with_more name bytes (with_file name [] (without own o.files)) ≡ t.files = more_new name bytes (without own o.files) ∙ sym files in
+    λ i. Some (record { files = grown i; writing = None })
+
+pub taken_shown : (bytes : List ℕ) (tells : Bool) (old new : Option History) (b : Beside) → Follows (IsTaken (string_bytes b.own) (string_bytes b.name) bytes ByName) old new
+    → Becomes (disk_after (Write bytes ∷ Close ∷ [])) (if tells then disk_shown (Some (StandsBeside b)) old else None) (if tells then disk_shown None new else None)
+taken_shown bytes false old new b did = tt
+taken_shown bytes true old None b did = tt
+taken_shown bytes true old (Some t) b did = shown_taken bytes old t b did
+
+pub none_shown : (tells : Bool) (told : Option History) (bytes : List ℕ) → Becomes (disk_after (Write bytes ∷ Close ∷ [])) (if tells then disk_shown None told else None) (if tells then disk_shown None told else None)
 none_shown false told bytes = tt
 none_shown true None bytes = tt
 none_shown true (Some t) bytes = refl
+
+-- ---- an output that is let go
+
+shown_gone : (old : Option History) (t : History) → Transition (IsLetGo None) old t → Becomes (disk_after []) (disk_shown None old) (disk_shown None (Some t))
+shown_gone None t ran = absurd (let e : None ≡ Some ran.was = ran.told in cc)
+shown_gone (Some o) t ran =
+    let was : o ≡ ran.was = the_same o ran.was ran.told in
+    let files : t.files ≡ o.files = ap (λ (v : History). v.files) ran.is ∙ ap (λ (l : List Event). files_after l ran.was.files) ran.so ∙ ap (λ (v : History). v.files) (sym was) in
+    λ i. Some (record { files = sym files i; writing = None })
+
+pub gone_shown : (tells : Bool) (place : Option Place) (old new : Option History) → Follows (IsLetGo place) old new
+    → Becomes (disk_after []) (if tells then disk_shown place old else None) (if (tells && is_none place) then disk_shown None new else None)
+gone_shown false place old new did = tt
+gone_shown true (Some place) old new did = tt
+gone_shown true None old None did = tt
+gone_shown true None old (Some t) did = shown_gone old t did
 
 pub becomes_then : (f : Disk → Disk) (a b c : Option Disk) → Becomes (disk_after []) a b → Becomes f b c → Becomes f a c
 becomes_then f a b None first second = tt

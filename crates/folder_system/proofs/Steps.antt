@@ -1,10 +1,12 @@
 -- What calls leave at the named file, at every moment.
-use Rattle.std.proofs.Common.{◌≡◌, ◌⊎◌, inl, inr, ℕ, zero, suc, Bool, true, false, ◌||◌, List, [], ◌∷◌, ◌++◌, take, Option, Some, None, refl, sym, ap, subst, ◌∙◌}
+use Rattle.std.proofs.Common.{◌≡◌, ◌⊎◌, inl, inr, ℕ, zero, suc, Bool, true, false, ◌||◌, List, [], ◌∷◌, ◌++◌, take, Some, None, refl, sym, ap, subst, ◌∙◌}
 use Rattle.std.specs.Prelude.{bytes_eq, if◌then◌else◌}
+use Rattle.folder_system.specs.Names.{folder_of}
+use Rattle.folder_system.specs.Events.{Event, Made, Opened, Synced, Renamed, Removed, NamesSynced, Answer, is_stored}
+use Rattle.folder_system.specs.Entries.{FileState, Whole, Torn, Entry, Entries, entries_after_event, entries_after, touches, Spares, written, IsAmong, IsCareful, IsCarefulInCrash}
 use Rattle.std.specs.declared.io.ErrorKind.{ErrorKind}
-use Rattle.folder_system.specs.Events.{Event, Made, Opened, Synced, Renamed, Removed, NamesSynced}
-use Rattle.folder_system.specs.Worlds.{Stands, Holds, Spot, World, step, run, touches, Spares, IsAmong, IsOldOrWhole, IsCareful}
-use Rattle.folder_system.proofs.Calls.{same_name}
+use Rattle.folder_system.specs.Place.{moving, refusing, copying, IsHalted}
+use Rattle.folder_system.proofs.Files.{same_name}
 
 if_not : {T : Type 0} (b : Bool) (x y : T) → b ≡ false → (if b then x else y) ≡ y
 if_not true x y h = absurd cc
@@ -15,85 +17,139 @@ if_neither true b x y z h = absurd cc
 if_neither false true x y z h = absurd cc
 if_neither false false x y z h = refl
 
-untouched : (name : List ℕ) (e : Event) (w : World) → touches name e ≡ false → step e w name ≡ w name
-untouched name (Made n None) w h = if_not (bytes_eq name n) _ (w name) h
+untouched : (name : List ℕ) (e : Event) (w : Entries) → touches name e ≡ false → entries_after_event e w name ≡ w name
+untouched name (Made n mode None) w h = if_not (bytes_eq name n) _ (w name) h
 untouched name (Opened n None) w h = if_not (bytes_eq name n) _ (w name) h
-untouched name (Synced n bytes None) w h = if_not (bytes_eq name n) _ (w name) h
+untouched name (Synced n bytes answer) w h = if_not (bytes_eq name n) _ (w name) h
 untouched name (Renamed from to None) w h = if_neither (bytes_eq name to) (bytes_eq name from) _ _ (w name) h
 untouched name (Removed n None) w h = if_not (bytes_eq name n) _ (w name) h
-untouched name (NamesSynced None) w h = absurd cc
+untouched name (NamesSynced folder None) w h = if_not (bytes_eq (folder_of name) folder) _ (w name) h
 untouched name e w h = refl
 
-pub spared : (name : List ℕ) (es : List Event) (w : World) (k : ℕ) → Spares name es → run (take k es) w name ≡ w name
+pub spared : (name : List ℕ) (es : List Event) (w : Entries) (k : ℕ) → Spares name es → entries_after (take k es) w name ≡ w name
 spared name [] w zero so = refl
 spared name [] w (suc k) so = refl
 spared name (e ∷ es) w zero so = refl
-spared name (e ∷ es) w (suc k) so = spared name es (step e w) k so.1 ∙ untouched name e w so.0
-
-still : (bytes : List ℕ) (old : Spot) → IsOldOrWhole bytes old old
-still bytes old = record { now = inl refl; left = λ s is. inl is }
-
-pub careful_spared : (name bytes : List ℕ) (es : List Event) → Spares name es → IsCareful name bytes es
-careful_spared name bytes es so w k = subst (IsOldOrWhole bytes (w name)) (sym (spared name es w k so)) (still bytes (w name))
+spared name (e ∷ es) w (suc k) so = spared name es (entries_after_event e w) k so.1 ∙ untouched name e w so.0
 
 if_so : {T : Type 0} (b : Bool) (x y : T) → b ≡ true → (if b then x else y) ≡ x
 if_so true x y h = refl
 if_so false x y h = absurd cc
 
--- what stands at the named file once the one beside has its name, and once that is on the disk
-abbrev renamed : List ℕ → Spot → Spot
-renamed bytes old = record { now = Holds bytes; content = Holds bytes ∷ []; left = old.left ++ Holds bytes ∷ [] }
+none_after : (k : ℕ) (w : Entries) → entries_after (take k []) w ≡ w
+none_after zero w = refl
+none_after (suc k) w = refl
 
-abbrev settled : List ℕ → Spot
-settled bytes = record { now = Holds bytes; content = Holds bytes ∷ []; left = Holds bytes ∷ [] }
+written_now : (bytes : List ℕ) (s : Answer) (old : Entry) → is_stored s ≡ true → (written bytes s old).now ≡ Whole bytes
+written_now bytes None old stored = refl
+written_now bytes (Some kind) old stored = ap (λ (e : Entry). e.now) (if_so (is_stored (Some kind)) (record { now = Whole bytes; stored = Torn; left = old.left ++ Torn ∷ [] }) old stored)
 
-among_append : (xs : List Stands) (y s : Stands) → IsAmong (xs ++ y ∷ []) s → IsAmong xs s ⊎ (s ≡ y)
+among_append : (xs : List FileState) (y s : FileState) → IsAmong (xs ++ y ∷ []) s → IsAmong xs s ⊎ (s ≡ y)
 among_append [] y s (inl is) = inr is
 among_append [] y s (inr none) = absurd none
 among_append (x ∷ xs) y s (inl is) = inl (inl is)
 among_append (x ∷ xs) y s (inr more) = elim (among_append xs y s more) [ inl old ↦ inl (inr old) | inr is ↦ inr is ]
 
-renamed_is : (bytes : List ℕ) (old : Spot) → IsOldOrWhole bytes old (renamed bytes old)
-renamed_is bytes old = record { now = inr refl; left = λ s is. among_append old.left (Holds bytes) s is }
+-- ---- the file beside takes the name
 
-settled_is : (bytes : List ℕ) (old : Spot) → IsOldOrWhole bytes old (settled bytes)
-settled_is bytes old = record { now = inr refl; left = λ s is. elim is [ inl whole ↦ inr whole | inr none ↦ absurd none ] }
+module _ (own name bytes : List ℕ) (apart : bytes_eq name own ≡ false) (s : Answer) where
+  first : Entries → Entries
+  first w = entries_after_event (Synced own bytes s) w
 
-run_none : (k : ℕ) (w : World) → run (take k []) w ≡ w
-run_none zero w = refl
-run_none (suc k) w = refl
+  second : Entries → Entries
+  second w = entries_after_event (Renamed own name None) (first w)
+
+  renamed : Entry → Entry → Entry
+  renamed from to = record { now = from.now; stored = from.stored; left = to.left ++ from.stored ∷ [] }
+
+  first_name : (w : Entries) → first w name ≡ w name
+  unfolding first
+  first_name w = if_not (bytes_eq name own) (written bytes s (w own)) (w name) apart
+
+  first_own : (w : Entries) → first w own ≡ written bytes s (w own)
+  unfolding first
+  first_own w = if_so (bytes_eq own own) (written bytes s (w own)) (w own) (same_name own)
+
+  second_name : (w : Entries) → second w name ≡ renamed (written bytes s (w own)) (w name)
+  unfolding second renamed
+  second_name w = if_so (bytes_eq name name) _ _ (same_name name) ∙ (λ i. renamed (first_own w i) (first_name w i))
+
+  second_now : (w : Entries) → is_stored s ≡ true → (second w name).now ≡ Whole bytes
+  unfolding renamed
+  second_now w stored = ap (λ (e : Entry). e.now) (second_name w) ∙ written_now bytes s (w own) stored
+
+  third_now : (t : Answer) (w : Entries) → (entries_after_event (NamesSynced (folder_of name) t) (second w) name).now ≡ (second w name).now
+  third_now None w = ap (λ (e : Entry). e.now) (if_so (bytes_eq (folder_of name) (folder_of name)) (record { now = (second w name).now; stored = (second w name).stored; left = (second w name).stored ∷ [] }) (second w name) (same_name (folder_of name)))
+  third_now (Some kind) w = refl
+
+  pub moved_careful : (t : Answer) → is_stored s ≡ true → IsCareful name bytes (moving own name bytes s t)
+  unfolding first second
+  moved_careful t stored w zero = inl refl
+  moved_careful t stored w (suc zero) = inl (ap (λ (e : Entry). e.now) (first_name w))
+  moved_careful t stored w (suc (suc zero)) = inr (second_now w stored)
+  moved_careful t stored w (suc (suc (suc k))) =
+      inr (ap (λ (v : Entries). (v name).now) (none_after k (entries_after_event (NamesSynced (folder_of name) t) (second w))) ∙ third_now t w ∙ second_now w stored)
+
+  pub moved_whole : (t : Answer) (w : Entries) → is_stored s ≡ true → (entries_after (moving own name bytes s t) w name).now ≡ Whole bytes
+  unfolding first second
+  moved_whole t w stored = third_now t w ∙ second_now w stored
 
 module _ (own name bytes : List ℕ) (apart : bytes_eq name own ≡ false) where
-  abbrev put : List Event
-  put = Synced own bytes None ∷ Renamed own name None ∷ []
+  -- the file was synced
+  synced_left : (w : Entries) → (second own name bytes apart None w name).left ≡ (w name).left ++ Whole bytes ∷ []
+  unfolding renamed
+  synced_left w = ap (λ (e : Entry). e.left) (second_name own name bytes apart None w)
 
-  after_put : (w : World) → run put w name ≡ renamed bytes (w name)
-  after_put w =
-      let synced : World = step (Synced own bytes None) w in
-      let spot : Spot = record { now = Holds bytes; content = Holds bytes ∷ []; left = (w own).left ++ Holds bytes ∷ [] } in
-      let at_own : synced own ≡ spot = if_so (bytes_eq own own) spot (w own) (same_name own) in
-      let at_name : synced name ≡ w name = if_not (bytes_eq name own) spot (w name) apart in
-      if_so (bytes_eq name name) _ _ (same_name name)
-      ∙ (λ i. record { now = (at_own i).now; content = (at_own i).content; left = (at_name i).left ++ (at_own i).content })
+  settled_left : (w : Entries) → (entries_after (moving own name bytes None None) w name).left ≡ Whole bytes ∷ []
+  unfolding first second renamed
+  settled_left w =
+      let w2 = second own name bytes apart None w in
+      ap (λ (e : Entry). e.left) (if_so (bytes_eq (folder_of name) (folder_of name)) (record { now = (w2 name).now; stored = (w2 name).stored; left = (w2 name).stored ∷ [] }) (w2 name) (same_name (folder_of name)))
+      ∙ ap (λ (e : Entry). e.stored ∷ []) (second_name own name bytes apart None w)
 
-  after_all : (w : World) → run (put ++ NamesSynced None ∷ []) w name ≡ settled bytes
-  after_all w = ap (λ (s : Spot). record { now = s.now; content = s.content; left = s.content }) (after_put w)
+  pub moved_durable : (w : Entries) → (entries_after (moving own name bytes None None) w name).left ≡ Whole bytes ∷ []
+  moved_durable w = settled_left w
 
-  pub careful_put : (answer : Option ErrorKind) → IsCareful name bytes (put ++ NamesSynced answer ∷ [])
-  careful_put answer w zero = still bytes (w name)
-  careful_put answer w (suc zero) = subst (IsOldOrWhole bytes (w name)) (sym (if_not (bytes_eq name own) _ (w name) apart)) (still bytes (w name))
-  careful_put answer w (suc (suc zero)) = subst (IsOldOrWhole bytes (w name)) (sym (after_put w)) (renamed_is bytes (w name))
-  careful_put None w (suc (suc (suc k))) =
-      subst (IsOldOrWhole bytes (w name)) (sym (ap (λ (v : World). v name) (run_none k (run (put ++ NamesSynced None ∷ []) w)) ∙ after_all w)) (settled_is bytes (w name))
-  careful_put (Some kind) w (suc (suc (suc k))) =
-      subst (IsOldOrWhole bytes (w name)) (sym (ap (λ (v : World). v name) (run_none k (run put w)) ∙ after_put w)) (renamed_is bytes (w name))
+  Crash : List FileState → List FileState → Type 0
+  Crash old new = (v : FileState) → IsAmong new v → IsAmong old v ⊎ (v ≡ Whole bytes)
 
-  pub whole_put : (answer : Option ErrorKind) (w : World) → (run (put ++ NamesSynced answer ∷ []) w name).now ≡ Holds bytes
-  whole_put None w = ap (λ (s : Spot). s.now) (after_all w)
-  whole_put (Some kind) w = ap (λ (s : Spot). s.now) (after_put w)
+  crash_grown : (old : List FileState) → Crash old (old ++ Whole bytes ∷ [])
+  unfolding Crash
+  crash_grown old v is = among_append old (Whole bytes) v is
 
-  pub durable_put : (w : World) → (run (put ++ NamesSynced None ∷ []) w name).left ≡ Holds bytes ∷ []
-  durable_put w = ap (λ (s : Spot). s.left) (after_all w)
+  crash_settled : (old : List FileState) → Crash old (Whole bytes ∷ [])
+  unfolding Crash
+  crash_settled old v (inl is) = inr is
+  crash_settled old v (inr none) = absurd none
 
-pub whole_ended : (name bytes : List ℕ) (w : World) → (run (Synced name bytes None ∷ []) w name).now ≡ Holds bytes
-whole_ended name bytes w = ap (λ (s : Spot). s.now) (if_so (bytes_eq name name) (record { now = Holds bytes; content = Holds bytes ∷ []; left = (w name).left ++ Holds bytes ∷ [] }) (w name) (same_name name))
+  third_left : (t : Answer) (w : Entries) → Crash (w name).left (entries_after (moving own name bytes None t) w name).left
+  unfolding first second
+  third_left None w = subst (Crash (w name).left) (sym (settled_left w)) (crash_settled (w name).left)
+  third_left (Some kind) w = subst (Crash (w name).left) (sym (synced_left w)) (crash_grown (w name).left)
+
+  pub moved_crash : (t : Answer) → IsCarefulInCrash name bytes (moving own name bytes None t)
+  unfolding first second Crash
+  moved_crash t w zero v is = inl is
+  moved_crash t w (suc zero) v is = inl (subst (λ (e : Entry). IsAmong e.left v) (first_name own name bytes apart None w) is)
+  moved_crash t w (suc (suc zero)) v is = among_append (w name).left (Whole bytes) v (subst (λ (l : List FileState). IsAmong l v) (synced_left w) is)
+  moved_crash t w (suc (suc (suc k))) v is = third_left t w v (subst (λ (u : Entries). IsAmong (u name).left v) (none_after k (entries_after (moving own name bytes None t) w)) is)
+
+-- ---- a name that is held
+
+pub removed_spares : (own name : List ℕ) (removed : Answer) → bytes_eq name own ≡ false → Spares name (Removed own removed ∷ [])
+removed_spares own name None apart = (apart, tt)
+removed_spares own name (Some kind) apart = (refl, tt)
+
+pub refusing_spares : (own name bytes : List ℕ) (synced : Answer) (kind : ErrorKind) → bytes_eq name own ≡ false → Spares name (refusing own name bytes synced kind)
+refusing_spares own name bytes synced kind apart = (apart, (refl, tt))
+
+pub copying_whole : (name bytes : List ℕ) (stored : Answer) (w : Entries) → is_stored stored ≡ true → (entries_after (copying name bytes stored) w name).now ≡ Whole bytes
+copying_whole name bytes stored w is =
+    let opened : Entries = entries_after_event (Opened name None) w in
+    ap (λ (e : Entry). e.now) (if_so (bytes_eq name name) (written bytes stored (opened name)) (opened name) (same_name name)) ∙ written_now bytes stored (opened name) is
+
+pub halted_spares : (own name bytes : List ℕ) (es : List Event) (removed : Answer) → bytes_eq name own ≡ false → IsHalted own name bytes [] es → Spares name (es ++ Removed own removed ∷ [])
+halted_spares own name bytes es removed apart (inl u) =
+    subst (λ (l : List Event). Spares name (l ++ Removed own removed ∷ [])) (sym u.is) (apart, removed_spares own name removed apart)
+halted_spares own name bytes es removed apart (inr u) =
+    subst (λ (l : List Event). Spares name (l ++ Removed own removed ∷ [])) (sym u.is) (apart, (refl, removed_spares own name removed apart))

@@ -1,10 +1,11 @@
--- The calls on a folder with their answers, and what they do.
-use Rattle.std.specs.Prelude.{◌≡◌, ℕ, List, [], ◌∷◌, ◌++◌, Option, Some, None, Result, Ok, Err, if◌then◌else◌, bytes_eq, ⊤}
+-- The calls on a folder with their answers, and the files that they leave.
+use Rattle.std.specs.Prelude.{◌≡◌, ℕ, Bool, true, List, [], ◌∷◌, ◌++◌, Option, Some, None, Result, Ok, Err, if◌then◌else◌, bytes_eq, ⊤}
 use Rattle.std.specs.IoError.{error_kind}
 use Rattle.std.specs.declared.io.Error.{Error}
 use Rattle.std.specs.declared.io.ErrorKind.{ErrorKind}
 use Rattle.host_port.specs.Act.{File, file_content, with_file}
 use Rattle.folder_system.specs.declared.folder.Found.{Found}
+use Rattle.folder_system.specs.Kinds.{is_no_sync}
 
 -- none where a call was done, and else of which kind its error was
 abbrev pub Answer : Type 0
@@ -23,22 +24,23 @@ pub data Event : Type 0 where
   Looked : List ℕ → Option Found → Event
   -- a file was opened to be written, and left as it is
   Tried : List ℕ → Answer → Event
-  -- a new file was made
-  Made : List ℕ → Answer → Event
-  -- an open file was given an owner, a group or a mode
-  Gave : Answer → Event
-  -- what stands at a name was made empty, to be written in place
+  -- a new file was made with a mode, less what the process masks
+  Made : List ℕ → ℕ → Answer → Event
+  -- an open file was given an owner and a group
+  GaveOwner : ℕ → ℕ → Answer → Event
+  GaveMode : ℕ → Answer → Event
+  -- what stands at a name was made empty, or a new file, to be written in place
   Opened : List ℕ → Answer → Event
-  -- the file of a name, to which these bytes were written, was synced
+  -- the file that was opened by a name, to which these bytes were written, was synced
   Synced : List ℕ → List ℕ → Answer → Event
   -- a file was given another name
   Renamed : List ℕ → List ℕ → Answer → Event
   Removed : List ℕ → Answer → Event
-  -- the names of the folder were synced
-  NamesSynced : Answer → Event
+  -- the names of a folder were synced
+  NamesSynced : List ℕ → Answer → Event
 
 -- what a folder tells
-pub record Told : Type 0 where
+pub record History : Type 0 where
   -- the regular files. A file that is being written has no bytes until it is synced.
   pub files : List File
   -- the calls so far
@@ -49,10 +51,15 @@ abbrev pub without : List ℕ → List File → List File
 without name [] = []
 without name (file ∷ files) = if bytes_eq file.0 name then without name files else file ∷ without name files
 
+-- all that was written stands in the file: it was synced, or there is nothing to sync
+abbrev pub is_stored : Answer → Bool
+is_stored None = true
+is_stored (Some kind) = is_no_sync kind
+
 abbrev pub files_after_event : Event → List File → List File
-files_after_event (Made name None) files = with_file name [] files
+files_after_event (Made name mode None) files = with_file name [] files
 files_after_event (Opened name None) files = with_file name [] files
-files_after_event (Synced name bytes None) files = with_file name bytes files
+files_after_event (Synced name bytes answer) files = if is_stored answer then with_file name bytes files else files
 files_after_event (Renamed from to None) files = with_file to (file_content from files) (without from files)
 files_after_event (Removed name None) files = without name files
 files_after_event _ files = files
@@ -61,21 +68,21 @@ abbrev pub files_after : List Event → List File → List File
 files_after [] files = files
 files_after (e ∷ es) files = files_after es (files_after_event e files)
 
-abbrev pub all_after : List Event → Told → Told
-all_after es t = record { files = files_after es t.files; events = t.events ++ es }
+abbrev pub all_after : List Event → History → History
+all_after es h = record { files = files_after es h.files; events = h.events ++ es }
 
-abbrev pub after : Event → Told → Told
-after e t = all_after (e ∷ []) t
+abbrev pub after : Event → History → History
+after e h = all_after (e ∷ []) h
 
--- These calls led from what was told to what is told, and are so at the files that there were.
-pub record Ran (P : List File → List Event → Type 0) (old : Option Told) (new : Told) : Type 0 where
-  pub was : Told
+-- Calls led from what was told to what is told, and this is so of them and of the files that there were.
+pub record Transition (P : List File → List Event → Type 0) (old : Option History) (new : History) : Type 0 where
+  pub was : History
   pub told : old ≡ Some was
   pub calls : List Event
   pub is : new ≡ all_after calls was
   pub so : P was.files calls
 
--- what is still told came about by calls that are so
-abbrev pub Did : (List File → List Event → Type 0) → Option Told → Option Told → Type 0
-Did P old None = ⊤
-Did P old (Some new) = Ran P old new
+-- what is still told came about by calls of which this is so
+abbrev pub Follows : (List File → List Event → Type 0) → Option History → Option History → Type 0
+Follows P old None = ⊤
+Follows P old (Some new) = Transition P old new

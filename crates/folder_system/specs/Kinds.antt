@@ -1,7 +1,7 @@
 -- What the kinds of errors say.
 use Rattle.std.specs.Prelude.{Bool, true, false}
 use Rattle.std.specs.declared.io.ErrorKind.{ErrorKind}
-use Rattle.std.specs.declared.io.ErrorKind.TheVariants.{PermissionDenied, ReadOnlyFilesystem, InvalidFilename, InvalidInput, Unsupported}
+use Rattle.std.specs.declared.io.ErrorKind.TheVariants.{PermissionDenied, ReadOnlyFilesystem, InvalidFilename, InvalidInput, Unsupported, ResourceBusy, CrossesDevices}
 
 -- no file can be made beside another, or not one like it
 abbrev pub is_barring : ErrorKind → Bool
@@ -17,3 +17,18 @@ abbrev pub is_no_sync : ErrorKind → Bool
 is_no_sync InvalidInput = true
 is_no_sync Unsupported = true
 is_no_sync _ = false
+
+-- the names of a folder can't be synced
+abbrev pub is_no_names_sync : ErrorKind → Bool
+is_no_names_sync PermissionDenied = true
+is_no_names_sync InvalidInput = true
+is_no_names_sync Unsupported = true
+is_no_names_sync _ = false
+
+-- No other file can have the name: a mount of its own stands there, or another's file in a folder of which
+-- each may take away only their own.
+abbrev pub is_held : ErrorKind → Bool
+is_held ResourceBusy = true
+is_held CrossesDevices = true
+is_held PermissionDenied = true
+is_held _ = false

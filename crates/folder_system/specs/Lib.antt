@@ -2,6 +2,6 @@ pub mod Kinds
 pub mod Names
 pub mod Found
 pub mod Events
-pub mod Worlds
+pub mod Entries
 pub mod Place
 pub mod Disk

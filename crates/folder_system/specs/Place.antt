@@ -1,38 +1,33 @@
 -- What an output does, by the calls on its folder.
-use Rattle.std.specs.Prelude.{◌≡◌, ◌⊎◌, ℕ, Bool, true, false, ◌||◌, List, [], ◌∷◌, ◌++◌, Option, Some, None, if◌then◌else◌, bytes_eq, string_bytes}
+use Rattle.std.specs.Prelude.{◌≡◌, ◌⊎◌, ℕ, Bool, true, false, ◌||◌, List, [], ◌∷◌, ◌++◌, Option, Some, None, bit_and, string_bytes}
 use Rattle.std.specs.declared.io.ErrorKind.{ErrorKind}
-use Rattle.host_port.specs.Act.{File, with_file, has_file}
+use Rattle.std.specs.declared.io.ErrorKind.TheVariants.{OutOfMemory}
+use Rattle.host_port.specs.Act.{File, with_file, has_file, file_content}
+use Rattle.folder_system.specs.declared.folder.Found.{Found}
+use Rattle.folder_system.specs.declared.folder.Found.TheVariants.{Nothing, File as RegularFile, Other}
+use Rattle.folder_system.specs.declared.folder.Attributes.{Attributes}
 use Rattle.folder_system.specs.declared.place.Place.{Place}
 use Rattle.folder_system.specs.declared.place.Place.TheVariants.{Beside as StandsBeside, In}
-use Rattle.folder_system.specs.Found.{bars_found}
-use Rattle.folder_system.specs.Kinds.{is_barring}
-use Rattle.folder_system.specs.Events.{Event, Looked, Made, Gave, Opened, Synced, Renamed, Removed, NamesSynced, Told, Did, files_after, without}
-use Rattle.folder_system.specs.Worlds.{World, Holds, Spares, IsCareful, run}
-
-abbrev pub names_without : List ℕ → List (List ℕ) → List (List ℕ)
-names_without name [] = []
-names_without name (n ∷ names) = if bytes_eq n name then names_without name names else n ∷ names_without name names
-
--- the names that were made and still stand, but for those that a rename gave
-abbrev pub made_after_event : Event → List (List ℕ) → List (List ℕ)
-made_after_event (Made name None) names = name ∷ names
-made_after_event (Renamed from to None) names = names_without from names
-made_after_event (Removed name None) names = names_without name names
-made_after_event _ names = names
-
-abbrev pub made_after : List Event → List (List ℕ) → List (List ℕ)
-made_after [] names = names
-made_after (e ∷ es) names = made_after es (made_after_event e names)
+use Rattle.folder_system.specs.declared.beside.Naming.{Naming}
+use Rattle.folder_system.specs.declared.beside.Naming.TheVariants.{Done, Held}
+use Rattle.folder_system.specs.declared.beside.Taken.{Taken}
+use Rattle.folder_system.specs.declared.beside.Taken.TheVariants.{ByName, ByCopy}
+use Rattle.folder_system.specs.Names.{folder_of, numbered}
+use Rattle.folder_system.specs.Found.{bars_found, attributes_found}
+use Rattle.folder_system.specs.Kinds.{is_barring, is_held, is_no_names_sync}
+use Rattle.folder_system.specs.Events.{Event, Looked, Tried, Made, GaveOwner, GaveMode, Opened, Synced, Renamed, Removed, NamesSynced, Answer, History, Follows, files_after, is_stored}
+use Rattle.folder_system.specs.Entries.{Spares}
 
 -- an answer that bars an output from standing beside
-abbrev pub bars_answer : Option ErrorKind → Bool
+abbrev pub bars_answer : Answer → Bool
 bars_answer None = false
 bars_answer (Some kind) = is_barring kind
 
 abbrev pub bars_event : Event → Bool
 bars_event (Looked name (Some found)) = bars_found found
-bars_event (Made name answer) = bars_answer answer
-bars_event (Gave answer) = bars_answer answer
+bars_event (Made name mode answer) = bars_answer answer
+bars_event (GaveOwner owner group answer) = bars_answer answer
+bars_event (GaveMode mode answer) = bars_answer answer
 bars_event _ = false
 
 abbrev pub has_bar : List Event → Bool
@@ -47,31 +42,81 @@ abbrev pub has_failed_removal : List Event → Bool
 has_failed_removal [] = false
 has_failed_removal (e ∷ es) = failed_removal e || has_failed_removal es
 
--- nothing is done to the named file, nothing made is left, and nothing bars
+abbrev pub failed_event : Event → Bool
+failed_event (Looked name None) = true
+failed_event (Tried name (Some kind)) = true
+failed_event (Made name mode (Some kind)) = true
+failed_event (GaveOwner owner group (Some kind)) = true
+failed_event (GaveMode mode (Some kind)) = true
+failed_event (Opened name (Some kind)) = true
+failed_event (Removed name (Some kind)) = true
+failed_event _ = false
+
+abbrev pub has_failure : List Event → Bool
+has_failure [] = false
+has_failure (e ∷ es) = failed_event e || has_failure es
+
+abbrev pub HasFailure : List File → List Event → Type 0
+HasFailure fs es = has_failure es ≡ true
+
+-- an error is want of memory, or a call failed
+abbrev pub HasCause : ErrorKind → Option History → Option History → Type 0
+HasCause kind old new = (kind ≡ OutOfMemory) ⊎ Follows HasFailure old new
+
+-- the calls that made or opened an output, or gave it something
+abbrev pub making : Event → List Event
+making (Made name mode None) = Made name mode None ∷ []
+making (GaveOwner owner group None) = GaveOwner owner group None ∷ []
+making (GaveMode mode None) = GaveMode mode None ∷ []
+making (Opened name None) = Opened name None ∷ []
+making _ = []
+
+abbrev pub makings : List Event → List Event
+makings [] = []
+makings (e ∷ es) = making e ++ makings es
+
+-- How a file is made beside an old one: with mode 0600, and then with the old one's owner, group and bits of
+-- permission. Where there is no old one it has mode 0666, less what the process masks.
+abbrev pub makings_of : List ℕ → Option Attributes → List Event
+makings_of own None = Made own 438 None ∷ []
+makings_of own (Some old) = Made own 384 None ∷ GaveOwner old.owner old.group None ∷ GaveMode (bit_and old.mode 511) None ∷ []
+
+-- nothing is done to the named file, nothing is made, and nothing bars
 pub record IsQuiet (name : List ℕ) (fs : List File) (es : List Event) : Type 0 where
   pub spares : Spares name es
   pub clear : has_bar es ≡ false
-  pub made : made_after es [] ≡ []
+  pub makes : makings es ≡ []
   pub files : files_after es fs ≡ fs
 
--- a new file stands by its own name, nothing is done to the named one, and nothing bars
-pub record IsBegun (name own : List ℕ) (fs : List File) (es : List Event) : Type 0 where
+-- One new file stands by its own name, beside the named one. These calls made it, and no others. Nothing is done
+-- to the named file, and nothing bars.
+pub record IsBegun (name own : List ℕ) (made : List Event) (fs : List File) (es : List Event) : Type 0 where
   pub spares : Spares name es
   pub clear : has_bar es ≡ false
-  pub made : made_after es [] ≡ own ∷ []
+  pub makes : makings es ≡ made
+  pub next_to : (n : ℕ) × (own ≡ numbered name n)
   pub fresh : has_file own fs ≡ false
   pub files : files_after es fs ≡ with_file own [] fs
 
--- an answer barred it; nothing is done to the named file, and nothing made is left
+-- an answer barred it; nothing is done to the named file, and no file is left that wasn't there
 pub record IsBarred (name : List ℕ) (fs : List File) (es : List Event) : Type 0 where
   pub spares : Spares name es
-  pub made : made_after es [] ≡ []
+  pub files : files_after es fs ≡ fs
   pub bars : has_bar es ≡ true
+
+-- no file is left that wasn't there, or one, where removing it failed
+pub record IsLeft (fs : List File) (es : List Event) : Type 0 where
+  pub own : List ℕ
+  pub failed : has_failed_removal es ≡ true
+  pub files : files_after es fs ≡ with_file own [] fs
+
+abbrev pub IsTidy : List File → List Event → Type 0
+IsTidy fs es = (files_after es fs ≡ fs) ⊎ IsLeft fs es
 
 -- nothing is done to the named file, and nothing made is left unless removing failed
 pub record IsGivenUp (name : List ℕ) (fs : List File) (es : List Event) : Type 0 where
   pub spares : Spares name es
-  pub made : (made_after es [] ≡ []) ⊎ (has_failed_removal es ≡ true)
+  pub tidy : IsTidy fs es
 
 -- it was barred, and then the named file was opened to be written in place
 pub record IsInPlace (name : List ℕ) (fs : List File) (es : List Event) : Type 0 where
@@ -79,20 +124,39 @@ pub record IsInPlace (name : List ℕ) (fs : List File) (es : List Event) : Type
   pub barred : IsBarred name fs before
   pub is : es ≡ before ++ Opened name None ∷ []
 
--- calls that change nothing: a file is given an owner, a group and a mode
-pub record IsGiving (fs : List File) (es : List Event) : Type 0 where
-  pub spares : (name : List ℕ) → Spares name es
-  pub made : (names : List (List ℕ)) → made_after es names ≡ names
-  pub same : files_after es fs ≡ fs
+-- what was found at the name; a file that was found may be written
+abbrev pub finding : List ℕ → Found → List Event
+finding name Nothing = Looked name (Some Nothing) ∷ []
+finding name (RegularFile attributes) = Looked name (Some (RegularFile attributes)) ∷ Tried name None ∷ []
+finding name Other = Looked name (Some Other) ∷ []
 
-pub record IsGiven (fs : List File) (es : List Event) : Type 0 where
-  pub giving : IsGiving fs es
-  pub clear : has_bar es ≡ false
+-- it was begun beside what was found at the name
+pub record IsBesideFound (name own : List ℕ) (fs : List File) (es : List Event) : Type 0 where
+  pub found : Found
+  pub behind : List Event
+  pub looked : es ≡ finding name found ++ behind
+  pub begun : IsBegun name own (makings_of own (attributes_found found)) fs es
 
--- the same, and the last of them failed in this way
-pub record IsRefused (kind : ErrorKind) (fs : List File) (es : List Event) : Type 0 where
-  pub giving : IsGiving fs es
-  pub bars : is_barring kind ≡ true → has_bar es ≡ true
+-- beside an old file with these attributes or beside none, or in place
+abbrev pub IsStanding : List ℕ → Option Attributes → Place → List File → List Event → Type 0
+IsStanding name old (StandsBeside beside) fs es = (string_bytes beside.name ≡ name) × IsBegun name (string_bytes beside.own) (makings_of (string_bytes beside.own) old) fs es
+IsStanding name old (In held) fs es = (string_bytes held ≡ name) × IsInPlace name fs es
+
+-- where an output of this name stands
+abbrev pub IsPlaced : List ℕ → Place → List File → List Event → Type 0
+IsPlaced name (StandsBeside beside) fs es = (string_bytes beside.name ≡ name) × IsBesideFound name (string_bytes beside.own) fs es
+IsPlaced name (In held) fs es = (string_bytes held ≡ name) × IsInPlace name fs es
+
+-- a file was given its owner, its group and its mode
+abbrev pub gifts_of : Attributes → Answer → List Event
+gifts_of old answer = GaveOwner old.owner old.group None ∷ GaveMode (bit_and old.mode 511) answer ∷ []
+
+abbrev pub IsGiven : Attributes → List File → List Event → Type 0
+IsGiven old fs es = es ≡ gifts_of old None
+
+-- one of them failed
+abbrev pub IsRefused : Attributes → ErrorKind → List File → List Event → Type 0
+IsRefused old kind fs es = (es ≡ GaveOwner old.owner old.group (Some kind) ∷ []) ⊎ (es ≡ gifts_of old (Some kind))
 
 -- what stands at the name was opened to be written in place
 abbrev pub IsOpened : List ℕ → List File → List Event → Type 0
@@ -102,43 +166,149 @@ abbrev pub IsIn : List ℕ → Place → Type 0
 IsIn name (StandsBeside beside) = ⊥
 IsIn name (In held) = string_bytes held ≡ name
 
--- where an output of this name stands
-abbrev pub IsPlaced : List ℕ → Option Told → Option Told → Place → Type 0
-IsPlaced name old new (StandsBeside beside) = (string_bytes beside.name ≡ name) × Did (IsBegun name (string_bytes beside.own)) old new
-IsPlaced name old new (In held) = (string_bytes held ≡ name) × Did (IsInPlace name) old new
+abbrev pub is_beside : Place → Bool
+is_beside (StandsBeside beside) = true
+is_beside (In held) = false
 
--- the file beside took the place of the named one, which holds what was written
-pub record IsTaken (own name bytes : List ℕ) (is_durable : Bool) (fs : List File) (es : List Event) : Type 0 where
-  pub careful : IsCareful name bytes es
-  pub whole : (w : World) → (run es w name).now ≡ Holds bytes
-  pub durable : is_durable ≡ true → (w : World) → (run es w name).left ≡ Holds bytes ∷ []
-  pub made : made_after es (own ∷ []) ≡ []
-  pub files : files_after es fs ≡ with_file name bytes (without own fs)
+-- ---- the end of an output
 
--- the named file has its old content or the whole new one, and nothing is left beside unless removing failed
-pub record IsLost (own name bytes : List ℕ) (fs : List File) (es : List Event) : Type 0 where
-  pub careful : IsCareful name bytes es
-  pub made : (made_after es (own ∷ []) ≡ []) ⊎ (has_failed_removal es ≡ true)
+-- what was written stands in the file of this name
+abbrev pub IsStored : List ℕ → List ℕ → List File → List Event → Type 0
+IsStored name bytes fs es = (answer : Answer) × (es ≡ Synced name bytes answer ∷ []) × (is_stored answer ≡ true)
 
--- the file beside was taken away
-pub record IsAway (own name : List ℕ) (fs : List File) (es : List Event) : Type 0 where
-  pub spares : Spares name es
-  pub made : (made_after es (own ∷ []) ≡ []) ⊎ (has_failed_removal es ≡ true)
+abbrev pub IsNotStored : List ℕ → List ℕ → List File → List Event → Type 0
+IsNotStored name bytes fs es = (answer : Answer) × (es ≡ Synced name bytes answer ∷ []) × (is_stored answer ≡ false)
 
--- the file beside was synced with what was written to it, and has the name
-abbrev pub IsPut : List ℕ → List ℕ → List ℕ → List File → List Event → Type 0
-IsPut own name bytes fs es = es ≡ Synced own bytes None ∷ Renamed own name None ∷ []
+-- the names of the folder are synced, or can't be
+abbrev pub is_settled : Answer → Bool
+is_settled None = true
+is_settled (Some kind) = is_no_names_sync kind
 
--- it still stands beside
-pub record IsNotPut (own name : List ℕ) (fs : List File) (es : List Event) : Type 0 where
-  pub spares : Spares name es
-  pub made : made_after es (own ∷ []) ≡ own ∷ []
+abbrev pub IsSettling : List ℕ → Bool → List File → List Event → Type 0
+IsSettling name ok fs es = (answer : Answer) × (es ≡ NamesSynced (folder_of name) answer ∷ []) × (is_settled answer ≡ ok)
 
--- the names of the folder were to be synced
-abbrev pub IsSyncing : Bool → List File → List Event → Type 0
-IsSyncing is_durable fs es = (answer : Option ErrorKind) × (es ≡ NamesSynced answer ∷ []) × (is_durable ≡ true → answer ≡ None)
+-- the file beside was synced, given the name, and the folder was to be synced
+abbrev pub moving : List ℕ → List ℕ → List ℕ → Answer → Answer → List Event
+moving own name bytes synced settled = Synced own bytes synced ∷ Renamed own name None ∷ NamesSynced (folder_of name) settled ∷ []
 
--- an output in place was synced, so that the file holds what was written
-pub record IsEnded (name bytes : List ℕ) (is_durable : Bool) (fs : List File) (es : List Event) : Type 0 where
-  pub whole : is_durable ≡ true → (w : World) → (run es w name).now ≡ Holds bytes
-  pub files : is_durable ≡ true → files_after es fs ≡ with_file name bytes fs
+-- the file beside was synced, and refused the name
+abbrev pub refusing : List ℕ → List ℕ → List ℕ → Answer → ErrorKind → List Event
+refusing own name bytes synced kind = Synced own bytes synced ∷ Renamed own name (Some kind) ∷ []
+
+-- the named file was written in place with what was written beside
+abbrev pub copying : List ℕ → List ℕ → Answer → List Event
+copying name bytes stored = Opened name None ∷ Synced name bytes stored ∷ []
+
+-- the file beside was synced and has the name, or the name is held
+abbrev pub IsPut : List ℕ → List ℕ → List ℕ → Naming → List File → List Event → Type 0
+IsPut own name bytes Done fs es = (synced : Answer) × (es ≡ Synced own bytes synced ∷ Renamed own name None ∷ []) × (is_stored synced ≡ true)
+IsPut own name bytes Held fs es = (synced : Answer) × (kind : ErrorKind) × (es ≡ refusing own name bytes synced kind) × (is_stored synced ≡ true) × (is_held kind ≡ true)
+
+pub record IsMoved (own name bytes : List ℕ) (es : List Event) : Type 0 where
+  pub synced : Answer
+  pub settled : Answer
+  pub is : es ≡ moving own name bytes synced settled
+  pub stored : is_stored synced ≡ true
+  pub names : is_settled settled ≡ true
+
+pub record IsCopied (own name bytes : List ℕ) (es : List Event) : Type 0 where
+  pub synced : Answer
+  pub kind : ErrorKind
+  pub copied : Answer
+  pub removed : Answer
+  pub is : es ≡ (refusing own name bytes synced kind ++ copying name bytes copied) ++ Removed own removed ∷ []
+  pub stored : is_stored synced ≡ true
+  pub held : is_held kind ≡ true
+  pub whole : is_stored copied ≡ true
+
+-- the named file has what was written
+abbrev pub IsTaken : List ℕ → List ℕ → List ℕ → Taken → List File → List Event → Type 0
+IsTaken own name bytes ByName fs es = IsMoved own name bytes es
+IsTaken own name bytes ByCopy fs es = IsCopied own name bytes es
+
+-- the file beside wasn't synced
+pub record IsUnsynced (own bytes : List ℕ) (es : List Event) : Type 0 where
+  pub synced : Answer
+  pub is : es ≡ Synced own bytes synced ∷ []
+  pub failed : is_stored synced ≡ false
+
+-- it was refused the name
+pub record IsUnnamed (own name bytes : List ℕ) (es : List Event) : Type 0 where
+  pub synced : Answer
+  pub kind : ErrorKind
+  pub is : es ≡ refusing own name bytes synced kind
+  pub stored : is_stored synced ≡ true
+
+-- the named file was opened, or that failed, and no more
+abbrev pub IsHalf : List ℕ → List ℕ → List Event → Type 0
+IsHalf name bytes es = ((answer : Answer) × (es ≡ Opened name answer ∷ []))
+    ⊎ ((answer : Answer) × (es ≡ copying name bytes answer) × (is_stored answer ≡ false))
+
+-- it was refused a name that is held, and writing in place failed
+pub record IsHalfCopied (own name bytes : List ℕ) (es : List Event) : Type 0 where
+  pub synced : Answer
+  pub kind : ErrorKind
+  pub behind : List Event
+  pub is : es ≡ refusing own name bytes synced kind ++ behind
+  pub stored : is_stored synced ≡ true
+  pub held : is_held kind ≡ true
+  pub half : IsHalf name bytes behind
+
+-- the named file was written in place with what the other one has
+abbrev pub IsOver : List ℕ → List ℕ → List File → List Event → Type 0
+IsOver own name fs es = (answer : Answer) × (es ≡ copying name (file_content own fs) answer) × (is_stored answer ≡ true)
+
+abbrev pub IsNotOver : List ℕ → List ℕ → List File → List Event → Type 0
+IsNotOver own name fs es = (es ≡ []) ⊎ IsHalf name (file_content own fs) es
+
+abbrev pub IsHalted : List ℕ → List ℕ → List ℕ → List File → List Event → Type 0
+IsHalted own name bytes fs es = IsUnsynced own bytes es ⊎ IsUnnamed own name bytes es
+
+-- it was halted, and the file beside was to be taken away
+pub record IsWithdrawn (own name bytes : List ℕ) (es : List Event) : Type 0 where
+  pub front : List Event
+  pub halted : IsHalted own name bytes [] front ⊎ IsHalfCopied own name bytes front
+  pub removed : Answer
+  pub is : es ≡ front ++ Removed own removed ∷ []
+
+-- the named file has what was written, but the names of its folder could not be synced
+pub record IsUnsettled (own name bytes : List ℕ) (es : List Event) : Type 0 where
+  pub synced : Answer
+  pub settled : Answer
+  pub is : es ≡ moving own name bytes synced settled
+  pub stored : is_stored synced ≡ true
+  pub failed : is_settled settled ≡ false
+
+abbrev pub IsLost : List ℕ → List ℕ → List ℕ → List File → List Event → Type 0
+IsLost own name bytes fs es = IsWithdrawn own name bytes es ⊎ IsUnsettled own name bytes es
+
+-- the file beside was to be taken away
+abbrev pub IsAway : List ℕ → List File → List Event → Type 0
+IsAway own fs es = (answer : Answer) × (es ≡ Removed own answer ∷ [])
+
+-- ---- an output that was let go, made or closed
+
+abbrev pub IsLetGo : Option Place → List File → List Event → Type 0
+IsLetGo None fs es = es ≡ []
+IsLetGo (Some (StandsBeside beside)) fs es = IsAway (string_bytes beside.own) fs es
+IsLetGo (Some (In held)) fs es = es ≡ []
+
+-- what stood before was let go, and then
+pub record IsAfterLetGo (old : Option Place) (P : List File → List Event → Type 0) (fs : List File) (es : List Event) : Type 0 where
+  pub front : List Event
+  pub behind : List Event
+  pub is : es ≡ front ++ behind
+  pub gone : IsLetGo old fs front
+  pub so : P (files_after front fs) behind
+
+abbrev pub IsAnyPlaced : List ℕ → Option Place → List File → List Event → Type 0
+IsAnyPlaced name None fs es = ⊥
+IsAnyPlaced name (Some place) fs es = IsPlaced name place fs es
+
+-- an output ended, or failed to
+abbrev pub IsEnded : Option Place → List ℕ → Bool → List File → List Event → Type 0
+IsEnded None bytes ok fs es = es ≡ []
+IsEnded (Some (StandsBeside beside)) bytes true fs es = (taken : Taken) × IsTaken (string_bytes beside.own) (string_bytes beside.name) bytes taken fs es
+IsEnded (Some (StandsBeside beside)) bytes false fs es = IsLost (string_bytes beside.own) (string_bytes beside.name) bytes fs es
+IsEnded (Some (In held)) bytes true fs es = IsStored (string_bytes held) bytes fs es
+IsEnded (Some (In held)) bytes false fs es = IsNotStored (string_bytes held) bytes fs es

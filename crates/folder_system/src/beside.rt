@@ -1,24 +1,135 @@
-//! The names of an output that stands beside the file whose place it takes.
+//! An output that stands beside the file whose place it takes.
 
-ghost use Rattle.std.specs.Prelude.{◌≡◌, ◌<◌, length, string_bytes, IfOk};
-ghost use Rattle.folder_system.specs.Names.{numbered};
+ghost use Rattle.std.specs.Prelude.{◌≡◌, string_bytes, true, false, IfOk, OnErr, OnOk};
+ghost use Rattle.system_host.specs.Told.{bytes_of};
+ghost use Rattle.folder_system.specs.Events.{Follows};
+ghost use Rattle.folder_system.specs.Place.{IsAway, IsHalted, IsLost, IsNotOver, IsNotStored, IsOver, IsPut, IsSettling, IsStored, IsTaken};
 
-use std::alloc::{AllocError, Global};
+use crate::folder::Folder;
+use crate::kinds::{cannot_sync, cannot_sync_names, holds_name};
+use crate::names::folder_of;
+use std::io;
 
-/// The names of an output that stands beside the file whose place it takes.
-#[derive(Drop)]
+/// The names of an output that stands beside the file whose place it takes. It isn't dropped: it takes the
+/// place or is taken away.
 pub struct Beside {
-    pub(crate) own: String,
-    pub(crate) name: String,
-    ghost longer: { length (string_bytes name) < length (string_bytes own) },
+    own: String,
+    name: String,
 }
 
-/// A name beside.
-pub(crate) fn own_name(alloc: Global, name: &str, n: u32) -> Result<String, AllocError>
-    ensures { IfOk result (λ own. string_bytes own ≡ numbered name.now n) }
+/// How the named file came to have what was written.
+#[derive(Clone, Copy)]
+pub enum Taken {
+    /// The file beside has the name.
+    ByName,
+    /// The name is held, and its file was written in place.
+    ByCopy,
+}
+
+/// Whether the file beside has the name.
+#[derive(Clone, Copy)]
+enum Naming {
+    Done,
+    /// No other file can have it.
+    Held,
+}
+
+impl Beside {
+    pub(crate) fn new(own: String, name: String) -> Beside
+        ensures own { string_bytes result.own ≡ string_bytes own }
+        ensures name { string_bytes result.name ≡ string_bytes name }
+    {
+        Beside { own, name }
+    }
+
+    /// Takes the place of the file of its name. Where that is held it is written in place, once what was written
+    /// stands on the disk. After an error nothing is left beside, unless it can't be taken away.
+    pub fn take_place<F: Folder>(self, folder: &mut F, output: &F::Output) -> io::Result<Taken>
+        ensures taken { IfOk result (λ taken. Follows (IsTaken (string_bytes self.own) (string_bytes self.name)
+            (bytes_of (F.Output.contents output.now)) taken) (F.history folder.old) (F.history folder.new)) }
+        ensures lost { OnErr result (Follows (IsLost (string_bytes self.own) (string_bytes self.name)
+            (bytes_of (F.Output.contents output.now))) (F.history folder.old) (F.history folder.new)) }
+    {
+        let Beside { own, name } = self;
+        match put(folder, output, own.as_str(), name.as_str()) {
+            Ok(Naming::Done) => {
+                settle(folder, name.as_str())?;
+                Ok(Taken::ByName)
+            }
+            Ok(Naming::Held) => match copy_over(folder, own.as_str(), name.as_str()) {
+                Ok(()) => {
+                    let _ = folder.remove(own.as_str());
+                    Ok(Taken::ByCopy)
+                }
+                Err(e) => {
+                    let _ = folder.remove(own.as_str());
+                    Err(e)
+                }
+            },
+            Err(e) => {
+                let _ = folder.remove(own.as_str());
+                Err(e)
+            }
+        }
+    }
+
+    /// Takes the output away.
+    pub fn remove<F: Folder>(self, folder: &mut F)
+        ensures { Follows (IsAway (string_bytes self.own)) (F.history folder.old) (F.history folder.new) }
+    {
+        let Beside { own, name: _name } = self;
+        let _ = folder.remove(own.as_str());
+    }
+}
+
+/// Stores the output and gives it the name.
+fn put<F: Folder>(folder: &mut F, output: &F::Output, own: &str, name: &str) -> io::Result<Naming>
+    ensures put { IfOk result (λ put. Follows (IsPut own.now name.now
+        (bytes_of (F.Output.contents output.now)) put) (F.history folder.old) (F.history folder.new)) }
+    ensures halted { OnErr result (Follows (IsHalted own.now name.now
+        (bytes_of (F.Output.contents output.now))) (F.history folder.old) (F.history folder.new)) }
 {
-    let mut own = String::from_str(alloc, name)?;
-    own.push_str(".rvgprof-")?;
-    own.push_str(n.to_string(alloc)?.as_str())?;
-    Ok(own)
+    store(folder, own, output)?;
+    match folder.rename(own, name) {
+        Ok(()) => Ok(Naming::Done),
+        Err(e) if holds_name(e.kind()) => Ok(Naming::Held),
+        Err(e) => Err(e),
+    }
+}
+
+/// Writes the named file in place with what the other one has.
+fn copy_over<F: Folder>(folder: &mut F, own: &str, name: &str) -> io::Result<()>
+    ensures over { OnOk result (Follows (IsOver own.now name.now) (F.history folder.old) (F.history folder.new)) }
+    ensures not_over { OnErr result (Follows (IsNotOver own.now name.now) (F.history folder.old) (F.history folder.new)) }
+{
+    let mut input = folder.open(own)?;
+    let mut output = folder.open_over(name)?;
+    io::copy(&mut input, &mut output)?;
+    store(folder, name, &output)
+}
+
+/// Puts an output on the disk, where there is anything to sync.
+pub fn store<F: Folder>(folder: &mut F, name: &str, output: &F::Output) -> io::Result<()>
+    ensures stored { OnOk result (Follows (IsStored name.now (bytes_of (F.Output.contents output.now)))
+        (F.history folder.old) (F.history folder.new)) }
+    ensures not_stored { OnErr result (Follows (IsNotStored name.now (bytes_of (F.Output.contents output.now)))
+        (F.history folder.old) (F.history folder.new)) }
+{
+    match folder.sync(name, output) {
+        Ok(()) => Ok(()),
+        Err(e) if cannot_sync(e.kind()) => Ok(()),
+        Err(e) => Err(e),
+    }
+}
+
+/// Puts on the disk that the file has the name, where that can be asked.
+fn settle<F: Folder>(folder: &mut F, name: &str) -> io::Result<()>
+    ensures settled { OnOk result (Follows (IsSettling name.now true) (F.history folder.old) (F.history folder.new)) }
+    ensures failed { OnErr result (Follows (IsSettling name.now false) (F.history folder.old) (F.history folder.new)) }
+{
+    match folder.sync_names(folder_of(name)) {
+        Ok(()) => Ok(()),
+        Err(e) if cannot_sync_names(e.kind()) => Ok(()),
+        Err(e) => Err(e),
+    }
 }

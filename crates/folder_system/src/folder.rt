@@ -4,8 +4,8 @@ ghost use Rattle.std.specs.Prelude.{◌≡◌, [], ◌∷◌, Option, Some, true
 ghost use Rattle.host_port.specs.Act.{file_content, has_file};
 ghost use Rattle.host_port.specs.Outside.{Becomes};
 ghost use Rattle.system_host.specs.Told.{bytes_of};
-ghost use Rattle.folder_system.specs.Found.{bars_found};
-ghost use Rattle.folder_system.specs.Events.{Told, Looked, Tried, Made, Gave, Opened, Synced, Renamed, Removed, NamesSynced, after, answer_of, found_by};
+ghost use Rattle.folder_system.specs.Found.{bars_found, attributes_found};
+ghost use Rattle.folder_system.specs.Events.{History, Looked, Tried, Made, GaveOwner, GaveMode, Opened, Synced, Renamed, Removed, NamesSynced, after, answer_of, found_by};
 
 use std::io;
 use std::io::{Read, Write};
@@ -15,35 +15,41 @@ use std::io::{Read, Write};
 pub enum Found {
     Nothing,
     /// A regular file.
-    File(Kept),
+    File(Attributes),
     /// A link, a folder, a device, a pipe.
     Other,
 }
 
-/// What a file that takes another's place keeps of it, and how many names that has.
+/// What a file that takes another's place has of it, and how many names that has.
 #[derive(Clone, Copy)]
-pub struct Kept {
+pub struct Attributes {
     pub mode: u32,
     pub owner: u32,
     pub group: u32,
     pub links: u64,
 }
 
-/// Whether what was found bars an output from standing beside it: it is no regular file, or has several names.
+/// The bits of a mode above those of permission: set-user-ID, set-group-ID and sticky.
+const SPECIAL_BITS: u32 = 0o7000;
+
+/// Whether what was found bars an output from standing beside it: it is no regular file, or has several names
+/// or a special bit.
 pub fn is_in_the_way(found: Found) -> bool
     ensures { result ≡ bars_found found }
 {
     match found {
         Found::Nothing => false,
-        Found::File(kept) => kept.links > 1,
+        Found::File(attributes) => { attributes.links > 1 || attributes.mode & SPECIAL_BITS > 0 }
         Found::Other => true,
     }
 }
 
-/// The file that was found.
-pub fn kept_of(found: Found) -> Option<Kept> {
+/// The attributes of the file that was found.
+pub fn attributes_of(found: Found) -> Option<Attributes>
+    ensures { result ≡ attributes_found found }
+{
     match found {
-        Found::File(kept) => Some(kept),
+        Found::File(attributes) => Some(attributes),
         _ => None,
     }
 }
@@ -51,72 +57,73 @@ pub fn kept_of(found: Found) -> Option<Kept> {
 /// A folder, as far as an output needs it.
 ///
 /// Contracts see what it tells: its regular files, and the calls so far with their answers. It may stop
-/// telling at any call, and then never tells again. What a call did that failed it doesn't tell, unless
-/// all names are as they were. The bytes that were written to an output are in its file once it is synced.
+/// telling at any call, and then never tells again: where a call that failed may have changed a name, where
+/// two names are of one file, where a link or a device is opened. The bytes that were written to an output are
+/// in its file once it is synced, or where there is nothing to sync.
 pub trait Folder {
     type Input: Read + Drop;
 
     type Output: Write + Drop;
 
-    ghost told: { Self → Option Told };
+    ghost history: { Self → Option History };
 
     /// Opens the named file to be read from its beginning.
     fn open(&self, name: &str) -> io::Result<Self::Input>
-        ensures { IfOk result (λ input. IfSome (told self.now)
-            (λ t. bytes_of (Self.Input.remaining input) ≡ file_content name.now t.files)) };
+        ensures { IfOk result (λ input. IfSome (history self.now)
+            (λ h. bytes_of (Self.Input.remaining input) ≡ file_content name.now h.files)) };
 
     /// Looks up what stands at a name.
     fn look(&mut self, name: &str) -> io::Result<Found>
-        ensures { Becomes (after (Looked name.now (found_by result))) (told self.old) (told self.new) };
+        ensures { Becomes (after (Looked name.now (found_by result))) (history self.old) (history self.new) };
 
     /// Opens the named file to be written and leaves it as it is: whether it may be written.
     fn try_open(&mut self, name: &str) -> io::Result<()>
-        ensures { Becomes (after (Tried name.now (answer_of result))) (told self.old) (told self.new) };
+        ensures { Becomes (after (Tried name.now (answer_of result))) (history self.old) (history self.new) };
 
     /// Makes a new file with this mode, less what the process masks, and opens it to be written.
     fn create_new(&mut self, name: &str, mode: u32) -> io::Result<Self::Output>
-        ensures done { Becomes (after (Made name.now (answer_of result))) (told self.old) (told self.new) }
-        ensures fresh { OnOk result (IfSome (told self.old) (λ t. has_file name.now t.files ≡ false)) }
-        ensures empty { IfOk result (λ output. IfSome (told self.new)
+        ensures done { Becomes (after (Made name.now mode (answer_of result))) (history self.old) (history self.new) }
+        ensures fresh { OnOk result (IfSome (history self.old) (λ h. has_file name.now h.files ≡ false)) }
+        ensures empty { IfOk result (λ output. IfSome (history self.new)
             (λ _. bytes_of (Self.Output.contents output) ≡ [])) };
 
     /// Gives an open file an owner and a group.
     fn set_owner(&mut self, output: &Self::Output, owner: u32, group: u32) -> io::Result<()>
-        ensures { Becomes (after (Gave (answer_of result))) (told self.old) (told self.new) };
+        ensures { Becomes (after (GaveOwner owner group (answer_of result))) (history self.old) (history self.new) };
 
     /// Gives an open file a mode.
     fn set_mode(&mut self, output: &Self::Output, mode: u32) -> io::Result<()>
-        ensures { Becomes (after (Gave (answer_of result))) (told self.old) (told self.new) };
+        ensures { Becomes (after (GaveMode mode (answer_of result))) (history self.old) (history self.new) };
 
     /// Makes what stands at a name empty, or a new file, and opens it to be written.
     fn open_over(&mut self, name: &str) -> io::Result<Self::Output>
-        ensures done { Becomes (after (Opened name.now (answer_of result))) (told self.old) (told self.new) }
-        ensures empty { IfOk result (λ output. IfSome (told self.new)
+        ensures done { Becomes (after (Opened name.now (answer_of result))) (history self.old) (history self.new) }
+        ensures empty { IfOk result (λ output. IfSome (history self.new)
             (λ _. bytes_of (Self.Output.contents output) ≡ [])) };
 
     /// Puts on the disk what was written to the output that was opened by this name.
     fn sync(&mut self, name: &str, output: &Self::Output) -> io::Result<()>
         ensures { Becomes
             (after (Synced name.now (bytes_of (Self.Output.contents output.now)) (answer_of result)))
-            (told self.old) (told self.new) };
+            (history self.old) (history self.new) };
 
     /// Gives a file another name, in place of what stands there.
     fn rename(&mut self, from: &str, to: &str) -> io::Result<()>
-        ensures { Becomes (after (Renamed from.now to.now (answer_of result))) (told self.old) (told self.new) };
+        ensures { Becomes (after (Renamed from.now to.now (answer_of result))) (history self.old) (history self.new) };
 
     /// Takes a name away.
     fn remove(&mut self, name: &str) -> io::Result<()>
-        ensures { Becomes (after (Removed name.now (answer_of result))) (told self.old) (told self.new) };
+        ensures { Becomes (after (Removed name.now (answer_of result))) (history self.old) (history self.new) };
 
-    /// Puts on the disk which names the folder of this name has.
-    fn sync_names(&mut self, name: &str) -> io::Result<()>
-        ensures { Becomes (after (NamesSynced (answer_of result))) (told self.old) (told self.new) };
+    /// Puts on the disk which names a folder has.
+    fn sync_names(&mut self, folder: &str) -> io::Result<()>
+        ensures { Becomes (after (NamesSynced folder.now (answer_of result))) (history self.old) (history self.new) };
 
     /// What is left of an input is told where the folder tells.
-    ghost told_inputs: { (f : Self) (input : Self.Input) → is_some (told f) ≡ true →
+    ghost told_inputs: { (f : Self) (input : Self.Input) → is_some (history f) ≡ true →
         is_some (Self.Input.remaining input) ≡ true };
 
     /// What was written to an output is told where the folder tells.
-    ghost told_outputs: { (f : Self) (output : Self.Output) → is_some (told f) ≡ true →
+    ghost told_outputs: { (f : Self) (output : Self.Output) → is_some (history f) ≡ true →
         is_some (Self.Output.contents output) ≡ true };
 }

@@ -7,11 +7,12 @@ pub mod folder;
 pub mod kinds;
 pub mod laws;
 pub mod mem_folder;
+pub mod names;
 pub mod place;
 pub mod system;
 
-pub use beside::Beside;
-pub use folder::{Folder, Found, Kept};
+pub use beside::{Beside, Taken};
+pub use folder::{Attributes, Folder, Found};
 pub use mem_folder::MemFolder;
 pub use place::Place;
 pub use system::{FolderSystem, Printer};

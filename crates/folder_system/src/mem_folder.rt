@@ -2,7 +2,8 @@
 
 ghost use Rattle.std.specs.Prelude.{◌<◌, None, length, IfSome};
 
-use crate::folder::{Folder, Found, Kept};
+use crate::folder::{Attributes, Folder, Found};
+use crate::kinds::cannot_sync;
 use std::alloc::{AllocError, Global};
 use std::io;
 use std::io::{Cursor, ErrorKind};
@@ -12,7 +13,7 @@ use std::io::{Cursor, ErrorKind};
 struct MemFile {
     name: String,
     bytes: Vec<u8>,
-    kept: Kept,
+    attributes: Attributes,
 }
 
 /// Regular files in memory. A call fails by its number; what is written to an output is in its file once it is
@@ -41,11 +42,16 @@ impl MemFolder {
     }
 
     /// Puts a file there.
-    pub fn put(&mut self, name: &str, bytes: &[u8], kept: Kept) -> Result<(), AllocError> {
+    pub fn put(
+        &mut self,
+        name: &str,
+        bytes: &[u8],
+        attributes: Attributes,
+    ) -> Result<(), AllocError> {
         self.files.push(MemFile {
             name: String::from_str(self.alloc, name)?,
             bytes: Vec::from_slice(self.alloc, bytes)?,
-            kept,
+            attributes,
         })?;
         Ok(())
     }
@@ -106,11 +112,19 @@ impl MemFolder {
         }
     }
 
+    /// What was written stands in the file.
+    fn store(&mut self, name: &str, output: &Vec<u8>) -> io::Result<()> {
+        let mut file = self.take(name)?;
+        file.bytes = Vec::from_slice(self.alloc, output.as_slice())?;
+        self.files.push(file)?;
+        Ok(())
+    }
+
     fn new_file(&mut self, name: &str, mode: u32) -> io::Result<()> {
         self.put(
             name,
             b"",
-            Kept {
+            Attributes {
                 mode,
                 owner: 0,
                 group: 0,
@@ -126,7 +140,7 @@ impl Folder for MemFolder {
 
     type Output = Vec<u8>;
 
-    ghost told = { λ _. None };
+    ghost history = { λ _. None };
 
     ghost told_inputs = { λ f input told. Prim.cc };
 
@@ -143,7 +157,7 @@ impl Folder for MemFolder {
         self.call()?;
         for file in &self.files {
             if file.name.as_str() == name {
-                return Ok(Found::File(file.kept));
+                return Ok(Found::File(file.attributes));
             }
         }
         Ok(Found::Nothing)
@@ -178,11 +192,15 @@ impl Folder for MemFolder {
     }
 
     fn sync(&mut self, name: &str, output: &Vec<u8>) -> io::Result<()> {
-        self.call()?;
-        let mut file = self.take(name)?;
-        file.bytes = Vec::from_slice(self.alloc, output.as_slice())?;
-        self.files.push(file)?;
-        Ok(())
+        match self.call() {
+            Ok(()) => self.store(name, output),
+            Err(e) => {
+                if cannot_sync(e.kind()) {
+                    self.store(name, output)?;
+                }
+                Err(e)
+            }
+        }
     }
 
     fn rename(&mut self, from: &str, to: &str) -> io::Result<()> {

@@ -1,15 +1,16 @@
 //! Where an output stands until it is closed: beside the file whose place it takes, or in its place.
 
-ghost use Rattle.std.specs.Prelude.{◌≡◌, ℕ, [], false, bytes_eq, string_bytes, IfErr, IfOk, IfSome, MatchOption, OnErr, OnOk, ⊤};
+ghost use Rattle.std.specs.Prelude.{◌≡◌, ℕ, [], ◌∷◌, None, string_bytes, IfErr, IfOk, IfSome, MatchOption, OnErr, OnOk, ⊤};
 ghost use Rattle.std.specs.IoError.{error_kind};
 ghost use Rattle.system_host.specs.Told.{bytes_of};
 ghost use Rattle.folder_system.specs.Names.{numbered};
-ghost use Rattle.folder_system.specs.Events.{Did};
-ghost use Rattle.folder_system.specs.Place.{IsQuiet, IsOpened, IsIn, IsBegun, IsBarred, IsGivenUp, IsGiven, IsRefused, IsPlaced, IsTaken, IsLost, IsAway, IsPut, IsNotPut, IsSyncing, IsEnded};
+ghost use Rattle.folder_system.specs.Events.{Made, Follows};
+ghost use Rattle.folder_system.specs.Place.{IsQuiet, IsOpened, IsIn, IsBegun, IsBarred, IsGivenUp, IsGiven, IsRefused, IsPlaced, IsStanding, HasCause, is_beside, makings_of};
 
-use crate::beside::{Beside, own_name};
-use crate::folder::{Folder, Kept, is_in_the_way, kept_of};
-use crate::kinds::{bars, cannot_sync};
+use crate::beside::Beside;
+use crate::folder::{Attributes, Folder, attributes_of, is_in_the_way};
+use crate::kinds::bars;
+use crate::names::own_name;
 use std::alloc::Global;
 use std::io;
 use std::io::ErrorKind;
@@ -23,30 +24,43 @@ const NEW_MODE: u32 = 0o666;
 /// The mode of an output until it has that of the file whose place it takes.
 const OWN_MODE: u32 = 0o600;
 
-/// The bits of a mode that a file is given.
-const MODE_BITS: u32 = 0o7777;
+/// The bits of permission of a mode.
+const PERMISSION_BITS: u32 = 0o777;
 
 /// Where an output stands.
-#[derive(Drop)]
 pub enum Place {
     Beside(Beside),
     /// In place of the file of this name.
     In(String),
 }
 
-/// Begins an output of this name. It stands beside a regular file that has one name, or where there is
-/// none; and in place where something else stands there, or no file like that one can be made beside it.
+impl Place {
+    /// Whether the output stands beside.
+    pub fn is_beside(&self) -> bool
+        ensures { result ≡ is_beside self.now }
+    {
+        match self {
+            Place::Beside(_) => true,
+            Place::In(_) => false,
+        }
+    }
+}
+
+/// Begins an output of this name. It stands beside a regular file that has one name and no special bit, or
+/// where there is none; and in place where something else stands there, or no file like that one can be made
+/// beside it.
 pub fn begin<F: Folder>(alloc: Global, folder: &mut F, name: &str) -> io::Result<(F::Output, Place)>
-    ensures placed { IfOk result (λ begun. IsPlaced name.now (F.told folder.old) (F.told folder.new) begun.1) }
-    ensures empty { IfOk result (λ begun. IfSome (F.told folder.new)
+    ensures placed { IfOk result (λ begun. Follows (IsPlaced name.now begun.1) (F.history folder.old) (F.history folder.new)) }
+    ensures empty { IfOk result (λ begun. IfSome (F.history folder.new)
         (λ _. bytes_of (F.Output.contents begun.0) ≡ [])) }
-    ensures given_up { OnErr result (Did (IsGivenUp name.now) (F.told folder.old) (F.told folder.new)) }
+    ensures given_up { OnErr result (Follows (IsGivenUp name.now) (F.history folder.old) (F.history folder.new)) }
+    ensures cause { IfErr result (λ e. HasCause (error_kind e) (F.history folder.old) (F.history folder.new)) }
 {
     let found = folder.look(name)?;
     if is_in_the_way(found) {
         return begin_in_place(alloc, folder, name);
     }
-    match kept_of(found) {
+    match attributes_of(found) {
         None => begin_beside(alloc, folder, name, None),
         Some(old) => {
             folder.try_open(name)?;
@@ -59,22 +73,17 @@ fn begin_beside<F: Folder>(
     alloc: Global,
     folder: &mut F,
     name: &str,
-    old: Option<Kept>,
+    old: Option<Attributes>,
 ) -> io::Result<(F::Output, Place)>
-    ensures placed { IfOk result (λ begun. IsPlaced name.now (F.told folder.old) (F.told folder.new) begun.1) }
-    ensures empty { IfOk result (λ begun. IfSome (F.told folder.new)
+    ensures placed { IfOk result (λ begun. Follows (IsStanding name.now old begun.1) (F.history folder.old) (F.history folder.new)) }
+    ensures empty { IfOk result (λ begun. IfSome (F.history folder.new)
         (λ _. bytes_of (F.Output.contents begun.0) ≡ [])) }
-    ensures given_up { OnErr result (Did (IsGivenUp name.now) (F.told folder.old) (F.told folder.new)) }
+    ensures given_up { OnErr result (Follows (IsGivenUp name.now) (F.history folder.old) (F.history folder.new)) }
+    ensures cause { IfErr result (λ e. HasCause (error_kind e) (F.history folder.old) (F.history folder.new)) }
 {
     let kept_name = String::from_str(alloc, name)?;
     match make_like(alloc, folder, name, old)? {
-        Some((output, own)) => Ok((
-            output,
-            Place::Beside(Beside {
-                own,
-                name: kept_name,
-            }),
-        )),
+        Some((output, own)) => Ok((output, Place::Beside(Beside::new(own, kept_name)))),
         None => begin_in_place(alloc, folder, name),
     }
 }
@@ -85,10 +94,11 @@ fn begin_in_place<F: Folder>(
     name: &str,
 ) -> io::Result<(F::Output, Place)>
     ensures place { IfOk result (λ begun. IsIn name.now begun.1) }
-    ensures opened { OnOk result (Did (IsOpened name.now) (F.told folder.old) (F.told folder.new)) }
-    ensures empty { IfOk result (λ begun. IfSome (F.told folder.new)
+    ensures opened { OnOk result (Follows (IsOpened name.now) (F.history folder.old) (F.history folder.new)) }
+    ensures empty { IfOk result (λ begun. IfSome (F.history folder.new)
         (λ _. bytes_of (F.Output.contents begun.0) ≡ [])) }
-    ensures not_opened { OnErr result (Did (IsQuiet name.now) (F.told folder.old) (F.told folder.new)) }
+    ensures not_opened { OnErr result (Follows (IsQuiet name.now) (F.history folder.old) (F.history folder.new)) }
+    ensures cause { IfErr result (λ e. HasCause (error_kind e) (F.history folder.old) (F.history folder.new)) }
 {
     let kept_name = String::from_str(alloc, name)?;
     let output = folder.open_over(name)?;
@@ -101,16 +111,16 @@ fn make_like<F: Folder>(
     alloc: Global,
     folder: &mut F,
     name: &str,
-    old: Option<Kept>,
+    old: Option<Attributes>,
 ) -> io::Result<Option<(F::Output, String)>>
     ensures barred { IfOk result (λ made. MatchOption made
-        (Did (IsBarred name.now) (F.told folder.old) (F.told folder.new)) (λ _. ⊤)) }
+        (Follows (IsBarred name.now) (F.history folder.old) (F.history folder.new)) (λ _. ⊤)) }
     ensures begun { IfOk result (λ made. IfSome made (λ m.
-        Did (IsBegun name.now (string_bytes m.1)) (F.told folder.old) (F.told folder.new))) }
-    ensures next_to { IfOk result (λ made. IfSome made (λ m. (n : ℕ) × (string_bytes m.1 ≡ numbered name.now n))) }
-    ensures empty { IfOk result (λ made. IfSome made (λ m. IfSome (F.told folder.new)
+        Follows (IsBegun name.now (string_bytes m.1) (makings_of (string_bytes m.1) old)) (F.history folder.old) (F.history folder.new))) }
+    ensures empty { IfOk result (λ made. IfSome made (λ m. IfSome (F.history folder.new)
         (λ _. bytes_of (F.Output.contents m.0) ≡ []))) }
-    ensures given_up { OnErr result (Did (IsGivenUp name.now) (F.told folder.old) (F.told folder.new)) }
+    ensures given_up { OnErr result (Follows (IsGivenUp name.now) (F.history folder.old) (F.history folder.new)) }
+    ensures cause { IfErr result (λ e. HasCause (error_kind e) (F.history folder.old) (F.history folder.new)) }
 {
     match old {
         None => make(alloc, folder, name, NEW_MODE),
@@ -129,13 +139,13 @@ fn make_like<F: Folder>(
     }
 }
 
-/// Gives a file the owner, the group and the mode of the old one.
-fn give<F: Folder>(folder: &mut F, output: &F::Output, old: Kept) -> io::Result<()>
-    ensures given { OnOk result (Did IsGiven (F.told folder.old) (F.told folder.new)) }
-    ensures refused { IfErr result (λ e. Did (IsRefused (error_kind e)) (F.told folder.old) (F.told folder.new)) }
+/// Gives a file the owner, the group and the mode of the old one. Until it has the mode nobody else may open it.
+fn give<F: Folder>(folder: &mut F, output: &F::Output, old: Attributes) -> io::Result<()>
+    ensures given { OnOk result (Follows (IsGiven old) (F.history folder.old) (F.history folder.new)) }
+    ensures refused { IfErr result (λ e. Follows (IsRefused old (error_kind e)) (F.history folder.old) (F.history folder.new)) }
 {
     folder.set_owner(output, old.owner, old.group)?;
-    folder.set_mode(output, old.mode & MODE_BITS)
+    folder.set_mode(output, old.mode & PERMISSION_BITS)
 }
 
 /// Makes a file beside the named one, by the first name that isn't taken.
@@ -146,13 +156,14 @@ fn make<F: Folder>(
     mode: u32,
 ) -> io::Result<Option<(F::Output, String)>>
     ensures barred { IfOk result (λ made. MatchOption made
-        (Did (IsBarred name.now) (F.told folder.old) (F.told folder.new)) (λ _. ⊤)) }
+        (Follows (IsBarred name.now) (F.history folder.old) (F.history folder.new)) (λ _. ⊤)) }
     ensures begun { IfOk result (λ made. IfSome made (λ m.
-        Did (IsBegun name.now (string_bytes m.1)) (F.told folder.old) (F.told folder.new))) }
+        Follows (IsBegun name.now (string_bytes m.1) (Made (string_bytes m.1) mode None ∷ [])) (F.history folder.old) (F.history folder.new))) }
     ensures next_to { IfOk result (λ made. IfSome made (λ m. (n : ℕ) × (string_bytes m.1 ≡ numbered name.now n))) }
-    ensures empty { IfOk result (λ made. IfSome made (λ m. IfSome (F.told folder.new)
+    ensures empty { IfOk result (λ made. IfSome made (λ m. IfSome (F.history folder.new)
         (λ _. bytes_of (F.Output.contents m.0) ≡ []))) }
-    ensures given_up { OnErr result (Did (IsGivenUp name.now) (F.told folder.old) (F.told folder.new)) }
+    ensures given_up { OnErr result (Follows (IsGivenUp name.now) (F.history folder.old) (F.history folder.new)) }
+    ensures cause { IfErr result (λ e. HasCause (error_kind e) (F.history folder.old) (F.history folder.new)) }
 {
     for n in 0..TRIES {
         let own = own_name(alloc, name, n)?;
@@ -164,67 +175,4 @@ fn make<F: Folder>(
         }
     }
     Err(io::Error::from(ErrorKind::AlreadyExists))
-}
-
-impl Beside {
-    /// Takes the place of the file of its name, and answers whether that is on the disk. After an error
-    /// nothing is left beside, unless it can't be taken away.
-    pub fn take_place<F: Folder>(self, folder: &mut F, output: &F::Output) -> io::Result<bool>
-        ensures taken { IfOk result (λ is_durable. Did (IsTaken (string_bytes self.own) (string_bytes self.name)
-            (bytes_of (F.Output.contents output.now)) is_durable) (F.told folder.old) (F.told folder.new)) }
-        ensures lost { OnErr result (Did (IsLost (string_bytes self.own) (string_bytes self.name)
-            (bytes_of (F.Output.contents output.now))) (F.told folder.old) (F.told folder.new)) }
-    {
-        let Beside { own, name } = self;
-        match put(folder, output, own.as_str(), name.as_str()) {
-            Ok(()) => sync_names(folder, name.as_str()),
-            Err(e) => {
-                let _ = folder.remove(own.as_str());
-                Err(e)
-            }
-        }
-    }
-
-    /// Takes the output away.
-    pub fn remove<F: Folder>(self, folder: &mut F)
-        ensures { Did (IsAway (string_bytes self.own) (string_bytes self.name)) (F.told folder.old) (F.told folder.new) }
-    {
-        let _ = folder.remove(self.own.as_str());
-    }
-}
-
-fn put<F: Folder>(folder: &mut F, output: &F::Output, own: &str, name: &str) -> io::Result<()>
-    requires { bytes_eq name.now own.now ≡ false }
-    ensures put { OnOk result (Did (IsPut own.now name.now (bytes_of (F.Output.contents output.now)))
-        (F.told folder.old) (F.told folder.new)) }
-    ensures not_put { OnErr result (Did (IsNotPut own.now name.now) (F.told folder.old) (F.told folder.new)) }
-{
-    folder.sync(own, output)?;
-    folder.rename(own, name)
-}
-
-/// Whether the names of the folder are on the disk. Where that can't be asked they may not be.
-fn sync_names<F: Folder>(folder: &mut F, name: &str) -> io::Result<bool>
-    ensures synced { IfOk result (λ is_durable.
-        Did (IsSyncing is_durable) (F.told folder.old) (F.told folder.new)) }
-    ensures failed { OnErr result (Did (IsSyncing false) (F.told folder.old) (F.told folder.new)) }
-{
-    match folder.sync_names(name) {
-        Ok(()) => Ok(true),
-        Err(e) if cannot_sync(e.kind()) || e.kind() == ErrorKind::PermissionDenied => Ok(false),
-        Err(e) => Err(e),
-    }
-}
-
-/// Ends an output that is in place, and answers whether its bytes are on the disk.
-pub fn end_in_place<F: Folder>(folder: &mut F, output: &F::Output, name: &str) -> io::Result<bool>
-    ensures { IfOk result (λ is_durable. Did
-        (IsEnded name.now (bytes_of (F.Output.contents output.now)) is_durable)
-        (F.told folder.old) (F.told folder.new)) }
-{
-    match folder.sync(name, output) {
-        Ok(()) => Ok(true),
-        Err(e) if cannot_sync(e.kind()) => Ok(false),
-        Err(e) => Err(e),
-    }
 }

@@ -1,102 +1,220 @@
+ghost use Rattle.std.specs.Prelude.{None};
+
 use super::*;
-use crate::place::begin;
 use std::alloc::{AllocError, Global};
 use std::io;
 use std::io::{ErrorKind, Write};
 use std::process::Abort;
 use std::test::Fail;
+use system_host::System;
 
-const OLD: Kept = Kept {
-    mode: 0o640,
+/// What an old file has.
+const OLD: Attributes = Attributes {
+    mode: 0o100640,
     owner: 7,
     group: 8,
     links: 1,
 };
 
-/// A whole output, "new", of the file "f".
-fn output(alloc: Global, folder: &mut MemFolder) -> io::Result<()> {
-    let (mut output, place) = begin(alloc, folder, "f")?;
-    output.write_all(b"new")?;
-    match place {
-        Place::Beside(beside) => {
-            beside.take_place(folder, &output)?;
-        }
-        Place::In(name) => {
-            place::end_in_place(folder, &output, name.as_str())?;
-        }
+/// Prints nowhere.
+#[derive(Drop)]
+struct Mute;
+
+impl Printer for Mute {
+    ghost printed = { λ _. None };
+
+    ghost complained = { λ _. None };
+
+    fn out(&mut self, piece: &[u8]) -> io::Result<usize> {
+        Ok(piece.len())
     }
-    Ok(())
+
+    fn err(&mut self, piece: &[u8]) -> io::Result<usize> {
+        Ok(piece.len())
+    }
 }
 
-fn folder_of(alloc: Global, kept: Kept) -> Result<MemFolder, AllocError> {
+/// Outputs "new" of these names, one behind the other, up to one that fails. How many were closed.
+fn outputs(alloc: Global, folder: MemFolder, names: &[&str]) -> (MemFolder, usize) {
+    let mut system = FolderSystem::new(alloc, folder, Mute);
+    let mut closed = 0;
+    for name in names {
+        if output(&mut system, name).is_err() {
+            break;
+        }
+        closed += 1;
+    }
+    (system.end(), closed)
+}
+
+fn output(system: &mut FolderSystem<MemFolder, Mute>, name: &str) -> io::Result<()> {
+    let _input = system.open(name);
+    let mut output = system.create(name)?;
+    output.write_all(b"new")?;
+    system.close(output)
+}
+
+/// What is tried: the files that there are and hold "old", the outputs, and how many calls those take.
+struct Case<'a> {
+    old: &'a [&'a str],
+    names: &'a [&'a str],
+    calls: u64,
+}
+
+/// An output that is new, one over an old file, two that are new, and two over old files. A new one takes five
+/// calls: look, create_new, sync, rename and sync_names; an old one try_open, set_owner and set_mode too.
+const CASES: [Case<'static>; 5] = [
+    Case {
+        old: &[],
+        names: &["f"],
+        calls: 5,
+    },
+    Case {
+        old: &["f"],
+        names: &["f"],
+        calls: 8,
+    },
+    Case {
+        old: &["d/f", "g"],
+        names: &["d/f"],
+        calls: 8,
+    },
+    Case {
+        old: &[],
+        names: &["f", "g"],
+        calls: 10,
+    },
+    Case {
+        old: &["f", "g"],
+        names: &["f", "g"],
+        calls: 16,
+    },
+];
+
+fn folder_of(
+    alloc: Global,
+    names: &[&str],
+    attributes: Attributes,
+) -> Result<MemFolder, AllocError> {
     let mut folder = MemFolder::new(alloc);
-    folder.put("f", b"old", kept)?;
+    for name in names {
+        folder.put(name, b"old", attributes)?;
+    }
     Ok(folder)
 }
 
-fn expect(rt: &impl Abort, folder: &MemFolder, bytes: &[u8], files: usize, call: u64) {
-    assert_eq!(rt; folder.bytes("f"), Some(bytes), "call {call}");
-    assert_eq!(rt; folder.len(), files, "call {call}");
+/// Looks at the files: so many of the outputs are new, the others are as they were, and there is no other file.
+fn expect(rt: &impl Abort, case: &Case<'_>, folder: &MemFolder, new: u64, call: u64) {
+    let mut files = case.old.len();
+    for (i, name) in case.names.iter().enumerate() {
+        let is_old = case.old.contains(name);
+        let is_new = (i as u64) < new;
+        let bytes: Option<&[u8]> = match (is_new, is_old) {
+            (true, _) => Some(b"new"),
+            (false, true) => Some(b"old"),
+            (false, false) => None,
+        };
+        assert_eq!(rt; folder.bytes(name), bytes, "{name} at {call}");
+        if is_new && !is_old {
+            files = files.saturating_add(1);
+        }
+    }
+    assert_eq!(rt; folder.len(), files, "{call}");
 }
 
-#[test]
-fn an_output_takes_the_place(rt: HostRuntime) -> Result<(), Fail> {
-    let alloc = rt.alloc();
-    let mut folder = folder_of(alloc, OLD)?;
-    output(alloc, &mut folder).map_err(|_| "output")?;
-    expect(&rt, &folder, b"new", 1, 0);
-    assert_eq!(rt; folder.calls(), 8);
-    let mut empty = MemFolder::new(alloc);
-    output(alloc, &mut empty).map_err(|_| "new output")?;
-    expect(&rt, &empty, b"new", 1, 0);
-    assert_eq!(rt; empty.calls(), 5);
-    Ok(())
+/// How many outputs are new where this call fails: the last of an output, sync_names, comes behind rename.
+fn new_at(case: &Case<'_>, call: u64) -> u64 {
+    let each = case.calls / (case.names.len() as u64).max(1);
+    call.saturating_add(1) / each.max(1)
 }
 
-// look, try_open, create_new, set_owner, set_mode, sync, rename, sync_names
 #[test]
 fn each_call_fails_in_turn(rt: HostRuntime) -> Result<(), Fail> {
-    let alloc = rt.alloc();
-    for call in 0..8 {
-        let mut folder = folder_of(alloc, OLD)?;
-        folder.fail(call, call + 1, ErrorKind::StorageFull);
-        assert!(rt; output(alloc, &mut folder).is_err(), "call {call}");
-        let wanted: &[u8] = if call == 7 { b"new" } else { b"old" };
-        expect(&rt, &folder, wanted, 1, call);
-        let mut folder = folder_of(alloc, OLD)?;
-        folder.fail(call, 100, ErrorKind::StorageFull);
-        assert!(rt; output(alloc, &mut folder).is_err(), "from call {call}");
-        assert_eq!(rt; folder.bytes("f"), Some(wanted), "from call {call}");
+    for case in &CASES {
+        let all = case.names.len() as u64;
+        fail_at(&rt, rt.alloc(), case, (case.calls, case.calls), all)?;
+        for call in 0..case.calls {
+            let new = new_at(case, call);
+            fail_at(&rt, rt.alloc(), case, (call, call.saturating_add(1)), new)?;
+        }
     }
     Ok(())
 }
 
-// create_new, set_owner and set_mode bar; the others fail.
+/// Calls from one on and before another fail for want of room.
+fn fail_at(
+    rt: &impl Abort,
+    alloc: Global,
+    case: &Case<'_>,
+    (from, until): (u64, u64),
+    new: u64,
+) -> Result<(), AllocError> {
+    let mut folder = folder_of(alloc, case.old, OLD)?;
+    folder.fail(from, until, ErrorKind::StorageFull);
+    let (folder, _) = outputs(alloc, folder, case.names);
+    expect(rt, case, &folder, new, from);
+    Ok(())
+}
+
+/// The kinds of errors, and at which of the calls of an output over an old file the output is done all the same.
+const KINDS: [(ErrorKind, &[u64]); 5] = [
+    (ErrorKind::OutOfMemory, &[]),
+    (ErrorKind::QuotaExceeded, &[]),
+    (ErrorKind::ResourceBusy, &[6]),
+    (ErrorKind::PermissionDenied, &[2, 3, 4, 6, 7]),
+    (ErrorKind::Unsupported, &[2, 3, 4, 5, 7]),
+];
+
 #[test]
-fn what_bars_is_written_in_place(rt: HostRuntime) -> Result<(), Fail> {
+fn what_an_error_says_decides(rt: HostRuntime) -> Result<(), Fail> {
     let alloc = rt.alloc();
-    for call in 0..8 {
-        let mut folder = folder_of(alloc, OLD)?;
-        folder.fail(call, call + 1, ErrorKind::PermissionDenied);
-        let done = output(alloc, &mut folder).is_ok();
-        assert_eq!(rt; done, (2..5).contains(&call) || call == 7, "call {call}");
-        let wanted: &[u8] = if done { b"new" } else { b"old" };
-        expect(&rt, &folder, wanted, 1, call);
+    for (kind, done) in &KINDS {
+        for call in 0..8 {
+            let mut folder = folder_of(alloc, &["f"], OLD)?;
+            folder.fail(call, call + 1, *kind);
+            let (folder, closed) = outputs(alloc, folder, &["f"]);
+            let is_done = done.contains(&call);
+            assert_eq!(rt; closed, usize::from(is_done), "{kind:?} at {call}");
+            let bytes: &[u8] = if is_done || call == 7 { b"new" } else { b"old" };
+            assert_eq!(rt; folder.bytes("f"), Some(bytes), "{kind:?} at {call}");
+            assert_eq!(rt; folder.len(), 1, "{kind:?} at {call}");
+        }
     }
-    let mut folder = folder_of(alloc, Kept { links: 2, ..OLD })?;
-    output(alloc, &mut folder).map_err(|_| "linked")?;
-    expect(&rt, &folder, b"new", 1, 0);
-    assert_eq!(rt; folder.calls(), 3);
     Ok(())
 }
 
 #[test]
-fn the_next_name_is_taken(rt: HostRuntime) -> Result<(), Fail> {
+fn what_stands_there_decides(rt: HostRuntime) -> Result<(), Fail> {
     let alloc = rt.alloc();
-    let mut folder = folder_of(alloc, OLD)?;
-    folder.put("f.rvgprof-0", b"other", OLD)?;
-    output(alloc, &mut folder).map_err(|_| "output")?;
-    expect(&rt, &folder, b"new", 2, 0);
-    assert_eq!(rt; folder.bytes("f.rvgprof-0"), Some(b"other".as_slice()));
+    let in_place = [
+        Attributes { links: 2, ..OLD },
+        Attributes {
+            mode: 0o104755,
+            ..OLD
+        },
+    ];
+    for attributes in in_place {
+        let (folder, closed) = outputs(alloc, folder_of(alloc, &["f"], attributes)?, &["f"]);
+        assert_eq!(rt; closed, 1);
+        assert_eq!(rt; folder.calls(), 3, "look, open_over and sync");
+    }
+    let others = ["d/.f.rvgprof-0", "d/f"];
+    let (folder, closed) = outputs(alloc, folder_of(alloc, &others, OLD)?, &["d/f"]);
+    assert_eq!(rt; closed, 1);
+    assert_eq!(rt; folder.bytes("d/f"), Some(b"new".as_slice()));
+    assert_eq!(rt; folder.bytes("d/.f.rvgprof-0"), Some(b"old".as_slice()));
+    assert_eq!(rt; folder.len(), 2);
+    Ok(())
+}
+
+#[test]
+fn an_output_that_is_let_go_is_taken_away(rt: HostRuntime) -> Result<(), Fail> {
+    let alloc = rt.alloc();
+    let mut system = FolderSystem::new(alloc, folder_of(alloc, &["f"], OLD)?, Mute);
+    let begun = system.create("f").is_ok() && system.create("g").is_ok();
+    let folder = system.end();
+    assert!(rt; begun);
+    assert_eq!(rt; folder.bytes("f"), Some(b"old".as_slice()));
+    assert_eq!(rt; folder.len(), 1);
     Ok(())
 }

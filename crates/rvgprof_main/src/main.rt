@@ -34,7 +34,12 @@ fn main(rt: HostRuntime) -> ExitCode {
         Ok(words) => {
             let alloc = rt.alloc();
             match real_system(rt) {
-                Ok(system) => carry_out(alloc, words.as_slice(), &mut SystemHost::new(system)),
+                Ok(system) => {
+                    let mut host = SystemHost::new(system);
+                    let status = carry_out(alloc, words.as_slice(), &mut host);
+                    let _folder = host.end().end();
+                    status
+                }
                 Err(_) => ExitCode::from(NO_MEMORY),
             }
         }

@@ -1,11 +1,11 @@
-//! The folders and the outputs of the system, by calls of std.
+//! The folders and the outputs of the system: each method is one call of std.
 
 ghost use Rattle.std.specs.Prelude.{None};
 ghost use Rattle.std.specs.Io.{WritesAtMost};
 
-use folder_system::{Folder, FolderSystem, Found, Kept, Printer};
+use folder_system::{Attributes, Folder, FolderSystem, Found, Printer};
 use std::alloc::AllocError;
-use std::fs::{File, OpenOptions, Permissions};
+use std::fs::{File, Metadata, OpenOptions, Permissions};
 use std::io::{ErrorKind, Write};
 use std::os::fd::AsFd;
 use std::os::unix::fs::{MetadataExt, OpenOptionsExt, PermissionsExt, fchown};
@@ -30,7 +30,7 @@ impl Folder for RealFolder {
 
     type Output = File;
 
-    ghost told = { λ _. None };
+    ghost history = { λ _. None };
 
     ghost told_inputs = { λ f input told. Prim.cc };
 
@@ -42,13 +42,7 @@ impl Folder for RealFolder {
 
     fn look(&mut self, name: &str) -> io::Result<Found> {
         match fs::symlink_metadata(&self.rt, name) {
-            Ok(data) if data.is_file() => Ok(Found::File(Kept {
-                mode: data.mode(),
-                owner: data.uid(),
-                group: data.gid(),
-                links: data.nlink(),
-            })),
-            Ok(_) => Ok(Found::Other),
+            Ok(data) => Ok(found(&data)),
             Err(e) if e.kind() == ErrorKind::NotFound => Ok(Found::Nothing),
             Err(e) => Err(e),
         }
@@ -91,18 +85,22 @@ impl Folder for RealFolder {
         fs::remove_file(&self.rt, name)
     }
 
-    fn sync_names(&mut self, name: &str) -> io::Result<()> {
-        fs::open(&self.rt, folder_of(name))?.sync_all()
+    fn sync_names(&mut self, folder: &str) -> io::Result<()> {
+        fs::open(&self.rt, folder)?.sync_all()
     }
 }
 
-/// The folder that a name is in.
-fn folder_of(name: &str) -> &str {
-    match name.rsplit_once('/') {
-        None => ".",
-        Some(("", _)) => "/",
-        Some((folder, _)) => folder,
+/// What stands where these data are.
+fn found(data: &Metadata) -> Found {
+    if !data.is_file() {
+        return Found::Other;
     }
+    Found::File(Attributes {
+        mode: data.mode(),
+        owner: data.uid(),
+        group: data.gid(),
+        links: data.nlink(),
+    })
 }
 
 /// Both outputs of the system. It tells nothing.

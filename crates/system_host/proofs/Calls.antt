@@ -72,27 +72,29 @@ takes piece s output faults n last some fits same writes told =
       input = record { open_stays = refl; end_stays = refl; rest_stays = Becomes-same (outside_of s).rest };
     }
 
-kept_disk : (disk : Option Disk) (old new : Option (List ℕ)) → IfSome disk (λ _. new ≡ old) → Becomes (disk_after []) (option_map (disk_with old) disk) (option_map (disk_with new) disk)
-kept_disk None old new told = tt
-kept_disk (Some d) old new told = ap (λ (output : Option (List ℕ)). Some (disk_with output d)) (sym told)
+open_output : (output : Option (List ℕ)) (disk : Option Disk) → writes_with output disk ≡ true → is_some output ≡ true
+open_output output None is = is
+open_output None (Some d) is = absurd cc
+open_output (Some held) (Some d) is = refl
 
-takes_none : (piece : List ℕ) (s : Seen) (output : Option (List ℕ)) (faults : ℕ) (last : Bool) (failed : Failed) → is_some output ≡ is_some s.output → IfSome s.disk (λ _. output ≡ s.output)
-    → Takes {E = Failed} (λ bytes. Write bytes) piece (outside_of s) (outside_of (record s { output = output; write_faults = faults; last_failed = last })) (Err failed)
-takes_none piece s output faults last failed same told =
+-- the files are told no more
+takes_none : (piece : List ℕ) (s : Seen) (output : Option (List ℕ)) (faults : ℕ) (last : Bool) (failed : Failed) → is_some output ≡ is_some s.output → writes_with s.output s.disk ≡ true
+    → Takes {E = Failed} (λ bytes. Write bytes) piece (outside_of s) (outside_of (record s { disk = None; output = output; write_faults = faults; last_failed = last })) (Err failed)
+takes_none piece s output faults last failed same writes =
     let nothing = Did-nothing (outside_of s) in
     record {
       done = tt;
       some = tt;
       fits = tt;
       failed = record {
-        disk = kept_disk s.disk s.output output told;
+        disk = tt;
         out = nothing.out;
         err = nothing.err;
-        writing = still_writes s.disk s.output output same;
+        writing = same ∙ open_output s.output s.disk writes ∙ sym writes;
         file_changes = refl;
         opened = refl;
       };
-      input = record { open_stays = refl; end_stays = refl; rest_stays = Becomes-same (outside_of s).rest };
+      input = record { open_stays = refl; end_stays = refl; rest_stays = tt };
     }
 
 -- ---- a call that reads
@@ -212,13 +214,27 @@ takes_seen {s = s} tells old new piece faults n last is_seen output_is law same 
     let told = where_told s.disk (Grows s.output (shown tells new) (take n piece)) (λ is. subst (λ (o : Option (List ℕ)). Grows o (shown tells new) (take n piece)) (sym output_is) (grows tells (is_some s.disk) old new (take n piece) law is same took)) in
     rw (sym is_seen) (takes piece s (shown tells new) faults n last some fits still_open writes told)
 
-pub takes_none_seen : {T : Type 0} {s v : Seen} (tells : T → Option (List ℕ)) (old new : Option T) (piece : List ℕ) (faults : ℕ) (last : Bool) (failed : Failed) → s ≡ v → s.output ≡ shown tells old → ((t : T) → is_some s.disk ≡ true → is_some (tells t) ≡ true)
-    → is_some new ≡ is_some old → Took (told_by tells old) (told_by tells new) piece None
-    → Takes {E = Failed} (λ bytes. Write bytes) piece (outside_of v) (outside_of (record s { output = shown tells new; write_faults = faults; last_failed = last })) (Err failed)
-takes_none_seen {s = s} tells old new piece faults last failed is_seen output_is law same kept =
+pub takes_none_seen : {T : Type 0} {s v : Seen} (tells : T → Option (List ℕ)) (old new : Option T) (piece : List ℕ) (faults : ℕ) (last : Bool) (failed : Failed) → s ≡ v → s.output ≡ shown tells old
+    → is_some new ≡ is_some old → (outside_of v).is_writing ≡ true
+    → Takes {E = Failed} (λ bytes. Write bytes) piece (outside_of v) (outside_of (record s { disk = None; output = shown tells new; write_faults = faults; last_failed = last })) (Err failed)
+takes_none_seen {s = s} tells old new piece faults last failed is_seen output_is same is_writing =
+    let writes : writes_with s.output s.disk ≡ true = ap (λ (m : Seen). writes_with m.output m.disk) is_seen ∙ is_writing in
     let still_open : is_some (shown tells new) ≡ is_some s.output = still tells old new same ∙ ap (λ (o : Option (List ℕ)). is_some o) (sym output_is) in
-    let told = where_told s.disk (shown tells new ≡ s.output) (λ is. keeps tells (is_some s.disk) old new law is same kept ∙ sym output_is) in
-    rw (sym is_seen) (takes_none piece s (shown tells new) faults last failed still_open told)
+    rw (sym is_seen) (takes_none piece s (shown tells new) faults last failed still_open writes)
+
+-- ---- what a host tells that may have stopped
+
+pub told_law : {T : Type 0} (tells : Bool) (disk : Option Disk) (told : T → Option (List ℕ)) → ((t : T) → is_some disk ≡ true → is_some (told t) ≡ true) → (t : T) → is_some (if tells then disk else None) ≡ true → is_some (told t) ≡ true
+told_law true disk told law t is = law t is
+told_law false disk told law t is = absurd (let e : false ≡ true = is in cc)
+
+pub becomes_told : (f : Disk → Disk) (tells : Bool) (old new : Option Disk) → Becomes f old new → Becomes f (if tells then old else None) (if tells then new else None)
+becomes_told f true old new is = is
+becomes_told f false old new is = tt
+
+pub empty_told : (tells : Bool) (disk : Option Disk) (P : Type 0) → IfSome disk (λ _. P) → IfSome (if tells then disk else None) (λ _. P)
+empty_told true disk P is = is
+empty_told false disk P is = tt
 
 pub creates_seen : {s v : Seen} (name : List ℕ) (disk : Option Disk) (out err : Option (List ℕ)) (bytes : List ℕ) (changes : ℕ) (last : Bool) → s ≡ v → (outside_of v).is_writing ≡ false
     → Becomes (disk_after (Create name ∷ [])) s.disk disk → IfSome disk (λ _. bytes ≡ []) → out ≡ s.out → err ≡ s.err → changes ≡ next_count s.file_changes

@@ -1,6 +1,6 @@
 //! The host over a system.
 
-ghost use Rattle.std.specs.Prelude.{◌≡◌, ◌<◌, true, false, length, Some, None, is_some, is_ok, IfSome};
+ghost use Rattle.std.specs.Prelude.{◌≡◌, ◌<◌, true, false, length, Some, None, is_some, is_ok, IfSome, OnErr};
 ghost use Rattle.host_port.specs.Act.{Write, Out, Err as Complain, next_count};
 ghost use Rattle.host_port.specs.Outside.{Rose};
 ghost use Rattle.host_port.specs.Host.{Opens, Moves, Creates, Takes, Closes, Reads, Writes, Complains};
@@ -12,7 +12,8 @@ use host_port::{Failed, Host};
 use std::marker::Model;
 
 /// A system with one input and one output open. It loops over nothing and counts each error. A write of
-/// no bytes is an error.
+/// no bytes is an error. Once a write failed it tells the files no more: what stands in the file that was
+/// being written is the system's business.
 #[derive(Drop)]
 pub struct SystemHost<S: System> {
     system: S,
@@ -27,17 +28,19 @@ pub struct SystemHost<S: System> {
     file_changes: u64,
     // Whether the last call failed that doesn't complain.
     last_failed: bool,
+    // No write failed.
+    tells: bool,
 }
 
 impl<S: System> Model for SystemHost<S> {
-    ghost use Rattle.std.specs.Prelude.{option_map};
+    ghost use Rattle.std.specs.Prelude.{option_map, None, if◌then◌else◌};
     ghost use Rattle.system_host.specs.Told.{bytes_of};
     ghost use Rattle.system_host.specs.Seen.{Seen};
 
     ghost Value = { Seen };
 
     ghost view = { λ a. record {
-      disk = S.disk a.system;
+      disk = if a.tells then S.disk a.system else None;
       out = S.printed a.system;
       err = S.complained a.system;
       last_close = S.last_close a.system;
@@ -53,7 +56,7 @@ impl<S: System> Model for SystemHost<S> {
     } };
 }
 
-impl<S: System + Drop> SystemHost<S> {
+impl<S: System> SystemHost<S> {
     /// A host with nothing open.
     pub fn new(system: S) -> SystemHost<S>
         ensures { result ≡ record {
@@ -84,7 +87,26 @@ impl<S: System + Drop> SystemHost<S> {
             opened: 0,
             file_changes: 0,
             last_failed: false,
+            tells: true,
         }
+    }
+
+    /// The system, once the input and the output are let go.
+    pub fn end(self) -> S {
+        let SystemHost {
+            system,
+            input: _input,
+            at_end: _,
+            output: _output,
+            read_faults: _,
+            write_faults: _,
+            err_faults: _,
+            opened: _,
+            file_changes: _,
+            last_failed: _,
+            tells: _,
+        } = self;
+        system
     }
 
     fn read_failed(&mut self) -> Failed
@@ -117,7 +139,7 @@ impl<S: System + Drop> SystemHost<S> {
     }
 }
 
-impl<S: System + Drop> Host for SystemHost<S> {
+impl<S: System> Host for SystemHost<S> {
     ghost outside = { outside_of };
 
     ghost consistent = { is_consistent };
@@ -161,11 +183,20 @@ impl<S: System + Drop> Host for SystemHost<S> {
         }
     }
 
-    fn write(&mut self, piece: &[u8]) -> Result<usize, Failed> {
+    fn write(&mut self, piece: &[u8]) -> Result<usize, Failed>
+        requires is_writing { (outside_of self.old).is_writing ≡ true }
+        requires some_bytes { 0 < length piece.now }
+        ensures takes { Takes Write piece.now (outside_of self.old) (outside_of self.new) result }
+        ensures counts { Writes (outside_of self.old) (outside_of self.new) result }
+        ensures stops { OnErr result ((outside_of self.new).disk ≡ None) }
+    {
         self.last_failed = false;
         match written(&mut self.output, piece) {
             Some(n) => Ok(n),
-            None => Err(self.write_failed()),
+            None => {
+                self.tells = false;
+                Err(self.write_failed())
+            }
         }
     }
 

@@ -36,22 +36,30 @@ fn status(
 fn a_file_that_was_written_is_shown(rt: HostRuntime) -> Result<(), Fail> {
     let alloc = rt.alloc();
     let mut host = SystemHost::new(real_system(rt)?);
+    let shown = write_and_show(alloc, &mut host);
+    let _folder = host.end().end();
+    shown
+}
+
+fn write_and_show(alloc: Global, host: &mut SystemHost<RealSystem>) -> Result<(), Fail>
+    requires { (outside_of host.old).is_writing ≡ false }
+{
     host.create_output("written.gmon").map_err(|_| "created")?;
-    write_all_of(&mut host, &EMPTY).map_err(|_| "written")?;
+    write_all_of(host, &EMPTY).map_err(|_| "written")?;
     host.close_output().map_err(|_| "closed")?;
-    match status(alloc, &mut host, &["show", "written.gmon"])? {
+    match status(alloc, host, &["show", "written.gmon"])? {
         0 => {}
         _ => return Err("not shown")?,
     }
-    match status(alloc, &mut host, &["syms", "written.gmon"])? {
+    match status(alloc, host, &["syms", "written.gmon"])? {
         2 => {}
         _ => return Err("not refused")?,
     }
-    match status(alloc, &mut host, &["show", "missing.gmon"])? {
+    match status(alloc, host, &["show", "missing.gmon"])? {
         5 => {}
         _ => return Err("not missed")?,
     }
-    match status(alloc, &mut host, &["show", "."])? {
+    match status(alloc, host, &["show", "."])? {
         5 => Ok(()),
         _ => Err("a folder is read")?,
     }

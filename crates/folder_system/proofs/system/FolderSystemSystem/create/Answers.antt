@@ -1,22 +1,33 @@
-use Rattle.std.proofs.Common.{[], ◌∷◌, Option, Some, string_bytes, refl, sym, subst}
+use Rattle.std.proofs.Common.{◌≡◌, Bool, ◌&&◌, [], ◌∷◌, Option, Some, None, sym, subst, ◌∙◌}
 use Rattle.host_port.specs.Act.{Create, disk_after}
 use Rattle.host_port.specs.Outside.{Becomes}
 use Rattle.folder_system.specs.declared.place.Place.{Place}
-use Rattle.folder_system.specs.declared.place.Place.TheVariants.{Beside as StandsBeside}
 use Rattle.folder_system.specs.Disk.{shown}
-use Rattle.folder_system.specs.Place.{IsPlaced}
+use Rattle.folder_system.specs.Events.{Follows}
+use Rattle.folder_system.specs.Place.{IsPlaced, IsLetGo, IsGivenUp}
+use Rattle.folder_system.proofs.Follows.{then_none}
+use Rattle.folder_system.proofs.Ends.{after_let_go}
 use Rattle.folder_system.proofs.Shown.{begun_shown, becomes_then}
 use Rattle.folder_system.proofs.system.FolderSystemSystem.create.Goals as goal
 
-pub returns-in-Beside-clause-done : goal.returns-in-Beside-clause-done
-returns-in-Beside-clause-done g c =
-    let told = g.F.Folder.told in
+pub returns-in-Ok-clause-done : goal.returns-in-Ok-clause-done
+returns-in-Ok-clause-done g c =
+    let told = g.F.Folder.history in
     let name = c.args.name.now in
     let old = c.args.self.now in
-    let mid = c.let_go.new.self in
-    let beside = c.in-Beside.beside in
-    let now = c.begin.new.folder in
-    let placed = subst (λ (p : Place). IsPlaced name (told mid.folder) (told now) p) c.in-Beside.is c.in-Ok.ensures.placed in
-    let begun = begun_shown name (string_bytes beside.own) mid.tells (told mid.folder) (told now) beside placed.0 refl placed.1 in
-    let behind = subst (λ (p : Option Place). Becomes (disk_after (Create name ∷ [])) (shown told mid.tells p mid.folder) (shown told mid.tells (Some (StandsBeside beside)) now)) (sym c.let_go.ensures.none) begun in
-    becomes_then (disk_after (Create name ∷ [])) (shown told old.tells old.place old.folder) (shown told mid.tells mid.place mid.folder) (shown told mid.tells (Some (StandsBeside beside)) now) c.let_go.ensures.told behind
+    let mid = c.clear.new.self in
+    let place = c.in-Ok.place in
+    let now = c.let_go.new.folder in
+    let none : c.replace-none.result ≡ None = c.replace-none.ensures.value ∙ c.clear.ensures.none in
+    let gone = subst (λ (p : Option Place). Follows (IsLetGo p) (told c.begin.new.folder) (told now)) none c.let_go.ensures in
+    let placed = then_none (IsPlaced name place) (told mid.folder) (told c.begin.new.folder) (told now) c.in-Ok.ensures.placed gone in
+    let begun = begun_shown name mid.tells (told mid.folder) (told now) place placed in
+    let from = subst (λ (p : Option Place). Becomes (disk_after (Create name ∷ [])) (shown told mid.tells p mid.folder) (shown told (mid.tells && c.is_beside.result) c.replace-none.new.dest now)) (sym c.clear.ensures.none)
+    (subst (λ (q : Option Place). Becomes (disk_after (Create name ∷ [])) (shown told mid.tells None mid.folder) (shown told (mid.tells && c.is_beside.result) q now)) (sym c.replace-none.ensures.after)
+    (subst (λ (b : Bool). Becomes (disk_after (Create name ∷ [])) (shown told mid.tells None mid.folder) (shown told (mid.tells && b) (Some place) now)) (sym c.is_beside.ensures) begun)) in
+    becomes_then (disk_after (Create name ∷ [])) (shown told old.tells old.place old.folder) (shown told mid.tells mid.place mid.folder) (shown told (mid.tells && c.is_beside.result) c.replace-none.new.dest now) c.clear.ensures.told from
+
+pub returns-in-Err-clause-given_up : goal.returns-in-Err-clause-given_up
+returns-in-Err-clause-given_up g c =
+    let told = g.F.Folder.history in
+    after_let_go c.args.self.now.place (IsGivenUp c.args.name.now) (told c.args.self.now.folder) (told c.clear.new.self.folder) (told c.begin.new.folder) c.clear.ensures.gone c.in-Err.ensures.given_up

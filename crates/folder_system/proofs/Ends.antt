@@ -1,0 +1,175 @@
+-- How an output ends.
+use Rattle.std.proofs.Common.{◌≡◌, ◌⊎◌, inl, inr, ℕ, Bool, true, false, List, [], ◌∷◌, ◌++◌, Option, Some, None, Ok, Err, refl, sym, ap, subst, ◌∙◌}
+use Rattle.std.specs.Prelude.{Result, IfSome, OnOk, OnErr, is_some}
+use Rattle.std.specs.Io.KnownBytes.{Appends}
+use Rattle.system_host.specs.Told.{bytes_of}
+use Rattle.std.specs.declared.io.Error.{Error}
+use Rattle.std.specs.declared.io.ErrorKind.{ErrorKind}
+use Rattle.host_port.specs.Act.{File, file_content, with_file}
+use Rattle.host_port.specs.Outside.{Becomes}
+use Rattle.folder_system.specs.declared.place.Place.{Place}
+use Rattle.folder_system.specs.declared.beside.Taken.TheVariants.{ByName, ByCopy}
+use Rattle.folder_system.specs.declared.beside.Naming.TheVariants.{Done, Held}
+use Rattle.folder_system.specs.Names.{folder_of}
+use Rattle.folder_system.specs.Kinds.{is_held}
+use Rattle.folder_system.specs.Events.{Event, Opened, Synced, Renamed, Removed, NamesSynced, History, Answer, after, Follows, files_after, is_stored}
+use Rattle.folder_system.specs.Place.{IsStored, IsNotStored, IsSettling, is_settled, moving, refusing, copying, IsPut, IsHalted, IsHalf, IsOver, IsNotOver, IsMoved, IsHalfCopied, IsTaken, IsLost, IsAway, IsLetGo, IsAfterLetGo}
+use Rattle.folder_system.proofs.Follows.{then_calls, one_call, one_call_at, then_call, no_calls, restate}
+use Rattle.folder_system.proofs.Files.{content_of_new, if_same}
+
+-- ---- one call
+
+pub stored_by : (name bytes : List ℕ) (answer : Answer) (a b : Option History) → is_stored answer ≡ true → Becomes (after (Synced name bytes answer)) a b → Follows (IsStored name bytes) a b
+stored_by name bytes answer a b is = one_call (IsStored name bytes) (Synced name bytes answer) a b (λ fs. (answer, refl, is))
+
+pub not_stored_by : (name bytes : List ℕ) (answer : Answer) (a b : Option History) → is_stored answer ≡ false → Becomes (after (Synced name bytes answer)) a b → Follows (IsNotStored name bytes) a b
+not_stored_by name bytes answer a b is = one_call (IsNotStored name bytes) (Synced name bytes answer) a b (λ fs. (answer, refl, is))
+
+pub settling : (name : List ℕ) (answer : Answer) (ok : Bool) (a b : Option History) → is_settled answer ≡ ok → Becomes (after (NamesSynced (folder_of name) answer)) a b → Follows (IsSettling name ok) a b
+settling name answer ok a b is = one_call (IsSettling name ok) (NamesSynced (folder_of name) answer) a b (λ fs. (answer, refl, is))
+
+pub away : (own : List ℕ) (answer : Answer) (a b : Option History) → Becomes (after (Removed own answer)) a b → Follows (IsAway own) a b
+away own answer a b = one_call (IsAway own) (Removed own answer) a b (λ fs. (answer, refl))
+
+-- ---- the name
+
+module _ (own name bytes : List ℕ) where
+  pub put_done : (a b c : Option History) → Follows (IsStored own bytes) a b → Becomes (after (Renamed own name None)) b c → Follows (IsPut own name bytes Done) a c
+  put_done a b c = then_call (IsStored own bytes) (IsPut own name bytes Done) (Renamed own name None) a b c
+      (λ fs es h. (h.0, ap (λ (l : List Event). l ++ Renamed own name None ∷ []) h.1, h.2))
+
+  pub put_held : (kind : ErrorKind) (a b c : Option History) → is_held kind ≡ true → Follows (IsStored own bytes) a b → Becomes (after (Renamed own name (Some kind))) b c → Follows (IsPut own name bytes Held) a c
+  put_held kind a b c held = then_call (IsStored own bytes) (IsPut own name bytes Held) (Renamed own name (Some kind)) a b c
+      (λ fs es h. (h.0, kind, ap (λ (l : List Event). l ++ Renamed own name (Some kind) ∷ []) h.1, h.2, held))
+
+  pub put_unnamed : (kind : ErrorKind) (a b c : Option History) → Follows (IsStored own bytes) a b → Becomes (after (Renamed own name (Some kind))) b c → Follows (IsHalted own name bytes) a c
+  put_unnamed kind a b c = then_call (IsStored own bytes) (IsHalted own name bytes) (Renamed own name (Some kind)) a b c
+      (λ fs es h. inr (record { synced = h.0; kind = kind; is = ap (λ (l : List Event). l ++ Renamed own name (Some kind) ∷ []) h.1; stored = h.2 }))
+
+  pub put_unsynced : (a b : Option History) → Follows (IsNotStored own bytes) a b → Follows (IsHalted own name bytes) a b
+  put_unsynced a b = restate (IsNotStored own bytes) (IsHalted own name bytes) a b (λ fs es h. inl (record { synced = h.0; is = h.1; failed = h.2 }))
+
+-- ---- in place, with what the file beside has
+
+module _ (own name : List ℕ) where
+  pub none_over : (a : Option History) → Follows (IsNotOver own name) a a
+  none_over a = no_calls (IsNotOver own name) a (λ fs. inl refl)
+
+  pub not_opened_over : (answer : Answer) (a b : Option History) → Becomes (after (Opened name answer)) a b → Follows (IsNotOver own name) a b
+  not_opened_over answer a b = one_call (IsNotOver own name) (Opened name answer) a b (λ fs. inr (inl (answer, refl)))
+
+-- the bytes that were written are those that the file beside had, where that is told, also once the other was opened
+pub IsContent : List ℕ → List ℕ → Option History → Option History → Type 0
+IsContent own bytes None b = Unit {0}
+IsContent own bytes (Some h) None = Unit {0}
+IsContent own bytes (Some h) (Some g) = bytes ≡ file_content own h.files
+
+pub content_copied : (own : List ℕ) (a b : Option History) (rest held now : Option (List ℕ)) → (is_some a ≡ true → is_some rest ≡ true) → (is_some b ≡ true → is_some held ≡ true)
+    → IfSome a (λ h. bytes_of rest ≡ file_content own h.files) → IfSome b (λ _. bytes_of held ≡ []) → IfSome rest (Appends held now) → IsContent own (bytes_of now) a b
+unfolding IsContent
+content_copied own None b rest held now told_rest told_held is empty copied = tt
+content_copied own (Some h) None rest held now told_rest told_held is empty copied = tt
+content_copied own (Some h) (Some g) None held now told_rest told_held is empty copied = absurd (let e : false ≡ true = told_rest refl in cc)
+content_copied own (Some h) (Some g) (Some r) None now told_rest told_held is empty copied = absurd (let e : false ≡ true = told_held refl in cc)
+content_copied own (Some h) (Some g) (Some r) (Some o) None told_rest told_held is empty copied = absurd copied
+content_copied own (Some h) (Some g) (Some r) (Some o) (Some n) told_rest told_held is empty copied = copied ∙ ap (λ (v : List ℕ). v ++ r) empty ∙ is
+
+module _ (own name bytes : List ℕ) where
+  opened_over : List File → List Event → Type 0
+  opened_over fs es = (es ≡ Opened name None ∷ []) × (bytes ≡ file_content own fs)
+
+  opened_first : (a : Option History) (g : History) → IsContent own bytes a (Some g) → IfSome a (λ h. opened_over h.files (Opened name None ∷ []))
+  unfolding opened_over IsContent
+  opened_first None g content = tt
+  opened_first (Some h) g content = (refl, content)
+
+  after_opening : (P Q : List File → List Event → Type 0) (a b c : Option History) → IsContent own bytes a b → Becomes (after (Opened name None)) a b
+      → ((fs : List File) (gs : List Event) → bytes ≡ file_content own fs → P (files_after (Opened name None ∷ []) fs) gs → Q fs (Opened name None ∷ gs)) → Follows P b c → Follows Q a c
+  unfolding opened_over
+  after_opening P Q a b None content opened so stored = tt
+  after_opening P Q a None (Some t) content opened so stored = absurd (let e : None ≡ Some stored.was = stored.told in cc)
+  after_opening P Q a (Some g) (Some t) content opened so stored =
+      then_calls opened_over P Q a (Some g) (Some t)
+      (λ fs es gs p h. subst (λ (l : List Event). Q fs (l ++ gs)) (sym p.0) (so fs gs p.1 (subst (λ (l : List Event). P (files_after l fs) gs) p.0 h)))
+      (one_call_at opened_over (Opened name None) a (Some g) (opened_first a g content) opened) stored
+
+  over_at : (a b c : Option History) → IsContent own bytes a b → Becomes (after (Opened name None)) a b → Follows (IsStored name bytes) b c → Follows (IsOver own name) a c
+  over_at a b c content opened = after_opening (IsStored name bytes) (IsOver own name) a b c content opened
+      (λ fs gs is h. (h.0, (λ i. Opened name None ∷ h.1 i) ∙ ap (λ (v : List ℕ). copying name v h.0) is, h.2))
+
+  not_over_at : (a b c : Option History) → IsContent own bytes a b → Becomes (after (Opened name None)) a b → Follows (IsNotStored name bytes) b c → Follows (IsNotOver own name) a c
+  not_over_at a b c content opened = after_opening (IsNotStored name bytes) (IsNotOver own name) a b c content opened
+      (λ fs gs is h. inr (inr (h.0, (λ i. Opened name None ∷ h.1 i) ∙ ap (λ (v : List ℕ). copying name v h.0) is, h.2)))
+
+  module _ {T : Type 0} where
+    pub over : (r : Result T Error) (a b c : Option History) → IsContent own bytes a b → Becomes (after (Opened name None)) a b → OnOk r (Follows (IsStored name bytes) b c) → OnOk r (Follows (IsOver own name) a c)
+    over (Ok x) a b c content opened stored = over_at a b c content opened stored
+    over (Err e) a b c content opened stored = tt
+
+    pub not_over : (r : Result T Error) (a b c : Option History) → IsContent own bytes a b → Becomes (after (Opened name None)) a b → OnErr r (Follows (IsNotStored name bytes) b c) → OnErr r (Follows (IsNotOver own name) a c)
+    not_over (Ok x) a b c content opened stored = tt
+    not_over (Err e) a b c content opened stored = not_over_at a b c content opened stored
+
+-- ---- the whole
+
+module _ (own name bytes : List ℕ) where
+  moved_at : (ok : Bool) (P : List Event → Type 0) (a b c : Option History)
+      → ((s t : Answer) → is_stored s ≡ true → is_settled t ≡ ok → P (moving own name bytes s t))
+      → Follows (IsPut own name bytes Done) a b → Follows (IsSettling name ok) b c → Follows (λ fs es. P es) a c
+  moved_at ok P a b c so = then_calls (IsPut own name bytes Done) (IsSettling name ok) (λ fs es. P es) a b c
+      (λ fs es gs p h. subst P (λ i. sym p.1 i ++ sym h.1 i) (so p.0 h.0 p.2 h.2))
+
+  pub moved : (a b c : Option History) → Follows (IsPut own name bytes Done) a b → Follows (IsSettling name true) b c → Follows (IsTaken own name bytes ByName) a c
+  moved a b c = moved_at true (IsMoved own name bytes) a b c (λ s t stored settled. record { synced = s; settled = t; is = refl; stored = stored; names = settled })
+
+  pub unsettled : (a b c : Option History) → Follows (IsPut own name bytes Done) a b → Follows (IsSettling name false) b c → Follows (IsLost own name bytes) a c
+  unsettled a b c = moved_at false (λ es. IsLost own name bytes [] es) a b c (λ s t stored failed. inr (record { synced = s; settled = t; is = refl; stored = stored; failed = failed }))
+
+  -- what the file beside has once it was synced
+  content_of_stored : (s : Answer) (kind : ErrorKind) (fs : List File) → is_stored s ≡ true → file_content own (files_after (refusing own name bytes s kind) fs) ≡ bytes
+  content_of_stored s kind fs stored = ap (file_content own) (if_same (is_stored s) (with_file own bytes fs) fs stored) ∙ content_of_new own bytes fs
+
+  Refused : List File → List Event → Type 0
+  Refused fs es = (s : Answer) × (kind : ErrorKind) × (copied : Answer) × (es ≡ refusing own name bytes s kind ++ copying name bytes copied) × (is_stored s ≡ true) × (is_held kind ≡ true) × (is_stored copied ≡ true)
+
+  pub copied : (answer : Answer) (a b c d : Option History) → Follows (IsPut own name bytes Held) a b → Follows (IsOver own name) b c → Becomes (after (Removed own answer)) c d → Follows (IsTaken own name bytes ByCopy) a d
+  unfolding Refused
+  copied answer a b c d put over =
+      then_call Refused (IsTaken own name bytes ByCopy) (Removed own answer) a c d
+      (λ fs es h. record { synced = h.0; kind = h.1; copied = h.2; removed = answer; is = ap (λ (l : List Event). l ++ Removed own answer ∷ []) h.3; stored = h.4; held = h.5; whole = h.6 })
+      (then_calls (IsPut own name bytes Held) (IsOver own name) Refused a b c (λ fs es gs p h. (p.0, p.1, h.0, joined fs es gs p h, p.3, p.4, h.2)) put over)
+    where
+      joined : (fs : List File) (es gs : List Event) → (p : IsPut own name bytes Held fs es) → (h : IsOver own name (files_after es fs) gs) → es ++ gs ≡ refusing own name bytes p.0 p.1 ++ copying name bytes h.0
+      joined fs es gs p h = (λ i. p.2 i ++ h.1 i) ∙ ap (λ (v : List ℕ). refusing own name bytes p.0 p.1 ++ copying name v h.0) (ap (λ (l : List Event). file_content own (files_after l fs)) p.2 ∙ content_of_stored p.0 p.1 fs p.3)
+
+  pub withdrawn : (answer : Answer) (a b c : Option History) → Follows (IsHalted own name bytes) a b → Becomes (after (Removed own answer)) b c → Follows (IsLost own name bytes) a c
+  withdrawn answer a b c = then_call (IsHalted own name bytes) (IsLost own name bytes) (Removed own answer) a b c
+      (λ fs es h. inl (record { front = es; halted = inl h; removed = answer; is = refl }))
+
+  Stopped : List File → List Event → Type 0
+  Stopped fs es = IsHalted own name bytes [] es ⊎ IsHalfCopied own name bytes es
+
+  half : (fs : List File) (es gs : List Event) → IsPut own name bytes Held fs es → IsNotOver own name (files_after es fs) gs → Stopped fs (es ++ gs)
+  unfolding Stopped
+  half fs es gs p (inl none) = inl (inr (record { synced = p.0; kind = p.1; is = (λ i. p.2 i ++ none i); stored = p.3 }))
+  half fs es gs p (inr some) = inr (record {
+    synced = p.0;
+    kind = p.1;
+    behind = gs;
+    is = ap (λ (l : List Event). l ++ gs) p.2;
+    stored = p.3;
+    held = p.4;
+    half = subst (λ (v : List ℕ). IsHalf name v gs) (ap (λ (l : List Event). file_content own (files_after l fs)) p.2 ∙ content_of_stored p.0 p.1 fs p.3) some;
+  })
+
+  pub half_copied : (answer : Answer) (a b c d : Option History) → Follows (IsPut own name bytes Held) a b → Follows (IsNotOver own name) b c → Becomes (after (Removed own answer)) c d → Follows (IsLost own name bytes) a d
+  unfolding Stopped
+  half_copied answer a b c d put not =
+      then_call Stopped (IsLost own name bytes) (Removed own answer) a c d
+      (λ fs es h. inl (record { front = es; halted = h; removed = answer; is = refl }))
+      (then_calls (IsPut own name bytes Held) (IsNotOver own name) Stopped a b c half put not)
+
+-- ---- what stood before was let go
+
+pub after_let_go : (old : Option Place) (P : List File → List Event → Type 0) (a b c : Option History) → Follows (IsLetGo old) a b → Follows P b c → Follows (IsAfterLetGo old P) a c
+after_let_go old P a b c = then_calls (IsLetGo old) P (IsAfterLetGo old P) a b c (λ fs es gs gone so. record { front = es; behind = gs; is = refl; gone = gone; so = so })
