@@ -37,12 +37,12 @@ impl Printer for Mute {
 /// Outputs "new" of these names, one behind the other, up to one that fails. How many were closed.
 fn outputs(alloc: Global, folder: MemFolder, names: &[&str]) -> (MemFolder, usize) {
     let mut system = FolderSystem::new(alloc, folder, Mute);
-    let mut closed = 0;
+    let mut closed = 0usize;
     for name in names {
         if output(&mut system, name).is_err() {
             break;
         }
-        closed += 1;
+        closed = closed.saturating_add(1);
     }
     (system.end(), closed)
 }
