@@ -1,7 +1,8 @@
 """The definitions of the crates' specs, what they cite of one another, and which of them the claim rests on.
 
 A definition is a triple: its crate, its module and its name. The claim begins with what the top call, the laws of the
-program and the trait of hosts cite, and goes on with each name in it that a file of some crate's `specs/` defines."""
+program, the trait of hosts, and the trait, the calls and the laws of outputs over a folder cite, and goes on with
+each name in it that a file of some crate's `specs/` defines."""
 
 import collections
 import hashlib
@@ -11,8 +12,11 @@ import re
 
 CRATES = pathlib.Path(__file__).resolve().parent.parent.parent / "crates"
 
-# Where the claim begins: the top call, the laws of the program, and the trait of hosts, which the call speaks of.
-TOPS = ["rvgprof/src/top.rt", "rvgprof/src/laws.rt", "host_port/src/host.rt"]
+# Where the claim begins: the top call, the laws of the program, the trait of hosts, which the call speaks of, and what is
+# said of outputs over a folder.
+TOPS = [
+    "rvgprof/src/top.rt", "rvgprof/src/laws.rt", "host_port/src/host.rt",
+    "folder_system/src/folder.rt", "folder_system/src/system.rt", "folder_system/src/laws.rt"]
 
 BEGINS = re.compile(r"^(?:(?:abbrev|unfoldable|pub|record|data) )*([^\s:(){}]+)(?=[\s:(])")
 IMPORT = re.compile(r"^(?:ghost )?use Rattle\.(\w+)\.specs\.([\w.«»]+?)(?:\.\{([^}]*)\}| as (\w+));?$")

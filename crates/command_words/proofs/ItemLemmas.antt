@@ -1,192 +1,259 @@
--- Items among the words, one after the other.
-use Rattle.std.proofs.Common.{◌≡◌, ◌<◌, ℕ, zero, suc, ◌+◌, ◌-◌, ◌≤◌, Bool, true, false, cond, eqb, List, [], ◌∷◌, ◌++◌, length, get_or, take, drop, map, Option, Some, None, refl, ap, sym, ◌∙◌, arith, inl, inr, ◌⊎◌}
-use Rattle.std.proofs.lemmas.List.{take_all, take_more, length-drop, get_or-drop}
-use Rattle.std.proofs.lemmas.Bool.{lt-ltb, le-ltb}
-use Rattle.std.proofs.lemmas.Bool.Decides.{nat_tests}
-use Rattle.std.specs.List.{cons_option}
+-- Items while they are read, and what holds of all that are.
+use Rattle.std.proofs.Common.{◌≡◌, ◌<◌, ℕ, zero, suc, ◌+◌, ◌≤◌, Bool, true, false, ◌&&◌, ◌||◌, inl, inr, eqb, leb, List, [], ◌∷◌, ◌++◌, length, get_or, Option, Some, None, refl, ap, sym, subst, ◌∙◌, length-append, drop, take, if◌then◌else◌, arith}
+use Rattle.std.specs.Prelude.{IfSome, slice_get, nat_le}
+use Rattle.std.specs.List.{AllByRecursion, list_all, cons_option, filter_map}
 use Rattle.std.specs.Option.{option_map, option_and_then, unwrap_or}
+use Rattle.std.proofs.lemmas.List.{append-nil, take-append-drop, take_more}
+use Rattle.std.proofs.lemmas.List.Elements.{filter_map-append}
+use Rattle.std.proofs.lemmas.Bool.{and_parts, eqb-true, leb-true}
+use Rattle.std.proofs.lemmas.Bool.Decides.{nat_tests}
 use Rattle.command_words.specs.declared.options.Key.{Key}
-use Rattle.command_words.specs.declared.options.OptionSet.{OptionSet}
+use Rattle.command_words.specs.declared.options.Key.TheVariants.{Every, Budget, Rate, Ram, Harts, Quantum, Seed, Image, Gnu, Flat, Graph, Elf, Hist, Hash, Blocks, Exact, Cut, Hide, Inclusive}
+use Rattle.command_words.specs.declared.options.Kind.{Kind}
+use Rattle.command_words.specs.declared.options.Kind.TheVariants.{Number, Fraction, Word, Flag}
+use Rattle.command_words.specs.declared.verbs.Verb.{Verb}
+use Rattle.command_words.specs.declared.items.Item.{Item}
+use Rattle.command_words.specs.declared.items.Item.TheVariants.{Operand, Given}
 use Rattle.command_words.specs.declared.items.Wanted.{Wanted}
-use Rattle.command_words.specs.declared.items.Wanted.TheVariants.{AnOption}
-use Rattle.command_words.specs.Items.{Item, Operand, Given, is_option, with_item, items_from, items_of_option, place_of, places, nth, place_given, nth_word, number_at, number_given, value_given, up_to}
-use Rattle.command_words.specs.Options.{option_of, kind_of, is_flag, most_times, number_of_kind}
+use Rattle.command_words.specs.declared.items.Wanted.TheVariants.{Operands, Values}
+use Rattle.command_words.specs.Items.{all_wanted, are_few, is_key, is_option, items_behind, items_from, items_from_value, items_of, operands, values, with_item}
+use Rattle.command_words.specs.Numbers.{fraction_from, fraction_within, in_limits, is_fraction, number_of, number_within}
+use Rattle.command_words.specs.Options.{IsNumberOf, all_keys, is_flag, key_number, kind_of, most_times, option_of, value_said}
+use Rattle.command_words.specs.Words.{given, setting}
 
--- what is found behind an item is what is found with it
-item_added : (wanted : Wanted) (skip : ℕ) (item : Item) (o : Option (List Item))
-    → option_map (λ items. nth skip (cons_option (place_of wanted item) (places wanted items))) o ≡ option_map (λ items. nth skip (places wanted items)) (with_item item o)
-item_added wanted skip item None = refl
-item_added wanted skip item (Some items) = refl
+-- ---- few items
 
-flag_items : (set : OptionSet) (i : ℕ) (key : Key) (items : Option (List Item)) (words : List (List ℕ)) → is_flag (kind_of key) ≡ true → items_of_option set i (Some key) items words ≡ with_item (Given key i) items
-flag_items set i key items [] flag = ap (λ (b : Bool). cond b (with_item (Given key i) items) None) flag
-flag_items set i key items (value ∷ words) flag = ap (λ (b : Bool). cond b (with_item (Given key i) items) (with_item (Given key (i + 1)) (items_from set (i + 2) words))) flag
+-- each option has its place in the table
+key_back : (key : Key) → get_or all_keys (key_number key) Every ≡ key
+key_back Every = refl
+key_back Budget = refl
+key_back Rate = refl
+key_back Ram = refl
+key_back Harts = refl
+key_back Quantum = refl
+key_back Seed = refl
+key_back Image = refl
+key_back Gnu = refl
+key_back Flat = refl
+key_back Graph = refl
+key_back Elf = refl
+key_back Hist = refl
+key_back Hash = refl
+key_back Blocks = refl
+key_back Exact = refl
+key_back Cut = refl
+key_back Hide = refl
+key_back Inclusive = refl
 
--- a list is its first element and the others
-first_and_rest : {A : Type 0} (xs : List A) (x : A) → 1 ≤ length xs → x ≡ get_or xs 0 x → xs ≡ x ∷ take (length xs - 1) (drop 1 xs)
-first_and_rest [] x some is = absurd (omega arith)
-first_and_rest (y ∷ ys) x some is = let rest = take_all (suc (length ys) - 1) ys (omega arith) in cc
+same_key : (key other : Key) → is_key key other ≡ true → key ≡ other
+same_key key other is =
+    let same : key_number key ≡ key_number other = eqb-true (key_number key) (key_number other) is in
+    sym (key_back key) ∙ ap (λ (n : ℕ). get_or all_keys n Every) same ∙ key_back other
 
--- the words of a slice behind its first
-abbrev pub rest_of : {A : Type 0} → List A → List A
-rest_of xs = take (length xs - 1) (drop 1 xs)
+number_below : (key : Key) → key_number key < 19
+number_below Every = omega arith
+number_below Budget = omega arith
+number_below Rate = omega arith
+number_below Ram = omega arith
+number_below Harts = omega arith
+number_below Quantum = omega arith
+number_below Seed = omega arith
+number_below Image = omega arith
+number_below Gnu = omega arith
+number_below Flat = omega arith
+number_below Graph = omega arith
+number_below Elf = omega arith
+number_below Hist = omega arith
+number_below Hash = omega arith
+number_below Blocks = omega arith
+number_below Exact = omega arith
+number_below Cut = omega arith
+number_below Hide = omega arith
+number_below Inclusive = omega arith
 
-pub option_is : {A : Type 0} (text : A → List ℕ) (set : OptionSet) (i : ℕ) (words : List A) (word : A) (key : Key) → 1 ≤ length words → word ≡ get_or words 0 word → is_option (text word) ≡ true → option_of set (text word) ≡ Some key
-    → items_from set i (map text words) ≡ items_of_option set i (Some key) (items_from set (i + 1) (map text (rest_of words))) (map text (rest_of words))
-option_is {A} text set i words word key some first option is =
-    let rest = map text (rest_of words) in
-    ap (λ (ws : List A). items_from set i (map text ws)) (first_and_rest words word some first)
-    ∙ ap (λ (b : Bool). cond b (items_of_option set i (option_of set (text word)) (items_from set (i + 1) rest) rest) (with_item (Operand i) (items_from set (i + 1) rest))) option
-    ∙ ap (λ (o : Option Key). items_of_option set i o (items_from set (i + 1) rest) rest) is
+each_passes : {A : Type 0} (p : A → Bool) (xs : List A) (i : ℕ) (d : A) → list_all p xs ≡ true → i < length xs → p (get_or xs i d) ≡ true
+each_passes p [] i d all within = absurd (omega arith)
+each_passes p (x ∷ xs) zero d all within = (and_parts (p x) (list_all p xs) all).0
+each_passes p (x ∷ xs) (suc i) d all within = each_passes p xs i d (and_parts (p x) (list_all p xs) all).1 (omega arith)
 
-pub find_flag : {A : Type 0} (text : A → List ℕ) (set : OptionSet) (i : ℕ) (wanted : Wanted) (skip : ℕ) (words : List A) (word : A) (key : Key) → 1 ≤ length words → word ≡ get_or words 0 word → is_option (text word) ≡ true
-    → option_of set (text word) ≡ Some key → is_flag (kind_of key) ≡ true
-    → option_map (λ items. nth skip (cons_option (place_of wanted (Given key i)) (places wanted items))) (items_from set (i + 1) (map text (rest_of words))) ≡ option_map (λ items. nth skip (places wanted items)) (items_from set i (map text words))
-find_flag text set i wanted skip words word key some first option is flag =
-    item_added wanted skip (Given key i) (items_from set (i + 1) (map text (rest_of words)))
-    ∙ ap (λ (o : Option (List Item)). option_map (λ items. nth skip (places wanted items)) o)
-    (sym (option_is text set i words word key some first option is ∙ flag_items set i key (items_from set (i + 1) (map text (rest_of words))) (map text (rest_of words)) flag))
+pub few_operands : (items : List Item) → are_few items ≡ true → length (all_wanted Operands items) ≤ 18
+few_operands items few = let within = leb-true (length (operands items)) 17 (and_parts (nat_le (length (operands items)) 17) _ few).0 in omega (arith, within)
 
-pub find_valued : {A : Type 0} (text : A → List ℕ) (set : OptionSet) (i : ℕ) (wanted : Wanted) (skip : ℕ) (words : List A) (word value : A) (key : Key) → 1 ≤ length words → word ≡ get_or words 0 word → is_option (text word) ≡ true
-    → option_of set (text word) ≡ Some key → is_flag (kind_of key) ≡ false → 1 ≤ length (rest_of words)
-    → option_map (λ items. nth skip (cons_option (place_of wanted (Given key (i + 1))) (places wanted items))) (items_from set (i + 2) (map text (rest_of (rest_of words))))
-    ≡ option_map (λ items. nth skip (places wanted items)) (items_from set i (map text words))
-find_valued {A} text set i wanted skip words word value key some first option is flag more =
-    item_added wanted skip (Given key (i + 1)) (items_from set (i + 2) (map text (rest_of (rest_of words))))
-    ∙ ap (λ (o : Option (List Item)). option_map (λ items. nth skip (places wanted items)) o)
-    (sym (option_is text set i words word key some first option is ∙ valued (rest_of words) more))
+few_times : (key : Key) → most_times key ≤ 18
+few_times Every = omega arith
+few_times Budget = omega arith
+few_times Rate = omega arith
+few_times Ram = omega arith
+few_times Harts = omega arith
+few_times Quantum = omega arith
+few_times Seed = omega arith
+few_times Image = omega arith
+few_times Gnu = omega arith
+few_times Flat = omega arith
+few_times Graph = omega arith
+few_times Elf = omega arith
+few_times Hist = omega arith
+few_times Hash = omega arith
+few_times Blocks = omega arith
+few_times Exact = omega arith
+few_times Cut = omega arith
+few_times Hide = omega arith
+few_times Inclusive = omega arith
+
+pub few_values : (key : Key) (items : List Item) → are_few items ≡ true → length (all_wanted (Values key) items) ≤ 18
+few_values key items few =
+    let test = λ (k : Key). nat_le (length (values k items)) (most_times k) in
+    let all = (and_parts (nat_le (length (operands items)) 17) (list_all test all_keys) few).1 in
+    let passes = each_passes test all_keys (key_number key) Every all (number_below key) in
+    let here : test key ≡ true = subst (λ (k : Key). test k ≡ true) (key_back key) passes in
+    let within = leb-true (length (values key items)) (most_times key) here in
+    omega (arith, within, few_times key)
+
+-- ---- one item after the other
+
+module _ {X : Type 0} (h : X → Option ℕ) where
+  pub some_more : (xs : List X) (i : ℕ) (d : X) (n : ℕ) → i < length xs → h (get_or xs i d) ≡ Some n → filter_map h (take (i + 1) xs) ≡ filter_map h (take i xs) ++ n ∷ []
+  some_more xs i d n within here =
+      ap (filter_map h) (take_more xs i d within) ∙ filter_map-append h (take i xs) (get_or xs i d ∷ [])
+      ∙ ap (λ (o : Option ℕ). filter_map h (take i xs) ++ cons_option o []) here
+
+  pub none_more : (xs : List X) (i : ℕ) (d : X) → i < length xs → h (get_or xs i d) ≡ None → filter_map h (take (i + 1) xs) ≡ filter_map h (take i xs)
+  none_more xs i d within here =
+      ap (filter_map h) (take_more xs i d within) ∙ filter_map-append h (take i xs) (get_or xs i d ∷ [])
+      ∙ ap (λ (o : Option ℕ). filter_map h (take i xs) ++ cons_option o []) here ∙ append-nil (filter_map h (take i xs))
+
+  -- what all give is what the first give, and what those behind them give
+  all_give : (xs : List X) (i : ℕ) → filter_map h xs ≡ filter_map h (take i xs) ++ filter_map h (drop i xs)
+  all_give xs i = ap (filter_map h) (sym (take-append-drop i xs)) ∙ filter_map-append h (take i xs) (drop i xs)
+
+  pub below_all : (xs : List X) (i : ℕ) (d : X) (n : ℕ) → i < length xs → h (get_or xs i d) ≡ Some n → length (filter_map h (take i xs)) < length (filter_map h xs)
+  below_all xs i d n within here =
+      let more = ap length (some_more xs i d n within here) ∙ length-append (filter_map h (take i xs)) (n ∷ []) in
+      let all = ap length (all_give xs (i + 1)) ∙ length-append (filter_map h (take (i + 1) xs)) (filter_map h (drop (i + 1) xs)) in
+      omega (arith, more, all)
+
+  pub first_value : (xs : List X) (i : ℕ) (d : X) (n : ℕ) → i < length xs → h (get_or xs i d) ≡ Some n → filter_map h (take i xs) ≡ [] → slice_get (filter_map h xs) 0 ≡ Some n
+  first_value xs i d n within here none =
+      let first = some_more xs i d n within here ∙ ap (λ (ns : List ℕ). ns ++ n ∷ []) none in
+      ap (λ (ns : List ℕ). slice_get ns 0) (all_give xs (i + 1) ∙ ap (λ (ns : List ℕ). ns ++ filter_map h (drop (i + 1) xs)) first)
+
+-- ---- what is read
+
+-- what holds of no items, and of an item more, wherever it stands among the words, holds of all that is read
+module _ (verb : Verb) (P : ℕ → List Item → Type 0)
+    (none : (i : ℕ) → P i [])
+    (operand : (i : ℕ) (items : List Item) → P (i + 1) items → P i (Operand i ∷ items))
+    (flag : (key : Key) (i : ℕ) (items : List Item) → is_flag (kind_of key) ≡ true → P (i + 1) items → P i (Given key i ∷ items))
+    (value : (key : Key) (i n : ℕ) (word : List ℕ) (items : List Item) → value_said (kind_of key) i word ≡ Some n → P (i + 1) items → P i (Given key n ∷ items))
+    (later : (i : ℕ) (items : List Item) → P (i + 1) items → P i items) where
+  abbrev Holds : ℕ → Option (List Item) → Type 0
+  Holds i o = (items : List Item) → o ≡ Some items → P i items
+
+  with_one : (i : ℕ) (item : Item) (o : Option (List Item)) → ((items : List Item) → P (i + 1) items → P i (item ∷ items)) → Holds (i + 1) o → Holds i (with_item item o)
+  with_one i item None more behind items is = absurd cc
+  with_one i item (Some rest) more behind items is =
+      let same : item ∷ rest ≡ items = cc in
+      subst (P i) same (more rest (behind rest refl))
+
+  of_option : (i : ℕ) (o : Option Key) (words : List (List ℕ)) → Holds (i + 1) (items_from verb (i + 1) words) → ((key : Key) → Holds (i + 1) (items_from_value verb key (i + 1) words))
+      → Holds i (option_and_then (λ key. if is_flag (kind_of key) then with_item (Given key i) (items_from verb (i + 1) words) else items_from_value verb key (i + 1) words) o)
+  of_option i None words behind valued items is = absurd cc
+  of_option i (Some key) words behind valued items is = by (is_flag (kind_of key)) refl is
+    where
+      by : (b : Bool) → is_flag (kind_of key) ≡ b → (if b then with_item (Given key i) (items_from verb (i + 1) words) else items_from_value verb key (i + 1) words) ≡ Some items → P i items
+      by true alone is = with_one i (Given key i) (items_from verb (i + 1) words) (λ rest holds. flag key i rest alone holds) behind items is
+      by false alone is = later i items (valued key items is)
+
+  of_word : (i : ℕ) (word : List ℕ) (words : List (List ℕ)) → Holds (i + 1) (items_from verb (i + 1) words) → ((key : Key) → Holds (i + 1) (items_from_value verb key (i + 1) words)) → Holds i (items_from verb i (word ∷ words))
+  of_word i word words behind valued items is = by (is_option word) is
+    where
+      by : (b : Bool) → (if b then option_and_then (λ key. if is_flag (kind_of key) then with_item (Given key i) (items_from verb (i + 1) words) else items_from_value verb key (i + 1) words) (option_of verb word)
+          else with_item (Operand i) (items_from verb (i + 1) words)) ≡ Some items → P i items
+      by true is = of_option i (option_of verb word) words behind valued items is
+      by false is = with_one i (Operand i) (items_from verb (i + 1) words) (λ rest holds. operand i rest holds) behind items is
+
+  of_value : (key : Key) (i : ℕ) (word : List ℕ) (words : List (List ℕ)) → Holds (i + 1) (items_from verb (i + 1) words) → Holds i (items_from_value verb key i (word ∷ words))
+  of_value key i word words behind items is = by (value_said (kind_of key) i word) refl is
+    where
+      by : (o : Option ℕ) → value_said (kind_of key) i word ≡ o → option_and_then (λ value. with_item (Given key value) (items_from verb (i + 1) words)) o ≡ Some items → P i items
+      by None reads is = absurd cc
+      by (Some n) reads is = with_one i (Given key n) (items_from verb (i + 1) words) (λ rest holds. value key i n word rest reads holds) behind items is
+
+  mutual
+    pub of_items : (i : ℕ) (words : List (List ℕ)) → Holds i (items_from verb i words)
+    of_items i [] items is = let same : [] ≡ items = cc in subst (P i) same (none i)
+    of_items i (word ∷ words) items is = of_word i word words (of_items (i + 1) words) (λ key. of_values key (i + 1) words) items is
+
+    of_values : (key : Key) (i : ℕ) (words : List (List ℕ)) → Holds i (items_from_value verb key i words)
+    of_values key i [] items is = absurd cc
+    of_values key i (word ∷ words) items is = of_value key i word words (of_items (i + 1) words) items is
+
+-- ---- numbers are within their limits
+
+pub limited : (low high : ℕ) (o : Option ℕ) (n : ℕ) → option_and_then (in_limits low high) o ≡ Some n → (low ≤ n) × (n ≤ high)
+limited low high None n is = absurd cc
+limited low high (Some k) n is = by (nat_le low k) (nat_le k high) refl refl is
   where
-    valued : (ws : List A) → 1 ≤ length ws → items_of_option set i (Some key) (items_from set (i + 1) (map text ws)) (map text ws) ≡ with_item (Given key (i + 1)) (items_from set (i + 2) (map text (rest_of ws)))
-    valued [] none = absurd (omega arith)
-    valued (v ∷ ws) some =
-        ap (λ (b : Bool). cond b (with_item (Given key i) (items_from set (i + 1) (map text (v ∷ ws)))) (with_item (Given key (i + 1)) (items_from set (i + 2) (map text ws)))) flag
-        ∙ ap (λ (xs : List A). with_item (Given key (i + 1)) (items_from set (i + 2) (map text xs))) (sym (take_all (suc (length ws) - 1) ws (omega arith)))
+    by : (a b : Bool) → nat_le low k ≡ a → nat_le k high ≡ b → (if a && b then Some k else None) ≡ Some n → (low ≤ n) × (n ≤ high)
+    by true true from to is = let same : k ≡ n = cc in subst (λ (m : ℕ). (low ≤ m) × (m ≤ high)) same (leb-true low k from, leb-true k high to)
+    by true false from to is = absurd cc
+    by false b from to is = absurd cc
 
--- the first of them was found
-pub first_found : (o : Option (List Item)) (wanted : Wanted) (place : ℕ) (x : Option ℕ) → option_map (λ items. nth 0 (places wanted items)) o ≡ Some x → option_map (λ items. nth 0 (place ∷ places wanted items)) o ≡ Some (Some place)
-first_found None wanted place x e = absurd cc
-first_found (Some items) wanted place x e = refl
+fraction_is : (o : Option ℕ) (n : ℕ) → fraction_from o ≡ Some n → IsNumberOf Fraction n
+fraction_is None n is = absurd cc
+fraction_is (Some k) n is = by (eqb k 2) (eqb k 4) (eqb k 8) (eqb k 16) refl refl refl refl is
+  where
+    by : (a b c d : Bool) → eqb k 2 ≡ a → eqb k 4 ≡ b → eqb k 8 ≡ c → eqb k 16 ≡ d → (if a || (b || (c || d)) then Some k else None) ≡ Some n → IsNumberOf Fraction n
+    by true b c d p q r s is = let same : k ≡ n = cc in subst (IsNumberOf Fraction) same (inl (eqb-true k 2 p))
+    by false true c d p q r s is = let same : k ≡ n = cc in subst (IsNumberOf Fraction) same (inr (inl (eqb-true k 4 q)))
+    by false false true d p q r s is = let same : k ≡ n = cc in subst (IsNumberOf Fraction) same (inr (inr (inl (eqb-true k 8 r))))
+    by false false false true p q r s is = let same : k ≡ n = cc in subst (IsNumberOf Fraction) same (inr (inr (inr (eqb-true k 16 s))))
+    by false false false false p q r s is = absurd cc
 
-not_zero : (n : ℕ) → 1 ≤ n → eqb n 0 ≡ false
-not_zero n some = grind (arith, nat_tests)
+value_is : (kind : Kind) (i n : ℕ) (word : List ℕ) → value_said kind i word ≡ Some n → IsNumberOf kind n
+value_is (Number least most) i n word is = limited least most (number_of word) n is
+value_is Fraction i n word is = fraction_is (number_within 2 16 word) n is
+value_is Word i n word is = tt
+value_is Flag i n word is = tt
 
-is_zero : (n : ℕ) → ((n ≡ 0) × (eqb n 0 ≡ true)) ⊎ ((1 ≤ n) × (eqb n 0 ≡ false))
-is_zero zero = inl (refl, refl)
-is_zero (suc n) = inr (omega arith, not_zero (suc n) (omega arith))
+flag_is : (kind : Kind) (n : ℕ) → is_flag kind ≡ true → IsNumberOf kind n
+flag_is (Number least most) n is = absurd cc
+flag_is Fraction n is = absurd cc
+flag_is Word n is = tt
+flag_is Flag n is = tt
 
-pub later : (skip place : ℕ) (xs : List ℕ) → 1 ≤ skip → nth skip (place ∷ xs) ≡ nth (skip - 1) xs
-later skip place xs some = ap (λ (b : Bool). cond b (Some place) (nth (skip - 1) xs)) (not_zero skip some)
+-- what is given to each option is what it may have
+pub record AreValues (items : List Item) : Type 0 where
+  pub each : (key : Key) → AllByRecursion (λ n. IsNumberOf (kind_of key) n) (values key items)
 
-pub later_found : (o : Option (List Item)) (wanted : Wanted) (skip place : ℕ) → 1 ≤ skip → option_map (λ items. nth (skip - 1) (places wanted items)) o ≡ option_map (λ items. nth skip (place ∷ places wanted items)) o
-later_found None wanted skip place some = refl
-later_found (Some items) wanted skip place some = ap (λ (x : Option ℕ). Some x) (sym (later skip place (places wanted items) some))
+no_values : AreValues []
+no_values = record { each = λ key. tt }
 
--- words that can't be read
-pub none_as : {X : Type 0} (f g : List Item → X) (o : Option (List Item)) → option_map f o ≡ None → option_map g o ≡ None
-none_as f g None e = refl
-none_as f g (Some items) e = absurd cc
+one_more : (other : Key) (n : ℕ) (items : List Item) → IsNumberOf (kind_of other) n → AreValues items → AreValues (Given other n ∷ items)
+one_more other n items is rest = record { each = λ key. by key (is_key key other) refl }
+  where
+    by : (key : Key) (b : Bool) → is_key key other ≡ b → AllByRecursion (λ m. IsNumberOf (kind_of key) m) (cons_option (if b then Some n else None) (values key items))
+    by key true same = (subst (λ (k : Key). IsNumberOf (kind_of k) n) (sym (same_key key other same)) is, rest.each key)
+    by key false same = rest.each key
 
-pub none_so : {X Y : Type 0} (f : List Item → X) (g : List Item → Option Y) (o : Option (List Item)) → option_map f o ≡ None → option_and_then g o ≡ None
-none_so f g None e = refl
-none_so f g (Some items) e = absurd cc
+pub values_read : (verb : Verb) (i : ℕ) (words : List (List ℕ)) (items : List Item) → items_from verb i words ≡ Some items → AreValues items
+values_read verb i words items is =
+    of_items verb (λ i items. AreValues items) (λ i. no_values)
+    (λ i rest holds. record { each = holds.each })
+    (λ key i rest alone holds. one_more key i rest (flag_is (kind_of key) i alone) holds)
+    (λ key i n word rest reads holds. one_more key n rest (value_is (kind_of key) i n word reads) holds)
+    (λ i rest holds. holds) i words items is
 
--- there are more than k, exactly where there is one behind the first k
-pub nth_none : (k : ℕ) (xs : List ℕ) → nth k xs ≡ None → length xs ≤ k
-nth_none k [] e = omega arith
-nth_none k (x ∷ xs) e = elim (is_zero k) [
-  | inl none ↦ absurd (cc (e, ap (λ (b : Bool). cond b (Some x) (nth (k - 1) xs)) none.1))
-  | inr some ↦ let rest = nth_none (k - 1) xs (sym (ap (λ (b : Bool). cond b (Some x) (nth (k - 1) xs)) some.1) ∙ e) in omega (arith, rest, some.0)
-]
+pub given_is : (key : Key) (items : List Item) → AreValues items → IfSome (given key items) (λ n. IsNumberOf (kind_of key) n)
+given_is key items are = by (values key items) (are.each key)
+  where
+    by : (ns : List ℕ) → AllByRecursion (λ n. IsNumberOf (kind_of key) n) ns → IfSome (slice_get ns 0) (λ n. IsNumberOf (kind_of key) n)
+    by [] all = tt
+    by (n ∷ ns) all = all.0
 
-pub nth_some : (k : ℕ) (xs : List ℕ) (y : ℕ) → nth k xs ≡ Some y → k < length xs
-nth_some k [] y e = absurd cc
-nth_some k (x ∷ xs) y e = elim (is_zero k) [
-  | inl none ↦ omega (arith, none.0)
-  | inr some ↦ let rest = nth_some (k - 1) xs y (sym (ap (λ (b : Bool). cond b (Some x) (nth (k - 1) xs)) some.1) ∙ e) in omega (arith, rest, some.0)
-]
-
--- an option that is given as often as it may be
-pub given_found : (key : Key) (o : Option (List Item)) (first : Option ℕ) → option_map (λ items. nth 0 (places (AnOption key) items)) o ≡ Some first
-    → option_map (λ items. nth (most_times key) (places (AnOption key) items)) o ≡ Some None → option_and_then (place_given key) o ≡ Some first
-given_found key None first e n = absurd cc
-given_found key (Some items) first e n =
-    let ps = places (AnOption key) items in
-    let a : nth 0 ps ≡ first = cc in
-    let few : length ps ≤ most_times key = nth_none (most_times key) ps cc in
-    ap (λ (b : Bool). cond b None (Some (nth 0 ps))) (le-ltb (most_times key) (length ps) few) ∙ ap (λ (x : Option ℕ). Some x) a
-
--- or more often
-pub given_too_often : (key : Key) (o : Option (List Item)) (next : ℕ) → option_map (λ items. nth (most_times key) (places (AnOption key) items)) o ≡ Some (Some next) → option_and_then (place_given key) o ≡ None
-given_too_often key None next e = absurd cc
-given_too_often key (Some items) next e =
-    let ps = places (AnOption key) items in
-    let many : most_times key < length ps = nth_some (most_times key) ps next cc in
-    ap (λ (b : Bool). cond b None (Some (nth 0 ps))) (lt-ltb (most_times key) (length ps) many)
-
--- a step and then another
-pub in_steps : {A B : Type 0} (f : List Item → Option A) (g : A → Option B) (o : Option (List Item)) → option_and_then (λ items. option_and_then g (f items)) o ≡ option_and_then g (option_and_then f o)
-in_steps f g None = refl
-in_steps f g (Some items) = refl
-
-pub number_found : (words : List (List ℕ)) (key : Key) (o : Option (List Item)) (place : Option (Option ℕ)) → option_and_then (place_given key) o ≡ place → option_and_then (number_given words key) o ≡ option_and_then (number_at words (kind_of key)) place
-number_found words key o place e = in_steps (place_given key) (number_at words (kind_of key)) o ∙ ap (option_and_then (number_at words (kind_of key))) e
-
--- the default where no number is given, and else the number
-pub setting_found : (words : List (List ℕ)) (key : Key) (default : ℕ) (o : Option (List Item)) (given : Option (Option ℕ)) → option_and_then (number_given words key) o ≡ given
-    → option_and_then (value_given words key default) o ≡ option_map (λ n. unwrap_or n default) given
-setting_found words key default None given e = ap (option_map (λ (n : Option ℕ). unwrap_or n default)) e
-setting_found words key default (Some items) given e = ap (option_map (λ (n : Option ℕ). unwrap_or n default)) e
-
-pub number_read : (words : List (List ℕ)) (key : Key) (o : Option (List Item)) (place : ℕ) (n : Option ℕ) → Some (Some place) ≡ option_and_then (place_given key) o
-    → n ≡ number_of_kind (kind_of key) (nth_word words place) → option_and_then (number_given words key) o ≡ option_map Some n
-number_read words key o place n is read =
-    number_found words key o (Some (Some place)) (sym is) ∙ ap (λ (m : Option ℕ). option_map Some m) (sym read)
-
--- ---- those from one on
-
-nth_at : (k : ℕ) (xs : List ℕ) (y : ℕ) → nth k xs ≡ Some y → get_or xs k y ≡ y
-nth_at k [] y e = absurd cc
-nth_at zero (x ∷ xs) y e = let same : x ≡ y = cc in same
-nth_at (suc k) (x ∷ xs) y e =
-    let some : 1 ≤ suc k = omega arith in
-    let same : suc k - 1 ≡ k = omega arith in
-    nth_at k xs y (ap (λ (j : ℕ). nth j xs) (sym same) ∙ sym (later (suc k) x xs some) ∙ e)
-
-module _ (wanted : Wanted) (first : ℕ) where
-  -- those behind the first ones
-  abbrev behind : List Item → List ℕ
-  behind items = drop first (places wanted items)
-
-  pub place_more : (n place : ℕ) (o : Option (List Item)) (found : List ℕ) → option_map (λ items. nth (first + n) (places wanted items)) o ≡ Some (Some place)
-      → ((items : List Item) → o ≡ Some items → found ≡ take n (behind items))
-      → (items : List Item) → o ≡ Some items → found ++ place ∷ [] ≡ take (n + 1) (behind items)
-  place_more n place o found here so_far items is =
-      let ps = places wanted items in
-      let at : nth (first + n) ps ≡ Some place = let f = sym (ap (option_map (λ items. nth (first + n) (places wanted items))) is) ∙ here in cc in
-      let below = nth_some (first + n) ps place at in
-      let within : n < length (drop first ps) = omega (arith, below, length-drop first ps) in
-      ap (λ (xs : List ℕ). xs ++ place ∷ []) (so_far items is)
-      ∙ ap (λ (x : ℕ). take n (drop first ps) ++ x ∷ []) (sym (get_or-drop first ps n place ∙ nth_at (first + n) ps place at))
-      ∙ sym (take_more (drop first ps) n place within)
-
-  pub places_end : (n most : ℕ) (o : Option (List Item)) (found : List ℕ) → n ≤ most → option_map (λ items. nth (first + n) (places wanted items)) o ≡ Some None
-      → ((items : List Item) → o ≡ Some items → found ≡ take n (behind items))
-      → Some found ≡ option_and_then (λ items. up_to most (behind items)) o
-  places_end n most None found within here so_far = absurd cc
-  places_end n most (Some items) found within here so_far =
-      let ps = places wanted items in
-      let none : nth (first + n) ps ≡ None = cc in
-      let few = nth_none (first + n) ps none in
-      let short : length (drop first ps) ≤ n = omega (arith, few, length-drop first ps) in
-      ap (λ (xs : List ℕ). Some xs) (so_far items refl ∙ take_all n (drop first ps) short)
-      ∙ sym (ap (λ (b : Bool). cond b None (Some (drop first ps))) (le-ltb most (length (drop first ps)) (omega (arith, short, within))))
-
-  pub places_many : (most place : ℕ) (o : Option (List Item)) → option_map (λ items. nth (first + most) (places wanted items)) o ≡ Some (Some place)
-      → None ≡ option_and_then (λ items. up_to most (behind items)) o
-  places_many most place None here = absurd cc
-  places_many most place (Some items) here =
-      let ps = places wanted items in
-      let at : nth (first + most) ps ≡ Some place = cc in
-      let many = nth_some (first + most) ps place at in
-      let above : most < length (drop first ps) = omega (arith, many, length-drop first ps) in
-      sym (ap (λ (b : Bool). cond b None (Some (drop first ps))) (lt-ltb most (length (drop first ps)) above))
+pub setting_is : (key : Key) (default : ℕ) (items : List Item) → AreValues items → IsNumberOf (kind_of key) default → IsNumberOf (kind_of key) (setting key default items)
+setting_is key default items are is = by (given key items) (given_is key items are)
+  where
+    by : (o : Option ℕ) → IfSome o (λ n. IsNumberOf (kind_of key) n) → IsNumberOf (kind_of key) (unwrap_or o default)
+    by None holds = is
+    by (Some n) holds = holds

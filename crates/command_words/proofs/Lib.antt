@@ -1,5 +1,4 @@
 pub mod Numerals
 pub mod ItemLemmas
-pub mod WordLemmas
 pub mod PlaceLemmas
-pub mod LineLengths
+pub mod WordLemmas

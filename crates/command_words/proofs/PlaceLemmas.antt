@@ -1,21 +1,26 @@
--- Input files among the operands, which stand in the order of their words.
-use Rattle.std.proofs.Common.{◌≡◌, ℕ, zero, suc, ◌+◌, ◌<◌, ◌≤◌, Bool, true, false, cond, ◌&&◌, List, [], ◌∷◌, length, drop, Option, Some, None, map, string_bytes, Global, String, refl, sym, ap, subst, ◌∙◌, arith}
+-- Input files among the operands, which stand in the order of their words, and what holds of each command.
+use Rattle.std.proofs.Common.{◌≡◌, ℕ, zero, suc, ◌+◌, ◌<◌, ◌≤◌, Bool, true, false, ◌&&◌, inl, inr, List, [], ◌∷◌, length, drop, Option, Some, None, map, string_bytes, Global, String, refl, sym, ap, subst, ◌∙◌, arith}
 use Rattle.std.specs.Prelude.{IfSome, nat_lt, nat_le, if◌then◌else◌}
 use Rattle.std.specs.List.{All, AllByRecursion}
+use Rattle.std.specs.Option.{option_map, option_and_then}
 use Rattle.std.proofs.lemmas.List.Elements.{All-from_recursion}
 use Rattle.arc_filter.specs.Cuts.{is_cut_word}
-use Rattle.std.specs.Option.{option_map, option_and_then}
-use Rattle.command_words.specs.declared.options.Key.{Key}
-use Rattle.command_words.specs.declared.options.OptionSet.{OptionSet}
-use Rattle.command_words.specs.declared.items.Wanted.TheVariants.{AnOperand}
-use Rattle.command_words.specs.Items.{Item, Operand, Given, is_option, with_item, items_from, items_of_option, nth_word, words_at, places, up_to}
-use Rattle.command_words.specs.Options.{option_of, kind_of, is_flag}
+use Rattle.prof_machine.specs.declared.setup.Plan.{Plan}
+use Rattle.prof_machine.specs.declared.setup.Setup.{Setup}
+use Rattle.prof_machine.specs.Setup.{IsSetup, plan_number}
+use Rattle.gp_base.specs.declared.records.Form.{Form}
+use Rattle.command_words.specs.declared.options.Key.TheVariants as keys
+use Rattle.command_words.specs.declared.items.Item.{Item}
+use Rattle.command_words.specs.declared.verbs.Verb.{Verb}
+use Rattle.command_words.specs.declared.verbs.Verb.TheVariants as verbs
 use Rattle.command_words.specs.declared.words.Command.{Command}
 use Rattle.command_words.specs.declared.words.Command.TheVariants.{Show, Syms, Run, Sum, Report, Profile, Demo, Annotate, Folded, Help, Version}
 use Rattle.command_words.specs.declared.words.Selection.{Selection}
-use Rattle.prof_machine.specs.declared.setup.Setup.{Setup}
-use Rattle.prof_machine.specs.Setup.{IsSetup}
-use Rattle.command_words.specs.Words.{annotate_from, are_cuts, demo_from, few, folded_from, form_asked, may_count, operand_places, profile_from, report_from, run_from, sum_from, AreCuts, AreRising, IsCommandOf}
+use Rattle.command_words.specs.Items.{are_few, items_from, items_of, nth_word, operands, values, words_at}
+use Rattle.command_words.specs.Numbers.{number_of, number_within}
+use Rattle.command_words.specs.Verbs.{verb_named}
+use Rattle.command_words.specs.Words.{are_cuts, command_by, command_of, few, form_asked, given, is_given, may_count, plan_asked, selection_of, setting, setup_of, shown_asked, written_setup, AreCuts, AreRising, IsCommandOf, IsRunSetup}
+use Rattle.command_words.proofs.ItemLemmas.{AreValues, given_is, limited, of_items, setting_is, values_read}
 
 -- they stand from i on, each behind those before it
 pub record IsOrdered (i : ℕ) (ps : List ℕ) : Type 0 where
@@ -30,92 +35,24 @@ stricter : (i : ℕ) (ps : List ℕ) → AllByRecursion (λ p. i + 1 ≤ p) ps �
 stricter i [] all = tt
 stricter i (p ∷ ps) all = (omega (arith, all.0), stricter i ps all.1)
 
-with_some : (item : Item) (o : Option (List Item)) (items : List Item) → with_item item o ≡ Some items → (more : List Item) × (o ≡ Some more) × (item ∷ more ≡ items)
-with_some item None items e = absurd cc
-with_some item (Some more) items e = let same : item ∷ more ≡ items = cc in (more, refl, same)
+one_later : (i : ℕ) (ps : List ℕ) → IsOrdered (i + 1) ps → IsOrdered i ps
+one_later i ps is = record { from = weaker i (i + 1) ps (omega arith) is.from; rising = is.rising }
 
-module _ (i : ℕ) where
-  -- the items behind the first
-  abbrev AreBehind : Option (List Item) → Type 0
-  AreBehind o = (more : List Item) → o ≡ Some more → IsOrdered (i + 1) (places AnOperand more)
-
-  operand_first : (o : Option (List Item)) (items : List Item) → AreBehind o → with_item (Operand i) o ≡ Some items → IsOrdered i (places AnOperand items)
-  operand_first o items behind e =
-      let w = with_some (Operand i) o items e in
-      let rest = behind w.0 w.1 in
-      let ps = places AnOperand w.0 in
-      subst (λ (items : List Item). IsOrdered i (places AnOperand items)) w.2 (record {
-        from = (omega arith, weaker i (i + 1) ps (omega arith) rest.from);
-        rising = (stricter i ps rest.from, rest.rising);
-      })
-
-  option_first : (key : Key) (j : ℕ) (o : Option (List Item)) (items : List Item) → AreBehind o → with_item (Given key j) o ≡ Some items → IsOrdered i (places AnOperand items)
-  option_first key j o items behind e =
-      let w = with_some (Given key j) o items e in
-      let rest = behind w.0 w.1 in
-      subst (λ (items : List Item). IsOrdered i (places AnOperand items)) w.2 (record {
-        from = weaker i (i + 1) (places AnOperand w.0) (omega arith) rest.from;
-        rising = rest.rising;
-      })
-
-  module _ (set : OptionSet) where
-    by_option : (o : Option Key) (rest : Option (List Item)) (words : List (List ℕ)) (items : List Item) → AreBehind rest
-        → ((value : List ℕ) (ws : List (List ℕ)) → words ≡ value ∷ ws → AreBehind (items_from set (i + 2) ws))
-        → items_of_option set i o rest words ≡ Some items → IsOrdered i (places AnOperand items)
-    by_option None rest words items first second e = absurd cc
-    by_option (Some key) rest [] items first second e = flag (is_flag (kind_of key)) e
-      where
-        flag : (b : Bool) → cond b (with_item (Given key i) rest) None ≡ Some items → IsOrdered i (places AnOperand items)
-        flag true e = option_first key i rest items first e
-        flag false e = absurd cc
-    by_option (Some key) rest (value ∷ ws) items first second e = flag (is_flag (kind_of key)) e
-      where
-        flag : (b : Bool) → cond b (with_item (Given key i) rest) (with_item (Given key (i + 1)) (items_from set (i + 2) ws)) ≡ Some items → IsOrdered i (places AnOperand items)
-        flag true e = option_first key i rest items first e
-        flag false e = option_first key (i + 1) (items_from set (i + 2) ws) items (second value ws refl) e
-
-    by_word : (word : List ℕ) (words : List (List ℕ)) (items : List Item) → AreBehind (items_from set (i + 1) words)
-        → ((value : List ℕ) (ws : List (List ℕ)) → words ≡ value ∷ ws → AreBehind (items_from set (i + 2) ws))
-        → items_from set i (word ∷ words) ≡ Some items → IsOrdered i (places AnOperand items)
-    by_word word words items first second e = go (is_option word) e
-      where
-        go : (b : Bool) → cond b (items_of_option set i (option_of set word) (items_from set (i + 1) words) words) (with_item (Operand i) (items_from set (i + 1) words)) ≡ Some items → IsOrdered i (places AnOperand items)
-        go true e = by_option (option_of set word) (items_from set (i + 1) words) words items first second e
-        go false e = operand_first (items_from set (i + 1) words) items first e
-
-items_ordered : (set : OptionSet) (i : ℕ) (words : List (List ℕ)) (items : List Item) → items_from set i words ≡ Some items → IsOrdered i (places AnOperand items)
-items_ordered set i [] items e =
-    let same : [] ≡ items = cc in
-    subst (λ (items : List Item). IsOrdered i (places AnOperand items)) same (record { from = tt; rising = tt })
-items_ordered set i (word ∷ []) items e =
-    by_word i set word [] items (λ more h. items_ordered set (i + 1) [] more h) (λ value ws is. absurd cc) e
-items_ordered set i (word ∷ value ∷ words) items e =
-    by_word i set word (value ∷ words) items (λ more h. items_ordered set (i + 1) (value ∷ words) more h)
-    (λ v ws is more h.
-    let same : ws ≡ words = cc in
-    let later = items_ordered set (i + 2) words more (subst (λ (xs : List (List ℕ)). items_from set (i + 2) xs ≡ Some more) same h) in
-    record { from = weaker (i + 1) (i + 2) (places AnOperand more) (omega arith) later.from; rising = later.rising })
-    e
+operands_ordered : (verb : Verb) (i : ℕ) (words : List (List ℕ)) (items : List Item) → items_from verb i words ≡ Some items → IsOrdered i (operands items)
+operands_ordered verb =
+    of_items verb (λ i items. IsOrdered i (operands items)) (λ i. record { from = tt; rising = tt })
+    (λ i items is. record { from = (omega arith, (one_later i (operands items) is).from); rising = (stricter i (operands items) is.from, is.rising) })
+    (λ key i items alone is. one_later i (operands items) is)
+    (λ key i n word items reads is. one_later i (operands items) is)
+    (λ i items is. one_later i (operands items) is)
 
 pub rising_drop : (n : ℕ) (ps : List ℕ) → AreRising ps → AreRising (drop n ps)
 rising_drop zero ps rising = rising
 rising_drop (suc n) [] rising = tt
 rising_drop (suc n) (p ∷ ps) rising = rising_drop n ps rising.1
 
--- the operands stand in order
-pub rising_operands : (set : OptionSet) (words : List (List ℕ)) (r : Option (List ℕ)) → r ≡ option_and_then (λ items. up_to 18 (operand_places items)) (items_from set 0 words) → IfSome r AreRising
-rising_operands set words r e = subst (λ (o : Option (List ℕ)). IfSome o AreRising) (sym e) (by (items_from set 0 words) refl)
-  where
-    within : (ps : List ℕ) (b : Bool) → AreRising ps → IfSome (cond b None (Some ps)) AreRising
-    within ps true rising = tt
-    within ps false rising = rising
-
-    by : (o : Option (List Item)) → items_from set 0 words ≡ o → IfSome (option_and_then (λ items. up_to 18 (operand_places items)) o) AreRising
-    by None is = tt
-    by (Some items) is = within (operand_places items) (nat_lt 18 (length (operand_places items))) (items_ordered set 0 words items is).rising
-
-few_rising : (files : List ℕ) (P : List ℕ → Type 0) → P files → IfSome (few files) P
-few_rising files P holds = by (nat_lt 0 (length files) && nat_le (length files) 16)
+few_hold : (files : List ℕ) (P : List ℕ → Type 0) → P files → IfSome (few files) P
+few_hold files P holds = by (nat_lt 0 (length files) && nat_le (length files) 16)
   where
     by : (b : Bool) → IfSome (if b then Some files else None) P
     by true = holds
@@ -125,73 +62,155 @@ mapped : {A B : Type 0} (f : A → B) (P : B → Type 0) (o : Option A) → IfSo
 mapped f P None holds = tt
 mapped f P (Some a) holds = holds
 
--- ---- what commands hold, by what they are made of
+-- ---- what holds of each command that words say
 
-module _ (words : List (List ℕ)) where
-  pub sum_holds : (operands : Option (List ℕ)) → IfSome operands AreRising → IfSome (sum_from operands) (IsCommandOf words)
-  sum_holds None rising = tt
-  sum_holds (Some []) rising = tt
-  sum_holds (Some (command ∷ [])) rising = tt
-  sum_holds (Some (command ∷ out ∷ gmons)) rising = mapped (Sum out) (IsCommandOf words) (few gmons) (few_rising gmons (λ files. AreRising files) rising.1.1)
+module _ (words : List (List ℕ)) (items : List Item) (are : AreValues items) where
+  plan_holds : (quantum seed : Option ℕ) → IfSome quantum (λ n. (1 ≤ n) × (n ≤ 2147483647)) → IfSome seed (λ n. (1 ≤ n) × (n ≤ 2147483647)) → IfSome (plan_asked quantum seed) (λ plan. 1 ≤ plan_number plan)
+  plan_holds None None q s = omega arith
+  plan_holds (Some quantum) None q s = q.0
+  plan_holds None (Some seed) q s = s.0
+  plan_holds (Some quantum) (Some seed) q s = tt
 
-  pub report_holds : (operands : Option (List ℕ)) (selection : Option Selection) → IfSome operands AreRising → IfSome selection (AreCuts words) → IfSome (report_from operands selection) (IsCommandOf words)
-  report_holds None selection rising cuts = tt
-  report_holds (Some []) selection rising cuts = tt
-  report_holds (Some (command ∷ [])) selection rising cuts = tt
-  report_holds (Some (command ∷ elf ∷ gmons)) None rising cuts = tt
-  report_holds (Some (command ∷ elf ∷ gmons)) (Some selection) rising cuts =
-      mapped (λ files. Report elf files selection) (IsCommandOf words) (few gmons) (few_rising gmons (λ files. AreRising (elf ∷ files) × AreCuts words selection) (rising.1, cuts))
-
-  pub annotate_holds : (operands : Option (List ℕ)) → IfSome operands AreRising → IfSome (annotate_from operands) (IsCommandOf words)
-  annotate_holds None rising = tt
-  annotate_holds (Some []) rising = tt
-  annotate_holds (Some (command ∷ [])) rising = tt
-  annotate_holds (Some (command ∷ elf ∷ gmons)) rising = mapped (Annotate elf) (IsCommandOf words) (few gmons) (few_rising gmons (λ files. AreRising (elf ∷ files)) rising.1)
-
-  pub run_holds : (operands : Option (List ℕ)) (gnu : Option Bool) (image : Option (Option ℕ)) (setup : Option Setup) → IfSome setup IsSetup → IfSome (run_from operands gnu image setup) (IsCommandOf words)
-  run_holds None gnu image setup is = tt
-  run_holds (Some []) gnu image setup is = tt
-  run_holds (Some (a ∷ [])) gnu image setup is = tt
-  run_holds (Some (a ∷ b ∷ [])) gnu image setup is = tt
-  run_holds (Some (a ∷ b ∷ c ∷ d ∷ ps)) gnu image setup is = tt
-  run_holds (Some (a ∷ b ∷ c ∷ [])) None image setup is = tt
-  run_holds (Some (a ∷ b ∷ c ∷ [])) (Some gnu) None setup is = tt
-  run_holds (Some (a ∷ b ∷ c ∷ [])) (Some gnu) (Some image) None is = tt
-  run_holds (Some (a ∷ b ∷ c ∷ [])) (Some gnu) (Some image) (Some setup) is = by (may_count (form_asked gnu) setup.blocks) refl
+  setup_holds : IfSome (setup_of items) IsSetup
+  setup_holds = by (plan_asked (given keys.Quantum items) (given keys.Seed items)) (plan_holds (given keys.Quantum items) (given keys.Seed items) (given_is keys.Quantum items are) (given_is keys.Seed items are))
     where
-      by : (x : Bool) → may_count (form_asked gnu) setup.blocks ≡ x → IfSome (if x then Some (Run b c (form_asked gnu) image setup) else None) (IsCommandOf words)
-      by true may = (is, may)
-      by false may = tt
+      by : (o : Option Plan) → IfSome o (λ plan. 1 ≤ plan_number plan) → IfSome (option_map (λ plan. record {
+        every = setting keys.Every 1000 items;
+        budget = setting keys.Budget 100000000 items;
+        rate = setting keys.Rate 100 items;
+        ram_mib = setting keys.Ram 64 items;
+        harts = setting keys.Harts 1 items;
+        plan = plan;
+        hist = setting keys.Hist 2 items;
+        hash = setting keys.Hash 2 items;
+        blocks = is_given keys.Blocks items;
+      }) o) IsSetup
+      by None is = tt
+      by (Some plan) is =
+          let every = setting_is keys.Every 1000 items are (omega arith, omega arith) in
+          let budget = setting_is keys.Budget 100000000 items are (omega arith, omega arith) in
+          let rate = setting_is keys.Rate 100 items are (omega arith, omega arith) in
+          let ram = setting_is keys.Ram 64 items are (omega arith, omega arith) in
+          let harts = setting_is keys.Harts 1 items are (omega arith, omega arith) in
+          record {
+            some_every = every.0;
+            every = every.1;
+            some_budget = budget.0;
+            budget = budget.1;
+            some_rate = rate.0;
+            rate = rate.1;
+            least_ram = ram.0;
+            most_ram = ram.1;
+            some_harts = harts.0;
+            most_harts = harts.1;
+            some_plan = is;
+            hist = setting_is keys.Hist 2 items are (inl refl);
+            hash = setting_is keys.Hash 2 items are (inl refl);
+          }
 
-  pub profile_holds : (run : Option Command) (selection : Option Selection) → IfSome run (IsCommandOf words) → IfSome selection (AreCuts words) → IfSome (profile_from run selection) (IsCommandOf words)
-  profile_holds None selection is cuts = tt
-  profile_holds (Some (Run elf gmon form image setup)) None is cuts = tt
-  profile_holds (Some (Run elf gmon form image setup)) (Some selection) is cuts = (is, cuts)
-  profile_holds (Some (Show gmon)) selection is cuts = tt
-  profile_holds (Some (Syms elf)) selection is cuts = tt
-  profile_holds (Some (Sum out gmons)) selection is cuts = tt
-  profile_holds (Some (Report elf gmons other)) selection is cuts = tt
-  profile_holds (Some (Profile elf gmon form image setup other)) selection is cuts = tt
-  profile_holds (Some (Demo functions elf setup)) selection is cuts = tt
-  profile_holds (Some (Annotate elf gmons)) selection is cuts = tt
-  profile_holds (Some (Folded elf inclusive setup)) selection is cuts = tt
-  profile_holds (Some Help) selection is cuts = tt
-  profile_holds (Some Version) selection is cuts = tt
+  written_holds : IfSome (written_setup items) (IsRunSetup (form_asked items))
+  written_holds = by (setup_of items) setup_holds
+    where
+      counted : (setup : Setup) (b : Bool) → may_count (form_asked items) setup.blocks ≡ b → IsSetup setup → IfSome (if b then Some setup else None) (IsRunSetup (form_asked items))
+      counted setup true may is = (is, may)
+      counted setup false may is = tt
 
-  pub folded_holds : (operands : Option (List ℕ)) (inclusive : Option Bool) (setup : Option Setup) → IfSome setup IsSetup → IfSome (folded_from operands inclusive setup) (IsCommandOf words)
-  folded_holds None inclusive setup is = tt
-  folded_holds (Some []) inclusive setup is = tt
-  folded_holds (Some (a ∷ [])) inclusive setup is = tt
-  folded_holds (Some (a ∷ b ∷ c ∷ ps)) inclusive setup is = tt
-  folded_holds (Some (a ∷ b ∷ [])) None setup is = tt
-  folded_holds (Some (a ∷ b ∷ [])) (Some inclusive) None is = tt
-  folded_holds (Some (a ∷ b ∷ [])) (Some inclusive) (Some setup) is = is
+      by : (o : Option Setup) → IfSome o IsSetup → IfSome (option_and_then (λ (setup : Setup). if may_count (form_asked items) setup.blocks then Some setup else None) o) (IsRunSetup (form_asked items))
+      by None is = tt
+      by (Some setup) is = counted setup (may_count (form_asked items) setup.blocks) refl is
 
-  pub demo_holds : (functions : Option ℕ) (elf : Option (Option ℕ)) (setup : Option Setup) → IfSome functions (λ n. (1 ≤ n) × (n ≤ 2000)) → IfSome setup IsSetup → IfSome (demo_from functions elf setup) (IsCommandOf words)
-  demo_holds None elf setup numbers is = tt
-  demo_holds (Some n) None setup numbers is = tt
-  demo_holds (Some n) (Some elf) None numbers is = tt
-  demo_holds (Some n) (Some elf) (Some setup) numbers is = (numbers.0, numbers.1, is)
+  selection_holds : IfSome (selection_of words items) (AreCuts words)
+  selection_holds = by (are_cuts words (values keys.Cut items)) refl
+    where
+      by : (b : Bool) → are_cuts words (values keys.Cut items) ≡ b → IfSome (if b then Some (record {
+        shown = shown_asked items;
+        exact = is_given keys.Exact items;
+        cuts = values keys.Cut items;
+        hidden = values keys.Hide items;
+      }) else None) (AreCuts words)
+      by true all = all
+      by false all = tt
+
+  report_holds : (elf : ℕ) (gmons : List ℕ) (selection : Option Selection) → IfSome selection (AreCuts words) → (files : Option (List ℕ)) → IfSome files (λ fs. AreRising (elf ∷ fs))
+      → IfSome (option_and_then (λ fs. option_map (Report elf fs) selection) files) (IsCommandOf words)
+  report_holds elf gmons selection cuts None rising = tt
+  report_holds elf gmons None cuts (Some files) rising = tt
+  report_holds elf gmons (Some selection) cuts (Some files) rising = (rising, cuts)
+
+  profile_holds : (elf gmon : ℕ) (form : Form) (memory : Option ℕ) (selection : Option Selection) → IfSome selection (AreCuts words) → (setup : Option Setup) → IfSome setup (IsRunSetup form)
+      → IfSome (option_and_then (λ setup. option_map (Profile elf gmon form memory setup) selection) setup) (IsCommandOf words)
+  profile_holds elf gmon form memory selection cuts None is = tt
+  profile_holds elf gmon form memory None cuts (Some setup) is = tt
+  profile_holds elf gmon form memory (Some selection) cuts (Some setup) is = (is, cuts)
+
+  demo_holds : (elf : Option ℕ) (setup : Option Setup) → IfSome setup IsSetup → (n : Option ℕ) → ((k : ℕ) → n ≡ Some k → (1 ≤ k) × (k ≤ 2000))
+      → IfSome (option_and_then (λ k. option_map (Demo k elf) setup) n) (IsCommandOf words)
+  demo_holds elf setup is None within = tt
+  demo_holds elf None is (Some n) within = tt
+  demo_holds elf (Some setup) is (Some n) within = let w = within n refl in (w.0, w.1, is)
+
+  holds_by : (verb : Verb) (ps : List ℕ) → AreRising ps → IfSome (command_by verb words items ps) (IsCommandOf words)
+  holds_by verbs.Show [] rising = tt
+  holds_by verbs.Show (a ∷ []) rising = tt
+  holds_by verbs.Show (a ∷ b ∷ ps) rising = tt
+  holds_by verbs.Syms [] rising = tt
+  holds_by verbs.Syms (a ∷ []) rising = tt
+  holds_by verbs.Syms (a ∷ b ∷ ps) rising = tt
+  holds_by verbs.Run [] rising = tt
+  holds_by verbs.Run (a ∷ []) rising = tt
+  holds_by verbs.Run (a ∷ b ∷ []) rising = mapped (Run a b (form_asked items) (given keys.Image items)) (IsCommandOf words) (written_setup items) written_holds
+  holds_by verbs.Run (a ∷ b ∷ c ∷ ps) rising = tt
+  holds_by verbs.Sum [] rising = tt
+  holds_by verbs.Sum (a ∷ gmons) rising = mapped (Sum a) (IsCommandOf words) (few gmons) (few_hold gmons (λ files. AreRising files) rising.1)
+  holds_by verbs.Report [] rising = tt
+  holds_by verbs.Report (a ∷ gmons) rising = report_holds a gmons (selection_of words items) selection_holds (few gmons) (few_hold gmons (λ files. AreRising (a ∷ files)) rising)
+  holds_by verbs.Profile [] rising = tt
+  holds_by verbs.Profile (a ∷ []) rising = tt
+  holds_by verbs.Profile (a ∷ b ∷ []) rising = profile_holds a b (form_asked items) (given keys.Image items) (selection_of words items) selection_holds (written_setup items) written_holds
+  holds_by verbs.Profile (a ∷ b ∷ c ∷ ps) rising = tt
+  holds_by verbs.Demo [] rising = tt
+  holds_by verbs.Demo (a ∷ []) rising = demo_holds (given keys.Elf items) (setup_of items) setup_holds (number_within 1 2000 (nth_word words a)) (limited 1 2000 (number_of (nth_word words a)))
+  holds_by verbs.Demo (a ∷ b ∷ ps) rising = tt
+  holds_by verbs.Annotate [] rising = tt
+  holds_by verbs.Annotate (a ∷ gmons) rising = mapped (Annotate a) (IsCommandOf words) (few gmons) (few_hold gmons (λ files. AreRising (a ∷ files)) rising)
+  holds_by verbs.Folded [] rising = tt
+  holds_by verbs.Folded (a ∷ []) rising = mapped (Folded a (is_given keys.Inclusive items)) (IsCommandOf words) (setup_of items) setup_holds
+  holds_by verbs.Folded (a ∷ b ∷ ps) rising = tt
+  holds_by verbs.Help [] rising = tt
+  holds_by verbs.Help (a ∷ ps) rising = tt
+  holds_by verbs.Version [] rising = tt
+  holds_by verbs.Version (a ∷ ps) rising = tt
+
+few_kept : (verb : Verb) (behind : List (List ℕ)) (read items : List Item) (words : List (List ℕ)) (b : Bool) → items_from verb 1 behind ≡ Some read → (if b then Some read else None) ≡ Some items
+    → IfSome (command_by verb words items (operands items)) (IsCommandOf words)
+few_kept verb behind read items words true is kept =
+    let same : read ≡ items = cc in
+    let from = is ∙ ap (λ (all : List Item). Some all) same in
+    holds_by words items (values_read verb 1 behind items from) verb (operands items) (operands_ordered verb 1 behind items from).rising
+few_kept verb behind read items words false is kept = absurd cc
+
+pub items_hold : (verb : Verb) (behind : List (List ℕ)) (items : List Item) → items_of verb behind ≡ Some items → (words : List (List ℕ)) → IfSome (command_by verb words items (operands items)) (IsCommandOf words)
+items_hold verb behind items is words = by (items_from verb 1 behind) refl is
+  where
+    by : (o : Option (List Item)) → items_from verb 1 behind ≡ o → option_and_then (λ all. if are_few all then Some all else None) o ≡ Some items → IfSome (command_by verb words items (operands items)) (IsCommandOf words)
+    by None read is = absurd cc
+    by (Some all) read is = few_kept verb behind all items words (are_few all) read is
+
+pub commands_hold : (words : List (List ℕ)) → IfSome (command_of words) (IsCommandOf words)
+commands_hold [] = tt
+commands_hold (name ∷ words) = short (nat_le (length (name ∷ words)) 200)
+  where
+    read : (verb : Verb) (o : Option (List Item)) → items_of verb words ≡ o → IfSome (option_and_then (λ items. command_by verb (name ∷ words) items (operands items)) o) (IsCommandOf (name ∷ words))
+    read verb None is = tt
+    read verb (Some items) is = items_hold verb words items is (name ∷ words)
+
+    named : (o : Option Verb) → IfSome (option_and_then (λ verb. option_and_then (λ items. command_by verb (name ∷ words) items (operands items)) (items_of verb words)) o) (IsCommandOf (name ∷ words))
+    named None = tt
+    named (Some verb) = read verb (items_of verb words) refl
+
+    short : (b : Bool) → IfSome (if b then option_and_then (λ verb. option_and_then (λ items. command_by verb (name ∷ words) items (operands items)) (items_of verb words)) (verb_named name) else None) (IsCommandOf (name ∷ words))
+    short true = named (verb_named name)
+    short false = tt
 
 -- ---- what is cut
 

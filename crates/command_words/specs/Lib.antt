@@ -1,4 +1,5 @@
 pub mod Numbers
+pub mod Verbs
 pub mod Options
 pub mod Items
 pub mod Words

@@ -10,8 +10,8 @@ use Rattle.command_words.specs.declared.options.Kind.{Kind}
 use Rattle.command_words.specs.declared.options.Kind.TheVariants.{Number, Fraction, Word, Flag}
 use Rattle.command_words.specs.declared.options.Group.{Group}
 use Rattle.command_words.specs.declared.options.Group.TheVariants.{Machine, Runtime, Files, Reports, Program, Stacks}
-use Rattle.command_words.specs.declared.options.OptionSet.{OptionSet}
-use Rattle.command_words.specs.declared.options.OptionSet.TheVariants.{RunOptions, ReportOptions, ProfileOptions, DemoOptions, FoldedOptions}
+use Rattle.command_words.specs.declared.verbs.Verb.{Verb}
+use Rattle.command_words.specs.declared.verbs.Verb.TheVariants as verbs
 
 -- a line of the table: the word that names an option; what it takes, a number from the least to the most, one of the
 -- fractions, a name, or nothing; how often it may be given; what it speaks of, the machine and its clock, the runtime,
@@ -69,35 +69,37 @@ group_of key = (row_of_key key).group
 abbrev pub key_number : Key → ℕ
 key_number key = (row_of_key key).place
 
-abbrev pub is_taken : OptionSet → Group → Bool
-is_taken RunOptions Machine = true
-is_taken RunOptions Runtime = true
-is_taken RunOptions Files = true
-is_taken ReportOptions Reports = true
-is_taken ProfileOptions Machine = true
-is_taken ProfileOptions Runtime = true
-is_taken ProfileOptions Files = true
-is_taken ProfileOptions Reports = true
-is_taken DemoOptions Machine = true
-is_taken DemoOptions Runtime = true
-is_taken DemoOptions Program = true
-is_taken FoldedOptions Machine = true
-is_taken FoldedOptions Stacks = true
-is_taken set group = false
+-- whether a command takes the options of a group
+abbrev pub is_taken : Verb → Group → Bool
+is_taken verbs.Run Machine = true
+is_taken verbs.Run Runtime = true
+is_taken verbs.Run Files = true
+is_taken verbs.Report Reports = true
+is_taken verbs.Profile Machine = true
+is_taken verbs.Profile Runtime = true
+is_taken verbs.Profile Files = true
+is_taken verbs.Profile Reports = true
+is_taken verbs.Demo Machine = true
+is_taken verbs.Demo Runtime = true
+is_taken verbs.Demo Program = true
+is_taken verbs.Folded Machine = true
+is_taken verbs.Folded Stacks = true
+is_taken verb group = false
 
 -- the option of a command that a word names
-abbrev pub option_of : OptionSet → List ℕ → Option Key
-option_of set word = option_and_then (λ key. if is_taken set (group_of key) then Some key else None) (key_named word)
+abbrev pub option_of : Verb → List ℕ → Option Key
+option_of verb word = option_and_then (λ key. if is_taken verb (group_of key) then Some key else None) (key_named word)
 
 abbrev pub is_flag : Kind → Bool
 is_flag Flag = true
 is_flag kind = false
 
--- the number that a word writes, where it is one of this kind
-abbrev pub number_of_kind : Kind → List ℕ → Option ℕ
-number_of_kind (Number least most) word = number_within least most word
-number_of_kind Fraction word = fraction_within word
-number_of_kind kind word = None
+-- what the word at a position says as the value of an option of a kind: a number, where it is one that the option may
+-- have, or its position
+abbrev pub value_said : Kind → ℕ → List ℕ → Option ℕ
+value_said (Number least most) place word = number_within least most word
+value_said Fraction place word = fraction_within word
+value_said kind place word = Some place
 
 -- a number that an option of this kind may have
 abbrev pub IsNumberOf : Kind → ℕ → Type 0

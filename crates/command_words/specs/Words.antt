@@ -1,7 +1,7 @@
 -- The command that the words of the command line say.
-use Rattle.std.specs.Prelude.{◌≡◌, ℕ, Bool, true, false, not, nat_lt, nat_le, ◌&&◌, ◌<◌, ◌≤◌, List, [], ◌∷◌, length, Option, Some, None, bytes_eq, codes, is_some, ⊤, if◌then◌else◌}
+use Rattle.std.specs.Prelude.{◌≡◌, ℕ, Bool, true, false, not, nat_lt, nat_le, ◌&&◌, ◌<◌, ◌≤◌, List, [], ◌∷◌, length, Option, Some, None, is_some, slice_get, ⊤, if◌then◌else◌}
 use Rattle.std.specs.List.{AllByRecursion, list_all}
-use Rattle.std.specs.Option.{option_map, option_and_then}
+use Rattle.std.specs.Option.{option_map, option_and_then, unwrap_or}
 use Rattle.gp_base.specs.declared.records.Form.{Form}
 use Rattle.gp_base.specs.declared.records.Form.TheVariants.{Bsd, Gnu}
 use Rattle.arc_filter.specs.Cuts.{is_cut_word}
@@ -11,206 +11,119 @@ use Rattle.prof_machine.specs.declared.setup.Setup.{Setup}
 use Rattle.prof_machine.specs.Setup.{IsSetup}
 use Rattle.command_words.specs.declared.options.Key.{Key}
 use Rattle.command_words.specs.declared.options.Key.TheVariants as keys
-use Rattle.command_words.specs.declared.options.OptionSet.TheVariants.{RunOptions, ReportOptions, ProfileOptions, DemoOptions, FoldedOptions, NoOptions}
-use Rattle.command_words.specs.declared.items.Wanted.TheVariants.{AnOperand}
+use Rattle.command_words.specs.declared.items.Item.{Item}
+use Rattle.command_words.specs.declared.verbs.Verb.{Verb}
+use Rattle.command_words.specs.declared.verbs.Verb.TheVariants as verbs
 use Rattle.command_words.specs.declared.words.Command.{Command}
 use Rattle.command_words.specs.declared.words.Command.TheVariants.{Show, Syms, Run, Sum, Report, Profile, Demo, Annotate, Folded, Help, Version}
 use Rattle.command_words.specs.declared.words.Selection.{Selection}
 use Rattle.command_words.specs.declared.words.Shown.{Shown}
 use Rattle.command_words.specs.declared.words.Shown.TheVariants as shows
 use Rattle.command_words.specs.Numbers.{number_within}
-use Rattle.command_words.specs.Items.{Item, items_from, nth_word, places, place_given, places_given, number_given, value_given}
+use Rattle.command_words.specs.Items.{items_of, nth_word, operands, values}
+use Rattle.command_words.specs.Verbs.{verb_named}
 
--- the positions of the operands: the command's own word, and what it is to work on
-abbrev pub operand_places : List Item → List ℕ
-operand_places items = places AnOperand items
+-- ---- what the options say
 
--- whether an option is given
-abbrev pub is_given : Key → List Item → Option Bool
-is_given key items = option_map is_some (place_given key items)
+-- what is given to an option, if it is
+abbrev pub given : Key → List Item → Option ℕ
+given key items = slice_get (values key items) 0
 
--- ---- files
+abbrev pub is_given : Key → List Item → Bool
+is_given key items = is_some (given key items)
 
--- one file and no more
-abbrev pub file_from : Option (List ℕ) → Option ℕ
-file_from (Some (command ∷ file ∷ [])) = Some file
-file_from operands = None
+-- the same with a default
+abbrev pub setting : Key → ℕ → List Item → ℕ
+setting key default items = unwrap_or (given key items) default
 
-abbrev pub file_of : List Item → Option ℕ
-file_of items = file_from (Some (operand_places items))
+-- a schedule by its quantum and its seed: round robin with a quantum of 1, unless one of them is given, and not both
+abbrev pub plan_asked : Option ℕ → Option ℕ → Option Plan
+plan_asked None None = Some (RoundRobin 1)
+plan_asked (Some quantum) None = Some (RoundRobin quantum)
+plan_asked None (Some seed) = Some (Seeded seed)
+plan_asked (Some quantum) (Some seed) = None
 
--- the one file that the words name behind the command
-abbrev pub file_reading : List (List ℕ) → Option ℕ
-file_reading words = option_and_then file_of (items_from NoOptions 0 words)
+-- the machine, its clock and the runtime
+abbrev pub setup_of : List Item → Option Setup
+setup_of items =
+    option_map (λ plan. record {
+      every = setting keys.Every 1000 items;
+      budget = setting keys.Budget 100000000 items;
+      rate = setting keys.Rate 100 items;
+      ram_mib = setting keys.Ram 64 items;
+      harts = setting keys.Harts 1 items;
+      plan = plan;
+      hist = setting keys.Hist 2 items;
+      hash = setting keys.Hash 2 items;
+      blocks = is_given keys.Blocks items;
+    }) (plan_asked (given keys.Quantum items) (given keys.Seed items))
 
--- one to sixteen files
-abbrev pub few : List ℕ → Option (List ℕ)
-few files = if nat_lt 0 (length files) && nat_le (length files) 16 then Some files else None
-
--- ---- runs
-
--- a schedule: round robin with a quantum of 1, unless a quantum or a seed is given, and not both
-abbrev pub plan_from : Option (Option ℕ) → Option (Option ℕ) → Option Plan
-plan_from (Some None) (Some None) = Some (RoundRobin 1)
-plan_from (Some (Some quantum)) (Some None) = Some (RoundRobin quantum)
-plan_from (Some None) (Some (Some seed)) = Some (Seeded seed)
-plan_from quantum seed = None
-
-abbrev pub plan_given : List (List ℕ) → List Item → Option Plan
-plan_given words items = plan_from (number_given words keys.Quantum items) (number_given words keys.Seed items)
-
--- the machine and its clock
-abbrev pub setup_from : Option ℕ → Option ℕ → Option ℕ → Option ℕ → Option ℕ → Option Plan → Option ℕ → Option ℕ → Option Bool → Option Setup
-setup_from (Some every) (Some budget) (Some rate) (Some ram) (Some harts) (Some plan) (Some hist) (Some hash) (Some blocks) =
-    Some (record { every = every; budget = budget; rate = rate; ram_mib = ram; harts = harts; plan = plan; hist = hist; hash = hash; blocks = blocks })
-setup_from every budget rate ram harts plan hist hash blocks = None
-
--- what the options say of a run, with their defaults
-abbrev pub setup_of : List (List ℕ) → List Item → Option Setup
-setup_of words items =
-    setup_from (value_given words keys.Every 1000 items) (value_given words keys.Budget 100000000 items) (value_given words keys.Rate 100 items)
-    (value_given words keys.Ram 64 items) (value_given words keys.Harts 1 items) (plan_given words items)
-    (value_given words keys.Hist 2 items) (value_given words keys.Hash 2 items) (is_given keys.Blocks items)
-
--- the form in which a profile is written, by whether the GNU form is asked for
-abbrev pub form_asked : Bool → Form
-form_asked false = Bsd
-form_asked true = Gnu
+-- the form in which a profile is written
+abbrev pub form_asked : List Item → Form
+form_asked items = if is_given keys.Gnu items then Gnu else Bsd
 
 -- only a file of the GNU form holds execution counts
 abbrev pub may_count : Form → Bool → Bool
 may_count Bsd blocks = not blocks
 may_count Gnu blocks = true
 
--- a run has two files, the program and the profile that is written, and perhaps a third for the runtime's memory
-abbrev pub run_from : Option (List ℕ) → Option Bool → Option (Option ℕ) → Option Setup → Option Command
-run_from (Some (command ∷ elf ∷ gmon ∷ [])) (Some gnu) (Some memory) (Some setup) =
-    if may_count (form_asked gnu) setup.blocks then Some (Run elf gmon (form_asked gnu) memory setup) else None
-run_from operands gnu memory setup = None
+-- a run whose profile is written
+abbrev pub written_setup : List Item → Option Setup
+written_setup items = option_and_then (λ (setup : Setup). if may_count (form_asked items) setup.blocks then Some setup else None) (setup_of items)
 
-abbrev pub run_of : List (List ℕ) → List Item → Option Command
-run_of words items = run_from (Some (operand_places items)) (is_given keys.Gnu items) (place_given keys.Image items) (setup_of words items)
-
-abbrev pub run_reading : List (List ℕ) → Option Command
-run_reading words = option_and_then (run_of words) (items_from RunOptions 0 words)
-
--- ---- sums and reports
-
--- a sum has the file that is written and one to sixteen that are read
-abbrev pub sum_from : Option (List ℕ) → Option Command
-sum_from (Some (command ∷ out ∷ gmons)) = option_map (Sum out) (few gmons)
-sum_from operands = None
-
-abbrev pub sum_command : List Item → Option Command
-sum_command items = sum_from (Some (operand_places items))
-
-abbrev pub sum_reading : List (List ℕ) → Option Command
-sum_reading words = option_and_then sum_command (items_from NoOptions 0 words)
-
--- the reports that are printed, by whether each is asked for: both where none is
-abbrev pub shown_asked : Bool → Bool → Shown
-shown_asked true false = shows.Flat
-shown_asked false true = shows.Graph
-shown_asked flat graph = shows.Both
+-- the reports that are printed: one alone where it alone is asked for
+abbrev pub shown_asked : List Item → Shown
+shown_asked items =
+    if is_given keys.Flat items && not (is_given keys.Graph items) then shows.Flat else (
+    if is_given keys.Graph items && not (is_given keys.Flat items) then shows.Graph else shows.Both)
 
 -- words FROM/TO by their positions
 abbrev pub are_cuts : List (List ℕ) → List ℕ → Bool
 are_cuts words cuts = list_all (λ place. is_cut_word (nth_word words place)) cuts
 
 -- which reports are printed, and what they leave out
-abbrev pub selection_from : List (List ℕ) → Option Bool → Option Bool → Option Bool → Option (List ℕ) → Option (List ℕ) → Option Selection
-selection_from words (Some flat) (Some graph) (Some exact) (Some cuts) (Some hidden) =
-    if are_cuts words cuts then Some (record { shown = shown_asked flat graph; exact = exact; cuts = cuts; hidden = hidden }) else None
-selection_from words flat graph exact cuts hidden = None
-
 abbrev pub selection_of : List (List ℕ) → List Item → Option Selection
 selection_of words items =
-    selection_from words (is_given keys.Flat items) (is_given keys.Graph items) (is_given keys.Exact items) (places_given keys.Cut items) (places_given keys.Hide items)
+    if are_cuts words (values keys.Cut items) then Some (record {
+      shown = shown_asked items;
+      exact = is_given keys.Exact items;
+      cuts = values keys.Cut items;
+      hidden = values keys.Hide items;
+    }) else None
 
--- a report has the program and one to sixteen profiles
-abbrev pub report_from : Option (List ℕ) → Option Selection → Option Command
-report_from (Some (command ∷ elf ∷ gmons)) (Some selection) = option_map (λ files. Report elf files selection) (few gmons)
-report_from operands selection = None
+-- ---- commands
 
-abbrev pub report_of : List (List ℕ) → List Item → Option Command
-report_of words items = report_from (Some (operand_places items)) (selection_of words items)
+-- one to sixteen files
+abbrev pub few : List ℕ → Option (List ℕ)
+few files = if nat_lt 0 (length files) && nat_le (length files) 16 then Some files else None
 
-abbrev pub report_reading : List (List ℕ) → Option Command
-report_reading words = option_and_then (report_of words) (items_from ReportOptions 0 words)
+-- What a command says of its operands and options, line by line as the program's help has it: `show GMON`, `syms ELF`,
+-- `run ELF GMON`, `sum OUT GMON..`, `report ELF GMON..`, `profile ELF GMON`, `demo FUNCTIONS`, `annotate ELF GMON..`,
+-- `folded ELF`, `--help` and `--version`.
+abbrev pub command_by : Verb → List (List ℕ) → List Item → List ℕ → Option Command
+command_by verbs.Show words items (gmon ∷ []) = Some (Show gmon)
+command_by verbs.Syms words items (elf ∷ []) = Some (Syms elf)
+command_by verbs.Run words items (elf ∷ gmon ∷ []) = option_map (Run elf gmon (form_asked items) (given keys.Image items)) (written_setup items)
+command_by verbs.Sum words items (out ∷ gmons) = option_map (Sum out) (few gmons)
+command_by verbs.Report words items (elf ∷ gmons) = option_and_then (λ files. option_map (Report elf files) (selection_of words items)) (few gmons)
+command_by verbs.Profile words items (elf ∷ gmon ∷ []) =
+    option_and_then (λ setup. option_map (Profile elf gmon (form_asked items) (given keys.Image items) setup) (selection_of words items)) (written_setup items)
+command_by verbs.Demo words items (functions ∷ []) =
+    option_and_then (λ n. option_map (Demo n (given keys.Elf items)) (setup_of items)) (number_within 1 2000 (nth_word words functions))
+command_by verbs.Annotate words items (elf ∷ gmons) = option_map (Annotate elf) (few gmons)
+command_by verbs.Folded words items (elf ∷ []) = option_map (Folded elf (is_given keys.Inclusive items)) (setup_of items)
+command_by verbs.Help words items [] = Some Help
+command_by verbs.Version words items [] = Some Version
+command_by verb words items operands = None
 
--- so has a listing
-abbrev pub annotate_from : Option (List ℕ) → Option Command
-annotate_from (Some (command ∷ elf ∷ gmons)) = option_map (Annotate elf) (few gmons)
-annotate_from operands = None
-
-abbrev pub annotate_of : List Item → Option Command
-annotate_of items = annotate_from (Some (operand_places items))
-
-abbrev pub annotate_reading : List (List ℕ) → Option Command
-annotate_reading words = option_and_then annotate_of (items_from NoOptions 0 words)
-
--- a profile is a run and a report of it
-abbrev pub profile_from : Option Command → Option Selection → Option Command
-profile_from (Some (Run elf gmon form memory setup)) (Some selection) = Some (Profile elf gmon form memory setup selection)
-profile_from command selection = None
-
-abbrev pub profile_said : List (List ℕ) → List Item → Option Command
-profile_said words items = profile_from (run_of words items) (selection_of words items)
-
-abbrev pub profile_reading : List (List ℕ) → Option Command
-profile_reading words = option_and_then (profile_said words) (items_from ProfileOptions 0 words)
-
--- ---- the other commands
-
--- folded stacks have the program alone
-abbrev pub folded_from : Option (List ℕ) → Option Bool → Option Setup → Option Command
-folded_from (Some (command ∷ elf ∷ [])) (Some inclusive) (Some setup) = Some (Folded elf inclusive setup)
-folded_from operands inclusive setup = None
-
-abbrev pub folded_said : List (List ℕ) → List Item → Option Command
-folded_said words items = folded_from (Some (operand_places items)) (is_given keys.Inclusive items) (setup_of words items)
-
-abbrev pub folded_reading : List (List ℕ) → Option Command
-folded_reading words = option_and_then (folded_said words) (items_from FoldedOptions 0 words)
-
--- a demo has a number of functions alone, and perhaps a file for its program
-abbrev pub functions_from : List (List ℕ) → Option (List ℕ) → Option ℕ
-functions_from words (Some (command ∷ place ∷ [])) = number_within 1 2000 (nth_word words place)
-functions_from words operands = None
-
-abbrev pub functions_of : List (List ℕ) → List Item → Option ℕ
-functions_of words items = functions_from words (Some (operand_places items))
-
-abbrev pub demo_from : Option ℕ → Option (Option ℕ) → Option Setup → Option Command
-demo_from (Some functions) (Some elf) (Some setup) = Some (Demo functions elf setup)
-demo_from functions elf setup = None
-
-abbrev pub demo_said : List (List ℕ) → List Item → Option Command
-demo_said words items = demo_from (functions_of words items) (place_given keys.Elf items) (setup_of words items)
-
-abbrev pub demo_reading : List (List ℕ) → Option Command
-demo_reading words = option_and_then (demo_said words) (items_from DemoOptions 0 words)
-
--- a command that is the only word
-abbrev pub command_alone : Command → List (List ℕ) → Option Command
-command_alone command (name ∷ []) = Some command
-command_alone command words = None
-
--- The command that the words say, if they have a reading: by the first word.
+-- The command that the words say, if they have a reading: by the first word, and by what those behind it say. No line of
+-- more than 200 words has one.
 abbrev pub command_of : List (List ℕ) → Option Command
 command_of [] = None
 command_of (name ∷ words) =
-    if bytes_eq name (codes "show") then option_map Show (file_reading (name ∷ words)) else (
-    if bytes_eq name (codes "syms") then option_map Syms (file_reading (name ∷ words)) else (
-    if bytes_eq name (codes "run") then run_reading (name ∷ words) else (
-    if bytes_eq name (codes "sum") then sum_reading (name ∷ words) else (
-    if bytes_eq name (codes "report") then report_reading (name ∷ words) else (
-    if bytes_eq name (codes "profile") then profile_reading (name ∷ words) else (
-    if bytes_eq name (codes "demo") then demo_reading (name ∷ words) else (
-    if bytes_eq name (codes "annotate") then annotate_reading (name ∷ words) else (
-    if bytes_eq name (codes "folded") then folded_reading (name ∷ words) else (
-    if bytes_eq name (codes "--help") then command_alone Help (name ∷ words) else (
-    if bytes_eq name (codes "--version") then command_alone Version (name ∷ words) else None))))))))))
+    if nat_le (length (name ∷ words)) 200 then
+    option_and_then (λ verb. option_and_then (λ items. command_by verb (name ∷ words) items (operands items)) (items_of verb words)) (verb_named name)
+    else None
 
 -- ---- what holds of each command that words say
 

@@ -8,6 +8,7 @@ mod numbers;
 mod options;
 pub mod places;
 pub mod values;
+mod verbs;
 pub mod words;
 
 pub use names::Words;

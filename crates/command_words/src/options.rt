@@ -1,9 +1,10 @@
 //! The table of options.
 
-ghost use Rattle.std.specs.Prelude.{◌≡◌, ◌≤◌, IfSome};
-ghost use Rattle.command_words.specs.Options.{group_of, is_flag, is_taken, key_named, key_number, kind_of, most_times, number_of_kind, option_of, IsNumberOf};
+ghost use Rattle.std.specs.Prelude.{◌≡◌};
+ghost use Rattle.command_words.specs.Options.{group_of, is_flag, is_taken, key_named, key_number, kind_of, most_times, option_of, value_said};
 
 use crate::numbers::{fraction_in, number_in};
+use crate::verbs::Verb;
 use gp_base::limits::{MAX_HARTS, MAX_NUMBER, MAX_RAM_MIB, MIN_RAM_MIB};
 
 /// An option.
@@ -78,17 +79,28 @@ pub enum Group {
     Stacks,
 }
 
-/// The options that a command takes.
-#[derive(Clone, Copy)]
-pub enum OptionSet {
-    RunOptions,
-    ReportOptions,
-    /// Those of a run and those of a report.
-    ProfileOptions,
-    DemoOptions,
-    FoldedOptions,
-    NoOptions,
-}
+/// All options, in the order of the table.
+pub const KEYS: [Key; 19] = [
+    Key::Every,
+    Key::Budget,
+    Key::Rate,
+    Key::Ram,
+    Key::Harts,
+    Key::Quantum,
+    Key::Seed,
+    Key::Image,
+    Key::Gnu,
+    Key::Flat,
+    Key::Graph,
+    Key::Elf,
+    Key::Hist,
+    Key::Hash,
+    Key::Blocks,
+    Key::Exact,
+    Key::Cut,
+    Key::Hide,
+    Key::Inclusive,
+];
 
 /// The option that a word names.
 fn key_named(word: &str) -> Option<Key>
@@ -136,9 +148,8 @@ pub fn kind_of(key: Key) -> Kind
 }
 
 /// How often an option may be given.
-pub fn most_times(key: Key) -> u32
-    ensures times { result ≡ most_times key }
-    ensures few { result ≤ 16 }
+pub fn most_times(key: Key) -> usize
+    ensures { result ≡ most_times key }
 {
     match key {
         Key::Cut | Key::Hide => 16,
@@ -189,30 +200,30 @@ fn group_of(key: Key) -> Group
 }
 
 /// Whether a command takes the options of a group.
-fn is_taken(set: OptionSet, group: Group) -> bool
-    ensures { result ≡ is_taken set group }
+fn is_taken(verb: Verb, group: Group) -> bool
+    ensures { result ≡ is_taken verb group }
 {
-    match set {
-        OptionSet::RunOptions => matches!(group, Group::Machine | Group::Runtime | Group::Files),
-        OptionSet::ReportOptions => matches!(group, Group::Reports),
-        OptionSet::ProfileOptions => {
+    match verb {
+        Verb::Run => matches!(group, Group::Machine | Group::Runtime | Group::Files),
+        Verb::Report => matches!(group, Group::Reports),
+        Verb::Profile => {
             matches!(
                 group,
                 Group::Machine | Group::Runtime | Group::Files | Group::Reports
             )
         }
-        OptionSet::DemoOptions => matches!(group, Group::Machine | Group::Runtime | Group::Program),
-        OptionSet::FoldedOptions => matches!(group, Group::Machine | Group::Stacks),
-        OptionSet::NoOptions => false,
+        Verb::Demo => matches!(group, Group::Machine | Group::Runtime | Group::Program),
+        Verb::Folded => matches!(group, Group::Machine | Group::Stacks),
+        Verb::Show | Verb::Syms | Verb::Sum | Verb::Annotate | Verb::Help | Verb::Version => false,
     }
 }
 
 /// The option of a command that a word names.
-pub fn option_of(set: OptionSet, word: &str) -> Option<Key>
-    ensures { result ≡ option_of set word.now }
+pub fn option_of(verb: Verb, word: &str) -> Option<Key>
+    ensures { result ≡ option_of verb word.now }
 {
     let key = key_named(word)?;
-    if is_taken(set, group_of(key)) {
+    if is_taken(verb, group_of(key)) {
         return Some(key);
     }
     None
@@ -228,14 +239,14 @@ pub fn is_flag(kind: Kind) -> bool
     }
 }
 
-/// The number that a word writes, where it is one that an option of this kind may have.
-pub fn number_of_kind(kind: Kind, word: &str) -> Option<u32>
-    ensures reads { result ≡ number_of_kind kind word.now }
-    ensures within { IfSome result (λ n. IsNumberOf kind n) }
+/// What the word at a position says as the value of an option of this kind: a number, where it is one that
+/// the option may have, or its position.
+pub fn value_said(kind: Kind, place: u32, word: &str) -> Option<u32>
+    ensures { result ≡ value_said kind place word.now }
 {
     match kind {
         Kind::Number { least, most } => number_in(word, least, most),
         Kind::Fraction => fraction_in(word),
-        Kind::Word | Kind::Flag => None,
+        Kind::Word | Kind::Flag => Some(place),
     }
 }

@@ -8,7 +8,7 @@ use Rattle.std.specs.Cmp.{IsTotalOrder, nat_cmp_total}
 use Rattle.std.specs.Cmp.Lexicographic.{lists_total, options_total}
 use Rattle.std.proofs.lemmas.Map.Lookups.{exact_unsigned}
 use Rattle.folded.specs.Links.{node_of}
-use Rattle.folded.specs.Nodes.{IsTree, called_of, stack_of_node}
+use Rattle.folded.specs.Nodes.{called_of, stack_of_node}
 use Rattle.folded.specs.Stacks.{stack_cmp}
 use Rattle.folded.specs.declared.tree.Tree.{Tree}
 use Rattle.folded.proofs.NodeLemmas.{Nodes, Stack, stack_of_made}
@@ -106,19 +106,19 @@ start nodes a other inside = record {
 pub meets_first : (nodes : Nodes) (a b : ℕ) → a ≤ length nodes → b ≤ length nodes → Meets nodes a b a b 0 0
 meets_first nodes a b a_in b_in = record { one = start nodes a b a_in; other = start nodes b a b_in; apart = λ none. absurd (omega (arith, none)) }
 
-module _ (t : Tree) (is_tree : IsTree t) where
+module _ (t : Tree) where
   abbrev nodes_of : Nodes
   nodes_of = t.nodes.items
 
   pub caller_below : (x : ℕ) → 0 < x → x ≤ length nodes_of → (node_of nodes_of x).0 < x
   caller_below zero some inside = absurd (omega (arith, some))
-  caller_below (suc n) some inside = let low = is_tree.callers n (omega (arith, inside)) in omega (arith, low)
+  caller_below (suc n) some inside = let low = t.is_tree.callers n (omega (arith, inside)) in omega (arith, low)
 
   up : (a x below other : ℕ) → 0 < x → other < x → Climbed nodes_of a x below other → Climbed nodes_of a (node_of nodes_of x).0 x other
   up a zero below other some less c = absurd (omega (arith, some))
   up a (suc n) below other some less c =
       let inside : n < length nodes_of = omega (arith, c.inside) in
-      let low = is_tree.callers n inside in
+      let low = t.is_tree.callers n inside in
       let node = get_or nodes_of n (0, None) in
       let one : suc n ≡ n + 1 = omega arith in
       let made : stack_of_node nodes_of (suc n) ≡ stack_of_node nodes_of node.0 ++ node.1 ∷ [] = ap (λ (k : ℕ). stack_of_node nodes_of k) one ∙ stack_of_made nodes_of n inside low in
@@ -162,7 +162,7 @@ module _ (t : Tree) (is_tree : IsTree t) where
       let function : (get_or nodes_of i (0, None)).1 ≡ (get_or nodes_of j (0, None)).1 = some (get_or nodes_of i (0, None)).1 (get_or nodes_of j (0, None)).1 (is_i ∙ sym is_j) in
       let caller : (get_or nodes_of i (0, None)).0 ≡ (get_or nodes_of j (0, None)).0 = under_i (omega arith) ∙ sym (under_j (omega arith)) in
       let node : get_or nodes_of i (0, None) ≡ get_or nodes_of j (0, None) = λ t. (caller t, function t) in
-      (omega arith, ap suc (is_tree.distinct i j (omega (arith, in_i)) (omega (arith, in_j)) node))
+      (omega arith, ap suc (t.is_tree.distinct i j (omega (arith, in_i)) (omega (arith, in_j)) node))
     where
       some : (f g : Option ℕ) → Some f ≡ Some g → f ≡ g
       some f g is = cc

@@ -14,14 +14,14 @@ use Rattle.prof_machine.specs.Prints.{ArePrinted}
 use Rattle.prof_machine.specs.Schedule.{Draws, PlanPlace}
 use Rattle.prof_machine.specs.Value.{IsLive, RunValue, StandsFor, work_left}
 use Rattle.prof_machine.specs.World.{World}
-use Rattle.prof_machine.specs.declared.ending.End.{End}
+use Rattle.prof_machine.specs.declared.summary.End.{End}
 use Rattle.prof_machine.specs.declared.machine.Machine.{Machine}
 use Rattle.folded.specs.Folding.{Follows, HasRoom, IsTracked, StopsShort}
 use Rattle.folded.specs.Nodes.{IsTreeOf}
 use Rattle.folded.specs.Shadow.{Shadow, empty_shadow}
 use Rattle.folded.specs.Stacks.{stacks_of}
 use Rattle.folded.specs.Trail.{StackSample, Trail, first_trail, trail_with, run_samples, trail_after}
-use Rattle.folded.specs.declared.trail.Tracker.{Tracker}
+use Rattle.folded.specs.declared.tracker.Tracker.{Tracker}
 use Rattle.folded.proofs.TrailLemmas.{run_samples_at, trail_next}
 
 -- so many turns of the plan are made and followed, and the run goes on

@@ -16,7 +16,7 @@ use Rattle.folded.specs.Shadow.{Shadow, after_hook, after_instruction, after_ran
 use Rattle.folded.specs.Nodes.{IsTreeOf}
 use Rattle.folded.specs.Stacks.{caller_in, stack_at, stack_of, stacks_of}
 use Rattle.folded.specs.Trail.{StackSample, Trail, trail_with, followed_by, stack_samples, shadow_of}
-use Rattle.folded.specs.declared.trail.Tracker.{Tracker}
+use Rattle.folded.specs.declared.tracker.Tracker.{Tracker}
 
 pub shadow_read : (shadows : List Shadow) (h : ℕ) (s : Shadow) → h < length shadows → s ≡ get_or shadows h s → shadow_of shadows h ≡ s
 shadow_read shadows h s inside is = get_or_default shadows h empty_shadow s inside ∙ sym is

@@ -10,4 +10,7 @@ pub mod AddLemmas
 pub mod CompareLemmas
 pub mod OrderLemmas
 pub mod PlaceLemmas
+pub mod MarkLemmas
+pub mod PathLemmas
+pub mod PrefixLemmas
 pub mod TrackLemmas

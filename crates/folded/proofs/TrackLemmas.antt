@@ -10,7 +10,7 @@ use Rattle.folded.specs.Shadow.{Shadow, after_hook, after_instruction, after_ran
 use Rattle.folded.specs.Stacks.{caller_in}
 use Rattle.folded.specs.declared.place.Place.{Place}
 use Rattle.folded.specs.Trail.{shadow_of}
-use Rattle.folded.specs.declared.trail.Tracker.{Tracker}
+use Rattle.folded.specs.declared.tracker.Tracker.{Tracker}
 use Rattle.folded.specs.declared.tree.Tree.{Tree}
 use Rattle.folded.proofs.NodeLemmas.{Nodes, Stack, stack_of_none}
 use Rattle.folded.proofs.PlaceLemmas.{stack_stays}

@@ -11,7 +11,7 @@ use Rattle.prof_machine.specs.Notes.{look_note, note_by, note_of}
 use Rattle.prof_machine.specs.Plan.{most_turns, plan_of, world_at, taker_of}
 use Rattle.prof_machine.specs.Turn.{turn_of, world_after}
 use Rattle.prof_machine.specs.World.{World, looks_of_hart}
-use Rattle.prof_machine.specs.declared.ending.End.{End}
+use Rattle.prof_machine.specs.declared.summary.End.{End}
 use Rattle.prof_machine.specs.declared.machine.Machine.{Machine}
 use Rattle.prof_machine.specs.declared.notes.TurnNote.{TurnNote}
 use Rattle.std.specs.Prelude.{is_some}

@@ -6,7 +6,7 @@ use Rattle.prof_machine.specs.declared.machine.Machine.{Machine}
 use Rattle.prof_machine.specs.Plan.{most_turns, world_at}
 use Rattle.prof_machine.specs.Prints.{ArePrinted, BreaksOff, PrintFailed}
 use Rattle.prof_machine.specs.World.{World}
-use Rattle.folded.specs.declared.trail.Tracker.{Tracker}
+use Rattle.folded.specs.declared.tracker.Tracker.{Tracker}
 use Rattle.folded.specs.Nodes.{IsOn, IsTreeFor, IsTreeOf, first_place}
 use Rattle.folded.specs.Shadow.{Shadow, empty_shadow}
 use Rattle.folded.specs.Stacks.{caller_in, stacks_of}

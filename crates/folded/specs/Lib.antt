@@ -2,8 +2,10 @@ pub mod Shadow
 pub mod Trail
 pub mod Stacks
 pub mod Links
+pub mod NodeStacks
 pub mod Nodes
 pub mod Tally
 pub mod Text
+pub mod Paths
 pub mod Folding
 pub mod Laws

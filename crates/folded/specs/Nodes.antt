@@ -1,5 +1,5 @@
 -- The tree of calls: a node for each stack that was entered, with the number of samples that have it.
-use Rattle.std.specs.Prelude.{◌≡◌, ℕ, zero, suc, ◌+◌, ◌^◌, ◌<◌, ◌≤◌, nat_lt, min, Bool, true, List, [], ◌∷◌, ◌++◌, length, map, fold, count_by, sum_by, take, slice_index_or, Option, Some, None, All, if◌then◌else◌}
+use Rattle.std.specs.Prelude.{◌≡◌, ℕ, zero, suc, ◌+◌, ◌<◌, ◌≤◌, nat_lt, min, Bool, List, [], ◌∷◌, ◌++◌, length, map, count_by, sum_by, take, slice_index_or, Option, Some, None, All, if◌then◌else◌}
 use Rattle.std.specs.List.{AllByRecursion}
 use Rattle.std.specs.List.Sorted.{IsStrictlySortedBy}
 use Rattle.std.specs.declared.cmp.Ordering.{Ordering}
@@ -7,18 +7,8 @@ use Rattle.elf32_syms.specs.declared.image.Symbol.{Symbol}
 use Rattle.folded.specs.declared.place.Place.{Place}
 use Rattle.folded.specs.declared.tree.Tree.{Tree}
 use Rattle.folded.specs.Links.{AreLinked}
-use Rattle.folded.specs.Stacks.{AreBelow, stack_cmp}
-
--- by number: the stacks with that of one more node, which is its caller's with its function
-abbrev pub with_node : List (List (Option ℕ)) → ℕ × Option ℕ → List (List (Option ℕ))
-with_node stacks node = stacks ++ (slice_index_or stacks node.0 [] ++ node.1 ∷ []) ∷ []
-
--- 0 is the number of the empty stack, which has no node
-abbrev pub node_stacks : List (ℕ × Option ℕ) → List (List (Option ℕ))
-node_stacks nodes = fold with_node ([] ∷ []) nodes
-
-abbrev pub stack_of_node : List (ℕ × Option ℕ) → ℕ → List (Option ℕ)
-stack_of_node nodes n = slice_index_or (node_stacks nodes) n []
+pub use Rattle.folded.specs.NodeStacks.{AreNodes, IsShort, any_stack, node_stacks, samples_on, stack_of_node, with_node}
+use Rattle.folded.specs.Stacks.{stack_cmp}
 
 abbrev pub called_of : List (ℕ × Option ℕ) → ℕ → Option (Option ℕ)
 called_of nodes zero = None
@@ -27,31 +17,6 @@ called_of nodes (suc n) = Some (slice_index_or nodes n (0, None)).1
 -- the order of nodes is that of their stacks; the last one's stands for those of all numbers above it
 abbrev pub node_cmp : List (ℕ × Option ℕ) → ℕ → ℕ → Ordering
 node_cmp nodes a b = stack_cmp (stack_of_node nodes (min a (length nodes))) (stack_of_node nodes (min b (length nodes)))
-
--- how many samples have a stack that passes a test, where each stack has so many
-abbrev pub samples_on : (List (Option ℕ) → Bool) → List (List (Option ℕ)) → List ℕ → ℕ
-samples_on test [] counts = 0
-samples_on test (s ∷ stacks) [] = 0
-samples_on test (s ∷ stacks) (n ∷ counts) = (if test s then n else 0) + samples_on test stacks counts
-
-abbrev pub any_stack : List (Option ℕ) → Bool
-any_stack s = true
-
--- a stack that can be kept: of 128 calls and the function that is sampled
-abbrev pub IsShort : ℕ → List (Option ℕ) → Type 0
-IsShort functions s = (length s ≤ 129) × AreBelow functions s
-
-pub record AreNodes (nodes : List (ℕ × Option ℕ)) (counts : List ℕ) (total functions : ℕ) : Type 0 where
-  -- callers come before
-  pub callers : (i : ℕ) → i < length nodes → (slice_index_or nodes i (0, None)).0 ≤ i
-  pub distinct : (i j : ℕ) → i < length nodes → j < length nodes → slice_index_or nodes i (0, None) ≡ slice_index_or nodes j (0, None) → i ≡ j
-  pub numbers : length counts ≡ length nodes + 1
-  pub few : length nodes < 2 ^ 32
-  pub stacks : All (IsShort functions) (node_stacks nodes)
-  pub sum : samples_on any_stack (node_stacks nodes) counts ≤ total
-
-abbrev pub IsTree : Tree → Type 0
-IsTree t = AreNodes t.nodes.items t.counts.items t.total t.functions
 
 -- the nodes have samples with these stacks
 pub record HaveSamples (stacks : List (List (Option ℕ))) (nodes : List (ℕ × Option ℕ)) (counts : List ℕ) (total : ℕ) : Type 0 where
@@ -71,7 +36,6 @@ pub record IsGrown (old new : Tree) : Type 0 where
 
 -- what is kept of a run with these symbols
 pub record IsTreeFor (symbols : List Symbol) (t : Tree) : Type 0 where
-  pub tree : IsTree t
   pub linked : AreLinked t.nodes.items t.links.items
   pub functions : t.functions ≡ length symbols
 

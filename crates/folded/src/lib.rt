@@ -1,21 +1,23 @@
 //! The call stacks that a run is sampled in, with the number of samples of each.
 #![tactic(auto)]
 
-pub mod folding;
+pub mod folded_run;
 pub mod laws;
 mod links;
+mod nodes;
 mod order;
 mod path;
 mod place;
+mod prefix;
 pub mod refusal;
 mod shadow;
 pub mod tally;
-mod trail;
+mod tracker;
 mod tree;
 pub mod values;
 pub mod writer;
 
-pub use folding::fold;
+pub use folded_run::fold;
 pub use refusal::FoldRefusal;
 pub use tally::Folded;
 pub use writer::write;

@@ -1,55 +1,79 @@
-//! The stack of a node.
+//! The way down the tree of calls to a node.
 
-ghost use Rattle.std.specs.Prelude.{◌≡◌, ◌≤◌, length};
-ghost use Rattle.folded.specs.Nodes.{IsTree, stack_of_node};
+ghost use Rattle.std.specs.Prelude.{◌≡◌, ◌≤◌, length, take};
+ghost use Rattle.folded.specs.Nodes.{stack_of_node};
+ghost use Rattle.folded.specs.Paths.{IsPath, first_path, functions_of};
 
 use crate::tree::Tree;
-use std::marker::Model;
 
 /// How many functions a stack has at most: those of the calls that a shadow keeps, and the sampled one.
-const ROOM: usize = 129;
+pub(crate) const MOST: usize = 129;
 
-/// The functions of a stack by their numbers, the oldest call first; None where no function has the call. Takes
-/// no memory.
+/// The functions of a stack, the oldest call first, and by number of functions the node of so many. Lines are in the
+/// order of a walk, so that few functions change from one to the next. Takes no memory.
 #[derive(Drop)]
 pub(crate) struct Path {
-    functions: [Option<u32>; ROOM],
-    start: usize,
-}
-
-impl Model for Path {
-    ghost use Rattle.std.specs.Prelude.{ℕ, ◌≤◌, List, Option, drop};
-
-    ghost Value = { List (Option ℕ) };
-
-    ghost view = { λ a. drop a.start a.functions };
-
-    ghost invariant = { λ a. a.start ≤ 129 };
+    functions: [Option<u32>; MOST],
+    nodes: [u32; MOST + 1],
+    len: usize,
 }
 
 impl Path {
-    /// The stack of a node.
-    pub(crate) fn of(tree: &Tree, node: u32) -> Path
-        requires tree { IsTree tree.now }
-        requires node { node ≤ length tree.now.nodes.items }
-        ensures { result ≡ stack_of_node tree.now.nodes.items node }
+    /// That of the empty stack.
+    pub(crate) fn new() -> Path
+        ensures { result ≡ first_path }
     {
-        let mut path = Path {
-            functions: [None; ROOM],
-            start: ROOM,
-        };
-        let mut node = node;
-        while node != 0 {
-            path.start -= 1;
-            path.functions[path.start] = tree.function(node);
-            node = tree.caller(node);
+        Path {
+            functions: [None; MOST],
+            nodes: [0; MOST + 1],
+            len: 0,
         }
-        path
     }
 
-    pub(crate) fn as_slice(&self) -> &[Option<u32>]
-        ensures { result.now ≡ self.now }
+    /// The functions of the stack.
+    pub(crate) fn functions(&self) -> &[Option<u32>]
+        requires { self.now.len ≤ 129 }
+        ensures { result.now ≡ functions_of self.now }
     {
-        &self.functions[self.start..]
+        &self.functions[..self.len]
+    }
+
+    /// With how many of these functions the stack of a node begins.
+    pub(crate) fn shared(&self, tree: &Tree, node: u32) -> usize
+        requires path { IsPath tree.now.nodes.items self.now }
+        requires node { node ≤ length tree.now.nodes.items }
+        ensures within { result ≤ self.now.len }
+        ensures other { result ≤ length (stack_of_node tree.now.nodes.items node) }
+        ensures same { take result self.now.functions
+            ≡ take result (stack_of_node tree.now.nodes.items node) }
+    {
+        let mut len = self.len;
+        let mut node = node;
+        while self.nodes[len] != node {
+            if self.nodes[len] > node {
+                len -= 1;
+            } else {
+                node = tree.caller(node);
+            }
+        }
+        len
+    }
+
+    /// To the stack of a node: back to where the stacks part, and down.
+    pub(crate) fn go_to(&mut self, tree: &Tree, node: u32)
+        requires path { IsPath tree.now.nodes.items self.old }
+        requires node { node ≤ length tree.now.nodes.items }
+        ensures path { IsPath tree.now.nodes.items self.new }
+        ensures stack { functions_of self.new ≡ stack_of_node tree.now.nodes.items node }
+    {
+        while self.nodes[self.len] > node {
+            self.len -= 1;
+        }
+        if self.nodes[self.len] != node {
+            self.go_to(tree, tree.caller(node));
+            self.functions[self.len] = tree.function(node);
+            self.len += 1;
+            self.nodes[self.len] = node;
+        }
     }
 }

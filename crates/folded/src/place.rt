@@ -3,7 +3,7 @@
 ghost use Rattle.std.specs.Prelude.{◌≡◌, ◌≤◌, IfOk, OnOk, length, map, take};
 ghost use Rattle.elf32_syms.specs.Owners.{IsAscending};
 ghost use Rattle.folded.specs.Links.{AreLinked};
-ghost use Rattle.folded.specs.Nodes.{HasStack, IsGrown, IsOn, IsPlaced, IsTree, stack_of_node};
+ghost use Rattle.folded.specs.Nodes.{HasStack, IsGrown, IsOn, IsPlaced, stack_of_node};
 ghost use Rattle.folded.specs.Stacks.{caller_in};
 
 use crate::tree::Tree;
@@ -36,7 +36,6 @@ impl Place {
 
     /// So many calls are left.
     pub(crate) fn go_up(&mut self, tree: &Tree, calls: usize)
-        requires tree { IsTree tree.now }
         requires placed { IsPlaced tree.now.nodes.items self.old }
         ensures placed { IsPlaced tree.now.nodes.items self.new }
         ensures stack { stack_of_node tree.now.nodes.items self.new.node
@@ -57,12 +56,10 @@ impl Place {
         frames: &[u32],
     ) -> Result<(), AllocError>
         requires symbols { IsAscending symbols.now }
-        requires tree { IsTree tree.old }
         requires linked { AreLinked tree.old.nodes.items tree.old.links.items }
         requires functions { tree.old.functions ≡ length symbols.now }
         requires on { IsOn tree.old.nodes.items (map (caller_in symbols.now) frames.now) self.old }
         requires few { length frames.now ≤ 128 }
-        ensures tree { OnOk result (IsTree tree.new) }
         ensures linked { OnOk result (AreLinked tree.new.nodes.items tree.new.links.items) }
         ensures grown { OnOk result (IsGrown tree.old tree.new) }
         ensures placed { OnOk result (IsPlaced tree.new.nodes.items self.new) }

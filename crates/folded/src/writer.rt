@@ -5,8 +5,10 @@ ghost use Rattle.std.specs.List.{flat_map};
 ghost use Rattle.host_port.specs.Buffered.{Adds};
 ghost use Rattle.host_port.specs.Host.{Puts};
 ghost use Rattle.host_port.specs.declared.side.Side.TheVariants.{Output};
-ghost use Rattle.folded.specs.Text.{callee_text, count_text, folded_text, inclusive_line, functions_text, inclusive_text, line_text, name_in, stack_text};
+ghost use Rattle.folded.specs.Text.{count_text, folded_text, inclusive_line, functions_text, inclusive_text, line_text, name_in, stack_text};
+ghost use Rattle.folded.specs.Paths.{IsPrefix, caller_text, functions_of};
 
+use crate::prefix::{Prefix, name_of};
 use crate::tally::Folded;
 use elf32_syms::Symbol;
 use host_port::{Failed, Host, PrintBuf};
@@ -57,70 +59,77 @@ fn put_lines<H: Host>(
     ensures { Adds Output (folded_text symbols.now folded.now) lines.old lines.new
         (H.outside host.old) (H.outside host.new) result }
 {
-    for i in 0..folded.line_count() {
-        let (path, count) = folded.line(i);
-        put_line(path.as_slice(), count, symbols, lines, host)?;
+    let (tree, order) = folded.nodes();
+    let mut prefix = Prefix::new();
+    for node in order {
+        prefix.go_to(tree, symbols, *node);
+        put_line(&prefix, tree.samples(*node), symbols, lines, host)?;
     }
     Ok(())
 }
 
 fn put_line<H: Host>(
-    stack: &[Option<u32>],
+    prefix: &Prefix,
     count: u64,
     symbols: &[Symbol],
     lines: &mut PrintBuf,
     host: &mut H,
 ) -> Result<(), Failed>
-    ensures { Adds Output (line_text symbols.now (stack.now, count)) lines.old lines.new
-        (H.outside host.old) (H.outside host.new) result }
+    requires { IsPrefix symbols.now prefix.now }
+    ensures { Adds Output (line_text symbols.now (functions_of prefix.now.path, count))
+        lines.old lines.new (H.outside host.old) (H.outside host.new) result }
 {
-    put_stack(stack, symbols, lines, host)?;
+    put_stack(prefix, symbols, lines, host)?;
     put_count(count, lines, host)
 }
 
 /// The names of a stack's functions, with `;` between them.
 fn put_stack<H: Host>(
-    stack: &[Option<u32>],
+    prefix: &Prefix,
     symbols: &[Symbol],
     lines: &mut PrintBuf,
     host: &mut H,
 ) -> Result<(), Failed>
-    ensures { Adds Output (stack_text symbols.now stack.now) lines.old lines.new
+    requires { IsPrefix symbols.now prefix.now }
+    ensures { Adds Output (stack_text symbols.now (functions_of prefix.now.path)) lines.old lines.new
         (H.outside host.old) (H.outside host.new) result }
 {
-    let Some((first, callees)) = stack.split_first() else {
+    let Some((sampled, callers)) = prefix.functions().split_last() else {
         return Ok(());
     };
-    put_name(*first, symbols, lines, host)?;
-    put_callees(callees, symbols, lines, host)
+    let (text, known) = prefix.text(callers.len());
+    lines.put(host, text)?;
+    put_callers(&callers[known..], symbols, lines, host)?;
+    put_name(*sampled, symbols, lines, host)
 }
 
-fn put_callees<H: Host>(
-    callees: &[Option<u32>],
+/// Names with `;` behind each.
+fn put_callers<H: Host>(
+    callers: &[Option<u32>],
     symbols: &[Symbol],
     lines: &mut PrintBuf,
     host: &mut H,
 ) -> Result<(), Failed>
-    ensures { Adds Output (flat_map (callee_text symbols.now) callees.now) lines.old lines.new
+    ensures { Adds Output (flat_map (caller_text symbols.now) callers.now) lines.old lines.new
         (H.outside host.old) (H.outside host.new) result }
 {
-    for callee in callees {
-        put_callee(callee, symbols, lines, host)?;
+    for caller in callers {
+        put_caller(*caller, symbols, lines, host)?;
     }
     Ok(())
 }
 
-fn put_callee<H: Host>(
-    callee: &Option<u32>,
+fn put_caller<H: Host>(
+    caller: Option<u32>,
     symbols: &[Symbol],
     lines: &mut PrintBuf,
     host: &mut H,
 ) -> Result<(), Failed>
-    ensures { Adds Output (callee_text symbols.now callee.now) lines.old lines.new
+    ensures { Adds Output (caller_text symbols.now caller) lines.old lines.new
         (H.outside host.old) (H.outside host.new) result }
 {
-    lines.put(host, b";")?;
-    put_name(*callee, symbols, lines, host)
+    put_name(caller, symbols, lines, host)?;
+    lines.put(host, b";")
 }
 
 fn put_name<H: Host>(
@@ -132,13 +141,7 @@ fn put_name<H: Host>(
     ensures { Adds Output (name_in symbols.now function) lines.old lines.new (H.outside host.old)
         (H.outside host.new) result }
 {
-    let Some(f) = function else {
-        return lines.put(host, b"[unknown]");
-    };
-    match symbols.get(f as usize) {
-        Some(symbol) => lines.put(host, symbol.name.as_slice()),
-        None => lines.put(host, b""),
-    }
+    lines.put(host, name_of(symbols, function))
 }
 
 fn put_count<H: Host>(count: u64, lines: &mut PrintBuf, host: &mut H) -> Result<(), Failed>

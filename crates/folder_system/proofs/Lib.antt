@@ -7,3 +7,4 @@ pub mod Ends
 pub mod Causes
 pub mod Making
 pub mod Shown
+pub mod MemoryLemmas

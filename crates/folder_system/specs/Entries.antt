@@ -23,8 +23,8 @@ pub record Entry : Type 0 where
 abbrev pub Entries : Type 0
 Entries = List ℕ → Entry
 
-abbrev pub with_entry : List ℕ → Entry → Entries → Entries
-with_entry name entry entries = λ n. if bytes_eq n name then entry else entries n
+abbrev pub entry_set : List ℕ → Entry → Entries → Entries
+entry_set name entry entries = λ n. if bytes_eq n name then entry else entries n
 
 -- a file whose bytes were written: a sync stores them
 abbrev pub written : List ℕ → Answer → Entry → Entry
@@ -34,12 +34,12 @@ written bytes answer old = if is_stored answer then record { now = Whole bytes; 
 -- One call. Where it failed all names are as they were. What is written may be torn by a crash until it is
 -- synced, and a change of a name may be undone by one until the names of its folder are synced.
 abbrev pub entries_after_event : Event → Entries → Entries
-entries_after_event (Made name mode None) w = with_entry name (record { now = Torn; stored = Torn; left = (w name).left ++ Torn ∷ [] }) w
-entries_after_event (Opened name None) w = with_entry name (record { now = Torn; stored = Torn; left = (w name).left ++ Torn ∷ [] }) w
-entries_after_event (Synced name bytes answer) w = with_entry name (written bytes answer (w name)) w
-entries_after_event (Renamed from to None) w = with_entry to (record { now = (w from).now; stored = (w from).stored; left = (w to).left ++ (w from).stored ∷ [] })
-    (with_entry from (record { now = Absent; stored = Absent; left = (w from).left ++ Absent ∷ [] }) w)
-entries_after_event (Removed name None) w = with_entry name (record { now = Absent; stored = Absent; left = (w name).left ++ Absent ∷ [] }) w
+entries_after_event (Made name mode None) w = entry_set name (record { now = Torn; stored = Torn; left = (w name).left ++ Torn ∷ [] }) w
+entries_after_event (Opened name None) w = entry_set name (record { now = Torn; stored = Torn; left = (w name).left ++ Torn ∷ [] }) w
+entries_after_event (Synced name bytes answer) w = entry_set name (written bytes answer (w name)) w
+entries_after_event (Renamed from to None) w = entry_set to (record { now = (w from).now; stored = (w from).stored; left = (w to).left ++ (w from).stored ∷ [] })
+    (entry_set from (record { now = Absent; stored = Absent; left = (w from).left ++ Absent ∷ [] }) w)
+entries_after_event (Removed name None) w = entry_set name (record { now = Absent; stored = Absent; left = (w name).left ++ Absent ∷ [] }) w
 entries_after_event (NamesSynced folder None) w = λ n. if bytes_eq (folder_of n) folder then record { now = (w n).now; stored = (w n).stored; left = (w n).stored ∷ [] } else w n
 entries_after_event _ w = w
 

@@ -5,3 +5,4 @@ pub mod Events
 pub mod Entries
 pub mod Place
 pub mod Disk
+pub mod Memory

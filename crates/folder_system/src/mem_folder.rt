@@ -1,6 +1,10 @@
-//! A folder in memory, for tests: each call can be made to fail.
+//! A folder in memory, which tells all that stands in it: each call can be made to fail.
 
-ghost use Rattle.std.specs.Prelude.{◌<◌, None, length, IfSome};
+ghost use Rattle.std.specs.Prelude.{◌≡◌, ◌<◌, [], length, true, false, refl, string_bytes, if◌then◌else◌, IfOk, IfSome, MatchOption, OnErr, OnOk};
+ghost use Rattle.host_port.specs.Act.{file_content, has_file, with_file};
+ghost use Rattle.host_port.specs.Entries.{place_of, bytes_at};
+ghost use Rattle.folder_system.specs.Events.{Looked, Tried, Made, GaveOwner, GaveMode, Opened, Synced, Renamed, Removed, NamesSynced, answer_of, found_by, is_stored, without};
+ghost use Rattle.folder_system.specs.Memory.{event_of, files_of, told, Noted};
 
 use crate::folder::{Attributes, Folder, Found};
 use crate::kinds::cannot_sync;
@@ -16,12 +20,37 @@ struct MemFile {
     attributes: Attributes,
 }
 
+/// What a file has that takes no other's place.
+const NEW: Attributes = Attributes {
+    mode: 0o666,
+    owner: 0,
+    group: 0,
+    links: 1,
+};
+
+/// A call with its answer.
+#[derive(Drop)]
+enum Call {
+    Looked(String, Option<Found>),
+    Tried(String, Option<ErrorKind>),
+    Made(String, u32, Option<ErrorKind>),
+    GaveOwner(u32, u32, Option<ErrorKind>),
+    GaveMode(u32, Option<ErrorKind>),
+    Opened(String, Option<ErrorKind>),
+    Synced(String, Vec<u8>, Option<ErrorKind>),
+    Renamed(String, String, Option<ErrorKind>),
+    Removed(String, Option<ErrorKind>),
+    NamesSynced(String, Option<ErrorKind>),
+}
+
 /// Regular files in memory. A call fails by its number; what is written to an output is in its file once it is
-/// synced. Contracts see nothing of it.
+/// synced. It tells its files and its calls, while there is memory to note them.
 #[derive(Drop)]
 pub struct MemFolder {
     alloc: Global,
     files: Vec<MemFile>,
+    // The calls so far; none where there was no memory to note one.
+    trace: Option<Vec<Call>>,
     calls: u64,
     fail_from: u64,
     fail_until: u64,
@@ -30,10 +59,14 @@ pub struct MemFolder {
 
 impl MemFolder {
     /// An empty folder in which no call fails.
-    pub fn new(alloc: Global) -> MemFolder {
+    pub fn new(alloc: Global) -> MemFolder
+        ensures files { result.files.items ≡ [] }
+        ensures tells { told result.files.items result.trace ≡ Some (record { files = []; events = [] }) }
+    {
         MemFolder {
             alloc,
             files: Vec::new(alloc),
+            trace: Some(Vec::new(alloc)),
             calls: 0,
             fail_from: 0,
             fail_until: 0,
@@ -48,12 +81,8 @@ impl MemFolder {
         bytes: &[u8],
         attributes: Attributes,
     ) -> Result<(), AllocError> {
-        self.files.push(MemFile {
-            name: String::from_str(self.alloc, name)?,
-            bytes: Vec::from_slice(self.alloc, bytes)?,
-            attributes,
-        })?;
-        Ok(())
+        let file = mem_file(self.alloc, name, bytes, attributes)?;
+        set(&mut self.files, file)
     }
 
     /// The calls from one number on and before another fail, with this kind of error. They are counted from 0.
@@ -70,13 +99,13 @@ impl MemFolder {
     }
 
     /// The bytes of a file.
-    pub fn bytes(&self, name: &str) -> Option<&[u8]> {
-        for file in &self.files {
-            if file.name.as_str() == name {
-                return Some(file.bytes.as_slice());
-            }
-        }
-        None
+    pub fn bytes(&self, name: &str) -> Option<&[u8]>
+        ensures { MatchOption result
+            (has_file name.now (files_of self.now.files.items) ≡ false)
+            (λ bytes. bytes.now ≡ file_content name.now (files_of self.now.files.items)) }
+    {
+        let i = find(self.files.as_slice(), name)?;
+        Some(self.files[i].bytes.as_slice())
     }
 
     /// How many files there are.
@@ -84,7 +113,19 @@ impl MemFolder {
         self.files.len()
     }
 
-    fn call(&mut self) -> io::Result<()> {
+    /// The attributes of a file, or those of a new one.
+    fn attributes(&self, name: &str) -> Attributes {
+        match find(self.files.as_slice(), name) {
+            Some(i) => self.files[i].attributes,
+            None => NEW,
+        }
+    }
+
+    /// Counts a call, and fails where it is to fail.
+    fn call(&mut self) -> io::Result<()>
+        ensures files { self.new.files ≡ self.old.files }
+        ensures same { self.new.trace ≡ self.old.trace }
+    {
         let call = self.calls;
         self.calls = self.calls.saturating_add(1);
         if self.fail_from <= call && call < self.fail_until {
@@ -94,44 +135,268 @@ impl MemFolder {
         }
     }
 
-    fn index(&self, name: &str) -> Option<usize>
-        ensures { IfSome result (λ i. i < length self.now.files.items) }
+    /// Notes a call.
+    fn note(&mut self, call: Result<Call, AllocError>)
+        ensures files { self.new.files ≡ self.old.files }
+        ensures noted { Noted self.old.trace call self.new.trace }
     {
-        for (i, file) in self.files.iter().enumerate() {
-            if file.name.as_str() == name {
-                return Some(i);
+        self.trace = noted(self.trace.take(), call);
+    }
+
+    fn found(&mut self, name: &str) -> io::Result<Found>
+        ensures files { self.new.files ≡ self.old.files }
+        ensures same { self.new.trace ≡ self.old.trace }
+    {
+        self.call()?;
+        match find(self.files.as_slice(), name) {
+            Some(i) => Ok(Found::File(self.files[i].attributes)),
+            None => Ok(Found::Nothing),
+        }
+    }
+
+    fn made(&mut self, name: &str, mode: u32) -> io::Result<Vec<u8>>
+        ensures done { OnOk result (files_of self.new.files.items ≡ with_file name.now [] (files_of self.old.files.items)) }
+        ensures unchanged { OnErr result (files_of self.new.files.items ≡ files_of self.old.files.items) }
+        ensures fresh { OnOk result (has_file name.now (files_of self.old.files.items) ≡ false) }
+        ensures empty { IfOk result (λ output. output.items ≡ []) }
+        ensures same { self.new.trace ≡ self.old.trace }
+    {
+        self.call()?;
+        if find(self.files.as_slice(), name).is_some() {
+            return Err(io::Error::from(ErrorKind::AlreadyExists));
+        }
+        let file = mem_file(self.alloc, name, b"", Attributes { mode, ..NEW })?;
+        set(&mut self.files, file)?;
+        Ok(Vec::new(self.alloc))
+    }
+
+    fn opened(&mut self, name: &str) -> io::Result<Vec<u8>>
+        ensures done { OnOk result (files_of self.new.files.items ≡ with_file name.now [] (files_of self.old.files.items)) }
+        ensures unchanged { OnErr result (files_of self.new.files.items ≡ files_of self.old.files.items) }
+        ensures empty { IfOk result (λ output. output.items ≡ []) }
+        ensures same { self.new.trace ≡ self.old.trace }
+    {
+        self.call()?;
+        let file = mem_file(self.alloc, name, b"", self.attributes(name))?;
+        set(&mut self.files, file)?;
+        Ok(Vec::new(self.alloc))
+    }
+
+    /// What was written stands in the file, also where there is nothing to sync.
+    fn synced(&mut self, name: &str, bytes: &[u8]) -> io::Result<()>
+        ensures files { files_of self.new.files.items ≡ (if is_stored (answer_of result)
+            then with_file name.now bytes.now (files_of self.old.files.items)
+            else files_of self.old.files.items) }
+        ensures same { self.new.trace ≡ self.old.trace }
+    {
+        match self.call() {
+            Ok(()) => Ok(self.store(name, bytes)?),
+            Err(e) => {
+                if cannot_sync(e.kind()) {
+                    self.store(name, bytes)?;
+                }
+                Err(e)
             }
         }
-        None
     }
 
-    fn take(&mut self, name: &str) -> io::Result<MemFile> {
-        match self.index(name) {
-            Some(i) => Ok(self.files.remove(i)),
-            None => Err(io::Error::from(ErrorKind::NotFound)),
+    fn store(&mut self, name: &str, bytes: &[u8]) -> Result<(), AllocError>
+        ensures done { OnOk result (files_of self.new.files.items ≡ with_file name.now bytes.now (files_of self.old.files.items)) }
+        ensures unchanged { OnErr result (files_of self.new.files.items ≡ files_of self.old.files.items) }
+        ensures same { self.new.trace ≡ self.old.trace }
+    {
+        let file = mem_file(self.alloc, name, bytes, self.attributes(name))?;
+        set(&mut self.files, file)
+    }
+
+    fn renamed(&mut self, from: &str, to: &str) -> io::Result<()>
+        ensures done { OnOk result (files_of self.new.files.items
+            ≡ with_file to.now (file_content from.now (files_of self.old.files.items)) (without from.now (files_of self.old.files.items))) }
+        ensures unchanged { OnErr result (files_of self.new.files.items ≡ files_of self.old.files.items) }
+        ensures same { self.new.trace ≡ self.old.trace }
+    {
+        self.call()?;
+        if from == to {
+            return Err(io::Error::from(ErrorKind::InvalidInput));
+        }
+        let Some(i) = find(self.files.as_slice(), from) else {
+            return Err(io::Error::from(ErrorKind::NotFound));
+        };
+        let old = &self.files[i];
+        let file = mem_file(self.alloc, to, old.bytes.as_slice(), old.attributes)?;
+        set(&mut self.files, file)?;
+        forget(&mut self.files, from);
+        Ok(())
+    }
+
+    fn removed(&mut self, name: &str) -> io::Result<()>
+        ensures done { OnOk result (files_of self.new.files.items ≡ without name.now (files_of self.old.files.items)) }
+        ensures unchanged { OnErr result (files_of self.new.files.items ≡ files_of self.old.files.items) }
+        ensures same { self.new.trace ≡ self.old.trace }
+    {
+        self.call()?;
+        if find(self.files.as_slice(), name).is_none() {
+            return Err(io::Error::from(ErrorKind::NotFound));
+        }
+        forget(&mut self.files, name);
+        Ok(())
+    }
+}
+
+// ---- the files
+
+fn mem_file(
+    alloc: Global,
+    name: &str,
+    bytes: &[u8],
+    attributes: Attributes,
+) -> Result<MemFile, AllocError>
+    ensures name { IfOk result (λ file. string_bytes file.name ≡ name.now) }
+    ensures bytes { IfOk result (λ file. file.bytes.items ≡ bytes.now) }
+{
+    Ok(MemFile {
+        name: String::from_str(alloc, name)?,
+        bytes: Vec::from_slice(alloc, bytes)?,
+        attributes,
+    })
+}
+
+/// The number of the named file.
+fn find(files: &[MemFile], name: &str) -> Option<usize>
+    ensures place { result ≡ place_of name.now (files_of files.now) }
+    ensures in_range { IfSome result (λ i. i < length files.now) }
+{
+    for (i, file) in files.iter().enumerate() {
+        if file.name.as_str() == name {
+            return Some(i);
         }
     }
+    None
+}
 
-    /// What was written stands in the file.
-    fn store(&mut self, name: &str, output: &Vec<u8>) -> io::Result<()> {
-        let mut file = self.take(name)?;
-        file.bytes = Vec::from_slice(self.alloc, output.as_slice())?;
-        self.files.push(file)?;
-        Ok(())
+/// A file stands there, in place of the one of its name.
+fn set(files: &mut Vec<MemFile>, file: MemFile) -> Result<(), AllocError>
+    ensures done { OnOk result (files_of files.new.items
+        ≡ with_file (string_bytes file.name) file.bytes.items (files_of files.old.items)) }
+    ensures unchanged { OnErr result (files_of files.new.items ≡ files_of files.old.items) }
+{
+    match find(files.as_slice(), file.name.as_str()) {
+        Some(i) => files[i] = file,
+        None => files.push(file)?,
+    }
+    Ok(())
+}
+
+/// The named file is gone.
+fn forget(files: &mut Vec<MemFile>, name: &str)
+    ensures { files_of files.new.items ≡ without name.now (files_of files.old.items) }
+{
+    files.retain(|file| file.name.as_str() != name);
+}
+
+// ---- the calls
+
+/// The calls with one more, where there is memory for it.
+fn noted(trace: Option<Vec<Call>>, call: Result<Call, AllocError>) -> Option<Vec<Call>>
+    ensures { Noted trace call result }
+{
+    let mut calls = trace?;
+    match call {
+        Ok(call) => match calls.push(call) {
+            Ok(()) => Some(calls),
+            Err(_) => None,
+        },
+        Err(_) => None,
+    }
+}
+
+/// Of which kind the error was.
+fn answer_of<T>(done: &io::Result<T>) -> Option<ErrorKind>
+    ensures { result ≡ answer_of done.now }
+{
+    match done {
+        Ok(_) => None,
+        Err(e) => Some(e.kind()),
+    }
+}
+
+fn found_by(found: &io::Result<Found>) -> Option<Found>
+    ensures { result ≡ found_by found.now }
+{
+    match found {
+        Ok(found) => Some(*found),
+        Err(_) => None,
+    }
+}
+
+impl Call {
+    fn looked(alloc: Global, name: &str, found: Option<Found>) -> Result<Call, AllocError>
+        ensures { IfOk result (λ call. event_of call ≡ Looked name.now found) }
+    {
+        Ok(Call::Looked(String::from_str(alloc, name)?, found))
     }
 
-    fn new_file(&mut self, name: &str, mode: u32) -> io::Result<()> {
-        self.put(
-            name,
-            b"",
-            Attributes {
-                mode,
-                owner: 0,
-                group: 0,
-                links: 1,
-            },
-        )?;
-        Ok(())
+    fn tried(alloc: Global, name: &str, answer: Option<ErrorKind>) -> Result<Call, AllocError>
+        ensures { IfOk result (λ call. event_of call ≡ Tried name.now answer) }
+    {
+        Ok(Call::Tried(String::from_str(alloc, name)?, answer))
+    }
+
+    fn made(
+        alloc: Global,
+        name: &str,
+        mode: u32,
+        answer: Option<ErrorKind>,
+    ) -> Result<Call, AllocError>
+        ensures { IfOk result (λ call. event_of call ≡ Made name.now mode answer) }
+    {
+        Ok(Call::Made(String::from_str(alloc, name)?, mode, answer))
+    }
+
+    fn opened(alloc: Global, name: &str, answer: Option<ErrorKind>) -> Result<Call, AllocError>
+        ensures { IfOk result (λ call. event_of call ≡ Opened name.now answer) }
+    {
+        Ok(Call::Opened(String::from_str(alloc, name)?, answer))
+    }
+
+    fn synced(
+        alloc: Global,
+        name: &str,
+        bytes: &[u8],
+        answer: Option<ErrorKind>,
+    ) -> Result<Call, AllocError>
+        ensures { IfOk result (λ call. event_of call ≡ Synced name.now bytes.now answer) }
+    {
+        let name = String::from_str(alloc, name)?;
+        Ok(Call::Synced(name, Vec::from_slice(alloc, bytes)?, answer))
+    }
+
+    fn renamed(
+        alloc: Global,
+        from: &str,
+        to: &str,
+        answer: Option<ErrorKind>,
+    ) -> Result<Call, AllocError>
+        ensures { IfOk result (λ call. event_of call ≡ Renamed from.now to.now answer) }
+    {
+        let from = String::from_str(alloc, from)?;
+        Ok(Call::Renamed(from, String::from_str(alloc, to)?, answer))
+    }
+
+    fn removed(alloc: Global, name: &str, answer: Option<ErrorKind>) -> Result<Call, AllocError>
+        ensures { IfOk result (λ call. event_of call ≡ Removed name.now answer) }
+    {
+        Ok(Call::Removed(String::from_str(alloc, name)?, answer))
+    }
+
+    fn names_synced(
+        alloc: Global,
+        folder: &str,
+        answer: Option<ErrorKind>,
+    ) -> Result<Call, AllocError>
+        ensures { IfOk result (λ call. event_of call ≡ NamesSynced folder.now answer) }
+    {
+        Ok(Call::NamesSynced(String::from_str(alloc, folder)?, answer))
     }
 }
 
@@ -140,11 +405,11 @@ impl Folder for MemFolder {
 
     type Output = Vec<u8>;
 
-    ghost history = { λ _. None };
+    ghost history = { λ f. told f.files.items f.trace };
 
-    ghost told_inputs = { λ f input told. Prim.cc };
+    ghost told_inputs = { λ f input told. refl };
 
-    ghost told_outputs = { λ f output told. Prim.cc };
+    ghost told_outputs = { λ f output told. refl };
 
     fn open(&self, name: &str) -> io::Result<Cursor<Vec<u8>>> {
         match self.bytes(name) {
@@ -154,72 +419,72 @@ impl Folder for MemFolder {
     }
 
     fn look(&mut self, name: &str) -> io::Result<Found> {
-        self.call()?;
-        for file in &self.files {
-            if file.name.as_str() == name {
-                return Ok(Found::File(file.attributes));
-            }
-        }
-        Ok(Found::Nothing)
+        let done = self.found(name);
+        let call = Call::looked(self.alloc, name, found_by(&done));
+        self.note(call);
+        done
     }
 
-    fn try_open(&mut self, _name: &str) -> io::Result<()> {
-        self.call()
+    fn try_open(&mut self, name: &str) -> io::Result<()> {
+        let done = self.call();
+        let call = Call::tried(self.alloc, name, answer_of(&done));
+        self.note(call);
+        done
     }
 
     fn create_new(&mut self, name: &str, mode: u32) -> io::Result<Vec<u8>> {
-        self.call()?;
-        if self.index(name).is_some() {
-            return Err(io::Error::from(ErrorKind::AlreadyExists));
-        }
-        self.new_file(name, mode)?;
-        Ok(Vec::new(self.alloc))
+        let done = self.made(name, mode);
+        let call = Call::made(self.alloc, name, mode, answer_of(&done));
+        self.note(call);
+        done
     }
 
-    fn set_owner(&mut self, _output: &Vec<u8>, _owner: u32, _group: u32) -> io::Result<()> {
-        self.call()
+    fn set_owner(&mut self, _output: &Vec<u8>, owner: u32, group: u32) -> io::Result<()> {
+        let done = self.call();
+        let call = Call::GaveOwner(owner, group, answer_of(&done));
+        self.note(Ok(call));
+        done
     }
 
-    fn set_mode(&mut self, _output: &Vec<u8>, _mode: u32) -> io::Result<()> {
-        self.call()
+    fn set_mode(&mut self, _output: &Vec<u8>, mode: u32) -> io::Result<()> {
+        let done = self.call();
+        let call = Call::GaveMode(mode, answer_of(&done));
+        self.note(Ok(call));
+        done
     }
 
     fn open_over(&mut self, name: &str) -> io::Result<Vec<u8>> {
-        self.call()?;
-        let _ = self.take(name);
-        self.new_file(name, 0o666)?;
-        Ok(Vec::new(self.alloc))
+        let done = self.opened(name);
+        let call = Call::opened(self.alloc, name, answer_of(&done));
+        self.note(call);
+        done
     }
 
     fn sync(&mut self, name: &str, output: &Vec<u8>) -> io::Result<()> {
-        match self.call() {
-            Ok(()) => self.store(name, output),
-            Err(e) => {
-                if cannot_sync(e.kind()) {
-                    self.store(name, output)?;
-                }
-                Err(e)
-            }
-        }
+        let done = self.synced(name, output.as_slice());
+        let call = Call::synced(self.alloc, name, output.as_slice(), answer_of(&done));
+        self.note(call);
+        done
     }
 
     fn rename(&mut self, from: &str, to: &str) -> io::Result<()> {
-        self.call()?;
-        let name = String::from_str(self.alloc, to)?;
-        let mut file = self.take(from)?;
-        let _ = self.take(to);
-        file.name = name;
-        self.files.push(file)?;
-        Ok(())
+        let done = self.renamed(from, to);
+        let call = Call::renamed(self.alloc, from, to, answer_of(&done));
+        self.note(call);
+        done
     }
 
     fn remove(&mut self, name: &str) -> io::Result<()> {
-        self.call()?;
-        let _removed = self.take(name)?;
-        Ok(())
+        let done = self.removed(name);
+        let call = Call::removed(self.alloc, name, answer_of(&done));
+        self.note(call);
+        done
     }
 
-    fn sync_names(&mut self, _name: &str) -> io::Result<()> {
-        self.call()
+    fn sync_names(&mut self, folder: &str) -> io::Result<()> {
+        let done = self.call();
+        let call = Call::names_synced(self.alloc, folder, answer_of(&done));
+        self.note(call);
+        done
     }
 }

@@ -7,4 +7,3 @@ pub mod RunReadBack
 pub mod ProfileLemmas
 pub mod SizeLemmas
 pub mod WholeFile
-pub mod ViewLemmas

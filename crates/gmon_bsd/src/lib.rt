@@ -3,16 +3,16 @@
 //! Source: `gmon.h` of 4.4BSD (`struct gmonhdr`, `struct rawarc`), on a little-endian machine of 32 bits.
 #![tactic(auto)]
 
+pub mod file;
 pub mod laws;
 pub mod profile;
 pub mod reader;
-pub mod reading;
-pub mod viewing;
-pub mod writing;
+pub mod run_file;
+pub mod views;
 
+pub use file::{fault, read};
 pub use gp_base::GmonRefusal;
 pub use profile::run_profile;
 pub use reader::Reader;
-pub use reading::{fault, read};
-pub use viewing::RecordViews;
-pub use writing::write_run;
+pub use run_file::write_run;
+pub use views::RecordViews;

@@ -1,6 +1,6 @@
 //! Reading in pieces.
 
-ghost use Rattle.std.specs.Prelude.{◌≡◌, ℕ, List, [], ◌+◌, ◌^◌, ◌<◌, ◌≤◌, ◌++◌, length, None, Err, IfOk, OnOk, OnErr, IfErr, IfSome};
+ghost use Rattle.std.specs.Prelude.{◌≡◌, ℕ, List, [], ◌+◌, ◌^◌, ◌<◌, ◌≤◌, ◌++◌, length, None, Some, Err, IfOk, OnOk, OnErr, IfErr, IfSome};
 ghost use Rattle.gp_base.specs.Refusal.{IsRefusal};
 ghost use Rattle.gmon_data.specs.Content.{conflict_of, content_of, empty_content, with_records, IsAdded, IsStopped, IsWithin};
 ghost use Rattle.gmon_data.specs.Refusals.{IsReadRefusal};
@@ -9,8 +9,9 @@ ghost use Rattle.gmon_bsd.specs.Grammar.{BsdSpells};
 ghost use Rattle.gmon_bsd.specs.Reading.{bsd_refusal, bsd_records};
 ghost use Rattle.gmon_bsd.specs.Fed.{StandsFor, counter_part, arc_part};
 
-use crate::reading::{HEADER, Header, SECONDS, header_fault, read_header};
-use gmon_cells::{Column, Remnant, push_arcs};
+use crate::file::{HEADER, Header, SECONDS, header_fault, read_header};
+use crate::views::RecordViews;
+use gmon_cells::{Column, HistView, Remnant, push_arcs};
 use gmon_data::{AddRefusal, Profile, ReadRefusal};
 use gp_base::{Counts, Form, GmonRefusal, RawArc, RawHist, Rec, RecList, Records, Unit, word};
 use std::alloc::{AllocError, Global};
@@ -115,6 +116,33 @@ impl Reader {
             form: Form::Bsd,
             recs: RecList::from(recs),
         })
+    }
+
+    /// The records that the bytes spell, one after the other, as the reader keeps them, or their first refusal.
+    /// Takes no memory.
+    pub fn records(&self) -> Result<RecordViews<'_>, GmonRefusal>
+        ensures refused { (bytes : List ℕ) → StandsFor bytes self.now
+            → IfErr result (λ refusal. bsd_refusal bytes ≡ Some refusal) }
+        ensures accepted { (bytes : List ℕ) → StandsFor bytes self.now
+            → OnOk result (bsd_refusal bytes ≡ None) }
+        ensures records { (bytes : List ℕ) → StandsFor bytes self.now
+            → IfOk result (λ views. views ≡ (bsd_records bytes).recs) }
+    {
+        let header = match read_header(self.header.as_slice(), self.len) {
+            Ok(header) => header,
+            Err(refusal) => return Err(refusal),
+        };
+        let hist = HistView {
+            low: header.low,
+            high: header.high,
+            unit: Unit {
+                rate: header.rate,
+                dim: SECONDS,
+                abbrev: b's',
+            },
+            counters: self.counters.cells.as_slice(),
+        };
+        Ok(RecordViews::new(hist, self.arcs.cells.as_slice()))
     }
 
     /// The profile of the records that the bytes spell, without a list of them. It answers the file's first refusal,

@@ -1,18 +1,15 @@
--- The records that views of a file stand for.
+-- The records that views stand for.
 use Rattle.gp_base.specs.declared.records.RawHist.{RawHist}
 use Rattle.gp_base.specs.declared.records.Rec.{Rec}
 use Rattle.gp_base.specs.declared.records.Rec.TheVariants as raw
-use Rattle.gp_base.specs.Bytes.{value_of}
-use Rattle.gp_base.specs.Fields.{block_of}
 use Rattle.gmon_cells.specs.declared.views.HistView.{HistView}
 use Rattle.gmon_cells.specs.declared.views.RecView.{RecView}
 use Rattle.gmon_cells.specs.declared.views.RecView.TheVariants.{Hist, Arc, Blocks}
-use Rattle.gmon_cells.specs.Cells.{cells_of}
 
 abbrev pub hist_viewed : HistView → RawHist
-hist_viewed view = record { low = view.low; high = view.high; «unit» = view.«unit»; counters = cells_of 2 value_of view.counters.now }
+hist_viewed view = record { low = view.low; high = view.high; «unit» = view.«unit»; counters = view.counters.now }
 
 abbrev pub rec_viewed : RecView → Rec
 rec_viewed (Hist view) = raw.Hist (hist_viewed view)
 rec_viewed (Arc arc) = raw.Arc arc
-rec_viewed (Blocks pairs) = raw.Blocks (cells_of 8 block_of pairs.now)
+rec_viewed (Blocks blocks) = raw.Blocks blocks.now

@@ -8,12 +8,12 @@ pub mod arcs;
 pub mod cell;
 pub mod column;
 pub mod remnant;
+pub mod run_cells;
 pub mod views;
-pub mod writing;
 
 pub use arcs::push_arcs;
 pub use cell::Cell;
 pub use column::Column;
 pub use remnant::Remnant;
+pub use run_cells::{put_arc, write_run};
 pub use views::{HistView, RecView};
-pub use writing::{put_arc, write_run};

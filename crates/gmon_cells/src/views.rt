@@ -1,20 +1,20 @@
-//! Records as they stand in a file: what they have many of stays in the file's bytes.
+//! Records as the reader of a file keeps them: what they have many of stays in the reader's lists.
 
-use gp_base::{RawArc, Unit};
+use gp_base::{RawArc, RawBlock, Unit};
 
-/// A histogram: its fields, and the bytes of its counters, two each.
+/// A histogram: its fields and its counters.
 #[derive(Clone, Copy)]
-pub struct HistView<'b> {
+pub struct HistView<'r> {
     pub low: u32,
     pub high: u32,
     pub unit: Unit,
-    pub counters: &'b [u8],
+    pub counters: &'r [u16],
 }
 
-/// A record of a file. Counts of basic blocks are the bytes of pairs of an address and a count, eight each.
+/// A record of a file.
 #[derive(Clone, Copy)]
-pub enum RecView<'b> {
-    Hist(HistView<'b>),
+pub enum RecView<'r> {
+    Hist(HistView<'r>),
     Arc(RawArc),
-    Blocks(&'b [u8]),
+    Blocks(&'r [RawBlock]),
 }

@@ -35,7 +35,7 @@ insert_past_first xs ys j x =
 
 -- ---- starts that are bumped one after the other
 
-length-bumped : (c : ℕ) (starts : List ℕ) → length (starts_with_one_more c starts) ≡ length starts
+pub length-bumped : (c : ℕ) (starts : List ℕ) → length (starts_with_one_more c starts) ≡ length starts
 length-bumped zero starts = length-map starts (λ (n : ℕ). n + 1)
 length-bumped (suc c) [] = refl
 length-bumped (suc c) (s ∷ ss) = ap suc (length-bumped c ss)
@@ -298,7 +298,7 @@ module _ {T : Type 0} where
   last_starts n zero (x ∷ y ∷ ys) new is = absurd (omega (arith, is))
   last_starts n (suc c) (x ∷ xs) new is = ap (λ (l : List ℕ). n ∷ l) (last_starts (n + length x.items) c xs new (omega (arith, is)))
 
-  pub last_longer : (cs : List (Vec T)) (starts : List ℕ) (len c : ℕ) (w new : Vec T) (x : T) → IsChunked cs starts len → suc c ≡ length cs → w ≡ get_or cs c w → length w.items < 512 → new.items ≡ w.items ++ x ∷ []
+  pub last_longer : (cs : List (Vec T)) (starts : List ℕ) (len c : ℕ) (w new : Vec T) (x : T) → IsChunked cs starts len → suc c ≡ length cs → w ≡ get_or cs c w → length w.items < 1024 → new.items ≡ w.items ++ x ∷ []
       → IsChunked (set cs c new) starts (len + 1) × (items_of (set cs c new) ≡ items_of cs ++ x ∷ [])
   last_longer cs starts len c w new x chunked last read room made =
       let made' : new.items ≡ (get_or cs c w).items ++ x ∷ [] = made ∙ ap (λ (v : Vec T). v.items ++ x ∷ []) read in
@@ -326,7 +326,7 @@ module _ {T : Type 0} where
       ap (λ (l : List ℕ). n ∷ l) (ap (λ (k : ℕ). starts_from k xs) next ∙ starts_shift (n + length x.items) xs)
   starts_bumped n (suc c) (x ∷ xs) w new lt more = ap (λ (l : List ℕ). n ∷ l) (starts_bumped (n + length x.items) c xs w new (omega (arith, lt)) more)
 
-  pub chunk_longer : (cs : List (Vec T)) (starts : List ℕ) (len i c start : ℕ) (w new : Vec T) (x : T) → IsChunked cs starts len → IsInChunk cs i c → start ≡ before c cs → w ≡ get_or cs c w → length w.items < 512
+  pub chunk_longer : (cs : List (Vec T)) (starts : List ℕ) (len i c start : ℕ) (w new : Vec T) (x : T) → IsChunked cs starts len → IsInChunk cs i c → start ≡ before c cs → w ≡ get_or cs c w → length w.items < 1024
       → new.items ≡ insert w.items (i - start) x → IsChunked (set cs c new) (starts_with_one_more (c + 1) starts) (len + 1) × (items_of (set cs c new) ≡ insert (items_of cs) i x)
   chunk_longer cs starts len i c start w new x chunked at is read room made =
       let inside = below_read cs i c start w at is read in
@@ -396,7 +396,7 @@ module _ {T : Type 0} where
 
   -- ---- which chunk has room
 
-  pub room_made : (cs : List (Vec T)) (starts : List ℕ) (i c start : ℕ) (head tail : Vec T) → IsChunkOf starts i c → length starts ≡ length cs → length head.items < 512 → length tail.items < 512
+  pub room_made : (cs : List (Vec T)) (starts : List ℕ) (i c start : ℕ) (head tail : Vec T) → IsChunkOf starts i c → length starts ≡ length cs → length head.items < 1024 → length tail.items < 1024
       → HasRoom (insert (set cs c head) (c + 1) tail) (insert starts (c + 1) start) i
   room_made cs starts i c start head tail at long first second k v other = by (ltb k (c + 1)) refl
     where
@@ -421,12 +421,12 @@ module _ {T : Type 0} where
           let f : i < i = omega (arith, above, old, other.from) in
           omega (arith, f)
 
-      by : (b : Bool) → ltb k (c + 1) ≡ b → length (get_or (insert (set cs c head) (c + 1) tail) k v).items < 512
+      by : (b : Bool) → ltb k (c + 1) ≡ b → length (get_or (insert (set cs c head) (c + 1) tail) k v).items < 1024
       by true e =
           let same : k ≡ c = omega (arith, ltb-true k (c + 1) e, not_before) in
           let is = ap (λ (n : ℕ). get_or (insert (set cs c head) (c + 1) tail) n v) same ∙ get_or-insert_below (set cs c head) (c + 1) tail v c (omega arith) inside' ∙ get_or-set_same cs c head v inside in
-          subst (λ (x : Vec T). length x.items < 512) (sym is) first
+          subst (λ (x : Vec T). length x.items < 1024) (sym is) first
       by false e =
           let same : k ≡ c + 1 = omega (arith, ltb-false k (c + 1) e, not_behind) in
           let is = ap (λ (n : ℕ). get_or (insert (set cs c head) (c + 1) tail) n v) same ∙ get_or-insert_at (set cs c head) (c + 1) tail v inside' in
-          subst (λ (x : Vec T). length x.items < 512) (sym is) second
+          subst (λ (x : Vec T). length x.items < 1024) (sym is) second

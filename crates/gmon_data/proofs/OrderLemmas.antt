@@ -1,18 +1,21 @@
 -- Histograms can be added in any order, and before all other records.
-use Rattle.std.proofs.Common.{◌≡◌, ℕ, zero, suc, ◌<◌, Bool, true, false, ltb, eqb, nat_eq, List, [], ◌∷◌, ◌++◌, length, sum, map, set, get_or, None, refl, sym, ap, subst, ◌∙◌, if◌then◌else◌, arith}
+use Rattle.std.proofs.Common.{◌≡◌, ℕ, zero, suc, ◌<◌, Bool, true, false, ltb, eqb, nat_eq, List, [], ◌∷◌, ◌++◌, length, sum, map, set, get_or, Option, None, Some, refl, sym, ap, subst, ◌∙◌, if◌then◌else◌, arith}
 use Rattle.std.specs.List.{sum_by, AllByRecursion}
 use Rattle.std.specs.List.Sorted.{IsPermutation}
 use Rattle.std.proofs.lemmas.List.Sorted.{IsPermutation-keeps, IsPermutation-sym}
 use Rattle.std.proofs.lemmas.List.Sums.{sum_by-cons}
+use Rattle.std.proofs.lemmas.List.{append-nil, map-append}
+use Rattle.std.specs.Option.{option_or}
+use Rattle.std.specs.Prelude.{unwrap_or}
 use Rattle.std.specs.List as lists
 use Rattle.gp_base.specs.declared.records.Unit as units
 use Rattle.gmon_data.specs.declared.hist.Hist.{Hist}
-use Rattle.gmon_data.specs.Hists.{put_hist, hist_sum, has_counters, samples_of, IsKept}
+use Rattle.gmon_data.specs.Hists.{put_hist, hist_sum, has_counters, range_of, kept_unit, conflict_with, samples_of, IsKept}
 use Rattle.gmon_data.specs.Tally.{tally, tally_total}
-use Rattle.gmon_data.specs.Content.{Content, WideRec, WideHist, WideArc, WideBlock, empty_content, same_ends, with_hist, with_record, with_records, content_of, record_conflict, conflict_of, HasSpan, IsAdded, IsWithin}
+use Rattle.gmon_data.specs.Content.{Content, WideRec, WideHist, WideArc, WideBlock, empty_content, same_ends, with_hist, with_record, with_records, content_of, hist_conflict, record_conflict, conflict_of, HasSpan, IsAdded, IsWithin}
 use Rattle.gmon_data.specs.Order.{is_other, hists_in, others_in, hist_record}
 use Rattle.gmon_data.proofs.HistLemmas.{all_kept}
-use Rattle.gmon_data.proofs.RecordLemmas.{parts_none, records_stand}
+use Rattle.gmon_data.proofs.RecordLemmas.{conflict-append, parts_none, records_stand}
 use Rattle.gmon_data.proofs.PutLemmas.{put_exchange}
 use Rattle.gmon_data.proofs.ExchangeLemmas.{hists_exchange, kept_of}
 
@@ -235,6 +238,47 @@ reordered recs qs new spans same a =
     let mine = spans_of recs spans in
     let theirs = carried Spans spans_exchanged (hists_in recs) qs same mine in
     first_added recs empty_content new (any_order (others_in recs) new qs (hists_in recs) (IsPermutation-sym (hists_in recs) qs same) (theirs, a)).1
+
+-- ---- the first conflict sees histograms alone
+
+abbrev put_in : Hist → units.Unit → Bool → Content → Content
+put_in h u b c = if b then record c { hists = put_hist h c.hists; «unit» = Some (unwrap_or c.«unit» (kept_unit u)) } else c
+
+same_conflicts : (recs : List WideRec) (c d : Content) → c.hists ≡ d.hists → c.«unit» ≡ d.«unit» → conflict_of c recs ≡ conflict_of d (map hist_record (hists_in recs))
+same_conflicts [] c d hists_are unit_is = refl
+same_conflicts (WideHist h u ∷ recs) c d hists_are unit_is =
+    let now : hist_conflict c h u ≡ hist_conflict d h u = λ i. if has_counters h then conflict_with (hists_are i) (unit_is i) (range_of h) (kept_unit u) else None in
+    let next = same_conflicts recs (with_hist h u c) (with_hist h u d) (hists_after (has_counters h)) (unit_after (has_counters h)) in
+    λ i. option_or (now i) (next i)
+  where
+    hists_after : (b : Bool) → (put_in h u b c).hists ≡ (put_in h u b d).hists
+    hists_after true = ap (put_hist h) hists_are
+    hists_after false = hists_are
+
+    unit_after : (b : Bool) → (put_in h u b c).«unit» ≡ (put_in h u b d).«unit»
+    unit_after true = ap (λ (o : Option units.Unit). Some (unwrap_or o (kept_unit u))) unit_is
+    unit_after false = unit_is
+same_conflicts (WideArc from to count ∷ recs) c d hists_are unit_is = same_conflicts recs (with_record (WideArc from to count) c) d hists_are unit_is
+same_conflicts (WideBlock addr count ∷ recs) c d hists_are unit_is = same_conflicts recs (with_record (WideBlock addr count) c) d hists_are unit_is
+
+first_spans : (ps qs : List Pair) → Spans (ps ++ qs) → Spans ps
+first_spans [] qs all = tt
+first_spans (p ∷ ps) qs all = (all.0, first_spans ps qs all.1)
+
+-- Where some first histograms were added in another order, the conflict of the records is that of the others.
+pub conflict_behind : (recs : List WideRec) (first qs behind : List Pair) (mid : Content) → AllByRecursion HasSpan recs → hists_in recs ≡ first ++ behind → IsPermutation first qs
+    → IsAdded (map hist_record qs) empty_content mid → conflict_of empty_content recs ≡ conflict_of mid (map hist_record behind)
+conflict_behind recs first qs behind mid spans are same added =
+    let mine = first_spans first behind (subst Spans are (spans_of recs spans)) in
+    let theirs = carried Spans spans_exchanged first qs same mine in
+    let ends : (ps : List Pair) → map hist_record ps ++ [] ≡ map hist_record ps = λ ps. append-nil (map hist_record ps) in
+    let other = subst (λ (l : List WideRec). IsAdded l empty_content mid) (sym (ends qs)) added in
+    let here = subst (λ (l : List WideRec). IsAdded l empty_content mid) (ends first) (any_order [] mid qs first (IsPermutation-sym first qs same) (theirs, other)).1 in
+    same_conflicts recs empty_content empty_content refl refl
+    ∙ ap (λ (ps : List Pair). conflict_of empty_content (map hist_record ps)) are
+    ∙ ap (conflict_of empty_content) (map-append hist_record first behind)
+    ∙ conflict-append (map hist_record first) (map hist_record behind) empty_content here.accepted
+    ∙ ap (λ (c : Content). conflict_of c (map hist_record behind)) (sym here.added)
 
 nothing_yet : empty_content ≡ content_of []
 unfolding content_of

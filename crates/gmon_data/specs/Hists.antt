@@ -70,6 +70,11 @@ has_counters h = nat_lt 0 (length h.counters)
 abbrev pub conflict_with : List Hist → Option units.Unit → HistRange → units.Unit → Option Unlike
 conflict_with hists «unit» range new = option_or (range_conflict hists range) (unit_conflict «unit» new)
 
+-- why a histogram with counters can't be added to one other
+abbrev pub unlike_of : HistRange → units.Unit → HistRange → units.Unit → Option Unlike
+unlike_of old old_unit new new_unit =
+    option_or (if overlap old new && not (same_range old new) then Some (Range old new) else None) (unit_conflict (Some (kept_unit old_unit)) (kept_unit new_unit))
+
 -- the two histograms that a refusal tells of
 abbrev pub unlike_in : AddRefusal → Option Unlike
 unlike_in answers.OutOfMemory = None

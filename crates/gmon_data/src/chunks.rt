@@ -10,7 +10,7 @@ use std::alloc::{AllocError, Global};
 use std::marker::Model;
 
 /// The most items of a chunk.
-const CHUNK: usize = 512;
+const CHUNK: usize = 1024;
 
 /// A list in chunks of at most `CHUNK` items. Contracts see the list of its items.
 #[derive(Drop)]
@@ -263,6 +263,14 @@ fn split_full<T: Drop>(
 fn bump(starts: &mut Vec<usize>, c: usize)
     requires { (k : ℕ) → k < length starts.old.items → slice_index starts.old.items k + 1 < 2 ^ 64 }
     ensures { starts.new.items ≡ starts_with_one_more c starts.old.items }
+{
+    count_up(starts.as_mut_slice(), c);
+}
+
+/// Counts up the numbers from number `c` on: of a slice, so that several are counted up at a time.
+fn count_up(starts: &mut [usize], c: usize)
+    requires { (k : ℕ) → k < length starts.old → slice_index starts.old k + 1 < 2 ^ 64 }
+    ensures { starts.new ≡ starts_with_one_more c starts.old }
 {
     for k in c..starts.len() {
         starts[k] += 1;

@@ -4,7 +4,7 @@ ghost use Rattle.std.specs.Prelude.{◌≡◌, ◌+◌, ◌^◌, ◌<◌, ◌≤
 ghost use Rattle.std.specs.List.{AllByRecursion};
 ghost use Rattle.std.specs.List.Sorted.{IsPartitionPoint};
 ghost use Rattle.gmon_data.specs.declared.hist.Hist.{Hist as AnyHist};
-ghost use Rattle.gmon_data.specs.Hists.{range_conflict, put_hist, place_of, samples_of, kept_unit, unit_conflict, conflict_with, IsKept, IsApart};
+ghost use Rattle.gmon_data.specs.Hists.{range_conflict, put_hist, place_of, samples_of, kept_unit, unit_conflict, unlike_of, conflict_with, IsKept, IsApart};
 
 use crate::chunks::ChunkedList;
 use crate::hist::{Hist, HistRange, with_counters_of};
@@ -70,6 +70,16 @@ fn find_unit_conflict(kept: Option<Unit>, new: Unit) -> Option<Unlike>
         return Some(Unlike::Dimension { old, new });
     }
     None
+}
+
+/// Why a histogram with counters can't be added to one other. Takes no memory.
+pub fn unlike(old: HistRange, old_unit: Unit, new: HistRange, new_unit: Unit) -> Option<Unlike>
+    ensures { result ≡ unlike_of old old_unit new new_unit }
+{
+    if old.low < new.high && new.low < old.high && old != new {
+        return Some(Unlike::Range { old, new });
+    }
+    find_unit_conflict(Some(normal_unit(old_unit)), normal_unit(new_unit))
 }
 
 /// Why a histogram with counters can't be added to those that are kept.

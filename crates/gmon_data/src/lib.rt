@@ -12,5 +12,6 @@ mod tally;
 pub mod values;
 
 pub use hist::{Hist, HistRange};
+pub use hists::unlike;
 pub use profile::Profile;
 pub use refusal::{AddRefusal, ReadRefusal, Unlike};

@@ -1,13 +1,11 @@
 -- What it means that a profile file was read in pieces.
-use Rattle.std.specs.Prelude.{◌≡◌, ℕ, ◌<◌, ◌≤◌, List, [], length, Result, Ok, Err, ⊤}
+use Rattle.std.specs.Prelude.{◌≡◌, ℕ, ◌<◌, ◌≤◌, List, length, Result, ⊤}
 use Rattle.gp_base.specs.declared.records.Form.TheVariants.{Bsd, Gnu}
 use Rattle.gmon_bsd.specs.Fed as bsd
 use Rattle.gmon_gnu.specs.Fed as gnu
-use Rattle.host_port.specs.declared.loading.LoadRefusal.{LoadRefusal}
-use Rattle.host_port.specs.Act.{file_content}
-use Rattle.host_port.specs.Outside.{Outside, Did, KeepsCounts, with_openings}
-use Rattle.host_port.specs.Host.{IfTold}
-use Rattle.host_port.specs.Load.{Loads}
+use Rattle.host_port.specs.declared.whole_file.LoadRefusal.{LoadRefusal}
+use Rattle.host_port.specs.Outside.{Outside}
+use Rattle.host_port.specs.Load.{ReadsAll}
 use Rattle.gmon_files.specs.declared.file_reader.FileReader.{FileReader}
 use Rattle.gmon_files.specs.declared.file_reader.FileReader.TheVariants as reader
 use Rattle.gmon_data.specs.Content.{WideRec}
@@ -41,14 +39,6 @@ StandsFor bytes (reader.Gnu r) = gnu.StandsFor bytes r × (form_of bytes ≡ Gnu
 abbrev pub FitsProfile : FileReader → Type 0
 FitsProfile r = FitsForSome (λ bytes. StandsFor bytes r) file_refusal spelled_records
 
--- the named file was read to its end, and these are its bytes, as far as it is told
-pub record IsContent (name : List ℕ) (limit : ℕ) (old new : Outside) (bytes : List ℕ) : Type 0 where
-  pub nothing_done : Did [] (with_openings 1 old) new
-  pub answer : IfTold new (λ d. bytes ≡ file_content name d.files)
-  pub within : length bytes ≤ limit
-  pub counts : KeepsCounts old new
-
 -- a reader stands for some bytes, of which the number is known, and they are the file's; or it was not read
 abbrev pub IsReadFrom : List ℕ → ℕ → Outside → Outside → Result (FileReader × ℕ) LoadRefusal → Type 0
-IsReadFrom name limit old new (Ok pair) = (bytes : List ℕ) × IsContent name limit old new bytes × StandsFor bytes pair.0 × (pair.1 ≡ length bytes)
-IsReadFrom name limit old new (Err refusal) = Loads name limit old new (Err refusal)
+IsReadFrom = ReadsAll StandsFor

@@ -1,22 +1,20 @@
 //! Reading a profile file in pieces; its form is told by its first four bytes.
 
-ghost use Rattle.std.specs.Prelude.{◌≡◌, ℕ, List, [], ◌+◌, ◌^◌, ◌<◌, ◌≤◌, ◌++◌, false, length, None, Err, IfErr, IfOk, IfSome, OnOk};
+ghost use Rattle.std.specs.Prelude.{◌≡◌, ℕ, List, [], ◌+◌, ◌^◌, ◌<◌, ◌++◌, false, length, None, Some, Err, IfErr, IfOk, IfSome, OnOk};
 ghost use Rattle.gp_base.specs.Refusal.{IsRefusal};
 ghost use Rattle.gmon_data.specs.Content.{conflict_of, content_of, empty_content};
 ghost use Rattle.gmon_data.specs.Refusals.{IsReadRefusal};
 ghost use Rattle.gmon_files.specs.Forms.{file_records, file_refusal, FileSpells};
+ghost use Rattle.gmon_files.specs.Viewed.{records_left};
 ghost use Rattle.gmon_files.specs.FileRead.{spelled_records, FitsProfile, StandsFor, len_of, IsFed, IsReadFrom};
 
 use crate::forms::{GNU, form_of};
+use crate::views::RecordViews;
 use gmon_cells::Remnant;
 use gmon_data::{Profile, ReadRefusal};
-use gp_base::limits::MAX_PROFILE_BYTES;
 use gp_base::{Form, GmonRefusal, Records};
-use host_port::{Host, LoadRefusal, read_front};
+use host_port::{Host, LoadRefusal, TakesPieces, read_all};
 use std::alloc::{AllocError, Global};
-
-/// How many bytes are asked for at a time.
-const PIECE: usize = 4_096;
 
 /// A reader of a profile file that comes in pieces: its first bytes, while they don't tell the form yet, or
 /// the form's reader.
@@ -90,6 +88,31 @@ impl FileReader {
         }
     }
 
+    /// The records that the bytes spell, one after the other, as the reader keeps them, or their first refusal.
+    /// Takes no memory.
+    pub fn records(&self) -> Result<RecordViews<'_>, GmonRefusal>
+        ensures refused { (bytes : List ℕ) → StandsFor bytes self.now
+            → IfErr result (λ refusal. file_refusal bytes ≡ Some refusal) }
+        ensures accepted { (bytes : List ℕ) → StandsFor bytes self.now
+            → OnOk result (file_refusal bytes ≡ None) }
+        ensures records { (bytes : List ℕ) → StandsFor bytes self.now
+            → IfOk result (λ views. records_left views ≡ file_records bytes) }
+    {
+        match self {
+            FileReader::Front(front) => Err(GmonRefusal::Short {
+                at: front.len() as u32,
+            }),
+            FileReader::Bsd(reader) => match reader.records() {
+                Ok(views) => Ok(RecordViews::Bsd(views)),
+                Err(refusal) => Err(refusal),
+            },
+            FileReader::Gnu(reader) => match reader.records() {
+                Ok(views) => Ok(RecordViews::Gnu(views)),
+                Err(refusal) => Err(refusal),
+            },
+        }
+    }
+
     /// The profile of the records that the bytes spell, without a list of them. It answers the file's first refusal,
     /// before memory is taken, or else the first refusal of `Profile::add_records` in the order of the file.
     pub fn into_profile(self) -> Result<Profile, ReadRefusal>
@@ -139,6 +162,15 @@ fn begin(alloc: Global, front: &[u8], rest: &[u8]) -> Result<FileReader, AllocEr
     }
 }
 
+/// What it takes in pieces is a profile file.
+impl TakesPieces for FileReader {
+    ghost holds = { StandsFor };
+
+    fn take(self, alloc: Global, piece: &[u8]) -> Result<FileReader, AllocError> {
+        self.feed(alloc, piece)
+    }
+}
+
 /// Reads the named file, which has at most `limit` bytes, in pieces: a reader that stands for its bytes, and
 /// how many they are. It reads no more than one byte beyond the limit.
 pub fn read_pieces<H: Host>(
@@ -147,25 +179,9 @@ pub fn read_pieces<H: Host>(
     name: &str,
     limit: u32,
 ) -> Result<(FileReader, u32), LoadRefusal>
-    requires idle { (H.outside host.old).is_writing ≡ false }
-    requires limit { limit ≤ MAX_PROFILE_BYTES }
+    requires { (H.outside host.old).is_writing ≡ false }
     ensures read { IsReadFrom name.now limit (H.outside host.old) (H.outside host.new) result }
     ensures fed { IfOk result (λ pair. IsFed pair.0) }
 {
-    host.open_input(name)?;
-    let mut reader = FileReader::new();
-    let mut len: u32 = 0;
-    let mut piece = [0; PIECE];
-    loop {
-        let left = (limit - len) as usize;
-        let n = read_front(host, &mut piece, PIECE.min(left + 1))?;
-        if n == 0 {
-            return Ok((reader, len));
-        }
-        if n > left {
-            return Err(LoadRefusal::TooLarge);
-        }
-        reader = reader.feed(alloc, piece.split_at(n).0)?;
-        len += n as u32;
-    }
+    read_all(alloc, host, name, limit, FileReader::new())
 }

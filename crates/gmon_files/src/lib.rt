@@ -5,8 +5,8 @@
 pub mod file_reader;
 pub mod forms;
 pub mod laws;
-pub mod viewing;
+pub mod views;
 
 pub use file_reader::{FileReader, read_pieces};
 pub use forms::{fault, form_of};
-pub use viewing::RecordViews;
+pub use views::RecordViews;

@@ -14,6 +14,7 @@ use Rattle.gmon_data.specs.Content.{Content, WideRec, IsAdded, IsStopped, IsWith
 use Rattle.gmon_data.proofs.LoopLemmas.{IsInTurn}
 use Rattle.gmon_data.proofs.RecordLemmas.{added_both, arcs_added, arcs_widened, stopped_first, stopped_second, within_first, within_second}
 use Rattle.gmon_gnu.specs.declared.state.Entry.{Entry}
+use Rattle.gmon_gnu.specs.declared.state.HistFields.{HistFields}
 use Rattle.gmon_gnu.specs.Held.{entry_recs, rec_of, recs_in, entries_recs}
 
 last_all : (xs ys : List Rec) → AllByRecursion HasRange (xs ++ ys) → AllByRecursion HasRange ys
@@ -24,39 +25,39 @@ last_all (x ∷ xs) ys all = last_all xs ys all.1
 pub rest_of_slice : (slice items : List RawArc) (run : ℕ) → slice ≡ items → take (length slice - run) (drop run slice) ≡ drop run items
 rest_of_slice slice items run is = take_all (length slice - run) (drop run slice) (omega (arith, length-drop run slice)) ∙ ap (drop run) is
 
-module _ (counters : List ℕ) (pairs : List RawBlock) (arcs : List RawArc) where
+module _ (fields : List HistFields) (counters : List ℕ) (pairs : List RawBlock) (arcs : List RawArc) where
   -- an entry is its arcs, and the record behind them
-  pub entry_widened : (e : Entry) → wide_records (entry_recs counters pairs arcs e) ≡ map wide_arc (take (e.last - e.first) (drop e.first arcs)) ++ wide_record (rec_of counters pairs e.body)
+  pub entry_widened : (e : Entry) → wide_records (entry_recs fields counters pairs arcs e) ≡ map wide_arc (take (e.last - e.first) (drop e.first arcs)) ++ wide_record (rec_of fields counters pairs e.body)
   entry_widened e =
       let before = take (e.last - e.first) (drop e.first arcs) in
-      let r = rec_of counters pairs e.body in
+      let r = rec_of fields counters pairs e.body in
       flat_map-append wide_record (map Arc before) (r ∷ [])
       ∙ ap (λ (v : List WideRec). v ++ wide_records (r ∷ [])) (arcs_widened before)
       ∙ ap (λ (v : List WideRec). map wide_arc before ++ v) (flat_map-cons wide_record r [] ∙ append-nil (wide_record r))
 
   -- what was read is the entries, and the arcs behind them
-  pub all_widened : (entries : List Entry) (run : ℕ) → wide_records (recs_in counters pairs arcs entries run) ≡ entries_recs counters pairs arcs entries ++ map wide_arc (drop run arcs)
+  pub all_widened : (entries : List Entry) (run : ℕ) → wide_records (recs_in fields counters pairs arcs entries run) ≡ entries_recs fields counters pairs arcs entries ++ map wide_arc (drop run arcs)
   all_widened entries run =
-      flat_map-append wide_record (flat_map (entry_recs counters pairs arcs) entries) (map Arc (drop run arcs))
-      ∙ ap (λ (v : List WideRec). entries_recs counters pairs arcs entries ++ v) (arcs_widened (drop run arcs))
+      flat_map-append wide_record (flat_map (entry_recs fields counters pairs arcs) entries) (map Arc (drop run arcs))
+      ∙ ap (λ (v : List WideRec). entries_recs fields counters pairs arcs entries ++ v) (arcs_widened (drop run arcs))
 
-  pub entries_in_turn : IsInTurn Entry (λ e. wide_records (entry_recs counters pairs arcs e)) (entries_recs counters pairs arcs)
+  pub entries_in_turn : IsInTurn Entry (λ e. wide_records (entry_recs fields counters pairs arcs e)) (entries_recs fields counters pairs arcs)
   entries_in_turn = record {
     none = refl;
     more = λ e entries.
-        ap wide_records (flat_map-cons (entry_recs counters pairs arcs) e entries)
-        ∙ flat_map-append wide_record (entry_recs counters pairs arcs e) (flat_map (entry_recs counters pairs arcs) entries);
+        ap wide_records (flat_map-cons (entry_recs fields counters pairs arcs) e entries)
+        ∙ flat_map-append wide_record (entry_recs fields counters pairs arcs e) (flat_map (entry_recs fields counters pairs arcs) entries);
   }
 
   -- the histograms of entries have ranges where all do
-  pub entries_ranges : (entries : List Entry) (rest : List Rec) → AllByRecursion HasRange (flat_map (entry_recs counters pairs arcs) entries ++ rest) → AllByRecursion (λ e. HasRange (rec_of counters pairs e.body)) entries
+  pub entries_ranges : (entries : List Entry) (rest : List Rec) → AllByRecursion HasRange (flat_map (entry_recs fields counters pairs arcs) entries ++ rest) → AllByRecursion (λ e. HasRange (rec_of fields counters pairs e.body)) entries
   entries_ranges [] rest all = tt
   entries_ranges (e ∷ entries) rest all =
       let before = map Arc (take (e.last - e.first) (drop e.first arcs)) in
-      let r = rec_of counters pairs e.body in
-      let others = flat_map (entry_recs counters pairs arcs) entries in
-      let split : flat_map (entry_recs counters pairs arcs) (e ∷ entries) ++ rest ≡ before ++ (r ∷ (others ++ rest)) =
-      ap (λ (v : List Rec). v ++ rest) (flat_map-cons (entry_recs counters pairs arcs) e entries)
+      let r = rec_of fields counters pairs e.body in
+      let others = flat_map (entry_recs fields counters pairs arcs) entries in
+      let split : flat_map (entry_recs fields counters pairs arcs) (e ∷ entries) ++ rest ≡ before ++ (r ∷ (others ++ rest)) =
+      ap (λ (v : List Rec). v ++ rest) (flat_map-cons (entry_recs fields counters pairs arcs) e entries)
       ∙ append_assoc (before ++ r ∷ []) others rest
       ∙ append_assoc before (r ∷ []) (others ++ rest) in
       let behind = last_all before (r ∷ (others ++ rest)) (subst (λ (v : List Rec). AllByRecursion HasRange v) split all) in
@@ -66,10 +67,10 @@ module _ (counters : List ℕ) (pairs : List RawBlock) (arcs : List RawArc) wher
 
   module _ (entries : List Entry) (run : ℕ) (old start : Content) (same : start ≡ old) where
     abbrev all : List WideRec
-    all = wide_records (recs_in counters pairs arcs entries run)
+    all = wide_records (recs_in fields counters pairs arcs entries run)
 
     abbrev first : List WideRec
-    first = entries_recs counters pairs arcs entries
+    first = entries_recs fields counters pairs arcs entries
 
     abbrev last : List WideRec
     last = map wide_arc (drop run arcs)

@@ -7,7 +7,7 @@ pub mod FedLemmas
 pub mod HistLemmas
 pub mod SpellingLemmas
 pub mod FaultLemmas
-pub mod ViewLemmas
+pub mod SkipLemmas
 pub mod MeaningLemmas
 pub mod RunTextLemmas
 pub mod RunReadBack

@@ -1,18 +1,22 @@
 -- Why a reader that took some of a piece can take the rest of it.
-use Rattle.std.proofs.Common.{◌≡◌, ℕ, ◌+◌, ◌*◌, ◌≤◌, List, [], length, ap, arith, sym, subst}
+use Rattle.std.proofs.Common.{◌≡◌, ℕ, ◌+◌, ◌*◌, ◌≤◌, List, [], ◌∷◌, ◌++◌, length, ap, arith, sym, subst}
 use Rattle.std.specs.Prelude.{vec_len, vec_capacity}
+use Rattle.std.specs.List.{AllByRecursion}
 use Rattle.gmon_gnu.specs.declared.state.Begun.{Begun}
+use Rattle.gmon_gnu.specs.declared.state.Body.{Body}
+use Rattle.gmon_gnu.specs.declared.state.Body.TheVariants as body
+use Rattle.gmon_gnu.specs.declared.state.Entry.{Entry}
 use Rattle.gmon_gnu.specs.declared.state.Part.{Part}
 use Rattle.gmon_gnu.specs.declared.state.Part.TheVariants as part
 use Rattle.gmon_gnu.specs.declared.state.State.{State}
-use Rattle.gmon_gnu.specs.Begun.{arcs_of, cost_of}
-use Rattle.gmon_gnu.specs.Held.{HasRoom, IsPart, pending_entries}
-use Rattle.gmon_gnu.specs.Taking.{Begins, CanTake, EndsOrGoesOn}
+use Rattle.gmon_gnu.specs.Begun.{arcs_of, cost_of, fields_of}
+use Rattle.gmon_gnu.specs.Held.{AreFew, AreWithin, HasRoom, IsBodyWithin, IsPart, IsWithin, pending_entries, pending_fields}
+use Rattle.gmon_gnu.specs.Taking.{Begins, CanTake, EndsOrGoesOn, KeepsItems}
 
 -- what was held in part is taken, and another part begins
 pub can_take_on : (total : ℕ) (piece rest torn : List ℕ) (s : State) (p : Part) → CanTake total piece s → length rest ≤ length piece → torn ≡ []
-    → IsPart p (length s.counters.cells.items) (length s.pairs.cells.items) [] s.counters.torn s.pairs.torn → pending_entries p ≡ 0 → CanTake total rest (record s { part = p; torn = torn })
-can_take_on total piece rest torn s p can less none at nothing =
+    → IsPart p (length s.counters.cells.items) (length s.pairs.cells.items) [] s.counters.torn s.pairs.torn → pending_entries p ≡ 0 → pending_fields p ≡ 0 → CanTake total rest (record s { part = p; torn = torn })
+can_take_on total piece rest torn s p can less none at nothing no_fields =
     let none_is : length torn ≡ 0 = ap length none in
     record {
       held = record {
@@ -27,31 +31,57 @@ can_take_on total piece rest torn s p can less none at nothing =
         counters = omega (arith, can.room.counters, less);
         pairs = omega (arith, can.room.pairs, less);
         arcs = omega (arith, can.room.arcs, less, none_is);
+        fields = omega (arith, can.room.fields, less, none_is, no_fields);
         entries = omega (arith, can.room.entries, less, none_is, nothing);
       };
-      within = omega (arith, can.within, less, none_is);
+      few = record {
+        counters = omega (arith, can.few.counters, less);
+        pairs = omega (arith, can.few.pairs, less);
+        arcs = omega (arith, can.few.arcs, less, none_is);
+        fields = omega (arith, can.few.fields, less, none_is, no_fields);
+        entries = omega (arith, can.few.entries, less, none_is, nothing);
+      };
     }
 
 -- a record was begun: its front had the bytes that its arc or its entry takes of the room
 pub room_begun : (m n : ℕ) (b : Begun) (torn : List ℕ) (s t : State) → HasRoom m s → s.part ≡ part.Between → Begins b (record s { torn = torn }) t
-    → n ≤ m → 13 * arcs_of b + n ≤ length s.torn + m → 5 * cost_of b + n ≤ length s.torn + m → HasRoom n t
-room_begun m n b torn s t room part_is begins less arcs entries =
+    → n ≤ m → 13 * arcs_of b + n ≤ length s.torn + m → 33 * fields_of b + n ≤ length s.torn + m → 5 * cost_of b + n ≤ length s.torn + m → HasRoom n t
+room_begun m n b torn s t room part_is begins less arcs fields entries =
     let none : length t.torn ≡ 0 = ap length begins.torn in
     let counters : vec_len t.counters.cells ≡ vec_len s.counters.cells = λ i. vec_len (begins.counters i) in
     let counters_room : vec_capacity t.counters.cells ≡ vec_capacity s.counters.cells = λ i. vec_capacity (begins.counters i) in
     let pairs : vec_len t.pairs.cells ≡ vec_len s.pairs.cells = λ i. vec_len (begins.pairs i) in
     let pairs_room : vec_capacity t.pairs.cells ≡ vec_capacity s.pairs.cells = λ i. vec_capacity (begins.pairs i) in
     let nothing : pending_entries s.part ≡ 0 = ap pending_entries part_is in
+    let no_fields : pending_fields s.part ≡ 0 = ap pending_fields part_is in
     record {
       counters = omega (arith, room.counters, counters, counters_room, begins.half, less);
       pairs = omega (arith, room.pairs, pairs, pairs_room, begins.pair, less);
       arcs = omega (arith, room.arcs, begins.arcs, begins.arcs_room, none, arcs);
+      fields = omega (arith, room.fields, begins.fields, begins.fields_room, none, no_fields, fields);
       entries = omega (arith, room.entries, begins.entries, begins.capacity, none, nothing, entries);
     }
 
+-- and so many bytes of the file
+pub few_begun : (total m n : ℕ) (b : Begun) (torn : List ℕ) (s t : State) → AreFew total m s → s.part ≡ part.Between → Begins b (record s { torn = torn }) t
+    → n ≤ m → 13 * arcs_of b + n ≤ length s.torn + m → 33 * fields_of b + n ≤ length s.torn + m → 5 * cost_of b + n ≤ length s.torn + m → AreFew total n t
+few_begun total m n b torn s t few part_is begins less arcs fields entries =
+    let none : length t.torn ≡ 0 = ap length begins.torn in
+    let counters : vec_len t.counters.cells ≡ vec_len s.counters.cells = λ i. vec_len (begins.counters i) in
+    let pairs : vec_len t.pairs.cells ≡ vec_len s.pairs.cells = λ i. vec_len (begins.pairs i) in
+    let nothing : pending_entries s.part ≡ 0 = ap pending_entries part_is in
+    let no_fields : pending_fields s.part ≡ 0 = ap pending_fields part_is in
+    record {
+      counters = omega (arith, few.counters, counters, begins.half, less);
+      pairs = omega (arith, few.pairs, pairs, begins.pair, less);
+      arcs = omega (arith, few.arcs, begins.arcs, none, arcs);
+      fields = omega (arith, few.fields, begins.fields, none, no_fields, fields);
+      entries = omega (arith, few.entries, begins.entries, none, nothing, entries);
+    }
+
 -- a record ends or goes on: it had its place before
-pub room_on : (n : ℕ) (s t : State) → HasRoom n s → pending_entries s.part ≡ 1 → EndsOrGoesOn s t → HasRoom n t
-room_on n s t room pending g =
+pub room_on : (n places : ℕ) (s t : State) → HasRoom n s → pending_entries s.part ≡ 1 → pending_fields s.part ≡ places → EndsOrGoesOn places s t → HasRoom n t
+room_on n places s t room pending fields g =
     let k = g.items in
     let none : length t.torn ≡ length s.torn = ap length k.torn in
     let counters : vec_len t.counters.cells ≡ vec_len s.counters.cells = λ i. vec_len (k.counters i).cells in
@@ -66,5 +96,53 @@ room_on n s t room pending g =
       counters = omega (arith, room.counters, counters, counters_room, half);
       pairs = omega (arith, room.pairs, pairs, pairs_room, pair);
       arcs = omega (arith, room.arcs, arcs, arcs_room, none);
+      fields = omega (arith, room.fields, g.fields, g.fields_room, fields, none);
       entries = omega (arith, room.entries, g.entries, g.capacity, pending, none);
     }
+
+pub few_on : (total n places : ℕ) (s t : State) → AreFew total n s → pending_entries s.part ≡ 1 → pending_fields s.part ≡ places → EndsOrGoesOn places s t → AreFew total n t
+few_on total n places s t few pending fields g =
+    let k = g.items in
+    let none : length t.torn ≡ length s.torn = ap length k.torn in
+    let counters : vec_len t.counters.cells ≡ vec_len s.counters.cells = λ i. vec_len (k.counters i).cells in
+    let half : length t.counters.torn ≡ length s.counters.torn = λ i. length (k.counters i).torn in
+    let pairs : vec_len t.pairs.cells ≡ vec_len s.pairs.cells = λ i. vec_len (k.pairs i).cells in
+    let pair : length t.pairs.torn ≡ length s.pairs.torn = λ i. length (k.pairs i).torn in
+    let arcs : vec_len t.arcs ≡ vec_len s.arcs = λ i. vec_len (k.arcs i) in
+    record {
+      counters = omega (arith, few.counters, counters, half);
+      pairs = omega (arith, few.pairs, pairs, pair);
+      arcs = omega (arith, few.arcs, arcs, none);
+      fields = omega (arith, few.fields, g.fields, fields, none);
+      entries = omega (arith, few.entries, g.entries, pending, none);
+    }
+
+-- ---- an entry more
+
+-- fields of more histograms
+more_fields : (f g c p a : ℕ) → f ≤ g → (es : List Entry) → AllByRecursion (IsWithin f c p a) es → AllByRecursion (IsWithin g c p a) es
+more_fields f g c p a le [] all = tt
+more_fields f g c p a le (e ∷ es) all = ((all.0.0, all.0.1, by e.body all.0.2), more_fields f g c p a le es all.1)
+  where
+    by : (b : Body) → IsBodyWithin f c p b → IsBodyWithin g c p b
+    by (body.Hist n s t) w = (w.0, w.1, omega (arith, w.2, le))
+    by (body.Blocks s t) w = w
+
+all_and_one : (P : Entry → Type 0) (es : List Entry) (e : Entry) → AllByRecursion P es → P e → AllByRecursion P (es ++ e ∷ [])
+all_and_one P [] e all one = (one, tt)
+all_and_one P (x ∷ es) e all one = (all.0, all_and_one P es e all.1 one)
+
+-- all entries lie within what there is where the new one does
+pub added_within : (s t : State) (e : Entry) → KeepsItems s t → length s.fields.items ≤ length t.fields.items → t.entries.items ≡ s.entries.items ++ e ∷ [] → AreWithin s
+    → IsWithin (length t.fields.items) (length s.counters.cells.items) (length s.pairs.cells.items) (length s.arcs.items) e → AreWithin t
+added_within s t e k more entries within one =
+    let c = length s.counters.cells.items in
+    let p = length s.pairs.cells.items in
+    let a = length s.arcs.items in
+    let f = length t.fields.items in
+    let all = all_and_one (IsWithin f c p a) s.entries.items e (more_fields (length s.fields.items) f c p a more s.entries.items within) one in
+    let P : List Entry → ℕ → ℕ → ℕ → Type 0 = λ es x y z. AllByRecursion (IsWithin f x y z) es in
+    subst (λ z. P t.entries.items (length t.counters.cells.items) (length t.pairs.cells.items) z) (λ i. length (sym k.arcs i).items)
+    (subst (λ y. P t.entries.items (length t.counters.cells.items) y a) (λ i. length (sym k.pairs i).cells.items)
+    (subst (λ x. P t.entries.items x p a) (λ i. length (sym k.counters i).cells.items)
+    (subst (λ es. P es c p a) (sym entries) all)))

@@ -16,12 +16,18 @@ begun_on len (begun.Arc arc) rest = behind_records (Arc arc ∷ []) (records_on 
 begun_on len (begun.Blocks count) rest = blocks_on len [] count rest
 begun_on len (begun.Refused refusal) rest = Err refusal
 
--- what it takes of the room for entries, and of that for arcs
+-- what it takes of the room for entries, for fields of histograms, and for arcs
 abbrev pub cost_of : Begun → ℕ
 cost_of (begun.Hist f count) = 1
 cost_of (begun.Arc arc) = 0
 cost_of (begun.Blocks count) = 1
 cost_of (begun.Refused refusal) = 0
+
+abbrev pub fields_of : Begun → ℕ
+fields_of (begun.Hist f count) = 1
+fields_of (begun.Arc arc) = 0
+fields_of (begun.Blocks count) = 0
+fields_of (begun.Refused refusal) = 0
 
 abbrev pub arcs_of : Begun → ℕ
 arcs_of (begun.Hist f count) = 0

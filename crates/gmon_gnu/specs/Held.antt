@@ -1,5 +1,5 @@
 -- How a reader holds what it has read.
-use Rattle.std.specs.Prelude.{◌≡◌, ℕ, zero, suc, ◌+◌, ◌-◌, ◌/◌, ◌<◌, ◌≤◌, List, [], ◌∷◌, ◌++◌, map, take, drop, length, vec_len, vec_capacity, ⊤}
+use Rattle.std.specs.Prelude.{◌≡◌, ℕ, zero, suc, ◌+◌, ◌-◌, ◌/◌, ◌^◌, ◌<◌, ◌≤◌, List, [], ◌∷◌, ◌++◌, map, take, drop, get_or, length, vec_len, vec_capacity, ⊤}
 use Rattle.std.specs.List.{AllByRecursion, flat_map}
 use Rattle.gp_base.specs.declared.records.RawArc.{RawArc}
 use Rattle.gp_base.specs.declared.records.RawBlock.{RawBlock}
@@ -20,47 +20,52 @@ use Rattle.gmon_gnu.specs.Going.{Open, InHeader, Between, InHist, InBlocks, Stop
 abbrev pub hist_with : HistFields → List ℕ → RawHist
 hist_with f counters = record { low = f.low; high = f.high; unit = f.unit; counters = counters }
 
--- a record by its span of the counters or of the pairs
-abbrev pub rec_of : List ℕ → List RawBlock → Body → Rec
-rec_of counters pairs (body.Hist f start end) = Hist (hist_with f (take (end - start) (drop start counters)))
-rec_of counters pairs (body.Blocks start end) = Blocks (take (end - start) (drop start pairs))
+-- what stands where a list of fields has none
+abbrev pub no_fields : HistFields
+no_fields = record { low = 0; high = 0; unit = record { rate = 0; dim = []; «abbrev» = 0 } }
+
+-- a record by the number of its fields and by its span of the counters, or by its span of the pairs
+abbrev pub rec_of : List HistFields → List ℕ → List RawBlock → Body → Rec
+rec_of fields counters pairs (body.Hist f start end) = Hist (hist_with (get_or fields f no_fields) (take (end - start) (drop start counters)))
+rec_of fields counters pairs (body.Blocks start end) = Blocks (take (end - start) (drop start pairs))
 
 -- arcs, and the record behind them
-abbrev pub entry_recs : List ℕ → List RawBlock → List RawArc → Entry → List Rec
-entry_recs counters pairs arcs e = map Arc (take (e.last - e.first) (drop e.first arcs)) ++ rec_of counters pairs e.body ∷ []
+abbrev pub entry_recs : List HistFields → List ℕ → List RawBlock → List RawArc → Entry → List Rec
+entry_recs fields counters pairs arcs e = map Arc (take (e.last - e.first) (drop e.first arcs)) ++ rec_of fields counters pairs e.body ∷ []
 
 -- the records of entries, and behind them the arcs from a number on
-abbrev pub recs_in : List ℕ → List RawBlock → List RawArc → List Entry → ℕ → List Rec
-recs_in counters pairs arcs entries run = flat_map (entry_recs counters pairs arcs) entries ++ map Arc (drop run arcs)
+abbrev pub recs_in : List HistFields → List ℕ → List RawBlock → List RawArc → List Entry → ℕ → List Rec
+recs_in fields counters pairs arcs entries run = flat_map (entry_recs fields counters pairs arcs) entries ++ map Arc (drop run arcs)
 
 abbrev pub recs_of : State → List Rec
-recs_of s = recs_in s.counters.cells.items s.pairs.cells.items s.arcs.items s.entries.items s.run
+recs_of s = recs_in s.fields.items s.counters.cells.items s.pairs.cells.items s.arcs.items s.entries.items s.run
 
 -- the records of entries, as records of a profile
-abbrev pub entries_recs : List ℕ → List RawBlock → List RawArc → List Entry → List WideRec
-entries_recs counters pairs arcs entries = wide_records (flat_map (entry_recs counters pairs arcs) entries)
+abbrev pub entries_recs : List HistFields → List ℕ → List RawBlock → List RawArc → List Entry → List WideRec
+entries_recs fields counters pairs arcs entries = wide_records (flat_map (entry_recs fields counters pairs arcs) entries)
 
 -- each histogram's counters, if there are any, share a range that isn't empty
 abbrev pub HaveRanges : State → Type 0
-HaveRanges s = AllByRecursion (λ e. HasRange (rec_of s.counters.cells.items s.pairs.cells.items e.body)) s.entries.items
+HaveRanges s = AllByRecursion (λ e. HasRange (rec_of s.fields.items s.counters.cells.items s.pairs.cells.items e.body)) s.entries.items
 
--- a span lies within what there is
-abbrev pub IsBodyWithin : ℕ → ℕ → Body → Type 0
-IsBodyWithin counters pairs (body.Hist f start end) = (start ≤ end) × (end ≤ counters)
-IsBodyWithin counters pairs (body.Blocks start end) = (start ≤ end) × (end ≤ pairs)
+-- fields and a span lie within what there is
+abbrev pub IsBodyWithin : ℕ → ℕ → ℕ → Body → Type 0
+IsBodyWithin fields counters pairs (body.Hist f start end) = (start ≤ end) × (end ≤ counters) × (f < fields)
+IsBodyWithin fields counters pairs (body.Blocks start end) = (start ≤ end) × (end ≤ pairs)
 
-abbrev pub IsWithin : ℕ → ℕ → ℕ → Entry → Type 0
-IsWithin counters pairs arcs e = (e.first ≤ e.last) × (e.last ≤ arcs) × IsBodyWithin counters pairs e.body
+abbrev pub IsWithin : ℕ → ℕ → ℕ → ℕ → Entry → Type 0
+IsWithin fields counters pairs arcs e = (e.first ≤ e.last) × (e.last ≤ arcs) × IsBodyWithin fields counters pairs e.body
 
--- all spans lie within what there is
+-- those of all entries do
 abbrev pub AreWithin : State → Type 0
-AreWithin s = AllByRecursion (IsWithin (length s.counters.cells.items) (length s.pairs.cells.items) (length s.arcs.items)) s.entries.items
+AreWithin s = AllByRecursion (IsWithin (length s.fields.items) (length s.counters.cells.items) (length s.pairs.cells.items) (length s.arcs.items)) s.entries.items
 
 -- what was read can be added to a profile
 pub record CanBeAdded (s : State) (old : Content) : Type 0 where
   pub held : AreWithin s
   pub run : s.run ≤ length s.arcs.items
   pub ranges : HaveRanges s
+  pub few : length s.entries.items < 2 ^ 32
   pub within : IsWithinLimits (with_records (wide_records (recs_of s)) old)
 
 abbrev pub open_of : Part → List ℕ → List RawBlock → Open
@@ -123,9 +128,27 @@ pending_entries (part.Hist f start left) = 1
 pending_entries (part.Blocks start left) = 1
 pending_entries (part.Refused refusal) = 0
 
+-- nor have the fields of a histogram a place among those of the others
+abbrev pub pending_fields : Part → ℕ
+pending_fields part.Header = 0
+pending_fields part.Between = 0
+pending_fields (part.Hist f start left) = 1
+pending_fields (part.Blocks start left) = 0
+pending_fields (part.Refused refusal) = 0
+
+-- With n bytes more the file has `total`. Each item took one of them at least, and so did what has come of one that
+-- isn't whole: so a number of 32 bits tells each place in a list.
+pub record AreFew (total n : ℕ) (s : State) : Type 0 where
+  pub counters : vec_len s.counters.cells + length s.counters.torn + n ≤ total
+  pub pairs : vec_len s.pairs.cells + length s.pairs.torn + n ≤ total
+  pub arcs : vec_len s.arcs + length s.torn + n ≤ total
+  pub fields : vec_len s.fields + pending_fields s.part + length s.torn + n ≤ total
+  pub entries : vec_len s.entries + pending_entries s.part + length s.torn + n ≤ total
+
 -- there is room for what n bytes more can make whole
 pub record HasRoom (n : ℕ) (s : State) : Type 0 where
   pub counters : vec_len s.counters.cells + (length s.counters.torn + n) / 2 ≤ vec_capacity s.counters.cells
   pub pairs : vec_len s.pairs.cells + (length s.pairs.torn + n) / 8 ≤ vec_capacity s.pairs.cells
   pub arcs : vec_len s.arcs + (length s.torn + n) / 13 ≤ vec_capacity s.arcs
+  pub fields : vec_len s.fields + (pending_fields s.part + (length s.torn + n) / 33) ≤ vec_capacity s.fields
   pub entries : vec_len s.entries + (pending_entries s.part + (length s.torn + n) / 5) ≤ vec_capacity s.entries

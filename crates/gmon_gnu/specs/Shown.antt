@@ -1,8 +1,8 @@
 -- How a reader holds what it has kept.
-use Rattle.std.specs.Prelude.{◌≤◌, length}
+use Rattle.std.specs.Prelude.{◌<◌, ◌^◌}
 use Rattle.gmon_gnu.specs.declared.reader.Reader.TheInside.{Inside}
 use Rattle.gmon_gnu.specs.Fed.{Kept}
-use Rattle.gmon_gnu.specs.Held.{IsHeld, recs_of, open_of, rest_of}
+use Rattle.gmon_gnu.specs.Held.{AreFew, IsHeld, recs_of, open_of, rest_of}
 
 abbrev pub view_of : Inside → Kept
 view_of r = record {
@@ -14,4 +14,5 @@ view_of r = record {
 
 pub record IsKept (r : Inside) : Type 0 where
   pub held : IsHeld r.state
-  pub within : length r.state.torn ≤ r.len
+  pub few : AreFew r.len 0 r.state
+  pub small : r.len < 2 ^ 32

@@ -5,27 +5,27 @@
 //! little-endian machine of 32 bits.
 #![tactic(auto)]
 
-mod adding;
-pub mod block_writing;
-pub(crate) mod building;
-pub mod checking;
+mod addition;
+pub mod block_file;
+pub mod faults;
+pub mod file;
+pub(crate) mod intake;
 pub mod laws;
-mod profile_making;
-pub mod profile_writing;
+mod pieces;
+mod profile;
+pub mod profile_file;
 pub mod reader;
-pub mod reading;
+pub(crate) mod records;
 pub(crate) mod rounds;
-mod splitting;
+pub mod run_file;
 pub(crate) mod state;
-pub(crate) mod taking;
-pub mod viewing;
-pub mod writing;
+pub mod views;
 
-pub use block_writing::write_blocks;
-pub use checking::fault;
+pub use block_file::write_blocks;
+pub use faults::fault;
+pub use file::read;
 pub use gp_base::GmonRefusal;
-pub use profile_writing::write;
+pub use profile_file::write;
 pub use reader::Reader;
-pub use reading::read;
-pub use viewing::RecordViews;
-pub use writing::write_run;
+pub use run_file::write_run;
+pub use views::RecordViews;

@@ -1,6 +1,6 @@
 //! Reading in pieces.
 
-ghost use Rattle.std.specs.Prelude.{◌≡◌, ℕ, List, [], ◌+◌, ◌^◌, ◌<◌, ◌++◌, length, None, Err, IfOk, OnOk, OnErr, IfErr, IfSome};
+ghost use Rattle.std.specs.Prelude.{◌≡◌, ℕ, List, [], ◌+◌, ◌^◌, ◌<◌, ◌++◌, length, None, Some, Err, IfOk, OnOk, OnErr, IfErr, IfSome};
 ghost use Rattle.gp_base.specs.Refusal.{IsRefusal};
 ghost use Rattle.gmon_data.specs.Content.{conflict_of, content_of, empty_content};
 ghost use Rattle.gmon_data.specs.Refusals.{IsReadRefusal};
@@ -10,6 +10,7 @@ ghost use Rattle.gmon_gnu.specs.Reading.{gnu_refusal, gnu_records};
 ghost use Rattle.gmon_gnu.specs.Fed.{StandsFor};
 
 use crate::state::State;
+use crate::views::RecordViews;
 use gmon_data::{Profile, ReadRefusal};
 use gp_base::{Form, GmonRefusal, Records};
 use std::alloc::{AllocError, Global};
@@ -89,6 +90,22 @@ impl Reader {
                     recs,
                 })
             }
+        }
+    }
+
+    /// The records that the bytes spell, one after the other, as the reader keeps them, or their first refusal.
+    /// Takes no memory.
+    pub fn records(&self) -> Result<RecordViews<'_>, GmonRefusal>
+        ensures refused { (bytes : List ℕ) → StandsFor bytes self.now
+            → IfErr result (λ refusal. gnu_refusal bytes ≡ Some refusal) }
+        ensures accepted { (bytes : List ℕ) → StandsFor bytes self.now
+            → OnOk result (gnu_refusal bytes ≡ None) }
+        ensures records { (bytes : List ℕ) → StandsFor bytes self.now
+            → IfOk result (λ views. views ≡ (gnu_records bytes).recs) }
+    {
+        match self.state.end_fault(self.len) {
+            Some(refusal) => Err(refusal),
+            None => Ok(RecordViews::new(&self.state)),
         }
     }
 

@@ -6,7 +6,7 @@ ghost use Rattle.host_port.specs.Buffered.{Adds};
 ghost use Rattle.host_port.specs.declared.side.Side.TheVariants.{File};
 ghost use Rattle.gmon_gnu.specs.Pieces.{left_bytes, left_of, part_of, round_bytes, rounds_text, AreMarks, IsPartSize};
 
-use crate::splitting::{MOST_CALLS, has_left, piece};
+use crate::pieces::{MOST_CALLS, has_left, piece};
 use gmon_data::Profile;
 use gp_base::le4;
 use host_port::{Failed, Host, OutBuf};

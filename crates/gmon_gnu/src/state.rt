@@ -11,25 +11,19 @@ pub(crate) struct HistFields {
     pub(crate) unit: Unit,
 }
 
-/// A histogram by its fields and its span of the counters, or counts of blocks by their span of the pairs.
+/// A histogram by the number of its fields and its span of the counters, or counts of blocks by their span of
+/// the pairs.
 #[derive(Clone, Copy)]
 pub(crate) enum Body {
-    Hist {
-        fields: HistFields,
-        start: usize,
-        end: usize,
-    },
-    Blocks {
-        start: usize,
-        end: usize,
-    },
+    Hist { fields: u32, start: u32, end: u32 },
+    Blocks { start: u32, end: u32 },
 }
 
 /// Arcs that follow one another, from `first` to below `last`, and the record behind them.
 #[derive(Clone, Copy)]
 pub(crate) struct Entry {
-    pub(crate) first: usize,
-    pub(crate) last: usize,
+    pub(crate) first: u32,
+    pub(crate) last: u32,
     pub(crate) body: Body,
 }
 
@@ -42,12 +36,12 @@ pub(crate) enum Part {
     /// A histogram whose counters begin at `start`, and `left` of them are still to come.
     Hist {
         fields: HistFields,
-        start: usize,
+        start: u32,
         left: u32,
     },
     /// Counts of blocks that begin at `start`, and `left` of them are still to come.
     Blocks {
-        start: usize,
+        start: u32,
         left: u32,
     },
     /// Nothing: the file is refused, whatever follows.
@@ -63,10 +57,10 @@ pub(crate) enum Begun {
     Refused(GmonRefusal),
 }
 
-/// The records so far, in four flat lists, where spans tell them apart: a list of its own for each record
-/// would take far more memory, so records are made of spans only where they are asked for. The arcs from
-/// `run` on stand behind all entries. What the next bytes belong to, and what has come of an item that isn't
-/// whole.
+/// The records so far, in five flat lists, where numbers and spans of 32 bits tell them apart: a list of its own
+/// for each record would take far more memory, so records are made of spans only where they are asked for. The
+/// arcs from `run` on stand behind all entries. What the next bytes belong to, and what has come of an item that
+/// isn't whole.
 #[derive(Drop)]
 pub(crate) struct State {
     pub(crate) part: Part,
@@ -74,6 +68,7 @@ pub(crate) struct State {
     pub(crate) counters: Column<u16>,
     pub(crate) pairs: Column<RawBlock>,
     pub(crate) arcs: Vec<RawArc>,
+    pub(crate) fields: Vec<HistFields>,
     pub(crate) entries: Vec<Entry>,
-    pub(crate) run: usize,
+    pub(crate) run: u32,
 }

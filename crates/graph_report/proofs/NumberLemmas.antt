@@ -5,6 +5,8 @@ use Rattle.std.specs.List.{All, position_or_len}
 use Rattle.std.specs.Option.{option_map_or}
 use Rattle.std.proofs.lemmas.List.{drop_all, drop_more, get_or-map, length-map, map-append}
 use Rattle.std.proofs.lemmas.List.Elements.{All-append, All-cons, All-from_recursion, All-nil, recursion_from_All}
+use Rattle.std.proofs.Math.Logic.{∥∥₁_elim}
+use Rattle.std.proofs.Props.{props}
 use Rattle.std.proofs.lemmas.Bool.Decides.{nat_tests}
 use Rattle.call_cycles.specs.Graph.{GraphValue, component_count, is_cycle}
 use Rattle.call_cycles.specs.Sums.{numbers_below}
@@ -16,10 +18,13 @@ use Rattle.graph_report.specs.Numbers.{AreNumbers}
 use Rattle.graph_report.specs.Rows.{entries_of_rows, entry_of_row}
 use Rattle.graph_report.specs.Subjects.{IsSubject}
 use Rattle.graph_report.specs.declared.numbers.Numbers.{Numbers}
+use Rattle.graph_report.specs.Inputs.{sources_in}
+use Rattle.graph_report.specs.declared.inputs.Inputs.{Inputs}
 use Rattle.graph_report.specs.declared.rows.Row.{Row}
 use Rattle.graph_report.specs.declared.subjects.Subject.{Subject}
 use Rattle.graph_report.specs.declared.subjects.Subject.TheVariants.{Cycle, Function}
 use Rattle.graph_report.proofs.GroupLemmas.{filter_next}
+use Rattle.graph_report.proofs.TimeLemmas.{of_one}
 
 -- the number of the first entry of a subject, where the first of all has one more than the base
 abbrev pub first_number : ℕ → List GraphEntry → Subject → ℕ
@@ -137,15 +142,22 @@ ordered_of_graph s are =
     (all_in_order graph_comes_before (IsOfGraph s) (graph_entries s) (recursion_from_All (IsOfGraph s) (graph_entries s) (entries_of_graph s are)))
 
 -- so it is with rows
-pub row_of_graph : (s : Sources) (rows : List Row) (k : ℕ) (row : Row) → AreOfOne s → entries_of_rows rows ≡ graph_order s → k < length rows → row ≡ get_or rows k row → IsSubject s.graph row.subject
-row_of_graph s rows k row are all below at =
+of_row : (s : Sources) (rows : List Row) (k : ℕ) (row : Row) → AreOfOne s → entries_of_rows rows ≡ graph_order s → k < length rows → row ≡ get_or rows k row → IsSubject s.graph row.subject
+of_row s rows k row are all below at =
     let here : entry_of_row row ≡ get_or (entries_of_rows rows) k (entry_of_row row) = ap entry_of_row at ∙ sym (get_or-map entry_of_row rows k row (entry_of_row row) below) in
     let each : All (IsOfGraph s) (entries_of_rows rows) = subst (All (IsOfGraph s)) (sym all) (ordered_of_graph s are) in
     subst (IsOfGraph s) (sym here) (each k (entry_of_row row) (omega (arith, length-map rows entry_of_row)))
+
+subject_prop : (g : GraphValue) (subject : Subject) → IsProp (IsSubject g subject)
+subject_prop g (Cycle head) = hlevel props
+subject_prop g (Function f) = hlevel props
+
+pub row_of_graph : (i : Inputs) (rows : List Row) (k : ℕ) (row : Row) → entries_of_rows rows ≡ graph_order (sources_in i) → k < length rows → row ≡ get_or rows k row → IsSubject i.sources.graph.now row.subject
+row_of_graph i rows k row all below at = ∥∥₁_elim i.graph (subject_prop i.sources.graph.now row.subject) (λ is. of_row (sources_in i) rows k row (of_one i is) all below at)
 
 subject_inside : (g : GraphValue) (subject : Subject) → IsSubject g subject → first_function subject < g.functions
 subject_inside g (Cycle head) is = is.0
 subject_inside g (Function f) is = is
 
-pub row_inside : (s : Sources) (rows : List Row) (k : ℕ) (row : Row) → AreOfOne s → entries_of_rows rows ≡ graph_order s → k < length rows → row ≡ get_or rows k row → first_function row.subject < s.graph.functions
-row_inside s rows k row are all below at = subject_inside s.graph row.subject (row_of_graph s rows k row are all below at)
+pub row_inside : (i : Inputs) (rows : List Row) (k : ℕ) (row : Row) → entries_of_rows rows ≡ graph_order (sources_in i) → k < length rows → row ≡ get_or rows k row → first_function row.subject < i.sources.graph.now.functions
+row_inside i rows k row all below at = subject_inside i.sources.graph.now row.subject (row_of_graph i rows k row all below at)

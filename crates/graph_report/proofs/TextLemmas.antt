@@ -11,12 +11,12 @@ use Rattle.call_cycles.specs.Sums.{numbers_below}
 use Rattle.call_cycles.specs.Graph.{arc_at, component_of, entering_of}
 use Rattle.flat_report.specs.FlatText.{seconds_of}
 use Rattle.flat_report.specs.Sources.{Sources, name_of}
-use Rattle.graph_report.specs.ArcLines.{arc_text, function_at_end, line_by}
-use Rattle.graph_report.specs.ArcTimes.{arc_times, times_columns}
+use Rattle.graph_report.specs.ArcLines.{arc_text, function_at_end, label_at, line_by}
+use Rattle.graph_report.specs.ArcTimes.{AreTimes, arc_times, times_columns}
 use Rattle.graph_report.specs.GraphText.{arc_columns, arcs_from, arcs_into, arcs_to, bracket_text, callee_line, caller_line, callers_text, calls_of_all, cycle_mark, cycle_text, front_columns, function_columns, function_name, function_text, member_line, members_of, other_line, rule, primary_line, timed_columns, untimed_columns}
 use Rattle.graph_report.specs.Subjects.{cycle_line, function_line}
-use Rattle.graph_report.specs.declared.arc_lines.ArcEnd.{ArcEnd}
-use Rattle.graph_report.specs.declared.arc_lines.ArcEnd.TheVariants.{Caller, Callee}
+use Rattle.graph_report.specs.declared.batch.ArcEnd.{ArcEnd}
+use Rattle.graph_report.specs.declared.batch.ArcEnd.TheVariants.{Caller, Callee}
 use Rattle.graph_report.specs.declared.inputs.ArcTimes.{ArcTimes}
 use Rattle.graph_report.specs.declared.subjects.Subject.{Subject}
 use Rattle.graph_report.specs.declared.subjects.Subject.TheVariants.{Function}
@@ -64,15 +64,21 @@ unfolding callee_line
 callee_whole s number i = refl
 
 -- what an arc of the graph carries makes its line
-pub arc_line_is : (s : Sources) (number : Subject → ℕ) (end : ArcEnd) (i : ℕ) (t : ArcTimes) → t ≡ arc_times s i → arc_text s number end t ≡ line_by end s number i
-arc_line_is s number end i t is =
-    ap (arc_text s number end) is
+pub arc_line_is : (s : Sources) (number : Subject → ℕ) (end : ArcEnd) (i : ℕ) (t : ArcTimes) (label : List ℕ) → t ≡ arc_times s i → label ≡ label_at s number end t.arc → arc_text s t label ≡ line_by end s number i
+arc_line_is s number end i t label is named =
+    ap (arc_text s t) named
+    ∙ ap (λ (u : ArcTimes). arc_text s u (label_at s number end u.arc)) is
     ∙ other_whole (times_columns s (arc_times s i)) (function_name s number (function_at_end end (arc_at s.graph i)))
     ∙ by end
   where
     by : (e : ArcEnd) → other_line (times_columns s (arc_times s i)) (function_name s number (function_at_end e (arc_at s.graph i))) ≡ line_by e s number i
     by Caller = caller_whole s number i
     by Callee = callee_whole s number i
+
+-- it names a function of the graph
+pub end_inside : (s : Sources) (end : ArcEnd) (t : ArcTimes) → AreTimes s t → function_at_end end t.arc < s.graph.functions
+end_inside s Caller t are = are.caller
+end_inside s Callee t are = are.callee
 
 pub member_whole : (s : Sources) (number : Subject → ℕ) (f : ℕ) → (spaces 15 ++ function_columns s f ++ spaces 6) ++ (function_name s number f ++ codes "\n") ≡ member_line s number f
 unfolding member_line

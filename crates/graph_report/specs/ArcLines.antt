@@ -6,8 +6,8 @@ use Rattle.flat_report.specs.Sources.{Sources}
 use Rattle.graph_report.specs.ArcTimes.{times_columns}
 use Rattle.graph_report.specs.GraphText.{callee_line, caller_line}
 use Rattle.graph_report.specs.Labels.{label_of}
-use Rattle.graph_report.specs.declared.arc_lines.ArcEnd.{ArcEnd}
-use Rattle.graph_report.specs.declared.arc_lines.ArcEnd.TheVariants.{Caller, Callee}
+use Rattle.graph_report.specs.declared.batch.ArcEnd.{ArcEnd}
+use Rattle.graph_report.specs.declared.batch.ArcEnd.TheVariants.{Caller, Callee}
 use Rattle.graph_report.specs.declared.inputs.ArcTimes.{ArcTimes}
 use Rattle.graph_report.specs.declared.subjects.Subject.{Subject}
 
@@ -25,6 +25,6 @@ line_by Callee = callee_line
 abbrev pub label_at : Sources → (Subject → ℕ) → ArcEnd → FunArc → List ℕ
 label_at s number end arc = label_of s number (function_at_end end arc)
 
--- the line that is made from an arc and what it carries
-abbrev pub arc_text : Sources → (Subject → ℕ) → ArcEnd → ArcTimes → List ℕ
-arc_text s number end t = spaces 15 ++ times_columns s t ++ spaces 6 ++ label_at s number end t.arc
+-- the line that is made from an arc and what it carries, and from a label
+abbrev pub arc_text : Sources → ArcTimes → List ℕ → List ℕ
+arc_text s t label = spaces 15 ++ times_columns s t ++ spaces 6 ++ label

@@ -2,7 +2,6 @@
 -- speak of it.
 use Rattle.std.specs.Prelude.{◌≡◌, ◌≢◌, ◌<◌, ◌≤◌, ◌++◌, ℕ, List, codes, length, slice_index_or, take}
 use Rattle.flat_report.specs.Sources.{Sources}
-use Rattle.graph_report.specs.Entries.{number_in, graph_order}
 use Rattle.graph_report.specs.GraphText.{function_name}
 use Rattle.graph_report.specs.Lists.{AreLists}
 use Rattle.graph_report.specs.declared.labels.Labels.{Labels}
@@ -23,6 +22,14 @@ pub record AreShort (count : ℕ) (of : ℕ → List ℕ) (short : List ShortLab
   pub len : length short ≡ count
   pub each : (f : ℕ) (d : ShortLabel) → f < count → IsShort (of f) (slice_index_or short f d)
 
-pub record AreLabels (s : Sources) (l : Labels) : Type 0 where
-  pub texts : AreLists s.graph.functions (label_of s (number_in (graph_order s))) l.text.items l.starts.items
-  pub short : AreShort s.graph.functions (label_of s (number_in (graph_order s))) l.short.items
+-- so many labels
+pub record AreLabels (count : ℕ) (of : ℕ → List ℕ) (l : Labels) : Type 0 where
+  pub texts : AreLists count of l.text.items l.starts.items
+  pub short : AreShort count of l.short.items
+
+-- the function is one of those that have labels
+pub record HasLabel (l : Labels) (f : ℕ) : Type 0 where
+  pub count : ℕ
+  pub of : ℕ → List ℕ
+  pub labels : AreLabels count of l
+  pub below : f < count

@@ -13,3 +13,4 @@ pub mod Roots
 pub mod ArcTimes
 pub mod Labels
 pub mod ArcLines
+pub mod Reports

@@ -2,11 +2,7 @@
 use Rattle.std.specs.Prelude.{◌≡◌, ◌<◌, ℕ, length, slice_index}
 use Rattle.flat_report.specs.Sources.{Sources}
 use Rattle.graph_report.specs.Entries.{number_in, graph_order}
-use Rattle.graph_report.specs.Inputs.{AreInputs, sources_in}
-use Rattle.graph_report.specs.Labels.{AreLabels}
 use Rattle.graph_report.specs.declared.numbers.Numbers.{Numbers}
-use Rattle.graph_report.specs.declared.numbers.Report.{Report}
-use Rattle.graph_report.specs.declared.subjects.Subject.{Subject}
 use Rattle.graph_report.specs.declared.subjects.Subject.TheVariants.{Cycle, Function}
 
 pub record AreNumbers (s : Sources) (n : Numbers) : Type 0 where
@@ -15,12 +11,3 @@ pub record AreNumbers (s : Sources) (n : Numbers) : Type 0 where
   pub functions : (f : ℕ) → f < s.graph.functions → slice_index n.functions.items f ≡ number_in (graph_order s) (Function f)
   -- by heads
   pub cycles : (head : ℕ) → head < s.graph.functions → slice_index n.cycles.items head ≡ number_in (graph_order s) (Cycle head)
-
--- the number of an entry
-abbrev pub number_of : Report → Subject → ℕ
-number_of r = number_in (graph_order (sources_in r.inputs))
-
-pub record IsReport (r : Report) : Type 0 where
-  pub inputs : AreInputs r.inputs
-  pub numbers : AreNumbers (sources_in r.inputs) r.numbers
-  pub labels : AreLabels (sources_in r.inputs) r.labels

@@ -4,7 +4,7 @@ ghost use Rattle.std.specs.Prelude.{◌≡◌, ◌+◌, ◌<◌, ◌≤◌, ◌+
 ghost use Rattle.call_cycles.specs.Graph.{component_count};
 ghost use Rattle.graph_report.specs.ArcTimes.{AreTimes, times_columns};
 ghost use Rattle.graph_report.specs.GraphText.{cycle_columns, function_columns};
-ghost use Rattle.graph_report.specs.Inputs.{AreInputs, sources_in};
+ghost use Rattle.graph_report.specs.Inputs.{sources_in};
 
 use crate::inputs::{ArcTimes, Inputs};
 use crate::line;
@@ -13,7 +13,6 @@ use text_cols::Line;
 /// Adds what an arc carries, and its calls of those that enter the callee's component. An arc inside a cycle
 /// has its calls alone.
 pub(crate) fn put_arc(line: &mut Line, inputs: &Inputs<'_>, times: &ArcTimes)
-    requires inputs { AreInputs inputs.now }
     requires times { AreTimes (sources_in inputs.now) times.now }
     requires room { length line.old ≤ 100 }
     ensures text { line.new ≡ line.old ++ times_columns (sources_in inputs.now) times.now }
@@ -32,7 +31,6 @@ pub(crate) fn put_arc(line: &mut Line, inputs: &Inputs<'_>, times: &ArcTimes)
 
 /// Adds a function's own time, what it gets from those that it calls, and its calls by others and by itself.
 pub(crate) fn put_function(line: &mut Line, inputs: &Inputs<'_>, f: u32)
-    requires inputs { AreInputs inputs.now }
     requires function { f < inputs.now.sources.graph.now.functions }
     requires room { length line.old ≤ 100 }
     ensures text { line.new ≡ line.old ++ function_columns (sources_in inputs.now) f }
@@ -44,7 +42,6 @@ pub(crate) fn put_function(line: &mut Line, inputs: &Inputs<'_>, f: u32)
 
 /// Adds the same of a cycle as a whole: its calls are those that enter it and those between its members.
 pub(crate) fn put_cycle(line: &mut Line, inputs: &Inputs<'_>, c: u32)
-    requires inputs { AreInputs inputs.now }
     requires component { c < component_count inputs.now.sources.graph.now }
     requires room { length line.old ≤ 100 }
     ensures text { line.new ≡ line.old ++ cycle_columns (sources_in inputs.now) c }

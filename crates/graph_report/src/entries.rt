@@ -8,13 +8,13 @@ ghost use Rattle.call_cycles.specs.Graph.{component_of, is_cycle};
 ghost use Rattle.flat_report.specs.Sources.{inclusive_total};
 ghost use Rattle.graph_report.specs.GraphText.{cycle_columns, cycle_text, front_columns, function_columns, function_text, subject_text};
 ghost use Rattle.graph_report.specs.Inputs.{sources_in};
-ghost use Rattle.graph_report.specs.Numbers.{IsReport, number_of};
+ghost use Rattle.graph_report.specs.Reports.{number_of};
 ghost use Rattle.graph_report.specs.Subjects.{IsSubject, cycle_line, function_line};
 ghost use Rattle.graph_report.specs.declared.subjects.Subject.TheVariants.{Cycle, Function};
 
 use crate::lines::{put_callees, put_callers, put_members};
 use crate::names::put_cycle_name;
-use crate::numbers::Report;
+use crate::prepared::Report;
 use crate::subjects::Subject;
 use crate::{columns, line};
 use host_port::{Failed, Host, PrintBuf};
@@ -25,7 +25,6 @@ const RULE: &[u8] = b"----------------------------------------------------------
 
 /// What stands in front of the name of the function that an entry is of.
 fn function_front(report: &Report<'_>, f: u32) -> Line
-    requires report { IsReport report.now }
     requires function { f < report.now.inputs.sources.graph.now.functions }
     ensures { let s = sources_in report.now.inputs in
         result ≡ front_columns s (number_of report.now (Function f)) (inclusive_total s f)
@@ -51,18 +50,16 @@ fn put_function_line<H: Host>(
     lines: &mut PrintBuf,
     host: &mut H,
 ) -> Result<(), Failed>
-    requires report { IsReport report.now }
     requires function { f < report.now.inputs.sources.graph.now.functions }
     ensures { Adds Output (function_line (sources_in report.now.inputs) (number_of report.now) f)
         lines.old lines.new (H.outside host.old) (H.outside host.new) result }
 {
     lines.put(host, function_front(report, f).bytes())?;
-    lines.put(host, report.label(f))
+    lines.put(host, report.labels.of(f))
 }
 
 /// What stands in front of the name of the cycle that an entry is of, given by its head.
 fn cycle_front(report: &Report<'_>, head: u32) -> Line
-    requires report { IsReport report.now }
     requires function { head < report.now.inputs.sources.graph.now.functions }
     ensures { let s = sources_in report.now.inputs in
         let c = component_of s.graph head in
@@ -90,7 +87,6 @@ fn put_cycle_line<H: Host>(
     lines: &mut PrintBuf,
     host: &mut H,
 ) -> Result<(), Failed>
-    requires report { IsReport report.now }
     requires function { head < report.now.inputs.sources.graph.now.functions }
     requires cycle { is_cycle report.now.inputs.sources.graph.now
         (component_of report.now.inputs.sources.graph.now head) ≡ true }
@@ -108,7 +104,6 @@ fn put_function<H: Host>(
     lines: &mut PrintBuf,
     host: &mut H,
 ) -> Result<(), Failed>
-    requires report { IsReport report.now }
     requires function { f < report.now.inputs.sources.graph.now.functions }
     ensures { Adds Output (function_text (sources_in report.now.inputs) (number_of report.now) f)
         lines.old lines.new (H.outside host.old) (H.outside host.new) result }
@@ -126,7 +121,6 @@ fn put_cycle<H: Host>(
     lines: &mut PrintBuf,
     host: &mut H,
 ) -> Result<(), Failed>
-    requires report { IsReport report.now }
     requires function { head < report.now.inputs.sources.graph.now.functions }
     requires cycle { is_cycle report.now.inputs.sources.graph.now
         (component_of report.now.inputs.sources.graph.now head) ≡ true }
@@ -147,7 +141,6 @@ pub(crate) fn put_entry<H: Host>(
     lines: &mut PrintBuf,
     host: &mut H,
 ) -> Result<(), Failed>
-    requires report { IsReport report.now }
     requires subject { IsSubject report.now.inputs.sources.graph.now subject }
     ensures { Adds Output (subject_text (sources_in report.now.inputs) (number_of report.now)
         subject) lines.old lines.new (H.outside host.old) (H.outside host.new) result }

@@ -1,14 +1,10 @@
 //! What a report is made from.
 
-ghost use Rattle.std.specs.Prelude.{◌≡◌, ◌^◌, ◌<◌, ◌+◌, true, length, slice_index};
-ghost use Rattle.call_cycles.specs.Flow.{carried_by, time_of};
-ghost use Rattle.call_cycles.specs.Graph.{arc_count, component_count, is_cycle as is_a_cycle, is_outside};
-ghost use Rattle.flat_report.specs.Sources.{calls_by_others, child_of, name_of, self_share, inclusive_total};
-ghost use Rattle.graph_report.specs.ArcTimes.{AreTimes, arc_times};
-ghost use Rattle.graph_report.specs.Cycles.{cycle_name as name_of_cycle, cycle_number as number_of_cycle, inner_calls};
-ghost use Rattle.graph_report.specs.Entries.{calls_of_others};
-ghost use Rattle.graph_report.specs.GraphText.{arcs_from as arcs_that_leave, arcs_into as arcs_that_enter, arcs_to as arcs_that_call, members_of};
-ghost use Rattle.graph_report.specs.Inputs.{AreInputs, sources_in};
+ghost use Rattle.std.specs.Prelude.{◌≡◌, ◌^◌, ◌<◌, ◌≤◌, length};
+ghost use Rattle.call_cycles.specs.Flow.{IsFlow};
+ghost use Rattle.call_cycles.specs.Graph.{IsGraph, all_calls};
+ghost use Rattle.symbol_shares.specs.Shares.{attributed_of};
+ghost use Rattle.graph_report.specs.Tables.{AreTables};
 
 use crate::keys::is_inside;
 use crate::tables::Tables;
@@ -23,17 +19,35 @@ pub(crate) struct ArcTimes {
     pub child: u128,
 }
 
-/// The sources of a report, and the tables of their graph.
+/// The sources of a report, which are of one program and in the ranges of a report's numbers, and the tables of
+/// their graph.
 #[derive(Clone, Copy)]
 pub(crate) struct Inputs<'a> {
     pub sources: Sources<'a>,
     pub tables: &'a Tables,
+    ghost functions: { sources.graph.now.functions ≡ length sources.symbols.now },
+    ghost each: { length sources.shares.now.of ≡ length sources.symbols.now },
+    ghost graph: { ∥ IsGraph sources.graph.now ∥₁ },
+    ghost flow: { IsFlow sources.graph.now sources.shares.now.of sources.flow.now },
+    ghost few: { all_calls sources.graph.now < 2 ^ 59 },
+    ghost small: { attributed_of sources.shares.now < 2 ^ 65 },
+    ghost rate: { 1 ≤ sources.rate },
+    ghost found: { AreTables sources.graph.now tables.now },
 }
 
 impl<'a> Inputs<'a> {
+    ghost use Rattle.std.specs.Prelude.{◌≡◌, ◌^◌, ◌<◌, true};
+    ghost use Rattle.call_cycles.specs.Flow.{time_of};
+    ghost use Rattle.call_cycles.specs.Graph.{arc_count, component_count, is_cycle as is_a_cycle};
+    ghost use Rattle.flat_report.specs.Sources.{calls_by_others, child_of, name_of, self_share, inclusive_total};
+    ghost use Rattle.graph_report.specs.ArcTimes.{AreTimes, arc_times};
+    ghost use Rattle.graph_report.specs.Cycles.{cycle_name as name_of_cycle, cycle_number as number_of_cycle, inner_calls};
+    ghost use Rattle.graph_report.specs.Entries.{calls_of_others};
+    ghost use Rattle.graph_report.specs.GraphText.{arcs_from as arcs_that_leave, arcs_into as arcs_that_enter, arcs_to as arcs_that_call, members_of};
+    ghost use Rattle.graph_report.specs.Inputs.{sources_in};
+
     /// The name of a function.
     pub fn name(&self, f: u32) -> &'a [u8]
-        requires inputs { AreInputs self.now }
         requires function { f < self.now.sources.graph.now.functions }
         ensures { result.now ≡ name_of (sources_in self.now) f }
     {
@@ -42,7 +56,6 @@ impl<'a> Inputs<'a> {
 
     /// The grains of a function itself.
     pub fn share(&self, f: u32) -> u128
-        requires inputs { AreInputs self.now }
         requires function { f < self.now.sources.graph.now.functions }
         ensures value { result ≡ self_share (sources_in self.now) f }
         ensures within { result < 2 ^ 65 }
@@ -52,7 +65,6 @@ impl<'a> Inputs<'a> {
 
     /// What a function gets from those that it calls outside its cycle.
     pub fn child(&self, f: u32) -> u128
-        requires inputs { AreInputs self.now }
         requires function { f < self.now.sources.graph.now.functions }
         ensures value { result ≡ child_of (sources_in self.now) f }
         ensures within { result < 2 ^ 65 }
@@ -62,7 +74,6 @@ impl<'a> Inputs<'a> {
 
     /// Both together.
     pub fn total(&self, f: u32) -> u128
-        requires inputs { AreInputs self.now }
         requires function { f < self.now.sources.graph.now.functions }
         ensures value { result ≡ inclusive_total (sources_in self.now) f }
         ensures within { result < 2 ^ 65 }
@@ -72,7 +83,6 @@ impl<'a> Inputs<'a> {
 
     /// The time of a component, its own and that of those it calls.
     pub fn component_total(&self, c: u32) -> u128
-        requires inputs { AreInputs self.now }
         requires component { c < component_count self.now.sources.graph.now }
         ensures value { result ≡ time_of self.now.sources.flow.now c }
         ensures within { result < 2 ^ 65 }
@@ -82,7 +92,6 @@ impl<'a> Inputs<'a> {
 
     /// The calls of a function by others.
     pub fn calls_to(&self, f: u32) -> u64
-        requires inputs { AreInputs self.now }
         requires function { f < self.now.sources.graph.now.functions }
         ensures { result ≡ calls_by_others self.now.sources.graph.now f }
     {
@@ -91,7 +100,6 @@ impl<'a> Inputs<'a> {
 
     /// The calls of others by a function.
     pub fn calls_from(&self, f: u32) -> u64
-        requires inputs { AreInputs self.now }
         requires function { f < self.now.sources.graph.now.functions }
         ensures { result ≡ calls_of_others self.now.sources.graph.now f }
     {
@@ -100,7 +108,6 @@ impl<'a> Inputs<'a> {
 
     /// The calls between different members of a component.
     pub fn calls_inside(&self, c: u32) -> u64
-        requires inputs { AreInputs self.now }
         requires component { c < component_count self.now.sources.graph.now }
         ensures { result ≡ inner_calls self.now.sources.graph.now c }
     {
@@ -109,7 +116,6 @@ impl<'a> Inputs<'a> {
 
     /// An arc, and what it carries: nothing inside a component, of which the flow isn't asked.
     pub fn arc(&self, i: usize) -> ArcTimes
-        requires inputs { AreInputs self.now }
         requires arc { i < arc_count self.now.sources.graph.now }
         ensures value { result ≡ arc_times (sources_in self.now) i }
         ensures times { AreTimes (sources_in self.now) result }
@@ -131,7 +137,6 @@ impl<'a> Inputs<'a> {
 
     /// The arcs to a function, in the order of their numbers.
     pub fn arcs_to(&self, f: u32) -> &'a [usize]
-        requires inputs { AreInputs self.now }
         requires function { f < self.now.sources.graph.now.functions }
         ensures { result.now ≡ arcs_that_call self.now.sources.graph.now f }
     {
@@ -140,7 +145,6 @@ impl<'a> Inputs<'a> {
 
     /// The arcs from a function, in the order of their numbers.
     pub fn arcs_from(&self, f: u32) -> &'a [usize]
-        requires inputs { AreInputs self.now }
         requires function { f < self.now.sources.graph.now.functions }
         ensures { result.now ≡ arcs_that_leave self.now.sources.graph.now f }
     {
@@ -149,7 +153,6 @@ impl<'a> Inputs<'a> {
 
     /// The outside arcs into a component, in the order of their numbers.
     pub fn arcs_into(&self, c: u32) -> &'a [usize]
-        requires inputs { AreInputs self.now }
         requires component { c < component_count self.now.sources.graph.now }
         ensures { result.now ≡ arcs_that_enter self.now.sources.graph.now c }
     {
@@ -158,7 +161,6 @@ impl<'a> Inputs<'a> {
 
     /// The members of a component, in the order of their addresses.
     pub fn members(&self, c: u32) -> &'a [usize]
-        requires inputs { AreInputs self.now }
         requires component { c < component_count self.now.sources.graph.now }
         ensures { result.now ≡ members_of self.now.sources.graph.now c }
     {
@@ -167,7 +169,6 @@ impl<'a> Inputs<'a> {
 
     /// The number of a cycle.
     pub fn cycle_number(&self, c: u32) -> u32
-        requires inputs { AreInputs self.now }
         requires component { c < component_count self.now.sources.graph.now }
         requires cycle { is_a_cycle self.now.sources.graph.now c ≡ true }
         ensures { result ≡ number_of_cycle self.now.sources.graph.now c }
@@ -177,7 +178,6 @@ impl<'a> Inputs<'a> {
 
     /// The name of a cycle as a whole.
     pub fn cycle_name(&self, c: u32) -> &'a [u8]
-        requires inputs { AreInputs self.now }
         requires component { c < component_count self.now.sources.graph.now }
         requires cycle { is_a_cycle self.now.sources.graph.now c ≡ true }
         ensures { result.now ≡ name_of_cycle self.now.sources.graph.now c }

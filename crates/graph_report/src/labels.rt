@@ -1,8 +1,9 @@
 //! The ends of lines that name functions.
 
-ghost use Rattle.std.specs.Prelude.{◌≡◌, ◌≢◌, ◌≤◌, ◌↔◌, IfOk, IsTrue, take};
-ghost use Rattle.graph_report.specs.Inputs.{AreInputs, sources_in};
-ghost use Rattle.graph_report.specs.Labels.{AreLabels, IsShort};
+ghost use Rattle.std.specs.Prelude.{◌≡◌, ◌≢◌, ◌<◌, ◌≤◌, ◌↔◌, ℕ, List, IfOk, IsTrue, take};
+ghost use Rattle.graph_report.specs.Entries.{number_in, graph_order};
+ghost use Rattle.graph_report.specs.Inputs.{sources_in};
+ghost use Rattle.graph_report.specs.Labels.{AreLabels, HasLabel, IsShort, label_of};
 ghost use Rattle.graph_report.specs.Numbers.{AreNumbers};
 
 use crate::inputs::Inputs;
@@ -16,27 +17,37 @@ const ROOM: usize = 63;
 /// A short label, in one place with its length, so that one look-up finds all of it. A label that is longer
 /// than a short one may be isn't held: the length is 0 then.
 #[derive(Clone, Copy)]
-pub(crate) struct ShortLabel {
-    pub bytes: [u8; ROOM],
-    pub len: u8,
+struct ShortLabel {
+    len: u8,
+    bytes: [u8; ROOM],
 }
 
-/// What is held of a label that is too long.
-pub(crate) const NO_LABEL: ShortLabel = ShortLabel {
-    bytes: [0; ROOM],
-    len: 0,
-};
-
 impl ShortLabel {
+    /// Holds a label, where it isn't too long.
+    fn of(label: &[u8]) -> ShortLabel
+        ensures { IsShort label.now result }
+    {
+        let len = label.len();
+        let mut bytes = [0; ROOM];
+        if len > ROOM {
+            return ShortLabel { len: 0, bytes };
+        }
+        bytes[..len].copy_from_slice(label);
+        ShortLabel {
+            len: len as u8,
+            bytes,
+        }
+    }
+
     /// Whether the label is held.
-    pub fn is_held(&self) -> bool
+    fn is_held(&self) -> bool
         ensures { IsTrue result ↔ self.now.len ≢ 0 }
     {
         self.len != 0
     }
 
     /// What is held of the label.
-    pub fn text(&self) -> &[u8]
+    fn text(&self) -> &[u8]
         requires { self.now.len ≤ 63 }
         ensures { result.now ≡ take self.now.len self.now.bytes }
     {
@@ -48,24 +59,36 @@ impl ShortLabel {
 /// is touched: where each begins, and where the last one ends; and the short ones once more.
 #[derive(Drop)]
 pub(crate) struct Labels {
-    pub text: Vec<u8>,
-    pub starts: Vec<usize>,
-    pub short: Vec<ShortLabel>,
+    text: Vec<u8>,
+    starts: Vec<usize>,
+    short: Vec<ShortLabel>,
 }
 
-/// Holds a label, where it isn't too long.
-fn short_label(label: &[u8]) -> ShortLabel
-    ensures { IsShort label.now result }
-{
-    let len = label.len();
-    if len > ROOM {
-        return NO_LABEL;
+impl Labels {
+    /// The label of a function.
+    pub fn of(&self, f: u32) -> &[u8]
+        requires { HasLabel self.now f }
+        ensures { (count : ℕ) (of : ℕ → List ℕ) → AreLabels count of self.now → f < count
+            → result.now ≡ of f }
+    {
+        let short = &self.short[f as usize];
+        if short.is_held() {
+            return short.text();
+        }
+        self.whole(f)
     }
-    let mut bytes = [0; ROOM];
-    bytes[..len].copy_from_slice(label);
-    ShortLabel {
-        bytes,
-        len: len as u8,
+
+    /// The same, out of the text of all labels.
+    fn whole(&self, f: u32) -> &[u8]
+        requires { HasLabel self.now f }
+        ensures { (count : ℕ) (of : ℕ → List ℕ) → AreLabels count of self.now → f < count
+            → result.now ≡ of f }
+    {
+        let f = f as usize;
+        let start = self.starts[f];
+        let len = self.starts[f + 1] - start;
+        let (_, rest) = self.text.split_at(start);
+        rest.split_at(len).0
     }
 }
 
@@ -75,9 +98,9 @@ pub(crate) fn function_labels(
     inputs: &Inputs<'_>,
     numbers: &Numbers,
 ) -> Result<Labels, AllocError>
-    requires inputs { AreInputs inputs.now }
     requires numbers { AreNumbers (sources_in inputs.now) numbers.now }
-    ensures { IfOk result (AreLabels (sources_in inputs.now)) }
+    ensures { let s = sources_in inputs.now in
+        IfOk result (AreLabels s.graph.functions (label_of s (number_in (graph_order s)))) }
 {
     let mut text = Vec::new(alloc);
     let mut starts = Vec::new(alloc);
@@ -87,7 +110,7 @@ pub(crate) fn function_labels(
         starts.push(start)?;
         text.extend_from_slice(inputs.name(f))?;
         text.extend_from_slice(function_tail(inputs, numbers, f).bytes())?;
-        short.push(short_label(text.split_at(start).1))?;
+        short.push(ShortLabel::of(text.split_at(start).1))?;
     }
     starts.push(text.len())?;
     Ok(Labels {

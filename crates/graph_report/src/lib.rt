@@ -4,7 +4,7 @@
 //! below, and each cycle as a whole. How they are laid out is this project's own choice.
 #![tactic(auto)]
 
-mod arc_lines;
+mod batch;
 mod columns;
 mod cycles;
 mod entries;
@@ -19,6 +19,7 @@ mod line;
 mod lines;
 mod names;
 mod numbers;
+mod prepared;
 pub mod report;
 mod rows;
 mod subjects;

@@ -6,18 +6,16 @@ ghost use Rattle.host_port.specs.Buffered.{Adds};
 ghost use Rattle.host_port.specs.declared.side.Side.TheVariants.{Output};
 ghost use Rattle.text_cols.specs.Columns.{spaces};
 ghost use Rattle.call_cycles.specs.Graph.{arc_count};
-ghost use Rattle.graph_report.specs.ArcLines.{arc_text, label_at, line_by};
+ghost use Rattle.graph_report.specs.ArcLines.{arc_text, line_by};
 ghost use Rattle.graph_report.specs.ArcTimes.{AreTimes, times_columns};
 ghost use Rattle.graph_report.specs.GraphText.{callee_line, callers_text, function_columns, member_line, other_line};
-ghost use Rattle.graph_report.specs.Inputs.{AreInputs, sources_in};
-ghost use Rattle.graph_report.specs.Labels.{IsShort};
-ghost use Rattle.graph_report.specs.Numbers.{IsReport, number_of};
+ghost use Rattle.graph_report.specs.Inputs.{sources_in};
+ghost use Rattle.graph_report.specs.Reports.{number_of};
 
-use crate::arc_lines::{ArcEnd, BATCH, function_at, labels_of, times_of};
+use crate::batch::{ArcEnd, BATCH, labels_of, times_of};
 use crate::columns;
 use crate::inputs::{ArcTimes, Inputs};
-use crate::labels::ShortLabel;
-use crate::numbers::Report;
+use crate::prepared::Report;
 use host_port::{Failed, Host, PrintBuf};
 use text_cols::Line;
 
@@ -33,7 +31,6 @@ const BEHIND: &[u8] = b"      ";
 
 /// Makes a line of what stands in front of a function's name: the columns of an arc.
 fn arc_front(line: &mut Line, inputs: &Inputs<'_>, times: &ArcTimes)
-    requires inputs { AreInputs inputs.now }
     requires times { AreTimes (sources_in inputs.now) times.now }
     ensures { line.new ≡ spaces 15 ++ times_columns (sources_in inputs.now) times.now ++ spaces 6 }
 {
@@ -43,31 +40,26 @@ fn arc_front(line: &mut Line, inputs: &Inputs<'_>, times: &ArcTimes)
     line.put(BEHIND);
 }
 
-/// Puts the line of an arc, given the short label of the function at this end.
+/// Puts the line of an arc, given the label of the function that it names.
 fn put_arc<H: Host>(
-    report: &Report<'_>,
+    inputs: &Inputs<'_>,
     times: &ArcTimes,
-    label: &ShortLabel,
-    end: ArcEnd,
+    label: &[u8],
     line: &mut Line,
     lines: &mut PrintBuf,
     host: &mut H,
 ) -> Result<(), Failed>
-    requires report { IsReport report.now }
-    requires times { AreTimes (sources_in report.now.inputs) times.now }
-    requires label { IsShort (label_at (sources_in report.now.inputs) (number_of report.now) end
-        times.now.arc) label.now }
-    ensures { Adds Output (arc_text (sources_in report.now.inputs) (number_of report.now) end
-        times.now) lines.old lines.new (H.outside host.old) (H.outside host.new) result }
+    requires { AreTimes (sources_in inputs.now) times.now }
+    ensures { Adds Output (arc_text (sources_in inputs.now) times.now label.now) lines.old
+        lines.new (H.outside host.old) (H.outside host.new) result }
 {
-    arc_front(line, &report.inputs, times);
+    arc_front(line, inputs, times);
     lines.put(host, line.bytes())?;
-    lines.put(host, report.whole_label(label, function_at(times.arc, end)))
+    lines.put(host, label)
 }
 
 /// Makes a line of what stands in front of a function's name: the columns of a member of a cycle.
 fn member_front(line: &mut Line, inputs: &Inputs<'_>, f: u32)
-    requires inputs { AreInputs inputs.now }
     requires function { f < inputs.now.sources.graph.now.functions }
     ensures { line.new ≡ spaces 15 ++ function_columns (sources_in inputs.now) f ++ spaces 6 }
 {
@@ -85,14 +77,13 @@ fn put_member<H: Host>(
     lines: &mut PrintBuf,
     host: &mut H,
 ) -> Result<(), Failed>
-    requires report { IsReport report.now }
     requires function { f < report.now.inputs.sources.graph.now.functions }
     ensures { Adds Output (member_line (sources_in report.now.inputs) (number_of report.now) f)
         lines.old lines.new (H.outside host.old) (H.outside host.new) result }
 {
     member_front(line, &report.inputs, f);
     lines.put(host, line.bytes())?;
-    lines.put(host, report.label(f))
+    lines.put(host, report.labels.of(f))
 }
 
 /// Whether there are no callers.
@@ -120,7 +111,6 @@ fn put_batch<H: Host>(
     lines: &mut PrintBuf,
     host: &mut H,
 ) -> Result<(), Failed>
-    requires report { IsReport report.now }
     requires arcs { All (λ i. i < arc_count report.now.inputs.sources.graph.now) arcs.now }
     requires few { length arcs.now ≤ 16 }
     ensures { Adds Output (flat_map
@@ -131,7 +121,7 @@ fn put_batch<H: Host>(
     let times = batch.split_at(arcs.len()).0;
     let labels = labels_of(report, times, end);
     for k in 0..arcs.len() {
-        put_arc(report, &times[k], &labels[k], end, line, lines, host)?;
+        put_arc(&report.inputs, &times[k], labels[k], line, lines, host)?;
     }
     Ok(())
 }
@@ -144,7 +134,6 @@ fn put_arcs<H: Host>(
     lines: &mut PrintBuf,
     host: &mut H,
 ) -> Result<(), Failed>
-    requires report { IsReport report.now }
     requires arcs { All (λ i. i < arc_count report.now.inputs.sources.graph.now) arcs.now }
     ensures { Adds Output (flat_map
         (line_by end (sources_in report.now.inputs) (number_of report.now)) arcs.now) lines.old
@@ -167,7 +156,6 @@ pub(crate) fn put_callers<H: Host>(
     lines: &mut PrintBuf,
     host: &mut H,
 ) -> Result<(), Failed>
-    requires report { IsReport report.now }
     requires arcs { All (λ i. i < arc_count report.now.inputs.sources.graph.now) arcs.now }
     ensures { Adds Output (callers_text (sources_in report.now.inputs) (number_of report.now)
         arcs.now) lines.old lines.new (H.outside host.old) (H.outside host.new) result }
@@ -185,7 +173,6 @@ pub(crate) fn put_callees<H: Host>(
     lines: &mut PrintBuf,
     host: &mut H,
 ) -> Result<(), Failed>
-    requires report { IsReport report.now }
     requires arcs { All (λ i. i < arc_count report.now.inputs.sources.graph.now) arcs.now }
     ensures { Adds Output (flat_map
         (callee_line (sources_in report.now.inputs) (number_of report.now)) arcs.now) lines.old
@@ -201,7 +188,6 @@ pub(crate) fn put_members<H: Host>(
     lines: &mut PrintBuf,
     host: &mut H,
 ) -> Result<(), Failed>
-    requires report { IsReport report.now }
     requires members { All (λ f. f < report.now.inputs.sources.graph.now.functions) members.now }
     ensures { Adds Output (flat_map
         (member_line (sources_in report.now.inputs) (number_of report.now)) members.now) lines.old

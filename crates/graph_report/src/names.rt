@@ -7,20 +7,21 @@ ghost use Rattle.call_cycles.specs.Graph.{component_count, component_of, head_of
 ghost use Rattle.graph_report.specs.Cycles.{cycle_name};
 ghost use Rattle.graph_report.specs.Entries.{number_in, graph_order};
 ghost use Rattle.graph_report.specs.GraphText.{bracket_text, cycle_mark, tail_of};
-ghost use Rattle.graph_report.specs.Inputs.{AreInputs, sources_in};
-ghost use Rattle.graph_report.specs.Numbers.{AreNumbers, IsReport, number_of};
+ghost use Rattle.graph_report.specs.Inputs.{sources_in};
+ghost use Rattle.graph_report.specs.Numbers.{AreNumbers};
+ghost use Rattle.graph_report.specs.Reports.{number_of};
 ghost use Rattle.graph_report.specs.declared.subjects.Subject.TheVariants.{Cycle};
 
 use crate::inputs::Inputs;
 use crate::line::put_tail;
-use crate::numbers::{Numbers, Report};
+use crate::numbers::Numbers;
+use crate::prepared::Report;
 use host_port::{Failed, Host, PrintBuf};
 use text_cols::Line;
 
 /// The cycle of which a function is a member, where there is one.
 #[tactic(auto, using(text_cols::proofs::Lengths::lengths), unfolding(crate::specs::GraphText::cycle_mark))]
 fn mark(inputs: &Inputs<'_>, f: u32) -> Line
-    requires inputs { AreInputs inputs.now }
     requires function { f < inputs.now.sources.graph.now.functions }
     ensures text { result ≡ cycle_mark inputs.now.sources.graph.now f }
     ensures short { length result ≤ 19 }
@@ -37,7 +38,6 @@ fn mark(inputs: &Inputs<'_>, f: u32) -> Line
 
 /// What stands behind the name of a function: its cycle, the number of its entry, and the end of the line.
 pub(crate) fn function_tail(inputs: &Inputs<'_>, numbers: &Numbers, f: u32) -> Line
-    requires inputs { AreInputs inputs.now }
     requires numbers { AreNumbers (sources_in inputs.now) numbers.now }
     requires function { f < inputs.now.sources.graph.now.functions }
     ensures { result ≡ tail_of inputs.now.sources.graph.now
@@ -50,7 +50,6 @@ pub(crate) fn function_tail(inputs: &Inputs<'_>, numbers: &Numbers, f: u32) -> L
 
 /// What stands behind the name of a cycle as a whole: the number of its entry, and the end of the line.
 fn cycle_tail(report: &Report<'_>, head: u32) -> Line
-    requires report { IsReport report.now }
     requires function { head < report.now.inputs.sources.graph.now.functions }
     ensures { result ≡ codes " " ++ bracket_text (number_of report.now (Cycle head)) ++ codes "\n" }
 {
@@ -66,7 +65,6 @@ pub(crate) fn put_cycle_name<H: Host>(
     lines: &mut PrintBuf,
     host: &mut H,
 ) -> Result<(), Failed>
-    requires report { IsReport report.now }
     requires function { head < report.now.inputs.sources.graph.now.functions }
     requires cycle { is_cycle report.now.inputs.sources.graph.now
         (component_of report.now.inputs.sources.graph.now head) ≡ true }

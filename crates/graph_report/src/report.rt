@@ -12,14 +12,14 @@ ghost use Rattle.flat_report.specs.declared.refusal.ReportRefusal.TheVariants.{O
 ghost use Rattle.graph_report.specs.Entries.{graph_order};
 ghost use Rattle.graph_report.specs.GraphText.{graph_text, is_shown as spec};
 ghost use Rattle.graph_report.specs.Inputs.{sources_in};
-ghost use Rattle.graph_report.specs.Numbers.{IsReport};
 ghost use Rattle.graph_report.specs.Rows.{entries_of_rows, entry_of_row};
 ghost use Rattle.graph_report.specs.Subjects.{IsSubject, entry_text, shown_text};
 
 use crate::entries::put_entry;
 use crate::inputs::Inputs;
 use crate::labels::function_labels;
-use crate::numbers::{Report, entry_numbers};
+use crate::numbers::entry_numbers;
+use crate::prepared::Report;
 use crate::rows::{Row, rows_in_order};
 use crate::subjects::Subject;
 use crate::tables::Tables;
@@ -105,7 +105,6 @@ fn print<H: Host>(
     hidden: &[String],
     host: &mut H,
 ) -> Result<(), Failed>
-    requires report { IsReport report.now }
     requires rows { entries_of_rows rows.now ≡ graph_order (sources_in report.now.inputs) }
     ensures { Puts Output (graph_text (sources_in report.now.inputs) (map string_bytes hidden.now))
         (H.outside host.old) (H.outside host.new) result }
@@ -122,7 +121,6 @@ fn put_report<H: Host>(
     lines: &mut PrintBuf,
     host: &mut H,
 ) -> Result<(), Failed>
-    requires report { IsReport report.now }
     requires rows { entries_of_rows rows.now ≡ graph_order (sources_in report.now.inputs) }
     ensures { Adds Output (graph_text (sources_in report.now.inputs) (map string_bytes hidden.now))
         lines.old lines.new (H.outside host.old) (H.outside host.new) result }
@@ -138,7 +136,6 @@ fn put_entries<H: Host>(
     lines: &mut PrintBuf,
     host: &mut H,
 ) -> Result<(), Failed>
-    requires report { IsReport report.now }
     requires rows { entries_of_rows rows.now ≡ graph_order (sources_in report.now.inputs) }
     ensures { let s = sources_in report.now.inputs in
         Adds Output (flat_map (entry_text s)
@@ -169,7 +166,6 @@ fn put_row<H: Host>(
     lines: &mut PrintBuf,
     host: &mut H,
 ) -> Result<(), Failed>
-    requires report { IsReport report.now }
     requires subject { IsSubject report.now.inputs.sources.graph.now row.now.subject }
     ensures { Adds Output (shown_text (sources_in report.now.inputs) (map string_bytes hidden.now)
         (entry_of_row row.now)) lines.old lines.new

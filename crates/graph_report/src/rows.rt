@@ -3,7 +3,7 @@
 ghost use Rattle.std.specs.Prelude.{◌≡◌, ◌<◌, ◌++◌, IfOk, OnOk};
 ghost use Rattle.graph_report.specs.Entries.{graph_entry_cmp, graph_order};
 ghost use Rattle.graph_report.specs.Entries.{has_entry as has};
-ghost use Rattle.graph_report.specs.Inputs.{AreInputs, sources_in};
+ghost use Rattle.graph_report.specs.Inputs.{sources_in};
 ghost use Rattle.graph_report.specs.Rows.{cycle_entries, entries_of_rows, entry_of_row, function_entries};
 
 use crate::inputs::Inputs;
@@ -38,7 +38,6 @@ fn order(one: &Row<'_>, other: &Row<'_>) -> Ordering
 
 /// Whether a function took time, itself or in what it calls, or calls or is called.
 fn has_entry(inputs: &Inputs<'_>, f: u32) -> bool
-    requires inputs { AreInputs inputs.now }
     requires function { f < inputs.now.sources.graph.now.functions }
     ensures { result ≡ has (sources_in inputs.now) f }
 {
@@ -50,7 +49,6 @@ fn has_entry(inputs: &Inputs<'_>, f: u32) -> bool
 
 /// Adds the cycles, in the order of components.
 fn put_cycles<'a>(inputs: &Inputs<'a>, rows: &mut Vec<Row<'a>>) -> Result<(), AllocError>
-    requires { AreInputs inputs.now }
     ensures { OnOk result (entries_of_rows rows.new.items
         ≡ entries_of_rows rows.old.items ++ cycle_entries (sources_in inputs.now)) }
 {
@@ -68,7 +66,6 @@ fn put_cycles<'a>(inputs: &Inputs<'a>, rows: &mut Vec<Row<'a>>) -> Result<(), Al
 
 /// Adds the functions that have an entry, in the order of their addresses.
 fn put_functions<'a>(inputs: &Inputs<'a>, rows: &mut Vec<Row<'a>>) -> Result<(), AllocError>
-    requires { AreInputs inputs.now }
     ensures { OnOk result (entries_of_rows rows.new.items
         ≡ entries_of_rows rows.old.items ++ function_entries (sources_in inputs.now)) }
 {
@@ -89,7 +86,6 @@ pub(crate) fn rows_in_order<'a>(
     alloc: Global,
     inputs: &Inputs<'a>,
 ) -> Result<Vec<Row<'a>>, AllocError>
-    requires { AreInputs inputs.now }
     ensures { IfOk result (λ rows. entries_of_rows rows.items
         ≡ graph_order (sources_in inputs.now)) }
 {

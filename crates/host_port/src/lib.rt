@@ -6,19 +6,19 @@ pub mod acts;
 pub mod buffers;
 mod files;
 pub mod host;
-pub mod loading;
 pub mod mem_host;
 pub mod never_fails;
 pub mod pieces;
 pub mod side;
 pub mod values;
+pub mod whole_file;
 
 pub use buffers::{OutBuf, PrintBuf};
 pub use host::{Failed, Host};
-pub use loading::{LoadRefusal, load, read_front};
 pub use mem_host::{HostCall, MemHost};
 pub use never_fails::NeverFails;
 pub use pieces::{err_all_of, out_all_of, write_all_of};
+pub use whole_file::{LoadRefusal, TakesPieces, load, read_all, read_front};
 
 #[cfg(test)]
 mod tests;

@@ -3,9 +3,9 @@
 ghost use Rattle.std.specs.Prelude.{◌≡◌, ◌↔◌, IsTrue, Ok};
 
 use crate::host::Failed;
-use crate::loading::LoadRefusal;
 use crate::mem_host::HostCall;
 use crate::side::Side;
+use crate::whole_file::LoadRefusal;
 use std::alloc::AllocError;
 
 /// Whether two failures are the same, as all are.

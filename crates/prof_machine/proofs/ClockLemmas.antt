@@ -11,8 +11,8 @@ use Rattle.prof_machine.proofs.WorldLemmas.{by_arrived, by_executed, by_going, b
 use Rattle.prof_machine.specs.Turn.{after_arrival, after_close, after_execution, after_ordinary_turn, after_return, after_sample, after_budget, after_look, turn_of, while_going, with_entry, world_after}
 use Rattle.prof_machine.specs.Value.{is_sample}
 use Rattle.prof_machine.specs.World.{World, hart_of, looks_of_hart}
-use Rattle.prof_machine.specs.declared.ending.End.{End}
-use Rattle.prof_machine.specs.declared.ending.End.TheVariants.{Budget, Exit, Trap}
+use Rattle.prof_machine.specs.declared.summary.End.{End}
+use Rattle.prof_machine.specs.declared.summary.End.TheVariants.{Budget, Exit, Trap}
 use Rattle.prof_machine.specs.declared.machine.Machine.{Machine}
 
 -- ---- what is left up to the next sample

@@ -9,8 +9,8 @@ use Rattle.prof_machine.specs.Schedule.{Draws, PlanPlace}
 use Rattle.prof_machine.specs.Turn.{turn_of}
 use Rattle.prof_machine.specs.Value.{IsHeld, IsLive, RunValue, StandsFor, flights, looks_at_most, turned_of, value_of, work_left}
 use Rattle.prof_machine.specs.World.{World}
-use Rattle.prof_machine.specs.declared.ending.End.{End}
-use Rattle.prof_machine.specs.declared.ending.Turned.TheVariants.{Ended, Going}
+use Rattle.prof_machine.specs.declared.summary.End.{End}
+use Rattle.prof_machine.specs.declared.summary.Turned.TheVariants.{Ended, Going}
 use Rattle.prof_machine.specs.declared.flight.Flight.{Flight}
 use Rattle.prof_machine.specs.declared.machine.Machine.{Machine}
 use Rattle.prof_machine.specs.declared.runs.Run.TheInside.{Inside}

@@ -18,7 +18,7 @@ use Rattle.prof_machine.specs.Value.{RunValue, StandsFor, value_of}
 use Rattle.prof_machine.specs.World.{World, blank, hart_of}
 use Rattle.prof_machine.specs.declared.ecalls.Call.{Call}
 use Rattle.prof_machine.specs.declared.ecalls.Call.TheVariants.{Writes}
-use Rattle.prof_machine.specs.declared.ending.End.TheVariants.{Trap}
+use Rattle.prof_machine.specs.declared.summary.End.TheVariants.{Trap}
 use Rattle.prof_machine.specs.declared.machine.Machine.{Machine}
 use Rattle.prof_machine.specs.declared.runs.Run.TheInside.{Inside}
 

@@ -10,7 +10,7 @@ use Rattle.mcount_arcs.specs.declared.walk.Entered.TheVariants.{Ignored, Lost, W
 use Rattle.rv_step.specs.Registers.{register}
 use Rattle.prof_machine.specs.Turn.{after_entering, after_arrival, after_close, after_execution, after_ordinary_turn, is_at, after_return, after_sample, after_budget, return_target, while_going, with_entry}
 use Rattle.prof_machine.specs.World.{World, hart_of}
-use Rattle.prof_machine.specs.declared.ending.End.{End}
+use Rattle.prof_machine.specs.declared.summary.End.{End}
 use Rattle.prof_machine.specs.declared.machine.Machine.{Machine}
 
 pub record Lasting : Type 0 where

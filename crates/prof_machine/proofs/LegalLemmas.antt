@@ -25,8 +25,8 @@ use Rattle.prof_machine.specs.Plan.{after_drive, most_turns, plan_of}
 use Rattle.prof_machine.specs.Start.{final_world, machine_of, start_of}
 use Rattle.prof_machine.specs.Turn.{after_entering, after_arrival, after_close, after_execution, after_ordinary_turn, is_at, after_return, after_sample, after_budget, after_look, turn_of, while_going, with_entry, world_after}
 use Rattle.prof_machine.specs.World.{World, hart_of, looks_of_hart}
-use Rattle.prof_machine.specs.declared.ending.End.{End}
-use Rattle.prof_machine.specs.declared.ending.End.TheVariants.{Budget}
+use Rattle.prof_machine.specs.declared.summary.End.{End}
+use Rattle.prof_machine.specs.declared.summary.End.TheVariants.{Budget}
 use Rattle.prof_machine.specs.declared.machine.Machine.{Machine}
 use Rattle.prof_machine.specs.declared.setup.Setup.{Setup}
 

@@ -25,7 +25,7 @@ use Rattle.prof_machine.specs.Stages.{begin_of, holds, ran_since}
 use Rattle.prof_machine.specs.Turn.{after_execution, is_at, after_sample, while_going}
 use Rattle.prof_machine.specs.Value.{IsHeld, RunValue, StandsFor, value_of}
 use Rattle.prof_machine.specs.World.{World, hart_of, looks_of_hart}
-use Rattle.prof_machine.specs.declared.ending.End.{End}
+use Rattle.prof_machine.specs.declared.summary.End.{End}
 use Rattle.prof_machine.specs.declared.flight.Flight.{Flight}
 use Rattle.prof_machine.specs.declared.machine.Machine.{Machine}
 use Rattle.prof_machine.specs.declared.notes.Ran.{Ran}

@@ -7,7 +7,7 @@ use Rattle.prof_machine.proofs.WorldLemmas.{ended_stays, world_after-append}
 use Rattle.prof_machine.specs.Plan.{after_drive, most_turns, plan_of, world_at, taker_of}
 use Rattle.prof_machine.specs.Turn.{turn_of, world_after}
 use Rattle.prof_machine.specs.World.{World}
-use Rattle.prof_machine.specs.declared.ending.End.{End}
+use Rattle.prof_machine.specs.declared.summary.End.{End}
 use Rattle.prof_machine.specs.declared.machine.Machine.{Machine}
 use Rattle.prof_machine.specs.declared.setup.Setup.{Setup}
 

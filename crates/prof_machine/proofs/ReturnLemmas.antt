@@ -24,8 +24,8 @@ use Rattle.rv_step.specs.declared.stepped.Stepped.{Stepped}
 use Rattle.rv_step.specs.declared.stepped.Stepped.TheVariants.{Ecall, Retired, Trap as Trapped}
 use Rattle.prof_machine.specs.Turn.{after_call, after_ecall, after_entering, after_step, after_arrival, after_close, after_execution, after_ordinary_turn, is_at, after_return, after_sample, after_budget, after_look, return_target, turn_of, while_going, with_entry}
 use Rattle.prof_machine.specs.World.{World, blank, hart_of, looks_of_hart}
-use Rattle.prof_machine.specs.declared.ending.End.{End}
-use Rattle.prof_machine.specs.declared.ending.End.TheVariants.{Budget, Trap}
+use Rattle.prof_machine.specs.declared.summary.End.{End}
+use Rattle.prof_machine.specs.declared.summary.End.TheVariants.{Budget, Trap}
 use Rattle.prof_machine.specs.declared.machine.Machine.{Machine}
 
 -- no trap has ended the run

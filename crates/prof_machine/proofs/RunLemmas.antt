@@ -23,8 +23,8 @@ use Rattle.prof_machine.specs.Start.{final_world, machine_of, start_of}
 use Rattle.prof_machine.specs.Turn.{world_after}
 use Rattle.prof_machine.specs.Value.{is_sample}
 use Rattle.prof_machine.specs.World.{World}
-use Rattle.prof_machine.specs.declared.ending.End.{End}
-use Rattle.prof_machine.specs.declared.ending.End.TheVariants.{Budget, Exit, Trap}
+use Rattle.prof_machine.specs.declared.summary.End.{End}
+use Rattle.prof_machine.specs.declared.summary.End.TheVariants.{Budget, Exit, Trap}
 use Rattle.prof_machine.specs.declared.machine.Machine.{Machine}
 use Rattle.prof_machine.specs.declared.setup.Setup.{Setup}
 

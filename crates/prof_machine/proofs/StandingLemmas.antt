@@ -26,8 +26,8 @@ use Rattle.prof_machine.specs.Stages.{answers, retires, returns}
 use Rattle.prof_machine.specs.Turn.{after_answer, one_retired, after_return, returned_by, after_sample, after_budget, return_target, while_going, with_answer, with_entry, with_hart}
 use Rattle.prof_machine.specs.Value.{IsHeld, RunValue, StandsFor, is_lost, left_by, value_of}
 use Rattle.prof_machine.specs.World.{World, blank, hart_of}
-use Rattle.prof_machine.specs.declared.ending.End.{End}
-use Rattle.prof_machine.specs.declared.ending.End.TheVariants.{Budget, Trap}
+use Rattle.prof_machine.specs.declared.summary.End.{End}
+use Rattle.prof_machine.specs.declared.summary.End.TheVariants.{Budget, Trap}
 use Rattle.prof_machine.specs.declared.flight.Flight.{Flight}
 use Rattle.prof_machine.specs.declared.notes.TurnNote.{TurnNote}
 use Rattle.prof_machine.specs.declared.runs.Run.TheInside.{Inside}

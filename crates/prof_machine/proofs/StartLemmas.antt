@@ -20,8 +20,8 @@ use Rattle.prof_machine.specs.Executions.{instructions_of}
 use Rattle.prof_machine.specs.Setup.{IsSetup}
 use Rattle.prof_machine.specs.Start.{HasRoom, IsLayout, base_in, base_of, first_registers, is_outside_of, is_too_small_of, machine_of, program_end_in, program_end_of, memory_size, start_of, start_refusal}
 use Rattle.prof_machine.specs.Value.{AreCounts, IsHeld, RunValue, StandsFor, calls_met, flights, left_by, value_of}
-use Rattle.prof_machine.specs.declared.ending.StartRefusal.{StartRefusal}
-use Rattle.prof_machine.specs.declared.ending.StartRefusal.TheVariants.{EntryOutside, ProgramTooLarge}
+use Rattle.prof_machine.specs.declared.summary.StartRefusal.{StartRefusal}
+use Rattle.prof_machine.specs.declared.summary.StartRefusal.TheVariants.{EntryOutside, ProgramTooLarge}
 use Rattle.prof_machine.specs.declared.flight.Flight.{Flight}
 use Rattle.prof_machine.specs.declared.layout.Layout.{Layout}
 use Rattle.prof_machine.specs.declared.machine.Machine.{Machine}

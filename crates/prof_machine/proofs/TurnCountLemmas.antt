@@ -8,8 +8,8 @@ use Rattle.prof_machine.proofs.ClockLemmas.{Timed, at_none, timed_turn}
 use Rattle.prof_machine.proofs.WorldLemmas.{by_arrived, by_executed, by_going, by_returned, closed_going, ended_stays, ended_turn, going_stage}
 use Rattle.prof_machine.specs.Turn.{after_arrival, after_close, after_execution, after_ordinary_turn, after_sample, after_budget, after_look, turn_of, while_going, with_entry, world_after}
 use Rattle.prof_machine.specs.World.{World, hart_of, looks_of_hart}
-use Rattle.prof_machine.specs.declared.ending.End.{End}
-use Rattle.prof_machine.specs.declared.ending.End.TheVariants.{Budget, Exit, Trap}
+use Rattle.prof_machine.specs.declared.summary.End.{End}
+use Rattle.prof_machine.specs.declared.summary.End.TheVariants.{Budget, Exit, Trap}
 use Rattle.prof_machine.specs.declared.machine.Machine.{Machine}
 
 pub total : List ℕ → ℕ

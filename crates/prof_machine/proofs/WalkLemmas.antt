@@ -23,7 +23,7 @@ use Rattle.prof_machine.specs.Stages.{holds, returns}
 use Rattle.prof_machine.specs.Turn.{after_close, after_look, with_entry}
 use Rattle.prof_machine.specs.Value.{IsHeld, RunValue, StandsFor, left_by, looks_left, value_of}
 use Rattle.prof_machine.specs.World.{World, looks_of_hart}
-use Rattle.prof_machine.specs.declared.ending.End.{End}
+use Rattle.prof_machine.specs.declared.summary.End.{End}
 use Rattle.prof_machine.specs.declared.flight.Flight.{Flight}
 use Rattle.prof_machine.specs.declared.machine.Machine.{Machine}
 use Rattle.prof_machine.specs.declared.runs.Run.TheInside.{Inside}

@@ -22,8 +22,8 @@ use Rattle.prof_machine.specs.Value.{is_sample}
 use Rattle.prof_machine.specs.World.{World, hart_of}
 use Rattle.prof_machine.specs.declared.ecalls.Call.{Call}
 use Rattle.prof_machine.specs.declared.ecalls.Call.TheVariants.{Answers, Exits, SetsBreak, Writes}
-use Rattle.prof_machine.specs.declared.ending.End.{End}
-use Rattle.prof_machine.specs.declared.ending.End.TheVariants.{Exit, Trap}
+use Rattle.prof_machine.specs.declared.summary.End.{End}
+use Rattle.prof_machine.specs.declared.summary.End.TheVariants.{Exit, Trap}
 use Rattle.prof_machine.specs.declared.machine.Machine.{Machine}
 
 -- how a run ended, where it has

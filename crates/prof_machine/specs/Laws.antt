@@ -7,7 +7,7 @@ use Rattle.mcount_arcs.specs.declared.state.State.TheVariants.{Busy}
 use Rattle.mcount_arcs.specs.Log.{CallIgnored, CallLost, Enter, IsLegal, LogEntry, MayFollow, Mode, Sample, WalkDone, state_of}
 use Rattle.mcount_arcs.specs.Samples.{counted_samples}
 use Rattle.rv_step.specs.declared.stepped.TrapKind.{TrapKind}
-use Rattle.prof_machine.specs.declared.ending.End.TheVariants.{Trap}
+use Rattle.prof_machine.specs.declared.summary.End.TheVariants.{Trap}
 use Rattle.prof_machine.specs.declared.machine.Machine.{Machine}
 use Rattle.prof_machine.specs.declared.notes.Ran.{Ran}
 use Rattle.prof_machine.specs.declared.setup.Setup.{Setup}

@@ -6,9 +6,9 @@ use Rattle.rv_step.specs.declared.stepped.TrapKind.TheVariants.{JumpMisaligned}
 use Rattle.rv_decode.specs.Table.{instr_of}
 use Rattle.rv_step.specs.Registers.{Registers}
 use Rattle.rv_step.specs.Step.{word_at_pc}
-use Rattle.prof_machine.specs.declared.ending.End.TheVariants.{Trap}
-use Rattle.prof_machine.specs.declared.ending.Turned.{Turned}
-use Rattle.prof_machine.specs.declared.ending.Turned.TheVariants.{Going}
+use Rattle.prof_machine.specs.declared.summary.End.TheVariants.{Trap}
+use Rattle.prof_machine.specs.declared.summary.Turned.{Turned}
+use Rattle.prof_machine.specs.declared.summary.Turned.TheVariants.{Going}
 use Rattle.prof_machine.specs.declared.flight.Flight.{Flight}
 use Rattle.prof_machine.specs.Executions.{with_execution}
 use Rattle.prof_machine.specs.declared.notes.Ran.{Ran}

@@ -3,7 +3,6 @@
 #![tactic(auto)]
 
 mod ecalls;
-pub mod ending;
 mod flight;
 pub mod laws;
 mod layout;
@@ -13,10 +12,11 @@ pub mod runs;
 pub mod schedule;
 pub mod setup;
 mod stages;
+pub mod summary;
 pub mod values;
 
-pub use ending::{End, RunSummary, StartRefusal, Turned};
 pub use notes::{Ran, TurnNote};
 pub use runs::Run;
 pub use schedule::PlanWalk;
 pub use setup::{Plan, Setup};
+pub use summary::{End, RunSummary, StartRefusal, Turned};

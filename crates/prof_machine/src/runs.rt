@@ -7,7 +7,7 @@ ghost use Rattle.host_port.specs.Outside.{KeepsCounts, KeepsInput};
 ghost use Rattle.mcount_arcs.specs.Arcs.{CallFits, arcs_of};
 ghost use Rattle.mcount_arcs.specs.Sizes.{AreSizes};
 ghost use Rattle.mcount_arcs.specs.Value.{StandsFor as RuntimeStandsFor};
-ghost use Rattle.prof_machine.specs.declared.ending.Turned.TheVariants.{Going};
+ghost use Rattle.prof_machine.specs.declared.summary.Turned.TheVariants.{Going};
 ghost use Rattle.prof_machine.specs.Executions.{exec_counts_of, instructions_of};
 ghost use Rattle.prof_machine.specs.Notes.{look_note, note_of};
 ghost use Rattle.prof_machine.specs.Setup.{IsSetup};
@@ -19,13 +19,13 @@ ghost use Rattle.prof_machine.specs.Stages.{Advances, LeavesFewerTurns, PrintsAs
 ghost use Rattle.prof_machine.specs.Value.{IsLive, StandsFor, summary_of, turned_of, work_left};
 ghost use Rattle.prof_machine.specs.World.{World};
 
-use crate::ending::{End, RunSummary, StartRefusal, Turned};
 use crate::flight::Flight;
 use crate::layout::{Layout, first_registers};
 use crate::machine::Machine;
 use crate::notes::{KeptNote, TurnNote};
 use crate::schedule::PlanWalk;
 use crate::setup::Setup;
+use crate::summary::{End, RunSummary, StartRefusal, Turned};
 use elf32_syms::Image;
 use host_port::{Failed, Host};
 use mcount_arcs::{Gmon, Sizes};

@@ -11,10 +11,10 @@ ghost use Rattle.prof_machine.specs.Value.{StandsFor, calls_met};
 ghost use Rattle.prof_machine.specs.World.{World, hart_of, looks_of_hart};
 
 use crate::ecalls::{A0, Call, ecall_of, write};
-use crate::ending::End;
 use crate::flight::{Flight, finish_walk};
 use crate::notes::{KeptNote, KeptRan};
 use crate::runs::Run;
+use crate::summary::End;
 use host_port::{Failed, Host};
 use mcount_arcs::{Entered, Gmon, Looked};
 use rv_step::{Stepped, TrapKind, fetch, step};

@@ -2,9 +2,9 @@
 
 ghost use Rattle.std.specs.Prelude.{◌≡◌, ◌↔◌, IsTrue, Ok};
 
-use crate::ending::{End, RunSummary, StartRefusal, Turned};
 use crate::notes::{Ran, TurnNote};
 use crate::setup::Setup;
+use crate::summary::{End, RunSummary, StartRefusal, Turned};
 use std::alloc::AllocError;
 
 /// Whether two answers of a turn are the same.

@@ -35,12 +35,12 @@ use Rattle.command_words.specs.declared.words.Shown.{Shown}
 use Rattle.command_words.specs.declared.words.Shown.TheVariants as shows
 use Rattle.command_words.specs.Items.{nth_word}
 use Rattle.command_words.specs.Words.{command_of}
-use Rattle.rvgprof.specs.Course.{Course, Ends, Input, Does, one_by_one, unless, reply_to, MayStop}
+use Rattle.rvgprof.specs.Course.{Course, Ends, Input, Does, Knows, one_by_one, unless, reply_to, MayStop}
 use Rattle.annotate.specs.Listing.{annotated_text}
 use Rattle.flat_report.specs.Sources.{Sources}
 use Rattle.rvgprof.specs.Help.{help_text, version_text}
 use Rattle.gmon_files.specs.Forms.{file_refusal, file_records}
-use Rattle.rvgprof.specs.Answer.{Chosen, RunActs, chosen_by, chosen_sources, command_course, course_of, demo_lines, end_course, exact_report, file_acts, files_named, fold_program, given_file_acts, list_profiles, print_reports, profile_file, profile_in, profiles, program, report_profiles, report_run, run_acts, run_program, show_lines, shown_reports, stacks_told, start_fault_of, sum_file, syms_lines, sums_up, too_wide, wide_step, logged_profile}
+use Rattle.rvgprof.specs.Answer.{Chosen, RunActs, calls_fit, chosen_by, chosen_sources, command_course, course_of, demo_lines, end_course, exact_report, file_acts, files_named, fold_program, given_file_acts, list_profiles, print_reports, profile_file, profile_in, profiles, program, report_profiles, report_run, run_acts, run_program, show_lines, shown_reports, stacks_told, start_fault_of, sum_file, syms_lines, sums_up, too_wide, wide_step, logged_profile}
 use Rattle.rvgprof.proofs.Summing.{nothing_added}
 use Rattle.rvgprof.specs.Acceptance.{IsProgramFile, IsLike, AreProfileFiles, IsAccepted, records_of, total_of, acts_at_once}
 
@@ -96,7 +96,7 @@ module _ (contents : ℕ → List ℕ) where
   run_done acts setup next bytes image =
       let z = sizes_of image.text setup.hist setup.hash in
       let w = final_world image bytes setup in
-      unless_done start_fault_of (start_refusal image setup) (Does (acts z w) (next z w))
+      unless_done start_fault_of (start_refusal image setup) (Does (acts z w) (Knows (calls_fit z w) (next z w)))
 
   one_by_one_done : (acts : List Act) (next : Course) → IsDone next → IsDone (one_by_one acts next)
   one_by_one_done [] next h = h
@@ -334,9 +334,13 @@ module _ (contents : ℕ → List ℕ) where
   idle_profiles : (words : List ℕ) (left : ℕ) (total : Content) (next : Content → Course) → ((t : Content) → StopsIdle (next t)) → StopsIdle (profiles words left total next)
   idle_profiles [] left total next idle = idle total
   idle_profiles (word ∷ words) left total next idle =
-      idle_file word left _ (λ len records.
-      idle_unless (λ unlike. Unlike unlike word) (conflict_of empty_content (wide_records records.recs)) _
-      (idle_unless (λ unlike. Unlike unlike word) (clash_of total (profile_in records)) _ (idle_profiles words (left - len) (sum_of total (profile_in records)) next idle)))
+      let fault : Difference → Fault = λ unlike. Unlike unlike word in
+      let rest : ℕ → Records → Course = λ len records. profiles words (left - len) (sum_of total (profile_in records)) next in
+      let added : ℕ → Records → Course = λ len records. unless fault (clash_of total (profile_in records)) (rest len records) in
+      let alike : ℕ → Records → Course = λ len records. unless fault (conflict_of empty_content (wide_records records.recs)) (added len records) in
+      idle_file word left alike (λ len records.
+      idle_unless fault (conflict_of empty_content (wide_records records.recs)) (added len records)
+      (idle_unless fault (clash_of total (profile_in records)) (rest len records) (idle_profiles words (left - len) (sum_of total (profile_in records)) next idle)))
 
   idle_by : (words : List (List ℕ)) (command : Option Command) → acts_at_once command ≡ true → StopsIdle (command_course words command)
   idle_by words None at_once = absurd cc
@@ -350,7 +354,7 @@ module _ (contents : ℕ → List ℕ) where
       idle_program elf (run_program acts setup sums_up) (λ bytes program.
       let z = sizes_of program.text setup.hist setup.hash in
       let w = final_world program bytes setup in
-      idle_unless start_fault_of (start_refusal program setup) (Does (acts z w) (sums_up z w)) (idle_does (acts z w) (record { run = summary_of z w })))
+      idle_unless start_fault_of (start_refusal program setup) (Does (acts z w) (Knows (calls_fit z w) (sums_up z w))) (idle_does (acts z w) (record { run = summary_of z w })))
   idle_by words (Some (Profile elf gmon form memory setup selection)) at_once = absurd cc
   idle_by words (Some (Demo functions elf setup)) at_once = absurd cc
   idle_by words (Some (Annotate elf gmons)) at_once =

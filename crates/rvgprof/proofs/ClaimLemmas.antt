@@ -1,8 +1,8 @@
 -- How many instructions the clock has counted, for each way in which a run ends.
 use Rattle.std.proofs.Common.{◌≡◌, ◌<◌, ◌≤◌, ◌-◌, ◌/◌, ℕ, Option, Some, None, refl, sym, ap, ◌∙◌, arith}
 use Rattle.rv_step.specs.declared.stepped.TrapKind.{TrapKind}
-use Rattle.prof_machine.specs.declared.ending.End.{End}
-use Rattle.prof_machine.specs.declared.ending.End.TheVariants.{Budget, Exit, Trap}
+use Rattle.prof_machine.specs.declared.summary.End.{End}
+use Rattle.prof_machine.specs.declared.summary.End.TheVariants.{Budget, Exit, Trap}
 use Rattle.prof_machine.specs.World.{World}
 use Rattle.rvgprof.specs.Claims.{IsWithinBudget, ticked_of}
 

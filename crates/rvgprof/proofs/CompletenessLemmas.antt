@@ -12,7 +12,7 @@ use Rattle.rvgprof.specs.declared.outcome.Fault.{Fault}
 use Rattle.rvgprof.specs.declared.outcome.Fault.TheVariants.{Usage, BadElf, BadProfile, Unlike, TooWide, ProgramTooLarge, EntryOutside, ReadFault, WriteFault, OutOfMemory, TooLarge}
 use Rattle.command_words.specs.declared.words.Command.{Command}
 use Rattle.rvgprof.specs.Texts.{last_line}
-use Rattle.rvgprof.specs.Course.{Course, Ends, Input, Does, Reply, reply_to, inputs_of, MayStop}
+use Rattle.rvgprof.specs.Course.{Course, Ends, Input, Does, Knows, Reply, reply_to, inputs_of, AllKnown, MayStop}
 use Rattle.rvgprof.specs.Answer.{command_course, course_of, contents_of}
 use Rattle.rvgprof.specs.Contract.{IsReply, LineEnds, LineIsPrinted, Owes, WhereTold}
 use Rattle.rvgprof.specs.Headline.{Answered}
@@ -90,6 +90,7 @@ module _ (words : List (List ℕ)) (contents : ℕ → List ℕ) (old mid new : 
         acts = owes.1 ∙ ap (λ (r : Reply). r.acts) (sym reply);
         counts = owes.2;
         inputs = owes.3 ∙ sym none_read;
+        known = subst (λ (o : Option Command). AllKnown contents (command_course words o)) (sym owes.0) tt;
       }
 
   complete_by : (opens : ℕ) (done : List Act) (result : Result Done Fault) (last : LineIsPrinted (last_line words result) mid new) → IsTold → Did done (with_openings opens old) mid → NoneFailed words old new
@@ -129,6 +130,7 @@ memory_leaves contents (Does first next) acts (inr stops) =
     let more = stops.0 in
     let left = memory_leaves contents next more stops.2 in
     (left.0, ap (λ (due : List Act). first ++ due) left.1 ∙ sym (append_assoc first more left.0) ∙ ap (λ (front : List Act). front ++ left.0) (sym stops.1))
+memory_leaves contents (Knows fact next) acts stops = memory_leaves contents next acts stops
 memory_leaves contents (Input word limit next) acts (inl none) = all_left acts (reply_to contents (Input word limit next)).acts none
 memory_leaves contents (Input word limit next) acts (inr stops) =
     let left = memory_leaves contents (next (contents word)) acts stops.1 in

@@ -1,6 +1,13 @@
 -- What the commands leave that write or report a profile, where they are carried out.
-use Rattle.std.proofs.Common.{◌≡◌, ◌+◌, ◌*◌, ℕ, Bool, true, false, cond, ltb, ◌-◌, List, [], ◌∷◌, ◌++◌, append-nil, append_assoc, length, Option, Some, None, Result, Ok, Err, refl, sym, ap, subst, ◌∙◌}
-use Rattle.std.specs.Prelude.{codes, is_ok, option_map, IfSome, MatchOption, ⊤}
+use Rattle.std.proofs.Common.{arith, ◌≡◌, ◌+◌, ◌*◌, ℕ, Bool, true, false, cond, ltb, ◌-◌, List, [], ◌∷◌, ◌++◌, append-nil, append_assoc, length, Option, Some, None, Result, Ok, Err, refl, sym, ap, subst, ◌∙◌}
+use Rattle.mcount_arcs.proofs.SizeLemmas.{AreSizes-of}
+use Rattle.mcount_arcs.specs.Sizes.{IsText}
+use Rattle.std.proofs.lemmas.Bool.Decides.{nat_tests}
+use Rattle.std.specs.List.{list_all, All}
+use Rattle.mcount_arcs.specs.Arcs.{CallFits, arcs_of}
+use Rattle.std.proofs.lemmas.List.Elements.{All-nil, All-cons}
+use Rattle.gp_base.specs.declared.records.RawArc.{RawArc}
+use Rattle.std.specs.Prelude.{nat_lt, ◌&&◌, codes, is_ok, option_map, IfSome, MatchOption, ⊤}
 use Rattle.std.specs.Result.{IsOk}
 use Rattle.std.proofs.lemmas.List.{length-map}
 use Rattle.gp_base.specs.declared.records.Form.{Form}
@@ -39,7 +46,7 @@ use Rattle.graph_report.proofs.RootLemmas.{root_entries}
 use Rattle.mcount_arcs.specs.Image.{block_image}
 use Rattle.prof_machine.specs.declared.setup.Setup.{Setup}
 use Rattle.prof_machine.specs.Start.{start_refusal}
-use Rattle.prof_machine.specs.declared.ending.RunSummary.{RunSummary}
+use Rattle.prof_machine.specs.declared.summary.RunSummary.{RunSummary}
 use Rattle.prof_machine.specs.Value.{summary_of}
 use Rattle.rvgprof.specs.declared.outcome.Done.{Done}
 use Rattle.rvgprof.specs.declared.outcome.Fault.{Fault}
@@ -54,10 +61,10 @@ use Rattle.command_words.specs.declared.words.Selection.{Selection}
 use Rattle.command_words.specs.declared.words.Shown.{Shown}
 use Rattle.command_words.specs.declared.words.Shown.TheVariants as shows
 use Rattle.command_words.specs.Items.{nth_word}
-use Rattle.command_words.specs.Words.{command_of}
-use Rattle.rvgprof.specs.Course.{Course, Ends, Input, Does, Reply, one_by_one, unless, behind, reply_to}
+use Rattle.command_words.specs.Words.{IsRunSetup, command_of}
+use Rattle.rvgprof.specs.Course.{AllKnown, Course, Ends, Input, Does, Knows, Reply, one_by_one, unless, behind, reply_to}
 use Rattle.gmon_files.specs.Forms.{file_records, file_refusal}
-use Rattle.rvgprof.specs.Answer.{Chosen, RunFiles, all_reports, annotate_course, chosen_by, chosen_sources, command_course, contents_of, demo_course, demo_lines, end_course, exact_report, file_acts, files_named, fold_program, folded_course, given_file_acts, list_profiles, print_reports, profile_in, profiles, program, report_course, report_profiles, report_run, run_acts, run_program, show_course, show_lines, shown_reports, stacks_told, start_fault_of, sum_file, sums_up, syms_lines, too_wide, wide_step}
+use Rattle.rvgprof.specs.Answer.{Chosen, RunFiles, all_reports, call_fits, calls_fit, annotate_course, chosen_by, chosen_sources, command_course, contents_of, demo_course, demo_lines, end_course, exact_report, file_acts, files_named, fold_program, folded_course, given_file_acts, list_profiles, print_reports, profile_in, profiles, program, report_course, report_profiles, report_run, run_acts, run_program, show_course, show_lines, shown_reports, stacks_told, start_fault_of, sum_file, sums_up, syms_lines, too_wide, wide_step}
 use Rattle.demo_elf.specs.Elf.{demo_program}
 use Rattle.rvgprof.specs.Reports.{profile_sources}
 use Rattle.rvgprof.specs.Contract.{Acted, LineEnds, LineIsPrinted, WhereTold}
@@ -66,9 +73,9 @@ use Rattle.rvgprof.specs.Help.{help_text, version_text}
 use Rattle.rvgprof.specs.Texts.{last_line}
 use Rattle.gmon_gnu.specs.ProfileText.{profile_text}
 use Rattle.text_lines.specs.Lines.{image_text, show_text}
-use Rattle.rvgprof.specs.Acceptance.{IsAccepted, records_of, total_of}
+use Rattle.rvgprof.specs.Acceptance.{IsProgramFile, Starts, IsAccepted, records_of, total_of}
 use Rattle.rvgprof.specs.Headline.{Answered, DemoLeaves, ExecutionsAreListed, FoldedLeaves, ProfileLeaves, Holds, NamesDiffer, IsPrinted, Leaves, AnnotateLeaves, ReportLeaves, RunIsSummedUp, RunIsWritten, RunLeaves, ShowLeaves, SumLeaves, SymsLeaves, TimeIsShared, demo_printed, exact_section, printed_text, run_sources, sum_sources, reports_text}
-use Rattle.rvgprof.specs.Fitting.{FitsWhereTold, FileFits, SumIsProfile}
+use Rattle.rvgprof.specs.Fitting.{FileFits, SumIsProfile}
 use Rattle.rvgprof.specs.RunFile.{FitsFile, SaysProfile, SaysRun, gmon_text, memory_text, reported_profile, text_sizes, end_world}
 use Rattle.rvgprof.proofs.AcceptanceLemmas.{accepted}
 use Rattle.rvgprof.proofs.Summing.{all_records, nothing_added, total_more}
@@ -257,15 +264,21 @@ told_file (Some old) (Some new) f name text same holds =
     let is : f old ≡ new = cc in
     subst (λ (d : Disk). file_content name d.files ≡ text) is (holds old)
 
-told_word : (old new : Outside) (words : List (List ℕ)) (contents : ℕ → List ℕ) (word : ℕ) → WhereTold old new (λ files. contents ≡ contents_of words files) → WhereTold old new (λ files. contents word ≡ file_content (nth_word words word) files)
-told_word old new words contents word told = by old.disk new.disk told
-  where
-    by : (a c : Option Disk) → MatchOption c ⊤ (λ _. IfSome a (λ d. contents ≡ contents_of words d.files)) → MatchOption c ⊤ (λ _. IfSome a (λ d. contents word ≡ file_content (nth_word words word) d.files))
-    by a None h = tt
-    by None (Some z) h = tt
-    by (Some x) (Some z) h = ap (λ (c : ℕ → List ℕ). c word) h
-
 -- ---- a run
+
+unless_known : {R : Type 0} (contents : ℕ → List ℕ) (fault : R → Fault) (due : Option R) (next : Course) → due ≡ None → AllKnown contents (unless fault due next) → AllKnown contents next
+unless_known {R} contents fault due next is = subst (λ (o : Option R). AllKnown contents (unless fault o next)) is
+
+all_fit : (arcs : List RawArc) → list_all call_fits arcs ≡ true → All CallFits arcs
+all_fit [] fit = All-nil CallFits
+all_fit (arc ∷ arcs) fit = by (nat_lt arc.to 4294967296) (nat_lt arc.count 4294967296) refl refl (λ rest. all_fit arcs rest) fit
+  where
+    by : (to count : Bool) → nat_lt arc.to 4294967296 ≡ to → nat_lt arc.count 4294967296 ≡ count → (list_all call_fits arcs ≡ true → All CallFits arcs) → ((to && count) && list_all call_fits arcs) ≡ true → All CallFits (arc ∷ arcs)
+    by true true to count later rest =
+        let fits : CallFits arc = record { to = grind (arith, nat_tests, to); count = grind (arith, nat_tests, count) } in
+        All-cons CallFits arc arcs fits (later rest)
+    by true false to count later rest = absurd cc
+    by false count a b later rest = absurd cc
 
 module _ (words : List (List ℕ)) (contents : ℕ → List ℕ) (elf gmon : ℕ) (form : Form) (memory : Option ℕ) (setup : Setup) where
   abbrev bytes : List ℕ
@@ -284,8 +297,26 @@ module _ (words : List (List ℕ)) (contents : ℕ → List ℕ) (elf gmon : ℕ
       let started : List ℕ → Image → Course = λ b i. run_program (run_acts files setup) setup (next i) b i in
       let read = program_goes contents elf started done in
       read
-      ∙ unless_goes contents start_fault_of (start_refusal (image_of bytes) setup) (Does due (next (image_of bytes) (text_sizes bytes setup) (end_world bytes setup)))
+      ∙ unless_goes contents start_fault_of (start_refusal (image_of bytes) setup) (Does due (Knows (calls_fit (text_sizes bytes setup) (end_world bytes setup)) (next (image_of bytes) (text_sizes bytes setup) (end_world bytes setup))))
       (still_done contents (program elf started) (started bytes (image_of bytes)) read done)
+
+  -- what it has logged fits its file
+  run_fits : (next : Image → Sizes → World → Course) → IsProgramFile bytes → Starts bytes setup → IsRunSetup form setup
+      → AllKnown contents (program elf (λ b i. run_program (run_acts files setup) setup (next i) b i)) → FitsFile form bytes setup
+  run_fits next accepted starts within known =
+      let image = image_of bytes in
+      let z = text_sizes bytes setup in
+      let w = end_world bytes setup in
+      let started : Course = run_program (run_acts files setup) setup (next image) bytes image in
+      let goes = unless_known contents BadElf (elf_refusal bytes) started accepted.accepted (known accepted.limit) in
+      let ran = unless_known contents start_fault_of (start_refusal image setup) (Does due (Knows (calls_fit z w) (next image z w))) starts goes in
+      let limits = accepted_within bytes accepted.accepted in
+      let text : IsText image.text = record { some = limits.text; size = limits.text_bytes; end = limits.text_end } in
+      record {
+        within = within;
+        sizes = AreSizes-of image.text setup.hist setup.hash text within.0.hist within.0.hash;
+        calls = all_fit (arcs_of z w.log) ran.0;
+      }
 
   -- the file that is left, where no file is written behind the run's own
   file_holds : (rest : List Act) (d : Disk) → ((x : Disk) → disk_after rest x ≡ x) → NamesDiffer words gmon memory
@@ -361,7 +392,7 @@ module _ (contents : ℕ → List ℕ) (functions : ℕ) (elf : Option (List ℕ
   demo_goes done =
       let bytes = demo_program functions in
       let image = image_of bytes in
-      let lines : Course = demo_lines functions setup.rate image (text_sizes bytes setup) (end_world bytes setup) in
+      let lines : Course = Knows (calls_fit (text_sizes bytes setup) (end_world bytes setup)) (demo_lines functions setup.rate image (text_sizes bytes setup) (end_world bytes setup)) in
       let started : Course = unless start_fault_of (start_refusal image setup) (Does (end_world bytes setup).prints lines) in
       let writes : Course = Does (given_file_acts elf bytes) started in
       let read = unless_goes contents BadElf (elf_refusal bytes) writes done in
@@ -427,16 +458,11 @@ abbrev run_in : Result Done Fault → Option RunSummary
 run_in (Ok done) = done.run
 run_in (Err fault) = None
 
--- where the file is told, the program's is told too
-says_run : (words : List (List ℕ)) (program : List ℕ) (elf gmon : ℕ) (form : Form) (setup : Setup) (f : Disk → Disk) (a c : Option Disk)
-    → MatchOption c ⊤ (λ _. IfSome a (λ d. program ≡ file_content (nth_word words elf) d.files))
-    → MatchOption c ⊤ (λ _. IfSome a (λ d. FitsFile form (file_content (nth_word words elf) d.files) setup))
-    → IfSome c (λ d. file_content (nth_word words gmon) d.files ≡ gmon_text form program setup)
-    → Becomes f a c → IfSome c (λ d. SaysRun form program setup (file_content (nth_word words gmon) d.files))
-says_run words program elf gmon form setup f a None is_told fits file same = tt
-says_run words program elf gmon form setup f None (Some z) is_told fits file same = absurd cc
-says_run words program elf gmon form setup f (Some x) (Some z) is_told fits file same =
-    subst (SaysRun form program setup) (sym file) (run_files_read_back form program setup (subst (λ (bytes : List ℕ). FitsFile form bytes setup) (sym is_told) fits))
+-- where the file is told
+says_run : (words : List (List ℕ)) (program : List ℕ) (gmon : ℕ) (form : Form) (setup : Setup) (c : Option Disk) → SaysRun form program setup (gmon_text form program setup)
+    → IfSome c (λ d. file_content (nth_word words gmon) d.files ≡ gmon_text form program setup) → IfSome c (λ d. SaysRun form program setup (file_content (nth_word words gmon) d.files))
+says_run words program gmon form setup None read file = tt
+says_run words program gmon form setup (Some d) read file = subst (SaysRun form program setup) (sym file) read
 
 -- where the file is told, the profiles are told too
 says_sum : (words : List (List ℕ)) (contents : ℕ → List ℕ) (gmons : List ℕ) (out : ℕ) (f : Disk → Disk) (a c : Option Disk)
@@ -464,6 +490,10 @@ module _ (words : List (List ℕ)) (old mid new : Outside) (done : Done) (acted 
   all_taken : (command : Option Command) → command_of words ≡ command → IsAccepted words contents command
   all_taken command said = subst (IsAccepted words contents) said ((accepted words contents).0 (ap is_ok (sym acted.owed.owes.ending)))
 
+  -- what is known on the way
+  all_known : (command : Option Command) → command_of words ≡ command → AllKnown contents (command_course words command)
+  all_known command said = subst (λ (o : Option Command). AllKnown contents (command_course words o)) said acted.owed.owes.known
+
   -- what was done, by the course
   done_by : (command : Option Command) (reply : Reply) → command_of words ≡ command → reply_to contents (command_course words command) ≡ reply
       → Did (reply.acts ++ Complain last.line ∷ []) (with_openings acted.opens old) new
@@ -477,17 +507,18 @@ module _ (words : List (List ℕ)) (old mid new : Outside) (done : Done) (acted 
   ended_by command reply said is = acted.owed.owes.ending ∙ ap (λ (r : Reply). r.ending) (ap (reply_to contents) (ap (command_course words) said) ∙ is)
 
   -- a run, of which the acts that follow leave all files as they are
-  run_is_written : (elf gmon : ℕ) (form : Form) (memory : Option ℕ) (setup : Setup) (rest : List Act) → FitsWhereTold words old new elf form setup
+  run_is_written : (elf gmon : ℕ) (form : Form) (memory : Option ℕ) (setup : Setup) (rest : List Act) → FitsFile form (contents elf) setup
       → ((x : Disk) → disk_after rest x ≡ x) → Did (due words contents elf gmon form memory setup ++ rest) (with_openings acted.opens old) new
       → RunIsWritten words new gmon form memory setup (contents elf)
   run_is_written elf gmon form memory setup rest fits keeps did =
       let program = contents elf in
-      let is_told = told_word old new words contents elf told in
+      let read = run_files_read_back form program setup fits in
       let file : NamesDiffer words gmon memory → IfSome new.disk (λ d. file_content (nth_word words gmon) d.files ≡ gmon_text form program setup) =
       λ apart. told_file old.disk new.disk _ (nth_word words gmon) (gmon_text form program setup) did.disk (λ d. file_holds words contents elf gmon form memory setup rest d keeps apart) in
       record {
+        read = read;
         file = file;
-        says = λ apart. says_run words program elf gmon form setup _ old.disk new.disk is_told fits (file apart) did.disk;
+        says = λ apart. says_run words program gmon form setup new.disk read (file apart);
         runtime = λ place is. told_file old.disk new.disk _ (nth_word words place) (memory_text program setup) did.disk (λ d. memory_holds words contents elf gmon form memory setup rest d place keeps is);
       }
 
@@ -505,15 +536,16 @@ module _ (words : List (List ℕ)) (old mid new : Outside) (done : Done) (acted 
     errors = Becomes-by _ _ old.err new.err (λ b. ap (λ (t : List ℕ). b ++ t) is) did.err;
   }
 
-  run_leaves : (elf gmon : ℕ) (form : Form) (memory : Option ℕ) (setup : Setup) → command_of words ≡ Some (Run elf gmon form memory setup) → FitsWhereTold words old new elf form setup
+  run_leaves : (elf gmon : ℕ) (form : Form) (memory : Option ℕ) (setup : Setup) → command_of words ≡ Some (Run elf gmon form memory setup) → IsRunSetup form setup
       → RunLeaves words contents old new done elf gmon form memory setup
-  run_leaves elf gmon form memory setup said fits =
+  run_leaves elf gmon form memory setup said within =
       let command = Some (Run elf gmon form memory setup) in
       let acts = due words contents elf gmon form memory setup in
       let line = Complain last.line ∷ [] in
       let prints = (end_world (contents elf) setup).prints in
       let taken : IsAccepted words contents command = all_taken command said in
       let reply = run_goes words contents elf gmon form memory setup (λ i. sums_up) (well_done command said) in
+      let fits = run_fits words contents elf gmon form memory setup (λ i. sums_up) taken.0 taken.1 within (all_known command said) in
       let did = subst (λ (acts : List Act). Did acts (with_openings acted.opens old) new) (append_assoc acts [] line) (done_by command _ said reply) in
       record {
         runs = record { accepted = taken.0; starts = taken.1 };
@@ -565,9 +597,9 @@ module _ (words : List (List ℕ)) (old mid new : Outside) (done : Done) (acted 
         times = listing-cells (total_of contents gmons).hists image.symbols (in_order program taken.0.accepted);
       }
 
-  profile_leaves : (elf gmon : ℕ) (form : Form) (memory : Option ℕ) (setup : Setup) (selection : Selection) → command_of words ≡ Some (Profile elf gmon form memory setup selection) → FitsWhereTold words old new elf form setup
+  profile_leaves : (elf gmon : ℕ) (form : Form) (memory : Option ℕ) (setup : Setup) (selection : Selection) → command_of words ≡ Some (Profile elf gmon form memory setup selection) → IsRunSetup form setup
       → ProfileLeaves words contents old new done elf gmon form memory setup (chosen_by words selection)
-  profile_leaves elf gmon form memory setup selection said fits =
+  profile_leaves elf gmon form memory setup selection said within =
       let command = Some (Profile elf gmon form memory setup selection) in
       let chosen = chosen_by words selection in
       let program = contents elf in
@@ -579,6 +611,7 @@ module _ (words : List (List ℕ)) (old mid new : Outside) (done : Done) (acted 
       let taken : IsAccepted words contents command = all_taken command said in
       let goes = well_done command said in
       let ran = run_goes words contents elf gmon form memory setup (report_run setup.rate chosen) goes in
+      let fits = run_fits words contents elf gmon form memory setup (report_run setup.rate chosen) taken.0 taken.1 within (all_known command said) in
       let printed = reports_go contents chosen sources _ (subst (λ (r : Reply). IsOk r.ending) ran goes) in
       let reply = ran ∙ ap (behind acts) printed in
       let printed_last = (reply_to contents (reports contents chosen sources _)).acts in

@@ -35,8 +35,8 @@ use Rattle.gmon_gnu.proofs.ProfileReadBack.{profile_read_back}
 use Rattle.mcount_arcs.specs.declared.sizes.Sizes.{Sizes}
 use Rattle.mcount_arcs.specs.Arcs.{arcs_of}
 use Rattle.mcount_arcs.specs.Sizes.{AreSizes}
-use Rattle.prof_machine.specs.declared.ending.End.{End}
-use Rattle.prof_machine.specs.declared.ending.End.TheVariants.{Budget, Exit, Trap}
+use Rattle.prof_machine.specs.declared.summary.End.{End}
+use Rattle.prof_machine.specs.declared.summary.End.TheVariants.{Budget, Exit, Trap}
 use Rattle.prof_machine.specs.declared.setup.Setup.{Setup}
 use Rattle.prof_machine.specs.Executions.{executions_at, executions_in, instructions_of}
 use Rattle.prof_machine.specs.Plan.{after_drive, most_turns, plan_of}

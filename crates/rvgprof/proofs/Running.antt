@@ -1,14 +1,19 @@
 -- A run that was started, as the words ask for it.
-use Rattle.std.proofs.Common.{◌≡◌, ℕ, ◌++◌, false, List, [], Option, Some, Result, Ok, Err, inl, refl, sym, ap, subst, ◌∙◌}
-use Rattle.std.specs.Prelude.{IsSome}
+use Rattle.std.proofs.Common.{◌≡◌, ℕ, ◌++◌, ◌&&◌, ◌∷◌, All, Bool, true, false, List, [], Option, Some, Result, Ok, Err, inl, refl, sym, ap, subst, ◌∙◌}
+use Rattle.std.specs.Prelude.{IsSome, nat_lt}
+use Rattle.std.specs.List.{list_all}
+use Rattle.std.proofs.lemmas.Bool.{lt-ltb}
+use Rattle.std.proofs.lemmas.List.Elements.{All-head, All-tail}
+use Rattle.gp_base.specs.declared.records.RawArc.{RawArc}
 use Rattle.elf32_syms.specs.declared.image.Image.{Image}
 use Rattle.host_port.specs.Act.{Act, writes_after}
 use Rattle.host_port.specs.Outside.{Outside}
 use Rattle.mcount_arcs.specs.declared.sizes.Sizes.{Sizes}
+use Rattle.mcount_arcs.specs.Arcs.{CallFits, arcs_of}
 use Rattle.mcount_arcs.specs.Sizes.{sizes_of}
-use Rattle.prof_machine.specs.declared.ending.RunSummary.{RunSummary}
-use Rattle.prof_machine.specs.declared.ending.StartRefusal.{StartRefusal}
-use Rattle.prof_machine.specs.declared.ending.StartRefusal.TheVariants as starts
+use Rattle.prof_machine.specs.declared.summary.RunSummary.{RunSummary}
+use Rattle.prof_machine.specs.declared.summary.StartRefusal.{StartRefusal}
+use Rattle.prof_machine.specs.declared.summary.StartRefusal.TheVariants as starts
 use Rattle.prof_machine.specs.declared.setup.Setup.{Setup}
 use Rattle.prof_machine.specs.Plan.{after_drive}
 use Rattle.prof_machine.specs.declared.machine.Machine.{Machine}
@@ -17,12 +22,12 @@ use Rattle.prof_machine.specs.Value.{RunValue, StandsFor, summary_of}
 use Rattle.prof_machine.specs.World.{World}
 use Rattle.rvgprof.specs.declared.outcome.Fault.{Fault}
 use Rattle.rvgprof.specs.declared.outcome.Fault.TheVariants.{WriteFault}
-use Rattle.rvgprof.specs.Course.{Course, Ends, Does, MayStop, unless}
-use Rattle.rvgprof.specs.Answer.{RunActs, run_program, start_fault_of, sums_up}
+use Rattle.rvgprof.specs.Course.{Course, Ends, Does, Knows, MayStop, unless}
+use Rattle.rvgprof.specs.Answer.{RunActs, call_fits, calls_fit, run_program, start_fault_of, sums_up}
 use Rattle.host_port.specs.Performing.{Performs}
 use Rattle.rvgprof.specs.Contract.{Acted}
 use Rattle.rvgprof.specs.Standing.{IsRunOf, IsStartFault, IsStarted, Stands}
-use Rattle.rvgprof.proofs.Standing.{no_memory, may_stop_unless, refuses, goes_on, does, ends, fails}
+use Rattle.rvgprof.proofs.Standing.{no_memory, may_stop_unless, refuses, goes_on, known, does, ends, fails}
 
 -- the run doesn't start
 pub not_started : (words : List (List ℕ)) (old new : Outside) (below : ℕ) (done : List Act) (image : Image) (setup : Setup) (next : Course) (fault : Fault) → ((contents : ℕ → List ℕ) → MayStop contents next [])
@@ -71,20 +76,38 @@ module _ (image : Image) (bytes : List ℕ) (setup : Setup) (v : RunValue) (s : 
     sizes = ap (λ (m : Machine). m.sizes) same ∙ sizes_are;
   }
 
+-- what it has logged fits its file
+fit : (arcs : List RawArc) → All CallFits arcs → list_all call_fits arcs ≡ true
+fit [] all = refl
+fit (arc ∷ arcs) all =
+    let to : nat_lt arc.to 4294967296 ≡ true = lt-ltb arc.to 4294967296 (All-head CallFits arc arcs all).to in
+    let count : nat_lt arc.count 4294967296 ≡ true = lt-ltb arc.count 4294967296 (All-head CallFits arc arcs all).count in
+    let rest : list_all call_fits arcs ≡ true = fit arcs (All-tail CallFits arc arcs all) in
+    ap (λ (b : Bool). (b && nat_lt arc.count 4294967296) && list_all call_fits arcs) to
+    ∙ ap (λ (b : Bool). b && list_all call_fits arcs) count ∙ rest
+
+fit_run : (image : Image) (bytes : List ℕ) (setup : Setup) (v : RunValue) → IsRunOf image bytes setup v → ((w : World) → StandsFor w v → All CallFits (arcs_of v.machine.sizes w.log))
+    → calls_fit (sizes_of image.text setup.hist setup.hash) (final_world image bytes setup) ≡ true
+fit_run image bytes setup v is calls =
+    let w = final_world image bytes setup in
+    fit (arcs_of (sizes_of image.text setup.hist setup.hash) w.log) (subst (λ (z : Sizes). All CallFits (arcs_of z w.log)) is.sizes (calls w is.stands))
+
 -- it was driven and its acts done
 pub run_done : {E : Type 0} (words : List (List ℕ)) (old mid new : Outside) (below : ℕ) (done : List Act) (acts : RunActs) (next : Sizes → World → Course) (image : Image) (bytes : List ℕ) (setup : Setup) (v : RunValue)
     → (Performs {T = Unit {0}} {E = E} (acts (sizes_of image.text setup.hist setup.hash) (final_world image bytes setup)) mid new (Ok tt) → mid.is_writing ≡ false → writes_after (acts (sizes_of image.text setup.hist setup.hash) (final_world image bytes setup)) false ≡ false)
     → Stands words old mid below done (run_program acts setup next bytes image) → IsStarted image bytes setup v
     → ((w : World) → StandsFor w v → w.prints ≡ [] → Performs {T = Unit {0}} {E = E} (acts v.machine.sizes (after_drive v.machine w)) mid new (Ok tt))
+    → (last : RunValue) → IsRunOf image bytes setup last → ((w : World) → StandsFor w last → All CallFits (arcs_of last.machine.sizes w.log))
     → (all : List Act) × Stands words old new below all (next (sizes_of image.text setup.hist setup.hash) (final_world image bytes setup))
-run_done {E} words old mid new below done acts next image bytes setup v shut s started performs =
+run_done {E} words old mid new below done acts next image bytes setup v shut s started performs last is calls =
     let z = sizes_of image.text setup.hist setup.hash in
     let w = final_world image bytes setup in
     let p = performs_due image bytes setup v started {T = Unit {0}} {E = E} acts mid new (Ok tt) performs in (
       done ++ acts z w,
-      does {T = Unit {0}} {E = E} words old mid new below done (acts z w) (next z w) tt
-          (goes_on words old mid below done start_fault_of (start_refusal image setup) (Does (acts z w) (next z w)) s started.starts)
-          p (shut p s.shut),
+      known words old new below (done ++ acts z w) (calls_fit z w) (next z w) (fit_run image bytes setup last is calls)
+          (does {T = Unit {0}} {E = E} words old mid new below done (acts z w) (Knows (calls_fit z w) (next z w)) tt
+          (goes_on words old mid below done start_fault_of (start_refusal image setup) (Does (acts z w) (Knows (calls_fit z w) (next z w))) s started.starts)
+          p (shut p s.shut)),
     )
 
 -- a call on the host failed
@@ -95,8 +118,8 @@ pub run_failed : {E : Type 0} (words : List (List ℕ)) (old mid new : Outside) 
 run_failed {E} words old mid new below done acts next image bytes setup v e s started performs =
     let z = sizes_of image.text setup.hist setup.hash in
     let w = final_world image bytes setup in
-    fails {T = Unit {0}} words old mid new below done (acts z w) (next z w) e
-    (goes_on words old mid below done start_fault_of (start_refusal image setup) (Does (acts z w) (next z w)) s started.starts)
+    fails {T = Unit {0}} words old mid new below done (acts z w) (Knows (calls_fit z w) (next z w)) e
+    (goes_on words old mid below done start_fault_of (start_refusal image setup) (Does (acts z w) (Knows (calls_fit z w) (next z w))) s started.starts)
     (performs_due image bytes setup v started {T = Unit {0}} {E = E} acts mid new (Err e) performs)
 
 -- how a run went is what is to be told

@@ -6,10 +6,9 @@ use Rattle.std.proofs.lemmas.Bool.Decides.{nat_tests}
 use Rattle.std.proofs.lemmas.List.{append-nil, length-replicate}
 use Rattle.host_port.specs.Act.{Act, Disk, File, file_content, writes_after, next_count}
 use Rattle.host_port.specs.Outside.{Outside, Becomes, Did, Rose, KeepsCounts, with_openings}
-use Rattle.host_port.specs.Load.{Loads}
-use Rattle.gmon_files.specs.FileRead.{IsContent}
-use Rattle.host_port.specs.declared.loading.LoadRefusal.{LoadRefusal}
-use Rattle.host_port.specs.declared.loading.LoadRefusal.TheVariants as loads
+use Rattle.host_port.specs.Load.{IsContent, Loads}
+use Rattle.host_port.specs.declared.whole_file.LoadRefusal.{LoadRefusal}
+use Rattle.host_port.specs.declared.whole_file.LoadRefusal.TheVariants as loads
 use Rattle.host_port.proofs.Laws.{Did-nothing, Did-then, KeepsCounts-same, KeepsCounts-then}
 use Rattle.rvgprof.specs.declared.outcome.Done.{Done}
 use Rattle.rvgprof.specs.declared.outcome.Fault.{Fault}
@@ -17,11 +16,11 @@ use Rattle.rvgprof.specs.declared.outcome.Fault.TheVariants.{Usage, BadElf, BadP
 use Rattle.command_words.specs.declared.words.Command.{Command}
 use Rattle.command_words.specs.Items.{nth_word}
 use Rattle.command_words.specs.Words.{command_of}
-use Rattle.rvgprof.specs.Course.{Course, Ends, Input, Does, Reply, behind, one_by_one, unless, reply_to, inputs_of, ComesTo, MayStop}
+use Rattle.rvgprof.specs.Course.{Course, Ends, Input, Does, Knows, Reply, behind, one_by_one, unless, reply_to, inputs_of, AllKnown, ComesTo, MayStop}
 use Rattle.rvgprof.specs.Answer.{command_course, course_of, contents_of, load_fault_of}
 use Rattle.host_port.specs.Performing.{FailedAt, Performs}
 use Rattle.host_port.proofs.PerformingLemmas.{failed_behind, failed_before, failed_since}
-use Rattle.rvgprof.specs.Contract.{IsReply, ReadingFailed, Owes, Owed, WhereTold, Acted}
+use Rattle.rvgprof.specs.Contract.{ReadingFailed, Owes, Owed, WhereTold, Acted}
 use Rattle.rvgprof.specs.Standing.{LeadsTo, Stands}
 
 -- what holds of the files before, where they are told at one moment and at another
@@ -75,6 +74,7 @@ itself contents course = record {
   inputs = omega arith;
   comes = λ n word h. (let same : n ≡ 0 + n = omega arith in subst (λ (k : ℕ). ComesTo contents course k word) same h);
   may_stop = λ more h. h;
+  known = λ h. h;
 }
 
 -- a command begins
@@ -143,6 +143,7 @@ input_read contents whole opens word limit next bytes l is short =
       comes = λ n w h. (let later : opens + suc n ≡ suc opens + n = omega arith in
           subst (λ (k : ℕ). ComesTo contents whole k w) later (l.comes (suc n) w (fits, subst (λ (bs : List ℕ). ComesTo contents (next bs) n w) (sym is) h)));
       may_stop = λ more h. l.may_stop more (inr (fits, subst (λ (bs : List ℕ). MayStop contents (next bs) more) (sym is) h));
+      known = λ h. l.known (λ _. subst (λ (bs : List ℕ). AllKnown contents (next bs)) (sym is) h);
     }
 
 pub loaded : (words : List (List ℕ)) (old mid new : Outside) (below word limit : ℕ) (next : List ℕ → Course) (bytes : List ℕ) → Stands words old mid below [] (Input word limit next) → below ≤ word
@@ -174,7 +175,7 @@ too_large words contents old new opens word limit next l long nothing =
     let due : reply_to contents (course_of words) ≡ record { ending = Err (TooLarge word limit); acts = [] } =
     l.reply ∙ ap (λ (b : Bool). cond b (record { ending = Err (TooLarge word limit); acts = [] }) (reply_to contents (next (contents word)))) test in
     let inputs : inputs_of contents (course_of words) ≡ opens + 1 = l.inputs ∙ ap (λ (b : Bool). opens + suc (cond b 0 (inputs_of contents (next (contents word))))) test in
-    record { ending = ap (λ (r : Reply). r.ending) (sym due); acts = ap (λ (r : Reply). r.acts) (sym due); counts = nothing; inputs = omega (arith, inputs) }
+    record { ending = ap (λ (r : Reply). r.ending) (sym due); acts = ap (λ (r : Reply). r.acts) (sym due); counts = nothing; inputs = omega (arith, inputs); known = l.known (λ short. absurd (omega (arith, short, long))) }
 
 -- there was no memory for what comes next, where so many inputs were opened
 memory_out : (words : List (List ℕ)) (old new : Outside) (opens opened : ℕ) (done : List Act) (rest : Course) (read : ℕ → List ℕ) → Did done (with_openings opened old) new → KeepsCounts old new → new.is_writing ≡ false
@@ -275,26 +276,26 @@ IsAnswer (Err OutOfMemory) = ⊥
 IsAnswer result = ⊤
 
 answer_owed : (words : List (List ℕ)) (contents : ℕ → List ℕ) (old new : Outside) (opens : ℕ) (done : List Act) (result : Result Done Fault) → IsAnswer result
-    → result ≡ (reply_to contents (course_of words)).ending → done ≡ (reply_to contents (course_of words)).acts → KeepsCounts old new → opens ≡ inputs_of contents (course_of words) → Owes words contents old new opens done result
-answer_owed words contents old new opens done (Err Usage) is e a n o = absurd is
-answer_owed words contents old new opens done (Err (ReadFault word)) is e a n o = absurd is
-answer_owed words contents old new opens done (Err WriteFault) is e a n o = absurd is
-answer_owed words contents old new opens done (Err OutOfMemory) is e a n o = absurd is
-answer_owed words contents old new opens done (Ok carried) is e a n o = record { ending = e; acts = a; counts = n; inputs = o }
-answer_owed words contents old new opens done (Err (BadElf refusal)) is e a n o = record { ending = e; acts = a; counts = n; inputs = o }
-answer_owed words contents old new opens done (Err (BadProfile refusal word)) is e a n o = record { ending = e; acts = a; counts = n; inputs = o }
-answer_owed words contents old new opens done (Err (Unlike unlike word)) is e a n o = record { ending = e; acts = a; counts = n; inputs = o }
-answer_owed words contents old new opens done (Err (TooWide head arc)) is e a n o = record { ending = e; acts = a; counts = n; inputs = o }
-answer_owed words contents old new opens done (Err (TooLarge word limit)) is e a n o = record { ending = e; acts = a; counts = n; inputs = o }
-answer_owed words contents old new opens done (Err (ProgramTooLarge need end)) is e a n o = record { ending = e; acts = a; counts = n; inputs = o }
-answer_owed words contents old new opens done (Err (EntryOutside entry)) is e a n o = record { ending = e; acts = a; counts = n; inputs = o }
+    → result ≡ (reply_to contents (course_of words)).ending → done ≡ (reply_to contents (course_of words)).acts → KeepsCounts old new → opens ≡ inputs_of contents (course_of words) → AllKnown contents (course_of words) → Owes words contents old new opens done result
+answer_owed words contents old new opens done (Err Usage) is e a n o h = absurd is
+answer_owed words contents old new opens done (Err (ReadFault word)) is e a n o h = absurd is
+answer_owed words contents old new opens done (Err WriteFault) is e a n o h = absurd is
+answer_owed words contents old new opens done (Err OutOfMemory) is e a n o h = absurd is
+answer_owed words contents old new opens done (Ok carried) is e a n o h = record { ending = e; acts = a; counts = n; inputs = o; known = h }
+answer_owed words contents old new opens done (Err (BadElf refusal)) is e a n o h = record { ending = e; acts = a; counts = n; inputs = o; known = h }
+answer_owed words contents old new opens done (Err (BadProfile refusal word)) is e a n o h = record { ending = e; acts = a; counts = n; inputs = o; known = h }
+answer_owed words contents old new opens done (Err (Unlike unlike word)) is e a n o h = record { ending = e; acts = a; counts = n; inputs = o; known = h }
+answer_owed words contents old new opens done (Err (TooWide head arc)) is e a n o h = record { ending = e; acts = a; counts = n; inputs = o; known = h }
+answer_owed words contents old new opens done (Err (TooLarge word limit)) is e a n o h = record { ending = e; acts = a; counts = n; inputs = o; known = h }
+answer_owed words contents old new opens done (Err (ProgramTooLarge need end)) is e a n o h = record { ending = e; acts = a; counts = n; inputs = o; known = h }
+answer_owed words contents old new opens done (Err (EntryOutside entry)) is e a n o h = record { ending = e; acts = a; counts = n; inputs = o; known = h }
 
 -- it ends
 pub ends : (words : List (List ℕ)) (old new : Outside) (below : ℕ) (done : List Act) (result : Result Done Fault) → Stands words old new below done (Ends result) → IsAnswer result → Acted words old new result
 ends words old new below done result s is =
     let owes : (contents : ℕ → List ℕ) → LeadsTo contents (course_of words) s.opens done (Ends result) → Owes words contents old new s.opens done result =
     λ contents l. answer_owed words contents old new s.opens done result is
-    (sym (ap (λ (r : Reply). r.ending) l.reply)) (sym (ap (λ (r : Reply). r.acts) l.reply ∙ append-nil done)) s.counts (omega (arith, l.inputs)) in
+    (sym (ap (λ (r : Reply). r.ending) l.reply)) (sym (ap (λ (r : Reply). r.acts) l.reply ∙ append-nil done)) s.counts (omega (arith, l.inputs)) (l.known tt) in
     record {
       done = done;
       opens = s.opens;
@@ -311,6 +312,29 @@ pub refuses : {R : Type 0} (words : List (List ℕ)) (old new : Outside) (below 
 refuses {R} words old new below done fault due next refusal s e is =
     ends words old new below done (Err (fault refusal)) (subst (λ (o : Option R). Stands words old new below done (unless fault o next)) e s) is
 
+-- what is known here is so
+known_lead : (contents : ℕ → List ℕ) (whole : Course) (opens : ℕ) (done : List Act) (fact : Bool) (next : Course) → fact ≡ true → LeadsTo contents whole opens done (Knows fact next) → LeadsTo contents whole opens done next
+known_lead contents whole opens done fact next is l = record {
+  reply = l.reply;
+  inputs = l.inputs;
+  comes = l.comes;
+  may_stop = l.may_stop;
+  known = λ h. l.known (is, h);
+}
+
+pub known : (words : List (List ℕ)) (old new : Outside) (below : ℕ) (done : List Act) (fact : Bool) (next : Course) → fact ≡ true → Stands words old new below done (Knows fact next) → Stands words old new below done next
+known words old new below done fact next is s = record {
+  opens = s.opens;
+  did = s.did;
+  counts = s.counts;
+  idle = s.idle;
+  shut = s.shut;
+  read = s.read;
+  leads = λ contents agrees. known_lead contents (course_of words) s.opens done fact next is (s.leads contents agrees);
+  told = weaker old.disk new.disk (λ files. LeadsTo (contents_of words files) (course_of words) s.opens done (Knows fact next)) (λ files. LeadsTo (contents_of words files) (course_of words) s.opens done next)
+      (λ files. known_lead (contents_of words files) (course_of words) s.opens done fact next is) s.told;
+}
+
 -- acts were done
 does_lead : (contents : ℕ → List ℕ) (whole : Course) (opens : ℕ) (done acts : List Act) (next : Course) → LeadsTo contents whole opens done (Does acts next) → LeadsTo contents whole opens (done ++ acts) next
 does_lead contents whole opens done acts next l =
@@ -320,6 +344,7 @@ does_lead contents whole opens done acts next l =
       inputs = l.inputs;
       comes = l.comes;
       may_stop = λ more h. subst (λ (due : List Act). MayStop contents whole due) (sym (append_assoc done acts more)) (l.may_stop (acts ++ more) (inr (more, refl, h)));
+      known = l.known;
     }
 
 -- acts were done that lead from one course to another
@@ -380,6 +405,10 @@ one_by_one_behind : (contents : ℕ → List ℕ) (acts more : List Act) (next :
 one_by_one_behind contents [] more next h = h
 one_by_one_behind contents (act ∷ acts) more next h = inr (acts ++ more, refl, one_by_one_behind contents acts more next h)
 
+one_by_one_known : (contents : ℕ → List ℕ) (acts : List Act) (next : Course) → AllKnown contents next → AllKnown contents (one_by_one acts next)
+one_by_one_known contents [] next h = h
+one_by_one_known contents (act ∷ acts) next h = one_by_one_known contents acts next h
+
 at_once_lead : (contents : ℕ → List ℕ) (whole : Course) (opens : ℕ) (done acts : List Act) (next : Course) → MayStop contents next [] → LeadsTo contents whole opens done (one_by_one acts next) → LeadsTo contents whole opens done (Does acts next)
 at_once_lead contents whole opens done acts next may l = record {
   reply = l.reply ∙ ap (behind done) (one_by_one_reply contents acts next);
@@ -389,6 +418,7 @@ at_once_lead contents whole opens done acts next may l = record {
     | inl none ↦ subst (MayStop contents (one_by_one acts next)) (sym none) (one_by_one_stop contents acts next may)
     | inr some ↦ subst (MayStop contents (one_by_one acts next)) (sym some.1) (one_by_one_behind contents acts some.0 next some.2)
   ]);
+  known = λ h. l.known (one_by_one_known contents acts next h);
 }
 
 -- they are done at once where none of them fails but the last that is begun

@@ -21,7 +21,7 @@ use Rattle.rvgprof.specs.declared.outcome.Fault.{Fault}
 use Rattle.rvgprof.specs.declared.outcome.Fault.TheVariants.{Unlike}
 use Rattle.rvgprof.specs.Course.{Course, MayStop, unless}
 use Rattle.gmon_files.specs.Forms.{file_records}
-use Rattle.gmon_files.specs.FileRead.{IsContent}
+use Rattle.host_port.specs.Load.{IsContent}
 use Rattle.rvgprof.specs.Acceptance.{records_of}
 use Rattle.rvgprof.specs.Answer.{profiles, profile_in, add_fault_of, sum_fault_of}
 use Rattle.rvgprof.specs.Contract.{Acted}

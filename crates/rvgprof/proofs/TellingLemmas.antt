@@ -14,7 +14,7 @@ use Rattle.profile_sum.specs.Sum.{sum_of, clash_of}
 use Rattle.demo_elf.specs.Elf.{demo_program}
 use Rattle.mcount_arcs.specs.declared.sizes.Sizes.{Sizes}
 use Rattle.mcount_arcs.specs.Sizes.{sizes_of}
-use Rattle.prof_machine.specs.declared.ending.End.{End}
+use Rattle.prof_machine.specs.declared.summary.End.{End}
 use Rattle.prof_machine.specs.declared.setup.Setup.{Setup}
 use Rattle.prof_machine.specs.Setup.{IsSetup}
 use Rattle.prof_machine.specs.Start.{final_world, start_refusal}
@@ -28,19 +28,19 @@ use Rattle.command_words.specs.declared.words.Command.TheVariants.{Show, Syms, R
 use Rattle.command_words.specs.declared.words.Shown.{Shown}
 use Rattle.command_words.specs.declared.words.Shown.TheVariants as shows
 use Rattle.command_words.specs.Words.{command_of, IsCommandOf}
-use Rattle.rvgprof.specs.Course.{Course, Input, Does, one_by_one, unless, reply_to}
+use Rattle.rvgprof.specs.Course.{Course, Input, Does, Knows, one_by_one, unless, reply_to}
 use Rattle.command_words.specs.Items.{nth_word}
 use Rattle.annotate.specs.Listing.{annotated_text}
 use Rattle.flat_report.specs.Sources.{Sources}
 use Rattle.host_port.specs.Act.{Act, Out}
 use Rattle.gmon_files.specs.Forms.{file_refusal, file_records}
-use Rattle.rvgprof.specs.Answer.{Chosen, RunActs, chosen_by, chosen_sources, command_course, course_of, demo_lines, end_course, exact_report, files_named, fold_program, given_file_acts, list_profiles, print_reports, profile_file, profile_in, profiles, program, report_profiles, report_run, run_acts, run_program, show_lines, shown_reports, stacks_told, start_fault_of, sum_file, syms_lines, sums_up, too_wide, wide_step, logged_profile}
+use Rattle.rvgprof.specs.Answer.{Chosen, RunActs, calls_fit, chosen_by, chosen_sources, command_course, course_of, demo_lines, end_course, exact_report, files_named, fold_program, given_file_acts, list_profiles, print_reports, profile_file, profile_in, profiles, program, report_profiles, report_run, run_acts, run_program, show_lines, shown_reports, stacks_told, start_fault_of, sum_file, syms_lines, sums_up, too_wide, wide_step, logged_profile}
 use Rattle.elf32_syms.specs.declared.refusal.ElfRefusal.{ElfRefusal}
 use Rattle.elf32_syms.specs.declared.refusal.ElfRefusal.TheVariants as elf
 use Rattle.gp_base.specs.declared.refusal.GmonRefusal.{GmonRefusal}
 use Rattle.gp_base.specs.declared.refusal.GmonRefusal.TheVariants as gmons
-use Rattle.prof_machine.specs.declared.ending.StartRefusal.{StartRefusal}
-use Rattle.prof_machine.specs.declared.ending.StartRefusal.TheVariants as starts
+use Rattle.prof_machine.specs.declared.summary.StartRefusal.{StartRefusal}
+use Rattle.prof_machine.specs.declared.summary.StartRefusal.TheVariants as starts
 use Rattle.rvgprof.specs.Contract.{Acted, RefusalIsNoWant}
 use Rattle.rvgprof.proofs.RefusalLemmas.{ElfNamed, GmonNamed, elf_never, file_never}
 use Rattle.rvgprof.specs.Acceptance.{starts_run}
@@ -118,7 +118,10 @@ module _ (contents : ℕ → List ℕ) (some : Bool) where
   tells_start image setup next tells = tells_unless start_fault_of (start_refusal image setup) next (λ r is. start_named r) tells
 
   tells_run : (acts : RunActs) (setup : Setup) (next : Sizes → World → Course) (bytes : List ℕ) (image : Image) → Tells (next (sizes_of image.text setup.hist setup.hash) (final_world image bytes setup)) → Tells (run_program acts setup next bytes image)
-  tells_run acts setup next bytes image tells = tells_start image setup (Does (acts (sizes_of image.text setup.hist setup.hash) (final_world image bytes setup)) (next (sizes_of image.text setup.hist setup.hash) (final_world image bytes setup))) tells
+  tells_run acts setup next bytes image tells =
+      let z = sizes_of image.text setup.hist setup.hash in
+      let w = final_world image bytes setup in
+      tells_start image setup (Does (acts z w) (Knows (calls_fit z w) (next z w))) tells
 
 -- a run that ended has a summary
 told_of : {A : Type 0} (f : End → A) (ending : Option End) → IsSome ending → is_some (option_map f ending) ≡ true

@@ -59,8 +59,8 @@ use Rattle.mcount_arcs.specs.Image.{entry_in, front_in, index_in}
 use Rattle.mcount_arcs.specs.Log.{CallIgnored, CallLost, WalkDone, Enter, IsLegal, LogEntry, Mode, Pair, Sample, distinct_count, entered_calls, is_busy, is_on, kept_calls, state_of}
 use Rattle.mcount_arcs.specs.Samples.{buckets_of, counted_samples}
 use Rattle.mcount_arcs.specs.Sizes.{AreSizes, IsFraction, IsText, bucket_range, offset_of, sizes_of, text_span}
-use Rattle.prof_machine.specs.declared.ending.End.{End}
-use Rattle.prof_machine.specs.declared.ending.End.TheVariants.{Budget, Exit, Trap}
+use Rattle.prof_machine.specs.declared.summary.End.{End}
+use Rattle.prof_machine.specs.declared.summary.End.TheVariants.{Budget, Exit, Trap}
 use Rattle.prof_machine.specs.declared.machine.Machine.{Machine}
 use Rattle.prof_machine.specs.declared.setup.Setup.{Setup}
 use Rattle.prof_machine.specs.Executions.{counted_pairs, executed_pairs, executions_at, executions_in, instructions_of, pair_of}

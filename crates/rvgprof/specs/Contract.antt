@@ -10,7 +10,7 @@ use Rattle.elf32_syms.specs.declared.refusal.ElfRefusal.TheVariants as elf
 use Rattle.gp_base.specs.declared.refusal.GmonRefusal.TheVariants as gmons
 use Rattle.rvgprof.specs.declared.outcome.Fault.TheVariants.{Usage, BadElf, BadProfile, Unlike, TooWide, TooLarge, ProgramTooLarge, EntryOutside, ReadFault, WriteFault, OutOfMemory}
 use Rattle.command_words.specs.Words.{command_of}
-use Rattle.rvgprof.specs.Course.{reply_to, inputs_of, ComesTo, MayStop}
+use Rattle.rvgprof.specs.Course.{reply_to, inputs_of, AllKnown, ComesTo, MayStop}
 use Rattle.rvgprof.specs.Answer.{course_of, contents_of}
 
 -- a call that reads failed, and no other; none followed it but calls that complain
@@ -32,6 +32,8 @@ pub record IsReply (words : List (List ℕ)) (contents : ℕ → List ℕ) (old 
   pub acts : done ≡ (reply_to contents (course_of words)).acts
   pub counts : KeepsCounts old new
   pub inputs : opens ≡ inputs_of contents (course_of words)
+  -- all that is known on the way is so
+  pub known : AllKnown contents (course_of words)
 
 -- by the answer: what was done, which counts of faults rose, and how many inputs were opened, but after a fault of a write
 -- and want of memory

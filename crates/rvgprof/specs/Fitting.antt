@@ -1,22 +1,14 @@
 -- What is known of the file that a command writes: that its numbers have room in it.
 -- Only private functions speak of it.
 use Rattle.std.specs.Prelude.{ℕ, List, Option, Some, ⊤}
-use Rattle.gp_base.specs.declared.records.Form.{Form}
 use Rattle.gmon_data.specs.Content.{IsProfile}
-use Rattle.host_port.specs.Act.{file_content}
 use Rattle.host_port.specs.Outside.{Outside}
-use Rattle.prof_machine.specs.declared.setup.Setup.{Setup}
 use Rattle.command_words.specs.declared.words.Command.{Command}
 use Rattle.command_words.specs.declared.words.Command.TheVariants.{Run, Profile, Sum}
-use Rattle.command_words.specs.Items.{nth_word}
+use Rattle.command_words.specs.Words.{IsRunSetup}
 use Rattle.rvgprof.specs.Answer.{contents_of}
 use Rattle.rvgprof.specs.Contract.{WhereTold}
-use Rattle.rvgprof.specs.RunFile.{FitsFile}
 use Rattle.rvgprof.specs.Acceptance.{total_of}
-
--- where the program's file is told, its run fits the file
-abbrev pub FitsWhereTold : List (List ℕ) → Outside → Outside → ℕ → Form → Setup → Type 0
-FitsWhereTold words old new elf form setup = WhereTold old new (λ files. FitsFile form (file_content (nth_word words elf) files) setup)
 
 -- where the files are told, what they add up to is a profile
 abbrev pub SumIsProfile : List (List ℕ) → Outside → Outside → List ℕ → Type 0
@@ -24,7 +16,7 @@ SumIsProfile words old new gmons = WhereTold old new (λ files. IsProfile (total
 
 -- of the commands that write a file
 abbrev pub FileFits : List (List ℕ) → Outside → Outside → Option Command → Type 0
-FileFits words old new (Some (Run elf gmon form memory setup)) = FitsWhereTold words old new elf form setup
-FileFits words old new (Some (Profile elf gmon form memory setup selection)) = FitsWhereTold words old new elf form setup
+FileFits words old new (Some (Run elf gmon form memory setup)) = IsRunSetup form setup
+FileFits words old new (Some (Profile elf gmon form memory setup selection)) = IsRunSetup form setup
 FileFits words old new (Some (Sum out gmons)) = SumIsProfile words old new gmons
 FileFits words old new command = ⊤

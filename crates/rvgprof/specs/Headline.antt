@@ -91,9 +91,11 @@ pub record Runs (program : List ℕ) (setup : Setup) : Type 0 where
 -- The file of a run is written, and that of its runtime's memory where one is named.
 pub record RunIsWritten (words : List (List ℕ)) (new : Outside) (gmon : ℕ) (form : Form)
     (memory : Option ℕ) (setup : Setup) (program : List ℕ) : Type 0 where
-  -- GMON holds the file of the run, where `--image` names no file or another ..
+  -- the file of the run is read as its records, and what it says is what is reported
+  pub read : SaysRun form program setup (gmon_text form program setup)
+  -- GMON holds it, where `--image` names no file or another ..
   pub file : NamesDiffer words gmon memory → Holds words new gmon (gmon_text form program setup)
-  -- .. which is read as the records of the run
+  -- .. and so GMON is read
   pub says : NamesDiffer words gmon memory
       → IfSome new.disk (λ d. SaysRun form program setup (file_content (nth_word words gmon) d.files))
   -- the file that is named for it holds the memory of the runtime, also where that is GMON

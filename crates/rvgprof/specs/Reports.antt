@@ -12,7 +12,7 @@ use Rattle.call_cycles.specs.Sums.{numbers_below}
 use Rattle.call_cycles.specs.Values.{profile_graph}
 use Rattle.propagate.specs.Solution.{flow_in}
 use Rattle.flat_report.specs.Sources.{Sources}
-use Rattle.prof_machine.specs.declared.ending.RunSummary.{RunSummary}
+use Rattle.prof_machine.specs.declared.summary.RunSummary.{RunSummary}
 
 -- the samples per second of a profile, and 100 where it has no unit
 abbrev pub profile_rate : Content → ℕ

@@ -18,8 +18,8 @@ use crate::files::write_file;
 use crate::findings::{Findings, findings_of};
 use crate::lines::put_number;
 use crate::outcome::{Done, Fault};
-use crate::printing::print_text;
 use crate::refusals::{elf_fault, report_fault};
+use crate::report_text::print_text;
 use crate::runs::run_alone;
 use call_cycles::Graph;
 use command_words::Words;
@@ -73,14 +73,12 @@ fn run_demo<H: Host>(
     ensures { RunsDemo functions setup image.now bytes.now (H.outside host.old)
         (H.outside host.new) result }
 {
-    let run = match run_alone(alloc, image, bytes, setup, host) {
-        Ok(run) => run,
+    let (run, summary) = match run_alone(alloc, image, bytes, setup, host) {
+        Ok(ran) => ran,
         Err(fault) => return Err(fault),
     };
     match tell_demo(alloc, functions, image, &run, setup.rate, host) {
-        Ok(()) => Ok(Done {
-            run: Some(run.summary()),
-        }),
+        Ok(()) => Ok(Done { run: Some(summary) }),
         Err(refusal) => Err(report_fault(refusal)),
     }
 }

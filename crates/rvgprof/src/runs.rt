@@ -6,14 +6,16 @@ ghost use Rattle.gmon_block.specs.Layout.{layout_of};
 ghost use Rattle.host_port.specs.Host.{Puts};
 ghost use Rattle.host_port.specs.declared.side.Side.TheVariants.{File};
 ghost use Rattle.host_port.specs.Performing.{Performs};
+ghost use Rattle.mcount_arcs.specs.Arcs.{CallFits, arcs_of};
 ghost use Rattle.mcount_arcs.specs.Value.{block_parts};
 ghost use Rattle.prof_machine.specs.Plan.{after_drive};
 ghost use Rattle.prof_machine.specs.Setup.{IsSetup};
-ghost use Rattle.prof_machine.specs.Value.{IsLive, StandsFor};
+ghost use Rattle.prof_machine.specs.Value.{IsLive, StandsFor, summary_of};
 ghost use Rattle.prof_machine.specs.World.{World};
 ghost use Rattle.rvgprof.specs.Answer.{file_acts, files_named, given_file_acts, held_text, run_acts, runtime_text};
 ghost use Rattle.command_words.specs.Items.{nth_word};
-ghost use Rattle.rvgprof.specs.Standing.{IsRunOf, IsStartFault, IsStarted, RunsProgram, TellsNoMore};
+ghost use Rattle.rvgprof.specs.Standing.{IsRunOf, IsStartFault, IsStarted, RunsProgram};
+ghost use Rattle.std.specs.List.{All};
 ghost use Rattle.std.specs.Option.{option_map};
 
 use crate::files::write_file;
@@ -24,7 +26,7 @@ use elf32_syms::Image;
 use gp_base::Form;
 use host_port::{Failed, Host};
 use mcount_arcs::Gmon;
-use prof_machine::{Run, Setup};
+use prof_machine::{Run, RunSummary, Setup};
 use std::alloc::Global;
 
 /// What a run writes: its profile in a form, and perhaps the memory of its runtime, named by words.
@@ -48,7 +50,7 @@ pub fn start_run(alloc: Global, image: &Image, bytes: &[u8], setup: Setup) -> Re
     }
 }
 
-/// Runs a program to its end, and writes its files.
+/// Runs a program to its end, and writes its files. It answers how the run went, too.
 pub fn run_program<H: Host>(
     alloc: Global,
     words: &Words<'_>,
@@ -57,43 +59,58 @@ pub fn run_program<H: Host>(
     outputs: RunOutputs,
     setup: Setup,
     host: &mut H,
-) -> Result<Run, Fault>
+) -> Result<(Run, RunSummary), Fault>
     requires limits { IsWithinLimits (length bytes.now) image.now }
     requires setup { IsSetup setup }
     requires idle { (H.outside host.old).is_writing ≡ false }
     ensures runs { RunsProgram words.now
         (run_acts (files_named words.now outputs.gmon outputs.form outputs.memory) setup) setup
         image.now bytes.now (H.outside host.old) (H.outside host.new) result }
-    ensures ended { IfOk result (IsRunOf image.now bytes.now setup) }
-    ensures told { OnOk result (TellsNoMore (H.outside host.old) (H.outside host.new)) }
+    ensures ended { IfOk result (λ ran. IsRunOf image.now bytes.now setup ran.0) }
+    ensures sums_up { IfOk result (λ ran. (w : World) → StandsFor w ran.0
+        → summary_of ran.0.machine.sizes w ≡ Some ran.1) }
 {
     let mut run = start_run(alloc, image, bytes, setup)?;
     match perform(&mut run, words, outputs, setup, host) {
-        Ok(()) => Ok(run),
+        Ok(()) => Ok(summed_up(run)),
         Err(_) => Err(Fault::WriteFault),
     }
 }
 
-/// Runs a program to its end, and writes nothing.
+/// Runs a program to its end, and writes nothing. It answers how the run went, too.
 pub fn run_alone<H: Host>(
     alloc: Global,
     image: &Image,
     bytes: &[u8],
     setup: Setup,
     host: &mut H,
-) -> Result<Run, Fault>
+) -> Result<(Run, RunSummary), Fault>
     requires limits { IsWithinLimits (length bytes.now) image.now }
     requires setup { IsSetup setup }
     ensures runs { (words : List (List ℕ))
         → RunsProgram words (λ z w. w.prints) setup image.now bytes.now
         (H.outside host.old) (H.outside host.new) result }
-    ensures ended { IfOk result (IsRunOf image.now bytes.now setup) }
+    ensures ended { IfOk result (λ ran. IsRunOf image.now bytes.now setup ran.0) }
+    ensures sums_up { IfOk result (λ ran. (w : World) → StandsFor w ran.0
+        → summary_of ran.0.machine.sizes w ≡ Some ran.1) }
 {
     let mut run = start_run(alloc, image, bytes, setup)?;
     match run.drive(host) {
-        Ok(_) => Ok(run),
+        Ok(_) => Ok(summed_up(run)),
         Err(_) => Err(Fault::WriteFault),
     }
+}
+
+/// A run that ended, and how it went.
+fn summed_up(run: Run) -> (Run, RunSummary)
+    requires { IsSome run.ending }
+    ensures same { result.0 ≡ run }
+    ensures sums_up { (w : World) → StandsFor w run
+        → summary_of run.machine.sizes w ≡ Some result.1 }
+    ensures fits { (w : World) → StandsFor w run → All CallFits (arcs_of run.machine.sizes w.log) }
+{
+    let summary = run.summary();
+    (run, summary)
 }
 
 /// Drives a run to its end, and then writes its files.

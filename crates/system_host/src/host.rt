@@ -91,8 +91,13 @@ impl<S: System> SystemHost<S> {
         }
     }
 
-    /// The system, once the input and the output are let go.
-    pub fn end(self) -> S {
+    /// The system as it is, once the input and the output are let go.
+    pub fn end(self) -> S
+        ensures disk { IfSome self.disk (λ d. S.disk result ≡ Some d) }
+        ensures out { S.printed result ≡ self.out }
+        ensures err { S.complained result ≡ self.err }
+        ensures last_close { S.last_close result ≡ self.last_close }
+    {
         let SystemHost {
             system,
             input: _input,

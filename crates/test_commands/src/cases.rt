@@ -1,7 +1,7 @@
 //! Cases: commands on a host, and what is wanted of each.
 
 use crate::contents::{number, push_content, push_numbers, push_text, put_files, unreadable};
-use crate::failing::{fail_by_kinds, fail_in_turn};
+use crate::failures::{fail_by_kinds, fail_in_turn};
 use host_port::{Host, HostCall, MemHost};
 use rvgprof::{Done, Fault, rvgprof};
 use std::alloc::{AllocError, Global};

@@ -41,7 +41,7 @@
 
 mod cases;
 mod contents;
-mod failing;
+mod failures;
 
 use cases::try_case;
 use contents::{put_file, put_program, unreadable};

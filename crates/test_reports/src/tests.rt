@@ -3,4 +3,4 @@ mod flat;
 mod flows;
 mod graph;
 mod listings;
-mod printing;
+mod printed;

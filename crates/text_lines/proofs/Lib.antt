@@ -1,4 +1,2 @@
 pub mod Numbered
 pub mod LineLemmas
-pub mod CellLemmas
-pub mod FileLemmas

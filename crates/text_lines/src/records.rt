@@ -1,24 +1,20 @@
 //! The lines of `show`.
 
-ghost use Rattle.std.specs.Prelude.{◌≡◌, ◌/◌, ◌^◌, ◌<◌, length, None};
+ghost use Rattle.std.specs.Prelude.{◌≡◌, ◌<◌, length};
 ghost use Rattle.std.specs.List.{flat_map, enumerate_from};
 ghost use Rattle.host_port.specs.Buffered.{Adds};
 ghost use Rattle.host_port.specs.Host.{Puts};
 ghost use Rattle.host_port.specs.declared.side.Side.TheVariants.{Output};
-ghost use Rattle.gp_base.specs.Bytes.{value_of};
-ghost use Rattle.gp_base.specs.Fields.{block_of};
-ghost use Rattle.gmon_cells.specs.Cells.{cells_of};
 ghost use Rattle.gmon_cells.specs.Views.{hist_viewed, rec_viewed};
-ghost use Rattle.gmon_files.specs.Forms.{file_records, file_refusal};
-ghost use Rattle.gmon_files.specs.Viewed.{recs_left};
+ghost use Rattle.gmon_files.specs.Viewed.{recs_left, records_left};
 ghost use Rattle.text_lines.specs.Lines.{show_text, form_line, rec_text, hist_text, hist_line, arc_line, blocks_text, blocks_line, block_line, counter_text, counter_address};
 ghost use Rattle.text_lines.specs.Pending.{pending};
 
 use crate::line::{HistHead, put_arc, put_block, put_blocks, put_count, put_histogram};
 use crate::lines::Lines;
-use gmon_cells::{Cell, HistView, RecView};
-use gmon_files::{RecordViews, form_of};
-use gp_base::{Form, RawArc, RawBlock, RawHist, Rec, Records, half, quotient};
+use gmon_cells::{HistView, RecView};
+use gmon_files::RecordViews;
+use gp_base::{Form, RawArc, RawBlock, RawHist, Rec, Records, quotient};
 use host_port::{Failed, Host};
 
 /// How many bytes a line takes at most, other than the first one of a histogram.
@@ -38,16 +34,14 @@ pub fn show_records<H: Host>(records: &Records, host: &mut H) -> Result<(), Fail
     lines.flush(host)
 }
 
-/// Prints the lines of the records of a profile file in which nothing is refused, as `show_records` does.
-/// They are read from its bytes one after the other. Takes no memory.
-pub fn show_file<H: Host>(bytes: &[u8], host: &mut H) -> Result<(), Failed>
-    requires small { length bytes.now < 2 ^ 32 }
-    requires accepted { file_refusal bytes.now ≡ None }
-    ensures { Puts Output (show_text (file_records bytes.now)) (H.outside host.old)
+/// Prints the lines of the records of a profile file, as `show_records` does, one after the other as the file's
+/// reader keeps them. Takes no memory.
+pub fn show_file<H: Host>(views: RecordViews<'_>, host: &mut H) -> Result<(), Failed>
+    ensures { Puts Output (show_text (records_left views.entry)) (H.outside host.old)
         (H.outside host.new) result }
 {
     let mut lines = Lines::new();
-    put_file(bytes, &mut lines, host)?;
+    put_file(views, &mut lines, host)?;
     lines.flush(host)
 }
 
@@ -59,15 +53,13 @@ fn put_records<H: Host>(records: &Records, lines: &mut Lines, host: &mut H) -> R
     put_recs(records.form, records.recs.as_slice(), lines, host)
 }
 
-fn put_file<H: Host>(bytes: &[u8], lines: &mut Lines, host: &mut H) -> Result<(), Failed>
-    requires small { length bytes.now < 2 ^ 32 }
-    requires accepted { file_refusal bytes.now ≡ None }
-    ensures { Adds Output (show_text (file_records bytes.now)) (pending lines.old)
+fn put_file<H: Host>(views: RecordViews<'_>, lines: &mut Lines, host: &mut H) -> Result<(), Failed>
+    ensures { Adds Output (show_text (records_left views.entry)) (pending lines.old)
         (pending lines.new) (H.outside host.old) (H.outside host.new) result }
 {
-    let form = form_of(bytes);
+    let form = views.form();
     put_form(form, lines, host)?;
-    put_views(form, RecordViews::new(bytes), lines, host)
+    put_views(form, views, lines, host)
 }
 
 fn put_form<H: Host>(form: Form, lines: &mut Lines, host: &mut H) -> Result<(), Failed>
@@ -141,7 +133,7 @@ fn put_view<H: Host>(
     match view {
         RecView::Hist(hist) => put_hist_view(form, hist, lines, host),
         RecView::Arc(arc) => put_arc_line(arc, lines, host),
-        RecView::Blocks(pairs) => put_pairs(pairs, lines, host),
+        RecView::Blocks(blocks) => put_block_list(blocks, lines, host),
     }
 }
 
@@ -154,15 +146,13 @@ fn put_hist<H: Host>(
     ensures { Adds Output (hist_text form hist.now) (pending lines.old) (pending lines.new)
         (H.outside host.old) (H.outside host.new) result }
 {
-    let counters = hist.counters.as_slice();
-    let head = HistHead {
+    let view = HistView {
         low: hist.low,
         high: hist.high,
         unit: hist.unit,
-        counters: counters.len(),
+        counters: hist.counters.as_slice(),
     };
-    put_head(form, head, lines, host)?;
-    put_counters(head, counters, lines, host)
+    put_hist_view(form, view, lines, host)
 }
 
 fn put_hist_view<H: Host>(
@@ -178,10 +168,10 @@ fn put_hist_view<H: Host>(
         low: hist.low,
         high: hist.high,
         unit: hist.unit,
-        counters: hist.counters.len() / 2,
+        counters: hist.counters.len(),
     };
     put_head(form, head, lines, host)?;
-    put_counter_bytes(head, hist.counters, lines, host)
+    put_counters(head, hist.counters, lines, host)
 }
 
 /// Puts the first line of a histogram.
@@ -211,24 +201,6 @@ fn put_counters<H: Host>(
 {
     for (i, counter) in counters.iter().enumerate() {
         put_counter(head, i, *counter, lines, host)?;
-    }
-    Ok(())
-}
-
-/// The same by the counters' bytes.
-fn put_counter_bytes<H: Host>(
-    head: HistHead,
-    bytes: &[u8],
-    lines: &mut Lines,
-    host: &mut H,
-) -> Result<(), Failed>
-    requires { head.counters ≡ length bytes.now / 2 }
-    ensures { Adds Output
-        (flat_map (counter_text head) (enumerate_from 0 (cells_of 2 value_of bytes.now)))
-        (pending lines.old) (pending lines.new) (H.outside host.old) (H.outside host.new) result }
-{
-    for i in 0..head.counters {
-        put_counter(head, i, half(bytes, i * 2), lines, host)?;
     }
     Ok(())
 }
@@ -282,15 +254,6 @@ fn put_block_list<H: Host>(
     put_block_lines(blocks, lines, host)
 }
 
-/// The same by the bytes of the pairs.
-fn put_pairs<H: Host>(pairs: &[u8], lines: &mut Lines, host: &mut H) -> Result<(), Failed>
-    ensures { Adds Output (blocks_text (cells_of 8 block_of pairs.now)) (pending lines.old)
-        (pending lines.new) (H.outside host.old) (H.outside host.new) result }
-{
-    put_number_of_blocks(pairs.len() / 8, lines, host)?;
-    put_pair_lines(pairs, lines, host)
-}
-
 /// Puts the line that counts of so many basic blocks begin with.
 fn put_number_of_blocks<H: Host>(
     blocks: usize,
@@ -315,17 +278,6 @@ fn put_block_lines<H: Host>(
 {
     for block in blocks {
         put_block_line(*block, lines, host)?;
-    }
-    Ok(())
-}
-
-fn put_pair_lines<H: Host>(pairs: &[u8], lines: &mut Lines, host: &mut H) -> Result<(), Failed>
-    ensures { Adds Output (flat_map block_line (cells_of 8 block_of pairs.now))
-        (pending lines.old) (pending lines.new) (H.outside host.old) (H.outside host.new) result }
-{
-    for i in 0..pairs.len() / 8 {
-        let pair = pairs.split_at(i * 8).1.split_at(8).0;
-        put_block_line(RawBlock::read(pair), lines, host)?;
     }
     Ok(())
 }

@@ -1,6 +1,6 @@
 use super::*;
 use elf32_syms::{Image, SegmentList, Symbol, SymbolList};
-use gmon_files::fault;
+use gmon_files::FileReader;
 use gp_base::{
     BlockList, Counts, Form, Name, RawArc, RawBlock, RawHist, Rec, RecList, Records, Span, Unit,
 };
@@ -132,9 +132,10 @@ fn whole_files_are_shown(rt: HostRuntime) -> Result<(), Fail> {
     ] {
         assert!(rt; bytes.len() < 200);
         let mut host = MemHost::new(rt.alloc());
-        match fault(bytes) {
-            None => show_file(bytes, &mut host).map_err(|_| "shown")?,
-            Some(_) => return Err("refused".into()),
+        let reader = FileReader::new().feed(rt.alloc(), bytes)?;
+        match reader.records() {
+            Ok(views) => show_file(views, &mut host).map_err(|_| "shown")?,
+            Err(_) => return Err("refused".into()),
         }
         assert_eq!(rt; host.printed(), want);
     }

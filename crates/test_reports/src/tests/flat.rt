@@ -1,7 +1,7 @@
 ghost use Rattle.std.specs.Prelude.{IfOk};
 ghost use Rattle.elf32_syms.specs.Owners.{IsAscending};
 
-use super::printing::{
+use super::printed::{
     Report, THREE, THREE_CALLS, called_by, expect_each_failed, expect_long, expect_one_call,
     expect_text, long_name, print_functions, with_lines,
 };

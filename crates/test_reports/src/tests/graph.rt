@@ -3,7 +3,7 @@ ghost use Rattle.elf32_syms.specs.Owners.{IsAscending};
 
 mod rows;
 
-use super::printing::{
+use super::printed::{
     Report, THREE, THREE_CALLS, called_by, expect_each_failed, expect_long, expect_one_call,
     expect_text, long_name, print_functions, with_lines,
 };

@@ -1,5 +1,5 @@
-use Rattle.command_words.proofs.LineLengths.{no_reading}
+use Rattle.command_words.proofs.WordLemmas.{no_long_line}
 use Rattle.command_words.proofs.laws.lines_are_short.Goals as goal
 
 pub returns : goal.returns
-returns c = no_reading
+returns c = no_long_line

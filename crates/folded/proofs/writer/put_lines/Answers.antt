@@ -1,30 +1,47 @@
-use Rattle.std.proofs.Common.{◌<◌, ◌≤◌, [], arith, get_or, length, sym}
+use Rattle.std.proofs.Common.{get_or, sym}
 use Rattle.std.proofs.lemmas.List.{get_or_default}
 use Rattle.std.proofs.lemmas.Result.{err_from_is_err_and}
 use Rattle.host_port.specs.declared.side.Side.TheVariants.{Output}
-use Rattle.host_port.proofs.BufferLemmas.{adds_all, adds_more, adds_stop}
-use Rattle.folded.specs.Text.{line_text}
+use Rattle.host_port.proofs.BufferLemmas.{adds_all, adds_more, adds_nothing, adds_stop}
+use Rattle.folded.proofs.PathLemmas.{path_first}
+use Rattle.folded.proofs.PrefixLemmas.{lines_whole, node_line}
 use Rattle.folded.proofs.writer.put_lines.Goals as goal
+
+pub loop-node-init : goal.loop-node-init
+loop-node-init g c = record {
+  path = path_first c.nodes.result.0.now.nodes.items c.new-prefix.result.path c.new-prefix.ensures.path;
+  prefix = c.new-prefix.ensures.prefix c.args.symbols.now;
+  lines = adds_nothing Output _ _ tt;
+}
 
 pub returns-in_err-put_line : goal.returns-in_err-put_line
 returns-in_err-put_line g c =
     let p = err_from_is_err_and c.from_residual.result c.from_residual.ensures.1 in
-    let lines = c.args.folded.now.lines in
-    let i = c.loop-i.i in
-    let inside : i < length lines = omega (arith, c.loop-i-test.true, c.line_count-i-end.ensures) in
-    let line = rw (c.as_slice.ensures, c.line-path.ensures) at c.in_err-put_line.ensures in
-    rw p.1 (adds_stop Output (line_text c.args.symbols.now) lines i (get_or lines i ([], 0)) _ _ _ _ _ _ tt _ inside (sym (get_or_default lines i (get_or lines i ([], 0)) ([], 0) inside)) c.loop-i.invariant line)
+    let symbols = c.args.symbols.now in
+    let t = c.nodes.result.0.now in
+    let order = c.nodes.result.1.now in
+    let k = c.loop-node.node-index in
+    let n = get_or order k 0 in
+    let line = rw (c.go_to.ensures.stack, c.samples.ensures) at c.in_err-put_line.ensures in
+    rw (p.1, ← lines_whole symbols t order c.args.folded.now.lines c.nodes.ensures.lines) (adds_stop Output (node_line symbols t) order k n _ _ _ _ _ _ tt _ c.loop-node-test.true (sym (get_or_default order k n 0 c.loop-node-test.true)) c.loop-node.invariant.lines line)
 
-pub loop-i-preserved : goal.loop-i-preserved
-loop-i-preserved g c =
-    let lines = c.args.folded.now.lines in
-    let i = c.loop-i.i in
-    let inside : i < length lines = omega (arith, c.loop-i-test.true, c.line_count-i-end.ensures) in
-    let line = rw (c.as_slice.ensures, c.line-path.ensures) at c.in_ok-put_line.ensures in
-    adds_more Output (line_text c.args.symbols.now) lines i (get_or lines i ([], 0)) _ _ _ _ _ _ tt _ inside (sym (get_or_default lines i (get_or lines i ([], 0)) ([], 0) inside)) c.loop-i.invariant line
+pub loop-node-preserved : goal.loop-node-preserved
+loop-node-preserved g c =
+    let symbols = c.args.symbols.now in
+    let t = c.nodes.result.0.now in
+    let order = c.nodes.result.1.now in
+    let k = c.loop-node.node-index in
+    let n = get_or order k 0 in
+    let line = rw (c.go_to.ensures.stack, c.samples.ensures) at c.in_ok-put_line.ensures in
+    record {
+      path = c.go_to.ensures.path;
+      prefix = c.go_to.ensures.prefix;
+      lines = adds_more Output (node_line symbols t) order k n _ _ _ _ _ _ tt _ c.loop-node-test.true (sym (get_or_default order k n 0 c.loop-node-test.true)) c.loop-node.invariant.lines line;
+    }
 
 pub returns : goal.returns
 returns g c =
-    let lines = c.args.folded.now.lines in
-    let all : length lines ≤ c.loop-i.i = omega (arith, c.loop-i-test.false, c.line_count-i-end.ensures) in
-    adds_all Output (line_text c.args.symbols.now) lines c.loop-i.i _ _ _ _ _ all c.loop-i.invariant
+    let symbols = c.args.symbols.now in
+    let t = c.nodes.result.0.now in
+    let order = c.nodes.result.1.now in
+    rw (← lines_whole symbols t order c.args.folded.now.lines c.nodes.ensures.lines) (adds_all Output (node_line symbols t) order c.loop-node.node-index _ _ _ _ _ c.loop-node-test.false c.loop-node.invariant.lines)

@@ -1,8 +1,15 @@
-use Rattle.std.proofs.Common.{◌<◌, length, arith}
-use Rattle.gmon_data.proofs.ChunkLemmas.{one_more_bumped}
+use Rattle.std.proofs.Common.{◌≡◌, ◌+◌, ◌^◌, ◌<◌, ◌∙◌, ℕ, List, ap, length, slice_index, subst, sym}
+use Rattle.std.proofs.lemmas.List.{with_items_is}
+use Rattle.gmon_data.specs.ChunkSteps.{starts_with_one_more}
+use Rattle.gmon_data.proofs.ChunkLemmas.{length-bumped}
 use Rattle.gmon_data.proofs.chunks.bump.Goals as goal
 
-pub loop-k-preserved : goal.loop-k-preserved
-loop-k-preserved c =
-    let lt : c.loop-k.k < length c.args.starts.now.items = omega (arith, c.loop-k-test.true, c.len-k-end.ensures, c.args.starts.now.ok.0) in
-    one_more_bumped c.args.starts.now.items c.loop-k.starts.items c.args.c c.loop-k.k c.index_mut.result.now c.loop-k.invariant c.loop-k.auto.k lt c.index_mut.ensures.value
+pub count_up-requires : goal.count_up-requires
+count_up-requires c = subst (λ (s : List ℕ). (k : ℕ) → k < length s → slice_index s k + 1 < 2 ^ 64) (sym c.as_mut_slice.ensures.value) c.requires
+
+pub returns : goal.returns
+returns c =
+    let starts = c.args.starts.now in
+    let new = c.count_up.new.starts in
+    let same : length new ≡ starts.len = ap length c.count_up.ensures ∙ length-bumped c.args.c c.as_mut_slice.result.now ∙ c.as_mut_slice.ensures.len in
+    with_items_is starts new same ∙ c.count_up.ensures ∙ ap (starts_with_one_more c.args.c) c.as_mut_slice.ensures.value

@@ -49,7 +49,7 @@ returns-clause-chunked g c =
     let at = in_chunk cs c.as_slice.result.now c.args.i c.chunk_of-c.result (c.as_slice.ensures.value ∙ c.requires.chunked.placed) c.requires.inside c.chunk_of-c.ensures in
     let start = start_read cs c.args.starts.now.items c.chunk_of-c.result c.index.result.now c.requires.chunked.placed at.inside c.index.ensures in
     let of : IsChunkOf c.args.starts.now.items c.args.i c.chunk_of-c.result = subst (λ (s : List ℕ). IsChunkOf s c.args.i c.chunk_of-c.result) c.as_slice.ensures.value c.chunk_of-c.ensures in
-    let room = subst (λ (v : Vec g.row.T.Denot). length v.items < 512) (sym c.index_mut.ensures.value) (c.requires.room c.chunk_of-c.result c.index_mut.result.now of) in
+    let room = subst (λ (v : Vec g.row.T.Denot). length v.items < 1024) (sym c.index_mut.ensures.value) (c.requires.room c.chunk_of-c.result c.index_mut.result.now of) in
     rw c.bump.ensures (chunk_longer cs c.args.starts.now.items _ c.args.i c.chunk_of-c.result c.index.result.now c.index_mut.result.now c.insert.new.self c.args.item c.requires.chunked at start c.index_mut.ensures.value room c.in_ok-insert.ensures.items).0
 
 pub returns-clause-added : goal.returns-clause-added
@@ -58,5 +58,5 @@ returns-clause-added g c =
     let at = in_chunk cs c.as_slice.result.now c.args.i c.chunk_of-c.result (c.as_slice.ensures.value ∙ c.requires.chunked.placed) c.requires.inside c.chunk_of-c.ensures in
     let start = start_read cs c.args.starts.now.items c.chunk_of-c.result c.index.result.now c.requires.chunked.placed at.inside c.index.ensures in
     let of : IsChunkOf c.args.starts.now.items c.args.i c.chunk_of-c.result = subst (λ (s : List ℕ). IsChunkOf s c.args.i c.chunk_of-c.result) c.as_slice.ensures.value c.chunk_of-c.ensures in
-    let room = subst (λ (v : Vec g.row.T.Denot). length v.items < 512) (sym c.index_mut.ensures.value) (c.requires.room c.chunk_of-c.result c.index_mut.result.now of) in
+    let room = subst (λ (v : Vec g.row.T.Denot). length v.items < 1024) (sym c.index_mut.ensures.value) (c.requires.room c.chunk_of-c.result c.index_mut.result.now of) in
     (chunk_longer cs c.args.starts.now.items _ c.args.i c.chunk_of-c.result c.index.result.now c.index_mut.result.now c.insert.new.self c.args.item c.requires.chunked at start c.index_mut.ensures.value room c.in_ok-insert.ensures.items).1

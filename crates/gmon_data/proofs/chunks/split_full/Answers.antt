@@ -61,7 +61,7 @@ returns-clause-room g c = λ i at.
     let long = ap (λ (v : Vec g.row.T.Denot). length v.items) same in
     let head = ap length c.in_ok-tail.ensures.items ∙ length-take-le (c.len-len.result / 2) c.index_mut.result.now.items (omega (arith, long, c.len-len.ensures, w.ok.0)) in
     let tail = ap length c.in_ok-tail.ensures.tail ∙ length-drop (c.len-len.result / 2) c.index_mut.result.now.items in
-    let first : length c.split_off.new.self.items < 512 = omega (arith, head, c.len-len.ensures, w.ok.0, few) in
-    let second : length c.in_ok-tail.tail.items < 512 = omega (arith, tail, long, c.len-len.ensures, w.ok.0, few, c.if-len-lt-CHUNK.false) in
+    let first : length c.split_off.new.self.items < 1024 = omega (arith, head, c.len-len.ensures, w.ok.0, few) in
+    let second : length c.in_ok-tail.tail.items < 1024 = omega (arith, tail, long, c.len-len.ensures, w.ok.0, few, c.if-len-lt-CHUNK.false) in
     let starts = ap length c.requires.chunked.placed ∙ length-starts 0 cs in
     rw (c.in_ok-insert.ensures.items, c.in_ok-insert-2.ensures.items, room, room') (room_made cs c.args.starts.now.items i c.args.c (c.index-2.result.now + c.len-len.result / 2) c.split_off.new.self c.in_ok-tail.tail at starts first second)

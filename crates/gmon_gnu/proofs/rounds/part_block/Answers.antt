@@ -1,4 +1,3 @@
-use Rattle.std.proofs.Common.{arith}
 use Rattle.gmon_gnu.proofs.RoundLemmas.{get-part}
 use Rattle.gmon_gnu.proofs.rounds.part_block.Goals as goal
 

@@ -1,22 +1,17 @@
 use Rattle.std.proofs.Common.{refl, arith}
 use Rattle.graph_report.specs.GraphText.{cycle_columns}
-use Rattle.graph_report.specs.Inputs.{sources_in}
 use Rattle.graph_report.proofs.TextLemmas.{timed_whole}
-use Rattle.graph_report.proofs.TimeLemmas.{component_within}
+use Rattle.graph_report.proofs.TimeLemmas.{time_small}
 use Rattle.graph_report.proofs.columns.put_cycle.Goals as goal
 
 pub put_times-requires-clause-own : goal.put_times-requires-clause-own
 put_times-requires-clause-own c =
-    let sources = c.requires.inputs.sources in
-    let small = c.requires.inputs.small in
-    let all = component_within (sources_in c.args.inputs.now) sources c.args.c c.requires.component in
+    let all = time_small c.args.inputs.now c.args.c c.requires.component in
     omega (arith, c.self_of-own.ensures)
 
 pub put_times-requires-clause-child : goal.put_times-requires-clause-child
 put_times-requires-clause-child c =
-    let sources = c.requires.inputs.sources in
-    let small = c.requires.inputs.small in
-    let all = component_within (sources_in c.args.inputs.now) sources c.args.c c.requires.component in
+    let all = time_small c.args.inputs.now c.args.c c.requires.component in
     omega (arith, c.child_of-child.ensures)
 
 pub returns-clause-text : goal.returns-clause-text

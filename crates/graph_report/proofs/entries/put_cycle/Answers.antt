@@ -5,20 +5,20 @@ use Rattle.std.proofs.lemmas.Result.{err_from_is_err_and}
 use Rattle.call_cycles.specs.Graph.{arc_count, component_of, enters}
 use Rattle.graph_report.specs.GraphText.{arcs_into, members_of}
 use Rattle.graph_report.specs.Inputs.{sources_in}
-use Rattle.graph_report.specs.Numbers.{number_of}
+use Rattle.graph_report.specs.Reports.{number_of}
 use Rattle.graph_report.proofs.PrintLemmas.{first_of_four_fails, second_of_four_fails, third_of_four_fails, four_put}
 use Rattle.graph_report.proofs.TextLemmas.{all_below, cycle_whole}
 use Rattle.graph_report.proofs.entries.put_cycle.Goals as goal
 
-pub put_callers-requires-clause-arcs : goal.put_callers-requires-clause-arcs
-put_callers-requires-clause-arcs g c =
+pub put_callers-requires : goal.put_callers-requires
+put_callers-requires g c =
     let graph = c.args.report.now.inputs.sources.graph.now in
-    subst (λ (is : List ℕ). All (λ (i : ℕ). i < arc_count graph) is) (sym c.arcs_into.ensures) (all_below (enters graph c.component-c.result) (arc_count graph))
+    record { arcs = subst (λ (is : List ℕ). All (λ (i : ℕ). i < arc_count graph) is) (sym c.arcs_into.ensures) (all_below (enters graph c.component-c.result) (arc_count graph)) }
 
-pub put_members-requires-clause-members : goal.put_members-requires-clause-members
-put_members-requires-clause-members g c =
+pub put_members-requires : goal.put_members-requires
+put_members-requires g c =
     let graph = c.args.report.now.inputs.sources.graph.now in
-    subst (λ (fs : List ℕ). All (λ (f : ℕ). f < graph.functions) fs) (sym c.members.ensures) (all_below (λ f. component_of graph f == c.component-c.result) graph.functions)
+    record { members = subst (λ (fs : List ℕ). All (λ (f : ℕ). f < graph.functions) fs) (sym c.members.ensures) (all_below (λ f. component_of graph f == c.component-c.result) graph.functions) }
 
 pub returns-in_err-put_callers : goal.returns-in_err-put_callers
 returns-in_err-put_callers g c =

@@ -6,7 +6,7 @@ use Rattle.call_cycles.specs.Graph.{component_of}
 use Rattle.graph_report.specs.Cycles.{cycle_name}
 use Rattle.graph_report.specs.GraphText.{bracket_text, cycle_columns}
 use Rattle.graph_report.specs.Inputs.{sources_in}
-use Rattle.graph_report.specs.Numbers.{number_of}
+use Rattle.graph_report.specs.Reports.{number_of}
 use Rattle.graph_report.specs.declared.subjects.Subject.TheVariants.{Cycle}
 use Rattle.graph_report.proofs.PrintLemmas.{first_fails, both_put}
 use Rattle.graph_report.proofs.TextLemmas.{primary_whole}

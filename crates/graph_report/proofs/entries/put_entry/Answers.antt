@@ -1,7 +1,7 @@
 use Rattle.std.proofs.Common.{sym, ap}
 use Rattle.graph_report.specs.GraphText.{subject_text}
 use Rattle.graph_report.specs.Inputs.{sources_in}
-use Rattle.graph_report.specs.Numbers.{number_of}
+use Rattle.graph_report.specs.Reports.{number_of}
 use Rattle.graph_report.proofs.PrintLemmas.{put_as}
 use Rattle.graph_report.proofs.entries.put_entry.Goals as goal
 

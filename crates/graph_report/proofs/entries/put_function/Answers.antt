@@ -4,20 +4,20 @@ use Rattle.std.specs.List.{All}
 use Rattle.std.proofs.lemmas.Result.{err_from_is_err_and}
 use Rattle.call_cycles.specs.Graph.{arc_at, arc_count}
 use Rattle.graph_report.specs.Inputs.{sources_in}
-use Rattle.graph_report.specs.Numbers.{number_of}
+use Rattle.graph_report.specs.Reports.{number_of}
 use Rattle.graph_report.proofs.PrintLemmas.{first_of_four_fails, second_of_four_fails, third_of_four_fails, four_put}
 use Rattle.graph_report.proofs.TextLemmas.{all_below, function_whole}
 use Rattle.graph_report.proofs.entries.put_function.Goals as goal
 
-pub put_callers-requires-clause-arcs : goal.put_callers-requires-clause-arcs
-put_callers-requires-clause-arcs g c =
+pub put_callers-requires : goal.put_callers-requires
+put_callers-requires g c =
     let graph = c.args.report.now.inputs.sources.graph.now in
-    subst (λ (is : List ℕ). All (λ (i : ℕ). i < arc_count graph) is) (sym c.arcs_to.ensures) (all_below (λ i. (arc_at graph i).callee == c.args.f) (arc_count graph))
+    record { arcs = subst (λ (is : List ℕ). All (λ (i : ℕ). i < arc_count graph) is) (sym c.arcs_to.ensures) (all_below (λ i. (arc_at graph i).callee == c.args.f) (arc_count graph)) }
 
-pub put_callees-requires-clause-arcs : goal.put_callees-requires-clause-arcs
-put_callees-requires-clause-arcs g c =
+pub put_callees-requires : goal.put_callees-requires
+put_callees-requires g c =
     let graph = c.args.report.now.inputs.sources.graph.now in
-    subst (λ (is : List ℕ). All (λ (i : ℕ). i < arc_count graph) is) (sym c.arcs_from.ensures) (all_below (λ i. (arc_at graph i).caller == c.args.f) (arc_count graph))
+    record { arcs = subst (λ (is : List ℕ). All (λ (i : ℕ). i < arc_count graph) is) (sym c.arcs_from.ensures) (all_below (λ i. (arc_at graph i).caller == c.args.f) (arc_count graph)) }
 
 pub returns-in_err-put_callers : goal.returns-in_err-put_callers
 returns-in_err-put_callers g c =

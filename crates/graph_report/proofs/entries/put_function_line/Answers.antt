@@ -2,11 +2,17 @@ use Rattle.std.proofs.lemmas.Result.{err_from_is_err_and}
 use Rattle.flat_report.specs.Sources.{inclusive_total}
 use Rattle.graph_report.specs.GraphText.{function_columns, function_name}
 use Rattle.graph_report.specs.Inputs.{sources_in}
-use Rattle.graph_report.specs.Numbers.{number_of}
+use Rattle.graph_report.specs.Labels.{label_of}
+use Rattle.graph_report.specs.Reports.{number_of}
 use Rattle.graph_report.specs.declared.subjects.Subject.TheVariants.{Function}
 use Rattle.graph_report.proofs.PrintLemmas.{first_fails, both_put}
 use Rattle.graph_report.proofs.TextLemmas.{primary_whole}
 use Rattle.graph_report.proofs.entries.put_function_line.Goals as goal
+
+pub of-requires : goal.of-requires
+of-requires g c =
+    let r = c.args.report.now in
+    record { count = (sources_in r.inputs).graph.functions; of = label_of (sources_in r.inputs) (number_of r); labels = r.labelled; below = c.requires.function }
 
 pub returns-in_err-put : goal.returns-in_err-put
 returns-in_err-put g c =
@@ -23,5 +29,5 @@ returns g c =
     let s = sources_in r.inputs in
     let f = c.args.f in
     let front = rw (c.bytes.ensures.bytes, c.function_front.ensures) at c.in_ok-put.ensures.adds in
-    let label = rw c.label.ensures at c.put-2.ensures.adds in
+    let label = rw (c.of.ensures (sources_in r.inputs).graph.functions (label_of (sources_in r.inputs) (number_of r)) r.labelled c.requires.function) at c.put-2.ensures.adds in
     both_put _ _ _ (primary_whole s (number_of r (Function f)) (inclusive_total s f) (function_columns s f) (function_name s (number_of r) f)) _ _ _ _ _ _ _ _ front label

@@ -27,7 +27,7 @@ loop-f-preserved c =
       starts = c.in_ok-push.ensures.items ∙ start_added of f c.len-start.result text.items c.loop-f.starts.items so c.loop-f.invariant.starts len;
       short =
           let part = c.split_at.ensures.back ∙ ap (drop c.len-start.result) (c.deref.ensures.value ∙ all) ∙ last_part text.items c.name.result.now c.bytes.result.now (of f) c.len-start.result len whole in
-          rw c.in_ok-push-2.ensures.items (short_added f of c.loop-f.short.items c.short_label.result c.loop-f.invariant.short (subst (λ (t : List ℕ). IsShort t c.short_label.result) part c.short_label.ensures));
+          rw c.in_ok-push-2.ensures.items (short_added f of c.loop-f.short.items c.of.result c.loop-f.invariant.short (subst (λ (t : List ℕ). IsShort t c.of.result) part c.of.ensures));
     }
 
 pub returns : goal.returns

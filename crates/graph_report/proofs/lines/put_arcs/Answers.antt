@@ -4,7 +4,7 @@ use Rattle.host_port.specs.declared.side.Side.TheVariants.{Output}
 use Rattle.host_port.proofs.BufferLemmas.{adds_all}
 use Rattle.graph_report.specs.ArcLines.{line_by}
 use Rattle.graph_report.specs.Inputs.{sources_in}
-use Rattle.graph_report.specs.Numbers.{number_of}
+use Rattle.graph_report.specs.Reports.{number_of}
 use Rattle.graph_report.proofs.PrintLemmas.{part_fails, part_put}
 use Rattle.graph_report.proofs.lines.put_arcs.Goals as goal
 

@@ -5,7 +5,7 @@ use Rattle.host_port.specs.declared.side.Side.TheVariants.{Output}
 use Rattle.host_port.specs.declared.host.Failed.{Failed}
 use Rattle.graph_report.specs.ArcLines.{line_by}
 use Rattle.graph_report.specs.Inputs.{sources_in}
-use Rattle.graph_report.specs.Numbers.{number_of}
+use Rattle.graph_report.specs.Reports.{number_of}
 use Rattle.graph_report.proofs.lines.put_batch.Given as goal
 
 -- the lines so far are put

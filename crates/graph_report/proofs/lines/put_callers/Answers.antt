@@ -1,6 +1,6 @@
 use Rattle.std.proofs.Common.{sym, ◌∙◌}
 use Rattle.graph_report.specs.Inputs.{sources_in}
-use Rattle.graph_report.specs.Numbers.{number_of}
+use Rattle.graph_report.specs.Reports.{number_of}
 use Rattle.graph_report.proofs.PrintLemmas.{put_as}
 use Rattle.graph_report.proofs.TextLemmas.{no_callers, some_callers}
 use Rattle.graph_report.proofs.lines.put_callers.Goals as goal

@@ -4,7 +4,7 @@ use Rattle.std.proofs.lemmas.Result.{err_from_is_err_and}
 use Rattle.call_cycles.specs.Graph.{component_of}
 use Rattle.graph_report.specs.Cycles.{cycle_name}
 use Rattle.graph_report.specs.GraphText.{bracket_text}
-use Rattle.graph_report.specs.Numbers.{number_of}
+use Rattle.graph_report.specs.Reports.{number_of}
 use Rattle.graph_report.specs.declared.subjects.Subject.TheVariants.{Cycle}
 use Rattle.graph_report.proofs.PrintLemmas.{first_fails, both_put}
 use Rattle.graph_report.proofs.TextLemmas.{end_whole}

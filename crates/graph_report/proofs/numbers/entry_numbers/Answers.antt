@@ -17,7 +17,7 @@ put_number-requires-clause-functions c =
     let row = get_or rows k no_row in
     let len = c.loop-i.invariant.function_count in
     let below : k < length rows = omega arith in
-    let inside = row_inside (sources_in c.args.inputs.now) rows k row c.requires.inputs.sources c.requires.rows below (get_or_default rows k no_row row below) in
+    let inside = row_inside c.args.inputs.now rows k row c.requires.rows below (get_or_default rows k no_row row below) in
     omega arith
 
 pub put_number-requires-clause-cycles : goal.put_number-requires-clause-cycles
@@ -27,7 +27,7 @@ put_number-requires-clause-cycles c =
     let row = get_or rows k no_row in
     let len = c.loop-i.invariant.cycle_count in
     let below : k < length rows = omega arith in
-    let inside = row_inside (sources_in c.args.inputs.now) rows k row c.requires.inputs.sources c.requires.rows below (get_or_default rows k no_row row below) in
+    let inside = row_inside c.args.inputs.now rows k row c.requires.rows below (get_or_default rows k no_row row below) in
     omega arith
 
 pub loop-i-preserved : goal.loop-i-preserved

@@ -16,12 +16,12 @@ use Rattle.graph_report.proofs.report.put_entries.Goals as goal
 abbrev no_row : Row
 no_row = record { subject = Cycle 0; total = 0; name = record { ref_ptr = (0, 0); now = [] } }
 
-pub put_row-requires-clause-subject : goal.put_row-requires-clause-subject
-put_row-requires-clause-subject g c =
+pub put_row-requires : goal.put_row-requires
+put_row-requires g c =
     let rows = c.args.rows.now in
     let k = c.loop-row.row-index in
     let below : k < length rows = c.loop-row-test.true in
-    row_of_graph (sources_in c.args.report.now.inputs) rows k (get_or rows k no_row) c.requires.report.inputs.sources c.requires.rows below (get_or_default rows k no_row _ below)
+    record { subject = row_of_graph c.args.report.now.inputs rows k (get_or rows k no_row) c.requires.rows below (get_or_default rows k no_row _ below) }
 
 pub returns-in_err-put_row : goal.returns-in_err-put_row
 returns-in_err-put_row g c =

@@ -11,7 +11,7 @@ returns-in-Ok-tell_demo g c = λ words start below done s.
     let ran = c.in-Ok.ensures.runs words start below done (demo_lines c.args.functions c.args.setup.rate c.args.image.now) s in
     let is = c.in-Ok.ensures.ended in
     let t = c.in-Ok-tell_demo.ensures words start below ran.0 c.args.bytes.now c.args.setup is refl ran.1 in
-    run_told words start _ below t.0 c.args.image.now c.args.bytes.now c.args.setup c.in-Ok.run' c.summary.result is c.summary.ensures.sums_up t.1
+    run_told words start _ below t.0 c.args.image.now c.args.bytes.now c.args.setup _ _ is c.in-Ok.ensures.sums_up t.1
 
 pub returns : goal.returns
 returns g c = λ words start below done s.

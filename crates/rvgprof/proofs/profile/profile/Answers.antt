@@ -8,25 +8,24 @@ use Rattle.rvgprof.proofs.Profiling.{profile_written}
 use Rattle.rvgprof.proofs.Reporting.{may_stop_reports, of_the_same}
 use Rattle.rvgprof.proofs.Running.{run_told}
 use Rattle.rvgprof.proofs.Standing.{no_memory}
-use Rattle.rvgprof.proofs.ToldLemmas.{run_fits, tells_then}
 use Rattle.rvgprof.proofs.profile.profile.Goals as goal
 
-pub returns-in-Err-clause-acted : goal.returns-in-Err-clause-acted
-returns-in-Err-clause-acted g c =
+pub returns-in-Err : goal.returns-in-Err
+returns-in-Err g c =
     let files = files_named c.args.words.now c.args.outputs.gmon c.args.outputs.form c.args.outputs.memory in
     let next : List ℕ → Image → Course = λ bytes image. run_program (run_acts files c.args.setup) c.args.setup (report_run c.args.setup.rate (chosen_by c.args.words.now c.args.selection.now) image) bytes image in
     c.in-Err.ensures.reads _ 0 next (omega arith) c.requires.stands
 
-pub returns-in-Err-run_program-clause-acted : goal.returns-in-Err-run_program-clause-acted
-returns-in-Err-run_program-clause-acted g c =
+pub returns-in-Err-ran : goal.returns-in-Err-ran
+returns-in-Err-ran g c =
     let files = files_named c.args.words.now c.args.outputs.gmon c.args.outputs.form c.args.outputs.memory in
     let next : List ℕ → Image → Course = λ bytes image. run_program (run_acts files c.args.setup) c.args.setup (report_run c.args.setup.rate (chosen_by c.args.words.now c.args.selection.now) image) bytes image in
     let stands = c.in-Ok.ensures.reads _ 0 next (omega arith) c.requires.stands in
-    let ran = rw c.as_slice.ensures.value at c.in-Err-run_program.ensures.runs in
+    let ran = rw c.as_slice.ensures.value at c.in-Err-ran.ensures.runs in
     ran _ (c.args.elf + 1) [] (report_run c.args.setup.rate (chosen_by c.args.words.now c.args.selection.now) c.in-Ok.read.1) stands
 
-pub returns-in_default-clause-acted : goal.returns-in_default-clause-acted
-returns-in_default-clause-acted g c =
+pub returns-in_default : goal.returns-in_default
+returns-in_default g c =
     let words = c.args.words.now in
     let files = files_named words c.args.outputs.gmon c.args.outputs.form c.args.outputs.memory in
     let next : List ℕ → Image → Course = λ bytes image. run_program (run_acts files c.args.setup) c.args.setup (report_run c.args.setup.rate (chosen_by c.args.words.now c.args.selection.now) image) bytes image in
@@ -34,13 +33,13 @@ returns-in_default-clause-acted g c =
     let z = sizes_of image.text c.args.setup.hist c.args.setup.hash in
     let w = final_world image c.in-Ok.read.0.items c.args.setup in
     let stands = c.in-Ok.ensures.reads _ 0 next (omega arith) c.requires.stands in
-    let ran = rw c.as_slice.ensures.value at c.in-Ok-run_program.ensures.runs in
+    let ran = rw c.as_slice.ensures.value at c.in-Ok-ran.ensures.runs in
     let s = ran _ (c.args.elf + 1) [] (report_run c.args.setup.rate (chosen_by c.args.words.now c.args.selection.now) image) stands in
     no_memory words _ _ (c.args.elf + 1) s.0 (report_run c.args.setup.rate (chosen_by c.args.words.now c.args.selection.now) image z w) s.1
     (may_stop_reports (chosen_by c.args.words.now c.args.selection.now) image (logged_profile z w.log c.args.setup.rate) (sums_up z w))
 
-pub returns-in-Ok-print_reports-clause-acted : goal.returns-in-Ok-print_reports-clause-acted
-returns-in-Ok-print_reports-clause-acted g c =
+pub returns-in-Ok-print_reports : goal.returns-in-Ok-print_reports
+returns-in-Ok-print_reports g c =
     let words = c.args.words.now in
     let files = files_named words c.args.outputs.gmon c.args.outputs.form c.args.outputs.memory in
     let next : List ℕ → Image → Course = λ bytes image. run_program (run_acts files c.args.setup) c.args.setup (report_run c.args.setup.rate (chosen_by c.args.words.now c.args.selection.now) image) bytes image in
@@ -49,18 +48,18 @@ returns-in-Ok-print_reports-clause-acted g c =
     let z = sizes_of image.text c.args.setup.hist c.args.setup.hash in
     let w = final_world image bytes c.args.setup in
     let stands = c.in-Ok.ensures.reads _ 0 next (omega arith) c.requires.stands in
-    let ran = rw c.as_slice.ensures.value at c.in-Ok-run_program.ensures.runs in
-    let is = rw c.as_slice.ensures.value at c.in-Ok-run_program.ensures.ended in
+    let ran = rw c.as_slice.ensures.value at c.in-Ok-ran.ensures.runs in
+    let is = rw c.as_slice.ensures.value at c.in-Ok-ran.ensures.ended in
     let s = ran _ (c.args.elf + 1) [] (report_run c.args.setup.rate (chosen_by c.args.words.now c.args.selection.now) image) stands in
     let gmon = c.gmon.ensures in
     let total = c.in-Ok-run_profile.total in
     let written : total ≡ logged_profile z w.log c.args.setup.rate = profile_written c.gmon.result.now z w.log c.args.setup.rate total (gmon.log w is.stands) (gmon.sizes ∙ is.sizes) c.in-Ok-run_profile.ensures.records in
     let here = of_the_same words _ _ (c.args.elf + 1) s.0 (chosen_by c.args.words.now c.args.selection.now) image total (logged_profile z w.log c.args.setup.rate) (sums_up z w) written s.1 in
-    let told_so = c.in-Ok-print_reports.ensures.prints words _ (c.args.elf + 1) s.0 (sums_up z w) here in
-    run_told words _ _ (c.args.elf + 1) told_so.0 image bytes c.args.setup c.in-Ok-run_program.run' c.summary.result is c.summary.ensures.sums_up told_so.1
+    let told_so = c.in-Ok-print_reports.ensures words _ (c.args.elf + 1) s.0 (sums_up z w) here in
+    run_told words _ _ (c.args.elf + 1) told_so.0 image bytes c.args.setup _ _ is c.in-Ok-ran.ensures.sums_up told_so.1
 
-pub returns-clause-acted : goal.returns-clause-acted
-returns-clause-acted g c =
+pub returns : goal.returns
+returns g c =
     let words = c.args.words.now in
     let files = files_named words c.args.outputs.gmon c.args.outputs.form c.args.outputs.memory in
     let next : List ℕ → Image → Course = λ bytes image. run_program (run_acts files c.args.setup) c.args.setup (report_run c.args.setup.rate (chosen_by c.args.words.now c.args.selection.now) image) bytes image in
@@ -69,17 +68,11 @@ returns-clause-acted g c =
     let z = sizes_of image.text c.args.setup.hist c.args.setup.hash in
     let w = final_world image bytes c.args.setup in
     let stands = c.in-Ok.ensures.reads _ 0 next (omega arith) c.requires.stands in
-    let ran = rw c.as_slice.ensures.value at c.in-Ok-run_program.ensures.runs in
-    let is = rw c.as_slice.ensures.value at c.in-Ok-run_program.ensures.ended in
+    let ran = rw c.as_slice.ensures.value at c.in-Ok-ran.ensures.runs in
+    let is = rw c.as_slice.ensures.value at c.in-Ok-ran.ensures.ended in
     let s = ran _ (c.args.elf + 1) [] (report_run c.args.setup.rate (chosen_by c.args.words.now c.args.selection.now) image) stands in
     let gmon = c.gmon.ensures in
     let total = c.in-Ok-run_profile.total in
     let written : total ≡ logged_profile z w.log c.args.setup.rate = profile_written c.gmon.result.now z w.log c.args.setup.rate total (gmon.log w is.stands) (gmon.sizes ∙ is.sizes) c.in-Ok-run_profile.ensures.records in
     let here = of_the_same words _ _ (c.args.elf + 1) s.0 (chosen_by c.args.words.now c.args.selection.now) image total (logged_profile z w.log c.args.setup.rate) (sums_up z w) written s.1 in
-    c.in-Err-print_reports.ensures.prints words _ (c.args.elf + 1) s.0 (sums_up z w) here
-
-pub returns-in-Ok-print_reports-clause-fits : goal.returns-in-Ok-print_reports-clause-fits
-returns-in-Ok-print_reports-clause-fits g c =
-    let is = rw c.as_slice.ensures.value at c.in-Ok-run_program.ensures.ended in
-    run_fits c.args.words.now (g.H.Host.outside c.args.host.now) (g.H.Host.outside c.read_program.new.host) (g.H.Host.outside c.print_reports.new.host) c.args.elf c.args.outputs.form c.args.setup c.in-Ok.read.0.items c.in-Ok.read.1 c.in-Ok-run_program.run' c.in-Ok.ensures.image c.in-Ok.ensures.limits c.requires.within is c.summary.ensures.fits c.in-Ok.ensures.told
-    (tells_then (g.H.Host.outside c.read_program.new.host) (g.H.Host.outside c.run_program.new.host) (g.H.Host.outside c.print_reports.new.host) c.in-Ok-run_program.ensures.told c.in-Ok-print_reports.ensures.told)
+    c.in-Err-print_reports.ensures words _ (c.args.elf + 1) s.0 (sums_up z w) here

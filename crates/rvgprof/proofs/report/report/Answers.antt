@@ -22,7 +22,7 @@ returns-in-Ok-print_reports g c =
     let next : Content → Course = λ total. print_reports (chosen_by c.args.words.now c.args.selection.now) c.in-Ok.read.1 total end_course in
     let s = c.in-Ok.ensures.reads _ 0 (report_profiles c.args.gmons.now (chosen_by c.args.words.now c.args.selection.now)) (omega arith) c.requires.stands in
     let t = c.in-Ok-read_profiles.ensures.reads _ (c.args.elf + 1) next (λ contents total. may_stop_reports (chosen_by c.args.words.now c.args.selection.now) c.in-Ok.read.1 total end_course contents) (all_behind c.args.elf c.args.gmons.now c.requires.rising.0) s in
-    let p = c.in-Ok-print_reports.ensures.prints words _ t.0 [] end_course t.1 in
+    let p = c.in-Ok-print_reports.ensures words _ t.0 [] end_course t.1 in
     ends words _ _ t.0 p.0 (Ok (record { run = None })) p.1 tt
 
 pub returns : goal.returns
@@ -31,4 +31,4 @@ returns g c =
     let next : Content → Course = λ total. print_reports (chosen_by c.args.words.now c.args.selection.now) c.in-Ok.read.1 total end_course in
     let s = c.in-Ok.ensures.reads _ 0 (report_profiles c.args.gmons.now (chosen_by c.args.words.now c.args.selection.now)) (omega arith) c.requires.stands in
     let t = c.in-Ok-read_profiles.ensures.reads _ (c.args.elf + 1) next (λ contents total. may_stop_reports (chosen_by c.args.words.now c.args.selection.now) c.in-Ok.read.1 total end_course contents) (all_behind c.args.elf c.args.gmons.now c.requires.rising.0) s in
-    c.in-Err-print_reports.ensures.prints words _ t.0 [] end_course t.1
+    c.in-Err-print_reports.ensures words _ t.0 [] end_course t.1

@@ -1,6 +1,6 @@
 //! Reports: functions, calls, and the lines that are printed.
 
-use crate::tests::printing::{THREE, THREE_CALLS};
+use crate::tests::printed::{THREE, THREE_CALLS};
 use test_profiles::{Calls, Function};
 
 /// What stands below each entry.

@@ -11,4 +11,4 @@ returns-in-Arc g c = rw c.in-Arc.is c.put_arc_line.ensures
 
 pub returns-in-Blocks : goal.returns-in-Blocks
 unfolding rec_text
-returns-in-Blocks g c = rw c.in-Blocks.is c.put_pairs.ensures
+returns-in-Blocks g c = rw c.in-Blocks.is c.put_block_list.ensures

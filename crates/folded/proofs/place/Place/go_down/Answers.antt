@@ -12,7 +12,6 @@ loop-self-preserved c =
     let front = stack_of_node c.loop-self.tree.nodes.items p.node in
     let made = c.in_ok-self.ensures in
     record {
-      tree = made.tree;
       linked = made.linked;
       grown = IsGrown-then c.args.tree.now c.loop-self.tree c.child.new.self i.grown made.grown;
       on = record {

@@ -10,7 +10,7 @@ loop-self-preserved c =
     let p = c.loop-self.self in
     let i = c.loop-self.invariant in
     let test = c.loop-self-test.true in
-    let up = placed_up t.nodes.items t.counts.items t.total t.functions c.requires.tree p.node p.depth i.placed.node i.placed.depth (omega (arith, test)) in
+    let up = placed_up t.nodes.items t.counts.items t.total t.functions c.args.tree.now.is_tree p.node p.depth i.placed.node i.placed.depth (omega (arith, test)) in
     let is = c.caller-self.ensures in
     record {
       placed = record { node = subst (λ (n : ℕ). n ≤ length t.nodes.items) (sym is) up.0; depth = ap (λ (n : ℕ). length (stack_of_node t.nodes.items n)) is ∙ up.1 };

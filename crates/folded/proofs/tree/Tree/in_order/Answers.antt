@@ -20,4 +20,4 @@ returns c =
     let first : IsPermutation c.in_ok-numbers.numbers.items placed = subst (λ (x : List ℕ). IsPermutation x placed) c.as_mut_slice-2.ensures.value c.in_ok-arrange.ensures in
     let written = with_items_is c.in_ok-numbers.numbers placed (length_permutation c.as_mut_slice-2.result.now placed c.in_ok-arrange.ensures ∙ c.as_mut_slice-2.ensures.len) in
     let all = IsPermutation-trans numbers placed sorted (subst (λ (x : List ℕ). IsPermutation x placed) c.in_ok-numbers.ensures first) (subst (λ (x : List ℕ). IsPermutation x sorted) written c.sort_unstable_by.ensures.permutation) in
-    in_order t c.requires sorted all (c.sort_unstable_by.ensures.sorted before (ranks_by stacks_total (λ (n : ℕ). stack_of_node t.nodes.items (min n (length t.nodes.items)))) compares)
+    in_order t sorted all (c.sort_unstable_by.ensures.sorted before (ranks_by stacks_total (λ (n : ℕ). stack_of_node t.nodes.items (min n (length t.nodes.items)))) compares)

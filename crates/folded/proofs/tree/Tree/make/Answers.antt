@@ -2,20 +2,34 @@ use Rattle.std.proofs.Common.{◌≡◌, ◌∙◌, ◌+◌, ◌<◌, ◌++◌, 
 use Rattle.std.proofs.lemmas.List.{get_or_default, get_or_push, length_push}
 use Rattle.folded.specs.declared.links.Links.{Links}
 use Rattle.folded.specs.Links.{AreLinked, no_links, with_link}
-use Rattle.folded.specs.Nodes.{HasStack, stack_of_node}
+use Rattle.folded.specs.Nodes.{AreNodes, HasStack, stack_of_node}
 use Rattle.folded.proofs.NodeLemmas.{Nodes, Stack}
 use Rattle.folded.proofs.AddLemmas.{has_stack, node_made, same_parts, same_samples, samples_kept}
 use Rattle.folded.proofs.LinkLemmas.{linked_made, nowhere}
 use Rattle.folded.proofs.PlaceLemmas.{stack_stays}
 use Rattle.folded.proofs.tree.Tree.make.Goals as goal
 
-pub returns-clause-tree : goal.returns-clause-tree
-returns-clause-tree c =
+pub invariant_of-self-in-Break-branch-4 : goal.invariant_of-self-in-Break-branch-4
+invariant_of-self-in-Break-branch-4 c =
     let t = c.args.self.now in
     let node : ℕ × Option ℕ = (c.args.caller, c.args.function) in
     let absent = nowhere t.nodes.items t.links.items c.args.caller c.args.function c.args.above c.args.side c.requires.linked c.requires.reached c.requires.empty in
-    same_parts c.push.new.self.items (t.nodes.items ++ node ∷ []) c.push-2.new.self.items (t.counts.items ++ 0 ∷ []) t.total t.total t.functions t.functions c.in_ok-push.ensures.items c.in_ok-push-2.ensures.items refl refl
-    (node_made t.nodes.items t.counts.items t.total t.functions c.requires.tree c.args.caller c.args.function c.requires.caller c.requires.few c.requires.depth c.requires.function absent)
+    let counts = c.in_ok-push-2.ensures.items ∙ ap (λ (x : List ℕ). x ++ 0 ∷ []) c.reserve.ensures.items in
+    record {
+      is_tree = same_parts c.push.new.self.items (t.nodes.items ++ node ∷ []) c.push-2.new.self.items (t.counts.items ++ 0 ∷ []) t.total t.total t.functions t.functions c.in_ok-push.ensures.items counts refl refl
+          (node_made t.nodes.items t.counts.items t.total t.functions t.is_tree c.args.caller c.args.function c.requires.caller c.requires.few c.requires.depth c.requires.function absent);
+    }
+
+pub invariant_of-self-2 : goal.invariant_of-self-2
+invariant_of-self-2 c =
+    let t = c.args.self.now in
+    let node : ℕ × Option ℕ = (c.args.caller, c.args.function) in
+    let absent = nowhere t.nodes.items t.links.items c.args.caller c.args.function c.args.above c.args.side c.requires.linked c.requires.reached c.requires.empty in
+    let counts = c.in_ok-push-2.ensures.items ∙ ap (λ (x : List ℕ). x ++ 0 ∷ []) c.reserve.ensures.items in
+    record {
+      is_tree = same_parts c.push.new.self.items (t.nodes.items ++ node ∷ []) c.push-2.new.self.items (t.counts.items ++ 0 ∷ []) t.total t.total t.functions t.functions c.in_ok-push.ensures.items counts refl refl
+          (node_made t.nodes.items t.counts.items t.total t.functions t.is_tree c.args.caller c.args.function c.requires.caller c.requires.few c.requires.depth c.requires.function absent);
+    }
 
 pub returns-clause-linked : goal.returns-clause-linked
 returns-clause-linked c =
@@ -44,8 +58,8 @@ returns-clause-grown c =
       nodes = c.in_ok-push.ensures.items;
       functions = refl;
       total = refl;
-      samples = λ stacks have. same_samples stacks c.push.new.self.items (t.nodes.items ++ node ∷ []) c.push-2.new.self.items (t.counts.items ++ 0 ∷ []) t.total t.total c.in_ok-push.ensures.items c.in_ok-push-2.ensures.items refl
-          (samples_kept t.nodes.items t.counts.items t.total t.functions c.requires.tree c.args.caller c.args.function stacks have);
+      samples = λ stacks have. same_samples stacks c.push.new.self.items (t.nodes.items ++ node ∷ []) c.push-2.new.self.items (t.counts.items ++ 0 ∷ []) t.total t.total c.in_ok-push.ensures.items (c.in_ok-push-2.ensures.items ∙ ap (λ (x : List ℕ). x ++ 0 ∷ []) c.reserve.ensures.items) refl
+          (samples_kept t.nodes.items t.counts.items t.total t.functions c.args.self.now.is_tree c.args.caller c.args.function stacks have);
     }
 
 pub returns-clause-node : goal.returns-clause-node
@@ -56,6 +70,10 @@ returns-clause-node c =
     let here : get_or new (length t.nodes.items) (0, None) ≡ node = ap (λ (x : Nodes). get_or x (length t.nodes.items) (0, None)) c.in_ok-push.ensures.items ∙ get_or_push t.nodes.items node (0, None) (length t.nodes.items) refl in
     let more : length new ≡ length t.nodes.items + 1 = ap (λ (x : Nodes). length x) c.in_ok-push.ensures.items ∙ length_push t.nodes.items node in
     let number : c.len-node.result ≡ length t.nodes.items + 1 = omega (arith, c.len-node.ensures, more) in
-    let at = has_stack new (length t.nodes.items) c.args.caller c.args.function (returns-clause-tree c).callers (omega (arith, more)) here in
+    let absent = nowhere t.nodes.items t.links.items c.args.caller c.args.function c.args.above c.args.side c.requires.linked c.requires.reached c.requires.empty in
+    let made : AreNodes c.push.new.self.items c.push-2.new.self.items t.total t.functions =
+    same_parts c.push.new.self.items (t.nodes.items ++ node ∷ []) c.push-2.new.self.items (t.counts.items ++ 0 ∷ []) t.total t.total t.functions t.functions c.in_ok-push.ensures.items (c.in_ok-push-2.ensures.items ∙ ap (λ (x : List ℕ). x ++ 0 ∷ []) c.reserve.ensures.items) refl refl
+    (node_made t.nodes.items t.counts.items t.total t.functions c.args.self.now.is_tree c.args.caller c.args.function c.requires.caller c.requires.few c.requires.depth c.requires.function absent) in
+    let at = has_stack new (length t.nodes.items) c.args.caller c.args.function made.callers (omega (arith, more)) here in
     let H : ℕ → Type 0 = λ n. HasStack new n (stack_of_node t.nodes.items c.args.caller ++ c.args.function ∷ []) in
     subst H (sym number) (at.0, at.1 ∙ ap (λ (s : Stack). s ++ c.args.function ∷ []) (stack_stays t.nodes.items new (node ∷ []) c.args.caller c.in_ok-push.ensures.items c.requires.caller))

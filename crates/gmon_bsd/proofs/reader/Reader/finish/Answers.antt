@@ -4,7 +4,7 @@ use Rattle.gp_base.specs.declared.records.RawArc.{RawArc}
 use Rattle.gp_base.specs.declared.records.Rec.TheVariants.{Arc}
 use Rattle.gp_base.specs.declared.records.Records.{Records}
 use Rattle.gmon_cells.proofs.RefusalLemmas.{refusal_answered, nothing_refused, given_one}
-use Rattle.gmon_bsd.specs.declared.reading.Header.{Header}
+use Rattle.gmon_bsd.specs.declared.file.Header.{Header}
 use Rattle.gmon_bsd.specs.Grammar.{BsdSpells}
 use Rattle.gmon_bsd.specs.Reading.{bsd_refusal, low_of, high_of, rate_of}
 use Rattle.gmon_bsd.specs.Held.{view_of}

@@ -1,4 +1,4 @@
-use Rattle.std.proofs.Common.{◌≡◌, List, None, Some, drop, map, ap, rules, subst, sym, ◌∙◌}
+use Rattle.std.proofs.Common.{◌≡◌, List, None, Some, drop, map, ap, arith, rules, subst, sym, ◌∙◌}
 use Rattle.std.proofs.lemmas.Result.{err_from_is_err_and}
 use Rattle.gp_base.specs.declared.records.Rec.TheVariants.{Arc}
 use Rattle.gmon_data.specs.Content.{WideRec, IsWithin, conflict_of, content_of, empty_content, wide_records, with_records}
@@ -26,7 +26,8 @@ into_profile-requires c =
     record {
       held = search rules;
       run = search rules;
-      ranges = entries_ranges state.counters.cells.items state.pairs.cells.items state.arcs.items state.entries.items (map Arc (drop state.run state.arcs.items)) (ranges_read bytes kept s ends);
+      ranges = entries_ranges state.fields.items state.counters.cells.items state.pairs.cells.items state.arcs.items state.entries.items (map Arc (drop state.run state.arcs.items)) (ranges_read bytes kept s ends);
+      few = omega (arith, c.self.invariant.small, c.self.invariant.few.entries, state.entries.ok);
       within = subst (λ (recs : List WideRec). IsWithin (with_records recs empty_content)) (all_read bytes kept s ends) (c.requires.2 (accepted_out bytes kept s ends));
     }
 

@@ -5,4 +5,4 @@ use Rattle.gmon_gnu.proofs.state.State.add_entries.Given as goal
 
 abbrev pub invariant-loop-i : goal.invariant-loop-i
 invariant-loop-i l =
-    IsUnderway (entries_recs l.counters l.pairs l.arcs l.entries) (entries_recs l.counters l.pairs l.arcs (drop l.i l.entries)) l.initial.profile l.profile
+    IsUnderway (entries_recs l.fields l.counters l.pairs l.arcs l.entries) (entries_recs l.fields l.counters l.pairs l.arcs (drop l.i l.entries)) l.initial.profile l.profile

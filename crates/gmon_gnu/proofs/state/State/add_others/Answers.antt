@@ -1,4 +1,4 @@
-use Rattle.std.proofs.Common.{List, [], get_or, subst, sym}
+use Rattle.std.proofs.Common.{List, get_or, subst, sym}
 use Rattle.std.specs.List.{flat_map}
 use Rattle.std.proofs.lemmas.Option.{slice_get-get_or}
 use Rattle.gmon_data.specs.Content.{IsAdded, IsWithin as IsWithinLimits, with_records}
@@ -10,7 +10,7 @@ use Rattle.gmon_gnu.specs.Making.{other_recs}
 use Rattle.gmon_gnu.proofs.state.State.add_others.Goals as goal
 
 abbrev none : Entry
-none = record { first = 0; last = 0; body = Hist (record { low = 0; high = 0; unit = record { rate = 0; dim = []; «abbrev» = 0 } }) 0 0 }
+none = record { first = 0; last = 0; body = Hist 0 0 0 }
 
 pub loop-i-init : goal.loop-i-init
 loop-i-init c = at_begin (flat_map (other_recs c.args.self.now.pairs.cells.items c.args.self.now.arcs.items) c.as_slice-entries.result.now) c.args.profile.now

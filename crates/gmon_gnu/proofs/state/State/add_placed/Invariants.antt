@@ -5,4 +5,4 @@ use Rattle.gmon_gnu.proofs.state.State.add_placed.Given as goal
 
 abbrev pub invariant-loop-i : goal.invariant-loop-i
 invariant-loop-i l =
-    IsUnderway (placed_recs l.counters l.pairs l.entries l.order) (placed_recs l.counters l.pairs l.entries (drop l.i l.order)) l.initial.profile l.profile
+    IsUnderway (placed_recs l.fields l.counters l.pairs l.first l.order) (placed_recs l.fields l.counters l.pairs l.first (drop l.i l.order)) l.initial.profile l.profile

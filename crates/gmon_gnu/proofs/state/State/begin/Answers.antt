@@ -15,7 +15,7 @@ returns-in-Hist-clause-goes c = λ whole rest follows.
 pub returns-in-Arc-clause-goes : goal.returns-in-Arc-clause-goes
 returns-in-Arc-clause-goes c = λ whole rest follows.
     let s = c.args.self.now in
-    let on = arc_came whole s.counters.cells.items s.pairs.cells.items s.arcs.items c.push_reserved.new.self.items s.entries.items s.run c.in-Arc.arc s.torn rest
+    let on = arc_came whole s.fields.items s.counters.cells.items s.pairs.cells.items s.arcs.items c.push_reserved.new.self.items s.entries.items s.run c.in-Arc.arc s.torn rest
     c.requires.front.spans c.requires.front.run c.push_reserved.ensures.items c.requires.front.torn (subst (λ (b : Begun). Follows whole (recs_of s) b rest) c.in-Arc.is follows) in
     goes_between whole (record s { arcs = c.push_reserved.new.self }) rest c.requires.part on
 

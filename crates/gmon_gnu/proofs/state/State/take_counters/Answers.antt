@@ -1,8 +1,8 @@
 use Rattle.std.proofs.Common.{◌≡◌, ◌+◌, ◌-◌, ◌*◌, ◌/◌, ◌<◌, ◌≤◌, ◌++◌, ◌∙◌, ap, length, length-append, length-drop, length-take, min, arith}
 use Rattle.gmon_gnu.specs.declared.state.Part.TheVariants as part
 use Rattle.gmon_gnu.proofs.StateLemmas.{goes_at, counters_came}
-use Rattle.gmon_gnu.proofs.TakingLemmas.{room_on}
-use Rattle.gmon_gnu.specs.Held.{HasRoom, pending_entries}
+use Rattle.gmon_gnu.proofs.TakingLemmas.{few_on, room_on}
+use Rattle.gmon_gnu.specs.Held.{AreFew, HasRoom, pending_entries, pending_fields}
 use Rattle.gmon_gnu.proofs.state.State.take_counters.Goals as goal
 
 pub returns : goal.returns
@@ -23,19 +23,28 @@ returns c =
       counters = omega (arith, r.counters, c.feed.ensures.count, c.feed.ensures.capacity, torn, length-append s.counters.torn mine, all);
       pairs = omega (arith, r.pairs, less);
       arcs = omega (arith, r.arcs, less);
+      fields = omega (arith, r.fields, less);
       entries = omega (arith, r.entries, less);
+    } in
+    let f = c.requires.can.few in
+    let few_fed : AreFew c.args.total (length rest) (record s { counters = c.feed.new.self }) = record {
+      counters = omega (arith, f.counters, c.feed.ensures.count, torn, length-append s.counters.torn mine, all);
+      pairs = omega (arith, f.pairs, less);
+      arcs = omega (arith, f.arcs, less);
+      fields = omega (arith, f.fields, less);
+      entries = omega (arith, f.entries, less);
     } in
     let on = c.go_on_hist.ensures.ends in
     record {
       ready = record {
         held = c.go_on_hist.ensures.held;
-        room = room_on (length rest) (record s { counters = c.feed.new.self }) c.go_on_hist.new.self fed (ap pending_entries c.requires.part.at_part) on;
-        within = omega (arith, ap length on.items.torn, c.requires.can.within, less);
+        room = room_on (length rest) _ (record s { counters = c.feed.new.self }) c.go_on_hist.new.self fed (ap pending_entries c.requires.part.at_part) (ap pending_fields c.requires.part.at_part) on;
+        few = few_on c.args.total (length rest) _ (record s { counters = c.feed.new.self }) c.go_on_hist.new.self few_fed (ap pending_entries c.requires.part.at_part) (ap pending_fields c.requires.part.at_part) on;
       };
       goes = λ whole long goes.
           let was = goes_at whole s piece (part.Hist c.args.fields c.args.start c.args.left) c.requires.part.at_part goes in
           c.go_on_hist.ensures.goes whole rest
-          (counters_came whole s.counters.cells.items c.feed.new.self.cells.items s.pairs.cells.items s.arcs.items s.entries.items s.run c.args.fields c.min.result c.args.start c.args.left came s.counters.torn c.feed.new.self.torn piece mine rest
+          (counters_came whole s.fields.items s.counters.cells.items c.feed.new.self.cells.items s.pairs.cells.items s.arcs.items s.entries.items s.run c.args.fields c.min.result c.args.start c.args.left came s.counters.torn c.feed.new.self.torn piece mine rest
           c.requires.can.held.spans c.requires.part.counters.within c.feed.ensures.cells c.feed.ensures.torn c.split_at.ensures.front c.split_at.ensures.back (ap (λ n. (n + length mine) / 2) c.len-2.ensures.len) few was);
       less = less;
     }

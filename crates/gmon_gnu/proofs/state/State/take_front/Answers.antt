@@ -4,8 +4,8 @@ use Rattle.gmon_gnu.specs.declared.state.Part.{Part}
 use Rattle.gmon_gnu.specs.declared.state.Part.TheVariants as part
 use Rattle.gmon_gnu.specs.Held.{recs_of, IsPart, IsPartial, width_of}
 use Rattle.gmon_gnu.proofs.StateLemmas.{goes_at, follows_front, partial_less}
-use Rattle.gmon_gnu.proofs.TakingLemmas.{room_begun}
-use Rattle.gmon_gnu.specs.Begun.{arcs_of, cost_of}
+use Rattle.gmon_gnu.proofs.TakingLemmas.{few_begun, room_begun}
+use Rattle.gmon_gnu.specs.Begun.{arcs_of, cost_of, fields_of}
 use Rattle.gmon_gnu.proofs.state.State.take_front.Goals as goal
 
 pub returns : goal.returns
@@ -28,13 +28,14 @@ returns c =
     let b = c.front_of-begun in
     let len : length c.as_slice-2.result.now ≡ width = omega (arith, ap length held, full) in
     let arcs : 13 * arcs_of b.result + length rest ≤ length s.torn + length piece = omega (arith, b.ensures.arcs, len, ap length taken, full, length-append front rest, length-append s.torn piece) in
+    let fields : 33 * fields_of b.result + length rest ≤ length s.torn + length piece = omega (arith, b.ensures.fields, len, ap length taken, full, length-append front rest, length-append s.torn piece) in
     let entries : 5 * cost_of b.result + length rest ≤ length s.torn + length piece = omega (arith, b.ensures.cost, len, ap length taken, full, length-append front rest, length-append s.torn piece) in
     let shorter : length rest ≤ length piece = omega (arith, less) in
     record {
       ready = record {
         held = c.begin-2.ensures.held;
-        room = room_begun (length piece) (length rest) b.result c.clear.new.self s c.begin-2.new.self c.requires.can.room c.requires.part begins shorter arcs entries;
-        within = omega (arith, ap length begins.torn, c.requires.can.within, shorter);
+        room = room_begun (length piece) (length rest) b.result c.clear.new.self s c.begin-2.new.self c.requires.can.room c.requires.part begins shorter arcs fields entries;
+        few = few_begun c.args.total (length piece) (length rest) b.result c.clear.new.self s c.begin-2.new.self c.requires.can.few c.requires.part begins shorter arcs fields entries;
       };
       goes = λ whole long goes.
           let was = goes_at whole s piece part.Between c.requires.part goes in

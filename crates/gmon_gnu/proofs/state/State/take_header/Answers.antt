@@ -29,8 +29,8 @@ returns c =
     let P : Part → Type 0 = λ q. CanTake c.args.total rest (record s { part = q; torn = torn }) in
     record {
       ready = elim c.if-version-eq-VERSION.branch [
-        | then-version-eq-VERSION b ↦ subst P (sym b.self-is) (can_take_on c.args.total piece rest torn s part.Between c.requires.can shorter c.clear.ensures tt refl)
-        | else-version-eq-VERSION b ↦ subst P (sym b.self-is) (can_take_on c.args.total piece rest torn s (part.Refused (Version c.word-version.result)) c.requires.can shorter c.clear.ensures tt refl)
+        | then-version-eq-VERSION b ↦ subst P (sym b.self-is) (can_take_on c.args.total piece rest torn s part.Between c.requires.can shorter c.clear.ensures tt refl refl)
+        | else-version-eq-VERSION b ↦ subst P (sym b.self-is) (can_take_on c.args.total piece rest torn s (part.Refused (Version c.word-version.result)) c.requires.can shorter c.clear.ensures tt refl refl)
       ];
       goes = λ whole long goes.
           let was = goes_at whole s piece part.Header c.requires.part goes in

@@ -6,10 +6,10 @@ use Rattle.graph_report.proofs.inputs.Inputs.calls_from.Goals as goal
 pub index-requires : goal.index-requires
 index-requires c =
     let calls = c.args.self.now.tables.now.calls_from in
-    omega (arith, list_long _ _ calls.items c.requires.inputs.tables.calls_from, calls.ok.0, c.requires.function)
+    omega (arith, list_long _ _ calls.items c.args.self.now.found.calls_from, calls.ok.0, c.requires.function)
 
 pub returns : goal.returns
 returns c =
     let calls = c.args.self.now.tables.now.calls_from in
-    let inside : c.args.f < length calls.items = omega (arith, list_long _ _ calls.items c.requires.inputs.tables.calls_from, c.requires.function) in
-    c.index.ensures ∙ get_or_default_zero _ _ _ inside ∙ list_at _ _ calls.items c.requires.inputs.tables.calls_from c.args.f c.requires.function
+    let inside : c.args.f < length calls.items = omega (arith, list_long _ _ calls.items c.args.self.now.found.calls_from, c.requires.function) in
+    c.index.ensures ∙ get_or_default_zero _ _ _ inside ∙ list_at _ _ calls.items c.args.self.now.found.calls_from c.args.f c.requires.function

@@ -5,9 +5,9 @@ use Rattle.graph_report.proofs.inputs.Inputs.members.Goals as goal
 pub of-requires : goal.of-requires
 of-requires c =
     let g = c.args.self.now.sources.graph.now in
-    record { count = component_count g; of = members_of g; groups = c.requires.inputs.tables.members; below = c.requires.component }
+    record { count = component_count g; of = members_of g; groups = c.args.self.now.found.members; below = c.requires.component }
 
 pub returns : goal.returns
 returns c =
     let g = c.args.self.now.sources.graph.now in
-    c.of.ensures (component_count g) (members_of g) c.requires.inputs.tables.members c.requires.component
+    c.of.ensures (component_count g) (members_of g) c.args.self.now.found.members c.requires.component

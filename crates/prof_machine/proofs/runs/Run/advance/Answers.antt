@@ -5,7 +5,7 @@ use Rattle.prof_machine.proofs.DriveLemmas.{work_bound}
 use Rattle.prof_machine.proofs.StageLemmas.{fails_like, instructed_prints, printless, prints_like}
 use Rattle.prof_machine.proofs.StandingLemmas.{with_live}
 use Rattle.prof_machine.proofs.TurnLemmas.{taken_instructed, turn_prints, turn_stands}
-use Rattle.prof_machine.specs.declared.ending.Turned.{Turned}
+use Rattle.prof_machine.specs.declared.summary.Turned.{Turned}
 use Rattle.prof_machine.specs.Plan.{most_turns}
 use Rattle.prof_machine.specs.Stages.{PrintsAs}
 use Rattle.prof_machine.specs.Turn.{after_close, after_ordinary_turn, after_look, turn_of}

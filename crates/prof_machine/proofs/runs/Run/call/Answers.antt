@@ -7,7 +7,7 @@ use Rattle.prof_machine.proofs.StageLemmas.{printless}
 use Rattle.prof_machine.proofs.InstructionLemmas.{ecall_as, written_stands}
 use Rattle.prof_machine.proofs.StandingLemmas.{answers_stands, hart_read, there, with_break, with_ending, with_retired}
 use Rattle.prof_machine.specs.declared.ecalls.Call.TheVariants.{Answers, Writes, SetsBreak, Exits}
-use Rattle.prof_machine.specs.declared.ending.End.TheVariants.{Exit}
+use Rattle.prof_machine.specs.declared.summary.End.TheVariants.{Exit}
 use Rattle.prof_machine.specs.Ecalls.{write_acts}
 use Rattle.prof_machine.specs.Prints.{ArePrinted, BreaksOff, IsCutShort}
 use Rattle.prof_machine.specs.Stages.{answers, retires}

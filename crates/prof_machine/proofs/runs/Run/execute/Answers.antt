@@ -1,6 +1,6 @@
 use Rattle.std.proofs.Common.{◌≡◌, Some, ap, subst, sym}
 use Rattle.std.specs.Vec.{with_item}
-use Rattle.prof_machine.specs.declared.ending.End.TheVariants.{Trap}
+use Rattle.prof_machine.specs.declared.summary.End.TheVariants.{Trap}
 use Rattle.prof_machine.specs.Turn.{after_ecall, after_execution}
 use Rattle.prof_machine.specs.World.{World}
 use Rattle.prof_machine.proofs.StageLemmas.{printless, prints_as}

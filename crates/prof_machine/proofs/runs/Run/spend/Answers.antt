@@ -1,5 +1,5 @@
 use Rattle.std.proofs.Common.{subst, Some}
-use Rattle.prof_machine.specs.declared.ending.End.TheVariants.{Budget}
+use Rattle.prof_machine.specs.declared.summary.End.TheVariants.{Budget}
 use Rattle.prof_machine.specs.Turn.{after_budget, while_going}
 use Rattle.prof_machine.specs.Value.{RunValue, StandsFor, value_of}
 use Rattle.prof_machine.proofs.StandingLemmas.{is_ended, is_none, spent_stands, stands_ended, stands_going, unspent_stands}

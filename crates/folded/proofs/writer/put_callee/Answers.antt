@@ -1,8 +1,0 @@
-use Rattle.host_port.specs.declared.side.Side.TheVariants.{Output}
-use Rattle.std.specs.Prelude.{codes}
-use Rattle.host_port.proofs.BufferLemmas.{adds_then}
-use Rattle.folded.specs.Text.{name_in}
-use Rattle.folded.proofs.writer.put_callee.Goals as goal
-
-pub returns : goal.returns
-returns g c = adds_then Output (codes ";") (name_in c.args.symbols.now c.args.callee.now) _ _ _ _ _ _ _ _ c.in_ok-put.ensures.adds c.put_name.ensures

@@ -1,6 +1,0 @@
-use Rattle.std.proofs.Common.{◌≡◌, ◌++◌, take, drop}
-use Rattle.gmon_data.specs.ChunkSteps.{starts_with_one_more}
-use Rattle.gmon_data.proofs.chunks.bump.Given as goal
-
-abbrev pub invariant-loop-k : goal.invariant-loop-k
-invariant-loop-k l = l.starts.items ≡ take l.k (starts_with_one_more l.c l.fn.starts.items) ++ drop l.k l.fn.starts.items

@@ -1,0 +1,31 @@
+use Rattle.std.proofs.Common.{◌<◌, Some, List, length, map, get_or, ap, subst, sym, ◌∙◌}
+use Rattle.std.specs.List.{AllByRecursion}
+use Rattle.std.proofs.lemmas.List.{take_all, take_more}
+use Rattle.std.proofs.lemmas.Option.{slice_get-get_or}
+use Rattle.gmon_gnu.specs.declared.profile.Placed.{Placed}
+use Rattle.gmon_gnu.specs.declared.state.Body.TheVariants.{Hist}
+use Rattle.gmon_gnu.specs.declared.state.Entry.{Entry}
+use Rattle.gmon_gnu.specs.Making.{hists_among, place_of, placed_entries}
+use Rattle.gmon_gnu.proofs.MakingLemmas.{all_joined, next_hist, places_below}
+use Rattle.gmon_gnu.proofs.profile.hists_of.Goals as goal
+
+abbrev none : Entry
+none = record { first = 0; last = 0; body = Hist 0 0 0 }
+
+pub loop-i-preserved : goal.loop-i-preserved
+loop-i-preserved c =
+    let entries = c.args.entries.now in
+    let i = c.loop-i.i in
+    let e = get_or entries i none in
+    let was = c.loop-i.invariant in
+    let pushed = c.in_ok-push_hist.ensures in
+    record {
+      inside = subst (λ (l : List Placed). AllByRecursion (λ p. p.entry < length entries) l) (sym pushed)
+          (all_joined (λ p. p.entry < length entries) _ (place_of c.args.fields.now e.body i) was.inside (places_below c.args.fields.now e.body i (length entries) c.loop-i-test.true));
+      all = ap (placed_entries entries) pushed ∙ next_hist c.args.fields.now entries _ i e (slice_get-get_or entries i none c.loop-i-test.true) (take_more entries i none c.loop-i-test.true) was.all;
+    }
+
+pub returns-clause-all : goal.returns-clause-all
+returns-clause-all c =
+    let entries = c.args.entries.now in
+    c.loop-i.invariant.all ∙ ap (λ (l : List Entry). map Some (hists_among l)) (take_all c.loop-i.i entries c.loop-i-test.false)

@@ -1,0 +1,49 @@
+use Rattle.std.proofs.Common.{◌+◌, ◌-◌, suc, length, take, drop, ap, ◌∙◌, arith}
+use Rattle.call_cycles.proofs.ListLemmas.{list_long}
+use Rattle.graph_report.specs.Lists.{start_of}
+use Rattle.graph_report.proofs.ListLemmas.{list_there, start_read, start_rises, start_within}
+use Rattle.graph_report.proofs.labels.Labels.whole.Goals as goal
+
+pub index-start-requires : goal.index-start-requires
+index-start-requires c =
+    let has = c.requires in
+    let starts = c.args.self.now.starts in
+    omega (arith, list_long (suc has.count) (start_of has.of) starts.items has.labels.texts.each, starts.ok.0, has.below)
+
+pub index-requires : goal.index-requires
+index-requires c =
+    let has = c.requires in
+    let starts = c.args.self.now.starts in
+    omega (arith, list_long (suc has.count) (start_of has.of) starts.items has.labels.texts.each, starts.ok.0, has.below)
+
+pub overflow_sub-len : goal.overflow_sub-len
+overflow_sub-len c =
+    let has = c.requires in
+    let from = start_read has.of has.count c.args.f _ _ has.labels.texts.each (omega (arith, has.below)) c.index-start.ensures in
+    let to = start_read has.of has.count (c.args.f + 1) _ _ has.labels.texts.each (omega (arith, has.below)) c.index.ensures in
+    omega (arith, from, to, start_rises has.of c.args.f)
+
+pub split_at-requires : goal.split_at-requires
+split_at-requires c =
+    let has = c.requires in
+    let from = start_read has.of has.count c.args.f _ _ has.labels.texts.each (omega (arith, has.below)) c.index-start.ensures in
+    let all = ap length (c.deref.ensures.value ∙ has.labels.texts.whole) in
+    omega (arith, from, all, start_rises has.of c.args.f, start_within has.of c.args.f has.count has.below)
+
+pub split_at-requires-2 : goal.split_at-requires-2
+split_at-requires-2 c =
+    let has = c.requires in
+    let from = start_read has.of has.count c.args.f _ _ has.labels.texts.each (omega (arith, has.below)) c.index-start.ensures in
+    let to = start_read has.of has.count (c.args.f + 1) _ _ has.labels.texts.each (omega (arith, has.below)) c.index.ensures in
+    let all = ap length (c.deref.ensures.value ∙ has.labels.texts.whole) in
+    omega (arith, from, to, all, c.split_at.ensures.back_len, start_within has.of c.args.f has.count has.below)
+
+pub returns : goal.returns
+returns c = λ count of labels low.
+    let start = c.index-start.result.now in
+    let end = c.index.result.now in
+    let from = start_read of count c.args.f start _ labels.texts.each (omega (arith, low)) c.index-start.ensures in
+    let to = start_read of count (c.args.f + 1) end _ labels.texts.each (omega (arith, low)) c.index.ensures in
+    let rest = c.split_at.ensures.back in
+    let text = c.split_at-2.ensures.front in
+    text ∙ ap (take (end - start)) (rest ∙ ap (drop start) (c.deref.ensures.value ∙ labels.texts.whole)) ∙ list_there of c.args.f count start end low from to
