@@ -97,7 +97,8 @@ fn put<F: Folder>(folder: &mut F, output: &F::Output, own: &str, name: &str) -> 
     }
 }
 
-/// Writes the named file in place with what the other one has.
+/// Writes the named file in place with what the other one has. It isn't inlined: `copy` has its piece in the frame.
+#[inline(never)]
 fn copy_over<F: Folder>(folder: &mut F, own: &str, name: &str) -> io::Result<()>
     ensures over { OnOk result (Follows (IsOver own.now name.now) (F.history folder.old) (F.history folder.new)) }
     ensures not_over { OnErr result (Follows (IsNotOver own.now name.now) (F.history folder.old) (F.history folder.new)) }

@@ -1,4 +1,5 @@
-//! The folders and the outputs of the system: each method is one call of std.
+//! The folders and the outputs of the system: each method is one call of std. What takes a name isn't inlined: std
+//! keeps it in some 4 KiB of the frame.
 
 ghost use Rattle.std.specs.Prelude.{None};
 ghost use Rattle.std.specs.Io.{WritesAtMost};
@@ -36,10 +37,12 @@ impl Folder for RealFolder {
 
     ghost told_outputs = { λ f output told. Prim.cc };
 
+    #[inline(never)]
     fn open(&self, name: &str) -> io::Result<File> {
         fs::open(&self.rt, name)
     }
 
+    #[inline(never)]
     fn look(&mut self, name: &str) -> io::Result<Found> {
         match fs::symlink_metadata(&self.rt, name) {
             Ok(data) => Ok(found(&data)),
@@ -48,11 +51,13 @@ impl Folder for RealFolder {
         }
     }
 
+    #[inline(never)]
     fn try_open(&mut self, name: &str) -> io::Result<()> {
         File::options().write(true).open(&self.rt, name)?;
         Ok(())
     }
 
+    #[inline(never)]
     fn create_new(&mut self, name: &str, mode: u32) -> io::Result<File> {
         OpenOptions::new()
             .write(true)
@@ -69,6 +74,7 @@ impl Folder for RealFolder {
         output.set_permissions(Permissions::from_mode(mode))
     }
 
+    #[inline(never)]
     fn open_over(&mut self, name: &str) -> io::Result<File> {
         fs::create(&self.rt, name)
     }
@@ -77,14 +83,17 @@ impl Folder for RealFolder {
         output.sync_all()
     }
 
+    #[inline(never)]
     fn rename(&mut self, from: &str, to: &str) -> io::Result<()> {
         fs::rename(&self.rt, from, to)
     }
 
+    #[inline(never)]
     fn remove(&mut self, name: &str) -> io::Result<()> {
         fs::remove_file(&self.rt, name)
     }
 
+    #[inline(never)]
     fn sync_names(&mut self, folder: &str) -> io::Result<()> {
         fs::open(&self.rt, folder)?.sync_all()
     }
