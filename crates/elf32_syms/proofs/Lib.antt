@@ -5,6 +5,7 @@ pub mod TextLemmas
 pub mod KeptLemmas
 pub mod RowLemmas
 pub mod RefusalLemmas
+pub mod HeaderLemmas
 pub mod OrderLemmas
 pub mod FirstLemmas
 pub mod OwnerLemmas

@@ -1,5 +1,5 @@
 -- The refusals of a file, in the order in which they are looked for. Each is None where its conditions aren't met.
-use Rattle.std.specs.Prelude.{◌≡◌, ℕ, ◌+◌, ◌-◌, ◌*◌, Bool, not, ◌&&◌, ◌||◌, ◌==◌, nat_lt, if◌then◌else◌, List, length, find, slice_get, Option, Some, None, option_map, Result, MatchResult}
+use Rattle.std.specs.Prelude.{◌≡◌, ℕ, ◌+◌, ◌-◌, ◌*◌, Bool, true, false, not, ◌&&◌, ◌||◌, ◌==◌, nat_lt, if◌then◌else◌, List, length, find, slice_get, Option, Some, None, option_map, Result, MatchResult}
 use Rattle.std.specs.Option.{option_or, option_and_then}
 use Rattle.gp_base.specs.declared.limits.TheConstants.{MAX_PROGRAM_HEADERS, MAX_SYMBOLS, MAX_TEXT_BYTES, MAX_TEXT_END}
 use Rattle.elf32_syms.specs.declared.refusal.ElfRefusal.{ElfRefusal}
@@ -99,3 +99,15 @@ IsRefusal e refusal = refusal ≡ Some e
 -- a test's answer: Ok where there is no refusal, and else that refusal
 abbrev pub Judges : {T : Type 0} → Option ElfRefusal → Result T ElfRefusal → Type 0
 Judges refusal result = MatchResult result (λ _. refusal ≡ None) (λ e. refusal ≡ Some e)
+
+-- it is told of the header alone
+abbrev pub is_of_header : ElfRefusal → Bool
+is_of_header (Short len) = true
+is_of_header Magic = true
+is_of_header (Class value) = true
+is_of_header (Order value) = true
+is_of_header (Kind value) = true
+is_of_header (Machine value) = true
+is_of_header (Flags value) = true
+is_of_header (TableSize value) = true
+is_of_header refusal = false

@@ -1,5 +1,5 @@
 -- Reading a file piece by piece.
-use Rattle.std.proofs.Common.{◌≡◌, ℕ, ◌+◌, ◌<◌, ◌≤◌, Bool, true, false, ◌&&◌, List, [], ◌++◌, length, take, drop, length-append, append_assoc, Option, Some, None, Ok, Err, sym, ap, subst, ◌∙◌, arith}
+use Rattle.std.proofs.Common.{◌≡◌, ℕ, ◌+◌, ◌<◌, ◌≤◌, Bool, true, false, ◌&&◌, List, [], ◌++◌, length, take, drop, length-append, append_assoc, Option, Some, None, Ok, Err, refl, sym, ap, subst, ◌∙◌, arith}
 use Rattle.std.specs.Prelude.{is_some, IfSome}
 use Rattle.std.proofs.lemmas.List.{append-nil, take-append-drop}
 use Rattle.host_port.specs.Act.{Disk, file_content}
@@ -98,6 +98,7 @@ not_opened name limit old new e opens reads consistent =
       nothing_done = opens.nothing_done;
       answer = always new.disk;
       left = none_told (λ d rest. length (file_content name d.files) ≤ limit + length rest) new.disk new.rest shut;
+      going = λ not. absurd (not refl);
       counts = (reads.own, reads.write, reads.err, reads.last);
     }
 
@@ -124,6 +125,7 @@ not_moved name limit bytes before buf old mid new e far moves reads =
       nothing_done = Did-then [] [] (with_openings 1 old) mid new far.did moves.nothing_done;
       answer = always new.disk;
       left = all_left name bytes limit new.disk new.rest (joins_kept name bytes mid.disk new.disk mid.rest new.rest moves.nothing_done.disk moves.rest far.joins) far.within;
+      going = λ not. absurd (not refl);
       counts = (subst (λ (k : ℕ). Rose k new.read_faults) far.counts.read reads.own, reads.write ∙ far.counts.write, reads.err ∙ far.counts.err, reads.last);
     }
 
@@ -159,20 +161,22 @@ module _ (name : List ℕ) (limit n : ℕ) (bytes before buf : List ℕ) (old mi
       }
 
   -- it is too large
-  pub too_large : limit < length bytes + n → length bytes + n ≤ limit + 1 → IsRefused name limit old new TooLarge
-  too_large more few = record {
+  pub too_large : limit < length bytes + n → length bytes + n ≤ limit + 1 → new.at_end ≡ false → IsRefused name limit old new TooLarge
+  too_large more few going = record {
     nothing_done = did;
     answer = longer name (bytes ++ take n buf) limit new.disk new.rest told joins (omega (arith, long, more));
     left = all_left name (bytes ++ take n buf) (limit + 1) new.disk new.rest joins (omega (arith, long, few));
+    going = λ _. going;
     counts = counts;
   }
 
   -- there was no memory for the piece
-  pub not_taken : length bytes + n ≤ limit → IsRefused name limit old new OutOfMemory
-  not_taken few = record {
+  pub not_taken : length bytes + n ≤ limit → new.at_end ≡ false → IsRefused name limit old new OutOfMemory
+  not_taken few going = record {
     nothing_done = did;
     answer = always new.disk;
     left = all_left name (bytes ++ take n buf) limit new.disk new.rest joins (omega (arith, long, few));
+    going = λ _. going;
     counts = counts;
   }
 

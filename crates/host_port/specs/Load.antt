@@ -1,5 +1,5 @@
 -- What reading a whole file answers.
-use Rattle.std.specs.Prelude.{◌≡◌, ℕ, ◌+◌, ◌<◌, ◌≤◌, true, List, [], length, Result, Ok, Err, IfSome, ⊤}
+use Rattle.std.specs.Prelude.{◌≡◌, ◌≢◌, ℕ, ◌+◌, ◌<◌, ◌≤◌, true, false, List, [], length, Result, Ok, Err, IfSome, ⊤}
 use Rattle.std.specs.Global.{Vec}
 use Rattle.host_port.specs.declared.whole_file.LoadRefusal.{LoadRefusal}
 use Rattle.host_port.specs.declared.whole_file.LoadRefusal.TheVariants.{ReadFault, TooLarge, OutOfMemory}
@@ -35,12 +35,13 @@ LoadCounts old new TooLarge = KeepsCounts old new
 LoadCounts old new OutOfMemory = KeepsCounts old new
 LoadCounts old new ReadFault = Rose old.read_faults new.read_faults × (new.write_faults ≡ old.write_faults) × (new.err_faults ≡ old.err_faults) × (new.last_failed ≡ true)
 
--- the named file was not read to its end
+-- the named file was not read to its end; the host tells so, unless a call failed
 pub record IsRefused (name : List ℕ) (limit : ℕ) (old new : Outside) (refusal : LoadRefusal) : Type 0 where
   -- one input was opened
   pub nothing_done : Did [] (with_openings 1 old) new
   pub answer : IfTold new (λ d. RefusesFor (file_content name d.files) limit refusal)
   pub left : IfTold new (λ d. IfSome new.rest (λ rest. IsLeftBehind (file_content name d.files) limit rest refusal))
+  pub going : refusal ≢ ReadFault → new.at_end ≡ false
   pub counts : LoadCounts old new refusal
 
 -- what takes pieces has taken some bytes, of which the number is known, and they are the file's; or it was not read

@@ -19,19 +19,19 @@ use Rattle.prof_machine.specs.World.{World}
 use Rattle.prof_machine.proofs.PrintLemmas.{prints_driven}
 use Rattle.rvgprof.specs.Answer.{fold_fault_of, fold_program, stacks_told, start_fault_of}
 use Rattle.rvgprof.specs.Contract.{Acted}
-use Rattle.rvgprof.specs.Course.{MayStop, one_by_one}
+use Rattle.rvgprof.specs.Course.{one_by_one}
 use Rattle.rvgprof.specs.FoldedReport.{folded_report, run_stacks}
-use Rattle.rvgprof.specs.Standing.{IsStarted, Stands}
+use Rattle.rvgprof.specs.Standing.{IsStarted, MayStopHere, Stands}
 use Rattle.rvgprof.proofs.Performing.{drive_fails, printed_performs}
 use Rattle.host_port.specs.Performing.{Performs}
 use Rattle.rvgprof.proofs.Running.{first_prints_none, last_is}
 use Rattle.rvgprof.proofs.Standing.{at_once, does, does_first, fails, goes_on, no_memory, one_by_one_stop}
 
 -- memory may be wanted before the stacks are told
-pub may_stop_stacks : (inclusive : Bool) (image : Image) (bytes : List ℕ) (setup : Setup) (contents : ℕ → List ℕ) → MayStop contents (stacks_told inclusive image bytes setup) []
-may_stop_stacks inclusive image bytes setup contents = inl refl
+pub may_stop_stacks : (inclusive : Bool) (image : Image) (bytes : List ℕ) (setup : Setup) (contents : ℕ → List ℕ) → MayStopHere contents (stacks_told inclusive image bytes setup)
+may_stop_stacks inclusive image bytes setup contents = (inl refl, refl)
 
-pub may_stop_folding : (inclusive : Bool) (image : Image) (bytes : List ℕ) (setup : Setup) (contents : ℕ → List ℕ) → MayStop contents (one_by_one (final_world image bytes setup).prints (stacks_told inclusive image bytes setup)) []
+pub may_stop_folding : (inclusive : Bool) (image : Image) (bytes : List ℕ) (setup : Setup) (contents : ℕ → List ℕ) → MayStopHere contents (one_by_one (final_world image bytes setup).prints (stacks_told inclusive image bytes setup))
 may_stop_folding inclusive image bytes setup contents =
     one_by_one_stop contents (final_world image bytes setup).prints (stacks_told inclusive image bytes setup) (may_stop_stacks inclusive image bytes setup contents)
 
@@ -50,7 +50,7 @@ module _ (words : List (List ℕ)) (start mid new : Outside) (below : ℕ) (done
       → Stands words start new below (done ++ (final_world image bytes setup).prints) (stacks_told inclusive image bytes setup)
   fold_done {E} performs shut =
       does {T = Unit {0}} {E = E} words start mid new below done (final_world image bytes setup).prints (stacks_told inclusive image bytes setup) tt
-      (at_once words start mid below done (final_world image bytes setup).prints (stacks_told inclusive image bytes setup) (may_stop_stacks inclusive image bytes setup) here) performs shut
+      (at_once words start mid below done (final_world image bytes setup).prints (stacks_told inclusive image bytes setup) (λ contents. inl refl) (λ contents n. refl) here) performs shut
 
   due : {T E : Type 0} (r : Result T E) → Performs {T = T} {E = E} (after_drive v.machine first).prints mid new r → Performs (final_world image bytes setup).prints mid new r
   due r performs = subst (λ (w : World). Performs w.prints mid new r) (last_is image bytes setup v started) performs
@@ -60,7 +60,7 @@ module _ (words : List (List ℕ)) (start mid new : Outside) (below : ℕ) (done
   fold_stops folds.HostFailed stops cause still =
       let off = stops first started.stands in
       fails {T = Unit {0}} words start mid new below done (final_world image bytes setup).prints (stacks_told inclusive image bytes setup) tt
-      (at_once words start mid below done (final_world image bytes setup).prints (stacks_told inclusive image bytes setup) (may_stop_stacks inclusive image bytes setup) here)
+      (at_once words start mid below done (final_world image bytes setup).prints (stacks_told inclusive image bytes setup) (λ contents. inl refl) (λ contents n. refl) here)
       (due {T = Unit {0}} {E = Unit {0}} (Err tt) (drive_fails {T = Unit {0}} v.machine first off.0 mid new tt off.1 (first_prints_none image bytes setup) off.3))
   fold_stops folds.OutOfMemory stops cause still =
       let short = stops first started.stands in

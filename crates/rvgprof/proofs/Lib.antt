@@ -1,5 +1,6 @@
 pub mod Standing
 pub mod ToldLemmas
+pub mod HeaderLemmas
 pub mod Accepting
 pub mod Performing
 pub mod Summing

@@ -1,6 +1,6 @@
 -- A report was printed, or not, as the words ask for it.
 use Rattle.std.proofs.Common.{◌≡◌, ◌≢◌, ℕ, ◌≤◌, Bool, true, false, eqb, List, [], ◌∷◌, ◌++◌, Option, Some, None, Result, Ok, Err, inl, refl, sym, ap, subst, ◌∙◌, true≢false, if◌then◌else◌, arith}
-use Rattle.std.specs.Prelude.{MatchResult, is_some}
+use Rattle.std.specs.Prelude.{IfSome, MatchResult, is_some}
 use Rattle.std.proofs.lemmas.Bool.{eq-eqb}
 use Rattle.gp_base.specs.declared.records.Unit as units
 use Rattle.gmon_data.specs.declared.hist.Hist.{Hist}
@@ -12,7 +12,7 @@ use Rattle.flat_report.specs.Sources.{Sources}
 use Rattle.flat_report.specs.declared.refusal.ReportRefusal.{ReportRefusal}
 use Rattle.flat_report.specs.declared.refusal.ReportRefusal.TheVariants as reports
 use Rattle.host_port.specs.Act.{Act, Out}
-use Rattle.rvgprof.specs.Course.{Course, Does, MayStop}
+use Rattle.rvgprof.specs.Course.{Course, Does, takes_no_memory}
 use Rattle.command_words.specs.declared.words.Shown.{Shown}
 use Rattle.command_words.specs.declared.words.Shown.TheVariants as shows
 use Rattle.host_port.specs.Outside.{Outside}
@@ -20,6 +20,7 @@ use Rattle.host_port.specs.declared.side.Side.TheVariants.{Output}
 use Rattle.host_port.proofs.PerformingLemmas.{puts_performs}
 use Rattle.arc_filter.specs.Cuts.{without_cuts}
 use Rattle.exact_flow.specs.Answers.{IsWideAnswer}
+use Rattle.exact_flow.specs.Wide.{WideStep}
 use Rattle.exact_flow.specs.Times.{ExactFlowValue}
 use Rattle.exact_flow.specs.declared.refusal.ExactRefusal.{ExactRefusal}
 use Rattle.exact_flow.specs.declared.refusal.ExactRefusal.TheVariants as exacts
@@ -27,7 +28,7 @@ use Rattle.rvgprof.specs.Answer.{Chosen, all_reports, chosen_sources, exact_faul
 use Rattle.rvgprof.specs.Contract.{Acted}
 use Rattle.rvgprof.specs.Findings.{AreFindings, IsAsked, given_sources}
 use Rattle.rvgprof.specs.declared.findings.Findings.{Findings}
-use Rattle.rvgprof.specs.Standing.{Stands}
+use Rattle.rvgprof.specs.Standing.{MayStopHere, Stands}
 use Rattle.rvgprof.proofs.Standing.{no_memory, fails, does, goes_on, may_stop_unless, refuses}
 
 abbrev refused : ReportRefusal → Result (Unit {0}) ReportRefusal
@@ -46,25 +47,30 @@ after_text words start mid new below done text next (Ok u) s puts idle =
 after_text words start mid new below done text next (Err reports.WriteFault) s puts idle =
     fails {T = Unit {0}} words start mid new below done (Out text ∷ []) next reports.WriteFault s (puts_performs {T = Unit {0}} Output text mid new (Err reports.WriteFault) puts)
 after_text words start mid new below done text next (Err reports.OutOfMemory) s puts idle =
-    no_memory words start new below done (Does (Out text ∷ []) next) (subst (λ (x : Outside). Stands words start x below done (Does (Out text ∷ []) next)) (sym (idle refl)) s) (λ contents. inl refl)
+    no_memory words start new below done (Does (Out text ∷ []) next) (subst (λ (x : Outside). Stands words start x below done (Does (Out text ∷ []) next)) (sym (idle refl)) s) (λ contents. (inl refl, refl))
 
 -- the reports of what was found are those of the profile
 pub of_findings : (words : List (List ℕ)) (start old : Outside) (below : ℕ) (done : List Act) (chosen : Chosen) (image : Image) (total : Content) (s : Findings) (next : Course) → AreFindings image (without_cuts total image.symbols chosen.cuts) s
     → Stands words start old below done (print_reports chosen image total next) → Stands words start old below done (all_reports chosen (given_sources image s) next)
 of_findings words start old below done chosen image total s next are = subst (λ (x : Sources). Stands words start old below done (all_reports chosen x next)) (sym are.value)
 
-shown_may_stop : (shown : Shown) (hidden : List (List ℕ)) (s : Sources) (next : Course) (contents : ℕ → List ℕ) → MayStop contents (shown_reports shown hidden s next) []
-shown_may_stop shows.Flat hidden s next contents = inl refl
-shown_may_stop shows.Graph hidden s next contents = inl refl
-shown_may_stop shows.Both hidden s next contents = inl refl
+shown_may_stop : (shown : Shown) (hidden : List (List ℕ)) (s : Sources) (next : Course) (contents : ℕ → List ℕ) → MayStopHere contents (shown_reports shown hidden s next)
+shown_may_stop shows.Flat hidden s next contents = (inl refl, refl)
+shown_may_stop shows.Graph hidden s next contents = (inl refl, refl)
+shown_may_stop shows.Both hidden s next contents = (inl refl, refl)
+
+-- a step that is too wide isn't found without memory
+wide_takes : (due : Option WideStep) → IfSome due (λ step. takes_no_memory (too_wide step) ≡ false)
+wide_takes None = tt
+wide_takes (Some step) = refl
 
 -- memory may be wanted before the first report
-may_stop_all : (chosen : Chosen) (s : Sources) (next : Course) (contents : ℕ → List ℕ) → MayStop contents (all_reports chosen s next) []
+may_stop_all : (chosen : Chosen) (s : Sources) (next : Course) (contents : ℕ → List ℕ) → MayStopHere contents (all_reports chosen s next)
 may_stop_all chosen s next contents =
-    may_stop_unless too_wide (wide_step chosen.exact s) (shown_reports chosen.shown chosen.hidden s (exact_report chosen.exact s next)) contents
+    may_stop_unless too_wide (wide_step chosen.exact s) (shown_reports chosen.shown chosen.hidden s (exact_report chosen.exact s next)) contents (wide_takes (wide_step chosen.exact s))
     (shown_may_stop chosen.shown chosen.hidden s (exact_report chosen.exact s next) contents)
 
-pub may_stop_reports : (chosen : Chosen) (image : Image) (total : Content) (next : Course) (contents : ℕ → List ℕ) → MayStop contents (print_reports chosen image total next) []
+pub may_stop_reports : (chosen : Chosen) (image : Image) (total : Content) (next : Course) (contents : ℕ → List ℕ) → MayStopHere contents (print_reports chosen image total next)
 may_stop_reports chosen image total next contents = may_stop_all chosen (chosen_sources chosen image total) next contents
 
 -- a step of the exact times is too wide, or memory was wanted for them

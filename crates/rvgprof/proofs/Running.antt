@@ -1,6 +1,6 @@
 -- A run that was started, as the words ask for it.
-use Rattle.std.proofs.Common.{◌≡◌, ℕ, ◌++◌, ◌&&◌, ◌∷◌, All, Bool, true, false, List, [], Option, Some, Result, Ok, Err, inl, refl, sym, ap, subst, ◌∙◌}
-use Rattle.std.specs.Prelude.{IsSome, nat_lt}
+use Rattle.std.proofs.Common.{◌≡◌, ℕ, ◌++◌, ◌&&◌, ◌∷◌, All, Bool, true, false, List, [], Option, Some, None, Result, Ok, Err, inl, refl, sym, ap, subst, ◌∙◌}
+use Rattle.std.specs.Prelude.{IfSome, IsSome, nat_lt}
 use Rattle.std.specs.List.{list_all}
 use Rattle.std.proofs.lemmas.Bool.{lt-ltb}
 use Rattle.std.proofs.lemmas.List.Elements.{All-head, All-tail}
@@ -22,27 +22,37 @@ use Rattle.prof_machine.specs.Value.{RunValue, StandsFor, summary_of}
 use Rattle.prof_machine.specs.World.{World}
 use Rattle.rvgprof.specs.declared.outcome.Fault.{Fault}
 use Rattle.rvgprof.specs.declared.outcome.Fault.TheVariants.{WriteFault}
-use Rattle.rvgprof.specs.Course.{Course, Ends, Does, Knows, MayStop, unless}
+use Rattle.rvgprof.specs.Course.{Course, Ends, Does, Knows, takes_no_memory, unless}
 use Rattle.rvgprof.specs.Answer.{RunActs, call_fits, calls_fit, run_program, start_fault_of, sums_up}
 use Rattle.host_port.specs.Performing.{Performs}
 use Rattle.rvgprof.specs.Contract.{Acted}
-use Rattle.rvgprof.specs.Standing.{IsRunOf, IsStartFault, IsStarted, Stands}
+use Rattle.rvgprof.specs.Standing.{IsRunOf, IsStartFault, IsStarted, MayStopHere, Stands}
 use Rattle.rvgprof.proofs.Standing.{no_memory, may_stop_unless, refuses, goes_on, known, does, ends, fails}
 
+-- the program's image, by which a run may be refused, isn't read without memory
+start_takes : (due : Option StartRefusal) → IfSome due (λ refusal. takes_no_memory (start_fault_of refusal) ≡ false)
+start_takes None = tt
+start_takes (Some (starts.ProgramTooLarge need end)) = refl
+start_takes (Some (starts.EntryOutside entry)) = refl
+start_takes (Some starts.OutOfMemory) = refl
+
+pub may_stop_start : (image : Image) (setup : Setup) (next : Course) (contents : ℕ → List ℕ) → MayStopHere contents next → MayStopHere contents (unless start_fault_of (start_refusal image setup) next)
+may_stop_start image setup next contents may = may_stop_unless start_fault_of (start_refusal image setup) next contents (start_takes (start_refusal image setup)) may
+
 -- the run doesn't start
-pub not_started : (words : List (List ℕ)) (old new : Outside) (below : ℕ) (done : List Act) (image : Image) (setup : Setup) (next : Course) (fault : Fault) → ((contents : ℕ → List ℕ) → MayStop contents next [])
+pub not_started : (words : List (List ℕ)) (old new : Outside) (below : ℕ) (done : List Act) (image : Image) (setup : Setup) (next : Course) (fault : Fault) → ((contents : ℕ → List ℕ) → MayStopHere contents next)
     → Stands words old new below done (unless start_fault_of (start_refusal image setup) next) → IsStartFault image setup fault → Acted words old new (Err fault)
 not_started words old new below done image setup next fault may s is =
     subst (λ (fault : Fault). Acted words old new (Err fault)) (sym is.is) (by_refusal is.refusal is.due)
   where
     by_refusal : (refusal : StartRefusal) → IsRefusal refusal (start_refusal image setup) → Acted words old new (Err (start_fault_of refusal))
     by_refusal starts.OutOfMemory is =
-        no_memory words old new below done (unless start_fault_of (start_refusal image setup) next) s (λ contents. may_stop_unless start_fault_of (start_refusal image setup) next contents (may contents))
+        no_memory words old new below done (unless start_fault_of (start_refusal image setup) next) s (λ contents. may_stop_start image setup next contents (may contents))
     by_refusal refusal is = refuses words old new below done start_fault_of (start_refusal image setup) next refusal s is tt
 
 pub no_start : (words : List (List ℕ)) (old new : Outside) (below : ℕ) (done : List Act) (image : Image) (setup : Setup) (acts : List Act) (next : Course) (fault : Fault)
     → Stands words old new below done (unless start_fault_of (start_refusal image setup) (Does acts next)) → IsStartFault image setup fault → Acted words old new (Err fault)
-no_start words old new below done image setup acts next fault s is = not_started words old new below done image setup (Does acts next) fault (λ contents. inl refl) s is
+no_start words old new below done image setup acts next fault s is = not_started words old new below done image setup (Does acts next) fault (λ contents. (inl refl, refl)) s is
 
 machine_sizes : (image : Image) (setup : Setup) → (machine_of image setup).sizes ≡ sizes_of image.text setup.hist setup.hash
 unfolding machine_of

@@ -16,12 +16,12 @@ use Rattle.rvgprof.specs.declared.outcome.Fault.TheVariants.{Usage, BadElf, BadP
 use Rattle.command_words.specs.declared.words.Command.{Command}
 use Rattle.command_words.specs.Items.{nth_word}
 use Rattle.command_words.specs.Words.{command_of}
-use Rattle.rvgprof.specs.Course.{Course, Ends, Input, Does, Knows, Reply, behind, one_by_one, unless, reply_to, inputs_of, AllKnown, ComesTo, MayStop}
+use Rattle.rvgprof.specs.Course.{Course, Ends, Input, Does, Knows, Reply, behind, must_refuse, one_by_one, takes_no_memory, unless, reply_to, inputs_of, AllKnown, ComesTo, MayStop}
 use Rattle.rvgprof.specs.Answer.{command_course, course_of, contents_of, load_fault_of}
 use Rattle.host_port.specs.Performing.{FailedAt, Performs}
 use Rattle.host_port.proofs.PerformingLemmas.{failed_behind, failed_before, failed_since}
 use Rattle.rvgprof.specs.Contract.{ReadingFailed, Owes, Owed, WhereTold, Acted}
-use Rattle.rvgprof.specs.Standing.{LeadsTo, Stands}
+use Rattle.rvgprof.specs.Standing.{LeadsTo, MayStopHere, Stands}
 
 -- what holds of the files before, where they are told at one moment and at another
 abbrev Told : Option Disk → Option Disk → (List File → Type 0) → Type 0
@@ -75,6 +75,7 @@ itself contents course = record {
   comes = λ n word h. (let same : n ≡ 0 + n = omega arith in subst (λ (k : ℕ). ComesTo contents course k word) same h);
   may_stop = λ more h. h;
   known = λ h. h;
+  undecided = λ n h. (let same : n ≡ 0 + n = omega arith in subst (λ (k : ℕ). must_refuse contents course k ≡ false) same h);
 }
 
 -- a command begins
@@ -144,6 +145,11 @@ input_read contents whole opens word limit next bytes l is short =
           subst (λ (k : ℕ). ComesTo contents whole k w) later (l.comes (suc n) w (fits, subst (λ (bs : List ℕ). ComesTo contents (next bs) n w) (sym is) h)));
       may_stop = λ more h. l.may_stop more (inr (fits, subst (λ (bs : List ℕ). MayStop contents (next bs) more) (sym is) h));
       known = λ h. l.known (λ _. subst (λ (bs : List ℕ). AllKnown contents (next bs)) (sym is) h);
+      undecided = λ n h. (let later : opens + suc n ≡ suc opens + n = omega arith in
+          let here : must_refuse contents (Input word limit next) (suc n) ≡ false =
+          ap (λ (b : Bool). cond b false (must_refuse contents (next (contents word)) n)) (le-ltb limit (length (contents word)) fits)
+          ∙ subst (λ (bs : List ℕ). must_refuse contents (next bs) n ≡ false) (sym is) h in
+          subst (λ (k : ℕ). must_refuse contents whole k ≡ false) later (l.undecided (suc n) here));
     }
 
 pub loaded : (words : List (List ℕ)) (old mid new : Outside) (below word limit : ℕ) (next : List ℕ → Course) (bytes : List ℕ) → Stands words old mid below [] (Input word limit next) → below ≤ word
@@ -179,11 +185,11 @@ too_large words contents old new opens word limit next l long nothing =
 
 -- there was no memory for what comes next, where so many inputs were opened
 memory_out : (words : List (List ℕ)) (old new : Outside) (opens opened : ℕ) (done : List Act) (rest : Course) (read : ℕ → List ℕ) → Did done (with_openings opened old) new → KeepsCounts old new → new.is_writing ≡ false
-    → LeadsTo read (course_of words) opens done rest → WhereTold old new (λ files. LeadsTo (contents_of words files) (course_of words) opens done rest) → ((contents : ℕ → List ℕ) → MayStop contents rest [])
+    → LeadsTo read (course_of words) opens done rest → WhereTold old new (λ files. LeadsTo (contents_of words files) (course_of words) opens done rest) → ((contents : ℕ → List ℕ) → MayStop contents rest []) → (new.at_end ≡ true → (contents : ℕ → List ℕ) → LeadsTo contents (course_of words) opens done rest → must_refuse contents (course_of words) opened ≡ false)
     → Acted words old new (Err OutOfMemory)
-memory_out words old new opens opened done rest read did counts shut leads told may =
+memory_out words old new opens opened done rest read did counts shut leads told may undecided =
     let owes : (contents : ℕ → List ℕ) → LeadsTo contents (course_of words) opens done rest → Owes words contents old new opened done (Err OutOfMemory) =
-    λ contents l. (subst (λ (acts : List Act). MayStop contents (course_of words) acts) (append-nil done) (l.may_stop [] (may contents)), counts) in
+    λ contents l. (subst (λ (acts : List Act). MayStop contents (course_of words) acts) (append-nil done) (l.may_stop [] (may contents)), counts, λ ended. undecided ended contents l) in
     record {
       done = done;
       opens = opened;
@@ -195,16 +201,18 @@ memory_out words old new opens opened done rest read did counts shut leads told 
     }
 
 -- there was none for what comes next
-pub no_memory : (words : List (List ℕ)) (old new : Outside) (below : ℕ) (done : List Act) (rest : Course) → Stands words old new below done rest → ((contents : ℕ → List ℕ) → MayStop contents rest [])
+pub no_memory : (words : List (List ℕ)) (old new : Outside) (below : ℕ) (done : List Act) (rest : Course) → Stands words old new below done rest → ((contents : ℕ → List ℕ) → MayStopHere contents rest)
     → Acted words old new (Err OutOfMemory)
-no_memory words old new below done rest s may = memory_out words old new s.opens s.opens done rest s.read s.did s.counts s.shut (s.leads s.read (λ w less. refl)) s.told may
+no_memory words old new below done rest s may =
+    memory_out words old new s.opens s.opens done rest s.read s.did s.counts s.shut (s.leads s.read (λ w less. refl)) s.told (λ contents. (may contents).0)
+    (λ ended contents l. (let same : s.opens + 0 ≡ s.opens = omega arith in subst (λ (k : ℕ). must_refuse contents (course_of words) k ≡ false) same (l.undecided 0 (may contents).1)))
 
--- there was none once the next input was opened
-pub no_memory_opened : (words : List (List ℕ)) (old mid new : Outside) (below : ℕ) (rest : Course) → Stands words old mid below [] rest → Did [] (with_openings 1 mid) new → KeepsCounts mid new → ((contents : ℕ → List ℕ) → MayStop contents rest [])
+-- there was none while the next input was read
+pub no_memory_opened : (words : List (List ℕ)) (old mid new : Outside) (below : ℕ) (rest : Course) → Stands words old mid below [] rest → Did [] (with_openings 1 mid) new → KeepsCounts mid new → new.at_end ≡ false → ((contents : ℕ → List ℕ) → MayStop contents rest [])
     → Acted words old new (Err OutOfMemory)
-no_memory_opened words old mid new below rest s did counts may =
+no_memory_opened words old mid new below rest s did counts going may =
     memory_out words old new s.opens (suc s.opens) [] rest s.read (opened_more s.opens old mid new s.did did) (KeepsCounts-then old mid new s.counts counts) (did.writing ∙ s.shut) (s.leads s.read (λ w less. refl))
-    (further (λ d. d) old.disk mid.disk new.disk (λ files. LeadsTo (contents_of words files) (course_of words) s.opens [] rest) did.disk s.told) may
+    (further (λ d. d) old.disk mid.disk new.disk (λ files. LeadsTo (contents_of words files) (course_of words) s.opens [] rest) did.disk s.told) may (λ ended contents l. absurd cc)
 
 -- the next input is the one behind those that were opened
 comes_next : (contents : ℕ → List ℕ) (whole : Course) (opens word limit : ℕ) (next : List ℕ → Course) → LeadsTo contents whole opens [] (Input word limit next) → ComesTo contents whole opens word
@@ -254,13 +262,13 @@ not_loaded words old mid new below word limit next loads.TooLarge s later loads 
           (told_back old.disk new.disk (λ files. limit < length (file_content (nth_word words word) files)) did.disk loads.answer));
       shut = λ _. loads.nothing_done.writing ∙ s.shut;
     }
-not_loaded words old mid new below word limit next loads.OutOfMemory s later loads =
-    no_memory_opened words old mid new below (Input word limit next) s loads.nothing_done loads.counts (λ contents. inl refl)
+not_loaded words old mid new below word limit next loads.OutOfMemory s later short =
+    no_memory_opened words old mid new below (Input word limit next) s short.nothing_done short.counts (short.going (λ (e : loads.OutOfMemory ≡ loads.ReadFault). absurd cc)) (λ contents. inl refl)
 
 -- memory may be wanted before a refusal is found
-pub may_stop_unless : {R : Type 0} (fault : R → Fault) (due : Option R) (next : Course) (contents : ℕ → List ℕ) → MayStop contents next [] → MayStop contents (unless fault due next) []
-may_stop_unless fault None next contents h = h
-may_stop_unless fault (Some refusal) next contents h = refl
+pub may_stop_unless : {R : Type 0} (fault : R → Fault) (due : Option R) (next : Course) (contents : ℕ → List ℕ) → IfSome due (λ r. takes_no_memory (fault r) ≡ false) → MayStopHere contents next → MayStopHere contents (unless fault due next)
+may_stop_unless fault None next contents takes h = h
+may_stop_unless fault (Some refusal) next contents takes h = (refl, takes)
 
 -- nothing is refused
 pub goes_on : {R : Type 0} (words : List (List ℕ)) (old new : Outside) (below : ℕ) (done : List Act) (fault : R → Fault) (due : Option R) (next : Course) → Stands words old new below done (unless fault due next) → due ≡ None
@@ -320,6 +328,7 @@ known_lead contents whole opens done fact next is l = record {
   comes = l.comes;
   may_stop = l.may_stop;
   known = λ h. l.known (is, h);
+  undecided = l.undecided;
 }
 
 pub known : (words : List (List ℕ)) (old new : Outside) (below : ℕ) (done : List Act) (fact : Bool) (next : Course) → fact ≡ true → Stands words old new below done (Knows fact next) → Stands words old new below done next
@@ -345,6 +354,7 @@ does_lead contents whole opens done acts next l =
       comes = l.comes;
       may_stop = λ more h. subst (λ (due : List Act). MayStop contents whole due) (sym (append_assoc done acts more)) (l.may_stop (acts ++ more) (inr (more, refl, h)));
       known = l.known;
+      undecided = λ n _. l.undecided n refl;
     }
 
 -- acts were done that lead from one course to another
@@ -397,9 +407,9 @@ one_by_one_comes contents [] next n word h = h
 one_by_one_comes contents (act ∷ acts) next n word h = one_by_one_comes contents acts next n word h
 
 -- memory may be wanted between any two of them
-pub one_by_one_stop : (contents : ℕ → List ℕ) (acts : List Act) (next : Course) → MayStop contents next [] → MayStop contents (one_by_one acts next) []
+pub one_by_one_stop : (contents : ℕ → List ℕ) (acts : List Act) (next : Course) → MayStopHere contents next → MayStopHere contents (one_by_one acts next)
 one_by_one_stop contents [] next h = h
-one_by_one_stop contents (act ∷ acts) next h = inl refl
+one_by_one_stop contents (act ∷ acts) next h = (inl refl, refl)
 
 one_by_one_behind : (contents : ℕ → List ℕ) (acts more : List Act) (next : Course) → MayStop contents next more → MayStop contents (one_by_one acts next) (acts ++ more)
 one_by_one_behind contents [] more next h = h
@@ -409,31 +419,36 @@ one_by_one_known : (contents : ℕ → List ℕ) (acts : List Act) (next : Cours
 one_by_one_known contents [] next h = h
 one_by_one_known contents (act ∷ acts) next h = one_by_one_known contents acts next h
 
-at_once_lead : (contents : ℕ → List ℕ) (whole : Course) (opens : ℕ) (done acts : List Act) (next : Course) → MayStop contents next [] → LeadsTo contents whole opens done (one_by_one acts next) → LeadsTo contents whole opens done (Does acts next)
-at_once_lead contents whole opens done acts next may l = record {
+one_by_one_undecided : (contents : ℕ → List ℕ) (acts : List Act) (next : Course) (n : ℕ) → must_refuse contents next n ≡ false → must_refuse contents (one_by_one acts next) n ≡ false
+one_by_one_undecided contents [] next n h = h
+one_by_one_undecided contents (act ∷ acts) next n h = refl
+
+at_once_lead : (contents : ℕ → List ℕ) (whole : Course) (opens : ℕ) (done acts : List Act) (next : Course) → MayStop contents next [] → ((n : ℕ) → must_refuse contents next n ≡ false) → LeadsTo contents whole opens done (one_by_one acts next) → LeadsTo contents whole opens done (Does acts next)
+at_once_lead contents whole opens done acts next may undecided l = record {
   reply = l.reply ∙ ap (behind done) (one_by_one_reply contents acts next);
   inputs = l.inputs ∙ ap (λ (n : ℕ). opens + n) (one_by_one_inputs contents acts next);
   comes = λ n word h. l.comes n word (one_by_one_comes contents acts next n word h);
   may_stop = λ more h. l.may_stop more (elim h [
-    | inl none ↦ subst (MayStop contents (one_by_one acts next)) (sym none) (one_by_one_stop contents acts next may)
+    | inl none ↦ subst (MayStop contents (one_by_one acts next)) (sym none) (one_by_one_stop contents acts next (may, undecided 0)).0
     | inr some ↦ subst (MayStop contents (one_by_one acts next)) (sym some.1) (one_by_one_behind contents acts some.0 next some.2)
   ]);
   known = λ h. l.known (one_by_one_known contents acts next h);
+  undecided = λ n _. l.undecided n (one_by_one_undecided contents acts next n (undecided n));
 }
 
 -- they are done at once where none of them fails but the last that is begun
-pub at_once : (words : List (List ℕ)) (old new : Outside) (below : ℕ) (done acts : List Act) (next : Course) → ((contents : ℕ → List ℕ) → MayStop contents next []) → Stands words old new below done (one_by_one acts next)
+pub at_once : (words : List (List ℕ)) (old new : Outside) (below : ℕ) (done acts : List Act) (next : Course) → ((contents : ℕ → List ℕ) → MayStop contents next []) → ((contents : ℕ → List ℕ) (n : ℕ) → must_refuse contents next n ≡ false) → Stands words old new below done (one_by_one acts next)
     → Stands words old new below done (Does acts next)
-at_once words old new below done acts next may s = record {
+at_once words old new below done acts next may undecided s = record {
   opens = s.opens;
   did = s.did;
   counts = s.counts;
   idle = s.idle;
   shut = s.shut;
   read = s.read;
-  leads = λ contents agrees. at_once_lead contents (course_of words) s.opens done acts next (may contents) (s.leads contents agrees);
+  leads = λ contents agrees. at_once_lead contents (course_of words) s.opens done acts next (may contents) (undecided contents) (s.leads contents agrees);
   told = weaker old.disk new.disk (λ files. LeadsTo (contents_of words files) (course_of words) s.opens done (one_by_one acts next)) (λ files. LeadsTo (contents_of words files) (course_of words) s.opens done (Does acts next))
-      (λ files. at_once_lead (contents_of words files) (course_of words) s.opens done acts next (may (contents_of words files))) s.told;
+      (λ files. at_once_lead (contents_of words files) (course_of words) s.opens done acts next (may (contents_of words files)) (undecided (contents_of words files))) s.told;
 }
 
 -- an act failed

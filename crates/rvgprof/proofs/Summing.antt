@@ -1,5 +1,5 @@
 -- Profile files were read and added up, as the words ask for it.
-use Rattle.std.proofs.Common.{◌≡◌, ℕ, ◌+◌, ◌-◌, ◌<◌, ◌≤◌, List, [], ◌∷◌, ◌++◌, append-nil, length, Option, Some, None, Err, inl, refl, sym, ap, subst, ◌∙◌, arith}
+use Rattle.std.proofs.Common.{◌≡◌, ℕ, ◌+◌, ◌-◌, ◌<◌, ◌≤◌, false, List, [], ◌∷◌, ◌++◌, append-nil, length, Option, Some, None, Err, inl, refl, sym, ap, subst, ◌∙◌, arith}
 use Rattle.std.specs.Prelude.{IfSome, MatchOption, ⊤}
 use Rattle.std.specs.List.{AllByRecursion, flat_map}
 use Rattle.std.proofs.lemmas.List.Concat.{flat_map-append}
@@ -19,13 +19,13 @@ use Rattle.profile_sum.specs.declared.refusal.SumRefusal.{SumRefusal}
 use Rattle.profile_sum.specs.declared.refusal.SumRefusal.TheVariants as summing
 use Rattle.rvgprof.specs.declared.outcome.Fault.{Fault}
 use Rattle.rvgprof.specs.declared.outcome.Fault.TheVariants.{Unlike}
-use Rattle.rvgprof.specs.Course.{Course, MayStop, unless}
+use Rattle.rvgprof.specs.Course.{Course, takes_no_memory, unless}
 use Rattle.gmon_files.specs.Forms.{file_records}
 use Rattle.host_port.specs.Load.{IsContent}
 use Rattle.rvgprof.specs.Acceptance.{records_of}
 use Rattle.rvgprof.specs.Answer.{profiles, profile_in, add_fault_of, sum_fault_of}
 use Rattle.rvgprof.specs.Contract.{Acted}
-use Rattle.rvgprof.specs.Standing.{HasRead, Stands, MayYetStop, added_up}
+use Rattle.rvgprof.specs.Standing.{HasRead, Stands, MayStopHere, MayYetStop, added_up}
 use Rattle.profile_sum.proofs.ContentLemmas.{content_is_added, content_sum}
 use Rattle.rvgprof.proofs.Standing.{everywhere, told_back, weaker, no_memory, may_stop_unless, refuses, goes_on}
 
@@ -34,13 +34,18 @@ abbrev pub summed_up : ℕ → ℕ → Content → List ℕ → (Content → Cou
 summed_up word left total more next len profile =
     unless (λ unlike. Unlike unlike word) (clash_of total profile) (profiles more (left - len) (sum_of total profile) next)
 
-may_stop_profiles : (contents : ℕ → List ℕ) (more : List ℕ) (left : ℕ) (total : Content) (next : Content → Course) → MayYetStop next → MayStop contents (profiles more left total next) []
+-- a conflict isn't found without memory
+unlike_takes : (word : ℕ) (due : Option Difference) → IfSome due (λ unlike. takes_no_memory (Unlike unlike word) ≡ false)
+unlike_takes word None = tt
+unlike_takes word (Some unlike) = refl
+
+pub may_stop_profiles : (contents : ℕ → List ℕ) (more : List ℕ) (left : ℕ) (total : Content) (next : Content → Course) → MayYetStop next → MayStopHere contents (profiles more left total next)
 may_stop_profiles contents [] left total next may = may contents total
-may_stop_profiles contents (word ∷ more) left total next may = inl refl
+may_stop_profiles contents (word ∷ more) left total next may = (inl refl, refl)
 
 pub may_stop_summed : (word left : ℕ) (total : Content) (more : List ℕ) (next : Content → Course) → MayYetStop next → (len : ℕ) → MayYetStop (summed_up word left total more next len)
 may_stop_summed word left total more next may len = λ contents profile.
-    may_stop_unless (λ unlike. Unlike unlike word) (clash_of total profile) (profiles more (left - len) (sum_of total profile) next) contents
+    may_stop_unless (λ unlike. Unlike unlike word) (clash_of total profile) (profiles more (left - len) (sum_of total profile) next) contents (unlike_takes word (clash_of total profile))
     (may_stop_profiles contents more (left - len) (sum_of total profile) next may)
 
 module _ (words : List (List ℕ)) (start new : Outside) (below word : ℕ) where
@@ -55,7 +60,7 @@ module _ (words : List (List ℕ)) (start new : Outside) (below word : ℕ) wher
     -- they can't be added up
     pub not_added : (refusal : AddRefusal) → IsUnlike refusal conflict → Acted words start new (Err (add_fault_of refusal word))
     not_added adding.OutOfMemory is =
-        no_memory words start new below [] (added_up word next len records) s (λ contents. may_stop_unless fault conflict (next len (profile_in records)) contents (may contents (profile_in records)))
+        no_memory words start new below [] (added_up word next len records) s (λ contents. may_stop_unless fault conflict (next len (profile_in records)) contents (unlike_takes word conflict) (may contents (profile_in records)))
     not_added (adding.Unlike unlike) is = refuses words start new below [] fault conflict (next len (profile_in records)) unlike s is tt
 
     pub one_added : (profile : Content) → conflict ≡ None → profile ≡ with_records (wide_records records.recs) empty_content → Stands words start new below [] (next len profile)
@@ -73,7 +78,7 @@ module _ (words : List (List ℕ)) (start new : Outside) (below word : ℕ) wher
     pub not_summed : (refusal : SumRefusal) → IsClash refusal (clash_of total profile) → Acted words start new (Err (sum_fault_of refusal word))
     not_summed summing.OutOfMemory due =
         no_memory words start new below [] (unless fault (clash_of total profile) rest) s
-        (λ contents. may_stop_unless fault (clash_of total profile) rest contents (may_stop_profiles contents more (left - len) (sum_of total profile) next may))
+        (λ contents. may_stop_unless fault (clash_of total profile) rest contents (unlike_takes word (clash_of total profile)) (may_stop_profiles contents more (left - len) (sum_of total profile) next may))
     not_summed (summing.Unlike unlike) due = refuses words start new below [] fault (clash_of total profile) rest unlike s due tt
 
     pub summed : (sum : Content) → clash_of total profile ≡ None → sum ≡ sum_of total profile → Stands words start new below [] (profiles more (left - len) sum next)

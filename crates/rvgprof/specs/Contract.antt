@@ -10,7 +10,7 @@ use Rattle.elf32_syms.specs.declared.refusal.ElfRefusal.TheVariants as elf
 use Rattle.gp_base.specs.declared.refusal.GmonRefusal.TheVariants as gmons
 use Rattle.rvgprof.specs.declared.outcome.Fault.TheVariants.{Usage, BadElf, BadProfile, Unlike, TooWide, TooLarge, ProgramTooLarge, EntryOutside, ReadFault, WriteFault, OutOfMemory}
 use Rattle.command_words.specs.Words.{command_of}
-use Rattle.rvgprof.specs.Course.{reply_to, inputs_of, AllKnown, ComesTo, MayStop}
+use Rattle.rvgprof.specs.Course.{reply_to, inputs_of, must_refuse, AllKnown, ComesTo, MayStop}
 use Rattle.rvgprof.specs.Answer.{course_of, contents_of}
 
 -- a call that reads failed, and no other; none followed it but calls that complain
@@ -35,6 +35,10 @@ pub record IsReply (words : List (List ℕ)) (contents : ℕ → List ℕ) (old 
   -- all that is known on the way is so
   pub known : AllKnown contents (course_of words)
 
+-- where the last input that was opened was read to its end, there is no refusal that takes no memory
+abbrev pub IsUndecided : List (List ℕ) → (ℕ → List ℕ) → Outside → ℕ → Type 0
+IsUndecided words contents new opens = new.at_end ≡ true → must_refuse contents (course_of words) opens ≡ false
+
 -- by the answer: what was done, which counts of faults rose, and how many inputs were opened, but after a fault of a write
 -- and want of memory
 abbrev pub Owes : List (List ℕ) → (ℕ → List ℕ) → Outside → Outside → ℕ → List Act → Result Done Fault → Type 0
@@ -45,7 +49,7 @@ Owes words contents old new opens done (Err (ReadFault word)) =
 Owes words contents old new opens done (Err WriteFault) =
     (act : Act) × FailedAt act done (reply_to contents (course_of words)).acts × ActFailed act old new
 Owes words contents old new opens done (Err OutOfMemory) =
-    MayStop contents (course_of words) done × KeepsCounts old new
+    MayStop contents (course_of words) done × KeepsCounts old new × IsUndecided words contents new opens
 Owes words contents old new opens done (Err (BadElf refusal)) =
     IsReply words contents old new opens done (Err (BadElf refusal))
 Owes words contents old new opens done (Err (BadProfile refusal word)) =

@@ -45,7 +45,7 @@ returns-then-n-left g c =
     let few = c.in_ok-n.ensures.few in
     let front : length (take n buf) ≡ n = omega (arith, length-take n buf, few, c.min.ensures, c.in_ok-n.ensures.room, was.room) in
     too_large c.args.name.now c.args.limit n far.0 c.loop-n.piece buf (g.H.Host.outside c.args.host.now) (g.H.Host.outside c.loop-n.host) (g.H.Host.outside c.read_front.new.host) far.1 c.in_ok-n.ensures.moves c.in_ok-n.ensures.counts
-    front (g.met.H.Host.consistent c.read_front.new.host) (omega (arith, far.3, c.if-n-left.true, was.within)) (omega (arith, far.3, was.within, few, c.min.ensures))
+    front (g.met.H.Host.consistent c.read_front.new.host) (omega (arith, far.3, c.if-n-left.true, was.within)) (omega (arith, far.3, was.within, few, c.min.ensures)) (c.in_ok-n.ensures.moves.at_end ∙ ne_eqb n 0 c.if-n-eq0.false)
 
 pub take-requires : goal.take-requires
 take-requires g c =
@@ -62,7 +62,7 @@ returns-in_err-taker g c =
     let buf = c.read_front.new.piece in
     let front : length (take n buf) ≡ n = omega (arith, length-take n buf, c.in_ok-n.ensures.few, c.min.ensures, c.in_ok-n.ensures.room, was.room) in
     rw (p.1, p.2) (not_taken c.args.name.now c.args.limit n far.0 c.loop-n.piece buf (g.H.Host.outside c.args.host.now) (g.H.Host.outside c.loop-n.host) (g.H.Host.outside c.read_front.new.host) far.1 c.in_ok-n.ensures.moves c.in_ok-n.ensures.counts
-    front (g.met.H.Host.consistent c.read_front.new.host) (omega (arith, far.3, c.if-n-left.false, was.within)))
+    front (g.met.H.Host.consistent c.read_front.new.host) (omega (arith, far.3, c.if-n-left.false, was.within)) (c.in_ok-n.ensures.moves.at_end ∙ ne_eqb n 0 c.if-n-eq0.false))
 
 pub loop-n-preserved : goal.loop-n-preserved
 loop-n-preserved g c =

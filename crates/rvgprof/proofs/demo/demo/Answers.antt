@@ -1,5 +1,6 @@
 use Rattle.std.proofs.Common.{refl}
 use Rattle.std.specs.Option.{option_map}
+use Rattle.demo_laws.proofs.DemoLemmas.{demo_accepted}
 use Rattle.command_words.specs.Items.{nth_word}
 use Rattle.rvgprof.proofs.Accepting.{no_demo}
 use Rattle.rvgprof.proofs.Demonstrating.{demo_ran, demo_not_written}
@@ -8,7 +9,7 @@ use Rattle.rvgprof.proofs.demo.demo.Goals as goal
 pub returns-in-Err : goal.returns-in-Err
 returns-in-Err g c =
     let r = c.in-Err.ensures.refused in
-    rw r.1 (no_demo c.args.words.now _ _ c.args.functions _ _ r.0 c.requires.stands r.2)
+    rw r.1 (no_demo c.args.words.now _ _ c.args.functions _ _ r.0 c.requires.stands r.2 (demo_accepted c.args.functions c.requires.few).accepted)
 
 pub returns-in-Ok-write_program : goal.returns-in-Ok-write_program
 returns-in-Ok-write_program g c =

@@ -18,13 +18,13 @@ pub returns-in_err-total : goal.returns-in_err-total
 returns-in_err-total g c = λ words start below done bytes setup is rate s.
     let image = c.args.image.now in
     let p = err_from_is_err_and c.from_residual.result c.from_residual.ensures.1 in
-    rw (p.1, p.2) (no_memory words start _ below done (demo_lines c.args.functions c.args.rate image (sizes_of image.text setup.hist setup.hash) (final_world image bytes setup)) s (λ contents. inl refl))
+    rw (p.1, p.2) (no_memory words start _ below done (demo_lines c.args.functions c.args.rate image (sizes_of image.text setup.hist setup.hash) (final_world image bytes setup)) s (λ contents. (inl refl, refl)))
 
 pub returns-in_err-findings : goal.returns-in_err-findings
 returns-in_err-findings g c = λ words start below done bytes setup is rate s.
     let image = c.args.image.now in
     let p = err_from_is_err_and c.from_residual-in_err-findings.result c.from_residual-in_err-findings.ensures.1 in
-    rw (p.1, p.2) (no_memory words start _ below done (demo_lines c.args.functions c.args.rate image (sizes_of image.text setup.hist setup.hash) (final_world image bytes setup)) s (λ contents. inl refl))
+    rw (p.1, p.2) (no_memory words start _ below done (demo_lines c.args.functions c.args.rate image (sizes_of image.text setup.hist setup.hash) (final_world image bytes setup)) s (λ contents. (inl refl, refl)))
 
 pub returns : goal.returns
 returns g c = λ words start below done bytes setup is rate s.

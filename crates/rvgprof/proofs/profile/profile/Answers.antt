@@ -1,4 +1,4 @@
-use Rattle.std.proofs.Common.{◌≡◌, [], ◌+◌, ℕ, List, arith, ◌∙◌}
+use Rattle.std.proofs.Common.{◌≡◌, [], ◌+◌, ℕ, List, inl, refl, arith, ◌∙◌}
 use Rattle.elf32_syms.specs.declared.image.Image.{Image}
 use Rattle.mcount_arcs.specs.Sizes.{sizes_of}
 use Rattle.prof_machine.specs.Start.{final_world}
@@ -6,7 +6,7 @@ use Rattle.rvgprof.specs.Answer.{chosen_by, files_named, logged_profile, report_
 use Rattle.rvgprof.specs.Course.{Course}
 use Rattle.rvgprof.proofs.Profiling.{profile_written}
 use Rattle.rvgprof.proofs.Reporting.{may_stop_reports, of_the_same}
-use Rattle.rvgprof.proofs.Running.{run_told}
+use Rattle.rvgprof.proofs.Running.{may_stop_start, run_told}
 use Rattle.rvgprof.proofs.Standing.{no_memory}
 use Rattle.rvgprof.proofs.profile.profile.Goals as goal
 
@@ -14,7 +14,7 @@ pub returns-in-Err : goal.returns-in-Err
 returns-in-Err g c =
     let files = files_named c.args.words.now c.args.outputs.gmon c.args.outputs.form c.args.outputs.memory in
     let next : List ℕ → Image → Course = λ bytes image. run_program (run_acts files c.args.setup) c.args.setup (report_run c.args.setup.rate (chosen_by c.args.words.now c.args.selection.now) image) bytes image in
-    c.in-Err.ensures.reads _ 0 next (omega arith) c.requires.stands
+    c.in-Err.ensures.reads _ 0 next (omega arith) c.requires.stands (λ contents bytes image. may_stop_start image c.args.setup _ contents (inl refl, refl))
 
 pub returns-in-Err-ran : goal.returns-in-Err-ran
 returns-in-Err-ran g c =

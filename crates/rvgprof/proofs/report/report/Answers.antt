@@ -1,14 +1,18 @@
 use Rattle.std.proofs.Common.{[], ◌+◌, None, Ok, arith}
-use Rattle.gmon_data.specs.Content.{Content}
+use Rattle.gp_base.specs.declared.limits.TheConstants.{MAX_PROFILE_BYTES}
+use Rattle.gmon_data.specs.Content.{Content, empty_content}
 use Rattle.rvgprof.specs.Course.{Course}
 use Rattle.rvgprof.specs.Answer.{chosen_by, end_course, print_reports, report_profiles}
 use Rattle.rvgprof.proofs.Reporting.{may_stop_reports}
 use Rattle.rvgprof.proofs.Standing.{ends}
-use Rattle.rvgprof.proofs.Summing.{all_behind}
+use Rattle.rvgprof.proofs.Summing.{all_behind, may_stop_profiles}
 use Rattle.rvgprof.proofs.report.report.Goals as goal
 
 pub returns-in-Err : goal.returns-in-Err
-returns-in-Err g c = c.in-Err.ensures.reads _ 0 (report_profiles c.args.gmons.now (chosen_by c.args.words.now c.args.selection.now)) (omega arith) c.requires.stands
+returns-in-Err g c =
+    let chosen = chosen_by c.args.words.now c.args.selection.now in
+    c.in-Err.ensures.reads _ 0 (report_profiles c.args.gmons.now chosen) (omega arith) c.requires.stands
+    (λ contents bytes image. may_stop_profiles contents c.args.gmons.now MAX_PROFILE_BYTES empty_content (λ total. print_reports chosen image total end_course) (λ contents total. may_stop_reports chosen image total end_course contents))
 
 pub returns-in-Err-read_profiles : goal.returns-in-Err-read_profiles
 returns-in-Err-read_profiles g c =

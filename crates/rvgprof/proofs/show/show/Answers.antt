@@ -2,8 +2,7 @@ use Rattle.std.proofs.Common.{arith, [], ◌∷◌, ◌+◌, None, refl}
 use Rattle.gp_base.specs.declared.limits.TheConstants.{MAX_PROFILE_BYTES}
 use Rattle.host_port.specs.Act.{Out}
 use Rattle.host_port.specs.declared.side.Side.TheVariants.{Output}
-use Rattle.gmon_cells.proofs.RefusalLemmas.{given_one}
-use Rattle.gmon_files.specs.Forms.{file_records, file_refusal}
+use Rattle.gmon_files.specs.Forms.{file_records}
 use Rattle.text_lines.specs.Lines.{show_text}
 use Rattle.rvgprof.specs.Answer.{end_course, show_lines}
 use Rattle.rvgprof.proofs.Accepting.{a_profile, no_profile}
@@ -22,7 +21,7 @@ returns-in-Err-records g c =
     let r = rw c.name.ensures at c.in-Ok.ensures.read in
     let refusal = c.in-Err-records.refusal in
     let refused = c.in-Err-records.ensures.refused r.0 r.2 in
-    rw c.profile_fault.ensures (no_profile c.args.words.now _ _ _ 0 c.args.gmon MAX_PROFILE_BYTES show_lines r.0 refusal c.requires (omega arith) r.1 (given_one refusal (file_refusal r.0) refused))
+    rw c.profile_fault.ensures (no_profile c.args.words.now _ _ _ 0 c.args.gmon MAX_PROFILE_BYTES show_lines r.0 refusal c.requires (omega arith) r.1 refused)
 
 pub returns-in-Ok-show_file : goal.returns-in-Ok-show_file
 returns-in-Ok-show_file g c =

@@ -6,13 +6,15 @@ use Rattle.prof_machine.specs.Start.{final_world}
 use Rattle.mcount_arcs.specs.Sizes.{sizes_of}
 use Rattle.rvgprof.specs.Answer.{fold_program, sums_up}
 use Rattle.rvgprof.specs.FoldedReport.{folded_report}
-use Rattle.rvgprof.proofs.Folding.{text_is}
-use Rattle.rvgprof.proofs.Running.{run_told}
+use Rattle.rvgprof.proofs.Folding.{may_stop_folding, text_is}
+use Rattle.rvgprof.proofs.Running.{may_stop_start, run_told}
 use Rattle.rvgprof.proofs.Standing.{does, fails}
 use Rattle.rvgprof.proofs.stacks.print_stacks.Goals as goal
 
 pub returns-in-Err : goal.returns-in-Err
-returns-in-Err g c = c.in-Err.ensures.reads _ 0 (fold_program c.args.inclusive c.args.setup) (omega arith) c.requires.stands
+returns-in-Err g c =
+    c.in-Err.ensures.reads _ 0 (fold_program c.args.inclusive c.args.setup) (omega arith) c.requires.stands
+    (λ contents bytes image. may_stop_start image c.args.setup _ contents (may_stop_folding c.args.inclusive image bytes c.args.setup contents))
 
 pub returns-in-Err-fold_program : goal.returns-in-Err-fold_program
 returns-in-Err-fold_program g c =

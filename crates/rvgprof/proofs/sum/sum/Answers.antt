@@ -13,19 +13,19 @@ use Rattle.rvgprof.proofs.sum.sum.Goals as goal
 pub returns-in-Err-clause-acted : goal.returns-in-Err-clause-acted
 returns-in-Err-clause-acted g c =
     let words = c.args.words.now in
-    c.in-Err.ensures.reads _ 0 (sum_file (nth_word words c.args.out)) (λ contents total. inl refl) (all_from_0 c.args.gmons.now) c.requires.stands
+    c.in-Err.ensures.reads _ 0 (sum_file (nth_word words c.args.out)) (λ contents total. (inl refl, refl)) (all_from_0 c.args.gmons.now) c.requires.stands
 
 pub returns-in-Ok-write_profile-clause-acted : goal.returns-in-Ok-write_profile-clause-acted
 returns-in-Ok-write_profile-clause-acted g c =
     let words = c.args.words.now in
-    let s = c.in-Ok.ensures.reads _ 0 (sum_file (nth_word words c.args.out)) (λ contents total. inl refl) (all_from_0 c.args.gmons.now) c.requires.stands in
+    let s = c.in-Ok.ensures.reads _ 0 (sum_file (nth_word words c.args.out)) (λ contents total. (inl refl, refl)) (all_from_0 c.args.gmons.now) c.requires.stands in
     let performs = rw c.name.ensures at c.in-Ok-write_profile.ensures in
     last_acts words _ _ _ s.0 [] (file_acts (nth_word words c.args.out) (profile_text c.in-Ok.total)) (record { run = None }) tt s.1 performs refl
 
 pub returns-clause-acted : goal.returns-clause-acted
 returns-clause-acted g c =
     let words = c.args.words.now in
-    let s = c.in-Ok.ensures.reads _ 0 (sum_file (nth_word words c.args.out)) (λ contents total. inl refl) (all_from_0 c.args.gmons.now) c.requires.stands in
+    let s = c.in-Ok.ensures.reads _ 0 (sum_file (nth_word words c.args.out)) (λ contents total. (inl refl, refl)) (all_from_0 c.args.gmons.now) c.requires.stands in
     let performs = rw c.name.ensures at c.in-Err-write_profile.ensures in
     fails words _ _ _ s.0 [] (file_acts (nth_word words c.args.out) (profile_text c.in-Ok.total)) end_course c.in-Err-write_profile.field-0 s.1 performs
 

@@ -1,4 +1,4 @@
-use Rattle.std.proofs.Common.{arith, [], ◌∷◌, ◌+◌, None, refl}
+use Rattle.std.proofs.Common.{arith, [], ◌∷◌, ◌+◌, None, inl, refl}
 use Rattle.host_port.specs.Act.{Out}
 use Rattle.host_port.specs.declared.side.Side.TheVariants.{Output}
 use Rattle.text_lines.specs.Lines.{image_text}
@@ -9,7 +9,7 @@ use Rattle.rvgprof.proofs.Performing.{last_acts}
 use Rattle.rvgprof.proofs.syms.syms.Goals as goal
 
 pub returns-in-Err : goal.returns-in-Err
-returns-in-Err g c = c.in-Err.ensures.reads _ 0 syms_lines (omega arith) c.requires
+returns-in-Err g c = c.in-Err.ensures.reads _ 0 syms_lines (omega arith) c.requires (λ contents bytes image. (inl refl, refl))
 
 pub returns-in-Ok-show_image : goal.returns-in-Ok-show_image
 returns-in-Ok-show_image g c =
