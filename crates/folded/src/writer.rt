@@ -17,6 +17,8 @@ use text_cols::Line;
 /// Prints a line for each stack: the functions' names with `;` between them, `[unknown]` where no function
 /// has a call, and the number of samples. With `inclusive` it prints a line for each function that samples
 /// have. The symbols are as many as the functions. Takes no memory.
+// It isn't inlined: the callers' text and the lines take 12 KiB of its frame.
+#[inline(never)]
 pub fn write<H: Host>(
     folded: &Folded,
     symbols: &[Symbol],
