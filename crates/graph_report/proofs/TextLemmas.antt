@@ -1,5 +1,5 @@
 -- The parts of texts.
-use Rattle.std.proofs.Common.{◌≡◌, ◌≢◌, ◌<◌, ℕ, true, false, List, [], ◌∷◌, ◌++◌, length, append_assoc, refl, sym, ap, ◌∙◌, arith}
+use Rattle.std.proofs.Common.{◌≡◌, ◌≢◌, ◌<◌, ℕ, true, false, cond, eqb, Option, Some, None, List, [], ◌∷◌, ◌++◌, length, append_assoc, refl, sym, ap, ◌∙◌, arith}
 use Rattle.std.specs.Prelude.{◌==◌, codes, decimal, filter, not, Bool}
 use Rattle.std.specs.List.{All, flat_map}
 use Rattle.std.proofs.lemmas.Bool.{eq-eqb, ne_eqb, false≢true}
@@ -8,11 +8,12 @@ use Rattle.std.proofs.lemmas.List.Elements.{All-filter}
 use Rattle.std.proofs.lemmas.List.FromFn.{get_or-range_with_len, length-range_with_len}
 use Rattle.text_cols.specs.Columns.{right_of, spaces}
 use Rattle.call_cycles.specs.Sums.{numbers_below}
-use Rattle.call_cycles.specs.Graph.{arc_at, component_of, entering_of}
+use Rattle.call_cycles.specs.declared.graphs.FunArc.{FunArc}
+use Rattle.call_cycles.specs.Graph.{GraphValue, arc_at, component_of, entering_of}
 use Rattle.flat_report.specs.FlatText.{seconds_of}
 use Rattle.flat_report.specs.Sources.{Sources, name_of}
 use Rattle.graph_report.specs.ArcLines.{arc_text, function_at_end, label_at, line_by}
-use Rattle.graph_report.specs.ArcTimes.{AreTimes, arc_times, times_columns}
+use Rattle.graph_report.specs.ArcTimes.{AreTimes, arc_times, entering_calls, times_columns}
 use Rattle.graph_report.specs.GraphText.{arc_columns, arcs_from, arcs_into, arcs_to, bracket_text, callee_line, caller_line, callers_text, calls_of_all, cycle_mark, cycle_text, front_columns, function_columns, function_name, function_text, member_line, members_of, other_line, rule, primary_line, timed_columns, untimed_columns}
 use Rattle.graph_report.specs.Subjects.{cycle_line, function_line}
 use Rattle.graph_report.specs.declared.batch.ArcEnd.{ArcEnd}
@@ -103,19 +104,38 @@ pub timed_whole : (before : List ℕ) (rate own child : ℕ) (called : List ℕ)
 unfolding timed_columns
 timed_whole before rate own child called = append_assoc before (right_of (seconds_of rate own) 12 ++ right_of (seconds_of rate child) 12) (right_of called 22)
 
-module _ (s : Sources) (t : ArcTimes) (c d : ℕ) (source : c ≡ component_of s.graph t.arc.caller) (target : d ≡ component_of s.graph t.arc.callee) where
-  pub is_outside_arc : c ≢ d → not (component_of s.graph t.arc.caller == component_of s.graph t.arc.callee) ≡ true
-  is_outside_arc apart = ap not (ne_eqb (component_of s.graph t.arc.caller) (component_of s.graph t.arc.callee) (λ q. apart (source ∙ q ∙ sym target)))
+none_inside : (b : Bool) (n : ℕ) → cond b None (Some n) ≡ None → b ≡ true
+none_inside true n none = refl
+none_inside false n none = absurd cc
 
-  pub inside_columns : c ≡ d → untimed_columns (decimal t.arc.count) ≡ times_columns s t
-  unfolding arc_columns
-  inside_columns same = rw (eq-eqb (component_of s.graph t.arc.caller) (component_of s.graph t.arc.callee) (sym source ∙ same ∙ target)) refl
+some_outside : (b : Bool) (n all : ℕ) → cond b None (Some n) ≡ Some all → (b ≡ false) × (all ≡ n)
+some_outside true n all some = absurd cc
+some_outside false n all some = (refl, cc)
 
-  pub outside_columns : (all : ℕ) → c ≢ d → all ≡ entering_of s.graph d → timed_columns s.rate t.own t.child (calls_of_all t.arc.count all) ≡ times_columns s t
+-- what is looked up of an arc between components
+pub outside_calls : (g : GraphValue) (arc : FunArc) (c d all : ℕ) → c ≡ component_of g arc.caller → d ≡ component_of g arc.callee → c ≢ d → all ≡ entering_of g d → Some all ≡ entering_calls g arc
+outside_calls g arc c d all source target apart is =
+    let part : all ≡ entering_of g (component_of g arc.callee) = is ∙ ap (entering_of g) target in
+    rw (ne_eqb (component_of g arc.caller) (component_of g arc.callee) (λ q. apart (source ∙ q ∙ sym target)), part) refl
+
+-- the columns of an arc, by the calls that enter its callee's component
+module _ (s : Sources) (t : ArcTimes) (are : t.entering ≡ entering_calls s.graph t.arc) where
+  abbrev inside : Bool
+  inside = eqb (component_of s.graph t.arc.caller) (component_of s.graph t.arc.callee)
+
+  outside : (all : ℕ) → t.entering ≡ Some all → (inside ≡ false) × (all ≡ entering_of s.graph (component_of s.graph t.arc.callee))
+  outside all some = some_outside inside (entering_of s.graph (component_of s.graph t.arc.callee)) all (sym are ∙ some)
+
+  pub is_outside_arc : (all : ℕ) → t.entering ≡ Some all → not inside ≡ true
+  is_outside_arc all some = ap not (outside all some).0
+
+  pub inside_columns : t.entering ≡ None → untimed_columns (decimal t.arc.count) ≡ times_columns s t
   unfolding arc_columns
-  outside_columns all apart is_all =
-      let part : all ≡ entering_of s.graph (component_of s.graph t.arc.callee) = is_all ∙ ap (entering_of s.graph) target in
-      rw (is_outside_arc apart, part) refl
+  inside_columns none = rw (none_inside inside (entering_of s.graph (component_of s.graph t.arc.callee)) (sym are ∙ none)) refl
+
+  pub outside_columns : (all : ℕ) → t.entering ≡ Some all → timed_columns s.rate t.own t.child (calls_of_all t.arc.count all) ≡ times_columns s t
+  unfolding arc_columns
+  outside_columns all some = let h = outside all some in rw (h.0, h.1) refl
 
 -- ---- entries
 

@@ -39,6 +39,7 @@ module _ (s : Sources) (are : AreOfOne s) where
   times_within small i low = record {
     caller = are.graph.arcs.callers i low;
     callee = are.graph.arcs.callees i low;
+    entering = refl;
     small = λ outside. let all = arc_within i low outside in (omega arith, omega arith);
   }
 
@@ -57,6 +58,7 @@ module _ (i : Inputs) where
   times_small k low = record {
     caller = ∥∥₁_elim i.graph le_prop (λ is. (times is).caller);
     callee = ∥∥₁_elim i.graph le_prop (λ is. (times is).callee);
+    entering = refl;
     small = λ outside. (∥∥₁_elim i.graph le_prop (λ is. ((times is).small outside).0), ∥∥₁_elim i.graph le_prop (λ is. ((times is).small outside).1));
   }
     where

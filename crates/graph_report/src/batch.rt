@@ -27,6 +27,7 @@ const NO_TIMES: ArcTimes = ArcTimes {
     },
     own: 0,
     child: 0,
+    entering: None,
 };
 
 /// Which end of an arc a line names.

@@ -18,15 +18,14 @@ pub(crate) fn put_arc(line: &mut Line, inputs: &Inputs<'_>, times: &ArcTimes)
     ensures text { line.new ≡ line.old ++ times_columns (sources_in inputs.now) times.now }
     ensures short { length line.new ≤ length line.old + 128 }
 {
-    let a = times.arc;
-    let c = inputs.sources.graph.component(a.caller);
-    let d = inputs.sources.graph.component(a.callee);
-    if c == d {
-        line::put_untimed(line, a.count);
-        return;
+    let count = times.arc.count;
+    match times.entering {
+        None => line::put_untimed(line, count),
+        Some(entering) => {
+            line::put_times(line, inputs.sources.rate, times.own, times.child);
+            line::put_calls_of_entering(line, count, entering);
+        }
     }
-    line::put_times(line, inputs.sources.rate, times.own, times.child);
-    line::put_calls_of_entering(line, a.count, inputs.sources.graph.entering(d));
 }
 
 /// Adds a function's own time, what it gets from those that it calls, and its calls by others and by itself.

@@ -6,7 +6,6 @@ ghost use Rattle.call_cycles.specs.Graph.{IsGraph, all_calls};
 ghost use Rattle.symbol_shares.specs.Shares.{attributed_of};
 ghost use Rattle.graph_report.specs.Tables.{AreTables};
 
-use crate::keys::is_inside;
 use crate::tables::Tables;
 use call_cycles::FunArc;
 use flat_report::Sources;
@@ -17,6 +16,8 @@ pub(crate) struct ArcTimes {
     pub arc: FunArc,
     pub own: u128,
     pub child: u128,
+    /// The calls that enter the callee's component. An arc inside a component has none.
+    pub entering: Option<u64>,
 }
 
 /// The sources of a report, which are of one program and in the ranges of a report's numbers, and the tables of
@@ -120,18 +121,22 @@ impl<'a> Inputs<'a> {
         ensures value { result ≡ arc_times (sources_in self.now) i }
         ensures times { AreTimes (sources_in self.now) result }
     {
-        let arc = self.sources.graph.arc(i);
-        if is_inside(self.sources.graph, arc) {
+        let graph = self.sources.graph;
+        let arc = graph.arc(i);
+        let entered = graph.component(arc.callee);
+        if graph.component(arc.caller) == entered {
             return ArcTimes {
                 arc,
                 own: 0,
                 child: 0,
+                entering: None,
             };
         }
         ArcTimes {
             arc,
             own: self.sources.flow.arc_self(i),
             child: self.sources.flow.arc_child(i),
+            entering: Some(graph.entering(entered)),
         }
     }
 

@@ -4,25 +4,23 @@ use Rattle.graph_report.specs.Inputs.{sources_in}
 use Rattle.graph_report.proofs.TextLemmas.{inside_columns, is_outside_arc, outside_columns, timed_whole}
 use Rattle.graph_report.proofs.columns.put_arc.Goals as goal
 
-pub returns-then-c-d-clause-text : goal.returns-then-c-d-clause-text
-returns-then-c-d-clause-text c =
+pub returns-in-None-clause-text : goal.returns-in-None-clause-text
+returns-in-None-clause-text c =
     let s = sources_in c.args.inputs.now in
-    c.put_untimed.ensures.text ∙ ap (λ (t : List ℕ). c.args.line.now ++ t) (inside_columns s c.args.times.now _ _ c.component-c.ensures.value c.component-d.ensures.value c.if-c-d.true)
+    c.put_untimed.ensures.text ∙ ap (λ (t : List ℕ). c.args.line.now ++ t) (inside_columns s c.args.times.now c.requires.times.entering c.in-None.is)
 
 pub put_times-requires-clause-own : goal.put_times-requires-clause-own
 put_times-requires-clause-own c =
-    let s = sources_in c.args.inputs.now in
-    (c.requires.times.small (is_outside_arc s c.args.times.now _ _ c.component-c.ensures.value c.component-d.ensures.value c.if-c-d.false)).0
+    (c.requires.times.small (is_outside_arc (sources_in c.args.inputs.now) c.args.times.now c.requires.times.entering c.in-Some.entering c.in-Some.is)).0
 
 pub put_times-requires-clause-child : goal.put_times-requires-clause-child
 put_times-requires-clause-child c =
-    let s = sources_in c.args.inputs.now in
-    (c.requires.times.small (is_outside_arc s c.args.times.now _ _ c.component-c.ensures.value c.component-d.ensures.value c.if-c-d.false)).1
+    (c.requires.times.small (is_outside_arc (sources_in c.args.inputs.now) c.args.times.now c.requires.times.entering c.in-Some.entering c.in-Some.is)).1
 
-pub returns-clause-text : goal.returns-clause-text
-returns-clause-text c =
+pub returns-in-Some-clause-text : goal.returns-in-Some-clause-text
+returns-in-Some-clause-text c =
     let s = sources_in c.args.inputs.now in
     let t = c.args.times.now in
     rw (c.put_calls_of_entering.ensures.text, c.put_times.ensures.text)
-    (timed_whole c.args.line.now s.rate t.own t.child (calls_of_all t.arc.count c.entering.result)
-    ∙ ap (λ (text : List ℕ). c.args.line.now ++ text) (outside_columns s t _ _ c.component-c.ensures.value c.component-d.ensures.value c.entering.result c.if-c-d.false c.entering.ensures))
+    (timed_whole c.args.line.now s.rate t.own t.child (calls_of_all t.arc.count c.in-Some.entering)
+    ∙ ap (λ (text : List ℕ). c.args.line.now ++ text) (outside_columns s t c.requires.times.entering c.in-Some.entering c.in-Some.is))
