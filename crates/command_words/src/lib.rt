@@ -14,6 +14,3 @@ pub mod words;
 pub use names::Words;
 pub use places::Places;
 pub use words::{Command, Selection, Shown, read_command};
-
-#[cfg(test)]
-mod tests;

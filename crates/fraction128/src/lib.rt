@@ -11,6 +11,3 @@ pub mod order;
 pub mod values;
 
 pub use fracs::Frac;
-
-#[cfg(test)]
-mod tests;

@@ -15,6 +15,3 @@ pub use items::{BlockList, Counts, Items, Name, RecList, Totals};
 pub use quotients::quotient;
 pub use records::{Form, RawArc, RawBlock, RawHist, Rec, Records, Span, Unit};
 pub use refusal::GmonRefusal;
-
-#[cfg(test)]
-mod tests;

@@ -19,6 +19,3 @@ pub use mem_host::{HostCall, MemHost};
 pub use never_fails::NeverFails;
 pub use pieces::{err_all_of, out_all_of, write_all_of};
 pub use whole_file::{LoadRefusal, TakesPieces, load, read_all, read_front};
-
-#[cfg(test)]
-mod tests;

@@ -4,6 +4,3 @@
 pub mod columns;
 
 pub use columns::{Line, hex_digit};
-
-#[cfg(test)]
-mod tests;

@@ -8,6 +8,3 @@ pub mod records;
 
 pub use program::show_image;
 pub use records::{show_file, show_records};
-
-#[cfg(test)]
-mod tests;

@@ -1,4 +1,4 @@
-use super::*;
+use host_port::*;
 use std::alloc::{AllocError, Global};
 use std::test::Fail;
 

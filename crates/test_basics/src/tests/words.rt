@@ -1,4 +1,4 @@
-use super::*;
+use command_words::*;
 use gp_base::Form;
 use prof_machine::{Plan, Setup};
 use std::alloc::{AllocError, Global};

@@ -1,4 +1,4 @@
-use super::*;
+use text_lines::*;
 use elf32_syms::{Image, SegmentList, Symbol, SymbolList};
 use gmon_files::FileReader;
 use gp_base::{

@@ -1,4 +1,4 @@
-use super::*;
+use gp_base::*;
 use std::test::Fail;
 
 #[test]

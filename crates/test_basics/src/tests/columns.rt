@@ -1,7 +1,7 @@
-use super::*;
+use text_cols::*;
 
 #[test]
-#[tactic(auto, using(crate::proofs::Lengths::lengths))]
+#[tactic(auto, using(text_cols::proofs::Lengths::lengths))]
 fn quotients_in_hundredths(rt: HostRuntime) {
     for (num, den, want) in [
         (5, 100, b"0.05".as_slice()),
@@ -25,7 +25,7 @@ fn quotients_in_hundredths(rt: HostRuntime) {
 }
 
 #[test]
-#[tactic(auto, using(crate::proofs::Lengths::lengths))]
+#[tactic(auto, using(text_cols::proofs::Lengths::lengths))]
 fn numbers_at_the_right(rt: HostRuntime) {
     for (n, want) in [
         (0, b"    0".as_slice()),
@@ -103,7 +103,7 @@ fn columns_of_text(rt: HostRuntime) {
 }
 
 #[test]
-#[tactic(auto, using(crate::proofs::Lengths::lengths))]
+#[tactic(auto, using(text_cols::proofs::Lengths::lengths))]
 fn numbers_and_room(rt: HostRuntime) {
     let mut line = Line::new();
     line.put(b"n ");

@@ -1,4 +1,4 @@
-use super::*;
+use fraction128::*;
 use std::cmp::Ordering;
 use std::test::Fail;
 

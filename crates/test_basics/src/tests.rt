@@ -1,0 +1,6 @@
+mod columns;
+mod fractions;
+mod hosts;
+mod lines;
+mod numbers;
+mod words;
