@@ -4,6 +4,9 @@ ghost use Rattle.std.specs.Prelude.{◌≡◌, ℕ, List, [], ◌+◌, ◌^◌, 
 ghost use Rattle.gp_base.specs.Refusal.{IsRefusal};
 ghost use Rattle.gmon_data.specs.Content.{conflict_of, content_of, empty_content};
 ghost use Rattle.gmon_data.specs.Refusals.{IsReadRefusal};
+ghost use Rattle.gmon_data.specs.declared.refusal.AddRefusal.TheVariants.{Unlike};
+ghost use Rattle.gmon_data.specs.declared.refusal.ReadRefusal.TheVariants as read_refusal;
+ghost use Rattle.gmon_gnu.specs.FirstHists.{conflict_among_first};
 ghost use Rattle.gmon_files.specs.Forms.{file_records, file_refusal, FileSpells};
 ghost use Rattle.gmon_files.specs.Viewed.{records_left};
 ghost use Rattle.gmon_files.specs.FileRead.{spelled_records, FitsProfile, StandsFor, len_of, IsFed, IsReadFrom};
@@ -114,7 +117,8 @@ impl FileReader {
     }
 
     /// The profile of the records that the bytes spell, without a list of them. It answers the file's first refusal,
-    /// before memory is taken, or else the first refusal of `Profile::add_records` in the order of the file.
+    /// before memory is taken, or else the first refusal of `Profile::add_records` in the order of the file. A
+    /// conflict among the first 64 histograms with counters is told, and never want of memory.
     pub fn into_profile(self) -> Result<Profile, ReadRefusal>
         requires fed { IsFed self }
         requires fits { FitsProfile self }
@@ -127,6 +131,9 @@ impl FileReader {
         ensures refusal { (bytes : List ℕ) → StandsFor bytes self
             → IfErr result (λ refusal. IsReadRefusal refusal (file_refusal bytes)
             (conflict_of empty_content (spelled_records bytes))) }
+        ensures told { (bytes : List ℕ) → StandsFor bytes self → file_refusal bytes ≡ None
+            → IfSome (conflict_among_first 64 (spelled_records bytes))
+            (λ unlike. result ≡ Err (read_refusal.Profile (Unlike unlike))) }
     {
         match self {
             FileReader::Front(front) => Err(ReadRefusal::File(GmonRefusal::Short {

@@ -22,3 +22,5 @@ pub mod ProfileReadBack
 pub mod SizeLemmas
 pub mod AddingLemmas
 pub mod MakingLemmas
+pub mod FirstHistsLemmas
+pub mod SearchingLemmas

@@ -158,7 +158,7 @@ module _ (fields : List HistFields) (counters : List ℕ) (pairs : List RawBlock
       by (body.Hist f s t) = refl
       by (body.Blocks s t) = others_in-blocks (take (t - s) (drop s pairs))
 
-  entries_next : (e : Entry) (entries : List Entry) → entries_recs fields counters pairs arcs (e ∷ entries) ≡ (map wide_arc (arcs_before e) ++ own_recs e) ++ entries_recs fields counters pairs arcs entries
+  pub entries_next : (e : Entry) (entries : List Entry) → entries_recs fields counters pairs arcs (e ∷ entries) ≡ (map wide_arc (arcs_before e) ++ own_recs e) ++ entries_recs fields counters pairs arcs entries
   entries_next e entries =
       ap wide_records (flat_map-cons (entry_recs fields counters pairs arcs) e entries)
       ∙ flat_map-append wide_record (entry_recs fields counters pairs arcs e) (flat_map (entry_recs fields counters pairs arcs) entries)
@@ -190,6 +190,11 @@ module _ (fields : List HistFields) (counters : List ℕ) (pairs : List RawBlock
       let before = map wide_arc (arcs_before e) in
       let one = all_joined HasSpan before (own_recs e) (spans_of_arcs (arcs_before e)) (spans_of_record (rec_of fields counters pairs e.body) all.0) in
       subst (λ (l : List WideRec). AllByRecursion HasSpan l) (sym (entries_next e entries)) (all_joined HasSpan (before ++ own_recs e) (entries_recs fields counters pairs arcs entries) one (spans_of_entries entries all.1))
+
+  pub read_spans : (entries : List Entry) (run : ℕ) → AllByRecursion (λ e. HasRange (rec_of fields counters pairs e.body)) entries → AllByRecursion HasSpan (wide_records (recs_in fields counters pairs arcs entries run))
+  read_spans entries run ranges =
+      subst (λ (l : List WideRec). AllByRecursion HasSpan l) (sym (all_widened fields counters pairs arcs entries run))
+      (all_joined HasSpan (entries_recs fields counters pairs arcs entries) (map wide_arc (drop run arcs)) (spans_of_entries entries ranges) (spans_of_arcs (drop run arcs)))
 
   -- ---- what is added in an order of the histograms
 
@@ -288,11 +293,6 @@ module _ (fields : List HistFields) (counters : List ℕ) (pairs : List RawBlock
     placed_within : IsWithin (with_records all empty_content) → IsWithin (with_records (placed ++ behind) empty_content)
     placed_within fits = subst (λ (l : List WideRec). IsWithin (with_records l empty_content)) in_order (reordered_within all (hists_placed ++ hists_later) permuted empty_content fits)
 
-    all_spans : AllByRecursion (λ e. HasRange (rec_of fields counters pairs e.body)) entries → AllByRecursion HasSpan all
-    all_spans ranges =
-        subst (λ (l : List WideRec). AllByRecursion HasSpan l) (sym (all_widened fields counters pairs arcs entries run))
-        (all_joined HasSpan (entries_recs fields counters pairs arcs entries) last_arcs (spans_of_entries entries ranges) (spans_of_arcs (drop run arcs)))
-
     module _ (start : Content) (empty : start ≡ empty_content) where
       pub hists_within : IsWithin (with_records all empty_content) → IsWithin (with_records placed start)
       hists_within fits = subst (λ (c : Content). IsWithin (with_records placed c)) (sym empty) (within_first placed behind empty_content (placed_within fits))
@@ -307,13 +307,13 @@ module _ (fields : List HistFields) (counters : List ℕ) (pairs : List RawBlock
         pub all_added : (new : Content) → AllByRecursion (λ e. HasRange (rec_of fields counters pairs e.body)) entries → IsAdded behind mid new → IsAdded all empty_content new
         all_added new ranges two =
             let parts = added_both placed behind empty_content mid hists_added new two in
-            reordered all (hists_placed ++ hists_later) new (all_spans ranges) permuted (subst (λ (l : List WideRec). IsAdded l empty_content new) (sym in_order) parts)
+            reordered all (hists_placed ++ hists_later) new (read_spans entries run ranges) permuted (subst (λ (l : List WideRec). IsAdded l empty_content new) (sym in_order) parts)
 
         -- the conflict of all is that of the histograms of the others
         pub conflict_told : (refusal : AddRefusal) → AllByRecursion (λ e. HasRange (rec_of fields counters pairs e.body)) entries → IsUnlike refusal (conflict_of mid laters) → IsUnlike refusal (conflict_of empty_content all)
         conflict_told refusal ranges told =
             let added = subst (λ (l : List WideRec). IsAdded l empty_content mid) (sym placed_hists) hists_added in
-            let is = conflict_behind all hists_first hists_placed hists_later mid (all_spans ranges) all_hists first_permuted added ∙ ap (conflict_of mid) (sym (later_hists later)) in
+            let is = conflict_behind all hists_first hists_placed hists_later mid (read_spans entries run ranges) all_hists first_permuted added ∙ ap (conflict_of mid) (sym (later_hists later)) in
             subst (λ (o : Option Unlike). IsUnlike refusal o) (sym is) told
 
   -- ---- the histograms of later entries, the others, and the arcs behind them

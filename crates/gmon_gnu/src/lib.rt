@@ -9,6 +9,7 @@ mod addition;
 pub mod block_file;
 pub mod faults;
 pub mod file;
+mod first_hists;
 pub(crate) mod intake;
 pub mod laws;
 mod pieces;

@@ -1,18 +1,25 @@
 //! The profile of what was read of a file.
 
-ghost use Rattle.std.specs.Prelude.{◌≡◌, ◌<◌, ◌≤◌, ◌^◌, ◌++◌, length, map, take, Some, IfErr, IfOk, OnOk};
+ghost use Rattle.std.specs.Prelude.{◌≡◌, ◌<◌, ◌≤◌, ◌^◌, ◌++◌, length, map, take, Some, Err, IfErr, IfOk, IfSome, OnOk};
 ghost use Rattle.std.specs.List.{AllByRecursion, flat_map};
 ghost use Rattle.gp_base.specs.Spans.{HasRange};
 ghost use Rattle.gmon_data.specs.Content.{empty_content, conflict_of, wide_records, with_records, IsAdded, IsStopped, IsWithin as IsWithinLimits};
 ghost use Rattle.gmon_data.specs.Hists.{IsUnlike};
+ghost use Rattle.gmon_data.specs.declared.refusal.AddRefusal.TheVariants.{Unlike};
+ghost use Rattle.gmon_gnu.specs.FirstHists.{conflict_among_first};
 ghost use Rattle.gmon_gnu.specs.Held.{recs_of, rec_of, AreWithin, CanBeAdded, IsBodyWithin, IsWithin, HaveRanges};
 ghost use Rattle.gmon_gnu.specs.Making.{block_recs, hist_recs, later_recs, other_recs, behind_recs, IsPlacedIn, place_of, placed_recs, IsOrderOf, placed_entries, hists_among};
 
 use crate::addition::add_body;
+use crate::first_hists::{conflict_among_first, counted_hist};
 use crate::state::{Body, Entry, HistFields, State};
 use gmon_data::{AddRefusal, HistRange, Profile, unlike};
 use gp_base::{RawBlock, Unit};
 use std::alloc::{AllocError, Global};
+
+/// Where memory ran out, so many first histograms with counters are compared with those before them. For each one all
+/// entries before it are looked at, so that a file of millions of other records takes seconds at most.
+const COMPARED: usize = 64;
 
 /// A histogram among entries: its range, and the number of its entry.
 #[derive(Clone, Copy)]
@@ -22,11 +29,45 @@ pub(crate) struct Placed {
 }
 
 impl State {
+    /// The profile of the records. Where one of them can't be added, the first one of the file that can't is told, and
+    /// never want of memory where it is among the first histograms.
+    pub(crate) fn into_profile(&self, alloc: Global) -> Result<Profile, AddRefusal>
+        requires { CanBeAdded self.now empty_content }
+        ensures made { IfOk result (λ profile. IsAdded
+            (wide_records (recs_of self.now)) empty_content profile) }
+        ensures refusal { IfErr result (λ refusal. IsUnlike refusal
+            (conflict_of empty_content (wide_records (recs_of self.now)))) }
+        ensures told { IfSome (conflict_among_first 64 (wide_records (recs_of self.now)))
+            (λ unlike. result ≡ Err (Unlike unlike)) }
+    {
+        match self.in_address_order(alloc) {
+            Ok(profile) => Ok(profile),
+            Err(AddRefusal::Unlike(unlike)) => Err(AddRefusal::Unlike(unlike)),
+            Err(AddRefusal::OutOfMemory) => Err(self.refusal_without_memory()),
+        }
+    }
+
+    /// The first conflict of the file, if it is among the first histograms, or else want of memory. Takes no memory.
+    fn refusal_without_memory(&self) -> AddRefusal
+        requires held { AreWithin self.now }
+        requires ranges { HaveRanges self.now }
+        ensures refusal { IsUnlike result
+            (conflict_of empty_content (wide_records (recs_of self.now))) }
+        ensures told { IfSome (conflict_among_first 64 (wide_records (recs_of self.now)))
+            (λ unlike. result ≡ Unlike unlike) }
+    {
+        let entries = self.entries.as_slice();
+        match conflict_among_first(self.fields.as_slice(), entries, COMPARED) {
+            Some(unlike) => AddRefusal::Unlike(unlike),
+            None => AddRefusal::OutOfMemory,
+        }
+    }
+
     /// The profile of the records. The histograms before the first one that is unlike one before it are added in
     /// ascending order of their low addresses, where each one takes its place behind those before it, and the others
     /// in the order of the file: a profile is the same in whatever order they come. Where one of them can't be added,
     /// the first one of the file that can't is told.
-    pub(crate) fn into_profile(&self, alloc: Global) -> Result<Profile, AddRefusal>
+    fn in_address_order(&self, alloc: Global) -> Result<Profile, AddRefusal>
         requires { CanBeAdded self.now empty_content }
         ensures made { IfOk result (λ profile. IsAdded
             (wide_records (recs_of self.now)) empty_content profile) }
@@ -245,7 +286,7 @@ fn count_of_one_unit(fields: &[HistFields], entries: &[Entry]) -> usize
 {
     let mut first: Option<Unit> = None;
     for i in 0..entries.len() {
-        if let Some((range, unit)) = counted(fields, entries[i].body) {
+        if let Some((range, unit)) = counted_hist(fields, entries[i].body) {
             let old = first.unwrap_or(unit);
             if unlike(range, old, range, unit).is_some() {
                 return i;
@@ -254,31 +295,6 @@ fn count_of_one_unit(fields: &[HistFields], entries: &[Entry]) -> usize
         }
     }
     entries.len()
-}
-
-/// The range and the unit of a record that is a histogram with counters.
-fn counted(fields: &[HistFields], body: Body) -> Option<(HistRange, Unit)>
-    requires { IsPlacedIn (length fields.now) body }
-{
-    match body {
-        Body::Hist {
-            fields: number,
-            start,
-            end,
-        } => {
-            if start == end {
-                return None;
-            }
-            let own = fields[number as usize];
-            let range = HistRange {
-                low: own.low,
-                high: own.high,
-                count: end - start,
-            };
-            Some((range, own.unit))
-        }
-        Body::Blocks { .. } => None,
-    }
 }
 
 /// How many entries come before the first one whose histogram is unlike one before it, as far as neighbours in

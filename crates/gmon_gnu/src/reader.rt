@@ -4,10 +4,13 @@ ghost use Rattle.std.specs.Prelude.{◌≡◌, ℕ, List, [], ◌+◌, ◌^◌, 
 ghost use Rattle.gp_base.specs.Refusal.{IsRefusal};
 ghost use Rattle.gmon_data.specs.Content.{conflict_of, content_of, empty_content};
 ghost use Rattle.gmon_data.specs.Refusals.{IsReadRefusal};
+ghost use Rattle.gmon_data.specs.declared.refusal.AddRefusal.TheVariants.{Unlike};
+ghost use Rattle.gmon_data.specs.declared.refusal.ReadRefusal.TheVariants as read_refusal;
 ghost use Rattle.gmon_gnu.specs.Adding.{spelled_records, FitsProfile};
 ghost use Rattle.gmon_gnu.specs.Grammar.{GnuSpells};
 ghost use Rattle.gmon_gnu.specs.Reading.{gnu_refusal, gnu_records};
 ghost use Rattle.gmon_gnu.specs.Fed.{StandsFor};
+ghost use Rattle.gmon_gnu.specs.FirstHists.{conflict_among_first};
 
 use crate::state::State;
 use crate::views::RecordViews;
@@ -110,7 +113,8 @@ impl Reader {
     }
 
     /// The profile of the records that the bytes spell, without a list of them. It answers the file's first refusal,
-    /// before memory is taken, or else the first refusal of `Profile::add_records` in the order of the file.
+    /// before memory is taken, or else the first refusal of `Profile::add_records` in the order of the file. A
+    /// conflict among the first 64 histograms with counters is told, and never want of memory.
     pub fn into_profile(self) -> Result<Profile, ReadRefusal>
         requires { FitsProfile self }
         ensures accepted { (bytes : List ℕ) → StandsFor bytes self
@@ -122,6 +126,9 @@ impl Reader {
         ensures refusal { (bytes : List ℕ) → StandsFor bytes self
             → IfErr result (λ refusal. IsReadRefusal refusal (gnu_refusal bytes)
             (conflict_of empty_content (spelled_records bytes))) }
+        ensures told { (bytes : List ℕ) → StandsFor bytes self → gnu_refusal bytes ≡ None
+            → IfSome (conflict_among_first 64 (spelled_records bytes))
+            (λ unlike. result ≡ Err (read_refusal.Profile (Unlike unlike))) }
     {
         let Reader { alloc, len, state } = self;
         if let Some(refusal) = state.end_fault(len) {

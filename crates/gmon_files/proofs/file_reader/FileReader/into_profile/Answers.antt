@@ -1,10 +1,18 @@
-use Rattle.std.proofs.Common.{◌≡◌, ℕ, List, None, Some, Result, length, sym, ap, subst, ◌∙◌}
-use Rattle.std.specs.Prelude.{IfErr, IfOk, OnOk}
+use Rattle.std.proofs.Common.{◌≡◌, ℕ, List, ◌∷◌, None, Some, Result, Err, length, sym, ap, subst, ◌∙◌}
+use Rattle.std.specs.Prelude.{IfErr, IfOk, IfSome, OnOk}
 use Rattle.gp_base.specs.declared.records.Form.{Form}
+use Rattle.gp_base.specs.declared.records.Form.TheVariants.{Bsd}
+use Rattle.gp_base.specs.Fields.{seconds}
 use Rattle.gp_base.specs.declared.refusal.GmonRefusal.TheVariants.{Short}
+use Rattle.gmon_data.specs.declared.refusal.AddRefusal.TheVariants as answers
 use Rattle.gmon_data.specs.declared.refusal.ReadRefusal.{ReadRefusal}
-use Rattle.gmon_data.specs.Content.{Content, conflict_of, content_of, empty_content, wide_records}
+use Rattle.gmon_data.specs.declared.refusal.ReadRefusal.TheVariants.{Profile}
+use Rattle.gmon_data.specs.Content.{Content, WideRec, WideHist, conflict_of, content_of, empty_content, hist_over, wide_records}
 use Rattle.gmon_data.specs.Refusals.{IsReadRefusal}
+use Rattle.gmon_data.proofs.RecordLemmas.{arcs_widened}
+use Rattle.gmon_bsd.specs.Reading.{file_arcs, file_counters, high_of, low_of, rate_of}
+use Rattle.gmon_gnu.specs.FirstHists.{conflict_among_first}
+use Rattle.gmon_gnu.proofs.FirstHistsLemmas.{nothing_told, one_alone}
 use Rattle.gmon_files.specs.declared.file_reader.FileReader.{FileReader}
 use Rattle.gmon_files.specs.Forms.{records_in, refusal_in}
 use Rattle.gmon_files.specs.FileRead.{StandsFor}
@@ -23,6 +31,17 @@ module _ (answer : Result Content ReadRefusal) (bytes : List ℕ) (f : Form) whe
 
   abbrev Refused : Type 0
   Refused = IfErr answer (λ refusal. IsReadRefusal refusal (refusal_in f bytes) (conflict_of empty_content (wide_records (records_in f bytes).recs)))
+
+  abbrev Told : Type 0
+  Told = refusal_in f bytes ≡ None → IfSome (conflict_among_first 64 (wide_records (records_in f bytes).recs)) (λ u. answer ≡ Err (Profile (answers.Unlike u)))
+
+-- a file of the 4.4BSD form has one histogram
+none_told : (answer : Result Content ReadRefusal) (bytes : List ℕ) → Told answer bytes Bsd
+none_told answer bytes accepted =
+    let arcs = file_arcs bytes in
+    let h = hist_over (low_of bytes) (high_of bytes) (file_counters bytes) in
+    let none = ap (λ (l : List WideRec). conflict_of empty_content (WideHist h (seconds (rate_of bytes)) ∷ l)) (arcs_widened arcs) ∙ one_alone h (seconds (rate_of bytes)) arcs in
+    nothing_told 64 (wide_records (records_in Bsd bytes).recs) (λ u. answer ≡ Err (Profile (answers.Unlike u))) none
 
 pub returns-in-Front-clause-refusal : goal.returns-in-Front-clause-refusal
 returns-in-Front-clause-refusal c = λ bytes stands.
@@ -58,3 +77,15 @@ returns-in-Gnu-clause-content c = of_gnu c.in-Gnu.is (HasContent c.into_profile-
 
 pub returns-in-Gnu-clause-refusal : goal.returns-in-Gnu-clause-refusal
 returns-in-Gnu-clause-refusal c = of_gnu c.in-Gnu.is (Refused c.into_profile-in-Gnu.result) c.into_profile-in-Gnu.ensures.refusal
+
+pub returns-in-Front-clause-told : goal.returns-in-Front-clause-told
+returns-in-Front-clause-told c = λ bytes stands accepted.
+    let p = subst (λ (r : FileReader). StandsFor bytes r) c.in-Front.is stands in
+    let same : Some (Short (length bytes)) ≡ None = sym (short_refused bytes p.1) ∙ accepted in
+    absurd (cc)
+
+pub returns-in-Bsd-clause-told : goal.returns-in-Bsd-clause-told
+returns-in-Bsd-clause-told c = of_bsd c.in-Bsd.is (Told c.into_profile.result) (λ bytes stands. none_told c.into_profile.result bytes)
+
+pub returns-in-Gnu-clause-told : goal.returns-in-Gnu-clause-told
+returns-in-Gnu-clause-told c = of_gnu c.in-Gnu.is (Told c.into_profile-in-Gnu.result) c.into_profile-in-Gnu.ensures.told

@@ -1,4 +1,4 @@
-use Rattle.std.proofs.Common.{◌≡◌, ◌<◌, List, [], get_or, length, subst, sym}
+use Rattle.std.proofs.Common.{◌≡◌, ◌<◌, List, get_or, length, subst, sym}
 use Rattle.std.proofs.lemmas.Option.{slice_get-get_or}
 use Rattle.gmon_data.specs.Content.{WideRec, IsAdded, IsWithin as IsWithinLimits, with_records}
 use Rattle.gmon_data.proofs.LoopLemmas.{at_all, item_added, item_within, items_done}
