@@ -14,8 +14,8 @@ use Rattle.fraction128.specs.Values.{value_of}
 use Rattle.propagate.proofs.ExactLemmas.{entered}
 use Rattle.exact_flow.specs.Times.{HasTimes, in_grains, time_at}
 use Rattle.exact_flow.specs.Steps.{IsNoneWide}
-use Rattle.exact_flow.specs.Solution.{by_arcs, child_times, flow_of_times}
-use Rattle.exact_flow.specs.Progress.{AreTables, outside_calls}
+use Rattle.exact_flow.specs.Solution.{by_arcs, flow_of_times}
+use Rattle.exact_flow.specs.Progress.{AreTables, child_times, outside_calls}
 use Rattle.exact_flow.specs.Fields.{FitsPart, FitsIn, IsHeld, carried_part, callee_in, self_in_callee, child_in_callee, part_in, times_of}
 use Rattle.exact_flow.specs.declared.flows.ExactFlow.TheInside.{Inside}
 use Rattle.exact_flow.proofs.PartLemmas.{none_carried, some_carried, fits_same}

@@ -20,8 +20,7 @@ use Rattle.propagate.proofs.OrderLemmas.{caller_order}
 use Rattle.propagate.proofs.TimeLemmas.{arc_here, all_done, one_more}
 use Rattle.exact_flow.specs.Times.{in_grains, outside_numbers, time_at}
 use Rattle.exact_flow.specs.Steps.{StepNumbers, FitsStep, self_part, child_part, with_both, step_at, brought_before, IsNoneWide}
-use Rattle.exact_flow.specs.Progress.{no_times, step_in}
-use Rattle.exact_flow.specs.Solution.{child_times}
+use Rattle.exact_flow.specs.Progress.{child_times, no_times, step_in}
 use Rattle.exact_flow.proofs.OrderLemmas.{lower_numbers}
 
 -- the first n outside arcs are done

@@ -1,12 +1,13 @@
 -- What holds while exact times are found: the tables, and what steps read in them.
 -- Only private functions and invariants speak of it.
 use Rattle.std.specs.Prelude.{◌≡◌, ℕ, List, map, replicate, slice_index}
-use Rattle.call_cycles.specs.Sums.{list_of, when}
+use Rattle.call_cycles.specs.Sums.{list_of, numbers_below, when}
 use Rattle.call_cycles.specs.Graph.{GraphValue, arc_at, arc_count, component_count, source_of, target_of, is_outside, entering_of}
 use Rattle.call_cycles.specs.Flow.{self_in}
+use Rattle.call_cycles.specs.ExactFlow.{ExactTimes}
 use Rattle.fraction128.specs.Fractions.{Fraction, fraction, lowest}
 use Rattle.fraction128.specs.Values.{value_of}
-use Rattle.exact_flow.specs.Times.{outside_numbers, time_at}
+use Rattle.exact_flow.specs.Times.{in_grains, outside_numbers, time_at}
 use Rattle.exact_flow.specs.Steps.{StepNumbers}
 use Rattle.exact_flow.specs.declared.tables.Tables.{Tables}
 
@@ -29,6 +30,10 @@ no_times g = replicate (component_count g) (fraction 0 1)
 pub record IsStart (g : GraphValue) (shares : List ℕ) (t : Tables) : Type 0 where
   pub tables : AreTables g shares t.selves.items t.entering.items t.calls.items t.callees.items t.outside.items
   pub children : map value_of t.children.items ≡ no_times g
+
+-- all are done: what each component gets from those that it calls
+abbrev pub child_times : GraphValue → ExactTimes → List Fraction
+child_times g x = map (λ c. in_grains x (x.child c)) (numbers_below (component_count g))
 
 -- the step of arc i with these times of components
 abbrev pub step_in : GraphValue → List ℕ → List Fraction → ℕ → StepNumbers

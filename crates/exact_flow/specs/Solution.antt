@@ -12,15 +12,11 @@ use Rattle.exact_flow.specs.Times.{ExactFlowValue, in_grains, outside_numbers}
 abbrev pub by_arcs : GraphValue → (ℕ → Fraction) → List Fraction
 by_arcs g time = map (λ i. if is_outside g i then time i else fraction 0 1) (numbers_below (arc_count g))
 
--- what each component gets from those that it calls
-abbrev pub child_times : GraphValue → ExactTimes → List Fraction
-child_times g x = map (λ c. in_grains x (x.child c)) (numbers_below (component_count g))
-
 -- the times of a solution of the equations
 abbrev pub flow_of_times : GraphValue → List ℕ → ExactTimes → ExactFlowValue
 flow_of_times g shares x = record {
   self = list_of (component_count g) (self_in g shares);
-  child = child_times g x;
+  child = map (λ c. in_grains x (x.child c)) (numbers_below (component_count g));
   arc_self = by_arcs g (λ i. in_grains x (x.arc_self i));
   arc_child = by_arcs g (λ i. in_grains x (x.arc_child i));
   outside = outside_numbers g;

@@ -11,9 +11,9 @@ ghost use Rattle.fraction128.specs.Values.{value_of};
 ghost use Rattle.propagate.specs.ExactSolution.{exact_in};
 ghost use Rattle.exact_flow.specs.Times.{HasTimes, outside_numbers};
 ghost use Rattle.exact_flow.specs.Steps.{FitsStep, IsNoneWide, with_both};
-ghost use Rattle.exact_flow.specs.Solution.{child_times, flow_of_times, exact_flow_in};
+ghost use Rattle.exact_flow.specs.Solution.{flow_of_times, exact_flow_in};
 ghost use Rattle.exact_flow.specs.Wide.{first_wide};
-ghost use Rattle.exact_flow.specs.Progress.{IsStart, no_times, step_in};
+ghost use Rattle.exact_flow.specs.Progress.{IsStart, child_times, no_times, step_in};
 ghost use Rattle.exact_flow.specs.Answers.{IsTooWide, IsWideAnswer};
 ghost use Rattle.exact_flow.specs.declared.refusal.ExactRefusal.TheVariants.{TooWide};
 

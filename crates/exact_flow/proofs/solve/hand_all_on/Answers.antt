@@ -2,11 +2,12 @@ use Rattle.std.proofs.Common.{◌≡◌, ◌<◌, ◌∙◌, ◌+◌, ℕ, List,
 use Rattle.std.specs.Prelude.{slice_set}
 use Rattle.std.proofs.lemmas.Bool.{true≢false}
 use Rattle.std.proofs.lemmas.List.{get_or_default, map-set}
-use Rattle.call_cycles.specs.Graph.{GraphValue, component_count, component_of, source_of}
+use Rattle.call_cycles.specs.Graph.{GraphValue, IsGraph, component_count, component_of, source_of}
 use Rattle.call_cycles.specs.declared.graphs.FunArc.{FunArc}
 use Rattle.call_cycles.specs.Flow.{self_in}
 use Rattle.call_cycles.proofs.ListLemmas.{list_long}
 use Rattle.fraction128.specs.Values.{value_of}
+use Rattle.propagate.specs.Arcs.{IsLeaving}
 use Rattle.exact_flow.specs.Times.{outside_numbers}
 use Rattle.exact_flow.specs.Answers.{IsTooWide}
 use Rattle.exact_flow.proofs.StateLemmas.{IsSoFar, none_done, leaving, one_more_done, children_found, none_wide}
@@ -19,6 +20,9 @@ place : (g : GraphValue) (numbers : List ℕ) (n : ℕ) → numbers ≡ outside_
     → (n < length (outside_numbers g)) × (get_or (outside_numbers g) n (get_or numbers n 0) ≡ get_or numbers n 0)
 place g numbers n are low = (subst (λ (xs : List ℕ). n < length xs) are low, ap (λ (xs : List ℕ). get_or xs n (get_or numbers n 0)) (sym are) ∙ get_or_default numbers n (get_or numbers n 0) 0 low)
 
+stands : (g : GraphValue) → IsGraph g → (numbers : List ℕ) (n : ℕ) → numbers ≡ outside_numbers g → n < length numbers → IsLeaving g (source_of g (get_or numbers n 0), get_or numbers n 0)
+stands g is numbers n are low = let at = place g numbers n are low in leaving g is n (get_or numbers n 0) at.0 at.1
+
 last : (c : After-loop-arc) → c.loop-arc.arc-index ≡ length (outside_numbers c.args.graph.now)
 last c = let test = c.loop-arc-test.false in let long = ap length c.requires.outside in let end = c.loop-arc.auto.arc-index-end in omega arith
 
@@ -26,27 +30,19 @@ pub loop-arc-init : goal.loop-arc-init
 loop-arc-init c = none_done c.args.graph.now c.args.shares.now.of (map value_of c.args.children.now) c.requires.none
 
 pub step-requires-clause-arc : goal.step-requires-clause-arc
-step-requires-clause-arc c =
-    let at = place c.args.graph.now c.args.outside.now c.loop-arc.arc-index c.requires.outside c.loop-arc-test.true in
-    (leaving c.args.graph.now c.holds.ensures.graph c.loop-arc.arc-index (get_or c.args.outside.now c.loop-arc.arc-index 0) at.0 at.1).0
+step-requires-clause-arc c = (stands c.args.graph.now c.holds.ensures.graph c.args.outside.now c.loop-arc.arc-index c.requires.outside c.loop-arc-test.true).0
 
 pub step-requires-clause-outside : goal.step-requires-clause-outside
-step-requires-clause-outside c =
-    let at = place c.args.graph.now c.args.outside.now c.loop-arc.arc-index c.requires.outside c.loop-arc-test.true in
-    (leaving c.args.graph.now c.holds.ensures.graph c.loop-arc.arc-index (get_or c.args.outside.now c.loop-arc.arc-index 0) at.0 at.1).2
+step-requires-clause-outside c = (stands c.args.graph.now c.holds.ensures.graph c.args.outside.now c.loop-arc.arc-index c.requires.outside c.loop-arc-test.true).2
 
 pub step-requires-clause-selves : goal.step-requires-clause-selves
 step-requires-clause-selves c = list_long (component_count c.args.graph.now) (self_in c.args.graph.now c.args.shares.now.of) c.args.selves.now c.requires.selves
 
 pub arc-requires : goal.arc-requires
-arc-requires c =
-    let at = place c.args.graph.now c.args.outside.now c.loop-arc.arc-index c.requires.outside c.loop-arc-test.true in
-    (leaving c.args.graph.now c.holds.ensures.graph c.loop-arc.arc-index (get_or c.args.outside.now c.loop-arc.arc-index 0) at.0 at.1).0
+arc-requires c = (stands c.args.graph.now c.holds.ensures.graph c.args.outside.now c.loop-arc.arc-index c.requires.outside c.loop-arc-test.true).0
 
 pub too_wide-requires-clause-arc : goal.too_wide-requires-clause-arc
-too_wide-requires-clause-arc c =
-    let at = place c.args.graph.now c.args.outside.now c.loop-arc.arc-index c.requires.outside c.loop-arc-test.true in
-    (leaving c.args.graph.now c.holds.ensures.graph c.loop-arc.arc-index (get_or c.args.outside.now c.loop-arc.arc-index 0) at.0 at.1).0
+too_wide-requires-clause-arc c = (stands c.args.graph.now c.holds.ensures.graph c.args.outside.now c.loop-arc.arc-index c.requires.outside c.loop-arc-test.true).0
 
 pub returns-in-None-clause-wide : goal.returns-in-None-clause-wide
 returns-in-None-clause-wide c =

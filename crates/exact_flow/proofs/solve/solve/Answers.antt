@@ -7,7 +7,8 @@ use Rattle.fraction128.specs.declared.fracs.Frac.{Frac}
 use Rattle.propagate.specs.ExactSolution.{exact_in}
 use Rattle.propagate.proofs.ExactLemmas.{exact_solution}
 use Rattle.propagate.proofs.ExactRootLemmas.{exact_roots}
-use Rattle.exact_flow.specs.Solution.{child_times, exact_flow_in}
+use Rattle.exact_flow.specs.Solution.{exact_flow_in}
+use Rattle.exact_flow.specs.Progress.{child_times}
 use Rattle.exact_flow.specs.declared.flows.ExactFlow.TheInside.{Inside}
 use Rattle.exact_flow.specs.declared.tables.Tables.{Tables}
 use Rattle.exact_flow.proofs.FlowLemmas.{flow_held, flow_is, flow_sized}
