@@ -1,9 +1,8 @@
-use Rattle.std.proofs.Common.{◌<◌, ◌∙◌, ℕ, List, ap, sym, subst}
+use Rattle.std.proofs.Common.{◌<◌, ℕ, List, ap, sym, subst}
 use Rattle.std.specs.List.{All, flat_map}
 use Rattle.host_port.specs.Buffered.{Adds}
 use Rattle.host_port.specs.declared.host.Failed.{Failed}
-use Rattle.call_cycles.specs.Sums.{numbers_below}
-use Rattle.call_cycles.specs.Graph.{arc_count, leaves}
+use Rattle.call_cycles.specs.Graph.{arc_count}
 use Rattle.graph_report.proofs.ExactLemmas.{arcs_low}
 use Rattle.std.proofs.lemmas.Result.{err_from_is_err_and}
 use Rattle.host_port.specs.declared.side.Side.TheVariants.{Output}
