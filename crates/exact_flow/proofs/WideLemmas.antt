@@ -11,19 +11,19 @@ use Rattle.call_cycles.specs.Flow.{self_in}
 use Rattle.call_cycles.specs.ExactFlow.{ExactTimes, IsExactFlow, AreSameTimes, carried_exactly}
 use Rattle.call_cycles.proofs.SumLemmas.{sum_ext}
 use Rattle.call_cycles.proofs.NumberingLemmas.{target_within}
-use Rattle.fraction128.specs.Fractions.{fraction, lowest, fits, fits_sum, fits_product}
+use Rattle.fraction128.specs.Fractions.{Fraction, fraction, lowest, fits, fits_sum, fits_product}
 use Rattle.fraction128.proofs.ValueLemmas.{lowest_same}
-use Rattle.propagate.specs.Arcs.{IsCallerOrder, IsLeaving, outside_arcs_of}
+use Rattle.propagate.specs.Arcs.{IsLeaving, outside_arcs_of}
 use Rattle.propagate.specs.ExactSolution.{exact_in}
 use Rattle.propagate.proofs.ExactLemmas.{chosen_times, exact_solution, same_times}
 use Rattle.propagate.proofs.ArcOrderLemmas.{each_leaves, each_there}
 use Rattle.propagate.proofs.OrderLemmas.{caller_order}
 use Rattle.propagate.proofs.UniqueLemmas.{when_ext}
-use Rattle.exact_flow.specs.Times.{ExactFlowValue, in_grains}
+use Rattle.exact_flow.specs.Times.{in_grains, outside_numbers}
 use Rattle.exact_flow.specs.Solution.{by_arcs, flow_of_times, exact_flow_in}
 use Rattle.exact_flow.proofs.OrderLemmas.{stands_before}
 use Rattle.exact_flow.specs.Progress.{step_in}
-use Rattle.exact_flow.proofs.StateLemmas.{IsSoFar, all_times, map_below, none_wide, same_numbers}
+use Rattle.exact_flow.proofs.StateLemmas.{IsSoFar, map_below, numbered, same_numbers}
 use Rattle.exact_flow.specs.Steps.{StepNumbers, FitsStep, fits_step, step_at, brought_before, self_part, child_part, with_self, IsNoneWide, IsFirstWide}
 use Rattle.exact_flow.specs.Wide.{WideStep, step_of_arc, first_wide, first_wide_of}
 
@@ -132,7 +132,7 @@ module _ (g : GraphValue) (shares : List ℕ) (x y : ExactTimes) (is : IsGraph g
       (λ k d low. let l = each_leaves g k d low in ap (λ (n : StepNumbers). not (fits_step n)) (same_step _ l.0 l.2)))
 
   pub same_flow : flow_of_times g shares x ≡ flow_of_times g shares y
-  same_flow = λ j. record { self = list_of (component_count g) (self_in g shares); child = child j; arc_self = arcs x.arc_self y.arc_self same.arc_self j; arc_child = arcs x.arc_child y.arc_child same.arc_child j; outside = outside_arcs_of g }
+  same_flow = λ j. record { self = list_of (component_count g) (self_in g shares); child = child j; arc_self = arcs x.arc_self y.arc_self same.arc_self j; arc_child = arcs x.arc_child y.arc_child same.arc_child j; outside = outside_numbers g }
     where
       child : map (λ c. in_grains x (x.child c)) (numbers_below (component_count g)) ≡ map (λ c. in_grains y (y.child c)) (numbers_below (component_count g))
       child = map_below (component_count g) _ _ (λ c low. lowest_same (x.child c) x.grain (y.child c) y.grain one.some two.some (same.child c low))
@@ -214,29 +214,12 @@ module _ (g : GraphValue) (shares : List ℕ) (is : IsGraph g) where
       by true fit = absurd (here (fits_from (step_at g shares (exact_in g shares) p.1) fit))
       by false fit = refl
 
-module _ (g : GraphValue) (shares : List ℕ) (order : List (ℕ × ℕ)) (n : ℕ) (p : ℕ × ℕ) (e : ExactFlowValue)
-    (is : IsGraph g) (ordered : IsCallerOrder g order) (below : n < length order) (at : p ≡ get_or order n p) (so_far : IsSoFar g shares order n e) where
-  -- a step that does not fit is the first one
-  pub first_found : (head : ℕ) → head ≡ head_of g p.0 → (FitsStep (step_in g e p.1) → ⊥) → first_wide g shares ≡ Some (record { head = head; arc = p.1 })
-  first_found head is_head wide =
-      some_first g shares is n p (subst (λ (xs : List (ℕ × ℕ)). n < length xs) ordered.whole below) (subst (λ (xs : List (ℕ × ℕ)). p ≡ get_or xs n p) ordered.whole at)
-      (λ k d less. let done = so_far.done x exact k d less in subst (λ (xs : List (ℕ × ℕ)). FitsStep (step_at g shares x (get_or xs k d).1)) ordered.whole done.fits)
-      (λ fit. wide (subst FitsStep (sym (same_numbers g shares order n p e is ordered below at so_far x exact)) fit))
-      ∙ ap some_at (sym is_head)
-    where
-      x : ExactTimes
-      x = exact_in g shares
-
-      exact : IsExactFlow g shares (exact_in g shares)
-      exact = exact_solution g shares is
-
-      some_at : ℕ → Option WideStep
-      some_at head = Some (record { head = head; arc = p.1 })
-
-module _ (g : GraphValue) (shares : List ℕ) (order : List (ℕ × ℕ)) (n : ℕ) (e : ExactFlowValue) (is : IsGraph g) (last : n ≡ length order) (so_far : IsSoFar g shares order n e) (ordered : IsCallerOrder g order) where
-  pub none_left : first_wide g shares ≡ None
-  none_left = none_first g shares is (none_wide g shares order n e ordered last so_far (exact_in g shares) (exact_solution g shares is))
-
-  pub value_left : e ≡ exact_flow_in g shares
-  unfolding exact_flow_in
-  value_left = all_times g shares order n e ordered last so_far (exact_in g shares) (exact_solution g shares is)
+-- a step that does not fit is the first one
+pub first_found : (g : GraphValue) (shares : List ℕ) (is : IsGraph g) (n i : ℕ) → n < length (outside_numbers g) → get_or (outside_numbers g) n i ≡ i → (selves : List ℕ) (times : List Fraction)
+    → selves ≡ list_of (component_count g) (self_in g shares) → IsSoFar g shares n times
+    → (FitsStep (step_in g selves times i) → ⊥) → first_wide g shares ≡ Some (record { head = head_of g (source_of g i); arc = i })
+first_found g shares is n i below here selves times are so_far wide =
+    let there = numbered g is n i below here in
+    let x = exact_in g shares in
+    let exact = exact_solution g shares is in
+    some_first g shares is n (source_of g i, i) there.0 there.1 (so_far.fits x exact) (λ fit. wide (subst FitsStep (sym (same_numbers g is n i below here shares selves times are so_far x exact)) fit))

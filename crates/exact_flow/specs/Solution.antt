@@ -5,9 +5,8 @@ use Rattle.call_cycles.specs.Graph.{GraphValue, arc_count, component_count, is_o
 use Rattle.call_cycles.specs.Flow.{self_in}
 use Rattle.call_cycles.specs.ExactFlow.{ExactTimes}
 use Rattle.fraction128.specs.Fractions.{Fraction, fraction}
-use Rattle.propagate.specs.Arcs.{outside_arcs_of}
 use Rattle.propagate.specs.ExactSolution.{exact_in}
-use Rattle.exact_flow.specs.Times.{ExactFlowValue, in_grains}
+use Rattle.exact_flow.specs.Times.{ExactFlowValue, in_grains, outside_numbers}
 
 -- a time for each arc: arcs inside cycles carry none
 abbrev pub by_arcs : GraphValue → (ℕ → Fraction) → List Fraction
@@ -20,7 +19,7 @@ flow_of_times g shares x = record {
   child = map (λ c. in_grains x (x.child c)) (numbers_below (component_count g));
   arc_self = by_arcs g (λ i. in_grains x (x.arc_self i));
   arc_child = by_arcs g (λ i. in_grains x (x.arc_child i));
-  outside = outside_arcs_of g;
+  outside = outside_numbers g;
 }
 
 -- those of the solution that is found from callees to callers; every other one has the same

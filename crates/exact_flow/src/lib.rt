@@ -10,6 +10,7 @@ pub mod laws;
 pub mod refusal;
 pub mod solve;
 pub mod step;
+pub mod tables;
 pub mod values;
 
 pub use flows::ExactFlow;

@@ -1,27 +1,29 @@
 //! The exact times of a graph, from callees to callers.
 
-ghost use Rattle.std.specs.Prelude.{◌≡◌, ◌<◌, ◌↔◌, ◌*◌, ◌^◌, ℕ, true, None, length, IfOk, IfErr, IfSome, IsSome};
+ghost use Rattle.std.specs.Prelude.{◌≡◌, ◌<◌, ◌↔◌, ◌*◌, ◌^◌, ℕ, true, None, length, map, IfOk, IfErr, IfSome, IsSome};
+ghost use Rattle.call_cycles.specs.Sums.{list_of};
 ghost use Rattle.call_cycles.specs.Graph.{arc_at, arc_count, component_count, head_of, source_of, target_of, is_outside, entering_of};
+ghost use Rattle.call_cycles.specs.Flow.{self_in};
 ghost use Rattle.call_cycles.specs.ExactFlow.{ExactTimes, IsExactFlow, exact_time_of_roots};
 ghost use Rattle.symbol_shares.specs.Shares.{attributed_of};
-ghost use Rattle.fraction128.specs.Fractions.{fraction, lowest};
+ghost use Rattle.fraction128.specs.Fractions.{lowest};
 ghost use Rattle.fraction128.specs.Values.{value_of};
 ghost use Rattle.propagate.specs.ExactSolution.{exact_in};
-ghost use Rattle.exact_flow.specs.Times.{HasTimes, time_at};
-ghost use Rattle.exact_flow.specs.Steps.{FitsStep, self_part, child_part, with_both};
+ghost use Rattle.exact_flow.specs.Times.{HasTimes, outside_numbers};
+ghost use Rattle.exact_flow.specs.Steps.{FitsStep, IsNoneWide, with_both};
 ghost use Rattle.exact_flow.specs.Solution.{flow_of_times, exact_flow_in};
 ghost use Rattle.exact_flow.specs.Wide.{first_wide};
-ghost use Rattle.exact_flow.specs.Progress.{IsSized, step_in, put_at};
+ghost use Rattle.exact_flow.specs.Progress.{IsStart, child_times, no_times, step_in};
 ghost use Rattle.exact_flow.specs.Answers.{IsTooWide, IsWideAnswer};
 ghost use Rattle.exact_flow.specs.declared.refusal.ExactRefusal.TheVariants.{TooWide};
 
 use crate::flows::ExactFlow;
 use crate::refusal::ExactRefusal;
-use crate::step::{Given, Handed, hand_on, whole};
+use crate::step::{Given, hand_on};
+use crate::tables::{Tables, start};
 use call_cycles::Graph;
 use fraction128::Frac;
-use propagate::solve::{outside_arcs, selves};
-use std::alloc::{AllocError, Global};
+use std::alloc::Global;
 use symbol_shares::Shares;
 
 /// Of the calls that enter the component of an outside arc's callee, those of the arc.
@@ -37,59 +39,26 @@ fn calls(graph: &Graph, i: usize) -> Frac
     Frac::new(u128::from(arc.count), u128::from(all)).unwrap()
 }
 
-/// The step of outside arc `i`, where the arcs before it are done.
-fn step(graph: &Graph, flow: &ExactFlow, i: usize) -> Option<Handed>
+/// What the component that outside arc `i` leaves has after the arc's step, where the arcs before it are done.
+fn step(graph: &Graph, selves: &[u128], children: &[Frac], i: usize) -> Option<Frac>
     requires arc { i < arc_count graph.now }
     requires outside { is_outside graph.now i ≡ true }
-    requires selves { length flow.now.self ≡ component_count graph.now }
-    requires children { length flow.now.child ≡ component_count graph.now }
-    ensures arc_self { IfSome result (λ h. value_of h.arc_self
-        ≡ self_part (step_in graph.now flow.now i)) }
-    ensures arc_child { IfSome result (λ h. value_of h.arc_child
-        ≡ child_part (step_in graph.now flow.now i)) }
-    ensures after { IfSome result (λ h. value_of h.after
-        ≡ with_both (step_in graph.now flow.now i)) }
-    ensures fits { IsSome result ↔ FitsStep (step_in graph.now flow.now i) }
+    requires selves { length selves.now ≡ component_count graph.now }
+    requires children { length children.now ≡ component_count graph.now }
+    ensures after { IfSome result (λ f. value_of f
+        ≡ with_both (step_in graph.now selves.now (map value_of children.now) i)) }
+    ensures fits { IsSome result
+        ↔ FitsStep (step_in graph.now selves.now (map value_of children.now) i) }
 {
     let arc = graph.arc(i);
-    let callee = graph.component(arc.callee);
+    let callee = graph.component(arc.callee) as usize;
     let given = Given {
-        self_time: flow.self_of(callee),
-        child_time: flow.child_of(callee),
+        self_time: selves[callee],
+        child_time: children[callee],
         calls: calls(graph, i),
-        before: flow.child_of(graph.component(arc.caller)),
+        before: children[graph.component(arc.caller) as usize],
     };
     hand_on(&given)
-}
-
-/// Puts down what came of the step of arc `i`, which leaves component `c`.
-fn put(flow: &mut ExactFlow, c: u32, i: usize, handed: &Handed)
-    requires child { c < length flow.old.child }
-    requires arc_self { i < length flow.old.arc_self }
-    requires arc_child { i < length flow.old.arc_child }
-    ensures { flow.new ≡ put_at flow.old c i (value_of handed.now.arc_self)
-        (value_of handed.now.arc_child) (value_of handed.now.after) }
-{
-    flow.arc_selves[i] = handed.arc_self;
-    flow.arc_children[i] = handed.arc_child;
-    flow.children[c as usize] = handed.after;
-}
-
-/// The flow before any arc is done: all times are 0 but those of functions themselves.
-fn start(alloc: Global, graph: &Graph, shares: &Shares) -> Result<ExactFlow, AllocError>
-    requires each { length shares.now.of ≡ graph.now.functions }
-    ensures sized { IfOk result (IsSized graph.now shares.now.of) }
-    ensures none { IfOk result (λ e. (c : ℕ) → time_at e.child c ≡ fraction 0 1) }
-{
-    shares.holds();
-    let none = whole(0);
-    Ok(ExactFlow {
-        selves: selves(alloc, graph, shares)?,
-        children: vec![in alloc; none; graph.component_count() as usize]?,
-        arc_selves: vec![in alloc; none; graph.arc_count()]?,
-        arc_children: vec![in alloc; none; graph.arc_count()]?,
-        outside: outside_arcs(alloc, graph)?,
-    })
 }
 
 /// The refusal of the step of arc `i`: it names the component that the arc leaves.
@@ -105,13 +74,45 @@ fn too_wide(graph: &Graph, i: usize) -> ExactRefusal
     }
 }
 
-/// Does the steps from callees to callers, in a flow in which none is done yet. It takes no memory: its one refusal is the
-/// first step at which a fraction does not fit, and it comes exactly where there is one.
-fn solve(graph: &Graph, shares: &Shares, flow: ExactFlow) -> Result<ExactFlow, ExactRefusal>
+/// Does the steps of the outside arcs from callees to callers, where none is done yet, or refuses the first one at which a
+/// fraction does not fit.
+fn hand_all_on(
+    graph: &Graph,
+    shares: &Shares,
+    selves: &[u128],
+    outside: &[u32],
+    children: &mut [Frac],
+) -> Result<(), ExactRefusal>
+    requires few { arc_count graph.now < 2 ^ 32 }
+    requires selves { selves.now
+        ≡ list_of (component_count graph.now) (self_in graph.now shares.now.of) }
+    requires outside { outside.now ≡ outside_numbers graph.now }
+    requires none { map value_of children.old ≡ no_times graph.now }
+    ensures times { IfOk result (λ _. (x : ExactTimes) → IsExactFlow graph.now shares.now.of x
+        → map value_of children.new ≡ child_times graph.now x) }
+    ensures fits { IfOk result (λ _. (x : ExactTimes) → IsExactFlow graph.now shares.now.of x
+        → IsNoneWide graph.now shares.now.of x) }
+    ensures wide { IfErr result (IsTooWide graph.now shares.now.of) }
+{
+    graph.holds();
+    for arc in outside {
+        let i = *arc as usize;
+        match step(graph, selves, children, i) {
+            Some(after) => {
+                children[graph.component(graph.arc(i).caller) as usize] = after;
+            }
+            None => return Err(too_wide(graph, i)),
+        }
+    }
+    Ok(())
+}
+
+/// The exact flow that comes of tables in which no step is done. It takes no memory: its one refusal is the first step at
+/// which a fraction does not fit, and it comes exactly where there is one.
+fn solve(graph: &Graph, shares: &Shares, tables: Tables) -> Result<ExactFlow, ExactRefusal>
     requires each { length shares.now.of ≡ graph.now.functions }
     requires few { arc_count graph.now < 2 ^ 32 }
-    requires sized { IsSized graph.now shares.now.of flow }
-    requires none { (c : ℕ) → time_at flow.child c ≡ fraction 0 1 }
+    requires start { IsStart graph.now shares.now.of tables }
     ensures sized { IfOk result (HasTimes graph.now) }
     ensures value { IfOk result (λ e. e ≡ exact_flow_in graph.now shares.now.of) }
     ensures times { IfOk result (λ e. (x : ExactTimes) → IsExactFlow graph.now shares.now.of x
@@ -123,15 +124,24 @@ fn solve(graph: &Graph, shares: &Shares, flow: ExactFlow) -> Result<ExactFlow, E
 {
     graph.holds();
     shares.holds();
-    let mut flow = flow;
-    for k in 0..flow.outside_arcs().len() {
-        let (c, i) = flow.outside_arcs()[k];
-        match step(graph, &flow, i) {
-            Some(handed) => put(&mut flow, c, i, &handed),
-            None => return Err(too_wide(graph, i)),
-        }
+    let mut tables = tables;
+    match hand_all_on(
+        graph,
+        shares,
+        tables.selves.as_slice(),
+        tables.outside.as_slice(),
+        &mut tables.children,
+    ) {
+        Ok(()) => Ok(ExactFlow {
+            selves: tables.selves,
+            children: tables.children,
+            entering: tables.entering,
+            calls: tables.calls,
+            callees: tables.callees,
+            outside: tables.outside,
+        }),
+        Err(refusal) => Err(refusal),
     }
-    Ok(flow)
 }
 
 /// The exact times of a graph of functions with these shares: those of the one flow in which nothing is rounded,
@@ -153,6 +163,6 @@ pub fn exact(alloc: Global, graph: &Graph, shares: &Shares) -> Result<ExactFlow,
     if graph.arc_count() > u32::MAX as usize {
         return Err(ExactRefusal::OutOfMemory);
     }
-    let flow = start(alloc, graph, shares)?;
-    solve(graph, shares, flow)
+    let tables = start(alloc, graph, shares)?;
+    solve(graph, shares, tables)
 }

@@ -1,24 +1,34 @@
 -- The lines of arcs, component by component.
-use Rattle.std.proofs.Common.{◌≡◌, ◌≢◌, ◌<◌, ◌≤◌, ℕ, zero, suc, ◌+◌, ◌-◌, Bool, true, false, cond, List, [], ◌∷◌, ◌++◌, length, take, drop, get_or, refl, ap, sym, ◌∙◌, subst, ⊎_elim, arith, length-append}
-use Rattle.std.specs.Prelude.{filter}
+use Rattle.std.proofs.Common.{◌≡◌, ◌≢◌, ◌<◌, ◌≤◌, ℕ, zero, suc, ◌+◌, ◌-◌, Bool, true, false, cond, List, [], ◌∷◌, ◌++◌, length, map, take, drop, get_or, refl, ap, sym, ◌∙◌, subst, ⊎_elim, arith, length-append}
+use Rattle.std.specs.Prelude.{◌==◌, filter}
 use Rattle.std.specs.List.{All, flat_map, range_with_len}
-use Rattle.std.proofs.lemmas.Bool.{cases_lt, cases_eq}
-use Rattle.std.proofs.lemmas.List.{get_or_append_left, get_or-append_right}
-use Rattle.std.proofs.lemmas.List.Elements.{All-append}
+use Rattle.std.proofs.lemmas.Bool.{cases_lt, cases_eq, and_parts, eqb-true}
+use Rattle.std.proofs.lemmas.List.{get_or_append_left, get_or-append_right, map-append}
+use Rattle.std.proofs.lemmas.List.Elements.{All-append, All-cons, All-filter}
 use Rattle.call_cycles.specs.Heads.{pair_if}
-use Rattle.call_cycles.specs.Graph.{GraphValue, arc_count, component_count}
+use Rattle.call_cycles.specs.Sums.{numbers_below}
+use Rattle.call_cycles.specs.Graph.{GraphValue, arc_count, component_count, source_of, is_outside, leaves}
+use Rattle.call_cycles.proofs.RowLemmas.{numbers_low}
 use Rattle.propagate.specs.Arcs.{outside_arcs_from, outside_arcs_of}
-use Rattle.propagate.proofs.ArcOrderLemmas.{in_row}
+use Rattle.exact_flow.specs.Times.{outside_numbers}
 
--- pairs that are there are lines of numbers that pass
-pub lines_of_pairs : (line : ℕ → List ℕ) (passes : ℕ → Bool) (c : ℕ) (xs : List ℕ) → flat_map (λ (p : ℕ × ℕ). line p.1) (flat_map (λ i. pair_if (passes i) (c, i)) xs) ≡ flat_map line (filter passes xs)
-lines_of_pairs line passes c [] = refl
-lines_of_pairs line passes c (x ∷ xs) = by (lines_of_pairs line passes c xs) (passes x)
+-- pairs that are there have the numbers that pass
+numbers_of_pairs : (passes : ℕ → Bool) (c : ℕ) (xs : List ℕ) → map (λ (p : ℕ × ℕ). p.1) (flat_map (λ i. pair_if (passes i) (c, i)) xs) ≡ filter passes xs
+numbers_of_pairs passes c [] = refl
+numbers_of_pairs passes c (x ∷ xs) = by (numbers_of_pairs passes c xs) (passes x)
   where
-    by : flat_map (λ (p : ℕ × ℕ). line p.1) (flat_map (λ i. pair_if (passes i) (c, i)) xs) ≡ flat_map line (filter passes xs)
-        → (b : Bool) → flat_map (λ (p : ℕ × ℕ). line p.1) (pair_if b (c, x) ++ flat_map (λ i. pair_if (passes i) (c, i)) xs) ≡ flat_map line (cond b (x ∷ filter passes xs) (filter passes xs))
-    by rest true = ap (λ (ys : List ℕ). line x ++ ys) rest
+    by : map (λ (p : ℕ × ℕ). p.1) (flat_map (λ i. pair_if (passes i) (c, i)) xs) ≡ filter passes xs
+        → (b : Bool) → map (λ (p : ℕ × ℕ). p.1) (pair_if b (c, x) ++ flat_map (λ i. pair_if (passes i) (c, i)) xs) ≡ cond b (x ∷ filter passes xs) (filter passes xs)
+    by rest true = ap (λ (ys : List ℕ). x ∷ ys) rest
     by rest false = rest
+
+all_pass : (passes : ℕ → Bool) (xs : List ℕ) → All (λ i. passes i ≡ true) (filter passes xs)
+all_pass passes [] = λ k d low. absurd (omega arith)
+all_pass passes (x ∷ xs) = by (all_pass passes xs) (passes x) refl
+  where
+    by : All (λ i. passes i ≡ true) (filter passes xs) → (b : Bool) → passes x ≡ b → All (λ i. passes i ≡ true) (cond b (x ∷ filter passes xs) (filter passes xs))
+    by rest true here = All-cons (λ i. passes i ≡ true) x (filter passes xs) here rest
+    by rest false here = rest
 
 take_front : {X : Type 0} (xs ys : List X) → take (length xs) (xs ++ ys) ≡ xs
 take_front [] ys = refl
@@ -29,62 +39,82 @@ drop_front [] ys = refl
 drop_front (x ∷ xs) ys = drop_front xs ys
 
 module _ (g : GraphValue) where
+  -- the numbers of the outside arcs that leave component c
+  abbrev pub leaving_of : ℕ → List ℕ
+  leaving_of c = filter (leaves g c) (numbers_below (arc_count g))
+
+  pub arcs_low : (c : ℕ) → All (λ i. i < arc_count g) (leaving_of c)
+  arcs_low c = All-filter (leaves g c) (λ i. i < arc_count g) (numbers_below (arc_count g)) (numbers_low (arc_count g))
+
+  those_leave : (c : ℕ) → All (λ i. source_of g i ≡ c) (leaving_of c)
+  those_leave c k d low = leave (get_or (leaving_of c) k d) (all_pass (leaves g c) (numbers_below (arc_count g)) k d low)
+    where
+      leave : (i : ℕ) → leaves g c i ≡ true → source_of g i ≡ c
+      leave i passes = eqb-true (source_of g i) c (and_parts (is_outside g i) (source_of g i == c) passes).1
+
   -- the arcs of component c stand in front of those of later ones
-  later_apart : (c a k : ℕ) → c < a → All (λ (p : ℕ × ℕ). p.0 ≢ c) (flat_map (outside_arcs_from g) (range_with_len a k))
+  later_apart : (c a k : ℕ) → c < a → All (λ i. source_of g i ≢ c) (flat_map leaving_of (range_with_len a k))
   later_apart c a zero less = λ k d low. absurd (omega arith)
   later_apart c a (suc k) less =
-      All-append (λ (p : ℕ × ℕ). p.0 ≢ c) (outside_arcs_from g a) (flat_map (outside_arcs_from g) (range_with_len (a + 1) k))
-      (λ j d low same. let at = in_row g a (arc_count g) j d low in let own = at.0 in omega arith)
+      All-append (λ i. source_of g i ≢ c) (leaving_of a) (flat_map leaving_of (range_with_len (a + 1) k))
+      (λ j d low same. let own = those_leave a j d low in omega arith)
       (later_apart c (a + 1) k (omega arith))
 
+  pub all_low : (a k : ℕ) → All (λ i. i < arc_count g) (flat_map leaving_of (range_with_len a k))
+  all_low a zero = λ k d low. absurd (omega arith)
+  all_low a (suc k) = All-append (λ i. i < arc_count g) (leaving_of a) (flat_map leaving_of (range_with_len (a + 1) k)) (arcs_low a) (all_low (a + 1) k)
+
   -- a count of those that leave c counts them all
-  counted : (c n : ℕ) (front back : List (ℕ × ℕ)) → All (λ (p : ℕ × ℕ). p.0 ≡ c) front → All (λ (p : ℕ × ℕ). p.0 ≢ c) back → n ≤ length (front ++ back)
-      → ((k : ℕ) (d : ℕ × ℕ) → k < n → (get_or (front ++ back) k d).0 ≡ c) → ((d : ℕ × ℕ) → n < length (front ++ back) → (get_or (front ++ back) n d).0 ≢ c) → n ≡ length front
+  counted : (c n : ℕ) (front back : List ℕ) → All (λ i. source_of g i ≡ c) front → All (λ i. source_of g i ≢ c) back → n ≤ length (front ++ back)
+      → ((k d : ℕ) → k < n → source_of g (get_or (front ++ back) k d) ≡ c) → ((d : ℕ) → n < length (front ++ back) → source_of g (get_or (front ++ back) n d) ≢ c) → n ≡ length front
   counted c n front back own other within those next =
       let long = length-append front back in
       ⊎_elim
       (λ (less : n < length front).
-      let there = ap (λ (p : ℕ × ℕ). p.0) (get_or_append_left front back (0, 0) n less) in
-      absurd (next (0, 0) (omega arith) (there ∙ own n (0, 0) less)))
+      let there = ap (source_of g) (get_or_append_left front back 0 n less) in
+      absurd (next 0 (omega arith) (there ∙ own n 0 less)))
       (λ (more : length front ≤ n).
       ⊎_elim
       (λ (same : length front ≡ n). sym same)
       (λ (apart : length front ≢ n).
-      let there = ap (λ (p : ℕ × ℕ). p.0) (get_or-append_right front back (length front) (length front) (0, 0) refl (omega arith)) in
-      absurd (other (length front - length front) (0, 0) (omega arith) (sym there ∙ those (length front) (0, 0) (omega arith))))
+      let there = ap (source_of g) (get_or-append_right front back (length front) (length front) 0 refl (omega arith)) in
+      absurd (other (length front - length front) 0 (omega arith) (sym there ∙ those (length front) 0 (omega arith))))
       (cases_eq (length front) n))
       (cases_lt n (length front))
 
   -- the arcs from component c on
-  abbrev pub arcs_from_on : ℕ → List (ℕ × ℕ)
-  arcs_from_on c = flat_map (outside_arcs_from g) (range_with_len c (component_count g - c))
+  abbrev pub arcs_from_on : ℕ → List ℕ
+  arcs_from_on c = flat_map leaving_of (range_with_len c (component_count g - c))
 
-  pub all_arcs : outside_arcs_of g ≡ arcs_from_on 0
+  numbers_of_all : (cs : List ℕ) → map (λ (p : ℕ × ℕ). p.1) (flat_map (outside_arcs_from g) cs) ≡ flat_map leaving_of cs
+  numbers_of_all [] = refl
+  numbers_of_all (c ∷ cs) =
+      map-append (λ (p : ℕ × ℕ). p.1) (outside_arcs_from g c) (flat_map (outside_arcs_from g) cs)
+      ∙ (λ j. numbers_of_pairs (leaves g c) c (numbers_below (arc_count g)) j ++ numbers_of_all cs j)
+
+  pub all_arcs : outside_numbers g ≡ arcs_from_on 0
   unfolding outside_arcs_of
-  all_arcs = (let whole : component_count g ≡ component_count g - 0 = omega arith in ap (λ (n : ℕ). flat_map (outside_arcs_from g) (range_with_len 0 n)) whole)
+  all_arcs =
+      (let whole : component_count g ≡ component_count g - 0 = omega arith in
+      numbers_of_all (numbers_below (component_count g)) ∙ ap (λ (n : ℕ). flat_map leaving_of (range_with_len 0 n)) whole)
 
-  module _ (c n : ℕ) (rest : List (ℕ × ℕ)) (low : c < component_count g) (is : rest ≡ arcs_from_on c) (within : n ≤ length rest)
-      (those : (k : ℕ) (d : ℕ × ℕ) → k < n → (get_or rest k d).0 ≡ c) (next : (d : ℕ × ℕ) → n < length rest → (get_or rest n d).0 ≢ c) where
-    split : rest ≡ outside_arcs_from g c ++ arcs_from_on (c + 1)
+  module _ (c n : ℕ) (rest : List ℕ) (low : c < component_count g) (is : rest ≡ arcs_from_on c) (within : n ≤ length rest)
+      (those : (k d : ℕ) → k < n → source_of g (get_or rest k d) ≡ c) (next : (d : ℕ) → n < length rest → source_of g (get_or rest n d) ≢ c) where
+    split : rest ≡ leaving_of c ++ arcs_from_on (c + 1)
     split = is ∙ by (component_count g - c) (component_count g - (c + 1)) (omega arith)
       where
-        by : (k j : ℕ) → k ≡ suc j → flat_map (outside_arcs_from g) (range_with_len c k) ≡ outside_arcs_from g c ++ flat_map (outside_arcs_from g) (range_with_len (c + 1) j)
-        by k j same = ap (λ (i : ℕ). flat_map (outside_arcs_from g) (range_with_len c i)) same
+        by : (k j : ℕ) → k ≡ suc j → flat_map leaving_of (range_with_len c k) ≡ leaving_of c ++ flat_map leaving_of (range_with_len (c + 1) j)
+        by k j same = ap (λ (i : ℕ). flat_map leaving_of (range_with_len c i)) same
 
-    count : n ≡ length (outside_arcs_from g c)
+    count : n ≡ length (leaving_of c)
     count =
-        counted c n (outside_arcs_from g c) (arcs_from_on (c + 1))
-        (λ k d inside. let at = in_row g c (arc_count g) k d inside in at.0)
-        (later_apart c (c + 1) (component_count g - (c + 1)) (omega arith))
-        (subst (λ (xs : List (ℕ × ℕ)). n ≤ length xs) split within)
-        (subst (λ (xs : List (ℕ × ℕ)). (k : ℕ) (d : ℕ × ℕ) → k < n → (get_or xs k d).0 ≡ c) split those)
-        (subst (λ (xs : List (ℕ × ℕ)). (d : ℕ × ℕ) → n < length xs → (get_or xs n d).0 ≢ c) split next)
+        counted c n (leaving_of c) (arcs_from_on (c + 1)) (those_leave c) (later_apart c (c + 1) (component_count g - (c + 1)) (omega arith))
+        (subst (λ (xs : List ℕ). n ≤ length xs) split within)
+        (subst (λ (xs : List ℕ). (k d : ℕ) → k < n → source_of g (get_or xs k d) ≡ c) split those)
+        (subst (λ (xs : List ℕ). (d : ℕ) → n < length xs → source_of g (get_or xs n d) ≢ c) split next)
 
-    pub taken : take n rest ≡ outside_arcs_from g c
-    taken = ap (take n) split ∙ ap (λ (k : ℕ). take k (outside_arcs_from g c ++ arcs_from_on (c + 1))) count ∙ take_front (outside_arcs_from g c) (arcs_from_on (c + 1))
+    pub taken : take n rest ≡ leaving_of c
+    taken = ap (take n) split ∙ ap (λ (k : ℕ). take k (leaving_of c ++ arcs_from_on (c + 1))) count ∙ take_front (leaving_of c) (arcs_from_on (c + 1))
 
     pub left : drop n rest ≡ arcs_from_on (c + 1)
-    left = ap (drop n) split ∙ ap (λ (k : ℕ). drop k (outside_arcs_from g c ++ arcs_from_on (c + 1))) count ∙ drop_front (outside_arcs_from g c) (arcs_from_on (c + 1))
-
-  pub numbers_low : (c : ℕ) → All (λ (p : ℕ × ℕ). p.1 < arc_count g) (outside_arcs_from g c)
-  numbers_low c k d low = let at = in_row g c (arc_count g) k d low in at.1
+    left = ap (drop n) split ∙ ap (λ (k : ℕ). drop k (leaving_of c ++ arcs_from_on (c + 1))) count ∙ drop_front (leaving_of c) (arcs_from_on (c + 1))

@@ -1,12 +1,12 @@
 //! The text of an exact flow, printed line by line.
 
-ghost use Rattle.std.specs.Prelude.{◌≡◌, ◌≢◌, ◌<◌, ◌≤◌, ◌++◌, ℕ, length, codes, slice_get, slice_index_or};
+ghost use Rattle.std.specs.Prelude.{◌≡◌, ◌≢◌, ◌<◌, ◌≤◌, ◌++◌, ℕ, length, codes, filter, slice_get, slice_index_or};
 ghost use Rattle.std.specs.List.{All, flat_map};
 ghost use Rattle.host_port.specs.Buffered.{Adds};
 ghost use Rattle.host_port.specs.Host.{Puts};
 ghost use Rattle.host_port.specs.declared.side.Side.TheVariants.{Output};
-ghost use Rattle.call_cycles.specs.Graph.{arc_count, component_count};
-ghost use Rattle.propagate.specs.Arcs.{outside_arcs_from};
+ghost use Rattle.call_cycles.specs.Graph.{arc_count, component_count, leaves, source_of};
+ghost use Rattle.call_cycles.specs.Sums.{numbers_below};
 ghost use Rattle.exact_flow.specs.Times.{HasTimes};
 ghost use Rattle.graph_report.specs.ExactText.{symbol_address, arc_text, head_text, component_text, components_text, exact_text};
 
@@ -72,7 +72,7 @@ fn put_components<H: Host>(
 {
     let mut rest = exact.outside_arcs();
     for c in 0..graph.component_count() {
-        let (arcs, later) = rest.split_at(leaving(rest, c));
+        let (arcs, later) = rest.split_at(leaving(graph, rest, c));
         put_component(symbols, graph, exact, c, arcs, lines, host)?;
         rest = later;
     }
@@ -80,14 +80,15 @@ fn put_components<H: Host>(
 }
 
 /// How many of the first arcs leave component `c`.
-fn leaving(arcs: &[(u32, usize)], c: u32) -> usize
+fn leaving(graph: &Graph, arcs: &[u32], c: u32) -> usize
+    requires { All (λ i. i < arc_count graph.now) arcs.now }
     ensures within { result ≤ length arcs.now }
-    ensures those { (k : ℕ) (d : ℕ × ℕ) → k < result → (slice_index_or arcs.now k d).0 ≡ c }
-    ensures next { (d : ℕ × ℕ) → result < length arcs.now
-        → (slice_index_or arcs.now result d).0 ≢ c }
+    ensures those { (k d : ℕ) → k < result → source_of graph.now (slice_index_or arcs.now k d) ≡ c }
+    ensures next { (d : ℕ) → result < length arcs.now
+        → source_of graph.now (slice_index_or arcs.now result d) ≢ c }
 {
     for (n, arc) in arcs.iter().enumerate() {
-        if arc.0 != c {
+        if graph.component(graph.arc(*arc as usize).caller) != c {
             return n;
         }
     }
@@ -100,14 +101,14 @@ fn put_component<H: Host>(
     graph: &Graph,
     exact: &ExactFlow,
     c: u32,
-    arcs: &[(u32, usize)],
+    arcs: &[u32],
     lines: &mut PrintBuf,
     host: &mut H,
 ) -> Result<(), Failed>
     requires functions { graph.now.functions ≡ length symbols.now }
     requires times { HasTimes graph.now exact.now }
     requires component { c < component_count graph.now }
-    requires arcs { arcs.now ≡ outside_arcs_from graph.now c }
+    requires arcs { arcs.now ≡ filter (leaves graph.now c) (numbers_below (arc_count graph.now)) }
     ensures { Adds Output (component_text symbols.now graph.now exact.now c) lines.old lines.new
         (H.outside host.old) (H.outside host.new) result }
 {
@@ -119,18 +120,18 @@ fn put_arcs<H: Host>(
     symbols: &[Symbol],
     graph: &Graph,
     exact: &ExactFlow,
-    arcs: &[(u32, usize)],
+    arcs: &[u32],
     lines: &mut PrintBuf,
     host: &mut H,
 ) -> Result<(), Failed>
     requires functions { graph.now.functions ≡ length symbols.now }
     requires times { HasTimes graph.now exact.now }
-    requires arcs { All (λ p. p.1 < arc_count graph.now) arcs.now }
-    ensures { Adds Output (flat_map (λ p. arc_text symbols.now graph.now exact.now p.1) arcs.now)
+    requires arcs { All (λ i. i < arc_count graph.now) arcs.now }
+    ensures { Adds Output (flat_map (arc_text symbols.now graph.now exact.now) arcs.now)
         lines.old lines.new (H.outside host.old) (H.outside host.new) result }
 {
-    for p in arcs {
-        lines.put(host, arc_line(symbols, graph, exact, p.1).bytes())?;
+    for arc in arcs {
+        lines.put(host, arc_line(symbols, graph, exact, *arc as usize).bytes())?;
     }
     Ok(())
 }

@@ -1,81 +1,61 @@
-use Rattle.std.proofs.Common.{◌≡◌, ◌∙◌, ◌<◌, ◌+◌, ℕ, List, get_or, length, refl, ap, sym, subst, arith}
-use Rattle.std.proofs.lemmas.Bool.{true≢false}
-use Rattle.std.proofs.lemmas.List.{get_or_default}
+use Rattle.std.proofs.Common.{◌≡◌, ◌∙◌, List, map, ap}
+use Rattle.std.specs.Vec.{with_items}
+use Rattle.std.proofs.lemmas.List.{with_items_is}
+use Rattle.call_cycles.specs.ExactFlow.{ExactTimes, IsExactFlow}
 use Rattle.fraction128.specs.Values.{value_of}
+use Rattle.fraction128.specs.declared.fracs.Frac.{Frac}
+use Rattle.propagate.specs.ExactSolution.{exact_in}
+use Rattle.propagate.proofs.ExactLemmas.{exact_solution}
 use Rattle.propagate.proofs.ExactRootLemmas.{exact_roots}
-use Rattle.call_cycles.specs.Graph.{head_of, source_of}
-use Rattle.exact_flow.specs.Times.{ExactFlowValue}
-use Rattle.exact_flow.specs.Answers.{IsTooWide}
-use Rattle.exact_flow.proofs.StateLemmas.{IsSoFar, none_done, one_more_done, all_times, has_times, leaving}
-use Rattle.exact_flow.proofs.WideLemmas.{first_found, none_left, value_left}
+use Rattle.exact_flow.specs.Solution.{exact_flow_in}
+use Rattle.exact_flow.specs.Progress.{child_times}
+use Rattle.exact_flow.specs.declared.flows.ExactFlow.TheInside.{Inside}
+use Rattle.exact_flow.specs.declared.tables.Tables.{Tables}
+use Rattle.exact_flow.proofs.FlowLemmas.{flow_held, flow_is, flow_sized}
+use Rattle.exact_flow.proofs.WideLemmas.{none_first}
 use Rattle.exact_flow.proofs.solve.solve.Goals as goal
-use Rattle.exact_flow.proofs.solve.solve.Goals.{After-loop-k}
+use Rattle.exact_flow.proofs.solve.solve.Goals.{In-Ok}
 
-at_end : (c : After-loop-k) → c.loop-k.k ≡ length c.loop-k.flow.outside
-at_end c =
-    let first = ap length c.outside_arcs-k-end.ensures in
-    let whole = ap length c.requires.sized.outside.whole in
-    let now = ap length c.loop-k.invariant.sized.outside.whole in
-    let test = c.loop-k-test.false in
-    omega arith
+-- the fields that the tables become
+abbrev made : Tables → List Frac → Inside
+made t children = record { selves = t.selves; children = with_items t.children children; entering = t.entering; calls = t.calls; callees = t.callees; outside = t.outside }
 
-pub loop-k-init : goal.loop-k-init
-loop-k-init c = none_done _ _ _ _ c.requires.sized c.requires.none
+found : (c : In-Ok) (x : ExactTimes) → IsExactFlow c.args.graph.now c.args.shares.now.of x → map value_of (made c.args.tables c.hand_all_on.new.children).children.items ≡ child_times c.args.graph.now x
+found c x exact = ap (map value_of) (with_items_is c.args.tables.children c.hand_all_on.new.children (c.hand_all_on.auto.children ∙ c.deref_mut.ensures.len)) ∙ c.in-Ok.ensures.times x exact
 
-pub returns-clause-sized : goal.returns-clause-sized
-returns-clause-sized c = has_times c.args.graph.now c.args.shares.now.of c.loop-k.flow c.loop-k.invariant.sized
+pub invariant_of-result : goal.invariant_of-result
+invariant_of-result c =
+    let g = c.args.graph.now in
+    let shares = c.args.shares.now.of in
+    let x = exact_in g shares in
+    let exact = exact_solution g shares c.holds.ensures.graph in
+    flow_held g shares c.holds.ensures.graph (made c.args.tables c.hand_all_on.new.children) c.requires.start.tables x exact (found c x exact) (c.in-Ok.ensures.fits x exact)
 
-pub returns-clause-value : goal.returns-clause-value
-returns-clause-value c = value_left c.args.graph.now c.args.shares.now.of c.loop-k.flow.outside c.loop-k.k c.loop-k.flow c.holds.ensures.graph (at_end c) c.loop-k.invariant c.loop-k.invariant.sized.outside
+pub returns-in-Ok-clause-sized : goal.returns-in-Ok-clause-sized
+returns-in-Ok-clause-sized c =
+    let g = c.args.graph.now in
+    let shares = c.args.shares.now.of in
+    let x = exact_in g shares in
+    let exact = exact_solution g shares c.holds.ensures.graph in
+    flow_sized g shares c.holds.ensures.graph (made c.args.tables c.hand_all_on.new.children) c.requires.start.tables x exact (found c x exact)
 
-pub returns-clause-times : goal.returns-clause-times
-returns-clause-times c = λ x exact. all_times c.args.graph.now c.args.shares.now.of c.loop-k.flow.outside c.loop-k.k c.loop-k.flow c.loop-k.invariant.sized.outside (at_end c) c.loop-k.invariant x exact
+pub returns-in-Ok-clause-value : goal.returns-in-Ok-clause-value
+unfolding exact_flow_in
+returns-in-Ok-clause-value c =
+    let g = c.args.graph.now in
+    let shares = c.args.shares.now.of in
+    let x = exact_in g shares in
+    let exact = exact_solution g shares c.holds.ensures.graph in
+    flow_is g shares c.holds.ensures.graph (made c.args.tables c.hand_all_on.new.children) c.requires.start.tables x exact (found c x exact)
 
-pub returns-clause-fits : goal.returns-clause-fits
-returns-clause-fits c = none_left c.args.graph.now c.args.shares.now.of c.loop-k.flow.outside c.loop-k.k c.loop-k.flow c.holds.ensures.graph (at_end c) c.loop-k.invariant c.loop-k.invariant.sized.outside
+pub returns-in-Ok-clause-times : goal.returns-in-Ok-clause-times
+returns-in-Ok-clause-times c = λ x exact. flow_is c.args.graph.now c.args.shares.now.of c.holds.ensures.graph (made c.args.tables c.hand_all_on.new.children) c.requires.start.tables x exact (found c x exact)
 
-pub returns-clause-whole : goal.returns-clause-whole
-returns-clause-whole c = λ x exact. exact_roots c.args.graph.now c.args.shares.now.of c.holds.ensures.graph x exact c.requires.each
+pub returns-in-Ok-clause-whole : goal.returns-in-Ok-clause-whole
+returns-in-Ok-clause-whole c = λ x exact. exact_roots c.args.graph.now c.args.shares.now.of c.holds.ensures.graph x exact c.requires.each
 
-pub too_wide-requires-clause-arc : goal.too_wide-requires-clause-arc
-too_wide-requires-clause-arc c =
-    let e = c.loop-k.flow in
-    let first = ap length c.outside_arcs-k-end.ensures in
-    let whole = ap length c.requires.sized.outside.whole in
-    let now = ap length c.loop-k.invariant.sized.outside.whole in
-    let test = c.loop-k-test.true in
-    let low : c.loop-k.k < length e.outside = omega arith in
-    let p = get_or c.outside_arcs.result.now c.loop-k.k (0, 0) in
-    let at : p ≡ get_or e.outside c.loop-k.k p = ap (λ (xs : List (ℕ × ℕ)). get_or xs c.loop-k.k (0, 0)) c.outside_arcs.ensures ∙ get_or_default e.outside c.loop-k.k (0, 0) p low in
-    let l = leaving c.args.graph.now c.args.shares.now.of e.outside c.loop-k.k p e c.holds.ensures.graph c.loop-k.invariant.sized.outside low at c.loop-k.invariant in
-    l.0
-
-pub returns-in-None-clause-wide : goal.returns-in-None-clause-wide
-returns-in-None-clause-wide c =
-    let e = c.loop-k.flow in
-    let first = ap length c.outside_arcs-k-end.ensures in
-    let whole = ap length c.requires.sized.outside.whole in
-    let now = ap length c.loop-k.invariant.sized.outside.whole in
-    let test = c.loop-k-test.true in
-    let low : c.loop-k.k < length e.outside = omega arith in
-    let p = get_or c.outside_arcs.result.now c.loop-k.k (0, 0) in
-    let at : p ≡ get_or e.outside c.loop-k.k p = ap (λ (xs : List (ℕ × ℕ)). get_or xs c.loop-k.k (0, 0)) c.outside_arcs.ensures ∙ get_or_default e.outside c.loop-k.k (0, 0) p low in
-    let l = leaving c.args.graph.now c.args.shares.now.of e.outside c.loop-k.k p e c.holds.ensures.graph c.loop-k.invariant.sized.outside low at c.loop-k.invariant in
-    subst (IsTooWide c.args.graph.now c.args.shares.now.of) (sym c.too_wide.ensures)
-    (first_found c.args.graph.now c.args.shares.now.of e.outside c.loop-k.k p e c.holds.ensures.graph c.loop-k.invariant.sized.outside low at c.loop-k.invariant
-    (head_of c.args.graph.now (source_of c.args.graph.now p.1)) (ap (head_of c.args.graph.now) (sym l.1)) (λ fits. true≢false (sym (c.in-None.ensures.fits.1 fits))))
-
-pub loop-k-preserved : goal.loop-k-preserved
-loop-k-preserved c =
-    let e = c.loop-k.flow in
-    let first = ap length c.outside_arcs-k-end.ensures in
-    let whole = ap length c.requires.sized.outside.whole in
-    let now = ap length c.loop-k.invariant.sized.outside.whole in
-    let test = c.loop-k-test.true in
-    let low : c.loop-k.k < length e.outside = omega arith in
-    let p = get_or c.outside_arcs.result.now c.loop-k.k (0, 0) in
-    let at : p ≡ get_or e.outside c.loop-k.k p = ap (λ (xs : List (ℕ × ℕ)). get_or xs c.loop-k.k (0, 0)) c.outside_arcs.ensures ∙ get_or_default e.outside c.loop-k.k (0, 0) p low in
-    let h = c.in-Some.handed in
-    let next = one_more_done c.args.graph.now c.args.shares.now.of e.outside c.loop-k.k p e c.holds.ensures.graph c.loop-k.invariant.sized.outside low at c.loop-k.invariant
-    (value_of h.arc_self) (value_of h.arc_child) (value_of h.after) c.in-Some.ensures.arc_self c.in-Some.ensures.arc_child c.in-Some.ensures.after (c.in-Some.ensures.fits.0 refl) in
-    subst (λ (v : ExactFlowValue). IsSoFar c.args.graph.now c.args.shares.now.of v.outside (c.loop-k.k + 1) v) (sym c.put.ensures) next
+pub returns-in-Ok-clause-fits : goal.returns-in-Ok-clause-fits
+returns-in-Ok-clause-fits c =
+    let g = c.args.graph.now in
+    let shares = c.args.shares.now.of in
+    none_first g shares c.holds.ensures.graph (c.in-Ok.ensures.fits (exact_in g shares) (exact_solution g shares c.holds.ensures.graph))
