@@ -65,7 +65,7 @@ const ONE: Rows<'static> = Rows {
 };
 
 /// What differs from one of each.
-const OTHERS: [(&'static str, Rows<'static>); 4] = [
+const OTHERS: &[(&'static str, Rows<'static>)] = &[
     (
         "a histogram",
         Rows {
@@ -107,7 +107,7 @@ fn have_same(alloc: Global, one: Rows<'_>, other: Rows<'_>) -> Result<bool, AddR
 fn profiles_that_hold_the_same(rt: HostRuntime) -> Result<(), Fail> {
     assert!(rt; have_same(rt.alloc(), ONE, ONE)?);
     for (name, other) in OTHERS {
-        assert!(rt; !have_same(rt.alloc(), ONE, other)?, "{name}");
+        assert!(rt; !have_same(rt.alloc(), ONE, *other)?, "{name}");
     }
     Ok(())
 }
