@@ -97,25 +97,39 @@ const SECOND_RATES: &[(&'static str, u32, Result<(), AddRefusal>)] = &[
 
 /// The one histogram and its unit, whether or not the second one was added to it.
 fn expect_one_histogram(rt: &impl Abort, profile: &Profile, counters: &[u64], name: &str) {
-    assert_eq!(rt; profile.unit(), Some(PER_100), "{name}");
-    assert_eq!(rt; profile.hist_count(), 1, "{name}");
-    assert_eq!(rt; first_counters(profile), counters, "{name}");
+    assert_eq!(rt;
+        (
+            profile.unit(),
+            profile.hist_count(),
+            first_counters(profile)
+        ),
+        (Some(PER_100), 1, counters),
+        "{name}"
+    );
 }
 
 /// Nothing stands behind the refused histogram.
 fn expect_first_alone(rt: &impl Abort, profile: &Profile, name: &str) {
     expect_one_histogram(rt, profile, &[1, 2, 0, 0], name);
-    assert_eq!(rt; profile.arc_count(), 0, "{name}");
-    assert_eq!(rt; profile.block_count(), 0, "{name}");
+    assert_eq!(rt;
+        (profile.arc_count(), profile.block_count()),
+        (0, 0),
+        "{name}"
+    );
 }
 
 fn expect_whole_file(rt: &impl Abort, profile: &Profile, name: &str) {
     expect_one_histogram(rt, profile, &[2, 4, 0, 0], name);
-    assert_eq!(rt; profile.arc_count(), 1, "{name}");
-    assert_eq!(rt; profile.block_count(), 1, "{name}");
-    assert_eq!(rt; profile.samples(), 6, "{name}");
-    assert_eq!(rt; profile.calls(), 0, "{name}");
-    assert_eq!(rt; profile.blocks(), 9, "{name}");
+    assert_eq!(rt;
+        (profile.arc_count(), profile.block_count()),
+        (1, 1),
+        "{name}"
+    );
+    assert_eq!(rt;
+        (profile.samples(), profile.calls(), profile.blocks()),
+        (6, 0, 9),
+        "{name}"
+    );
 }
 
 /// Adds a file, and looks at what was added.
@@ -198,15 +212,23 @@ fn expect_arcs_in_parts(rt: &impl Abort, profile: &Profile) {
 }
 
 fn expect_blocks_in_parts(rt: &impl Abort, profile: &Profile) {
-    assert_eq!(rt; profile.block_count(), 2);
-    assert_eq!(rt; (profile.block_of(0x1_0000), profile.block_of(8)), (18, 9));
+    assert_eq!(rt;
+        (
+            profile.block_count(),
+            profile.block_of(0x1_0000),
+            profile.block_of(8)
+        ),
+        (2, 18, 9)
+    );
 }
 
 #[test]
 fn the_parts_of_a_file(rt: HostRuntime) -> Result<(), Fail> {
     let profile = added_in_parts(rt.alloc())?;
-    assert_eq!(rt; profile.unit(), Some(PER_100));
-    assert_eq!(rt; first_counters(&profile), [1, 2, 0, 0].as_slice());
+    assert_eq!(rt;
+        (profile.unit(), first_counters(&profile)),
+        (Some(PER_100), [1, 2, 0, 0].as_slice())
+    );
     expect_arcs_in_parts(&rt, &profile);
     expect_blocks_in_parts(&rt, &profile);
     Ok(())
@@ -454,10 +476,13 @@ fn executions_of_64_bits(rt: HostRuntime) -> Result<(), Fail> {
     let mut profile = new_profile(rt.alloc())?;
     add_large_block(&mut profile)?;
     let count = (1 << 57) + 9;
-    assert_eq!(rt; firsts(&profile), (None, Some((0x1_0000, count))));
     assert_eq!(rt;
-        (profile.block_of(0x1_0000), profile.block_of(0x1_0004)),
-        (count, 0)
+        (
+            firsts(&profile),
+            profile.block_of(0x1_0000),
+            profile.block_of(0x1_0004)
+        ),
+        ((None, Some((0x1_0000, count))), count, 0)
     );
     Ok(())
 }
@@ -512,18 +537,25 @@ fn many_added(alloc: Global) -> Result<Box<Profile>, AddRefusal> {
 
 fn expect_many(rt: &impl Abort, profile: &Profile) {
     assert_eq!(rt; (profile.unit(), profile.hist_count()), (None, 0));
-    assert_eq!(rt; (profile.calls(), profile.arc_count()), (100_000, 100_000));
     assert_eq!(rt;
-        (profile.blocks(), profile.block_count()),
-        (100_000, 100_000)
+        (
+            profile.calls(),
+            profile.arc_count(),
+            profile.blocks(),
+            profile.block_count()
+        ),
+        (100_000, 100_000, 100_000, 100_000)
     );
 }
 
 fn expect_many_arcs(rt: &impl Abort, profile: &Profile) {
     for i in 0..profile.arc_count() {
         let (from, to, count) = profile.arc(i);
-        assert_eq!(rt; from as usize + 4 * i, 0x80_0000, "{i}");
-        assert_eq!(rt; (to, count), (0x1_0000, 1), "{i}");
+        assert_eq!(rt;
+            (from as usize + 4 * i, to, count),
+            (0x80_0000, 0x1_0000, 1),
+            "{i}"
+        );
     }
 }
 
@@ -662,9 +694,15 @@ const ORDERS: &[(&'static str, Order, u32)] = &[
 ];
 
 fn expect_side_by_side(rt: &impl Abort, profile: &Profile, name: &str, count: u32) {
-    assert_eq!(rt; profile.hist_count(), count as usize, "{name}");
-    assert_eq!(rt; profile.samples(), u64::from(count), "{name}");
-    assert!(rt; is_side_by_side(profile), "{name}");
+    assert_eq!(rt;
+        (
+            profile.hist_count(),
+            profile.samples(),
+            is_side_by_side(profile)
+        ),
+        (count as usize, u64::from(count), true),
+        "{name}"
+    );
 }
 
 /// Looks at a profile whose histograms came in an order, and at its clone.

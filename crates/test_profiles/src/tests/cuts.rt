@@ -158,6 +158,22 @@ fn left_text(
     arcs_text(alloc, &left)
 }
 
+/// The arcs of a row stay.
+fn expect_row(
+    rt: &impl Abort,
+    alloc: Global,
+    symbols: &[Symbol],
+    whole: &Profile,
+    row: &Row,
+) -> Result<(), AllocError>
+    requires { IsAscending symbols.now }
+{
+    let (message, words, want) = row;
+    let text = left_text(alloc, symbols, whole, words)?;
+    assert_eq!(rt; text.as_str(), *want, "{message}");
+    Ok(())
+}
+
 /// The rows have their arcs.
 fn expect_rows(
     rt: &impl Abort,
@@ -167,9 +183,8 @@ fn expect_rows(
 ) -> Result<(), AllocError>
     requires { IsAscending symbols.now }
 {
-    for (message, words, want) in ROWS {
-        let text = left_text(alloc, symbols, whole, words)?;
-        assert_eq!(rt; text.as_str(), *want, "{message}");
+    for row in ROWS {
+        expect_row(rt, alloc, symbols, whole, row)?;
     }
     Ok(())
 }
@@ -200,8 +215,7 @@ fn expect_calls_gone(rt: &impl Abort, left: &Profile, whole: &Profile) {
         ),
         (3, 5, 0, 0)
     );
-    assert_eq!(rt; left.unit(), whole.unit());
-    assert_eq!(rt; whole.calls(), 7);
+    assert_eq!(rt; (left.unit(), whole.calls()), (whole.unit(), 7));
 }
 
 /// The calls by `main` of `a` are cut from some of each.

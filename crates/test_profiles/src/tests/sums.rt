@@ -412,10 +412,10 @@ const REFUSED: &[(&'static str, Rows<'static>, Unlike)] = &[
 
 /// Nothing was added to some of each.
 fn expect_some(rt: &impl Abort, profile: &Profile, name: &str) {
-    assert_eq!(rt; has_rows(profile, &SOME), (true, true, true), "{name}");
+    let totals = (profile.samples(), profile.calls(), profile.blocks());
     assert_eq!(rt;
-        (profile.samples(), profile.calls(), profile.blocks()),
-        (1, 4, 10),
+        (has_rows(profile, &SOME), totals),
+        ((true, true, true), (1, 4, 10)),
         "{name}"
     );
 }
@@ -492,8 +492,15 @@ fn called_twice(rt: &impl Abort, alloc: Global) -> Result<Box<Profile>, AllocErr
 }
 
 fn expect_called_twice(rt: &impl Abort, total: &Profile) {
-    assert_eq!(rt; (total.arc_count(), total.calls()), (150_000, 200_000));
-    assert_eq!(rt; (total.block_count(), total.blocks()), (150_000, 200_000));
+    assert_eq!(rt;
+        (
+            total.arc_count(),
+            total.calls(),
+            total.block_count(),
+            total.blocks()
+        ),
+        (150_000, 200_000, 150_000, 200_000)
+    );
     for i in 0..total.arc_count() {
         let (from, to, count) = total.arc(i);
         let both = i >= 50_000 && i < 100_000;
