@@ -2,6 +2,7 @@
 use gp_base::{Rec, Span};
 use mcount_arcs::{Entered, Gmon, Looked};
 use std::alloc::{AllocError, Global};
+use test_profiles::boxed;
 
 /// A call, entered to its end.
 fn call(gmon: &mut Gmon, from: u32, to: u32) {
@@ -21,16 +22,18 @@ fn call(gmon: &mut Gmon, from: u32, to: u32) {
 
 /// A run of the text from 0x10000 to below 0x10010, with 1, 2, 300 and 1 samples in its words, one
 /// sample behind it, and four calls.
-pub fn small_run(alloc: Global) -> Result<Gmon, AllocError> {
-    let mut gmon = Gmon::startup(
-        alloc,
-        Span {
-            low: 0x1_0000,
-            high: 0x1_0010,
-        },
-        2,
-        2,
-    )?;
+pub fn small_run(alloc: Global) -> Result<Box<Gmon>, AllocError> {
+    let text = Span {
+        low: 0x1_0000,
+        high: 0x1_0010,
+    };
+    let mut gmon = boxed(alloc, Gmon::startup(alloc, text, 2, 2)?)?;
+    run(&mut gmon);
+    Ok(gmon)
+}
+
+/// The samples and the calls of that run.
+fn run(gmon: &mut Gmon) {
     gmon.tick(0x1_0000);
     gmon.tick(0x1_0004);
     gmon.tick(0x1_0007);
@@ -39,11 +42,10 @@ pub fn small_run(alloc: Global) -> Result<Gmon, AllocError> {
     }
     gmon.tick(0x1_000F);
     gmon.tick(0x1_0010);
-    call(&mut gmon, 0x1_0008, 0x1_0020);
-    call(&mut gmon, 0x1_0008, 0x1_0030);
-    call(&mut gmon, 0x1_0008, 0x1_0020);
-    call(&mut gmon, 0x1_0004, 0x1_0014);
-    Ok(gmon)
+    call(gmon, 0x1_0008, 0x1_0020);
+    call(gmon, 0x1_0008, 0x1_0030);
+    call(gmon, 0x1_0008, 0x1_0020);
+    call(gmon, 0x1_0004, 0x1_0014);
 }
 
 fn has_small_counters(rec: &Rec) -> bool {

@@ -2,8 +2,10 @@
 //! the profiling runtime, runs, and the stacks of their samples.
 #![tactic(auto)]
 
+pub mod boxes;
 pub mod setups;
 
+pub use boxes::boxed;
 pub use setups::{ROUND, setup_of};
 
 #[cfg(test)]

@@ -1,8 +1,10 @@
 //! Profiles of rows: of calls, and of all that a profile holds.
 
-ghost use Rattle.std.specs.Prelude.{IfOk, OnOk};
+ghost use Rattle.std.specs.Prelude.{◌≡◌, IfOk, OnOk};
+ghost use Rattle.gmon_data.specs.Content.{empty_content};
 ghost use Rattle.test_profiles.specs.Rows.{HasRows, IsOneCounter};
 
+use crate::boxes::boxed;
 use gmon_data::{AddRefusal, Hist, Profile};
 use gp_base::{Totals, Unit};
 use std::alloc::{AllocError, Global};
@@ -20,6 +22,13 @@ pub struct Rows<'a> {
     pub arcs: &'a [(u32, u32, u64)],
     /// Address and executions.
     pub blocks: &'a [(u32, u64)],
+}
+
+/// A profile that holds nothing.
+pub fn new_profile(alloc: Global) -> Result<Box<Profile>, AllocError>
+    ensures { IfOk result (λ profile. profile.value ≡ empty_content) }
+{
+    boxed(alloc, Profile::new(alloc))
 }
 
 /// A histogram of one counter.
@@ -77,15 +86,18 @@ fn add_blocks(profile: &mut Profile, rows: &[(u32, u64)]) -> Result<(), AllocErr
 }
 
 /// Arcs: call site, callee and count. The first 2,000 rows are taken, of 2^31 - 1 calls each at most.
-pub fn profile_of_arcs(alloc: Global, arcs: &[(u32, u32, u64)]) -> Result<Profile, AllocError> {
-    let mut profile = Profile::new(alloc);
+pub fn profile_of_arcs(
+    alloc: Global,
+    arcs: &[(u32, u32, u64)],
+) -> Result<Box<Profile>, AllocError> {
+    let mut profile = new_profile(alloc)?;
     add_arcs(&mut profile, arcs)?;
     Ok(profile)
 }
 
 /// The calls of functions of 16 addresses each. The first 2,000 rows are taken, of 2^31 - 1 calls each
 /// at most.
-pub fn profile_of_calls(alloc: Global, calls: &[Calls]) -> Result<Profile, AllocError> {
+pub fn profile_of_calls(alloc: Global, calls: &[Calls]) -> Result<Box<Profile>, AllocError> {
     let mut arcs = Vec::new(alloc);
     for (caller, callee, count) in calls {
         let from = 0x1_0004 + 16 * u32::from(*caller);
@@ -96,7 +108,7 @@ pub fn profile_of_calls(alloc: Global, calls: &[Calls]) -> Result<Profile, Alloc
 }
 
 /// One call of the first function by each of so many next ones.
-pub fn calls_of_first(alloc: Global, callers: u16) -> Result<Profile, AllocError> {
+pub fn calls_of_first(alloc: Global, callers: u16) -> Result<Box<Profile>, AllocError> {
     let mut calls = Vec::new(alloc);
     for caller in 1..=callers {
         calls.push((caller, 0, 1))?;
@@ -104,14 +116,23 @@ pub fn calls_of_first(alloc: Global, callers: u16) -> Result<Profile, AllocError
     profile_of_calls(alloc, calls.as_slice())
 }
 
+/// Adds histograms, arcs and executions.
+fn add_rows(alloc: Global, profile: &mut Profile, rows: Rows<'_>) -> Result<(), AddRefusal>
+    requires { profile.old ≡ empty_content }
+    ensures { OnOk result (HasRows 2000 2000 2000 profile.new) }
+{
+    add_hists(alloc, profile, rows.hists, rows.unit)?;
+    add_arcs(profile, rows.arcs)?;
+    add_blocks(profile, rows.blocks)?;
+    Ok(())
+}
+
 /// The profile of rows: of the first 2,000 of each kind, of 2^31 - 1 samples, calls or executions each
 /// at most. A histogram that has no addresses is left out.
-pub fn profile_of_rows(alloc: Global, rows: Rows<'_>) -> Result<Profile, AddRefusal>
-    ensures { IfOk result (λ profile. HasRows 2000 2000 2000 profile) }
+pub fn profile_of_rows(alloc: Global, rows: Rows<'_>) -> Result<Box<Profile>, AddRefusal>
+    ensures { IfOk result (λ profile. HasRows 2000 2000 2000 profile.value) }
 {
-    let mut profile = Profile::new(alloc);
-    add_hists(alloc, &mut profile, rows.hists, rows.unit)?;
-    add_arcs(&mut profile, rows.arcs)?;
-    add_blocks(&mut profile, rows.blocks)?;
+    let mut profile = new_profile(alloc)?;
+    add_rows(alloc, &mut profile, rows)?;
     Ok(profile)
 }

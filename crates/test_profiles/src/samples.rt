@@ -1,7 +1,9 @@
 //! Profiles of samples.
 
 ghost use Rattle.std.specs.Prelude.{◌≡◌, ◌+◌, ◌*◌, ◌^◌, ◌<◌, ◌≤◌, IfOk, length, sum};
+ghost use Rattle.gmon_data.specs.Content.{empty_content};
 
+use crate::rows::new_profile;
 use gmon_data::{AddRefusal, Hist, Profile};
 use gp_base::{Totals, Unit};
 use std::alloc::{AllocError, Global};
@@ -52,8 +54,25 @@ pub fn hist_of(alloc: Global, row: Counters<'_>) -> Result<Hist, AllocError>
     })
 }
 
+/// Adds a histogram to a profile that holds nothing, with 100 samples a second. One that has no addresses
+/// is left out.
+fn add_hist(profile: &mut Profile, hist: &Hist) -> Result<(), AddRefusal>
+    requires empty { profile.old ≡ empty_content }
+    requires samples { sum hist.now.counters < 2 ^ 45 }
+    requires few { length hist.now.counters ≤ 4194304 }
+{
+    if hist.low < hist.high {
+        profile.add_wide(hist, seconds(100))?;
+    }
+    Ok(())
+}
+
 /// One histogram of these counters, of `width` addresses each, with 100 samples a second.
-fn profile_of_counters(alloc: Global, counters: Totals, width: u32) -> Result<Profile, AddRefusal>
+fn profile_of_counters(
+    alloc: Global,
+    counters: Totals,
+    width: u32,
+) -> Result<Box<Profile>, AddRefusal>
     requires samples { sum counters < 2 ^ 45 }
     requires few { length counters ≤ 4194304 }
     requires narrow { width ≤ 256 }
@@ -64,21 +83,19 @@ fn profile_of_counters(alloc: Global, counters: Totals, width: u32) -> Result<Pr
         high: 0x1_0000 + width * count,
         counters,
     };
-    let mut profile = Profile::new(alloc);
-    if hist.low < hist.high {
-        profile.add_wide(&hist, seconds(100))?;
-    }
+    let mut profile = new_profile(alloc)?;
+    add_hist(&mut profile, &hist)?;
     Ok(profile)
 }
 
 /// The samples of functions of 16 addresses each, at 100 a second: those of the first 65,536 functions,
 /// and of all samples the first 2^45 - 1.
-pub fn profile_of_samples(alloc: Global, samples: &[u64]) -> Result<Profile, AddRefusal> {
+pub fn profile_of_samples(alloc: Global, samples: &[u64]) -> Result<Box<Profile>, AddRefusal> {
     profile_of_counters(alloc, counters_of(alloc, samples)?, 16)
 }
 
 /// One histogram of so many counters of 1, of `width` addresses each, with 100 samples a second.
-pub fn even_profile(alloc: Global, count: u32, width: u32) -> Result<Profile, AddRefusal>
+pub fn even_profile(alloc: Global, count: u32, width: u32) -> Result<Box<Profile>, AddRefusal>
     requires few { count ≤ 4194304 }
     requires narrow { width ≤ 256 }
 {

@@ -3,7 +3,7 @@
 
 pub mod programs;
 
-pub use programs::{Program, chain_of, program_of};
+pub use programs::{Program, chain_of, profiled_program, program_of};
 
 #[cfg(test)]
 mod tests;

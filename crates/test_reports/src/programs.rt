@@ -6,47 +6,69 @@ ghost use Rattle.call_cycles.specs.Graph.{all_calls};
 
 use call_cycles::{Graph, graph};
 use elf32_syms::Symbol;
-use gmon_data::AddRefusal;
+use gmon_data::{AddRefusal, Profile};
 use std::alloc::{AllocError, Global};
 use symbol_shares::{Shares, shares};
-use test_profiles::{Calls, profile_of_calls, profile_of_samples, symbols_of};
+use test_profiles::{Calls, boxed, profile_of_calls, profile_of_samples, symbols_of};
 
 /// A graph of functions, and their shares.
 #[derive(Drop)]
 pub struct Program {
-    pub graph: Graph,
-    pub shares: Shares,
+    pub graph: Box<Graph>,
+    pub shares: Box<Shares>,
 }
 
-/// The graph of functions of these symbols with these calls.
-fn graph_of(alloc: Global, symbols: &[Symbol], calls: &[Calls]) -> Result<Graph, AllocError>
+/// The graph of these functions, in a box.
+fn graph_of(alloc: Global, calls: &Profile, symbols: &[Symbol]) -> Result<Box<Graph>, AllocError>
     requires { IsAscending symbols.now }
-    ensures functions { IfOk result (λ g. g.functions ≡ length symbols.now) }
-    ensures few { IfOk result (λ g. all_calls g < 2 ^ 59) }
+    ensures functions { IfOk result (λ g. g.value.functions ≡ length symbols.now) }
+    ensures few { IfOk result (λ g. all_calls g.value < 2 ^ 59) }
 {
-    let calls = profile_of_calls(alloc, calls)?;
-    graph(alloc, &calls, symbols)
+    boxed(alloc, graph(alloc, calls, symbols)?)
 }
 
-/// The shares of functions of these symbols with these samples.
-fn shares_of(alloc: Global, symbols: &[Symbol], samples: &[u64]) -> Result<Shares, AddRefusal>
+/// The shares of these functions, in a box.
+fn shares_of(
+    alloc: Global,
+    samples: &Profile,
+    symbols: &[Symbol],
+) -> Result<Box<Shares>, AllocError>
     requires { IsAscending symbols.now }
-    ensures { IfOk result (λ s. length s.of ≡ length symbols.now) }
+    ensures { IfOk result (λ s. length s.value.of ≡ length symbols.now) }
 {
-    let samples = profile_of_samples(alloc, samples)?;
-    let shares = shares(alloc, &samples, symbols)?;
-    Ok(shares)
+    boxed(alloc, shares(alloc, samples, symbols)?)
+}
+
+/// The program of these functions, with these samples and calls.
+pub fn profiled_program(
+    alloc: Global,
+    symbols: &[Symbol],
+    samples: &Profile,
+    calls: &Profile,
+) -> Result<Box<Program>, AllocError>
+    requires { IsAscending symbols.now }
+    ensures functions { IfOk result (λ p. p.value.graph.value.functions ≡ length symbols.now) }
+    ensures each { IfOk result (λ p. length p.value.shares.value.of ≡ length symbols.now) }
+    ensures few { IfOk result (λ p. all_calls p.value.graph.value < 2 ^ 59) }
+{
+    let graph = graph_of(alloc, calls, symbols)?;
+    let shares = shares_of(alloc, samples, symbols)?;
+    boxed(alloc, Program { graph, shares })
 }
 
 /// The program of functions with these samples and calls.
-pub fn program_of(alloc: Global, samples: &[u64], calls: &[Calls]) -> Result<Program, AddRefusal>
-    ensures each { IfOk result (λ p. length p.shares.of ≡ p.graph.functions) }
-    ensures few { IfOk result (λ p. all_calls p.graph < 2 ^ 59) }
+pub fn program_of(
+    alloc: Global,
+    samples: &[u64],
+    calls: &[Calls],
+) -> Result<Box<Program>, AddRefusal>
+    ensures each { IfOk result (λ p. length p.value.shares.value.of ≡ p.value.graph.value.functions) }
+    ensures few { IfOk result (λ p. all_calls p.value.graph.value < 2 ^ 59) }
 {
     let symbols = symbols_of(alloc, samples.len().min(65_536) as u32, 16)?;
-    let graph = graph_of(alloc, symbols.as_slice(), calls)?;
-    let shares = shares_of(alloc, symbols.as_slice(), samples)?;
-    Ok(Program { graph, shares })
+    let samples = profile_of_samples(alloc, samples)?;
+    let calls = profile_of_calls(alloc, calls)?;
+    Ok(profiled_program(alloc, symbols.as_slice(), &samples, &calls)?)
 }
 
 /// The calls of functions, so many of which call the next one twice each.
@@ -59,9 +81,9 @@ fn calls_in_a_chain(alloc: Global, callers: u16) -> Result<Vec<Calls>, AllocErro
 }
 
 /// A chain of functions, so many of which call the next one twice each; the last has 3 samples.
-pub fn chain_of(alloc: Global, callers: u16) -> Result<Program, AddRefusal>
-    ensures each { IfOk result (λ p. length p.shares.of ≡ p.graph.functions) }
-    ensures few { IfOk result (λ p. all_calls p.graph < 2 ^ 59) }
+pub fn chain_of(alloc: Global, callers: u16) -> Result<Box<Program>, AddRefusal>
+    ensures each { IfOk result (λ p. length p.value.shares.value.of ≡ p.value.graph.value.functions) }
+    ensures few { IfOk result (λ p. all_calls p.value.graph.value < 2 ^ 59) }
 {
     let calls = calls_in_a_chain(alloc, callers)?;
     let mut samples = vec![in alloc; 0u64; usize::from(callers)]?;

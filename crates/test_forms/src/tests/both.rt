@@ -3,6 +3,7 @@
 ghost use Rattle.std.specs.Prelude.{◌≡◌, false};
 ghost use Rattle.host_port.specs.Memory.{outside_of};
 
+use super::pieces::in_box;
 use crate::{BSD_RUN, GNU_RUN, are_of_small_run, small_run};
 use gmon_data::{AddRefusal, Profile, ReadRefusal};
 use gp_base::{Form, GmonRefusal, Records};
@@ -43,8 +44,12 @@ fn read_small(alloc: Global, form: Form) -> Result<Records, GmonRefusal> {
 
 fn expect_written(rt: &impl Abort, alloc: Global, form: Form, gmon: &Gmon) {
     let mut host = MemHost::new(alloc);
-    assert!(rt; write_file(form, gmon, &mut host).is_ok(), "{form:?}");
-    assert_eq!(rt; host.file("gmon.out"), Some(small_file(form)), "{form:?}");
+    let is_written = write_file(form, gmon, &mut host).is_ok();
+    assert_eq!(rt;
+        (is_written, host.file("gmon.out")),
+        (true, Some(small_file(form))),
+        "{form:?}"
+    );
 }
 
 fn expect_read(rt: &impl Abort, alloc: Global, form: Form, gmon: &Gmon) -> Result<(), GmonRefusal> {
@@ -134,9 +139,9 @@ fn expect_of_run(rt: &impl Abort, profile: &Profile) {
 
 #[test]
 fn what_was_fed_is_a_profile(rt: HostRuntime) -> Result<(), ReadRefusal> {
-    let bsd = profile_of_bsd(rt.alloc())?;
+    let bsd = in_box(rt.alloc(), profile_of_bsd(rt.alloc()))?;
     expect_of_run(&rt, &bsd);
-    let gnu = profile_of_gnu(rt.alloc())?;
+    let gnu = in_box(rt.alloc(), profile_of_gnu(rt.alloc()))?;
     expect_of_run(&rt, &gnu);
     Ok(())
 }

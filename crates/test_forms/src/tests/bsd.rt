@@ -1,3 +1,6 @@
+ghost use Rattle.std.specs.Prelude.{◌≡◌, false};
+ghost use Rattle.host_port.specs.Memory.{outside_of};
+
 use super::records::{expect_large_arcs, expect_large_counters};
 use crate::{TWO_OF_EACH, large_bsd_file, small_run};
 use gmon_bsd::{GmonRefusal, Reader, read, run_profile, write_run};
@@ -8,6 +11,7 @@ use mcount_arcs::Gmon;
 use std::alloc::{AllocError, Global};
 use std::process::Abort;
 use std::test::Fail;
+use test_profiles::boxed;
 
 /// A file whose range is from 0x10000 to 0x10100, at rate 100, with two counters and an arc.
 const COUNTERS_AND_AN_ARC: [u8; 48] = [
@@ -73,25 +77,21 @@ fn expect_large(rt: &impl Abort, records: &Records) {
     expect_large_arcs(rt, arcs);
 }
 
-/// The host on which the file of a run was written.
-fn written(alloc: Global, gmon: &Gmon, rate: u32) -> Result<MemHost, Failed> {
-    let mut host = MemHost::new(alloc);
+/// Writes the file of a run on a host.
+fn write_to(host: &mut MemHost, gmon: &Gmon, rate: u32) -> Result<(), Failed>
+    requires { (outside_of host.old).is_writing ≡ false }
+{
     host.create_output("gmon.out")?;
-    write_run(gmon, rate, &mut host)?;
-    Ok(host)
+    write_run(gmon, rate, host)
 }
 
 /// A run of a text of 3,000 words, with samples in four of them.
-fn long_run(alloc: Global) -> Result<Gmon, AllocError> {
-    let mut gmon = Gmon::startup(
-        alloc,
-        Span {
-            low: 0x1_0000,
-            high: 0x1_0000 + 12_000,
-        },
-        2,
-        2,
-    )?;
+fn long_run(alloc: Global) -> Result<Box<Gmon>, AllocError> {
+    let text = Span {
+        low: 0x1_0000,
+        high: 0x1_0000 + 12_000,
+    };
+    let mut gmon = boxed(alloc, Gmon::startup(alloc, text, 2, 2)?)?;
     gmon.tick(0x1_0000 + 4 * 2_047);
     gmon.tick(0x1_0000 + 4 * 2_048);
     gmon.tick(0x1_0000 + 4 * 2_048);
@@ -100,15 +100,15 @@ fn long_run(alloc: Global) -> Result<Gmon, AllocError> {
 }
 
 /// Some of its counters.
-const LONG_COUNTERS: [(usize, u8); 5] = [(0, 0), (2_047, 1), (2_048, 2), (2_049, 0), (2_999, 1)];
+const LONG_COUNTERS: &[(usize, u8)] = &[(0, 0), (2_047, 1), (2_048, 2), (2_049, 0), (2_999, 1)];
 
 fn expect_counters(rt: &impl Abort, bytes: &[u8]) {
     assert_eq!(rt; bytes.len(), 32 + 2 * 3_000);
     for (i, count) in LONG_COUNTERS {
-        let at = 32 + 2 * i.min(3_000);
+        let at = 32 + 2 * (*i).min(3_000);
         assert_eq!(rt;
             bytes.get(at..at + 2),
-            Some([count, 0].as_slice()),
+            Some([*count, 0].as_slice()),
             "counter {i}"
         );
     }
@@ -117,16 +117,18 @@ fn expect_counters(rt: &impl Abort, bytes: &[u8]) {
 #[test]
 fn more_counters_than_a_piece_holds(rt: HostRuntime) -> Result<(), Fail> {
     let gmon = long_run(rt.alloc())?;
-    let host = written(rt.alloc(), &gmon, 1_000).map_err(|_| "write")?;
+    let mut host = boxed(rt.alloc(), MemHost::new(rt.alloc()))?;
+    write_to(&mut host, &gmon, 1_000)?;
     expect_counters(&rt, host.file("gmon.out").unwrap_or_default());
     Ok(())
 }
 
 fn expect_profile(rt: &impl Abort, profile: &Profile, gmon: &Gmon) {
     assert_eq!(rt; profile.unit().map(|unit| unit.rate), Some(100));
-    assert_eq!(rt; profile.hist_count(), 1);
-    assert_eq!(rt; profile.samples(), 304);
-    assert_eq!(rt; profile.arc_count(), 3);
+    assert_eq!(rt;
+        (profile.hist_count(), profile.samples(), profile.arc_count()),
+        (1, 304, 3)
+    );
     let mut i = 0;
     for arc in gmon.arcs() {
         if i < profile.arc_count() {
@@ -139,7 +141,7 @@ fn expect_profile(rt: &impl Abort, profile: &Profile, gmon: &Gmon) {
 #[test]
 fn the_profile_of_a_run(rt: HostRuntime) -> Result<(), Fail> {
     let gmon = small_run(rt.alloc())?;
-    let profile = run_profile(rt.alloc(), &gmon, 0)?;
+    let profile = boxed(rt.alloc(), run_profile(rt.alloc(), &gmon, 0)?)?;
     expect_profile(&rt, &profile, &gmon);
     Ok(())
 }

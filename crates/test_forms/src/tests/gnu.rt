@@ -1,4 +1,6 @@
-ghost use Rattle.std.specs.Prelude.{◌≡◌, ℕ, ◌+◌, ◌*◌, ◌^◌, ◌<◌, length, IfOk};
+ghost use Rattle.gmon_data.specs.Content.{empty_content};
+ghost use Rattle.host_port.specs.Memory.{outside_of};
+ghost use Rattle.std.specs.Prelude.{◌≡◌, ℕ, ◌+◌, ◌*◌, ◌^◌, ◌<◌, [], ◌∷◌, false, length, IfOk};
 
 use super::records::{expect_large_arcs, expect_large_counters};
 use crate::{GNU_RUN, LARGE_NUMBERS, SEVERAL, large_gnu_file};
@@ -9,6 +11,7 @@ use host_port::{Failed, Host, MemHost};
 use std::alloc::{AllocError, Global};
 use std::process::Abort;
 use std::test::Fail;
+use test_profiles::{boxed, new_profile};
 
 /// A header of version 2, with spare bytes that are not zeros.
 const OTHER_VERSION: [u8; 20] = *b"gmon\x02\0\0\0\x01\x02\x03\x04\x05\x06\x07\x08\x09\x0A\x0B\x0C";
@@ -153,28 +156,30 @@ const EXECUTED: [u8; 21] = [
     8, 0, 1, 0, 2, 1, 0, 0,
 ];
 
-/// The host on which the records of executed instructions were written.
-fn written_blocks(alloc: Global, low: u32, counts: &[u32]) -> Result<MemHost, Failed>
-    requires { (i : ℕ) → i < length counts.now → low + 4 * i < 2 ^ 32 }
+/// Writes the records of executed instructions on a host.
+fn write_blocks_to(host: &mut MemHost, low: u32, counts: &[u32]) -> Result<(), Failed>
+    requires idle { (outside_of host.old).is_writing ≡ false }
+    requires fits { (i : ℕ) → i < length counts.now → low + 4 * i < 2 ^ 32 }
 {
-    let mut host = MemHost::new(alloc);
     host.create_output("gmon.out")?;
-    write_blocks(low, counts, &mut host)?;
-    Ok(host)
+    write_blocks(low, counts, host)
 }
 
 #[test]
 fn executed_instructions_are_written_to_the_byte(rt: HostRuntime) -> Result<(), Fail> {
-    let host = written_blocks(rt.alloc(), 0x1_0000, &[1, 0, 258, 0]).map_err(|_| "write")?;
+    let mut host = boxed(rt.alloc(), MemHost::new(rt.alloc()))?;
+    write_blocks_to(&mut host, 0x1_0000, &[1, 0, 258, 0])?;
     expect_file(&rt, &host, &EXECUTED);
     Ok(())
 }
 
 #[test]
 fn nothing_executed_has_no_record(rt: HostRuntime) -> Result<(), Fail> {
-    let zeros = written_blocks(rt.alloc(), 0x1_0000, &[0, 0]).map_err(|_| "write")?;
+    let mut zeros = boxed(rt.alloc(), MemHost::new(rt.alloc()))?;
+    write_blocks_to(&mut zeros, 0x1_0000, &[0, 0])?;
     expect_file(&rt, &zeros, &[]);
-    let none = written_blocks(rt.alloc(), 0xFFFF_FFFC, &[]).map_err(|_| "write")?;
+    let mut none = boxed(rt.alloc(), MemHost::new(rt.alloc()))?;
+    write_blocks_to(&mut none, 0xFFFF_FFFC, &[])?;
     expect_file(&rt, &none, &[]);
     Ok(())
 }
@@ -217,55 +222,77 @@ fn executed_instructions_stand_behind_a_run(rt: HostRuntime) -> Result<(), Fail>
     Ok(())
 }
 
-/// A profile with a counter of 200,000, with 2^33 calls of a pair and none of another, and with 5 and 2^33
-/// executions of basic blocks.
-fn profile_of_large_numbers(alloc: Global) -> Result<Profile, AddRefusal> {
+/// A histogram with a counter of 200,000.
+fn large_hist(alloc: Global) -> Result<Hist, AllocError>
+    ensures low { IfOk result (λ hist. hist.low ≡ 65536) }
+    ensures high { IfOk result (λ hist. hist.high ≡ 65548) }
+    ensures counters { IfOk result (λ hist. hist.counters ≡ 200000 ∷ 65535 ∷ 0 ∷ []) }
+{
     let mut counters = Totals::new(alloc);
     counters.push(200_000)?;
     counters.push(65_535)?;
     counters.push(0)?;
-    let hist = Hist {
+    Ok(Hist {
         low: 0x1_0000,
         high: 0x1_000C,
         counters,
-    };
+    })
+}
+
+/// Adds that histogram, 2^33 calls of a pair and none of another, and 5 and 2^33 executions of basic blocks.
+fn add_large_numbers(profile: &mut Profile, hist: &Hist) -> Result<(), AddRefusal>
+    requires empty { profile.old ≡ empty_content }
+    requires low { hist.now.low ≡ 65536 }
+    requires high { hist.now.high ≡ 65548 }
+    requires counters { hist.now.counters ≡ 200000 ∷ 65535 ∷ 0 ∷ [] }
+{
     let unit = Unit {
         rate: 100,
         dim: *b"seconds\0\0\0\0\0\0\0\0",
         abbrev: b's',
     };
-    let mut profile = Profile::new(alloc);
-    profile.add_wide(&hist, unit)?;
+    profile.add_wide(hist, unit)?;
     profile.add_calls(0x1_0000, 0x1_0008, 1 << 33)?;
     profile.add_calls(0x1_0004, 0x1_0008, 0)?;
     profile.add_runs(0x1_0000, 5)?;
     profile.add_runs(0x1_0004, 1 << 33)?;
+    Ok(())
+}
+
+/// A profile with a counter of 200,000, with 2^33 calls of a pair and none of another, and with 5 and 2^33
+/// executions of basic blocks.
+fn profile_of_large_numbers(alloc: Global) -> Result<Box<Profile>, AddRefusal> {
+    let hist = large_hist(alloc)?;
+    let mut profile = new_profile(alloc)?;
+    add_large_numbers(&mut profile, &hist)?;
     Ok(profile)
 }
 
 /// The header of a file that is written.
 const NEW_HEADER: [u8; 20] = *b"gmon\x01\0\0\0\0\0\0\0\0\0\0\0\0\0\0\0";
 
-/// The host on which the file of a profile was written.
-fn written_profile(alloc: Global, profile: &Profile) -> Result<MemHost, Failed> {
-    let mut host = MemHost::new(alloc);
+/// Writes the file of a profile on a host.
+fn write_to(host: &mut MemHost, profile: &Profile) -> Result<(), Failed>
+    requires { (outside_of host.old).is_writing ≡ false }
+{
     host.create_output("gmon.out")?;
-    write(profile, &mut host)?;
-    Ok(host)
+    write(profile, host)
 }
 
 #[test]
 fn large_numbers_are_split_over_records(rt: HostRuntime) -> Result<(), Fail> {
-    let profile = profile_of_large_numbers(rt.alloc()).map_err(|_| "a profile")?;
-    let host = written_profile(rt.alloc(), &profile).map_err(|_| "write")?;
+    let profile = profile_of_large_numbers(rt.alloc())?;
+    let mut host = boxed(rt.alloc(), MemHost::new(rt.alloc()))?;
+    write_to(&mut host, &profile)?;
     expect_file(&rt, &host, &LARGE_NUMBERS);
     Ok(())
 }
 
 #[test]
 fn an_empty_profile_is_a_header(rt: HostRuntime) -> Result<(), Fail> {
-    let profile = Profile::new(rt.alloc());
-    let host = written_profile(rt.alloc(), &profile).map_err(|_| "write")?;
+    let profile = new_profile(rt.alloc())?;
+    let mut host = boxed(rt.alloc(), MemHost::new(rt.alloc()))?;
+    write_to(&mut host, &profile)?;
     expect_file(&rt, &host, &NEW_HEADER);
     Ok(())
 }

@@ -1,6 +1,7 @@
 //! Profile files of both forms that come in pieces.
 
-ghost use Rattle.std.specs.Prelude.{◌<◌, ◌≤◌, length, IfOk};
+ghost use Rattle.std.specs.Prelude.{◌≡◌, ◌<◌, ◌≤◌, length, IfOk};
+ghost use Rattle.gmon_data.specs.Content.{empty_content};
 ghost use Rattle.gmon_files.specs.FileRead.{IsFed, StandsFor};
 ghost use Rattle.gmon_files.specs.Forms.{FileSpells};
 
@@ -14,7 +15,7 @@ use gp_base::{Form, GmonRefusal, Rec, Records};
 use std::alloc::{AllocError, Global};
 use std::process::Abort;
 use std::test::Fail;
-use test_profiles::are_same;
+use test_profiles::{are_same, boxed, new_profile};
 
 /// A GNU file of a histogram of rate 100, an arc of 7 calls, a histogram of rate 50, and an arc of 9 calls.
 const UNLIKE: [u8; 128] = *b"gmon\x01\0\0\0\x01\x02\x03\x04\x05\x06\x07\x08\x09\x0A\x0B\x0C\
@@ -129,14 +130,47 @@ fn profile_of(alloc: Global, bytes: &[u8], size: usize) -> Result<Profile, ReadR
     }
 }
 
-/// The profile of the records that a reader lists.
-fn profile_of_listed(alloc: Global, bytes: &[u8], size: usize) -> Result<Profile, ReadRefusal>
+/// A profile in a box, or why there is none.
+pub(super) fn in_box(
+    alloc: Global,
+    answer: Result<Profile, ReadRefusal>,
+) -> Result<Box<Profile>, ReadRefusal> {
+    match boxed(alloc, answer?) {
+        Ok(profile) => Ok(profile),
+        Err(_) => Err(ReadRefusal::Profile(AddRefusal::OutOfMemory)),
+    }
+}
+
+/// Adds the records that a reader lists.
+fn add_listed(
+    profile: &mut Profile,
+    alloc: Global,
+    bytes: &[u8],
+    size: usize,
+) -> Result<(), ReadRefusal>
+    requires empty { profile.old ≡ empty_content }
     requires some { 0 < size }
     requires small { length bytes.now ≤ 100000 }
 {
     let records = in_pieces(alloc, bytes, size)?;
-    let mut profile = Profile::new(alloc);
     profile.add_records(&records)?;
+    Ok(())
+}
+
+/// A profile that holds nothing.
+fn empty_profile(alloc: Global) -> Result<Box<Profile>, AddRefusal>
+    ensures { IfOk result (λ profile. profile.value ≡ empty_content) }
+{
+    Ok(new_profile(alloc)?)
+}
+
+/// The profile of the records that a reader lists.
+fn profile_of_listed(alloc: Global, bytes: &[u8], size: usize) -> Result<Box<Profile>, ReadRefusal>
+    requires some { 0 < size }
+    requires small { length bytes.now ≤ 100000 }
+{
+    let mut profile = empty_profile(alloc)?;
+    add_listed(&mut profile, alloc, bytes, size)?;
     Ok(profile)
 }
 
@@ -193,10 +227,10 @@ fn expect_answers(
     whole: &Result<Records, GmonRefusal>,
     due: Result<usize, GmonRefusal>,
 ) {
-    assert_eq!(rt; told(answer), due);
-    assert!(rt;
-        are_same_answers(answer, whole),
-        "in pieces and whole, {due:?}"
+    assert_eq!(rt;
+        (told(answer), are_same_answers(answer, whole)),
+        (due, true),
+        "in pieces, and the same as the whole"
     );
 }
 
@@ -243,7 +277,7 @@ struct Due {
 }
 
 /// How many samples, calls and executions a profile has, or why there is none.
-fn numbers_of(answer: &Result<Profile, ReadRefusal>) -> Result<[u64; 3], ReadRefusal> {
+fn numbers_of(answer: &Result<Box<Profile>, ReadRefusal>) -> Result<[u64; 3], ReadRefusal> {
     match answer {
         Ok(profile) => Ok([profile.samples(), profile.calls(), profile.blocks()]),
         Err(refusal) => Err(*refusal),
@@ -251,7 +285,10 @@ fn numbers_of(answer: &Result<Profile, ReadRefusal>) -> Result<[u64; 3], ReadRef
 }
 
 /// Whether two profiles, or refusals, are the same.
-fn are_same_made(a: &Result<Profile, ReadRefusal>, b: &Result<Profile, ReadRefusal>) -> bool {
+fn are_same_made(
+    a: &Result<Box<Profile>, ReadRefusal>,
+    b: &Result<Box<Profile>, ReadRefusal>,
+) -> bool {
     match (a, b) {
         (Ok(a), Ok(b)) => are_same(a, b),
         (Err(a), Err(b)) => *a == *b,
@@ -264,7 +301,7 @@ fn expect_made(rt: &impl Abort, alloc: Global, bytes: &[u8], size: usize, due: D
     requires some { 0 < size }
     requires small { length bytes.now ≤ 100000 }
 {
-    let made = profile_of(alloc, bytes, size);
+    let made = in_box(alloc, profile_of(alloc, bytes, size));
     let listed = profile_of_listed(alloc, bytes, size);
     expect_due(rt, due, &made, &listed);
 }
@@ -272,13 +309,19 @@ fn expect_made(rt: &impl Abort, alloc: Global, bytes: &[u8], size: usize, due: D
 fn expect_due(
     rt: &impl Abort,
     due: Due,
-    made: &Result<Profile, ReadRefusal>,
-    listed: &Result<Profile, ReadRefusal>,
+    made: &Result<Box<Profile>, ReadRefusal>,
+    listed: &Result<Box<Profile>, ReadRefusal>,
 ) {
     let name = due.name;
-    assert_eq!(rt; numbers_of(made), due.answer, "{name}");
-    assert_eq!(rt; numbers_of(listed), due.answer, "{name}, listed");
-    assert!(rt; are_same_made(made, listed), "{name}");
+    assert_eq!(rt;
+        (
+            numbers_of(made),
+            numbers_of(listed),
+            are_same_made(made, listed)
+        ),
+        (due.answer, due.answer, true),
+        "{name}, made and listed, and whether they are the same"
+    );
 }
 
 /// A file is refused, as a whole, byte by byte and in place of a profile.
@@ -310,7 +353,7 @@ struct BsdFault {
 
 /// Changed in a byte or in length, a file of 160 bytes up to the arcs, whose range is from 0x10000 to 0x10100, at
 /// rate 100.
-const BSD_FAULTS: [BsdFault; 9] = [
+const BSD_FAULTS: &[BsdFault] = &[
     BsdFault {
         name: "empty",
         header: *b"\0\0\x01\0\0\x01\x01\0\xA0\0\0\0y\x18\x05\0d\0\0\0",
@@ -380,7 +423,7 @@ fn expect_bsd_fault(rt: &impl Abort, alloc: Global, fault: &BsdFault) {
 
 #[test]
 fn the_first_fault_of_a_bsd_file_is_answered(rt: HostRuntime) -> Result<(), Fail> {
-    for fault in &BSD_FAULTS {
+    for fault in BSD_FAULTS {
         expect_bsd_fault(&rt, rt.alloc(), fault);
     }
     Ok(())
@@ -400,7 +443,7 @@ const EMPTY: GmonRefusal = GmonRefusal::Range {
     high: 0x1_0000,
 };
 
-const GNU_FAULTS: [GnuFault; 14] = [
+const GNU_FAULTS: &[GnuFault] = &[
     GnuFault {
         name: "another version",
         bytes: b"gmon\x02\0\0\0\x01\x02\x03\x04\x05\x06\x07\x08\x09\x0A\x0B\x0C",
@@ -502,7 +545,7 @@ const GNU_FAULTS: [GnuFault; 14] = [
 
 #[test]
 fn the_first_fault_of_a_gnu_file_is_answered(rt: HostRuntime) -> Result<(), Fail> {
-    for fault in &GNU_FAULTS {
+    for fault in GNU_FAULTS {
         expect_refused(
             &rt,
             rt.alloc(),
@@ -585,7 +628,7 @@ struct Made {
     due: Due,
 }
 
-const MADE: [Made; 12] = [
+const MADE: &[Made] = &[
     Made {
         file: &HEADER_ALONE,
         len: 32,
@@ -709,7 +752,7 @@ fn expect_made_in_pieces(rt: &impl Abort, alloc: Global, row: &Made) {
 
 #[test]
 fn what_was_fed_is_a_profile(rt: HostRuntime) -> Result<(), Fail> {
-    for row in &MADE {
+    for row in MADE {
         expect_made_in_pieces(&rt, rt.alloc(), row);
     }
     Ok(())
@@ -727,20 +770,19 @@ fn hist_of(profile: &Profile, i: usize) -> Option<(u32, u32, &[u64])> {
 fn expect_in_order(rt: &impl Abort, profile: &Profile) {
     assert_eq!(rt; profile.hist_count(), 2);
     assert_eq!(rt;
-        hist_of(profile, 0),
-        Some((0x1_0000, 0x1_0010, &[3u64][..]))
-    );
-    assert_eq!(rt;
-        hist_of(profile, 1),
-        Some((0x1_0010, 0x1_0020, &[12u64][..]))
+        (hist_of(profile, 0), hist_of(profile, 1)),
+        (
+            Some((0x1_0000, 0x1_0010, &[3u64][..])),
+            Some((0x1_0010, 0x1_0020, &[12u64][..]))
+        )
     );
 }
 
 #[test]
 fn histograms_out_of_order_are_the_same_profile(rt: HostRuntime) -> Result<(), ReadRefusal> {
-    let out_of_order = profile_of(rt.alloc(), &OUT_OF_ORDER, 1_000)?;
+    let out_of_order = in_box(rt.alloc(), profile_of(rt.alloc(), &OUT_OF_ORDER, 1_000))?;
     expect_in_order(&rt, &out_of_order);
-    let in_order = profile_of(rt.alloc(), &IN_ORDER, 1_000)?;
+    let in_order = in_box(rt.alloc(), profile_of(rt.alloc(), &IN_ORDER, 1_000))?;
     expect_in_order(&rt, &in_order);
     assert!(rt; are_same(&out_of_order, &in_order));
     Ok(())

@@ -2,6 +2,7 @@ ghost use Rattle.std.specs.Prelude.{◌≡◌, ◌+◌, ◌<◌, Some, IfSome, I
 ghost use Rattle.mcount_arcs.specs.declared.state.State.TheVariants.{Busy};
 ghost use Rattle.mcount_arcs.specs.Sizes.{IsText};
 
+use crate::boxed;
 use gp_base::{RawArc, Span};
 use mcount_arcs::{Entered, Gmon, Looked, Sizes, State, Walk};
 use std::alloc::{AllocError, Global};
@@ -20,9 +21,11 @@ fn has_sizes(rt: &impl Abort, bytes: u32, tolimit: u32)
         2,
         2,
     );
-    assert_eq!(rt; sizes.tolimit, tolimit, "entries of {bytes} bytes");
-    assert_eq!(rt; sizes.counters, bytes / 4, "counters of {bytes} bytes");
-    assert_eq!(rt; sizes.slots, bytes / 4, "slots of {bytes} bytes");
+    assert_eq!(rt;
+        (sizes.tolimit, sizes.counters, sizes.slots),
+        (tolimit, bytes / 4, bytes / 4),
+        "entries, counters and slots of {bytes} bytes"
+    );
 }
 
 #[test]
@@ -99,16 +102,12 @@ fn sizes_of_other_fractions(rt: HostRuntime) {
 }
 
 // A runtime for the text from 0x10000 to below 0x10100, of 64 slots and 50 entries.
-fn started(alloc: Global) -> Result<Gmon, AllocError> {
-    Gmon::startup(
-        alloc,
-        Span {
-            low: 0x0001_0000,
-            high: 0x0001_0100,
-        },
-        2,
-        2,
-    )
+fn started(alloc: Global) -> Result<Box<Gmon>, AllocError> {
+    let text = Span {
+        low: 0x0001_0000,
+        high: 0x0001_0100,
+    };
+    boxed(alloc, Gmon::startup(alloc, text, 2, 2)?)
 }
 
 // What counter `i` holds, if there is one.
@@ -132,8 +131,10 @@ fn copied(alloc: Global, gmon: &Gmon) -> Result<Vec<RawArc>, AllocError>
 }
 
 fn expect_new(rt: &impl Abort, gmon: &Gmon) {
-    assert_eq!(rt; (gmon.state(), gmon.sampling()), (State::On, true));
-    assert_eq!(rt; (gmon.calls(), gmon.pairs()), (0, 0));
+    assert_eq!(rt;
+        (gmon.state(), gmon.sampling(), gmon.calls(), gmon.pairs()),
+        (State::On, true, 0, 0)
+    );
     assert_eq!(rt; gmon.arcs().next(), None);
     let bytes = gmon.block_bytes();
     assert_eq!(rt; bytes.len(), 856);
@@ -161,23 +162,36 @@ fn expect_one_count(rt: &impl Abort, gmon: &Gmon, pc: u32, wanted: Option<u32>) 
 }
 
 // The counters after one tick.
-fn counts_at(rt: &impl Abort, alloc: Global, pc: u32, wanted: Option<u32>) -> Result<(), Fail> {
+fn counts_at(
+    rt: &impl Abort,
+    alloc: Global,
+    pc: u32,
+    wanted: Option<u32>,
+) -> Result<(), AllocError> {
     let mut gmon = started(alloc)?;
     gmon.tick(pc);
     expect_one_count(rt, &gmon, pc, wanted);
     Ok(())
 }
 
+/// Where a sample is, and the counter that it raises.
+const TICKS: &[(u32, Option<u32>)] = &[
+    (0x0001_0000, Some(0)),
+    (0x0001_0003, Some(0)),
+    (0x0001_0004, Some(1)),
+    (0x0001_00FC, Some(63)),
+    (0x0001_00FF, Some(63)),
+    (0x0001_0100, None),
+    (0x0000_FFFF, None),
+    (0xFFFF_FFFF, None),
+];
+
 #[test]
 fn a_tick_raises_the_counter_of_its_four_bytes(rt: HostRuntime) -> Result<(), Fail> {
-    counts_at(&rt, rt.alloc(), 0x0001_0000, Some(0))?;
-    counts_at(&rt, rt.alloc(), 0x0001_0003, Some(0))?;
-    counts_at(&rt, rt.alloc(), 0x0001_0004, Some(1))?;
-    counts_at(&rt, rt.alloc(), 0x0001_00FC, Some(63))?;
-    counts_at(&rt, rt.alloc(), 0x0001_00FF, Some(63))?;
-    counts_at(&rt, rt.alloc(), 0x0001_0100, None)?;
-    counts_at(&rt, rt.alloc(), 0x0000_FFFF, None)?;
-    counts_at(&rt, rt.alloc(), 0xFFFF_FFFF, None)
+    for (pc, wanted) in TICKS {
+        counts_at(&rt, rt.alloc(), *pc, *wanted)?;
+    }
+    Ok(())
 }
 
 fn expect_full(rt: &impl Abort, gmon: &mut Gmon) {
@@ -250,7 +264,7 @@ fn begun(gmon: &mut Gmon, from: u32, to: u32) -> Option<Walk>
 const SITE: u32 = 0x0001_0010;
 
 /// Callees of the site, and the looks that each call takes.
-const FOUR_CALLS: [(u32, usize); 4] = [
+const FOUR_CALLS: &[(u32, usize)] = &[
     (0x0001_0040, 1),
     (0x0001_0080, 1),
     (0x0001_0040, 2),
@@ -258,7 +272,7 @@ const FOUR_CALLS: [(u32, usize); 4] = [
 ];
 
 /// The arcs of those calls.
-const THREE_ARCS: [RawArc; 3] = [
+const THREE_ARCS: &[RawArc] = &[
     RawArc {
         from: SITE,
         to: 0x0001_00C0,
@@ -320,24 +334,24 @@ fn expect_entries(rt: &impl Abort, bytes: &[u8]) {
 #[test]
 fn a_found_arc_moves_to_the_front(rt: HostRuntime) -> Result<(), Fail> {
     let mut gmon = started(rt.alloc())?;
-    expect_looks(&rt, &mut gmon, &FOUR_CALLS);
-    expect_arcs(&rt, rt.alloc(), &gmon, 4, &THREE_ARCS)?;
+    expect_looks(&rt, &mut gmon, FOUR_CALLS);
+    expect_arcs(&rt, rt.alloc(), &gmon, 4, THREE_ARCS)?;
     expect_entries(&rt, gmon.block_bytes());
     Ok(())
 }
 
 /// A call site, and how many pairs are kept after a call of it.
-const WIDE_CALLS: [(u32, u32); 3] = [(0x0001_0010, 1), (0x0001_0014, 1), (0x0001_0018, 2)];
+const WIDE_CALLS: &[(u32, u32)] = &[(0x0001_0010, 1), (0x0001_0014, 1), (0x0001_0018, 2)];
 
 // Two call sites of one slot, and one of another.
 fn expect_wide_slots(rt: &impl Abort, gmon: &mut Gmon) {
     for (from, pairs) in WIDE_CALLS {
+        let outcome = called(gmon, *from, 0x0001_0080);
         assert_eq!(rt;
-            called(gmon, from, 0x0001_0080),
-            Outcome::Counted(1),
+            (outcome, gmon.pairs()),
+            (Outcome::Counted(1), *pairs),
             "a call from {from}"
         );
-        assert_eq!(rt; gmon.pairs(), pairs, "a call from {from}");
     }
     let first = RawArc {
         from: 0x0001_0010,
@@ -363,7 +377,7 @@ fn wider_counters_and_slots(rt: HostRuntime) -> Result<(), Fail> {
         low: 0x0001_0000,
         high: 0x0001_0100,
     };
-    let mut gmon = Gmon::startup(rt.alloc(), text, 8, 4)?;
+    let mut gmon = boxed(rt.alloc(), Gmon::startup(rt.alloc(), text, 8, 4)?)?;
     assert_eq!(rt; gmon.block_bytes().len(), 696);
     expect_wide_slots(&rt, &mut gmon);
     expect_wide_counters(&rt, &mut gmon);
@@ -385,8 +399,14 @@ fn run_out(rt: &impl Abort, gmon: &mut Gmon) {
 
 // The arcs are in the order of before, and entry 0 has been asked for fifty.
 fn expect_forty_nine(rt: &impl Abort, gmon: &Gmon) {
-    assert_eq!(rt; (gmon.calls(), gmon.pairs()), (49, 49));
-    assert_eq!(rt; gmon.block_bytes().get(8).copied(), Some(50));
+    assert_eq!(rt;
+        (
+            gmon.calls(),
+            gmon.pairs(),
+            gmon.block_bytes().get(8).copied()
+        ),
+        (49, 49, Some(50))
+    );
     let mut arcs = gmon.arcs();
     for to in (0..49).rev() {
         assert_eq!(rt; arcs.next().map(|arc| arc.to), Some(to));
@@ -522,7 +542,7 @@ fn a_long_chain_is_a_plain_list(rt: HostRuntime) -> Result<(), Fail> {
         low: 0x0001_0000,
         high: 0x0002_0000,
     };
-    let mut gmon = Gmon::startup(rt.alloc(), text, 2, 2)?;
+    let mut gmon = boxed(rt.alloc(), Gmon::startup(rt.alloc(), text, 2, 2)?)?;
     let mut arcs = Vec::new(rt.alloc());
     expect_plain(&rt, &mut gmon, &mut arcs, false)?;
     expect_plain(&rt, &mut gmon, &mut arcs, true)?;

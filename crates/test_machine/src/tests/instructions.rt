@@ -2,7 +2,7 @@ use rv_decode::{Instr, Op, decode, spell};
 use text_cols::Line;
 
 /// Words of instructions, where they stand, and their spelling.
-const SPELLINGS: [(u32, u32, &[u8]); 26] = [
+const SPELLINGS: &[(u32, u32, &'static [u8])] = &[
     (0x0002_9463, 0x0001_004C, b"bne x5, x0, 0x00010054"),
     (0x0000_0013, 0, b"addi x0, x0, 0"),
     (0x00C1_2083, 0, b"lw x1, 12(x2)"),
@@ -32,7 +32,7 @@ const SPELLINGS: [(u32, u32, &[u8]); 26] = [
 ];
 
 /// Words that are no instruction here.
-const OTHERS: [u32; 12] = [
+const OTHERS: &[u32] = &[
     0x0000_0000,
     0xFFFF_FFFF,
     0x0001_4501,
@@ -51,17 +51,17 @@ const OTHERS: [u32; 12] = [
 fn spellings(rt: HostRuntime) {
     for (word, pc, want) in SPELLINGS {
         let mut line = Line::new();
-        if let Some(instr) = decode(word) {
-            spell(&instr, pc, &mut line);
+        if let Some(instr) = decode(*word) {
+            spell(&instr, *pc, &mut line);
         }
-        assert_eq!(rt; line.bytes(), want, "{word:x}");
+        assert_eq!(rt; line.bytes(), *want, "{word:x}");
     }
 }
 
 #[test]
 fn words_that_are_no_instruction(rt: HostRuntime) {
     for word in OTHERS {
-        assert_eq!(rt; decode(word), None, "{word:x}");
+        assert_eq!(rt; decode(*word), None, "{word:x}");
     }
 }
 

@@ -81,7 +81,7 @@ pub struct Row {
     pub samples: u32,
 }
 
-pub const ROWS: [Row; 18] = [
+pub const ROWS: &[Row] = &[
     Row {
         name: "a budget of one instruction",
         words: &[ENDLESS],

@@ -1,4 +1,5 @@
 ghost use Rattle.std.specs.Prelude.{◌≡◌, ◌+◌, ◌≤◌, length, All, IfOk};
+ghost use Rattle.elf32_syms.specs.Image.{IsWithinLimits};
 ghost use Rattle.elf32_syms.specs.declared.image.Segment.{Segment as AnySegment};
 ghost use Rattle.prof_machine.specs.Setup.{IsSetup};
 
@@ -6,7 +7,7 @@ use super::programs::{
     CALLS, CALLS_MCOUNT, COMPLAINS, EBREAK, ECALL, ENDLESS, EXIT, NO_INSTRUCTION, NOP, PRINTS,
     ROWS, SWITCHES, SWITCHES_MONCONTROL,
 };
-use crate::{ROUND, setup_of};
+use crate::{ROUND, boxed, setup_of};
 use elf32_syms::{Image, Segment, SegmentList};
 use gp_base::{Items, RawArc, Span, le4};
 use host_port::{MemHost, NeverFails};
@@ -46,6 +47,47 @@ fn listed(
     Ok(list)
 }
 
+// The program of a file of so many bytes, whose text has the addresses from 0x10000 to below 0x10100.
+fn image_of(
+    rt: &impl Abort,
+    alloc: Global,
+    entry: u32,
+    segments: &[Segment],
+    file_bytes: usize,
+    hooks: (Option<u32>, Option<u32>),
+) -> Result<Box<Image>, AllocError>
+    requires { length segments.now ≤ 2 }
+    ensures { IfOk result (λ image. IsWithinLimits file_bytes image.value) }
+{
+    let image = Image {
+        entry,
+        segments: listed(rt, alloc, segments, file_bytes)?,
+        text: Span {
+            low: 0x0001_0000,
+            high: 0x0001_0100,
+        },
+        symbols: Items::new(alloc),
+        mcount: hooks.0,
+        moncontrol: hooks.1,
+    };
+    boxed(alloc, image)
+}
+
+// A run of a program, in a box.
+fn run_of(
+    alloc: Global,
+    image: &Image,
+    bytes: &[u8],
+    setup: Setup,
+) -> Result<Box<Run>, StartRefusal>
+    requires limits { IsWithinLimits (length bytes.now) image.now }
+    requires setup { IsSetup setup }
+    ensures { IfOk result (λ run. run.value.machine.setup ≡ setup) }
+{
+    let run = Run::start(alloc, image, bytes, setup)?;
+    Ok(boxed(alloc, run)?)
+}
+
 // A run of a file of these words, whose text has the addresses from 0x10000 to below 0x10100.
 fn started(
     rt: &impl Abort,
@@ -55,24 +97,14 @@ fn started(
     words: &[u32],
     hooks: (Option<u32>, Option<u32>),
     setup: Setup,
-) -> Result<Run, StartRefusal>
+) -> Result<Box<Run>, StartRefusal>
     requires { IsSetup setup }
-    ensures { IfOk result (λ run. run.machine.setup ≡ setup) }
+    ensures { IfOk result (λ run. run.value.machine.setup ≡ setup) }
 {
     assert!(rt; segments.len() <= 2);
     let bytes = bytes_of(alloc, words)?;
-    let image = Image {
-        entry,
-        segments: listed(rt, alloc, segments, bytes.len())?,
-        text: Span {
-            low: 0x0001_0000,
-            high: 0x0001_0100,
-        },
-        symbols: Items::new(alloc),
-        mcount: hooks.0,
-        moncontrol: hooks.1,
-    };
-    Run::start(alloc, &image, &bytes, setup)
+    let image = image_of(rt, alloc, entry, segments, bytes.len(), hooks)?;
+    run_of(alloc, &image, bytes.as_slice(), setup)
 }
 
 // A run of these words from 0x10000 on, the first of which is the entry.
@@ -82,9 +114,9 @@ fn started_at_text(
     words: &[u32],
     hooks: (Option<u32>, Option<u32>),
     setup: Setup,
-) -> Result<Run, StartRefusal>
+) -> Result<Box<Run>, StartRefusal>
     requires { IsSetup setup }
-    ensures { IfOk result (λ run. run.machine.setup ≡ setup) }
+    ensures { IfOk result (λ run. run.value.machine.setup ≡ setup) }
 {
     assert!(rt; words.len() <= 64);
     let file_bytes = 4 * words.len() as u32;
@@ -117,10 +149,12 @@ fn ends(
 ) -> Result<(), Fail> {
     let mut host = NeverFails::new(alloc);
     assert!(rt; run.is_live(), "{name}");
-    let end = run.drive(&mut host).map_err(|_| "drive")?;
-    assert_eq!(rt; end, wanted.end, "{name}");
-    assert!(rt; !run.is_live(), "{name}");
-    assert_eq!(rt; run.summary(), wanted, "{name}");
+    let end = run.drive(&mut host)?;
+    assert_eq!(rt;
+        (end, run.is_live(), run.summary()),
+        (wanted.end, false, wanted),
+        "{name}"
+    );
     Ok(())
 }
 
@@ -136,7 +170,7 @@ fn text_ends(
 ) -> Result<(), Fail>
     requires { IsSetup setup }
 {
-    let mut run = started_at_text(rt, alloc, words, hooks, setup).map_err(|_| "start")?;
+    let mut run = started_at_text(rt, alloc, words, hooks, setup)?;
     ends(rt, alloc, name, &mut run, wanted)
 }
 
@@ -183,7 +217,7 @@ fn runs_to_their_ends(rt: HostRuntime) -> Result<(), Fail> {
 }
 
 /// A name, how many harts, the plan and the budget; and how many calls are counted, and lost.
-const LOSSES: [(&str, u32, Plan, u32, u32, u32); 6] = [
+const LOSSES: &[(&'static str, u32, Plan, u32, u32, u32)] = &[
     ("one of two is lost", 2, ROUND, 20, 1, 1),
     ("one hart loses none", 1, ROUND, 20, 1, 0),
     ("the walk in flight is looked to its end", 2, ROUND, 5, 1, 0),
@@ -207,8 +241,7 @@ fn expect_one_arc(rt: &impl Abort, gmon: &Gmon, calls: u32, name: &str) {
         to: 0x0001_0014,
         count: calls,
     };
-    assert_eq!(rt; arcs.next(), Some(arc), "{name}");
-    assert_eq!(rt; arcs.next(), None, "{name}");
+    assert_eq!(rt; (arcs.next(), arcs.next()), (Some(arc), None), "{name}");
 }
 
 // Runs `CALLS` by a plan, and looks at what it told and at its arc.
@@ -223,7 +256,7 @@ fn meets(
     requires { IsSetup setup }
 {
     let hooks = (Some(CALLS_MCOUNT), None);
-    let mut run = started_at_text(rt, alloc, CALLS, hooks, setup).map_err(|_| "start")?;
+    let mut run = started_at_text(rt, alloc, CALLS, hooks, setup)?;
     let wanted = calls_alone(setup.budget, calls, lost, State::On);
     ends(rt, alloc, name, &mut run, wanted)?;
     expect_one_arc(rt, run.gmon(), calls, name);
@@ -233,11 +266,13 @@ fn meets(
 #[test]
 fn calls_that_meet_another(rt: HostRuntime) -> Result<(), Fail> {
     for (name, harts, plan, budget, calls, lost) in LOSSES {
-        let setup = setup_of(1_000, budget, harts, plan);
-        meets(&rt, rt.alloc(), name, setup, calls, lost)?;
+        let setup = setup_of(1_000, *budget, *harts, *plan);
+        meets(&rt, rt.alloc(), name, setup, *calls, *lost)?;
     }
     Ok(())
 }
+
+const EXITS: &[u32] = &[NOP, EXIT, ECALL];
 
 // The text has 64 words, and these are the counts of the first ones.
 fn expect_counts(rt: &impl Abort, counts: &[u32], wanted: &[u32]) {
@@ -259,7 +294,7 @@ fn counts_executions(
         blocks: true,
         ..plain
     };
-    let mut run = started_at_text(rt, alloc, words, (None, None), setup).map_err(|_| "start")?;
+    let mut run = started_at_text(rt, alloc, words, (None, None), setup)?;
     ends(rt, alloc, "executions", &mut run, no_calls(end, retired, 0))?;
     expect_counts(rt, run.exec_counts(), wanted.as_slice());
     Ok(())
@@ -269,8 +304,7 @@ fn counts_executions(
 fn executions_are_counted(rt: HostRuntime) -> Result<(), Fail> {
     let alloc = rt.alloc();
     // one that exits is executed
-    let exits = [NOP, EXIT, ECALL];
-    counts_executions(&rt, alloc, &exits, End::Exit(0), 3, [1, 1, 1, 0])?;
+    counts_executions(&rt, alloc, EXITS, End::Exit(0), 3, [1, 1, 1, 0])?;
     // one that traps isn't
     let trap = End::Trap(TrapKind::Breakpoint, 0x0001_0004);
     counts_executions(&rt, alloc, &[NOP, EBREAK], trap, 1, [1, 0, 0, 0])?;
@@ -280,7 +314,7 @@ fn executions_are_counted(rt: HostRuntime) -> Result<(), Fail> {
 // How many counts an endless run of five instructions has that weren't asked for.
 fn unasked(rt: &impl Abort, alloc: Global) -> Result<usize, Fail> {
     let setup = setup_of(1_000, 5, 1, ROUND);
-    let mut run = started_at_text(rt, alloc, &[ENDLESS], (None, None), setup).map_err(|_| "start")?;
+    let mut run = started_at_text(rt, alloc, &[ENDLESS], (None, None), setup)?;
     ends(rt, alloc, "unasked", &mut run, no_calls(End::Budget, 5, 0))?;
     Ok(run.exec_counts().len())
 }
@@ -301,7 +335,7 @@ fn takes_turns(rt: &impl Abort, alloc: Global, run: &mut Run, harts: &[u32]) -> 
     for hart in harts {
         assert!(rt; *hart < 2);
         assert!(rt; run.is_live());
-        run.turn(*hart, &mut host).map_err(|_| "turn")?;
+        run.turn(*hart, &mut host)?;
     }
     Ok(())
 }
@@ -311,7 +345,7 @@ type Noted = (u32, Option<(u32, u32)>, Option<u32>, Option<u32>);
 
 /// The notes of `CALLS` with a sample in two instructions: of one hart, and of two, the second of which meets
 /// the first one's call and is lost.
-const ALONE: [Noted; 5] = [
+const ALONE: &[Noted] = &[
     (0, Some((0x1_0000, 0x1_000C)), None, None),
     (0, Some((0x1_000C, 0x1_0010)), Some(0x1_0010), None),
     (0, Some((0x1_0010, 0x1_0008)), None, None),
@@ -319,7 +353,7 @@ const ALONE: [Noted; 5] = [
     (0, Some((0x1_0014, 0x1_0014)), Some(0x1_0014), None),
 ];
 
-const OF_TWO: [Noted; 9] = [
+const OF_TWO: &[Noted] = &[
     (0, Some((0x1_0000, 0x1_000C)), None, None),
     (1, Some((0x1_0000, 0x1_000C)), Some(0x1_000C), None),
     (0, Some((0x1_000C, 0x1_0010)), None, None),
@@ -362,7 +396,7 @@ fn expect_notes(
         let hart = plan.next_hart();
         assert!(rt; hart < setup.harts);
         assert!(rt; run.is_live());
-        run.turn(hart, &mut host).map_err(|_| "turn")?;
+        run.turn(hart, &mut host)?;
         assert_eq!(rt; told(hart, run.last_turn()), *noted, "turn {at}");
     }
     Ok(())
@@ -372,14 +406,14 @@ fn expect_notes(
 fn tells(rt: &impl Abort, alloc: Global, harts: u32, notes: &[Noted]) -> Result<(), Fail> {
     let setup = setup_of(2, 100, harts, ROUND);
     let hooks = (Some(CALLS_MCOUNT), None);
-    let mut run = started_at_text(rt, alloc, CALLS, hooks, setup).map_err(|_| "start")?;
+    let mut run = started_at_text(rt, alloc, CALLS, hooks, setup)?;
     expect_notes(rt, alloc, &mut run, setup, notes)
 }
 
 #[test]
 fn turns_tell_what_they_did(rt: HostRuntime) -> Result<(), Fail> {
-    tells(&rt, rt.alloc(), 1, &ALONE)?;
-    tells(&rt, rt.alloc(), 2, &OF_TWO)
+    tells(&rt, rt.alloc(), 1, ALONE)?;
+    tells(&rt, rt.alloc(), 2, OF_TWO)
 }
 
 // How the runtime stands after turns of these harts.
@@ -417,13 +451,13 @@ fn expect_turns(rt: &impl Abort, alloc: Global, run: &mut Run) -> Result<(), Fai
 fn turns_one_by_one(rt: HostRuntime) -> Result<(), Fail> {
     let setup = setup_of(1_000, 6, 2, ROUND);
     let hooks = (Some(CALLS_MCOUNT), None);
-    let mut run = started_at_text(&rt, rt.alloc(), CALLS, hooks, setup).map_err(|_| "start")?;
+    let mut run = started_at_text(&rt, rt.alloc(), CALLS, hooks, setup)?;
     expect_turns(&rt, rt.alloc(), &mut run)
 }
 
 /// A name, how many harts, and the plan; and the number of the hart that ends the run first, as its third
 /// instruction, with how many have retired by then.
-const FIRST_TO_END: [(&str, u32, Plan, u32, u32); 4] = [
+const FIRST_TO_END: &[(&'static str, u32, Plan, u32, u32)] = &[
     ("one turn each", 2, ROUND, 0, 5),
     ("two turns each", 2, Plan::RoundRobin { quantum: 2 }, 0, 5),
     ("three turns each", 2, Plan::RoundRobin { quantum: 3 }, 0, 3),
@@ -439,10 +473,9 @@ const FIRST_TO_END: [(&str, u32, Plan, u32, u32); 4] = [
 #[test]
 fn harts_take_turns_by_the_plan(rt: HostRuntime) -> Result<(), Fail> {
     for (name, harts, plan, status, retired) in FIRST_TO_END {
-        let setup = setup_of(1_000, 100, harts, plan);
-        let words = [NOP, EXIT, ECALL];
-        let wanted = no_calls(End::Exit(status), retired, 0);
-        text_ends(&rt, rt.alloc(), name, &words, (None, None), setup, wanted)?;
+        let setup = setup_of(1_000, 100, *harts, *plan);
+        let wanted = no_calls(End::Exit(*status), *retired, 0);
+        text_ends(&rt, rt.alloc(), name, EXITS, (None, None), setup, wanted)?;
     }
     Ok(())
 }
@@ -487,9 +520,7 @@ fn expect_samples(rt: &impl Abort, run: &Run, wanted: &[(u32, u16)]) {
 #[test]
 fn a_full_counter_stays_full(rt: HostRuntime) -> Result<(), Fail> {
     let setup = setup_of(1, 65_536, 1, ROUND);
-    let mut run = started_at_text(&rt, rt.alloc(), &[ENDLESS], (None, None), setup).map_err(
-        |_| "start",
-    )?;
+    let mut run = started_at_text(&rt, rt.alloc(), &[ENDLESS], (None, None), setup)?;
     let wanted = no_calls(End::Budget, 65_536, 65_536);
     ends(&rt, rt.alloc(), "65,536 samples", &mut run, wanted)?;
     expect_samples(&rt, &run, &[(0, 65_535), (1, 0)]);
@@ -501,7 +532,7 @@ fn a_full_counter_stays_full(rt: HostRuntime) -> Result<(), Fail> {
 fn samples_until_profiling_is_switched_off(rt: HostRuntime) -> Result<(), Fail> {
     let setup = setup_of(1, 10, 1, ROUND);
     let hooks = (None, Some(SWITCHES_MONCONTROL));
-    let mut run = started_at_text(&rt, rt.alloc(), SWITCHES, hooks, setup).map_err(|_| "start")?;
+    let mut run = started_at_text(&rt, rt.alloc(), SWITCHES, hooks, setup)?;
     let wanted = RunSummary {
         end: End::Budget,
         retired: 10,
@@ -530,7 +561,7 @@ const OUTPUT: &[u8] = &[0x13, 0x05, 0x10, 0x00];
 
 const ERROR_OUTPUT: &[u8] = &[0x13, 0x05, 0x20, 0x00];
 
-const PRINTINGS: [Printing; 4] = [
+const PRINTINGS: &[Printing] = &[
     (PRINTS, None, Some(End::Exit(4)), OUTPUT, &[]),
     (COMPLAINS, None, Some(End::Exit(4)), &[], ERROR_OUTPUT),
     (PRINTS, Some(0), None, &[], &[]),
@@ -541,24 +572,28 @@ const PRINTINGS: [Printing; 4] = [
 fn expect_end(rt: &impl Abort, run: &mut Run, host: &mut MemHost, wanted: Option<End>) {
     assert!(rt; run.is_live());
     let end = run.drive(host);
-    assert!(rt; !run.is_live());
-    assert_eq!(rt; end.ok(), wanted);
+    assert_eq!(rt; (run.is_live(), end.ok()), (false, wanted));
 }
 
 fn expect_printed(rt: &impl Abort, host: &MemHost, out: &[u8], err: &[u8]) {
-    assert_eq!(rt; host.printed(), out);
-    assert_eq!(rt; host.errors(), err);
+    assert_eq!(rt; (host.printed(), host.errors()), (out, err));
 }
 
-fn prints(rt: &impl Abort, alloc: Global, printing: Printing) -> Result<(), Fail> {
-    let (words, fails, end, out, err) = printing;
-    let setup = setup_of(1_000, 100, 1, ROUND);
-    let mut run = started_at_text(rt, alloc, words, (None, None), setup).map_err(|_| "start")?;
-    let mut host = MemHost::new(alloc);
+// A host on which this call fails.
+fn host_that_fails(alloc: Global, fails: Option<u64>) -> Result<Box<MemHost>, AllocError> {
+    let mut host = boxed(alloc, MemHost::new(alloc))?;
     if let Some(call) = fails {
         host.fail_at(call)?;
     }
-    expect_end(rt, &mut run, &mut host, end);
+    Ok(host)
+}
+
+fn prints(rt: &impl Abort, alloc: Global, printing: &Printing) -> Result<(), Fail> {
+    let (words, fails, end, out, err) = printing;
+    let setup = setup_of(1_000, 100, 1, ROUND);
+    let mut run = started_at_text(rt, alloc, words, (None, None), setup)?;
+    let mut host = host_that_fails(alloc, *fails)?;
+    expect_end(rt, &mut run, &mut host, *end);
     expect_printed(rt, &host, out, err);
     Ok(())
 }
@@ -582,21 +617,19 @@ fn file_ends(
     wanted: RunSummary,
 ) -> Result<(), Fail> {
     let setup = setup_of(1, 10, 1, ROUND);
-    let mut run = started(rt, alloc, entry, segments, words, (None, None), setup).map_err(
-        |_| "start",
-    )?;
+    let mut run = started(rt, alloc, entry, segments, words, (None, None), setup)?;
     ends(rt, alloc, name, &mut run, wanted)
 }
 
 /// Eight bytes of a file, of which the text ends behind the first four.
-const BEHIND: [Segment; 1] = [Segment {
+const BEHIND: &[Segment] = &[Segment {
     addr: 0x0001_00FC,
     offset: 0,
     filesz: 8,
     memsz: 8,
 }];
 
-const OVERLAPPING: [Segment; 2] = [
+const OVERLAPPING: &[Segment] = &[
     Segment {
         addr: 0x0001_0000,
         offset: 0,
@@ -616,19 +649,11 @@ fn memory_at_the_start(rt: HostRuntime) -> Result<(), Fail> {
     let name = "no sample behind the text counts";
     let wanted = no_calls(End::Budget, 10, 0);
     let words = [NOP, ENDLESS];
-    file_ends(&rt, rt.alloc(), name, 0x1_00FC, &BEHIND, &words, wanted)?;
+    file_ends(&rt, rt.alloc(), name, 0x1_00FC, BEHIND, &words, wanted)?;
     let name = "a later segment overwrites";
     let wanted = no_calls(End::Trap(TrapKind::Illegal, 0x1_0008), 1, 1);
     let words = [NO_INSTRUCTION, EBREAK, NOP];
-    file_ends(
-        &rt,
-        rt.alloc(),
-        name,
-        0x1_0004,
-        &OVERLAPPING,
-        &words,
-        wanted,
-    )?;
+    file_ends(&rt, rt.alloc(), name, 0x1_0004, OVERLAPPING, &words, wanted)?;
     let name = "with no segment memory is zero";
     let wanted = no_calls(End::Trap(TrapKind::Illegal, 0), 0, 0);
     file_ends(&rt, rt.alloc(), name, 0, &[], &[], wanted)
@@ -636,7 +661,7 @@ fn memory_at_the_start(rt: HostRuntime) -> Result<(), Fail> {
 
 /// A name, the entry, and the address and bytes of a segment that has a word in the file; and why a run
 /// in 4 MiB of memory doesn't start, where it doesn't.
-const STARTS: [(&str, u32, u32, u32, Option<StartRefusal>); 12] = [
+const STARTS: &[(&'static str, u32, u32, u32, Option<StartRefusal>)] = &[
     (
         "program and stacks fill memory",
         0x1_0000,
@@ -762,7 +787,7 @@ fn refusal_of(
 #[test]
 fn starts_that_are_refused(rt: HostRuntime) {
     for (name, entry, addr, memsz, refusal) in STARTS {
-        let answer = refusal_of(&rt, rt.alloc(), entry, addr, memsz);
-        assert_eq!(rt; answer, refusal, "{name}");
+        let answer = refusal_of(&rt, rt.alloc(), *entry, *addr, *memsz);
+        assert_eq!(rt; answer, *refusal, "{name}");
     }
 }

@@ -125,7 +125,7 @@ pub const MANY_SAMPLES: Case = Case {
     total: 65_536,
 };
 
-pub const CASES: [Case; 11] = [
+pub const CASES: &[Case] = &[
     Case {
         name: "a call in a call",
         words: CALLS,

@@ -4,7 +4,7 @@ ghost use Rattle.elf32_syms.specs.Owners.{IsAscending};
 ghost use Rattle.prof_machine.specs.Setup.{IsSetup};
 
 use super::sampled::{CASES, Case, DEEP, MANY_SAMPLES, NOP, same_names};
-use crate::{ROUND, setup_of};
+use crate::{ROUND, boxed, setup_of};
 use elf32_syms::{Image, Symbol, read};
 use folded::{Folded, fold, write};
 use host_port::MemHost;
@@ -17,15 +17,26 @@ use test_programs::elf_of;
 // The text of a run, as its stacks and by functions, and how many samples are folded.
 type Wanted<'a> = (&'a str, &'a str, u64);
 
-fn folded_of(alloc: Global, image: &Image, bytes: &[u8], setup: Setup) -> Result<Folded, Fail>
+fn folded_of(alloc: Global, image: &Image, bytes: &[u8], setup: Setup) -> Result<Box<Folded>, Fail>
     requires limits { IsWithinLimits (length bytes.now) image.now }
     requires symbols { IsAscending image.now.symbols }
     requires setup { IsSetup setup }
-    ensures { IfOk result (λ folded. length folded.inclusive ≡ length image.now.symbols) }
+    ensures { IfOk result (λ folded. length folded.value.inclusive ≡ length image.now.symbols) }
 {
     let mut run = Run::start(alloc, image, bytes, setup)?;
-    let mut host = MemHost::new(alloc);
-    Ok(fold(alloc, &mut run, image, &setup, &mut host)?)
+    let mut host = boxed(alloc, MemHost::new(alloc))?;
+    let folded = fold(alloc, &mut run, image, &setup, &mut *host)?;
+    Ok(boxed(alloc, folded)?)
+}
+
+// The program of a file, in a box.
+fn image_in(alloc: Global, bytes: &[u8]) -> Result<Box<Image>, Fail>
+    requires { length bytes.now ≤ 1048576 }
+    ensures limits { IfOk result (λ image. IsWithinLimits (length bytes.now) image.value) }
+    ensures symbols { IfOk result (λ image. IsAscending image.value.symbols) }
+{
+    let image = read(alloc, bytes)?;
+    Ok(boxed(alloc, image)?)
 }
 
 fn expect_text(
@@ -42,8 +53,11 @@ fn expect_text(
     let mut host = MemHost::new(alloc);
     let written = write(folded, symbols, inclusive, &mut host);
     let what = if inclusive { "functions" } else { "stacks" };
-    assert!(rt; written.is_ok(), "write {what} of {name}");
-    assert_eq!(rt; host.printed(), text.as_bytes(), "{what} of {name}");
+    assert_eq!(rt;
+        (written.is_ok(), host.printed()),
+        (true, text.as_bytes()),
+        "{what} of {name}"
+    );
 }
 
 fn expect_folded(
@@ -57,8 +71,11 @@ fn expect_folded(
     requires { length symbols.now ≡ length folded.now.inclusive }
 {
     let (stacks, by_function, total) = wanted;
-    assert_eq!(rt; folded.total(), total, "{name}");
-    assert_eq!(rt; folded.function_count() as usize, symbols.len(), "{name}");
+    assert_eq!(rt;
+        (folded.total(), folded.function_count() as usize),
+        (total, symbols.len()),
+        "{name}"
+    );
     expect_text(rt, alloc, folded, symbols, false, stacks, name);
     expect_text(rt, alloc, folded, symbols, true, by_function, name);
 }
@@ -75,13 +92,13 @@ fn folds(
     requires { IsSetup setup }
 {
     assert!(rt; bytes.len() <= 1_048_576);
-    let image = read(alloc, bytes)?;
+    let image = image_in(alloc, bytes)?;
     let folded = folded_of(alloc, &image, bytes, setup)?;
     expect_folded(rt, alloc, &folded, image.symbols.as_slice(), name, wanted);
     Ok(())
 }
 
-fn case_folds(rt: &impl Abort, alloc: Global, case: Case) -> Result<(), Fail> {
+fn case_folds(rt: &impl Abort, alloc: Global, case: &Case) -> Result<(), Fail> {
     let bytes = elf_of(alloc, case.words, case.functions)?;
     let setup = setup_of(case.every, case.budget, case.harts, ROUND);
     let wanted = (case.stacks, case.by_function, case.total);
@@ -98,7 +115,7 @@ fn calls_and_returns(rt: HostRuntime) -> Result<(), Fail> {
 
 #[test]
 fn more_samples_than_a_counter_counts(rt: HostRuntime) -> Result<(), Fail> {
-    case_folds(&rt, rt.alloc(), MANY_SAMPLES)
+    case_folds(&rt, rt.alloc(), &MANY_SAMPLES)
 }
 
 fn demo_folds(rt: &impl Abort, alloc: Global, n: u32) -> Result<(), Fail>
@@ -143,7 +160,7 @@ fn deep_folds(
 // How many instructions have retired, and how many calls are on the stack then. The second instruction is the
 // first call, and every fifth behind it one more. The last of the 130 calls has returned after 654
 // instructions, and each one above it three instructions later.
-const DEPTHS: [(&'static str, u32, u32); 6] = [
+const DEPTHS: &[(&'static str, u32, u32)] = &[
     ("127 calls", 632, 127),
     ("128 calls", 637, 128),
     ("129 calls", 642, 128),
@@ -155,8 +172,8 @@ const DEPTHS: [(&'static str, u32, u32); 6] = [
 #[test]
 fn calls_beyond_128_are_not_on_a_stack(rt: HostRuntime) -> Result<(), Fail> {
     for (name, retired, calls) in DEPTHS {
-        let line = deep_line(rt.alloc(), calls)?;
-        deep_folds(&rt, rt.alloc(), name, retired, line.as_str())?;
+        let line = deep_line(rt.alloc(), *calls)?;
+        deep_folds(&rt, rt.alloc(), name, *retired, line.as_str())?;
     }
     Ok(())
 }

@@ -1,5 +1,6 @@
 ghost use Rattle.std.specs.Prelude.{◌≡◌, [], ◌∷◌, IfOk};
 
+use crate::boxed;
 use elf32_syms::{Image, Segment};
 use gp_base::{Items, Span, le4};
 use rv_step::Stepped::*;
@@ -10,7 +11,7 @@ use std::process::Abort;
 use std::test::Fail;
 
 /// A word, what x1 and x2 hold before it, and x3 after it.
-const RESULTS: [(u32, u32, u32, u32); 43] = [
+const RESULTS: &[(u32, u32, u32, u32)] = &[
     (0x0020_81B3, 0xFFFF_FFFF, 2, 1), // add wraps
     (0x4020_81B3, 1, 2, 0xFFFF_FFFF), // sub wraps
     (0x0020_91B3, 3, 0x1F, 0x8000_0000), // sll by 31
@@ -57,7 +58,7 @@ const RESULTS: [(u32, u32, u32, u32); 43] = [
 ];
 
 /// A word, x1 and x2 before it, the answer, and pc and x3 after it; x1 stays.
-const JUMPS: [(u32, u32, u32, Stepped, u32, u32); 22] = [
+const JUMPS: &[(u32, u32, u32, Stepped, u32, u32)] = &[
     (0x0080_01EF, 0, 0, Retired, 0x10008, 0x10004), // jal forward
     (0xFFDF_F1EF, 0, 0, Retired, 0xFFFC, 0x10004), // jal back
     (0x0060_01EF, 0, 0, Trap(JumpMisaligned), 0x10000, 0), // jal to no multiple of 4
@@ -83,7 +84,7 @@ const JUMPS: [(u32, u32, u32, Stepped, u32, u32); 22] = [
 ];
 
 /// A word, x1 before it, the answer, and x3 after it.
-const LOADS: [(u32, u32, Stepped, u32); 15] = [
+const LOADS: &[(u32, u32, Stepped, u32)] = &[
     (0x0000_8183, 0x10FFC, Retired, 0xFFFF_FF80), // lb extends the sign
     (0x0000_C183, 0x10FFC, Retired, 0x80), // lbu does not
     (0x0000_9183, 0x10FFC, Retired, 0xFFFF_FF80), // lh extends the sign
@@ -102,7 +103,7 @@ const LOADS: [(u32, u32, Stepped, u32); 15] = [
 ];
 
 /// A word, x1 before it, the answer, and the last word of memory after it.
-const STORES: [(u32, u32, Stepped, u32); 9] = [
+const STORES: &[(u32, u32, Stepped, u32)] = &[
     (0x0020_8023, 0x10FFC, Retired, 0x17F_FF78), // sb changes one byte
     (0x0020_81A3, 0x10FFC, Retired, 0x787F_FF80), // sb of the last byte
     (0x0020_9123, 0x10FFC, Retired, 0x5678_FF80), // sh changes two bytes
@@ -115,20 +116,21 @@ const STORES: [(u32, u32, Stepped, u32); 9] = [
 ];
 
 /// A program of two segments.
-fn image_of(alloc: Global, first: Segment, second: Segment) -> Result<Image, AllocError>
-    ensures { IfOk result (λ image. image.segments ≡ first ∷ second ∷ []) }
+fn image_of(alloc: Global, first: Segment, second: Segment) -> Result<Box<Image>, AllocError>
+    ensures { IfOk result (λ image. image.value.segments ≡ first ∷ second ∷ []) }
 {
     let mut segments = Items::new(alloc);
     segments.push(first)?;
     segments.push(second)?;
-    Ok(Image {
+    let image = Image {
         entry: 0x1_0000,
         segments,
         text: Span { low: 0, high: 0 },
         symbols: Items::new(alloc),
         mcount: None,
         moncontrol: None,
-    })
+    };
+    boxed(alloc, image)
 }
 
 /// The first word of memory, and the last one.
@@ -180,10 +182,10 @@ fn step_of(alloc: Global, word: u32, x1: u32, x2: u32) -> Result<(Stepped, [u32;
 #[test]
 fn results(rt: HostRuntime) -> Result<(), Fail> {
     for (word, x1, x2, x3) in RESULTS {
-        let after = step_of(rt.alloc(), word, x1, x2)?;
+        let after = step_of(rt.alloc(), *word, *x1, *x2)?;
         assert_eq!(rt;
             after,
-            (Retired, [0x1_0004, x1, x3]),
+            (Retired, [0x1_0004, *x1, *x3]),
             "{word:08x} of {x1:x}"
         );
     }
@@ -193,8 +195,8 @@ fn results(rt: HostRuntime) -> Result<(), Fail> {
 #[test]
 fn jumps(rt: HostRuntime) -> Result<(), Fail> {
     for (word, x1, x2, answer, pc, x3) in JUMPS {
-        let after = step_of(rt.alloc(), word, x1, x2)?;
-        assert_eq!(rt; after, (answer, [pc, x1, x3]), "{word:08x} of {x1:x}");
+        let after = step_of(rt.alloc(), *word, *x1, *x2)?;
+        assert_eq!(rt; after, (*answer, [*pc, *x1, *x3]), "{word:08x} of {x1:x}");
     }
     Ok(())
 }
@@ -202,8 +204,8 @@ fn jumps(rt: HostRuntime) -> Result<(), Fail> {
 #[test]
 fn loads(rt: HostRuntime) -> Result<(), Fail> {
     for (word, x1, answer, x3) in LOADS {
-        let (told, [_, _, loaded]) = step_of(rt.alloc(), word, x1, 0)?;
-        assert_eq!(rt; (told, loaded), (answer, x3), "{word:08x} of {x1:x}");
+        let (told, [_, _, loaded]) = step_of(rt.alloc(), *word, *x1, 0)?;
+        assert_eq!(rt; (told, loaded), (*answer, *x3), "{word:08x} of {x1:x}");
     }
     Ok(())
 }
@@ -225,8 +227,8 @@ fn last_of(ram: &Ram) -> Option<[u8; 4]> {
 #[test]
 fn stores(rt: HostRuntime) -> Result<(), Fail> {
     for (word, x1, answer, last) in STORES {
-        let after = store_of(rt.alloc(), word, x1)?;
-        assert_eq!(rt; after, (answer, Some(le4(last))), "{word:08x} of {x1:x}");
+        let after = store_of(rt.alloc(), *word, *x1)?;
+        assert_eq!(rt; after, (*answer, Some(le4(*last))), "{word:08x} of {x1:x}");
     }
     Ok(())
 }

@@ -4,7 +4,7 @@ ghost use Rattle.gp_base.specs.Spans.{HasRange};
 ghost use Rattle.gmon_data.specs.Content.{empty_content, wide_records, with_records, IsWithin};
 ghost use Rattle.gmon_data.specs.Sizes.{IsOfBytes};
 
-use crate::{PER_100, seconds};
+use crate::{PER_100, boxed, new_profile, seconds};
 use gmon_data::{AddRefusal, Hist, HistRange, Profile, Unlike};
 use gp_base::{
     BlockList, Counts, Form, RawArc, RawBlock, RawHist, Rec, RecList, Records, Totals, Unit,
@@ -85,7 +85,7 @@ fn first_counters(profile: &Profile) -> &[u64] {
 }
 
 /// The rate of a file's second histogram, and what adding the file answers.
-const SECOND_RATES: [(&'static str, u32, Result<(), AddRefusal>); 3] = [
+const SECOND_RATES: &[(&'static str, u32, Result<(), AddRefusal>)] = &[
     ("the same rate", 100, Ok(())),
     ("a rate of 0", 0, Ok(())),
     (
@@ -97,25 +97,59 @@ const SECOND_RATES: [(&'static str, u32, Result<(), AddRefusal>); 3] = [
 
 /// The one histogram and its unit, whether or not the second one was added to it.
 fn expect_one_histogram(rt: &impl Abort, profile: &Profile, counters: &[u64], name: &str) {
-    assert_eq!(rt; profile.unit(), Some(PER_100), "{name}");
-    assert_eq!(rt; profile.hist_count(), 1, "{name}");
-    assert_eq!(rt; first_counters(profile), counters, "{name}");
+    assert_eq!(rt;
+        (
+            profile.unit(),
+            profile.hist_count(),
+            first_counters(profile)
+        ),
+        (Some(PER_100), 1, counters),
+        "{name}"
+    );
 }
 
 /// Nothing stands behind the refused histogram.
 fn expect_first_alone(rt: &impl Abort, profile: &Profile, name: &str) {
     expect_one_histogram(rt, profile, &[1, 2, 0, 0], name);
-    assert_eq!(rt; profile.arc_count(), 0, "{name}");
-    assert_eq!(rt; profile.block_count(), 0, "{name}");
+    assert_eq!(rt;
+        (profile.arc_count(), profile.block_count()),
+        (0, 0),
+        "{name}"
+    );
 }
 
 fn expect_whole_file(rt: &impl Abort, profile: &Profile, name: &str) {
     expect_one_histogram(rt, profile, &[2, 4, 0, 0], name);
-    assert_eq!(rt; profile.arc_count(), 1, "{name}");
-    assert_eq!(rt; profile.block_count(), 1, "{name}");
-    assert_eq!(rt; profile.samples(), 6, "{name}");
-    assert_eq!(rt; profile.calls(), 0, "{name}");
-    assert_eq!(rt; profile.blocks(), 9, "{name}");
+    assert_eq!(rt;
+        (profile.arc_count(), profile.block_count()),
+        (1, 1),
+        "{name}"
+    );
+    assert_eq!(rt;
+        (profile.samples(), profile.calls(), profile.blocks()),
+        (6, 0, 9),
+        "{name}"
+    );
+}
+
+/// Adds a file, and looks at what was added.
+fn expect_added(
+    rt: &impl Abort,
+    profile: &mut Profile,
+    records: &Records,
+    name: &str,
+    answer: Result<(), AddRefusal>,
+)
+    requires empty { profile.old ≡ empty_content }
+    requires ranges { All HasRange records.now.recs }
+    requires within { IsWithin (with_records (wide_records records.now.recs) empty_content) }
+{
+    assert_eq!(rt; profile.add_records(records), answer, "{name}");
+    if answer.is_ok() {
+        expect_whole_file(rt, profile, name);
+    } else {
+        expect_first_alone(rt, profile, name);
+    }
 }
 
 /// Adds a file whose second histogram is of the given rate.
@@ -127,26 +161,23 @@ fn file_is_added(
     answer: Result<(), AddRefusal>,
 ) -> Result<(), AllocError> {
     let records = file(alloc, rate)?;
-    let mut profile = Profile::new(alloc);
-    assert_eq!(rt; profile.add_records(&records), answer, "{name}");
-    if answer.is_ok() {
-        expect_whole_file(rt, &profile, name);
-    } else {
-        expect_first_alone(rt, &profile, name);
-    }
+    let mut profile = new_profile(alloc)?;
+    expect_added(rt, &mut profile, &records, name, answer);
     Ok(())
 }
 
 #[test]
 fn the_profile_of_a_file(rt: HostRuntime) -> Result<(), Fail> {
     for (name, rate, answer) in SECOND_RATES {
-        file_is_added(&rt, rt.alloc(), name, rate, answer)?;
+        file_is_added(&rt, rt.alloc(), name, *rate, *answer)?;
     }
     Ok(())
 }
 
-/// A profile to which a histogram, arcs and executions were added, each as a file's parts.
-fn added_in_parts(alloc: Global) -> Result<Profile, AddRefusal> {
+/// Adds a histogram, arcs and executions, each as a file's parts.
+fn add_parts(profile: &mut Profile) -> Result<(), AddRefusal>
+    requires { profile.old ≡ empty_content }
+{
     let arc = RawArc {
         from: 0x1_0004,
         to: 0x1_0008,
@@ -156,10 +187,16 @@ fn added_in_parts(alloc: Global) -> Result<Profile, AddRefusal> {
         addr: 0x1_0000,
         count: 9,
     };
-    let mut profile = Profile::new(alloc);
     profile.add_counts(0x1_0000, 0x1_0010, seconds(0), &[1, 2, 0, 0])?;
     profile.add_arcs(&[arc, RawArc { from: 0, ..arc }, arc])?;
     profile.add_blocks(&[block, RawBlock { addr: 8, ..block }, block])?;
+    Ok(())
+}
+
+/// A profile to which these were added.
+fn added_in_parts(alloc: Global) -> Result<Box<Profile>, AddRefusal> {
+    let mut profile = new_profile(alloc)?;
+    add_parts(&mut profile)?;
     Ok(profile)
 }
 
@@ -175,15 +212,23 @@ fn expect_arcs_in_parts(rt: &impl Abort, profile: &Profile) {
 }
 
 fn expect_blocks_in_parts(rt: &impl Abort, profile: &Profile) {
-    assert_eq!(rt; profile.block_count(), 2);
-    assert_eq!(rt; (profile.block_of(0x1_0000), profile.block_of(8)), (18, 9));
+    assert_eq!(rt;
+        (
+            profile.block_count(),
+            profile.block_of(0x1_0000),
+            profile.block_of(8)
+        ),
+        (2, 18, 9)
+    );
 }
 
 #[test]
 fn the_parts_of_a_file(rt: HostRuntime) -> Result<(), Fail> {
     let profile = added_in_parts(rt.alloc())?;
-    assert_eq!(rt; profile.unit(), Some(PER_100));
-    assert_eq!(rt; first_counters(&profile), [1, 2, 0, 0].as_slice());
+    assert_eq!(rt;
+        (profile.unit(), first_counters(&profile)),
+        (Some(PER_100), [1, 2, 0, 0].as_slice())
+    );
     expect_arcs_in_parts(&rt, &profile);
     expect_blocks_in_parts(&rt, &profile);
     Ok(())
@@ -196,13 +241,22 @@ const KEPT: HistRange = HistRange {
     count: 4,
 };
 
-/// A profile of that histogram, of a hundred samples a second.
-fn one_histogram(alloc: Global) -> Result<Profile, AddRefusal>
-    ensures { IfOk result (λ profile. IsOfBytes 510 profile) }
+/// Adds that histogram, of a hundred samples a second.
+fn add_kept(alloc: Global, profile: &mut Profile) -> Result<(), AddRefusal>
+    requires { profile.old ≡ empty_content }
+    ensures { OnOk result (IsOfBytes 510 profile.new) }
 {
     let hist = even(alloc, 0x1_0000, 0x1_0010, 4)?;
-    let mut profile = Profile::new(alloc);
     profile.add_wide(&hist, seconds(100))?;
+    Ok(())
+}
+
+/// A profile of that histogram.
+fn one_histogram(alloc: Global) -> Result<Box<Profile>, AddRefusal>
+    ensures { IfOk result (λ profile. IsOfBytes 510 profile.value) }
+{
+    let mut profile = new_profile(alloc)?;
+    add_kept(alloc, &mut profile)?;
     Ok(profile)
 }
 
@@ -241,7 +295,7 @@ const ONE_MORE: HistRange = HistRange { count: 5, ..KEPT };
 /// The range of a second histogram, how many counters it has, its unit, and what it is unlike in.
 type Second = (u32, u32, u8, Unit, Option<Unlike>);
 
-const SECONDS: [(&'static str, Second); 10] = [
+const SECONDS: &[(&'static str, Second)] = &[
     ("the same", (0x1_0000, 0x1_0010, 4, PER_0, None)),
     ("above", (0x1_0010, 0x1_0020, 4, PER_100, None)),
     ("below", (0xFFF0, 0x1_0000, 4, PER_100, None)),
@@ -323,12 +377,28 @@ const SECONDS: [(&'static str, Second); 10] = [
     ),
 ];
 
+/// Adds a second histogram.
+fn add_second(
+    alloc: Global,
+    profile: &mut Profile,
+    low: u32,
+    high: u32,
+    count: u8,
+    unit: Unit,
+) -> Result<(), AddRefusal>
+    requires range { low < high }
+    requires first { IsOfBytes 510 profile.old }
+{
+    let hist = even(alloc, low, high, count)?;
+    profile.add_wide(&hist, unit)
+}
+
 /// What adding a second histogram answers.
 fn second_added(alloc: Global, low: u32, high: u32, count: u8, unit: Unit) -> Result<(), AddRefusal>
     requires { low < high }
 {
-    let hist = even(alloc, low, high, count)?;
-    one_histogram(alloc)?.add_wide(&hist, unit)
+    let mut profile = one_histogram(alloc)?;
+    add_second(alloc, &mut profile, low, high, count, unit)
 }
 
 fn second_is_answered(rt: &impl Abort, alloc: Global, name: &str, second: Second) {
@@ -348,52 +418,72 @@ fn second_is_answered(rt: &impl Abort, alloc: Global, name: &str, second: Second
 #[test]
 fn histograms_that_are_unlike(rt: HostRuntime) {
     for (name, second) in SECONDS {
-        second_is_answered(&rt, rt.alloc(), name, second);
+        second_is_answered(&rt, rt.alloc(), name, *second);
     }
 }
 
-/// A profile of one pair, with more calls than 32 bits can say.
-fn large_pair(alloc: Global) -> Result<Profile, AllocError>
-    ensures { IfOk result (λ profile. 0 < length profile.arcs) }
+/// The first arc and the first block address, if there are any.
+fn firsts(profile: &Profile) -> (Option<(u32, u32, u64)>, Option<(u32, u64)>) {
+    let arc = if profile.arc_count() > 0 {
+        Some(profile.arc(0))
+    } else {
+        None
+    };
+    let block = if profile.block_count() > 0 {
+        Some(profile.block(0))
+    } else {
+        None
+    };
+    (arc, block)
+}
+
+/// Adds one pair, with more calls than 32 bits can say.
+fn add_large_pair(profile: &mut Profile) -> Result<(), AllocError>
+    requires { profile.old ≡ empty_content }
 {
-    let mut profile = Profile::new(alloc);
     profile.reserve_arcs(100)?;
     profile.add_calls(0x1_0004, 0x1_0008, 1 << 58)?;
     profile.add_arc(RawArc {
         from: 0x1_0004,
         to: 0x1_0008,
         count: 5,
-    })?;
-    Ok(profile)
+    })
 }
 
-/// A profile of one block address, with more executions than 32 bits can say.
-fn large_block(alloc: Global) -> Result<Profile, AllocError>
-    ensures { IfOk result (λ profile. 0 < length profile.blocks) }
+/// Adds one block address, with more executions than 32 bits can say.
+fn add_large_block(profile: &mut Profile) -> Result<(), AllocError>
+    requires { profile.old ≡ empty_content }
 {
-    let mut profile = Profile::new(alloc);
     profile.reserve_blocks(100)?;
     profile.add_runs(0x1_0000, 1 << 57)?;
     profile.add_block(RawBlock {
         addr: 0x1_0000,
         count: 9,
-    })?;
-    Ok(profile)
+    })
 }
 
 #[test]
 fn calls_of_64_bits(rt: HostRuntime) -> Result<(), Fail> {
-    let profile = large_pair(rt.alloc())?;
-    assert_eq!(rt; profile.arc(0), (0x1_0004, 0x1_0008, (1 << 58) + 5));
+    let mut profile = new_profile(rt.alloc())?;
+    add_large_pair(&mut profile)?;
+    let arc = (0x1_0004, 0x1_0008, (1 << 58) + 5);
+    assert_eq!(rt; firsts(&profile), (Some(arc), None));
     Ok(())
 }
 
 #[test]
 fn executions_of_64_bits(rt: HostRuntime) -> Result<(), Fail> {
-    let profile = large_block(rt.alloc())?;
-    assert_eq!(rt; profile.block(0), (0x1_0000, (1 << 57) + 9));
-    assert_eq!(rt; profile.block_of(0x1_0000), (1 << 57) + 9);
-    assert_eq!(rt; profile.block_of(0x1_0004), 0);
+    let mut profile = new_profile(rt.alloc())?;
+    add_large_block(&mut profile)?;
+    let count = (1 << 57) + 9;
+    assert_eq!(rt;
+        (
+            firsts(&profile),
+            profile.block_of(0x1_0000),
+            profile.block_of(0x1_0004)
+        ),
+        ((None, Some((0x1_0000, count))), count, 0)
+    );
     Ok(())
 }
 
@@ -425,34 +515,53 @@ fn many_records(alloc: Global) -> Result<Records, AllocError>
     })
 }
 
-/// A profile of those records.
-fn many_added(alloc: Global) -> Result<Profile, AddRefusal> {
+/// Adds those records.
+fn add_many(alloc: Global, profile: &mut Profile) -> Result<(), AddRefusal>
+    requires { profile.old ≡ empty_content }
+{
     let records = many_records(alloc)?;
-    let mut profile = Profile::new(alloc);
-    profile.add_records(&records)?;
-    Ok(profile)
+    profile.add_records(&records)
+}
+
+/// A clone of a profile, in a box.
+fn cloned(alloc: Global, profile: &Profile) -> Result<Box<Profile>, AllocError> {
+    boxed(alloc, profile.try_clone()?)
+}
+
+/// The clone of a profile of those records.
+fn many_added(alloc: Global) -> Result<Box<Profile>, AddRefusal> {
+    let mut profile = new_profile(alloc)?;
+    add_many(alloc, &mut profile)?;
+    Ok(cloned(alloc, &profile)?)
 }
 
 fn expect_many(rt: &impl Abort, profile: &Profile) {
     assert_eq!(rt; (profile.unit(), profile.hist_count()), (None, 0));
-    assert_eq!(rt; (profile.calls(), profile.arc_count()), (100_000, 100_000));
     assert_eq!(rt;
-        (profile.blocks(), profile.block_count()),
-        (100_000, 100_000)
+        (
+            profile.calls(),
+            profile.arc_count(),
+            profile.blocks(),
+            profile.block_count()
+        ),
+        (100_000, 100_000, 100_000, 100_000)
     );
 }
 
 fn expect_many_arcs(rt: &impl Abort, profile: &Profile) {
     for i in 0..profile.arc_count() {
         let (from, to, count) = profile.arc(i);
-        assert_eq!(rt; from as usize + 4 * i, 0x80_0000, "{i}");
-        assert_eq!(rt; (to, count), (0x1_0000, 1), "{i}");
+        assert_eq!(rt;
+            (from as usize + 4 * i, to, count),
+            (0x80_0000, 0x1_0000, 1),
+            "{i}"
+        );
     }
 }
 
 #[test]
 fn a_hundred_thousand_records(rt: HostRuntime) -> Result<(), Fail> {
-    let profile = many_added(rt.alloc())?.try_clone()?;
+    let profile = many_added(rt.alloc())?;
     expect_many(&rt, &profile);
     expect_many_arcs(&rt, &profile);
     Ok(())
@@ -460,12 +569,13 @@ fn a_hundred_thousand_records(rt: HostRuntime) -> Result<(), Fail> {
 
 /// The conflict of a histogram of four counters with the one that a profile has.
 fn conflict_of(alloc: Global, low: u32, rate: u32) -> Result<Option<Unlike>, AddRefusal> {
+    let profile = one_histogram(alloc)?;
     let range = HistRange { low, ..KEPT };
-    Ok(one_histogram(alloc)?.conflict(range, seconds(rate)))
+    Ok(profile.conflict(range, seconds(rate)))
 }
 
 /// Where a histogram begins, its rate, and its conflict.
-const CONFLICTS: [(u32, u32, Option<Unlike>); 4] = [
+const CONFLICTS: &[(u32, u32, Option<Unlike>)] = &[
     (0x1_0000, 0, None),
     (0x1_0010, 0, None),
     (0x1_0000, 50, Some(Unlike::Rate { old: 100, new: 50 })),
@@ -485,7 +595,7 @@ const CONFLICTS: [(u32, u32, Option<Unlike>); 4] = [
 #[test]
 fn a_conflict_is_told(rt: HostRuntime) -> Result<(), Fail> {
     for (low, rate, conflict) in CONFLICTS {
-        assert_eq!(rt; conflict_of(rt.alloc(), low, rate)?, conflict);
+        assert_eq!(rt; conflict_of(rt.alloc(), *low, *rate)?, *conflict);
     }
     Ok(())
 }
@@ -545,15 +655,20 @@ fn add_next(
     Ok(())
 }
 
-/// A profile of so many histograms of one counter each, side by side, which came in an order.
-fn side_by_side(alloc: Global, order: Order, count: u32) -> Result<Profile, AddRefusal>
-    requires { count ≤ 1000000 }
+/// Adds so many histograms of one counter each, side by side, in an order.
+fn add_side_by_side(
+    profile: &mut Profile,
+    alloc: Global,
+    order: Order,
+    count: u32,
+) -> Result<(), AddRefusal>
+    requires empty { profile.old ≡ empty_content }
+    requires few { count ≤ 1000000 }
 {
-    let mut profile = Profile::new(alloc);
     for k in 0..count {
-        add_next(&mut profile, alloc, order, k, count)?;
+        add_next(profile, alloc, order, k, count)?;
     }
-    Ok(profile)
+    Ok(())
 }
 
 /// Whether each histogram is the one of its place.
@@ -569,7 +684,7 @@ fn is_side_by_side(profile: &Profile) -> bool {
 }
 
 /// An order, and how many histograms come in it.
-const ORDERS: [(&'static str, Order, u32); 6] = [
+const ORDERS: &[(&'static str, Order, u32)] = &[
     ("ascending", Order::Ascending, 3000),
     ("descending", Order::Descending, 3000),
     ("every second one first", Order::EverySecondFirst, 3000),
@@ -579,9 +694,15 @@ const ORDERS: [(&'static str, Order, u32); 6] = [
 ];
 
 fn expect_side_by_side(rt: &impl Abort, profile: &Profile, name: &str, count: u32) {
-    assert_eq!(rt; profile.hist_count(), count as usize, "{name}");
-    assert_eq!(rt; profile.samples(), u64::from(count), "{name}");
-    assert!(rt; is_side_by_side(profile), "{name}");
+    assert_eq!(rt;
+        (
+            profile.hist_count(),
+            profile.samples(),
+            is_side_by_side(profile)
+        ),
+        (count as usize, u64::from(count), true),
+        "{name}"
+    );
 }
 
 /// Looks at a profile whose histograms came in an order, and at its clone.
@@ -591,20 +712,20 @@ fn stand_in_order(
     name: &str,
     order: Order,
     count: u32,
-) -> Result<(), AddRefusal>
-    requires { count ≤ 1000000 }
-{
-    let added = side_by_side(alloc, order, count)?;
+) -> Result<(), AddRefusal> {
+    assert!(rt; count <= 1_000_000, "{name}");
+    let mut added = new_profile(alloc)?;
+    add_side_by_side(&mut added, alloc, order, count)?;
     expect_side_by_side(rt, &added, name, count);
-    let profile = added.try_clone()?;
-    expect_side_by_side(rt, &profile, name, count);
+    let clone = cloned(alloc, &added)?;
+    expect_side_by_side(rt, &clone, name, count);
     Ok(())
 }
 
 #[test]
 fn histograms_in_any_order(rt: HostRuntime) -> Result<(), Fail> {
     for (name, order, count) in ORDERS {
-        stand_in_order(&rt, rt.alloc(), name, order, count)?;
+        stand_in_order(&rt, rt.alloc(), name, *order, *count)?;
     }
     Ok(())
 }

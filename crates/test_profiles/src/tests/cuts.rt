@@ -4,7 +4,7 @@ ghost use Rattle.elf32_syms.specs.Owners.{IsAscending};
 ghost use Rattle.arc_filter.specs.Cuts.{is_cut_word as spec};
 
 use crate::{
-    PER_100, Rows, name_of, profile_of_calls, profile_of_rows, push_symbol, ring_of_calls,
+    PER_100, Rows, boxed, name_of, profile_of_calls, profile_of_rows, push_symbol, ring_of_calls,
 };
 use arc_filter::{cut, is_cut_word};
 use elf32_syms::{Symbol, SymbolList};
@@ -62,22 +62,24 @@ fn arcs_text(alloc: Global, profile: &Profile) -> Result<String, AllocError> {
     Ok(text)
 }
 
+/// Words, and whether they have the form of a cut.
+const WORDS: &[(&'static str, bool)] = &[
+    ("b/a", true),
+    ("main/_start", true),
+    ("a/b/c", true),
+    ("a//", true),
+    ("ba", false),
+    ("/a", false),
+    ("b/", false),
+    ("//a", false),
+    ("/", false),
+    ("", false),
+];
+
 #[test]
 fn words_of_the_form(rt: HostRuntime) {
-    let rows = [
-        ("b/a", true),
-        ("main/_start", true),
-        ("a/b/c", true),
-        ("a//", true),
-        ("ba", false),
-        ("/a", false),
-        ("b/", false),
-        ("//a", false),
-        ("/", false),
-        ("", false),
-    ];
-    for (word, want) in rows {
-        assert_eq!(rt; is_cut_word(word), want, "{word}");
+    for (word, want) in WORDS {
+        assert_eq!(rt; is_cut_word(word), *want, "{word}");
     }
 }
 
@@ -91,7 +93,7 @@ type Row = (&'static str, &'static [&'static str], &'static str);
 
 const ALL: &str = "10004>10010:1 10014>10020:5 10024>10010:4 10024>10020:2 10034>10020:9 ";
 
-const ROWS: [Row; 8] = [
+const ROWS: &[Row] = &[
     ("no words", &[], ALL),
     (
         "one pair",
@@ -136,11 +138,11 @@ fn cut_by(
     symbols: &[Symbol],
     whole: &Profile,
     words: &[&str],
-) -> Result<Profile, AllocError>
+) -> Result<Box<Profile>, AllocError>
     requires { IsAscending symbols.now }
 {
     let cuts = cuts_of(alloc, words)?;
-    cut(alloc, whole, symbols, cuts.as_slice())
+    boxed(alloc, cut(alloc, whole, symbols, cuts.as_slice())?)
 }
 
 /// The arcs that stay of a row.
@@ -156,6 +158,22 @@ fn left_text(
     arcs_text(alloc, &left)
 }
 
+/// The arcs of a row stay.
+fn expect_row(
+    rt: &impl Abort,
+    alloc: Global,
+    symbols: &[Symbol],
+    whole: &Profile,
+    row: &Row,
+) -> Result<(), AllocError>
+    requires { IsAscending symbols.now }
+{
+    let (message, words, want) = row;
+    let text = left_text(alloc, symbols, whole, words)?;
+    assert_eq!(rt; text.as_str(), *want, "{message}");
+    Ok(())
+}
+
 /// The rows have their arcs.
 fn expect_rows(
     rt: &impl Abort,
@@ -165,9 +183,8 @@ fn expect_rows(
 ) -> Result<(), AllocError>
     requires { IsAscending symbols.now }
 {
-    for (message, words, want) in ROWS {
-        let text = left_text(alloc, symbols, whole, words)?;
-        assert_eq!(rt; text.as_str(), want, "{message}");
+    for row in ROWS {
+        expect_row(rt, alloc, symbols, whole, row)?;
     }
     Ok(())
 }
@@ -189,10 +206,16 @@ const SOME: Rows<'static> = Rows {
 };
 
 fn expect_calls_gone(rt: &impl Abort, left: &Profile, whole: &Profile) {
-    assert_eq!(rt; (left.samples(), left.blocks()), (3, 5));
-    assert_eq!(rt; (left.calls(), left.arc_count()), (0, 0));
-    assert_eq!(rt; left.unit(), whole.unit());
-    assert_eq!(rt; whole.calls(), 7);
+    assert_eq!(rt;
+        (
+            left.samples(),
+            left.blocks(),
+            left.calls(),
+            left.arc_count()
+        ),
+        (3, 5, 0, 0)
+    );
+    assert_eq!(rt; (left.unit(), whole.calls()), (whole.unit(), 7));
 }
 
 /// The calls by `main` of `a` are cut from some of each.
@@ -222,8 +245,8 @@ const SIXTEEN_WORDS: [&str; 16] = [
 ];
 
 fn expect_fewer(rt: &impl Abort, left: &Profile) {
-    assert_eq!(rt; left.arc_count(), 2_097_152 - 16 * 8_192);
-    assert_eq!(rt; left.calls(), 2_097_152 - 16 * 8_192);
+    let fewer = 2_097_152 - 16 * 8_192;
+    assert_eq!(rt; (left.arc_count() as u64, left.calls()), (fewer, fewer));
 }
 
 /// Each of sixteen words cuts two calls of every sixteenth function.

@@ -1,8 +1,8 @@
 ghost use Rattle.std.specs.Prelude.{◌≤◌};
 
 use crate::{
-    Calls, PER_100, Rows, are_same, even_profile, named_symbols, profile_of_calls, profile_of_rows,
-    profile_of_samples, ring_of_calls, symbols_at, symbols_in_reverse, symbols_of,
+    Calls, Function, PER_100, Rows, are_same, even_profile, named_symbols, profile_of_calls,
+    profile_of_rows, profile_of_samples, ring_of_calls, symbols_at, symbols_in_reverse, symbols_of,
 };
 use gmon_data::{AddRefusal, Profile};
 use gp_base::Unit;
@@ -41,8 +41,10 @@ const SOME: Rows<'static> = Rows {
 };
 
 fn expect_some(rt: &impl Abort, profile: &Profile) {
-    assert_eq!(rt; first_hist(profile), (8, 16, 7));
-    assert_eq!(rt; first_arc(profile), (4, 8, 2_147_483_647));
+    assert_eq!(rt;
+        (first_hist(profile), first_arc(profile)),
+        ((8, 16, 7), (4, 8, 2_147_483_647))
+    );
     assert_eq!(rt;
         (profile.hist_count(), profile.arc_count(), profile.blocks()),
         (2, 2, 11)
@@ -64,14 +66,16 @@ const ONE: Rows<'static> = Rows {
     blocks: &[(8, 5)],
 };
 
-/// What differs from one of each.
-const OTHERS: [(&'static str, Rows<'static>); 4] = [
+/// The same, and what differs from one of each.
+const OTHERS: &[(&'static str, Rows<'static>, bool)] = &[
+    ("one of each", ONE, true),
     (
         "a histogram",
         Rows {
             hists: &[(8, 16, 4)],
             ..ONE
         },
+        false,
     ),
     (
         "its unit",
@@ -79,6 +83,7 @@ const OTHERS: [(&'static str, Rows<'static>); 4] = [
             unit: PER_100,
             ..ONE
         },
+        false,
     ),
     (
         "the order of arcs",
@@ -86,6 +91,7 @@ const OTHERS: [(&'static str, Rows<'static>); 4] = [
             arcs: &[(12, 8, 0), (4, 8, 1)],
             ..ONE
         },
+        false,
     ),
     (
         "executions",
@@ -93,6 +99,7 @@ const OTHERS: [(&'static str, Rows<'static>); 4] = [
             blocks: &[(8, 6)],
             ..ONE
         },
+        false,
     ),
 ];
 
@@ -105,9 +112,8 @@ fn have_same(alloc: Global, one: Rows<'_>, other: Rows<'_>) -> Result<bool, AddR
 
 #[test]
 fn profiles_that_hold_the_same(rt: HostRuntime) -> Result<(), Fail> {
-    assert!(rt; have_same(rt.alloc(), ONE, ONE)?);
-    for (name, other) in OTHERS {
-        assert!(rt; !have_same(rt.alloc(), ONE, other)?, "{name}");
+    for (name, other, same) in OTHERS {
+        assert_eq!(rt; have_same(rt.alloc(), ONE, *other)?, *same, "{name}");
     }
     Ok(())
 }
@@ -144,14 +150,14 @@ fn even_samples(rt: HostRuntime) -> Result<(), Fail> {
     Ok(())
 }
 
+const NAMED: &[Function<'static>] = &[("a", 0), ("", 0), ("c", 0)];
+
 #[test]
 fn functions_in_a_row(rt: HostRuntime) -> Result<(), Fail> {
-    let named = named_symbols(rt.alloc(), &[("a", 0), ("", 0), ("c", 0)])?;
-    assert_eq!(rt; named.as_slice().len(), 2);
-    let places = symbols_of(rt.alloc(), 3, 256)?;
-    assert_eq!(rt; places.as_slice().len(), 3);
-    let reverse = symbols_in_reverse(rt.alloc(), 4096)?;
-    assert_eq!(rt; reverse.as_slice().len(), 4096);
+    let named = named_symbols(rt.alloc(), NAMED)?.as_slice().len();
+    let places = symbols_of(rt.alloc(), 3, 256)?.as_slice().len();
+    let reverse = symbols_in_reverse(rt.alloc(), 4096)?.as_slice().len();
+    assert_eq!(rt; (named, places, reverse), (2, 3, 4096));
     Ok(())
 }
 

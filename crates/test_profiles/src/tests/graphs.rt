@@ -2,7 +2,7 @@ ghost use Rattle.std.specs.Prelude.{◌<◌, ◌≤◌};
 
 mod plain;
 
-use crate::{profile_of_arcs, profile_of_calls, ring_of_calls, symbols_of};
+use crate::{boxed, profile_of_arcs, profile_of_calls, ring_of_calls, symbols_of};
 use call_cycles::{Graph, graph};
 use gmon_data::Profile;
 use std::alloc::{AllocError, Global};
@@ -53,11 +53,11 @@ fn put_components(text: &mut String, graph: &Graph) -> Result<(), AllocError> {
 }
 
 /// The graph of so many functions.
-fn found_graph(alloc: Global, functions: u32, profile: &Profile) -> Result<Graph, AllocError>
+fn found_graph(alloc: Global, functions: u32, profile: &Profile) -> Result<Box<Graph>, AllocError>
     requires { functions ≤ 65536 }
 {
     let symbols = symbols_of(alloc, functions, 16)?;
-    graph(alloc, profile, symbols.as_slice())
+    boxed(alloc, graph(alloc, profile, symbols.as_slice())?)
 }
 
 /// Arcs, self calls and components of a graph.
@@ -76,7 +76,7 @@ fn graph_text(alloc: Global, functions: u16, profile: &Profile) -> Result<String
 }
 
 /// Call site, callee and count of four arcs, and what the graph of three functions tells.
-const ARCS: [(&'static str, [(u32, u32, u64); 4], &'static str); 5] = [
+const ARCS: &[(&'static str, [(u32, u32, u64); 4], &'static str)] = &[
     (
         "a cycle of two",
         [
@@ -145,12 +145,12 @@ fn arcs_tell(
 #[test]
 fn arcs_of_a_profile(rt: HostRuntime) -> Result<(), Fail> {
     for (name, arcs, want) in ARCS {
-        arcs_tell(&rt, rt.alloc(), name, &arcs, want)?;
+        arcs_tell(&rt, rt.alloc(), name, arcs, want)?;
     }
     Ok(())
 }
 
-const MIXED: [(u32, u32, u64); 10] = [
+const MIXED: &[(u32, u32, u64)] = &[
     (0x1_0020, 0x1_0010, 1),
     (0x1_0004, 0x1_0014, 2),
     (0x1_0018, 0x1_0010, 3),
@@ -166,12 +166,12 @@ const MIXED: [(u32, u32, u64); 10] = [
 #[test]
 fn arcs_of_one_pair_in_mixed_order(rt: HostRuntime) -> Result<(), Fail> {
     let want = "0>1:9 0>2:14 2>1:13 | 0:10 1:9 | 1+22 = 1; 2+14 = 2; 0+0 = 0; ";
-    arcs_tell(&rt, rt.alloc(), "mixed order", &MIXED, want)?;
+    arcs_tell(&rt, rt.alloc(), "mixed order", MIXED, want)?;
     Ok(())
 }
 
 /// How many functions there are, caller, callee and count of each call, and what the graph tells.
-const COMPONENTS: [(&'static str, u16, &'static [(u16, u16, u64)], &'static str); 9] = [
+const COMPONENTS: &[(&'static str, u16, &'static [(u16, u16, u64)], &'static str)] = &[
     ("no functions", 0, &[], "| | "),
     ("a function without calls", 1, &[], "| | 0+0 = 0; "),
     (
@@ -245,7 +245,7 @@ fn calls_tell(
 #[test]
 fn components_and_their_order(rt: HostRuntime) -> Result<(), Fail> {
     for (name, functions, calls, want) in COMPONENTS {
-        calls_tell(&rt, rt.alloc(), name, functions, calls, want)?;
+        calls_tell(&rt, rt.alloc(), name, *functions, calls, want)?;
     }
     Ok(())
 }
@@ -261,19 +261,18 @@ fn ring_calls(alloc: Global) -> Result<Vec<(u16, u16, u64)>, AllocError> {
     Ok(calls)
 }
 
-fn ring_profile(alloc: Global) -> Result<Profile, AllocError> {
+fn ring_profile(alloc: Global) -> Result<Box<Profile>, AllocError> {
     let calls = ring_calls(alloc)?;
     profile_of_calls(alloc, calls.as_slice())
 }
 
-fn ring(alloc: Global) -> Result<Graph, AllocError> {
+fn ring(alloc: Global) -> Result<Box<Graph>, AllocError> {
     let profile = ring_profile(alloc)?;
     found_graph(alloc, 501, &profile)
 }
 
 fn expect_ring(rt: &impl Abort, found: &Graph) {
-    assert_eq!(rt; found.arc_count(), 501);
-    assert_eq!(rt; found.component_count(), 2);
+    assert_eq!(rt; (found.arc_count(), found.component_count()), (501, 2));
     for c in 0..found.component_count() {
         let want = if c == 0 {
             (0, 7, true)
@@ -376,15 +375,20 @@ fn random_graphs_are_those_of_a_plain_search(rt: HostRuntime) -> Result<(), Fail
 }
 
 /// The graph of 65,536 functions, each of which calls the 32 that follow it in a ring, cut or not.
-fn wide_ring(alloc: Global, cut: bool) -> Result<Graph, AllocError> {
+fn wide_ring(alloc: Global, cut: bool) -> Result<Box<Graph>, AllocError> {
     let profile = ring_of_calls(alloc, 16, cut)?;
     found_graph(alloc, 65_536, &profile)
 }
 
 fn expect_one_cycle(rt: &impl Abort, found: &Graph) {
-    assert_eq!(rt; found.function_count(), 65_536);
-    assert_eq!(rt; found.arc_count(), 2_097_152);
-    assert_eq!(rt; found.component_count(), 1);
+    assert_eq!(rt;
+        (
+            found.function_count(),
+            found.arc_count(),
+            found.component_count()
+        ),
+        (65_536, 2_097_152, 1)
+    );
     assert_eq!(rt;
         (found.head(0), found.entering(0), found.is_cycle(0)),
         (0, 0, true)
@@ -399,8 +403,10 @@ fn a_wide_ring_is_one_cycle(rt: HostRuntime) -> Result<(), Fail> {
 }
 
 fn expect_no_cycle(rt: &impl Abort, found: &Graph) {
-    assert_eq!(rt; found.arc_count(), 2_096_624);
-    assert_eq!(rt; found.component_count(), 65_536);
+    assert_eq!(rt;
+        (found.arc_count(), found.component_count()),
+        (2_096_624, 65_536)
+    );
     for c in 0..found.component_count() {
         assert_eq!(rt;
             (found.head(c), found.is_cycle(c)),

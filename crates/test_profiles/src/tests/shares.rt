@@ -1,4 +1,7 @@
-use crate::{Counters, even_profile, hist_of, seconds, symbols_at, symbols_of};
+ghost use Rattle.std.specs.Prelude.{◌≡◌};
+ghost use Rattle.gmon_data.specs.Content.{empty_content};
+
+use crate::{Counters, even_profile, hist_of, new_profile, seconds, symbols_at, symbols_of};
 use gmon_data::{AddRefusal, Profile};
 use std::alloc::Global;
 use std::process::Abort;
@@ -8,15 +11,23 @@ use symbol_shares::{Shares, range_grains, shares};
 /// Address and end of a symbol.
 type Place = (u32, u32);
 
-/// A profile of the first five of these histograms. One without counters is none.
-fn profile_of(alloc: Global, rows: &[Counters<'_>]) -> Result<Profile, AddRefusal> {
-    let mut profile = Profile::new(alloc);
+/// Adds the first five of these histograms. One without counters is none.
+fn add_hists(profile: &mut Profile, alloc: Global, rows: &[Counters<'_>]) -> Result<(), AddRefusal>
+    requires { profile.old ≡ empty_content }
+{
     for i in 0..rows.len().min(5) {
         let hist = hist_of(alloc, rows[i])?;
         if hist.low < hist.high {
             profile.add_wide(&hist, seconds(100))?;
         }
     }
+    Ok(())
+}
+
+/// A profile of these histograms.
+fn profile_of(alloc: Global, rows: &[Counters<'_>]) -> Result<Box<Profile>, AddRefusal> {
+    let mut profile = new_profile(alloc)?;
+    add_hists(&mut profile, alloc, rows)?;
     Ok(profile)
 }
 
@@ -62,7 +73,7 @@ type Row = (
     Outcome,
 );
 
-const ROWS: [Row; 13] = [
+const ROWS: &[Row] = &[
     (
         "a bucket over three symbols",
         SEVEN,
@@ -170,14 +181,14 @@ fn expect_row(rt: &impl Abort, alloc: Global, row: &Row) -> Result<(), AddRefusa
 
 #[test]
 fn shares_of_symbols(rt: HostRuntime) -> Result<(), Fail> {
-    for row in &ROWS {
+    for row in ROWS {
         expect_row(&rt, rt.alloc(), row)?;
     }
     Ok(())
 }
 
 /// The second and the last one touch others.
-const FIVE: [Counters<'static>; 5] = [
+const FIVE: &[Counters<'static>] = &[
     (0x1100, 0x1104, b"\x04"),
     (0x1000, 0x1010, b"\x01\x01\x01\x01"),
     (0x1010, 0x1020, b"\x08"),
@@ -186,11 +197,11 @@ const FIVE: [Counters<'static>; 5] = [
 ];
 
 /// The second symbol begins in the first histogram and ends in the fourth.
-const OVER_FIVE: [Place; 3] = [(0x0, 0x1008), (0x1008, 0x1204), (0x1204, 0x2000)];
+const OVER_FIVE: &[Place] = &[(0x0, 0x1008), (0x1008, 0x1204), (0x1204, 0x2000)];
 
 #[test]
 fn five_histograms(rt: HostRuntime) -> Result<(), Fail> {
-    let shares = shares_at(rt.alloc(), &FIVE, &OVER_FIVE)?;
+    let shares = shares_at(rt.alloc(), FIVE, OVER_FIVE)?;
     let want = ([2_000_000, 24_000_000, 40_000_000], 66_000_000, 0);
     expect_outcome(&rt, "five histograms", &shares, want);
     Ok(())
@@ -206,9 +217,14 @@ fn even_shares(alloc: Global) -> Result<Shares, AddRefusal> {
 
 /// The totals of those shares.
 fn expect_totals(rt: &impl Abort, shares: &Shares) {
-    assert_eq!(rt; shares.function_count(), 65_536);
-    assert_eq!(rt; shares.attributed(), 4_194_304_000_000);
-    assert_eq!(rt; shares.outside(), 0);
+    assert_eq!(rt;
+        (
+            shares.function_count(),
+            shares.attributed(),
+            shares.outside()
+        ),
+        (65_536, 4_194_304_000_000, 0)
+    );
 }
 
 /// Each of those shares.
@@ -242,7 +258,7 @@ const ODD: [Counters<'static>; 1] = [(0x1000, 0x1007, b"\x02\x05\x01")];
 /// A name, histograms, low and high address of a range, and its grains.
 type RangeRow = (&'static str, &'static [Counters<'static>], u32, u32, u128);
 
-const RANGE_ROWS: [RangeRow; 13] = [
+const RANGE_ROWS: &[RangeRow] = &[
     ("part of a bucket", &TWO, 0x1000, 0x1004, 1_750_000),
     ("within a bucket", &TWO, 0x1003, 0x100B, 3_500_000),
     ("the end of a bucket", &TWO, 0x100C, 0x1010, 1_750_000),
@@ -260,10 +276,10 @@ const RANGE_ROWS: [RangeRow; 13] = [
 ];
 
 /// The range of a row has its grains.
-fn expect_range(rt: &impl Abort, alloc: Global, row: RangeRow) -> Result<(), AddRefusal> {
+fn expect_range(rt: &impl Abort, alloc: Global, row: &RangeRow) -> Result<(), AddRefusal> {
     let (name, rows, low, high, want) = row;
     let profile = profile_of(alloc, rows)?;
-    assert_eq!(rt; grains(&profile, low, high), Some(want), "{name}");
+    assert_eq!(rt; grains(&profile, *low, *high), Some(*want), "{name}");
     Ok(())
 }
 

@@ -1,7 +1,9 @@
-ghost use Rattle.std.specs.Prelude.{IfOk};
+ghost use Rattle.std.specs.Prelude.{◌≡◌, IfOk, OnOk};
+ghost use Rattle.gmon_data.specs.Content.{empty_content};
 ghost use Rattle.test_profiles.specs.AtMost.{IsAtMost};
+ghost use Rattle.test_profiles.specs.Rows.{HasRows};
 
-use crate::{PER_100, Rows, profile_of_rows};
+use crate::{PER_100, Rows, boxed, new_profile, profile_of_rows};
 use gmon_data::{AddRefusal, HistRange, Profile, Unlike};
 use gp_base::Unit;
 use profile_sum::{SumRefusal, add_all, add_into};
@@ -53,16 +55,42 @@ fn has_blocks(profile: &Profile, blocks: &[(u32, u64)]) -> bool {
     true
 }
 
+/// Whether the profile has the histograms, the arcs and the block addresses of these rows.
+fn has_rows(profile: &Profile, rows: &Rows<'_>) -> (bool, bool, bool) {
+    (
+        has_hists(profile, rows.hists, rows.unit),
+        has_arcs(profile, rows.arcs),
+        has_blocks(profile, rows.blocks),
+    )
+}
+
+/// Adds a profile of rows to another one.
+fn add_rows(total: &mut Profile, more: &Profile) -> Result<(), SumRefusal>
+    requires total { HasRows 2000 2000 2000 total.old }
+    requires more { HasRows 2000 2000 2000 more.now }
+{
+    add_all(total, more)
+}
+
 /// What adding the second to the first answers, and the first one then.
 fn added(
     alloc: Global,
     first: Rows<'_>,
     second: Rows<'_>,
-) -> Result<(Profile, Result<(), SumRefusal>), AddRefusal> {
+) -> Result<(Box<Profile>, Result<(), SumRefusal>), AddRefusal> {
     let mut total = profile_of_rows(alloc, first)?;
     let more = profile_of_rows(alloc, second)?;
-    let answer = add_all(&mut total, &more);
+    let answer = add_rows(&mut total, &more);
     Ok((total, answer))
+}
+
+/// The sum of profiles of rows, into which the first one goes.
+fn rows_into(alloc: Global, total: Box<Profile>, more: &Profile) -> Result<Box<Profile>, SumRefusal>
+    requires total { HasRows 2000 2000 2000 total.value }
+    requires more { HasRows 2000 2000 2000 more.now }
+{
+    let sum = add_into(Box::into_inner(total), more)?;
+    Ok(boxed(alloc, sum)?)
 }
 
 /// The sum into which the first one goes.
@@ -70,26 +98,22 @@ fn added_into(
     alloc: Global,
     first: Rows<'_>,
     second: Rows<'_>,
-) -> Result<Result<Profile, SumRefusal>, AddRefusal> {
+) -> Result<Result<Box<Profile>, SumRefusal>, AddRefusal> {
     let total = profile_of_rows(alloc, first)?;
     let more = profile_of_rows(alloc, second)?;
-    Ok(add_into(total, &more))
+    Ok(rows_into(alloc, total, &more))
 }
 
 /// Whether there is a sum, and it has these rows.
-fn is_sum(answer: &Result<Profile, SumRefusal>, sum: Rows<'_>) -> bool {
+fn is_sum(answer: &Result<Box<Profile>, SumRefusal>, sum: &Rows<'_>) -> bool {
     match answer {
-        Ok(total) => {
-            has_hists(total, sum.hists, sum.unit)
-                && has_arcs(total, sum.arcs)
-                && has_blocks(total, sum.blocks)
-        }
+        Ok(total) => has_rows(total, sum) == (true, true, true),
         Err(_) => false,
     }
 }
 
 /// Whether it is this refusal.
-fn is_refusal(answer: &Result<Profile, SumRefusal>, refusal: SumRefusal) -> bool {
+fn is_refusal(answer: &Result<Box<Profile>, SumRefusal>, refusal: SumRefusal) -> bool {
     match answer {
         Ok(_) => false,
         Err(other) => *other == refusal,
@@ -137,27 +161,27 @@ const TWICE: Rows<'static> = Rows {
 };
 
 /// A first and a second profile, and their sum.
-type Sum = [Rows<'static>; 3];
+type Sum = (Rows<'static>, Rows<'static>, Rows<'static>);
 
-const SUMS: [(&'static str, Sum); 10] = [
-    ("nothing and nothing", [NOTHING, NOTHING, NOTHING]),
-    ("nothing after some", [SOME, NOTHING, SOME]),
-    ("some after nothing", [NOTHING, SOME, SOME]),
-    ("a counter beyond 16 bits", [COUNTER, COUNTER, TWICE]),
+const SUMS: &[(&'static str, Sum)] = &[
+    ("nothing and nothing", (NOTHING, NOTHING, NOTHING)),
+    ("nothing after some", (SOME, NOTHING, SOME)),
+    ("some after nothing", (NOTHING, SOME, SOME)),
+    ("a counter beyond 16 bits", (COUNTER, COUNTER, TWICE)),
     (
         "a rate of 0 counts as 100",
-        [
+        (
             COUNTER,
             Rows {
                 unit: PER_0,
                 ..COUNTER
             },
             TWICE,
-        ],
+        ),
     ),
     (
         "the unit of the second, as the first has none",
-        [
+        (
             Rows {
                 arcs: &[(0, 8, 1)],
                 ..NOTHING
@@ -171,11 +195,11 @@ const SUMS: [(&'static str, Sum); 10] = [
                 arcs: &[(0, 8, 1)],
                 ..COUNTER
             },
-        ],
+        ),
     ),
     (
         "the unit of the first, as the second has none",
-        [
+        (
             Rows {
                 unit: PER_50,
                 ..COUNTER
@@ -189,11 +213,11 @@ const SUMS: [(&'static str, Sum); 10] = [
                 blocks: &[(8, 1)],
                 ..COUNTER
             },
-        ],
+        ),
     ),
     (
         "ranges that touch",
-        [
+        (
             Rows {
                 hists: &[(0x1_0000, 0x1_0004, 1)],
                 ..NOTHING
@@ -210,11 +234,11 @@ const SUMS: [(&'static str, Sum); 10] = [
                 ],
                 ..NOTHING
             },
-        ],
+        ),
     ),
     (
         "new arcs behind the old ones, equal pairs added",
-        [
+        (
             Rows {
                 arcs: &[(0x40, 8, 1), (0x10, 8, 2)],
                 ..NOTHING
@@ -239,11 +263,11 @@ const SUMS: [(&'static str, Sum); 10] = [
                 ],
                 ..NOTHING
             },
-        ],
+        ),
     ),
     (
         "new blocks behind the old ones, equal addresses added",
-        [
+        (
             Rows {
                 blocks: &[(0x40, 1), (0x10, 2)],
                 ..NOTHING
@@ -256,27 +280,24 @@ const SUMS: [(&'static str, Sum); 10] = [
                 blocks: &[(0x40, 7), (0x10, 6), (0x20, 3), (0x14, 0)],
                 ..NOTHING
             },
-        ],
+        ),
     ),
 ];
 
-fn expect_rows(rt: &impl Abort, profile: &Profile, rows: &Rows<'_>, name: &str) {
-    assert!(rt; has_hists(profile, rows.hists, rows.unit), "{name}");
-    assert!(rt; has_arcs(profile, rows.arcs), "{name}");
-    assert!(rt; has_blocks(profile, rows.blocks), "{name}");
-}
-
-fn is_added(rt: &impl Abort, alloc: Global, name: &str, rows: Sum) -> Result<(), AddRefusal> {
-    let [first, second, sum] = rows;
-    let (total, answer) = added(alloc, first, second)?;
-    assert_eq!(rt; answer, Ok(()), "{name}");
-    expect_rows(rt, &total, &sum, name);
+fn is_added(rt: &impl Abort, alloc: Global, name: &str, rows: &Sum) -> Result<(), AddRefusal> {
+    let (first, second, sum) = rows;
+    let (total, answer) = added(alloc, *first, *second)?;
+    assert_eq!(rt;
+        (answer, has_rows(&total, sum)),
+        (Ok(()), (true, true, true)),
+        "{name}"
+    );
     Ok(())
 }
 
-fn is_added_into(rt: &impl Abort, alloc: Global, name: &str, rows: Sum) -> Result<(), AddRefusal> {
-    let [first, second, sum] = rows;
-    let into = added_into(alloc, first, second)?;
+fn is_added_into(rt: &impl Abort, alloc: Global, name: &str, rows: &Sum) -> Result<(), AddRefusal> {
+    let (first, second, sum) = rows;
+    let into = added_into(alloc, *first, *second)?;
     assert!(rt; is_sum(&into, sum), "{name}");
     Ok(())
 }
@@ -310,7 +331,7 @@ const HIGH: HistRange = HistRange {
 };
 
 /// What is not added to some of each, and why.
-const REFUSED: [(&'static str, Rows<'static>, Unlike); 6] = [
+const REFUSED: &[(&'static str, Rows<'static>, Unlike)] = &[
     (
         "another range",
         Rows {
@@ -391,10 +412,10 @@ const REFUSED: [(&'static str, Rows<'static>, Unlike); 6] = [
 
 /// Nothing was added to some of each.
 fn expect_some(rt: &impl Abort, profile: &Profile, name: &str) {
-    expect_rows(rt, profile, &SOME, name);
+    let totals = (profile.samples(), profile.calls(), profile.blocks());
     assert_eq!(rt;
-        (profile.samples(), profile.calls(), profile.blocks()),
-        (1, 4, 10),
+        (has_rows(profile, &SOME), totals),
+        ((true, true, true), (1, 4, 10)),
         "{name}"
     );
 }
@@ -427,36 +448,59 @@ fn is_refused_into(
 #[test]
 fn profiles_without_a_sum(rt: HostRuntime) -> Result<(), Fail> {
     for (name, second, unlike) in REFUSED {
-        is_refused(&rt, rt.alloc(), name, second, unlike)?;
-        is_refused_into(&rt, rt.alloc(), name, second, unlike)?;
+        is_refused(&rt, rt.alloc(), name, *second, *unlike)?;
+        is_refused_into(&rt, rt.alloc(), name, *second, *unlike)?;
     }
     Ok(())
 }
 
-/// A profile of 100,000 arcs and 100,000 block addresses, of one call and one execution each, from an
-/// address on.
-fn called(alloc: Global, first: u32) -> Result<Profile, AllocError>
-    ensures { IfOk result (λ profile. IsAtMost profile 200000) }
+/// Adds 100,000 arcs and 100,000 block addresses, of one call and one execution each, from an address on.
+fn add_called(profile: &mut Profile, first: u32) -> Result<(), AllocError>
+    requires { profile.old ≡ empty_content }
+    ensures { OnOk result (IsAtMost profile.new 200000) }
 {
-    let mut profile = Profile::new(alloc);
     for i in 0..100_000 {
         profile.add_calls(first.wrapping_add(i), 0x1_0000, 1)?;
         profile.add_runs(first.wrapping_add(i), 1)?;
     }
+    Ok(())
+}
+
+/// A profile of these.
+fn called(alloc: Global, first: u32) -> Result<Box<Profile>, AllocError>
+    ensures { IfOk result (λ profile. IsAtMost profile.value 200000) }
+{
+    let mut profile = new_profile(alloc)?;
+    add_called(&mut profile, first)?;
     Ok(profile)
 }
 
+/// Adds a profile of these to another one.
+fn add_more(total: &mut Profile, more: &Profile) -> Result<(), SumRefusal>
+    requires total { IsAtMost total.old 200000 }
+    requires more { IsAtMost more.now 200000 }
+{
+    add_all(total, more)
+}
+
 /// The sum of two of these, half of whose addresses are in both.
-fn called_twice(rt: &impl Abort, alloc: Global) -> Result<Profile, AllocError> {
+fn called_twice(rt: &impl Abort, alloc: Global) -> Result<Box<Profile>, AllocError> {
     let mut total = called(alloc, 0)?;
     let more = called(alloc, 50_000)?;
-    assert_eq!(rt; add_all(&mut total, &more), Ok(()));
+    assert_eq!(rt; add_more(&mut total, &more), Ok(()));
     Ok(total)
 }
 
 fn expect_called_twice(rt: &impl Abort, total: &Profile) {
-    assert_eq!(rt; (total.arc_count(), total.calls()), (150_000, 200_000));
-    assert_eq!(rt; (total.block_count(), total.blocks()), (150_000, 200_000));
+    assert_eq!(rt;
+        (
+            total.arc_count(),
+            total.calls(),
+            total.block_count(),
+            total.blocks()
+        ),
+        (150_000, 200_000, 150_000, 200_000)
+    );
     for i in 0..total.arc_count() {
         let (from, to, count) = total.arc(i);
         let both = i >= 50_000 && i < 100_000;
@@ -490,7 +534,7 @@ fn stripes_added(
     alloc: Global,
     even: &[(u32, u32, u64)],
     odd: &[(u32, u32, u64)],
-) -> Result<Profile, AddRefusal> {
+) -> Result<Box<Profile>, AddRefusal> {
     let first = Rows {
         hists: even,
         ..NOTHING
@@ -504,7 +548,7 @@ fn stripes_added(
     Ok(total)
 }
 
-fn two_stripes(rt: &impl Abort, alloc: Global) -> Result<Profile, AddRefusal> {
+fn two_stripes(rt: &impl Abort, alloc: Global) -> Result<Box<Profile>, AddRefusal> {
     let even = striped(alloc, 0)?;
     let odd = striped(alloc, 8)?;
     stripes_added(rt, alloc, even.as_slice(), odd.as_slice())

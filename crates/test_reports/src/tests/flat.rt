@@ -10,7 +10,7 @@ use host_port::MemHost;
 use std::alloc::{AllocError, Global};
 use std::process::Abort;
 use std::test::Fail;
-use test_profiles::{Calls, Counted, Function, even_profile, large_program, strings_of};
+use test_profiles::{Calls, Counted, Function, boxed, even_profile, large_program, strings_of};
 
 /// The first line.
 const TITLE: &[u8] = b"flat profile\n";
@@ -54,7 +54,7 @@ const MAIN_LINE: &str =
 
 const THREE_LINES: [&str; 3] = [B_LINE, A_LINE, MAIN_LINE];
 
-const ROWS: [Row<'static>; 10] = [
+const ROWS: &[Row<'static>] = &[
     (
         "equal shares are ordered by the bytes of the names",
         &[("b", 1), ("ab", 1), ("a", 1), ("Z", 1)],
@@ -166,7 +166,7 @@ fn expect_row(
     hidden: &[String],
 ) -> Result<(), AddRefusal> {
     let (message, functions, calls, rate, totals, lines) = row;
-    let mut host = MemHost::new(alloc);
+    let mut host = boxed(alloc, MemHost::new(alloc))?;
     let answer = print_functions(
         alloc,
         Report::Flat,
@@ -191,11 +191,11 @@ fn expect_rows(rt: &impl Abort, alloc: Global, rows: &[Row<'_>]) -> Result<(), A
 
 #[test]
 fn lines_of_functions(rt: HostRuntime) -> Result<(), Fail> {
-    expect_rows(&rt, rt.alloc(), &ROWS)?;
+    expect_rows(&rt, rt.alloc(), ROWS)?;
     Ok(())
 }
 
-const CALLED_ROWS: [Row<'static>; 9] = [
+const CALLED_ROWS: &[Row<'static>] = &[
     (
         "a cycle",
         &THREE,
@@ -291,7 +291,7 @@ const CALLED_ROWS: [Row<'static>; 9] = [
 
 #[test]
 fn columns_on_calls(rt: HostRuntime) -> Result<(), Fail> {
-    expect_rows(&rt, rt.alloc(), &CALLED_ROWS)?;
+    expect_rows(&rt, rt.alloc(), CALLED_ROWS)?;
     Ok(())
 }
 
@@ -304,7 +304,7 @@ type HiddenRow = (
     &'static [&'static str],
 );
 
-const HIDDEN_ROWS: [HiddenRow; 5] = [
+const HIDDEN_ROWS: &[HiddenRow] = &[
     (
         "the time of a hidden function counts",
         &THREE,
@@ -352,7 +352,7 @@ fn expect_hidden(rt: &impl Abort, alloc: Global, row: HiddenRow) -> Result<(), A
 
 #[test]
 fn hidden_functions_have_no_line(rt: HostRuntime) -> Result<(), Fail> {
-    for row in &HIDDEN_ROWS {
+    for row in HIDDEN_ROWS {
         expect_hidden(&rt, rt.alloc(), *row)?;
     }
     Ok(())
@@ -400,8 +400,8 @@ fn a_short_report_makes_one_call(rt: HostRuntime) -> Result<(), Fail> {
 }
 
 /// 4,096 functions of a sample each, of which 2,000 call the first one.
-fn many_callers(alloc: Global) -> Result<Counted, AddRefusal>
-    ensures { IfOk result (λ counted. IsAscending counted.symbols) }
+fn many_callers(alloc: Global) -> Result<Box<Counted>, AddRefusal>
+    ensures { IfOk result (λ counted. IsAscending counted.value.symbols) }
 {
     let samples = even_profile(alloc, 4096, 16)?;
     let counted = called_by(alloc, 4096, 2000, samples)?;

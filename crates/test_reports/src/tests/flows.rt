@@ -1,155 +1,180 @@
 ghost use Rattle.std.specs.Prelude.{◌≡◌, ◌^◌, ◌<◌, IfOk, length};
-ghost use Rattle.elf32_syms.specs.Owners.{IsAscending};
 ghost use Rattle.call_cycles.specs.Graph.{all_calls, arc_count, component_count};
 
-use crate::{Program, chain_of, program_of};
-use call_cycles::{Graph, graph};
-use elf32_syms::Symbol;
+use crate::{Program, chain_of, profiled_program, program_of};
+use call_cycles::Graph;
 use gmon_data::AddRefusal;
 use propagate::{Flow, flow};
 use std::alloc::{AllocError, Global};
+use std::process::Abort;
 use std::test::Fail;
-use symbol_shares::{Shares, shares};
-use test_profiles::{Calls, even_profile, ring_of_calls, symbols_of};
+use symbol_shares::Shares;
+use test_profiles::{Calls, boxed, even_profile, ring_of_calls, symbols_of};
+
+/// The times of a graph, in a box.
+fn flow_of(alloc: Global, graph: &Graph, shares: &Shares) -> Result<Box<Flow>, AllocError>
+    requires each { length shares.now.of ≡ graph.now.functions }
+    requires few { all_calls graph.now < 2 ^ 59 }
+    ensures selves { IfOk result (λ t. length t.value.self ≡ component_count graph.now) }
+    ensures children { IfOk result (λ t. length t.value.child ≡ component_count graph.now) }
+    ensures arc_selves { IfOk result (λ t. length t.value.arc_self ≡ arc_count graph.now) }
+    ensures arc_children { IfOk result (λ t. length t.value.arc_child ≡ arc_count graph.now) }
+    ensures functions { IfOk result (λ t. length t.value.member_child ≡ graph.now.functions) }
+{
+    boxed(alloc, flow(alloc, graph, shares)?)
+}
 
 /// Head, self time and child time of each component.
-fn components_text(alloc: Global, graph: &Graph, flow: &Flow) -> Result<String, AllocError>
+fn put_components(text: &mut String, graph: &Graph, flow: &Flow) -> Result<(), AllocError>
     requires selves { length flow.now.self ≡ component_count graph.now }
     requires children { length flow.now.child ≡ component_count graph.now }
 {
-    let mut text = String::new(alloc);
     for c in 0..graph.component_count() {
         let head = graph.head(c);
         let own = flow.self_of(c);
         let child = flow.child_of(c);
-        write!(&mut text, "{head}={own}+{child} ")?;
+        write!(text, "{head}={own}+{child} ")?;
     }
-    Ok(text)
+    Ok(())
 }
 
 /// Caller, callee and the two parts of each arc.
-fn arcs_text(alloc: Global, graph: &Graph, flow: &Flow) -> Result<String, AllocError>
+fn put_arcs(text: &mut String, graph: &Graph, flow: &Flow) -> Result<(), AllocError>
     requires selves { length flow.now.arc_self ≡ arc_count graph.now }
     requires children { length flow.now.arc_child ≡ arc_count graph.now }
 {
-    let mut text = String::new(alloc);
     for i in 0..graph.arc_count() {
         let arc = graph.arc(i);
         let caller = arc.caller;
         let callee = arc.callee;
         let own = flow.arc_self(i);
         let child = flow.arc_child(i);
-        write!(&mut text, "{caller}>{callee}={own}+{child} ")?;
+        write!(text, "{caller}>{callee}={own}+{child} ")?;
     }
-    Ok(text)
+    Ok(())
 }
 
 /// What each function gets over its arcs.
-fn functions_text(alloc: Global, graph: &Graph, flow: &Flow) -> Result<String, AllocError>
+fn put_functions(text: &mut String, graph: &Graph, flow: &Flow) -> Result<(), AllocError>
     requires { length flow.now.member_child ≡ graph.now.functions }
 {
-    let mut text = String::new(alloc);
     for f in 0..graph.function_count() {
         let child = flow.member_child(f);
-        write!(&mut text, "{f}={child} ")?;
+        write!(text, "{f}={child} ")?;
     }
-    Ok(text)
+    Ok(())
 }
 
 /// The times of components, arcs and functions.
+fn put_times(
+    text: &mut String,
+    alloc: Global,
+    graph: &Graph,
+    shares: &Shares,
+) -> Result<(), AllocError>
+    requires each { length shares.now.of ≡ graph.now.functions }
+    requires few { all_calls graph.now < 2 ^ 59 }
+{
+    let flow = flow_of(alloc, graph, shares)?;
+    put_components(text, graph, &flow)?;
+    text.push_str("| ")?;
+    put_arcs(text, graph, &flow)?;
+    text.push_str("| ")?;
+    put_functions(text, graph, &flow)
+}
+
+/// The times in a program with these samples and calls.
 fn flow_text(alloc: Global, samples: &[u64], calls: &[Calls]) -> Result<String, AddRefusal> {
-    let Program { graph, shares } = program_of(alloc, samples, calls)?;
-    let flow = flow(alloc, &graph, &shares)?;
-    let components = components_text(alloc, &graph, &flow)?;
-    let arcs = arcs_text(alloc, &graph, &flow)?;
-    let functions = functions_text(alloc, &graph, &flow)?;
-    let text = format!(in alloc; "{components}| {arcs}| {functions}")?;
+    let program = program_of(alloc, samples, calls)?;
+    let mut text = String::new(alloc);
+    put_times(&mut text, alloc, &program.graph, &program.shares)?;
     Ok(text)
 }
 
 /// What a row shows, the samples of its functions, their calls, and the times.
 type Row = (&'static str, &'static [u64], &'static [Calls], &'static str);
 
+const ROWS: &[Row] = &[
+    (
+        "three callers share a sample, the last has what is left over",
+        &[0, 0, 0, 1],
+        &[(0, 3, 1), (1, 3, 1), (2, 3, 1)],
+        "3=1000000+0 0=0+333333 1=0+333333 2=0+333334 | 0>3=333333+0 1>3=333333+0 2>3=333334+0 | 0=333333 1=333333 2=333334 3=0 ",
+    ),
+    (
+        "a cycle, and a function of it that calls itself",
+        &[1, 2, 3],
+        &[(0, 1, 1), (1, 2, 5), (2, 1, 4), (2, 2, 2)],
+        "1=5000000+0 0=1000000+5000000 | 0>1=5000000+0 1>2=0+0 2>1=0+0 | 0=5000000 1=0 2=0 ",
+    ),
+    (
+        "a chain",
+        &[1, 2, 4],
+        &[(0, 1, 3), (1, 2, 7)],
+        "2=4000000+0 1=2000000+4000000 0=1000000+6000000 | 0>1=2000000+4000000 1>2=4000000+0 | 0=6000000 1=4000000 2=0 ",
+    ),
+    (
+        "a cycle without callers",
+        &[1, 2, 4],
+        &[(0, 1, 1), (1, 0, 1), (1, 2, 3)],
+        "2=4000000+0 0=3000000+4000000 | 0>1=0+0 1>0=0+0 1>2=4000000+0 | 0=0 1=4000000 2=0 ",
+    ),
+    (
+        "two ways, and a root that has all",
+        &[1, 2, 4, 9],
+        &[(0, 1, 1), (0, 2, 1), (1, 3, 1), (2, 3, 2)],
+        "3=9000000+0 1=2000000+3000000 2=4000000+6000000 0=1000000+15000000 | 0>1=2000000+3000000 0>2=4000000+6000000 1>3=3000000+0 2>3=6000000+0 | 0=15000000 1=3000000 2=6000000 3=0 ",
+    ),
+    // A third of 1,000,000 and of 2,000,000, each rounded down, is 333,333 and 666,666.
+    (
+        "self time and child time are cut apart",
+        &[0, 0, 1, 2],
+        &[(0, 2, 1), (1, 2, 2), (2, 3, 5)],
+        "3=2000000+0 2=1000000+2000000 0=0+999999 1=0+2000001 | 0>2=333333+666666 1>2=666667+1333334 2>3=2000000+0 | 0=999999 1=2000001 2=2000000 3=0 ",
+    ),
+    (
+        "a cycle that is entered and left at both members",
+        &[0, 0, 1, 1, 4],
+        &[
+            (0, 2, 1),
+            (1, 3, 3),
+            (2, 3, 9),
+            (3, 2, 9),
+            (2, 4, 1),
+            (3, 4, 1),
+        ],
+        "4=4000000+0 2=2000000+4000000 0=0+1500000 1=0+4500000 | 0>2=500000+1000000 1>3=1500000+3000000 2>3=0+0 2>4=2000000+0 3>2=0+0 3>4=2000000+0 | 0=1500000 1=4500000 2=2000000 3=2000000 4=0 ",
+    ),
+    (
+        "a function that calls itself alone",
+        &[1],
+        &[(0, 0, 3)],
+        "0=1000000+0 | | 0=0 ",
+    ),
+    (
+        "no calls",
+        &[1, 0, 2],
+        &[],
+        "0=1000000+0 1=0+0 2=2000000+0 | | 0=0 1=0 2=0 ",
+    ),
+    ("no functions", &[], &[], "| | "),
+];
+
 #[test]
 fn times_of_components_arcs_and_functions(rt: HostRuntime) -> Result<(), Fail> {
-    let rows: [Row; 10] = [
-        (
-            "three callers share a sample, the last has what is left over",
-            &[0, 0, 0, 1],
-            &[(0, 3, 1), (1, 3, 1), (2, 3, 1)],
-            "3=1000000+0 0=0+333333 1=0+333333 2=0+333334 | 0>3=333333+0 1>3=333333+0 2>3=333334+0 | 0=333333 1=333333 2=333334 3=0 ",
-        ),
-        (
-            "a cycle, and a function of it that calls itself",
-            &[1, 2, 3],
-            &[(0, 1, 1), (1, 2, 5), (2, 1, 4), (2, 2, 2)],
-            "1=5000000+0 0=1000000+5000000 | 0>1=5000000+0 1>2=0+0 2>1=0+0 | 0=5000000 1=0 2=0 ",
-        ),
-        (
-            "a chain",
-            &[1, 2, 4],
-            &[(0, 1, 3), (1, 2, 7)],
-            "2=4000000+0 1=2000000+4000000 0=1000000+6000000 | 0>1=2000000+4000000 1>2=4000000+0 | 0=6000000 1=4000000 2=0 ",
-        ),
-        (
-            "a cycle without callers",
-            &[1, 2, 4],
-            &[(0, 1, 1), (1, 0, 1), (1, 2, 3)],
-            "2=4000000+0 0=3000000+4000000 | 0>1=0+0 1>0=0+0 1>2=4000000+0 | 0=0 1=4000000 2=0 ",
-        ),
-        (
-            "two ways, and a root that has all",
-            &[1, 2, 4, 9],
-            &[(0, 1, 1), (0, 2, 1), (1, 3, 1), (2, 3, 2)],
-            "3=9000000+0 1=2000000+3000000 2=4000000+6000000 0=1000000+15000000 | 0>1=2000000+3000000 0>2=4000000+6000000 1>3=3000000+0 2>3=6000000+0 | 0=15000000 1=3000000 2=6000000 3=0 ",
-        ),
-        // A third of 1,000,000 and of 2,000,000, each rounded down, is 333,333 and 666,666.
-        (
-            "self time and child time are cut apart",
-            &[0, 0, 1, 2],
-            &[(0, 2, 1), (1, 2, 2), (2, 3, 5)],
-            "3=2000000+0 2=1000000+2000000 0=0+999999 1=0+2000001 | 0>2=333333+666666 1>2=666667+1333334 2>3=2000000+0 | 0=999999 1=2000001 2=2000000 3=0 ",
-        ),
-        (
-            "a cycle that is entered and left at both members",
-            &[0, 0, 1, 1, 4],
-            &[
-                (0, 2, 1),
-                (1, 3, 3),
-                (2, 3, 9),
-                (3, 2, 9),
-                (2, 4, 1),
-                (3, 4, 1),
-            ],
-            "4=4000000+0 2=2000000+4000000 0=0+1500000 1=0+4500000 | 0>2=500000+1000000 1>3=1500000+3000000 2>3=0+0 2>4=2000000+0 3>2=0+0 3>4=2000000+0 | 0=1500000 1=4500000 2=2000000 3=2000000 4=0 ",
-        ),
-        (
-            "a function that calls itself alone",
-            &[1],
-            &[(0, 0, 3)],
-            "0=1000000+0 | | 0=0 ",
-        ),
-        (
-            "no calls",
-            &[1, 0, 2],
-            &[],
-            "0=1000000+0 1=0+0 2=2000000+0 | | 0=0 1=0 2=0 ",
-        ),
-        ("no functions", &[], &[], "| | "),
-    ];
-    for (name, samples, calls, want) in rows {
+    for (name, samples, calls, want) in ROWS {
         let text = flow_text(rt.alloc(), samples, calls)?;
-        assert_eq!(rt; text.as_str(), want, "{name}");
+        assert_eq!(rt; text.as_str(), *want, "{name}");
     }
     Ok(())
 }
 
-#[test]
-fn a_chain_of_1500(rt: HostRuntime) -> Result<(), Fail> {
-    let Program { graph, shares } = chain_of(rt.alloc(), 1_499)?;
-    let flow = flow(rt.alloc(), &graph, &shares)?;
-    assert_eq!(rt; graph.component_count(), 1500);
-    assert_eq!(rt; graph.arc_count(), 1499);
+/// The last arc of a chain has all time as self time, and each other one as child time.
+fn expect_chain_arcs(rt: &impl Abort, graph: &Graph, flow: &Flow)
+    requires selves { length flow.now.arc_self ≡ arc_count graph.now }
+    requires children { length flow.now.arc_child ≡ arc_count graph.now }
+{
+    assert_eq!(rt; (graph.component_count(), graph.arc_count()), (1500, 1499));
     for i in 0..graph.arc_count() {
         let want = if i == 1498 {
             (3_000_000, 0)
@@ -158,47 +183,52 @@ fn a_chain_of_1500(rt: HostRuntime) -> Result<(), Fail> {
         };
         assert_eq!(rt; (flow.arc_self(i), flow.arc_child(i)), want, "{i}");
     }
+}
+
+/// Each function of a chain but the last has all time over its arcs.
+fn expect_chain_functions(rt: &impl Abort, graph: &Graph, flow: &Flow)
+    requires { length flow.now.member_child ≡ graph.now.functions }
+{
     for f in 0..graph.function_count() {
         let want = if f == 1499 { 0 } else { 3_000_000 };
         assert_eq!(rt; flow.member_child(f), want, "{f}");
     }
+}
+
+fn expect_chain(
+    rt: &impl Abort,
+    alloc: Global,
+    graph: &Graph,
+    shares: &Shares,
+) -> Result<(), AllocError>
+    requires each { length shares.now.of ≡ graph.now.functions }
+    requires few { all_calls graph.now < 2 ^ 59 }
+{
+    let flow = flow_of(alloc, graph, shares)?;
+    expect_chain_arcs(rt, graph, &flow);
+    expect_chain_functions(rt, graph, &flow);
     Ok(())
 }
 
-/// The graph of calls in a ring of these functions, of 256 addresses each, cut or not.
-fn ring_graph(alloc: Global, symbols: &[Symbol], cut: bool) -> Result<Graph, AllocError>
-    requires { IsAscending symbols.now }
-    ensures functions { IfOk result (λ g. g.functions ≡ length symbols.now) }
-    ensures few { IfOk result (λ g. all_calls g < 2 ^ 59) }
-{
-    let calls = ring_of_calls(alloc, 256, cut)?;
-    graph(alloc, &calls, symbols)
-}
-
-/// The shares of these functions, with a sample in each 4 addresses.
-fn even_shares(alloc: Global, symbols: &[Symbol]) -> Result<Shares, AddRefusal>
-    requires { IsAscending symbols.now }
-    ensures { IfOk result (λ s. length s.of ≡ length symbols.now) }
-{
-    let samples = even_profile(alloc, 4_194_304, 4)?;
-    let shares = shares(alloc, &samples, symbols)?;
-    Ok(shares)
+#[test]
+fn a_chain_of_1500(rt: HostRuntime) -> Result<(), Fail> {
+    let chain = chain_of(rt.alloc(), 1_499)?;
+    expect_chain(&rt, rt.alloc(), &chain.graph, &chain.shares)?;
+    Ok(())
 }
 
 /// 65,536 functions of 256 addresses each with a sample in each 4 addresses, and calls in a ring, cut or not.
-fn wide_ring(alloc: Global, cut: bool) -> Result<Program, AddRefusal>
-    ensures each { IfOk result (λ p. length p.shares.of ≡ p.graph.functions) }
-    ensures few { IfOk result (λ p. all_calls p.graph < 2 ^ 59) }
+fn wide_ring(alloc: Global, cut: bool) -> Result<Box<Program>, AddRefusal>
+    ensures each { IfOk result (λ p. length p.value.shares.value.of ≡ p.value.graph.value.functions) }
+    ensures few { IfOk result (λ p. all_calls p.value.graph.value < 2 ^ 59) }
 {
     let symbols = symbols_of(alloc, 65_536, 256)?;
-    let graph = ring_graph(alloc, symbols.as_slice(), cut)?;
-    let shares = even_shares(alloc, symbols.as_slice())?;
-    Ok(Program { graph, shares })
+    let samples = even_profile(alloc, 4_194_304, 4)?;
+    let calls = ring_of_calls(alloc, 256, cut)?;
+    Ok(profiled_program(alloc, symbols.as_slice(), &samples, &calls)?)
 }
 
-#[test]
-fn a_wide_ring_has_all_time_in_its_cycle(rt: HostRuntime) -> Result<(), Fail> {
-    let Program { graph, shares } = wide_ring(rt.alloc(), false)?;
+fn expect_even_shares(rt: &impl Abort, shares: &Shares) {
     assert_eq!(rt;
         (shares.attributed(), shares.outside()),
         (4_194_304_000_000, 0)
@@ -206,28 +236,59 @@ fn a_wide_ring_has_all_time_in_its_cycle(rt: HostRuntime) -> Result<(), Fail> {
     for f in 0..shares.function_count() {
         assert_eq!(rt; shares.of(f), 64_000_000, "{f}");
     }
-    let flow = flow(rt.alloc(), &graph, &shares)?;
-    assert_eq!(rt; graph.function_count(), 65_536);
-    assert_eq!(rt; graph.arc_count(), 2_097_152);
-    assert_eq!(rt; graph.component_count(), 1);
+}
+
+/// What is told of the only component.
+fn expect_one_cycle(rt: &impl Abort, graph: &Graph, flow: &Flow)
+    requires selves { length flow.now.self ≡ component_count graph.now }
+    requires children { length flow.now.child ≡ component_count graph.now }
+{
+    assert_eq!(rt;
+        (
+            graph.function_count(),
+            graph.arc_count(),
+            graph.component_count()
+        ),
+        (65_536, 2_097_152, 1)
+    );
     assert_eq!(rt;
         (graph.head(0), graph.entering(0), graph.is_cycle(0)),
         (0, 0, true)
     );
     assert_eq!(rt; (flow.self_of(0), flow.child_of(0)), (4_194_304_000_000, 0));
+}
+
+fn expect_cycle_times(
+    rt: &impl Abort,
+    alloc: Global,
+    graph: &Graph,
+    shares: &Shares,
+) -> Result<(), AllocError>
+    requires each { length shares.now.of ≡ graph.now.functions }
+    requires few { all_calls graph.now < 2 ^ 59 }
+{
+    let flow = flow_of(alloc, graph, shares)?;
+    expect_one_cycle(rt, graph, &flow);
     Ok(())
 }
 
 #[test]
-fn a_cut_ring_has_all_time_at_its_root(rt: HostRuntime) -> Result<(), Fail> {
-    let Program { graph, shares } = wide_ring(rt.alloc(), true)?;
+fn a_wide_ring_has_all_time_in_its_cycle(rt: HostRuntime) -> Result<(), Fail> {
+    let ring = wide_ring(rt.alloc(), false)?;
+    expect_even_shares(&rt, &ring.shares);
+    expect_cycle_times(&rt, rt.alloc(), &ring.graph, &ring.shares)?;
+    Ok(())
+}
+
+/// What is told of the root, which is the last of the components.
+fn expect_root(rt: &impl Abort, graph: &Graph, flow: &Flow)
+    requires selves { length flow.now.self ≡ component_count graph.now }
+    requires children { length flow.now.child ≡ component_count graph.now }
+{
     assert_eq!(rt;
-        (shares.attributed(), shares.outside()),
-        (4_194_304_000_000, 0)
+        (graph.arc_count(), graph.component_count()),
+        (2_096_624, 65_536)
     );
-    let flow = flow(rt.alloc(), &graph, &shares)?;
-    assert_eq!(rt; graph.arc_count(), 2_096_624);
-    assert_eq!(rt; graph.component_count(), 65_536);
     assert_eq!(rt;
         (
             graph.head(65_535),
@@ -240,5 +301,29 @@ fn a_cut_ring_has_all_time_at_its_root(rt: HostRuntime) -> Result<(), Fail> {
         (flow.self_of(65_535), flow.child_of(65_535)),
         (64_000_000, 4_194_240_000_000)
     );
+}
+
+fn expect_root_times(
+    rt: &impl Abort,
+    alloc: Global,
+    graph: &Graph,
+    shares: &Shares,
+) -> Result<(), AllocError>
+    requires each { length shares.now.of ≡ graph.now.functions }
+    requires few { all_calls graph.now < 2 ^ 59 }
+{
+    let flow = flow_of(alloc, graph, shares)?;
+    expect_root(rt, graph, &flow);
+    Ok(())
+}
+
+#[test]
+fn a_cut_ring_has_all_time_at_its_root(rt: HostRuntime) -> Result<(), Fail> {
+    let ring = wide_ring(rt.alloc(), true)?;
+    assert_eq!(rt;
+        (ring.shares.attributed(), ring.shares.outside()),
+        (4_194_304_000_000, 0)
+    );
+    expect_root_times(&rt, rt.alloc(), &ring.graph, &ring.shares)?;
     Ok(())
 }

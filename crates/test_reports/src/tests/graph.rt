@@ -1,13 +1,14 @@
-ghost use Rattle.std.specs.Prelude.{IfOk};
+ghost use Rattle.std.specs.Prelude.{◌≡◌, IfOk, length};
 ghost use Rattle.elf32_syms.specs.Owners.{IsAscending};
 
 mod rows;
 
 use super::printed::{
     Report, THREE, THREE_CALLS, called_by, expect_each_failed, expect_long, expect_one_call,
-    expect_text, long_name, print_functions, with_lines,
+    expect_text, long_name, print_functions, program_of_counted, with_lines,
 };
-use call_cycles::graph;
+use call_cycles::Graph;
+use elf32_syms::Symbol;
 use exact_flow::exact;
 use gmon_data::{AddRefusal, Profile};
 use graph_report::write_exact;
@@ -19,23 +20,41 @@ use rows::{
 use std::alloc::{AllocError, Global};
 use std::process::Abort;
 use std::test::Fail;
-use symbol_shares::shares;
+use symbol_shares::Shares;
 use test_profiles::{
-    Counted, counted_functions, large_program, profile_of_calls, profile_of_samples, strings_of,
-    symbols_in_reverse,
+    Counted, boxed, counted_functions, counted_of, large_program, profile_of_calls,
+    profile_of_samples, strings_of, symbols_in_reverse,
 };
+
+/// Prints the text of the exact flow of these symbols; false where a fraction is too wide.
+fn print_exact_program(
+    alloc: Global,
+    symbols: &[Symbol],
+    graph: &Graph,
+    shares: &Shares,
+    host: &mut MemHost,
+) -> bool
+    requires functions { graph.now.functions ≡ length symbols.now }
+    requires each { length shares.now.of ≡ length symbols.now }
+{
+    match exact(alloc, graph, shares) {
+        Ok(times) => write_exact(symbols, graph, &times, shares.attributed(), host).is_ok(),
+        Err(_) => false,
+    }
+}
 
 /// Prints the text of the exact flow of what was counted; false where a fraction is too wide.
 fn print_exact(alloc: Global, counted: &Counted, host: &mut MemHost) -> Result<bool, AllocError>
     requires { IsAscending counted.now.symbols }
 {
-    let symbols = counted.symbols.as_slice();
-    let shares = shares(alloc, &counted.samples, symbols)?;
-    let graph = graph(alloc, &counted.calls, symbols)?;
-    match exact(alloc, &graph, &shares) {
-        Ok(times) => Ok(write_exact(symbols, &graph, &times, shares.attributed(), host).is_ok()),
-        Err(_) => Ok(false),
-    }
+    let program = program_of_counted(alloc, counted)?;
+    Ok(print_exact_program(
+        alloc,
+        counted.symbols.as_slice(),
+        &program.graph,
+        &program.shares,
+        host,
+    ))
 }
 
 /// The two lines above all entries.
@@ -55,7 +74,7 @@ fn expect_row(
     hidden: &[String],
 ) -> Result<(), AddRefusal> {
     let (message, functions, calls, rate, lines) = row;
-    let mut host = MemHost::new(alloc);
+    let mut host = boxed(alloc, MemHost::new(alloc))?;
     let answer = print_functions(
         alloc,
         Report::Graph,
@@ -70,11 +89,17 @@ fn expect_row(
     Ok(())
 }
 
+/// The reports of rows have their lines.
+fn expect_rows(rt: &impl Abort, alloc: Global, rows: &[Row<'_>]) -> Result<(), AddRefusal> {
+    for row in rows {
+        expect_row(rt, alloc, *row, &[])?;
+    }
+    Ok(())
+}
+
 #[test]
 fn entries_of_functions_and_cycles(rt: HostRuntime) -> Result<(), Fail> {
-    for row in &ROWS {
-        expect_row(&rt, rt.alloc(), *row, &[])?;
-    }
+    expect_rows(&rt, rt.alloc(), ROWS)?;
     Ok(())
 }
 
@@ -106,7 +131,7 @@ fn expect_hidden(rt: &impl Abort, alloc: Global, row: HiddenRow) -> Result<(), A
 
 #[test]
 fn hidden_functions_have_no_entry(rt: HostRuntime) -> Result<(), Fail> {
-    for row in &HIDDEN_ROWS {
+    for row in HIDDEN_ROWS {
         expect_hidden(&rt, rt.alloc(), *row)?;
     }
     Ok(())
@@ -158,15 +183,14 @@ fn a_short_report_makes_one_call(rt: HostRuntime) -> Result<(), Fail> {
 
 /// The exact text was printed.
 fn expect_exact_text(rt: &impl Abort, message: &str, exact: bool, printed: &[u8], want: &[u8]) {
-    assert!(rt; exact, "{message}");
-    assert_eq!(rt; printed, want, "{message}");
+    assert_eq!(rt; (exact, printed), (true, want), "{message}");
 }
 
 /// The exact flow of a row has its text.
 fn expect_exact(rt: &impl Abort, alloc: Global, row: ExactRow) -> Result<(), AddRefusal> {
     let (message, functions, calls, want) = row;
     let counted = counted_functions(alloc, functions, calls)?;
-    let mut host = MemHost::new(alloc);
+    let mut host = boxed(alloc, MemHost::new(alloc))?;
     let exact = print_exact(alloc, &counted, &mut host)?;
     expect_exact_text(rt, message, exact, host.printed(), want);
     Ok(())
@@ -174,7 +198,7 @@ fn expect_exact(rt: &impl Abort, alloc: Global, row: ExactRow) -> Result<(), Add
 
 #[test]
 fn exact_times(rt: HostRuntime) -> Result<(), Fail> {
-    for row in &EXACT_ROWS {
+    for row in EXACT_ROWS {
         expect_exact(&rt, rt.alloc(), *row)?;
     }
     Ok(())
@@ -185,8 +209,8 @@ const SAMPLES_OF_THE_FIRST: &[u64] = &[35];
 
 /// A function that 35 others call once each. Those have greater addresses and names that fall, and its
 /// 35 samples are shared among them.
-fn many_callers(alloc: Global) -> Result<Counted, AddRefusal>
-    ensures { IfOk result (λ counted. IsAscending counted.symbols) }
+fn many_callers(alloc: Global) -> Result<Box<Counted>, AddRefusal>
+    ensures { IfOk result (λ counted. IsAscending counted.value.symbols) }
 {
     let samples = profile_of_samples(alloc, SAMPLES_OF_THE_FIRST)?;
     let counted = called_by(alloc, 36, 35, samples)?;
@@ -231,7 +255,7 @@ fn callers_of_one_function(rt: HostRuntime) -> Result<(), Fail> {
 }
 
 /// The calls of functions, of which each calls the next one twice.
-fn chain_calls(alloc: Global) -> Result<Profile, AllocError> {
+fn chain_calls(alloc: Global) -> Result<Box<Profile>, AllocError> {
     let mut calls = Vec::new(alloc);
     for f in 0..1_199u16 {
         calls.push((f, f + 1, 2))?;
@@ -240,24 +264,20 @@ fn chain_calls(alloc: Global) -> Result<Profile, AllocError> {
 }
 
 /// 3 samples of the last of 1,200 functions.
-fn chain_samples(alloc: Global) -> Result<Profile, AddRefusal> {
+fn chain_samples(alloc: Global) -> Result<Box<Profile>, AddRefusal> {
     let mut samples = vec![in alloc; 0u64; 1_199]?;
     samples.push(3)?;
     profile_of_samples(alloc, samples.as_slice())
 }
 
 /// A chain of 1,200 functions, each of which calls the next one; the last has 3 samples.
-fn chain(alloc: Global) -> Result<Counted, AddRefusal>
-    ensures { IfOk result (λ counted. IsAscending counted.symbols) }
+fn chain(alloc: Global) -> Result<Box<Counted>, AddRefusal>
+    ensures { IfOk result (λ counted. IsAscending counted.value.symbols) }
 {
     let symbols = symbols_in_reverse(alloc, 1_200)?;
     let calls = chain_calls(alloc)?;
     let samples = chain_samples(alloc)?;
-    Ok(Counted {
-        symbols,
-        samples,
-        calls,
-    })
+    Ok(counted_of(alloc, symbols, samples, calls)?)
 }
 
 const FIRST_OF_THE_CHAIN: [&str; 8] = [
@@ -304,15 +324,14 @@ const LAST_OF_A_LARGE_PROGRAM: &[u8] =
 
 /// An exact flow was printed, with so many bytes.
 fn expect_exact_len(rt: &impl Abort, exact: bool, printed: &[u8], len: usize) {
-    assert!(rt; exact);
-    assert_eq!(rt; printed.len(), len);
+    assert_eq!(rt; (exact, printed.len()), (true, len));
 }
 
 /// The exact flow of a large program has its length.
 fn expect_large_exact(rt: &impl Abort, alloc: Global, counted: &Counted) -> Result<(), AllocError>
     requires { IsAscending counted.now.symbols }
 {
-    let mut host = MemHost::new(alloc);
+    let mut host = boxed(alloc, MemHost::new(alloc))?;
     let exact = print_exact(alloc, counted, &mut host)?;
     // `exact flow`, a line for each component, `attributed 65536000000`.
     expect_exact_len(rt, exact, host.printed(), 11 + 65_536 * 42 + 23);

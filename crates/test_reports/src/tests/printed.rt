@@ -1,18 +1,23 @@
 //! Reports that are printed, and what is expected of them.
 
-ghost use Rattle.std.specs.Prelude.{◌≤◌, IfOk};
+ghost use Rattle.std.specs.Prelude.{◌≡◌, ◌^◌, ◌<◌, ◌≤◌, IfOk, length};
 ghost use Rattle.elf32_syms.specs.Owners.{IsAscending};
+ghost use Rattle.call_cycles.specs.Graph.{all_calls};
+ghost use Rattle.call_cycles.specs.Flow.{IsFlow};
 
-use call_cycles::graph;
+use crate::{Program, profiled_program};
+use call_cycles::Graph;
+use elf32_syms::Symbol;
 use flat_report::ReportRefusal;
 use gmon_data::{AddRefusal, Profile};
 use host_port::{HostCall, MemHost};
-use propagate::flow;
+use propagate::{Flow, flow};
 use std::alloc::{AllocError, Global};
 use std::process::Abort;
-use symbol_shares::shares;
+use symbol_shares::Shares;
 use test_profiles::{
-    Calls, Counted, Function, calls_of_first, counted_functions, symbols_in_reverse,
+    Calls, Counted, Function, boxed, calls_of_first, counted_functions, counted_of,
+    symbols_in_reverse,
 };
 
 /// Which report is printed.
@@ -27,6 +32,78 @@ pub const THREE: [Function<'static>; 3] = [("main", 1), ("a", 2), ("b", 3)];
 
 pub const THREE_CALLS: [Calls; 4] = [(0, 1, 1), (1, 2, 5), (2, 1, 4), (2, 2, 2)];
 
+/// The program of what was counted.
+pub fn program_of_counted(alloc: Global, counted: &Counted) -> Result<Box<Program>, AllocError>
+    requires { IsAscending counted.now.symbols }
+    ensures functions { IfOk result (λ p. p.value.graph.value.functions
+        ≡ length counted.now.symbols) }
+    ensures each { IfOk result (λ p. length p.value.shares.value.of ≡ length counted.now.symbols) }
+    ensures few { IfOk result (λ p. all_calls p.value.graph.value < 2 ^ 59) }
+{
+    profiled_program(
+        alloc,
+        counted.symbols.as_slice(),
+        &counted.samples,
+        &counted.calls,
+    )
+}
+
+/// The times of a graph, in a box.
+fn flow_of(alloc: Global, graph: &Graph, shares: &Shares) -> Result<Box<Flow>, AllocError>
+    requires each { length shares.now.of ≡ graph.now.functions }
+    requires few { all_calls graph.now < 2 ^ 59 }
+    ensures { IfOk result (λ t. IsFlow graph.now shares.now.of t.value) }
+{
+    boxed(alloc, flow(alloc, graph, shares)?)
+}
+
+/// Writes a report of these symbols and their times.
+fn write(
+    alloc: Global,
+    report: Report,
+    symbols: &[Symbol],
+    graph: &Graph,
+    flow: &Flow,
+    shares: &Shares,
+    rate: u32,
+    hidden: &[String],
+    host: &mut MemHost,
+) -> Result<(), ReportRefusal>
+    requires functions { graph.now.functions ≡ length symbols.now }
+    requires each { length shares.now.of ≡ length symbols.now }
+    requires flow { IsFlow graph.now shares.now.of flow.now }
+    requires few { all_calls graph.now < 2 ^ 59 }
+{
+    let rate = rate.max(1);
+    match report {
+        Report::Flat => flat_report::write(alloc, symbols, graph, flow, shares, rate, hidden, host),
+        Report::Graph => {
+            graph_report::write(alloc, symbols, graph, flow, shares, rate, hidden, host)
+        }
+    }
+}
+
+/// Prints a report of symbols with this graph and these shares.
+fn print_program(
+    alloc: Global,
+    report: Report,
+    symbols: &[Symbol],
+    graph: &Graph,
+    shares: &Shares,
+    rate: u32,
+    hidden: &[String],
+    host: &mut MemHost,
+) -> Result<Result<(), ReportRefusal>, AllocError>
+    requires functions { graph.now.functions ≡ length symbols.now }
+    requires each { length shares.now.of ≡ length symbols.now }
+    requires few { all_calls graph.now < 2 ^ 59 }
+{
+    let flow = flow_of(alloc, graph, shares)?;
+    Ok(write(
+        alloc, report, symbols, graph, &flow, shares, rate, hidden, host,
+    ))
+}
+
 /// Prints a report of what was counted.
 pub fn print(
     alloc: Global,
@@ -38,19 +115,17 @@ pub fn print(
 ) -> Result<Result<(), ReportRefusal>, AllocError>
     requires { IsAscending counted.now.symbols }
 {
-    let symbols = counted.symbols.as_slice();
-    let shares = shares(alloc, &counted.samples, symbols)?;
-    let graph = graph(alloc, &counted.calls, symbols)?;
-    let flow = flow(alloc, &graph, &shares)?;
-    let rate = rate.max(1);
-    Ok(match report {
-        Report::Flat => {
-            flat_report::write(alloc, symbols, &graph, &flow, &shares, rate, hidden, host)
-        }
-        Report::Graph => {
-            graph_report::write(alloc, symbols, &graph, &flow, &shares, rate, hidden, host)
-        }
-    })
+    let program = program_of_counted(alloc, counted)?;
+    print_program(
+        alloc,
+        report,
+        counted.symbols.as_slice(),
+        &program.graph,
+        &program.shares,
+        rate,
+        hidden,
+        host,
+    )
 }
 
 /// Prints a report of these functions and calls.
@@ -73,17 +148,13 @@ pub fn called_by(
     alloc: Global,
     functions: u16,
     callers: u16,
-    samples: Profile,
-) -> Result<Counted, AllocError>
-    ensures { IfOk result (λ counted. IsAscending counted.symbols) }
+    samples: Box<Profile>,
+) -> Result<Box<Counted>, AllocError>
+    ensures { IfOk result (λ counted. IsAscending counted.value.symbols) }
 {
     let symbols = symbols_in_reverse(alloc, functions)?;
     let calls = calls_of_first(alloc, callers)?;
-    Ok(Counted {
-        symbols,
-        samples,
-        calls,
-    })
+    counted_of(alloc, symbols, samples, calls)
 }
 
 /// A text, and these lines behind it.
@@ -113,8 +184,7 @@ pub fn expect_text(
     printed: &[u8],
     want: &[u8],
 ) {
-    assert_eq!(rt; answer, Ok(()), "{message}");
-    assert_eq!(rt; printed, want, "{message}");
+    assert_eq!(rt; (answer, printed), (Ok(()), want), "{message}");
 }
 
 /// A call failed, and the first bytes of the text are printed, so many.
@@ -126,15 +196,17 @@ fn expect_part(
     want: &[u8],
     len: u64,
 ) {
-    assert_eq!(rt; answer, Err(ReportRefusal::WriteFault), "{message}");
-    assert_eq!(rt; host.first_failed(), Some(HostCall::Out), "{message}");
-    assert_eq!(rt; host.printed().len() as u64, len, "{message}");
+    assert_eq!(rt;
+        (answer, host.first_failed(), host.printed().len() as u64),
+        (Err(ReportRefusal::WriteFault), Some(HostCall::Out), len),
+        "{message}"
+    );
     assert!(rt; want.starts_with(host.printed()), "{message}");
 }
 
 /// A host that takes 50 bytes at a time, and on which this call fails.
-fn failing_host(alloc: Global, call: u64) -> Result<MemHost, AllocError> {
-    let mut host = MemHost::new(alloc);
+fn failing_host(alloc: Global, call: u64) -> Result<Box<MemHost>, AllocError> {
+    let mut host = boxed(alloc, MemHost::new(alloc))?;
     host.set_step(50);
     host.fail_at(call)?;
     Ok(host)
@@ -188,7 +260,7 @@ pub fn expect_one_call(
     report: Report,
     want: &[u8],
 ) -> Result<(), AddRefusal> {
-    let mut host = MemHost::new(alloc);
+    let mut host = boxed(alloc, MemHost::new(alloc))?;
     host.fail_at(1)?;
     let answer = print_functions(alloc, report, &THREE, &THREE_CALLS, 100, &[], &mut host)?;
     expect_text(rt, "one call", answer, host.printed(), want);
@@ -204,10 +276,9 @@ fn expect_ends(
     last: &[u8],
     len: usize,
 ) {
-    assert_eq!(rt; answer, Ok(()));
+    assert_eq!(rt; (answer, printed.len()), (Ok(()), len));
     assert!(rt; printed.starts_with(first));
     assert!(rt; printed.ends_with(last));
-    assert_eq!(rt; printed.len(), len);
 }
 
 /// The report of what was counted has this beginning, this end and this length.
@@ -223,7 +294,7 @@ pub fn expect_long(
 ) -> Result<(), AllocError>
     requires { IsAscending counted.now.symbols }
 {
-    let mut host = MemHost::new(alloc);
+    let mut host = boxed(alloc, MemHost::new(alloc))?;
     let answer = print(alloc, report, counted, rate, &[], &mut host)?;
     expect_ends(rt, answer, host.printed(), first, last, len);
     Ok(())

@@ -34,7 +34,7 @@ pub const THREE_LINES: [&str; 18] = [
 /// A message, functions, calls, a rate, and the lines that are printed.
 pub type Row<'a> = (&'a str, &'a [Function<'a>], &'a [Calls], u32, &'a [&'a str]);
 
-pub const ROWS: [Row<'static>; 13] = [
+pub const ROWS: &[Row<'static>] = &[
     (
         "a cycle of two, and a function of it that calls itself",
         &THREE,
@@ -273,7 +273,7 @@ pub const ROWS: [Row<'static>; 13] = [
 /// A message, hidden names, and which of `THREE_LINES` aren't printed then.
 pub type HiddenRow = (&'static str, &'static [&'static str], &'static [usize]);
 
-pub const HIDDEN_ROWS: [HiddenRow; 5] = [
+pub const HIDDEN_ROWS: &[HiddenRow] = &[
     (
         "numbers and lines in other entries stay",
         &["b"],
@@ -320,7 +320,7 @@ pub type ExactRow = (
     &'static [u8],
 );
 
-pub const EXACT_ROWS: [ExactRow; 4] = [
+pub const EXACT_ROWS: &[ExactRow] = &[
     (
         "a caller and its callee",
         &[("a", 1), ("b", 5)],

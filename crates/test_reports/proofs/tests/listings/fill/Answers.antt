@@ -5,7 +5,7 @@ use Rattle.gmon_data.proofs.BoundLemmas.{tally_at_most}
 use Rattle.test_profiles.specs.AtMost.{IsAtMost}
 use Rattle.test_profiles.proofs.AtMostLemmas.{at_most_none, one_hist_more, within_at_most}
 use Rattle.gmon_data.proofs.TallyLemmas.{sum-tally}
-use Rattle.test_reports.proofs.tests.listings.profile_of.Goals as goal
+use Rattle.test_reports.proofs.tests.listings.fill.Goals as goal
 
 runs_more : (addr n : ℕ) (c : Content) (m : ℕ) → IsAtMost c m → n ≤ 1000 → IsAtMost (with_block addr n c) (m + 1000)
 runs_more addr n c m a le = record {
@@ -20,7 +20,7 @@ runs_more addr n c m a le = record {
 pub loop-addr-init : goal.loop-addr-init
 loop-addr-init c = record {
   few = omega arith;
-  within = subst (λ (p : Content). IsAtMost p 0) (sym c.new-profile.ensures.content) at_most_none;
+  within = subst (λ (p : Content). IsAtMost p 0) (sym c.requires.empty) at_most_none;
 }
 
 pub add_runs-requires : goal.add_runs-requires
@@ -45,4 +45,4 @@ loop-addr-preserved c =
 pub add_wide-requires-clause-within : goal.add_wide-requires-clause-within
 add_wide-requires-clause-within c = λ none.
     let i = c.loop-addr.addr-index in
-    within_at_most _ (1000 * i + 4080) (one_hist_more c.in_ok-hist.hist c.seconds-unit.result c.loop-addr.profile (1000 * i) 4080 c.loop-addr.invariant.within c.in_ok-hist.ensures.samples (omega (arith, c.in_ok-hist.ensures.counters))) (omega (arith, c.loop-addr.invariant.few))
+    within_at_most _ (1000 * i + 4080) (one_hist_more c.args.hist.now c.seconds-unit.result c.loop-addr.profile (1000 * i) 4080 c.loop-addr.invariant.within c.requires.samples (omega (arith, c.requires.counters))) (omega (arith, c.loop-addr.invariant.few))

@@ -1,6 +1,6 @@
 use Rattle.std.proofs.Common.{◌*◌}
 use Rattle.test_profiles.specs.AtMost.{IsAtMost}
-use Rattle.test_profiles.proofs.tests.shares.profile_of.Given as goal
+use Rattle.test_profiles.proofs.tests.sums.add_called.Given as goal
 
 abbrev pub invariant-loop-i : goal.invariant-loop-i
-invariant-loop-i l = IsAtMost l.profile (4080 * l.i)
+invariant-loop-i l = IsAtMost l.profile (2 * l.i)

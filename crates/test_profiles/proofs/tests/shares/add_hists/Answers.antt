@@ -2,11 +2,11 @@ use Rattle.std.proofs.Common.{◌+◌, ◌*◌, ◌<◌, subst, sym, arith}
 use Rattle.gmon_data.specs.Content.{Content}
 use Rattle.test_profiles.specs.AtMost.{IsAtMost}
 use Rattle.test_profiles.proofs.AtMostLemmas.{at_most_none, more_at_most, one_hist_more, within_at_most}
-use Rattle.test_profiles.proofs.tests.shares.profile_of.Goals as goal
-use Rattle.test_profiles.proofs.tests.shares.profile_of.Goals.{then-hist+in_ok-add_wide, else-hist}
+use Rattle.test_profiles.proofs.tests.shares.add_hists.Goals as goal
+use Rattle.test_profiles.proofs.tests.shares.add_hists.Goals.{then-hist+in_ok-add_wide, else-hist}
 
 pub loop-i-init : goal.loop-i-init
-loop-i-init c = subst (λ (p : Content). IsAtMost p 0) (sym c.new-profile.ensures.content) at_most_none
+loop-i-init c = subst (λ (p : Content). IsAtMost p 0) (sym c.requires) at_most_none
 
 pub add_wide-requires-clause-within : goal.add_wide-requires-clause-within
 add_wide-requires-clause-within c = λ none.

@@ -2,10 +2,10 @@ use Rattle.std.proofs.Common.{◌+◌, ◌*◌, subst, sym, arith}
 use Rattle.gmon_data.specs.Content.{Content}
 use Rattle.test_profiles.specs.AtMost.{IsAtMost}
 use Rattle.test_profiles.proofs.AtMostLemmas.{at_most_none, more_at_most, one_call_more, one_run_more, within_at_most}
-use Rattle.test_profiles.proofs.tests.sums.called.Goals as goal
+use Rattle.test_profiles.proofs.tests.sums.add_called.Goals as goal
 
 pub loop-i-init : goal.loop-i-init
-loop-i-init c = subst (λ (p : Content). IsAtMost p 0) (sym c.new-profile.ensures.content) at_most_none
+loop-i-init c = subst (λ (p : Content). IsAtMost p 0) (sym c.requires) at_most_none
 
 pub add_calls-requires : goal.add_calls-requires
 add_calls-requires c = within_at_most _ (2 * c.loop-i.i + 1) (one_call_more _ _ c.loop-i.profile (2 * c.loop-i.i) c.loop-i.invariant) (omega (arith, c.loop-i-test.true))

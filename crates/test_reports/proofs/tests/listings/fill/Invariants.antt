@@ -1,6 +1,6 @@
 use Rattle.std.proofs.Common.{◌*◌, ◌≤◌}
 use Rattle.test_profiles.specs.AtMost.{IsAtMost}
-use Rattle.test_reports.proofs.tests.listings.profile_of.Given as goal
+use Rattle.test_reports.proofs.tests.listings.fill.Given as goal
 
 abbrev pub invariant-loop-addr : goal.invariant-loop-addr
 invariant-loop-addr l = record {
