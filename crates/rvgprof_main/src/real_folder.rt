@@ -1,6 +1,6 @@
 //! The folders and the outputs of the system: each method is one call of std.
 
-ghost use Rattle.std.specs.Prelude.{None};
+ghost use Rattle.std.specs.Prelude.{None, ⊤};
 ghost use Rattle.std.specs.Io.{WritesAtMost};
 
 use folder_system::{Attributes, Folder, FolderSystem, Found, Printer};
@@ -31,6 +31,8 @@ impl Folder for RealFolder {
     type Output = File;
 
     ghost history = { λ _. None };
+
+    ghost answers = { λ _ _ _. ⊤ };
 
     ghost told_inputs = { λ f input told. Prim.cc };
 
