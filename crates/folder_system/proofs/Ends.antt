@@ -1,6 +1,6 @@
 -- How an output ends.
 use Rattle.std.proofs.Common.{◌≡◌, ◌⊎◌, inl, inr, ℕ, Bool, true, false, List, [], ◌∷◌, ◌++◌, Option, Some, None, Ok, Err, refl, sym, ap, subst, ◌∙◌}
-use Rattle.std.specs.Prelude.{Result, IfSome, OnOk, OnErr, is_some}
+use Rattle.std.specs.Prelude.{Result, IfSome, OnOk, OnErr, is_some, string_bytes}
 use Rattle.std.specs.Io.KnownBytes.{Appends}
 use Rattle.system_host.specs.Told.{bytes_of}
 use Rattle.std.specs.declared.io.Error.{Error}
@@ -8,12 +8,14 @@ use Rattle.std.specs.declared.io.ErrorKind.{ErrorKind}
 use Rattle.host_port.specs.Act.{File, file_content, with_file}
 use Rattle.host_port.specs.Outside.{Becomes}
 use Rattle.folder_system.specs.declared.place.Place.{Place}
+use Rattle.folder_system.specs.declared.place.Place.TheVariants.{Beside as StandsBeside}
+use Rattle.folder_system.specs.declared.beside.Beside.{Beside}
 use Rattle.folder_system.specs.declared.beside.Taken.TheVariants.{ByName, ByCopy}
 use Rattle.folder_system.specs.declared.beside.Naming.TheVariants.{Done, Held}
 use Rattle.folder_system.specs.Names.{folder_of}
 use Rattle.folder_system.specs.Kinds.{is_held}
 use Rattle.folder_system.specs.Events.{Event, Opened, Synced, Renamed, Removed, NamesSynced, History, Answer, after, Follows, files_after, is_stored}
-use Rattle.folder_system.specs.Place.{IsStored, IsNotStored, IsSettling, is_settled, moving, refusing, copying, IsPut, IsHalted, IsHalf, IsOver, IsNotOver, IsMoved, IsHalfCopied, IsTaken, IsLost, IsAway, IsLetGo, IsAfterLetGo}
+use Rattle.folder_system.specs.Place.{IsStored, IsNotStored, IsSettling, is_settled, moving, refusing, copying, IsPut, IsHalted, IsHalf, IsOver, IsNotOver, IsMoved, IsHalfCopied, IsTaken, IsLost, IsAway, IsLetGo, IsAfterLetGo, IsWrittenInPlace, has_opening}
 use Rattle.folder_system.proofs.Follows.{then_calls, one_call, one_call_at, then_call, no_calls, restate}
 use Rattle.folder_system.proofs.Files.{content_of_new, if_same}
 
@@ -42,9 +44,9 @@ module _ (own name bytes : List ℕ) where
   put_held kind a b c held = then_call (IsStored own bytes) (IsPut own name bytes Held) (Renamed own name (Some kind)) a b c
       (λ fs es h. (h.0, kind, ap (λ (l : List Event). l ++ Renamed own name (Some kind) ∷ []) h.1, h.2, held))
 
-  pub put_unnamed : (kind : ErrorKind) (a b c : Option History) → Follows (IsStored own bytes) a b → Becomes (after (Renamed own name (Some kind))) b c → Follows (IsHalted own name bytes) a c
-  put_unnamed kind a b c = then_call (IsStored own bytes) (IsHalted own name bytes) (Renamed own name (Some kind)) a b c
-      (λ fs es h. inr (record { synced = h.0; kind = kind; is = ap (λ (l : List Event). l ++ Renamed own name (Some kind) ∷ []) h.1; stored = h.2 }))
+  pub put_unnamed : (kind : ErrorKind) (a b c : Option History) → is_held kind ≡ false → Follows (IsStored own bytes) a b → Becomes (after (Renamed own name (Some kind))) b c → Follows (IsHalted own name bytes) a c
+  put_unnamed kind a b c free = then_call (IsStored own bytes) (IsHalted own name bytes) (Renamed own name (Some kind)) a b c
+      (λ fs es h. inr (record { synced = h.0; kind = kind; is = ap (λ (l : List Event). l ++ Renamed own name (Some kind) ∷ []) h.1; stored = h.2; free = free }))
 
   pub put_unsynced : (a b : Option History) → Follows (IsNotStored own bytes) a b → Follows (IsHalted own name bytes) a b
   put_unsynced a b = restate (IsNotStored own bytes) (IsHalted own name bytes) a b (λ fs es h. inl (record { synced = h.0; is = h.1; failed = h.2 }))
@@ -151,8 +153,7 @@ module _ (own name bytes : List ℕ) where
 
   half : (fs : List File) (es gs : List Event) → IsPut own name bytes Held fs es → IsNotOver own name (files_after es fs) gs → Stopped fs (es ++ gs)
   unfolding Stopped
-  half fs es gs p (inl none) = inl (inr (record { synced = p.0; kind = p.1; is = (λ i. p.2 i ++ none i); stored = p.3 }))
-  half fs es gs p (inr some) = inr (record {
+  half fs es gs p some = inr (record {
     synced = p.0;
     kind = p.1;
     behind = gs;
@@ -173,3 +174,8 @@ module _ (own name bytes : List ℕ) where
 
 pub after_let_go : (old : Option Place) (P : List File → List Event → Type 0) (a b c : Option History) → Follows (IsLetGo old) a b → Follows P b c → Follows (IsAfterLetGo old P) a c
 after_let_go old P a b c = then_calls (IsLetGo old) P (IsAfterLetGo old P) a b c (λ fs es gs gone so. record { front = es; behind = gs; is = refl; gone = gone; so = so })
+
+-- ---- the named file was written in place
+
+pub copied_over : (b : Beside) (bytes : List ℕ) (a c : Option History) → Follows (IsTaken (string_bytes b.own) (string_bytes b.name) bytes ByCopy) a c → Follows (IsWrittenInPlace (Some (StandsBeside b))) a c
+copied_over b bytes a c = restate (IsTaken (string_bytes b.own) (string_bytes b.name) bytes ByCopy) (IsWrittenInPlace (Some (StandsBeside b))) a c (λ fs es t. ap has_opening t.is)

@@ -1,5 +1,6 @@
 -- How a file is made beside the named one, or the named one is opened in place.
-use Rattle.std.proofs.Common.{◌≡◌, inl, inr, ℕ, Bool, true, false, ◌||◌, List, [], ◌∷◌, ◌++◌, Option, Some, None, Ok, Err, refl, sym, ap, subst, ◌∙◌}
+use native.Mathlib.Omega.{arith}
+use Rattle.std.proofs.Common.{◌≡◌, inl, inr, ℕ, zero, suc, ◌+◌, Bool, true, false, ◌||◌, List, [], ◌∷◌, ◌++◌, Option, Some, None, Ok, Err, refl, sym, ap, subst, ◌∙◌}
 use Rattle.std.specs.Prelude.{string_bytes, Result, IfOk, IfErr, IfSome, OnOk, OnErr, MatchOption, bit_and, ⊤}
 use Rattle.std.specs.IoError.{error_kind}
 use Rattle.std.specs.declared.io.Error.{Error}
@@ -13,99 +14,117 @@ use Rattle.folder_system.specs.declared.place.Place.{Place}
 use Rattle.folder_system.specs.declared.place.Place.TheVariants.{Beside as StandsBeside, In}
 use Rattle.folder_system.specs.Names.{numbered}
 use Rattle.folder_system.specs.Events.{Event, Looked, Tried, Made, GaveOwner, GaveMode, Opened, Removed, History, Answer, answer_of, after, Follows, files_after}
+use Rattle.std.specs.declared.io.ErrorKind.TheVariants.{AlreadyExists}
 use Rattle.folder_system.specs.Found.{bars_found, attributes_found}
-use Rattle.folder_system.specs.Kinds.{is_barring}
-use Rattle.folder_system.specs.Place.{IsQuiet, IsBegun, IsBarred, IsGivenUp, IsInPlace, IsGiven, IsRefused, IsOpened, IsIn, IsPlaced, IsStanding, finding, gifts_of, makings_of}
+use Rattle.folder_system.specs.Kinds.{is_barring, is_taken}
+use Rattle.folder_system.specs.Place.{AreTaken, IsQuiet, IsMade, IsUnmade, IsBegun, IsBarred, IsGivenUp, IsInPlace, IsInstead, IsGiven, IsRefused, IsOpened, IsOverFound, IsIn, IsPlaced, IsStanding, finding, gifts_of, tries}
 use Rattle.folder_system.proofs.Follows.{then_calls, one_call, one_call_at, then_call, no_calls, restate}
-use Rattle.folder_system.proofs.Calls.{no_call, quiet_quiet, quiet_begun, quiet_barred, quiet_given_up, quiet_in_place, given_up, given_up_making, is_begun, not_made, barred_making, begun_given, refused_barred, refused_given_up, in_place, barred_quiet}
+use Rattle.folder_system.proofs.Calls.{quiet_quiet, quiet_given_up, given_up, not_made, tries_quiet, begun_given, refused_given_up, barred_quiet, finding_quiet}
+
+pub taken_kind : (kind : ErrorKind) → is_taken kind ≡ true → kind ≡ AlreadyExists
+taken_kind AlreadyExists is = refl
+taken_kind kind is = absurd (let e : false ≡ true = is in cc)
+
+plus_one : (n : ℕ) → suc n ≡ n + 1
+plus_one n = omega arith
 
 module _ (name : List ℕ) where
-  pub started : (a : Option History) → Follows (IsQuiet name) a a
-  started a = no_calls (IsQuiet name) a (no_call name)
+  pub started : (mode : ℕ) (a : Option History) → Follows (AreTaken name mode 0) a a
+  started mode a = no_calls (AreTaken name mode 0) a (λ fs. refl)
 
-  pub one_more : (own : List ℕ) (mode : ℕ) (kind : ErrorKind) (a b c : Option History) → is_barring kind ≡ false → Follows (IsQuiet name) a b → Becomes (after (Made own mode (Some kind))) b c → Follows (IsQuiet name) a c
-  one_more own mode kind a b c clear = then_call (IsQuiet name) (IsQuiet name) (Made own mode (Some kind)) a b c (λ fs es q. quiet_quiet name fs es (Made own mode (Some kind) ∷ []) q (not_made name own mode kind (files_after es fs) clear))
+  pub one_more : (own : List ℕ) (mode n : ℕ) (kind : ErrorKind) (a b c : Option History) → own ≡ numbered name n → kind ≡ AlreadyExists → Follows (AreTaken name mode n) a b → Becomes (after (Made own mode (Some kind))) b c → Follows (AreTaken name mode (n + 1)) a c
+  one_more own mode n kind a b c next taken front done = subst (λ (m : ℕ). Follows (AreTaken name mode m) a c) (plus_one n) (then_call (AreTaken name mode n) (AreTaken name mode (suc n)) (Made own mode (Some kind)) a b c (λ fs es is. ap (λ (l : List Event). l ++ Made own mode (Some kind) ∷ []) is ∙ (λ i. tries name mode n ++ Made (next i) mode (Some (taken i)) ∷ [])) front done)
 
-  pub made_it : (own : List ℕ) (mode : ℕ) (a b c : Option History) → (n : ℕ) × (own ≡ numbered name n) → Follows (IsQuiet name) a b → IfSome b (λ h. has_file own h.files ≡ false) → Becomes (after (Made own mode None)) b c → Follows (IsBegun name own (Made own mode None ∷ [])) a c
-  made_it own mode a b c next front fresh done =
-      then_calls (IsQuiet name) (IsBegun name own (Made own mode None ∷ [])) (IsBegun name own (Made own mode None ∷ [])) a b c (λ fs es gs q r. quiet_begun name own (Made own mode None ∷ []) fs es gs q r) front (one_call_at (IsBegun name own (Made own mode None ∷ [])) (Made own mode None) b c (begun b fresh) done)
-    where
-      begun : (b : Option History) → IfSome b (λ h. has_file own h.files ≡ false) → IfSome b (λ h. IsBegun name own (Made own mode None ∷ []) h.files (Made own mode None ∷ []))
-      begun None fresh = tt
-      begun (Some h) fresh = is_begun name own mode h.files next fresh
+  First : (own : List ℕ) (mode : ℕ) → List File → List Event → Type 0
+  First own mode fs es = (es ≡ Made own mode None ∷ []) × (has_file own fs ≡ false)
 
-  pub barred_it : (own : List ℕ) (mode : ℕ) (kind : ErrorKind) (a b c : Option History) → is_barring kind ≡ true → Follows (IsQuiet name) a b → Becomes (after (Made own mode (Some kind))) b c → Follows (IsBarred name) a c
-  barred_it own mode kind a b c is = then_call (IsQuiet name) (IsBarred name) (Made own mode (Some kind)) a b c (λ fs es q. quiet_barred name fs es (Made own mode (Some kind) ∷ []) q (barred_making name own mode kind (files_after es fs) is))
+  first : (own : List ℕ) (mode : ℕ) (b : Option History) → IfSome b (λ h. has_file own h.files ≡ false) → IfSome b (λ h. First own mode h.files (Made own mode None ∷ []))
+  unfolding First
+  first own mode None fresh = tt
+  first own mode (Some h) fresh = (refl, fresh)
+
+  pub made_it : (own : List ℕ) (mode n : ℕ) (a b c : Option History) → own ≡ numbered name n → Follows (AreTaken name mode n) a b → IfSome b (λ h. has_file own h.files ≡ false) → Becomes (after (Made own mode None)) b c → Follows (IsMade name own mode []) a c
+  unfolding First
+  made_it own mode n a b c next front fresh done =
+      then_calls (AreTaken name mode n) (First own mode) (IsMade name own mode []) a b c
+      (λ fs es gs p r. record {
+        number = n;
+        next_to = next;
+        fresh = ap (has_file own) (sym (ap (λ (l : List Event). files_after l fs) p ∙ (tries_quiet name mode n fs).files)) ∙ r.1;
+        is = λ i. p i ++ r.0 i;
+      })
+      front (one_call_at (First own mode) (Made own mode None) b c (first own mode b fresh) done)
+
+  pub barred_it : (own : List ℕ) (mode n : ℕ) (kind : ErrorKind) (a b c : Option History) → is_barring kind ≡ true → own ≡ numbered name n → Follows (AreTaken name mode n) a b → Becomes (after (Made own mode (Some kind))) b c → Follows (IsUnmade name mode) a c
+  barred_it own mode n kind a b c bars next = then_call (AreTaken name mode n) (IsUnmade name mode) (Made own mode (Some kind)) a b c (λ fs es is. record {
+    number = n;
+    kind = kind;
+    is = ap (λ (l : List Event). l ++ Made own mode (Some kind) ∷ []) is ∙ (λ i. tries name mode n ++ Made (next i) mode (Some kind) ∷ []);
+    bars = bars;
+  })
+
+  pub all_taken : (mode n : ℕ) (a b : Option History) → Follows (AreTaken name mode n) a b → Follows (IsGivenUp name) a b
+  all_taken mode n a b = restate (AreTaken name mode n) (IsGivenUp name) a b (λ fs es is. given_up name fs es (subst (IsQuiet name fs) (sym is) (tries_quiet name mode n fs)))
 
   pub gave_up : (a b : Option History) → Follows (IsQuiet name) a b → Follows (IsGivenUp name) a b
   gave_up a b = restate (IsQuiet name) (IsGivenUp name) a b (given_up name)
 
-  pub gave_up_making : (own : List ℕ) (mode : ℕ) (kind : ErrorKind) (a b c : Option History) → Follows (IsQuiet name) a b → Becomes (after (Made own mode (Some kind))) b c → Follows (IsGivenUp name) a c
-  gave_up_making own mode kind a b c = then_call (IsQuiet name) (IsGivenUp name) (Made own mode (Some kind)) a b c (λ fs es q. quiet_given_up name fs es (Made own mode (Some kind) ∷ []) q (given_up_making name own mode kind (files_after es fs)))
+  pub gave_up_making : (own : List ℕ) (mode n : ℕ) (kind : ErrorKind) (a b c : Option History) → Follows (AreTaken name mode n) a b → Becomes (after (Made own mode (Some kind))) b c → Follows (IsGivenUp name) a c
+  gave_up_making own mode n kind a b c = then_call (AreTaken name mode n) (IsGivenUp name) (Made own mode (Some kind)) a b c
+      (λ fs es is. given_up name fs (es ++ Made own mode (Some kind) ∷ []) (quiet_quiet name fs es (Made own mode (Some kind) ∷ []) (subst (IsQuiet name fs) (sym is) (tries_quiet name mode n fs)) (not_made name own mode kind (files_after es fs))))
 
   -- ---- a file that is given what the old one has
 
   module _ (own : List ℕ) (old : Attributes) where
-    pub liked : (a b c : Option History) → Follows (IsBegun name own (Made own 384 None ∷ [])) a b → Follows (IsGiven old) b c → Follows (IsBegun name own (makings_of own (Some old))) a c
-    liked a b c = then_calls (IsBegun name own (Made own 384 None ∷ [])) (IsGiven old) (IsBegun name own (makings_of own (Some old))) a b c
-        (λ fs es gs p is. subst (λ (l : List Event). IsBegun name own (makings_of own (Some old)) fs (es ++ l)) (sym is) (begun_given name own old fs es p))
+    pub liked : (a b c : Option History) → Follows (IsMade name own 384 []) a b → Follows (IsGiven old) b c → Follows (IsBegun name own (Some old)) a c
+    liked a b c = then_calls (IsMade name own 384 []) (IsGiven old) (IsBegun name own (Some old)) a b c
+        (λ fs es gs p is. subst (λ (l : List Event). IsBegun name own (Some old) fs (es ++ l)) (sym is) (begun_given name own old fs es p))
 
-    both : (made : List Event) (kind : ErrorKind) → List File → List Event → Type 0
-    both made kind fs es = (front : List Event) × (back : List Event) × (es ≡ front ++ back) × IsBegun name own made fs front × IsRefused old kind (files_after front fs) back
+    both : (kind : ErrorKind) → List File → List Event → Type 0
+    both kind fs es = (front : List Event) × (back : List Event) × (es ≡ front ++ back) × IsMade name own 384 [] fs front × IsRefused old kind (files_after front fs) back
 
-    pub disliked : (made : List Event) (kind : ErrorKind) (a b c d : Option History) → is_barring kind ≡ true → Follows (IsBegun name own made) a b → Follows (IsRefused old kind) b c → Becomes (after (Removed own None)) c d → Follows (IsBarred name) a d
+    joined : (kind : ErrorKind) (a b c : Option History) → Follows (IsMade name own 384 []) a b → Follows (IsRefused old kind) b c → Follows (both kind) a c
     unfolding both
-    disliked made kind a b c d is begun refused =
-        then_call (both made kind) (IsBarred name) (Removed own None) a c d
-        (λ fs es h. subst (λ (l : List Event). IsBarred name fs (l ++ Removed own None ∷ [])) (sym h.2) (refused_barred name own old made kind fs h.0 h.1 is h.3 h.4))
-        (then_calls (IsBegun name own made) (IsRefused old kind) (both made kind) a b c (λ fs es gs p r. (es, gs, refl, p, r)) begun refused)
+    joined kind a b c = then_calls (IsMade name own 384 []) (IsRefused old kind) (both kind) a b c (λ fs es gs p r. (es, gs, refl, p, r))
 
-    pub dropped : (made : List Event) (kind : ErrorKind) (answer : Answer) (a b c d : Option History) → Follows (IsBegun name own made) a b → Follows (IsRefused old kind) b c → Becomes (after (Removed own answer)) c d → Follows (IsGivenUp name) a d
+    pub disliked : (kind : ErrorKind) (a b c d : Option History) → is_barring kind ≡ true → Follows (IsMade name own 384 []) a b → Follows (IsRefused old kind) b c → Becomes (after (Removed own None)) c d → Follows (IsBarred name (Some old)) a d
     unfolding both
-    dropped made kind answer a b c d begun refused =
-        then_call (both made kind) (IsGivenUp name) (Removed own answer) a c d
-        (λ fs es h. subst (λ (l : List Event). IsGivenUp name fs (l ++ Removed own answer ∷ [])) (sym h.2) (refused_given_up name own old made kind fs h.0 h.1 answer h.3 h.4))
-        (then_calls (IsBegun name own made) (IsRefused old kind) (both made kind) a b c (λ fs es gs p r. (es, gs, refl, p, r)) begun refused)
+    disliked kind a b c d bars begun refused =
+        then_call (both kind) (IsBarred name (Some old)) (Removed own None) a c d
+        (λ fs es h. inr (record { own = own; front = h.0; made = h.3; kind = kind; gifts = h.1; refused = h.4; bars = bars; is = ap (λ (l : List Event). l ++ Removed own None ∷ []) h.2 }))
+        (joined kind a b c begun refused)
+
+    pub dropped : (kind : ErrorKind) (answer : Answer) (a b c d : Option History) → Follows (IsMade name own 384 []) a b → Follows (IsRefused old kind) b c → Becomes (after (Removed own answer)) c d → Follows (IsGivenUp name) a d
+    unfolding both
+    dropped kind answer a b c d begun refused =
+        then_call (both kind) (IsGivenUp name) (Removed own answer) a c d
+        (λ fs es h. subst (λ (l : List Event). IsGivenUp name fs (l ++ Removed own answer ∷ [])) (sym h.2) (refused_given_up name own old kind fs h.0 h.1 answer h.3 h.4))
+        (joined kind a b c begun refused)
+
+  -- making is barred already
+  pub unmade : (old : Attributes) (a b : Option History) → Follows (IsUnmade name 384) a b → Follows (IsBarred name (Some old)) a b
+  unmade old a b = restate (IsUnmade name 384) (IsBarred name (Some old)) a b (λ fs es u. inl u)
 
   -- ---- in place
 
-  pub opened_in_place : (a b c : Option History) → Follows (IsBarred name) a b → Follows (IsOpened name) b c → Follows (IsInPlace name) a c
-  opened_in_place a b c = then_calls (IsBarred name) (IsOpened name) (IsInPlace name) a b c
-      (λ fs es gs p is. subst (λ (l : List Event). IsInPlace name fs (es ++ l)) (sym is) (in_place name fs es p))
+  pub opened_instead : (old : Option Attributes) (a b c : Option History) → Follows (IsBarred name old) a b → Follows (IsOpened name) b c → Follows (IsInstead name old) a c
+  opened_instead old a b c = then_calls (IsBarred name old) (IsOpened name) (IsInstead name old) a b c
+      (λ fs es gs p is. record { front = es; barred = p; is = ap (λ (l : List Event). es ++ l) is })
 
-  pub not_in_place : (a b c : Option History) → Follows (IsBarred name) a b → Follows (IsQuiet name) b c → Follows (IsGivenUp name) a c
-  not_in_place a b c = then_calls (IsBarred name) (IsQuiet name) (IsGivenUp name) a b c (λ fs es gs p q. barred_quiet name fs es gs p q)
+  pub not_instead : (old : Option Attributes) (a b c : Option History) → Follows (IsBarred name old) a b → Follows (IsQuiet name) b c → Follows (IsGivenUp name) a c
+  not_instead old a b c = then_calls (IsBarred name old) (IsQuiet name) (IsGivenUp name) a b c (λ fs es gs p q. given_up name fs (es ++ gs) (quiet_quiet name fs es gs (barred_quiet name old fs es p) q))
 
-  standing_in : (old : Option Attributes) (place : Place) (a c : Option History) → IsIn name place → Follows (IsInPlace name) a c → Follows (IsStanding name old place) a c
+  standing_in : (old : Option Attributes) (place : Place) (a c : Option History) → IsIn name place → Follows (IsInstead name old) a c → Follows (IsStanding name old place) a c
   standing_in old (StandsBeside beside) a c is did = absurd is
-  standing_in old (In held) a c is did = restate (IsInPlace name) (IsStanding name old (In held)) a c (λ fs es p. (is, p)) did
+  standing_in old (In held) a c is did = restate (IsInstead name old) (IsStanding name old (In held)) a c (λ fs es p. (is, p)) did
 
-  placed_in : (place : Place) (a c : Option History) → IsIn name place → Follows (IsInPlace name) a c → Follows (IsPlaced name place) a c
-  placed_in (StandsBeside beside) a c is did = absurd is
-  placed_in (In held) a c is did = restate (IsInPlace name) (IsPlaced name (In held)) a c (λ fs es p. (is, p)) did
-
-  -- what was found, and then an output beside it or in its place
-  quiet_finding : (found : Found) (fs : List File) → bars_found found ≡ false → IsQuiet name fs (finding name found)
-  quiet_finding Nothing fs clear = record { spares = (refl, tt); clear = refl; makes = refl; files = refl }
-  quiet_finding (RegularFile attributes) fs clear = record { spares = (refl, (refl, tt)); clear = ap (λ (v : Bool). v || false) clear; makes = refl; files = refl }
-  quiet_finding Other fs clear = absurd (let e : true ≡ false = clear in cc)
+  found_in : (place : Place) (a c : Option History) → IsIn name place → Follows (λ fs es. IsOverFound name es) a c → Follows (IsPlaced name place) a c
+  found_in (StandsBeside beside) a c is did = absurd is
+  found_in (In held) a c is did = restate (λ fs es. IsOverFound name es) (IsPlaced name (In held)) a c (λ fs es p. (is, inl p)) did
 
   behind_finding : (found : Found) (place : Place) (fs : List File) (es : List Event) → bars_found found ≡ false → IsStanding name (attributes_found found) place fs es → IsPlaced name place fs (finding name found ++ es)
-  behind_finding found (StandsBeside beside) fs es clear h =
-      let own = string_bytes beside.own in
-      let made = makings_of own (attributes_found found) in
-      let q = quiet_finding found fs clear in (
-        h.0,
-        record {
-          found = found;
-          behind = es;
-          looked = refl;
-          begun = quiet_begun name own made fs (finding name found) es q (subst (λ (l : List File). IsBegun name own made l es) (sym q.files) h.1);
-        },
-      )
-  behind_finding found (In held) fs es clear h =
-      let q = quiet_finding found fs clear in
-      (h.0, quiet_in_place name fs (finding name found) es q (subst (λ (l : List File). IsInPlace name l es) (sym q.files) h.1))
+  behind_finding found (StandsBeside beside) fs es clear h = (h.0, record { found = found; clear = clear; behind = es; is = refl; so = h.1 })
+  behind_finding found (In held) fs es clear h = (h.0, inr (record { found = found; clear = clear; behind = es; is = refl; so = h.1 }))
 
   pub finding_none : (found : Found) (a b : Option History) → None ≡ attributes_found found → bars_found found ≡ false → Becomes (after (Looked name (Some found))) a b → Follows (λ fs es. es ≡ finding name found) a b
   finding_none Nothing a b is clear = one_call (λ fs es. es ≡ finding name Nothing) (Looked name (Some Nothing)) a b (λ fs. refl)
@@ -120,17 +139,25 @@ module _ (name : List ℕ) where
   finding_some Other old a b c is looked = absurd (let e : Some old ≡ None = is in cc)
 
   module _ {O : Type 0} where
-    pub standing_ok : (old : Option Attributes) (r : Result (O × Place) Error) (a b c : Option History) → Follows (IsBarred name) a b → OnOk r (Follows (IsOpened name) b c) → IfOk r (λ x. IsIn name x.1) → IfOk r (λ x. Follows (IsStanding name old x.1) a c)
-    standing_ok old (Ok x) a b c barred opened is = standing_in old x.1 a c is (opened_in_place a b c barred opened)
+    pub standing_ok : (old : Option Attributes) (r : Result (O × Place) Error) (a b c : Option History) → Follows (IsBarred name old) a b → OnOk r (Follows (IsOpened name) b c) → IfOk r (λ x. IsIn name x.1) → IfOk r (λ x. Follows (IsStanding name old x.1) a c)
+    standing_ok old (Ok x) a b c barred opened is = standing_in old x.1 a c is (opened_instead old a b c barred opened)
     standing_ok old (Err e) a b c barred opened is = tt
 
-    pub in_place_ok : (r : Result (O × Place) Error) (a b c : Option History) → Follows (IsBarred name) a b → OnOk r (Follows (IsOpened name) b c) → IfOk r (λ x. IsIn name x.1) → IfOk r (λ x. Follows (IsPlaced name x.1) a c)
-    in_place_ok (Ok x) a b c barred opened is = placed_in x.1 a c is (opened_in_place a b c barred opened)
-    in_place_ok (Err e) a b c barred opened is = tt
+    -- what was found is in the way
+    pub over_ok : (found : Found) (r : Result (O × Place) Error) (a b c : Option History) → bars_found found ≡ true → Becomes (after (Looked name (Some found))) a b → OnOk r (Follows (IsOpened name) b c) → IfOk r (λ x. IsIn name x.1) → IfOk r (λ x. Follows (IsPlaced name x.1) a c)
+    over_ok found (Ok x) a b c bars looked opened is =
+        found_in x.1 a c is
+        (then_calls (λ fs es. es ≡ Looked name (Some found) ∷ []) (IsOpened name) (λ fs es. IsOverFound name es) a b c
+        (λ fs es gs p q. record { found = found; bars = bars; is = λ i. p i ++ q i }) (one_call (λ fs es. es ≡ Looked name (Some found) ∷ []) (Looked name (Some found)) a b (λ fs. refl) looked) opened)
+    over_ok found (Err e) a b c bars looked opened is = tt
 
-    pub in_place_err : (r : Result (O × Place) Error) (a b c : Option History) → Follows (IsBarred name) a b → OnErr r (Follows (IsQuiet name) b c) → OnErr r (Follows (IsGivenUp name) a c)
-    in_place_err (Ok x) a b c barred not = tt
-    in_place_err (Err e) a b c barred not = not_in_place a b c barred not
+    pub instead_err : (old : Option Attributes) (r : Result (O × Place) Error) (a b c : Option History) → Follows (IsBarred name old) a b → OnErr r (Follows (IsQuiet name) b c) → OnErr r (Follows (IsGivenUp name) a c)
+    instead_err old (Ok x) a b c barred not = tt
+    instead_err old (Err e) a b c barred not = not_instead old a b c barred not
+
+    pub quiet_err : (r : Result (O × Place) Error) (a b c : Option History) → Follows (IsQuiet name) a b → OnErr r (Follows (IsQuiet name) b c) → OnErr r (Follows (IsGivenUp name) a c)
+    quiet_err (Ok x) a b c quiet not = tt
+    quiet_err (Err e) a b c quiet not = then_calls (IsQuiet name) (IsQuiet name) (IsGivenUp name) a b c (λ fs es gs q r. given_up name fs (es ++ gs) (quiet_quiet name fs es gs q r)) quiet not
 
     pub given_up_behind : (r : Result (O × Place) Error) (a b c : Option History) → Follows (IsQuiet name) a b → OnErr r (Follows (IsGivenUp name) b c) → OnErr r (Follows (IsGivenUp name) a c)
     given_up_behind (Ok x) a b c quiet up = tt
@@ -141,7 +168,7 @@ module _ (name : List ℕ) where
     placed_at found (Ok x) a b c clear first standing =
         then_calls (λ fs es. es ≡ finding name found) (IsStanding name (attributes_found found) x.1) (IsPlaced name x.1) a b c
         (λ fs es gs is p. subst (λ (l : List Event). IsPlaced name x.1 fs (l ++ gs)) (sym is) (behind_finding found x.1 fs gs clear
-        (subst (λ (l : List File). IsStanding name (attributes_found found) x.1 l gs) (ap (λ (l : List Event). files_after l fs) is ∙ (quiet_finding found fs clear).files) p))) first standing
+        (subst (λ (l : List File). IsStanding name (attributes_found found) x.1 l gs) (ap (λ (l : List Event). files_after l fs) is ∙ (finding_quiet name found fs).files) p))) first standing
 
     pub placed_behind : (found : Found) (old : Option Attributes) (r : Result (O × Place) Error) (a b c : Option History) → old ≡ attributes_found found → bars_found found ≡ false → Follows (λ fs es. es ≡ finding name found) a b → IfOk r (λ x. Follows (IsStanding name old x.1) b c) → IfOk r (λ x. Follows (IsPlaced name x.1) a c)
     placed_behind found old r a b c is clear first standing =
@@ -150,21 +177,18 @@ module _ (name : List ℕ) where
   pub not_looked : (a b : Option History) → Becomes (after (Looked name None)) a b → Follows (IsGivenUp name) a b
   not_looked a b = one_call (IsGivenUp name) (Looked name None) a b (λ fs. record { spares = (refl, tt); tidy = inl refl })
 
-  pub looked : (found : Found) (a b : Option History) → bars_found found ≡ false → Becomes (after (Looked name (Some found))) a b → Follows (IsQuiet name) a b
-  looked found a b clear = one_call (IsQuiet name) (Looked name (Some found)) a b (λ fs. record { spares = (refl, tt); clear = ap (λ (v : Bool). v || false) clear; makes = refl; files = refl })
+  pub looked : (found : Found) (a b : Option History) → Becomes (after (Looked name (Some found))) a b → Follows (IsQuiet name) a b
+  looked found a b = one_call (IsQuiet name) (Looked name (Some found)) a b (λ fs. record { spares = (refl, tt); files = refl })
 
   pub tried : (answer : Answer) (a b c : Option History) → Follows (IsQuiet name) a b → Becomes (after (Tried name answer)) b c → Follows (IsQuiet name) a c
-  tried None a b c = then_call (IsQuiet name) (IsQuiet name) (Tried name None) a b c (λ fs es q. quiet_quiet name fs es (Tried name None ∷ []) q (record { spares = (refl, tt); clear = refl; makes = refl; files = refl }))
-  tried (Some k) a b c = then_call (IsQuiet name) (IsQuiet name) (Tried name (Some k)) a b c (λ fs es q. quiet_quiet name fs es (Tried name (Some k) ∷ []) q (record { spares = (refl, tt); clear = refl; makes = refl; files = refl }))
-
-  pub stands_there : (found : Found) (a b : Option History) → bars_found found ≡ true → Becomes (after (Looked name (Some found))) a b → Follows (IsBarred name) a b
-  stands_there found a b is = one_call (IsBarred name) (Looked name (Some found)) a b (λ fs. record { spares = (refl, tt); files = refl; bars = ap (λ (v : Bool). v || false) is })
+  tried None a b c = then_call (IsQuiet name) (IsQuiet name) (Tried name None) a b c (λ fs es q. quiet_quiet name fs es (Tried name None ∷ []) q (record { spares = (refl, tt); files = refl }))
+  tried (Some k) a b c = then_call (IsQuiet name) (IsQuiet name) (Tried name (Some k)) a b c (λ fs es q. quiet_quiet name fs es (Tried name (Some k) ∷ []) q (record { spares = (refl, tt); files = refl }))
 
   pub opened : (a b : Option History) → Becomes (after (Opened name None)) a b → Follows (IsOpened name) a b
   opened a b = one_call (IsOpened name) (Opened name None) a b (λ fs. refl)
 
   pub refused_opening : (kind : ErrorKind) (a b : Option History) → Becomes (after (Opened name (Some kind))) a b → Follows (IsQuiet name) a b
-  refused_opening kind a b = one_call (IsQuiet name) (Opened name (Some kind)) a b (λ fs. record { spares = (refl, tt); clear = refl; makes = refl; files = refl })
+  refused_opening kind a b = one_call (IsQuiet name) (Opened name (Some kind)) a b (λ fs. record { spares = (refl, tt); files = refl })
 
 -- ---- what is given
 

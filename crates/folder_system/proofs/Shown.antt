@@ -11,6 +11,7 @@ use Rattle.folder_system.specs.Events.{Event, History, Answer, Transition, Follo
 use Rattle.folder_system.specs.Place.{IsPlaced, IsTaken, IsLetGo, moving, is_beside}
 use Rattle.folder_system.specs.Disk.{disk_shown}
 use Rattle.folder_system.proofs.Follows.{the_same}
+use Rattle.folder_system.proofs.Calls.{beside_alone}
 use Rattle.folder_system.proofs.Files.{same_name, if_same, content_of_new, without_new, made_and_removed}
 
 more_at : (name bytes : List ℕ) (f : File) (fs : List File) (b : Bool) → bytes_eq f.0 name ≡ b → with_more name bytes (with_file name [] fs) ≡ with_file name bytes fs → with_more name bytes (with_file name [] (f ∷ fs)) ≡ with_file name bytes (f ∷ fs)
@@ -28,7 +29,7 @@ shown_begun : (name : List ℕ) (old : Option History) (t : History) (b : Beside
 shown_begun name None t b ran = absurd (let e : None ≡ Some ran.was = ran.told in cc)
 shown_begun name (Some o) t b ran =
     let own = string_bytes b.own in
-    let begun = ran.so.1.begun in
+    let begun = beside_alone name own ran.was.files ran.calls ran.so.1 in
     let was : o ≡ ran.was = the_same o ran.was ran.told in
     let files : t.files ≡ with_file own [] o.files = ap (λ (v : History). v.files) ran.is ∙ begun.files ∙ ap (λ (v : History). with_file own [] v.files) (sym was) in
     let fresh : has_file own o.files ≡ false = ap (λ (v : History). has_file own v.files) was ∙ begun.fresh in

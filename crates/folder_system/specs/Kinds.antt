@@ -1,7 +1,7 @@
 -- What the kinds of errors say.
 use Rattle.std.specs.Prelude.{Bool, true, false}
 use Rattle.std.specs.declared.io.ErrorKind.{ErrorKind}
-use Rattle.std.specs.declared.io.ErrorKind.TheVariants.{PermissionDenied, ReadOnlyFilesystem, InvalidFilename, InvalidInput, Unsupported, ResourceBusy, CrossesDevices}
+use Rattle.std.specs.declared.io.ErrorKind.TheVariants.{PermissionDenied, ReadOnlyFilesystem, InvalidFilename, InvalidInput, Unsupported, ResourceBusy, CrossesDevices, AlreadyExists}
 
 -- no file can be made beside another, or not one like it
 abbrev pub is_barring : ErrorKind → Bool
@@ -11,6 +11,11 @@ is_barring InvalidFilename = true
 is_barring InvalidInput = true
 is_barring Unsupported = true
 is_barring _ = false
+
+-- something has the name already
+abbrev pub is_taken : ErrorKind → Bool
+is_taken AlreadyExists = true
+is_taken _ = false
 
 -- there is nothing to sync
 abbrev pub is_no_sync : ErrorKind → Bool

@@ -1,7 +1,7 @@
 -- What an output does, by the calls on its folder.
-use Rattle.std.specs.Prelude.{◌≡◌, ◌⊎◌, ℕ, Bool, true, false, ◌||◌, List, [], ◌∷◌, ◌++◌, Option, Some, None, bit_and, string_bytes}
+use Rattle.std.specs.Prelude.{◌≡◌, ◌⊎◌, ℕ, zero, suc, Bool, true, false, not, ◌||◌, List, [], ◌∷◌, ◌++◌, Option, Some, None, bit_and, string_bytes, ⊤}
 use Rattle.std.specs.declared.io.ErrorKind.{ErrorKind}
-use Rattle.std.specs.declared.io.ErrorKind.TheVariants.{OutOfMemory}
+use Rattle.std.specs.declared.io.ErrorKind.TheVariants.{OutOfMemory, AlreadyExists}
 use Rattle.host_port.specs.Act.{File, with_file, has_file, file_content}
 use Rattle.folder_system.specs.declared.folder.Found.{Found}
 use Rattle.folder_system.specs.declared.folder.Found.TheVariants.{Nothing, File as RegularFile, Other}
@@ -14,25 +14,9 @@ use Rattle.folder_system.specs.declared.beside.Taken.{Taken}
 use Rattle.folder_system.specs.declared.beside.Taken.TheVariants.{ByName, ByCopy}
 use Rattle.folder_system.specs.Names.{folder_of, numbered}
 use Rattle.folder_system.specs.Found.{bars_found, attributes_found}
-use Rattle.folder_system.specs.Kinds.{is_barring, is_held, is_no_names_sync}
+use Rattle.folder_system.specs.Kinds.{is_barring, is_taken, is_held, is_no_names_sync}
 use Rattle.folder_system.specs.Events.{Event, Looked, Tried, Made, GaveOwner, GaveMode, Opened, Synced, Renamed, Removed, NamesSynced, Answer, History, Follows, files_after, is_stored}
 use Rattle.folder_system.specs.Entries.{Spares}
-
--- an answer that bars an output from standing beside
-abbrev pub bars_answer : Answer → Bool
-bars_answer None = false
-bars_answer (Some kind) = is_barring kind
-
-abbrev pub bars_event : Event → Bool
-bars_event (Looked name (Some found)) = bars_found found
-bars_event (Made name mode answer) = bars_answer answer
-bars_event (GaveOwner owner group answer) = bars_answer answer
-bars_event (GaveMode mode answer) = bars_answer answer
-bars_event _ = false
-
-abbrev pub has_bar : List Event → Bool
-has_bar [] = false
-has_bar (e ∷ es) = bars_event e || has_bar es
 
 abbrev pub failed_removal : Event → Bool
 failed_removal (Removed name (Some kind)) = true
@@ -42,115 +26,48 @@ abbrev pub has_failed_removal : List Event → Bool
 has_failed_removal [] = false
 has_failed_removal (e ∷ es) = failed_removal e || has_failed_removal es
 
-abbrev pub failed_event : Event → Bool
-failed_event (Looked name None) = true
-failed_event (Tried name (Some kind)) = true
-failed_event (Made name mode (Some kind)) = true
-failed_event (GaveOwner owner group (Some kind)) = true
-failed_event (GaveMode mode (Some kind)) = true
-failed_event (Opened name (Some kind)) = true
-failed_event (Removed name (Some kind)) = true
-failed_event _ = false
+-- ---- how an output is begun
 
-abbrev pub has_failure : List Event → Bool
-has_failure [] = false
-has_failure (e ∷ es) = failed_event e || has_failure es
+-- the mode that it is made with: 0600 beside a file that was found, and else 0666, less what the process masks
+abbrev pub mode_for : Option Attributes → ℕ
+mode_for None = 438
+mode_for (Some old) = 384
 
-abbrev pub HasFailure : List File → List Event → Type 0
-HasFailure fs es = has_failure es ≡ true
-
--- an error is want of memory, or a call failed
-abbrev pub HasCause : ErrorKind → Option History → Option History → Type 0
-HasCause kind old new = (kind ≡ OutOfMemory) ⊎ Follows HasFailure old new
-
--- the calls that made or opened an output, or gave it something
-abbrev pub making : Event → List Event
-making (Made name mode None) = Made name mode None ∷ []
-making (GaveOwner owner group None) = GaveOwner owner group None ∷ []
-making (GaveMode mode None) = GaveMode mode None ∷ []
-making (Opened name None) = Opened name None ∷ []
-making _ = []
-
-abbrev pub makings : List Event → List Event
-makings [] = []
-makings (e ∷ es) = making e ++ makings es
-
--- How a file is made beside an old one: with mode 0600, and then with the old one's owner, group and bits of
--- permission. Where there is no old one it has mode 0666, less what the process masks.
-abbrev pub makings_of : List ℕ → Option Attributes → List Event
-makings_of own None = Made own 438 None ∷ []
-makings_of own (Some old) = Made own 384 None ∷ GaveOwner old.owner old.group None ∷ GaveMode (bit_and old.mode 511) None ∷ []
-
--- nothing is done to the named file, nothing is made, and nothing bars
-pub record IsQuiet (name : List ℕ) (fs : List File) (es : List Event) : Type 0 where
-  pub spares : Spares name es
-  pub clear : has_bar es ≡ false
-  pub makes : makings es ≡ []
-  pub files : files_after es fs ≡ fs
-
--- One new file stands by its own name, beside the named one. These calls made it, and no others. Nothing is done
--- to the named file, and nothing bars.
-pub record IsBegun (name own : List ℕ) (made : List Event) (fs : List File) (es : List Event) : Type 0 where
-  pub spares : Spares name es
-  pub clear : has_bar es ≡ false
-  pub makes : makings es ≡ made
-  pub next_to : (n : ℕ) × (own ≡ numbered name n)
-  pub fresh : has_file own fs ≡ false
-  pub files : files_after es fs ≡ with_file own [] fs
-
--- an answer barred it; nothing is done to the named file, and no file is left that wasn't there
-pub record IsBarred (name : List ℕ) (fs : List File) (es : List Event) : Type 0 where
-  pub spares : Spares name es
-  pub files : files_after es fs ≡ fs
-  pub bars : has_bar es ≡ true
-
--- no file is left that wasn't there, or one, where removing it failed
-pub record IsLeft (fs : List File) (es : List Event) : Type 0 where
-  pub own : List ℕ
-  pub failed : has_failed_removal es ≡ true
-  pub files : files_after es fs ≡ with_file own [] fs
-
-abbrev pub IsTidy : List File → List Event → Type 0
-IsTidy fs es = (files_after es fs ≡ fs) ⊎ IsLeft fs es
-
--- nothing is done to the named file, and nothing made is left unless removing failed
-pub record IsGivenUp (name : List ℕ) (fs : List File) (es : List Event) : Type 0 where
-  pub spares : Spares name es
-  pub tidy : IsTidy fs es
-
--- it was barred, and then the named file was opened to be written in place
-pub record IsInPlace (name : List ℕ) (fs : List File) (es : List Event) : Type 0 where
-  pub before : List Event
-  pub barred : IsBarred name fs before
-  pub is : es ≡ before ++ Opened name None ∷ []
-
--- what was found at the name; a file that was found may be written
-abbrev pub finding : List ℕ → Found → List Event
-finding name Nothing = Looked name (Some Nothing) ∷ []
-finding name (RegularFile attributes) = Looked name (Some (RegularFile attributes)) ∷ Tried name None ∷ []
-finding name Other = Looked name (Some Other) ∷ []
-
--- it was begun beside what was found at the name
-pub record IsBesideFound (name own : List ℕ) (fs : List File) (es : List Event) : Type 0 where
-  pub found : Found
-  pub behind : List Event
-  pub looked : es ≡ finding name found ++ behind
-  pub begun : IsBegun name own (makings_of own (attributes_found found)) fs es
-
--- beside an old file with these attributes or beside none, or in place
-abbrev pub IsStanding : List ℕ → Option Attributes → Place → List File → List Event → Type 0
-IsStanding name old (StandsBeside beside) fs es = (string_bytes beside.name ≡ name) × IsBegun name (string_bytes beside.own) (makings_of (string_bytes beside.own) old) fs es
-IsStanding name old (In held) fs es = (string_bytes held ≡ name) × IsInPlace name fs es
-
--- where an output of this name stands
-abbrev pub IsPlaced : List ℕ → Place → List File → List Event → Type 0
-IsPlaced name (StandsBeside beside) fs es = (string_bytes beside.name ≡ name) × IsBesideFound name (string_bytes beside.own) fs es
-IsPlaced name (In held) fs es = (string_bytes held ≡ name) × IsInPlace name fs es
-
--- a file was given its owner, its group and its mode
+-- an old file's owner, its group and its bits of permission are given
 abbrev pub gifts_of : Attributes → Answer → List Event
 gifts_of old answer = GaveOwner old.owner old.group None ∷ GaveMode (bit_and old.mode 511) answer ∷ []
 
+abbrev pub gifts_for : Option Attributes → List Event
+gifts_for None = []
+gifts_for (Some old) = gifts_of old None
+
+-- the first names beside were tried, as many, and each is taken
+abbrev pub tries : List ℕ → ℕ → ℕ → List Event
+tries name mode zero = []
+tries name mode (suc n) = tries name mode n ++ Made (numbered name n) mode (Some AlreadyExists) ∷ []
+
+abbrev pub AreTaken : List ℕ → ℕ → ℕ → List File → List Event → Type 0
+AreTaken name mode n fs es = es ≡ tries name mode n
+
+-- one new file was made, by the first name beside that isn't taken, and then these calls were made
+pub record IsMade (name own : List ℕ) (mode : ℕ) (gifts : List Event) (fs : List File) (es : List Event) : Type 0 where
+  pub number : ℕ
+  pub next_to : own ≡ numbered name number
+  pub fresh : has_file own fs ≡ false
+  pub is : es ≡ tries name mode number ++ Made own mode None ∷ gifts
+
+-- making it is answered so that none can stand beside
+pub record IsUnmade (name : List ℕ) (mode : ℕ) (fs : List File) (es : List Event) : Type 0 where
+  pub number : ℕ
+  pub kind : ErrorKind
+  pub is : es ≡ tries name mode number ++ Made (numbered name number) mode (Some kind) ∷ []
+  pub bars : is_barring kind ≡ true
+
+-- a new file stands beside an old one and has its owner, its group and its permissions, or stands beside none
+abbrev pub IsBegun : List ℕ → List ℕ → Option Attributes → List File → List Event → Type 0
+IsBegun name own old fs es = IsMade name own (mode_for old) (gifts_for old) fs es
+
+-- a file was given what the old one has
 abbrev pub IsGiven : Attributes → List File → List Event → Type 0
 IsGiven old fs es = es ≡ gifts_of old None
 
@@ -158,9 +75,64 @@ IsGiven old fs es = es ≡ gifts_of old None
 abbrev pub IsRefused : Attributes → ErrorKind → List File → List Event → Type 0
 IsRefused old kind fs es = (es ≡ GaveOwner old.owner old.group (Some kind) ∷ []) ⊎ (es ≡ gifts_of old (Some kind))
 
+-- what the old file has can't be given to a new one, which was taken away again
+pub record IsUnlike (name : List ℕ) (old : Attributes) (fs : List File) (es : List Event) : Type 0 where
+  pub own : List ℕ
+  pub front : List Event
+  pub made : IsMade name own 384 [] fs front
+  pub kind : ErrorKind
+  pub gifts : List Event
+  pub refused : IsRefused old kind (files_after front fs) gifts
+  pub bars : is_barring kind ≡ true
+  pub is : es ≡ (front ++ gifts) ++ Removed own None ∷ []
+
+-- none can stand beside
+abbrev pub IsBarred : List ℕ → Option Attributes → List File → List Event → Type 0
+IsBarred name None fs es = IsUnmade name 438 fs es
+IsBarred name (Some old) fs es = IsUnmade name 384 fs es ⊎ IsUnlike name old fs es
+
 -- what stands at the name was opened to be written in place
 abbrev pub IsOpened : List ℕ → List File → List Event → Type 0
 IsOpened name fs es = es ≡ Opened name None ∷ []
+
+-- it was barred, and then the named file was opened to be written in place
+pub record IsInstead (name : List ℕ) (old : Option Attributes) (fs : List File) (es : List Event) : Type 0 where
+  pub front : List Event
+  pub barred : IsBarred name old fs front
+  pub is : es ≡ front ++ Opened name None ∷ []
+
+-- beside an old file with these attributes or beside none, or in place
+abbrev pub IsStanding : List ℕ → Option Attributes → Place → List File → List Event → Type 0
+IsStanding name old (StandsBeside beside) fs es = (string_bytes beside.name ≡ name) × IsBegun name (string_bytes beside.own) old fs es
+IsStanding name old (In held) fs es = (string_bytes held ≡ name) × IsInstead name old fs es
+
+-- what was found at the name; a file that was found may be written
+abbrev pub finding : List ℕ → Found → List Event
+finding name Nothing = Looked name (Some Nothing) ∷ []
+finding name (RegularFile attributes) = Looked name (Some (RegularFile attributes)) ∷ Tried name None ∷ []
+finding name Other = Looked name (Some Other) ∷ []
+
+-- a file was found that one may stand beside, or none, and then this is so
+pub record IsBehindFinding (name : List ℕ) (P : Option Attributes → List File → List Event → Type 0) (fs : List File) (es : List Event) : Type 0 where
+  pub found : Found
+  pub clear : bars_found found ≡ false
+  pub behind : List Event
+  pub is : es ≡ finding name found ++ behind
+  pub so : P (attributes_found found) fs behind
+
+-- what none may stand beside was found, and opened to be written in place
+pub record IsOverFound (name : List ℕ) (es : List Event) : Type 0 where
+  pub found : Found
+  pub bars : bars_found found ≡ true
+  pub is : es ≡ Looked name (Some found) ∷ Opened name None ∷ []
+
+abbrev pub IsInPlace : List ℕ → List File → List Event → Type 0
+IsInPlace name fs es = IsOverFound name es ⊎ IsBehindFinding name (IsInstead name) fs es
+
+-- where an output of this name stands, and all calls that were made for it
+abbrev pub IsPlaced : List ℕ → Place → List File → List Event → Type 0
+IsPlaced name (StandsBeside beside) fs es = (string_bytes beside.name ≡ name) × IsBehindFinding name (IsBegun name (string_bytes beside.own)) fs es
+IsPlaced name (In held) fs es = (string_bytes held ≡ name) × IsInPlace name fs es
 
 abbrev pub IsIn : List ℕ → Place → Type 0
 IsIn name (StandsBeside beside) = ⊥
@@ -169,6 +141,73 @@ IsIn name (In held) = string_bytes held ≡ name
 abbrev pub is_beside : Place → Bool
 is_beside (StandsBeside beside) = true
 is_beside (In held) = false
+
+-- ---- what is so of these calls
+
+-- nothing is done to the named file, and the files are as they were
+pub record IsQuiet (name : List ℕ) (fs : List File) (es : List Event) : Type 0 where
+  pub spares : Spares name es
+  pub files : files_after es fs ≡ fs
+
+-- nothing is done to the named file, and there is one new file
+pub record IsAlone (name own : List ℕ) (fs : List File) (es : List Event) : Type 0 where
+  pub spares : Spares name es
+  pub fresh : has_file own fs ≡ false
+  pub files : files_after es fs ≡ with_file own [] fs
+
+-- until it is opened in place nothing is done to the named file
+abbrev pub BeginsCarefully : List ℕ → Place → List File → List Event → Type 0
+BeginsCarefully name (StandsBeside beside) fs es = IsAlone name (string_bytes beside.own) fs es
+BeginsCarefully name (In held) fs es = (before : List Event) × (es ≡ before ++ Opened name None ∷ []) × IsQuiet name fs before
+
+-- ---- an output that isn't begun
+
+-- one file is left that wasn't there, by a name beside, where removing it failed
+pub record IsLeft (name : List ℕ) (fs : List File) (es : List Event) : Type 0 where
+  pub own : List ℕ
+  pub next_to : (n : ℕ) × (own ≡ numbered name n)
+  pub fresh : has_file own fs ≡ false
+  pub failed : has_failed_removal es ≡ true
+  pub files : files_after es fs ≡ with_file own [] fs
+
+abbrev pub IsTidy : List ℕ → List File → List Event → Type 0
+IsTidy name fs es = (files_after es fs ≡ fs) ⊎ IsLeft name fs es
+
+-- nothing is done to the named file, and nothing made is left unless removing failed
+pub record IsGivenUp (name : List ℕ) (fs : List File) (es : List Event) : Type 0 where
+  pub spares : Spares name es
+  pub tidy : IsTidy name fs es
+
+-- A call failed behind which there is no other way. A name that is taken isn't one, nor is an answer that bars an
+-- output from standing beside.
+abbrev pub fault_event : Event → Bool
+fault_event (Looked name None) = true
+fault_event (Tried name (Some kind)) = true
+fault_event (Made name mode (Some kind)) = not (is_barring kind || is_taken kind)
+fault_event (GaveOwner owner group (Some kind)) = not (is_barring kind)
+fault_event (GaveMode mode (Some kind)) = not (is_barring kind)
+fault_event (Opened name (Some kind)) = true
+fault_event (Removed name (Some kind)) = true
+fault_event _ = false
+
+abbrev pub has_fault : List Event → Bool
+has_fault [] = false
+has_fault (e ∷ es) = fault_event e || has_fault es
+
+-- a thousand names beside are taken
+pub record IsExhausted (name : List ℕ) (es : List Event) : Type 0 where
+  pub mode : ℕ
+  pub number : ℕ
+  pub all : number ≡ 1000
+  pub front : List Event
+  pub is : es ≡ front ++ tries name mode number
+
+abbrev pub HasFault : List ℕ → List File → List Event → Type 0
+HasFault name fs es = (has_fault es ≡ true) ⊎ IsExhausted name es
+
+-- an error is want of memory, or has one of these causes
+abbrev pub HasCause : List ℕ → ErrorKind → Option History → Option History → Type 0
+HasCause name kind old new = (kind ≡ OutOfMemory) ⊎ Follows (HasFault name) old new
 
 -- ---- the end of an output
 
@@ -232,16 +271,17 @@ pub record IsUnsynced (own bytes : List ℕ) (es : List Event) : Type 0 where
   pub is : es ≡ Synced own bytes synced ∷ []
   pub failed : is_stored synced ≡ false
 
--- it was refused the name
+-- it was refused a name that isn't held
 pub record IsUnnamed (own name bytes : List ℕ) (es : List Event) : Type 0 where
   pub synced : Answer
   pub kind : ErrorKind
   pub is : es ≡ refusing own name bytes synced kind
   pub stored : is_stored synced ≡ true
+  pub free : is_held kind ≡ false
 
--- the named file was opened, or that failed, and no more
+-- the file beside couldn't be read, or the named file was opened, or that failed, and no more
 abbrev pub IsHalf : List ℕ → List ℕ → List Event → Type 0
-IsHalf name bytes es = ((answer : Answer) × (es ≡ Opened name answer ∷ []))
+IsHalf name bytes es = (es ≡ []) ⊎ ((answer : Answer) × (es ≡ Opened name answer ∷ []))
     ⊎ ((answer : Answer) × (es ≡ copying name bytes answer) × (is_stored answer ≡ false))
 
 -- it was refused a name that is held, and writing in place failed
@@ -259,7 +299,7 @@ abbrev pub IsOver : List ℕ → List ℕ → List File → List Event → Type 
 IsOver own name fs es = (answer : Answer) × (es ≡ copying name (file_content own fs) answer) × (is_stored answer ≡ true)
 
 abbrev pub IsNotOver : List ℕ → List ℕ → List File → List Event → Type 0
-IsNotOver own name fs es = (es ≡ []) ⊎ IsHalf name (file_content own fs) es
+IsNotOver own name fs es = IsHalf name (file_content own fs) es
 
 abbrev pub IsHalted : List ℕ → List ℕ → List ℕ → List File → List Event → Type 0
 IsHalted own name bytes fs es = IsUnsynced own bytes es ⊎ IsUnnamed own name bytes es
@@ -307,8 +347,28 @@ IsAnyPlaced name (Some place) fs es = IsPlaced name place fs es
 
 -- an output ended, or failed to
 abbrev pub IsEnded : Option Place → List ℕ → Bool → List File → List Event → Type 0
-IsEnded None bytes ok fs es = es ≡ []
+IsEnded None bytes ok fs es = (es ≡ []) × (ok ≡ true)
 IsEnded (Some (StandsBeside beside)) bytes true fs es = (taken : Taken) × IsTaken (string_bytes beside.own) (string_bytes beside.name) bytes taken fs es
 IsEnded (Some (StandsBeside beside)) bytes false fs es = IsLost (string_bytes beside.own) (string_bytes beside.name) bytes fs es
 IsEnded (Some (In held)) bytes true fs es = IsStored (string_bytes held) bytes fs es
 IsEnded (Some (In held)) bytes false fs es = IsNotStored (string_bytes held) bytes fs es
+
+-- ---- whether the files are still told
+
+abbrev pub stands_beside : Option Place → Bool
+stands_beside None = false
+stands_beside (Some place) = is_beside place
+
+abbrev pub is_opening : Event → Bool
+is_opening (Opened name answer) = true
+is_opening _ = false
+
+abbrev pub has_opening : List Event → Bool
+has_opening [] = false
+has_opening (e ∷ es) = is_opening e || has_opening es
+
+-- the named file was written in place: from the beginning, or with what was written beside
+abbrev pub IsWrittenInPlace : Option Place → List File → List Event → Type 0
+IsWrittenInPlace None fs es = ⊥
+IsWrittenInPlace (Some (StandsBeside beside)) fs es = has_opening es ≡ true
+IsWrittenInPlace (Some (In held)) fs es = ⊤

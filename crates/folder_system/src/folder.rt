@@ -1,11 +1,11 @@
 //! What is asked of a folder: each method is one call.
 
-ghost use Rattle.std.specs.Prelude.{◌≡◌, [], ◌∷◌, Option, Some, true, false, is_some, IfOk, IfSome, OnOk};
+ghost use Rattle.std.specs.Prelude.{◌≡◌, ℕ, List, [], ◌∷◌, Option, Some, true, false, is_some, IfOk, IfSome, OnOk};
 ghost use Rattle.host_port.specs.Act.{file_content, has_file};
 ghost use Rattle.host_port.specs.Outside.{Becomes};
 ghost use Rattle.system_host.specs.Told.{bytes_of};
 ghost use Rattle.folder_system.specs.Found.{bars_found, attributes_found};
-ghost use Rattle.folder_system.specs.Events.{History, Looked, Tried, Made, GaveOwner, GaveMode, Opened, Synced, Renamed, Removed, NamesSynced, after, answer_of, found_by};
+ghost use Rattle.folder_system.specs.Events.{History, Answer, Looked, Tried, Made, GaveOwner, GaveMode, Opened, Synced, Renamed, Removed, NamesSynced, after, answer_of, found_by};
 
 use std::io;
 use std::io::{Read, Write};
@@ -67,10 +67,14 @@ pub trait Folder {
 
     ghost history: { Self → Option History };
 
+    /// That opening a name to be read is answered so. Only a call tells it.
+    ghost answers: { Self → List ℕ → Answer → Type 0 };
+
     /// Opens the named file to be read from its beginning.
     fn open(&self, name: &str) -> io::Result<Self::Input>
-        ensures { IfOk result (λ input. IfSome (history self.now)
-            (λ h. bytes_of (Self.Input.remaining input) ≡ file_content name.now h.files)) };
+        ensures content { IfOk result (λ input. IfSome (history self.now)
+            (λ h. bytes_of (Self.Input.remaining input) ≡ file_content name.now h.files)) }
+        ensures answered { answers self.now name.now (answer_of result) };
 
     /// Looks up what stands at a name.
     fn look(&mut self, name: &str) -> io::Result<Found>

@@ -1,7 +1,7 @@
 //! What the kinds of errors say.
 
 ghost use Rattle.std.specs.Prelude.{◌≡◌};
-ghost use Rattle.folder_system.specs.Kinds.{is_barring, is_no_sync, is_no_names_sync, is_held};
+ghost use Rattle.folder_system.specs.Kinds.{is_barring, is_taken, is_no_sync, is_no_names_sync, is_held};
 
 use std::io::ErrorKind;
 
@@ -16,6 +16,16 @@ pub fn bars(kind: ErrorKind) -> bool
         | ErrorKind::InvalidFilename
         | ErrorKind::InvalidInput
         | ErrorKind::Unsupported => true,
+        _ => false,
+    }
+}
+
+/// Whether an error of this kind says that something has the name already.
+pub fn is_taken(kind: ErrorKind) -> bool
+    ensures { result ≡ is_taken kind }
+{
+    match kind {
+        ErrorKind::AlreadyExists => true,
         _ => false,
     }
 }

@@ -6,7 +6,8 @@ ghost use Rattle.host_port.specs.Act.{File, with_file};
 ghost use Rattle.folder_system.specs.Names.{numbered};
 ghost use Rattle.folder_system.specs.Events.{Event, Answer, Removed, is_stored, files_after, without};
 ghost use Rattle.folder_system.specs.Entries.{Entries, FileState, Whole, Spares, IsCareful, IsCarefulInCrash, entries_after};
-ghost use Rattle.folder_system.specs.Place.{moving, refusing, copying, IsHalted};
+ghost use Rattle.folder_system.specs.Place.{moving, refusing, copying, IsHalted, IsPlaced, BeginsCarefully};
+ghost use Rattle.folder_system.specs.declared.place.Place.{Place};
 
 /// Calls that spare a name leave what stands there, and what a crash may leave there, at every moment.
 pub fn spared()
@@ -17,6 +18,13 @@ pub fn spared()
 /// A name beside is another one.
 pub fn names_differ()
     ensures { (name own : List ℕ) (n : ℕ) → own ≡ numbered name n → bytes_eq name own ≡ false }
+{}
+
+/// Until an output is opened in place none of the calls that begin it touches the named file, and the files are as
+/// they were but for the one beside.
+pub fn begun()
+    ensures { (name : List ℕ) (place : Place) (fs : List File) (es : List Event) →
+        IsPlaced name place fs es → BeginsCarefully name place fs es }
 {}
 
 /// An output that takes the name: before and after each call the named file is the old one or the whole new one,

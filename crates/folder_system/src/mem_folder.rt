@@ -1,6 +1,6 @@
 //! A folder in memory, which tells all that stands in it: each call can be made to fail.
 
-ghost use Rattle.std.specs.Prelude.{◌≡◌, ◌<◌, [], length, true, false, refl, string_bytes, if◌then◌else◌, IfOk, IfSome, MatchOption, OnErr, OnOk};
+ghost use Rattle.std.specs.Prelude.{◌≡◌, ◌<◌, [], length, true, false, refl, string_bytes, if◌then◌else◌, IfOk, IfSome, MatchOption, OnErr, OnOk, ⊤};
 ghost use Rattle.host_port.specs.Act.{file_content, has_file, with_file};
 ghost use Rattle.host_port.specs.Entries.{place_of, bytes_at};
 ghost use Rattle.folder_system.specs.Events.{Looked, Tried, Made, GaveOwner, GaveMode, Opened, Synced, Renamed, Removed, NamesSynced, answer_of, found_by, is_stored, without};
@@ -406,6 +406,8 @@ impl Folder for MemFolder {
     type Output = Vec<u8>;
 
     ghost history = { λ f. told f.files.items f.trace };
+
+    ghost answers = { λ f name answer. ⊤ };
 
     ghost told_inputs = { λ f input told. refl };
 

@@ -1,15 +1,14 @@
 //! Where an output stands until it is closed: beside the file whose place it takes, or in its place.
 
-ghost use Rattle.std.specs.Prelude.{◌≡◌, ℕ, [], ◌∷◌, None, string_bytes, IfErr, IfOk, IfSome, MatchOption, OnErr, OnOk, ⊤};
+ghost use Rattle.std.specs.Prelude.{◌≡◌, [], string_bytes, IfErr, IfOk, IfSome, MatchOption, OnErr, OnOk, ⊤};
 ghost use Rattle.std.specs.IoError.{error_kind};
 ghost use Rattle.system_host.specs.Told.{bytes_of};
-ghost use Rattle.folder_system.specs.Names.{numbered};
-ghost use Rattle.folder_system.specs.Events.{Made, Follows};
-ghost use Rattle.folder_system.specs.Place.{IsQuiet, IsOpened, IsIn, IsBegun, IsBarred, IsGivenUp, IsGiven, IsRefused, IsPlaced, IsStanding, HasCause, is_beside, makings_of};
+ghost use Rattle.folder_system.specs.Events.{Follows};
+ghost use Rattle.folder_system.specs.Place.{IsQuiet, IsOpened, IsIn, IsMade, IsUnmade, IsBegun, IsBarred, IsGivenUp, IsGiven, IsRefused, IsPlaced, IsStanding, HasCause, is_beside};
 
 use crate::beside::Beside;
 use crate::folder::{Attributes, Folder, attributes_of, is_in_the_way};
-use crate::kinds::bars;
+use crate::kinds::{bars, is_taken};
 use crate::names::own_name;
 use std::alloc::Global;
 use std::io;
@@ -54,7 +53,7 @@ pub fn begin<F: Folder>(alloc: Global, folder: &mut F, name: &str) -> io::Result
     ensures empty { IfOk result (λ begun. IfSome (F.history folder.new)
         (λ _. bytes_of (F.Output.contents begun.0) ≡ [])) }
     ensures given_up { OnErr result (Follows (IsGivenUp name.now) (F.history folder.old) (F.history folder.new)) }
-    ensures cause { IfErr result (λ e. HasCause (error_kind e) (F.history folder.old) (F.history folder.new)) }
+    ensures cause { IfErr result (λ e. HasCause name.now (error_kind e) (F.history folder.old) (F.history folder.new)) }
 {
     let found = folder.look(name)?;
     if is_in_the_way(found) {
@@ -79,7 +78,7 @@ fn begin_beside<F: Folder>(
     ensures empty { IfOk result (λ begun. IfSome (F.history folder.new)
         (λ _. bytes_of (F.Output.contents begun.0) ≡ [])) }
     ensures given_up { OnErr result (Follows (IsGivenUp name.now) (F.history folder.old) (F.history folder.new)) }
-    ensures cause { IfErr result (λ e. HasCause (error_kind e) (F.history folder.old) (F.history folder.new)) }
+    ensures cause { IfErr result (λ e. HasCause name.now (error_kind e) (F.history folder.old) (F.history folder.new)) }
 {
     let kept_name = String::from_str(alloc, name)?;
     match make_like(alloc, folder, name, old)? {
@@ -98,7 +97,7 @@ fn begin_in_place<F: Folder>(
     ensures empty { IfOk result (λ begun. IfSome (F.history folder.new)
         (λ _. bytes_of (F.Output.contents begun.0) ≡ [])) }
     ensures not_opened { OnErr result (Follows (IsQuiet name.now) (F.history folder.old) (F.history folder.new)) }
-    ensures cause { IfErr result (λ e. HasCause (error_kind e) (F.history folder.old) (F.history folder.new)) }
+    ensures cause { IfErr result (λ e. HasCause name.now (error_kind e) (F.history folder.old) (F.history folder.new)) }
 {
     let kept_name = String::from_str(alloc, name)?;
     let output = folder.open_over(name)?;
@@ -114,13 +113,13 @@ fn make_like<F: Folder>(
     old: Option<Attributes>,
 ) -> io::Result<Option<(F::Output, String)>>
     ensures barred { IfOk result (λ made. MatchOption made
-        (Follows (IsBarred name.now) (F.history folder.old) (F.history folder.new)) (λ _. ⊤)) }
+        (Follows (IsBarred name.now old) (F.history folder.old) (F.history folder.new)) (λ _. ⊤)) }
     ensures begun { IfOk result (λ made. IfSome made (λ m.
-        Follows (IsBegun name.now (string_bytes m.1) (makings_of (string_bytes m.1) old)) (F.history folder.old) (F.history folder.new))) }
+        Follows (IsBegun name.now (string_bytes m.1) old) (F.history folder.old) (F.history folder.new))) }
     ensures empty { IfOk result (λ made. IfSome made (λ m. IfSome (F.history folder.new)
         (λ _. bytes_of (F.Output.contents m.0) ≡ []))) }
     ensures given_up { OnErr result (Follows (IsGivenUp name.now) (F.history folder.old) (F.history folder.new)) }
-    ensures cause { IfErr result (λ e. HasCause (error_kind e) (F.history folder.old) (F.history folder.new)) }
+    ensures cause { IfErr result (λ e. HasCause name.now (error_kind e) (F.history folder.old) (F.history folder.new)) }
 {
     match old {
         None => make(alloc, folder, name, NEW_MODE),
@@ -156,21 +155,20 @@ fn make<F: Folder>(
     mode: u32,
 ) -> io::Result<Option<(F::Output, String)>>
     ensures barred { IfOk result (λ made. MatchOption made
-        (Follows (IsBarred name.now) (F.history folder.old) (F.history folder.new)) (λ _. ⊤)) }
+        (Follows (IsUnmade name.now mode) (F.history folder.old) (F.history folder.new)) (λ _. ⊤)) }
     ensures begun { IfOk result (λ made. IfSome made (λ m.
-        Follows (IsBegun name.now (string_bytes m.1) (Made (string_bytes m.1) mode None ∷ [])) (F.history folder.old) (F.history folder.new))) }
-    ensures next_to { IfOk result (λ made. IfSome made (λ m. (n : ℕ) × (string_bytes m.1 ≡ numbered name.now n))) }
+        Follows (IsMade name.now (string_bytes m.1) mode []) (F.history folder.old) (F.history folder.new))) }
     ensures empty { IfOk result (λ made. IfSome made (λ m. IfSome (F.history folder.new)
         (λ _. bytes_of (F.Output.contents m.0) ≡ []))) }
     ensures given_up { OnErr result (Follows (IsGivenUp name.now) (F.history folder.old) (F.history folder.new)) }
-    ensures cause { IfErr result (λ e. HasCause (error_kind e) (F.history folder.old) (F.history folder.new)) }
+    ensures cause { IfErr result (λ e. HasCause name.now (error_kind e) (F.history folder.old) (F.history folder.new)) }
 {
     for n in 0..TRIES {
         let own = own_name(alloc, name, n)?;
         match folder.create_new(own.as_str(), mode) {
             Ok(output) => return Ok(Some((output, own))),
             Err(e) if bars(e.kind()) => return Ok(None),
-            Err(e) if e.kind() == ErrorKind::AlreadyExists => {}
+            Err(e) if is_taken(e.kind()) => {}
             Err(e) => return Err(e),
         }
     }

@@ -1,14 +1,14 @@
 //! The system for a host over a folder.
 
-ghost use Rattle.std.specs.Prelude.{◌≡◌, ℕ, List, Option, None, true, is_some, is_ok, [], ◌∷◌, option_map, IfErr, IfOk, IfSome, OnErr, OnOk};
+ghost use Rattle.std.specs.Prelude.{◌≡◌, ◌&&◌, ◌⊎◌, ℕ, List, Option, None, true, is_none, is_some, is_ok, is_err, [], ◌∷◌, option_map, IfErr, IfOk, IfSome, MatchOption, OnErr, OnOk};
 ghost use Rattle.std.specs.Io.{WritesAtMost};
 ghost use Rattle.std.specs.IoError.{error_kind};
 ghost use Rattle.host_port.specs.Act.{Create, Write as Put, Close, disk_after, file_content};
 ghost use Rattle.host_port.specs.Outside.{Becomes};
 ghost use Rattle.system_host.specs.Told.{bytes_of, Prints};
 ghost use Rattle.folder_system.specs.Disk.{shown, input_told};
-ghost use Rattle.folder_system.specs.Events.{Follows};
-ghost use Rattle.folder_system.specs.Place.{HasCause, IsAfterLetGo, IsAnyPlaced, IsEnded, IsGivenUp, IsLetGo};
+ghost use Rattle.folder_system.specs.Events.{Follows, answer_of};
+ghost use Rattle.folder_system.specs.Place.{HasCause, IsAfterLetGo, IsAnyPlaced, IsEnded, IsGivenUp, IsLetGo, IsWrittenInPlace, stands_beside};
 
 use crate::beside::{Taken, store};
 use crate::folder::Folder;
@@ -52,6 +52,7 @@ pub struct FolderSystem<F: Folder, P: Printer> {
 impl<F: Folder, P: Printer + Drop> FolderSystem<F, P> {
     pub fn new(alloc: Global, folder: F, printer: P) -> FolderSystem<F, P>
         ensures folder { result.folder ≡ folder }
+        ensures printer { result.printer ≡ printer }
         ensures none { result.place ≡ None }
         ensures tells { result.tells ≡ true }
     {
@@ -65,18 +66,19 @@ impl<F: Folder, P: Printer + Drop> FolderSystem<F, P> {
     }
 
     /// Takes away an output that isn't closed.
-    pub fn end(self) -> F
-        ensures { Follows (IsLetGo self.place) (F.history self.folder) (F.history result) }
+    pub fn end(self) -> (F, P)
+        ensures gone { Follows (IsLetGo self.place) (F.history self.folder) (F.history result.0) }
+        ensures printer { result.1 ≡ self.printer }
     {
         let FolderSystem {
             alloc: _alloc,
             mut folder,
-            printer: _printer,
+            printer,
             place,
             tells: _tells,
         } = self;
         let_go(&mut folder, place);
-        folder
+        (folder, printer)
     }
 
     /// Takes away an output that isn't closed, and then tells no more.
@@ -85,6 +87,7 @@ impl<F: Folder, P: Printer + Drop> FolderSystem<F, P> {
         ensures gone { Follows (IsLetGo self.old.place) (F.history self.old.folder) (F.history self.new.folder) }
         ensures told { Becomes (disk_after []) (shown F.history self.old.tells self.old.place self.old.folder)
             (shown F.history self.new.tells self.new.place self.new.folder) }
+        ensures tells { self.new.tells ≡ (self.old.tells && is_none self.old.place) }
         ensures same { self.new.printer ≡ self.old.printer }
     {
         let place = self.place.take();
@@ -115,7 +118,7 @@ impl<F: Folder, P: Printer + Drop> System for FolderSystem<F, P> {
 
     ghost complained = { λ s. P.complained s.printer };
 
-    ghost last_close = { λ _. None };
+    ghost changes = { λ _. None };
 
     ghost told_inputs = { λ s input told. F.told_inputs s.folder input (input_told s.tells s.place (F.history s.folder) told) };
 
@@ -123,9 +126,13 @@ impl<F: Folder, P: Printer + Drop> System for FolderSystem<F, P> {
 
     /// No file is opened while an output isn't closed.
     fn open(&self, name: &str) -> io::Result<F::Input>
-        ensures { IfOk result (λ input. IfSome
+        ensures told { IfOk result (λ input. IfSome
             (shown F.history self.now.tells self.now.place self.now.folder)
             (λ d. bytes_of (F.Input.remaining input) ≡ file_content name.now d.files)) }
+        ensures content { IfOk result (λ input. IfSome (F.history self.now.folder)
+            (λ h. bytes_of (F.Input.remaining input) ≡ file_content name.now h.files)) }
+        ensures answered { MatchOption self.now.place
+            (F.answers self.now.folder name.now (answer_of result)) (λ _. is_err result ≡ true) }
     {
         match &self.place {
             None => self.folder.open(name),
@@ -151,7 +158,9 @@ impl<F: Folder, P: Printer + Drop> System for FolderSystem<F, P> {
         ensures given_up { OnErr result (Follows (IsAfterLetGo self.old.place (IsGivenUp name.now))
             (F.history self.old.folder) (F.history self.new.folder)) }
         ensures none { OnErr result (self.new.place ≡ None) }
-        ensures cause { IfErr result (λ e. HasCause (error_kind e) (F.history self.old.folder) (F.history self.new.folder)) }
+        ensures tells { OnOk result (self.new.tells
+            ≡ ((self.old.tells && is_none self.old.place) && stands_beside self.new.place)) }
+        ensures cause { IfErr result (λ e. HasCause name.now (error_kind e) (F.history self.old.folder) (F.history self.new.folder)) }
     {
         self.clear();
         match begin(self.alloc, &mut self.folder, name) {
@@ -177,6 +186,8 @@ impl<F: Folder, P: Printer + Drop> System for FolderSystem<F, P> {
         ensures ended { Follows (IsEnded self.old.place (bytes_of (F.Output.contents output)) (is_ok result))
             (F.history self.old.folder) (F.history self.new.folder) }
         ensures none { self.new.place ≡ None }
+        ensures tells { OnOk result ((self.new.tells ≡ self.old.tells)
+            ⊎ Follows (IsWrittenInPlace self.old.place) (F.history self.old.folder) (F.history self.new.folder)) }
     {
         match self.place.take() {
             Some(Place::Beside(beside)) => match beside.take_place(&mut self.folder, &output) {

@@ -44,7 +44,8 @@ fn outputs(alloc: Global, folder: MemFolder, names: &[&str]) -> (MemFolder, usiz
         }
         closed = closed.saturating_add(1);
     }
-    (system.end(), closed)
+    let (folder, _printer) = system.end();
+    (folder, closed)
 }
 
 fn output(system: &mut FolderSystem<MemFolder, Mute>, name: &str) -> io::Result<()> {
@@ -212,7 +213,7 @@ fn an_output_that_is_let_go_is_taken_away(rt: HostRuntime) -> Result<(), Fail> {
     let alloc = rt.alloc();
     let mut system = FolderSystem::new(alloc, folder_of(alloc, &["f"], OLD)?, Mute);
     let begun = system.create("f").is_ok() && system.create("g").is_ok();
-    let folder = system.end();
+    let (folder, _printer) = system.end();
     assert!(rt; begun);
     assert_eq!(rt; folder.bytes("f"), Some(b"old".as_slice()));
     assert_eq!(rt; folder.len(), 1);

@@ -1,7 +1,7 @@
 //! The folders and the outputs of the system: each method is one call of std. What takes a name isn't inlined: std
 //! keeps it in some 4 KiB of the frame.
 
-ghost use Rattle.std.specs.Prelude.{None};
+ghost use Rattle.std.specs.Prelude.{None, ⊤};
 ghost use Rattle.std.specs.Io.{WritesAtMost};
 
 use folder_system::{Attributes, Folder, FolderSystem, Found, Printer};
@@ -32,6 +32,8 @@ impl Folder for RealFolder {
     type Output = File;
 
     ghost history = { λ _. None };
+
+    ghost answers = { λ _ _ _. ⊤ };
 
     ghost told_inputs = { λ f input told. Prim.cc };
 

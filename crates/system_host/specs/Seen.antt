@@ -2,14 +2,15 @@
 use Rattle.std.specs.Prelude.{◌≡◌, ℕ, Bool, ◌&&◌, List, [], ◌∷◌, Option, Some, None, option_map, is_some, IfSome, if◌then◌else◌, refl}
 use Rattle.host_port.specs.Act.{Disk, Write, Close, disk_after}
 use Rattle.host_port.specs.Outside.{Outside, IsConsistent}
+use Rattle.system_host.specs.Told.{Change}
 
 pub record Seen : Type 0 where
   -- what the system tells of its files, without what was written to the one that is open
   pub disk : Option Disk
   pub out : Option (List ℕ)
   pub err : Option (List ℕ)
-  -- whether the last close succeeded, where the system tells it
-  pub last_close : Option Bool
+  -- the calls that made and closed files, where the system tells them
+  pub changes : Option (List Change)
   -- what is left of the open input; none where it isn't told
   pub input : Option (List ℕ)
   -- whether a read has come to the end of the open input

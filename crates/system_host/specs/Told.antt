@@ -1,6 +1,11 @@
 -- What a system tells, and what calls do to it.
-use Rattle.std.specs.Prelude.{◌≡◌, ℕ, ◌<◌, List, [], ◌++◌, length, take, Option, Some, None, option_map, unwrap_or, Result, MatchResult, MatchOption, ⊤}
+use Rattle.std.specs.Prelude.{◌≡◌, ℕ, ◌<◌, Bool, List, [], ◌++◌, length, take, Option, Some, None, option_map, unwrap_or, Result, MatchResult, MatchOption, ⊤}
 use Rattle.std.specs.Io.KnownBytes.{Appends, Consumes, Keeps, IsAtEnd}
+
+-- a call that makes a file or closes one with these bytes, and whether it succeeded
+pub data Change : Type 0 where
+  Created : List ℕ → Bool → Change
+  Closed : List ℕ → Bool → Change
 
 -- bytes that are told, and else none
 abbrev pub bytes_of : Option (List ℕ) → List ℕ

@@ -1,9 +1,10 @@
 //! The host over a system.
 
-ghost use Rattle.std.specs.Prelude.{◌≡◌, ◌<◌, true, false, length, Some, None, is_some, is_ok, IfSome, OnErr};
+ghost use Rattle.std.specs.Prelude.{◌≡◌, ◌<◌, true, false, [], ◌∷◌, ◌++◌, length, Some, None, is_ok, IfSome, MatchOption, OnErr};
 ghost use Rattle.host_port.specs.Act.{Write, Out, Err as Complain, next_count};
-ghost use Rattle.host_port.specs.Outside.{Rose};
+ghost use Rattle.host_port.specs.Outside.{Becomes, Rose};
 ghost use Rattle.host_port.specs.Host.{Opens, Moves, Creates, Takes, Closes, Reads, Writes, Complains};
+ghost use Rattle.system_host.specs.Told.{Created, Closed};
 ghost use Rattle.system_host.specs.Seen.{outside_of, is_consistent};
 
 use crate::parts::{moved, some_taken, written};
@@ -43,7 +44,7 @@ impl<S: System> Model for SystemHost<S> {
       disk = if a.tells then S.disk a.system else None;
       out = S.printed a.system;
       err = S.complained a.system;
-      last_close = S.last_close a.system;
+      changes = S.changes a.system;
       input = option_map (λ i. bytes_of (S.Input.remaining i)) a.input;
       at_end = a.at_end;
       output = option_map (λ o. bytes_of (S.Output.contents o)) a.output;
@@ -64,7 +65,7 @@ impl<S: System> SystemHost<S> {
           out = S.printed system;
           err =
               S.complained system;
-          last_close = S.last_close system;
+          changes = S.changes system;
           input = None;
           at_end = false;
           output = None;
@@ -96,7 +97,7 @@ impl<S: System> SystemHost<S> {
         ensures disk { IfSome self.disk (λ d. S.disk result ≡ Some d) }
         ensures out { S.printed result ≡ self.out }
         ensures err { S.complained result ≡ self.err }
-        ensures last_close { S.last_close result ≡ self.last_close }
+        ensures changes { S.changes result ≡ self.changes }
     {
         let SystemHost {
             system,
@@ -149,7 +150,12 @@ impl<S: System> Host for SystemHost<S> {
 
     ghost consistent = { is_consistent };
 
-    fn open_input(&mut self, name: &str) -> Result<(), Failed> {
+    fn open_input(&mut self, name: &str) -> Result<(), Failed>
+        requires { (outside_of self.old).is_writing ≡ false }
+        ensures opens { Opens name.now (outside_of self.old) (outside_of self.new) result }
+        ensures counts { Reads (outside_of self.old) (outside_of self.new) result }
+        ensures same { self.new.changes ≡ self.old.changes }
+    {
         self.input = None;
         self.at_end = false;
         self.opened = self.opened.saturating_add(1);
@@ -163,7 +169,14 @@ impl<S: System> Host for SystemHost<S> {
         }
     }
 
-    fn read(&mut self, buf: &mut [u8]) -> Result<usize, Failed> {
+    fn read(&mut self, buf: &mut [u8]) -> Result<usize, Failed>
+        requires is_open { (outside_of self.old).is_open ≡ true }
+        requires going { (outside_of self.old).at_end ≡ false }
+        requires some_room { 0 < length buf.old }
+        ensures moves { Moves buf.old buf.new (outside_of self.old) (outside_of self.new) result }
+        ensures counts { Reads (outside_of self.old) (outside_of self.new) result }
+        ensures same { self.new.changes ≡ self.old.changes }
+    {
         self.last_failed = false;
         match moved(&mut self.input, buf) {
             Some(n) => {
@@ -174,7 +187,13 @@ impl<S: System> Host for SystemHost<S> {
         }
     }
 
-    fn create_output(&mut self, name: &str) -> Result<(), Failed> {
+    fn create_output(&mut self, name: &str) -> Result<(), Failed>
+        requires { (outside_of self.old).is_writing ≡ false }
+        ensures creates { Creates name.now (outside_of self.old) (outside_of self.new) result }
+        ensures counts { Writes (outside_of self.old) (outside_of self.new) result }
+        ensures changed { Becomes (λ changes. changes ++ Created name.now (is_ok result) ∷ [])
+            self.old.changes self.new.changes }
+    {
         self.input = None;
         self.output = None;
         self.last_failed = false;
@@ -194,6 +213,7 @@ impl<S: System> Host for SystemHost<S> {
         ensures takes { Takes Write piece.now (outside_of self.old) (outside_of self.new) result }
         ensures counts { Writes (outside_of self.old) (outside_of self.new) result }
         ensures stops { OnErr result ((outside_of self.new).disk ≡ None) }
+        ensures same { self.new.changes ≡ self.old.changes }
     {
         self.last_failed = false;
         match written(&mut self.output, piece) {
@@ -208,8 +228,11 @@ impl<S: System> Host for SystemHost<S> {
     fn close_output(&mut self) -> Result<(), Failed>
         ensures closes { Closes (outside_of self.old) (outside_of self.new) }
         ensures counts { Writes (outside_of self.old) (outside_of self.new) result }
-        ensures told { is_some self.old.output ≡ true
-            → IfSome self.new.last_close (λ succeeded. succeeded ≡ is_ok result) }
+        ensures changed { MatchOption self.old.output
+            (self.new.changes ≡ self.old.changes)
+            (λ bytes. Becomes (λ changes. changes ++ Closed bytes (is_ok result) ∷ [])
+            self.old.changes self.new.changes) }
+        ensures idle { self.old.output ≡ None → is_ok result ≡ true }
     {
         self.last_failed = false;
         self.file_changes = self.file_changes.saturating_add(1);
@@ -224,7 +247,12 @@ impl<S: System> Host for SystemHost<S> {
         }
     }
 
-    fn out(&mut self, piece: &[u8]) -> Result<usize, Failed> {
+    fn out(&mut self, piece: &[u8]) -> Result<usize, Failed>
+        requires { 0 < length piece.now }
+        ensures takes { Takes Out piece.now (outside_of self.old) (outside_of self.new) result }
+        ensures counts { Writes (outside_of self.old) (outside_of self.new) result }
+        ensures same { self.new.changes ≡ self.old.changes }
+    {
         self.last_failed = false;
         match some_taken(self.system.out(piece)) {
             Some(n) => Ok(n),
@@ -232,7 +260,13 @@ impl<S: System> Host for SystemHost<S> {
         }
     }
 
-    fn err(&mut self, piece: &[u8]) -> Result<usize, Failed> {
+    fn err(&mut self, piece: &[u8]) -> Result<usize, Failed>
+        requires { 0 < length piece.now }
+        ensures takes { Takes Complain piece.now (outside_of self.old) (outside_of self.new) result }
+        ensures counts { Complains (outside_of self.old) (outside_of self.new) result }
+        ensures last { (outside_of self.new).last_failed ≡ (outside_of self.old).last_failed }
+        ensures same { self.new.changes ≡ self.old.changes }
+    {
         match some_taken(self.system.err(piece)) {
             Some(n) => Ok(n),
             None => Err(self.err_failed()),

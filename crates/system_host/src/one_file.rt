@@ -1,6 +1,6 @@
 //! A system in memory.
 
-ghost use Rattle.std.specs.Prelude.{◌≡◌, [], ◌∷◌, Option, Some, option_map, is_some, refl, string_bytes, IfOk, IfSome, OnOk, OnErr, false, true};
+ghost use Rattle.std.specs.Prelude.{◌≡◌, [], ◌∷◌, Option, Some, None, option_map, is_some, refl, string_bytes, IfOk, IfSome, OnOk, OnErr, false};
 ghost use Rattle.std.specs.Io.{WritesAtMost};
 ghost use Rattle.host_port.specs.Act.{Create, Write as Put, Close, disk_after, file_content};
 ghost use Rattle.host_port.specs.Outside.{Becomes};
@@ -90,7 +90,7 @@ impl System for OneFile {
 
     ghost complained = { λ s. Some s.err };
 
-    ghost last_close = { λ _. Some true };
+    ghost changes = { λ _. None };
 
     ghost told_inputs = { λ s input told. refl };
 

@@ -11,7 +11,7 @@ returns-clause-over g c =
     let rest = g.F.Input.Read.remaining c.in_ok-input.input in
     let held = contents c.in_ok-output.output in
     let now = contents c.copy.new.writer in
-    let content = content_copied c.args.own.now (told before) (told opened) rest held now (g.met.F.Folder.told_inputs before c.in_ok-input.input) (g.met.F.Folder.told_outputs opened c.in_ok-output.output) c.in_ok-input.ensures c.in_ok-output.ensures.empty c.in_ok-copy.ensures.bytes in
+    let content = content_copied c.args.own.now (told before) (told opened) rest held now (g.met.F.Folder.told_inputs before c.in_ok-input.input) (g.met.F.Folder.told_outputs opened c.in_ok-output.output) c.in_ok-input.ensures.content c.in_ok-output.ensures.empty c.in_ok-copy.ensures.bytes in
     over c.args.own.now c.args.name.now (bytes_of now) c.store.result (told before) (told opened) (told c.store.new.folder) content c.in_ok-output.ensures.done c.store.ensures.stored
 
 pub returns-clause-not_over : goal.returns-clause-not_over
@@ -23,5 +23,5 @@ returns-clause-not_over g c =
     let rest = g.F.Input.Read.remaining c.in_ok-input.input in
     let held = contents c.in_ok-output.output in
     let now = contents c.copy.new.writer in
-    let content = content_copied c.args.own.now (told before) (told opened) rest held now (g.met.F.Folder.told_inputs before c.in_ok-input.input) (g.met.F.Folder.told_outputs opened c.in_ok-output.output) c.in_ok-input.ensures c.in_ok-output.ensures.empty c.in_ok-copy.ensures.bytes in
+    let content = content_copied c.args.own.now (told before) (told opened) rest held now (g.met.F.Folder.told_inputs before c.in_ok-input.input) (g.met.F.Folder.told_outputs opened c.in_ok-output.output) c.in_ok-input.ensures.content c.in_ok-output.ensures.empty c.in_ok-copy.ensures.bytes in
     not_over c.args.own.now c.args.name.now (bytes_of now) c.store.result (told before) (told opened) (told c.store.new.folder) content c.in_ok-output.ensures.done c.store.ensures.not_stored

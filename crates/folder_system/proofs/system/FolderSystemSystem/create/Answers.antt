@@ -7,6 +7,8 @@ use Rattle.folder_system.specs.Events.{Follows}
 use Rattle.folder_system.specs.Place.{IsPlaced, IsLetGo, IsGivenUp}
 use Rattle.folder_system.proofs.Follows.{then_none}
 use Rattle.folder_system.proofs.Ends.{after_let_go}
+use Rattle.folder_system.proofs.Causes.{cause_behind}
+use Rattle.std.specs.IoError.{error_kind}
 use Rattle.folder_system.proofs.Shown.{begun_shown, becomes_then}
 use Rattle.folder_system.proofs.system.FolderSystemSystem.create.Goals as goal
 
@@ -31,3 +33,8 @@ pub returns-in-Err-clause-given_up : goal.returns-in-Err-clause-given_up
 returns-in-Err-clause-given_up g c =
     let told = g.F.Folder.history in
     after_let_go c.args.self.now.place (IsGivenUp c.args.name.now) (told c.args.self.now.folder) (told c.clear.new.self.folder) (told c.begin.new.folder) c.clear.ensures.gone c.in-Err.ensures.given_up
+
+pub returns-in-Err-clause-cause : goal.returns-in-Err-clause-cause
+returns-in-Err-clause-cause g c =
+    let told = g.F.Folder.history in
+    cause_behind c.args.name.now (error_kind c.in-Err.e) (IsLetGo c.args.self.now.place) (told c.args.self.now.folder) (told c.clear.new.self.folder) (told c.begin.new.folder) c.clear.ensures.gone c.in-Err.ensures.cause
