@@ -42,6 +42,7 @@ impl<'r> RecordViews<'r> {
     pub fn next(&mut self) -> Option<RecView<'r>>
         ensures first { IfSome result (λ view. self.old ≡ rec_viewed view ∷ self.new) }
         ensures ended { result ≡ None → self.old ≡ [] }
+        ensures stays_ended { result ≡ None → self.new ≡ [] }
     {
         if let Some(hist) = self.hist {
             self.hist = None;

@@ -30,6 +30,7 @@ impl<'r> RecordViews<'r> {
         ensures first { IfSome result (λ view.
             recs_left self.old ≡ rec_viewed view ∷ recs_left self.new) }
         ensures ended { result ≡ None → recs_left self.old ≡ [] }
+        ensures stays_ended { result ≡ None → recs_left self.new ≡ [] }
     {
         match self {
             RecordViews::Bsd(views) => views.next(),

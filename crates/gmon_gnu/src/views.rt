@@ -60,6 +60,7 @@ impl<'r> RecordViews<'r> {
     pub fn next(&mut self) -> Option<RecView<'r>>
         ensures first { IfSome result (λ view. self.old ≡ rec_viewed view ∷ self.new) }
         ensures ended { result ≡ None → self.old ≡ [] }
+        ensures stays_ended { result ≡ None → self.new ≡ [] }
     {
         let front = self.front;
         if let Some((arc, behind)) = front.split_first() {
