@@ -14,8 +14,8 @@ use gmon_data::{AddRefusal, Profile};
 use graph_report::write_exact;
 use host_port::MemHost;
 use rows::{
-    EXACT_ROWS, ExactRow, HIDDEN_ROWS, HiddenRow, NAMED_AS_A_CYCLE, ROWS, RULE, Row, SPONTANEOUS,
-    THREE_LINES,
+    CYCLES, EXACT_ROWS, ExactRow, FUNCTIONS, HIDDEN_ROWS, HiddenRow, NAMED_AS_A_CYCLE, ORDERS,
+    RULE, Row, SPONTANEOUS, THREE_LINES,
 };
 use std::alloc::{AllocError, Global};
 use std::process::Abort;
@@ -98,8 +98,20 @@ fn expect_rows(rt: &impl Abort, alloc: Global, rows: &[Row<'_>]) -> Result<(), A
 }
 
 #[test]
-fn entries_of_functions_and_cycles(rt: HostRuntime) -> Result<(), Fail> {
-    expect_rows(&rt, rt.alloc(), ROWS)?;
+fn entries_of_cycles(rt: HostRuntime) -> Result<(), Fail> {
+    expect_rows(&rt, rt.alloc(), CYCLES)?;
+    Ok(())
+}
+
+#[test]
+fn entries_of_functions(rt: HostRuntime) -> Result<(), Fail> {
+    expect_rows(&rt, rt.alloc(), FUNCTIONS)?;
+    Ok(())
+}
+
+#[test]
+fn entries_in_their_order(rt: HostRuntime) -> Result<(), Fail> {
+    expect_rows(&rt, rt.alloc(), ORDERS)?;
     Ok(())
 }
 

@@ -34,7 +34,8 @@ pub const THREE_LINES: [&str; 18] = [
 /// A message, functions, calls, a rate, and the lines that are printed.
 pub type Row<'a> = (&'a str, &'a [Function<'a>], &'a [Calls], u32, &'a [&'a str]);
 
-pub const ROWS: &[Row<'static>] = &[
+/// Cycles.
+pub const CYCLES: &[Row<'static>] = &[
     (
         "a cycle of two, and a function of it that calls itself",
         &THREE,
@@ -82,6 +83,10 @@ pub const ROWS: &[Row<'static>] = &[
             RULE,
         ],
     ),
+];
+
+/// Functions in no cycle.
+pub const FUNCTIONS: &[Row<'static>] = &[
     (
         "a function that is called by itself alone",
         &[("f", 1)],
@@ -167,6 +172,10 @@ pub const ROWS: &[Row<'static>] = &[
         &[],
     ),
     ("no functions", &[], &[], 100, &[]),
+];
+
+/// Orders of lines and of numbers.
+pub const ORDERS: &[Row<'static>] = &[
     (
         "callers by address, and the calls of all of them",
         &[("y", 0), ("x", 0), ("d", 4)],
