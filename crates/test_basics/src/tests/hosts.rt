@@ -1,5 +1,5 @@
+use crate::text_of;
 use host_port::*;
-use std::alloc::{AllocError, Global};
 use std::test::Fail;
 
 const TEN: [u8; 10] = *b"0123456789";
@@ -75,15 +75,6 @@ fn marked_calls_fail(rt: HostRuntime) -> Result<(), Fail> {
     assert_eq!(rt; host.printed(), b"zero".as_slice());
     assert_eq!(rt; host.errors(), b"two".as_slice());
     Ok(())
-}
-
-/// A text of so many bytes, each of which tells where it stands.
-fn text_of(alloc: Global, len: usize) -> Result<Vec<u8>, AllocError> {
-    let mut text = Vec::new(alloc);
-    for i in 0..len {
-        text.push((i % 251) as u8)?;
-    }
-    Ok(text)
 }
 
 /// Puts pieces of a text that have these lengths, and answers how many bytes were left out.

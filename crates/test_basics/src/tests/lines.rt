@@ -1,4 +1,3 @@
-use text_lines::*;
 use elf32_syms::{Image, SegmentList, Symbol, SymbolList};
 use gmon_files::FileReader;
 use gp_base::{
@@ -6,6 +5,7 @@ use gp_base::{
 };
 use host_port::MemHost;
 use std::test::Fail;
+use text_lines::*;
 
 #[test]
 fn counters_that_are_0_have_no_line(rt: HostRuntime) -> Result<(), Fail> {
