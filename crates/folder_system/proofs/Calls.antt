@@ -1,6 +1,6 @@
 -- What calls that follow one another do.
 use Rattle.std.proofs.Common.{◌≡◌, inl, inr, ℕ, zero, suc, Bool, true, false, ◌||◌, List, [], ◌∷◌, ◌++◌, Option, Some, None, refl, sym, ap, subst, ◌∙◌, append_assoc}
-use Rattle.std.specs.Prelude.{bytes_eq, string_bytes}
+use Rattle.std.specs.Prelude.{string_bytes}
 use Rattle.std.specs.declared.io.ErrorKind.{ErrorKind}
 use Rattle.std.specs.declared.io.ErrorKind.TheVariants.{AlreadyExists}
 use Rattle.host_port.specs.Act.{File, with_file, has_file}
@@ -13,7 +13,7 @@ use Rattle.folder_system.specs.Found.{attributes_found}
 use Rattle.folder_system.specs.Names.{numbered}
 use Rattle.folder_system.specs.Events.{Event, Looked, Made, Opened, Removed, Answer, files_after}
 use Rattle.folder_system.specs.Entries.{Spares}
-use Rattle.folder_system.specs.Place.{has_failed_removal, failed_removal, mode_for, gifts_of, gifts_for, tries, finding, IsQuiet, IsAlone, IsOverFound, IsInPlace, IsInstead, IsPlaced, BeginsCarefully, IsMade, IsUnmade, IsUnlike, IsBegun, IsBarred, IsBehindFinding, IsTidy, IsLeft, IsGivenUp, IsRefused}
+use Rattle.folder_system.specs.Place.{has_failed_removal, failed_removal, mode_for, gifts_of, gifts_for, tries, finding, IsQuiet, IsAlone, IsInPlace, IsPlaced, BeginsCarefully, IsMade, IsUnmade, IsBegun, IsBarred, IsBehindFinding, IsTidy, IsGivenUp, IsRefused}
 use Rattle.folder_system.proofs.Follows.{files_append}
 use Rattle.folder_system.proofs.Files.{made_and_removed}
 use Rattle.folder_system.proofs.NameLemmas.{apart}

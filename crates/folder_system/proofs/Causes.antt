@@ -1,5 +1,5 @@
 -- An error comes from a call that failed, or from want of memory.
-use Rattle.std.proofs.Common.{◌≡◌, inl, inr, Bool, true, false, ◌||◌, List, [], ◌∷◌, ◌++◌, Option, Some, None, Ok, Err, refl, sym, ap, ◌∙◌, append_assoc}
+use Rattle.std.proofs.Common.{◌≡◌, inl, inr, Bool, true, false, ◌||◌, List, [], ◌∷◌, ◌++◌, Option, Some, Ok, Err, refl, sym, ap, ◌∙◌, append_assoc}
 use Rattle.std.specs.Prelude.{ℕ, not, Result, IfErr}
 use Rattle.std.specs.IoError.{error_kind}
 use Rattle.std.specs.declared.io.Error.{Error}
@@ -7,8 +7,8 @@ use Rattle.std.specs.declared.io.ErrorKind.{ErrorKind}
 use Rattle.folder_system.specs.declared.folder.Attributes.{Attributes}
 use Rattle.host_port.specs.Act.{File}
 use Rattle.host_port.specs.Outside.{Becomes}
-use Rattle.folder_system.specs.Events.{Event, Made, GaveOwner, GaveMode, Removed, Answer, History, after, files_after, Follows}
-use Rattle.folder_system.specs.Place.{fault_event, has_fault, HasFault, IsExhausted, HasCause, AreTaken, IsRefused, gifts_of, tries}
+use Rattle.folder_system.specs.Events.{Event, Made, History, after, files_after, Follows}
+use Rattle.folder_system.specs.Place.{fault_event, has_fault, HasFault, HasCause, AreTaken, IsRefused, tries}
 use Rattle.folder_system.specs.Kinds.{is_barring, is_taken}
 use Rattle.folder_system.proofs.Follows.{then_calls, one_call, restate}
 

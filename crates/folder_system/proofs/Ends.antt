@@ -1,8 +1,6 @@
 -- How an output ends.
 use Rattle.std.proofs.Common.{◌≡◌, ◌⊎◌, inl, inr, ℕ, Bool, true, false, List, [], ◌∷◌, ◌++◌, Option, Some, None, Ok, Err, refl, sym, ap, subst, ◌∙◌}
-use Rattle.std.specs.Prelude.{Result, IfSome, OnOk, OnErr, is_some, string_bytes}
-use Rattle.std.specs.Io.KnownBytes.{Appends}
-use Rattle.system_host.specs.Told.{bytes_of}
+use Rattle.std.specs.Prelude.{Result, IfSome, OnOk, OnErr, string_bytes}
 use Rattle.std.specs.declared.io.Error.{Error}
 use Rattle.std.specs.declared.io.ErrorKind.{ErrorKind}
 use Rattle.host_port.specs.Act.{File, file_content, with_file}
@@ -14,7 +12,7 @@ use Rattle.folder_system.specs.declared.beside.Taken.TheVariants.{ByName, ByCopy
 use Rattle.folder_system.specs.declared.beside.Naming.TheVariants.{Done, Held}
 use Rattle.folder_system.specs.Names.{folder_of}
 use Rattle.folder_system.specs.Kinds.{is_held}
-use Rattle.folder_system.specs.Events.{Event, Opened, Synced, Renamed, Removed, NamesSynced, History, Answer, after, Follows, files_after, is_stored}
+use Rattle.folder_system.specs.Events.{Event, Opened, Copied, Synced, Renamed, Removed, NamesSynced, History, Answer, after, Follows, files_after, is_stored}
 use Rattle.folder_system.specs.Place.{IsStored, IsNotStored, IsSettling, is_settled, moving, refusing, copying, IsPut, IsHalted, IsHalf, IsOver, IsNotOver, IsMoved, IsHalfCopied, IsTaken, IsLost, IsAway, IsLetGo, IsAfterLetGo, IsWrittenInPlace, has_opening}
 use Rattle.folder_system.proofs.Follows.{then_calls, one_call, one_call_at, then_call, no_calls, restate}
 use Rattle.folder_system.proofs.Files.{content_of_new, if_same}
@@ -53,64 +51,72 @@ module _ (own name bytes : List ℕ) where
 
 -- ---- in place, with what the file beside has
 
-module _ (own name : List ℕ) where
-  pub none_over : (a : Option History) → Follows (IsNotOver own name) a a
-  none_over a = no_calls (IsNotOver own name) a (λ fs. inl refl)
+module _ (unread : Type 0) (own name : List ℕ) where
+  pub none_over : (a : Option History) → unread → Follows (IsNotOver unread own name) a a
+  none_over a failed = no_calls (IsNotOver unread own name) a (λ fs. inl (failed, refl))
 
-  pub not_opened_over : (answer : Answer) (a b : Option History) → Becomes (after (Opened name answer)) a b → Follows (IsNotOver own name) a b
-  not_opened_over answer a b = one_call (IsNotOver own name) (Opened name answer) a b (λ fs. inr (inl (answer, refl)))
+  pub not_opened_over : (kind : ErrorKind) (a b : Option History) → Becomes (after (Opened name (Some kind))) a b → Follows (IsNotOver unread own name) a b
+  not_opened_over kind a b = one_call (IsNotOver unread own name) (Opened name (Some kind)) a b (λ fs. inr (inl (kind, refl)))
 
--- the bytes that were written are those that the file beside had, where that is told, also once the other was opened
+  pub not_copied : (kind : ErrorKind) (a b c : Option History) → Becomes (after (Opened name None)) a b → Becomes (after (Copied (Some kind))) b c → Follows (IsNotOver unread own name) a c
+  not_copied kind a b c opened =
+      then_call (λ fs es. es ≡ Opened name None ∷ []) (IsNotOver unread own name) (Copied (Some kind)) a b c
+      (λ fs es is. inr (inr (inl (kind, ap (λ (l : List Event). l ++ Copied (Some kind) ∷ []) is))))
+      (one_call (λ fs es. es ≡ Opened name None ∷ []) (Opened name None) a b (λ fs. refl) opened)
+
+-- the bytes that were written are those that the file beside had, where that is told, also once they were copied
 pub IsContent : List ℕ → List ℕ → Option History → Option History → Type 0
 IsContent own bytes None b = Unit {0}
 IsContent own bytes (Some h) None = Unit {0}
 IsContent own bytes (Some h) (Some g) = bytes ≡ file_content own h.files
 
-pub content_copied : (own : List ℕ) (a b : Option History) (rest held now : Option (List ℕ)) → (is_some a ≡ true → is_some rest ≡ true) → (is_some b ≡ true → is_some held ≡ true)
-    → IfSome a (λ h. bytes_of rest ≡ file_content own h.files) → IfSome b (λ _. bytes_of held ≡ []) → IfSome rest (Appends held now) → IsContent own (bytes_of now) a b
+pub content_copied : (own : List ℕ) (a b c : Option History) (rest held now : List ℕ) → IfSome a (λ h. rest ≡ file_content own h.files) → IfSome b (λ _. held ≡ []) → Becomes (after (Copied None)) b c → IfSome c (λ _. now ≡ held ++ rest) → IsContent own now a c
 unfolding IsContent
-content_copied own None b rest held now told_rest told_held is empty copied = tt
-content_copied own (Some h) None rest held now told_rest told_held is empty copied = tt
-content_copied own (Some h) (Some g) None held now told_rest told_held is empty copied = absurd (let e : false ≡ true = told_rest refl in cc)
-content_copied own (Some h) (Some g) (Some r) None now told_rest told_held is empty copied = absurd (let e : false ≡ true = told_held refl in cc)
-content_copied own (Some h) (Some g) (Some r) (Some o) None told_rest told_held is empty copied = absurd copied
-content_copied own (Some h) (Some g) (Some r) (Some o) (Some n) told_rest told_held is empty copied = copied ∙ ap (λ (v : List ℕ). v ++ r) empty ∙ is
+content_copied own None b c rest held now is empty done copied = tt
+content_copied own (Some h) b None rest held now is empty done copied = tt
+content_copied own (Some h) None (Some t) rest held now is empty done copied = absurd cc
+content_copied own (Some h) (Some g) (Some t) rest held now is empty done copied = copied ∙ ap (λ (v : List ℕ). v ++ rest) empty ∙ is
 
 module _ (own name bytes : List ℕ) where
-  opened_over : List File → List Event → Type 0
-  opened_over fs es = (es ≡ Opened name None ∷ []) × (bytes ≡ file_content own fs)
+  Opening : List File → List Event → Type 0
+  Opening fs es = (es ≡ Opened name None ∷ []) × (bytes ≡ file_content own fs)
 
-  opened_first : (a : Option History) (g : History) → IsContent own bytes a (Some g) → IfSome a (λ h. opened_over h.files (Opened name None ∷ []))
-  unfolding opened_over IsContent
-  opened_first None g content = tt
-  opened_first (Some h) g content = (refl, content)
+  Copying : List File → List Event → Type 0
+  Copying fs es = (es ≡ Opened name None ∷ Copied None ∷ []) × (bytes ≡ file_content own fs)
 
-  after_opening : (P Q : List File → List Event → Type 0) (a b c : Option History) → IsContent own bytes a b → Becomes (after (Opened name None)) a b
-      → ((fs : List File) (gs : List Event) → bytes ≡ file_content own fs → P (files_after (Opened name None ∷ []) fs) gs → Q fs (Opened name None ∷ gs)) → Follows P b c → Follows Q a c
-  unfolding opened_over
-  after_opening P Q a b None content opened so stored = tt
-  after_opening P Q a None (Some t) content opened so stored = absurd (let e : None ≡ Some stored.was = stored.told in cc)
-  after_opening P Q a (Some g) (Some t) content opened so stored =
-      then_calls opened_over P Q a (Some g) (Some t)
+  copied_first : (a b c : Option History) → IsContent own bytes a c → Becomes (after (Opened name None)) a b → Becomes (after (Copied None)) b c → Follows Copying a c
+  unfolding IsContent Opening Copying
+  copied_first a b None content opened done = tt
+  copied_first a None (Some t) content opened done = absurd cc
+  copied_first None (Some g) (Some t) content opened done = absurd cc
+  copied_first (Some h) (Some g) (Some t) content opened done =
+      then_call Opening Copying (Copied None) (Some h) (Some g) (Some t) (λ fs es p. (ap (λ (l : List Event). l ++ Copied None ∷ []) p.0, p.1))
+      (one_call_at Opening (Opened name None) (Some h) (Some g) (refl, content) opened) done
+
+  after_copying : (P Q : List File → List Event → Type 0) (a b c d : Option History) → IsContent own bytes a c → Becomes (after (Opened name None)) a b → Becomes (after (Copied None)) b c
+      → ((fs : List File) (gs : List Event) → bytes ≡ file_content own fs → P (files_after (Opened name None ∷ Copied None ∷ []) fs) gs → Q fs (Opened name None ∷ Copied None ∷ gs)) → Follows P c d → Follows Q a d
+  unfolding Copying
+  after_copying P Q a b c d content opened done so stored =
+      then_calls Copying P Q a c d
       (λ fs es gs p h. subst (λ (l : List Event). Q fs (l ++ gs)) (sym p.0) (so fs gs p.1 (subst (λ (l : List Event). P (files_after l fs) gs) p.0 h)))
-      (one_call_at opened_over (Opened name None) a (Some g) (opened_first a g content) opened) stored
+      (copied_first a b c content opened done) stored
 
-  over_at : (a b c : Option History) → IsContent own bytes a b → Becomes (after (Opened name None)) a b → Follows (IsStored name bytes) b c → Follows (IsOver own name) a c
-  over_at a b c content opened = after_opening (IsStored name bytes) (IsOver own name) a b c content opened
-      (λ fs gs is h. (h.0, (λ i. Opened name None ∷ h.1 i) ∙ ap (λ (v : List ℕ). copying name v h.0) is, h.2))
+  over_at : (a b c d : Option History) → IsContent own bytes a c → Becomes (after (Opened name None)) a b → Becomes (after (Copied None)) b c → Follows (IsStored name bytes) c d → Follows (IsOver own name) a d
+  over_at a b c d content opened done = after_copying (IsStored name bytes) (IsOver own name) a b c d content opened done
+      (λ fs gs is h. (h.0, (λ i. Opened name None ∷ Copied None ∷ h.1 i) ∙ ap (λ (v : List ℕ). copying name v h.0) is, h.2))
 
-  not_over_at : (a b c : Option History) → IsContent own bytes a b → Becomes (after (Opened name None)) a b → Follows (IsNotStored name bytes) b c → Follows (IsNotOver own name) a c
-  not_over_at a b c content opened = after_opening (IsNotStored name bytes) (IsNotOver own name) a b c content opened
-      (λ fs gs is h. inr (inr (h.0, (λ i. Opened name None ∷ h.1 i) ∙ ap (λ (v : List ℕ). copying name v h.0) is, h.2)))
+  not_over_at : (unread : Type 0) (a b c d : Option History) → IsContent own bytes a c → Becomes (after (Opened name None)) a b → Becomes (after (Copied None)) b c → Follows (IsNotStored name bytes) c d → Follows (IsNotOver unread own name) a d
+  not_over_at unread a b c d content opened done = after_copying (IsNotStored name bytes) (IsNotOver unread own name) a b c d content opened done
+      (λ fs gs is h. inr (inr (inr (h.0, (λ i. Opened name None ∷ Copied None ∷ h.1 i) ∙ ap (λ (v : List ℕ). copying name v h.0) is, h.2))))
 
   module _ {T : Type 0} where
-    pub over : (r : Result T Error) (a b c : Option History) → IsContent own bytes a b → Becomes (after (Opened name None)) a b → OnOk r (Follows (IsStored name bytes) b c) → OnOk r (Follows (IsOver own name) a c)
-    over (Ok x) a b c content opened stored = over_at a b c content opened stored
-    over (Err e) a b c content opened stored = tt
+    pub over : (r : Result T Error) (a b c d : Option History) → IsContent own bytes a c → Becomes (after (Opened name None)) a b → Becomes (after (Copied None)) b c → OnOk r (Follows (IsStored name bytes) c d) → OnOk r (Follows (IsOver own name) a d)
+    over (Ok x) a b c d content opened done stored = over_at a b c d content opened done stored
+    over (Err e) a b c d content opened done stored = tt
 
-    pub not_over : (r : Result T Error) (a b c : Option History) → IsContent own bytes a b → Becomes (after (Opened name None)) a b → OnErr r (Follows (IsNotStored name bytes) b c) → OnErr r (Follows (IsNotOver own name) a c)
-    not_over (Ok x) a b c content opened stored = tt
-    not_over (Err e) a b c content opened stored = not_over_at a b c content opened stored
+    pub not_over : (unread : Type 0) (r : Result T Error) (a b c d : Option History) → IsContent own bytes a c → Becomes (after (Opened name None)) a b → Becomes (after (Copied None)) b c → OnErr r (Follows (IsNotStored name bytes) c d) → OnErr r (Follows (IsNotOver unread own name) a d)
+    not_over unread (Ok x) a b c d content opened done stored = tt
+    not_over unread (Err e) a b c d content opened done stored = not_over_at unread a b c d content opened done stored
 
 -- ---- the whole
 
@@ -124,8 +130,8 @@ module _ (own name bytes : List ℕ) where
   pub moved : (a b c : Option History) → Follows (IsPut own name bytes Done) a b → Follows (IsSettling name true) b c → Follows (IsTaken own name bytes ByName) a c
   moved a b c = moved_at true (IsMoved own name bytes) a b c (λ s t stored settled. record { synced = s; settled = t; is = refl; stored = stored; names = settled })
 
-  pub unsettled : (a b c : Option History) → Follows (IsPut own name bytes Done) a b → Follows (IsSettling name false) b c → Follows (IsLost own name bytes) a c
-  unsettled a b c = moved_at false (λ es. IsLost own name bytes [] es) a b c (λ s t stored failed. inr (record { synced = s; settled = t; is = refl; stored = stored; failed = failed }))
+  pub unsettled : (unread : Type 0) (a b c : Option History) → Follows (IsPut own name bytes Done) a b → Follows (IsSettling name false) b c → Follows (IsLost unread own name bytes) a c
+  unsettled unread a b c = moved_at false (λ es. IsLost unread own name bytes [] es) a b c (λ s t stored failed. inr (record { synced = s; settled = t; is = refl; stored = stored; failed = failed }))
 
   -- what the file beside has once it was synced
   content_of_stored : (s : Answer) (kind : ErrorKind) (fs : List File) → is_stored s ≡ true → file_content own (files_after (refusing own name bytes s kind) fs) ≡ bytes
@@ -144,31 +150,32 @@ module _ (own name bytes : List ℕ) where
       joined : (fs : List File) (es gs : List Event) → (p : IsPut own name bytes Held fs es) → (h : IsOver own name (files_after es fs) gs) → es ++ gs ≡ refusing own name bytes p.0 p.1 ++ copying name bytes h.0
       joined fs es gs p h = (λ i. p.2 i ++ h.1 i) ∙ ap (λ (v : List ℕ). refusing own name bytes p.0 p.1 ++ copying name v h.0) (ap (λ (l : List Event). file_content own (files_after l fs)) p.2 ∙ content_of_stored p.0 p.1 fs p.3)
 
-  pub withdrawn : (answer : Answer) (a b c : Option History) → Follows (IsHalted own name bytes) a b → Becomes (after (Removed own answer)) b c → Follows (IsLost own name bytes) a c
-  withdrawn answer a b c = then_call (IsHalted own name bytes) (IsLost own name bytes) (Removed own answer) a b c
+  pub withdrawn : (unread : Type 0) (answer : Answer) (a b c : Option History) → Follows (IsHalted own name bytes) a b → Becomes (after (Removed own answer)) b c → Follows (IsLost unread own name bytes) a c
+  withdrawn unread answer a b c = then_call (IsHalted own name bytes) (IsLost unread own name bytes) (Removed own answer) a b c
       (λ fs es h. inl (record { front = es; halted = inl h; removed = answer; is = refl }))
 
-  Stopped : List File → List Event → Type 0
-  Stopped fs es = IsHalted own name bytes [] es ⊎ IsHalfCopied own name bytes es
+  module _ (unread : Type 0) where
+    Stopped : List File → List Event → Type 0
+    Stopped fs es = IsHalted own name bytes [] es ⊎ IsHalfCopied unread own name bytes es
 
-  half : (fs : List File) (es gs : List Event) → IsPut own name bytes Held fs es → IsNotOver own name (files_after es fs) gs → Stopped fs (es ++ gs)
-  unfolding Stopped
-  half fs es gs p some = inr (record {
-    synced = p.0;
-    kind = p.1;
-    behind = gs;
-    is = ap (λ (l : List Event). l ++ gs) p.2;
-    stored = p.3;
-    held = p.4;
-    half = subst (λ (v : List ℕ). IsHalf name v gs) (ap (λ (l : List Event). file_content own (files_after l fs)) p.2 ∙ content_of_stored p.0 p.1 fs p.3) some;
-  })
+    half : (fs : List File) (es gs : List Event) → IsPut own name bytes Held fs es → IsNotOver unread own name (files_after es fs) gs → Stopped fs (es ++ gs)
+    unfolding Stopped
+    half fs es gs p some = inr (record {
+      synced = p.0;
+      kind = p.1;
+      behind = gs;
+      is = ap (λ (l : List Event). l ++ gs) p.2;
+      stored = p.3;
+      held = p.4;
+      half = subst (λ (v : List ℕ). IsHalf unread name v gs) (ap (λ (l : List Event). file_content own (files_after l fs)) p.2 ∙ content_of_stored p.0 p.1 fs p.3) some;
+    })
 
-  pub half_copied : (answer : Answer) (a b c d : Option History) → Follows (IsPut own name bytes Held) a b → Follows (IsNotOver own name) b c → Becomes (after (Removed own answer)) c d → Follows (IsLost own name bytes) a d
-  unfolding Stopped
-  half_copied answer a b c d put not =
-      then_call Stopped (IsLost own name bytes) (Removed own answer) a c d
-      (λ fs es h. inl (record { front = es; halted = h; removed = answer; is = refl }))
-      (then_calls (IsPut own name bytes Held) (IsNotOver own name) Stopped a b c half put not)
+    pub half_copied : (answer : Answer) (a b c d : Option History) → Follows (IsPut own name bytes Held) a b → Follows (IsNotOver unread own name) b c → Becomes (after (Removed own answer)) c d → Follows (IsLost unread own name bytes) a d
+    unfolding Stopped
+    half_copied answer a b c d put not =
+        then_call Stopped (IsLost unread own name bytes) (Removed own answer) a c d
+        (λ fs es h. inl (record { front = es; halted = h; removed = answer; is = refl }))
+        (then_calls (IsPut own name bytes Held) (IsNotOver unread own name) Stopped a b c half put not)
 
 -- ---- what stood before was let go
 

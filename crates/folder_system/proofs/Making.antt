@@ -1,7 +1,7 @@
 -- How a file is made beside the named one, or the named one is opened in place.
 use native.Mathlib.Omega.{arith}
-use Rattle.std.proofs.Common.{◌≡◌, inl, inr, ℕ, zero, suc, ◌+◌, Bool, true, false, ◌||◌, List, [], ◌∷◌, ◌++◌, Option, Some, None, Ok, Err, refl, sym, ap, subst, ◌∙◌}
-use Rattle.std.specs.Prelude.{string_bytes, Result, IfOk, IfErr, IfSome, OnOk, OnErr, MatchOption, bit_and, ⊤}
+use Rattle.std.proofs.Common.{◌≡◌, inl, inr, ℕ, suc, ◌+◌, true, false, List, [], ◌∷◌, ◌++◌, Option, Some, None, Ok, Err, refl, sym, ap, subst, ◌∙◌}
+use Rattle.std.specs.Prelude.{Result, IfOk, IfErr, IfSome, OnOk, OnErr, MatchOption, bit_and, ⊤}
 use Rattle.std.specs.IoError.{error_kind}
 use Rattle.std.specs.declared.io.Error.{Error}
 use Rattle.std.specs.declared.io.ErrorKind.{ErrorKind}
@@ -17,7 +17,7 @@ use Rattle.folder_system.specs.Events.{Event, Looked, Tried, Made, GaveOwner, Ga
 use Rattle.std.specs.declared.io.ErrorKind.TheVariants.{AlreadyExists}
 use Rattle.folder_system.specs.Found.{bars_found, attributes_found}
 use Rattle.folder_system.specs.Kinds.{is_barring, is_taken}
-use Rattle.folder_system.specs.Place.{AreTaken, IsQuiet, IsMade, IsUnmade, IsBegun, IsBarred, IsGivenUp, IsInPlace, IsInstead, IsGiven, IsRefused, IsOpened, IsOverFound, IsIn, IsPlaced, IsStanding, finding, gifts_of, tries}
+use Rattle.folder_system.specs.Place.{AreTaken, IsQuiet, IsMade, IsUnmade, IsBegun, IsBarred, IsGivenUp, IsInstead, IsGiven, IsRefused, IsOpened, IsOverFound, IsIn, IsPlaced, IsStanding, finding, gifts_of, tries}
 use Rattle.folder_system.proofs.Follows.{then_calls, one_call, one_call_at, then_call, no_calls, restate}
 use Rattle.folder_system.proofs.Calls.{quiet_quiet, quiet_given_up, given_up, not_made, tries_quiet, begun_given, refused_given_up, barred_quiet, finding_quiet}
 

@@ -31,6 +31,8 @@ pub data Event : Type 0 where
   GaveMode : ℕ → Answer → Event
   -- what stands at a name was made empty, or a new file, to be written in place
   Opened : List ℕ → Answer → Event
+  -- what was left of an input was written to an output
+  Copied : Answer → Event
   -- the file that was opened by a name, to which these bytes were written, was synced
   Synced : List ℕ → List ℕ → Answer → Event
   -- a file was given another name

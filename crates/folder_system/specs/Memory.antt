@@ -1,11 +1,11 @@
 -- What a folder in memory tells.
-use Rattle.std.specs.Prelude.{◌≡◌, ℕ, List, [], ◌∷◌, ◌++◌, map, Option, Some, None, Result, Ok, Err, ⊤, string_bytes}
+use Rattle.std.specs.Prelude.{◌≡◌, List, [], ◌∷◌, ◌++◌, map, Option, Some, None, Result, Ok, Err, ⊤, string_bytes}
 use Rattle.std.specs.Global.{Vec}
 use Rattle.host_port.specs.Act.{File}
 use Rattle.folder_system.specs.declared.mem_folder.MemFile.{MemFile}
 use Rattle.folder_system.specs.declared.mem_folder.Call.{Call}
 use Rattle.folder_system.specs.declared.mem_folder.Call.TheVariants as call
-use Rattle.folder_system.specs.Events.{Event, Looked, Tried, Made, GaveOwner, GaveMode, Opened, Synced, Renamed, Removed, NamesSynced, History}
+use Rattle.folder_system.specs.Events.{Event, Looked, Tried, Made, GaveOwner, GaveMode, Opened, Copied, Synced, Renamed, Removed, NamesSynced, History}
 
 abbrev pub file_of : MemFile → File
 file_of file = (string_bytes file.name, file.bytes.items)
@@ -20,6 +20,7 @@ event_of (call.Made name mode answer) = Made (string_bytes name) mode answer
 event_of (call.GaveOwner owner group answer) = GaveOwner owner group answer
 event_of (call.GaveMode mode answer) = GaveMode mode answer
 event_of (call.Opened name answer) = Opened (string_bytes name) answer
+event_of (call.Copied answer) = Copied answer
 event_of (call.Synced name bytes answer) = Synced (string_bytes name) bytes.items answer
 event_of (call.Renamed from to answer) = Renamed (string_bytes from) (string_bytes to) answer
 event_of (call.Removed name answer) = Removed (string_bytes name) answer

@@ -15,7 +15,7 @@ use Rattle.folder_system.specs.declared.beside.Taken.TheVariants.{ByName, ByCopy
 use Rattle.folder_system.specs.Names.{folder_of, numbered}
 use Rattle.folder_system.specs.Found.{bars_found, attributes_found}
 use Rattle.folder_system.specs.Kinds.{is_barring, is_taken, is_held, is_no_names_sync}
-use Rattle.folder_system.specs.Events.{Event, Looked, Tried, Made, GaveOwner, GaveMode, Opened, Synced, Renamed, Removed, NamesSynced, Answer, History, Follows, files_after, is_stored}
+use Rattle.folder_system.specs.Events.{Event, Looked, Tried, Made, GaveOwner, GaveMode, Opened, Copied, Synced, Renamed, Removed, NamesSynced, Answer, History, Follows, files_after, is_stored}
 use Rattle.folder_system.specs.Entries.{Spares}
 
 abbrev pub failed_removal : Event → Bool
@@ -236,7 +236,7 @@ refusing own name bytes synced kind = Synced own bytes synced ∷ Renamed own na
 
 -- the named file was written in place with what was written beside
 abbrev pub copying : List ℕ → List ℕ → Answer → List Event
-copying name bytes stored = Opened name None ∷ Synced name bytes stored ∷ []
+copying name bytes stored = Opened name None ∷ Copied None ∷ Synced name bytes stored ∷ []
 
 -- the file beside was synced and has the name, or the name is held
 abbrev pub IsPut : List ℕ → List ℕ → List ℕ → Naming → List File → List Event → Type 0
@@ -279,35 +279,44 @@ pub record IsUnnamed (own name bytes : List ℕ) (es : List Event) : Type 0 wher
   pub stored : is_stored synced ≡ true
   pub free : is_held kind ≡ false
 
--- the file beside couldn't be read, or the named file was opened, or that failed, and no more
-abbrev pub IsHalf : List ℕ → List ℕ → List Event → Type 0
-IsHalf name bytes es = (es ≡ []) ⊎ ((answer : Answer) × (es ≡ Opened name answer ∷ []))
+-- a folder answered an error where the file was opened to be read
+pub record IsUnread {F : Type 0} (answers : F → List ℕ → Answer → Type 0) (name : List ℕ) : Type 0 where
+  pub folder : F
+  pub kind : ErrorKind
+  pub failed : answers folder name (Some kind)
+
+-- one call failed, the last: the file beside was opened to be read, the named file opened to be written, the one
+-- copied into the other, or that one synced
+abbrev pub IsHalf : Type 0 → List ℕ → List ℕ → List Event → Type 0
+IsHalf unread name bytes es = (unread × (es ≡ []))
+    ⊎ ((kind : ErrorKind) × (es ≡ Opened name (Some kind) ∷ []))
+    ⊎ ((kind : ErrorKind) × (es ≡ Opened name None ∷ Copied (Some kind) ∷ []))
     ⊎ ((answer : Answer) × (es ≡ copying name bytes answer) × (is_stored answer ≡ false))
 
 -- it was refused a name that is held, and writing in place failed
-pub record IsHalfCopied (own name bytes : List ℕ) (es : List Event) : Type 0 where
+pub record IsHalfCopied (unread : Type 0) (own name bytes : List ℕ) (es : List Event) : Type 0 where
   pub synced : Answer
   pub kind : ErrorKind
   pub behind : List Event
   pub is : es ≡ refusing own name bytes synced kind ++ behind
   pub stored : is_stored synced ≡ true
   pub held : is_held kind ≡ true
-  pub half : IsHalf name bytes behind
+  pub half : IsHalf unread name bytes behind
 
 -- the named file was written in place with what the other one has
 abbrev pub IsOver : List ℕ → List ℕ → List File → List Event → Type 0
 IsOver own name fs es = (answer : Answer) × (es ≡ copying name (file_content own fs) answer) × (is_stored answer ≡ true)
 
-abbrev pub IsNotOver : List ℕ → List ℕ → List File → List Event → Type 0
-IsNotOver own name fs es = IsHalf name (file_content own fs) es
+abbrev pub IsNotOver : Type 0 → List ℕ → List ℕ → List File → List Event → Type 0
+IsNotOver unread own name fs es = IsHalf unread name (file_content own fs) es
 
 abbrev pub IsHalted : List ℕ → List ℕ → List ℕ → List File → List Event → Type 0
 IsHalted own name bytes fs es = IsUnsynced own bytes es ⊎ IsUnnamed own name bytes es
 
 -- it was halted, and the file beside was to be taken away
-pub record IsWithdrawn (own name bytes : List ℕ) (es : List Event) : Type 0 where
+pub record IsWithdrawn (unread : Type 0) (own name bytes : List ℕ) (es : List Event) : Type 0 where
   pub front : List Event
-  pub halted : IsHalted own name bytes [] front ⊎ IsHalfCopied own name bytes front
+  pub halted : IsHalted own name bytes [] front ⊎ IsHalfCopied unread own name bytes front
   pub removed : Answer
   pub is : es ≡ front ++ Removed own removed ∷ []
 
@@ -319,8 +328,8 @@ pub record IsUnsettled (own name bytes : List ℕ) (es : List Event) : Type 0 wh
   pub stored : is_stored synced ≡ true
   pub failed : is_settled settled ≡ false
 
-abbrev pub IsLost : List ℕ → List ℕ → List ℕ → List File → List Event → Type 0
-IsLost own name bytes fs es = IsWithdrawn own name bytes es ⊎ IsUnsettled own name bytes es
+abbrev pub IsLost : Type 0 → List ℕ → List ℕ → List ℕ → List File → List Event → Type 0
+IsLost unread own name bytes fs es = IsWithdrawn unread own name bytes es ⊎ IsUnsettled own name bytes es
 
 -- the file beside was to be taken away
 abbrev pub IsAway : List ℕ → List File → List Event → Type 0
@@ -346,12 +355,12 @@ IsAnyPlaced name None fs es = ⊥
 IsAnyPlaced name (Some place) fs es = IsPlaced name place fs es
 
 -- an output ended, or failed to
-abbrev pub IsEnded : Option Place → List ℕ → Bool → List File → List Event → Type 0
-IsEnded None bytes ok fs es = (es ≡ []) × (ok ≡ true)
-IsEnded (Some (StandsBeside beside)) bytes true fs es = (taken : Taken) × IsTaken (string_bytes beside.own) (string_bytes beside.name) bytes taken fs es
-IsEnded (Some (StandsBeside beside)) bytes false fs es = IsLost (string_bytes beside.own) (string_bytes beside.name) bytes fs es
-IsEnded (Some (In held)) bytes true fs es = IsStored (string_bytes held) bytes fs es
-IsEnded (Some (In held)) bytes false fs es = IsNotStored (string_bytes held) bytes fs es
+abbrev pub IsEnded : (List ℕ → Type 0) → Option Place → List ℕ → Bool → List File → List Event → Type 0
+IsEnded unread None bytes ok fs es = (es ≡ []) × (ok ≡ true)
+IsEnded unread (Some (StandsBeside beside)) bytes true fs es = (taken : Taken) × IsTaken (string_bytes beside.own) (string_bytes beside.name) bytes taken fs es
+IsEnded unread (Some (StandsBeside beside)) bytes false fs es = IsLost (unread (string_bytes beside.own)) (string_bytes beside.own) (string_bytes beside.name) bytes fs es
+IsEnded unread (Some (In held)) bytes true fs es = IsStored (string_bytes held) bytes fs es
+IsEnded unread (Some (In held)) bytes false fs es = IsNotStored (string_bytes held) bytes fs es
 
 -- ---- whether the files are still told
 

@@ -3,7 +3,7 @@
 ghost use Rattle.std.specs.Prelude.{◌≡◌, string_bytes, true, false, IfOk, OnErr, OnOk};
 ghost use Rattle.system_host.specs.Told.{bytes_of};
 ghost use Rattle.folder_system.specs.Events.{Follows};
-ghost use Rattle.folder_system.specs.Place.{IsAway, IsHalted, IsLost, IsNotOver, IsNotStored, IsOver, IsPut, IsSettling, IsStored, IsTaken};
+ghost use Rattle.folder_system.specs.Place.{IsAway, IsHalted, IsLost, IsNotOver, IsNotStored, IsOver, IsPut, IsSettling, IsStored, IsTaken, IsUnread};
 
 use crate::folder::Folder;
 use crate::kinds::{cannot_sync, cannot_sync_names, holds_name};
@@ -47,8 +47,9 @@ impl Beside {
     pub fn take_place<F: Folder>(self, folder: &mut F, output: &F::Output) -> io::Result<Taken>
         ensures taken { IfOk result (λ taken. Follows (IsTaken (string_bytes self.own) (string_bytes self.name)
             (bytes_of (F.Output.contents output.now)) taken) (F.history folder.old) (F.history folder.new)) }
-        ensures lost { OnErr result (Follows (IsLost (string_bytes self.own) (string_bytes self.name)
-            (bytes_of (F.Output.contents output.now))) (F.history folder.old) (F.history folder.new)) }
+        ensures lost { OnErr result (Follows (IsLost (IsUnread F.answers (string_bytes self.own))
+            (string_bytes self.own) (string_bytes self.name) (bytes_of (F.Output.contents output.now)))
+            (F.history folder.old) (F.history folder.new)) }
     {
         let Beside { own, name } = self;
         match put(folder, output, own.as_str(), name.as_str()) {
@@ -97,15 +98,15 @@ fn put<F: Folder>(folder: &mut F, output: &F::Output, own: &str, name: &str) -> 
     }
 }
 
-/// Writes the named file in place with what the other one has. It isn't inlined: `copy` has its piece in the frame.
-#[inline(never)]
+/// Writes the named file in place with what the other one has.
 fn copy_over<F: Folder>(folder: &mut F, own: &str, name: &str) -> io::Result<()>
     ensures over { OnOk result (Follows (IsOver own.now name.now) (F.history folder.old) (F.history folder.new)) }
-    ensures not_over { OnErr result (Follows (IsNotOver own.now name.now) (F.history folder.old) (F.history folder.new)) }
+    ensures not_over { OnErr result (Follows (IsNotOver (IsUnread F.answers own.now) own.now name.now)
+        (F.history folder.old) (F.history folder.new)) }
 {
     let mut input = folder.open(own)?;
     let mut output = folder.open_over(name)?;
-    io::copy(&mut input, &mut output)?;
+    folder.copy(&mut input, &mut output)?;
     store(folder, name, &output)
 }
 

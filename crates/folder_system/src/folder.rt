@@ -1,11 +1,11 @@
 //! What is asked of a folder: each method is one call.
 
-ghost use Rattle.std.specs.Prelude.{◌≡◌, ℕ, List, [], ◌∷◌, Option, Some, true, false, is_some, IfOk, IfSome, OnOk};
+ghost use Rattle.std.specs.Prelude.{◌≡◌, ℕ, List, [], ◌∷◌, ◌++◌, Option, Some, true, false, is_some, IfOk, IfSome, OnOk};
 ghost use Rattle.host_port.specs.Act.{file_content, has_file};
 ghost use Rattle.host_port.specs.Outside.{Becomes};
 ghost use Rattle.system_host.specs.Told.{bytes_of};
 ghost use Rattle.folder_system.specs.Found.{bars_found, attributes_found};
-ghost use Rattle.folder_system.specs.Events.{History, Answer, Looked, Tried, Made, GaveOwner, GaveMode, Opened, Synced, Renamed, Removed, NamesSynced, after, answer_of, found_by};
+ghost use Rattle.folder_system.specs.Events.{History, Answer, Looked, Tried, Made, GaveOwner, GaveMode, Opened, Copied, Synced, Renamed, Removed, NamesSynced, after, answer_of, found_by};
 
 use std::io;
 use std::io::{Read, Write};
@@ -104,6 +104,12 @@ pub trait Folder {
         ensures done { Becomes (after (Opened name.now (answer_of result))) (history self.old) (history self.new) }
         ensures empty { IfOk result (λ output. IfSome (history self.new)
             (λ _. bytes_of (Self.Output.contents output) ≡ [])) };
+
+    /// Writes what is left of an input to an output. How much of it was written before an error isn't said.
+    fn copy(&mut self, input: &mut Self::Input, output: &mut Self::Output) -> io::Result<()>
+        ensures done { Becomes (after (Copied (answer_of result))) (history self.old) (history self.new) }
+        ensures all { OnOk result (IfSome (history self.new) (λ _. bytes_of (Self.Output.contents output.new)
+            ≡ bytes_of (Self.Output.contents output.old) ++ bytes_of (Self.Input.remaining input.old))) };
 
     /// Puts on the disk what was written to the output that was opened by this name.
     fn sync(&mut self, name: &str, output: &Self::Output) -> io::Result<()>

@@ -1,9 +1,9 @@
 //! A folder in memory, which tells all that stands in it: each call can be made to fail.
 
-ghost use Rattle.std.specs.Prelude.{◌≡◌, ◌<◌, [], length, true, false, refl, string_bytes, if◌then◌else◌, IfOk, IfSome, MatchOption, OnErr, OnOk, ⊤};
+ghost use Rattle.std.specs.Prelude.{◌≡◌, ◌<◌, [], ◌++◌, drop, length, true, false, refl, string_bytes, if◌then◌else◌, IfOk, IfSome, MatchOption, OnErr, OnOk, ⊤};
 ghost use Rattle.host_port.specs.Act.{file_content, has_file, with_file};
 ghost use Rattle.host_port.specs.Entries.{place_of, bytes_at};
-ghost use Rattle.folder_system.specs.Events.{Looked, Tried, Made, GaveOwner, GaveMode, Opened, Synced, Renamed, Removed, NamesSynced, answer_of, found_by, is_stored, without};
+ghost use Rattle.folder_system.specs.Events.{Looked, Tried, Made, GaveOwner, GaveMode, Opened, Copied, Synced, Renamed, Removed, NamesSynced, answer_of, found_by, is_stored, without};
 ghost use Rattle.folder_system.specs.Memory.{event_of, files_of, told, Noted};
 
 use crate::folder::{Attributes, Folder, Found};
@@ -37,6 +37,7 @@ enum Call {
     GaveOwner(u32, u32, Option<ErrorKind>),
     GaveMode(u32, Option<ErrorKind>),
     Opened(String, Option<ErrorKind>),
+    Copied(Option<ErrorKind>),
     Synced(String, Vec<u8>, Option<ErrorKind>),
     Renamed(String, String, Option<ErrorKind>),
     Removed(String, Option<ErrorKind>),
@@ -55,6 +56,8 @@ pub struct MemFolder {
     fail_from: u64,
     fail_until: u64,
     kind: ErrorKind,
+    // What a rename is answered where names are held.
+    held: Option<ErrorKind>,
 }
 
 impl MemFolder {
@@ -71,6 +74,7 @@ impl MemFolder {
             fail_from: 0,
             fail_until: 0,
             kind: ErrorKind::Other,
+            held: None,
         }
     }
 
@@ -91,6 +95,11 @@ impl MemFolder {
         self.fail_from = from;
         self.fail_until = until;
         self.kind = kind;
+    }
+
+    /// Names are held from now on: each rename fails with this kind of error.
+    pub fn hold(&mut self, kind: ErrorKind) {
+        self.held = Some(kind);
     }
 
     /// How many calls there were.
@@ -132,6 +141,14 @@ impl MemFolder {
             Err(io::Error::from(self.kind))
         } else {
             Ok(())
+        }
+    }
+
+    /// Whether a file can have another name.
+    fn lets_go(&self) -> io::Result<()> {
+        match self.held {
+            Some(kind) => Err(io::Error::from(kind)),
+            None => Ok(()),
         }
     }
 
@@ -182,6 +199,17 @@ impl MemFolder {
         Ok(Vec::new(self.alloc))
     }
 
+    fn copied(&mut self, input: &mut Cursor<Vec<u8>>, output: &mut Vec<u8>) -> io::Result<()>
+        ensures files { self.new.files ≡ self.old.files }
+        ensures same { self.new.trace ≡ self.old.trace }
+        ensures all { OnOk result (output.new.items
+            ≡ output.old.items ++ drop input.old.pos input.old.inner.items) }
+    {
+        self.call()?;
+        io::copy(input, output)?;
+        Ok(())
+    }
+
     /// What was written stands in the file, also where there is nothing to sync.
     fn synced(&mut self, name: &str, bytes: &[u8]) -> io::Result<()>
         ensures files { files_of self.new.files.items ≡ (if is_stored (answer_of result)
@@ -216,6 +244,7 @@ impl MemFolder {
         ensures same { self.new.trace ≡ self.old.trace }
     {
         self.call()?;
+        self.lets_go()?;
         if from == to {
             return Err(io::Error::from(ErrorKind::InvalidInput));
         }
@@ -459,6 +488,13 @@ impl Folder for MemFolder {
         let done = self.opened(name);
         let call = Call::opened(self.alloc, name, answer_of(&done));
         self.note(call);
+        done
+    }
+
+    fn copy(&mut self, input: &mut Cursor<Vec<u8>>, output: &mut Vec<u8>) -> io::Result<()> {
+        let done = self.copied(input, output);
+        let call = Call::Copied(answer_of(&done));
+        self.note(Ok(call));
         done
     }
 

@@ -185,6 +185,28 @@ fn what_an_error_says_decides(rt: HostRuntime) -> Result<(), Fail> {
 }
 
 #[test]
+fn each_call_at_a_held_name_fails_in_turn(rt: HostRuntime) -> Result<(), Fail> {
+    let alloc = rt.alloc();
+    for call in 0..12 {
+        let mut folder = folder_of(alloc, &["f"], OLD)?;
+        folder.hold(ErrorKind::ResourceBusy);
+        folder.fail(call, call + 1, ErrorKind::StorageFull);
+        let (folder, closed) = outputs(alloc, folder, &["f"]);
+        // Behind the rename, the seventh, come open_over, copy, sync and remove.
+        let (bytes, done, files): (&[u8], bool, usize) = match call {
+            0..8 => (b"old", false, 1),
+            8 | 9 => (b"", false, 1),
+            10 => (b"new", true, 2),
+            _ => (b"new", true, 1),
+        };
+        assert_eq!(rt; closed, usize::from(done), "{call}");
+        assert_eq!(rt; folder.bytes("f"), Some(bytes), "{call}");
+        assert_eq!(rt; folder.len(), files, "{call}");
+    }
+    Ok(())
+}
+
+#[test]
 fn what_stands_there_decides(rt: HostRuntime) -> Result<(), Fail> {
     let alloc = rt.alloc();
     let in_place = [

@@ -1,5 +1,5 @@
-//! The folders and the outputs of the system: each method is one call of std. What takes a name isn't inlined: std
-//! keeps it in some 4 KiB of the frame.
+//! The folders and the outputs of the system: each method is one call of std. Where std keeps names or what it copies in
+//! the frame, it isn't inlined.
 
 ghost use Rattle.std.specs.Prelude.{None, ⊤};
 ghost use Rattle.std.specs.Io.{WritesAtMost};
@@ -39,7 +39,6 @@ impl Folder for RealFolder {
 
     ghost told_outputs = { λ f output told. Prim.cc };
 
-    #[inline(never)]
     fn open(&self, name: &str) -> io::Result<File> {
         fs::open(&self.rt, name)
     }
@@ -53,13 +52,11 @@ impl Folder for RealFolder {
         }
     }
 
-    #[inline(never)]
     fn try_open(&mut self, name: &str) -> io::Result<()> {
         File::options().write(true).open(&self.rt, name)?;
         Ok(())
     }
 
-    #[inline(never)]
     fn create_new(&mut self, name: &str, mode: u32) -> io::Result<File> {
         OpenOptions::new()
             .write(true)
@@ -76,9 +73,14 @@ impl Folder for RealFolder {
         output.set_permissions(Permissions::from_mode(mode))
     }
 
-    #[inline(never)]
     fn open_over(&mut self, name: &str) -> io::Result<File> {
         fs::create(&self.rt, name)
+    }
+
+    #[inline(never)]
+    fn copy(&mut self, input: &mut File, output: &mut File) -> io::Result<()> {
+        io::copy(input, output)?;
+        Ok(())
     }
 
     fn sync(&mut self, _name: &str, output: &File) -> io::Result<()> {
@@ -95,7 +97,6 @@ impl Folder for RealFolder {
         fs::remove_file(&self.rt, name)
     }
 
-    #[inline(never)]
     fn sync_names(&mut self, folder: &str) -> io::Result<()> {
         fs::open(&self.rt, folder)?.sync_all()
     }

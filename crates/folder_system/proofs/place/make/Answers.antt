@@ -1,5 +1,5 @@
 use native.Mathlib.Omega.{arith}
-use Rattle.std.proofs.Common.{◌≡◌, List, ℕ, true, false, [], ◌∷◌, None, Some, inr, refl, sym, ap, subst, ◌∙◌}
+use Rattle.std.proofs.Common.{◌≡◌, List, ℕ, true, false, [], Some, inr, sym, ap, subst, ◌∙◌}
 use Rattle.std.specs.IoError.{error_kind}
 use Rattle.folder_system.specs.Events.{Follows, Made}
 use Rattle.folder_system.specs.Kinds.{is_barring, is_taken}

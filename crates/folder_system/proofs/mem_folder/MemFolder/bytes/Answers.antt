@@ -1,7 +1,4 @@
-use Rattle.std.proofs.Common.{sym, ap, refl, ◌∙◌}
-use Rattle.host_port.proofs.EntryLemmas.{missing}
-use Rattle.folder_system.specs.declared.mem_folder.MemFile.{MemFile}
-use Rattle.folder_system.specs.Memory.{files_of}
+use Rattle.std.proofs.Common.{refl, ◌∙◌}
 use Rattle.folder_system.proofs.MemoryLemmas.{content_in, none_of}
 use Rattle.folder_system.proofs.mem_folder.MemFolder.bytes.Goals as goal
 

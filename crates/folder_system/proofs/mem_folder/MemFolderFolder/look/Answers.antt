@@ -2,7 +2,7 @@ use Rattle.std.proofs.Common.{Option}
 use Rattle.folder_system.specs.declared.folder.Found.{Found}
 use Rattle.std.specs.Global.{Vec}
 use Rattle.folder_system.specs.declared.mem_folder.MemFile.{MemFile}
-use Rattle.std.proofs.Common.{ap, refl}
+use Rattle.std.proofs.Common.{ap}
 use Rattle.folder_system.specs.Events.{Looked, found_by}
 use Rattle.folder_system.specs.Memory.{files_of}
 use Rattle.folder_system.proofs.MemoryLemmas.{told_after}

@@ -1,4 +1,4 @@
-use Rattle.std.proofs.Common.{ap, refl}
+use Rattle.std.proofs.Common.{refl}
 use Rattle.folder_system.specs.Events.{Renamed, Answer, answer_of}
 use Rattle.folder_system.specs.Memory.{files_of}
 use Rattle.folder_system.proofs.MemoryLemmas.{told_after, by_answer}

@@ -1,6 +1,6 @@
 use Rattle.std.specs.Global.{Vec}
 use Rattle.folder_system.specs.declared.mem_folder.MemFile.{MemFile}
-use Rattle.std.proofs.Common.{ap, refl}
+use Rattle.std.proofs.Common.{ap}
 use Rattle.folder_system.specs.Events.{Tried, Answer, answer_of}
 use Rattle.folder_system.specs.Memory.{files_of}
 use Rattle.folder_system.proofs.MemoryLemmas.{told_after, by_kept, tried_files}
