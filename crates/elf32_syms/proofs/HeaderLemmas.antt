@@ -1,6 +1,6 @@
 -- What is refused behind the header.
-use Rattle.std.proofs.Common.{◌≡◌, ℕ, Bool, true, false, cond, not, ◌&&◌, eqb, List, length, Option, Some, None, Result, Err, refl, subst, sym}
-use Rattle.std.specs.Prelude.{IfSome, find, nat_lt, slice_get, ◌+◌, ◌-◌, ◌==◌, ◌||◌}
+use Rattle.std.proofs.Common.{◌≡◌, ℕ, Bool, true, false, cond, not, List, length, Option, Some, None, refl, subst, sym}
+use Rattle.std.specs.Prelude.{IfSome, find, nat_lt, slice_get, ◌+◌, ◌==◌, ◌||◌}
 use Rattle.std.specs.Option.{option_and_then, option_map, option_or}
 use Rattle.gp_base.specs.declared.limits.TheConstants.{MAX_SYMBOLS}
 use Rattle.elf32_syms.specs.declared.refusal.ElfRefusal.{ElfRefusal}
@@ -73,7 +73,7 @@ no_header : (due : Option ElfRefusal) → IfSome due (λ first. first ≡ OutOfM
 no_header None is = tt
 no_header (Some first) is = subst (λ (r : ElfRefusal). is_of_header r ≡ false) (sym is) refl
 
--- where the header isn't refused, or for want of memory alone, so is the file
+-- where nothing is wrong with the header, the file is refused for something else
 pub behind_header : (bs : List ℕ) → IfSome (header_refusal bs) (λ first. first ≡ OutOfMemory) → IsBehind (elf_refusal bs)
 unfolding elf_refusal
 behind_header bs is =

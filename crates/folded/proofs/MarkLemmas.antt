@@ -162,13 +162,6 @@ pub moved_over : (passed n : ℕ) (old new : Stack) (a b c : List Mark) → take
 moved_over passed n old new a b c same one two =
     moved_then passed (drop n old) [] [] (drop n new) old new a b c one two (λ g. omega (arith, split_places old n g, split_places new n g, ap {B = ℕ} (λ (s : Stack). places_in s g) same))
 
-pub on_after : (passed : ℕ) (old new : Stack) (a b : List Mark) → HaveMoved passed old new a b → AreOn passed old a → AreOn passed new b
-on_after passed old new a b moved on = record {
-  places = λ g below. (let low : g < length a = omega (arith, below, moved.same) in omega (arith, (moved.moved g low).places, on.places g low));
-  since = λ g below. all_since passed old new a b moved g below;
-  few = λ g below. (let low : g < length a = omega (arith, below, moved.same) in omega (arith, (moved.moved g low).counted, on.few g low));
-}
-
 -- ---- the lines so far
 
 pub below_drop : (functions n : ℕ) (stack : Stack) → AreBelow functions stack → AreBelow functions (drop n stack)

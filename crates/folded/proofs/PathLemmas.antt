@@ -17,9 +17,6 @@ pub record Begins (nodes : Nodes) (node front : ℕ) : Type 0 where
   pub rest : Stack
   pub is : stack_of_node nodes node ≡ stack_of_node nodes front ++ rest
 
-pub begins_itself : (nodes : Nodes) (node : ℕ) → node ≤ length nodes → Begins nodes node node
-begins_itself nodes node inside = record { inside = inside; rest = []; is = sym (append-nil (stack_of_node nodes node)) }
-
 pub short_stack : (t : Tree) → (n : ℕ) → n ≤ length t.nodes.items → length (stack_of_node t.nodes.items n) ≤ 129
 short_stack t n inside = (All-get_or (IsShort t.functions) (node_stacks t.nodes.items) n [] (omega (arith, inside, length_stacks t.nodes.items)) t.is_tree.stacks).0
 
@@ -43,16 +40,6 @@ shared_front nodes p node front len path within here b =
     let same : stack_of_node nodes front ≡ first = ap (λ (n : ℕ). stack_of_node nodes n) (sym here) ∙ (path.stacks len within).1 in
     let whole : stack_of_node nodes node ≡ first ++ b.rest = b.is ∙ ap (λ (s : Stack). s ++ b.rest) same in
     (omega (arith, ap (λ (s : Stack). length s) whole, length-append first b.rest, long), sym (ap (take len) whole ∙ take_at first b.rest len long))
-
--- a path that ends before
-pub path_back : (nodes : Nodes) (p : Path) (len : ℕ) → len ≤ p.len → IsPath nodes p → IsPath nodes (record p { len = len })
-path_back nodes p len within path = record {
-  few = omega (arith, within, path.few);
-  functions = path.functions;
-  numbers = path.numbers;
-  first = path.first;
-  stacks = λ k le. path.stacks k (omega (arith, le, within));
-}
 
 -- one node more
 pub path_down : (t : Tree) → (p : Path) (node : ℕ) (f : Option ℕ) → 0 < node → node ≤ length t.nodes.items → f ≡ (node_of t.nodes.items node).1 → IsPath t.nodes.items p → functions_of p ≡ stack_of_node t.nodes.items (node_of t.nodes.items node).0

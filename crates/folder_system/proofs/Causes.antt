@@ -55,10 +55,6 @@ module _ (name : List ℕ) where
   exhausted mode n a b all = restate (AreTaken name mode n) (HasFault name) a b (λ fs es is. inr (record { mode = mode; number = n; all = all; front = []; is = is }))
 
   module _ (kind : ErrorKind) where
-    -- a call that failed
-    pub failed_call : (e : Event) (a b : Option History) → fault_event e ≡ true → Becomes (after e) a b → HasCause name kind a b
-    failed_call e a b is done = inr (at_fault e a b is done)
-
     -- calls, and then a cause
     pub cause_behind : (P : List File → List Event → Type 0) (a b c : Option History) → Follows P a b → HasCause name kind b c → HasCause name kind a c
     cause_behind P a b c front (inl memory) = inl memory

@@ -181,8 +181,3 @@ module _ (own name bytes : List ℕ) where
 
 pub after_let_go : (old : Option Place) (P : List File → List Event → Type 0) (a b c : Option History) → Follows (IsLetGo old) a b → Follows P b c → Follows (IsAfterLetGo old P) a c
 after_let_go old P a b c = then_calls (IsLetGo old) P (IsAfterLetGo old P) a b c (λ fs es gs gone so. record { front = es; behind = gs; is = refl; gone = gone; so = so })
-
--- ---- the named file was written in place
-
-pub copied_over : (b : Beside) (bytes : List ℕ) (a c : Option History) → Follows (IsTaken (string_bytes b.own) (string_bytes b.name) bytes ByCopy) a c → Follows (IsWrittenInPlace (Some (StandsBeside b))) a c
-copied_over b bytes a c = restate (IsTaken (string_bytes b.own) (string_bytes b.name) bytes ByCopy) (IsWrittenInPlace (Some (StandsBeside b))) a c (λ fs es t. ap has_opening t.is)

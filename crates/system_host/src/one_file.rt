@@ -1,6 +1,6 @@
 //! A system in memory.
 
-ghost use Rattle.std.specs.Prelude.{◌≡◌, [], ◌∷◌, Option, Some, None, option_map, is_some, refl, string_bytes, IfOk, IfSome, OnOk, OnErr, false};
+ghost use Rattle.std.specs.Prelude.{◌≡◌, [], ◌∷◌, Option, Some, None, option_map, is_ok, is_some, refl, string_bytes, IfOk, IfSome, OnOk, OnErr, false, true};
 ghost use Rattle.std.specs.Io.{WritesAtMost};
 ghost use Rattle.host_port.specs.Act.{Create, Write as Put, Close, disk_after, file_content};
 ghost use Rattle.host_port.specs.Outside.{Becomes};
@@ -112,7 +112,13 @@ impl System for OneFile {
         Ok(Vec::new(self.alloc))
     }
 
-    fn close(&mut self, output: Vec<u8>) -> io::Result<()> {
+    fn close(&mut self, output: Vec<u8>) -> io::Result<()>
+        ensures done { Becomes (disk_after (Put (bytes_of (Some output.items)) ∷ Close ∷ []))
+            (Some (disk_of self.old)) (Some (disk_of self.new)) }
+        ensures ok { is_ok result ≡ true }
+        ensures out { Some self.new.out ≡ Some self.old.out }
+        ensures err { Some self.new.err ≡ Some self.old.err }
+    {
         if self.is_writing {
             self.bytes = output;
             self.is_writing = false;

@@ -12,8 +12,8 @@ use std::io::{Read, Write};
 /// The files, the output and the error output of a system.
 ///
 /// Contracts see what a system tells of them: its files with the name of the one that is being written,
-/// what was printed on each output, and which calls made and closed a file, and whether they succeeded. It may stop telling its files at
-/// any call that makes or closes one, and then never tells them again. While it tells them it tells what is
+/// what was printed on each output, and which calls made and closed a file, and whether they succeeded. It may stop
+/// telling its files at any call that makes or closes one, and then never tells them again. While it tells them it tells what is
 /// left of each input and what was written to each output. The bytes that were written are in the file once
 /// it is closed.
 pub trait System {
