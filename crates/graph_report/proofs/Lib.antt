@@ -9,6 +9,7 @@ pub mod RowLemmas
 pub mod NumberLemmas
 pub mod PlaceLemmas
 pub mod NamedLemmas
+pub mod RangeLemmas
 pub mod PrintLemmas
 pub mod TextLemmas
 pub mod ReportLemmas

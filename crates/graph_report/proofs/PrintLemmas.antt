@@ -1,6 +1,6 @@
 -- Texts that are put in two parts.
 use Rattle.std.proofs.Common.{◌≡◌, ◌≤◌, ◌+◌, ◌-◌, List, ℕ, ◌++◌, take, drop, Result, Ok, Err, ap, sym, subst, ◌∙◌, arith}
-use Rattle.std.specs.List.{flat_map}
+use Rattle.std.specs.List.{flat_map, range_with_len}
 use Rattle.std.proofs.Math.Seq.{take-add}
 use Rattle.std.proofs.lemmas.List.{take-append-drop}
 use Rattle.std.proofs.lemmas.List.Concat.{flat_map-append}
@@ -9,6 +9,7 @@ use Rattle.host_port.specs.Buffered.{Adds}
 use Rattle.host_port.specs.declared.side.Side.TheVariants.{Output}
 use Rattle.host_port.specs.declared.host.Failed.{Failed}
 use Rattle.host_port.proofs.BufferLemmas.{adds_then, adds_front}
+use Rattle.graph_report.proofs.RangeLemmas.{run_joined}
 
 module _ (a b text : List ℕ) (whole : a ++ b ≡ text) where
   -- the first part failed
@@ -63,3 +64,21 @@ module _ {X : Type 0} (f : X → List ℕ) (xs : List X) (a b : ℕ) (rising : a
       let front = both_put (flat_map f (take a xs)) part (flat_map f (take b xs)) texts_to p q r x y z u (Err e) so_far one in
       first_fails (flat_map f (take b xs)) (flat_map f (drop b xs)) (flat_map f xs)
       (sym (flat_map-append f (take b xs) (drop b xs)) ∙ ap (flat_map f) (take-append-drop b xs)) p r x z e front
+
+-- ---- a run of numbers, whose texts are put part by part
+
+module _ (f : ℕ → List ℕ) (first start count : ℕ) (rising : first ≤ start) (p q r : List ℕ) (x y z : Outside) (u : Unit {0}) (so_far : Adds {E = Failed} Output (flat_map f (range_with_len first (start - first))) p q x y (Ok u)) where
+  run_to : flat_map f (range_with_len first (start - first)) ++ flat_map f (range_with_len start count) ≡ flat_map f (range_with_len first (start + count - first))
+  run_to =
+      let len : start + count - start ≡ count = omega arith in
+      sym (flat_map-append f (range_with_len first (start - first)) (range_with_len start count))
+      ∙ ap (flat_map f) (rw len at (run_joined first start (start + count) rising (omega arith)))
+
+  pub run_put : (v : Unit {0}) → Adds {E = Failed} Output (flat_map f (range_with_len start count)) q r y z (Ok v) → Adds {E = Failed} Output (flat_map f (range_with_len first (start + count - first))) p r x z (Ok v)
+  run_put v one = both_put (flat_map f (range_with_len first (start - first))) (flat_map f (range_with_len start count)) (flat_map f (range_with_len first (start + count - first))) run_to p q r x y z u (Ok v) so_far one
+
+  pub run_fails : (end : ℕ) → start + count ≤ end → (e : Failed) → Adds {T = Unit {0}} Output (flat_map f (range_with_len start count)) q r y z (Err e) → Adds {T = Unit {0}} Output (flat_map f (range_with_len first (end - first))) p r x z (Err e)
+  run_fails end within e one =
+      let front = both_put (flat_map f (range_with_len first (start - first))) (flat_map f (range_with_len start count)) (flat_map f (range_with_len first (start + count - first))) run_to p q r x y z u (Err e) so_far one in
+      first_fails (flat_map f (range_with_len first (start + count - first))) (flat_map f (range_with_len (start + count) (end - (start + count)))) (flat_map f (range_with_len first (end - first)))
+      (sym (flat_map-append f (range_with_len first (start + count - first)) (range_with_len (start + count) (end - (start + count)))) ∙ ap (flat_map f) (run_joined first (start + count) end (omega arith) within)) p r x z e front

@@ -1,21 +1,24 @@
 -- What the tables hold, from the keys of arcs.
-use Rattle.std.proofs.Common.{◌≡◌, ◌<◌, ℕ, zero, suc, Bool, true, false, cond, ◌&&◌, not, List, [], ◌∷◌, ◌++◌, refl, ap, sym, ◌∙◌, arith, add-one}
+use Rattle.std.proofs.Common.{◌≡◌, ◌≢◌, ◌<◌, ℕ, zero, suc, Bool, true, false, cond, ◌&&◌, not, List, [], ◌∷◌, ◌++◌, refl, ap, sym, ◌∙◌, subst, ⊎_elim, arith, add-one}
 use Rattle.std.specs.Prelude.{◌==◌, filter, slice_index, if◌then◌else◌}
-use Rattle.std.proofs.lemmas.Bool.{ne_eqb}
+use Rattle.std.proofs.Math.Bool.{and-false}
+use Rattle.std.proofs.lemmas.Bool.{cases_eq, ne_eqb}
 use Rattle.std.proofs.lemmas.List.FromFn.{fill_by_all, length-map-range_with_len, get_or-map-range_with_len}
-use Rattle.call_cycles.specs.Graph.{GraphValue, arc_at, arc_count, component_count, component_of, is_outside, target_of, enters}
+use Rattle.call_cycles.specs.Graph.{GraphValue, arc_at, arc_count, component_count, component_of, is_cycle, is_outside, target_of, enters}
 use Rattle.call_cycles.specs.Sums.{sum_below, when, list_of, numbers_below}
 use Rattle.call_cycles.proofs.SumLemmas.{sum_ext}
 use Rattle.call_cycles.proofs.ListLemmas.{list_long, list_at}
 use Rattle.flat_report.specs.Sources.{calls_by_others}
 use Rattle.graph_report.specs.Cycles.{inner_calls, is_inner_arc}
 use Rattle.graph_report.specs.Entries.{calls_of_others}
-use Rattle.graph_report.specs.GraphText.{arcs_from, arcs_into, arcs_to, members_of}
+use Rattle.graph_report.specs.GraphText.{arcs_from, arcs_to, members_of}
 use Rattle.graph_report.specs.Groups.{AreGroups, arc_key, calls_with, places_with}
+use Rattle.graph_report.specs.Lists.{start_of}
+use Rattle.graph_report.specs.Tables.{arcs_into_cycle}
 use Rattle.graph_report.specs.declared.groups.Groups.{Groups}
 use Rattle.graph_report.specs.declared.keys.ArcKey.TheVariants.{Caller, Callee, Entered, Inner}
 use Rattle.graph_report.proofs.GroupLemmas.{filter_next}
-use Rattle.graph_report.proofs.PlacingLemmas.{lists_agree}
+use Rattle.graph_report.proofs.PlacingLemmas.{lists_agree, starts_agree}
 
 -- tests that agree below an end
 filter_same : (p q : ℕ → Bool) (n : ℕ) → ((i : ℕ) → i < n → p i ≡ q i) → filter p (numbers_below n) ≡ filter q (numbers_below n)
@@ -41,10 +44,18 @@ module _ (n : ℕ) (key : ℕ → ℕ) (keys : List ℕ) (are : keys ≡ list_of
   lists_are count test groups are_groups tests =
       lists_agree count (places_with keys) (λ k. filter (test k) (numbers_below n)) groups.places.items groups.starts.items (λ k low. places_are k ∙ filter_same (λ i. key i == k) (test k) n (tests k low)) are_groups
 
--- outside arcs by what they enter, inside ones by where they stay
-entered_key : (b : Bool) (t n k : ℕ) → k < n → ((let x : ℕ = if b then t else n in x) == k) ≡ (b && (t == k))
-entered_key true t n k low = refl
-entered_key false t n k low = ne_eqb n k (λ q. omega arith)
+-- outside arcs by the cycle that they enter, inside ones by where they stay
+entered_key : (cycle : ℕ → Bool) (b : Bool) (t n k : ℕ) → k < n → ((let x : ℕ = if b && cycle t then t else n in x) == k) ≡ (cycle k && (b && (t == k)))
+entered_key cycle false t n k low = ne_eqb n k (λ q. omega arith) ∙ sym (and-false (cycle k))
+entered_key cycle true t n k low = ⊎_elim (λ (at : t ≡ k). subst (λ (j : ℕ). ((let x : ℕ = if cycle t then t else n in x) == j) ≡ (cycle j && (t == j))) at (same at (cycle t))) (λ (apart : t ≢ k). other apart (cycle t)) (cases_eq t k)
+  where
+    same : t ≡ k → (b : Bool) → ((let x : ℕ = if b then t else n in x) == t) ≡ (b && (t == t))
+    same at true = refl
+    same at false = ne_eqb n t (λ q. omega arith)
+
+    other : t ≢ k → (b : Bool) → ((let x : ℕ = if b then t else n in x) == k) ≡ (cycle k && (t == k))
+    other apart true = ne_eqb t k apart ∙ sym (ap (λ (e : Bool). cycle k && e) (ne_eqb t k apart) ∙ and-false (cycle k))
+    other apart false = ne_eqb n k (λ q. omega arith) ∙ sym (ap (λ (e : Bool). cycle k && e) (ne_eqb t k apart) ∙ and-false (cycle k))
 
 inner_key : (b : Bool) (t n k : ℕ) → k < n → ((let x : ℕ = if b then n else t in x) == k) ≡ (not b && (t == k))
 inner_key true t n k low = ne_eqb n k (λ q. omega arith)
@@ -54,12 +65,13 @@ module _ (g : GraphValue) (keys : List ℕ) where
   pub lists_to : (groups : Groups) → keys ≡ list_of (arc_count g) (arc_key g Callee) → AreGroups g.functions (places_with keys) groups → AreGroups g.functions (arcs_to g) groups
   lists_to groups are are_groups = lists_are (arc_count g) (arc_key g Callee) keys are g.functions (λ f i. (arc_at g i).callee == f) groups are_groups (λ k low i h. refl)
 
-  pub lists_from : (groups : Groups) → keys ≡ list_of (arc_count g) (arc_key g Caller) → AreGroups g.functions (places_with keys) groups → AreGroups g.functions (arcs_from g) groups
-  lists_from groups are are_groups = lists_are (arc_count g) (arc_key g Caller) keys are g.functions (λ f i. (arc_at g i).caller == f) groups are_groups (λ k low i h. refl)
+  pub starts_from : (starts : List ℕ) → keys ≡ list_of (arc_count g) (arc_key g Caller) → starts ≡ list_of (suc g.functions) (start_of (places_with keys)) → starts ≡ list_of (suc g.functions) (start_of (arcs_from g))
+  starts_from starts are is = is ∙ starts_agree g.functions (places_with keys) (arcs_from g) (λ k low. places_are (arc_count g) (arc_key g Caller) keys are k)
 
-  pub lists_into : (groups : Groups) → keys ≡ list_of (arc_count g) (arc_key g Entered) → AreGroups (component_count g) (places_with keys) groups → AreGroups (component_count g) (arcs_into g) groups
+  pub lists_into : (groups : Groups) → keys ≡ list_of (arc_count g) (arc_key g Entered) → AreGroups (component_count g) (places_with keys) groups → AreGroups (component_count g) (arcs_into_cycle g) groups
   lists_into groups are are_groups =
-      lists_are (arc_count g) (arc_key g Entered) keys are (component_count g) (enters g) groups are_groups (λ k low i h. entered_key (is_outside g i) (target_of g i) (component_count g) k low)
+      lists_are (arc_count g) (arc_key g Entered) keys are (component_count g) (λ c i. is_cycle g c && enters g c i) groups are_groups
+      (λ k low i h. entered_key (is_cycle g) (is_outside g i) (target_of g i) (component_count g) k low)
 
   pub lists_members : (groups : Groups) → keys ≡ list_of g.functions (component_of g) → AreGroups (component_count g) (places_with keys) groups → AreGroups (component_count g) (members_of g) groups
   lists_members groups are are_groups = lists_are g.functions (component_of g) keys are (component_count g) (λ c f. component_of g f == c) groups are_groups (λ k low i h. refl)

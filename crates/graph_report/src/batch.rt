@@ -1,8 +1,8 @@
 //! Arcs that are looked up together, before the first of their lines is put.
 
-ghost use Rattle.std.specs.Prelude.{◌≡◌, ◌<◌, ◌≤◌, ℕ, List, length, slice_index, slice_index_or};
+ghost use Rattle.std.specs.Prelude.{◌≡◌, ◌+◌, ◌^◌, ◌<◌, ◌≤◌, ℕ, List, length, take, slice_index, slice_index_or};
 ghost use Rattle.std.specs.Borrow.{Bor};
-ghost use Rattle.std.specs.List.{All};
+ghost use Rattle.std.specs.List.{All, range_with_len};
 ghost use Rattle.call_cycles.specs.Graph.{arc_count};
 ghost use Rattle.graph_report.specs.ArcLines.{function_at_end, label_at};
 ghost use Rattle.graph_report.specs.ArcTimes.{AreTimes, arc_times};
@@ -45,6 +45,19 @@ pub(crate) fn function_at(arc: FunArc, end: ArcEnd) -> u32
         ArcEnd::Caller => arc.caller,
         ArcEnd::Callee => arc.callee,
     }
+}
+
+/// So many numbers, from one on.
+pub(crate) fn numbers_from(first: usize, count: usize) -> [usize; BATCH]
+    requires few { count ≤ 16 }
+    requires fits { first + count < 2 ^ 64 }
+    ensures { take count result ≡ range_with_len first count }
+{
+    let mut numbers = [0; BATCH];
+    for k in 0..count {
+        numbers[k] = first + k;
+    }
+    numbers
 }
 
 /// These arcs, and what they carry.

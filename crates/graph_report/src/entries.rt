@@ -110,7 +110,8 @@ fn put_function<H: Host>(
 {
     put_callers(report, report.inputs.arcs_to(f), lines, host)?;
     put_function_line(report, f, lines, host)?;
-    put_callees(report, report.inputs.arcs_from(f), lines, host)?;
+    let (first, end) = report.inputs.arcs_from(f);
+    put_callees(report, first, end, lines, host)?;
     lines.put(host, RULE)
 }
 

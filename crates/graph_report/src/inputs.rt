@@ -37,7 +37,8 @@ pub(crate) struct Inputs<'a> {
 }
 
 impl<'a> Inputs<'a> {
-    ghost use Rattle.std.specs.Prelude.{◌≡◌, ◌^◌, ◌<◌, true};
+    ghost use Rattle.std.specs.Prelude.{◌≡◌, ◌-◌, ◌^◌, ◌<◌, ◌≤◌, true};
+    ghost use Rattle.std.specs.List.{range_with_len};
     ghost use Rattle.call_cycles.specs.Flow.{time_of};
     ghost use Rattle.call_cycles.specs.Graph.{arc_count, component_count, is_cycle as is_a_cycle};
     ghost use Rattle.flat_report.specs.Sources.{calls_by_others, child_of, name_of, self_share, inclusive_total};
@@ -148,17 +149,24 @@ impl<'a> Inputs<'a> {
         self.tables.arcs_to.of(f)
     }
 
-    /// The arcs from a function, in the order of their numbers.
-    pub fn arcs_from(&self, f: u32) -> &'a [usize]
+    /// The arcs from a function: the numbers from the first to the second one, without that.
+    pub fn arcs_from(&self, f: u32) -> (usize, usize)
         requires function { f < self.now.sources.graph.now.functions }
-        ensures { result.now ≡ arcs_that_leave self.now.sources.graph.now f }
+        ensures arcs { arcs_that_leave self.now.sources.graph.now f
+            ≡ range_with_len result.0 (result.1 - result.0) }
+        ensures order { result.0 ≤ result.1 }
+        ensures within { result.1 ≤ arc_count self.now.sources.graph.now }
     {
-        self.tables.arcs_from.of(f)
+        // They stand in the order of their callers.
+        self.sources.graph.holds();
+        let f = f as usize;
+        (self.tables.arcs_from[f], self.tables.arcs_from[f + 1])
     }
 
-    /// The outside arcs into a component, in the order of their numbers.
+    /// The outside arcs into a cycle, in the order of their numbers.
     pub fn arcs_into(&self, c: u32) -> &'a [usize]
         requires component { c < component_count self.now.sources.graph.now }
+        requires cycle { is_a_cycle self.now.sources.graph.now c ≡ true }
         ensures { result.now ≡ arcs_that_enter self.now.sources.graph.now c }
     {
         self.tables.arcs_into.of(c)

@@ -13,7 +13,7 @@ use std::alloc::{AllocError, Global};
 pub(crate) enum ArcKey {
     Caller,
     Callee,
-    /// The component that an outside arc enters. An arc inside a component has one more than the last.
+    /// The cycle that an arc enters, by its component. Any other arc has one more than the last.
     Entered,
     /// The component in which an arc stays. An outside arc has one more than the last.
     Inner,
@@ -37,11 +37,16 @@ fn key_of(graph: &Graph, i: usize, key: ArcKey) -> u32
     match key {
         ArcKey::Caller => a.caller,
         ArcKey::Callee => a.callee,
-        ArcKey::Entered => if is_inside(graph, a) {
-            graph.component_count()
-        } else {
-            graph.component(a.callee)
-        },
+        ArcKey::Entered => {
+            let entered = graph.component(a.callee);
+            if is_inside(graph, a) {
+                graph.component_count()
+            } else if graph.is_cycle(entered) {
+                entered
+            } else {
+                graph.component_count()
+            }
+        }
         ArcKey::Inner => if is_inside(graph, a) {
             graph.component(a.callee)
         } else {

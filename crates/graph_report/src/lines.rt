@@ -1,7 +1,7 @@
 //! Lines and runs of lines.
 
-ghost use Rattle.std.specs.Prelude.{◌≡◌, ◌==◌, ◌<◌, ◌≤◌, ◌++◌, codes, length};
-ghost use Rattle.std.specs.List.{All, flat_map};
+ghost use Rattle.std.specs.Prelude.{◌≡◌, ◌==◌, ◌-◌, ◌<◌, ◌≤◌, ◌++◌, codes, length};
+ghost use Rattle.std.specs.List.{All, flat_map, range_with_len};
 ghost use Rattle.host_port.specs.Buffered.{Adds};
 ghost use Rattle.host_port.specs.declared.side.Side.TheVariants.{Output};
 ghost use Rattle.text_cols.specs.Columns.{spaces};
@@ -12,7 +12,7 @@ ghost use Rattle.graph_report.specs.GraphText.{callee_line, callers_text, functi
 ghost use Rattle.graph_report.specs.Inputs.{sources_in};
 ghost use Rattle.graph_report.specs.Reports.{number_of};
 
-use crate::batch::{ArcEnd, BATCH, labels_of, times_of};
+use crate::batch::{ArcEnd, BATCH, labels_of, numbers_from, times_of};
 use crate::columns;
 use crate::inputs::{ArcTimes, Inputs};
 use crate::prepared::Report;
@@ -166,19 +166,30 @@ pub(crate) fn put_callers<H: Host>(
     put_arcs(report, arcs, ArcEnd::Caller, lines, host)
 }
 
-/// Puts the callees of these arcs.
+/// Puts the callees of the arcs from one number to another, without that.
 pub(crate) fn put_callees<H: Host>(
     report: &Report<'_>,
-    arcs: &[usize],
+    first: usize,
+    end: usize,
     lines: &mut PrintBuf,
     host: &mut H,
 ) -> Result<(), Failed>
-    requires arcs { All (λ i. i < arc_count report.now.inputs.sources.graph.now) arcs.now }
+    requires order { first ≤ end }
+    requires arcs { end ≤ arc_count report.now.inputs.sources.graph.now }
     ensures { Adds Output (flat_map
-        (callee_line (sources_in report.now.inputs) (number_of report.now)) arcs.now) lines.old
+        (callee_line (sources_in report.now.inputs) (number_of report.now))
+        (range_with_len first (end - first))) lines.old
         lines.new (H.outside host.old) (H.outside host.new) result }
 {
-    put_arcs(report, arcs, ArcEnd::Callee, lines, host)
+    let mut line = Line::new();
+    let mut start = first;
+    while start < end {
+        let count = BATCH.min(end - start);
+        let arcs = &numbers_from(start, count)[..count];
+        put_batch(report, arcs, ArcEnd::Callee, &mut line, lines, host)?;
+        start += count;
+    }
+    Ok(())
 }
 
 /// Puts these members of a cycle.

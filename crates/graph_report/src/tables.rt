@@ -7,7 +7,7 @@ ghost use Rattle.graph_report.specs.Tables.{AreTables};
 ghost use Rattle.graph_report.specs.Groups.{AreGroups, arc_key, calls_with, places_with};
 
 use crate::cycles::{cycle_names, cycle_numbers};
-use crate::groups::{Groups, call_sums, grouped};
+use crate::groups::{Groups, call_sums, grouped, starts};
 use crate::keys::{ArcKey, components, keys};
 use call_cycles::Graph;
 use std::alloc::{AllocError, Global};
@@ -17,9 +17,10 @@ use std::alloc::{AllocError, Global};
 pub(crate) struct Tables {
     /// The arcs to each function.
     pub arcs_to: Groups,
-    /// The arcs from each function.
-    pub arcs_from: Groups,
-    /// The outside arcs into each component.
+    /// Where the arcs from each function begin, and where those from the last one end: they stand one function's
+    /// behind the other's.
+    pub arcs_from: Vec<usize>,
+    /// The outside arcs into each cycle, by its component.
     pub arcs_into: Groups,
     /// The members of each component.
     pub members: Groups,
@@ -67,7 +68,9 @@ impl Tables {
         let numbers = cycle_numbers(alloc, graph)?;
         let names = cycle_names(alloc, graph, &numbers)?;
         let (arcs_to, calls_to) = arcs_and_calls(alloc, graph, functions, ArcKey::Callee)?;
-        let (arcs_from, calls_from) = arcs_and_calls(alloc, graph, functions, ArcKey::Caller)?;
+        let callers = keys(alloc, graph, ArcKey::Caller)?;
+        let arcs_from = starts(alloc, functions, &callers)?;
+        let calls_from = call_sums(alloc, graph, functions, &callers)?;
         let arcs_into = grouped(alloc, count, &keys(alloc, graph, ArcKey::Entered)?)?;
         let members = grouped(alloc, count, &components(alloc, graph)?)?;
         let calls_inside = call_sums(alloc, graph, count, &keys(alloc, graph, ArcKey::Inner)?)?;

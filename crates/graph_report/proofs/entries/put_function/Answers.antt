@@ -15,9 +15,7 @@ put_callers-requires g c =
     record { arcs = subst (λ (is : List ℕ). All (λ (i : ℕ). i < arc_count graph) is) (sym c.arcs_to.ensures) (all_below (λ i. (arc_at graph i).callee == c.args.f) (arc_count graph)) }
 
 pub put_callees-requires : goal.put_callees-requires
-put_callees-requires g c =
-    let graph = c.args.report.now.inputs.sources.graph.now in
-    record { arcs = subst (λ (is : List ℕ). All (λ (i : ℕ). i < arc_count graph) is) (sym c.arcs_from.ensures) (all_below (λ i. (arc_at graph i).caller == c.args.f) (arc_count graph)) }
+put_callees-requires g c = record { order = c.arcs_from-first.ensures.order; arcs = c.arcs_from-first.ensures.within }
 
 pub returns-in_err-put_callers : goal.returns-in_err-put_callers
 returns-in_err-put_callers g c =
@@ -38,12 +36,12 @@ returns-in_err-put_callees g c =
     let p = err_from_is_err_and c.from_residual-in_err-put_callees.result c.from_residual-in_err-put_callees.ensures.1 in
     let r = c.args.report.now in
     let callers = rw c.arcs_to.ensures at c.in_ok-put_callers.ensures in
-    let callees = rw c.arcs_from.ensures at c.in_err-put_callees.ensures in
+    let callees = rw (sym c.arcs_from-first.ensures.arcs) at c.in_err-put_callees.ensures in
     rw p.1 (third_of_four_fails _ _ _ _ _ (function_whole (sources_in r.inputs) (number_of r) c.args.f) _ _ _ _ _ _ _ callers _ _ _ c.in_ok-put_function_line.ensures _ callees)
 
 pub returns : goal.returns
 returns g c =
     let r = c.args.report.now in
     let callers = rw c.arcs_to.ensures at c.in_ok-put_callers.ensures in
-    let callees = rw c.arcs_from.ensures at c.in_ok-put_callees.ensures in
+    let callees = rw (sym c.arcs_from-first.ensures.arcs) at c.in_ok-put_callees.ensures in
     four_put _ _ _ _ _ (function_whole (sources_in r.inputs) (number_of r) c.args.f) _ _ _ _ _ _ _ callers _ _ _ c.in_ok-put_function_line.ensures _ _ _ _ callees c.put.ensures.adds
