@@ -16,7 +16,7 @@ use Rattle.graph_report.specs.Groups.{AreGroups, arc_key, calls_with, places_wit
 use Rattle.graph_report.specs.Lists.{start_of}
 use Rattle.graph_report.specs.Tables.{arcs_into_cycle}
 use Rattle.graph_report.specs.declared.groups.Groups.{Groups}
-use Rattle.graph_report.specs.declared.keys.ArcKey.TheVariants.{Caller, Callee, Entered, Inner}
+use Rattle.graph_report.specs.declared.arc_key.ArcKey.TheVariants.{Caller, Callee, Entered, Inner}
 use Rattle.graph_report.proofs.GroupLemmas.{filter_next}
 use Rattle.graph_report.proofs.PlacingLemmas.{lists_agree, starts_agree}
 

@@ -6,8 +6,8 @@ ghost use Rattle.graph_report.specs.ArcTimes.{AreTimes, times_columns};
 ghost use Rattle.graph_report.specs.GraphText.{cycle_columns, function_columns};
 ghost use Rattle.graph_report.specs.Inputs.{sources_in};
 
+use crate::fields;
 use crate::inputs::{ArcTimes, Inputs};
-use crate::line;
 use text_cols::Line;
 
 /// Adds what an arc carries, and its calls of those that enter the callee's component. An arc inside a cycle
@@ -20,10 +20,10 @@ pub(crate) fn put_arc(line: &mut Line, inputs: &Inputs<'_>, times: &ArcTimes)
 {
     let count = times.arc.count;
     match times.entering {
-        None => line::put_untimed(line, count),
+        None => fields::put_untimed(line, count),
         Some(entering) => {
-            line::put_times(line, inputs.sources.rate, times.own, times.child);
-            line::put_calls_of_entering(line, count, entering);
+            fields::put_times(line, inputs.sources.rate, times.own, times.child);
+            fields::put_calls_of_entering(line, count, entering);
         }
     }
 }
@@ -35,8 +35,8 @@ pub(crate) fn put_function(line: &mut Line, inputs: &Inputs<'_>, f: u32)
     ensures text { line.new ≡ line.old ++ function_columns (sources_in inputs.now) f }
     ensures short { length line.new ≤ length line.old + 128 }
 {
-    line::put_times(line, inputs.sources.rate, inputs.share(f), inputs.child(f));
-    line::put_calls_and_own(line, inputs.calls_to(f), inputs.sources.graph.self_calls(f));
+    fields::put_times(line, inputs.sources.rate, inputs.share(f), inputs.child(f));
+    fields::put_calls_and_own(line, inputs.calls_to(f), inputs.sources.graph.self_calls(f));
 }
 
 /// Adds the same of a cycle as a whole: its calls are those that enter it and those between its members.
@@ -48,8 +48,8 @@ pub(crate) fn put_cycle(line: &mut Line, inputs: &Inputs<'_>, c: u32)
 {
     let own = inputs.sources.flow.self_of(c);
     let child = inputs.sources.flow.child_of(c);
-    line::put_times(line, inputs.sources.rate, own, child);
-    line::put_calls_and_inner(
+    fields::put_times(line, inputs.sources.rate, own, child);
+    fields::put_calls_and_inner(
         line,
         inputs.sources.graph.entering(c),
         inputs.calls_inside(c),

@@ -12,11 +12,11 @@ ghost use Rattle.graph_report.specs.Reports.{number_of};
 ghost use Rattle.graph_report.specs.Subjects.{IsSubject, cycle_line, function_line};
 ghost use Rattle.graph_report.specs.declared.subjects.Subject.TheVariants.{Cycle, Function};
 
-use crate::lines::{put_callees, put_callers, put_members};
-use crate::names::put_cycle_name;
+use crate::entry_lines::{put_callees, put_callers, put_members};
+use crate::line_ends::put_cycle_name;
 use crate::prepared::Report;
 use crate::subjects::Subject;
-use crate::{columns, line};
+use crate::{columns, fields};
 use host_port::{Failed, Host, PrintBuf};
 use text_cols::Line;
 
@@ -32,7 +32,7 @@ fn function_front(report: &Report<'_>, f: u32) -> Line
 {
     let all = report.inputs.sources.shares.attributed();
     let mut line = Line::new();
-    line::put_index(
+    fields::put_index(
         &mut line,
         report.function_number(f),
         report.inputs.total(f),
@@ -69,7 +69,7 @@ fn cycle_front(report: &Report<'_>, head: u32) -> Line
     let all = report.inputs.sources.shares.attributed();
     let c = report.inputs.sources.graph.component(head);
     let mut line = Line::new();
-    line::put_index(
+    fields::put_index(
         &mut line,
         report.cycle_number(head),
         report.inputs.component_total(c),

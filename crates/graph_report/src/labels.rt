@@ -7,7 +7,7 @@ ghost use Rattle.graph_report.specs.Labels.{AreLabels, HasLabel, IsShort, label_
 ghost use Rattle.graph_report.specs.Numbers.{AreNumbers};
 
 use crate::inputs::Inputs;
-use crate::names::function_tail;
+use crate::line_ends::function_tail;
 use crate::numbers::Numbers;
 use std::alloc::{AllocError, Global};
 

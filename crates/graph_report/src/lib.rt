@@ -4,20 +4,20 @@
 //! below, and each cycle as a whole. How they are laid out is this project's own choice.
 #![tactic(auto)]
 
+mod arc_key;
 mod batch;
 mod columns;
 mod cycles;
 mod entries;
+mod entry_lines;
 mod exact_line;
 pub mod exact_report;
+mod fields;
 mod groups;
 mod inputs;
-mod keys;
 mod labels;
 pub mod laws;
-mod line;
-mod lines;
-mod names;
+mod line_ends;
 mod numbers;
 mod prepared;
 pub mod report;

@@ -6,9 +6,9 @@ ghost use Rattle.call_cycles.specs.Sums.{list_of};
 ghost use Rattle.graph_report.specs.Tables.{AreTables};
 ghost use Rattle.graph_report.specs.Groups.{AreGroups, arc_key, calls_with, places_with};
 
+use crate::arc_key::{ArcKey, components, keys};
 use crate::cycles::{cycle_names, cycle_numbers};
 use crate::groups::{Groups, call_sums, grouped, starts};
-use crate::keys::{ArcKey, components, keys};
 use call_cycles::Graph;
 use std::alloc::{AllocError, Global};
 

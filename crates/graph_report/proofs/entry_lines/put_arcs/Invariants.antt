@@ -1,0 +1,16 @@
+use Rattle.std.proofs.Common.{◌≤◌, ◌-◌, length, take, Ok}
+use Rattle.std.specs.List.{flat_map}
+use Rattle.host_port.specs.Buffered.{Adds}
+use Rattle.host_port.specs.declared.side.Side.TheVariants.{Output}
+use Rattle.host_port.specs.declared.host.Failed.{Failed}
+use Rattle.graph_report.specs.ArcLines.{line_by}
+use Rattle.graph_report.specs.Inputs.{sources_in}
+use Rattle.graph_report.specs.Reports.{number_of}
+use Rattle.graph_report.proofs.entry_lines.put_arcs.Given as goal
+
+-- the lines so far are put
+abbrev pub invariant-loop-start : goal.invariant-loop-start
+invariant-loop-start g l = (l.start ≤ length l.arcs) × Adds {E = Failed} Output (flat_map (line_by l.fn.end (sources_in l.report.inputs) (number_of l.report)) (take l.start l.arcs)) l.initial.lines l.lines (g.H.Host.outside l.initial.host) (g.H.Host.outside l.host) (Ok (tt {0}))
+
+abbrev pub decreases-loop-start : goal.decreases-loop-start
+decreases-loop-start g l = length l.arcs - l.start

@@ -1,7 +1,0 @@
-use Rattle.std.proofs.Common.{◌≡◌}
-use Rattle.call_cycles.specs.Graph.{component_of}
-use Rattle.call_cycles.specs.Sums.{list_of}
-use Rattle.graph_report.proofs.keys.components.Given as goal
-
-abbrev pub invariant-loop-f : goal.invariant-loop-f
-invariant-loop-f l = l.components.items ≡ list_of l.f (component_of l.graph)
