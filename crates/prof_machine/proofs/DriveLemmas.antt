@@ -10,7 +10,7 @@ use Rattle.prof_machine.specs.Turn.{turn_of}
 use Rattle.prof_machine.specs.Value.{IsHeld, IsLive, RunValue, StandsFor, flights, looks_at_most, turned_of, value_of, work_left}
 use Rattle.prof_machine.specs.World.{World}
 use Rattle.prof_machine.specs.declared.summary.End.{End}
-use Rattle.prof_machine.specs.declared.summary.Turned.TheVariants.{Ended, Going}
+use Rattle.prof_machine.specs.declared.summary.Turned.TheVariants.{Ended}
 use Rattle.prof_machine.specs.declared.flight.Flight.{Flight}
 use Rattle.prof_machine.specs.declared.machine.Machine.{Machine}
 use Rattle.prof_machine.specs.declared.runs.Run.TheInside.{Inside}
@@ -58,11 +58,7 @@ first_place (Some f) p = p.0
 pub work_bound : (a : Inside) → IsHeld a → work_left (value_of a) ≤ most_turns a.machine.setup
 work_bound a held = work_by a a.flight held refl (first_place a.flight held.place)
 
--- what a turn answered
-pub going_answer : (o : Option End) → turned_of o ≡ Going → o ≡ None
-going_answer None is = refl
-going_answer (Some end) is = absurd cc
-
+-- what a turn answered where the run has ended
 pub ended_answer : (o : Option End) (end : End) → turned_of o ≡ Ended end → o ≡ Some end
 ended_answer None end is = absurd cc
 ended_answer (Some e) end is = let same : e ≡ end = cc in ap (λ (x : End). Some x) same
