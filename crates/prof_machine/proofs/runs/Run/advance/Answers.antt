@@ -1,17 +1,16 @@
-use Rattle.std.proofs.Common.{◌≡◌, ◌∙◌, ◌<◌, ◌≤◌, None, Ok, true, false, sym, subst, arith, rules}
+use Rattle.std.proofs.Common.{◌≡◌, ◌∙◌, Ok, true, false, sym, subst, rules}
 use Rattle.std.proofs.lemmas.Result.{err_from_is_err_and}
 use Rattle.host_port.specs.declared.host.Failed.{Failed}
-use Rattle.prof_machine.proofs.DriveLemmas.{work_bound}
+use Rattle.prof_machine.proofs.DriveLemmas.{fewer_turns}
 use Rattle.prof_machine.proofs.StageLemmas.{fails_like, instructed_prints, printless, prints_like}
 use Rattle.prof_machine.proofs.StandingLemmas.{with_live}
 use Rattle.prof_machine.proofs.TurnLemmas.{taken_instructed, turn_prints, turn_stands}
 use Rattle.prof_machine.proofs.NoteLemmas.{instructed_note, turn_noted}
 use Rattle.prof_machine.specs.declared.notes.TurnNote.{TurnNote}
 use Rattle.prof_machine.specs.Notes.{note_by, note_of}
-use Rattle.prof_machine.specs.Plan.{most_turns}
 use Rattle.prof_machine.specs.Stages.{PrintsAs}
 use Rattle.prof_machine.specs.Turn.{after_close, after_ordinary_turn, after_look, turn_of}
-use Rattle.prof_machine.specs.Value.{RunValue, StandsFor, value_of, work_left}
+use Rattle.prof_machine.specs.Value.{RunValue, StandsFor, value_of}
 use Rattle.prof_machine.specs.World.{World, looks_of_hart}
 use Rattle.prof_machine.proofs.runs.Run.advance.Goals as goal
 use Rattle.prof_machine.proofs.runs.Run.advance.Goals.{then-holds_walk, else-holds_walk+in_ok-note}
@@ -61,28 +60,10 @@ returns-clause-outside g c =
     ]
 
 pub returns-in_err-note-clause-fewer : goal.returns-in_err-note-clause-fewer
-returns-in_err-note-clause-fewer g c =
-    let P : RunValue → Type 0 = λ v. work_left v ≤ most_turns v.machine.setup in
-    let G : RunValue → Type 0 = λ v. v.live ≡ true → v.ending ≡ None in
-    let L : RunValue → Type 0 = λ v. v.live ≡ true → 0 < work_left v in
-    record {
-      going = subst G c.self.view_is c.self.invariant.going c.requires.live;
-      left = subst L c.self.view_is (λ live. omega (arith, c.self.invariant.left live)) c.requires.live;
-      few = subst P c.self.view_is (work_bound c.self.inside c.self.invariant);
-      less = search rules;
-    }
+returns-in_err-note-clause-fewer g c = fewer_turns c.self.inside _ _ c.self.view_is c.self.invariant c.requires.live (search rules)
 
 pub returns-clause-fewer : goal.returns-clause-fewer
-returns-clause-fewer g c =
-    let P : RunValue → Type 0 = λ v. work_left v ≤ most_turns v.machine.setup in
-    let G : RunValue → Type 0 = λ v. v.live ≡ true → v.ending ≡ None in
-    let L : RunValue → Type 0 = λ v. v.live ≡ true → 0 < work_left v in
-    record {
-      going = subst G c.self.view_is c.self.invariant.going c.requires.live;
-      left = subst L c.self.view_is (λ live. omega (arith, c.self.invariant.left live)) c.requires.live;
-      few = subst P c.self.view_is (work_bound c.self.inside c.self.invariant);
-      less = search rules;
-    }
+returns-clause-fewer g c = fewer_turns c.self.inside _ _ c.self.view_is c.self.invariant c.requires.live (search rules)
 
 pub returns-clause-note : goal.returns-clause-note
 returns-clause-note g c = λ w st.
