@@ -1,16 +1,17 @@
 -- The loop that makes the turns of a plan.
-use Rattle.std.proofs.Common.{◌*◌, ◌+◌, ◌-◌, None, Option, Some, ap, arith, refl, subst, sym, ℕ, ◌∙◌, ◌≡◌, ◌≤◌}
+use Rattle.std.proofs.Common.{◌*◌, ◌+◌, ◌-◌, None, Option, Some, ap, arith, refl, subst, sym, true, ℕ, ◌∙◌, ◌≡◌, ◌<◌, ◌≤◌}
 use Rattle.std.specs.Prelude.{IfSome}
 use Rattle.host_port.specs.Outside.{KeepsCounts, KeepsInput, Outside}
 use Rattle.prof_machine.proofs.PlanLemmas.{driven_at, next_turn}
 use Rattle.prof_machine.specs.Plan.{after_drive, most_turns, plan_of, world_at, taker_of}
 use Rattle.prof_machine.specs.Prints.{ArePrinted}
 use Rattle.prof_machine.specs.Schedule.{Draws, PlanPlace}
+use Rattle.prof_machine.specs.Stages.{LeavesFewerTurns}
 use Rattle.prof_machine.specs.Turn.{turn_of}
 use Rattle.prof_machine.specs.Value.{IsHeld, IsLive, RunValue, StandsFor, flights, looks_at_most, turned_of, value_of, work_left}
 use Rattle.prof_machine.specs.World.{World}
 use Rattle.prof_machine.specs.declared.summary.End.{End}
-use Rattle.prof_machine.specs.declared.summary.Turned.TheVariants.{Ended, Going}
+use Rattle.prof_machine.specs.declared.summary.Turned.TheVariants.{Ended}
 use Rattle.prof_machine.specs.declared.flight.Flight.{Flight}
 use Rattle.prof_machine.specs.declared.machine.Machine.{Machine}
 use Rattle.prof_machine.specs.declared.runs.Run.TheInside.{Inside}
@@ -58,11 +59,19 @@ first_place (Some f) p = p.0
 pub work_bound : (a : Inside) → IsHeld a → work_left (value_of a) ≤ most_turns a.machine.setup
 work_bound a held = work_by a a.flight held refl (first_place a.flight held.place)
 
--- what a turn answered
-pub going_answer : (o : Option End) → turned_of o ≡ Going → o ≡ None
-going_answer None is = refl
-going_answer (Some end) is = absurd cc
+pub fewer_turns : (a : Inside) (old new : RunValue) → value_of a ≡ old → IsHeld a → IsLive old → (IsLive new → work_left new < work_left old) → LeavesFewerTurns old new
+fewer_turns a old new is held live less =
+    let G : RunValue → Type 0 = λ r. r.live ≡ true → r.ending ≡ None in
+    let L : RunValue → Type 0 = λ r. r.live ≡ true → 0 < work_left r in
+    let P : RunValue → Type 0 = λ r. work_left r ≤ most_turns r.machine.setup in
+    record {
+      going = subst G is held.going live;
+      left = subst L is (λ (l : a.live ≡ true). omega (arith, held.left l)) live;
+      few = subst P is (work_bound a held);
+      less = less;
+    }
 
+-- what a turn answered where the run has ended
 pub ended_answer : (o : Option End) (end : End) → turned_of o ≡ Ended end → o ≡ Some end
 ended_answer None end is = absurd cc
 ended_answer (Some e) end is = let same : e ≡ end = cc in ap (λ (x : End). Some x) same

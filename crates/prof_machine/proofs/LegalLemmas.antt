@@ -5,7 +5,7 @@ use Rattle.std.specs.List.{list_any}
 use Rattle.std.specs.Prelude.{is_some, nat_lt, not, ◌⊎◌, ◌==◌}
 use Rattle.elf32_syms.specs.declared.image.Image.{Image}
 use Rattle.mcount_arcs.proofs.EmptyLogLemmas.{IsLegal-nil}
-use Rattle.mcount_arcs.proofs.LogLemmas.{IsLegal-push, more}
+use Rattle.mcount_arcs.proofs.LogLemmas.{IsLegal-push}
 use Rattle.mcount_arcs.specs.Log.{CallIgnored, CallLost, Enter, IsLegal, IsLegalAfter, IsSite, LogEntry, MayFollow, Mode, Sample, WalkDone, state_of}
 use Rattle.mcount_arcs.specs.Sizes.{offset_of, slot_of}
 use Rattle.mcount_arcs.specs.Value.{meets, walk_from}

@@ -1,14 +1,12 @@
 -- What the stages of a turn begin with, and what they leave of a run's parts and of the outside.
 -- Only private functions and invariants speak of it.
-use Rattle.std.specs.Prelude.{◌≡◌, ℕ, ◌+◌, ◌-◌, ◌%◌, ◌<◌, ◌≤◌, ◌==◌, Bool, true, false, Option, Some, None, slice_set, option_and_then, if◌then◌else◌, IsSome, Result, Ok, IfOk, OnOk, OnErr, MatchResult, ◌↔◌}
+use Rattle.std.specs.Prelude.{◌≡◌, ℕ, ◌+◌, ◌-◌, ◌%◌, ◌<◌, ◌≤◌, ◌==◌, Bool, true, false, Option, Some, None, slice_set, option_and_then, if◌then◌else◌, IsSome, Result, OnOk, OnErr, MatchResult, ◌↔◌}
 use Rattle.host_port.specs.Outside.{KeepsCounts, KeepsInput, Outside}
 use Rattle.rv_step.specs.declared.stepped.TrapKind.TheVariants.{JumpMisaligned}
 use Rattle.rv_decode.specs.Table.{instr_of}
 use Rattle.rv_step.specs.Registers.{Registers}
 use Rattle.rv_step.specs.Step.{word_at_pc}
 use Rattle.prof_machine.specs.declared.summary.End.TheVariants.{Trap}
-use Rattle.prof_machine.specs.declared.summary.Turned.{Turned}
-use Rattle.prof_machine.specs.declared.summary.Turned.TheVariants.{Going}
 use Rattle.prof_machine.specs.declared.flight.Flight.{Flight}
 use Rattle.prof_machine.specs.Executions.{with_execution}
 use Rattle.prof_machine.specs.declared.notes.Ran.{Ran}
@@ -17,7 +15,7 @@ use Rattle.prof_machine.specs.Notes.{ran_from}
 use Rattle.prof_machine.specs.Plan.{most_turns}
 use Rattle.prof_machine.specs.Prints.{ArePrinted, BreaksOff, PrintFailed}
 use Rattle.prof_machine.specs.Turn.{return_target, with_answer}
-use Rattle.prof_machine.specs.Value.{IsLive, RunValue, StandsFor, calls_met, looks_at_most, turned_of, work_left}
+use Rattle.prof_machine.specs.Value.{IsLive, RunValue, StandsFor, calls_met, looks_at_most, work_left}
 use Rattle.prof_machine.specs.World.{World, hart_of}
 
 -- whether a hart holds the walk in flight
@@ -128,14 +126,13 @@ pub record Serves (old new : RunValue) : Type 0 where
   pub looks : looks_at_most new.flight ≤ looks_at_most old.flight + 65534
   pub ended : IsSome old.ending → new.ending ≡ old.ending
 
--- ---- a turn without a note
+-- ---- a turn whose note isn't put down
 
--- a turn was made, or a print failed in it; what is answered tells whether the run goes on
-pub record Advances {E : Type 0} (old new : RunValue) (result : Result Turned E) : Type 0 where
+-- a turn was made, and can follow another where the run goes on; or a print failed in it
+pub record Advances {T E : Type 0} (old new : RunValue) (result : Result T E) : Type 0 where
   pub machine : new.machine ≡ old.machine
   pub note : new.note ≡ old.note
-  pub answer : IfOk result (λ turned. turned ≡ turned_of new.ending)
-  pub live : IsLive new ↔ (result ≡ Ok Going)
+  pub live : MatchResult result (λ _. IsLive new ↔ (new.ending ≡ None)) (λ _. IsLive new → ⊥)
   pub unended : OnErr result (new.ending ≡ None)
 
 -- a run has only so many turns left, and one that has ended has none

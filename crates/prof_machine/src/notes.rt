@@ -28,20 +28,31 @@ pub struct Ran {
     pub next: u32,
 }
 
-/// A note as a run keeps it. Contracts see what it tells.
+/// A note as a run keeps it: the instruction that retired is kept as its word, which is decoded when somebody asks.
+/// Contracts see what it tells.
 #[derive(Drop)]
 pub(crate) struct KeptNote {
-    ran: KeptRan,
-    sample: Option<u32>,
-    returned: Option<u32>,
+    pc: u32,
+    // None where none retired.
+    word: Option<u32>,
+    next: u32,
+    pub(crate) sample: Option<u32>,
+    pub(crate) returned: Option<u32>,
 }
 
 impl Model for KeptNote {
+    ghost use Rattle.std.specs.Prelude.{option_and_then};
+    ghost use Rattle.rv_decode.specs.Table.{instr_of};
     ghost use Rattle.prof_machine.specs.declared.notes.TurnNote.{TurnNote};
+    ghost use Rattle.prof_machine.specs.Notes.{ran_from};
 
     ghost Value = { TurnNote };
 
-    ghost view = { λ a. record { ran = a.ran; sample = a.sample; returned = a.returned } };
+    ghost view = { λ a. record {
+      ran = ran_from a.pc a.next (option_and_then instr_of a.word);
+      sample = a.sample;
+      returned = a.returned;
+    } };
 }
 
 impl KeptNote {
@@ -50,24 +61,28 @@ impl KeptNote {
         ensures { result ≡ look_note returned }
     {
         KeptNote {
-            ran: KeptRan::none(),
+            pc: 0,
+            word: None,
+            next: 0,
             sample: None,
             returned,
         }
     }
 
-    /// What a turn did that was an instruction.
-    pub(crate) fn of_instruction(
-        ran: KeptRan,
-        sample: Option<u32>,
-        returned: Option<u32>,
-    ) -> KeptNote
-        ensures { result ≡ record { ran = ran; sample = sample; returned = returned } }
+    /// What an instruction did that stood at `pc`, and led to `next`.
+    pub(crate) fn of_ran(pc: u32, word: Option<u32>, next: u32) -> KeptNote
+        ensures { result ≡ record {
+          ran = ran_from pc next (option_and_then instr_of word);
+          sample = None;
+          returned = None;
+        } }
     {
         KeptNote {
-            ran,
-            sample,
-            returned,
+            pc,
+            word,
+            next,
+            sample: None,
+            returned: None,
         }
     }
 
@@ -77,56 +92,15 @@ impl KeptNote {
         ensures { result ≡ self.now }
     {
         TurnNote {
-            ran: self.ran.told(),
+            ran: self.ran(),
             sample: self.sample,
             returned: self.returned,
         }
     }
-}
-
-/// An instruction that retired, if one did, as it is kept: as its word, which is decoded when somebody asks. Contracts
-/// see what it tells.
-#[derive(Drop)]
-pub(crate) struct KeptRan {
-    pc: u32,
-    // None where none did.
-    word: Option<u32>,
-    next: u32,
-}
-
-impl Model for KeptRan {
-    ghost use Rattle.std.specs.Prelude.{Option, option_and_then};
-    ghost use Rattle.rv_decode.specs.Table.{instr_of};
-    ghost use Rattle.prof_machine.specs.declared.notes.Ran.{Ran};
-    ghost use Rattle.prof_machine.specs.Notes.{ran_from};
-
-    ghost Value = { Option Ran };
-
-    ghost view = { λ a. ran_from a.pc a.next (option_and_then instr_of a.word) };
-}
-
-impl KeptRan {
-    /// None has retired.
-    pub(crate) fn none() -> KeptRan
-        ensures { result ≡ None }
-    {
-        KeptRan {
-            pc: 0,
-            word: None,
-            next: 0,
-        }
-    }
-
-    /// One has that stands at `pc`, and led to `next`.
-    pub(crate) fn of(pc: u32, word: Option<u32>, next: u32) -> KeptRan
-        ensures { result ≡ ran_from pc next (option_and_then instr_of word) }
-    {
-        KeptRan { pc, word, next }
-    }
 
     #[inline(always)]
-    fn told(&self) -> Option<Ran>
-        ensures { result ≡ self.now }
+    fn ran(&self) -> Option<Ran>
+        ensures { result ≡ self.now.ran }
     {
         Some(Ran {
             pc: self.pc,

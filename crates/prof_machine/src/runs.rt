@@ -120,7 +120,6 @@ impl Run {
     /// One turn of a hart: a look of its walk, or one instruction with its sample and its hook. What the
     /// program prints is printed. `Failed` comes only where this failed; then the run isn't live, and has no
     /// ending. Takes no memory.
-    #[inline(always)]
     pub fn turn<H: Host>(&mut self, hart: u32, host: &mut H) -> Result<Turned, Failed>
         requires live { IsLive self.old }
         requires hart { hart < self.old.machine.setup.harts }
@@ -153,21 +152,14 @@ impl Run {
         ensures few { work_left self.old ≤ most_turns self.old.machine.setup }
         ensures less { IsLive self.new → work_left self.new < work_left self.old }
     {
-        self.live = false;
-        let note = if self.holds_walk(hart) {
-            KeptNote::of_look(self.look(hart))
-        } else {
-            self.instruct_noted(hart, host)?
-        };
-        self.close();
-        self.live = self.ending.is_none();
+        let note = self.advance(hart, host)?;
         self.note = note;
         Ok(self.turned())
     }
 
-    // The same, of which nothing is noted.
+    // The same, of which the note isn't put down. It is inlined, so that who drops the note doesn't make it.
     #[inline(always)]
-    fn advance<H: Host>(&mut self, hart: u32, host: &mut H) -> Result<Turned, Failed>
+    fn advance<H: Host>(&mut self, hart: u32, host: &mut H) -> Result<KeptNote, Failed>
         requires live { IsLive self.old }
         requires hart { hart < self.old.machine.setup.harts }
         ensures stands { OnOk result (StandsAfter (λ w. turn_of self.old.machine w hart)
@@ -176,16 +168,18 @@ impl Run {
             (H.outside host.old) (H.outside host.new) result }
         ensures advances { Advances self.old self.new result }
         ensures fewer { LeavesFewerTurns self.old self.new }
+        ensures note { IfOk result (λ note. (w : World) → StandsFor w self.old
+            → note ≡ note_of self.old.machine w hart) }
     {
         self.live = false;
-        if self.holds_walk(hart) {
-            let _ = self.look(hart);
+        let note = if self.holds_walk(hart) {
+            KeptNote::of_look(self.look(hart))
         } else {
-            self.instruct(hart, host)?;
-        }
+            self.instruct(hart, host)?
+        };
         self.close();
         self.live = self.ending.is_none();
-        Ok(self.turned())
+        Ok(note)
     }
 
     /// The turns of the plan, from its first one on, up to the end of the run. What the program prints is
@@ -219,9 +213,9 @@ impl Run {
         let mut plan = PlanWalk::new(&self.machine.setup);
         'turns: loop {
             let hart = plan.next_hart();
-            match self.advance(hart, host)? {
-                Turned::Going => {}
-                Turned::Ended(end) => return Ok(end),
+            let _ = self.advance(hart, host)?;
+            if let Some(end) = self.ending {
+                return Ok(end);
             }
         }
     }

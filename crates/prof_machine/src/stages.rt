@@ -1,8 +1,6 @@
 //! The stages of a turn.
 
-ghost use Rattle.std.specs.Prelude.{◌≡◌, ◌<◌, ◌≤◌, ◌&&◌, None, IfOk, OnOk, IsSome, false, MatchResult, All};
-ghost use Rattle.gp_base.specs.Spans.{is_in};
-ghost use Rattle.mcount_arcs.specs.Sizes.{text_span};
+ghost use Rattle.std.specs.Prelude.{◌≡◌, ◌<◌, ◌≤◌, None, IfOk, OnOk, IsSome, false, MatchResult, All};
 ghost use Rattle.prof_machine.specs.Executions.{with_execution};
 ghost use Rattle.prof_machine.specs.Notes.{if_going, instruction_note, look_note, note_by, return_from_call, return_in, return_of, sample_in};
 ghost use Rattle.prof_machine.specs.Stages.{CanExecute, CanLook, Executes, InTurn, Instructs, PrintsAs, Serves, StandsAfter, StaysOpen, Steps, TakesLook, Ticks, answers, begin_of, holds, ran_since, retires, returns};
@@ -12,11 +10,11 @@ ghost use Rattle.prof_machine.specs.World.{World, hart_of, looks_of_hart};
 
 use crate::ecalls::{A0, Call, ecall_of, write};
 use crate::flight::{Flight, finish_walk};
-use crate::notes::{KeptNote, KeptRan};
+use crate::notes::KeptNote;
 use crate::runs::Run;
 use crate::summary::End;
 use host_port::{Failed, Host};
-use mcount_arcs::{Entered, Gmon, Looked};
+use mcount_arcs::{Entered, Looked};
 use rv_step::{Stepped, TrapKind, fetch, step};
 
 /// Where a turn begins.
@@ -68,31 +66,9 @@ impl Run {
         }
     }
 
-    // One instruction of this hart, with its tick and its hook.
+    // One instruction of this hart, with its tick and its hook. What it did is answered.
     #[inline(always)]
-    pub(crate) fn instruct<H: Host>(&mut self, hart: u32, host: &mut H) -> Result<(), Failed>
-        requires none { holds self.old.flight hart ≡ false }
-        requires can { CanExecute hart self.old }
-        ensures stands { OnOk result (StandsAfter (after_ordinary_turn self.old.machine hart)
-            self.old self.new) }
-        ensures outside { PrintsAs (after_ordinary_turn self.old.machine hart) self.old
-            (H.outside host.old) (H.outside host.new) result }
-        ensures instructs { MatchResult result (λ _. Instructs self.old self.new)
-            (λ _. StaysOpen self.old self.new) }
-    {
-        self.execute(hart, host)?;
-        let _ = self.sample(hart);
-        let _ = self.arrive(hart);
-        self.spend();
-        Ok(())
-    }
-
-    // The same, and what it did.
-    pub(crate) fn instruct_noted<H: Host>(
-        &mut self,
-        hart: u32,
-        host: &mut H,
-    ) -> Result<KeptNote, Failed>
+    pub(crate) fn instruct<H: Host>(&mut self, hart: u32, host: &mut H) -> Result<KeptNote, Failed>
         requires none { holds self.old.flight hart ≡ false }
         requires can { CanExecute hart self.old }
         ensures stands { OnOk result (StandsAfter (after_ordinary_turn self.old.machine hart)
@@ -106,11 +82,11 @@ impl Run {
     {
         let begin = self.begin(hart);
         self.execute(hart, host)?;
-        let ran = self.ran_since(hart, begin);
-        let sample = self.sample(hart);
-        let returned = self.arrive(hart);
+        let mut note = self.note_since(hart, begin);
+        note.sample = self.sample(hart);
+        note.returned = self.arrive(hart);
         self.spend();
-        Ok(KeptNote::of_instruction(ran, sample, returned))
+        Ok(note)
     }
 
     // Where a hart's turn begins.
@@ -126,15 +102,15 @@ impl Run {
         }
     }
 
-    // The instruction that stood there, if it has retired since then.
-    fn ran_since(&self, hart: u32, begin: Begin) -> KeptRan
+    // The note of the instruction that stood there, if it has retired since then.
+    fn note_since(&self, hart: u32, begin: Begin) -> KeptNote
         requires { hart < self.now.machine.setup.harts }
-        ensures { result ≡ ran_since hart begin self.now }
+        ensures { result ≡ record { ran = ran_since hart begin self.now; sample = None; returned = None } }
     {
         if self.retired == begin.retired {
-            return KeptRan::none();
+            return KeptNote::of_look(None);
         }
-        KeptRan::of(begin.pc, begin.word, self.harts[hart as usize].pc())
+        KeptNote::of_ran(begin.pc, begin.word, self.harts[hart as usize].pc())
     }
 
     // The instruction.
@@ -244,7 +220,7 @@ impl Run {
         }
         self.due = self.machine.setup.every;
         let pc = self.harts[hart as usize].pc();
-        let counts = counts(&self.gmon, pc);
+        let counts = self.gmon.counts(pc);
         if counts {
             self.samples += 1;
         }
@@ -365,14 +341,6 @@ impl Run {
             finish_walk(&mut self.gmon, flight.walk);
         }
     }
-}
-
-/// Whether a sample at this address counts.
-fn counts(gmon: &Gmon, pc: u32) -> bool
-    ensures { result ≡ (gmon.now.sampling && is_in (text_span gmon.now.sizes) pc) }
-{
-    let sizes = gmon.sizes();
-    gmon.sampling() && sizes.low <= pc && pc < sizes.high
 }
 
 /// Counts that the instruction at `pc` was executed, if it is one of those from `low` on that are counted.

@@ -1,8 +1,7 @@
-use Rattle.std.proofs.Common.{◌≡◌, ◌∙◌, ◌+◌, ◌≤◌, None, Ok, true, ap, refl, sym, subst, arith}
-use Rattle.prof_machine.specs.declared.summary.Turned.{Turned}
+use Rattle.std.proofs.Common.{◌≡◌, ◌∙◌, ◌+◌, ◌≤◌, None, true, ap, refl, sym, subst, arith}
 use Rattle.host_port.proofs.Laws.{KeepsCounts-same, KeepsCounts-then, KeepsInput-same, KeepsInput-then}
 use Rattle.prof_machine.proofs.ActLemmas.{breaks_after, nothing_printed, printed_then}
-use Rattle.prof_machine.proofs.DriveLemmas.{ended_answer, going_answer, in_first, in_last, in_next, work_bound}
+use Rattle.prof_machine.proofs.DriveLemmas.{in_first, in_last, in_next, work_bound}
 use Rattle.prof_machine.proofs.ResultLemmas.{on_err_any}
 use Rattle.prof_machine.specs.Plan.{most_turns}
 use Rattle.prof_machine.specs.Prints.{ArePrinted, BreaksOff}
@@ -38,8 +37,8 @@ turns-preserved g c =
     let i = c.turns.invariant in
     let t = c.in_ok-advance.ensures in
     let hart = c.next_hart-hart.ensures in
-    let going = going_answer c.advance.new.self.ending (sym t.advances.answer ∙ c.in-Going.is) in
-    let live = t.advances.live.1 (ap (λ (x : Turned). Ok x) c.in-Going.is) in
+    let going = ap (λ (v : RunValue). v.ending) (sym c.self-in-turns.view_is) ∙ c.in_default.is in
+    let live = t.advances.live.1 going in
     record {
       live = live;
       going = going;
@@ -56,23 +55,23 @@ turns-preserved g c =
       input = KeepsInput-then _ _ _ i.input t.outside.input;
     }
 
-pub returns-in-Ended-clause-stands : goal.returns-in-Ended-clause-stands
-returns-in-Ended-clause-stands g c = λ w st.
+pub returns-in-Some-clause-stands : goal.returns-in-Some-clause-stands
+returns-in-Some-clause-stands g c = λ w st.
     let m = c.args.self.now.machine in
     let i = c.turns.invariant in
     let t = c.in_ok-advance.ensures in
     let P : World → Type 0 = λ v. StandsFor v c.advance.new.self in
     let stands = in_next P m c.turns.self.machine w i.turns c.next_hart-hart.result i.machine (c.next_hart-hart.ensures.taker _ _ i.draws) (t.stands _ (i.stands w st)) in
-    in_last P m w c.advance.new.self (i.turns + 1) c.in-Ended.end (omega (arith, i.few, t.fewer.left)) (ended_answer c.advance.new.self.ending c.in-Ended.end (sym t.advances.answer ∙ c.in-Ended.is)) stands stands
+    in_last P m w c.advance.new.self (i.turns + 1) c.in-Some.end (omega (arith, i.few, t.fewer.left)) (ap (λ (v : RunValue). v.ending) (sym c.self-in-turns.view_is) ∙ c.in-Some.is) stands stands
 
-pub returns-in-Ended-clause-prints : goal.returns-in-Ended-clause-prints
-returns-in-Ended-clause-prints g c = λ w st.
+pub returns-in-Some-clause-prints : goal.returns-in-Some-clause-prints
+returns-in-Some-clause-prints g c = λ w st.
     let m = c.args.self.now.machine in
     let i = c.turns.invariant in
     let t = c.in_ok-advance.ensures in
     let P : World → Type 0 = λ v. StandsFor v c.advance.new.self in
     let Q : World → Type 0 = λ v. ArePrinted w v (g.H.Host.outside c.args.host.now) (g.H.Host.outside c.advance.new.host) in
-    in_last Q m w c.advance.new.self (i.turns + 1) c.in-Ended.end (omega (arith, i.few, t.fewer.left)) (ended_answer c.advance.new.self.ending c.in-Ended.end (sym t.advances.answer ∙ c.in-Ended.is))
+    in_last Q m w c.advance.new.self (i.turns + 1) c.in-Some.end (omega (arith, i.few, t.fewer.left)) (ap (λ (v : RunValue). v.ending) (sym c.self-in-turns.view_is) ∙ c.in-Some.is)
     (in_next P m c.turns.self.machine w i.turns c.next_hart-hart.result i.machine (c.next_hart-hart.ensures.taker _ _ i.draws) (t.stands _ (i.stands w st)))
     (in_next Q m c.turns.self.machine w i.turns c.next_hart-hart.result i.machine (c.next_hart-hart.ensures.taker _ _ i.draws) (printed_then w _ _ _ _ _ (i.prints w st) (t.outside.prints _ (i.stands w st))))
 
