@@ -4,11 +4,11 @@ use Rattle.std.specs.Prelude.{IfSome, nat_lt, nat_le, if◌then◌else◌}
 use Rattle.std.specs.List.{All, AllByRecursion}
 use Rattle.std.specs.Option.{option_map, option_and_then}
 use Rattle.std.proofs.lemmas.List.Elements.{All-from_recursion}
-use Rattle.arc_filter.specs.Cuts.{is_cut_word}
-use Rattle.prof_machine.specs.declared.setup.Plan.{Plan}
-use Rattle.prof_machine.specs.declared.setup.Setup.{Setup}
-use Rattle.prof_machine.specs.Setup.{IsSetup, plan_number}
 use Rattle.gp_base.specs.declared.records.Form.{Form}
+use Rattle.settings.specs.CutWords.{is_cut_word}
+use Rattle.settings.specs.declared.setup.Plan.{Plan}
+use Rattle.settings.specs.declared.setup.Setup.{Setup}
+use Rattle.settings.specs.Setup.{IsSetup, plan_number}
 use Rattle.command_words.specs.declared.options.Key.TheVariants as keys
 use Rattle.command_words.specs.declared.items.Item.{Item}
 use Rattle.command_words.specs.declared.verbs.Verb.{Verb}
