@@ -1,5 +1,5 @@
 -- What is so for each of the four fractions.
-use Rattle.std.proofs.Common.{◌≡◌, ℕ, ◌<◌, ◌≤◌, max, inl, inr, sym, subst, arith}
+use Rattle.std.proofs.Common.{ℕ, ◌≤◌, max, inl, inr, sym, subst, arith}
 use Rattle.std.proofs.lemmas.Bool.{cases_lt}
 use Rattle.std.proofs.Math.Nat.{max-eq_left, max-eq_right}
 use Rattle.settings.specs.Setup.{IsFraction}
