@@ -6,7 +6,7 @@ use Rattle.std.specs.Prelude.{is_some, nat_lt, not, ◌⊎◌, ◌==◌}
 use Rattle.elf32_syms.specs.declared.image.Image.{Image}
 use Rattle.settings.specs.declared.setup.Setup.{Setup}
 use Rattle.mcount_arcs.proofs.EmptyLogLemmas.{IsLegal-nil}
-use Rattle.mcount_arcs.proofs.LogLemmas.{IsLegal-push, more}
+use Rattle.mcount_arcs.proofs.LogLemmas.{IsLegal-push}
 use Rattle.mcount_arcs.specs.Log.{CallIgnored, CallLost, Enter, IsLegal, IsLegalAfter, IsSite, LogEntry, MayFollow, Mode, Sample, WalkDone, state_of}
 use Rattle.mcount_arcs.specs.Sizes.{offset_of, slot_of}
 use Rattle.mcount_arcs.specs.Value.{meets, walk_from}
