@@ -8,8 +8,9 @@ use Rattle.std.proofs.lemmas.List.FromFn.{get_or-map-range_with_len, length-rang
 use Rattle.std.specs.Str.{bytes_eq}
 use Rattle.elf32_syms.specs.declared.image.Symbol.{Symbol}
 use Rattle.elf32_syms.specs.Owners.{owner_of}
+use Rattle.settings.specs.CutWords.{from_of, to_of}
 use Rattle.arc_filter.specs.declared.marks.Marks.{Marks}
-use Rattle.arc_filter.specs.Cuts.{from_of, is_named, is_cut, is_cut_pair, to_of}
+use Rattle.arc_filter.specs.Cuts.{is_named, is_cut, is_cut_pair}
 use Rattle.arc_filter.specs.Marks.{AreMarks, AreOf, callers_marked, is_caller_marked, is_marked, name_marks, sides_named, sides_of}
 use Rattle.arc_filter.proofs.PairLemmas.{cut_by_owners, cut_of_functions}
 

@@ -8,11 +8,12 @@ use Rattle.std.proofs.lemmas.List.Elements.{filter-append}
 use Rattle.std.proofs.lemmas.List.Sums.{sum_by-cons}
 use Rattle.elf32_syms.specs.declared.image.Symbol.{Symbol}
 use Rattle.elf32_syms.specs.Owners.{owner_of}
+use Rattle.settings.specs.CutWords.{from_of, to_of}
 use Rattle.call_cycles.specs.declared.graphs.FunArc.{FunArc}
 use Rattle.call_cycles.specs.Calls.{arc_between, arcs_among, calls_between, calls_of, function_arcs, lies_in, own_calls}
 use Rattle.call_cycles.specs.Sums.{list_of, numbers_below, when}
 use Rattle.gmon_data.specs.Content.{Content}
-use Rattle.arc_filter.specs.Cuts.{from_of, is_named, is_cut, is_cut_pair, stays, to_of, without_cuts}
+use Rattle.arc_filter.specs.Cuts.{is_named, is_cut, is_cut_pair, stays, without_cuts}
 
 module _ (symbols : List Symbol) (cuts : List (List ℕ)) where
   -- cut or not, by the owners of two addresses

@@ -1,22 +1,12 @@
 -- Calls that are cut, by words FROM/TO: the calls of functions with the name FROM to functions with the name TO.
-use Rattle.std.specs.Prelude.{ℕ, ◌==◌, ◌&&◌, not, nat_lt, false, Bool, List, length, filter, slice_get}
-use Rattle.std.specs.List.{list_any, before_first, after_first}
+use Rattle.std.specs.Prelude.{ℕ, ◌&&◌, not, false, Bool, List, filter, slice_get}
+use Rattle.std.specs.List.{list_any}
 use Rattle.std.specs.Option.{option_map_or}
 use Rattle.std.specs.Str.{bytes_eq}
 use Rattle.elf32_syms.specs.declared.image.Symbol.{Symbol}
 use Rattle.elf32_syms.specs.Owners.{owner_of}
+use Rattle.settings.specs.CutWords.{from_of, to_of}
 use Rattle.gmon_data.specs.Content.{Content}
-
--- the name before the first slash of a word, and the one behind it; without a slash nothing is behind it
-abbrev pub from_of : List ℕ → List ℕ
-from_of word = before_first (λ b. b == 47) word
-
-abbrev pub to_of : List ℕ → List ℕ
-to_of word = after_first (λ b. b == 47) word
-
--- the word has both names, of at least one byte each
-abbrev pub is_cut_word : List ℕ → Bool
-is_cut_word word = nat_lt 0 (length (from_of word)) && nat_lt 0 (length (to_of word))
 
 -- function f has the name
 abbrev pub is_named : List Symbol → List ℕ → ℕ → Bool

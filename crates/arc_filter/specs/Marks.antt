@@ -4,8 +4,8 @@ use Rattle.std.specs.Prelude.{◌≡◌, ℕ, ◌&&◌, false, Bool, List, map, 
 use Rattle.std.specs.List.{All, list_any, range_with_len}
 use Rattle.std.specs.Str.{bytes_eq}
 use Rattle.elf32_syms.specs.declared.image.Symbol.{Symbol}
+use Rattle.settings.specs.CutWords.{from_of, to_of}
 use Rattle.arc_filter.specs.declared.marks.Marks.{Marks}
-use Rattle.arc_filter.specs.Cuts.{from_of, to_of}
 
 -- of each symbol, whether it has the name
 abbrev pub name_marks : List Symbol → List ℕ → List Bool

@@ -3,9 +3,10 @@
 ghost use Rattle.std.specs.Prelude.{◌≡◌, true, IfOk, OnOk, filter, map, string_bytes};
 ghost use Rattle.std.specs.List.{All};
 ghost use Rattle.elf32_syms.specs.Owners.{IsAscending};
+ghost use Rattle.settings.specs.CutWords.{is_cut_word};
 ghost use Rattle.gmon_data.specs.Content.{IsProfile, IsWithin, empty_content, with_records};
 ghost use Rattle.profile_sum.specs.Sum.{arc_record, hist_records};
-ghost use Rattle.arc_filter.specs.Cuts.{is_cut_word, stays, without_cuts};
+ghost use Rattle.arc_filter.specs.Cuts.{stays, without_cuts};
 
 use crate::marks::{is_cut, table_of};
 use elf32_syms::Symbol;

@@ -4,7 +4,7 @@
 pub mod cuts;
 pub mod laws;
 mod marks;
-pub mod words;
+mod words;
 
 pub use cuts::cut;
-pub use words::is_cut_word;
+pub use settings::is_cut_word;

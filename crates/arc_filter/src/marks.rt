@@ -3,7 +3,8 @@
 ghost use Rattle.std.specs.Prelude.{◌≡◌, ◌<◌, true, ℕ, List, IfOk, length, map, string_bytes};
 ghost use Rattle.std.specs.List.{All};
 ghost use Rattle.elf32_syms.specs.Owners.{IsAscending};
-ghost use Rattle.arc_filter.specs.Cuts.{is_cut as spec, is_cut_word};
+ghost use Rattle.settings.specs.CutWords.{is_cut_word};
+ghost use Rattle.arc_filter.specs.Cuts.{is_cut as spec};
 ghost use Rattle.arc_filter.specs.Marks.{AreMarks, AreOf, callers_marked, is_caller_marked, is_marked, name_marks, sides_named, sides_of};
 
 use crate::words::sides;

@@ -1,12 +1,11 @@
 -- Items while they are read, and what holds of all that are.
-use Rattle.std.proofs.Common.{◌≡◌, ◌<◌, ℕ, zero, suc, ◌+◌, ◌≤◌, Bool, true, false, ◌&&◌, ◌||◌, inl, inr, eqb, leb, List, [], ◌∷◌, ◌++◌, length, get_or, Option, Some, None, refl, ap, sym, subst, ◌∙◌, length-append, drop, take, if◌then◌else◌, arith}
+use Rattle.std.proofs.Common.{◌≡◌, ◌<◌, ℕ, zero, suc, ◌+◌, ◌≤◌, Bool, true, false, ◌&&◌, ◌||◌, inl, inr, eqb, List, [], ◌∷◌, ◌++◌, length, get_or, Option, Some, None, refl, ap, sym, subst, ◌∙◌, length-append, drop, take, if◌then◌else◌, arith}
 use Rattle.std.specs.Prelude.{IfSome, slice_get, nat_le}
 use Rattle.std.specs.List.{AllByRecursion, list_all, cons_option, filter_map}
-use Rattle.std.specs.Option.{option_map, option_and_then, unwrap_or}
+use Rattle.std.specs.Option.{option_and_then, unwrap_or}
 use Rattle.std.proofs.lemmas.List.{append-nil, take-append-drop, take_more}
 use Rattle.std.proofs.lemmas.List.Elements.{filter_map-append}
 use Rattle.std.proofs.lemmas.Bool.{and_parts, eqb-true, leb-true}
-use Rattle.std.proofs.lemmas.Bool.Decides.{nat_tests}
 use Rattle.command_words.specs.declared.options.Key.{Key}
 use Rattle.command_words.specs.declared.options.Key.TheVariants.{Every, Budget, Rate, Ram, Harts, Quantum, Seed, Image, Gnu, Flat, Graph, Elf, Hist, Hash, Blocks, Exact, Cut, Hide, Inclusive}
 use Rattle.command_words.specs.declared.options.Kind.{Kind}
@@ -14,10 +13,9 @@ use Rattle.command_words.specs.declared.options.Kind.TheVariants.{Number, Fracti
 use Rattle.command_words.specs.declared.verbs.Verb.{Verb}
 use Rattle.command_words.specs.declared.items.Item.{Item}
 use Rattle.command_words.specs.declared.items.Item.TheVariants.{Operand, Given}
-use Rattle.command_words.specs.declared.items.Wanted.{Wanted}
 use Rattle.command_words.specs.declared.items.Wanted.TheVariants.{Operands, Values}
-use Rattle.command_words.specs.Items.{all_wanted, are_few, is_key, is_option, items_behind, items_from, items_from_value, items_of, operands, values, with_item}
-use Rattle.command_words.specs.Numbers.{fraction_from, fraction_within, in_limits, is_fraction, number_of, number_within}
+use Rattle.command_words.specs.Items.{all_wanted, are_few, is_key, is_option, items_from, items_from_value, operands, values, with_item}
+use Rattle.command_words.specs.Numbers.{fraction_from, in_limits, number_of, number_within}
 use Rattle.command_words.specs.Options.{IsNumberOf, all_keys, is_flag, key_number, kind_of, most_times, option_of, value_said}
 use Rattle.command_words.specs.Words.{given, setting}
 

@@ -1,20 +1,19 @@
 -- Input files among the operands, which stand in the order of their words, and what holds of each command.
-use Rattle.std.proofs.Common.{◌≡◌, ℕ, zero, suc, ◌+◌, ◌<◌, ◌≤◌, Bool, true, false, ◌&&◌, inl, inr, List, [], ◌∷◌, length, drop, Option, Some, None, map, string_bytes, Global, String, refl, sym, ap, subst, ◌∙◌, arith}
+use Rattle.std.proofs.Common.{◌≡◌, ℕ, zero, suc, ◌+◌, ◌<◌, ◌≤◌, Bool, true, false, ◌&&◌, inl, List, [], ◌∷◌, length, drop, Option, Some, None, map, string_bytes, Global, String, refl, ap, ◌∙◌, arith}
 use Rattle.std.specs.Prelude.{IfSome, nat_lt, nat_le, if◌then◌else◌}
 use Rattle.std.specs.List.{All, AllByRecursion}
 use Rattle.std.specs.Option.{option_map, option_and_then}
 use Rattle.std.proofs.lemmas.List.Elements.{All-from_recursion}
-use Rattle.arc_filter.specs.Cuts.{is_cut_word}
-use Rattle.prof_machine.specs.declared.setup.Plan.{Plan}
-use Rattle.prof_machine.specs.declared.setup.Setup.{Setup}
-use Rattle.prof_machine.specs.Setup.{IsSetup, plan_number}
 use Rattle.gp_base.specs.declared.records.Form.{Form}
+use Rattle.settings.specs.CutWords.{is_cut_word}
+use Rattle.settings.specs.declared.setup.Plan.{Plan}
+use Rattle.settings.specs.declared.setup.Setup.{Setup}
+use Rattle.settings.specs.Setup.{IsSetup, plan_number}
 use Rattle.command_words.specs.declared.options.Key.TheVariants as keys
 use Rattle.command_words.specs.declared.items.Item.{Item}
 use Rattle.command_words.specs.declared.verbs.Verb.{Verb}
 use Rattle.command_words.specs.declared.verbs.Verb.TheVariants as verbs
-use Rattle.command_words.specs.declared.words.Command.{Command}
-use Rattle.command_words.specs.declared.words.Command.TheVariants.{Show, Syms, Run, Sum, Report, Profile, Demo, Annotate, Folded, Help, Version}
+use Rattle.command_words.specs.declared.words.Command.TheVariants.{Run, Sum, Report, Profile, Demo, Annotate, Folded}
 use Rattle.command_words.specs.declared.words.Selection.{Selection}
 use Rattle.command_words.specs.Items.{are_few, items_from, items_of, nth_word, operands, values, words_at}
 use Rattle.command_words.specs.Numbers.{number_of, number_within}

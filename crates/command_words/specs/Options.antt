@@ -2,7 +2,7 @@
 -- take them.
 use Rattle.std.specs.Prelude.{ℕ, ◌≤◌, Bool, true, false, List, [], ◌∷◌, Option, Some, None, find, bytes_eq, codes, ⊤, if◌then◌else◌}
 use Rattle.std.specs.Option.{option_and_then}
-use Rattle.mcount_arcs.specs.Sizes.{IsFraction}
+use Rattle.settings.specs.Setup.{IsFraction}
 use Rattle.command_words.specs.Numbers.{fraction_within, number_within}
 use Rattle.command_words.specs.declared.options.Key.{Key}
 use Rattle.command_words.specs.declared.options.Key.TheVariants.{Every, Budget, Rate, Ram, Harts, Quantum, Seed, Image, Gnu, Flat, Graph, Elf, Hist, Hash, Blocks, Exact, Cut, Hide, Inclusive}

@@ -1,14 +1,14 @@
 -- The command that the words of the command line say.
-use Rattle.std.specs.Prelude.{◌≡◌, ℕ, Bool, true, false, not, nat_lt, nat_le, ◌&&◌, ◌<◌, ◌≤◌, List, [], ◌∷◌, length, Option, Some, None, is_some, slice_get, ⊤, if◌then◌else◌}
+use Rattle.std.specs.Prelude.{◌≡◌, ℕ, Bool, true, not, nat_lt, nat_le, ◌&&◌, ◌<◌, ◌≤◌, List, [], ◌∷◌, length, Option, Some, None, is_some, slice_get, ⊤, if◌then◌else◌}
 use Rattle.std.specs.List.{AllByRecursion, list_all}
 use Rattle.std.specs.Option.{option_map, option_and_then, unwrap_or}
 use Rattle.gp_base.specs.declared.records.Form.{Form}
 use Rattle.gp_base.specs.declared.records.Form.TheVariants.{Bsd, Gnu}
-use Rattle.arc_filter.specs.Cuts.{is_cut_word}
-use Rattle.prof_machine.specs.declared.setup.Plan.{Plan}
-use Rattle.prof_machine.specs.declared.setup.Plan.TheVariants.{RoundRobin, Seeded}
-use Rattle.prof_machine.specs.declared.setup.Setup.{Setup}
-use Rattle.prof_machine.specs.Setup.{IsSetup}
+use Rattle.settings.specs.CutWords.{is_cut_word}
+use Rattle.settings.specs.declared.setup.Plan.{Plan}
+use Rattle.settings.specs.declared.setup.Plan.TheVariants.{RoundRobin, Seeded}
+use Rattle.settings.specs.declared.setup.Setup.{Setup}
+use Rattle.settings.specs.Setup.{IsSetup}
 use Rattle.command_words.specs.declared.options.Key.{Key}
 use Rattle.command_words.specs.declared.options.Key.TheVariants as keys
 use Rattle.command_words.specs.declared.items.Item.{Item}

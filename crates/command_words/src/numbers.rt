@@ -1,9 +1,9 @@
 //! Numbers among the words.
 
 ghost use Rattle.std.specs.Prelude.{◌≡◌, IfSome};
-ghost use Rattle.mcount_arcs.specs.Sizes.{IsFraction};
 ghost use Rattle.std.specs.List.{list_all};
 ghost use Rattle.std.specs.Char.{is_ascii_digit};
+ghost use Rattle.settings.specs.Setup.{IsFraction};
 ghost use Rattle.command_words.specs.Numbers.{fraction_within, has_leading_zero, is_number, number_within};
 
 /// Digits of the longest number.

@@ -1,7 +1,7 @@
 //! The reading of the words.
 
 ghost use Rattle.std.specs.Prelude.{◌≡◌, ◌≤◌, ℕ, List, length, map, string_bytes, true, IfSome};
-ghost use Rattle.prof_machine.specs.Setup.{IsSetup};
+ghost use Rattle.settings.specs.Setup.{IsSetup};
 ghost use Rattle.command_words.specs.declared.items.Item.{Item};
 ghost use Rattle.command_words.specs.Items.{are_few};
 ghost use Rattle.command_words.specs.Words.{are_cuts, command_by, command_of, few, form_asked, may_count, plan_asked, selection_of, setup_of, shown_asked, written_setup, IsCommandOf};
@@ -12,10 +12,9 @@ use crate::numbers::number_in;
 use crate::options::Key;
 use crate::places::Places;
 use crate::verbs::{Verb, verb_named};
-use arc_filter::is_cut_word;
 use gp_base::Form;
 use gp_base::limits::{MAX_DEMO, MAX_PROFILE_FILES};
-use prof_machine::{Plan, Setup};
+use settings::{Plan, Setup, is_cut_word};
 
 /// What the words ask for. A file is named by its position among the words, from 0.
 #[derive(Drop)]

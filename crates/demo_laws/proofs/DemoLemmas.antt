@@ -10,7 +10,7 @@ use Rattle.std.specs.Int.Digits.{digits_of}
 use Rattle.elf32_syms.specs.Names.{is_zero}
 use Rattle.elf32_syms.specs.declared.image.Image.{Image}
 use Rattle.elf32_syms.specs.Image.{image_of}
-use Rattle.prof_machine.specs.declared.setup.Setup.{Setup}
+use Rattle.settings.specs.declared.setup.Setup.{Setup}
 use Rattle.prof_machine.specs.Start.{start_refusal, base_of, program_end_of, is_too_small, is_entry_outside, stacks_bytes, memory_size}
 use Rattle.demo_elf.specs.Code.{function_at, start_words, mcount_words, function_words, demo_words, function_symbol, demo_symbols}
 use Rattle.demo_elf.specs.Elf.{string_text, strings_text, demo_program}

@@ -9,7 +9,7 @@ use Rattle.elf32_syms.specs.Sections.{is_executable, section_at, sections_of, st
 use Rattle.elf32_syms.specs.Segments.{segment_at, segments_of}
 use Rattle.elf32_syms.specs.Symbols.{entry_at, fitting_entries, is_candidate, kept_at, kept_entries, ranks_before}
 use Rattle.elf32_syms.specs.declared.image.Image.{Image}
-use Rattle.prof_machine.specs.declared.setup.Setup.{Setup}
+use Rattle.settings.specs.declared.setup.Setup.{Setup}
 use Rattle.prof_machine.specs.Start.{base_of, is_entry_outside, is_too_small, memory_size, program_end_of, stacks_bytes, start_refusal}
 use Rattle.demo_laws.specs.Witness.{WitnessHasImage, WitnessIsAccepted, WitnessStarts, witness_file, witness_image}
 

@@ -4,9 +4,9 @@ use Rattle.gp_base.specs.declared.limits.TheConstants.{MAX_ELF_BYTES}
 use Rattle.elf32_syms.specs.declared.image.Image.{Image}
 use Rattle.elf32_syms.specs.Refusals.{elf_refusal}
 use Rattle.elf32_syms.specs.Image.{image_of}
+use Rattle.settings.specs.declared.setup.Setup.{Setup}
 use Rattle.demo_elf.specs.Code.{demo_symbols}
 use Rattle.demo_elf.specs.Elf.{demo_program}
-use Rattle.prof_machine.specs.declared.setup.Setup.{Setup}
 use Rattle.prof_machine.specs.Start.{start_refusal}
 use Rattle.demo_laws.specs.Programs.{symbols_in_row}
 

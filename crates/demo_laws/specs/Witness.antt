@@ -3,7 +3,7 @@ use Rattle.std.specs.Prelude.{◌≡◌, ℕ, ◌≤◌, List, [], ◌∷◌, �
 use Rattle.elf32_syms.specs.declared.image.Image.{Image}
 use Rattle.elf32_syms.specs.Image.{image_of}
 use Rattle.elf32_syms.specs.Refusals.{elf_refusal}
-use Rattle.prof_machine.specs.declared.setup.Setup.{Setup}
+use Rattle.settings.specs.declared.setup.Setup.{Setup}
 use Rattle.prof_machine.specs.Start.{start_refusal}
 
 -- the header: an executable of RISC-V, which begins at 0x10000; a segment's header at 52, and four sections' at 164

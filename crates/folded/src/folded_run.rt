@@ -3,9 +3,9 @@
 ghost use Rattle.std.specs.Prelude.{◌≡◌, ℕ, ◌<◌, length, IfOk, OnOk, IfErr, MatchResult};
 ghost use Rattle.elf32_syms.specs.Owners.{IsAscending};
 ghost use Rattle.host_port.specs.Outside.{KeepsCounts, KeepsInput};
+ghost use Rattle.settings.specs.Setup.{IsSetup};
 ghost use Rattle.prof_machine.specs.Plan.{after_drive};
 ghost use Rattle.prof_machine.specs.Prints.{ArePrinted};
-ghost use Rattle.prof_machine.specs.Setup.{IsSetup};
 ghost use Rattle.prof_machine.specs.Value.{IsLive, StandsFor};
 ghost use Rattle.prof_machine.specs.World.{World};
 ghost use Rattle.folded.specs.Folding.{HasCause, StopsShort};

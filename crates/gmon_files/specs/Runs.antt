@@ -4,13 +4,14 @@ use Rattle.std.specs.List.{All}
 use Rattle.gp_base.specs.declared.records.Form.{Form}
 use Rattle.gp_base.specs.declared.records.Form.TheVariants.{Bsd, Gnu}
 use Rattle.gp_base.specs.declared.records.Span.{Span}
+use Rattle.settings.specs.Setup.{IsFraction}
 use Rattle.gmon_cells.specs.RunRecords.{run_records}
 use Rattle.gmon_bsd.specs.Run.{bsd_run_text}
 use Rattle.gmon_gnu.specs.Run.{gnu_run_text}
 use Rattle.mcount_arcs.specs.declared.sizes.Sizes.{Sizes}
 use Rattle.mcount_arcs.specs.Arcs.{CallFits, arcs_of}
 use Rattle.mcount_arcs.specs.Log.{LogEntry}
-use Rattle.mcount_arcs.specs.Sizes.{IsFraction, IsText, sizes_of}
+use Rattle.mcount_arcs.specs.Sizes.{IsText, sizes_of}
 use Rattle.gmon_files.specs.Forms.{file_records, file_refusal, form_of}
 
 -- the file of a run's log in a form

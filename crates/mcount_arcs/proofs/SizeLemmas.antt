@@ -1,31 +1,15 @@
 -- What follows from the fractions: a text is whole counters and whole slots, and each address has its own of both.
-use Rattle.std.proofs.Common.{◌≡◌, ℕ, zero, suc, ◌+◌, ◌-◌, ◌*◌, ◌/◌, ◌^◌, ◌<◌, ◌≤◌, max, inl, inr, refl, sym, ap, ◌∙◌, subst, arith}
-use Rattle.std.proofs.lemmas.Bool.{cases_lt}
-use Rattle.std.proofs.Math.Nat.{add-mul, div-add-mod, div-eq_of_lt-le, lt_of_mul-lt-mul_left, max-eq_left, max-eq_right, max_comm, mod-lt, mul-add, mul-div_cancel, mul-le-mul_left, mul-le-mul_right, mul_assoc, mul_comm}
+use Rattle.std.proofs.Common.{◌≡◌, ℕ, zero, suc, ◌+◌, ◌-◌, ◌*◌, ◌/◌, ◌^◌, ◌<◌, ◌≤◌, max, refl, sym, ap, ◌∙◌, subst, arith}
+use Rattle.std.proofs.Math.Nat.{add-mul, div-add-mod, div-eq_of_lt-le, lt_of_mul-lt-mul_left, max_comm, mod-lt, mul-add, mul-div_cancel, mul-le-mul_left, mul-le-mul_right, mul_assoc, mul_comm}
 use Rattle.gp_base.specs.declared.records.Span.{Span}
 use Rattle.gp_base.specs.declared.limits.TheConstants.{MAX_TEXT_BYTES, MAX_TEXT_END}
+use Rattle.settings.specs.Setup.{IsFraction}
+use Rattle.settings.proofs.FractionLemmas.{IsFraction-max, by_fraction, fraction_bounds}
 use Rattle.mcount_arcs.specs.declared.sizes.Sizes.{Sizes}
 use Rattle.mcount_arcs.specs.declared.sizes.Width.{Width}
-use Rattle.mcount_arcs.specs.Sizes.{AreSizes, IsFraction, IsText, IsWidth, rounded_down, rounded_up, site_of, sizes_of, cell_unit, width_of}
+use Rattle.mcount_arcs.specs.Sizes.{AreSizes, IsText, IsWidth, rounded_down, rounded_up, site_of, sizes_of, cell_unit, width_of}
 
--- what is so for each of the four numbers
-pub by_fraction : (P : ℕ → Type 0) (n : ℕ) → IsFraction n → P 2 → P 4 → P 8 → P 16 → P n
-by_fraction P n (inl e) p2 p4 p8 p16 = subst P (sym e) p2
-by_fraction P n (inr (inl e)) p2 p4 p8 p16 = subst P (sym e) p4
-by_fraction P n (inr (inr (inl e))) p2 p4 p8 p16 = subst P (sym e) p8
-by_fraction P n (inr (inr (inr e))) p2 p4 p8 p16 = subst P (sym e) p16
-
-pub fraction_bounds : (n : ℕ) → IsFraction n → (2 ≤ n) × (n ≤ 16)
-fraction_bounds n is =
-    by_fraction (λ n. (2 ≤ n) × (n ≤ 16)) n is (omega arith, omega arith) (omega arith, omega arith) (omega arith, omega arith) (omega arith, omega arith)
-
--- the larger of two is one of the four, and a multiple of each
-pub IsFraction-max : (h k : ℕ) → IsFraction h → IsFraction k → IsFraction (max h k)
-IsFraction-max h k is_h is_k = elim (cases_lt h k) [
-  | inl lt ↦ subst IsFraction (sym (max-eq_right (omega arith))) is_k
-  | inr le ↦ subst IsFraction (sym (max-eq_left le)) is_h
-]
-
+-- the larger of two is a multiple of each
 whole_by : (h k : ℕ) → IsFraction h → IsFraction k → max h k ≡ max h k / h * h
 whole_by h k is_h is_k =
     by_fraction (λ h. max h k ≡ max h k / h * h) h is_h

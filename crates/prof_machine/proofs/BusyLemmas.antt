@@ -9,6 +9,9 @@ use Rattle.std.specs.List.{filter_map, list_any}
 use Rattle.std.specs.Option.{IsSome}
 use Rattle.std.specs.Prelude.{is_some, nat_lt, not, ◌⊎◌, ◌==◌}
 use Rattle.elf32_syms.specs.declared.image.Image.{Image}
+use Rattle.settings.specs.declared.setup.Plan.{Plan}
+use Rattle.settings.specs.declared.setup.Plan.TheVariants.{RoundRobin, Seeded}
+use Rattle.settings.specs.declared.setup.Setup.{Setup}
 use Rattle.mcount_arcs.proofs.LogLemmas.{IsQuiet, is_busy-quiet, last_of-push, looks_of-chain, more, one_more, state_by, state_of-by}
 use Rattle.mcount_arcs.proofs.LookLemmas.{looks_bounds}
 use Rattle.mcount_arcs.specs.Arcs.{looks_of}
@@ -31,9 +34,6 @@ use Rattle.prof_machine.specs.World.{World, hart_of, looks_of_hart}
 use Rattle.prof_machine.specs.declared.summary.End.{End}
 use Rattle.prof_machine.specs.declared.summary.End.TheVariants.{Budget}
 use Rattle.prof_machine.specs.declared.machine.Machine.{Machine}
-use Rattle.prof_machine.specs.declared.setup.Plan.{Plan}
-use Rattle.prof_machine.specs.declared.setup.Plan.TheVariants.{RoundRobin, Seeded}
-use Rattle.prof_machine.specs.declared.setup.Setup.{Setup}
 
 -- no call is being entered, and no looks are left
 abbrev pub IsIdle : ℕ → List LogEntry → List ℕ → Type 0

@@ -4,6 +4,7 @@ use Rattle.std.proofs.lemmas.Bool.Decides.{nat_tests}
 use Rattle.std.specs.List.{list_any}
 use Rattle.std.specs.Prelude.{is_some, nat_lt, not, ◌⊎◌, ◌==◌}
 use Rattle.elf32_syms.specs.declared.image.Image.{Image}
+use Rattle.settings.specs.declared.setup.Setup.{Setup}
 use Rattle.mcount_arcs.proofs.EmptyLogLemmas.{IsLegal-nil}
 use Rattle.mcount_arcs.proofs.LogLemmas.{IsLegal-push}
 use Rattle.mcount_arcs.specs.Log.{CallIgnored, CallLost, Enter, IsLegal, IsLegalAfter, IsSite, LogEntry, MayFollow, Mode, Sample, WalkDone, state_of}
@@ -28,7 +29,6 @@ use Rattle.prof_machine.specs.World.{World, hart_of, looks_of_hart}
 use Rattle.prof_machine.specs.declared.summary.End.{End}
 use Rattle.prof_machine.specs.declared.summary.End.TheVariants.{Budget}
 use Rattle.prof_machine.specs.declared.machine.Machine.{Machine}
-use Rattle.prof_machine.specs.declared.setup.Setup.{Setup}
 
 -- ---- what a call meets
 

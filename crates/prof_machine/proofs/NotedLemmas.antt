@@ -13,6 +13,7 @@ use Rattle.rv_step.specs.Step.{instruction_at, step_of}
 use Rattle.rv_step.specs.declared.stepped.Stepped.{Stepped}
 use Rattle.rv_step.specs.declared.stepped.Stepped.TheVariants.{Ecall, Retired, Trap as Trapped}
 use Rattle.rv_step.proofs.StepEnds.{no_instruction}
+use Rattle.settings.specs.declared.setup.Setup.{Setup}
 use Rattle.mcount_arcs.proofs.LogLemmas.{counted_samples-same, counted_samples-sampled}
 use Rattle.mcount_arcs.specs.Log.{CallIgnored, CallLost, Enter, LogEntry, Mode, Sample, WalkDone, is_on, state_of}
 use Rattle.mcount_arcs.specs.Samples.{counted_in, counted_samples}
@@ -36,7 +37,6 @@ use Rattle.prof_machine.specs.declared.summary.End.{End}
 use Rattle.prof_machine.specs.declared.summary.End.TheVariants.{Budget}
 use Rattle.prof_machine.specs.declared.machine.Machine.{Machine}
 use Rattle.prof_machine.specs.declared.notes.Ran.{Ran}
-use Rattle.prof_machine.specs.declared.setup.Setup.{Setup}
 
 -- ---- the instruction that has retired
 

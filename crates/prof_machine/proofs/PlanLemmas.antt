@@ -3,13 +3,13 @@ use Rattle.std.proofs.Common.{◌+◌, ◌++◌, List, Some, [], ap, arith, drop
 use Rattle.std.proofs.lemmas.List.FromFn.{map-range_with_len_more, take-map-range_with_len}
 use Rattle.std.specs.List.{range_with_len}
 use Rattle.std.proofs.lemmas.List.{take-append-drop}
+use Rattle.settings.specs.declared.setup.Setup.{Setup}
 use Rattle.prof_machine.proofs.WorldLemmas.{ended_stays, world_after-append}
 use Rattle.prof_machine.specs.Plan.{after_drive, most_turns, plan_of, world_at, taker_of}
 use Rattle.prof_machine.specs.Turn.{turn_of, world_after}
 use Rattle.prof_machine.specs.World.{World}
 use Rattle.prof_machine.specs.declared.summary.End.{End}
 use Rattle.prof_machine.specs.declared.machine.Machine.{Machine}
-use Rattle.prof_machine.specs.declared.setup.Setup.{Setup}
 
 pub plan_more : (setup : Setup) (n : ℕ) → plan_of setup (n + 1) ≡ plan_of setup n ++ taker_of setup.plan setup.harts n ∷ []
 unfolding plan_of

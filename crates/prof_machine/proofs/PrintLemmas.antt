@@ -6,6 +6,7 @@ use Rattle.host_port.specs.Act.{Act, Disk, disk_after}
 use Rattle.host_port.specs.Host.{act_of}
 use Rattle.host_port.specs.declared.side.Side.TheVariants.{ErrorOutput, Output}
 use Rattle.host_port.proofs.Laws.{disk_after-append}
+use Rattle.settings.specs.declared.setup.Setup.{Setup}
 use Rattle.mcount_arcs.specs.Log.{WalkDone}
 use Rattle.rv_step.specs.Memory.{Memory, is_inside, read_at}
 use Rattle.rv_step.specs.Registers.{Registers}
@@ -22,7 +23,6 @@ use Rattle.prof_machine.specs.World.{World, hart_of, looks_of_hart}
 use Rattle.prof_machine.specs.declared.ecalls.Call.{Call}
 use Rattle.prof_machine.specs.declared.ecalls.Call.TheVariants.{Answers, Exits, SetsBreak, Writes}
 use Rattle.prof_machine.specs.declared.machine.Machine.{Machine}
-use Rattle.prof_machine.specs.declared.setup.Setup.{Setup}
 use Rattle.prof_machine.specs.Start.{final_world, machine_of, start_of}
 
 -- ---- only instructions print

@@ -7,6 +7,7 @@ use Rattle.std.specs.Prelude.{is_some}
 use Rattle.std.proofs.lemmas.List.FromFn.{length-map-range_with_len}
 use Rattle.std.proofs.Math.Nat.{zero-div}
 use Rattle.elf32_syms.specs.declared.image.Image.{Image}
+use Rattle.settings.specs.declared.setup.Setup.{Setup}
 use Rattle.mcount_arcs.proofs.ChainLengths.{chain_short}
 use Rattle.mcount_arcs.proofs.KeptCallLemmas.{kept_calls-places}
 use Rattle.mcount_arcs.proofs.LogLemmas.{looks_of-chain}
@@ -26,7 +27,6 @@ use Rattle.prof_machine.specs.World.{World}
 use Rattle.prof_machine.specs.declared.summary.End.{End}
 use Rattle.prof_machine.specs.declared.summary.End.TheVariants.{Budget, Exit, Trap}
 use Rattle.prof_machine.specs.declared.machine.Machine.{Machine}
-use Rattle.prof_machine.specs.declared.setup.Setup.{Setup}
 
 looks_short : (image : Image) (setup : Setup) → Short (machine_of image setup)
 unfolding machine_of

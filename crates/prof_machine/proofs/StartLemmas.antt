@@ -6,6 +6,8 @@ use Rattle.std.specs.List.{range_with_len}
 use Rattle.elf32_syms.specs.Sections.{least_of}
 use Rattle.elf32_syms.specs.declared.image.Image.{Image}
 use Rattle.elf32_syms.specs.declared.image.Segment.{Segment}
+use Rattle.settings.specs.Setup.{IsSetup}
+use Rattle.settings.specs.declared.setup.Setup.{Setup}
 use Rattle.mcount_arcs.proofs.CallLemmas.{pending_call-idle}
 use Rattle.mcount_arcs.proofs.EmptyLogLemmas.{kept_calls-nil}
 use Rattle.mcount_arcs.specs.Samples.{counted_samples}
@@ -17,7 +19,6 @@ use Rattle.prof_machine.proofs.ClockLemmas.{first}
 use Rattle.prof_machine.proofs.ExecutionLemmas.{exec_counts_of-nil, first_counts}
 use Rattle.prof_machine.proofs.WalkLemmas.{no_walk}
 use Rattle.prof_machine.specs.Executions.{instructions_of}
-use Rattle.prof_machine.specs.Setup.{IsSetup}
 use Rattle.prof_machine.specs.Start.{HasRoom, IsLayout, base_in, base_of, first_registers, is_outside_of, is_too_small_of, machine_of, program_end_in, program_end_of, memory_size, start_of, start_refusal}
 use Rattle.prof_machine.specs.Value.{AreCounts, IsHeld, RunValue, StandsFor, calls_met, flights, left_by, value_of}
 use Rattle.prof_machine.specs.declared.summary.StartRefusal.{StartRefusal}
@@ -26,7 +27,6 @@ use Rattle.prof_machine.specs.declared.flight.Flight.{Flight}
 use Rattle.prof_machine.specs.declared.layout.Layout.{Layout}
 use Rattle.prof_machine.specs.declared.machine.Machine.{Machine}
 use Rattle.prof_machine.specs.declared.runs.Run.TheInside.{Inside}
-use Rattle.prof_machine.specs.declared.setup.Setup.{Setup}
 
 abbrev judge : Bool → Bool → ℕ → ℕ → ℕ → Option StartRefusal
 judge small outside need end entry = if small then Some (ProgramTooLarge need end) else (if outside then Some (EntryOutside entry) else None)

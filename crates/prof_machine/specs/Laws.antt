@@ -3,6 +3,7 @@ use Rattle.std.specs.Prelude.{◌≡◌, ◌≢◌, ◌⊎◌, ℕ, ◌+◌, ◌
 use Rattle.std.specs.List.{cons_option}
 use Rattle.elf32_syms.specs.declared.image.Image.{Image}
 use Rattle.host_port.specs.Act.{Act, Disk, disk_after}
+use Rattle.settings.specs.declared.setup.Setup.{Setup}
 use Rattle.mcount_arcs.specs.declared.state.State.TheVariants.{Busy}
 use Rattle.mcount_arcs.specs.Log.{CallIgnored, CallLost, Enter, IsLegal, LogEntry, MayFollow, Mode, Sample, WalkDone, state_of}
 use Rattle.mcount_arcs.specs.Samples.{counted_samples}
@@ -10,7 +11,6 @@ use Rattle.rv_step.specs.declared.stepped.TrapKind.{TrapKind}
 use Rattle.prof_machine.specs.declared.summary.End.TheVariants.{Trap}
 use Rattle.prof_machine.specs.declared.machine.Machine.{Machine}
 use Rattle.prof_machine.specs.declared.notes.Ran.{Ran}
-use Rattle.prof_machine.specs.declared.setup.Setup.{Setup}
 use Rattle.prof_machine.specs.Notes.{note_of}
 use Rattle.prof_machine.specs.Plan.{after_drive, most_turns, world_at}
 use Rattle.prof_machine.specs.Start.{final_world, machine_of, start_of}

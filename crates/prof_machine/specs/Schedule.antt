@@ -1,11 +1,11 @@
 -- How far a walk through a plan has come.
 use Rattle.std.specs.Prelude.{◌≡◌, ℕ, ◌-◌, ◌/◌, ◌%◌, ◌<◌, ◌≤◌}
+use Rattle.settings.specs.declared.setup.Plan.{Plan}
+use Rattle.settings.specs.declared.setup.Plan.TheVariants.{RoundRobin, Seeded}
+use Rattle.settings.specs.declared.setup.Setup.{Setup}
+use Rattle.settings.specs.Setup.{plan_number}
 use Rattle.prof_machine.specs.declared.schedule.PlanWalk.TheInside.{Inside}
-use Rattle.prof_machine.specs.declared.setup.Plan.{Plan}
-use Rattle.prof_machine.specs.declared.setup.Plan.TheVariants.{RoundRobin, Seeded}
-use Rattle.prof_machine.specs.declared.setup.Setup.{Setup}
 use Rattle.prof_machine.specs.Plan.{state_after}
-use Rattle.prof_machine.specs.Setup.{plan_number}
 
 -- what contracts see of a walk
 pub record PlanPlace : Type 0 where

@@ -4,13 +4,13 @@ ghost use Rattle.std.specs.Prelude.{◌≡◌, ◌+◌, ◌*◌, ◌^◌, ◌<�
 ghost use Rattle.std.specs.List.{range_with_len};
 ghost use Rattle.elf32_syms.specs.Image.{IsWithinLimits};
 ghost use Rattle.host_port.specs.Outside.{KeepsCounts, KeepsInput};
+ghost use Rattle.settings.specs.Setup.{IsSetup};
 ghost use Rattle.mcount_arcs.specs.Arcs.{CallFits, arcs_of};
 ghost use Rattle.mcount_arcs.specs.Sizes.{AreSizes};
 ghost use Rattle.mcount_arcs.specs.Value.{StandsFor as RuntimeStandsFor};
 ghost use Rattle.prof_machine.specs.declared.summary.Turned.TheVariants.{Going};
 ghost use Rattle.prof_machine.specs.Executions.{exec_counts_of, instructions_of};
 ghost use Rattle.prof_machine.specs.Notes.{look_note, note_of};
-ghost use Rattle.prof_machine.specs.Setup.{IsSetup};
 ghost use Rattle.prof_machine.specs.Start.{IsRefusal, first_registers as first_registers_of, machine_of, stacks_bytes, start_of, start_refusal};
 ghost use Rattle.prof_machine.specs.Turn.{turn_of};
 ghost use Rattle.prof_machine.specs.Plan.{after_drive, most_turns, world_at};
@@ -24,12 +24,12 @@ use crate::layout::{Layout, first_registers};
 use crate::machine::Machine;
 use crate::notes::{KeptNote, TurnNote};
 use crate::schedule::PlanWalk;
-use crate::setup::Setup;
 use crate::summary::{End, RunSummary, StartRefusal, Turned};
 use elf32_syms::Image;
 use host_port::{Failed, Host};
 use mcount_arcs::{Gmon, Sizes};
 use rv_step::{Ram, Regs};
+use settings::Setup;
 use std::alloc::{AllocError, Global};
 use std::marker::Model;
 

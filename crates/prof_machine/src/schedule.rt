@@ -1,12 +1,12 @@
 //! Which hart takes the next turn.
 
 ghost use Rattle.std.specs.Prelude.{◌≡◌, ◌+◌, ◌%◌, ◌<◌, ◌≤◌, ℕ};
-ghost use Rattle.prof_machine.specs.declared.setup.Setup.{Setup as AnySetup};
+ghost use Rattle.settings.specs.declared.setup.Setup.{Setup as AnySetup};
+ghost use Rattle.settings.specs.Setup.{IsSetup};
 ghost use Rattle.prof_machine.specs.Plan.{shuffle_of as spec, taker_of};
 ghost use Rattle.prof_machine.specs.Schedule.{Draws, IsRound};
-ghost use Rattle.prof_machine.specs.Setup.{IsSetup};
 
-use crate::setup::{Plan, Setup};
+use settings::{Plan, Setup};
 use std::marker::Model;
 
 /// A walk through the turns of a plan, from its first one on. Contracts see how far it has come.

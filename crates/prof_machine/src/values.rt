@@ -3,7 +3,6 @@
 ghost use Rattle.std.specs.Prelude.{◌≡◌, ◌↔◌, IsTrue, Ok};
 
 use crate::notes::{Ran, TurnNote};
-use crate::setup::Setup;
 use crate::summary::{End, RunSummary, StartRefusal, Turned};
 use std::alloc::AllocError;
 
@@ -72,20 +71,6 @@ pub fn copied_instructions(a: &Ran) -> Result<Ran, AllocError>
 
 /// The same note.
 pub fn copied_notes(a: &TurnNote) -> Result<TurnNote, AllocError>
-    ensures { result ≡ Ok a.now }
-{
-    a.clone()
-}
-
-/// Whether two runs are to be the same.
-pub fn same_setups(a: &Setup, b: &Setup) -> bool
-    ensures { IsTrue result ↔ (a.now ≡ b.now) }
-{
-    a == b
-}
-
-/// The same setup.
-pub fn copied_setups(a: &Setup) -> Result<Setup, AllocError>
     ensures { result ≡ Ok a.now }
 {
     a.clone()

@@ -13,6 +13,7 @@ use Rattle.host_port.specs.Act.{Act, Out}
 use Rattle.elf32_syms.specs.declared.image.Image.{Image}
 use Rattle.elf32_syms.specs.Refusals.{elf_refusal}
 use Rattle.elf32_syms.specs.Image.{image_of}
+use Rattle.settings.specs.declared.setup.Setup.{Setup}
 use Rattle.gmon_data.specs.Content.{Content, WideRec, content_of, conflict_of, empty_content, wide_records}
 use Rattle.gmon_data.specs.declared.refusal.Unlike.{Unlike as Difference}
 use Rattle.profile_sum.specs.Sum.{sum_of, clash_of}
@@ -22,7 +23,6 @@ use Rattle.gmon_gnu.specs.ProfileText.{profile_text}
 use Rattle.text_lines.specs.Lines.{show_text, image_text}
 use Rattle.mcount_arcs.specs.declared.sizes.Sizes.{Sizes}
 use Rattle.mcount_arcs.specs.Sizes.{sizes_of}
-use Rattle.prof_machine.specs.declared.setup.Setup.{Setup}
 use Rattle.prof_machine.specs.Start.{final_world, start_refusal}
 use Rattle.prof_machine.specs.Value.{summary_of}
 use Rattle.prof_machine.specs.World.{World}

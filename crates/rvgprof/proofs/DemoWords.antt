@@ -1,7 +1,7 @@
 -- The numbers of a demo that words say.
 use Rattle.std.proofs.Common.{◌≡◌, ◌≤◌, ℕ, List, Option, Some, subst}
 use Rattle.std.specs.Option.{IfSome}
-use Rattle.prof_machine.specs.declared.setup.Setup.{Setup}
+use Rattle.settings.specs.declared.setup.Setup.{Setup}
 use Rattle.command_words.specs.declared.words.Command.{Command}
 use Rattle.command_words.specs.declared.words.Command.TheVariants.{Demo}
 use Rattle.command_words.specs.Words.{command_of, IsCommandOf}

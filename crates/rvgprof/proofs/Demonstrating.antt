@@ -3,10 +3,10 @@ use Rattle.std.proofs.Common.{◌≡◌, ◌∙◌, ◌++◌, ℕ, List, [], Opt
 use Rattle.elf32_syms.specs.declared.image.Image.{Image}
 use Rattle.elf32_syms.specs.Image.{image_of}
 use Rattle.elf32_syms.specs.Refusals.{elf_refusal}
+use Rattle.settings.specs.declared.setup.Setup.{Setup}
 use Rattle.demo_elf.specs.Elf.{demo_program}
 use Rattle.host_port.specs.Outside.{Outside}
 use Rattle.host_port.specs.Performing.{Performs}
-use Rattle.prof_machine.specs.declared.setup.Setup.{Setup}
 use Rattle.rvgprof.specs.declared.outcome.Done.{Done}
 use Rattle.rvgprof.specs.declared.outcome.Fault.{Fault}
 use Rattle.rvgprof.specs.declared.outcome.Fault.TheVariants.{BadElf, WriteFault}

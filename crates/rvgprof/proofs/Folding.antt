@@ -3,6 +3,7 @@ use Rattle.std.proofs.Common.{◌≡◌, ℕ, suc, ◌+◌, ◌<◌, Bool, true,
 use Rattle.std.specs.Prelude.{slice_index, if◌then◌else◌}
 use Rattle.std.specs.List.{range_with_len}
 use Rattle.elf32_syms.specs.declared.image.Image.{Image}
+use Rattle.settings.specs.declared.setup.Setup.{Setup}
 use Rattle.folded.specs.Folding.{HasCause, StopsShort}
 use Rattle.folded.specs.Stacks.{inclusive_of}
 use Rattle.folded.specs.Tally.{Folds, FoldedValue}
@@ -11,7 +12,6 @@ use Rattle.folded.specs.declared.refusal.FoldRefusal.{FoldRefusal}
 use Rattle.folded.specs.declared.refusal.FoldRefusal.TheVariants as folds
 use Rattle.host_port.specs.Act.{Act, writes_after}
 use Rattle.host_port.specs.Outside.{Outside}
-use Rattle.prof_machine.specs.declared.setup.Setup.{Setup}
 use Rattle.prof_machine.specs.Plan.{after_drive, world_at}
 use Rattle.prof_machine.specs.Start.{final_world, start_of, start_refusal}
 use Rattle.prof_machine.specs.Value.{RunValue, StandsFor}

@@ -1,5 +1,6 @@
 -- What the commands leave that write or report a profile, where they are carried out.
 use Rattle.std.proofs.Common.{arith, ◌≡◌, ◌+◌, ◌*◌, ℕ, Bool, true, false, cond, ltb, ◌-◌, List, [], ◌∷◌, ◌++◌, append-nil, append_assoc, length, Option, Some, None, Result, Ok, Err, refl, sym, ap, subst, ◌∙◌}
+use Rattle.settings.specs.declared.setup.Setup.{Setup}
 use Rattle.mcount_arcs.proofs.SizeLemmas.{AreSizes-of}
 use Rattle.mcount_arcs.specs.Sizes.{IsText}
 use Rattle.std.proofs.lemmas.Bool.Decides.{nat_tests}
@@ -44,7 +45,6 @@ use Rattle.propagate.proofs.BoundLemmas.{roots_have_all}
 use Rattle.propagate.proofs.ProportionLemmas.{parts_all, parts_near}
 use Rattle.graph_report.proofs.RootLemmas.{root_entries}
 use Rattle.mcount_arcs.specs.Image.{block_image}
-use Rattle.prof_machine.specs.declared.setup.Setup.{Setup}
 use Rattle.prof_machine.specs.Start.{start_refusal}
 use Rattle.prof_machine.specs.declared.summary.RunSummary.{RunSummary}
 use Rattle.prof_machine.specs.Value.{summary_of}

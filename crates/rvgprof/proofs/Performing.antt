@@ -10,6 +10,7 @@ use Rattle.host_port.proofs.Laws.{Did-nothing, KeepsCounts-same, writes_after-ap
 use Rattle.host_port.proofs.PerformingLemmas.{failed_behind, piece_failed, piece_part}
 use Rattle.gp_base.specs.declared.records.Form.{Form}
 use Rattle.gp_base.specs.declared.records.Form.TheVariants.{Bsd, Gnu}
+use Rattle.settings.specs.declared.setup.Setup.{Setup}
 use Rattle.gmon_bsd.proofs.RunTextLemmas.{text_stands as bsd_text_stands}
 use Rattle.gmon_gnu.proofs.RunTextLemmas.{text_stands as gnu_text_stands}
 use Rattle.mcount_arcs.specs.declared.sizes.Sizes.{Sizes}
@@ -21,7 +22,6 @@ use Rattle.prof_machine.specs.Plan.{after_drive, world_at, most_turns}
 use Rattle.prof_machine.specs.Prints.{ArePrinted, BreaksOff}
 use Rattle.prof_machine.specs.World.{World}
 use Rattle.prof_machine.specs.Executions.{exec_counts_of, executions_in}
-use Rattle.prof_machine.specs.declared.setup.Setup.{Setup}
 use Rattle.gmon_gnu.specs.Blocks.{block_record, executed_blocks, record_of}
 use Rattle.prof_machine.proofs.ActLemmas.{driven_front}
 use Rattle.command_words.specs.Items.{nth_word}

@@ -17,6 +17,8 @@ use Rattle.gp_base.specs.declared.records.RawBlock.{RawBlock}
 use Rattle.gp_base.specs.declared.records.Rec.{Rec}
 use Rattle.gp_base.specs.declared.records.Rec.TheVariants as recs
 use Rattle.gp_base.specs.declared.records.Unit as units
+use Rattle.settings.specs.declared.setup.Setup.{Setup}
+use Rattle.settings.specs.Setup.{IsSetup}
 use Rattle.gmon_cells.specs.RunRecords.{log_recs}
 use Rattle.gmon_bsd.specs.Run.{bsd_run_text}
 use Rattle.gmon_bsd.proofs.RunReadBack.{run_read_back as bsd_read_back}
@@ -37,10 +39,8 @@ use Rattle.mcount_arcs.specs.Arcs.{arcs_of}
 use Rattle.mcount_arcs.specs.Sizes.{AreSizes}
 use Rattle.prof_machine.specs.declared.summary.End.{End}
 use Rattle.prof_machine.specs.declared.summary.End.TheVariants.{Budget, Exit, Trap}
-use Rattle.prof_machine.specs.declared.setup.Setup.{Setup}
 use Rattle.prof_machine.specs.Executions.{executions_at, executions_in, instructions_of}
 use Rattle.prof_machine.specs.Plan.{after_drive, most_turns, plan_of}
-use Rattle.prof_machine.specs.Setup.{IsSetup}
 use Rattle.prof_machine.specs.Start.{machine_of}
 use Rattle.prof_machine.specs.World.{World}
 use Rattle.prof_machine.proofs.NotedLemmas.{as_many}

@@ -8,13 +8,13 @@ use Rattle.gp_base.specs.declared.records.RawArc.{RawArc}
 use Rattle.elf32_syms.specs.declared.image.Image.{Image}
 use Rattle.host_port.specs.Act.{Act, writes_after}
 use Rattle.host_port.specs.Outside.{Outside}
+use Rattle.settings.specs.declared.setup.Setup.{Setup}
 use Rattle.mcount_arcs.specs.declared.sizes.Sizes.{Sizes}
 use Rattle.mcount_arcs.specs.Arcs.{CallFits, arcs_of}
 use Rattle.mcount_arcs.specs.Sizes.{sizes_of}
 use Rattle.prof_machine.specs.declared.summary.RunSummary.{RunSummary}
 use Rattle.prof_machine.specs.declared.summary.StartRefusal.{StartRefusal}
 use Rattle.prof_machine.specs.declared.summary.StartRefusal.TheVariants as starts
-use Rattle.prof_machine.specs.declared.setup.Setup.{Setup}
 use Rattle.prof_machine.specs.Plan.{after_drive}
 use Rattle.prof_machine.specs.declared.machine.Machine.{Machine}
 use Rattle.prof_machine.specs.Start.{IsRefusal, final_world, machine_of, start_of, start_refusal}

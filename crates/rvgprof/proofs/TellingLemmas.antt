@@ -7,6 +7,8 @@ use Rattle.host_port.specs.Outside.{Outside}
 use Rattle.elf32_syms.specs.declared.image.Image.{Image}
 use Rattle.elf32_syms.specs.Refusals.{elf_refusal}
 use Rattle.elf32_syms.specs.Image.{image_of}
+use Rattle.settings.specs.declared.setup.Setup.{Setup}
+use Rattle.settings.specs.Setup.{IsSetup}
 use Rattle.gmon_data.specs.Content.{Content, conflict_of, empty_content, wide_records}
 use Rattle.gmon_data.specs.declared.refusal.Unlike.{Unlike as Difference}
 use Rattle.gp_base.specs.declared.limits.TheConstants.{MAX_PROFILE_BYTES, MAX_ELF_BYTES}
@@ -15,8 +17,6 @@ use Rattle.demo_elf.specs.Elf.{demo_program}
 use Rattle.mcount_arcs.specs.declared.sizes.Sizes.{Sizes}
 use Rattle.mcount_arcs.specs.Sizes.{sizes_of}
 use Rattle.prof_machine.specs.declared.summary.End.{End}
-use Rattle.prof_machine.specs.declared.setup.Setup.{Setup}
-use Rattle.prof_machine.specs.Setup.{IsSetup}
 use Rattle.prof_machine.specs.Start.{final_world, start_refusal}
 use Rattle.prof_machine.specs.World.{World}
 use Rattle.prof_machine.proofs.RunLemmas.{plan_ends}

@@ -4,10 +4,10 @@ use Rattle.std.specs.List.{AllByRecursion, flat_map, sum_by}
 use Rattle.gp_base.specs.declared.limits.TheConstants.{MAX_PROFILE_BYTES, MAX_ELF_BYTES}
 use Rattle.elf32_syms.specs.Refusals.{elf_refusal}
 use Rattle.elf32_syms.specs.Image.{image_of}
+use Rattle.settings.specs.declared.setup.Setup.{Setup}
 use Rattle.gmon_data.specs.Content.{Content, WideRec, content_of, conflict_of, empty_content, wide_records}
 use Rattle.profile_sum.specs.Sum.{clash_of}
 use Rattle.demo_elf.specs.Elf.{demo_program}
-use Rattle.prof_machine.specs.declared.setup.Setup.{Setup}
 use Rattle.prof_machine.specs.Start.{start_refusal}
 use Rattle.command_words.specs.declared.words.Command.{Command}
 use Rattle.command_words.specs.declared.words.Command.TheVariants.{Show, Syms, Run, Sum, Report, Profile, Demo, Annotate, Folded, Help, Version}

@@ -18,6 +18,8 @@ use Rattle.gp_base.specs.declared.refusal.GmonRefusal.TheVariants as refusals
 use Rattle.gp_base.specs.declared.records.Rec.{Rec}
 use Rattle.host_port.specs.Act.{Act, Disk, disk_after}
 use Rattle.host_port.specs.Outside.{Did, Outside}
+use Rattle.settings.specs.Setup.{IsFraction}
+use Rattle.settings.specs.declared.setup.Setup.{Setup}
 use Rattle.command_words.specs.Words.{command_of}
 use Rattle.elf32_syms.specs.declared.image.Image.{Image}
 use Rattle.elf32_syms.specs.declared.image.Symbol.{Symbol}
@@ -58,11 +60,10 @@ use Rattle.mcount_arcs.specs.Arcs.{CallFits, arcs_of, chain_in, looks_of}
 use Rattle.mcount_arcs.specs.Image.{entry_in, front_in, index_in}
 use Rattle.mcount_arcs.specs.Log.{CallIgnored, CallLost, WalkDone, Enter, IsLegal, LogEntry, Mode, Pair, Sample, distinct_count, entered_calls, is_busy, is_on, kept_calls, state_of}
 use Rattle.mcount_arcs.specs.Samples.{buckets_of, counted_samples}
-use Rattle.mcount_arcs.specs.Sizes.{AreSizes, IsFraction, IsText, bucket_range, offset_of, sizes_of, text_span}
+use Rattle.mcount_arcs.specs.Sizes.{AreSizes, IsText, bucket_range, offset_of, sizes_of, text_span}
 use Rattle.prof_machine.specs.declared.summary.End.{End}
 use Rattle.prof_machine.specs.declared.summary.End.TheVariants.{Budget, Exit, Trap}
 use Rattle.prof_machine.specs.declared.machine.Machine.{Machine}
-use Rattle.prof_machine.specs.declared.setup.Setup.{Setup}
 use Rattle.prof_machine.specs.Executions.{counted_pairs, executed_pairs, executions_at, executions_in, instructions_of, pair_of}
 use Rattle.prof_machine.specs.Laws.{leaves_hook, noted_pcs, noted_samples}
 use Rattle.rv_step.specs.declared.stepped.TrapKind.{TrapKind}

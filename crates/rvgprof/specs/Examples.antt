@@ -2,9 +2,9 @@
 use Rattle.std.specs.Prelude.{◌≡◌, ℕ, true, false, List, [], ◌∷◌, ◌++◌, codes, None, Some}
 use Rattle.gp_base.specs.declared.records.Form.TheVariants.{Bsd, Gnu}
 use Rattle.gp_base.specs.declared.records.Rec.TheVariants as recs
+use Rattle.settings.specs.declared.setup.Plan.TheVariants.{RoundRobin, Seeded}
+use Rattle.settings.specs.declared.setup.Setup.{Setup}
 use Rattle.gmon_files.specs.Forms.{file_records, file_refusal}
-use Rattle.prof_machine.specs.declared.setup.Plan.TheVariants.{RoundRobin, Seeded}
-use Rattle.prof_machine.specs.declared.setup.Setup.{Setup}
 use Rattle.command_words.specs.declared.words.Command.TheVariants.{Show, Syms, Run, Sum, Report, Profile, Demo, Annotate, Folded, Help, Version}
 use Rattle.command_words.specs.declared.words.Shown.TheVariants.{Flat, Both}
 use Rattle.command_words.specs.Words.{command_of}

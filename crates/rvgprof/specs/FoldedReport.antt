@@ -3,10 +3,10 @@ use Rattle.std.specs.Prelude.{ℕ, Bool, true, false, List, Option, map, length}
 use Rattle.std.specs.List.{range_with_len}
 use Rattle.elf32_syms.specs.declared.image.Image.{Image}
 use Rattle.elf32_syms.specs.declared.image.Symbol.{Symbol}
+use Rattle.settings.specs.declared.setup.Setup.{Setup}
 use Rattle.folded.specs.Stacks.{inclusive_of, lines_of, stacks_of}
 use Rattle.folded.specs.Text.{functions_text, lines_text}
 use Rattle.folded.specs.Trail.{run_samples}
-use Rattle.prof_machine.specs.declared.setup.Setup.{Setup}
 use Rattle.prof_machine.specs.Start.{machine_of, start_of}
 
 -- the stacks of the samples of a program's run

@@ -6,6 +6,7 @@ use Rattle.std.specs.List.{sum_by}
 use Rattle.elf32_syms.specs.Image.{image_of}
 use Rattle.gp_base.specs.declared.records.Form.{Form}
 use Rattle.gp_base.specs.declared.records.Form.TheVariants.{Gnu}
+use Rattle.settings.specs.declared.setup.Setup.{Setup}
 use Rattle.gmon_data.specs.declared.hist.Hist.{Hist}
 use Rattle.gmon_data.specs.Content.{runs_at}
 use Rattle.gmon_data.specs.Hists.{samples_of}
@@ -29,7 +30,6 @@ use Rattle.graph_report.specs.GraphText.{graph_text}
 use Rattle.graph_report.specs.ExactText.{exact_text}
 use Rattle.graph_report.specs.Roots.{has_own_entry, shown_total}
 use Rattle.exact_flow.specs.Solution.{exact_flow_in}
-use Rattle.prof_machine.specs.declared.setup.Setup.{Setup}
 use Rattle.prof_machine.specs.Executions.{executions_at, instructions_of}
 use Rattle.prof_machine.specs.Value.{summary_of}
 use Rattle.rvgprof.specs.declared.outcome.Done.{Done}

@@ -6,6 +6,7 @@ use Rattle.gp_base.specs.declared.records.Form.{Form}
 use Rattle.gp_base.specs.declared.records.Form.TheVariants.{Gnu}
 use Rattle.gp_base.specs.declared.records.Records.{Records}
 use Rattle.gmon_block.specs.Layout.{layout_of}
+use Rattle.settings.specs.declared.setup.Setup.{Setup}
 use Rattle.gmon_cells.specs.RunRecords.{log_recs}
 use Rattle.gmon_data.specs.Content.{Content, IsProfile, runs_at}
 use Rattle.gmon_gnu.specs.Blocks.{executed_blocks}
@@ -15,7 +16,6 @@ use Rattle.mcount_arcs.specs.declared.sizes.Sizes.{Sizes}
 use Rattle.mcount_arcs.specs.Arcs.{CallFits, arcs_of}
 use Rattle.mcount_arcs.specs.Image.{block_image}
 use Rattle.mcount_arcs.specs.Sizes.{AreSizes, sizes_of}
-use Rattle.prof_machine.specs.declared.setup.Setup.{Setup}
 use Rattle.prof_machine.specs.Executions.{executions_at, executions_in, instructions_of}
 use Rattle.prof_machine.specs.Start.{final_world}
 use Rattle.prof_machine.specs.World.{World}

@@ -2,12 +2,12 @@
 
 ghost use Rattle.std.specs.Prelude.{◌≡◌, ◌+◌, ◌<◌, ◌≤◌, ◌^◌, ◌++◌, [], false, Err, codes, decimal, length, sum, IfOk, IfErr, IsSome, OnOk};
 ghost use Rattle.std.specs.Option.{option_map};
+ghost use Rattle.settings.specs.Setup.{IsSetup};
 ghost use Rattle.call_cycles.specs.Graph.{GraphValue, IsGraph, component_count};
 ghost use Rattle.call_cycles.specs.Flow.{IsFlow, time_of_roots};
 ghost use Rattle.elf32_syms.specs.Image.{IsWithinLimits};
 ghost use Rattle.elf32_syms.specs.Owners.{IsAscending};
 ghost use Rattle.host_port.specs.Performing.{Performs};
-ghost use Rattle.prof_machine.specs.Setup.{IsSetup};
 ghost use Rattle.rvgprof.specs.Answer.{demo_course, given_file_acts};
 ghost use Rattle.rvgprof.specs.Contract.{Acted};
 ghost use Rattle.command_words.specs.Items.{nth_word};

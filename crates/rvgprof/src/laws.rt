@@ -3,10 +3,10 @@
 ghost use Rattle.std.specs.Prelude.{◌≡◌, ◌↔◌, ◌⊎◌, ◌++◌, ℕ, List, true, Option, Some, Result, Err, IsOk, []};
 ghost use Rattle.host_port.specs.Act.{Act};
 ghost use Rattle.host_port.specs.Outside.{Outside};
+ghost use Rattle.settings.specs.declared.setup.Setup.{Setup};
 ghost use Rattle.rvgprof.specs.declared.outcome.Done.{Done};
 ghost use Rattle.rvgprof.specs.declared.outcome.Fault.{Fault};
 ghost use Rattle.rvgprof.specs.declared.outcome.Fault.TheVariants.{OutOfMemory};
-ghost use Rattle.prof_machine.specs.declared.setup.Setup.{Setup};
 ghost use Rattle.command_words.specs.declared.words.Command.TheVariants.{Demo};
 ghost use Rattle.command_words.specs.Words.{command_of};
 ghost use Rattle.rvgprof.specs.Course.{Course, reply_to, MayStop};

@@ -2,7 +2,7 @@
 
 ghost use Rattle.std.specs.Prelude.{◌≡◌, [], length, IfOk, IsSome};
 ghost use Rattle.elf32_syms.specs.Image.{IsWithinLimits};
-ghost use Rattle.prof_machine.specs.Setup.{IsSetup};
+ghost use Rattle.settings.specs.Setup.{IsSetup};
 ghost use Rattle.rvgprof.specs.Answer.{folded_course};
 ghost use Rattle.rvgprof.specs.Contract.{Acted};
 ghost use Rattle.rvgprof.specs.Standing.{FoldsProgram, IsRunOf, Stands};

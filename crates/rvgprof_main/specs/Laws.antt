@@ -4,6 +4,7 @@ use Rattle.std.specs.List.{AllByRecursion}
 use Rattle.host_port.specs.Act.{Create, Write, Close, Out}
 use Rattle.host_port.specs.Act.{Err as Complain}
 use Rattle.host_port.specs.Outside.{Outside}
+use Rattle.settings.specs.declared.setup.Setup.{Setup}
 use Rattle.command_words.specs.declared.words.Command.{Command}
 use Rattle.command_words.specs.declared.words.Command.TheVariants.{Show, Syms, Run, Sum, Report, Profile, Demo, Annotate, Folded, Help, Version}
 use Rattle.command_words.specs.declared.words.Selection.{Selection}
@@ -12,7 +13,6 @@ use Rattle.gmon_files.specs.Forms.{file_records, file_refusal, form_of}
 use Rattle.gmon_gnu.specs.ProfileText.{profile_text}
 use Rattle.gp_base.specs.declared.records.Form.{Form}
 use Rattle.gp_base.specs.declared.records.Form.TheVariants.{Gnu}
-use Rattle.prof_machine.specs.declared.setup.Setup.{Setup}
 use Rattle.prof_machine.specs.Executions.{executions_at, instructions_of}
 use Rattle.rvgprof.specs.declared.outcome.Done.{Done}
 use Rattle.rvgprof.specs.declared.outcome.Fault.{Fault}

@@ -1,7 +1,7 @@
 //! Setups of small runs.
 
 ghost use Rattle.std.specs.Prelude.{◌≡◌, ◌≤◌};
-ghost use Rattle.prof_machine.specs.Setup.{IsSetup, plan_number};
+ghost use Rattle.settings.specs.Setup.{IsSetup, plan_number};
 
 use gp_base::limits::MAX_NUMBER;
 use prof_machine::{Plan, Setup};

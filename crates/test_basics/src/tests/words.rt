@@ -1,6 +1,6 @@
 use command_words::*;
 use gp_base::Form;
-use prof_machine::{Plan, Setup};
+use settings::{Plan, Setup};
 use std::alloc::{AllocError, Global};
 use std::test::Fail;
 

@@ -3,7 +3,7 @@
 
 ghost use Rattle.std.specs.Prelude.{◌≡◌, [], ◌∷◌, Some, map, slice_get};
 ghost use Rattle.std.specs.List.{range_with_len};
-ghost use Rattle.prof_machine.specs.declared.setup.Plan.TheVariants.{RoundRobin, Seeded};
+ghost use Rattle.settings.specs.declared.setup.Plan.TheVariants.{RoundRobin, Seeded};
 ghost use Rattle.prof_machine.specs.Plan.{state_after, taker_of};
 ghost use Rattle.prof_machine.specs.Start.{base_in, break_behind, first_registers, program_end_in};
 

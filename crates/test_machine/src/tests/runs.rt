@@ -1,7 +1,7 @@
 ghost use Rattle.std.specs.Prelude.{◌≡◌, ◌+◌, ◌≤◌, length, All, IfOk};
 ghost use Rattle.elf32_syms.specs.Image.{IsWithinLimits};
 ghost use Rattle.elf32_syms.specs.declared.image.Segment.{Segment as AnySegment};
-ghost use Rattle.prof_machine.specs.Setup.{IsSetup};
+ghost use Rattle.settings.specs.Setup.{IsSetup};
 
 use super::programs::{
     CALLS, CALLS_MCOUNT, COMPLAINS, EBREAK, ECALL, ENDLESS, EXIT, NO_INSTRUCTION, NOP, PRINTS,

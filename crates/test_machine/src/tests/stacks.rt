@@ -1,7 +1,7 @@
 ghost use Rattle.std.specs.Prelude.{◌≡◌, ◌≤◌, length, IfOk};
 ghost use Rattle.elf32_syms.specs.Image.{IsWithinLimits};
 ghost use Rattle.elf32_syms.specs.Owners.{IsAscending};
-ghost use Rattle.prof_machine.specs.Setup.{IsSetup};
+ghost use Rattle.settings.specs.Setup.{IsSetup};
 
 use super::sampled::{CASES, Case, DEEP, MANY_SAMPLES, NOP, same_names};
 use crate::{ROUND, boxed, setup_of};

@@ -1,7 +1,7 @@
 ghost use Rattle.std.specs.Prelude.{◌≡◌, ◌<◌, ◌≤◌, true, IfOk, length, string_bytes};
 ghost use Rattle.std.specs.List.{All};
 ghost use Rattle.elf32_syms.specs.Owners.{IsAscending};
-ghost use Rattle.arc_filter.specs.Cuts.{is_cut_word as spec};
+ghost use Rattle.settings.specs.CutWords.{is_cut_word as spec};
 
 use crate::{
     PER_100, Rows, boxed, name_of, profile_of_calls, profile_of_rows, push_symbol, ring_of_calls,

@@ -1,5 +1,6 @@
 use Rattle.std.proofs.Common.{List, ◌∙◌, ◌+◌, ◌≤◌, arith, inl, inr, length, refl, subst, sym, ap, ℕ}
 use Rattle.host_port.proofs.Laws.{KeepsCounts-same, KeepsCounts-then, KeepsInput-same, KeepsInput-then}
+use Rattle.settings.specs.declared.setup.Setup.{Setup}
 use Rattle.prof_machine.proofs.ActLemmas.{breaks_after, nothing_printed, printed_then}
 use Rattle.prof_machine.proofs.DriveLemmas.{ended_answer, in_first, in_last, in_next}
 use Rattle.prof_machine.specs.Plan.{most_turns}
@@ -7,7 +8,6 @@ use Rattle.prof_machine.specs.Prints.{ArePrinted, BreaksOff}
 use Rattle.prof_machine.specs.Schedule.{Draws}
 use Rattle.prof_machine.specs.Value.{StandsFor, work_left}
 use Rattle.prof_machine.specs.World.{World}
-use Rattle.prof_machine.specs.declared.setup.Setup.{Setup}
 use Rattle.folded.specs.Folding.{Follows}
 use Rattle.std.proofs.lemmas.Result.{err_from_is_err_and}
 use Rattle.elf32_syms.specs.declared.image.Symbol.{Symbol}

@@ -1,5 +1,5 @@
 use Rattle.std.proofs.Common.{◌≡◌, ℕ, List, Option, Some, sym, subst}
-use Rattle.prof_machine.specs.declared.setup.Setup.{Setup}
+use Rattle.settings.specs.declared.setup.Setup.{Setup}
 use Rattle.command_words.specs.declared.words.Command.TheVariants.{Demo}
 use Rattle.command_words.specs.Words.{command_of}
 use Rattle.demo_laws.specs.Laws.{DemoIsAccepted, DemoStarts}

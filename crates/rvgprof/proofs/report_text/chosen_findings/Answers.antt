@@ -3,8 +3,9 @@ use Rattle.std.specs.Prelude.{IfOk}
 use Rattle.std.specs.List.{All}
 use Rattle.std.proofs.lemmas.Bool.{eqb-true}
 use Rattle.elf32_syms.specs.declared.image.Symbol.{Symbol}
+use Rattle.settings.specs.CutWords.{is_cut_word}
 use Rattle.gmon_data.specs.Content.{Content}
-use Rattle.arc_filter.specs.Cuts.{is_cut_word, without_cuts}
+use Rattle.arc_filter.specs.Cuts.{without_cuts}
 use Rattle.arc_filter.proofs.ProfileLemmas.{nothing_cut}
 use Rattle.command_words.specs.Items.{words_at}
 use Rattle.rvgprof.specs.Findings.{AreFindings}

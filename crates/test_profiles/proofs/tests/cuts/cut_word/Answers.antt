@@ -1,5 +1,5 @@
 use Rattle.std.proofs.Common.{sym, ap, ◌∙◌}
-use Rattle.arc_filter.specs.Cuts.{is_cut_word}
+use Rattle.settings.specs.CutWords.{is_cut_word}
 use Rattle.test_profiles.proofs.tests.cuts.cut_word.Goals as goal
 
 pub returns : goal.returns

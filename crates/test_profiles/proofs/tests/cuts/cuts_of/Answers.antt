@@ -1,7 +1,7 @@
 use Rattle.std.proofs.Common.{◌≡◌, true, Global, List, String, string_bytes, sym, subst}
 use Rattle.std.specs.List.{All}
 use Rattle.std.proofs.lemmas.List.Elements.{All-nil, All-push}
-use Rattle.arc_filter.specs.Cuts.{is_cut_word}
+use Rattle.settings.specs.CutWords.{is_cut_word}
 use Rattle.test_profiles.proofs.tests.cuts.cuts_of.Goals as goal
 
 abbrev IsCut : String Global → Type 0

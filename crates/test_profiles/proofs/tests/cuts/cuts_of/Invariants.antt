@@ -1,6 +1,6 @@
 use Rattle.std.proofs.Common.{◌≡◌, true, string_bytes}
 use Rattle.std.specs.List.{All}
-use Rattle.arc_filter.specs.Cuts.{is_cut_word}
+use Rattle.settings.specs.CutWords.{is_cut_word}
 use Rattle.test_profiles.proofs.tests.cuts.cuts_of.Given as goal
 
 abbrev pub invariant-loop-word : goal.invariant-loop-word
