@@ -11,7 +11,7 @@ ghost use Rattle.arc_filter.specs.Cuts.{stays, without_cuts};
 use crate::marks::{is_cut, table_of};
 use elf32_syms::Symbol;
 use gmon_data::{AddRefusal, Profile};
-use profile_sum::addition::{add_blocks, add_hists, take_room};
+use profile_sum::addition::{add_blocks, add_hists};
 use std::alloc::{AllocError, Global};
 
 /// Puts the histograms into a profile that holds nothing, which has no conflict with them.
@@ -96,7 +96,7 @@ fn put_all(
 {
     profile.holds();
     put_hists(left, profile)?;
-    take_room(left, profile);
+    left.expect_profile(profile);
     put_arcs(alloc, left, profile, symbols, cuts)?;
     add_blocks(left, profile)?;
     Ok(())

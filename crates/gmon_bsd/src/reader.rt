@@ -197,7 +197,7 @@ fn add_parts(
         abbrev: b's',
     };
     profile.add_counts(header.low, header.high, unit, counters)?;
-    let _ = profile.make_room_for_arcs(arcs);
+    profile.expect_records(arcs, &[]);
     profile.add_arcs(arcs)?;
     Ok(())
 }

@@ -1,5 +1,5 @@
 -- What one record more changes.
-use Rattle.std.proofs.Common.{◌≡◌, ℕ, ◌+◌, ◌^◌, ◌<◌, arith, Bool, true, false, ◌&&◌, nat_eq, List, [], ◌∷◌, ◌++◌, slice_get, fold, unwrap_or, Some, None, filter_map, Result, Ok, Err, OnOk, refl, sym, ap, subst, ◌∙◌, true≢false}
+use Rattle.std.proofs.Common.{◌≡◌, ℕ, Bool, true, false, ◌&&◌, nat_eq, List, [], ◌∷◌, ◌++◌, slice_get, fold, unwrap_or, Some, None, filter_map, Result, Ok, Err, OnOk, refl, sym, ap, subst, ◌∙◌, true≢false}
 use Rattle.std.proofs.lemmas.Bool.{eqb-true, eq-eqb}
 use Rattle.std.proofs.lemmas.List.{append-nil}
 use Rattle.std.proofs.lemmas.List.Elements.{filter_map-append}
@@ -9,9 +9,9 @@ use Rattle.gmon_data.specs.declared.hist.Hist.{Hist}
 use Rattle.gmon_data.specs.declared.hist.HistRange.{HistRange}
 use Rattle.gmon_data.specs.Hists.{conflict_with, has_counters, kept_unit, put_hist, range_conflict, unit_conflict}
 use Rattle.gmon_data.proofs.HistLemmas.{first_none}
-use Rattle.gmon_data.specs.Tally.{tally, sums_by_key, tally_total}
+use Rattle.gmon_data.specs.Tally.{sums_by_key}
 use Rattle.gmon_data.specs.Content.{WideRec, WideHist, WideArc, WideBlock, Content, same_ends, arc_in, block_in, hist_in, unit_in, hists_of, summed_arcs, blocks_of, unit_of, content_of, with_hist, with_arc, with_block, IsWithin}
-use Rattle.gmon_data.proofs.TallyLemmas.{sums_by_key-more, sum-tally}
+use Rattle.gmon_data.proofs.TallyLemmas.{sums_by_key-more}
 
 pub same-self : (k : ℕ) → nat_eq k k ≡ true
 same-self k = eq-eqb k k refl
@@ -99,26 +99,3 @@ like_kept v w range u is none =
 pub on_ok : {A E : Type 0} {P Q : Type 0} (r : Result A E) → OnOk r P → (P → Q) → OnOk r Q
 on_ok (Ok a) p f = f p
 on_ok (Err e) p f = p
-
--- what adds to a profile: the fields that it is seen by are those of its value
-module _ (from to count : ℕ) (v w : Content) where
-  pub arc_fits : v ≡ w → IsWithin (with_arc from to count w) → tally_total v.arcs + count < 2 ^ 64
-  arc_fits is fits =
-      let same : tally_total (tally same_ends (from, to) count v.arcs) ≡ tally_total (tally same_ends (from, to) count w.arcs) = ap (λ c. tally_total (tally same_ends (from, to) count c.arcs)) is in
-      omega (arith, same, fits.calls, sum-tally same_ends (from, to) count v.arcs)
-
-  pub arc_stands : (new : List ((ℕ × ℕ) × ℕ)) → v ≡ w → new ≡ tally same_ends (from, to) count v.arcs
-      → (recs : List WideRec) → w ≡ content_of recs → record v { arcs = new } ≡ content_of (recs ++ WideArc from to count ∷ [])
-  arc_stands new is added recs before =
-      ap (λ l. record v { arcs = l }) added ∙ ap (with_arc from to count) (is ∙ before) ∙ sym (content-arc from to count recs)
-
-module _ (addr count : ℕ) (v w : Content) where
-  pub block_fits : v ≡ w → IsWithin (with_block addr count w) → tally_total v.blocks + count < 2 ^ 64
-  block_fits is fits =
-      let same : tally_total (tally nat_eq addr count v.blocks) ≡ tally_total (tally nat_eq addr count w.blocks) = ap (λ c. tally_total (tally nat_eq addr count c.blocks)) is in
-      omega (arith, same, fits.runs, sum-tally nat_eq addr count v.blocks)
-
-  pub block_stands : (new : List (ℕ × ℕ)) → v ≡ w → new ≡ tally nat_eq addr count v.blocks
-      → (recs : List WideRec) → w ≡ content_of recs → record v { blocks = new } ≡ content_of (recs ++ WideBlock addr count ∷ [])
-  block_stands new is added recs before =
-      ap (λ l. record v { blocks = l }) added ∙ ap (with_block addr count) (is ∙ before) ∙ sym (content-block addr count recs)

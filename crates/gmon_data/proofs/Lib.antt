@@ -11,6 +11,7 @@ pub mod LoopLemmas
 pub mod RebuiltLemmas
 pub mod RunLemmas
 pub mod NumberLemmas
+pub mod EntryLemmas
 pub mod RangeLemmas
 pub mod SizeLemmas
 pub mod PutLemmas

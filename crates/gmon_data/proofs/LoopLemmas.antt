@@ -1,7 +1,6 @@
--- A loop that adds items one by one, or batch by batch, each item as its records.
-use Rattle.std.proofs.Common.{◌≡◌, ℕ, zero, suc, ◌+◌, ◌≤◌, List, [], ◌∷◌, ◌++◌, length, map, drop, slice_get, append_assoc, Some, refl, sym, ap, subst, ◌∙◌}
+-- A loop that adds items one by one, each as its records.
+use Rattle.std.proofs.Common.{◌≡◌, ℕ, zero, suc, ◌+◌, ◌≤◌, List, [], ◌∷◌, ◌++◌, length, map, drop, slice_get, Some, refl, ap, subst, ◌∙◌}
 use Rattle.std.specs.List.{AllByRecursion, flat_map}
-use Rattle.std.proofs.lemmas.List.{nil_from_length}
 use Rattle.std.proofs.lemmas.List.Concat.{flat_map-cons}
 use Rattle.gmon_data.specs.declared.refusal.AddRefusal.{AddRefusal}
 use Rattle.gmon_data.specs.Content.{Content, WideRec, with_records, IsAdded, IsStopped, IsWithin}
@@ -26,14 +25,6 @@ pub joined : {X : Type 0} (f : X → List WideRec) → IsInTurn X f (flat_map f)
 joined f = record { none = refl; more = flat_map-cons f }
 
 module _ {X : Type 0} {each : X → List WideRec} {together : List X → List WideRec} (turn : IsInTurn X each together) where
-  together-append : (xs ys : List X) → together (xs ++ ys) ≡ together xs ++ together ys
-  together-append [] ys = sym (ap (λ (l : List WideRec). l ++ together ys) turn.none)
-  together-append (x ∷ xs) ys =
-      turn.more x (xs ++ ys)
-      ∙ ap (λ (l : List WideRec). each x ++ l) (together-append xs ys)
-      ∙ sym (append_assoc (each x) (together xs) (together ys))
-      ∙ sym (ap (λ (l : List WideRec). l ++ together ys) (turn.more x xs))
-
   module _ (xs : List X) (i : ℕ) (old now : Content) (w : IsUnderway (together xs) (together (drop i xs)) old now) where
     -- all items were added
     pub items_done : length xs ≤ i → IsAdded (together xs) old now
@@ -54,24 +45,3 @@ module _ {X : Type 0} {each : X → List WideRec} {together : List X → List Wi
       -- it was refused
       pub item_stopped : (refusal : AddRefusal) (new : Content) → IsStopped refusal (each x) now new → IsStopped refusal (together xs) old new
       item_stopped = stop (together xs) (each x) (together (drop (i + 1) xs)) old now next
-
-  module _ (all : List WideRec) (rest : List X) (old now : Content) (w : IsUnderway all (together rest) old now) where
-    -- no batch is left
-    pub batches_done : length rest ≡ 0 → IsAdded all old now
-    batches_done none = at_end all old now (subst (λ (l : List WideRec). IsUnderway all l old now) (ap together (nil_from_length rest none) ∙ turn.none) w)
-
-    module _ (batch behind : List X) (parts : rest ≡ batch ++ behind) where
-      cut : IsUnderway all (together batch ++ together behind) old now
-      cut = subst (λ (l : List WideRec). IsUnderway all l old now) (ap together parts ∙ together-append batch behind) w
-
-      -- the next batch stays within the limits
-      pub batch_within : IsWithin (with_records all old) → IsWithin (with_records (together batch) now)
-      batch_within = within_next all (together batch) (together behind) old now cut
-
-      -- it was added
-      pub batch_added : (new : Content) → IsAdded (together batch) now new → IsUnderway all (together behind) old new
-      batch_added = one_more all (together batch) (together behind) old now cut
-
-      -- it was refused
-      pub batch_stopped : (refusal : AddRefusal) (new : Content) → IsStopped refusal (together batch) now new → IsStopped refusal all old new
-      batch_stopped = stop all (together batch) (together behind) old now cut

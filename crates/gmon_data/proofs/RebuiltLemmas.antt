@@ -10,7 +10,7 @@ module _ {K : Type 0} (same : K → K → Bool) (turned : (x y : K) → same x y
   all_at P (x ∷ es) zero e all at = let is : x ≡ e = cc in subst P (λ j. (is j).0) all.0
   all_at P (x ∷ es) (suc i) e all at = all_at P es i e all.1 at
 
-  pub insert_next : (es : List (K × ℕ)) (i : ℕ) (e : K × ℕ) → IsDistinct same (keys_of es) → slice_get es i ≡ Some e → insert_entry same (take i es) e.0 e.1 ≡ take (i + 1) es
+  insert_next : (es : List (K × ℕ)) (i : ℕ) (e : K × ℕ) → IsDistinct same (keys_of es) → slice_get es i ≡ Some e → insert_entry same (take i es) e.0 e.1 ≡ take (i + 1) es
   unfolding IsDistinct
   insert_next [] i e distinct at = absurd cc
   insert_next (x ∷ es) zero e distinct at = let is : x ≡ e = cc in ap (λ (y : K × ℕ). y ∷ []) (sym is)
@@ -20,3 +20,7 @@ module _ {K : Type 0} (same : K → K → Bool) (turned : (x y : K) → same x y
       ap (λ (b : Bool). if b then (x.0, e.1) ∷ take i es else x ∷ insert_entry same (take i es) e.0 e.1) other
       ∙ ap (λ (l : List (K × ℕ)). x ∷ l) (insert_next es i e distinct.1 at)
       ∙ ap (λ (m : ℕ). take m (x ∷ es)) longer
+
+  -- a loop that has inserted the first i of them
+  pub inserted_next : (es now new : List (K × ℕ)) (i : ℕ) (e : K × ℕ) → IsDistinct same (keys_of es) → Some e ≡ slice_get es i → now ≡ take i es → new ≡ insert_entry same now e.0 e.1 → new ≡ take (i + 1) es
+  inserted_next es now new i e distinct at w more = more ∙ ap (λ (l : List (K × ℕ)). insert_entry same l e.0 e.1) w ∙ insert_next es i e distinct (sym at)

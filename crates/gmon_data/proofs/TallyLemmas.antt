@@ -1,12 +1,13 @@
 -- Numbers by key: adding one is adding it to the sum of its key.
-use Rattle.std.proofs.Common.{◌≡◌, ℕ, ◌+◌, ◌≤◌, Bool, true, false, ◌||◌, cond, List, [], ◌∷◌, ◌++◌, map, fold, Option, Some, None, unwrap_or, append_assoc, refl, sym, ap, ◌∙◌, true≢false, if◌then◌else◌, zero, suc, slice_get, drop, add-one, arith}
+use Rattle.std.proofs.Common.{◌≡◌, ℕ, ◌+◌, ◌<◌, ◌≤◌, Bool, true, false, ◌||◌, cond, List, [], ◌∷◌, ◌++◌, map, fold, Option, Some, None, unwrap_or, append_assoc, refl, sym, ap, subst, ◌∙◌, true≢false, if◌then◌else◌, zero, suc, slice_get, drop, take, length, get_or, add-one, arith}
 use Rattle.std.specs.List.{list_any, AllByRecursion, IsDistinct}
 use Rattle.std.specs.Map.{lookup}
-use Rattle.std.proofs.lemmas.List.{append-nil, map-append}
+use Rattle.std.proofs.lemmas.List.{append-nil, map-append, take-append-drop, take_more, length-map, get_or-map}
+use Rattle.std.proofs.Math.Seq.{drop-cons}
 use Rattle.std.proofs.lemmas.List.Sums.{fold-append, sum_by-append, sum_by-cons}
 use Rattle.std.proofs.lemmas.List.Folds.{list_any-append}
 use Rattle.indexmap.specs.IndexMap.{insert_entry}
-use Rattle.gmon_data.specs.Tally.{tally_total, tally, distinct_keys, sum_at, sums_by_key}
+use Rattle.gmon_data.specs.Tally.{tally_total, tally, tally_all, distinct_keys, sum_at, sums_by_key, IsTalliedPartly}
 
 abbrev one_entry : {K : Type 0} → K → ℕ → List (K × ℕ)
 one_entry k n = (k, n) ∷ []
@@ -208,3 +209,57 @@ module _ {K : Type 0} (same : K → K → Bool) (self : (k : K) → same k k ≡
 
   pub sums_by_key-fold : (es : List (K × ℕ)) → sums_by_key same es ≡ fold (λ l e. tally same e.0 e.1 l) [] es
   sums_by_key-fold es = sym (fold_on [] es)
+
+-- what holds of the keys holds of them with one more
+all_tally : {K : Type 0} (P : K → Type 0) (same : K → K → Bool) (k : K) (n : ℕ) (es : List (K × ℕ)) → P k → AllByRecursion (λ e. P e.0) es → AllByRecursion (λ e. P e.0) (tally same k n es)
+all_tally P same k n [] mine all = (mine, tt)
+all_tally {K} P same k n (e ∷ es) mine all = by (same k e.0) (all_tally P same k n es mine all.1)
+  where
+    by : (b : Bool) → AllByRecursion (λ x. P x.0) (tally same k n es) → AllByRecursion (λ x. P x.0) (if b then (e.0, e.1 + n) ∷ es else e ∷ tally same k n es)
+    by true others = all
+    by false others = (all.0, others)
+
+-- ---- numbers added one after the other
+
+module _ {K : Type 0} (same : K → K → Bool) where
+  -- the sum of all numbers rises by all that is added
+  pub total-all : (added es : List (K × ℕ)) → tally_total (tally_all same added es) ≡ tally_total es + tally_total added
+  total-all [] es = omega arith
+  total-all (x ∷ added) es = omega (arith, total-all added (tally same x.0 x.1 es), sum-tally same x.0 x.1 es, sum_by-cons (λ (e : K × ℕ). e.1) x added)
+
+  -- a loop over what has entries, which has added the first i of these
+  module _ {X : Type 0} (entry : X → K × ℕ) (xs : List X) (old now : List (K × ℕ)) (i : ℕ) (w : now ≡ tally_all same (take i (map entry xs)) old) where
+    abbrev added : List (K × ℕ)
+    added = map entry xs
+
+    module _ (x : X) (e : K × ℕ) (inside : i < length xs) (at : x ≡ get_or xs i x) (is : e ≡ entry x) where
+      within : i < length added
+      within = rw length-map inside
+
+      there : e ≡ get_or added i e
+      there = is ∙ ap entry at ∙ sym (get_or-map entry xs i x e inside)
+
+      cut : added ≡ take i added ++ e ∷ drop (i + 1) added
+      cut =
+          sym (take-append-drop i added)
+          ∙ ap (λ (es : List (K × ℕ)). take i added ++ es) (drop-cons added i e within ∙ ap (λ (a : K × ℕ). a ∷ drop (suc i) added) (sym there) ∙ ap (λ k. e ∷ drop k added) (sym (add-one i)))
+
+      pub next_fits : tally_total now + e.1 ≤ tally_total old + tally_total added
+      next_fits =
+          let value = λ (a : K × ℕ). a.1 in
+          let whole : tally_total added ≡ tally_total (take i added) + tally_total (e ∷ drop (i + 1) added) = ap tally_total cut ∙ sum_by-append value (take i added) (e ∷ drop (i + 1) added) in
+          omega (arith, whole, ap tally_total w, total-all (take i added) old, sum_by-cons value e (drop (i + 1) added))
+
+      pub next_tallied : (new : List (K × ℕ)) → new ≡ tally same e.0 e.1 now → new ≡ tally_all same (take (i + 1) added) old
+      next_tallied new more =
+          more ∙ ap (tally same e.0 e.1) w ∙ sym (fold-append (λ l a. tally same a.0 a.1 l) old (take i added) (e ∷ []))
+          ∙ ap (λ (es : List (K × ℕ)). tally_all same es old) (ap (λ (a : K × ℕ). take i added ++ a ∷ []) there ∙ sym (take_more added i e within))
+
+      pub tallied_partly : (new : List (K × ℕ)) → new ≡ now → IsTalliedPartly same added old new
+      tallied_partly new unchanged = record { done = take i added; next = e; rest = drop (i + 1) added; split = cut; tallied = unchanged ∙ w }
+
+  -- what held of the keys before holds after one more
+  pub next_fit : (P : K → Type 0) (before now new : List (K × ℕ)) (k : K) (n : ℕ) → now ≡ before → new ≡ tally same k n now → P k → AllByRecursion (λ e. P e.0) before → AllByRecursion (λ e. P e.0) new
+  next_fit P before now new k n is more mine all =
+      let same_before : new ≡ tally same k n before = more ∙ ap (tally same k n) is in
+      subst (AllByRecursion (λ e. P e.0)) (sym same_before) (all_tally P same k n before mine all)

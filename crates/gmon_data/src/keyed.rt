@@ -7,10 +7,7 @@
 //! more than a group each, and no search goes over more than 64 full groups.
 
 ghost use Rattle.std.specs.Prelude.{◌≡◌, IfOk};
-ghost use Rattle.std.specs.List.{IsDistinct};
-ghost use Rattle.std.specs.Map.{keys_of};
 
-use gp_base::{RawArc, RawBlock};
 use indexmap::IndexMap;
 use std::alloc::{AllocError, Global};
 use std::hash::{BuildHasher, DefaultHasher, FoldHasher, Hash, Hasher};
@@ -45,40 +42,6 @@ pub(crate) trait Keys<K> {
     fn count(&self) -> usize;
 
     fn key(&self, i: usize) -> Option<K>;
-}
-
-/// The pairs of arcs.
-#[derive(Drop)]
-pub(crate) struct PairsOf<'a> {
-    pub arcs: &'a [RawArc],
-}
-
-impl<'a> Keys<(u32, u32)> for PairsOf<'a> {
-    fn count(&self) -> usize {
-        self.arcs.len()
-    }
-
-    fn key(&self, i: usize) -> Option<(u32, u32)> {
-        let arc = self.arcs.get(i)?;
-        Some((arc.from, arc.to))
-    }
-}
-
-/// The addresses of block counts.
-#[derive(Drop)]
-pub(crate) struct AddressesOf<'a> {
-    pub blocks: &'a [RawBlock],
-}
-
-impl<'a> Keys<u32> for AddressesOf<'a> {
-    fn count(&self) -> usize {
-        self.blocks.len()
-    }
-
-    fn key(&self, i: usize) -> Option<u32> {
-        let block = self.blocks.get(i)?;
-        Some(block.addr)
-    }
 }
 
 impl<K: Copy> Keys<K> for Vec<K> {
@@ -252,7 +215,6 @@ pub(crate) fn make_room<K: Eq + Ord + Hash + Copy + Drop, N: Keys<K>>(
     counts: &mut Vec<u32>,
     more: &N,
 ) -> Result<(), AllocError>
-    requires { IsDistinct K.eq (keys_of numbers.old.entries) }
     ensures { numbers.new.entries ≡ numbers.old.entries }
 {
     let room = numbers.len().saturating_add(more.count());
@@ -263,23 +225,6 @@ pub(crate) fn make_room<K: Eq + Ord + Hash + Copy + Drop, N: Keys<K>>(
         *numbers = rebuilt(alloc, numbers, keyed, room)?;
     }
     numbers.reserve(more.count())
-}
-
-/// Takes room for those of some keys that aren't there. They are looked up one behind the other before a number is
-/// added, so that the waits for memory overlap.
-pub(crate) fn make_room_for_new<K: Eq + Hash + Copy + Drop, N: Keys<K>>(
-    numbers: &mut IndexMap<K, u64, Keyed>,
-    keys: &N,
-) -> Result<(), AllocError>
-    ensures { numbers.new.entries ≡ numbers.old.entries }
-{
-    let mut new: usize = 0;
-    for i in 0..keys.count() {
-        if let Some(key) = keys.key(i) {
-            new = new.saturating_add(usize::from(!numbers.contains_key(&key)));
-        }
-    }
-    numbers.reserve(new)
 }
 
 /// Each key once.
@@ -305,7 +250,6 @@ fn rebuilt<K: Eq + Hash + Copy + Drop>(
     keyed: Keyed,
     room: usize,
 ) -> Result<IndexMap<K, u64, Keyed>, AllocError>
-    requires { IsDistinct K.eq (keys_of numbers.now.entries) }
     ensures { IfOk result (λ copy. copy.entries ≡ numbers.now.entries) }
 {
     let mut copy = IndexMap::with_hasher(alloc, keyed);

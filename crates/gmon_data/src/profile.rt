@@ -12,11 +12,9 @@ ghost use Rattle.gmon_data.specs.declared.refusal.AddRefusal.TheVariants.{OutOfM
 use crate::chunks::ChunkedList;
 use crate::hist::{Hist, HistRange, clone_hists, samples, widened};
 use crate::hists::{conflict, count_ended, normal_unit, put};
-use crate::keyed::{AddressesOf, Keyed, PairsOf, make_room, make_room_for_new};
 use crate::refusal::{AddRefusal, Unlike};
-use crate::tally::{add_to, total};
+use crate::tally::Tally;
 use gp_base::{RawArc, RawBlock, RawHist, Rec, Records, Unit};
-use indexmap::IndexMap;
 use std::alloc::{AllocError, Global};
 use std::marker::Model;
 
@@ -25,10 +23,8 @@ use std::marker::Model;
 pub struct Profile {
     alloc: Global,
     hists: ChunkedList<Hist>,
-    arcs: IndexMap<(u32, u32), u64, Keyed>,
-    blocks: IndexMap<u32, u64, Keyed>,
-    arc_counts: Vec<u32>,
-    block_counts: Vec<u32>,
+    arcs: Tally<(u32, u32)>,
+    blocks: Tally<u32>,
     unit: Option<Unit>,
 }
 
@@ -37,19 +33,9 @@ impl Model for Profile {
 
     ghost Value = { Content };
 
-    ghost view = { λ a. record { hists = a.hists; arcs = a.arcs.entries; blocks = a.blocks.entries; «unit» = a.«unit» } };
+    ghost view = { λ a. record { hists = a.hists; arcs = a.arcs; blocks = a.blocks; «unit» = a.«unit» } };
 
-    ghost invariant = { λ a. IsProfile (record { hists = a.hists; arcs = a.arcs.entries; blocks = a.blocks.entries; «unit» = a.«unit» }) };
-}
-
-/// How many arcs, or block counts, are looked up before the first one is added.
-const BATCH: usize = 16;
-
-/// The number of arcs among records.
-fn count_arcs(recs: &[Rec]) -> usize
-    ensures { result ≡ count_by is_arc recs.now }
-{
-    recs.iter().filter(|rec| matches!(rec, Rec::Arc(_))).count()
+    ghost invariant = { λ a. IsProfile (record { hists = a.hists; arcs = a.arcs; blocks = a.blocks; «unit» = a.«unit» }) };
 }
 
 impl Profile {
@@ -61,10 +47,8 @@ impl Profile {
         Profile {
             alloc,
             hists: ChunkedList::new(alloc),
-            arcs: IndexMap::with_hasher(alloc, Keyed::new(0)),
-            blocks: IndexMap::with_hasher(alloc, Keyed::new(0)),
-            arc_counts: Vec::new(alloc),
-            block_counts: Vec::new(alloc),
+            arcs: Tally::new(alloc),
+            blocks: Tally::new(alloc),
             unit: None,
         }
     }
@@ -76,10 +60,8 @@ impl Profile {
         Ok(Profile {
             alloc: self.alloc,
             hists: clone_hists(self.alloc, &self.hists)?,
-            arcs: self.arcs.clone()?,
-            blocks: self.blocks.clone()?,
-            arc_counts: Vec::new(self.alloc),
-            block_counts: Vec::new(self.alloc),
+            arcs: self.arcs.try_clone()?,
+            blocks: self.blocks.try_clone()?,
             unit: self.unit,
         })
     }
@@ -222,7 +204,7 @@ impl Profile {
             → self.new ≡ content_of (recs ++ WideArc from to count ∷ [])) }
         ensures unchanged { OnErr result (self.new ≡ self.old) }
     {
-        add_to(&mut self.arcs, (from, to), count)
+        self.arcs.add((from, to), count)
     }
 
     /// Adds the executions of a basic block, as `add_runs` does.
@@ -245,68 +227,24 @@ impl Profile {
             → self.new ≡ content_of (recs ++ WideBlock addr count ∷ [])) }
         ensures unchanged { OnErr result (self.new ≡ self.old) }
     {
-        add_to(&mut self.blocks, addr, count)
+        self.blocks.add(addr, count)
     }
 
-    /// Takes room for so many pairs more. The content is the same, whatever the answer: where there is no
-    /// room for all of them, there may still be for those that are new.
-    pub fn reserve_arcs(&mut self, more: usize) -> Result<(), AllocError>
+    /// Takes room for what records are about to add, so that their pairs and addresses don't crowd in the tables; where
+    /// there is none, adding takes it. The content is the same.
+    pub fn expect_records(&mut self, arcs: &[RawArc], blocks: &[RawBlock])
         ensures { self.new ≡ self.old }
     {
-        self.arcs.reserve(more)
+        self.arcs.expect(arcs);
+        self.blocks.expect(blocks);
     }
 
-    /// Takes room for so many block addresses more. The content is the same, whatever the answer.
-    pub fn reserve_blocks(&mut self, more: usize) -> Result<(), AllocError>
+    /// Takes room for what a profile is about to add, as `expect_records` does.
+    pub fn expect_profile(&mut self, more: &Profile)
         ensures { self.new ≡ self.old }
     {
-        self.blocks.reserve(more)
-    }
-
-    /// Takes room for arcs that are about to be added, so that their pairs don't crowd in the table. The content is the
-    /// same, whatever the answer.
-    pub fn make_room_for_arcs(&mut self, arcs: &[RawArc]) -> Result<(), AllocError>
-        ensures { self.new ≡ self.old }
-    {
-        make_room(
-            self.alloc,
-            &mut self.arcs,
-            &mut self.arc_counts,
-            &PairsOf { arcs },
-        )
-    }
-
-    /// Takes room for block counts that are about to be added, so that their addresses don't crowd in the table. The
-    /// content is the same, whatever the answer.
-    pub fn make_room_for_blocks(&mut self, blocks: &[RawBlock]) -> Result<(), AllocError>
-        ensures { self.new ≡ self.old }
-    {
-        make_room(
-            self.alloc,
-            &mut self.blocks,
-            &mut self.block_counts,
-            &AddressesOf { blocks },
-        )
-    }
-
-    /// Takes room for the pairs of a profile that is about to be added, so that they don't crowd in the table. The
-    /// content is the same, whatever the answer.
-    pub fn make_room_for_arcs_of(&mut self, more: &Profile) -> Result<(), AllocError>
-        ensures { self.new ≡ self.old }
-    {
-        make_room(self.alloc, &mut self.arcs, &mut self.arc_counts, &more.arcs)
-    }
-
-    /// The same for block addresses.
-    pub fn make_room_for_blocks_of(&mut self, more: &Profile) -> Result<(), AllocError>
-        ensures { self.new ≡ self.old }
-    {
-        make_room(
-            self.alloc,
-            &mut self.blocks,
-            &mut self.block_counts,
-            &more.blocks,
-        )
+        self.arcs.expect_tally(&more.arcs);
+        self.blocks.expect_tally(&more.blocks);
     }
 
     /// Adds the records of a file in order.
@@ -326,9 +264,7 @@ impl Profile {
         ensures stopped { IfErr result (λ refusal. IsStopped refusal (wide_records r.now.recs)
             self.old self.new) }
     {
-        let recs = r.recs.as_slice();
-        let _ = self.reserve_arcs(count_arcs(recs));
-        self.add_each(recs)
+        self.add_each(r.recs.as_slice())
     }
 
     fn add_each(&mut self, recs: &[Rec]) -> Result<(), AddRefusal>
@@ -368,52 +304,7 @@ impl Profile {
         ensures stopped { OnErr result (IsStopped OutOfMemory (map wide_arc arcs.now) self.old
             self.new) }
     {
-        let _ = self.reserve_arcs(arcs.len());
-        self.add_arc_batches(arcs)
-    }
-
-    fn add_arc_batches(&mut self, arcs: &[RawArc]) -> Result<(), AllocError>
-        requires { IsWithin (with_records (map wide_arc arcs.now) self.old) }
-        ensures added { OnOk result (self.new ≡ with_records (map wide_arc arcs.now) self.old) }
-        ensures stopped { OnErr result (IsStopped OutOfMemory (map wide_arc arcs.now) self.old
-            self.new) }
-    {
-        let mut rest = arcs;
-        while !rest.is_empty() {
-            let (batch, behind) = rest.split_at(rest.len().min(BATCH));
-            self.add_arc_batch(batch)?;
-            rest = behind;
-        }
-        Ok(())
-    }
-
-    fn add_arc_batch(&mut self, arcs: &[RawArc]) -> Result<(), AllocError>
-        requires { IsWithin (with_records (map wide_arc arcs.now) self.old) }
-        ensures added { OnOk result (self.new ≡ with_records (map wide_arc arcs.now) self.old) }
-        ensures stopped { OnErr result (IsStopped OutOfMemory (map wide_arc arcs.now) self.old
-            self.new) }
-    {
-        self.make_room_for_new_arcs(arcs);
-        self.add_each_arc(arcs)
-    }
-
-    /// Takes room for those that are new, where there is some.
-    fn make_room_for_new_arcs(&mut self, arcs: &[RawArc])
-        ensures { self.new ≡ self.old }
-    {
-        let _ = make_room_for_new(&mut self.arcs, &PairsOf { arcs });
-    }
-
-    fn add_each_arc(&mut self, arcs: &[RawArc]) -> Result<(), AllocError>
-        requires { IsWithin (with_records (map wide_arc arcs.now) self.old) }
-        ensures added { OnOk result (self.new ≡ with_records (map wide_arc arcs.now) self.old) }
-        ensures stopped { OnErr result (IsStopped OutOfMemory (map wide_arc arcs.now) self.old
-            self.new) }
-    {
-        for arc in arcs {
-            self.add_arc(*arc)?;
-        }
-        Ok(())
+        self.arcs.add_all(arcs)
     }
 
     /// Adds executions of basic blocks in order, as `add_block` does. Room for all of them is taken first,
@@ -426,52 +317,7 @@ impl Profile {
         ensures stopped { OnErr result (IsStopped OutOfMemory (map wide_block blocks.now) self.old
             self.new) }
     {
-        let _ = self.reserve_blocks(blocks.len());
-        self.add_block_batches(blocks)
-    }
-
-    fn add_block_batches(&mut self, blocks: &[RawBlock]) -> Result<(), AllocError>
-        requires { IsWithin (with_records (map wide_block blocks.now) self.old) }
-        ensures added { OnOk result (self.new ≡ with_records (map wide_block blocks.now) self.old) }
-        ensures stopped { OnErr result (IsStopped OutOfMemory (map wide_block blocks.now) self.old
-            self.new) }
-    {
-        let mut rest = blocks;
-        while !rest.is_empty() {
-            let (batch, behind) = rest.split_at(rest.len().min(BATCH));
-            self.add_block_batch(batch)?;
-            rest = behind;
-        }
-        Ok(())
-    }
-
-    fn add_block_batch(&mut self, blocks: &[RawBlock]) -> Result<(), AllocError>
-        requires { IsWithin (with_records (map wide_block blocks.now) self.old) }
-        ensures added { OnOk result (self.new ≡ with_records (map wide_block blocks.now) self.old) }
-        ensures stopped { OnErr result (IsStopped OutOfMemory (map wide_block blocks.now) self.old
-            self.new) }
-    {
-        self.make_room_for_new_blocks(blocks);
-        self.add_each_block(blocks)
-    }
-
-    /// Takes room for those that are new, where there is some.
-    fn make_room_for_new_blocks(&mut self, blocks: &[RawBlock])
-        ensures { self.new ≡ self.old }
-    {
-        let _ = make_room_for_new(&mut self.blocks, &AddressesOf { blocks });
-    }
-
-    fn add_each_block(&mut self, blocks: &[RawBlock]) -> Result<(), AllocError>
-        requires { IsWithin (with_records (map wide_block blocks.now) self.old) }
-        ensures added { OnOk result (self.new ≡ with_records (map wide_block blocks.now) self.old) }
-        ensures stopped { OnErr result (IsStopped OutOfMemory (map wide_block blocks.now) self.old
-            self.new) }
-    {
-        for block in blocks {
-            self.add_block(*block)?;
-        }
-        Ok(())
+        self.blocks.add_all(blocks)
     }
 
     /// What holds of each profile. Does nothing.
@@ -538,15 +384,15 @@ impl Profile {
         requires { i < length self.now.arcs }
         ensures { slice_get self.now.arcs i ≡ Some ((result.0, result.1), result.2) }
     {
-        let (pair, count) = self.arcs.get_index(i).unwrap();
-        (pair.0, pair.1, *count)
+        let ((from, to), count) = self.arcs.get(i);
+        (from, to, count)
     }
 
     /// The calls of all pairs.
     pub fn calls(&self) -> u64
         ensures { result ≡ tally_total self.now.arcs }
     {
-        total(&self.arcs)
+        self.arcs.total()
     }
 
     /// The number of block addresses.
@@ -562,21 +408,20 @@ impl Profile {
         requires { i < length self.now.blocks }
         ensures { slice_get self.now.blocks i ≡ Some (result.0, result.1) }
     {
-        let (addr, count) = self.blocks.get_index(i).unwrap();
-        (*addr, *count)
+        self.blocks.get(i)
     }
 
     /// The executions at an address, 0 where it has none. Takes no memory.
     pub fn block_of(&self, addr: u32) -> u64
         ensures { result ≡ runs_at addr self.now.blocks }
     {
-        self.blocks.get(&addr).copied().unwrap_or(0)
+        self.blocks.number_of(addr)
     }
 
     /// The executions of all basic blocks.
     pub fn blocks(&self) -> u64
         ensures { result ≡ tally_total self.now.blocks }
     {
-        total(&self.blocks)
+        self.blocks.total()
     }
 }

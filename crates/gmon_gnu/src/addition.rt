@@ -19,18 +19,10 @@ impl State {
             (wide_records (recs_of self.now)) profile.old profile.new) }
     {
         let arcs = self.arcs.as_slice();
-        self.make_room(profile);
+        profile.expect_records(arcs, self.pairs.cells.as_slice());
         self.add_entries(profile)?;
         profile.add_arcs(&arcs[self.run as usize..])?;
         Ok(())
-    }
-
-    /// Takes room for all arcs and block counts, where there is some.
-    pub(crate) fn make_room(&self, profile: &mut Profile)
-        ensures { profile.new ≡ profile.old }
-    {
-        let _ = profile.make_room_for_arcs(self.arcs.as_slice());
-        let _ = profile.make_room_for_blocks(self.pairs.cells.as_slice());
     }
 
     /// Adds the records of the entries.

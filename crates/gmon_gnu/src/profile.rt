@@ -78,7 +78,7 @@ impl State {
         let (alike, order) = alike_in_order(alloc, self.fields.as_slice(), entries)?;
         let (first, later) = entries.split_at(alike);
         let mut profile = Profile::new(alloc);
-        self.make_room(&mut profile);
+        profile.expect_records(self.arcs.as_slice(), self.pairs.cells.as_slice());
         match self.add_placed(&mut profile, first, order.as_slice()) {
             Ok(()) => {
                 self.add_behind(&mut profile, later)?;

@@ -80,19 +80,11 @@ fn add_parts(total: &mut Profile, more: &Profile) -> Result<(), SumRefusal>
 {
     total.holds();
     more.holds();
-    take_room(total, more);
+    total.expect_profile(more);
     add_hists(total, more)?;
     add_arcs(total, more)?;
     add_blocks(total, more)?;
     Ok(())
-}
-
-/// Takes room for the pairs and addresses, so that they don't crowd in their tables; where there is none, for some.
-pub fn take_room(total: &mut Profile, more: &Profile)
-    ensures { total.new ≡ total.old }
-{
-    let _ = total.make_room_for_arcs_of(more);
-    let _ = total.make_room_for_blocks_of(more);
 }
 
 /// Why the first histogram that can't be added to the total alone can't be, if there is one.

@@ -441,25 +441,27 @@ fn firsts(profile: &Profile) -> (Option<(u32, u32, u64)>, Option<(u32, u64)>) {
 fn add_large_pair(profile: &mut Profile) -> Result<(), AllocError>
     requires { profile.old ≡ empty_content }
 {
-    profile.reserve_arcs(100)?;
-    profile.add_calls(0x1_0004, 0x1_0008, 1 << 58)?;
-    profile.add_arc(RawArc {
+    let arc = RawArc {
         from: 0x1_0004,
         to: 0x1_0008,
         count: 5,
-    })
+    };
+    profile.expect_records(&[arc], &[]);
+    profile.add_calls(arc.from, arc.to, 1 << 58)?;
+    profile.add_arc(arc)
 }
 
 /// Adds one block address, with more executions than 32 bits can say.
 fn add_large_block(profile: &mut Profile) -> Result<(), AllocError>
     requires { profile.old ≡ empty_content }
 {
-    profile.reserve_blocks(100)?;
-    profile.add_runs(0x1_0000, 1 << 57)?;
-    profile.add_block(RawBlock {
+    let block = RawBlock {
         addr: 0x1_0000,
         count: 9,
-    })
+    };
+    profile.expect_records(&[], &[block]);
+    profile.add_runs(block.addr, 1 << 57)?;
+    profile.add_block(block)
 }
 
 #[test]

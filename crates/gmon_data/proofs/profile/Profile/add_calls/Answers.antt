@@ -1,14 +1,20 @@
-use Rattle.gmon_data.proofs.ContentLemmas.{arc_fits, arc_stands, on_ok}
-use Rattle.gmon_data.proofs.NumberLemmas.{arcs_stay}
+use Rattle.std.proofs.Common.{[], ◌∷◌, refl, arith}
+use Rattle.gmon_data.specs.Content.{WideArc, same_ends}
+use Rattle.gmon_data.proofs.ContentLemmas.{on_ok}
+use Rattle.gmon_data.proofs.EntryLemmas.{arcs_in, entries_added, entries_fit, entries_stay, one_fits, one_stopped, PairIsOf32}
+use Rattle.gmon_data.proofs.RecordLemmas.{records_stand}
 use Rattle.gmon_data.proofs.profile.Profile.add_calls.Goals as goal
 
-pub add_to-requires : goal.add_to-requires
-add_to-requires c = arc_fits c.args.from c.args.to c.args.count _ c.args.self.now c.self.view_is c.requires
-
-pub returns-clause-stands : goal.returns-clause-stands
-returns-clause-stands c =
-    on_ok c.add_to.result c.add_to.ensures.added (λ added. arc_stands c.args.from c.args.to c.args.count _ c.args.self.now c.add_to.new.numbers.entries c.self.view_is added)
+pub add-requires : goal.add-requires
+add-requires c = let fits = entries_fit arcs_in _ c.args.self.now c.self.view_is (((c.args.from, c.args.to), c.args.count) ∷ []) (WideArc c.args.from c.args.to c.args.count ∷ []) refl c.requires in omega (arith, fits)
 
 pub invariant_of-self : goal.invariant_of-self
 invariant_of-self c =
-    arcs_stay _ c.args.self.now c.self.view_is c.self.invariant c.args.from c.args.to c.args.count c.add_to.new.numbers.entries c.add_to.result c.ranges.from.fits c.ranges.to.fits c.requires c.add_to.ensures.added c.add_to.ensures.unchanged c.add_to.ensures.distinct
+    entries_stay arcs_in _ c.args.self.now c.self.view_is (((c.args.from, c.args.to), c.args.count) ∷ []) (WideArc c.args.from c.args.to c.args.count ∷ []) refl c.requires c.add.new.self c.add.result c.add.ensures.added
+    (one_stopped same_ends (c.args.from, c.args.to) c.args.count c.self.inside.arcs c.add.new.self c.add.result c.add.ensures.unchanged) c.self.invariant
+    (one_fits same_ends (c.args.from, c.args.to) c.args.count c.self.inside.arcs c.add.new.self PairIsOf32 c.add.result c.add.ensures.added c.add.ensures.unchanged (c.ranges.from.fits, c.ranges.to.fits) c.self.invariant.numbers.arcs) c.add.ensures.distinct
+
+pub returns-clause-stands : goal.returns-clause-stands
+returns-clause-stands c =
+    on_ok c.add.result (entries_added arcs_in _ c.args.self.now c.self.view_is (((c.args.from, c.args.to), c.args.count) ∷ []) (WideArc c.args.from c.args.to c.args.count ∷ []) refl c.requires c.add.new.self c.add.result c.add.ensures.added)
+    (λ added. records_stand (WideArc c.args.from c.args.to c.args.count ∷ []) c.args.self.now _ added)

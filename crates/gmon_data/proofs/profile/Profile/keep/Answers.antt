@@ -44,7 +44,7 @@ invariant_of-self-2 c =
 
 pub returns-clause-added : goal.returns-clause-added
 returns-clause-added c =
-    let v : Content = record { hists = c.self.inside.hists; arcs = c.self.inside.arcs.entries; blocks = c.self.inside.blocks.entries; «unit» = c.self.inside.«unit» } in
+    let v : Content = record { hists = c.self.inside.hists; arcs = c.self.inside.arcs; blocks = c.self.inside.blocks; «unit» = c.self.inside.«unit» } in
     let is = c.unwrap_or.ensures ∙ ap (λ u. unwrap_or c.self.inside.«unit» u) c.normal_unit.ensures in
     with_hist_is c.args.hist c.args.«unit» v c.put.new.hists c.unwrap_or.result (lt-ltb 0 (length c.args.hist.counters) c.requires.kept.some) c.in_ok-put.ensures.added is
     ∙ ap (λ (w : Content). with_hist c.args.hist c.args.«unit» w) c.self.view_is

@@ -1,6 +1,0 @@
-use Rattle.std.proofs.Common.{◌≡◌, ◌+◌, drop}
-use Rattle.gmon_data.specs.Tally.{tally_total}
-use Rattle.gmon_data.proofs.tally.total.Given as goal
-
-abbrev pub invariant-loop-i : goal.invariant-loop-i
-invariant-loop-i g l = l.sum + tally_total (drop l.i l.numbers.entries) ≡ tally_total l.numbers.entries
