@@ -25,14 +25,8 @@ pub fn print_listing<H: Host>(
     requires rising { AreRising (elf ∷ gmons.now) }
     ensures { Acted words.now (H.outside host.old) (H.outside host.new) result }
 {
-    let (bytes, image) = match read_program(alloc, words, elf, host) {
-        Ok(read) => read,
-        Err(fault) => return Err(fault),
-    };
-    let total = match read_profiles(alloc, words, gmons, host) {
-        Ok(total) => total,
-        Err(fault) => return Err(fault),
-    };
+    let (bytes, image) = read_program(alloc, words, elf, host)?;
+    let total = read_profiles(alloc, words, gmons, host)?;
     match annotate::write(&image, bytes.as_slice(), &total, host) {
         Ok(()) => Ok(Done { run: None }),
         Err(_) => Err(Fault::WriteFault),

@@ -49,10 +49,7 @@ pub fn demo<H: Host>(
     requires within { IsSetup setup }
     ensures { Acted words.now (H.outside host.old) (H.outside host.new) result }
 {
-    let (bytes, image) = match made_program(alloc, functions) {
-        Ok(made) => made,
-        Err(fault) => return Err(fault),
-    };
+    let (bytes, image) = made_program(alloc, functions)?;
     match write_program(words, elf, bytes.as_slice(), host) {
         Ok(()) => run_demo(alloc, functions, &image, bytes.as_slice(), setup, host),
         Err(_) => Err(Fault::WriteFault),
@@ -73,10 +70,7 @@ fn run_demo<H: Host>(
     ensures { RunsDemo functions setup image.now bytes.now (H.outside host.old)
         (H.outside host.new) result }
 {
-    let (run, summary) = match run_alone(alloc, image, bytes, setup, host) {
-        Ok(ran) => ran,
-        Err(fault) => return Err(fault),
-    };
+    let (run, summary) = run_alone(alloc, image, bytes, setup, host)?;
     match tell_demo(alloc, functions, image, &run, setup.rate, host) {
         Ok(()) => Ok(Done { run: Some(summary) }),
         Err(refusal) => Err(report_fault(refusal)),

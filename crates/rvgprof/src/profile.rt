@@ -34,20 +34,11 @@ pub fn profile<H: Host>(
     requires cuts { AreCuts words.now selection.now }
     ensures { Acted words.now (H.outside host.old) (H.outside host.new) result }
 {
-    let (bytes, image) = match read_program(alloc, words, elf, host) {
-        Ok(read) => read,
-        Err(fault) => return Err(fault),
-    };
-    let ran = run_program(alloc, words, &image, bytes.as_slice(), outputs, setup, host);
-    let (run, summary) = match ran {
-        Ok(ran) => ran,
-        Err(fault) => return Err(fault),
-    };
+    let (bytes, image) = read_program(alloc, words, elf, host)?;
+    let (run, summary) = run_program(alloc, words, &image, bytes.as_slice(), outputs, setup, host)?;
     let Ok(total) = run_profile(alloc, run.gmon(), setup.rate) else {
         return Err(Fault::OutOfMemory);
     };
-    match print_reports(alloc, words, selection, &image, total, host) {
-        Ok(()) => Ok(Done { run: Some(summary) }),
-        Err(fault) => Err(fault),
-    }
+    print_reports(alloc, words, selection, &image, total, host)?;
+    Ok(Done { run: Some(summary) })
 }

@@ -28,16 +28,8 @@ pub fn report<H: Host>(
     requires cuts { AreCuts words.now selection.now }
     ensures { Acted words.now (H.outside host.old) (H.outside host.new) result }
 {
-    let (_, image) = match read_program(alloc, words, elf, host) {
-        Ok(read) => read,
-        Err(fault) => return Err(fault),
-    };
-    let total = match read_profiles(alloc, words, gmons, host) {
-        Ok(total) => total,
-        Err(fault) => return Err(fault),
-    };
-    match print_reports(alloc, words, selection, &image, total, host) {
-        Ok(()) => Ok(Done { run: None }),
-        Err(fault) => Err(fault),
-    }
+    let (_, image) = read_program(alloc, words, elf, host)?;
+    let total = read_profiles(alloc, words, gmons, host)?;
+    print_reports(alloc, words, selection, &image, total, host)?;
+    Ok(Done { run: None })
 }

@@ -104,10 +104,8 @@ fn exact_asked(
     if !asked {
         return Ok(None);
     }
-    match exact(alloc, &findings.graph, &findings.shares) {
-        Ok(exact) => Ok(Some(exact)),
-        Err(refusal) => Err(refusal),
-    }
+    let exact = exact(alloc, &findings.graph, &findings.shares)?;
+    Ok(Some(exact))
 }
 
 /// Prints the reports that are asked for, and then the times with nothing rounded, if they are given.

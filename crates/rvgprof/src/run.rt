@@ -28,12 +28,7 @@ pub fn run<H: Host>(
     requires within { IsRunSetup outputs.form setup }
     ensures { Acted words.now (H.outside host.old) (H.outside host.new) result }
 {
-    let (bytes, image) = match read_program(alloc, words, elf, host) {
-        Ok(read) => read,
-        Err(fault) => return Err(fault),
-    };
-    match run_program(alloc, words, &image, bytes.as_slice(), outputs, setup, host) {
-        Ok((_, summary)) => Ok(Done { run: Some(summary) }),
-        Err(fault) => Err(fault),
-    }
+    let (bytes, image) = read_program(alloc, words, elf, host)?;
+    let (_, summary) = run_program(alloc, words, &image, bytes.as_slice(), outputs, setup, host)?;
+    Ok(Done { run: Some(summary) })
 }

@@ -32,14 +32,8 @@ pub fn print_stacks<H: Host>(
     requires within { IsSetup setup }
     ensures { Acted words.now (H.outside host.old) (H.outside host.new) result }
 {
-    let (bytes, image) = match read_program(alloc, words, elf, host) {
-        Ok(read) => read,
-        Err(fault) => return Err(fault),
-    };
-    let (run, folded) = match fold_program(alloc, &image, bytes.as_slice(), setup, host) {
-        Ok(done) => done,
-        Err(fault) => return Err(fault),
-    };
+    let (bytes, image) = read_program(alloc, words, elf, host)?;
+    let (run, folded) = fold_program(alloc, &image, bytes.as_slice(), setup, host)?;
     match folded::write(&folded, image.symbols.as_slice(), inclusive, host) {
         Ok(()) => Ok(Done {
             run: Some(run.summary()),

@@ -32,10 +32,7 @@ pub fn sum<H: Host>(
     ensures fits { OnOk result (SumIsProfile words.now (H.outside host.old)
         (H.outside host.new) gmons.now) }
 {
-    let total = match read_profiles(alloc, words, gmons, host) {
-        Ok(total) => total,
-        Err(fault) => return Err(fault),
-    };
+    let total = read_profiles(alloc, words, gmons, host)?;
     total.holds();
     match write_profile(&total, words.name(out), host) {
         Ok(()) => Ok(Done { run: None }),

@@ -1,4 +1,5 @@
 use Rattle.std.proofs.Common.{◌≡◌, ℕ, ◌+◌, ◌-◌, ◌≤◌, List, [], ◌∷◌, ◌∙◌, ap, drop, take, get_or, sym, subst, arith}
+use Rattle.std.proofs.lemmas.Result.{err_from_is_err_and}
 use Rattle.std.specs.List.{AllByRecursion}
 use Rattle.std.proofs.lemmas.List.{drop_more, drop_all, take_all, take_more}
 use Rattle.gmon_data.specs.Content.{Content, content_of}
@@ -37,8 +38,8 @@ loop-i-preserved g c =
     let front : drop i gmons ≡ word ∷ more = drop_more gmons i 0 c.loop-i-test.true in
     let rising : AreRising (word ∷ more) = subst (λ (ws : List ℕ). AreRising ws) front (rising_drop i gmons c.requires.rising) in
     let was = c.loop-i.invariant in
-    let one = c.in-Ok.ensures in
-    let less : MAX_PROFILE_BYTES - c.loop-i.left + c.in-Ok.len ≡ MAX_PROFILE_BYTES - (c.loop-i.left - c.in-Ok.len) = omega (arith, one.within, was.limit) in
+    let one = c.in_ok-left.ensures in
+    let less : MAX_PROFILE_BYTES - c.loop-i.left + c.in_ok-left.field-0 ≡ MAX_PROFILE_BYTES - (c.loop-i.left - c.in_ok-left.field-0) = omega (arith, one.within, was.limit) in
     record {
       reads = λ start below next may all s.
           let before = was.reads start below next may all s in
@@ -54,8 +55,8 @@ loop-i-preserved g c =
           was.told one.told;
     }
 
-pub returns-in-Err-clause-reads : goal.returns-in-Err-clause-reads
-returns-in-Err-clause-reads g c = λ start below next may all s.
+pub returns-in_err-left-clause-reads : goal.returns-in_err-left-clause-reads
+returns-in_err-left-clause-reads g c = λ start below next may all s.
     let words = c.args.words.now in
     let gmons = c.args.gmons.now in
     let i = c.loop-i.i in
@@ -65,7 +66,8 @@ returns-in-Err-clause-reads g c = λ start below next may all s.
     let before = c.loop-i.invariant.reads start below next may all s in
     let behind : AllByRecursion (λ w. before.0 ≤ w) (word ∷ more) = subst (λ (ws : List ℕ). AllByRecursion (λ w. before.0 ≤ w) ws) front before.1 in
     let stands = subst (λ (ws : List ℕ). Stands words start (g.H.Host.outside c.loop-i.host) before.0 [] (profiles ws c.loop-i.left c.loop-i.total next)) front before.2 in
-    c.in-Err.ensures.adds start before.0 more next may behind.0 stands
+    let p = err_from_is_err_and c.from_residual.result c.from_residual.ensures.1 in
+    rw (p.1, p.2) (c.in_err-left.ensures.adds start before.0 more next may behind.0 stands)
 
 pub returns-clause-reads : goal.returns-clause-reads
 returns-clause-reads g c = λ start below next may all s.
