@@ -1,9 +1,7 @@
-use Rattle.std.proofs.Common.{◌≡◌, ℕ, ◌+◌, List, false, length, map, string_bytes, sym, subst, ◌∙◌, arith}
+use Rattle.std.proofs.Common.{◌≡◌, ℕ, ◌+◌, false, map, string_bytes, sym, subst, ◌∙◌, arith}
 use Rattle.gmon_data.specs.Content.{Content}
 use Rattle.gmon_data.proofs.RecordLemmas.{IsUnderway}
-use Rattle.arc_filter.specs.declared.marks.Marks.{Marks}
 use Rattle.arc_filter.specs.Cuts.{is_cut}
-use Rattle.arc_filter.specs.Marks.{AreMarks, AreOf}
 use Rattle.arc_filter.proofs.MarkLemmas.{marks_long}
 use Rattle.arc_filter.proofs.ProfileLemmas.{all_left, cut_next, kept_next, kept_within, left_from}
 use Rattle.arc_filter.proofs.cuts.put_arcs.Goals as goal
