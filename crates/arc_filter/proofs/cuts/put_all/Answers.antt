@@ -12,8 +12,8 @@ put_hists-requires-clause-within c =
 
 pub put_arcs-requires-clause-within : goal.put_arcs-requires-clause-within
 put_arcs-requires-clause-within c =
-    arcs_within c.args.profile.now c.args.symbols.now (map string_bytes c.args.cuts.now) c.holds.ensures c.take_room.new.total
-    (c.take_room.ensures ∙ c.in_ok-put_hists.ensures ∙ ap (with_records (hist_records c.args.profile.now)) c.requires.empty)
+    arcs_within c.args.profile.now c.args.symbols.now (map string_bytes c.args.cuts.now) c.holds.ensures c.expect_profile.new.self
+    (c.expect_profile.ensures ∙ c.in_ok-put_hists.ensures ∙ ap (with_records (hist_records c.args.profile.now)) c.requires.empty)
 
 pub add_blocks-requires : goal.add_blocks-requires
 add_blocks-requires c =
@@ -21,7 +21,7 @@ add_blocks-requires c =
     let words = map string_bytes c.args.cuts.now in
     blocks_within p c.args.symbols.now words c.holds.ensures c.put_arcs.new.left
     (c.in_ok-put_arcs.ensures
-    ∙ ap (with_records (map arc_record (filter (stays c.args.symbols.now words) p.arcs))) (c.take_room.ensures ∙ c.in_ok-put_hists.ensures ∙ ap (with_records (hist_records p)) c.requires.empty))
+    ∙ ap (with_records (map arc_record (filter (stays c.args.symbols.now words) p.arcs))) (c.expect_profile.ensures ∙ c.in_ok-put_hists.ensures ∙ ap (with_records (hist_records p)) c.requires.empty))
 
 pub returns : goal.returns
 returns c =
@@ -30,5 +30,5 @@ returns c =
     c.in_ok-add_blocks.ensures.added
     ∙ ap (with_records (map block_record p.blocks))
     (c.in_ok-put_arcs.ensures
-    ∙ ap (with_records (map arc_record (filter (stays c.args.symbols.now words) p.arcs))) (c.take_room.ensures ∙ c.in_ok-put_hists.ensures ∙ ap (with_records (hist_records p)) c.requires.empty))
+    ∙ ap (with_records (map arc_record (filter (stays c.args.symbols.now words) p.arcs))) (c.expect_profile.ensures ∙ c.in_ok-put_hists.ensures ∙ ap (with_records (hist_records p)) c.requires.empty))
     ∙ all_put p c.args.symbols.now words c.holds.ensures

@@ -24,7 +24,7 @@ returns-in_err-add_arcs-clause-stopped c =
     let arcs = map wide_arc c.args.arcs.now in
     let old = c.args.profile.now in
     let one = one_added hist old c.add_counts.new.self c.in_ok-add_counts.ensures.accepted c.in_ok-add_counts.ensures.added in
-    rw (p.1, p.2) (stopped_second (hist ∷ []) arcs old c.add_counts.new.self one _ c.add_arcs.new.self (rw c.make_room_for_arcs.ensures at c.in_err-add_arcs.ensures.stopped))
+    rw (p.1, p.2) (stopped_second (hist ∷ []) arcs old c.add_counts.new.self one _ c.add_arcs.new.self (rw c.expect_records.ensures at c.in_err-add_arcs.ensures.stopped))
 
 pub returns-clause-added : goal.returns-clause-added
 returns-clause-added c =
@@ -32,5 +32,5 @@ returns-clause-added c =
     let arcs = map wide_arc c.args.arcs.now in
     let old = c.args.profile.now in
     let one = one_added hist old c.add_counts.new.self c.in_ok-add_counts.ensures.accepted c.in_ok-add_counts.ensures.added in
-    let rest = arcs_added {some = c.args.arcs.now} refl c.add_counts.new.self c.add_arcs.new.self (rw c.make_room_for_arcs.ensures at c.in_ok-add_arcs.ensures.added) in
+    let rest = arcs_added {some = c.args.arcs.now} refl c.add_counts.new.self c.add_arcs.new.self (rw c.expect_records.ensures at c.in_ok-add_arcs.ensures.added) in
     added_both (hist ∷ []) arcs old c.add_counts.new.self one c.add_arcs.new.self rest
