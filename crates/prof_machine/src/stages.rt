@@ -42,6 +42,7 @@ impl Run {
     }
 
     // One look of this hart's walk. Behind the last one the hart goes on at the address that is answered.
+    #[inline(never)]
     pub(crate) fn look(&mut self, hart: u32) -> Option<u32>
         requires { CanLook hart self.old }
         ensures stands { StandsAfter
