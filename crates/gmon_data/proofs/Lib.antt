@@ -8,6 +8,7 @@ pub mod ContentLemmas
 pub mod RecordLemmas
 pub mod BoundLemmas
 pub mod LoopLemmas
+pub mod ArcLemmas
 pub mod RebuiltLemmas
 pub mod RunLemmas
 pub mod NumberLemmas

@@ -1,6 +1,7 @@
 //! A profile: the sum of what was counted, whatever files it came from.
 #![tactic(auto)]
 
+mod arcs;
 mod chunks;
 pub mod hist;
 mod hists;

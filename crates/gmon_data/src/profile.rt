@@ -9,6 +9,7 @@ ghost use Rattle.gmon_data.specs.Hists.{IsKept, IsUnlike, conflict_with, kept_un
 ghost use Rattle.gmon_data.specs.Tally.{tally_total};
 ghost use Rattle.gmon_data.specs.declared.refusal.AddRefusal.TheVariants.{OutOfMemory};
 
+use crate::arcs::Arcs;
 use crate::chunks::ChunkedList;
 use crate::hist::{Hist, HistRange, clone_hists, samples, widened};
 use crate::hists::{conflict, count_ended, normal_unit, put};
@@ -23,7 +24,7 @@ use std::marker::Model;
 pub struct Profile {
     alloc: Global,
     hists: ChunkedList<Hist>,
-    arcs: Tally<(u32, u32)>,
+    arcs: Arcs,
     blocks: Tally<u32>,
     unit: Option<Unit>,
 }
@@ -47,7 +48,7 @@ impl Profile {
         Profile {
             alloc,
             hists: ChunkedList::new(alloc),
-            arcs: Tally::new(alloc),
+            arcs: Arcs::new(alloc),
             blocks: Tally::new(alloc),
             unit: None,
         }
@@ -243,7 +244,7 @@ impl Profile {
     pub fn expect_profile(&mut self, more: &Profile)
         ensures { self.new ≡ self.old }
     {
-        self.arcs.expect_tally(&more.arcs);
+        self.arcs.expect_others(&more.arcs);
         self.blocks.expect_tally(&more.blocks);
     }
 

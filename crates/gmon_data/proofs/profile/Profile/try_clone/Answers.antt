@@ -12,7 +12,7 @@ old_in c = record { hists = c.self.inside.hists; arcs = c.self.inside.arcs; bloc
 same_content : (c : goal.After-result-2-1) → content_in c ≡ old_in c
 same_content c =
     let hists = c.in_ok-clone_hists.ensures in
-    let arcs : c.in_ok-try_clone.field-0 ≡ c.self.inside.arcs = same_from_all_zip _ _ _ c.in_ok-try_clone.ensures (λ e copy same. λ i. ((same.0.0 i, same.0.1 i), same.1 i)) in
+    let arcs : c.in_ok-try_clone.field-0 ≡ c.self.inside.arcs = c.in_ok-try_clone.ensures in
     let blocks : c.in_ok-try_clone-2.field-0 ≡ c.self.inside.blocks = same_from_all_zip _ _ _ c.in_ok-try_clone-2.ensures (λ e copy same. λ i. (same.0 i, same.1 i)) in
     λ i. record { hists = hists i; arcs = arcs i; blocks = blocks i; «unit» = c.self.inside.«unit» }
 
