@@ -1,4 +1,4 @@
-use Rattle.std.proofs.Common.{◌≡◌, ◌-◌, ◌<◌, ℕ, suc, false, nat_eq, length, drop, get_or, subst, sym, arith}
+use Rattle.std.proofs.Common.{◌≡◌, ◌-◌, ◌<◌, suc, false, nat_eq, length, drop, get_or, subst, arith}
 use Rattle.std.proofs.lemmas.Bool.Decides.{nat_tests}
 use Rattle.gp_base.specs.declared.records.RawArc.{RawArc}
 use Rattle.gmon_data.specs.Arcs.{entries_of, entry_of, IsBehind}
@@ -15,7 +15,7 @@ returns-then-arc-pair c =
     let next : c.loop-i.i ≡ suc i = omega arith in
     let inside : i < length arcs = omega arith in
     λ by_site. λ t. behind_lower c.args.pair (entries_of arcs) i (entry_of (get_or arcs i no_arc)) by_site (entry_at arcs i no_arc inside) c.if-arc-pair.true
-        (subst (λ k. IsBehind c.args.pair (drop k (entries_of arcs))) next c.loop-i.invariant)
+    (subst (λ k. IsBehind c.args.pair (drop k (entries_of arcs))) next c.loop-i.invariant)
 
 pub loop-i-preserved : goal.loop-i-preserved
 loop-i-preserved c =
@@ -27,4 +27,4 @@ loop-i-preserved c =
     let site : arc.from ≡ c.args.pair.0 = omega arith in
     let other : nat_eq c.args.pair.1 arc.to ≡ false = grind (arith, nat_tests, c.if-arc-pair-3.false) in
     behind_another c.args.pair (entries_of arcs) i (entry_of arc) (entry_at arcs i no_arc inside) site other
-        (subst (λ k. IsBehind c.args.pair (drop k (entries_of arcs))) next c.loop-i.invariant)
+    (subst (λ k. IsBehind c.args.pair (drop k (entries_of arcs))) next c.loop-i.invariant)

@@ -1,11 +1,9 @@
-use Rattle.std.proofs.Common.{◌≡◌, ℕ, get_or, sym, ap, subst, ◌∙◌, arith}
-use Rattle.std.specs.List.{AllByRecursion}
+use Rattle.std.proofs.Common.{get_or, arith}
 use Rattle.std.proofs.lemmas.List.{get_or_default}
 use Rattle.std.proofs.lemmas.Result.{err_from_is_err_and}
 use Rattle.gp_base.specs.declared.records.RawArc.{RawArc}
 use Rattle.gmon_data.specs.Arcs.{entry_of}
-use Rattle.gmon_data.specs.Content.{same_ends, PairFits}
-use Rattle.gmon_data.specs.Tally.{tally}
+use Rattle.gmon_data.specs.Content.{same_ends}
 use Rattle.gmon_data.proofs.EntryLemmas.{PairIsOf32}
 use Rattle.gmon_data.proofs.TallyLemmas.{next_fit, next_fits, next_tallied, tallied_partly}
 use Rattle.gmon_data.proofs.arcs.Arcs.add_all.Goals as goal
