@@ -1,5 +1,5 @@
 -- Paths go back to where two stacks part, and down by one node.
-use Rattle.std.proofs.Common.{◌≡◌, ◌∙◌, ◌+◌, ◌<◌, ◌≤◌, ◌++◌, inl, inr, ℕ, List, [], ◌∷◌, length, get_or, set, take, append_assoc, append-nil, ap, arith, refl, replicate, subst, sym, Option, None}
+use Rattle.std.proofs.Common.{◌≡◌, ◌∙◌, ◌+◌, ◌<◌, ◌≤◌, ◌++◌, inl, inr, ℕ, List, [], ◌∷◌, length, get_or, set, take, append_assoc, ap, arith, refl, replicate, subst, sym, Option, None}
 use Rattle.std.specs.Prelude.{◌⊎◌}
 use Rattle.std.proofs.lemmas.List.{get_or-set_other, get_or-set_same, length-append, length-replicate, length-set, length-take-le, length_push, take-set-le, take_at, take_more_set}
 use Rattle.std.proofs.lemmas.List.Elements.{All-get_or}

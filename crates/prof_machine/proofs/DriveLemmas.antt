@@ -1,5 +1,5 @@
 -- The loop that makes the turns of a plan.
-use Rattle.std.proofs.Common.{◌*◌, ◌+◌, ◌-◌, None, Option, Some, ap, arith, refl, subst, sym, true, ℕ, ◌∙◌, ◌≡◌, ◌<◌, ◌≤◌}
+use Rattle.std.proofs.Common.{◌*◌, ◌+◌, ◌-◌, None, Option, Some, ap, arith, refl, subst, sym, true, ℕ, ◌∙◌, ◌≡◌, ◌<◌, ◌≤◌, ◌↔◌}
 use Rattle.std.specs.Prelude.{IfSome}
 use Rattle.host_port.specs.Outside.{KeepsCounts, KeepsInput, Outside}
 use Rattle.prof_machine.proofs.PlanLemmas.{driven_at, next_turn}
@@ -71,7 +71,10 @@ fewer_turns a old new is held live less =
       less = less;
     }
 
--- what a turn answered where the run has ended
-pub ended_answer : (o : Option End) (end : End) → turned_of o ≡ Ended end → o ≡ Some end
+-- what a turn answers where the run has ended
+ended_answer : (o : Option End) (end : End) → turned_of o ≡ Ended end → o ≡ Some end
 ended_answer None end is = absurd cc
 ended_answer (Some e) end is = let same : e ≡ end = cc in ap (λ (x : End). Some x) same
+
+pub ended_exactly : (o : Option End) (end : End) → (turned_of o ≡ Ended end) ↔ (o ≡ Some end)
+ended_exactly o end = (ended_answer o end, λ is. ap turned_of is)

@@ -99,9 +99,12 @@ step_trapped w a h kind pc s0 s m read x y z stays pc_is stands =
     let R : ℕ → Type 0 = λ n. StandsFor (record w { ending = Some (Trap kind n) }) (record (value_of a) { ending = Some (Trap kind pc) }) in
     subst P (sym (step_as w a h (Trapped kind) s0 s m read x y z stands)) (subst Q (sym back) (subst R here (with_ending w (value_of a) (Trap kind pc) stands)), refl)
 
+-- a call leaves what is there to be changed by its own stage
+pub called_unchanged : (a : Inside) (h : ℕ) (s0 s : Registers) (m : Memory) → hart_of a.harts.items h ≡ s0 → ((Ecall ≡ Retired) ⊎ ((s ≡ s0) × (m ≡ a.ram))) → value_of (record a { harts = with_item a.harts h s; ram = m }) ≡ value_of a
+called_unchanged a h s0 s m read stays = let same = unchanged Ecall s0 s a.ram m (λ is. absurd cc) stays in put_back a h s0 s m read same.0 same.1
+
 pub step_called : (w : World) (a : Inside) (h : ℕ) (s0 s : Registers) (m : Memory) → hart_of a.harts.items h ≡ s0 → Ecall ≡ (step_of s0 a.ram).answer → s ≡ (step_of s0 a.ram).registers → m ≡ (step_of s0 a.ram).memory
     → ((Ecall ≡ Retired) ⊎ ((s ≡ s0) × (m ≡ a.ram))) → StandsFor w (value_of a) → (after_execution a.machine h w ≡ after_ecall a.machine h w) × StandsFor w (value_of (record a { harts = with_item a.harts h s; ram = m }))
 step_called w a h s0 s m read x y z stays stands =
-    let same = unchanged Ecall s0 s a.ram m (λ is. absurd cc) stays in
     let P : RunValue → Type 0 = λ r. StandsFor w r in
-    (step_as w a h Ecall s0 s m read x y z stands, subst P (sym (put_back a h s0 s m read same.0 same.1)) stands)
+    (step_as w a h Ecall s0 s m read x y z stands, subst P (sym (called_unchanged a h s0 s m read stays)) stands)

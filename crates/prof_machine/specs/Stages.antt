@@ -89,11 +89,6 @@ pub record Executes (old new : RunValue) : Type 0 where
   pub samples : new.ending ≡ None → new.samples < new.retired
   pub calls : new.ending ≡ None → calls_met new < new.retired
 
--- a print failed: the run has no ending
-pub record StaysOpen (old new : RunValue) : Type 0 where
-  pub same : Steps old new
-  pub unended : new.ending ≡ None
-
 -- an instruction was executed, with its tick and its hook; where the run goes on another can follow, and less is left
 pub record Instructs (old new : RunValue) : Type 0 where
   pub same : Steps old new
@@ -132,8 +127,8 @@ pub record Serves (old new : RunValue) : Type 0 where
 pub record Advances {T E : Type 0} (old new : RunValue) (result : Result T E) : Type 0 where
   pub machine : new.machine ≡ old.machine
   pub note : new.note ≡ old.note
-  pub live : MatchResult result (λ _. IsLive new ↔ (new.ending ≡ None)) (λ _. IsLive new → ⊥)
-  pub unended : OnErr result (new.ending ≡ None)
+  pub live : OnOk result (IsLive new ↔ (new.ending ≡ None))
+  pub failed : OnErr result (new ≡ record old { live = false })
 
 -- a run has only so many turns left, and one that has ended has none
 pub record LeavesFewerTurns (old new : RunValue) : Type 0 where

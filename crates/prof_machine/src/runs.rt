@@ -1,6 +1,6 @@
 //! A run, from its start to its end.
 
-ghost use Rattle.std.specs.Prelude.{◌≡◌, ◌+◌, ◌*◌, ◌^◌, ◌<◌, ◌≤◌, ◌↔◌, ℕ, length, map, None, Some, Ok, IsOk, IfOk, IfErr, OnOk, OnErr, IsSome, IfSome, IsTrue, MatchResult, [], replicate, All, if◌then◌else◌};
+ghost use Rattle.std.specs.Prelude.{◌≡◌, ◌+◌, ◌*◌, ◌^◌, ◌<◌, ◌≤◌, ◌↔◌, ℕ, length, map, None, Some, Ok, IsOk, IfOk, IfErr, OnOk, OnErr, IsSome, IfSome, IsTrue, MatchResult, [], replicate, All, if◌then◌else◌, true, false};
 ghost use Rattle.std.specs.List.{range_with_len};
 ghost use Rattle.elf32_syms.specs.Image.{IsWithinLimits};
 ghost use Rattle.host_port.specs.Outside.{KeepsCounts, KeepsInput};
@@ -8,7 +8,8 @@ ghost use Rattle.settings.specs.Setup.{IsSetup};
 ghost use Rattle.mcount_arcs.specs.Arcs.{CallFits, arcs_of};
 ghost use Rattle.mcount_arcs.specs.Sizes.{AreSizes};
 ghost use Rattle.mcount_arcs.specs.Value.{StandsFor as RuntimeStandsFor};
-ghost use Rattle.prof_machine.specs.declared.summary.Turned.TheVariants.{Going};
+ghost use Rattle.prof_machine.specs.declared.summary.Turned.TheVariants.{Ended, Going};
+ghost use Rattle.prof_machine.specs.declared.summary.End.{End};
 ghost use Rattle.prof_machine.specs.Executions.{exec_counts_of, instructions_of};
 ghost use Rattle.prof_machine.specs.Notes.{look_note, note_of};
 ghost use Rattle.prof_machine.specs.Start.{IsRefusal, first_registers as first_registers_of, machine_of, stacks_bytes, start_of, start_refusal};
@@ -118,20 +119,20 @@ impl Run {
     }
 
     /// One turn of a hart: a look of its walk, or one instruction with its sample and its hook. What the
-    /// program prints is printed. `Failed` comes only where this failed; then the run isn't live, and has no
-    /// ending. Takes no memory.
+    /// program prints is printed. `Failed` comes only where this failed; then the run is as before, but for not
+    /// being live. Takes no memory.
     pub fn turn<H: Host>(&mut self, hart: u32, host: &mut H) -> Result<Turned, Failed>
         requires live { IsLive self.old }
         requires hart { hart < self.old.machine.setup.harts }
         ensures stands { OnOk result ((w : World) → StandsFor w self.old
             → StandsFor (turn_of self.old.machine w hart) self.new) }
-        ensures answer { IfOk result (λ turned. turned ≡ turned_of self.new.ending) }
+        ensures answer { IfOk result (λ turned. (end : End) → (turned ≡ Ended end)
+            ↔ (self.new.ending ≡ Some end)) }
         ensures live { IsLive self.new ↔ (result ≡ Ok Going) }
         ensures machine { self.new.machine ≡ self.old.machine }
         ensures note { OnOk result ((w : World) → StandsFor w self.old
             → self.new.note ≡ note_of self.old.machine w hart) }
-        ensures kept { OnErr result (self.new.note ≡ self.old.note) }
-        ensures open { OnErr result (self.new.ending ≡ None) }
+        ensures failed { OnErr result (self.new ≡ record self.old { live = false }) }
 
         // What the outside has gained.
         ensures prints { OnOk result ((w : World) → StandsFor w self.old
@@ -183,14 +184,13 @@ impl Run {
     }
 
     /// The turns of the plan, from its first one on, up to the end of the run. What the program prints is
-    /// printed. `Failed` comes only where this failed; then the run isn't live, and has no ending. Takes no
-    /// memory.
+    /// printed. `Failed` comes only where this failed; then the run is as it was before the turn that printed, but
+    /// for not being live. Takes no memory.
     pub fn drive<H: Host>(&mut self, host: &mut H) -> Result<End, Failed>
         requires { IsLive self.old }
         ensures stands { OnOk result ((w : World) → StandsFor w self.old
             → StandsFor (after_drive self.old.machine w) self.new) }
         ensures answer { IfOk result (λ end. self.new.ending ≡ Some end) }
-        ensures open { OnErr result (self.new.ending ≡ None) }
         ensures live { IsLive self.new → ⊥ }
         ensures machine { self.new.machine ≡ self.old.machine }
         ensures note { self.new.note ≡ self.old.note }
@@ -203,7 +203,8 @@ impl Run {
             → (n : ℕ) × (n < most_turns self.old.machine.setup)
             × ((world_at self.old.machine w n).ending ≡ None)
             × BreaksOff w (world_at self.old.machine w (n + 1))
-            (H.outside host.old) (H.outside host.new)) }
+            (H.outside host.old) (H.outside host.new)
+            × StandsFor (world_at self.old.machine w n) (record self.new { live = true })) }
         ensures counts { MatchResult result
             (λ _. KeepsCounts (H.outside host.old) (H.outside host.new))
             (λ _. PrintFailed (H.outside host.old) (H.outside host.new)) }

@@ -3,7 +3,7 @@
 ghost use Rattle.std.specs.Prelude.{◌≡◌, ◌<◌, ◌≤◌, None, IfOk, OnOk, IsSome, false, MatchResult, All};
 ghost use Rattle.prof_machine.specs.Executions.{with_execution};
 ghost use Rattle.prof_machine.specs.Notes.{if_going, instruction_note, look_note, note_by, return_from_call, return_in, return_of, sample_in};
-ghost use Rattle.prof_machine.specs.Stages.{CanExecute, CanLook, Executes, InTurn, Instructs, PrintsAs, Serves, StandsAfter, StaysOpen, Steps, TakesLook, Ticks, answers, begin_of, holds, ran_since, retires, returns};
+ghost use Rattle.prof_machine.specs.Stages.{CanExecute, CanLook, Executes, InTurn, Instructs, PrintsAs, Serves, StandsAfter, Steps, TakesLook, Ticks, answers, begin_of, holds, ran_since, retires, returns};
 ghost use Rattle.prof_machine.specs.Turn.{after_ecall, after_arrival, after_mcount, after_close, after_execution, after_ordinary_turn, after_sample, after_budget, after_moncontrol, after_look, while_going};
 ghost use Rattle.prof_machine.specs.Value.{StandsFor, calls_met};
 ghost use Rattle.prof_machine.specs.World.{World, hart_of, looks_of_hart};
@@ -77,7 +77,7 @@ impl Run {
         ensures outside { PrintsAs (after_ordinary_turn self.old.machine hart) self.old
             (H.outside host.old) (H.outside host.new) result }
         ensures instructs { MatchResult result (λ _. Instructs self.old self.new)
-            (λ _. StaysOpen self.old self.new) }
+            (λ _. self.new ≡ self.old) }
         ensures note { IfOk result (λ note. (w : World) → StandsFor w self.old
             → note ≡ instruction_note self.old.machine hart w) }
     {
@@ -123,7 +123,7 @@ impl Run {
         ensures outside { PrintsAs (after_execution self.old.machine hart) self.old
             (H.outside host.old) (H.outside host.new) result }
         ensures executes { MatchResult result (λ _. Executes self.old self.new)
-            (λ _. StaysOpen self.old self.new) }
+            (λ _. self.new ≡ self.old) }
     {
         let regs = &mut self.harts[hart as usize];
         let pc = regs.pc();
@@ -148,7 +148,7 @@ impl Run {
         ensures outside { PrintsAs (after_ecall self.old.machine hart) self.old
             (H.outside host.old) (H.outside host.new) result }
         ensures executes { MatchResult result (λ _. Executes self.old self.new)
-            (λ _. StaysOpen self.old self.new) }
+            (λ _. self.new ≡ self.old) }
     {
         match ecall_of(&self.machine, &self.harts[hart as usize], self.break_at) {
             Call::Answers(n) => self.answer(hart, n),

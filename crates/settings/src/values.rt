@@ -1,8 +1,8 @@
-//! That equality and copies of setups say what they seem to: each is pinned by a clause.
+//! That equality and copies of setups and plans say what they seem to: each is pinned by a clause.
 
 ghost use Rattle.std.specs.Prelude.{◌≡◌, ◌↔◌, IsTrue, Ok};
 
-use crate::setup::Setup;
+use crate::setup::{Plan, Setup};
 use std::alloc::AllocError;
 
 /// Whether two runs are to be the same.
@@ -14,6 +14,13 @@ pub fn same_setups(a: &Setup, b: &Setup) -> bool
 
 /// The same setup.
 pub fn copied_setups(a: &Setup) -> Result<Setup, AllocError>
+    ensures { result ≡ Ok a.now }
+{
+    a.clone()
+}
+
+/// The same plan.
+pub fn copied_plans(a: &Plan) -> Result<Plan, AllocError>
     ensures { result ≡ Ok a.now }
 {
     a.clone()

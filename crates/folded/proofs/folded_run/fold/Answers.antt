@@ -2,7 +2,7 @@ use Rattle.std.proofs.Common.{List, ◌∙◌, ◌+◌, ◌≤◌, arith, inl, i
 use Rattle.host_port.proofs.Laws.{KeepsCounts-same, KeepsCounts-then, KeepsInput-same, KeepsInput-then}
 use Rattle.settings.specs.declared.setup.Setup.{Setup}
 use Rattle.prof_machine.proofs.ActLemmas.{breaks_after, nothing_printed, printed_then}
-use Rattle.prof_machine.proofs.DriveLemmas.{ended_answer, in_first, in_last, in_next}
+use Rattle.prof_machine.proofs.DriveLemmas.{in_first, in_last, in_next}
 use Rattle.prof_machine.specs.Plan.{most_turns}
 use Rattle.prof_machine.specs.Prints.{ArePrinted, BreaksOff}
 use Rattle.prof_machine.specs.Schedule.{Draws}
@@ -121,7 +121,7 @@ returns-in-Ended-clause-stands g c = λ w st.
     let bound : i.turns + work_left c.loop-tracker.run ≤ most_turns m.setup = few_at i.turns (work_left c.loop-tracker.run) (most_turns m.setup) i.few (subst M i.machine t.few) in
     let P : World → Type 0 = λ v. StandsFor v c.turn.new.self in
     let stands = in_next P m c.loop-tracker.run.machine w i.turns c.next_hart-hart.result i.machine (hart.taker _ _ i.draws) (t.stands _ (i.stands w st)) in
-    in_last P m w c.turn.new.self (i.turns + 1) c.in-Ended.field-0 (omega (arith, bound, t.left)) (ended_answer c.turn.new.self.ending c.in-Ended.field-0 (sym t.answer ∙ c.in-Ended.is)) stands stands
+    in_last P m w c.turn.new.self (i.turns + 1) c.in-Ended.field-0 (omega (arith, bound, t.left)) ((t.answer c.in-Ended.field-0).0 c.in-Ended.is) stands stands
 
 pub returns-in-Ended-clause-folds : goal.returns-in-Ended-clause-folds
 returns-in-Ended-clause-folds g c = λ w st.
@@ -136,7 +136,7 @@ returns-in-Ended-clause-folds g c = λ w st.
     let stands = in_next (λ v. StandsFor v c.turn.new.self) m c.loop-tracker.run.machine w i.turns c.next_hart-hart.result i.machine (hart.taker _ _ i.draws) (t.stands _ (i.stands w st)) in
     let follows = next_follows symbols m c.loop-tracker.run.machine w i.turns c.next_hart-hart.result c.last_turn.result c.follow.new.self i.machine (hart.taker _ _ i.draws)
     (c.last_turn.ensures ∙ t.note _ (i.stands w st)) (f.follows _ (i.follows w st)) in
-    let ended = sym stands.ending ∙ ended_answer c.turn.new.self.ending c.in-Ended.field-0 (sym t.answer ∙ c.in-Ended.is) in
+    let ended = sym stands.ending ∙ (t.answer c.in-Ended.field-0).0 c.in-Ended.is in
     let told = c.in_ok-of-in-Ended.ensures.folds (stacks_of symbols (run_samples m w)) (folds_last symbols m w (i.turns + 1) c.follow.new.self c.in-Ended.field-0 (omega (arith, bound, t.left)) ended follows) in
     let S : List Symbol → Type 0 = λ x. Folds (length x) (stacks_of x (run_samples m w)) c.in_ok-of-in-Ended.field-0 in
     subst S c.as_slice-symbols.ensures (subst (λ (n : ℕ). Folds n (stacks_of symbols (run_samples m w)) c.in_ok-of-in-Ended.field-0) f.tracked.tree.functions told)
@@ -171,6 +171,6 @@ returns-in-Ended-clause-prints g c = λ w st.
     let bound : i.turns + work_left c.loop-tracker.run ≤ most_turns m.setup = few_at i.turns (work_left c.loop-tracker.run) (most_turns m.setup) i.few (subst M i.machine t.few) in
     let P : World → Type 0 = λ v. StandsFor v c.turn.new.self in
     let Q : World → Type 0 = λ v. ArePrinted w v (g.H.Host.outside c.args.host.now) (g.H.Host.outside c.turn.new.host) in
-    in_last Q m w c.turn.new.self (i.turns + 1) c.in-Ended.field-0 (omega (arith, bound, t.left)) (ended_answer c.turn.new.self.ending c.in-Ended.field-0 (sym t.answer ∙ c.in-Ended.is))
+    in_last Q m w c.turn.new.self (i.turns + 1) c.in-Ended.field-0 (omega (arith, bound, t.left)) ((t.answer c.in-Ended.field-0).0 c.in-Ended.is)
     (in_next P m c.loop-tracker.run.machine w i.turns c.next_hart-hart.result i.machine (hart.taker _ _ i.draws) (t.stands _ (i.stands w st)))
     (in_next Q m c.loop-tracker.run.machine w i.turns c.next_hart-hart.result i.machine (hart.taker _ _ i.draws) (printed_then w _ _ _ _ _ (i.prints w st) (t.prints _ (i.stands w st))))

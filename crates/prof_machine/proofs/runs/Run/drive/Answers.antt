@@ -3,7 +3,8 @@ use Rattle.host_port.proofs.Laws.{KeepsCounts-same, KeepsCounts-then, KeepsInput
 use Rattle.prof_machine.proofs.ActLemmas.{breaks_after, nothing_printed, printed_then}
 use Rattle.prof_machine.proofs.DriveLemmas.{in_first, in_last, in_next, work_bound}
 use Rattle.prof_machine.proofs.ResultLemmas.{on_err_any}
-use Rattle.prof_machine.specs.Plan.{most_turns}
+use Rattle.prof_machine.proofs.StandingLemmas.{with_live}
+use Rattle.prof_machine.specs.Plan.{most_turns, world_at}
 use Rattle.prof_machine.specs.Prints.{ArePrinted, BreaksOff}
 use Rattle.prof_machine.specs.Schedule.{Draws}
 use Rattle.prof_machine.specs.Value.{RunValue, StandsFor, work_left}
@@ -86,4 +87,5 @@ returns-in_err-advance-clause-fails g c = on_err_any _ _ c.from_residual.result 
       sym (i.stands w st).ending ∙ i.going,
       in_next Q m c.turns.self.machine w i.turns c.next_hart-hart.result i.machine (c.next_hart-hart.ensures.taker _ _ i.draws)
           (breaks_after w _ _ _ _ _ (i.prints w st) i.counts (t.outside.fails _ (i.stands w st))),
+      subst (λ (v : RunValue). StandsFor (world_at m w i.turns) (record v { live = true })) (sym t.advances.failed) (with_live _ c.turns.self true (i.stands w st)),
     ))

@@ -1,12 +1,13 @@
-use Rattle.std.proofs.Common.{◌≡◌, Some, ap, subst, sym}
+use Rattle.std.proofs.Common.{◌≡◌, ◌∙◌, MatchResult, Some, ap, subst, sym}
 use Rattle.std.specs.Vec.{with_item}
 use Rattle.prof_machine.specs.declared.summary.End.TheVariants.{Trap}
+use Rattle.prof_machine.specs.Stages.{Executes}
 use Rattle.prof_machine.specs.Turn.{after_ecall, after_execution}
 use Rattle.prof_machine.specs.World.{World}
 use Rattle.prof_machine.proofs.StageLemmas.{printless, prints_as}
 use Rattle.prof_machine.proofs.StandingLemmas.{hart_read, there}
 use Rattle.prof_machine.proofs.ResultLemmas.{on_ok}
-use Rattle.prof_machine.proofs.InstructionLemmas.{step_called, step_retired, step_trapped}
+use Rattle.prof_machine.proofs.InstructionLemmas.{called_unchanged, step_called, step_retired, step_trapped}
 use Rattle.prof_machine.specs.Value.{RunValue, StandsFor, value_of}
 use Rattle.prof_machine.proofs.runs.Run.execute.Goals as goal
 
@@ -49,6 +50,15 @@ returns-in-Ecall-clause-outside g c =
     let P : World → RunValue → Type 0 = λ w v. StandsFor w v → (after_execution v.machine h w ≡ after_ecall a.machine h w) × StandsFor w q in
     let called : (w : World) → P w c.args.self.now = λ w. subst (P w) c.self.view_is (step_called w a h _ _ _ read (c.in-Ecall.ensures.answer) c.step.ensures.registers c.step.ensures.memory c.in-Ecall.ensures.unchanged) in
     prints_as _ (after_ecall a.machine h) c.args.self.now q _ _ c.call.result (λ w st. (called w st).1) (λ w st. ap (λ (v : World). v.prints) (called w st).0) c.call.ensures.outside
+
+pub returns-in-Ecall-clause-executes : goal.returns-in-Ecall-clause-executes
+returns-in-Ecall-clause-executes g c =
+    let a = c.self.inside in
+    let h = c.args.hart in
+    let read = hart_read a.harts.items h _ (there a c.args.self.now h c.self.invariant c.self.view_is c.requires.turn.hart) c.index_mut-regs.ensures.value in
+    let same = called_unchanged a h _ c.step.new.regs c.step.new.ram read c.in-Ecall.ensures.unchanged ∙ c.self.view_is in
+    let P : RunValue → Type 0 = λ v. MatchResult c.call.result (λ _. Executes v c.call.new.self) (λ _. c.call.new.self ≡ v) in
+    subst P same c.call.ensures.executes
 
 pub returns-in-Trap-clause-stands : goal.returns-in-Trap-clause-stands
 returns-in-Trap-clause-stands g c = λ w st.
