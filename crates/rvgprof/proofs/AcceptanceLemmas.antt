@@ -26,23 +26,24 @@ use Rattle.mcount_arcs.specs.Sizes.{sizes_of}
 use Rattle.prof_machine.specs.Start.{final_world, start_refusal}
 use Rattle.prof_machine.specs.Value.{summary_of}
 use Rattle.prof_machine.specs.World.{World}
-use Rattle.rvgprof.specs.declared.outcome.Done.{Done}
-use Rattle.rvgprof.specs.declared.outcome.Fault.{Fault}
-use Rattle.rvgprof.specs.declared.outcome.Fault.TheVariants.{BadElf, BadProfile, Unlike, TooLarge}
+use Rattle.courses.specs.declared.outcome.Done.{Done}
+use Rattle.courses.specs.declared.outcome.Fault.{Fault}
+use Rattle.courses.specs.declared.outcome.Fault.TheVariants.{BadElf, BadProfile, Unlike, TooLarge}
 use Rattle.command_words.specs.declared.words.Command.{Command}
 use Rattle.command_words.specs.declared.words.Command.TheVariants.{Show, Syms, Run, Sum, Report, Profile, Demo, Annotate, Folded, Help, Version}
 use Rattle.command_words.specs.declared.words.Shown.{Shown}
 use Rattle.command_words.specs.declared.words.Shown.TheVariants as shows
 use Rattle.command_words.specs.Items.{nth_word}
 use Rattle.command_words.specs.Words.{command_of}
-use Rattle.rvgprof.specs.Course.{Course, Ends, Input, Does, Knows, one_by_one, unless, reply_to, MayStop}
+use Rattle.courses.specs.Course.{Course, Ends, Input, Does, Knows, one_by_one, unless, reply_to, MayStop}
 use Rattle.annotate.specs.Listing.{annotated_text}
 use Rattle.flat_report.specs.Sources.{Sources}
-use Rattle.rvgprof.specs.Help.{help_text, version_text}
+use Rattle.courses.specs.Help.{help_text, version_text}
 use Rattle.gmon_files.specs.Forms.{file_refusal, file_records}
-use Rattle.rvgprof.specs.Answer.{Chosen, RunActs, calls_fit, chosen_by, chosen_sources, command_course, course_of, demo_lines, end_course, exact_report, file_acts, files_named, fold_program, given_file_acts, list_profiles, print_reports, profile_file, profile_in, profiles, program, report_profiles, report_run, run_acts, run_program, show_lines, shown_reports, stacks_told, start_fault_of, sum_file, syms_lines, sums_up, too_wide, wide_step, logged_profile}
-use Rattle.rvgprof.proofs.Summing.{nothing_added}
-use Rattle.rvgprof.specs.Acceptance.{IsProgramFile, IsLike, AreProfileFiles, IsAccepted, records_of, total_of, acts_at_once}
+use Rattle.courses.specs.Answer.{Chosen, RunActs, calls_fit, chosen_by, chosen_sources, command_course, course_of, demo_lines, end_course, exact_report, file_acts, files_named, fold_program, given_file_acts, list_profiles, print_reports, profile_file, profile_in, profiles, program, report_profiles, report_run, run_acts, run_program, show_lines, shown_reports, stacks_told, start_fault_of, sum_file, syms_lines, sums_up, too_wide, wide_step, logged_profile}
+use Rattle.command_inputs.proofs.Summing.{nothing_added}
+use Rattle.rvgprof.specs.Acceptance.{IsProgramFile, IsLike, AreProfileFiles, IsAccepted, acts_at_once}
+use Rattle.command_inputs.specs.Totals.{records_of, total_of}
 
 -- no list with an item in it is empty
 never_empty : {T : Type 0} (before : List T) (x : T) (after : List T) → [] ≡ before ++ x ∷ after → ⊥

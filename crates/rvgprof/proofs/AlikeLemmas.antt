@@ -9,7 +9,8 @@ use Rattle.gmon_data.proofs.RangeLemmas.{ranges_of_content}
 use Rattle.gmon_files.specs.Forms.{file_refusal}
 use Rattle.gmon_files.proofs.RecordLemmas.{spans_of_file}
 use Rattle.profile_sum.proofs.LikeLemmas.{alike_joined}
-use Rattle.rvgprof.specs.Acceptance.{AreProfileFiles, records_of}
+use Rattle.rvgprof.specs.Acceptance.{AreProfileFiles}
+use Rattle.command_inputs.specs.Totals.{records_of}
 use Rattle.rvgprof.specs.Claims.{AlikeFilesHaveNoConflict}
 
 joined_all : (P : WideRec → Type 0) (a b : List WideRec) → AllByRecursion P a → AllByRecursion P b → AllByRecursion P (a ++ b)

@@ -7,16 +7,16 @@ use Rattle.host_port.specs.Act.{Err as Complain}
 use Rattle.host_port.specs.Outside.{Outside, Did, Rose, with_openings}
 use Rattle.host_port.specs.Performing.{ActFailed, FailedAt}
 use Rattle.host_port.proofs.Laws.{Did-then}
-use Rattle.rvgprof.specs.declared.outcome.Done.{Done}
-use Rattle.rvgprof.specs.declared.outcome.Fault.{Fault}
-use Rattle.rvgprof.specs.declared.outcome.Fault.TheVariants.{Usage, BadElf, BadProfile, Unlike, TooWide, ProgramTooLarge, EntryOutside, ReadFault, WriteFault, OutOfMemory, TooLarge}
+use Rattle.courses.specs.declared.outcome.Done.{Done}
+use Rattle.courses.specs.declared.outcome.Fault.{Fault}
+use Rattle.courses.specs.declared.outcome.Fault.TheVariants.{Usage, BadElf, BadProfile, Unlike, TooWide, ProgramTooLarge, EntryOutside, ReadFault, WriteFault, OutOfMemory, TooLarge}
 use Rattle.command_words.specs.declared.words.Command.{Command}
 use Rattle.rvgprof.specs.Texts.{last_line}
-use Rattle.rvgprof.specs.Course.{Course, Ends, Input, Does, Knows, Reply, reply_to, inputs_of, AllKnown, MayStop}
-use Rattle.rvgprof.specs.Answer.{command_course, course_of, contents_of}
-use Rattle.rvgprof.specs.Contract.{IsReply, LineEnds, LineIsPrinted, Owes, WhereTold}
+use Rattle.courses.specs.Course.{Course, Ends, Input, Does, Knows, Reply, reply_to, inputs_of, AllKnown, MayStop}
+use Rattle.courses.specs.Answer.{command_course, course_of, contents_of}
+use Rattle.courses.specs.Contract.{IsReply, LineEnds, LineIsPrinted, Owes, WhereTold}
 use Rattle.rvgprof.specs.Headline.{Answered}
-use Rattle.rvgprof.proofs.Standing.{further}
+use Rattle.courses.proofs.Standing.{further}
 use Rattle.rvgprof.specs.Completeness.{Stayed, is_complaint, IsSilent, NoneFailed, Complete}
 
 -- a count that stayed didn't rise on the way

@@ -16,11 +16,11 @@ use Rattle.mcount_arcs.specs.declared.sizes.Sizes.{Sizes}
 use Rattle.mcount_arcs.specs.Log.{distinct_count, kept_calls}
 use Rattle.prof_machine.specs.Value.{RunValue, StandsFor, summary_of}
 use Rattle.prof_machine.specs.World.{World}
-use Rattle.rvgprof.specs.declared.findings.Findings.{Findings}
-use Rattle.rvgprof.specs.Answer.{logged_profile}
-use Rattle.rvgprof.specs.Findings.{AreFindings}
-use Rattle.rvgprof.specs.Reports.{demo_summary, profile_sources}
-use Rattle.rvgprof.specs.Standing.{SumsUp}
+use Rattle.command_reports.specs.declared.findings.Findings.{Findings}
+use Rattle.courses.specs.Answer.{logged_profile}
+use Rattle.command_reports.specs.Findings.{AreFindings}
+use Rattle.courses.specs.Reports.{demo_summary, profile_sources}
+use Rattle.rvgprof.specs.Demonstrating.{SumsUp}
 
 numbers_more : (n : ℕ) → numbers_below (n + 1) ≡ numbers_below n ++ n ∷ []
 numbers_more n = sym (map-id (numbers_below (n + 1))) ∙ map-range_with_len_more (λ (k : ℕ). k) 0 n n (omega arith) ∙ ap (λ (ks : List ℕ). ks ++ n ∷ []) (map-id (numbers_below n))

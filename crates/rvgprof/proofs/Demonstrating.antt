@@ -7,15 +7,16 @@ use Rattle.settings.specs.declared.setup.Setup.{Setup}
 use Rattle.demo_elf.specs.Elf.{demo_program}
 use Rattle.host_port.specs.Outside.{Outside}
 use Rattle.host_port.specs.Performing.{Performs}
-use Rattle.rvgprof.specs.declared.outcome.Done.{Done}
-use Rattle.rvgprof.specs.declared.outcome.Fault.{Fault}
-use Rattle.rvgprof.specs.declared.outcome.Fault.TheVariants.{BadElf, WriteFault}
-use Rattle.rvgprof.specs.Answer.{demo_course, demo_lines, given_file_acts, run_program}
-use Rattle.rvgprof.specs.Contract.{Acted}
-use Rattle.rvgprof.specs.Course.{Course, Does}
-use Rattle.rvgprof.specs.Standing.{IsDemoRead, RunsDemo, Stands}
-use Rattle.rvgprof.proofs.Performing.{given_shut}
-use Rattle.rvgprof.proofs.Standing.{does, fails, goes_on}
+use Rattle.courses.specs.declared.outcome.Done.{Done}
+use Rattle.courses.specs.declared.outcome.Fault.{Fault}
+use Rattle.courses.specs.declared.outcome.Fault.TheVariants.{BadElf, WriteFault}
+use Rattle.courses.specs.Answer.{demo_course, demo_lines, given_file_acts, run_program}
+use Rattle.courses.specs.Contract.{Acted}
+use Rattle.courses.specs.Course.{Course, Does}
+use Rattle.rvgprof.specs.Demonstrating.{IsDemoRead, RunsDemo}
+use Rattle.courses.specs.Standing.{Stands}
+use Rattle.command_runs.proofs.Performing.{given_shut}
+use Rattle.courses.proofs.Standing.{does, fails, goes_on}
 
 module _ (words : List (List ℕ)) (functions : ℕ) (setup : Setup) (file : Option (List ℕ)) (bytes given : List ℕ) (image : Image) (old : Outside) (read : IsDemoRead functions bytes image) (same : given ≡ bytes) (s : Stands words old old 0 [] (demo_course functions file setup)) where
   abbrev program : List ℕ

@@ -2,12 +2,12 @@
 use Rattle.std.proofs.Common.{◌≡◌, ℕ, List, Result, Err, ◌⊎◌, inl, inr, sym, subst}
 use Rattle.std.specs.Result.{IsOk}
 use Rattle.host_port.specs.Outside.{Outside}
-use Rattle.rvgprof.specs.declared.outcome.Done.{Done}
-use Rattle.rvgprof.specs.declared.outcome.Fault.{Fault}
-use Rattle.rvgprof.specs.declared.outcome.Fault.TheVariants.{OutOfMemory}
+use Rattle.courses.specs.declared.outcome.Done.{Done}
+use Rattle.courses.specs.declared.outcome.Fault.{Fault}
+use Rattle.courses.specs.declared.outcome.Fault.TheVariants.{OutOfMemory}
 use Rattle.command_words.specs.Words.{command_of}
-use Rattle.rvgprof.specs.Answer.{contents_of}
-use Rattle.rvgprof.specs.Contract.{WhereTold}
+use Rattle.courses.specs.Answer.{contents_of}
+use Rattle.courses.specs.Contract.{WhereTold}
 use Rattle.rvgprof.specs.Headline.{Answered}
 use Rattle.rvgprof.specs.Completeness.{NoneFailed}
 use Rattle.rvgprof.specs.Acceptance.{IsAccepted}

@@ -3,7 +3,7 @@ use Rattle.std.proofs.Common.{◌≡◌, ◌≢◌, ℕ, Bool, true, false, cond
 use Rattle.std.specs.Prelude.{bytes_eq}
 use Rattle.std.proofs.lemmas.Slice.Eq.{bytes_eq-Decides}
 use Rattle.host_port.specs.Act.{Disk, File, file_content, with_file, with_more, disk_after}
-use Rattle.rvgprof.specs.Answer.{file_acts, given_file_acts}
+use Rattle.courses.specs.Answer.{file_acts, given_file_acts}
 
 same_name : (name : List ℕ) → bytes_eq name name ≡ true
 same_name name = (bytes_eq-Decides name name).1 refl

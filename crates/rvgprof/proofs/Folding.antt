@@ -17,15 +17,16 @@ use Rattle.prof_machine.specs.Start.{final_world, start_of, start_refusal}
 use Rattle.prof_machine.specs.Value.{RunValue, StandsFor}
 use Rattle.prof_machine.specs.World.{World}
 use Rattle.prof_machine.proofs.PrintLemmas.{prints_driven}
-use Rattle.rvgprof.specs.Answer.{fold_fault_of, fold_program, stacks_told, start_fault_of}
-use Rattle.rvgprof.specs.Contract.{Acted}
-use Rattle.rvgprof.specs.Course.{one_by_one}
-use Rattle.rvgprof.specs.FoldedReport.{folded_report, run_stacks}
-use Rattle.rvgprof.specs.Standing.{IsStarted, MayStopHere, Stands}
-use Rattle.rvgprof.proofs.Performing.{drive_fails, printed_performs}
+use Rattle.courses.specs.Answer.{fold_fault_of, fold_program, stacks_told, start_fault_of}
+use Rattle.courses.specs.Contract.{Acted}
+use Rattle.courses.specs.Course.{one_by_one}
+use Rattle.courses.specs.FoldedReport.{folded_report, run_stacks}
+use Rattle.command_runs.specs.Running.{IsStarted}
+use Rattle.courses.specs.Standing.{MayStopHere, Stands}
+use Rattle.command_runs.proofs.Performing.{drive_fails, printed_performs}
 use Rattle.host_port.specs.Performing.{Performs}
-use Rattle.rvgprof.proofs.Running.{first_prints_none, last_is}
-use Rattle.rvgprof.proofs.Standing.{at_once, does, does_first, fails, goes_on, no_memory, one_by_one_stop}
+use Rattle.command_runs.proofs.Running.{first_prints_none, last_is}
+use Rattle.courses.proofs.Standing.{at_once, does, does_first, fails, goes_on, no_memory, one_by_one_stop}
 
 -- memory may be wanted before the stacks are told
 pub may_stop_stacks : (inclusive : Bool) (image : Image) (bytes : List ℕ) (setup : Setup) (contents : ℕ → List ℕ) → MayStopHere contents (stacks_told inclusive image bytes setup)

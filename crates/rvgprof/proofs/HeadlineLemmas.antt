@@ -48,9 +48,9 @@ use Rattle.mcount_arcs.specs.Image.{block_image}
 use Rattle.prof_machine.specs.Start.{start_refusal}
 use Rattle.prof_machine.specs.declared.summary.RunSummary.{RunSummary}
 use Rattle.prof_machine.specs.Value.{summary_of}
-use Rattle.rvgprof.specs.declared.outcome.Done.{Done}
-use Rattle.rvgprof.specs.declared.outcome.Fault.{Fault}
-use Rattle.rvgprof.specs.declared.outcome.Fault.TheVariants.{BadElf, BadProfile, TooLarge, Unlike}
+use Rattle.courses.specs.declared.outcome.Done.{Done}
+use Rattle.courses.specs.declared.outcome.Fault.{Fault}
+use Rattle.courses.specs.declared.outcome.Fault.TheVariants.{BadElf, BadProfile, TooLarge, Unlike}
 use Rattle.command_words.specs.declared.words.Command.{Command}
 use Rattle.command_words.specs.declared.words.Command.TheVariants.{Show, Syms, Run, Sum, Report, Profile, Demo, Annotate, Folded, Help, Version}
 use Rattle.arc_filter.specs.Cuts.{without_cuts}
@@ -62,27 +62,28 @@ use Rattle.command_words.specs.declared.words.Shown.{Shown}
 use Rattle.command_words.specs.declared.words.Shown.TheVariants as shows
 use Rattle.command_words.specs.Items.{nth_word}
 use Rattle.command_words.specs.Words.{IsRunSetup, command_of}
-use Rattle.rvgprof.specs.Course.{AllKnown, Course, Ends, Input, Does, Knows, Reply, one_by_one, unless, behind, reply_to}
+use Rattle.courses.specs.Course.{AllKnown, Course, Ends, Input, Does, Knows, Reply, one_by_one, unless, behind, reply_to}
 use Rattle.gmon_files.specs.Forms.{file_records, file_refusal}
-use Rattle.rvgprof.specs.Answer.{Chosen, RunFiles, all_reports, call_fits, calls_fit, annotate_course, chosen_by, chosen_sources, command_course, contents_of, demo_course, demo_lines, end_course, exact_report, file_acts, files_named, fold_program, folded_course, given_file_acts, list_profiles, print_reports, profile_in, profiles, program, report_course, report_profiles, report_run, run_acts, run_program, show_course, show_lines, shown_reports, stacks_told, start_fault_of, sum_file, sums_up, syms_lines, too_wide, wide_step}
+use Rattle.courses.specs.Answer.{Chosen, RunFiles, all_reports, call_fits, calls_fit, annotate_course, chosen_by, chosen_sources, command_course, contents_of, demo_course, demo_lines, end_course, exact_report, file_acts, files_named, fold_program, folded_course, given_file_acts, list_profiles, print_reports, profile_in, profiles, program, report_course, report_profiles, report_run, run_acts, run_program, show_course, show_lines, shown_reports, stacks_told, start_fault_of, sum_file, sums_up, syms_lines, too_wide, wide_step}
 use Rattle.demo_elf.specs.Elf.{demo_program}
-use Rattle.rvgprof.specs.Reports.{profile_sources}
-use Rattle.rvgprof.specs.Contract.{Acted, LineEnds, LineIsPrinted, WhereTold}
-use Rattle.rvgprof.specs.FoldedReport.{folded_report}
-use Rattle.rvgprof.specs.Help.{help_text, version_text}
+use Rattle.courses.specs.Reports.{profile_sources}
+use Rattle.courses.specs.Contract.{Acted, LineEnds, LineIsPrinted, WhereTold}
+use Rattle.courses.specs.FoldedReport.{folded_report}
+use Rattle.courses.specs.Help.{help_text, version_text}
 use Rattle.rvgprof.specs.Texts.{last_line}
 use Rattle.gmon_gnu.specs.ProfileText.{profile_text}
 use Rattle.text_lines.specs.Lines.{image_text, show_text}
-use Rattle.rvgprof.specs.Acceptance.{IsProgramFile, Starts, IsAccepted, records_of, total_of}
+use Rattle.rvgprof.specs.Acceptance.{IsProgramFile, Starts, IsAccepted}
+use Rattle.command_inputs.specs.Totals.{records_of, total_of}
 use Rattle.rvgprof.specs.Headline.{Answered, DemoLeaves, ExecutionsAreListed, FoldedLeaves, ProfileLeaves, Holds, NamesDiffer, IsPrinted, Leaves, AnnotateLeaves, ReportLeaves, RunIsSummedUp, RunIsWritten, RunLeaves, ShowLeaves, SumLeaves, SymsLeaves, TimeIsShared, demo_printed, exact_section, printed_text, run_sources, sum_sources, reports_text}
 use Rattle.rvgprof.specs.Fitting.{FileFits, SumIsProfile}
 use Rattle.rvgprof.specs.RunFile.{FitsFile, SaysProfile, SaysRun, gmon_text, memory_text, reported_profile, text_sizes, end_world}
 use Rattle.rvgprof.proofs.AcceptanceLemmas.{accepted}
-use Rattle.rvgprof.proofs.Summing.{all_records, nothing_added, total_more}
+use Rattle.command_inputs.proofs.Summing.{all_records, nothing_added, total_more}
 use Rattle.prof_machine.proofs.PrintLemmas.{files_driven}
 use Rattle.rvgprof.proofs.FileLemmas.{file_written, file_stays}
 use Rattle.rvgprof.proofs.RunFileLemmas.{profile_files_read_back, run_files_read_back}
-use Rattle.rvgprof.proofs.Standing.{further}
+use Rattle.courses.proofs.Standing.{further}
 
 -- ---- the sources of each report
 

@@ -3,7 +3,7 @@ use Rattle.std.proofs.Common.{ℕ, List, take, Result, Ok, Err, inl, inr, refl}
 use Rattle.host_port.specs.Outside.{Outside}
 use Rattle.host_port.specs.Host.{Puts}
 use Rattle.host_port.specs.declared.side.Side.TheVariants.{ErrorOutput}
-use Rattle.rvgprof.specs.Contract.{LineIsPrinted}
+use Rattle.courses.specs.Contract.{LineIsPrinted}
 
 -- it was printed, or a prefix of it
 pub printed : {E : Type 0} (text : List ℕ) (mid new : Outside) (r : Result (Unit {0}) E) → Puts ErrorOutput text mid new r

@@ -1,11 +1,4 @@
-pub mod Standing
 pub mod ToldLemmas
-pub mod HeaderLemmas
-pub mod Accepting
-pub mod Performing
-pub mod Summing
-pub mod Reporting
-pub mod Running
 pub mod Folding
 pub mod LastLine
 pub mod CompletenessLemmas
@@ -15,7 +8,6 @@ pub mod TellingLemmas
 pub mod FileLemmas
 pub mod RunFileLemmas
 pub mod HeadlineLemmas
-pub mod FindingLemmas
 pub mod Profiling
 pub mod DemoLemmas
 pub mod LineLemmas

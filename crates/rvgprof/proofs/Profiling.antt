@@ -6,7 +6,7 @@ use Rattle.mcount_arcs.specs.Value.{GmonValue, StandsFor}
 use Rattle.gmon_data.specs.Content.{Content, content_of}
 use Rattle.gmon_bsd.specs.Profile.{runtime_records}
 use Rattle.gmon_bsd.proofs.ProfileLemmas.{of_what_is_logged}
-use Rattle.rvgprof.specs.Answer.{logged_profile}
+use Rattle.courses.specs.Answer.{logged_profile}
 
 -- of a runtime that stands for a log
 pub profile_written : (v : GmonValue) (z : Sizes) (log : List LogEntry) (rate : ℕ) (p : Content) → StandsFor log v → v.sizes ≡ z

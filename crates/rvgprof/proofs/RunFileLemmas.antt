@@ -47,7 +47,7 @@ use Rattle.prof_machine.proofs.NotedLemmas.{as_many}
 use Rattle.prof_machine.proofs.RunLemmas.{plan_ends, timed_budget, timed_exit, timed_trap}
 use Rattle.gmon_files.specs.Forms.{file_records, form_of, records_in, refusal_in}
 use Rattle.gmon_files.proofs.RunLemmas.{bsd_form, gnu_form}
-use Rattle.rvgprof.specs.Answer.{counts_text, profile_bytes, profile_in}
+use Rattle.courses.specs.Answer.{counts_text, profile_bytes, profile_in}
 use Rattle.command_words.specs.Words.{may_count}
 use Rattle.rvgprof.specs.RunFile.{FitsFile, ProfileFilesAreReadBack, RunFilesAreReadBack, SaysRun, execution_blocks, gmon_text, records_of_run, text_sizes, end_world}
 

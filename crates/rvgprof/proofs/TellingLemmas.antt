@@ -20,28 +20,28 @@ use Rattle.prof_machine.specs.declared.summary.End.{End}
 use Rattle.prof_machine.specs.Start.{final_world, start_refusal}
 use Rattle.prof_machine.specs.World.{World}
 use Rattle.prof_machine.proofs.RunLemmas.{plan_ends}
-use Rattle.rvgprof.specs.declared.outcome.Done.{Done}
-use Rattle.rvgprof.specs.declared.outcome.Fault.{Fault}
-use Rattle.rvgprof.specs.declared.outcome.Fault.TheVariants.{BadElf, BadProfile, Unlike, TooLarge}
+use Rattle.courses.specs.declared.outcome.Done.{Done}
+use Rattle.courses.specs.declared.outcome.Fault.{Fault}
+use Rattle.courses.specs.declared.outcome.Fault.TheVariants.{BadElf, BadProfile, Unlike, TooLarge}
 use Rattle.command_words.specs.declared.words.Command.{Command}
 use Rattle.command_words.specs.declared.words.Command.TheVariants.{Show, Syms, Run, Sum, Report, Profile, Demo, Annotate, Folded, Help, Version}
 use Rattle.command_words.specs.declared.words.Shown.{Shown}
 use Rattle.command_words.specs.declared.words.Shown.TheVariants as shows
 use Rattle.command_words.specs.Words.{command_of, IsCommandOf}
-use Rattle.rvgprof.specs.Course.{Course, Input, Does, Knows, one_by_one, unless, reply_to}
+use Rattle.courses.specs.Course.{Course, Input, Does, Knows, one_by_one, unless, reply_to}
 use Rattle.command_words.specs.Items.{nth_word}
 use Rattle.annotate.specs.Listing.{annotated_text}
 use Rattle.flat_report.specs.Sources.{Sources}
 use Rattle.host_port.specs.Act.{Act, Out}
 use Rattle.gmon_files.specs.Forms.{file_refusal, file_records}
-use Rattle.rvgprof.specs.Answer.{Chosen, RunActs, calls_fit, chosen_by, chosen_sources, command_course, course_of, demo_lines, end_course, exact_report, files_named, fold_program, given_file_acts, list_profiles, print_reports, profile_file, profile_in, profiles, program, report_profiles, report_run, run_acts, run_program, show_lines, shown_reports, stacks_told, start_fault_of, sum_file, syms_lines, sums_up, too_wide, wide_step, logged_profile}
+use Rattle.courses.specs.Answer.{Chosen, RunActs, calls_fit, chosen_by, chosen_sources, command_course, course_of, demo_lines, end_course, exact_report, files_named, fold_program, given_file_acts, list_profiles, print_reports, profile_file, profile_in, profiles, program, report_profiles, report_run, run_acts, run_program, show_lines, shown_reports, stacks_told, start_fault_of, sum_file, syms_lines, sums_up, too_wide, wide_step, logged_profile}
 use Rattle.elf32_syms.specs.declared.refusal.ElfRefusal.{ElfRefusal}
 use Rattle.elf32_syms.specs.declared.refusal.ElfRefusal.TheVariants as elf
 use Rattle.gp_base.specs.declared.refusal.GmonRefusal.{GmonRefusal}
 use Rattle.gp_base.specs.declared.refusal.GmonRefusal.TheVariants as gmons
 use Rattle.prof_machine.specs.declared.summary.StartRefusal.{StartRefusal}
 use Rattle.prof_machine.specs.declared.summary.StartRefusal.TheVariants as starts
-use Rattle.rvgprof.specs.Contract.{Acted, RefusalIsNoWant}
+use Rattle.courses.specs.Contract.{Acted, RefusalIsNoWant}
 use Rattle.rvgprof.proofs.RefusalLemmas.{ElfNamed, GmonNamed, elf_never, file_never}
 use Rattle.rvgprof.specs.Acceptance.{starts_run}
 

@@ -8,11 +8,11 @@ use Rattle.host_port.specs.declared.side.Side.TheVariants.{ErrorOutput}
 use Rattle.command_words.specs.declared.words.Command.{Command}
 use Rattle.command_words.specs.declared.words.Command.TheVariants.{Show, Syms, Run, Sum, Report, Profile, Demo, Annotate, Folded, Help, Version}
 use Rattle.gmon_data.specs.Content.{IsProfile}
-use Rattle.rvgprof.specs.Acceptance.{total_of}
-use Rattle.rvgprof.specs.Answer.{contents_of}
-use Rattle.rvgprof.specs.Contract.{WhereTold}
+use Rattle.command_inputs.specs.Totals.{total_of}
+use Rattle.courses.specs.Answer.{contents_of}
+use Rattle.courses.specs.Contract.{WhereTold}
 use Rattle.rvgprof.specs.Fitting.{FileFits}
-use Rattle.rvgprof.specs.Standing.{TellsNoMore}
+use Rattle.rvgprof.specs.Fitting.{TellsNoMore}
 
 -- acts tell nothing more
 pub acts_tell : (acts : List Act) (old new : Outside) → Did acts old new → TellsNoMore old new

@@ -5,15 +5,16 @@ use Rattle.gp_base.specs.declared.limits.TheConstants.{MAX_PROFILE_BYTES, MAX_EL
 use Rattle.elf32_syms.specs.Refusals.{elf_refusal}
 use Rattle.elf32_syms.specs.Image.{image_of}
 use Rattle.settings.specs.declared.setup.Setup.{Setup}
-use Rattle.gmon_data.specs.Content.{Content, WideRec, content_of, conflict_of, empty_content, wide_records}
+use Rattle.gmon_data.specs.Content.{Content, WideRec, content_of, conflict_of, empty_content}
 use Rattle.profile_sum.specs.Sum.{clash_of}
 use Rattle.demo_elf.specs.Elf.{demo_program}
 use Rattle.prof_machine.specs.Start.{start_refusal}
 use Rattle.command_words.specs.declared.words.Command.{Command}
 use Rattle.command_words.specs.declared.words.Command.TheVariants.{Show, Syms, Run, Sum, Report, Profile, Demo, Annotate, Folded, Help, Version}
-use Rattle.gmon_files.specs.Forms.{file_refusal, file_records}
-use Rattle.rvgprof.specs.Answer.{Chosen, chosen_by, chosen_sources, wide_step}
+use Rattle.gmon_files.specs.Forms.{file_refusal}
+use Rattle.courses.specs.Answer.{Chosen, chosen_by, chosen_sources, wide_step}
 use Rattle.rvgprof.specs.RunFile.{reported_profile}
+use Rattle.command_inputs.specs.Totals.{records_of, total_of}
 
 -- a program's file is within its limit and isn't refused
 pub record IsProgramFile (bytes : List ℕ) : Type 0 where
@@ -24,10 +25,6 @@ pub record IsProgramFile (bytes : List ℕ) : Type 0 where
 pub record IsProfileFile (bytes : List ℕ) : Type 0 where
   pub limit : length bytes ≤ MAX_PROFILE_BYTES
   pub accepted : file_refusal bytes ≡ None
-
--- the records of a profile file
-abbrev pub records_of : List ℕ → List WideRec
-records_of bytes = wide_records (file_records bytes).recs
 
 -- A file's histograms can be added up, and then added to those of the files before it.
 pub record IsLike (before : List WideRec) (file : List WideRec) : Type 0 where
@@ -44,10 +41,6 @@ pub record AreProfileFiles (contents : ℕ → List ℕ) (words : List ℕ) : Ty
 -- a run of a program isn't refused
 abbrev pub Starts : List ℕ → Setup → Type 0
 Starts bytes setup = start_refusal (image_of bytes) setup ≡ None
-
--- the profile that files add up to
-abbrev pub total_of : (ℕ → List ℕ) → List ℕ → Content
-total_of contents words = content_of (flat_map (λ word. records_of (contents word)) words)
 
 -- with `--exact`, no step of the exact times is too wide
 abbrev pub AreNarrow : Chosen → List ℕ → Content → Type 0

@@ -102,7 +102,8 @@ use Rattle.graph_report.specs.Roots.{has_own_entry, shown_total}
 use Rattle.graph_report.specs.Rows.{cycle_entries, function_entries}
 use Rattle.folded.specs.Stacks.{caller_in, lines_of, same_stack, stack_cmp, stack_of, times_in as times_in_lines}
 use Rattle.folded.specs.Trail.{StackSample, samples_after}
-use Rattle.rvgprof.specs.Acceptance.{AreProfileFiles, records_of, total_of}
+use Rattle.rvgprof.specs.Acceptance.{AreProfileFiles}
+use Rattle.command_inputs.specs.Totals.{records_of, total_of}
 
 -- ---- words, bytes and the outside
 

@@ -4,12 +4,12 @@ use Rattle.std.specs.List.{AllByRecursion}
 use Rattle.host_port.specs.Act.{Act}
 use Rattle.host_port.specs.Act.{Err as Complain}
 use Rattle.host_port.specs.Outside.{Outside, Did, with_openings}
-use Rattle.rvgprof.specs.declared.outcome.Done.{Done}
-use Rattle.rvgprof.specs.declared.outcome.Fault.{Fault}
+use Rattle.courses.specs.declared.outcome.Done.{Done}
+use Rattle.courses.specs.declared.outcome.Fault.{Fault}
 use Rattle.rvgprof.specs.Texts.{last_line}
-use Rattle.rvgprof.specs.Course.{reply_to, inputs_of}
-use Rattle.rvgprof.specs.Answer.{course_of, contents_of}
-use Rattle.rvgprof.specs.Contract.{WhereTold, LineEnds}
+use Rattle.courses.specs.Course.{reply_to, inputs_of}
+use Rattle.courses.specs.Answer.{course_of, contents_of}
+use Rattle.courses.specs.Contract.{WhereTold, LineEnds}
 
 -- A count of faults stayed, and doesn't stand at its end, where it stays after a fault too.
 pub record Stayed (before now : ℕ) : Type 0 where

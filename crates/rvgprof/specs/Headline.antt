@@ -32,8 +32,8 @@ use Rattle.graph_report.specs.Roots.{has_own_entry, shown_total}
 use Rattle.exact_flow.specs.Solution.{exact_flow_in}
 use Rattle.prof_machine.specs.Executions.{executions_at, instructions_of}
 use Rattle.prof_machine.specs.Value.{summary_of}
-use Rattle.rvgprof.specs.declared.outcome.Done.{Done}
-use Rattle.rvgprof.specs.declared.outcome.Fault.{Fault}
+use Rattle.courses.specs.declared.outcome.Done.{Done}
+use Rattle.courses.specs.declared.outcome.Fault.{Fault}
 use Rattle.command_words.specs.declared.words.Command.{Command}
 use Rattle.command_words.specs.declared.words.Command.TheVariants.{Show, Syms, Run, Sum, Report, Profile, Demo, Annotate, Folded, Help, Version}
 use Rattle.command_words.specs.declared.words.Shown.{Shown}
@@ -42,14 +42,15 @@ use Rattle.command_words.specs.Items.{nth_word}
 use Rattle.command_words.specs.Words.{command_of}
 use Rattle.demo_elf.specs.Elf.{demo_program}
 use Rattle.mcount_arcs.specs.Log.{distinct_count, kept_calls}
-use Rattle.rvgprof.specs.Reports.{demo_summary, profile_sources}
+use Rattle.courses.specs.Reports.{demo_summary, profile_sources}
 use Rattle.rvgprof.specs.Texts.{last_line}
-use Rattle.rvgprof.specs.Answer.{Chosen, chosen_by, chosen_sources, wide_step}
-use Rattle.rvgprof.specs.Contract.{Acted, LineEnds, LineIsPrinted}
-use Rattle.rvgprof.specs.FoldedReport.{folded_report}
-use Rattle.rvgprof.specs.Help.{help_text, version_text}
+use Rattle.courses.specs.Answer.{Chosen, chosen_by, chosen_sources, wide_step}
+use Rattle.courses.specs.Contract.{Acted, LineEnds, LineIsPrinted}
+use Rattle.courses.specs.FoldedReport.{folded_report}
+use Rattle.courses.specs.Help.{help_text, version_text}
 use Rattle.rvgprof.specs.RunFile.{SaysProfile, SaysRun, gmon_text, memory_text, reported_profile, text_sizes, end_world}
-use Rattle.rvgprof.specs.Acceptance.{IsProfileFile, IsProgramFile, AreProfileFiles, Starts, total_of}
+use Rattle.rvgprof.specs.Acceptance.{IsProfileFile, IsProgramFile, AreProfileFiles, Starts}
+use Rattle.command_inputs.specs.Totals.{total_of}
 
 -- what is reported of a run: its samples and calls, as its file says them (`SaysRun`), without the calls that are cut
 abbrev pub run_sources : Chosen → List ℕ → Setup → Sources

@@ -20,7 +20,7 @@ use Rattle.prof_machine.specs.Executions.{executions_at, executions_in, instruct
 use Rattle.prof_machine.specs.Start.{final_world}
 use Rattle.prof_machine.specs.World.{World}
 use Rattle.gmon_files.specs.Forms.{file_records, file_refusal, form_of}
-use Rattle.rvgprof.specs.Answer.{logged_profile, profile_bytes, profile_in}
+use Rattle.courses.specs.Answer.{logged_profile, profile_bytes, profile_in}
 use Rattle.command_words.specs.Words.{IsRunSetup}
 
 -- the world in which the run of a program ends

@@ -1,14 +1,14 @@
 //! The command `annotate`.
 
 ghost use Rattle.std.specs.Prelude.{[], ◌∷◌};
-ghost use Rattle.rvgprof.specs.Answer.{annotate_course};
-ghost use Rattle.rvgprof.specs.Contract.{Acted};
-ghost use Rattle.rvgprof.specs.Standing.{Stands};
+ghost use Rattle.courses.specs.Answer.{annotate_course};
+ghost use Rattle.courses.specs.Contract.{Acted};
+ghost use Rattle.courses.specs.Standing.{Stands};
 ghost use Rattle.command_words.specs.Words.{AreRising};
 
-use crate::inputs::{read_profiles, read_program};
-use crate::outcome::{Done, Fault};
+use command_inputs::{read_profiles, read_program};
 use command_words::Words;
+use courses::{Done, Fault};
 use host_port::Host;
 use std::alloc::Global;
 

@@ -8,21 +8,20 @@ ghost use Rattle.call_cycles.specs.Flow.{IsFlow, time_of_roots};
 ghost use Rattle.elf32_syms.specs.Image.{IsWithinLimits};
 ghost use Rattle.elf32_syms.specs.Owners.{IsAscending};
 ghost use Rattle.host_port.specs.Performing.{Performs};
-ghost use Rattle.rvgprof.specs.Answer.{demo_course, given_file_acts};
-ghost use Rattle.rvgprof.specs.Contract.{Acted};
+ghost use Rattle.courses.specs.Answer.{demo_course, given_file_acts};
+ghost use Rattle.courses.specs.Contract.{Acted};
 ghost use Rattle.command_words.specs.Items.{nth_word};
-ghost use Rattle.rvgprof.specs.Reports.{cycle_count, demo_run_line, grains_line};
-ghost use Rattle.rvgprof.specs.Standing.{IsDemoRead, IsDemoRefused, RunsDemo, Stands, SumsUp, TellsDemo};
+ghost use Rattle.courses.specs.Reports.{cycle_count, demo_run_line, grains_line};
+ghost use Rattle.rvgprof.specs.Demonstrating.{IsDemoRead, IsDemoRefused, RunsDemo, SumsUp, TellsDemo};
+ghost use Rattle.courses.specs.Standing.{Stands};
 
-use crate::files::write_file;
-use crate::findings::{Findings, findings_of};
 use crate::lines::put_number;
-use crate::outcome::{Done, Fault};
-use crate::refusals::{elf_fault, report_fault};
-use crate::report_text::print_text;
-use crate::runs::run_alone;
 use call_cycles::Graph;
+use command_reports::{Findings, findings_of, print_text};
+use command_runs::{run_alone, write_file};
 use command_words::Words;
+use courses::refusals::{elf_fault, report_fault};
+use courses::{Done, Fault};
 use elf32_syms::Image;
 use flat_report::ReportRefusal;
 use gmon_bsd::run_profile;
@@ -149,7 +148,7 @@ fn summary_of(functions: u32, run: &Run, findings: &Findings) -> Line
 }
 
 /// How a demo's run went.
-#[tactic(auto, using(text_cols::proofs::Lengths::lengths), unfolding(crate::specs::Reports::demo_run_line))]
+#[tactic(auto, using(text_cols::proofs::Lengths::lengths), unfolding(courses::specs::Reports::demo_run_line))]
 fn put_run(line: &mut Line, functions: u32, run: RunSummary, pairs: u32, cycles: u32)
     requires { line.old ≡ [] }
     ensures text { line.new ≡ demo_run_line functions run pairs cycles }
@@ -167,7 +166,7 @@ fn put_run(line: &mut Line, functions: u32, run: RunSummary, pairs: u32, cycles:
 
 /// How the samples of a demo's run were attributed: all grains of functions, and those of the components
 /// that no other one calls.
-#[tactic(auto, using(text_cols::proofs::Lengths::lengths), unfolding(crate::specs::Reports::grains_line))]
+#[tactic(auto, using(text_cols::proofs::Lengths::lengths), unfolding(courses::specs::Reports::grains_line))]
 fn put_grains(line: &mut Line, attributed: u128, roots: u128)
     requires room { length line.old ≤ 140 }
     ensures { line.new ≡ line.old ++ grains_line attributed roots }

@@ -1,17 +1,17 @@
 //! The commands `--help` and `--version`.
 
 ghost use Rattle.std.specs.Prelude.{◌≡◌, ◌≢◌, [], Err};
-ghost use Rattle.rvgprof.specs.Answer.{text_course};
-ghost use Rattle.rvgprof.specs.Contract.{Acted};
-ghost use Rattle.rvgprof.specs.Standing.{Stands};
-ghost use Rattle.rvgprof.specs.Help.{help_text as spec_help, version_text as spec_version};
+ghost use Rattle.courses.specs.Answer.{text_course};
+ghost use Rattle.courses.specs.Contract.{Acted};
+ghost use Rattle.courses.specs.Standing.{Stands};
+ghost use Rattle.courses.specs.Help.{help_text as spec_help, version_text as spec_version};
 
-use crate::outcome::{Done, Fault};
 use command_words::Words;
+use courses::{Done, Fault};
 use host_port::{Host, out_all_of};
 
 /// What the commands and options are.
-#[tactic(auto, unfolding(crate::specs::Help::help_text))]
+#[tactic(auto, unfolding(courses::specs::Help::help_text))]
 fn help_text() -> &'static [u8]
     ensures { result.now ≡ spec_help }
 {
@@ -19,7 +19,7 @@ fn help_text() -> &'static [u8]
 }
 
 /// The program's name and version.
-#[tactic(auto, unfolding(crate::specs::Help::version_text))]
+#[tactic(auto, unfolding(courses::specs::Help::version_text))]
 fn version_text() -> &'static [u8]
     ensures { result.now ≡ spec_version }
 {

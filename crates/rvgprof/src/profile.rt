@@ -2,16 +2,16 @@
 
 ghost use Rattle.std.specs.Prelude.{◌≡◌, [], IfOk, OnOk};
 ghost use Rattle.elf32_syms.specs.Owners.{IsAscending};
-ghost use Rattle.rvgprof.specs.Answer.{chosen_by, files_named, profile_course};
-ghost use Rattle.rvgprof.specs.Contract.{Acted};
-ghost use Rattle.rvgprof.specs.Standing.{Stands};
+ghost use Rattle.courses.specs.Answer.{chosen_by, files_named, profile_course};
+ghost use Rattle.courses.specs.Contract.{Acted};
+ghost use Rattle.courses.specs.Standing.{Stands};
 ghost use Rattle.command_words.specs.Words.{AreCuts, IsRunSetup};
 
-use crate::inputs::read_program;
-use crate::outcome::{Done, Fault};
-use crate::report_text::print_reports;
-use crate::runs::{RunOutputs, run_program};
+use command_inputs::read_program;
+use command_reports::print_reports;
+use command_runs::{RunOutputs, run_program};
 use command_words::{Selection, Words};
+use courses::{Done, Fault};
 use gmon_bsd::run_profile;
 use host_port::Host;
 use prof_machine::Setup;

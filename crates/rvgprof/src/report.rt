@@ -1,15 +1,15 @@
 //! The command `report`.
 
 ghost use Rattle.std.specs.Prelude.{[], ◌∷◌};
-ghost use Rattle.rvgprof.specs.Answer.{chosen_by, report_course};
-ghost use Rattle.rvgprof.specs.Contract.{Acted};
-ghost use Rattle.rvgprof.specs.Standing.{Stands};
+ghost use Rattle.courses.specs.Answer.{chosen_by, report_course};
+ghost use Rattle.courses.specs.Contract.{Acted};
+ghost use Rattle.courses.specs.Standing.{Stands};
 ghost use Rattle.command_words.specs.Words.{AreCuts, AreRising};
 
-use crate::inputs::{read_profiles, read_program};
-use crate::outcome::{Done, Fault};
-use crate::report_text::print_reports;
+use command_inputs::{read_profiles, read_program};
+use command_reports::print_reports;
 use command_words::{Selection, Words};
+use courses::{Done, Fault};
 use host_port::Host;
 use std::alloc::Global;
 

@@ -1,15 +1,15 @@
 //! The command `run`.
 
 ghost use Rattle.std.specs.Prelude.{[]};
-ghost use Rattle.rvgprof.specs.Answer.{files_named, run_course};
-ghost use Rattle.rvgprof.specs.Contract.{Acted};
-ghost use Rattle.rvgprof.specs.Standing.{Stands};
+ghost use Rattle.courses.specs.Answer.{files_named, run_course};
+ghost use Rattle.courses.specs.Contract.{Acted};
+ghost use Rattle.courses.specs.Standing.{Stands};
 ghost use Rattle.command_words.specs.Words.{IsRunSetup};
 
-use crate::inputs::read_program;
-use crate::outcome::{Done, Fault};
-use crate::runs::{RunOutputs, run_program};
+use command_inputs::read_program;
+use command_runs::{RunOutputs, run_program};
 use command_words::Words;
+use courses::{Done, Fault};
 use host_port::Host;
 use prof_machine::Setup;
 use std::alloc::Global;

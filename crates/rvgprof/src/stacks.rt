@@ -3,15 +3,17 @@
 ghost use Rattle.std.specs.Prelude.{◌≡◌, [], length, IfOk, IsSome};
 ghost use Rattle.elf32_syms.specs.Image.{IsWithinLimits};
 ghost use Rattle.settings.specs.Setup.{IsSetup};
-ghost use Rattle.rvgprof.specs.Answer.{folded_course};
-ghost use Rattle.rvgprof.specs.Contract.{Acted};
-ghost use Rattle.rvgprof.specs.Standing.{FoldsProgram, IsRunOf, Stands};
+ghost use Rattle.courses.specs.Answer.{folded_course};
+ghost use Rattle.courses.specs.Contract.{Acted};
+ghost use Rattle.rvgprof.specs.Folding.{FoldsProgram};
+ghost use Rattle.command_runs.specs.Running.{IsRunOf};
+ghost use Rattle.courses.specs.Standing.{Stands};
 
-use crate::inputs::read_program;
-use crate::outcome::{Done, Fault};
-use crate::refusals::fold_fault;
-use crate::runs::start_run;
+use command_inputs::read_program;
+use command_runs::start_run;
 use command_words::Words;
+use courses::refusals::fold_fault;
+use courses::{Done, Fault};
 use elf32_syms::Image;
 use folded::{Folded, fold};
 use host_port::Host;

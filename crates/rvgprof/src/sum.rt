@@ -3,16 +3,16 @@
 ghost use Rattle.std.specs.Prelude.{◌≡◌, [], false, OnOk};
 ghost use Rattle.gmon_gnu.specs.ProfileText.{profile_text};
 ghost use Rattle.host_port.specs.Performing.{Performs};
-ghost use Rattle.rvgprof.specs.Answer.{file_acts, sum_course};
-ghost use Rattle.rvgprof.specs.Contract.{Acted};
+ghost use Rattle.courses.specs.Answer.{file_acts, sum_course};
+ghost use Rattle.courses.specs.Contract.{Acted};
 ghost use Rattle.rvgprof.specs.Fitting.{SumIsProfile};
 ghost use Rattle.command_words.specs.Items.{nth_word};
-ghost use Rattle.rvgprof.specs.Standing.{Stands};
+ghost use Rattle.courses.specs.Standing.{Stands};
 ghost use Rattle.command_words.specs.Words.{AreRising};
 
-use crate::inputs::read_profiles;
-use crate::outcome::{Done, Fault};
+use command_inputs::read_profiles;
 use command_words::Words;
+use courses::{Done, Fault};
 use gmon_data::Profile;
 use host_port::{Failed, Host};
 use std::alloc::Global;

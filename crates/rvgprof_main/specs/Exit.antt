@@ -3,10 +3,10 @@ use Rattle.std.specs.Prelude.{◌≡◌, ℕ, List, Result, Ok, Err, if◌then�
 use Rattle.std.specs.declared.io.ErrorKind.{ErrorKind}
 use Rattle.std.specs.declared.io.ErrorKind.TheVariants.{OutOfMemory}
 use Rattle.host_port.specs.Outside.{Outside}
-use Rattle.rvgprof.specs.declared.outcome.Done.{Done}
-use Rattle.rvgprof.specs.declared.outcome.Fault.{Fault}
+use Rattle.courses.specs.declared.outcome.Done.{Done}
+use Rattle.courses.specs.declared.outcome.Fault.{Fault}
 use Rattle.rvgprof.specs.Headline.{Answered}
-use Rattle.rvgprof.specs.Texts.{status_of}
+use Rattle.courses.specs.Statuses.{status_of}
 
 -- 0 where a command was carried out, and else the status of the fault
 abbrev pub status_of_answer : Result Done Fault → ℕ

@@ -14,14 +14,15 @@ use Rattle.gmon_gnu.specs.ProfileText.{profile_text}
 use Rattle.gp_base.specs.declared.records.Form.{Form}
 use Rattle.gp_base.specs.declared.records.Form.TheVariants.{Gnu}
 use Rattle.prof_machine.specs.Executions.{executions_at, instructions_of}
-use Rattle.rvgprof.specs.declared.outcome.Done.{Done}
-use Rattle.rvgprof.specs.declared.outcome.Fault.{Fault}
-use Rattle.rvgprof.specs.declared.outcome.Fault.TheVariants.{OutOfMemory}
-use Rattle.rvgprof.specs.Acceptance.{acts_at_once, starts_run, may_want_memory, total_of}
-use Rattle.rvgprof.specs.Answer.{contents_of, course_of, profile_in}
+use Rattle.courses.specs.declared.outcome.Done.{Done}
+use Rattle.courses.specs.declared.outcome.Fault.{Fault}
+use Rattle.courses.specs.declared.outcome.Fault.TheVariants.{OutOfMemory}
+use Rattle.rvgprof.specs.Acceptance.{acts_at_once, starts_run, may_want_memory}
+use Rattle.command_inputs.specs.Totals.{total_of}
+use Rattle.courses.specs.Answer.{contents_of, course_of, profile_in}
 use Rattle.rvgprof.specs.Completeness.{Complete, is_complaint}
-use Rattle.rvgprof.specs.Contract.{WhereTold}
-use Rattle.rvgprof.specs.Course.{reply_to}
+use Rattle.courses.specs.Contract.{WhereTold}
+use Rattle.courses.specs.Course.{reply_to}
 use Rattle.rvgprof.specs.Headline.{Answered}
 use Rattle.rvgprof.specs.RunFile.{SaysRun, text_sizes, end_world}
 

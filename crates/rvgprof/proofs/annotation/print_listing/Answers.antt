@@ -6,11 +6,10 @@ use Rattle.gmon_data.specs.Content.{Content, empty_content}
 use Rattle.host_port.specs.Act.{Out}
 use Rattle.host_port.specs.declared.side.Side.TheVariants.{Output}
 use Rattle.host_port.proofs.PerformingLemmas.{puts_performs}
-use Rattle.rvgprof.specs.Course.{Course, Does}
-use Rattle.rvgprof.specs.Answer.{end_course, list_profiles}
-use Rattle.rvgprof.proofs.Performing.{last_acts}
-use Rattle.rvgprof.proofs.Standing.{fails}
-use Rattle.rvgprof.proofs.Summing.{all_behind, may_stop_profiles}
+use Rattle.courses.specs.Course.{Course, Does}
+use Rattle.courses.specs.Answer.{end_course, list_profiles}
+use Rattle.courses.proofs.Standing.{last_acts, fails}
+use Rattle.command_inputs.proofs.Summing.{all_behind, may_stop_profiles}
 use Rattle.rvgprof.proofs.annotation.print_listing.Goals as goal
 
 pub returns-in_err-bytes : goal.returns-in_err-bytes

@@ -3,7 +3,7 @@ use Rattle.std.proofs.lemmas.Result.{err_from_is_err_and}
 use Rattle.std.specs.Option.{option_map}
 use Rattle.demo_laws.proofs.DemoLemmas.{demo_accepted}
 use Rattle.command_words.specs.Items.{nth_word}
-use Rattle.rvgprof.proofs.Accepting.{no_demo}
+use Rattle.command_inputs.proofs.Accepting.{no_demo}
 use Rattle.rvgprof.proofs.Demonstrating.{demo_ran, demo_not_written}
 use Rattle.rvgprof.proofs.demo.demo.Goals as goal
 

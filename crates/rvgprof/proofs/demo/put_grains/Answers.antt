@@ -1,6 +1,6 @@
 use Rattle.std.proofs.Common.{decimal}
 use Rattle.std.specs.Prelude.{codes}
-use Rattle.rvgprof.specs.Reports.{grains_line}
+use Rattle.courses.specs.Reports.{grains_line}
 use Rattle.rvgprof.proofs.LineLemmas.{five_parts}
 use Rattle.rvgprof.proofs.demo.put_grains.Goals as goal
 

@@ -1,7 +1,7 @@
 use Rattle.std.proofs.Common.{refl}
 use Rattle.std.proofs.lemmas.Result.{err_from_is_err_and}
-use Rattle.rvgprof.specs.Answer.{demo_lines}
-use Rattle.rvgprof.proofs.Running.{run_told}
+use Rattle.courses.specs.Answer.{demo_lines}
+use Rattle.command_runs.proofs.Running.{run_told}
 use Rattle.rvgprof.proofs.demo.run_demo.Goals as goal
 
 pub returns-in_err-run : goal.returns-in_err-run

@@ -3,7 +3,7 @@ use Rattle.symbol_shares.specs.Shares.{attributed_of}
 use Rattle.mcount_arcs.specs.declared.sizes.Sizes.{Sizes}
 use Rattle.mcount_arcs.specs.Log.{distinct_count, kept_calls}
 use Rattle.prof_machine.specs.declared.summary.RunSummary.{RunSummary}
-use Rattle.rvgprof.specs.Reports.{cycle_count, demo_run_line, demo_summary, grains_line}
+use Rattle.courses.specs.Reports.{cycle_count, demo_run_line, demo_summary, grains_line}
 use Rattle.propagate.proofs.BoundLemmas.{roots_have_all}
 use Rattle.rvgprof.proofs.demo.summary_of.Goals as goal
 

@@ -6,12 +6,12 @@ use Rattle.mcount_arcs.specs.Log.{distinct_count, kept_calls}
 use Rattle.mcount_arcs.specs.Sizes.{sizes_of}
 use Rattle.prof_machine.specs.Start.{final_world}
 use Rattle.prof_machine.specs.Value.{summary_of}
-use Rattle.rvgprof.specs.Answer.{demo_lines, sums_up, logged_profile}
-use Rattle.rvgprof.specs.Reports.{demo_summary, profile_sources}
+use Rattle.courses.specs.Answer.{demo_lines, sums_up, logged_profile}
+use Rattle.courses.specs.Reports.{demo_summary, profile_sources}
 use Rattle.rvgprof.proofs.DemoLemmas.{summary_due}
 use Rattle.rvgprof.proofs.Profiling.{profile_written}
-use Rattle.rvgprof.proofs.Reporting.{after_text, goes_on_anyhow}
-use Rattle.rvgprof.proofs.Standing.{no_memory}
+use Rattle.command_reports.proofs.Reporting.{after_text, goes_on_anyhow}
+use Rattle.courses.proofs.Standing.{no_memory}
 use Rattle.rvgprof.proofs.demo.tell_demo.Goals as goal
 
 pub returns-in_err-total : goal.returns-in_err-total

@@ -1,4 +1,4 @@
-use Rattle.rvgprof.proofs.Performing.{given_as, given_nothing}
+use Rattle.command_runs.proofs.Performing.{given_as, given_nothing}
 use Rattle.rvgprof.proofs.demo.write_program.Goals as goal
 
 pub returns-in-None : goal.returns-in-None

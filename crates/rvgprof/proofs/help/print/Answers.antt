@@ -2,9 +2,8 @@ use Rattle.std.proofs.Common.{[], ◌∷◌, None, refl}
 use Rattle.host_port.specs.Act.{Out}
 use Rattle.host_port.specs.declared.side.Side.TheVariants.{Output}
 use Rattle.host_port.proofs.PerformingLemmas.{puts_performs}
-use Rattle.rvgprof.specs.Answer.{end_course}
-use Rattle.rvgprof.proofs.Performing.{last_acts}
-use Rattle.rvgprof.proofs.Standing.{fails}
+use Rattle.courses.specs.Answer.{end_course}
+use Rattle.courses.proofs.Standing.{last_acts, fails}
 use Rattle.rvgprof.proofs.help.print.Goals as goal
 
 pub returns-in-Ok-clause-acted : goal.returns-in-Ok-clause-acted

@@ -3,12 +3,12 @@ use Rattle.std.proofs.lemmas.Result.{err_from_is_err_and}
 use Rattle.elf32_syms.specs.declared.image.Image.{Image}
 use Rattle.mcount_arcs.specs.Sizes.{sizes_of}
 use Rattle.prof_machine.specs.Start.{final_world}
-use Rattle.rvgprof.specs.Answer.{chosen_by, files_named, logged_profile, report_run, run_acts, run_program, sums_up}
-use Rattle.rvgprof.specs.Course.{Course}
+use Rattle.courses.specs.Answer.{chosen_by, files_named, logged_profile, report_run, run_acts, run_program, sums_up}
+use Rattle.courses.specs.Course.{Course}
 use Rattle.rvgprof.proofs.Profiling.{profile_written}
-use Rattle.rvgprof.proofs.Reporting.{may_stop_reports, of_the_same}
-use Rattle.rvgprof.proofs.Running.{may_stop_start, run_told}
-use Rattle.rvgprof.proofs.Standing.{no_memory}
+use Rattle.command_reports.proofs.Reporting.{may_stop_reports, of_the_same}
+use Rattle.command_runs.proofs.Running.{may_stop_start, run_told}
+use Rattle.courses.proofs.Standing.{no_memory}
 use Rattle.rvgprof.proofs.profile.profile.Goals as goal
 
 pub returns-in_err-bytes : goal.returns-in_err-bytes

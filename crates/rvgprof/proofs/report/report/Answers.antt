@@ -2,11 +2,11 @@ use Rattle.std.proofs.Common.{[], ◌+◌, None, Ok, arith}
 use Rattle.std.proofs.lemmas.Result.{err_from_is_err_and}
 use Rattle.gp_base.specs.declared.limits.TheConstants.{MAX_PROFILE_BYTES}
 use Rattle.gmon_data.specs.Content.{Content, empty_content}
-use Rattle.rvgprof.specs.Course.{Course}
-use Rattle.rvgprof.specs.Answer.{chosen_by, end_course, print_reports, report_profiles}
-use Rattle.rvgprof.proofs.Reporting.{may_stop_reports}
-use Rattle.rvgprof.proofs.Standing.{ends}
-use Rattle.rvgprof.proofs.Summing.{all_behind, may_stop_profiles}
+use Rattle.courses.specs.Course.{Course}
+use Rattle.courses.specs.Answer.{chosen_by, end_course, print_reports, report_profiles}
+use Rattle.command_reports.proofs.Reporting.{may_stop_reports}
+use Rattle.courses.proofs.Standing.{ends}
+use Rattle.command_inputs.proofs.Summing.{all_behind, may_stop_profiles}
 use Rattle.rvgprof.proofs.report.report.Goals as goal
 
 pub returns-in_err-image : goal.returns-in_err-image

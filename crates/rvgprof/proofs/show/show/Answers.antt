@@ -4,11 +4,10 @@ use Rattle.host_port.specs.Act.{Out}
 use Rattle.host_port.specs.declared.side.Side.TheVariants.{Output}
 use Rattle.gmon_files.specs.Forms.{file_records}
 use Rattle.text_lines.specs.Lines.{show_text}
-use Rattle.rvgprof.specs.Answer.{end_course, show_lines}
-use Rattle.rvgprof.proofs.Accepting.{a_profile, no_profile}
-use Rattle.rvgprof.proofs.Standing.{fails, not_loaded}
+use Rattle.courses.specs.Answer.{end_course, show_lines}
+use Rattle.command_inputs.proofs.Accepting.{a_profile, no_profile}
+use Rattle.courses.proofs.Standing.{fails, not_loaded, last_acts}
 use Rattle.host_port.proofs.PerformingLemmas.{puts_performs}
-use Rattle.rvgprof.proofs.Performing.{last_acts}
 use Rattle.rvgprof.proofs.show.show.Goals as goal
 
 pub returns-in-Err : goal.returns-in-Err

@@ -5,11 +5,11 @@ use Rattle.host_port.specs.declared.side.Side.TheVariants.{Output}
 use Rattle.host_port.proofs.PerformingLemmas.{puts_performs}
 use Rattle.prof_machine.specs.Start.{final_world}
 use Rattle.mcount_arcs.specs.Sizes.{sizes_of}
-use Rattle.rvgprof.specs.Answer.{fold_program, sums_up}
-use Rattle.rvgprof.specs.FoldedReport.{folded_report}
+use Rattle.courses.specs.Answer.{fold_program, sums_up}
+use Rattle.courses.specs.FoldedReport.{folded_report}
 use Rattle.rvgprof.proofs.Folding.{may_stop_folding, text_is}
-use Rattle.rvgprof.proofs.Running.{may_stop_start, run_told}
-use Rattle.rvgprof.proofs.Standing.{does, fails}
+use Rattle.command_runs.proofs.Running.{may_stop_start, run_told}
+use Rattle.courses.proofs.Standing.{does, fails}
 use Rattle.rvgprof.proofs.stacks.print_stacks.Goals as goal
 
 pub returns-in_err-bytes : goal.returns-in_err-bytes

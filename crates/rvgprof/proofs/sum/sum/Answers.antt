@@ -2,13 +2,12 @@ use Rattle.std.proofs.Common.{◌≡◌, [], None, inl, refl, subst}
 use Rattle.std.proofs.lemmas.Result.{err_from_is_err_and}
 use Rattle.gmon_gnu.specs.ProfileText.{profile_text}
 use Rattle.gmon_data.specs.Content.{IsProfile}
-use Rattle.rvgprof.specs.Acceptance.{total_of}
-use Rattle.rvgprof.specs.Answer.{contents_of, end_course, file_acts, sum_file}
+use Rattle.command_inputs.specs.Totals.{total_of}
+use Rattle.courses.specs.Answer.{contents_of, end_course, file_acts, sum_file}
 use Rattle.command_words.specs.Items.{nth_word}
-use Rattle.rvgprof.proofs.Performing.{last_acts}
-use Rattle.rvgprof.proofs.Standing.{fails, weaker}
+use Rattle.courses.proofs.Standing.{last_acts, fails, weaker}
 use Rattle.rvgprof.proofs.ToldLemmas.{acts_tell, later_told}
-use Rattle.rvgprof.proofs.Summing.{all_from_0}
+use Rattle.command_inputs.proofs.Summing.{all_from_0}
 use Rattle.rvgprof.proofs.sum.sum.Goals as goal
 
 pub returns-in_err-total-clause-acted : goal.returns-in_err-total-clause-acted

@@ -3,10 +3,9 @@ use Rattle.std.proofs.lemmas.Result.{err_from_is_err_and}
 use Rattle.host_port.specs.Act.{Out}
 use Rattle.host_port.specs.declared.side.Side.TheVariants.{Output}
 use Rattle.text_lines.specs.Lines.{image_text}
-use Rattle.rvgprof.specs.Answer.{end_course, syms_lines}
-use Rattle.rvgprof.proofs.Standing.{fails}
+use Rattle.courses.specs.Answer.{end_course, syms_lines}
+use Rattle.courses.proofs.Standing.{fails, last_acts}
 use Rattle.host_port.proofs.PerformingLemmas.{puts_performs}
-use Rattle.rvgprof.proofs.Performing.{last_acts}
 use Rattle.rvgprof.proofs.syms.syms.Goals as goal
 
 pub returns-in_err-image : goal.returns-in_err-image

@@ -1,7 +1,7 @@
 use Rattle.std.proofs.Common.{◌∙◌, Some, ap}
 use Rattle.command_words.specs.declared.words.Command.{Command}
 use Rattle.command_words.specs.declared.words.Command.TheVariants.{Show, Syms, Run, Sum, Report, Profile, Demo, Annotate, Folded, Help, Version}
-use Rattle.rvgprof.proofs.Standing.{begun}
+use Rattle.courses.proofs.Standing.{begun}
 use Rattle.rvgprof.proofs.top.perform.Goals as goal
 
 pub show-requires : goal.show-requires

@@ -1,0 +1,8 @@
+//! Runs of programs by a command, and the files that they leave.
+#![tactic(auto)]
+
+pub mod files;
+pub mod runs;
+
+pub use files::write_file;
+pub use runs::{RunOutputs, run_alone, run_program, start_run};

@@ -1,0 +1,8 @@
+//! What each command does: its course, which ends in what was done or in a fault; and where a command stands on it.
+#![tactic(auto)]
+
+pub mod outcome;
+pub mod refusals;
+pub mod values;
+
+pub use outcome::{Done, Fault};
