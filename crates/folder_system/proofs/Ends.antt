@@ -1,19 +1,17 @@
 -- How an output ends.
 use Rattle.std.proofs.Common.{◌≡◌, ◌⊎◌, inl, inr, ℕ, Bool, true, false, List, [], ◌∷◌, ◌++◌, Option, Some, None, Ok, Err, refl, sym, ap, subst, ◌∙◌}
-use Rattle.std.specs.Prelude.{Result, IfSome, OnOk, OnErr, string_bytes}
+use Rattle.std.specs.Prelude.{Result, IfSome, OnOk, OnErr}
 use Rattle.std.specs.declared.io.Error.{Error}
 use Rattle.std.specs.declared.io.ErrorKind.{ErrorKind}
 use Rattle.host_port.specs.Act.{File, file_content, with_file}
 use Rattle.host_port.specs.Outside.{Becomes}
 use Rattle.folder_system.specs.declared.place.Place.{Place}
-use Rattle.folder_system.specs.declared.place.Place.TheVariants.{Beside as StandsBeside}
-use Rattle.folder_system.specs.declared.beside.Beside.{Beside}
 use Rattle.folder_system.specs.declared.beside.Taken.TheVariants.{ByName, ByCopy}
 use Rattle.folder_system.specs.declared.beside.Naming.TheVariants.{Done, Held}
 use Rattle.folder_system.specs.Names.{folder_of}
 use Rattle.folder_system.specs.Kinds.{is_held}
 use Rattle.folder_system.specs.Events.{Event, Opened, Copied, Synced, Renamed, Removed, NamesSynced, History, Answer, after, Follows, files_after, is_stored}
-use Rattle.folder_system.specs.Place.{IsStored, IsNotStored, IsSettling, is_settled, moving, refusing, copying, IsPut, IsHalted, IsHalf, IsOver, IsNotOver, IsMoved, IsHalfCopied, IsTaken, IsLost, IsAway, IsLetGo, IsAfterLetGo, IsWrittenInPlace, has_opening}
+use Rattle.folder_system.specs.Place.{IsStored, IsNotStored, IsSettling, is_settled, moving, refusing, copying, IsPut, IsHalted, IsHalf, IsOver, IsNotOver, IsMoved, IsHalfCopied, IsTaken, IsLost, IsAway, IsLetGo, IsAfterLetGo}
 use Rattle.folder_system.proofs.Follows.{then_calls, one_call, one_call_at, then_call, no_calls, restate}
 use Rattle.folder_system.proofs.Files.{content_of_new, if_same}
 

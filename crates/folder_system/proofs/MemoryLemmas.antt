@@ -1,12 +1,12 @@
 -- What a folder in memory tells, call by call.
-use Rattle.std.proofs.Common.{◌≡◌, ℕ, suc, ◌+◌, ◌<◌, ◌≤◌, Bool, true, false, cond, not, List, [], ◌∷◌, ◌++◌, length, map, get_or, drop, Option, Some, None, Result, Ok, Err, refl, sym, ap, subst, ◌∙◌, arith}
-use Rattle.std.specs.Prelude.{bytes_eq, filter, option_map, string_bytes, is_some, IfOk, OnOk, OnErr}
+use Rattle.std.proofs.Common.{◌≡◌, ℕ, ◌<◌, Bool, true, false, cond, not, List, [], ◌∷◌, ◌++◌, length, map, get_or, Option, Some, None, Result, Ok, Err, refl, sym, ap, subst, ◌∙◌}
+use Rattle.std.specs.Prelude.{bytes_eq, filter, string_bytes, is_some, IfOk, OnOk, OnErr}
 use Rattle.std.specs.Global.{Vec}
 use Rattle.std.specs.IoError.{error_kind}
 use Rattle.std.specs.declared.io.Error.{Error}
 use Rattle.std.specs.declared.io.ErrorKind.{ErrorKind}
 use Rattle.std.proofs.Math.ListN.{set}
-use Rattle.std.proofs.lemmas.List.{at_drop_more, at_drop_all, map-set, get_or-map, map_push}
+use Rattle.std.proofs.lemmas.List.{map-set, get_or-map, map_push}
 use Rattle.std.proofs.lemmas.Slice.Eq.{bytes_eq-Decides}
 use Rattle.host_port.specs.Act.{File, file_content, has_file, with_file}
 use Rattle.host_port.specs.Entries.{place_of}
@@ -16,42 +16,6 @@ use Rattle.folder_system.specs.declared.mem_folder.MemFile.{MemFile}
 use Rattle.folder_system.specs.declared.mem_folder.Call.{Call}
 use Rattle.folder_system.specs.Events.{Event, Tried, NamesSynced, Answer, answer_of, after, files_after_event, without}
 use Rattle.folder_system.specs.Memory.{file_of, files_of, event_of, told, Noted}
-
--- ---- the loop that looks
-
--- no file below i has the name
-abbrev pub Passed : List ℕ → List MemFile → ℕ → Type 0
-Passed name files i = place_of name (files_of files) ≡ option_map (λ j. i + j) (place_of name (files_of (drop i files)))
-
-same_place : (o : Option ℕ) → o ≡ option_map (λ j. 0 + j) o
-same_place None = refl
-same_place (Some j) = ap (λ (n : ℕ). Some n) (omega arith)
-
-one_on : (i : ℕ) (o : Option ℕ) → option_map (λ j. i + j) (option_map suc o) ≡ option_map (λ j. (i + 1) + j) o
-one_on i None = refl
-one_on i (Some j) = ap (λ (n : ℕ). Some n) (omega arith)
-
-looks_at : (name : List ℕ) (files : List MemFile) (i : ℕ) (f : MemFile) (b : Bool) → i < length files → f ≡ get_or files i f → b ≡ bytes_eq (string_bytes f.name) name
-    → place_of name (files_of (drop i files)) ≡ cond b (Some 0) (option_map suc (place_of name (files_of (drop (i + 1) files))))
-looks_at name files i f b lt is test =
-    at_drop_more (λ (fs : List MemFile). place_of name (files_of fs)) files i f lt
-    ∙ ap (λ (x : MemFile). cond (bytes_eq (string_bytes x.name) name) (Some 0) (option_map suc (place_of name (files_of (drop (i + 1) files))))) (sym is)
-    ∙ ap (λ (t : Bool). cond t (Some 0) (option_map suc (place_of name (files_of (drop (i + 1) files))))) (sym test)
-
-pub passed_none : (name : List ℕ) (files : List MemFile) → Passed name files 0
-passed_none name files = same_place (place_of name (files_of files))
-
-pub passed_more : (name : List ℕ) (files : List MemFile) (i : ℕ) (f : MemFile) (b : Bool) → i < length files → f ≡ get_or files i f → b ≡ bytes_eq (string_bytes f.name) name → b ≡ false → Passed name files i → Passed name files (i + 1)
-passed_more name files i f b lt is test fails so_far =
-    so_far ∙ ap (option_map (λ j. i + j)) (looks_at name files i f b lt is test ∙ ap (λ (t : Bool). cond t (Some 0) (option_map suc (place_of name (files_of (drop (i + 1) files))))) fails) ∙ one_on i (place_of name (files_of (drop (i + 1) files)))
-
-pub passed_found : (name : List ℕ) (files : List MemFile) (i : ℕ) (f : MemFile) (b : Bool) → i < length files → f ≡ get_or files i f → b ≡ bytes_eq (string_bytes f.name) name → b ≡ true → Passed name files i → Some i ≡ place_of name (files_of files)
-passed_found name files i f b lt is test holds so_far =
-    sym (so_far ∙ ap (option_map (λ j. i + j)) (looks_at name files i f b lt is test ∙ ap (λ (t : Bool). cond t (Some 0) (option_map suc (place_of name (files_of (drop (i + 1) files))))) holds) ∙ ap (λ (n : ℕ). Some n) (omega arith))
-
-pub passed_all : (name : List ℕ) (files : List MemFile) (i : ℕ) → length files ≤ i → Passed name files i → None ≡ place_of name (files_of files)
-passed_all name files i le so_far =
-    sym (so_far ∙ ap (option_map (λ j. i + j)) (at_drop_all (λ (fs : List MemFile). place_of name (files_of fs)) files i le))
 
 -- ---- the files
 

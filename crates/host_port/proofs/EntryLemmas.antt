@@ -1,5 +1,5 @@
 -- Looking a file up by its name.
-use Rattle.std.proofs.Common.{◌≡◌, ℕ, zero, suc, ◌+◌, ◌<◌, ◌≤◌, Bool, true, false, cond, List, [], ◌∷◌, ◌++◌, length, get_or, drop, Option, Some, None, Result, Ok, Err, ◌⊎◌, inl, inr, refl, sym, ap, subst, ◌∙◌, arith}
+use Rattle.std.proofs.Common.{◌≡◌, ℕ, zero, suc, ◌+◌, ◌<◌, ◌≤◌, Bool, true, false, cond, List, [], ◌∷◌, ◌++◌, length, map, get_or, drop, Option, Some, None, Result, Ok, Err, ◌⊎◌, inl, inr, refl, sym, ap, subst, ◌∙◌, arith}
 use Rattle.std.specs.Prelude.{bytes_eq, option_map, string_bytes, is_ok, OnOk, OnErr}
 use Rattle.std.proofs.Math.ListN.{set}
 use Rattle.std.proofs.lemmas.List.{at_drop_more, at_drop_all, length-map, map-set, get_or-map, map_push, length-drop}
@@ -12,10 +12,6 @@ use Rattle.host_port.specs.Entries.{file_of, files_of, place_of, bytes_at}
 
 -- ---- the loop that looks
 
--- no file below i has the name
-abbrev pub Passed : List ℕ → List Entry → ℕ → Type 0
-Passed name entries i = place_of name (files_of entries) ≡ option_map (λ j. i + j) (place_of name (files_of (drop i entries)))
-
 same_place : (o : Option ℕ) → o ≡ option_map (λ j. 0 + j) o
 same_place None = refl
 same_place (Some j) = ap (λ (n : ℕ). Some n) (omega arith)
@@ -24,27 +20,34 @@ one_on : (i : ℕ) (o : Option ℕ) → option_map (λ j. i + j) (option_map suc
 one_on i None = refl
 one_on i (Some j) = ap (λ (n : ℕ). Some n) (omega arith)
 
-looks_at : (name : List ℕ) (entries : List Entry) (i : ℕ) (e : Entry) (b : Bool) → i < length entries → e ≡ get_or entries i e → b ≡ bytes_eq (string_bytes e.name) name
-    → place_of name (files_of (drop i entries)) ≡ cond b (Some 0) (option_map suc (place_of name (files_of (drop (i + 1) entries))))
-looks_at name entries i e b lt is test =
-    at_drop_more (λ (es : List Entry). place_of name (files_of es)) entries i e lt
-    ∙ ap (λ (x : Entry). cond (bytes_eq (string_bytes x.name) name) (Some 0) (option_map suc (place_of name (files_of (drop (i + 1) entries))))) (sym is)
-    ∙ ap (λ (t : Bool). cond t (Some 0) (option_map suc (place_of name (files_of (drop (i + 1) entries))))) (sym test)
+-- through items, each of which is a file
+module _ {T : Type 0} (file : T → File) (name : List ℕ) (items : List T) where
+  -- the place of the name among those from i on
+  abbrev place_from : ℕ → Option ℕ
+  place_from i = place_of name (map file (drop i items))
 
-pub passed_none : (name : List ℕ) (entries : List Entry) → Passed name entries 0
-passed_none name entries = same_place (place_of name (files_of entries))
+  -- no file below i has the name
+  abbrev pub Passed : ℕ → Type 0
+  Passed i = place_of name (map file items) ≡ option_map (λ j. i + j) (place_from i)
 
-pub passed_more : (name : List ℕ) (entries : List Entry) (i : ℕ) (e : Entry) (b : Bool) → i < length entries → e ≡ get_or entries i e → b ≡ bytes_eq (string_bytes e.name) name → b ≡ false → Passed name entries i → Passed name entries (i + 1)
-passed_more name entries i e b lt is test fails so_far =
-    so_far ∙ ap (option_map (λ j. i + j)) (looks_at name entries i e b lt is test ∙ ap (λ (t : Bool). cond t (Some 0) (option_map suc (place_of name (files_of (drop (i + 1) entries))))) fails) ∙ one_on i (place_of name (files_of (drop (i + 1) entries)))
+  pub passed_none : Passed 0
+  passed_none = same_place (place_of name (map file items))
 
-pub passed_found : (name : List ℕ) (entries : List Entry) (i : ℕ) (e : Entry) (b : Bool) → i < length entries → e ≡ get_or entries i e → b ≡ bytes_eq (string_bytes e.name) name → b ≡ true → Passed name entries i → Some i ≡ place_of name (files_of entries)
-passed_found name entries i e b lt is test holds so_far =
-    sym (so_far ∙ ap (option_map (λ j. i + j)) (looks_at name entries i e b lt is test ∙ ap (λ (t : Bool). cond t (Some 0) (option_map suc (place_of name (files_of (drop (i + 1) entries))))) holds) ∙ ap (λ (n : ℕ). Some n) (omega arith))
+  pub passed_all : (i : ℕ) → length items ≤ i → Passed i → None ≡ place_of name (map file items)
+  passed_all i le so_far = sym (so_far ∙ ap (option_map (λ j. i + j)) (at_drop_all (λ (xs : List T). place_of name (map file xs)) items i le))
 
-pub passed_all : (name : List ℕ) (entries : List Entry) (i : ℕ) → length entries ≤ i → Passed name entries i → None ≡ place_of name (files_of entries)
-passed_all name entries i le so_far =
-    sym (so_far ∙ ap (option_map (λ j. i + j)) (at_drop_all (λ (es : List Entry). place_of name (files_of es)) entries i le))
+  module _ (i : ℕ) (x : T) (b : Bool) (lt : i < length items) (is : x ≡ get_or items i x) (test : b ≡ bytes_eq (file x).0 name) where
+    abbrev place_by : Bool → Option ℕ
+    place_by t = cond t (Some 0) (option_map suc (place_from (i + 1)))
+
+    looks_at : place_from i ≡ place_by b
+    looks_at = at_drop_more (λ (xs : List T). place_of name (map file xs)) items i x lt ∙ ap (λ (y : T). place_by (bytes_eq (file y).0 name)) (sym is) ∙ ap place_by (sym test)
+
+    pub passed_more : b ≡ false → Passed i → Passed (i + 1)
+    passed_more fails so_far = so_far ∙ ap (option_map (λ j. i + j)) (looks_at ∙ ap place_by fails) ∙ one_on i (place_from (i + 1))
+
+    pub passed_found : b ≡ true → Passed i → Some i ≡ place_of name (map file items)
+    passed_found holds so_far = sym (so_far ∙ ap (option_map (λ j. i + j)) (looks_at ∙ ap place_by holds) ∙ ap (λ (n : ℕ). Some n) (omega arith))
 
 -- ---- what a place says
 
