@@ -30,7 +30,8 @@ clear_flip : (a b : HistRange) → IsClear a b → IsClear b a
 clear_flip a b clear =
     (λ i. and_comm (ltb b.low a.high) (ltb a.low b.high) i && not ((eqb_flip b.low a.low i && eqb_flip b.high a.high i) && eqb_flip b.count a.count i)) ∙ clear
 
-same_unit : (old new : units.Unit) → unit_conflict (Some old) new ≡ None → old ≡ new
+-- units that don't conflict are the same
+pub same_unit : (old new : units.Unit) → unit_conflict (Some old) new ≡ None → old ≡ new
 same_unit old new none = by (eqb old.rate new.rate) (bytes_eq old.dim new.dim) (eqb old.«abbrev» new.«abbrev») refl refl refl none
   where
     by : (r d a : Bool) → eqb old.rate new.rate ≡ r → bytes_eq old.dim new.dim ≡ d → eqb old.«abbrev» new.«abbrev» ≡ a

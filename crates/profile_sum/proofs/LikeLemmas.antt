@@ -1,19 +1,17 @@
 -- Records that are alike among themselves, and whose contents have a sum, have no conflict one after the other.
-use Rattle.std.proofs.Common.{◌≡◌, ◌<◌, Bool, true, false, eqb, ◌&&◌, get_or, List, [], ◌∷◌, ◌++◌, length, map, filter_map, slice_get, option_and_then, Option, Some, None, unwrap_or, refl, sym, ap, subst, ◌∙◌, if◌then◌else◌}
-use Rattle.std.specs.Prelude.{not, ⊤}
+use Rattle.std.proofs.Common.{◌≡◌, ◌<◌, Bool, true, false, get_or, List, [], ◌∷◌, ◌++◌, length, map, filter_map, slice_get, option_and_then, Option, Some, None, unwrap_or, refl, sym, ap, subst, ◌∙◌, if◌then◌else◌}
+use Rattle.std.specs.Prelude.{⊤}
 use Rattle.std.specs.List.{All, AllByRecursion, cons_option}
 use Rattle.std.specs.Option.{option_or}
-use Rattle.std.specs.Str.{bytes_eq}
-use Rattle.std.proofs.lemmas.Bool.{lt-ltb, ltb-true, eqb-true}
+use Rattle.std.proofs.lemmas.Bool.{lt-ltb, ltb-true}
 use Rattle.std.proofs.lemmas.List.Elements.{All-contains, All-contains_itself, All-from_recursion, All-map, recursion_from_All}
-use Rattle.std.proofs.lemmas.Slice.Eq.{bytes_eq-Decides}
 use Rattle.gp_base.specs.declared.records.Unit as units
 use Rattle.gmon_data.specs.declared.hist.Hist.{Hist}
 use Rattle.gmon_data.specs.declared.hist.HistRange.{HistRange}
 use Rattle.gmon_data.specs.declared.refusal.Unlike.{Unlike}
-use Rattle.gmon_data.specs.declared.refusal.Unlike.TheVariants.{Dimension, Rate}
 use Rattle.gmon_data.specs.Hists.{put_hist, range_of, range_conflict, unit_conflict, conflict_with, kept_unit, has_counters, IsKept}
 use Rattle.gmon_data.specs.Content.{Content, WideRec, WideHist, WideArc, WideBlock, empty_content, content_of, hist_in, with_record, with_records, HasSpan, record_conflict, conflict_of, hist_conflict}
+use Rattle.gmon_data.proofs.ExchangeLemmas.{same_unit}
 use Rattle.gmon_data.proofs.ConflictLemmas.{after_put, alike_of, before_put, own_clear}
 use Rattle.gmon_data.proofs.HistLemmas.{all_kept, unit_twice}
 use Rattle.gmon_data.proofs.RangeLemmas.{ranges_of_content}
@@ -96,20 +94,6 @@ at_first : (p : Content) → AllByRecursion IsKept p.hists → IsBoth p empty_co
 at_first p kept = record { kept_q = tt; kept_c = kept; free = λ r of_p of_q. of_p; one = λ u of_p of_q. of_p; none = λ e. refl }
 
 -- ---- units
-
-same_unit : (old new : units.Unit) → unit_conflict (Some old) new ≡ None → old ≡ new
-same_unit old new none = by (eqb old.rate new.rate) (bytes_eq old.dim new.dim) (eqb old.«abbrev» new.«abbrev») refl refl refl none
-  where
-    by : (r d a : Bool) → eqb old.rate new.rate ≡ r → bytes_eq old.dim new.dim ≡ d → eqb old.«abbrev» new.«abbrev» ≡ a
-        → (if not r then Some (Rate old.rate new.rate) else (if not (d && a) then Some (Dimension old new) else None)) ≡ None → old ≡ new
-    by true true true r d a none =
-        let rate = eqb-true old.rate new.rate r in
-        let dim = (bytes_eq-Decides old.dim new.dim).0 d in
-        let short = eqb-true old.«abbrev» new.«abbrev» a in
-        λ i. record { rate = rate i; dim = dim i; «abbrev» = short i }
-    by true true false r d a none = absurd cc
-    by true false s r d a none = absurd cc
-    by false d s r e a none = absurd cc
 
 -- the first unit stays
 unit_stays : (recs : List WideRec) (c : Content) (u : units.Unit) → c.«unit» ≡ Some u → (with_records recs c).«unit» ≡ Some u
