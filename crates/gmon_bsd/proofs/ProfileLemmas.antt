@@ -1,5 +1,5 @@
 -- The profile of a run: that it is small enough, and that it is what the run's file gives.
-use Rattle.std.proofs.Common.{◌≡◌, ℕ, ◌+◌, ◌*◌, ◌^◌, ◌<◌, ◌≤◌, Bool, true, false, List, [], ◌∷◌, ◌++◌, length, map, sum, unwrap_or, Some, refl, sym, ap, subst, ◌∙◌, if◌then◌else◌, arith}
+use Rattle.std.proofs.Common.{◌≡◌, ℕ, ◌+◌, ◌*◌, ◌^◌, ◌<◌, ◌≤◌, Bool, true, false, List, [], ◌∷◌, length, map, sum, unwrap_or, Some, refl, sym, ap, subst, ◌∙◌, if◌then◌else◌, arith}
 use Rattle.std.specs.List.{All}
 use Rattle.std.proofs.lemmas.List.Elements.{All-head, All-tail}
 use Rattle.std.proofs.lemmas.List.Sums.{sum_by-cons}
@@ -8,7 +8,7 @@ use Rattle.gp_base.specs.declared.records.Records.{Records}
 use Rattle.gp_base.specs.declared.records.Unit as units
 use Rattle.gmon_data.specs.declared.hist.Hist.{Hist}
 use Rattle.gmon_data.specs.Hists.{has_counters, kept_unit, put_hist}
-use Rattle.gmon_data.specs.Content.{Content, WideRec, WideHist, IsWithin, content_of, empty_content, same_ends, wide_arc, wide_records, with_arc, with_hist}
+use Rattle.gmon_data.specs.Content.{Content, WideRec, WideHist, IsWithin, content_of, empty_content, same_ends, wide_arc, wide_records, with_arc, with_hist, with_records}
 use Rattle.gmon_data.proofs.BoundLemmas.{counters_at_most, tally_at_most}
 use Rattle.gmon_data.proofs.HistLemmas.{samples-put}
 use Rattle.gmon_data.proofs.RecordLemmas.{arcs_widened}
@@ -45,7 +45,7 @@ one_hist h u small few = by (has_counters h)
     by false = record { samples = omega arith; counters = omega arith; calls = omega arith; pairs = omega arith; runs = refl; addresses = refl }
 
 -- one arc more
-pub one_arc : (from to count : ℕ) (c : Content) (n : ℕ) → count < 2 ^ 32 → IsOfRun n c → IsOfRun (n + 1) (with_arc from to count c)
+one_arc : (from to count : ℕ) (c : Content) (n : ℕ) → count < 2 ^ 32 → IsOfRun n c → IsOfRun (n + 1) (with_arc from to count c)
 one_arc from to count c n few of = record {
   samples = of.samples;
   counters = of.counters;
@@ -54,6 +54,13 @@ one_arc from to count c n few of = record {
   runs = of.runs;
   addresses = of.addresses;
 }
+
+-- many arcs more
+pub many_arcs : (arcs : List RawArc) (c : Content) (n : ℕ) → All CallFits arcs → IsOfRun n c → IsOfRun (n + length arcs) (with_records (map wide_arc arcs) c)
+many_arcs [] c n fit of = subst (λ (m : ℕ). IsOfRun m c) (omega arith) of
+many_arcs (arc ∷ arcs) c n fit of =
+    let one = one_arc arc.from arc.to arc.count c n (All-head CallFits arc arcs fit).count of in
+    subst (λ (m : ℕ). IsOfRun m (with_records (map wide_arc arcs) (with_arc arc.from arc.to arc.count c))) (omega arith) (many_arcs arcs (with_arc arc.from arc.to arc.count c) (n + 1) (All-tail CallFits arc arcs fit) one)
 
 -- the arcs of a run are few
 pub within_bounds : (n : ℕ) (c : Content) → n ≤ 65535 → IsOfRun n c → IsWithin c
@@ -82,13 +89,3 @@ pub of_its_file : (v : GmonValue) (log : List LogEntry) (rate : ℕ) → AreSize
 of_its_file v log rate sizes small fits stands =
     let read = (run_read_back v.sizes log rate sizes small (subst (All CallFits) stands.arcs fits)).1 in
     of_what_is_logged v log rate stands ∙ ap (λ (r : Records). content_of (wide_records r.recs)) (sym read)
-
-last_fit : (done rest : List RawArc) → All CallFits (done ++ rest) → All CallFits rest
-last_fit [] rest fits = fits
-last_fit (a ∷ done) rest fits = last_fit done rest (All-tail CallFits a (done ++ rest) fits)
-
--- the next arc of a runtime fits
-pub arc_fits : (done rest left all given : List RawArc) (arc : RawArc) → done ++ rest ≡ all → rest ≡ arc ∷ left → given ≡ all → All CallFits given → arc.count < 2 ^ 32
-arc_fits done rest left all given arc whole next same fits =
-    let here = ap (λ (xs : List RawArc). done ++ xs) (sym next) ∙ whole ∙ sym same in
-    (All-head CallFits arc left (last_fit done (arc ∷ left) (subst (All CallFits) (sym here) fits))).count

@@ -11,7 +11,7 @@ ghost use Rattle.gp_base.specs.Fields.{seconds};
 ghost use Rattle.gmon_bsd.specs.Profile.{run_profile as run_content, runtime_hist, runtime_records, IsOfRun};
 
 use gmon_data::{AddRefusal, Hist, Profile};
-use gp_base::{Totals, Unit};
+use gp_base::{RawArc, Totals, Unit};
 use mcount_arcs::Gmon;
 use std::alloc::{AllocError, Global};
 
@@ -24,10 +24,23 @@ pub fn run_profile(alloc: Global, gmon: &Gmon, rate: u32) -> Result<Profile, All
     ensures fits { IfOk result (λ _. AreSizes gmon.now.sizes × All CallFits gmon.now.arcs) }
 {
     let mut profile = hist_profile(alloc, gmon, rate)?;
-    for arc in gmon.arcs() {
-        profile.add_calls(arc.from, arc.to, u64::from(arc.count))?;
-    }
+    let arcs = arcs_in(alloc, gmon)?;
+    profile.expect_records(&arcs, &[]);
+    profile.add_arcs(&arcs)?;
     Ok(profile)
+}
+
+/// The arcs of a run.
+fn arcs_in(alloc: Global, gmon: &Gmon) -> Result<Vec<RawArc>, AllocError>
+    ensures those { IfOk result (λ arcs. arcs.items ≡ gmon.now.arcs) }
+    ensures fits { All CallFits gmon.now.arcs }
+    ensures few { length gmon.now.arcs < gmon.now.sizes.tolimit }
+{
+    let mut arcs = Vec::new(alloc);
+    for arc in gmon.arcs() {
+        arcs.push(arc)?;
+    }
+    Ok(arcs)
 }
 
 /// The counters of a run.

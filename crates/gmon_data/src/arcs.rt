@@ -97,7 +97,7 @@ impl Arcs {
         requires { tally_total self.old < 2 ^ 64 }
         ensures { self.new ≡ self.old }
     {
-        if self.is_unused() && are_in_order(arcs) {
+        if arcs.is_empty() || (self.is_unused() && are_in_order(arcs)) {
             let _ = self.list.reserve(arcs.len());
             return;
         }
