@@ -29,9 +29,24 @@ abbrev pub rec_of : List HistFields → List ℕ → List RawBlock → Body → 
 rec_of fields counters pairs (body.Hist f start end) = Hist (hist_with (get_or fields f no_fields) (take (end - start) (drop start counters)))
 rec_of fields counters pairs (body.Blocks start end) = Blocks (take (end - start) (drop start pairs))
 
+-- as a reader holds it
+abbrev pub held_rec : State → Body → Rec
+held_rec s b = rec_of s.fields.items s.counters.cells.items s.pairs.cells.items b
+
+-- the arcs from the first one of an entry to below its last one
+abbrev pub arcs_before : List RawArc → Entry → List RawArc
+arcs_before arcs e = take (e.last - e.first) (drop e.first arcs)
+
+-- what stands where a list of entries has none
+abbrev pub no_entry : Entry
+no_entry = record { first = 0; last = 0; body = body.Hist 0 0 0 }
+
 -- arcs, and the record behind them
 abbrev pub entry_recs : List HistFields → List ℕ → List RawBlock → List RawArc → Entry → List Rec
-entry_recs fields counters pairs arcs e = map Arc (take (e.last - e.first) (drop e.first arcs)) ++ rec_of fields counters pairs e.body ∷ []
+entry_recs fields counters pairs arcs e = map Arc (arcs_before arcs e) ++ rec_of fields counters pairs e.body ∷ []
+
+abbrev pub held_recs : State → Entry → List Rec
+held_recs s = entry_recs s.fields.items s.counters.cells.items s.pairs.cells.items s.arcs.items
 
 -- the records of entries, and behind them the arcs from a number on
 abbrev pub recs_in : List HistFields → List ℕ → List RawBlock → List RawArc → List Entry → ℕ → List Rec
@@ -46,7 +61,7 @@ entries_recs fields counters pairs arcs entries = wide_records (flat_map (entry_
 
 -- each histogram's counters, if there are any, share a range that isn't empty
 abbrev pub HaveRanges : State → Type 0
-HaveRanges s = AllByRecursion (λ e. HasRange (rec_of s.fields.items s.counters.cells.items s.pairs.cells.items e.body)) s.entries.items
+HaveRanges s = AllByRecursion (λ e. HasRange (held_rec s e.body)) s.entries.items
 
 -- fields and a span lie within what there is
 abbrev pub IsBodyWithin : ℕ → ℕ → ℕ → Body → Type 0
@@ -56,9 +71,16 @@ IsBodyWithin fields counters pairs (body.Blocks start end) = (start ≤ end) × 
 abbrev pub IsWithin : ℕ → ℕ → ℕ → ℕ → Entry → Type 0
 IsWithin fields counters pairs arcs e = (e.first ≤ e.last) × (e.last ≤ arcs) × IsBodyWithin fields counters pairs e.body
 
--- those of all entries do
+-- within what a reader holds
+abbrev pub IsBodyHeld : State → Body → Type 0
+IsBodyHeld s = IsBodyWithin (length s.fields.items) (length s.counters.cells.items) (length s.pairs.cells.items)
+
+abbrev pub IsEntryHeld : State → Entry → Type 0
+IsEntryHeld s = IsWithin (length s.fields.items) (length s.counters.cells.items) (length s.pairs.cells.items) (length s.arcs.items)
+
+-- all entries are
 abbrev pub AreWithin : State → Type 0
-AreWithin s = AllByRecursion (IsWithin (length s.fields.items) (length s.counters.cells.items) (length s.pairs.cells.items) (length s.arcs.items)) s.entries.items
+AreWithin s = AllByRecursion (IsEntryHeld s) s.entries.items
 
 -- what was read can be added to a profile
 pub record CanBeAdded (s : State) (old : Content) : Type 0 where
