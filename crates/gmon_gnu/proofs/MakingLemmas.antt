@@ -3,7 +3,7 @@ use Rattle.std.proofs.Common.{◌≡◌, ℕ, ◌+◌, ◌-◌, ◌<◌, List, [
 use Rattle.std.specs.List.{AllByRecursion, flat_map}
 use Rattle.std.specs.List.Sorted.{IsPermutation}
 use Rattle.std.proofs.lemmas.Grind.{flat_map-append}
-use Rattle.std.proofs.lemmas.List.{append-nil, map-append}
+use Rattle.std.proofs.lemmas.List.{append-nil, map-append, take-append-drop}
 use Rattle.std.proofs.lemmas.List.Concat.{flat_map-cons}
 use Rattle.std.proofs.lemmas.List.Elements.{filter-append, filter_map-append, All-from_recursion, recursion_from_All}
 use Rattle.std.proofs.lemmas.List.Sorted.{All-permutation, IsPermutation-append_left, IsPermutation-map}
@@ -83,9 +83,23 @@ pub order_of : (entries : List Entry) (xs ys : List Placed) → IsPermutation xs
 order_of entries xs ys same is =
     subst (λ (l : List (Option Entry)). IsPermutation l (placed_entries entries ys)) is (IsPermutation-map (λ (p : Placed). slice_get entries p.entry) xs ys same)
 
-pub order_as : {entries entries' : List Entry} {order order' : List Placed} → entries ≡ entries' → order ≡ order' → IsOrderOf entries order' → IsOrderOf entries' order
+order_as : {entries entries' : List Entry} {order order' : List Placed} → entries ≡ entries' → order ≡ order' → IsOrderOf entries order' → IsOrderOf entries' order
 order_as {entries' = entries'} {order' = order'} entries_are order_is same =
     subst (λ (o : List Placed). IsOrderOf entries' o) (sym order_is) (subst (λ (es : List Entry). IsOrderOf es order') entries_are same)
+
+-- all entries in two parts, the histograms of the first ones in an order, and a content to which nothing was added
+pub record IsInParts (entries first later : List Entry) (order : List Placed) (start : Content) : Type 0 where
+  pub parts : first ++ later ≡ entries
+  pub same : IsOrderOf first order
+  pub empty : start ≡ empty_content
+
+pub in_parts : {entries slice first later : List Entry} {order listed : List Placed} {start : Content} (n : ℕ) → slice ≡ entries → first ≡ take n slice → later ≡ drop n slice
+    → order ≡ listed → IsOrderOf (take n slice) listed → start ≡ empty_content → IsInParts entries first later order start
+in_parts {slice = slice} n entries_are first_is later_is order_is same empty = record {
+  parts = (λ i. first_is i ++ later_is i) ∙ take-append-drop n slice ∙ entries_are;
+  same = order_as (sym first_is) order_is same;
+  empty = empty;
+}
 
 -- ---- histograms and other records among those that were read
 

@@ -7,7 +7,9 @@ use Rattle.gp_base.specs.declared.records.RawHist.{RawHist}
 use Rattle.gp_base.specs.declared.records.Rec.{Rec}
 use Rattle.gp_base.specs.declared.records.Rec.TheVariants.{Hist, Arc, Blocks}
 use Rattle.gp_base.specs.Spans.{HasRange}
-use Rattle.gmon_data.specs.Content.{Content, WideRec, wide_records, with_records, IsWithin as IsWithinLimits}
+use Rattle.gmon_data.specs.declared.refusal.AddRefusal.{AddRefusal}
+use Rattle.gmon_data.specs.Hists.{IsUnlike}
+use Rattle.gmon_data.specs.Content.{Content, WideRec, conflict_of, empty_content, wide_records, with_records, IsAdded, IsWithin as IsWithinLimits}
 use Rattle.gmon_gnu.specs.declared.state.HistFields.{HistFields}
 use Rattle.gmon_gnu.specs.declared.state.Entry.{Entry}
 use Rattle.gmon_gnu.specs.declared.state.Body.{Body}
@@ -89,6 +91,14 @@ pub record CanBeAdded (s : State) (old : Content) : Type 0 where
   pub ranges : HaveRanges s
   pub few : length s.entries.items < 2 ^ 32
   pub within : IsWithinLimits (with_records (wide_records (recs_of s)) old)
+
+-- a profile has them and nothing else
+abbrev pub IsProfileOf : State → Content → Type 0
+IsProfileOf s profile = IsAdded (wide_records (recs_of s)) empty_content profile
+
+-- it tells the first conflict among them, or want of memory
+abbrev pub IsConflictOf : State → AddRefusal → Type 0
+IsConflictOf s refusal = IsUnlike refusal (conflict_of empty_content (wide_records (recs_of s)))
 
 abbrev pub open_of : Part → List ℕ → List RawBlock → Open
 open_of part.Header counters pairs = InHeader

@@ -7,7 +7,7 @@ ghost use Rattle.gmon_data.specs.Content.{empty_content, conflict_of, wide_recor
 ghost use Rattle.gmon_data.specs.Hists.{IsUnlike};
 ghost use Rattle.gmon_data.specs.declared.refusal.AddRefusal.TheVariants.{Unlike};
 ghost use Rattle.gmon_gnu.specs.FirstHists.{conflict_among_first};
-ghost use Rattle.gmon_gnu.specs.Held.{arcs_before, held_rec, recs_of, AreWithin, CanBeAdded, HaveRanges, IsBodyHeld, IsEntryHeld};
+ghost use Rattle.gmon_gnu.specs.Held.{arcs_before, held_rec, recs_of, AreWithin, CanBeAdded, HaveRanges, IsBodyHeld, IsConflictOf, IsEntryHeld, IsProfileOf};
 ghost use Rattle.gmon_gnu.specs.Making.{block_recs, hist_recs, later_recs, other_recs, behind_recs, IsPlacedIn, place_of, placed_recs, IsOrderOf, placed_entries, hists_among};
 
 use crate::first_hists::{conflict_among_first, counted_hist, hist_of};
@@ -32,10 +32,8 @@ impl State {
     /// never want of memory where it is among the first histograms.
     pub(crate) fn into_profile(&self, alloc: Global) -> Result<Profile, AddRefusal>
         requires { CanBeAdded self.now empty_content }
-        ensures made { IfOk result (λ profile. IsAdded
-            (wide_records (recs_of self.now)) empty_content profile) }
-        ensures refusal { IfErr result (λ refusal. IsUnlike refusal
-            (conflict_of empty_content (wide_records (recs_of self.now)))) }
+        ensures made { IfOk result (IsProfileOf self.now) }
+        ensures refusal { IfErr result (IsConflictOf self.now) }
         ensures told { IfSome (conflict_among_first 64 (wide_records (recs_of self.now)))
             (λ unlike. result ≡ Err (Unlike unlike)) }
     {
@@ -50,8 +48,7 @@ impl State {
     fn refusal_without_memory(&self) -> AddRefusal
         requires held { AreWithin self.now }
         requires ranges { HaveRanges self.now }
-        ensures refusal { IsUnlike result
-            (conflict_of empty_content (wide_records (recs_of self.now))) }
+        ensures refusal { IsConflictOf self.now result }
         ensures told { IfSome (conflict_among_first 64 (wide_records (recs_of self.now)))
             (λ unlike. result ≡ Unlike unlike) }
     {
@@ -68,10 +65,8 @@ impl State {
     /// the first one of the file that can't is told.
     fn in_address_order(&self, alloc: Global) -> Result<Profile, AddRefusal>
         requires { CanBeAdded self.now empty_content }
-        ensures made { IfOk result (λ profile. IsAdded
-            (wide_records (recs_of self.now)) empty_content profile) }
-        ensures refusal { IfErr result (λ refusal. IsUnlike refusal
-            (conflict_of empty_content (wide_records (recs_of self.now)))) }
+        ensures made { IfOk result (IsProfileOf self.now) }
+        ensures refusal { IfErr result (IsConflictOf self.now) }
     {
         let entries = self.entries.as_slice();
         let (alike, order) = alike_in_order(alloc, self.fields.as_slice(), entries)?;
@@ -91,10 +86,8 @@ impl State {
     /// The profile of the records, added in the order of the file.
     fn in_file_order(&self, alloc: Global) -> Result<Profile, AddRefusal>
         requires { CanBeAdded self.now empty_content }
-        ensures made { IfOk result (λ profile. IsAdded
-            (wide_records (recs_of self.now)) empty_content profile) }
-        ensures refusal { IfErr result (λ refusal. IsUnlike refusal
-            (conflict_of empty_content (wide_records (recs_of self.now)))) }
+        ensures made { IfOk result (IsProfileOf self.now) }
+        ensures refusal { IfErr result (IsConflictOf self.now) }
     {
         let mut profile = Profile::new(alloc);
         self.add_to(&mut profile)?;
