@@ -1,6 +1,7 @@
 -- A text is cut into cells one by one, and however it is divided.
 use Rattle.std.proofs.Common.{◌≡◌, ℕ, zero, suc, ◌+◌, ◌-◌, ◌*◌, ◌/◌, ◌%◌, ◌<◌, ◌≤◌, List, [], ◌∷◌, ◌++◌, length, take, drop, length-take, length-drop, length-append, refl, sym, ap, ◌∙◌, append_assoc, arith}
-use Rattle.std.proofs.lemmas.Nat.{div-add-mod', div-mul-add, mod_below}
+use Rattle.std.proofs.Math.Nat.{div-mul-le_self}
+use Rattle.std.proofs.lemmas.Nat.{div-add-mod', div-mul-add, le-div, mod_below}
 use Rattle.std.proofs.lemmas.List.{take_at, drop_at, take_all, take-append-drop, drop-drop}
 use Rattle.gp_base.specs.Bytes.{items_of_text, IsBytes}
 use Rattle.gp_base.proofs.LittleEndian.{IsBytes-rest}
@@ -189,3 +190,15 @@ pub IsBytes-append : (bs more : List ℕ) → IsBytes bs → IsBytes more → Is
 IsBytes-append [] more h m i = m i
 IsBytes-append (b ∷ bs) more h m zero = h 0
 IsBytes-append (b ∷ bs) more h m (suc i) = IsBytes-append bs more (IsBytes-rest b bs h) m i
+
+-- ---- the cells that came whole, and those that the rest of a piece makes whole
+
+torn_left : (w : ℕ) (bs : List ℕ) → length bs / w * w + length (torn_of w bs) ≡ length bs
+torn_left w bs = omega (arith, length-drop (length bs / w * w) bs, div-mul-le_self (length bs) w)
+
+pub room_left : (w n : ℕ) (torn mine torn1 : List ℕ) → 0 < w → torn1 ≡ torn_of w (torn ++ mine) → (length torn + length mine) / w + (length torn1 + n) / w ≤ (length torn + (length mine + n)) / w
+room_left w n torn mine torn1 some is =
+    let came = length torn + length mine in
+    let long : length (torn ++ mine) ≡ came = length-append torn mine in
+    let split : came / w * w + length torn1 ≡ came = (λ i. sym long i / w * w + length (is i)) ∙ torn_left w (torn ++ mine) ∙ long in
+    le-div (came / w + (length torn1 + n) / w) (length torn + (length mine + n)) w some (omega (arith, div-mul-le_self (length torn1 + n) w, split))

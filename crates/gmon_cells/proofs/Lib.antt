@@ -1,3 +1,4 @@
 pub mod CellLemmas
 pub mod RefusalLemmas
 pub mod LogFitLemmas
+pub mod PuttingLemmas

@@ -1,6 +1,6 @@
 //! A column of cells.
 
-ghost use Rattle.std.specs.Prelude.{◌≡◌, ℕ, List, [], ◌+◌, ◌/◌, ◌<◌, ◌≤◌, ◌++◌, ◌^◌, length, vec_len, vec_capacity, OnOk, OnErr};
+ghost use Rattle.std.specs.Prelude.{◌≡◌, ℕ, List, [], ◌+◌, ◌-◌, ◌*◌, ◌/◌, ◌<◌, ◌≤◌, ◌++◌, ◌^◌, length, take, drop, vec_len, vec_capacity, OnOk, OnErr};
 ghost use Rattle.gmon_cells.specs.Cells.{cells_of, torn_of, StandsFor};
 
 use crate::cell::Cell;
@@ -67,6 +67,36 @@ impl<T: Cell + Drop> Column<T> {
         }
         rest = push_whole(&mut self.cells, rest);
         self.torn.put(rest);
+    }
+
+    /// Takes from the front of a piece what is due of `left` cells, the first of which may have come in part. How many
+    /// of them came whole with it, and the rest of the piece. There needs to be room for what the piece makes whole.
+    pub fn feed_due<'p>(&mut self, left: u32, piece: &'p [u8]) -> (u32, &'p [u8])
+        requires some { 0 < left }
+        requires torn { length self.old.torn < T.width }
+        requires room { vec_len self.old.cells + (length self.old.torn + length piece.now) / T.width
+            ≤ vec_capacity self.old.cells }
+        ensures cells { self.new.cells.items ≡ self.old.cells.items ++ cells_of T.width T.cell
+            (self.old.torn ++ take (left * T.width - length self.old.torn) piece.now) }
+        ensures torn { self.new.torn ≡ torn_of T.width
+            (self.old.torn ++ take (left * T.width - length self.old.torn) piece.now) }
+        ensures rest { result.1.now ≡ drop (left * T.width - length self.old.torn) piece.now }
+        ensures came { result.0 ≡ (length self.old.torn
+            + length (take (left * T.width - length self.old.torn) piece.now)) / T.width }
+        ensures few { result.0 ≤ left }
+        ensures less { 0 < length piece.now → length result.1.now < length piece.now }
+        ensures short { length self.new.torn < T.width }
+        ensures room { vec_len self.new.cells + (length self.new.torn + length result.1.now) / T.width
+            ≤ vec_capacity self.new.cells }
+        ensures fewer { vec_len self.new.cells + length self.new.torn + length result.1.now
+            ≤ vec_len self.old.cells + length self.old.torn + length piece.now }
+    {
+        let width = T::width();
+        let due = left as usize * width - self.torn.len();
+        let (mine, rest) = piece.split_at(due.min(piece.len()));
+        let came = (self.torn.len() + mine.len()) / width;
+        self.feed(mine);
+        (came as u32, rest)
     }
 }
 

@@ -1,6 +1,6 @@
 -- The file of a run whose executed instructions were counted spells what was counted.
-use Rattle.std.proofs.Common.{◌≡◌, ℕ, zero, suc, ◌+◌, ◌*◌, ◌^◌, ◌<◌, ◌≤◌, Bool, true, false, eqb, List, [], ◌∷◌, ◌++◌, length, slice_index, filter_map, Option, Some, None, refl, sym, ap, ◌∙◌, append_assoc, if◌then◌else◌, arith}
-use Rattle.std.specs.List.{AllByRecursion, flat_map, range_with_len}
+use Rattle.std.proofs.Common.{◌≡◌, ℕ, zero, suc, ◌+◌, ◌*◌, ◌^◌, ◌<◌, ◌≤◌, Bool, true, false, eqb, List, [], ◌∷◌, ◌++◌, length, slice_index, filter_map, Some, None, refl, sym, ap, ◌∙◌, append_assoc, if◌then◌else◌, arith}
+use Rattle.std.specs.List.{AllByRecursion, cons_option, flat_map, range_with_len}
 use Rattle.std.proofs.lemmas.List.{append-nil}
 use Rattle.std.proofs.lemmas.List.Concat.{flat_map-append}
 use Rattle.std.proofs.lemmas.List.FromFn.{length-range_with_len}
@@ -46,18 +46,14 @@ one_text [] = refl
 one_text (b ∷ bs) = sym (append-nil (record_of (b ∷ bs)))
 
 module _ (low : ℕ) (counts : List ℕ) (fit : CountsFit low counts) where
+  abbrev block : ℕ → RawBlock
+  block i = record { addr = low + 4 * i; count = slice_index counts i }
+
   each_fits : (a n : ℕ) → a + n ≤ length counts → AllByRecursion BlockFits (filter_map (block_at low counts) (range_with_len a n))
   each_fits a zero within = tt
   each_fits a (suc n) within = by (eqb (slice_index counts a) 0) (each_fits (a + 1) n (omega arith))
     where
-      this : RawBlock
-      this = record { addr = low + 4 * a; count = slice_index counts a }
-
-      first_to : Option RawBlock → List RawBlock → List RawBlock
-      first_to (Some b) bs = b ∷ bs
-      first_to None bs = bs
-
-      by : (b : Bool) → AllByRecursion BlockFits (filter_map (block_at low counts) (range_with_len (a + 1) n)) → AllByRecursion BlockFits (first_to (if b then None else Some this) (filter_map (block_at low counts) (range_with_len (a + 1) n)))
+      by : (b : Bool) → AllByRecursion BlockFits (filter_map (block_at low counts) (range_with_len (a + 1) n)) → AllByRecursion BlockFits (cons_option (if b then None else Some (block a)) (filter_map (block_at low counts) (range_with_len (a + 1) n)))
       by true others = others
       by false others = (record { addr = fit.addresses a (omega arith); count = fit.four_bytes a }, others)
 
@@ -65,14 +61,7 @@ module _ (low : ℕ) (counts : List ℕ) (fit : CountsFit low counts) where
   fewer [] = omega arith
   fewer (i ∷ is) = by (eqb (slice_index counts i) 0) (fewer is)
     where
-      this : RawBlock
-      this = record { addr = low + 4 * i; count = slice_index counts i }
-
-      first_to : Option RawBlock → List RawBlock → List RawBlock
-      first_to (Some b) bs = b ∷ bs
-      first_to None bs = bs
-
-      by : (b : Bool) → length (filter_map (block_at low counts) is) ≤ length is → length (first_to (if b then None else Some this) (filter_map (block_at low counts) is)) ≤ suc (length is)
+      by : (b : Bool) → length (filter_map (block_at low counts) is) ≤ length is → length (cons_option (if b then None else Some (block i)) (filter_map (block_at low counts) is)) ≤ suc (length is)
       by true few = omega (arith, few)
       by false few = omega (arith, few)
 

@@ -3,7 +3,7 @@ use Rattle.std.proofs.Common.{◌≡◌, ℕ, ◌+◌, ◌-◌, ◌<◌, List, [
 use Rattle.std.specs.List.{AllByRecursion, flat_map}
 use Rattle.std.specs.List.Sorted.{IsPermutation}
 use Rattle.std.proofs.lemmas.Grind.{flat_map-append}
-use Rattle.std.proofs.lemmas.List.{append-nil, map-append}
+use Rattle.std.proofs.lemmas.List.{append-nil, map-append, take-append-drop}
 use Rattle.std.proofs.lemmas.List.Concat.{flat_map-cons}
 use Rattle.std.proofs.lemmas.List.Elements.{filter-append, filter_map-append, All-from_recursion, recursion_from_All}
 use Rattle.std.proofs.lemmas.List.Sorted.{All-permutation, IsPermutation-append_left, IsPermutation-map}
@@ -28,7 +28,8 @@ use Rattle.gmon_gnu.specs.declared.state.Body.{Body}
 use Rattle.gmon_gnu.specs.declared.state.Body.TheVariants as body
 use Rattle.gmon_gnu.specs.declared.state.Entry.{Entry}
 use Rattle.gmon_gnu.specs.declared.state.HistFields.{HistFields}
-use Rattle.gmon_gnu.specs.Held.{IsBodyWithin, IsWithin as IsEntryWithin, entry_recs, entries_recs, no_fields, rec_of, recs_in}
+use Rattle.gmon_gnu.specs.declared.state.State.{State}
+use Rattle.gmon_gnu.specs.Held.{IsBodyWithin, IsWithin as IsEntryWithin, entry_recs, entries_recs, held_rec, no_entry, no_fields, rec_of, recs_in}
 use Rattle.gmon_gnu.specs.Making.{IsPlacedIn, IsOrderOf, block_recs, body_recs, hist_recs, hists_among, is_hist, later_recs, other_recs, place_of, placed_entries, placed_recs}
 use Rattle.gmon_gnu.proofs.AddingLemmas.{all_widened, entry_widened, rest_of_slice}
 
@@ -82,18 +83,23 @@ pub order_of : (entries : List Entry) (xs ys : List Placed) → IsPermutation xs
 order_of entries xs ys same is =
     subst (λ (l : List (Option Entry)). IsPermutation l (placed_entries entries ys)) is (IsPermutation-map (λ (p : Placed). slice_get entries p.entry) xs ys same)
 
-pub order_as : {entries entries' : List Entry} {order order' : List Placed} → entries ≡ entries' → order ≡ order' → IsOrderOf entries order' → IsOrderOf entries' order
+order_as : {entries entries' : List Entry} {order order' : List Placed} → entries ≡ entries' → order ≡ order' → IsOrderOf entries order' → IsOrderOf entries' order
 order_as {entries' = entries'} {order' = order'} entries_are order_is same =
     subst (λ (o : List Placed). IsOrderOf entries' o) (sym order_is) (subst (λ (es : List Entry). IsOrderOf es order') entries_are same)
 
--- ---- what the entries with these numbers stand for
+-- all entries in two parts, the histograms of the first ones in an order, and a content to which nothing was added
+pub record IsInParts (entries first later : List Entry) (order : List Placed) (start : Content) : Type 0 where
+  pub parts : first ++ later ≡ entries
+  pub same : IsOrderOf first order
+  pub empty : start ≡ empty_content
 
-module _ (fields : List HistFields) (counters : List ℕ) (pairs : List RawBlock) (entries : List Entry) where
-  pub placed_in_turn : IsInTurn Placed (λ p. body_recs fields counters pairs (slice_get entries p.entry)) (placed_recs fields counters pairs entries)
-  placed_in_turn = record { none = refl; more = λ p order. flat_map-cons (body_recs fields counters pairs) (slice_get entries p.entry) (placed_entries entries order) }
-
-  pub placed_body : (p : Placed) (none : Entry) → p.entry < length entries → body_recs fields counters pairs (slice_get entries p.entry) ≡ wide_record (rec_of fields counters pairs (get_or entries p.entry none).body)
-  placed_body p none inside = ap (body_recs fields counters pairs) (slice_get-get_or entries p.entry none inside)
+pub in_parts : {entries slice first later : List Entry} {order listed : List Placed} {start : Content} (n : ℕ) → slice ≡ entries → first ≡ take n slice → later ≡ drop n slice
+    → order ≡ listed → IsOrderOf (take n slice) listed → start ≡ empty_content → IsInParts entries first later order start
+in_parts {slice = slice} n entries_are first_is later_is order_is same empty = record {
+  parts = (λ i. first_is i ++ later_is i) ∙ take-append-drop n slice ∙ entries_are;
+  same = order_as (sym first_is) order_is same;
+  empty = empty;
+}
 
 -- ---- histograms and other records among those that were read
 
@@ -351,5 +357,15 @@ module _ (fields : List HistFields) (counters : List ℕ) (pairs : List RawBlock
               added_both later_hist_recs (other_entry_recs ++ arcs_last) old mid one new
               (added_both other_entry_recs arcs_last mid next two new (arcs_added (rest_of_slice slice arcs run slice_is) next new is))
 
-  pub later_in_turn : IsInTurn Entry (λ e. hist_recs fields counters pairs e.body) (later_recs fields counters pairs)
-  later_in_turn = joined (λ (e : Entry). hist_recs fields counters pairs e.body)
+-- ---- what a reader holds
+
+pub later_in_turn : (s : State) → IsInTurn Entry (λ e. hist_recs s.fields.items s.counters.cells.items s.pairs.cells.items e.body) (later_recs s.fields.items s.counters.cells.items s.pairs.cells.items)
+later_in_turn s = joined (λ (e : Entry). hist_recs s.fields.items s.counters.cells.items s.pairs.cells.items e.body)
+
+-- what the entries with these numbers stand for
+module _ (s : State) (entries : List Entry) where
+  pub placed_in_turn : IsInTurn Placed (λ p. body_recs s.fields.items s.counters.cells.items s.pairs.cells.items (slice_get entries p.entry)) (placed_recs s.fields.items s.counters.cells.items s.pairs.cells.items entries)
+  placed_in_turn = record { none = refl; more = λ p order. flat_map-cons (body_recs s.fields.items s.counters.cells.items s.pairs.cells.items) (slice_get entries p.entry) (placed_entries entries order) }
+
+  pub placed_body : (p : Placed) → p.entry < length entries → body_recs s.fields.items s.counters.cells.items s.pairs.cells.items (slice_get entries p.entry) ≡ wide_record (held_rec s (get_or entries p.entry no_entry).body)
+  placed_body p inside = ap (body_recs s.fields.items s.counters.cells.items s.pairs.cells.items) (slice_get-get_or entries p.entry no_entry inside)

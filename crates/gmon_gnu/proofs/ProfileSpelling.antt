@@ -6,11 +6,11 @@ use Rattle.gp_base.specs.declared.records.Unit as units
 use Rattle.gmon_data.specs.declared.hist.Hist.{Hist}
 use Rattle.gmon_data.specs.Hists.{IsKept}
 use Rattle.gp_base.specs.Fields.{CounterFits, BlockFits}
-use Rattle.gmon_gnu.specs.Fields.{magic, spare_bytes}
 use Rattle.gmon_gnu.specs.Grammar.{RecFits}
 use Rattle.gmon_gnu.specs.Splitting.{piece, pieces_of, most_samples, most_calls, largest, each_piece, hist_piece, hist_pieces, arc_piece, arc_pieces, piece_left, round_of, rounds_of, hist_rec, hist_recs, arc_rec, raw_block, blocks_rec}
 use Rattle.gmon_data.specs.Content.{HistNumbersFit, PairFits, AddressFits, UnitFits}
 use Rattle.gmon_gnu.specs.ProfileText.{profile_text, ProfilesAreSpelled}
+use Rattle.gmon_gnu.proofs.SpellingLemmas.{written_spells}
 
 pub all_append : {X : Type 0} (P : X → Type 0) (xs ys : List X) → AllByRecursion P xs → AllByRecursion P ys → AllByRecursion P (xs ++ ys)
 all_append P [] ys a b = b
@@ -90,14 +90,5 @@ profile_spelled p is =
     let hists = hist_recs p.«unit» p.hists in
     let arcs = map arc_rec (flat_map arc_pieces p.arcs) in
     let rounds = map blocks_rec (rounds_of p.blocks) in
-    record {
-      first = magic;
-      spare = spare_bytes;
-      form = refl;
-      text = refl;
-      first_fits = refl;
-      spare_fits = refl;
-      recs_fit = all_append RecFits hists (arcs ++ rounds)
-          (hists_written p.hists p.«unit» fit.«unit» is.hists fit.hists)
-          (all_append RecFits arcs rounds (arcs_fit p.arcs fit.arcs) (blocks_fit p.blocks fit.blocks few));
-    }
+    written_spells (hists ++ (arcs ++ rounds))
+    (all_append RecFits hists (arcs ++ rounds) (hists_written p.hists p.«unit» fit.«unit» is.hists fit.hists) (all_append RecFits arcs rounds (arcs_fit p.arcs fit.arcs) (blocks_fit p.blocks fit.blocks few)))

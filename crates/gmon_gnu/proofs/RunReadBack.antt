@@ -8,10 +8,9 @@ use Rattle.mcount_arcs.proofs.BucketLemmas.{length-buckets_of}
 use Rattle.mcount_arcs.proofs.SizeLemmas.{some_text}
 use Rattle.gmon_cells.proofs.LogFitLemmas.{counters_fit, arcs_fit}
 use Rattle.gp_base.specs.Fields.{ArcFits}
-use Rattle.gmon_gnu.specs.Fields.{magic, spare_bytes}
 use Rattle.gmon_gnu.specs.Grammar.{RecFits}
 use Rattle.gmon_gnu.specs.Run.{gnu_run_text, RunsAreSpelled, RunsAreReadBack}
-use Rattle.gmon_gnu.proofs.SpellingLemmas.{accepted_where_spelled, only_where_spelled}
+use Rattle.gmon_gnu.proofs.SpellingLemmas.{accepted_where_spelled, only_where_spelled, written_spells}
 
 recs_fit : (arcs : List RawArc) → AllByRecursion ArcFits arcs → AllByRecursion RecFits (map Arc arcs)
 recs_fit [] fit = tt
@@ -19,26 +18,18 @@ recs_fit (arc ∷ arcs) fit = (fit.0, recs_fit arcs fit.1)
 
 pub run_spelled : RunsAreSpelled
 unfolding gnu_run_text
-run_spelled z log rate sizes rate_fits calls = record {
-  first = magic;
-  spare = spare_bytes;
-  form = refl;
-  text = refl;
-  first_fits = refl;
-  spare_fits = refl;
-  recs_fit = (
-    record {
-      low = omega (arith, some_text z sizes, sizes.end);
-      high = omega (arith, sizes.end);
-      number = omega (arith, length-buckets_of z log, sizes.few_counters);
-      rate = rate_fits;
-      dim = refl;
-      counters = counters_fit z log;
-      range = λ some. some_text z sizes;
-    },
-    recs_fit (arcs_of z log) (arcs_fit z log sizes calls),
-  );
-}
+run_spelled z log rate sizes rate_fits calls = written_spells _ (
+  record {
+    low = omega (arith, some_text z sizes, sizes.end);
+    high = omega (arith, sizes.end);
+    number = omega (arith, length-buckets_of z log, sizes.few_counters);
+    rate = rate_fits;
+    dim = refl;
+    counters = counters_fit z log;
+    range = λ some. some_text z sizes;
+  },
+  recs_fit (arcs_of z log) (arcs_fit z log sizes calls),
+)
 
 pub run_read_back : RunsAreReadBack
 run_read_back z log rate sizes rate_fits calls =

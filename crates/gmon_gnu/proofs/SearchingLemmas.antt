@@ -1,10 +1,11 @@
 -- The first conflict among the first histograms is found where each is compared with all before it.
-use Rattle.std.proofs.Common.{◌≡◌, ℕ, zero, suc, ◌-◌, ◌<◌, ◌≤◌, Bool, true, false, ltb, eqb, not, ◌&&◌, List, [], ◌∷◌, ◌++◌, length, map, take, drop, get_or, length-take, length-drop, Option, Some, None, if◌then◌else◌, refl, sym, ap, subst, ◌∙◌, arith}
+use Rattle.std.proofs.Common.{◌≡◌, ℕ, zero, suc, ◌+◌, ◌-◌, ◌<◌, ◌≤◌, Bool, true, false, ltb, eqb, not, ◌&&◌, List, [], ◌∷◌, ◌++◌, length, map, take, drop, get_or, length-take, length-drop, Option, Some, None, if◌then◌else◌, refl, sym, ap, subst, ◌∙◌, arith}
 use Rattle.std.specs.Prelude.{nat_lt, filter_map, unwrap_or}
 use Rattle.std.specs.List.{AllByRecursion, cons_option, filter}
 use Rattle.std.specs.Option.{option_or}
 use Rattle.std.proofs.lemmas.Bool.{eqb-true, eq-eqb, le-ltb, lt-ltb, ltb-false, ltb-true}
-use Rattle.std.proofs.lemmas.List.{append-nil}
+use Rattle.std.proofs.lemmas.List.{append-nil, take_more}
+use Rattle.std.proofs.lemmas.Option.{slice_get-get_or}
 use Rattle.std.proofs.lemmas.List.Elements.{filter_map-append}
 use Rattle.gp_base.specs.declared.records.RawArc.{RawArc}
 use Rattle.gp_base.specs.declared.records.RawBlock.{RawBlock}
@@ -15,13 +16,14 @@ use Rattle.gmon_data.specs.declared.refusal.Unlike.{Unlike}
 use Rattle.gmon_data.specs.declared.refusal.Unlike.TheVariants.{Range}
 use Rattle.gmon_data.specs.Content.{Content, HasSpan, WideRec, WideHist, WideArc, WideBlock, conflict_of, empty_content, wide_arc, wide_block, wide_record, wide_records}
 use Rattle.gmon_data.specs.Hists.{has_counters, hist_sum, kept_unit, overlap, put_hist, range_conflict, range_of, same_range, unit_conflict, IsApart, IsKept}
+use Rattle.gmon_data.proofs.RecordLemmas.{cut_at}
 use Rattle.gmon_data.proofs.HistLemmas.{all_kept, apart_put, first_none, none_of, one_range, range-sum}
 use Rattle.gmon_gnu.specs.declared.state.Body.{Body}
 use Rattle.gmon_gnu.specs.declared.state.Body.TheVariants as body
 use Rattle.gmon_gnu.specs.declared.state.Entry.{Entry}
 use Rattle.gmon_gnu.specs.declared.state.HistFields.{HistFields}
 use Rattle.gmon_gnu.specs.FirstHists.{conflict_among_first, is_counted}
-use Rattle.gmon_gnu.specs.Held.{IsBodyWithin, IsWithin, entries_recs, no_fields, rec_of, recs_in}
+use Rattle.gmon_gnu.specs.Held.{IsBodyWithin, IsWithin, entries_recs, no_entry, no_fields, rec_of, recs_in}
 use Rattle.gmon_gnu.specs.Searching.{counted_hist, counted_hists, first_unit, left_behind, lower_one, lower_unlike, lower_where_counted, lowest_unlike, range_unlike, unlike_among, unlike_before, unlike_where_counted}
 use Rattle.gmon_gnu.proofs.AddingLemmas.{all_widened}
 use Rattle.gmon_gnu.proofs.FirstHistsLemmas.{conflict_where, put_where}
@@ -242,14 +244,38 @@ pub none_left : (before ps : List Pair) → unlike_among before ps 0 ≡ None
 none_left before [] = refl
 none_left before (p ∷ ps) = refl
 
-pub next_among : (o : Option Pair) (before ps : List Pair) (left : ℕ) → 0 < left → unlike_where_counted before o ≡ None → unlike_among before (cons_option o ps) left ≡ unlike_among (before ++ cons_option o []) ps (left_behind left o)
+next_among : (o : Option Pair) (before ps : List Pair) (left : ℕ) → 0 < left → unlike_where_counted before o ≡ None → unlike_among before (cons_option o ps) left ≡ unlike_among (before ++ cons_option o []) ps (left_behind left o)
 next_among None before ps left some none = ap (λ (l : List Pair). unlike_among l ps left) (sym (append-nil before))
 next_among (Some p) before ps zero some none = absurd (omega (arith, some))
 next_among (Some p) before ps (suc n) some none =
     let left : n ≡ suc n - 1 = omega arith in
     ap (λ (o : Option Unlike). option_or o (unlike_among (before ++ p ∷ []) ps n)) none ∙ ap (λ (m : ℕ). unlike_among (before ++ p ∷ []) ps m) left
 
-pub found_next : (o : Option Pair) (before ps : List Pair) (left : ℕ) (u : Unlike) → 0 < left → unlike_where_counted before o ≡ Some u → unlike_among before (cons_option o ps) left ≡ Some u
+found_next : (o : Option Pair) (before ps : List Pair) (left : ℕ) (u : Unlike) → 0 < left → unlike_where_counted before o ≡ Some u → unlike_among before (cons_option o ps) left ≡ Some u
 found_next None before ps left u some is = absurd (let none : None ≡ Some u = is in cc)
 found_next (Some p) before ps zero u some is = absurd (omega (arith, some))
 found_next (Some p) before ps (suc n) u some is = ap (λ (o : Option Unlike). option_or o (unlike_among (before ++ p ∷ []) ps n)) is
+
+-- ---- the next entry is looked at
+
+module _ (fields : List HistFields) (entries : List Entry) (i left : ℕ) (within : i < length entries) (some : 0 < left) where
+  abbrev here : Option Pair
+  here = counted_hist fields (get_or entries i no_entry).body
+
+  abbrev before : List Pair
+  before = counted_hists fields (take i entries)
+
+  abbrev behind : List Pair
+  behind = counted_hists fields (drop (i + 1) entries)
+
+  looked_at : unlike_among before (counted_hists fields (drop i entries)) left ≡ unlike_among before (cons_option here behind) left
+  looked_at = ap (λ (es : List Entry). unlike_among before (counted_hists fields es) left) (cut_at entries i (get_or entries i no_entry) (slice_get-get_or entries i no_entry within))
+
+  pub found_here : (u : Unlike) → unlike_where_counted before here ≡ Some u → unlike_among before (counted_hists fields (drop i entries)) left ≡ Some u
+  found_here u is = looked_at ∙ found_next here before behind left u some is
+
+  pub clear_here : (next : ℕ) → unlike_where_counted before here ≡ None → left_behind left here ≡ next → unlike_among before (counted_hists fields (drop i entries)) left ≡ unlike_among (counted_hists fields (take (i + 1) entries)) behind next
+  clear_here next none next_is =
+      let more : before ++ cons_option here [] ≡ counted_hists fields (take (i + 1) entries) =
+      sym (filter_map-append (λ (e : Entry). counted_hist fields e.body) (take i entries) (get_or entries i no_entry ∷ [])) ∙ ap (counted_hists fields) (sym (take_more entries i no_entry within)) in
+      looked_at ∙ next_among here before behind left some none ∙ (λ k. unlike_among (more k) behind (next_is k))

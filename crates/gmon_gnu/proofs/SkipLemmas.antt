@@ -1,6 +1,7 @@
 -- A record that is skipped, and one that isn't all there.
-use Rattle.std.proofs.Common.{◌≡◌, ℕ, zero, suc, ◌*◌, ◌/◌, ◌<◌, ◌≤◌, Bool, true, false, ltb, not, eqb, List, [], ◌∷◌, length, take, drop, slice_index, length-take, Option, Some, None, Result, Ok, Err, refl, sym, ap, ◌∙◌, if◌then◌else◌, arith}
+use Rattle.std.proofs.Common.{◌≡◌, ℕ, zero, suc, ◌-◌, ◌*◌, ◌/◌, ◌<◌, ◌≤◌, Bool, true, false, ltb, not, eqb, List, [], ◌∷◌, ◌++◌, length, take, drop, slice_index, length-take, Option, Some, None, Result, Ok, Err, refl, sym, ap, ◌∙◌, if◌then◌else◌, arith}
 use Rattle.std.proofs.lemmas.Bool.{lt-ltb, le-ltb}
+use Rattle.std.proofs.lemmas.List.{take-append-drop}
 use Rattle.std.specs.Prelude.{IfOk}
 use Rattle.gp_base.specs.declared.records.Rec.{Rec}
 use Rattle.gp_base.specs.declared.records.Rec.TheVariants.{Hist, Blocks}
@@ -10,9 +11,11 @@ use Rattle.gp_base.specs.Bytes.{word_at, value_of, items_of_text}
 use Rattle.gp_base.specs.Fields.{block_of}
 use Rattle.gp_base.proofs.Cutting.{cut-take}
 use Rattle.gmon_cells.specs.Cells.{cells_of}
+use Rattle.gmon_gnu.specs.declared.state.Begun.{Begun}
 use Rattle.gmon_gnu.specs.declared.state.HistFields.{HistFields}
 use Rattle.gmon_gnu.specs.Fields.{gnu_version}
 use Rattle.gmon_gnu.specs.Reading.{Front, Refused, after_front, behind_records, recs_from, refusal_read, header_refusal, gnu_refusal}
+use Rattle.gmon_gnu.specs.Begun.{begun_on}
 use Rattle.gmon_gnu.specs.Going.{records_on, hist_on, blocks_on}
 use Rattle.gmon_gnu.specs.Held.{width_of, hist_with}
 use Rattle.gmon_gnu.proofs.FedLemmas.{records_of}
@@ -91,3 +94,10 @@ past_header bytes none =
 pub both_ok : {T : Type 0} (r : Result T GmonRefusal) (P Q R : T → Type 0) → IfOk r P → IfOk r Q → ((x : T) → P x → Q x → R x) → IfOk r R
 both_ok (Ok x) P Q R p q then_r = then_r x p q
 both_ok (Err e) P Q R p q then_r = tt
+
+-- what is left of a text behind the front of its first record goes on as that front says
+pub front_read : (len : ℕ) (text front rest : List ℕ) (width : ℕ) (begun : Begun) → front ≡ take width text → rest ≡ drop width text
+    → ((l : ℕ) (r : List ℕ) → len - length text ≡ l - length (front ++ r) → records_on l (front ++ r) ≡ begun_on l begun r) → refusal_read (records_on len text) ≡ refusal_read (begun_on len begun rest)
+front_read len text front rest width begun front_is rest_is says =
+    let split : front ++ rest ≡ text = (λ i. front_is i ++ rest_is i) ∙ take-append-drop width text in
+    ap (λ (v : List ℕ). refusal_read (records_on len v)) (sym split) ∙ ap refusal_read (says len rest (ap (λ (v : List ℕ). len - length v) (sym split)))

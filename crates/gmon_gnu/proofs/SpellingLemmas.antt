@@ -15,7 +15,7 @@ use Rattle.gp_base.specs.Bytes.{value_of, le, word_at}
 use Rattle.gp_base.proofs.LittleEndian.{value_of-le}
 use Rattle.gp_base.proofs.Cutting.{cut-flat_map, length-spelled}
 use Rattle.gp_base.specs.Fields.{arc_bytes, block_bytes, block_of, counter_bytes, ArcFits, BlockFits, CounterFits}
-use Rattle.gmon_gnu.specs.Fields.{gnu_version}
+use Rattle.gmon_gnu.specs.Fields.{gnu_version, magic, spare_bytes}
 use Rattle.gmon_gnu.specs.Grammar.{rec_bytes, gnu_spelling, RecFits, HistFits, BlocksFit, GnuSpells}
 use Rattle.gmon_gnu.specs.Reading.{Found, hist_of_fields, pairs_front, body_front, behind_records, recs_from, after_front, file_recs, refusal_read, recs_in, gnu_refusal, gnu_records}
 use Rattle.gp_base.proofs.FieldLemmas.{counter_length, block_length, arc_back, block_back}
@@ -144,3 +144,7 @@ only_where_spelled bytes r s =
     ap (λ (f : Form). let x : Records = record { form = f; recs = r.recs } in x) s.form
     ∙ ap gnu (sym (ap recs_in whole.recs_are))
     ∙ ap gnu_records (sym s.text)
+
+-- records behind the header that is written
+pub written_spells : (recs : List Rec) → AllByRecursion RecFits recs → GnuSpells (gnu_spelling magic spare_bytes recs) (record { form = Gnu; recs = recs })
+written_spells recs fit = record { first = magic; spare = spare_bytes; form = refl; text = refl; first_fits = refl; spare_fits = refl; recs_fit = fit }

@@ -1,5 +1,5 @@
 -- Why a reader that took some of a piece can take the rest of it.
-use Rattle.std.proofs.Common.{◌≡◌, ℕ, ◌+◌, ◌*◌, ◌≤◌, List, [], ◌∷◌, ◌++◌, length, ap, arith, sym, subst}
+use Rattle.std.proofs.Common.{◌≡◌, ℕ, ◌+◌, ◌*◌, ◌<◌, ◌≤◌, List, [], ◌∷◌, ◌++◌, length, ap, arith, sym, subst}
 use Rattle.std.specs.Prelude.{vec_len, vec_capacity}
 use Rattle.std.specs.List.{AllByRecursion}
 use Rattle.gmon_gnu.specs.declared.state.Begun.{Begun}
@@ -10,7 +10,7 @@ use Rattle.gmon_gnu.specs.declared.state.Part.{Part}
 use Rattle.gmon_gnu.specs.declared.state.Part.TheVariants as part
 use Rattle.gmon_gnu.specs.declared.state.State.{State}
 use Rattle.gmon_gnu.specs.Begun.{arcs_of, cost_of, fields_of}
-use Rattle.gmon_gnu.specs.Held.{AreFew, AreWithin, HasRoom, IsBodyWithin, IsPart, IsWithin, pending_entries, pending_fields}
+use Rattle.gmon_gnu.specs.Held.{AreFew, AreWithin, HasRoom, IsBodyWithin, IsHeld, IsPart, IsWithin, pending_entries, pending_fields}
 use Rattle.gmon_gnu.specs.Taking.{Begins, CanTake, EndsOrGoesOn, KeepsItems}
 
 -- what was held in part is taken, and another part begins
@@ -43,10 +43,10 @@ can_take_on total piece rest torn s p can less none at nothing no_fields =
       };
     }
 
--- a record was begun: its front had the bytes that its arc or its entry takes of the room
-pub room_begun : (m n : ℕ) (b : Begun) (torn : List ℕ) (s t : State) → HasRoom m s → s.part ≡ part.Between → Begins b (record s { torn = torn }) t
-    → n ≤ m → 13 * arcs_of b + n ≤ length s.torn + m → 33 * fields_of b + n ≤ length s.torn + m → 5 * cost_of b + n ≤ length s.torn + m → HasRoom n t
-room_begun m n b torn s t room part_is begins less arcs fields entries =
+-- a record was begun: its front had the bytes that its arc or its entry takes of the room, and of the file
+pub can_begin : (total : ℕ) (piece rest torn : List ℕ) (b : Begun) (s t : State) → CanTake total piece s → IsHeld t → s.part ≡ part.Between → Begins b (record s { torn = torn }) t → length rest ≤ length piece
+    → 13 * arcs_of b + length rest ≤ length s.torn + length piece → 33 * fields_of b + length rest ≤ length s.torn + length piece → 5 * cost_of b + length rest ≤ length s.torn + length piece → CanTake total rest t
+can_begin total piece rest torn b s t can held part_is begins less arcs fields entries =
     let none : length t.torn ≡ 0 = ap length begins.torn in
     let counters : vec_len t.counters.cells ≡ vec_len s.counters.cells = λ i. vec_len (begins.counters i) in
     let counters_room : vec_capacity t.counters.cells ≡ vec_capacity s.counters.cells = λ i. vec_capacity (begins.counters i) in
@@ -55,33 +55,45 @@ room_begun m n b torn s t room part_is begins less arcs fields entries =
     let nothing : pending_entries s.part ≡ 0 = ap pending_entries part_is in
     let no_fields : pending_fields s.part ≡ 0 = ap pending_fields part_is in
     record {
-      counters = omega (arith, room.counters, counters, counters_room, begins.half, less);
-      pairs = omega (arith, room.pairs, pairs, pairs_room, begins.pair, less);
-      arcs = omega (arith, room.arcs, begins.arcs, begins.arcs_room, none, arcs);
-      fields = omega (arith, room.fields, begins.fields, begins.fields_room, none, no_fields, fields);
-      entries = omega (arith, room.entries, begins.entries, begins.capacity, none, nothing, entries);
+      held = held;
+      room = record {
+        counters = omega (arith, can.room.counters, counters, counters_room, begins.half, less);
+        pairs = omega (arith, can.room.pairs, pairs, pairs_room, begins.pair, less);
+        arcs = omega (arith, can.room.arcs, begins.arcs, begins.arcs_room, none, arcs);
+        fields = omega (arith, can.room.fields, begins.fields, begins.fields_room, none, no_fields, fields);
+        entries = omega (arith, can.room.entries, begins.entries, begins.capacity, none, nothing, entries);
+      };
+      few = record {
+        counters = omega (arith, can.few.counters, counters, begins.half, less);
+        pairs = omega (arith, can.few.pairs, pairs, begins.pair, less);
+        arcs = omega (arith, can.few.arcs, begins.arcs, none, arcs);
+        fields = omega (arith, can.few.fields, begins.fields, none, no_fields, fields);
+        entries = omega (arith, can.few.entries, begins.entries, none, nothing, entries);
+      };
     }
 
--- and so many bytes of the file
-pub few_begun : (total m n : ℕ) (b : Begun) (torn : List ℕ) (s t : State) → AreFew total m s → s.part ≡ part.Between → Begins b (record s { torn = torn }) t
-    → n ≤ m → 13 * arcs_of b + n ≤ length s.torn + m → 33 * fields_of b + n ≤ length s.torn + m → 5 * cost_of b + n ≤ length s.torn + m → AreFew total n t
-few_begun total m n b torn s t few part_is begins less arcs fields entries =
-    let none : length t.torn ≡ 0 = ap length begins.torn in
-    let counters : vec_len t.counters.cells ≡ vec_len s.counters.cells = λ i. vec_len (begins.counters i) in
-    let pairs : vec_len t.pairs.cells ≡ vec_len s.pairs.cells = λ i. vec_len (begins.pairs i) in
-    let nothing : pending_entries s.part ≡ 0 = ap pending_entries part_is in
-    let no_fields : pending_fields s.part ≡ 0 = ap pending_fields part_is in
-    record {
-      counters = omega (arith, few.counters, counters, begins.half, less);
-      pairs = omega (arith, few.pairs, pairs, begins.pair, less);
-      arcs = omega (arith, few.arcs, begins.arcs, none, arcs);
-      fields = omega (arith, few.fields, begins.fields, none, no_fields, fields);
-      entries = omega (arith, few.entries, begins.entries, none, nothing, entries);
-    }
+-- fewer bytes need no more room
+pub room_less : (m n : ℕ) (s : State) → n < m → HasRoom m s → HasRoom n s
+room_less m n s less room = record {
+  counters = omega (arith, room.counters, less);
+  pairs = omega (arith, room.pairs, less);
+  arcs = omega (arith, room.arcs, less);
+  fields = omega (arith, room.fields, less);
+  entries = omega (arith, room.entries, less);
+}
+
+pub few_less : (total m n : ℕ) (s : State) → n < m → AreFew total m s → AreFew total n s
+few_less total m n s less few = record {
+  counters = omega (arith, few.counters, less);
+  pairs = omega (arith, few.pairs, less);
+  arcs = omega (arith, few.arcs, less);
+  fields = omega (arith, few.fields, less);
+  entries = omega (arith, few.entries, less);
+}
 
 -- a record ends or goes on: it had its place before
-pub room_on : (n places : ℕ) (s t : State) → HasRoom n s → pending_entries s.part ≡ 1 → pending_fields s.part ≡ places → EndsOrGoesOn places s t → HasRoom n t
-room_on n places s t room pending fields g =
+pub can_go_on : (total places : ℕ) (rest : List ℕ) (s t : State) → IsHeld t → HasRoom (length rest) s → AreFew total (length rest) s → pending_entries s.part ≡ 1 → pending_fields s.part ≡ places → EndsOrGoesOn places s t → CanTake total rest t
+can_go_on total places rest s t held room few pending fields g =
     let k = g.items in
     let none : length t.torn ≡ length s.torn = ap length k.torn in
     let counters : vec_len t.counters.cells ≡ vec_len s.counters.cells = λ i. vec_len (k.counters i).cells in
@@ -93,28 +105,21 @@ room_on n places s t room pending fields g =
     let arcs : vec_len t.arcs ≡ vec_len s.arcs = λ i. vec_len (k.arcs i) in
     let arcs_room : vec_capacity t.arcs ≡ vec_capacity s.arcs = λ i. vec_capacity (k.arcs i) in
     record {
-      counters = omega (arith, room.counters, counters, counters_room, half);
-      pairs = omega (arith, room.pairs, pairs, pairs_room, pair);
-      arcs = omega (arith, room.arcs, arcs, arcs_room, none);
-      fields = omega (arith, room.fields, g.fields, g.fields_room, fields, none);
-      entries = omega (arith, room.entries, g.entries, g.capacity, pending, none);
-    }
-
-pub few_on : (total n places : ℕ) (s t : State) → AreFew total n s → pending_entries s.part ≡ 1 → pending_fields s.part ≡ places → EndsOrGoesOn places s t → AreFew total n t
-few_on total n places s t few pending fields g =
-    let k = g.items in
-    let none : length t.torn ≡ length s.torn = ap length k.torn in
-    let counters : vec_len t.counters.cells ≡ vec_len s.counters.cells = λ i. vec_len (k.counters i).cells in
-    let half : length t.counters.torn ≡ length s.counters.torn = λ i. length (k.counters i).torn in
-    let pairs : vec_len t.pairs.cells ≡ vec_len s.pairs.cells = λ i. vec_len (k.pairs i).cells in
-    let pair : length t.pairs.torn ≡ length s.pairs.torn = λ i. length (k.pairs i).torn in
-    let arcs : vec_len t.arcs ≡ vec_len s.arcs = λ i. vec_len (k.arcs i) in
-    record {
-      counters = omega (arith, few.counters, counters, half);
-      pairs = omega (arith, few.pairs, pairs, pair);
-      arcs = omega (arith, few.arcs, arcs, none);
-      fields = omega (arith, few.fields, g.fields, fields, none);
-      entries = omega (arith, few.entries, g.entries, pending, none);
+      held = held;
+      room = record {
+        counters = omega (arith, room.counters, counters, counters_room, half);
+        pairs = omega (arith, room.pairs, pairs, pairs_room, pair);
+        arcs = omega (arith, room.arcs, arcs, arcs_room, none);
+        fields = omega (arith, room.fields, g.fields, g.fields_room, fields, none);
+        entries = omega (arith, room.entries, g.entries, g.capacity, pending, none);
+      };
+      few = record {
+        counters = omega (arith, few.counters, counters, half);
+        pairs = omega (arith, few.pairs, pairs, pair);
+        arcs = omega (arith, few.arcs, arcs, none);
+        fields = omega (arith, few.fields, g.fields, fields, none);
+        entries = omega (arith, few.entries, g.entries, pending, none);
+      };
     }
 
 -- ---- an entry more

@@ -1,6 +1,6 @@
 -- Counts of executed instructions as counts of basic blocks: each instruction, of four bytes, is a block of its own.
 use Rattle.std.specs.Prelude.{ℕ, ◌+◌, ◌*◌, ◌==◌, List, [], ◌∷◌, length, slice_index, filter_map, Option, Some, None, if◌then◌else◌}
-use Rattle.std.specs.List.{range_with_len}
+use Rattle.std.specs.List.{flat_map, range_with_len}
 use Rattle.gp_base.specs.declared.records.RawBlock.{RawBlock}
 use Rattle.gp_base.specs.Fields.{block_bytes}
 use Rattle.gmon_gnu.specs.Grammar.{blocks_bytes}
@@ -27,3 +27,7 @@ block_record low counts = record_of (executed_blocks low counts)
 -- what is put of one of them
 abbrev pub pair_bytes : ℕ → ℕ → List ℕ
 pair_bytes addr count = if count == 0 then [] else block_bytes (record { addr = addr; count = count })
+
+-- and of all
+abbrev pub pairs_bytes : ℕ → List ℕ → List ℕ
+pairs_bytes low counts = flat_map (λ i. pair_bytes (low + 4 * i) (slice_index counts i)) (range_with_len 0 (length counts))

@@ -7,7 +7,9 @@ use Rattle.gp_base.specs.declared.records.RawHist.{RawHist}
 use Rattle.gp_base.specs.declared.records.Rec.{Rec}
 use Rattle.gp_base.specs.declared.records.Rec.TheVariants.{Hist, Arc, Blocks}
 use Rattle.gp_base.specs.Spans.{HasRange}
-use Rattle.gmon_data.specs.Content.{Content, WideRec, wide_records, with_records, IsWithin as IsWithinLimits}
+use Rattle.gmon_data.specs.declared.refusal.AddRefusal.{AddRefusal}
+use Rattle.gmon_data.specs.Hists.{IsUnlike}
+use Rattle.gmon_data.specs.Content.{Content, WideRec, conflict_of, empty_content, wide_records, with_records, IsAdded, IsWithin as IsWithinLimits}
 use Rattle.gmon_gnu.specs.declared.state.HistFields.{HistFields}
 use Rattle.gmon_gnu.specs.declared.state.Entry.{Entry}
 use Rattle.gmon_gnu.specs.declared.state.Body.{Body}
@@ -29,9 +31,24 @@ abbrev pub rec_of : List HistFields → List ℕ → List RawBlock → Body → 
 rec_of fields counters pairs (body.Hist f start end) = Hist (hist_with (get_or fields f no_fields) (take (end - start) (drop start counters)))
 rec_of fields counters pairs (body.Blocks start end) = Blocks (take (end - start) (drop start pairs))
 
+-- as a reader holds it
+abbrev pub held_rec : State → Body → Rec
+held_rec s b = rec_of s.fields.items s.counters.cells.items s.pairs.cells.items b
+
+-- the arcs from the first one of an entry to below its last one
+abbrev pub arcs_before : List RawArc → Entry → List RawArc
+arcs_before arcs e = take (e.last - e.first) (drop e.first arcs)
+
+-- what stands where a list of entries has none
+abbrev pub no_entry : Entry
+no_entry = record { first = 0; last = 0; body = body.Hist 0 0 0 }
+
 -- arcs, and the record behind them
 abbrev pub entry_recs : List HistFields → List ℕ → List RawBlock → List RawArc → Entry → List Rec
-entry_recs fields counters pairs arcs e = map Arc (take (e.last - e.first) (drop e.first arcs)) ++ rec_of fields counters pairs e.body ∷ []
+entry_recs fields counters pairs arcs e = map Arc (arcs_before arcs e) ++ rec_of fields counters pairs e.body ∷ []
+
+abbrev pub held_recs : State → Entry → List Rec
+held_recs s = entry_recs s.fields.items s.counters.cells.items s.pairs.cells.items s.arcs.items
 
 -- the records of entries, and behind them the arcs from a number on
 abbrev pub recs_in : List HistFields → List ℕ → List RawBlock → List RawArc → List Entry → ℕ → List Rec
@@ -46,7 +63,7 @@ entries_recs fields counters pairs arcs entries = wide_records (flat_map (entry_
 
 -- each histogram's counters, if there are any, share a range that isn't empty
 abbrev pub HaveRanges : State → Type 0
-HaveRanges s = AllByRecursion (λ e. HasRange (rec_of s.fields.items s.counters.cells.items s.pairs.cells.items e.body)) s.entries.items
+HaveRanges s = AllByRecursion (λ e. HasRange (held_rec s e.body)) s.entries.items
 
 -- fields and a span lie within what there is
 abbrev pub IsBodyWithin : ℕ → ℕ → ℕ → Body → Type 0
@@ -56,9 +73,16 @@ IsBodyWithin fields counters pairs (body.Blocks start end) = (start ≤ end) × 
 abbrev pub IsWithin : ℕ → ℕ → ℕ → ℕ → Entry → Type 0
 IsWithin fields counters pairs arcs e = (e.first ≤ e.last) × (e.last ≤ arcs) × IsBodyWithin fields counters pairs e.body
 
--- those of all entries do
+-- within what a reader holds
+abbrev pub IsBodyHeld : State → Body → Type 0
+IsBodyHeld s = IsBodyWithin (length s.fields.items) (length s.counters.cells.items) (length s.pairs.cells.items)
+
+abbrev pub IsEntryHeld : State → Entry → Type 0
+IsEntryHeld s = IsWithin (length s.fields.items) (length s.counters.cells.items) (length s.pairs.cells.items) (length s.arcs.items)
+
+-- all entries are
 abbrev pub AreWithin : State → Type 0
-AreWithin s = AllByRecursion (IsWithin (length s.fields.items) (length s.counters.cells.items) (length s.pairs.cells.items) (length s.arcs.items)) s.entries.items
+AreWithin s = AllByRecursion (IsEntryHeld s) s.entries.items
 
 -- what was read can be added to a profile
 pub record CanBeAdded (s : State) (old : Content) : Type 0 where
@@ -67,6 +91,14 @@ pub record CanBeAdded (s : State) (old : Content) : Type 0 where
   pub ranges : HaveRanges s
   pub few : length s.entries.items < 2 ^ 32
   pub within : IsWithinLimits (with_records (wide_records (recs_of s)) old)
+
+-- a profile has them and nothing else
+abbrev pub IsProfileOf : State → Content → Type 0
+IsProfileOf s profile = IsAdded (wide_records (recs_of s)) empty_content profile
+
+-- it tells the first conflict among them, or want of memory
+abbrev pub IsConflictOf : State → AddRefusal → Type 0
+IsConflictOf s refusal = IsUnlike refusal (conflict_of empty_content (wide_records (recs_of s)))
 
 abbrev pub open_of : Part → List ℕ → List RawBlock → Open
 open_of part.Header counters pairs = InHeader

@@ -5,6 +5,8 @@ use Rattle.std.specs.List.{flat_map, filter}
 use Rattle.std.specs.List.Sorted.{IsPermutation}
 use Rattle.gp_base.specs.declared.records.RawArc.{RawArc}
 use Rattle.gp_base.specs.declared.records.RawBlock.{RawBlock}
+use Rattle.gp_base.specs.declared.records.Unit as units
+use Rattle.gmon_data.specs.declared.hist.HistRange.{HistRange}
 use Rattle.gmon_data.specs.Content.{WideRec, wide_arc, wide_block, wide_record}
 use Rattle.gmon_gnu.specs.declared.state.Body.{Body}
 use Rattle.gmon_gnu.specs.declared.state.Body.TheVariants as body
@@ -12,7 +14,7 @@ use Rattle.gmon_gnu.specs.declared.state.Entry.{Entry}
 use Rattle.gmon_gnu.specs.declared.state.HistFields.{HistFields}
 use Rattle.gmon_gnu.specs.declared.state.State.{State}
 use Rattle.gmon_gnu.specs.declared.profile.Placed.{Placed}
-use Rattle.gmon_gnu.specs.Held.{no_fields, rec_of}
+use Rattle.gmon_gnu.specs.Held.{arcs_before, no_fields, rec_of}
 
 abbrev pub is_hist : Body → Bool
 is_hist (body.Hist f start end) = true
@@ -53,7 +55,7 @@ block_recs pairs (body.Blocks start end) = map wide_block (take (end - start) (d
 
 -- the arcs before an entry, and the counts of blocks where it has some
 abbrev pub other_recs : List RawBlock → List RawArc → Entry → List WideRec
-other_recs pairs arcs e = map wide_arc (take (e.last - e.first) (drop e.first arcs)) ++ block_recs pairs e.body
+other_recs pairs arcs e = map wide_arc (arcs_before arcs e) ++ block_recs pairs e.body
 
 -- the histograms of later entries, and then all other records
 abbrev pub behind_recs : State → List Entry → List WideRec
@@ -64,8 +66,16 @@ abbrev pub IsPlacedIn : ℕ → Body → Type 0
 IsPlacedIn n (body.Hist f start end) = (f < n) × (start ≤ end)
 IsPlacedIn n (body.Blocks start end) = ⊤
 
--- the place of an entry where it is a histogram
+-- the range and the unit of a record that is a histogram
+abbrev pub hist_at : List HistFields → Body → Option (HistRange × units.Unit)
+hist_at fields (body.Hist f start end) =
+    Some (record { low = (get_or fields f no_fields).low; high = (get_or fields f no_fields).high; count = end - start }, (get_or fields f no_fields).«unit»)
+hist_at fields (body.Blocks start end) = None
+
+-- the place of an entry where it is one
+abbrev pub place_at : Option (HistRange × units.Unit) → ℕ → List Placed
+place_at None i = []
+place_at (Some p) i = record { range = p.0; entry = i } ∷ []
+
 abbrev pub place_of : List HistFields → Body → ℕ → List Placed
-place_of fields (body.Hist f start end) i =
-    record { range = record { low = (get_or fields f no_fields).low; high = (get_or fields f no_fields).high; count = end - start }; entry = i } ∷ []
-place_of fields (body.Blocks start end) i = []
+place_of fields b i = place_at (hist_at fields b) i

@@ -25,6 +25,10 @@ hist_pieces_text u h = flat_map (λ j. hist_bytes (raw_hist u (hist_piece h j)))
 abbrev pub arc_text_of : (ℕ × ℕ) × ℕ → List ℕ
 arc_text_of e = flat_map (λ j. rec_bytes (arc_rec (arc_piece e j))) (range_with_len 0 (pieces_of most_calls e.1))
 
+-- the tag of counts of blocks, and their number
+abbrev pub blocks_front : ℕ → List ℕ
+blocks_front number = 2 ∷ le number 4
+
 -- nothing where nothing is left
 abbrev pub left_bytes : ℕ → ℕ × ℕ → List ℕ
 left_bytes j e = if has_left j e.1 then block_bytes (raw_block (e.0, piece most_calls j e.1)) else []

@@ -1,6 +1,6 @@
 -- How the first conflict among the first histograms of what was read is looked for, without memory.
 -- Only private functions use these definitions.
-use Rattle.std.specs.Prelude.{ℕ, zero, suc, ◌-◌, nat_lt, not, ◌&&◌, List, [], ◌∷◌, ◌++◌, filter_map, get_or, Option, Some, None, if◌then◌else◌}
+use Rattle.std.specs.Prelude.{ℕ, zero, suc, ◌-◌, nat_lt, not, ◌&&◌, List, [], ◌∷◌, ◌++◌, filter_map, Option, Some, None, if◌then◌else◌}
 use Rattle.std.specs.Option.{option_or}
 use Rattle.gp_base.specs.declared.records.Unit as units
 use Rattle.gmon_data.specs.declared.hist.HistRange.{HistRange}
@@ -8,16 +8,18 @@ use Rattle.gmon_data.specs.declared.refusal.Unlike.{Unlike}
 use Rattle.gmon_data.specs.declared.refusal.Unlike.TheVariants.{Range}
 use Rattle.gmon_data.specs.Hists.{kept_unit, overlap, same_range, unit_conflict}
 use Rattle.gmon_gnu.specs.declared.state.Body.{Body}
-use Rattle.gmon_gnu.specs.declared.state.Body.TheVariants as body
 use Rattle.gmon_gnu.specs.declared.state.Entry.{Entry}
 use Rattle.gmon_gnu.specs.declared.state.HistFields.{HistFields}
-use Rattle.gmon_gnu.specs.Held.{no_fields}
+use Rattle.gmon_gnu.specs.Making.{hist_at}
+
+-- a histogram where it has counters
+abbrev pub where_counted : Option (HistRange × units.Unit) → Option (HistRange × units.Unit)
+where_counted None = None
+where_counted (Some p) = if nat_lt 0 p.0.count then Some p else None
 
 -- the range and the unit of a record that is a histogram with counters
 abbrev pub counted_hist : List HistFields → Body → Option (HistRange × units.Unit)
-counted_hist fields (body.Hist f start end) =
-    if nat_lt 0 (end - start) then Some (record { low = (get_or fields f no_fields).low; high = (get_or fields f no_fields).high; count = end - start }, (get_or fields f no_fields).«unit») else None
-counted_hist fields (body.Blocks start end) = None
+counted_hist fields b = where_counted (hist_at fields b)
 
 -- those of the entries that are, in their order
 abbrev pub counted_hists : List HistFields → List Entry → List (HistRange × units.Unit)

@@ -3,11 +3,12 @@
 ghost use Rattle.std.specs.Prelude.{◌≡◌, length, IfErr, OnOk};
 ghost use Rattle.gp_base.specs.Spans.{HasRange};
 ghost use Rattle.gmon_data.specs.Content.{wide_record, wide_records, with_records, IsAdded, IsStopped, IsWithin as IsWithinLimits};
-ghost use Rattle.gmon_gnu.specs.Held.{entry_recs, rec_of, recs_of, AreWithin, CanBeAdded, IsBodyWithin, IsWithin, entries_recs, HaveRanges};
+ghost use Rattle.gmon_cells.specs.Views.{rec_viewed};
+ghost use Rattle.gmon_gnu.specs.Held.{held_recs, held_rec, recs_of, AreWithin, CanBeAdded, IsBodyHeld, IsEntryHeld, entries_recs, HaveRanges};
 
-use crate::state::{Body, Entry, HistFields, State};
+use crate::state::{Body, Entry, State};
+use gmon_cells::RecView;
 use gmon_data::{AddRefusal, Profile};
-use gp_base::{RawArc, RawBlock};
 
 impl State {
     /// Adds the records to a profile, without a list of them. Room is taken first, where there is some.
@@ -39,70 +40,51 @@ impl State {
             (entries_recs self.now.fields.items self.now.counters.cells.items
             self.now.pairs.cells.items self.now.arcs.items self.now.entries.items) profile.old profile.new) }
     {
-        let fields = self.fields.as_slice();
-        let counters = self.counters.cells.as_slice();
-        let pairs = self.pairs.cells.as_slice();
-        let arcs = self.arcs.as_slice();
         let entries = self.entries.as_slice();
         for i in 0..entries.len() {
-            add_entry(profile, entries[i], fields, counters, pairs, arcs)?;
+            self.add_entry(profile, entries[i])?;
         }
         Ok(())
     }
+
+    /// Adds the records of an entry: the arcs before it, and what it stands for.
+    fn add_entry(&self, profile: &mut Profile, entry: Entry) -> Result<(), AddRefusal>
+        requires held { IsEntryHeld self.now entry }
+        requires range { HasRange (held_rec self.now entry.body) }
+        requires within { IsWithinLimits (with_records (wide_records (held_recs self.now entry)) profile.old) }
+        ensures added { OnOk result (IsAdded (wide_records (held_recs self.now entry))
+            profile.old profile.new) }
+        ensures stopped { IfErr result (λ refusal. IsStopped refusal (wide_records (held_recs self.now entry))
+            profile.old profile.new) }
+    {
+        profile.add_arcs(self.arcs_before(entry))?;
+        self.add_body(profile, entry.body)
+    }
+
+    /// Adds the record that counters or pairs belong to.
+    pub(crate) fn add_body(&self, profile: &mut Profile, body: Body) -> Result<(), AddRefusal>
+        requires held { IsBodyHeld self.now body }
+        requires range { HasRange (held_rec self.now body) }
+        requires within { IsWithinLimits (with_records (wide_record (held_rec self.now body)) profile.old) }
+        ensures added { OnOk result (IsAdded (wide_record (held_rec self.now body)) profile.old profile.new) }
+        ensures stopped { IfErr result (λ refusal. IsStopped refusal (wide_record (held_rec self.now body))
+            profile.old profile.new) }
+    {
+        add_view(profile, self.view(body))
+    }
 }
 
-/// Adds the records of an entry: the arcs before it, and what it stands for.
-fn add_entry(
-    profile: &mut Profile,
-    entry: Entry,
-    fields: &[HistFields],
-    counters: &[u16],
-    pairs: &[RawBlock],
-    arcs: &[RawArc],
-) -> Result<(), AddRefusal>
-    requires spans { IsWithin (length fields.now) (length counters.now) (length pairs.now) (length arcs.now) entry }
-    requires range { HasRange (rec_of fields.now counters.now pairs.now entry.body) }
-    requires within { IsWithinLimits
-        (with_records (wide_records (entry_recs fields.now counters.now pairs.now arcs.now entry))
-        profile.old) }
-    ensures added { OnOk result (IsAdded
-        (wide_records (entry_recs fields.now counters.now pairs.now arcs.now entry)) profile.old profile.new) }
-    ensures stopped { IfErr result (λ refusal. IsStopped refusal
-        (wide_records (entry_recs fields.now counters.now pairs.now arcs.now entry)) profile.old profile.new) }
+/// Adds a record.
+fn add_view(profile: &mut Profile, view: RecView<'_>) -> Result<(), AddRefusal>
+    requires range { HasRange (rec_viewed view) }
+    requires within { IsWithinLimits (with_records (wide_record (rec_viewed view)) profile.old) }
+    ensures added { OnOk result (IsAdded (wide_record (rec_viewed view.entry)) profile.old profile.new) }
+    ensures stopped { IfErr result (λ refusal. IsStopped refusal (wide_record (rec_viewed view.entry))
+        profile.old profile.new) }
 {
-    profile.add_arcs(&arcs[entry.first as usize..entry.last as usize])?;
-    add_body(profile, entry.body, fields, counters, pairs)
-}
-
-/// Adds the record that counters or pairs belong to.
-pub(crate) fn add_body(
-    profile: &mut Profile,
-    body: Body,
-    fields: &[HistFields],
-    counters: &[u16],
-    pairs: &[RawBlock],
-) -> Result<(), AddRefusal>
-    requires spans { IsBodyWithin (length fields.now) (length counters.now) (length pairs.now) body }
-    requires range { HasRange (rec_of fields.now counters.now pairs.now body) }
-    requires within { IsWithinLimits
-        (with_records (wide_record (rec_of fields.now counters.now pairs.now body)) profile.old) }
-    ensures added { OnOk result (IsAdded
-        (wide_record (rec_of fields.now counters.now pairs.now body)) profile.old profile.new) }
-    ensures stopped { IfErr result (λ refusal. IsStopped refusal
-        (wide_record (rec_of fields.now counters.now pairs.now body)) profile.old profile.new) }
-{
-    match body {
-        Body::Hist {
-            fields: number,
-            start,
-            end,
-        } => {
-            let own = fields[number as usize];
-            let counts = &counters[start as usize..end as usize];
-            profile.add_counts(own.low, own.high, own.unit, counts)
-        }
-        Body::Blocks { start, end } => {
-            Ok(profile.add_blocks(&pairs[start as usize..end as usize])?)
-        }
+    match view {
+        RecView::Hist(hist) => profile.add_counts(hist.low, hist.high, hist.unit, hist.counters),
+        RecView::Arc(arc) => Ok(profile.add_arcs(&[arc])?),
+        RecView::Blocks(blocks) => Ok(profile.add_blocks(blocks)?),
     }
 }

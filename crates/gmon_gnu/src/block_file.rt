@@ -5,9 +5,9 @@ ghost use Rattle.std.specs.List.{flat_map, range_with_len};
 ghost use Rattle.host_port.specs.Buffered.{Adds};
 ghost use Rattle.host_port.specs.Host.{Puts};
 ghost use Rattle.host_port.specs.declared.side.Side.TheVariants.{File};
-ghost use Rattle.gmon_gnu.specs.Blocks.{block_record, executed_blocks, pair_bytes};
+ghost use Rattle.gmon_gnu.specs.Blocks.{block_record, executed_blocks, pair_bytes, pairs_bytes};
 
-use crate::rounds::BLOCKS_TAG;
+use crate::rounds::put_front;
 use gp_base::le4;
 use host_port::{Failed, Host, OutBuf};
 
@@ -42,8 +42,7 @@ fn put_record<H: Host>(
     if number == 0 {
         return Ok(());
     }
-    out.put(host, &[BLOCKS_TAG])?;
-    out.put(host, &le4(number))?;
+    put_front(number, out, host)?;
     put_pairs(low, counts, out, host)
 }
 
@@ -67,8 +66,7 @@ fn put_pairs<H: Host>(
 ) -> Result<(), Failed>
     requires within { (i : ℕ) → i < length counts.now → low + 4 * i < 2 ^ 32 }
     requires ready { (H.outside host.old).is_writing ≡ true }
-    ensures adds { Adds File (flat_map (λ i. pair_bytes (low + 4 * i) (slice_index counts.now i))
-        (range_with_len 0 (length counts.now))) out.old out.new (H.outside host.old)
+    ensures adds { Adds File (pairs_bytes low counts.now) out.old out.new (H.outside host.old)
         (H.outside host.new) result }
     ensures ready { OnOk result ((H.outside host.new).is_writing ≡ true) }
 {

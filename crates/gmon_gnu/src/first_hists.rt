@@ -4,7 +4,7 @@ ghost use Rattle.std.specs.Prelude.{◌≡◌, ◌<◌, [], length, None};
 ghost use Rattle.std.specs.Option.{option_map};
 ghost use Rattle.std.specs.List.{AllByRecursion};
 ghost use Rattle.gmon_data.specs.Hists.{kept_unit};
-ghost use Rattle.gmon_gnu.specs.Making.{IsPlacedIn};
+ghost use Rattle.gmon_gnu.specs.Making.{hist_at, IsPlacedIn};
 ghost use Rattle.gmon_gnu.specs.Searching as spec;
 
 use crate::state::{Body, Entry, HistFields};
@@ -125,15 +125,29 @@ pub(crate) fn counted_hist(fields: &[HistFields], body: Body) -> Option<(HistRan
     requires { IsPlacedIn (length fields.now) body }
     ensures { result ≡ spec.counted_hist fields.now body }
 {
+    match hist_of(fields, body) {
+        Some((range, unit)) => {
+            if range.count > 0 {
+                Some((range, unit))
+            } else {
+                None
+            }
+        }
+        None => None,
+    }
+}
+
+/// The range and the unit of a record that is a histogram.
+pub(crate) fn hist_of(fields: &[HistFields], body: Body) -> Option<(HistRange, Unit)>
+    requires { IsPlacedIn (length fields.now) body }
+    ensures { result ≡ hist_at fields.now body }
+{
     match body {
         Body::Hist {
             fields: number,
             start,
             end,
         } => {
-            if start == end {
-                return None;
-            }
             let own = fields[number as usize];
             let range = HistRange {
                 low: own.low,

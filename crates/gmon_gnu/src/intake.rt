@@ -247,11 +247,8 @@ impl State {
         requires part { IsInHist fields start left self.old }
         ensures { TakesSome total piece.now result.now self.old self.new }
     {
-        let due = left as usize * 2 - self.counters.torn.len();
-        let (mine, rest) = piece.split_at(due.min(piece.len()));
-        let came = (self.counters.torn.len() + mine.len()) / 2;
-        self.counters.feed(mine);
-        self.go_on_hist(fields, start, left - came as u32);
+        let (came, rest) = self.counters.feed_due(left, piece);
+        self.go_on_hist(fields, start, left - came);
         rest
     }
 
@@ -261,11 +258,8 @@ impl State {
         requires part { IsInBlocks start left self.old }
         ensures { TakesSome total piece.now result.now self.old self.new }
     {
-        let due = left as usize * 8 - self.pairs.torn.len();
-        let (mine, rest) = piece.split_at(due.min(piece.len()));
-        let came = (self.pairs.torn.len() + mine.len()) / 8;
-        self.pairs.feed(mine);
-        self.go_on_blocks(start, left - came as u32);
+        let (came, rest) = self.pairs.feed_due(left, piece);
+        self.go_on_blocks(start, left - came);
         rest
     }
 }

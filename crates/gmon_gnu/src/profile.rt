@@ -7,14 +7,13 @@ ghost use Rattle.gmon_data.specs.Content.{empty_content, conflict_of, wide_recor
 ghost use Rattle.gmon_data.specs.Hists.{IsUnlike};
 ghost use Rattle.gmon_data.specs.declared.refusal.AddRefusal.TheVariants.{Unlike};
 ghost use Rattle.gmon_gnu.specs.FirstHists.{conflict_among_first};
-ghost use Rattle.gmon_gnu.specs.Held.{recs_of, rec_of, AreWithin, CanBeAdded, IsBodyWithin, IsWithin, HaveRanges};
+ghost use Rattle.gmon_gnu.specs.Held.{arcs_before, held_rec, recs_of, AreWithin, CanBeAdded, HaveRanges, IsBodyHeld, IsConflictOf, IsEntryHeld, IsProfileOf};
 ghost use Rattle.gmon_gnu.specs.Making.{block_recs, hist_recs, later_recs, other_recs, behind_recs, IsPlacedIn, place_of, placed_recs, IsOrderOf, placed_entries, hists_among};
 
-use crate::addition::add_body;
-use crate::first_hists::{conflict_among_first, counted_hist};
+use crate::first_hists::{conflict_among_first, counted_hist, hist_of};
 use crate::state::{Body, Entry, HistFields, State};
 use gmon_data::{AddRefusal, HistRange, Profile, unlike};
-use gp_base::{RawBlock, Unit};
+use gp_base::Unit;
 use std::alloc::{AllocError, Global};
 
 /// Where memory ran out, so many first histograms with counters are compared with those before them. For each one all
@@ -33,10 +32,8 @@ impl State {
     /// never want of memory where it is among the first histograms.
     pub(crate) fn into_profile(&self, alloc: Global) -> Result<Profile, AddRefusal>
         requires { CanBeAdded self.now empty_content }
-        ensures made { IfOk result (λ profile. IsAdded
-            (wide_records (recs_of self.now)) empty_content profile) }
-        ensures refusal { IfErr result (λ refusal. IsUnlike refusal
-            (conflict_of empty_content (wide_records (recs_of self.now)))) }
+        ensures made { IfOk result (IsProfileOf self.now) }
+        ensures refusal { IfErr result (IsConflictOf self.now) }
         ensures told { IfSome (conflict_among_first 64 (wide_records (recs_of self.now)))
             (λ unlike. result ≡ Err (Unlike unlike)) }
     {
@@ -51,8 +48,7 @@ impl State {
     fn refusal_without_memory(&self) -> AddRefusal
         requires held { AreWithin self.now }
         requires ranges { HaveRanges self.now }
-        ensures refusal { IsUnlike result
-            (conflict_of empty_content (wide_records (recs_of self.now))) }
+        ensures refusal { IsConflictOf self.now result }
         ensures told { IfSome (conflict_among_first 64 (wide_records (recs_of self.now)))
             (λ unlike. result ≡ Unlike unlike) }
     {
@@ -69,10 +65,8 @@ impl State {
     /// the first one of the file that can't is told.
     fn in_address_order(&self, alloc: Global) -> Result<Profile, AddRefusal>
         requires { CanBeAdded self.now empty_content }
-        ensures made { IfOk result (λ profile. IsAdded
-            (wide_records (recs_of self.now)) empty_content profile) }
-        ensures refusal { IfErr result (λ refusal. IsUnlike refusal
-            (conflict_of empty_content (wide_records (recs_of self.now)))) }
+        ensures made { IfOk result (IsProfileOf self.now) }
+        ensures refusal { IfErr result (IsConflictOf self.now) }
     {
         let entries = self.entries.as_slice();
         let (alike, order) = alike_in_order(alloc, self.fields.as_slice(), entries)?;
@@ -92,10 +86,8 @@ impl State {
     /// The profile of the records, added in the order of the file.
     fn in_file_order(&self, alloc: Global) -> Result<Profile, AddRefusal>
         requires { CanBeAdded self.now empty_content }
-        ensures made { IfOk result (λ profile. IsAdded
-            (wide_records (recs_of self.now)) empty_content profile) }
-        ensures refusal { IfErr result (λ refusal. IsUnlike refusal
-            (conflict_of empty_content (wide_records (recs_of self.now)))) }
+        ensures made { IfOk result (IsProfileOf self.now) }
+        ensures refusal { IfErr result (IsConflictOf self.now) }
     {
         let mut profile = Profile::new(alloc);
         self.add_to(&mut profile)?;
@@ -109,11 +101,8 @@ impl State {
         first: &[Entry],
         order: &[Placed],
     ) -> Result<(), AddRefusal>
-        requires held { AllByRecursion (IsWithin (length self.now.fields.items)
-            (length self.now.counters.cells.items) (length self.now.pairs.cells.items)
-            (length self.now.arcs.items)) first.now }
-        requires ranges { AllByRecursion (λ e. HasRange (rec_of self.now.fields.items
-            self.now.counters.cells.items self.now.pairs.cells.items e.body)) first.now }
+        requires held { AllByRecursion (IsEntryHeld self.now) first.now }
+        requires ranges { AllByRecursion (λ e. HasRange (held_rec self.now e.body)) first.now }
         requires inside { AllByRecursion (λ p. p.entry < length first.now) order.now }
         requires within { IsWithinLimits (with_records (placed_recs self.now.fields.items
             self.now.counters.cells.items self.now.pairs.cells.items first.now order.now)
@@ -122,12 +111,9 @@ impl State {
             self.now.counters.cells.items self.now.pairs.cells.items first.now order.now)
             profile.old profile.new) }
     {
-        let fields = self.fields.as_slice();
-        let counters = self.counters.cells.as_slice();
-        let pairs = self.pairs.cells.as_slice();
         for i in 0..order.len() {
             let entry = first[order[i].entry as usize];
-            add_body(profile, entry.body, fields, counters, pairs)?;
+            self.add_body(profile, entry.body)?;
         }
         Ok(())
     }
@@ -136,11 +122,8 @@ impl State {
     fn add_behind(&self, profile: &mut Profile, later: &[Entry]) -> Result<(), AddRefusal>
         requires held { AreWithin self.now }
         requires run { self.now.run ≤ length self.now.arcs.items }
-        requires spans { AllByRecursion (IsWithin (length self.now.fields.items)
-            (length self.now.counters.cells.items) (length self.now.pairs.cells.items)
-            (length self.now.arcs.items)) later.now }
-        requires ranges { AllByRecursion (λ e. HasRange (rec_of self.now.fields.items
-            self.now.counters.cells.items self.now.pairs.cells.items e.body)) later.now }
+        requires spans { AllByRecursion (IsEntryHeld self.now) later.now }
+        requires ranges { AllByRecursion (λ e. HasRange (held_rec self.now e.body)) later.now }
         requires within { IsWithinLimits (with_records (behind_recs self.now later.now)
             profile.old) }
         ensures added { OnOk result (IsAdded (behind_recs self.now later.now)
@@ -158,11 +141,8 @@ impl State {
 
     /// Adds the histograms of entries in the order of the file.
     fn add_later(&self, profile: &mut Profile, later: &[Entry]) -> Result<(), AddRefusal>
-        requires spans { AllByRecursion (IsWithin (length self.now.fields.items)
-            (length self.now.counters.cells.items) (length self.now.pairs.cells.items)
-            (length self.now.arcs.items)) later.now }
-        requires ranges { AllByRecursion (λ e. HasRange (rec_of self.now.fields.items
-            self.now.counters.cells.items self.now.pairs.cells.items e.body)) later.now }
+        requires spans { AllByRecursion (IsEntryHeld self.now) later.now }
+        requires ranges { AllByRecursion (λ e. HasRange (held_rec self.now e.body)) later.now }
         requires within { IsWithinLimits (with_records (later_recs self.now.fields.items
             self.now.counters.cells.items self.now.pairs.cells.items later.now) profile.old) }
         ensures added { OnOk result (IsAdded (later_recs self.now.fields.items
@@ -172,13 +152,29 @@ impl State {
             self.now.fields.items self.now.counters.cells.items self.now.pairs.cells.items
             later.now) profile.old profile.new) }
     {
-        let fields = self.fields.as_slice();
-        let counters = self.counters.cells.as_slice();
-        let pairs = self.pairs.cells.as_slice();
         for i in 0..later.len() {
-            add_hist(profile, later[i].body, fields, counters, pairs)?;
+            self.add_hist(profile, later[i].body)?;
         }
         Ok(())
+    }
+
+    /// Adds a record where it is a histogram.
+    fn add_hist(&self, profile: &mut Profile, body: Body) -> Result<(), AddRefusal>
+        requires held { IsBodyHeld self.now body }
+        requires range { HasRange (held_rec self.now body) }
+        requires within { IsWithinLimits (with_records (hist_recs self.now.fields.items
+            self.now.counters.cells.items self.now.pairs.cells.items body) profile.old) }
+        ensures added { OnOk result (IsAdded (hist_recs self.now.fields.items
+            self.now.counters.cells.items self.now.pairs.cells.items body)
+            profile.old profile.new) }
+        ensures stopped { IfErr result (λ refusal. IsStopped refusal (hist_recs
+            self.now.fields.items self.now.counters.cells.items self.now.pairs.cells.items body)
+            profile.old profile.new) }
+    {
+        match body {
+            Body::Hist { .. } => self.add_body(profile, body),
+            Body::Blocks { .. } => Ok(()),
+        }
     }
 
     /// Adds the arcs before each entry, and its counts of blocks.
@@ -200,24 +196,20 @@ impl State {
 
     /// Adds the arcs before an entry, and its counts of blocks.
     fn add_other(&self, profile: &mut Profile, entry: Entry) -> Result<(), AllocError>
-        requires spans { IsWithin (length self.now.fields.items)
-            (length self.now.counters.cells.items) (length self.now.pairs.cells.items)
-            (length self.now.arcs.items) entry }
+        requires held { IsEntryHeld self.now entry }
         requires within { IsWithinLimits (with_records
             (other_recs self.now.pairs.cells.items self.now.arcs.items entry) profile.old) }
         ensures { OnOk result (IsAdded
             (other_recs self.now.pairs.cells.items self.now.arcs.items entry)
             profile.old profile.new) }
     {
-        let arcs = self.arcs.as_slice();
-        profile.add_arcs(&arcs[entry.first as usize..entry.last as usize])?;
+        profile.add_arcs(self.arcs_before(entry))?;
         self.add_counts_of(profile, entry.body)
     }
 
     /// Adds the counts of blocks where a record has some.
     fn add_counts_of(&self, profile: &mut Profile, body: Body) -> Result<(), AllocError>
-        requires spans { IsBodyWithin (length self.now.fields.items)
-            (length self.now.counters.cells.items) (length self.now.pairs.cells.items) body }
+        requires held { IsBodyHeld self.now body }
         requires within { IsWithinLimits (with_records
             (block_recs self.now.pairs.cells.items body) profile.old) }
         ensures { OnOk result (IsAdded
@@ -230,29 +222,6 @@ impl State {
                 profile.add_blocks(&pairs[start as usize..end as usize])
             }
         }
-    }
-}
-
-/// Adds a record where it is a histogram.
-fn add_hist(
-    profile: &mut Profile,
-    body: Body,
-    fields: &[HistFields],
-    counters: &[u16],
-    pairs: &[RawBlock],
-) -> Result<(), AddRefusal>
-    requires spans { IsBodyWithin (length fields.now) (length counters.now) (length pairs.now) body }
-    requires range { HasRange (rec_of fields.now counters.now pairs.now body) }
-    requires within { IsWithinLimits (with_records
-        (hist_recs fields.now counters.now pairs.now body) profile.old) }
-    ensures added { OnOk result (IsAdded (hist_recs fields.now counters.now pairs.now body)
-        profile.old profile.new) }
-    ensures stopped { IfErr result (λ refusal. IsStopped refusal
-        (hist_recs fields.now counters.now pairs.now body) profile.old profile.new) }
-{
-    match body {
-        Body::Hist { .. } => add_body(profile, body, fields, counters, pairs),
-        Body::Blocks { .. } => Ok(()),
     }
 }
 
@@ -347,28 +316,11 @@ fn hist_order(
         AllByRecursion (λ p. p.entry < length entries.now) order.items) }
     ensures all { IfOk result (λ order. IsOrderOf entries.now order.items) }
 {
-    let mut order = hists_of(alloc, fields, entries)?;
-    order.sort_unstable_by_key(|placed| placed.range.low);
-    Ok(order)
-}
-
-/// The histograms among entries in the order of the file.
-fn hists_of(
-    alloc: Global,
-    fields: &[HistFields],
-    entries: &[Entry],
-) -> Result<Vec<Placed>, AllocError>
-    requires fields { AllByRecursion (λ e. IsPlacedIn (length fields.now) e.body) entries.now }
-    requires few { length entries.now < 2 ^ 32 }
-    ensures inside { IfOk result (λ order.
-        AllByRecursion (λ p. p.entry < length entries.now) order.items) }
-    ensures all { IfOk result (λ order. placed_entries entries.now order.items
-        ≡ map Some (hists_among entries.now)) }
-{
     let mut order = Vec::new(alloc);
     for i in 0..entries.len() {
         push_hist(&mut order, fields, entries[i].body, i as u32)?;
     }
+    order.sort_unstable_by_key(|placed| placed.range.low);
     Ok(order)
 }
 
@@ -382,21 +334,8 @@ fn push_hist(
     requires { IsPlacedIn (length fields.now) body }
     ensures { OnOk result (order.new.items ≡ order.old.items ++ place_of fields.now body entry) }
 {
-    match body {
-        Body::Hist {
-            fields: number,
-            start,
-            end,
-        } => {
-            let own = fields[number as usize];
-            let range = HistRange {
-                low: own.low,
-                high: own.high,
-                count: end - start,
-            };
-            order.push(Placed { range, entry })?;
-            Ok(())
-        }
-        Body::Blocks { .. } => Ok(()),
+    match hist_of(fields, body) {
+        Some((range, _)) => Ok(order.push(Placed { range, entry })?),
+        None => Ok(()),
     }
 }

@@ -116,27 +116,21 @@ fn put_hist_piece<H: Host>(
         (H.outside host.old) (H.outside host.new) result }
     ensures ready { OnOk result ((H.outside host.new).is_writing ≡ true) }
 {
-    put_hist_header(hist, unit, out, host)?;
+    out.put(host, &hist_front(hist, unit))?;
     put_counters(j, hist.counters.as_slice(), out, host)
 }
 
-fn put_hist_header<H: Host>(
-    hist: &Hist,
-    unit: Unit,
-    out: &mut OutBuf,
-    host: &mut H,
-) -> Result<(), Failed>
-    requires few { length hist.now.counters < 2 ^ 32 }
-    requires ready { (H.outside host.old).is_writing ≡ true }
-    ensures adds { Adds File (hist_header «unit» hist.now) out.old out.new (H.outside host.old)
-        (H.outside host.new) result }
-    ensures ready { OnOk result ((H.outside host.new).is_writing ≡ true) }
+/// A histogram up to its counters.
+fn hist_front(hist: &Hist, unit: Unit) -> [u8; 33]
+    requires { length hist.now.counters < 2 ^ 32 }
+    ensures { result ≡ hist_header «unit» hist.now }
 {
     let counters = hist.counters.as_slice().len() as u32;
-    out.put(host, &[HIST_TAG])?;
-    out.put(host, &hist_text(hist.low, hist.high, counters, unit.rate))?;
-    out.put(host, &unit.dim)?;
-    out.put(host, &[unit.abbrev])
+    let mut front = [HIST_TAG; 33];
+    front[1..17].copy_from_slice(&hist_text(hist.low, hist.high, counters, unit.rate));
+    front[17..32].copy_from_slice(&unit.dim);
+    front[32] = unit.abbrev;
+    front
 }
 
 /// Piece `j` of each counter.

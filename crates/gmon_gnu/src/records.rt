@@ -1,13 +1,14 @@
 //! The records of a file, made from what was read of it.
 
 ghost use Rattle.std.specs.Prelude.{◌≡◌, ◌≤◌, ◌++◌, length, IfOk, OnOk};
+ghost use Rattle.gmon_cells.specs.Views.{rec_viewed};
 ghost use Rattle.gmon_gnu.specs.Going.{resume};
-ghost use Rattle.gmon_gnu.specs.Held.{IsHeld, IsWithin, AreWithin, recs_of, entry_recs, rec_of, IsBodyWithin, open_of, rest_of};
+ghost use Rattle.gmon_gnu.specs.Held.{IsHeld, IsEntryHeld, AreWithin, recs_of, held_recs, open_of, rest_of};
 ghost use Rattle.gmon_gnu.specs.Ending.{ending_result};
 
-use crate::state::{Body, Entry, HistFields, Part, State};
-use gmon_cells::push_arcs;
-use gp_base::{BlockList, Counts, GmonRefusal, RawArc, RawBlock, RawHist, Rec, RecList};
+use crate::state::{Entry, Part, State};
+use gmon_cells::{RecView, push_arcs};
+use gp_base::{BlockList, Counts, GmonRefusal, RawHist, Rec, RecList};
 use std::alloc::{AllocError, Global};
 
 impl State {
@@ -37,68 +38,41 @@ impl State {
         requires run { self.now.run ≤ length self.now.arcs.items }
         ensures { IfOk result (λ recs. recs ≡ recs_of self.now) }
     {
-        let fields = self.fields.as_slice();
-        let counters = self.counters.cells.as_slice();
-        let pairs = self.pairs.cells.as_slice();
         let arcs = self.arcs.as_slice();
         let entries = self.entries.as_slice();
         let mut recs = Vec::with_capacity(alloc, entries.len() + arcs.len())?;
         for i in 0..entries.len() {
-            push_entry(alloc, &mut recs, entries[i], fields, counters, pairs, arcs)?;
+            self.push_entry(alloc, &mut recs, entries[i])?;
         }
         push_arcs(&mut recs, &arcs[self.run as usize..])?;
         Ok(RecList::from(recs))
     }
+
+    /// Adds the records of an entry: the arcs before it, and what it stands for.
+    fn push_entry(&self, alloc: Global, recs: &mut Vec<Rec>, entry: Entry) -> Result<(), AllocError>
+        requires { IsEntryHeld self.now entry }
+        ensures { OnOk result (recs.new.items ≡ recs.old.items ++ held_recs self.now entry) }
+    {
+        push_arcs(recs, self.arcs_before(entry))?;
+        recs.push(owned(alloc, self.view(entry.body))?)?;
+        Ok(())
+    }
 }
 
-/// Adds the records of an entry: the arcs before it, and what it stands for.
-fn push_entry(
-    alloc: Global,
-    recs: &mut Vec<Rec>,
-    entry: Entry,
-    fields: &[HistFields],
-    counters: &[u16],
-    pairs: &[RawBlock],
-    arcs: &[RawArc],
-) -> Result<(), AllocError>
-    requires { IsWithin (length fields.now) (length counters.now) (length pairs.now) (length arcs.now) entry }
-    ensures { OnOk result (recs.new.items ≡ recs.old.items
-        ++ entry_recs fields.now counters.now pairs.now arcs.now entry) }
+/// A record with lists of its own.
+fn owned(alloc: Global, view: RecView<'_>) -> Result<Rec, AllocError>
+    ensures { IfOk result (λ rec. rec ≡ rec_viewed view.entry) }
 {
-    push_arcs(recs, &arcs[entry.first as usize..entry.last as usize])?;
-    recs.push(record_of(alloc, entry.body, fields, counters, pairs)?)?;
-    Ok(())
-}
-
-/// The record that counters or pairs belong to.
-fn record_of(
-    alloc: Global,
-    body: Body,
-    fields: &[HistFields],
-    counters: &[u16],
-    pairs: &[RawBlock],
-) -> Result<Rec, AllocError>
-    requires { IsBodyWithin (length fields.now) (length counters.now) (length pairs.now) body }
-    ensures { IfOk result (λ rec. rec ≡ rec_of fields.now counters.now pairs.now body) }
-{
-    match body {
-        Body::Hist {
-            fields: number,
-            start,
-            end,
-        } => {
-            let own = fields[number as usize];
-            let counts = &counters[start as usize..end as usize];
-            Ok(Rec::Hist(RawHist {
-                low: own.low,
-                high: own.high,
-                unit: own.unit,
-                counters: Counts::from(Vec::from_slice(alloc, counts)?),
-            }))
-        }
-        Body::Blocks { start, end } => {
-            let blocks = Vec::from_slice(alloc, &pairs[start as usize..end as usize])?;
-            Ok(Rec::Blocks(BlockList::from(blocks)))
+    match view {
+        RecView::Hist(hist) => Ok(Rec::Hist(RawHist {
+            low: hist.low,
+            high: hist.high,
+            unit: hist.unit,
+            counters: Counts::from(Vec::from_slice(alloc, hist.counters)?),
+        })),
+        RecView::Arc(arc) => Ok(Rec::Arc(arc)),
+        RecView::Blocks(blocks) => {
+            Ok(Rec::Blocks(BlockList::from(Vec::from_slice(alloc, blocks)?)))
         }
     }
 }

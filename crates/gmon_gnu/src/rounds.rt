@@ -4,7 +4,7 @@ ghost use Rattle.std.specs.Prelude.{◌≡◌, ◌+◌, ◌*◌, ◌-◌, ◌^�
 ghost use Rattle.std.specs.List.{flat_map};
 ghost use Rattle.host_port.specs.Buffered.{Adds};
 ghost use Rattle.host_port.specs.declared.side.Side.TheVariants.{File};
-ghost use Rattle.gmon_gnu.specs.Pieces.{left_bytes, left_of, part_of, round_bytes, rounds_text, AreMarks, IsPartSize};
+ghost use Rattle.gmon_gnu.specs.Pieces.{blocks_front, left_bytes, left_of, part_of, round_bytes, rounds_text, AreMarks, IsPartSize};
 
 use crate::pieces::{MOST_CALLS, has_left, piece};
 use gmon_data::Profile;
@@ -12,7 +12,7 @@ use gp_base::le4;
 use host_port::{Failed, Host, OutBuf};
 
 /// The tag of counts of basic blocks.
-pub(crate) const BLOCKS_TAG: u8 = 2;
+const BLOCKS_TAG: u8 = 2;
 
 /// How many addresses are listed at most.
 const FEW: usize = 256;
@@ -56,6 +56,17 @@ pub(crate) fn put_rounds<H: Host>(
     Ok(())
 }
 
+/// What stands in front of so many counts of basic blocks: their tag, and their number.
+pub(crate) fn put_front<H: Host>(number: u32, out: &mut OutBuf, host: &mut H) -> Result<(), Failed>
+    requires { (H.outside host.old).is_writing ≡ true }
+    ensures adds { Adds File (blocks_front number) out.old out.new (H.outside host.old)
+        (H.outside host.new) result }
+    ensures ready { OnOk result ((H.outside host.new).is_writing ≡ true) }
+{
+    out.put(host, &[BLOCKS_TAG])?;
+    out.put(host, &le4(number))
+}
+
 /// The addresses that have something left for round `j`, with their piece.
 fn put_round<H: Host>(
     j: u64,
@@ -75,8 +86,7 @@ fn put_round<H: Host>(
         (H.outside host.new) result }
     ensures ready { OnOk result ((H.outside host.new).is_writing ≡ true) }
 {
-    out.put(host, &[BLOCKS_TAG])?;
-    out.put(host, &le4(left))?;
+    put_front(left, out, host)?;
     put_left(j, size, profile, marks, out, host)
 }
 
@@ -230,8 +240,7 @@ fn put_few<H: Host>(
         (H.outside host.new) result }
     ensures ready { OnOk result ((H.outside host.new).is_writing ≡ true) }
 {
-    out.put(host, &[BLOCKS_TAG])?;
-    out.put(host, &le4(few.len() as u32))?;
+    put_front(few.len() as u32, out, host)?;
     put_listed(j, few, out, host)
 }
 

@@ -2,23 +2,62 @@
 
 ghost use Rattle.std.specs.Prelude.{◌≡◌, ◌≤◌, [], ◌∷◌, length, None, IfSome};
 ghost use Rattle.gmon_cells.specs.Views.{rec_viewed};
-ghost use Rattle.gmon_gnu.specs.Held.{AreWithin, IsBodyWithin, rec_of, recs_of};
+ghost use Rattle.gmon_gnu.specs.Held.{arcs_before, held_rec, recs_of, AreWithin, IsBodyHeld};
 ghost use Rattle.gmon_gnu.specs.Viewed.{front_arcs as spec_front, IsFrontWithin};
 
-use crate::state::{Body, Entry, HistFields, State};
+use crate::state::{Body, Entry, State};
 use gmon_cells::{HistView, RecView};
-use gp_base::{RawArc, RawBlock};
+use gp_base::RawArc;
 use std::marker::Model;
+
+impl State {
+    /// The record that counters or pairs belong to.
+    pub(crate) fn view(&self, body: Body) -> RecView<'_>
+        requires { IsBodyHeld self.now body }
+        ensures { rec_viewed result ≡ held_rec self.now body }
+    {
+        match body {
+            Body::Hist { fields, start, end } => {
+                let own = self.fields.as_slice()[fields as usize];
+                RecView::Hist(HistView {
+                    low: own.low,
+                    high: own.high,
+                    unit: own.unit,
+                    counters: &self.counters.cells.as_slice()[start as usize..end as usize],
+                })
+            }
+            Body::Blocks { start, end } => {
+                RecView::Blocks(&self.pairs.cells.as_slice()[start as usize..end as usize])
+            }
+        }
+    }
+
+    /// The arcs before an entry.
+    pub(crate) fn arcs_before(&self, entry: Entry) -> &[RawArc]
+        requires { IsFrontWithin (length self.now.arcs.items) (entry ∷ []) }
+        ensures { result.now ≡ arcs_before self.now.arcs.items entry }
+    {
+        &self.arcs.as_slice()[entry.first as usize..entry.last as usize]
+    }
+
+    /// The arcs in front of the record of the first entry, or behind all entries.
+    fn front_arcs(&self, entries: &[Entry]) -> &[RawArc]
+        requires front { IsFrontWithin (length self.now.arcs.items) entries.now }
+        requires run { self.now.run ≤ length self.now.arcs.items }
+        ensures { result.now ≡ spec_front self.now.arcs.items entries.now self.now.run }
+    {
+        match entries.first() {
+            Some(entry) => self.arcs_before(*entry),
+            None => &self.arcs.as_slice()[self.run as usize..],
+        }
+    }
+}
 
 /// The records of a file that are left to be given, in file order: the arcs that come next, and the entries
 /// whose records come behind them. Contracts see the list of them.
 #[derive(Drop)]
 pub struct RecordViews<'r> {
-    fields: &'r [HistFields],
-    counters: &'r [u16],
-    pairs: &'r [RawBlock],
-    arcs: &'r [RawArc],
-    run: u32,
+    state: &'r State,
     front: &'r [RawArc],
     entries: &'r [Entry],
 }
@@ -43,15 +82,10 @@ impl<'r> RecordViews<'r> {
         requires run { state.now.run ≤ length state.now.arcs.items }
         ensures { result ≡ recs_of state.now }
     {
-        let arcs = state.arcs.as_slice();
         let entries = state.entries.as_slice();
         RecordViews {
-            fields: state.fields.as_slice(),
-            counters: state.counters.cells.as_slice(),
-            pairs: state.pairs.cells.as_slice(),
-            arcs,
-            run: state.run,
-            front: front_arcs(arcs, entries, state.run),
+            state,
+            front: state.front_arcs(entries),
             entries,
         }
     }
@@ -67,54 +101,15 @@ impl<'r> RecordViews<'r> {
             self.front = behind;
             return Some(RecView::Arc(*arc));
         }
+        let state = self.state;
         let entries = self.entries;
         match entries.split_first() {
             Some((entry, behind)) => {
                 self.entries = behind;
-                self.front = front_arcs(self.arcs, behind, self.run);
-                Some(view_of(entry.body, self.fields, self.counters, self.pairs))
+                self.front = state.front_arcs(behind);
+                Some(state.view(entry.body))
             }
             None => None,
         }
-    }
-}
-
-/// The arcs in front of the record of the first entry, or behind all entries.
-fn front_arcs<'r>(arcs: &'r [RawArc], entries: &[Entry], run: u32) -> &'r [RawArc]
-    requires front { IsFrontWithin (length arcs.now) entries.now }
-    requires run { run ≤ length arcs.now }
-    ensures { result.now ≡ spec_front arcs.now entries.now run }
-{
-    match entries.first() {
-        Some(entry) => &arcs[entry.first as usize..entry.last as usize],
-        None => &arcs[run as usize..],
-    }
-}
-
-/// The record that counters or pairs belong to.
-fn view_of<'r>(
-    body: Body,
-    fields: &[HistFields],
-    counters: &'r [u16],
-    pairs: &'r [RawBlock],
-) -> RecView<'r>
-    requires { IsBodyWithin (length fields.now) (length counters.now) (length pairs.now) body }
-    ensures { rec_viewed result ≡ rec_of fields.now counters.now pairs.now body }
-{
-    match body {
-        Body::Hist {
-            fields: number,
-            start,
-            end,
-        } => {
-            let own = fields[number as usize];
-            RecView::Hist(HistView {
-                low: own.low,
-                high: own.high,
-                unit: own.unit,
-                counters: &counters[start as usize..end as usize],
-            })
-        }
-        Body::Blocks { start, end } => RecView::Blocks(&pairs[start as usize..end as usize]),
     }
 }

@@ -1,15 +1,8 @@
-use Rattle.std.proofs.Common.{◌≡◌, take, true, Ok}
-use Rattle.std.specs.List.{flat_map, range_with_len}
-use Rattle.host_port.specs.declared.side.Side.TheVariants.{File}
-use Rattle.host_port.specs.Buffered.{Adds}
-use Rattle.host_port.specs.declared.host.Failed.{Failed}
+use Rattle.std.specs.List.{range_with_len}
+use Rattle.gmon_cells.proofs.PuttingLemmas.{HasPut}
 use Rattle.gmon_gnu.specs.Grammar.{hist_bytes}
 use Rattle.gmon_gnu.specs.Splitting.{most_samples, pieces_of, largest, hist_piece, raw_hist}
 use Rattle.gmon_gnu.proofs.profile_file.put_hist_pieces.Given as goal
 
--- the items so far are put
 abbrev pub invariant-loop-j : goal.invariant-loop-j
-invariant-loop-j g l = record {
-  put : Adds {E = Failed} File (flat_map (λ j. hist_bytes (raw_hist l.«unit» (hist_piece l.hist j))) (take l.j (range_with_len 0 (pieces_of most_samples (largest l.hist.counters))))) l.initial.out l.out (g.H.Host.outside l.initial.host) (g.H.Host.outside l.host) (Ok (tt {0}));
-  ready : (g.H.Host.outside l.host).is_writing ≡ true;
-}
+invariant-loop-j g l = HasPut (λ j. hist_bytes (raw_hist l.«unit» (hist_piece l.hist j))) (range_with_len 0 (pieces_of most_samples (largest l.hist.counters))) l.j l.initial.out l.out (g.H.Host.outside l.initial.host) (g.H.Host.outside l.host)

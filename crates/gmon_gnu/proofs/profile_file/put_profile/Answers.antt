@@ -23,30 +23,26 @@ pub returns-in_err-put-clause-adds : goal.returns-in_err-put-clause-adds
 returns-in_err-put-clause-adds g c =
     let e = err_from_is_err_and c.from_residual.result c.from_residual.ensures.1 in
     let p = c.args.profile.now in
-    let text = profile_parts p in
-    rw (e.1, ← text) (adds_front File header (hists p ++ (calls p ++ runs p)) _ _ _ _ _ c.in_err-put.ensures.adds)
+    rw (e.1, ← profile_parts p) (adds_front File header (hists p ++ (calls p ++ runs p)) _ _ _ _ _ c.in_err-put.ensures.adds)
 
 pub returns-in_err-put_hists-clause-adds : goal.returns-in_err-put_hists-clause-adds
 returns-in_err-put_hists-clause-adds g c =
     let e = err_from_is_err_and c.from_residual-in_err-put_hists.result c.from_residual-in_err-put_hists.ensures.1 in
     let p = c.args.profile.now in
-    let text = profile_parts p in
-    rw (e.1, ← text) (adds_then File header (hists p ++ (calls p ++ runs p)) _ _ _ _ _ _ (tt {0}) _ c.in_ok-put.ensures.adds
+    rw (e.1, ← profile_parts p) (adds_then File header (hists p ++ (calls p ++ runs p)) _ _ _ _ _ _ (tt {0}) _ c.in_ok-put.ensures.adds
     (adds_front File (hists p) (calls p ++ runs p) _ _ _ _ _ c.in_err-put_hists.ensures.adds))
 
 pub returns-in_err-put_calls-clause-adds : goal.returns-in_err-put_calls-clause-adds
 returns-in_err-put_calls-clause-adds g c =
     let e = err_from_is_err_and c.from_residual-in_err-put_calls.result c.from_residual-in_err-put_calls.ensures.1 in
     let p = c.args.profile.now in
-    let text = profile_parts p in
-    rw (e.1, ← text) (adds_then File header (hists p ++ (calls p ++ runs p)) _ _ _ _ _ _ (tt {0}) _ c.in_ok-put.ensures.adds
+    rw (e.1, ← profile_parts p) (adds_then File header (hists p ++ (calls p ++ runs p)) _ _ _ _ _ _ (tt {0}) _ c.in_ok-put.ensures.adds
     (adds_then File (hists p) (calls p ++ runs p) _ _ _ _ _ _ (tt {0}) _ c.in_ok-put_hists.ensures.adds
     (adds_front File (calls p) (runs p) _ _ _ _ _ c.in_err-put_calls.ensures.adds)))
 
 pub returns-clause-adds : goal.returns-clause-adds
 returns-clause-adds g c =
     let p = c.args.profile.now in
-    let text = profile_parts p in
-    rw (← text) (adds_then File header (hists p ++ (calls p ++ runs p)) _ _ _ _ _ _ (tt {0}) _ c.in_ok-put.ensures.adds
+    rw (← profile_parts p) (adds_then File header (hists p ++ (calls p ++ runs p)) _ _ _ _ _ _ (tt {0}) _ c.in_ok-put.ensures.adds
     (adds_then File (hists p) (calls p ++ runs p) _ _ _ _ _ _ (tt {0}) _ c.in_ok-put_hists.ensures.adds
     (adds_then File (calls p) (runs p) _ _ _ _ _ _ (tt {0}) _ c.in_ok-put_calls.ensures.adds c.put_runs.ensures.adds)))

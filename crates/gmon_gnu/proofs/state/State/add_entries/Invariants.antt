@@ -5,4 +5,5 @@ use Rattle.gmon_gnu.proofs.state.State.add_entries.Given as goal
 
 abbrev pub invariant-loop-i : goal.invariant-loop-i
 invariant-loop-i l =
-    IsUnderway (entries_recs l.fields l.counters l.pairs l.arcs l.entries) (entries_recs l.fields l.counters l.pairs l.arcs (drop l.i l.entries)) l.initial.profile l.profile
+    let recs = entries_recs l.self.fields.items l.self.counters.cells.items l.self.pairs.cells.items l.self.arcs.items in
+    IsUnderway (recs l.self.entries.items) (recs (drop l.i l.self.entries.items)) l.initial.profile l.profile

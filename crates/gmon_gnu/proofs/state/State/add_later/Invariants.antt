@@ -5,4 +5,5 @@ use Rattle.gmon_gnu.proofs.state.State.add_later.Given as goal
 
 abbrev pub invariant-loop-i : goal.invariant-loop-i
 invariant-loop-i l =
-    IsUnderway (later_recs l.fields l.counters l.pairs l.later) (later_recs l.fields l.counters l.pairs (drop l.i l.later)) l.initial.profile l.profile
+    let recs = later_recs l.self.fields.items l.self.counters.cells.items l.self.pairs.cells.items in
+    IsUnderway (recs l.later) (recs (drop l.i l.later)) l.initial.profile l.profile

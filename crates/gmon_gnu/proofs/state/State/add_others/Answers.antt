@@ -4,13 +4,10 @@ use Rattle.std.proofs.lemmas.Option.{slice_get-get_or}
 use Rattle.gmon_data.specs.Content.{IsAdded, IsWithin as IsWithinLimits, with_records}
 use Rattle.gmon_data.proofs.LoopLemmas.{item_added, item_within, items_done, joined}
 use Rattle.gmon_data.proofs.RecordLemmas.{at_begin}
-use Rattle.gmon_gnu.specs.declared.state.Body.TheVariants.{Hist}
+use Rattle.gmon_gnu.specs.Held.{no_entry}
 use Rattle.gmon_gnu.specs.declared.state.Entry.{Entry}
 use Rattle.gmon_gnu.specs.Making.{other_recs}
 use Rattle.gmon_gnu.proofs.state.State.add_others.Goals as goal
-
-abbrev none : Entry
-none = record { first = 0; last = 0; body = Hist 0 0 0 }
 
 pub loop-i-init : goal.loop-i-init
 loop-i-init c = at_begin (flat_map (other_recs c.args.self.now.pairs.cells.items c.args.self.now.arcs.items) c.as_slice-entries.result.now) c.args.profile.now
@@ -21,7 +18,7 @@ add_other-requires-clause-within c =
     let entries = c.as_slice-entries.result.now in
     let i = c.loop-i.i in
     let old = c.args.profile.now in
-    item_within (joined f) entries i old c.loop-i.profile c.loop-i.invariant (get_or entries i none) (slice_get-get_or entries i none c.loop-i-test.true)
+    item_within (joined f) entries i old c.loop-i.profile c.loop-i.invariant (get_or entries i no_entry) (slice_get-get_or entries i no_entry c.loop-i-test.true)
     (subst (λ (es : List Entry). IsWithinLimits (with_records (flat_map f es) old)) (sym c.as_slice-entries.ensures.value) c.requires.within)
 
 pub loop-i-preserved : goal.loop-i-preserved
@@ -29,7 +26,7 @@ loop-i-preserved c =
     let f = other_recs c.args.self.now.pairs.cells.items c.args.self.now.arcs.items in
     let entries = c.as_slice-entries.result.now in
     let i = c.loop-i.i in
-    item_added (joined f) entries i c.args.profile.now c.loop-i.profile c.loop-i.invariant (get_or entries i none) (slice_get-get_or entries i none c.loop-i-test.true)
+    item_added (joined f) entries i c.args.profile.now c.loop-i.profile c.loop-i.invariant (get_or entries i no_entry) (slice_get-get_or entries i no_entry c.loop-i-test.true)
     c.add_other.new.profile c.in_ok-add_other.ensures
 
 pub returns : goal.returns

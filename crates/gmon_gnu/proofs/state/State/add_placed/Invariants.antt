@@ -5,4 +5,5 @@ use Rattle.gmon_gnu.proofs.state.State.add_placed.Given as goal
 
 abbrev pub invariant-loop-i : goal.invariant-loop-i
 invariant-loop-i l =
-    IsUnderway (placed_recs l.fields l.counters l.pairs l.first l.order) (placed_recs l.fields l.counters l.pairs l.first (drop l.i l.order)) l.initial.profile l.profile
+    let recs = placed_recs l.self.fields.items l.self.counters.cells.items l.self.pairs.cells.items l.first in
+    IsUnderway (recs l.order) (recs (drop l.i l.order)) l.initial.profile l.profile

@@ -4,7 +4,7 @@ use Rattle.gmon_gnu.specs.declared.state.Part.{Part}
 use Rattle.gmon_gnu.specs.declared.state.Part.TheVariants as part
 use Rattle.gmon_gnu.specs.Held.{recs_of, IsPart, IsPartial, width_of}
 use Rattle.gmon_gnu.proofs.StateLemmas.{goes_at, follows_front, partial_less}
-use Rattle.gmon_gnu.proofs.TakingLemmas.{few_begun, room_begun}
+use Rattle.gmon_gnu.proofs.TakingLemmas.{can_begin}
 use Rattle.gmon_gnu.specs.Begun.{arcs_of, cost_of, fields_of}
 use Rattle.gmon_gnu.proofs.state.State.take_front.Goals as goal
 
@@ -24,19 +24,13 @@ returns c =
     let taken = filled_whole width s.torn front piece rest c.fill-rest.ensures.filled c.fill-rest.ensures.rest in
     let held = c.as_slice-2.ensures in
     let less : length rest < length piece = omega (arith, ap length taken, full, length-append front rest, length-append s.torn piece, partial_less s.torn partial some, width_is) in
-    let begins = c.begin-2.ensures.begins in
     let b = c.front_of-begun in
     let len : length c.as_slice-2.result.now ≡ width = omega (arith, ap length held, full) in
     let arcs : 13 * arcs_of b.result + length rest ≤ length s.torn + length piece = omega (arith, b.ensures.arcs, len, ap length taken, full, length-append front rest, length-append s.torn piece) in
     let fields : 33 * fields_of b.result + length rest ≤ length s.torn + length piece = omega (arith, b.ensures.fields, len, ap length taken, full, length-append front rest, length-append s.torn piece) in
     let entries : 5 * cost_of b.result + length rest ≤ length s.torn + length piece = omega (arith, b.ensures.cost, len, ap length taken, full, length-append front rest, length-append s.torn piece) in
-    let shorter : length rest ≤ length piece = omega (arith, less) in
     record {
-      ready = record {
-        held = c.begin-2.ensures.held;
-        room = room_begun (length piece) (length rest) b.result c.clear.new.self s c.begin-2.new.self c.requires.can.room c.requires.part begins shorter arcs fields entries;
-        few = few_begun c.args.total (length piece) (length rest) b.result c.clear.new.self s c.begin-2.new.self c.requires.can.few c.requires.part begins shorter arcs fields entries;
-      };
+      ready = can_begin c.args.total piece rest c.clear.new.self b.result s c.begin-2.new.self c.requires.can c.begin-2.ensures.held c.requires.part c.begin-2.ensures.begins (omega (arith, less)) arcs fields entries;
       goes = λ whole long goes.
           let was = goes_at whole s piece part.Between c.requires.part goes in
           let at_is : c.args.total - width - length rest ≡ length whole - length (c.as_slice-2.result.now ++ rest) = omega (arith, long, full, ap length held, length-append c.as_slice-2.result.now rest) in

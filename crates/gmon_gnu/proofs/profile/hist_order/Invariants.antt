@@ -1,7 +1,7 @@
 use Rattle.std.proofs.Common.{◌≡◌, ◌<◌, Some, length, map, take}
 use Rattle.std.specs.List.{AllByRecursion}
 use Rattle.gmon_gnu.specs.Making.{hists_among, placed_entries}
-use Rattle.gmon_gnu.proofs.profile.hists_of.Given as goal
+use Rattle.gmon_gnu.proofs.profile.hist_order.Given as goal
 
 abbrev pub invariant-loop-i : goal.invariant-loop-i
 invariant-loop-i l = record {
