@@ -1,11 +1,13 @@
 -- What a file holds at most, and that its histogram has a range.
-use Rattle.std.proofs.Common.{◌≡◌, ℕ, ◌+◌, ◌*◌, ◌≤◌, List, [], ◌∷◌, ◌++◌, length, length-append, map, refl, sym, subst, arith}
+use Rattle.std.proofs.Common.{ℕ, ◌+◌, ◌*◌, ◌≤◌, List, [], ◌∷◌, ◌++◌, length, length-append, map, sym, subst, arith}
 use Rattle.std.specs.List.{AllByRecursion, flat_map}
 use Rattle.gp_base.specs.declared.records.RawArc.{RawArc}
 use Rattle.gp_base.specs.declared.records.Rec.{Rec}
 use Rattle.gp_base.specs.declared.records.Rec.TheVariants as raw
 use Rattle.gp_base.specs.declared.records.Records.{Records}
 use Rattle.gp_base.specs.Fields.{seconds, arc_bytes, counter_bytes}
+use Rattle.gp_base.proofs.Cutting.{length-spelled}
+use Rattle.gp_base.proofs.FieldLemmas.{arc_length, counter_length}
 use Rattle.gp_base.specs.Spans.{HasRange}
 use Rattle.gmon_data.specs.Content.{WideRec, empty_content, hist_over, wide_records, with_hist, with_records}
 use Rattle.gmon_data.specs.Sizes.{IsOfBytes}
@@ -13,17 +15,9 @@ use Rattle.gmon_data.proofs.SizeLemmas.{all_arcs, counters_sum, more_bytes, of_n
 use Rattle.gmon_bsd.specs.Grammar.{BsdSpells, bsd_spelling}
 use Rattle.gmon_data.proofs.RecordLemmas.{arcs_widened}
 
-counters_long : (counters : List ℕ) → length (flat_map counter_bytes counters) ≡ 2 * length counters
-counters_long [] = refl
-counters_long (c ∷ counters) = omega (arith, counters_long counters)
-
-arcs_long : (arcs : List RawArc) → length (flat_map arc_bytes arcs) ≡ 12 * length arcs
-arcs_long [] = refl
-arcs_long (a ∷ arcs) = omega (arith, arcs_long arcs)
-
 spelling_long : (low high rate : ℕ) (spare counters : List ℕ) (arcs : List RawArc) → 2 * length counters + 12 * length arcs ≤ length (bsd_spelling low high rate spare counters arcs)
 spelling_long low high rate spare counters arcs =
-    omega (arith, counters_long counters, arcs_long arcs, length-append spare (flat_map counter_bytes counters ++ flat_map arc_bytes arcs), length-append (flat_map counter_bytes counters) (flat_map arc_bytes arcs))
+    omega (arith, length-spelled 2 counter_bytes counter_length counters, length-spelled 12 arc_bytes arc_length arcs, length-append spare (flat_map counter_bytes counters ++ flat_map arc_bytes arcs), length-append (flat_map counter_bytes counters) (flat_map arc_bytes arcs))
 
 pub of_spelling : (bytes : List ℕ) (r : Records) → BsdSpells bytes r → IsOfBytes (length bytes) (with_records (wide_records r.recs) empty_content)
 of_spelling bytes r spells =

@@ -6,11 +6,12 @@ use Rattle.gp_base.specs.declared.records.Rec.{Rec}
 use Rattle.gp_base.specs.declared.records.Records.{Records}
 use Rattle.gp_base.specs.declared.records.Form.TheVariants.{Gnu}
 use Rattle.gp_base.specs.declared.refusal.GmonRefusal.{GmonRefusal}
-use Rattle.gp_base.specs.declared.refusal.GmonRefusal.TheVariants.{Short, Version, Tag, Range, Size, Rest, OutOfMemory}
+use Rattle.gp_base.specs.declared.refusal.GmonRefusal.TheVariants.{Short, Version}
 use Rattle.gp_base.specs.Bytes.{word_at}
 use Rattle.gp_base.specs.Refusal.{IsRefusal}
 use Rattle.gp_base.specs.Spans.{HasRange}
 use Rattle.gmon_data.specs.Content.{wide_records}
+use Rattle.gmon_cells.proofs.RefusalLemmas.{given_one}
 use Rattle.gmon_gnu.specs.Adding.{spelled_records}
 use Rattle.gmon_gnu.specs.Fields.{gnu_version}
 use Rattle.gmon_gnu.specs.Reading.{behind_records, file_recs, refusal_read, recs_in, gnu_refusal, gnu_records}
@@ -60,17 +61,8 @@ read_out bytes kept o s is =
     ∙ ap (λ (n : ℕ). behind_records kept.recs (resume n kept.open_now kept.rest)) (sym s.len)
     ∙ ap (behind_records kept.recs) is
 
-pub is_refusal : (e : GmonRefusal) (given : Option GmonRefusal) → given ≡ Some e → IsRefusal e given
-is_refusal (Short at) given is = is
-is_refusal (Version value) given is = is
-is_refusal (Tag at value) given is = is
-is_refusal (Range at low high) given is = is
-is_refusal (Size value) given is = is
-is_refusal (Rest at) given is = is
-is_refusal OutOfMemory given is = tt
-
 pub refused_out : (bytes : List ℕ) (kept : Kept) (e : GmonRefusal) → StandsFor bytes kept → resume kept.len kept.open_now kept.rest ≡ Err e → IsRefusal e (gnu_refusal bytes)
-refused_out bytes kept e s is = is_refusal e (gnu_refusal bytes) (refusal_on bytes ∙ ap refusal_read (read_out bytes kept (Some e) s is))
+refused_out bytes kept e s is = given_one e (gnu_refusal bytes) (refusal_on bytes ∙ ap refusal_read (read_out bytes kept (Some e) s is))
 
 all_out : (bytes : List ℕ) (kept : Kept) → StandsFor bytes kept → resume kept.len kept.open_now kept.rest ≡ Ok [] → header_on (length bytes) bytes ≡ Ok kept.recs
 all_out bytes kept s is = read_out bytes kept None s is ∙ ap (λ (v : List Rec). let x : Result (List Rec) GmonRefusal = Ok v in x) (append-nil kept.recs)

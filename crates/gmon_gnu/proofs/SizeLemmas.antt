@@ -1,12 +1,13 @@
 -- What a file holds at most, and that its histograms have ranges.
-use Rattle.std.proofs.Common.{◌≡◌, ℕ, ◌+◌, ◌*◌, ◌≤◌, List, [], ◌∷◌, ◌++◌, length, length-append, refl, sym, subst, arith}
+use Rattle.std.proofs.Common.{◌≡◌, ℕ, ◌+◌, ◌*◌, ◌≤◌, List, [], ◌∷◌, ◌++◌, length, length-append, sym, subst, arith}
 use Rattle.std.specs.List.{AllByRecursion, flat_map, sum_by}
 use Rattle.std.proofs.lemmas.List.Sums.{sum_by-cons}
-use Rattle.gp_base.specs.declared.records.RawBlock.{RawBlock}
 use Rattle.gp_base.specs.declared.records.Rec.{Rec}
 use Rattle.gp_base.specs.declared.records.Rec.TheVariants as raw
 use Rattle.gp_base.specs.declared.records.Records.{Records}
 use Rattle.gp_base.specs.Fields.{block_bytes, counter_bytes}
+use Rattle.gp_base.proofs.Cutting.{length-spelled}
+use Rattle.gp_base.proofs.FieldLemmas.{block_length, counter_length}
 use Rattle.gp_base.specs.Spans.{HasRange}
 use Rattle.gmon_data.specs.Content.{Content, empty_content, wide_hist, wide_record, wide_records, with_records}
 use Rattle.gmon_data.specs.Sizes.{IsOfBytes}
@@ -38,18 +39,10 @@ all_records (r ∷ recs) c n fit of =
 
 -- ---- how long their spelling is
 
-counters_long : (counters : List ℕ) → length (flat_map counter_bytes counters) ≡ 2 * length counters
-counters_long [] = refl
-counters_long (c ∷ counters) = omega (arith, counters_long counters)
-
-blocks_long : (blocks : List RawBlock) → length (flat_map block_bytes blocks) ≡ 8 * length blocks
-blocks_long [] = refl
-blocks_long (b ∷ blocks) = omega (arith, blocks_long blocks)
-
 record_long : (r : Rec) → weight r ≤ length (rec_bytes r)
-record_long (raw.Hist h) = omega (arith, length-append h.unit.dim (h.unit.«abbrev» ∷ flat_map counter_bytes h.counters), counters_long h.counters)
+record_long (raw.Hist h) = omega (arith, length-append h.unit.dim (h.unit.«abbrev» ∷ flat_map counter_bytes h.counters), length-spelled 2 counter_bytes counter_length h.counters)
 record_long (raw.Arc a) = omega arith
-record_long (raw.Blocks blocks) = omega (arith, blocks_long blocks)
+record_long (raw.Blocks blocks) = omega (arith, length-spelled 8 block_bytes block_length blocks)
 
 records_long : (recs : List Rec) → weights recs ≤ length (flat_map rec_bytes recs)
 records_long [] = omega arith

@@ -1,6 +1,6 @@
 //! Adding what was read of a file to a profile.
 
-ghost use Rattle.std.specs.Prelude.{◌≡◌, length, IfErr, OnOk};
+ghost use Rattle.std.specs.Prelude.{IfErr, OnOk};
 ghost use Rattle.gp_base.specs.Spans.{HasRange};
 ghost use Rattle.gmon_data.specs.Content.{wide_record, wide_records, with_records, IsAdded, IsStopped, IsWithin as IsWithinLimits};
 ghost use Rattle.gmon_cells.specs.Views.{rec_viewed};

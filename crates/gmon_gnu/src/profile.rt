@@ -1,6 +1,6 @@
 //! The profile of what was read of a file.
 
-ghost use Rattle.std.specs.Prelude.{◌≡◌, ◌<◌, ◌≤◌, ◌^◌, ◌++◌, length, map, take, Some, Err, IfErr, IfOk, IfSome, OnOk};
+ghost use Rattle.std.specs.Prelude.{◌≡◌, ◌<◌, ◌≤◌, ◌^◌, ◌++◌, length, take, Some, Err, IfErr, IfOk, IfSome, OnOk};
 ghost use Rattle.std.specs.List.{AllByRecursion, flat_map};
 ghost use Rattle.gp_base.specs.Spans.{HasRange};
 ghost use Rattle.gmon_data.specs.Content.{empty_content, conflict_of, wide_records, with_records, IsAdded, IsStopped, IsWithin as IsWithinLimits};
@@ -8,7 +8,7 @@ ghost use Rattle.gmon_data.specs.Hists.{IsUnlike};
 ghost use Rattle.gmon_data.specs.declared.refusal.AddRefusal.TheVariants.{Unlike};
 ghost use Rattle.gmon_gnu.specs.FirstHists.{conflict_among_first};
 ghost use Rattle.gmon_gnu.specs.Held.{arcs_before, held_rec, recs_of, AreWithin, CanBeAdded, HaveRanges, IsBodyHeld, IsConflictOf, IsEntryHeld, IsProfileOf};
-ghost use Rattle.gmon_gnu.specs.Making.{block_recs, hist_recs, later_recs, other_recs, behind_recs, IsPlacedIn, place_of, placed_recs, IsOrderOf, placed_entries, hists_among};
+ghost use Rattle.gmon_gnu.specs.Making.{block_recs, hist_recs, later_recs, other_recs, behind_recs, IsPlacedIn, place_of, placed_recs, IsOrderOf};
 
 use crate::first_hists::{conflict_among_first, counted_hist, hist_of};
 use crate::state::{Body, Entry, HistFields, State};

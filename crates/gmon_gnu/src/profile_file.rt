@@ -8,7 +8,7 @@ ghost use Rattle.host_port.specs.declared.side.Side.TheVariants.{File};
 ghost use Rattle.gp_base.specs.Fields.{counter_bytes};
 ghost use Rattle.gmon_gnu.specs.Grammar.{rec_bytes, hist_bytes, blocks_bytes};
 ghost use Rattle.gmon_gnu.specs.ProfileText.{profile_text, IsReadBack};
-ghost use Rattle.gmon_gnu.specs.Splitting.{piece as spec_piece, largest as spec_largest, hist_piece, raw_hist, hist_recs, arc_rec, arc_pieces, raw_block, rounds_of};
+ghost use Rattle.gmon_gnu.specs.Splitting.{piece as spec_piece, largest as spec_largest, hist_piece, raw_hist, hist_recs, raw_block, rounds_of};
 ghost use Rattle.gmon_gnu.specs.Pieces.{hist_header, hist_pieces_text, arc_text_of};
 
 use crate::pieces::{MOST_CALLS, MOST_SAMPLES, largest, piece, pieces};

@@ -18,7 +18,6 @@ returns c =
     let piece = c.args.piece.now in
     let header = c.fill-rest.new.self in
     let rest = c.fill-rest.result.now in
-    let torn = c.clear.new.self in
     let all : 20 ≤ length header = omega (arith, c.if-len-lt-HEADER.false, c.len.ensures.len) in
     let part_is : length s.torn < 20 = subst (λ (q : Part). IsPart q (length s.counters.cells.items) (length s.pairs.cells.items) s.torn s.counters.torn s.pairs.torn) c.requires.part c.requires.can.held.at_part in
     let within : length s.torn ≤ 20 = omega (arith, part_is) in
@@ -26,6 +25,7 @@ returns c =
     let taken = filled_whole 20 s.torn header piece rest c.fill-rest.ensures.filled c.fill-rest.ensures.rest in
     let less : length rest < length piece = omega (arith, ap length taken, twenty, length-append header rest, length-append s.torn piece, part_is) in
     let shorter : length rest ≤ length piece = omega (arith, less) in
+    let torn = c.clear.new.self in
     let P : Part → Type 0 = λ q. CanTake c.args.total rest (record s { part = q; torn = torn }) in
     record {
       ready = elim c.if-version-eq-VERSION.branch [
