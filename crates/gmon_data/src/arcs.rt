@@ -212,7 +212,7 @@ fn is_behind(arcs: &[RawArc], pair: (u32, u32)) -> bool
             return false;
         }
     }
-    first == 0
+    arcs.len() < CALLEES
 }
 
 /// Whether each of the arcs can stand behind those before it.

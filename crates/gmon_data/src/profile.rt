@@ -295,8 +295,7 @@ impl Profile {
         }
     }
 
-    /// Adds arcs in order, as `add_arc` does. Room for all of them is taken first, where there is some. After
-    /// want of memory some first ones are added.
+    /// Adds arcs in order, as `add_arc` does. After want of memory some first ones are added.
     pub fn add_arcs(&mut self, arcs: &[RawArc]) -> Result<(), AllocError>
         requires { IsWithin (with_records (map wide_arc arcs.now) self.old) }
         ensures added { OnOk result (self.new ≡ with_records (map wide_arc arcs.now) self.old) }

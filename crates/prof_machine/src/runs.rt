@@ -191,6 +191,7 @@ impl Run {
         ensures stands { OnOk result ((w : World) → StandsFor w self.old
             → StandsFor (after_drive self.old.machine w) self.new) }
         ensures answer { IfOk result (λ end. self.new.ending ≡ Some end) }
+        ensures open { OnErr result (self.new.ending ≡ None) }
         ensures live { IsLive self.new → ⊥ }
         ensures machine { self.new.machine ≡ self.old.machine }
         ensures note { self.new.note ≡ self.old.note }

@@ -518,6 +518,21 @@ fn a_hundred_thousand_of_each(rt: HostRuntime) -> Result<(), Fail> {
     Ok(())
 }
 
+/// Adds a call of the first of these pairs, which came by ascending call site.
+fn call_again(profile: &mut Profile) -> Result<(), AllocError>
+    requires { IsAtMost profile.old 200000 }
+{
+    profile.add_calls(0, 0x1_0000, 1)
+}
+
+#[test]
+fn a_pair_comes_again_behind_many(rt: HostRuntime) -> Result<(), Fail> {
+    let mut profile = called(rt.alloc(), 0)?;
+    call_again(&mut profile)?;
+    assert_eq!(rt; (profile.arc_count(), profile.calls()), (100_000, 100_001));
+    Ok(())
+}
+
 /// The rows of 2,000 histograms of 8 addresses, 16 apart.
 fn striped(alloc: Global, first: u32) -> Result<Vec<(u32, u32, u64)>, AllocError> {
     let mut rows = Vec::new(alloc);
