@@ -1,15 +1,14 @@
 -- The arcs between functions: where they lie, in which order, and how many calls they have.
-use Rattle.std.proofs.Common.{inl, inr, ◌≡◌, ◌≢◌, ◌<◌, ◌≤◌, ℕ, zero, suc, ◌+◌, get_or, ◌&&◌, ◌||◌, Bool, true, false, not, cond, List, [], ◌∷◌, ◌++◌, length, Option, Some, None, refl, ap, sym, ◌∙◌, subst, ⊎_elim, arith, length-append, ◌-◌}
-use Rattle.std.specs.Prelude.{◌==◌, nat_lt, slice_index, if◌then◌else◌}
-use Rattle.std.specs.List.{All, flat_map, sum_by, position_or_len}
+use Rattle.std.proofs.Common.{inl, inr, ◌≡◌, ◌≢◌, ◌<◌, ◌≤◌, ℕ, zero, suc, ◌+◌, get_or, ◌&&◌, ◌||◌, Bool, true, false, not, List, [], ◌∷◌, ◌++◌, length, Option, Some, None, refl, ap, sym, ◌∙◌, subst, ⊎_elim, arith, length-append, ◌-◌}
+use Rattle.std.specs.Prelude.{◌==◌, slice_index, if◌then◌else◌}
+use Rattle.std.specs.List.{All, flat_map, sum_by}
 use Rattle.std.specs.Option.{option_map_or}
 use Rattle.std.proofs.lemmas.Bool.{cases_lt, eqb-true, eqb-false, ne_eqb}
-use Rattle.std.proofs.lemmas.Bool.Decides.{nat_tests}
 use Rattle.std.proofs.lemmas.List.{take_all, get_or_default, get_or_append_left, get_or-append_right}
 use Rattle.std.proofs.lemmas.List.Elements.{All-nil, All-cons}
 use Rattle.std.proofs.lemmas.List.Sums.{sum_by-cons}
 use Rattle.elf32_syms.specs.declared.image.Symbol.{Symbol}
-use Rattle.elf32_syms.specs.Owners.{owns, owner_of}
+use Rattle.elf32_syms.specs.Owners.{owner_of}
 use Rattle.gmon_data.specs.Tally.{tally_total}
 use Rattle.call_cycles.specs.declared.graphs.FunArc.{FunArc}
 use Rattle.call_cycles.specs.Sums.{sum_below, when, numbers_below}
@@ -122,20 +121,6 @@ by_caller arcs rising i j d le below =
 
 -- ---- the functions of a profile's calls
 
-owner_within : (n k f : ℕ) (inside : Bool) → nat_lt k n ≡ inside → n ≤ f → option_map_or (λ (o : ℕ). o == f) (cond inside (Some k) None) false ≡ false
-owner_within n k f true inside past = ne_eqb k f (λ q. grind (arith, nat_tests))
-owner_within n k f false inside past = refl
-
-lies_in_none : (symbols : List Symbol) (f address : ℕ) → length symbols ≤ f → lies_in symbols f address ≡ false
-lies_in_none symbols f address past = owner_within (length symbols) (position_or_len (owns address) symbols) f (nat_lt (position_or_len (owns address) symbols) (length symbols)) refl past
-
-none_left : (a b : Bool) (x : ℕ) → a ≡ false → when (a && b) x ≡ 0
-none_left a b x off = ap (λ (t : Bool). when (t && b) x) off
-
-none_right : (a b : Bool) (x : ℕ) → b ≡ false → when (a && b) x ≡ 0
-none_right true b x off = ap (λ (t : Bool). when t x) off
-none_right false b x off = refl
-
 between_cons : (e : (ℕ × ℕ) × ℕ) (es : List ((ℕ × ℕ) × ℕ)) (symbols : List Symbol) (f g : ℕ) → calls_between (e ∷ es) symbols f g ≡ calls_of symbols e f g + calls_between es symbols f g
 unfolding calls_between
 between_cons e es symbols f g = sum_by-cons (λ (x : (ℕ × ℕ) × ℕ). calls_of symbols x f g) e es
@@ -143,26 +128,6 @@ between_cons e es symbols f g = sum_by-cons (λ (x : (ℕ × ℕ) × ℕ). calls
 between_nil : (symbols : List Symbol) (f g : ℕ) → calls_between [] symbols f g ≡ 0
 unfolding calls_between
 between_nil symbols f g = refl
-
-none_past : (es : List ((ℕ × ℕ) × ℕ)) (symbols : List Symbol) (f g : ℕ) → ((e : (ℕ × ℕ) × ℕ) → calls_of symbols e f g ≡ 0) → calls_between es symbols f g ≡ 0
-none_past [] symbols f g none = between_nil symbols f g
-none_past (e ∷ es) symbols f g none =
-    let first = none e in
-    let rest = none_past es symbols f g none in
-    let both = between_cons e es symbols f g in
-    omega arith
-
-pub calls_within : (es : List ((ℕ × ℕ) × ℕ)) (symbols : List Symbol) (f g : ℕ) → calls_between es symbols f g ≢ 0 → (f < length symbols) × (g < length symbols)
-calls_within es symbols f g some = (
-  ⊎_elim
-      (λ (low : f < length symbols). low)
-      (λ (past : length symbols ≤ f). absurd (some (none_past es symbols f g (λ e. none_left (lies_in symbols f e.0.0) (lies_in symbols g e.0.1) e.1 (lies_in_none symbols f e.0.0 past)))))
-      (cases_lt f (length symbols)),
-  ⊎_elim
-      (λ (low : g < length symbols). low)
-      (λ (past : length symbols ≤ g). absurd (some (none_past es symbols f g (λ e. none_right (lies_in symbols f e.0.0) (lies_in symbols g e.0.1) e.1 (lies_in_none symbols g e.0.1 past)))))
-      (cases_lt g (length symbols)),
-)
 
 -- ---- how many calls
 

@@ -13,10 +13,6 @@ abbrev pub Ascend : ℕ → ℕ → List Entry → Type 0
 Ascend low high [] = ⊤
 Ascend low high (c ∷ cs) = (low ≤ c.addr) × (c.addr < high) × Ascend (c.addr + 1) high cs
 
-lower : (low low' high : ℕ) (cs : List Entry) → low' ≤ low → Ascend low high cs → Ascend low' high cs
-lower low low' high [] h order = order
-lower low low' high (c ∷ cs) h order = let from = order.0 in (omega arith, order.1, order.2)
-
 -- no candidate stands before the first one
 none_before : (addr low high : ℕ) (cs : List Entry) → addr < low → Ascend low high cs → filter (λ (c : Entry). nat_eq c.addr addr) cs ≡ []
 none_before addr low high [] h order = refl

@@ -2,13 +2,12 @@
 use Rattle.std.proofs.Common.{◌≡◌, ◌∙◌, ◌+◌, ◌^◌, ◌<◌, ◌≤◌, ◌++◌, ◌⊎◌, inl, inr, ℕ, zero, suc, Bool, List, [], ◌∷◌, length, get_or, set, ap, arith, cond, refl, sym, subst, Option, None}
 use Rattle.std.specs.List.{All}
 use Rattle.std.specs.Option.{IfSome}
-use Rattle.std.proofs.lemmas.List.{append-nil, get_or_append_left, get_or_push, length-set, length_push}
-use Rattle.std.proofs.lemmas.List.Elements.{All-cons, All-nil, All-get_or, All-push}
+use Rattle.std.proofs.lemmas.List.{get_or_append_left, get_or_push, length-set, length_push}
+use Rattle.std.proofs.lemmas.List.Elements.{All-get_or, All-push}
 use Rattle.std.proofs.lemmas.List.Sums.{sum_by_push}
 use Rattle.folded.specs.Links.{EndsAt}
-use Rattle.folded.specs.Nodes.{AreNodes, HasStack, HaveSamples, IsGrown, IsShort, any_stack, node_stacks, samples_on, stack_of_node}
-use Rattle.folded.specs.declared.tree.Tree.{Tree}
-use Rattle.folded.proofs.NodeLemmas.{Nodes, Stack, length_stacks, samples-push, samples-set, samples_first, stack_of_made, stacks_with}
+use Rattle.folded.specs.Nodes.{AreNodes, HasStack, HaveSamples, IsShort, any_stack, node_stacks, samples_on, stack_of_node}
+use Rattle.folded.proofs.NodeLemmas.{Nodes, Stack, length_stacks, samples-push, samples-set, stack_of_made, stacks_with}
 
 -- ---- a node that is there
 
@@ -112,19 +111,6 @@ module _ (nodes : Nodes) (counts : List ℕ) (total functions : ℕ) (is : AreNo
 
 -- ---- no node
 
-pub no_nodes : (functions : ℕ) → AreNodes [] (0 ∷ []) 0 functions
-no_nodes functions = record {
-  callers = λ i inside. absurd (omega (arith, inside));
-  distinct = λ i j inside. absurd (omega (arith, inside));
-  numbers = omega arith;
-  few = omega arith;
-  stacks = All-cons (IsShort functions) [] [] (omega arith, All-nil (λ (o : Option ℕ). IfSome o (λ f. f < functions))) (All-nil (IsShort functions));
-  sum = omega (arith, samples_first any_stack);
-}
-
-pub no_samples : HaveSamples [] [] (0 ∷ []) 0
-no_samples = record { samples = samples_first; number = refl }
-
 -- ---- what grew
 
 pub same_parts : (nodes other_nodes : Nodes) (counts other_counts : List ℕ) (total other_total functions other_functions : ℕ) → nodes ≡ other_nodes → counts ≡ other_counts → total ≡ other_total → functions ≡ other_functions → AreNodes other_nodes other_counts other_total other_functions → AreNodes nodes counts total functions
@@ -137,5 +123,3 @@ pub same_samples : (stacks : List Stack) (nodes other_nodes : Nodes) (counts oth
 same_samples stacks nodes other_nodes counts other_counts total other_total a b c have =
     subst (λ (x : Nodes). HaveSamples stacks x counts total) (sym a) (subst (λ (x : List ℕ). HaveSamples stacks other_nodes x total) (sym b) (subst (λ (x : ℕ). HaveSamples stacks other_nodes other_counts x) (sym c) have))
 
-pub IsGrown-same : (t : Tree) → IsGrown t t
-IsGrown-same t = record { more = []; nodes = sym (append-nil t.nodes.items); functions = refl; total = refl; samples = λ stacks have. have }

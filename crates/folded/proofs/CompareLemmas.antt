@@ -1,5 +1,5 @@
 -- Two nodes are compared where their stacks part.
-use Rattle.std.proofs.Common.{◌≡◌, ◌∙◌, ◌+◌, ◌<◌, ◌≤◌, ◌++◌, ℕ, zero, suc, [], ◌∷◌, length, get_or, append_assoc, append-nil, ap, arith, refl, sym, Option, Some, None}
+use Rattle.std.proofs.Common.{◌≡◌, ◌∙◌, ◌+◌, ◌<◌, ◌≤◌, ◌++◌, ℕ, zero, suc, [], ◌∷◌, length, get_or, append_assoc, ap, arith, refl, sym, Option, Some, None}
 use Rattle.std.specs.declared.cmp.Ordering.{Ordering}
 use Rattle.std.specs.declared.cmp.Ordering.TheVariants.{Less, Equal, Greater}
 use Rattle.std.specs.Ordering.{nat_cmp, ordering_reverse, ordering_then}
@@ -91,20 +91,6 @@ pub record Meets (nodes : Nodes) (a b x y below_x below_y : ℕ) : Type 0 where
   pub one : Climbed nodes a x below_x y
   pub other : Climbed nodes b y below_y x
   pub apart : 0 < below_x → below_x ≡ below_y → ⊥
-
-start : (nodes : Nodes) (a other : ℕ) → a ≤ length nodes → Climbed nodes a a 0 other
-start nodes a other inside = record {
-  inside = inside;
-  rest = [];
-  is = sym (append-nil (stack_of_node nodes a));
-  first = refl;
-  low = omega arith;
-  caller = λ none. absurd (omega (arith, none));
-  above = λ none. absurd (omega (arith, none));
-}
-
-pub meets_first : (nodes : Nodes) (a b : ℕ) → a ≤ length nodes → b ≤ length nodes → Meets nodes a b a b 0 0
-meets_first nodes a b a_in b_in = record { one = start nodes a b a_in; other = start nodes b a b_in; apart = λ none. absurd (omega (arith, none)) }
 
 module _ (t : Tree) where
   abbrev nodes_of : Nodes

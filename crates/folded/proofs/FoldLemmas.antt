@@ -47,9 +47,6 @@ pub few_at : (turns work most : ℕ) → ((turns ≡ 0) ⊎ (turns + work ≤ mo
 few_at turns work most (inl none) few = omega (arith, none, few)
 few_at turns work most (inr is) few = is
 
-pub more_room : (a b : ℕ) (xs : List Shadow) → a ≤ b → HasRoom a xs → HasRoom b xs
-more_room a b xs le room = grind (arith, le, room)
-
 -- the turn in which the run ends is the last
 pub folds_last : (symbols : List Symbol) (m : Machine) (w : World) (n : ℕ) (v : Tracker) (end : End) → n ≤ most_turns m.setup → (world_at m w n).ending ≡ Some end → Follows symbols (trail_after m w (plan_of m.setup n)) v
     → IsTreeOf (stacks_of symbols (run_samples m w)) v.tree

@@ -1,12 +1,11 @@
 -- One more turn, in the shadows and samples that are kept.
 use Rattle.std.proofs.Common.{◌≡◌, ◌∙◌, ◌+◌, ◌-◌, ◌<◌, ◌≤◌, ◌++◌, ℕ, zero, suc, Bool, true, false, List, [], ◌∷◌, length, append-nil, map, ap, arith, get_or, set, refl, sym, subst, Option, Some, None, nat_lt, if◌then◌else◌, not, ◌&&◌}
 use Rattle.std.specs.List.{cons_option}
-use Rattle.std.specs.Option.{IfSome, option_map}
+use Rattle.std.specs.Option.{option_map}
 use Rattle.std.proofs.lemmas.List.{get_or_default, set-get_or}
 use Rattle.std.proofs.lemmas.List.Elements.{filter_map-append}
-use Rattle.std.proofs.lemmas.List.Quantifiers.{position-Some}
 use Rattle.elf32_syms.specs.declared.image.Symbol.{Symbol}
-use Rattle.elf32_syms.specs.Owners.{owner_of, owns}
+use Rattle.elf32_syms.specs.Owners.{owner_of}
 use Rattle.rv_step.specs.Step.{next_of}
 use Rattle.prof_machine.specs.Notes.{look_note}
 use Rattle.prof_machine.specs.declared.notes.Ran.{Ran}
@@ -113,13 +112,6 @@ stacks-some symbols samples frames pc f is =
     ∙ ap (λ (o : Option ℕ). stacks_of symbols samples ++ cons_option (option_map (stack_at symbols frames) o) []) is
 
 -- ---- an owner is a symbol
-
-owner_by : (symbols : List Symbol) (pc : ℕ) (o : Option ℕ) → owner_of symbols pc ≡ o → IfSome o (λ f. f < length symbols)
-owner_by symbols pc None is = tt
-owner_by symbols pc (Some f) is = (position-Some (owns pc) symbols f (record { addr = 0; end = 0; name = [] }) is).0
-
-pub owner_below : (symbols : List Symbol) (pc : ℕ) → IfSome (owner_of symbols pc) (λ f. f < length symbols)
-owner_below symbols pc = owner_by symbols pc (owner_of symbols pc) refl
 
 -- ---- a stack
 

@@ -266,21 +266,3 @@ module _ (nodes : Nodes) (links : List Links) (caller : ℕ) (function : Option 
           before (inl less) = less
           before (inr more) = absurd (apart (omega (arith, more, below)))
 
-pub linked_first : AreLinked [] (no_links ∷ [])
-linked_first = record {
-  numbers = omega arith;
-  inside = λ n s. omega (arith, none n s);
-  later = λ n s. inl (none n s);
-  low = refl;
-  high = refl;
-  found = λ i inside. absurd (omega (arith, inside));
-}
-  where
-    side_none : (s : Side) → link_of s no_links ≡ 0
-    side_none Callees = refl
-    side_none Low = refl
-    side_none High = refl
-
-    none : (n : ℕ) (s : Side) → link_at (no_links ∷ []) n s ≡ 0
-    none zero s = side_none s
-    none (suc n) s = side_none s

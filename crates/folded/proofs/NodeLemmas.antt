@@ -132,13 +132,6 @@ module _ (test : Stack → Bool) where
       let rest = samples-set stacks counts i (omega (arith, inside)) (omega (arith, long)) in
       omega (arith, rest)
 
-pub samples_first : (test : Stack → Bool) → samples_on test ([] ∷ []) (0 ∷ []) ≡ 0
-samples_first test = by (test [])
-  where
-    by : (b : Bool) → cond b 0 0 + 0 ≡ 0
-    by true = omega arith
-    by false = omega arith
-
 -- no stack has more samples than there are
 pub samples_below : (stacks : List Stack) (counts : List ℕ) (i : ℕ) → i < length counts → length stacks ≡ length counts → get_or counts i 0 ≤ samples_on any_stack stacks counts
 samples_below [] [] i inside long = absurd (omega (arith, inside))

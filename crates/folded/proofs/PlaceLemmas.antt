@@ -1,6 +1,6 @@
 -- Places go up and down, and stacks are read from their ends.
-use Rattle.std.proofs.Common.{◌≡◌, ◌∙◌, ◌+◌, ◌-◌, ◌<◌, ◌≤◌, ◌++◌, ℕ, zero, suc, List, [], ◌∷◌, length, get_or, set, drop, take, map, min, append_assoc, ap, arith, sym, Option, None}
-use Rattle.std.proofs.lemmas.List.{drop-set, get_or-map, length-map, length_push, take_all, take_at, take-take, take_min, take_more}
+use Rattle.std.proofs.Common.{◌≡◌, ◌∙◌, ◌+◌, ◌-◌, ◌<◌, ◌≤◌, ◌++◌, ℕ, zero, suc, List, [], ◌∷◌, length, get_or, take, map, append_assoc, ap, arith, sym, Option, None}
+use Rattle.std.proofs.lemmas.List.{get_or-map, length-map, length_push, take_at, take-take, take_more}
 use Rattle.elf32_syms.specs.declared.image.Symbol.{Symbol}
 use Rattle.folded.specs.Links.{node_of}
 use Rattle.folded.specs.Nodes.{AreNodes, IsGrown, stack_of_node}
@@ -37,11 +37,6 @@ module _ (nodes : Nodes) (counts : List ℕ) (total functions : ℕ) (is : AreNo
 pub up_more : (s top now : Stack) (depth : ℕ) → top ≡ take depth s → now ≡ take (depth - 1) top → now ≡ take (depth - 1) s
 up_more s top now depth is next = next ∙ ap (take (depth - 1)) is ∙ take-take (depth - 1) depth s (omega arith)
 
-pub ends_up : (s : Stack) (depth calls : ℕ) → min calls (length s) ≤ depth → depth ≤ length s → depth ≤ calls → take depth s ≡ take calls s
-ends_up s depth calls least most few =
-    let same : depth ≡ min calls (length s) = omega (arith, least, most, few) in
-    ap (λ (k : ℕ). take k s) same ∙ take_min calls s
-
 -- ---- one call more
 
 pub call_more : (symbols : List Symbol) (frames : List ℕ) (depth : ℕ) (stack : Stack) (f : Option ℕ) → depth < length frames → stack ≡ take depth (map (caller_in symbols) frames) → f ≡ caller_in symbols (get_or frames depth 0)
@@ -50,9 +45,6 @@ call_more symbols frames depth stack f inside is here =
     let calls = map (caller_in symbols) frames in
     let fits : depth < length calls = omega (arith, inside, length-map frames (caller_in symbols)) in
     (λ t. is t ++ here t ∷ []) ∙ ap (λ (x : Option ℕ). take depth calls ++ x ∷ []) (sym (get_or-map (caller_in symbols) frames depth 0 None inside)) ∙ sym (take_more calls depth None fits)
-
-pub all_calls : (calls stack : Stack) (depth : ℕ) → length calls ≤ depth → stack ≡ take depth calls → stack ≡ calls
-all_calls calls stack depth all is = is ∙ take_all depth calls all
 
 -- ---- what stays when nodes are added
 
@@ -70,10 +62,3 @@ stack_stays nodes new more n is inside = ap (λ (x : Nodes). stack_of_node x n) 
 
 -- ---- a stack is read from its end
 
-pub read_more : (whole front rest : Stack) (f : Option ℕ) (functions : List (Option ℕ)) (start : ℕ) → 0 < start → start ≤ length functions → whole ≡ (front ++ f ∷ []) ++ drop start functions
-    → whole ≡ front ++ drop (start - 1) (set functions (start - 1) f)
-read_more whole front rest f functions start some fits is =
-    let inside : start - 1 < length functions = omega (arith, some, fits) in
-    let next : start - 1 + 1 ≡ start = omega (arith, some) in
-    is ∙ append_assoc front (f ∷ []) (drop start functions)
-    ∙ ap (λ (x : Stack). front ++ x) (ap (λ (k : ℕ). f ∷ drop k functions) (sym next) ∙ sym (drop-set functions (start - 1) f inside))

@@ -4,7 +4,7 @@ use Rattle.std.specs.List.{AllByRecursion}
 use Rattle.std.specs.List.Sorted.{IsStrictlySortedBy}
 use Rattle.std.specs.Map.{keys_of}
 use Rattle.std.proofs.lemmas.List.{get_or-map, length-map}
-use Rattle.std.proofs.lemmas.List.Sums.{get_or-le-sum_by, sum_by-le-sum_by, sum_by-take-le}
+use Rattle.std.proofs.lemmas.List.Sums.{sum_by-le-sum_by, sum_by-take-le}
 use Rattle.folded.specs.Nodes.{IsInOrder, IsTreeOf, any_stack, line_of_node, samples_of_lines, stack_of_node}
 use Rattle.folded.specs.Stacks.{has_function, stack_cmp}
 use Rattle.folded.specs.Tally.{Folds, mark_at}
@@ -35,9 +35,6 @@ weight_le test l = by (test l.0) l.1
 pub front_few : (test : Stack → Bool) (lines : Lines) (i : ℕ) → samples_of_lines test (take i lines) ≤ samples_of_lines any_stack lines
 front_few test lines i =
     omega (arith, sum_by-le-sum_by (weight test) (weight any_stack) (take i lines) (weight_le test), sum_by-take-le (weight any_stack) lines i)
-
-pub line_few : (lines : Lines) (i : ℕ) (d : Stack × ℕ) → i < length lines → (get_or lines i d).1 ≤ samples_of_lines any_stack lines
-line_few lines i d inside = get_or-le-sum_by (weight any_stack) lines i d inside
 
 -- ---- all that is told of a tree in order
 

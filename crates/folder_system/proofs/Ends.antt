@@ -6,61 +6,27 @@ use Rattle.std.specs.declared.io.ErrorKind.{ErrorKind}
 use Rattle.host_port.specs.Act.{File, file_content, with_file}
 use Rattle.host_port.specs.Outside.{Becomes}
 use Rattle.folder_system.specs.declared.place.Place.{Place}
-use Rattle.folder_system.specs.declared.beside.Taken.TheVariants.{ByName, ByCopy}
+use Rattle.folder_system.specs.declared.beside.Taken.TheVariants.{ByCopy}
 use Rattle.folder_system.specs.declared.beside.Naming.TheVariants.{Done, Held}
-use Rattle.folder_system.specs.Names.{folder_of}
 use Rattle.folder_system.specs.Kinds.{is_held}
-use Rattle.folder_system.specs.Events.{Event, Opened, Copied, Synced, Renamed, Removed, NamesSynced, History, Answer, after, Follows, files_after, is_stored}
-use Rattle.folder_system.specs.Place.{IsStored, IsNotStored, IsSettling, is_settled, moving, refusing, copying, IsPut, IsHalted, IsHalf, IsOver, IsNotOver, IsMoved, IsHalfCopied, IsTaken, IsLost, IsAway, IsLetGo, IsAfterLetGo}
-use Rattle.folder_system.proofs.Follows.{then_calls, one_call, one_call_at, then_call, no_calls, restate}
+use Rattle.folder_system.specs.Events.{Event, Opened, Copied, Renamed, Removed, History, Answer, after, Follows, files_after, is_stored}
+use Rattle.folder_system.specs.Place.{IsStored, IsNotStored, IsSettling, is_settled, moving, refusing, copying, IsPut, IsHalted, IsHalf, IsOver, IsNotOver, IsHalfCopied, IsTaken, IsLost, IsLetGo, IsAfterLetGo}
+use Rattle.folder_system.proofs.Follows.{then_calls, one_call_at, then_call}
 use Rattle.folder_system.proofs.Files.{content_of_new, if_same}
 
 -- ---- one call
 
-pub stored_by : (name bytes : List ℕ) (answer : Answer) (a b : Option History) → is_stored answer ≡ true → Becomes (after (Synced name bytes answer)) a b → Follows (IsStored name bytes) a b
-stored_by name bytes answer a b is = one_call (IsStored name bytes) (Synced name bytes answer) a b (λ fs. (answer, refl, is))
-
-pub not_stored_by : (name bytes : List ℕ) (answer : Answer) (a b : Option History) → is_stored answer ≡ false → Becomes (after (Synced name bytes answer)) a b → Follows (IsNotStored name bytes) a b
-not_stored_by name bytes answer a b is = one_call (IsNotStored name bytes) (Synced name bytes answer) a b (λ fs. (answer, refl, is))
-
-pub settling : (name : List ℕ) (answer : Answer) (ok : Bool) (a b : Option History) → is_settled answer ≡ ok → Becomes (after (NamesSynced (folder_of name) answer)) a b → Follows (IsSettling name ok) a b
-settling name answer ok a b is = one_call (IsSettling name ok) (NamesSynced (folder_of name) answer) a b (λ fs. (answer, refl, is))
-
-pub away : (own : List ℕ) (answer : Answer) (a b : Option History) → Becomes (after (Removed own answer)) a b → Follows (IsAway own) a b
-away own answer a b = one_call (IsAway own) (Removed own answer) a b (λ fs. (answer, refl))
-
 -- ---- the name
 
 module _ (own name bytes : List ℕ) where
-  pub put_done : (a b c : Option History) → Follows (IsStored own bytes) a b → Becomes (after (Renamed own name None)) b c → Follows (IsPut own name bytes Done) a c
-  put_done a b c = then_call (IsStored own bytes) (IsPut own name bytes Done) (Renamed own name None) a b c
-      (λ fs es h. (h.0, ap (λ (l : List Event). l ++ Renamed own name None ∷ []) h.1, h.2))
-
-  pub put_held : (kind : ErrorKind) (a b c : Option History) → is_held kind ≡ true → Follows (IsStored own bytes) a b → Becomes (after (Renamed own name (Some kind))) b c → Follows (IsPut own name bytes Held) a c
-  put_held kind a b c held = then_call (IsStored own bytes) (IsPut own name bytes Held) (Renamed own name (Some kind)) a b c
-      (λ fs es h. (h.0, kind, ap (λ (l : List Event). l ++ Renamed own name (Some kind) ∷ []) h.1, h.2, held))
 
   pub put_unnamed : (kind : ErrorKind) (a b c : Option History) → is_held kind ≡ false → Follows (IsStored own bytes) a b → Becomes (after (Renamed own name (Some kind))) b c → Follows (IsHalted own name bytes) a c
   put_unnamed kind a b c free = then_call (IsStored own bytes) (IsHalted own name bytes) (Renamed own name (Some kind)) a b c
       (λ fs es h. inr (record { synced = h.0; kind = kind; is = ap (λ (l : List Event). l ++ Renamed own name (Some kind) ∷ []) h.1; stored = h.2; free = free }))
 
-  pub put_unsynced : (a b : Option History) → Follows (IsNotStored own bytes) a b → Follows (IsHalted own name bytes) a b
-  put_unsynced a b = restate (IsNotStored own bytes) (IsHalted own name bytes) a b (λ fs es h. inl (record { synced = h.0; is = h.1; failed = h.2 }))
-
 -- ---- in place, with what the file beside has
 
 module _ (unread : Type 0) (own name : List ℕ) where
-  pub none_over : (a : Option History) → unread → Follows (IsNotOver unread own name) a a
-  none_over a failed = no_calls (IsNotOver unread own name) a (λ fs. inl (failed, refl))
-
-  pub not_opened_over : (kind : ErrorKind) (a b : Option History) → Becomes (after (Opened name (Some kind))) a b → Follows (IsNotOver unread own name) a b
-  not_opened_over kind a b = one_call (IsNotOver unread own name) (Opened name (Some kind)) a b (λ fs. inr (inl (kind, refl)))
-
-  pub not_copied : (kind : ErrorKind) (a b c : Option History) → Becomes (after (Opened name None)) a b → Becomes (after (Copied (Some kind))) b c → Follows (IsNotOver unread own name) a c
-  not_copied kind a b c opened =
-      then_call (λ fs es. es ≡ Opened name None ∷ []) (IsNotOver unread own name) (Copied (Some kind)) a b c
-      (λ fs es is. inr (inr (inl (kind, ap (λ (l : List Event). l ++ Copied (Some kind) ∷ []) is))))
-      (one_call (λ fs es. es ≡ Opened name None ∷ []) (Opened name None) a b (λ fs. refl) opened)
 
 -- the bytes that were written are those that the file beside had, where that is told, also once they were copied
 pub IsContent : List ℕ → List ℕ → Option History → Option History → Type 0
@@ -124,9 +90,6 @@ module _ (own name bytes : List ℕ) where
       → Follows (IsPut own name bytes Done) a b → Follows (IsSettling name ok) b c → Follows (λ fs es. P es) a c
   moved_at ok P a b c so = then_calls (IsPut own name bytes Done) (IsSettling name ok) (λ fs es. P es) a b c
       (λ fs es gs p h. subst P (λ i. sym p.1 i ++ sym h.1 i) (so p.0 h.0 p.2 h.2))
-
-  pub moved : (a b c : Option History) → Follows (IsPut own name bytes Done) a b → Follows (IsSettling name true) b c → Follows (IsTaken own name bytes ByName) a c
-  moved a b c = moved_at true (IsMoved own name bytes) a b c (λ s t stored settled. record { synced = s; settled = t; is = refl; stored = stored; names = settled })
 
   pub unsettled : (unread : Type 0) (a b c : Option History) → Follows (IsPut own name bytes Done) a b → Follows (IsSettling name false) b c → Follows (IsLost unread own name bytes) a c
   unsettled unread a b c = moved_at false (λ es. IsLost unread own name bytes [] es) a b c (λ s t stored failed. inr (record { synced = s; settled = t; is = refl; stored = stored; failed = failed }))

@@ -51,11 +51,6 @@ module _ (Q : List File → List Event → Type 0) where
   one_call_at e None (Some new) so done = absurd cc
   one_call_at e (Some was) (Some new) so done = record { was = was; told = refl; calls = e ∷ []; is = sym (the_same (after e was) new done); so = so }
 
-  -- no call
-  pub no_calls : (a : Option History) → ((fs : List File) → Q fs []) → Follows Q a a
-  no_calls None so = tt
-  no_calls (Some t) so = record { was = t; told = refl; calls = []; is = λ i. record { files = t.files; events = sym (append-nil t.events) i }; so = so t.files }
-
 module _ (P Q : List File → List Event → Type 0) where
   -- calls and then one more
   pub then_call : (e : Event) (a b c : Option History) → ((fs : List File) (es : List Event) → P fs es → Q fs (es ++ e ∷ [])) → Follows P a b → Becomes (after e) b c → Follows Q a c

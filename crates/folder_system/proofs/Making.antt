@@ -1,8 +1,7 @@
 -- How a file is made beside the named one, or the named one is opened in place.
 use native.Mathlib.Omega.{arith}
 use Rattle.std.proofs.Common.{◌≡◌, inl, inr, ℕ, suc, ◌+◌, true, false, List, [], ◌∷◌, ◌++◌, Option, Some, None, Ok, Err, refl, sym, ap, subst, ◌∙◌}
-use Rattle.std.specs.Prelude.{Result, IfOk, IfErr, IfSome, OnOk, OnErr, MatchOption, bit_and, ⊤}
-use Rattle.std.specs.IoError.{error_kind}
+use Rattle.std.specs.Prelude.{Result, IfOk, IfSome, OnOk, OnErr, MatchOption, ⊤}
 use Rattle.std.specs.declared.io.Error.{Error}
 use Rattle.std.specs.declared.io.ErrorKind.{ErrorKind}
 use Rattle.host_port.specs.Act.{File, has_file}
@@ -13,12 +12,12 @@ use Rattle.folder_system.specs.declared.folder.Attributes.{Attributes}
 use Rattle.folder_system.specs.declared.place.Place.{Place}
 use Rattle.folder_system.specs.declared.place.Place.TheVariants.{Beside as StandsBeside, In}
 use Rattle.folder_system.specs.Names.{numbered}
-use Rattle.folder_system.specs.Events.{Event, Looked, Tried, Made, GaveOwner, GaveMode, Opened, Removed, History, Answer, answer_of, after, Follows, files_after}
+use Rattle.folder_system.specs.Events.{Event, Looked, Tried, Made, Opened, Removed, History, Answer, after, Follows, files_after}
 use Rattle.std.specs.declared.io.ErrorKind.TheVariants.{AlreadyExists}
 use Rattle.folder_system.specs.Found.{bars_found, attributes_found}
 use Rattle.folder_system.specs.Kinds.{is_barring, is_taken}
-use Rattle.folder_system.specs.Place.{AreTaken, IsQuiet, IsMade, IsUnmade, IsBegun, IsBarred, IsGivenUp, IsInstead, IsGiven, IsRefused, IsOpened, IsOverFound, IsIn, IsPlaced, IsStanding, finding, gifts_of, tries}
-use Rattle.folder_system.proofs.Follows.{then_calls, one_call, one_call_at, then_call, no_calls, restate}
+use Rattle.folder_system.specs.Place.{AreTaken, IsQuiet, IsMade, IsUnmade, IsBegun, IsBarred, IsGivenUp, IsInstead, IsGiven, IsRefused, IsOpened, IsOverFound, IsIn, IsPlaced, IsStanding, finding, tries}
+use Rattle.folder_system.proofs.Follows.{then_calls, one_call, one_call_at, then_call, restate}
 use Rattle.folder_system.proofs.Calls.{quiet_quiet, quiet_given_up, given_up, not_made, tries_quiet, begun_given, refused_given_up, barred_quiet, finding_quiet}
 
 pub taken_kind : (kind : ErrorKind) → is_taken kind ≡ true → kind ≡ AlreadyExists
@@ -29,8 +28,6 @@ plus_one : (n : ℕ) → suc n ≡ n + 1
 plus_one n = omega arith
 
 module _ (name : List ℕ) where
-  pub started : (mode : ℕ) (a : Option History) → Follows (AreTaken name mode 0) a a
-  started mode a = no_calls (AreTaken name mode 0) a (λ fs. refl)
 
   pub one_more : (own : List ℕ) (mode n : ℕ) (kind : ErrorKind) (a b c : Option History) → own ≡ numbered name n → kind ≡ AlreadyExists → Follows (AreTaken name mode n) a b → Becomes (after (Made own mode (Some kind))) b c → Follows (AreTaken name mode (n + 1)) a c
   one_more own mode n kind a b c next taken front done = subst (λ (m : ℕ). Follows (AreTaken name mode m) a c) (plus_one n) (then_call (AreTaken name mode n) (AreTaken name mode (suc n)) (Made own mode (Some kind)) a b c (λ fs es is. ap (λ (l : List Event). l ++ Made own mode (Some kind) ∷ []) is ∙ (λ i. tries name mode n ++ Made (next i) mode (Some (taken i)) ∷ [])) front done)
@@ -101,10 +98,6 @@ module _ (name : List ℕ) where
         (λ fs es h. subst (λ (l : List Event). IsGivenUp name fs (l ++ Removed own answer ∷ [])) (sym h.2) (refused_given_up name own old kind fs h.0 h.1 answer h.3 h.4))
         (joined kind a b c begun refused)
 
-  -- making is barred already
-  pub unmade : (old : Attributes) (a b : Option History) → Follows (IsUnmade name 384) a b → Follows (IsBarred name (Some old)) a b
-  unmade old a b = restate (IsUnmade name 384) (IsBarred name (Some old)) a b (λ fs es u. inl u)
-
   -- ---- in place
 
   pub opened_instead : (old : Option Attributes) (a b c : Option History) → Follows (IsBarred name old) a b → Follows (IsOpened name) b c → Follows (IsInstead name old) a c
@@ -174,9 +167,6 @@ module _ (name : List ℕ) where
     placed_behind found old r a b c is clear first standing =
         placed_at found r a b c clear first (subst (λ (o : Option Attributes). IfOk r (λ x. Follows (IsStanding name o x.1) b c)) is standing)
 
-  pub not_looked : (a b : Option History) → Becomes (after (Looked name None)) a b → Follows (IsGivenUp name) a b
-  not_looked a b = one_call (IsGivenUp name) (Looked name None) a b (λ fs. record { spares = (refl, tt); tidy = inl refl })
-
   pub looked : (found : Found) (a b : Option History) → Becomes (after (Looked name (Some found))) a b → Follows (IsQuiet name) a b
   looked found a b = one_call (IsQuiet name) (Looked name (Some found)) a b (λ fs. record { spares = (refl, tt); files = refl })
 
@@ -187,34 +177,11 @@ module _ (name : List ℕ) where
   pub opened : (a b : Option History) → Becomes (after (Opened name None)) a b → Follows (IsOpened name) a b
   opened a b = one_call (IsOpened name) (Opened name None) a b (λ fs. refl)
 
-  pub refused_opening : (kind : ErrorKind) (a b : Option History) → Becomes (after (Opened name (Some kind))) a b → Follows (IsQuiet name) a b
-  refused_opening kind a b = one_call (IsQuiet name) (Opened name (Some kind)) a b (λ fs. record { spares = (refl, tt); files = refl })
-
 -- ---- what is given
 
 module _ (old : Attributes) where
-  pub refused_first : (kind : ErrorKind) (a b : Option History) → Becomes (after (GaveOwner old.owner old.group (Some kind))) a b → Follows (IsRefused old kind) a b
-  refused_first kind a b = one_call (IsRefused old kind) (GaveOwner old.owner old.group (Some kind)) a b (λ fs. inl refl)
-
-  given_all : (answer : Answer) (a b c : Option History) → Becomes (after (GaveOwner old.owner old.group None)) a b → Becomes (after (GaveMode (bit_and old.mode 511) answer)) b c → Follows (λ fs es. es ≡ gifts_of old answer) a c
-  given_all answer a b c first second =
-      then_call (λ fs es. es ≡ GaveOwner old.owner old.group None ∷ []) (λ fs es. es ≡ gifts_of old answer) (GaveMode (bit_and old.mode 511) answer) a b c (λ fs es is. ap (λ (l : List Event). l ++ GaveMode (bit_and old.mode 511) answer ∷ []) is)
-      (one_call (λ fs es. es ≡ GaveOwner old.owner old.group None ∷ []) (GaveOwner old.owner old.group None) a b (λ fs. refl) first) second
 
   module _ {T : Type 0} where
-    pub given_ok : (r : Result T Error) (a b c : Option History) → Becomes (after (GaveOwner old.owner old.group None)) a b → Becomes (after (GaveMode (bit_and old.mode 511) (answer_of r))) b c → OnOk r (Follows (IsGiven old) a c)
-    given_ok (Ok x) a b c first second = given_all None a b c first second
-    given_ok (Err e) a b c first second = tt
-
-    pub given_err : (r : Result T Error) (a b c : Option History) → Becomes (after (GaveOwner old.owner old.group None)) a b → Becomes (after (GaveMode (bit_and old.mode 511) (answer_of r))) b c → IfErr r (λ e. Follows (IsRefused old (error_kind e)) a c)
-    given_err (Ok x) a b c first second = tt
-    given_err (Err e) a b c first second = restate (λ fs es. es ≡ gifts_of old (Some (error_kind e))) (IsRefused old (error_kind e)) a c (λ fs es is. inr is) (given_all (Some (error_kind e)) a b c first second)
-
--- what was told when a file was made is told still, where anything is
-pub empty_still : (P : List File → List Event → Type 0) (X : Type 0) (a b : Option History) → Follows P a b → IfSome a (λ _. X) → IfSome b (λ _. X)
-empty_still P X a None did is = tt
-empty_still P X None (Some h) did is = absurd (let e : None ≡ Some did.was = did.told in cc)
-empty_still P X (Some s) (Some h) did is = is
 
 -- ---- at the arms of a match
 

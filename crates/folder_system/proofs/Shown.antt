@@ -1,6 +1,6 @@
 -- How what a system shows of its files follows its calls.
 use Rattle.std.proofs.Common.{◌≡◌, ℕ, Bool, true, false, ◌&&◌, List, [], ◌∷◌, Option, Some, None, refl, sym, ap, ◌∙◌}
-use Rattle.std.specs.Prelude.{bytes_eq, string_bytes, option_map, is_none, if◌then◌else◌}
+use Rattle.std.specs.Prelude.{bytes_eq, string_bytes, option_map, if◌then◌else◌}
 use Rattle.host_port.specs.Act.{File, file_content, Disk, Create, Write, Close, disk_after, has_file, with_file, with_more}
 use Rattle.host_port.specs.Outside.{Becomes}
 use Rattle.folder_system.specs.declared.beside.Beside.{Beside}
@@ -8,7 +8,7 @@ use Rattle.folder_system.specs.declared.beside.Taken.TheVariants.{ByName}
 use Rattle.folder_system.specs.declared.place.Place.{Place}
 use Rattle.folder_system.specs.declared.place.Place.TheVariants.{Beside as StandsBeside, In}
 use Rattle.folder_system.specs.Events.{Event, History, Answer, Transition, Follows, without, files_after, is_stored}
-use Rattle.folder_system.specs.Place.{IsPlaced, IsTaken, IsLetGo, moving, is_beside}
+use Rattle.folder_system.specs.Place.{IsPlaced, IsTaken, moving, is_beside}
 use Rattle.folder_system.specs.Disk.{disk_shown}
 use Rattle.folder_system.proofs.Follows.{the_same}
 use Rattle.folder_system.proofs.Calls.{beside_alone}
@@ -67,26 +67,7 @@ taken_shown bytes false old new b did = tt
 taken_shown bytes true old None b did = tt
 taken_shown bytes true old (Some t) b did = shown_taken bytes old t b did
 
-pub none_shown : (tells : Bool) (told : Option History) (bytes : List ℕ) → Becomes (disk_after (Write bytes ∷ Close ∷ [])) (if tells then disk_shown None told else None) (if tells then disk_shown None told else None)
-none_shown false told bytes = tt
-none_shown true None bytes = tt
-none_shown true (Some t) bytes = refl
-
 -- ---- an output that is let go
-
-shown_gone : (old : Option History) (t : History) → Transition (IsLetGo None) old t → Becomes (disk_after []) (disk_shown None old) (disk_shown None (Some t))
-shown_gone None t ran = absurd (let e : None ≡ Some ran.was = ran.told in cc)
-shown_gone (Some o) t ran =
-    let was : o ≡ ran.was = the_same o ran.was ran.told in
-    let files : t.files ≡ o.files = ap (λ (v : History). v.files) ran.is ∙ ap (λ (l : List Event). files_after l ran.was.files) ran.so ∙ ap (λ (v : History). v.files) (sym was) in
-    λ i. Some (record { files = sym files i; writing = None })
-
-pub gone_shown : (tells : Bool) (place : Option Place) (old new : Option History) → Follows (IsLetGo place) old new
-    → Becomes (disk_after []) (if tells then disk_shown place old else None) (if (tells && is_none place) then disk_shown None new else None)
-gone_shown false place old new did = tt
-gone_shown true (Some place) old new did = tt
-gone_shown true None old None did = tt
-gone_shown true None old (Some t) did = shown_gone old t did
 
 pub becomes_then : (f : Disk → Disk) (a b c : Option Disk) → Becomes (disk_after []) a b → Becomes f b c → Becomes f a c
 becomes_then f a b None first second = tt

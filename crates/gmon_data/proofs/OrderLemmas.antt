@@ -176,11 +176,6 @@ others_later r other h u c = by (has_counters h) refl r other
     by true e (WideBlock addr count) other = rw e refl
     by false e (WideBlock addr count) other = rw e refl
 
-no_conflict : (r : WideRec) → is_other r ≡ true → (c : Content) → record_conflict c r ≡ None
-no_conflict (WideHist k v) other c = absurd cc
-no_conflict (WideArc from to count) other c = refl
-no_conflict (WideBlock addr count) other c = refl
-
 same_conflict : (r : WideRec) → is_other r ≡ true → (p : Pair) (c : Content) → record_conflict (with_record r c) (hist_record p) ≡ record_conflict c (hist_record p)
 same_conflict (WideHist k v) other p c = absurd cc
 same_conflict (WideArc from to count) other p c = refl

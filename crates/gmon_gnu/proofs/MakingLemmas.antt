@@ -29,8 +29,8 @@ use Rattle.gmon_gnu.specs.declared.state.Body.TheVariants as body
 use Rattle.gmon_gnu.specs.declared.state.Entry.{Entry}
 use Rattle.gmon_gnu.specs.declared.state.HistFields.{HistFields}
 use Rattle.gmon_gnu.specs.declared.state.State.{State}
-use Rattle.gmon_gnu.specs.Held.{IsBodyWithin, IsWithin as IsEntryWithin, entry_recs, entries_recs, held_rec, no_entry, no_fields, rec_of, recs_in}
-use Rattle.gmon_gnu.specs.Making.{IsPlacedIn, IsOrderOf, block_recs, body_recs, hist_recs, hists_among, is_hist, later_recs, other_recs, place_of, placed_entries, placed_recs}
+use Rattle.gmon_gnu.specs.Held.{entry_recs, entries_recs, held_rec, no_entry, no_fields, rec_of, recs_in}
+use Rattle.gmon_gnu.specs.Making.{IsOrderOf, block_recs, body_recs, hist_recs, hists_among, is_hist, later_recs, other_recs, place_of, placed_entries, placed_recs}
 use Rattle.gmon_gnu.proofs.AddingLemmas.{all_widened, entry_widened, rest_of_slice}
 
 -- ---- the list of histograms
@@ -55,26 +55,9 @@ pub places_below : (fields : List HistFields) (b : Body) (i n : ℕ) → i < n �
 places_below fields (body.Hist f s t) i n lt = (lt, tt)
 places_below fields (body.Blocks s t) i n lt = tt
 
--- where all entries lie within what there is their histograms have places
-pub have_places : (fields counters pairs arcs : ℕ) (entries : List Entry) → AllByRecursion (IsEntryWithin fields counters pairs arcs) entries → AllByRecursion (λ e. IsPlacedIn fields e.body) entries
-have_places fields counters pairs arcs [] all = tt
-have_places fields counters pairs arcs (e ∷ entries) all = (by e.body all.0.2, have_places fields counters pairs arcs entries all.1)
-  where
-    by : (b : Body) → IsBodyWithin fields counters pairs b → IsPlacedIn fields b
-    by (body.Hist f s t) within = (within.2, within.0)
-    by (body.Blocks s t) within = tt
-
 pub all_joined : {X : Type 0} (P : X → Type 0) (xs ys : List X) → AllByRecursion P xs → AllByRecursion P ys → AllByRecursion P (xs ++ ys)
 all_joined P [] ys all more = more
 all_joined P (x ∷ xs) ys all more = (all.0, all_joined P xs ys all.1 more)
-
-pub all_left : {X : Type 0} (P : X → Type 0) (xs ys : List X) → AllByRecursion P (xs ++ ys) → AllByRecursion P xs
-all_left P [] ys all = tt
-all_left P (x ∷ xs) ys all = (all.0, all_left P xs ys all.1)
-
-pub all_right : {X : Type 0} (P : X → Type 0) (xs ys : List X) → AllByRecursion P (xs ++ ys) → AllByRecursion P ys
-all_right P [] ys all = all
-all_right P (x ∷ xs) ys all = all_right P xs ys all.1
 
 pub all_reordered : {X : Type 0} (P : X → Type 0) (xs ys : List X) → IsPermutation xs ys → AllByRecursion P xs → AllByRecursion P ys
 all_reordered P xs ys same all = recursion_from_All P ys (All-permutation P xs ys same (All-from_recursion P xs all))

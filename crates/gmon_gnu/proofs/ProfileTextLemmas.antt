@@ -1,9 +1,8 @@
 -- The file of a profile, piece by piece.
-use Rattle.std.proofs.Common.{◌≡◌, ℕ, ◌+◌, ◌<◌, Bool, true, false, List, [], ◌∷◌, ◌++◌, length, take, map, filter_map, get_or, Option, Some, None, refl, sym, ap, ◌∙◌, append_assoc, length-append, if◌then◌else◌, arith}
+use Rattle.std.proofs.Common.{◌≡◌, ℕ, ◌+◌, ◌<◌, Bool, true, false, List, [], ◌∷◌, ◌++◌, length, map, get_or, Option, Some, None, refl, sym, ap, ◌∙◌, append_assoc, if◌then◌else◌, arith}
 use Rattle.std.specs.List.{flat_map, range_with_len}
-use Rattle.std.proofs.lemmas.List.{map-append, length-map, take_more}
+use Rattle.std.proofs.lemmas.List.{map-append, length-map}
 use Rattle.std.proofs.lemmas.List.Concat.{flat_map-append}
-use Rattle.std.proofs.lemmas.List.Elements.{filter_map-append}
 use Rattle.gp_base.specs.declared.records.Unit as units
 use Rattle.gp_base.specs.declared.records.Rec.{Rec}
 use Rattle.gp_base.specs.Bytes.{le}
@@ -13,7 +12,7 @@ use Rattle.gp_base.specs.Fields.{counter_bytes, block_bytes}
 use Rattle.gmon_gnu.specs.Grammar.{rec_bytes, hist_bytes, blocks_bytes}
 use Rattle.gmon_gnu.specs.Pieces.{header, hist_header, hist_pieces_text, arc_text_of, left_bytes, rounds_text}
 use Rattle.gmon_gnu.specs.ProfileText.{profile_text}
-use Rattle.gmon_gnu.specs.Splitting.{most_samples, most_calls, piece, pieces_of, largest, hist_piece, raw_hist, hist_rec, hist_recs, arc_piece, arc_pieces, arc_rec, has_left, piece_left, round_of, rounds_of, raw_block, blocks_rec}
+use Rattle.gmon_gnu.specs.Splitting.{most_samples, most_calls, piece, pieces_of, largest, hist_piece, raw_hist, hist_rec, hist_recs, arc_piece, arc_pieces, arc_rec, has_left, round_of, rounds_of, raw_block, blocks_rec}
 
 flat_map-map : {X Y : Type 0} (g : Y → List ℕ) (f : X → Y) (xs : List X) → flat_map g (map f xs) ≡ flat_map (λ x. g (f x)) xs
 flat_map-map g f [] = refl
@@ -108,29 +107,6 @@ left_none j e none = ap (λ (b : Bool). if b then block_bytes (raw_block (e.0, p
 
 -- one entry more
 module _ (es : List (ℕ × ℕ)) (i : ℕ) (e : ℕ × ℕ) (within : i < length es) (is : e ≡ get_or es i e) where
-  entry_more : take (i + 1) es ≡ take i es ++ e ∷ []
-  entry_more = take_more es i e within ∙ ap (λ (x : ℕ × ℕ). take i es ++ x ∷ []) (sym is)
-
-  pub round_more : (j : ℕ) → length (round_of (take (i + 1) es) j) ≡ length (round_of (take i es) j) + (if has_left j e.1 then 1 else 0)
-  round_more j =
-      ap (λ (l : List (ℕ × ℕ)). length (round_of l j)) entry_more
-      ∙ ap length (filter_map-append (piece_left j) (take i es) (e ∷ []) ∙ ap (λ (l : List (ℕ × ℕ)). front ++ l) (one (piece_left j e)))
-      ∙ by (has_left j e.1)
-    where
-      front : List (ℕ × ℕ)
-      front = filter_map (piece_left j) (take i es)
-
-      first : Option (ℕ × ℕ) → List (ℕ × ℕ)
-      first (Some x) = x ∷ []
-      first None = []
-
-      one : (o : Option (ℕ × ℕ)) → filter_map (λ (x : ℕ × ℕ). o) (e ∷ []) ≡ first o
-      one (Some x) = refl
-      one None = refl
-
-      by : (b : Bool) → length (front ++ first (if b then Some (e.0, piece most_calls j e.1) else None)) ≡ length front + (if b then 1 else 0)
-      by true = omega (arith, length-append front ((e.0, piece most_calls j e.1) ∷ []))
-      by false = omega (arith, length-append front [])
 
 -- ---- the whole
 

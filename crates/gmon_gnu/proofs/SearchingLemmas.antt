@@ -24,7 +24,7 @@ use Rattle.gmon_gnu.specs.declared.state.Entry.{Entry}
 use Rattle.gmon_gnu.specs.declared.state.HistFields.{HistFields}
 use Rattle.gmon_gnu.specs.FirstHists.{conflict_among_first, is_counted}
 use Rattle.gmon_gnu.specs.Held.{IsBodyWithin, IsWithin, entries_recs, no_entry, no_fields, rec_of, recs_in}
-use Rattle.gmon_gnu.specs.Searching.{counted_hist, counted_hists, first_unit, left_behind, lower_one, lower_unlike, lower_where_counted, lowest_unlike, range_unlike, unlike_among, unlike_before, unlike_where_counted}
+use Rattle.gmon_gnu.specs.Searching.{counted_hist, counted_hists, first_unit, left_behind, lower_one, lower_unlike, lowest_unlike, range_unlike, unlike_among, unlike_before, unlike_where_counted}
 use Rattle.gmon_gnu.proofs.AddingLemmas.{all_widened}
 use Rattle.gmon_gnu.proofs.FirstHistsLemmas.{conflict_where, put_where}
 use Rattle.gmon_gnu.proofs.MakingLemmas.{entries_next}
@@ -235,10 +235,6 @@ module _ (fields : List HistFields) (counters : List ℕ) (pairs : List RawBlock
       ∙ sym (λ i. unlike_among [] (counted_hists (fields_are i) (entries_are i)) n) ∙ sym found
 
 -- ---- loops
-
-pub next_lowest : (o : Option Pair) (ps : List Pair) (best : Option HistRange) (new : HistRange) → lowest_unlike best (cons_option o ps) new ≡ lowest_unlike (lower_where_counted best o new) ps new
-next_lowest None ps best new = refl
-next_lowest (Some p) ps best new = refl
 
 pub none_left : (before ps : List Pair) → unlike_among before ps 0 ≡ None
 none_left before [] = refl

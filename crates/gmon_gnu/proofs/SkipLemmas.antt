@@ -1,6 +1,6 @@
 -- A record that is skipped, and one that isn't all there.
-use Rattle.std.proofs.Common.{◌≡◌, ℕ, zero, suc, ◌-◌, ◌*◌, ◌/◌, ◌<◌, ◌≤◌, Bool, true, false, ltb, not, eqb, List, [], ◌∷◌, ◌++◌, length, take, drop, slice_index, length-take, Option, Some, None, Result, Ok, Err, refl, sym, ap, ◌∙◌, if◌then◌else◌, arith}
-use Rattle.std.proofs.lemmas.Bool.{lt-ltb, le-ltb}
+use Rattle.std.proofs.Common.{◌≡◌, ℕ, ◌-◌, ◌*◌, ◌/◌, ◌≤◌, Bool, true, false, ltb, not, eqb, List, [], ◌∷◌, ◌++◌, length, take, drop, length-take, Option, Some, None, Result, Ok, Err, refl, sym, ap, ◌∙◌, if◌then◌else◌, arith}
+use Rattle.std.proofs.lemmas.Bool.{le-ltb}
 use Rattle.std.proofs.lemmas.List.{take-append-drop}
 use Rattle.std.specs.Prelude.{IfOk}
 use Rattle.gp_base.specs.declared.records.Rec.{Rec}
@@ -14,10 +14,10 @@ use Rattle.gmon_cells.specs.Cells.{cells_of}
 use Rattle.gmon_gnu.specs.declared.state.Begun.{Begun}
 use Rattle.gmon_gnu.specs.declared.state.HistFields.{HistFields}
 use Rattle.gmon_gnu.specs.Fields.{gnu_version}
-use Rattle.gmon_gnu.specs.Reading.{Front, Refused, after_front, behind_records, recs_from, refusal_read, header_refusal, gnu_refusal}
+use Rattle.gmon_gnu.specs.Reading.{behind_records, refusal_read, header_refusal, gnu_refusal}
 use Rattle.gmon_gnu.specs.Begun.{begun_on}
 use Rattle.gmon_gnu.specs.Going.{records_on, hist_on, blocks_on}
-use Rattle.gmon_gnu.specs.Held.{width_of, hist_with}
+use Rattle.gmon_gnu.specs.Held.{hist_with}
 use Rattle.gmon_gnu.proofs.FedLemmas.{records_of}
 
 -- records in front take no fault away, and have none
@@ -39,10 +39,6 @@ hist_whole len f count rest counters behind whole counters_is behind_is =
     ap (λ (b : Bool). if b then Err (Short len) else behind_records (Hist (hist_with f (items_of_text 2 value_of count rest)) ∷ []) (records_on len (drop (count * 2) rest))) (le-ltb (length rest) (count * 2) whole)
     ∙ (λ i. behind_records (Hist (hist_with f (cells i)) ∷ []) (records_on len (sym behind_is i)))
 
-pub hist_torn : (len : ℕ) (f : HistFields) (count : ℕ) (rest : List ℕ) → length rest < count * 2 → hist_on len (hist_with f []) count rest ≡ Err (Short len)
-hist_torn len f count rest torn =
-    ap (λ (b : Bool). if b then Err (Short len) else behind_records (Hist (hist_with f (items_of_text 2 value_of count rest)) ∷ []) (records_on len (drop (count * 2) rest))) (lt-ltb (length rest) (count * 2) torn)
-
 -- and so are pairs
 pub blocks_whole : (len count : ℕ) (rest pairs behind : List ℕ) → count * 8 ≤ length rest → pairs ≡ take (count * 8) rest → behind ≡ drop (count * 8) rest
     → blocks_on len [] count rest ≡ behind_records (Blocks (cells_of 8 block_of pairs) ∷ []) (records_on len behind)
@@ -51,21 +47,6 @@ blocks_whole len count rest pairs behind whole pairs_is behind_is =
     let cells : items_of_text 8 block_of count rest ≡ cells_of 8 block_of pairs = cells_front 8 block_of count rest pairs pairs_is n in
     ap (λ (b : Bool). if b then Err (Short len) else behind_records (Blocks (items_of_text 8 block_of count rest) ∷ []) (records_on len (drop (count * 8) rest))) (le-ltb (length rest) (count * 8) whole)
     ∙ (λ i. behind_records (Blocks (cells i) ∷ []) (records_on len (sym behind_is i)))
-
-pub blocks_torn : (len count : ℕ) (rest : List ℕ) → length rest < count * 8 → blocks_on len [] count rest ≡ Err (Short len)
-blocks_torn len count rest torn =
-    ap (λ (b : Bool). if b then Err (Short len) else behind_records (Blocks (items_of_text 8 block_of count rest) ∷ []) (records_on len (drop (count * 8) rest))) (lt-ltb (length rest) (count * 8) torn)
-
-refused_first : (more : List ℕ → Result (List Rec) GmonRefusal) (b : Bool) (e : GmonRefusal) (f : Front) → b ≡ true → after_front more (if b then Refused e else f) ≡ Err e
-refused_first more b e f is = ap (λ (c : Bool). after_front more (if c then Refused e else f)) is
-
--- the front of a record isn't all there
-pub front_torn : (len : ℕ) (text : List ℕ) → 0 < length text → length text < width_of (slice_index text 0) → records_on len text ≡ Err (Short len)
-front_torn len [] some torn = absurd (let f : 1 ≤ 0 = some in omega (arith, f))
-front_torn len (zero ∷ body) some torn = refused_first (recs_from len (length body)) (ltb (length body) 32) (Short len) _ (lt-ltb (length body) 32 (omega (arith, torn)))
-front_torn len (suc zero ∷ body) some torn = refused_first (recs_from len (length body)) (ltb (length body) 12) (Short len) _ (lt-ltb (length body) 12 (omega (arith, torn)))
-front_torn len (suc (suc zero) ∷ body) some torn = refused_first (recs_from len (length body)) (ltb (length body) 4) (Short len) _ (lt-ltb (length body) 4 (omega (arith, torn)))
-front_torn len (suc (suc (suc tag)) ∷ body) some torn = absurd (let f : suc (length body) < 1 = torn in omega (arith, f))
 
 -- a record that is all there has no fault
 pub hist_skipped : (len : ℕ) (f : HistFields) (count : ℕ) (rest : List ℕ) → count * 2 ≤ length rest → refusal_read (hist_on len (hist_with f []) count rest) ≡ refusal_read (records_on len (drop (count * 2) rest))

@@ -1,9 +1,9 @@
 -- The numbers of entries, from the last to the first.
-use Rattle.std.proofs.Common.{◌≡◌, ◌<◌, ◌≤◌, ℕ, zero, suc, ◌+◌, Bool, true, false, not, cond, List, [], ◌∷◌, length, map, drop, get_or, refl, ap, sym, subst, ◌∙◌, arith, add-one}
+use Rattle.std.proofs.Common.{◌≡◌, ◌<◌, ℕ, zero, suc, ◌+◌, Bool, true, false, not, cond, List, [], ◌∷◌, length, map, drop, get_or, refl, ap, sym, subst, ◌∙◌, arith, add-one}
 use Rattle.std.specs.Prelude.{◌==◌, Some, None, nat_lt, filter, slice_index, if◌then◌else◌}
 use Rattle.std.specs.List.{All, position_or_len}
 use Rattle.std.specs.Option.{option_map_or}
-use Rattle.std.proofs.lemmas.List.{drop_all, drop_more, get_or-map, length-map, map-append}
+use Rattle.std.proofs.lemmas.List.{drop_more, get_or-map, length-map, map-append}
 use Rattle.std.proofs.lemmas.List.Elements.{All-append, All-cons, All-from_recursion, All-nil, recursion_from_All}
 use Rattle.std.proofs.Math.Logic.{∥∥₁_elim}
 use Rattle.std.proofs.Props.{props}
@@ -72,15 +72,6 @@ pub record AreNumbersFrom (entries : List GraphEntry) (n k : ℕ) (numbers : Num
   pub cycle_count : length numbers.cycles.items ≡ n
   pub functions : (f : ℕ) → f < n → slice_index numbers.functions.items f ≡ first_number k (drop k entries) (Function f)
   pub cycles : (head : ℕ) → head < n → slice_index numbers.cycles.items head ≡ first_number k (drop k entries) (Cycle head)
-
-pub no_numbers : (entries : List GraphEntry) (n k : ℕ) (numbers : Numbers) → length entries ≤ k → length numbers.functions.items ≡ n → length numbers.cycles.items ≡ n
-    → ((f : ℕ) → f < n → slice_index numbers.functions.items f ≡ 0) → ((f : ℕ) → f < n → slice_index numbers.cycles.items f ≡ 0) → AreNumbersFrom entries n k numbers
-no_numbers entries n k numbers past function_count cycle_count functions cycles = record {
-  function_count = function_count;
-  cycle_count = cycle_count;
-  functions = λ f low. functions f low ∙ ap (λ (es : List GraphEntry). first_number k es (Function f)) (sym (drop_all k entries past));
-  cycles = λ head low. cycles head low ∙ ap (λ (es : List GraphEntry). first_number k es (Cycle head)) (sym (drop_all k entries past));
-}
 
 first_step : (entries : List GraphEntry) (k : ℕ) (e : GraphEntry) (subject : Subject) → k < length entries → e ≡ get_or entries k e
     → first_number k (drop k entries) subject ≡ (if is_same e.subject subject then k + 1 else first_number (k + 1) (drop (k + 1) entries) subject)

@@ -40,10 +40,6 @@ counted_as a block = record a { block = block; state = idle_state a.sampling; ca
 abbrev pub filled_as : Inside → Parts → Inside
 filled_as a block = record a { block = block; state = Error }
 
-pub not_error : (on : Bool) → idle_state on ≡ Error → ⊥
-not_error true e = cc
-not_error false e = cc
-
 nothing_placed : (o : Option Walk) (P : Walk → Type 0) → o ≡ None → IfSome o P
 nothing_placed None P none = tt
 nothing_placed (Some w) P none = absurd (none-some w (sym none))

@@ -1,6 +1,6 @@
 -- What calls on an input and an output do to bytes that are told.
-use Rattle.std.proofs.Common.{◌≡◌, ℕ, ◌+◌, ◌<◌, ◌≤◌, Bool, true, false, List, [], ◌∷◌, ◌++◌, length, take, drop, Option, Some, None, refl, sym, ap, ◌∙◌, arith}
-use Rattle.std.specs.Prelude.{option_map, is_some, IfSome, ⊤, if◌then◌else◌}
+use Rattle.std.proofs.Common.{◌≡◌, ℕ, ◌+◌, ◌<◌, ◌≤◌, Bool, true, List, [], ◌∷◌, ◌++◌, length, take, drop, Option, Some, None, refl, sym, ap, ◌∙◌, arith}
+use Rattle.std.specs.Prelude.{option_map, is_some, IfSome, ⊤}
 use Rattle.std.proofs.lemmas.List.{take_at, drop_at, length-take-le, length-append}
 use Rattle.std.specs.Io.KnownBytes.{Appends, Keeps}
 use Rattle.host_port.specs.Host.{Came}
@@ -83,8 +83,3 @@ still tells None (Some b) same = absurd cc
 still tells (Some a) None same = absurd cc
 still tells (Some a) (Some b) same = refl
 
--- what is told of a system is what it tells
-pub if_told : {T : Type 0} (tells : Bool) (told : Option T) → IfSome (if tells then told else None) (λ t. told ≡ Some t)
-if_told true None = tt
-if_told true (Some t) = refl
-if_told false told = tt
