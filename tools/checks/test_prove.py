@@ -15,7 +15,8 @@ prove = program_of("tools/prove")
 PROVED = "logic=proved functions=3\n"
 RT = """#!/bin/sh
 if [ "$1" = all ]; then
-    printf '== low\\nfn a: proved\\n%b== high\\n%b== summary\\nlow: ok\\nhigh: %s\\n' '{proved}' '{high}' '{verdict}'
+    printf '== low\\nfn a: proved\\n%b== rvgprof_main\\n%b== summary\\nlow: ok\\nrvgprof_main: %s\\n' '{proved}' '{high}' '{verdict}'
+    touch "proved by $*"
     exit {status}
 fi
 touch "built by $*"
@@ -27,6 +28,12 @@ def progress(said):
     clock = iter(range(0, 100_000, 30))
     crates = prove.crates_of("low: std\nmiddle: low\n# a comment\nhigh: low middle\n")
     return prove.Progress(crates, {"low": 50, "middle": 30, "high": 20}, said.append, lambda: next(clock))
+
+
+class Choosing(unittest.TestCase):
+    def test_only_what_the_program_stands_on_is_proved(self):
+        crates = {"low": [], "middle": ["low"], "program": ["middle", "low"], "beside": ["low"], "tests": ["program"]}
+        self.assertEqual(list(prove.with_below("program", crates)), ["low", "middle", "program"])
 
 
 class Following(unittest.TestCase):
@@ -61,7 +68,7 @@ class Running(unittest.TestCase):
         with tempfile.TemporaryDirectory() as folder:
             top = pathlib.Path(folder)
             (top / "crates/rvgprof_main").mkdir(parents=True)
-            (top / "crates.txt").write_text("low:\nhigh: low\n")
+            (top / "crates.txt").write_text("low:\nrvgprof_main: low\ntest_low: low\n")
             proved = PROVED.replace("\n", "\\n")
             (top / "rt").write_text(RT.format(proved=proved, high=high, verdict=verdict, status=status))
             (top / "rt").chmod(0o755)
@@ -70,19 +77,20 @@ class Running(unittest.TestCase):
             with mock.patch.multiple(prove, TOP=top, MAIN=main), mock.patch.dict(os.environ, path):
                 with contextlib.redirect_stdout(printed), self.assertRaises(SystemExit) as ended:
                     prove.main(["--jobs", "2"])
-            return printed.getvalue(), ended.exception.code, os.listdir(main)
+            return printed.getvalue(), ended.exception.code, sorted(os.listdir(main))
 
     def test_the_program_is_built_once_all_is_proved(self):
         printed, status, made = self.run_with(PROVED.replace("\n", "\\n"), "ok", 0)
-        self.assertEqual((status, made), (0, ["built by run -- --version"]))
-        self.assertIn("high is proved; 2 of 2 crates", printed)
+        self.assertEqual((status, made), (0, ["built by run -- --version", "proved by all check --jobs 2"]))
+        self.assertIn("proving 2 crates, 2 at a time\n", printed)
+        self.assertIn("rvgprof_main is proved; 2 of 2 crates", printed)
         self.assertIn("proved and built in", printed)
 
     def test_nothing_is_built_where_something_is_refused(self):
         printed, status, made = self.run_with("error: it is wrong\\nlogic=not-proved\\n", "failed (1)", 1)
-        self.assertEqual((status, made), (1, []))
+        self.assertEqual((status, made), (1, ["proved by all check --jobs 2"]))
         self.assertIn("error: it is wrong\n", printed)
-        self.assertIn("high: failed (1)\n", printed)
+        self.assertIn("rvgprof_main: failed (1)\n", printed)
 
     def test_words_that_are_not_understood(self):
         for words in (["--jobs"], ["--jobs", "0"], ["gp_base"], ["--help"]):
