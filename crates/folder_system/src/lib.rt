@@ -16,6 +16,3 @@ pub use folder::{Attributes, Folder, Found};
 pub use mem_folder::MemFolder;
 pub use place::Place;
 pub use system::{FolderSystem, Printer};
-
-#[cfg(test)]
-mod tests;

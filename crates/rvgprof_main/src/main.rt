@@ -19,9 +19,6 @@ use std::process::ExitCode;
 use std::{env, fs, io};
 use system_host::SystemHost;
 
-#[cfg(test)]
-mod tests;
-
 /// The status where the words can't be had because memory ran out.
 const NO_MEMORY: u8 = 7;
 

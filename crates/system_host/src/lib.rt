@@ -9,6 +9,3 @@ pub mod system;
 pub use host::SystemHost;
 pub use one_file::OneFile;
 pub use system::System;
-
-#[cfg(test)]
-mod tests;
