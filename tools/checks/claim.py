@@ -254,7 +254,7 @@ def citing(claim, is_of):
     found.files, found.needed, found.of_code = claim.files, set(), set()
     for path in sorted(CRATES.glob("*/src/**/*.rt")):
         crate = path.relative_to(CRATES).parts[0]
-        is_test = crate.startswith(("test_", "firmware_test")) or "tests" in path.parts or path.stem == "tests"
+        is_test = crate.startswith("test_") or "tests" in path.parts or path.stem == "tests"
         if is_test or not is_of(crate):
             continue
         lines = path.read_text().splitlines()

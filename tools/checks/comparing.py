@@ -8,7 +8,7 @@ import shutil
 import sys
 
 TOP = pathlib.Path(__file__).resolve().parent.parent.parent
-FIRMWARE = TOP / "crates/firmware_test/data/firmware.elf"
+FIRMWARE = TOP / "crates/test_commands/data/firmware.elf"
 # So many differences end a check: what comes behind them tells no more.
 MOST = 20
 

@@ -14,6 +14,8 @@
 //! | `copy BYTES` | those of another name |
 //! | `> TEXT` | a line of text |
 //!
+//! `read NAME` names the bytes of the file of this name, which stands beside the files of cases.
+//!
 //! `program NAME` names the file of a program that lies at 0x10000 and begins there. `code N..` are its words, and
 //! `function NAME N` is a function at an offset.
 //!
@@ -68,6 +70,13 @@ fn try_cases(rt: &HostRuntime, files: &mut MemHost, name: &str) -> io::Result<()
     Ok(())
 }
 
+/// Names the bytes of a file.
+fn read_file(rt: &HostRuntime, files: &mut MemHost, name: &str) -> io::Result<()> {
+    let bytes = fs::read(rt, name)?;
+    files.put(name, &bytes)?;
+    Ok(())
+}
+
 /// Names bytes, or tries a case.
 fn try_block(rt: &HostRuntime, files: &mut MemHost, block: &str) -> io::Result<()> {
     let (what, rest) = block.split_once(" ").unwrap_or((block, ""));
@@ -75,6 +84,7 @@ fn try_block(rt: &HostRuntime, files: &mut MemHost, block: &str) -> io::Result<(
     match what {
         "#" => Ok(()),
         "file" => put_file(rt.alloc(), files, name, body),
+        "read" => read_file(rt, files, name),
         "program" => put_program(rt.alloc(), files, name, body),
         "case" => try_case(rt, files, rest),
         _ => Err(unreadable()),
