@@ -122,4 +122,3 @@ same_parts nodes other_nodes counts other_counts total other_total functions oth
 pub same_samples : (stacks : List Stack) (nodes other_nodes : Nodes) (counts other_counts : List ℕ) (total other_total : ℕ) → nodes ≡ other_nodes → counts ≡ other_counts → total ≡ other_total → HaveSamples stacks other_nodes other_counts other_total → HaveSamples stacks nodes counts total
 same_samples stacks nodes other_nodes counts other_counts total other_total a b c have =
     subst (λ (x : Nodes). HaveSamples stacks x counts total) (sym a) (subst (λ (x : List ℕ). HaveSamples stacks other_nodes x total) (sym b) (subst (λ (x : ℕ). HaveSamples stacks other_nodes other_counts x) (sym c) have))
-

@@ -265,4 +265,3 @@ module _ (nodes : Nodes) (links : List Links) (caller : ℕ) (function : Option 
           before : (i < length nodes) ⊎ (length nodes ≤ i) → i < length nodes
           before (inl less) = less
           before (inr more) = absurd (apart (omega (arith, more, below)))
-

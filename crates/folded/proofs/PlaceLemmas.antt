@@ -61,4 +61,3 @@ pub stack_stays : (nodes new more : Nodes) (n : ℕ) → new ≡ nodes ++ more �
 stack_stays nodes new more n is inside = ap (λ (x : Nodes). stack_of_node x n) is ∙ stack_behind nodes more n inside
 
 -- ---- a stack is read from its end
-

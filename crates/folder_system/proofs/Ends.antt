@@ -19,7 +19,6 @@ use Rattle.folder_system.proofs.Files.{content_of_new, if_same}
 -- ---- the name
 
 module _ (own name bytes : List ℕ) where
-
   pub put_unnamed : (kind : ErrorKind) (a b c : Option History) → is_held kind ≡ false → Follows (IsStored own bytes) a b → Becomes (after (Renamed own name (Some kind))) b c → Follows (IsHalted own name bytes) a c
   put_unnamed kind a b c free = then_call (IsStored own bytes) (IsHalted own name bytes) (Renamed own name (Some kind)) a b c
       (λ fs es h. inr (record { synced = h.0; kind = kind; is = ap (λ (l : List Event). l ++ Renamed own name (Some kind) ∷ []) h.1; stored = h.2; free = free }))

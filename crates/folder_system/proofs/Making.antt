@@ -28,7 +28,6 @@ plus_one : (n : ℕ) → suc n ≡ n + 1
 plus_one n = omega arith
 
 module _ (name : List ℕ) where
-
   pub one_more : (own : List ℕ) (mode n : ℕ) (kind : ErrorKind) (a b c : Option History) → own ≡ numbered name n → kind ≡ AlreadyExists → Follows (AreTaken name mode n) a b → Becomes (after (Made own mode (Some kind))) b c → Follows (AreTaken name mode (n + 1)) a c
   one_more own mode n kind a b c next taken front done = subst (λ (m : ℕ). Follows (AreTaken name mode m) a c) (plus_one n) (then_call (AreTaken name mode n) (AreTaken name mode (suc n)) (Made own mode (Some kind)) a b c (λ fs es is. ap (λ (l : List Event). l ++ Made own mode (Some kind) ∷ []) is ∙ (λ i. tries name mode n ++ Made (next i) mode (Some (taken i)) ∷ [])) front done)
 
@@ -180,7 +179,6 @@ module _ (name : List ℕ) where
 -- ---- what is given
 
 module _ (old : Attributes) where
-
   module _ {T : Type 0} where
 
 -- ---- at the arms of a match

@@ -82,4 +82,3 @@ still tells None None same = refl
 still tells None (Some b) same = absurd cc
 still tells (Some a) None same = absurd cc
 still tells (Some a) (Some b) same = refl
-

@@ -19,4 +19,3 @@ adds_out {T} {E} side p before after last x y z u result none room out =
 pub no_line : (last : List ℕ) → length last + 256 ≤ 256 → last ≡ []
 no_line [] room = refl
 no_line (b ∷ last) room = absurd (let f : suc (length last) + 256 ≤ 256 = room in omega (arith, f))
-
