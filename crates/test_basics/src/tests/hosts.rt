@@ -93,39 +93,43 @@ fn put_cut<H: Host>(
     Ok(rest.len())
 }
 
+/// Lengths of pieces, and how many bytes are printed before they are flushed.
+const CUTS: [(&[usize], usize); 7] = [
+    (&[1], 0),
+    (&[4_095], 0),
+    (&[4_096], 0),
+    (&[4_097], 4_097),
+    (&[0], 0),
+    (&[4_000, 96], 0),
+    (&[4_000, 97, 5_000, 0, 90_000], 99_097),
+];
+
 #[test]
 fn bytes_are_printed_in_order_through_a_buffer(rt: HostRuntime) -> Result<(), Fail> {
     let text = text_of(rt.alloc(), 100_000)?;
-    let cuts: [(&[usize], usize); 7] = [
-        (&[1], 0),
-        (&[4_095], 0),
-        (&[4_096], 0),
-        (&[4_097], 4_097),
-        (&[0], 0),
-        (&[4_000, 96], 0),
-        (&[4_000, 97, 5_000, 0, 90_000], 99_097),
-    ];
-    for (cut, gone) in cuts {
+    for (cut, gone) in &CUTS {
         let mut host = MemHost::new(rt.alloc());
-        let mut buffer = PrintBuf::new();
-        let left = put_cut(text.as_slice(), cut, &mut buffer, &mut host).map_err(|_| "put")?;
+        let (before, left) = print_cut(text.as_slice(), cut, &mut host).map_err(|_| "print")?;
+        let printed = host.printed();
+        assert_eq!(rt; before, *gone, "printed before the flush of {cut:?}");
         assert_eq!(rt;
-            host.printed().len(),
-            gone,
-            "printed before the flush of {cut:?}"
-        );
-        buffer.flush(&mut host).map_err(|_| "flush")?;
-        assert_eq!(rt;
-            host.printed().len().checked_add(left),
+            printed.len().checked_add(left),
             Some(text.len()),
             "length of {cut:?}"
         );
-        assert!(rt;
-            text.as_slice().starts_with(host.printed()),
-            "bytes of {cut:?}"
-        );
+        assert!(rt; text.as_slice().starts_with(printed), "bytes of {cut:?}");
     }
     Ok(())
+}
+
+/// Prints pieces of a text that have these lengths, and answers how many bytes were printed before they were flushed,
+/// and how many were left out.
+fn print_cut(text: &[u8], cut: &[usize], host: &mut MemHost) -> Result<(usize, usize), Failed> {
+    let mut buffer = PrintBuf::new();
+    let left = put_cut(text, cut, &mut buffer, host)?;
+    let before = host.printed().len();
+    buffer.flush(host)?;
+    Ok((before, left))
 }
 
 #[test]

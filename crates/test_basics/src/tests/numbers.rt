@@ -59,48 +59,38 @@ fn refusals_are_compared_by_their_parts(rt: HostRuntime) {
     assert!(rt; torn != GmonRefusal::Short { at: 40 });
 }
 
+/// What is limited, the limit, and the number.
+const LIMITS: [(&str, u64, u64); 13] = [
+    (
+        "bytes of an ELF file",
+        limits::MAX_ELF_BYTES as u64,
+        67_108_864,
+    ),
+    (
+        "bytes of profile files",
+        limits::MAX_PROFILE_BYTES as u64,
+        67_108_864,
+    ),
+    ("profile files", limits::MAX_PROFILE_FILES as u64, 16),
+    ("program headers", limits::MAX_PROGRAM_HEADERS as u64, 64),
+    ("symbols", limits::MAX_SYMBOLS as u64, 65_536),
+    ("bytes of a name", limits::MAX_NAME_BYTES as u64, 4_095),
+    ("bytes of a text", limits::MAX_TEXT_BYTES as u64, 16_777_216),
+    (
+        "last end of a text",
+        limits::MAX_TEXT_END as u64,
+        0xFFFF_F000,
+    ),
+    ("least MiB of RAM", limits::MIN_RAM_MIB as u64, 4),
+    ("most MiB of RAM", limits::MAX_RAM_MIB as u64, 256),
+    ("largest number", limits::MAX_NUMBER as u64, 2_147_483_647),
+    ("harts", limits::MAX_HARTS as u64, 8),
+    ("functions of the demo", limits::MAX_DEMO as u64, 2_000),
+];
+
 #[test]
 fn limits_are_those_numbers(rt: HostRuntime) {
-    let rows = [
-        (
-            "bytes of an ELF file",
-            u64::from(limits::MAX_ELF_BYTES),
-            67_108_864,
-        ),
-        (
-            "bytes of profile files",
-            u64::from(limits::MAX_PROFILE_BYTES),
-            67_108_864,
-        ),
-        ("profile files", limits::MAX_PROFILE_FILES as u64, 16),
-        (
-            "program headers",
-            u64::from(limits::MAX_PROGRAM_HEADERS),
-            64,
-        ),
-        ("symbols", u64::from(limits::MAX_SYMBOLS), 65_536),
-        ("bytes of a name", u64::from(limits::MAX_NAME_BYTES), 4_095),
-        (
-            "bytes of a text",
-            u64::from(limits::MAX_TEXT_BYTES),
-            16_777_216,
-        ),
-        (
-            "last end of a text",
-            u64::from(limits::MAX_TEXT_END),
-            0xFFFF_F000,
-        ),
-        ("least MiB of RAM", u64::from(limits::MIN_RAM_MIB), 4),
-        ("most MiB of RAM", u64::from(limits::MAX_RAM_MIB), 256),
-        (
-            "largest number",
-            u64::from(limits::MAX_NUMBER),
-            2_147_483_647,
-        ),
-        ("harts", u64::from(limits::MAX_HARTS), 8),
-        ("functions of the demo", u64::from(limits::MAX_DEMO), 2_000),
-    ];
-    for (name, limit, number) in rows {
-        assert_eq!(rt; limit, number, "{name}");
+    for (name, limit, number) in &LIMITS {
+        assert_eq!(rt; *limit, *number, "{name}");
     }
 }

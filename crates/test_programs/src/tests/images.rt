@@ -1,3 +1,5 @@
+ghost use Rattle.elf32_syms.specs.Owners.{IsAscending};
+
 use crate::{Entry, FUNCTION, elf, function, len_of, push_words};
 use elf32_syms::{ElfRefusal, Image, Segment, Symbol, owner, read};
 use gp_base::le4;
@@ -64,7 +66,9 @@ fn a_program_of_one_instruction(rt: HostRuntime) -> Result<(), Fail> {
     Ok(())
 }
 
-fn expect_one_instruction(rt: &impl Abort, image: &Image) {
+fn expect_one_instruction(rt: &impl Abort, image: &Image)
+    requires { IsAscending image.now.symbols }
+{
     assert_eq!(rt; image.entry, 0x10000);
     assert_eq!(rt; (image.text.low, image.text.high), (0x10000, 0x10004));
     assert_eq!(rt; image.segments.as_slice(), ONE_SEGMENT.as_slice());
