@@ -4,6 +4,7 @@ use gp_base::{
     BlockList, Counts, Form, Name, RawArc, RawBlock, RawHist, Rec, RecList, Records, Span, Unit,
 };
 use host_port::MemHost;
+use std::alloc::Global;
 use std::test::Fail;
 use text_lines::*;
 
@@ -118,26 +119,35 @@ const GNU_FILE: &[u8] =
 const BSD_FILE: &[u8] =
     b"\xf0\xff\xff\xff\xff\xff\xff\xff\x26\0\0\0\x79\x18\x05\0\0\0\0\0\0\0\0\0\0\0\0\0\0\0\0\0\0\0\x09\0\0\0\x01\0\0\0\x02\0\0\0\xff\xff\xff\xff";
 
+/// A file, and what is shown of it.
+const FILES: [(&[u8], &[u8]); 2] = [
+    (
+        GNU_FILE,
+        b"gnu\nblocks 2\nblock 00000001 0\nblock ffffffff 4294967295\nhist low 00000001 high 00000002 counters 1 rate 50 unit 000fa07365636f6e6473ff0000000073\ncount 00000001 65535\narc 00000001 00000002 3\nblocks 0\n",
+    ),
+    (
+        BSD_FILE,
+        b"bsd low fffffff0 high ffffffff counters 3 rate 0\ncount fffffff5 9\narc 00000001 00000002 4294967295\n",
+    ),
+];
+
 #[test]
 fn whole_files_are_shown(rt: HostRuntime) -> Result<(), Fail> {
-    for (bytes, want) in [
-        (
-            GNU_FILE,
-            b"gnu\nblocks 2\nblock 00000001 0\nblock ffffffff 4294967295\nhist low 00000001 high 00000002 counters 1 rate 50 unit 000fa07365636f6e6473ff0000000073\ncount 00000001 65535\narc 00000001 00000002 3\nblocks 0\n".as_slice(),
-        ),
-        (
-            BSD_FILE,
-            b"bsd low fffffff0 high ffffffff counters 3 rate 0\ncount fffffff5 9\narc 00000001 00000002 4294967295\n".as_slice(),
-        ),
-    ] {
-        assert!(rt; bytes.len() < 200);
+    for (bytes, want) in &FILES {
         let mut host = MemHost::new(rt.alloc());
-        let reader = FileReader::new().feed(rt.alloc(), bytes)?;
-        match reader.records() {
-            Ok(views) => show_file(views, &mut host).map_err(|_| "shown")?,
-            Err(_) => return Err("refused".into()),
-        }
-        assert_eq!(rt; host.printed(), want);
+        show_bytes(rt.alloc(), bytes, &mut host)?;
+        assert_eq!(rt; host.printed(), *want);
     }
     Ok(())
+}
+
+fn show_bytes(alloc: Global, bytes: &[u8], host: &mut MemHost) -> Result<(), Fail> {
+    if bytes.len() > 200 {
+        return Err("a long file")?;
+    }
+    let reader = FileReader::new().feed(alloc, bytes)?;
+    match reader.records() {
+        Ok(views) => Ok(show_file(views, host).map_err(|_| "shown")?),
+        Err(_) => Err("refused")?,
+    }
 }
