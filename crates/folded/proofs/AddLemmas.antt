@@ -109,8 +109,6 @@ module _ (nodes : Nodes) (counts : List ℕ) (total functions : ℕ) (is : AreNo
     number = ap (λ (n : ℕ). n + 1) have.number ∙ sym (length_push stacks (stack_of_node nodes node));
   }
 
--- ---- no node
-
 -- ---- what grew
 
 pub same_parts : (nodes other_nodes : Nodes) (counts other_counts : List ℕ) (total other_total functions other_functions : ℕ) → nodes ≡ other_nodes → counts ≡ other_counts → total ≡ other_total → functions ≡ other_functions → AreNodes other_nodes other_counts other_total other_functions → AreNodes nodes counts total functions

@@ -111,8 +111,6 @@ stacks-some symbols samples frames pc f is =
     stacks-more symbols samples (record { frames = frames; pc = pc })
     ∙ ap (λ (o : Option ℕ). stacks_of symbols samples ++ cons_option (option_map (stack_at symbols frames) o) []) is
 
--- ---- an owner is a symbol
-
 -- ---- a stack
 
 stack_ends_by : (symbols : List Symbol) (frames : List ℕ) (o : Option ℕ) (stack : List (Option ℕ)) → option_map (stack_at symbols frames) o ≡ Some stack → (f : ℕ) × (o ≡ Some f) × (stack ≡ map (caller_in symbols) frames ++ Some f ∷ [])

@@ -59,5 +59,3 @@ IsGrown-then a b c one two = record {
 
 pub stack_stays : (nodes new more : Nodes) (n : ℕ) → new ≡ nodes ++ more → n ≤ length nodes → stack_of_node new n ≡ stack_of_node nodes n
 stack_stays nodes new more n is inside = ap (λ (x : Nodes). stack_of_node x n) is ∙ stack_behind nodes more n inside
-
--- ---- a stack is read from its end

@@ -14,8 +14,6 @@ use Rattle.folder_system.specs.Place.{IsStored, IsNotStored, IsSettling, is_sett
 use Rattle.folder_system.proofs.Follows.{then_calls, one_call_at, then_call}
 use Rattle.folder_system.proofs.Files.{content_of_new, if_same}
 
--- ---- one call
-
 -- ---- the name
 
 module _ (own name bytes : List ℕ) where
@@ -24,8 +22,6 @@ module _ (own name bytes : List ℕ) where
       (λ fs es h. inr (record { synced = h.0; kind = kind; is = ap (λ (l : List Event). l ++ Renamed own name (Some kind) ∷ []) h.1; stored = h.2; free = free }))
 
 -- ---- in place, with what the file beside has
-
-module _ (unread : Type 0) (own name : List ℕ) where
 
 -- the bytes that were written are those that the file beside had, where that is told, also once they were copied
 pub IsContent : List ℕ → List ℕ → Option History → Option History → Type 0

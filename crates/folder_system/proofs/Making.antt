@@ -176,11 +176,6 @@ module _ (name : List ℕ) where
   pub opened : (a b : Option History) → Becomes (after (Opened name None)) a b → Follows (IsOpened name) a b
   opened a b = one_call (IsOpened name) (Opened name None) a b (λ fs. refl)
 
--- ---- what is given
-
-module _ (old : Attributes) where
-  module _ {T : Type 0} where
-
 -- ---- at the arms of a match
 
 module _ {O S : Type 0} (text : S → List ℕ) (made : Option (O × S)) (output : O) (own : S) (is : made ≡ Some (output, own)) where

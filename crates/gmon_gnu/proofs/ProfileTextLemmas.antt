@@ -1,5 +1,5 @@
 -- The file of a profile, piece by piece.
-use Rattle.std.proofs.Common.{◌≡◌, ℕ, ◌+◌, ◌<◌, Bool, true, false, List, [], ◌∷◌, ◌++◌, length, map, get_or, Option, Some, None, refl, sym, ap, ◌∙◌, append_assoc, if◌then◌else◌, arith}
+use Rattle.std.proofs.Common.{◌≡◌, ℕ, ◌+◌, ◌<◌, Bool, true, false, List, [], ◌∷◌, ◌++◌, length, map, Option, Some, None, refl, sym, ap, ◌∙◌, append_assoc, if◌then◌else◌, arith}
 use Rattle.std.specs.List.{flat_map, range_with_len}
 use Rattle.std.proofs.lemmas.List.{map-append, length-map}
 use Rattle.std.proofs.lemmas.List.Concat.{flat_map-append}
@@ -104,9 +104,6 @@ left_some j e left = ap (λ (b : Bool). if b then block_bytes (raw_block (e.0, p
 
 pub left_none : (j : ℕ) (e : ℕ × ℕ) → has_left j e.1 ≡ false → [] ≡ left_bytes j e
 left_none j e none = ap (λ (b : Bool). if b then block_bytes (raw_block (e.0, piece most_calls j e.1)) else []) (sym none)
-
--- one entry more
-module _ (es : List (ℕ × ℕ)) (i : ℕ) (e : ℕ × ℕ) (within : i < length es) (is : e ≡ get_or es i e) where
 
 -- ---- the whole
 
