@@ -20,7 +20,6 @@ use Rattle.gmon_data.specs.declared.refusal.ReadRefusal.TheVariants as reading
 use Rattle.gmon_files.specs.FileRead.{spelled_records}
 use Rattle.courses.specs.declared.outcome.Fault.TheVariants.{BadElf, BadProfile}
 use Rattle.command_words.specs.Items.{nth_word}
-use Rattle.demo_elf.specs.Elf.{demo_program}
 use Rattle.host_port.specs.Act.{Act}
 use Rattle.courses.specs.Course.{Course, Does, takes_no_memory, unless}
 use Rattle.gmon_files.specs.Forms.{file_records, file_refusal}
@@ -91,10 +90,10 @@ one_read words start old new below word limit next bytes profile may s later loa
     one_added words start new (word + 1) word next (length bytes) (file_records bytes) (may (length bytes))
     (a_profile words start old new below word limit (added_up word next) bytes (file_records bytes) s later loads accepted refl) profile like is
 
--- the demo program couldn't be made or read
-pub no_demo : (words : List (List ℕ)) (old new : Outside) (functions : ℕ) (acts : List Act) (next : Course) (refusal : ElfRefusal) → Stands words old new 0 [] (unless BadElf (elf_refusal (demo_program functions)) (Does acts next))
-    → IsElfRefusal refusal (elf_refusal (demo_program functions)) → elf_refusal (demo_program functions) ≡ None → Acted words old new (Err (elf_fault_of refusal))
-no_demo words old new functions acts next elf.OutOfMemory s due none =
-    no_memory words old new 0 [] (unless BadElf (elf_refusal (demo_program functions)) (Does acts next)) s
-    (λ contents. may_stop_unless BadElf (elf_refusal (demo_program functions)) (Does acts next) contents (subst (λ (o : Option ElfRefusal). IfSome o (λ r. takes_no_memory (BadElf r) ≡ false)) (sym none) tt) (inl refl, refl))
-no_demo words old new functions acts next refusal s due none = refuses words old new 0 [] BadElf (elf_refusal (demo_program functions)) (Does acts next) refusal s due tt
+-- a program that is there couldn't be read
+pub no_image : (words : List (List ℕ)) (old new : Outside) (bytes : List ℕ) (acts : List Act) (next : Course) (refusal : ElfRefusal) → Stands words old new 0 [] (unless BadElf (elf_refusal bytes) (Does acts next))
+    → IsElfRefusal refusal (elf_refusal bytes) → elf_refusal bytes ≡ None → Acted words old new (Err (elf_fault_of refusal))
+no_image words old new bytes acts next elf.OutOfMemory s due none =
+    no_memory words old new 0 [] (unless BadElf (elf_refusal bytes) (Does acts next)) s
+    (λ contents. may_stop_unless BadElf (elf_refusal bytes) (Does acts next) contents (subst (λ (o : Option ElfRefusal). IfSome o (λ r. takes_no_memory (BadElf r) ≡ false)) (sym none) tt) (inl refl, refl))
+no_image words old new bytes acts next refusal s due none = refuses words old new 0 [] BadElf (elf_refusal bytes) (Does acts next) refusal s due tt
