@@ -56,10 +56,12 @@ fn a_host_that_never_fails_is_loaded_from(rt: HostRuntime) -> Result<(), Fail> {
 #[test]
 fn a_host_in_memory_keeps_what_is_written(rt: HostRuntime) -> Result<(), Fail> {
     let mut host = MemHost::new(rt.alloc());
-    write_and_print(&rt, &mut host)
+    write_and_print(&mut host)?;
+    expect_written(&rt, &host);
+    Ok(())
 }
 
-fn write_and_print(rt: &impl Abort, host: &mut MemHost) -> Result<(), Fail>
+fn write_and_print(host: &mut MemHost) -> Result<(), Fail>
     requires { (outside_of host.old).is_writing ≡ false }
 {
     host.put("out", b"old")?;
@@ -70,11 +72,14 @@ fn write_and_print(rt: &impl Abort, host: &mut MemHost) -> Result<(), Fail>
     host.close_output().map_err(|_| "close")?;
     out_all_of(host, b"printed").map_err(|_| "out")?;
     err_all_of(host, b"complained").map_err(|_| "err")?;
+    Ok(())
+}
+
+fn expect_written(rt: &impl Abort, host: &MemHost) {
     assert_eq!(rt; host.file("out"), Some(b"abc".as_slice()));
     assert_eq!(rt; host.file("none"), None);
     assert_eq!(rt; host.printed(), b"printed".as_slice());
     assert_eq!(rt; host.errors(), b"complained".as_slice());
-    Ok(())
 }
 
 #[test]
