@@ -49,6 +49,17 @@ pub fn push_symbol(symbols: &mut SymbolList, i: u32, name: Name) -> Result<(), A
     })
 }
 
+/// Adds a function behind all others.
+fn push_behind(symbols: &mut SymbolList, addr: u32, end: u32, name: Name) -> Result<(), AllocError>
+    requires some { addr < end }
+    requires ascending { IsAscending symbols.old }
+    requires behind { All (λ s. s.end ≤ addr) symbols.old }
+    ensures ascending { OnOk result (IsAscending symbols.new) }
+    ensures ended { OnOk result (All (λ s. s.end ≤ end) symbols.new) }
+{
+    symbols.push(Symbol { addr, end, name })
+}
+
 /// So many functions without names, of `size` addresses each.
 pub fn symbols_of(alloc: Global, count: u32, size: u32) -> Result<SymbolList, AllocError>
     requires count { count ≤ 65536 }
@@ -60,11 +71,7 @@ pub fn symbols_of(alloc: Global, count: u32, size: u32) -> Result<SymbolList, Al
     let mut addr = 0x1_0000;
     for _i in 0..count {
         let end = addr + size;
-        symbols.push(Symbol {
-            addr,
-            end,
-            name: Name::new(alloc),
-        })?;
+        push_behind(&mut symbols, addr, end, Name::new(alloc))?;
         addr = end;
     }
     Ok(symbols)
@@ -109,11 +116,7 @@ pub fn symbols_at(alloc: Global, places: &[(u32, u32)]) -> Result<SymbolList, Al
     for (addr, end) in places {
         if last <= *addr && *addr < *end {
             let name = letter(alloc, symbols.as_slice().len())?;
-            symbols.push(Symbol {
-                addr: *addr,
-                end: *end,
-                name,
-            })?;
+            push_behind(&mut symbols, *addr, *end, name)?;
             last = *end;
         }
     }

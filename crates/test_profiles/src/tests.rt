@@ -2,6 +2,7 @@ mod contents;
 mod cuts;
 mod fixtures;
 mod graphs;
+mod looks;
 mod shares;
 mod sums;
 mod tables;

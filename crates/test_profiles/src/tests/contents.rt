@@ -4,6 +4,7 @@ ghost use Rattle.gp_base.specs.Spans.{HasRange};
 ghost use Rattle.gmon_data.specs.Content.{empty_content, wide_records, with_records, IsWithin};
 ghost use Rattle.gmon_data.specs.Sizes.{IsOfBytes};
 
+use super::looks::{counts_of, has_arcs, totals_of};
 use crate::{PER_100, boxed, new_profile, seconds};
 use gmon_data::{AddRefusal, Hist, HistRange, Profile, Unlike};
 use gp_base::{
@@ -19,11 +20,7 @@ fn histogram(alloc: Global, rate: u32) -> Result<RawHist, AllocError>
     ensures high { IfOk result (λ hist. hist.high ≡ 65552) }
     ensures counters { IfOk result (λ hist. hist.counters ≡ 1 ∷ 2 ∷ 0 ∷ 0 ∷ []) }
 {
-    let mut counters = Counts::new(alloc);
-    counters.push(1)?;
-    counters.push(2)?;
-    counters.push(0)?;
-    counters.push(0)?;
+    let counters = Counts::from(Vec::from_slice(alloc, &[1, 2, 0, 0])?);
     Ok(RawHist {
         low: 0x1_0000,
         high: 0x1_0010,
@@ -65,10 +62,7 @@ fn even(alloc: Global, low: u32, high: u32, count: u8) -> Result<Hist, AllocErro
     ensures counters { IfOk result (λ hist. length hist.counters ≤ 255) }
     ensures samples { IfOk result (λ hist. sum hist.counters ≡ length hist.counters) }
 {
-    let mut counters = Totals::new(alloc);
-    while counters.as_slice().len() < usize::from(count) {
-        counters.push(1)?;
-    }
+    let counters = Totals::from(vec![in alloc; 1u64; usize::from(count)]?);
     Ok(Hist {
         low,
         high,
@@ -84,92 +78,65 @@ fn first_counters(profile: &Profile) -> &[u64] {
     profile.hist(0).counters.as_slice()
 }
 
-/// The rate of a file's second histogram, and what adding the file answers.
-const SECOND_RATES: &[(&'static str, u32, Result<(), AddRefusal>)] = &[
-    ("the same rate", 100, Ok(())),
-    ("a rate of 0", 0, Ok(())),
+/// The counters of a file's one histogram, whether or not the second one was added to it; how many
+/// histograms, arcs and block addresses there are; and samples, calls and executions.
+type Added = ([u64; 4], (usize, usize, usize), (u64, u64, u64));
+
+const WHOLE_FILE: Added = ([2, 4, 0, 0], (1, 1, 1), (6, 0, 9));
+
+/// Nothing stands behind the refused histogram.
+const FIRST_ALONE: Added = ([1, 2, 0, 0], (1, 0, 0), (3, 0, 0));
+
+/// The rate of a file's second histogram, what adding the file answers, and what is added then.
+const SECOND_RATES: &[(&'static str, u32, Result<(), AddRefusal>, Added)] = &[
+    ("the same rate", 100, Ok(()), WHOLE_FILE),
+    ("a rate of 0", 0, Ok(()), WHOLE_FILE),
     (
         "another rate",
         50,
         Err(AddRefusal::Unlike(Unlike::Rate { old: 100, new: 50 })),
+        FIRST_ALONE,
     ),
 ];
 
-/// The one histogram and its unit, whether or not the second one was added to it.
-fn expect_one_histogram(rt: &impl Abort, profile: &Profile, counters: &[u64], name: &str) {
+/// This was added of a file.
+fn expect_added(rt: &impl Abort, profile: &Profile, want: Added, name: &str) {
+    let (counters, counts, totals) = want;
+    let told = (counts_of(profile), totals_of(profile));
     assert_eq!(rt;
-        (
-            profile.unit(),
-            profile.hist_count(),
-            first_counters(profile)
-        ),
-        (Some(PER_100), 1, counters),
+        (profile.unit(), first_counters(profile), told),
+        (Some(PER_100), counters.as_slice(), (counts, totals)),
         "{name}"
     );
-}
-
-/// Nothing stands behind the refused histogram.
-fn expect_first_alone(rt: &impl Abort, profile: &Profile, name: &str) {
-    expect_one_histogram(rt, profile, &[1, 2, 0, 0], name);
-    assert_eq!(rt;
-        (profile.arc_count(), profile.block_count()),
-        (0, 0),
-        "{name}"
-    );
-}
-
-fn expect_whole_file(rt: &impl Abort, profile: &Profile, name: &str) {
-    expect_one_histogram(rt, profile, &[2, 4, 0, 0], name);
-    assert_eq!(rt;
-        (profile.arc_count(), profile.block_count()),
-        (1, 1),
-        "{name}"
-    );
-    assert_eq!(rt;
-        (profile.samples(), profile.calls(), profile.blocks()),
-        (6, 0, 9),
-        "{name}"
-    );
-}
-
-/// Adds a file, and looks at what was added.
-fn expect_added(
-    rt: &impl Abort,
-    profile: &mut Profile,
-    records: &Records,
-    name: &str,
-    answer: Result<(), AddRefusal>,
-)
-    requires empty { profile.old ≡ empty_content }
-    requires ranges { All HasRange records.now.recs }
-    requires within { IsWithin (with_records (wide_records records.now.recs) empty_content) }
-{
-    assert_eq!(rt; profile.add_records(records), answer, "{name}");
-    if answer.is_ok() {
-        expect_whole_file(rt, profile, name);
-    } else {
-        expect_first_alone(rt, profile, name);
-    }
 }
 
 /// Adds a file whose second histogram is of the given rate.
+fn add_file(alloc: Global, profile: &mut Profile, rate: u32) -> Result<(), AddRefusal>
+    requires { profile.old ≡ empty_content }
+{
+    let records = file(alloc, rate)?;
+    profile.add_records(&records)
+}
+
+/// A file whose second histogram is of the given rate has this answer, and this is added.
 fn file_is_added(
     rt: &impl Abort,
     alloc: Global,
     name: &str,
     rate: u32,
     answer: Result<(), AddRefusal>,
+    want: Added,
 ) -> Result<(), AllocError> {
-    let records = file(alloc, rate)?;
     let mut profile = new_profile(alloc)?;
-    expect_added(rt, &mut profile, &records, name, answer);
+    assert_eq!(rt; add_file(alloc, &mut profile, rate), answer, "{name}");
+    expect_added(rt, &profile, want, name);
     Ok(())
 }
 
 #[test]
 fn the_profile_of_a_file(rt: HostRuntime) -> Result<(), Fail> {
-    for (name, rate, answer) in SECOND_RATES {
-        file_is_added(&rt, rt.alloc(), name, *rate, *answer)?;
+    for (name, rate, answer, want) in SECOND_RATES {
+        file_is_added(&rt, rt.alloc(), name, *rate, *answer, *want)?;
     }
     Ok(())
 }
@@ -202,35 +169,26 @@ fn added_in_parts(alloc: Global) -> Result<Box<Profile>, AddRefusal> {
 
 const ARCS_IN_PARTS: [(u32, u32, u64); 2] = [(0x1_0004, 0x1_0008, 6), (0, 0x1_0008, 3)];
 
-fn expect_arcs_in_parts(rt: &impl Abort, profile: &Profile) {
-    assert_eq!(rt; profile.arc_count(), ARCS_IN_PARTS.len());
-    for (i, arc) in ARCS_IN_PARTS.iter().enumerate() {
-        if i < profile.arc_count() {
-            assert_eq!(rt; profile.arc(i), *arc);
-        }
-    }
-}
-
-fn expect_blocks_in_parts(rt: &impl Abort, profile: &Profile) {
+fn expect_parts(rt: &impl Abort, profile: &Profile) {
+    assert_eq!(rt;
+        (profile.unit(), first_counters(profile)),
+        (Some(PER_100), [1, 2, 0, 0].as_slice())
+    );
     assert_eq!(rt;
         (
+            has_arcs(profile, &ARCS_IN_PARTS),
             profile.block_count(),
             profile.block_of(0x1_0000),
             profile.block_of(8)
         ),
-        (2, 18, 9)
+        (true, 2, 18, 9)
     );
 }
 
 #[test]
 fn the_parts_of_a_file(rt: HostRuntime) -> Result<(), Fail> {
     let profile = added_in_parts(rt.alloc())?;
-    assert_eq!(rt;
-        (profile.unit(), first_counters(&profile)),
-        (Some(PER_100), [1, 2, 0, 0].as_slice())
-    );
-    expect_arcs_in_parts(&rt, &profile);
-    expect_blocks_in_parts(&rt, &profile);
+    expect_parts(&rt, &profile);
     Ok(())
 }
 
@@ -423,7 +381,9 @@ fn histograms_that_are_unlike(rt: HostRuntime) {
 }
 
 /// The first arc and the first block address, if there are any.
-fn firsts(profile: &Profile) -> (Option<(u32, u32, u64)>, Option<(u32, u64)>) {
+type Firsts = (Option<(u32, u32, u64)>, Option<(u32, u64)>);
+
+fn firsts(profile: &Profile) -> Firsts {
     let arc = if profile.arc_count() > 0 {
         Some(profile.arc(0))
     } else {
@@ -464,26 +424,37 @@ fn add_large_block(profile: &mut Profile) -> Result<(), AllocError>
     profile.add_block(block)
 }
 
+/// The first arc and the first block address of a profile of that pair.
+fn large_pair(alloc: Global) -> Result<Firsts, AllocError> {
+    let mut profile = new_profile(alloc)?;
+    add_large_pair(&mut profile)?;
+    Ok(firsts(&profile))
+}
+
+/// The first arc and the first block address of a profile of that address, and the executions of it and
+/// of the next one.
+fn large_block(alloc: Global) -> Result<(Firsts, u64, u64), AllocError> {
+    let mut profile = new_profile(alloc)?;
+    add_large_block(&mut profile)?;
+    Ok((
+        firsts(&profile),
+        profile.block_of(0x1_0000),
+        profile.block_of(0x1_0004),
+    ))
+}
+
 #[test]
 fn calls_of_64_bits(rt: HostRuntime) -> Result<(), Fail> {
-    let mut profile = new_profile(rt.alloc())?;
-    add_large_pair(&mut profile)?;
     let arc = (0x1_0004, 0x1_0008, (1 << 58) + 5);
-    assert_eq!(rt; firsts(&profile), (Some(arc), None));
+    assert_eq!(rt; large_pair(rt.alloc())?, (Some(arc), None));
     Ok(())
 }
 
 #[test]
 fn executions_of_64_bits(rt: HostRuntime) -> Result<(), Fail> {
-    let mut profile = new_profile(rt.alloc())?;
-    add_large_block(&mut profile)?;
     let count = (1 << 57) + 9;
     assert_eq!(rt;
-        (
-            firsts(&profile),
-            profile.block_of(0x1_0000),
-            profile.block_of(0x1_0004)
-        ),
+        large_block(rt.alloc())?,
         ((None, Some((0x1_0000, count))), count, 0)
     );
     Ok(())
@@ -537,35 +508,33 @@ fn many_added(alloc: Global) -> Result<Box<Profile>, AddRefusal> {
     Ok(cloned(alloc, &profile)?)
 }
 
-fn expect_many(rt: &impl Abort, profile: &Profile) {
-    assert_eq!(rt; (profile.unit(), profile.hist_count()), (None, 0));
-    assert_eq!(rt;
-        (
-            profile.calls(),
-            profile.arc_count(),
-            profile.blocks(),
-            profile.block_count()
-        ),
-        (100_000, 100_000, 100_000, 100_000)
-    );
+/// How many histograms, arcs and block addresses there are; and samples, calls and executions.
+const MANY: ((usize, usize, usize), (u64, u64, u64)) = (
+    (0, 100_000, 100_000),
+    (0, 100_000, 100_000),
+);
+
+/// The first arc that isn't the one of its place, and its number.
+fn first_other_arc(profile: &Profile) -> Option<(usize, (u32, u32, u64))> {
+    for i in 0..profile.arc_count() {
+        let arc = profile.arc(i);
+        if (arc.0 as usize + 4 * i, arc.1, arc.2) != (0x80_0000, 0x1_0000, 1) {
+            return Some((i, arc));
+        }
+    }
+    None
 }
 
-fn expect_many_arcs(rt: &impl Abort, profile: &Profile) {
-    for i in 0..profile.arc_count() {
-        let (from, to, count) = profile.arc(i);
-        assert_eq!(rt;
-            (from as usize + 4 * i, to, count),
-            (0x80_0000, 0x1_0000, 1),
-            "{i}"
-        );
-    }
+fn expect_many(rt: &impl Abort, profile: &Profile) {
+    let told = (counts_of(profile), totals_of(profile));
+    assert_eq!(rt; (profile.unit(), told), (None, MANY));
+    assert_eq!(rt; first_other_arc(profile), None);
 }
 
 #[test]
 fn a_hundred_thousand_records(rt: HostRuntime) -> Result<(), Fail> {
     let profile = many_added(rt.alloc())?;
     expect_many(&rt, &profile);
-    expect_many_arcs(&rt, &profile);
     Ok(())
 }
 
@@ -696,13 +665,10 @@ const ORDERS: &[(&'static str, Order, u32)] = &[
 ];
 
 fn expect_side_by_side(rt: &impl Abort, profile: &Profile, name: &str, count: u32) {
+    let told = (profile.hist_count(), profile.samples());
     assert_eq!(rt;
-        (
-            profile.hist_count(),
-            profile.samples(),
-            is_side_by_side(profile)
-        ),
-        (count as usize, u64::from(count), true),
+        (told, is_side_by_side(profile)),
+        ((count as usize, u64::from(count)), true),
         "{name}"
     );
 }

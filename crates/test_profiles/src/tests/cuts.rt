@@ -3,6 +3,7 @@ ghost use Rattle.std.specs.List.{All};
 ghost use Rattle.elf32_syms.specs.Owners.{IsAscending};
 ghost use Rattle.settings.specs.CutWords.{is_cut_word as spec};
 
+use super::looks::{expect_text, totals_of};
 use crate::{
     PER_100, Rows, boxed, name_of, profile_of_calls, profile_of_rows, push_symbol, ring_of_calls,
 };
@@ -170,21 +171,17 @@ fn expect_row(
 {
     let (message, words, want) = row;
     let text = left_text(alloc, symbols, whole, words)?;
-    assert_eq!(rt; text.as_str(), *want, "{message}");
+    expect_text(rt, text.as_str(), want, message);
     Ok(())
 }
 
 /// The rows have their arcs.
-fn expect_rows(
-    rt: &impl Abort,
-    alloc: Global,
-    symbols: &[Symbol],
-    whole: &Profile,
-) -> Result<(), AllocError>
+fn expect_rows(rt: &impl Abort, alloc: Global, symbols: &[Symbol]) -> Result<(), AllocError>
     requires { IsAscending symbols.now }
 {
+    let whole = profile_of_calls(alloc, &CALLS)?;
     for row in ROWS {
-        expect_row(rt, alloc, symbols, whole, row)?;
+        expect_row(rt, alloc, symbols, &whole, row)?;
     }
     Ok(())
 }
@@ -192,8 +189,7 @@ fn expect_rows(
 #[test]
 fn arcs_that_stay(rt: HostRuntime) -> Result<(), Fail> {
     let symbols = symbols(rt.alloc(), 4, &NAMES)?;
-    let whole = profile_of_calls(rt.alloc(), &CALLS)?;
-    expect_rows(&rt, rt.alloc(), symbols.as_slice(), &whole)?;
+    expect_rows(&rt, rt.alloc(), symbols.as_slice())?;
     Ok(())
 }
 
@@ -206,16 +202,8 @@ const SOME: Rows<'static> = Rows {
 };
 
 fn expect_calls_gone(rt: &impl Abort, left: &Profile, whole: &Profile) {
-    assert_eq!(rt;
-        (
-            left.samples(),
-            left.blocks(),
-            left.calls(),
-            left.arc_count()
-        ),
-        (3, 5, 0, 0)
-    );
-    assert_eq!(rt; (left.unit(), whole.calls()), (whole.unit(), 7));
+    let told = (totals_of(left), left.arc_count(), whole.calls());
+    assert_eq!(rt; (told, left.unit()), (((3, 0, 5), 0, 7), whole.unit()));
 }
 
 /// The calls by `main` of `a` are cut from some of each.

@@ -4,6 +4,7 @@ use crate::{
     Calls, Function, PER_100, Rows, are_same, even_profile, named_symbols, profile_of_calls,
     profile_of_rows, profile_of_samples, ring_of_calls, symbols_at, symbols_in_reverse, symbols_of,
 };
+use elf32_syms::SymbolList;
 use gmon_data::{AddRefusal, Profile};
 use gp_base::Unit;
 use std::alloc::{AllocError, Global};
@@ -41,13 +42,11 @@ const SOME: Rows<'static> = Rows {
 };
 
 fn expect_some(rt: &impl Abort, profile: &Profile) {
+    let firsts = (first_hist(profile), first_arc(profile));
+    let counts = (profile.hist_count(), profile.arc_count(), profile.blocks());
     assert_eq!(rt;
-        (first_hist(profile), first_arc(profile)),
-        ((8, 16, 7), (4, 8, 2_147_483_647))
-    );
-    assert_eq!(rt;
-        (profile.hist_count(), profile.arc_count(), profile.blocks()),
-        (2, 2, 11)
+        (firsts, counts),
+        (((8, 16, 7), (4, 8, 2_147_483_647)), (2, 2, 11))
     );
 }
 
@@ -152,19 +151,25 @@ fn even_samples(rt: HostRuntime) -> Result<(), Fail> {
 
 const NAMED: &[Function<'static>] = &[("a", 0), ("", 0), ("c", 0)];
 
+/// How many symbols there are.
+fn count_of(symbols: Result<SymbolList, AllocError>) -> Result<usize, AllocError> {
+    Ok(symbols?.as_slice().len())
+}
+
 #[test]
 fn functions_in_a_row(rt: HostRuntime) -> Result<(), Fail> {
-    let named = named_symbols(rt.alloc(), NAMED)?.as_slice().len();
-    let places = symbols_of(rt.alloc(), 3, 256)?.as_slice().len();
-    let reverse = symbols_in_reverse(rt.alloc(), 4096)?.as_slice().len();
+    let named = count_of(named_symbols(rt.alloc(), NAMED))?;
+    let places = count_of(symbols_of(rt.alloc(), 3, 256))?;
+    let reverse = count_of(symbols_in_reverse(rt.alloc(), 4096))?;
     assert_eq!(rt; (named, places, reverse), (2, 3, 4096));
     Ok(())
 }
 
+const PLACES: &[(u32, u32)] = &[(8, 12), (12, 12), (10, 16), (12, 20)];
+
 #[test]
 fn places_that_are_apart(rt: HostRuntime) -> Result<(), Fail> {
-    let symbols = symbols_at(rt.alloc(), &[(8, 12), (12, 12), (10, 16), (12, 20)])?;
-    assert_eq!(rt; symbols.as_slice().len(), 2);
+    assert_eq!(rt; count_of(symbols_at(rt.alloc(), PLACES))?, 2);
     Ok(())
 }
 

@@ -2,6 +2,7 @@ ghost use Rattle.std.specs.Prelude.{◌<◌, ◌≤◌};
 
 mod plain;
 
+use super::looks::expect_text;
 use crate::{boxed, profile_of_arcs, profile_of_calls, ring_of_calls, symbols_of};
 use call_cycles::{Graph, graph};
 use gmon_data::Profile;
@@ -75,11 +76,11 @@ fn graph_text(alloc: Global, functions: u16, profile: &Profile) -> Result<String
     text_of(alloc, &found)
 }
 
-/// Call site, callee and count of four arcs, and what the graph of three functions tells.
-const ARCS: &[(&'static str, [(u32, u32, u64); 4], &'static str)] = &[
+/// Call site, callee and count of each arc, and what the graph of three functions tells.
+const ARCS: &[(&'static str, &'static [(u32, u32, u64)], &'static str)] = &[
     (
         "a cycle of two",
-        [
+        &[
             (0x1_0004, 0x1_0014, 1),
             (0x1_0018, 0x1_0024, 5),
             (0x1_0028, 0x1_0014, 4),
@@ -89,7 +90,7 @@ const ARCS: &[(&'static str, [(u32, u32, u64); 4], &'static str)] = &[
     ),
     (
         "an arc of count 0",
-        [
+        &[
             (0x1_0004, 0x1_0014, 1),
             (0x1_0018, 0x1_0024, 5),
             (0x1_0028, 0x1_0014, 0),
@@ -99,7 +100,7 @@ const ARCS: &[(&'static str, [(u32, u32, u64); 4], &'static str)] = &[
     ),
     (
         "call sites and callees in no function",
-        [
+        &[
             (0xFFFF, 0x1_0010, 7),
             (0x1_0030, 0x1_0010, 7),
             (0x1_0004, 0xFFFF, 7),
@@ -109,7 +110,7 @@ const ARCS: &[(&'static str, [(u32, u32, u64); 4], &'static str)] = &[
     ),
     (
         "several arcs between the same functions",
-        [
+        &[
             (0x1_0000, 0x1_0010, 1),
             (0x1_002F, 0x1_0020, 8),
             (0x1_000F, 0x1_001F, 2),
@@ -119,13 +120,29 @@ const ARCS: &[(&'static str, [(u32, u32, u64); 4], &'static str)] = &[
     ),
     (
         "arcs in order of caller, then callee",
-        [
+        &[
             (0x1_0020, 0x1_0010, 1),
             (0x1_0000, 0x1_0020, 2),
             (0x1_0020, 0x1_0000, 3),
             (0x1_0000, 0x1_0010, 4),
         ],
         "0>1:4 0>2:2 2>0:3 2>1:1 | | 1+5 = 1; 0+0* = 0 2; ",
+    ),
+    (
+        "arcs of one pair in mixed order",
+        &[
+            (0x1_0020, 0x1_0010, 1),
+            (0x1_0004, 0x1_0014, 2),
+            (0x1_0018, 0x1_0010, 3),
+            (0x1_0024, 0x1_0014, 4),
+            (0x1_0008, 0x1_0024, 5),
+            (0x1_0014, 0x1_001C, 6),
+            (0x1_000C, 0x1_0010, 7),
+            (0x1_0028, 0x1_0010, 8),
+            (0x1_0008, 0x1_0020, 9),
+            (0x1_0000, 0x1_000C, 10),
+        ],
+        "0>1:9 0>2:14 2>1:13 | 0:10 1:9 | 1+22 = 1; 2+14 = 2; 0+0 = 0; ",
     ),
 ];
 
@@ -138,7 +155,7 @@ fn arcs_tell(
 ) -> Result<(), AllocError> {
     let profile = profile_of_arcs(alloc, arcs)?;
     let text = graph_text(alloc, 3, &profile)?;
-    assert_eq!(rt; text.as_str(), want, "{name}");
+    expect_text(rt, text.as_str(), want, name);
     Ok(())
 }
 
@@ -147,26 +164,6 @@ fn arcs_of_a_profile(rt: HostRuntime) -> Result<(), Fail> {
     for (name, arcs, want) in ARCS {
         arcs_tell(&rt, rt.alloc(), name, arcs, want)?;
     }
-    Ok(())
-}
-
-const MIXED: &[(u32, u32, u64)] = &[
-    (0x1_0020, 0x1_0010, 1),
-    (0x1_0004, 0x1_0014, 2),
-    (0x1_0018, 0x1_0010, 3),
-    (0x1_0024, 0x1_0014, 4),
-    (0x1_0008, 0x1_0024, 5),
-    (0x1_0014, 0x1_001C, 6),
-    (0x1_000C, 0x1_0010, 7),
-    (0x1_0028, 0x1_0010, 8),
-    (0x1_0008, 0x1_0020, 9),
-    (0x1_0000, 0x1_000C, 10),
-];
-
-#[test]
-fn arcs_of_one_pair_in_mixed_order(rt: HostRuntime) -> Result<(), Fail> {
-    let want = "0>1:9 0>2:14 2>1:13 | 0:10 1:9 | 1+22 = 1; 2+14 = 2; 0+0 = 0; ";
-    arcs_tell(&rt, rt.alloc(), "mixed order", MIXED, want)?;
     Ok(())
 }
 
@@ -238,7 +235,7 @@ fn calls_tell(
     want: &str,
 ) -> Result<(), AllocError> {
     let text = calls_text(alloc, functions, calls)?;
-    assert_eq!(rt; text.as_str(), want, "{name}");
+    expect_text(rt, text.as_str(), want, name);
     Ok(())
 }
 
@@ -271,33 +268,51 @@ fn ring(alloc: Global) -> Result<Box<Graph>, AllocError> {
     found_graph(alloc, 501, &profile)
 }
 
-fn expect_ring(rt: &impl Abort, found: &Graph) {
-    assert_eq!(rt; (found.arc_count(), found.component_count()), (501, 2));
-    for c in 0..found.component_count() {
-        let want = if c == 0 {
-            (0, 7, true)
-        } else {
-            (500, 0, false)
-        };
-        assert_eq!(rt;
-            (found.head(c), found.entering(c), found.is_cycle(c)),
-            want,
-            "{c}"
-        );
+/// How many functions, arcs and components a graph has.
+fn counts(graph: &Graph) -> (u32, usize, u32) {
+    (
+        graph.function_count(),
+        graph.arc_count(),
+        graph.component_count(),
+    )
+}
+
+/// Head, entering calls, and whether it is a cycle, of the component of this number, if there is one.
+fn component_of(graph: &Graph, c: u32) -> Option<(u32, u64, bool)> {
+    if c < graph.component_count() {
+        Some((graph.head(c), graph.entering(c), graph.is_cycle(c)))
+    } else {
+        None
     }
 }
 
-fn expect_ring_members(rt: &impl Abort, found: &Graph) {
+/// The first function of the ring that is in another component than its own, and that one.
+fn first_other_member(found: &Graph) -> Option<(u32, u32)> {
     for f in 0..found.function_count() {
-        assert_eq!(rt; found.component(f), f / 500, "{f}");
+        let c = found.component(f);
+        if c != f / 500 {
+            return Some((f, c));
+        }
     }
+    None
+}
+
+fn expect_ring(rt: &impl Abort, found: &Graph) {
+    let components = (component_of(found, 0), component_of(found, 1));
+    assert_eq!(rt;
+        (counts(found), components, first_other_member(found)),
+        (
+            (501, 501, 2),
+            (Some((0, 7, true)), Some((500, 0, false))),
+            None
+        )
+    );
 }
 
 #[test]
 fn a_ring_of_500(rt: HostRuntime) -> Result<(), Fail> {
     let found = ring(rt.alloc())?;
     expect_ring(&rt, &found);
-    expect_ring_members(&rt, &found);
     Ok(())
 }
 
@@ -338,6 +353,11 @@ fn random_calls(
     Ok(calls)
 }
 
+/// The graph of these calls tells what a plain search does.
+fn expect_same(rt: &impl Abort, text: &str, want: &str, k: u32) {
+    assert_eq!(rt; text, want, "{k}");
+}
+
 /// Looks at the graph of calls between so many functions.
 fn expect_plain(
     rt: &impl Abort,
@@ -350,7 +370,7 @@ fn expect_plain(
 {
     let text = calls_text(alloc, functions, calls)?;
     let want = plain::text(alloc, usize::from(functions), calls)?;
-    assert_eq!(rt; text, want, "{k}");
+    expect_same(rt, text.as_str(), want.as_str(), k);
     Ok(())
 }
 
@@ -382,16 +402,8 @@ fn wide_ring(alloc: Global, cut: bool) -> Result<Box<Graph>, AllocError> {
 
 fn expect_one_cycle(rt: &impl Abort, found: &Graph) {
     assert_eq!(rt;
-        (
-            found.function_count(),
-            found.arc_count(),
-            found.component_count()
-        ),
-        (65_536, 2_097_152, 1)
-    );
-    assert_eq!(rt;
-        (found.head(0), found.entering(0), found.is_cycle(0)),
-        (0, 0, true)
+        (counts(found), component_of(found, 0)),
+        ((65_536, 2_097_152, 1), Some((0, 0, true)))
     );
 }
 
@@ -402,18 +414,23 @@ fn a_wide_ring_is_one_cycle(rt: HostRuntime) -> Result<(), Fail> {
     Ok(())
 }
 
+/// The first component of a cut ring that is a cycle, or has another head than its own: its number, its
+/// head, and whether it is a cycle.
+fn first_other_component(found: &Graph) -> Option<(u32, u32, bool)> {
+    for c in 0..found.component_count() {
+        let (head, is_cycle) = (found.head(c), found.is_cycle(c));
+        if u64::from(head) + u64::from(c) != 65_535 || is_cycle {
+            return Some((c, head, is_cycle));
+        }
+    }
+    None
+}
+
 fn expect_no_cycle(rt: &impl Abort, found: &Graph) {
     assert_eq!(rt;
-        (found.arc_count(), found.component_count()),
-        (2_096_624, 65_536)
+        (counts(found), first_other_component(found)),
+        ((65_536, 2_096_624, 65_536), None)
     );
-    for c in 0..found.component_count() {
-        assert_eq!(rt;
-            (found.head(c), found.is_cycle(c)),
-            (65_535 - c, false),
-            "{c}"
-        );
-    }
 }
 
 #[test]

@@ -3,7 +3,8 @@ ghost use Rattle.gmon_data.specs.Content.{empty_content};
 ghost use Rattle.test_profiles.specs.AtMost.{IsAtMost};
 ghost use Rattle.test_profiles.specs.Rows.{HasRows};
 
-use crate::{PER_100, Rows, boxed, new_profile, profile_of_rows};
+use super::looks::{counts_of, has_arcs, totals_of};
+use crate::{PER_100, Rows, new_profile, profile_of_rows};
 use gmon_data::{AddRefusal, HistRange, Profile, Unlike};
 use gp_base::Unit;
 use profile_sum::{SumRefusal, add_all, add_into};
@@ -29,19 +30,6 @@ fn has_hists(profile: &Profile, hists: &[(u32, u32, u64)], unit: Unit) -> bool {
     true
 }
 
-/// Whether the profile has these arcs, in this order.
-fn has_arcs(profile: &Profile, arcs: &[(u32, u32, u64)]) -> bool {
-    if profile.arc_count() != arcs.len() {
-        return false;
-    }
-    for i in 0..arcs.len() {
-        if profile.arc(i) != arcs[i] {
-            return false;
-        }
-    }
-    true
-}
-
 /// Whether the profile has these block addresses, in this order.
 fn has_blocks(profile: &Profile, blocks: &[(u32, u64)]) -> bool {
     if profile.block_count() != blocks.len() {
@@ -55,8 +43,13 @@ fn has_blocks(profile: &Profile, blocks: &[(u32, u64)]) -> bool {
     true
 }
 
+/// Whether histograms, arcs and block addresses are those of rows.
+type Has = (bool, bool, bool);
+
+const HAS_ALL: Has = (true, true, true);
+
 /// Whether the profile has the histograms, the arcs and the block addresses of these rows.
-fn has_rows(profile: &Profile, rows: &Rows<'_>) -> (bool, bool, bool) {
+fn has_rows(profile: &Profile, rows: &Rows<'_>) -> Has {
     (
         has_hists(profile, rows.hists, rows.unit),
         has_arcs(profile, rows.arcs),
@@ -72,52 +65,39 @@ fn add_rows(total: &mut Profile, more: &Profile) -> Result<(), SumRefusal>
     add_all(total, more)
 }
 
-/// What adding the second to the first answers, and the first one then.
+/// What adding the second to the first answers; whether the first one has these rows then; and its
+/// samples, calls and executions.
 fn added(
     alloc: Global,
     first: Rows<'_>,
     second: Rows<'_>,
-) -> Result<(Box<Profile>, Result<(), SumRefusal>), AddRefusal> {
+    rows: &Rows<'_>,
+) -> Result<(Result<(), SumRefusal>, Has, (u64, u64, u64)), AddRefusal> {
     let mut total = profile_of_rows(alloc, first)?;
     let more = profile_of_rows(alloc, second)?;
     let answer = add_rows(&mut total, &more);
-    Ok((total, answer))
+    Ok((answer, has_rows(&total, rows), totals_of(&total)))
 }
 
-/// The sum of profiles of rows, into which the first one goes.
-fn rows_into(alloc: Global, total: Box<Profile>, more: &Profile) -> Result<Box<Profile>, SumRefusal>
+/// Whether the sum of profiles of rows, into which the first one goes, has these rows.
+fn rows_into(total: Box<Profile>, more: &Profile, rows: &Rows<'_>) -> Result<Has, SumRefusal>
     requires total { HasRows 2000 2000 2000 total.value }
     requires more { HasRows 2000 2000 2000 more.now }
 {
     let sum = add_into(Box::into_inner(total), more)?;
-    Ok(boxed(alloc, sum)?)
+    Ok(has_rows(&sum, rows))
 }
 
-/// The sum into which the first one goes.
+/// The same of the sum into which the first one goes, if there is one.
 fn added_into(
     alloc: Global,
     first: Rows<'_>,
     second: Rows<'_>,
-) -> Result<Result<Box<Profile>, SumRefusal>, AddRefusal> {
+    rows: &Rows<'_>,
+) -> Result<Result<Has, SumRefusal>, AddRefusal> {
     let total = profile_of_rows(alloc, first)?;
     let more = profile_of_rows(alloc, second)?;
-    Ok(rows_into(alloc, total, &more))
-}
-
-/// Whether there is a sum, and it has these rows.
-fn is_sum(answer: &Result<Box<Profile>, SumRefusal>, sum: &Rows<'_>) -> bool {
-    match answer {
-        Ok(total) => has_rows(total, sum) == (true, true, true),
-        Err(_) => false,
-    }
-}
-
-/// Whether it is this refusal.
-fn is_refusal(answer: &Result<Box<Profile>, SumRefusal>, refusal: SumRefusal) -> bool {
-    match answer {
-        Ok(_) => false,
-        Err(other) => *other == refusal,
-    }
+    Ok(rows_into(total, &more, rows))
 }
 
 const PER_50: Unit = Unit {
@@ -286,19 +266,13 @@ const SUMS: &[(&'static str, Sum)] = &[
 
 fn is_added(rt: &impl Abort, alloc: Global, name: &str, rows: &Sum) -> Result<(), AddRefusal> {
     let (first, second, sum) = rows;
-    let (total, answer) = added(alloc, *first, *second)?;
+    let (answer, has, _) = added(alloc, *first, *second, sum)?;
+    let into = added_into(alloc, *first, *second, sum)?;
     assert_eq!(rt;
-        (answer, has_rows(&total, sum)),
-        (Ok(()), (true, true, true)),
+        (answer, has, into),
+        (Ok(()), HAS_ALL, Ok(HAS_ALL)),
         "{name}"
     );
-    Ok(())
-}
-
-fn is_added_into(rt: &impl Abort, alloc: Global, name: &str, rows: &Sum) -> Result<(), AddRefusal> {
-    let (first, second, sum) = rows;
-    let into = added_into(alloc, *first, *second)?;
-    assert!(rt; is_sum(&into, sum), "{name}");
     Ok(())
 }
 
@@ -306,7 +280,6 @@ fn is_added_into(rt: &impl Abort, alloc: Global, name: &str, rows: &Sum) -> Resu
 fn sums_of_profiles(rt: HostRuntime) -> Result<(), Fail> {
     for (name, rows) in SUMS {
         is_added(&rt, rt.alloc(), name, rows)?;
-        is_added_into(&rt, rt.alloc(), name, rows)?;
     }
     Ok(())
 }
@@ -410,16 +383,7 @@ const REFUSED: &[(&'static str, Rows<'static>, Unlike)] = &[
     ),
 ];
 
-/// Nothing was added to some of each.
-fn expect_some(rt: &impl Abort, profile: &Profile, name: &str) {
-    let totals = (profile.samples(), profile.calls(), profile.blocks());
-    assert_eq!(rt;
-        (has_rows(profile, &SOME), totals),
-        ((true, true, true), (1, 4, 10)),
-        "{name}"
-    );
-}
-
+/// It is refused, and nothing is added to some of each.
 fn is_refused(
     rt: &impl Abort,
     alloc: Global,
@@ -427,21 +391,14 @@ fn is_refused(
     second: Rows<'_>,
     unlike: Unlike,
 ) -> Result<(), AddRefusal> {
-    let (total, answer) = added(alloc, SOME, second)?;
-    assert_eq!(rt; answer, Err(SumRefusal::Unlike(unlike)), "{name}");
-    expect_some(rt, &total, name);
-    Ok(())
-}
-
-fn is_refused_into(
-    rt: &impl Abort,
-    alloc: Global,
-    name: &str,
-    second: Rows<'_>,
-    unlike: Unlike,
-) -> Result<(), AddRefusal> {
-    let into = added_into(alloc, SOME, second)?;
-    assert!(rt; is_refusal(&into, SumRefusal::Unlike(unlike)), "{name}");
+    let refusal = SumRefusal::Unlike(unlike);
+    let to = added(alloc, SOME, second, &SOME)?;
+    let into = added_into(alloc, SOME, second, &SOME)?;
+    assert_eq!(rt;
+        (to, into),
+        ((Err(refusal), HAS_ALL, (1, 4, 10)), Err(refusal)),
+        "{name}"
+    );
     Ok(())
 }
 
@@ -449,7 +406,6 @@ fn is_refused_into(
 fn profiles_without_a_sum(rt: HostRuntime) -> Result<(), Fail> {
     for (name, second, unlike) in REFUSED {
         is_refused(&rt, rt.alloc(), name, *second, *unlike)?;
-        is_refused_into(&rt, rt.alloc(), name, *second, *unlike)?;
     }
     Ok(())
 }
@@ -483,38 +439,45 @@ fn add_more(total: &mut Profile, more: &Profile) -> Result<(), SumRefusal>
     add_all(total, more)
 }
 
-/// The sum of two of these, half of whose addresses are in both.
-fn called_twice(rt: &impl Abort, alloc: Global) -> Result<Box<Profile>, AllocError> {
-    let mut total = called(alloc, 0)?;
-    let more = called(alloc, 50_000)?;
-    assert_eq!(rt; add_more(&mut total, &more), Ok(()));
-    Ok(total)
+/// The first arc of the sum of two of these that isn't the one of its place, and its number.
+fn first_other_call(total: &Profile) -> Option<(usize, (u32, u32, u64))> {
+    for i in 0..total.arc_count() {
+        let arc = total.arc(i);
+        let count = if i >= 50_000 && i < 100_000 { 2 } else { 1 };
+        if (arc.0 as usize, arc.1, arc.2) != (i, 0x1_0000, count) {
+            return Some((i, arc));
+        }
+    }
+    None
 }
 
-fn expect_called_twice(rt: &impl Abort, total: &Profile) {
-    assert_eq!(rt;
-        (
-            total.arc_count(),
-            total.calls(),
-            total.block_count(),
-            total.blocks()
-        ),
-        (150_000, 200_000, 150_000, 200_000)
-    );
-    for i in 0..total.arc_count() {
-        let (from, to, count) = total.arc(i);
-        let both = i >= 50_000 && i < 100_000;
-        assert_eq!(rt;
-            (from as usize, to, count),
-            (i, 0x1_0000, if both { 2 } else { 1 })
-        );
-    }
+/// What adding two of these answers, half of whose addresses are in both, and what the sum has.
+type Called = (
+    Result<(), SumRefusal>,
+    (usize, usize, usize),
+    (u64, u64, u64),
+    Option<(usize, (u32, u32, u64))>,
+);
+
+fn called_twice(alloc: Global) -> Result<Called, AllocError> {
+    let mut total = called(alloc, 0)?;
+    let more = called(alloc, 50_000)?;
+    let answer = add_more(&mut total, &more);
+    Ok((
+        answer,
+        counts_of(&total),
+        totals_of(&total),
+        first_other_call(&total),
+    ))
 }
 
 #[test]
 fn a_hundred_thousand_of_each(rt: HostRuntime) -> Result<(), Fail> {
-    let total = called_twice(&rt, rt.alloc())?;
-    expect_called_twice(&rt, &total);
+    let told = called_twice(rt.alloc())?;
+    assert_eq!(rt;
+        told,
+        (Ok(()), (0, 150_000, 150_000), (0, 200_000, 200_000), None)
+    );
     Ok(())
 }
 
@@ -525,11 +488,16 @@ fn call_again(profile: &mut Profile) -> Result<(), AllocError>
     profile.add_calls(0, 0x1_0000, 1)
 }
 
+/// The arcs and the calls of a profile of these, where that pair comes again.
+fn called_again(alloc: Global) -> Result<(usize, u64), AllocError> {
+    let mut profile = called(alloc, 0)?;
+    call_again(&mut profile)?;
+    Ok((profile.arc_count(), profile.calls()))
+}
+
 #[test]
 fn a_pair_comes_again_behind_many(rt: HostRuntime) -> Result<(), Fail> {
-    let mut profile = called(rt.alloc(), 0)?;
-    call_again(&mut profile)?;
-    assert_eq!(rt; (profile.arc_count(), profile.calls()), (100_000, 100_001));
+    assert_eq!(rt; called_again(rt.alloc())?, (100_000, 100_001));
     Ok(())
 }
 
@@ -543,13 +511,25 @@ fn striped(alloc: Global, first: u32) -> Result<Vec<(u32, u32, u64)>, AllocError
     Ok(rows)
 }
 
-/// The sum of profiles of such rows.
+/// The first histogram of their sum that isn't the one of its place: its number, and where it begins.
+fn first_other_stripe(total: &Profile) -> Option<(usize, u32)> {
+    for i in 0..total.hist_count() {
+        let low = total.hist(i).low;
+        if low % 8 != 0 || low as usize / 8 != i {
+            return Some((i, low));
+        }
+    }
+    None
+}
+
+/// What adding profiles of such rows answers, and what the sum has.
+type Stripes = (Result<(), SumRefusal>, usize, u64, Option<(usize, u32)>);
+
 fn stripes_added(
-    rt: &impl Abort,
     alloc: Global,
     even: &[(u32, u32, u64)],
     odd: &[(u32, u32, u64)],
-) -> Result<Box<Profile>, AddRefusal> {
+) -> Result<Stripes, AddRefusal> {
     let first = Rows {
         hists: even,
         ..NOTHING
@@ -558,27 +538,26 @@ fn stripes_added(
         hists: odd,
         ..NOTHING
     };
-    let (total, answer) = added(alloc, first, second)?;
-    assert_eq!(rt; answer, Ok(()));
-    Ok(total)
+    let mut total = profile_of_rows(alloc, first)?;
+    let more = profile_of_rows(alloc, second)?;
+    let answer = add_rows(&mut total, &more);
+    Ok((
+        answer,
+        total.hist_count(),
+        total.samples(),
+        first_other_stripe(&total),
+    ))
 }
 
-fn two_stripes(rt: &impl Abort, alloc: Global) -> Result<Box<Profile>, AddRefusal> {
+fn two_stripes(alloc: Global) -> Result<Stripes, AddRefusal> {
     let even = striped(alloc, 0)?;
     let odd = striped(alloc, 8)?;
-    stripes_added(rt, alloc, even.as_slice(), odd.as_slice())
-}
-
-fn expect_stripes(rt: &impl Abort, total: &Profile) {
-    assert_eq!(rt; (total.hist_count(), total.samples()), (4_000, 4_000));
-    for i in 0..total.hist_count() {
-        assert_eq!(rt; total.hist(i).low as usize, 8 * i);
-    }
+    stripes_added(alloc, even.as_slice(), odd.as_slice())
 }
 
 #[test]
 fn two_thousand_histograms_each(rt: HostRuntime) -> Result<(), Fail> {
-    let total = two_stripes(&rt, rt.alloc())?;
-    expect_stripes(&rt, &total);
+    let told = two_stripes(rt.alloc())?;
+    assert_eq!(rt; told, (Ok(()), 4_000, 4_000, None));
     Ok(())
 }
