@@ -3,14 +3,13 @@ ghost use Rattle.elf32_syms.specs.Owners.{IsAscending};
 
 use super::printed::{
     Report, THREE, THREE_CALLS, called_by, expect_each_failed, expect_long, expect_one_call,
-    expect_text, long_name, print_functions, with_lines,
+    expect_report, long_name, with_lines,
 };
 use gmon_data::AddRefusal;
-use host_port::MemHost;
 use std::alloc::{AllocError, Global};
 use std::process::Abort;
 use std::test::Fail;
-use test_profiles::{Calls, Counted, Function, boxed, even_profile, large_program, strings_of};
+use test_profiles::{Calls, Counted, Function, even_profile, large_program, strings_of};
 
 /// The first line.
 const TITLE: &[u8] = b"flat profile\n";
@@ -166,19 +165,18 @@ fn expect_row(
     hidden: &[String],
 ) -> Result<(), AddRefusal> {
     let (message, functions, calls, rate, totals, lines) = row;
-    let mut host = boxed(alloc, MemHost::new(alloc))?;
-    let answer = print_functions(
+    let want = text(alloc, totals, lines)?;
+    expect_report(
+        rt,
         alloc,
+        message,
         Report::Flat,
         functions,
         calls,
         rate,
         hidden,
-        &mut host,
-    )?;
-    let want = text(alloc, totals, lines)?;
-    expect_text(rt, message, answer, host.printed(), want.as_slice());
-    Ok(())
+        want.as_slice(),
+    )
 }
 
 /// The reports of rows have their texts.

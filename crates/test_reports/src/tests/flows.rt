@@ -169,30 +169,62 @@ fn times_of_components_arcs_and_functions(rt: HostRuntime) -> Result<(), Fail> {
     Ok(())
 }
 
-/// The last arc of a chain has all time as self time, and each other one as child time.
-fn expect_chain_arcs(rt: &impl Abort, graph: &Graph, flow: &Flow)
+/// How many functions, arcs and components a graph has.
+fn counts(graph: &Graph) -> (u32, usize, u32) {
+    (
+        graph.function_count(),
+        graph.arc_count(),
+        graph.component_count(),
+    )
+}
+
+/// The last arc of a chain has all time as self time, and each other one as child time. The number of the
+/// first one that hasn't, and its times.
+fn first_other_arc(graph: &Graph, flow: &Flow) -> Option<(usize, u128, u128)>
     requires selves { length flow.now.arc_self ≡ arc_count graph.now }
     requires children { length flow.now.arc_child ≡ arc_count graph.now }
 {
-    assert_eq!(rt; (graph.component_count(), graph.arc_count()), (1500, 1499));
     for i in 0..graph.arc_count() {
         let want = if i == 1498 {
             (3_000_000, 0)
         } else {
             (0, 3_000_000)
         };
-        assert_eq!(rt; (flow.arc_self(i), flow.arc_child(i)), want, "{i}");
+        let (own, child) = (flow.arc_self(i), flow.arc_child(i));
+        if (own, child) != want {
+            return Some((i, own, child));
+        }
     }
+    None
 }
 
-/// Each function of a chain but the last has all time over its arcs.
-fn expect_chain_functions(rt: &impl Abort, graph: &Graph, flow: &Flow)
+/// Each function of a chain but the last has all time over its arcs. The first one that hasn't, and its time.
+fn first_other_function(graph: &Graph, flow: &Flow) -> Option<(u32, u128)>
     requires { length flow.now.member_child ≡ graph.now.functions }
 {
     for f in 0..graph.function_count() {
-        let want = if f == 1499 { 0 } else { 3_000_000 };
-        assert_eq!(rt; flow.member_child(f), want, "{f}");
+        let child = flow.member_child(f);
+        if child != if f == 1499 { 0 } else { 3_000_000 } {
+            return Some((f, child));
+        }
     }
+    None
+}
+
+/// The first arc and the first function of a chain that have other times than theirs.
+fn others_in_chain(
+    alloc: Global,
+    graph: &Graph,
+    shares: &Shares,
+) -> Result<(Option<(usize, u128, u128)>, Option<(u32, u128)>), AllocError>
+    requires each { length shares.now.of ≡ graph.now.functions }
+    requires few { all_calls graph.now < 2 ^ 59 }
+{
+    let flow = flow_of(alloc, graph, shares)?;
+    Ok((
+        first_other_arc(graph, &flow),
+        first_other_function(graph, &flow),
+    ))
 }
 
 fn expect_chain(
@@ -204,9 +236,8 @@ fn expect_chain(
     requires each { length shares.now.of ≡ graph.now.functions }
     requires few { all_calls graph.now < 2 ^ 59 }
 {
-    let flow = flow_of(alloc, graph, shares)?;
-    expect_chain_arcs(rt, graph, &flow);
-    expect_chain_functions(rt, graph, &flow);
+    let others = others_in_chain(alloc, graph, shares)?;
+    assert_eq!(rt; (counts(graph), others), ((1500, 1499, 1500), (None, None)));
     Ok(())
 }
 
@@ -228,102 +259,88 @@ fn wide_ring(alloc: Global, cut: bool) -> Result<Box<Program>, AddRefusal>
     Ok(profiled_program(alloc, symbols.as_slice(), &samples, &calls)?)
 }
 
-fn expect_even_shares(rt: &impl Abort, shares: &Shares) {
-    assert_eq!(rt;
-        (shares.attributed(), shares.outside()),
-        (4_194_304_000_000, 0)
-    );
+/// What all functions of such a ring have, and what is left.
+const ALL_TIME: (u128, u128) = (4_194_304_000_000, 0);
+
+/// The first function of such a ring that hasn't its 64 samples, and what it has.
+fn first_other_share(shares: &Shares) -> Option<(u32, u128)> {
     for f in 0..shares.function_count() {
-        assert_eq!(rt; shares.of(f), 64_000_000, "{f}");
+        let share = shares.of(f);
+        if share != 64_000_000 {
+            return Some((f, share));
+        }
     }
+    None
 }
 
-/// What is told of the only component.
-fn expect_one_cycle(rt: &impl Abort, graph: &Graph, flow: &Flow)
+/// Head, entering calls, whether it is a cycle, self time and child time of a component.
+type Component = (u32, u64, bool, u128, u128);
+
+/// What is told of the component of this number, if there is one.
+fn component_of(graph: &Graph, flow: &Flow, c: u32) -> Option<Component>
     requires selves { length flow.now.self ≡ component_count graph.now }
     requires children { length flow.now.child ≡ component_count graph.now }
 {
-    assert_eq!(rt;
-        (
-            graph.function_count(),
-            graph.arc_count(),
-            graph.component_count()
-        ),
-        (65_536, 2_097_152, 1)
-    );
-    assert_eq!(rt;
-        (graph.head(0), graph.entering(0), graph.is_cycle(0)),
-        (0, 0, true)
-    );
-    assert_eq!(rt; (flow.self_of(0), flow.child_of(0)), (4_194_304_000_000, 0));
+    if c < graph.component_count() {
+        Some((
+            graph.head(c),
+            graph.entering(c),
+            graph.is_cycle(c),
+            flow.self_of(c),
+            flow.child_of(c),
+        ))
+    } else {
+        None
+    }
 }
 
-fn expect_cycle_times(
-    rt: &impl Abort,
+/// How many functions, arcs and components there are, and what is told of one of the components.
+type Components = ((u32, usize, u32), Option<Component>);
+
+fn components_of(
     alloc: Global,
     graph: &Graph,
     shares: &Shares,
-) -> Result<(), AllocError>
+    c: u32,
+) -> Result<Components, AllocError>
     requires each { length shares.now.of ≡ graph.now.functions }
     requires few { all_calls graph.now < 2 ^ 59 }
 {
     let flow = flow_of(alloc, graph, shares)?;
-    expect_one_cycle(rt, graph, &flow);
-    Ok(())
+    Ok((counts(graph), component_of(graph, &flow, c)))
+}
+
+/// What functions of a wide ring have and what is left; the first one that has another share; and the
+/// components, of which one is told.
+type Ring = ((u128, u128), Option<(u32, u128)>, Components);
+
+fn ring_of(alloc: Global, cut: bool, c: u32) -> Result<Ring, AddRefusal> {
+    let ring = wide_ring(alloc, cut)?;
+    let shares: &Shares = &ring.shares;
+    Ok((
+        (shares.attributed(), shares.outside()),
+        first_other_share(shares),
+        components_of(alloc, &ring.graph, shares, c)?,
+    ))
 }
 
 #[test]
 fn a_wide_ring_has_all_time_in_its_cycle(rt: HostRuntime) -> Result<(), Fail> {
-    let ring = wide_ring(rt.alloc(), false)?;
-    expect_even_shares(&rt, &ring.shares);
-    expect_cycle_times(&rt, rt.alloc(), &ring.graph, &ring.shares)?;
+    let cycle = (0, 0, true, 4_194_304_000_000, 0);
+    assert_eq!(rt;
+        ring_of(rt.alloc(), false, 0)?,
+        (ALL_TIME, None, ((65_536, 2_097_152, 1), Some(cycle)))
+    );
     Ok(())
 }
 
-/// What is told of the root, which is the last of the components.
-fn expect_root(rt: &impl Abort, graph: &Graph, flow: &Flow)
-    requires selves { length flow.now.self ≡ component_count graph.now }
-    requires children { length flow.now.child ≡ component_count graph.now }
-{
-    assert_eq!(rt;
-        (graph.arc_count(), graph.component_count()),
-        (2_096_624, 65_536)
-    );
-    assert_eq!(rt;
-        (
-            graph.head(65_535),
-            graph.entering(65_535),
-            graph.is_cycle(65_535)
-        ),
-        (0, 0, false)
-    );
-    assert_eq!(rt;
-        (flow.self_of(65_535), flow.child_of(65_535)),
-        (64_000_000, 4_194_240_000_000)
-    );
-}
-
-fn expect_root_times(
-    rt: &impl Abort,
-    alloc: Global,
-    graph: &Graph,
-    shares: &Shares,
-) -> Result<(), AllocError>
-    requires each { length shares.now.of ≡ graph.now.functions }
-    requires few { all_calls graph.now < 2 ^ 59 }
-{
-    let flow = flow_of(alloc, graph, shares)?;
-    expect_root(rt, graph, &flow);
-    Ok(())
-}
-
+/// The root is the last of the components.
 #[test]
 fn a_cut_ring_has_all_time_at_its_root(rt: HostRuntime) -> Result<(), Fail> {
-    let ring = wide_ring(rt.alloc(), true)?;
+    let root = (0, 0, false, 64_000_000, 4_194_240_000_000);
     assert_eq!(rt;
-        (ring.shares.attributed(), ring.shares.outside()),
-        (4_194_304_000_000, 0)
+        ring_of(rt.alloc(), true, 65_535)?,
+        (ALL_TIME, None, ((65_536, 2_096_624, 65_536), Some(root)))
     );
-    expect_root_times(&rt, rt.alloc(), &ring.graph, &ring.shares)?;
     Ok(())
 }

@@ -5,7 +5,7 @@ mod rows;
 
 use super::printed::{
     Report, THREE, THREE_CALLS, called_by, expect_each_failed, expect_long, expect_one_call,
-    expect_text, long_name, print_functions, program_of_counted, with_lines,
+    expect_report, long_name, program_of_counted, with_lines,
 };
 use call_cycles::Graph;
 use elf32_syms::Symbol;
@@ -74,19 +74,18 @@ fn expect_row(
     hidden: &[String],
 ) -> Result<(), AddRefusal> {
     let (message, functions, calls, rate, lines) = row;
-    let mut host = boxed(alloc, MemHost::new(alloc))?;
-    let answer = print_functions(
+    let want = text(alloc, lines)?;
+    expect_report(
+        rt,
         alloc,
+        message,
         Report::Graph,
         functions,
         calls,
         rate,
         hidden,
-        &mut host,
-    )?;
-    let want = text(alloc, lines)?;
-    expect_text(rt, message, answer, host.printed(), want.as_slice());
-    Ok(())
+        want.as_slice(),
+    )
 }
 
 /// The reports of rows have their lines.

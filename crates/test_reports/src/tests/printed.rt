@@ -129,7 +129,7 @@ pub fn print(
 }
 
 /// Prints a report of these functions and calls.
-pub fn print_functions(
+fn print_functions(
     alloc: Global,
     report: Report,
     functions: &[Function<'_>],
@@ -177,7 +177,7 @@ pub fn long_name(alloc: Global) -> Result<String, AllocError> {
 }
 
 /// The report was printed, with this text.
-pub fn expect_text(
+fn expect_text(
     rt: &impl Abort,
     message: &str,
     answer: Result<(), ReportRefusal>,
@@ -185,6 +185,24 @@ pub fn expect_text(
     want: &[u8],
 ) {
     assert_eq!(rt; (answer, printed), (Ok(()), want), "{message}");
+}
+
+/// The report of these functions and calls has this text.
+pub fn expect_report(
+    rt: &impl Abort,
+    alloc: Global,
+    message: &str,
+    report: Report,
+    functions: &[Function<'_>],
+    calls: &[Calls],
+    rate: u32,
+    hidden: &[String],
+    want: &[u8],
+) -> Result<(), AddRefusal> {
+    let mut host = boxed(alloc, MemHost::new(alloc))?;
+    let answer = print_functions(alloc, report, functions, calls, rate, hidden, &mut host)?;
+    expect_text(rt, message, answer, host.printed(), want);
+    Ok(())
 }
 
 /// A call failed, and the first bytes of the text are printed, so many.
@@ -196,12 +214,22 @@ fn expect_part(
     want: &[u8],
     len: u64,
 ) {
+    let printed = host.printed();
     assert_eq!(rt;
-        (answer, host.first_failed(), host.printed().len() as u64),
-        (Err(ReportRefusal::WriteFault), Some(HostCall::Out), len),
+        (
+            answer,
+            host.first_failed(),
+            printed.len() as u64,
+            want.starts_with(printed)
+        ),
+        (
+            Err(ReportRefusal::WriteFault),
+            Some(HostCall::Out),
+            len,
+            true
+        ),
         "{message}"
     );
-    assert!(rt; want.starts_with(host.printed()), "{message}");
 }
 
 /// A host that takes 50 bytes at a time, and on which this call fails.
@@ -276,9 +304,8 @@ fn expect_ends(
     last: &[u8],
     len: usize,
 ) {
-    assert_eq!(rt; (answer, printed.len()), (Ok(()), len));
-    assert!(rt; printed.starts_with(first));
-    assert!(rt; printed.ends_with(last));
+    let ends = (printed.starts_with(first), printed.ends_with(last));
+    assert_eq!(rt; (answer, printed.len(), ends), (Ok(()), len, (true, true)));
 }
 
 /// The report of what was counted has this beginning, this end and this length.
