@@ -353,11 +353,6 @@ fn random_calls(
     Ok(calls)
 }
 
-/// The graph of these calls tells what a plain search does.
-fn expect_same(rt: &impl Abort, text: &str, want: &str, k: u32) {
-    assert_eq!(rt; text, want, "{k}");
-}
-
 /// Looks at the graph of calls between so many functions.
 fn expect_plain(
     rt: &impl Abort,
@@ -370,7 +365,7 @@ fn expect_plain(
 {
     let text = calls_text(alloc, functions, calls)?;
     let want = plain::text(alloc, usize::from(functions), calls)?;
-    expect_same(rt, text.as_str(), want.as_str(), k);
+    assert_eq!(rt; text, want, "{k}");
     Ok(())
 }
 

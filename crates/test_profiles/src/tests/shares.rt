@@ -275,25 +275,18 @@ const RANGE_ROWS: &[RangeRow] = &[
     ("no histogram", &[], 0, 0xFFFF_FFFF, 0),
 ];
 
-/// The grains of a range, of samples in these histograms.
-fn grains_at(
-    alloc: Global,
-    rows: &[Counters<'_>],
-    low: u32,
-    high: u32,
-) -> Result<Option<u128>, AddRefusal> {
+/// The range of a row has its grains.
+fn expect_range(rt: &impl Abort, alloc: Global, row: &RangeRow) -> Result<(), AddRefusal> {
+    let (name, rows, low, high, want) = row;
     let profile = profile_of(alloc, rows)?;
-    Ok(grains(&profile, low, high))
+    assert_eq!(rt; grains(&profile, *low, *high), Some(*want), "{name}");
+    Ok(())
 }
 
 #[test]
 fn grains_of_ranges(rt: HostRuntime) -> Result<(), Fail> {
-    for (name, rows, low, high, want) in RANGE_ROWS {
-        assert_eq!(rt;
-            grains_at(rt.alloc(), rows, *low, *high)?,
-            Some(*want),
-            "{name}"
-        );
+    for row in RANGE_ROWS {
+        expect_range(&rt, rt.alloc(), row)?;
     }
     Ok(())
 }

@@ -4,7 +4,7 @@ ghost use Rattle.test_profiles.specs.AtMost.{IsAtMost};
 ghost use Rattle.test_profiles.specs.Rows.{HasRows};
 
 use super::looks::{counts_of, has_arcs, totals_of};
-use crate::{PER_100, Rows, new_profile, profile_of_rows};
+use crate::{PER_100, Rows, boxed, new_profile, profile_of_rows};
 use gmon_data::{AddRefusal, HistRange, Profile, Unlike};
 use gp_base::Unit;
 use profile_sum::{SumRefusal, add_all, add_into};
@@ -79,12 +79,18 @@ fn added(
     Ok((answer, has_rows(&total, rows), totals_of(&total)))
 }
 
-/// Whether the sum of profiles of rows, into which the first one goes, has these rows.
-fn rows_into(total: Box<Profile>, more: &Profile, rows: &Rows<'_>) -> Result<Has, SumRefusal>
+/// The sum of profiles of rows, into which the first one goes.
+fn rows_into(alloc: Global, total: Box<Profile>, more: &Profile) -> Result<Box<Profile>, SumRefusal>
     requires total { HasRows 2000 2000 2000 total.value }
     requires more { HasRows 2000 2000 2000 more.now }
 {
     let sum = add_into(Box::into_inner(total), more)?;
+    Ok(boxed(alloc, sum)?)
+}
+
+/// Whether a sum has these rows, or why there is none.
+fn has_sum(sum: Result<Box<Profile>, SumRefusal>, rows: &Rows<'_>) -> Result<Has, SumRefusal> {
+    let sum = sum?;
     Ok(has_rows(&sum, rows))
 }
 
@@ -97,7 +103,7 @@ fn added_into(
 ) -> Result<Result<Has, SumRefusal>, AddRefusal> {
     let total = profile_of_rows(alloc, first)?;
     let more = profile_of_rows(alloc, second)?;
-    Ok(rows_into(total, &more, rows))
+    Ok(has_sum(rows_into(alloc, total, &more), rows))
 }
 
 const PER_50: Unit = Unit {
