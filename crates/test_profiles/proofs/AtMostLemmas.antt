@@ -64,11 +64,4 @@ one_hist_more h u c n m a few short = by (has_counters h)
       pairs = omega (arith, a.pairs);
       addresses = omega (arith, a.addresses);
     }
-    by false = record {
-      samples = omega (arith, a.samples);
-      counters = omega (arith, a.counters);
-      calls = omega (arith, a.calls);
-      runs = omega (arith, a.runs);
-      pairs = omega (arith, a.pairs);
-      addresses = omega (arith, a.addresses);
-    }
+    by false = more_at_most c n (n + m) (omega arith) a
