@@ -6,7 +6,6 @@ use call_cycles::Graph;
 use gmon_data::AddRefusal;
 use propagate::{Flow, flow};
 use std::alloc::{AllocError, Global};
-use std::process::Abort;
 use std::test::Fail;
 use symbol_shares::Shares;
 use test_profiles::{Calls, boxed, even_profile, ring_of_calls, symbols_of};
@@ -211,40 +210,27 @@ fn first_other_function(graph: &Graph, flow: &Flow) -> Option<(u32, u128)>
     None
 }
 
-/// The first arc and the first function of a chain that have other times than theirs.
-fn others_in_chain(
-    alloc: Global,
-    graph: &Graph,
-    shares: &Shares,
-) -> Result<(Option<(usize, u128, u128)>, Option<(u32, u128)>), AllocError>
-    requires each { length shares.now.of ≡ graph.now.functions }
-    requires few { all_calls graph.now < 2 ^ 59 }
-{
-    let flow = flow_of(alloc, graph, shares)?;
-    Ok((
-        first_other_arc(graph, &flow),
-        first_other_function(graph, &flow),
-    ))
-}
+/// How many functions, arcs and components a chain has, and its first arc and its first function that have
+/// other times than theirs.
+type Chain = (
+    (u32, usize, u32),
+    Option<(usize, u128, u128)>,
+    Option<(u32, u128)>,
+);
 
-fn expect_chain(
-    rt: &impl Abort,
-    alloc: Global,
-    graph: &Graph,
-    shares: &Shares,
-) -> Result<(), AllocError>
-    requires each { length shares.now.of ≡ graph.now.functions }
-    requires few { all_calls graph.now < 2 ^ 59 }
-{
-    let others = others_in_chain(alloc, graph, shares)?;
-    assert_eq!(rt; (counts(graph), others), ((1500, 1499, 1500), (None, None)));
-    Ok(())
+fn long_chain(alloc: Global) -> Result<Chain, AddRefusal> {
+    let chain = chain_of(alloc, 1_499)?;
+    let flow = flow_of(alloc, &chain.graph, &chain.shares)?;
+    Ok((
+        counts(&chain.graph),
+        first_other_arc(&chain.graph, &flow),
+        first_other_function(&chain.graph, &flow),
+    ))
 }
 
 #[test]
 fn a_chain_of_1500(rt: HostRuntime) -> Result<(), Fail> {
-    let chain = chain_of(rt.alloc(), 1_499)?;
-    expect_chain(&rt, rt.alloc(), &chain.graph, &chain.shares)?;
+    assert_eq!(rt; long_chain(rt.alloc())?, ((1500, 1499, 1500), None, None));
     Ok(())
 }
 
@@ -294,33 +280,23 @@ fn component_of(graph: &Graph, flow: &Flow, c: u32) -> Option<Component>
     }
 }
 
-/// How many functions, arcs and components there are, and what is told of one of the components.
-type Components = ((u32, usize, u32), Option<Component>);
-
-fn components_of(
-    alloc: Global,
-    graph: &Graph,
-    shares: &Shares,
-    c: u32,
-) -> Result<Components, AllocError>
-    requires each { length shares.now.of ≡ graph.now.functions }
-    requires few { all_calls graph.now < 2 ^ 59 }
-{
-    let flow = flow_of(alloc, graph, shares)?;
-    Ok((counts(graph), component_of(graph, &flow, c)))
-}
-
-/// What functions of a wide ring have and what is left; the first one that has another share; and the
-/// components, of which one is told.
-type Ring = ((u128, u128), Option<(u32, u128)>, Components);
+/// What functions of a wide ring have and what is left; the first one that has another share; how many
+/// functions, arcs and components there are; and what is told of one of the components.
+type Ring = (
+    (u128, u128),
+    Option<(u32, u128)>,
+    (u32, usize, u32),
+    Option<Component>,
+);
 
 fn ring_of(alloc: Global, cut: bool, c: u32) -> Result<Ring, AddRefusal> {
     let ring = wide_ring(alloc, cut)?;
-    let shares: &Shares = &ring.shares;
+    let flow = flow_of(alloc, &ring.graph, &ring.shares)?;
     Ok((
-        (shares.attributed(), shares.outside()),
-        first_other_share(shares),
-        components_of(alloc, &ring.graph, shares, c)?,
+        (ring.shares.attributed(), ring.shares.outside()),
+        first_other_share(&ring.shares),
+        counts(&ring.graph),
+        component_of(&ring.graph, &flow, c),
     ))
 }
 
@@ -329,7 +305,7 @@ fn a_wide_ring_has_all_time_in_its_cycle(rt: HostRuntime) -> Result<(), Fail> {
     let cycle = (0, 0, true, 4_194_304_000_000, 0);
     assert_eq!(rt;
         ring_of(rt.alloc(), false, 0)?,
-        (ALL_TIME, None, ((65_536, 2_097_152, 1), Some(cycle)))
+        (ALL_TIME, None, (65_536, 2_097_152, 1), Some(cycle))
     );
     Ok(())
 }
@@ -340,7 +316,7 @@ fn a_cut_ring_has_all_time_at_its_root(rt: HostRuntime) -> Result<(), Fail> {
     let root = (0, 0, false, 64_000_000, 4_194_240_000_000);
     assert_eq!(rt;
         ring_of(rt.alloc(), true, 65_535)?,
-        (ALL_TIME, None, ((65_536, 2_096_624, 65_536), Some(root)))
+        (ALL_TIME, None, (65_536, 2_096_624, 65_536), Some(root))
     );
     Ok(())
 }
