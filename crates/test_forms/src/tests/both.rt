@@ -77,13 +77,15 @@ fn has_failed(
     call: u64,
 ) -> bool {
     let written = host.file("gmon.out").unwrap_or_default();
-    if answer == Ok(()) {
-        assert_eq!(rt; written, file, "call {call}");
-        return false;
-    }
-    assert!(rt; written.len() < file.len(), "call {call}");
-    assert_eq!(rt; file.get(..written.len()), Some(written), "call {call}");
-    true
+    let is_written = answer == Ok(());
+    let due = if is_written {
+        file
+    } else {
+        file.split_at(written.len().min(file.len().saturating_sub(1)))
+            .0
+    };
+    assert_eq!(rt; written, due, "call {call}");
+    !is_written
 }
 
 /// Writes the file of the small run while a call on the host fails.

@@ -1,11 +1,12 @@
 ghost use Rattle.std.specs.Prelude.{◌≡◌, false};
 ghost use Rattle.host_port.specs.Memory.{outside_of};
 
-use super::records::{expect_large_arcs, expect_large_counters};
+use super::pieces::read_large;
+use super::records::{arc_in, expect_large_arcs, expect_large_counters, hist_in};
 use crate::{TWO_OF_EACH, large_bsd_file, small_run};
 use gmon_bsd::{GmonRefusal, Reader, read, run_profile, write_run};
 use gmon_data::Profile;
-use gp_base::{RawArc, Rec, Records, Span};
+use gp_base::{Form, RawArc, Rec, Records, Span};
 use host_port::{Failed, Host, MemHost};
 use mcount_arcs::Gmon;
 use std::alloc::{AllocError, Global};
@@ -30,40 +31,26 @@ fn counters_and_arcs_are_read_in_order(rt: HostRuntime) -> Result<(), Fail> {
 
 /// What that file holds.
 fn expect_in_order(rt: &impl Abort, recs: &[Rec]) {
-    assert_eq!(rt; recs.len(), 2);
-    match &recs[0] {
-        Rec::Hist(hist) => {
-            assert_eq!(rt;
-                (hist.low, hist.high, hist.unit.rate),
-                (0x1_0000, 0x1_0100, 100)
-            );
-            assert_eq!(rt; hist.counters.as_slice(), [0, 0x1234].as_slice());
-        }
-        _ => assert!(rt; false, "a histogram"),
-    }
-    match &recs[1] {
-        Rec::Arc(arc) => assert_eq!(rt;
-            *arc,
-            RawArc {
-                from: 0x1_0004,
-                to: 0x1_0014,
-                count: 1
-            }
+    let arc = RawArc {
+        from: 0x1_0004,
+        to: 0x1_0014,
+        count: 1,
+    };
+    assert_eq!(rt;
+        (recs.len(), hist_in(recs.first()), arc_in(recs.get(1))),
+        (
+            2,
+            Some((0x1_0000, 0x1_0100, 100, [0, 0x1234].as_slice())),
+            Some(arc)
         ),
-        _ => assert!(rt; false, "an arc"),
-    }
-}
-
-/// Reads a file of 100,000 bytes.
-fn read_large(rt: &impl Abort, alloc: Global, bytes: &[u8]) -> Result<Records, GmonRefusal> {
-    assert_eq!(rt; bytes.len(), 100_000);
-    read(alloc, bytes)
+        "a histogram and an arc"
+    );
 }
 
 #[test]
 fn a_file_of_100_000_bytes_is_read(rt: HostRuntime) -> Result<(), Fail> {
     let bytes = large_bsd_file(rt.alloc())?;
-    let records = read_large(&rt, rt.alloc(), &bytes)?;
+    let records = read_large(&rt, rt.alloc(), Form::Bsd, &bytes)?;
     expect_large(&rt, &records);
     Ok(())
 }
@@ -124,10 +111,14 @@ fn more_counters_than_a_piece_holds(rt: HostRuntime) -> Result<(), Fail> {
 }
 
 fn expect_profile(rt: &impl Abort, profile: &Profile, gmon: &Gmon) {
-    assert_eq!(rt; profile.unit().map(|unit| unit.rate), Some(100));
     assert_eq!(rt;
-        (profile.hist_count(), profile.samples(), profile.arc_count()),
-        (1, 304, 3)
+        (
+            profile.unit().map(|unit| unit.rate),
+            profile.hist_count(),
+            profile.samples(),
+            profile.arc_count()
+        ),
+        (Some(100), 1, 304, 3)
     );
     let mut i = 0;
     for arc in gmon.arcs() {
@@ -138,10 +129,15 @@ fn expect_profile(rt: &impl Abort, profile: &Profile, gmon: &Gmon) {
     }
 }
 
+/// The profile of a run, in a box.
+fn profile_of(alloc: Global, gmon: &Gmon) -> Result<Box<Profile>, AllocError> {
+    boxed(alloc, run_profile(alloc, gmon, 0)?)
+}
+
 #[test]
 fn the_profile_of_a_run(rt: HostRuntime) -> Result<(), Fail> {
     let gmon = small_run(rt.alloc())?;
-    let profile = boxed(rt.alloc(), run_profile(rt.alloc(), &gmon, 0)?)?;
+    let profile = profile_of(rt.alloc(), &gmon)?;
     expect_profile(&rt, &profile, &gmon);
     Ok(())
 }
@@ -152,31 +148,19 @@ fn are_of_two_of_each(records: &Records, count: usize) -> bool {
     if recs.len() != count {
         return false;
     }
-    let hist = match recs.first() {
-        Some(Rec::Hist(hist)) => {
-            hist.low == 0x1_0000
-                && hist.high == 0x1_0008
-                && hist.unit.rate == 100
-                && hist.counters.as_slice() == [3, 256].as_slice()
-        }
-        _ => false,
-    };
-    hist && is_arc(recs.get(1), 0x1_0004, 7) && is_arc(recs.get(2), 0x1_0008, 9)
+    hist_in(recs.first()) == Some((0x1_0000, 0x1_0008, 100, [3, 256].as_slice()))
+        && is_arc(recs.get(1), 0x1_0004, 7)
+        && is_arc(recs.get(2), 0x1_0008, 9)
 }
 
 /// Whether a record, where there is one, is an arc to 16 bytes behind its call site.
 fn is_arc(rec: Option<&Rec>, from: u32, count: u32) -> bool {
-    match rec {
-        Some(Rec::Arc(arc)) => {
-            *arc == RawArc {
-                from,
-                to: from.wrapping_add(16),
-                count,
-            }
-        }
-        Some(_) => false,
-        None => true,
-    }
+    let arc = RawArc {
+        from,
+        to: from.wrapping_add(16),
+        count,
+    };
+    rec.is_none() || arc_in(rec) == Some(arc)
 }
 
 /// What reading a front of that file gives.
@@ -205,15 +189,25 @@ const STATED: [u8; 36] = [
     0, 0, 0, 0, 3, 0, 0, 1,
 ];
 
+/// A reader that was fed the header.
+fn fed(alloc: Global) -> Result<Reader, AllocError> {
+    let mut reader = Reader::new(alloc);
+    reader.feed(&STATED)?;
+    Ok(reader)
+}
+
+/// More of them than have room for 2 GiB each among all addresses.
+fn stated(alloc: Global) -> Result<Vec<Reader>, AllocError> {
+    let mut readers = Vec::new(alloc);
+    for _ in 0..70_000 {
+        readers.push(fed(alloc)?)?;
+    }
+    Ok(readers)
+}
+
 #[test]
 fn a_stated_size_takes_no_room(rt: HostRuntime) -> Result<(), Fail> {
-    let mut readers = Vec::new(rt.alloc());
-    // More than have room for 2 GiB each among all addresses.
-    for _ in 0..70_000 {
-        let mut reader = Reader::new(rt.alloc());
-        reader.feed(&STATED)?;
-        readers.push(reader)?;
-    }
+    let readers = stated(rt.alloc())?;
     for reader in readers {
         let refusal = reader.finish().err();
         assert_eq!(rt; refusal, Some(GmonRefusal::Short { at: 36 }));

@@ -1,17 +1,18 @@
 ghost use Rattle.gmon_data.specs.Content.{empty_content};
 ghost use Rattle.host_port.specs.Memory.{outside_of};
-ghost use Rattle.std.specs.Prelude.{◌≡◌, ℕ, ◌+◌, ◌*◌, ◌^◌, ◌<◌, [], ◌∷◌, false, length, IfOk};
+ghost use Rattle.std.specs.Prelude.{◌≡◌, ℕ, ◌+◌, ◌*◌, ◌^◌, ◌<◌, ◌≤◌, [], ◌∷◌, false, length, IfOk};
 
-use super::records::{expect_large_arcs, expect_large_counters};
+use super::pieces::read_large;
+use super::records::{arc_in, blocks_in, expect_large_arcs, expect_large_counters};
 use crate::{GNU_RUN, LARGE_NUMBERS, SEVERAL, large_gnu_file};
 use gmon_data::{AddRefusal, Hist, Profile};
 use gmon_gnu::{GmonRefusal, Reader, read, write, write_blocks};
-use gp_base::{RawArc, RawBlock, Rec, Records, Totals, Unit};
+use gp_base::{Form, RawArc, RawBlock, Rec, Records, Totals, Unit};
 use host_port::{Failed, Host, MemHost};
 use std::alloc::{AllocError, Global};
 use std::process::Abort;
 use std::test::Fail;
-use test_profiles::{boxed, new_profile};
+use test_profiles::{boxed, new_profile, seconds};
 
 /// A header of version 2, with spare bytes that are not zeros.
 const OTHER_VERSION: [u8; 20] = *b"gmon\x02\0\0\0\x01\x02\x03\x04\x05\x06\x07\x08\x09\x0A\x0B\x0C";
@@ -58,17 +59,12 @@ fn is_hist(rec: Option<&Rec>) -> bool {
 
 /// Whether a record, where there is one, is its arc.
 fn is_arc(rec: Option<&Rec>) -> bool {
-    match rec {
-        Some(Rec::Arc(arc)) => {
-            *arc == RawArc {
-                from: 0x1_0004,
-                to: 0x1_0008,
-                count: 0,
-            }
-        }
-        Some(_) => false,
-        None => true,
-    }
+    let arc = RawArc {
+        from: 0x1_0004,
+        to: 0x1_0008,
+        count: 0,
+    };
+    rec.is_none() || arc_in(rec) == Some(arc)
 }
 
 /// Whether a record, where there is one, is the count of its block.
@@ -103,36 +99,26 @@ fn records_are_read_in_order(rt: HostRuntime) -> Result<(), Fail> {
     Ok(())
 }
 
-/// Reads a file of 100,000 bytes.
-fn read_large(rt: &impl Abort, alloc: Global, bytes: &[u8]) -> Result<Records, GmonRefusal> {
-    assert_eq!(rt; bytes.len(), 100_000);
-    read(alloc, bytes)
-}
-
 #[test]
 fn a_file_of_100_000_bytes_is_read(rt: HostRuntime) -> Result<(), Fail> {
     let bytes = large_gnu_file(rt.alloc())?;
-    let records = read_large(&rt, rt.alloc(), &bytes)?;
+    let records = read_large(&rt, rt.alloc(), Form::Gnu, &bytes)?;
     expect_large(&rt, &records);
     Ok(())
 }
 
 /// The executions of the large file: from 0 on, one more than the address.
 fn expect_blocks(rt: &impl Abort, rec: &Rec) {
-    match rec {
-        Rec::Blocks(blocks) => {
-            assert_eq!(rt; blocks.as_slice().len(), 4_983);
-            for (block, addr) in blocks.as_slice().iter().zip(0..4_983) {
-                assert_eq!(rt;
-                    *block,
-                    RawBlock {
-                        addr,
-                        count: addr.wrapping_add(1),
-                    }
-                );
+    let blocks = blocks_in(Some(rec));
+    assert_eq!(rt; blocks.len(), 4_983, "counts of blocks");
+    for (block, addr) in blocks.iter().zip(0..4_983) {
+        assert_eq!(rt;
+            *block,
+            RawBlock {
+                addr,
+                count: addr.wrapping_add(1),
             }
-        }
-        _ => assert!(rt; false, "counts of blocks"),
+        );
     }
 }
 
@@ -165,23 +151,31 @@ fn write_blocks_to(host: &mut MemHost, low: u32, counts: &[u32]) -> Result<(), F
     write_blocks(low, counts, host)
 }
 
-#[test]
-fn executed_instructions_are_written_to_the_byte(rt: HostRuntime) -> Result<(), Fail> {
-    let mut host = boxed(rt.alloc(), MemHost::new(rt.alloc()))?;
-    write_blocks_to(&mut host, 0x1_0000, &[1, 0, 258, 0])?;
-    expect_file(&rt, &host, &EXECUTED);
+/// The file of these counts of executed instructions.
+fn expect_blocks_file(
+    rt: &impl Abort,
+    alloc: Global,
+    low: u32,
+    counts: &[u32],
+    file: &[u8],
+) -> Result<(), Fail>
+    requires { (i : ℕ) → i < length counts.now → low + 4 * i < 2 ^ 32 }
+{
+    let mut host = boxed(alloc, MemHost::new(alloc))?;
+    write_blocks_to(&mut host, low, counts)?;
+    expect_file(rt, &host, file);
     Ok(())
 }
 
 #[test]
+fn executed_instructions_are_written_to_the_byte(rt: HostRuntime) -> Result<(), Fail> {
+    expect_blocks_file(&rt, rt.alloc(), 0x1_0000, &[1, 0, 258, 0], &EXECUTED)
+}
+
+#[test]
 fn nothing_executed_has_no_record(rt: HostRuntime) -> Result<(), Fail> {
-    let mut zeros = boxed(rt.alloc(), MemHost::new(rt.alloc()))?;
-    write_blocks_to(&mut zeros, 0x1_0000, &[0, 0])?;
-    expect_file(&rt, &zeros, &[]);
-    let mut none = boxed(rt.alloc(), MemHost::new(rt.alloc()))?;
-    write_blocks_to(&mut none, 0xFFFF_FFFC, &[])?;
-    expect_file(&rt, &none, &[]);
-    Ok(())
+    expect_blocks_file(&rt, rt.alloc(), 0x1_0000, &[0, 0], &[])?;
+    expect_blocks_file(&rt, rt.alloc(), 0xFFFF_FFFC, &[], &[])
 }
 
 /// The addresses of that record, with their executions.
@@ -198,11 +192,11 @@ const BLOCKS: [RawBlock; 2] = [
 
 /// The run's records and one more.
 fn expect_counted(rt: &impl Abort, recs: &[Rec]) {
-    assert_eq!(rt; recs.len(), 5);
-    match recs.last() {
-        Some(Rec::Blocks(blocks)) => assert_eq!(rt; blocks.as_slice(), BLOCKS.as_slice()),
-        _ => assert!(rt; false, "counts of blocks"),
-    }
+    assert_eq!(rt;
+        (recs.len(), blocks_in(recs.last())),
+        (5, BLOCKS.as_slice()),
+        "counts of blocks"
+    );
 }
 
 /// The file of the small run, and that record behind it.
@@ -246,12 +240,7 @@ fn add_large_numbers(profile: &mut Profile, hist: &Hist) -> Result<(), AddRefusa
     requires high { hist.now.high ≡ 65548 }
     requires counters { hist.now.counters ≡ 200000 ∷ 65535 ∷ 0 ∷ [] }
 {
-    let unit = Unit {
-        rate: 100,
-        dim: *b"seconds\0\0\0\0\0\0\0\0",
-        abbrev: b's',
-    };
-    profile.add_wide(hist, unit)?;
+    profile.add_wide(hist, seconds(100))?;
     profile.add_calls(0x1_0000, 0x1_0008, 1 << 33)?;
     profile.add_calls(0x1_0004, 0x1_0008, 0)?;
     profile.add_runs(0x1_0000, 5)?;
@@ -279,22 +268,29 @@ fn write_to(host: &mut MemHost, profile: &Profile) -> Result<(), Failed>
     write(profile, host)
 }
 
+/// The file of a profile.
+fn expect_written(
+    rt: &impl Abort,
+    alloc: Global,
+    profile: &Profile,
+    file: &[u8],
+) -> Result<(), Fail> {
+    let mut host = boxed(alloc, MemHost::new(alloc))?;
+    write_to(&mut host, profile)?;
+    expect_file(rt, &host, file);
+    Ok(())
+}
+
 #[test]
 fn large_numbers_are_split_over_records(rt: HostRuntime) -> Result<(), Fail> {
     let profile = profile_of_large_numbers(rt.alloc())?;
-    let mut host = boxed(rt.alloc(), MemHost::new(rt.alloc()))?;
-    write_to(&mut host, &profile)?;
-    expect_file(&rt, &host, &LARGE_NUMBERS);
-    Ok(())
+    expect_written(&rt, rt.alloc(), &profile, &LARGE_NUMBERS)
 }
 
 #[test]
 fn an_empty_profile_is_a_header(rt: HostRuntime) -> Result<(), Fail> {
     let profile = new_profile(rt.alloc())?;
-    let mut host = boxed(rt.alloc(), MemHost::new(rt.alloc()))?;
-    write_to(&mut host, &profile)?;
-    expect_file(&rt, &host, &NEW_HEADER);
-    Ok(())
+    expect_written(&rt, rt.alloc(), &profile, &NEW_HEADER)
 }
 
 /// The sums of the first counters, of the calls, and of the last executions.
@@ -333,18 +329,28 @@ const STATED_COUNTERS: [u8; 53] = *b"gmon\x01\0\0\0\x01\x02\x03\x04\x05\x06\x07\
     \0\0\0\x01\0\x10\0\x01\0\xFF\xFF\xFF\xFFd\0\0\0\
     seconds\0\0\0\0\0\0\0\0s";
 
+/// A reader that was fed a file.
+fn fed(alloc: Global, file: &[u8]) -> Result<Reader, AllocError>
+    requires { length file.now ≤ 1000 }
+{
+    let mut reader = Reader::new(alloc);
+    reader.feed(file)?;
+    Ok(reader)
+}
+
+/// Readers of both, and where each file ends: more than have room for 8 GiB each among all addresses.
+fn stated(alloc: Global) -> Result<Vec<(Reader, u32)>, AllocError> {
+    let mut readers = Vec::new(alloc);
+    for _ in 0..20_000 {
+        readers.push((fed(alloc, &STATED_PAIRS)?, 25))?;
+        readers.push((fed(alloc, &STATED_COUNTERS)?, 53))?;
+    }
+    Ok(readers)
+}
+
 #[test]
 fn a_stated_number_takes_no_room(rt: HostRuntime) -> Result<(), Fail> {
-    let mut readers = Vec::new(rt.alloc());
-    // More than have room for 8 GiB each among all addresses.
-    for _ in 0..20_000 {
-        let mut reader = Reader::new(rt.alloc());
-        reader.feed(&STATED_PAIRS)?;
-        readers.push((reader, 25))?;
-        let mut reader = Reader::new(rt.alloc());
-        reader.feed(&STATED_COUNTERS)?;
-        readers.push((reader, 53))?;
-    }
+    let readers = stated(rt.alloc())?;
     for (reader, at) in readers {
         assert_eq!(rt; reader.finish().err(), Some(GmonRefusal::Short { at }));
     }

@@ -119,6 +119,17 @@ fn whole(alloc: Global, form: Form, bytes: &[u8]) -> Result<Records, GmonRefusal
     }
 }
 
+/// What is read of a file of 100,000 bytes.
+pub(super) fn read_large(
+    rt: &impl Abort,
+    alloc: Global,
+    form: Form,
+    bytes: &[u8],
+) -> Result<Records, GmonRefusal> {
+    assert_eq!(rt; bytes.len(), 100_000);
+    whole(alloc, form, bytes)
+}
+
 /// The profile of what a reader was fed.
 fn profile_of(alloc: Global, bytes: &[u8], size: usize) -> Result<Profile, ReadRefusal>
     requires some { 0 < size }
@@ -139,6 +150,14 @@ pub(super) fn in_box(
         Ok(profile) => Ok(profile),
         Err(_) => Err(ReadRefusal::Profile(AddRefusal::OutOfMemory)),
     }
+}
+
+/// The profile of what a reader was fed, in a box.
+fn made_of(alloc: Global, bytes: &[u8], size: usize) -> Result<Box<Profile>, ReadRefusal>
+    requires some { 0 < size }
+    requires small { length bytes.now ≤ 100000 }
+{
+    in_box(alloc, profile_of(alloc, bytes, size))
 }
 
 /// Adds the records that a reader lists.
@@ -301,7 +320,7 @@ fn expect_made(rt: &impl Abort, alloc: Global, bytes: &[u8], size: usize, due: D
     requires some { 0 < size }
     requires small { length bytes.now ≤ 100000 }
 {
-    let made = in_box(alloc, profile_of(alloc, bytes, size));
+    let made = made_of(alloc, bytes, size);
     let listed = profile_of_listed(alloc, bytes, size);
     expect_due(rt, due, &made, &listed);
 }
@@ -343,82 +362,48 @@ fn expect_refused(
     expect_made(rt, alloc, bytes, 1_000, due);
 }
 
-/// A 4.4BSD file of `len` bytes that has zeros behind these first 20.
-struct BsdFault {
-    name: &'static str,
-    header: [u8; 20],
-    len: usize,
-    refusal: GmonRefusal,
-}
+/// The first bytes of a 4.4BSD file of 160 bytes up to the arcs, whose range is from 0x10000 to 0x10100, at rate 100.
+const BSD_HEADER: [u8; 20] = *b"\0\0\x01\0\0\x01\x01\0\xA0\0\0\0y\x18\x05\0d\0\0\0";
 
-/// Changed in a byte or in length, a file of 160 bytes up to the arcs, whose range is from 0x10000 to 0x10100, at
-/// rate 100.
+/// A fault, a place in the header and the byte that stands there, and the length of the file, which has zeros behind
+/// the header.
+type BsdFault = (&'static str, usize, u8, usize, GmonRefusal);
+
 const BSD_FAULTS: &[BsdFault] = &[
-    BsdFault {
-        name: "empty",
-        header: *b"\0\0\x01\0\0\x01\x01\0\xA0\0\0\0y\x18\x05\0d\0\0\0",
-        len: 0,
-        refusal: GmonRefusal::Short { at: 0 },
-    },
-    BsdFault {
-        name: "one byte less",
-        header: *b"\0\0\x01\0\0\x01\x01\0\xA0\0\0\0y\x18\x05\0d\0\0\0",
-        len: 159,
-        refusal: GmonRefusal::Short { at: 159 },
-    },
-    BsdFault {
-        name: "one byte more",
-        header: *b"\0\0\x01\0\0\x01\x01\0\xA0\0\0\0y\x18\x05\0d\0\0\0",
-        len: 161,
-        refusal: GmonRefusal::Rest { at: 160 },
-    },
-    BsdFault {
-        name: "another version",
-        header: *b"\0\0\x01\0\0\x01\x01\0\xA0\0\0\0x\x18\x05\0d\0\0\0",
-        len: 160,
-        refusal: GmonRefusal::Version { value: 0x0005_1878 },
-    },
-    BsdFault {
-        name: "size 31",
-        header: *b"\0\0\x01\0\0\x01\x01\0\x1F\0\0\0y\x18\x05\0d\0\0\0",
-        len: 160,
-        refusal: GmonRefusal::Size { value: 31 },
-    },
-    BsdFault {
-        name: "size 161",
-        header: *b"\0\0\x01\0\0\x01\x01\0\xA1\0\0\0y\x18\x05\0d\0\0\0",
-        len: 160,
-        refusal: GmonRefusal::Size { value: 161 },
-    },
-    BsdFault {
-        name: "high at low",
-        header: *b"\0\0\x01\0\0\0\x01\0\xA0\0\0\0y\x18\x05\0d\0\0\0",
-        len: 160,
-        refusal: GmonRefusal::Range {
+    ("empty", 0, 0, 0, GmonRefusal::Short { at: 0 }),
+    ("one byte less", 0, 0, 159, GmonRefusal::Short { at: 159 }),
+    ("one byte more", 0, 0, 161, GmonRefusal::Rest { at: 160 }),
+    (
+        "another version",
+        12,
+        b'x',
+        160,
+        GmonRefusal::Version { value: 0x0005_1878 },
+    ),
+    ("size 31", 8, 31, 160, GmonRefusal::Size { value: 31 }),
+    ("size 161", 8, 161, 160, GmonRefusal::Size { value: 161 }),
+    (
+        "high at low",
+        5,
+        0,
+        160,
+        GmonRefusal::Range {
             at: 0,
             low: 0x1_0000,
             high: 0x1_0000,
         },
-    },
-    BsdFault {
-        name: "size 162",
-        header: *b"\0\0\x01\0\0\x01\x01\0\xA2\0\0\0y\x18\x05\0d\0\0\0",
-        len: 160,
-        refusal: GmonRefusal::Short { at: 160 },
-    },
-    BsdFault {
-        name: "size 32",
-        header: *b"\0\0\x01\0\0\x01\x01\0\x20\0\0\0y\x18\x05\0d\0\0\0",
-        len: 160,
-        refusal: GmonRefusal::Rest { at: 152 },
-    },
+    ),
+    ("size 162", 8, 162, 160, GmonRefusal::Short { at: 160 }),
+    ("size 32", 8, 32, 160, GmonRefusal::Rest { at: 152 }),
 ];
 
 fn expect_bsd_fault(rt: &impl Abort, alloc: Global, fault: &BsdFault) {
+    let (name, at, byte, len, refusal) = fault;
     let mut bytes = [0; 161];
-    bytes[..20].copy_from_slice(&fault.header);
-    let file = bytes.split_at(fault.len.min(161)).0;
-    expect_refused(rt, alloc, Form::Bsd, file, fault.name, fault.refusal);
+    bytes[..20].copy_from_slice(&BSD_HEADER);
+    bytes[(*at).min(19)] = *byte;
+    let file = bytes.split_at((*len).min(161)).0;
+    expect_refused(rt, alloc, Form::Bsd, file, *name, *refusal);
 }
 
 #[test]
@@ -621,132 +606,70 @@ fn a_file_of_100_000_bytes_is_read_in_pieces(rt: HostRuntime) -> Result<(), Fail
     Ok(())
 }
 
-/// The first bytes of a file, and what is due of their profile.
-struct Made {
-    file: &'static [u8],
-    len: usize,
-    due: Due,
-}
+/// A name, a file, and how many of its first bytes are fed; and what is due of their profile.
+type Made = (
+    &'static str,
+    &'static [u8],
+    usize,
+    Result<[u64; 3], ReadRefusal>,
+);
 
 const MADE: &[Made] = &[
-    Made {
-        file: &HEADER_ALONE,
-        len: 32,
-        due: Due {
-            name: "no counter and no arc",
-            answer: Ok([0, 0, 0]),
-        },
-    },
-    Made {
-        file: &TWO_OF_EACH,
-        len: 60,
-        due: Due {
-            name: "two of each",
-            answer: Ok([259, 16, 0]),
-        },
-    },
-    Made {
-        file: &TWO_OF_EACH,
-        len: 48,
-        due: Due {
-            name: "counters and an arc",
-            answer: Ok([259, 7, 0]),
-        },
-    },
-    Made {
-        file: &BSD_RUN,
-        len: 76,
-        due: Due {
-            name: "a small run",
-            answer: Ok([304, 4, 0]),
-        },
-    },
-    Made {
-        file: &SEVERAL,
-        len: 20,
-        due: Due {
-            name: "a header",
-            answer: Ok([0, 0, 0]),
-        },
-    },
-    Made {
-        file: &SEVERAL,
-        len: 128,
-        due: Due {
-            name: "two histograms",
-            answer: Ok([6, 0, 9]),
-        },
-    },
-    Made {
-        file: &GNU_RUN,
-        len: 100,
-        due: Due {
-            name: "arcs behind a histogram",
-            answer: Ok([304, 4, 0]),
-        },
-    },
-    Made {
-        file: &LARGE_NUMBERS,
-        len: 275,
-        due: Due {
-            name: "large numbers",
-            answer: Ok([265_535, 0x2_0000_0000, 0x2_0000_0005]),
-        },
-    },
-    Made {
-        file: &UNLIKE,
-        len: 74,
-        due: Due {
-            name: "no record behind an arc",
-            answer: Ok([3, 7, 0]),
-        },
-    },
-    Made {
-        file: &UNLIKE,
-        len: 128,
-        due: Due {
-            name: "another rate behind an arc",
-            answer: Err(ReadRefusal::Profile(AddRefusal::Unlike(Unlike::Rate {
-                old: 100,
-                new: 50,
-            }))),
-        },
-    },
-    Made {
-        file: &OUT_OF_ORDER,
-        len: 151,
-        due: Due {
-            name: "histograms out of order",
-            answer: Ok([15, 16, 0]),
-        },
-    },
-    Made {
-        file: &TWO_CONFLICTS,
-        len: 160,
-        due: Due {
-            name: "the first conflict of the file is not the lowest",
-            answer: Err(ReadRefusal::Profile(AddRefusal::Unlike(Unlike::Range {
-                old: HistRange {
-                    low: 0x1_0020,
-                    high: 0x1_0030,
-                    count: 1,
-                },
-                new: HistRange {
-                    low: 0x1_0024,
-                    high: 0x1_0034,
-                    count: 1,
-                },
-            }))),
-        },
-    },
+    ("no counter and no arc", &HEADER_ALONE, 32, Ok([0, 0, 0])),
+    ("two of each", &TWO_OF_EACH, 60, Ok([259, 16, 0])),
+    ("counters and an arc", &TWO_OF_EACH, 48, Ok([259, 7, 0])),
+    ("a small run", &BSD_RUN, 76, Ok([304, 4, 0])),
+    ("a header", &SEVERAL, 20, Ok([0, 0, 0])),
+    ("two histograms", &SEVERAL, 128, Ok([6, 0, 9])),
+    ("arcs behind a histogram", &GNU_RUN, 100, Ok([304, 4, 0])),
+    (
+        "large numbers",
+        &LARGE_NUMBERS,
+        275,
+        Ok([265_535, 0x2_0000_0000, 0x2_0000_0005]),
+    ),
+    ("no record behind an arc", &UNLIKE, 74, Ok([3, 7, 0])),
+    (
+        "another rate behind an arc",
+        &UNLIKE,
+        128,
+        Err(ReadRefusal::Profile(AddRefusal::Unlike(Unlike::Rate { old: 100, new: 50 }))),
+    ),
+    (
+        "histograms out of order",
+        &OUT_OF_ORDER,
+        151,
+        Ok([15, 16, 0]),
+    ),
+    (
+        "the first conflict of the file is not the lowest",
+        &TWO_CONFLICTS,
+        160,
+        Err(ReadRefusal::Profile(AddRefusal::Unlike(Unlike::Range {
+            old: HistRange {
+                low: 0x1_0020,
+                high: 0x1_0030,
+                count: 1,
+            },
+            new: HistRange {
+                low: 0x1_0024,
+                high: 0x1_0034,
+                count: 1,
+            },
+        }))),
+    ),
 ];
 
 fn expect_made_in_pieces(rt: &impl Abort, alloc: Global, row: &Made) {
-    assert!(rt; row.len <= row.file.len(), "{}", row.due.name);
-    assert!(rt; row.file.len() <= 1_000, "{}", row.due.name);
-    let bytes = row.file.split_at(row.len).0;
+    let (name, file, len, answer) = row;
+    assert!(rt; *len <= file.len() && file.len() <= 1_000, "{name}");
+    let bytes = file.split_at(*len).0;
+    let due = Due {
+        name: *name,
+        answer: *answer,
+    };
     for size in [1usize, 7, 100, 1_000] {
-        expect_made(rt, alloc, bytes, size, row.due);
+        expect_made(rt, alloc, bytes, size, due);
     }
 }
 
@@ -768,10 +691,14 @@ fn hist_of(profile: &Profile, i: usize) -> Option<(u32, u32, &[u64])> {
 }
 
 fn expect_in_order(rt: &impl Abort, profile: &Profile) {
-    assert_eq!(rt; profile.hist_count(), 2);
     assert_eq!(rt;
-        (hist_of(profile, 0), hist_of(profile, 1)),
         (
+            profile.hist_count(),
+            hist_of(profile, 0),
+            hist_of(profile, 1)
+        ),
+        (
+            2,
             Some((0x1_0000, 0x1_0010, &[3u64][..])),
             Some((0x1_0010, 0x1_0020, &[12u64][..]))
         )
@@ -780,9 +707,9 @@ fn expect_in_order(rt: &impl Abort, profile: &Profile) {
 
 #[test]
 fn histograms_out_of_order_are_the_same_profile(rt: HostRuntime) -> Result<(), ReadRefusal> {
-    let out_of_order = in_box(rt.alloc(), profile_of(rt.alloc(), &OUT_OF_ORDER, 1_000))?;
+    let out_of_order = made_of(rt.alloc(), &OUT_OF_ORDER, 1_000)?;
     expect_in_order(&rt, &out_of_order);
-    let in_order = in_box(rt.alloc(), profile_of(rt.alloc(), &IN_ORDER, 1_000))?;
+    let in_order = made_of(rt.alloc(), &IN_ORDER, 1_000)?;
     expect_in_order(&rt, &in_order);
     assert!(rt; are_same(&out_of_order, &in_order));
     Ok(())

@@ -9,6 +9,12 @@ use std::alloc::{AllocError, Global};
 use std::process::Abort;
 use std::test::Fail;
 
+/// The text from 0x10000 to below 0x10100.
+const TEXT: Span = Span {
+    low: 0x0001_0000,
+    high: 0x0001_0100,
+};
+
 // The sizes for a text from 0x10000 of so many bytes.
 fn has_sizes(rt: &impl Abort, bytes: u32, tolimit: u32)
     requires { IsText (record { low = 65536; high = 65536 + bytes }) }
@@ -36,14 +42,16 @@ fn sizes_of_texts(rt: HostRuntime) {
     has_sizes(&rt, 3_276_700, 65_534);
     has_sizes(&rt, 3_276_752, 65_534);
     has_sizes(&rt, 16_777_216, 65_534);
-    assert_eq!(rt;
+    expect_sizes(
+        &rt,
+        "low is rounded down and high up",
         Sizes::of(
             Span {
                 low: 0x0001_0002,
                 high: 0x0001_00FD,
             },
             2,
-            2
+            2,
         ),
         Sizes {
             low: 0x0001_0000,
@@ -54,21 +62,19 @@ fn sizes_of_texts(rt: HostRuntime) {
             hist: 2,
             hash: 2,
         },
-        "low is rounded down and high up"
     );
+}
+
+fn expect_sizes(rt: &impl Abort, name: &str, sizes: Sizes, wanted: Sizes) {
+    assert_eq!(rt; sizes, wanted, "{name}");
 }
 
 #[test]
 fn sizes_of_other_fractions(rt: HostRuntime) {
-    assert_eq!(rt;
-        Sizes::of(
-            Span {
-                low: 0x0001_0000,
-                high: 0x0001_0100,
-            },
-            8,
-            4
-        ),
+    expect_sizes(
+        &rt,
+        "fewer counters than slots",
+        Sizes::of(TEXT, 8, 4),
         Sizes {
             low: 0x0001_0000,
             high: 0x0001_0100,
@@ -77,16 +83,18 @@ fn sizes_of_other_fractions(rt: HostRuntime) {
             tolimit: 50,
             hist: 8,
             hash: 4,
-        }
+        },
     );
-    assert_eq!(rt;
+    expect_sizes(
+        &rt,
+        "the larger fraction rounds",
         Sizes::of(
             Span {
                 low: 0x0001_0030,
                 high: 0x0001_0050,
             },
             16,
-            2
+            2,
         ),
         Sizes {
             low: 0x0001_0020,
@@ -97,17 +105,12 @@ fn sizes_of_other_fractions(rt: HostRuntime) {
             hist: 16,
             hash: 2,
         },
-        "the larger fraction rounds"
     );
 }
 
-// A runtime for the text from 0x10000 to below 0x10100, of 64 slots and 50 entries.
+// A runtime for that text, of 64 slots and 50 entries.
 fn started(alloc: Global) -> Result<Box<Gmon>, AllocError> {
-    let text = Span {
-        low: 0x0001_0000,
-        high: 0x0001_0100,
-    };
-    boxed(alloc, Gmon::startup(alloc, text, 2, 2)?)
+    boxed(alloc, Gmon::startup(alloc, TEXT, 2, 2)?)
 }
 
 // What counter `i` holds, if there is one.
@@ -148,17 +151,16 @@ fn a_new_runtime(rt: HostRuntime) -> Result<(), Fail> {
     Ok(())
 }
 
-// One counter is 1, if one is, and the others are 0.
+// One counter is 1, if one is, and the others are 0; there are 64.
 fn expect_one_count(rt: &impl Abort, gmon: &Gmon, pc: u32, wanted: Option<u32>) {
-    for i in 0..64 {
+    for i in 0..65 {
         let count = if wanted == Some(i) { 1 } else { 0 };
         assert_eq!(rt;
             count_at(gmon, i),
-            Some(count),
+            (i < 64).then_some(count),
             "counter {i} after a tick at {pc}"
         );
     }
-    assert_eq!(rt; count_at(gmon, 64), None);
 }
 
 // The counters after one tick.
@@ -198,9 +200,9 @@ fn expect_full(rt: &impl Abort, gmon: &mut Gmon) {
     for _ in 0..65_535 {
         gmon.tick(0x0001_0002);
     }
-    assert_eq!(rt; count_at(gmon, 0), Some(65_535));
+    let full = count_at(gmon, 0);
     gmon.tick(0x0001_0002);
-    assert_eq!(rt; count_at(gmon, 0), Some(65_535));
+    assert_eq!(rt; (full, count_at(gmon, 0)), (Some(65_535), Some(65_535)));
 }
 
 #[test]
@@ -211,7 +213,7 @@ fn a_full_counter_stays(rt: HostRuntime) -> Result<(), Fail> {
 }
 
 // What a call came to, and after how many looks.
-#[derive(Debug, PartialEq, Eq, Drop)]
+#[derive(Clone, Copy, Debug, PartialEq, Eq)]
 enum Outcome {
     Ignored,
     Lost,
@@ -263,12 +265,15 @@ fn begun(gmon: &mut Gmon, from: u32, to: u32) -> Option<Walk>
 
 const SITE: u32 = 0x0001_0010;
 
-/// Callees of the site, and the looks that each call takes.
-const FOUR_CALLS: &[(u32, usize)] = &[
-    (0x0001_0040, 1),
-    (0x0001_0080, 1),
-    (0x0001_0040, 2),
-    (0x0001_00C0, 2),
+/// From where and to where a call goes, what it comes to, and how many pairs are kept then.
+type Call = (u32, u32, Outcome, u32);
+
+/// Calls of three callees of the site.
+const FOUR_CALLS: &[Call] = &[
+    (SITE, 0x0001_0040, Outcome::Counted(1), 1),
+    (SITE, 0x0001_0080, Outcome::Counted(1), 2),
+    (SITE, 0x0001_0040, Outcome::Counted(2), 2),
+    (SITE, 0x0001_00C0, Outcome::Counted(2), 3),
 ];
 
 /// The arcs of those calls.
@@ -298,13 +303,13 @@ const FOUR_ENTRIES: [u8; 48] = [
     0xC0, 0, 1, 0, 1, 0, 0, 0, 1, 0, 0, 0, // the front, linked to the first
 ];
 
-// Calls of the site, each of which is counted after so many looks.
-fn expect_looks(rt: &impl Abort, gmon: &mut Gmon, calls: &[(u32, usize)]) {
-    for (to, looks) in calls {
+fn expect_calls(rt: &impl Abort, gmon: &mut Gmon, calls: &[Call]) {
+    for (from, to, outcome, pairs) in calls {
+        let told = called(gmon, *from, *to);
         assert_eq!(rt;
-            called(gmon, SITE, *to),
-            Outcome::Counted(*looks),
-            "a call of {to}"
+            (told, gmon.pairs()),
+            (*outcome, *pairs),
+            "a call of {to} from {from}"
         );
     }
 }
@@ -318,10 +323,9 @@ fn expect_arcs(
     wanted: &[RawArc],
 ) -> Result<(), AllocError> {
     let arcs = copied(alloc, gmon)?;
-    assert_eq!(rt; arcs.as_slice(), wanted);
     assert_eq!(rt;
-        (gmon.calls(), gmon.pairs() as usize),
-        (calls, wanted.len())
+        (arcs.as_slice(), gmon.calls(), gmon.pairs() as usize),
+        (wanted, calls, wanted.len())
     );
     Ok(())
 }
@@ -334,67 +338,73 @@ fn expect_entries(rt: &impl Abort, bytes: &[u8]) {
 #[test]
 fn a_found_arc_moves_to_the_front(rt: HostRuntime) -> Result<(), Fail> {
     let mut gmon = started(rt.alloc())?;
-    expect_looks(&rt, &mut gmon, FOUR_CALLS);
+    expect_calls(&rt, &mut gmon, FOUR_CALLS);
     expect_arcs(&rt, rt.alloc(), &gmon, 4, THREE_ARCS)?;
     expect_entries(&rt, gmon.block_bytes());
     Ok(())
 }
 
-/// A call site, and how many pairs are kept after a call of it.
-const WIDE_CALLS: &[(u32, u32)] = &[(0x0001_0010, 1), (0x0001_0014, 1), (0x0001_0018, 2)];
+/// Calls from two sites of one slot, and from one of another.
+const WIDE_CALLS: &[Call] = &[
+    (0x0001_0010, 0x0001_0080, Outcome::Counted(1), 1),
+    (0x0001_0014, 0x0001_0080, Outcome::Counted(1), 1),
+    (0x0001_0018, 0x0001_0080, Outcome::Counted(1), 2),
+];
 
-// Two call sites of one slot, and one of another.
-fn expect_wide_slots(rt: &impl Abort, gmon: &mut Gmon) {
-    for (from, pairs) in WIDE_CALLS {
-        let outcome = called(gmon, *from, 0x0001_0080);
-        assert_eq!(rt;
-            (outcome, gmon.pairs()),
-            (Outcome::Counted(1), *pairs),
-            "a call from {from}"
-        );
+/// What some counters of sixteen bytes each hold.
+const WIDE_COUNTERS: &[(u32, Option<u16>)] = &[
+    (0, Some(1)),
+    (1, Some(2)),
+    (15, Some(1)),
+    (16, None),
+];
+
+// The samples of those counters.
+fn tick_wide(gmon: &mut Gmon) {
+    for pc in [0x0001_000F, 0x0001_0010, 0x0001_001F, 0x0001_00FF] {
+        gmon.tick(pc);
     }
+}
+
+fn expect_wide(rt: &impl Abort, gmon: &Gmon) {
     let first = RawArc {
         from: 0x0001_0010,
         to: 0x0001_0080,
         count: 2,
     };
-    assert_eq!(rt; gmon.arcs().next(), Some(first));
-}
-
-// Counters of sixteen bytes each.
-fn expect_wide_counters(rt: &impl Abort, gmon: &mut Gmon) {
-    for pc in [0x0001_000F, 0x0001_0010, 0x0001_001F, 0x0001_00FF] {
-        gmon.tick(pc);
-    }
-    for (i, count) in [(0, Some(1)), (1, Some(2)), (15, Some(1)), (16, None)] {
-        assert_eq!(rt; count_at(gmon, i), count, "counter {i}");
+    assert_eq!(rt;
+        (gmon.arcs().next(), gmon.block_bytes().len()),
+        (Some(first), 696)
+    );
+    for (i, count) in WIDE_COUNTERS {
+        assert_eq!(rt; count_at(gmon, *i), *count, "counter {i}");
     }
 }
 
 #[test]
 fn wider_counters_and_slots(rt: HostRuntime) -> Result<(), Fail> {
-    let text = Span {
-        low: 0x0001_0000,
-        high: 0x0001_0100,
-    };
-    let mut gmon = boxed(rt.alloc(), Gmon::startup(rt.alloc(), text, 8, 4)?)?;
-    assert_eq!(rt; gmon.block_bytes().len(), 696);
-    expect_wide_slots(&rt, &mut gmon);
-    expect_wide_counters(&rt, &mut gmon);
+    let mut gmon = boxed(rt.alloc(), Gmon::startup(rt.alloc(), TEXT, 8, 4)?)?;
+    expect_calls(&rt, &mut gmon, WIDE_CALLS);
+    tick_wide(&mut gmon);
+    expect_wide(&rt, &gmon);
     Ok(())
 }
 
 // The first 49 callees are counted, each after the looks at those before it; the fiftieth has no place.
 fn run_out(rt: &impl Abort, gmon: &mut Gmon) {
-    for to in 0..49u32 {
+    for to in 0..50u32 {
+        let state = gmon.state();
+        let outcome = if to < 49 {
+            Outcome::Counted(to.max(1) as usize)
+        } else {
+            Outcome::Overflowed(49)
+        };
         assert_eq!(rt;
-            called(gmon, SITE, to),
-            Outcome::Counted(to.max(1) as usize),
+            (state, called(gmon, SITE, to)),
+            (State::On, outcome),
             "a call of {to}"
         );
     }
-    assert_eq!(rt; gmon.state(), State::On);
-    assert_eq!(rt; called(gmon, SITE, 49), Outcome::Overflowed(49));
 }
 
 // The arcs are in the order of before, and entry 0 has been asked for fifty.
@@ -416,12 +426,15 @@ fn expect_forty_nine(rt: &impl Abort, gmon: &Gmon) {
 
 // Samples go on, and nothing else does.
 fn expect_error(rt: &impl Abort, gmon: &mut Gmon) {
-    assert_eq!(rt; gmon.state(), State::Error);
-    assert_eq!(rt; called(gmon, SITE, 0), Outcome::Ignored);
+    let state = gmon.state();
+    let outcome = called(gmon, SITE, 0);
     gmon.tick(0x0001_0000);
-    assert_eq!(rt; count_at(gmon, 0), Some(1));
+    let count = count_at(gmon, 0);
     gmon.moncontrol(true);
-    assert_eq!(rt; gmon.state(), State::Error);
+    assert_eq!(rt;
+        (state, outcome, count, gmon.state()),
+        (State::Error, Outcome::Ignored, Some(1), State::Error)
+    );
 }
 
 #[test]
@@ -433,66 +446,66 @@ fn arcs_run_out(rt: HostRuntime) -> Result<(), Fail> {
     Ok(())
 }
 
-fn expect_edge(rt: &impl Abort, gmon: &mut Gmon) {
-    for (from, outcome) in [
-        (0x0001_0100, Outcome::Ignored),
-        (0x0000_FFFC, Outcome::Ignored),
-        (0x0001_00FC, Outcome::Counted(1)),
-    ] {
-        assert_eq!(rt;
-            called(gmon, from, 0x0001_0040),
-            outcome,
-            "a call from {from}"
-        );
-    }
-    assert_eq!(rt;
-        gmon.block_bytes().get(600 + 128 + 126).copied(),
-        Some(1),
-        "slot 63"
-    );
+/// Calls from around the end of the text, and from below it.
+const EDGE_CALLS: &[Call] = &[
+    (0x0001_0100, 0x0001_0040, Outcome::Ignored, 0),
+    (0x0000_FFFC, 0x0001_0040, Outcome::Ignored, 0),
+    (0x0001_00FC, 0x0001_0040, Outcome::Counted(1), 1),
+];
+
+fn expect_slot_63(rt: &impl Abort, bytes: &[u8]) {
+    assert_eq!(rt; bytes.get(600 + 128 + 126).copied(), Some(1), "slot 63");
 }
 
 #[test]
 fn the_edge_of_the_text(rt: HostRuntime) -> Result<(), Fail> {
     let mut gmon = started(rt.alloc())?;
-    expect_edge(&rt, &mut gmon);
+    expect_calls(&rt, &mut gmon, EDGE_CALLS);
+    expect_slot_63(&rt, gmon.block_bytes());
     Ok(())
 }
 
-// A tick and a call count nothing.
-fn expect_off(rt: &impl Abort, gmon: &mut Gmon) {
+// What a tick and a call come to in a mode: the outcome, and the samples and calls that are counted.
+fn expect_mode(rt: &impl Abort, gmon: &mut Gmon, on: bool, wanted: (Outcome, Option<u16>, u32)) {
+    gmon.moncontrol(on);
+    gmon.tick(0x0001_0000);
+    let outcome = called(gmon, SITE, 0x0001_0040);
+    assert_eq!(rt;
+        (outcome, count_at(gmon, 0), gmon.calls()),
+        wanted,
+        "on: {on}"
+    );
+}
+
+// Profiling is switched off while a call is being entered: what another call comes to, whether the first one
+// is entered still and samples go on, and what the first one comes to.
+fn switched_off_in_mid_walk(gmon: &mut Gmon) -> Option<(Entered, (State, bool), Outcome)> {
+    let walk = begun(gmon, SITE, 0x0001_0040)?;
+    let other = gmon.enter(SITE, 0x0001_0080);
     gmon.moncontrol(false);
-    gmon.tick(0x0001_0000);
-    assert_eq!(rt; called(gmon, SITE, 0x0001_0040), Outcome::Ignored);
-    assert_eq!(rt; (count_at(gmon, 0), gmon.calls()), (Some(0), 0));
+    let modes = (gmon.state(), gmon.sampling());
+    Some((other, modes, walked(gmon, walk)))
 }
 
-// The same two count.
-fn expect_on(rt: &impl Abort, gmon: &mut Gmon) {
-    gmon.moncontrol(true);
-    gmon.tick(0x0001_0000);
-    assert_eq!(rt; called(gmon, SITE, 0x0001_0040), Outcome::Counted(1));
-    assert_eq!(rt; (count_at(gmon, 0), gmon.calls()), (Some(1), 1));
-}
-
-// Profiling is switched off while a call is being entered, which is counted still; another one is lost.
+// The first call is counted still, and the other one is lost.
 fn expect_off_in_mid_walk(rt: &impl Abort, gmon: &mut Gmon) {
-    let Some(walk) = begun(gmon, SITE, 0x0001_0040) else {
-        assert!(rt; false, "a walk");
-        return;
-    };
-    assert_eq!(rt; gmon.enter(SITE, 0x0001_0080), Entered::Lost);
-    gmon.moncontrol(false);
-    assert_eq!(rt; (gmon.state(), gmon.sampling()), (State::Busy, false));
-    assert_eq!(rt; walked(gmon, walk), Outcome::Counted(1));
-    assert_eq!(rt; (gmon.state(), gmon.calls()), (State::Off, 2));
+    let told = switched_off_in_mid_walk(gmon);
+    assert_eq!(rt;
+        (told, gmon.state(), gmon.calls()),
+        (
+            Some((Entered::Lost, (State::Busy, false), Outcome::Counted(1))),
+            State::Off,
+            2
+        ),
+        "a walk"
+    );
 }
 
 #[test]
 fn modes(rt: HostRuntime) -> Result<(), Fail> {
     let mut gmon = started(rt.alloc())?;
-    expect_off(&rt, &mut gmon);
-    expect_on(&rt, &mut gmon);
+    expect_mode(&rt, &mut gmon, false, (Outcome::Ignored, Some(0), 0));
+    expect_mode(&rt, &mut gmon, true, (Outcome::Counted(1), Some(1), 1));
     expect_off_in_mid_walk(&rt, &mut gmon);
     Ok(())
 }

@@ -1,6 +1,7 @@
 ghost use Rattle.std.specs.Prelude.{◌≡◌, ◌+◌, ◌≤◌, length, All, IfOk};
 ghost use Rattle.elf32_syms.specs.Image.{IsWithinLimits};
 ghost use Rattle.elf32_syms.specs.declared.image.Segment.{Segment as AnySegment};
+ghost use Rattle.prof_machine.specs.Value.{IsLive};
 ghost use Rattle.settings.specs.Setup.{IsSetup};
 
 use super::programs::{
@@ -74,7 +75,7 @@ fn image_of(
 }
 
 // A run of a program, in a box.
-fn run_of(
+pub(super) fn run_of(
     alloc: Global,
     image: &Image,
     bytes: &[u8],
@@ -82,7 +83,8 @@ fn run_of(
 ) -> Result<Box<Run>, StartRefusal>
     requires limits { IsWithinLimits (length bytes.now) image.now }
     requires setup { IsSetup setup }
-    ensures { IfOk result (λ run. run.value.machine.setup ≡ setup) }
+    ensures own { IfOk result (λ run. run.value.machine.setup ≡ setup) }
+    ensures live { IfOk result (λ run. IsLive run.value) }
 {
     let run = Run::start(alloc, image, bytes, setup)?;
     Ok(boxed(alloc, run)?)
@@ -139,23 +141,26 @@ fn count_at(run: &Run, i: u32) -> Option<u16> {
     }
 }
 
-// Runs to the end, which is this one.
-fn ends(
-    rt: &impl Abort,
-    alloc: Global,
-    name: &str,
-    run: &mut Run,
-    wanted: RunSummary,
-) -> Result<(), Fail> {
+// The end of a run that is live, on a host that never fails, and what is told of it then.
+fn driven(alloc: Global, run: &mut Run) -> Option<(End, RunSummary)> {
+    if !run.is_live() {
+        return None;
+    }
     let mut host = NeverFails::new(alloc);
-    assert!(rt; run.is_live(), "{name}");
-    let end = run.drive(&mut host)?;
+    match run.drive(&mut host) {
+        Ok(end) => Some((end, run.summary())),
+        Err(_) => None,
+    }
+}
+
+// Runs to the end, which is this one.
+fn ends(rt: &impl Abort, alloc: Global, name: &str, run: &mut Run, wanted: RunSummary) {
+    let told = driven(alloc, run);
     assert_eq!(rt;
-        (end, run.is_live(), run.summary()),
-        (wanted.end, false, wanted),
+        (told, run.is_live()),
+        (Some((wanted.end, wanted)), false),
         "{name}"
     );
-    Ok(())
 }
 
 // A run of these words from 0x10000 on, which comes to this end.
@@ -171,7 +176,8 @@ fn text_ends(
     requires { IsSetup setup }
 {
     let mut run = started_at_text(rt, alloc, words, hooks, setup)?;
-    ends(rt, alloc, name, &mut run, wanted)
+    ends(rt, alloc, name, &mut run, wanted);
+    Ok(())
 }
 
 // What is told of a run that made no calls.
@@ -258,7 +264,7 @@ fn meets(
     let hooks = (Some(CALLS_MCOUNT), None);
     let mut run = started_at_text(rt, alloc, CALLS, hooks, setup)?;
     let wanted = calls_alone(setup.budget, calls, lost, State::On);
-    ends(rt, alloc, name, &mut run, wanted)?;
+    ends(rt, alloc, name, &mut run, wanted);
     expect_one_arc(rt, run.gmon(), calls, name);
     Ok(())
 }
@@ -295,7 +301,7 @@ fn counts_executions(
         ..plain
     };
     let mut run = started_at_text(rt, alloc, words, (None, None), setup)?;
-    ends(rt, alloc, "executions", &mut run, no_calls(end, retired, 0))?;
+    ends(rt, alloc, "executions", &mut run, no_calls(end, retired, 0));
     expect_counts(rt, run.exec_counts(), wanted.as_slice());
     Ok(())
 }
@@ -315,7 +321,7 @@ fn executions_are_counted(rt: HostRuntime) -> Result<(), Fail> {
 fn unasked(rt: &impl Abort, alloc: Global) -> Result<usize, Fail> {
     let setup = setup_of(1_000, 5, 1, ROUND);
     let mut run = started_at_text(rt, alloc, &[ENDLESS], (None, None), setup)?;
-    ends(rt, alloc, "unasked", &mut run, no_calls(End::Budget, 5, 0))?;
+    ends(rt, alloc, "unasked", &mut run, no_calls(End::Budget, 5, 0));
     Ok(run.exec_counts().len())
 }
 
@@ -333,8 +339,7 @@ fn takes_turns(rt: &impl Abort, alloc: Global, run: &mut Run, harts: &[u32]) -> 
 {
     let mut host = NeverFails::new(alloc);
     for hart in harts {
-        assert!(rt; *hart < 2);
-        assert!(rt; run.is_live());
+        assert!(rt; *hart < 2 && run.is_live());
         run.turn(*hart, &mut host)?;
     }
     Ok(())
@@ -394,8 +399,7 @@ fn expect_notes(
     let mut host = NeverFails::new(alloc);
     for (at, noted) in notes.iter().enumerate() {
         let hart = plan.next_hart();
-        assert!(rt; hart < setup.harts);
-        assert!(rt; run.is_live());
+        assert!(rt; hart < setup.harts && run.is_live());
         run.turn(hart, &mut host)?;
         assert_eq!(rt; told(hart, run.last_turn()), *noted, "turn {at}");
     }
@@ -522,7 +526,7 @@ fn a_full_counter_stays_full(rt: HostRuntime) -> Result<(), Fail> {
     let setup = setup_of(1, 65_536, 1, ROUND);
     let mut run = started_at_text(&rt, rt.alloc(), &[ENDLESS], (None, None), setup)?;
     let wanted = no_calls(End::Budget, 65_536, 65_536);
-    ends(&rt, rt.alloc(), "65,536 samples", &mut run, wanted)?;
+    ends(&rt, rt.alloc(), "65,536 samples", &mut run, wanted);
     expect_samples(&rt, &run, &[(0, 65_535), (1, 0)]);
     Ok(())
 }
@@ -541,7 +545,7 @@ fn samples_until_profiling_is_switched_off(rt: HostRuntime) -> Result<(), Fail> 
         lost: 0,
         state: State::Off,
     };
-    ends(&rt, rt.alloc(), "switched off", &mut run, wanted)?;
+    ends(&rt, rt.alloc(), "switched off", &mut run, wanted);
     expect_samples(&rt, &run, &[(0, 0), (1, 1), (3, 1)]);
     Ok(())
 }
@@ -618,7 +622,8 @@ fn file_ends(
 ) -> Result<(), Fail> {
     let setup = setup_of(1, 10, 1, ROUND);
     let mut run = started(rt, alloc, entry, segments, words, (None, None), setup)?;
-    ends(rt, alloc, name, &mut run, wanted)
+    ends(rt, alloc, name, &mut run, wanted);
+    Ok(())
 }
 
 /// Eight bytes of a file, of which the text ends behind the first four.

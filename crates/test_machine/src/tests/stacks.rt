@@ -1,8 +1,10 @@
 ghost use Rattle.std.specs.Prelude.{◌≡◌, ◌≤◌, length, IfOk};
 ghost use Rattle.elf32_syms.specs.Image.{IsWithinLimits};
 ghost use Rattle.elf32_syms.specs.Owners.{IsAscending};
+ghost use Rattle.prof_machine.specs.Value.{IsLive};
 ghost use Rattle.settings.specs.Setup.{IsSetup};
 
+use super::runs::run_of;
 use super::sampled::{CASES, Case, DEEP, MANY_SAMPLES, NOP, same_names};
 use crate::{ROUND, boxed, setup_of};
 use elf32_syms::{Image, Symbol, read};
@@ -17,16 +19,28 @@ use test_programs::elf_of;
 // The text of a run, as its stacks and by functions, and how many samples are folded.
 type Wanted<'a> = (&'a str, &'a str, u64);
 
+// The stacks of a run's samples, in a box.
+fn stacks_of(alloc: Global, run: &mut Run, image: &Image, setup: Setup) -> Result<Box<Folded>, Fail>
+    requires live { IsLive run.old }
+    requires own { run.old.machine.setup ≡ setup }
+    requires symbols { IsAscending image.now.symbols }
+    requires setup { IsSetup setup }
+    ensures { IfOk result (λ folded. length folded.value.inclusive ≡ length image.now.symbols) }
+{
+    let mut host = boxed(alloc, MemHost::new(alloc))?;
+    let folded = fold(alloc, run, image, &setup, &mut *host)?;
+    Ok(boxed(alloc, folded)?)
+}
+
+// Those of a program's run.
 fn folded_of(alloc: Global, image: &Image, bytes: &[u8], setup: Setup) -> Result<Box<Folded>, Fail>
     requires limits { IsWithinLimits (length bytes.now) image.now }
     requires symbols { IsAscending image.now.symbols }
     requires setup { IsSetup setup }
     ensures { IfOk result (λ folded. length folded.value.inclusive ≡ length image.now.symbols) }
 {
-    let mut run = Run::start(alloc, image, bytes, setup)?;
-    let mut host = boxed(alloc, MemHost::new(alloc))?;
-    let folded = fold(alloc, &mut run, image, &setup, &mut *host)?;
-    Ok(boxed(alloc, folded)?)
+    let mut run = run_of(alloc, image, bytes, setup)?;
+    stacks_of(alloc, &mut run, image, setup)
 }
 
 // The program of a file, in a box.

@@ -233,42 +233,59 @@ fn stores(rt: HostRuntime) -> Result<(), Fail> {
     Ok(())
 }
 
-// x0 stays 0: after `addi x0, x0, 5`, and when it is set.
-fn expect_zero(rt: &impl Abort, ram: &mut Ram) {
-    let mut regs = Regs::new(0x1_0000);
-    assert_eq!(rt; step(&mut regs, ram), Retired);
-    assert_eq!(rt; regs.get(0), 0);
+// The answer of `addi x0, x0, 5`, and x0 after it, and x0 when it is set.
+fn zeros(alloc: Global) -> Result<(Stepped, u32, u32), AllocError> {
+    let mut ram = memory(alloc, 0x0050_0013)?;
+    let (answer, mut regs) = stepped(&mut ram, 0, 0);
+    let after = regs.get(0);
     regs.set(0, 7);
-    assert_eq!(rt; regs.get(0), 0);
+    Ok((answer, after, regs.get(0)))
 }
 
-// `jalr x1, 8(x1)` reads before it writes. Fetches reach to the last byte, and begin at the first one.
-fn expect_fetches(rt: &impl Abort, ram: &mut Ram) {
+// The answer of a step at `pc`, and where pc stands after it.
+fn fetched(alloc: Global, pc: u32) -> Result<(Stepped, u32), AllocError> {
+    let mut ram = memory(alloc, 0x0080_80E7)?;
     let mut regs = registers(0x2_0000, 0);
-    assert_eq!(rt; step(&mut regs, ram), Retired);
-    assert_eq!(rt; (regs.pc(), regs.get(1)), (0x2_0008, 0x1_0004));
-    for pc in [0x1_0FFD, 0xFFFC] {
-        regs.set_pc(pc);
-        assert_eq!(rt; step(&mut regs, ram), Trap(FetchOutside), "at {pc:x}");
-        assert_eq!(rt; regs.pc(), pc);
-    }
+    regs.set_pc(pc);
+    let answer = step(&mut regs, &mut ram);
+    Ok((answer, regs.pc()))
 }
 
+// Fetches reach to the last byte, and begin at the first one.
 #[test]
 fn registers_and_pc(rt: HostRuntime) -> Result<(), Fail> {
-    let mut ram = memory(rt.alloc(), 0x0050_0013)?;
-    expect_zero(&rt, &mut ram);
-    let mut ram = memory(rt.alloc(), 0x0080_80E7)?;
-    expect_fetches(&rt, &mut ram);
+    let told = zeros(rt.alloc())?;
+    assert_eq!(rt; told, (Retired, 0, 0), "x0 stays 0");
+    let jump = step_of(rt.alloc(), 0x0080_80E7, 0x2_0000, 0)?;
+    assert_eq!(rt;
+        jump,
+        (Retired, [0x2_0008, 0x1_0004, 0]),
+        "`jalr x1, 8(x1)` reads before it writes"
+    );
+    for pc in [0x1_0FFD, 0xFFFC] {
+        let told = fetched(rt.alloc(), pc)?;
+        assert_eq!(rt; told, (Trap(FetchOutside), pc), "at {pc:x}");
+    }
     Ok(())
 }
 
-// Bytes behind others, and zeros where the file has none.
-fn expect_segments(rt: &impl Abort, ram: &Ram) {
-    assert_eq!(rt; ram.slice(0x100, 8), Some(b"\0\0BCAB\0\0".as_slice()));
-    assert_eq!(rt; ram.slice(0x10F, 1), Some(b"\0".as_slice()));
-    assert_eq!(rt; ram.slice(0x10F, 2), None, "past the end");
-    assert_eq!(rt; ram.slice(0xFF, 2), None, "before the start");
+/// Where bytes are read, how many, and which they are.
+const READS: &[(&'static str, u32, u32, Option<&'static [u8]>)] = &[
+    (
+        "bytes behind others, and zeros where the file has none",
+        0x100,
+        8,
+        Some(b"\0\0BCAB\0\0"),
+    ),
+    ("the last byte", 0x10F, 1, Some(b"\0")),
+    ("past the end", 0x10F, 2, None),
+    ("before the start", 0xFF, 2, None),
+];
+
+fn expect_reads(rt: &impl Abort, ram: &Ram) {
+    for (name, addr, len, bytes) in READS {
+        assert_eq!(rt; ram.slice(*addr, (*len).max(1)), *bytes, "{name}");
+    }
 }
 
 #[test]
@@ -288,6 +305,6 @@ fn segments_in_table_order(rt: HostRuntime) -> Result<(), Fail> {
     let image = image_of(rt.alloc(), first, second)?;
     let mut ram = Ram::new(rt.alloc(), 0x100, 16)?;
     ram.load_image(&image, b"ABCDE");
-    expect_segments(&rt, &ram);
+    expect_reads(&rt, &ram);
     Ok(())
 }
