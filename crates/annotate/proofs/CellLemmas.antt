@@ -1,5 +1,5 @@
 -- The cells of a symbol follow one another, from its address to its end.
-use Rattle.std.proofs.Common.{◌≡◌, ℕ, zero, suc, ◌+◌, ◌*◌, ◌/◌, ◌<◌, ◌≤◌, max, min, List, [], ◌∷◌, length, map, get_or, refl, sym, ap, ◌∙◌, arith}
+use Rattle.std.proofs.Common.{◌≡◌, ℕ, zero, suc, ◌+◌, ◌*◌, ◌/◌, ◌<◌, ◌≤◌, max, min, List, [], ◌∷◌, length, map, get_or, refl, sym, ◌∙◌, arith}
 use Rattle.std.specs.List.{range_with_len, sum_by}
 use Rattle.std.proofs.lemmas.List.FromFn.{get_or-map-range_with_len, length-map-range_with_len, sum_by-map-range_with_len_more}
 use Rattle.std.proofs.lemmas.List.Sums.{sum_by-cons, sum-map}
@@ -25,9 +25,7 @@ module _ (hists : List Hist) where
   no-grains a = let twice = ranges-follow hists a a a (omega arith) (omega arith) in omega (arith, twice)
 
   front-cells : (s : Symbol) (m : ℕ) → s.addr ≤ s.end → m ≤ word_count s → sum_by grains (map (part_in s) (range_with_len (s.addr / 4) m)) ≡ grains_of_range hists s.addr (border s m)
-  front-cells s zero order inside =
-      let first : border s 0 ≡ s.addr = omega (arith, order) in
-      sym (ap (grains_of_range hists s.addr) first ∙ no-grains s.addr)
+  front-cells s zero order inside = grind (arith, no-grains)
   front-cells s (suc m) order inside =
       let one : m + 1 ≡ suc m = omega arith in
       let front = front-cells s m order (omega (arith, inside)) in
@@ -37,13 +35,10 @@ module _ (hists : List Hist) where
       let more = rw one at (sum_by-map-range_with_len_more grains (part_in s) (s.addr / 4) m (s.addr / 4 + m) refl) in
       let from : s.addr ≤ border s m = omega (arith, order) in
       let to : border s m ≤ border s (suc m) = omega arith in
-      let follow = ranges-follow hists s.addr (border s m) (border s (suc m)) from to in
-      omega (arith, front, cell, more, follow)
+      omega (arith, front, cell, more, ranges-follow hists s.addr (border s m) (border s (suc m)) from to)
 
   pub symbol-cells : (s : Symbol) → s.addr ≤ s.end → sum_by grains (cells_of s) ≡ share_of hists s
-  symbol-cells s order =
-      let last : border s (word_count s) ≡ s.end = omega (arith, order) in
-      front-cells s (word_count s) order (omega arith) ∙ ap (grains_of_range hists s.addr) last
+  symbol-cells s order = grind (arith, front-cells)
 
   all-cells : (symbols : List Symbol) → IsAscending symbols → sum_by (λ (s : Symbol). sum_by grains (cells_of s)) symbols ≡ sum_by (share_of hists) symbols
   all-cells [] ascending = refl

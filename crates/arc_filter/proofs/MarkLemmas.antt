@@ -46,24 +46,16 @@ named_at (s ∷ ss) name zero = refl
 named_at (s ∷ ss) name (suc f) = named_at ss name f
 
 module _ (symbols : List Symbol) (f g : ℕ) where
-  abbrev has_both : Sides → Bool
-  has_both p = slice_index_or p.0 f false && slice_index_or p.1 g false
-
   marked_each : (words : List (List ℕ)) (marks : List Marks) → AreMarks symbols words marks → is_marked marks f g ≡ is_cut_pair symbols words f g
   unfolding is_cut_pair
   marked_each [] [] are = refl
   marked_each [] (m ∷ ms) are = absurd cc
   marked_each (w ∷ ws) [] are = absurd cc
-  marked_each (w ∷ ws) (m ∷ ms) are =
-      let here = first_same (sides_of m) (sides_named symbols w) (map sides_of ms) (map (sides_named symbols) ws) are in
-      let rest = marked_each ws ms (rest_same (sides_of m) (sides_named symbols w) (map sides_of ms) (map (sides_named symbols) ws) are) in
-      let both = ap has_both here ∙ (λ i. named_at symbols (from_of w) f i && named_at symbols (to_of w) g i) in
-      λ i. both i || rest i
+  marked_each (w ∷ ws) (m ∷ ms) are = grind (arith, named_at, marked_each ws ms)
 
   -- calls between two functions that own the addresses
   pub pair_marked : (words : List (List ℕ)) (marks : List Marks) (from to : ℕ) → AreMarks symbols words marks → owner_of symbols from ≡ Some f → owner_of symbols to ≡ Some g → is_marked marks f g ≡ is_cut symbols words from to
-  pair_marked words marks from to are caller callee =
-      marked_each words marks are ∙ sym (cut_by_owners symbols words from to (Some f) (Some g) caller callee ∙ cut_of_functions symbols words f g)
+  pair_marked words marks from to are caller callee = grind (arith, marked_each, cut_by_owners, cut_of_functions)
 
 none_passes : {X : Type 0} (test : X → Bool) → ((x : X) → test x ≡ false) → (xs : List X) → list_any test xs ≡ false
 none_passes test none [] = refl
@@ -75,12 +67,10 @@ and_false false = refl
 
 -- an address that no function owns
 pub caller_unknown : (symbols : List Symbol) (words : List (List ℕ)) (from to : ℕ) → owner_of symbols from ≡ None → false ≡ is_cut symbols words from to
-caller_unknown symbols words from to none =
-    sym (cut_by_owners symbols words from to None (owner_of symbols to) none refl ∙ none_passes _ (λ word. refl) words)
+caller_unknown symbols words from to none = grind (arith, cut_by_owners, none_passes)
 
 pub callee_unknown : (symbols : List Symbol) (words : List (List ℕ)) (from to : ℕ) → owner_of symbols to ≡ None → false ≡ is_cut symbols words from to
-callee_unknown symbols words from to none =
-    sym (cut_by_owners symbols words from to (owner_of symbols from) None refl none ∙ none_passes _ (λ word. and_false _) words)
+callee_unknown symbols words from to none = grind (arith, cut_by_owners, none_passes)
 
 -- no marks have both functions where none have the caller
 none_both : (marks : List Marks) (f g : ℕ) → is_caller_marked marks f ≡ false → is_marked marks f g ≡ false

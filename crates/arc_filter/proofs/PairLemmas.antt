@@ -1,9 +1,8 @@
 -- Calls between functions, of which some are cut.
-use Rattle.std.proofs.Common.{◌≡◌, ℕ, ◌+◌, Bool, true, false, not, cond, ◌&&◌, ◌||◌, List, [], ◌∷◌, ◌++◌, length, Option, Some, None, refl, sym, ap, ◌∙◌, true≢false, arith}
+use Rattle.std.proofs.Common.{◌≡◌, ℕ, ◌+◌, Bool, true, false, not, cond, ◌&&◌, ◌||◌, List, [], ◌∷◌, ◌++◌, length, Option, Some, refl, sym, ap, ◌∙◌, true≢false, arith}
 use Rattle.std.specs.Prelude.{◌==◌, filter, if◌then◌else◌}
 use Rattle.std.specs.List.{flat_map, list_any, sum_by}
 use Rattle.std.specs.Option.{option_map_or}
-use Rattle.std.proofs.lemmas.Bool.{eqb-true}
 use Rattle.std.proofs.lemmas.List.Elements.{filter-append}
 use Rattle.std.proofs.lemmas.List.Sums.{sum_by-cons}
 use Rattle.elf32_syms.specs.declared.image.Symbol.{Symbol}
@@ -11,7 +10,7 @@ use Rattle.elf32_syms.specs.Owners.{owner_of}
 use Rattle.settings.specs.CutWords.{from_of, to_of}
 use Rattle.call_cycles.specs.declared.graphs.FunArc.{FunArc}
 use Rattle.call_cycles.specs.Calls.{arc_between, arcs_among, calls_between, calls_of, function_arcs, lies_in, own_calls}
-use Rattle.call_cycles.specs.Sums.{list_of, numbers_below, when}
+use Rattle.call_cycles.specs.Sums.{list_of, when}
 use Rattle.gmon_data.specs.Content.{Content}
 use Rattle.arc_filter.specs.Cuts.{is_named, is_cut, is_cut_pair, stays, without_cuts}
 
@@ -28,19 +27,13 @@ module _ (symbols : List Symbol) (cuts : List (List ℕ)) where
   unfolding is_cut_pair
   cut_of_functions f g = refl
 
-  owner_is : (o : Option ℕ) (f : ℕ) → option_map_or (λ owner. owner == f) o false ≡ true → o ≡ Some f
-  owner_is None f on = absurd (true≢false (sym on))
-  owner_is (Some k) f on = ap (λ (x : ℕ). Some x) (eqb-true k f on)
-
   both : (a b : Bool) → (a && b) ≡ true → (a ≡ true) × (b ≡ true)
   both true b on = (refl, on)
   both false b on = absurd (true≢false (sym on))
 
   -- an arc of two functions is cut where the pair is
   cut_as_pair : (from to f g : ℕ) → (lies_in symbols f from && lies_in symbols g to) ≡ true → is_cut symbols cuts from to ≡ is_cut_pair symbols cuts f g
-  cut_as_pair from to f g on =
-      let owners = both (lies_in symbols f from) (lies_in symbols g to) on in
-      cut_by_owners from to (Some f) (Some g) (owner_is (owner_of symbols from) f owners.0) (owner_is (owner_of symbols to) g owners.1) ∙ cut_of_functions f g
+  cut_as_pair from to f g on = grind (arith, cut_by_owners, cut_of_functions)
 
   -- an arc more, which is between the two functions or not, and cut or not
   one_more : (on gone d : Bool) (n s t : ℕ) → (on ≡ true → gone ≡ d) → t ≡ when (not d) s → (let m : ℕ = cond (not gone) (when on n + t) t in m) ≡ when (not d) (when on n + s)
@@ -104,10 +97,7 @@ module _ (gone : ℕ → ℕ → Bool) (calls : ℕ → ℕ → ℕ) where
 
   pub arcs_left : (n : ℕ) → filter arc_stays (arcs_among n calls) ≡ arcs_among n left
   unfolding arcs_among
-  arcs_left n =
-      filter_flat arc_stays (λ f. flat_map (arc_between calls f) (numbers_below n)) (numbers_below n)
-      ∙ (λ i. flat_map (λ f. filter_flat arc_stays (arc_between calls f) (numbers_below n) i) (numbers_below n))
-      ∙ (λ i. flat_map (λ f. flat_map (λ g. arc_left f g i) (numbers_below n)) (numbers_below n))
+  arcs_left n = search (filter_flat, arc_left)
 
 pub function_arcs_left : (p : Content) (symbols : List Symbol) (cuts : List (List ℕ)) → function_arcs (without_cuts p symbols cuts).arcs symbols ≡ filter (λ (a : FunArc). not (is_cut_pair symbols cuts a.caller a.callee)) (function_arcs p.arcs symbols)
 unfolding without_cuts

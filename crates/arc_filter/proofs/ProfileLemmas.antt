@@ -1,9 +1,9 @@
 -- A profile without some arcs, put together from its parts.
-use Rattle.std.proofs.Common.{◌≡◌, ℕ, ◌+◌, ◌<◌, ◌≤◌, Bool, true, false, not, cond, nat_eq, List, [], ◌∷◌, ◌++◌, length, map, drop, fold, slice_get, Some, None, refl, sym, ap, subst, ◌∙◌, arith}
-use Rattle.std.specs.Prelude.{filter, nat_lt}
+use Rattle.std.proofs.Common.{◌≡◌, ℕ, ◌+◌, ◌<◌, ◌≤◌, Bool, true, false, not, cond, nat_eq, List, [], ◌∷◌, ◌++◌, length, map, drop, fold, slice_get, Some, refl, sym, ap, subst, ◌∙◌, arith}
+use Rattle.std.specs.Prelude.{filter}
 use Rattle.std.specs.List.{AllByRecursion, IsDistinct}
 use Rattle.std.specs.Map.{keys_of}
-use Rattle.std.proofs.lemmas.Bool.{eqb-true, lt-ltb}
+use Rattle.std.proofs.lemmas.Bool.{eqb-true}
 use Rattle.std.proofs.lemmas.List.Sums.{sum_by-cons}
 use Rattle.gmon_data.specs.declared.hist.Hist.{Hist}
 use Rattle.gmon_data.specs.declared.refusal.AddRefusal.{AddRefusal}
@@ -14,7 +14,6 @@ use Rattle.gmon_data.specs.Tally.{tally, tally_total}
 use Rattle.gmon_data.specs.Content.{Content, PairFits, IsProfile, IsWithin, WideRec, empty_content, same_ends, with_arc, with_records}
 use Rattle.gmon_data.proofs.ContentLemmas.{pair-equal, pair-self, same-self}
 use Rattle.gmon_data.proofs.RecordLemmas.{IsUnderway, cut_at, one_added, one_more, within_next}
-use Rattle.gmon_data.proofs.TallyLemmas.{turned}
 use Rattle.profile_sum.specs.Sum.{arc_record, block_record, clash_of, hist_records, sum_of}
 use Rattle.profile_sum.proofs.ClashLemmas.{no_clash}
 use Rattle.profile_sum.proofs.SumLemmas.{all_added, arcs_fit, blocks_fit, hists_fit}
@@ -99,9 +98,7 @@ module _ {K : Type 0} (same : K → K → Bool) (self : (k : K) → same k k ≡
   -- an entry whose key doesn't come again stays where it is
   passed_over : (e : K × ℕ) (es done : List (K × ℕ)) → AllByRecursion (λ y. same e.0 y ≡ false) (keys_of es) → fold added (e ∷ done) es ≡ e ∷ fold added done es
   passed_over e [] done apart = refl
-  passed_over e (f ∷ es) done apart =
-      let other : same f.0 e.0 ≡ false = turned same self equal f.0 e.0 ∙ apart.0 in
-      rw other (passed_over e es (tally same f.0 f.1 done) apart.1)
+  passed_over e (f ∷ es) done apart = grind (arith, passed_over e es (tally same f.0 f.1 done) apart.1)
 
   pub tallied : (es : List (K × ℕ)) → IsDistinct same (keys_of es) → fold added [] es ≡ es
   unfolding IsDistinct
@@ -113,9 +110,7 @@ put done h = put_hist h done
 
 hist_passed : (h : Hist) (hs done : List Hist) → h.low < h.high → AllByRecursion (λ k. h.high ≤ k.low) hs → fold put (h ∷ done) hs ≡ h ∷ fold put done hs
 hist_passed h [] done some above = refl
-hist_passed h (k ∷ ks) done some above =
-    let less : nat_lt h.low k.low ≡ true = lt-ltb h.low k.low (omega (arith, some, above.0)) in
-    rw less (hist_passed h ks (put_hist k done) some above.1)
+hist_passed h (k ∷ ks) done some above = grind (arith, hist_passed h ks (put_hist k done) some above.1)
 
 hists_put : (hs : List Hist) → AllByRecursion IsKept hs → IsApart hs → fold put [] hs ≡ hs
 hists_put [] kept apart = refl
@@ -172,11 +167,7 @@ nothing_cut p symbols = λ i. record p { arcs = all_pass (stays symbols []) (λ 
 -- ---- nothing is unlike nothing
 
 pub unlike_nothing : (refusal : AddRefusal) (unlike : Unlike) (c q : Content) → refusal ≡ answers.Unlike unlike → c ≡ empty_content → IsUnlike refusal (clash_of c q) → ⊥
-unlike_nothing refusal unlike c q is none because =
-    let clash : clash_of c q ≡ Some unlike = subst (λ (r : AddRefusal). IsUnlike r (clash_of c q)) is because in
-    let free : clash_of c q ≡ None = ap (λ (d : Content). clash_of d q) none ∙ no_clash q in
-    let never : None ≡ Some unlike = sym free ∙ clash in
-    absurd cc
+unlike_nothing refusal unlike c q is none because = grind (arith, no_clash)
 
 -- ---- arcs that stay are put one by one
 
@@ -189,11 +180,7 @@ module _ (symbols : List Symbol) (cuts : List (List ℕ)) (arcs : List ((ℕ × 
 
   module _ (i : ℕ) (old now : Content) (w : IsUnderway all_left (left_from i) old now) (arc : (ℕ × ℕ) × ℕ) (below : i < length arcs) (at : slice_get arcs i ≡ Some arc) where
     next : (gone : Bool) → is_cut symbols cuts arc.0.0 arc.0.1 ≡ gone → IsUnderway all_left (map arc_record (cond (not gone) (arc ∷ filter (stays symbols cuts) (drop (i + 1) arcs)) (filter (stays symbols cuts) (drop (i + 1) arcs)))) old now
-    next gone is =
-        subst (λ (l : List WideRec). IsUnderway all_left l old now)
-        (ap (λ (xs : List ((ℕ × ℕ) × ℕ)). map arc_record (filter (stays symbols cuts) xs)) (cut_at arcs i arc at)
-        ∙ ap (λ (b : Bool). map arc_record (cond (not b) (arc ∷ filter (stays symbols cuts) (drop (i + 1) arcs)) (filter (stays symbols cuts) (drop (i + 1) arcs)))) is)
-        w
+    next gone is = grind (arith, cut_at)
 
     kept : is_cut symbols cuts arc.0.0 arc.0.1 ≡ false → IsUnderway all_left ((arc_record arc ∷ []) ++ left_from (i + 1)) old now
     kept = next false

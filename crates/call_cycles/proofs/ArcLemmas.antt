@@ -1,11 +1,10 @@
 -- The arcs between functions: where they lie, in which order, and how many calls they have.
-use Rattle.std.proofs.Common.{inl, inr, ◌≡◌, ◌≢◌, ◌<◌, ◌≤◌, ℕ, zero, suc, ◌+◌, get_or, ◌&&◌, ◌||◌, Bool, true, false, not, List, [], ◌∷◌, ◌++◌, length, Option, Some, None, refl, ap, sym, ◌∙◌, subst, ⊎_elim, arith, length-append, ◌-◌}
+use Rattle.std.proofs.Common.{inl, inr, ◌≡◌, ◌<◌, ◌≤◌, ℕ, zero, suc, ◌+◌, get_or, ◌&&◌, ◌||◌, Bool, true, false, not, List, [], ◌∷◌, ◌++◌, length, Option, Some, None, refl, ap, sym, ◌∙◌, subst, ⊎_elim, arith, length-append, ◌-◌}
 use Rattle.std.specs.Prelude.{◌==◌, slice_index, if◌then◌else◌}
 use Rattle.std.specs.List.{All, flat_map, sum_by}
 use Rattle.std.specs.Option.{option_map_or}
-use Rattle.std.proofs.lemmas.Bool.{cases_lt, eqb-true, eqb-false, ne_eqb}
+use Rattle.std.proofs.lemmas.Bool.{cases_lt, eqb-true, ne_eqb}
 use Rattle.std.proofs.lemmas.List.{take_all, get_or_default, get_or_append_left, get_or-append_right}
-use Rattle.std.proofs.lemmas.List.Elements.{All-nil, All-cons}
 use Rattle.std.proofs.lemmas.List.Sums.{sum_by-cons}
 use Rattle.elf32_syms.specs.declared.image.Symbol.{Symbol}
 use Rattle.elf32_syms.specs.Owners.{owner_of}
@@ -25,17 +24,11 @@ all_between : (calls : ℕ → ℕ → ℕ) (n f g : ℕ) → f < n → g < n �
 all_between calls n f g low_f low_g = by (f == g) (calls f g == 0) refl refl
   where
     by : (same none : Bool) → (f == g) ≡ same → (calls f g == 0) ≡ none → All (IsArcBelow n) (if same || none then [] else record { caller = f; callee = g; count = calls f g } ∷ [])
-    by true none eq is = All-nil (IsArcBelow n)
-    by false true eq is = All-nil (IsArcBelow n)
-    by false false eq is =
-        let some : calls f g ≢ 0 = eqb-false _ _ is in
-        All-cons (IsArcBelow n) (record { caller = f; callee = g; count = calls f g }) [] (record { caller = low_f; callee = low_g; called = omega arith; apart = eqb-false _ _ eq }) (All-nil (IsArcBelow n))
+    by same none eq is = grind arith
 
 pub arcs_below : (calls : ℕ → ℕ → ℕ) (n : ℕ) → All (IsArcBelow n) (arcs_among n calls)
 unfolding arcs_among
-arcs_below calls n =
-    all_flat (IsArcBelow n) (λ f. flat_map (arc_between calls f) (numbers_below n)) n (λ f low_f.
-    all_flat (IsArcBelow n) (arc_between calls f) n (λ g low_g. all_between calls n f g low_f low_g))
+arcs_below calls n = search (all_flat, all_between)
 
 -- ---- in order of caller
 
@@ -43,8 +36,7 @@ own_arcs : (calls : ℕ → ℕ → ℕ) (f g : ℕ) → All (λ (a : FunArc). a
 own_arcs calls f g = by (f == g || calls f g == 0)
   where
     by : (none : Bool) → All (λ (a : FunArc). a.caller ≡ f) (if none then [] else record { caller = f; callee = g; count = calls f g } ∷ [])
-    by true = All-nil (λ (a : FunArc). a.caller ≡ f)
-    by false = All-cons (λ (a : FunArc). a.caller ≡ f) (record { caller = f; callee = g; count = calls f g }) [] refl (All-nil (λ (a : FunArc). a.caller ≡ f))
+    by none = grind arith
 
 abbrev row_of : (ℕ → ℕ → ℕ) → ℕ → ℕ → List FunArc
 row_of calls n f = flat_map (arc_between calls f) (numbers_below n)
@@ -79,8 +71,7 @@ callee_alone : (calls : ℕ → ℕ → ℕ) (f g : ℕ) → All (λ (a : FunArc
 callee_alone calls f g = by (f == g || calls f g == 0)
   where
     by : (none : Bool) → All (λ (a : FunArc). a.callee ≡ g) (if none then [] else record { caller = f; callee = g; count = calls f g } ∷ [])
-    by true = All-nil (λ (a : FunArc). a.callee ≡ g)
-    by false = All-cons (λ (a : FunArc). a.callee ≡ g) (record { caller = f; callee = g; count = calls f g }) [] refl (All-nil (λ (a : FunArc). a.callee ≡ g))
+    by none = grind arith
 
 callees_below : (calls : ℕ → ℕ → ℕ) (f k : ℕ) → All (λ (a : FunArc). a.callee < k) (row_of calls k f)
 callees_below calls f k = all_flat (λ (a : FunArc). a.callee < k) (arc_between calls f) k (λ g low i d inside. let at = callee_alone calls f g i d inside in omega arith)
@@ -112,12 +103,7 @@ unfolding arcs_among
 in_order calls n = rows_rise calls n n
 
 pub by_caller : (arcs : List FunArc) → AreInOrder arcs → AreByCaller arcs
-by_caller arcs rising i j d le below =
-    rw (get_or_default arcs i d no_arc (omega arith), get_or_default arcs j d no_arc below)
-    (⊎_elim
-    (λ (less : i < j). ⊎_elim (λ lower. omega arith) (λ (same : ((get_or arcs i no_arc).caller ≡ (get_or arcs j no_arc).caller) × ((get_or arcs i no_arc).callee < (get_or arcs j no_arc).callee)). omega arith) (rising i j less below))
-    (λ (past : j ≤ i). let same : i ≡ j = omega arith in subst (λ (k : ℕ). (get_or arcs i no_arc).caller ≤ (get_or arcs k no_arc).caller) same (omega arith))
-    (cases_lt i j))
+by_caller arcs rising i j d le below = grind (arith, get_or_default)
 
 -- ---- the functions of a profile's calls
 
@@ -153,9 +139,7 @@ one_pair n symbols e =
     omega arith
 
 all_pairs : (n : ℕ) (es : List ((ℕ × ℕ) × ℕ)) (symbols : List Symbol) → sum_below n (λ f. sum_below n (calls_between es symbols f)) ≤ tally_total es
-all_pairs n [] symbols =
-    let none : sum_below n (λ f. sum_below n (calls_between [] symbols f)) ≡ 0 = sum_none n (λ f. sum_below n (calls_between [] symbols f)) (λ f low. sum_none n (calls_between [] symbols f) (λ g at. between_nil symbols f g)) in
-    omega arith
+all_pairs n [] symbols = grind (arith, sum_none, between_nil)
 all_pairs n (e ∷ es) symbols =
     let split = sum_ext n (λ f. sum_below n (calls_between (e ∷ es) symbols f)) (λ f. sum_below n (calls_of symbols e f) + sum_below n (calls_between es symbols f))
     (λ f low. sum_ext n (calls_between (e ∷ es) symbols f) (λ g. calls_of symbols e f g + calls_between es symbols f g) (λ g at. between_cons e es symbols f g) ∙ sum_add n (calls_of symbols e f) (calls_between es symbols f)) in
@@ -170,9 +154,7 @@ arc_calls : (calls : ℕ → ℕ → ℕ) (f g : ℕ) → sum_by (λ (a : FunArc
 arc_calls calls f g = by (f == g) (calls f g == 0) refl
   where
     by : (same none : Bool) → (calls f g == 0) ≡ none → sum_by (λ (a : FunArc). a.count) (if same || none then [] else record { caller = f; callee = g; count = calls f g } ∷ []) ≡ when (not same) (calls f g)
-    by true none is = refl
-    by false true is = sym (eqb-true _ _ is)
-    by false false is = omega arith
+    by same none is = grind (arith, eqb-true)
 
 others_and_self : (n f : ℕ) (row : ℕ → ℕ) → f < n → sum_below n (λ g. when (not (f == g)) (row g)) + row f ≡ sum_below n row
 others_and_self n f row low =
@@ -182,8 +164,7 @@ others_and_self n f row low =
     omega arith
   where
     one : (g : ℕ) (same : Bool) → (f == g) ≡ same → when (not same) (row g) + when same (row f) ≡ row g
-    one g true is = let e : row f ≡ row g = ap row (eqb-true f g is) in omega arith
-    one g false is = omega arith
+    one g same is = grind (arith, eqb-true)
 
 pub arcs_and_selves : (calls : ℕ → ℕ → ℕ) (n : ℕ) → sum_by (λ (a : FunArc). a.count) (arcs_among n calls) + sum_below n (λ f. calls f f) ≡ sum_below n (λ f. sum_below n (calls f))
 unfolding arcs_among
@@ -212,24 +193,13 @@ calls_few es symbols =
 
 pub made_few : (es : List ((ℕ × ℕ) × ℕ)) (symbols : List Symbol) (arcs : List FunArc) (n : ℕ) (selves : List ℕ) → arcs ≡ function_arcs es symbols → n ≡ length symbols → selves ≡ own_calls es symbols
     → arcs_calls arcs + sum_below n (slice_index selves) ≤ tally_total es
-made_few es symbols arcs n selves is is_n is_selves =
-    let few = calls_few es symbols in
-    let one : arcs_calls arcs ≡ arcs_calls (function_arcs es symbols) = ap arcs_calls is in
-    let two : sum_below n (slice_index selves) ≡ sum_below (length symbols) (slice_index selves) = ap (λ (k : ℕ). sum_below k (slice_index selves)) is_n in
-    let three = sum_ext (length symbols) (slice_index selves) (λ f. calls_between es symbols f f) (λ f low. list_at (length symbols) (λ k. calls_between es symbols k k) selves is_selves f low) in
-    omega arith
+made_few es symbols arcs n selves is is_n is_selves = grind (arith, calls_few, sum_ext, list_at)
 
 pub are_within : (es : List ((ℕ × ℕ) × ℕ)) (symbols : List Symbol) (arcs : List FunArc) (n : ℕ) → arcs ≡ function_arcs es symbols → n ≡ length symbols → AreWithin n arcs
-are_within es symbols arcs n is is_n i below =
-    let all = subst (All (IsArcBelow n)) (sym is) (subst (λ (k : ℕ). All (IsArcBelow k) (function_arcs es symbols)) (sym is_n) (arcs_below (calls_between es symbols) (length symbols))) in
-    let a = all i no_arc below in
-    (a.caller, a.callee)
+are_within es symbols arcs n is is_n i below = grind (arith, arcs_below)
 
 pub are_called : (es : List ((ℕ × ℕ) × ℕ)) (symbols : List Symbol) (arcs : List FunArc) → arcs ≡ function_arcs es symbols → AreCalled arcs
-are_called es symbols arcs is i below =
-    let all = subst (All (IsArcBelow (length symbols))) (sym is) (arcs_below (calls_between es symbols) (length symbols)) in
-    let a = all i no_arc below in
-    (a.called, a.apart)
+are_called es symbols arcs is i below = grind (arith, arcs_below)
 
 pub are_in_order : (es : List ((ℕ × ℕ) × ℕ)) (symbols : List Symbol) (arcs : List FunArc) → arcs ≡ function_arcs es symbols → AreInOrder arcs
 are_in_order es symbols arcs is = subst AreInOrder (sym is) (in_order (calls_between es symbols) (length symbols))

@@ -1,7 +1,6 @@
 -- Calls between functions, one arc of the profile after another.
-use Rattle.std.proofs.Common.{length-set, subst, ◌≡◌, ◌≢◌, ◌<◌, ◌≤◌, ℕ, ◌+◌, ◌&&◌, Bool, true, false, List, [], ◌∷◌, ◌++◌, length, take, get_or, Option, Some, ap, sym, ◌∙◌, ⊎_elim, arith}
+use Rattle.std.proofs.Common.{length-set, subst, ◌≡◌, ◌≢◌, ◌<◌, ◌≤◌, ℕ, ◌+◌, ◌&&◌, Bool, true, false, List, [], ◌∷◌, ◌++◌, length, take, get_or, Some, ap, sym, ◌∙◌, ⊎_elim, arith}
 use Rattle.std.specs.Prelude.{◌==◌, replicate, slice_index, slice_set}
-use Rattle.std.specs.Option.{option_map_or}
 use Rattle.std.specs.List.{All}
 use Rattle.std.proofs.lemmas.Bool.{cases_eq, cases_lt}
 use Rattle.std.proofs.lemmas.Bool.Decides.{nat_tests}
@@ -17,8 +16,7 @@ use Rattle.gmon_data.specs.Tally.{tally_total}
 use Rattle.call_cycles.specs.declared.graphs.FunArc.{FunArc}
 use Rattle.call_cycles.specs.Sums.{when, list_of}
 use Rattle.call_cycles.specs.Arcs.{IsArcBelow}
-use Rattle.call_cycles.specs.Calls.{HaveCalls, arcs_among, calls_of, calls_between, calls_in, function_arcs, lies_in}
-use Rattle.call_cycles.proofs.SumLemmas.{when_le}
+use Rattle.call_cycles.specs.Calls.{HaveCalls, arcs_among, calls_of, calls_between, calls_in, function_arcs}
 use Rattle.call_cycles.proofs.ListLemmas.{list_at, list_long}
 use Rattle.call_cycles.proofs.MergeLemmas.{arcs_same, calls_in_more, calls_in_none}
 
@@ -34,9 +32,7 @@ module _ (symbols : List Symbol) (from to count : ℕ) where
   -- the calls of an arc whose owners are known
   module _ (a b : ℕ) (caller : owner_of symbols from ≡ Some a) (callee : owner_of symbols to ≡ Some b) where
     pub owned_calls : (f g : ℕ) → calls_of symbols ((from, to), count) f g ≡ when (a == f && b == g) count
-    owned_calls f g =
-        ap (λ (o : Option ℕ). when (option_map_or (λ (k : ℕ). k == f) o false && lies_in symbols g to) count) caller
-        ∙ ap (λ (o : Option ℕ). when (a == f && option_map_or (λ (k : ℕ). k == g) o false) count) callee
+    owned_calls f g = grind arith
 
 -- ---- what was found
 
@@ -88,10 +84,7 @@ module _ (n : ℕ) (calls more : ℕ → ℕ → ℕ) (arcs : List FunArc) (selv
     }
       where
         same : (f : ℕ) → calls f f ≡ calls f f + more f f
-        same f =
-            let other : (a == f && b == f) ≡ false = grind (arith, nat_tests) in
-            let none : more f f ≡ 0 = is f f ∙ ap (λ (t : Bool). when t count) other in
-            omega arith
+        same f = grind arith
 
 -- ---- the calls of a profile's arcs
 
@@ -109,16 +102,11 @@ selves_long n calls arcs selves have = list_long n (λ f. calls f f) selves have
 module _ (arcs : List ((ℕ × ℕ) × ℕ)) (symbols : List Symbol) (i : ℕ) (below : i < length arcs) (entry : (ℕ × ℕ) × ℕ) (at : get_or arcs i ((0, 0), 0) ≡ entry) where
   pub calls_more : (f g : ℕ) → calls_between (take (i + 1) arcs) symbols f g ≡ calls_between (take i arcs) symbols f g + calls_of symbols entry f g
   unfolding calls_between
-  calls_more f g =
-      sum_by_more (λ (e : (ℕ × ℕ) × ℕ). calls_of symbols e f g) arcs i ((0, 0), 0) below
-      ∙ ap (λ (e : (ℕ × ℕ) × ℕ). calls_between (take i arcs) symbols f g + calls_of symbols e f g) at
+  calls_more f g = grind (arith, sum_by_more)
 
   pub calls_fit : (f g : ℕ) → calls_between (take i arcs) symbols f g + entry.1 ≤ tally_total arcs
   unfolding calls_between
-  calls_fit f g =
-      let le = sum_by_more_le_part (λ (e : (ℕ × ℕ) × ℕ). calls_of symbols e f g) (λ (e : (ℕ × ℕ) × ℕ). e.1) arcs i ((0, 0), 0) below (λ e. when_le _ e.1) in
-      let same : (get_or arcs i ((0, 0), 0)).1 ≡ entry.1 = ap (λ (e : (ℕ × ℕ) × ℕ). e.1) at in
-      omega arith
+  calls_fit f g = grind (arith, sum_by_more_le_part)
 
   pub total_more : tally_total (take (i + 1) arcs) ≡ tally_total (take i arcs) + entry.1
   total_more = sum_by_more (λ (e : (ℕ × ℕ) × ℕ). e.1) arcs i ((0, 0), 0) below ∙ ap (λ (e : (ℕ × ℕ) × ℕ). tally_total (take i arcs) + e.1) at

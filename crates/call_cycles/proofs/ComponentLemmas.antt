@@ -1,5 +1,5 @@
 -- The numbered components are those of the graph.
-use Rattle.std.proofs.Common.{◌≡◌, ◌<◌, ◌↔◌, ℕ, zero, suc, ◌&&◌, Bool, not, List, [], ◌∷◌, length, map, get_or, inl, inr, refl, ap, sym, ◌∙◌, subst, ⊎_elim, arith}
+use Rattle.std.proofs.Common.{◌≡◌, ◌<◌, ◌↔◌, ℕ, zero, suc, ◌&&◌, Bool, not, List, [], ◌∷◌, length, map, get_or, inl, inr, refl, ap, sym, ◌∙◌, ⊎_elim, arith}
 use Rattle.std.specs.Prelude.{◌==◌, slice_index, slice_index_or}
 use Rattle.std.specs.List.{All}
 use Rattle.call_cycles.specs.declared.graphs.FunArc.{FunArc}
@@ -7,7 +7,7 @@ use Rattle.call_cycles.specs.Sums.{max_below, when}
 use Rattle.call_cycles.specs.Graph.{GraphValue, no_arc, IsLevel, AreComponents, component_of, target_of, leaves}
 use Rattle.call_cycles.specs.Walks.{Reaches}
 use Rattle.call_cycles.specs.Arcs.{AreWithin}
-use Rattle.call_cycles.specs.Leaders.{AreLeaders, AreLevels, callee_leader, leaves_leader}
+use Rattle.call_cycles.specs.Leaders.{AreLeaders, AreLevels, leaves_leader}
 use Rattle.call_cycles.specs.Heads.{IsHead, IsBefore}
 use Rattle.call_cycles.specs.Sums.{list_of}
 use Rattle.call_cycles.proofs.SumLemmas.{max_ext}
@@ -46,40 +46,23 @@ module _ (n : ℕ) (arcs : List FunArc) (self_calls leaders levels places compon
   head_at c = ap (λ (xs : List ℕ). slice_index xs c) is_heads ∙ heads_at order c
 
   is_head : (c : ℕ) → c < length heads → (H c < n) × (L (H c) ≡ H c) × ((get_or order c (0, 0)).0 ≡ slice_index levels (H c))
-  is_head c below =
-      let long = count in
-      let p = those c (0, 0) (omega arith) in
-      let at = head_at c in
-      subst (λ (h : ℕ). (h < n) × (L h ≡ h) × ((get_or order c (0, 0)).0 ≡ slice_index levels h)) (sym at) p
+  is_head c below = grind (arith, count, head_at)
 
   leader_leads : (f : ℕ) → f < n → L (L f) ≡ L f
   leader_leads f below = let l = led.each f below in sym (joined_same n arcs leaders within led f (L f) below l.within l.joined)
 
   place_of : (h : ℕ) → h < n → L h ≡ h → (slice_index places h < length heads) × (H (slice_index places h) ≡ h)
-  place_of h below leads =
-      let long = count in
-      let r = each h below leads in
-      let at = placed r.0 r.1 in
-      let same : slice_index places h ≡ r.0 = ap (slice_index places) (sym r.2) ∙ at in
-      let r1 = r.1 in
-      (omega arith, ap H same ∙ head_at r.0 ∙ r.2)
+  place_of h below leads = grind (arith, count, head_at)
 
   component_at : (f : ℕ) → f < n → component_of g f ≡ slice_index places (L f)
   component_at f below = list_at n (λ k. slice_index places (L k)) component is_component f below
 
   pub component_within : (f : ℕ) → f < n → component_of g f < length heads
-  component_within f below =
-      let l = led.each f below in
-      let p = place_of (L f) l.within (leader_leads f below) in
-      let p0 = p.0 in
-      let at = component_at f below in
-      omega arith
+  component_within f below = grind (arith, place_of, leader_leads, component_at)
 
   -- the head of a function's component is its leader
   head_is : (f : ℕ) → f < n → H (component_of g f) ≡ L f
-  head_is f below =
-      let l = led.each f below in
-      ap H (component_at f below) ∙ (place_of (L f) l.within (leader_leads f below)).1
+  head_is f below = grind (arith, component_at, place_of, leader_leads)
 
   same_leader : (f h : ℕ) → f < n → h < n → component_of g f ≡ component_of g h → L f ≡ L h
   same_leader f h fb hb same = sym (head_is f fb) ∙ ap H same ∙ head_is h hb
@@ -88,22 +71,10 @@ module _ (n : ℕ) (arcs : List FunArc) (self_calls leaders levels places compon
   same_component f h fb hb same = component_at f fb ∙ ap (slice_index places) same ∙ sym (component_at h hb)
 
   head_component : (c : ℕ) → c < length heads → component_of g (H c) ≡ c
-  head_component c below =
-      let long = count in
-      let head = is_head c below in
-      component_at (H c) head.0 ∙ ap (slice_index places) (head.1 ∙ head_at c) ∙ placed c (omega arith)
+  head_component c below = grind (arith, count, component_at, head_at)
 
   pub are_joined : (f h : ℕ) → f < n → h < n → (component_of g f ≡ component_of g h) ↔ (Reaches arcs f h × Reaches arcs h f)
-  are_joined f h fb hb = (
-    λ same.
-        let one = (led.each f fb).joined in
-        let two = (led.each h hb).joined in
-        let l : L f ≡ L h = same_leader f h fb hb same in (
-          reaches_on arcs f (L f) h one.0 (subst (λ (x : ℕ). Reaches arcs x h) (sym l) two.1),
-          reaches_on arcs h (L h) f two.0 (subst (λ (x : ℕ). Reaches arcs x f) l one.1),
-        ),
-    λ joined. same_component f h fb hb (joined_same n arcs leaders within led f h fb hb joined),
-  )
+  are_joined f h fb hb = grind (arith, same_leader, reaches_on, same_component)
 
   level : ℕ → ℕ
   level c = slice_index levels (H c)
@@ -126,11 +97,7 @@ module _ (n : ℕ) (arcs : List FunArc) (self_calls leaders levels places compon
   levels_are = record { highest = high }
     where
       high : (c : ℕ) → c < length heads → slice_index levels (H c) ≡ max_below (length arcs) (λ i. when (leaves g c i) (suc (slice_index levels (H (target_of g i)))))
-      high c below =
-          lev.highest (H c) (is_head c below).0
-          ∙ max_ext (length arcs) _ _ (λ i inside.
-          ap (λ (b : Bool). when b (suc (slice_index levels (callee_leader arcs leaders i)))) (sym (leaves_same c i below inside))
-          ∙ ap (λ (x : ℕ). when (leaves g c i) (suc (slice_index levels x))) (sym (head_is (get_or arcs i no_arc).callee (within i inside).1)))
+      high c below = grind (arith, is_head, max_ext, leaves_same, head_is)
 
   pub are_components : AreComponents g
   unfolding level

@@ -1,5 +1,5 @@
 -- The least function of each rank leads those of this rank.
-use Rattle.std.proofs.Common.{◌<◌, ◌≡◌, ℕ, List, sym, subst, arith}
+use Rattle.std.proofs.Common.{◌<◌, ◌≡◌, ℕ, List, sym, arith}
 use Rattle.std.specs.Prelude.{slice_index}
 use Rattle.call_cycles.specs.declared.graphs.FunArc.{FunArc}
 use Rattle.call_cycles.specs.Sums.{list_of}
@@ -7,10 +7,7 @@ use Rattle.call_cycles.specs.Leaders.{AreRanks, AreLeaders, IsLeast, AreLeast}
 use Rattle.call_cycles.proofs.ListLemmas.{list_long, list_at}
 
 pub are_least : (n : ℕ) (ranks least leaders : List ℕ) → ((h : ℕ) → h < n → IsLeast n ranks 0 h (slice_index least (slice_index ranks h))) → leaders ≡ list_of n (λ h. slice_index least (slice_index ranks h)) → AreLeast n ranks leaders
-are_least n ranks least leaders each is = record {
-  len = list_long n _ leaders is;
-  each = λ f below. subst (IsLeast n ranks 0 f) (sym (list_at n (λ h. slice_index least (slice_index ranks h)) leaders is f below)) (each f below);
-}
+are_least n ranks least leaders each is = grind (arith, list_long, list_at)
 
 pub are_leaders : (n : ℕ) (arcs : List FunArc) (ranks leaders : List ℕ) → AreRanks n arcs ranks → AreLeast n ranks leaders → AreLeaders n arcs leaders
 are_leaders n arcs ranks leaders are least = record {

@@ -1,60 +1,34 @@
 -- Levels, known from those of lesser ranks.
-use Rattle.std.proofs.Common.{◌≡◌, ◌≢◌, ◌<◌, ◌≤◌, ℕ, zero, suc, max, ◌+◌, ◌&&◌, ◌||◌, Bool, true, false, not, List, length, take, replicate, refl, ap, sym, ◌∙◌, subst, ⊎_elim, arith}
-use Rattle.std.specs.Prelude.{◌==◌, slice_index, slice_index_or}
+use Rattle.std.proofs.Common.{◌≡◌, ◌≢◌, ◌<◌, ◌≤◌, ℕ, zero, suc, max, ◌+◌, ◌&&◌, ◌||◌, Bool, true, false, not, List, length, take, replicate, refl, ap, sym, ◌∙◌, ⊎_elim, arith}
+use Rattle.std.specs.Prelude.{◌==◌, slice_index}
 use Rattle.std.specs.List.{list_any}
-use Rattle.std.proofs.lemmas.Bool.{cases_eq, eqb-true, eqb-false, eq-eqb, ne_eqb, not-true, or_right, and_parts}
+use Rattle.std.proofs.lemmas.Bool.{cases_eq, eqb-true, eq-eqb, ne_eqb, or_right}
 use Rattle.std.proofs.lemmas.List.{get_or_default, get_or-take, length-take, length-replicate, take_all}
 use Rattle.std.proofs.lemmas.List.Folds.{Any-from_list_any, list_any_at, list_any_more}
 use Rattle.call_cycles.specs.declared.graphs.FunArc.{FunArc}
 use Rattle.call_cycles.specs.Sums.{max_below, when}
-use Rattle.call_cycles.specs.Graph.{no_arc}
-use Rattle.call_cycles.specs.Walks.{Reaches}
 use Rattle.call_cycles.specs.Arcs.{AreWithin}
 use Rattle.call_cycles.specs.Leaders.{AreJoined, AreRanks, IsRankOrder, AreLeaders, AreLevels, caller_leader, callee_leader, leaves_leader, leaves_by, level_over}
 use Rattle.call_cycles.specs.Passes.{caller_at}
-use Rattle.call_cycles.proofs.SumLemmas.{when_le, max_ext, max_least}
+use Rattle.call_cycles.proofs.SumLemmas.{max_ext, max_least}
 use Rattle.call_cycles.proofs.ListLemmas.{same_test}
 use Rattle.call_cycles.proofs.WalkLemmas.{reaches_by, reaches_on}
 use Rattle.call_cycles.proofs.RankLemmas.{IsRank, rank_of_ranks}
 
 module _ (n : ℕ) (arcs : List FunArc) (leaders : List ℕ) (within : AreWithin n arcs) (led : AreLeaders n arcs leaders) where
   pub joined_same : (f h : ℕ) → f < n → h < n → AreJoined arcs f h → slice_index leaders f ≡ slice_index leaders h
-  joined_same f h fb hb joined =
-      let lf = led.each f fb in
-      let lh = led.each h hb in
-      let one = lf.least (slice_index leaders h) lh.within (reaches_on arcs f h _ joined.0 lh.joined.0, reaches_on arcs _ h f lh.joined.1 joined.1) in
-      let two = lh.least (slice_index leaders f) lf.within (reaches_on arcs h f _ joined.1 lf.joined.0, reaches_on arcs _ f h lf.joined.1 joined.0) in
-      omega arith
+  joined_same f h fb hb joined = grind (arith, reaches_on)
 
   -- the rank falls from component to component
   pub rank_drops : (ranks : List ℕ) → IsRank n arcs ranks → (i : ℕ) → i < length arcs → caller_leader arcs leaders i ≢ callee_leader arcs leaders i
       → slice_index ranks (callee_leader arcs leaders i) < slice_index ranks (caller_leader arcs leaders i)
-  rank_drops ranks ranked i below apart =
-      let f = (slice_index_or arcs i no_arc).caller in
-      let h = (slice_index_or arcs i no_arc).callee in
-      let fb : f < n = (within i below).0 in
-      let hb : h < n = (within i below).1 in
-      let c = caller_leader arcs leaders i in
-      let d = callee_leader arcs leaders i in
-      let lf = led.each f fb in
-      let lh = led.each h hb in
-      let arc : Reaches arcs f h = reaches_by arcs i below in
-      let there : Reaches arcs c d = reaches_on arcs c f d lf.joined.1 (reaches_on arcs f h d arc lh.joined.0) in
-      let falls = ranked.falls c d lf.within lh.within there in
-      let differ : slice_index ranks d ≢ slice_index ranks c = λ same.
-      let back : Reaches arcs d c = (ranked.stays c d lf.within lh.within there).0 same in
-      let home : Reaches arcs h f = reaches_on arcs h d f lh.joined.0 (reaches_on arcs d c f back lf.joined.1) in
-      apart (joined_same f h fb hb (arc, home)) in
-      omega arith
+  rank_drops ranks ranked i below apart = grind (arith, reaches_by, reaches_on)
 
 -- ---- greatest values
 
 max_none : (n : ℕ) (f : ℕ → ℕ) → ((i : ℕ) → i < n → f i ≡ 0) → max_below n f ≡ 0
 max_none zero f none = refl
-max_none (suc n) f none =
-    let ih = max_none n f (λ i below. none i (omega arith)) in
-    let last = none n (omega arith) in
-    omega arith
+max_none (suc n) f none = grind (arith, max_none n f)
 
 max_stop : (k m : ℕ) (f : ℕ → ℕ) → k ≤ m → ((i : ℕ) → k ≤ i → i < m → f i ≡ 0) → max_below m f ≡ max_below k f
 max_stop k zero f le none = let e : k ≡ 0 = omega arith in rw e refl
@@ -108,8 +82,7 @@ no_levels n arcs leaders order = record {
     zeros (suc m) (suc h) = zeros m h
 
     none : (b : Bool) (x : ℕ) → when (b && false) x ≡ 0
-    none true x = refl
-    none false x = refl
+    none b x = grind arith
 
 module _ (n : ℕ) (arcs : List FunArc) (leaders ranks order : List ℕ) (within : AreWithin n arcs) (led : AreLeaders n arcs leaders) (are : AreRanks n arcs ranks) (ordered : IsRankOrder n ranks order) where
   rank_leads : (f : ℕ) → f < n → slice_index ranks (slice_index leaders f) ≡ slice_index ranks f
@@ -123,13 +96,8 @@ module _ (n : ℕ) (arcs : List FunArc) (leaders ranks order : List ℕ) (within
       let low : f < n = ordered.within k 0 inside in
       let a = Any-from_list_any (λ x. x == caller_at arcs i) (take (k + 1) order) by in
       let long = length-take (k + 1) order in
-      let a2 = a.2 in
-      let at : slice_index order a.0 ≡ caller_at arcs i =
-      get_or_default order a.0 0 a.1 (omega arith) ∙ sym (get_or-take (k + 1) order a.0 a.1 (omega arith)) ∙ a.3 ∙ eqb-true _ _ a.4 in
-      let up : slice_index ranks (slice_index order a.0) ≤ slice_index ranks f = ⊎_elim
-      (λ (here : a.0 ≡ k). let e : slice_index ranks (slice_index order a.0) ≡ slice_index ranks f = ap (λ (j : ℕ). slice_index ranks (slice_index order j)) here in omega arith)
-      (λ (before : a.0 ≢ k). ordered.rises a.0 k 0 (omega arith) inside)
-      (cases_eq a.0 k) in
+      let at : slice_index order a.0 ≡ caller_at arcs i = get_or_default order a.0 0 a.1 (omega arith) ∙ sym (get_or-take (k + 1) order a.0 a.1 (omega arith)) ∙ a.3 ∙ eqb-true _ _ a.4 in
+      let up : slice_index ranks (slice_index order a.0) ≤ slice_index ranks f = ⊎_elim (λ (here : a.0 ≡ k). let e : slice_index ranks (slice_index order a.0) ≡ slice_index ranks f = ap (λ (j : ℕ). slice_index ranks (slice_index order j)) here in omega arith) (λ (before : a.0 ≢ k). ordered.rises a.0 k 0 (omega arith) inside) (cases_eq a.0 k) in
       let e : slice_index ranks (slice_index order a.0) ≡ slice_index ranks (caller_at arcs i) = ap (slice_index ranks) at in
       let drop = rank_drops n arcs leaders within led ranks (rank_of_ranks n arcs ranks are) i below apart in
       let from = rank_leads (caller_at arcs i) (within i below).0 in
@@ -157,11 +125,7 @@ module _ (n : ℕ) (arcs : List FunArc) (leaders ranks order : List ℕ) (within
     -- the callee's level is as before
     same_callee : (h i : ℕ) → i < length arcs → (b : Bool) → (leaves_leader arcs leaders h i && is_by arcs (take (k + 1) order) i) ≡ b
         → when b (suc (slice_index new (callee_leader arcs leaders i))) ≡ when b (suc (slice_index old (callee_leader arcs leaders i)))
-    same_callee h i below true on =
-        let parts = and_parts (leaves_leader arcs leaders h i) (is_by arcs (take (k + 1) order) i) on in
-        let out = (and_parts (not (caller_leader arcs leaders i == callee_leader arcs leaders i)) (caller_leader arcs leaders i == h) parts.0).0 in
-        ap suc (others (callee_leader arcs leaders i) (not_back k inside i below (eqb-false _ _ (not-true _ out)) parts.1))
-    same_callee h i below false on = refl
+    same_callee h i below b on = grind (arith, not_back)
 
     -- an arc of another function tells what it told
     told_other : (h i : ℕ) → i < length arcs → caller_at arcs i ≢ f → told h i ≡ tells h i
@@ -172,8 +136,7 @@ module _ (n : ℕ) (arcs : List FunArc) (leaders ranks order : List ℕ) (within
         ∙ sym (same_callee h i below (leaves_leader arcs leaders h i && is_by arcs (take (k + 1) order) i) refl)
       where
         or_none : (b : Bool) → (b || false) ≡ b
-        or_none true = refl
-        or_none false = refl
+        or_none b = grind arith
 
     -- at another leader
     at_other : (h : ℕ) → h < n → h ≢ slice_index leaders f → slice_index new h ≡ max_below (length arcs) (tells h)
@@ -187,14 +150,10 @@ module _ (n : ℕ) (arcs : List FunArc) (leaders ranks order : List ℕ) (within
         (cases_eq (caller_at arcs i) f))
       where
         off : (a b : Bool) (x : ℕ) → when ((a && false) && b) x ≡ 0
-        off true b x = refl
-        off false b x = refl
+        off a b x = grind arith
 
         none_leaves : (i : ℕ) → caller_leader arcs leaders i ≡ slice_index leaders (slice_index order k) → told h i ≡ tells h i
-        none_leaves i led_by =
-            let no : (caller_leader arcs leaders i == h) ≡ false = ne_eqb (caller_leader arcs leaders i) h (λ q. apart (sym q ∙ led_by)) in
-            rw no (off (not (caller_leader arcs leaders i == callee_leader arcs leaders i)) (is_by arcs (take k order) i) (suc (slice_index old (callee_leader arcs leaders i)))
-            ∙ sym (off (not (caller_leader arcs leaders i == callee_leader arcs leaders i)) (is_by arcs (take (k + 1) order) i) (suc (slice_index new (callee_leader arcs leaders i)))))
+        none_leaves i led_by = grind arith
 
     -- at f's own
     at_own : slice_index new (slice_index leaders f) ≡ max_below (length arcs) (tells (slice_index leaders f))
@@ -213,9 +172,7 @@ module _ (n : ℕ) (arcs : List FunArc) (leaders ranks order : List ℕ) (within
         (cases_eq (caller_at arcs i) f))
       where
         joined : (leaving outer done : Bool) (x : ℕ) → outer ≡ leaving → max (when (leaving && done) x) (when outer x) ≡ when (leaving && true) x
-        joined true outer true x same = rw same (omega arith)
-        joined true outer false x same = rw same (omega arith)
-        joined false outer done x same = rw same refl
+        joined leaving outer done x same = grind arith
 
         own_arc : (i : ℕ) → i < length arcs → caller_at arcs i ≡ slice_index order k
             → max (told (slice_index leaders (slice_index order k)) i) (level_over arcs leaders (slice_index order k) old i) ≡ tells (slice_index leaders (slice_index order k)) i
@@ -233,29 +190,11 @@ module _ (n : ℕ) (arcs : List FunArc) (leaders ranks order : List ℕ) (within
             ∙ sym (same_callee c i inner (leaves_leader arcs leaders c i && is_by arcs (take (k + 1) order) i) refl)
           where
             and_all : (b : Bool) → (b && true) ≡ b
-            and_all true = refl
-            and_all false = refl
-
-    over_low : (i : ℕ) → level_over arcs leaders f old i ≤ k + 1
-    over_low i = let l = before.low (callee_leader arcs leaders i) in let le = when_le (leaves_by arcs leaders f i) (suc (slice_index old (callee_leader arcs leaders i))) in omega arith
+            and_all b = grind arith
 
     pub levels_more : AreLevelsOf n arcs leaders order (k + 1) new
     unfolding f
-    levels_more = record {
-      len = long;
-      low = λ h. ⊎_elim
-          (λ (own : h ≡ slice_index leaders f).
-          let e : slice_index new h ≡ slice_index new (slice_index leaders f) = ap (slice_index new) own in
-          let l = before.low (slice_index leaders f) in
-          let m = max_least (length arcs) (level_over arcs leaders f old) (k + 1) (λ i inner. over_low i) in
-          omega arith)
-          (λ (other : h ≢ slice_index leaders f). let e = others h other in let l = before.low h in omega arith)
-          (cases_eq h (slice_index leaders f));
-      highest = λ h below. ⊎_elim
-          (λ (own : h ≡ slice_index leaders f). subst (λ (x : ℕ). slice_index new x ≡ max_below (length arcs) (tells x)) (sym own) at_own)
-          (λ (other : h ≢ slice_index leaders f). at_other h below other)
-          (cases_eq h (slice_index leaders f));
-    }
+    levels_more = grind (arith, max_least, at_own, at_other)
 
   pub all_levels : (levels : List ℕ) (k : ℕ) → length order ≤ k → AreLevelsOf n arcs leaders order k levels → AreLevels n arcs leaders levels
   all_levels levels k end is = record {
@@ -272,5 +211,4 @@ module _ (n : ℕ) (arcs : List FunArc) (leaders ranks order : List ℕ) (within
   }
     where
       and_all : (b : Bool) → (b && true) ≡ b
-      and_all true = refl
-      and_all false = refl
+      and_all b = grind arith

@@ -1,8 +1,8 @@
 -- Members of components, counted.
-use Rattle.std.proofs.Common.{◌≡◌, ◌≢◌, ◌<◌, ◌≤◌, ◌↔◌, ℕ, zero, suc, ◌+◌, Bool, cond, List, [], ◌∷◌, length, get_or, refl, ap, ⊎_elim, arith}
+use Rattle.std.proofs.Common.{◌≡◌, ◌≢◌, ◌<◌, ◌≤◌, ◌↔◌, ℕ, zero, suc, ◌+◌, cond, List, [], ◌∷◌, length, get_or, refl, ⊎_elim, arith}
 use Rattle.std.specs.Prelude.{◌==◌, IsTrue}
 use Rattle.std.specs.List.{count_by}
-use Rattle.std.proofs.lemmas.Bool.{cases_eq, eq-eqb, ne_eqb, ltb-true, lt-ltb}
+use Rattle.std.proofs.lemmas.Bool.{cases_eq, ne_eqb, ltb-true, lt-ltb}
 use Rattle.std.proofs.lemmas.List.Sums.{sum_by-cons}
 use Rattle.call_cycles.specs.Graph.{GraphValue, IsGraph, HasOtherMember, component_count, head_of, is_cycle}
 
@@ -11,24 +11,14 @@ count c xs = count_by (λ d. d == c) xs
 
 count_here : (c x : ℕ) (xs : List ℕ) → x ≡ c → count c (x ∷ xs) ≡ 1 + count c xs
 unfolding count
-count_here c x xs at =
-    let one : ◌≡◌ {A = ℕ} (cond (x == c) 1 0) 1 = ap (λ (b : Bool). cond {A = ℕ} b 1 0) (eq-eqb x c at) in
-    let all = sum_by-cons (λ (d : ℕ). cond (d == c) 1 0) x xs in
-    omega arith
+count_here c x xs at = grind (arith, sum_by-cons (λ (d : ℕ). cond (d == c) 1 0) x xs)
 
 count_other : (c x : ℕ) (xs : List ℕ) → x ≢ c → count c (x ∷ xs) ≡ count c xs
 unfolding count
-count_other c x xs apart =
-    let none : ◌≡◌ {A = ℕ} (cond (x == c) 1 0) 0 = ap (λ (b : Bool). cond {A = ℕ} b 1 0) (ne_eqb x c apart) in
-    let all = sum_by-cons (λ (d : ℕ). cond (d == c) 1 0) x xs in
-    omega arith
+count_other c x xs apart = search (ne_eqb, sum_by-cons)
 
 count_rest : (c x : ℕ) (xs : List ℕ) → count c xs ≤ count c (x ∷ xs)
-count_rest c x xs =
-    ⊎_elim
-    (λ (at : x ≡ c). let h = count_here c x xs at in omega arith)
-    (λ (apart : x ≢ c). let h = count_other c x xs apart in omega arith)
-    (cases_eq x c)
+count_rest c x xs = grind (arith, count_here, count_other)
 
 count_none : (c : ℕ) → count c [] ≡ 0
 unfolding count
@@ -52,7 +42,6 @@ other_place c [] h below at two = absurd (omega arith)
 other_place c (x ∷ xs) zero below at two =
     let one = count_here c x xs at in
     let r = one_place c xs (omega arith) in
-    let r1 = r.1 in
     (suc r.0, omega arith, r.2, λ q. omega arith)
 other_place c (x ∷ xs) (suc h) below at two =
     ⊎_elim
@@ -75,10 +64,7 @@ two_count c [] i h low_i low_h at_i at_h apart = absurd (omega arith)
 two_count c (x ∷ xs) zero zero low_i low_h at_i at_h apart = absurd (apart refl)
 two_count c (x ∷ xs) zero (suc h) low_i low_h at_i at_h apart = let one = count_here c x xs at_i in let more = one_counts c xs h (omega arith) at_h in omega arith
 two_count c (x ∷ xs) (suc i) zero low_i low_h at_i at_h apart = let one = count_here c x xs at_h in let more = one_counts c xs i (omega arith) at_i in omega arith
-two_count c (x ∷ xs) (suc i) (suc h) low_i low_h at_i at_h apart =
-    let rest = count_rest c x xs in
-    let ih = two_count c xs i h (omega arith) (omega arith) at_i at_h (λ q. apart (ap suc q)) in
-    omega arith
+two_count c (x ∷ xs) (suc i) (suc h) low_i low_h at_i at_h apart = grind (arith, count_rest, two_count c xs i h (omega arith) (omega arith) at_i at_h)
 
 pub cycles_are : (g : GraphValue) (c : ℕ) → IsGraph g → c < component_count g → IsTrue (is_cycle g c) ↔ HasOtherMember g c
 unfolding count

@@ -5,7 +5,7 @@ use Rattle.std.specs.List.{All, flat_map, sum_by}
 use Rattle.std.specs.List.Sorted.{IsPermutation, IsSorted}
 use Rattle.std.specs.Ordering.{nat_cmp, is_lt, ordering_then}
 use Rattle.std.specs.Cmp.{IsTotalOrder}
-use Rattle.std.proofs.lemmas.Bool.{cases_Bool, cases_eq, cases_lt, cases_order, eqb-true, eqb-false, eq-eqb, ne_eqb, and_parts}
+use Rattle.std.proofs.lemmas.Bool.{cases_eq, cases_lt, eqb-true, eqb-false, eq-eqb, ne_eqb}
 use Rattle.std.proofs.lemmas.Bool.Decides.{nat_tests}
 use Rattle.std.proofs.lemmas.Cmp.{on_total, then_total, nat_cmp_total}
 use Rattle.std.proofs.lemmas.Grind.{take-set_at}
@@ -44,25 +44,17 @@ pub calls_in_moved : (arcs moved : List FunArc) → IsPermutation arcs moved →
 unfolding calls_in
 calls_in_moved arcs moved is f g = sum_by-IsPermutation (λ (b : FunArc). when (goes b f g) b.count) arcs moved is
 
-goes_itself : (f g : ℕ) → (f == f && g == g) ≡ true
-goes_itself f g = grind (arith, nat_tests)
-
 -- each arc has its part of the calls between its ends
 pub count_le_calls : (arcs : List FunArc) (i : ℕ) → i < length arcs → (get_or arcs i no_arc).count ≤ calls_in arcs (get_or arcs i no_arc).caller (get_or arcs i no_arc).callee
 unfolding calls_in
-count_le_calls arcs i below =
-    let a = get_or arcs i no_arc in
-    let le = get_or-le-sum_by (λ (b : FunArc). when (goes b a.caller a.callee) b.count) arcs i no_arc below in
-    let whole : when (goes a a.caller a.callee) a.count ≡ a.count = ap (λ (t : Bool). when t a.count) (goes_itself a.caller a.callee) in
-    omega arith
+count_le_calls arcs i below = grind (arith, get_or-le-sum_by)
 
 no_calls_in : (arcs : List FunArc) (f g : ℕ) → All (λ (a : FunArc). goes a f g ≡ false) arcs → calls_in arcs f g ≡ 0
 no_calls_in [] f g none = calls_in_none f g
 no_calls_in (a ∷ arcs) f g none =
     let first : when (goes a f g) a.count ≡ 0 = ap (λ (t : Bool). when t a.count) (none 0 no_arc (omega arith)) in
     let rest = no_calls_in arcs f g (λ i d below. none (suc i) d (omega arith)) in
-    let both = calls_in_cons a arcs f g in
-    omega arith
+    omega (arith, calls_in_cons a arcs f g)
 
 -- ---- lists in order
 
@@ -80,35 +72,14 @@ before_all f g arcs later = no_calls_in arcs f g (λ i d below. goes_elsewhere (
 
 -- of two arcs one comes before the other, or they have the same ends
 cases_ends : (p q f g : ℕ) → ((p < f) ⊎ ((p ≡ f) × (q < g))) ⊎ (((f < p) ⊎ ((f ≡ p) × (g < q))) ⊎ ((p ≡ f) × (q ≡ g)))
-cases_ends p q f g =
-    elim (cases_order p f) [
-      | inl same ↦ elim (cases_order q g) [
-        | inl also ↦ inr (inr (same, also))
-        | inr apart ↦ elim apart [
-          | inl less ↦ inl (inr (same, less))
-          | inr more ↦ inr (inl (inr (sym same, more)))
-        ]
-      ]
-      | inr apart ↦ elim apart [
-        | inl less ↦ inl (inl less)
-        | inr more ↦ inr (inl (inl more))
-      ]
-    ]
+cases_ends p q f g = grind arith
 
 before_trans : (p q f g m n : ℕ) → (p < f) ⊎ ((p ≡ f) × (q < g)) → (f < m) ⊎ ((f ≡ m) × (g < n)) → (p < m) ⊎ ((p ≡ m) × (q < n))
-before_trans p q f g m n one two =
-    ⊎_elim
-    (λ (less : p < f). ⊎_elim (λ (on : f < m). inl (omega arith)) (λ (on : (f ≡ m) × (g < n)). let same = on.0 in inl (omega arith)) two)
-    (λ (same : (p ≡ f) × (q < g)). ⊎_elim (λ (on : f < m). let at = same.0 in inl (omega arith)) (λ (on : (f ≡ m) × (g < n)). let low = same.1 in let lower = on.1 in inr (same.0 ∙ on.0, omega arith)) two)
-    one
+before_trans p q f g m n one two = grind arith
 
 -- the calls at the ends of the first arc are those of this arc
 first_calls : (a : FunArc) (arcs : List FunArc) → AreInOrder (a ∷ arcs) → calls_in (a ∷ arcs) a.caller a.callee ≡ a.count
-first_calls a arcs rising =
-    let rest = before_all a.caller a.callee arcs (first_in_order a arcs rising) in
-    let both = calls_in_cons a arcs a.caller a.callee in
-    let whole : when (goes a a.caller a.callee) a.count ≡ a.count = ap (λ (t : Bool). when t a.count) (goes_itself a.caller a.callee) in
-    omega arith
+first_calls a arcs rising = grind (arith, before_all a.caller a.callee arcs (first_in_order a arcs rising), calls_in_cons a arcs a.caller a.callee)
 
 -- where all arcs come behind these ends, there are no calls between them
 no_calls_before : (f g : ℕ) (b : FunArc) (arcs : List FunArc) → AreInOrder (b ∷ arcs) → (f < b.caller) ⊎ ((f ≡ b.caller) × (g < b.callee)) → calls_in (b ∷ arcs) f g ≡ 0
@@ -126,17 +97,11 @@ one_list : (xs ys : List FunArc) → AreInOrder xs → AreInOrder ys → All (λ
     → ((f g : ℕ) → calls_in xs f g ≡ calls_in ys f g) → xs ≡ ys
 one_list [] [] rise_x rise_y some_x some_y same = refl
 one_list [] (b ∷ ys) rise_x rise_y some_x some_y same =
-    let none = calls_in_none b.caller b.callee in
-    let some = first_calls b ys rise_y in
-    let calls = same b.caller b.callee in
     let count = some_y 0 no_arc (omega arith) in
-    absurd (omega arith)
+    absurd (omega (arith, calls_in_none b.caller b.callee, first_calls b ys rise_y))
 one_list (a ∷ xs) [] rise_x rise_y some_x some_y same =
-    let none = calls_in_none a.caller a.callee in
-    let some = first_calls a xs rise_x in
-    let calls = same a.caller a.callee in
     let count = some_x 0 no_arc (omega arith) in
-    absurd (omega arith)
+    absurd (omega (arith, calls_in_none a.caller a.callee, first_calls a xs rise_x))
 one_list (a ∷ xs) (b ∷ ys) rise_x rise_y some_x some_y same =
     ⊎_elim
     (λ (before : IsArcBefore a b).
@@ -190,15 +155,7 @@ between_calls calls h k f g apart = by (h == k) (calls h k == 0) (h == f) (k == 
   where
     by : (same none from to : Bool) → (h == k) ≡ same → (calls h k == 0) ≡ none → (h == f) ≡ from → (k == g) ≡ to
         → sum_by (λ (a : FunArc). when (a.caller == f && a.callee == g) a.count) (if same || none then [] else record { caller = h; callee = k; count = calls h k } ∷ []) ≡ when from (when to (calls h k))
-    by true none true true same is one two = absurd (apart (sym (eqb-true _ _ one) ∙ eqb-true _ _ same ∙ eqb-true _ _ two))
-    by true none true false same is one two = refl
-    by true none false to same is one two = refl
-    by false true true true same is one two = sym (eqb-true _ _ is)
-    by false true true false same is one two = refl
-    by false true false to same is one two = refl
-    by false false true true same is one two = let both : (h == f && k == g) ≡ true = rw (one, two) refl in rw both (omega arith)
-    by false false true false same is one two = let both : (h == f && k == g) ≡ false = rw (one, two) refl in rw both (omega arith)
-    by false false false to same is one two = let both : (h == f && k == g) ≡ false = rw one refl in rw both (omega arith)
+    by same none from to is also one two = grind (arith, eqb-true)
 
 calls_among : (calls : ℕ → ℕ → ℕ) (n f g : ℕ) → f < n → g < n → f ≢ g → calls_in (arcs_among n calls) f g ≡ calls f g
 unfolding calls_in arcs_among
@@ -227,15 +184,7 @@ no_calls_past n f g arcs below past =
     elsewhere n a.caller a.callee f g low_f low_g apart past)
   where
     elsewhere : (n p q f g : ℕ) → p < n → q < n → p ≢ q → (n ≤ f) ⊎ ((n ≤ g) ⊎ (f ≡ g)) → (p == f && q == g) ≡ false
-    elsewhere n p q f g low_p low_q apart past =
-        ⊎_elim
-        (λ (on : (p == f && q == g) ≡ true).
-        let both = and_parts (p == f) (q == g) on in
-        let at_f = eqb-true _ _ both.0 in
-        let at_g = eqb-true _ _ both.1 in
-        absurd (⊎_elim (λ (one : n ≤ f). omega arith) (λ (other : (n ≤ g) ⊎ (f ≡ g)). ⊎_elim (λ (two : n ≤ g). omega arith) (λ (same : f ≡ g). apart (at_f ∙ same ∙ sym at_g)) other) past))
-        (λ (off : (p == f && q == g) ≡ false). off)
-        (cases_Bool (p == f && q == g))
+    elsewhere n p q f g low_p low_q apart past = grind arith
 
 -- arcs between n functions, in order, are those that their calls make
 pub arcs_by_calls : (n : ℕ) (arcs : List FunArc) → AreInOrder arcs → All (IsArcBelow n) arcs → arcs ≡ arcs_among n (calls_in arcs)
@@ -291,23 +240,11 @@ module _ (pre : List FunArc) (last a : FunArc) (callers : last.caller ≡ a.call
       ∙ ap (λ (x : ℕ). when (x == f && a.callee == g) last.count + when (goes a f g) a.count) (sym callers) ∙ ap (λ (y : ℕ). when (last.caller == f && y == g) last.count + when (goes a f g) a.count) (sym callees)
     where
       split : (t : Bool) → when t (last.count + a.count) ≡ when t last.count + when t a.count
-      split true = refl
-      split false = refl
+      split t = grind arith
 
   -- the ends of the list are those that it had
   same_at : (i : ℕ) → i < length (pre ++ both ∷ []) → ((get_or (pre ++ both ∷ []) i no_arc).caller ≡ (get_or (pre ++ last ∷ []) i no_arc).caller) × ((get_or (pre ++ both ∷ []) i no_arc).callee ≡ (get_or (pre ++ last ∷ []) i no_arc).callee)
-  same_at i below =
-      ⊎_elim
-      (λ (front : i < length pre).
-      let same : get_or (pre ++ both ∷ []) i no_arc ≡ get_or (pre ++ last ∷ []) i no_arc = get_or_append_left pre (both ∷ []) no_arc i front ∙ sym (get_or_append_left pre (last ∷ []) no_arc i front) in
-      (ap (λ (b : FunArc). b.caller) same, ap (λ (b : FunArc). b.callee) same))
-      (λ (past : length pre ≤ i).
-      let long = length_push pre both in
-      let at : length pre ≡ i = omega arith in
-      let new : get_or (pre ++ both ∷ []) i no_arc ≡ both = get_or_push pre both no_arc i at in
-      let old : get_or (pre ++ last ∷ []) i no_arc ≡ last = get_or_push pre last no_arc i at in
-      (ap (λ (b : FunArc). b.caller) new ∙ sym (ap (λ (b : FunArc). b.caller) old), ap (λ (b : FunArc). b.callee) new ∙ sym (ap (λ (b : FunArc). b.callee) old)))
-      (cases_lt i (length pre))
+  same_at i below = grind (arith, get_or_append_left, length_push, get_or_push)
 
   still_in_order : AreInOrder (pre ++ last ∷ []) → AreInOrder (pre ++ both ∷ [])
   still_in_order rising i j less below =
@@ -364,14 +301,7 @@ ends_total : IsTotalOrder (λ (p q : ℕ × ℕ). ordering_then (nat_cmp p.0 q.0
 ends_total = then_total (on_total (λ (p : ℕ × ℕ). p.0) nat_cmp_total) (on_total (λ (p : ℕ × ℕ). p.1) nat_cmp_total)
 
 up_to_later : (p q f g : ℕ) → is_lt (ordering_then (nat_cmp f p) (nat_cmp g q)) ≡ false → (p < f) ⊎ ((p ≡ f) × (q ≤ g))
-up_to_later p q f g later =
-    elim (cases_order p f) [
-      | inl same ↦ inr (same, grind (arith, nat_tests))
-      | inr apart ↦ elim apart [
-        | inl less ↦ inl less
-        | inr more ↦ absurd (grind (arith, nat_tests))
-      ]
-    ]
+up_to_later p q f g later = grind arith
 
 -- those in front of an arc go up to its ends
 pub front_up_to : (arcs : List FunArc) → IsSorted by_ends arcs → (i : ℕ) → i < length arcs → All (IsUpTo (get_or arcs i no_arc).caller (get_or arcs i no_arc).callee) (take i arcs)
@@ -392,13 +322,7 @@ module _ (arcs : List FunArc) (n : ℕ) (a : FunArc) (inside : n < length arcs) 
   made_split some = let whole : n ≡ (n - 1) + 1 = omega arith in ap (λ (k : ℕ). take k arcs) whole ∙ take_more arcs (n - 1) no_arc (omega arith)
 
   pub last_fits : (bound : ℕ) → 0 < n → ((f g : ℕ) → calls_in (take n arcs) f g + a.count < bound) → (get_or arcs (n - 1) no_arc).count + a.count < bound
-  last_fits bound some fits =
-      let long = length-take-le n arcs (omega arith) in
-      let at : get_or (take n arcs) (n - 1) no_arc ≡ last_made = get_or-take n arcs (n - 1) no_arc (omega arith) in
-      let le = count_le_calls (take n arcs) (n - 1) (omega arith) in
-      let low = rw at at le in
-      let all = fits last_made.caller last_made.callee in
-      omega arith
+  last_fits bound some fits = grind (arith, length-take-le, get_or-take, count_le_calls)
 
   module _ (sorted : List FunArc) (merged : AreMerged sorted (take n arcs)) where
     pub made_into_last : 0 < n → (get_or arcs (n - 1) no_arc).caller ≡ a.caller → (get_or arcs (n - 1) no_arc).callee ≡ a.callee
@@ -461,5 +385,4 @@ arcs_same n c d same = λ i. flat_map (λ f. flat_map (λ g. one f g i) (numbers
     one f g = by (f == g) refl
       where
         by : (own : Bool) → (f == g) ≡ own → arc_unless own f g (c f g) ≡ arc_unless own f g (d f g)
-        by true is = refl
-        by false is = ap (arc_unless false f g) (same f g (eqb-false f g is))
+        by own is = grind (arith, eqb-false)

@@ -1,14 +1,13 @@
 -- Two numberings of the components of one graph are the same.
-use Rattle.std.proofs.Common.{◌≡◌, ◌≢◌, ◌<◌, ◌≤◌, ℕ, zero, suc, ◌&&◌, Bool, true, false, not, List, length, get_or, inl, inr, refl, ap, sym, ◌∙◌, ⊎_elim, arith}
+use Rattle.std.proofs.Common.{◌≡◌, ◌≢◌, ◌<◌, ◌≤◌, ℕ, zero, suc, Bool, true, false, List, length, inl, inr, refl, ap, sym, ◌∙◌, ⊎_elim, arith}
 use Rattle.std.specs.Prelude.{◌==◌, slice_index}
 use Rattle.std.proofs.lemmas.Bool.{cases_lt, cases_order, eqb-true, eqb-false, eq-eqb, not-true, and_parts, and_from}
 use Rattle.std.proofs.lemmas.Grind.{same_number_lists}
 use Rattle.call_cycles.specs.declared.graphs.FunArc.{FunArc}
 use Rattle.call_cycles.specs.Sums.{when}
-use Rattle.call_cycles.specs.Graph.{GraphValue, no_arc, IsGraph, component_of, component_count, head_of, source_of, target_of, is_outside, leaves, arc_count, arc_at}
+use Rattle.call_cycles.specs.Graph.{GraphValue, IsGraph, component_of, component_count, head_of, source_of, target_of, is_outside, leaves, arc_count, arc_at}
 use Rattle.call_cycles.specs.Parts.{graph_of_parts}
 use Rattle.call_cycles.proofs.SumLemmas.{max_ext, le_max_below}
-use Rattle.call_cycles.proofs.ListLemmas.{same_test}
 
 -- the ends of arcs are components of the graph
 pub source_within : (g : GraphValue) → IsGraph g → (i : ℕ) → i < arc_count g → source_of g i < component_count g
@@ -25,10 +24,8 @@ goes_down g is i below out =
     let t = target_of g i in
     let apart : s ≢ t = eqb-false s t (not-true _ out) in
     let mine : leaves g s i ≡ true = and_from _ _ out (eq-eqb s s refl) in
-    let high = is.components.levels.highest s (source_within g is i below) in
     let some = le_max_below (arc_count g) (λ j. when (leaves g s j) (suc (level (target_of g j)))) i below in
     let this : when (leaves g s i) (suc (level t)) ≡ suc (level t) = ap (λ (b : Bool). when b (suc (level t))) mine in
-    let lower : level t < level s = omega arith in
     elim (cases_order t s) [
       | inl at ↦ absurd (apart (sym at))
       | inr other ↦ elim other [
@@ -59,13 +56,11 @@ module _ (n : ℕ) (arcs : List FunArc) (s1 c1 h1 s2 c2 h2 : List ℕ) where
         let yn : y < n = b.heads_below _ (b.within f below) in
         let jx = (a.joined f x below xn).0 (sym (a.heads_in _ (a.within f below))) in
         let jy = (b.joined f y below yn).0 (sym (b.heads_in _ (b.within f below))) in
-        let one : head_of g2 (component_of g2 x) ≤ x = b.heads_least x xn in
-        let two : head_of g1 (component_of g1 y) ≤ y = a.heads_least y yn in
         let e1 : component_of g2 f ≡ component_of g2 x = (b.joined f x below xn).1 jx in
         let e2 : component_of g1 f ≡ component_of g1 y = (a.joined f y below yn).1 jy in
         let r1 : y ≡ head_of g2 (component_of g2 x) = ap (head_of g2) e1 in
         let r2 : x ≡ head_of g1 (component_of g1 y) = ap (head_of g1) e2 in
-        omega arith
+        omega (arith, b.heads_least x xn, a.heads_least y yn)
 
     -- the number in the second graph of the component that has the number c in the first
     other : ℕ → ℕ
@@ -87,18 +82,7 @@ module _ (n : ℕ) (arcs : List FunArc) (s1 c1 h1 s2 c2 h2 : List ℕ) where
         (is2.components.joined x f xn below).1 ((is1.components.joined x f xn below).0 (is1.components.heads_in _ (is1.components.within f below)))
 
     same_leaves : (c i : ℕ) → c < component_count g1 → i < length arcs → leaves g1 c i ≡ leaves g2 (other c) i
-    same_leaves c i below inside =
-        let f : ℕ = (get_or arcs i no_arc).caller in
-        let h : ℕ = (get_or arcs i no_arc).callee in
-        let fb : f < n = is1.arcs.callers i inside in
-        let hb : h < n = is1.arcs.callees i inside in
-        let ends : (component_of g1 f == component_of g1 h) ≡ (component_of g2 f == component_of g2 h) = same_test _ _ _ _
-        (λ q. (is2.components.joined f h fb hb).1 ((is1.components.joined f h fb hb).0 q))
-        (λ q. (is1.components.joined f h fb hb).1 ((is2.components.joined f h fb hb).0 q)) in
-        let here : (component_of g1 f == c) ≡ (component_of g2 f == other c) = same_test _ _ _ _
-        (λ q. sym (other_of f fb) ∙ ap other q)
-        (λ q. sym (is1.components.heads_in _ (is1.components.within f fb)) ∙ ap (component_of g1) (same_head f fb ∙ ap (head_of g2) q ∙ other_head c below) ∙ is1.components.heads_in c below) in
-        ap (λ (b : Bool). not b && component_of g1 f == c) ends ∙ ap (λ (b : Bool). not (component_of g2 f == component_of g2 h) && b) here
+    same_leaves c i below inside = grind (arith, other_of, same_head, other_head)
 
     same_level : (k c : ℕ) → c < k → c < component_count g1 → is1.components.level c ≡ is2.components.level (other c)
     same_level zero c low below = absurd (omega arith)
@@ -127,7 +111,6 @@ module _ (n : ℕ) (arcs : List FunArc) (s1 c1 h1 s2 c2 h2 : List ℕ) where
         let ld = same_level (suc d) d (omega arith) below in
         let hc = other_head c (omega arith) in
         let hd = other_head d below in
-        let l1 = is1.components.level in
         let first = is1.components.ordered c d less below in
         elim (cases_order (other c) (other d)) [
           | inl same ↦
@@ -151,10 +134,7 @@ module _ (n : ℕ) (arcs : List FunArc) (s1 c1 h1 s2 c2 h2 : List ℕ) where
 
     at_least : (c : ℕ) → c < component_count g1 → c ≤ other c
     at_least zero below = omega arith
-    at_least (suc c) below =
-        let ih = at_least c (omega arith) in
-        let up = rises c (suc c) (omega arith) below in
-        omega arith
+    at_least (suc c) below = grind (arith, rises, at_least c (omega arith))
 
 module _ (n : ℕ) (arcs : List FunArc) (s1 c1 h1 s2 c2 h2 : List ℕ) (is1 : IsGraph (graph_of_parts n arcs s1 c1 h1)) (is2 : IsGraph (graph_of_parts n arcs s2 c2 h2)) where
   not_above : (f : ℕ) → f < n → component_of (graph_of_parts n arcs s1 c1 h1) f ≤ component_of (graph_of_parts n arcs s2 c2 h2) f
@@ -170,9 +150,8 @@ module _ (n : ℕ) (arcs : List FunArc) (s1 c1 h1 s2 c2 h2 : List ℕ) (is1 : Is
 
     number_within : (c : ℕ) → c < length h1 → c < length h2
     number_within c below =
-        let at = same_number c below in
         let in_other = other_within n arcs s1 c1 h1 s2 c2 h2 is1 is2 c below in
-        omega arith
+        omega (arith, same_number c below)
 
     no_more : length h1 ≤ length h2
     no_more =

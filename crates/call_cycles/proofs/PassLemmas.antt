@@ -1,8 +1,8 @@
 -- The steps of a pass keep what holds of it.
-use Rattle.std.proofs.Common.{◌≡◌, ◌≢◌, ◌<◌, ◌≤◌, ℕ, zero, suc, ◌+◌, ◌-◌, ◌^◌, Bool, true, false, cond, List, [], ◌∷◌, ◌++◌, length, get_or, take, drop, Some, inl, inr, ◌⊎◌, refl, ap, sym, ◌∙◌, subst, ⊎_elim, arith, length-set, length-append, get_or-set_same, get_or-set_other}
+use Rattle.std.proofs.Common.{◌≡◌, ◌≢◌, ◌<◌, ◌≤◌, ℕ, zero, suc, ◌+◌, ◌-◌, Bool, true, false, List, [], ◌∷◌, ◌++◌, length, get_or, take, drop, Some, inl, inr, ◌⊎◌, refl, ap, sym, ◌∙◌, subst, ⊎_elim, arith, length-set, length-append, get_or-set_same, get_or-set_other}
 use Rattle.std.specs.Prelude.{◌==◌, ◌&&◌, nat_lt, nat_le, if◌then◌else◌, filter, slice_get, slice_index, slice_set}
 use Rattle.std.specs.List.{AllPairs, Contains, count_by, sum_by}
-use Rattle.std.proofs.lemmas.Bool.{cases_eq, cases_lt, eq-eqb, ne_eqb, true≢false, and_from, le-leb, leb-true, lt-ltb}
+use Rattle.std.proofs.lemmas.Bool.{cases_eq, cases_lt, eq-eqb, ne_eqb, le-leb, leb-true}
 use Rattle.std.proofs.lemmas.List.{get_or_default, get_or_push, get_or_append_left, length_push, length-take, get_or-take, length-drop, get_or-drop, take_at, take_all, take_more}
 use Rattle.std.proofs.lemmas.Option.{slice_get_within, get_or_from_slice_get}
 use Rattle.std.proofs.lemmas.List.Elements.{All-append, All-filter, All-contains, Contains-append_left, Contains-append_right, Contains-get_or, Contains-push, filter_passes}
@@ -10,11 +10,10 @@ use Rattle.std.proofs.lemmas.List.Kept.{AllPairs-filter}
 use Rattle.std.proofs.lemmas.List.Quantifiers.{all_pairs_push}
 use Rattle.std.proofs.lemmas.List.Sums.{sum_by-set}
 use Rattle.call_cycles.specs.declared.graphs.FunArc.{FunArc}
-use Rattle.call_cycles.specs.Graph.{no_arc}
 use Rattle.call_cycles.specs.Walks.{Reaches}
 use Rattle.call_cycles.specs.Arcs.{AreWithin, AreByCaller}
 use Rattle.call_cycles.specs.Leaders.{AreRanks, IsRankOrder}
-use Rattle.call_cycles.specs.Passes.{caller_at, callee_at, IsOpen, AllFollowed, IsSearch, PassValue, IsPass, IsNext, EndsIn, rank_in, place_in, unseen_count, work_left, with_seen, with_rank, with_component, CanLeave, left}
+use Rattle.call_cycles.specs.Passes.{caller_at, callee_at, IsOpen, AllFollowed, IsSearch, PassValue, IsPass, IsNext, EndsIn, rank_in, place_in, unseen_count, work_left, with_seen, with_rank, with_component, left}
 use Rattle.call_cycles.proofs.RankLemmas.{falls_along}
 use Rattle.call_cycles.proofs.RowLemmas.{row_contains, pairs_join, pairs_taken}
 use Rattle.call_cycles.proofs.SearchLemmas.{none_open, search_sees, search_passes, search_joins, search_returns, search_completes, part_le, reach_callee}
@@ -32,12 +31,7 @@ set_apart xs f x w apart = get_or-set_other xs f w x 0 apart
 module _ (n : ℕ) (arcs : List FunArc) (p : PassValue) (is : IsPass n arcs p) where
   -- one more is seen
   one_fewer : (f : ℕ) → f < n → place_in p f ≡ 0 → (x : ℕ) → x ≢ 0 → count_by (λ k. k == 0) (slice_set p.places f x) + 1 ≡ unseen_count p
-  one_fewer f below new x some =
-      let len = is.places in
-      let set = sum_by-set (λ (k : ℕ). cond (k == 0) 1 0) p.places f x 0 (omega arith) in
-      let was : ◌≡◌ {A = ℕ} (cond (slice_index p.places f == 0) 1 0) 1 = ap (λ (b : Bool). cond {A = ℕ} b 1 0) (eq-eqb (slice_index p.places f) 0 new) in
-      let now : ◌≡◌ {A = ℕ} (cond (x == 0) 1 0) 0 = ap (λ (b : Bool). cond {A = ℕ} b 1 0) (ne_eqb x 0 some) in
-      omega arith
+  one_fewer f below new x some = grind (arith, sum_by-set)
 
   late : (w : ℕ) → IsOpen (place_in p) (rank_in p) w → place_in p w < length p.path + 1
   late w open_w = let o = is.open_path w open_w in let o1 = o.1 in let o2 = o.2 in omega arith
@@ -59,43 +53,15 @@ module _ (n : ℕ) (arcs : List FunArc) (p : PassValue) (is : IsPass n arcs p) w
     seen_f none = let at = at_f in omega arith
 
     on_path : (k : ℕ) → k < length p.path + 1 → (slice_index q.path k < n) × IsOpen (place_in q) (rank_in q) (slice_index q.path k) × (place_in q (slice_index q.path k) ≡ suc k)
-    on_path k inside =
-        ⊎_elim
-        (λ (before : k < length p.path).
-        let o = is.path_open k before in
-        let same = get_or_append_left p.path (f ∷ []) 0 k before in
-        let apart : slice_index p.path k ≢ f = λ e. o.1.0 (ap (place_in p) e ∙ new) in
-        let place = at_other (slice_index p.path k) apart in
-        subst (λ (x : ℕ). (x < n) × IsOpen (place_in q) (rank_in q) x × (place_in q x ≡ suc k)) (sym same)
-        (o.0, (seen_still (slice_index p.path k) o.1.0, o.1.1), place ∙ o.2))
-        (λ (last : length p.path ≤ k).
-        let here : k ≡ length p.path = omega arith in
-        let same = get_or_push p.path f 0 k (sym here) in
-        let at = at_f in
-        subst (λ (x : ℕ). (x < n) × IsOpen (place_in q) (rank_in q) x × (place_in q x ≡ suc k)) (sym same)
-        (below, (seen_f, is.search.unseen f new), omega arith))
-        (cases_lt k (length p.path))
+    on_path k inside = grind (arith, get_or_append_left, at_other, get_or_push, at_f)
 
     in_path : (w : ℕ) → IsOpen (place_in q) (rank_in q) w → (k : ℕ) × (k < length q.path) × (place_in q w ≡ suc k) × (slice_index q.path k ≡ w)
-    in_path w open_w =
-        let long = length_push p.path f in
-        ⊎_elim
-        (λ (same : w ≡ f).
-        let at : place_in q w ≡ place_in q f = ap (place_in q) same in
-        let is_at = at_f in
-        (length p.path, omega arith, omega arith, get_or_push p.path f 0 (length p.path) refl ∙ sym same))
-        (λ (apart : w ≢ f).
-        let o = is.open_path w ((λ none. open_w.0 (at_other w apart ∙ none)), open_w.1) in
-        let o1 = o.1 in
-        (o.0, omega arith, at_other w apart ∙ o.2, get_or_append_left p.path (f ∷ []) 0 o.0 o.1 ∙ o.3))
-        (cases_eq w f)
+    in_path w open_w = grind (arith, length_push, at_f, get_or_push, at_other, get_or_append_left)
 
     parts_low : (k d : ℕ) → k < length p.parts → get_or p.parts k d < length p.path + 1
     parts_low k d inside =
         let b = is.search.begins (get_or p.parts k d) (Contains-get_or p.parts k d inside) in
-        let l = late b.0 (All-contains (IsOpen (place_in p) (rank_in p)) p.calls b.0 is.search.calls_open b.1) in
-        let b2 = b.2 in
-        omega arith
+        omega (arith, late b.0 (All-contains (IsOpen (place_in p) (rank_in p)) p.calls b.0 is.search.calls_open b.1), b.2)
 
     seen_pass : IsPass n arcs (with_seen p f)
     seen_pass = record {
@@ -125,10 +91,7 @@ module _ (n : ℕ) (arcs : List FunArc) (p : PassValue) (is : IsPass n arcs p) w
     }
 
     seen_nearer : work_left arcs (with_seen p f) < work_left arcs p
-    seen_nearer =
-        let one = one_fewer f below new (length p.path + 1) (λ e. omega arith) in
-        let long = length_push p.calls f in
-        omega arith
+    seen_nearer = grind (arith, one_fewer, length_push)
 
 -- ---- an arc is followed, and the parts from its callee's on are one where it is open
 
@@ -163,69 +126,21 @@ module _ (n : ℕ) (arcs : List FunArc) (within : AreWithin n arcs) (p : PassVal
   v_seen : place_in p (caller_at arcs i) ≢ 0
   v_seen = (All-contains (IsOpen (place_in p) (rank_in p)) (last.0 ++ caller_at arcs i ∷ []) (caller_at arcs i) at_last.calls_open (Contains-push last.0 (caller_at arcs i))).0
 
-  fresh' : (j : ℕ) → j < length arcs → place_in p (caller_at arcs j) ≡ 0 → slice_index next' (caller_at arcs j) ≤ j
-  fresh' j inside none =
-      let l = is.fresh j inside none in
-      let e = next_other (caller_at arcs j) (λ same. v_seen (sym (ap (place_in p) same) ∙ none)) in
-      omega arith
-
-  from' : (w j : ℕ) → w < n → j < length arcs → slice_index next' w ≤ j → w ≤ caller_at arcs j
-  from' w j low inside le =
-      ⊎_elim
-      (λ (same : w ≡ caller_at arcs i).
-      let e : slice_index next' w ≡ slice_index next' (caller_at arcs i) = ap (slice_index next') same in
-      let f : slice_index p.next w ≡ slice_index p.next (caller_at arcs i) = ap (slice_index p.next) same in
-      let at = next_at in
-      is.from w j low inside (omega arith))
-      (λ (apart : w ≢ caller_at arcs i). let e = next_other w apart in is.from w j low inside (omega arith))
-      (cases_eq w (caller_at arcs i))
-
   left_less : sum_by (λ k. length arcs - k) next' < sum_by (λ k. length arcs - k) p.next
   unfolding next' v
-  left_less =
-      let len = is.nexts in
-      let low = v_low in
-      let set = sum_by-set (λ (k : ℕ). length arcs - k) p.next (caller_at arcs i) (i + 1) 0 (omega arith) in
-      let was : length arcs - slice_index p.next (caller_at arcs i) ≡ length arcs - i = ap (λ (k : ℕ). length arcs - k) here in
-      omega arith
-
-  next_long : length next' ≡ n
-  unfolding next'
-  next_long = length-set p.next (caller_at arcs i) (i + 1) ∙ is.nexts
+  left_less = grind (arith, sum_by-set)
 
   with_parts : List ℕ → PassValue
   with_parts parts = record p { next = slice_set p.next (caller_at arcs i) (i + 1); parts = parts }
 
   followed_pass : (parts : List ℕ) → IsSearch arcs (place_in p) (rank_in p) (slice_index next') parts (last.0 ++ caller_at arcs i ∷ []) (length p.order) → AllPairs (λ a b. a < b) parts → IsNext n arcs p (with_parts parts)
   unfolding next' with_parts
-  followed_pass parts search rises = record {
-    pass = record {
-      search = subst (λ (xs : List ℕ). IsSearch arcs (place_in p) (rank_in p) (slice_index next') parts xs (length p.order)) (sym last.1) search;
-      places = is.places;
-      ranks = is.ranks;
-      nexts = next_long;
-      fresh = fresh';
-      from = from';
-      path_open = is.path_open;
-      open_path = is.open_path;
-      parts_rise = rises;
-      order_within = is.order_within;
-      order_ranked = is.order_ranked;
-      order_rises = is.order_rises;
-      ranked = is.ranked;
-      all = is.all;
-    };
-    nearer = let less = left_less in omega arith;
-    seen = λ w some. some;
-  }
+  followed_pass parts search rises = grind (arith, left_less, length-set, next_other, v_seen, next_at)
 
   -- to a function that is in a component
   pub passed_next : rank_in p (callee_at arcs i) ≢ 0 → IsNext n arcs p (record p { next = slice_set p.next (caller_at arcs i) (i + 1) })
   unfolding next' with_parts
-  passed_next to =
-      followed_pass p.parts
-      (search_passes arcs (place_in p) (rank_in p) (slice_index p.next) p.parts last.0 (caller_at arcs i) (length p.order) at_last i refl (slice_index next') next_at here next_other to)
-      is.parts_rise
+  passed_next to = search (followed_pass, search_passes, at_last, next', next_at, next_other)
 
   -- to an open function
   pub joined_next : IsOpen (place_in p) (rank_in p) (callee_at arcs i)
@@ -257,9 +172,7 @@ with_rank_keeps ranks (f ∷ fs) r w below is =
 
 with_rank_in : (ranks fs : List ℕ) (r w k : ℕ) → w < length ranks → k < length fs → get_or fs k w ≡ w → slice_index (with_rank ranks fs r) w ≡ r
 with_rank_in ranks [] r w k below inside at = absurd (omega arith)
-with_rank_in ranks (f ∷ fs) r w zero below inside at =
-    let long = length-set ranks f r in
-    with_rank_keeps (slice_set ranks f r) fs r w (omega arith) (set_at ranks f r w (omega arith) (sym at))
+with_rank_in ranks (f ∷ fs) r w zero below inside at = grind (arith, length-set, with_rank_keeps, set_at)
 with_rank_in ranks (f ∷ fs) r w (suc k) below inside at =
     let long = length-set ranks f r in
     with_rank_in (slice_set ranks f r) fs r w k (omega arith) (omega arith) at
@@ -299,8 +212,6 @@ module _ (n : ℕ) (arcs : List FunArc) (p : PassValue) (is : IsPass n arcs p) (
   part_cases : (b : ℕ) → Contains p.parts b → (b ≡ last_part) ⊎ ((b < last_part) × Contains (take (length p.parts - 1) p.parts) b)
   unfolding last_part
   part_cases b has =
-      let low = has.1 in
-      let is_b = has.2 in
       ⊎_elim
       (λ (at : has.0 ≡ length p.parts - 1). inl (sym has.2 ∙ get_or_default p.parts has.0 b 0 has.1 ∙ ap (slice_index p.parts) at))
       (λ (apart : has.0 ≢ length p.parts - 1).
@@ -314,7 +225,6 @@ module _ (n : ℕ) (arcs : List FunArc) (p : PassValue) (is : IsPass n arcs p) (
   unfolding last_part
   front_part b has =
       let long = length-take (length p.parts - 1) p.parts in
-      let low = has.1 in
       let up = is.parts_rise has.0 (length p.parts - 1) 0 (omega arith) (omega arith) in
       let at : get_or p.parts has.0 b ≡ b = sym (get_or-take (length p.parts - 1) p.parts has.0 b (omega arith)) ∙ has.2 in
       let e = get_or_default p.parts has.0 b 0 (omega arith) in
@@ -368,77 +278,29 @@ module _ (n : ℕ) (arcs : List FunArc) (p : PassValue) (is : IsPass n arcs p) (
     in_part : (w : ℕ) → IsOpen (place_in p) (rank_in p) w → place_in p v ≤ place_in p w → Contains part w
     in_part w open_w le =
         let o = is.open_path w open_w in
-        let o1 = o.1 in
-        let o2 = o.2 in
-        let some = v_on_path.0 in
         let long = part_long in
         let k : ℕ = o.0 - (place_in p v - 1) in
         let at : (place_in p v - 1) + k ≡ o.0 = omega arith in
         (k, omega arith, get_or-drop (place_in p v - 1) p.path k w ∙ ap (λ (j : ℕ). get_or p.path j w) at ∙ get_or_default p.path o.0 w 0 o.1 ∙ o.3)
 
     part_open : (k d : ℕ) → k < length part → IsOpen (place_in p) (rank_in p) (get_or part k d) × (place_in p v ≤ place_in p (get_or part k d)) × (get_or part k d < n)
-    part_open k d inside =
-        let long = part_long in
-        let low = from_low in
-        let o = is.path_open ((place_in p v - 1) + k) (omega arith) in
-        let same : slice_index p.path ((place_in p v - 1) + k) ≡ get_or part k d = get_or_default p.path ((place_in p v - 1) + k) 0 d (omega arith) ∙ sym (get_or-drop (place_in p v - 1) p.path k d) in
-        let o2 = o.2 in
-        subst (λ (x : ℕ). IsOpen (place_in p) (rank_in p) x × (place_in p v ≤ place_in p x) × (x < n)) same (o.1, omega arith, o.0)
+    part_open k d inside = grind (arith, part_long, get_or_default, get_or-drop)
 
     inside_part : (w : ℕ) → IsOpen (place_in p) (rank_in p) w → place_in p v ≤ place_in p w → rank' w ≡ more
-    inside_part w open_w le =
-        let has = in_part w open_w le in
-        let o = is.open_path w open_w in
-        let b = is.path_open o.0 o.1 in
-        let b0 = b.0 in
-        let o3 = o.3 in
-        let len = is.ranks in
-        with_rank_in p.ranks part more w has.0 (omega arith) has.1 has.2
+    inside_part w open_w le = grind (arith, in_part, with_rank_in)
 
     outside_part : (w : ℕ) → (IsOpen (place_in p) (rank_in p) w → place_in p w < place_in p v) → rank' w ≡ rank_in p w
-    outside_part w out =
-        with_rank_out p.ranks part more w (λ has. (
-        let b = part_open has.0 w has.1 in
-        let o : IsOpen (place_in p) (rank_in p) w = subst (IsOpen (place_in p) (rank_in p)) has.2 b.0 in
-        let less = out o in
-        let e : place_in p (get_or part has.0 w) ≡ place_in p w = ap (place_in p) has.2 in
-        let b1 = b.1 in
-        absurd (omega arith)))
+    outside_part w out = grind (arith, with_rank_out, part_open)
 
     ranked_still : (w : ℕ) → rank_in p w ≢ 0 → rank' w ≡ rank_in p w
     ranked_still w some = outside_part w (λ open_w. absurd (some open_w.1))
 
-    open_before : (w : ℕ) → IsOpen (place_in p) rank' w → IsOpen (place_in p) (rank_in p) w × (place_in p w < place_in p v)
-    open_before w open_w =
-        ⊎_elim
-        (λ (off : rank_in p w ≡ 0).
-        let was : IsOpen (place_in p) (rank_in p) w = (open_w.0, off) in
-        ⊎_elim
-        (λ (less : place_in p w < place_in p v). (was, less))
-        (λ (le : place_in p v ≤ place_in p w). let e = inside_part w was le in let z = open_w.1 in let low = from_low in absurd (omega arith))
-        (cases_lt (place_in p w) (place_in p v)))
-        (λ (some : rank_in p w ≢ 0). absurd (some (sym (ranked_still w some) ∙ open_w.1)))
-        (cases_eq (rank_in p w) 0)
-
     path_still : (k : ℕ) → k < length (take (place_in p v - 1) p.path)
         → (slice_index (take (place_in p v - 1) p.path) k < n) × IsOpen (place_in p) rank' (slice_index (take (place_in p v - 1) p.path) k) × (place_in p (slice_index (take (place_in p v - 1) p.path) k) ≡ suc k)
-    path_still k inside =
-        let long = length-take (place_in p v - 1) p.path in
-        let o = is.path_open k (omega arith) in
-        let o2 = o.2 in
-        let same = outside_part (slice_index p.path k) (λ open_w. omega arith) in
-        subst (λ (x : ℕ). (x < n) × IsOpen (place_in p) rank' x × (place_in p x ≡ suc k)) (sym (get_or-take (place_in p v - 1) p.path k 0 (omega arith)))
-        (o.0, (o.1.0, same ∙ o.1.1), o.2)
+    path_still k inside = grind (arith, length-take, outside_part, get_or-take)
 
     still_in_path : (w : ℕ) → IsOpen (place_in p) rank' w → (k : ℕ) × (k < length (take (place_in p v - 1) p.path)) × (place_in p w ≡ suc k) × (slice_index (take (place_in p v - 1) p.path) k ≡ w)
-    still_in_path w open_w =
-        let b = open_before w open_w in
-        let o = is.open_path w b.0 in
-        let o1 = o.1 in
-        let o2 = o.2 in
-        let b1 = b.1 in
-        let long = length-take (place_in p v - 1) p.path in
-        (o.0, omega arith, o.2, get_or-take (place_in p v - 1) p.path o.0 0 (omega arith) ∙ o.3)
+    still_in_path w open_w = grind (arith, length-take, get_or-take, inside_part, ranked_still)
 
     order_still : (f : ℕ) → rank_in p f ≢ 0 → (rank' f < more) × (rank' f ≡ rank_in p f)
     order_still f some = let e = ranked_still f some in let l = is.search.low f in let low = from_low in (omega arith, e)
@@ -481,8 +343,7 @@ module _ (n : ℕ) (arcs : List FunArc) (p : PassValue) (is : IsPass n arcs p) (
         (swapped (cases_eq (rank_in p w) 0))
       where
         swapped : {A B : Type 0} → A ⊎ B → B ⊎ A
-        swapped (inl a) = inr a
-        swapped (inr b) = inl b
+        swapped is = grind arith
 
     completed_next : IsNext n arcs p (with_component (record p { calls = last.0 }) (place_in p v - 1))
     unfolding last_part
@@ -537,10 +398,7 @@ seen_next n arcs p is f below new to_new = record {
 }
 
 popped : (xs : List ℕ) (x : ℕ) (last : EndsIn xs x) (long : ℕ) → long ≡ length xs → take (long - 1) xs ≡ last.0
-popped xs x last long is =
-    let all = length_push last.0 x in
-    let e : length xs ≡ length (last.0 ++ x ∷ []) = ap length last.1 in
-    ap (take (long - 1)) last.1 ∙ take_at last.0 (x ∷ []) (long - 1) (omega arith)
+popped xs x last long is = grind (arith, length_push, take_at)
 
 pub last_of : (xs : List ℕ) (x : ℕ) → slice_get xs (length xs - 1) ≡ Some x → EndsIn xs x
 last_of xs x is =
@@ -554,30 +412,7 @@ pub last_call_within : (n : ℕ) (arcs : List FunArc) (p : PassValue) → IsPass
 last_call_within n arcs p is f last =
     let open_f = All-contains (IsOpen (place_in p) (rank_in p)) p.calls f is.search.calls_open (subst (λ (xs : List ℕ). Contains xs f) (sym last.1) (Contains-push last.0 f)) in
     let o = is.open_path f open_f in
-    let b = is.path_open o.0 o.1 in
-    let b0 = b.0 in
-    let o3 = o.3 in
     omega arith
-
-pub can_leave : (n : ℕ) (arcs : List FunArc) (p : PassValue) → IsPass n arcs p → n < 2 ^ 32 → (f : ℕ) → EndsIn p.calls f → CanLeave p f
-can_leave n arcs p is few f last =
-    let open_f = All-contains (IsOpen (place_in p) (rank_in p)) p.calls f is.search.calls_open (subst (λ (xs : List ℕ). Contains xs f) (sym last.1) (Contains-push last.0 f)) in
-    let o = is.open_path f open_f in
-    let low = last_call_within n arcs p is f last in
-    let o1 = o.1 in
-    let o2 = o.2 in
-    let c = (is.search.cover f open_f).1.1 in
-    let len = is.places in
-    let ranks = is.ranks in
-    let a = is.all in
-    record {
-      within = omega arith;
-      seen = omega arith;
-      inside = omega arith;
-      some_part = omega arith;
-      path = λ k d below. (let b = is.path_open k below in let b0 = b.0 in let e = get_or_default p.path k 0 d below in omega arith);
-      few = omega arith;
-    }
 
 pub left_next : (n : ℕ) (arcs : List FunArc) (p : PassValue) → IsPass n arcs p → (f : ℕ) → EndsIn p.calls f → AllFollowed arcs (slice_index p.next) f → IsNext n arcs p (left p f)
 left_next n arcs p is f last all =
@@ -592,15 +427,7 @@ left_next n arcs p is f last all =
 -- the next arc is none of the function's own
 pub all_followed : (n : ℕ) (arcs : List FunArc) (p : PassValue) → IsPass n arcs p → AreByCaller arcs → (f : ℕ) → f < n
     → (nat_lt (slice_index p.next f) (length arcs) && caller_at arcs (slice_index p.next f) == f) ≡ false → AllFollowed arcs (slice_index p.next) f
-all_followed n arcs p is ordered f below none i inside mine =
-    ⊎_elim
-    (λ (early : i < slice_index p.next f). early)
-    (λ (late : slice_index p.next f ≤ i).
-    let here = is.from f (slice_index p.next f) below (omega arith) (omega arith) in
-    let up = ordered (slice_index p.next f) i no_arc late inside in
-    let on : (nat_lt (slice_index p.next f) (length arcs) && caller_at arcs (slice_index p.next f) == f) ≡ true = and_from _ _ (lt-ltb (slice_index p.next f) (length arcs) (omega arith)) (eq-eqb (caller_at arcs (slice_index p.next f)) f (omega arith)) in
-    absurd (true≢false (sym on ∙ none)))
-    (cases_lt i (slice_index p.next f))
+all_followed n arcs p is ordered f below none i inside mine = grind arith
 
 -- ---- a function with which the search begins anew, and the end
 
@@ -630,9 +457,4 @@ module _ (n : ℕ) (arcs : List FunArc) (p : PassValue) (is : IsPass n arcs p) (
         falls i below = (is.search.closed i below (all_ranked (caller_at arcs i) (within i below).0)).1
 
     pub ended_order : IsRankOrder n p.ranks p.order
-    ended_order = record {
-      few = (let a = is.all in omega arith);
-      within = is.order_within;
-      each = λ f below. is.ranked f (all_ranked f below);
-      rises = is.order_rises;
-    }
+    ended_order = grind (arith, all_ranked)

@@ -1,7 +1,7 @@
 -- How many functions are reached, and ranks that never rise along arcs.
-use Rattle.std.proofs.Common.{◌≡◌, ◌<◌, ◌≤◌, ◌↔◌, ℕ, zero, suc, ◌+◌, Bool, true, false, cond, List, [], ◌∷◌, length, get_or, refl, ap, sym, ◌∙◌, ⊎_elim, arith}
+use Rattle.std.proofs.Common.{◌≡◌, ◌<◌, ◌≤◌, ◌↔◌, ℕ, zero, suc, ◌+◌, Bool, true, false, cond, List, [], ◌∷◌, length, get_or, ap, sym, ◌∙◌, arith}
 use Rattle.std.specs.List.{count_by}
-use Rattle.std.proofs.lemmas.Bool.{true≢false, cases_Bool}
+use Rattle.std.proofs.lemmas.Bool.{true≢false}
 use Rattle.std.proofs.lemmas.List.Sums.{sum_by-cons}
 use Rattle.call_cycles.specs.declared.graphs.FunArc.{FunArc}
 use Rattle.std.specs.Prelude.{slice_index}
@@ -33,9 +33,7 @@ unfolding count
 count_cons b xs = sum_by-cons (λ (c : Bool). cond c 1 0) b xs
 
 bit_le : (a b : Bool) → (a ≡ true → b ≡ true) → cond a 1 0 ≤ cond b 1 0
-bit_le true true h = omega arith
-bit_le true false h = absurd (true≢false (sym (h refl)))
-bit_le false b h = omega arith
+bit_le a b h = grind (arith, true≢false)
 
 count_le : (xs ys : List Bool) → length xs ≡ length ys → ((i : ℕ) → i < length xs → get_or xs i false ≡ true → get_or ys i false ≡ true) → count xs ≤ count ys
 unfolding count
@@ -44,34 +42,21 @@ count_le [] (y ∷ ys) len h = absurd (omega arith)
 count_le (x ∷ xs) [] len h = absurd (omega arith)
 count_le (x ∷ xs) (y ∷ ys) len h =
     let ih = count_le xs ys (omega arith) (λ i below. h (suc i) (omega arith)) in
-    let b = bit_le x y (h 0 (omega arith)) in
-    let one = count_cons x xs in
-    let two = count_cons y ys in
-    omega arith
+    omega (arith, bit_le x y (h 0 (omega arith)), count_cons x xs, count_cons y ys)
 
 count_lt : (xs ys : List Bool) (k : ℕ) → length xs ≡ length ys → ((i : ℕ) → i < length xs → get_or xs i false ≡ true → get_or ys i false ≡ true)
     → k < length xs → get_or xs k false ≡ false → get_or ys k false ≡ true → count xs < count ys
 count_lt [] ys k len h below off on = absurd (omega arith)
 count_lt (x ∷ xs) [] k len h below off on = absurd (omega arith)
 count_lt (x ∷ xs) (y ∷ ys) zero len h below off on =
-    let ih = count_le xs ys (omega arith) (λ i b. h (suc i) (omega arith)) in
-    let one = count_cons x xs in
-    let two = count_cons y ys in
-    let bx : ◌≡◌ {A = ℕ} (cond x 1 0) 0 = ap (λ (b : Bool). cond {A = ℕ} b 1 0) off in
-    let by : ◌≡◌ {A = ℕ} (cond y 1 0) 1 = ap (λ (b : Bool). cond {A = ℕ} b 1 0) on in
-    omega arith
+    grind (arith, count_le xs ys (omega arith) (λ i b. h (suc i) (omega arith)), count_cons x xs, count_cons y ys)
 count_lt (x ∷ xs) (y ∷ ys) (suc k) len h below off on =
     let ih = count_lt xs ys k (omega arith) (λ i b. h (suc i) (omega arith)) (omega arith) off on in
-    let b = bit_le x y (h 0 (omega arith)) in
-    let one = count_cons x xs in
-    let two = count_cons y ys in
-    omega arith
+    omega (arith, bit_le x y (h 0 (omega arith)), count_cons x xs, count_cons y ys)
 
 module _ (n : ℕ) (arcs : List FunArc) (f h a b : ℕ) (f_below : f < n) (h_below : h < n) (at_f : IsCount n arcs f a) (at_h : IsCount n arcs h b) where
   subset : Reaches arcs f h → (i : ℕ) → i < length at_h.0 → get_or at_h.0 i false ≡ true → get_or at_f.0 i false ≡ true
-  subset r i below on =
-      let len = at_h.1.len in
-      (at_f.1.each i (omega arith)).1 (reaches_on arcs f h i r ((at_h.1.each i (omega arith)).0 on))
+  subset r i below on = grind (arith, reaches_on)
 
   rank_falls : Reaches arcs f h → b ≤ a
   unfolding count
@@ -79,16 +64,7 @@ module _ (n : ℕ) (arcs : List FunArc) (f h a b : ℕ) (f_below : f < n) (h_bel
 
   rank_same_back : Reaches arcs f h → b ≡ a → Reaches arcs h f
   unfolding count
-  rank_same_back r same =
-      ⊎_elim
-      (λ (on : get_or at_h.0 f false ≡ true). (at_h.1.each f f_below).0 on)
-      (λ (off : get_or at_h.0 f false ≡ false).
-      let len = at_h.1.len in
-      let less = count_lt at_h.0 at_f.0 f (at_h.1.len ∙ sym at_f.1.len) (subset r) (omega arith) off ((at_f.1.each f f_below).1 (reaches_itself arcs f)) in
-      let p = at_f.2 in
-      let q = at_h.2 in
-      absurd (omega arith))
-      (cases_Bool (get_or at_h.0 f false))
+  rank_same_back r same = grind (arith, count_lt, subset, reaches_itself)
 
 rank_stays : (n : ℕ) (arcs : List FunArc) (f h a b : ℕ) → f < n → h < n → IsCount n arcs f a → IsCount n arcs h b → Reaches arcs f h → (b ≡ a) ↔ Reaches arcs h f
 rank_stays n arcs f h a b f_below h_below at_f at_h r = (
@@ -113,7 +89,6 @@ walk_falls arcs rank falls f g [] walk = let e : rank f ≡ rank g = ap rank wal
 walk_falls arcs rank falls f g (a ∷ w) walk =
     let at = one_is_at arcs a walk.0 in
     let rest = walk_falls arcs rank falls a.callee g w walk.2 in
-    let here = falls at.0 at.1 in
     let from : rank (get_or arcs at.0 no_arc).caller ≡ rank f = ap rank (ap (λ (b : FunArc). b.caller) at.2 ∙ walk.1) in
     let to : rank (get_or arcs at.0 no_arc).callee ≡ rank a.callee = ap (λ (b : FunArc). rank b.callee) at.2 in
     omega arith

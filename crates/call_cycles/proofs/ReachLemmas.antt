@@ -26,11 +26,7 @@ module _ (arcs : List FunArc) where
       subst (λ (x : ℕ). Reaches arcs x g) from (subst (Reaches arcs (get_or arcs a.0 no_arc).caller) to (reaches_by arcs a.0 a.2))
 
   over_reaches : (k f g : ℕ) → reaches_over arcs k f g ≡ true → Reaches arcs f g
-  over_reaches zero f g on =
-      ⊎_elim
-      (λ (same : (f == g) ≡ true). subst (Reaches arcs f) (eqb-true f g same) (reaches_itself arcs f))
-      (λ (arc : has_arc arcs f g ≡ true). arc_reaches f g arc)
-      (or_cases (f == g) (has_arc arcs f g) on)
+  over_reaches zero f g on = grind (arith, reaches_itself, arc_reaches)
   over_reaches (suc k) f g on =
       ⊎_elim
       (λ (before : reaches_over arcs k f g ≡ true). over_reaches k f g before)
@@ -49,18 +45,10 @@ module _ (arcs : List FunArc) where
 
   -- what comes to k or goes from it needs no k between
   over_to : (k f : ℕ) → reaches_over arcs (suc k) f k ≡ true → reaches_over arcs k f k ≡ true
-  over_to k f on =
-      ⊎_elim
-      (λ (before : reaches_over arcs k f k ≡ true). before)
-      (λ (both : (reaches_over arcs k f k && reaches_over arcs k k k) ≡ true). (and_parts _ _ both).0)
-      (or_cases (reaches_over arcs k f k) (reaches_over arcs k f k && reaches_over arcs k k k) on)
+  over_to k f on = grind arith
 
   over_from : (k g : ℕ) → reaches_over arcs (suc k) k g ≡ true → reaches_over arcs k k g ≡ true
-  over_from k g on =
-      ⊎_elim
-      (λ (before : reaches_over arcs k k g ≡ true). before)
-      (λ (both : (reaches_over arcs k k k && reaches_over arcs k k g) ≡ true). (and_parts _ _ both).1)
-      (or_cases (reaches_over arcs k k g) (reaches_over arcs k k k && reaches_over arcs k k g) on)
+  over_from k g on = grind arith
 
   -- two walks joined at a function that may stand between
   over_through : (k x f g : ℕ) → x < k → reaches_over arcs k f x ≡ true → reaches_over arcs k x g ≡ true → reaches_over arcs k f g ≡ true
@@ -99,7 +87,6 @@ module _ (n : ℕ) (arcs : List FunArc) (within : AreWithin n arcs) where
       let at = one_is_at arcs a walk.0 in
       let from : (get_or arcs at.0 no_arc).caller ≡ f = ap (λ (b : FunArc). b.caller) at.2 ∙ walk.1 in
       let to : (get_or arcs at.0 no_arc).callee ≡ a.callee = ap (λ (b : FunArc). b.callee) at.2 in
-      let low = (within at.0 at.1).1 in
       let inside : a.callee < n = omega arith in
       let first = over_more arcs n f a.callee (or_right _ _ (arc_at arcs f a.callee at.0 at.1 from to)) in
       over_through arcs n a.callee f g inside first (walk_over a.callee g w walk.2)
@@ -109,7 +96,4 @@ module _ (n : ℕ) (arcs : List FunArc) (within : AreWithin n arcs) where
   reaches_is f g = (over_reaches arcs n f g, λ r. walk_over f g r.0 r.1)
 
   pub joined_is : (f g : ℕ) → (are_joined n arcs f g ≡ true) ↔ AreJoined arcs f g
-  joined_is f g = (
-    λ on. (let parts = and_parts _ _ on in ((reaches_is f g).0 parts.0, (reaches_is g f).0 parts.1)),
-    λ joined. and_from _ _ ((reaches_is f g).1 joined.0) ((reaches_is g f).1 joined.1),
-  )
+  joined_is f g = grind (arith, reaches_is)

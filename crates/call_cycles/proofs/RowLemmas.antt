@@ -11,31 +11,19 @@ use Rattle.call_cycles.specs.Sums.{numbers_below}
 use Rattle.call_cycles.proofs.SumLemmas.{flat_more, all_flat}
 
 pub numbers_contain : (n k : ℕ) → k < n → Contains (numbers_below n) k
-numbers_contain n k below =
-    let long = length-range_with_len 0 n in
-    let at = get_or-range_with_len 0 n k k below in
-    (k, omega arith, omega arith)
+numbers_contain n k below = grind (arith, length-range_with_len 0 n, get_or-range_with_len 0 n k k below)
 
 pub numbers_low : (n : ℕ) → All (λ k. k < n) (numbers_below n)
-numbers_low n k d below =
-    let long = length-range_with_len 0 n in
-    let at = get_or-range_with_len 0 n k d (omega arith) in
-    omega arith
+numbers_low n k d below = grind (arith, length-range_with_len, get_or-range_with_len)
 
 pub numbers_rise : (n : ℕ) → AllPairs (λ a b. a < b) (numbers_below n)
-numbers_rise n i j d less below =
-    let long = length-range_with_len 0 n in
-    let one = get_or-range_with_len 0 n i d (omega arith) in
-    let two = get_or-range_with_len 0 n j d (omega arith) in
-    omega arith
+numbers_rise n i j d less below = grind (arith, length-range_with_len, get_or-range_with_len)
 
 -- ---- one row
 
 filter_contains : {X : Type 0} (p : X → Bool) (xs : List X) (x : X) (i : ℕ) → i < length xs → get_or xs i x ≡ x → p x ≡ true → Contains (filter p xs) x
 filter_contains p [] x i below at passes = absurd (omega arith)
-filter_contains {X} p (y ∷ ys) x zero below at passes =
-    let first : p y ≡ true = ap p at ∙ passes in
-    subst (λ (b : Bool). Contains (cond b (y ∷ filter p ys) (filter p ys)) x) (sym first) (zero, omega arith, at)
+filter_contains {X} p (y ∷ ys) x zero below at passes = grind arith
 filter_contains {X} p (y ∷ ys) x (suc i) below at passes =
     let rest = filter_contains p ys x i (omega arith) at passes in
     ⊎_elim
@@ -101,9 +89,4 @@ last_within xs top k rises last within =
     (cases_eq i k))))
 
 pub pairs_taken : (k : ℕ) (xs : List ℕ) → AllPairs (λ a b. a < b) xs → AllPairs (λ a b. a < b) (take k xs)
-pairs_taken k xs rises i j d less below =
-    let long = length-take k xs in
-    let one = get_or-take k xs i d (omega arith) in
-    let two = get_or-take k xs j d (omega arith) in
-    let up = rises i j d less (omega arith) in
-    omega arith
+pairs_taken k xs rises i j d less below = grind (arith, length-take, get_or-take)

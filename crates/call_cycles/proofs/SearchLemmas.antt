@@ -13,16 +13,10 @@ use Rattle.call_cycles.proofs.WalkLemmas.{reaches_itself, reaches_on, reaches_by
 -- ---- pairs of a list with a last element
 
 pairs_front : {X : Type 0} (R : X → X → Type 0) (xs : List X) (y : X) → AllPairs R (xs ++ y ∷ []) → AllPairs R xs
-pairs_front {X} R xs y all i j d less below =
-    let long = length_push xs y in
-    subst (λ (x : X). R x (get_or xs j d)) (get_or_append_left xs (y ∷ []) d i (omega arith))
-    (subst (R (get_or (xs ++ y ∷ []) i d)) (get_or_append_left xs (y ∷ []) d j below) (all i j d less (omega arith)))
+pairs_front {X} R xs y all i j d less below = grind (arith, length_push, get_or_append_left)
 
 pairs_last : {X : Type 0} (R : X → X → Type 0) (xs : List X) (y : X) → AllPairs R (xs ++ y ∷ []) → All (λ x. R x y) xs
-pairs_last {X} R xs y all i d below =
-    let long = length_push xs y in
-    subst (λ (x : X). R x y) (get_or_append_left xs (y ∷ []) d i below)
-    (subst (R (get_or (xs ++ y ∷ []) i d)) (get_or_push xs y d (length xs) refl) (all i (length xs) d below (omega arith)))
+pairs_last {X} R xs y all i d below = grind (arith, length_push, get_or_append_left, get_or_push)
 
 contains_none : {X : Type 0} (x : X) → Contains [] x → ⊥
 contains_none x has = let below = has.1 in absurd (omega arith)
@@ -54,23 +48,12 @@ module _ (arcs : List FunArc) (place rank next : ℕ → ℕ) (parts calls : Lis
 
     -- what is open now
     was_open : (w : ℕ) → IsOpen place' rank w → (w ≡ g) ⊎ IsOpen place rank w
-    was_open w open_w =
-        ⊎_elim
-        (λ (same : w ≡ g). inl same)
-        (λ (other : w ≢ g). inr ((λ none. open_w.0 (others w other ∙ none)), open_w.1))
-        (cases_eq w g)
+    was_open w open_w = grind arith
 
     -- two that are open now: each is the new one or was open
     pairs : (P : ℕ → ℕ → Type 0) → P g g → ((w : ℕ) → IsOpen place rank w → P g w) → ((u : ℕ) → IsOpen place rank u → P u g)
         → ((u w : ℕ) → IsOpen place rank u → IsOpen place rank w → P u w) → (u w : ℕ) → IsOpen place' rank u → IsOpen place' rank w → P u w
-    pairs P both first second neither u w open_u open_w =
-        ⊎_elim
-        (λ (new_u : u ≡ g).
-        subst (λ (x : ℕ). P x w) (sym new_u)
-        (⊎_elim (λ (new_w : w ≡ g). subst (P g) (sym new_w) both) (λ (old_w : IsOpen place rank w). first w old_w) (was_open w open_w)))
-        (λ (old_u : IsOpen place rank u).
-        ⊎_elim (λ (new_w : w ≡ g). subst (P u) (sym new_w) (second u old_u)) (λ (old_w : IsOpen place rank w). neither u w old_u old_w) (was_open w open_w))
-        (was_open u open_u)
+    pairs P both first second neither u w open_u open_w = grind arith
 
     still_none : (p q : ℕ) → q < fresh → NoPart parts p q → NoPart (parts ++ fresh ∷ []) p q
     still_none p q early none b has above within =
@@ -85,8 +68,6 @@ module _ (arcs : List FunArc) (place rank next : ℕ → ℕ) (parts calls : Lis
         let to = r.0 in
         let same_from = old_same (caller_at arcs i) from in
         let same_to = old_same (callee_at arcs i) to in
-        let early_from = late (caller_at arcs i) from in
-        let early_to = late (callee_at arcs i) to in
         inr (
           old_open (callee_at arcs i) to,
           still_none (place' (caller_at arcs i)) (place' (callee_at arcs i)) (omega arith) (λ b has above within. r.1 b has (omega arith) (omega arith)),
@@ -157,7 +138,6 @@ module _ (arcs : List FunArc) (place rank next : ℕ → ℕ) (parts rest : List
   pub part_le : (b : ℕ) → Contains parts b → b ≤ place v
   part_le b has =
       let r = is.begins b has in
-      let r2 = r.2 in
       ⊎_elim
       (λ (deep : Contains rest r.0). let less = rest_below r.0 deep in omega arith)
       (λ (same : v ≡ r.0). let e : place v ≡ place r.0 = ap place same in omega arith)
@@ -176,38 +156,15 @@ module _ (arcs : List FunArc) (place rank next : ℕ → ℕ) (parts rest : List
 
   module _ (i : ℕ) (from : caller_at arcs i ≡ v) (next' : ℕ → ℕ) (at : next' v ≡ suc i) (here : next v ≡ i) (others : (w : ℕ) → w ≢ v → next' w ≡ next w) where
     finished_on : (w : ℕ) → IsOpen place rank w → (Contains (rest ++ v ∷ []) w → ⊥) → AllFollowed arcs next' w
-    finished_on w open_w out j below mine =
-        let early = is.finished w open_w out j below mine in
-        let same = others w (λ this. out (subst (Contains (rest ++ v ∷ [])) (sym this) (Contains-push rest v))) in
-        omega arith
+    finished_on w open_w out j below mine = grind arith
 
     -- an arc that was followed is the one that is followed now, or was followed before
     followed_on : (P : ℕ → Type 0) → P i → ((j : ℕ) → j < length arcs → IsOpen place rank (caller_at arcs j) → j < next (caller_at arcs j) → P j) → (j : ℕ) → j < length arcs → IsOpen place rank (caller_at arcs j) → j < next' (caller_at arcs j) → P j
-    followed_on P now before j below open_c early =
-        ⊎_elim
-        (λ (mine : caller_at arcs j ≡ v).
-        let e : next' (caller_at arcs j) ≡ next' v = ap next' mine in
-        let f : next (caller_at arcs j) ≡ next v = ap next mine in
-        ⊎_elim (λ (this : j ≡ i). subst P (sym this) now) (λ (older : j ≢ i). before j below open_c (omega arith)) (cases_eq j i))
-        (λ (other : caller_at arcs j ≢ v). let e = others (caller_at arcs j) other in before j below open_c (omega arith))
-        (cases_eq (caller_at arcs j) v)
+    followed_on P now before j below open_c early = grind arith
 
     -- an arc to a function that has a component
     pub search_passes : rank (callee_at arcs i) ≢ 0 → IsSearch arcs place rank next' parts (rest ++ v ∷ []) done
-    search_passes to = record {
-      unseen = is.unseen;
-      low = is.low;
-      later = is.later;
-      back = is.back;
-      closed = is.closed;
-      together = is.together;
-      followed = followed_on (IsFollowed arcs place rank parts) (inl to) is.followed;
-      cover = is.cover;
-      begins = is.begins;
-      calls_open = is.calls_open;
-      calls_rise = is.calls_rise;
-      finished = finished_on;
-    }
+    search_passes to = grind arith
 
     -- an arc to an open function: the parts from it on become one
     module _ (below : i < length arcs) (to : IsOpen place rank (callee_at arcs i)) (parts' : List ℕ)
@@ -269,9 +226,7 @@ module _ (arcs : List FunArc) (place rank next : ℕ → ℕ) (parts rest : List
         (cases_eq w v)
 
     rest_open : All (IsOpen place rank) rest
-    rest_open k d below =
-        subst (IsOpen place rank) (get_or_append_left rest (v ∷ []) d k below)
-        (is.calls_open k d (let long = length_push rest v in omega arith))
+    rest_open k d below = grind (arith, get_or_append_left, length_push)
 
     -- its part goes on further back
     pub search_returns : (Contains parts (place v) → ⊥) → IsSearch arcs place rank next parts rest done
@@ -323,11 +278,7 @@ module _ (arcs : List FunArc) (place rank next : ℕ → ℕ) (parts rest : List
           old out = inr (out, outside w out)
 
       still_open : (w : ℕ) → IsOpen place rank' w → IsOpen place rank w × (place w < place v)
-      still_open w open_w =
-          ⊎_elim
-          (λ (new : IsNew w). let r = new.2 in let z = open_w.1 in absurd (omega arith))
-          (λ (old : IsOld w). let was : IsOpen place rank w = (open_w.0, sym old.1 ∙ open_w.1) in (was, old.0 was))
-          (sides w)
+      still_open w open_w = grind arith
 
       -- what has a rank keeps it
       ranked_same : (w : ℕ) → rank w ≢ 0 → rank' w ≡ rank w
@@ -340,20 +291,11 @@ module _ (arcs : List FunArc) (place rank next : ℕ → ℕ) (parts rest : List
       shorter p q none b has above within = none b (kept b has).0 above within
 
       closed_old : (j : ℕ) → j < length arcs → rank (caller_at arcs j) ≢ 0 → rank' (caller_at arcs j) ≡ rank (caller_at arcs j) → (rank' (callee_at arcs j) ≢ 0) × (rank' (callee_at arcs j) ≤ rank' (caller_at arcs j))
-      closed_old j below ranked same =
-          let c = is.closed j below ranked in
-          let e = ranked_same (callee_at arcs j) c.0 in
-          let c1 = c.1 in
-          ((λ q. c.0 (sym e ∙ q)), omega arith)
+      closed_old j below ranked same = grind arith
 
       closed_new : (j : ℕ) → IsNew (caller_at arcs j) → IsFollowed arcs place rank parts j → (rank' (callee_at arcs j) ≢ 0) × (rank' (callee_at arcs j) ≤ rank' (caller_at arcs j))
-      closed_new j new (inl ranked) =
-          let e = ranked_same (callee_at arcs j) ranked in
-          let l = is.low (callee_at arcs j) in
-          let m = new.2 in
-          ((λ q. ranked (sym e ∙ q)), omega arith)
+      closed_new j new (inl ranked) = grind arith
       closed_new j new (inr r) =
-          let m = new.2 in
           ⊎_elim
           (λ (also : IsNew (callee_at arcs j)). let o = also.2 in ((λ q. omega arith), omega arith))
           (λ (old : IsOld (callee_at arcs j)). absurd (r.2 (place v) own (old.0 r.0) new.1))

@@ -1,5 +1,5 @@
 -- Sums below a number: equal terms, sums of sums, sums by a key.
-use Rattle.std.proofs.Common.{◌≡◌, ◌≢◌, ◌<◌, ◌≤◌, ℕ, zero, suc, ◌+◌, Bool, true, false, ◌&&◌, List, [], ◌∷◌, ◌++◌, length, get_or, take, append-nil, subst, refl, ap, sym, ◌∙◌, inl, inr, ⊎_elim, arith}
+use Rattle.std.proofs.Common.{◌≡◌, ◌≢◌, ◌<◌, ◌≤◌, ℕ, zero, suc, ◌+◌, Bool, ◌&&◌, List, [], ◌∷◌, ◌++◌, length, get_or, take, append-nil, subst, refl, ap, sym, ◌∙◌, inl, inr, ⊎_elim, arith}
 use Rattle.std.specs.Prelude.{◌==◌}
 use Rattle.std.proofs.lemmas.Bool.{cases_eq, cases_order, eq-eqb, ne_eqb}
 use Rattle.std.specs.List.{All, flat_map, range_with_len, sum_by}
@@ -10,10 +10,7 @@ use Rattle.call_cycles.specs.Sums.{sum_below, max_below, when, numbers_below}
 
 pub sum_ext : (n : ℕ) (f g : ℕ → ℕ) → ((i : ℕ) → i < n → f i ≡ g i) → sum_below n f ≡ sum_below n g
 sum_ext zero f g same = refl
-sum_ext (suc n) f g same =
-    let ih = sum_ext n f g (λ i h. same i (omega arith)) in
-    let last = same n (omega arith) in
-    omega arith
+sum_ext (suc n) f g same = grind (arith, sum_ext n f g)
 
 pub sum_add : (n : ℕ) (f g : ℕ → ℕ) → sum_below n (λ i. f i + g i) ≡ sum_below n f + sum_below n g
 sum_add zero f g = refl
@@ -27,16 +24,10 @@ pub sum_none : (n : ℕ) (f : ℕ → ℕ) → ((i : ℕ) → i < n → f i ≡ 
 sum_none n f none = sum_ext n f (λ i. 0) none ∙ sum_zero n
 
 when_here : (b o : Bool) (k c x : ℕ) → k ≡ c → when b (when (o && k == c) x) ≡ when (o && b) x
-when_here true true k c x at = rw (eq-eqb k c at) refl
-when_here true false k c x at = refl
-when_here false true k c x at = refl
-when_here false false k c x at = refl
+when_here b o k c x at = grind (arith, eq-eqb)
 
 when_other : (b o : Bool) (k c x : ℕ) → k ≢ c → when b (when (o && k == c) x) ≡ 0
-when_other true true k c x apart = rw (ne_eqb k c apart) refl
-when_other true false k c x apart = refl
-when_other false true k c x apart = refl
-when_other false false k c x apart = refl
+when_other b o k c x apart = grind (arith, ne_eqb)
 
 -- of the keys below n one is k
 pub sum_at : (n : ℕ) (set : ℕ → Bool) (o : Bool) (k x : ℕ) → k < n → sum_below n (λ c. when (set c) (when (o && k == c) x)) ≡ when (o && set k) x
@@ -56,14 +47,10 @@ sum_at (suc n) set o k x below =
 
 pub sum_mono : (n : ℕ) (f g : ℕ → ℕ) → ((i : ℕ) → i < n → f i ≤ g i) → sum_below n f ≤ sum_below n g
 sum_mono zero f g below = omega arith
-sum_mono (suc n) f g below =
-    let ih = sum_mono n f g (λ i h. below i (omega arith)) in
-    let last = below n (omega arith) in
-    omega arith
+sum_mono (suc n) f g below = grind (arith, sum_mono n f g)
 
 pub when_le : (b : Bool) (x : ℕ) → when b x ≤ x
-when_le true x = omega arith
-when_le false x = omega arith
+when_le b x = grind arith
 
 pub sum_front_le : (n m : ℕ) (f : ℕ → ℕ) → n ≤ m → sum_below n f ≤ sum_below m f
 sum_front_le n zero f le = let none : n ≡ 0 = omega arith in rw none (omega arith)
@@ -75,17 +62,11 @@ sum_front_le n (suc m) f le =
 
 pub max_least : (n : ℕ) (f : ℕ → ℕ) (most : ℕ) → ((i : ℕ) → i < n → f i ≤ most) → max_below n f ≤ most
 max_least zero f most le = omega arith
-max_least (suc n) f most le =
-    let ih = max_least n f most (λ i h. le i (omega arith)) in
-    let last = le n (omega arith) in
-    omega arith
+max_least (suc n) f most le = grind (arith, max_least n f most)
 
 pub max_ext : (n : ℕ) (f g : ℕ → ℕ) → ((i : ℕ) → i < n → f i ≡ g i) → max_below n f ≡ max_below n g
 max_ext zero f g same = refl
-max_ext (suc n) f g same =
-    let ih = max_ext n f g (λ i h. same i (omega arith)) in
-    let last = same n (omega arith) in
-    omega arith
+max_ext (suc n) f g same = grind (arith, max_ext n f g)
 
 pub le_max_below : (n : ℕ) (f : ℕ → ℕ) (i : ℕ) → i < n → f i ≤ max_below n f
 le_max_below zero f i below = absurd (omega arith)
@@ -102,9 +83,7 @@ le_max_below (suc n) f i below =
 
 range_more : (a n : ℕ) → range_with_len a (suc n) ≡ range_with_len a n ++ (a + n) ∷ []
 range_more a zero = let e : a ≡ a + 0 = omega arith in ap (λ (x : ℕ). x ∷ []) e
-range_more a (suc n) =
-    let e : (a + 1) + n ≡ a + suc n = omega arith in
-    ap (λ (xs : List ℕ). a ∷ xs) (range_more (a + 1) n ∙ ap (λ (x : ℕ). range_with_len (a + 1) n ++ x ∷ []) e)
+range_more a (suc n) = grind (arith, range_more (a + 1) n)
 
 numbers_more : (n : ℕ) → numbers_below (suc n) ≡ numbers_below n ++ n ∷ []
 numbers_more n = let e : 0 + n ≡ n = omega arith in range_more 0 n ∙ ap (λ (x : ℕ). numbers_below n ++ x ∷ []) e
@@ -117,10 +96,7 @@ flat_more {A} h n =
 
 pub sum_flat : {A : Type 0} (weight : A → ℕ) (h : ℕ → List A) (n : ℕ) → sum_by weight (flat_map h (numbers_below n)) ≡ sum_below n (λ k. sum_by weight (h k))
 sum_flat weight h zero = refl
-sum_flat weight h (suc n) =
-    let ih = sum_flat weight h n in
-    let both = sum_by-append weight (flat_map h (numbers_below n)) (h n) in
-    ap (sum_by weight) (flat_more h n) ∙ omega arith
+sum_flat weight h (suc n) = grind (arith, sum_by-append, flat_more, sum_flat weight h n)
 
 pub all_flat : {A : Type 0} (P : A → Type 0) (h : ℕ → List A) (n : ℕ) → ((k : ℕ) → k < n → All P (h k)) → All P (flat_map h (numbers_below n))
 all_flat P h zero each = All-nil P

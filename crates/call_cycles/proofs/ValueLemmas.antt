@@ -1,8 +1,8 @@
 -- The graph by plain rules is a graph, and the only one of its functions and arcs.
-use Rattle.std.proofs.Common.{◌≡◌, ◌≢◌, ◌<◌, ◌≤◌, ℕ, zero, suc, ◌&&◌, Bool, true, false, List, [], ◌∷◌, length, map, get_or, refl, ap, sym, ◌∙◌, subst, inl, inr, ◌⊎◌, ⊎_elim, arith, Result, Ok, Err, IfOk}
+use Rattle.std.proofs.Common.{◌≡◌, ◌≢◌, ◌<◌, ◌≤◌, ℕ, zero, suc, ◌&&◌, Bool, true, List, [], ◌∷◌, length, map, get_or, refl, ap, sym, ◌∙◌, subst, inl, inr, ◌⊎◌, ⊎_elim, arith, Result, IfOk}
 use Rattle.std.specs.Prelude.{◌==◌, slice_index}
 use Rattle.std.specs.List.{All, AllPairs, Contains, count_by, position_or_len}
-use Rattle.std.proofs.lemmas.Bool.{true≢false, cases_lt, eqb-true, eqb-false, eq-eqb, ne_eqb, not-true, and_parts, and_from}
+use Rattle.std.proofs.lemmas.Bool.{true≢false, cases_lt, eqb-true, eq-eqb, and_parts, and_from}
 use Rattle.std.proofs.lemmas.List.{length-map, get_or-map, get_or_default}
 use Rattle.std.proofs.lemmas.List.Elements.{All-filter, All-map, filter_passes}
 use Rattle.std.proofs.lemmas.List.FromFn.{length-range_with_len, get_or-range_with_len, length-map-range_with_len, get_or-map-range_with_len, fill_by_all}
@@ -12,7 +12,7 @@ use Rattle.call_cycles.specs.declared.graphs.FunArc.{FunArc}
 use Rattle.call_cycles.specs.Sums.{when, numbers_below, list_of}
 use Rattle.call_cycles.specs.Graph.{GraphValue, IsGraph, AreComponents}
 use Rattle.call_cycles.specs.Arcs.{AreInOrder, AreWithin}
-use Rattle.call_cycles.specs.Leaders.{IsLeader, AreLeaders, AreLevels, caller_leader, callee_leader, leaves_leader}
+use Rattle.call_cycles.specs.Leaders.{IsLeader, AreLeaders, AreLevels, callee_leader, leaves_leader}
 use Rattle.call_cycles.specs.Heads.{IsHead, IsBefore}
 use Rattle.call_cycles.specs.Parts.{AreCalled, graph_of_parts}
 use Rattle.call_cycles.specs.Values.{reaches_over, are_joined, leader_of, leaders_of, level_after, heads_at, heads_in, components_in, graph_in, profile_graph}
@@ -70,10 +70,7 @@ module _ (n : ℕ) (arcs : List FunArc) (within : AreWithin n arcs) where
 
   leaders_are : AreLeaders n arcs (leaders_of n arcs)
   unfolding leaders_of
-  leaders_are = record {
-    len = list_long n (leader_of n arcs) (leaders_of n arcs) refl;
-    each = λ f below. subst (IsLeader n arcs f) (sym (leader_at f below)) (leader_is f below);
-  }
+  leaders_are = grind (arith, list_long, leader_at, leader_is)
 
   -- ---- ranks: how many functions each one reaches
 
@@ -82,13 +79,7 @@ module _ (n : ℕ) (arcs : List FunArc) (within : AreWithin n arcs) where
 
   marked : (f : ℕ) → IsReached n arcs f (marks f)
   unfolding marks
-  marked f = record {
-    len = length-map-range_with_len (reaches_over arcs n f) 0 n;
-    each = λ h below.
-        let at : get_or (map (reaches_over arcs n f) (numbers_below n)) h false ≡ reaches_over arcs n f h = get_or-map-range_with_len (reaches_over arcs n f) 0 n h h false below (omega arith) in
-        let is = reaches_is n arcs within f h in
-        (λ on. is.0 (sym at ∙ on), λ r. at ∙ is.1 r);
-  }
+  marked f = grind (arith, length-map-range_with_len, get_or-map-range_with_len, reaches_is)
 
   count : ℕ → ℕ
   count f = count_by (λ (b : Bool). b) (marks f)
@@ -106,25 +97,13 @@ module _ (n : ℕ) (arcs : List FunArc) (within : AreWithin n arcs) where
 
   rank_low : (f : ℕ) → f < n → slice_index ranks f ≤ n
   unfolding count
-  rank_low f below =
-      let at = rank_at f below in
-      let long = (marked f).len in
-      let few = count_by-le-length (λ (b : Bool). b) (marks f) in
-      omega arith
+  rank_low f below = grind (arith, rank_at, marked, count_by-le-length)
 
   -- ---- levels
 
-  drops : (i : ℕ) → i < length arcs → caller_leader arcs (leaders_of n arcs) i ≢ callee_leader arcs (leaders_of n arcs) i
-      → slice_index ranks (callee_leader arcs (leaders_of n arcs) i) < slice_index ranks (caller_leader arcs (leaders_of n arcs) i)
-  drops i below apart = rank_drops n arcs (leaders_of n arcs) within leaders_are ranks ranks_are i below apart
-
   -- the arc leaves what h leads: it goes to a lesser rank
   goes_down : (h i : ℕ) → i < length arcs → leaves_leader arcs (leaders_of n arcs) h i ≡ true → slice_index ranks (callee_leader arcs (leaders_of n arcs) i) < slice_index ranks h
-  goes_down h i below leaving =
-      let parts = and_parts _ _ leaving in
-      let down = drops i below (eqb-false _ _ (not-true _ parts.0)) in
-      let at : slice_index ranks (caller_leader arcs (leaders_of n arcs) i) ≡ slice_index ranks h = ap (slice_index ranks) (eqb-true _ h parts.1) in
-      omega arith
+  goes_down h i below leaving = grind (arith, rank_drops, leaders_are, ranks, ranks_are)
 
   -- as many steps as the rank are enough
   enough : (k h : ℕ) → slice_index ranks h ≤ k → level_after arcs (leaders_of n arcs) (suc k) h ≡ level_after arcs (leaders_of n arcs) k h
@@ -133,14 +112,12 @@ module _ (n : ℕ) (arcs : List FunArc) (within : AreWithin n arcs) where
       omega arith
     where
       one : (i : ℕ) → i < length arcs → (b : Bool) → leaves_leader arcs (leaders_of n arcs) h i ≡ b → when b 1 ≤ 0
-      one i below true leaving = let down = goes_down h i below leaving in absurd (omega arith)
-      one i below false leaving = omega arith
+      one i below b leaving = grind (arith, goes_down)
   enough (suc k) h low = max_ext (length arcs) _ _ (λ i below. one (enough k) i below (leaves_leader arcs (leaders_of n arcs) h i) refl)
     where
       one : ((x : ℕ) → slice_index ranks x ≤ k → level_after arcs (leaders_of n arcs) (suc k) x ≡ level_after arcs (leaders_of n arcs) k x) → (i : ℕ) → i < length arcs → (b : Bool) → leaves_leader arcs (leaders_of n arcs) h i ≡ b
           → when b (suc (level_after arcs (leaders_of n arcs) (suc k) (callee_leader arcs (leaders_of n arcs) i))) ≡ when b (suc (level_after arcs (leaders_of n arcs) k (callee_leader arcs (leaders_of n arcs) i)))
-      one before i below true leaving = let down = goes_down h i below leaving in ap suc (before (callee_leader arcs (leaders_of n arcs) i) (omega arith))
-      one before i below false leaving = refl
+      one before i below b leaving = grind (arith, goes_down)
 
   level : ℕ → ℕ
   level h = level_after arcs (leaders_of n arcs) n h
@@ -206,8 +183,7 @@ module _ (n : ℕ) (arcs : List FunArc) (within : AreWithin n arcs) where
   level_low (suc k) h = max_least (length arcs) _ (suc k) (λ i below. one (level_low k (callee_leader arcs (leaders_of n arcs) i)) (leaves_leader arcs (leaders_of n arcs) h i))
     where
       one : {x : ℕ} → x ≤ k → (b : Bool) → when b (suc x) ≤ suc k
-      one low true = omega arith
-      one low false = omega arith
+      one low b = grind arith
 
   each_head : (h : ℕ) → leads h → Contains (heads_in n arcs) h
   unfolding heads_in
@@ -234,12 +210,7 @@ module _ (n : ℕ) (arcs : List FunArc) (within : AreWithin n arcs) where
       (λ i d below. let led = heads_lead i d below in (led.0, led.1, sym (level_at (get_or (heads_in n arcs) i d) led.0)))
 
   each_in_order : (h : ℕ) → h < n → slice_index (leaders_of n arcs) h ≡ h → (c : ℕ) × (c < length order) × ((get_or order c (0, 0)).1 ≡ h)
-  each_in_order h below leads_it =
-      let found = each_head h (below, leads_it) in
-      let long = order_long in
-      let low = found.1 in
-      let is : slice_index (heads_in n arcs) found.0 ≡ h = get_or_default (heads_in n arcs) found.0 0 h found.1 ∙ found.2 in
-      (found.0, omega arith, ap (λ (p : ℕ × ℕ). p.1) (order_at found.0 found.1) ∙ is)
+  each_in_order h below leads_it = grind (arith, each_head, order_long, get_or_default, order_at)
 
   order_rises : (c d : ℕ) → c < d → d < length order → IsBefore (get_or order c (0, 0)) (get_or order d (0, 0))
   order_rises c d less below =
@@ -273,13 +244,7 @@ module _ (n : ℕ) (arcs : List FunArc) (within : AreWithin n arcs) where
 
   placed : (c : ℕ) → c < length order → slice_index places (get_or order c (0, 0)).1 ≡ c
   unfolding place
-  placed c below =
-      let long = order_long in
-      let low : c < length (heads_in n arcs) = omega arith in
-      let head = slice_index (heads_in n arcs) c in
-      ap (λ (p : ℕ × ℕ). slice_index places p.1) (order_at c low)
-      ∙ place_at head (heads_lead c 0 low).0
-      ∙ position_or_len_is (λ x. x == head) (heads_in n arcs) c 0 (omega arith) (λ k less. ne_eqb _ _ (apart k c less low)) (λ inside. eq-eqb head head refl)
+  placed c below = grind (arith, order_long, order_at, place_at, heads_lead, position_or_len_is, apart)
 
   components_are : components_in n arcs ≡ list_of n (λ f. slice_index places (slice_index (leaders_of n arcs) f))
   unfolding components_in place
@@ -312,13 +277,9 @@ only_value g is =
     let same = one_numbering_of g.functions g.arcs g.self_calls g.component g.heads g.self_calls (components_in g.functions g.arcs) (heads_in g.functions g.arcs) is value in
     λ i. graph_of_parts g.functions g.arcs g.self_calls (same.0 i) (same.1 i)
 
-profile_value : (g : GraphValue) (es : List ((ℕ × ℕ) × ℕ)) (symbols : List Symbol) → IsGraph g → g.functions ≡ length symbols → g.arcs ≡ function_arcs es symbols → g.self_calls ≡ own_calls es symbols → g ≡ profile_graph es symbols
-profile_value g es symbols is functions arcs self_calls = only_value g is ∙ (λ i. graph_in (functions i) (arcs i) (self_calls i))
-
 pub ok_value : {E : Type 0} (es : List ((ℕ × ℕ) × ℕ)) (symbols : List Symbol) (r : Result GraphValue E) → IfOk r IsGraph → IfOk r (λ g. g.functions ≡ length symbols) → IfOk r (λ g. g.arcs ≡ function_arcs es symbols) → IfOk r (λ g. g.self_calls ≡ own_calls es symbols)
     → IfOk r (λ g. g ≡ profile_graph es symbols)
-ok_value es symbols (Ok g) is functions arcs self_calls = profile_value g es symbols is functions arcs self_calls
-ok_value es symbols (Err e) is functions arcs self_calls = tt
+ok_value es symbols r is functions arcs self_calls = grind (arith, only_value)
 
 pub profile_is_graph : (es : List ((ℕ × ℕ) × ℕ)) (symbols : List Symbol) → IsGraph (profile_graph es symbols)
 profile_is_graph es symbols =

@@ -140,6 +140,7 @@ fn merge_neighbours(arcs: &mut [FunArc]) -> usize
 }
 
 /// The arcs in order of caller, then callee, those of one caller and callee made one.
+#[tactic(auto)]
 pub(crate) fn merged(arcs: Vec<FunArc>) -> Vec<FunArc>
     requires few { count_of arcs.items < 2 ^ 64 }
     ensures merged { (n : ℕ) → All (IsArcBelow n) arcs.items

@@ -156,6 +156,7 @@ fn leave(pass: &mut Pass, f: u32) -> Result<(), AllocError>
 }
 
 /// Goes on until no function has arcs to be followed.
+#[tactic(auto, using(crate::proofs::PassLemmas::last_of))]
 fn run(pass: &mut Pass, arcs: &[FunArc]) -> Result<(), AllocError>
     requires functions { length pass.old.places.items < 2 ^ 32 }
     requires within { AreWithin (length pass.old.places.items) arcs.now }

@@ -10,6 +10,7 @@ ghost use Rattle.call_cycles.specs.Values.{graph_in, profile_graph};
 
 /// Functions and arcs have one numbering of components: which functions are together, which is the
 /// head, and which component has which number.
+#[tactic(auto, using(crate::proofs::NumberingLemmas::one_numbering_of))]
 pub fn one_numbering()
     ensures { (g h : GraphValue) → IsGraph g → IsGraph h → g.functions ≡ h.functions
         → g.arcs ≡ h.arcs → (g.component ≡ h.component) × (g.heads ≡ h.heads) }

@@ -40,6 +40,7 @@ pub(crate) fn leaders(alloc: Global, functions: u32, ranks: &[u32]) -> Result<Ve
 }
 
 /// Raises the level of a function's component above those that the function calls.
+#[tactic(auto, using(crate::proofs::LevelLemmas::none_before, crate::proofs::LevelLemmas::none_after))]
 fn raise(arcs: &[FunArc], first: &[usize], leaders: &[u32], f: u32, levels: &mut [usize])
     requires function { f < length levels.old }
     requires leaders { length leaders.now ≡ length levels.old }

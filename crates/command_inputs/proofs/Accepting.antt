@@ -76,8 +76,7 @@ a_profile words start old new below word limit next bytes records s later loads 
 pub not_read : (words : List (List ℕ)) (start old new : Outside) (below word limit : ℕ) (next : ℕ → Content → Course) (bytes : List ℕ) (refusal : ReadRefusal) → ((len : ℕ) → MayYetStop (next len))
     → Stands words start old below [] (profile_file word limit (added_up word next)) → below ≤ word → IsContent (nth_word words word) limit old new bytes
     → IsReadRefusal refusal (file_refusal bytes) (conflict_of empty_content (spelled_records bytes)) → Acted words start new (Err (read_fault_of refusal word))
-not_read words start old new below word limit next bytes (reading.File refusal) may s later loads due =
-    no_profile words start old new below word limit (added_up word next) bytes refusal s later loads due
+not_read words start old new below word limit next bytes (reading.File refusal) may s later loads due = search no_profile
 not_read words start old new below word limit next bytes (reading.Profile refusal) may s later loads due =
     not_added words start new (word + 1) word next (length bytes) (file_records bytes) (may (length bytes))
     (a_profile words start old new below word limit (added_up word next) bytes (file_records bytes) s later loads due.0 refl) refusal due.1

@@ -1,5 +1,5 @@
 -- Profile files were read and added up, as the words ask for it.
-use Rattle.std.proofs.Common.{◌≡◌, ℕ, ◌+◌, ◌-◌, ◌<◌, ◌≤◌, false, List, [], ◌∷◌, ◌++◌, append-nil, length, Option, Some, None, Err, inl, refl, sym, ap, subst, ◌∙◌, arith}
+use Rattle.std.proofs.Common.{◌≡◌, ℕ, ◌+◌, ◌-◌, ◌<◌, ◌≤◌, false, List, [], ◌∷◌, ◌++◌, append-nil, length, Option, Some, None, Err, inl, refl, sym, ap, ◌∙◌, arith}
 use Rattle.std.specs.Prelude.{IfSome, MatchOption, ⊤}
 use Rattle.std.specs.List.{AllByRecursion, flat_map}
 use Rattle.std.proofs.lemmas.List.Concat.{flat_map-append}
@@ -11,9 +11,9 @@ use Rattle.gmon_data.specs.declared.refusal.AddRefusal.TheVariants as adding
 use Rattle.gmon_data.specs.declared.refusal.Unlike.{Unlike as Difference}
 use Rattle.gmon_data.specs.Hists.{IsUnitOf, IsUnlike}
 use Rattle.gp_base.specs.declared.records.Records.{Records}
-use Rattle.host_port.specs.Act.{Disk, File, file_content}
+use Rattle.host_port.specs.Act.{Disk, File}
 use Rattle.host_port.specs.Outside.{Becomes, Outside}
-use Rattle.host_port.proofs.Laws.{Becomes-same, Becomes-then}
+use Rattle.host_port.proofs.Laws.{Becomes-then}
 use Rattle.profile_sum.specs.Sum.{sum_of, clash_of, IsClash}
 use Rattle.profile_sum.specs.declared.refusal.SumRefusal.{SumRefusal}
 use Rattle.profile_sum.specs.declared.refusal.SumRefusal.TheVariants as summing
@@ -21,14 +21,13 @@ use Rattle.courses.specs.declared.outcome.Fault.{Fault}
 use Rattle.courses.specs.declared.outcome.Fault.TheVariants.{Unlike}
 use Rattle.courses.specs.Course.{Course, takes_no_memory, unless}
 use Rattle.gmon_files.specs.Forms.{file_records}
-use Rattle.host_port.specs.Load.{IsContent}
 use Rattle.command_inputs.specs.Totals.{records_of}
 use Rattle.courses.specs.Answer.{profiles, profile_in, add_fault_of, sum_fault_of}
 use Rattle.courses.specs.Contract.{Acted}
 use Rattle.command_inputs.specs.Reading.{HasRead, MayYetStop, added_up}
 use Rattle.courses.specs.Standing.{Stands, MayStopHere}
 use Rattle.profile_sum.proofs.ContentLemmas.{content_is_added, content_sum}
-use Rattle.courses.proofs.Standing.{everywhere, told_back, weaker, no_memory, may_stop_unless, refuses, goes_on}
+use Rattle.courses.proofs.Standing.{weaker, no_memory, may_stop_unless, refuses}
 
 -- what the command does with a file's profile
 abbrev pub summed_up : ℕ → ℕ → Content → List ℕ → (Content → Course) → ℕ → Content → Course
@@ -45,9 +44,7 @@ may_stop_profiles contents [] left total next may = may contents total
 may_stop_profiles contents (word ∷ more) left total next may = (inl refl, refl)
 
 pub may_stop_summed : (word left : ℕ) (total : Content) (more : List ℕ) (next : Content → Course) → MayYetStop next → (len : ℕ) → MayYetStop (summed_up word left total more next len)
-may_stop_summed word left total more next may len = λ contents profile.
-    may_stop_unless (λ unlike. Unlike unlike word) (clash_of total profile) (profiles more (left - len) (sum_of total profile) next) contents (unlike_takes word (clash_of total profile))
-    (may_stop_profiles contents more (left - len) (sum_of total profile) next may)
+may_stop_summed word left total more next may len = search (may_stop_unless, unlike_takes, may_stop_profiles)
 
 module _ (words : List (List ℕ)) (start new : Outside) (below word : ℕ) where
   abbrev fault : Difference → Fault
@@ -60,14 +57,11 @@ module _ (words : List (List ℕ)) (start new : Outside) (below word : ℕ) wher
 
     -- they can't be added up
     pub not_added : (refusal : AddRefusal) → IsUnlike refusal conflict → Acted words start new (Err (add_fault_of refusal word))
-    not_added adding.OutOfMemory is =
-        no_memory words start new below [] (added_up word next len records) s (λ contents. may_stop_unless fault conflict (next len (profile_in records)) contents (unlike_takes word conflict) (may contents (profile_in records)))
+    not_added adding.OutOfMemory is = search (no_memory, may_stop_unless, unlike_takes)
     not_added (adding.Unlike unlike) is = refuses words start new below [] fault conflict (next len (profile_in records)) unlike s is tt
 
     pub one_added : (profile : Content) → conflict ≡ None → profile ≡ with_records (wide_records records.recs) empty_content → Stands words start new below [] (next len profile)
-    one_added profile accepted is =
-        subst (λ (p : Content). Stands words start new below [] (next len p)) (sym (is ∙ sym (content_is_added (wide_records records.recs))))
-        (goes_on words start new below [] fault conflict (next len (profile_in records)) s accepted)
+    one_added profile accepted is = grind (arith, content_is_added)
 
   -- and those of earlier files
   module _ (left : ℕ) (total : Content) (more : List ℕ) (next : Content → Course) (len : ℕ) (profile : Content) (may : MayYetStop next)
@@ -77,14 +71,11 @@ module _ (words : List (List ℕ)) (start new : Outside) (below word : ℕ) wher
 
     -- they can't be added to those
     pub not_summed : (refusal : SumRefusal) → IsClash refusal (clash_of total profile) → Acted words start new (Err (sum_fault_of refusal word))
-    not_summed summing.OutOfMemory due =
-        no_memory words start new below [] (unless fault (clash_of total profile) rest) s
-        (λ contents. may_stop_unless fault (clash_of total profile) rest contents (unlike_takes word (clash_of total profile)) (may_stop_profiles contents more (left - len) (sum_of total profile) next may))
+    not_summed summing.OutOfMemory due = search (no_memory, may_stop_unless, unlike_takes, may_stop_profiles)
     not_summed (summing.Unlike unlike) due = refuses words start new below [] fault (clash_of total profile) rest unlike s due tt
 
     pub summed : (sum : Content) → clash_of total profile ≡ None → sum ≡ sum_of total profile → Stands words start new below [] (profiles more (left - len) sum next)
-    summed sum none added =
-        subst (λ (c : Content). Stands words start new below [] (profiles more (left - len) c next)) (sym added) (goes_on words start new below [] fault (clash_of total profile) rest s none)
+    summed sum none added = grind arith
 
 -- ---- a total that holds nothing
 
@@ -97,10 +88,7 @@ no_unit [] o none is = is
 no_unit (h ∷ hists) o none is = absurd cc
 
 pub holds_nothing : (p : Content) → IsProfile p → length p.hists ≡ 0 → length p.arcs ≡ 0 → length p.blocks ≡ 0 → p ≡ empty_content
-holds_nothing p is hists arcs blocks =
-    let none = no_hists p.hists hists in
-    let unit = no_unit p.hists p.«unit» none is.«unit» in
-    λ i. record { hists = none i; arcs = no_hists p.arcs arcs i; blocks = no_hists p.blocks blocks i; «unit» = unit i }
+holds_nothing p is hists arcs blocks = grind (arith, no_hists)
 
 pub nothing_added : empty_content ≡ content_of []
 unfolding content_of
@@ -134,32 +122,14 @@ read_both a b c P Q R then first second = record {
     by x y None same p more q = tt
     by x None (Some z) same p more q = absurd cc
     by None (Some y) (Some z) same p more q = absurd cc
-    by (Some x) (Some y) (Some z) same p more q =
-        let e : x ≡ y = cc in
-        then x.files p (subst (λ (d : Disk). Q d.files) (sym e) q)
+    by (Some x) (Some y) (Some z) same p more q = grind arith
 
 pub read_weaker : (a c : Outside) (P R : List File → Type 0) → ((files : List File) → P files → R files) → HasRead a c P → HasRead a c R
 read_weaker a c P R h read = record { same = read.same; told = weaker a.disk c.disk P R h read.told }
-
--- nothing was read
-pub read_nothing : (a : Outside) (P : List File → Type 0) → ((files : List File) → P files) → HasRead a a P
-read_nothing a P h = record { same = Becomes-same a.disk; told = everywhere a.disk a.disk P h }
-
--- what holds of the bytes that were read holds of the file's
-pub was_read : (name : List ℕ) (limit : ℕ) (old new : Outside) (bytes : List ℕ) (P : List ℕ → Type 0) → IsContent name limit old new bytes → P bytes → HasRead old new (λ files. P (file_content name files))
-was_read name limit old new bytes P content holds = record {
-  same = content.nothing_done.disk;
-  told = weaker old.disk new.disk (λ files. bytes ≡ file_content name files) (λ files. P (file_content name files)) (λ files is. subst P is holds)
-      (told_back old.disk new.disk (λ files. bytes ≡ file_content name files) content.nothing_done.disk content.answer);
-}
 
 module _ (contents : ℕ → List ℕ) where
   abbrev pub all_records : List ℕ → List WideRec
   all_records words = flat_map (λ word. records_of (contents word)) words
 
   pub total_more : (earlier : List ℕ) (word : ℕ) (total : Content) → total ≡ content_of (all_records earlier) → sum_of total (profile_in (file_records (contents word))) ≡ content_of (all_records (earlier ++ word ∷ []))
-  total_more earlier word total is =
-      let here = records_of (contents word) in
-      let front : all_records earlier ++ here ≡ all_records (earlier ++ word ∷ []) =
-      ap (λ (recs : List WideRec). all_records earlier ++ recs) (sym (append-nil here)) ∙ sym (flat_map-append (λ w. records_of (contents w)) earlier (word ∷ [])) in
-      ap (λ (t : Content). sum_of t (content_of here)) is ∙ content_sum (all_records earlier) here ∙ ap content_of front
+  total_more earlier word total is = grind (arith, append-nil, flat_map-append, content_sum)

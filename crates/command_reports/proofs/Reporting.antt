@@ -1,11 +1,10 @@
 -- A report was printed, or not, as the words ask for it.
-use Rattle.std.proofs.Common.{◌≡◌, ◌≢◌, ℕ, ◌≤◌, Bool, true, false, eqb, List, [], ◌∷◌, ◌++◌, Option, Some, None, Result, Ok, Err, inl, refl, sym, ap, subst, ◌∙◌, true≢false, if◌then◌else◌, arith}
+use Rattle.std.proofs.Common.{◌≡◌, ℕ, ◌≤◌, Bool, true, false, List, [], ◌∷◌, ◌++◌, Option, Some, None, Result, Ok, Err, inl, refl, sym, ap, subst, ◌∙◌, arith}
 use Rattle.std.specs.Prelude.{IfSome, MatchResult, is_some}
-use Rattle.std.proofs.lemmas.Bool.{eq-eqb}
 use Rattle.gp_base.specs.declared.records.Unit as units
 use Rattle.gmon_data.specs.declared.hist.Hist.{Hist}
 use Rattle.gmon_data.specs.Content.{Content}
-use Rattle.gmon_data.specs.Hists.{kept_unit, IsUnitOf}
+use Rattle.gmon_data.specs.Hists.{IsUnitOf}
 use Rattle.elf32_syms.specs.declared.image.Image.{Image}
 use Rattle.flat_report.specs.Reports.{Reports}
 use Rattle.flat_report.specs.Sources.{Sources}
@@ -16,7 +15,6 @@ use Rattle.courses.specs.Course.{Course, Does, takes_no_memory}
 use Rattle.command_words.specs.declared.words.Shown.{Shown}
 use Rattle.command_words.specs.declared.words.Shown.TheVariants as shows
 use Rattle.host_port.specs.Outside.{Outside}
-use Rattle.host_port.specs.declared.side.Side.TheVariants.{Output}
 use Rattle.host_port.proofs.PerformingLemmas.{puts_performs}
 use Rattle.arc_filter.specs.Cuts.{without_cuts}
 use Rattle.exact_flow.specs.Answers.{IsWideAnswer}
@@ -42,10 +40,8 @@ GoesOn words start new below done next result = MatchResult result (λ _. Stands
 pub after_text : (words : List (List ℕ)) (start mid new : Outside) (below : ℕ) (done : List Act) (text : List ℕ) (next : Course) (result : Result (Unit {0}) ReportRefusal)
     → Stands words start mid below done (Does (Out text ∷ []) next) → Reports text mid new result → (result ≡ refused reports.OutOfMemory → new ≡ mid)
     → GoesOn words start new below (done ++ Out text ∷ []) next result
-after_text words start mid new below done text next (Ok u) s puts idle =
-    does {T = Unit {0}} {E = ReportRefusal} words start mid new below done (Out text ∷ []) next u s (puts_performs Output text mid new (Ok u) puts) refl
-after_text words start mid new below done text next (Err reports.WriteFault) s puts idle =
-    fails {T = Unit {0}} words start mid new below done (Out text ∷ []) next reports.WriteFault s (puts_performs {T = Unit {0}} Output text mid new (Err reports.WriteFault) puts)
+after_text words start mid new below done text next (Ok u) s puts idle = search (does, puts_performs)
+after_text words start mid new below done text next (Err reports.WriteFault) s puts idle = search (fails, puts_performs)
 after_text words start mid new below done text next (Err reports.OutOfMemory) s puts idle =
     no_memory words start new below done (Does (Out text ∷ []) next) (subst (λ (x : Outside). Stands words start x below done (Does (Out text ∷ []) next)) (sym (idle refl)) s) (λ contents. (inl refl, refl))
 
@@ -66,9 +62,7 @@ wide_takes (Some step) = refl
 
 -- memory may be wanted before the first report
 may_stop_all : (chosen : Chosen) (s : Sources) (next : Course) (contents : ℕ → List ℕ) → MayStopHere contents (all_reports chosen s next)
-may_stop_all chosen s next contents =
-    may_stop_unless too_wide (wide_step chosen.exact s) (shown_reports chosen.shown chosen.hidden s (exact_report chosen.exact s next)) contents (wide_takes (wide_step chosen.exact s))
-    (shown_may_stop chosen.shown chosen.hidden s (exact_report chosen.exact s next) contents)
+may_stop_all chosen s next contents = search (may_stop_unless, wide_takes, shown_may_stop)
 
 pub may_stop_reports : (chosen : Chosen) (image : Image) (total : Content) (next : Course) (contents : ℕ → List ℕ) → MayStopHere contents (print_reports chosen image total next)
 may_stop_reports chosen image total next contents = may_stop_all chosen (chosen_sources chosen image total) next contents
@@ -76,8 +70,7 @@ may_stop_reports chosen image total next contents = may_stop_all chosen (chosen_
 -- a step of the exact times is too wide, or memory was wanted for them
 pub no_exact : (words : List (List ℕ)) (start new : Outside) (below : ℕ) (done : List Act) (chosen : Chosen) (s : Sources) (next : Course) (refusal : ExactRefusal) → chosen.exact ≡ true → IsWideAnswer s.graph s.shares.of refusal
     → Stands words start new below done (all_reports chosen s next) → Acted words start new (Err (exact_fault_of refusal))
-no_exact words start new below done chosen s next exacts.OutOfMemory asked wide stands =
-    no_memory words start new below done (all_reports chosen s next) stands (may_stop_all chosen s next)
+no_exact words start new below done chosen s next exacts.OutOfMemory asked wide stands = search (no_memory, may_stop_all)
 no_exact words start new below done chosen s next (exacts.TooWide head arc) asked wide stands =
     refuses words start new below done too_wide (wide_step chosen.exact s) (shown_reports chosen.shown chosen.hidden s (exact_report chosen.exact s next)) (record { head = head; arc = arc }) stands
     (ap (λ (b : Bool). wide_step b s) asked ∙ wide) tt
@@ -110,20 +103,6 @@ pub of_the_same : (words : List (List ℕ)) (start new : Outside) (below : ℕ) 
     → Stands words start new below done (print_reports chosen image due next) → Stands words start new below done (print_reports chosen image total next)
 of_the_same words start new below done chosen image total due next same s = subst (λ (p : Content). Stands words start new below done (print_reports chosen image p next)) (sym same) s
 
--- a kept rate is not 0
-kept_rate : (u : units.Unit) → kept_unit u ≡ u → 1 ≤ u.rate
-kept_rate u kept = by (eqb u.rate 0) refl
-  where
-    by : (b : Bool) → eqb u.rate 0 ≡ b → 1 ≤ u.rate
-    by true zero =
-        let rate : 100 ≡ u.rate = sym (ap (λ (b : Bool). if b then 100 else u.rate) zero) ∙ ap (λ (v : units.Unit). v.rate) kept in
-        omega (arith, rate)
-    by false other =
-        let some : u.rate ≢ 0 = λ zero. true≢false (sym (eq-eqb u.rate 0 zero) ∙ other) in
-        omega (arith, some)
-
 pub some_rate : (hists : List Hist) (o : Option units.Unit) (u : units.Unit) → IsUnitOf hists o → o ≡ Some u → 1 ≤ u.rate
 some_rate [] o u is some = absurd (let none : None ≡ Some u = sym is ∙ some in cc)
-some_rate (h ∷ hists) o u is some =
-    let same : is.0 ≡ u = let e : Some is.0 ≡ Some u = sym is.1 ∙ some in cc in
-    kept_rate u (subst (λ (v : units.Unit). kept_unit v ≡ v) same is.2)
+some_rate (h ∷ hists) o u is some = grind arith

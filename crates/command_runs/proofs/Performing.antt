@@ -34,10 +34,7 @@ given_shut (Some name) bytes = refl
 
 -- no file is being written behind the acts of a run
 pub shut_after : (files : RunFiles) (setup : Setup) (z : Sizes) (w : World) (b : Bool) → writes_after (run_acts files setup z w) b ≡ false
-shut_after files setup z w b =
-    let front = file_acts files.gmon (profile_bytes files.form setup z w) in
-    let back = given_file_acts files.memory (layout_of (block_image z w.log)) in
-    writes_after-append w.prints (front ++ back) b ∙ writes_after-append front back (writes_after w.prints b) ∙ given_shut files.memory (layout_of (block_image z w.log))
+shut_after files setup z w b = search (writes_after-append, given_shut)
 
 -- ---- the prints
 

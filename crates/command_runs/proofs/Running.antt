@@ -47,8 +47,7 @@ not_started words old new below done image setup next fault may s is =
     subst (λ (fault : Fault). Acted words old new (Err fault)) (sym is.is) (by_refusal is.refusal is.due)
   where
     by_refusal : (refusal : StartRefusal) → IsRefusal refusal (start_refusal image setup) → Acted words old new (Err (start_fault_of refusal))
-    by_refusal starts.OutOfMemory is =
-        no_memory words old new below done (unless start_fault_of (start_refusal image setup) next) s (λ contents. may_stop_start image setup next contents (may contents))
+    by_refusal starts.OutOfMemory is = search (no_memory, may_stop_start)
     by_refusal refusal is = refuses words old new below done start_fault_of (start_refusal image setup) next refusal s is tt
 
 pub no_start : (words : List (List ℕ)) (old new : Outside) (below : ℕ) (done : List Act) (image : Image) (setup : Setup) (acts : List Act) (next : Course) (fault : Fault)

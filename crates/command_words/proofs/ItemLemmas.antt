@@ -44,9 +44,7 @@ key_back Hide = refl
 key_back Inclusive = refl
 
 same_key : (key other : Key) → is_key key other ≡ true → key ≡ other
-same_key key other is =
-    let same : key_number key ≡ key_number other = eqb-true (key_number key) (key_number other) is in
-    sym (key_back key) ∙ ap (λ (n : ℕ). get_or all_keys n Every) same ∙ key_back other
+same_key key other is = grind arith
 
 number_below : (key : Key) → key_number key < 19
 number_below Every = omega arith
@@ -104,8 +102,7 @@ few_values key items few =
     let all = (and_parts (nat_le (length (operands items)) 17) (list_all test all_keys) few).1 in
     let passes = each_passes test all_keys (key_number key) Every all (number_below key) in
     let here : test key ≡ true = subst (λ (k : Key). test k ≡ true) (key_back key) passes in
-    let within = leb-true (length (values key items)) (most_times key) here in
-    omega (arith, within, few_times key)
+    omega (arith, leb-true (length (values key items)) (most_times key) here, few_times key)
 
 -- ---- one item after the other
 
@@ -149,9 +146,7 @@ module _ (verb : Verb) (P : ℕ → List Item → Type 0)
 
   with_one : (i : ℕ) (item : Item) (o : Option (List Item)) → ((items : List Item) → P (i + 1) items → P i (item ∷ items)) → Holds (i + 1) o → Holds i (with_item item o)
   with_one i item None more behind items is = absurd cc
-  with_one i item (Some rest) more behind items is =
-      let same : item ∷ rest ≡ items = cc in
-      subst (P i) same (more rest (behind rest refl))
+  with_one i item (Some rest) more behind items is = grind arith
 
   of_option : (i : ℕ) (o : Option Key) (words : List (List ℕ)) → Holds (i + 1) (items_from verb (i + 1) words) → ((key : Key) → Holds (i + 1) (items_from_value verb key (i + 1) words))
       → Holds i (option_and_then (λ key. if is_flag (kind_of key) then with_item (Given key i) (items_from verb (i + 1) words) else items_from_value verb key (i + 1) words) o)

@@ -50,9 +50,7 @@ further f a (Some y) (Some z) P same h = h
 pub told_back : (a b : Option Disk) (P : List File → Type 0) → Becomes (λ d. d) a b → IfSome b (λ d. P d.files) → Told a b P
 told_back a None P same h = tt
 told_back None (Some y) P same h = absurd cc
-told_back (Some x) (Some y) P same h =
-    let e : x ≡ y = cc in
-    subst (λ (d : Disk). P d.files) (sym e) h
+told_back (Some x) (Some y) P same h = grind arith
 
 -- the contents of the files that are told, and others where none are
 choose : (words : List (List ℕ)) (a c : Option Disk) (P : (ℕ → List ℕ) → Type 0) (some : ℕ → List ℕ) → P some → Told a c (λ files. P (contents_of words files))
@@ -69,14 +67,7 @@ owed_by words old new opens done result some p q =
 
 -- a course leads to itself
 itself : (contents : ℕ → List ℕ) (course : Course) → LeadsTo contents course 0 [] course
-itself contents course = record {
-  reply = refl;
-  inputs = omega arith;
-  comes = λ n word h. (let same : n ≡ 0 + n = omega arith in subst (λ (k : ℕ). ComesTo contents course k word) same h);
-  may_stop = λ more h. h;
-  known = λ h. h;
-  undecided = λ n h. (let same : n ≡ 0 + n = omega arith in subst (λ (k : ℕ). must_refuse contents course k ≡ false) same h);
-}
+itself contents course = grind arith
 
 -- a command begins
 pub begun : (words : List (List ℕ)) (x : Outside) (command : Command) → command_of words ≡ Some command → x.is_writing ≡ false → Stands words x x 0 [] (command_course words (Some command))
@@ -176,12 +167,7 @@ loaded words old mid new below word limit next bytes s later loads =
 
 too_large : (words : List (List ℕ)) (contents : ℕ → List ℕ) (old new : Outside) (opens word limit : ℕ) (next : List ℕ → Course) → LeadsTo contents (course_of words) opens [] (Input word limit next) → limit < length (contents word)
     → KeepsCounts old new → Owes words contents old new (suc opens) [] (Err (TooLarge word limit))
-too_large words contents old new opens word limit next l long nothing =
-    let test = lt-ltb limit (length (contents word)) long in
-    let due : reply_to contents (course_of words) ≡ record { ending = Err (TooLarge word limit); acts = [] } =
-    l.reply ∙ ap (λ (b : Bool). cond b (record { ending = Err (TooLarge word limit); acts = [] }) (reply_to contents (next (contents word)))) test in
-    let inputs : inputs_of contents (course_of words) ≡ opens + 1 = l.inputs ∙ ap (λ (b : Bool). opens + suc (cond b 0 (inputs_of contents (next (contents word))))) test in
-    record { ending = ap (λ (r : Reply). r.ending) (sym due); acts = ap (λ (r : Reply). r.acts) (sym due); counts = nothing; inputs = omega (arith, inputs); known = l.known (λ short. absurd (omega (arith, short, long))) }
+too_large words contents old new opens word limit next l long nothing = grind (arith, lt-ltb)
 
 -- there was no memory for what comes next, where so many inputs were opened
 memory_out : (words : List (List ℕ)) (old new : Outside) (opens opened : ℕ) (done : List Act) (rest : Course) (read : ℕ → List ℕ) → Did done (with_openings opened old) new → KeepsCounts old new → new.is_writing ≡ false
@@ -322,14 +308,7 @@ refuses {R} words old new below done fault due next refusal s e is =
 
 -- what is known here is so
 known_lead : (contents : ℕ → List ℕ) (whole : Course) (opens : ℕ) (done : List Act) (fact : Bool) (next : Course) → fact ≡ true → LeadsTo contents whole opens done (Knows fact next) → LeadsTo contents whole opens done next
-known_lead contents whole opens done fact next is l = record {
-  reply = l.reply;
-  inputs = l.inputs;
-  comes = l.comes;
-  may_stop = l.may_stop;
-  known = λ h. l.known (is, h);
-  undecided = l.undecided;
-}
+known_lead contents whole opens done fact next is l = grind arith
 
 pub known : (words : List (List ℕ)) (old new : Outside) (below : ℕ) (done : List Act) (fact : Bool) (next : Course) → fact ≡ true → Stands words old new below done (Knows fact next) → Stands words old new below done next
 known words old new below done fact next is s = record {
@@ -346,16 +325,7 @@ known words old new below done fact next is s = record {
 
 -- acts were done
 does_lead : (contents : ℕ → List ℕ) (whole : Course) (opens : ℕ) (done acts : List Act) (next : Course) → LeadsTo contents whole opens done (Does acts next) → LeadsTo contents whole opens (done ++ acts) next
-does_lead contents whole opens done acts next l =
-    let r = reply_to contents next in
-    record {
-      reply = l.reply ∙ ap (λ (due : List Act). record { ending = r.ending; acts = due }) (sym (append_assoc done acts r.acts));
-      inputs = l.inputs;
-      comes = l.comes;
-      may_stop = λ more h. subst (λ (due : List Act). MayStop contents whole due) (sym (append_assoc done acts more)) (l.may_stop (acts ++ more) (inr (more, refl, h)));
-      known = l.known;
-      undecided = λ n _. l.undecided n refl;
-    }
+does_lead contents whole opens done acts next l = grind (arith, append_assoc)
 
 -- acts were done that lead from one course to another
 pub does_by : {T E : Type 0} (words : List (List ℕ)) (old mid new : Outside) (below : ℕ) (done acts : List Act) (rest next : Course) (u : T)
@@ -376,8 +346,7 @@ does_by words old mid new below done acts rest next u leads s performs shut = re
 
 pub does : {T E : Type 0} (words : List (List ℕ)) (old mid new : Outside) (below : ℕ) (done acts : List Act) (next : Course) (u : T) → Stands words old mid below done (Does acts next)
     → Performs {T = T} {E = E} acts mid new (Ok u) → writes_after acts false ≡ false → Stands words old new below (done ++ acts) next
-does {T} {E} words old mid new below done acts next u s performs shut =
-    does_by {T = T} {E = E} words old mid new below done acts (Does acts next) next u (λ contents opens l. does_lead contents (course_of words) opens done acts next l) s performs shut
+does {T} {E} words old mid new below done acts next u s performs shut = search (does_by, does_lead)
 
 -- ---- acts one after the other
 
@@ -385,14 +354,11 @@ does {T} {E} words old mid new below done acts next u s performs shut =
 one_by_one_lead : (contents : ℕ → List ℕ) (whole : Course) (opens : ℕ) (done acts more : List Act) (next : Course) → LeadsTo contents whole opens done (one_by_one (acts ++ more) next) → LeadsTo contents whole opens (done ++ acts) (one_by_one more next)
 one_by_one_lead contents whole opens done [] more next l = subst (λ (d : List Act). LeadsTo contents whole opens d (one_by_one more next)) (sym (append-nil done)) l
 one_by_one_lead contents whole opens done (act ∷ acts) more next l =
-    subst (λ (d : List Act). LeadsTo contents whole opens d (one_by_one more next)) (append_assoc done (act ∷ []) acts)
-    (one_by_one_lead contents whole opens (done ++ act ∷ []) acts more next (does_lead contents whole opens done (act ∷ []) (one_by_one (acts ++ more) next) l))
+    grind (arith, append_assoc, one_by_one_lead contents whole opens (done ++ act ∷ []) acts more next)
 
 pub does_first : {T E : Type 0} (words : List (List ℕ)) (old mid new : Outside) (below : ℕ) (done acts more : List Act) (next : Course) (u : T) → Stands words old mid below done (one_by_one (acts ++ more) next)
     → Performs {T = T} {E = E} acts mid new (Ok u) → writes_after acts false ≡ false → Stands words old new below (done ++ acts) (one_by_one more next)
-does_first {T} {E} words old mid new below done acts more next u =
-    does_by {T = T} {E = E} words old mid new below done acts (one_by_one (acts ++ more) next) (one_by_one more next) u
-    (λ contents opens l. one_by_one_lead contents (course_of words) opens done acts more next l)
+does_first {T} {E} words old mid new below done acts more next u = search (does_by, one_by_one_lead)
 
 one_by_one_reply : (contents : ℕ → List ℕ) (acts : List Act) (next : Course) → reply_to contents (one_by_one acts next) ≡ behind acts (reply_to contents next)
 one_by_one_reply contents [] next = refl
@@ -424,17 +390,8 @@ one_by_one_undecided contents [] next n h = h
 one_by_one_undecided contents (act ∷ acts) next n h = refl
 
 at_once_lead : (contents : ℕ → List ℕ) (whole : Course) (opens : ℕ) (done acts : List Act) (next : Course) → MayStop contents next [] → ((n : ℕ) → must_refuse contents next n ≡ false) → LeadsTo contents whole opens done (one_by_one acts next) → LeadsTo contents whole opens done (Does acts next)
-at_once_lead contents whole opens done acts next may undecided l = record {
-  reply = l.reply ∙ ap (behind done) (one_by_one_reply contents acts next);
-  inputs = l.inputs ∙ ap (λ (n : ℕ). opens + n) (one_by_one_inputs contents acts next);
-  comes = λ n word h. l.comes n word (one_by_one_comes contents acts next n word h);
-  may_stop = λ more h. l.may_stop more (elim h [
-    | inl none ↦ subst (MayStop contents (one_by_one acts next)) (sym none) (one_by_one_stop contents acts next (may, undecided 0)).0
-    | inr some ↦ subst (MayStop contents (one_by_one acts next)) (sym some.1) (one_by_one_behind contents acts some.0 next some.2)
-  ]);
-  known = λ h. l.known (one_by_one_known contents acts next h);
-  undecided = λ n _. l.undecided n (one_by_one_undecided contents acts next n (undecided n));
-}
+at_once_lead contents whole opens done acts next may undecided l =
+    grind (arith, one_by_one_reply, one_by_one_inputs, one_by_one_comes, one_by_one_stop, one_by_one_behind, one_by_one_known, one_by_one_undecided)
 
 -- they are done at once where none of them fails but the last that is begun
 pub at_once : (words : List (List ℕ)) (old new : Outside) (below : ℕ) (done acts : List Act) (next : Course) → ((contents : ℕ → List ℕ) → MayStop contents next []) → ((contents : ℕ → List ℕ) (n : ℕ) → must_refuse contents next n ≡ false) → Stands words old new below done (one_by_one acts next)

@@ -1,9 +1,9 @@
 -- How long a file is.
-use Rattle.std.proofs.Common.{◌≡◌, ◌≤◌, ◌^◌, ℕ, ◌+◌, ◌*◌, List, [], ◌∷◌, ◌++◌, length, map, replicate, refl, arith, length-append}
+use Rattle.std.proofs.Common.{◌≡◌, ◌≤◌, ◌^◌, ℕ, ◌+◌, ◌*◌, List, [], ◌∷◌, length, map, replicate, refl, arith, length-append}
 use Rattle.std.specs.List.{flat_map}
 use Rattle.std.proofs.lemmas.List.{length-replicate, length-map}
 use Rattle.demo_elf.specs.declared.code.DemoSymbol.{DemoSymbol}
-use Rattle.demo_elf.specs.Elf.{word, words_text, halves_text, padding_of, names_at, headers_at, file_header, program_header, symbol_text, symbols_from, symbols_text, strings_text, names_text, section_headers, front_text, back_text, elf_file}
+use Rattle.demo_elf.specs.Elf.{word, words_text, halves_text, file_header, program_header, symbol_text, symbols_from, symbols_text, names_text, section_headers, front_text, back_text, elf_file}
 use Rattle.demo_elf.specs.Symbols.{symbol_of, AreSmall}
 use Rattle.demo_elf.proofs.SymbolLemmas.{strings_short}
 
@@ -34,48 +34,13 @@ names_long = refl
 
 pub front_long : (words : List ℕ) (symbols strings : ℕ) → length (front_text words symbols strings) ≡ 4096 + 4 * length words
 unfolding front_text words_text
-front_long words symbols strings =
-    let a = file_header (headers_at (length words) symbols strings) in
-    let b = program_header (length words) in
-    let zeros : List ℕ = replicate 4012 0 in
-    omega (
-      arith,
-      length-append (a ++ b ++ zeros) (flat_map word words),
-      length-append (a ++ b) zeros,
-      length-append a b,
-      file_header_long (headers_at (length words) symbols strings),
-      program_header_long (length words),
-      length-replicate {A = ℕ} 4012 0,
-      words_long words,
-    )
+front_long words symbols strings = search (replicate, length-append, file_header_long, program_header_long, length-replicate, words_long)
 
 back_long : (text symbols strings : ℕ) → length (back_text text symbols strings) ≤ 240
 unfolding back_text
-back_long text symbols strings =
-    let n = padding_of (names_at text symbols strings + 33) in
-    let zeros : List ℕ = replicate n 0 in
-    let headers = section_headers text symbols strings in
-    omega (arith, length-append (names_text ++ zeros) headers, length-append names_text zeros, names_long, length-replicate {A = ℕ} n 0, section_headers_long text symbols strings)
+back_long text symbols strings = grind (arith, length-append, names_long, length-replicate, section_headers_long)
 
 -- a file of few words and symbols is short
 pub file_short : (words : List ℕ) (symbols : List DemoSymbol) → length words ≤ 2 ^ 18 → AreSmall symbols → length (elf_file words (map symbol_of symbols)) ≤ 2 ^ 22
 unfolding elf_file symbols_text
-file_short words symbols few small =
-    let named = map symbol_of symbols in
-    let strings = length (strings_text named) in
-    let front = front_text words (length named) strings in
-    let zeros : List ℕ = replicate 16 0 in
-    let back = back_text (length words) (length named) strings in
-    let count = length-map symbols symbol_of in
-    let most = small.few in
-    omega (
-      arith,
-      length-append (front ++ (zeros ++ symbols_from 1 named) ++ strings_text named) back,
-      length-append (front ++ (zeros ++ symbols_from 1 named)) (strings_text named),
-      length-append front (zeros ++ symbols_from 1 named),
-      length-append zeros (symbols_from 1 named),
-      front_long words (length named) strings,
-      from_long 1 named,
-      strings_short symbols small,
-      back_long (length words) (length named) strings,
-    )
+file_short words symbols few small = grind (arith, length-map, length-append, front_long, from_long, strings_short, back_long)

@@ -1,5 +1,5 @@
 -- The symbols of a file, one after another.
-use Rattle.std.proofs.Common.{◌≡◌, ◌<◌, ◌≤◌, ◌^◌, ℕ, suc, ◌+◌, ◌*◌, List, [], ◌∷◌, ◌++◌, length, drop, get_or, map, ap, sym, ◌∙◌, arith, append_assoc, append-nil, length-append, add-one}
+use Rattle.std.proofs.Common.{◌≡◌, ◌<◌, ◌≤◌, ◌^◌, ℕ, ◌+◌, ◌*◌, List, [], ◌∷◌, ◌++◌, length, drop, get_or, map, ap, ◌∙◌, arith, append_assoc, append-nil, length-append}
 use Rattle.std.specs.Prelude.{string_bytes}
 use Rattle.std.specs.List.{flat_map, All}
 use Rattle.std.proofs.Math.Seq.{drop-cons}
@@ -14,26 +14,17 @@ use Rattle.demo_elf.specs.Symbols.{symbol_of, IsSmall, AreSmall}
 pub one_symbol : (xs : List DemoSymbol) (i at len : ℕ) (x : DemoSymbol) (before after all : List ℕ) → i < length xs → x ≡ get_or xs i x → len ≡ length (string_bytes x.name)
     → before ++ symbols_from at (map symbol_of (drop i xs)) ≡ all → after ≡ before ++ symbol_text at x.offset
     → after ++ symbols_from (at + (len + 1)) (map symbol_of (drop (i + 1) xs)) ≡ all
-one_symbol xs i at len x before after all inside is long whole put =
-    let rest = map symbol_of (drop (i + 1) xs) in
-    let next : drop i xs ≡ x ∷ drop (i + 1) xs = drop-cons xs i x inside ∙ ap (λ (y : DemoSymbol). y ∷ drop (suc i) xs) (sym is) ∙ ap (λ (k : ℕ). x ∷ drop k xs) (sym (add-one i)) in
-    ap (λ (bs : List ℕ). bs ++ symbols_from (at + (len + 1)) rest) put
-    ∙ append_assoc before (symbol_text at x.offset) (symbols_from (at + (len + 1)) rest)
-    ∙ ap (λ (n : ℕ). before ++ (symbol_text at x.offset ++ symbols_from (at + (n + 1)) rest)) long
-    ∙ ap (λ (ys : List DemoSymbol). before ++ symbols_from at (map symbol_of ys)) (sym next)
-    ∙ whole
+one_symbol xs i at len x before after all inside is long whole put = grind (arith, drop-cons, append_assoc)
 
 -- none is left
 pub all_symbols : (xs : List DemoSymbol) (i at : ℕ) (before all : List ℕ) → length xs ≤ i → before ++ symbols_from at (map symbol_of (drop i xs)) ≡ all → before ≡ all
-all_symbols xs i at before all past whole =
-    sym (append-nil before) ∙ ap (λ (ys : List DemoSymbol). before ++ symbols_from at (map symbol_of ys)) (sym (drop_all i xs past)) ∙ whole
+all_symbols xs i at before all past whole = grind (arith, append-nil, drop_all)
 
 names_short : (xs : List DemoSymbol) → All IsSmall xs → length (flat_map string_text (map symbol_of xs)) ≤ 16 * length xs
 names_short [] small = omega arith
 names_short (x ∷ xs) small =
     let rest = names_short xs (All-tail IsSmall x xs small) in
     let here = All-head IsSmall x xs small in
-    let short = here.0 in
     omega (
       arith,
       ap length (flat_map-cons string_text (symbol_of x) (map symbol_of xs)),

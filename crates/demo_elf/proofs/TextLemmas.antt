@@ -5,9 +5,7 @@ use Rattle.std.proofs.lemmas.List.Concat.{flat_map-append}
 
 counted : (a n : ℕ) → range_with_len a (suc n) ≡ range_with_len a n ++ (a + n) ∷ []
 counted a zero = let same : a ≡ a + 0 = omega arith in ap (λ (k : ℕ). k ∷ []) same
-counted a (suc n) =
-    let same : (a + 1) + n ≡ a + suc n = omega arith in
-    ap (λ (ks : List ℕ). a ∷ ks) (counted (a + 1) n ∙ ap (λ (k : ℕ). range_with_len (a + 1) n ++ k ∷ []) same)
+counted a (suc n) = grind (arith, counted (a + 1) n)
 
 -- what the numbers up to n are spelled
 pub counted_more : {A : Type 0} (f : ℕ → List A) (n : ℕ) → flat_map f (range_with_len 0 (n + 1)) ≡ flat_map f (range_with_len 0 n) ++ f n
@@ -20,9 +18,7 @@ counted_more {A} f n =
 
 -- texts that were put one behind the other
 pub three_parts : {X : Type 0} (start a b c one two three : List X) → one ≡ start ++ a → two ≡ one ++ b → three ≡ two ++ c → three ≡ start ++ (a ++ b ++ c)
-three_parts {X} start a b c one two three p q r =
-    r ∙ ap (λ (xs : List X). xs ++ c) (q ∙ ap (λ (xs : List X). xs ++ b) p ∙ append_assoc start a b) ∙ append_assoc start (a ++ b) c
+three_parts {X} start a b c one two three p q r = grind (arith, append_assoc)
 
 pub four_parts : {X : Type 0} (start a b c d one two three four : List X) → one ≡ start ++ a → two ≡ one ++ b → three ≡ two ++ c → four ≡ three ++ d → four ≡ start ++ (a ++ b ++ c ++ d)
-four_parts {X} start a b c d one two three four p q r s =
-    s ∙ ap (λ (xs : List X). xs ++ d) (three_parts start a b c one two three p q r) ∙ append_assoc start (a ++ b ++ c) d
+four_parts {X} start a b c d one two three four p q r s = grind (arith, append_assoc)

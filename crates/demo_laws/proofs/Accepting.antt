@@ -1,13 +1,13 @@
 -- The file of a program is accepted.
-use Rattle.std.proofs.Common.{◌≡◌, ℕ, suc, ◌+◌, ◌*◌, ◌/◌, ◌^◌, ◌<◌, ◌≤◌, false, List, [], ◌∷◌, ◌++◌, length, take, drop, map, replicate, None, refl, sym, ap, ◌∙◌, subst, arith}
-use Rattle.std.specs.List.{flat_map, filter, range_with_len}
-use Rattle.elf32_syms.specs.Header.{has_magic, header_of}
+use Rattle.std.proofs.Common.{◌≡◌, ℕ, suc, ◌+◌, ◌*◌, ◌^◌, ◌<◌, ◌≤◌, false, List, [], ◌∷◌, ◌++◌, length, map, replicate, None, refl, ap, ◌∙◌, subst, arith}
+use Rattle.std.specs.List.{flat_map, range_with_len}
+use Rattle.elf32_syms.specs.Header.{header_of}
 use Rattle.elf32_syms.specs.Segments.{segments_of}
 use Rattle.elf32_syms.specs.Sections.{sections_of, table_of, strings_of}
 use Rattle.elf32_syms.specs.Symbols.{entry_at, is_candidate, fitting_entries, candidates, kept_entries}
 use Rattle.elf32_syms.specs.Refusals.{header_refusal, segments_refusal, text_refusal, table_refusal, names_refusal, symbols_refusal, elf_refusal}
 use Rattle.elf32_syms.proofs.RefusalLemmas.{all_accepted, symbols_judged, few}
-use Rattle.demo_elf.specs.Elf.{strings_at, names_at, program_header, symbols_text, strings_text, string_text, elf_file}
+use Rattle.demo_elf.specs.Elf.{names_at, program_header, symbols_text, strings_text, string_text, elf_file}
 use Rattle.demo_laws.specs.Programs.{AreInOrder, IsProgram}
 use Rattle.demo_laws.proofs.Reading.{middle, Section, Entry}
 use Rattle.demo_laws.proofs.HeaderLemmas.{header_to, header_read, magic_read, header_accepted, segment_long, segments_read, segments_accepted}
@@ -22,8 +22,6 @@ entries_ascend : (number at low high : ℕ) (symbols : List (List ℕ × ℕ)) �
 unfolding entry_of
 entries_ascend number at low high [] order = tt
 entries_ascend number at low high (s ∷ symbols) order =
-    let from = order.0 in
-    let to = order.1 in
     let next : 0x10000 + (s.1 + 1) ≡ 0x10000 + s.1 + 1 = omega arith in
     (omega arith, omega arith, subst (λ (a : ℕ). Ascend a (0x10000 + high) (entries_from (number + 1) (at + (length s.0 + 1)) symbols)) next (entries_ascend (number + 1) (at + (length s.0 + 1)) (s.1 + 1) high symbols order.2))
 
@@ -52,10 +50,7 @@ module _ (words : List ℕ) (symbols : List (List ℕ × ℕ)) (program : IsProg
   header_in = ap header_of (by_header words symbols) ∙ header_read (headers_of words symbols) (program_header (length words) ++ body_of words symbols) headers_fit
 
   pub header_passes : header_refusal (elf_file words symbols) ≡ None
-  header_passes =
-      let long = file_long words symbols in
-      let magic = ap has_magic (by_header words symbols) ∙ magic_read (headers_of words symbols) (program_header (length words) ++ body_of words symbols) in
-      header_accepted (headers_of words symbols) (elf_file words symbols) header_in magic (omega arith) (omega arith)
+  header_passes = grind (arith, file_long, by_header, magic_read, headers_of, body_of, header_accepted, header_in)
 
   pub segments_in : segments_of (elf_file words symbols) ≡ segment_long (4 * length words) ∷ []
   segments_in = segments_read (headers_of words symbols) (length words) (body_of words symbols) (elf_file words symbols) (by_header words symbols) header_in program.some (omega (arith, program.text))
@@ -64,9 +59,7 @@ module _ (words : List ℕ) (symbols : List (List ℕ × ℕ)) (program : IsProg
   segments_pass = segments_accepted (elf_file words symbols) (4 * length words) segments_in (omega (arith, file_long words symbols))
 
   pub sections_are : sections_of (elf_file words symbols) ≡ sections_in
-  sections_are =
-      sections_read (sections_front words symbols) (elf_file words symbols) (headers_of words symbols) (length words) (length symbols) (length (strings_text symbols))
-      (by_sections words symbols) (sections_front_long words symbols) header_in names_fit
+  sections_are = grind (arith, sections_read, sections_front, headers_of, by_sections, sections_front_long, header_in, names_fit)
 
   text_passes : text_refusal sections_in ≡ None
   text_passes = text_accepted (length words) (length symbols) (length (strings_text symbols)) program.some program.text
@@ -75,18 +68,10 @@ module _ (words : List ℕ) (symbols : List (List ℕ × ℕ)) (program : IsProg
   table_passes = table_accepted (length words) (length symbols) (length (strings_text symbols)) (length (elf_file words symbols)) (omega (arith, file_long words symbols))
 
   pub table_is : table_of (elf_file words symbols) sections_in ≡ symbols_text symbols
-  table_is =
-      table_read (elf_file words symbols) (length words) (length symbols) (length (strings_text symbols))
-      ∙ ap (λ (bs : List ℕ). take (16 * (length symbols + 1)) (drop (4096 + 4 * length words) bs)) (by_table words symbols)
-      ∙ middle (front_of words symbols) (symbols_text symbols) (strings_text symbols ++ back_of words symbols) (4096 + 4 * length words) (16 * (length symbols + 1))
-      (front_long words (length symbols) (length (strings_text symbols))) (symbols_long symbols)
+  table_is = search (table_read, by_table, middle, front_of, back_of, front_long, symbols_long)
 
   pub strings_are : strings_of (elf_file words symbols) sections_in ≡ strings_text symbols
-  strings_are =
-      let at = strings_at (length words) (length symbols) in
-      strings_read (elf_file words symbols) (length words) (length symbols) (length (strings_text symbols))
-      ∙ ap (λ (bs : List ℕ). take (length (strings_text symbols)) (drop at bs)) (by_strings words symbols)
-      ∙ middle (front_of words symbols ++ symbols_text symbols) (strings_text symbols) (back_of words symbols) at (length (strings_text symbols)) (strings_front_long words symbols) refl
+  strings_are = search (strings_read, by_strings, middle, front_of, back_of, strings_front_long)
 
   entries_are : map (entry_at (symbols_text symbols)) (range_with_len 1 (length symbols)) ≡ entries_in
   unfolding symbols_text
@@ -98,9 +83,7 @@ module _ (words : List ℕ) (symbols : List (List ℕ × ℕ)) (program : IsProg
 
   pub fitting_are : fitting_entries sections_in (symbols_text symbols) ≡ entries_in
   unfolding fitting_entries
-  fitting_are =
-      let count : length (symbols_text symbols) / 16 ≡ suc (length symbols) = omega (arith, symbols_long symbols) in
-      rw count (rw first_fits_not (ap (filter (is_candidate sections_in)) entries_are ∙ all_fit (length words) (length symbols) (length (strings_text symbols)) program.some 1 1 0 symbols (omega arith) program.order))
+  fitting_are = grind (arith, symbols_long, first_fits_not, entries_are, all_fit)
 
   pub names_pass : names_refusal (strings_text symbols) entries_in ≡ None
   unfolding names_refusal strings_text
@@ -117,11 +100,7 @@ module _ (words : List ℕ) (symbols : List (List ℕ × ℕ)) (program : IsProg
       all_kept sections_in (strings_text symbols) entries_in (rw (low, high) (omega arith)) (rw (low, high) (entries_ascend 1 1 0 (4 * length words) symbols program.order))
 
   pub symbols_pass : symbols_refusal sections_in (symbols_text symbols) (strings_text symbols) ≡ None
-  symbols_pass =
-      symbols_judged sections_in (symbols_text symbols) (strings_text symbols) entries_in entries_in entries_in (sym fitting_are) (sym candidates_are) (sym kept_are) names_pass
-      ∙ few entries_in (omega (arith, entries_long 1 1 symbols, program.few))
+  symbols_pass = grind (arith, symbols_judged, fitting_are, candidates_are, kept_are, names_pass, few, entries_long)
 
   pub file_accepted : elf_refusal (elf_file words symbols) ≡ None
-  file_accepted =
-      all_accepted (elf_file words symbols) sections_in (symbols_text symbols) (strings_text symbols) (sym sections_are) (sym table_is) (sym strings_are)
-      header_passes segments_pass text_passes table_passes symbols_pass
+  file_accepted = search (all_accepted, sections_are, table_is, strings_are, header_passes, segments_pass, text_passes, table_passes, symbols_pass)

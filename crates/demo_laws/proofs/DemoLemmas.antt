@@ -11,7 +11,7 @@ use Rattle.elf32_syms.specs.Names.{is_zero}
 use Rattle.elf32_syms.specs.declared.image.Image.{Image}
 use Rattle.elf32_syms.specs.Image.{image_of}
 use Rattle.settings.specs.declared.setup.Setup.{Setup}
-use Rattle.prof_machine.specs.Start.{start_refusal, base_of, program_end_of, is_too_small, is_entry_outside, stacks_bytes, memory_size}
+use Rattle.prof_machine.specs.Start.{start_refusal, base_of, program_end_of}
 use Rattle.demo_elf.specs.Code.{function_at, start_words, mcount_words, function_words, demo_words, function_symbol, demo_symbols}
 use Rattle.demo_elf.specs.Elf.{string_text, strings_text, demo_program}
 use Rattle.demo_laws.specs.Programs.{IsName, IsNamed, IsProgram, AreInOrder, symbols_in_row, hook_in, program_image}
@@ -28,8 +28,7 @@ function_long n i = refl
 
 functions_long : (n a k : ℕ) → length (flat_map (function_words n) (range_with_len a k)) ≡ 64 * k
 functions_long n a zero = refl
-functions_long n a (suc k) =
-    omega (arith, length-append (function_words n a) (flat_map (function_words n) (range_with_len (a + 1) k)), function_long n a, functions_long n (a + 1) k)
+functions_long n a (suc k) = grind (arith, length-append, function_long, functions_long n (a + 1) k)
 
 pub words_count : (n : ℕ) → length (demo_words n) ≡ 16 + 64 * n
 unfolding demo_words start_words mcount_words
@@ -46,11 +45,7 @@ decimal_whole zero h = subst (AllByRecursion (λ c. is_zero c ≡ false)) (sym (
 decimal_whole (suc i) h = subst (AllByRecursion (λ c. is_zero c ≡ false)) (sym (decimal-digits_of (suc i) (omega arith) h)) (no_zeros (digits_of 10 (suc i)))
 
 function_named : (i : ℕ) → i < 2000 → IsName (codes "f" ++ decimal i)
-function_named i h = record {
-  some = omega arith;
-  short = omega (arith, length-decimal-le 4 i (omega arith) (omega arith) (omega arith));
-  whole = (refl, decimal_whole i (omega arith));
-}
+function_named i h = grind (arith, length-decimal-le, decimal_whole)
 
 functions_named : (a k : ℕ) → a + k ≤ 2000 → AllByRecursion IsNamed (map function_symbol (range_with_len a k))
 unfolding function_symbol
@@ -59,10 +54,7 @@ functions_named a (suc k) h = (function_named a (omega arith), functions_named (
 
 pub symbols_named : (n : ℕ) → n ≤ 2000 → AllByRecursion IsNamed (demo_symbols n)
 unfolding demo_symbols
-symbols_named n h = (
-  record { some = omega arith; short = omega arith; whole = (refl, (refl, (refl, (refl, (refl, (refl, tt)))))) },
-  (record { some = omega arith; short = omega arith; whole = (refl, (refl, (refl, (refl, (refl, (refl, (refl, tt))))))) }, functions_named 0 n (omega arith)),
-)
+symbols_named n h = grind (arith, functions_named)
 
 functions_strings : (a k : ℕ) → a + k ≤ 2000 → length (flat_map string_text (map function_symbol (range_with_len a k))) ≤ 6 * k
 unfolding function_symbol
@@ -99,20 +91,10 @@ symbols_count n = omega (arith, length-map (range_with_len 0 n) function_symbol,
 -- so it is a program
 
 pub demo_is_program : (n : ℕ) → n ≤ 2000 → IsProgram (demo_words n) (demo_symbols n)
-demo_is_program n h = record {
-  some = omega (arith, words_count n);
-  text = omega (arith, words_count n);
-  few = omega (arith, symbols_count n);
-  strings = omega (arith, strings_count n h);
-  named = symbols_named n h;
-  order = symbols_ascend n (4 * length (demo_words n)) (omega (arith, words_count n));
-}
+demo_is_program n h = grind (arith, words_count, symbols_count, strings_count, symbols_named, symbols_ascend)
 
 pub demo_accepted : (n : ℕ) → n ≤ 2000 → IsDemoFile n
-demo_accepted n h = record {
-  limit = omega (arith, file_long (demo_words n) (demo_symbols n), words_count n, symbols_count n, strings_count n h);
-  accepted = file_accepted (demo_words n) (demo_symbols n) (demo_is_program n h);
-}
+demo_accepted n h = grind (arith, file_long, words_count, symbols_count, strings_count, file_accepted, demo_is_program)
 
 -- ---- the image
 
@@ -134,8 +116,7 @@ unfolding program_image demo_image
 demo_image_is n bytes e f = rw (e, f, mcount_hook n, moncontrol_hook n) refl
 
 pub demo_image_read : (n : ℕ) → n ≤ 2000 → image_of (demo_program n) ≡ demo_image n
-demo_image_read n h =
-    image_read (demo_words n) (demo_symbols n) (demo_is_program n h) ∙ demo_image_is n (text_bytes n) (omega (arith, words_count n)) refl
+demo_image_read n h = grind (arith, image_read, demo_is_program, demo_image_is, words_count)
 
 row_long : (high : ℕ) (symbols : List (List ℕ × ℕ)) → length (symbols_in_row high symbols) ≡ length symbols
 row_long high [] = refl
@@ -152,11 +133,7 @@ demo_symbols_read n h = ap (λ (image : Image). length image.symbols) (demo_imag
 
 image_starts : (n : ℕ) (setup : Setup) → n ≤ 2000 → 4 ≤ setup.ram_mib → setup.ram_mib ≤ 256 → start_refusal (demo_image n) setup ≡ None
 unfolding start_refusal base_of program_end_of demo_image
-image_starts n setup h least most =
-    let room : is_too_small (0x10000 + text_bytes n + stacks_bytes) (0x10000 + memory_size setup) ≡ false = grind (arith, nat_tests) in
-    let inside : is_entry_outside 0x10000 (0x10000 + memory_size setup) 0x10000 ≡ false = grind (arith, nat_tests) in
-    let end : max (0x10000 + text_bytes n) 0 ≡ 0x10000 + text_bytes n = omega arith in
-    rw (end, room, inside) refl
+image_starts n setup h least most = grind (arith, nat_tests, max)
 
 pub demo_run_starts : (n : ℕ) (setup : Setup) → n ≤ 2000 → 4 ≤ setup.ram_mib → setup.ram_mib ≤ 256 → start_refusal (image_of (demo_program n)) setup ≡ None
 demo_run_starts n setup h least most = ap (λ (image : Image). start_refusal image setup) (demo_image_read n h) ∙ image_starts n setup h least most

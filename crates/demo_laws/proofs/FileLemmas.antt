@@ -1,5 +1,5 @@
 -- A file of few words and symbols, and where its parts stand.
-use Rattle.std.proofs.Common.{◌≡◌, ℕ, ◌+◌, ◌*◌, List, ◌++◌, length, replicate, sym, ap, ◌∙◌, arith, append_assoc, length-append}
+use Rattle.std.proofs.Common.{◌≡◌, ℕ, ◌+◌, ◌*◌, List, ◌++◌, length, replicate, arith, append_assoc, length-append}
 use Rattle.std.proofs.lemmas.List.{length-replicate}
 use Rattle.demo_elf.specs.Elf.{words_text, padding_of, strings_at, names_at, headers_at, file_header, program_header, symbols_from, symbols_text, strings_text, names_text, section_headers, front_text, back_text, elf_file}
 use Rattle.demo_elf.proofs.LengthLemmas.{from_long, section_headers_long, names_long, front_long}
@@ -38,8 +38,7 @@ module _ (words : List ℕ) (symbols : List (List ℕ × ℕ)) where
 
   pub by_table : elf_file words symbols ≡ front_of ++ (symbols_text symbols ++ (strings_text symbols ++ back_of))
   unfolding elf_file
-  by_table =
-      append_assoc (front_of ++ symbols_text symbols) (strings_text symbols) back_of ∙ append_assoc front_of (symbols_text symbols) (strings_text symbols ++ back_of)
+  by_table = search append_assoc
 
   pub by_strings : elf_file words symbols ≡ (front_of ++ symbols_text symbols) ++ (strings_text symbols ++ back_of)
   unfolding elf_file
@@ -47,31 +46,13 @@ module _ (words : List ℕ) (symbols : List (List ℕ × ℕ)) where
 
   pub by_sections : elf_file words symbols ≡ sections_front ++ section_headers (length words) (length symbols) (length (strings_text symbols))
   unfolding elf_file back_text
-  by_sections =
-      sym (append_assoc (front_of ++ symbols_text symbols ++ strings_text symbols)
-      (names_text ++ replicate (padding_of (names_at (length words) (length symbols) (length (strings_text symbols)) + 33)) 0)
-      (section_headers (length words) (length symbols) (length (strings_text symbols))))
+  by_sections = search (append_assoc, replicate)
 
   pub sections_front_long : length sections_front ≡ headers_of
-  sections_front_long =
-      let n = padding_of (names_at (length words) (length symbols) (length (strings_text symbols)) + 33) in
-      let zeros : List ℕ = replicate n 0 in
-      omega (
-        arith,
-        length-append (front_of ++ symbols_text symbols ++ strings_text symbols) (names_text ++ zeros),
-        length-append names_text zeros,
-        length-append (front_of ++ symbols_text symbols) (strings_text symbols),
-        length-append front_of (symbols_text symbols),
-        names_long,
-        length-replicate {A = ℕ} n 0,
-        front_long words (length symbols) (length (strings_text symbols)),
-        symbols_long symbols,
-      )
+  sections_front_long = grind (arith, length-append, names_long, length-replicate, front_long, symbols_long)
 
   pub strings_front_long : length (front_of ++ symbols_text symbols) ≡ strings_at (length words) (length symbols)
   strings_front_long = omega (arith, length-append front_of (symbols_text symbols), front_long words (length symbols) (length (strings_text symbols)), symbols_long symbols)
 
   pub file_long : length (elf_file words symbols) ≡ headers_of + 200
-  file_long =
-      let headers = section_headers (length words) (length symbols) (length (strings_text symbols)) in
-      ap length by_sections ∙ omega (arith, length-append sections_front headers, sections_front_long, section_headers_long (length words) (length symbols) (length (strings_text symbols)))
+  file_long = grind (arith, by_sections, length-append, sections_front_long, section_headers_long)

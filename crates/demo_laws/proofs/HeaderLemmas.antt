@@ -1,6 +1,5 @@
 -- The header of the file, and the segment.
-use Rattle.std.proofs.Common.{◌≡◌, ℕ, ◌+◌, ◌*◌, ◌^◌, ◌<◌, ◌≤◌, true, false, nat_lt, List, [], ◌∷◌, ◌++◌, length, None, Some, refl, ap, ◌∙◌, arith, min}
-use Rattle.std.proofs.lemmas.Bool.Decides.{nat_tests}
+use Rattle.std.proofs.Common.{◌≡◌, ℕ, ◌+◌, ◌*◌, ◌^◌, ◌<◌, ◌≤◌, true, List, [], ◌∷◌, ◌++◌, length, None, Some, refl, ap, ◌∙◌, arith}
 use Rattle.elf32_syms.specs.declared.image.Segment.{Segment}
 use Rattle.elf32_syms.specs.Header.{has_magic, header_of}
 use Rattle.elf32_syms.specs.Segments.{segment_at, segments_of}
@@ -39,16 +38,11 @@ kind_accepted headers = refl
 
 tables_accepted : (headers len : ℕ) → 84 ≤ len → headers + 200 ≤ len → tables_refusal len (header_to headers) ≡ None
 unfolding tables_refusal header_to
-tables_accepted headers len first inside =
-    let programs : nat_lt len 84 ≡ false = grind (arith, nat_tests) in
-    let sections : nat_lt len (headers + 200) ≡ false = grind (arith, nat_tests) in
-    rw (programs, sections) refl
+tables_accepted headers len first inside = grind arith
 
 pub header_accepted : (headers : ℕ) (bs : List ℕ) → header_of bs ≡ header_to headers → has_magic bs ≡ true → 84 ≤ length bs → headers + 200 ≤ length bs → header_refusal bs ≡ None
 unfolding header_refusal
-header_accepted headers bs read magic first inside =
-    let short : nat_lt (length bs) 52 ≡ false = grind (arith, nat_tests) in
-    rw (short, magic, read, kind_accepted headers, tables_accepted headers (length bs) first inside) refl
+header_accepted headers bs read magic first inside = grind (arith, kind_accepted, tables_accepted)
 
 -- the one segment, which takes so many bytes
 unfoldable pub segment_long : ℕ → Segment
@@ -56,10 +50,7 @@ segment_long bytes = record { addr = 0x10000; offset = 4096; filesz = bytes; mem
 
 segment_read : (headers text : ℕ) (rest : List ℕ) → 0 < text → 4 * text < 2 ^ 32 → segment_at (file_header headers ++ (program_header text ++ rest)) 52 ≡ Some (segment_long (4 * text))
 unfolding segment_at file_header program_header halves_text words_text segment_long
-segment_read headers text rest some fits =
-    let size = word_back (4 * text) fits in
-    let positive : nat_lt 0 (4 * text) ≡ true = grind (arith, nat_tests) in
-    rw (size, positive) (let least : min (4 * text) (4 * text) ≡ 4 * text = omega arith in rw least refl)
+segment_read headers text rest some fits = grind arith
 
 pub segments_read : (headers text : ℕ) (rest bs : List ℕ) → bs ≡ file_header headers ++ (program_header text ++ rest) → header_of bs ≡ header_to headers → 0 < text → 4 * text < 2 ^ 32
     → segments_of bs ≡ segment_long (4 * text) ∷ []
@@ -70,6 +61,4 @@ segments_read headers text rest bs same read some fits =
 
 pub segments_accepted : (bs : List ℕ) (bytes : ℕ) → segments_of bs ≡ segment_long bytes ∷ [] → 4096 + bytes ≤ length bs → segments_refusal bs ≡ None
 unfolding segments_refusal segment_long
-segments_accepted bs bytes read inside =
-    let whole : nat_lt (length bs) (4096 + bytes) ≡ false = grind (arith, nat_tests) in
-    rw read (rw whole refl)
+segments_accepted bs bytes read inside = grind arith

@@ -1,5 +1,5 @@
 -- Candidates at ascending addresses of the text are all kept.
-use Rattle.std.proofs.Common.{◌≡◌, ℕ, zero, suc, ◌+◌, ◌-◌, ◌<◌, ◌≤◌, true, false, nat_eq, List, [], ◌∷◌, Option, None, Some, ⊎_elim, subst, refl, sym, ap, ◌∙◌, arith}
+use Rattle.std.proofs.Common.{◌≡◌, ℕ, zero, suc, ◌+◌, ◌-◌, ◌<◌, ◌≤◌, true, false, nat_eq, List, [], ◌∷◌, Option, None, Some, ⊎_elim, subst, refl, ◌∙◌, arith}
 use Rattle.std.specs.Bool.{⊤}
 use Rattle.std.specs.List.{filter, filter_map, range_with_len}
 use Rattle.std.proofs.lemmas.Bool.{cases_lt}
@@ -16,10 +16,7 @@ Ascend low high (c ∷ cs) = (low ≤ c.addr) × (c.addr < high) × Ascend (c.ad
 -- no candidate stands before the first one
 none_before : (addr low high : ℕ) (cs : List Entry) → addr < low → Ascend low high cs → filter (λ (c : Entry). nat_eq c.addr addr) cs ≡ []
 none_before addr low high [] h order = refl
-none_before addr low high (c ∷ cs) h order =
-    let from = order.0 in
-    let other : nat_eq c.addr addr ≡ false = grind (arith, nat_tests) in
-    rw other (none_before addr (c.addr + 1) high cs (omega arith) order.2)
+none_before addr low high (c ∷ cs) h order = grind (arith, none_before addr (c.addr + 1) high cs (omega arith) order.2)
 
 -- where f gives the kept ones at the addresses from one on, it gives all along these addresses
 abbrev IsAlong : List ℕ → (ℕ → Option Entry) → ℕ → ℕ → List Entry → Type 0
@@ -57,12 +54,7 @@ module _ (strings : List ℕ) where
           rw none (rest (subst (λ (to : ℕ). Ascend (low + 1) to (c ∷ cs)) end (omega arith, order.1, order.2)) (λ addr le. same addr (omega arith)))
 
       here : IsAlong strings f n (low + 1) cs → c.addr ≤ low → filter_map f (range_with_len low (suc n)) ≡ c ∷ cs
-      here rest h =
-          let from = order.0 in
-          let at : c.addr ≡ low = omega arith in
-          let some : f low ≡ Some c = same low (omega arith) ∙ ap (kept_at strings (c ∷ cs)) (sym at) ∙ first_kept (low + suc n) c cs order.2 in
-          let others : Ascend (low + 1) (low + 1 + n) cs = subst (λ (to : ℕ). Ascend (low + 1) to cs) end (subst (λ (a : ℕ). Ascend (a + 1) (low + suc n) cs) at order.2) in
-          rw some (ap (λ (es : List Entry). c ∷ es) (rest others (λ addr le. same addr (omega arith) ∙ later_kept addr c cs (omega arith))))
+      here rest h = grind (arith, first_kept, later_kept)
 
 pub all_kept : (sections : List Section) (strings : List ℕ) (cs : List Entry) → text_low sections ≤ text_high sections → Ascend (text_low sections) (text_high sections) cs → kept_entries sections strings cs ≡ cs
 unfolding kept_entries

@@ -1,5 +1,5 @@
 -- The names of symbols, as they stand in the strings.
-use Rattle.std.proofs.Common.{◌≡◌, ℕ, ◌+◌, Bool, true, false, not, ◌||◌, cond, nat_lt, List, [], ◌∷◌, ◌++◌, length, take, None, refl, sym, ap, ◌∙◌, arith, append_assoc, length-append}
+use Rattle.std.proofs.Common.{◌≡◌, ℕ, ◌+◌, Bool, true, false, not, ◌||◌, cond, nat_lt, List, [], ◌∷◌, ◌++◌, length, None, refl, sym, ap, ◌∙◌, arith, append_assoc, length-append}
 use Rattle.std.specs.List.{AllByRecursion, find, filter, flat_map, list_any, before_first}
 use Rattle.std.proofs.lemmas.Bool.Decides.{nat_tests}
 use Rattle.std.proofs.lemmas.List.{drop_at, take_all}
@@ -33,10 +33,7 @@ module _ (front name more : List ℕ) (at : ℕ) (long : length front ≡ at) wh
 
   pub name_read : IsName name → name_at (front ++ ((name ++ 0 ∷ []) ++ more)) at ≡ name
   unfolding name_at
-  name_read is =
-      ap (λ (xs : List ℕ). take 4095 (before_first is_zero xs)) (drop_at front ((name ++ 0 ∷ []) ++ more) at long)
-      ∙ ap (take 4095) (before_zero name more is.whole)
-      ∙ take_all 4095 name is.short
+  name_read is = search (drop_at, before_zero, take_all)
 
 -- one name further on
 pub regroup : (front : List ℕ) (s : List ℕ × ℕ) (symbols : List (List ℕ × ℕ)) → front ++ flat_map string_text (s ∷ symbols) ≡ (front ++ string_text s) ++ flat_map string_text symbols

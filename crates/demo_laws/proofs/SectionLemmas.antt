@@ -1,9 +1,9 @@
 -- The sections of the file: what they are, and that they are accepted.
-use Rattle.std.proofs.Common.{◌≡◌, ℕ, ◌+◌, ◌*◌, ◌^◌, ◌<◌, ◌≤◌, true, false, nat_lt, nat_eq, List, [], ◌∷◌, ◌++◌, length, take, drop, None, refl, ap, ◌∙◌, arith}
+use Rattle.std.proofs.Common.{◌≡◌, ℕ, ◌+◌, ◌*◌, ◌^◌, ◌<◌, ◌≤◌, true, false, nat_eq, List, [], ◌∷◌, ◌++◌, length, take, drop, None, refl, ap, ◌∙◌, arith}
 use Rattle.std.proofs.lemmas.Bool.Decides.{nat_tests}
 use Rattle.elf32_syms.specs.Header.{header_of}
 use Rattle.elf32_syms.specs.Sections.{section_at, sections_of, is_executable, executables, text_low, text_high, table_of, strings_of}
-use Rattle.elf32_syms.specs.Refusals.{is_too_far, text_refusal, table_refusal}
+use Rattle.elf32_syms.specs.Refusals.{text_refusal, table_refusal}
 use Rattle.gp_base.specs.Bytes.{word_at}
 use Rattle.demo_elf.specs.Elf.{words_text, section_headers, strings_at, names_at}
 use Rattle.demo_laws.proofs.Reading.{word_back, word_behind, Section}
@@ -93,18 +93,13 @@ module _ (text symbols strings : ℕ) (some : 0 < text) where
 
   pub text_accepted : 4 * text ≤ 16777216 → text_refusal (sections_to text symbols strings) ≡ None
   unfolding text_refusal
-  text_accepted few =
-      let near : is_too_far 0x10000 (0x10000 + 4 * text) ≡ false = grind (arith, nat_tests) in
-      rw (executables_read, low_read, high_read, near) refl
+  text_accepted few = grind (arith, executables_read, low_read, high_read)
 
 -- ---- the symbol table and the strings
 
 pub table_accepted : (text symbols strings len : ℕ) → names_at text symbols strings ≤ len → table_refusal len (sections_to text symbols strings) ≡ None
 unfolding table_refusal sections_to no_section text_section symbol_section string_section name_section
-table_accepted text symbols strings len inside =
-    let table : nat_lt len (4096 + 4 * text + 16 * (symbols + 1)) ≡ false = grind (arith, nat_tests) in
-    let names : nat_lt len (strings_at text symbols + strings) ≡ false = grind (arith, nat_tests) in
-    rw (table, names) refl
+table_accepted text symbols strings len inside = grind arith
 
 pub table_read : (bs : List ℕ) (text symbols strings : ℕ) → table_of bs (sections_to text symbols strings) ≡ take (16 * (symbols + 1)) (drop (4096 + 4 * text) bs)
 unfolding table_of sections_to no_section text_section symbol_section string_section name_section

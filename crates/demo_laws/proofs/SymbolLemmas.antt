@@ -86,11 +86,7 @@ entries_read front number at low high (s ∷ symbols) long named inside order =
 module _ (text symbols strings : ℕ) (some : 0 < text) where
   symbol_fits : (number name offset : ℕ) → 0 < number → offset < 4 * text → is_candidate (sections_to text symbols strings) (entry_of number name offset) ≡ true
   unfolding is_candidate entry_of sections_to text_section
-  symbol_fits number name offset positive inside =
-      let p : nat_lt 0 number ≡ true = grind (arith, nat_tests) in
-      let low : nat_le 0x10000 (0x10000 + offset) ≡ true = grind (arith, nat_tests) in
-      let high : nat_lt (0x10000 + offset) (0x10000 + 4 * text) ≡ true = grind (arith, nat_tests) in
-      rw (p, text_executable text some, low, high) refl
+  symbol_fits number name offset positive inside = grind (arith, nat_lt, nat_tests, nat_le, text_executable)
 
   pub all_fit : (number at low : ℕ) (named : List (List ℕ × ℕ)) → 0 < number → AreInOrder low (4 * text) named
       → filter (is_candidate (sections_to text symbols strings)) (entries_from number at named) ≡ entries_from number at named

@@ -1,6 +1,5 @@
 -- The file that is written out is read by evaluating its definitions.
-use Rattle.std.proofs.Common.{◌≡◌, ◌+◌, ◌≤◌, false, None, refl, ap, ◌∙◌, arith}
-use Rattle.std.proofs.lemmas.Bool.Decides.{nat_tests}
+use Rattle.std.proofs.Common.{◌≡◌, ◌≤◌, None, refl, ap, ◌∙◌, arith}
 use Rattle.elf32_syms.specs.Header.{header_of}
 use Rattle.elf32_syms.specs.Image.{candidates_of, image_of, symbols_of}
 use Rattle.elf32_syms.specs.Names.{name_at, name_ends}
@@ -10,7 +9,7 @@ use Rattle.elf32_syms.specs.Segments.{segment_at, segments_of}
 use Rattle.elf32_syms.specs.Symbols.{entry_at, fitting_entries, is_candidate, kept_at, kept_entries, ranks_before}
 use Rattle.elf32_syms.specs.declared.image.Image.{Image}
 use Rattle.settings.specs.declared.setup.Setup.{Setup}
-use Rattle.prof_machine.specs.Start.{base_of, is_entry_outside, is_too_small, memory_size, program_end_of, stacks_bytes, start_refusal}
+use Rattle.prof_machine.specs.Start.{base_of, program_end_of, start_refusal}
 use Rattle.demo_laws.specs.Witness.{WitnessHasImage, WitnessIsAccepted, WitnessStarts, witness_file, witness_image}
 
 pub witness_accepted : WitnessIsAccepted
@@ -23,10 +22,7 @@ witness_read = refl
 
 image_starts : (setup : Setup) → 4 ≤ setup.ram_mib → setup.ram_mib ≤ 256 → start_refusal witness_image setup ≡ None
 unfolding start_refusal base_of program_end_of witness_image
-image_starts setup least most =
-    let room : is_too_small (0x10010 + stacks_bytes) (0x10000 + memory_size setup) ≡ false = grind (arith, nat_tests) in
-    let inside : is_entry_outside 0x10000 (0x10000 + memory_size setup) 0x10000 ≡ false = grind (arith, nat_tests) in
-    rw (room, inside) refl
+image_starts setup least most = grind arith
 
 pub witness_starts : WitnessStarts
 witness_starts setup least most = ap (λ (image : Image). start_refusal image setup) witness_read ∙ image_starts setup least most

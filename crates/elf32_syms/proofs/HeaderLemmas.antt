@@ -1,6 +1,6 @@
 -- What is refused behind the header.
 use Rattle.std.proofs.Common.{◌≡◌, ℕ, Bool, true, false, cond, not, List, length, Option, Some, None, refl, subst, sym}
-use Rattle.std.specs.Prelude.{IfSome, find, nat_lt, slice_get, ◌+◌, ◌==◌, ◌||◌}
+use Rattle.std.specs.Prelude.{IfSome, find, nat_lt, ◌+◌, ◌==◌, ◌||◌}
 use Rattle.std.specs.Option.{option_and_then, option_map, option_or}
 use Rattle.gp_base.specs.declared.limits.TheConstants.{MAX_SYMBOLS}
 use Rattle.elf32_syms.specs.declared.refusal.ElfRefusal.{ElfRefusal}
@@ -9,9 +9,9 @@ use Rattle.elf32_syms.specs.declared.image.Segment.{Segment}
 use Rattle.elf32_syms.specs.declared.sections.Section.{Section}
 use Rattle.elf32_syms.specs.declared.symbols.Entry.{Entry}
 use Rattle.elf32_syms.specs.Refusals.{count_refusal, elf_refusal, header_refusal, is_of_header, is_too_far, link_refusal, names_refusal, place_refusal, segments_refusal, symbols_refusal, table_refusal, text_refusal}
-use Rattle.elf32_syms.specs.Sections.{executables, sections_of, strings_of, symbol_table, table_of, text_high, text_low}
+use Rattle.elf32_syms.specs.Sections.{executables, text_high, text_low}
 use Rattle.elf32_syms.specs.Segments.{is_cut_off, segments_of}
-use Rattle.elf32_syms.specs.Symbols.{candidates, fitting_entries, has_endless_name, kept_entries}
+use Rattle.elf32_syms.specs.Symbols.{has_endless_name}
 
 -- where there is a refusal, it isn't one of the header alone
 abbrev pub IsBehind : Option ElfRefusal → Type 0
@@ -50,9 +50,7 @@ link len table (Some s) = chosen (not (s.kind == 3)) (Link table.link) (place_re
 
 table : (len : ℕ) (sections : List Section) → IsBehind (table_refusal len sections)
 unfolding table_refusal
-table len sections =
-    chained (λ t. option_or (place_refusal len t) (link_refusal len t (slice_get sections t.link))) (symbol_table sections)
-    (λ t. either (place_refusal len t) (link_refusal len t (slice_get sections t.link)) (place len t) (link len t (slice_get sections t.link)))
+table len sections = search (chained, either, place, link)
 
 names : (strings : List ℕ) (entries : List Entry) → IsBehind (names_refusal strings entries)
 unfolding names_refusal
@@ -64,10 +62,7 @@ count kept = chosen (nat_lt MAX_SYMBOLS (length kept)) (TooManySymbols (length k
 
 symbols : (sections : List Section) (table strings : List ℕ) → IsBehind (symbols_refusal sections table strings)
 unfolding symbols_refusal
-symbols sections table strings =
-    let entries = fitting_entries sections table in
-    let kept = kept_entries sections strings (candidates strings entries) in
-    either (names_refusal strings entries) (count_refusal kept) (names strings entries) (count kept)
+symbols sections table strings = search (table, either, names, count)
 
 no_header : (due : Option ElfRefusal) → IfSome due (λ first. first ≡ OutOfMemory) → IsBehind due
 no_header None is = tt
@@ -76,12 +71,4 @@ no_header (Some first) is = subst (λ (r : ElfRefusal). is_of_header r ≡ false
 -- where nothing is wrong with the header, the file is refused for something else
 pub behind_header : (bs : List ℕ) → IfSome (header_refusal bs) (λ first. first ≡ OutOfMemory) → IsBehind (elf_refusal bs)
 unfolding elf_refusal
-behind_header bs is =
-    let sections = sections_of bs in
-    let last = symbols_refusal sections (table_of bs sections) (strings_of bs sections) in
-    let tables = option_or (table_refusal (length bs) sections) last in
-    let texts = option_or (text_refusal sections) tables in
-    either (header_refusal bs) (option_or (segments_refusal bs) texts) (no_header (header_refusal bs) is)
-    (either (segments_refusal bs) texts (segments bs)
-    (either (text_refusal sections) tables (text sections)
-    (either (table_refusal (length bs) sections) last (table (length bs) sections) (symbols sections (table_of bs sections) (strings_of bs sections)))))
+behind_header bs is = search (either, no_header, segments, text, table, symbols)

@@ -130,20 +130,13 @@ module _ {X : Type 0} where
   rest_inside : (es : List (ℕ × X)) (low n : ℕ) → lookup (is_at (nat_cmp low)) es ≡ None
       → ((a : ℕ) (v : X) → lookup (is_at (nat_cmp a)) es ≡ Some v → (low ≤ a) × (a < low + suc n))
       → (a : ℕ) (v : X) → lookup (is_at (nat_cmp a)) es ≡ Some v → (low + 1 ≤ a) × (a < low + 1 + n)
-  rest_inside es low n none inside a v some =
-      let other : a ≢ low = λ q. none-some v (sym none ∙ ap (λ (x : ℕ). lookup (is_at (nat_cmp x)) es) (sym q) ∙ some) in
-      let r = inside a v some in
-      let r0 = r.0 in
-      let r1 = r.1 in
-      (omega arith, omega arith)
+  rest_inside es low n none inside a v some = grind arith
 
   range_values : (n : ℕ) (f : ℕ → Option X) (es : List (ℕ × X)) (low : ℕ) → IsAlong f n es low
   range_values zero f [] low sorted same inside = refl
   range_values zero f (e ∷ es) low sorted same inside =
       let r = inside e.0 e.1 (first e es) in
-      let r0 = r.0 in
-      let r1 = r.1 in
-      absurd (omega arith)
+      absurd (omega (arith, r.0, r.1))
   range_values (suc n) f [] low sorted same inside =
       rw (same low (omega arith)) (range_values n f [] (low + 1) sorted (λ a h. same a (omega arith)) (λ a v none. absurd (none-some v none)))
   range_values (suc n) f (e ∷ es) low sorted same inside =
@@ -164,7 +157,6 @@ module _ {X : Type 0} where
       below : IsAlong f n (e ∷ es) (low + 1) → e.0 ≢ low → filter_map f (range_with_len low (suc n)) ≡ values_of (e ∷ es)
       below rest apart =
           let r = inside e.0 e.1 (first e es) in
-          let r0 = r.0 in
           let none : lookup (is_at (nat_cmp low)) (e ∷ es) ≡ None = lookup-none (is_at (nat_cmp low)) (e ∷ es) (none_below_head nat_cmp_total low e es sorted (is_less low e.0 (omega arith))) in
           rw (same low (omega arith), none) (rest sorted (λ a h. same a (omega arith)) (rest_inside (e ∷ es) low n none inside))
 
@@ -182,12 +174,7 @@ values_kept sections strings cs m ordered firsts all =
     high = text_high sections
 
     inside : (a : ℕ) (v : Entry) → get nat_cmp m a ≡ Some v → (low ≤ a) × (a < low + (high - low))
-    inside a v some =
-        let r = kept_at_holds strings (IsInText sections) cs a v all (sym (firsts a) ∙ some) in
-        let r0 = r.0.0 in
-        let r1 = r.0.1 in
-        let at = r.1 in
-        (omega arith, omega arith)
+    inside a v some = grind (arith, kept_at_holds strings (IsInText sections) cs a v all (sym (firsts a) ∙ some))
 
 -- there are no more kept symbols than addresses of the text
 length_filter_map : {X : Type 0} (f : ℕ → Option X) (ns : List ℕ) → length (filter_map f ns) ≤ length ns
@@ -200,9 +187,7 @@ length_filter_map {X} f (n ∷ ns) = by (f n) (length_filter_map f ns)
 
 pub length_kept : (sections : List Section) (strings : List ℕ) (cs : List Entry) → length (kept_entries sections strings cs) ≤ text_high sections - text_low sections
 unfolding kept_entries
-length_kept sections strings cs =
-    let h = length_filter_map (kept_at strings cs) (range_with_len (text_low sections) (text_high sections - text_low sections)) in
-    omega (arith, length-range_with_len (text_low sections) (text_high sections - text_low sections))
+length_kept sections strings cs = grind (arith, length_filter_map, length-range_with_len)
 
 -- candidates lie in the text
 both : (a b : Bool) → (a && b) ≡ true → (a ≡ true) × (b ≡ true)
@@ -220,10 +205,6 @@ fits_in_text sections e fit =
         let last = both (is_executable s && nat_le s.addr e.addr) (nat_lt e.addr (section_end s)) inside in
         let first = both (is_executable s) (nat_le s.addr e.addr) last.0 in
         let text = section_in_text sections e.section s there first.0 in
-        let low = text.0 in
-        let high = text.1 in
-        let from = first.1 in
-        let to = last.1 in
         (grind (arith, nat_tests), grind (arith, nat_tests))
 
 pub candidates_in_text : (sections : List Section) (table strings : List ℕ) → All (IsInText sections) (candidates strings (fitting_entries sections table))

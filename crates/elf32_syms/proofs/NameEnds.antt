@@ -1,5 +1,5 @@
 -- Where names end.
-use Rattle.std.proofs.Common.{◌≡◌, ◌<◌, ◌≤◌, ℕ, zero, suc, ◌+◌, ◌-◌, min, Bool, true, false, not, cond, nat_lt, List, [], ◌∷◌, length, take, drop, get_or, refl, ap, sym, ◌∙◌, arith, ⊎_elim, lit<}
+use Rattle.std.proofs.Common.{◌≡◌, ◌<◌, ◌≤◌, ℕ, zero, suc, ◌+◌, ◌-◌, Bool, true, false, not, cond, nat_lt, List, [], ◌∷◌, length, take, drop, get_or, refl, ap, sym, ◌∙◌, arith, ⊎_elim, lit<}
 use Rattle.std.specs.List.{before_first, position_or_len}
 use Rattle.std.specs.declared.cmp.Ordering.{Ordering}
 use Rattle.std.specs.declared.cmp.Ordering.TheVariants.{Less, Equal, Greater}
@@ -11,7 +11,6 @@ use Rattle.std.proofs.lemmas.Bool.{cases_lt}
 use Rattle.std.proofs.lemmas.List.{length-drop, get_or-drop, take-take, drop_all, drop_more, get_or_default}
 use Rattle.std.proofs.lemmas.List.Folds.{list_any_at, list_any_none}
 use Rattle.std.proofs.lemmas.List.Sums.{take_while-cons, position_or_len_is}
-use Rattle.memchr.specs.Find.{is_byte}
 use Rattle.elf32_syms.specs.Names.{is_zero, name_ends, name_at}
 
 pub is_zero_not : (b : ℕ) → (b ≡ 0 → ⊥) → is_zero b ≡ false
@@ -44,10 +43,7 @@ name_ends_below strings end inside zero_there none_after at =
     (cases_lt at end)
   where
     not_zero : end ≤ at → (k d : ℕ) → k < length (drop at strings) → is_zero (get_or (drop at strings) k d) ≡ false
-    not_zero above k d short =
-        let here : get_or (drop at strings) k d ≡ get_or strings (at + k) 0 = get_or_default (drop at strings) k d 0 short ∙ get_or-drop at strings k 0 in
-        let inside : at + k < length strings = omega (arith, length-drop at strings) in
-        rw here (is_zero_not (get_or strings (at + k) 0) (none_after (at + k) (omega arith) inside))
+    not_zero above k d short = grind (arith, get_or_default, get_or-drop, length-drop)
 
 -- a prefix of what stands before the first that passes, looked for in that front alone
 before_first_front : (p : ℕ → Bool) (limit : ℕ) (xs : List ℕ) → take limit (before_first p xs) ≡ before_first p (take limit xs)
@@ -63,9 +59,7 @@ before_first_front p (suc n) (x ∷ xs) =
 pub front_is : (strings : List ℕ) (at limit : ℕ) → limit ≤ 4095
     → take limit (name_at strings at) ≡ before_first is_zero (take limit (drop at strings))
 unfolding name_at
-front_is strings at limit h =
-    take-take limit 4095 (before_first is_zero (drop at strings)) h
-    ∙ before_first_front is_zero limit (drop at strings)
+front_is strings at limit h = search (take-take, before_first_front)
 
 -- the same bytes are the same name
 pub same_cut : (strings : List ℕ) (one other : ℕ) → take 4095 (drop one strings) ≡ take 4095 (drop other strings) → name_at strings one ≡ name_at strings other
@@ -80,9 +74,6 @@ cut_past strings at limit h = short limit (drop at strings) (drop_all at strings
     short : (n : ℕ) (xs : List ℕ) → xs ≡ [] → [] ≡ take n xs
     short zero xs none = refl
     short (suc n) xs none = rw none refl
-
-pub zero_byte : (b : ℕ) → b ≡ 0 → is_byte 0 b ≡ true
-zero_byte b is = rw is refl
 
 pub whole_name : (strings : List ℕ) (at : ℕ) → take 4095 (name_at strings at) ≡ name_at strings at
 unfolding name_at

@@ -16,7 +16,7 @@ use Rattle.elf32_syms.specs.Segments.{segments_of, is_cut_off}
 use Rattle.elf32_syms.specs.Symbols.{kept_at, kept_entries}
 use Rattle.elf32_syms.specs.Refusals.{elf_refusal, header_refusal, segments_refusal, symbols_refusal, table_refusal, text_refusal}
 use Rattle.elf32_syms.specs.Owners.{IsAscending}
-use Rattle.elf32_syms.specs.Image.{candidates_of, end_before, image_of, in_a_row, symbols_of, IsWithinLimits}
+use Rattle.elf32_syms.specs.Image.{candidates_of, image_of, in_a_row, symbols_of, IsWithinLimits}
 use Rattle.elf32_syms.proofs.KeptLemmas.{kept_at_holds}
 use Rattle.elf32_syms.proofs.TextLemmas.{text_limits}
 
@@ -51,15 +51,9 @@ apart_in_order low high (s ∷ r ∷ rs) order = at (apart_in_order s.end high (
   where
     at : AllAdjacentBelow (λ (s : Symbol) (next : Symbol). s.end ≤ next.addr) (r ∷ rs) (suc (length rs)) → (k : ℕ) (d : Symbol) → k + 1 < suc (suc (length rs)) → (get_or (s ∷ r ∷ rs) k d).end ≤ (get_or (s ∷ r ∷ rs) (k + 1) d).addr
     at rest zero d below = order.2.0
-    at rest (suc k) d below =
-        let e : suc k + 1 ≡ suc (k + 1) = omega arith in
-        rw e (rest k d (omega arith))
+    at rest (suc k) d below = grind arith
 
 module _ (strings : List ℕ) (high : ℕ) where
-  row_end : (low : ℕ) (es : List Entry) → InOrder low high (in_a_row strings high es) → (low ≤ end_before high es) × InOrder (end_before high es) high (in_a_row strings high es)
-  row_end low [] order = (order, omega arith)
-  row_end low (e ∷ es) order = (order.0, (omega arith, order.1, order.2))
-
   rows_in_order : (f : ℕ → Option Entry) → ((a : ℕ) (e : Entry) → f a ≡ Some e → e.addr ≡ a) → (n a : ℕ) → a + n ≤ high → InOrder a high (in_a_row strings high (filter_map f (range_with_len a n)))
   rows_in_order f there zero a inside = omega arith
   rows_in_order f there (suc n) a inside = by (f a) refl (rows_in_order f there n (a + 1) (omega arith))
@@ -67,11 +61,7 @@ module _ (strings : List ℕ) (high : ℕ) where
       by : (o : Option Entry) → f a ≡ o → InOrder (a + 1) high (in_a_row strings high (filter_map f (range_with_len (a + 1) n)))
           → InOrder a high (in_a_row strings high (cons_option o (filter_map f (range_with_len (a + 1) n))))
       by None e rest = lower (a + 1) a high _ (omega arith) rest
-      by (Some c) e rest =
-          let at = there a c e in
-          let end = row_end (a + 1) (filter_map f (range_with_len (a + 1) n)) rest in
-          let from = end.0 in
-          (omega arith, omega arith, end.1)
+      by (Some c) e rest = grind arith
 
 row_ascending : (sections : List Section) (strings : List ℕ) (cs : List Entry) → text_low sections < text_high sections → IsAscending (in_a_row strings (text_high sections) (kept_entries sections strings cs))
 unfolding kept_entries
@@ -89,7 +79,6 @@ pub within_limits : (bs : List ℕ) (sections : List Section) (strings : List �
 within_limits bs sections strings cs image segments text s l h f =
     let limits = text_limits sections text in
     let some = limits.0 in
-    let long = limits.1 in
     let end = limits.2 in
     record {
       text = rw (l, h) some;

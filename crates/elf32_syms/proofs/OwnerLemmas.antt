@@ -49,7 +49,4 @@ module _ (symbols : List Symbol) (address i : ℕ) where
 
       -- one before it lies elsewhere
       pub no_owner_before : address < s.addr → (IsTrue (nat_le s.addr address) → owner_of symbols address ≡ Some i) × (owner_of symbols address ≡ Some i → IsTrue (nat_le s.addr address))
-      no_owner_before before = (
-        λ from. absurd (grind (arith, nat_tests)),
-        λ is. (and_parts (nat_le s.addr address) (nat_lt address s.end) (found is)).0,
-      )
+      no_owner_before before = grind (arith, found)

@@ -24,12 +24,7 @@ addresses_rise symbols h =
 -- a symbol's place is at most its address
 pub place_le_addr : (symbols : List Symbol) → IsAscending symbols → (i : ℕ) (d : Symbol) → i < length symbols → i ≤ (get_or symbols i d).addr
 place_le_addr symbols h zero d below = omega arith
-place_le_addr symbols h (suc i) d below =
-    let before = place_le_addr symbols h i d (omega arith) in
-    let one : i + 1 ≡ suc i = omega arith in
-    let a = rw one at (h.apart i d (omega arith)) in
-    let e = h.each i d (omega arith) in
-    omega arith
+place_le_addr symbols h (suc i) d below = grind (arith, place_le_addr symbols h i d (omega arith))
 
 pub ended_front : (symbols : List Symbol) (pc : ℕ) → IsAscending symbols → IsPartitionedBy (λ (s : Symbol). nat_le s.end pc) symbols
 ended_front symbols pc h = IsPartitionedBy-leb (λ (s : Symbol). s.end) symbols pc (ends_rise symbols h)
@@ -41,18 +36,11 @@ module _ (symbols : List Symbol) (pc i : ℕ) (h : IsAscending symbols)
 
   -- the symbol at the point has the address
   pub owner_here : (d : Symbol) → i < length symbols → (get_or symbols i d).addr ≤ pc → Some i ≡ owner_of symbols pc
-  owner_here d below from =
-      let later = point.1 i d (omega arith) below in
-      let here : owns pc (get_or symbols i d) ≡ true = grind (arith, nat_tests) in
-      let place : position_or_len (owns pc) symbols ≡ i = position_or_len_is (owns pc) symbols i d (omega arith) (λ k less. not_before k d less) (λ _. here) in
-      let inside : nat_lt i (length symbols) ≡ true = grind (arith, nat_tests) in
-      rw (place, inside) refl
+  owner_here d below from = grind (arith, nat_tests, position_or_len_is)
 
   -- the address lies before it, and behind those before
   none_from : (d : Symbol) → pc < (get_or symbols i d).addr → (k : ℕ) → i ≤ k → k < length symbols → owns pc (get_or symbols k d) ≡ false
-  none_from d after k above below =
-      let rise = addresses_rise symbols h i k d above below in
-      grind (arith, nat_tests)
+  none_from d after k above below = grind (arith, addresses_rise)
 
   none_all : (d : Symbol) → ((k : ℕ) → i ≤ k → k < length symbols → owns pc (get_or symbols k d) ≡ false) → None ≡ owner_of symbols pc
   none_all d none =

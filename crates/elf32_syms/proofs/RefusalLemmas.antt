@@ -1,5 +1,5 @@
 -- The refusals of a file, from those of its parts.
-use Rattle.std.proofs.Common.{◌≡◌, ◌<◌, ◌≤◌, ℕ, true, false, nat_lt, List, length, Option, Some, None, option_map, refl, ap, sym, subst, ◌∙◌, arith, codes}
+use Rattle.std.proofs.Common.{◌≡◌, ◌<◌, ◌≤◌, ℕ, true, false, nat_lt, List, length, Option, Some, None, option_map, refl, ap, sym, subst, arith}
 use Rattle.std.specs.Option.{option_or}
 use Rattle.std.specs.List.{find}
 use Rattle.std.proofs.lemmas.Bool.Decides.{nat_tests}
@@ -12,9 +12,9 @@ use Rattle.elf32_syms.specs.Segments.{segments_of, is_cut_off}
 use Rattle.elf32_syms.specs.declared.image.Image.{Image}
 use Rattle.elf32_syms.specs.declared.kept.Functions.{Functions}
 use Rattle.elf32_syms.specs.Header.{header_of}
-use Rattle.elf32_syms.specs.Image.{AreFunctions, in_a_row, candidates_of, symbols_of, image_of}
+use Rattle.elf32_syms.specs.Image.{AreFunctions, candidates_of, symbols_of, image_of}
 use Rattle.elf32_syms.specs.Sections.{sections_of, text_low, text_high, table_of, strings_of}
-use Rattle.elf32_syms.specs.Symbols.{fitting_entries, candidates, kept_entries, hook_of}
+use Rattle.elf32_syms.specs.Symbols.{fitting_entries, candidates, kept_entries}
 use Rattle.elf32_syms.specs.Refusals.{IsRefusal, header_refusal, segments_refusal, text_refusal, table_refusal, names_refusal, count_refusal, symbols_refusal, elf_refusal}
 
 -- an error that is the refusal
@@ -40,9 +40,7 @@ segments_judged bs segments same = ap (λ (xs : List Segment). option_map (λ (s
 pub symbols_judged : (sections : List Section) (table strings : List ℕ) (entries cs ks : List Entry) → entries ≡ fitting_entries sections table
     → cs ≡ candidates strings entries → ks ≡ kept_entries sections strings cs → names_refusal strings entries ≡ None → symbols_refusal sections table strings ≡ count_refusal ks
 unfolding symbols_refusal
-symbols_judged sections table strings entries cs ks e f g none =
-    ap (λ (es : List Entry). option_or (names_refusal strings es) (count_refusal (kept_entries sections strings (candidates strings es)))) (sym e)
-    ∙ rw none (ap count_refusal (ap (kept_entries sections strings) (sym f) ∙ sym g))
+symbols_judged sections table strings entries cs ks e f g none = grind arith
 
 pub too_many : (ks : List Entry) → 65536 < length ks → count_refusal ks ≡ Some (TooManySymbols (length ks))
 unfolding count_refusal
@@ -70,24 +68,18 @@ module _ (bs : List ℕ) (e : ElfRefusal) where
     module _ (t : text_refusal sections ≡ None) where
       pub by_table : table_refusal (length bs) sections ≡ Some e → IsRefusal e (elf_refusal bs)
       unfolding elf_refusal
-      by_table r =
-          then_refused e _ _ h (then_refused e _ _ s (then_refused e _ _ (ap text_refusal (sym same) ∙ t)
-          (first_refused e _ _ (refusal_is e _ (ap (table_refusal (length bs)) (sym same) ∙ r)))))
+      by_table r = grind arith
 
       pub by_symbols : (table strings : List ℕ) → table_refusal (length bs) sections ≡ None → table ≡ table_of bs sections → strings ≡ strings_of bs sections
           → IsRefusal e (symbols_refusal sections table strings) → IsRefusal e (elf_refusal bs)
       unfolding elf_refusal
-      by_symbols table strings none table_is strings_is r =
-          let P : List Section → Type 0 = λ ss. IsRefusal e (symbols_refusal ss (table_of bs ss) (strings_of bs ss)) in
-          then_refused e _ _ h (then_refused e _ _ s (then_refused e _ _ (ap text_refusal (sym same) ∙ t) (then_refused e _ _ (ap (table_refusal (length bs)) (sym same) ∙ none)
-          (subst P same (rw (← table_is, ← strings_is) r)))))
+      by_symbols table strings none table_is strings_is r = grind arith
 
 pub all_accepted : (bs : List ℕ) (sections : List Section) (table strings : List ℕ) → sections ≡ sections_of bs → table ≡ table_of bs sections → strings ≡ strings_of bs sections
     → header_refusal bs ≡ None → segments_refusal bs ≡ None → text_refusal sections ≡ None → table_refusal (length bs) sections ≡ None → symbols_refusal sections table strings ≡ None
     → elf_refusal bs ≡ None
 unfolding elf_refusal
-all_accepted bs sections table strings same t r h1 h2 h3 h4 h5 =
-    rw (h1, h2, ← same, h3, h4, ← t, ← r) h5
+all_accepted bs sections table strings same t r is also last more rest = grind arith
 
 -- the image, by its parts
 pub image_is : (bs : List ℕ) (sections : List Section) (table strings : List ℕ) (f : Functions) (image : Image) → sections ≡ sections_of bs → table ≡ table_of bs sections → strings ≡ strings_of bs sections
@@ -95,17 +87,4 @@ pub image_is : (bs : List ℕ) (sections : List Section) (table strings : List �
     → image.entry ≡ (header_of bs).entry → image.segments ≡ segments_of bs → image.text.low ≡ text_low sections → image.text.high ≡ text_high sections
     → image.symbols ≡ f.symbols → image.mcount ≡ f.mcount → image.moncontrol ≡ f.moncontrol → image ≡ image_of bs
 unfolding image_of symbols_of candidates_of
-image_is bs sections table strings f image same t r are entry segments low high symbols mcount moncontrol =
-    let table_is : table ≡ table_of bs (sections_of bs) = t ∙ ap (table_of bs) same in
-    let strings_is : strings ≡ strings_of bs (sections_of bs) = r ∙ ap (strings_of bs) same in
-    let cs : candidates strings (fitting_entries sections table) ≡ candidates (strings_of bs (sections_of bs)) (fitting_entries (sections_of bs) (table_of bs (sections_of bs))) =
-    λ i. candidates (strings_is i) (fitting_entries (same i) (table_is i)) in
-    let kept_is : image.symbols ≡ in_a_row (strings_of bs (sections_of bs)) (text_high (sections_of bs)) (kept_entries (sections_of bs) (strings_of bs (sections_of bs)) (candidates (strings_of bs (sections_of bs)) (fitting_entries (sections_of bs) (table_of bs (sections_of bs))))) =
-    symbols ∙ are.symbols ∙ (λ i. in_a_row (strings_is i) (text_high (same i)) (kept_entries (same i) (strings_is i) (cs i))) in
-    let hook : (name : List ℕ) → hook_of strings (candidates strings (fitting_entries sections table)) name ≡ hook_of (strings_of bs (sections_of bs)) (candidates (strings_of bs (sections_of bs)) (fitting_entries (sections_of bs) (table_of bs (sections_of bs)))) name =
-    λ name i. hook_of (strings_is i) (cs i) name in
-    let low_is = low ∙ ap text_low same in
-    let high_is = high ∙ ap text_high same in
-    let first = mcount ∙ are.mcount ∙ hook (codes "_mcount") in
-    let second = moncontrol ∙ are.moncontrol ∙ hook (codes "moncontrol") in
-    λ i. record { entry = entry i; segments = segments i; text = record { low = low_is i; high = high_is i }; symbols = kept_is i; mcount = first i; moncontrol = second i }
+image_is bs sections table strings f image same t r are entry segments low high symbols mcount moncontrol = grind arith

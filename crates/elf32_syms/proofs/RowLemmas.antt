@@ -22,9 +22,7 @@ module _ (strings : List ℕ) (high : ℕ) where
 
   -- the next symbol, or the end of the text
   pub end_inside : (es : List Entry) (i : ℕ) (d : Entry) → i + 1 < length es → (get_or es (i + 1) d).addr ≡ end_before high (drop (suc i) es)
-  end_inside es i d h =
-      let next : i + 1 ≡ suc i = omega arith in
-      sym (ap (end_before high) (drop_more es (i + 1) d h)) ∙ ap (λ (k : ℕ). end_before high (drop k es)) next
+  end_inside es i d h = grind (arith, drop_more)
 
   pub end_last : (es : List Entry) (i : ℕ) → length es ≤ i + 1 → high ≡ end_before high (drop (suc i) es)
   end_last es i h = sym (ap (end_before high) (drop_all (suc i) es (omega arith)))

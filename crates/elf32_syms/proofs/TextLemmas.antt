@@ -42,10 +42,7 @@ executable_some s taken = grind (arith, nat_tests)
 empty_range : (xs : List Section) → All (λ (s : Section). is_executable s ≡ true) xs
     → nat_eq (length xs) 0 ≡ nat_le (highest (map section_end xs)) (least_of (map (λ (s : Section). s.addr) xs))
 empty_range [] all = refl
-empty_range (x ∷ xs) all =
-    let low = first_low x.addr (map (λ (s : Section). s.addr) xs) in
-    let some = executable_some x (all zero x (omega arith)) in
-    grind (arith, nat_tests)
+empty_range (x ∷ xs) all = grind (arith, executable_some x (all zero x (omega arith)))
 
 module _ (sections : List Section) where
   -- the refusal, by the two ends

@@ -38,6 +38,7 @@ fn first_behind(entries: &[Entry], end: usize) -> Option<ElfRefusal>
 }
 
 /// The first symbol whose name has no end.
+#[tactic(auto, unfolding(crate::specs::Refusals::names_refusal))]
 fn first_unnamed(strings: &[u8], entries: &[Entry]) -> Option<ElfRefusal>
     ensures { result ≡ names_refusal strings.now entries.now }
 {
@@ -45,6 +46,7 @@ fn first_unnamed(strings: &[u8], entries: &[Entry]) -> Option<ElfRefusal>
 }
 
 /// Whether a symbol has a name of at least one byte.
+#[tactic(auto, using(crate::proofs::NameEnds::name_starts, crate::proofs::NameEnds::name_past))]
 fn has_name(strings: &[u8], entry: Entry) -> bool
     ensures { result ≡ has_name_of strings.now entry }
 {
@@ -89,6 +91,7 @@ fn is_first(first: &BTreeMap<u32, Entry>, strings: &[u8], entry: Entry) -> bool
 }
 
 /// The first candidate at each address.
+#[tactic(auto, using(std::proofs::lemmas::List::take_more, std::proofs::lemmas::List::take_all, crate::proofs::KeptLemmas::first_none, crate::proofs::KeptLemmas::first_stays, crate::proofs::KeptLemmas::first_changes))]
 fn first_at_each(
     alloc: Global,
     strings: &[u8],
@@ -115,6 +118,7 @@ fn values(alloc: Global, first: &BTreeMap<u32, Entry>) -> Result<Vec<Entry>, All
 }
 
 /// The kept symbols, in the order of their addresses.
+#[tactic(auto, using(crate::proofs::KeptLemmas::values_kept))]
 fn kept(
     alloc: Global,
     sections: &[Section],
@@ -129,6 +133,7 @@ fn kept(
 }
 
 /// These symbols, of which each reaches to the next and the last to `high`.
+#[tactic(auto, using(crate::proofs::RowLemmas::row_more, crate::proofs::RowLemmas::row_all, crate::proofs::RowLemmas::end_inside, crate::proofs::RowLemmas::end_last))]
 fn in_a_row(
     alloc: Global,
     strings: &[u8],
@@ -155,7 +160,7 @@ fn in_a_row(
 }
 
 /// The functions of a program, by the bytes of its symbol table and of its strings.
-#[tactic(auto, unfolding(crate::specs::Refusals::symbols_refusal))]
+#[tactic(auto, using(crate::proofs::KeptLemmas::candidates_in_text, crate::proofs::KeptLemmas::length_kept, crate::proofs::RefusalLemmas::symbols_judged, crate::proofs::RefusalLemmas::too_many, crate::proofs::RefusalLemmas::few), unfolding(crate::specs::Refusals::symbols_refusal))]
 pub(crate) fn read_functions(
     alloc: Global,
     sections: &[Section],

@@ -17,6 +17,7 @@ pub fn first_at_an_address()
 
 /// The image of a file that isn't refused is within the limits: its text isn't empty and no larger than may be, its
 /// segments lie in the file, and its symbols are in the order of their addresses and apart.
+#[tactic(auto, using(crate::proofs::OrderLemmas::accepted_within))]
 pub fn accepted_within_limits()
     ensures { AcceptedImagesAreWithinLimits }
 {}

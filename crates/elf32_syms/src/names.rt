@@ -12,6 +12,7 @@ use std::alloc::{AllocError, Global};
 
 /// One more than the place of the last zero byte, or 0. So a zero byte follows an offset exactly
 /// where the offset is below this.
+#[tactic(auto, using(crate::proofs::NameEnds::name_ends_below))]
 pub(crate) fn names_end(strings: &[u8]) -> usize
     ensures inside { result ≤ length strings.now }
     ensures ends { (at : ℕ) → name_ends strings.now at ≡ nat_lt at result }
@@ -24,6 +25,7 @@ pub(crate) fn names_end(strings: &[u8]) -> usize
 }
 
 /// The place of the first zero byte, and the length where there is none.
+#[tactic(auto, using(crate::proofs::NameEnds::first_zero))]
 fn zero_or_len(bytes: &[u8]) -> usize
     ensures is { result ≡ position_or_len is_zero bytes.now }
     ensures inside { result ≤ length bytes.now }
@@ -35,6 +37,7 @@ fn zero_or_len(bytes: &[u8]) -> usize
 }
 
 /// The bytes from an offset on, and at most `limit` of them.
+#[tactic(auto, using(crate::proofs::NameEnds::cut_past, std::proofs::lemmas::List::take_min))]
 fn cut(strings: &[u8], at: usize, limit: usize) -> &[u8]
     ensures { result.now ≡ take limit (drop at strings.now) }
 {
@@ -46,6 +49,7 @@ fn cut(strings: &[u8], at: usize, limit: usize) -> &[u8]
 }
 
 /// The bytes from an offset to the next zero byte, and at most `limit` of them.
+#[tactic(auto, using(crate::proofs::NameEnds::front_is))]
 fn front(strings: &[u8], at: usize, limit: usize) -> &[u8]
     requires { limit ≤ 4095 }
     ensures { result.now ≡ take limit (name_at_of strings.now at) }
@@ -55,6 +59,7 @@ fn front(strings: &[u8], at: usize, limit: usize) -> &[u8]
 }
 
 /// The name at an offset.
+#[tactic(auto, using(crate::proofs::NameEnds::whole_name))]
 pub(crate) fn name_at(strings: &[u8], at: usize) -> &[u8]
     ensures { result.now ≡ name_at_of strings.now at }
 {

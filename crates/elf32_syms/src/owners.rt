@@ -31,6 +31,7 @@ pub fn owner(symbols: &[Symbol], pc: u32) -> Option<u32>
 
 /// How many symbols there are. Each has an address of its own, so that their number has 32 bits. The
 /// symbols are in order, as those of an image are. Takes no memory.
+#[tactic(auto, using(crate::proofs::Owning::place_le_addr))]
 pub fn symbol_count(symbols: &[Symbol]) -> u32
     requires { IsAscending symbols.now }
     ensures { result ≡ length symbols.now }

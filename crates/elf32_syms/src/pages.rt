@@ -21,6 +21,7 @@ pub struct OwnerPages {
 }
 
 /// Whether an address lies in the symbol of this number, if there is such a symbol.
+#[tactic(auto, using(crate::proofs::OwnerLemmas::owner_by_end, crate::proofs::OwnerLemmas::no_owner_before))]
 fn is_owner(symbols: &[Symbol], i: u32, address: u32) -> bool
     requires ordered { IsAscending symbols.now }
     ensures { IsTrue result ↔ owner_of symbols.now address ≡ Some i }

@@ -145,6 +145,7 @@ fn is_too_far(low: u64, high: u64) -> bool
 
 /// The lowest address of an executable section and the highest end of one, and 0 twice where there
 /// is none.
+#[tactic(auto, using(crate::proofs::TextLemmas::reduce_min, crate::proofs::TextLemmas::reduce_max), unfolding(crate::specs::Sections::text_low, crate::specs::Sections::text_high))]
 fn text_range(alloc: Global, sections: &[Section]) -> Result<(u64, u64), AllocError>
     ensures low { IfOk result (λ range. range.0 ≡ text_low sections.now) }
     ensures high { IfOk result (λ range. range.1 ≡ text_high sections.now) }
@@ -156,6 +157,7 @@ fn text_range(alloc: Global, sections: &[Section]) -> Result<(u64, u64), AllocEr
 }
 
 /// The text.
+#[tactic(auto, using(crate::proofs::TextLemmas::text_refused, crate::proofs::TextLemmas::text_accepted))]
 pub(crate) fn read_text(alloc: Global, sections: &[Section]) -> Result<Span, ElfRefusal>
     ensures refusal { IfErr result (λ e. IsRefusal e (text_refusal sections.now)) }
     ensures accepted { OnOk result (text_refusal sections.now ≡ None) }

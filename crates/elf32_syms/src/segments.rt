@@ -62,6 +62,7 @@ fn first_cut_off(segments: &[Segment], len: u64) -> Option<ElfRefusal>
 }
 
 /// The segments, each of which lies in the file.
+#[tactic(auto, using(crate::proofs::RefusalLemmas::refusal_is, crate::proofs::RefusalLemmas::segments_judged))]
 pub(crate) fn read_segments(
     alloc: Global,
     bytes: &[u8],

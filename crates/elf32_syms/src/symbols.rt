@@ -114,6 +114,7 @@ fn type_rank(entry: Entry) -> u8
 }
 
 /// The order of two symbols' names.
+#[tactic(auto, using(crate::proofs::NameEnds::same_name))]
 fn by_name(strings: &[u8], one: Entry, other: Entry) -> Ordering
     ensures { result ≡ slice_cmp nat_cmp (symbol_name strings.now one)
         (symbol_name strings.now other) }

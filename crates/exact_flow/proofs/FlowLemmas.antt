@@ -12,7 +12,7 @@ use Rattle.call_cycles.proofs.NumberingLemmas.{target_within}
 use Rattle.fraction128.specs.Fractions.{Fraction, fraction, lowest, product_of, FitsProduct}
 use Rattle.fraction128.specs.Values.{value_of}
 use Rattle.propagate.proofs.ExactLemmas.{entered}
-use Rattle.exact_flow.specs.Times.{HasTimes, in_grains, time_at}
+use Rattle.exact_flow.specs.Times.{HasTimes, in_grains}
 use Rattle.exact_flow.specs.Steps.{IsNoneWide}
 use Rattle.exact_flow.specs.Solution.{by_arcs, flow_of_times}
 use Rattle.exact_flow.specs.Progress.{AreTables, child_times, outside_calls}
@@ -38,9 +38,7 @@ module _ (g : GraphValue) (shares : List ℕ) (is : IsGraph g) (a : Inside) (are
     self = ap (λ (n : ℕ). fraction n 1) (ap (slice_index a.selves.items) callee ∙ list_at (component_count g) (self_in g shares) a.selves.items are.selves (target_of g i) inside)
 
     child : child_in_callee a i ≡ in_grains x (x.child (target_of g i))
-    child =
-        ap (time_at (map value_of a.children.items)) callee ∙ ap (λ (times : List Fraction). time_at times (target_of g i)) found
-        ∙ get_or-map-range_with_len (λ c. in_grains x (x.child c)) 0 (component_count g) (target_of g i) (target_of g i) (fraction 0 1) inside (omega arith)
+    child = grind (arith, get_or-map-range_with_len)
 
     called : slice_index a.calls.items i ≡ outside_calls g i
     called = list_at (arc_count g) (outside_calls g) a.calls.items are.calls i low
@@ -99,10 +97,4 @@ module _ (g : GraphValue) (shares : List ℕ) (is : IsGraph g) (a : Inside) (are
       children = arcs (λ i. part_in a (child_in_callee a i) i) x.arc_child (λ i low. part i low (child_in_callee a i) _ (x.arc_child i) (child i low) (child_is g shares is x exact i low))
 
   pub flow_sized : HasTimes g (times_of a)
-  flow_sized = record {
-    selves = selves_long;
-    children = children_long;
-    arc_selves = length-map-range_with_len (λ i. part_in a (self_in_callee a i) i) 0 (length a.calls.items) ∙ arcs_long;
-    arc_children = length-map-range_with_len (λ i. part_in a (child_in_callee a i) i) 0 (length a.calls.items) ∙ arcs_long;
-    outside = are.outside;
-  }
+  flow_sized = search (selves_long, children_long, length-map-range_with_len, arcs_long)

@@ -31,9 +31,7 @@ same_terms f h [] same = refl
 same_terms f h (x ∷ xs) same =
     let rest = same_terms f h xs (λ k d below. same (suc k) d (omega arith)) in
     let first = same 0 x (omega arith) in
-    let one = sum_by-cons f x xs in
-    let two = sum_by-cons h x xs in
-    omega arith
+    omega (arith, sum_by-cons f x xs, sum_by-cons h x xs)
 
 no_terms : {X : Type 0} (xs : List X) → sum_by (λ (x : X). 0) xs ≡ 0
 no_terms [] = refl
@@ -57,10 +55,7 @@ sum_front (suc m) n chosen f le =
 
     front : (k n : ℕ) → k ≤ n → sum_below k (λ i. when (chosen i) (when (ltb i n) (f i))) ≡ sum_below k (λ i. when (chosen i) (f i))
     front zero n le = refl
-    front (suc k) n le =
-        let ih = front k n (omega arith) in
-        let last : when (chosen k) (when (ltb k n) (f k)) ≡ when (chosen k) (f k) = rw (lt-ltb k n (omega arith)) refl in
-        omega arith
+    front (suc k) n le = search (ltb, lt-ltb, front k n (omega arith))
 
     all : (n : ℕ) → sum_below n (λ k. when (chosen k) (when (ltb k n) (f k))) ≡ sum_below n (λ k. when (chosen k) (f k))
     all n = front n n (omega arith)
@@ -119,16 +114,10 @@ module _ (g : GraphValue) (order : List (ℕ × ℕ)) (is : IsCallerOrder g orde
           lower_one : (k : ℕ) (d : ℕ × ℕ) → k < n → (get_or order k d).0 ≡ p.0 → (get_or order k d).1 < p.1
           lower_one k d less same =
               let up = subst (λ (q : ℕ × ℕ). is_lt (by_caller q (get_or order k d)) ≡ false) (at_any d) (far k n d (omega arith) below) in
-              let le = not_lower p.0 p.1 (get_or order k d).0 (get_or order k d).1 up (sym same) in
-              let apart = once k d less same in
-              omega arith
+              omega (arith, not_lower p.0 p.1 (get_or order k d).0 (get_or order k d).1 up (sym same), once k d less same)
 
           one : (q : ℕ × ℕ) → (q.0 ≡ p.0 → q.1 < p.1) → when (q.0 == p.0) (when (ltb q.1 p.1) (f q.1)) ≡ when (q.0 == p.0) (f q.1)
-          one q low =
-              ⊎_elim
-              (λ (same : q.0 ≡ p.0). rw (lt-ltb q.1 p.1 (low same)) refl)
-              (λ (apart : q.0 ≢ p.0). rw (ne_eqb q.0 p.0 apart) refl)
-              (cases_eq q.0 p.0)
+          one q low = grind arith
 
       after : (k : ℕ) (d : ℕ × ℕ) → k < length (drop n order) → low_weight (get_or (drop n order) k d) ≡ 0
       after k d long =

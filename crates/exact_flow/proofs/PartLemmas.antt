@@ -1,5 +1,5 @@
 -- What arcs carry, as a part of their callees' times.
-use Rattle.std.proofs.Common.{◌≡◌, ◌<◌, ℕ, length, get_or, refl, ap, sym, ◌∙◌, subst, arith}
+use Rattle.std.proofs.Common.{◌≡◌, ◌<◌, ℕ, length, get_or, refl, ap, sym, ◌∙◌, arith}
 use Rattle.std.specs.Prelude.{slice_index}
 use Rattle.std.proofs.lemmas.Bool.{eq-eqb, ne_eqb}
 use Rattle.std.proofs.lemmas.Grind.{get_or_default_zero}
@@ -18,8 +18,7 @@ unfolding carried_part
 some_carried time calls entering some = rw (ne_eqb calls 0 (λ none. absurd (omega arith))) refl
 
 pub fits_same : (t u : Fraction) (m n p q : ℕ) → t ≡ u → m ≡ n → p ≡ q → FitsPart u n q → FitsPart t m p
-fits_same t u m n p q times calls entering fits =
-    subst (λ (s : Fraction). FitsPart s m p) (sym times) (subst (λ (k : ℕ). FitsPart u k p) (sym calls) (subst (FitsPart u n) (sym entering) fits))
+fits_same t u m n p q times calls entering fits = grind arith
 
 -- d was read in the tables as the component that arc i enters
 pub record IsRead (a : Inside) (i d : ℕ) : Type 0 where
@@ -29,13 +28,7 @@ pub record IsRead (a : Inside) (i d : ℕ) : Type 0 where
   pub entering : d < length a.entering.items
 
 pub callee_read : (a : Inside) → IsHeld a → (i d : ℕ) → i < length a.calls.items → d ≡ get_or a.callees.items i d → IsRead a i d
-callee_read a held i d low is =
-    let callees : i < length a.callees.items = let same = held.callees in omega arith in
-    let callee : d ≡ callee_in a i = is ∙ get_or_default_zero a.callees.items i d callees in
-    let within = held.within i low in
-    let children = held.children in
-    let entering = held.entering in
-    record { callee = callee; selves = omega arith; children = omega arith; entering = omega arith }
+callee_read a held i d low is = grind (arith, get_or_default_zero)
 
 module _ (a : Inside) (i d : ℕ) (is_callee : d ≡ callee_in a i) (time read : Fraction) (calls entering : ℕ) (is_time : read ≡ time) (is_calls : calls ≡ slice_index a.calls.items i) (is_entering : entering ≡ slice_index a.entering.items d) where
   entering_callee : entering ≡ slice_index a.entering.items (callee_in a i)

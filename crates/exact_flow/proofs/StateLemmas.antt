@@ -38,11 +38,7 @@ nothing_at (suc n) zero = refl
 nothing_at (suc n) (suc i) = nothing_at n i
 
 pub none_done : (g : GraphValue) (shares : List ℕ) (times : List Fraction) → times ≡ no_times g → IsSoFar g shares 0 times
-none_done g shares times none = record {
-  each = ap length none ∙ length-replicate (component_count g) (fraction 0 1);
-  child = λ x exact c below. ap (λ (ts : List Fraction). time_at ts c) none ∙ nothing_at (component_count g) c ∙ zero_lowest x.grain exact.some;
-  fits = λ x exact k d less. absurd (omega arith);
-}
+none_done g shares times none = grind (arith, length-replicate, nothing_at, zero_lowest)
 
 -- ---- values of one step
 
@@ -70,11 +66,7 @@ module _ (g : GraphValue) (shares : List ℕ) (is : IsGraph g) (x : ExactTimes) 
   sum_in_grains a b = sum_value (in_grains x a) (in_grains x b) a x.grain exact.some (lowest_is a x.grain exact.some) b (lowest_is b x.grain exact.some)
 
   pub both_is : with_both numbers ≡ in_grains x (brought + x.arc_self i + x.arc_child i)
-  both_is =
-      ap (λ (s : Fraction). fraction_sum (fraction_sum numbers.before s) (child_part numbers)) self_is
-      ∙ ap (λ (s : Fraction). fraction_sum s (child_part numbers)) (sum_in_grains brought (x.arc_self i))
-      ∙ ap (fraction_sum (in_grains x (brought + x.arc_self i))) child_is
-      ∙ sum_in_grains (brought + x.arc_self i) (x.arc_child i)
+  both_is = grind (arith, self_is, sum_in_grains, child_is)
 
 -- ---- one arc after another
 
@@ -192,6 +184,4 @@ module _ (g : GraphValue) (shares : List ℕ) (is : IsGraph g) (n : ℕ) (times 
           ∙ (caller_order g is).all (carried_exactly x) c ∙ sym (exact.child c low))
 
   pub none_wide : IsNoneWide g shares x
-  none_wide i low out =
-      let there = (caller_order g is).each i low out in
-      subst (λ (q : ℕ × ℕ). FitsStep (step_at g shares x q.1)) there.2 (so_far.fits x exact there.0 (source_of g i, i) (let k = there.1 in let a = all in omega arith))
+  none_wide i low out = grind (arith, caller_order, all)

@@ -1,9 +1,9 @@
 -- The first wide step: what a search finds, and that all solutions have the same steps.
 use Rattle.std.proofs.Common.{◌≡◌, ◌<◌, ℕ, zero, suc, ◌*◌, ◌^◌, Bool, true, false, not, ◌&&◌, cond, List, [], ◌∷◌, length, map, Option, Some, None, get_or, refl, ap, sym, ◌∙◌, subst, arith}
-use Rattle.std.specs.Prelude.{◌==◌, nat_lt, find, unwrap_or, if◌then◌else◌}
+use Rattle.std.specs.Prelude.{◌==◌, nat_lt, find, if◌then◌else◌}
 use Rattle.std.specs.Option.{option_map}
 use Rattle.std.specs.List.{All}
-use Rattle.std.proofs.lemmas.Bool.{and_parts, and_from, true≢false, lt-ltb, ltb-true, not-false}
+use Rattle.std.proofs.lemmas.Bool.{and_parts, and_from, true≢false, lt-ltb, not-false}
 use Rattle.std.proofs.lemmas.List.Elements.{All-cons}
 use Rattle.call_cycles.specs.Sums.{list_of, numbers_below}
 use Rattle.call_cycles.specs.Graph.{GraphValue, IsGraph, arc_at, arc_count, entering_of, component_count, head_of, source_of, target_of, is_outside, leaves}
@@ -11,7 +11,7 @@ use Rattle.call_cycles.specs.Flow.{self_in}
 use Rattle.call_cycles.specs.ExactFlow.{ExactTimes, IsExactFlow, AreSameTimes, carried_exactly}
 use Rattle.call_cycles.proofs.SumLemmas.{sum_ext}
 use Rattle.call_cycles.proofs.NumberingLemmas.{target_within}
-use Rattle.fraction128.specs.Fractions.{Fraction, fraction, lowest, fits, fits_sum, fits_product}
+use Rattle.fraction128.specs.Fractions.{Fraction, fraction, lowest, fits}
 use Rattle.fraction128.proofs.ValueLemmas.{lowest_same}
 use Rattle.propagate.specs.Arcs.{IsLeaving, outside_arcs_of}
 use Rattle.propagate.specs.ExactSolution.{exact_in}
@@ -24,7 +24,7 @@ use Rattle.exact_flow.specs.Solution.{by_arcs, flow_of_times, exact_flow_in}
 use Rattle.exact_flow.proofs.OrderLemmas.{stands_before}
 use Rattle.exact_flow.specs.Progress.{step_in}
 use Rattle.exact_flow.proofs.StateLemmas.{IsSoFar, map_below, numbered, same_numbers}
-use Rattle.exact_flow.specs.Steps.{StepNumbers, FitsStep, fits_step, step_at, brought_before, self_part, child_part, with_self, IsNoneWide, IsFirstWide}
+use Rattle.exact_flow.specs.Steps.{StepNumbers, FitsStep, fits_step, step_at, brought_before, IsNoneWide, IsFirstWide}
 use Rattle.exact_flow.specs.Wide.{WideStep, step_of_arc, first_wide, first_wide_of}
 
 -- ---- a search
@@ -35,8 +35,7 @@ find_none {X} p (x ∷ xs) none = ap (λ (b : Bool). cond b (Some x) (find p xs)
 
 find_first : {X : Type 0} (p : X → Bool) (xs : List X) (n : ℕ) (x : X) → n < length xs → x ≡ get_or xs n x → ((k : ℕ) (d : X) → k < n → p (get_or xs k d) ≡ false) → p x ≡ true → find p xs ≡ Some x
 find_first p [] n x low at before here = absurd (omega arith)
-find_first {X} p (y ∷ ys) zero x low at before here =
-    ap (λ (b : Bool). cond b (Some y) (find p ys)) (ap p (sym at) ∙ here) ∙ ap Some (sym at)
+find_first {X} p (y ∷ ys) zero x low at before here = grind arith
 find_first {X} p (y ∷ ys) (suc n) x low at before here =
     ap (λ (b : Bool). cond b (Some y) (find p ys)) (before 0 x (omega arith)) ∙ find_first p ys n x (omega arith) at (λ k d less. before (suc k) d (omega arith)) here
 
@@ -56,9 +55,7 @@ found {X} p (y ∷ ys) x is = by (found p ys x) (p y) refl is
     earlier k d less = absurd (omega arith)
 
     by : (find p ys ≡ Some x → IsFound p ys x) → (b : Bool) → p y ≡ b → cond b (Some y) (find p ys) ≡ Some x → IsFound p (y ∷ ys) x
-    by rest true pass same =
-        let e : y ≡ x = ap (λ (o : Option X). unwrap_or o x) same in
-        record { place = 0; low = omega arith; at = λ d. e; here = ap p (sym e) ∙ pass; before = earlier }
+    by rest true pass same = grind arith
     by rest false fail same =
         let r = rest same in
         record { place = suc r.place; low = (let low = r.low in omega arith); at = r.at; here = r.here; before = before r.place r.before }
@@ -85,9 +82,6 @@ find_same {X} p q (x ∷ xs) same =
 fits_true : (n d : ℕ) → (n < 2 ^ 128) × (d < 2 ^ 128) → fits n d ≡ true
 fits_true n d both = and_from (nat_lt n (2 ^ 128)) (nat_lt d (2 ^ 128)) (lt-ltb n (2 ^ 128) both.0) (lt-ltb d (2 ^ 128) both.1)
 
-fits_both : (n d : ℕ) → fits n d ≡ true → (n < 2 ^ 128) × (d < 2 ^ 128)
-fits_both n d yes_it = let both = and_parts (nat_lt n (2 ^ 128)) (nat_lt d (2 ^ 128)) yes_it in (ltb-true n (2 ^ 128) both.0, ltb-true d (2 ^ 128) both.1)
-
 pub step_fits : (n : StepNumbers) → FitsStep n → fits_step n ≡ true
 step_fits n fit = four _ _ _ _ (fits_true _ _ fit.self) (fits_true _ _ fit.child) (fits_true _ _ fit.first) (fits_true _ _ fit.second)
   where
@@ -95,11 +89,7 @@ step_fits n fit = four _ _ _ _ (fits_true _ _ fit.self) (fits_true _ _ fit.child
     four a b c d one two three last = and_from (a && b && c) d (and_from (a && b) c (and_from a b one two) three) last
 
 pub fits_from : (n : StepNumbers) → fits_step n ≡ true → FitsStep n
-fits_from n yes_it =
-    let three = and_parts (fits_product (fraction n.self 1) n.calls && fits_product n.child n.calls && fits_sum n.before (self_part n)) (fits_sum (with_self n) (child_part n)) yes_it in
-    let two = and_parts (fits_product (fraction n.self 1) n.calls && fits_product n.child n.calls) (fits_sum n.before (self_part n)) three.0 in
-    let one = and_parts (fits_product (fraction n.self 1) n.calls) (fits_product n.child n.calls) two.0 in
-    record { self = fits_both _ _ one.0; child = fits_both _ _ one.1; first = fits_both _ _ two.1; second = fits_both _ _ three.1 }
+fits_from n yes_it = grind (arith, and_parts)
 
 -- ---- all solutions have the same steps
 
@@ -126,10 +116,7 @@ module _ (g : GraphValue) (shares : List ℕ) (x y : ExactTimes) (is : IsGraph g
       before = lowest_same (brought_before g x i) x.grain (brought_before g y i) y.grain one.some two.some (same_brought i low)
 
   pub same_first : first_wide_of g shares x ≡ first_wide_of g shares y
-  same_first =
-      ap (option_map (step_of_arc g))
-      (find_same (λ (p : ℕ × ℕ). not (fits_step (step_at g shares x p.1))) (λ (p : ℕ × ℕ). not (fits_step (step_at g shares y p.1))) (outside_arcs_of g)
-      (λ k d low. let l = each_leaves g k d low in ap (λ (n : StepNumbers). not (fits_step n)) (same_step _ l.0 l.2)))
+  same_first = grind (arith, find_same, each_leaves, same_step)
 
   pub same_flow : flow_of_times g shares x ≡ flow_of_times g shares y
   same_flow = λ j. record { self = list_of (component_count g) (self_in g shares); child = child j; arc_self = arcs x.arc_self y.arc_self same.arc_self j; arc_child = arcs x.arc_child y.arc_child same.arc_child j; outside = outside_numbers g }
@@ -186,9 +173,7 @@ module _ (g : GraphValue) (shares : List ℕ) (x : ExactTimes) (is : IsGraph g) 
 
       by : (o : Option (ℕ × ℕ)) → find wide (outside_arcs_of g) ≡ o → option_map (step_of_arc g) o ≡ Some w → IsFirstWide g shares x w.head w.arc
       by None at same = absurd cc
-      by (Some p) at same =
-          let e : step_of_arc g p ≡ w = ap (λ (o : Option WideStep). unwrap_or o w) same in
-          subst (λ (v : WideStep). IsFirstWide g shares x v.head v.arc) e (first p (found wide (outside_arcs_of g) p at))
+      by (Some p) at same = grind (arith, first, found)
 
 -- ---- what the walk over the arcs finds
 

@@ -39,6 +39,7 @@ impl Model for ExactFlow {
 }
 
 /// What an arc carries of a time of the component that it enters, with so many of the calls that enter that.
+#[tactic(auto, using(crate::proofs::PartLemmas::none_carried, crate::proofs::PartLemmas::some_carried))]
 fn carried(time: &Frac, calls: u64, entering: u64) -> Frac
     requires { FitsPart (value_of time.now) calls entering }
     ensures { value_of result ≡ carried_part (value_of time.now) calls entering }

@@ -12,6 +12,7 @@ pub fn first_steps()
 {}
 
 /// All solutions have the same times in lowest terms.
+#[tactic(auto, using(crate::proofs::WideLemmas::one_flow))]
 pub fn one_exact_flow()
     ensures { HasOneFlow }
 {}

@@ -27,6 +27,7 @@ use std::alloc::Global;
 use symbol_shares::Shares;
 
 /// Of the calls that enter the component of an outside arc's callee, those of the arc.
+#[tactic(auto, using(propagate::proofs::ExactLemmas::entered))]
 fn calls(graph: &Graph, i: usize) -> Frac
     requires arc { i < arc_count graph.now }
     requires outside { is_outside graph.now i ≡ true }
@@ -148,6 +149,7 @@ fn solve(graph: &Graph, shares: &Shares, tables: Tables) -> Result<ExactFlow, Ex
 /// in lowest terms, or the first step at which a fraction does not fit.
 ///
 /// Without memory for it, and for a graph of more than 2^32 - 1 arcs, the answer is `OutOfMemory`.
+#[tactic(auto, using(propagate::proofs::ExactLemmas::exact_solution))]
 pub fn exact(alloc: Global, graph: &Graph, shares: &Shares) -> Result<ExactFlow, ExactRefusal>
     requires each { length shares.now.of ≡ graph.now.functions }
     ensures sized { IfOk result (HasTimes graph.now) }

@@ -22,6 +22,7 @@ pub(crate) struct Given {
 }
 
 /// A whole number.
+#[tactic(auto, using(fraction128::proofs::ValueLemmas::whole_lowest))]
 pub(crate) fn whole(n: u128) -> Frac
     ensures { value_of result ≡ fraction n 1 }
 {

@@ -27,6 +27,7 @@ pub(crate) struct Tables {
 }
 
 /// The calls that enter each component from another one.
+#[tactic(auto, using(crate::proofs::TableLemmas::listed))]
 fn entering(alloc: Global, graph: &Graph) -> Result<Vec<u64>, AllocError>
     ensures { IfOk result (λ v. v.items ≡ list_of (component_count graph.now)
         (entering_of graph.now)) }
@@ -51,6 +52,7 @@ fn calls_of(graph: &Graph, i: usize) -> u64
 }
 
 /// The calls of each arc, but none of those inside a cycle.
+#[tactic(auto, using(crate::proofs::TableLemmas::listed))]
 fn calls(alloc: Global, graph: &Graph) -> Result<Vec<u64>, AllocError>
     ensures { IfOk result (λ v. v.items ≡ list_of (arc_count graph.now)
         (outside_calls graph.now)) }
@@ -63,6 +65,7 @@ fn calls(alloc: Global, graph: &Graph) -> Result<Vec<u64>, AllocError>
 }
 
 /// The component of each arc's callee.
+#[tactic(auto, using(crate::proofs::TableLemmas::listed))]
 fn callees(alloc: Global, graph: &Graph) -> Result<Vec<u32>, AllocError>
     ensures { IfOk result (λ v. v.items ≡ list_of (arc_count graph.now) (target_of graph.now)) }
 {
@@ -97,6 +100,7 @@ fn outside(alloc: Global, graph: &Graph) -> Result<Vec<u32>, AllocError>
 /// The tables before any step is done: all child times are 0.
 ///
 /// The outside arcs come first, since they take most memory while they are put in order.
+#[tactic(auto, using(crate::proofs::TableLemmas::all_same))]
 pub(crate) fn start(alloc: Global, graph: &Graph, shares: &Shares) -> Result<Tables, AllocError>
     requires each { length shares.now.of ≡ graph.now.functions }
     requires few { arc_count graph.now < 2 ^ 32 }

@@ -1,7 +1,7 @@
 -- The calls of functions, summed arc by arc.
-use Rattle.std.proofs.Common.{◌≡◌, ◌≢◌, ◌<◌, ◌≤◌, ℕ, suc, ◌+◌, List, length, refl, ap, sym, ◌∙◌, ⊎_elim, arith, add-one, length-set, get_or-set_same, get_or-set_other}
+use Rattle.std.proofs.Common.{◌≡◌, ◌<◌, ◌≤◌, ℕ, suc, ◌+◌, List, length, refl, ap, sym, ◌∙◌, arith, length-set, get_or-set_same, get_or-set_other}
 use Rattle.std.specs.Prelude.{◌==◌, slice_index, slice_set}
-use Rattle.std.proofs.lemmas.Bool.{cases_eq, eq-eqb, ne_eqb}
+use Rattle.std.proofs.lemmas.Bool.{eq-eqb}
 use Rattle.std.proofs.lemmas.List.FromFn.{fill_by_all}
 use Rattle.call_cycles.specs.Graph.{GraphValue, IsGraph, all_calls, arc_at, arc_count}
 use Rattle.call_cycles.specs.Sums.{sum_below, when, list_of}
@@ -32,11 +32,7 @@ module _ (g : GraphValue) (i : ℕ) (calls : List ℕ) (are : AreCounted g i cal
 
     pub counted_fits : IsGraph g → slice_index calls k + (arc_at g i).count ≤ all_calls g
     counted_fits is =
-        let before = are.each k low in
-        let front = sum_front_le (suc i) (arc_count g) (λ j. when ((arc_at g j).callee == k) (arc_at g j).count) (omega arith) in
-        let this = counted in
-        let all = calls_within g k is low in
-        omega arith
+        grind (arith, sum_front_le (suc i) (arc_count g) (λ j. when ((arc_at g j).callee == k) (arc_at g j).count) (omega arith), calls_within g k is low)
 
     pub counted_more : (x : ℕ) → x ≡ slice_index calls k + (arc_at g i).count → AreCounted g (i + 1) (slice_set calls k x)
     counted_more x is = record {
@@ -48,17 +44,4 @@ module _ (g : GraphValue) (i : ℕ) (calls : List ℕ) (are : AreCounted g i cal
         inside = let len = are.len in omega arith
 
         each_more : (f : ℕ) → f < g.functions → slice_index (slice_set calls k x) f ≡ called_below g (i + 1) f
-        each_more f h =
-            let before = are.each f h in
-            let this = counted in
-            ⊎_elim
-            (λ (same : k ≡ f).
-            let set : slice_index (slice_set calls k x) f ≡ x = ap (λ (n : ℕ). slice_index (slice_set calls k x) n) (sym same) ∙ get_or-set_same calls k x 0 inside in
-            let old : slice_index calls k ≡ slice_index calls f = ap (slice_index calls) same in
-            let here : when ((arc_at g i).callee == k) (arc_at g i).count ≡ when ((arc_at g i).callee == f) (arc_at g i).count = ap (λ (n : ℕ). when ((arc_at g i).callee == n) (arc_at g i).count) same in
-            rw add-one (omega arith))
-            (λ (other : k ≢ f).
-            let none : when ((arc_at g i).callee == f) (arc_at g i).count ≡ 0 = rw (ne_eqb (arc_at g i).callee f (λ q. other (callee ∙ q))) refl in
-            let set : slice_index (slice_set calls k x) f ≡ slice_index calls f = get_or-set_other calls k f x 0 (λ q. other (sym q)) in
-            rw add-one (omega arith))
-            (cases_eq k f)
+        each_more f h = grind (arith, get_or-set_same, get_or-set_other)

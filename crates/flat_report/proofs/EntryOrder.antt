@@ -2,13 +2,12 @@
 use Rattle.std.proofs.Common.{◌≡◌, ℕ, Bool, ap, ◌∙◌}
 use Rattle.std.specs.declared.cmp.Ordering.{Ordering}
 use Rattle.std.specs.declared.cmp.Ordering.TheVariants.{Less, Equal, Greater}
-use Rattle.std.specs.Ordering.{nat_cmp, ordering_then, is_lt}
-use Rattle.std.specs.Cmp.Lexicographic.{slice_cmp}
+use Rattle.std.specs.Ordering.{ordering_then, is_lt}
 use Rattle.std.specs.Cmp.{IsTotalOrder, IsStrictWeakOrder, nat_cmp_total, then_total, on_total}
 use Rattle.std.proofs.lemmas.Cmp.{nat_list_cmp_total, back_total}
 use Rattle.std.proofs.lemmas.List.Sorted.{ranks_by}
 use Rattle.std.proofs.lemmas.Map.Lookups.{CmpEqualImpliesEq, exact_unsigned}
-use Rattle.flat_report.specs.Sources.{Sources, name_of, self_share, calls_in_all}
+use Rattle.flat_report.specs.Sources.{Sources}
 use Rattle.flat_report.specs.Entries.{FlatEntry, entry_of, flat_entry_cmp, flat_comes_before}
 use Rattle.flat_report.specs.Rows.{entry_of_row, IsRowOf}
 use Rattle.flat_report.specs.declared.rows.Row.{Row}
@@ -30,11 +29,7 @@ function_cmp s f h = flat_entry_cmp (f, entry_of s f) (h, entry_of s h)
 
 -- functions that compare alike are one
 function_exact : (s : Sources) → CmpEqualImpliesEq (function_cmp s)
-function_exact s f h same =
-    let by_number = nat_cmp f h in
-    let by_name = ordering_then (slice_cmp nat_cmp (name_of s f) (name_of s h)) by_number in
-    let by_calls = ordering_then (nat_cmp (calls_in_all s.graph h) (calls_in_all s.graph f)) by_name in
-    exact_unsigned f h (then_equal _ by_number (then_equal _ by_name (then_equal (nat_cmp (self_share s h) (self_share s f)) by_calls same)))
+function_exact s f h same = search (exact_unsigned, then_equal)
 
 pub function_order : (s : Sources) → IsExactOrder (flat_comes_before s)
 unfolding flat_comes_before

@@ -24,13 +24,12 @@ use Rattle.flat_report.proofs.OrderLemmas.{moved_in_order, sum_in_order}
 sum_numbers : (weight : ℕ → ℕ) (n : ℕ) → sum_by weight (numbers_below n) ≡ sum_below n weight
 sum_numbers weight zero = refl
 sum_numbers weight (suc n) =
-    let more = sum_by-map-range_with_len_more weight (λ k. k) 0 n n (omega arith) in
     let here = ap (sum_by weight) (map-id (range_with_len 0 (n + 1))) in
     let before = ap (sum_by weight) (map-id (range_with_len 0 n)) in
     let rest = sum_numbers weight n in
     let one : n + 1 ≡ suc n = omega arith in
     let all = ap (λ (k : ℕ). sum_by weight (range_with_len 0 k)) one in
-    omega arith
+    omega (arith, sum_by-map-range_with_len_more weight (λ k. k) 0 n n (omega arith))
 
 -- those that don't pass have none
 sum_filtered : (weight : ℕ → ℕ) (test : ℕ → Bool) → ((f : ℕ) → test f ≡ false → weight f ≡ 0) → (fs : List ℕ) → sum_by weight (filter test fs) ≡ sum_by weight fs
@@ -48,12 +47,7 @@ sum_mapped weight g (f ∷ fs) = omega (arith, sum_mapped weight g fs, sum_by-co
 -- the lines have together what all functions have
 sum_of_lines : (s : Sources) (weight : FlatEntry → ℕ) → ((e : FlatEntry) → has_line e ≡ false → weight e ≡ 0) → sum_by weight (flat_entries s) ≡ sum_below s.graph.functions (λ f. weight (entry_of s f))
 unfolding listed_functions
-sum_of_lines s weight none =
-    let of_function = λ (f : ℕ). weight (entry_of s f) in
-    sum_mapped weight (entry_of s) (flat_order s)
-    ∙ sum_in_order (flat_comes_before s) of_function (listed_functions s)
-    ∙ sum_filtered of_function (λ f. has_line (entry_of s f)) (λ f h. none (entry_of s f) h) (numbers_below s.graph.functions)
-    ∙ sum_numbers of_function s.graph.functions
+sum_of_lines s weight none = search (sum_mapped, sum_in_order, sum_filtered, sum_numbers)
 
 neither_of : (a b : Bool) → (a || b) ≡ false → (a ≡ false) × (b ≡ false)
 neither_of true b h = absurd (true≢false h)
@@ -83,16 +77,11 @@ calls_within g f is below = omega (arith, term_le_sum g.functions (calls_in_all 
 
 pub total_within : (s : Sources) (f : ℕ) → AreOfOne s → f < s.graph.functions → inclusive_total s f ≤ attributed_of s.shares
 total_within s f are below =
-    let own = function_within s.graph s.shares.of s.flow f are.graph are.flow below in
     let all = within_all s.graph s.shares.of are.graph (are.each ∙ sym are.functions) s.flow are.flow (component_of s.graph f) (are.graph.components.within f below) in
-    omega arith
+    omega (arith, function_within s.graph s.shares.of s.flow f are.graph are.flow below)
 
 entry_fits : (s : Sources) → AreOfOne s → all_calls s.graph < 2 ^ 59 → (f : ℕ) → f < s.graph.functions → FitsIn (attributed_of s.shares) (entry_of s f)
-entry_fits s are few f below = record {
-  share = let total = total_within s f are below in omega arith;
-  whole = total_within s f are below;
-  calls = let calls = calls_within s.graph f are.graph below in omega arith;
-}
+entry_fits s are few f below = grind (arith, total_within, calls_within)
 
 numbers_are_below : (n : ℕ) → All (λ f. f < n) (numbers_below n)
 numbers_are_below n k d below = omega (arith, length-range_with_len 0 n, get_or-range_with_len 0 n k d (omega (arith, length-range_with_len 0 n)))

@@ -1,5 +1,5 @@
 -- The rows of a report, and what their lines show.
-use Rattle.std.proofs.Common.{◌≡◌, ℕ, ◌+◌, ◌<◌, ◌≤◌, Bool, true, false, cond, Option, List, [], ◌∷◌, ◌++◌, append-nil, length, map, get_or, refl, sym, ap, subst, ◌∙◌, arith}
+use Rattle.std.proofs.Common.{◌≡◌, ℕ, ◌+◌, ◌<◌, ◌≤◌, true, false, Option, List, [], ◌∷◌, ◌++◌, append-nil, length, map, get_or, refl, sym, ap, subst, ◌∙◌, arith}
 use Rattle.std.specs.List.{All, sum_by, enumerate_from}
 use Rattle.std.specs.Option.{option_map_or}
 use Rattle.std.proofs.lemmas.Option.{slice_get-get_or}
@@ -47,14 +47,11 @@ module _ (rows : List Row) (k n : ℕ) (row : Row) (h : IsRowAt rows k n row) wh
   numbered_inside = omega (arith, h.inside, numbered_long rows)
 
   pub numbered_at : (k, entry) ≡ get_or (enumerate_from 0 entries) k (k, entry)
-  numbered_at =
-      let number : 0 + k ≡ k = omega arith in
-      sym (get_or-enumerate_from 0 entries k (k, entry) entry_inside ∙ ap (λ (e : FlatEntry). (0 + k, e)) (sym entry_at) ∙ ap (λ (m : ℕ). (m, entry)) number)
+  numbered_at = grind (arith, get_or-enumerate_from, entry_inside, entry_at)
 
   -- the grains with its own
   pub cumulative_more : n + row.share ≡ cumulative_of entries (k + 1)
-  cumulative_more =
-      ap (λ (m : ℕ). m + row.share) h.before ∙ ap (λ (e : FlatEntry). cumulative_of entries k + e.share) entry_at ∙ sym (sum_by_more (λ (e : FlatEntry). e.share) entries k entry entry_inside)
+  cumulative_more = grind (arith, entry_at, sum_by_more, entry_inside)
 
   pub cumulative_within : (total : ℕ) → sum_by (λ (e : FlatEntry). e.share) entries ≤ total → n + row.share ≤ total
   cumulative_within total all = omega (arith, all, cumulative_more, sum_by-take-le (λ (e : FlatEntry). e.share) entries (k + 1))
@@ -81,29 +78,11 @@ module _ (s : Sources) where
     pub functions : map (λ (row : Row). row.number) rows ≡ functions_to s k
 
   module _ (k : ℕ) (rows : List Row) (row : Row) (are : AreRowsTo k rows) (is : IsRowOf s row) (number : row.number ≡ k) where
-    entry_here : entry_of_row row ≡ entry_of s k
-    entry_here = is ∙ ap (entry_of s) number
-
     pub row_shown : has_line (entry_of_row row) ≡ true → AreRowsTo (k + 1) (rows ++ row ∷ [])
-    row_shown shown = record {
-      rows_of = row_added rows row are.rows_of is;
-      functions =
-          map-append (λ (r : Row). r.number) rows (row ∷ [])
-          ∙ ap (λ (fs : List ℕ). fs ++ row.number ∷ []) are.functions
-          ∙ ap (λ (n : ℕ). functions_to s k ++ n ∷ []) number
-          ∙ ap (λ (b : Bool). functions_to s k ++ cond b (k ∷ []) []) (sym (ap has_line (sym entry_here) ∙ shown))
-          ∙ sym (functions_more s k);
-    }
+    row_shown shown = grind (arith, row_added, map-append, functions_more)
 
     pub row_hidden : has_line (entry_of_row row) ≡ false → AreRowsTo (k + 1) rows
-    row_hidden hidden = record {
-      rows_of = are.rows_of;
-      functions =
-          are.functions
-          ∙ sym (append-nil (functions_to s k))
-          ∙ ap (λ (b : Bool). functions_to s k ++ cond b (k ∷ []) []) (sym (ap has_line (sym entry_here) ∙ hidden))
-          ∙ sym (functions_more s k);
-    }
+    row_hidden hidden = grind (arith, append-nil, functions_more)
 
   rows_are_entries : (rows : List Row) → All (IsRowOf s) rows → entries_of_rows rows ≡ map (entry_of s) (map (λ (row : Row). row.number) rows)
   rows_are_entries [] all = refl

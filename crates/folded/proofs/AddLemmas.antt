@@ -1,5 +1,5 @@
 -- One more node, and one more sample.
-use Rattle.std.proofs.Common.{◌≡◌, ◌∙◌, ◌+◌, ◌^◌, ◌<◌, ◌≤◌, ◌++◌, ◌⊎◌, inl, inr, ℕ, zero, suc, Bool, List, [], ◌∷◌, length, get_or, set, ap, arith, cond, refl, sym, subst, Option, None}
+use Rattle.std.proofs.Common.{◌≡◌, ◌∙◌, ◌+◌, ◌^◌, ◌<◌, ◌≤◌, ◌++◌, ◌⊎◌, inl, inr, ℕ, zero, suc, Bool, List, [], ◌∷◌, length, get_or, set, arith, cond, refl, sym, subst, Option, None}
 use Rattle.std.specs.List.{All}
 use Rattle.std.specs.Option.{IfSome}
 use Rattle.std.proofs.lemmas.List.{get_or_append_left, get_or_push, length-set, length_push}
@@ -13,8 +13,7 @@ use Rattle.folded.proofs.NodeLemmas.{Nodes, Stack, length_stacks, samples-push, 
 
 pub has_stack : (nodes : Nodes) (i caller : ℕ) (function : Option ℕ) → ((k : ℕ) → k < length nodes → (get_or nodes k (0, None)).0 ≤ k) → i < length nodes → get_or nodes i (0, None) ≡ (caller, function)
     → HasStack nodes (i + 1) (stack_of_node nodes caller ++ function ∷ [])
-has_stack nodes i caller function callers inside is =
-    (omega (arith, inside), stack_of_made nodes i inside (callers i inside) ∙ ap (λ (n : ℕ × Option ℕ). stack_of_node nodes n.0 ++ n.1 ∷ []) is)
+has_stack nodes i caller function callers inside is = grind (arith, stack_of_made)
 
 -- the same, where the search for it ends
 pub found_node : (nodes : Nodes) (n caller : ℕ) (function : Option ℕ) → ((k : ℕ) → k < length nodes → (get_or nodes k (0, None)).0 ≤ k) → n ≤ length nodes → 0 < n → EndsAt nodes caller function n
@@ -23,8 +22,7 @@ found_node nodes zero caller function callers inside some ends = absurd (omega (
 found_node nodes (suc i) caller function callers inside some (inl none) = absurd (omega (arith, none))
 found_node nodes (suc i) caller function callers inside some (inr is) =
     let next : i + 1 ≡ suc i = omega arith in
-    let H : ℕ → Type 0 = λ n. HasStack nodes n (stack_of_node nodes caller ++ function ∷ []) in
-    subst H next (has_stack nodes i caller function callers (omega (arith, inside)) is)
+    grind (arith, has_stack)
 
 -- no node is that of a caller and a function
 abbrev pub IsAbsent : Nodes → ℕ → Option ℕ → Type 0
@@ -39,8 +37,7 @@ below_or_last (suc i) zero inside = absurd (omega (arith, inside))
 below_or_last (suc i) (suc n) inside = by (below_or_last i n (omega (arith, inside)))
   where
     by : (i < n) ⊎ (i ≡ n) → (suc i < suc n) ⊎ (suc i ≡ suc n)
-    by (inl below) = inl (omega (arith, below))
-    by (inr is) = inr (ap suc is)
+    by this = grind arith
 
 module _ (nodes : Nodes) (counts : List ℕ) (total functions : ℕ) (is : AreNodes nodes counts total functions) (caller : ℕ) (function : Option ℕ) where
   abbrev more : Nodes
@@ -53,9 +50,7 @@ module _ (nodes : Nodes) (counts : List ℕ) (total functions : ℕ) (is : AreNo
   last i at = get_or_push nodes (caller, function) (0, None) i (sym at)
 
   samples_same : (test : Stack → Bool) → samples_on test (node_stacks more) (counts ++ 0 ∷ []) ≡ samples_on test (node_stacks nodes) counts
-  samples_same test =
-      ap (λ (x : List Stack). samples_on test x (counts ++ 0 ∷ [])) (stacks_with nodes (caller, function))
-      ∙ samples-push test (node_stacks nodes) counts (stack_of_node nodes caller ++ function ∷ []) (length_stacks nodes ∙ sym is.numbers)
+  samples_same test = grind (arith, stacks_with, samples-push, length_stacks)
 
   pub node_made : caller ≤ length nodes → length nodes + 1 < 2 ^ 32 → length (stack_of_node nodes caller) < 129 → IfSome function (λ f. f < functions) → IsAbsent nodes caller function
       → AreNodes more (counts ++ 0 ∷ []) total functions
@@ -75,14 +70,10 @@ module _ (nodes : Nodes) (counts : List ℕ) (total functions : ℕ) (is : AreNo
       short_one = (omega (arith, length_push (stack_of_node nodes caller) function, short), All-push (λ (o : Option ℕ). IfSome o (λ f. f < functions)) (stack_of_node nodes caller) function front.1 below)
 
       caller_at : (i : ℕ) → (i < length nodes) ⊎ (i ≡ length nodes) → (get_or more i (0, None)).0 ≤ i
-      caller_at i (inl inside) = let same = ap (λ (n : ℕ × Option ℕ). n.0) (before i inside) in let old = is.callers i inside in omega (arith, same, old)
-      caller_at i (inr at) = let same = ap (λ (n : ℕ × Option ℕ). n.0) (last i at) in omega (arith, same, at, low)
+      caller_at i this = grind (arith, before, last)
 
       apart : (i j : ℕ) → (i < length nodes) ⊎ (i ≡ length nodes) → (j < length nodes) ⊎ (j ≡ length nodes) → get_or more i (0, None) ≡ get_or more j (0, None) → i ≡ j
-      apart i j (inl a) (inl b) same = is.distinct i j a b (sym (before i a) ∙ same ∙ before j b)
-      apart i j (inl a) (inr b) same = absurd (absent i a (sym (before i a) ∙ same ∙ last j b))
-      apart i j (inr a) (inl b) same = absurd (absent j b (sym (before j b) ∙ sym same ∙ last i a))
-      apart i j (inr a) (inr b) same = a ∙ sym b
+      apart i j this given same = grind (arith, before, last)
 
   pub samples_kept : (stacks : List Stack) → HaveSamples stacks nodes counts total → HaveSamples stacks more (counts ++ 0 ∷ []) total
   samples_kept stacks have = record { samples = λ test. samples_same test ∙ have.samples test; number = have.number }
@@ -94,29 +85,15 @@ module _ (nodes : Nodes) (counts : List ℕ) (total functions : ℕ) (is : AreNo
   one_more test = samples-set test (node_stacks nodes) counts node (omega (arith, inside, is.numbers)) (length_stacks nodes ∙ sym is.numbers)
 
   pub nodes_added : AreNodes nodes (set counts node (get_or counts node 0 + 1)) (total + 1) functions
-  nodes_added = record {
-    callers = is.callers;
-    distinct = is.distinct;
-    numbers = length-set counts node (get_or counts node 0 + 1) ∙ is.numbers;
-    few = is.few;
-    stacks = is.stacks;
-    sum = omega (arith, one_more any_stack, is.sum);
-  }
+  nodes_added = grind (arith, length-set, one_more)
 
   pub samples_added : (stacks : List Stack) → HaveSamples stacks nodes counts total → HaveSamples (stacks ++ stack_of_node nodes node ∷ []) nodes (set counts node (get_or counts node 0 + 1)) (total + 1)
-  samples_added stacks have = record {
-    samples = λ test. one_more test ∙ ap (λ (n : ℕ). n + cond (test (stack_of_node nodes node)) 1 0) (have.samples test) ∙ sym (sum_by_push (λ (x : Stack). cond (test x) 1 0) stacks (stack_of_node nodes node));
-    number = ap (λ (n : ℕ). n + 1) have.number ∙ sym (length_push stacks (stack_of_node nodes node));
-  }
+  samples_added stacks have = grind (arith, one_more, sum_by_push, length_push)
 
 -- ---- what grew
 
 pub same_parts : (nodes other_nodes : Nodes) (counts other_counts : List ℕ) (total other_total functions other_functions : ℕ) → nodes ≡ other_nodes → counts ≡ other_counts → total ≡ other_total → functions ≡ other_functions → AreNodes other_nodes other_counts other_total other_functions → AreNodes nodes counts total functions
-same_parts nodes other_nodes counts other_counts total other_total functions other_functions a b c d is =
-    subst (λ (x : Nodes). AreNodes x counts total functions) (sym a)
-    (subst (λ (x : List ℕ). AreNodes other_nodes x total functions) (sym b)
-    (subst (λ (x : ℕ). AreNodes other_nodes other_counts x functions) (sym c) (subst (λ (x : ℕ). AreNodes other_nodes other_counts other_total x) (sym d) is)))
+same_parts nodes other_nodes counts other_counts total other_total functions other_functions a b c d is = grind arith
 
 pub same_samples : (stacks : List Stack) (nodes other_nodes : Nodes) (counts other_counts : List ℕ) (total other_total : ℕ) → nodes ≡ other_nodes → counts ≡ other_counts → total ≡ other_total → HaveSamples stacks other_nodes other_counts other_total → HaveSamples stacks nodes counts total
-same_samples stacks nodes other_nodes counts other_counts total other_total a b c have =
-    subst (λ (x : Nodes). HaveSamples stacks x counts total) (sym a) (subst (λ (x : List ℕ). HaveSamples stacks other_nodes x total) (sym b) (subst (λ (x : ℕ). HaveSamples stacks other_nodes other_counts x) (sym c) have))
+same_samples stacks nodes other_nodes counts other_counts total other_total a b c have = grind arith

@@ -1,5 +1,5 @@
 -- The loop that makes the turns of a plan and follows them.
-use Rattle.std.proofs.Common.{◌+◌, ◌≡◌, ◌≤◌, ◌∙◌, Some, arith, get_or, inl, inr, refl, replicate, subst, sym, ℕ, List, length, ap}
+use Rattle.std.proofs.Common.{◌+◌, ◌≡◌, ◌≤◌, ◌∙◌, Some, arith, refl, replicate, subst, sym, ℕ, List, length, ap}
 use Rattle.std.proofs.lemmas.List.{get_or-replicate, length-replicate}
 use Rattle.prof_machine.proofs.ActLemmas.{nothing_printed}
 use Rattle.prof_machine.proofs.DriveLemmas.{in_first}
@@ -20,7 +20,7 @@ use Rattle.folded.specs.Folding.{Follows, HasRoom, IsTracked, StopsShort}
 use Rattle.folded.specs.Nodes.{IsTreeOf}
 use Rattle.folded.specs.Shadow.{Shadow, empty_shadow}
 use Rattle.folded.specs.Stacks.{stacks_of}
-use Rattle.folded.specs.Trail.{StackSample, Trail, first_trail, trail_with, run_samples, trail_after}
+use Rattle.folded.specs.Trail.{first_trail, trail_with, run_samples, trail_after}
 use Rattle.folded.specs.declared.tracker.Tracker.{Tracker}
 use Rattle.folded.proofs.TrailLemmas.{run_samples_at, trail_next}
 
@@ -44,15 +44,12 @@ pub record Goes (symbols : List Symbol) (old new : RunValue) (before now : Outsi
 
 -- what is left of a run before its next turn
 pub few_at : (turns work most : ℕ) → ((turns ≡ 0) ⊎ (turns + work ≤ most)) → work ≤ most → turns + work ≤ most
-few_at turns work most (inl none) few = omega (arith, none, few)
-few_at turns work most (inr is) few = is
+few_at turns work most is few = grind arith
 
 -- the turn in which the run ends is the last
 pub folds_last : (symbols : List Symbol) (m : Machine) (w : World) (n : ℕ) (v : Tracker) (end : End) → n ≤ most_turns m.setup → (world_at m w n).ending ≡ Some end → Follows symbols (trail_after m w (plan_of m.setup n)) v
     → IsTreeOf (stacks_of symbols (run_samples m w)) v.tree
-folds_last symbols m w n v end enough is follows =
-    let P : List StackSample → Type 0 = λ s. IsTreeOf (stacks_of symbols s) v.tree in
-    subst P (run_samples_at m w n end enough is) follows.samples
+folds_last symbols m w n v end enough is follows = grind (arith, run_samples_at)
 
 -- what holds of the trail is said of the plan's trail before its first turn, and behind one more turn
 pub first_follows : (symbols : List Symbol) (m : Machine) (w : World) (v : Tracker) → Follows symbols (first_trail m.setup.harts) v → Follows symbols (trail_after m w (plan_of m.setup 0)) v
@@ -61,17 +58,13 @@ first_follows symbols m w v is = is
 
 pub next_follows : (symbols : List Symbol) (m v : Machine) (w : World) (n h : ℕ) (note : TurnNote) (t : Tracker) → v ≡ m → h ≡ taker_of m.setup.plan m.setup.harts n → note ≡ note_of v (world_at m w n) h
     → Follows symbols (trail_with h note (trail_after m w (plan_of m.setup n))) t → Follows symbols (trail_after m w (plan_of m.setup (n + 1))) t
-next_follows symbols m v w n h note t same taker is follows =
-    let P : Trail → Type 0 = λ x. Follows symbols x t in
-    subst P (ap (λ (x : TurnNote). trail_with h x (trail_after m w (plan_of m.setup n))) is ∙ trail_next m v w n h same taker) follows
+next_follows symbols m v w n h note t same taker is follows = grind (arith, trail_next)
 
 pub first_harts : (v : List Shadow) (n : ℕ) → v ≡ replicate n empty_shadow → length v ≡ n
 first_harts v n is = ap (λ (x : List Shadow). length x) is ∙ length-replicate n empty_shadow
 
 room_replicate : (n : ℕ) → HasRoom 0 (replicate n empty_shadow)
-room_replicate n = λ k d inside.
-    let here : get_or (replicate n empty_shadow) k d ≡ empty_shadow = get_or-replicate n k empty_shadow d (omega (arith, inside, length-replicate n empty_shadow)) in
-    omega (arith, ap (λ (s : Shadow). s.over) here)
+room_replicate n = grind (arith, get_or-replicate, length-replicate)
 
 pub first_room : (v : List Shadow) (n : ℕ) → v ≡ replicate n empty_shadow → HasRoom 0 v
 first_room v n is = subst (λ (x : List Shadow). HasRoom 0 x) (sym is) (room_replicate n)

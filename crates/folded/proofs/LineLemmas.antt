@@ -1,5 +1,5 @@
 -- Lines of stacks: in order, each stack once, with the number of samples that have it.
-use Rattle.std.proofs.Common.{◌≡◌, ◌∙◌, ◌+◌, ◌<◌, ℕ, Bool, true, false, List, [], ◌∷◌, length, ap, arith, cond, refl, sym, Option, Some, None}
+use Rattle.std.proofs.Common.{◌≡◌, ◌∙◌, ◌+◌, ◌<◌, ℕ, Bool, true, false, List, [], ◌∷◌, length, ap, arith, cond, refl, sym, Option, Some}
 use Rattle.std.specs.Prelude.{count_by, fold, sum_by, option_map, unwrap_or}
 use Rattle.std.specs.List.{AllByRecursion}
 use Rattle.std.specs.List.Sorted.{IsStrictlySortedBy}
@@ -37,15 +37,8 @@ alike_right a b c same = turned c a ∙ ap ordering_reverse (alike a b c same) �
 abbrev found : Lines → Stack → Option ℕ
 found lines q = lookup (same_stack q) lines
 
-swapped : (a b : Bool) (x y z : Option ℕ) → (a ≡ true → b ≡ true → x ≡ y) → cond a x (cond b y z) ≡ cond b y (cond a x z)
-swapped true true x y z same = same refl refl
-swapped true false x y z same = refl
-swapped false b x y z same = refl
-
 equal : (o : Ordering) → is_eq o ≡ true → o ≡ Equal
-equal Less is = absurd cc
-equal Equal is = refl
-equal Greater is = absurd cc
+equal o is = grind arith
 
 found_insert_by : (e : Stack × ℕ) (es : Lines) (k q : Stack) (v : ℕ) (o : Ordering) → stack_cmp k e.0 ≡ o → found (insert_entry stack_cmp es k v) q ≡ cond (same_stack q k) (Some v) (found es q)
     → found (match_ordering o ((k, v) ∷ e ∷ es) ((e.0, v) ∷ es) (e ∷ insert_entry stack_cmp es k v)) q ≡ cond (same_stack q k) (Some v) (found (e ∷ es) q)
@@ -55,43 +48,23 @@ found_insert_by e es k q v Equal is later =
     both (same_stack q e.0) ∙ ap (λ (b : Bool). cond b (Some v) (found (e ∷ es) q)) (sym test)
   where
     both : (b : Bool) → cond b (Some v) (found es q) ≡ cond b (Some v) (cond b (Some e.1) (found es q))
-    both true = refl
-    both false = refl
-found_insert_by e es k q v Greater is later =
-    ap (λ (x : Option ℕ). cond (same_stack q e.0) (Some e.1) x) later
-    ∙ swapped (same_stack q e.0) (same_stack q k) (Some e.1) (Some v) (found es q) (λ a b.
-    let first : stack_cmp q e.0 ≡ Equal = equal (stack_cmp q e.0) a in
-    let second : stack_cmp q k ≡ Equal = equal (stack_cmp q k) b in
-    let both : Greater ≡ Equal = sym is ∙ sym (alike q k e.0 second) ∙ first in
-    absurd cc)
+    both b = grind arith
+found_insert_by e es k q v Greater is later = grind (arith, alike)
 
 found_insert : (es : Lines) (k q : Stack) (v : ℕ) → found (insert_entry stack_cmp es k v) q ≡ cond (same_stack q k) (Some v) (found es q)
 found_insert [] k q v = refl
 found_insert (e ∷ es) k q v = found_insert_by e es k q v (stack_cmp k e.0) refl (found_insert es k q v)
 
--- the same stack has the same line
-found_same : (es : Lines) (q k : Stack) → stack_cmp q k ≡ Equal → found es q ≡ found es k
-found_same [] q k same = refl
-found_same (e ∷ es) q k same =
-    ap (λ (x : Ordering). cond (is_eq x) (Some e.1) (found es q)) (alike q k e.0 same) ∙ ap (λ (x : Option ℕ). cond (same_stack k e.0) (Some e.1) x) (found_same es q k same)
-
-times_by : (lines : Lines) (k q : Stack) (b : Bool) → same_stack q k ≡ b → unwrap_or (cond b (Some (times_in lines k + 1)) (found lines q)) 0 ≡ times_in lines q + cond b 1 0
-times_by lines k q true same = ap (λ (o : Option ℕ). unwrap_or o 0 + 1) (sym (found_same lines q k (equal (stack_cmp q k) same)))
-times_by lines k q false same = omega arith
-
 times_more : (lines : Lines) (k q : Stack) → times_in (with_stack lines k) q ≡ times_in lines q + cond (same_stack q k) 1 0
 unfolding with_stack
-times_more lines k q =
-    ap (λ (o : Option ℕ). unwrap_or o 0) (found_insert lines k q (times_in lines k + 1)) ∙ times_by lines k q (same_stack q k) refl
+times_more lines k q = grind (arith, found_insert, alike)
 
 abbrev folded_lines : Lines → List Stack → Lines
 folded_lines lines stacks = fold with_stack lines stacks
 
 times_all : (stacks : List Stack) (lines : Lines) (q : Stack) → times_in (folded_lines lines stacks) q ≡ times_in lines q + count_by (same_stack q) stacks
 times_all [] lines q = omega arith
-times_all (s ∷ stacks) lines q =
-    let rest = times_all stacks (with_stack lines s) q in
-    omega (arith, rest, times_more lines s q, sum_by-cons (λ (x : Stack). cond (same_stack q x) 1 0) s stacks)
+times_all (s ∷ stacks) lines q = search (arith, times_more, sum_by-cons, times_all stacks (with_stack lines s) q)
 
 pub lines_counted : (stacks : List Stack) (stack : Stack) → times_in (lines_of stacks) stack ≡ count_by (same_stack stack) stacks
 lines_counted stacks stack = times_all stacks [] stack ∙ omega arith
@@ -111,9 +84,7 @@ above a b is = turned b a ∙ ap ordering_reverse is
 less_inserted_by : (a : Stack) (e : Stack × ℕ) (es : Lines) (k : Stack) (v : ℕ) (o : Ordering) → stack_cmp a k ≡ Less → AllByRecursion (λ (y : Stack). stack_cmp a y ≡ Less) (keys_of (e ∷ es))
     → AllByRecursion (λ (y : Stack). stack_cmp a y ≡ Less) (keys_of (insert_entry stack_cmp es k v))
     → AllByRecursion (λ (y : Stack). stack_cmp a y ≡ Less) (keys_of (match_ordering o ((k, v) ∷ e ∷ es) ((e.0, v) ∷ es) (e ∷ insert_entry stack_cmp es k v)))
-less_inserted_by a e es k v Less less all later = (less, all)
-less_inserted_by a e es k v Equal less all later = all
-less_inserted_by a e es k v Greater less all later = (all.0, later)
+less_inserted_by a e es k v o less all later = grind arith
 
 less_inserted : (a : Stack) (es : Lines) (k : Stack) (v : ℕ) → stack_cmp a k ≡ Less → AllByRecursion (λ (y : Stack). stack_cmp a y ≡ Less) (keys_of es) → AllByRecursion (λ (y : Stack). stack_cmp a y ≡ Less) (keys_of (insert_entry stack_cmp es k v))
 less_inserted a [] k v less all = (less, tt)
@@ -122,9 +93,7 @@ less_inserted a (e ∷ es) k v less all = less_inserted_by a e es k v (stack_cmp
 ascends_by : (e : Stack × ℕ) (es : Lines) (k : Stack) (v : ℕ) (o : Ordering) → stack_cmp k e.0 ≡ o → Ascends (e ∷ es) → Ascends (insert_entry stack_cmp es k v)
     → Ascends (match_ordering o ((k, v) ∷ e ∷ es) ((e.0, v) ∷ es) (e ∷ insert_entry stack_cmp es k v))
 unfolding IsStrictlySortedBy
-ascends_by e es k v Less is sorted later = ((is, below_all k e.0 (keys_of es) is sorted.0), sorted)
-ascends_by e es k v Equal is sorted later = sorted
-ascends_by e es k v Greater is sorted later = (less_inserted e.0 es k v (above k e.0 is) sorted.0, later)
+ascends_by e es k v o is sorted later = grind (arith, below_all, less_inserted, above)
 
 ascends_inserted : (es : Lines) (k : Stack) (v : ℕ) → Ascends es → Ascends (insert_entry stack_cmp es k v)
 unfolding IsStrictlySortedBy
@@ -153,22 +122,18 @@ by_values [] = refl
 by_values (e ∷ es) = sum_by-cons (λ (n : ℕ). n) e.1 (values_of es) ∙ ap (λ (n : ℕ). e.1 + n) (by_values es) ∙ sym (sum_by-cons (λ (line : Stack × ℕ). line.1) e es)
 
 same_option : (o : Option ℕ) → option_map (λ (n : ℕ). n) o ≡ o
-same_option None = refl
-same_option (Some n) = refl
+same_option o = grind arith
 
 total_more : (lines : Lines) (s : Stack) → Ascends lines → total_of (with_stack lines s) ≡ total_of lines + 1
 unfolding with_stack
 total_more lines s sorted =
     let new = insert_entry stack_cmp lines s (times_in lines s + 1) in
-    let sums = sum_by-insert_entry (λ (n : ℕ). n) stacks_total lines s (times_in lines s + 1) sorted in
     let before : unwrap_or (option_map (λ (n : ℕ). n) (found lines s)) 0 ≡ times_in lines s = ap (λ (o : Option ℕ). unwrap_or o 0) (same_option (found lines s)) in
-    omega (arith, sums, before, by_values new, by_values lines)
+    omega (arith, sum_by-insert_entry (λ (n : ℕ). n) stacks_total lines s (times_in lines s + 1) sorted, before, by_values new, by_values lines)
 
 total_all : (stacks : List Stack) (lines : Lines) → Ascends lines → total_of (folded_lines lines stacks) ≡ total_of lines + length stacks
 total_all [] lines sorted = omega arith
-total_all (s ∷ stacks) lines sorted =
-    let rest = total_all stacks (with_stack lines s) (ascends_more lines s sorted) in
-    omega (arith, rest, total_more lines s sorted)
+total_all (s ∷ stacks) lines sorted = grind (arith, total_more, total_all stacks (with_stack lines s) (ascends_more lines s sorted))
 
 pub lines_total : (stacks : List Stack) → sum_by (λ (line : Stack × ℕ). line.1) (lines_of stacks) ≡ length stacks
 unfolding IsStrictlySortedBy
@@ -180,9 +145,7 @@ abbrev pub HaveEach : Lines → Type 0
 HaveEach lines = AllByRecursion (λ (line : Stack × ℕ). 0 < line.1) lines
 
 each_by : (o : Ordering) (e : Stack × ℕ) (es : Lines) (k : Stack) (v : ℕ) → 0 < v → HaveEach (e ∷ es) → HaveEach (insert_entry stack_cmp es k v) → HaveEach (match_ordering o ((k, v) ∷ e ∷ es) ((e.0, v) ∷ es) (e ∷ insert_entry stack_cmp es k v))
-each_by Less e es k v some all later = (some, all)
-each_by Equal e es k v some all later = (some, all.1)
-each_by Greater e es k v some all later = (all.0, later)
+each_by o e es k v some all later = grind arith
 
 each_inserted : (es : Lines) (k : Stack) (v : ℕ) → 0 < v → HaveEach es → HaveEach (insert_entry stack_cmp es k v)
 each_inserted [] k v some all = (some, tt)
@@ -207,9 +170,6 @@ times_below q (e ∷ es) all = ap (λ (b : Bool). unwrap_or (cond b (Some e.1) (
 times_first : (q : Stack) (e : Stack × ℕ) (es : Lines) → stack_cmp q e.0 ≡ Equal → times_in (e ∷ es) q ≡ e.1
 times_first q e es is = ap (λ (o : Ordering). unwrap_or (cond (is_eq o) (Some e.1) (found es q)) 0) is
 
-times_later : (q : Stack) (e : Stack × ℕ) (es : Lines) → same_stack q e.0 ≡ false → times_in (e ∷ es) q ≡ times_in es q
-times_later q e es is = ap (λ (b : Bool). unwrap_or (cond b (Some e.1) (found es q)) 0) is
-
 alike_below : (q a : Stack) (keys : List Stack) → stack_cmp q a ≡ Equal → AllByRecursion (λ (y : Stack). stack_cmp a y ≡ Less) keys → AllByRecursion (λ (y : Stack). stack_cmp q y ≡ Less) keys
 alike_below q a [] is all = tt
 alike_below q a (k ∷ keys) is all = (alike q a k is ∙ all.0, alike_below q a keys is all.1)
@@ -217,8 +177,7 @@ alike_below q a (k ∷ keys) is all = (alike q a k is ∙ all.0, alike_below q a
 one_by : (a : Stack × ℕ) (xs : Lines) (b : Stack × ℕ) (ys : Lines) (o : Ordering) → stack_cmp a.0 b.0 ≡ o → Ascends (a ∷ xs) → Ascends (b ∷ ys) → 0 < a.1 → 0 < b.1 → ((q : Stack) → times_in (a ∷ xs) q ≡ times_in (b ∷ ys) q)
     → (((q : Stack) → times_in xs q ≡ times_in ys q) → xs ≡ ys) → a ∷ xs ≡ b ∷ ys
 unfolding IsStrictlySortedBy
-one_by a xs b ys Less is up_a up_b some_a some_b same rest =
-    absurd (omega (arith, some_a, times_first a.0 a xs (same_stacks a.0), same a.0, times_below a.0 (b ∷ ys) (is, below_all a.0 b.0 (keys_of ys) is up_b.0)))
+one_by a xs b ys Less is up_a up_b some_a some_b same rest = grind (arith, same_stacks, times_below, below_all)
 one_by a xs b ys Equal is up_a up_b some_a some_b same rest =
     let stack = exact_stack a.0 b.0 is in
     let count : a.1 ≡ b.1 = sym (times_first a.0 a xs (same_stacks a.0)) ∙ same a.0 ∙ times_first a.0 b ys is in
@@ -226,16 +185,8 @@ one_by a xs b ys Equal is up_a up_b some_a some_b same rest =
     λ t. (stack t, count t) ∷ later t
   where
     by : (q : Stack) (c : Bool) → same_stack q a.0 ≡ c → times_in xs q ≡ times_in ys q
-    by q true one =
-        let at_a = equal (stack_cmp q a.0) one in
-        let at_b : stack_cmp q b.0 ≡ Equal = alike q a.0 b.0 at_a ∙ is in
-        times_below q xs (alike_below q a.0 (keys_of xs) at_a up_a.0) ∙ sym (times_below q ys (alike_below q b.0 (keys_of ys) at_b up_b.0))
-    by q false one =
-        let other : same_stack q b.0 ≡ false = sym (ap is_eq (alike_right a.0 b.0 q is)) ∙ one in
-        sym (times_later q a xs one) ∙ same q ∙ times_later q b ys other
-one_by a xs b ys Greater is up_a up_b some_a some_b same rest =
-    let less = above a.0 b.0 is in
-    absurd (omega (arith, some_b, times_first b.0 b ys (same_stacks b.0), same b.0, times_below b.0 (a ∷ xs) (less, below_all b.0 a.0 (keys_of xs) less up_a.0)))
+    by q c one = grind (arith, times_below, alike_below, alike_right)
+one_by a xs b ys Greater is up_a up_b some_a some_b same rest = grind (arith, above, same_stacks, times_below, below_all)
 
 one_list : (xs ys : Lines) → Ascends xs → Ascends ys → HaveEach xs → HaveEach ys → ((q : Stack) → times_in xs q ≡ times_in ys q) → xs ≡ ys
 unfolding IsStrictlySortedBy
@@ -247,9 +198,7 @@ one_list (a ∷ xs) (b ∷ ys) up_a up_b some_a some_b same =
 
 sum_below : (q : Stack) (lines : Lines) → AllByRecursion (λ (y : Stack). stack_cmp q y ≡ Less) (keys_of lines) → samples_of_lines (same_stack q) lines ≡ 0
 sum_below q [] all = refl
-sum_below q (e ∷ es) all =
-    let here : cond (same_stack q e.0) e.1 0 ≡ 0 = ap (λ (b : Bool). cond b e.1 0) (not_same q e.0 all.0) in
-    omega (arith, sum_by-cons (λ (l : Stack × ℕ). cond (same_stack q l.0) l.1 0) e es, here, sum_below q es all.1)
+sum_below q (e ∷ es) all = search (not_same, sum_by-cons, sum_below q es all.1)
 
 -- by what each line adds
 times_sum : (q : Stack) (lines : Lines) → Ascends lines → times_in lines q ≡ samples_of_lines (same_stack q) lines
@@ -260,13 +209,9 @@ times_sum q (e ∷ es) up = by (times_sum q es up.1) (same_stack q e.0) refl ∙
     by : times_in es q ≡ samples_of_lines (same_stack q) es → (b : Bool) → same_stack q e.0 ≡ b → times_in (e ∷ es) q ≡ cond (same_stack q e.0) e.1 0 + samples_of_lines (same_stack q) es
     by rest true one =
         let at_e = equal (stack_cmp q e.0) one in
-        let none = sum_below q es (alike_below q e.0 (keys_of es) at_e up.0) in
         let here : cond (same_stack q e.0) e.1 0 ≡ e.1 = ap (λ (b : Bool). cond b e.1 0) one in
-        omega (arith, times_first q e es at_e, none, here)
-    by rest false one =
-        let here : cond (same_stack q e.0) e.1 0 ≡ 0 = ap (λ (b : Bool). cond b e.1 0) one in
-        omega (arith, times_later q e es one, rest, here)
+        omega (arith, times_first q e es at_e, sum_below q es (alike_below q e.0 (keys_of es) at_e up.0), here)
+    by rest false one = grind arith
 
 pub lines_are : (lines : Lines) (stacks : List Stack) → Ascends lines → HaveEach lines → ((test : Stack → Bool) → samples_of_lines test lines ≡ count_by test stacks) → lines ≡ lines_of stacks
-lines_are lines stacks up some counts =
-    one_list lines (lines_of stacks) up (lines_ascending stacks) some (each_all stacks [] tt) (λ q. times_sum q lines up ∙ counts (same_stack q) ∙ sym (lines_counted stacks q))
+lines_are lines stacks up some counts = grind (arith, one_list, lines_ascending, each_all, times_sum, lines_counted)

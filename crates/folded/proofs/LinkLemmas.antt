@@ -23,19 +23,16 @@ below_or_same zero (suc m) = inl (omega arith)
 below_or_same (suc k) (suc m) = by (below_or_same k m)
   where
     by : (k < m) ⊎ (m ≤ k) → (suc k < suc m) ⊎ (suc m ≤ suc k)
-    by (inl less) = inl (omega (arith, less))
-    by (inr le) = inr (omega (arith, le))
+    by this = grind arith
 
 none_or_some : (n : ℕ) → (n ≡ 0) ⊎ (0 < n)
-none_or_some zero = inl refl
-none_or_some (suc n) = inr (omega arith)
+none_or_some n = grind arith
 
 -- ---- the way to a node
 
 module _ (nodes : Nodes) (links : List Links) (is : AreLinked nodes links) (caller bits : ℕ) where
   no_side : (b : Bool) → link_at links 0 (cond b High Low) ≡ 0
-  no_side true = is.high
-  no_side false = is.low
+  no_side b = grind arith
 
   none_next : (k : ℕ) → reached links caller bits (suc k) ≡ 0 → reached links caller bits (suc (suc k)) ≡ 0
   none_next k none = ap (λ (n : ℕ). link_at links n (side_after bits (suc k))) none ∙ no_side _
@@ -103,29 +100,15 @@ seek_next nodes links caller function node side bits next is s next_is some othe
     }
   where
     by : (k i : ℕ) → reached links caller (bits_of function) (suc k) ≡ suc i → node_at nodes i ≡ (caller, function) → (k < s.reached.steps) ⊎ (s.reached.steps ≤ k) → k < suc s.reached.steps → next ≡ reached links caller (bits_of function) (suc s.reached.steps) → ⊥
-    by k i at same (inl below) less here = s.reached.passed k i below at same
-    by k i at same (inr more) less here =
-        let last : k ≡ s.reached.steps = omega (arith, more, less) in
-        let is_next : next ≡ suc i = here ∙ ap (λ (n : ℕ). reached links caller (bits_of function) (suc n)) (sym last) ∙ at in
-        other (ap (λ (n : ℕ). node_of nodes n) is_next ∙ same)
+    by k i at same this less here = grind arith
 
 -- ---- one more node
 
 put_there : (side : Side) (n : ℕ) (l : Links) → link_of side (with_link side n l) ≡ n
-put_there Callees n l = refl
-put_there Low n l = refl
-put_there High n l = refl
+put_there side n l = grind arith
 
 put_or_not : (s side : Side) (n : ℕ) (l : Links) → (s ≡ side) ⊎ (link_of s (with_link side n l) ≡ link_of s l)
-put_or_not Callees Callees n l = inl refl
-put_or_not Callees Low n l = inr refl
-put_or_not Callees High n l = inr refl
-put_or_not Low Callees n l = inr refl
-put_or_not Low Low n l = inl refl
-put_or_not Low High n l = inr refl
-put_or_not High Callees n l = inr refl
-put_or_not High Low n l = inr refl
-put_or_not High High n l = inl refl
+put_or_not s side n l = grind arith
 
 pushed_none : (links : List Links) (n : ℕ) → get_or (links ++ no_links ∷ []) n no_links ≡ get_or links n no_links
 pushed_none [] zero = refl
@@ -140,8 +123,7 @@ is_or_not (suc k) zero = inr (λ is. omega (arith, is))
 is_or_not (suc k) (suc h) = more (is_or_not k h)
   where
     more : (k ≡ h) ⊎ ((k ≡ h) → ⊥) → (suc k ≡ suc h) ⊎ ((suc k ≡ suc h) → ⊥)
-    more (inl is) = inl (ap suc is)
-    more (inr apart) = inr (λ is. apart (omega (arith, is)))
+    more this = grind arith
 
 module _ (nodes : Nodes) (links : List Links) (caller : ℕ) (function : Option ℕ) (node : ℕ) (side : Side) (is : AreLinked nodes links) (r : IsReached nodes links caller function node side) (empty : link_at links node side ≡ 0) where
   abbrev number : ℕ
@@ -174,21 +156,16 @@ module _ (nodes : Nodes) (links : List Links) (caller : ℕ) (function : Option 
       by (inl same) = on (put_or_not s side number (get_or longer node no_links))
         where
           on : (s ≡ side) ⊎ (link_of s (with_link side number (get_or longer node no_links)) ≡ link_of s (get_or longer node no_links)) → ((n ≡ node) × (s ≡ side)) ⊎ (link_at new n s ≡ link_at links n s)
-          on (inl one) = inl (same, one)
-          on (inr other) = inr (ap (λ (k : ℕ). link_at new k s) same ∙ ap (link_of s) at_node ∙ other ∙ ap (link_of s) (pushed_none links node) ∙ ap (λ (k : ℕ). link_at links k s) (sym same))
+          on this = grind (arith, at_node, pushed_none)
 
   there : (n : ℕ) (s : Side) → (n ≡ node) × (s ≡ side) → link_at new n s ≡ number
   there n s at = (λ t. link_at new (at.0 t) (at.1 t)) ∙ new_there
-
-  none_there : (n : ℕ) (s : Side) → (n ≡ node) × (s ≡ side) → link_at links n s ≡ 0
-  none_there n s at = (λ t. link_at links (at.0 t) (at.1 t)) ∙ empty
 
   stays : (n : ℕ) (s : Side) → 0 < link_at links n s → link_at new n s ≡ link_at links n s
   stays n s some = by (changed n s)
     where
       by : ((n ≡ node) × (s ≡ side)) ⊎ (link_at new n s ≡ link_at links n s) → link_at new n s ≡ link_at links n s
-      by (inl at) = absurd (omega (arith, some, none_there n s at))
-      by (inr same) = same
+      by this = grind arith
 
   reached_still : (c bits k : ℕ) → 0 < reached links c bits (suc k) → reached new c bits (suc k) ≡ reached links c bits (suc k)
   reached_still c bits zero some = stays c Callees some
@@ -202,27 +179,11 @@ module _ (nodes : Nodes) (links : List Links) (caller : ℕ) (function : Option 
   reached_node zero at some = sym at
   reached_node (suc k) at some = reached_still caller (bits_of function) k (subst (λ (n : ℕ). 0 < n) at (some (omega arith))) ∙ sym at
 
-  new_found : reached new caller (bits_of function) (suc r.steps) ≡ number
-  new_found = (λ t. link_at new (reached_node r.steps r.node_is r.some t) (sym r.side_is t)) ∙ new_there
-
-  -- the empty stack has no sibling
-  not_first : (b : Bool) → ((0 ≡ node) × (cond b High Low ≡ side) → ⊥)
-  not_first b at = by r.steps (sym r.side_is) r.some
-    where
-      by : (steps : ℕ) → side_after (bits_of function) steps ≡ side → (0 < steps → 0 < node) → ⊥
-      by zero on some = none b (on ∙ sym at.1)
-        where
-          none : (b : Bool) → Callees ≡ cond b High Low → ⊥
-          none true wrong = cc
-          none false wrong = cc
-      by (suc k) on some = omega (arith, some (omega arith), at.0)
-
   root_still : (b : Bool) → link_at links 0 (cond b High Low) ≡ 0 → link_at new 0 (cond b High Low) ≡ 0
   root_still b was = by (changed 0 (cond b High Low))
     where
       by : ((0 ≡ node) × (cond b High Low ≡ side)) ⊎ (link_at new 0 (cond b High Low) ≡ link_at links 0 (cond b High Low)) → link_at new 0 (cond b High Low) ≡ 0
-      by (inl at) = absurd (not_first b at)
-      by (inr same) = same ∙ was
+      by this = grind arith
 
   long : length more ≡ length nodes + 1
   long = length_push nodes (caller, function)
@@ -238,21 +199,17 @@ module _ (nodes : Nodes) (links : List Links) (caller : ℕ) (function : Option 
   }
     where
       inside_at : (n : ℕ) (s : Side) → ((n ≡ node) × (s ≡ side)) ⊎ (link_at new n s ≡ link_at links n s) → link_at new n s ≤ length more
-      inside_at n s (inl at) = omega (arith, there n s at, long)
-      inside_at n s (inr same) = omega (arith, same, is.inside n s, long)
+      inside_at n s this = grind (arith, there, long)
 
       later_at : (n : ℕ) (s : Side) → ((n ≡ node) × (s ≡ side)) ⊎ (link_at new n s ≡ link_at links n s) → (link_at new n s ≡ 0) ⊎ (n < link_at new n s)
       later_at n s (inl at) = inr (omega (arith, there n s at, at.0, r.inside))
       later_at n s (inr same) = as_it_was (is.later n s)
         where
           as_it_was : (link_at links n s ≡ 0) ⊎ (n < link_at links n s) → (link_at new n s ≡ 0) ⊎ (n < link_at new n s)
-          as_it_was (inl none) = inl (same ∙ none)
-          as_it_was (inr less) = inr (omega (arith, same, less))
+          as_it_was this = grind arith
 
       found_at : (i : ℕ) → (i ≡ length nodes) ⊎ ((i ≡ length nodes) → ⊥) → i < length nodes + 1 → (k : ℕ) × (reached new (node_at more i).0 (bits_of (node_at more i).1) (suc k) ≡ suc i)
-      found_at i (inl last) below =
-          let here : node_at more i ≡ (caller, function) = get_or_push nodes (caller, function) (0, None) i (sym last) in
-          (r.steps, ap (λ (n : ℕ × Option ℕ). reached new n.0 (bits_of n.1) (suc r.steps)) here ∙ new_found ∙ (let one : length nodes + 1 ≡ suc i = omega (arith, last) in one))
+      found_at i (inl last) below = grind (arith, get_or_push, reached_node, new_there)
       found_at i (inr apart) below =
           let less : i < length nodes = before (below_or_same i (length nodes)) in
           let way = is.found i less in
@@ -263,5 +220,4 @@ module _ (nodes : Nodes) (links : List Links) (caller : ℕ) (function : Option 
           )
         where
           before : (i < length nodes) ⊎ (length nodes ≤ i) → i < length nodes
-          before (inl less) = less
-          before (inr more) = absurd (apart (omega (arith, more, below)))
+          before this = grind arith

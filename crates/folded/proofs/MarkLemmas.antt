@@ -1,12 +1,11 @@
 -- Marks while functions come onto the stack and leave it.
-use Rattle.std.proofs.Common.{◌≡◌, ◌∙◌, ◌+◌, ◌-◌, ◌^◌, ◌<◌, ◌≤◌, ◌||◌, ℕ, suc, Bool, true, false, List, [], ◌∷◌, length, drop, get_or, set, take, eqb, not, inl, inr, replicate, ap, arith, cond, refl, sym, subst, Option, Some, None}
+use Rattle.std.proofs.Common.{◌≡◌, ◌∙◌, ◌+◌, ◌-◌, ◌^◌, ◌<◌, ◌≤◌, ◌||◌, ℕ, suc, Bool, List, [], ◌∷◌, length, drop, get_or, set, take, eqb, not, replicate, ap, arith, cond, refl, sym, subst, Option, Some, None}
 use Rattle.std.specs.Prelude.{◌⊎◌, IfSome}
 use Rattle.std.specs.List.{All}
-use Rattle.std.proofs.lemmas.Bool.{eq-eqb, ne_eqb}
 use Rattle.std.proofs.lemmas.List.{get_or-replicate, get_or-set_other, get_or-set_same, get_or-drop, length-drop, length-replicate, length-set, length-take, take-append-drop, take_all, take_rest}
-use Rattle.std.proofs.lemmas.List.Elements.{All-from_get_or, All-get_or}
+use Rattle.std.proofs.lemmas.List.Elements.{All-from_get_or}
 use Rattle.std.proofs.lemmas.List.Sums.{sum_by-append, sum_by_more, sum_by_more_le}
-use Rattle.folded.specs.Nodes.{IsShort, any_stack, node_stacks, samples_of_lines}
+use Rattle.folded.specs.Nodes.{any_stack, samples_of_lines}
 use Rattle.folded.specs.Paths.{IsPath, first_path, functions_of}
 use Rattle.folded.specs.Stacks.{AreBelow, has_function, is_function}
 use Rattle.folded.specs.Tally.{AreOn, HasMoved, HaveMoved, counted_by, mark_at, place_in, places_in}
@@ -26,38 +25,21 @@ blank = record { count = 0; places = 0; since = 0 }
 
 pub moved_then : (passed : ℕ) (off_a on_a off_b on_b off on : Stack) (a b c : List Mark) → HaveMoved passed off_a on_a a b → HaveMoved passed off_b on_b b c
     → ((g : ℕ) → places_in off g + (places_in on_a g + places_in on_b g) ≡ places_in on g + (places_in off_a g + places_in off_b g)) → HaveMoved passed off on a c
-moved_then passed off_a on_a off_b on_b off on a b c one two same = record {
-  same = two.same ∙ one.same;
-  moved = λ g below. (
-      let x = one.moved g below in
-      let y = two.moved g (omega (arith, below, one.same)) in
-      record { places = omega (arith, x.places, y.places, same g); since = y.since; counted = y.counted ∙ x.counted }
-      );
-}
+moved_then passed off_a on_a off_b on_b off on a b c one two same = grind arith
 
 pub still : (passed : ℕ) (off on : Stack) (a : List Mark) → ((g : ℕ) → g < length a → (mark_at a g).since ≤ passed) → ((g : ℕ) → places_in off g ≡ places_in on g) → HaveMoved passed off on a a
-still passed off on a since same = record {
-  same = refl;
-  moved = λ g below. record { places = omega (arith, same g); since = since g below; counted = refl };
-}
+still passed off on a since same = grind arith
 
 one_place : (g f : ℕ) → ((f ≡ g) × (place_in g (Some f) ≡ 1)) ⊎ ((f ≡ g → ⊥) × (place_in g (Some f) ≡ 0))
 one_place g f = by (eqb f g) refl
   where
     by : (b : Bool) → eqb f g ≡ b → ((f ≡ g) × (place_in g (Some f) ≡ 1)) ⊎ ((f ≡ g → ⊥) × (place_in g (Some f) ≡ 0))
-    by true is = inl (grind (arith, is), ap {B = ℕ} (λ (b : Bool). cond b 1 0) is)
-    by false is = inr (λ same. (let wrong : true ≡ false = sym (eq-eqb f g same) ∙ is in cc), ap {B = ℕ} (λ (b : Bool). cond b 1 0) is)
+    by b is = grind arith
 
 -- where the mark of one function has moved
 moved_at : (passed f g off on : ℕ) (a : List Mark) (m : Mark) → f < length a → ((h : ℕ) → h < length a → (mark_at a h).since ≤ passed) → g < length a → ((f ≡ g) × HasMoved passed off on (mark_at a f) m) ⊎ ((f ≡ g → ⊥) × (off ≡ on))
     → HasMoved passed off on (mark_at a g) (mark_at (set a f m) g)
-moved_at passed f g off on a m inside since below (inl here) =
-    let new : mark_at (set a f m) g ≡ m = ap {B = Mark} (λ (k : ℕ). mark_at (set a f m) k) (sym here.0) ∙ get_or-set_same a f m blank inside in
-    let old : mark_at a f ≡ mark_at a g = ap {B = Mark} (λ (k : ℕ). mark_at a k) here.0 in
-    subst (λ (x : Mark). HasMoved passed off on (mark_at a g) x) (sym new) (subst (λ (x : Mark). HasMoved passed off on x m) old here.1)
-moved_at passed f g off on a m inside since below (inr apart) =
-    let new : mark_at (set a f m) g ≡ mark_at a g = get_or-set_other a f g m blank (λ same. apart.0 (sym same)) in
-    subst (λ (x : Mark). HasMoved passed off on (mark_at a g) x) (sym new) (record { places = omega (arith, apart.1); since = since g below; counted = refl })
+moved_at passed f g off on a m inside since below is = grind (arith, get_or-set_same, get_or-set_other)
 
 pub entered_some : (passed f : ℕ) (a : List Mark) (m : Mark) → f < length a → ((h : ℕ) → h < length a → (mark_at a h).since ≤ passed) → HasMoved passed 0 1 (mark_at a f) m → HaveMoved passed [] (Some f ∷ []) a (set a f m)
 entered_some passed f a m inside since one = record {
@@ -66,8 +48,7 @@ entered_some passed f a m inside since one = record {
 }
   where
     by : (g : ℕ) → ((f ≡ g) × (place_in g (Some f) ≡ 1)) ⊎ ((f ≡ g → ⊥) × (place_in g (Some f) ≡ 0)) → ((f ≡ g) × HasMoved passed 0 (places_in (Some f ∷ []) g) (mark_at a f) m) ⊎ ((f ≡ g → ⊥) × (0 ≡ places_in (Some f ∷ []) g))
-    by g (inl here) = let n : 1 ≡ places_in (Some f ∷ []) g = omega (arith, here.1) in inl (here.0, subst (λ (k : ℕ). HasMoved passed 0 k (mark_at a f) m) n one)
-    by g (inr apart) = inr (apart.0, omega (arith, apart.1))
+    by g this = grind arith
 
 pub left_some : (passed f : ℕ) (a : List Mark) (m : Mark) → f < length a → ((h : ℕ) → h < length a → (mark_at a h).since ≤ passed) → HasMoved passed 1 0 (mark_at a f) m → HaveMoved passed (Some f ∷ []) [] a (set a f m)
 left_some passed f a m inside since one = record {
@@ -76,8 +57,7 @@ left_some passed f a m inside since one = record {
 }
   where
     by : (g : ℕ) → ((f ≡ g) × (place_in g (Some f) ≡ 1)) ⊎ ((f ≡ g → ⊥) × (place_in g (Some f) ≡ 0)) → ((f ≡ g) × HasMoved passed (places_in (Some f ∷ []) g) 0 (mark_at a f) m) ⊎ ((f ≡ g → ⊥) × (places_in (Some f ∷ []) g ≡ 0))
-    by g (inl here) = let n : 1 ≡ places_in (Some f ∷ []) g = omega (arith, here.1) in inl (here.0, subst (λ (k : ℕ). HasMoved passed k 0 (mark_at a f) m) n one)
-    by g (inr apart) = inr (apart.0, omega (arith, apart.1))
+    by g this = grind arith
 
 -- ---- one function of a list more
 
@@ -85,12 +65,10 @@ pub more_places : (functions : Stack) (i g : ℕ) → i < length functions → p
 more_places functions i g inside = sum_by_more (place_in g) functions i None inside
 
 entered_more : (passed i : ℕ) (functions : Stack) (a b c : List Mark) → i < length functions → HaveMoved passed [] (take i functions) a b → HaveMoved passed [] (get_or functions i None ∷ []) b c → HaveMoved passed [] (take (i + 1) functions) a c
-entered_more passed i functions a b c inside one two =
-    moved_then passed [] (take i functions) [] (get_or functions i None ∷ []) [] (take (i + 1) functions) a b c one two (λ g. omega (arith, more_places functions i g inside))
+entered_more passed i functions a b c inside one two = grind (arith, more_places)
 
 left_more : (passed i : ℕ) (functions : Stack) (a b c : List Mark) → i < length functions → HaveMoved passed (take i functions) [] a b → HaveMoved passed (get_or functions i None ∷ []) [] b c → HaveMoved passed (take (i + 1) functions) [] a c
-left_more passed i functions a b c inside one two =
-    moved_then passed (take i functions) [] (get_or functions i None ∷ []) [] (take (i + 1) functions) [] a b c one two (λ g. omega (arith, more_places functions i g inside))
+left_more passed i functions a b c inside one two = grind (arith, more_places)
 
 all_since : (passed : ℕ) (off on : Stack) (a b : List Mark) → HaveMoved passed off on a b → (g : ℕ) → g < length b → (mark_at b g).since ≤ passed
 all_since passed off on a b moved g below = (moved.moved g (omega (arith, below, moved.same))).since
@@ -136,22 +114,16 @@ places_le [] g = omega arith
 places_le (f ∷ stack) g = omega (arith, cons_places f stack g, by (is_function g f) (places_in stack g) (length stack) (places_le stack g))
   where
     by : (b : Bool) (n most : ℕ) → n ≤ most → cond b 1 0 + n ≤ suc most
-    by true n most le = omega (arith, le)
-    by false n most le = omega (arith, le)
+    by b n most le = grind arith
 
 -- a function that comes had few places, and one that leaves has some
 pub enters_few : (passed i f : ℕ) (functions : Stack) (a b : List Mark) → i < length functions → AreBelow (length a) functions → length functions ≤ 129 → All (λ (m : Mark). m.places ≤ 129) a → HaveMoved passed [] (take i functions) a b → get_or functions i None ≡ Some f
     → (mark_at b f).places + 1 < 2 ^ 32
-enters_few passed i f functions a b inside below few places was is =
-    let fits : f < length a = some_below i (length a) f functions below inside is in
-    omega (arith, (was.moved f fits).places, All-get_or (λ (m : Mark). m.places ≤ 129) a f blank fits places, places_le (take i functions) f, length-take i functions, few)
+enters_few passed i f functions a b inside below few places was is = grind (arith, places_le, length-take)
 
 pub leaves_some_place : (passed i f : ℕ) (functions : Stack) (a b : List Mark) → i < length functions → AreBelow (length a) functions → ((g : ℕ) → g < length a → places_in functions g ≤ (mark_at a g).places) → HaveMoved passed (take i functions) [] a b → get_or functions i None ≡ Some f
     → 0 < (mark_at b f).places
-leaves_some_place passed i f functions a b inside below places was is =
-    let fits : f < length a = some_below i (length a) f functions below inside is in
-    let one : place_in f (get_or functions i None) ≡ 1 = ap {B = ℕ} (λ (o : Option ℕ). place_in f o) is ∙ ap {B = ℕ} (λ (b : Bool). cond b 1 0) (eq-eqb f f refl) in
-    omega (arith, (was.moved f fits).places, places f fits, sum_by_more_le (place_in f) functions i None inside, one)
+leaves_some_place passed i f functions a b inside below places was is = grind (arith, sum_by_more_le)
 
 -- ---- from one stack to another
 
@@ -164,25 +136,18 @@ moved_over passed n old new a b c same one two =
 
 -- ---- the lines so far
 
-pub below_drop : (functions n : ℕ) (stack : Stack) → AreBelow functions stack → AreBelow functions (drop n stack)
-below_drop functions n stack below = λ k d inside.
-    let more : n + k < length stack = omega (arith, inside, length-drop n stack) in
-    subst (λ (o : Option ℕ). IfSome o (λ f. f < functions)) (sym (get_or-drop n stack k d)) (below (n + k) d more)
-
 later : (passed n : ℕ) (m : Mark) → m.since ≤ passed → counted_by (passed + n) m ≡ counted_by passed m + cond (eqb m.places 0) 0 n
 later passed n m le = by (eqb m.places 0)
   where
     by : (b : Bool) → m.count + cond b 0 (passed + n - m.since) ≡ (m.count + cond b 0 (passed - m.since)) + cond b 0 n
-    by true = omega arith
-    by false = omega (arith, le)
+    by b = grind arith
 
 no_places : (stack : Stack) (g : ℕ) → eqb (places_in stack g) 0 ≡ not (has_function g stack)
 no_places [] g = refl
 no_places (f ∷ stack) g = ap {B = Bool} (λ (k : ℕ). eqb k 0) (cons_places f stack g) ∙ by (is_function g f) (no_places stack g)
   where
     by : (b : Bool) → eqb (places_in stack g) 0 ≡ not (has_function g stack) → eqb (cond b 1 0 + places_in stack g) 0 ≡ not (b || has_function g stack)
-    by true is = ne_eqb (1 + places_in stack g) 0 (λ e. omega (arith, e))
-    by false is = (let none : 0 + places_in stack g ≡ places_in stack g = omega arith in ap {B = Bool} (λ (k : ℕ). eqb k 0) none ∙ is)
+    by b is = grind arith
 
 pub record MarksOf (lines : Lines) (functions i passed : ℕ) (stack : Stack) (marks : List Mark) : Type 0 where
   pub passed_is : passed ≡ samples_of_lines any_stack (take i lines)
@@ -207,11 +172,7 @@ pub passed_few : (lines : Lines) (functions i passed : ℕ) (stack : Stack) (mar
 passed_few lines functions i passed stack marks inside was = omega (arith, was.passed_is, sum_by_more_le (weight any_stack) lines i ([], 0) inside)
 
 pub marks_on : (lines : Lines) (functions i passed : ℕ) (stack : Stack) (marks : List Mark) → MarksOf lines functions i passed stack marks → samples_of_lines any_stack lines < 2 ^ 62 → AreOn passed stack marks
-marks_on lines functions i passed stack marks was few = record {
-  places = λ g below. was.places g (omega (arith, below, was.long));
-  since = λ g below. was.since g (omega (arith, below, was.long));
-  few = λ g below. (let low : g < functions = omega (arith, below, was.long) in omega (arith, was.counts g low, front_few (has_function g) lines i, few));
-}
+marks_on lines functions i passed stack marks was few = grind (arith, front_few)
 
 pub marks_next : (lines : Lines) (functions i passed : ℕ) (stack : Stack) (marks new : List Mark) (l : Stack × ℕ) → i < length lines → get_or lines i ([], 0) ≡ l → MarksOf lines functions i passed stack marks → HaveMoved passed stack l.0 marks new
     → MarksOf lines functions (i + 1) (passed + l.1) l.0 new
@@ -234,18 +195,12 @@ marks_next lines functions i passed stack marks new l inside here was moved = re
 }
   where
     turned : (b : Bool) (before n : ℕ) → before + cond (not b) 0 n ≡ before + cond b n 0
-    turned true before n = refl
-    turned false before n = refl
+    turned b before n = grind arith
 
 -- once all functions have left the stack
 pub marks_all : (lines : Lines) (functions i passed : ℕ) (stack : Stack) (marks new : List Mark) → length lines ≤ i → MarksOf lines functions i passed stack marks → HaveMoved passed stack [] marks new
     → (g : ℕ) → g < functions → (mark_at new g).count ≡ samples_of_lines (has_function g) lines
-marks_all lines functions i passed stack marks new all was moved g below =
-    let one = moved.moved g (omega (arith, below, was.long)) in
-    let m = mark_at new g in
-    let none : m.places ≡ 0 = omega (arith, one.places, was.places g below) in
-    let count : m.count + 0 ≡ m.count = omega arith in
-    sym count ∙ ap {B = ℕ} (λ (b : Bool). m.count + cond b 0 (passed - m.since)) (sym (eq-eqb m.places 0 none)) ∙ one.counted ∙ was.counts g below ∙ ap {B = ℕ} (λ (x : Lines). samples_of_lines (has_function g) x) (take_all i lines all)
+marks_all lines functions i passed stack marks new all was moved g below = grind (arith, take_all)
 
 pub since_all : (passed : ℕ) (stack : Stack) (marks : List Mark) → AreOn passed stack marks → All (λ (m : Mark). m.since ≤ passed) marks
 since_all passed stack marks on = All-from_get_or (λ (m : Mark). m.since ≤ passed) marks blank on.since
@@ -268,13 +223,7 @@ pub part_is : (n : ℕ) (stack whole : Stack) → whole ≡ stack → take (leng
 part_is n stack whole is = take_rest whole n ∙ ap (λ (s : Stack). drop n s) is
 
 pub path_below : (t : Tree) → (p : Path) → IsPath t.nodes.items p → AreBelow t.functions (functions_of p)
-path_below t p path =
-    let at = path.stacks p.len (omega arith) in
-    let n = get_or p.nodes p.len 0 in
-    let short = All-get_or (IsShort t.functions) (node_stacks t.nodes.items) n [] (omega (arith, at.0, length_stacks t.nodes.items)) t.is_tree.stacks in
-    subst (λ (s : Stack). AreBelow t.functions s) at.1 short.1
+path_below t p path = grind (arith, length_stacks)
 
 pub part_below : (t : Tree) → (p : Path) → IsPath t.nodes.items p → (n count : ℕ) (whole : Stack) → whole ≡ functions_of p → count ≡ t.functions → AreBelow count (take (length whole - n) (drop n whole))
-part_below t p path n count whole same functions =
-    let below : AreBelow count (functions_of p) = subst (λ (k : ℕ). AreBelow k (functions_of p)) (sym functions) (path_below t p path) in
-    subst (λ (s : Stack). AreBelow count s) (sym (part_is n (functions_of p) whole same)) (below_drop count n (functions_of p) below)
+part_below t p path n count whole same functions = grind (arith, path_below, part_is, length-drop, get_or-drop)

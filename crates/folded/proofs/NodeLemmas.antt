@@ -1,5 +1,5 @@
 -- Stacks of nodes, and how many samples they have.
-use Rattle.std.proofs.Common.{◌≡◌, ◌∙◌, ◌+◌, ◌<◌, ◌≤◌, ◌++◌, ℕ, zero, suc, Bool, true, false, List, [], ◌∷◌, length, get_or, set, ap, arith, cond, refl, sym, Option, None}
+use Rattle.std.proofs.Common.{◌≡◌, ◌∙◌, ◌+◌, ◌<◌, ◌≤◌, ◌++◌, ℕ, zero, suc, Bool, List, [], ◌∷◌, length, get_or, set, ap, arith, cond, refl, sym, Option, None}
 use Rattle.std.specs.Prelude.{fold}
 use Rattle.std.proofs.lemmas.List.{get_or_append_left, get_or_push, length_push, same_from_push}
 use Rattle.std.proofs.lemmas.List.Sums.{fold-append}
@@ -33,22 +33,10 @@ kept stacks (n ∷ nodes) k inside =
 made : (stacks : List Stack) (nodes : Nodes) (i : ℕ) → i < length nodes → (node_at nodes i).0 < length stacks + i
     → get_or (stacks_from stacks nodes) (length stacks + i) [] ≡ get_or (stacks_from stacks nodes) (node_at nodes i).0 [] ++ (node_at nodes i).1 ∷ []
 made stacks [] i inside below = absurd (omega (arith, inside))
-made stacks (n ∷ nodes) zero inside below =
-    let next = with_node stacks n in
-    let long = length_push stacks (next_stack stacks n) in
-    let here : length stacks + 0 ≡ length stacks = omega arith in
-    let fits : length stacks < length next = omega (arith, long) in
-    let low : n.0 < length stacks = omega (arith, below) in
-    let lower : n.0 < length next = omega (arith, low, long) in
-    ap (λ (k : ℕ). get_or (stacks_from next nodes) k []) here
-    ∙ kept next nodes (length stacks) fits ∙ get_or_push stacks (next_stack stacks n) [] (length stacks) refl
-    ∙ ap (λ (s : Stack). s ++ n.1 ∷ []) (sym (kept next nodes n.0 lower ∙ get_or_append_left stacks (next_stack stacks n ∷ []) [] n.0 low))
+made stacks (n ∷ nodes) zero inside below = grind (arith, length_push, kept, get_or_push, get_or_append_left)
 made stacks (n ∷ nodes) (suc i) inside below =
     let next = with_node stacks n in
-    let long = length_push stacks (next_stack stacks n) in
-    let same : length stacks + suc i ≡ length next + i = omega (arith, long) in
-    let low : (node_at nodes i).0 < length next + i = omega (arith, below, long) in
-    ap (λ (k : ℕ). get_or (stacks_from next nodes) k []) same ∙ made next nodes i (omega (arith, inside)) low
+    grind (arith, length_push, made next nodes i)
 
 pub length_stacks : (nodes : Nodes) → length (node_stacks nodes) ≡ length nodes + 1
 length_stacks nodes = omega (arith, length_from ([] ∷ []) nodes)
@@ -65,8 +53,7 @@ pub stacks_with : (nodes : Nodes) (n : ℕ × Option ℕ) → node_stacks (nodes
 stacks_with nodes n = fold-append with_node ([] ∷ []) nodes (n ∷ [])
 
 pub stack_behind : (nodes more : Nodes) (k : ℕ) → k ≤ length nodes → stack_of_node (nodes ++ more) k ≡ stack_of_node nodes k
-stack_behind nodes more k inside =
-    ap (λ (x : List Stack). get_or x k []) (fold-append with_node ([] ∷ []) nodes more) ∙ kept (node_stacks nodes) more k (omega (arith, inside, length_stacks nodes))
+stack_behind nodes more k inside = grind (arith, fold-append, kept, length_stacks)
 
 -- ---- no two nodes have one stack
 
@@ -112,8 +99,7 @@ module _ (test : Stack → Bool) where
   samples-push [] [] s long = by (test s)
     where
       by : (b : Bool) → cond b 0 0 + 0 ≡ 0
-      by true = omega arith
-      by false = omega arith
+      by b = grind arith
   samples-push [] (c ∷ counts) s long = absurd (omega (arith, long))
   samples-push (x ∷ stacks) [] s long = absurd (omega (arith, long))
   samples-push (x ∷ stacks) (c ∷ counts) s long = ap (λ (n : ℕ). cond (test x) c 0 + n) (samples-push stacks counts s (omega (arith, long)))
@@ -126,11 +112,8 @@ module _ (test : Stack → Bool) where
   samples-set (x ∷ stacks) (c ∷ counts) zero inside long = by (test x) (samples_on test stacks counts)
     where
       by : (b : Bool) (rest : ℕ) → cond b (c + 1) 0 + rest ≡ (cond b c 0 + rest) + cond b 1 0
-      by true rest = omega arith
-      by false rest = omega arith
-  samples-set (x ∷ stacks) (c ∷ counts) (suc i) inside long =
-      let rest = samples-set stacks counts i (omega (arith, inside)) (omega (arith, long)) in
-      omega (arith, rest)
+      by b rest = grind arith
+  samples-set (x ∷ stacks) (c ∷ counts) (suc i) inside long = grind (arith, samples-set stacks counts i)
 
 -- no stack has more samples than there are
 pub samples_below : (stacks : List Stack) (counts : List ℕ) (i : ℕ) → i < length counts → length stacks ≡ length counts → get_or counts i 0 ≤ samples_on any_stack stacks counts
@@ -138,6 +121,4 @@ samples_below [] [] i inside long = absurd (omega (arith, inside))
 samples_below [] (c ∷ counts) i inside long = absurd (omega (arith, long))
 samples_below (x ∷ stacks) [] i inside long = absurd (omega (arith, long))
 samples_below (x ∷ stacks) (c ∷ counts) zero inside long = omega arith
-samples_below (x ∷ stacks) (c ∷ counts) (suc i) inside long =
-    let rest = samples_below stacks counts i (omega (arith, inside)) (omega (arith, long)) in
-    omega (arith, rest)
+samples_below (x ∷ stacks) (c ∷ counts) (suc i) inside long = grind (arith, samples_below stacks counts i)

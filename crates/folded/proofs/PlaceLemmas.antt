@@ -21,17 +21,9 @@ module _ (nodes : Nodes) (counts : List ℕ) (total functions : ℕ) (is : AreNo
       let one : suc n ≡ n + 1 = omega arith in
       (omega (arith, low, fits), ap (λ (k : ℕ). stack_of_node nodes k) one ∙ stack_of_made nodes n fits low)
 
-  some_node : (n depth : ℕ) → length (stack_of_node nodes n) ≡ depth → 0 < depth → 0 < n
-  some_node zero depth long some = absurd (omega (arith, long, some, ap (λ (s : Stack). length s) (stack_of_none nodes)))
-  some_node (suc n) depth long some = omega arith
-
   pub placed_up : (n depth : ℕ) → n ≤ length nodes → length (stack_of_node nodes n) ≡ depth → 0 < depth
       → (caller_of n ≤ length nodes) × (length (stack_of_node nodes (caller_of n)) ≡ depth - 1) × (stack_of_node nodes (caller_of n) ≡ take (depth - 1) (stack_of_node nodes n))
-  placed_up n depth inside long some =
-      let last = last_of n (some_node n depth long some) inside in
-      let front = stack_of_node nodes (caller_of n) in
-      let less : length front ≡ depth - 1 = omega (arith, long, ap (λ (s : Stack). length s) last.1, length_push front (node_of nodes n).1) in
-      (last.0, less, sym (ap (take (depth - 1)) last.1 ∙ take_at front ((node_of nodes n).1 ∷ []) (depth - 1) less))
+  placed_up n depth inside long some = grind (arith, last_of, length_push, take_at, stack_of_none)
 
 -- so many of the first functions
 pub up_more : (s top now : Stack) (depth : ℕ) → top ≡ take depth s → now ≡ take (depth - 1) top → now ≡ take (depth - 1) s
@@ -49,13 +41,7 @@ call_more symbols frames depth stack f inside is here =
 -- ---- what stays when nodes are added
 
 pub IsGrown-then : (a b c : Tree) → IsGrown a b → IsGrown b c → IsGrown a c
-IsGrown-then a b c one two = record {
-  more = one.more ++ two.more;
-  nodes = two.nodes ∙ ap (λ (x : Nodes). x ++ two.more) one.nodes ∙ append_assoc a.nodes.items one.more two.more;
-  functions = two.functions ∙ one.functions;
-  total = two.total ∙ one.total;
-  samples = λ stacks have. two.samples stacks (one.samples stacks have);
-}
+IsGrown-then a b c one two = grind (arith, append_assoc)
 
 pub stack_stays : (nodes new more : Nodes) (n : ℕ) → new ≡ nodes ++ more → n ≤ length nodes → stack_of_node new n ≡ stack_of_node nodes n
 stack_stays nodes new more n is inside = ap (λ (x : Nodes). stack_of_node x n) is ∙ stack_behind nodes more n inside

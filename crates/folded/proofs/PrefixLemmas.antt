@@ -22,12 +22,7 @@ written_text start was part piece byte fits is =
     let same : length part ≡ length piece = ap {B = ℕ} length is in
     let front : length (take start was) ≡ start = length-take-le start was (omega (arith, fits)) in
     let both : length (take start was ++ part) ≡ n = omega (arith, length-append (take start was) part, front, same) in
-    let long : n < length (take start was ++ (part ++ rest)) = omega (arith, length-append (take start was) (part ++ rest), length-append part rest, length-drop (n - start) (drop start was), length-drop start was, front, same, fits) in
-    take_more_set (take start was ++ (part ++ rest)) n byte long
-    ∙ ap (λ (x : List ℕ). take n x ++ byte ∷ []) (sym (append_assoc (take start was) part rest))
-    ∙ ap (λ (x : List ℕ). x ++ byte ∷ []) (take_at (take start was ++ part) rest n both)
-    ∙ append_assoc (take start was) part (byte ∷ [])
-    ∙ ap (λ (x : List ℕ). take start was ++ (x ++ byte ∷ [])) is
+    grind (arith, length-append, length-drop, take_more_set, append_assoc, take_at)
 
 module _ (symbols : List Symbol) where
   abbrev name : Option ℕ → List ℕ
@@ -38,17 +33,12 @@ module _ (symbols : List Symbol) where
 
   callees_end : (callers : List (Option ℕ)) (f : Option ℕ) → flat_map (callee_text symbols) (callers ++ f ∷ []) ≡ codes ";" ++ (callers_text callers ++ name f)
   callees_end [] f = append-nil (codes ";" ++ name f)
-  callees_end (c ∷ callers) f =
-      ap (λ (x : List ℕ). (codes ";" ++ name c) ++ x) (callees_end callers f)
-      ∙ append_assoc (codes ";") (name c) (codes ";" ++ (callers_text callers ++ name f))
-      ∙ ap (λ (x : List ℕ). codes ";" ++ x) (sym (append_assoc (name c) (codes ";") (callers_text callers ++ name f)) ∙ sym (append_assoc (name c ++ codes ";") (callers_text callers) (name f)))
+  callees_end (c ∷ callers) f = search (append_assoc, callees_end callers f)
 
   -- the names with `;` between them are those of the callers with `;` behind each, and the last one
   pub stack_end : (callers : List (Option ℕ)) (f : Option ℕ) → stack_text symbols (callers ++ f ∷ []) ≡ callers_text callers ++ name f
   stack_end [] f = append-nil (name f)
-  stack_end (c ∷ callers) f =
-      ap (λ (x : List ℕ). name c ++ x) (callees_end callers f)
-      ∙ sym (append_assoc (name c) (codes ";") (callers_text callers ++ name f)) ∙ sym (append_assoc (name c ++ codes ";") (callers_text callers) (name f))
+  stack_end (c ∷ callers) f = grind (arith, callees_end, append_assoc)
 
   pub split_callers : (callers : List (Option ℕ)) (n : ℕ) → callers_text callers ≡ callers_text (take n callers) ++ callers_text (drop n callers)
   split_callers callers n = ap callers_text (sym (take-append-drop n callers)) ∙ flat_map-append (caller_text symbols) (take n callers) (drop n callers)
@@ -63,26 +53,6 @@ module _ (symbols : List Symbol) where
       ∙ ap (λ (x : List ℕ). x ++ name f) (split_callers callers known)
       ∙ ap (λ (x : List (Option ℕ)). (callers_text x ++ callers_text (drop known callers)) ++ name f) (sym front)
       ∙ ap (λ (x : List (Option ℕ)). (callers_text (take known p.path.functions) ++ callers_text x) ++ name f) (sym (take_rest callers known))
-
-  -- that of no caller
-  pub prefix_first : (p : Prefix) → p.callers ≡ 0 → p.path.len ≤ 129 → length p.path.functions ≡ 129 → length p.bytes ≡ 8192 → length p.ends ≡ 130 → get_or p.ends 0 0 ≡ 0 → IsPrefix symbols p
-  prefix_first p none short functions bytes ends zero_end = record {
-    few = omega (arith, none);
-    short = short;
-    functions = functions;
-    bytes = bytes;
-    numbers = ends;
-    room = λ k le. (let z : k ≡ 0 = omega (arith, le, none) in omega (arith, ap (λ (j : ℕ). get_or p.ends j 0) z, zero_end));
-    ascend = λ j k le le2. (
-        let z : k ≡ 0 = omega (arith, le2, none) in
-        let y : j ≡ 0 = omega (arith, le, z) in
-        omega (arith, ap (λ (i : ℕ). get_or p.ends i 0) z, ap (λ (i : ℕ). get_or p.ends i 0) y)
-        );
-    texts = λ k le. (
-        let z : k ≡ 0 = omega (arith, le, none) in
-        ap (λ (j : ℕ). take (get_or p.ends j 0) p.bytes) z ∙ ap (λ (j : ℕ). take j p.bytes) zero_end ∙ sym (ap (λ (j : ℕ). callers_text (take j p.path.functions)) z)
-        );
-  }
 
   -- where another stack begins with the same callers
   pub prefix_moved : (p : Prefix) (path : Path) (shared n : ℕ) (stack : List (Option ℕ)) → IsPrefix symbols p → path.len ≤ 129 → length path.functions ≡ 129 → functions_of path ≡ stack → shared ≤ length stack → take shared p.path.functions ≡ take shared stack
@@ -134,16 +104,12 @@ module _ (symbols : List Symbol) where
 
       room_at : (k : ℕ) → (k ≤ p.callers) ⊎ (k ≡ p.callers + 1) → ((j : ℕ) → j ≤ p.callers → get_or (set p.ends (p.callers + 1) end) j 0 ≡ get_or p.ends j 0) → get_or (set p.ends (p.callers + 1) end) (p.callers + 1) 0 ≡ end
           → get_or (set p.ends (p.callers + 1) end) k 0 ≤ 8192
-      room_at k (inl le) before last = omega (arith, before k le, is.room k le)
-      room_at k (inr e) before last = omega (arith, ap (λ (j : ℕ). get_or (set p.ends (p.callers + 1) end) j 0) e, last, fits)
+      room_at k this before last = grind arith
 
       ascend_at : (j k : ℕ) → j ≤ k → (k ≤ p.callers) ⊎ (k ≡ p.callers + 1) → (j ≤ p.callers) ⊎ (j ≡ p.callers + 1) → ((i : ℕ) → i ≤ p.callers → get_or (set p.ends (p.callers + 1) end) i 0 ≡ get_or p.ends i 0)
           → get_or (set p.ends (p.callers + 1) end) (p.callers + 1) 0 ≡ end → ((i : ℕ) → i ≤ p.callers → get_or p.ends i 0 ≤ get_or p.ends p.callers 0)
           → get_or (set p.ends (p.callers + 1) end) j 0 ≤ get_or (set p.ends (p.callers + 1) end) k 0
-      ascend_at j k le (inl a) (inl b) before last low = omega (arith, before j b, before k a, is.ascend j k le a)
-      ascend_at j k le (inl a) (inr b) before last low = absurd (omega (arith, le, a, b))
-      ascend_at j k le (inr a) (inl b) before last low = omega (arith, before j b, low j b, later, ap (λ (i : ℕ). get_or (set p.ends (p.callers + 1) end) i 0) a, last)
-      ascend_at j k le (inr a) (inr b) before last low = omega (arith, ap (λ (i : ℕ). get_or (set p.ends (p.callers + 1) end) i 0) a, ap (λ (i : ℕ). get_or (set p.ends (p.callers + 1) end) i 0) b)
+      ascend_at j k le this given before last low = grind arith
 
       texts_at : (k : ℕ) → (k ≤ p.callers) ⊎ (k ≡ p.callers + 1) → ((i : ℕ) → i ≤ p.callers → get_or (set p.ends (p.callers + 1) end) i 0 ≡ get_or p.ends i 0)
           → get_or (set p.ends (p.callers + 1) end) (p.callers + 1) 0 ≡ end → ((i : ℕ) → i ≤ p.callers → get_or p.ends i 0 ≤ get_or p.ends p.callers 0) → p.callers < length p.path.functions

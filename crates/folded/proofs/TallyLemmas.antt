@@ -1,5 +1,5 @@
 -- Marks of functions, and what is counted in the end.
-use Rattle.std.proofs.Common.{◌≡◌, ◌∙◌, ◌<◌, ◌≤◌, ℕ, Bool, true, false, List, [], ◌∷◌, length, get_or, map, take, ap, arith, cond, refl, sym, subst, Option}
+use Rattle.std.proofs.Common.{◌≡◌, ◌∙◌, ◌<◌, ◌≤◌, ℕ, Bool, List, [], ◌∷◌, length, get_or, map, take, ap, arith, cond, refl, sym, subst, Option}
 use Rattle.std.specs.List.{AllByRecursion}
 use Rattle.std.specs.List.Sorted.{IsStrictlySortedBy}
 use Rattle.std.specs.Map.{keys_of}
@@ -24,17 +24,9 @@ blank = record { count = 0; places = 0; since = 0 }
 abbrev pub weight : (Stack → Bool) → Stack × ℕ → ℕ
 weight test l = cond (test l.0) l.1 0
 
-weight_le : (test : Stack → Bool) (l : Stack × ℕ) → weight test l ≤ weight any_stack l
-weight_le test l = by (test l.0) l.1
-  where
-    by : (b : Bool) (n : ℕ) → cond b n 0 ≤ n
-    by true n = omega arith
-    by false n = omega arith
-
 -- what a front of the lines has is no more than what all have
 pub front_few : (test : Stack → Bool) (lines : Lines) (i : ℕ) → samples_of_lines test (take i lines) ≤ samples_of_lines any_stack lines
-front_few test lines i =
-    omega (arith, sum_by-le-sum_by (weight test) (weight any_stack) (take i lines) (weight_le test), sum_by-take-le (weight any_stack) lines i)
+front_few test lines i = grind (arith, sum_by-le-sum_by, sum_by-take-le)
 
 -- ---- all that is told of a tree in order
 

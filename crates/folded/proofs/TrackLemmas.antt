@@ -1,5 +1,5 @@
 -- Each hart's place follows its shadow.
-use Rattle.std.proofs.Common.{append-nil, ◌≡◌, ◌∙◌, ◌+◌, ◌-◌, ◌<◌, ◌≤◌, ◌++◌, ◌&&◌, ◌⊎◌, inl, inr, ℕ, zero, suc, Bool, true, false, not, nat_lt, eqb, List, [], ◌∷◌, length, get_or, replicate, set, take, map, min, ap, arith, refl, sym, subst, Option, Some, None, if◌then◌else◌}
+use Rattle.std.proofs.Common.{append-nil, ◌≡◌, ◌∙◌, ◌+◌, ◌-◌, ◌<◌, ◌≤◌, ◌++◌, ◌&&◌, ◌⊎◌, inl, inr, ℕ, zero, suc, Bool, not, nat_lt, eqb, List, [], ◌∷◌, length, get_or, replicate, set, take, map, min, ap, arith, refl, sym, subst, Option, if◌then◌else◌}
 use Rattle.std.proofs.lemmas.List.{get_or_default, get_or-replicate, get_or-set_other, get_or-set_same, length-append, length-map, length-replicate, length_push, length-set, length-take, take-map, take-take, take_all, take_at, take_min}
 use Rattle.elf32_syms.specs.declared.image.Symbol.{Symbol}
 use Rattle.rv_step.specs.Step.{next_of}
@@ -11,7 +11,6 @@ use Rattle.folded.specs.Stacks.{caller_in}
 use Rattle.folded.specs.declared.place.Place.{Place}
 use Rattle.folded.specs.Trail.{shadow_of}
 use Rattle.folded.specs.declared.tracker.Tracker.{Tracker}
-use Rattle.folded.specs.declared.tree.Tree.{Tree}
 use Rattle.folded.proofs.NodeLemmas.{Nodes, Stack, stack_of_none}
 use Rattle.folded.proofs.PlaceLemmas.{stack_stays}
 
@@ -19,58 +18,43 @@ use Rattle.folded.proofs.PlaceLemmas.{stack_stays}
 abbrev pub Agree : {X : Type 0} → List X → List X → Type 0
 Agree old new = take (length old) new ≡ take (length new) old
 
-agree_push : (xs : List ℕ) (y : ℕ) → Agree xs (xs ++ y ∷ [])
-agree_push xs y = take_at xs (y ∷ []) (length xs) refl ∙ sym (take_all (length (xs ++ y ∷ [])) xs (omega (arith, length_push xs y)))
-
 front_of : (to : ℕ) (xs : List ℕ) → (length (frames_before to xs) ≤ length xs) × (frames_before to xs ≡ take (length (frames_before to xs)) xs)
 front_of to [] = (omega arith, refl)
 front_of to (x ∷ xs) = by (eqb x to && not (is_in_frames to xs)) (front_of to xs)
   where
     by : (b : Bool) → (length (frames_before to xs) ≤ length xs) × (frames_before to xs ≡ take (length (frames_before to xs)) xs)
         → (length (if b then [] else x ∷ frames_before to xs) ≤ length (x ∷ xs)) × ((if b then [] else x ∷ frames_before to xs) ≡ take (length (if b then [] else x ∷ frames_before to xs)) (x ∷ xs))
-    by true later = (omega arith, refl)
-    by false later = (omega (arith, later.0), ap (λ (ys : List ℕ). x ∷ ys) later.1)
-
-agree_cut : (to : ℕ) (xs : List ℕ) → Agree xs (frames_before to xs)
-agree_cut to xs = let front = front_of to xs in take_all (length xs) (frames_before to xs) front.0 ∙ front.1
+    by b later = grind arith
 
 agree_call : (to : ℕ) (s : Shadow) → Agree s.frames (with_call to s).frames
 unfolding with_call
 agree_call to s = by (nat_lt (length s.frames) 128)
   where
     by : (b : Bool) → Agree s.frames (if b then record s { frames = s.frames ++ to ∷ [] } else record s { over = s.over + 1 }).frames
-    by true = agree_push s.frames to
-    by false = refl
+    by b = grind (arith, take_at, take_all, length_push)
 
 agree_return : (to : ℕ) (s : Shadow) → Agree s.frames (with_return to s).frames
 unfolding with_return
 agree_return to s = by (nat_lt 0 s.over)
   where
     by : (b : Bool) → Agree s.frames (if b then record s { over = s.over - 1 } else record s { frames = frames_before to s.frames }).frames
-    by true = refl
-    by false = agree_cut to s.frames
+    by b = grind (arith, front_of, take_all)
 
 agree_instruction : (r : Ran) (s : Shadow) → Agree s.frames (after_instruction r s).frames
 unfolding after_instruction
 agree_instruction r s = by (is_call r.instr) (is_return r.instr)
   where
     by : (b c : Bool) → Agree s.frames (if b then with_call (next_of r.pc) s else (if c then with_return r.next s else s)).frames
-    by true c = agree_call (next_of r.pc) s
-    by false true = agree_return r.next s
-    by false false = refl
+    by b c = grind (arith, agree_call, agree_return)
 
 pub agree_ran : (ran : Option Ran) (s : Shadow) → Agree s.frames (after_ran ran s).frames
-agree_ran None s = refl
-agree_ran (Some r) s = agree_instruction r s
+agree_ran ran s = grind (arith, agree_instruction)
 
 pub agree_hook : (to : Option ℕ) (s : Shadow) → Agree s.frames (after_hook to s).frames
-agree_hook None s = refl
-agree_hook (Some to) s = agree_return to s
+agree_hook to s = grind (arith, agree_return)
 
 agree_map : (f : ℕ → Option ℕ) (old new : List ℕ) → Agree old new → Agree (map f old) (map f new)
-agree_map f old new agree =
-    ap (λ (n : ℕ). take n (map f new)) (length-map old f) ∙ take-map f (length old) new ∙ ap (map f) agree
-    ∙ sym (take-map f (length new) old) ∙ ap (λ (n : ℕ). take n (map f old)) (sym (length-map new f))
+agree_map f old new agree = grind (arith, length-map, take-map)
 
 -- ---- a place after its shadow has changed
 
@@ -88,40 +72,16 @@ on_calls nodes old new p q agree was placed is =
 
 pub on_frames : (symbols : List Symbol) (nodes : Nodes) (old new : List ℕ) (p q : Place) → Agree old new → IsOn nodes (map (caller_in symbols) old) p → IsPlaced nodes q
     → stack_of_node nodes q.node ≡ take (length new) (stack_of_node nodes p.node) → IsOn nodes (map (caller_in symbols) new) q
-on_frames symbols nodes old new p q agree was placed is =
-    on_calls nodes (map (caller_in symbols) old) (map (caller_in symbols) new) p q (agree_map (caller_in symbols) old new agree) was placed
-    (is ∙ ap (λ (n : ℕ). take n (stack_of_node nodes p.node)) (sym (length-map new (caller_in symbols))))
+on_frames symbols nodes old new p q agree was placed is = search (on_calls, agree_map, length-map)
 
 -- and after nodes were added
 pub on_stays : (nodes new : Nodes) (calls : Stack) (p : Place) → NodesAdded nodes new → IsOn nodes calls p → IsOn new calls p
-on_stays nodes new calls p added was =
-    let same = stack_stays nodes new added.more p.node added.is was.placed.node in
-    let more : length new ≡ length nodes + length added.more = ap (λ (x : Nodes). length x) added.is ∙ length-append nodes added.more in
-    record {
-      placed = record { node = omega (arith, more, was.placed.node); depth = ap (λ (s : Stack). length s) same ∙ was.placed.depth };
-      begins = same ∙ was.begins;
-    }
+on_stays nodes new calls p added was = grind (arith, stack_stays, length-append)
 
 -- ---- all harts
 
-first_on : (nodes : Nodes) → IsOn nodes [] first_place
-first_on nodes = record {
-  placed = record { node = omega arith; depth = ap (λ (s : Stack). length s) (stack_of_none nodes) };
-  begins = stack_of_none nodes;
-}
-
 pub first_tracked : (symbols : List Symbol) (v : Tracker) (harts : ℕ) → v.shadows.items ≡ replicate harts empty_shadow → v.places.items ≡ replicate harts first_place → IsTreeFor symbols v.tree → IsTracked symbols v
-first_tracked symbols v harts shadows places tree = record {
-  tree = tree;
-  harts = ap (λ (x : List Place). length x) places ∙ length-replicate harts first_place ∙ sym (ap (λ (x : List Shadow). length x) shadows ∙ length-replicate harts empty_shadow);
-  places = λ h fits. (
-      let below : h < harts = omega (arith, fits, ap (λ (x : List Shadow). length x) shadows, length-replicate harts empty_shadow) in
-      let shadow : get_or v.shadows.items h empty_shadow ≡ empty_shadow = ap (λ (x : List Shadow). get_or x h empty_shadow) shadows ∙ get_or-replicate harts h empty_shadow empty_shadow below in
-      let place : get_or v.places.items h first_place ≡ first_place = ap (λ (x : List Place). get_or x h first_place) places ∙ get_or-replicate harts h first_place first_place below in
-      subst (λ (x : Shadow). IsOn v.tree.nodes.items (map (caller_in symbols) x.frames) (get_or v.places.items h first_place)) (sym shadow)
-      (subst (λ (y : Place). IsOn v.tree.nodes.items (map (caller_in symbols) empty_shadow.frames) y) (sym place) (first_on v.tree.nodes.items))
-      );
-}
+first_tracked symbols v harts shadows places tree = grind (arith, length-replicate, get_or-replicate, stack_of_none)
 
 pub tracked_next : (symbols : List Symbol) (v w : Tracker) (h : ℕ) (s : Shadow) (p : Place) → h < length v.shadows.items → w.shadows.items ≡ set v.shadows.items h s → w.places.items ≡ set v.places.items h p → IsTreeFor symbols w.tree
     → NodesAdded v.tree.nodes.items w.tree.nodes.items → IsOn w.tree.nodes.items (map (caller_in symbols) s.frames) p → IsTracked symbols v → IsTracked symbols w
@@ -135,11 +95,7 @@ tracked_next symbols v w h s p inside shadows places tree added on was = record 
 }
   where
     by : (k : ℕ) → k < length v.shadows.items → (k ≡ h) ⊎ ((k ≡ h) → ⊥) → IsOn w.tree.nodes.items (map (caller_in symbols) (get_or w.shadows.items k empty_shadow).frames) (get_or w.places.items k first_place)
-    by k short (inl same) =
-        let shadow : get_or w.shadows.items k empty_shadow ≡ s = ap (λ (x : List Shadow). get_or x k empty_shadow) shadows ∙ ap (λ (n : ℕ). get_or (set v.shadows.items h s) n empty_shadow) same ∙ get_or-set_same v.shadows.items h s empty_shadow inside in
-        let place : get_or w.places.items k first_place ≡ p =
-        ap (λ (x : List Place). get_or x k first_place) places ∙ ap (λ (n : ℕ). get_or (set v.places.items h p) n first_place) same ∙ get_or-set_same v.places.items h p first_place (omega (arith, inside, was.harts)) in
-        subst (λ (x : Shadow). IsOn w.tree.nodes.items (map (caller_in symbols) x.frames) (get_or w.places.items k first_place)) (sym shadow) (subst (λ (y : Place). IsOn w.tree.nodes.items (map (caller_in symbols) s.frames) y) (sym place) on)
+    by k short (inl same) = grind (arith, get_or-set_same)
     by k short (inr apart) =
         let shadow : get_or w.shadows.items k empty_shadow ≡ get_or v.shadows.items k empty_shadow = ap (λ (x : List Shadow). get_or x k empty_shadow) shadows ∙ get_or-set_other v.shadows.items h k s empty_shadow apart in
         let place : get_or w.places.items k first_place ≡ get_or v.places.items k first_place = ap (λ (x : List Place). get_or x k first_place) places ∙ get_or-set_other v.places.items h k p first_place apart in
@@ -154,21 +110,11 @@ tracked_next symbols v w h s p inside shadows places tree added on was = record 
     same_or_not (suc k) (suc h) = more (same_or_not k h)
       where
         more : (k ≡ h) ⊎ ((k ≡ h) → ⊥) → (suc k ≡ suc h) ⊎ ((suc k ≡ suc h) → ⊥)
-        more (inl is) = inl (ap suc is)
-        more (inr apart) = inr (λ is. apart (omega (arith, is)))
+        more this = grind arith
 
 -- the hart's shadow has changed, one of its frames being a front of the other's, and its place has gone up with it
 pub tracked_moved : (h : ℕ) (v w : Tracker) (s t : Shadow) (p q : Place) → h < length v.shadows.items → shadow_of v.shadows.items h ≡ s → p ≡ get_or v.places.items h p → Agree s.frames t.frames
     → IsPlaced v.tree.nodes.items q → stack_of_node v.tree.nodes.items q.node ≡ take (length t.frames) (stack_of_node v.tree.nodes.items p.node)
     → w.shadows.items ≡ set v.shadows.items h t → w.places.items ≡ set v.places.items h q → w.tree ≡ v.tree → (symbols : List Symbol) → IsTracked symbols v → IsTracked symbols w
 tracked_moved h v w s t p q inside read place agree placed is shadows places same symbols was =
-    let nodes = v.tree.nodes.items in
-    let short : h < length v.places.items = omega (arith, inside, was.harts) in
-    let there : get_or v.places.items h first_place ≡ p = get_or_default v.places.items h first_place p short ∙ sym place in
-    let before : IsOn nodes (map (caller_in symbols) s.frames) p =
-    subst (λ (x : Shadow). IsOn nodes (map (caller_in symbols) x.frames) p) read
-    (subst (λ (y : Place). IsOn nodes (map (caller_in symbols) (shadow_of v.shadows.items h).frames) y) there (was.places h inside)) in
-    let after = on_frames symbols nodes s.frames t.frames p q agree before placed is in
-    let keys : w.tree.nodes.items ≡ nodes = ap (λ (x : Tree). x.nodes.items) same in
-    tracked_next symbols v w h t q inside shadows places (subst (IsTreeFor symbols) (sym same) was.tree)
-    (record { more = []; is = keys ∙ sym (append-nil nodes) }) (subst (λ (x : Nodes). IsOn x (map (caller_in symbols) t.frames) q) (sym keys) after) was
+    grind (arith, get_or_default, on_frames, tracked_next, append-nil)

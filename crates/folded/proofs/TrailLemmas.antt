@@ -76,5 +76,4 @@ pcs_from m w t (h ∷ turns) =
     ∙ behind (map (λ (s : StackSample). s.pc) t.samples) (note_of m w h).sample (noted_samples m (turn_of m w h) turns)
 
 pub samples_counted : (m : Machine) (w : World) (turns : List ℕ) → counted_samples m.sizes (world_after m w turns).log ≡ counted_samples m.sizes w.log ++ map (λ (s : StackSample). s.pc) (samples_after m w turns)
-samples_counted m w turns =
-    samples_noted m w turns ∙ ap (λ (x : List ℕ). counted_samples m.sizes w.log ++ x) (sym (pcs_from m w (first_trail m.setup.harts) turns))
+samples_counted m w turns = search (samples_noted, pcs_from)

@@ -2,7 +2,6 @@
 use Rattle.std.proofs.Common.{◌≡◌, inl, inr, ℕ, zero, suc, Bool, true, false, ◌||◌, List, [], ◌∷◌, ◌++◌, Option, Some, None, refl, sym, ap, subst, ◌∙◌, append_assoc}
 use Rattle.std.specs.Prelude.{string_bytes}
 use Rattle.std.specs.declared.io.ErrorKind.{ErrorKind}
-use Rattle.std.specs.declared.io.ErrorKind.TheVariants.{AlreadyExists}
 use Rattle.host_port.specs.Act.{File, with_file, has_file}
 use Rattle.folder_system.specs.declared.folder.Found.{Found}
 use Rattle.folder_system.specs.declared.folder.Found.TheVariants.{Nothing, File as RegularFile, Other}
@@ -40,8 +39,7 @@ not_made name own mode kind fs = record { spares = (refl, tt); files = refl }
 
 pub tries_quiet : (name : List ℕ) (mode n : ℕ) (fs : List File) → IsQuiet name fs (tries name mode n)
 tries_quiet name mode zero fs = record { spares = tt; files = refl }
-tries_quiet name mode (suc n) fs =
-    quiet_quiet name fs (tries name mode n) (Made (numbered name n) mode (Some AlreadyExists) ∷ []) (tries_quiet name mode n fs) (not_made name (numbered name n) mode AlreadyExists (files_after (tries name mode n) fs))
+tries_quiet name mode (suc n) fs = search (quiet_quiet, not_made, tries_quiet name mode n fs)
 
 tidy_behind : (name : List ℕ) (fs : List File) (es gs : List Event) → files_after es fs ≡ fs → IsTidy name (files_after es fs) gs → IsTidy name fs (es ++ gs)
 tidy_behind name fs es gs same (inl none) = inl (files_append es gs fs ∙ none ∙ same)
@@ -54,10 +52,7 @@ tidy_behind name fs es gs same (inr left) = inr (record {
 })
 
 pub quiet_given_up : (name : List ℕ) (fs : List File) (es gs : List Event) → IsQuiet name fs es → IsGivenUp name (files_after es fs) gs → IsGivenUp name fs (es ++ gs)
-quiet_given_up name fs es gs q r = record {
-  spares = spares_append name es gs q.spares r.spares;
-  tidy = tidy_behind name fs es gs q.files r.tidy;
-}
+quiet_given_up name fs es gs q r = search (spares_append, tidy_behind)
 
 pub given_up : (name : List ℕ) (fs : List File) (es : List Event) → IsQuiet name fs es → IsGivenUp name fs es
 given_up name fs es q = record { spares = q.spares; tidy = inl q.files }
@@ -114,9 +109,7 @@ module _ (name own : List ℕ) (old : Attributes) (kind : ErrorKind) (fs : List 
   both_files m f = files_append es gs fs ∙ f.files (files_after es fs) ∙ made_files name own 384 [] fs es (λ gs. refl) m
 
   pub unlike_quiet : IsMade name own 384 [] fs es → IsRefused old kind (files_after es fs) gs → IsQuiet name fs ((es ++ gs) ++ Removed own None ∷ [])
-  unlike_quiet m r =
-      let f = fruitless old kind (files_after es fs) gs r in
-      record { spares = both_spare None m f; files = removed_files own fs (es ++ gs) (both_files m f) m.fresh }
+  unlike_quiet m r = search (fruitless, both_spare, removed_files, both_files)
 
   tidy_removed : (answer : Answer) → IsMade name own 384 [] fs es → IsFruitless gs → IsTidy name fs ((es ++ gs) ++ Removed own answer ∷ [])
   tidy_removed None m f = inl (removed_files own fs (es ++ gs) (both_files m f) m.fresh)
@@ -129,9 +122,7 @@ module _ (name own : List ℕ) (old : Attributes) (kind : ErrorKind) (fs : List 
   })
 
   pub refused_given_up : (answer : Answer) → IsMade name own 384 [] fs es → IsRefused old kind (files_after es fs) gs → IsGivenUp name fs ((es ++ gs) ++ Removed own answer ∷ [])
-  refused_given_up answer m r =
-      let f = fruitless old kind (files_after es fs) gs r in
-      record { spares = both_spare answer m f; tidy = tidy_removed answer m f }
+  refused_given_up answer m r = search (fruitless, both_spare, tidy_removed)
 
 -- ---- none beside
 

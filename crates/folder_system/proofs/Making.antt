@@ -15,14 +15,10 @@ use Rattle.folder_system.specs.Names.{numbered}
 use Rattle.folder_system.specs.Events.{Event, Looked, Tried, Made, Opened, Removed, History, Answer, after, Follows, files_after}
 use Rattle.std.specs.declared.io.ErrorKind.TheVariants.{AlreadyExists}
 use Rattle.folder_system.specs.Found.{bars_found, attributes_found}
-use Rattle.folder_system.specs.Kinds.{is_barring, is_taken}
+use Rattle.folder_system.specs.Kinds.{is_barring}
 use Rattle.folder_system.specs.Place.{AreTaken, IsQuiet, IsMade, IsUnmade, IsBegun, IsBarred, IsGivenUp, IsInstead, IsGiven, IsRefused, IsOpened, IsOverFound, IsIn, IsPlaced, IsStanding, finding, tries}
 use Rattle.folder_system.proofs.Follows.{then_calls, one_call, one_call_at, then_call, restate}
-use Rattle.folder_system.proofs.Calls.{quiet_quiet, quiet_given_up, given_up, not_made, tries_quiet, begun_given, refused_given_up, barred_quiet, finding_quiet}
-
-pub taken_kind : (kind : ErrorKind) → is_taken kind ≡ true → kind ≡ AlreadyExists
-taken_kind AlreadyExists is = refl
-taken_kind kind is = absurd (let e : false ≡ true = is in cc)
+use Rattle.folder_system.proofs.Calls.{quiet_quiet, quiet_given_up, given_up, not_made, tries_quiet, begun_given, refused_given_up, barred_quiet}
 
 plus_one : (n : ℕ) → suc n ≡ n + 1
 plus_one n = omega arith
@@ -73,8 +69,7 @@ module _ (name : List ℕ) where
 
   module _ (own : List ℕ) (old : Attributes) where
     pub liked : (a b c : Option History) → Follows (IsMade name own 384 []) a b → Follows (IsGiven old) b c → Follows (IsBegun name own (Some old)) a c
-    liked a b c = then_calls (IsMade name own 384 []) (IsGiven old) (IsBegun name own (Some old)) a b c
-        (λ fs es gs p is. subst (λ (l : List Event). IsBegun name own (Some old) fs (es ++ l)) (sym is) (begun_given name own old fs es p))
+    liked a b c = grind (arith, then_calls, begun_given)
 
     both : (kind : ErrorKind) → List File → List Event → Type 0
     both kind fs es = (front : List Event) × (back : List Event) × (es ≡ front ++ back) × IsMade name own 384 [] fs front × IsRefused old kind (files_after front fs) back
@@ -100,8 +95,7 @@ module _ (name : List ℕ) where
   -- ---- in place
 
   pub opened_instead : (old : Option Attributes) (a b c : Option History) → Follows (IsBarred name old) a b → Follows (IsOpened name) b c → Follows (IsInstead name old) a c
-  opened_instead old a b c = then_calls (IsBarred name old) (IsOpened name) (IsInstead name old) a b c
-      (λ fs es gs p is. record { front = es; barred = p; is = ap (λ (l : List Event). es ++ l) is })
+  opened_instead old a b c = grind (arith, then_calls)
 
   pub not_instead : (old : Option Attributes) (a b c : Option History) → Follows (IsBarred name old) a b → Follows (IsQuiet name) b c → Follows (IsGivenUp name) a c
   not_instead old a b c = then_calls (IsBarred name old) (IsQuiet name) (IsGivenUp name) a b c (λ fs es gs p q. given_up name fs (es ++ gs) (quiet_quiet name fs es gs (barred_quiet name old fs es p) q))
@@ -113,10 +107,6 @@ module _ (name : List ℕ) where
   found_in : (place : Place) (a c : Option History) → IsIn name place → Follows (λ fs es. IsOverFound name es) a c → Follows (IsPlaced name place) a c
   found_in (StandsBeside beside) a c is did = absurd is
   found_in (In held) a c is did = restate (λ fs es. IsOverFound name es) (IsPlaced name (In held)) a c (λ fs es p. (is, inl p)) did
-
-  behind_finding : (found : Found) (place : Place) (fs : List File) (es : List Event) → bars_found found ≡ false → IsStanding name (attributes_found found) place fs es → IsPlaced name place fs (finding name found ++ es)
-  behind_finding found (StandsBeside beside) fs es clear h = (h.0, record { found = found; clear = clear; behind = es; is = refl; so = h.1 })
-  behind_finding found (In held) fs es clear h = (h.0, inr (record { found = found; clear = clear; behind = es; is = refl; so = h.1 }))
 
   pub finding_none : (found : Found) (a b : Option History) → None ≡ attributes_found found → bars_found found ≡ false → Becomes (after (Looked name (Some found))) a b → Follows (λ fs es. es ≡ finding name found) a b
   finding_none Nothing a b is clear = one_call (λ fs es. es ≡ finding name Nothing) (Looked name (Some Nothing)) a b (λ fs. refl)
@@ -157,10 +147,7 @@ module _ (name : List ℕ) where
 
     placed_at : (found : Found) (r : Result (O × Place) Error) (a b c : Option History) → bars_found found ≡ false → Follows (λ fs es. es ≡ finding name found) a b → IfOk r (λ x. Follows (IsStanding name (attributes_found found) x.1) b c) → IfOk r (λ x. Follows (IsPlaced name x.1) a c)
     placed_at found (Err e) a b c clear first standing = tt
-    placed_at found (Ok x) a b c clear first standing =
-        then_calls (λ fs es. es ≡ finding name found) (IsStanding name (attributes_found found) x.1) (IsPlaced name x.1) a b c
-        (λ fs es gs is p. subst (λ (l : List Event). IsPlaced name x.1 fs (l ++ gs)) (sym is) (behind_finding found x.1 fs gs clear
-        (subst (λ (l : List File). IsStanding name (attributes_found found) x.1 l gs) (ap (λ (l : List Event). files_after l fs) is ∙ (finding_quiet name found fs).files) p))) first standing
+    placed_at found (Ok x) a b c clear first standing = grind (arith, then_calls)
 
     pub placed_behind : (found : Found) (old : Option Attributes) (r : Result (O × Place) Error) (a b c : Option History) → old ≡ attributes_found found → bars_found found ≡ false → Follows (λ fs es. es ≡ finding name found) a b → IfOk r (λ x. Follows (IsStanding name old x.1) b c) → IfOk r (λ x. Follows (IsPlaced name x.1) a c)
     placed_behind found old r a b c is clear first standing =

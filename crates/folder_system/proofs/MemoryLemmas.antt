@@ -87,12 +87,9 @@ module _ (from to bytes : List ℕ) (apart : bytes_eq to from ≡ false) where
   without_at : (f : File) (fs : List File) (b c : Bool) → bytes_eq f.0 to ≡ b → bytes_eq f.0 from ≡ c → without from (with_file to bytes fs) ≡ with_file to bytes (without from fs)
       → without from (with_file to bytes (f ∷ fs)) ≡ with_file to bytes (without from (f ∷ fs))
   without_at f fs true true is also rest = absurd (one_name f.0 is also)
-  without_at f fs true false is other rest =
-      ap (without from) (put_here f fs is) ∙ keep_here (f.0, bytes) fs other ∙ sym (put_here f (without from fs) is) ∙ ap (with_file to bytes) (sym (keep_here f fs other))
-  without_at f fs false true other is rest =
-      ap (without from) (put_later f fs other) ∙ drop_here f (with_file to bytes fs) is ∙ rest ∙ ap (with_file to bytes) (sym (drop_here f fs is))
-  without_at f fs false false other another rest =
-      ap (without from) (put_later f fs other) ∙ keep_here f (with_file to bytes fs) another ∙ ap (λ (l : List File). f ∷ l) rest ∙ sym (put_later f (without from fs) other) ∙ ap (with_file to bytes) (sym (keep_here f fs another))
+  without_at f fs true false is other rest = search (put_here, keep_here)
+  without_at f fs false true other is rest = search (put_later, drop_here)
+  without_at f fs false false other another rest = search (put_later, keep_here)
 
   -- another file's name is taken away before or behind
   pub without_other : (fs : List File) → without from (with_file to bytes fs) ≡ with_file to bytes (without from fs)

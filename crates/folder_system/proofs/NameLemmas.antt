@@ -64,38 +64,17 @@ other_name name own longer = other_at name own (bytes_eq name own) refl longer
 
 long_at : (name : List ℕ) (n : ℕ) (r : Option (List ℕ × List ℕ)) → IsSplit name r → length name < length (numbered_at name r n)
 unfolding IsSplit
-long_at name n None h =
-    let tail : length (codes ".rvgprof-") ≡ 9 = refl in
-    let dot : length (codes ".") ≡ 1 = refl in
-    let a = length-append (codes ".") name in
-    let b = length-append (codes "." ++ name) (codes ".rvgprof-") in
-    let c = length-append (codes "." ++ name ++ codes ".rvgprof-") (decimal n) in
-    omega (arith, tail, dot, a, b, c)
-long_at name n (Some split) h =
-    let tail : length (codes ".rvgprof-") ≡ 9 = refl in
-    let slash : length (codes "/.") ≡ 2 = refl in
-    let whole : length name ≡ length (split.0 ++ 47 ∷ split.1) = ap length h in
-    let cut = length-append split.0 (47 ∷ split.1) in
-    let more : length (47 ∷ split.1) ≡ suc (length split.1) = refl in
-    let a = length-append split.0 (codes "/.") in
-    let b = length-append (split.0 ++ codes "/.") split.1 in
-    let c = length-append (split.0 ++ codes "/." ++ split.1) (codes ".rvgprof-") in
-    let d = length-append (split.0 ++ codes "/." ++ split.1 ++ codes ".rvgprof-") (decimal n) in
-    omega (arith, tail, slash, whole, cut, more, a, b, c, d)
+long_at name n None h = grind (arith, length-append)
+long_at name n (Some split) h = grind (arith, length-append)
 
 pub apart : (name : List ℕ) (n : ℕ) (own : List ℕ) → own ≡ numbered name n → bytes_eq name own ≡ false
-apart name n own is =
-    let long : length name < length (numbered name n) = long_at name n (split_name name) (split_parts name) in
-    let same : length own ≡ length (numbered name n) = ap length is in
-    other_name name own (omega (arith, long, same))
+apart name n own is = grind (arith, long_at, split_parts, other_name)
 
 module _ {S E : Type 0} (text : S → List ℕ) (name : List ℕ) (n : ℕ) (front : List ℕ) where
   pub numbered_whole : (r : Result S E) → split_name name ≡ None → front ≡ codes "." → IfOk r (λ own. text own ≡ front ++ name ++ codes ".rvgprof-" ++ decimal n) → IfOk r (λ own. text own ≡ numbered name n)
-  numbered_whole (Ok own) split is whole =
-      whole ∙ ap (λ (l : List ℕ). l ++ name ++ codes ".rvgprof-" ++ decimal n) is ∙ ap (λ (r : Option (List ℕ × List ℕ)). numbered_at name r n) (sym split)
+  numbered_whole (Ok own) split is whole = grind arith
   numbered_whole (Err e) split is whole = tt
 
   pub numbered_last : (r : Result S E) (folder last : List ℕ) → split_name name ≡ Some (folder, last) → front ≡ folder ++ codes "/." → IfOk r (λ own. text own ≡ front ++ last ++ codes ".rvgprof-" ++ decimal n) → IfOk r (λ own. text own ≡ numbered name n)
-  numbered_last (Ok own) folder last split is whole =
-      whole ∙ ap (λ (l : List ℕ). l ++ last ++ codes ".rvgprof-" ++ decimal n) is ∙ ap (λ (r : Option (List ℕ × List ℕ)). numbered_at name r n) (sym split)
+  numbered_last (Ok own) folder last split is whole = grind arith
   numbered_last (Err e) folder last split is whole = tt

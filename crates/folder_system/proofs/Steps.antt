@@ -102,10 +102,7 @@ module _ (own name bytes : List ℕ) (apart : bytes_eq name own ≡ false) where
 
   settled_left : (w : Entries) → (entries_after (moving own name bytes None None) w name).left ≡ Whole bytes ∷ []
   unfolding first second renamed
-  settled_left w =
-      let w2 = second own name bytes apart None w in
-      ap (λ (e : Entry). e.left) (if_so (bytes_eq (folder_of name) (folder_of name)) (record { now = (w2 name).now; stored = (w2 name).stored; left = (w2 name).stored ∷ [] }) (w2 name) (same_name (folder_of name)))
-      ∙ ap (λ (e : Entry). e.stored ∷ []) (second_name own name bytes apart None w)
+  settled_left w = search (if_so, same_name)
 
   pub moved_durable : (w : Entries) → (entries_after (moving own name bytes None None) w name).left ≡ Whole bytes ∷ []
   moved_durable w = settled_left w
@@ -144,9 +141,7 @@ pub refusing_spares : (own name bytes : List ℕ) (synced : Answer) (kind : Erro
 refusing_spares own name bytes synced kind apart = (apart, (refl, tt))
 
 pub copying_whole : (name bytes : List ℕ) (stored : Answer) (w : Entries) → is_stored stored ≡ true → (entries_after (copying name bytes stored) w name).now ≡ Whole bytes
-copying_whole name bytes stored w is =
-    let opened : Entries = entries_after_event (Opened name None) w in
-    ap (λ (e : Entry). e.now) (if_so (bytes_eq name name) (written bytes stored (opened name)) (opened name) (same_name name)) ∙ written_now bytes stored (opened name) is
+copying_whole name bytes stored w is = search (if_so, same_name, written_now)
 
 pub halted_spares : (own name bytes : List ℕ) (es : List Event) (removed : Answer) → bytes_eq name own ≡ false → IsHalted own name bytes [] es → Spares name (es ++ Removed own removed ∷ [])
 halted_spares own name bytes es removed apart (inl u) =

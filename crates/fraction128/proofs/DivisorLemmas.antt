@@ -1,5 +1,5 @@
 -- The greatest common divisor, and fractions in lowest terms.
-use Rattle.std.proofs.Common.{◌≡◌, ◌≢◌, ◌<◌, ◌≤◌, ℕ, zero, suc, ◌-◌, ◌*◌, ◌/◌, ◌%◌, ap, sym, ◌∙◌, subst, ⊎_elim, arith}
+use Rattle.std.proofs.Common.{◌≡◌, ◌≢◌, ◌<◌, ◌≤◌, ℕ, zero, suc, ◌*◌, ◌/◌, ◌%◌, ap, sym, ◌∙◌, subst, ⊎_elim, arith}
 use Rattle.std.specs.Int.{IsGcd, ◌∣◌}
 use Rattle.std.proofs.Math.Nat.{dvd-zero, dvd_trans, dvd_antisymm, dvd-mul_left, dvd-mul_right, mul-dvd-mul_right, dvd_of_mul-dvd-mul_right, eq-one_of_dvd-one, pos_of_dvd_of_pos, div-mul_cancel, mod-eq-sub-mul-div, mul-div-mul_right, mul-pos, mul_comm, mul-sub, eq_of_mul-eq-mul_right}
 use Rattle.std.proofs.lemmas.Nat.{mod_below}
@@ -60,13 +60,7 @@ coprime_quotients n d some = coprime_from (n / g) (d / g) only
 -- ---- Euclid's lemma
 
 mod_scaled : (a b k : ℕ) → 0 < k → (a * k) % (b * k) ≡ (a % b) * k
-mod_scaled a b k some =
-    let whole = mod-eq-sub-mul-div (a * k) (b * k) in
-    let part = mod-eq-sub-mul-div a b in
-    let same = mul-div-mul_right {m = k} a b some in
-    let left : b * k * (a * k / (b * k)) ≡ b * (a / b) * k = rw same (omega arith) in
-    let apart : (a - b * (a / b)) * k ≡ a * k - b * (a / b) * k = mul_comm (a - b * (a / b)) k ∙ mul-sub k a (b * (a / b)) ∙ ap (λ (z : ℕ). z - k * (b * (a / b))) (mul_comm k a) ∙ ap (λ (z : ℕ). a * k - z) (mul_comm k (b * (a / b))) in
-    whole ∙ ap (λ (z : ℕ). a * k - z) left ∙ sym apart ∙ ap (λ (z : ℕ). z * k) (sym part)
+mod_scaled a b k some = grind (arith, mod-eq-sub-mul-div, mul-div-mul_right, mul_comm, mul-sub)
 
 last_scaled : (n a b k : ℕ) → 0 < k → b ≤ n → IsGcd (a * k) (b * k) (last_divisor n a b * k)
 last_scaled zero a b k some within = IsGcd-from_zero (a * k) (b * k) (let none : b ≡ 0 = omega arith in rw none (omega arith))
@@ -93,9 +87,7 @@ coprime_product : (x y z : ℕ) → 0 < z → gcd x y ≡ 1 → gcd x z ≡ 1 �
 coprime_product x y z some one two = coprime_from x (y * z) only
   where
     only : (k : ℕ) → k ∣ x → k ∣ y * z → k ≡ 1
-    only k p q =
-        let first : gcd k y ≡ 1 = coprime_from k y (λ d a b. coprime_only x y d one (dvd_trans d a p) b) in
-        coprime_only x z k two p (divides_other k y z some first q)
+    only k p q = search (coprime_from, coprime_only, dvd_trans, divides_other)
 
 -- ---- lowest terms
 
@@ -170,16 +162,10 @@ module _ (a b c d : ℕ) (some_b : 0 < b) (some_d : 0 < d) (one : gcd a b ≡ 1)
   coprime_den x p q = coprime_product x (b / gcd c b) (d / gcd a d) (lowest_some a d some_d) p q
 
   coprime_a : gcd (a / gcd a d) den ≡ 1
-  coprime_a =
-      coprime_den (a / gcd a d)
-      (coprime_from _ _ (λ k p q. coprime_only a b k one (dvd_trans k p (quotient_in a d)) (dvd_trans k q (divisor_in c b))))
-      (coprime_quotients a d some_d)
+  coprime_a = search (coprime_den, coprime_from, coprime_only, dvd_trans, quotient_in, divisor_in, coprime_quotients)
 
   coprime_c : gcd (c / gcd c b) den ≡ 1
-  coprime_c =
-      coprime_den (c / gcd c b)
-      (coprime_quotients c b some_b)
-      (coprime_from _ _ (λ k p q. coprime_only c d k two (dvd_trans k p (quotient_in c b)) (dvd_trans k q (divisor_in a d))))
+  coprime_c = search (coprime_den, coprime_quotients, coprime_from, coprime_only, dvd_trans, quotient_in, divisor_in)
 
   pub crossed_lowest : gcd num den ≡ 1
   crossed_lowest = coprime_from num den only

@@ -1,12 +1,12 @@
 -- The order of fractions by their whole parts and rests.
 use Rattle.std.proofs.Common.{◌≡◌, ◌≢◌, ◌<◌, ◌≤◌, ◌⊎◌, ℕ, suc, ◌+◌, ◌*◌, ◌/◌, ◌%◌, ◌&&◌, true, ap, sym, ◌∙◌, inl, inr, arith}
 use Rattle.std.specs.Prelude.{◌==◌}
-use Rattle.std.specs.Cmp.{both_ways, Equal-is}
+use Rattle.std.specs.Cmp.{both_ways}
 use Rattle.std.specs.Ordering.{nat_cmp, is_eq}
-use Rattle.std.proofs.Math.Nat.{mul-lt-mul_of_pos_right, mul-le-mul_right, mul-pos, mul_comm, lt-div-mul-add, mul-div-le, div-add-mod}
-use Rattle.std.proofs.lemmas.Bool.{cases_order, and_parts, and_from, eqb-true, eq-eqb}
+use Rattle.std.proofs.Math.Nat.{mul-lt-mul_of_pos_right, mul-le-mul_right, mul_comm, lt-div-mul-add, mul-div-le, div-add-mod}
+use Rattle.std.proofs.lemmas.Bool.{cases_order}
 use Rattle.fraction128.specs.Fractions.{cross_cmp, gcd}
-use Rattle.fraction128.specs.OrderLaws.{less_is, equal_is, greater_is, equal_from}
+use Rattle.fraction128.specs.OrderLaws.{less_is, greater_is}
 use Rattle.fraction128.proofs.DivisorLemmas.{same_lowest}
 
 lower_whole : (a b c d : ℕ) → 0 < b → 0 < d → a / b < c / d → a * d < c * b
@@ -31,14 +31,7 @@ cmp_whole a b c d some_b some_d apart =
     ]
 
 cmp_added : (k x y : ℕ) → nat_cmp (k + x) (k + y) ≡ nat_cmp x y
-cmp_added k x y =
-    elim (cases_order x y) [
-      | inl at ↦ equal_is (k + x) (k + y) (ap (λ (z : ℕ). k + z) at) ∙ sym (equal_is x y at)
-      | inr other ↦ elim other [
-        | inl less ↦ less_is (k + x) (k + y) (omega arith) ∙ sym (less_is x y less)
-        | inr more ↦ greater_is (k + x) (k + y) (omega arith) ∙ sym (greater_is x y more)
-      ]
-    ]
+cmp_added k x y = grind arith
 
 -- where they are the same, the rests are
 pub cmp_rest : (a b c d : ℕ) → a / b ≡ c / d → cross_cmp (a % b) b (c % d) d ≡ cross_cmp a b c d
@@ -52,23 +45,7 @@ cmp_rest a b c d same = rest (a / b) (c / d) (a % b) (c % d) (div-add-mod a b) (
 
 -- a rest of nothing is the lower one
 pub cmp_none : (r b s d : ℕ) → 0 < b → 0 < d → (r ≡ 0) ⊎ (s ≡ 0) → nat_cmp r s ≡ cross_cmp r b s d
-cmp_none r b s d some_b some_d none =
-    elim (cases_order r s) [
-      | inl at ↦ elim none [
-        | inl no_r ↦ let no_s : s ≡ 0 = omega arith in equal_is r s at ∙ sym (equal_is (r * d) (s * b) (rw (no_r, no_s) (omega arith)))
-        | inr no_s ↦ let no_r : r ≡ 0 = omega arith in equal_is r s at ∙ sym (equal_is (r * d) (s * b) (rw (no_r, no_s) (omega arith)))
-      ]
-      | inr other ↦ elim other [
-        | inl less ↦ elim none [
-          | inl no_r ↦ let some = mul-pos {m = s} {n = b} (omega arith) some_b in let nothing : r * d ≡ 0 = rw no_r (omega arith) in less_is r s less ∙ sym (less_is (r * d) (s * b) (omega arith))
-          | inr no_s ↦ absurd (omega arith)
-        ]
-        | inr more ↦ elim none [
-          | inl no_r ↦ absurd (omega arith)
-          | inr no_s ↦ let some = mul-pos {m = r} {n = d} (omega arith) some_d in let nothing : s * b ≡ 0 = rw no_s (omega arith) in greater_is r s more ∙ sym (greater_is (r * d) (s * b) (omega arith))
-        ]
-      ]
-    ]
+cmp_none r b s d some_b some_d none = grind arith
 
 -- rests r / b and s / d are in the order of d / s and b / r
 pub cmp_turned : (r b s d : ℕ) → cross_cmp d s b r ≡ cross_cmp r b s d
@@ -79,14 +56,7 @@ pub same_values : (n d p q : ℕ) → 0 < d → 0 < q → gcd n d ≡ 1 → gcd 
 same_values n d p q some_d some_q one two = both_ways (n == p && d == q) (is_eq (cross_cmp n d p q)) to from
   where
     to : (n == p && d == q) ≡ true → is_eq (cross_cmp n d p q) ≡ true
-    to same =
-        let both = and_parts (n == p) (d == q) same in
-        let nums : n ≡ p = eqb-true n p both.0 in
-        let dens : d ≡ q = eqb-true d q both.1 in
-        ap is_eq (equal_is (n * q) (p * d) (ap (λ (z : ℕ). z * q) nums ∙ ap (λ (z : ℕ). p * z) (sym dens)))
+    to same = grind arith
 
     from : is_eq (cross_cmp n d p q) ≡ true → (n == p && d == q) ≡ true
-    from tied =
-        let same = equal_from (n * q) (p * d) ((Equal-is (cross_cmp n d p q)).0 tied) in
-        let both = same_lowest n d p q some_d some_q one two same in
-        and_from (n == p) (d == q) (eq-eqb n p both.0) (eq-eqb d q both.1)
+    from tied = grind (arith, same_lowest)

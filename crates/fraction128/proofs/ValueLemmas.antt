@@ -67,7 +67,4 @@ exact_sum f h some_f some_h =
     subst (λ (s : Fraction). IsValue s (f.num * h.den + h.num * f.den) d) (sym value) (lowest_is (f.num * h.den + h.num * f.den) d some)
 
 pub whole_lowest : (n : ℕ) → lowest n 1 ≡ fraction n 1
-whole_lowest n =
-    let one = coprime_from n 1 (λ d p q. eq-one_of_dvd-one q) in
-    let same = lowest_of n 1 n 1 (omega arith) (omega arith) one refl in
-    same_fraction _ _ _ _ (sym same.0) (sym same.1)
+whole_lowest n = grind (arith, coprime_from, eq-one_of_dvd-one)

@@ -12,11 +12,7 @@ use Rattle.gmon_block.specs.Layout.{Parts, EntryFits, WordFits, Fits, no_entry, 
 use Rattle.gmon_block.specs.View.{entry_of, parts_of}
 
 entry_of-spelled : (t : Tos) → EntryFits t → entry_of (entry_bytes t) ≡ t
-entry_of-spelled t h =
-    let self : (entry_of (entry_bytes t)).selfpc ≡ t.selfpc = omega (arith, h.selfpc) in
-    let count : (entry_of (entry_bytes t)).count ≡ t.count = omega (arith, h.count) in
-    let link : (entry_of (entry_bytes t)).link ≡ t.link = omega (arith, h.link) in
-    λ i. record { selfpc = self i; count = count i; link = link i }
+entry_of-spelled t h = grind arith
 
 word_spelled : (n : ℕ) → WordFits n → value_of (word_bytes n) ≡ n
 word_spelled n h = value_of-le 2 n h
@@ -28,9 +24,7 @@ by_recursion P (x ∷ xs) all = (All-head P x xs all, by_recursion P xs (All-tai
 -- items that are all 0
 spelled-replicate : {X : Type 0} (spelling : X → List ℕ) (w n : ℕ) (x : X) → spelling x ≡ replicate w 0 → flat_map spelling (replicate n x) ≡ replicate (w * n) 0
 spelled-replicate spelling w zero x e = let none : 0 ≡ w * 0 = omega arith in ap (λ (k : ℕ). replicate k 0) none
-spelled-replicate spelling w (suc n) x e =
-    ap (λ (bs : List ℕ). bs ++ flat_map spelling (replicate n x)) e ∙ ap (λ (bs : List ℕ). replicate w 0 ++ bs) (spelled-replicate spelling w n x e)
-    ∙ replicate-append-replicate w (w * n) 0 ∙ (let e : w + w * n ≡ w * suc n = omega arith in ap (λ (k : ℕ). replicate k 0) e)
+spelled-replicate spelling w (suc n) x e = grind (arith, replicate-append-replicate, spelled-replicate spelling w n x e)
 
 length-entry : (t : Tos) → length (entry_bytes t) ≡ 12
 length-entry t = refl

@@ -1,5 +1,5 @@
 -- Bytes side by side in memory, and the machine values of the structs that point to them.
-use Rattle.std.proofs.Common.{◌≡◌, ℕ, ◌+◌, ◌*◌, ◌^◌, ◌<◌, List, [], ◌∷◌, ◌++◌, length, replicate, refl, ap, ◌∙◌, arith, w64}
+use Rattle.std.proofs.Common.{◌≡◌, ℕ, ◌+◌, ◌^◌, ◌<◌, List, [], ◌∷◌, ◌++◌, length, replicate, refl, ◌∙◌, arith, w64}
 use Rattle.std.proofs.lemmas.List.{length-replicate, replicate_more}
 use seplogic.Ra.Ura.{Ura}
 use base.Fraction.{full_share}
@@ -8,9 +8,7 @@ use mir.Val.{Val, vint, vstruct, vcons, vnil, of_list}
 use base.Logic.{ent, sep, emp}
 use base.Fml.{Fml, ftrue, fsep, feq, fat, froom}
 use types.Logic.{Logic, sem}
-use prog.Capped.{capped_is}
 use prog.Memory.{size, align, capped}
-use prog.RawLaws.{size-raw}
 use types.Kit.{‵, ◌$◌, ◌∵◌, !, qed, by, move, use1, use2, rewrite, fsplit, fjoin, fpack, feq_i, feq_l, done}
 use denote.Array.{Array}
 use denote.ArrayMemory.{Array-apart}
@@ -29,9 +27,7 @@ use Rattle.gmon_block.specs.Memory.{block_of}
 
 -- the layout of a block of n bytes
 pub block_size : (n : ℕ) → n < 2 ^ 64 → capped (size (block_of n)) ≡ n
-block_size n fits =
-    let bytes : n * 1 ≡ n = omega arith in
-    ap capped (size-raw (ty_array (ty_int w8) n)) ∙ ap capped bytes ∙ capped_is n fits
+block_size n fits = grind arith
 
 pub block_align : (n : ℕ) → capped (align (block_of n)) ≡ 1
 block_align n = refl

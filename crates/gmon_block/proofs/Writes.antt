@@ -8,16 +8,12 @@ use Rattle.gp_base.proofs.Cutting.{get_cut}
 use Rattle.gmon_block.specs.declared.entry.Tos.{Tos}
 use Rattle.gmon_block.specs.declared.block.Block.TheInside.{Inside}
 use Rattle.gmon_block.specs.Layout.{Parts, EntryFits, WordFits, Fits, no_entry, entry_bytes, word_bytes, layout_of}
-use Rattle.gmon_block.specs.View.{entry_of, parts_of}
+use Rattle.gmon_block.specs.View.{entry_of}
 use Rattle.gmon_block.specs.Held.{view_of, IsHeld}
 use Rattle.gmon_block.proofs.Blocks.{Counts, length-layout_of, parts_of-layout_of, set_entry, set_counter, set_slot, layout_of-none}
 
 pub counts : (a : Inside) → Counts (view_of a) a.tos a.counters a.froms
-counts a = record {
-  tos = length-cut 12 entry_of a.tos a.raw;
-  counters = length-cut 2 value_of a.counters (drop (12 * a.tos) a.raw);
-  froms = length-cut 2 value_of a.froms (drop (12 * a.tos + 2 * a.counters) a.raw);
-}
+counts a = search length-cut
 
 -- what a value says of its fields' counts
 pub counted : (a : Inside) (p : Parts) → view_of a ≡ p → Counts p a.tos a.counters a.froms
@@ -31,19 +27,7 @@ pub record Holds (a : Inside) (p : Parts) : Type 0 where
 -- they do where the bytes are the layout of p
 pub holds : (a : Inside) (p : Parts) → a.tos ≤ 65534 → a.counters ≤ 4194312 → a.froms ≤ 4194312
     → layout_of p ≡ a.raw → Counts p a.tos a.counters a.froms → Fits p → Holds a p
-holds a p et ec ef e n fits =
-    let back : parts_of a.tos a.counters a.froms a.raw ≡ p = ap (parts_of a.tos a.counters a.froms) (sym e) ∙ parts_of-layout_of p a.tos a.counters a.froms n fits in
-    record {
-      shows = back;
-      held = record {
-        laid = ap layout_of back ∙ e;
-        size = ap length (sym e) ∙ length-layout_of p a.tos a.counters a.froms n;
-        fits = subst Fits (sym back) fits;
-        entries = et;
-        words = ec;
-        slots = ef;
-      };
-    }
+holds a p et ec ef e n fits = grind (arith, parts_of-layout_of, length-layout_of)
 
 module _ (a : Inside) (h : IsHeld a) where
   abbrev was : Parts
@@ -93,14 +77,10 @@ length_part bs at n h = omega (arith, length-take n (drop at bs), length-drop at
 
 -- the items, by the places of their bytes
 pub get_entry : (a : Inside) (i at : ℕ) → i < a.tos → 12 * i ≡ at → slice_get (view_of a).tos i ≡ Some (entry_of (take 12 (drop at a.raw)))
-get_entry a i at inside place =
-    let there : i * 12 ≡ at = omega arith in
-    get_cut 12 entry_of a.tos i a.raw inside ∙ ap (λ (k : ℕ). Some (entry_of (take 12 (drop k a.raw)))) there
+get_entry a i at inside place = grind (arith, get_cut)
 
 get_word : (bs : List ℕ) (n i from at : ℕ) → i < n → from + 2 * i ≡ at → slice_get (items_of_text 2 value_of n (drop from bs)) i ≡ Some (value_of (take 2 (drop at bs)))
-get_word bs n i from at inside place =
-    let there : drop (i * 2) (drop from bs) ≡ drop at bs = drop-drop (i * 2) from bs ∙ ap (λ (k : ℕ). drop k bs) (omega arith) in
-    get_cut 2 value_of n i (drop from bs) inside ∙ ap (λ (v : List ℕ). Some (value_of (take 2 v))) there
+get_word bs n i from at inside place = grind (arith, drop-drop, get_cut)
 
 pub get_counter : (a : Inside) (i at : ℕ) → i < a.counters → 12 * a.tos + 2 * i ≡ at → slice_get (view_of a).counters i ≡ Some (value_of (take 2 (drop at a.raw)))
 get_counter a i at inside place = get_word a.raw a.counters i (12 * a.tos) at inside place

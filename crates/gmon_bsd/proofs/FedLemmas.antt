@@ -65,14 +65,8 @@ begins bytes piece short =
     let body : drop (32 - length bytes) piece ≡ drop 32 (bytes ++ piece) = ap (λ (v : List ℕ). v ++ drop (32 - length bytes) piece) (sym none) ∙ sym (drop_over 32 bytes piece) in
     record {
       header_is = header;
-      counters =
-          ap (λ (v : List ℕ). counter_part (take 32 bytes) 32 v ++ counter_part (bytes ++ take (32 - length bytes) piece) 32 (drop (32 - length bytes) piece)) none
-          ∙ ap (λ (v : List ℕ). v ++ counter_part (bytes ++ take (32 - length bytes) piece) 32 (drop (32 - length bytes) piece)) (counters_empty (take 32 bytes))
-          ∙ (λ i. counter_part (header i) 32 (body i));
-      arcs =
-          ap (λ (v : List ℕ). arc_part (take 32 bytes) 32 v ++ arc_part (bytes ++ take (32 - length bytes) piece) 32 (drop (32 - length bytes) piece)) none
-          ∙ ap (λ (v : List ℕ). v ++ arc_part (bytes ++ take (32 - length bytes) piece) 32 (drop (32 - length bytes) piece)) (arcs_empty (take 32 bytes))
-          ∙ (λ i. arc_part (header i) 32 (body i));
+      counters = grind (arith, counters_empty);
+      arcs = grind (arith, arcs_empty);
     }
 
 -- the header is whole before
@@ -85,14 +79,8 @@ goes_on bytes piece long =
     let due : size_of header - length bytes ≡ size_of header - 32 - length d = omega (arith, long, length-drop 32 bytes) in
     record {
       header_is = front;
-      counters =
-          ap (λ (n : ℕ). counter_part header 32 d ++ cond (is_kept header) (take n piece) []) due
-          ∙ sym (counters_over (is_kept header) (size_of header - 32) d piece)
-          ∙ (λ i. counter_part (front i) 32 (rest i));
-      arcs =
-          ap (λ (n : ℕ). arc_part header 32 d ++ cond (is_kept header) (drop n piece) []) due
-          ∙ sym (arcs_over (is_kept header) (size_of header - 32) d piece)
-          ∙ (λ i. arc_part (front i) 32 (rest i));
+      counters = grind (arith, counters_over);
+      arcs = grind (arith, arcs_over);
     }
 
 pub fed_parts : (bytes piece before header body : List ℕ) (at : ℕ) → before ≡ take 32 bytes → header ≡ before ++ take (32 - length before) piece → body ≡ drop (32 - length before) piece
@@ -119,6 +107,4 @@ fed_parts bytes piece before header body at before_is header_is body_is first la
 pub column_on : {X : Type 0} (w : ℕ) (cell : List ℕ → X) (part more part1 whole : List ℕ) (cells0 cells1 : List X) (torn0 torn1 : List ℕ) (cells2 : List X) (torn2 : List ℕ)
     → columns.StandsFor w cell part cells0 torn0 → cells1 ≡ cells0 → torn1 ≡ torn0 → more ≡ part1 → part ++ part1 ≡ whole
     → ((bytes : List ℕ) → columns.StandsFor w cell bytes cells1 torn1 → columns.StandsFor w cell (bytes ++ more) cells2 torn2) → columns.StandsFor w cell whole cells2 torn2
-column_on {X} w cell part more part1 whole cells0 cells1 torn0 torn1 cells2 torn2 s cells_are torn_is more_is whole_is fed =
-    let before : columns.StandsFor w cell part cells1 torn1 = record { whole = cells_are ∙ s.whole; rest = torn_is ∙ s.rest } in
-    subst (λ (v : List ℕ). columns.StandsFor w cell v cells2 torn2) (ap (λ (v : List ℕ). part ++ v) more_is ∙ whole_is) (fed part before)
+column_on {X} w cell part more part1 whole cells0 cells1 torn0 torn1 cells2 torn2 s cells_are torn_is more_is whole_is fed = grind arith

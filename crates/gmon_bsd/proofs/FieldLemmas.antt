@@ -1,5 +1,5 @@
 -- A text of the form has one meaning.
-use Rattle.std.proofs.Common.{◌≡◌, ℕ, ◌+◌, ◌-◌, ◌*◌, ◌≤◌, List, ◌++◌, length, take, drop, length-take, length-drop, None, refl, sym, ap, ◌∙◌, arith}
+use Rattle.std.proofs.Common.{◌≡◌, ℕ, ◌+◌, ◌*◌, ◌≤◌, List, ◌++◌, length, take, drop, length-take, length-drop, None, refl, sym, ap, ◌∙◌, arith}
 use Rattle.std.specs.List.{flat_map}
 use Rattle.std.proofs.lemmas.List.{take-append-drop, drop-drop, take_all}
 use Rattle.gp_base.specs.Bytes.{value_of, le, IsBytes}
@@ -19,7 +19,6 @@ bodies bs bytes a =
     let m = whole_arcs bs in
     let size = size_of bs in
     let even : 32 + n * 2 ≡ size = omega (arith, a.size_least, a.size_even) in
-    let whole : m * 12 ≡ length bs - size = omega (arith, a.arcs) in
     let fits : n * 2 ≤ length (drop 32 bs) = omega (arith, a.counters, length-drop 32 bs) in
     let counters = flat_map-cut 2 value_of counter_bytes counter_spelled n (drop 32 bs) fits (IsBytes-drop 32 bs bytes) in
     let arcs = flat_map-cut 12 arc_of arc_bytes arc_spelled m (drop size bs) (omega (arith, length-drop size bs)) (IsBytes-drop size bs bytes) in
@@ -34,14 +33,11 @@ spells_text bs bytes a =
     let n = counter_count bs in
     let body = flat_map counter_bytes (file_counters bs) ++ flat_map arc_bytes (file_arcs bs) in
     let spare = take 12 (drop 20 bs) in
-    let header = a.header in
     let even : 32 + length (file_counters bs) * 2 ≡ size_of bs = omega (arith, a.size_least, a.size_even, length-cut 2 value_of n (drop 32 bs)) in
     let t20 : spare ++ body ≡ drop 20 bs = ap (λ (v : List ℕ). spare ++ v) (bodies bs bytes a ∙ sym (drop-drop 12 20 bs)) ∙ take-append-drop 12 (drop 20 bs) in
     let t16 : le (rate_of bs) 4 ++ (spare ++ body) ≡ drop 16 bs = ap (λ (v : List ℕ). le (rate_of bs) 4 ++ v) t20 ∙ field_then 4 16 bs bytes (omega arith) in
-    let t12 : le bsd_version 4 ++ (le (rate_of bs) 4 ++ (spare ++ body)) ≡ drop 12 bs =
-    ap (λ (k : ℕ). le k 4 ++ (le (rate_of bs) 4 ++ (spare ++ body))) (sym a.version_is) ∙ ap (λ (v : List ℕ). le (version_of bs) 4 ++ v) t16 ∙ field_then 4 12 bs bytes (omega arith) in
-    let t8 : le (32 + length (file_counters bs) * 2) 4 ++ (le bsd_version 4 ++ (le (rate_of bs) 4 ++ (spare ++ body))) ≡ drop 8 bs =
-    ap (λ (k : ℕ). le k 4 ++ (le bsd_version 4 ++ (le (rate_of bs) 4 ++ (spare ++ body)))) even ∙ ap (λ (v : List ℕ). le (size_of bs) 4 ++ v) t12 ∙ field_then 4 8 bs bytes (omega arith) in
+    let t12 : le bsd_version 4 ++ (le (rate_of bs) 4 ++ (spare ++ body)) ≡ drop 12 bs = ap (λ (k : ℕ). le k 4 ++ (le (rate_of bs) 4 ++ (spare ++ body))) (sym a.version_is) ∙ ap (λ (v : List ℕ). le (version_of bs) 4 ++ v) t16 ∙ field_then 4 12 bs bytes (omega arith) in
+    let t8 : le (32 + length (file_counters bs) * 2) 4 ++ (le bsd_version 4 ++ (le (rate_of bs) 4 ++ (spare ++ body))) ≡ drop 8 bs = ap (λ (k : ℕ). le k 4 ++ (le bsd_version 4 ++ (le (rate_of bs) 4 ++ (spare ++ body)))) even ∙ ap (λ (v : List ℕ). le (size_of bs) 4 ++ v) t12 ∙ field_then 4 8 bs bytes (omega arith) in
     let t4 = ap (λ (v : List ℕ). le (high_of bs) 4 ++ v) t8 ∙ field_then 4 4 bs bytes (omega arith) in
     sym (ap (λ (v : List ℕ). le (low_of bs) 4 ++ v) t4 ∙ field_then 4 0 bs bytes (omega arith))
 
@@ -50,7 +46,6 @@ spelled_of bs bytes e =
     let a = accepted_of bs e in
     let n = counter_count bs in
     let m = whole_arcs bs in
-    let header = a.header in
     let count = length-cut 2 value_of n (drop 32 bs) in
     record {
       low = low_of bs;

@@ -8,17 +8,14 @@ use Rattle.gp_base.specs.declared.records.Records.{Records}
 use Rattle.gp_base.specs.declared.records.Unit as units
 use Rattle.gmon_data.specs.declared.hist.Hist.{Hist}
 use Rattle.gmon_data.specs.Hists.{has_counters, kept_unit, put_hist}
-use Rattle.gmon_data.specs.Content.{Content, WideRec, WideHist, IsWithin, content_of, empty_content, same_ends, wide_arc, wide_records, with_arc, with_hist, with_records}
-use Rattle.gmon_data.proofs.BoundLemmas.{counters_at_most, tally_at_most}
-use Rattle.gmon_data.proofs.HistLemmas.{samples-put}
+use Rattle.gmon_data.specs.Content.{Content, IsWithin, content_of, empty_content, wide_arc, wide_records, with_arc, with_hist, with_records}
+use Rattle.gmon_data.proofs.BoundLemmas.{tally_at_most}
 use Rattle.gmon_data.proofs.RecordLemmas.{arcs_widened}
 use Rattle.gmon_data.proofs.TallyLemmas.{sum-tally}
-use Rattle.mcount_arcs.specs.Arcs.{CallFits, arcs_of}
+use Rattle.mcount_arcs.specs.Arcs.{CallFits}
 use Rattle.mcount_arcs.specs.Log.{LogEntry}
-use Rattle.mcount_arcs.specs.Samples.{buckets_of}
 use Rattle.mcount_arcs.specs.Sizes.{AreSizes}
 use Rattle.mcount_arcs.specs.Value.{GmonValue, StandsFor}
-use Rattle.gp_base.specs.Fields.{seconds}
 use Rattle.gmon_cells.specs.RunRecords.{log_recs}
 use Rattle.gmon_bsd.specs.Profile.{IsOfRun, run_profile, runtime_records}
 use Rattle.gmon_bsd.proofs.RunReadBack.{run_read_back}
@@ -34,26 +31,12 @@ pub one_hist : (h : Hist) (u : units.Unit) → All (λ n. n < 2 ^ 16) h.counters
 one_hist h u small few = by (has_counters h)
   where
     by : (b : Bool) → IsOfRun 0 (if b then record empty_content { hists = put_hist h []; «unit» = Some (unwrap_or empty_content.«unit» (kept_unit u)) } else empty_content)
-    by true = record {
-      samples = omega (arith, counters_sum h.counters small, few, samples-put h []);
-      counters = omega (arith, few, counters_at_most h []);
-      calls = omega arith;
-      pairs = omega arith;
-      runs = refl;
-      addresses = refl;
-    }
+    by true = grind (arith, counters_sum)
     by false = record { samples = omega arith; counters = omega arith; calls = omega arith; pairs = omega arith; runs = refl; addresses = refl }
 
 -- one arc more
 one_arc : (from to count : ℕ) (c : Content) (n : ℕ) → count < 2 ^ 32 → IsOfRun n c → IsOfRun (n + 1) (with_arc from to count c)
-one_arc from to count c n few of = record {
-  samples = of.samples;
-  counters = of.counters;
-  calls = omega (arith, of.calls, few, sum-tally same_ends (from, to) count c.arcs);
-  pairs = omega (arith, of.pairs, tally_at_most same_ends (from, to) count c.arcs);
-  runs = of.runs;
-  addresses = of.addresses;
-}
+one_arc from to count c n few of = grind (arith, sum-tally, tally_at_most)
 
 -- many arcs more
 pub many_arcs : (arcs : List RawArc) (c : Content) (n : ℕ) → All CallFits arcs → IsOfRun n c → IsOfRun (n + length arcs) (with_records (map wide_arc arcs) c)
@@ -64,24 +47,12 @@ many_arcs (arc ∷ arcs) c n fit of =
 
 -- the arcs of a run are few
 pub within_bounds : (n : ℕ) (c : Content) → n ≤ 65535 → IsOfRun n c → IsWithin c
-within_bounds n c few of = record {
-  samples = omega (arith, of.samples);
-  counters = omega (arith, of.counters);
-  calls = omega (arith, of.calls, few);
-  runs = omega (arith, of.runs);
-  pairs = omega (arith, of.pairs, few);
-  addresses = omega (arith, of.addresses);
-}
+within_bounds n c few of = grind arith
 
 -- it is the profile of what was logged ..
 pub of_what_is_logged : (v : GmonValue) (log : List LogEntry) (rate : ℕ) → StandsFor log v
     → content_of (runtime_records v rate) ≡ content_of (wide_records (log_recs v.sizes log rate))
-of_what_is_logged v log rate stands =
-    let z = v.sizes in
-    let hist : List ℕ → WideRec = λ counters. WideHist (record { low = z.low; high = z.high; counters = counters }) (seconds rate) in
-    ap (λ (counters : List ℕ). content_of (hist counters ∷ map wide_arc v.arcs)) stands.counters
-    ∙ ap (λ (arcs : List RawArc). content_of (hist (buckets_of z log) ∷ map wide_arc arcs)) stands.arcs
-    ∙ ap (λ (rs : List WideRec). content_of (hist (buckets_of z log) ∷ rs)) (sym (arcs_widened (arcs_of z log)))
+of_what_is_logged v log rate stands = grind (arith, arcs_widened)
 
 -- .. which the run's file gives
 pub of_its_file : (v : GmonValue) (log : List LogEntry) (rate : ℕ) → AreSizes v.sizes → rate < 2 ^ 32 → All CallFits v.arcs → StandsFor log v

@@ -1,7 +1,7 @@
 -- A text is cut into cells one by one, and however it is divided.
-use Rattle.std.proofs.Common.{◌≡◌, ℕ, zero, suc, ◌+◌, ◌-◌, ◌*◌, ◌/◌, ◌%◌, ◌<◌, ◌≤◌, List, [], ◌∷◌, ◌++◌, length, take, drop, length-take, length-drop, length-append, refl, sym, ap, ◌∙◌, append_assoc, arith}
+use Rattle.std.proofs.Common.{◌≡◌, ℕ, zero, suc, ◌+◌, ◌-◌, ◌*◌, ◌/◌, ◌<◌, ◌≤◌, List, [], ◌∷◌, ◌++◌, length, take, drop, length-take, length-drop, length-append, refl, sym, ap, ◌∙◌, append_assoc, arith}
 use Rattle.std.proofs.Math.Nat.{div-mul-le_self}
-use Rattle.std.proofs.lemmas.Nat.{div-add-mod', div-mul-add, le-div, mod_below}
+use Rattle.std.proofs.lemmas.Nat.{div-add-mod', div-mul-add, le-div}
 use Rattle.std.proofs.lemmas.List.{take_at, drop_at, take_all, take-append-drop, drop-drop}
 use Rattle.gp_base.specs.Bytes.{items_of_text, IsBytes}
 use Rattle.gp_base.proofs.LittleEndian.{IsBytes-rest}
@@ -13,11 +13,7 @@ pub div_less : (n w : ℕ) → n < w → n / w ≡ 0
 div_less n w less = let start : 0 * w + n ≡ n = omega arith in ap (λ (k : ℕ). k / w) (sym start) ∙ div-mul-add 0 w n less
 
 pub div_more : (n w : ℕ) → 0 < w → w ≤ n → n / w ≡ suc ((n - w) / w)
-div_more n w some more =
-    let q = (n - w) / w in
-    let r = (n - w) % w in
-    let split : suc q * w + r ≡ n = omega (arith, div-add-mod' (n - w) w, more) in
-    ap (λ (k : ℕ). k / w) (sym split) ∙ div-mul-add (suc q) w r (mod_below (n - w) w some)
+div_more n w some more = grind arith
 
 -- ---- a text that is shorter than a cell
 
@@ -25,23 +21,15 @@ pub cells_none : {X : Type 0} (w : ℕ) (cell : List ℕ → X) (bs : List ℕ) 
 cells_none w cell bs less = ap (λ (n : ℕ). items_of_text w cell n bs) (div_less (length bs) w less)
 
 pub torn_whole : (w : ℕ) (bs : List ℕ) → length bs < w → torn_of w bs ≡ bs
-torn_whole w bs less =
-    let none : length bs / w * w ≡ 0 = ap (λ (n : ℕ). n * w) (div_less (length bs) w less) ∙ omega arith in
-    ap (λ (n : ℕ). drop n bs) none
+torn_whole w bs less = grind (arith, div_less)
 
 -- ---- a cell in front of a text
 
 count_then : (w : ℕ) (first rest : List ℕ) → 0 < w → length first ≡ w → length (first ++ rest) / w ≡ suc (length rest / w)
-count_then w first rest some whole =
-    let long : length (first ++ rest) ≡ w + length rest = omega (arith, whole, length-append first rest) in
-    let left : w + length rest - w ≡ length rest = omega arith in
-    ap (λ (n : ℕ). n / w) long ∙ div_more (w + length rest) w some (omega arith) ∙ ap (λ (n : ℕ). suc (n / w)) left
+count_then w first rest some whole = grind (arith, length-append)
 
 pub cells_then : {X : Type 0} (w : ℕ) (cell : List ℕ → X) (first rest : List ℕ) → 0 < w → length first ≡ w → cells_of w cell (first ++ rest) ≡ cell first ∷ cells_of w cell rest
-cells_then {X} w cell first rest some whole =
-    ap (λ (n : ℕ). items_of_text w cell n (first ++ rest)) (count_then w first rest some whole)
-    ∙ ap (λ (v : List ℕ). cell v ∷ items_of_text w cell (length rest / w) (drop w (first ++ rest))) (take_at first rest w whole)
-    ∙ ap (λ (v : List ℕ). cell first ∷ items_of_text w cell (length rest / w) v) (drop_at first rest w whole)
+cells_then {X} w cell first rest some whole = search (count_then, take_at, drop_at)
 
 pub torn_then : (w : ℕ) (first rest : List ℕ) → 0 < w → length first ≡ w → torn_of w (first ++ rest) ≡ torn_of w rest
 torn_then w first rest some whole =
@@ -52,8 +40,7 @@ torn_then w first rest some whole =
 -- ---- what is left over is less than a cell
 
 pub torn_short : (w : ℕ) (bs : List ℕ) → 0 < w → length (torn_of w bs) < w
-torn_short w bs some =
-    omega (arith, length-drop (length bs / w * w) bs, div-add-mod' (length bs) w, mod_below (length bs) w some)
+torn_short w bs some = grind (arith, length-drop)
 
 -- ---- a text in two parts
 
@@ -67,19 +54,13 @@ long_of : (n w : ℕ) (bs : List ℕ) → length bs / w ≡ suc n → w ≤ leng
 long_of n w bs is = let d = div-add-mod' (length bs) w in let e : length bs / w * w ≡ suc n * w = ap (λ (k : ℕ). k * w) is in omega (arith, d, e)
 
 left_of : (n w : ℕ) (bs : List ℕ) → 0 < w → length bs / w ≡ suc n → length (drop w bs) / w ≡ n
-left_of n w bs some is =
-    let more = div_more (length bs) w some (long_of n w bs is) in
-    let len : length (drop w bs) ≡ length bs - w = length-drop w bs in
-    ap (λ (k : ℕ). k / w) len ∙ omega (arith, more, is)
+left_of n w bs some is = grind (arith, length-drop)
 
 none_of : (w : ℕ) (bs : List ℕ) → 0 < w → length bs / w ≡ 0 → length bs < w
-none_of w bs some is =
-    let d = div-add-mod' (length bs) w in let e : length bs / w * w ≡ 0 * w = ap (λ (k : ℕ). k * w) is in omega (arith, d, e, mod_below (length bs) w some)
+none_of w bs some is = grind arith
 
 cells_counted : {X : Type 0} (w : ℕ) (cell : List ℕ → X) (n : ℕ) (bs more : List ℕ) → 0 < w → length bs / w ≡ n → cells_of w cell (bs ++ more) ≡ cells_of w cell bs ++ cells_of w cell (torn_of w bs ++ more)
-cells_counted w cell zero bs more some is =
-    let less = none_of w bs some is in
-    rw (cells_none w cell bs less, torn_whole w bs less) refl
+cells_counted w cell zero bs more some is = search (none_of, cells_none, torn_whole)
 cells_counted {X} w cell (suc n) bs more some is =
     let first = first_of w bs (long_of n w bs is) in
     let rest = drop w bs in
@@ -124,25 +105,18 @@ take_torn w bs after all some long after_is so_far =
     ap (torn_of w) after_is ∙ sym (ap (torn_of w) (sym (take-append-drop w bs)) ∙ torn_then w (take w bs) (drop w bs) some (first_of w bs long)) ∙ so_far
 
 pub take_count : (w : ℕ) (bs after : List ℕ) → 0 < w → w ≤ length bs → after ≡ drop w bs → length bs / w ≡ suc (length after / w)
-take_count w bs after some long after_is =
-    let len : length after ≡ length bs - w = ap length after_is ∙ length-drop w bs in
-    div_more (length bs) w some long ∙ ap (λ (n : ℕ). suc (n / w)) (sym len)
+take_count w bs after some long after_is = grind (arith, length-drop)
 
 -- ---- a cell that isn't whole is completed from the next piece
 
 pub filled_whole : (w : ℕ) (t t1 p rest : List ℕ) → t1 ≡ t ++ take (w - length t) p → rest ≡ drop (w - length t) p → t1 ++ rest ≡ t ++ p
-filled_whole w t t1 p rest t1_is rest_is =
-    ap (λ (v : List ℕ). v ++ rest) t1_is ∙ ap (λ (v : List ℕ). (t ++ take (w - length t) p) ++ v) rest_is
-    ∙ append_assoc t (take (w - length t) p) (drop (w - length t) p) ∙ ap (λ (v : List ℕ). t ++ v) (take-append-drop (w - length t) p)
+filled_whole w t t1 p rest t1_is rest_is = grind (arith, append_assoc, take-append-drop)
 
 pub filled_long : (w : ℕ) (t t1 p : List ℕ) → length t ≤ w → t1 ≡ t ++ take (w - length t) p → w ≤ length t1 → length t1 ≡ w
-filled_long w t t1 p within t1_is long =
-    omega (arith, ap length t1_is, length-append t (take (w - length t) p), length-take (w - length t) p, within, long)
+filled_long w t t1 p within t1_is long = grind (arith, length-append, length-take)
 
 pub filled_short : (w : ℕ) (t t1 p : List ℕ) → t1 ≡ t ++ take (w - length t) p → length t1 < w → t1 ≡ t ++ p
-filled_short w t t1 p t1_is short =
-    let all : take (w - length t) p ≡ p = take_all (w - length t) p (omega (arith, ap length t1_is, length-append t (take (w - length t) p), length-take (w - length t) p, short)) in
-    t1_is ∙ ap (λ (v : List ℕ). t ++ v) all
+filled_short w t t1 p t1_is short = grind (arith, take_all, length-append, length-take)
 
 -- how far it is taken before the whole cells of the rest
 pub record Completed {X : Type 0} (w : ℕ) (cell : List ℕ → X) (before now : List X) (torn piece torn_now rest : List ℕ) : Type 0 where
@@ -152,11 +126,7 @@ pub record Completed {X : Type 0} (w : ℕ) (cell : List ℕ → X) (before now 
 
 pub completed_empty : {X : Type 0} (w : ℕ) (cell : List ℕ → X) (before now : List X) (torn piece torn_now rest : List ℕ) → length torn ≤ 0 → torn_now ≡ torn → now ≡ before → rest ≡ piece → Completed w cell before now torn piece torn_now rest
 completed_empty {X} w cell before now (t ∷ ts) piece torn_now rest empty torn_is now_is rest_is = absurd (let f : suc (length ts) ≤ 0 = empty in omega (arith, f))
-completed_empty {X} w cell before now [] piece torn_now rest empty torn_is now_is rest_is = record {
-  none = torn_is;
-  cells = ap (λ (v : List X). v ++ cells_of w cell rest) now_is ∙ ap (λ (v : List ℕ). before ++ cells_of w cell v) rest_is;
-  left = ap (torn_of w) rest_is;
-}
+completed_empty {X} w cell before now [] piece torn_now rest empty torn_is now_is rest_is = grind arith
 
 pub completed_cell : {X : Type 0} (w : ℕ) (cell : List ℕ → X) (before now : List X) (x : X) (torn piece torn1 torn_now rest : List ℕ) → 0 < w → length torn ≤ w
     → torn1 ≡ torn ++ take (w - length torn) piece → rest ≡ drop (w - length torn) piece → w ≤ length torn1 → x ≡ cell torn1 → now ≡ before ++ x ∷ [] → torn_now ≡ []
@@ -166,11 +136,7 @@ completed_cell {X} w cell before now x torn piece torn1 torn_now rest some withi
     let parts = filled_whole w torn torn1 piece rest torn1_is rest_is in
     record {
       none = none_is;
-      cells =
-          ap (λ (v : List X). v ++ cells_of w cell rest) now_is
-          ∙ append_assoc before (x ∷ []) (cells_of w cell rest)
-          ∙ ap (λ (v : X). before ++ v ∷ cells_of w cell rest) x_is
-          ∙ ap (λ (v : List X). before ++ v) (sym (cells_then w cell torn1 rest some whole) ∙ ap (cells_of w cell) parts);
+      cells = grind (arith, append_assoc, cells_then);
       left = sym (torn_then w torn1 rest some whole) ∙ ap (torn_of w) parts;
     }
 
@@ -178,12 +144,7 @@ completed_cell {X} w cell before now x torn piece torn1 torn_now rest some withi
 
 pub stands_more : {X : Type 0} (w : ℕ) (cell : List ℕ → X) (bytes piece : List ℕ) (cells cells1 : List X) (torn torn1 : List ℕ) → 0 < w
     → cells1 ≡ cells ++ cells_of w cell (torn ++ piece) → torn1 ≡ torn_of w (torn ++ piece) → StandsFor w cell bytes cells torn → StandsFor w cell (bytes ++ piece) cells1 torn1
-stands_more {X} w cell bytes piece cells cells1 torn torn1 some cells_are torn_is s = record {
-  whole =
-      cells_are ∙ ap (λ (v : List X). v ++ cells_of w cell (torn ++ piece)) s.whole ∙ ap (λ (v : List ℕ). cells_of w cell bytes ++ cells_of w cell (v ++ piece)) s.rest
-      ∙ sym (cells_more w cell bytes piece some);
-  rest = torn_is ∙ ap (λ (v : List ℕ). torn_of w (v ++ piece)) s.rest ∙ sym (torn_more w bytes piece some);
-}
+stands_more {X} w cell bytes piece cells cells1 torn torn1 some cells_are torn_is s = grind (arith, cells_more, torn_more)
 
 -- a text of bytes that goes on by bytes
 pub IsBytes-append : (bs more : List ℕ) → IsBytes bs → IsBytes more → IsBytes (bs ++ more)
@@ -197,8 +158,4 @@ torn_left : (w : ℕ) (bs : List ℕ) → length bs / w * w + length (torn_of w 
 torn_left w bs = omega (arith, length-drop (length bs / w * w) bs, div-mul-le_self (length bs) w)
 
 pub room_left : (w n : ℕ) (torn mine torn1 : List ℕ) → 0 < w → torn1 ≡ torn_of w (torn ++ mine) → (length torn + length mine) / w + (length torn1 + n) / w ≤ (length torn + (length mine + n)) / w
-room_left w n torn mine torn1 some is =
-    let came = length torn + length mine in
-    let long : length (torn ++ mine) ≡ came = length-append torn mine in
-    let split : came / w * w + length torn1 ≡ came = (λ i. sym long i / w * w + length (is i)) ∙ torn_left w (torn ++ mine) ∙ long in
-    le-div (came / w + (length torn1 + n) / w) (length torn + (length mine + n)) w some (omega (arith, div-mul-le_self (length torn1 + n) w, split))
+room_left w n torn mine torn1 some is = grind (arith, length-append, torn_left, le-div)

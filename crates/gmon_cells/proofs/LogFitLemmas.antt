@@ -32,6 +32,4 @@ unfolding arcs_of
 sites_fit z log sizes = slots_fit z (kept_calls z log) 0 z.slots (omega (arith, sizes.slots, sizes.end, sites_in_order z (0 + z.slots) z.slots (omega arith)))
 
 pub arcs_fit : (z : Sizes) (log : List LogEntry) → AreSizes z → All CallFits (arcs_of z log) → AllByRecursion ArcFits (arcs_of z log)
-arcs_fit z log sizes calls =
-    let sites = sites_fit z log sizes in
-    recursion_from_All ArcFits (arcs_of z log) (λ k d lt. let call = calls k d lt in record { from = sites k d lt; to = call.to; count = call.count })
+arcs_fit z log sizes calls = grind (arith, sites_fit, recursion_from_All)

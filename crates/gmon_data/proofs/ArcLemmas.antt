@@ -1,5 +1,5 @@
 -- Arcs by ascending call site, and a table that is made of them.
-use Rattle.std.proofs.Common.{◌≡◌, ℕ, zero, suc, ◌+◌, ◌≤◌, ◌<◌, Bool, true, false, ◌&&◌, nat_eq, List, [], ◌∷◌, ◌++◌, Some, drop, slice_get, refl, sym, ap, subst, ◌∙◌, append_assoc, if◌then◌else◌, get_or, length, arith}
+use Rattle.std.proofs.Common.{◌≡◌, ℕ, zero, suc, ◌≤◌, ◌<◌, Bool, false, ◌&&◌, nat_eq, List, [], ◌∷◌, ◌++◌, Some, drop, slice_get, refl, sym, ap, subst, ◌∙◌, append_assoc, get_or, length, arith}
 use Rattle.std.proofs.lemmas.Bool.Decides.{nat_tests}
 use Rattle.std.proofs.lemmas.List.{append-nil, map-append}
 use Rattle.std.specs.List.{AllByRecursion, IsDistinct}
@@ -21,8 +21,7 @@ module _ {K : Type 0} (same : K → K → Bool) (symm : (x y : K) → same x y �
   -- a new key goes last
   pub tally_new : (k : K) (n : ℕ) (es : List (K × ℕ)) → AllByRecursion (λ e. same k e.0 ≡ false) es → tally same k n es ≡ es ++ (k, n) ∷ []
   tally_new k n [] new = refl
-  tally_new k n (e ∷ es) new =
-      ap (λ (b : Bool). if b then (e.0, e.1 + n) ∷ es else e ∷ tally same k n es) new.0 ∙ ap (λ (l : List (K × ℕ)). e ∷ l) (tally_new k n es new.1)
+  tally_new k n (e ∷ es) new = search (tally_new k n es new.1)
 
   others : (d : K) (ds : List (K × ℕ)) (e : K × ℕ) (es : List (K × ℕ)) → AllByRecursion (λ y. same d y ≡ false) (keys_of (ds ++ e ∷ es)) → same d e.0 ≡ false
   others d [] e es all = all.0
@@ -36,10 +35,7 @@ module _ {K : Type 0} (same : K → K → Bool) (symm : (x y : K) → same x y �
 
   behind_done : (es done : List (K × ℕ)) → IsDistinct same (keys_of (done ++ es)) → tally_all same es done ≡ done ++ es
   behind_done [] done distinct = sym (append-nil done)
-  behind_done (e ∷ es) done distinct =
-      let one_more = append_assoc done (e ∷ []) es in
-      ap (tally_all same es) (tally_new e.0 e.1 done (new_behind done e es distinct))
-      ∙ behind_done es (done ++ e ∷ []) (subst (λ (l : List (K × ℕ)). IsDistinct same (keys_of l)) (sym one_more) distinct) ∙ one_more
+  behind_done (e ∷ es) done distinct = grind (arith, append_assoc, tally_new, new_behind, behind_done es (done ++ e ∷ []))
 
   -- entries of different keys, added one after the other
   pub all_new : (es : List (K × ℕ)) → IsDistinct same (keys_of es) → tally_all same es [] ≡ es
@@ -78,13 +74,10 @@ module _ (pair : ℕ × ℕ) where
   pub behind_lower : (es : List Entry) (i : ℕ) (e : Entry) → IsBySite es → slice_get es i ≡ Some e → e.0.0 < pair.0 → IsBehind pair (drop (suc i) es) → IsBehind pair es
   behind_lower [] i e by_site at below later = absurd cc
   behind_lower (x ∷ es) zero e by_site at below later = let is : x ≡ e = cc in (lower x (subst (λ (y : Entry). y.0.0 < pair.0) (sym is) below), later)
-  behind_lower (x ∷ es) (suc i) e by_site at below later =
-      let before : x.0.0 ≤ e.0.0 = at_all (λ y. x.0.0 ≤ y.0.0) es i e by_site.0 at in
-      (lower x (omega (arith, before, below)), behind_lower es i e by_site.1 at below later)
+  behind_lower (x ∷ es) (suc i) e by_site at below later = grind (arith, at_all, lower, behind_lower es i e by_site.1 at below later)
 
   both_false : (a b : Bool) → b ≡ false → (a && b) ≡ false
-  both_false true b is = is
-  both_false false b is = refl
+  both_false a b is = grind arith
 
   -- one more, of the same call site and another callee
   pub behind_another : (es : List Entry) (i : ℕ) (e : Entry) → slice_get es i ≡ Some e → e.0.0 ≡ pair.0 → nat_eq pair.1 e.0.1 ≡ false → IsBehind pair (drop (suc i) es) → IsBehind pair (drop i es)

@@ -12,8 +12,7 @@ tally_at_most same k n [] = omega arith
 tally_at_most {K} same k n (e ∷ es) = by (same k e.0) (tally_at_most same k n es)
   where
     by : (b : Bool) → length (tally same k n es) ≤ length es + 1 → length (if b then (e.0, e.1 + n) ∷ es else e ∷ tally same k n es) ≤ length (e ∷ es) + 1
-    by true h = omega arith
-    by false h = omega (arith, h)
+    by b h = grind arith
 
 sum_at_most : (xs ys : List ℕ) → length (pointwise_sum xs ys) ≤ length xs + length ys
 sum_at_most [] ys = omega arith

@@ -3,7 +3,7 @@ use Rattle.std.proofs.Common.{◌≡◌, ℕ, zero, suc, ◌+◌, ◌-◌, ◌<�
 use Rattle.std.specs.List.{AllByRecursion}
 use Rattle.std.specs.List.Sorted.{IsNonDecreasing}
 use Rattle.std.specs.Global.{Vec}
-use Rattle.std.proofs.lemmas.Bool.{ltb-true, ltb-false}
+use Rattle.std.proofs.lemmas.Bool.{ltb-false}
 use Rattle.std.proofs.lemmas.Option.{slice_get_read}
 use Rattle.std.proofs.lemmas.List.{get_or-map, get_or-set_same, get_or_default, length-map, length-set, length-take-le, set-append_left, set-append_right}
 use Rattle.std.proofs.lemmas.List.Edits.{get_or-insert_above, get_or-insert_at, get_or-insert_below, length-insert, insert-append_left, insert-append_right}
@@ -22,8 +22,7 @@ past_first [] ys j = ap (slice_get ys) (zero-add j)
 past_first (x ∷ xs) ys j = by (suc (length xs) + j) (omega arith) ∙ past_first xs ys j
   where
     by : (n : ℕ) → n ≡ suc (length xs + j) → slice_get (x ∷ (xs ++ ys)) n ≡ slice_get (xs ++ ys) (length xs + j)
-    by zero e = absurd (omega (arith, e))
-    by (suc n) e = ap (slice_get (xs ++ ys)) (omega (arith, e))
+    by n e = grind arith
 
 set_past_first : {A : Type 0} (xs ys : List A) (j : ℕ) (x : A) → set (xs ++ ys) (length xs + j) x ≡ xs ++ set ys j x
 set_past_first xs ys j x =
@@ -60,12 +59,7 @@ one_more_new (n ∷ ns) (y ∷ ys) (suc k) x same lt is = ap (λ (l : List ℕ).
 
 pub one_more_bumped : (starts now : List ℕ) (c k x : ℕ) → now ≡ take k (starts_with_one_more c starts) ++ drop k starts → c ≤ k → k < length starts → x ≡ get_or now k x
     → set now k (x + 1) ≡ take (k + 1) (starts_with_one_more c starts) ++ drop (k + 1) starts
-one_more_bumped starts now c k x is le lt read =
-    let long = length-bumped c starts in
-    let at : x ≡ get_or starts k 0 = read ∙ ap (λ (l : List ℕ). get_or l k x) is ∙ old_at (starts_with_one_more c starts) starts k x long lt ∙ get_or_default starts k x 0 lt in
-    let more : get_or (starts_with_one_more c starts) k 0 ≡ x + 1 = bumped_at c k starts le lt ∙ ap (λ (n : ℕ). n + 1) (sym at) in
-    ap (λ (l : List ℕ). set l k (x + 1)) is ∙ one_more_new (starts_with_one_more c starts) starts k (x + 1) long lt more
-    ∙ ap (λ (n : ℕ). take n (starts_with_one_more c starts) ++ drop n starts) (sym (add-one k))
+one_more_bumped starts now c k x is le lt read = grind (arith, length-bumped, old_at, get_or_default, bumped_at, one_more_new)
 
 module _ {T : Type 0} where
   abbrev items : Vec T → List T
@@ -88,15 +82,10 @@ module _ {T : Type 0} where
 
   -- ---- the starts rise
 
-  later_start : (n j : ℕ) (cs : List (Vec T)) (d : ℕ) → j < length cs → n ≤ get_or (starts_from n cs) j d
-  later_start n j cs d lt = let e = start_at n j cs lt d in omega (arith, e)
-
   pub starts_rise : (n : ℕ) (cs : List (Vec T)) → IsNonDecreasing (starts_from n cs)
   starts_rise n [] i j d le lt = absurd (let f : suc j ≤ 0 = lt in omega (arith, f))
   starts_rise n (x ∷ xs) zero zero d le lt = omega arith
-  starts_rise n (x ∷ xs) zero (suc j) d le lt =
-      let above = later_start (n + length x.items) j xs d (omega (arith, lt, length-starts (n + length x.items) xs)) in
-      omega (arith, above)
+  starts_rise n (x ∷ xs) zero (suc j) d le lt = grind (arith, length-starts, start_at)
   starts_rise n (x ∷ xs) (suc i) zero d le lt = absurd (let f : suc i ≤ 0 = le in omega (arith, f))
   starts_rise n (x ∷ xs) (suc i) (suc j) d le lt = starts_rise (n + length x.items) xs i j d (omega (arith, le)) (omega (arith, lt))
 
@@ -140,32 +129,23 @@ module _ {T : Type 0} where
   start_read cs starts c start is lt at = at ∙ ap (λ (s : List ℕ). get_or s c start) is ∙ start_at 0 c cs lt start ∙ zero-add (before c cs)
 
   pub below_read : (cs : List (Vec T)) (i c start : ℕ) (w : Vec T) → IsInChunk cs i c → start ≡ before c cs → w ≡ get_or cs c w → i - start < length w.items
-  below_read cs i c start w at is read =
-      let below : i < before c cs + length w.items = subst (λ (x : Vec T). i < before c cs + length x.items) (sym read) (at.below w) in
-      omega (arith, below, is, at.from)
+  below_read cs i c start w at is read = grind arith
 
   -- ---- an item, and another one in its place
 
   pub item_at : (cs : List (Vec T)) (c j : ℕ) (w : Vec T) → c < length cs → j < length (get_or cs c w).items → slice_get (items_of cs) (before c cs + j) ≡ slice_get (get_or cs c w).items j
   item_at [] c j w lt inside = absurd (let f : suc c ≤ 0 = lt in omega (arith, f))
   item_at (x ∷ xs) zero j w lt inside = ap (slice_get (x.items ++ items_of xs)) (zero-add j) ∙ within_first x.items (items_of xs) j inside
-  item_at (x ∷ xs) (suc c) j w lt inside =
-      ap (slice_get (x.items ++ items_of xs)) (add_assoc (length x.items) (before c xs) j) ∙ past_first x.items (items_of xs) (before c xs + j) ∙ item_at xs c j w (omega (arith, lt)) inside
+  item_at (x ∷ xs) (suc c) j w lt inside = grind (arith, past_first, item_at xs c j w)
 
   pub item_read : (cs : List (Vec T)) (value : List T) (i c start : ℕ) (w : Vec T) (x : T) → items_of cs ≡ value → IsInChunk cs i c → start ≡ before c cs → w ≡ get_or cs c w
       → x ≡ get_or w.items (i - start) x → slice_get value i ≡ Some x
-  item_read cs value i c start w x view at is read item =
-      let inside = below_read cs i c start w at is read in
-      let inside' : i - start < length (get_or cs c w).items = subst (λ (v : Vec T). i - start < length v.items) read inside in
-      let place : i ≡ before c cs + (i - start) = omega (arith, is, at.from) in
-      ap (λ (l : List T). slice_get l i) (sym view) ∙ ap (slice_get (items_of cs)) place ∙ item_at cs c (i - start) w at.inside inside'
-      ∙ ap (λ (v : Vec T). slice_get v.items (i - start)) (sym read) ∙ slice_get_read w.items (length w.items) (i - start) x refl inside item
+  item_read cs value i c start w x view at is read item = grind (arith, item_at, slice_get_read)
 
   pub item_set : (cs : List (Vec T)) (c j : ℕ) (w new : Vec T) (x : T) → c < length cs → j < length (get_or cs c w).items → new.items ≡ set (get_or cs c w).items j x
       → items_of (set cs c new) ≡ set (items_of cs) (before c cs + j) x
   item_set [] c j w new x lt inside is = absurd (let f : suc c ≤ 0 = lt in omega (arith, f))
-  item_set (y ∷ ys) zero j w new x lt inside is =
-      ap (λ (l : List T). l ++ items_of ys) is ∙ sym (set-append_left y.items (items_of ys) j x inside) ∙ ap (λ (k : ℕ). set (y.items ++ items_of ys) k x) (sym (zero-add j))
+  item_set (y ∷ ys) zero j w new x lt inside is = grind (arith, set-append_left)
   item_set (y ∷ ys) (suc c) j w new x lt inside is =
       ap (λ (l : List T). y.items ++ l) (item_set ys c j w new x (omega (arith, lt)) inside is) ∙ sym (set_past_first y.items (items_of ys) (before c ys + j) x)
       ∙ ap (λ (k : ℕ). set (y.items ++ items_of ys) k x) (sym (add_assoc (length y.items) (before c ys) j))
@@ -173,8 +153,7 @@ module _ {T : Type 0} where
   pub item_inserted : (cs : List (Vec T)) (c j : ℕ) (w new : Vec T) (x : T) → c < length cs → j ≤ length (get_or cs c w).items → new.items ≡ insert (get_or cs c w).items j x
       → items_of (set cs c new) ≡ insert (items_of cs) (before c cs + j) x
   item_inserted [] c j w new x lt inside is = absurd (let f : suc c ≤ 0 = lt in omega (arith, f))
-  item_inserted (y ∷ ys) zero j w new x lt inside is =
-      ap (λ (l : List T). l ++ items_of ys) is ∙ sym (insert-append_left y.items (items_of ys) j x inside) ∙ ap (λ (k : ℕ). insert (y.items ++ items_of ys) k x) (sym (zero-add j))
+  item_inserted (y ∷ ys) zero j w new x lt inside is = grind (arith, insert-append_left)
   item_inserted (y ∷ ys) (suc c) j w new x lt inside is =
       ap (λ (l : List T). y.items ++ l) (item_inserted ys c j w new x (omega (arith, lt)) inside is) ∙ sym (insert_past_first y.items (items_of ys) (before c ys + j) x)
       ∙ ap (λ (k : ℕ). insert (y.items ++ items_of ys) k x) (sym (add_assoc (length y.items) (before c ys) j))
@@ -231,9 +210,7 @@ module _ {T : Type 0} where
   before_within (suc c) (x ∷ xs) = omega (arith, length-append x.items (items_of xs), before_within c xs)
 
   pub start_below : (cs : List (Vec T)) (starts : List ℕ) (k : ℕ) → starts ≡ starts_from 0 cs → k < length starts → get_or starts k 0 ≤ length (items_of cs)
-  start_below cs starts k is lt =
-      let lt' : k < length cs = omega (arith, lt, ap length is, length-starts 0 cs) in
-      omega (arith, ap (λ (s : List ℕ). get_or s k 0) is, start_at 0 k cs lt' 0, before_within k cs)
+  start_below cs starts k is lt = grind (arith, length-starts, start_at, before_within)
 
   -- ---- a chunk with the items of another one
 
@@ -244,16 +221,7 @@ module _ {T : Type 0} where
 
   pub chunked_same : (cs : List (Vec T)) (starts : List ℕ) (len c : ℕ) (w new : Vec T) → IsChunked cs starts len → c < length cs → w ≡ get_or cs c w → new.items ≡ w.items
       → IsChunked (set cs c new) starts len × (items_of (set cs c new) ≡ items_of cs)
-  chunked_same cs starts len c w new chunked lt read made =
-      let made' : new.items ≡ (get_or cs c w).items = made ∙ ap items read in
-      let all = items_same cs c w new lt made' in (
-        record {
-          filled = filled_set cs c new (resized w new (ap length made) (chunk_at cs c w lt read chunked.filled)) chunked.filled;
-          placed = chunked.placed ∙ sym (starts_set 0 c cs w new lt (ap length made'));
-          counted = chunked.counted ∙ sym (ap length all);
-        },
-        all,
-      )
+  chunked_same cs starts len c w new chunked lt read made = grind (arith, items_same, filled_set, chunk_at, starts_set)
 
   -- ---- an item at the end
 
@@ -267,30 +235,17 @@ module _ {T : Type 0} where
 
   starts_push : (n : ℕ) (cs : List (Vec T)) (b : Vec T) → starts_from n (cs ++ b ∷ []) ≡ starts_from n cs ++ (n + length (items_of cs)) ∷ []
   starts_push n [] b = ap (λ (k : ℕ). k ∷ []) (sym (add-zero n))
-  starts_push n (x ∷ xs) b =
-      let last : (n + length x.items) + length (items_of xs) ≡ n + length (x.items ++ items_of xs) = omega (arith, length-append x.items (items_of xs)) in
-      ap (λ (l : List ℕ). n ∷ l) (starts_push (n + length x.items) xs b ∙ ap (λ (k : ℕ). starts_from (n + length x.items) xs ++ k ∷ []) last)
+  starts_push n (x ∷ xs) b = grind (arith, length-append, starts_push (n + length x.items) xs b)
 
   pub chunk_added : (cs : List (Vec T)) (starts : List ℕ) (len : ℕ) (b : Vec T) (x : T) → IsChunked cs starts len → b.items ≡ x ∷ []
       → IsChunked (cs ++ b ∷ []) (starts ++ len ∷ []) (len + 1) × (items_of (cs ++ b ∷ []) ≡ items_of cs ++ x ∷ [])
-  chunk_added cs starts len b x chunked one =
-      let all : items_of (cs ++ b ∷ []) ≡ items_of cs ++ x ∷ [] = items_push cs b ∙ ap (λ (l : List T). items_of cs ++ l) one in
-      let last : len ≡ 0 + length (items_of cs) = omega (arith, chunked.counted) in (
-        record {
-          filled = filled_push cs b (record { some = omega (arith, ap length one); few = omega (arith, ap length one) }) chunked.filled;
-          placed = ap (λ (l : List ℕ). l ++ len ∷ []) chunked.placed ∙ ap (λ (k : ℕ). starts_from 0 cs ++ k ∷ []) last ∙ sym (starts_push 0 cs b);
-          counted = omega (arith, chunked.counted, ap length all, length-append (items_of cs) (x ∷ []));
-        },
-        all,
-      )
+  chunk_added cs starts len b x chunked one = grind (arith, items_push, filled_push, starts_push, length-append)
 
   last_items : (cs : List (Vec T)) (c : ℕ) (w new : Vec T) (x : T) → suc c ≡ length cs → new.items ≡ (get_or cs c w).items ++ x ∷ [] → items_of (set cs c new) ≡ items_of cs ++ x ∷ []
   last_items [] c w new x is made = absurd (omega (arith, is))
-  last_items (y ∷ []) zero w new x is made =
-      ap (λ (l : List T). l ++ []) made ∙ append-nil (y.items ++ x ∷ []) ∙ ap (λ (l : List T). l ++ x ∷ []) (sym (append-nil y.items))
+  last_items (y ∷ []) zero w new x is made = search append-nil
   last_items (y ∷ z ∷ zs) zero w new x is made = absurd (omega (arith, is))
-  last_items (y ∷ ys) (suc c) w new x is made =
-      ap (λ (l : List T). y.items ++ l) (last_items ys c w new x (omega (arith, is)) made) ∙ sym (append_assoc y.items (items_of ys) (x ∷ []))
+  last_items (y ∷ ys) (suc c) w new x is made = grind (arith, append_assoc, last_items ys c w new x)
 
   last_starts : (n c : ℕ) (cs : List (Vec T)) (new : Vec T) → suc c ≡ length cs → starts_from n (set cs c new) ≡ starts_from n cs
   last_starts n c [] new is = absurd (omega (arith, is))
@@ -315,9 +270,7 @@ module _ {T : Type 0} where
 
   starts_shift : (n : ℕ) (cs : List (Vec T)) → starts_from (n + 1) cs ≡ map (λ (k : ℕ). k + 1) (starts_from n cs)
   starts_shift n [] = refl
-  starts_shift n (x ∷ xs) =
-      let next : (n + 1) + length x.items ≡ (n + length x.items) + 1 = omega arith in
-      ap (λ (l : List ℕ). (n + 1) ∷ l) (ap (λ (k : ℕ). starts_from k xs) next ∙ starts_shift (n + length x.items) xs)
+  starts_shift n (x ∷ xs) = grind (arith, starts_shift (n + length x.items) xs)
 
   starts_bumped : (n c : ℕ) (cs : List (Vec T)) (w new : Vec T) → c < length cs → length new.items ≡ length (get_or cs c w).items + 1 → starts_from n (set cs c new) ≡ starts_with_one_more (suc c) (starts_from n cs)
   starts_bumped n c [] w new lt more = absurd (let f : suc c ≤ 0 = lt in omega (arith, f))
@@ -364,35 +317,15 @@ module _ {T : Type 0} where
   starts_split : (n c half : ℕ) (cs : List (Vec T)) (w head tail : Vec T) → c < length cs → length head.items ≡ half → length head.items + length tail.items ≡ length (get_or cs c w).items
       → starts_from n (insert (set cs c head) (suc c) tail) ≡ insert (starts_from n cs) (suc c) (n + (before c cs + half))
   starts_split n c half [] w head tail lt first both = absurd (let f : suc c ≤ 0 = lt in omega (arith, f))
-  starts_split n zero half (x ∷ xs) w head tail lt first both =
-      let one : n + length head.items ≡ n + (0 + half) = omega (arith, first) in
-      let two : (n + length head.items) + length tail.items ≡ n + length x.items = omega (arith, both) in
-      λ i. n ∷ one i ∷ starts_from (two i) xs
-  starts_split n (suc c) half (x ∷ xs) w head tail lt first both =
-      let place : (n + length x.items) + (before c xs + half) ≡ n + ((length x.items + before c xs) + half) = omega arith in
-      ap (λ (l : List ℕ). n ∷ l) (starts_split (n + length x.items) c half xs w head tail (omega (arith, lt)) first both ∙ ap (insert (starts_from (n + length x.items) xs) (suc c)) place)
+  starts_split n zero half (x ∷ xs) w head tail lt first both = grind arith
+  starts_split n (suc c) half (x ∷ xs) w head tail lt first both = grind (arith, starts_split (n + length x.items) c half xs w head tail)
 
   pub chunk_split : (cs : List (Vec T)) (starts : List ℕ) (len c half start : ℕ) (w head tail : Vec T) → IsChunked cs starts len → c < length cs → w ≡ get_or cs c w
       → 0 < half → half < length w.items → head.items ≡ take half w.items → tail.items ≡ drop half w.items → start ≡ before c cs
       → IsChunked (insert (set cs c head) (c + 1) tail) (insert starts (c + 1) (start + half)) len × (items_of (insert (set cs c head) (c + 1) tail) ≡ items_of cs)
   chunk_split cs starts len c half start w head tail chunked lt read some some' first rest is =
       let whole : (get_or cs c w).items ≡ head.items ++ tail.items = ap items (sym read) ∙ sym (take-append-drop half w.items) ∙ (λ i. sym first i ++ sym rest i) in
-      let long : length head.items ≡ half = ap length first ∙ length-take-le half w.items (omega (arith, some')) in
-      let both : length head.items + length tail.items ≡ length (get_or cs c w).items = omega (arith, ap length whole, length-append head.items tail.items) in
-      let left : length w.items ≡ length (get_or cs c w).items = ap (λ (v : Vec T). length v.items) read in
-      let next = add-one c in
-      let all : items_of (insert (set cs c head) (c + 1) tail) ≡ items_of cs = ap (λ (k : ℕ). items_of (insert (set cs c head) k tail)) next ∙ items_split cs c w head tail lt whole in
-      let place : start + half ≡ 0 + (before c cs + half) = omega (arith, is) in
-      let chunk = chunk_at cs c w lt read chunked.filled in
-      let one : IsChunk head = record { some = omega (arith, long, some); few = omega (arith, long, chunk.few, some') } in
-      let two : IsChunk tail = record { some = omega (arith, long, both, left, some'); few = omega (arith, both, left, chunk.few) } in (
-        record {
-          filled = subst (λ (k : ℕ). AllByRecursion IsChunk (insert (set cs c head) k tail)) (sym next) (filled_split cs c head tail one two chunked.filled lt);
-          placed = (λ i. insert (chunked.placed i) (next i) (place i)) ∙ sym (starts_split 0 c half cs w head tail lt long both) ∙ ap (λ (k : ℕ). starts_from 0 (insert (set cs c head) k tail)) (sym next);
-          counted = chunked.counted ∙ sym (ap length all);
-        },
-        all,
-      )
+      grind (arith, length-take-le, length-append, add-one, insert, set, items_split, chunk_at, filled_split, starts_split)
 
   -- ---- which chunk has room
 
@@ -406,27 +339,13 @@ module _ {T : Type 0} where
       inside' : c + 1 ≤ length (set cs c head)
       inside' = omega (arith, inside, length-set cs c head)
 
-      not_before : k < c → ⊥
-      not_before lt =
-          let old = get_or-insert_below starts (c + 1) start 0 c (omega arith) (omega (arith, at.inside)) in
-          let above = other.to c lt (omega (arith, length-insert starts (c + 1) start (omega (arith, at.inside)), at.inside)) in
-          let f : i < i = omega (arith, above, old, at.from) in
-          omega (arith, f)
-
       not_behind : c + 1 < k → ⊥
       not_behind lt =
           let place : (k - 1) + 1 ≡ k = omega (arith, lt) in
-          let old = ap (λ (n : ℕ). get_or (insert starts (c + 1) start) n 0) (sym place) ∙ get_or-insert_above starts (c + 1) start 0 (k - 1) (omega (arith, lt)) (omega (arith, at.inside)) in
-          let above = at.to (k - 1) (omega (arith, lt)) (omega (arith, other.inside, lt, length-insert starts (c + 1) start (omega (arith, at.inside)))) in
-          let f : i < i = omega (arith, above, old, other.from) in
-          omega (arith, f)
+          grind (arith, insert, get_or-insert_above, length-insert)
 
       by : (b : Bool) → ltb k (c + 1) ≡ b → length (get_or (insert (set cs c head) (c + 1) tail) k v).items < 1024
-      by true e =
-          let same : k ≡ c = omega (arith, ltb-true k (c + 1) e, not_before) in
-          let is = ap (λ (n : ℕ). get_or (insert (set cs c head) (c + 1) tail) n v) same ∙ get_or-insert_below (set cs c head) (c + 1) tail v c (omega arith) inside' ∙ get_or-set_same cs c head v inside in
-          subst (λ (x : Vec T). length x.items < 1024) (sym is) first
+      by true e = grind (arith, get_or-insert_below, inside', get_or-set_same, length-insert)
       by false e =
           let same : k ≡ c + 1 = omega (arith, ltb-false k (c + 1) e, not_behind) in
-          let is = ap (λ (n : ℕ). get_or (insert (set cs c head) (c + 1) tail) n v) same ∙ get_or-insert_at (set cs c head) (c + 1) tail v inside' in
-          subst (λ (x : Vec T). length x.items < 1024) (sym is) second
+          grind (arith, insert, set, get_or-insert_at, inside')

@@ -83,9 +83,6 @@ pub with_hist_is : (h : Hist) (u : units.Unit) (v : Content) (hists : List Hist)
     → record v { hists = hists; «unit» = Some un } ≡ with_hist h u v
 with_hist_is h u v hists un some added is = rw some (λ i. record v { hists = added i; «unit» = Some (is i) })
 
-pub with_none : (h : Hist) (u : units.Unit) (w : Content) → has_counters h ≡ false → w ≡ with_hist h u w
-with_none h u w none = rw none refl
-
 pub hist_within : (h : Hist) (u : units.Unit) (v w : Content) → v ≡ w → has_counters h ≡ true → IsWithin (with_hist h u w) → IsWithin (record v { hists = put_hist h v.hists; «unit» = Some (unwrap_or v.«unit» (kept_unit u)) })
 hist_within h u v w is some fits =
     subst (λ (c : Content). IsWithin c) (sym (with_hist_is h u v (put_hist h v.hists) (unwrap_or v.«unit» (kept_unit u)) some refl refl)) (subst (λ (c : Content). IsWithin (with_hist h u c)) (sym is) fits)

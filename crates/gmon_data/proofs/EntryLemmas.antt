@@ -1,5 +1,5 @@
 -- Entries, added to the arcs or to the block counts of a profile.
-use Rattle.std.proofs.Common.{◌≡◌, ℕ, ◌+◌, ◌^◌, ◌<◌, Bool, nat_eq, List, [], ◌∷◌, ◌++◌, map, None, Result, Ok, Err, OnOk, OnErr, refl, sym, ap, subst, ◌∙◌, arith}
+use Rattle.std.proofs.Common.{◌≡◌, ℕ, ◌+◌, ◌^◌, ◌<◌, Bool, nat_eq, List, [], ◌∷◌, ◌++◌, map, None, Result, Ok, Err, OnOk, OnErr, refl, sym, ap, ◌∙◌, arith}
 use Rattle.std.specs.List.{AllByRecursion, IsDistinct}
 use Rattle.std.specs.Map.{keys_of}
 use Rattle.std.specs.declared.alloc.AllocError.{AllocError}
@@ -27,42 +27,10 @@ abbrev pub AddressIsOf32 : ℕ → Type 0
 AddressIsOf32 address = address < 2 ^ 32
 
 pub arcs_in : IsTallyIn (ℕ × ℕ) same_ends (λ e. WideArc e.0.0 e.0.1 e.1) (λ c. c.arcs) (λ es c. record c { arcs = es }) PairIsOf32
-arcs_in = record {
-  more = λ e c. refl;
-  got = λ es c. refl;
-  again = λ es before c. refl;
-  as_it_is = λ c. refl;
-  accepted = λ e c. refl;
-  few = λ c within. within.calls;
-  profile = λ es c profile within fit distinct. record {
-    within = within;
-    numbers = record { hists = profile.numbers.hists; arcs = fit; blocks = profile.numbers.blocks; «unit» = profile.numbers.«unit» };
-    hists = profile.hists;
-    apart = profile.apart;
-    «unit» = profile.«unit»;
-    arcs = distinct;
-    blocks = profile.blocks;
-  };
-}
+arcs_in = grind arith
 
 pub blocks_in : IsTallyIn ℕ nat_eq (λ e. WideBlock e.0 e.1) (λ c. c.blocks) (λ es c. record c { blocks = es }) AddressIsOf32
-blocks_in = record {
-  more = λ e c. refl;
-  got = λ es c. refl;
-  again = λ es before c. refl;
-  as_it_is = λ c. refl;
-  accepted = λ e c. refl;
-  few = λ c within. within.runs;
-  profile = λ es c profile within fit distinct. record {
-    within = within;
-    numbers = record { hists = profile.numbers.hists; arcs = profile.numbers.arcs; blocks = fit; «unit» = profile.numbers.«unit» };
-    hists = profile.hists;
-    apart = profile.apart;
-    «unit» = profile.«unit»;
-    arcs = profile.arcs;
-    blocks = distinct;
-  };
-}
+blocks_in = grind arith
 
 -- the records of a file are those of their entries
 pub of_entries : {X K : Type 0} (wide : K × ℕ → WideRec) (entry : X → K × ℕ) (xs : List X) → map (λ x. wide (entry x)) xs ≡ map wide (map entry xs)
@@ -87,9 +55,7 @@ module _ {K : Type 0} {same : K → K → Bool} {wide : K × ℕ → WideRec} {g
     made = ap (λ (l : List WideRec). with_records l w) are ∙ ap (with_records (map wide es)) (sym is) ∙ all_put es v
 
     pub entries_fit : tally_total (get v) + tally_total es < 2 ^ 64
-    entries_fit =
-        let all = tally_all same es (get v) in
-        omega (arith, t.few (put all v) (subst IsWithin made within), ap tally_total (t.got all v), total-all same es (get v))
+    entries_fit = grind (arith, made, total-all)
 
     -- of some first ones
     module _ (new done rest : List (K × ℕ)) (split : es ≡ done ++ rest) (tallied : new ≡ tally_all same done (get v)) where
@@ -100,14 +66,11 @@ module _ {K : Type 0} {same : K → K → Bool} {wide : K × ℕ → WideRec} {g
       some_split = are ∙ ap (map wide) split ∙ map-append wide done rest
 
       some_stay : IsProfile v → AllByRecursion (λ e. Fits e.0) new → IsDistinct same (keys_of new) → IsProfile (put new v)
-      some_stay profile fit distinct =
-          let parts = ap (λ (l : List WideRec). with_records l w) some_split ∙ with_records-append (map wide done) (map wide rest) w in
-          t.profile new v profile (subst IsWithin (sym some_added) (within_records (map wide rest) (with_records (map wide done) w) (subst IsWithin parts within))) fit distinct
+      some_stay profile fit distinct = grind (arith, some_split, with_records-append, some_added, within_records)
 
     module _ (new : List (K × ℕ)) where
       pub entries_added : (r : Result (Unit {0}) AllocError) → OnOk r (new ≡ tally_all same es (get v)) → OnOk r (put new v ≡ with_records recs w)
-      entries_added (Ok u) added = ap (λ (l : List (K × ℕ)). put l v) added ∙ sym made
-      entries_added (Err e) added = added
+      entries_added r added = grind (arith, made)
 
       pub entries_stopped : (r : Result (Unit {0}) AllocError) → OnErr r (IsTalliedPartly same es (get v) new) → OnErr r (IsStopped OutOfMemory recs w (put new v))
       entries_stopped (Ok u) p = p
@@ -127,10 +90,5 @@ module _ {K : Type 0} {same : K → K → Bool} {wide : K × ℕ → WideRec} {g
 
 -- a single entry, which is added or not
 module _ {K : Type 0} (same : K → K → Bool) (k : K) (n : ℕ) (es new : List (K × ℕ)) where
-  pub one_stopped : (r : Result (Unit {0}) AllocError) → OnErr r (new ≡ es) → OnErr r (IsTalliedPartly same ((k, n) ∷ []) es new)
-  one_stopped (Ok u) p = p
-  one_stopped (Err e) p = record { done = []; next = (k, n); rest = []; split = refl; tallied = p }
-
   pub one_fits : (P : K → Type 0) (r : Result (Unit {0}) AllocError) → OnOk r (new ≡ tally same k n es) → OnErr r (new ≡ es) → P k → AllByRecursion (λ e. P e.0) es → AllByRecursion (λ e. P e.0) new
-  one_fits P (Ok u) added p mine all = next_fit same P es es new k n refl added mine all
-  one_fits P (Err e) added p mine all = subst (AllByRecursion (λ e. P e.0)) (sym p) all
+  one_fits P r added p mine all = grind (arith, next_fit)

@@ -1,6 +1,6 @@
 -- A histogram takes its place.
-use Rattle.std.proofs.Common.{◌≡◌, ◌↔◌, ℕ, zero, suc, ◌<◌, ◌≤◌, Bool, true, false, ltb, eqb, List, [], ◌∷◌, length, sum, drop, set, insert, slice_get, get_or, fold, Option, Some, None, unwrap_or, refl, sym, ap, ◌∙◌, if◌then◌else◌, true≢false, not, ◌&&◌, ◌+◌, add-one, arith}
-use Rattle.std.proofs.lemmas.Bool.{lt-ltb, ltb-false, ltb-true, eq-eqb, eqb-true, and_parts}
+use Rattle.std.proofs.Common.{◌≡◌, ◌↔◌, ℕ, zero, suc, ◌<◌, ◌≤◌, Bool, true, false, ltb, eqb, List, [], ◌∷◌, length, sum, drop, set, insert, slice_get, get_or, fold, Option, Some, None, unwrap_or, refl, sym, ap, ◌∙◌, if◌then◌else◌, not, ◌&&◌, ◌+◌, add-one, arith}
+use Rattle.std.proofs.lemmas.Bool.{lt-ltb, ltb-false, eqb-true}
 use Rattle.gmon_data.specs.declared.hist.Hist.{Hist}
 use Rattle.gmon_data.specs.declared.hist.HistRange.{HistRange}
 use Rattle.gmon_data.specs.declared.refusal.Unlike.{Unlike}
@@ -16,8 +16,7 @@ place-within low [] = omega arith
 place-within low (k ∷ ks) = by (ltb k.low low) (place-within low ks)
   where
     by : (b : Bool) → place_of low ks ≤ length ks → (if b then suc (place_of low ks) else 0) ≤ length (k ∷ ks)
-    by true h = omega (arith, h)
-    by false h = omega arith
+    by b h = grind arith
 
 pub some_same : {A : Type 0} (x y : A) → Some x ≡ Some y → x ≡ y
 some_same x y e = cc
@@ -30,12 +29,7 @@ put-old h k (x ∷ xs) i is at same = by (ltb x.low h.low) (eqb x.low h.low) ref
     by : (b e : Bool) → ltb x.low h.low ≡ b → eqb x.low h.low ≡ e → (i : ℕ) → i ≡ (if b then suc (place_of h.low xs) else 0) → slice_get (x ∷ xs) i ≡ Some k
         → ((i : ℕ) → i ≡ place_of h.low xs → slice_get xs i ≡ Some k → k.low ≡ h.low → set xs i (hist_sum k h) ≡ put_hist h xs)
         → set (x ∷ xs) i (hist_sum k h) ≡ (if b then x ∷ put_hist h xs else (if e then hist_sum x h ∷ xs else h ∷ x ∷ xs))
-    by true e lt eq zero is at others = absurd (let f : 0 ≡ suc (place_of h.low xs) = is in cc)
-    by true e lt eq (suc i) is at others = ap (λ l. x ∷ l) (others i (omega (arith, is)) at same)
-    by false true lt eq zero is at others = ap (λ z. hist_sum z h ∷ xs) (sym (some_same x k at))
-    by false false lt eq zero is at others =
-        let e = eq-eqb x.low h.low (ap (λ z. z.low) (some_same x k at) ∙ same) in absurd cc
-    by false e lt eq (suc i) is at others = absurd (let f : suc i ≡ 0 = is in cc)
+    by b e lt eq i is at others = grind arith
 
 -- and else it goes between
 pub put-new : (h : Hist) (hs : List Hist) (i : ℕ) → i ≡ place_of h.low hs → ((k : Hist) → slice_get hs i ≡ Some k → eqb k.low h.low ≡ false) → insert hs i h ≡ put_hist h hs
@@ -46,17 +40,7 @@ put-new h (x ∷ xs) i is other = by (ltb x.low h.low) i is other (put-new h xs)
     by : (b : Bool) (i : ℕ) → i ≡ (if b then suc (place_of h.low xs) else 0) → ((k : Hist) → slice_get (x ∷ xs) i ≡ Some k → eqb k.low h.low ≡ false)
         → ((i : ℕ) → i ≡ place_of h.low xs → ((k : Hist) → slice_get xs i ≡ Some k → eqb k.low h.low ≡ false) → insert xs i h ≡ put_hist h xs)
         → insert (x ∷ xs) i h ≡ (if b then x ∷ put_hist h xs else (if eqb x.low h.low then hist_sum x h ∷ xs else h ∷ x ∷ xs))
-    by true zero is other others = absurd (let f : 0 ≡ suc (place_of h.low xs) = is in cc)
-    by true (suc i) is other others = ap (λ l. x ∷ l) (others i (omega (arith, is)) other)
-    by false zero is other others = ap (λ (b : Bool). if b then hist_sum x h ∷ xs else h ∷ x ∷ xs) (sym (other x refl))
-    by false (suc i) is other others = absurd (let f : suc i ≡ 0 = is in cc)
-
-pub not_at : (hs : List Hist) (i low : ℕ) (x : Hist) → slice_get hs i ≡ Some x → (x.low ≡ low → ⊥) → (k : Hist) → slice_get hs i ≡ Some k → eqb k.low low ≡ false
-not_at hs i low x at other k is = by (eqb k.low low) refl
-  where
-    by : (b : Bool) → eqb k.low low ≡ b → b ≡ false
-    by true e = absurd (other (ap (λ (z : Hist). z.low) (some_same x k (sym at ∙ is)) ∙ eqb-true k.low low e))
-    by false e = refl
+    by b i is other others = grind arith
 
 pub none_past_end : (hs : List Hist) (i low : ℕ) → length hs ≤ i → (k : Hist) → slice_get hs i ≡ Some k → eqb k.low low ≡ false
 none_past_end [] i low le k is = absurd cc
@@ -102,54 +86,37 @@ samples-drop [] i h at = absurd cc
 samples-drop (k ∷ ks) zero h at =
     let same : sum k.counters ≡ sum h.counters = ap (λ (z : Hist). sum z.counters) (some_same k h at) in
     let g : samples_of (k ∷ ks) ≡ sum h.counters + samples_of ks = omega (arith, same, sum_by-cons (λ (z : Hist). sum z.counters) k ks) in g
-samples-drop (k ∷ ks) (suc i) h at =
-    samples-drop ks i h at ∙ ap (λ n. sum h.counters + samples_of (drop n ks)) (add-one i) ∙ ap (λ n. sum h.counters + samples_of (drop n (k ∷ ks))) (sym (add-one (suc i)))
+samples-drop (k ∷ ks) (suc i) h at = search (sum, add-one, samples-drop ks i h at)
 
 pub samples-at : (hs : List Hist) (i : ℕ) (k : Hist) → slice_get hs i ≡ Some k → sum k.counters ≤ samples_of hs
 samples-at [] i k at = absurd cc
 samples-at (x ∷ xs) zero k at = omega (arith, ap (λ (z : Hist). sum z.counters) (some_same x k at), sum_by-cons (λ (z : Hist). sum z.counters) x xs)
 samples-at (x ∷ xs) (suc i) k at = omega (arith, samples-at xs i k at, sum_by-cons (λ (z : Hist). sum z.counters) x xs)
 
-kept_plus : (k h : Hist) → IsKept k → IsKept h → IsKept (hist_sum k h)
-kept_plus k h a b = record { range = a.range; some = omega (arith, longer k.counters h.counters, b.some) }
-
 pub all_kept : (h : Hist) (hs : List Hist) → IsKept h → AllByRecursion IsKept hs → AllByRecursion IsKept (put_hist h hs)
 all_kept h [] mine all = (mine, tt)
 all_kept h (k ∷ ks) mine all = by (ltb k.low h.low) (eqb k.low h.low) (all_kept h ks mine all.1)
   where
     by : (b e : Bool) → AllByRecursion IsKept (put_hist h ks) → AllByRecursion IsKept (if b then k ∷ put_hist h ks else (if e then hist_sum k h ∷ ks else h ∷ k ∷ ks))
-    by true e others = (all.0, others)
-    by false true others = (kept_plus k h all.0 mine, all.1)
-    by false false others = (mine, all)
+    by b e others = grind (arith, longer)
 
 -- ---- what it means that nothing is unlike
 
 pub none_of : (b : Bool) (x : Unlike) (o : Option Unlike) → (if b then Some x else o) ≡ None → (b ≡ false) × (o ≡ None)
-none_of true x o e = absurd cc
-none_of false x o e = (refl, e)
+none_of b x o e = grind arith
 
 pub first_none : (o p : Option Unlike) → option_or o p ≡ None → o ≡ None
-first_none None p e = refl
-first_none (Some x) p e = absurd cc
+first_none o p e = grind arith
 
 -- two ranges with one low address that don't differ are one
 pub one_range : (a b : HistRange) → a.low < a.high → b.low < b.high → a.low ≡ b.low → (overlap a b && not (same_range a b)) ≡ false → a ≡ b
 one_range a b some some' low none = by (same_range a b) refl
   where
     late : overlap a b ≡ true
-    late =
-        let one : ltb a.low b.high ≡ true = lt-ltb a.low b.high (omega (arith, low, some')) in
-        let two : ltb b.low a.high ≡ true = lt-ltb b.low a.high (omega (arith, low, some)) in
-        rw (one, two) refl
+    late = grind arith
 
     by : (s : Bool) → same_range a b ≡ s → a ≡ b
-    by true is =
-        let whole = and_parts (eqb a.low b.low && eqb a.high b.high) (eqb a.count b.count) is in
-        let ends = and_parts (eqb a.low b.low) (eqb a.high b.high) whole.0 in
-        let high = eqb-true a.high b.high ends.1 in
-        let count = eqb-true a.count b.count whole.1 in
-        λ i. record { low = low i; high = high i; count = count i }
-    by false is = absurd (true≢false (sym (ap (λ x. overlap a b && not x) is ∙ ap (λ x. x && true) late) ∙ none))
+    by s is = grind arith
 
 pub range-sum : (k h : Hist) → length k.counters ≡ length h.counters → range_of (hist_sum k h) ≡ range_of k
 range-sum k h same = let count = length-pointwise k.counters h.counters same in λ i. record { low = k.low; high = k.high; count = count i }
@@ -157,10 +124,7 @@ range-sum k h same = let count = length-pointwise k.counters h.counters same in 
 pub alike_counters : (h : Hist) (hs : List Hist) → range_conflict hs (range_of h) ≡ None → AllByRecursion IsKept hs → h.low < h.high
     → (i : ℕ) (k : Hist) → slice_get hs i ≡ Some k → k.low ≡ h.low → length k.counters ≡ length h.counters
 alike_counters h [] none all some i k at low = absurd cc
-alike_counters h (x ∷ xs) none all some zero k at low =
-    let parts = none_of (overlap (range_of x) (range_of h) && not (same_range (range_of x) (range_of h))) _ _ none in
-    let is = some_same x k at in
-    sym (ap (λ (z : Hist). length z.counters) is) ∙ ap (λ (r : HistRange). r.count) (one_range (range_of x) (range_of h) all.0.range some (ap (λ (z : Hist). z.low) is ∙ low) parts.0)
+alike_counters h (x ∷ xs) none all some zero k at low = grind arith
 alike_counters h (x ∷ xs) none all some (suc i) k at low =
     let parts = none_of (overlap (range_of x) (range_of h) && not (same_range (range_of x) (range_of h))) _ _ none in
     alike_counters h xs parts.1 all.1 some i k at low
@@ -173,27 +137,20 @@ no_overlap a b none differ =
     sym (and_true (overlap a b)) ∙ sym (ap (λ x. overlap a b && not x) other) ∙ none
   where
     and_true : (x : Bool) → (x && true) ≡ x
-    and_true true = refl
-    and_true false = refl
-
-apart_low : (a b : HistRange) → overlap a b ≡ false → a.low < b.high → a.high ≤ b.low
-apart_low a b none lt = ltb-false b.low a.high (sym (ap (λ x. x && ltb b.low a.high) (lt-ltb a.low b.high lt)) ∙ none)
+    and_true x = grind arith
 
 apart_high : (a b : HistRange) → overlap a b ≡ false → b.low < a.high → b.high ≤ a.low
 apart_high a b none lt = ltb-false a.low b.high (sym (and_true (ltb a.low b.high)) ∙ ap (λ x. ltb a.low b.high && x) (sym (lt-ltb b.low a.high lt)) ∙ none)
   where
     and_true : (x : Bool) → (x && true) ≡ x
-    and_true true = refl
-    and_true false = refl
+    and_true x = grind arith
 
 pub above_put : (n : ℕ) (h : Hist) (hs : List Hist) → n ≤ h.low → AllByRecursion (λ k. n ≤ k.low) hs → AllByRecursion (λ k. n ≤ k.low) (put_hist h hs)
 above_put n h [] mine all = (mine, tt)
 above_put n h (k ∷ ks) mine all = by (ltb k.low h.low) (eqb k.low h.low) (above_put n h ks mine all.1)
   where
     by : (b e : Bool) → AllByRecursion (λ k. n ≤ k.low) (put_hist h ks) → AllByRecursion (λ k. n ≤ k.low) (if b then k ∷ put_hist h ks else (if e then hist_sum k h ∷ ks else h ∷ k ∷ ks))
-    by true e others = (all.0, others)
-    by false true others = all
-    by false false others = (mine, all)
+    by b e others = grind arith
 
 pub higher : (n m : ℕ) (hs : List Hist) → n ≤ m → AllByRecursion (λ k. m ≤ k.low) hs → AllByRecursion (λ k. n ≤ k.low) hs
 higher n m [] le all = tt
@@ -206,19 +163,8 @@ apart_put h (k ∷ ks) none some kept apart = by (ltb k.low h.low) (eqb k.low h.
     parts : ((overlap (range_of k) (range_of h) && not (same_range (range_of k) (range_of h))) ≡ false) × (range_conflict ks (range_of h) ≡ None)
     parts = none_of (overlap (range_of k) (range_of h) && not (same_range (range_of k) (range_of h))) _ _ none
 
-    differ_of : (k.low ≡ h.low → ⊥) → eqb k.low h.low ≡ false
-    differ_of other = go (eqb k.low h.low) refl
-      where
-        go : (b : Bool) → eqb k.low h.low ≡ b → b ≡ false
-        go true e = absurd (other (eqb-true k.low h.low e))
-        go false e = refl
-
     by : (b e : Bool) → ltb k.low h.low ≡ b → eqb k.low h.low ≡ e → IsApart (put_hist h ks) → IsApart (if b then k ∷ put_hist h ks else (if e then hist_sum k h ∷ ks else h ∷ k ∷ ks))
-    by true e lt eq others =
-        let less : k.low < h.low = ltb-true k.low h.low lt in
-        let free = no_overlap (range_of k) (range_of h) parts.0 (differ_of (λ same. let f : h.low < h.low = omega (arith, less, same) in omega (arith, f))) in
-        let below = apart_low (range_of k) (range_of h) free (omega (arith, less, some)) in
-        (above_put k.high h ks below apart.0, others)
+    by true e lt eq others = grind (arith, above_put)
     by false true lt eq others = apart
     by false false lt eq others =
         let free = no_overlap (range_of k) (range_of h) parts.0 eq in
@@ -232,21 +178,10 @@ pub unit_twice : (u : units.Unit) → kept_unit (kept_unit u) ≡ kept_unit u
 unit_twice u = by (eqb u.rate 0) refl
   where
     by : (b : Bool) → eqb u.rate 0 ≡ b → kept_unit (kept_unit u) ≡ kept_unit u
-    by true e = rw e refl
-    by false e = rw (e, e) refl
-
-unit_some : (h : Hist) (hs : List Hist) (o : Option units.Unit) → (u : units.Unit) × (o ≡ Some u) × (kept_unit u ≡ u) → IsUnitOf (put_hist h hs) o
-unit_some h [] o is = is
-unit_some h (k ∷ ks) o is = by (ltb k.low h.low) (eqb k.low h.low)
-  where
-    by : (b e : Bool) → IsUnitOf (if b then k ∷ put_hist h ks else (if e then hist_sum k h ∷ ks else h ∷ k ∷ ks)) o
-    by true e = is
-    by false true = is
-    by false false = is
+    by b e = grind arith
 
 pub unit_put : (h : Hist) (hs : List Hist) (o : Option units.Unit) (u : units.Unit) → IsUnitOf hs o → IsUnitOf (put_hist h hs) (Some (unwrap_or o (kept_unit u)))
-unit_put h [] o u is = rw is (kept_unit u, refl, unit_twice u)
-unit_put h (k ∷ ks) o u is = rw is.1 (unit_some h (k ∷ ks) (Some is.0) (is.0, refl, is.2))
+unit_put h hs o u is = grind arith
 
 -- ---- each counter is the sum of that counter
 
@@ -261,8 +196,7 @@ count_plus low i k h same =
     by (eqb k.low low) ∙ ap (λ (l : ℕ). count_at low i k + (if eqb l low then get_or h.counters i 0 else 0)) same
   where
     by : (b : Bool) → (if b then get_or (pointwise_sum k.counters h.counters) i 0 else 0) ≡ (if b then get_or k.counters i 0 else 0) + (if b then get_or h.counters i 0 else 0)
-    by true = at_sum k.counters h.counters i
-    by false = refl
+    by b = grind (arith, at_sum)
 
 count_put : (low i : ℕ) (h : Hist) (hs : List Hist) → sum_by (count_at low i) (put_hist h hs) ≡ sum_by (count_at low i) hs + count_at low i h
 count_put low i h [] = sum_by-cons (count_at low i) h [] ∙ omega arith
@@ -280,8 +214,7 @@ counts_kept low i [] done = omega arith
 counts_kept low i (h ∷ hs) done = omega (arith, counts_kept low i hs (put_hist h done), count_put low i h done, sum_by-cons (count_at low i) h hs)
 
 pub unit_none : (hs : List Hist) (o : Option units.Unit) → IsUnitOf hs o → (o ≡ None) ↔ (hs ≡ [])
-unit_none [] o is = (λ e. refl, λ e. is)
-unit_none (h ∷ hs) o is = (λ e. absurd (let f : Some is.0 ≡ None = sym is.1 ∙ e in cc), λ e. absurd cc)
+unit_none hs o is = grind arith
 
 pub counts_of_all : (low i : ℕ) (hs : List Hist) → sum_by (count_at low i) (fold (λ done h. put_hist h done) [] hs) ≡ sum_by (count_at low i) hs
 counts_of_all low i hs = omega (arith, counts_kept low i hs [])

@@ -1,7 +1,6 @@
 -- The numbers of a profile have the bytes of their fields, whatever is added.
-use Rattle.std.proofs.Common.{◌≡◌, ℕ, subst, ◌^◌, ◌<◌, Bool, true, false, ltb, eqb, ◌-◌, ◌≤◌, List, [], ◌∷◌, length, Some, unwrap_or, refl, if◌then◌else◌, arith}
+use Rattle.std.proofs.Common.{◌≡◌, ℕ, subst, ◌^◌, ◌<◌, Bool, true, false, ltb, eqb, ◌-◌, List, [], ◌∷◌, length, Some, unwrap_or, refl, if◌then◌else◌, arith}
 use Rattle.std.specs.List.{AllByRecursion}
-use Rattle.std.proofs.lemmas.Bool.{ltb-false}
 use Rattle.gp_base.specs.declared.records.Unit as units
 use Rattle.gp_base.specs.declared.records.RawHist.{RawHist}
 use Rattle.gp_base.specs.declared.records.Rec.{Rec}
@@ -14,9 +13,7 @@ use Rattle.gmon_data.proofs.HistLemmas.{counters-put}
 longest : (n : ℕ) (xs ys : List ℕ) → length xs < n → length ys < n → length (pointwise_sum xs ys) < n
 longest n [] ys low high = high
 longest n (x ∷ xs) [] low high = low
-longest n (x ∷ xs) (y ∷ ys) low high =
-    let rest = longest (n - 1) xs ys (omega (arith, low)) (omega (arith, high)) in
-    omega (arith, rest, low)
+longest n (x ∷ xs) (y ∷ ys) low high = grind (arith, longest (n - 1) xs ys)
 
 pub hists_fit : (h : Hist) (hs : List Hist) → HistNumbersFit h → AllByRecursion HistNumbersFit hs → AllByRecursion HistNumbersFit (put_hist h hs)
 hists_fit h [] mine all = (mine, tt)
@@ -32,8 +29,7 @@ pub few_counters : (h : Hist) (u : units.Unit) (c : Content) → IsWithin (with_
 few_counters h u c within = by (has_counters h) refl within
   where
     by : (b : Bool) → has_counters h ≡ b → IsWithin (if b then record c { hists = put_hist h c.hists; «unit» = Some (unwrap_or c.«unit» (kept_unit u)) } else c) → length h.counters < 2 ^ 32
-    by true some w = omega (arith, w.counters, counters-put h c.hists)
-    by false none w = let f : length h.counters ≤ 0 = ltb-false 0 (length h.counters) none in omega (arith, f)
+    by b some w = grind (arith, counters-put)
 
 pub few_of_record : (rec : Rec) (hist : RawHist) (c : Content) → rec ≡ raw.Hist hist → IsWithin (with_records (wide_record rec) c) → length hist.counters < 2 ^ 32
 few_of_record rec hist c is within = few_counters (wide_hist hist) hist.«unit» c (subst (λ (r : Rec). IsWithin (with_records (wide_record r) c)) is within)

@@ -1,5 +1,5 @@
 -- Histograms can be added in any order, and before all other records.
-use Rattle.std.proofs.Common.{◌≡◌, ℕ, zero, suc, ◌<◌, Bool, true, false, ltb, eqb, nat_eq, List, [], ◌∷◌, ◌++◌, length, sum, map, set, get_or, Option, None, Some, refl, sym, ap, subst, ◌∙◌, if◌then◌else◌, arith}
+use Rattle.std.proofs.Common.{◌≡◌, ℕ, zero, suc, ◌<◌, Bool, true, ltb, eqb, nat_eq, List, [], ◌∷◌, ◌++◌, length, sum, map, set, get_or, None, Some, refl, sym, ap, subst, ◌∙◌, if◌then◌else◌, arith}
 use Rattle.std.specs.List.{sum_by, AllByRecursion}
 use Rattle.std.specs.List.Sorted.{IsPermutation}
 use Rattle.std.proofs.lemmas.List.Sorted.{IsPermutation-keeps, IsPermutation-sym}
@@ -11,13 +11,13 @@ use Rattle.std.specs.List as lists
 use Rattle.gp_base.specs.declared.records.Unit as units
 use Rattle.gmon_data.specs.declared.hist.Hist.{Hist}
 use Rattle.gmon_data.specs.Hists.{put_hist, hist_sum, has_counters, range_of, kept_unit, conflict_with, samples_of, IsKept}
-use Rattle.gmon_data.specs.Tally.{tally, tally_total}
+use Rattle.gmon_data.specs.Tally.{tally}
 use Rattle.gmon_data.specs.Content.{Content, WideRec, WideHist, WideArc, WideBlock, empty_content, same_ends, with_hist, with_record, with_records, content_of, hist_conflict, record_conflict, conflict_of, HasSpan, IsAdded, IsWithin}
 use Rattle.gmon_data.specs.Order.{is_other, hists_in, others_in, hist_record}
 use Rattle.gmon_data.proofs.HistLemmas.{all_kept}
-use Rattle.gmon_data.proofs.RecordLemmas.{conflict-append, parts_none, records_stand}
+use Rattle.gmon_data.proofs.RecordLemmas.{conflict-append, records_stand}
 use Rattle.gmon_data.proofs.PutLemmas.{put_exchange}
-use Rattle.gmon_data.proofs.ExchangeLemmas.{hists_exchange, kept_of}
+use Rattle.gmon_data.proofs.ExchangeLemmas.{hists_exchange}
 
 abbrev Pair : Type 0
 Pair = Hist × units.Unit
@@ -51,9 +51,7 @@ carried {X} P e xs ys same p = IsPermutation-keeps xs P p step ys same
 -- ---- added in another order
 
 added_head : (r : WideRec) (recs : List WideRec) (c new : Content) → IsAdded (r ∷ recs) c new → (record_conflict c r ≡ None) × IsAdded recs (with_record r c) new
-added_head r recs c new a =
-    let parts = parts_none (record_conflict c r) (conflict_of (with_record r c) recs) a.accepted in
-    (parts.0, record { added = a.added; accepted = parts.1 })
+added_head r recs c new a = grind arith
 
 added_cons : (r : WideRec) (recs : List WideRec) (c new : Content) → record_conflict c r ≡ None → IsAdded recs (with_record r c) new → IsAdded (r ∷ recs) c new
 added_cons r recs c new none a = record { added = a.added; accepted = rw none a.accepted }
@@ -62,8 +60,7 @@ kept_next : (p : Pair) (c : Content) → HasSpan (hist_record p) → AllByRecurs
 kept_next p c span kept = by (has_counters p.0) refl
   where
     by : (b : Bool) → has_counters p.0 ≡ b → AllByRecursion IsKept (with_record (hist_record p) c).hists
-    by true e = rw e (all_kept p.0 c.hists (kept_of p.0 p.1 span e) kept)
-    by false e = rw e kept
+    by b e = grind (arith, all_kept)
 
 abbrev Spans : List Pair → Type 0
 Spans ps = AllByRecursion (λ p. HasSpan (hist_record p)) ps
@@ -78,14 +75,8 @@ module _ (rest : List WideRec) (new : Content) where
   added_exchanged [] p q vs c kept spans a =
       let tail = map hist_record vs ++ rest in
       let one = added_head (hist_record p) (hist_record q ∷ tail) c new a in
-      let two = added_head (hist_record q) tail (with_record (hist_record p) c) new one.1 in
-      let e = hists_exchange p.0 q.0 p.1 q.1 c spans.0 spans.1.0 kept one.0 two.0 in
-      let behind : IsAdded tail (with_record (hist_record p) (with_record (hist_record q) c)) new = subst (λ (d : Content). IsAdded tail d new) (sym e.same) two.1 in
-      added_cons (hist_record q) (hist_record p ∷ tail) c new e.first (added_cons (hist_record p) tail (with_record (hist_record q) c) new e.second behind)
-  added_exchanged (u ∷ us) p q vs c kept spans a =
-      let head = added_head (hist_record u) (map hist_record (us ++ p ∷ q ∷ vs) ++ rest) c new a in
-      added_cons (hist_record u) (map hist_record (us ++ q ∷ p ∷ vs) ++ rest) c new head.0
-      (added_exchanged us p q vs (with_record (hist_record u) c) (kept_next u c spans.0 kept) spans.1 head.1)
+      grind (arith, added_head, hists_exchange, added_cons)
+  added_exchanged (u ∷ us) p q vs c kept spans a = grind (arith, kept_next, added_exchanged us p q vs)
 
   abbrev Makes : List Pair → Type 0
   Makes ps = Spans ps × IsAdded (map hist_record ps ++ rest) empty_content new
@@ -105,9 +96,7 @@ blank-put h (k ∷ ks) = by (ltb k.low h.low) (eqb k.low h.low) (blank-put h ks)
     by : (b e : Bool) → map blank (put_hist h ks) ≡ put_hist (blank h) (map blank ks)
         → map blank (if b then k ∷ put_hist h ks else (if e then hist_sum k h ∷ ks else h ∷ k ∷ ks))
         ≡ (if b then blank k ∷ put_hist (blank h) (map blank ks) else (if e then hist_sum (blank k) (blank h) ∷ map blank ks else blank h ∷ blank k ∷ map blank ks))
-    by true e others = ap (λ (l : List Hist). blank k ∷ l) others
-    by false true others = refl
-    by false false others = refl
+    by b e others = grind arith
 
 record CountTheSame (c d : Content) : Type 0 where
   hists : map blank c.hists ≡ map blank d.hists
@@ -118,8 +107,7 @@ same_after : (r : WideRec) (c d : Content) → CountTheSame c d → CountTheSame
 same_after (WideHist h u) c d s = by (has_counters h) refl
   where
     by : (b : Bool) → has_counters h ≡ b → CountTheSame (with_hist h u c) (with_hist h u d)
-    by true e = rw e (record { hists = blank-put h c.hists ∙ ap (put_hist (blank h)) s.hists ∙ sym (blank-put h d.hists); arcs = s.arcs; blocks = s.blocks })
-    by false e = rw e s
+    by b e = grind (arith, blank-put)
 same_after (WideArc from to count) c d s = record { hists = s.hists; arcs = ap (tally same_ends (from, to) count) s.arcs; blocks = s.blocks }
 same_after (WideBlock addr count) c d s = record { hists = s.hists; arcs = s.arcs; blocks = ap (tally nat_eq addr count) s.blocks }
 
@@ -131,13 +119,7 @@ same_exchanged : (a b : Hist) (u v : units.Unit) (c : Content) → CountTheSame 
 same_exchanged a b u v c = by (has_counters a) (has_counters b) refl refl
   where
     by : (p q : Bool) → has_counters a ≡ p → has_counters b ≡ q → CountTheSame (with_hist b v (with_hist a u c)) (with_hist a u (with_hist b v c))
-    by false q p e = rw p (record { hists = refl; arcs = refl; blocks = refl })
-    by true false p q = rw q (record { hists = refl; arcs = refl; blocks = refl })
-    by true true p q =
-        let hists = blank-put b (put_hist a c.hists) ∙ ap (put_hist (blank b)) (blank-put a c.hists)
-        ∙ put_exchange (blank a) (blank b) (map blank c.hists) (λ low. refl)
-        ∙ sym (ap (put_hist (blank a)) (blank-put b c.hists)) ∙ sym (blank-put a (put_hist b c.hists)) in
-        rw (p, q) (record { hists = hists; arcs = refl; blocks = refl })
+    by p q is e = grind (arith, blank-put, put_exchange)
 
 samples-blank : (hs : List Hist) → samples_of (map blank hs) ≡ samples_of hs
 samples-blank [] = refl
@@ -148,14 +130,7 @@ counters-blank [] = refl
 counters-blank (h ∷ hs) = omega (arith, counters-blank hs, sum_by-cons (λ (k : Hist). length k.counters) h hs, sum_by-cons (λ (k : Hist). length k.counters) (blank h) (map blank hs))
 
 same_within : (c d : Content) → CountTheSame c d → IsWithin c → IsWithin d
-same_within c d s w = record {
-  samples = omega (arith, w.samples, sym (samples-blank c.hists) ∙ ap samples_of s.hists ∙ samples-blank d.hists);
-  counters = omega (arith, w.counters, sym (counters-blank c.hists) ∙ ap (λ (l : List Hist). sum_by (λ k. length k.counters) l) s.hists ∙ counters-blank d.hists);
-  calls = omega (arith, w.calls, ap (λ (l : List ((ℕ × ℕ) × ℕ)). tally_total l) s.arcs);
-  runs = omega (arith, w.runs, ap (λ (l : List (ℕ × ℕ)). tally_total l) s.blocks);
-  pairs = omega (arith, w.pairs, ap (λ (l : List ((ℕ × ℕ) × ℕ)). length l) s.arcs);
-  addresses = omega (arith, w.addresses, ap (λ (l : List (ℕ × ℕ)). length l) s.blocks);
-}
+same_within c d s w = grind (arith, samples-blank, counters-blank)
 
 module _ (rest : List WideRec) where
   within_exchanged : (us : List Pair) (p q : Pair) (vs : List Pair) (c : Content) → IsWithin (with_records (map hist_record (us ++ p ∷ q ∷ vs) ++ rest) c) → IsWithin (with_records (map hist_record (us ++ q ∷ p ∷ vs) ++ rest) c)
@@ -170,16 +145,10 @@ others_later : (r : WideRec) → is_other r ≡ true → (h : Hist) (u : units.U
 others_later r other h u c = by (has_counters h) refl r other
   where
     by : (b : Bool) → has_counters h ≡ b → (r : WideRec) → is_other r ≡ true → with_record r (with_hist h u c) ≡ with_hist h u (with_record r c)
-    by b e (WideHist k v) other = absurd cc
-    by true e (WideArc from to count) other = rw e refl
-    by false e (WideArc from to count) other = rw e refl
-    by true e (WideBlock addr count) other = rw e refl
-    by false e (WideBlock addr count) other = rw e refl
+    by b e r other = grind arith
 
 same_conflict : (r : WideRec) → is_other r ≡ true → (p : Pair) (c : Content) → record_conflict (with_record r c) (hist_record p) ≡ record_conflict c (hist_record p)
-same_conflict (WideHist k v) other p c = absurd cc
-same_conflict (WideArc from to count) other p c = refl
-same_conflict (WideBlock addr count) other p c = refl
+same_conflict r other p c = grind arith
 
 module _ (r : WideRec) (other : is_other r ≡ true) (rest : List WideRec) where
   with_later : (ps : List Pair) (c : Content) → with_records (map hist_record ps ++ r ∷ rest) c ≡ with_records (map hist_record ps ++ rest) (with_record r c)
@@ -247,12 +216,10 @@ same_conflicts (WideHist h u ∷ recs) c d hists_are unit_is =
     λ i. option_or (now i) (next i)
   where
     hists_after : (b : Bool) → (put_in h u b c).hists ≡ (put_in h u b d).hists
-    hists_after true = ap (put_hist h) hists_are
-    hists_after false = hists_are
+    hists_after b = grind arith
 
     unit_after : (b : Bool) → (put_in h u b c).«unit» ≡ (put_in h u b d).«unit»
-    unit_after true = ap (λ (o : Option units.Unit). Some (unwrap_or o (kept_unit u))) unit_is
-    unit_after false = unit_is
+    unit_after b = grind arith
 same_conflicts (WideArc from to count ∷ recs) c d hists_are unit_is = same_conflicts recs (with_record (WideArc from to count) c) d hists_are unit_is
 same_conflicts (WideBlock addr count ∷ recs) c d hists_are unit_is = same_conflicts recs (with_record (WideBlock addr count) c) d hists_are unit_is
 

@@ -4,7 +4,6 @@ use Rattle.std.specs.List.{AllWithin}
 use Rattle.std.specs.List.Sorted.{IsPartitionedBy, IsPartitionPoint}
 use Rattle.std.specs.Fn.{AlwaysReturns, Called, Mut}
 use Rattle.std.specs.Global.{Vec}
-use Rattle.std.proofs.lemmas.Bool.{ltb-true, ltb-false}
 use Rattle.std.proofs.lemmas.Option.{unwrap_or-slice_get}
 use Rattle.std.proofs.lemmas.List.{get_or_read}
 use Rattle.gmon_data.specs.Chunks.{items_of}
@@ -15,15 +14,13 @@ pub answers_next : {F X R : Type 0} (g : Mut F X R) {P : X → R → Type 0} (f 
 answers_next g f a r f' c h = ((h.at (a ∷ []) r f' c).0, record { at = λ xs. (h.at (a ∷ xs) r f' c).1 })
 
 not_true : (b : Bool) → (b ≡ true → ⊥) → b ≡ false
-not_true true h = absurd (h refl)
-not_true false h = refl
+not_true b h = grind arith
 
 lt_or_le : (k n : ℕ) → (k < n) ⊎ (n ≤ k)
 lt_or_le k n = by (ltb k n) refl
   where
     by : (b : Bool) → ltb k n ≡ b → (k < n) ⊎ (n ≤ k)
-    by true e = inl (ltb-true k n e)
-    by false e = inr (ltb-false k n e)
+    by b e = grind arith
 
 module _ {T : Type 0} where
   -- the first items of the chunks before base pass, and those of the chunks from base + size on fail
@@ -46,10 +43,7 @@ module _ {T : Type 0} where
   before_next : (c : ℕ) (cs : List (Vec T)) (w : Vec T) → c < length cs → before (c + 1) cs ≡ before c cs + length (get_or cs c w).items
   before_next c [] w lt = absurd (let f : suc c ≤ 0 = lt in omega (arith, f))
   before_next zero (x ∷ xs) w lt = omega arith
-  before_next (suc c) (x ∷ xs) w lt =
-      let next : suc c + 1 ≡ suc (c + 1) = omega arith in
-      let same : before (suc c + 1) (x ∷ xs) ≡ length x.items + before (c + 1) xs = ap (λ (k : ℕ). before k (x ∷ xs)) next in
-      omega (arith, same, before_next c xs w (omega (arith, lt)))
+  before_next (suc c) (x ∷ xs) w lt = grind (arith, before_next c xs w)
 
   pub some_chunk : (cs : List (Vec T)) → 0 < length (items_of cs) → 0 < length cs
   some_chunk [] some = some
@@ -61,14 +55,11 @@ module _ {T : Type 0} where
 
   module _ (p : T → Bool) (cs : List (Vec T)) where
     pub halved_none : (size : ℕ) → length cs ≤ size → IsHalved p cs 0 size
-    halved_none size le parted =
-        ((λ k d from below. absurd (let f : suc k ≤ 0 = below in omega (arith, f))), (λ k d from below. absurd (omega (arith, from, below, before_all cs (0 + size) (omega (arith, le))))))
+    halved_none size le parted = grind (arith, before_all)
 
     -- an item of a chunk, as one of all
     chunk_read : (c k : ℕ) (w : Vec T) (d : T) → c < length cs → w ≡ get_or cs c w → k < length w.items → get_or (items_of cs) (before c cs + k) d ≡ get_or w.items k d
-    chunk_read c k w d lt read inside =
-        let inside' : k < length (get_or cs c w).items = subst (λ (v : Vec T). k < length v.items) read inside in
-        read_at cs c k w d lt inside' ∙ ap (λ (v : Vec T). get_or v.items k d) (sym read)
+    chunk_read c k w d lt read inside = grind (arith, read_at)
 
     pub chunk_within : (c : ℕ) (w : Vec T) → c < length cs → w ≡ get_or cs c w → before c cs + length w.items ≤ length (items_of cs)
     chunk_within c w lt read = subst (λ (v : Vec T). before c cs + length v.items ≤ length (items_of cs)) (sym read) (items_before cs c w lt)
@@ -108,8 +99,7 @@ module _ {T : Type 0} where
     in_range P c low high w lt read bound all k d from below =
         let place : before c cs + (k - before c cs) ≡ k = omega (arith, from) in
         let here = all (k - before c cs) d (omega (arith, from)) (omega (arith, from, below)) in
-        let there : P (get_or (items_of cs) (before c cs + (k - before c cs)) d) = subst P (sym (chunk_read c (k - before c cs) w d lt read (omega (arith, from, below, bound)))) here in
-        subst (λ (n : ℕ). P (get_or (items_of cs) n d)) place there
+        grind (arith, before, chunk_read)
 
     pub point_at : (base size r : ℕ) (w : Vec T) → size ≤ 1 → base < length cs → w ≡ get_or cs base w → r ≤ length w.items → IsHalved p cs base size
         → IsPartitionPoint (λ (y : T). p y ≡ true) (λ (y : T). p y ≡ false) w.items r → IsPartitionedBy p (items_of cs)
@@ -126,7 +116,4 @@ module _ {T : Type 0} where
     )
       where
         last : before (base + size) cs ≤ before base cs + length w.items
-        last =
-            let next = before_next base cs w lt in
-            let long : length w.items ≡ length (get_or cs base w).items = ap (λ (v : Vec T). length v.items) read in
-            omega (arith, next, long, before_rises (base + size) (base + 1) cs (omega (arith, one)))
+        last = grind (arith, before_next)

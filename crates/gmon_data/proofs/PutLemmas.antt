@@ -1,12 +1,9 @@
 -- Two histograms that take their places, one after the other.
 use Rattle.std.proofs.Common.{◌≡◌, ◌<◌, Bool, true, false, ltb, eqb, List, [], ◌∷◌, refl, sym, ap, ◌∙◌, if◌then◌else◌, arith}
-use Rattle.std.proofs.lemmas.Bool.{ltb-true, ltb-false, lt-ltb, le-ltb, eqb-true, eqb-false, eq-eqb, ne_eqb}
+use Rattle.std.proofs.lemmas.Bool.{ltb-true, ltb-false, lt-ltb, le-ltb, eqb-false, eq-eqb}
 use Rattle.gmon_data.specs.declared.hist.Hist.{Hist}
 use Rattle.gmon_data.specs.Hists.{put_hist, hist_sum}
 use Rattle.gmon_data.proofs.CounterLemmas.{pointwise-assoc, pointwise-comm}
-
-sum_assoc : (x k h : Hist) → hist_sum x (hist_sum k h) ≡ hist_sum (hist_sum x k) h
-sum_assoc x k h = λ i. record x { counters = pointwise-assoc x.counters k.counters h.counters i }
 
 -- two of one low address at once
 pub put_twice : (k h : Hist) (hs : List Hist) → k.low ≡ h.low → put_hist (hist_sum k h) hs ≡ put_hist h (put_hist k hs)
@@ -16,24 +13,11 @@ put_twice k h (x ∷ xs) same = by (ltb x.low k.low) (eqb x.low k.low) refl refl
     by : (b e : Bool) → ltb x.low k.low ≡ b → eqb x.low k.low ≡ e → put_hist (hist_sum k h) xs ≡ put_hist h (put_hist k xs)
         → (if b then x ∷ put_hist (hist_sum k h) xs else (if e then hist_sum x (hist_sum k h) ∷ xs else hist_sum k h ∷ x ∷ xs))
         ≡ put_hist h (if b then x ∷ put_hist k xs else (if e then hist_sum x k ∷ xs else k ∷ x ∷ xs))
-    by true e lt eq others =
-        let less : ltb x.low h.low ≡ true = sym (ap (ltb x.low) same) ∙ lt in
-        rw less (ap (λ (l : List Hist). x ∷ l) others)
-    by false true lt eq others =
-        let not_less : ltb x.low h.low ≡ false = sym (ap (ltb x.low) same) ∙ lt in
-        let here : eqb x.low h.low ≡ true = sym (ap (eqb x.low) same) ∙ eq in
-        rw (not_less, here) (ap (λ (z : Hist). z ∷ xs) (sum_assoc x k h))
-    by false false lt eq others =
-        let here = eq-eqb k.low h.low same in
-        let not_less : ltb k.low h.low ≡ false = le-ltb k.low h.low (omega (arith, same)) in
-        rw (not_less, here) refl
+    by b e lt eq others = grind (arith, pointwise-assoc)
 
 -- below the first one
 put_lowest : (a y : Hist) (ys : List Hist) → a.low < y.low → put_hist a (y ∷ ys) ≡ a ∷ y ∷ ys
-put_lowest a y ys below =
-    let not_less : ltb y.low a.low ≡ false = le-ltb y.low a.low (omega (arith, below)) in
-    let other : eqb y.low a.low ≡ false = ne_eqb y.low a.low (λ e. let f : a.low < a.low = omega (arith, below, e) in omega (arith, f)) in
-    rw (not_less, other) refl
+put_lowest a y ys below = grind arith
 
 -- two of two low addresses
 pub put_swap : (a b : Hist) (hs : List Hist) → a.low < b.low → put_hist b (put_hist a hs) ≡ put_hist a (put_hist b hs)
@@ -42,12 +26,8 @@ put_swap a b (x ∷ xs) below = by (ltb x.low a.low) (eqb x.low a.low) refl refl
   where
     by : (c e : Bool) → ltb x.low a.low ≡ c → eqb x.low a.low ≡ e → put_hist b (put_hist a xs) ≡ put_hist a (put_hist b xs)
         → put_hist b (if c then x ∷ put_hist a xs else (if e then hist_sum x a ∷ xs else a ∷ x ∷ xs)) ≡ put_hist a (put_hist b (x ∷ xs))
-    by true e lt eq others =
-        let less : ltb x.low b.low ≡ true = lt-ltb x.low b.low (omega (arith, ltb-true x.low a.low lt, below)) in
-        rw (less, lt) (ap (λ (l : List Hist). x ∷ l) others)
-    by false true lt eq others =
-        let less : ltb x.low b.low ≡ true = lt-ltb x.low b.low (omega (arith, eqb-true x.low a.low eq, below)) in
-        rw (less, lt, eq) refl
+    by true e lt eq others = grind arith
+    by false true lt eq others = grind arith
     by false false lt eq others =
         let le = ltb-false x.low a.low lt in
         let ne = eqb-false x.low a.low eq in
@@ -56,9 +36,7 @@ put_swap a b (x ∷ xs) below = by (ltb x.low a.low) (eqb x.low a.low) refl refl
       where
         high : (d f : Bool) → a.low < x.low
             → a ∷ (if d then x ∷ put_hist b xs else (if f then hist_sum x b ∷ xs else b ∷ x ∷ xs)) ≡ put_hist a (if d then x ∷ put_hist b xs else (if f then hist_sum x b ∷ xs else b ∷ x ∷ xs))
-        high true f above = sym (put_lowest a x (put_hist b xs) above)
-        high false true above = sym (put_lowest a (hist_sum x b) xs above)
-        high false false above = sym (put_lowest a b (x ∷ xs) below)
+        high d f above = grind arith
 
 sum_comm : (a b : Hist) → a.low ≡ b.low → a.high ≡ b.high → hist_sum a b ≡ hist_sum b a
 sum_comm a b low high = λ i. record { low = low i; high = high i; counters = pointwise-comm a.counters b.counters i }

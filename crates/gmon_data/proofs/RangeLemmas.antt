@@ -1,5 +1,5 @@
 -- The ranges of the histograms of a content.
-use Rattle.std.proofs.Common.{◌≡◌, ◌↔◌, ◌⊎◌, inl, inr, ℕ, zero, suc, ◌<◌, Bool, true, false, ltb, eqb, ◌&&◌, not, List, [], ◌∷◌, length, map, filter_map, get_or, Contains, None, refl, sym, ap, subst, ◌∙◌, if◌then◌else◌, ⊎_elim, arith}
+use Rattle.std.proofs.Common.{◌≡◌, ◌↔◌, ◌⊎◌, inl, inr, ℕ, suc, ◌<◌, Bool, true, false, ltb, eqb, ◌&&◌, not, List, [], ◌∷◌, length, map, filter_map, get_or, Contains, None, refl, sym, ap, subst, if◌then◌else◌, ⊎_elim, arith}
 use Rattle.std.proofs.lemmas.Bool.{eqb-true, ltb-true}
 use Rattle.std.proofs.lemmas.List.Elements.{recursion_from_All}
 use Rattle.std.specs.List.{All, AllByRecursion}
@@ -8,7 +8,7 @@ use Rattle.gmon_data.specs.declared.hist.HistRange.{HistRange}
 use Rattle.gmon_data.specs.Content.{Content, WideRec, WideHist, WideArc, WideBlock, conflict_of, content_of, empty_content, hist_in, record_conflict, with_hist, with_records, HasSpan}
 use Rattle.gmon_data.specs.Hists.{conflict_with, has_counters, hist_sum, kept_unit, overlap, put_hist, range_conflict, range_of, same_range, unit_conflict, IsApart, IsKept}
 use Rattle.gmon_data.specs.Laws.{HaveRangesOf}
-use Rattle.gmon_data.proofs.HistLemmas.{all_kept, apart_put, first_none, none_of, one_range, range-sum}
+use Rattle.gmon_data.proofs.HistLemmas.{all_kept, apart_put, first_none, none_of, range-sum}
 use Rattle.gmon_data.proofs.RecordLemmas.{content-more, parts_none}
 
 -- ---- elements
@@ -23,17 +23,14 @@ in_cases : {A : Type 0} (y x : A) (xs : List A) → Contains (y ∷ xs) x → (y
 in_cases {A} y x xs h = by h.0 h.1 h.2
   where
     by : (k : ℕ) → k < length (y ∷ xs) → get_or (y ∷ xs) k x ≡ x → (y ≡ x) ⊎ Contains xs x
-    by zero lt is = inl is
-    by (suc k) lt is = inr (k, (let less : suc k < suc (length xs) = lt in let l : k < length xs = omega (arith, less) in l), is)
+    by k lt is = grind arith
 
 -- ---- one histogram more
 
 module _ (h : Hist) (mine : IsKept h) (r : HistRange) where
   sum_range : (k : Hist) → IsKept k → k.low ≡ h.low → (overlap (range_of k) (range_of h) && not (same_range (range_of k) (range_of h))) ≡ false
       → (range_of k ≡ range_of h) × (range_of (hist_sum k h) ≡ range_of k)
-  sum_range k kept low none =
-      let same = one_range (range_of k) (range_of h) kept.range mine.range low none in
-      (same, range-sum k h (ap (λ (x : HistRange). x.count) same))
+  sum_range k kept low none = grind (arith, range-sum)
 
   abbrev Kept : List Hist → Type 0
   Kept hs = Contains (map range_of hs) r
@@ -51,25 +48,11 @@ module _ (h : Hist) (mine : IsKept h) (r : HistRange) where
       later : (x : Hist) (xs : List Hist) → Kept xs → Kept (x ∷ xs)
       later x xs w = tail_in (range_of x) r (map range_of xs) w
 
-      cases : (x : Hist) (xs : List Hist) → Kept (x ∷ xs) → (range_of x ≡ r) ⊎ Kept xs
-      cases x xs w = in_cases (range_of x) r (map range_of xs) w
-
-      Goal : List Hist → Type 0
-      Goal hs = Kept hs ↔ ((range_of h ≡ r) ⊎ Kept (k ∷ ks))
-
       by : (b e : Bool) → eqb k.low h.low ≡ e → Kept (put_hist h ks) ↔ ((range_of h ≡ r) ⊎ Kept ks)
           → Kept (if b then k ∷ put_hist h ks else (if e then hist_sum k h ∷ ks else h ∷ k ∷ ks)) ↔ ((range_of h ≡ r) ⊎ Kept (k ∷ ks))
-      by true e eq others = (
-        λ w. ⊎_elim (λ is. inr (first k ks is)) (λ v. ⊎_elim (λ is. inl is) (λ u. inr (later k ks u)) (others.0 v)) (cases k (put_hist h ks) w),
-        λ w. ⊎_elim (λ is. later k (put_hist h ks) (others.1 (inl is))) (λ v. ⊎_elim (λ is. first k (put_hist h ks) is) (λ u. later k (put_hist h ks) (others.1 (inr u))) (cases k ks v)) w,
-      )
-      by false true eq others =
-          let s = sum_range k kept.0 (eqb-true k.low h.low eq) parts.0 in (
-            λ w. ⊎_elim (λ is. inr (first k ks (sym s.1 ∙ is))) (λ u. inr (later k ks u)) (cases (hist_sum k h) ks w),
-            λ w. ⊎_elim (λ is. first (hist_sum k h) ks (s.1 ∙ s.0 ∙ is)) (λ v. ⊎_elim (λ is. first (hist_sum k h) ks (s.1 ∙ is)) (λ u. later (hist_sum k h) ks u) (cases k ks v)) w,
-          )
-      by false false eq others =
-          (λ w. cases h (k ∷ ks) w, λ w. ⊎_elim (λ is. first h (k ∷ ks) is) (λ v. later h (k ∷ ks) v) w)
+      by true e eq others = grind (arith, later)
+      by false true eq others = grind (arith, sum_range, eqb-true)
+      by false false eq others = search (⊎_elim, first, later, in_cases)
 
 -- ---- records
 

@@ -1,5 +1,5 @@
 -- The entries of a map, inserted one by one into another one.
-use Rattle.std.proofs.Common.{◌≡◌, ℕ, zero, suc, ◌+◌, Bool, false, List, [], ◌∷◌, Some, take, slice_get, sym, ap, ◌∙◌, subst, if◌then◌else◌, arith}
+use Rattle.std.proofs.Common.{◌≡◌, ℕ, zero, suc, ◌+◌, Bool, false, List, [], ◌∷◌, Some, take, slice_get, sym, ap, ◌∙◌, subst, arith}
 use Rattle.std.specs.List.{AllByRecursion, IsDistinct}
 use Rattle.std.specs.Map.{keys_of}
 use Rattle.indexmap.specs.IndexMap.{insert_entry}
@@ -16,10 +16,7 @@ module _ {K : Type 0} (same : K → K → Bool) (turned : (x y : K) → same x y
   insert_next (x ∷ es) zero e distinct at = let is : x ≡ e = cc in ap (λ (y : K × ℕ). y ∷ []) (sym is)
   insert_next (x ∷ es) (suc i) e distinct at =
       let other : same e.0 x.0 ≡ false = turned e.0 x.0 ∙ all_at (λ y. same x.0 y ≡ false) es i e distinct.0 at in
-      let longer : suc (i + 1) ≡ suc i + 1 = omega arith in
-      ap (λ (b : Bool). if b then (x.0, e.1) ∷ take i es else x ∷ insert_entry same (take i es) e.0 e.1) other
-      ∙ ap (λ (l : List (K × ℕ)). x ∷ l) (insert_next es i e distinct.1 at)
-      ∙ ap (λ (m : ℕ). take m (x ∷ es)) longer
+      grind (arith, insert_next es i e distinct.1 at)
 
   -- a loop that has inserted the first i of them
   pub inserted_next : (es now new : List (K × ℕ)) (i : ℕ) (e : K × ℕ) → IsDistinct same (keys_of es) → Some e ≡ slice_get es i → now ≡ take i es → new ≡ insert_entry same now e.0 e.1 → new ≡ take (i + 1) es

@@ -1,5 +1,5 @@
 -- Records, added one after the other.
-use Rattle.std.proofs.Common.{◌≡◌, ℕ, ◌+◌, ◌≤◌, Bool, true, false, zero, suc, List, [], ◌∷◌, ◌++◌, length, map, drop, slice_get, add-one, Option, Some, None, unwrap_or, nat_eq, ltb, eqb, append_assoc, refl, sym, ap, subst, ◌∙◌, if◌then◌else◌, Result, Ok, Err, arith}
+use Rattle.std.proofs.Common.{◌≡◌, ℕ, ◌+◌, ◌≤◌, Bool, true, false, zero, suc, List, [], ◌∷◌, ◌++◌, length, map, drop, slice_get, add-one, Option, Some, None, unwrap_or, ltb, eqb, append_assoc, refl, sym, ap, subst, ◌∙◌, if◌then◌else◌, Result, arith}
 use Rattle.gp_base.specs.declared.records.Rec.TheVariants as raw
 use Rattle.std.specs.List.{sum_by}
 use Rattle.std.specs.Option.{option_or}
@@ -12,10 +12,9 @@ use Rattle.gp_base.specs.declared.records.RawBlock.{RawBlock}
 use Rattle.gmon_data.specs.declared.hist.Hist.{Hist}
 use Rattle.gmon_data.specs.declared.refusal.Unlike.{Unlike}
 use Rattle.gmon_data.specs.declared.refusal.AddRefusal.{AddRefusal}
-use Rattle.gmon_data.specs.declared.refusal.AddRefusal.TheVariants as answers
 use Rattle.gmon_data.specs.Hists.{put_hist, hist_sum, has_counters, kept_unit, pointwise_sum, unlike_in, IsUnlike}
 use Rattle.gmon_data.specs.Tally.{tally}
-use Rattle.gmon_data.specs.Content.{Content, WideRec, WideHist, WideArc, WideBlock, same_ends, with_hist, with_record, with_records, record_conflict, conflict_of, content_of, wide_arc, wide_block, wide_records, IsWithin, IsAdded, IsStopped, IsRefusedFirst}
+use Rattle.gmon_data.specs.Content.{Content, WideRec, with_hist, with_record, with_records, record_conflict, conflict_of, content_of, wide_arc, wide_block, wide_records, IsWithin, IsAdded, IsStopped, IsRefusedFirst}
 use Rattle.gmon_data.proofs.TallyLemmas.{sum-tally}
 use Rattle.gmon_data.proofs.HistLemmas.{samples-put, some_same}
 use Rattle.gmon_data.proofs.ContentLemmas.{content-hist, content-arc, content-block}
@@ -25,12 +24,10 @@ with_records-append [] ys c = refl
 with_records-append (x ∷ xs) ys c = with_records-append xs ys (with_record x c)
 
 or_next : (o p : Option Unlike) → o ≡ None → option_or o p ≡ p
-or_next None p e = refl
-or_next (Some u) p e = absurd cc
+or_next o p e = grind arith
 
 pub parts_none : (o p : Option Unlike) → option_or o p ≡ None → (o ≡ None) × (p ≡ None)
-parts_none None p e = (refl, e)
-parts_none (Some u) p e = absurd cc
+parts_none o p e = grind arith
 
 -- where some are accepted, the conflict is that of those after them
 pub conflict-append : (xs ys : List WideRec) (c : Content) → conflict_of c xs ≡ None → conflict_of c (xs ++ ys) ≡ conflict_of (with_records xs c) ys
@@ -41,15 +38,9 @@ conflict-append (x ∷ xs) ys c e =
 
 -- ---- content and records
 
-content_one_more : (r : WideRec) (recs : List WideRec) → content_of (recs ++ r ∷ []) ≡ with_record r (content_of recs)
-content_one_more (WideHist hist u) recs = content-hist hist u recs
-content_one_more (WideArc from to count) recs = content-arc from to count recs
-content_one_more (WideBlock addr count) recs = content-block addr count recs
-
 pub content-more : (recs more : List WideRec) → content_of (recs ++ more) ≡ with_records more (content_of recs)
 content-more recs [] = ap content_of (append-nil recs)
-content-more recs (r ∷ more) =
-    ap content_of (sym (append_assoc recs (r ∷ []) more)) ∙ content-more (recs ++ r ∷ []) more ∙ ap (with_records more) (content_one_more r recs)
+content-more recs (r ∷ more) = grind (arith, append_assoc, content-more (recs ++ r ∷ []) more, content-hist, content-arc, content-block)
 
 pub records_stand : (more : List WideRec) (old new : Content) → new ≡ with_records more old → (recs : List WideRec) → old ≡ content_of recs → new ≡ content_of (recs ++ more)
 records_stand more old new added recs before = added ∙ ap (with_records more) before ∙ sym (content-more recs more)
@@ -78,41 +69,16 @@ tally_grows same k n [] = omega arith
 tally_grows {K} same k n (e ∷ es) = by (same k e.0) (tally_grows same k n es)
   where
     by : (b : Bool) → length es ≤ length (tally same k n es) → length (e ∷ es) ≤ length (if b then (e.0, e.1 + n) ∷ es else e ∷ tally same k n es)
-    by true h = omega arith
-    by false h = omega (arith, h)
+    by b h = grind arith
 
 within_hist : (h : Hist) (u : units.Unit) (c : Content) → IsWithin (with_hist h u c) → IsWithin c
 within_hist h u c w = by (has_counters h) w
   where
     by : (b : Bool) → IsWithin (if b then record c { hists = put_hist h c.hists; «unit» = Some (unwrap_or c.«unit» (kept_unit u)) } else c) → IsWithin c
-    by true w = record {
-      samples = omega (arith, w.samples, samples-put h c.hists);
-      counters = omega (arith, w.counters, counters_grow h c.hists);
-      calls = w.calls;
-      runs = w.runs;
-      pairs = w.pairs;
-      addresses = w.addresses;
-    }
-    by false w = w
+    by b w = grind (arith, samples-put, counters_grow)
 
 within_record : (r : WideRec) (c : Content) → IsWithin (with_record r c) → IsWithin c
-within_record (WideHist hist u) c w = within_hist hist u c w
-within_record (WideArc from to count) c w = record {
-  samples = w.samples;
-  counters = w.counters;
-  runs = w.runs;
-  addresses = w.addresses;
-  calls = omega (arith, w.calls, sum-tally same_ends (from, to) count c.arcs);
-  pairs = omega (arith, w.pairs, tally_grows same_ends (from, to) count c.arcs);
-}
-within_record (WideBlock addr count) c w = record {
-  samples = w.samples;
-  counters = w.counters;
-  calls = w.calls;
-  pairs = w.pairs;
-  runs = omega (arith, w.runs, sum-tally nat_eq addr count c.blocks);
-  addresses = omega (arith, w.addresses, tally_grows nat_eq addr count c.blocks);
-}
+within_record r c w = grind (arith, within_hist, sum-tally, tally_grows)
 
 pub within_records : (recs : List WideRec) (c : Content) → IsWithin (with_records recs c) → IsWithin c
 within_records [] c w = w
@@ -131,10 +97,7 @@ at_begin all old = record { done = []; split = refl; added = refl; accepted = re
 
 module _ (all more rest : List WideRec) (old now : Content) (w : IsUnderway all (more ++ rest) old now) where
   pub within_next : IsWithin (with_records all old) → IsWithin (with_records more now)
-  within_next fits =
-      let is : with_records all old ≡ with_records rest (with_records more now) =
-      ap (λ l. with_records l old) w.split ∙ with_records-append w.done (more ++ rest) old ∙ ap (with_records (more ++ rest)) (sym w.added) ∙ with_records-append more rest now in
-      within_records rest (with_records more now) (subst (λ (c : Content). IsWithin c) is fits)
+  within_next fits = grind (arith, with_records-append, within_records)
 
   pub one_more : (next : Content) → IsAdded more now next → IsUnderway all rest old next
   one_more next a = record {
@@ -155,13 +118,10 @@ module _ (all more rest : List WideRec) (old now : Content) (w : IsUnderway all 
   }
     where
       first_stays : (refusal : AddRefusal) (c : Content) (recs : List WideRec) → IsRefusedFirst refusal c recs → IsRefusedFirst refusal c (recs ++ rest)
-      first_stays refusal c [] h = absurd h
-      first_stays refusal c (r ∷ recs) h = h
+      first_stays refusal c recs h = grind arith
 
 pub at_end : (all : List WideRec) (old now : Content) → IsUnderway all [] old now → IsAdded all old now
-at_end all old now w =
-    let is : all ≡ w.done = w.split ∙ append-nil w.done in
-    record { added = w.added ∙ ap (λ l. with_records l old) (sym is); accepted = ap (conflict_of old) is ∙ w.accepted }
+at_end all old now w = grind (arith, append-nil)
 
 -- ---- records, and others behind them
 
@@ -193,14 +153,8 @@ module _ (first second : List WideRec) (old : Content) where
 
 -- ---- what a stop says of the conflict
 
-conflict_first : (u : Unlike) (c : Content) (recs : List WideRec) → IsRefusedFirst (answers.Unlike u) c recs → conflict_of c recs ≡ Some u
-conflict_first u c [] h = absurd h
-conflict_first u c (r ∷ recs) h = rw h refl
-
 pub stopped_conflict : (refusal : AddRefusal) (recs : List WideRec) (old new : Content) → IsStopped refusal recs old new → IsUnlike refusal (conflict_of old recs)
-stopped_conflict answers.OutOfMemory recs old new s = tt
-stopped_conflict (answers.Unlike u) recs old new s =
-    ap (conflict_of old) s.split ∙ conflict-append s.done s.rest old s.accepted ∙ ap (λ c. conflict_of c s.rest) (sym s.added) ∙ conflict_first u new s.rest s.refused
+stopped_conflict refusal recs old new s = grind (arith, conflict-append)
 
 -- ---- single records
 
@@ -244,5 +198,4 @@ blocks_accepted (b ∷ blocks) c = blocks_accepted blocks (with_record (wide_blo
 
 -- what follows from a clause on an `Err`
 pub on_err : {A E : Type 0} {P Q : E → Type 0} (r : Result A E) → IfErr r P → ((e : E) → P e → Q e) → IfErr r Q
-on_err (Ok a) p f = p
-on_err (Err e) p f = f e p
+on_err r p f = grind arith

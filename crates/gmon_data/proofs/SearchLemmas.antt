@@ -1,5 +1,5 @@
 -- Kept histograms are found by bisection.
-use Rattle.std.proofs.Common.{◌≡◌, ℕ, zero, suc, ◌<◌, ◌≤◌, Bool, true, false, ltb, eqb, slice_get, nat_le, nat_lt, ◌&&◌, not, List, [], ◌∷◌, length, Option, Some, None, refl, sym, ap, ◌∙◌, if◌then◌else◌, arith}
+use Rattle.std.proofs.Common.{◌≡◌, ℕ, zero, suc, ◌<◌, ◌≤◌, Bool, true, false, ltb, eqb, slice_get, nat_le, nat_lt, ◌&&◌, not, List, [], ◌∷◌, length, Option, Some, None, refl, ap, ◌∙◌, if◌then◌else◌, arith}
 use Rattle.std.specs.List.{AllByRecursion}
 use Rattle.std.specs.List.Sorted.{IsNonDecreasingBy, IsPartitionedBy, IsPartitionPoint}
 use Rattle.std.proofs.lemmas.Bool.{le-ltb, lt-ltb, ltb-false, leb-true, leb-false, eqb-true, and_left, and_right, and_parts}
@@ -10,7 +10,7 @@ use Rattle.gmon_data.specs.declared.hist.HistRange.{HistRange}
 use Rattle.gmon_data.specs.declared.refusal.Unlike.{Unlike}
 use Rattle.gmon_data.specs.declared.refusal.Unlike.TheVariants.{Range}
 use Rattle.gmon_data.proofs.HistLemmas.{higher, some_same}
-use Rattle.gmon_data.specs.Hists.{place_of, range_of, range_conflict, overlap, same_range, IsKept, IsApart}
+use Rattle.gmon_data.specs.Hists.{place_of, range_of, range_conflict, same_range, IsKept, IsApart}
 
 -- those behind one lie above it
 lows_rise : (hs : List Hist) → AllByRecursion IsKept hs → IsApart hs → IsNonDecreasingBy (λ (h : Hist). h.low) hs
@@ -52,9 +52,7 @@ point_is_place (h ∷ hs) low (suc i) le point =
 
 above_none : (hs : List Hist) (new : HistRange) → AllByRecursion (λ k. new.high ≤ k.low) hs → range_conflict hs new ≡ None
 above_none [] new above = refl
-above_none (h ∷ hs) new above =
-    let free : overlap (range_of h) new ≡ false = and_left (ltb h.low new.high) (ltb new.low h.high) (le-ltb h.low new.high above.0) in
-    rw free (above_none hs new above.1)
+above_none (h ∷ hs) new above = search (and_left, ltb, le-ltb, above_none hs new above.1)
 
 -- what is said of the first one that ends above the new low address
 abbrev pub conflict_at_first : Hist → HistRange → Option Unlike
@@ -77,9 +75,7 @@ first_decides k ks new kept above ends = by (ltb k.low new.high) (same_range (ra
     by false e lt same = rw lt (above_none ks new (higher new.high k.high ks (omega (arith, ltb-false k.low new.high lt, kept.range)) above))
 
 ended_passed : (h : Hist) (hs : List Hist) (new : HistRange) → nat_le h.high new.low ≡ true → range_conflict (h ∷ hs) new ≡ range_conflict hs new
-ended_passed h hs new ends =
-    let free : overlap (range_of h) new ≡ false = and_right (ltb h.low new.high) (ltb new.low h.high) (le-ltb new.low h.high (leb-true h.high new.low ends)) in
-    rw free refl
+ended_passed h hs new ends = search (and_right, ltb, le-ltb, leb-true)
 
 module _ (new : HistRange) where
   abbrev ended : Hist → Bool
@@ -104,30 +100,18 @@ module _ (new : HistRange) where
 
 -- ---- what the test of the found one says
 
-and_assoc : (a b c : Bool) → ((a && b) && c) ≡ (a && (b && c))
-and_assoc true b c = refl
-and_assoc false b c = refl
-
 module _ (k : Hist) (r new : HistRange) (is : r ≡ range_of k) where
   abbrev differs : HistRange → Bool
   differs x = not (eqb x.low new.low && (eqb x.high new.high && eqb x.count new.count))
 
-  differs_is : (b : Bool) → b ≡ differs r → not (same_range (range_of k) new) ≡ b
-  differs_is b e = ap not (and_assoc (eqb k.low new.low) (eqb k.high new.high) (eqb (length k.counters) new.count)) ∙ ap differs (sym is) ∙ sym e
-
   pub differing_told : r.low < new.high → true ≡ differs r → Some (Range r new) ≡ conflict_at_first k new
-  differing_told lt e =
-      let low : k.low < new.high = omega (arith, lt, ap (λ (x : HistRange). x.low) is) in
-      rw (lt-ltb k.low new.high low, differs_is true e, is) refl
+  differing_told lt e = grind arith
 
   pub same_told : false ≡ differs r → None ≡ conflict_at_first k new
   same_told e = by (ltb k.low new.high)
     where
       by : (b : Bool) → None ≡ (if b && not (same_range (range_of k) new) then Some (Range (range_of k) new) else None)
-      by true = rw (differs_is false e) refl
-      by false = refl
+      by b = grind arith
 
   pub above_told : new.high ≤ r.low → None ≡ conflict_at_first k new
-  above_told le =
-      let low : new.high ≤ k.low = omega (arith, le, ap (λ (x : HistRange). x.low) is) in
-      rw (le-ltb k.low new.high low) refl
+  above_told le = grind arith

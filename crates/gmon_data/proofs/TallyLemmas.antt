@@ -1,5 +1,5 @@
 -- Numbers by key: adding one is adding it to the sum of its key.
-use Rattle.std.proofs.Common.{◌≡◌, ℕ, ◌+◌, ◌<◌, ◌≤◌, Bool, true, false, ◌||◌, cond, List, [], ◌∷◌, ◌++◌, map, fold, Option, Some, None, unwrap_or, append_assoc, refl, sym, ap, subst, ◌∙◌, true≢false, if◌then◌else◌, zero, suc, slice_get, drop, take, length, get_or, add-one, arith}
+use Rattle.std.proofs.Common.{◌≡◌, ℕ, ◌+◌, ◌<◌, ◌≤◌, Bool, true, false, ◌||◌, cond, List, [], ◌∷◌, ◌++◌, map, fold, Option, Some, None, unwrap_or, append_assoc, refl, sym, ap, ◌∙◌, if◌then◌else◌, zero, suc, slice_get, drop, take, length, get_or, add-one, arith}
 use Rattle.std.specs.List.{list_any, AllByRecursion, IsDistinct}
 use Rattle.std.specs.Map.{lookup}
 use Rattle.std.proofs.lemmas.List.{append-nil, map-append, take-append-drop, take_more, length-map, get_or-map}
@@ -12,29 +12,15 @@ use Rattle.gmon_data.specs.Tally.{tally_total, tally, tally_all, distinct_keys, 
 abbrev one_entry : {K : Type 0} → K → ℕ → List (K × ℕ)
 one_entry k n = (k, n) ∷ []
 
--- what a map does: it looks the number up, and inserts the sum
-put_at : {K : Type 0} (k : K) (n sum : ℕ) (e : K × ℕ) (es inserted added : List (K × ℕ)) (rest : Option ℕ) (here : Bool) → sum ≡ unwrap_or (cond here (Some e.1) rest) 0 + n
-    → (sum ≡ unwrap_or rest 0 + n → inserted ≡ added)
-    → (if here then (e.0, sum) ∷ es else e ∷ inserted) ≡ (if here then (e.0, e.1 + n) ∷ es else e ∷ added)
-put_at {K} k n sum e es inserted added rest true is others = ap (λ (m : ℕ). (e.0, m) ∷ es) is
-put_at {K} k n sum e es inserted added rest false is others = ap (λ (l : List (K × ℕ)). e ∷ l) (others is)
-
 pub insert-tally : {K : Type 0} (same : K → K → Bool) (k : K) (n sum : ℕ) (es : List (K × ℕ)) → sum ≡ unwrap_or (lookup (same k) es) 0 + n → insert_entry same es k sum ≡ tally same k n es
-insert-tally {K} same k n sum [] is =
-    let e : sum ≡ n = omega (arith, is) in
-    ap (one_entry k) e
-insert-tally same k n sum (e ∷ es) is =
-    put_at k n sum e es (insert_entry same es k sum) (tally same k n es) (lookup (same k) es) (same k e.0) is (insert-tally same k n sum es)
+insert-tally {K} same k n sum [] is = grind arith
+insert-tally same k n sum (e ∷ es) is = grind (arith, insert-tally same k n sum es)
 
 -- the sum of all numbers rises by what is added
 sum_step : {K : Type 0} (n : ℕ) (e : K × ℕ) (es added : List (K × ℕ)) (here : Bool) → tally_total added ≡ tally_total es + n
     → tally_total (cond here ((e.0, e.1 + n) ∷ es) (e ∷ added)) ≡ tally_total (e ∷ es) + n
-sum_step {K} n e es added true h =
-    let f = λ (x : K × ℕ). x.1 in
-    let g : tally_total (◌∷◌ (e.0, e.1 + n) es) ≡ tally_total (e ∷ es) + n = omega (arith, sum_by-cons f (e.0, e.1 + n) es, sum_by-cons f e es) in g
-sum_step {K} n e es added false h =
-    let f = λ (x : K × ℕ). x.1 in
-    let g : tally_total (e ∷ added) ≡ tally_total (e ∷ es) + n = omega (arith, h, sum_by-cons f e added, sum_by-cons f e es) in g
+sum_step {K} n e es added true h = search (arith, sum_by-cons)
+sum_step {K} n e es added false h = search (arith, sum_by-cons)
 
 pub sum-tally : {K : Type 0} (same : K → K → Bool) (k : K) (n : ℕ) (es : List (K × ℕ)) → tally_total (tally same k n es) ≡ tally_total es + n
 sum-tally same k n [] = refl
@@ -46,8 +32,7 @@ lookup-within test [] = omega arith
 lookup-within {K} test (e ∷ es) = by (test e.0) (sum_by-cons (λ (x : K × ℕ). x.1) e es) (lookup-within test es)
   where
     by : (b : Bool) → tally_total (e ∷ es) ≡ e.1 + tally_total es → unwrap_or (lookup test es) 0 ≤ tally_total es → unwrap_or (cond b (Some e.1) (lookup test es)) 0 ≤ tally_total (e ∷ es)
-    by true cons rest = let g : e.1 ≤ tally_total (e ∷ es) = omega (arith, cons) in g
-    by false cons rest = let g : unwrap_or (lookup test es) 0 ≤ tally_total (e ∷ es) = omega (arith, cons, rest) in g
+    by b cons rest = grind arith
 
 -- the numbers from one place on
 pub total-drop : {K : Type 0} (es : List (K × ℕ)) (i : ℕ) (e : K × ℕ) → slice_get es i ≡ Some e → tally_total (drop i es) ≡ e.1 + tally_total (drop (i + 1) es)
@@ -60,20 +45,13 @@ total-drop {K} (x ∷ xs) zero e at =
     MatchNumber : Option (K × ℕ) → ℕ
     MatchNumber (Some x) = x.1
     MatchNumber None = 0
-total-drop (x ∷ xs) (suc i) e at =
-    let others = total-drop xs i e at in
-    others ∙ ap (λ k. e.1 + tally_total (drop k xs)) (add-one i) ∙ ap (λ k. e.1 + tally_total (drop k (x ∷ xs))) (sym (add-one (suc i)))
+total-drop (x ∷ xs) (suc i) e at = search (add-one, total-drop xs i e at)
 
 abbrev pub one : {K : Type 0} → K → ℕ → K × ℕ
 one k n = (k, n)
 
 or_false : (b : Bool) → (b || false) ≡ b
-or_false true = refl
-or_false false = refl
-
-or_assoc : (a b c : Bool) → ((a || b) || c) ≡ (a || (b || c))
-or_assoc true b c = refl
-or_assoc false b c = refl
+or_false b = grind arith
 
 module _ {K : Type 0} (same : K → K → Bool) (self : (k : K) → same k k ≡ true) (equal : (x y : K) → same x y ≡ true → x ≡ y) where
   -- the test has no direction
@@ -81,45 +59,32 @@ module _ {K : Type 0} (same : K → K → Bool) (self : (k : K) → same k k ≡
   turned x y = by (same x y) (same y x) refl refl
     where
       by : (a b : Bool) → same x y ≡ a → same y x ≡ b → a ≡ b
-      by true true p q = refl
-      by true false p q = absurd (true≢false (sym (self x) ∙ ap (λ z. same z x) (equal x y p) ∙ q))
-      by false true p q = absurd (true≢false (sym (self y) ∙ ap (λ z. same z y) (equal y x q) ∙ p))
-      by false false p q = refl
+      by a b p q = grind arith
 
   pub distinct_keys-more : (ks : List K) (k : K) → distinct_keys same (ks ++ k ∷ []) ≡ (if list_any (same k) (distinct_keys same ks) then distinct_keys same ks else distinct_keys same ks ++ k ∷ [])
   distinct_keys-more ks k = fold-append (λ done k. if list_any (same k) done then done else done ++ k ∷ []) [] ks (k ∷ [])
 
   pub sum_at-more : (q k : K) (n : ℕ) (es : List (K × ℕ)) → sum_at same q (es ++ (k, n) ∷ []) ≡ sum_at same q es + (if same q k then n else 0)
-  sum_at-more q k n es =
-      let e = sum_by-append (λ (e : K × ℕ). if same q e.0 then e.1 else 0) es ((k, n) ∷ []) in
-      omega (arith, e)
+  sum_at-more q k n es = grind (arith, sum_by-append)
 
   -- a key was seen exactly where it is among them
   any_seen : (k x : K) (done : List K) (b : Bool) → list_any (same x) done ≡ b → list_any (same k) (if b then done else done ++ x ∷ []) ≡ (list_any (same k) done || same k x)
   any_seen k x done true e = by (same k x) refl
     where
       by : (b : Bool) → same k x ≡ b → list_any (same k) done ≡ (list_any (same k) done || b)
-      by true p = let h : list_any (same k) done ≡ true = ap (λ z. list_any (same z) done) (equal k x p) ∙ e in rw h refl
-      by false p = sym (or_false (list_any (same k) done))
+      by b p = grind arith
   any_seen k x done false e = list_any-append (same k) done (x ∷ []) ∙ ap (λ b. list_any (same k) done || b) (or_false (same k x))
 
   any_fold : (k : K) (ks done : List K) → list_any (same k) (fold (λ done k. if list_any (same k) done then done else done ++ k ∷ []) done ks) ≡ (list_any (same k) done || list_any (same k) ks)
   any_fold k [] done = sym (or_false (list_any (same k) done))
-  any_fold k (x ∷ ks) done =
-      any_fold k ks (if list_any (same x) done then done else done ++ x ∷ [])
-      ∙ ap (λ b. b || list_any (same k) ks) (any_seen k x done (list_any (same x) done) refl)
-      ∙ or_assoc (list_any (same k) done) (same k x) (list_any (same k) ks)
+  any_fold k (x ∷ ks) done = grind (arith, any_seen, any_fold k ks)
 
   sum_at-none : (k : K) (es : List (K × ℕ)) → list_any (same k) (map (λ e. e.0) es) ≡ false → sum_at same k es ≡ 0
   sum_at-none k [] h = refl
   sum_at-none k (e ∷ es) h = by (same k e.0) refl (sum_at-none k es)
     where
       by : (b : Bool) → same k e.0 ≡ b → (list_any (same k) (map (λ e. e.0) es) ≡ false → sum_at same k es ≡ 0) → sum_at same k (e ∷ es) ≡ 0
-      by true p others = absurd (true≢false (sym (ap (λ b. b || list_any (same k) (map (λ e. e.0) es)) p) ∙ h))
-      by false p others =
-          let rest : sum_at same k es ≡ 0 = others (sym (ap (λ b. b || list_any (same k) (map (λ e. e.0) es)) p) ∙ h) in
-          let cons = sum_by-cons (λ (e : K × ℕ). if same k e.0 then e.1 else 0) e es in
-          omega (arith, cons, ap (λ (b : Bool). if b then e.1 else 0) p, rest)
+      by b p others = grind arith
 
   -- seen keys are different
   distinct-one_more : (k : K) (ds : List K) → IsDistinct same ds → list_any (same k) ds ≡ false → IsDistinct same (ds ++ k ∷ [])
@@ -132,16 +97,14 @@ module _ {K : Type 0} (same : K → K → Bool) (self : (k : K) → same k k ≡
       all_more (x ∷ xs) a e = (a.0, all_more xs a.1 e)
 
       by : (b : Bool) → same k d ≡ b → (list_any (same k) ds ≡ false → IsDistinct same (ds ++ k ∷ [])) → IsDistinct same ((d ∷ ds) ++ k ∷ [])
-      by true p others = absurd (true≢false (sym (ap (λ b. b || list_any (same k) ds) p) ∙ none))
-      by false p others = (all_more ds h.0 (turned d k ∙ p), others (sym (ap (λ b. b || list_any (same k) ds) p) ∙ none))
+      by b p others = grind (arith, all_more)
 
   distinct_fold : (ks done : List K) → IsDistinct same done → IsDistinct same (fold (λ done k. if list_any (same k) done then done else done ++ k ∷ []) done ks)
   distinct_fold [] done h = h
   distinct_fold (x ∷ ks) done h = distinct_fold ks (if list_any (same x) done then done else done ++ x ∷ []) (by (list_any (same x) done) refl)
     where
       by : (b : Bool) → list_any (same x) done ≡ b → IsDistinct same (if b then done else done ++ x ∷ [])
-      by true p = h
-      by false p = distinct-one_more x done h p
+      by b p = grind (arith, distinct-one_more)
 
   pub distinct_keys-distinct : (ks : List K) → IsDistinct same (distinct_keys same ks)
   unfolding IsDistinct
@@ -151,10 +114,7 @@ module _ {K : Type 0} (same : K → K → Bool) (self : (k : K) → same k k ≡
   module _ (k : K) (n : ℕ) (g g' : K → ℕ) (more : (q : K) → g' q ≡ g q + (if same q k then n else 0)) where
     unmoved : (d : K) (ds : List K) → k ≡ d → AllByRecursion (λ y. same d y ≡ false) ds → map (λ q. one q (g q)) ds ≡ map (λ q. one q (g' q)) ds
     unmoved d [] e h = refl
-    unmoved d (q ∷ ds) e h =
-        let other : same q k ≡ false = turned q k ∙ ap (λ z. same z q) e ∙ h.0 in
-        let kept : g q ≡ g' q = omega (arith, more q, ap (λ (b : Bool). if b then n else 0) other) in
-        ap (λ m. one q m ∷ map (λ q. one q (g q)) ds) kept ∙ ap (λ l. one q (g' q) ∷ l) (unmoved d ds e h.1)
+    unmoved d (q ∷ ds) e h = grind (arith, unmoved d ds e h.1)
 
     pub tally-map : (ds : List K) → IsDistinct same ds → tally same k n (map (λ q. one q (g q)) ds) ≡ map (λ q. one q (g' q)) ds ++ (if list_any (same k) ds then [] else one k n ∷ [])
     unfolding IsDistinct
@@ -162,20 +122,7 @@ module _ {K : Type 0} (same : K → K → Bool) (self : (k : K) → same k k ≡
     tally-map (d ∷ ds) h = by (same k d) refl (tally-map ds h.1)
       where
         by : (b : Bool) → same k d ≡ b → tally same k n (map (λ q. one q (g q)) ds) ≡ map (λ q. one q (g' q)) ds ++ (if list_any (same k) ds then [] else one k n ∷ []) → tally same k n (map (λ q. one q (g q)) (d ∷ ds)) ≡ map (λ q. one q (g' q)) (d ∷ ds) ++ (if list_any (same k) (d ∷ ds) then [] else one k n ∷ [])
-        by true p others =
-            let e : k ≡ d = equal k d p in
-            let gains : g d + n ≡ g' d = omega (arith, more d, ap (λ (b : Bool). if b then n else 0) (turned d k ∙ p)) in
-            ap (λ b. if b then one d (g d + n) ∷ map (λ q. one q (g q)) ds else one d (g d) ∷ tally same k n (map (λ q. one q (g q)) ds)) p
-            ∙ ap (λ m. one d m ∷ map (λ q. one q (g q)) ds) gains
-            ∙ ap (λ l. one d (g' d) ∷ l) (unmoved d ds e h.0)
-            ∙ sym (append-nil (map (λ q. one q (g' q)) (d ∷ ds)))
-            ∙ ap (λ b. map (λ q. one q (g' q)) (d ∷ ds) ++ (if b || list_any (same k) ds then [] else one k n ∷ [])) (sym p)
-        by false p others =
-            let kept : g d ≡ g' d = omega (arith, more d, ap (λ (b : Bool). if b then n else 0) (turned d k ∙ p)) in
-            ap (λ b. if b then one d (g d + n) ∷ map (λ q. one q (g q)) ds else one d (g d) ∷ tally same k n (map (λ q. one q (g q)) ds)) p
-            ∙ ap (λ m. one d m ∷ tally same k n (map (λ q. one q (g q)) ds)) kept
-            ∙ ap (λ l. one d (g' d) ∷ l) others
-            ∙ ap (λ b. map (λ q. one q (g' q)) (d ∷ ds) ++ (if b || list_any (same k) ds then [] else one k n ∷ [])) (sym p)
+        by b p others = grind (arith, unmoved, append-nil)
 
   -- one number more, in the order in which the keys came first
   pub sums_by_key-more : (k : K) (n : ℕ) (es : List (K × ℕ)) → sums_by_key same (es ++ one k n ∷ []) ≡ tally same k n (sums_by_key same es)
@@ -195,17 +142,12 @@ module _ {K : Type 0} (same : K → K → Bool) (self : (k : K) → same k k ≡
       by : (b : Bool) → list_any (same k) (distinct_keys same (map (λ e. e.0) es)) ≡ b
           → map (λ q. one q (sum_at same q (es ++ one k n ∷ []))) (if list_any (same k) (distinct_keys same (map (λ e. e.0) es)) then distinct_keys same (map (λ e. e.0) es) else distinct_keys same (map (λ e. e.0) es) ++ k ∷ [])
           ≡ map (λ q. one q (sum_at same q (es ++ one k n ∷ []))) (distinct_keys same (map (λ e. e.0) es)) ++ (if list_any (same k) (distinct_keys same (map (λ e. e.0) es)) then [] else one k n ∷ [])
-      by true p = rw (p, append-nil) refl
-      by false p =
-          let none : sum_at same k es ≡ 0 = sum_at-none k es (sym (any_fold k (map (λ e. e.0) es) []) ∙ p) in
-          let mine : sum_at same k (es ++ one k n ∷ []) ≡ n = omega (arith, sum_at-more k k n es, none, ap (λ (b : Bool). if b then n else 0) (self k)) in
-          rw (p, map-append, mine) refl
+      by b p = grind (arith, append-nil, sum_at-none, any_fold, sum_at-more, map-append)
 
   -- adding the numbers one by one
   fold_on : (done es : List (K × ℕ)) → fold (λ l e. tally same e.0 e.1 l) (sums_by_key same done) es ≡ sums_by_key same (done ++ es)
   fold_on done [] = ap (sums_by_key same) (sym (append-nil done))
-  fold_on done (e ∷ es) =
-      ap (λ l. fold (λ l e. tally same e.0 e.1 l) l es) (sym (sums_by_key-more e.0 e.1 done)) ∙ fold_on (done ++ e ∷ []) es ∙ ap (sums_by_key same) (append_assoc done (e ∷ []) es)
+  fold_on done (e ∷ es) = grind (arith, sums_by_key-more, append_assoc, fold_on (done ++ e ∷ []) es)
 
   pub sums_by_key-fold : (es : List (K × ℕ)) → sums_by_key same es ≡ fold (λ l e. tally same e.0 e.1 l) [] es
   sums_by_key-fold es = sym (fold_on [] es)
@@ -216,8 +158,7 @@ all_tally P same k n [] mine all = (mine, tt)
 all_tally {K} P same k n (e ∷ es) mine all = by (same k e.0) (all_tally P same k n es mine all.1)
   where
     by : (b : Bool) → AllByRecursion (λ x. P x.0) (tally same k n es) → AllByRecursion (λ x. P x.0) (if b then (e.0, e.1 + n) ∷ es else e ∷ tally same k n es)
-    by true others = all
-    by false others = (all.0, others)
+    by b others = grind arith
 
 -- ---- numbers added one after the other
 
@@ -240,9 +181,7 @@ module _ {K : Type 0} (same : K → K → Bool) where
       there = is ∙ ap entry at ∙ sym (get_or-map entry xs i x e inside)
 
       cut : added ≡ take i added ++ e ∷ drop (i + 1) added
-      cut =
-          sym (take-append-drop i added)
-          ∙ ap (λ (es : List (K × ℕ)). take i added ++ es) (drop-cons added i e within ∙ ap (λ (a : K × ℕ). a ∷ drop (suc i) added) (sym there) ∙ ap (λ k. e ∷ drop k added) (sym (add-one i)))
+      cut = grind (arith, take-append-drop, drop-cons, within, there)
 
       pub next_fits : tally_total now + e.1 ≤ tally_total old + tally_total added
       next_fits =
@@ -260,6 +199,4 @@ module _ {K : Type 0} (same : K → K → Bool) where
 
   -- what held of the keys before holds after one more
   pub next_fit : (P : K → Type 0) (before now new : List (K × ℕ)) (k : K) (n : ℕ) → now ≡ before → new ≡ tally same k n now → P k → AllByRecursion (λ e. P e.0) before → AllByRecursion (λ e. P e.0) new
-  next_fit P before now new k n is more mine all =
-      let same_before : new ≡ tally same k n before = more ∙ ap (tally same k n) is in
-      subst (AllByRecursion (λ e. P e.0)) (sym same_before) (all_tally P same k n before mine all)
+  next_fit P before now new k n is more mine all = grind (arith, all_tally)

@@ -38,6 +38,7 @@ impl Model for Arcs {
 
 impl Arcs {
     /// No pairs, which take no memory yet.
+    #[tactic(auto, using(crate::proofs::ArcLemmas::none_in_order))]
     pub fn new(alloc: Global) -> Self
         ensures { result ≡ [] }
     {
@@ -141,6 +142,7 @@ impl Arcs {
     }
 
     /// Has a table in place of what was there.
+    #[tactic(auto, using(crate::proofs::ArcLemmas::none_in_order))]
     fn put(&mut self, table: Tally<(u32, u32)>)
         ensures { self.new ≡ table }
     {

@@ -132,6 +132,7 @@ fn chunk_of(starts: &[usize], i: usize) -> usize
 }
 
 /// Adds an item at the end: to the last chunk, or, where that is full, as a chunk of its own.
+#[tactic(auto, using(crate::proofs::ChunkLemmas::chunked_same, crate::proofs::ChunkLemmas::last_longer))]
 fn push<T: Drop>(
     alloc: Global,
     chunks: &mut Vec<Vec<T>>,
@@ -260,6 +261,7 @@ fn split_full<T: Drop>(
 }
 
 /// One item more stands before each chunk from `c` on.
+#[tactic(auto, using(std::proofs::lemmas::List::with_items_is))]
 fn bump(starts: &mut Vec<usize>, c: usize)
     requires { (k : ℕ) → k < length starts.old.items → slice_index starts.old.items k + 1 < 2 ^ 64 }
     ensures { starts.new.items ≡ starts_with_one_more c starts.old.items }
@@ -268,6 +270,7 @@ fn bump(starts: &mut Vec<usize>, c: usize)
 }
 
 /// Counts up the numbers from number `c` on: of a slice, so that several are counted up at a time.
+#[tactic(auto, using(std::proofs::lemmas::List::get_or_default, crate::proofs::ChunkLemmas::one_more_bumped))]
 fn count_up(starts: &mut [usize], c: usize)
     requires { (k : ℕ) → k < length starts.old → slice_index starts.old k + 1 < 2 ^ 64 }
     ensures { starts.new ≡ starts_with_one_more c starts.old }

@@ -26,6 +26,7 @@ pub(crate) fn count_ended(hists: &ChunkedList<Hist>, address: u32) -> usize
 /// The lowest kept histogram that overlaps the new range and differs from it, beside that range. Only the
 /// first one that ends above the new low address can be: of those behind it none overlaps where it is the
 /// new range itself, and none where it lies above.
+#[tactic(auto, using(crate::proofs::SearchLemmas::none_is_late))]
 fn find_range_conflict(hists: &ChunkedList<Hist>, new: HistRange) -> Option<Unlike>
     requires counters { (i : ℕ) (k : AnyHist) → slice_get hists.now i ≡ Some k
         → length k.counters < 2 ^ 32 }

@@ -41,6 +41,7 @@ impl Model for Profile {
 
 impl Profile {
     /// The empty profile, which takes no memory yet.
+    #[tactic(auto, unfolding(crate::specs::Content::content_of))]
     pub fn new(alloc: Global) -> Profile
         ensures content { result ≡ empty_content }
         ensures stands { result ≡ content_of [] }
@@ -55,6 +56,7 @@ impl Profile {
     }
 
     /// A profile of the same content.
+    #[tactic(auto, using(std::proofs::lemmas::List::Elements::same_from_all_zip))]
     pub fn try_clone(&self) -> Result<Profile, AllocError>
         ensures { IfOk result (λ p. p ≡ self.now) }
     {
@@ -253,6 +255,7 @@ impl Profile {
     /// Refusals: those of `add_hist` for the first refused histogram. After a refusal the records before
     /// the refused one are added, and none after it; after want of memory some first records are added,
     /// of a blocks record a prefix, and the next one has no other refusal.
+    #[tactic(auto, using(crate::proofs::RecordLemmas::stopped_conflict))]
     pub fn add_records(&mut self, r: &Records) -> Result<(), AddRefusal>
         requires ranges { All HasRange r.now.recs }
         requires within { IsWithin (with_records (wide_records r.now.recs) self.old) }
@@ -281,6 +284,7 @@ impl Profile {
         Ok(())
     }
 
+    #[tactic(auto, using(crate::proofs::NumberLemmas::few_of_record, crate::proofs::RecordLemmas::blocks_accepted))]
     fn add_record(&mut self, rec: &Rec) -> Result<(), AddRefusal>
         requires range { HasRange rec.now }
         requires within { IsWithin (with_records (wide_record rec.now) self.old) }
@@ -328,6 +332,7 @@ impl Profile {
     }
 
     /// The unit of the histograms: None exactly where there is no histogram.
+    #[tactic(auto, using(crate::proofs::HistLemmas::unit_none))]
     pub fn unit(&self) -> Option<Unit>
         ensures unit { result ≡ self.now.«unit» }
         ensures none { (result ≡ None) ↔ (self.now.hists ≡ []) }

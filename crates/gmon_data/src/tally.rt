@@ -114,6 +114,7 @@ impl<K: Eq + Ord + Hash + Copy + Drop> Tally<K> {
     /// Adds what records count, in their order. Room for all of them is taken first, where there is some, and the keys of
     /// some are looked up one behind the other before the first of these is added, so that the waits for memory overlap.
     /// After want of memory some first ones are added.
+    #[tactic(auto, using(crate::proofs::TallyLemmas::next_fits, crate::proofs::TallyLemmas::tallied_partly))]
     pub fn add_all<R: Counted<K>>(&mut self, records: &[R]) -> Result<(), AllocError>
         requires { tally_total self.old + tally_total (map R.entry_of records.now) < 2 ^ 64 }
         ensures added { OnOk result (self.new

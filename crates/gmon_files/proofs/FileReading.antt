@@ -1,8 +1,6 @@
 -- A profile file's form, and its bytes as they come.
-use Rattle.std.proofs.Common.{◌≡◌, ℕ, ◌<◌, ◌≤◌, Bool, true, false, List, ◌++◌, length, take, length-take, Some, None, Result, Ok, Err, refl, sym, ap, subst, ◌∙◌, if◌then◌else◌, arith}
-use Rattle.std.specs.Prelude.{bytes_eq, codes, nat_lt, IfOk}
-use Rattle.std.proofs.lemmas.Bool.{lt-ltb}
-use Rattle.std.proofs.lemmas.Slice.Eq.{bytes_eq-Decides}
+use Rattle.std.proofs.Common.{◌≡◌, ℕ, ◌<◌, ◌≤◌, List, ◌++◌, length, Some, None, Result, Ok, Err, sym, ap, subst, ◌∙◌, if◌then◌else◌, arith}
+use Rattle.std.specs.Prelude.{bytes_eq, codes, IfOk}
 use Rattle.std.proofs.lemmas.List.{take-append-le}
 use Rattle.gp_base.specs.Bytes.{IsBytes}
 use Rattle.gp_base.specs.declared.records.Form.{Form}
@@ -10,7 +8,6 @@ use Rattle.gp_base.specs.declared.records.Form.TheVariants.{Bsd, Gnu}
 use Rattle.host_port.specs.Outside.{Outside}
 use Rattle.host_port.specs.declared.whole_file.LoadRefusal.{LoadRefusal}
 use Rattle.gp_base.specs.declared.refusal.GmonRefusal.TheVariants.{Short}
-use Rattle.gmon_bsd.specs.Reading.{bsd_refusal}
 use Rattle.gmon_bsd.proofs.FieldLemmas.{spelled_of as bsd_spelled}
 use Rattle.gmon_gnu.proofs.MeaningLemmas.{spelled_of as gnu_spelled}
 use Rattle.gmon_files.specs.declared.file_reader.FileReader.{FileReader}
@@ -27,20 +24,9 @@ pub form_goes_on : (bytes piece : List ℕ) → 4 ≤ length bytes → form_of (
 unfolding form_of
 form_goes_on bytes piece long = ap (λ (v : List ℕ). if bytes_eq v (codes "gmon") then Gnu else Bsd) (take-append-le 4 bytes piece long)
 
-pub form_short : (bytes : List ℕ) → length bytes < 4 → form_of bytes ≡ Bsd
-unfolding form_of
-form_short bytes short = by (bytes_eq (take 4 bytes) (codes "gmon")) refl
-  where
-    by : (b : Bool) → bytes_eq (take 4 bytes) (codes "gmon") ≡ b → (if bytes_eq (take 4 bytes) (codes "gmon") then Gnu else Bsd) ≡ Bsd
-    by true is = absurd (let same : length (take 4 bytes) ≡ 4 = ap length ((bytes_eq-Decides (take 4 bytes) (codes "gmon")).0 is) in omega (arith, same, length-take 4 bytes, short))
-    by false is = ap (λ (b : Bool). if b then Gnu else Bsd) is
-
 -- a file that ends before its first four bytes
 pub short_refused : (bytes : List ℕ) → length bytes < 4 → refusal_in (form_of bytes) bytes ≡ Some (Short (length bytes))
-short_refused bytes few =
-    let header : nat_lt (length bytes) 32 ≡ true = lt-ltb (length bytes) 32 (omega (arith, few)) in
-    let due : bsd_refusal bytes ≡ Some (Short (length bytes)) = rw header refl in
-    ap (λ (f : Form). refusal_in f bytes) (form_short bytes few) ∙ due
+short_refused bytes few = grind arith
 
 -- a file that isn't refused spells what its form reads
 pub accepted_spelled : (bytes : List ℕ) → IsBytes bytes → file_refusal bytes ≡ None → FileSpells bytes (file_records bytes)

@@ -1,7 +1,5 @@
 -- The file of a run has the form in which it is written, and is read as what was logged.
-use Rattle.std.proofs.Common.{◌≡◌, ℕ, ◌*◌, ◌/◌, ◌%◌, max, Bool, false, eqb, List, [], ◌∷◌, ◌++◌, take, None, refl, sym, ap, subst, append-nil, if◌then◌else◌, arith}
-use Rattle.std.specs.Prelude.{bytes_eq, ◌&&◌}
-use Rattle.std.proofs.lemmas.Bool.Decides.{nat_tests}
+use Rattle.std.proofs.Common.{◌≡◌, ℕ, ◌*◌, ◌/◌, ◌%◌, max, List, [], ◌∷◌, ◌++◌, None, refl, sym, subst, append-nil, arith}
 use Rattle.gp_base.specs.declared.records.Form.{Form}
 use Rattle.gp_base.specs.declared.records.Form.TheVariants.{Bsd, Gnu}
 use Rattle.gp_base.specs.declared.records.Span.{Span}
@@ -20,9 +18,7 @@ use Rattle.gmon_files.specs.Runs.{RunFilesSayTheirLogs}
 -- a file that begins with the low address of a text isn't of the GNU form: the address is even, and a `g` is odd
 even_front : (low k : ℕ) (rest : List ℕ) → low ≡ 2 * k → form_of (low % 256 ∷ rest) ≡ Bsd
 unfolding form_of
-even_front low k rest even =
-    let other : eqb (low % 256) 103 ≡ false = grind (arith, nat_tests, even) in
-    ap (λ (b : Bool). if b && bytes_eq (take 3 rest) (109 ∷ 111 ∷ 110 ∷ []) then Gnu else Bsd) other
+even_front low k rest even = grind arith
 
 half_of_low : (text_low m : ℕ) → text_low / (2 * m) * (2 * m) ≡ 2 * (text_low / (2 * m) * m)
 half_of_low text_low m = let q : ℕ = text_low / (2 * m) in product q

@@ -1,5 +1,5 @@
 -- What a reader adds to a profile, entry by entry.
-use Rattle.std.proofs.Common.{◌≡◌, ℕ, ◌-◌, ◌<◌, Some, get_or, slice_get, List, [], ◌∷◌, ◌++◌, length, map, take, drop, append_assoc, length-drop, refl, sym, ap, subst, ◌∙◌, arith}
+use Rattle.std.proofs.Common.{◌≡◌, ℕ, ◌-◌, ◌<◌, Some, get_or, slice_get, List, [], ◌∷◌, ◌++◌, length, map, take, drop, append_assoc, length-drop, sym, ap, subst, ◌∙◌, arith}
 use Rattle.std.specs.List.{AllByRecursion, flat_map}
 use Rattle.std.proofs.lemmas.Grind.{flat_map-append}
 use Rattle.std.proofs.lemmas.List.{append-nil, take_all}
@@ -35,13 +35,10 @@ item_at {X} d i {slice} same within = subst (λ (xs : List X). slice_get xs i �
 
 module _ (more : List WideRec) (old : Content) {arcs slice : List RawArc} {all : List WideRec} (is : all ≡ map wide_arc arcs ++ more) (same : slice ≡ arcs) where
   pub front_within : IsWithin (with_records all old) → IsWithin (with_records (map wide_arc slice) old)
-  front_within fits =
-      subst (λ (l : List RawArc). IsWithin (with_records (map wide_arc l) old)) (sym same) (within_first (map wide_arc arcs) more old (subst (λ (recs : List WideRec). IsWithin (with_records recs old)) is fits))
+  front_within fits = grind (arith, within_first)
 
   pub front_stopped : {refusal : AddRefusal} {new : Content} → IsStopped refusal (map wide_arc slice) old new → IsStopped refusal all old new
-  front_stopped {refusal} {new} stopped =
-      subst (λ (recs : List WideRec). IsStopped refusal recs old new) (sym is)
-      (stopped_first (map wide_arc arcs) more old refusal new (subst (λ (l : List RawArc). IsStopped refusal (map wide_arc l) old new) same stopped))
+  front_stopped {refusal} {new} stopped = grind (arith, stopped_first)
 
   module _ {mid : Content} (added : mid ≡ with_records (map wide_arc slice) old) where
     front : IsAdded (map wide_arc arcs) old mid
@@ -59,26 +56,14 @@ module _ (more : List WideRec) (old : Content) {arcs slice : List RawArc} {all :
 module _ (fields : List HistFields) (counters : List ℕ) (pairs : List RawBlock) (arcs : List RawArc) where
   -- an entry is its arcs, and the record behind them
   pub entry_widened : (e : Entry) → wide_records (entry_recs fields counters pairs arcs e) ≡ map wide_arc (arcs_before arcs e) ++ wide_record (rec_of fields counters pairs e.body)
-  entry_widened e =
-      let before = arcs_before arcs e in
-      let r = rec_of fields counters pairs e.body in
-      flat_map-append wide_record (map Arc before) (r ∷ [])
-      ∙ ap (λ (v : List WideRec). v ++ wide_records (r ∷ [])) (arcs_widened before)
-      ∙ ap (λ (v : List WideRec). map wide_arc before ++ v) (flat_map-cons wide_record r [] ∙ append-nil (wide_record r))
+  entry_widened e = search (flat_map-append, arcs_widened, flat_map-cons, append-nil)
 
   -- what was read is the entries, and the arcs behind them
   pub all_widened : (entries : List Entry) (run : ℕ) → wide_records (recs_in fields counters pairs arcs entries run) ≡ entries_recs fields counters pairs arcs entries ++ map wide_arc (drop run arcs)
-  all_widened entries run =
-      flat_map-append wide_record (flat_map (entry_recs fields counters pairs arcs) entries) (map Arc (drop run arcs))
-      ∙ ap (λ (v : List WideRec). entries_recs fields counters pairs arcs entries ++ v) (arcs_widened (drop run arcs))
+  all_widened entries run = search (flat_map-append, arcs_widened)
 
   pub entries_in_turn : IsInTurn Entry (λ e. wide_records (entry_recs fields counters pairs arcs e)) (entries_recs fields counters pairs arcs)
-  entries_in_turn = record {
-    none = refl;
-    more = λ e entries.
-        ap wide_records (flat_map-cons (entry_recs fields counters pairs arcs) e entries)
-        ∙ flat_map-append wide_record (entry_recs fields counters pairs arcs e) (flat_map (entry_recs fields counters pairs arcs) entries);
-  }
+  entries_in_turn = search (flat_map-cons, flat_map-append)
 
   -- the histograms of entries have ranges where all do
   pub entries_ranges : (entries : List Entry) (rest : List Rec) → AllByRecursion HasRange (flat_map (entry_recs fields counters pairs arcs) entries ++ rest) → AllByRecursion (λ e. HasRange (rec_of fields counters pairs e.body)) entries
@@ -116,8 +101,7 @@ module _ (fields : List HistFields) (counters : List ℕ) (pairs : List RawBlock
     entries_within fits = subst (λ (c : Content). IsWithin (with_records first c)) (sym same) (within_first first last old (split_within fits))
 
     pub entries_stopped : (refusal : AddRefusal) (new : Content) → IsStopped refusal first start new → IsStopped refusal all old new
-    entries_stopped refusal new stopped =
-        subst (λ (recs : List WideRec). IsStopped refusal recs old new) (sym widened) (stopped_first first last old refusal new (subst (λ (c : Content). IsStopped refusal first c new) same stopped))
+    entries_stopped refusal new stopped = grind (arith, widened, stopped_first)
 
     module _ (mid : Content) (one : IsAdded first start mid) (slice : List RawArc) (slice_is : slice ≡ arcs) where
       first_added : IsAdded first old mid
@@ -131,13 +115,10 @@ module _ (fields : List HistFields) (counters : List ℕ) (pairs : List RawBlock
           subst (λ (rest : List RawArc). IsWithin (with_records (map wide_arc rest) mid)) (sym (rest_of_slice slice arcs run slice_is)) (within_second first last old mid first_added (split_within fits))
 
       pub last_stopped : (refusal : AddRefusal) (new : Content) → IsStopped refusal (map wide_arc behind) mid new → IsStopped refusal all old new
-      last_stopped refusal new stopped =
-          subst (λ (recs : List WideRec). IsStopped refusal recs old new) (sym widened)
-          (stopped_second first last old mid first_added refusal new (subst (λ (rest : List RawArc). IsStopped refusal (map wide_arc rest) mid new) (rest_of_slice slice arcs run slice_is) stopped))
+      last_stopped refusal new stopped = grind (arith, widened, stopped_second, rest_of_slice)
 
       pub last_added : (new : Content) → new ≡ with_records (map wide_arc behind) mid → IsAdded all old new
-      last_added new is =
-          subst (λ (recs : List WideRec). IsAdded recs old new) (sym widened) (added_both first last old mid first_added new (arcs_added (rest_of_slice slice arcs run slice_is) mid new is))
+      last_added new is = search (widened, added_both, first_added, arcs_added, rest_of_slice)
 
 -- the records of a reader's entries
 pub held_in_turn : (s : State) → IsInTurn Entry (λ e. wide_records (held_recs s e)) (entries_recs s.fields.items s.counters.cells.items s.pairs.cells.items s.arcs.items)

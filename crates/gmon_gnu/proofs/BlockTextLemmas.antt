@@ -1,5 +1,5 @@
 -- The record of executed instructions, pair by pair.
-use Rattle.std.proofs.Common.{◌≡◌, ℕ, ◌+◌, ◌*◌, ◌<◌, Bool, true, false, eqb, List, [], ◌∷◌, ◌++◌, length, take, filter_map, get_or, slice_index, Option, Some, None, refl, sym, ap, ◌∙◌, length-append, if◌then◌else◌, arith}
+use Rattle.std.proofs.Common.{◌≡◌, ℕ, ◌+◌, ◌*◌, ◌<◌, Bool, eqb, List, [], ◌∷◌, ◌++◌, length, take, filter_map, get_or, slice_index, Option, Some, None, refl, sym, ap, ◌∙◌, length-append, if◌then◌else◌, arith}
 use Rattle.std.specs.List.{flat_map, range_with_len}
 use Rattle.std.proofs.lemmas.Bool.{eq-eqb, ne_eqb}
 use Rattle.std.proofs.lemmas.List.{take_more}
@@ -31,23 +31,16 @@ pairs_text low xs (i ∷ is) = by (eqb (slice_index xs i) 0) (pairs_text low xs 
     by : (b : Bool) → flat_map (λ i. pair_bytes (low + 4 * i) (slice_index xs i)) is ≡ flat_map block_bytes (filter_map (block_at low xs) is)
         → (if b then [] else block_bytes this) ++ flat_map (λ i. pair_bytes (low + 4 * i) (slice_index xs i)) is
         ≡ flat_map block_bytes (first_to (if b then None else Some this) (filter_map (block_at low xs) is))
-    by true others = others
-    by false others = ap (λ (t : List ℕ). block_bytes this ++ t) others
-
-some_record : (bs : List RawBlock) (n : ℕ) → n ≡ length bs → (n ≡ 0 → ⊥) → 2 ∷ (le n 4 ++ flat_map block_bytes bs) ≡ record_of bs
-some_record [] n is some = absurd (some is)
-some_record (b ∷ bs) n is some = ap (λ (m : ℕ). 2 ∷ (le m 4 ++ flat_map block_bytes (b ∷ bs))) is
+    by b others = grind arith
 
 -- the whole record
 pub record_text : (low : ℕ) (xs : List ℕ) (n : ℕ) → n ≡ length (executed_blocks low xs) → (n ≡ 0 → ⊥)
     → 2 ∷ (le n 4 ++ flat_map (λ i. pair_bytes (low + 4 * i) (slice_index xs i)) (range_with_len 0 (length xs))) ≡ block_record low xs
 unfolding block_record
-record_text low xs n is some =
-    ap (λ (t : List ℕ). 2 ∷ (le n 4 ++ t)) (pairs_text low xs (range_with_len 0 (length xs))) ∙ some_record (executed_blocks low xs) n is some
+record_text low xs n is some = grind (arith, pairs_text)
 
 none_by : (bs : List RawBlock) → 0 ≡ length bs → record_of bs ≡ []
-none_by [] is = refl
-none_by (b ∷ bs) is = absurd (omega (arith, is))
+none_by bs is = grind arith
 
 pub no_record : (low : ℕ) (xs : List ℕ) (n : ℕ) → n ≡ length (executed_blocks low xs) → n ≡ 0 → block_record low xs ≡ []
 unfolding block_record
@@ -75,9 +68,7 @@ executed_more low xs i within =
     first None = []
 
     one : (o : Option RawBlock) → filter_map (λ (x : ℕ). o) (i ∷ []) ≡ first o
-    one (Some x) = refl
-    one None = refl
+    one o = grind arith
 
     by : (b : Bool) → length (front ++ first (if b then None else Some (record { addr = low + 4 * i; count = slice_index xs i }))) ≡ length front + (if b then 0 else 1)
-    by true = omega (arith, length-append front [])
-    by false = omega (arith, length-append front (record { addr = low + 4 * i; count = slice_index xs i } ∷ []))
+    by b = grind (arith, length-append)

@@ -1,5 +1,5 @@
 -- A file is refused exactly where it has a fault by the grammar.
-use Rattle.std.proofs.Common.{◌≡◌, ℕ, zero, suc, ◌+◌, ◌-◌, ◌*◌, ◌<◌, ◌≤◌, Bool, true, false, ltb, leb, eqb, not, ◌&&◌, ◌⊎◌, inl, inr, List, [], ◌∷◌, ◌++◌, length, take, drop, length-append, length-take, length-drop, append_assoc, Option, Some, Result, Ok, Err, if◌then◌else◌, refl, sym, ap, subst, ◌∙◌, arith}
+use Rattle.std.proofs.Common.{◌≡◌, ℕ, zero, suc, ◌+◌, ◌-◌, ◌*◌, ◌<◌, ◌≤◌, Bool, true, false, ltb, leb, eqb, not, ◌&&◌, ◌⊎◌, inl, inr, List, [], ◌∷◌, ◌++◌, length, take, drop, length-append, length-take, length-drop, append_assoc, Option, Some, Result, if◌then◌else◌, refl, sym, ap, subst, ◌∙◌, arith}
 use Rattle.std.specs.List.{flat_map, AllByRecursion}
 use Rattle.std.proofs.lemmas.Bool.{lt-ltb, le-ltb, le-leb, ltb-true, ltb-false, leb-true, leb-false, eq-eqb, ne_eqb, eqb-true, eqb-false, not-true, not-false, and_from, and_parts, cases_lt}
 use Rattle.std.proofs.lemmas.List.{drop_at, drop-drop}
@@ -25,9 +25,7 @@ next_shorter r recs tail = omega (arith, ap length (next_text r recs tail), shor
 
 -- the text behind the header
 spelling_then : (first spare : List ℕ) (recs : List Rec) (tail : List ℕ) → gnu_spelling first spare recs ++ tail ≡ first ++ (le gnu_version 4 ++ (spare ++ (flat_map rec_bytes recs ++ tail)))
-spelling_then first spare recs tail =
-    let front = flat_map rec_bytes recs in
-    append_assoc first (le gnu_version 4 ++ (spare ++ front)) tail ∙ ap (λ (v : List ℕ). first ++ (le gnu_version 4 ++ v)) (append_assoc spare front tail)
+spelling_then first spare recs tail = search append_assoc
 
 -- the place of a text that ends a file
 place_of : (bytes text tail : List ℕ) → bytes ≡ text ++ tail → length bytes - length tail ≡ length text
@@ -36,12 +34,10 @@ place_of bytes text tail e = omega (arith, ap length e, length-append text tail)
 -- ---- what has a fault is refused
 
 refusal_behind : (r : Rec) (o : Result (List Rec) GmonRefusal) → refusal_read (behind_records (r ∷ []) o) ≡ refusal_read o
-refusal_behind r (Ok rs) = refl
-refusal_behind r (Err e) = refl
+refusal_behind r o = grind arith
 
 refusal_after : (f : Front) (more : List ℕ → Result (List Rec) GmonRefusal) (e : GmonRefusal) → front_refusal f ≡ Some e → refusal_read (after_front more f) ≡ Some e
-refusal_after (Refused refusal) more e is = is
-refusal_after (Found r rest) more e is = absurd cc
+refusal_after f more e is = grind arith
 
 fault_behind : (len n : ℕ) (recs : List Rec) (tag : ℕ) (body : List ℕ) (e : GmonRefusal) → length (flat_map rec_bytes recs ++ tag ∷ body) ≤ n → AllByRecursion RecFits recs
     → front_refusal (body_front len (len - length (tag ∷ body)) tag body) ≡ Some e → refusal_read (recs_from len n (flat_map rec_bytes recs ++ tag ∷ body)) ≡ Some e
@@ -77,17 +73,10 @@ counters_long : (body : List ℕ) → length (drop 1 (drop 15 (drop 16 body))) �
 counters_long body = omega (arith, length-drop 1 (drop 15 (drop 16 body)), length-drop 15 (drop 16 body), length-drop 16 body)
 
 other_tag : (len at tag : ℕ) (body : List ℕ) → 2 < tag → front_refusal (body_front len at tag body) ≡ Some (Tag at tag)
-other_tag len at zero body other = absurd (omega arith)
-other_tag len at (suc zero) body other = absurd (omega arith)
-other_tag len at (suc (suc zero)) body other = absurd (omega arith)
-other_tag len at (suc (suc (suc tag))) body other = refl
+other_tag len at tag body other = grind arith
 
 empty_range : (len at : ℕ) (body : List ℕ) → HasEmptyRange body → front_refusal (body_front len at 0 body) ≡ Some (Range at (low_in body) (high_in body))
-empty_range len at body fault =
-    let n = counters_in body in
-    let fields : ltb (length body) 32 ≡ false = le-ltb (length body) 32 fault.fields in
-    let empty : (ltb 0 n && leb (high_in body) (low_in body)) ≡ true = and_from (ltb 0 n) (leb (high_in body) (low_in body)) (lt-ltb 0 n fault.counters) (le-leb (high_in body) (low_in body) fault.range) in
-    rw (fields, empty) refl
+empty_range len at body fault = search (ltb, le-ltb, leb, and_from, lt-ltb, le-leb)
 
 torn : (len at tag : ℕ) (body : List ℕ) → IsTorn tag body → front_refusal (body_front len at tag body) ≡ Some (Short len)
 torn len at tag body (TornFields b short) = let here : ltb (length b) 32 ≡ true = lt-ltb (length b) 32 short in rw here refl
@@ -103,22 +92,11 @@ torn len at tag body (TornCounters b range short) =
     ]
 torn len at tag body (TornArc b short) = let here : ltb (length b) 12 ≡ true = lt-ltb (length b) 12 short in rw here refl
 torn len at tag body (TornNumber b short) = let here : ltb (length b) 4 ≡ true = lt-ltb (length b) 4 short in rw here refl
-torn len at tag body (TornPairs b short) =
-    let after = drop 4 b in
-    elim (cases_lt (length b) 4) [
-      | inl few ↦ let here : ltb (length b) 4 ≡ true = lt-ltb (length b) 4 few in rw here refl
-      | inr all ↦
-          let number : ltb (length b) 4 ≡ false = le-ltb (length b) 4 all in
-          let here : ltb (length after) (pairs_in b * 8) ≡ true = lt-ltb (length after) (pairs_in b * 8) (omega (arith, length-drop 4 b, short, all)) in
-          rw (number, here) refl
-    ]
+torn len at tag body (TornPairs b short) = grind arith
 
 fault_answered : (bytes : List ℕ) (e : GmonRefusal) → HasFault bytes e → gnu_refusal bytes ≡ Some e
 fault_answered bytes e (TornHeader short) = let here : ltb (length bytes) 20 ≡ true = lt-ltb (length bytes) 20 short in rw here refl
-fault_answered bytes e (OtherVersion long other) =
-    let here : ltb (length bytes) 20 ≡ false = le-ltb (length bytes) 20 long in
-    let differs : not (eqb (word_at bytes 4) gnu_version) ≡ true = ap not (ne_eqb (word_at bytes 4) gnu_version other) in
-    rw (here, differs) refl
+fault_answered bytes e (OtherVersion long other) = search (ltb, le-ltb, eqb, ne_eqb)
 fault_answered bytes e (OtherTag at tag body here other) = record_refused bytes at tag body (Tag at tag) here (other_tag (length bytes) at tag body other)
 fault_answered bytes e (EmptyRange at body here fault) = record_refused bytes at 0 body (Range at (low_in body) (high_in body)) here (empty_range (length bytes) at body fault)
 fault_answered bytes e (TornRecord at tag body here fault) = record_refused bytes at tag body (Short (length bytes)) here (torn (length bytes) at tag body fault)
@@ -126,8 +104,7 @@ fault_answered bytes e (TornRecord at tag body here fault) = record_refused byte
 -- ---- what is refused has a fault
 
 refused_by : (b : Bool) (x e : GmonRefusal) (f : Front) → front_refusal (if b then Refused x else f) ≡ Some e → ((b ≡ true) × (x ≡ e)) ⊎ ((b ≡ false) × (front_refusal f ≡ Some e))
-refused_by true x e f is = inl (refl, cc)
-refused_by false x e f is = inr (refl, is)
+refused_by b x e f is = grind arith
 
 hist_fault : (bytes : List ℕ) (at : ℕ) (body : List ℕ) (e : GmonRefusal) → RecordAt bytes at 0 body → front_refusal (body_front (length bytes) at 0 body) ≡ Some e → HasFault bytes e
 hist_fault bytes at body e here is =
@@ -230,8 +207,7 @@ file_fault bytes e are long version_is is =
     found.refused
 
 some_by : (b : Bool) (x e : GmonRefusal) (o : Option GmonRefusal) → (if b then Some x else o) ≡ Some e → ((b ≡ true) × (x ≡ e)) ⊎ ((b ≡ false) × (o ≡ Some e))
-some_by true x e o is = inl (refl, cc)
-some_by false x e o is = inr (refl, is)
+some_by b x e o is = grind arith
 
 refused_has_fault : (bytes : List ℕ) (e : GmonRefusal) → IsBytes bytes → gnu_refusal bytes ≡ Some e → HasFault bytes e
 refused_has_fault bytes e are is =

@@ -1,19 +1,16 @@
 -- What the bytes that were fed are.
-use Rattle.std.proofs.Common.{◌≡◌, ℕ, Bool, true, false, not, eqb, ltb, List, [], ◌++◌, length, drop, length-drop, Option, Some, None, Result, Ok, Err, if◌then◌else◌, refl, sym, ap, subst, ◌∙◌, arith}
+use Rattle.std.proofs.Common.{◌≡◌, ℕ, Bool, eqb, ltb, List, [], ◌++◌, length, drop, length-drop, Option, Some, None, Result, Ok, Err, if◌then◌else◌, refl, sym, ap, subst, ◌∙◌, arith}
 use Rattle.std.specs.List.{AllByRecursion}
 use Rattle.std.proofs.lemmas.List.{append-nil}
 use Rattle.gp_base.specs.declared.records.Rec.{Rec}
 use Rattle.gp_base.specs.declared.records.Records.{Records}
 use Rattle.gp_base.specs.declared.records.Form.TheVariants.{Gnu}
 use Rattle.gp_base.specs.declared.refusal.GmonRefusal.{GmonRefusal}
-use Rattle.gp_base.specs.declared.refusal.GmonRefusal.TheVariants.{Short, Version}
-use Rattle.gp_base.specs.Bytes.{word_at}
 use Rattle.gp_base.specs.Refusal.{IsRefusal}
 use Rattle.gp_base.specs.Spans.{HasRange}
 use Rattle.gmon_data.specs.Content.{wide_records}
 use Rattle.gmon_cells.proofs.RefusalLemmas.{given_one}
 use Rattle.gmon_gnu.specs.Adding.{spelled_records}
-use Rattle.gmon_gnu.specs.Fields.{gnu_version}
 use Rattle.gmon_gnu.specs.Reading.{behind_records, file_recs, refusal_read, recs_in, gnu_refusal, gnu_records}
 use Rattle.gmon_gnu.specs.Going.{records_on, header_on, resume}
 use Rattle.gmon_gnu.specs.Ending.{ending_result}
@@ -28,23 +25,16 @@ pub records_of : (bytes : List ℕ) → file_recs bytes ≡ records_on (length b
 records_of bytes = allowance (length bytes) (length bytes) (length (drop 20 bytes)) (drop 20 bytes) (omega (arith, length-drop 20 bytes)) (omega arith)
 
 two_tests : (a b : Bool) (x y : GmonRefusal) (o : Result (List Rec) GmonRefusal) → (if a then Some x else (if b then Some y else refusal_read o)) ≡ refusal_read (if a then Err x else (if b then Err y else o))
-two_tests true b x y o = refl
-two_tests false true x y o = refl
-two_tests false false x y o = refl
+two_tests a b x y o = grind arith
 
 both_pass : (a b : Bool) (x y : GmonRefusal) (o : Result (List Rec) GmonRefusal) (recs : List Rec) → (if a then Err x else (if b then Err y else o)) ≡ Ok recs → o ≡ Ok recs
-both_pass true b x y o recs is = absurd cc
-both_pass false true x y o recs is = absurd cc
-both_pass false false x y o recs is = is
+both_pass a b x y o recs is = grind arith
 
 pub refusal_on : (bytes : List ℕ) → gnu_refusal bytes ≡ refusal_read (header_on (length bytes) bytes)
-refusal_on bytes =
-    (λ i. if ltb (length bytes) 20 then Some (Short (length bytes)) else (if not (eqb (word_at bytes 4) gnu_version) then Some (Version (word_at bytes 4)) else refusal_read (records_of bytes i)))
-    ∙ two_tests (ltb (length bytes) 20) (not (eqb (word_at bytes 4) gnu_version)) (Short (length bytes)) (Version (word_at bytes 4)) (records_on (length bytes) (drop 20 bytes))
+refusal_on bytes = search (ltb, eqb, records_of, two_tests)
 
 pub records_are : (bytes : List ℕ) (recs : List Rec) → header_on (length bytes) bytes ≡ Ok recs → file_recs bytes ≡ Ok recs
-records_are bytes recs is =
-    records_of bytes ∙ both_pass (ltb (length bytes) 20) (not (eqb (word_at bytes 4) gnu_version)) (Short (length bytes)) (Version (word_at bytes 4)) (records_on (length bytes) (drop 20 bytes)) recs is
+records_are bytes recs is = search (records_of, both_pass, ltb, eqb)
 
 -- ---- it ends here
 

@@ -1,13 +1,12 @@
 -- What stands at the front of a text.
-use Rattle.std.proofs.Common.{◌≡◌, ℕ, zero, suc, ◌*◌, ◌≤◌, Bool, true, false, ltb, leb, ◌&&◌, List, [], length, drop, length-drop, if◌then◌else◌, refl, ap, subst, arith}
+use Rattle.std.proofs.Common.{◌≡◌, ℕ, zero, suc, ◌*◌, ◌≤◌, Bool, false, ltb, leb, ◌&&◌, List, [], length, drop, length-drop, if◌then◌else◌, ap, subst, arith}
 use Rattle.gp_base.specs.declared.records.Rec.{Rec}
 use Rattle.gp_base.specs.declared.refusal.GmonRefusal.{GmonRefusal}
 use Rattle.gp_base.specs.Bytes.{word_at}
 use Rattle.gmon_gnu.specs.Reading.{Front, Refused, Found, body_front}
 
 pub found_then : (b : Bool) (e : GmonRefusal) (f : Front) (r : Rec) (rest : List ℕ) → (if b then Refused e else f) ≡ Found r rest → (b ≡ false) × (f ≡ Found r rest)
-found_then true e f r rest is = absurd cc
-found_then false e f r rest is = (refl, is)
+found_then b e f r rest is = grind arith
 
 rec_in : Rec → Front → Rec
 rec_in d (Refused e) = d
@@ -33,12 +32,6 @@ front_shorter len at zero body r rest is =
     let b = found_then (ltb 0 n && leb (word_at body 4) (word_at body 0)) _ _ r rest a.1 in
     let d = found_then (ltb (length after) (n * 2)) _ _ r rest b.1 in
     no_longer (drop (n * 2) after) rest body (same_found _ r _ rest d.1).1 (omega (arith, length-drop (n * 2) after, length-drop 1 (drop 15 (drop 16 body)), length-drop 15 (drop 16 body), length-drop 16 body))
-front_shorter len at (suc zero) body r rest is =
-    let a = found_then (ltb (length body) 12) _ _ r rest is in
-    no_longer (drop 12 body) rest body (same_found _ r _ rest a.1).1 (omega (arith, length-drop 12 body))
-front_shorter len at (suc (suc zero)) body r rest is =
-    let n = word_at body 0 in
-    let a = found_then (ltb (length body) 4) _ _ r rest is in
-    let d = found_then (ltb (length (drop 4 body)) (n * 8)) _ _ r rest a.1 in
-    no_longer (drop (n * 8) (drop 4 body)) rest body (same_found _ r _ rest d.1).1 (omega (arith, length-drop (n * 8) (drop 4 body), length-drop 4 body))
+front_shorter len at (suc zero) body r rest is = grind arith
+front_shorter len at (suc (suc zero)) body r rest is = grind (arith, length-drop)
 front_shorter len at (suc (suc (suc tag))) body r rest is = absurd cc

@@ -1,7 +1,7 @@
 -- Reading goes on item by item.
-use Rattle.std.proofs.Common.{◌≡◌, ℕ, zero, suc, ◌+◌, ◌-◌, ◌*◌, ◌<◌, ◌≤◌, Bool, true, false, cond, not, eqb, ltb, leb, ◌&&◌, if◌then◌else◌, List, [], ◌∷◌, ◌++◌, length, take, drop, slice_index, length-drop, length-append, Result, Ok, Err, refl, sym, ap, ◌∙◌, append_assoc, inl, inr, arith}
+use Rattle.std.proofs.Common.{◌≡◌, ℕ, zero, suc, ◌+◌, ◌-◌, ◌*◌, ◌<◌, ◌≤◌, Bool, false, cond, not, eqb, ltb, leb, ◌&&◌, if◌then◌else◌, List, [], ◌∷◌, ◌++◌, length, take, drop, slice_index, length-drop, length-append, Result, Err, refl, sym, ap, ◌∙◌, append_assoc, arith}
 use Rattle.std.specs.Prelude.{nat_lt}
-use Rattle.std.proofs.lemmas.Bool.{cases_lt, lt-ltb, le-ltb, le-leb, eq-eqb, eqb-true}
+use Rattle.std.proofs.lemmas.Bool.{le-ltb, eq-eqb}
 use Rattle.std.proofs.lemmas.List.{append-nil, take_at, drop_at, take-append-le, drop-append-le, drop-drop, get_or-drop}
 use Rattle.gp_base.specs.declared.records.RawBlock.{RawBlock}
 use Rattle.gp_base.specs.declared.records.RawHist.{RawHist}
@@ -19,14 +19,12 @@ use Rattle.gmon_gnu.proofs.RecordLemmas.{allowance}
 -- ---- records so far
 
 pub behind_both : (recs added : List Rec) (o : Result (List Rec) GmonRefusal) → behind_records recs (behind_records added o) ≡ behind_records (recs ++ added) o
-behind_both recs added (Ok more) = ap (λ (v : List Rec). let x : Result (List Rec) GmonRefusal = Ok v in x) (sym (append_assoc recs added more))
-behind_both recs added (Err refusal) = refl
+behind_both recs added o = grind (arith, append_assoc)
 
 pub reads_then : (whole : List ℕ) (recs added : List Rec) (was now : Open) (rest left : List ℕ)
     → ((more : List ℕ) → resume (length (whole ++ more)) was (rest ++ more) ≡ behind_records added (resume (length (whole ++ more)) now (left ++ more)))
     → Reads whole recs was rest → Reads whole (recs ++ added) now left
-reads_then whole recs added was now rest left step reads = λ more.
-    reads more ∙ ap (behind_records recs) (step more) ∙ behind_both recs added (resume (length (whole ++ more)) now (left ++ more))
+reads_then whole recs added was now rest left step reads = grind (arith, behind_both)
 
 pub reads_same : (whole : List ℕ) (recs : List Rec) (was now : Open) (rest left : List ℕ)
     → ((more : List ℕ) → resume (length (whole ++ more)) was (rest ++ more) ≡ resume (length (whole ++ more)) now (left ++ more))
@@ -35,40 +33,19 @@ reads_same whole recs was now rest left step reads = λ more. reads more ∙ ap 
 
 -- what follows comes to the bytes
 pub reads_more : (whole piece : List ℕ) (recs : List Rec) (now : Open) (rest : List ℕ) → Reads whole recs now rest → Reads (whole ++ piece) recs now (rest ++ piece)
-reads_more whole piece recs now rest reads = λ more.
-    (λ i. header_on (length (append_assoc whole piece more i)) (append_assoc whole piece more i))
-    ∙ reads (piece ++ more)
-    ∙ (λ i. behind_records recs (resume (length (sym (append_assoc whole piece more) i)) now (sym (append_assoc rest piece more) i)))
+reads_more whole piece recs now rest reads = search append_assoc
 
 -- ---- cells
-
-ltb_both : (a b c : ℕ) → ltb (a + c) (b + c) ≡ ltb a b
-ltb_both a b c =
-    elim (cases_lt a b) [
-      | inl less ↦ let l : a + c < b + c = omega arith in lt-ltb (a + c) (b + c) l ∙ sym (lt-ltb a b less)
-      | inr more ↦ let m : b + c ≤ a + c = omega arith in le-ltb (a + c) (b + c) m ∙ sym (le-ltb a b more)
-    ]
 
 cut_sum : {X : Type 0} (w : ℕ) (cell : List ℕ → X) (k m : ℕ) (t rest : List ℕ) → k * w ≤ length t → items_of_text w cell (k + m) (t ++ rest) ≡ items_of_text w cell k t ++ items_of_text w cell m (drop (k * w) t ++ rest)
 cut_sum w cell zero m t rest long = let e : 0 + m ≡ m = omega arith in let z : 0 * w ≡ 0 = omega arith in rw (e, z) refl
 cut_sum {X} w cell (suc k) m t rest long =
     let e : suc k + m ≡ suc (k + m) = omega arith in
-    let split : suc k * w ≡ w + k * w = omega arith in
-    let front : take w (t ++ rest) ≡ take w t = take-append-le w t rest (omega arith) in
-    let after : drop w (t ++ rest) ≡ drop w t ++ rest = drop-append-le w t rest (omega arith) in
-    let past : drop (k * w) (drop w t) ≡ drop (suc k * w) t = drop-drop (k * w) w t ∙ ap (λ (n : ℕ). drop n t) (sym split) in
-    ap (λ (n : ℕ). items_of_text w cell n (t ++ rest)) e
-    ∙ (λ i. cell (front i) ∷ items_of_text w cell (k + m) (after i))
-    ∙ ap (λ (v : List X). cell (take w t) ∷ v) (cut_sum w cell k m (drop w t) rest (omega (arith, length-drop w t)))
-    ∙ ap (λ (v : List ℕ). (cell (take w t) ∷ items_of_text w cell k (drop w t)) ++ items_of_text w cell m (v ++ rest)) past
+    grind (arith, take-append-le, drop-append-le, drop-drop, length-drop, cut_sum w cell k m (drop w t) rest)
 
 -- k of the cells that are due came with a text
 due_less : (w k left : ℕ) (t rest : List ℕ) → k ≤ left → k * w ≤ length t → ltb (length (t ++ rest)) (left * w) ≡ ltb (length (drop (k * w) t ++ rest)) ((left - k) * w)
-due_less w k left t rest within long =
-    let split : left ≡ left - k + k = omega arith in
-    let b : left * w ≡ (left - k) * w + k * w = ap (λ (n : ℕ). n * w) split ∙ omega arith in
-    let a : length (t ++ rest) ≡ length (drop (k * w) t ++ rest) + k * w = omega (arith, length-append t rest, length-append (drop (k * w) t) rest, length-drop (k * w) t, long) in
-    (λ i. ltb (a i) (b i)) ∙ ltb_both (length (drop (k * w) t ++ rest)) ((left - k) * w) (k * w)
+due_less w k left t rest within long = grind (arith, length-append, length-drop)
 
 due_cells : {X : Type 0} (w : ℕ) (cell : List ℕ → X) (k left : ℕ) (before : List X) (t rest : List ℕ) → k ≤ left → k * w ≤ length t
     → before ++ items_of_text w cell left (t ++ rest) ≡ (before ++ items_of_text w cell k t) ++ items_of_text w cell (left - k) (drop (k * w) t ++ rest)
@@ -86,33 +63,23 @@ due_rest w k left t rest within long =
 
 pub counters_on : (len : ℕ) (h : RawHist) (left k : ℕ) (t rest : List ℕ) → k ≤ left → k * 2 ≤ length t
     → hist_on len h left (t ++ rest) ≡ hist_on len (record h { counters = h.counters ++ items_of_text 2 value_of k t }) (left - k) (drop (k * 2) t ++ rest)
-counters_on len h left k t rest within long =
-    λ i. cond (due_less 2 k left t rest within long i) (Err (Short len))
-    (behind_records (Hist (record h { counters = due_cells 2 value_of k left h.counters t rest within long i }) ∷ []) (records_on len (due_rest 2 k left t rest within long i)))
+counters_on len h left k t rest within long = grind (arith, due_less, due_cells, due_rest)
 
 pub pairs_on : (len : ℕ) (blocks : List RawBlock) (left k : ℕ) (t rest : List ℕ) → k ≤ left → k * 8 ≤ length t
     → blocks_on len blocks left (t ++ rest) ≡ blocks_on len (blocks ++ items_of_text 8 block_of k t) (left - k) (drop (k * 8) t ++ rest)
-pairs_on len blocks left k t rest within long =
-    λ i. cond (due_less 8 k left t rest within long i) (Err (Short len))
-    (behind_records (Blocks (due_cells 8 block_of k left blocks t rest within long i) ∷ []) (records_on len (due_rest 8 k left t rest within long i)))
+pairs_on len blocks left k t rest within long = grind (arith, due_less, due_cells, due_rest)
 
 -- a record ends where nothing is due
 pub hist_ends : (len : ℕ) (h : RawHist) (rest : List ℕ) → hist_on len h 0 rest ≡ behind_records (Hist h ∷ []) (records_on len rest)
-hist_ends len h rest =
-    let none : ltb (length rest) 0 ≡ false = le-ltb (length rest) 0 (omega arith) in
-    λ i. cond (none i) (Err (Short len)) (behind_records (Hist (record h { counters = append-nil h.counters i }) ∷ []) (records_on len rest))
+hist_ends len h rest = grind (arith, append-nil)
 
 pub blocks_end : (len : ℕ) (blocks : List RawBlock) (rest : List ℕ) → blocks_on len blocks 0 rest ≡ behind_records (Blocks blocks ∷ []) (records_on len rest)
-blocks_end len blocks rest =
-    let none : ltb (length rest) 0 ≡ false = le-ltb (length rest) 0 (omega arith) in
-    λ i. cond (none i) (Err (Short len)) (behind_records (Blocks (append-nil blocks i) ∷ []) (records_on len rest))
+blocks_end len blocks rest = grind (arith, append-nil)
 
 -- ---- the header
 
 number_of : (header rest : List ℕ) → length header ≡ 20 → word_at (header ++ rest) 4 ≡ word_at header 4
-number_of header rest whole =
-    let past : drop 4 (header ++ rest) ≡ drop 4 header ++ rest = drop-append-le 4 header rest (omega arith) in
-    ap (λ (v : List ℕ). value_of (take 4 v)) past ∙ ap value_of (take-append-le 4 (drop 4 header) rest (omega (arith, length-drop 4 header)))
+number_of header rest whole = grind arith
 
 header_by : (len number : ℕ) (header rest : List ℕ) → length header ≡ 20 → number ≡ word_at header 4 → (b : Bool) → not (eqb number gnu_version) ≡ b
     → header_on len (header ++ rest) ≡ cond b (Err (Version number)) (records_on len rest)
@@ -129,14 +96,12 @@ pub header_refused : (len number : ℕ) (header rest : List ℕ) → length head
 header_refused len number header rest whole number_is other = by (eqb number gnu_version) refl
   where
     by : (b : Bool) → eqb number gnu_version ≡ b → header_on len (header ++ rest) ≡ Err (Version number)
-    by true e = absurd (other (eqb-true number gnu_version e))
-    by false e = header_by len number header rest whole number_is true (ap not e)
+    by b e = grind (arith, header_by)
 
 -- ---- fronts
 
 after_choice : (more : List ℕ → Result (List Rec) GmonRefusal) (b : Bool) (e : GmonRefusal) (f : Front) → after_front more (if b then Refused e else f) ≡ cond b (Err e) (after_front more f)
-after_choice more true e f = refl
-after_choice more false e f = refl
+after_choice more b e f = grind arith
 
 pub arc_begun : (len from to count : ℕ) (front rest : List ℕ) → slice_index front 0 ≡ 1 → length front ≡ 13 → from ≡ word_at front 1 → to ≡ word_at front 5 → count ≡ word_at front 9
     → records_on len (front ++ rest) ≡ behind_records (Arc (record { from = from; to = to; count = count }) ∷ []) (records_on len rest)
@@ -196,33 +161,11 @@ hist_fields len at low high count rate short dim body rest whole low_is high_is 
     let parts = last_one tail rest one in
     let name : take 15 (drop 16 all) ≡ dim = ap (take 15) past ∙ take-append-le 15 (drop 16 body) rest (omega (arith, whole, length-drop 16 body)) ∙ sym dim_is in
     let at_31 : slice_index tail 0 ≡ slice_index body 31 = get_or-drop 15 (drop 16 body) 0 0 ∙ get_or-drop 16 body 15 0 in
-    let letter : slice_index (drop 15 (drop 16 all)) 0 ≡ short = ap (λ (v : List ℕ). slice_index v 0) tail_is ∙ parts.0 ∙ at_31 ∙ sym short_is in
-    let behind_it : drop 1 (drop 15 (drop 16 all)) ≡ rest = ap (drop 1) tail_is ∙ parts.1 in
-    let low_there : word_at all 0 ≡ low = word_before 0 body rest (omega arith) ∙ sym low_is in
-    let high_there : word_at all 4 ≡ high = word_before 4 body rest (omega arith) ∙ sym high_is in
-    let count_there : word_at all 8 ≡ count = word_before 8 body rest (omega arith) ∙ sym count_is in
-    let rate_there : word_at all 12 ≡ rate = word_before 12 body rest (omega arith) ∙ sym rate_is in
-    after_choice more (ltb (length all) 32) (Short len)
-    (hist_of_fields len there (word_at all 0) (word_at all 4) (word_at all 8) (word_at all 12) (take 15 (drop 16 all)) (slice_index (drop 15 (drop 16 all)) 0) (drop 1 (drop 15 (drop 16 all))))
-    ∙ (λ i. cond (here i) (Err (Short len)) (after_front more (hist_of_fields len (sym at_is i) (low_there i) (high_there i) (count_there i) (rate_there i) (name i) (letter i) (behind_it i))))
+    grind (arith, slice_index, word_before, after_choice, ltb)
 
 pub hist_refused : (len at low high count : ℕ) (front rest : List ℕ) → slice_index front 0 ≡ 0 → length front ≡ 33 → low ≡ word_at front 1 → high ≡ word_at front 5 → count ≡ word_at front 9
     → at ≡ len - length (front ++ rest) → 0 < count → high ≤ low → records_on len (front ++ rest) ≡ Err (Range at low high)
-hist_refused len at low high count [] rest tag long low_is high_is count_is at_is some order = absurd (omega arith)
-hist_refused len at low high count (suc t ∷ body) rest tag long low_is high_is count_is at_is some order = absurd (omega arith)
-hist_refused len at low high count (zero ∷ body) rest tag long low_is high_is count_is at_is some order =
-    let all = body ++ rest in
-    let more : List ℕ → Result (List Rec) GmonRefusal = λ (r : List ℕ). recs_from len (length all) r in
-    let rate = word_at body 12 in
-    let dim = take 15 (drop 16 body) in
-    let short = slice_index body 31 in
-    let bad : (ltb 0 count && leb high low) ≡ true = (λ i. lt-ltb 0 count some i && leb high low) ∙ (λ i. true && le-leb high low order i) in
-    let found : Front =
-    if nat_lt (length rest) (count * 2) then Refused (Short len) else
-    Found (Hist (record { low = low; high = high; unit = record { rate = rate; dim = dim; «abbrev» = short }; counters = items_of_text 2 value_of count rest })) (drop (count * 2) rest) in
-    hist_fields len at low high count rate short dim body rest (omega arith) low_is high_is count_is refl refl refl at_is
-    ∙ after_choice more (ltb 0 count && leb high low) (Range at low high) found
-    ∙ ap (λ (b : Bool). cond b (Err (Range at low high)) (after_front more found)) bad
+hist_refused len at low high count front rest tag long low_is high_is count_is at_is some order = grind (arith, hist_fields)
 
 pub hist_begun : (len at low high count rate short : ℕ) (dim front rest : List ℕ) → slice_index front 0 ≡ 0 → length front ≡ 33 → low ≡ word_at front 1 → high ≡ word_at front 5 → count ≡ word_at front 9 → rate ≡ word_at front 13
     → dim ≡ take 15 (drop 17 front) → short ≡ slice_index front 32 → at ≡ len - length (front ++ rest) → (ltb 0 count && leb high low) ≡ false

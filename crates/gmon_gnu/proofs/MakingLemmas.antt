@@ -175,15 +175,10 @@ module _ (fields : List HistFields) (counters : List ℕ) (pairs : List RawBlock
 
   spans_of_entries : (entries : List Entry) → AllByRecursion (λ e. HasRange (rec_of fields counters pairs e.body)) entries → AllByRecursion HasSpan (entries_recs fields counters pairs arcs entries)
   spans_of_entries [] all = tt
-  spans_of_entries (e ∷ entries) all =
-      let before = map wide_arc (arcs_before e) in
-      let one = all_joined HasSpan before (own_recs e) (spans_of_arcs (arcs_before e)) (spans_of_record (rec_of fields counters pairs e.body) all.0) in
-      subst (λ (l : List WideRec). AllByRecursion HasSpan l) (sym (entries_next e entries)) (all_joined HasSpan (before ++ own_recs e) (entries_recs fields counters pairs arcs entries) one (spans_of_entries entries all.1))
+  spans_of_entries (e ∷ entries) all = search (all_joined, spans_of_arcs, spans_of_record, entries_next, spans_of_entries entries all.1, all.0, all.1)
 
   pub read_spans : (entries : List Entry) (run : ℕ) → AllByRecursion (λ e. HasRange (rec_of fields counters pairs e.body)) entries → AllByRecursion HasSpan (wide_records (recs_in fields counters pairs arcs entries run))
-  read_spans entries run ranges =
-      subst (λ (l : List WideRec). AllByRecursion HasSpan l) (sym (all_widened fields counters pairs arcs entries run))
-      (all_joined HasSpan (entries_recs fields counters pairs arcs entries) (map wide_arc (drop run arcs)) (spans_of_entries entries ranges) (spans_of_arcs (drop run arcs)))
+  read_spans entries run ranges = search (all_widened, all_joined, spans_of_entries, spans_of_arcs)
 
   -- ---- what is added in an order of the histograms
 
@@ -258,11 +253,6 @@ module _ (fields : List HistFields) (counters : List ℕ) (pairs : List RawBlock
         ∙ ap (map (pair_at fields counters)) (map-append some (hists_among first) (hists_among later))
         ∙ map-append (pair_at fields counters) (map some (hists_among first)) (map some (hists_among later))
 
-    all_others : others_in all ≡ others ++ last_arcs
-    all_others =
-        ap others_in (all_widened fields counters pairs arcs entries run) ∙ filter-append is_other (entries_recs fields counters pairs arcs entries) last_arcs
-        ∙ (λ k. others_read entries k ++ others_in-arcs (drop run arcs) k)
-
     first_permuted : IsPermutation hists_first hists_placed
     first_permuted = IsPermutation-map (pair_at fields counters) (map Some (hists_among first)) (placed_entries first order) same
 
@@ -270,14 +260,10 @@ module _ (fields : List HistFields) (counters : List ℕ) (pairs : List RawBlock
     permuted = subst (λ (l : List (Hist × units.Unit)). IsPermutation l (hists_placed ++ hists_later)) (sym all_hists) (IsPermutation-append_left hists_later hists_first hists_placed first_permuted)
 
     placed_hists : map hist_record hists_placed ≡ placed
-    placed_hists =
-        sym (paired (placed_entries first order) (all_reordered IsPaired (map Some (hists_among first)) (placed_entries first order) same (all_paired first)))
+    placed_hists = search (paired, all_reordered, all_paired)
 
     in_order : map hist_record (hists_placed ++ hists_later) ++ others_in all ≡ placed ++ behind
-    in_order =
-        ap (λ (l : List WideRec). l ++ others_in all) (map-append hist_record hists_placed hists_later)
-        ∙ (λ k. (placed_hists k ++ sym (later_hists later) k) ++ all_others k)
-        ∙ append_assoc placed laters (others ++ last_arcs)
+    in_order = search (map-append, placed_hists, later_hists, append_assoc, all_widened, filter-append, others_read, others_in-arcs)
 
     placed_within : IsWithin (with_records all empty_content) → IsWithin (with_records (placed ++ behind) empty_content)
     placed_within fits = subst (λ (l : List WideRec). IsWithin (with_records l empty_content)) in_order (reordered_within all (hists_placed ++ hists_later) permuted empty_content fits)
@@ -294,9 +280,7 @@ module _ (fields : List HistFields) (counters : List ℕ) (pairs : List RawBlock
         behind_within fits = within_second placed behind empty_content mid hists_added (placed_within fits)
 
         pub all_added : (new : Content) → AllByRecursion (λ e. HasRange (rec_of fields counters pairs e.body)) entries → IsAdded behind mid new → IsAdded all empty_content new
-        all_added new ranges two =
-            let parts = added_both placed behind empty_content mid hists_added new two in
-            reordered all (hists_placed ++ hists_later) new (read_spans entries run ranges) permuted (subst (λ (l : List WideRec). IsAdded l empty_content new) (sym in_order) parts)
+        all_added new ranges two = search (added_both, hists_added, reordered, read_spans, permuted, in_order)
 
         -- the conflict of all is that of the histograms of the others
         pub conflict_told : (refusal : AddRefusal) → AllByRecursion (λ e. HasRange (rec_of fields counters pairs e.body)) entries → IsUnlike refusal (conflict_of mid laters) → IsUnlike refusal (conflict_of empty_content all)
@@ -336,9 +320,7 @@ module _ (fields : List HistFields) (counters : List ℕ) (pairs : List RawBlock
           arcs_within = subst (λ (rest : List RawArc). IsWithin (with_records (map wide_arc rest) next)) (sym (rest_of_slice slice arcs run slice_is)) (within_second other_entry_recs arcs_last mid next two rest_within)
 
           pub behind_added : (new : Content) → new ≡ with_records (map wide_arc rest_arcs) next → IsAdded (later_hist_recs ++ (other_entry_recs ++ arcs_last)) old new
-          behind_added new is =
-              added_both later_hist_recs (other_entry_recs ++ arcs_last) old mid one new
-              (added_both other_entry_recs arcs_last mid next two new (arcs_added (rest_of_slice slice arcs run slice_is) next new is))
+          behind_added new is = search (added_both, arcs_added, rest_of_slice)
 
 -- ---- what a reader holds
 

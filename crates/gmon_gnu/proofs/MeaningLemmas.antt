@@ -1,8 +1,8 @@
 -- What was read is what the text spells.
-use Rattle.std.proofs.Common.{◌≡◌, ℕ, zero, suc, ◌-◌, ◌*◌, ◌<◌, ◌≤◌, Bool, true, false, ltb, leb, ◌&&◌, not, eqb, List, [], ◌∷◌, ◌++◌, length, take, drop, slice_index, length-take, length-drop, Option, Some, None, Result, Ok, Err, if◌then◌else◌, refl, sym, ap, subst, ◌∙◌, arith}
+use Rattle.std.proofs.Common.{◌≡◌, ℕ, zero, suc, ◌-◌, ◌*◌, ◌<◌, ◌≤◌, Bool, true, false, ltb, leb, ◌&&◌, not, eqb, List, [], ◌∷◌, ◌++◌, length, take, drop, slice_index, length-take, length-drop, Option, Some, None, Result, Ok, if◌then◌else◌, refl, sym, ap, subst, ◌∙◌, arith}
 use Rattle.std.specs.List.{flat_map, AllByRecursion}
 use Rattle.std.proofs.lemmas.Bool.{ltb-false, leb-false, lt-ltb, eqb-true, not-false}
-use Rattle.std.proofs.lemmas.List.{take-append-drop, drop-drop}
+use Rattle.std.proofs.lemmas.List.{take-append-drop}
 use Rattle.gp_base.specs.declared.records.RawHist.{RawHist}
 use Rattle.gp_base.specs.declared.records.Rec.{Rec}
 use Rattle.gp_base.specs.declared.records.Rec.TheVariants.{Hist, Arc, Blocks}
@@ -15,7 +15,7 @@ use Rattle.gmon_gnu.specs.Fields.{gnu_version}
 use Rattle.gmon_gnu.specs.Grammar.{rec_bytes, RecFits, GnuSpells}
 use Rattle.gmon_gnu.specs.Reading.{Front, Found, Refused, body_front, behind_records, recs_from, after_front, file_recs, refusal_read, recs_in, gnu_refusal, gnu_records}
 use Rattle.gp_base.proofs.FieldLemmas.{counter_spelled, counter_fits, arc_spelled, arc_fits, block_spelled, block_fits}
-use Rattle.gmon_gnu.proofs.FrontLemmas.{found_then, same_found}
+use Rattle.gmon_gnu.proofs.FrontLemmas.{found_then}
 use Rattle.gmon_gnu.proofs.SpellingLemmas.{rec_text, rec_then, shorter}
 
 -- ---- one record
@@ -27,17 +27,13 @@ pub record Spelled (text : List ℕ) (r : Rec) (rest : List ℕ) : Type 0 where
   pub bytes : IsBytes rest
 
 moved : (text : List ℕ) (r s : Rec) (rest more : List ℕ) → Found r rest ≡ Found s more → Spelled text r rest → Spelled text s more
-moved text r s rest more e spelled =
-    let parts = same_found r s rest more e in
-    subst (λ (x : Rec). Spelled text x more) parts.0 (subst (λ (l : List ℕ). Spelled text r l) parts.1 spelled)
+moved text r s rest more e spelled = grind arith
 
 head_tail : (xs : List ℕ) → 0 < length xs → slice_index xs 0 ∷ drop 1 xs ≡ xs
-head_tail [] lt = absurd (let f : 1 ≤ 0 = lt in omega (arith, f))
-head_tail (x ∷ xs) lt = refl
+head_tail xs lt = grind arith
 
 pub right_of : (a b : Bool) → (a && b) ≡ false → a ≡ true → b ≡ false
-right_of true b h e = h
-right_of false b h e = absurd cc
+right_of a b h e = grind arith
 
 hist_front_spelled : (len at : ℕ) (body : List ℕ) (r : Rec) (rest : List ℕ) → IsBytes body → body_front len at 0 body ≡ Found r rest → Spelled (0 ∷ body) r rest
 hist_front_spelled len at body r rest bytes is =
@@ -141,11 +137,7 @@ recs_spelled len zero (tag ∷ body) rs le bytes is = absurd (let f : suc (lengt
 recs_spelled len (suc n) (tag ∷ body) rs le bytes is = by (body_front len (len - length (tag ∷ body)) tag body) refl is (recs_spelled len n)
   where
     go : (r : Rec) (rest : List ℕ) → Spelled (tag ∷ body) r rest → (o : Result (List Rec) GmonRefusal) → behind_records (r ∷ []) o ≡ Ok rs → ((more : List Rec) → o ≡ Ok more → AllSpelled rest more) → AllSpelled (tag ∷ body) rs
-    go r rest spelled (Err e) is others = absurd cc
-    go r rest spelled (Ok more) is others =
-        let tail = others more refl in
-        subst (λ (x : List Rec). AllSpelled (tag ∷ body) x) (same_ok (r ∷ more) rs is)
-        (record { text_is = spelled.text_is ∙ ap (rec_text r) tail.text_is ∙ sym (rec_then r (flat_map rec_bytes more)); fits = (spelled.fits, tail.fits) })
+    go r rest spelled o is others = grind (arith, rec_then)
 
     by : (f : Front) → body_front len (len - length (tag ∷ body)) tag body ≡ f → after_front (λ rest. recs_from len n rest) f ≡ Ok rs
         → ((bs : List ℕ) (rs : List Rec) → length bs ≤ n → IsBytes bs → recs_from len n bs ≡ Ok rs → AllSpelled bs rs) → AllSpelled (tag ∷ body) rs
@@ -157,20 +149,14 @@ recs_spelled len (suc n) (tag ∷ body) rs le bytes is = by (body_front len (len
 -- ---- the whole text
 
 none_then : (b : Bool) (x : GmonRefusal) (o : Option GmonRefusal) → (if b then Some x else o) ≡ None → (b ≡ false) × (o ≡ None)
-none_then true x o e = absurd cc
-none_then false x o e = (refl, e)
+none_then b x o e = grind arith
 
 ok_where_accepted : (o : Result (List Rec) GmonRefusal) → refusal_read o ≡ None → o ≡ Ok (recs_in o)
-ok_where_accepted (Ok rs) e = refl
-ok_where_accepted (Err refusal) e = absurd cc
+ok_where_accepted o e = grind arith
 
 -- the header of a text, and what stands behind it
 pub header_then : (bs : List ℕ) → IsBytes bs → 20 ≤ length bs → word_at bs 4 ≡ gnu_version → take 4 bs ++ (le gnu_version 4 ++ (take 12 (drop 8 bs) ++ drop 20 bs)) ≡ bs
-header_then bs bytes long version_is =
-    let t8 : take 12 (drop 8 bs) ++ drop 20 bs ≡ drop 8 bs = ap (λ (v : List ℕ). take 12 (drop 8 bs) ++ v) (sym (drop-drop 12 8 bs)) ∙ take-append-drop 12 (drop 8 bs) in
-    let t4 : le gnu_version 4 ++ (take 12 (drop 8 bs) ++ drop 20 bs) ≡ drop 4 bs =
-    ap (λ (k : ℕ). le k 4 ++ (take 12 (drop 8 bs) ++ drop 20 bs)) (sym version_is) ∙ ap (λ (v : List ℕ). le (word_at bs 4) 4 ++ v) t8 ∙ field_then 4 4 bs bytes (omega (arith, long)) in
-    ap (λ (v : List ℕ). take 4 bs ++ v) t4 ∙ take-append-drop 4 bs
+header_then bs bytes long version_is = grind arith
 
 pub spelled_of : (bytes : List ℕ) → IsBytes bytes → gnu_refusal bytes ≡ None → GnuSpells bytes (gnu_records bytes)
 spelled_of bs bytes e =

@@ -1,8 +1,6 @@
 -- Numbers in pieces: how far they reach, and the largest of some.
-use Rattle.std.proofs.Common.{◌≡◌, ℕ, zero, suc, ◌+◌, ◌^◌, ◌<◌, ◌≤◌, max, List, [], ◌∷◌, ◌++◌, length, take, map, get_or, slice_get, Some, Bool, true, false, ltb, eqb, cond, ◌≢◌, refl, sym, ap, ◌∙◌, true≢false, Ordering, Less, Equal, Greater, arith}
+use Rattle.std.proofs.Common.{◌≡◌, ℕ, zero, suc, ◌+◌, ◌^◌, ◌<◌, ◌≤◌, max, List, [], ◌∷◌, ◌++◌, length, take, map, get_or, slice_get, Some, Bool, ltb, eqb, cond, refl, sym, ap, ◌∙◌, Ordering, arith}
 use Rattle.std.specs.Ordering.{nat_cmp, ord_max, is_lt}
-use Rattle.std.specs.Cmp.{nat_cmp_is}
-use Rattle.std.proofs.lemmas.Bool.{ltb-true, ltb-false, eqb-true, eq-eqb}
 use Rattle.std.specs.List.{sum_by}
 use Rattle.std.proofs.lemmas.List.Sums.{sum_by-cons}
 use Rattle.gmon_data.specs.declared.hist.Hist.{Hist}
@@ -17,17 +15,7 @@ larger a b = by (ltb b a) (eqb b a) refl refl
     of r e = ap (λ (r : Ordering). cond (is_lt r) a b) e
 
     by : (l e : Bool) → ltb b a ≡ l → eqb b a ≡ e → ord_max nat_cmp a b ≡ max a b
-    by true e lt eq =
-        let first : a ≡ max a b = omega (arith, ltb-true b a lt) in
-        sym (of Less (nat_cmp_is b a Less (ltb-true b a lt))) ∙ first
-    by false true lt eq =
-        let second : b ≡ max a b = omega (arith, ltb-false b a lt) in
-        sym (of Equal (nat_cmp_is b a Equal (eqb-true b a eq))) ∙ second
-    by false false lt eq =
-        let apart : b ≢ a = λ same. true≢false (sym (eq-eqb b a same) ∙ eq) in
-        let above : a < b = omega (arith, ltb-false b a lt, apart) in
-        let second : b ≡ max a b = omega (arith, above) in
-        sym (of Greater (nat_cmp_is b a Greater above)) ∙ second
+    by l e lt eq = grind arith
 
 largest_last : (xs : List ℕ) (x : ℕ) → largest (xs ++ x ∷ []) ≡ max (largest xs) x
 largest_last [] x = omega arith

@@ -9,9 +9,9 @@ use Rattle.gp_base.specs.declared.records.Unit as units
 use Rattle.gp_base.specs.declared.records.Rec.{Rec}
 use Rattle.gp_base.specs.declared.records.Records.{Records}
 use Rattle.gmon_data.specs.declared.hist.Hist.{Hist}
-use Rattle.gmon_data.specs.Hists.{put_hist, kept_unit, has_counters, IsKept, IsUnitOf}
+use Rattle.gmon_data.specs.Hists.{put_hist, has_counters, IsKept, IsUnitOf}
 use Rattle.gmon_data.specs.Tally.{sums_by_key}
-use Rattle.gmon_data.specs.Content.{WideRec, WideHist, WideArc, WideBlock, Content, same_ends, hist_in, unit_in, arc_in, block_in, content_of, wide_block, wide_record, wide_records, IsProfile}
+use Rattle.gmon_data.specs.Content.{WideRec, WideHist, WideArc, WideBlock, Content, same_ends, hist_in, unit_in, arc_in, block_in, content_of, wide_block, wide_records, IsProfile}
 use Rattle.gmon_data.proofs.ContentLemmas.{pair-self, pair-equal, same-self}
 use Rattle.gmon_data.proofs.TallyLemmas.{sums_by_key-fold}
 use Rattle.gmon_gnu.specs.ProfileText.{profile_text, profile_records, ProfilesAreReadBack}
@@ -76,17 +76,11 @@ all_pieces_some (h ∷ hs) kept = all_append (hist_pieces h) (flat_map hist_piec
 -- ---- the whole
 
 three : {A : Type 0} (pick : WideRec → Option A) (xs ys zs : List Rec) → filter_map pick (wide_records (xs ++ (ys ++ zs))) ≡ filter_map pick (wide_records xs) ++ (filter_map pick (wide_records ys) ++ filter_map pick (wide_records zs))
-three pick xs ys zs =
-    ap (filter_map pick) (flat_map-append wide_record xs (ys ++ zs) ∙ ap (λ l. wide_records xs ++ l) (flat_map-append wide_record ys zs))
-    ∙ filter_map-append pick (wide_records xs) (wide_records ys ++ wide_records zs)
-    ∙ ap (λ l. filter_map pick (wide_records xs) ++ l) (filter_map-append pick (wide_records ys) (wide_records zs))
+three pick xs ys zs = search (filter_map, flat_map-append, filter_map-append)
 
 -- the histograms, and their unit
 hists_back : (hs : List Hist) (o : Option units.Unit) → IsUnitOf hs o → AllByRecursion IsKept hs → filter_map hist_in (wide_records (hist_recs o hs)) ≡ flat_map hist_pieces hs
-hists_back [] None is kept = refl
-hists_back [] (Some u) is kept = refl
-hists_back (h ∷ hs) None is kept = absurd (let e = is.1 in cc)
-hists_back (h ∷ hs) (Some u) is kept = all-hists u (flat_map hist_pieces (h ∷ hs)) (all_pieces_some (h ∷ hs) kept)
+hists_back hs o is kept = grind (arith, all-hists, all_pieces_some)
 
 unit_back : (hs : List Hist) (o : Option units.Unit) → IsUnitOf hs o → AllByRecursion IsKept hs → slice_get (filter_map unit_in (wide_records (hist_recs o hs))) 0 ≡ o
 unit_back [] None is kept = refl
@@ -94,8 +88,7 @@ unit_back [] (Some u) is kept = absurd (let e = is in cc)
 unit_back (h ∷ hs) None is kept = absurd (let e = is.1 in cc)
 unit_back (h ∷ hs) (Some u) is kept =
     let first : has_counters (hist_piece h 0) ≡ true = (some_pieces h (lt-ltb 0 (length h.counters) kept.0.some) 1 0).0 in
-    let same : is.0 ≡ u = cc in
-    rw first (ap (λ x. Some (kept_unit x)) (sym same) ∙ ap (λ x. Some x) is.2 ∙ ap (λ x. Some x) same)
+    grind arith
 
 other_hists : {A : Type 0} (pick : WideRec → Option A) → ((h : Hist) (u : units.Unit) → pick (WideHist h u) ≡ None) → (o : Option units.Unit) (hs : List Hist) → filter_map pick (wide_records (hist_recs o hs)) ≡ []
 other_hists pick none None hs = refl

@@ -1,5 +1,5 @@
 -- The file of a profile spells its pieces.
-use Rattle.std.proofs.Common.{◌≡◌, ℕ, zero, suc, ◌+◌, ◌*◌, ◌^◌, ◌<◌, ◌≤◌, Bool, true, false, ltb, List, [], ◌∷◌, ◌++◌, length, map, filter_map, Option, Some, None, refl, arith}
+use Rattle.std.proofs.Common.{◌≡◌, ℕ, zero, suc, ◌+◌, ◌*◌, ◌^◌, ◌<◌, ◌≤◌, Bool, ltb, List, [], ◌∷◌, ◌++◌, length, map, filter_map, Some, refl, arith}
 use Rattle.std.specs.List.{flat_map, AllByRecursion}
 use Rattle.std.proofs.lemmas.List.{length-map}
 use Rattle.gp_base.specs.declared.records.Unit as units
@@ -7,7 +7,7 @@ use Rattle.gmon_data.specs.declared.hist.Hist.{Hist}
 use Rattle.gmon_data.specs.Hists.{IsKept}
 use Rattle.gp_base.specs.Fields.{CounterFits, BlockFits}
 use Rattle.gmon_gnu.specs.Grammar.{RecFits}
-use Rattle.gmon_gnu.specs.Splitting.{piece, pieces_of, most_samples, most_calls, largest, each_piece, hist_piece, hist_pieces, arc_piece, arc_pieces, piece_left, round_of, rounds_of, hist_rec, hist_recs, arc_rec, raw_block, blocks_rec}
+use Rattle.gmon_gnu.specs.Splitting.{piece, pieces_of, most_samples, most_calls, largest, each_piece, hist_piece, hist_pieces, arc_piece, arc_pieces, piece_left, round_of, rounds_of, hist_rec, arc_rec, raw_block, blocks_rec}
 use Rattle.gmon_data.specs.Content.{HistNumbersFit, PairFits, AddressFits, UnitFits}
 use Rattle.gmon_gnu.specs.ProfileText.{profile_text, ProfilesAreSpelled}
 use Rattle.gmon_gnu.proofs.SpellingLemmas.{written_spells}
@@ -21,15 +21,7 @@ counter_pieces j [] = tt
 counter_pieces j (c ∷ cs) = (omega arith, counter_pieces j cs)
 
 hist_piece_fits : (u : units.Unit) → UnitFits (Some u) → (h : Hist) → IsKept h → HistNumbersFit h → (j : ℕ) → RecFits (hist_rec u (hist_piece h j))
-hist_piece_fits u uf h kept nums j = record {
-  low = nums.0;
-  high = nums.1;
-  number = omega (arith, nums.2, length-map h.counters (piece most_samples j));
-  rate = uf.0;
-  dim = uf.1;
-  counters = counter_pieces j h.counters;
-  range = λ some. kept.range;
-}
+hist_piece_fits u uf h kept nums j = search (length-map, counter_pieces)
 
 hist_pieces_fit : (u : units.Unit) → UnitFits (Some u) → (h : Hist) → IsKept h → HistNumbersFit h → (n j : ℕ) → AllByRecursion RecFits (map (hist_rec u) (each_piece (hist_piece h) j n))
 hist_pieces_fit u uf h kept nums zero j = tt
@@ -41,8 +33,7 @@ map_append f P (x ∷ xs) ys a b = (a.0, map_append f P xs ys a.1 b)
 
 hists_fit : (u : units.Unit) → UnitFits (Some u) → (hs : List Hist) → AllByRecursion IsKept hs → AllByRecursion HistNumbersFit hs → AllByRecursion RecFits (map (hist_rec u) (flat_map hist_pieces hs))
 hists_fit u uf [] kept nums = tt
-hists_fit u uf (h ∷ hs) kept nums =
-    map_append (hist_rec u) RecFits (hist_pieces h) (flat_map hist_pieces hs) (hist_pieces_fit u uf h kept.0 nums.0 (pieces_of most_samples (largest h.counters)) 0) (hists_fit u uf hs kept.1 nums.1)
+hists_fit u uf (h ∷ hs) kept nums = search (map_append, hist_pieces_fit, hists_fit u uf hs kept.1 nums.1)
 
 arc_pieces_fit : (e : (ℕ × ℕ) × ℕ) → PairFits e → (n j : ℕ) → AllByRecursion RecFits (map arc_rec (each_piece (arc_piece e) j n))
 arc_pieces_fit e nums zero j = tt
@@ -58,8 +49,7 @@ round_fits zero (e ∷ es) nums = (record { addr = nums.0; count = omega arith }
 round_fits (suc j) (e ∷ es) nums = by (ltb (suc j * most_calls) e.1) refl (round_fits (suc j) es nums.1)
   where
     by : (b : Bool) → ltb (suc j * most_calls) e.1 ≡ b → AllByRecursion BlockFits (map raw_block (filter_map (piece_left (suc j)) es)) → AllByRecursion BlockFits (map raw_block (filter_map (piece_left (suc j)) (e ∷ es)))
-    by true lt rest = rw lt (record { addr = nums.0; count = omega arith }, rest)
-    by false lt rest = rw lt rest
+    by b lt rest = grind arith
 
 round_length : (j : ℕ) (es : List (ℕ × ℕ)) → length (map raw_block (filter_map (piece_left j) es)) ≤ length es
 round_length j [] = omega arith
@@ -67,8 +57,7 @@ round_length zero (e ∷ es) = omega (arith, round_length zero es)
 round_length (suc j) (e ∷ es) = by (ltb (suc j * most_calls) e.1) refl (round_length (suc j) es)
   where
     by : (b : Bool) → ltb (suc j * most_calls) e.1 ≡ b → length (map raw_block (filter_map (piece_left (suc j)) es)) ≤ length es → length (map raw_block (filter_map (piece_left (suc j)) (e ∷ es))) ≤ length (e ∷ es)
-    by true lt le = rw lt (omega (arith, le))
-    by false lt le = rw lt (omega (arith, le))
+    by b lt le = grind arith
 
 rounds_fit : (es : List (ℕ × ℕ)) → AllByRecursion AddressFits es → length es < 2 ^ 32 → (n j : ℕ) → AllByRecursion RecFits (map blocks_rec (each_piece (round_of es) j n))
 rounds_fit es nums few zero j = tt
@@ -78,17 +67,6 @@ blocks_fit : (es : List (ℕ × ℕ)) → AllByRecursion AddressFits es → leng
 blocks_fit [] nums few = tt
 blocks_fit (e ∷ es) nums few = rounds_fit (e ∷ es) nums few (pieces_of most_calls (largest (map (λ e. e.1) (e ∷ es)))) 0
 
-hists_written : (hs : List Hist) (o : Option units.Unit) → UnitFits o → AllByRecursion IsKept hs → AllByRecursion HistNumbersFit hs → AllByRecursion RecFits (hist_recs o hs)
-hists_written hs None uf kept nums = tt
-hists_written hs (Some u) uf kept nums = hists_fit u uf hs kept nums
-
 pub profile_spelled : ProfilesAreSpelled
 unfolding profile_text
-profile_spelled p is =
-    let fit = is.numbers in
-    let few : length p.blocks < 2 ^ 32 = omega (arith, is.within.addresses) in
-    let hists = hist_recs p.«unit» p.hists in
-    let arcs = map arc_rec (flat_map arc_pieces p.arcs) in
-    let rounds = map blocks_rec (rounds_of p.blocks) in
-    written_spells (hists ++ (arcs ++ rounds))
-    (all_append RecFits hists (arcs ++ rounds) (hists_written p.hists p.«unit» fit.«unit» is.hists fit.hists) (all_append RecFits arcs rounds (arcs_fit p.arcs fit.arcs) (blocks_fit p.blocks fit.blocks few)))
+profile_spelled p is = grind (arith, written_spells, all_append, arcs_fit, blocks_fit, hists_fit)

@@ -1,7 +1,7 @@
 -- The records of a text, one by one. How many bytes are allowed for doesn't matter where they are no fewer than
 -- the text's.
-use Rattle.std.proofs.Common.{◌≡◌, ℕ, zero, suc, ◌-◌, ◌≤◌, List, [], ◌∷◌, length, refl, ap, arith}
-use Rattle.gmon_gnu.specs.Reading.{Front, Refused, Found, body_front, recs_from, after_front, behind_records}
+use Rattle.std.proofs.Common.{◌≡◌, ℕ, zero, suc, ◌-◌, ◌≤◌, List, [], ◌∷◌, length, refl, arith}
+use Rattle.gmon_gnu.specs.Reading.{Front, Refused, Found, body_front, recs_from, after_front}
 use Rattle.gmon_gnu.proofs.FrontLemmas.{front_shorter}
 
 pub allowance : (len n m : ℕ) (bs : List ℕ) → length bs ≤ n → length bs ≤ m → recs_from len n bs ≡ recs_from len m bs
@@ -13,6 +13,4 @@ allowance len (suc n) (suc m) (tag ∷ body) a b = by (body_front len (len - len
     by : (f : Front) → body_front len (len - length (tag ∷ body)) tag body ≡ f → ((bs : List ℕ) → length bs ≤ n → length bs ≤ m → recs_from len n bs ≡ recs_from len m bs)
         → after_front (λ rest. recs_from len n rest) f ≡ after_front (λ rest. recs_from len m rest) f
     by (Refused e) is others = refl
-    by (Found r rest) is others =
-        let le = front_shorter len (len - length (tag ∷ body)) tag body r rest is in
-        ap (behind_records (r ∷ [])) (others rest (omega (arith, le, a)) (omega (arith, le, b)))
+    by (Found r rest) is others = grind (arith, front_shorter len (len - length (tag ∷ body)) tag body r rest is)

@@ -1,7 +1,6 @@
 -- Rounds of counts of basic blocks: an address that has something left had so in each round before.
-use Rattle.std.proofs.Common.{◌≡◌, ℕ, zero, suc, ◌+◌, ◌*◌, ◌-◌, ◌<◌, ◌≤◌, ◌⊎◌, inl, inr, ◌≢◌, Bool, true, false, eqb, cond, List, [], ◌∷◌, ◌++◌, length, min, take, drop, set, replicate, map, get_or, slice_get, Some, None, refl, sym, ap, ◌∙◌, true≢false, if◌then◌else◌, arith}
+use Rattle.std.proofs.Common.{◌≡◌, ℕ, zero, suc, ◌+◌, ◌*◌, ◌-◌, ◌<◌, ◌≤◌, ◌⊎◌, ◌≢◌, Bool, true, false, eqb, cond, List, [], ◌∷◌, ◌++◌, length, min, take, drop, set, replicate, map, get_or, slice_get, Some, None, refl, sym, ap, ◌∙◌, true≢false, if◌then◌else◌, arith}
 use Rattle.std.specs.List.{flat_map, range_with_len, cons_option}
-use Rattle.std.proofs.lemmas.Bool.{ltb-true, lt-ltb}
 use Rattle.std.proofs.lemmas.Bool.Decides.{eqb_tells}
 use Rattle.std.proofs.lemmas.List.{take-append-drop, take-take, drop-take, length-take, length-drop, length-set, length-replicate, get_or-take, get_or-drop, get_or-set_same, get_or-set_other, nil_from_length}
 use Rattle.std.proofs.lemmas.Option.{get_or_from_slice_get, slice_get-get_or}
@@ -10,19 +9,7 @@ use Rattle.std.proofs.lemmas.List.Concat.{flat_map-append}
 use Rattle.gp_base.specs.Fields.{block_bytes}
 use Rattle.gmon_gnu.specs.Grammar.{blocks_bytes}
 use Rattle.gmon_gnu.specs.Pieces.{left_bytes, left_of, part_of, round_bytes, rounds_text, AreMarks}
-use Rattle.gmon_gnu.specs.Splitting.{most_calls, piece, has_left, piece_left, raw_block, round_of}
-
-left_before : (i j n : ℕ) → i ≤ j → has_left j n ≡ true → has_left i n ≡ true
-left_before zero j n le left = refl
-left_before (suc i) zero n le left = absurd (omega (arith, le))
-left_before (suc i) (suc j) n le left = lt-ltb (suc i * most_calls) n (omega (arith, le, ltb-true (suc j * most_calls) n left))
-
-none_later : (i j n : ℕ) → i ≤ j → has_left i n ≡ false → has_left j n ≡ false
-none_later i j n le none = by (has_left j n) refl
-  where
-    by : (b : Bool) → has_left j n ≡ b → b ≡ false
-    by true is = absurd (true≢false (sym (left_before i j n le is) ∙ none))
-    by false is = refl
+use Rattle.gmon_gnu.specs.Splitting.{most_calls, piece, has_left, raw_block, round_of}
 
 -- of those that have something left for a round, the later rounds are those of all
 pub round_of_left : (i j : ℕ) (es : List (ℕ × ℕ)) → i ≤ j → round_of (left_of i es) j ≡ round_of es j
@@ -30,8 +17,7 @@ round_of_left i j [] le = refl
 round_of_left i j (e ∷ es) le = by (has_left i e.1) refl (round_of_left i j es le)
   where
     by : (b : Bool) → has_left i e.1 ≡ b → round_of (left_of i es) j ≡ round_of es j → round_of (cond b (e ∷ left_of i es) (left_of i es)) j ≡ round_of (e ∷ es) j
-    by true is others = ap (cons_option (piece_left j e)) others
-    by false is others = others ∙ ap (λ (c : Bool). cons_option (if c then Some (e.0, piece most_calls j e.1) else None) (round_of es j)) (sym (none_later i j e.1 le is))
+    by b is others = grind arith
 
 -- a list that had all that is left for the rounds from j on, without what has nothing left for round j
 pub kept_same : (j : ℕ) (now few es : List (ℕ × ℕ)) → now ≡ left_of j few → ((k : ℕ) → j ≤ k → round_of few k ≡ round_of es k) → (k : ℕ) → j ≤ k → round_of now k ≡ round_of es k
@@ -43,8 +29,7 @@ length-round_of j (e ∷ es) = by (has_left j e.1) (length-round_of j es)
   where
     by : (b : Bool) → length (round_of es j) ≡ length (left_of j es)
         → length (cons_option (if b then Some (e.0, piece most_calls j e.1) else None) (round_of es j)) ≡ length (cond b (e ∷ left_of j es) (left_of j es))
-    by true others = ap suc others
-    by false others = others
+    by b others = grind arith
 
 pub left_of_twice : (j : ℕ) (es : List (ℕ × ℕ)) → length (left_of j es) ≡ length (left_of j (left_of j es))
 left_of_twice j es = sym (length-round_of j es) ∙ ap length (sym (round_of_left j j es (omega arith))) ∙ length-round_of j (left_of j es)
@@ -85,16 +70,13 @@ few_left j (suc n) [] = omega arith
 few_left j (suc n) (e ∷ es) = by (has_left j e.1) (few_left j n es)
   where
     by : (b : Bool) → length (left_of j (take n es)) ≤ n → length (cond b (e ∷ left_of j (take n es)) (left_of j (take n es))) ≤ suc n
-    by true few = omega (arith, few)
-    by false few = omega (arith, few)
+    by b few = grind arith
 
 pub left_of_part_more : (j size part : ℕ) (es : List (ℕ × ℕ)) → left_of j (take ((part + 1) * size) es) ≡ left_of j (take (part * size) es) ++ left_of j (part_of size part es)
-left_of_part_more j size part es =
-    ap (left_of j) (part_more size part es) ∙ filter-append (λ e. has_left j e.1) (take (part * size) es) (part_of size part es)
+left_of_part_more j size part es = search (part_more, filter-append)
 
 pub bytes_of_part_more : (j size part : ℕ) (es : List (ℕ × ℕ)) → flat_map (left_bytes j) (take ((part + 1) * size) es) ≡ flat_map (left_bytes j) (take (part * size) es) ++ flat_map (left_bytes j) (part_of size part es)
-bytes_of_part_more j size part es =
-    ap (flat_map (left_bytes j)) (part_more size part es) ∙ flat_map-append (left_bytes j) (take (part * size) es) (part_of size part es)
+bytes_of_part_more j size part es = search (part_more, flat_map-append)
 
 -- what has nothing left for a round has nothing left for a later one
 none_left_later : (i j : ℕ) (es : List (ℕ × ℕ)) → i ≤ j → left_of i es ≡ [] → left_of j es ≡ []
@@ -112,11 +94,7 @@ marks_set j size part es marks mark are within none = record {
 }
   where
     by : (q : ℕ) → get_or (set marks part mark) q true ≡ false → ((eqb q part ≡ true) × (q ≡ part)) ⊎ ((eqb q part ≡ false) × (q ≢ part)) → left_of j (part_of size q es) ≡ []
-    by q is (inl here) =
-        let same = here.1 in
-        let set_here : get_or (set marks part mark) q true ≡ mark = ap (λ (k : ℕ). get_or (set marks part mark) k true) same ∙ get_or-set_same marks part mark true within in
-        ap (λ (k : ℕ). left_of j (part_of size k es)) same ∙ none (sym set_here ∙ is)
-    by q is (inr there) = are.unmarked q (sym (get_or-set_other marks part q mark true there.1) ∙ is)
+    by q is also = grind (arith, get_or-set_same, get_or-set_other)
 
 pub all_marked : (j size n : ℕ) (es : List (ℕ × ℕ)) → n ≡ 32768 → AreMarks j size es (replicate n true)
 all_marked j size n es is = record {
@@ -136,17 +114,14 @@ no_bytes j (e ∷ es) none = by (has_left j e.1) none (no_bytes j es)
   where
     by : (b : Bool) → cond b (e ∷ left_of j es) (left_of j es) ≡ [] → (left_of j es ≡ [] → flat_map (left_bytes j) es ≡ [])
         → (if b then block_bytes (raw_block (e.0, piece most_calls j e.1)) else []) ++ flat_map (left_bytes j) es ≡ []
-    by true is others = absurd cc
-    by false is others = others is
+    by b is others = grind arith
 
 pub round_same : (few es : List (ℕ × ℕ)) (j : ℕ) → ((k : ℕ) → j ≤ k → round_of few k ≡ round_of es k) → round_bytes few j ≡ round_bytes es j
 round_same few es j same = ap (λ (r : List (ℕ × ℕ)). blocks_bytes (map raw_block r)) (same j (omega arith))
 
 pub rounds_same : (few es : List (ℕ × ℕ)) (j n : ℕ) → ((i : ℕ) → j ≤ i → round_of few i ≡ round_of es i) → rounds_text j n few ≡ rounds_text j n es
 rounds_same few es j zero same = refl
-rounds_same few es j (suc n) same =
-    ap (λ (t : List ℕ). t ++ rounds_text (j + 1) n few) (round_same few es j same)
-    ∙ ap (λ (t : List ℕ). round_bytes es j ++ t) (rounds_same few es (j + 1) n (λ i le. same i (omega (arith, le))))
+rounds_same few es j (suc n) same = grind (arith, rounds_same few es (j + 1) n)
 
 -- rounds before round j, and those from it on
 pub rounds_split : (j n : ℕ) (es : List (ℕ × ℕ)) → flat_map (round_bytes es) (take j (range_with_len 0 n)) ++ rounds_text j (n - j) es ≡ rounds_text 0 n es

@@ -5,12 +5,9 @@ use Rattle.gp_base.specs.declared.records.RawArc.{RawArc}
 use Rattle.gp_base.specs.declared.records.Rec.TheVariants.{Arc}
 use Rattle.mcount_arcs.specs.declared.sizes.Sizes.{Sizes}
 use Rattle.mcount_arcs.specs.Log.{LogEntry}
-use Rattle.mcount_arcs.specs.Samples.{buckets_of}
 use Rattle.mcount_arcs.specs.Value.{GmonValue, StandsFor}
-use Rattle.gmon_gnu.specs.Fields.{magic, spare_bytes}
-use Rattle.gmon_gnu.specs.Grammar.{rec_bytes, tagged_arc, gnu_spelling}
+use Rattle.gmon_gnu.specs.Grammar.{rec_bytes, tagged_arc}
 use Rattle.gp_base.specs.Fields.{counters_text}
-use Rattle.gmon_cells.specs.RunRecords.{run_recs}
 use Rattle.gmon_gnu.specs.Run.{gnu_run_text, runtime_text, header_of}
 
 arcs_tagged : (arcs : List RawArc) → flat_map tagged_arc arcs ≡ flat_map rec_bytes (map Arc arcs)
@@ -28,6 +25,4 @@ text_parts v rate z is count =
 -- what a runtime holds follows from the log that it stands for
 pub text_stands : (v : GmonValue) (rate : ℕ) (log : List LogEntry) → StandsFor log v → runtime_text v rate ≡ gnu_run_text v.sizes log rate
 unfolding runtime_text gnu_run_text
-text_stands v rate log stands =
-    ap (λ (counters : List ℕ). gnu_spelling magic spare_bytes (run_recs v.sizes.low v.sizes.high rate counters v.arcs)) stands.counters
-    ∙ ap (λ (arcs : List RawArc). gnu_spelling magic spare_bytes (run_recs v.sizes.low v.sizes.high rate (buckets_of v.sizes log) arcs)) stands.arcs
+text_stands v rate log stands = search (v.sizes.low, v.sizes.high, v.arcs, stands.counters, stands.arcs)

@@ -1,9 +1,8 @@
 -- The first conflict among the first histograms is found where each is compared with all before it.
 use Rattle.std.proofs.Common.{◌≡◌, ℕ, zero, suc, ◌+◌, ◌-◌, ◌<◌, ◌≤◌, Bool, true, false, ltb, eqb, not, ◌&&◌, List, [], ◌∷◌, ◌++◌, length, map, take, drop, get_or, length-take, length-drop, Option, Some, None, if◌then◌else◌, refl, sym, ap, subst, ◌∙◌, arith}
-use Rattle.std.specs.Prelude.{nat_lt, filter_map, unwrap_or}
+use Rattle.std.specs.Prelude.{filter_map}
 use Rattle.std.specs.List.{AllByRecursion, cons_option, filter}
-use Rattle.std.specs.Option.{option_or}
-use Rattle.std.proofs.lemmas.Bool.{eqb-true, eq-eqb, le-ltb, lt-ltb, ltb-false, ltb-true}
+use Rattle.std.proofs.lemmas.Bool.{eqb-true, eq-eqb, le-ltb, ltb-false, ltb-true}
 use Rattle.std.proofs.lemmas.List.{append-nil, take_more}
 use Rattle.std.proofs.lemmas.Option.{slice_get-get_or}
 use Rattle.std.proofs.lemmas.List.Elements.{filter_map-append}
@@ -15,16 +14,15 @@ use Rattle.gmon_data.specs.declared.hist.HistRange.{HistRange}
 use Rattle.gmon_data.specs.declared.refusal.Unlike.{Unlike}
 use Rattle.gmon_data.specs.declared.refusal.Unlike.TheVariants.{Range}
 use Rattle.gmon_data.specs.Content.{Content, HasSpan, WideRec, WideHist, WideArc, WideBlock, conflict_of, empty_content, wide_arc, wide_block, wide_record, wide_records}
-use Rattle.gmon_data.specs.Hists.{has_counters, hist_sum, kept_unit, overlap, put_hist, range_conflict, range_of, same_range, unit_conflict, IsApart, IsKept}
+use Rattle.gmon_data.specs.Hists.{has_counters, hist_sum, overlap, put_hist, range_conflict, range_of, same_range, IsApart, IsKept}
 use Rattle.gmon_data.proofs.RecordLemmas.{cut_at}
 use Rattle.gmon_data.proofs.HistLemmas.{all_kept, apart_put, first_none, none_of, one_range, range-sum}
 use Rattle.gmon_gnu.specs.declared.state.Body.{Body}
-use Rattle.gmon_gnu.specs.declared.state.Body.TheVariants as body
 use Rattle.gmon_gnu.specs.declared.state.Entry.{Entry}
 use Rattle.gmon_gnu.specs.declared.state.HistFields.{HistFields}
 use Rattle.gmon_gnu.specs.FirstHists.{conflict_among_first, is_counted}
-use Rattle.gmon_gnu.specs.Held.{IsBodyWithin, IsWithin, entries_recs, no_entry, no_fields, rec_of, recs_in}
-use Rattle.gmon_gnu.specs.Searching.{counted_hist, counted_hists, first_unit, left_behind, lower_one, lower_unlike, lowest_unlike, range_unlike, unlike_among, unlike_before, unlike_where_counted}
+use Rattle.gmon_gnu.specs.Held.{IsBodyWithin, IsWithin, entries_recs, no_entry, rec_of, recs_in}
+use Rattle.gmon_gnu.specs.Searching.{counted_hist, counted_hists, first_unit, left_behind, lower_one, lower_unlike, lowest_unlike, range_unlike, unlike_among, unlike_where_counted}
 use Rattle.gmon_gnu.proofs.AddingLemmas.{all_widened}
 use Rattle.gmon_gnu.proofs.FirstHistsLemmas.{conflict_where, put_where}
 use Rattle.gmon_gnu.proofs.MakingLemmas.{entries_next}
@@ -46,27 +44,20 @@ told_of_kept [] new = refl
 told_of_kept (k ∷ ks) new = by (differ (range_of k) new) (told_of_kept ks new)
   where
     by : (b : Bool) → range_conflict ks new ≡ range_unlike (lowest_kept ks new) new → (if b then Some (Range (range_of k) new) else range_conflict ks new) ≡ range_unlike (if b then Some (range_of k) else lowest_kept ks new) new
-    by true others = refl
-    by false others = others
+    by b others = grind arith
 
 not_below : (n : ℕ) (hs : List Hist) (new b : HistRange) → AllByRecursion (λ k. n ≤ k.low) hs → lowest_kept hs new ≡ Some b → n ≤ b.low
 not_below n [] new b all is = absurd (let none : None ≡ Some b = is in cc)
 not_below n (k ∷ ks) new b all is = by (differ (range_of k) new) is (not_below n ks new b all.1)
   where
     by : (c : Bool) → (if c then Some (range_of k) else lowest_kept ks new) ≡ Some b → (lowest_kept ks new ≡ Some b → n ≤ b.low) → n ≤ b.low
-    by true is others = let same : range_of k ≡ b = cc in subst (λ (r : HistRange). n ≤ r.low) same all.0
-    by false is others = others is
+    by c is others = grind arith
 
 stays : (best old : HistRange) → best.low ≤ old.low → lower_one (Some best) old ≡ best
 stays best old le = ap (λ (b : Bool). if b then old else best) (le-ltb old.low best.low le)
 
 goes_down : (o : Option HistRange) (old : HistRange) → ((best : HistRange) → o ≡ Some best → old.low < best.low) → lower_one o old ≡ old
-goes_down None old lower = refl
-goes_down (Some best) old lower = ap (λ (b : Bool). if b then old else best) (lt-ltb old.low best.low (lower best refl))
-
-kept_where : (y : Bool) (best old : HistRange) → best.low ≤ old.low → Some best ≡ (if y then Some (lower_one (Some best) old) else Some best)
-kept_where true best old le = ap (λ (r : HistRange). let o : Option HistRange = Some r in o) (sym (stays best old le))
-kept_where false best old le = refl
+goes_down o old lower = grind arith
 
 -- a histogram that takes its place may be the lowest
 lowest_put : (h : Hist) (new : HistRange) (hs : List Hist) → IsKept h → AllByRecursion IsKept hs → IsApart hs → range_conflict hs (range_of h) ≡ None → lowest_kept (put_hist h hs) new ≡ lower_unlike (lowest_kept hs new) (range_of h) new
@@ -80,9 +71,7 @@ lowest_put h new (k ∷ ks) mine kept apart none = by (ltb k.low h.low) (eqb k.l
         → lowest_kept (put_hist h ks) new ≡ (if y then Some (lower_one (lowest_kept ks new) (range_of h)) else lowest_kept ks new)
         → lowest_kept (if b then k ∷ put_hist h ks else (if e then hist_sum k h ∷ ks else h ∷ k ∷ ks)) new
         ≡ (if y then Some (lower_one (if x then Some (range_of k) else lowest_kept ks new) (range_of h)) else (if x then Some (range_of k) else lowest_kept ks new))
-    by true e lt eq true ex y ey others =
-        let less : k.low < h.low = ltb-true k.low h.low lt in
-        ap (λ (c : Bool). if c then Some (range_of k) else lowest_kept (put_hist h ks) new) ex ∙ kept_where y (range_of k) (range_of h) (omega (arith, less))
+    by true e lt eq true ex y ey others = grind (arith, ltb-true)
     by true e lt eq false ex y ey others = ap (λ (c : Bool). if c then Some (range_of k) else lowest_kept (put_hist h ks) new) ex ∙ others
     by false true lt eq x ex y ey others =
         let low = eqb-true k.low h.low eq in
@@ -92,12 +81,8 @@ lowest_put h new (k ∷ ks) mine kept apart none = by (ltb k.low h.low) (eqb k.l
         ap (λ (r : HistRange). if differ r new then Some r else lowest_kept ks new) sum ∙ ap (λ (c : Bool). if c then Some (range_of k) else lowest_kept ks new) ex ∙ both x y one
       where
         both : (x y : Bool) → x ≡ y → (if x then Some (range_of k) else lowest_kept ks new) ≡ (if y then Some (lower_one (if x then Some (range_of k) else lowest_kept ks new) (range_of h)) else (if x then Some (range_of k) else lowest_kept ks new))
-        both true true is = kept_where true (range_of k) (range_of h) (omega (arith, eqb-true k.low h.low eq))
-        both true false is = absurd cc
-        both false true is = absurd cc
-        both false false is = refl
-    by false false lt eq x ex false ey others =
-        ap (λ (c : Bool). if c then Some (range_of h) else (if differ (range_of k) new then Some (range_of k) else lowest_kept ks new)) ey ∙ ap (λ (c : Bool). if c then Some (range_of k) else lowest_kept ks new) ex
+        both x y is = grind (arith, eqb-true)
+    by false false lt eq x ex false ey others = search arith
     by false false lt eq x ex true ey others =
         ap (λ (c : Bool). if c then Some (range_of h) else (if differ (range_of k) new then Some (range_of k) else lowest_kept ks new)) ey
         ∙ ap (λ (r : HistRange). let o : Option HistRange = Some r in o) (sym (goes_down (if x then Some (range_of k) else lowest_kept ks new) (range_of h) (below x)))
@@ -118,10 +103,6 @@ lowest-behind : (ps : List Pair) (p : Pair) (best : Option HistRange) (new : His
 lowest-behind [] p best new = refl
 lowest-behind (q ∷ ps) p best new = lowest-behind ps p (lower_unlike best q.0 new) new
 
-unit-behind : (ps : List Pair) (p : Pair) → Some (unwrap_or (first_unit ps) (kept_unit p.1)) ≡ first_unit (ps ++ p ∷ [])
-unit-behind [] p = refl
-unit-behind (q ∷ ps) p = refl
-
 record Stands (before : List Pair) (c : Content) : Type 0 where
   kept : AllByRecursion IsKept c.hists
   apart : IsApart c.hists
@@ -131,20 +112,8 @@ record Stands (before : List Pair) (c : Content) : Type 0 where
 at_begin : Stands [] empty_content
 at_begin = record { kept = tt; apart = tt; lowest = λ new. refl; own = refl }
 
-conflict_here : (before : List Pair) (c : Content) → Stands before c → (h : Hist) (v : units.Unit) → conflict_where true h v c ≡ unlike_before before (range_of h) v
-conflict_here before c s h v =
-    let found = told_of_kept c.hists (range_of h) ∙ ap (λ (o : Option HistRange). range_unlike o (range_of h)) (s.lowest (range_of h)) in
-    λ i. option_or (found i) (unit_conflict (s.own i) (kept_unit v))
-
 one_behind : (before : List Pair) (c : Content) → Stands before c → (h : Hist) (v : units.Unit) → IsKept h → conflict_where true h v c ≡ None → Stands (before ++ (range_of h, v) ∷ []) (put_where true h v c)
-one_behind before c s h v mine none =
-    let clear = first_none (range_conflict c.hists (range_of h)) _ none in
-    record {
-      kept = all_kept h c.hists mine s.kept;
-      apart = apart_put h c.hists clear mine.range s.kept s.apart;
-      lowest = λ new. lowest_put h new c.hists mine s.kept s.apart clear ∙ ap (λ (o : Option HistRange). lower_unlike o (range_of h) new) (s.lowest new) ∙ sym (lowest-behind before (range_of h, v) None new);
-      own = ap (λ (o : Option units.Unit). let x : Option units.Unit = Some (unwrap_or o (kept_unit v)) in x) s.own ∙ unit-behind before (range_of h, v);
-    }
+one_behind before c s h v mine none = grind (arith, first_none, all_kept, apart_put, lowest_put, lowest-behind)
 
 abbrev counted_in : WideRec → Option Pair
 counted_in (WideHist h v) = if has_counters h then Some (range_of h, v) else None
@@ -153,18 +122,6 @@ counted_in (WideBlock addr count) = None
 
 abbrev all_counted : List WideRec → List Pair
 all_counted recs = filter_map counted_in recs
-
-both_or : (o p x y : Option Unlike) → o ≡ p → (o ≡ None → x ≡ y) → option_or o x ≡ option_or p y
-both_or None p x y is others = ap (λ (q : Option Unlike). option_or q x) is ∙ by p is
-  where
-    by : (p : Option Unlike) → None ≡ p → option_or p x ≡ option_or p y
-    by None is = others refl
-    by (Some u) is = refl
-both_or (Some u) p x y is others = ap (λ (q : Option Unlike). option_or q x) is ∙ by p is
-  where
-    by : (p : Option Unlike) → Some u ≡ p → option_or p x ≡ option_or p y
-    by None is = absurd cc
-    by (Some w) is = refl
 
 found_among : (recs : List WideRec) (n : ℕ) (before : List Pair) (c : Content) → AllByRecursion HasSpan recs → Stands before c → conflict_of c (take n (filter is_counted recs)) ≡ unlike_among before (all_counted recs) n
 found_among [] zero before c spans s = refl
@@ -175,15 +132,7 @@ found_among (WideHist h v ∷ recs) n before c spans s = by (has_counters h) ref
   where
     by : (b : Bool) → has_counters h ≡ b → (n : ℕ) → ((m : ℕ) (ps : List Pair) (d : Content) → Stands ps d → conflict_of d (take m (filter is_counted recs)) ≡ unlike_among ps (all_counted recs) m)
         → conflict_of c (take n (if b then WideHist h v ∷ filter is_counted recs else filter is_counted recs)) ≡ unlike_among before (cons_option (if b then Some (range_of h, v) else None) (all_counted recs)) n
-    by false e n others = others n before c s
-    by true e zero others = refl
-    by true e (suc m) others =
-        let rest = take m (filter is_counted recs) in
-        let some : 0 < length h.counters = ltb-true 0 (length h.counters) e in
-        let mine : IsKept h = record { range = spans.0 some; some = some } in
-        ap (λ (b : Bool). option_or (conflict_where b h v c) (conflict_of (put_where b h v c) rest)) e
-        ∙ both_or (conflict_where true h v c) (unlike_before before (range_of h) v) (conflict_of (put_where true h v c) rest) (unlike_among (before ++ (range_of h, v) ∷ []) (all_counted recs) m)
-        (conflict_here before c s h v) (λ none. others m (before ++ (range_of h, v) ∷ []) (put_where true h v c) (one_behind before c s h v mine none))
+    by b e n others = grind (arith, one_behind, told_of_kept, c.hists, s.lowest, s.own)
 
 -- ---- the histograms with counters that were read
 
@@ -196,16 +145,11 @@ counted_blocks [] = refl
 counted_blocks (b ∷ blocks) = counted_blocks blocks
 
 one_before : {X : Type 0} (o : Option X) (xs : List X) → cons_option o [] ++ xs ≡ cons_option o xs
-one_before None xs = refl
-one_before (Some x) xs = refl
+one_before o xs = grind arith
 
 module _ (fields : List HistFields) (counters : List ℕ) (pairs : List RawBlock) (arcs : List RawArc) where
   counted_record : (b : Body) → IsBodyWithin (length fields) (length counters) (length pairs) b → all_counted (wide_record (rec_of fields counters pairs b)) ≡ cons_option (counted_hist fields b) []
-  counted_record (body.Hist f s t) within =
-      let own = get_or fields f no_fields in
-      let same : length (take (t - s) (drop s counters)) ≡ t - s = omega (arith, length-take (t - s) (drop s counters), length-drop s counters) in
-      ap (λ (n : ℕ). cons_option (if nat_lt 0 n then Some (record { low = own.low; high = own.high; count = n }, own.«unit») else None) []) same
-  counted_record (body.Blocks s t) within = counted_blocks (take (t - s) (drop s pairs))
+  counted_record b within = grind (arith, length-take, length-drop, counted_blocks)
 
   counted_read : (entries : List Entry) → AllByRecursion (IsWithin (length fields) (length counters) (length pairs) (length arcs)) entries → all_counted (entries_recs fields counters pairs arcs entries) ≡ counted_hists fields entries
   counted_read [] all = refl
@@ -220,10 +164,7 @@ module _ (fields : List HistFields) (counters : List ℕ) (pairs : List RawBlock
       ∙ one_before (counted_hist fields e.body) (counted_hists fields entries)
 
   all_counted_read : (entries : List Entry) (run : ℕ) → AllByRecursion (IsWithin (length fields) (length counters) (length pairs) (length arcs)) entries → all_counted (wide_records (recs_in fields counters pairs arcs entries run)) ≡ counted_hists fields entries
-  all_counted_read entries run all =
-      ap all_counted (all_widened fields counters pairs arcs entries run)
-      ∙ filter_map-append counted_in (entries_recs fields counters pairs arcs entries) (map wide_arc (drop run arcs))
-      ∙ (λ i. counted_read entries all i ++ counted_arcs (drop run arcs) i) ∙ append-nil (counted_hists fields entries)
+  all_counted_read entries run all = search (all_widened, filter_map-append, counted_read, counted_arcs, append-nil)
 
   -- what was found in the lists
   pub found_in : (entries : List Entry) (run : ℕ) → AllByRecursion (IsWithin (length fields) (length counters) (length pairs) (length arcs)) entries → AllByRecursion HasSpan (wide_records (recs_in fields counters pairs arcs entries run))
@@ -241,16 +182,10 @@ none_left before [] = refl
 none_left before (p ∷ ps) = refl
 
 next_among : (o : Option Pair) (before ps : List Pair) (left : ℕ) → 0 < left → unlike_where_counted before o ≡ None → unlike_among before (cons_option o ps) left ≡ unlike_among (before ++ cons_option o []) ps (left_behind left o)
-next_among None before ps left some none = ap (λ (l : List Pair). unlike_among l ps left) (sym (append-nil before))
-next_among (Some p) before ps zero some none = absurd (omega (arith, some))
-next_among (Some p) before ps (suc n) some none =
-    let left : n ≡ suc n - 1 = omega arith in
-    ap (λ (o : Option Unlike). option_or o (unlike_among (before ++ p ∷ []) ps n)) none ∙ ap (λ (m : ℕ). unlike_among (before ++ p ∷ []) ps m) left
+next_among o before ps left some is = grind (arith, append-nil)
 
 found_next : (o : Option Pair) (before ps : List Pair) (left : ℕ) (u : Unlike) → 0 < left → unlike_where_counted before o ≡ Some u → unlike_among before (cons_option o ps) left ≡ Some u
-found_next None before ps left u some is = absurd (let none : None ≡ Some u = is in cc)
-found_next (Some p) before ps zero u some is = absurd (omega (arith, some))
-found_next (Some p) before ps (suc n) u some is = ap (λ (o : Option Unlike). option_or o (unlike_among (before ++ p ∷ []) ps n)) is
+found_next o before ps left u some is = grind arith
 
 -- ---- the next entry is looked at
 

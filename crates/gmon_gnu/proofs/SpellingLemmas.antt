@@ -1,7 +1,7 @@
 -- What a spelling is read as.
-use Rattle.std.proofs.Common.{◌≡◌, ℕ, zero, suc, ◌+◌, ◌-◌, ◌*◌, ◌<◌, ◌≤◌, false, ltb, leb, eqb, not, ◌&&◌, List, [], ◌∷◌, ◌++◌, length, take, drop, slice_index, length-append, append_assoc, None, Ok, refl, sym, ap, ◌∙◌, inl, inr, arith}
+use Rattle.std.proofs.Common.{◌≡◌, ℕ, zero, suc, ◌+◌, ◌-◌, ◌*◌, ◌<◌, ◌≤◌, false, ltb, leb, ◌&&◌, List, [], ◌∷◌, ◌++◌, length, take, drop, slice_index, length-append, append_assoc, None, Ok, refl, sym, ap, ◌∙◌, arith}
 use Rattle.std.specs.List.{flat_map, AllByRecursion}
-use Rattle.std.proofs.lemmas.Bool.{le-ltb, lt-leb, cases_lt, and_left, and_right, eq-eqb}
+use Rattle.std.proofs.lemmas.Bool.{le-ltb}
 use Rattle.std.proofs.lemmas.List.{take_at, drop_at, drop-drop}
 use Rattle.gp_base.specs.declared.records.RawArc.{RawArc}
 use Rattle.gp_base.specs.declared.records.RawBlock.{RawBlock}
@@ -9,16 +9,15 @@ use Rattle.gp_base.specs.declared.records.RawHist.{RawHist}
 use Rattle.gp_base.specs.declared.records.Rec.{Rec}
 use Rattle.gp_base.specs.declared.records.Rec.TheVariants.{Hist, Arc, Blocks}
 use Rattle.gp_base.specs.declared.records.Records.{Records}
-use Rattle.gp_base.specs.declared.records.Form.{Form}
 use Rattle.gp_base.specs.declared.records.Form.TheVariants.{Gnu}
 use Rattle.gp_base.specs.Bytes.{value_of, le, word_at}
 use Rattle.gp_base.proofs.LittleEndian.{value_of-le}
 use Rattle.gp_base.proofs.Cutting.{cut-flat_map, length-spelled}
-use Rattle.gp_base.specs.Fields.{arc_bytes, block_bytes, block_of, counter_bytes, ArcFits, BlockFits, CounterFits}
+use Rattle.gp_base.specs.Fields.{arc_bytes, block_bytes, block_of, counter_bytes, ArcFits, BlockFits}
 use Rattle.gmon_gnu.specs.Fields.{gnu_version, magic, spare_bytes}
 use Rattle.gmon_gnu.specs.Grammar.{rec_bytes, gnu_spelling, RecFits, HistFits, BlocksFit, GnuSpells}
-use Rattle.gmon_gnu.specs.Reading.{Found, hist_of_fields, pairs_front, body_front, behind_records, recs_from, after_front, file_recs, refusal_read, recs_in, gnu_refusal, gnu_records}
-use Rattle.gp_base.proofs.FieldLemmas.{counter_length, block_length, arc_back, block_back}
+use Rattle.gmon_gnu.specs.Reading.{Found, hist_of_fields, pairs_front, body_front, behind_records, recs_from, after_front, file_recs, gnu_refusal, gnu_records}
+use Rattle.gp_base.proofs.FieldLemmas.{block_length, block_back}
 
 -- ---- a record with the text behind it
 
@@ -29,30 +28,17 @@ rec_text (Arc arc) rest = 1 ∷ (arc_bytes arc ++ rest)
 rec_text (Blocks blocks) rest = 2 ∷ (le (length blocks) 4 ++ (flat_map block_bytes blocks ++ rest))
 
 pub rec_then : (r : Rec) (rest : List ℕ) → rec_bytes r ++ rest ≡ rec_text r rest
-rec_then (Hist h) rest =
-    ap (λ (v : List ℕ). 0 ∷ (le h.low 4 ++ (le h.high 4 ++ (le (length h.counters) 4 ++ (le h.unit.rate 4 ++ v))))) (append_assoc h.unit.dim (h.unit.«abbrev» ∷ flat_map counter_bytes h.counters) rest)
-rec_then (Arc arc) rest = refl
-rec_then (Blocks blocks) rest = refl
+rec_then r rest = grind (arith, append_assoc)
 
 -- ---- one record
 
 pub no_range : (n low high : ℕ) → (0 < n → low < high) → (ltb 0 n && leb high low) ≡ false
-no_range n low high h =
-    elim (cases_lt 0 n) [
-      | inl some ↦ and_right (ltb 0 n) (leb high low) (lt-leb high low (h some))
-      | inr none ↦ and_left (ltb 0 n) (leb high low) (le-ltb 0 n none)
-    ]
+no_range n low high h = grind arith
 
 -- the fields of a histogram, and then its counters
 fields_read : (len at : ℕ) (h : RawHist) (rest : List ℕ) → HistFits h
     → hist_of_fields len at h.low h.high (length h.counters) h.unit.rate h.unit.dim h.unit.«abbrev» (flat_map counter_bytes h.counters ++ rest) ≡ Found (Hist h) rest
-fields_read len at h rest fits =
-    let cs = h.counters in
-    let text = flat_map counter_bytes cs in
-    let long : length text ≡ length cs * 2 = length-spelled 2 counter_bytes counter_length cs in
-    let all : ltb (length (text ++ rest)) (length cs * 2) ≡ false = le-ltb (length (text ++ rest)) (length cs * 2) (omega (arith, long, length-append text rest)) in
-    rw (no_range (length cs) h.low h.high fits.range, all)
-    (λ i. Found (Hist (record h { counters = cut-flat_map 2 value_of counter_bytes CounterFits counter_length (λ c lt. value_of-le 2 c lt) cs rest fits.counters i })) (drop_at text rest (length cs * 2) long i))
+fields_read len at h rest fits = grind (arith, length-spelled, length-append, cut-flat_map, drop_at)
 
 hist_read : (len at : ℕ) (h : RawHist) (rest : List ℕ) → HistFits h
     → body_front len at 0 (le h.low 4 ++ (le h.high 4 ++ (le (length h.counters) 4 ++ (le h.unit.rate 4 ++ (h.unit.dim ++ (h.unit.«abbrev» ∷ (flat_map counter_bytes h.counters ++ rest))))))) ≡ Found (Hist h) rest
@@ -68,9 +54,7 @@ hist_read len at h rest fits =
     ∙ fields_read len at h rest fits)
 
 arc_read : (len at : ℕ) (arc : RawArc) (rest : List ℕ) → ArcFits arc → body_front len at 1 (arc_bytes arc ++ rest) ≡ Found (Arc arc) rest
-arc_read len at arc rest fits =
-    let here : ltb (length (arc_bytes arc ++ rest)) 12 ≡ false = le-ltb (length (arc_bytes arc ++ rest)) 12 (omega (arith, length-append (arc_bytes arc) rest)) in
-    rw here (λ i. Found (Arc (arc_back arc fits i)) rest)
+arc_read len at arc rest fits = grind arith
 
 blocks_read : (len at : ℕ) (blocks : List RawBlock) (rest : List ℕ) → BlocksFit blocks → body_front len at 2 (le (length blocks) 4 ++ (flat_map block_bytes blocks ++ rest)) ≡ Found (Blocks blocks) rest
 blocks_read len at blocks rest fits =
@@ -83,10 +67,7 @@ blocks_read len at blocks rest fits =
     ∙ rw all (λ i. Found (Blocks (cut-flat_map 8 block_of block_bytes BlockFits block_length block_back blocks rest fits.each i)) (drop_at text rest (length blocks * 8) long i)))
 
 pub shorter : (r : Rec) (rest : List ℕ) → length rest < length (rec_text r rest)
-shorter (Hist h) rest =
-    omega (arith, length-append h.unit.dim (h.unit.«abbrev» ∷ (flat_map counter_bytes h.counters ++ rest)), length-append (flat_map counter_bytes h.counters) rest)
-shorter (Arc arc) rest = omega (arith, length-append (arc_bytes arc) rest)
-shorter (Blocks blocks) rest = omega (arith, length-append (flat_map block_bytes blocks) rest)
+shorter r rest = grind (arith, length-append)
 
 pub front_read : (len n : ℕ) (r : Rec) (rest : List ℕ) → RecFits r → recs_from len (suc n) (rec_text r rest) ≡ behind_records (r ∷ []) (recs_from len n rest)
 front_read len n (Hist h) rest fits = ap (after_front (λ rest. recs_from len n rest)) (hist_read len (len - length (rec_text (Hist h) rest)) h rest fits)
@@ -125,25 +106,14 @@ whole_spelling first spare recs four twelve fit =
       recs_are = ap (recs_from (length bytes) (length bytes)) rest ∙ recs_read (length bytes) (length bytes) recs (omega (arith, long)) fit;
     }
 
-pub whole_accepted : (bytes : List ℕ) (recs : List Rec) → Whole bytes recs → gnu_refusal bytes ≡ None
-whole_accepted bytes recs whole =
-    let here : ltb (length bytes) 20 ≡ false = le-ltb (length bytes) 20 whole.header in
-    let same : not (eqb (word_at bytes 4) gnu_version) ≡ false = ap not (eq-eqb (word_at bytes 4) gnu_version whole.version_is) in
-    rw (here, same) (ap refusal_read whole.recs_are)
-
 abbrev pub gnu : List Rec → Records
 gnu recs = record { form = Gnu; recs = recs }
 
 pub accepted_where_spelled : (bytes : List ℕ) (r : Records) → GnuSpells bytes r → gnu_refusal bytes ≡ None
-accepted_where_spelled bytes r s =
-    ap gnu_refusal s.text ∙ whole_accepted (gnu_spelling s.first s.spare r.recs) r.recs (whole_spelling s.first s.spare r.recs s.first_fits s.spare_fits s.recs_fit)
+accepted_where_spelled bytes r s = grind (arith, whole_spelling)
 
 pub only_where_spelled : (bytes : List ℕ) (r : Records) → GnuSpells bytes r → r ≡ gnu_records bytes
-only_where_spelled bytes r s =
-    let whole = whole_spelling s.first s.spare r.recs s.first_fits s.spare_fits s.recs_fit in
-    ap (λ (f : Form). let x : Records = record { form = f; recs = r.recs } in x) s.form
-    ∙ ap gnu (sym (ap recs_in whole.recs_are))
-    ∙ ap gnu_records (sym s.text)
+only_where_spelled bytes r s = grind (arith, whole_spelling)
 
 -- records behind the header that is written
 pub written_spells : (recs : List Rec) → AllByRecursion RecFits recs → GnuSpells (gnu_spelling magic spare_bytes recs) (record { form = Gnu; recs = recs })

@@ -1,10 +1,9 @@
 -- What the pieces of a profile add up to.
 use Rattle.std.proofs.Common.{◌≡◌, ℕ, zero, suc, ◌+◌, ◌-◌, ◌*◌, ◌/◌, ◌<◌, ◌≤◌, min, Bool, true, false, ltb, nat_eq, List, [], ◌∷◌, ◌++◌, map, fold, filter_map, refl, sym, ap, ◌∙◌, append_assoc, arith}
 use Rattle.std.specs.List.{flat_map, AllByRecursion, IsDistinct}
-use Rattle.std.proofs.lemmas.Bool.{ltb-false, lt-ltb, le-ltb, eqb-true, eq-eqb}
+use Rattle.std.proofs.lemmas.Bool.{lt-ltb, le-ltb, eqb-true, eq-eqb}
 use Rattle.std.proofs.lemmas.List.{append-nil}
 use Rattle.std.proofs.lemmas.List.Sums.{fold-append}
-use Rattle.std.proofs.Math.Nat.{suc-mul}
 use Rattle.gmon_data.specs.declared.hist.Hist.{Hist}
 use Rattle.gmon_data.specs.Hists.{pointwise_sum, put_hist, hist_sum, IsKept, IsApart as AreApart}
 use Rattle.gmon_data.specs.Tally.{tally}
@@ -30,9 +29,7 @@ abbrev done : ℕ → ℕ → ℕ → ℕ
 done most j n = min n (j * most)
 
 more_done : (most j n : ℕ) → done most j n + piece most j n ≡ done most (j + 1) n
-more_done most j n =
-    let e : (j + 1) * most ≡ j * most + most = omega (arith, suc-mul j most) in
-    omega (arith, e)
+more_done most j n = grind arith
 
 first_done : (most n : ℕ) → piece most 0 n ≡ done most 1 n
 first_done most n = let e : 1 * most ≡ most = omega arith in let z : 0 * most ≡ 0 = omega arith in omega (arith, e, z)
@@ -81,12 +78,7 @@ put done h = put_hist h done
 hist_pieces_from : (h : Hist) (front : List Hist) → AllByRecursion (λ x. x.low < h.low) front → (n j : ℕ)
     → fold put (front ++ with h (map (done most_samples j) h.counters) ∷ []) (each_piece (hist_piece h) j n) ≡ front ++ with h (map (done most_samples (j + n)) h.counters) ∷ []
 hist_pieces_from h front below zero j = let e : j ≡ j + 0 = omega arith in ap (λ k. front ++ with h (map (done most_samples k) h.counters) ∷ []) e
-hist_pieces_from h front below (suc n) j =
-    let e : (j + 1) + n ≡ j + suc n = omega arith in
-    ap (λ l. fold put l (each_piece (hist_piece h) (j + 1) n)) (put_last (hist_piece h j) (with h (map (done most_samples j) h.counters)) front below refl)
-    ∙ ap (λ cs. fold put (front ++ with h cs ∷ []) (each_piece (hist_piece h) (j + 1) n)) (hist_piece_more most_samples j h.counters)
-    ∙ hist_pieces_from h front below n (j + 1)
-    ∙ ap (λ k. front ++ with h (map (done most_samples k) h.counters) ∷ []) e
+hist_pieces_from h front below (suc n) j = grind (arith, put_last, hist_piece_more, hist_pieces_from h front below n (j + 1))
 
 pub hist_pieces-merge : (h : Hist) (front : List Hist) → AllByRecursion (λ x. x.low < h.low) front → fold put front (hist_pieces h) ≡ front ++ h ∷ []
 hist_pieces-merge h front below =
@@ -110,10 +102,7 @@ above_more front (k ∷ ks) h all lt = (below_more k.low front h all.0 lt.0, abo
 hists_from : (hs front : List Hist) → AllByRecursion (λ k. AllByRecursion (λ x. x.low < k.low) front) hs → IsAscending hs → fold put front (flat_map hist_pieces hs) ≡ front ++ hs
 hists_from [] front above up = sym (append-nil front)
 hists_from (h ∷ hs) front above up =
-    fold-append put front (hist_pieces h) (flat_map hist_pieces hs)
-    ∙ ap (λ l. fold put l (flat_map hist_pieces hs)) (hist_pieces-merge h front above.0)
-    ∙ hists_from hs (front ++ h ∷ []) (above_more front hs h above.1 up.0) up.1
-    ∙ append_assoc front (h ∷ []) hs
+    search (fold-append, fold, hist_pieces-merge, above_more, append_assoc, hists_from hs (front ++ h ∷ []) (above_more front hs h above.1 up.0) up.1)
 
 above_none : (hs : List Hist) → AllByRecursion (λ k. AllByRecursion (λ (x : Hist). x.low < k.low) []) hs
 above_none [] = tt
@@ -147,23 +136,11 @@ module _ {K : Type 0} (same : K → K → Bool) (self : (k : K) → same k k ≡
     pieces_from : (k : K) (m : ℕ) (front : List (K × ℕ)) → AllByRecursion (λ e. same k e.0 ≡ false) front → (n j : ℕ)
         → fold add (front ++ one k (done most j m) ∷ []) (each_piece (key_piece k m) j n) ≡ front ++ one k (done most (j + n) m) ∷ []
     pieces_from k m front other zero j = let e : j ≡ j + 0 = omega arith in ap (λ i. front ++ one k (done most i m) ∷ []) e
-    pieces_from k m front other (suc n) j =
-        let e : (j + 1) + n ≡ j + suc n = omega arith in
-        ap (λ l. fold add l (each_piece (key_piece k m) (j + 1) n)) (tally_at k (done most j m) (piece most j m) front [] other)
-        ∙ ap (λ c. fold add (front ++ one k c ∷ []) (each_piece (key_piece k m) (j + 1) n)) (more_done most j m)
-        ∙ pieces_from k m front other n (j + 1)
-        ∙ ap (λ i. front ++ one k (done most i m) ∷ []) e
+    pieces_from k m front other (suc n) j = grind (arith, tally_at, pieces_from k m front other n (j + 1))
 
     pub pieces-merge : (k : K) (m : ℕ) (front : List (K × ℕ)) → AllByRecursion (λ e. same k e.0 ≡ false) front → m ≤ pieces_of most m * most
         → fold add front (each_piece (key_piece k m) 0 (pieces_of most m)) ≡ front ++ one k m ∷ []
-    pieces-merge k m front other whole =
-        let n = (m - 1) / most in
-        let e : suc n ≡ 1 + n = omega arith in
-        ap (λ l. fold add l (each_piece (key_piece k m) 1 n)) (tally_end k (piece most 0 m) front other)
-        ∙ ap (λ c. fold add (front ++ one k c ∷ []) (each_piece (key_piece k m) 1 n)) (first_done most m)
-        ∙ pieces_from k m front other n 1
-        ∙ ap (λ i. front ++ one k (done most i m) ∷ []) (sym e)
-        ∙ ap (λ c. front ++ one k c ∷ []) (all_done most (suc n) m whole)
+    pieces-merge k m front other whole = grind (arith, tally_end, first_done, pieces_from)
 
 -- ---- lists of numbers by key
 
@@ -250,13 +227,7 @@ module _ where
           ∙ ap (λ c. front ++ (e.0, c) ∷ map (after (suc j)) es) (more_next (suc j) e.1)
           ∙ sym (append_assoc front (after (suc (suc j)) e ∷ []) (map (after (suc j)) es)))
           ∙ rest ∙ append_assoc front (after (suc (suc j)) e ∷ []) (map (after (suc (suc j))) es))
-      by false ge rest =
-          let le = ltb-false (suc j * most_calls) e.1 ge in
-          let e2 = suc-mul (suc j) most_calls in
-          let same_now : done most_calls (suc j) e.1 ≡ done most_calls (suc (suc j)) e.1 = omega (arith, le, e2) in
-          rw ge (ap (λ c. fold add_block (front ++ (e.0, c) ∷ map (after (suc j)) es) (filter_map (piece_left (suc j)) es)) same_now
-          ∙ ap (λ l. fold add_block l (filter_map (piece_left (suc j)) es)) (sym (append_assoc front (after (suc (suc j)) e ∷ []) (map (after (suc j)) es)))
-          ∙ rest ∙ append_assoc front (after (suc (suc j)) e ∷ []) (map (after (suc (suc j))) es))
+      by false ge rest = grind (arith, append_assoc)
 
   abbrev all_rounds : List (List (ℕ × ℕ)) → List (ℕ × ℕ)
   all_rounds rs = flat_map (λ r. r) rs

@@ -5,7 +5,7 @@ use Rattle.std.proofs.Math.ListN.{get_or-append}
 use Rattle.std.proofs.Math.Seq.{get_or-append_seam}
 use Rattle.std.proofs.lemmas.List.Concat.{flat_map-append}
 use Rattle.gp_base.specs.declared.records.RawArc.{RawArc}
-use Rattle.std.proofs.lemmas.List.{append-nil, map-append, take_all, drop_all, take-append-le, drop-append-le, take-append-drop}
+use Rattle.std.proofs.lemmas.List.{map-append, take_all, drop_all, take-append-le, drop-append-le, take-append-drop}
 use Rattle.gp_base.specs.declared.records.RawBlock.{RawBlock}
 use Rattle.gp_base.specs.declared.records.Rec.{Rec}
 use Rattle.gp_base.specs.declared.records.Rec.TheVariants.{Hist, Arc, Blocks}
@@ -19,12 +19,11 @@ use Rattle.gmon_gnu.specs.declared.state.Entry.{Entry}
 use Rattle.gmon_gnu.specs.declared.state.Body.{Body}
 use Rattle.gmon_gnu.specs.declared.state.Body.TheVariants as body
 use Rattle.gmon_gnu.specs.declared.state.Part.{Part}
-use Rattle.gmon_gnu.specs.declared.state.Part.TheVariants as part
 use Rattle.gmon_gnu.specs.declared.state.State.{State}
 use Rattle.gmon_gnu.specs.declared.state.Begun.{Begun}
 use Rattle.gmon_gnu.specs.declared.state.Begun.TheVariants as begun
 use Rattle.gmon_gnu.specs.Reading.{behind_records}
-use Rattle.gmon_gnu.specs.Going.{Open, InHeader, Between, InHist, InBlocks, Stopped, records_on, header_on, hist_on, blocks_on, resume, Reads}
+use Rattle.gmon_gnu.specs.Going.{Open, InHeader, Between, InHist, InBlocks, Stopped, records_on, hist_on, blocks_on, Reads}
 use Rattle.gmon_gnu.specs.Held.{hist_with, no_fields, rec_of, entry_recs, recs_in, IsBodyWithin, IsWithin, recs_of, open_of, rest_of, width_of, IsFront, IsPartial, Goes}
 use Rattle.gmon_gnu.specs.Begun.{begun_on, Follows}
 use Rattle.gmon_gnu.specs.Taking.{HoldsSame, KeepsItems}
@@ -34,13 +33,7 @@ use Rattle.gmon_gnu.proofs.GoingLemmas.{behind_both, reads_then, reads_same, hea
 
 pub goes_at : (whole : List ℕ) (s : State) (rest : List ℕ) (p : Part) → s.part ≡ p → Goes whole s rest
     → Reads whole (recs_of s) (open_of p s.counters.cells.items s.pairs.cells.items) (rest_of p s.torn s.counters.torn s.pairs.torn ++ rest)
-goes_at whole s rest p is goes =
-    subst (λ (q : Part). Reads whole (recs_of s) (open_of q s.counters.cells.items s.pairs.cells.items) (rest_of q s.torn s.counters.torn s.pairs.torn ++ rest)) is goes
-
--- between records only what has come of the next one counts
-pub goes_between : (whole : List ℕ) (s : State) (rest : List ℕ) → s.part ≡ part.Between → Reads whole (recs_of s) Between (s.torn ++ rest) → Goes whole s rest
-goes_between whole s rest is reads =
-    subst (λ (q : Part). Reads whole (recs_of s) (open_of q s.counters.cells.items s.pairs.cells.items) (rest_of q s.torn s.counters.torn s.pairs.torn ++ rest)) (sym is) reads
+goes_at whole s rest p is goes = grind arith
 
 pub reads_rest : (whole : List ℕ) (recs : List Rec) (now : Open) (rest left : List ℕ) → rest ≡ left → Reads whole recs now rest → Reads whole recs now left
 reads_rest whole recs now rest left is reads = subst (λ (v : List ℕ). Reads whole recs now v) is reads
@@ -49,33 +42,20 @@ reads_rest whole recs now rest left is reads = subst (λ (v : List ℕ). Reads w
 
 pub header_goes : (whole : List ℕ) (recs : List Rec) (number : ℕ) (header rest taken : List ℕ) → length header ≡ 20 → header ++ rest ≡ taken → number ≡ word_at header 4 → number ≡ gnu_version
     → Reads whole recs InHeader taken → Reads whole recs Between rest
-header_goes whole recs number header rest taken whole_header taken_is number_is same reads =
-    reads_same whole recs InHeader Between (header ++ rest) rest
-    (λ more. ap (header_on (length (whole ++ more))) (append_assoc header rest more) ∙ header_read (length (whole ++ more)) number header (rest ++ more) whole_header number_is same)
-    (reads_rest whole recs InHeader taken (header ++ rest) (sym taken_is) reads)
+header_goes whole recs number header rest taken whole_header taken_is number_is same reads = grind (arith, append_assoc, header_read)
 
 pub header_stops : (whole : List ℕ) (recs : List Rec) (number : ℕ) (header rest taken left : List ℕ) → length header ≡ 20 → header ++ rest ≡ taken → number ≡ word_at header 4 → (number ≡ gnu_version → ⊥)
     → Reads whole recs InHeader taken → Reads whole recs (Stopped (Version number)) left
-header_stops whole recs number header rest taken left whole_header taken_is number_is other reads =
-    reads_same whole recs InHeader (Stopped (Version number)) (header ++ rest) left
-    (λ more. ap (header_on (length (whole ++ more))) (append_assoc header rest more) ∙ header_refused (length (whole ++ more)) number header (rest ++ more) whole_header number_is other)
-    (reads_rest whole recs InHeader taken (header ++ rest) (sym taken_is) reads)
+header_stops whole recs number header rest taken left whole_header taken_is number_is other reads = grind (arith, append_assoc, header_refused)
 
 -- ---- fronts
 
 pub front_long : (tag : ℕ) (front : List ℕ) → IsFront front → slice_index front 0 ≡ tag → length front ≡ width_of tag
-front_long tag [] is tag_is = absurd is
-front_long tag (t ∷ body) is tag_is = is ∙ ap width_of tag_is
+front_long tag front is tag_is = grind arith
 
 pub follows_front : (whole : List ℕ) (recs : List Rec) (front rest taken : List ℕ) (b : Begun) (at : ℕ) → front ++ rest ≡ taken → at ≡ length whole - length (front ++ rest)
     → ((len : ℕ) (r : List ℕ) → at ≡ len - length (front ++ r) → records_on len (front ++ r) ≡ begun_on len b r) → Reads whole recs Between taken → Follows whole recs b rest
-follows_front whole recs front rest taken b at taken_is at_is says reads = λ more.
-    let l = length (whole ++ more) in
-    let there : at ≡ l - length (front ++ (rest ++ more)) = omega (arith, at_is, length-append whole more, length-append front rest, length-append front (rest ++ more), length-append rest more) in
-    reads more
-    ∙ ap (λ (v : List ℕ). behind_records recs (records_on l (v ++ more))) (sym taken_is)
-    ∙ ap (λ (v : List ℕ). behind_records recs (records_on l v)) (append_assoc front rest more)
-    ∙ ap (behind_records recs) (says l (rest ++ more) there)
+follows_front whole recs front rest taken b at taken_is at_is says reads = grind (arith, length-append, append_assoc)
 
 pub begins_hist : (whole : List ℕ) (recs : List Rec) (f : HistFields) (start count : ℕ) (counters half rest : List ℕ) → half ≡ [] → start ≡ length counters
     → Follows whole recs (begun.Hist f count) rest → Reads whole recs (InHist (hist_with f (drop start counters)) count) (half ++ rest)
@@ -99,23 +79,12 @@ entry_more : (fs : List HistFields) (counters : List ℕ) (pairs : List RawBlock
     → last ≡ length arcs → run1 ≡ length arcs → es1 ≡ es ++ record { first = run; last = last; body = b } ∷ [] → rec ≡ rec_of fs counters pairs b
     → recs_in fs counters pairs arcs es run ++ rec ∷ [] ≡ recs_in fs counters pairs arcs es1 run1
 entry_more fs counters pairs arcs es es1 run run1 last b rec last_is run1_is es_are rec_is =
-    let records = entry_recs fs counters pairs arcs in
-    let e : Entry = record { first = run; last = last; body = b } in
-    let none : drop run1 arcs ≡ [] = drop_all run1 arcs (omega (arith, run1_is)) in
-    append_assoc (flat_map records es) (map Arc (drop run arcs)) (rec ∷ [])
-    ∙ (λ i. flat_map records es ++ (map Arc (sym (all_of run last arcs last_is) i) ++ rec_is i ∷ []))
-    ∙ ap (λ (v : List Rec). flat_map records es ++ v) (sym (append-nil (records e)))
-    ∙ sym (flat_map-append records es (e ∷ []))
-    ∙ ap (flat_map records) (sym es_are)
-    ∙ sym (append-nil (flat_map records es1))
-    ∙ ap (λ (v : List RawArc). flat_map records es1 ++ map Arc v) (sym none)
+    grind (arith, drop_all, append_assoc, all_of, flat_map-append)
 
 -- the fields of the others stay where those of one more come behind them
 fields_more : (fs fs1 : List HistFields) (f : HistFields) (counters : List ℕ) (pairs : List RawBlock) (b : Body) → fs1 ≡ fs ++ f ∷ [] → IsBodyWithin (length fs) (length counters) (length pairs) b
     → rec_of fs1 counters pairs b ≡ rec_of fs counters pairs b
-fields_more fs fs1 f counters pairs (body.Hist n start end) is within =
-    ap (λ (v : HistFields). Hist (hist_with v (take (end - start) (drop start counters)))) (ap (λ (v : List HistFields). get_or v n no_fields) is ∙ get_or-append fs (f ∷ []) no_fields n within.2)
-fields_more fs fs1 f counters pairs (body.Blocks start end) is within = refl
+fields_more fs fs1 f counters pairs b is within = grind (arith, get_or-append)
 
 entries_same : (fs fs1 : List HistFields) (f : HistFields) (counters : List ℕ) (pairs : List RawBlock) (arcs : List RawArc) → fs1 ≡ fs ++ f ∷ []
     → (es : List Entry) → AllByRecursion (IsWithin (length fs) (length counters) (length pairs) (length arcs)) es → flat_map (entry_recs fs counters pairs arcs) es ≡ flat_map (entry_recs fs1 counters pairs arcs) es
@@ -157,15 +126,12 @@ blocks_ended whole fs counters pairs arcs es es1 run run1 last start end left pa
 -- the entry was added, and all else is as before
 pub added_goes : (whole rest : List ℕ) (s n : State) → KeepsItems s n
     → Reads whole (recs_in n.fields.items s.counters.cells.items s.pairs.cells.items s.arcs.items n.entries.items n.run) Between (s.torn ++ rest) → Reads whole (recs_of n) Between (n.torn ++ rest)
-added_goes whole rest s n k reads = λ more.
-    reads more
-    ∙ (λ i. behind_records (recs_in n.fields.items (sym k.counters i).cells.items (sym k.pairs i).cells.items (sym k.arcs i).items n.entries.items n.run) (records_on (length (whole ++ more)) ((sym k.torn i ++ rest) ++ more)))
+added_goes whole rest s n k reads = grind arith
 
 -- ---- cells come
 
 part_stays : {X : Type 0} (start end : ℕ) (xs more : List X) → start ≤ end → end ≤ length xs → take (end - start) (drop start (xs ++ more)) ≡ take (end - start) (drop start xs)
-part_stays start end xs more order within =
-    ap (take (end - start)) (drop-append-le start xs more (omega arith)) ∙ take-append-le (end - start) (drop start xs) more (omega (arith, length-drop start xs))
+part_stays start end xs more order within = grind (arith, drop-append-le, take-append-le, length-drop)
 
 -- each part of a list is the same part of a longer one
 record Stays {X : Type 0} (xs ys : List X) : Type 0 where
@@ -179,8 +145,7 @@ more_stays {X} xs ys more is = subst (λ (v : List X). Stays xs v) (sym is) (rec
 
 body_stays : (fs : List HistFields) (counters counters1 : List ℕ) (pairs pairs1 : List RawBlock) → Stays counters counters1 → Stays pairs pairs1 → (b : Body) → IsBodyWithin (length fs) (length counters) (length pairs) b
     → rec_of fs counters1 pairs1 b ≡ rec_of fs counters pairs b
-body_stays fs counters counters1 pairs pairs1 c p (body.Hist f start end) within = ap (λ (v : List ℕ). Hist (hist_with (get_or fs f no_fields) v)) (c.part start end within.0 within.1)
-body_stays fs counters counters1 pairs pairs1 c p (body.Blocks start end) within = ap (λ (v : List RawBlock). Blocks v) (p.part start end within.0 within.1)
+body_stays fs counters counters1 pairs pairs1 c p b within = grind arith
 
 entries_stay : (fs : List HistFields) (counters counters1 : List ℕ) (pairs pairs1 : List RawBlock) (arcs arcs1 : List RawArc) → Stays counters counters1 → Stays pairs pairs1 → Stays arcs arcs1
     → (es : List Entry) → AllByRecursion (IsWithin (length fs) (length counters) (length pairs) (length arcs)) es → flat_map (entry_recs fs counters1 pairs1 arcs1) es ≡ flat_map (entry_recs fs counters pairs arcs) es
@@ -265,12 +230,9 @@ pairs_came whole fs counters pairs pairs1 arcs es run n start left came pair pai
     reads)
 
 pub partial_less : (torn : List ℕ) → IsPartial torn → 0 < length torn → length torn < width_of (slice_index torn 0)
-partial_less [] partial some = absurd (let f : 1 ≤ 0 = some in omega (arith, f))
-partial_less (tag ∷ body) partial some = partial
+partial_less torn partial some = grind arith
 
 -- ---- a state that holds the same
 
 pub goes_moved : (whole rest : List ℕ) (a b : State) → HoldsSame a b → Goes whole a rest → Goes whole b rest
-goes_moved whole rest a b h goes = λ more.
-    goes more
-    ∙ sym (λ i. behind_records (recs_in (h.fields i) (h.counters i) (h.pairs i) (h.arcs i) (h.entries i) (h.run i)) (resume (length (whole ++ more)) (open_of (h.at_part i) (h.counters i) (h.pairs i)) ((rest_of (h.at_part i) (h.torn i) (h.half i) (h.pair i) ++ rest) ++ more)))
+goes_moved whole rest a b h goes = grind arith

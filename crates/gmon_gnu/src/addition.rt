@@ -75,6 +75,7 @@ impl State {
 }
 
 /// Adds a record.
+#[tactic(auto, using(gmon_data::proofs::RecordLemmas::blocks_accepted))]
 fn add_view(profile: &mut Profile, view: RecView<'_>) -> Result<(), AddRefusal>
     requires range { HasRange (rec_viewed view) }
     requires within { IsWithinLimits (with_records (wide_record (rec_viewed view)) profile.old) }

@@ -14,6 +14,7 @@ use host_port::{Failed, Host, OutBuf};
 /// counts that aren't 0, each with its address, or nothing where all are 0. The first count is that of
 /// the instruction at `low`, the others those of the words behind it. After `Failed` a prefix of that
 /// record was written, and not the whole. Takes no memory.
+#[tactic(auto)]
 pub fn write_blocks<H: Host>(low: u32, counts: &[u32], host: &mut H) -> Result<(), Failed>
     requires within { (i : ℕ) → i < length counts.now → low + 4 * i < 2 ^ 32 }
     requires ready { (H.outside host.old).is_writing ≡ true }

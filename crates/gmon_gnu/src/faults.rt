@@ -11,6 +11,7 @@ use crate::state::Begun;
 use gp_base::{GmonRefusal, word};
 
 /// The first fault of a file, in the order of `read`.
+#[tactic(auto, using(crate::proofs::SkipLemmas::past_header))]
 pub fn fault(bytes: &[u8]) -> Option<GmonRefusal>
     requires { length bytes.now < 2 ^ 32 }
     ensures { result ≡ gnu_refusal bytes.now }
@@ -54,6 +55,7 @@ fn records_fault(len: u32, records: &[u8]) -> Option<GmonRefusal>
 }
 
 /// What stands behind the first of the records that end a file of `len` bytes, or what is wrong with that record.
+#[tactic(auto, using(crate::proofs::SkipLemmas::blocks_skipped))]
 fn skip_record<'b>(len: u32, text: &'b [u8]) -> Result<&'b [u8], GmonRefusal>
     requires some { 0 < length text.now }
     requires within { length text.now ≤ len }

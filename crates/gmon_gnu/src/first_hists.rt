@@ -13,6 +13,7 @@ use gp_base::Unit;
 
 /// Why one of the first `most` histograms with counters can't be added to those before it: the first one that can't.
 /// For each of them it goes over all entries before it.
+#[tactic(auto, using(crate::proofs::SearchingLemmas::clear_here, crate::proofs::SearchingLemmas::none_left))]
 pub(crate) fn conflict_among_first(
     fields: &[HistFields],
     entries: &[Entry],

@@ -280,6 +280,7 @@ pub(crate) fn width_of(tag: u8) -> usize
 }
 
 /// What the front of a record that stands at `at` says.
+#[tactic(auto, using(crate::proofs::GoingLemmas::arc_begun, crate::proofs::GoingLemmas::blocks_begun))]
 pub(crate) fn front_of(at: u32, front: &[u8]) -> Begun
     requires { IsFront front.now }
     ensures says { (len : ℕ) (rest : List ℕ) → at ≡ len - length (front.now ++ rest)
@@ -303,6 +304,7 @@ pub(crate) fn front_of(at: u32, front: &[u8]) -> Begun
 }
 
 /// What the front of a histogram says.
+#[tactic(auto, using(crate::proofs::GoingLemmas::hist_refused, crate::proofs::GoingLemmas::hist_begun, crate::proofs::HistLemmas::ranged))]
 fn hist_front(at: u32, front: &[u8]) -> Begun
     requires width { length front.now ≡ 33 }
     requires tag { slice_index front.now 0 ≡ 0 }

@@ -21,6 +21,7 @@ pub fn one_meaning()
 
 /// A file is refused exactly where it has a fault by the grammar, and with the refusal that names it: a fault
 /// of the header, or of the record behind records without a fault.
+#[tactic(auto, using(crate::proofs::FaultLemmas::faults_answered))]
 pub fn first_fault()
     ensures { FaultsAreAnswered }
 {}

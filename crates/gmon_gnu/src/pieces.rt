@@ -37,6 +37,7 @@ pub(crate) fn has_left(j: u64, n: u64) -> bool
 }
 
 /// The largest of some numbers, or 0.
+#[tactic(auto, using(std::proofs::lemmas::List::get_or_default, crate::proofs::PieceLemmas::larger, crate::proofs::PieceLemmas::largest_more))]
 pub(crate) fn largest(numbers: &[u64]) -> u64
     ensures { result ≡ spec_largest numbers.now }
 {

@@ -53,6 +53,7 @@ fn put_profile<H: Host>(profile: &Profile, out: &mut OutBuf, host: &mut H) -> Re
     put_runs(profile, out, host)
 }
 
+#[tactic(auto, using(crate::proofs::ProfileTextLemmas::hists_text))]
 fn put_hists<H: Host>(profile: &Profile, out: &mut OutBuf, host: &mut H) -> Result<(), Failed>
     requires { (H.outside host.old).is_writing ≡ true }
     ensures adds { Adds File (flat_map rec_bytes (hist_recs profile.now.«unit» profile.now.hists))
@@ -199,6 +200,7 @@ fn put_runs<H: Host>(profile: &Profile, out: &mut OutBuf, host: &mut H) -> Resul
 }
 
 /// The largest number of executions of a basic block, or 0.
+#[tactic(auto, using(std::proofs::lemmas::Option::get_or_from_slice_get, crate::proofs::PieceLemmas::larger, crate::proofs::PieceLemmas::largest_entry))]
 fn largest_run(profile: &Profile) -> u64
     ensures { result ≡ spec_largest (map (λ e. e.1) profile.now.blocks) }
 {

@@ -92,6 +92,7 @@ fn put_round<H: Host>(
 
 /// How many addresses have something left for round `j`. These are listed from the front of `few` on, if it has room for all.
 /// Looks at marked addresses alone, and takes the marks away where none has something left.
+#[tactic(auto, using(crate::proofs::RoundLemmas::few_left))]
 fn list_left(
     j: u64,
     size: usize,

@@ -25,6 +25,7 @@ pub(crate) const ARC_TAG: [u8; 1] = [1];
 /// counters and with `rate` as the samples per second, and a record for each arc, by call site in
 /// ascending order, the one called latest first. After `Failed` a prefix of that text was written, and
 /// not the whole. Takes no memory.
+#[tactic(auto, using(crate::proofs::RunTextLemmas::text_parts, crate::proofs::RunTextLemmas::text_stands))]
 pub fn write_run<H: Host>(gmon: &Gmon, rate: u32, host: &mut H) -> Result<(), Failed>
     requires { (H.outside host.old).is_writing ≡ true }
     ensures puts { Puts File (runtime_text gmon.now rate) (H.outside host.old)

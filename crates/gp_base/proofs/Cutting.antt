@@ -33,25 +33,17 @@ pub cut-flat_map : {X : Type 0} (w : ℕ) (item : List ℕ → X) (spelling : X 
     → (xs : List X) (rest : List ℕ) → AllByRecursion Fits xs → items_of_text w item (length xs) (flat_map spelling xs ++ rest) ≡ xs
 cut-flat_map w item spelling Fits long back [] rest fits = refl
 cut-flat_map {X} w item spelling Fits long back (x ∷ xs) rest fits =
-    let text = flat_map spelling xs ++ rest in
-    let regroup : flat_map spelling (x ∷ xs) ++ rest ≡ spelling x ++ text = append_assoc (spelling x) (flat_map spelling xs) rest in
-    ap (items_of_text w item (suc (length xs))) regroup
-    ∙ ap (λ (v : List ℕ). item v ∷ items_of_text w item (length xs) (drop w (spelling x ++ text))) (take_at (spelling x) text w (long x))
-    ∙ ap (λ (v : List ℕ). item (spelling x) ∷ items_of_text w item (length xs) v) (drop_at (spelling x) text w (long x))
-    ∙ ap (λ (v : X). v ∷ items_of_text w item (length xs) text) (back x fits.0)
-    ∙ ap (λ (v : List X). x ∷ v) (cut-flat_map w item spelling Fits long back xs rest fits.1)
+    search (append_assoc, take_at, drop_at, cut-flat_map w item spelling Fits long back xs rest fits.1)
 
 -- how long the spelling of items is
 pub length-spelled : {X : Type 0} (w : ℕ) (spelling : X → List ℕ) → ((x : X) → length (spelling x) ≡ w) → (xs : List X) → length (flat_map spelling xs) ≡ length xs * w
 length-spelled w spelling long [] = omega arith
-length-spelled w spelling long (x ∷ xs) =
-    omega (arith, length-append (spelling x) (flat_map spelling xs), long x, length-spelled w spelling long xs)
+length-spelled w spelling long (x ∷ xs) = grind (arith, length-append, length-spelled w spelling long xs)
 
 -- items within a front are those of the whole
 pub cut-take : {X : Type 0} (w : ℕ) (item : List ℕ → X) (n k : ℕ) (bs : List ℕ) → n * w ≤ k → items_of_text w item n (take k bs) ≡ items_of_text w item n bs
 cut-take w item zero k bs le = refl
 cut-take {X} w item (suc n) k bs le =
-    let e : suc n * w ≡ w + n * w = omega arith in
     let split : k ≡ w + (k - w) = omega arith in
     let rest : drop w (take k bs) ≡ take (k - w) (drop w bs) = ap (λ (m : ℕ). drop w (take m bs)) split ∙ drop-take w (k - w) bs in
     ap (λ (v : List ℕ). item v ∷ items_of_text w item n (drop w (take k bs))) (take-take w k bs (omega arith))
@@ -62,14 +54,11 @@ cut-take {X} w item (suc n) k bs le =
 pub get_cut : {X : Type 0} (w : ℕ) (item : List ℕ → X) (n i : ℕ) (bs : List ℕ) → i < n → slice_get (items_of_text w item n bs) i ≡ Some (item (take w (drop (i * w) bs)))
 get_cut w item zero i bs h = absurd (omega arith)
 get_cut w item (suc n) zero bs h = let start : 0 * w ≡ 0 = omega arith in rw start refl
-get_cut w item (suc n) (suc i) bs h =
-    let there : drop (i * w) (drop w bs) ≡ drop (suc i * w) bs = drop-drop (i * w) w bs ∙ ap (λ (k : ℕ). drop k bs) (omega arith) in
-    get_cut w item n i (drop w bs) (omega arith) ∙ ap (λ (v : List ℕ). Some (item (take w v))) there
+get_cut w item (suc n) (suc i) bs h = grind (arith, drop-drop, get_cut w item n i (drop w bs) (omega arith))
 
 -- what holds of an item of w bytes holds of each
 pub all_cut : {X : Type 0} (P : X → Type 0) (w : ℕ) (item : List ℕ → X) → ((bs : List ℕ) → length bs ≡ w → IsBytes bs → P (item bs))
     → (n : ℕ) (bs : List ℕ) → n * w ≤ length bs → IsBytes bs → AllByRecursion P (items_of_text w item n bs)
 all_cut P w item each zero bs long bytes = tt
 all_cut P w item each (suc n) bs long bytes =
-    let e : suc n * w ≡ w + n * w = omega arith in
     (each (take w bs) (omega (arith, length-take w bs)) (IsBytes-take w bs bytes), all_cut P w item each n (drop w bs) (omega (arith, length-drop w bs)) (IsBytes-drop w bs bytes))

@@ -1,8 +1,7 @@
 -- Writing a number as bytes and reading it back.
-use Rattle.std.proofs.Common.{◌≡◌, ℕ, zero, suc, ◌+◌, ◌*◌, ◌/◌, ◌%◌, ◌^◌, ◌<◌, List, [], ◌∷◌, ◌++◌, length, take, drop, get_or, length-take, length-drop, inl, inr, refl, sym, ap, subst, ◌∙◌, arith, ◌≤◌}
+use Rattle.std.proofs.Common.{◌≡◌, ℕ, zero, suc, ◌+◌, ◌*◌, ◌/◌, ◌%◌, ◌^◌, ◌<◌, List, [], ◌∷◌, ◌++◌, length, take, drop, length-take, length-drop, refl, sym, ap, subst, ◌∙◌, arith, ◌≤◌}
 use Rattle.std.proofs.Math.Nat.{pow-succ'}
 use Rattle.std.proofs.Math.Seq.{drop-cons}
-use Rattle.std.proofs.lemmas.Bool.{cases_lt}
 use Rattle.std.proofs.lemmas.List.{get_or-drop, get_or-take, get_or_past, take-append-drop, drop-drop}
 use Rattle.byteorder.specs.Endian.{little_from}
 use Rattle.gp_base.specs.Bytes.{value_of, le, IsBytes, items_of_text}
@@ -44,9 +43,7 @@ value_of-below (b ∷ bs) h =
 -- the number that a reader of fields gives is the value of the field's bytes
 pub field_is : (k i : ℕ) (bs : List ℕ) → i + k ≤ length bs → little_from i k bs ≡ value_of (take k (drop i bs))
 field_is zero i bs le = refl
-field_is (suc k) i bs le =
-    let lt : i < length bs = omega arith in
-    rw (drop-cons bs i 0) (ap (λ (n : ℕ). get_or bs i 0 + 256 * n) (field_is k (suc i) bs (omega arith)))
+field_is (suc k) i bs le = grind (arith, drop-cons, field_is k (suc i) bs (omega arith))
 
 -- each of the items
 pub length-cut : {X : Type 0} (w : ℕ) (item : List ℕ → X) (n : ℕ) (bs : List ℕ) → length (items_of_text w item n bs) ≡ n
@@ -57,11 +54,7 @@ pub IsBytes-drop : (n : ℕ) (bs : List ℕ) → IsBytes bs → IsBytes (drop n 
 IsBytes-drop n bs h i = rw get_or-drop (h (n + i))
 
 pub IsBytes-take : (n : ℕ) (bs : List ℕ) → IsBytes bs → IsBytes (take n bs)
-IsBytes-take n bs h i =
-    elim (cases_lt i n) [
-      | inl lt ↦ rw (get_or-take n bs i 0 lt) (h i)
-      | inr le ↦ rw (get_or_past (take n bs) i 0 (omega (arith, length-take n bs))) (omega arith)
-    ]
+IsBytes-take n bs h i = grind (arith, get_or-take, get_or_past, length-take)
 
 -- a number of k bytes at an offset has k bytes
 pub field_below : (k at : ℕ) (bs : List ℕ) → IsBytes bs → at + k ≤ length bs → value_of (take k (drop at bs)) < 256 ^ k

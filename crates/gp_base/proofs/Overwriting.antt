@@ -11,9 +11,7 @@ module _ {X : Type 0} where
   pub get_drop : (d k : ℕ) (xs : List X) → slice_get (drop d xs) k ≡ slice_get xs (d + k)
   get_drop zero k xs = ap (slice_get xs) (sym (zero-add k))
   get_drop (suc d) k [] = refl
-  get_drop (suc d) k (x ∷ xs) =
-      let e : suc d + k ≡ suc (d + k) = omega arith in
-      get_drop d k xs ∙ ap (slice_get (x ∷ xs)) (sym e)
+  get_drop (suc d) k (x ∷ xs) = grind (arith, get_drop d k xs)
 
   pub get_take : (n k : ℕ) (xs : List X) → k < n → slice_get (take n xs) k ≡ slice_get xs k
   get_take zero k xs h = absurd (omega arith)
@@ -28,21 +26,15 @@ module _ {X : Type 0} where
 
   pub get_back : (xs ys : List X) (n k : ℕ) → n ≡ length xs → slice_get (xs ++ ys) (n + k) ≡ slice_get ys k
   get_back [] ys n k h = let e : n + k ≡ k = omega arith in ap (slice_get ys) e
-  get_back (x ∷ xs) ys n k h =
-      let e : n + k ≡ suc (length xs + k) = omega arith in
-      ap (slice_get (x ∷ (xs ++ ys))) e ∙ get_back xs ys (length xs) k refl
+  get_back (x ∷ xs) ys n k h = grind (arith, get_back xs ys (length xs) k refl)
 
   -- the piece stands from `at` on
   pub get_overwritten : (at k : ℕ) (piece xs : List X) → at + length piece ≤ length xs → k < length piece → slice_get (with_piece_at at piece xs) (at + k) ≡ slice_get piece k
-  get_overwritten at k piece xs h lt =
-      let rest = drop (at + length piece) xs in
-      let front : at ≡ length (take at xs) = omega (arith, length-take at xs) in
-      get_back (take at xs) (piece ++ rest) at k front ∙ get_front piece rest k lt
+  get_overwritten at k piece xs h lt = grind (arith, length-take, get_back, get_front)
 
   -- and elsewhere all is as before
   pub get_before : (at k : ℕ) (piece xs : List X) → at + length piece ≤ length xs → k < at → slice_get (with_piece_at at piece xs) k ≡ slice_get xs k
-  get_before at k piece xs h lt =
-      get_front (take at xs) (piece ++ drop (at + length piece) xs) k (omega (arith, length-take at xs)) ∙ get_take at k xs lt
+  get_before at k piece xs h lt = grind (arith, get_front, length-take, get_take)
 
   pub get_behind : (at k : ℕ) (piece xs : List X) → at + length piece ≤ length xs → at + length piece ≤ k → slice_get (with_piece_at at piece xs) k ≡ slice_get xs k
   get_behind at k piece xs h past =

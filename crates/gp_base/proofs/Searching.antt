@@ -7,8 +7,7 @@ module _ {X : Type 0} (p : X → Bool) where
   -- a search that finds nothing passes over each item
   pub find_none : (xs : List X) → find p xs ≡ None → (k : ℕ) (d : X) → k < length xs → p (get_or xs k d) ≡ false
   find_none [] h k d l = absurd (omega arith)
-  find_none (x ∷ xs) h zero d l =
-      elim (cases_Bool (p x)) [ inl t ↦ let e = rw t at h in cc | inr f ↦ f ]
+  find_none (x ∷ xs) h zero d l = grind arith
   find_none (x ∷ xs) h (suc k) d l =
       elim (cases_Bool (p x)) [ inl t ↦ let e = rw t at h in cc | inr f ↦ find_none xs (rw f at h) k d (omega arith) ]
 

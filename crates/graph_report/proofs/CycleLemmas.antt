@@ -1,11 +1,10 @@
 -- The numbers of cycles, in the order of their heads.
-use Rattle.std.proofs.Common.{◌≡◌, ◌≢◌, ◌<◌, ◌≤◌, ℕ, zero, suc, ◌+◌, Bool, true, false, ◌&&◌, cond, List, [], ◌∷◌, ◌++◌, length, refl, ap, sym, ◌∙◌, ⊎_elim, ◌⊎◌, inl, inr, arith, add-one, get_or-set_same, get_or-set_other, length-set, length-append}
+use Rattle.std.proofs.Common.{◌≡◌, ◌≢◌, ◌<◌, ◌≤◌, ℕ, zero, suc, ◌+◌, Bool, true, false, ◌&&◌, cond, List, [], ◌∷◌, ◌++◌, length, refl, ap, sym, ◌∙◌, ⊎_elim, ◌⊎◌, arith, add-one, get_or-set_same, get_or-set_other, length-set, length-append}
 use Rattle.std.specs.Prelude.{◌==◌, nat_lt, codes, decimal, filter, slice_index, slice_index_or, slice_set}
 use Rattle.std.specs.Global.{Vec}
 use Rattle.std.specs.List.{count_by}
 use Rattle.std.proofs.lemmas.List.{length_push, get_or_push, get_or_append_left}
-use Rattle.std.proofs.lemmas.Bool.{cases_lt, cases_eq, eq-eqb, ne_eqb, eqb-true, and_parts, false≢true}
-use Rattle.std.proofs.lemmas.Bool.Decides.{nat_tests}
+use Rattle.std.proofs.lemmas.Bool.{cases_lt, cases_eq, eq-eqb, eqb-true, and_parts, false≢true}
 use Rattle.std.proofs.lemmas.List.Sums.{length-filter}
 use Rattle.call_cycles.specs.Graph.{GraphValue, IsGraph, component_count, component_of, head_of, is_cycle}
 use Rattle.call_cycles.specs.Sums.{sum_below, when, numbers_below}
@@ -14,8 +13,7 @@ use Rattle.graph_report.specs.Cycles.{cycle_name, cycle_number, is_cycle_before}
 use Rattle.graph_report.proofs.GroupLemmas.{filter_next}
 
 one_or_none : (b : Bool) (n : ℕ) → length (cond b (n ∷ []) []) ≡ when b 1
-one_or_none true n = refl
-one_or_none false n = refl
+one_or_none b n = grind arith
 
 count_is_sum : (p : ℕ → Bool) (n : ℕ) → count_by p (numbers_below n) ≡ sum_below n (λ c. when (p c) 1)
 count_is_sum p zero = refl
@@ -34,18 +32,10 @@ cycles_before g h = count_by (is_cycle_before g h) (numbers_below (component_cou
 
 -- whether a head stands before f + 1: before f, or it is f, and then that of component k
 one_more_when : (b o : Bool) (h f k c : ℕ) → (k ≡ c → o ≡ (h == f)) → (k ≡ c → h ≤ f) → (k ≢ c → h ≢ f) → when (b && nat_lt h (f + 1)) 1 ≡ when (b && nat_lt h f) 1 + when b (when (o && (k == c)) 1)
-one_more_when false o h f k c is same apart = refl
-one_more_when true o h f k c is same apart =
-    ⊎_elim
-    (λ (at : k ≡ c). let le = same at in rw (eq-eqb k c at, is at) (grind (arith, nat_tests)))
-    (λ (other : k ≢ c). let ne = apart other in rw (ne_eqb k c other) (grind (arith, nat_tests)))
-    (cases_eq k c)
+one_more_when b o h f k c is same apart = grind arith
 
 when_swap : (a b : Bool) → when (a && b) 1 ≡ when (b && a) 1
-when_swap true true = refl
-when_swap true false = refl
-when_swap false true = refl
-when_swap false false = refl
+when_swap a b = grind arith
 
 -- component c is a cycle with head f
 abbrev pub is_led_by : GraphValue → ℕ → ℕ → Bool
@@ -89,17 +79,12 @@ no_numbers g numbers len = record {
 }
   where
     none : (b : Bool) (h : ℕ) → when (b && nat_lt h 0) 1 ≡ 0
-    none true h = grind (arith, nat_tests)
-    none false h = refl
+    none b h = grind arith
 
 module _ (g : GraphValue) (is : IsGraph g) (f : ℕ) (below : f < g.functions) (count : ℕ) (numbers : List ℕ) (are : AreNumbersBelow g f count numbers) where
   -- one that isn't yet numbered has head f
   last_head : (c : ℕ) → c < component_count g → head_of g c < f + 1 → (head_of g c < f) ⊎ (component_of g f ≡ c)
-  last_head c low less =
-      ⊎_elim
-      (λ (at : head_of g c ≡ f). inr (head_is g is f below c low at))
-      (λ (apart : head_of g c ≢ f). inl (omega arith))
-      (cases_eq (head_of g c) f)
+  last_head c low less = grind arith
 
   pub number_added : (c x : ℕ) → c ≡ component_of g f → is_led_by g f c ≡ true → x ≡ count + 1 → AreNumbersBelow g (f + 1) x (slice_set numbers c x)
   unfolding cycle_number

@@ -8,20 +8,12 @@ use Rattle.std.proofs.lemmas.Cmp.{nat_list_cmp_total, back_total}
 use Rattle.std.proofs.lemmas.Map.Lookups.{CmpEqualImpliesEq, exact_unsigned, exact_bytes, exact_pairs}
 use Rattle.propagate.proofs.AscentLemmas.{IsExactOrder, order_of}
 use Rattle.graph_report.specs.Entries.{GraphEntry, graph_entry_cmp, graph_comes_before, first_function, subject_rank}
-use Rattle.graph_report.specs.declared.subjects.Subject.{Subject}
-use Rattle.graph_report.specs.declared.subjects.Subject.TheVariants.{Cycle, Function}
 
 entry_total : IsTotalOrder graph_entry_cmp
 entry_total =
     then_total (on_total (λ (e : GraphEntry). e.total) (back_total nat_cmp_total))
     (then_total (on_total (λ (e : GraphEntry). e.name) nat_list_cmp_total)
     (then_total (on_total (λ (e : GraphEntry). first_function e.subject) nat_cmp_total) (on_total (λ (e : GraphEntry). subject_rank e.subject) nat_cmp_total)))
-
-one_subject : (a b : Subject) → first_function a ≡ first_function b → subject_rank a ≡ subject_rank b → a ≡ b
-one_subject (Cycle f) (Cycle h) first kind = ap Cycle first
-one_subject (Cycle f) (Function h) first kind = absurd (omega arith)
-one_subject (Function f) (Cycle h) first kind = absurd (omega arith)
-one_subject (Function f) (Function h) first kind = ap Function first
 
 abbrev Key : Type 0
 Key = ℕ × (List ℕ × (ℕ × ℕ))
@@ -30,9 +22,7 @@ abbrev key_of : GraphEntry → Key
 key_of e = (e.total, (e.name, (first_function e.subject, subject_rank e.subject)))
 
 one_entry : (a b : GraphEntry) → key_of a ≡ key_of b → a ≡ b
-one_entry a b same =
-    let subject = one_subject a.subject b.subject (ap (λ (k : Key). k.1.1.0) same) (ap (λ (k : Key). k.1.1.1) same) in
-    λ i. record { subject = subject i; total = (same i).0; name = (same i).1.0 }
+one_entry a b same = grind arith
 
 entry_exact : CmpEqualImpliesEq graph_entry_cmp
 entry_exact a b h =

@@ -1,10 +1,10 @@
 -- The lines of arcs, component by component.
-use Rattle.std.proofs.Common.{◌≡◌, ◌≢◌, ◌<◌, ◌≤◌, ℕ, zero, suc, ◌+◌, ◌-◌, Bool, true, false, cond, List, [], ◌∷◌, ◌++◌, length, map, take, drop, get_or, refl, ap, sym, ◌∙◌, subst, ⊎_elim, arith, length-append}
+use Rattle.std.proofs.Common.{◌≡◌, ◌≢◌, ◌<◌, ◌≤◌, ℕ, zero, suc, ◌+◌, ◌-◌, Bool, true, cond, List, [], ◌∷◌, ◌++◌, length, map, take, drop, get_or, refl, ap, ◌∙◌, subst, arith, length-append}
 use Rattle.std.specs.Prelude.{◌==◌, filter}
 use Rattle.std.specs.List.{All, flat_map, range_with_len}
-use Rattle.std.proofs.lemmas.Bool.{cases_lt, cases_eq, and_parts, eqb-true}
+use Rattle.std.proofs.lemmas.Bool.{and_parts, eqb-true}
 use Rattle.std.proofs.lemmas.List.{get_or_append_left, get_or-append_right, map-append}
-use Rattle.std.proofs.lemmas.List.Elements.{All-append, All-cons, All-filter}
+use Rattle.std.proofs.lemmas.List.Elements.{All-append, All-filter}
 use Rattle.call_cycles.specs.Heads.{pair_if}
 use Rattle.call_cycles.specs.Sums.{numbers_below}
 use Rattle.call_cycles.specs.Graph.{GraphValue, arc_count, component_count, source_of, is_outside, leaves}
@@ -19,16 +19,14 @@ numbers_of_pairs passes c (x ∷ xs) = by (numbers_of_pairs passes c xs) (passes
   where
     by : map (λ (p : ℕ × ℕ). p.1) (flat_map (λ i. pair_if (passes i) (c, i)) xs) ≡ filter passes xs
         → (b : Bool) → map (λ (p : ℕ × ℕ). p.1) (pair_if b (c, x) ++ flat_map (λ i. pair_if (passes i) (c, i)) xs) ≡ cond b (x ∷ filter passes xs) (filter passes xs)
-    by rest true = ap (λ (ys : List ℕ). x ∷ ys) rest
-    by rest false = rest
+    by rest b = grind arith
 
 all_pass : (passes : ℕ → Bool) (xs : List ℕ) → All (λ i. passes i ≡ true) (filter passes xs)
 all_pass passes [] = λ k d low. absurd (omega arith)
 all_pass passes (x ∷ xs) = by (all_pass passes xs) (passes x) refl
   where
     by : All (λ i. passes i ≡ true) (filter passes xs) → (b : Bool) → passes x ≡ b → All (λ i. passes i ≡ true) (cond b (x ∷ filter passes xs) (filter passes xs))
-    by rest true here = All-cons (λ i. passes i ≡ true) x (filter passes xs) here rest
-    by rest false here = rest
+    by rest b here = grind arith
 
 take_front : {X : Type 0} (xs ys : List X) → take (length xs) (xs ++ ys) ≡ xs
 take_front [] ys = refl
@@ -67,20 +65,7 @@ module _ (g : GraphValue) where
   -- a count of those that leave c counts them all
   counted : (c n : ℕ) (front back : List ℕ) → All (λ i. source_of g i ≡ c) front → All (λ i. source_of g i ≢ c) back → n ≤ length (front ++ back)
       → ((k d : ℕ) → k < n → source_of g (get_or (front ++ back) k d) ≡ c) → ((d : ℕ) → n < length (front ++ back) → source_of g (get_or (front ++ back) n d) ≢ c) → n ≡ length front
-  counted c n front back own other within those next =
-      let long = length-append front back in
-      ⊎_elim
-      (λ (less : n < length front).
-      let there = ap (source_of g) (get_or_append_left front back 0 n less) in
-      absurd (next 0 (omega arith) (there ∙ own n 0 less)))
-      (λ (more : length front ≤ n).
-      ⊎_elim
-      (λ (same : length front ≡ n). sym same)
-      (λ (apart : length front ≢ n).
-      let there = ap (source_of g) (get_or-append_right front back (length front) (length front) 0 refl (omega arith)) in
-      absurd (other (length front - length front) 0 (omega arith) (sym there ∙ those (length front) 0 (omega arith))))
-      (cases_eq (length front) n))
-      (cases_lt n (length front))
+  counted c n front back own other within those next = grind (arith, length-append, get_or_append_left, get_or-append_right)
 
   -- the arcs from component c on
   abbrev pub arcs_from_on : ℕ → List ℕ
@@ -94,9 +79,7 @@ module _ (g : GraphValue) where
 
   pub all_arcs : outside_numbers g ≡ arcs_from_on 0
   unfolding outside_arcs_of
-  all_arcs =
-      (let whole : component_count g ≡ component_count g - 0 = omega arith in
-      numbers_of_all (numbers_below (component_count g)) ∙ ap (λ (n : ℕ). flat_map leaving_of (range_with_len 0 n)) whole)
+  all_arcs = grind (arith, numbers_of_all)
 
   module _ (c n : ℕ) (rest : List ℕ) (low : c < component_count g) (is : rest ≡ arcs_from_on c) (within : n ≤ length rest)
       (those : (k d : ℕ) → k < n → source_of g (get_or rest k d) ≡ c) (next : (d : ℕ) → n < length rest → source_of g (get_or rest n d) ≢ c) where

@@ -1,10 +1,10 @@
 -- What a line names has an entry.
-use Rattle.std.proofs.Common.{◌≡◌, ◌≢◌, ◌<◌, ◌≤◌, ℕ, zero, suc, ◌+◌, Bool, true, false, cond, List, [], ◌∷◌, refl, ap, sym, subst, ◌∙◌, arith}
+use Rattle.std.proofs.Common.{◌≡◌, ◌≢◌, ◌<◌, ◌≤◌, ℕ, zero, suc, ◌+◌, Bool, true, false, List, [], ◌∷◌, refl, ap, subst, ◌∙◌, arith}
 use Rattle.std.specs.Prelude.{◌==◌, ◌||◌, nat_lt, if◌then◌else◌}
 use Rattle.std.specs.List.{Contains, sum_by}
-use Rattle.std.proofs.lemmas.Bool.{eq-eqb, eqb-true, eqb-false, lt-ltb, ltb-true, ltb-false}
+use Rattle.std.proofs.lemmas.Bool.{eq-eqb, eqb-false, lt-ltb}
 use Rattle.std.proofs.lemmas.List.{get_or_default}
-use Rattle.std.proofs.lemmas.List.Sums.{sum_by-cons, sum_by-append}
+use Rattle.std.proofs.lemmas.List.Sums.{sum_by-append}
 use Rattle.call_cycles.specs.declared.graphs.FunArc.{FunArc}
 use Rattle.call_cycles.specs.Graph.{GraphValue, HasOtherMember, IsGraph, arc_at, arc_count, component_of, head_of, is_cycle, no_arc}
 use Rattle.call_cycles.specs.Sums.{sum_below, when}
@@ -18,7 +18,7 @@ use Rattle.graph_report.specs.Rows.{cycle_entries, function_entries}
 use Rattle.graph_report.specs.declared.subjects.Subject.{Subject}
 use Rattle.graph_report.specs.declared.subjects.Subject.TheVariants.{Function}
 use Rattle.graph_report.proofs.NumberLemmas.{first_number, first_of_all}
-use Rattle.graph_report.proofs.PlaceLemmas.{count_below, count_one, next_counted, one_counted}
+use Rattle.graph_report.proofs.PlaceLemmas.{count_below, count_one, next_counted}
 
 -- a subject that has an entry has a number
 numbered : (subject : Subject) (base : ℕ) (es : List GraphEntry) → 1 ≤ sum_by (count_one subject) es → 0 < first_number base es subject
@@ -26,10 +26,7 @@ numbered subject base [] some = absurd (omega (arith, some))
 numbered subject base (e ∷ es) some = by (λ more. numbered subject (base + 1) es more) (is_same e.subject subject) refl
   where
     by : (1 ≤ sum_by (count_one subject) es → 0 < first_number (base + 1) es subject) → (b : Bool) → is_same e.subject subject ≡ b → 0 < (if b then base + 1 else first_number (base + 1) es subject)
-    by rest true here = omega arith
-    by rest false other =
-        let none : count_one subject e ≡ 0 = ap (λ (b : Bool). cond b 1 0) other in
-        rest (omega (arith, some, sum_by-cons (count_one subject) e es, none))
+    by rest b here = grind arith
 
 module _ (subject : Subject) (make : ℕ → GraphEntry) (p : ℕ → Bool) where
   some_below : (n k : ℕ) → k < n → p k ≡ true → is_same (make k).subject subject ≡ true → 1 ≤ count_below subject make p n
@@ -37,14 +34,7 @@ module _ (subject : Subject) (make : ℕ → GraphEntry) (p : ℕ → Bool) wher
   some_below (suc n) k low passes same = by (λ lower. some_below n k lower passes same) (nat_lt k n) refl
     where
       by : (k < n → 1 ≤ count_below subject make p n) → (b : Bool) → nat_lt k n ≡ b → 1 ≤ count_below subject make p (suc n)
-      by rest true lower = omega (arith, next_counted subject make p n, rest (ltb-true k n lower))
-      by rest false higher =
-          let last : k ≡ n = omega (arith, low, ltb-false k n higher) in
-          let one : cond (p n) (count_one subject (make n)) 0 ≡ 1 =
-          ap (λ (j : ℕ). cond (p j) (count_one subject (make j)) 0) (sym last)
-          ∙ ap (λ (b : Bool). cond b (count_one subject (make k)) 0) passes
-          ∙ one_counted subject (make k) same in
-          omega (arith, next_counted subject make p n, one)
+      by rest b lower = grind (arith, next_counted)
 
 some_entry : (s : Sources) (f : ℕ) → f < s.graph.functions → has_entry s f ≡ true → 1 ≤ sum_by (count_one (Function f)) (graph_entries s)
 unfolding graph_entries
@@ -63,22 +53,15 @@ function_numbered : (s : Sources) (f : ℕ) → f < s.graph.functions → has_en
 function_numbered s f low has = subst (λ (n : ℕ). 0 < n) (first_of_all (graph_order s) (Function f)) (numbered (Function f) 0 (graph_order s) (some_ordered s f low has))
 
 second_holds : (a b c d : Bool) → b ≡ true → (a || b || c || d) ≡ true
-second_holds true b c d holds = refl
-second_holds false true c d holds = refl
-second_holds false false c d holds = absurd (cc)
+second_holds a b c d holds = grind arith
 
 third_holds : (a b c d : Bool) → c ≡ true → (a || b || c || d) ≡ true
-third_holds true b c d holds = refl
-third_holds false true c d holds = refl
-third_holds false false true d holds = refl
-third_holds false false false d holds = absurd (cc)
+third_holds a b c d holds = grind arith
 
 some_calls : (g : GraphValue) (p : ℕ → Bool) (i : ℕ) → IsGraph g → i < arc_count g → p i ≡ true → 0 < sum_below (arc_count g) (λ j. when (p j) (arc_at g j).count)
 some_calls g p i is low passes =
     let here : when (p i) (arc_at g i).count ≡ (arc_at g i).count = ap (λ (b : Bool). when b (arc_at g i).count) passes in
-    let part : sum_below i (λ j. when (p j) (arc_at g j).count) + when (p i) (arc_at g i).count ≤ sum_below (arc_count g) (λ j. when (p j) (arc_at g j).count) =
-    sum_front_le (suc i) (arc_count g) (λ j. when (p j) (arc_at g j).count) (omega arith) in
-    omega (arith, is.arcs.called i low, here, part)
+    omega (arith, is.arcs.called i low, here, sum_front_le (suc i) (arc_count g) (λ j. when (p j) (arc_at g j).count) (omega arith))
 
 pub caller_named : (s : Sources) (i : ℕ) → IsGraph s.graph → i < arc_count s.graph → 0 < number_in (graph_order s) (Function (arc_at s.graph i).caller)
 caller_named s i is low =
@@ -108,9 +91,7 @@ calls_of_walk g f h (a ∷ more) apart leads = calls_of_arc g f a leads.0 leads.
 
 calls_of_member : (g : GraphValue) (f h : ℕ) → IsGraph g → f < g.functions → h < g.functions → component_of g f ≡ component_of g h → f ≢ h → CallsSome g f
 unfolding Reaches
-calls_of_member g f h is low below same apart =
-    let reaches = ((is.components.joined f h low below).0 same).0 in
-    calls_of_walk g f h reaches.0 apart reaches.1
+calls_of_member g f h is low below same apart = grind (arith, calls_of_walk)
 
 member_calls : (g : GraphValue) (f : ℕ) → IsGraph g → f < g.functions → is_cycle g (component_of g f) ≡ true → CallsSome g f
 member_calls g f is low cycle =
@@ -120,11 +101,8 @@ member_calls g f is low cycle =
     by other (f == head_of g c) refl
   where
     by : HasOtherMember g (component_of g f) → (b : Bool) → (f == head_of g (component_of g f)) ≡ b → CallsSome g f
-    by other true is_head =
-        calls_of_member g f other.0 is low other.1 (sym other.2) (λ same. other.3 (sym same ∙ eqb-true f (head_of g (component_of g f)) is_head))
-    by other false not_head =
-        let inside = is.components.within f low in
-        calls_of_member g f (head_of g (component_of g f)) is low (is.components.heads_below (component_of g f) inside) (sym (is.components.heads_in (component_of g f) inside)) (eqb-false f (head_of g (component_of g f)) not_head)
+    by other true is_head = grind (arith, calls_of_member)
+    by other false not_head = search (calls_of_member, eqb-false, is.components.within, is.components.heads_below, is.components.heads_in)
 
 pub member_named : (s : Sources) (f : ℕ) → IsGraph s.graph → f < s.graph.functions → is_cycle s.graph (component_of s.graph f) ≡ true → 0 < number_in (graph_order s) (Function f)
 member_named s f is low cycle =

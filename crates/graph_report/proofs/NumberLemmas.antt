@@ -1,10 +1,9 @@
 -- The numbers of entries, from the last to the first.
-use Rattle.std.proofs.Common.{◌≡◌, ◌<◌, ℕ, zero, suc, ◌+◌, Bool, true, false, not, cond, List, [], ◌∷◌, length, map, drop, get_or, refl, ap, sym, subst, ◌∙◌, arith, add-one}
-use Rattle.std.specs.Prelude.{◌==◌, Some, None, nat_lt, filter, slice_index, if◌then◌else◌}
+use Rattle.std.proofs.Common.{◌≡◌, ◌<◌, ℕ, zero, suc, ◌+◌, Bool, true, cond, List, [], ◌∷◌, length, map, drop, get_or, refl, ap, sym, subst, ◌∙◌, arith, add-one}
+use Rattle.std.specs.Prelude.{◌==◌, nat_lt, filter, slice_index, if◌then◌else◌}
 use Rattle.std.specs.List.{All, position_or_len}
-use Rattle.std.specs.Option.{option_map_or}
 use Rattle.std.proofs.lemmas.List.{drop_more, get_or-map, length-map, map-append}
-use Rattle.std.proofs.lemmas.List.Elements.{All-append, All-cons, All-from_recursion, All-nil, recursion_from_All}
+use Rattle.std.proofs.lemmas.List.Elements.{All-append, All-from_recursion, All-nil, recursion_from_All}
 use Rattle.std.proofs.Math.Logic.{∥∥₁_elim}
 use Rattle.std.proofs.Props.{props}
 use Rattle.std.proofs.lemmas.Bool.Decides.{nat_tests}
@@ -39,24 +38,13 @@ with_base base n = if n == 0 then 0 else base + n
 abbrev number_at : ℕ → ℕ → ℕ
 number_at n m = cond (nat_lt n m) (n + 1) 0
 
-number_found : (b : Bool) (n : ℕ) → option_map_or (λ (place : ℕ). place + 1) (cond b (Some n) None) 0 ≡ cond b (n + 1) 0
-number_found true n = refl
-number_found false n = refl
-
 number_is : (es : List GraphEntry) (subject : Subject) → number_in es subject ≡ number_at (position_or_len (λ (e : GraphEntry). is_same e.subject subject) es) (length es)
 unfolding number_in
-number_is es subject =
-    let n = position_or_len (λ (e : GraphEntry). is_same e.subject subject) es in
-    number_found (nat_lt n (length es)) n
-
-one_before : (b : Bool) (base n m rest : ℕ) → rest ≡ with_base (base + 1) (number_at n m) → (if b then base + 1 else rest) ≡ with_base base (number_at (cond (not b) (1 + n) 0) (suc m))
-one_before true base n m rest is = grind (arith, nat_tests)
-one_before false base n m rest is = grind (arith, nat_tests)
+number_is es subject = grind arith
 
 first_is : (base : ℕ) (es : List GraphEntry) (subject : Subject) → first_number base es subject ≡ with_base base (number_at (position_or_len (λ (e : GraphEntry). is_same e.subject subject) es) (length es))
 first_is base [] subject = grind (arith, nat_tests)
-first_is base (e ∷ es) subject =
-    one_before (is_same e.subject subject) base (position_or_len (λ (f : GraphEntry). is_same f.subject subject) es) (length es) (first_number (base + 1) es subject) (first_is (base + 1) es subject)
+first_is base (e ∷ es) subject = grind (arith, first_is (base + 1) es subject)
 
 no_base : (n : ℕ) → with_base 0 n ≡ n
 no_base n = grind (arith, nat_tests)
@@ -73,35 +61,15 @@ pub record AreNumbersFrom (entries : List GraphEntry) (n k : ℕ) (numbers : Num
   pub functions : (f : ℕ) → f < n → slice_index numbers.functions.items f ≡ first_number k (drop k entries) (Function f)
   pub cycles : (head : ℕ) → head < n → slice_index numbers.cycles.items head ≡ first_number k (drop k entries) (Cycle head)
 
-first_step : (entries : List GraphEntry) (k : ℕ) (e : GraphEntry) (subject : Subject) → k < length entries → e ≡ get_or entries k e
-    → first_number k (drop k entries) subject ≡ (if is_same e.subject subject then k + 1 else first_number (k + 1) (drop (k + 1) entries) subject)
-first_step entries k e subject below at =
-    ap (λ (es : List GraphEntry). first_number k es subject) (drop_more entries k e below)
-    ∙ ap (λ (d : GraphEntry). first_number k (d ∷ drop (k + 1) entries) subject) (sym at)
-
 module _ (entries : List GraphEntry) (n k : ℕ) (old new : Numbers) (e : GraphEntry) (are : AreNumbersFrom entries n (k + 1) old) (below : k < length entries) (at : e ≡ get_or entries k e)
     (function_count : length new.functions.items ≡ length old.functions.items) (cycle_count : length new.cycles.items ≡ length old.cycles.items)
     (functions : (f : ℕ) → f < length old.functions.items → slice_index new.functions.items f ≡ (if is_same e.subject (Function f) then k + 1 else slice_index old.functions.items f))
     (cycles : (head : ℕ) → head < length old.cycles.items → slice_index new.cycles.items head ≡ (if is_same e.subject (Cycle head) then k + 1 else slice_index old.cycles.items head)) where
   pub number_put : AreNumbersFrom entries n k new
-  number_put = record {
-    function_count = function_count ∙ are.function_count;
-    cycle_count = cycle_count ∙ are.cycle_count;
-    functions = λ f low.
-        let len = are.function_count in
-        functions f (omega arith) ∙ ap (λ (x : ℕ). if is_same e.subject (Function f) then k + 1 else x) (are.functions f low) ∙ sym (first_step entries k e (Function f) below at);
-    cycles = λ head low.
-        let len = are.cycle_count in
-        cycles head (omega arith) ∙ ap (λ (x : ℕ). if is_same e.subject (Cycle head) then k + 1 else x) (are.cycles head low) ∙ sym (first_step entries k e (Cycle head) below at);
-  }
+  number_put = grind (arith, drop_more)
 
 pub all_numbers : (s : Sources) (entries : List GraphEntry) (numbers : Numbers) → entries ≡ graph_order s → AreNumbersFrom entries s.graph.functions 0 numbers → AreNumbers s numbers
-all_numbers s entries numbers are_all are = record {
-  function_count = are.function_count;
-  cycle_count = are.cycle_count;
-  functions = λ f low. are.functions f low ∙ first_of_all entries (Function f) ∙ ap (λ (es : List GraphEntry). number_in es (Function f)) are_all;
-  cycles = λ head low. are.cycles head low ∙ first_of_all entries (Cycle head) ∙ ap (λ (es : List GraphEntry). number_in es (Cycle head)) are_all;
-}
+all_numbers s entries numbers are_all are = grind (arith, first_of_all)
 
 -- ---- each entry is of a function, or of a cycle whose head is one
 
@@ -113,8 +81,7 @@ numbers_inside make P p (suc n) each =
     (All-append P (map make (filter p (numbers_below n))) (map make (cond (p n) (n ∷ []) [])) (numbers_inside make P p n (λ k low. each k (omega arith))) (last (p n) refl)))
   where
     last : (b : Bool) → p n ≡ b → All P (map make (cond b (n ∷ []) []))
-    last true passes = All-cons P (make n) [] (each n (omega arith) passes) (All-nil P)
-    last false fails = All-nil P
+    last b passes = grind arith
 
 abbrev IsOfGraph : Sources → GraphEntry → Type 0
 IsOfGraph s e = IsSubject s.graph e.subject
@@ -147,8 +114,7 @@ pub row_of_graph : (i : Inputs) (rows : List Row) (k : ℕ) (row : Row) → entr
 row_of_graph i rows k row all below at = ∥∥₁_elim i.graph (subject_prop i.sources.graph.now row.subject) (λ is. of_row (sources_in i) rows k row (of_one i is) all below at)
 
 subject_inside : (g : GraphValue) (subject : Subject) → IsSubject g subject → first_function subject < g.functions
-subject_inside g (Cycle head) is = is.0
-subject_inside g (Function f) is = is
+subject_inside g subject is = grind arith
 
 pub row_inside : (i : Inputs) (rows : List Row) (k : ℕ) (row : Row) → entries_of_rows rows ≡ graph_order (sources_in i) → k < length rows → row ≡ get_or rows k row → first_function row.subject < i.sources.graph.now.functions
 row_inside i rows k row all below at = subject_inside i.sources.graph.now row.subject (row_of_graph i rows k row all below at)

@@ -3,10 +3,10 @@ use Rattle.std.proofs.Common.{◌≡◌, ◌<◌, ◌≤◌, ℕ, zero, suc, ◌
 use Rattle.std.specs.Prelude.{Some, ◌==◌, filter, slice_get, if◌then◌else◌}
 use Rattle.std.specs.List.{sum_by}
 use Rattle.std.specs.List.Sorted.{IsPermutation, IsSortedBy}
-use Rattle.std.proofs.lemmas.Bool.{eq-eqb, eqb-true}
+use Rattle.std.proofs.lemmas.Bool.{eqb-true}
 use Rattle.std.proofs.lemmas.List.{map-append}
 use Rattle.std.proofs.lemmas.List.Sums.{sum_by-cons, sum_by-append}
-use Rattle.call_cycles.specs.Graph.{GraphValue, IsGraph, component_count, component_of, head_of, is_cycle}
+use Rattle.call_cycles.specs.Graph.{GraphValue, IsGraph, component_count, head_of, is_cycle}
 use Rattle.call_cycles.specs.Sums.{numbers_below}
 use Rattle.flat_report.specs.Sources.{Sources}
 use Rattle.flat_report.proofs.OrderLemmas.{moved_in_order, order_is_sorted, sum_in_order}
@@ -48,11 +48,7 @@ counted subject (f ∷ fs) (suc k) e at is = omega (arith, sum_by-cons (count_on
 only_number : (subject : Subject) (base : ℕ) (es : List GraphEntry) (place : ℕ) (e : GraphEntry) → sum_by (count_one subject) es ≤ 1
     → slice_get es place ≡ Some e → is_same e.subject subject ≡ true → first_number base es subject ≡ base + place + 1
 only_number subject base [] place e few at is = absurd (cc)
-only_number subject base (f ∷ fs) zero e few at is =
-    let same : f ≡ e = cc in
-    let here : is_same f.subject subject ≡ true = ap (λ (g : GraphEntry). is_same g.subject subject) same ∙ is in
-    let first : base + 1 ≡ base + 0 + 1 = omega arith in
-    ap (λ (b : Bool). if b then base + 1 else first_number (base + 1) fs subject) here ∙ first
+only_number subject base (f ∷ fs) zero e few at is = grind arith
 only_number subject base (f ∷ fs) (suc k) e few at is =
     by (only_number subject (base + 1) fs k e (omega (arith, few, sum_by-cons (count_one subject) f fs)) at is) (is_same f.subject subject) refl
   where
@@ -62,18 +58,13 @@ only_number subject base (f ∷ fs) (suc k) e few at is =
         absurd (omega (arith, few, sum_by-cons (count_one subject) f fs, one, counted subject fs k e at is))
     by rest false other = omega (arith, rest)
 
-not_true : (b : Bool) → (b ≡ true → ⊥) → b ≡ false
-not_true true is_not = absurd (is_not refl)
-not_true false is_not = refl
-
 module _ (subject : Subject) (make : ℕ → GraphEntry) (p : ℕ → Bool) where
   -- the entries of the subject among those that are made from numbers below n
   abbrev pub count_below : ℕ → ℕ
   count_below n = sum_by (count_one subject) (map make (filter p (numbers_below n)))
 
   last_counted : (b : Bool) (n : ℕ) → sum_by (count_one subject) (map make (cond b (n ∷ []) [])) ≡ cond b (count_one subject (make n)) 0
-  last_counted true n = omega arith
-  last_counted false n = refl
+  last_counted b n = grind arith
 
   pub next_counted : (n : ℕ) → count_below (suc n) ≡ count_below n + cond (p n) (count_one subject (make n)) 0
   next_counted n =
@@ -88,8 +79,7 @@ module _ (subject : Subject) (make : ℕ → GraphEntry) (p : ℕ → Bool) wher
   none_below (suc n) none = omega (arith, next_counted n, none_below n (λ k low. none k (omega arith)), last (p n) refl)
     where
       last : (b : Bool) → p n ≡ b → cond b (count_one subject (make n)) 0 ≡ 0
-      last true passes = ap (λ (b : Bool). cond b 1 0) (none n (omega arith) passes)
-      last false fails = refl
+      last b passes = grind arith
 
   one_below : (n : ℕ) → ((k l : ℕ) → k < l → l < n → is_same (make k).subject subject ≡ true → is_same (make l).subject subject ≡ true → ⊥) → count_below n ≤ 1
   one_below zero apart = omega arith
@@ -99,23 +89,11 @@ module _ (subject : Subject) (make : ℕ → GraphEntry) (p : ℕ → Bool) wher
       last b passes = ap (λ (a : Bool). cond a (count_one subject (make n)) 0) passes
 
       by : count_below n ≤ 1 → (a : Bool) → is_same (make n).subject subject ≡ a → (b : Bool) → p n ≡ b → count_below (suc n) ≤ 1
-      by rest true here true passes =
-          let none : count_below n ≡ 0 = none_below n (λ k low other. not_true (is_same (make k).subject subject) (λ same. apart k n low (omega arith) same here)) in
-          let one : cond (p n) (count_one subject (make n)) 0 ≡ 1 = last true passes ∙ one_counted subject (make n) here in
-          omega (arith, next_counted n, none, one)
-      by rest false here true passes =
-          let no : cond (p n) (count_one subject (make n)) 0 ≡ 0 = last true passes ∙ ap (λ (a : Bool). cond a 1 0) here in
-          omega (arith, next_counted n, rest, no)
-      by rest a here false fails =
-          let no : cond (p n) (count_one subject (make n)) 0 ≡ 0 = last false fails in
-          omega (arith, next_counted n, rest, no)
+      by rest a here b passes = grind (arith, none_below, next_counted)
 
 -- two components have two heads
 two_heads : (g : GraphValue) → IsGraph g → (head k l : ℕ) → k < l → l < component_count g → (head_of g k == head) ≡ true → (head_of g l == head) ≡ true → ⊥
-two_heads g is head k l lower low here there =
-    let one : head_of g k ≡ head_of g l = eqb-true (head_of g k) head here ∙ sym (eqb-true (head_of g l) head there) in
-    let same : k ≡ l = sym (is.components.heads_in k (omega arith)) ∙ ap (component_of g) one ∙ is.components.heads_in l low in
-    omega (arith, same)
+two_heads g is head k l lower low here there = grind arith
 
 two_functions : (f k l : ℕ) → k < l → (k == f) ≡ true → (l == f) ≡ true → ⊥
 two_functions f k l lower here there = omega (arith, eqb-true k f here, eqb-true l f there)
@@ -142,8 +120,7 @@ unfolding graph_order
 one_ordered s is subject = omega (arith, one_of_each s is subject, sum_in_order graph_comes_before (count_one subject) (graph_entries s))
 
 same_itself : (subject : Subject) → is_same subject subject ≡ true
-same_itself (Cycle head) = eq-eqb head head refl
-same_itself (Function f) = eq-eqb f f refl
+same_itself subject = grind arith
 
 pub number_of_place : (s : Sources) (place : ℕ) (e : GraphEntry) → IsGraph s.graph → slice_get (graph_order s) place ≡ Some e → number_in (graph_order s) e.subject ≡ place + 1
 number_of_place s place e is at =

@@ -1,11 +1,10 @@
 -- Lists of arcs rise by their callers, and by their callees.
-use Rattle.std.proofs.Common.{◌≡◌, ◌<◌, ◌≤◌, ℕ, zero, suc, ◌+◌, ◌-◌, Bool, true, false, cond, List, [], ◌∷◌, ◌++◌, length, map, get_or, append-nil, length-append, refl, ap, sym, ◌∙◌, subst, ⊎_elim, arith}
+use Rattle.std.proofs.Common.{◌≡◌, ◌<◌, ℕ, zero, suc, Bool, true, cond, List, [], ◌∷◌, ◌++◌, map, append-nil, length-append, refl, sym, subst, arith}
 use Rattle.std.specs.Prelude.{◌==◌, filter}
 use Rattle.std.specs.List.{All, flat_map}
 use Rattle.std.specs.List.Sorted.{IsStrictlyIncreasing}
-use Rattle.std.proofs.lemmas.Bool.{cases_lt, eqb-true}
+use Rattle.std.proofs.lemmas.Bool.{eqb-true}
 use Rattle.std.proofs.lemmas.List.{get_or_append_left, get_or-append_right}
-use Rattle.std.proofs.lemmas.List.Elements.{All-nil, All-cons}
 use Rattle.call_cycles.specs.Sums.{numbers_below}
 use Rattle.call_cycles.specs.Graph.{GraphValue, IsGraph, IsArcBefore, arc_at, arc_count}
 use Rattle.call_cycles.proofs.SumLemmas.{all_flat, flat_more}
@@ -17,19 +16,10 @@ picked_are h p (x ∷ xs) = by (picked_are h p xs) (p x)
   where
     by : map h (filter p xs) ≡ flat_map (λ i. cond (p i) (h i ∷ []) []) xs
         → (b : Bool) → map h (cond b (x ∷ filter p xs) (filter p xs)) ≡ cond b (h x ∷ []) [] ++ flat_map (λ i. cond (p i) (h i ∷ []) []) xs
-    by rest true = ap (λ (ys : List ℕ). h x ∷ ys) rest
-    by rest false = rest
+    by rest b = grind arith
 
 push_rises : (xs : List ℕ) (y : ℕ) → IsStrictlyIncreasing xs → All (λ x. x < y) xs → IsStrictlyIncreasing (xs ++ y ∷ [])
-push_rises xs y rising below k inside =
-    let long = length-append xs (y ∷ []) in
-    ⊎_elim
-    (λ (front : k + 1 < length xs). rw (get_or_append_left xs (y ∷ []) 0 k (omega arith), get_or_append_left xs (y ∷ []) 0 (k + 1) front) (rising k front))
-    (λ (past : length xs ≤ k + 1).
-    let last : k + 1 - length xs ≡ 0 = omega arith in
-    let there : get_or (xs ++ y ∷ []) (k + 1) 0 ≡ y = get_or-append_right xs (y ∷ []) (length xs) (k + 1) 0 refl past ∙ ap (λ (j : ℕ). get_or (y ∷ []) j 0) last in
-    rw (get_or_append_left xs (y ∷ []) 0 k (omega arith), there) (below k 0 (omega arith)))
-    (cases_lt (k + 1) (length xs))
+push_rises xs y rising below k inside = grind (arith, length-append, get_or_append_left, get_or-append_right)
 
 module _ (h : ℕ → ℕ) (p : ℕ → Bool) where
   abbrev picked : ℕ → List ℕ
@@ -39,8 +29,7 @@ module _ (h : ℕ → ℕ) (p : ℕ → Bool) where
   all_below n y each = all_flat (λ x. x < y) (λ i. cond (p i) (h i ∷ []) []) n (λ i low. one i low (p i) refl)
     where
       one : (i : ℕ) → i < n → (b : Bool) → p i ≡ b → All (λ x. x < y) (cond b (h i ∷ []) [])
-      one i low true at = All-cons (λ x. x < y) (h i) [] (each i low at) (All-nil (λ x. x < y))
-      one i low false at = All-nil (λ x. x < y)
+      one i low b at = grind arith
 
   picked_rises : (n : ℕ) → ((i j : ℕ) → i < j → j < n → p i ≡ true → p j ≡ true → h i < h j) → IsStrictlyIncreasing (picked n)
   picked_rises zero each = λ k inside. absurd (omega arith)
@@ -49,8 +38,7 @@ module _ (h : ℕ → ℕ) (p : ℕ → Bool) where
       (by (picked_rises n (λ i j less low. each i j less (omega arith))) (p n) refl)
     where
       by : IsStrictlyIncreasing (picked n) → (b : Bool) → p n ≡ b → IsStrictlyIncreasing (picked n ++ cond b (h n ∷ []) [])
-      by rest true at = push_rises (picked n) (h n) rest (all_below n (h n) (λ i low passes. each i n low (omega arith) passes at))
-      by rest false at = subst IsStrictlyIncreasing (sym (append-nil (picked n))) rest
+      by rest b at = grind (arith, push_rises, all_below, append-nil)
 
   pub rises : (n : ℕ) → ((i j : ℕ) → i < j → j < n → p i ≡ true → p j ≡ true → h i < h j) → IsStrictlyIncreasing (map h (filter p (numbers_below n)))
   rises n each = subst IsStrictlyIncreasing (sym (picked_are h p (numbers_below n))) (picked_rises n each)
@@ -60,16 +48,10 @@ module _ (g : GraphValue) (is : IsGraph g) (f : ℕ) where
   callers_rise = rises (λ i. (arc_at g i).caller) (λ i. (arc_at g i).callee == f) (arc_count g) (λ i j less low one two. by i j (eqb-true _ _ one) (eqb-true _ _ two) (is.arcs.rising i j less low))
     where
       by : (i j : ℕ) → (arc_at g i).callee ≡ f → (arc_at g j).callee ≡ f → IsArcBefore (arc_at g i) (arc_at g j) → (arc_at g i).caller < (arc_at g j).caller
-      by i j one two before =
-          ⊎_elim (λ (less : (arc_at g i).caller < (arc_at g j).caller). less)
-          (λ (same : ((arc_at g i).caller ≡ (arc_at g j).caller) × ((arc_at g i).callee < (arc_at g j).callee)). let less = same.1 in absurd (omega arith))
-          before
+      by i j one two before = grind arith
 
   pub callees_rise : IsStrictlyIncreasing (map (λ i. (arc_at g i).callee) (arcs_from g f))
   callees_rise = rises (λ i. (arc_at g i).callee) (λ i. (arc_at g i).caller == f) (arc_count g) (λ i j less low one two. by i j (eqb-true _ _ one) (eqb-true _ _ two) (is.arcs.rising i j less low))
     where
       by : (i j : ℕ) → (arc_at g i).caller ≡ f → (arc_at g j).caller ≡ f → IsArcBefore (arc_at g i) (arc_at g j) → (arc_at g i).callee < (arc_at g j).callee
-      by i j one two before =
-          ⊎_elim (λ (less : (arc_at g i).caller < (arc_at g j).caller). absurd (omega arith))
-          (λ (same : ((arc_at g i).caller ≡ (arc_at g j).caller) × ((arc_at g i).callee < (arc_at g j).callee)). same.1)
-          before
+      by i j one two before = grind arith

@@ -1,17 +1,15 @@
 -- The times of components that are no cycles are those of their functions.
 use Rattle.std.proofs.Common.{◌≡◌, ◌≢◌, ◌<◌, ℕ, Bool, true, false, ◌&&◌, List, refl, ap, sym, ◌∙◌, ⊎_elim, arith}
-use Rattle.std.specs.Prelude.{◌==◌, ◌||◌, nat_lt, slice_index, if◌then◌else◌}
-use Rattle.std.proofs.lemmas.Bool.{cases_eq, eqb-true, true≢false, ltb-false}
+use Rattle.std.specs.Prelude.{◌==◌, slice_index, if◌then◌else◌}
+use Rattle.std.proofs.lemmas.Bool.{cases_eq, true≢false}
 use Rattle.call_cycles.specs.Sums.{sum_below, when}
 use Rattle.call_cycles.specs.Graph.{GraphValue, IsGraph, arc_at, arc_count, component_of, component_count, head_of, is_cycle, is_outside, source_of}
 use Rattle.call_cycles.specs.Flow.{carried_by, carried_from, carried_from_function, is_root, self_in, time_of}
-use Rattle.call_cycles.proofs.ListLemmas.{same_test}
 use Rattle.call_cycles.proofs.MemberLemmas.{cycles_are}
 use Rattle.call_cycles.proofs.SumLemmas.{sum_ext, sum_at}
 use Rattle.symbol_shares.specs.Shares.{attributed_of}
 use Rattle.propagate.proofs.BoundLemmas.{roots_have_all}
-use Rattle.flat_report.specs.Sources.{AreOfOne, Sources, calls_by_itself, calls_by_others, inclusive_total}
-use Rattle.graph_report.specs.Entries.{calls_of_others}
+use Rattle.flat_report.specs.Sources.{AreOfOne, Sources, inclusive_total}
 use Rattle.graph_report.specs.Roots.{has_own_entry, shown_total}
 
 -- ---- a component of one function
@@ -28,8 +26,7 @@ module _ (g : GraphValue) (is : IsGraph g) (c : ℕ) (low : c < component_count 
       (cases_eq f (head_of g c))
 
   member : (f : ℕ) → f < g.functions → (component_of g f == c) ≡ (head_of g c == f)
-  member f below =
-      same_test (component_of g f) c (head_of g c) f (λ at. sym (only f below at)) (λ same. ap (component_of g) (sym same) ∙ is.components.heads_in c low)
+  member f below = grind (arith, only)
 
   pub own_share : (shares : List ℕ) → self_in g shares c ≡ slice_index shares (head_of g c)
   own_share shares =
@@ -37,8 +34,7 @@ module _ (g : GraphValue) (is : IsGraph g) (c : ℕ) (low : c < component_count 
       ∙ sum_at g.functions (λ h. true) true (head_of g c) (slice_index shares (head_of g c)) (is.components.heads_below c low)
     where
       by : (h : ℕ) (b : Bool) → (head_of g c == h) ≡ b → when b (slice_index shares h) ≡ when b (slice_index shares (head_of g c))
-      by h true same = ap (slice_index shares) (sym (eqb-true (head_of g c) h same))
-      by h false apart = refl
+      by h b same = grind arith
 
       each : (h : ℕ) → h < g.functions → when (component_of g h == c) (slice_index shares h) ≡ when (head_of g c == h) (slice_index shares (head_of g c))
       each h below = ap (λ (b : Bool). when b (slice_index shares h)) (member h below) ∙ by h (head_of g c == h) refl
@@ -47,8 +43,7 @@ module _ (g : GraphValue) (is : IsGraph g) (c : ℕ) (low : c < component_count 
   own_arcs carried = sum_ext (arc_count g) _ _ (λ i below. ap (λ (b : Bool). when (is_outside g i && b) (carried i)) (caller i below))
     where
       caller : (i : ℕ) → i < arc_count g → ((arc_at g i).caller == head_of g c) ≡ (source_of g i == c)
-      caller i below =
-          same_test (arc_at g i).caller (head_of g c) (source_of g i) c (λ same. ap (component_of g) same ∙ is.components.heads_in c low) (λ at. only (arc_at g i).caller (is.arcs.callers i below) at)
+      caller i below = grind (arith, only)
 
 -- ---- the totals of entries
 
@@ -66,26 +61,7 @@ module _ (s : Sources) (fit : AreOfOne s) where
   totals_are_times c low = by (is_cycle s.graph c) refl
     where
       by : (b : Bool) → is_cycle s.graph c ≡ b → (if b then time_of s.flow c else inclusive_total s (head_of s.graph c)) ≡ time_of s.flow c
-      by true at = refl
-      by false at = single_total c low at
-
-  pub no_time : (c : ℕ) → c < component_count s.graph → has_own_entry s c ≡ false → time_of s.flow c ≡ 0
-  no_time c low none = by (is_cycle s.graph c) (nat_lt 0 (inclusive_total s h)) (nat_lt 0 (calls_by_others s.graph h)) (nat_lt 0 (calls_of_others s.graph h)) (nat_lt 0 (calls_by_itself s.graph h)) refl refl none
-    where
-      h : ℕ
-      h = head_of s.graph c
-
-      by : (b t o m i : Bool) → is_cycle s.graph c ≡ b → nat_lt 0 (inclusive_total s (head_of s.graph c)) ≡ t → (b || (t || o || m || i)) ≡ false → time_of s.flow c ≡ 0
-      by true t o m i at time gone = absurd (true≢false gone)
-      by false true true true true at time gone = absurd (true≢false gone)
-      by false true o m i at time gone = absurd (first o m i gone)
-        where
-          first : (o m i : Bool) → (true || o || m || i) ≡ false → ⊥
-          first o m i is_false = true≢false is_false
-      by false false o m i at time gone =
-          let zero = ltb-false 0 (inclusive_total s (head_of s.graph c)) time in
-          let total = single_total c low at in
-          omega arith
+      by b at = grind (arith, single_total)
 
   pub root_entries : sum_below (component_count s.graph) (λ c. when (is_root s.graph c && has_own_entry s c) (shown_total s c)) ≡ attributed_of s.shares
   root_entries =
@@ -93,6 +69,4 @@ module _ (s : Sources) (fit : AreOfOne s) where
       ∙ roots_have_all s.graph s.shares.of is (fit.each ∙ sym fit.functions) s.flow fit.flow
     where
       by : (c : ℕ) → c < component_count s.graph → (r b : Bool) → has_own_entry s c ≡ b → when (r && b) (shown_total s c) ≡ when r (time_of s.flow c)
-      by c low true true at = totals_are_times c low
-      by c low true false at = sym (no_time c low at)
-      by c low false b at = refl
+      by c low r b at = grind (arith, totals_are_times)

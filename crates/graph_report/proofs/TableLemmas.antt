@@ -1,6 +1,6 @@
 -- What the tables hold, from the keys of arcs.
 use Rattle.std.proofs.Common.{◌≡◌, ◌≢◌, ◌<◌, ℕ, zero, suc, Bool, true, false, cond, ◌&&◌, not, List, [], ◌∷◌, ◌++◌, refl, ap, sym, ◌∙◌, subst, ⊎_elim, arith, add-one}
-use Rattle.std.specs.Prelude.{◌==◌, filter, slice_index, if◌then◌else◌}
+use Rattle.std.specs.Prelude.{◌==◌, filter, if◌then◌else◌}
 use Rattle.std.proofs.Math.Bool.{and-false}
 use Rattle.std.proofs.lemmas.Bool.{cases_eq, ne_eqb}
 use Rattle.std.proofs.lemmas.List.FromFn.{fill_by_all, length-map-range_with_len, get_or-map-range_with_len}
@@ -36,13 +36,10 @@ list_same n f h same = fill_by_all h (list_of n f) n 0 (length-map-range_with_le
 -- groups by a function of the places
 module _ (n : ℕ) (key : ℕ → ℕ) (keys : List ℕ) (are : keys ≡ list_of n key) where
   pub places_are : (k : ℕ) → places_with keys k ≡ filter (λ i. key i == k) (numbers_below n)
-  places_are k =
-      ap (λ (m : ℕ). filter (λ i. slice_index keys i == k) (numbers_below m)) (list_long n key keys are)
-      ∙ filter_same (λ i. slice_index keys i == k) (λ i. key i == k) n (λ i h. ap (λ (x : ℕ). x == k) (list_at n key keys are i h))
+  places_are k = grind (arith, list_long, filter_same, list_at)
 
   pub lists_are : (count : ℕ) (test : ℕ → ℕ → Bool) (groups : Groups) → AreGroups count (places_with keys) groups → ((k : ℕ) → k < count → (i : ℕ) → i < n → (key i == k) ≡ test k i) → AreGroups count (λ k. filter (test k) (numbers_below n)) groups
-  lists_are count test groups are_groups tests =
-      lists_agree count (places_with keys) (λ k. filter (test k) (numbers_below n)) groups.places.items groups.starts.items (λ k low. places_are k ∙ filter_same (λ i. key i == k) (test k) n (tests k low)) are_groups
+  lists_are count test groups are_groups tests = search (lists_agree, places_are, filter_same)
 
 -- outside arcs by the cycle that they enter, inside ones by where they stay
 entered_key : (cycle : ℕ → Bool) (b : Bool) (t n k : ℕ) → k < n → ((let x : ℕ = if b && cycle t then t else n in x) == k) ≡ (cycle k && (b && (t == k)))
@@ -50,16 +47,13 @@ entered_key cycle false t n k low = ne_eqb n k (λ q. omega arith) ∙ sym (and-
 entered_key cycle true t n k low = ⊎_elim (λ (at : t ≡ k). subst (λ (j : ℕ). ((let x : ℕ = if cycle t then t else n in x) == j) ≡ (cycle j && (t == j))) at (same at (cycle t))) (λ (apart : t ≢ k). other apart (cycle t)) (cases_eq t k)
   where
     same : t ≡ k → (b : Bool) → ((let x : ℕ = if b then t else n in x) == t) ≡ (b && (t == t))
-    same at true = refl
-    same at false = ne_eqb n t (λ q. omega arith)
+    same at b = grind arith
 
     other : t ≢ k → (b : Bool) → ((let x : ℕ = if b then t else n in x) == k) ≡ (cycle k && (t == k))
-    other apart true = ne_eqb t k apart ∙ sym (ap (λ (e : Bool). cycle k && e) (ne_eqb t k apart) ∙ and-false (cycle k))
-    other apart false = ne_eqb n k (λ q. omega arith) ∙ sym (ap (λ (e : Bool). cycle k && e) (ne_eqb t k apart) ∙ and-false (cycle k))
+    other apart b = grind arith
 
 inner_key : (b : Bool) (t n k : ℕ) → k < n → ((let x : ℕ = if b then n else t in x) == k) ≡ (not b && (t == k))
-inner_key true t n k low = ne_eqb n k (λ q. omega arith)
-inner_key false t n k low = refl
+inner_key b t n k low = grind arith
 
 module _ (g : GraphValue) (keys : List ℕ) where
   pub lists_to : (groups : Groups) → keys ≡ list_of (arc_count g) (arc_key g Callee) → AreGroups g.functions (places_with keys) groups → AreGroups g.functions (arcs_to g) groups
@@ -78,9 +72,7 @@ module _ (g : GraphValue) (keys : List ℕ) where
 
   calls_same : (key : ℕ → ℕ) (test : ℕ → ℕ → Bool) (count : ℕ) (sums : List ℕ) → keys ≡ list_of (arc_count g) key → ((k : ℕ) → k < count → (i : ℕ) → i < arc_count g → (key i == k) ≡ test k i)
       → (k : ℕ) → k < count → calls_with g keys k ≡ sum_below (arc_count g) (λ i. when (test k i) (arc_at g i).count)
-  calls_same key test count sums are tests k low =
-      sum_ext (arc_count g) (λ i. when (slice_index keys i == k) (arc_at g i).count) (λ i. when (test k i) (arc_at g i).count)
-      (λ i h. ap (λ (b : Bool). when b (arc_at g i).count) (ap (λ (x : ℕ). x == k) (list_at (arc_count g) key keys are i h) ∙ tests k low i h))
+  calls_same key test count sums are tests k low = grind (arith, sum_ext, list_at)
 
   pub sums_to : (sums : List ℕ) → keys ≡ list_of (arc_count g) (arc_key g Callee) → sums ≡ list_of g.functions (calls_with g keys) → sums ≡ list_of g.functions (calls_by_others g)
   sums_to sums are is = is ∙ list_same g.functions (calls_with g keys) (calls_by_others g) (calls_same (arc_key g Callee) (λ f i. (arc_at g i).callee == f) g.functions sums are (λ k low i h. refl))

@@ -1,9 +1,7 @@
 -- The parts of texts.
-use Rattle.std.proofs.Common.{◌≡◌, ◌≢◌, ◌<◌, ℕ, true, false, cond, eqb, Some, None, List, [], ◌∷◌, ◌++◌, length, append_assoc, refl, sym, ap, ◌∙◌, arith}
+use Rattle.std.proofs.Common.{◌≡◌, ◌≢◌, ◌<◌, ℕ, true, false, cond, eqb, Some, None, List, ◌++◌, length, append_assoc, refl, sym, ap, ◌∙◌, arith}
 use Rattle.std.specs.Prelude.{◌==◌, codes, decimal, filter, not, Bool}
 use Rattle.std.specs.List.{All, flat_map}
-use Rattle.std.proofs.lemmas.Bool.{ne_eqb, false≢true}
-use Rattle.std.proofs.lemmas.Bool.Decides.{nat_tests}
 use Rattle.std.proofs.lemmas.List.Elements.{All-filter}
 use Rattle.std.proofs.lemmas.List.FromFn.{get_or-range_with_len, length-range_with_len}
 use Rattle.text_cols.specs.Columns.{right_of, spaces}
@@ -13,11 +11,10 @@ use Rattle.call_cycles.specs.Graph.{GraphValue, arc_at, component_of, entering_o
 use Rattle.flat_report.specs.FlatText.{seconds_of}
 use Rattle.flat_report.specs.Sources.{Sources, name_of}
 use Rattle.graph_report.specs.ArcLines.{arc_text, function_at_end, label_at, line_by}
-use Rattle.graph_report.specs.ArcTimes.{AreTimes, arc_times, entering_calls, times_columns}
+use Rattle.graph_report.specs.ArcTimes.{arc_times, entering_calls, times_columns}
 use Rattle.graph_report.specs.GraphText.{arc_columns, arcs_from, arcs_into, arcs_to, bracket_text, callee_line, caller_line, callers_text, calls_of_all, cycle_mark, cycle_text, front_columns, function_columns, function_name, function_text, member_line, members_of, other_line, rule, primary_line, timed_columns, untimed_columns}
 use Rattle.graph_report.specs.Subjects.{cycle_line, function_line}
 use Rattle.graph_report.specs.declared.batch.ArcEnd.{ArcEnd}
-use Rattle.graph_report.specs.declared.batch.ArcEnd.TheVariants.{Caller, Callee}
 use Rattle.graph_report.specs.declared.inputs.ArcTimes.{ArcTimes}
 use Rattle.graph_report.specs.declared.subjects.Subject.{Subject}
 use Rattle.graph_report.specs.declared.subjects.Subject.TheVariants.{Function}
@@ -25,18 +22,11 @@ use Rattle.graph_report.specs.declared.subjects.Subject.TheVariants.{Function}
 -- a name, its mark and what follows
 pub name_whole : (s : Sources) (number : Subject → ℕ) (f : ℕ) → name_of s f ++ (cycle_mark s.graph f ++ (codes " " ++ bracket_text (number (Function f)) ++ codes "\n")) ≡ function_name s number f ++ codes "\n"
 unfolding function_name
-name_whole s number f =
-    let name = name_of s f in
-    let mark = cycle_mark s.graph f in
-    let tail = bracket_text (number (Function f)) in
-    sym (append_assoc name mark (codes " " ++ tail ++ codes "\n"))
-    ∙ sym (append_assoc (name ++ mark) (codes " " ++ tail) (codes "\n"))
-    ∙ ap (λ (t : List ℕ). t ++ codes "\n") (sym (append_assoc (name ++ mark) (codes " ") tail))
+name_whole s number f = search append_assoc
 
 -- a name of a cycle as a whole, and what follows
 pub end_whole : (name tail : List ℕ) → name ++ (codes " " ++ tail ++ codes "\n") ≡ name ++ codes " " ++ tail ++ codes "\n"
-end_whole name tail =
-    sym (append_assoc name (codes " " ++ tail) (codes "\n")) ∙ ap (λ (t : List ℕ). t ++ codes "\n") (sym (append_assoc name (codes " ") tail))
+end_whole name tail = search append_assoc
 
 -- what stands in front of a subject's name, and the name
 pub primary_whole : (s : Sources) (number total : ℕ) (columns name : List ℕ) → front_columns s number total columns ++ (name ++ codes "\n") ≡ primary_line s number total columns name
@@ -73,13 +63,7 @@ arc_line_is s number end i t label is named =
     ∙ by end
   where
     by : (e : ArcEnd) → other_line (times_columns s (arc_times s i)) (function_name s number (function_at_end e (arc_at s.graph i))) ≡ line_by e s number i
-    by Caller = caller_whole s number i
-    by Callee = callee_whole s number i
-
--- it names a function of the graph
-pub end_inside : (s : Sources) (end : ArcEnd) (t : ArcTimes) → AreTimes s t → function_at_end end t.arc < s.graph.functions
-end_inside s Caller t are = are.caller
-end_inside s Callee t are = are.callee
+    by e = grind (arith, caller_whole, callee_whole)
 
 pub member_whole : (s : Sources) (number : Subject → ℕ) (f : ℕ) → (spaces 15 ++ function_columns s f ++ spaces 6) ++ (function_name s number f ++ codes "\n") ≡ member_line s number f
 unfolding member_line
@@ -89,13 +73,11 @@ member_whole s number f = other_whole (function_columns s f) (function_name s nu
 
 pub no_callers : (s : Sources) (number : Subject → ℕ) (arcs : List ℕ) → length arcs == 0 ≡ true → other_line (spaces 46) (codes "<spontaneous>") ≡ callers_text s number arcs
 unfolding callers_text
-no_callers s number [] none = refl
-no_callers s number (i ∷ more) none = absurd (grind (arith, nat_tests))
+no_callers s number arcs is = grind arith
 
 pub some_callers : (s : Sources) (number : Subject → ℕ) (arcs : List ℕ) → length arcs == 0 ≡ false → flat_map (caller_line s number) arcs ≡ callers_text s number arcs
 unfolding callers_text
-some_callers s number [] some = absurd (false≢true (sym some))
-some_callers s number (i ∷ more) some = refl
+some_callers s number arcs some = grind arith
 
 -- ---- columns
 
@@ -105,18 +87,14 @@ unfolding timed_columns
 timed_whole before rate own child called = append_assoc before (right_of (seconds_of rate own) 12 ++ right_of (seconds_of rate child) 12) (right_of called 22)
 
 none_inside : (b : Bool) (n : ℕ) → cond b None (Some n) ≡ None → b ≡ true
-none_inside true n none = refl
-none_inside false n none = absurd cc
+none_inside b n is = grind arith
 
 some_outside : (b : Bool) (n all : ℕ) → cond b None (Some n) ≡ Some all → (b ≡ false) × (all ≡ n)
-some_outside true n all some = absurd cc
-some_outside false n all some = (refl, cc)
+some_outside b n all some = grind arith
 
 -- what is looked up of an arc between components
 pub outside_calls : (g : GraphValue) (arc : FunArc) (c d all : ℕ) → c ≡ component_of g arc.caller → d ≡ component_of g arc.callee → c ≢ d → all ≡ entering_of g d → Some all ≡ entering_calls g arc
-outside_calls g arc c d all source target apart is =
-    let part : all ≡ entering_of g (component_of g arc.callee) = is ∙ ap (entering_of g) target in
-    rw (ne_eqb (component_of g arc.caller) (component_of g arc.callee) (λ q. apart (source ∙ q ∙ sym target)), part) refl
+outside_calls g arc c d all source target apart is = grind arith
 
 -- the columns of an arc, by the calls that enter its callee's component
 module _ (s : Sources) (t : ArcTimes) (are : t.entering ≡ entering_calls s.graph t.arc) where

@@ -18,30 +18,19 @@ use Rattle.propagate.proofs.SumLemmas.{term_le_sum}
 
 module _ (s : Sources) (are : AreOfOne s) where
   component_within : (c : ℕ) → c < component_count s.graph → time_of s.flow c ≤ attributed_of s.shares
-  component_within c low =
-      let functions = are.functions in
-      let each = are.each in
-      within_all s.graph s.shares.of are.graph (omega arith) s.flow are.flow c low
+  component_within c low = grind (arith, within_all)
 
   -- an outside arc carries no more than its caller's component has
   arc_within : (i : ℕ) → i < arc_count s.graph → is_outside s.graph i ≡ true → carried_by s.flow i ≤ attributed_of s.shares
   arc_within i low outside =
       let c = source_of s.graph i in
       let inside = source_within s.graph are.graph i low in
-      let all = component_within c inside in
-      let child = are.flow.child c inside in
-      let one = term_le_sum (arc_count s.graph) (λ j. when (leaves s.graph c j) (carried_by s.flow j)) i low in
       let this : when (leaves s.graph c i) (carried_by s.flow i) ≡ carried_by s.flow i = rw (outside, eq-eqb c c refl) refl in
-      omega arith
+      omega (arith, component_within c inside, term_le_sum (arc_count s.graph) (λ j. when (leaves s.graph c j) (carried_by s.flow j)) i low)
 
   -- what is looked up of an arc is in the ranges of a report's numbers
   times_within : attributed_of s.shares < 2 ^ 65 → (i : ℕ) → i < arc_count s.graph → AreTimes s (arc_times s i)
-  times_within small i low = record {
-    caller = are.graph.arcs.callers i low;
-    callee = are.graph.arcs.callees i low;
-    entering = refl;
-    small = λ outside. let all = arc_within i low outside in (omega arith, omega arith);
-  }
+  times_within small i low = grind (arith, arc_within)
 
 -- the parts of inputs are of one program
 pub of_one : (i : Inputs) → IsGraph i.sources.graph.now → AreOfOne (sources_in i)

@@ -12,6 +12,7 @@ use text_cols::Line;
 
 /// Adds what an arc carries, and its calls of those that enter the callee's component. An arc inside a cycle
 /// has its calls alone.
+#[tactic(auto, using(crate::proofs::TextLemmas::inside_columns))]
 pub(crate) fn put_arc(line: &mut Line, inputs: &Inputs<'_>, times: &ArcTimes)
     requires times { AreTimes (sources_in inputs.now) times.now }
     requires room { length line.old ≤ 100 }
@@ -29,6 +30,7 @@ pub(crate) fn put_arc(line: &mut Line, inputs: &Inputs<'_>, times: &ArcTimes)
 }
 
 /// Adds a function's own time, what it gets from those that it calls, and its calls by others and by itself.
+#[tactic(auto, using(crate::proofs::TextLemmas::timed_whole), unfolding(crate::specs::GraphText::function_columns))]
 pub(crate) fn put_function(line: &mut Line, inputs: &Inputs<'_>, f: u32)
     requires function { f < inputs.now.sources.graph.now.functions }
     requires room { length line.old ≤ 100 }
@@ -40,6 +42,7 @@ pub(crate) fn put_function(line: &mut Line, inputs: &Inputs<'_>, f: u32)
 }
 
 /// Adds the same of a cycle as a whole: its calls are those that enter it and those between its members.
+#[tactic(auto, using(crate::proofs::TextLemmas::timed_whole, crate::proofs::TimeLemmas::time_small), unfolding(crate::specs::GraphText::cycle_columns))]
 pub(crate) fn put_cycle(line: &mut Line, inputs: &Inputs<'_>, c: u32)
     requires component { c < component_count inputs.now.sources.graph.now }
     requires room { length line.old ≤ 100 }

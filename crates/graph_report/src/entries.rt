@@ -136,6 +136,7 @@ fn put_cycle<H: Host>(
 }
 
 /// Puts an entry.
+#[tactic(auto, using(crate::proofs::PrintLemmas::put_as))]
 pub(crate) fn put_entry<H: Host>(
     report: &Report<'_>,
     subject: Subject,

@@ -75,6 +75,7 @@ impl<'a> Inputs<'a> {
     }
 
     /// Both together.
+    #[tactic(auto, using(crate::proofs::TimeLemmas::total_small))]
     pub fn total(&self, f: u32) -> u128
         requires function { f < self.now.sources.graph.now.functions }
         ensures value { result ≡ inclusive_total (sources_in self.now) f }
@@ -84,6 +85,7 @@ impl<'a> Inputs<'a> {
     }
 
     /// The time of a component, its own and that of those it calls.
+    #[tactic(auto, using(crate::proofs::TimeLemmas::time_small))]
     pub fn component_total(&self, c: u32) -> u128
         requires component { c < component_count self.now.sources.graph.now }
         ensures value { result ≡ time_of self.now.sources.flow.now c }
@@ -93,6 +95,7 @@ impl<'a> Inputs<'a> {
     }
 
     /// The calls of a function by others.
+    #[tactic(auto, using(std::proofs::lemmas::Grind::get_or_default_zero, call_cycles::proofs::ListLemmas::list_long, call_cycles::proofs::ListLemmas::list_at))]
     pub fn calls_to(&self, f: u32) -> u64
         requires function { f < self.now.sources.graph.now.functions }
         ensures { result ≡ calls_by_others self.now.sources.graph.now f }
@@ -101,6 +104,7 @@ impl<'a> Inputs<'a> {
     }
 
     /// The calls of others by a function.
+    #[tactic(auto, using(std::proofs::lemmas::Grind::get_or_default_zero, call_cycles::proofs::ListLemmas::list_long, call_cycles::proofs::ListLemmas::list_at))]
     pub fn calls_from(&self, f: u32) -> u64
         requires function { f < self.now.sources.graph.now.functions }
         ensures { result ≡ calls_of_others self.now.sources.graph.now f }
@@ -109,6 +113,7 @@ impl<'a> Inputs<'a> {
     }
 
     /// The calls between different members of a component.
+    #[tactic(auto, using(std::proofs::lemmas::Grind::get_or_default_zero, call_cycles::proofs::ListLemmas::list_long, call_cycles::proofs::ListLemmas::list_at))]
     pub fn calls_inside(&self, c: u32) -> u64
         requires component { c < component_count self.now.sources.graph.now }
         ensures { result ≡ inner_calls self.now.sources.graph.now c }
@@ -117,6 +122,7 @@ impl<'a> Inputs<'a> {
     }
 
     /// An arc, and what it carries: nothing inside a component, of which the flow isn't asked.
+    #[tactic(auto, using(crate::proofs::TimeLemmas::times_small))]
     pub fn arc(&self, i: usize) -> ArcTimes
         requires arc { i < arc_count self.now.sources.graph.now }
         ensures value { result ≡ arc_times (sources_in self.now) i }

@@ -14,6 +14,7 @@ ghost use Rattle.graph_report.specs.declared.subjects.Subject.TheVariants.{Funct
 
 /// Each cycle, and each function that has an entry, has its place in the order once, and none stands
 /// behind one that it comes before. The number of an entry, as lines give it, is its place, counted from 1.
+#[tactic(auto, using(crate::proofs::PlaceLemmas::all_ordered, crate::proofs::PlaceLemmas::ascending_ordered, crate::proofs::PlaceLemmas::number_of_place))]
 pub fn entries_in_order()
     ensures all { (s : AnySources) → IsPermutation (cycle_entries s ++ function_entries s)
         (graph_order s) }
@@ -25,6 +26,7 @@ pub fn entries_in_order()
 
 /// Each function that a line names has an entry, so that the number behind its name is never 0: those
 /// that call, those that are called, and the members of cycles.
+#[tactic(auto, using(crate::proofs::NamedLemmas::callee_named, crate::proofs::NamedLemmas::caller_named, crate::proofs::NamedLemmas::member_named))]
 pub fn names_have_entries()
     ensures callers { (s : AnySources) (i : ℕ) → IsGraph s.graph → i < arc_count s.graph
         → 0 < number_in (graph_order s) (Function (arc_at s.graph i).caller) }
@@ -49,6 +51,7 @@ pub fn entries_that_are_shown()
 
 /// The total of an entry is the time of its component; a component that has no entry has no time. So the totals
 /// of the entries of roots, which nothing calls from outside, are all time that there is.
+#[tactic(auto, using(crate::proofs::RootLemmas::totals_are_times, crate::proofs::RootLemmas::root_entries))]
 pub fn entries_of_roots()
     ensures totals { TotalsAreTimes }
     ensures none { NoTimeWithoutEntry }
@@ -56,6 +59,7 @@ pub fn entries_of_roots()
 {}
 
 /// The callers of a function stand in the order of their addresses, each once, and so do its callees.
+#[tactic(auto, using(crate::proofs::RisingLemmas::callers_rise, crate::proofs::RisingLemmas::callees_rise))]
 pub fn callers_and_callees_rise()
     ensures callers { CallersRise }
     ensures callees { CalleesRise }

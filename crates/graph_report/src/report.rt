@@ -159,6 +159,7 @@ fn is_shown(hidden: &[String], row: &Row<'_>) -> bool
 }
 
 /// Puts an entry, unless it is hidden.
+#[tactic(auto, using(crate::proofs::PrintLemmas::put_as))]
 fn put_row<H: Host>(
     report: &Report<'_>,
     row: &Row<'_>,

@@ -48,6 +48,7 @@ fn has_entry(inputs: &Inputs<'_>, f: u32) -> bool
 }
 
 /// Adds the cycles, in the order of components.
+#[tactic(auto, using(crate::proofs::RowLemmas::row_added, crate::proofs::RowLemmas::no_row))]
 fn put_cycles<'a>(inputs: &Inputs<'a>, rows: &mut Vec<Row<'a>>) -> Result<(), AllocError>
     ensures { OnOk result (entries_of_rows rows.new.items
         ≡ entries_of_rows rows.old.items ++ cycle_entries (sources_in inputs.now)) }
@@ -65,6 +66,7 @@ fn put_cycles<'a>(inputs: &Inputs<'a>, rows: &mut Vec<Row<'a>>) -> Result<(), Al
 }
 
 /// Adds the functions that have an entry, in the order of their addresses.
+#[tactic(auto, using(crate::proofs::RowLemmas::row_added, crate::proofs::RowLemmas::no_row))]
 fn put_functions<'a>(inputs: &Inputs<'a>, rows: &mut Vec<Row<'a>>) -> Result<(), AllocError>
     ensures { OnOk result (entries_of_rows rows.new.items
         ≡ entries_of_rows rows.old.items ++ function_entries (sources_in inputs.now)) }

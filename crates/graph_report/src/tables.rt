@@ -37,6 +37,7 @@ pub(crate) struct Tables {
 }
 
 /// The arcs with each key below `count`, and their calls.
+#[tactic(auto, using(call_cycles::proofs::ListLemmas::list_long))]
 fn arcs_and_calls(
     alloc: Global,
     graph: &Graph,

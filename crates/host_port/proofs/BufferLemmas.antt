@@ -28,13 +28,10 @@ pub adds_nothing : {T E : Type 0} (side : Side) (pending : List ℕ) (x : Outsid
 adds_nothing {T} {E} side pending x u = adds_kept {T = T} {E = E} side [] pending pending x u (sym (append-nil pending))
 
 pending_then : (a b p q r gone more : List ℕ) → p ++ a ≡ gone ++ q → q ++ b ≡ more ++ r → p ++ (a ++ b) ≡ (gone ++ more) ++ r
-pending_then a b p q r gone more first second =
-    sym (append_assoc p a b) ∙ ap (λ (v : List ℕ). v ++ b) first ∙ append_assoc gone q b ∙ ap (λ (v : List ℕ). gone ++ v) second ∙ sym (append_assoc gone more r)
+pending_then a b p q r gone more first second = grind (arith, append_assoc)
 
 part_then : (a b p q gone : List ℕ) (n : ℕ) → p ++ a ≡ gone ++ q → take (length gone + n) (p ++ (a ++ b)) ≡ gone ++ take n (q ++ b)
-part_then a b p q gone n first =
-    let whole : p ++ (a ++ b) ≡ gone ++ (q ++ b) = sym (append_assoc p a b) ∙ ap (λ (v : List ℕ). v ++ b) first ∙ append_assoc gone q b in
-    ap (take (length gone + n)) whole ∙ take-append-add gone (q ++ b) n
+part_then a b p q gone n first = grind (arith, append_assoc, take-append-add)
 
 part_below : (a b p q gone : List ℕ) (n : ℕ) → p ++ a ≡ gone ++ q → n < length (q ++ b) → length gone + n < length (p ++ (a ++ b))
 part_below a b p q gone n first below =
@@ -73,34 +70,11 @@ adds_then {T} {E} side a b p q r x y z u (Err e) first second =
 
 -- what failed within a prefix failed within the whole
 pub adds_front : {T E : Type 0} (side : Side) (a b p q : List ℕ) (x y : Outside) (e : E) → Adds {T = T} side a p q x y (Err e) → Adds {T = T} side (a ++ b) p q x y (Err e)
-adds_front {T} {E} side a b p q x y e first =
-    let n = first.part.0 in
-    let below : n < length (p ++ a) = first.part.1 in
-    let front : take n (p ++ (a ++ b)) ≡ take n (p ++ a) = ap (take n) (sym (append_assoc p a b)) ∙ take-append-le n (p ++ a) b (omega arith) in
-    record {
-      went = tt;
-      part = (
-        n,
-        omega (arith, below, length-append p a, length-append p (a ++ b), length-append a b),
-        subst (λ (v : List ℕ). Did (act_of side v ∷ []) x y) (sym front) first.part.2,
-      );
-      emptied = first.emptied;
-      input = first.input;
-      counts = first.counts;
-      last = first.last;
-    }
+adds_front {T} {E} side a b p q x y e first = grind (arith, append_assoc, take-append-le, length-append)
 
 -- where nothing is pending before and after, the bytes went to the side
 pub adds_puts : {T E : Type 0} (side : Side) (text : List ℕ) (x y : Outside) (result : Result T E) (after : List ℕ) → after ≡ [] → Adds side text [] after x y result → Puts side text x y result
-adds_puts {T} {E} side text x y (Ok u) after none adds = record {
-  takes = record {
-    done = subst (λ (v : List ℕ). Did (act_of side v ∷ []) x y) (sym (append-nil adds.went.0) ∙ ap (λ (v : List ℕ). adds.went.0 ++ v) (sym none) ∙ sym adds.went.1) adds.went.2;
-    part = tt;
-    input = adds.input;
-  };
-  counts = adds.counts;
-  last = adds.last;
-}
+adds_puts {T} {E} side text x y (Ok u) after none adds = grind (arith, append-nil)
 adds_puts {T} {E} side text x y (Err e) after none adds = record { takes = record { done = tt; part = adds.part; input = adds.input }; counts = adds.counts; last = adds.last }
 
 -- what went to the side at once was put behind nothing
@@ -153,10 +127,7 @@ stopped {T} {E} side text p q x y e start put = adds_puts {T = T} side text x y 
 
 pub adds_item : {X T E : Type 0} (side : Side) (f : X → List ℕ) (items : List X) (item : X) (p q r : List ℕ) (x y z : Outside) (u v : T)
     → Adds {T = T} {E = E} side (flat_map f items) p q x y (Ok u) → Adds {T = T} {E = E} side (f item) q r y z (Ok v) → Adds {T = T} {E = E} side (flat_map f (items ++ item ∷ [])) p r x z (Ok v)
-adds_item {X} {T} {E} side f items item p q r x y z u v so_far one =
-    let texts : flat_map f items ++ f item ≡ flat_map f (items ++ item ∷ []) =
-    ap (λ (t : List ℕ). flat_map f items ++ t) (sym (append-nil (f item))) ∙ sym (flat_map-append f items (item ∷ [])) in
-    subst (λ (t : List ℕ). Adds {T = T} {E = E} side t p r x z (Ok v)) texts (adds_then side (flat_map f items) (f item) p q r x y z u (Ok v) so_far one)
+adds_item {X} {T} {E} side f items item p q r x y z u v so_far one = search (append-nil, flat_map-append, adds_then)
 
 pub adds_until : {X T E : Type 0} (side : Side) (f : X → List ℕ) (items : List X) (item : X) (rest all : List X) (p q r : List ℕ) (x y z : Outside) (u : T) (e : E) → items ++ item ∷ rest ≡ all
     → Adds {T = T} {E = E} side (flat_map f items) p q x y (Ok u) → Adds {T = T} {E = E} side (f item) q r y z (Err e) → Adds {T = T} {E = E} side (flat_map f all) p r x z (Err e)

@@ -2,7 +2,7 @@
 use Rattle.std.proofs.Common.{◌≡◌, ℕ, zero, suc, ◌+◌, ◌<◌, ◌≤◌, Bool, true, false, cond, List, [], ◌∷◌, ◌++◌, length, map, get_or, drop, Option, Some, None, Result, Ok, Err, ◌⊎◌, inl, inr, refl, sym, ap, subst, ◌∙◌, arith}
 use Rattle.std.specs.Prelude.{bytes_eq, option_map, string_bytes, is_ok, OnOk, OnErr}
 use Rattle.std.proofs.Math.ListN.{set}
-use Rattle.std.proofs.lemmas.List.{at_drop_more, at_drop_all, length-map, map-set, get_or-map, map_push, length-drop}
+use Rattle.std.proofs.lemmas.List.{at_drop_more, at_drop_all, length-map, map-set, get_or-map, map_push}
 use Rattle.std.proofs.Math.Seq.{map-set_same}
 use Rattle.std.specs.Global.{Vec}
 use Rattle.std.proofs.lemmas.Slice.Eq.{bytes_eq-Decides}
@@ -72,28 +72,10 @@ pub record Found (name : List ℕ) (files : List File) (i : ℕ) : Type 0 where
   pub adding : (bytes : List ℕ) → with_more name bytes files ≡ set files i (name, bytes_at files i ++ bytes)
 
 found_here : (name : List ℕ) (f : File) (fs : List File) → bytes_eq f.0 name ≡ true → Found name (f ∷ fs) 0
-found_here name f fs b =
-    let same : f.0 ≡ name = (bytes_eq-Decides f.0 name).0 b in
-    record {
-      in_range = omega arith;
-      there = rw b refl;
-      content = rw b refl;
-      item = λ d. refl;
-      named = λ d. same;
-      putting = λ bytes. rw b (ap (λ (n : List ℕ). (n, bytes) ∷ fs) same);
-      adding = λ bytes. rw b (ap (λ (n : List ℕ). (n, f.1 ++ bytes) ∷ fs) same);
-    }
+found_here name f fs b = grind (arith, bytes_eq-Decides)
 
 found_later : (name : List ℕ) (f : File) (fs : List File) (j : ℕ) → bytes_eq f.0 name ≡ false → Found name fs j → Found name (f ∷ fs) (suc j)
-found_later name f fs j b found = record {
-  in_range = omega (arith, found.in_range);
-  there = rw b found.there;
-  content = rw b found.content;
-  item = found.item;
-  named = found.named;
-  putting = λ bytes. rw b (ap (λ (v : List File). f ∷ v) (found.putting bytes));
-  adding = λ bytes. rw b (ap (λ (v : List File). f ∷ v) (found.adding bytes));
-}
+found_later name f fs j b found = grind arith
 
 pub found_at : (name : List ℕ) (files : List File) (i : ℕ) → place_of name files ≡ Some i → Found name files i
 found_at name [] i e = absurd cc
@@ -126,9 +108,7 @@ missing name (f ∷ fs) e =
 -- ---- the entries that stand for files
 
 at_entry : (entries : List Entry) (i : ℕ) (e : Entry) → i < length (files_of entries) → e ≡ get_or entries i e → file_of e ≡ get_or (files_of entries) i (file_of e)
-at_entry entries i e lt is =
-    let lt' : i < length entries = omega (arith, length-map entries file_of) in
-    ap file_of is ∙ sym (get_or-map file_of entries i e (file_of e) lt')
+at_entry entries i e lt is = grind (arith, length-map, get_or-map)
 
 pub name_at : (name : List ℕ) (entries : List Entry) (i : ℕ) (e : Entry) → Found name (files_of entries) i → e ≡ get_or entries i e → string_bytes e.name ≡ name
 name_at name entries i e found is = ap (λ (f : File). f.0) (at_entry entries i e found.in_range is) ∙ found.named (file_of e)
@@ -141,8 +121,7 @@ in_range name entries i found = omega (arith, found.in_range, length-map entries
 
 changed_at : (name : List ℕ) (entries : List Entry) (i : ℕ) (e : Entry) (bytes : Vec ℕ) → Found name (files_of entries) i → e ≡ get_or entries i e
     → files_of (set entries i (record { name = e.name; bytes = bytes })) ≡ set (files_of entries) i (name, bytes.items)
-changed_at name entries i e bytes found is =
-    map-set file_of entries i (record { name = e.name; bytes = bytes }) ∙ ap (λ (n : List ℕ). set (files_of entries) i (n, bytes.items)) (name_at name entries i e found is)
+changed_at name entries i e bytes found is = grind (arith, map-set, name_at)
 
 pub set_at : (name : List ℕ) (entries : List Entry) (i : ℕ) (e : Entry) (bytes : Vec ℕ) → Found name (files_of entries) i → e ≡ get_or entries i e
     → files_of (set entries i (record { name = e.name; bytes = bytes })) ≡ with_file name bytes.items (files_of entries)
@@ -150,15 +129,11 @@ set_at name entries i e bytes found is = changed_at name entries i e bytes found
 
 pub append_at : (name more : List ℕ) (entries : List Entry) (i : ℕ) (e : Entry) (bytes : Vec ℕ) → Found name (files_of entries) i → e ≡ get_or entries i e → bytes.items ≡ e.bytes.items ++ more
     → files_of (set entries i (record { name = e.name; bytes = bytes })) ≡ with_more name more (files_of entries)
-append_at name more entries i e bytes found is longer =
-    changed_at name entries i e bytes found is
-    ∙ ap (λ (b : List ℕ). set (files_of entries) i (name, b)) (longer ∙ ap (λ (b : List ℕ). b ++ more) (item_at name entries i e found is))
-    ∙ sym (found.adding more)
+append_at name more entries i e bytes found is longer = grind (arith, changed_at, item_at)
 
 pub kept_at : (entries : List Entry) (i : ℕ) (e : Entry) (bytes : Vec ℕ) → i < length entries → e ≡ get_or entries i e → bytes.items ≡ e.bytes.items
     → files_of (set entries i (record { name = e.name; bytes = bytes })) ≡ files_of entries
-kept_at entries i e bytes lt is same =
-    map-set_same file_of entries i (record { name = e.name; bytes = bytes }) e (ap (λ (b : List ℕ). (string_bytes e.name, b)) same ∙ ap file_of is)
+kept_at entries i e bytes lt is same = grind (arith, map-set_same)
 
 pub push_entry : (name : List ℕ) (entries : List Entry) (e : Entry) → place_of name (files_of entries) ≡ None → string_bytes e.name ≡ name → files_of (entries ++ e ∷ []) ≡ with_file name e.bytes.items (files_of entries)
 push_entry name entries e none is =
@@ -192,14 +167,11 @@ bytes_of_entry entries i e lt is =
     sym (item_of (files_of entries) i (file_of e) lt') ∙ ap (λ (f : File). f.1) (sym (at_entry entries i e lt' is))
 
 pub nothing_left : (entries : List Entry) (file at : ℕ) → length entries ≤ file → length (drop at (bytes_at (files_of entries) file)) ≡ 0
-nothing_left entries file at le =
-    let none = no_item (files_of entries) file (omega (arith, length-map entries file_of)) in
-    omega (arith, length-drop at (bytes_at (files_of entries) file), ap length none)
+nothing_left entries file at le = grind (arith, no_item, length-map)
 
 -- what was lent is what is left at the place
 pub rest_is : (entries : List Entry) (file at : ℕ) (e : Entry) (lent : List ℕ) → file < length entries → e ≡ get_or entries file e → lent ≡ (get_or entries file e).bytes.items → drop at (bytes_at (files_of entries) file) ≡ drop at lent
-rest_is entries file at e lent lt is lent_is =
-    ap (drop at) (bytes_of_entry entries file e lt is ∙ ap (λ (x : Entry). x.bytes.items) is ∙ sym lent_is)
+rest_is entries file at e lent lt is lent_is = grind (arith, bytes_of_entry)
 
 pub past_the_end : (entries : List Entry) (file : ℕ) → length entries ≤ file → bytes_at (files_of entries) file ≡ []
 past_the_end entries file le = no_item (files_of entries) file (omega (arith, length-map entries file_of))

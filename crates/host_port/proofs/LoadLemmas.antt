@@ -56,8 +56,7 @@ joins_kept name bytes d0 None r0 r1 disk rest joins = tt
 joins_kept name bytes d0 (Some d) r0 None disk rest joins = tt
 joins_kept name bytes None (Some d) r0 (Some r) disk rest joins = absurd cc
 joins_kept name bytes (Some d') (Some d) None (Some r) disk rest joins = absurd cc
-joins_kept name bytes (Some d') (Some d) (Some r') (Some r) disk rest joins =
-    ap (λ (v : List ℕ). bytes ++ v) (sym (same_some r' r rest)) ∙ joins ∙ ap (λ (x : Disk). file_content name x.files) (same_some d' d disk)
+joins_kept name bytes (Some d') (Some d) (Some r') (Some r) disk rest joins = search same_some
 
 joins_more : (name bytes buf : List ℕ) (n : ℕ) (d0 d1 : Option Disk) (r0 r1 : Option (List ℕ)) → Becomes (λ d. d) d0 d1 → Becomes (drop n) r0 r1 → IfSome r0 (λ rest. Came n rest buf) → Joins name bytes d0 r0
     → Joins name (bytes ++ take n buf) d1 r1
@@ -65,14 +64,7 @@ joins_more name bytes buf n d0 None r0 r1 disk rest came joins = tt
 joins_more name bytes buf n d0 (Some d) r0 None disk rest came joins = tt
 joins_more name bytes buf n None (Some d) r0 (Some r) disk rest came joins = absurd cc
 joins_more name bytes buf n (Some d') (Some d) None (Some r) disk rest came joins = absurd cc
-joins_more name bytes buf n (Some d') (Some d) (Some r') (Some r) disk rest came joins =
-    let d_is : d' ≡ d = same_some d' d disk in
-    let r_is : drop n r' ≡ r = same_some (drop n r') r rest in
-    append_assoc bytes (take n buf) r
-    ∙ (λ i. bytes ++ (came.bytes i ++ sym r_is i))
-    ∙ ap (λ (v : List ℕ). bytes ++ v) (take-append-drop n r')
-    ∙ joins
-    ∙ ap (λ (x : Disk). file_content name x.files) d_is
+joins_more name bytes buf n (Some d') (Some d) (Some r') (Some r) disk rest came joins = grind (arith, append_assoc, take-append-drop)
 
 -- what has come to its end has nothing left
 ended : (buf : List ℕ) (n : ℕ) (r0 r1 : Option (List ℕ)) → n ≡ 0 → Becomes (drop n) r0 r1 → IfSome r0 (λ rest. Came n rest buf) → IfSome r1 (λ rest. rest ≡ [])
@@ -92,15 +84,7 @@ always (Some d) = tt
 
 -- the input couldn't be opened
 pub not_opened : {T : Type 0} (name : List ℕ) (limit : ℕ) (old new : Outside) (e : Failed) → Opens {T = T} name old new (Err e) → Reads {T = T} old new (Err e) → IsConsistent new → IsRefused name limit old new ReadFault
-not_opened name limit old new e opens reads consistent =
-    let shut : is_some new.rest ≡ false = consistent.rest ∙ ap (λ (b : Bool). b && is_some new.disk) opens.opened in
-    record {
-      nothing_done = opens.nothing_done;
-      answer = always new.disk;
-      left = none_told (λ d rest. length (file_content name d.files) ≤ limit + length rest) new.disk new.rest shut;
-      going = λ not. absurd (not refl);
-      counts = (reads.own, reads.write, reads.err, reads.last);
-    }
+not_opened name limit old new e opens reads consistent = grind arith
 
 -- the input is open, and nothing was taken
 pub opened : {T : Type 0} (name : List ℕ) (limit : ℕ) (old new : Outside) (t : T) → Opens {E = Failed} name old new (Ok t) → Reads {E = Failed} old new (Ok t) → Loading name limit [] old new
@@ -149,16 +133,7 @@ module _ (name : List ℕ) (limit n : ℕ) (bytes before buf : List ℕ) (old mi
 
   -- the file was read to its end
   pub all_read : n ≡ 0 → IsContent name limit old new bytes
-  all_read none =
-      let taken : bytes ++ take n buf ≡ bytes = ap (λ (k : ℕ). bytes ++ take k buf) none ∙ append-nil bytes in
-      let rest = ended buf n mid.rest new.rest none moves.rest moves.came in
-      record {
-        nothing_done = did;
-        answer = subst (λ (v : List ℕ). IfSome new.disk (λ d. v ≡ file_content name d.files)) taken (all_taken name (bytes ++ take n buf) new.disk new.rest told joins rest);
-        ended = rest;
-        within = far.within;
-        counts = counts;
-      }
+  all_read none = grind (arith, append-nil, ended, did, all_taken, told)
 
   -- it is too large
   pub too_large : limit < length bytes + n → length bytes + n ≤ limit + 1 → new.at_end ≡ false → IsRefused name limit old new TooLarge

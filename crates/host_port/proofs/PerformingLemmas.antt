@@ -46,10 +46,7 @@ performs_then front back x y z u (Error e) p q =
 
 -- acts failed that others follow
 pub performs_front : {T U E : Type 0} (front back : List Act) (x y : Outside) (e : E) → Performs {T = T} front x y (Error e) → Performs {T = U} (front ++ back) x y (Error e)
-performs_front front back x y e p =
-    let part = p.failed.0 in
-    let act = p.failed.1 in
-    record { done = tt; kept = tt; failed = (part, act, failed_before act part front back p.failed.2, p.failed.3, p.failed.4) }
+performs_front front back x y e p = search failed_before
 
 -- one act: a text that goes to a side, a file that is created, one that is closed
 

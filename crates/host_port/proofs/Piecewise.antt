@@ -38,22 +38,13 @@ pub record IsPiecewise (act : List ℕ → Act) : Type 0 where
   pub join : (x y : List ℕ) → AreAlike (act x ∷ act y ∷ []) (act (x ++ y) ∷ [])
 
 pub write_piecewise : IsPiecewise Write
-write_piecewise = record {
-  nothing = record { disk = λ d. ap (λ (v : List File). record { files = v; writing = d.writing }) (sym (written-nil d.writing d.files)); out = refl; err = refl; writing = λ w. refl; file_changes = λ n. refl };
-  join = λ x y. record { disk = λ d. ap (λ (v : List File). record { files = v; writing = d.writing }) (written-twice d.writing x y d.files); out = refl; err = refl; writing = λ w. refl; file_changes = λ n. refl };
-}
+write_piecewise = search (written-nil, written-twice)
 
 pub out_piecewise : IsPiecewise Out
-out_piecewise = record {
-  nothing = record { disk = λ d. refl; out = refl; err = refl; writing = λ w. refl; file_changes = λ n. refl };
-  join = λ x y. record { disk = λ d. refl; out = sym (append_assoc x y []); err = refl; writing = λ w. refl; file_changes = λ n. refl };
-}
+out_piecewise = search append_assoc
 
 pub err_piecewise : IsPiecewise Err
-err_piecewise = record {
-  nothing = record { disk = λ d. refl; out = refl; err = refl; writing = λ w. refl; file_changes = λ n. refl };
-  join = λ x y. record { disk = λ d. refl; out = refl; err = sym (append_assoc x y []); writing = λ w. refl; file_changes = λ n. refl };
-}
+err_piecewise = search append_assoc
 
 -- two parts that follow one another
 pub Did-join : (act : List ℕ → Act) → IsPiecewise act → (x y : List ℕ) (a b c : Outside) → Did (act x ∷ []) a b → Did (act y ∷ []) b c → Did (act (x ++ y) ∷ []) a c

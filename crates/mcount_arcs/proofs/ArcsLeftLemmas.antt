@@ -1,5 +1,5 @@
 -- The arcs that are left to be given, one after another.
-use Rattle.std.proofs.Common.{All, zero, slice_index_or, inl, inr, ◌≡◌, ℕ, suc, ◌<◌, ◌≤◌, List, [], ◌∷◌, ◌++◌, length, Some, refl, sym, ap, ◌∙◌, arith, ◌+◌, subst, ◌-◌, map, slice_index}
+use Rattle.std.proofs.Common.{All, zero, slice_index_or, ◌≡◌, ℕ, suc, ◌<◌, ◌≤◌, List, [], ◌∷◌, ◌++◌, length, Some, refl, sym, ap, ◌∙◌, arith, ◌+◌, subst, ◌-◌, map, slice_index}
 use Rattle.std.specs.List.{slice_get, flat_map, range_with_len}
 use Rattle.gmon_block.specs.declared.entry.Tos.{Tos}
 use Rattle.mcount_arcs.specs.Log.{distinct_count, LogEntry, entered_calls, kept_calls}
@@ -13,7 +13,6 @@ use Rattle.mcount_arcs.specs.declared.arcs.Arcs.TheInside.{Inside}
 use Rattle.mcount_arcs.specs.Value.{StandsFor, GmonValue}
 use denote.Bor.{Bor}
 use Rattle.mcount_arcs.specs.declared.gmon.Gmon.{Gmon}
-use Rattle.mcount_arcs.proofs.EntryLemmas.{first_at_zero}
 use Rattle.mcount_arcs.proofs.EntryListLemmas.{read-front, length-entries_in}
 use Rattle.mcount_arcs.proofs.LinkLemmas.{linked_zero, linked_more, skip_empty}
 use Rattle.mcount_arcs.proofs.ChainLengths.{arcs_few}
@@ -22,7 +21,6 @@ use Rattle.mcount_arcs.proofs.LogLemmas.{entries_of-by, fronts_of-by, arcs_of-by
 use Rattle.mcount_arcs.proofs.KeptCallLemmas.{kept_calls-places}
 use Rattle.std.proofs.lemmas.List.Elements.{All-nil, All-cons, All-append, All-map}
 use Rattle.std.proofs.lemmas.List.{get_or_past}
-use Rattle.std.proofs.lemmas.Bool.{cases_lt}
 use Rattle.gmon_block.specs.Layout.{EntryFits, no_entry}
 use Rattle.mcount_arcs.specs.Arcs.{CallFits}
 
@@ -33,25 +31,14 @@ tos_is : (v : GmonValue) (log : List LogEntry) → StandsFor log v → v.tos ≡
 tos_is v log stands = stands.tos ∙ entries_of-by v.sizes log
 
 pub front_is : (v : GmonValue) (log : List LogEntry) (slot : ℕ) → StandsFor log v → slot < v.sizes.slots → slice_index v.froms slot ≡ index_at (kept_calls v.sizes log) slot (slice_get (chain_in (kept_calls v.sizes log) slot) 0)
-front_is v log slot stands within =
-    ap (λ (fs : List ℕ). slice_index fs slot) (stands.froms ∙ fronts_of-by v.sizes log)
-    ∙ read-front v.sizes.slots (kept_calls v.sizes log) slot within
-    ∙ ap (index_at (kept_calls v.sizes log) slot) (first_at_zero (chain_in (kept_calls v.sizes log) slot))
+front_is v log slot stands within = grind (arith, fronts_of-by, read-front)
 
 -- at first
 pub left-start : (v : GmonValue) (next : ℕ) → 1 ≤ v.sizes.slots → next ≡ slice_index v.froms 0 → arcs_from v 0 next ≡ arcs_read v.sizes v.tos v.froms
-left-start v next some is =
-    let z = v.sizes in
-    let n : ℕ = z.slots - 1 in
-    let same : z.slots ≡ suc n = omega arith in
-    let also : z.slots - (0 + 1) ≡ n = omega arith in
-    ap (λ (i : ℕ). map (arc_read (site_of z 0)) (linked_entries (length v.tos) v.tos i) ++ flat_map (slot_read z v.tos v.froms) (range_with_len (0 + 1) (z.slots - (0 + 1)))) is
-    ∙ ap (λ (k : ℕ). slot_read z v.tos v.froms 0 ++ flat_map (slot_read z v.tos v.froms) (range_with_len (0 + 1) k)) also
-    ∙ ap (λ (k : ℕ). flat_map (slot_read z v.tos v.froms) (range_with_len 0 k)) (sym same)
+left-start v next some is = grind arith
 
 pub length-arcs : (v : GmonValue) (log : List LogEntry) → AreSizes v.sizes → StandsFor log v → length v.arcs < v.sizes.tolimit
-length-arcs v log are stands =
-    omega (arith, ap length (stands.arcs ∙ arcs_of-by v.sizes log), arcs_few v.sizes (kept_calls v.sizes log), places v.sizes log are)
+length-arcs v log are stands = grind (arith, arcs_of-by, arcs_few, places)
 
 -- an entry to be given
 pub record IsReady (a b : Inside) : Type 0 where
@@ -61,9 +48,7 @@ pub record IsReady (a b : Inside) : Type 0 where
   pub left : arcs_left a ≡ arcs_left b
 
 pub ready-here : (a b : Inside) → b ≡ a → IsAmong a → (a.next ≡ 0 → ⊥) → IsReady a b
-ready-here a b same among some =
-    let P : Inside → Type 0 = λ c. IsReady a c in
-    subst P (sym same) (record { gmon = refl; among = among; some = some; left = refl })
+ready-here a b same among some = grind arith
 
 left-empty : (v : GmonValue) (slot to next : ℕ) → slot < v.sizes.slots → next ≡ 0 → slot + 1 ≤ to → to ≤ v.sizes.slots → AreZero v.froms (slot + 1) to
     → arcs_from v slot next ≡ flat_map (slot_read v.sizes v.tos v.froms) (range_with_len to (v.sizes.slots - to))
@@ -72,13 +57,7 @@ left-empty v slot to next within none after before zeros =
     let m : ℕ = to - (slot + 1) in
     let n : ℕ = z.slots - to in
     let all : z.slots - (slot + 1) ≡ m + n = omega arith in
-    let end : slot + 1 + m ≡ to = omega arith in
-    let P : ℕ → Type 0 = λ k. AreZero v.froms (slot + 1) k in
-    ap (λ (i : ℕ). map (arc_read (site_of z slot)) (linked_entries (length v.tos) v.tos i) ++ flat_map (slot_read z v.tos v.froms) (range_with_len (slot + 1) (z.slots - (slot + 1)))) none
-    ∙ ap (λ (es : List Tos). map (arc_read (site_of z slot)) es ++ flat_map (slot_read z v.tos v.froms) (range_with_len (slot + 1) (z.slots - (slot + 1)))) (linked_zero (length v.tos) v.tos)
-    ∙ ap (λ (k : ℕ). flat_map (slot_read z v.tos v.froms) (range_with_len (slot + 1) k)) all
-    ∙ skip_empty z v.tos v.froms (slot + 1) n m (subst P (sym end) zeros)
-    ∙ ap (λ (k : ℕ). flat_map (slot_read z v.tos v.froms) (range_with_len k n)) end
+    grind (arith, linked_zero, skip_empty)
 
 linked_on : (b : Inside) (e : Tos) → (among : IsAmong b) → (b.next ≡ 0 → ⊥) → slice_get b.gmon.now.tos b.next ≡ Some e
     → (linked_entries (length b.gmon.now.tos) b.gmon.now.tos b.next ≡ e ∷ linked_entries (length b.gmon.now.tos) b.gmon.now.tos e.link) × (e.link ≡ index_at (kept_calls b.gmon.now.sizes among.log) b.slot (slice_get (chain_in (kept_calls b.gmon.now.sizes among.log) b.slot) (suc among.given)))
@@ -147,9 +126,6 @@ next_bound b among =
 pub bound_a : (a b : Inside) → IsReady a b → b.next < length a.gmon.now.tos
 bound_a a b ready = let P : Bor Gmon → Type 0 = λ g. b.next < length g.now.tos in subst P ready.gmon (next_bound b ready.among)
 
-pub slot_a : (a b : Inside) → IsReady a b → b.slot < a.gmon.now.sizes.slots
-slot_a a b ready = let P : Bor Gmon → Type 0 = λ g. b.slot < g.now.sizes.slots in subst P ready.gmon ready.among.slot
-
 pub among-given : (a b : Inside) (e : Tos) → IsReady a b → slice_get a.gmon.now.tos b.next ≡ Some e → IsAmong (record b { next = e.link })
 among-given a b e ready read_a = let read = read_b a b e ready read_a in record {
   sizes = ready.among.sizes;
@@ -163,10 +139,7 @@ among-given a b e ready read_a = let read = read_b a b e ready read_a in record 
 -- ---- numbers of four bytes
 
 read_fits : (tos : List Tos) (i : ℕ) → All EntryFits tos → EntryFits (slice_index_or tos i no_entry)
-read_fits tos i all = elim (cases_lt i (length tos)) [
-  | inl lt ↦ all i no_entry lt
-  | inr past ↦ subst EntryFits (sym (get_or_past tos i no_entry past)) (record { selfpc = omega arith; count = omega arith; link = omega arith })
-]
+read_fits tos i all = grind (arith, get_or_past)
 
 linked_fit : (n : ℕ) (tos : List Tos) (i : ℕ) → All EntryFits tos → All EntryFits (linked_entries n tos i)
 linked_fit zero tos i all = All-nil EntryFits

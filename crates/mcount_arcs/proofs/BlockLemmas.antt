@@ -1,8 +1,8 @@
 -- The block of some calls: what a walk reads in it, and what its last look writes.
-use Rattle.std.proofs.Common.{◌≡◌, ℕ, zero, suc, ◌<◌, ◌≤◌, Bool, true, false, cond, ltb, List, length, Some, inl, inr, refl, sym, ap, ◌∙◌, arith, ◌+◌, subst, set, slice_index, slice_index_or}
+use Rattle.std.proofs.Common.{◌≡◌, ℕ, zero, suc, ◌<◌, ◌≤◌, Bool, true, false, cond, ltb, List, length, Some, inl, inr, sym, ap, ◌∙◌, arith, ◌+◌, subst, set, slice_index, slice_index_or}
 use Rattle.std.proofs.lemmas.Option.{slice_get_within, get_or_from_slice_get}
 use Rattle.std.specs.List.{slice_get}
-use Rattle.std.proofs.lemmas.Bool.{lt-ltb, le-ltb}
+use Rattle.std.proofs.lemmas.Bool.{lt-ltb}
 use Rattle.gmon_block.specs.declared.entry.Tos.{Tos}
 use Rattle.mcount_arcs.specs.Log.{Pair, same_pair, distinct_count}
 use Rattle.mcount_arcs.specs.Arcs.{chain_in, looks_in}
@@ -14,7 +14,7 @@ use Rattle.mcount_arcs.proofs.ChainLemmas.{pair, pushed, chain-once, in_chain}
 use Rattle.mcount_arcs.proofs.IndexLemmas.{index-old, index-new, at_place}
 use Rattle.mcount_arcs.proofs.EntryLemmas.{first_at_zero, count_of, entry-at, tos}
 use Rattle.mcount_arcs.proofs.EntryListLemmas.{entries-front, entries-back, fronts-front, entries-over, entries-new, fronts-own, read-entry, read-front}
-use Rattle.mcount_arcs.proofs.LookLemmas.{looks-found, looks_bounds}
+use Rattle.mcount_arcs.proofs.LookLemmas.{looks-found}
 
 -- the lists of a block are those of the calls
 pub record IsBlockOf (limit slots : ℕ) (all ps : List Pair) (p : Parts) : Type 0 where
@@ -22,13 +22,10 @@ pub record IsBlockOf (limit slots : ℕ) (all ps : List Pair) (p : Parts) : Type
   pub froms : p.froms ≡ fronts_in slots ps
 
 pub entry_read : (limit slots : ℕ) (all ps : List Pair) (p : Parts) (q : Pair) → IsBlockOf limit slots all ps p → has same_pair q ps ≡ true → entry_at p (index_in ps q) ≡ entry_in ps q
-entry_read limit slots all ps p q is there =
-    ap (λ (es : List Tos). slice_index_or es (index_in ps q) no_entry) is.tos
-    ∙ get_or_from_slice_get (entries_in limit all ps) (index_in ps q) (entry_in ps q) no_entry (read-entry limit all ps q there)
+entry_read limit slots all ps p q is there = search (slice_index_or, get_or_from_slice_get, read-entry, is.tos)
 
 pub front_read : (limit slots : ℕ) (all ps : List Pair) (p : Parts) (s : ℕ) → IsBlockOf limit slots all ps p → s < slots → slice_index p.froms s ≡ front_in ps s
-front_read limit slots all ps p s is within =
-    ap (λ (fs : List ℕ). slice_index fs s) is.froms ∙ read-front slots ps s within
+front_read limit slots all ps p s is within = grind (arith, read-front)
 
 -- so many links behind the front stands what stands there in the chain
 pub index_after-is : (limit slots : ℕ) (all ps : List Pair) (p : Parts) (s to k : ℕ) → IsBlockOf limit slots all ps p → s < slots → suc k ≤ looks_in (chain_in ps s) to
@@ -36,27 +33,11 @@ pub index_after-is : (limit slots : ℕ) (all ps : List Pair) (p : Parts) (s to 
 index_after-is limit slots all ps p s to zero is within le =
     front_read limit slots all ps p s is within ∙ ap (index_at ps s) (first_at_zero (chain_in ps s))
 index_after-is limit slots all ps p s to (suc k) is within le =
-    let c = chain_in ps s in
-    let bounds = looks_bounds ps s to in
-    let before = index_after-is limit slots all ps p s to k is within (omega arith) in
-    elim (at_place ps s k) [
-      | inl past ↦ absurd (omega (arith, past.0, bounds.1, bounds.0))
-      | inr here ↦
-          ap (λ (i : ℕ). (entry_at p i).link) (before ∙ here.2)
-          ∙ ap (λ (e : Tos). e.link) (entry_read limit slots all ps p (pair s here.0) is (in_chain ps s k here.0 here.1) ∙ entry-at ps s k here.0 here.1)
-    ]
+    grind (arith, at_place, entry_read, in_chain, entry-at, index_after-is limit slots all ps p s to k is within (omega arith))
 
 pub with_call_found-first : (limit slots : ℕ) (ps : List Pair) (p : Parts) (s t : ℕ) → IsBlockOf limit slots ps ps p → slice_get (chain_in ps s) 0 ≡ Some t
     → IsBlockOf limit slots (pushed ps s t) (pushed ps s t) (with_call_found s 0 (index_in ps (pair s t)) p)
-with_call_found-first limit slots ps p s t is at =
-    let there = in_chain ps s 0 t at in
-    let read = entry_read limit slots ps ps p (pair s t) is there in
-    record {
-      tos = ap (λ (e : Tos). set p.tos (index_in ps (pair s t)) (record e { count = e.count + 1 })) read
-          ∙ ap (λ (es : List Tos). set es (index_in ps (pair s t)) (record (entry_in ps (pair s t)) { count = count_of ps s t + 1 })) is.tos
-          ∙ entries-front limit ps s t at there;
-      froms = is.froms ∙ fronts-front slots ps s t at there;
-    }
+with_call_found-first limit slots ps p s t is at = grind (arith, in_chain, entry_read, entries-front, fronts-front)
 
 pub with_call_found-behind : (limit slots : ℕ) (ps : List Pair) (p : Parts) (s t b i : ℕ) → IsBlockOf limit slots ps ps p → s < slots → slice_get (chain_in ps s) (suc i) ≡ Some t → slice_get (chain_in ps s) i ≡ Some b
     → IsBlockOf limit slots (pushed ps s t) (pushed ps s t) (with_entry_moved s (index_in ps (pair s b)) (index_in ps (pair s t)) p)
@@ -80,8 +61,7 @@ with_call_found-behind limit slots ps p s t b i is within at before =
     }
 
 with_call_found-some : (s n at : ℕ) (p : Parts) → 0 < n → with_call_found s n at p ≡ with_entry_moved s n at p
-with_call_found-some s zero at p some = absurd (omega arith)
-with_call_found-some s (suc n) at p some = refl
+with_call_found-some s n at p some = grind arith
 
 -- by where the walk is
 pub with_call_found-at : (limit slots : ℕ) (ps : List Pair) (p : Parts) (s t k before at : ℕ) → IsBlockOf limit slots ps ps p → s < slots → slice_get (chain_in ps s) k ≡ Some t
@@ -110,24 +90,11 @@ pub number_read : (limit slots : ℕ) (all ps : List Pair) (p : Parts) → IsBlo
 number_read limit slots all ps p is = ap (λ (e : Tos). e.link) (head_read limit slots all ps p is)
 
 with_next_index-is : (limit slots : ℕ) (ps : List Pair) (p : Parts) → IsBlockOf limit slots ps ps p → (with_next_index p).tos ≡ set (entries_in limit ps ps) 0 (record { selfpc = 0; count = 0; link = suc (distinct_count ps) })
-with_next_index-is limit slots ps p is =
-    let next : distinct_count ps + 1 ≡ suc (distinct_count ps) = omega arith in
-    ap (λ (e : Tos). set p.tos 0 (record e { link = e.link + 1 })) (head_read limit slots ps ps p is)
-    ∙ ap (λ (es : List Tos). set es 0 (record { selfpc = 0; count = 0; link = distinct_count ps + 1 })) is.tos
-    ∙ ap (λ (n : ℕ). set (entries_in limit ps ps) 0 (record { selfpc = 0; count = 0; link = n })) next
+with_next_index-is limit slots ps p is = grind arith
 
 pub with_call_added-full : (limit slots : ℕ) (ps : List Pair) (p : Parts) (s t : ℕ) → IsBlockOf limit slots ps ps p → length p.tos ≡ limit → has same_pair (pair s t) ps ≡ false → limit ≤ suc (distinct_count ps)
     → IsBlockOf limit slots (pushed ps s t) ps (with_call_added s t p)
-with_call_added-full limit slots ps p s t is long absent full =
-    let number = number_read limit slots ps ps p is in
-    let i = (entry_at p 0).link + 1 in
-    let test : ltb i (length p.tos) ≡ false = le-ltb i (length p.tos) (omega arith) in
-    let same : with_next_index p ≡ with_call_added s t p = sym (ap (λ (b : Bool). cond b (with_new_front s t i (with_next_index p)) (with_next_index p)) test) in
-    let P : Parts → Type 0 = λ q. IsBlockOf limit slots (pushed ps s t) ps q in
-    subst P same (record {
-      tos = with_next_index-is limit slots ps p is ∙ entries-over limit ps s t absent;
-      froms = is.froms;
-    })
+with_call_added-full limit slots ps p s t is long absent full = grind (arith, entries-over)
 
 pub with_call_added-new : (limit slots : ℕ) (ps : List Pair) (p : Parts) (s t : ℕ) → IsBlockOf limit slots ps ps p → s < slots → length p.tos ≡ limit → has same_pair (pair s t) ps ≡ false → suc (distinct_count ps) < limit
     → IsBlockOf limit slots (pushed ps s t) (pushed ps s t) (with_call_added s t p)

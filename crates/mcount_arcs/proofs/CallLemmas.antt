@@ -1,5 +1,5 @@
 -- What the begin and the end of a call do to what a log holds.
-use Rattle.std.proofs.Common.{◌≡◌, ℕ, suc, ◌<◌, ◌≤◌, Bool, true, false, List, [], ◌∷◌, ◌++◌, length, Some, None, inl, inr, refl, sym, ap, ◌∙◌, arith, ◌+◌, subst, ◌-◌, length-append, if◌then◌else◌, ◌⊎◌, take}
+use Rattle.std.proofs.Common.{◌≡◌, ℕ, suc, ◌<◌, ◌≤◌, Bool, true, false, List, [], ◌∷◌, ◌++◌, length, Some, None, inl, inr, refl, sym, ap, ◌∙◌, arith, ◌+◌, ◌-◌, length-append, if◌then◌else◌, ◌⊎◌, take}
 use Rattle.std.proofs.lemmas.Option.{none-some, same_Some}
 use Rattle.std.proofs.lemmas.Bool.{cases_Bool, false≢true, cases_lt, lt-leb, le-leb}
 use Rattle.mcount_arcs.specs.Log.{Pair, distinct_count, LogEntry, Sample, is_on, is_busy, walk_in, pair_in, begun_calls, entered_calls, kept_calls, state_of, pending_call, Mode, Enter, WalkDone, CallLost, CallIgnored}
@@ -27,11 +27,7 @@ entered_calls-idle z log idle = ap (λ (b : Bool). entered_of b (begun_calls z l
 
 pub entered_calls-enter : (z : Sizes) (log : List LogEntry) (from to : ℕ) → is_busy log ≡ false → entered_calls z (more log (Enter from to)) ≡ entered_calls z log
 unfolding entered_calls
-entered_calls-enter z log from to idle =
-    ap (λ (b : Bool). entered_of b (begun_calls z (more log (Enter from to)))) (is_busy-enter log from to)
-    ∙ ap without_last (begun_calls-enter z log from to)
-    ∙ without_last-push (begun_calls z log) (pair_of z from to)
-    ∙ sym (entered_calls-idle z log idle)
+entered_calls-enter z log from to idle = search (entered_of, more, is_busy-enter, begun_calls-enter, without_last-push, entered_calls-idle)
 
 pub is_busy-done : (log : List LogEntry) → is_busy (more log WalkDone) ≡ false
 is_busy-done log = ap (last_of false) (one_more walk_in log WalkDone false refl) ∙ last_of-push false (filter_map walk_in log) false
@@ -65,8 +61,7 @@ begun_calls-busy z log d busy =
     ]
 
 pub entered_calls-done : (z : Sizes) (log : List LogEntry) (d : Pair) → is_busy log ≡ true → entered_calls z (more log WalkDone) ≡ entered_calls z log ++ last_of d (begun_calls z log) ∷ []
-entered_calls-done z log d busy =
-    entered_calls-idle z (more log WalkDone) (is_busy-done log) ∙ begun_calls-quiet z log WalkDone refl ∙ begun_calls-busy z log d busy
+entered_calls-done z log d busy = search (entered_calls-idle, more, is_busy-done, begun_calls-quiet, begun_calls-busy)
 
 -- the calls that are kept, where one entered last has no place
 pub kept_calls-full : (z : Sizes) (log : List LogEntry) (ps : List Pair) (p : Pair) → entered_calls z log ≡ ps ++ p ∷ [] → distinct_count ps < z.tolimit → z.tolimit ≤ distinct_count (ps ++ p ∷ []) → 0 < z.tolimit → kept_calls z log ≡ ps
@@ -75,24 +70,10 @@ kept_calls-full z log ps p all places full some =
     let n = length ps in
     let long : length (entered_calls z log) ≡ n + 1 = ap length all ∙ omega (arith, length-append ps (p ∷ [])) in
     let front : take n (entered_calls z log) ≡ ps = ap (take n) all ∙ take_at ps (p ∷ []) n refl in
-    let P : List Pair → Type 0 = λ qs. distinct_count qs ≤ z.tolimit - 1 in
-    let least : n ≤ k = kept_calls-longest z log n (omega arith) (subst P (sym front) (omega arith)) in
-    let most : k ≤ n = elim (cases_lt n k) [
-      | inl over ↦
-          let whole : kept_calls z log ≡ ps ++ p ∷ [] = kept_calls-front z log ∙ take_all k (entered_calls z log) (omega arith) ∙ all in
-          let few : distinct_count (ps ++ p ∷ []) ≤ z.tolimit - 1 = subst P whole (kept_calls-places z log) in
-          absurd (omega arith)
-      | inr le ↦ le
-    ] in
-    let same : k ≡ n = omega arith in
-    kept_calls-front z log ∙ ap (λ (i : ℕ). take i (entered_calls z log)) same ∙ front
+    grind (arith, kept_calls-longest, cases_lt, kept_calls-front, take_all, kept_calls-places)
 
 pub pending_call-enter : (z : Sizes) (log : List LogEntry) (from to : ℕ) → pending_call z (more log (Enter from to)) ≡ Some (pair_of z from to)
-pending_call-enter z log from to =
-    pending_call-by z (more log (Enter from to))
-    ∙ ap (λ (b : Bool). pending_by b (begun_calls z (more log (Enter from to)))) (is_busy-enter log from to)
-    ∙ ap (λ (ps : List Pair). Some (last_of (record { slot = 0; to = 0 }) ps)) (begun_calls-enter z log from to)
-    ∙ ap (λ (p : Pair). Some p) (last_of-push (record { slot = 0; to = 0 }) (begun_calls z log) (pair_of z from to))
+pending_call-enter z log from to = search (pending_call-by, more, pending_by, is_busy-enter, begun_calls-enter, last_of-push)
 
 pub pending_call-idle : (z : Sizes) (log : List LogEntry) → is_busy log ≡ false → pending_call z log ≡ None
 pending_call-idle z log idle = pending_call-by z log ∙ ap (λ (b : Bool). pending_by b (begun_calls z log)) idle
@@ -114,19 +95,11 @@ pub state_of-busy : (z : Sizes) (log : List LogEntry) → is_busy log ≡ true �
 state_of-busy z log busy = state_of-by z log ∙ ap (λ (b : Bool). state_by z.tolimit b (entered_calls z log) (is_on log)) busy
 
 pub is_busy-other : (z : Sizes) (log : List LogEntry) → (state_of z log ≡ Busy → ⊥) → is_busy log ≡ false
-is_busy-other z log other = elim (cases_Bool (is_busy log)) [
-  | inl busy ↦ absurd (other (state_of-busy z log busy))
-  | inr idle ↦ idle
-]
+is_busy-other z log other = grind (arith, state_of-busy)
 
 -- after the end of a call
 pub state_of-done : (z : Sizes) (log : List LogEntry) → distinct_count (entered_calls z (more log WalkDone)) < z.tolimit → state_of z (more log WalkDone) ≡ (if is_on log then On else Off)
-state_of-done z log places =
-    state_of-idle z (more log WalkDone) (is_busy-done log)
-    ∙ ap (λ (b : Bool). if b then Error else (if is_on (more log WalkDone) then On else Off)) (lt-leb z.tolimit (distinct_count (entered_calls z (more log WalkDone))) places)
-    ∙ ap (λ (b : Bool). if b then On else Off) (is_on-same log WalkDone refl)
+state_of-done z log places = search (state_of-idle, more, is_busy-done, lt-leb, is_on-same)
 
 pub state_of-full : (z : Sizes) (log : List LogEntry) → z.tolimit ≤ distinct_count (entered_calls z (more log WalkDone)) → state_of z (more log WalkDone) ≡ Error
-state_of-full z log full =
-    state_of-idle z (more log WalkDone) (is_busy-done log)
-    ∙ ap (λ (b : Bool). if b then Error else (if is_on (more log WalkDone) then On else Off)) (le-leb z.tolimit (distinct_count (entered_calls z (more log WalkDone))) full)
+state_of-full z log full = search (state_of-idle, more, is_busy-done, le-leb)

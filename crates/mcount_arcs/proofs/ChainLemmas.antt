@@ -65,8 +65,7 @@ has-callees (p ∷ ps) slot to = elim (cases_Bool (eqb slot p.slot)) [
 
 -- a callee stands in its slot's chain where the pair was called
 pub has-chain : (ps : List Pair) (slot to : ℕ) → has eqb to (chain_in ps slot) ≡ has same_pair (pair slot to) ps
-has-chain ps slot to =
-    has-distinct eqb eqb-same to (reverse (callees_at slot ps)) ∙ has-reverse eqb to (callees_at slot ps) ∙ has-callees ps slot to
+has-chain ps slot to = search (has-distinct, eqb, eqb-same, reverse, has-reverse, has-callees)
 
 pub in_chain : (ps : List Pair) (slot i x : ℕ) → slice_get (chain_in ps slot) i ≡ Some x → has same_pair (pair slot x) ps ≡ true
 in_chain ps slot i x at = sym (has-chain ps slot x) ∙ at_has eqb eqb-same (chain_in ps slot) i x at
@@ -76,8 +75,7 @@ pub chain_place : (ps : List Pair) (slot to : ℕ) → has same_pair (pair slot 
 chain_place ps slot to there = has_at eqb eqb-same (chain_in ps slot) to (has-chain ps slot to ∙ there)
 
 pub chain-own : (ps : List Pair) (s t : ℕ) → chain_in (pushed ps s t) s ≡ t ∷ without eqb t (chain_in ps s)
-chain-own ps s t =
-    chain-push ps s t s ∙ ap (λ (b : Bool). cond b (t ∷ without eqb t (chain_in ps s)) (chain_in ps s)) (eq-eqb s s refl)
+chain-own ps s t = search (chain-push, without, eqb, eq-eqb)
 
 pub chain-other : (ps : List Pair) (s t slot : ℕ) → eqb s slot ≡ false → chain_in (pushed ps s t) slot ≡ chain_in ps slot
 chain-other ps s t slot other =
@@ -85,16 +83,13 @@ chain-other ps s t slot other =
 
 -- what stands behind the front of the call's own chain: by what stood there before
 pub own-before : (ps : List Pair) (s t i k : ℕ) → slice_get (chain_in ps s) k ≡ Some t → i < k → slice_get (chain_in (pushed ps s t) s) (suc i) ≡ slice_get (chain_in ps s) i
-own-before ps s t i k at lt =
-    ap (λ (c : List ℕ). slice_get c (suc i)) (chain-own ps s t) ∙ without_before eqb eqb-same (chain_in ps s) i k t (chain-once ps s) at lt
+own-before ps s t i k at lt = search (chain-own, without_before, eqb, eqb-same, chain-once)
 
 pub own-behind : (ps : List Pair) (s t i k : ℕ) → slice_get (chain_in ps s) k ≡ Some t → k ≤ i → slice_get (chain_in (pushed ps s t) s) (suc i) ≡ slice_get (chain_in ps s) (suc i)
-own-behind ps s t i k at le =
-    ap (λ (c : List ℕ). slice_get c (suc i)) (chain-own ps s t) ∙ without_behind eqb eqb-same (chain_in ps s) i k t (chain-once ps s) at le
+own-behind ps s t i k at le = search (chain-own, without_behind, eqb, eqb-same, chain-once)
 
 pub own-new : (ps : List Pair) (s t i : ℕ) → has eqb t (chain_in ps s) ≡ false → slice_get (chain_in (pushed ps s t) s) (suc i) ≡ slice_get (chain_in ps s) i
-own-new ps s t i absent =
-    ap (λ (c : List ℕ). slice_get c (suc i)) (chain-own ps s t) ∙ ap (λ (c : List ℕ). slice_get c i) (without-absent eqb t (chain_in ps s) absent)
+own-new ps s t i absent = search (chain-own, without-absent, eqb)
 
 pub own-front : (ps : List Pair) (s t : ℕ) → slice_get (chain_in (pushed ps s t) s) 0 ≡ Some t
 own-front ps s t = ap (λ (c : List ℕ). slice_get c 0) (chain-own ps s t)

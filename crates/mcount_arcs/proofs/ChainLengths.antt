@@ -3,7 +3,7 @@ use Rattle.std.proofs.Common.{◌≡◌, ℕ, zero, suc, ◌<◌, ◌≤◌, tru
 use Rattle.std.proofs.lemmas.Bool.{cases_Bool, false≢true, or_cases, eqb-true, ne_eqb, cases_eq}
 use Rattle.std.proofs.lemmas.Grind.{reverse_onto}
 use Rattle.mcount_arcs.specs.Log.{Pair, same_pair, distinct_count}
-use Rattle.mcount_arcs.specs.Arcs.{chain_in, arcs_in, slot_arcs, arc_of_pairs}
+use Rattle.mcount_arcs.specs.Arcs.{chain_in, arcs_in, slot_arcs}
 use Rattle.std.proofs.lemmas.List.{length-map, reverse-reverse}
 use Rattle.std.specs.List.{flat_map, range_with_len, sum_by}
 use Rattle.mcount_arcs.specs.declared.sizes.Sizes.{Sizes}
@@ -23,10 +23,7 @@ by_pushes {X} P none more xs =
 
 length-without : (t : ℕ) (xs : List ℕ) → length (without eqb t xs) ≤ length xs
 length-without t [] = omega arith
-length-without t (y ∷ ys) = elim (cases_Bool (eqb t y)) [
-  | inl e ↦ simp e (omega (arith, length-without t ys))
-  | inr e ↦ simp e (omega (arith, length-without t ys))
-]
+length-without t (y ∷ ys) = grind (arith, length-without t ys)
 
 length-without_one : (t : ℕ) (xs : List ℕ) → has eqb t xs ≡ true → length (without eqb t xs) < length xs
 length-without_one t [] there = absurd (false≢true there)
@@ -39,10 +36,7 @@ length-without_one t (y ∷ ys) there = elim (cases_Bool (eqb t y)) [
 ]
 
 count-grows : (ps : List Pair) (s t : ℕ) → distinct_count ps ≤ distinct_count (pushed ps s t)
-count-grows ps s t = elim (cases_Bool (has same_pair (pair s t) ps)) [
-  | inl there ↦ omega (arith, count-old ps s t there)
-  | inr absent ↦ omega (arith, count-new ps s t absent)
-]
+count-grows ps s t = grind (arith, count-old, count-new)
 
 chain_short_push : (slot : ℕ) (ps : List Pair) (p : Pair) → length (chain_in ps slot) ≤ distinct_count ps → length (chain_in (ps ++ p ∷ []) slot) ≤ distinct_count (ps ++ p ∷ [])
 chain_short_push slot ps p short = elim (cases_Bool (eqb p.slot slot)) [
@@ -65,26 +59,18 @@ chain_more : (ps : List Pair) (p : Pair) (slot : ℕ) → (eqb p.slot slot ≡ f
 chain_more ps p slot other = ap length (chain-other ps p.slot p.to slot other)
 
 chain_old : (ps : List Pair) (p : Pair) → has same_pair p ps ≡ true → length (chain_in (ps ++ p ∷ []) p.slot) ≤ length (chain_in ps p.slot)
-chain_old ps p there =
-    omega (arith, ap length (chain-own ps p.slot p.to), length-without_one p.to (chain_in ps p.slot) (has-chain ps p.slot p.to ∙ there))
+chain_old ps p there = grind (arith, chain-own, length-without_one, has-chain)
 
 chain_new : (ps : List Pair) (p : Pair) → length (chain_in (ps ++ p ∷ []) p.slot) ≤ length (chain_in ps p.slot) + 1
 chain_new ps p = omega (arith, ap length (chain-own ps p.slot p.to), length-without p.to (chain_in ps p.slot))
 
 sum_le : (f g : ℕ → ℕ) (a n : ℕ) → ((k : ℕ) → a ≤ k → f k ≤ g k) → sum_by f (range_with_len a n) ≤ sum_by g (range_with_len a n)
 sum_le f g a zero le = omega arith
-sum_le f g a (suc n) le =
-    omega (arith, sum_by-cons f a (range_with_len (a + 1) n), sum_by-cons g a (range_with_len (a + 1) n), le a (omega arith), sum_le f g (a + 1) n (λ k h. le k (omega arith)))
+sum_le f g a (suc n) le = grind (arith, sum_by-cons, sum_le f g (a + 1) n)
 
 sum_one : (f g : ℕ → ℕ) (s a n : ℕ) → ((k : ℕ) → (s ≡ k → ⊥) → f k ≤ g k) → f s ≤ g s + 1 → sum_by f (range_with_len a n) ≤ sum_by g (range_with_len a n) + 1
 sum_one f g s a zero le one = omega arith
-sum_one f g s a (suc n) le one = elim (cases_eq s a) [
-  | inl e ↦
-      let P : ℕ → Type 0 = λ k. f k ≤ g k + 1 in
-      omega (arith, sum_by-cons f a (range_with_len (a + 1) n), sum_by-cons g a (range_with_len (a + 1) n), subst P e one, sum_le f g (a + 1) n (λ k h. le k (λ y. omega arith)))
-  | inr ne ↦
-      omega (arith, sum_by-cons f a (range_with_len (a + 1) n), sum_by-cons g a (range_with_len (a + 1) n), le a ne, sum_one f g s (a + 1) n le one)
-]
+sum_one f g s a (suc n) le one = grind (arith, sum_by-cons, sum_le, sum_one f g s (a + 1) n le one)
 
 all_chains : ℕ → List Pair → ℕ
 all_chains slots ps = sum_by (λ k. length (chain_in ps k)) (range_with_len 0 slots)
@@ -115,8 +101,7 @@ chains_few slots ps = by_pushes (λ qs. all_chains slots qs ≤ distinct_count q
 
 length_arcs : (z : Sizes) (ps : List Pair) (a n : ℕ) → length (flat_map (slot_arcs z ps) (range_with_len a n)) ≡ sum_by (λ k. length (chain_in ps k)) (range_with_len a n)
 length_arcs z ps a zero = refl
-length_arcs z ps a (suc n) =
-    omega (arith, sum_by-cons (λ k. length (chain_in ps k)) a (range_with_len (a + 1) n), length-append (slot_arcs z ps a) (flat_map (slot_arcs z ps) (range_with_len (a + 1) n)), length-map (chain_in ps a) (arc_of_pairs z ps a), length_arcs z ps (a + 1) n)
+length_arcs z ps a (suc n) = search (sum_by-cons, length-append, length-map, length_arcs z ps (a + 1) n)
 
 pub arcs_few : (z : Sizes) (ps : List Pair) → length (arcs_in z ps) ≤ distinct_count ps
 unfolding all_chains

@@ -1,19 +1,18 @@
 -- What follows from the empty log, and a new runtime, which stands for it.
 use Rattle.std.proofs.lemmas.List.Elements.{All-replicate}
-use Rattle.std.proofs.Common.{All, subst, ◌≡◌, ℕ, zero, suc, ◌≤◌, Bool, true, List, [], ◌∷◌, ◌++◌, length, refl, sym, ap, ◌∙◌, arith, ◌+◌, ◌-◌, map, replicate, if◌then◌else◌, slice_index, slice_index_or}
+use Rattle.std.proofs.Common.{All, subst, ◌≡◌, ℕ, zero, suc, ◌≤◌, true, List, [], ◌∷◌, ◌++◌, length, refl, sym, ap, ◌∙◌, arith, ◌+◌, map, replicate, slice_index, slice_index_or}
 use Rattle.gmon_block.specs.declared.entry.Tos.{Tos}
-use Rattle.mcount_arcs.specs.Log.{Pair, entered_calls, kept_calls, state_of, IsLegal}
-use Rattle.mcount_arcs.specs.Image.{front_in, entries_in, fronts_in, entries_of, fronts_of}
+use Rattle.mcount_arcs.specs.Log.{entered_calls, kept_calls, state_of, IsLegal}
+use Rattle.mcount_arcs.specs.Image.{front_in, fronts_in, entries_of, fronts_of}
 use Rattle.gmon_block.specs.Layout.{EntryFits, EntryFits, no_entry, Parts}
 use Rattle.std.specs.List.{flat_map, range_with_len}
-use Rattle.std.proofs.lemmas.Bool.{lt-leb}
 use Rattle.mcount_arcs.specs.declared.sizes.Sizes.{Sizes}
 use Rattle.mcount_arcs.specs.declared.sizes.Width.{Width}
-use Rattle.mcount_arcs.specs.declared.state.State.TheVariants.{On, Busy, Error}
+use Rattle.mcount_arcs.specs.declared.state.State.TheVariants.{On, Busy}
 use Rattle.mcount_arcs.specs.Arcs.{arcs_of, slot_arcs}
 use Rattle.std.proofs.lemmas.List.{length-replicate, get_or-replicate}
-use Rattle.mcount_arcs.specs.Sizes.{AreSizes, IsWidth, site_of}
-use Rattle.mcount_arcs.specs.Held.{linked_entries, arc_read, slot_read, arcs_read, view_of, IsHeld}
+use Rattle.mcount_arcs.specs.Sizes.{AreSizes, IsWidth}
+use Rattle.mcount_arcs.specs.Held.{arcs_read, view_of, IsHeld}
 use Rattle.mcount_arcs.specs.declared.gmon.Cursor.{Cursor}
 use Rattle.mcount_arcs.specs.Value.{StandsFor}
 use Rattle.mcount_arcs.proofs.LinkLemmas.{linked_zero}
@@ -23,8 +22,7 @@ use Rattle.mcount_arcs.proofs.CallLemmas.{pending_call-idle}
 -- at first
 pub state_of-nil : (z : Sizes) → 50 ≤ z.tolimit → state_of z [] ≡ On
 unfolding state_of entered_calls
-state_of-nil z least =
-    ap (λ (b : Bool). if b then Error else On) (lt-leb z.tolimit 0 (omega arith))
+state_of-nil z least = grind arith
 
 pub flat_map-none : {X Y : Type 0} (f : X → List Y) → ((x : X) → f x ≡ []) → (xs : List X) → flat_map f xs ≡ []
 flat_map-none f none [] = refl
@@ -48,11 +46,7 @@ IsLegal-nil z = tt
 
 pub entries_of-nil : (z : Sizes) → 50 ≤ z.tolimit → replicate z.tolimit no_entry ≡ entries_of z []
 unfolding entries_of
-entries_of-nil z least =
-    let some : z.tolimit ≡ suc (z.tolimit - 1 - 0) = omega arith in
-    ap (λ (n : ℕ). replicate n no_entry) some
-    ∙ ap (λ (ps : List Pair). entries_in z.tolimit ps []) (sym (entered_calls-nil z))
-    ∙ ap (entries_in z.tolimit (entered_calls z [])) (sym (kept_calls-nil z))
+entries_of-nil z least = grind (arith, entered_calls-nil, kept_calls-nil)
 
 zeros : (a n : ℕ) → replicate n 0 ≡ map (front_in []) (range_with_len a n)
 zeros a zero = refl
@@ -68,9 +62,7 @@ slice_index-zeros (suc n) zero = refl
 slice_index-zeros (suc n) (suc i) = slice_index-zeros n i
 
 pub arcs_read-none : (z : Sizes) (tos : List Tos) (froms : List ℕ) (n : ℕ) → froms ≡ replicate n 0 → arcs_read z tos froms ≡ []
-arcs_read-none z tos froms n none =
-    ap (arcs_read z tos) none
-    ∙ flat_map-none (slot_read z tos (replicate n 0)) (λ slot. ap (λ (i : ℕ). map (arc_read (site_of z slot)) (linked_entries (length tos) tos i)) (slice_index-zeros n slot) ∙ ap (map (arc_read (site_of z slot))) (linked_zero (length tos) tos)) (range_with_len 0 z.slots)
+arcs_read-none z tos froms n none = grind (arith, flat_map-none, slice_index-zeros, linked_zero)
 
 -- a new one has no log
 pub StandsFor-nil : (z : Sizes) (block : Parts) → AreSizes z → block.tos ≡ replicate z.tolimit no_entry → block.counters ≡ replicate z.counters 0 → block.froms ≡ replicate z.slots 0

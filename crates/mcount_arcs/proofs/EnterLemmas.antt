@@ -72,11 +72,8 @@ held_entered a from to slot at held on slot_is site read room =
 
 -- the offset as the code has it
 pub offset_is : (z : Sizes) (from : ℕ) → AreSizes z → (from + (4294967296 - z.low)) % 4294967296 ≡ offset_of z from
-offset_is z from are =
-    let same : from + (4294967296 - z.low) ≡ from + 4294967296 - z.low = omega (arith, are.counters, are.end) in
-    ap (λ (n : ℕ). n % 4294967296) same
+offset_is z from are = grind arith
 
 -- and the slot
 pub slot_is : (z : Sizes) (from : ℕ) (w : Width) → AreSizes z → IsWidth z.hash w → (from + (4294967296 - z.low)) % 4294967296 / 2 ^ w.bits ≡ slot_of z from
-slot_is z from w are is =
-    ap (λ (n : ℕ). n / 2 ^ w.bits) (offset_is z from are) ∙ part_is z.hash (offset_of z from) w is
+slot_is z from w are is = search (offset_is, part_is)

@@ -1,5 +1,5 @@
 -- What one call more does to the entries of pairs, and to the fronts of slots.
-use Rattle.std.proofs.Common.{◌≡◌, ℕ, zero, suc, ◌<◌, ◌≤◌, Bool, true, false, not, cond, eqb, List, [], ◌∷◌, ◌++◌, length, Some, inl, inr, refl, sym, ap, ◌∙◌, arith, ◌+◌, Option, subst}
+use Rattle.std.proofs.Common.{◌≡◌, ℕ, zero, suc, ◌<◌, ◌≤◌, Bool, true, false, not, cond, eqb, List, [], ◌∷◌, ◌++◌, length, Some, inl, inr, refl, sym, ap, ◌∙◌, arith, ◌+◌, subst}
 use Rattle.std.proofs.lemmas.Option.{same_Some}
 use Rattle.std.specs.List.{filter, slice_get, count_by}
 use Rattle.std.proofs.lemmas.Bool.{cases_Bool, false≢true, false_from_ne_true, and_parts, or_parts, not-true, eq-eqb, eqb-true, cases_lt, and_left, and_right, ne_eqb}
@@ -13,18 +13,14 @@ use Rattle.mcount_arcs.proofs.ChainLemmas.{pair, pair-same, pushed, chain-push, 
 use Rattle.mcount_arcs.proofs.IndexLemmas.{index_at-chain, has_index, has_no_index}
 
 pub first_at_zero : (xs : List ℕ) → first_of xs ≡ slice_get xs 0
-first_at_zero [] = refl
-first_at_zero (x ∷ xs) = refl
+first_at_zero xs = grind arith
 
 next_at : (xs : List ℕ) (i x : ℕ) → once eqb xs ≡ true → slice_get xs i ≡ Some x → next_after x xs ≡ slice_get xs (suc i)
 next_at [] i x o at = refl
-next_at (y ∷ ys) zero x o at =
-    let e : eqb y x ≡ true = eq-eqb y x (same_Some y x at) in simp e (first_at_zero ys)
+next_at (y ∷ ys) zero x o at = search (eqb, eq-eqb, same_Some, first_at_zero)
 next_at (y ∷ ys) (suc i) x o at =
     let parts = and_parts (not (has eqb y ys)) (once eqb ys) o in
-    let absent = not-true (has eqb y ys) parts.0 in
-    let e : eqb y x ≡ false = false_from_ne_true (eqb y x) (λ e. false≢true (sym absent ∙ ap (λ z. has eqb z ys) (eqb-true y x e) ∙ at_has eqb eqb-same ys i x at)) in
-    simp e (next_at ys i x parts.1 at)
+    grind (arith, not-true, has, eqb, false_from_ne_true, false≢true, eqb-true, at_has, eqb-same, next_at ys i x parts.1 at)
 
 abbrev pub count_of : List Pair → ℕ → ℕ → ℕ
 count_of ps slot to = count_by (same_pair (pair slot to)) ps
@@ -32,8 +28,7 @@ count_of ps slot to = count_by (same_pair (pair slot to)) ps
 -- the entry of the i-th of a chain
 pub entry-at : (ps : List Pair) (slot i to : ℕ) → slice_get (chain_in ps slot) i ≡ Some to
     → entry_in ps (pair slot to) ≡ record { selfpc = to; count = count_of ps slot to; link = index_at ps slot (slice_get (chain_in ps slot) (suc i)) }
-entry-at ps slot i to at =
-    ap (λ (o : Option ℕ). record { selfpc = to; count = count_of ps slot to; link = index_at ps slot o }) (next_at (chain_in ps slot) i to (chain-once ps slot) at)
+entry-at ps slot i to at = grind (arith, next_at, chain-once)
 
 abbrev pub tos : (selfpc count : ℕ) → ℕ → Tos
 tos selfpc count link = record { selfpc = selfpc; count = count; link = link }
@@ -59,18 +54,14 @@ entry-other_slot ps s t slot to other there =
 
 -- an entry, by where its callee stands in the chain
 pub entry-is : (ps : List Pair) (slot i to n l : ℕ) → slice_get (chain_in ps slot) i ≡ Some to → count_of ps slot to ≡ n → index_at ps slot (slice_get (chain_in ps slot) (suc i)) ≡ l → entry_in ps (pair slot to) ≡ tos to n l
-entry-is ps slot i to n l at count link =
-    entry-at ps slot i to at
-    ∙ ap (λ (m : ℕ). tos to m (index_at ps slot (slice_get (chain_in ps slot) (suc i)))) count
-    ∙ ap (tos to n) link
+entry-is ps slot i to n l at count link = grind (arith, entry-at)
 
 count-other : (ps : List Pair) (s t x : ℕ) → eqb x t ≡ false → count_of (pushed ps s t) s x ≡ count_of ps s x
 count-other ps s t x differ =
     count-push ps s t s x ∙ ap (λ (b : Bool). count_of ps s x + cond b 1 0) (and_right (eqb s s) (eqb x t) differ) ∙ omega arith
 
 count-self : (ps : List Pair) (s t : ℕ) → count_of (pushed ps s t) s t ≡ count_of ps s t + 1
-count-self ps s t =
-    count-push ps s t s t ∙ ap (λ (b : Bool). count_of ps s t + cond b 1 0) (pair-same.self (pair s t))
+count-self ps s t = search (count-push, pair, pair-same.self)
 
 -- an entry of the chain stays, if its callee is neither the one called nor the one before it
 pub entry-unmoved : (ps : List Pair) (s t k i x : ℕ) → slice_get (chain_in ps s) k ≡ Some t → slice_get (chain_in ps s) i ≡ Some x → (i ≡ k → ⊥) → (suc i ≡ k → ⊥) → entry_in (pushed ps s t) (pair s x) ≡ entry_in ps (pair s x)
@@ -132,9 +123,7 @@ pub front-own : (ps : List Pair) (s t : ℕ) → front_in (pushed ps s t) s ≡ 
 front-own ps s t = ap (λ (c : List ℕ). index_at (pushed ps s t) s (first_of c)) (chain-own ps s t)
 
 pub front-other : (ps : List Pair) (s t slot : ℕ) → eqb s slot ≡ false → front_in (pushed ps s t) slot ≡ front_in ps slot
-front-other ps s t slot other =
-    ap (λ (c : List ℕ). index_at (pushed ps s t) slot (first_of c)) (chain-other ps s t slot other)
-    ∙ ap (index_at (pushed ps s t) slot) (first_at_zero (chain_in ps slot)) ∙ index_at-chain ps s t slot 0 ∙ ap (index_at ps slot) (sym (first_at_zero (chain_in ps slot)))
+front-other ps s t slot other = search (pushed, chain-other, first_at_zero, index_at-chain)
 
 pub by_slot : (P : Pair → Type 0) (s : ℕ) (q : Pair) → (eqb s q.slot ≡ false → P q) → ((x : ℕ) → q ≡ pair s x → P (pair s x)) → P q
 by_slot P s q other own = elim (cases_Bool (eqb s q.slot)) [
@@ -144,16 +133,11 @@ by_slot P s q other own = elim (cases_Bool (eqb s q.slot)) [
 ]
 
 pub agree-new : (ps : List Pair) (s t : ℕ) → has same_pair (pair s t) ps ≡ false → (q : Pair) → has same_pair q ps ≡ true → entry_in ps q ≡ entry_in (pushed ps s t) q
-agree-new ps s t absent q there =
-    by_slot (λ r. has same_pair r ps ≡ true → entry_in ps r ≡ entry_in (pushed ps s t) r) s q
-    (λ other h. sym (entry-other_slot ps s t q.slot q.to other h))
-    (λ x same h. let place = chain_place ps s x h in sym (entry-old ps s t place.0 x absent place.1))
-    there
+agree-new ps s t absent q there = grind (arith, entry-other_slot, chain_place, entry-old)
 
 -- of a call that is new no other entry changes
 pub entries_stay_new : (pairs : List Pair) (p q : Pair) → index_in pairs p ≡ 0 → 0 < index_in pairs q → entry_in (pairs ++ p ∷ []) q ≡ entry_in pairs q
-entries_stay_new pairs p q none some =
-    sym (agree-new pairs p.slot p.to (has_no_index pairs p none) q (has_index pairs q some))
+entries_stay_new pairs p q none some = grind (arith, agree-new, has_no_index, has_index)
 
 -- and of one that isn't, none but its own and the one that is linked to it
 pub entries_stay : (pairs : List Pair) (p q : Pair) → 0 < index_in pairs p → 0 < index_in pairs q → (q ≡ p → ⊥) → ((entry_in pairs q).link ≡ index_in pairs p → ⊥) → entry_in (pairs ++ p ∷ []) q ≡ entry_in pairs q

@@ -1,8 +1,8 @@
 -- The lists of entries and of fronts: what is read in them, and the writes that make those of one call more.
 use Rattle.std.proofs.Common.{◌≡◌, ℕ, zero, suc, ◌<◌, Bool, true, false, not, cond, eqb, List, [], ◌∷◌, ◌++◌, length, Some, inl, inr, refl, sym, ap, ◌∙◌, arith, ◌+◌, subst, ◌-◌, get_or, set, map, replicate, length-append, get_or-set_other, get_or-set_same, length-set}
-use Rattle.std.proofs.lemmas.Option.{none-some, same_Some, slice_get-map}
+use Rattle.std.proofs.lemmas.Option.{none-some, slice_get-map}
 use Rattle.std.specs.List.{slice_get}
-use Rattle.std.proofs.lemmas.Bool.{cases_Bool, false≢true, false_from_ne_true, and_parts, or_right, not-true, eq-eqb, eqb-true, and_from, or_left, eqb-false}
+use Rattle.std.proofs.lemmas.Bool.{cases_Bool, false≢true, false_from_ne_true, and_parts, or_right, not-true, eqb-true, or_left, eqb-false}
 use Rattle.mcount_arcs.specs.Lists.{distinct}
 use Rattle.std.specs.Option.{option_map}
 use Rattle.gmon_block.specs.declared.entry.Tos.{Tos}
@@ -20,51 +20,33 @@ use Rattle.mcount_arcs.proofs.EntryLemmas.{first_at_zero, count_of, tos, entry-o
 -- two functions that agree on what stands in a list
 map_agree : {X Y : Type 0} (same : X → X → Bool) → IsSame same → (f g : X → Y) (ds : List X) → ((q : X) → has same q ds ≡ true → f q ≡ g q) → map f ds ≡ map g ds
 map_agree same law f g [] agree = refl
-map_agree {X} {Y} same law f g (d ∷ ds) agree =
-    ap (λ (y : Y). y ∷ map f ds) (agree d (or_left (same d d) (has same d ds) (law.self d)))
-    ∙ ap (λ (ys : List Y). g d ∷ ys) (map_agree same law f g ds (λ q there. agree q (or_right (same q d) (has same q ds) there)))
+map_agree {X} {Y} same law f g (d ∷ ds) agree = grind (arith, map_agree same law f g ds)
 
 -- a write at the place of one item, where the two functions differ
 set_one : {X Y : Type 0} (same : X → X → Bool) → IsSame same → (f g : X → Y) (ds : List X) (rest : List Y) (i : ℕ) (p : X) → once same ds ≡ true → slice_get ds i ≡ Some p
     → ((q : X) → has same q ds ≡ true → same p q ≡ false → f q ≡ g q) → set (map f ds ++ rest) i (g p) ≡ map g ds ++ rest
 set_one same law f g [] rest i p o at agree = absurd (none-some p at)
-set_one {X} {Y} same law f g (d ∷ ds) rest zero p o at agree =
-    let parts = and_parts (not (has same d ds)) (once same ds) o in
-    let absent = not-true (has same d ds) parts.0 in
-    let e = same_Some d p at in
-    ap (λ (z : X). g z ∷ map f ds ++ rest) (sym e)
-    ∙ ap (λ (ys : List Y). g d ∷ ys ++ rest) (map_agree same law f g ds (λ q there.
-    agree q (or_right (same q d) (has same q ds) there) (false_from_ne_true (same p q) (λ y. false≢true (sym absent ∙ ap (λ (z : X). has same z ds) (e ∙ law.equal p q y) ∙ there)))))
+set_one {X} {Y} same law f g (d ∷ ds) rest zero p o at agree = grind (arith, map_agree)
 set_one {X} {Y} same law f g (d ∷ ds) rest (suc i) p o at agree =
     let parts = and_parts (not (has same d ds)) (once same ds) o in
-    let absent = not-true (has same d ds) parts.0 in
-    let there = at_has same law ds i p at in
-    ap (λ (y : Y). y ∷ set (map f ds ++ rest) i (g p)) (agree d (or_left (same d d) (has same d ds) (law.self d)) (false_from_ne_true (same p d) (λ y. false≢true (sym absent ∙ ap (λ (z : X). has same z ds) (sym (law.equal p d y)) ∙ there))))
-    ∙ ap (λ (ys : List Y). g d ∷ ys) (set_one same law f g ds rest i p parts.1 at (λ q there_q differ. agree q (or_right (same q d) (has same q ds) there_q) differ))
+    grind (arith, not-true, has, at_has, set, or_left, false_from_ne_true, false≢true, or_right, set_one same law f g ds rest i p parts.1 at)
 
 -- the same in the entries, which have one in front
 set_entry : (f g : Pair → Tos) (head : Tos) (ps : List Pair) (rest : List Tos) (p : Pair) → has same_pair p ps ≡ true
     → ((q : Pair) → has same_pair q ps ≡ true → same_pair p q ≡ false → f q ≡ g q)
     → set (head ∷ map f (distinct same_pair ps) ++ rest) (index_in ps p) (g p) ≡ head ∷ map g (distinct same_pair ps) ++ rest
-set_entry f g head ps rest p there agree =
-    let ds = distinct same_pair ps in
-    let place = place_of ps p there in
-    ap (λ (i : ℕ). set (head ∷ map f ds ++ rest) i (g p)) (index-at ps place.0 p place.1)
-    ∙ ap (λ (es : List Tos). head ∷ es) (set_one same_pair pair-same f g ds rest place.0 p (once-distinct same_pair ps) place.1 (λ q there_q differ. agree q (sym (has-distinct same_pair pair-same q ps) ∙ there_q) differ))
+set_entry f g head ps rest p there agree = grind (arith, place_of, index-at, set_one, once-distinct, has-distinct)
 
 abbrev blank : ℕ → List Pair → List Tos
 blank limit ps = replicate (limit - 1 - distinct_count ps) no_entry
 
 -- another callee stands at another place
 not_same : (ps : List Pair) (s t x k i : ℕ) → slice_get (chain_in ps s) k ≡ Some t → slice_get (chain_in ps s) i ≡ Some x → same_pair (pair s t) (pair s x) ≡ false → i ≡ k → ⊥
-not_same ps s t x k i at also differ e =
-    let one : Some t ≡ Some x = sym at ∙ ap (slice_get (chain_in ps s)) (sym e) ∙ also in
-    false≢true (sym differ ∙ and_from (eqb s s) (eqb t x) (eq-eqb s s refl) (eq-eqb t x (same_Some t x one)))
+not_same ps s t x k i at also differ e = grind arith
 
 same_entries : (limit : ℕ) (ps : List Pair) (s t : ℕ) → has same_pair (pair s t) ps ≡ true
     → entries_in limit (pushed ps s t) (pushed ps s t) ≡ first_entry ps ∷ map (entry_in (pushed ps s t)) (distinct same_pair ps) ++ blank limit ps
-same_entries limit ps s t there =
-    ap (λ (ds : List Pair). record { selfpc = 0; count = 0; link = length ds } ∷ map (entry_in (pushed ps s t)) ds ++ replicate (limit - 1 - length ds) no_entry) (distinct-old ps s t there)
+same_entries limit ps s t there = search (pushed, replicate, distinct-old)
 
 -- at the front
 pub entries-front : (limit : ℕ) (ps : List Pair) (s t : ℕ) → slice_get (chain_in ps s) 0 ≡ Some t → has same_pair (pair s t) ps ≡ true
@@ -123,8 +105,7 @@ fronts-front slots ps s t at there =
 -- the table is full: only the number of different pairs changes
 pub entries-over : (limit : ℕ) (ps : List Pair) (s t : ℕ) → has same_pair (pair s t) ps ≡ false
     → set (entries_in limit ps ps) 0 (record { selfpc = 0; count = 0; link = suc (distinct_count ps) }) ≡ entries_in limit (pushed ps s t) ps
-entries-over limit ps s t absent =
-    ap (λ (n : ℕ). record { selfpc = 0; count = 0; link = n } ∷ map (entry_in ps) (distinct same_pair ps) ++ blank limit ps) (sym (count-new ps s t absent))
+entries-over limit ps s t absent = search count-new
 
 -- the next entry is its own
 pub entries-new : (limit : ℕ) (ps : List Pair) (s t : ℕ) → has same_pair (pair s t) ps ≡ false → suc (distinct_count ps) < limit
@@ -178,8 +159,7 @@ pub read-front : (slots : ℕ) (ps : List Pair) (s : ℕ) → s < slots → get_
 read-front slots ps s lt = get_or-map-range_with_len (front_in ps) 0 slots s s 0 lt (omega arith)
 
 pub length-entries_in : (limit : ℕ) (all ps : List Pair) → distinct_count ps < limit → length (entries_in limit all ps) ≡ limit
-length-entries_in limit all ps places =
-    omega (arith, length-append (map (entry_in ps) (distinct same_pair ps)) (replicate (limit - 1 - distinct_count ps) no_entry), length-map (distinct same_pair ps) (entry_in ps), length-replicate (limit - 1 - distinct_count ps) no_entry)
+length-entries_in limit all ps places = grind (arith, length-append, length-map, length-replicate)
 
 pub length-fronts : (slots : ℕ) (ps : List Pair) → length (fronts_in slots ps) ≡ slots
 length-fronts slots ps = length-map-range_with_len (front_in ps) 0 slots

@@ -11,17 +11,5 @@ use Rattle.mcount_arcs.specs.Value.{StandsFor}
 -- another state, another mode and another walk
 pub held_with : (a : Inside) (s : State) (on : Bool) (c : Cursor) (log : List LogEntry) → IsHeld a → StandsFor log (view_of (record a { state = s; sampling = on; cursor = c })) → (a.state ≡ Error → s ≡ Error) → (s ≡ Busy → IsAt a.block c) → (s ≡ Busy → a.calls < 4294967295)
     → IsHeld (record a { state = s; sampling = on; cursor = c })
-held_with a s on c log held stands run_out at room = record {
-  sizes = held.sizes;
-  counter_width = held.counter_width;
-  slot_width = held.slot_width;
-  tos = held.tos;
-  counters = held.counters;
-  froms = held.froms;
-  fits = held.fits;
-  log = log;
-  stands = stands;
-  free = λ other. held.free (λ error. other (run_out error));
-  at = at;
-  room = room;
-}
+held_with a s on c log held stands run_out at room =
+    search (held.sizes, held.counter_width, held.slot_width, held.tos, held.counters, held.froms, held.fits, held.free)

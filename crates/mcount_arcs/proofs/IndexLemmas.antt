@@ -1,10 +1,9 @@
 -- The indices of pairs: one to each pair that was called, and what one call more does to them.
-use Rattle.std.proofs.Common.{◌≡◌, ℕ, zero, suc, ◌<◌, ◌≤◌, Bool, true, false, cond, List, [], ◌∷◌, ◌++◌, length, Some, None, inl, inr, refl, sym, ap, ◌∙◌, arith, ◌+◌, Option, subst, get_or, length-append, ◌⊎◌}
-use Rattle.std.proofs.lemmas.Option.{none-some, same_Some, slice_get_within, slice_get_past, slice_get-get_or}
+use Rattle.std.proofs.Common.{◌≡◌, ℕ, zero, suc, ◌<◌, ◌≤◌, true, false, List, [], ◌∷◌, ◌++◌, length, Some, inl, inr, refl, sym, ap, ◌∙◌, arith, ◌+◌, subst, get_or, length-append, ◌⊎◌}
+use Rattle.std.proofs.lemmas.Option.{none-some, same_Some, slice_get_past, slice_get-get_or}
 use Rattle.std.specs.List.{slice_get}
-use Rattle.std.proofs.lemmas.Bool.{cases_Bool, false_from_ne_true, cases_lt, true_from_ne_false}
+use Rattle.std.proofs.lemmas.Bool.{cases_Bool, cases_lt}
 use Rattle.mcount_arcs.specs.Lists.{distinct}
-use Rattle.std.specs.Option.{option_map, unwrap_or}
 use Rattle.mcount_arcs.specs.Log.{Pair, same_pair, distinct_count}
 use Rattle.mcount_arcs.specs.Arcs.{chain_in}
 use Rattle.mcount_arcs.specs.Image.{index_in, index_at}
@@ -22,24 +21,20 @@ slice_get-push (y ∷ xs) x = slice_get-push xs x
 
 -- the index of the pair that is the i-th to come first
 pub index-at : (ps : List Pair) (i : ℕ) (p : Pair) → slice_get (distinct same_pair ps) i ≡ Some p → index_in ps p ≡ suc i
-index-at ps i p at =
-    ap (λ (o : Option ℕ). unwrap_or (option_map suc o) 0) (position_at same_pair pair-same (same_pair p) p (λ q. refl) (distinct same_pair ps) i (once-distinct same_pair ps) at)
+index-at ps i p at = grind (arith, position_at, pair-same, once-distinct)
 
 pub index-absent : (ps : List Pair) (p : Pair) → has same_pair p ps ≡ false → index_in ps p ≡ 0
-index-absent ps p absent =
-    ap (λ (o : Option ℕ). unwrap_or (option_map suc o) 0) (position_absent same_pair (same_pair p) p (λ q. refl) (distinct same_pair ps) (has-distinct same_pair pair-same p ps ∙ absent))
+index-absent ps p absent = grind (arith, position_absent, has-distinct)
 
 -- each pair that was called has an index, and it stands there among the different ones
 pub place_of : (ps : List Pair) (p : Pair) → has same_pair p ps ≡ true → (i : ℕ) × (slice_get (distinct same_pair ps) i ≡ Some p)
 place_of ps p there = has_at same_pair pair-same (distinct same_pair ps) p (has-distinct same_pair pair-same p ps ∙ there)
 
 pub distinct-old : (ps : List Pair) (s t : ℕ) → has same_pair (pair s t) ps ≡ true → distinct same_pair (pushed ps s t) ≡ distinct same_pair ps
-distinct-old ps s t there =
-    distinct-push same_pair pair-same ps (pair s t) ∙ ap (λ (b : Bool). cond b (distinct same_pair ps) (distinct same_pair ps ++ pair s t ∷ [])) there
+distinct-old ps s t there = grind (arith, distinct-push)
 
 pub distinct-new : (ps : List Pair) (s t : ℕ) → has same_pair (pair s t) ps ≡ false → distinct same_pair (pushed ps s t) ≡ distinct same_pair ps ++ pair s t ∷ []
-distinct-new ps s t absent =
-    distinct-push same_pair pair-same ps (pair s t) ∙ ap (λ (b : Bool). cond b (distinct same_pair ps) (distinct same_pair ps ++ pair s t ∷ [])) absent
+distinct-new ps s t absent = grind (arith, distinct-push)
 
 -- an index stays
 pub index-old : (ps : List Pair) (s t : ℕ) (q : Pair) → has same_pair q ps ≡ true → index_in (pushed ps s t) q ≡ index_in ps q
@@ -54,39 +49,23 @@ index-old ps s t q there =
 
 -- a new pair has the next index
 pub index-new : (ps : List Pair) (s t : ℕ) → has same_pair (pair s t) ps ≡ false → index_in (pushed ps s t) (pair s t) ≡ suc (distinct_count ps)
-index-new ps s t absent =
-    let P : List Pair → Type 0 = λ ds. slice_get ds (distinct_count ps) ≡ Some (pair s t) in
-    index-at (pushed ps s t) (distinct_count ps) (pair s t) (subst P (sym (distinct-new ps s t absent)) (slice_get-push (distinct same_pair ps) (pair s t)))
-
--- the index of what stands in a chain stays
-pub index_at-old : (ps : List Pair) (s t slot : ℕ) (o : Option ℕ) → ((x : ℕ) → o ≡ Some x → has same_pair (pair slot x) ps ≡ true) → index_at (pushed ps s t) slot o ≡ index_at ps slot o
-index_at-old ps s t slot None there = refl
-index_at-old ps s t slot (Some x) there = index-old ps s t (pair slot x) (there x refl)
+index-new ps s t absent = search (pair, index-at, pushed, distinct-new, slice_get-push)
 
 pub index_at-chain : (ps : List Pair) (s t slot i : ℕ) → index_at (pushed ps s t) slot (slice_get (chain_in ps slot) i) ≡ index_at ps slot (slice_get (chain_in ps slot) i)
-index_at-chain ps s t slot i =
-    index_at-old ps s t slot (slice_get (chain_in ps slot) i) (λ x at. in_chain ps slot i x at)
+index_at-chain ps s t slot i = grind (arith, in_chain, index-old)
 
 pub has_index : (pairs : List Pair) (p : Pair) → 0 < index_in pairs p → has same_pair p pairs ≡ true
-has_index pairs p some =
-    true_from_ne_false (has same_pair p pairs) (λ absent. let none = index-absent pairs p absent in omega arith)
+has_index pairs p some = grind (arith, index-absent)
 
 pub has_no_index : (pairs : List Pair) (p : Pair) → index_in pairs p ≡ 0 → has same_pair p pairs ≡ false
-has_no_index pairs p none =
-    false_from_ne_true (has same_pair p pairs) (λ there.
-    let place = place_of pairs p there in
-    let index = index-at pairs place.0 p place.1 in
-    omega arith)
+has_no_index pairs p none = grind (arith, place_of, index-at)
 
 pub same_index : (pairs : List Pair) (p q : Pair) → 0 < index_in pairs p → index_in pairs p ≡ index_in pairs q → p ≡ q
 same_index pairs p q some same =
     let ds = distinct same_pair pairs in
     let at_p = place_of pairs p (has_index pairs p some) in
     let at_q = place_of pairs q (has_index pairs q (omega arith)) in
-    let index_p = index-at pairs at_p.0 p at_p.1 in
-    let index_q = index-at pairs at_q.0 q at_q.1 in
-    let one : at_p.0 ≡ at_q.0 = omega arith in
-    same_Some p q (sym at_p.1 ∙ ap (slice_get ds) one ∙ at_q.1)
+    grind (arith, index-at, same_Some)
 
 pub count-new : (ps : List Pair) (s t : ℕ) → has same_pair (pair s t) ps ≡ false → distinct_count (pushed ps s t) ≡ suc (distinct_count ps)
 count-new ps s t absent = ap length (distinct-new ps s t absent) ∙ omega (arith, length-append (distinct same_pair ps) (pair s t ∷ []))
@@ -107,16 +86,8 @@ at_place ps slot i =
       | inr past ↦ inl (past, ap (index_at ps slot) (slice_get_past c i past))
     ]
 
-pub index_small : (ps : List Pair) (q : Pair) → has same_pair q ps ≡ true → index_in ps q ≤ distinct_count ps
-index_small ps q there =
-    let place = place_of ps q there in
-    omega (arith, index-at ps place.0 q place.1, slice_get_within (distinct same_pair ps) place.0 q place.1)
-
 pub index_at_small : (ps : List Pair) (s i : ℕ) → index_at ps s (slice_get (chain_in ps s) i) ≤ distinct_count ps
-index_at_small ps s i = elim (at_place ps s i) [
-  | inl past ↦ omega (arith, past.1)
-  | inr here ↦ omega (arith, here.2, index_small ps (pair s here.0) (in_chain ps s i here.0 here.1))
-]
+index_at_small ps s i = grind arith
 
 -- where the arcs ran out, every place is taken
 pub distinct_count-push : (ps : List Pair) (p : Pair) → distinct_count (ps ++ p ∷ []) ≤ distinct_count ps + 1

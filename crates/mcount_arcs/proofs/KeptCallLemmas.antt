@@ -1,6 +1,6 @@
 -- The calls that are kept: the longest front that has places.
 use Rattle.std.proofs.Common.{◌≡◌, ℕ, zero, suc, ◌<◌, ◌≤◌, Bool, true, List, [], ◌∷◌, ◌++◌, length, inl, inr, refl, sym, ap, ◌∙◌, arith, ◌+◌, subst, ◌-◌, get_or, leb, if◌then◌else◌, take, length-take}
-use Rattle.std.proofs.lemmas.Bool.{cases_Bool, false≢true, cases_lt, cases_eq, le-leb, leb-true}
+use Rattle.std.proofs.lemmas.Bool.{cases_Bool, false≢true, cases_lt, cases_eq}
 use Rattle.mcount_arcs.specs.Log.{Pair, distinct_count, LogEntry, entered_calls, kept_calls}
 use Rattle.mcount_arcs.specs.declared.sizes.Sizes.{Sizes}
 use Rattle.std.proofs.lemmas.List.{take_all, take_more}
@@ -9,23 +9,11 @@ use Rattle.mcount_arcs.proofs.IndexLemmas.{distinct_count-push}
 
 is_front : {X : Type 0} (n : ℕ) (test : List X → Bool) (xs : List X) → n ≤ length xs → longest_front_within n test xs ≡ take (length (longest_front_within n test xs)) xs
 is_front zero test xs within = refl
-is_front {X} (suc n) test xs within =
-    let front = take (suc n) xs in
-    let P : List X → Type 0 = λ ys. ys ≡ take (length ys) xs in
-    elim (cases_Bool (test front)) [
-      | inl yes_it ↦ subst P (sym (ap (λ (b : Bool). if b then front else longest_front_within n test xs) yes_it)) (let long : suc n ≡ length front = omega (arith, length-take (suc n) xs) in ap (λ (k : ℕ). take k xs) long)
-      | inr not_it ↦ subst P (sym (ap (λ (b : Bool). if b then front else longest_front_within n test xs) not_it)) (is_front n test xs (omega arith))
-    ]
+is_front {X} (suc n) test xs within = grind (arith, length-take, is_front n test xs (omega arith))
 
 passes : {X : Type 0} (n : ℕ) (test : List X → Bool) (xs : List X) → test [] ≡ true → test (longest_front_within n test xs) ≡ true
 passes zero test xs empty = empty
-passes {X} (suc n) test xs empty =
-    let front = take (suc n) xs in
-    let P : List X → Type 0 = λ ys. test ys ≡ true in
-    elim (cases_Bool (test front)) [
-      | inl yes_it ↦ subst P (sym (ap (λ (b : Bool). if b then front else longest_front_within n test xs) yes_it)) yes_it
-      | inr not_it ↦ subst P (sym (ap (λ (b : Bool). if b then front else longest_front_within n test xs) not_it)) (passes n test xs empty)
-    ]
+passes {X} (suc n) test xs empty = grind (arith, passes n test xs empty)
 
 is_longest : {X : Type 0} (n : ℕ) (test : List X → Bool) (xs : List X) (k : ℕ) → k ≤ n → n ≤ length xs → test (take k xs) ≡ true → k ≤ length (longest_front_within n test xs)
 is_longest zero test xs k le within ok = omega arith
@@ -49,23 +37,17 @@ kept_calls-front z log = is_front (length (entered_calls z log)) (has_places z) 
 
 pub kept_calls-places : (z : Sizes) (log : List LogEntry) → distinct_count (kept_calls z log) ≤ z.tolimit - 1
 unfolding kept_calls
-kept_calls-places z log =
-    leb-true (distinct_count (kept_calls z log)) (z.tolimit - 1) (passes (length (entered_calls z log)) (has_places z) (entered_calls z log) (le-leb 0 (z.tolimit - 1) (omega arith)))
+kept_calls-places z log = grind (arith, passes)
 
 pub kept_calls-longest : (z : Sizes) (log : List LogEntry) (n : ℕ) → n ≤ length (entered_calls z log) → distinct_count (take n (entered_calls z log)) ≤ z.tolimit - 1 → n ≤ length (kept_calls z log)
 unfolding kept_calls
-kept_calls-longest z log n within places =
-    is_longest (length (entered_calls z log)) (has_places z) (entered_calls z log) n within (omega arith) (le-leb (distinct_count (take n (entered_calls z log))) (z.tolimit - 1) places)
+kept_calls-longest z log n within places = grind (arith, is_longest)
 
 pub kept_calls-all : (z : Sizes) (log : List LogEntry) → distinct_count (entered_calls z log) < z.tolimit → kept_calls z log ≡ entered_calls z log
 kept_calls-all z log places =
     let ps = entered_calls z log in
     let whole : take (length ps) ps ≡ ps = take_all (length ps) ps (omega arith) in
-    let P : List Pair → Type 0 = λ qs. distinct_count qs ≤ z.tolimit - 1 in
-    let long = kept_calls-longest z log (length ps) (omega arith) (subst P (sym whole) (omega arith)) in
-    let short : length (kept_calls z log) ≤ length ps = omega (arith, ap length (kept_calls-front z log), length-take (length (kept_calls z log)) ps) in
-    let same : length (kept_calls z log) ≡ length ps = omega arith in
-    kept_calls-front z log ∙ ap (λ (k : ℕ). take k ps) same ∙ whole
+    grind (arith, kept_calls-longest, kept_calls-front, length-take)
 
 pub kept_calls-full_places : (z : Sizes) (log : List LogEntry) → 0 < z.tolimit → z.tolimit ≤ distinct_count (entered_calls z log) → distinct_count (kept_calls z log) ≡ z.tolimit - 1
 kept_calls-full_places z log some full =

@@ -1,12 +1,11 @@
 -- The links of the entries spell the chains.
-use Rattle.std.proofs.Common.{◌≡◌, ℕ, zero, suc, ◌<◌, ◌≤◌, List, [], ◌∷◌, ◌++◌, length, Some, inl, inr, refl, sym, ap, ◌∙◌, arith, ◌+◌, map, slice_index, drop}
+use Rattle.std.proofs.Common.{◌≡◌, ℕ, zero, suc, ◌<◌, ◌≤◌, List, [], ◌∷◌, length, Some, inl, inr, refl, sym, ap, ◌∙◌, arith, ◌+◌, map, slice_index, drop}
 use Rattle.std.proofs.lemmas.Option.{same_Some, slice_get_within, get_or_from_slice_get}
 use Rattle.std.specs.List.{slice_get, flat_map, range_with_len}
 use Rattle.gmon_block.specs.declared.entry.Tos.{Tos}
 use Rattle.mcount_arcs.specs.Log.{Pair, distinct_count}
 use Rattle.mcount_arcs.specs.Arcs.{chain_in, arcs_in, slot_arcs}
 use Rattle.mcount_arcs.specs.Image.{index_in, index_at, entry_in, entries_in, fronts_in}
-use Rattle.gmon_block.specs.Layout.{no_entry}
 use Rattle.mcount_arcs.specs.declared.sizes.Sizes.{Sizes}
 use Rattle.mcount_arcs.specs.Held.{linked_entries, arc_read, slot_read, arcs_read}
 use Rattle.mcount_arcs.specs.Sizes.{site_of}
@@ -22,18 +21,14 @@ abbrev spelled : List Pair → ℕ → List ℕ → List Tos
 spelled ps slot xs = map (λ x. entry_in ps (pair slot x)) xs
 
 pub linked_zero : (n : ℕ) (tos : List Tos) → linked_entries n tos 0 ≡ []
-linked_zero zero tos = refl
-linked_zero (suc n) tos = refl
+linked_zero n tos = grind arith
 
 linked_some : (n : ℕ) (tos : List Tos) (i : ℕ) (e : Tos) → 0 < i → slice_get tos i ≡ Some e → linked_entries (suc n) tos i ≡ e ∷ linked_entries n tos e.link
-linked_some n tos zero e some at = absurd (omega arith)
-linked_some n tos (suc i) e some at =
-    ap (λ (t : Tos). t ∷ linked_entries n tos t.link) (get_or_from_slice_get tos (suc i) e no_entry at)
+linked_some n tos i e some at = grind (arith, get_or_from_slice_get)
 
 -- the links spell the chain
 pub links_spell : (limit : ℕ) (all ps : List Pair) (slot n i : ℕ) → length (chain_in ps slot) ≤ n + i → linked_entries n (entries_in limit all ps) (index_at ps slot (slice_get (chain_in ps slot) i)) ≡ spelled ps slot (drop i (chain_in ps slot))
-links_spell limit all ps slot zero i long =
-    ap (spelled ps slot) (sym (drop_all i (chain_in ps slot) (omega arith)))
+links_spell limit all ps slot zero i long = grind (arith, drop_all)
 links_spell limit all ps slot (suc n) i long =
     let c = chain_in ps slot in
     let tos = entries_in limit all ps in
@@ -58,9 +53,7 @@ map_map {X} {Y} {Z} f g (x ∷ xs) = ap (λ (zs : List Z). f (g x) ∷ zs) (map_
 
 flat_map_agree : {Y : Type 0} (f g : ℕ → List Y) (a n : ℕ) → ((k : ℕ) → k < a + n → f k ≡ g k) → flat_map f (range_with_len a n) ≡ flat_map g (range_with_len a n)
 flat_map_agree f g a zero agree = refl
-flat_map_agree {Y} f g a (suc n) agree =
-    ap (λ (ys : List Y). ys ++ flat_map f (range_with_len (a + 1) n)) (agree a (omega arith))
-    ∙ ap (λ (ys : List Y). g a ++ ys) (flat_map_agree f g (a + 1) n (λ k lt. agree k (omega arith)))
+flat_map_agree {Y} f g a (suc n) agree = grind (arith, flat_map_agree f g (a + 1) n)
 
 slot_reads : (z : Sizes) (all ps : List Pair) (slot : ℕ) → distinct_count ps < z.tolimit → slot < z.slots → slot_read z (entries_in z.tolimit all ps) (fronts_in z.slots ps) slot ≡ slot_arcs z ps slot
 slot_reads z all ps slot places within =
@@ -105,16 +98,8 @@ linked_more limit all ps slot i next e places is some read =
 
 -- slots without arcs give none
 pub skip_empty : (z : Sizes) (es : List Tos) (fs : List ℕ) (a n m : ℕ) → AreZero fs a (a + m) → flat_map (slot_read z es fs) (range_with_len a (m + n)) ≡ flat_map (slot_read z es fs) (range_with_len (a + m) n)
-skip_empty z es fs a n zero none =
-    let same : 0 + n ≡ n = omega arith in
-    let also : a ≡ a + 0 = omega arith in
-    ap (λ (k : ℕ). flat_map (slot_read z es fs) (range_with_len a k)) same ∙ ap (λ (k : ℕ). flat_map (slot_read z es fs) (range_with_len k n)) also
+skip_empty z es fs a n zero none = grind arith
 skip_empty z es fs a n (suc m) none =
     let first : slice_index fs a ≡ 0 = none a (omega arith) (omega arith) in
     let same : suc m + n ≡ suc (m + n) = omega arith in
-    let also : a + 1 + m ≡ a + suc m = omega arith in
-    ap (λ (k : ℕ). flat_map (slot_read z es fs) (range_with_len a k)) same
-    ∙ ap (λ (i : ℕ). map (arc_read (site_of z a)) (linked_entries (length es) es i) ++ flat_map (slot_read z es fs) (range_with_len (a + 1) (m + n))) first
-    ∙ ap (λ (ts : List Tos). map (arc_read (site_of z a)) ts ++ flat_map (slot_read z es fs) (range_with_len (a + 1) (m + n))) (linked_zero (length es) es)
-    ∙ skip_empty z es fs (a + 1) n m (λ k from to. none k (omega arith) (omega arith))
-    ∙ ap (λ (k : ℕ). flat_map (slot_read z es fs) (range_with_len k n)) also
+    grind (arith, linked_zero, skip_empty z es fs (a + 1) n m)

@@ -1,18 +1,16 @@
 -- A runtime after a look.
-use Rattle.std.proofs.Common.{All, ◌≡◌, ℕ, zero, suc, ◌<◌, ◌≤◌, Bool, true, false, cond, eqb, ltb, List, [], ◌∷◌, length, Some, None, inl, inr, refl, sym, ap, ◌∙◌, arith, ◌+◌, Option, subst, ◌-◌, length-append, if◌then◌else◌, ◌⊎◌}
-use Rattle.std.proofs.lemmas.Option.{none-some, same_Some}
+use Rattle.std.proofs.Common.{All, ◌≡◌, ℕ, suc, ◌<◌, ◌≤◌, Bool, true, false, List, length, Some, None, inl, inr, refl, sym, ap, ◌∙◌, arith, ◌+◌, Option, length-append, if◌then◌else◌, ◌⊎◌}
 use Rattle.std.specs.List.{slice_get}
-use Rattle.std.proofs.lemmas.Bool.{cases_Bool, eq-eqb, and_from, and_left, and_right, ne_eqb}
 use Rattle.std.specs.Option.{option_map, IfSome}
 use Rattle.gmon_block.specs.declared.entry.Tos.{Tos}
 use Rattle.mcount_arcs.specs.Log.{Pair, same_pair, distinct_count, LogEntry, kept_calls, state_of, WalkDone}
 use Rattle.mcount_arcs.specs.Arcs.{chain_in, arcs_in, looks_in, looks_of}
-use Rattle.mcount_arcs.specs.Image.{index_in, entries_in, fronts_in}
+use Rattle.mcount_arcs.specs.Image.{entries_in, fronts_in}
 use Rattle.mcount_arcs.specs.declared.state.State.{State}
 use Rattle.mcount_arcs.specs.declared.state.State.TheVariants.{Busy, Error}
 use Rattle.mcount_arcs.specs.Held.{arcs_read, flight, view_of, IsAt, IsHeld}
 use Rattle.gmon_block.specs.Layout.{EntryFits, Parts}
-use Rattle.mcount_arcs.specs.BlockChanges.{entry_at, with_call_found, with_next_index, with_new_front, with_call_added}
+use Rattle.mcount_arcs.specs.BlockChanges.{entry_at, with_call_found, with_call_added}
 use Rattle.mcount_arcs.specs.declared.gmon.Gmon.TheInside.{Inside}
 use Rattle.mcount_arcs.specs.declared.walk.Walk.{Walk}
 use Rattle.mcount_arcs.specs.Value.{idle_state, StandsFor, call_of, GmonValue, next_of, is_full, Ends, Looks}
@@ -41,17 +39,14 @@ abbrev pub filled_as : Inside → Parts → Inside
 filled_as a block = record a { block = block; state = Error }
 
 nothing_placed : (o : Option Walk) (P : Walk → Type 0) → o ≡ None → IfSome o P
-nothing_placed None P none = tt
-nothing_placed (Some w) P none = absurd (none-some w (sym none))
+nothing_placed o P is = grind arith
 
 -- the calls that are kept after an end
 kept_more : (a : Inside) (w : Walk) (log : List LogEntry) → InFlight a w log → distinct_count (pushed (kept_calls a.sizes log) w.slot w.to) < a.sizes.tolimit → kept_calls a.sizes (more log WalkDone) ≡ pushed (kept_calls a.sizes log) w.slot w.to
-kept_more a w log f places =
-    kept_calls-all a.sizes (more log WalkDone) (omega (arith, ap distinct_count f.next)) ∙ f.next
+kept_more a w log f places = grind (arith, kept_calls-all)
 
 kept_same : (a : Inside) (w : Walk) (log : List LogEntry) → InFlight a w log → a.sizes.tolimit ≤ distinct_count (pushed (kept_calls a.sizes log) w.slot w.to) → kept_calls a.sizes (more log WalkDone) ≡ kept_calls a.sizes log
-kept_same a w log f full =
-    kept_calls-full a.sizes (more log WalkDone) (kept_calls a.sizes log) (pair w.slot w.to) f.next f.few full (omega (arith, f.few))
+kept_same a w log f full = grind (arith, kept_calls-full)
 
 -- an end leaves the block of the calls that are kept then, and no walk
 stands_done : (a : Inside) (w : Walk) (log : List LogEntry) (block : Parts) (s : State) (n : ℕ) (ps : List Pair) → InFlight a w log → StandsFor log (view_of a)
@@ -79,63 +74,34 @@ pub stands_counted : (a : Inside) (w : Walk) (log : List LogEntry) (block : Part
     → IsBlockOf a.sizes.tolimit a.sizes.slots (pushed (kept_calls a.sizes log) w.slot w.to) (pushed (kept_calls a.sizes log) w.slot w.to) block → block.counters ≡ a.block.counters
     → distinct_count (pushed (kept_calls a.sizes log) w.slot w.to) < a.sizes.tolimit → StandsFor (more log WalkDone) (view_of (counted_as a block))
 stands_counted a w log block f stands is counters places =
-    let ps = pushed (kept_calls a.sizes log) w.slot w.to in
-    let state = ap idle_state stands.sampling ∙ sym (state_of-done a.sizes log (omega (arith, ap distinct_count f.next))) in
-    let calls : a.calls + 1 ≡ length ps = omega (arith, stands.calls, length-append (kept_calls a.sizes log) (pair w.slot w.to ∷ [])) in
-    stands_done a w log block (idle_state a.sampling) (a.calls + 1) ps f stands is counters (kept_more a w log f places) places state calls (no_flight a.sampling a.cursor)
+    search (arith, pushed, state_of-done, length-append, pair, stands_done, kept_more, no_flight, stands.sampling, f.next, a.calls, stands.calls, a.sampling, a.cursor)
 
 pub stands_filled : (a : Inside) (w : Walk) (log : List LogEntry) (block : Parts) → InFlight a w log → StandsFor log (view_of a)
     → IsBlockOf a.sizes.tolimit a.sizes.slots (pushed (kept_calls a.sizes log) w.slot w.to) (kept_calls a.sizes log) block → block.counters ≡ a.block.counters
     → a.sizes.tolimit ≤ distinct_count (pushed (kept_calls a.sizes log) w.slot w.to) → StandsFor (more log WalkDone) (view_of (filled_as a block))
-stands_filled a w log block f stands is counters full =
-    let state = sym (state_of-full a.sizes log (omega (arith, ap distinct_count f.next))) in
-    stands_done a w log block Error a.calls (kept_calls a.sizes log) f stands is counters (kept_same a w log f full) f.few state stands.calls refl
+stands_filled a w log block f stands is counters full = search (state_of-full, stands_done, kept_same, f.next, a.calls, f.few, stands.calls)
 
 test_full : (a : Inside) (w : Walk) (log : List LogEntry) (b : Bool) → is_full a.sizes log w ≡ b → (if is_full a.sizes log w then Overflowed else Counted) ≡ (if b then Overflowed else Counted)
 test_full a w log b e = ap (λ (c : Bool). if c then Overflowed else Counted) e
 
 pub full_found : (a : Inside) (w : Walk) (log : List LogEntry) → has same_pair (pair w.slot w.to) (kept_calls a.sizes log) ≡ true → is_full a.sizes log w ≡ false
-full_found a w log there =
-    let ps = kept_calls a.sizes log in
-    let place = place_of ps (pair w.slot w.to) there in
-    let index = index-at ps place.0 (pair w.slot w.to) place.1 in
-    and_left (eqb (index_in ps (pair w.slot w.to)) 0) (eqb (distinct_count ps) (a.sizes.tolimit - 1)) (ne_eqb (index_in ps (pair w.slot w.to)) 0 (λ e. omega arith))
+full_found a w log there = grind (arith, place_of, index-at)
 
 pub full_room : (a : Inside) (w : Walk) (log : List LogEntry) → suc (distinct_count (kept_calls a.sizes log)) < a.sizes.tolimit → is_full a.sizes log w ≡ false
-full_room a w log room =
-    let ps = kept_calls a.sizes log in
-    and_right (eqb (index_in ps (pair w.slot w.to)) 0) (eqb (distinct_count ps) (a.sizes.tolimit - 1)) (ne_eqb (distinct_count ps) (a.sizes.tolimit - 1) (λ e. omega arith))
+full_room a w log room = grind arith
 
 pub full_full : (a : Inside) (w : Walk) (log : List LogEntry) → has same_pair (pair w.slot w.to) (kept_calls a.sizes log) ≡ false → suc (distinct_count (kept_calls a.sizes log)) ≡ a.sizes.tolimit → is_full a.sizes log w ≡ true
-full_full a w log absent full =
-    let ps = kept_calls a.sizes log in
-    and_from (eqb (index_in ps (pair w.slot w.to)) 0) (eqb (distinct_count ps) (a.sizes.tolimit - 1)) (eq-eqb (index_in ps (pair w.slot w.to)) 0 (index-absent ps (pair w.slot w.to) absent)) (eq-eqb (distinct_count ps) (a.sizes.tolimit - 1) (omega arith))
+full_full a w log absent full = grind (arith, index-absent)
 
 -- a walk ends at its last look
 pub ends : (log : List LogEntry) (w : Walk) (old new : GmonValue) (result : Looked) → looks_of old.sizes log w.slot w.to ≡ w.place → Ends log w old new result → Looks log w old new result
-ends log w old new result last e = record {
-  on = λ lt. absurd (omega arith);
-  last = λ same. e;
-}
+ends log w old new result last e = grind arith
 
 held_done : (a : Inside) (w : Walk) (log : List LogEntry) (block : Parts) (s : State) (n : ℕ) (ps : List Pair) → IsHeld a
     → IsBlockOf a.sizes.tolimit a.sizes.slots (pushed (kept_calls a.sizes log) w.slot w.to) ps block → block.counters ≡ a.block.counters → All EntryFits block.tos → distinct_count ps < a.sizes.tolimit
     → StandsFor (more log WalkDone) (view_of (record a { block = block; state = s; calls = n })) → ((s ≡ Error → ⊥) → (entry_at block 0).link < a.sizes.tolimit) → (s ≡ Busy → ⊥)
     → IsHeld (record a { block = block; state = s; calls = n })
-held_done a w log block s n ps held is counters fits places stands free idle = record {
-  sizes = held.sizes;
-  counter_width = held.counter_width;
-  slot_width = held.slot_width;
-  tos = ap length is.tos ∙ length-entries_in a.sizes.tolimit (pushed (kept_calls a.sizes log) w.slot w.to) ps places;
-  counters = ap length counters ∙ held.counters;
-  froms = ap length is.froms ∙ length-fronts a.sizes.slots ps;
-  fits = fits;
-  log = more log WalkDone;
-  stands = stands;
-  free = free;
-  at = λ busy. absurd (idle busy);
-  room = λ busy. absurd (idle busy);
-}
+held_done a w log block s n ps held is counters fits places stands free idle = grind (arith, length-entries_in, length-fronts)
 
 pub held_counted : (a : Inside) (w : Walk) (log : List LogEntry) (block : Parts) → IsHeld a → InFlight a w log → StandsFor log (view_of a)
     → IsBlockOf a.sizes.tolimit a.sizes.slots (pushed (kept_calls a.sizes log) w.slot w.to) (pushed (kept_calls a.sizes log) w.slot w.to) block → block.counters ≡ a.block.counters → All EntryFits block.tos
@@ -152,8 +118,7 @@ held_filled a w log block held f stands is counters fits full =
     held_done a w log block Error a.calls (kept_calls a.sizes log) held is counters fits f.few (stands_filled a w log block f stands is counters full) (λ other. absurd (other refl)) (λ busy. let e : Error ≡ Busy = busy in cc)
 
 pub with_call_found-counters : (s b at : ℕ) (p : Parts) → (with_call_found s b at p).counters ≡ p.counters
-with_call_found-counters s zero at p = refl
-with_call_found-counters s (suc b) at p = refl
+with_call_found-counters s b at p = grind arith
 
 pub record Sees (a : Inside) (w : Walk) (e : Tos) : Type 0 where
   pub some : a.cursor.at ≡ 0 → ⊥
@@ -161,12 +126,10 @@ pub record Sees (a : Inside) (w : Walk) (e : Tos) : Type 0 where
 
 found_block : (a : Inside) (w : Walk) (log : List LogEntry) (f : InFlight a w log) → slice_get (chain_in (kept_calls a.sizes log) w.slot) f.step ≡ Some w.to
     → IsBlockOf a.sizes.tolimit a.sizes.slots (pushed (kept_calls a.sizes log) w.slot w.to) (pushed (kept_calls a.sizes log) w.slot w.to) (with_call_found w.slot a.cursor.before a.cursor.at a.block)
-found_block a w log f at =
-    with_call_found-at a.sizes.tolimit a.sizes.slots (kept_calls a.sizes log) a.block w.slot w.to f.step a.cursor.before a.cursor.at f.block f.slot at f.at f.before
+found_block a w log f at = search with_call_found-at
 
 found_places : (a : Inside) (w : Walk) (log : List LogEntry) (f : InFlight a w log) → slice_get (chain_in (kept_calls a.sizes log) w.slot) f.step ≡ Some w.to → distinct_count (pushed (kept_calls a.sizes log) w.slot w.to) < a.sizes.tolimit
-found_places a w log f at =
-    omega (arith, count-old (kept_calls a.sizes log) w.slot w.to (in_chain (kept_calls a.sizes log) w.slot f.step w.to at), f.few)
+found_places a w log f at = search (count-old, in_chain)
 
 pub found_looks : (a : Inside) (w : Walk) (log : List LogEntry) (e : Tos) → IsHeld a → flight a.state a.cursor ≡ Some w → Sees a w e → e.selfpc ≡ w.to → StandsFor log (view_of a)
     → Looks log w (view_of a) (view_of (counted_as a (with_call_found w.slot a.cursor.before a.cursor.at a.block))) Counted
@@ -188,10 +151,7 @@ found_held a w e held flying sees same fits =
     held_counted a w log (with_call_found w.slot a.cursor.before a.cursor.at a.block) held f held.stands (found_block a w log f at) (with_call_found-counters w.slot a.cursor.before a.cursor.at a.block) fits (found_places a w log f at)
 
 pub with_call_added-counters : (s t : ℕ) (p : Parts) → (with_call_added s t p).counters ≡ p.counters
-with_call_added-counters s t p = elim (cases_Bool (ltb ((entry_at p 0).link + 1) (length p.tos))) [
-  | inl e ↦ ap (λ (b : Bool). (cond b (with_new_front s t ((entry_at p 0).link + 1) (with_next_index p)) (with_next_index p)).counters) e
-  | inr e ↦ ap (λ (b : Bool). (cond b (with_new_front s t ((entry_at p 0).link + 1) (with_next_index p)) (with_next_index p)).counters) e
-]
+with_call_added-counters s t p = grind arith
 
 -- the slot is empty, or another callee stands last
 abbrev pub EndsAtNew : Inside → Walk → Type 0
@@ -234,8 +194,7 @@ added_held a w held flying none room fits =
     let new = new_call a w log f none in
     let number = number_is a w log f in
     let more_room : suc (distinct_count ps) < z.tolimit = omega arith in
-    let block = with_call_added-new z.tolimit z.slots ps a.block w.slot w.to f.block f.slot held.tos new.absent more_room in
-    held_counted a w log (with_call_added w.slot w.to a.block) held f held.stands block (with_call_added-counters w.slot w.to a.block) fits (omega (arith, count-new ps w.slot w.to new.absent))
+    search (with_call_added-new, held_counted, with_call_added-counters, count-new)
 
 pub filled_looks : (a : Inside) (w : Walk) (log : List LogEntry) → IsHeld a → flight a.state a.cursor ≡ Some w → EndsAtNew a w → (HasRoom a → ⊥) → StandsFor log (view_of a)
     → Looks log w (view_of a) (view_of (filled_as a (with_call_added w.slot w.to a.block))) Overflowed
@@ -260,7 +219,6 @@ filled_held a w held flying none full fits =
     let f = in_flight a w log held flying held.stands in
     let new = new_call a w log f none in
     let number = number_is a w log f in
-    let no_room : suc (distinct_count ps) ≡ z.tolimit = omega (arith, f.few) in
     let block = with_call_added-full z.tolimit z.slots ps a.block w.slot w.to f.block held.tos new.absent (omega arith) in
     held_filled a w log (with_call_added w.slot w.to a.block) held f held.stands block (with_call_added-counters w.slot w.to a.block) fits (omega (arith, count-new ps w.slot w.to new.absent))
 
@@ -271,22 +229,10 @@ pub moved_flight : (a : Inside) (w : Walk) (log : List LogEntry) (link : ℕ) �
 moved_flight a w log link f = ap (λ (s : State). flight s (record { slot = w.slot; to = w.to; place = w.place + 1; at = link; before = a.cursor.at })) f.busy
 
 placed : (o : Option Walk) (w : Walk) (P : Walk → Type 0) → o ≡ Some w → P w → IfSome o P
-placed None w P e p = absurd (none-some w e)
-placed (Some v) w P e p = subst P (sym (same_Some v w e)) p
+placed o w P e p = grind arith
 
 stands_moved : (a : Inside) (w : Walk) (log : List LogEntry) (link : ℕ) (f : InFlight a w log) → flight a.state a.cursor ≡ Some w → StandsFor log (view_of a) → suc f.step < looks_in (chain_in (kept_calls a.sizes log) w.slot) w.to → StandsFor log (view_of (moved_as a w link))
-stands_moved a w log link f flying stands more_looks = record {
-  legal = stands.legal;
-  tos = stands.tos;
-  counters = stands.counters;
-  froms = stands.froms;
-  state = stands.state;
-  sampling = stands.sampling;
-  calls = stands.calls;
-  arcs = stands.arcs;
-  walk = ap (option_map call_of) (moved_flight a w log link f) ∙ ap (option_map call_of) (sym flying) ∙ stands.walk;
-  place = placed (flight a.state (record { slot = w.slot; to = w.to; place = w.place + 1; at = link; before = a.cursor.at })) (next_of w) (λ v. (1 ≤ v.place) × (v.place ≤ looks_of a.sizes log v.slot v.to)) (moved_flight a w log link f) (omega arith, omega (arith, f.looks, f.place));
-}
+stands_moved a w log link f flying stands more_looks = grind arith
 
 pub moved_looks : (a : Inside) (w : Walk) (log : List LogEntry) (e : Tos) → IsHeld a → flight a.state a.cursor ≡ Some w → Sees a w e → (e.selfpc ≡ w.to → ⊥) → (e.link ≡ 0 → ⊥) → StandsFor log (view_of a)
     → Looks log w (view_of a) (view_of (moved_as a w e.link)) (More (next_of w))
@@ -319,6 +265,4 @@ moved_held a w e held flying sees other link =
 pub moved_place : (a : Inside) (w : Walk) (log : List LogEntry) (e : Tos) → IsHeld a → flight a.state a.cursor ≡ Some w → Sees a w e → (e.selfpc ≡ w.to → ⊥) → (e.link ≡ 0 → ⊥) → StandsFor log (view_of a) → w.place + 1 ≤ 65534
 moved_place a w log e held flying sees other link stands =
     let f = in_flight a w log held flying stands in
-    let more_looks = is_passed a w log f sees.some (λ same. other (ap (λ (t : Tos). t.selfpc) (sym sees.entry) ∙ same)) (λ none. link (ap (λ (t : Tos). t.link) (sym sees.entry) ∙ none)) in
-    let bounds = looks_bounds (kept_calls a.sizes log) w.slot w.to in
-    omega (arith, f.place, bounds.1, chain_short (kept_calls a.sizes log) w.slot, f.few, held.sizes.most)
+    grind (arith, looks_bounds, chain_short)

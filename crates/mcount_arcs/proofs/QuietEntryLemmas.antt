@@ -1,5 +1,5 @@
 -- A runtime stands for its log and one entry more, where this is no begin or end of a call.
-use Rattle.std.proofs.Common.{Bool, ℕ, ◌≡◌, ◌≤◌, List, length, Some, None, sym, ap, ◌∙◌, arith, Option}
+use Rattle.std.proofs.Common.{Bool, ℕ, ◌≡◌, ◌≤◌, List, length, sym, ap, ◌∙◌, arith, Option}
 use Rattle.mcount_arcs.specs.declared.sizes.Sizes.{Sizes}
 use Rattle.mcount_arcs.specs.declared.state.State.{State}
 use Rattle.mcount_arcs.specs.Log.{is_on, state_of, LogEntry, kept_calls, MayFollow}
@@ -12,9 +12,7 @@ use Rattle.mcount_arcs.proofs.LogLemmas.{IsLegal-push, more, IsQuiet, entered_ca
 
 -- the looks that a call takes depend on the calls that are kept
 pub place-kept_calls : (z : Sizes) (log other : List LogEntry) (o : Option Walk) → kept_calls z other ≡ kept_calls z log → IfSome o (λ w. (1 ≤ w.place) × (w.place ≤ looks_of z log w.slot w.to)) → IfSome o (λ w. (1 ≤ w.place) × (w.place ≤ looks_of z other w.slot w.to))
-place-kept_calls z log other None same placed = tt
-place-kept_calls z log other (Some w) same placed =
-    (placed.0, omega (arith, placed.1, looks_of-kept_calls z other log w.slot w.to same))
+place-kept_calls z log other o same placed = grind (arith, looks_of-kept_calls)
 
 -- such an entry changes at most the counters, the state and the mode
 pub StandsFor-quiet : (log : List LogEntry) (entry : LogEntry) (v : GmonValue) (counters : List ℕ) (state : State) (sampling : Bool) → IsQuiet v.sizes entry → MayFollow v.sizes log entry → StandsFor log v

@@ -2,10 +2,10 @@
 use Rattle.std.proofs.Common.{◌≡◌, ℕ, ◌<◌, Bool, true, false, ◌&&◌, cond, List, [], ◌∷◌, ◌++◌, Some, None, refl, sym, ap, ◌∙◌, Option, map, if◌then◌else◌}
 use Rattle.std.specs.List.{filter, filter_map, cons_option}
 use Rattle.std.proofs.lemmas.List.{map-append}
-use Rattle.mcount_arcs.specs.Log.{Pair, LogEntry, Sample, is_on, is_busy, mode_in, walk_in, pair_in, begun_calls, entered_calls, kept_calls, kept_front, state_of, IsLegalAfter, IsLegal}
+use Rattle.mcount_arcs.specs.Log.{LogEntry, Sample, is_on, is_busy, mode_in, walk_in, entered_calls, kept_calls, kept_front, state_of, IsLegalAfter, IsLegal}
 use Rattle.std.proofs.lemmas.Bool.{lt-leb}
 use Rattle.mcount_arcs.specs.declared.sizes.Sizes.{Sizes}
-use Rattle.mcount_arcs.specs.declared.state.State.TheVariants.{On, Error}
+use Rattle.mcount_arcs.specs.declared.state.State.TheVariants.{On}
 use Rattle.mcount_arcs.specs.Lists.{gather, last_of}
 use Rattle.gp_base.specs.Spans.{is_in}
 use Rattle.mcount_arcs.specs.Sizes.{text_span}
@@ -27,8 +27,7 @@ is_busy-samples pcs = ap (last_of false) (no_other_entry walk_in (λ pc. refl) p
 
 pub entered_calls-samples : (z : Sizes) (pcs : List ℕ) → entered_calls z (map Sample pcs) ≡ []
 unfolding entered_calls
-entered_calls-samples z pcs =
-    ap (λ (b : Bool). entered_of b (begun_calls z (map Sample pcs))) (is_busy-samples pcs) ∙ no_other_entry (pair_in z) (λ pc. refl) pcs
+entered_calls-samples z pcs = search (entered_of, is_busy-samples, no_other_entry)
 
 pub kept_calls-samples : (z : Sizes) (pcs : List ℕ) → kept_calls z (map Sample pcs) ≡ []
 unfolding kept_calls
@@ -40,11 +39,7 @@ arcs_of-samples z pcs =
 
 pub state_of-samples : (z : Sizes) (pcs : List ℕ) → 0 < z.tolimit → state_of z (map Sample pcs) ≡ On
 unfolding state_of
-state_of-samples z pcs some =
-    ap (λ (b : Bool). state_by z.tolimit b (entered_calls z (map Sample pcs)) (is_on (map Sample pcs))) (is_busy-samples pcs)
-    ∙ ap (λ (ps : List Pair). state_by z.tolimit false ps (is_on (map Sample pcs))) (entered_calls-samples z pcs)
-    ∙ ap (state_by z.tolimit false []) (is_on-samples pcs)
-    ∙ ap (λ (b : Bool). if b then Error else On) (lt-leb z.tolimit 0 some)
+state_of-samples z pcs some = search (state_by, is_busy-samples, entered_calls-samples, is_on-samples, lt-leb)
 
 IsLegalAfter-samples : (z : Sizes) (before : List LogEntry) (pcs : List ℕ) → IsLegalAfter z before (map Sample pcs)
 IsLegalAfter-samples z before [] = tt

@@ -1,15 +1,15 @@
 -- A runtime after a tick.
-use Rattle.std.proofs.Common.{All, ◌≡◌, ℕ, Bool, true, false, ◌&&◌, ltb, List, [], ◌∷◌, length, Some, refl, sym, ap, ◌∙◌, arith, ◌+◌, subst, set, leb, if◌then◌else◌, min, slice_index, slice_index_or, slice_set}
+use Rattle.std.proofs.Common.{◌≡◌, ℕ, Bool, true, false, ◌&&◌, ltb, List, [], ◌∷◌, length, Some, refl, sym, ap, ◌∙◌, arith, ◌+◌, set, leb, if◌then◌else◌, min, slice_index, slice_set}
 use Rattle.std.specs.List.{slice_get}
 use Rattle.std.proofs.lemmas.Bool.{and_parts, leb-true, ltb-true}
-use Rattle.gmon_block.specs.Layout.{EntryFits, no_entry, Parts}
+use Rattle.gmon_block.specs.Layout.{Parts}
 use Rattle.mcount_arcs.specs.Log.{LogEntry, Sample}
 use Rattle.gp_base.specs.Spans.{is_in}
 use Rattle.mcount_arcs.specs.Sizes.{AreSizes, counter_of, text_span}
 use Rattle.mcount_arcs.specs.Samples.{buckets_of}
 use Rattle.std.proofs.lemmas.Option.{get_or_from_slice_get}
 use Rattle.mcount_arcs.specs.declared.gmon.Gmon.TheInside.{Inside}
-use Rattle.mcount_arcs.specs.Held.{view_of, IsHeld, IsAt}
+use Rattle.mcount_arcs.specs.Held.{view_of, IsHeld}
 use Rattle.mcount_arcs.specs.Value.{StandsFor, GmonValue, with_sample, with_tick}
 use Rattle.mcount_arcs.proofs.LogLemmas.{more, counts, sample-quiet, state_of-quiet, is_on-same}
 use Rattle.mcount_arcs.proofs.BucketLemmas.{buckets_of-uncounted, buckets_of-counted_samples}
@@ -37,28 +37,11 @@ by_test log v pc false are stands test =
 
 -- a tick adds its sample
 pub StandsFor-ticked : (log : List LogEntry) (v : GmonValue) (pc : ℕ) → AreSizes v.sizes → StandsFor log v → StandsFor (more log (Sample pc)) (with_tick pc v)
-StandsFor-ticked log v pc are stands =
-    by_test log v pc (v.sampling && is_in (text_span v.sizes) pc) are stands refl
-
-at_of : (a : Inside) (counters : List ℕ) → IsAt a.block a.cursor → IsAt (record a.block { counters = counters }) a.cursor
-at_of a counters at = record { slot = at.slot; looked = at.looked; place = at.place; at = at.at; before = at.before }
+StandsFor-ticked log v pc are stands = search by_test
 
 -- a tick changes the counters alone
 pub IsHeld-ticked : (a : Inside) (block : Parts) (counters : List ℕ) (log : List LogEntry) → IsHeld a → block ≡ record a.block { counters = counters } → length counters ≡ length a.block.counters → StandsFor log (view_of (record a { block = block })) → IsHeld (record a { block = block })
-IsHeld-ticked a block counters log held same long stands = record {
-  sizes = held.sizes;
-  counter_width = held.counter_width;
-  slot_width = held.slot_width;
-  tos = ap (λ (p : Parts). length p.tos) same ∙ held.tos;
-  counters = ap (λ (p : Parts). length p.counters) same ∙ long ∙ held.counters;
-  froms = ap (λ (p : Parts). length p.froms) same ∙ held.froms;
-  fits = let P : Parts → Type 0 = λ p. All EntryFits p.tos in subst P (sym same) held.fits;
-  log = log;
-  stands = stands;
-  free = λ other. omega (arith, ap (λ (p : Parts). (slice_index_or p.tos 0 no_entry).link) same, held.free other);
-  at = λ busy. let P : Parts → Type 0 = λ p. IsAt p a.cursor in subst P (sym same) (at_of a counters (held.at busy));
-  room = held.room;
-}
+IsHeld-ticked a block counters log held same long stands = grind arith
 
 -- the test of a tick, on the fields
 pub tested : (a : Inside) (v : GmonValue) (pc : ℕ) (b : Bool) → view_of a ≡ v → b ≡ (v.sampling && is_in (text_span v.sizes) pc) → b ≡ true → (a.sampling && is_in (text_span a.sizes) pc) ≡ true
@@ -69,18 +52,4 @@ pub wrote : (a : Inside) (pc k n m : ℕ) (block : Parts) → k ≡ counter_of a
     → slice_get a.block.counters k ≡ Some n → m ≡ min (n + 1) 65535
     → block ≡ record a.block { counters = slice_set a.block.counters k m }
     → view_of (record a { block = block }) ≡ with_tick pc (view_of a)
-wrote a pc k n m block is test read more_one set =
-    let was : slice_index a.block.counters k ≡ n = get_or_from_slice_get a.block.counters k n 0 read in
-    let value : m ≡ min 65535 (slice_index a.block.counters k + 1) = omega arith in
-    ap (λ (p : Parts). view_of (record a { block = p })) set
-    ∙ ap (λ (x : ℕ). record (view_of a) { counters = slice_set a.block.counters k x }) value
-    ∙ ap (λ (i : ℕ). with_sample i (view_of a)) is
-    ∙ sym (ap (λ (b : Bool). if b then with_sample (counter_of a.sizes pc) (view_of a) else view_of a) test)
-
--- a tick leaves all but the counters
-pub ticked_others : (pc : ℕ) (v : GmonValue) → with_tick pc v ≡ record v { counters = (with_tick pc v).counters }
-ticked_others pc v = by_test (v.sampling && is_in (text_span v.sizes) pc)
-  where
-    by_test : (b : Bool) → (let w = if b then with_sample (counter_of v.sizes pc) v else v in w ≡ record v { counters = w.counters })
-    by_test true = refl
-    by_test false = refl
+wrote a pc k n m block is test read more_one set = grind (arith, get_or_from_slice_get)

@@ -1,6 +1,6 @@
 -- A walk in flight: what its log says of it, and what a look meets.
-use Rattle.std.proofs.Common.{None, Bool, ◌≡◌, ℕ, suc, ◌<◌, ◌≤◌, true, false, List, length, Some, inl, inr, refl, sym, ap, ◌∙◌, arith, subst, slice_index}
-use Rattle.std.proofs.lemmas.Option.{none-some, same_Some, slice_get_within}
+use Rattle.std.proofs.Common.{None, Bool, ◌≡◌, ℕ, suc, ◌<◌, ◌≤◌, true, false, List, length, Some, inl, inr, sym, ap, ◌∙◌, arith, subst, slice_index}
+use Rattle.std.proofs.lemmas.Option.{slice_get_within}
 use Rattle.std.specs.List.{slice_get}
 use Rattle.std.specs.Option.{option_map, IfSome}
 use Rattle.gmon_block.specs.declared.entry.Tos.{Tos}
@@ -8,7 +8,7 @@ use Rattle.mcount_arcs.specs.Log.{Pair, same_pair, distinct_count, LogEntry, is_
 use Rattle.mcount_arcs.specs.Arcs.{chain_in, looks_in, looks_of}
 use Rattle.mcount_arcs.specs.Image.{index_at, entry_in}
 use Rattle.mcount_arcs.specs.declared.state.State.{State}
-use Rattle.mcount_arcs.specs.declared.state.State.TheVariants.{On, Busy, Error, Off}
+use Rattle.mcount_arcs.specs.declared.state.State.TheVariants.{Busy, Error}
 use Rattle.mcount_arcs.specs.BlockChanges.{entry_at, index_after, index_before}
 use Rattle.mcount_arcs.specs.declared.gmon.Cursor.{Cursor}
 use Rattle.mcount_arcs.specs.declared.gmon.Gmon.TheInside.{Inside}
@@ -19,26 +19,21 @@ use Rattle.mcount_arcs.proofs.DistinctLemmas.{has}
 use Rattle.mcount_arcs.proofs.ChainLemmas.{pair, pushed, chain-once, has-chain, in_chain}
 use Rattle.mcount_arcs.proofs.EntryLemmas.{entry-at, count_small}
 use Rattle.mcount_arcs.proofs.ChainLengths.{chain_short}
-use Rattle.mcount_arcs.proofs.IndexLemmas.{at_place, index_at_small}
-use Rattle.mcount_arcs.proofs.LookLemmas.{meets_none, meets_last, meets_other, looks_bounds}
+use Rattle.mcount_arcs.proofs.IndexLemmas.{at_place}
+use Rattle.mcount_arcs.proofs.LookLemmas.{meets_none, meets_last, meets_other}
 use Rattle.mcount_arcs.proofs.BlockLemmas.{IsBlockOf, entry_read, index_after-is, number_read}
 use Rattle.mcount_arcs.proofs.LogLemmas.{more, looks_of-chain, entries_of-by, fronts_of-by}
 use Rattle.mcount_arcs.proofs.CallLemmas.{done-pending_call}
 use Rattle.mcount_arcs.proofs.KeptCallLemmas.{kept_calls-all}
 
 pub no_flight : (on : Bool) (c : Cursor) → flight (idle_state on) c ≡ None
-no_flight true c = refl
-no_flight false c = refl
+no_flight on c = grind arith
 
 pub not_busy : (on : Bool) → idle_state on ≡ Busy → ⊥
-not_busy true e = cc
-not_busy false e = cc
+not_busy on e = grind arith
 
 flight_is : (s : State) (c : Cursor) (w : Walk) → flight s c ≡ Some w → (s ≡ Busy) × (walk_at c ≡ w)
-flight_is On c w e = absurd (none-some w e)
-flight_is Busy c w e = (refl, same_Some (walk_at c) w e)
-flight_is Error c w e = absurd (none-some w e)
-flight_is Off c w e = absurd (none-some w e)
+flight_is s c w e = grind arith
 
 -- all that a log says of the walk in flight
 pub record InFlight (a : Inside) (w : Walk) (log : List LogEntry) : Type 0 where
@@ -58,10 +53,7 @@ pub record InFlight (a : Inside) (w : Walk) (log : List LogEntry) : Type 0 where
   pub index : a.cursor.at ≡ index_at (kept_calls a.sizes log) w.slot (slice_get (chain_in (kept_calls a.sizes log) w.slot) step)
 
 block_of : (a : Inside) (log : List LogEntry) → StandsFor log (view_of a) → IsBlockOf a.sizes.tolimit a.sizes.slots (entered_calls a.sizes log) (kept_calls a.sizes log) a.block
-block_of a log stands = record {
-  tos = stands.tos ∙ entries_of-by a.sizes log;
-  froms = stands.froms ∙ fronts_of-by a.sizes log;
-}
+block_of a log stands = grind (arith, entries_of-by, fronts_of-by)
 
 not_error : (s : State) → s ≡ Busy → s ≡ Error → ⊥
 not_error s busy error = let e : Busy ≡ Error = sym busy ∙ error in cc
@@ -107,13 +99,10 @@ in_flight a w log held e stands =
     subst P is.1 (in_flight_at a log held is.0 stands)
 
 pub at_bound : (a : Inside) (w : Walk) (log : List LogEntry) → IsHeld a → InFlight a w log → a.cursor.at < length a.block.tos
-at_bound a w log held f =
-    omega (arith, f.index, index_at_small (kept_calls a.sizes log) w.slot f.step, f.few, held.tos)
+at_bound a w log held f = grind arith
 
 pub place_bound : (a : Inside) (w : Walk) (log : List LogEntry) → IsHeld a → InFlight a w log → w.place ≤ 65534
-place_bound a w log held f =
-    let bounds = looks_bounds (kept_calls a.sizes log) w.slot w.to in
-    omega (arith, f.place, f.within, bounds.1, chain_short (kept_calls a.sizes log) w.slot, f.few, held.sizes.most)
+place_bound a w log held f = grind (arith, chain_short)
 
 -- the callee at the place, and its entry
 pub record IsHere (a : Inside) (w : Walk) (log : List LogEntry) (step : ℕ) : Type 0 where
@@ -123,20 +112,7 @@ pub record IsHere (a : Inside) (w : Walk) (log : List LogEntry) (step : ℕ) : T
   pub link : (entry_at a.block a.cursor.at).link ≡ index_at (kept_calls a.sizes log) w.slot (slice_get (chain_in (kept_calls a.sizes log) w.slot) (suc step))
 
 pub is_here : (a : Inside) (w : Walk) (log : List LogEntry) (f : InFlight a w log) → (a.cursor.at ≡ 0 → ⊥) → IsHere a w log f.step
-is_here a w log f some =
-    let ps = kept_calls a.sizes log in
-    elim (at_place ps w.slot f.step) [
-      | inl past ↦ absurd (some (f.index ∙ past.1))
-      | inr here ↦
-          let entry : entry_at a.block a.cursor.at ≡ entry_in ps (pair w.slot here.0) =
-          ap (entry_at a.block) (f.index ∙ here.2) ∙ entry_read a.sizes.tolimit a.sizes.slots ps ps a.block (pair w.slot here.0) f.block (in_chain ps w.slot f.step here.0 here.1) in
-          record {
-            to = here.0;
-            at = here.1;
-            entry = entry;
-            link = ap (λ (e : Tos). e.link) (entry ∙ entry-at ps w.slot f.step here.0 here.1);
-          }
-    ]
+is_here a w log f some = grind (arith, entry_read, in_chain, entry-at)
 
 -- its calls are among those that are counted
 pub count_bound : (a : Inside) (w : Walk) (log : List LogEntry) → InFlight a w log → StandsFor log (view_of a) → (a.cursor.at ≡ 0 → ⊥) → (entry_at a.block a.cursor.at).count ≤ a.calls
@@ -145,9 +121,7 @@ count_bound a w log f stands some =
     omega (arith, ap (λ (e : Tos). e.count) here.entry, count_small (kept_calls a.sizes log) w.slot here.to, stands.calls)
 
 pub is_found : (a : Inside) (w : Walk) (log : List LogEntry) (f : InFlight a w log) → (a.cursor.at ≡ 0 → ⊥) → (entry_at a.block a.cursor.at).selfpc ≡ w.to → slice_get (chain_in (kept_calls a.sizes log) w.slot) f.step ≡ Some w.to
-is_found a w log f some same =
-    let here = is_here a w log f some in
-    here.at ∙ ap (λ (t : ℕ). Some t) (ap (λ (e : Tos). e.selfpc) (sym here.entry) ∙ same)
+is_found a w log f some same = grind (arith, is_here a w log f some)
 
 pub is_passed : (a : Inside) (w : Walk) (log : List LogEntry) (f : InFlight a w log) → (a.cursor.at ≡ 0 → ⊥) → ((entry_at a.block a.cursor.at).selfpc ≡ w.to → ⊥) → ((entry_at a.block a.cursor.at).link ≡ 0 → ⊥) → suc f.step < looks_in (chain_in (kept_calls a.sizes log) w.slot) w.to
 is_passed a w log f some other link =
@@ -165,14 +139,7 @@ pub record IsNew (a : Inside) (w : Walk) (log : List LogEntry) (step : ℕ) : Ty
   pub last : looks_in (chain_in (kept_calls a.sizes log) w.slot) w.to ≡ suc step
 
 pub is_new_empty : (a : Inside) (w : Walk) (log : List LogEntry) (f : InFlight a w log) → a.cursor.at ≡ 0 → IsNew a w log f.step
-is_new_empty a w log f none =
-    let ps = kept_calls a.sizes log in
-    elim (at_place ps w.slot f.step) [
-      | inl past ↦
-          let m = meets_none (chain_in ps w.slot) w.to f.step (chain-once ps w.slot) f.within past.0 in
-          record { absent = sym (has-chain ps w.slot w.to) ∙ m.0; last = m.1 }
-      | inr here ↦ absurd (omega (arith, f.index, here.2, here.3))
-    ]
+is_new_empty a w log f none = grind (arith, at_place, meets_none, chain-once, has-chain)
 
 pub is_new_last : (a : Inside) (w : Walk) (log : List LogEntry) (f : InFlight a w log) → (a.cursor.at ≡ 0 → ⊥) → ((entry_at a.block a.cursor.at).selfpc ≡ w.to → ⊥) → (entry_at a.block a.cursor.at).link ≡ 0 → IsNew a w log f.step
 is_new_last a w log f some other link =

@@ -1,15 +1,14 @@
 -- What a run's prints leave on the outside.
-use Rattle.std.proofs.Common.{◌+◌, ◌++◌, ◌<◌, Bool, List, [], ap, append_assoc, arith, eqb, false, refl, subst, sym, take, true, ℕ, ◌∙◌, ◌∷◌, ◌≡◌, ◌≤◌, if◌then◌else◌}
-use Rattle.std.specs.Prelude.{Err, Result, not, ◌≢◌, ⊤}
+use Rattle.std.proofs.Common.{◌+◌, ◌++◌, ◌<◌, Bool, List, [], ap, append_assoc, arith, eqb, false, refl, subst, sym, take, true, ℕ, ◌∙◌, ◌∷◌, ◌≡◌, ◌≤◌}
+use Rattle.std.specs.Prelude.{Err, Result, ◌≢◌, ⊤}
 use Rattle.std.proofs.lemmas.List.{append-nil}
-use Rattle.std.proofs.lemmas.Bool.Decides.{nat_tests}
 use Rattle.host_port.proofs.Laws.{Did-nothing, Did-then}
 use Rattle.host_port.specs.Act.{Act}
 use Rattle.host_port.specs.Host.{CountsOf, Puts, act_of}
 use Rattle.host_port.specs.declared.side.Side.{Side}
-use Rattle.host_port.specs.declared.side.Side.TheVariants.{ErrorOutput, File, Output}
-use Rattle.host_port.specs.Outside.{Did, KeepsCounts, Outside, Rose}
-use Rattle.rv_step.specs.Memory.{IsInside, Memory, is_inside, read_at}
+use Rattle.host_port.specs.declared.side.Side.TheVariants.{File}
+use Rattle.host_port.specs.Outside.{Did, KeepsCounts, Outside}
+use Rattle.rv_step.specs.Memory.{IsInside, Memory, read_at}
 use Rattle.prof_machine.proofs.PrintLemmas.{prints_planned}
 use Rattle.prof_machine.specs.Ecalls.{is_output, side_of, write_acts}
 use Rattle.prof_machine.specs.Plan.{after_drive, most_turns, world_at}
@@ -39,13 +38,10 @@ printed_then u v w x y z p q = record {
 -- ---- prints that fail
 
 side_is : (d : ℕ) (b : Bool) → eqb d 1 ≡ b → side_of d ≢ File
-side_is d true is = λ same. absurd (cc (ap (λ (b : Bool). if b then Output else ErrorOutput) is, same))
-side_is d false is = λ same. absurd (cc (ap (λ (b : Bool). if b then Output else ErrorOutput) is, same))
+side_is d b is = grind arith
 
 own_count : (T E : Type 0) (side : Side) (old new : Outside) (e : E) → CountsOf {T = T} {E = E} side old new (Err e) → CountsOf {T = ⊤} {E = ⊤} side old new (Err tt)
-own_count T E File old new e p = record { own = p.own; last = p.last; read = p.read; err = p.err }
-own_count T E Output old new e p = record { own = p.own; last = p.last; read = p.read; err = p.err }
-own_count T E ErrorOutput old new e p = record { own = p.own; read = p.read; write = p.write }
+own_count T E side old new e p = grind arith
 
 -- one print, which failed
 pub cut_short : {T E : Type 0} (result : Result T E) (e : E) (d : ℕ) (piece : List ℕ) (old new : Outside) → result ≡ Err e → Puts (side_of d) piece old new result → IsCutShort (act_of (side_of d) piece ∷ []) old new
@@ -65,13 +61,8 @@ cut_short {T} {E} result e d piece old new is puts =
       no_file = side_is d (eqb d 1) refl;
     }
 
-rose_after : (a b c : ℕ) → b ≡ a → Rose b c → Rose a c
-rose_after a b c same rose = let P : ℕ → Type 0 = λ n. Rose n c in subst P same rose
-
 counts_after : (side : Side) (a b c : Outside) → KeepsCounts a b → CountsOf {T = ⊤} {E = ⊤} side b c (Err tt) → CountsOf {T = ⊤} {E = ⊤} side a c (Err tt)
-counts_after File a b c keeps p = record { own = rose_after _ _ _ keeps.write p.own; last = p.last; read = p.read ∙ keeps.read; err = p.err ∙ keeps.err }
-counts_after Output a b c keeps p = record { own = rose_after _ _ _ keeps.write p.own; last = p.last; read = p.read ∙ keeps.read; err = p.err ∙ keeps.err }
-counts_after ErrorOutput a b c keeps p = record { own = rose_after _ _ _ keeps.err p.own; read = p.read ∙ keeps.read; write = p.write ∙ keeps.write }
+counts_after side a b c keeps p = grind arith
 
 cut_after : (front acts : List Act) (x y z : Outside) → Did front x y → KeepsCounts x y → IsCutShort acts y z → IsCutShort (front ++ acts) x z
 cut_after front acts x y z did keeps cut =
@@ -92,24 +83,14 @@ cut_after front acts x y z did keeps cut =
 
 -- what was printed before it stands in front
 pub breaks_after : (u v w : World) (x y z : Outside) → ArePrinted u v x y → KeepsCounts x y → BreaksOff v w y z → BreaksOff u w x z
-breaks_after u v w x y z p keeps off = record {
-  more = p.more ++ off.more;
-  behind = off.behind ∙ ap (λ (front : List Act). front ++ off.more) p.behind ∙ append_assoc u.prints p.more off.more;
-  cut = cut_after p.more off.more x y z p.did keeps off.cut;
-}
+breaks_after u v w x y z p keeps off = grind (arith, append_assoc, cut_after)
 
 -- of all that the turns of the plan print, what was printed is the front, and the piece that was cut comes next
 pub breaks_front : (m : Machine) (w : World) (k n : ℕ) (x y : Outside) → k ≤ n → (off : BreaksOff w (world_at m w k) x y)
     → (more : List Act) × ((world_at m w n).prints ≡ w.prints ++ (off.cut.before ++ act_of off.cut.side off.cut.piece ∷ more))
 breaks_front m w k n x y le off =
     let p = prints_planned m w k n le in
-    let whole = act_of off.cut.side off.cut.piece in (
-      p.0,
-      p.1
-          ∙ ap (λ (front : List Act). front ++ p.0) (off.behind ∙ ap (λ (back : List Act). w.prints ++ back) off.cut.last)
-          ∙ append_assoc w.prints (off.cut.before ++ whole ∷ []) p.0
-          ∙ ap (λ (back : List Act). w.prints ++ back) (append_assoc off.cut.before (whole ∷ []) p.0),
-    )
+    grind (arith, append_assoc)
 
 -- The same of a run that was driven: a print failed in turn n of the plan, and this is what the whole run would
 -- have printed.
@@ -122,10 +103,4 @@ driven_front m w n x y few off = breaks_front m w (n + 1) (most_turns m.setup) x
 
 -- bytes of memory, where it prints any
 pub write_acts_are : (m : Memory) (d from n : ℕ) (bytes : List ℕ) → is_output d ≡ true → eqb n 0 ≡ false → IsInside m from n → bytes ≡ read_at m from n → write_acts m d from n ≡ act_of (side_of d) bytes ∷ []
-write_acts_are m d from n bytes known some inside is =
-    let acts = act_of (side_of d) (read_at m from n) ∷ [] in
-    let test : is_inside m from n ≡ true = grind (arith, nat_tests, inside.0, inside.1) in
-    ap (λ (b : Bool). if not b then [] else (if eqb n 0 then [] else (if is_inside m from n then acts else []))) known
-    ∙ ap (λ (b : Bool). if b then [] else (if is_inside m from n then acts else [])) some
-    ∙ ap (λ (b : Bool). if b then acts else []) test
-    ∙ ap (λ (x : List ℕ). act_of (side_of d) x ∷ []) (sym is)
+write_acts_are m d from n bytes known some inside is = grind arith

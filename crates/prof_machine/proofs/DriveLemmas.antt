@@ -1,5 +1,5 @@
 -- The loop that makes the turns of a plan.
-use Rattle.std.proofs.Common.{◌*◌, ◌+◌, ◌-◌, None, Option, Some, ap, arith, refl, subst, sym, true, ℕ, ◌∙◌, ◌≡◌, ◌<◌, ◌≤◌, ◌↔◌}
+use Rattle.std.proofs.Common.{◌*◌, ◌+◌, ◌-◌, None, Option, Some, ap, arith, refl, subst, sym, ℕ, ◌∙◌, ◌≡◌, ◌<◌, ◌≤◌, ◌↔◌}
 use Rattle.std.specs.Prelude.{IfSome}
 use Rattle.host_port.specs.Outside.{KeepsCounts, KeepsInput, Outside}
 use Rattle.prof_machine.proofs.PlanLemmas.{driven_at, next_turn}
@@ -8,7 +8,7 @@ use Rattle.prof_machine.specs.Prints.{ArePrinted}
 use Rattle.prof_machine.specs.Schedule.{Draws, PlanPlace}
 use Rattle.prof_machine.specs.Stages.{LeavesFewerTurns}
 use Rattle.prof_machine.specs.Turn.{turn_of}
-use Rattle.prof_machine.specs.Value.{IsHeld, IsLive, RunValue, StandsFor, flights, looks_at_most, turned_of, value_of, work_left}
+use Rattle.prof_machine.specs.Value.{IsHeld, IsLive, RunValue, StandsFor, looks_at_most, turned_of, value_of, work_left}
 use Rattle.prof_machine.specs.World.{World}
 use Rattle.prof_machine.specs.declared.summary.End.{End}
 use Rattle.prof_machine.specs.declared.summary.Turned.TheVariants.{Ended}
@@ -45,36 +45,21 @@ pub in_last : (P : World → Type 0) (m : Machine) (w : World) (r : RunValue) (n
 in_last P m w r n end enough is stands p = subst P (driven_at m w n end enough (sym stands.ending ∙ is)) p
 
 work_by : (a : Inside) (f : Option Flight) → IsHeld a → a.flight ≡ f → IfSome f (λ x. 1 ≤ x.walk.place) → 65535 * (a.machine.setup.budget - a.retired) + looks_at_most f ≤ most_turns a.machine.setup
-work_by a None held is place = let within = held.retired in omega arith
-work_by a (Some f) held is place =
-    let within = held.retired in
-    let calls : a.lost + a.gmon.calls + 1 ≤ a.retired = subst (λ (o : Option Flight). a.lost + a.gmon.calls + flights o ≤ a.retired) is held.calls in
-    omega (arith, calls, within, place)
+work_by a f held is place = grind arith
 
 first_place : (o : Option Flight) → IfSome o (λ f. (1 ≤ f.walk.place) × (f.walk.place ≤ 65534)) → IfSome o (λ f. 1 ≤ f.walk.place)
-first_place None p = tt
-first_place (Some f) p = p.0
+first_place o p = grind arith
 
 -- a run has not more work left than all turns that it may have
 pub work_bound : (a : Inside) → IsHeld a → work_left (value_of a) ≤ most_turns a.machine.setup
 work_bound a held = work_by a a.flight held refl (first_place a.flight held.place)
 
 pub fewer_turns : (a : Inside) (old new : RunValue) → value_of a ≡ old → IsHeld a → IsLive old → (IsLive new → work_left new < work_left old) → LeavesFewerTurns old new
-fewer_turns a old new is held live less =
-    let G : RunValue → Type 0 = λ r. r.live ≡ true → r.ending ≡ None in
-    let L : RunValue → Type 0 = λ r. r.live ≡ true → 0 < work_left r in
-    let P : RunValue → Type 0 = λ r. work_left r ≤ most_turns r.machine.setup in
-    record {
-      going = subst G is held.going live;
-      left = subst L is (λ (l : a.live ≡ true). omega (arith, held.left l)) live;
-      few = subst P is (work_bound a held);
-      less = less;
-    }
+fewer_turns a old new is held live less = grind arith
 
 -- what a turn answers where the run has ended
 ended_answer : (o : Option End) (end : End) → turned_of o ≡ Ended end → o ≡ Some end
-ended_answer None end is = absurd cc
-ended_answer (Some e) end is = let same : e ≡ end = cc in ap (λ (x : End). Some x) same
+ended_answer o end is = grind arith
 
 pub ended_exactly : (o : Option End) (end : End) → (turned_of o ≡ Ended end) ↔ (o ≡ Some end)
 ended_exactly o end = (ended_answer o end, λ is. ap turned_of is)

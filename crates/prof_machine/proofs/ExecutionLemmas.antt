@@ -1,7 +1,7 @@
 -- What one more instruction does to the counts of executed instructions.
-use Rattle.std.proofs.Common.{All, Bool, List, Option, [], ap, arith, cond, eqb, false, get_or, get_or-set_other, get_or-set_same, inl, inr, leb, length, length-set, ltb, refl, replicate, set, slice_index, suc, sym, true, zero, ℕ, ◌%◌, ◌&&◌, ◌*◌, ◌++◌, ◌+◌, ◌-◌, ◌/◌, ◌<◌, ◌∙◌, ◌∷◌, ◌≡◌, ◌≤◌, if◌then◌else◌}
-use Rattle.std.proofs.lemmas.Bool.{and_from, and_parts, cases_eq, eq-eqb, eqb-true, le-leb, leb-true, lt-ltb, ltb-true, ne_eqb}
-use Rattle.std.specs.List.{cons_option, filter_map, range_with_len}
+use Rattle.std.proofs.Common.{Bool, List, Option, [], ap, arith, cond, eqb, false, get_or, get_or-set_other, get_or-set_same, inl, inr, leb, length, length-set, ltb, refl, replicate, set, suc, sym, true, zero, ℕ, ◌%◌, ◌&&◌, ◌*◌, ◌++◌, ◌+◌, ◌-◌, ◌/◌, ◌<◌, ◌∙◌, ◌∷◌, ◌≡◌, ◌≤◌, if◌then◌else◌}
+use Rattle.std.proofs.lemmas.Bool.{cases_eq, eq-eqb, ne_eqb}
+use Rattle.std.specs.List.{filter_map, range_with_len}
 use Rattle.std.proofs.lemmas.List.{get_or-replicate, length-replicate}
 use Rattle.std.proofs.lemmas.List.FromFn.{fill_by_all, get_or-map-range_with_len, length-map-range_with_len}
 use Rattle.std.proofs.lemmas.List.Sums.{sum_by_push}
@@ -10,7 +10,7 @@ use Rattle.mcount_arcs.specs.Sizes.{AreSizes}
 use Rattle.mcount_arcs.specs.declared.sizes.Sizes.{Sizes}
 use Rattle.prof_machine.specs.Value.{AreCounts}
 use Rattle.prof_machine.specs.declared.machine.Machine.{Machine}
-use Rattle.prof_machine.specs.Executions.{counted_pairs, exec_counts_of, executed_pairs, executions_at, executions_in, instructions_of, pair_of, with_execution}
+use Rattle.prof_machine.specs.Executions.{counted_pairs, exec_counts_of, executed_pairs, executions_at, executions_in, instructions_of, with_execution}
 
 executions_at-push : (ran : List ℕ) (pc a : ℕ) → executions_at (ran ++ pc ∷ []) a ≡ executions_at ran a + cond (eqb pc a) 1 0
 executions_at-push ran pc a = sum_by_push (λ x. cond (eqb x a) 1 0) ran pc
@@ -41,20 +41,10 @@ record HasCount (low pc n : ℕ) : Type 0 where
   pub place : pc ≡ low + 4 * ((pc - low) / 4)
 
 has_count : (low pc n : ℕ) → is_counted low pc n ≡ true → HasCount low pc n
-has_count low pc n is =
-    let outer = and_parts (leb low pc && eqb ((pc - low) % 4) 0) (ltb ((pc - low) / 4) n) is in
-    let inner = and_parts (leb low pc) (eqb ((pc - low) % 4) 0) outer.0 in
-    let order = leb-true low pc inner.0 in
-    let whole = eqb-true ((pc - low) % 4) 0 inner.1 in
-    record { below = ltb-true ((pc - low) / 4) n outer.1; place = omega arith }
+has_count low pc n is = grind arith
 
 no_count : (low pc n i : ℕ) → is_counted low pc n ≡ false → i < n → pc ≡ low + 4 * i → ⊥
-no_count low pc n i is below same =
-    let yes_it : is_counted low pc n ≡ true =
-    and_from (leb low pc && eqb ((pc - low) % 4) 0) (ltb ((pc - low) / 4) n)
-    (and_from (leb low pc) (eqb ((pc - low) % 4) 0) (le-leb low pc (omega arith)) (eq-eqb ((pc - low) % 4) 0 (omega arith)))
-    (lt-ltb ((pc - low) / 4) n (omega arith)) in
-    cc
+no_count low pc n i is below same = grind arith
 
 by_count : (z : Sizes) (ran : List ℕ) (pc : ℕ) (b : Bool) → is_counted z.low pc (instructions_of z) ≡ b
     → (let xs = executions_in z ran in if b then set xs ((pc - z.low) / 4) (get_or xs ((pc - z.low) / 4) 0 + 1) else xs) ≡ executions_in z (ran ++ pc ∷ [])
@@ -72,27 +62,12 @@ by_count z ran pc true is =
       | inr ne ↦ get_or-set_other xs k i v 0 ne ∙ count_at z ran i 0 lt
           ∙ sym (at_other ran pc (z.low + 4 * i) (λ same. ne (omega (arith, has.place, same))))
     ])
-by_count z ran pc false is =
-    let xs = executions_in z ran in
-    counts_of_all z (ran ++ pc ∷ []) xs (length-counts z ran) (λ i lt.
-    count_at z ran i 0 lt ∙ sym (at_other ran pc (z.low + 4 * i) (no_count z.low pc (instructions_of z) i is lt)))
-
-none_counted : (low pc : ℕ) (b : Bool) → (if b then set [] ((pc - low) / 4) (get_or [] ((pc - low) / 4) 0 + 1) else []) ≡ []
-none_counted low pc true = refl
-none_counted low pc false = refl
-
-by_asked : (z : Sizes) (ran : List ℕ) (pc : ℕ) (asked : Bool) → with_execution z.low pc (if asked then executions_in z ran else []) ≡ (if asked then executions_in z (ran ++ pc ∷ []) else [])
-by_asked z ran pc true =
-    let xs = executions_in z ran in
-    ap (λ (n : ℕ). if is_counted z.low pc n then set xs ((pc - z.low) / 4) (get_or xs ((pc - z.low) / 4) 0 + 1) else xs) (length-counts z ran)
-    ∙ by_count z ran pc (is_counted z.low pc (instructions_of z)) refl
-by_asked z ran pc false = none_counted z.low pc (is_counted z.low pc 0)
+by_count z ran pc false is = search (counts_of_all, length-counts, count_at, at_other, no_count)
 
 -- one more instruction has retired
 pub exec_counts_of-push : (m : Machine) (ran counts : List ℕ) (pc : ℕ) → counts ≡ exec_counts_of m ran → with_execution m.sizes.low pc counts ≡ exec_counts_of m (ran ++ pc ∷ [])
 unfolding exec_counts_of
-exec_counts_of-push m ran counts pc is =
-    ap (with_execution m.sizes.low pc) is ∙ by_asked m.sizes ran pc m.setup.blocks
+exec_counts_of-push m ran counts pc is = grind (arith, length-counts, by_count)
 
 -- none has
 zeros_by : (z : Sizes) (asked : Bool) → (if asked then replicate (instructions_of z) 0 else []) ≡ (if asked then executions_in z [] else [])
@@ -101,66 +76,22 @@ zeros_by z false = refl
 
 pub exec_counts_of-nil : (m : Machine) (z : Sizes) (asked : Bool) → m.sizes ≡ z → m.setup.blocks ≡ asked → (if asked then replicate (instructions_of z) 0 else []) ≡ exec_counts_of m []
 unfolding exec_counts_of
-exec_counts_of-nil m z asked sizes blocks =
-    zeros_by z asked ∙ ap (λ (b : Bool). if b then executions_in z [] else []) (sym blocks) ∙ ap (λ (y : Sizes). if m.setup.blocks then executions_in y [] else []) (sym sizes)
+exec_counts_of-nil m z asked sizes blocks = grind (arith, zeros_by)
 
 -- ---- no count is above the number of instructions
 
-bound_by : (low pc n : ℕ) (xs : List ℕ) (b : Bool) → All (λ x. x ≤ n) xs → All (λ x. x ≤ n + 1) (if b then set xs ((pc - low) / 4) (get_or xs ((pc - low) / 4) 0 + 1) else xs)
-bound_by low pc n xs true all = λ k d inside.
-    let i : ℕ = (pc - low) / 4 in
-    let v : ℕ = get_or xs i 0 + 1 in
-    let within : k < length xs = omega (arith, length-set xs i v, inside) in
-    elim (cases_eq k i) [
-      | inl e ↦
-          let here : i < length xs = omega arith in
-          let same : get_or (set xs i v) k d ≡ v = ap (λ (j : ℕ). get_or (set xs i v) j d) e ∙ get_or-set_same xs i v d here in
-          omega (arith, same, all i 0 here)
-      | inr ne ↦ omega (arith, get_or-set_other xs i k v d ne, all k d within)
-    ]
-bound_by low pc n xs false all = λ k d inside. omega (arith, all k d inside)
-
-counts_bound : (low pc n : ℕ) (xs : List ℕ) → All (λ x. x ≤ n) xs → All (λ x. x ≤ n + 1) (with_execution low pc xs)
-counts_bound low pc n xs all = bound_by low pc n xs (is_counted low pc (length xs)) all
-
-length_by : (low pc : ℕ) (xs : List ℕ) (b : Bool) → length (if b then set xs ((pc - low) / 4) (get_or xs ((pc - low) / 4) 0 + 1) else xs) ≡ length xs
-length_by low pc xs true = length-set xs ((pc - low) / 4) (get_or xs ((pc - low) / 4) 0 + 1)
-length_by low pc xs false = refl
-
 pub more_counts : (low pc n : ℕ) (xs : List ℕ) → AreCounts low n xs → AreCounts low (n + 1) (with_execution low pc xs)
-more_counts low pc n xs are = record {
-  few = counts_bound low pc n xs are.few;
-  places = omega (arith, are.places, length_by low pc xs (is_counted low pc (length xs)));
-}
-
-zeros_bound : (n count : ℕ) (asked : Bool) → All (λ x. x ≤ n) (if asked then replicate count 0 else [])
-zeros_bound n count true = λ k d inside. omega (arith, get_or-replicate count k 0 d (omega (arith, length-replicate {A = ℕ} count 0, inside)))
-zeros_bound n count false = λ k d inside. absurd (omega (arith, inside))
-
-zeros_short : (count : ℕ) (asked : Bool) → length {A = ℕ} (if asked then replicate count 0 else []) ≤ count
-zeros_short count true = omega (arith, length-replicate {A = ℕ} count 0)
-zeros_short count false = omega arith
+more_counts low pc n xs are = grind (arith, length-set, get_or-set_same, get_or-set_other)
 
 pub first_counts : (z : Sizes) (n : ℕ) (asked : Bool) → AreSizes z → AreCounts z.low n (if asked then replicate (instructions_of z) 0 else [])
-first_counts z n asked are = record {
-  few = zeros_bound n (instructions_of z) asked;
-  places = omega (arith, are.end, are.counters, zeros_short (instructions_of z) asked);
-}
+first_counts z n asked are = grind (arith, get_or-replicate, length-replicate)
 
 -- ---- as pairs
 
 -- what two functions give of the numbers from k on, that agree on them
 mapped_same : (f g : ℕ → Option RawBlock) (n k : ℕ) → ((i : ℕ) → k ≤ i → i < k + n → f i ≡ g i) → filter_map f (range_with_len k n) ≡ filter_map g (range_with_len k n)
 mapped_same f g zero k same = refl
-mapped_same f g (suc n) k same =
-    let rest = mapped_same f g n (k + 1) (λ i above below. same i (omega (arith, above)) (omega (arith, below))) in
-    ap (λ (o : Option RawBlock). cons_option o (filter_map f (range_with_len (k + 1) n))) (same k (omega arith) (omega arith))
-    ∙ ap (cons_option (g k)) rest
+mapped_same f g (suc n) k same = grind (arith, mapped_same f g n (k + 1))
 
 pub pairs_counted : (z : Sizes) (ran : List ℕ) → counted_pairs z.low (executions_in z ran) ≡ executed_pairs z ran
-pairs_counted z ran =
-    let counts = executions_in z ran in
-    let f : ℕ → Option RawBlock = λ i. pair_of (z.low + 4 * i) (slice_index counts i) in
-    let g : ℕ → Option RawBlock = λ i. pair_of (z.low + 4 * i) (executions_at ran (z.low + 4 * i)) in
-    ap (λ (n : ℕ). filter_map f (range_with_len 0 n)) (length-counts z ran)
-    ∙ mapped_same f g (instructions_of z) 0 (λ i above below. ap (pair_of (z.low + 4 * i)) (count_at z ran i 0 (omega (arith, below))))
+pairs_counted z ran = grind (arith, length-counts, mapped_same, count_at)

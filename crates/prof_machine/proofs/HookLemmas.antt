@@ -1,13 +1,13 @@
 -- A hook, in the world that a run stands for.
-use Rattle.std.proofs.Common.{◌+◌, ◌++◌, ◌-◌, Bool, List, None, Option, Some, [], ap, arith, eqb, false, refl, subst, sym, true, ℕ, ◌∙◌, ◌∷◌, ◌≡◌, if◌then◌else◌}
-use Rattle.std.specs.Prelude.{nat_lt, not, option_map}
+use Rattle.std.proofs.Common.{◌+◌, ◌++◌, Bool, List, Some, [], ap, arith, eqb, refl, subst, sym, ℕ, ◌∙◌, ◌∷◌, ◌≡◌, if◌then◌else◌}
+use Rattle.std.specs.Prelude.{not, option_map}
 use Rattle.std.specs.Option.{option_eq}
-use Rattle.mcount_arcs.specs.Log.{CallIgnored, CallLost, Enter, Mode, state_of}
-use Rattle.mcount_arcs.specs.Sizes.{offset_of, slot_of}
+use Rattle.mcount_arcs.specs.Log.{CallIgnored, CallLost, Enter, Mode}
+use Rattle.mcount_arcs.specs.Sizes.{slot_of}
 use Rattle.mcount_arcs.specs.Value.{GmonValue, StandsFor as RuntimeStandsFor, meets, walk_from}
 use Rattle.mcount_arcs.specs.declared.sizes.Sizes.{Sizes}
 use Rattle.mcount_arcs.specs.declared.state.State.{State}
-use Rattle.mcount_arcs.specs.declared.state.State.TheVariants.{Busy, Error, Off, On}
+use Rattle.mcount_arcs.specs.declared.state.State.TheVariants.{On}
 use Rattle.mcount_arcs.specs.declared.walk.Entered.{Entered}
 use Rattle.mcount_arcs.specs.declared.walk.Entered.TheVariants.{Ignored, Lost, Walking}
 use Rattle.mcount_arcs.specs.declared.walk.Walk.{Walk}
@@ -15,32 +15,16 @@ use Rattle.rv_step.specs.Registers.{Registers, register}
 use Rattle.prof_machine.proofs.StandingLemmas.{quiet_stands, returns_stands}
 use Rattle.prof_machine.proofs.WalkLemmas.{enter_stands}
 use Rattle.prof_machine.specs.Stages.{returns}
-use Rattle.prof_machine.specs.Turn.{after_entering, after_arrival, after_mcount, is_at, after_return, after_moncontrol, with_entry}
+use Rattle.prof_machine.specs.Turn.{after_entering, after_arrival, after_mcount, after_return, after_moncontrol, with_entry}
 use Rattle.prof_machine.specs.Value.{RunValue, StandsFor}
 use Rattle.prof_machine.specs.World.{World, hart_of}
 
-at_on : (z : Sizes) (from to : ℕ) (walk : Walk) (b : Bool) → Walking walk ≡ (if b then Walking (walk_from (slot_of z from) to) else Ignored) → walk ≡ walk_from (slot_of z from) to
-at_on z from to walk true is = cc
-at_on z from to walk false is = absurd cc
-
 pub walk_is : (z : Sizes) (state : State) (from to : ℕ) (walk : Walk) → Walking walk ≡ meets z state from to → (state ≡ On) × (walk ≡ walk_from (slot_of z from) to)
-walk_is z On from to walk is = (refl, at_on z from to walk (nat_lt (offset_of z from) (z.high - z.low)) is)
-walk_is z Busy from to walk is = absurd cc
-walk_is z Error from to walk is = absurd cc
-walk_is z Off from to walk is = absurd cc
+walk_is z state from to walk is = grind arith
 
 pub called_as : (w : World) (r : RunValue) (h from to : ℕ) (s : Registers) (e : Entered) → hart_of r.harts h ≡ s → from ≡ register s 10 → to ≡ register s 1 → e ≡ meets r.gmon.sizes r.gmon.state from to → r.gmon.sizes ≡ r.machine.sizes → StandsFor w r
     → after_mcount r.machine h (hart_of w.harts h) w ≡ after_entering r.machine h from to e w
-called_as w r h from to s e read f t met sizes stands =
-    let m = r.machine in
-    let hart : hart_of w.harts h ≡ s = ap (λ (x : List Registers). hart_of x h) (sym stands.harts) ∙ read in
-    let state : state_of m.sizes w.log ≡ r.gmon.state = ap (λ (z : Sizes). state_of z w.log) (sym sizes) ∙ sym stands.gmon.state in
-    ap (λ (x : Registers). after_mcount m h x w) hart
-    ∙ ap (λ (x : ℕ). after_entering m h x (register s 1) (meets m.sizes (state_of m.sizes w.log) x (register s 1)) w) (sym f)
-    ∙ ap (λ (x : ℕ). after_entering m h from x (meets m.sizes (state_of m.sizes w.log) from x) w) (sym t)
-    ∙ ap (λ (x : State). after_entering m h from to (meets m.sizes x from to) w) state
-    ∙ ap (λ (x : Sizes). after_entering m h from to (meets x r.gmon.state from to) w) (sym sizes)
-    ∙ ap (λ (x : Entered). after_entering m h from to x w) (sym met)
+called_as w r h from to s e read f t met sizes stands = grind arith
 
 pub walking_stands : (w : World) (r : RunValue) (g : GmonValue) (h from to : ℕ) (walk : Walk) → Walking walk ≡ meets r.gmon.sizes r.gmon.state from to → r.gmon.sizes ≡ r.machine.sizes → r.gmon.walk ≡ option_map (λ f. f.walk) r.flight
     → RuntimeStandsFor (w.log ++ Enter from to ∷ []) g → StandsFor w r → StandsFor (after_entering r.machine h from to (Walking walk) w) (record r { flight = Some (record { hart = h; walk = walk }); gmon = g })
@@ -51,8 +35,7 @@ walking_stands w r g h from to walk met sizes held gmon stands =
     subst P (sym same) (enter_stands w r g h from to is.0 sizes held gmon stands)
 
 pub lost_stands : (w : World) (r : RunValue) (g : GmonValue) (h from to : ℕ) → RuntimeStandsFor (w.log ++ CallLost from to ∷ []) g → StandsFor w r → StandsFor (after_entering r.machine h from to Lost w) (returns h (record r { gmon = g; lost = r.lost + 1 }))
-lost_stands w r g h from to gmon stands =
-    returns_stands (with_entry (CallLost from to) w) (record r { gmon = g; lost = r.lost + 1 }) h (quiet_stands w r g (r.lost + 1) (CallLost from to) (record { walk = refl; pair = refl }) (λ before. refl) refl gmon stands)
+lost_stands w r g h from to gmon stands = search (returns_stands, quiet_stands)
 
 pub ignored_stands : (w : World) (r : RunValue) (g : GmonValue) (h from to : ℕ) → RuntimeStandsFor (w.log ++ CallIgnored from to ∷ []) g → StandsFor w r → StandsFor (after_entering r.machine h from to Ignored w) (returns h (record r { gmon = g }))
 ignored_stands w r g h from to gmon stands =
@@ -66,19 +49,7 @@ switched_stands w r g h on s read is gmon stands =
     let P : Bool → Type 0 = λ b. StandsFor (after_return h (with_entry (Mode b) w)) (returns h (record r { gmon = g })) in
     subst P same (returns_stands (with_entry (Mode on) w) (record r { gmon = g }) h (quiet_stands w r g r.lost (Mode on) (record { walk = refl; pair = refl }) (λ before. refl) (omega arith) gmon stands))
 
--- whether the hart stands at a hook
-pub at_is : (hook : Option ℕ) (pc : ℕ) → option_eq eqb hook (Some pc) ≡ is_at hook pc
-at_is None pc = refl
-at_is (Some a) pc = refl
-
 pub arrived_as : (w : World) (r : RunValue) (h pc : ℕ) (s : Registers) (b c : Bool) → hart_of r.harts h ≡ s → pc ≡ s.pc → b ≡ option_eq eqb r.machine.mcount (Some pc) → c ≡ option_eq eqb r.machine.moncontrol (Some pc) → StandsFor w r
     → after_arrival r.machine h w ≡ (if b then after_mcount r.machine h (hart_of w.harts h) w else (if c then after_moncontrol h (hart_of w.harts h) w else w))
 unfolding after_arrival
-arrived_as w r h pc s b c read pc_is b_is c_is stands =
-    let m = r.machine in
-    let t = hart_of w.harts h in
-    let here : t.pc ≡ pc = ap (λ (x : List Registers). (hart_of x h).pc) (sym stands.harts) ∙ ap (λ (x : Registers). x.pc) read ∙ sym pc_is in
-    let p : is_at m.mcount t.pc ≡ b = ap (is_at m.mcount) here ∙ sym (at_is m.mcount pc) ∙ sym b_is in
-    let q : is_at m.moncontrol t.pc ≡ c = ap (is_at m.moncontrol) here ∙ sym (at_is m.moncontrol pc) ∙ sym c_is in
-    ap (λ (x : Bool). if x then after_mcount m h t w else (if is_at m.moncontrol t.pc then after_moncontrol h t w else w)) p
-    ∙ ap (λ (x : Bool). if b then after_mcount m h t w else (if x then after_moncontrol h t w else w)) q
+arrived_as w r h pc s b c read pc_is b_is c_is stands = grind arith

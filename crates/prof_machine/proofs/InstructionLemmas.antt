@@ -26,8 +26,7 @@ use Rattle.prof_machine.specs.declared.runs.Run.TheInside.{Inside}
 
 executed_at : (w : World) (r : RunValue) (m : Machine) (h : ℕ) → StandsFor w r → after_execution m h w ≡ after_outcome m h (step_of (hart_of r.harts h) r.memory) w
 unfolding after_execution
-executed_at w r m h stands =
-    ap (λ (x : List Registers). after_outcome m h (step_of (hart_of x h) w.memory) w) (sym stands.harts) ∙ ap (λ (x : Memory). after_outcome m h (step_of (hart_of r.harts h) x) w) (sym stands.memory)
+executed_at w r m h stands = search (w.memory, stands.harts, stands.memory)
 
 -- what the step answered, and left
 pub executed_by : (w : World) (r : RunValue) (m : Machine) (h : ℕ) (answer : Stepped) (s : Registers) (memory : Memory) → StandsFor w r
@@ -48,11 +47,7 @@ retired_stands w r h pc s m is stands =
 
 pub ecall_as : (w : World) (r : RunValue) (h : ℕ) (s : Registers) (call : Call) → hart_of r.harts h ≡ s → call ≡ ecall_of r.machine s r.break_at → StandsFor w r → after_ecall r.machine h w ≡ after_call h call w
 unfolding after_ecall
-ecall_as w r h s call read is stands =
-    let hart : hart_of w.harts h ≡ s = ap (λ (x : List Registers). hart_of x h) (sym stands.harts) ∙ read in
-    ap (λ (x : Registers). after_call h (ecall_of r.machine x w.break_at) w) hart
-    ∙ ap (λ (x : ℕ). after_call h (ecall_of r.machine s x) w) (sym stands.break_at)
-    ∙ ap (λ (x : Call). after_call h x w) (sym is)
+ecall_as w r h s call read is stands = search (w.harts, stands.harts, w.break_at, stands.break_at)
 
 with_prints : (w : World) (r : RunValue) (acts : List Act) → StandsFor w r → StandsFor (record w { prints = acts }) r
 with_prints w r acts stands = stands_with w r acts r.live r.note stands.harts stands.memory stands.break_at stands.ending stands

@@ -1,14 +1,12 @@
 -- What only an instruction changes: how many have retired, where they stood, and what was printed.
-use Rattle.std.proofs.Common.{◌%◌, ◌&&◌, Bool, List, Option, None, Some, eqb, false, refl, set, true, ℕ, ◌∙◌, ◌≡◌, if◌then◌else◌}
+use Rattle.std.proofs.Common.{◌%◌, ◌&&◌, Bool, List, Option, None, Some, eqb, false, refl, set, true, ℕ, ◌≡◌, if◌then◌else◌}
 use Rattle.std.specs.Prelude.{is_some, nat_lt}
 use Rattle.std.specs.List.{list_any}
 use Rattle.host_port.specs.Act.{Act}
-use Rattle.mcount_arcs.specs.Log.{WalkDone, state_of}
-use Rattle.mcount_arcs.specs.Value.{meets}
+use Rattle.mcount_arcs.specs.Log.{WalkDone}
 use Rattle.mcount_arcs.specs.declared.walk.Entered.{Entered}
 use Rattle.mcount_arcs.specs.declared.walk.Entered.TheVariants.{Ignored, Lost, Walking}
-use Rattle.rv_step.specs.Registers.{register}
-use Rattle.prof_machine.specs.Turn.{after_entering, after_arrival, after_close, after_execution, after_ordinary_turn, is_at, after_return, after_sample, after_budget, return_target, while_going, with_entry}
+use Rattle.prof_machine.specs.Turn.{after_entering, after_arrival, after_close, after_execution, after_ordinary_turn, after_return, after_sample, after_budget, return_target, while_going, with_entry}
 use Rattle.prof_machine.specs.World.{World, hart_of}
 use Rattle.prof_machine.specs.declared.summary.End.{End}
 use Rattle.prof_machine.specs.declared.machine.Machine.{Machine}
@@ -56,10 +54,7 @@ lasts_entering m h from to Ignored w = lasts_returned h _
 
 pub lasts_arrived : (m : Machine) (h : ℕ) (w : World) → lasting (after_arrival m h w) ≡ lasting w
 unfolding after_arrival
-lasts_arrived m h w =
-    let s = hart_of w.harts h in
-    lasts_either (is_at m.mcount s.pc) _ _ w (lasts_entering m h (register s 10) (register s 1) (meets m.sizes (state_of m.sizes w.log) (register s 10) (register s 1)) w)
-    (lasts_if (is_at m.moncontrol s.pc) _ w (lasts_returned h _))
+lasts_arrived m h w = search (lasts_either, lasts_entering, lasts_if, lasts_returned)
 
 pub lasts_closed : (w : World) → lasting (after_close w) ≡ lasting w
 unfolding after_close
@@ -67,11 +62,7 @@ lasts_closed w = lasts_if (is_some w.ending && list_any (λ n. nat_lt 0 n) w.lef
 
 pub lasts_instructed : (m : Machine) (h : ℕ) (w : World) → lasting (after_ordinary_turn m h w) ≡ lasting (after_execution m h w)
 unfolding after_ordinary_turn
-lasts_instructed m h w =
-    let a = after_execution m h w in
-    let b = while_going (after_sample m h) a in
-    let c = while_going (after_arrival m h) b in
-    lasts_stage (after_budget m) c (lasts_spent m c) ∙ lasts_stage (after_arrival m h) b (lasts_arrived m h b) ∙ lasts_stage (after_sample m h) a (lasts_sampled m h a)
+lasts_instructed m h w = search (lasts_stage, lasts_spent, lasts_arrived, lasts_sampled)
 
 -- the last look of a walk, after which the hart returns
 pub lasts_over : (h : ℕ) (w : World) → lasting (after_return h (record (with_entry WalkDone w) { left = set w.left h 0 })) ≡ lasting w

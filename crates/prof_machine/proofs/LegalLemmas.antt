@@ -1,6 +1,5 @@
 -- That the log of a run is legal, turn by turn: a call is lost exactly where it meets another one.
-use Rattle.std.proofs.Common.{All, ◌%◌, ◌&&◌, ◌++◌, ◌-◌, ◌<◌, ◌≤◌, Bool, List, None, Option, Some, [], ap, append-nil, append_assoc, arith, eqb, false, inl, inr, map, refl, set, subst, suc, sym, true, zero, ℕ, ◌∙◌, ◌∷◌, ◌≡◌, if◌then◌else◌}
-use Rattle.std.proofs.lemmas.Bool.Decides.{nat_tests}
+use Rattle.std.proofs.Common.{All, ◌%◌, ◌&&◌, ◌++◌, ◌-◌, ◌<◌, ◌≤◌, Bool, List, None, Option, Some, [], append-nil, append_assoc, arith, eqb, false, inl, inr, map, refl, set, subst, suc, sym, true, zero, ℕ, ◌∷◌, ◌≡◌, if◌then◌else◌}
 use Rattle.std.specs.List.{list_any}
 use Rattle.std.specs.Prelude.{is_some, nat_lt, not, ◌⊎◌, ◌==◌}
 use Rattle.elf32_syms.specs.declared.image.Image.{Image}
@@ -22,9 +21,9 @@ use Rattle.prof_machine.proofs.HookLemmas.{walk_is}
 use Rattle.prof_machine.proofs.RunLemmas.{given_setup}
 use Rattle.prof_machine.proofs.WalkLemmas.{all_zero}
 use Rattle.prof_machine.proofs.WorldLemmas.{by_executed, by_going, by_returned}
-use Rattle.prof_machine.specs.Plan.{after_drive, most_turns, plan_of}
+use Rattle.prof_machine.specs.Plan.{after_drive}
 use Rattle.prof_machine.specs.Start.{final_world, machine_of, start_of}
-use Rattle.prof_machine.specs.Turn.{after_entering, after_arrival, after_close, after_execution, after_ordinary_turn, is_at, after_return, after_sample, after_budget, after_look, turn_of, while_going, with_entry, world_after}
+use Rattle.prof_machine.specs.Turn.{after_entering, after_arrival, after_close, after_ordinary_turn, is_at, after_return, after_sample, after_budget, after_look, turn_of, while_going, with_entry, world_after}
 use Rattle.prof_machine.specs.World.{World, hart_of, looks_of_hart}
 use Rattle.prof_machine.specs.declared.summary.End.{End}
 use Rattle.prof_machine.specs.declared.summary.End.TheVariants.{Budget}
@@ -37,8 +36,7 @@ walk_site : (z : Sizes) (state : State) (from to : ℕ) (walk : Walk) → Walkin
 walk_site z On from to walk is = by (nat_lt (offset_of z from) (z.high - z.low)) refl is
   where
     by : (b : Bool) → nat_lt (offset_of z from) (z.high - z.low) ≡ b → Walking walk ≡ (if b then Walking (walk_from (slot_of z from) to) else Ignored) → offset_of z from < z.high - z.low
-    by true test is = grind (arith, nat_tests, test)
-    by false test is = absurd cc
+    by b test is = grind arith
 walk_site z Busy from to walk is = absurd cc
 walk_site z Error from to walk is = absurd cc
 walk_site z Off from to walk is = absurd cc
@@ -48,8 +46,7 @@ lost_busy : (z : Sizes) (state : State) (from to : ℕ) → Lost ≡ meets z sta
 lost_busy z On from to is = by (nat_lt (offset_of z from) (z.high - z.low)) is
   where
     by : (b : Bool) → Lost ≡ (if b then Walking (walk_from (slot_of z from) to) else Ignored) → On ≡ Busy
-    by true is = absurd cc
-    by false is = absurd cc
+    by b is = grind arith
 lost_busy z Busy from to is = refl
 lost_busy z Error from to is = absurd cc
 lost_busy z Off from to is = absurd cc
@@ -61,8 +58,7 @@ ignored_why : (z : Sizes) (state : State) (from to : ℕ) → Ignored ≡ meets 
 ignored_why z On from to is = by (nat_lt (offset_of z from) (z.high - z.low)) refl is
   where
     by : (b : Bool) → nat_lt (offset_of z from) (z.high - z.low) ≡ b → Ignored ≡ (if b then Walking (walk_from (slot_of z from) to) else Ignored) → TurnsAway z On from
-    by true test is = absurd cc
-    by false test is = let above : z.high - z.low ≤ offset_of z from = grind (arith, nat_tests, test) in inr (inr (refl, above))
+    by b test is = grind arith
 ignored_why z Busy from to is = absurd cc
 ignored_why z Error from to is = inr (inl refl)
 ignored_why z Off from to is = inl refl
@@ -71,8 +67,7 @@ ignored_why z Off from to is = inl refl
 
 at_front : (z : Sizes) (before front : List LogEntry) (e : LogEntry) (back : List LogEntry) → IsLegalAfter z before (front ++ e ∷ back) → MayFollow z (before ++ front) e
 at_front z before [] e back legal = subst (λ (log : List LogEntry). MayFollow z log e) (sym (append-nil before)) legal.0
-at_front z before (x ∷ front) e back legal =
-    subst (λ (log : List LogEntry). MayFollow z log e) (append_assoc before (x ∷ []) front) (at_front z (before ++ x ∷ []) front e back legal.1)
+at_front z before (x ∷ front) e back legal = grind (arith, append_assoc, at_front z (before ++ x ∷ []) front e back legal.1)
 
 -- each entry of a legal log may stand behind those in front of it
 may_stand : (z : Sizes) (log front : List LogEntry) (e : LogEntry) (back : List LogEntry) → IsLegal z log → log ≡ front ++ e ∷ back → MayFollow z front e
@@ -91,15 +86,6 @@ module _ (m : Machine) where
   legal_returned : (h : ℕ) (w : World) → IsLegalIn w → IsLegalIn (after_return h w)
   legal_returned h w legal = legal_as w (after_return h w) (by_returned h w).2 legal
 
-  legal_executed : (h : ℕ) (w : World) → IsLegalIn w → IsLegalIn (after_execution m h w)
-  legal_executed h w legal = elim (by_executed m h w) [
-    | inl p ↦ legal_as w (after_execution m h w) p.2 legal
-    | inr q ↦ elim q [
-      | inl p ↦ legal_as w (after_execution m h w) p.2 legal
-      | inr p ↦ legal_as w (after_execution m h w) p.2 legal
-    ]
-  ]
-
   legal_sampled : (h : ℕ) (w : World) → IsLegalIn w → IsLegalIn (after_sample m h w)
   unfolding after_sample
   legal_sampled h w legal = by_test (eqb (w.retired % m.setup.every) 0)
@@ -113,8 +99,7 @@ module _ (m : Machine) where
   legal_spent w legal = by_test (eqb w.retired m.setup.budget)
     where
       by_test : (b : Bool) → IsLegalIn (if b then record w { ending = Some Budget } else w)
-      by_test true = legal
-      by_test false = legal
+      by_test b = grind arith
 
   legal_back : (h : ℕ) (w : World) (e : LogEntry) → MayFollow m.sizes w.log e → IsLegalIn w → IsLegalIn (after_return h (with_entry e w))
   legal_back h w e may legal = legal_returned h (with_entry e w) (IsLegal-push m.sizes w.log e legal may)
@@ -137,23 +122,14 @@ module _ (m : Machine) where
       (legal_back h w (Mode (not (from == 0))) tt legal)
     where
       by_hook : (b c : Bool) (u v : World) → IsLegalIn u → IsLegalIn v → IsLegalIn (if b then u else (if c then v else w))
-      by_hook true c u v p q = p
-      by_hook false true u v p q = q
-      by_hook false false u v p q = legal
+      by_hook b c u v p q = grind arith
 
   legal_stage : (f : World → World) (w : World) → IsLegalIn (f w) → IsLegalIn w → IsLegalIn (while_going f w)
   legal_stage f w after before = by_going f w IsLegalIn (λ on. after) (λ end off. before)
 
   legal_instructed : (h : ℕ) (w : World) → IsLegalIn w → IsLegalIn (after_ordinary_turn m h w)
   unfolding after_ordinary_turn
-  legal_instructed h w legal =
-      let a = after_execution m h w in
-      let b = while_going (after_sample m h) a in
-      let c = while_going (after_arrival m h) b in
-      let first : IsLegalIn a = legal_executed h w legal in
-      let second : IsLegalIn b = legal_stage (after_sample m h) a (legal_sampled h a first) first in
-      let third : IsLegalIn c = legal_stage (after_arrival m h) b (legal_arrived h b second) second in
-      legal_stage (after_budget m) c (legal_spent c third) third
+  legal_instructed h w legal = grind (arith, legal_stage, legal_sampled, legal_arrived, legal_spent, by_executed)
 
   legal_taken : (n h k : ℕ) (w : World) → h < n → looks_of_hart w.left h ≡ k → IsTold n w.log w.left → IsLegalIn w → IsLegalIn (after_look m h k w)
   legal_taken n h zero w inside is told legal = legal_instructed h w legal
@@ -168,10 +144,7 @@ module _ (m : Machine) where
   legal_over : (n : ℕ) (w : World) (o : Option End) → IsTold n w.log w.left → IsLegalIn w
       → IsLegalIn (if is_some o && list_any (λ x. nat_lt 0 x) w.left then record (with_entry WalkDone w) { left = map (λ x. 0) w.left } else w)
   legal_over n w None told legal = legal
-  legal_over n w (Some end) (inl (idle, none)) legal =
-      let off : list_any (λ x. nat_lt 0 x) w.left ≡ false = ap (list_any (λ x. nat_lt 0 x)) none ∙ all_zero n in
-      let P : Bool → Type 0 = λ b. IsLegalIn (if b then record (with_entry WalkDone w) { left = map (λ x. 0) w.left } else w) in
-      subst P (sym off) legal
+  legal_over n w (Some end) (inl (idle, none)) legal = grind (arith, all_zero)
   legal_over n w (Some end) (inr (busy, held)) legal = by_test (list_any (λ x. nat_lt 0 x) w.left)
     where
       by_test : (b : Bool) → IsLegalIn (if b then record (with_entry WalkDone w) { left = map (λ x. 0) w.left } else w)
@@ -206,12 +179,8 @@ logs_are_legal image bytes setup turns below =
 
 pub planned_logs_are_legal : (image : Image) (bytes : List ℕ) (setup : Setup) → 1 ≤ setup.harts → IsLegal (machine_of image setup).sizes (final_world image bytes setup).log
 unfolding after_drive
-planned_logs_are_legal image bytes setup some =
-    let m = machine_of image setup in
-    let below : All (λ h. h < setup.harts) (plan_of m.setup (most_turns m.setup)) = subst (λ (s : Setup). All (λ h. h < setup.harts) (plan_of s (most_turns s))) (sym (given_setup image setup)) (takers_below setup (most_turns setup) some) in
-    logs_are_legal image bytes setup (plan_of m.setup (most_turns m.setup)) below
+planned_logs_are_legal image bytes setup some = search (given_setup, takers_below, logs_are_legal)
 
 pub entries_may_stand : (image : Image) (bytes : List ℕ) (setup : Setup) (turns : List ℕ) → All (λ h. h < setup.harts) turns
     → (front : List LogEntry) (e : LogEntry) (back : List LogEntry) → (world_after (machine_of image setup) (start_of image bytes setup) turns).log ≡ front ++ e ∷ back → MayFollow (machine_of image setup).sizes front e
-entries_may_stand image bytes setup turns below front e back is =
-    may_stand (machine_of image setup).sizes (world_after (machine_of image setup) (start_of image bytes setup) turns).log front e back (logs_are_legal image bytes setup turns below) is
+entries_may_stand image bytes setup turns below front e back is = search (may_stand, logs_are_legal)

@@ -17,8 +17,7 @@ plan_more setup n = map-range_with_len_more (taker_of setup.plan setup.harts) 0 
 
 -- one more turn of the plan
 pub planned_more : (m : Machine) (w : World) (n : ℕ) → turn_of m (world_at m w n) (taker_of m.setup.plan m.setup.harts n) ≡ world_at m w (n + 1)
-planned_more m w n =
-    sym (ap (λ (turns : List ℕ). world_after m w turns) (plan_more m.setup n) ∙ world_after-append m w (plan_of m.setup n) (taker_of m.setup.plan m.setup.harts n ∷ []))
+planned_more m w n = search (plan_more, world_after-append)
 
 pub plan_front : (setup : Setup) (k n : ℕ) → k ≤ n → plan_of setup k ++ drop k (plan_of setup n) ≡ plan_of setup n
 unfolding plan_of

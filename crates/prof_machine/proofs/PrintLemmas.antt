@@ -23,7 +23,7 @@ use Rattle.prof_machine.specs.World.{World, hart_of, looks_of_hart}
 use Rattle.prof_machine.specs.declared.ecalls.Call.{Call}
 use Rattle.prof_machine.specs.declared.ecalls.Call.TheVariants.{Answers, Exits, SetsBreak, Writes}
 use Rattle.prof_machine.specs.declared.machine.Machine.{Machine}
-use Rattle.prof_machine.specs.Start.{final_world, machine_of, start_of}
+use Rattle.prof_machine.specs.Start.{final_world, start_of}
 
 -- ---- only instructions print
 
@@ -135,5 +135,4 @@ unfolding start_of
 nothing_at_start image bytes setup = refl
 
 pub files_driven : (image : Image) (bytes : List ℕ) (setup : Setup) (d : Disk) → disk_after (final_world image bytes setup).prints d ≡ d
-files_driven image bytes setup d =
-    files_of_turns (machine_of image setup) (start_of image bytes setup) d ∙ ap (λ (acts : List Act). disk_after acts d) (nothing_at_start image bytes setup)
+files_driven image bytes setup d = search (files_of_turns, nothing_at_start)

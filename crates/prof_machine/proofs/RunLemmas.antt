@@ -1,5 +1,5 @@
 -- Runs from their start: that they end, and how their clock stands.
-use Rattle.std.proofs.Common.{◌+◌, ◌-◌, ◌/◌, ◌<◌, List, None, Option, Some, ap, arith, inl, inr, length, refl, subst, sym, ℕ, ◌∙◌, ◌≡◌, ◌≤◌}
+use Rattle.std.proofs.Common.{◌+◌, ◌-◌, ◌/◌, ◌<◌, List, None, Option, Some, arith, inl, inr, length, refl, subst, sym, ℕ, ◌≡◌, ◌≤◌}
 use Rattle.std.specs.Option.{IsSome}
 use Rattle.std.proofs.lemmas.Bool.{cases_lt}
 use Rattle.std.specs.List.{count_by}
@@ -11,9 +11,6 @@ use Rattle.settings.specs.declared.setup.Setup.{Setup}
 use Rattle.mcount_arcs.proofs.ChainLengths.{chain_short}
 use Rattle.mcount_arcs.proofs.KeptCallLemmas.{kept_calls-places}
 use Rattle.mcount_arcs.proofs.LogLemmas.{looks_of-chain}
-use Rattle.mcount_arcs.proofs.LookLemmas.{looks_bounds}
-use Rattle.mcount_arcs.specs.Log.{kept_calls}
-use Rattle.mcount_arcs.specs.Sizes.{sizes_of}
 use Rattle.rv_step.specs.declared.stepped.TrapKind.{TrapKind}
 use Rattle.prof_machine.proofs.ClockLemmas.{Timed, at_none, timed_after}
 use Rattle.prof_machine.proofs.PlanLemmas.{planned_ended}
@@ -30,9 +27,7 @@ use Rattle.prof_machine.specs.declared.machine.Machine.{Machine}
 
 looks_short : (image : Image) (setup : Setup) → Short (machine_of image setup)
 unfolding machine_of
-looks_short image setup log slot to =
-    let z = sizes_of image.text setup.hist setup.hash in
-    omega (arith, looks_of-chain z log slot to, (looks_bounds (kept_calls z log) slot to).1, chain_short (kept_calls z log) slot, kept_calls-places z log)
+looks_short image setup log slot to = grind (arith, looks_of-chain, chain_short, kept_calls-places)
 
 timed_start : (image : Image) (bytes : List ℕ) (setup : Setup) → 1 ≤ setup.budget → Timed (machine_of image setup) (start_of image bytes setup) (start_of image bytes setup).ending
 unfolding start_of machine_of
@@ -47,8 +42,7 @@ unfolding machine_of
 given_setup image setup = refl
 
 pub timed_run : (image : Image) (bytes : List ℕ) (setup : Setup) (turns : List ℕ) → 1 ≤ setup.every → 1 ≤ setup.budget → (let w = world_after (machine_of image setup) (start_of image bytes setup) turns in Timed (machine_of image setup) w w.ending)
-timed_run image bytes setup turns every budget =
-    timed_after (machine_of image setup) (start_of image bytes setup) turns (subst (λ (s : Setup). 1 ≤ s.every) (sym (given_setup image setup)) every) (timed_start image bytes setup budget)
+timed_run image bytes setup turns every budget = search (timed_after, given_setup, timed_start)
 
 length-plan_of : (setup : Setup) (n : ℕ) → length (plan_of setup n) ≡ n
 unfolding plan_of
@@ -78,16 +72,11 @@ turns_end image bytes setup turns every budget enough = by_end w.ending refl
     by_end (Some end) is = refl
     by_end None is =
         let fits = room_after m (start_of image bytes setup) turns some (looks_short image setup) (timed_start image bytes setup budget) is in
-        let few = (at_none m w is (timed_run image bytes setup turns every budget)).1 in
-        let start : room_of m (start_of image bytes setup) ≡ most_turns m.setup = room_start image bytes setup ∙ ap most_turns (sym (given_setup image setup)) in
-        absurd (no_room m w (start_of image bytes setup) turns fits few many start)
+        grind (arith, at_none, m, w, timed_run, room_of, room_start, given_setup, no_room, many)
 
 pub plan_ends : (image : Image) (bytes : List ℕ) (setup : Setup) → 1 ≤ setup.every → 1 ≤ setup.budget → IsSome (final_world image bytes setup).ending
 unfolding after_drive
-plan_ends image bytes setup every budget =
-    let m = machine_of image setup in
-    let long : length (plan_of m.setup (most_turns m.setup)) ≡ most_turns setup = length-plan_of m.setup (most_turns m.setup) ∙ ap most_turns (given_setup image setup) in
-    turns_end image bytes setup (plan_of m.setup (most_turns m.setup)) every budget (omega (arith, long))
+plan_ends image bytes setup every budget = grind (arith, length-plan_of, given_setup, turns_end)
 
 pub plan_shortest : (image : Image) (bytes : List ℕ) (setup : Setup) (n : ℕ) → 1 ≤ setup.every → 1 ≤ setup.budget → IsSome (world_at (machine_of image setup) (start_of image bytes setup) n).ending
     → world_at (machine_of image setup) (start_of image bytes setup) n ≡ final_world image bytes setup
@@ -104,32 +93,16 @@ plan_shortest image bytes setup n every budget is_some =
 
 pub timed_going : (image : Image) (bytes : List ℕ) (setup : Setup) (turns : List ℕ) → 1 ≤ setup.every → 1 ≤ setup.budget → (let w = world_after (machine_of image setup) (start_of image bytes setup) turns in w.ending ≡ None → (count_by is_sample w.log ≡ w.retired / setup.every) × (w.retired < setup.budget))
 unfolding machine_of
-timed_going image bytes setup turns every budget is =
-    let w = world_after (machine_of image setup) (start_of image bytes setup) turns in
-    let A : Option End → Type 0 = λ o. Timed (machine_of image setup) w o in
-    let t = subst A is (timed_run image bytes setup turns every budget) in
-    t
+timed_going image bytes setup turns every budget is = grind (arith, timed_run)
 
 pub timed_budget : (image : Image) (bytes : List ℕ) (setup : Setup) (turns : List ℕ) → 1 ≤ setup.every → 1 ≤ setup.budget → (let w = world_after (machine_of image setup) (start_of image bytes setup) turns in w.ending ≡ Some Budget → (count_by is_sample w.log ≡ w.retired / setup.every) × (w.retired ≡ setup.budget))
 unfolding machine_of
-timed_budget image bytes setup turns every budget is =
-    let w = world_after (machine_of image setup) (start_of image bytes setup) turns in
-    let A : Option End → Type 0 = λ o. Timed (machine_of image setup) w o in
-    let t = subst A is (timed_run image bytes setup turns every budget) in
-    t
+timed_budget image bytes setup turns every budget is = grind (arith, timed_run)
 
 pub timed_exit : (image : Image) (bytes : List ℕ) (setup : Setup) (turns : List ℕ) (status : ℕ) → 1 ≤ setup.every → 1 ≤ setup.budget → (let w = world_after (machine_of image setup) (start_of image bytes setup) turns in w.ending ≡ Some (Exit status) → (count_by is_sample w.log ≡ (w.retired - 1) / setup.every) × (w.retired ≤ setup.budget))
 unfolding machine_of
-timed_exit image bytes setup turns status every budget is =
-    let w = world_after (machine_of image setup) (start_of image bytes setup) turns in
-    let A : Option End → Type 0 = λ o. Timed (machine_of image setup) w o in
-    let t = subst A is (timed_run image bytes setup turns every budget) in
-    (let back : t.0 ≡ w.retired - 1 = omega (arith, t.1) in (t.3 ∙ ap (λ (n : ℕ). n / setup.every) back, omega (arith, t.1, t.2)))
+timed_exit image bytes setup turns status every budget is = grind (arith, timed_run)
 
 pub timed_trap : (image : Image) (bytes : List ℕ) (setup : Setup) (turns : List ℕ) (kind : TrapKind) (pc : ℕ) → 1 ≤ setup.every → 1 ≤ setup.budget → (let w = world_after (machine_of image setup) (start_of image bytes setup) turns in w.ending ≡ Some (Trap kind pc) → (count_by is_sample w.log ≡ w.retired / setup.every) × (w.retired ≤ setup.budget))
 unfolding machine_of
-timed_trap image bytes setup turns kind pc every budget is =
-    let w = world_after (machine_of image setup) (start_of image bytes setup) turns in
-    let A : Option End → Type 0 = λ o. Timed (machine_of image setup) w o in
-    let t = subst A is (timed_run image bytes setup turns every budget) in
-    t
+timed_trap image bytes setup turns kind pc every budget is = grind (arith, timed_run)

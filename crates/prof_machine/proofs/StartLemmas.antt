@@ -1,7 +1,6 @@
 -- When a run starts, and with what.
 use Rattle.std.proofs.Common.{◌%◌, ◌+◌, ◌<◌, All, Bool, List, None, Option, Some, [], ap, arith, false, get_or, length, map, refl, replicate, subst, suc, sym, true, zero, ℕ, ◌∙◌, ◌∷◌, ◌≡◌, ◌≤◌, if◌then◌else◌}
 use Rattle.std.specs.Prelude.{IfSome, option_map}
-use Rattle.std.proofs.lemmas.Bool.Decides.{nat_tests}
 use Rattle.std.specs.List.{range_with_len}
 use Rattle.elf32_syms.specs.Sections.{least_of}
 use Rattle.elf32_syms.specs.declared.image.Image.{Image}
@@ -19,13 +18,12 @@ use Rattle.prof_machine.proofs.ClockLemmas.{first}
 use Rattle.prof_machine.proofs.ExecutionLemmas.{exec_counts_of-nil, first_counts}
 use Rattle.prof_machine.proofs.WalkLemmas.{no_walk}
 use Rattle.prof_machine.specs.Executions.{instructions_of}
-use Rattle.prof_machine.specs.Start.{HasRoom, IsLayout, base_in, base_of, first_registers, is_outside_of, is_too_small_of, machine_of, program_end_in, program_end_of, memory_size, start_of, start_refusal}
-use Rattle.prof_machine.specs.Value.{AreCounts, IsHeld, RunValue, StandsFor, calls_met, flights, left_by, value_of}
+use Rattle.prof_machine.specs.Start.{HasRoom, IsLayout, base_of, first_registers, is_outside_of, is_too_small_of, machine_of, program_end_in, program_end_of, memory_size, start_of, start_refusal}
+use Rattle.prof_machine.specs.Value.{AreCounts, IsHeld, RunValue, StandsFor, calls_met, flights, value_of}
 use Rattle.prof_machine.specs.declared.summary.StartRefusal.{StartRefusal}
 use Rattle.prof_machine.specs.declared.summary.StartRefusal.TheVariants.{EntryOutside, ProgramTooLarge}
 use Rattle.prof_machine.specs.declared.flight.Flight.{Flight}
 use Rattle.prof_machine.specs.declared.layout.Layout.{Layout}
-use Rattle.prof_machine.specs.declared.machine.Machine.{Machine}
 use Rattle.prof_machine.specs.declared.runs.Run.TheInside.{Inside}
 
 abbrev judge : Bool → Bool → ℕ → ℕ → ℕ → Option StartRefusal
@@ -49,9 +47,6 @@ accepted image setup l small out h is not_it is_out not_out =
     judged image setup l h ∙ ap (λ (b : Bool). judge b (is_outside_of l image.entry) (l.program_end + 2097152) l.end image.entry) (sym is ∙ not_it)
     ∙ ap (λ (b : Bool). judge false b (l.program_end + 2097152) l.end image.entry) (sym is_out ∙ not_out)
 
-pub has_room : (l : Layout) → is_too_small_of l ≡ false → HasRoom l
-has_room l h = record { stacks = grind (arith, nat_tests); fits = grind (arith, nat_tests) }
-
 -- ---- segments lie in memory
 
 lowest_least : (segments : List Segment) (k : ℕ) (d : Segment) → k < length segments → least_of (map (λ (s : Segment). s.addr) segments) ≤ (get_or segments k d).addr
@@ -69,13 +64,7 @@ highest_most (s ∷ ss) (suc k) d inside = let rest = highest_most ss k d (omega
 pub can_load : (image : Image) (setup : Setup) (bytes : List ℕ) (l : Layout) (m : Memory) → IsLayout image setup l → HasRoom l → m.base ≡ l.base → length m.bytes ≡ l.size → l.end ≡ l.base + l.size → All (λ (s : Segment). s.offset + s.filesz ≤ length bytes) image.segments
     → All (CanLoad m bytes) image.segments
 unfolding base_of program_end_of
-can_load image setup bytes l m h room base size end in_file = λ k d inside.
-    let from = lowest_least image.segments k d inside in
-    let to = highest_most image.segments k d inside in
-    let b : l.base ≡ base_in image.segments = h.base in
-    let p : l.program_end ≡ program_end_in image.segments = h.program_end in
-    let stacks = room.stacks in
-    ((omega arith, omega arith), in_file k d inside)
+can_load image setup bytes l m h room base size end in_file = grind (arith, lowest_least, highest_most)
 
 pub layout_end : (image : Image) (setup : Setup) (l : Layout) → IsLayout image setup l → l.end ≡ l.base + l.size
 layout_end image setup l h = h.end ∙ ap (λ (b : ℕ). b + memory_size setup) (sym h.base) ∙ ap (λ (n : ℕ). l.base + n) (sym h.size)
@@ -85,19 +74,8 @@ pub stands_at_start : (image : Image) (bytes : List ℕ) (setup : Setup) (l : La
     → r.harts ≡ map (first_registers image.entry l.end setup.harts) (range_with_len 0 setup.harts) → r.flight ≡ None → empty.base ≡ l.base → empty.bytes ≡ replicate l.size 0 → r.memory ≡ with_segments image.segments bytes empty → r.break_at ≡ (machine_of image setup).first_break
     → r.retired ≡ 0 → r.samples ≡ 0 → r.lost ≡ 0 → r.counts ≡ (if setup.blocks then replicate (instructions_of r.machine.sizes) 0 else []) → r.ending ≡ None → RuntimeStandsFor [] r.gmon → StandsFor (start_of image bytes setup) r
 unfolding start_of counted_samples machine_of
-stands_at_start image bytes setup l empty r h machine harts flight base zeros memory break_at retired samples lost counts ending gmon = record {
-  harts = harts ∙ ap (λ (n : ℕ). map (first_registers image.entry n setup.harts) (range_with_len 0 setup.harts)) h.end;
-  left = ap (λ (f : Option Flight). left_by r.machine.sizes [] r.machine.setup.harts f) flight ∙ ap (λ (m : Machine). replicate m.setup.harts 0) machine;
-  memory = memory ∙ ap (λ (m : Memory). with_segments image.segments bytes m)
-      (ap (λ (n : ℕ). record { base = n; bytes = empty.bytes }) (base ∙ h.base) ∙ ap (λ (x : List ℕ). record { base = base_of image; bytes = x }) (zeros ∙ ap (λ (n : ℕ). replicate n 0) h.size));
-  break_at = break_at;
-  retired = retired;
-  ending = ending;
-  gmon = gmon;
-  samples = samples;
-  lost = lost;
-  counts = counts ∙ exec_counts_of-nil r.machine r.machine.sizes setup.blocks refl (ap (λ (m : Machine). m.setup.blocks) machine);
-}
+stands_at_start image bytes setup l empty r h machine harts flight base zeros memory break_at retired samples lost counts ending gmon =
+    grind (arith, exec_counts_of-nil)
 
 -- ---- what is true of a run at its start
 

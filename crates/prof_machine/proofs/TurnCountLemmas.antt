@@ -1,15 +1,15 @@
 -- How many turns a run takes at most.
-use Rattle.std.proofs.Common.{◌%◌, ◌&&◌, ◌*◌, ◌+◌, ◌-◌, ◌<◌, Bool, List, None, Option, Some, [], ap, arith, eqb, false, inl, inr, length, map, refl, replicate, set, suc, sym, true, zero, ℕ, ◌∙◌, ◌∷◌, ◌≡◌, ◌≤◌, if◌then◌else◌}
+use Rattle.std.proofs.Common.{◌&&◌, ◌*◌, ◌+◌, ◌-◌, ◌<◌, Bool, List, None, Option, Some, [], arith, eqb, length, map, refl, replicate, set, suc, zero, ℕ, ◌∷◌, ◌≡◌, ◌≤◌, if◌then◌else◌}
 use Rattle.std.specs.Prelude.{is_some, nat_lt}
 use Rattle.std.specs.List.{list_any}
 use Rattle.mcount_arcs.specs.Arcs.{looks_of}
-use Rattle.mcount_arcs.specs.Log.{LogEntry, Sample, WalkDone}
-use Rattle.prof_machine.proofs.ClockLemmas.{Timed, at_none, timed_turn}
+use Rattle.mcount_arcs.specs.Log.{LogEntry, WalkDone}
+use Rattle.prof_machine.proofs.ClockLemmas.{Timed, timed_turn}
 use Rattle.prof_machine.proofs.WorldLemmas.{by_arrived, by_executed, by_going, by_returned, closed_going, ended_stays, ended_turn, going_stage}
 use Rattle.prof_machine.specs.Turn.{after_arrival, after_close, after_execution, after_ordinary_turn, after_sample, after_budget, after_look, turn_of, while_going, with_entry, world_after}
-use Rattle.prof_machine.specs.World.{World, hart_of, looks_of_hart}
+use Rattle.prof_machine.specs.World.{World, looks_of_hart}
 use Rattle.prof_machine.specs.declared.summary.End.{End}
-use Rattle.prof_machine.specs.declared.summary.End.TheVariants.{Budget, Exit, Trap}
+use Rattle.prof_machine.specs.declared.summary.End.TheVariants.{Budget}
 use Rattle.prof_machine.specs.declared.machine.Machine.{Machine}
 
 pub total : List ℕ → ℕ
@@ -42,44 +42,21 @@ never : {A : Type 0} (o : Option End) (end : End) → o ≡ Some end → o ≡ N
 never o end is none = absurd cc
 
 untouched_executed : (m : Machine) (h : ℕ) (w : World) → Untouched w (after_execution m h w)
-untouched_executed m h w = elim (by_executed m h w) [
-  | inl p ↦ λ going. (p.0, p.3)
-  | inr q ↦ elim q [
-    | inl p ↦ λ going. never (after_execution m h w).ending (Exit p.1.0) p.1.1 going
-    | inr p ↦ λ going. never (after_execution m h w).ending (Trap p.1.0 p.1.1) p.1.2 going
-  ]
-]
-
-sampled_parts : (w : World) (pc : ℕ) (b : Bool) → ((if b then with_entry (Sample pc) w else w).retired ≡ w.retired) × ((if b then with_entry (Sample pc) w else w).left ≡ w.left)
-sampled_parts w pc true = (refl, refl)
-sampled_parts w pc false = (refl, refl)
+untouched_executed m h w = grind (arith, by_executed)
 
 untouched_sampled : (m : Machine) (h : ℕ) (w v : World) → v.ending ≡ None → Untouched w v → Untouched w (after_sample m h v)
 unfolding after_sample
-untouched_sampled m h w v on so_far = λ going.
-    let p = sampled_parts v (hart_of v.harts h).pc (eqb (v.retired % m.setup.every) 0) in
-    let q = so_far on in
-    (p.0 ∙ q.0, p.1 ∙ q.1)
+untouched_sampled m h w v on so_far = grind arith
 
 longer_arrived : (m : Machine) (h : ℕ) (w v : World) → Short m → v.ending ≡ None → Untouched w v → Longer w (after_arrival m h v)
-longer_arrived m h w v short on so_far = λ going.
-    let p = by_arrived m h v in
-    let q = so_far on in
-    let left : total v.left ≡ total w.left = ap total q.1 in (
-      p.0 ∙ q.0,
-      elim p.3 [
-        | inl is ↦ omega (arith, ap total is, left)
-        | inr t ↦ omega (arith, ap total t.2, left, total_set v.left h (looks_of m.sizes v.log t.0 t.1), short v.log t.0 t.1)
-      ],
-    )
+longer_arrived m h w v short on so_far = grind (arith, by_arrived, total_set)
 
 longer_spent : (m : Machine) (w v : World) → v.ending ≡ None → Longer w v → Longer w (after_budget m v)
 unfolding after_budget
 longer_spent m w v on so_far = by_test (eqb v.retired m.setup.budget)
   where
     by_test : (b : Bool) → Longer w (if b then record v { ending = Some Budget } else v)
-    by_test true = λ going. absurd cc
-    by_test false = so_far
+    by_test b = grind arith
 
 longer_instructed : (m : Machine) (h : ℕ) (w : World) → Short m → Longer w (after_ordinary_turn m h w)
 unfolding after_ordinary_turn
@@ -97,45 +74,26 @@ room_of m w = 65535 * (m.setup.budget - w.retired) + total w.left
 
 less_taken : (m : Machine) (h n : ℕ) (w : World) → Short m → w.retired < m.setup.budget → looks_of_hart w.left h ≡ n → (after_look m h n w).ending ≡ None → room_of m (after_look m h n w) < room_of m w
 unfolding room_of
-less_taken m h zero w short few is going = let p = longer_instructed m h w short going in omega (arith, p.0, p.1, few)
-less_taken m h (suc zero) w short few is going =
-    let v : World = record (with_entry WalkDone w) { left = set w.left h 0 } in
-    let r = by_returned h v in
-    omega (arith, r.0, ap total r.3, total_set w.left h 0, is)
-less_taken m h (suc (suc n)) w short few is going = omega (arith, total_set w.left h (suc n), is)
+less_taken m h n w short few is going = grind (arith, longer_instructed, by_returned, total_set)
 
 closed_ending : (w : World) → (after_close w).ending ≡ w.ending
 unfolding after_close
 closed_ending w = by_test (is_some w.ending && list_any (λ n. nat_lt 0 n) w.left)
   where
     by_test : (b : Bool) → (if b then record (with_entry WalkDone w) { left = map (λ n. 0) w.left } else w).ending ≡ w.ending
-    by_test true = refl
-    by_test false = refl
+    by_test b = grind arith
 
 -- a turn after which the run goes on leaves fewer
 pub less_turn : (m : Machine) (w : World) (h : ℕ) → Short m → w.retired < m.setup.budget → w.ending ≡ None → (turn_of m w h).ending ≡ None → room_of m (turn_of m w h) < room_of m w
 unfolding turn_of
-less_turn m w h short few live going =
-    let f : World → World = λ v. after_close (after_look m h (looks_of_hart v.left h) v) in
-    let x = after_look m h (looks_of_hart w.left h) w in
-    let turn : while_going f w ≡ after_close x = going_stage f w live in
-    let x_going : x.ending ≡ None = sym (closed_ending x) ∙ ap (λ (v : World). v.ending) (sym turn) ∙ going in
-    let same : room_of m (while_going f w) ≡ room_of m x = ap (room_of m) (turn ∙ closed_going x x_going) in
-    omega (arith, same, less_taken m h (looks_of_hart w.left h) w short few refl x_going)
+less_turn m w h short few live going = grind (arith, going_stage, closed_ending, closed_going, less_taken)
 
 -- turns after which the run goes on are not more than there was room for
 abbrev Fits : Machine → World → List ℕ → Type 0
 Fits m w turns = length turns + room_of m (world_after m w turns) ≤ room_of m w
 
-fits_live : (m : Machine) (w : World) (h : ℕ) (turns : List ℕ) → Short m → Timed m w w.ending → Fits m (turn_of m w h) turns → (turn_of m w h).ending ≡ None → (o : Option End) → w.ending ≡ o → Fits m w (h ∷ turns)
-fits_live m w h turns short timed rest is (Some end) ended = never (turn_of m w h).ending end (ap (λ (v : World). v.ending) (ended_turn m w h end ended) ∙ ended) is
-fits_live m w h turns short timed rest is None live =
-    let less = less_turn m w h short (at_none m w live timed).1 live is in
-    omega (arith, rest, less)
-
 fits_next : (m : Machine) (w : World) (h : ℕ) (turns : List ℕ) → Short m → Timed m w w.ending → Fits m (turn_of m w h) turns → (world_after m w (h ∷ turns)).ending ≡ None → (o : Option End) → (turn_of m w h).ending ≡ o → Fits m w (h ∷ turns)
-fits_next m w h turns short timed rest going (Some end) is = never (world_after m w (h ∷ turns)).ending end (ap (λ (v : World). v.ending) (ended_stays m (turn_of m w h) turns end is) ∙ is) going
-fits_next m w h turns short timed rest going None is = fits_live m w h turns short timed rest is w.ending refl
+fits_next m w h turns short timed rest going o is = grind (arith, ended_stays, ended_turn, less_turn)
 
 pub room_after : (m : Machine) (w : World) (turns : List ℕ) → 1 ≤ m.setup.every → Short m → Timed m w w.ending → (world_after m w turns).ending ≡ None → length turns + room_of m (world_after m w turns) ≤ room_of m w
 room_after m w [] some short timed going = omega arith

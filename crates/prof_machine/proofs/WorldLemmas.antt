@@ -1,35 +1,31 @@
 -- The stages of a turn, on worlds alone: what each leaves, by cases.
-use Rattle.std.proofs.Common.{◌%◌, ◌&&◌, ◌+◌, ◌++◌, Bool, List, None, Option, Some, [], ap, arith, cond, eqb, false, inl, inr, map, refl, set, true, ℕ, ◌∙◌, ◌∷◌, ◌≡◌, if◌then◌else◌}
+use Rattle.std.proofs.Common.{◌%◌, ◌&&◌, ◌+◌, ◌++◌, Bool, List, None, Option, Some, [], ap, arith, cond, eqb, false, inl, inr, map, refl, set, ℕ, ◌∙◌, ◌∷◌, ◌≡◌, if◌then◌else◌}
 use Rattle.std.specs.Option.{IsSome}
 use Rattle.std.specs.List.{count_by, list_any}
 use Rattle.std.specs.Prelude.{is_some, nat_lt, ◌⊎◌}
 use Rattle.std.proofs.lemmas.List.Sums.{sum_by_push}
 use Rattle.mcount_arcs.specs.Arcs.{looks_of}
-use Rattle.mcount_arcs.specs.Log.{CallIgnored, CallLost, Enter, LogEntry, Mode, WalkDone, state_of}
-use Rattle.mcount_arcs.specs.Value.{meets}
+use Rattle.mcount_arcs.specs.Log.{CallIgnored, CallLost, Enter, LogEntry, WalkDone}
 use Rattle.mcount_arcs.specs.declared.walk.Entered.{Entered}
 use Rattle.mcount_arcs.specs.declared.walk.Entered.TheVariants.{Ignored, Lost, Walking}
 use Rattle.rv_step.specs.Memory.{Memory}
-use Rattle.rv_step.specs.Registers.{Registers, register}
+use Rattle.rv_step.specs.Registers.{Registers}
 use Rattle.rv_step.specs.Step.{step_of}
 use Rattle.rv_step.specs.declared.stepped.Stepped.{Stepped}
-use Rattle.rv_step.specs.declared.stepped.Stepped.TheVariants.{Ecall, Retired, Trap as Trapped}
 use Rattle.rv_step.specs.declared.stepped.TrapKind.{TrapKind}
 use Rattle.rv_step.specs.declared.stepped.TrapKind.TheVariants.{JumpMisaligned}
 use Rattle.prof_machine.specs.Ecalls.{ecall_of}
-use Rattle.prof_machine.specs.Turn.{after_call, after_ecall, after_entering, after_step, after_arrival, after_close, after_execution, is_at, after_return, return_target, turn_of, while_going, with_entry, world_after}
+use Rattle.prof_machine.specs.Turn.{after_call, after_ecall, after_entering, after_step, after_arrival, after_close, after_execution, after_return, return_target, turn_of, while_going, with_entry, world_after}
 use Rattle.prof_machine.specs.Value.{is_sample}
 use Rattle.prof_machine.specs.World.{World, hart_of}
 use Rattle.prof_machine.specs.declared.ecalls.Call.{Call}
-use Rattle.prof_machine.specs.declared.ecalls.Call.TheVariants.{Answers, Exits, SetsBreak, Writes}
 use Rattle.prof_machine.specs.declared.summary.End.{End}
 use Rattle.prof_machine.specs.declared.summary.End.TheVariants.{Exit, Trap}
 use Rattle.prof_machine.specs.declared.machine.Machine.{Machine}
 
 -- how a run ended, where it has
 pub the_end : (o : Option End) → IsSome o → (end : End) × (o ≡ Some end)
-the_end None is = absurd cc
-the_end (Some end) is = (end, refl)
+the_end o is = grind arith
 
 pub going_stage : (f : World → World) (w : World) → w.ending ≡ None → while_going f w ≡ f w
 unfolding while_going
@@ -45,8 +41,7 @@ unfolding after_close
 closed_going w is = ap (λ (o : Option End). if is_some o && list_any (λ k. nat_lt 0 k) w.left then record (with_entry WalkDone w) { left = map (λ n. 0) w.left } else w) is
 
 going_by : (f : World → World) (w : World) (Q : World → Type 0) (o : Option End) → w.ending ≡ o → (w.ending ≡ None → Q (f w)) → ((end : End) → w.ending ≡ Some end → Q w) → Q (if is_some o then w else f w)
-going_by f w Q None is on off = on is
-going_by f w Q (Some end) is on off = off end is
+going_by f w Q o is on off = grind arith
 
 -- a stage, by whether the run goes on
 pub by_going : (f : World → World) (w : World) (Q : World → Type 0) → (w.ending ≡ None → Q (f w)) → ((end : End) → w.ending ≡ Some end → Q w) → Q (while_going f w)
@@ -64,24 +59,15 @@ abbrev HasTrapped : World → World → Type 0
 HasTrapped w v = (v.retired ≡ w.retired) × ((kind : TrapKind) × (pc : ℕ) × (v.ending ≡ Some (Trap kind pc))) × (v.log ≡ w.log) × (v.left ≡ w.left)
 
 by_call : (h : ℕ) (w : World) (call : Call) → WentOn w (after_call h call w) ⊎ Exited w (after_call h call w)
-by_call h w (Answers n) = inl (refl, refl, refl, refl)
-by_call h w (SetsBreak to) = inl (refl, refl, refl, refl)
-by_call h w (Writes d from n) = inl (refl, refl, refl, refl)
-by_call h w (Exits status) = inr (refl, (status, refl), refl, refl)
+by_call h w call = grind arith
 
 by_ecall : (m : Machine) (h : ℕ) (w : World) → WentOn w (after_ecall m h w) ⊎ Exited w (after_ecall m h w)
 unfolding after_ecall
 by_ecall m h w = by_call h w (ecall_of m (hart_of w.harts h) w.break_at)
 
-left_side : {A B C : Type 0} → A ⊎ B → A ⊎ (B ⊎ C)
-left_side (inl a) = inl a
-left_side (inr b) = inr (inl b)
-
 by_step : (m : Machine) (h : ℕ) (w : World) (answer : Stepped) (s : Registers) (memory : Memory)
     → WentOn w (after_step m h answer s memory w) ⊎ (Exited w (after_step m h answer s memory w) ⊎ HasTrapped w (after_step m h answer s memory w))
-by_step m h w Retired s memory = inl (refl, refl, refl, refl)
-by_step m h w Ecall s memory = left_side (by_ecall m h w)
-by_step m h w (Trapped kind) s memory = inr (inr (refl, (kind, (hart_of w.harts h).pc, refl), refl, refl))
+by_step m h w answer s memory = grind (arith, by_ecall)
 
 pub by_executed : (m : Machine) (h : ℕ) (w : World) → WentOn w (after_execution m h w) ⊎ (Exited w (after_execution m h w) ⊎ HasTrapped w (after_execution m h w))
 unfolding after_execution
@@ -92,8 +78,7 @@ abbrev Returned : World → World → Type 0
 Returned w v = (v.retired ≡ w.retired) × ((v.ending ≡ w.ending) ⊎ ((kind : TrapKind) × (pc : ℕ) × (v.ending ≡ Some (Trap kind pc)))) × (v.log ≡ w.log) × (v.left ≡ w.left)
 
 returned_test : (h : ℕ) (w : World) (harts : List Registers) (pc : ℕ) (b : Bool) → Returned w (if b then record w { harts = harts } else record w { ending = Some (Trap JumpMisaligned pc) })
-returned_test h w harts pc true = (refl, inl refl, refl, refl)
-returned_test h w harts pc false = (refl, inr (JumpMisaligned, pc, refl), refl, refl)
+returned_test h w harts pc b = grind arith
 
 pub by_returned : (h : ℕ) (w : World) → Returned w (after_return h w)
 unfolding after_return
@@ -109,9 +94,7 @@ pub no_sample : (log : List LogEntry) (e : LogEntry) → is_sample e ≡ false �
 no_sample log e is = sum_by_push (λ x. cond (is_sample x) 1 0) log e ∙ ap (λ (b : Bool). count_by is_sample log + cond b 1 0) is ∙ omega arith
 
 back_from : (m : Machine) (h : ℕ) (w : World) (e : LogEntry) → is_sample e ≡ false → Served m h w (after_return h (with_entry e w))
-back_from m h w e is =
-    let r = by_returned h (with_entry e w) in
-    (r.0, r.1, ap (count_by is_sample) r.2 ∙ no_sample w.log e is, inl r.3)
+back_from m h w e is = grind (arith, by_returned, no_sample)
 
 by_entering : (m : Machine) (h from to : ℕ) (w : World) (e : Entered) → Served m h w (after_entering m h from to e w)
 by_entering m h from to w (Walking walk) = (refl, inl refl, no_sample w.log (Enter from to) refl, inr (walk.slot, to, refl))
@@ -119,15 +102,11 @@ by_entering m h from to w Lost = back_from m h w (CallLost from to) refl
 by_entering m h from to w Ignored = back_from m h w (CallIgnored from to) refl
 
 by_hooks : (m : Machine) (h : ℕ) (w u v : World) (b c : Bool) → Served m h w u → Served m h w v → Served m h w (if b then u else (if c then v else w))
-by_hooks m h w u v true c p q = p
-by_hooks m h w u v false true p q = q
-by_hooks m h w u v false false p q = (refl, inl refl, refl, inl refl)
+by_hooks m h w u v b c p q = grind arith
 
 pub by_arrived : (m : Machine) (h : ℕ) (w : World) → Served m h w (after_arrival m h w)
 unfolding after_arrival
-by_arrived m h w =
-    let s = hart_of w.harts h in
-    by_hooks m h w _ _ (is_at m.mcount s.pc) (is_at m.moncontrol s.pc) (by_entering m h (register s 10) (register s 1) w (meets m.sizes (state_of m.sizes w.log) (register s 10) (register s 1))) (back_from m h w (Mode _) refl)
+by_arrived m h w = search (by_hooks, by_entering, back_from)
 
 -- ---- turns one after the other
 

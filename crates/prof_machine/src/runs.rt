@@ -121,6 +121,7 @@ impl Run {
     /// One turn of a hart: a look of its walk, or one instruction with its sample and its hook. What the
     /// program prints is printed. `Failed` comes only where this failed; then the run is as before, but for not
     /// being live. Takes no memory.
+    #[tactic(auto, using(crate::proofs::DriveLemmas::ended_exactly))]
     pub fn turn<H: Host>(&mut self, hart: u32, host: &mut H) -> Result<Turned, Failed>
         requires live { IsLive self.old }
         requires hart { hart < self.old.machine.setup.harts }

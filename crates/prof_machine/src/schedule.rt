@@ -69,6 +69,7 @@ impl PlanWalk {
     }
 
     // The hart whose quantum it is. Behind the last turn of a quantum comes the next hart's first.
+    #[tactic(auto, using(crate::proofs::ScheduleLemmas::next_hart_is, crate::proofs::ScheduleLemmas::next_quantum, crate::proofs::ScheduleLemmas::same_quantum))]
     fn next_in_round(&mut self, quantum: u32) -> u32
         requires some { 1 ≤ quantum }
         ensures hart { result ≡ self.old.hart }

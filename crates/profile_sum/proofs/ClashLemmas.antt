@@ -69,8 +69,7 @@ module _ (u : units.Unit) (is : kept_unit u ≡ u) where
     rest_same : (c : Content) (h : Hist) (xs : List Hist) → AllByRecursion IsKept c.hists → IsKept h → hist_conflict c h u ≡ None → AllByRecursion IsKept xs
         → AllByRecursion (λ k. h.high ≤ k.low) xs → AllByRecursion (λ x. hist_conflict c x u ≡ alone x) xs → AllByRecursion (λ x. hist_conflict (with_hist h u c) x u ≡ alone x) xs
     rest_same c h [] all kept none kepts above same = tt
-    rest_same c h (x ∷ xs) all kept none kepts above same =
-        (same_conflict c h x all kept kepts.0 above.0 none ∙ same.0, rest_same c h xs all kept none kepts.1 above.1 same.1)
+    rest_same c h (x ∷ xs) all kept none kepts above same = search (same_conflict, rest_same c h xs all kept none kepts.1 above.1 same.1)
 
     in_turn : (hs : List Hist) (c : Content) → AllByRecursion IsKept hs → IsApart hs → AllByRecursion IsKept c.hists → AllByRecursion (λ h. hist_conflict c h u ≡ alone h) hs
         → conflict_of c (map (hist_record u) hs) ≡ slice_get (filter_map alone hs) 0

@@ -29,9 +29,7 @@ module _ {K : Type 0} (same : K → K → Bool) (self : (k : K) → same k k ≡
   tally_twice k m n (e ∷ es) = by (same k e.0) refl (tally_twice k m n es)
     where
       by : (b : Bool) → same k e.0 ≡ b → tally same k n (tally same k m es) ≡ tally same k (m + n) es → tally same k n (tally same k m (e ∷ es)) ≡ tally same k (m + n) (e ∷ es)
-      by true p others =
-          let assoc : (e.1 + m) + n ≡ e.1 + (m + n) = omega arith in
-          rw p (rw p (ap (λ (x : ℕ). (e.0, x) ∷ es) assoc))
+      by true p others = grind arith
       by false p others = rw p (rw p (ap (λ (l : List (K × ℕ)). e ∷ l) others))
 
   has_own : (k : K) (n : ℕ) (es : List (K × ℕ)) → has k (tally same k n es) ≡ true
@@ -61,17 +59,14 @@ module _ {K : Type 0} (same : K → K → Bool) (self : (k : K) → same k k ≡
     where
       by : (b c : Bool) → same k e.0 ≡ b → same d e.0 ≡ c → (b || has k es) ≡ true → (has k es ≡ true → tally same d m (tally same k n es) ≡ tally same k n (tally same d m es))
           → tally same d m (tally same k n (e ∷ es)) ≡ tally same k n (tally same d m (e ∷ es))
-      by true true p q h others =
-          let swap : (e.1 + n) + m ≡ (e.1 + m) + n = omega arith in
-          rw (p, q) (rw p (ap (λ (x : ℕ). (e.0, x) ∷ es) swap))
+      by true true p q h others = grind arith
       by true false p q h others = rw (p, q) (rw p refl)
       by false true p q h others = rw (p, q) (rw p refl)
       by false false p q h others = rw (p, q) (rw p (ap (λ (l : List (K × ℕ)). e ∷ l) (others h)))
 
   fold_swap : (k : K) (n : ℕ) (es l : List (K × ℕ)) → has k l ≡ true → fold added (tally same k n l) es ≡ tally same k n (fold added l es)
   fold_swap k n [] l h = refl
-  fold_swap k n (e ∷ es) l h =
-      ap (λ (x : List (K × ℕ)). fold added x es) (tally_swap k e.0 n e.1 l h) ∙ fold_swap k n es (tally same e.0 e.1 l) (has_still k e.0 e.1 l h)
+  fold_swap k n (e ∷ es) l h = search (fold, tally_swap, has_still, fold_swap k n es (tally same e.0 e.1 l) (has_still k e.0 e.1 l h))
 
   pub fold_tally : (k : K) (n : ℕ) (es l : List (K × ℕ)) → fold added l (tally same k n es) ≡ tally same k n (fold added l es)
   fold_tally k n [] l = refl
@@ -79,10 +74,7 @@ module _ {K : Type 0} (same : K → K → Bool) (self : (k : K) → same k k ≡
     where
       by : (b : Bool) → same k e.0 ≡ b → fold added (tally same e.0 e.1 l) (tally same k n es) ≡ tally same k n (fold added (tally same e.0 e.1 l) es)
           → fold added l (if b then (e.0, e.1 + n) ∷ es else e ∷ tally same k n es) ≡ tally same k n (fold added (tally same e.0 e.1 l) es)
-      by true p others =
-          ap (λ (x : List (K × ℕ)). fold added x es) (sym (tally_twice e.0 e.1 n l))
-          ∙ fold_swap e.0 n es (tally same e.0 e.1 l) (has_own e.0 e.1 l)
-          ∙ ap (λ (z : K). tally same z n (fold added (tally same e.0 e.1 l) es)) (sym (equal k e.0 p))
+      by true p others = grind (arith, tally_twice, fold_swap, has_own)
       by false p others = others
 
 -- ---- histograms: the same
@@ -92,8 +84,7 @@ put done h = put_hist h done
 
 fold_above : (h : Hist) (ks l : List Hist) → AllByRecursion (λ k. h.low < k.low) ks → fold put (put_hist h l) ks ≡ put_hist h (fold put l ks)
 fold_above h [] l above = refl
-fold_above h (k ∷ ks) l above =
-    ap (λ (x : List Hist). fold put x ks) (put_swap h k l above.0) ∙ fold_above h ks (put_hist k l) above.1
+fold_above h (k ∷ ks) l above = search (fold, put_swap, fold_above h ks (put_hist k l) above.1)
 
 -- the low addresses rise
 abbrev pub IsRising : List Hist → Type 0
@@ -120,9 +111,7 @@ fold_put h (k ∷ ks) l rising = by (ltb k.low h.low) (eqb k.low h.low) refl ref
     by : (b e : Bool) → ltb k.low h.low ≡ b → eqb k.low h.low ≡ e → fold put (put_hist k l) (put_hist h ks) ≡ put_hist h (fold put (put_hist k l) ks)
         → fold put l (if b then k ∷ put_hist h ks else (if e then hist_sum k h ∷ ks else h ∷ k ∷ ks)) ≡ put_hist h (fold put (put_hist k l) ks)
     by true e lt eq others = others
-    by false true lt eq others =
-        let same = eqb-true k.low h.low eq in
-        ap (λ (x : List Hist). fold put x ks) (put_twice k h l same) ∙ fold_above h ks (put_hist k l) (higher (suc h.low) (suc k.low) ks (omega (arith, same)) rising.0)
+    by false true lt eq others = grind (arith, put_twice, fold_above)
     by false false lt eq others =
         let le = ltb-false k.low h.low lt in
         let ne = eqb-false k.low h.low eq in
@@ -141,10 +130,7 @@ hist_later h u p q rising = by (has_counters h)
     by : (b : Bool)
         → sum_of p (if b then record q { hists = put_hist h q.hists; «unit» = Some (unwrap_or q.«unit» (kept_unit u)) } else q)
         ≡ (if b then record (sum_of p q) { hists = put_hist h (sum_of p q).hists; «unit» = Some (unwrap_or (sum_of p q).«unit» (kept_unit u)) } else sum_of p q)
-    by true =
-        let hists = fold_put h q.hists p.hists rising in
-        let un = unit_later p.«unit» q.«unit» (kept_unit u) in
-        λ i. record (sum_of p q) { hists = hists i; «unit» = un i }
+    by true = search (fold_put, unit_later)
     by false = refl
 
 rising_with : (r : WideRec) (q : Content) → IsRising q.hists → IsRising (with_record r q).hists
@@ -177,8 +163,4 @@ unfolding content_of
 content_is_added recs = content-more [] recs
 
 pub content_sum : (a b : List WideRec) → sum_of (content_of a) (content_of b) ≡ content_of (a ++ b)
-content_sum a b =
-    ap (sum_of (content_of a)) (content_is_added b)
-    ∙ records_later b (content_of a) empty_content tt
-    ∙ ap (with_records b) (sum_none (content_of a))
-    ∙ sym (content-more a b)
+content_sum a b = grind (arith, content_is_added, records_later, content-more)

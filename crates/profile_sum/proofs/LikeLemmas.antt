@@ -133,12 +133,8 @@ one_unit (WideHist h v ∷ recs) c none =
 
     by : record_conflict c (WideHist h v) ≡ None → 0 < length h.counters → (with_records recs next).«unit» ≡ Some (kept_unit v)
     by none some = unit_stays recs next (kept_unit v) (at (has_counters h) refl some none)
-one_unit (WideArc from to count ∷ recs) c none =
-    let parts = parts_none (record_conflict c (WideArc from to count)) (conflict_of (with_record (WideArc from to count) c) recs) none in
-    (tt, one_unit recs (with_record (WideArc from to count) c) parts.1)
-one_unit (WideBlock addr count ∷ recs) c none =
-    let parts = parts_none (record_conflict c (WideBlock addr count)) (conflict_of (with_record (WideBlock addr count) c) recs) none in
-    (tt, one_unit recs (with_record (WideBlock addr count) c) parts.1)
+one_unit (WideArc from to count ∷ recs) c none = search (parts_none, one_unit recs)
+one_unit (WideBlock addr count ∷ recs) c none = search (parts_none, one_unit recs)
 
 -- ---- each record has no conflict with the other content
 

@@ -152,5 +152,4 @@ all_with [] c spans all = all
 all_with (r ∷ recs) c spans all = all_with recs (with_record r c) spans.1 (kept_with r c spans.0 all)
 
 pub hists_kept : (recs : List WideRec) → All HasSpan recs → AllByRecursion IsKept (content_of recs).hists
-hists_kept recs spans =
-    subst (λ (c : Content). AllByRecursion IsKept c.hists) (sym (content_is_added recs)) (all_with recs empty_content (recursion_from_All HasSpan recs spans) tt)
+hists_kept recs spans = search (content_is_added, all_with, recursion_from_All)

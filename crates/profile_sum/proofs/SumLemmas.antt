@@ -51,9 +51,7 @@ module _ (p q : Content) (is : IsProfile q) where
   arcs_in = with_records (map arc_record q.arcs) hists_in
 
   pub all_added : with_records (map block_record q.blocks) arcs_in ≡ sum_of p q
-  all_added =
-      ap (with_records (map block_record q.blocks)) (ap (with_records (map arc_record q.arcs)) (hists_added q.hists q.«unit» p is.«unit» is.hists) ∙ arcs_added q.arcs _)
-      ∙ blocks_added q.blocks _
+  all_added = search (hists_added, arcs_added, blocks_added)
 
   module _ (fits : IsWithin (sum_of p q)) where
     blocks_fit_in : IsWithin (with_records (map block_record q.blocks) arcs_in)

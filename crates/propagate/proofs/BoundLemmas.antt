@@ -1,15 +1,15 @@
 -- The roots have all shares, and no component or function has more.
 use Rattle.std.proofs.Common.{◌≡◌, ◌<◌, ◌≤◌, ℕ, ◌+◌, Bool, true, false, not, ◌&&◌, List, length, sum, refl, ap, ⊎_elim, arith, leb}
 use Rattle.std.specs.Prelude.{◌==◌, slice_index}
-use Rattle.std.proofs.lemmas.Bool.{and_parts, and_from, eqb-true, eq-eqb, leb-true, le-leb, lt-leb, cases_Bool}
+use Rattle.std.proofs.lemmas.Bool.{eq-eqb, cases_Bool}
 use Rattle.call_cycles.specs.Sums.{sum_below, when}
-use Rattle.call_cycles.specs.Graph.{GraphValue, IsGraph, arc_at, arc_count, component_count, component_of, is_outside, enters, leaves, source_of, target_of}
+use Rattle.call_cycles.specs.Graph.{GraphValue, IsGraph, arc_count, component_count, component_of, enters, leaves, source_of, target_of}
 use Rattle.call_cycles.specs.Flow.{FlowValue, IsFlow, IsClosed, is_root, carried_by, carried_from, carried_from_function, leaves_function, time_of, time_of_roots, self_in}
 use Rattle.propagate.specs.Solution.{child_in, flow_in}
 use Rattle.call_cycles.proofs.SumLemmas.{sum_ext, sum_zero, sum_mono, when_le}
 use Rattle.call_cycles.proofs.NumberingLemmas.{goes_down}
 use Rattle.propagate.proofs.SumLemmas.{sum_by_key, term_le_sum, sum_of_places}
-use Rattle.propagate.proofs.ConservationLemmas.{one_component, conserved, all_into}
+use Rattle.propagate.proofs.ConservationLemmas.{conserved, all_into}
 use Rattle.propagate.proofs.SolutionLemmas.{at_list_of, solution}
 
 pub when_fewer : (a b : Bool) (x : ℕ) → (a ≡ true → b ≡ true) → when a x ≤ when b x
@@ -41,35 +41,14 @@ module _ (g : GraphValue) (shares : List ℕ) (is : IsGraph g) (each : length sh
     module _ (c : ℕ) (below : c < component_count g) where
       -- the components up to c call none after c
       closed : IsClosed g (λ d. leb d c)
-      closed i h inside =
-          let from : source_of g i ≤ c = leb-true _ _ inside in
-          ⊎_elim
-          (λ (out : is_outside g i ≡ true). let down = goes_down g is i h out in le-leb _ _ (omega arith))
-          (λ (within : is_outside g i ≡ false). let same = one_component g i within in le-leb _ _ (omega arith))
-          (cases_Bool (is_outside g i))
+      closed i h inside = grind (arith, goes_down)
 
       -- a root is one of the roots up to c; what enters another comes from after c
       as_root : is_root g c ≡ true → time_of t c ≤ sum_below (component_count g) (λ d. when (leb d c && is_root g d) (time_of t d))
-      as_root root =
-          let one = term_le_sum (component_count g) (λ d. when (leb d c && is_root g d) (time_of t d)) c below in
-          let this : when (leb c c && is_root g c) (time_of t c) ≡ time_of t c = rw (le-leb c c (omega arith), root) refl in
-          omega arith
+      as_root root = grind (arith, term_le_sum (component_count g) (λ d. when (leb d c && is_root g d) (time_of t d)) c below)
 
       enters_from_outside : (i : ℕ) → i < arc_count g → when (enters g c i) (carried_by t i) ≤ when (not (leb (source_of g i) c) && leb (target_of g i) c) (carried_by t i)
-      enters_from_outside i h =
-          ⊎_elim
-          (λ (yes_it : enters g c i ≡ true).
-          let both = and_parts (is_outside g i) (target_of g i == c) yes_it in
-          let down = goes_down g is i h both.0 in
-          let at : target_of g i ≡ c = eqb-true _ _ both.1 in
-          let taken : when (enters g c i) (carried_by t i) ≡ carried_by t i = ap (λ (b : Bool). when b (carried_by t i)) yes_it in
-          let there : when (not (leb (source_of g i) c) && leb (target_of g i) c) (carried_by t i) ≡ carried_by t i =
-          rw (lt-leb (source_of g i) c (omega arith), le-leb (target_of g i) c (omega arith)) refl in
-          omega arith)
-          (λ (not_it : enters g c i ≡ false).
-          let none : when (enters g c i) (carried_by t i) ≡ 0 = ap (λ (b : Bool). when b (carried_by t i)) not_it in
-          omega arith)
-          (cases_Bool (enters g c i))
+      enters_from_outside i h = grind (arith, goes_down)
 
       as_callee : is_root g c ≡ false → time_of t c ≤ sum_below (arc_count g) (λ i. when (not (leb (source_of g i) c) && leb (target_of g i) c) (carried_by t i))
       as_callee called =
@@ -93,18 +72,13 @@ module _ (g : GraphValue) (shares : List ℕ) (is : IsGraph g) (each : length sh
   unfolding flow_in
   bounded c below =
       let all = within_all (flow_in g shares) (solution g shares is) c below in
-      let self = at_list_of (component_count g) (self_in g shares) c below in
-      let child = at_list_of (component_count g) (child_in g shares) c below in
-      omega arith
+      omega (arith, at_list_of (component_count g) (self_in g shares) c below, at_list_of (component_count g) (child_in g shares) c below)
 
 -- ---- functions
 
 -- a function's arcs leave its component
 pub function_leaves : (g : GraphValue) (f i : ℕ) → leaves_function g f i ≡ true → leaves g (component_of g f) i ≡ true
-function_leaves g f i it =
-    let both = and_parts (is_outside g i) ((arc_at g i).caller == f) it in
-    let caller : (arc_at g i).caller ≡ f = eqb-true _ _ both.1 in
-    and_from _ _ both.0 (eq-eqb _ _ (ap (component_of g) caller))
+function_leaves g f i it = grind arith
 
 pub function_carried_le : (g : GraphValue) (carried : ℕ → ℕ) (f : ℕ) → carried_from_function g carried f ≤ carried_from g carried (component_of g f)
 function_carried_le g carried f = sum_mono (arc_count g) _ _ (λ i h. when_fewer _ _ (carried i) (function_leaves g f i))
@@ -113,11 +87,7 @@ pub function_within : (g : GraphValue) (shares : List ℕ) (t : FlowValue) (f : 
     → slice_index shares f + slice_index t.member_child f ≤ time_of t (component_of g f)
 function_within g shares t f is flow below =
     let c = component_of g f in
-    let low = is.components.within f below in
-    let member = flow.member_child f below in
-    let child = flow.child c low in
     let fewer = function_carried_le g (carried_by t) f in
-    let self = flow.self c low in
     let one = term_le_sum g.functions (λ h. when (component_of g h == c) (slice_index shares h)) f below in
     let this : when (component_of g f == c) (slice_index shares f) ≡ slice_index shares f = rw (eq-eqb c c refl) refl in
     omega arith

@@ -1,23 +1,14 @@
 -- What the arcs that enter a component carry: together all of its time.
-use Rattle.std.proofs.Common.{◌≡◌, ◌≢◌, ◌≤◌, ℕ, zero, suc, ◌+◌, ◌-◌, ◌*◌, ◌/◌, Bool, true, false, not, ◌&&◌, refl, ap, sym, ◌∙◌, subst, add-zero, ⊎_elim, arith}
+use Rattle.std.proofs.Common.{◌≡◌, ◌≢◌, ◌≤◌, ℕ, zero, suc, ◌+◌, ◌-◌, ◌*◌, ◌/◌, Bool, true, false, not, ◌&&◌, ap, sym, ◌∙◌, subst, add-zero, ⊎_elim, arith}
 use Rattle.std.specs.Prelude.{◌==◌}
-use Rattle.std.proofs.Math.Nat.{div-zero, zero-div, mul-div-le, mul-le-mul_left, mul-div_cancel}
-use Rattle.std.proofs.lemmas.Nat.{le-div}
-use Rattle.std.proofs.lemmas.Bool.{cases_eq, eq-eqb, ne_eqb}
+use Rattle.std.proofs.Math.Nat.{zero-div}
+use Rattle.std.proofs.lemmas.Bool.{cases_eq, ne_eqb}
 use Rattle.call_cycles.specs.Sums.{sum_below, when}
 use Rattle.call_cycles.specs.Graph.{GraphValue, arc_at, arc_count, is_outside, enters, target_of, calls_into, entering_of}
 use Rattle.call_cycles.specs.Flow.{is_root, part_of}
 
 pub div_mono : (a b n : ℕ) → a ≤ b → a / n ≤ b / n
-div_mono a b n le =
-    ⊎_elim
-    (λ (none : n ≡ 0).
-    let x : a / n ≡ 0 = ap (λ (k : ℕ). a / k) none ∙ div-zero a in
-    omega arith)
-    (λ (some : n ≢ 0).
-    let low = mul-div-le a n in
-    le-div (a / n) b n (omega arith) (omega arith))
-    (cases_eq n 0)
+div_mono a b n le = grind arith
 
 -- one more arc, which goes to t with x calls
 still : (a b n : ℕ) → a * b / n + 0 ≡ a * (b + 0) / n
@@ -30,9 +21,7 @@ module _ (t x : ℕ) (time calls whole : ℕ → ℕ) where
       ≡ time d * (calls d + when (o && t == d) x) / whole d
 
   step_here : Steps true t
-  step_here =
-      let more : time t * calls t / whole t ≤ time t * (calls t + x) / whole t = div_mono _ _ (whole t) (mul-le-mul_left (time t) (omega arith)) in
-      rw (eq-eqb t t refl) (omega arith)
+  step_here = grind (arith, div_mono)
 
   step_other : (d : ℕ) → t ≢ d → Steps true d
   step_other d apart = rw (ne_eqb t d apart) (still (time d) (calls d) (whole d))
@@ -53,13 +42,7 @@ carried_below g time d (suc j) =
     ap (λ (n : ℕ). n + when (enters g d j) (part_of g time j)) ih ∙ step
 
 cut_whole : (t n : ℕ) → t * n / n ≡ when (not (n == 0)) t
-cut_whole t n =
-    ⊎_elim
-    (λ (none : n ≡ 0).
-    let x : t * n / n ≡ 0 = ap (λ (k : ℕ). t * n / k) none ∙ div-zero (t * n) in
-    rw (eq-eqb n 0 none) x)
-    (λ (some : n ≢ 0). rw (ne_eqb n 0 some) (mul-div_cancel t (omega arith)))
-    (cases_eq n 0)
+cut_whole t n = grind arith
 
 -- nothing where no call enters, else all
 pub carried_into : (g : GraphValue) (time : ℕ → ℕ) (d : ℕ) → sum_below (arc_count g) (λ i. when (enters g d i) (part_of g time i)) ≡ when (not (is_root g d)) (time d)

@@ -1,10 +1,10 @@
 -- The equations of exact times have a solution, and all solutions have the same times.
 use Rattle.std.proofs.Common.{◌≡◌, ◌≢◌, ◌<◌, ◌≤◌, ℕ, zero, suc, ◌+◌, ◌*◌, max, Bool, true, false, ◌&&◌, List, refl, ap, sym, ◌∙◌, ⊎_elim, arith}
 use Rattle.std.specs.Prelude.{◌==◌}
-use Rattle.std.proofs.Math.Nat.{eq_of_mul-eq-mul_right, mul-pos}
-use Rattle.std.proofs.lemmas.Bool.{eqb-true, eq-eqb, ne_eqb, and_parts, cases_eq, cases_Bool}
+use Rattle.std.proofs.Math.Nat.{eq_of_mul-eq-mul_right}
+use Rattle.std.proofs.lemmas.Bool.{eq-eqb, ne_eqb, and_parts, cases_eq}
 use Rattle.call_cycles.specs.Sums.{sum_below, when}
-use Rattle.call_cycles.specs.Graph.{GraphValue, IsGraph, arc_at, arc_count, component_count, is_outside, enters, leaves, source_of, target_of, entering_of}
+use Rattle.call_cycles.specs.Graph.{GraphValue, IsGraph, arc_at, arc_count, component_count, is_outside, enters, leaves, target_of, entering_of}
 use Rattle.call_cycles.specs.Flow.{carried_from, carried_from_function, leaves_function, self_in}
 use Rattle.call_cycles.specs.ExactFlow.{ExactTimes, IsExactFlow, AreSameTimes, carried_exactly}
 use Rattle.call_cycles.proofs.SumLemmas.{sum_ext}
@@ -26,21 +26,10 @@ pub chosen_times : (n : ℕ) (chosen : ℕ → Bool) (f : ℕ → ℕ) (k : ℕ)
 chosen_times n chosen f k = sum_times n (λ i. when (chosen i) (f i)) k ∙ sum_ext n _ _ (λ i h. when_times (chosen i) (f i) k)
 
 pub entered : (g : GraphValue) → IsGraph g → (i : ℕ) → i < arc_count g → is_outside g i ≡ true → 0 < entering_of g (target_of g i)
-entered g is i below out =
-    let within = calls_within g i below out in
-    let some = is.arcs.called i below in
-    omega arith
+entered g is i below out = grind (arith, calls_within g i below out)
 
 pub not_entered : (g : GraphValue) → IsGraph g → (d : ℕ) → entering_of g d ≤ 0 → (i : ℕ) → i < arc_count g → enters g d i ≡ false
-not_entered g is d none i below =
-    ⊎_elim
-    (λ (taken : enters g d i ≡ true).
-    let both = and_parts (is_outside g i) (target_of g i == d) taken in
-    let some = entered g is i below both.0 in
-    let same = ap (entering_of g) (eqb-true (target_of g i) d both.1) in
-    absurd (omega arith))
-    (λ (not_taken : enters g d i ≡ false). not_taken)
-    (cases_Bool (enters g d i))
+not_entered g is d none i below = grind (arith, entered)
 
 pub calls_entering : (g : GraphValue) (d : ℕ) → sum_below (arc_count g) (λ i. when (enters g d i) (arc_at g i).count) ≡ entering_of g d
 unfolding entering_of
@@ -78,9 +67,7 @@ module _ (g : GraphValue) (shares : List ℕ) (is : IsGraph g) (x y : ExactTimes
       each : (i : ℕ) → i < arc_count g → chosen i ≡ true → carried_exactly x i * y.grain ≡ carried_exactly y i * x.grain
       each i below taken =
           let both = arcs i below taken in
-          let s = same_arc_self i below both.0 in
-          let k = both.1 in
-          omega arith
+          omega (arith, same_arc_self i below both.0, both.1)
 
   same_below : (n c : ℕ) → c < n → c < component_count g → x.child c * y.grain ≡ y.child c * x.grain
   same_below zero c low below = absurd (omega arith)
@@ -88,11 +75,7 @@ module _ (g : GraphValue) (shares : List ℕ) (is : IsGraph g) (x y : ExactTimes
     where
       arcs : ((d : ℕ) → d < c → d < component_count g → x.child d * y.grain ≡ y.child d * x.grain)
           → (i : ℕ) → i < arc_count g → leaves g c i ≡ true → (is_outside g i ≡ true) × (x.arc_child i * y.grain ≡ y.arc_child i * x.grain)
-      arcs before i within taken =
-          let both = and_parts (is_outside g i) (source_of g i == c) taken in
-          let down = goes_down g is i within both.0 in
-          let at : source_of g i ≡ c = eqb-true _ _ both.1 in
-          (both.0, same_arc_child i within both.0 (before (target_of g i) (omega arith) (target_within g is i within)))
+      arcs before i within taken = grind (arith, goes_down, same_arc_child)
 
   same_child : (c : ℕ) → c < component_count g → x.child c * y.grain ≡ y.child c * x.grain
   same_child c below = same_below (component_count g) c below below
@@ -124,15 +107,7 @@ record IsHandedOn (g : GraphValue) (shares : List ℕ) (n : ℕ) (x : ExactTimes
 
 module _ (g : GraphValue) (shares : List ℕ) (is : IsGraph g) where
   none_yet : IsHandedOn g shares 0 (exact_after g shares 0)
-  none_yet = record {
-    some = omega arith;
-    arc_self = λ i below out low. absurd (omega arith);
-    arc_child = λ i below out low. absurd (omega arith);
-    no_self = λ i below out high. refl;
-    no_child = λ i below out high. refl;
-    child = λ c. refl;
-    member_child = λ f. refl;
-  }
+  none_yet = grind arith
 
   module _ (n : ℕ) (x : ExactTimes) (had : IsHandedOn g shares n x) where
     calls : ℕ
@@ -157,13 +132,7 @@ module _ (g : GraphValue) (shares : List ℕ) (is : IsGraph g) where
         ∙ sym (ap (λ (z : ℕ). z * calls) (had.child c))
       where
         each : (i : ℕ) → i < arc_count g → leaves g c i ≡ true → carried_exactly (handed_on g shares n x) i ≡ carried_exactly x i * calls
-        each i below taken =
-            let both = and_parts (is_outside g i) (source_of g i == c) taken in
-            let down = goes_down g is i below both.0 in
-            let at : source_of g i ≡ c = eqb-true _ _ both.1 in
-            let s = pays_none i (x.grain * self_in g shares n * (arc_at g i).count) (λ same. omega arith) in
-            let k = pays_none i (x.child n * (arc_at g i).count) (λ same. omega arith) in
-            omega arith
+        each i below taken = grind (arith, goes_down)
 
     kept_arc : (a w e A : ℕ) → w ≡ 0 → a * e ≡ A → (a * calls + w) * e ≡ A * calls
     kept_arc a w e A none was = rw none (let more = ap (λ (z : ℕ). z * calls) was in omega arith)
@@ -173,10 +142,7 @@ module _ (g : GraphValue) (shares : List ℕ) (is : IsGraph g) where
 
     all_calls_enter : (i : ℕ) → i < arc_count g → is_outside g i ≡ true → target_of g i ≡ n → calls ≡ entering_of g (target_of g i)
     unfolding calls
-    all_calls_enter i below out at =
-        let some = entered g is i below out in
-        let same : entering_of g (target_of g i) ≡ entering_of g n = ap (entering_of g) at in
-        omega arith
+    all_calls_enter i below out at = grind (arith, entered)
 
     more_self : (i : ℕ) → i < arc_count g → is_outside g i ≡ true → target_of g i < suc n
         → (handed_on g shares n x).arc_self i * entering_of g (target_of g i) ≡ (handed_on g shares n x).grain * self_in g shares (target_of g i) * (arc_at g i).count
@@ -210,20 +176,9 @@ module _ (g : GraphValue) (shares : List ℕ) (is : IsGraph g) where
         kept_arc (x.arc_child i) w (entering_of g (target_of g i)) A (pays_none i at_n apart) (had.arc_child i below out (omega arith)) ∙ turned)
         (cases_eq (target_of g i) n)
 
-    still_none : (i a z : ℕ) → suc n ≤ target_of g i → a ≡ 0 → a * calls + when (enters g n i) z ≡ 0
-    still_none i a z high none = rw (none, pays_none i z (λ same. omega arith)) (omega arith)
-
     handed : IsHandedOn g shares (suc n) (handed_on g shares n x)
     unfolding calls
-    handed = record {
-      some = mul-pos had.some (omega arith);
-      arc_self = more_self;
-      arc_child = more_child;
-      no_self = λ i below out high. still_none i (x.arc_self i) _ high (had.no_self i below out (omega arith));
-      no_child = λ i below out high. still_none i (x.arc_child i) _ high (had.no_child i below out (omega arith));
-      child = λ c. refl;
-      member_child = λ f. refl;
-    }
+    handed = grind (arith, more_self, more_child)
 
   all_handed : (n : ℕ) → IsHandedOn g shares n (exact_after g shares n)
   all_handed zero = none_yet
@@ -231,12 +186,4 @@ module _ (g : GraphValue) (shares : List ℕ) (is : IsGraph g) where
 
   pub exact_solution : IsExactFlow g shares (exact_in g shares)
   unfolding exact_in
-  exact_solution =
-      let had = all_handed (component_count g) in
-      record {
-        some = had.some;
-        arc_self = λ i below out. had.arc_self i below out (target_within g is i below);
-        arc_child = λ i below out. had.arc_child i below out (target_within g is i below);
-        child = λ c below. had.child c;
-        member_child = λ f below. had.member_child f;
-      }
+  exact_solution = grind (arith, all_handed)

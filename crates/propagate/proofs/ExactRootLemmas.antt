@@ -1,8 +1,7 @@
 -- The roots have all shares, also in exact times.
-use Rattle.std.proofs.Common.{◌≡◌, ◌<◌, ◌≤◌, ℕ, ◌+◌, ◌*◌, Bool, true, false, not, List, length, sum, refl, ap, sym, ◌∙◌, ⊎_elim, subst, arith}
-use Rattle.std.specs.Prelude.{◌==◌}
+use Rattle.std.proofs.Common.{◌≡◌, ◌<◌, ◌≤◌, ℕ, ◌+◌, ◌*◌, Bool, true, false, not, List, length, sum, refl, ap, sym, ◌∙◌, ⊎_elim, arith}
 use Rattle.std.proofs.Math.Nat.{eq_of_mul-eq-mul_right, mul_comm}
-use Rattle.std.proofs.lemmas.Bool.{eqb-true, eq-eqb, ne_eqb, and_parts, cases_lt}
+use Rattle.std.proofs.lemmas.Bool.{eq-eqb, ne_eqb, cases_lt}
 use Rattle.call_cycles.specs.Sums.{sum_below, when}
 use Rattle.call_cycles.specs.Graph.{GraphValue, IsGraph, arc_at, arc_count, component_count, is_outside, enters, leaves, source_of, target_of, entering_of}
 use Rattle.call_cycles.specs.Flow.{is_root, self_in}
@@ -32,11 +31,7 @@ module _ (g : GraphValue) (shares : List ℕ) (is : IsGraph g) (x : ExactTimes) 
       (cases_lt 0 (entering_of g d))
     where
       each : (i : ℕ) → i < arc_count g → enters g d i ≡ true → carried_exactly x i * entering_of g d ≡ (arc_at g i).count * exact_time g shares x d
-      each i below taken =
-          let both = and_parts (is_outside g i) (target_of g i == d) taken in
-          let s = exact.arc_self i below both.0 in
-          let k = exact.arc_child i below both.0 in
-          subst (λ (e : ℕ). carried_exactly x i * entering_of g e ≡ (arc_at g i).count * exact_time g shares x e) (eqb-true (target_of g i) d both.1) (omega arith)
+      each i below taken = grind arith
 
       shared : 0 < entering_of g d → sum_below (arc_count g) (λ i. when (enters g d i) (carried_exactly x i)) * entering_of g d ≡ exact_time g shares x d * entering_of g d
       shared some =

@@ -1,12 +1,12 @@
 -- How far the times of a flow are from the exact ones. Each arc adds less than two grains, one for its part of the self
 -- time and one for that of the child time; what a component's own time is off by goes on over the arcs that enter it.
-use Rattle.std.proofs.Common.{◌≡◌, ◌<◌, ◌≤◌, ℕ, zero, suc, ◌+◌, ◌-◌, ◌*◌, ◌/◌, Bool, true, false, not, ◌&&◌, List, refl, ap, sym, ◌∙◌, ⊎_elim, subst, ltb, arith}
-use Rattle.std.specs.Prelude.{◌==◌, slice_index}
+use Rattle.std.proofs.Common.{◌≡◌, ◌<◌, ◌≤◌, ℕ, zero, suc, ◌+◌, ◌-◌, ◌*◌, ◌/◌, Bool, true, false, not, ◌&&◌, List, refl, ap, sym, ◌∙◌, ⊎_elim, ltb, arith}
+use Rattle.std.specs.Prelude.{slice_index}
 use Rattle.std.specs.Int.{abs_diff}
 use Rattle.std.proofs.Math.Nat.{mul-sub, mul_comm, mul-le-mul_right, mul-div-le, lt-div-mul-add, le_of_mul-le-mul_right}
-use Rattle.std.proofs.lemmas.Bool.{eqb-true, eq-eqb, and_parts, cases_Bool, cases_lt, ltb-true, lt-ltb, le-ltb}
+use Rattle.std.proofs.lemmas.Bool.{cases_lt}
 use Rattle.call_cycles.specs.Sums.{sum_below, when}
-use Rattle.call_cycles.specs.Graph.{GraphValue, IsGraph, arc_at, arc_count, component_count, component_of, is_outside, enters, leaves, source_of, target_of, calls_into, entering_of}
+use Rattle.call_cycles.specs.Graph.{GraphValue, IsGraph, arc_at, arc_count, component_count, component_of, is_outside, enters, leaves, source_of, target_of, entering_of}
 use Rattle.call_cycles.specs.Flow.{FlowValue, IsFlow, IsClosed, part_of, carried_by, leaves_function, self_in}
 use Rattle.call_cycles.specs.ExactFlow.{ExactTimes, IsExactFlow, IsNear, IsNearFlow, carried_exactly, outside_count}
 use Rattle.call_cycles.proofs.SumLemmas.{sum_ext, sum_add, sum_none, sum_mono}
@@ -14,7 +14,6 @@ use Rattle.call_cycles.proofs.NumberingLemmas.{source_within, target_within, goe
 use Rattle.propagate.proofs.SumLemmas.{sum_by_key, term_le_sum, when_add}
 use Rattle.propagate.proofs.CarryLemmas.{div_mono}
 use Rattle.propagate.proofs.ConservationLemmas.{one_component, split_arc}
-use Rattle.propagate.proofs.StepLemmas.{part_is}
 use Rattle.propagate.proofs.BoundLemmas.{when_fewer, function_leaves}
 use Rattle.propagate.proofs.ExactLemmas.{chosen_times, entered, not_entered, calls_entering}
 
@@ -120,12 +119,7 @@ module _ (g : GraphValue) (shares : List ℕ) (is : IsGraph g) (t : FlowValue) (
 
   carried_apart : (time : ℕ → ℕ) (i v exact_time a : ℕ) → i < arc_count g → is_outside g i ≡ true → v ≡ part_of g time i → a * entering_of g (target_of g i) ≡ exact_time * (arc_at g i).count
       → abs_diff (v * x.grain) a * entering_of g (target_of g i) ≤ x.grain * entering_of g (target_of g i) + abs_diff (time (target_of g i) * x.grain) exact_time * (arc_at g i).count
-  carried_apart time i v exact_time a below out is_v is_a =
-      let whole = entering_of g (target_of g i) in
-      let p = calls_into g (target_of g i) i in
-      let cut = part_is g time i (time (target_of g i)) p (arc_at g i).count whole out refl refl refl refl in
-      let near = part_apart (time (target_of g i)) p (arc_at g i).count whole x.grain exact_time a (entered g is i below out) is_a in
-      subst (λ (z : ℕ). abs_diff (z * x.grain) a * whole ≤ x.grain * whole + abs_diff (time (target_of g i) * x.grain) exact_time * (arc_at g i).count) (cut ∙ sym is_v) near
+  carried_apart time i v exact_time a below out is_v is_a = grind (arith, part_apart, entered)
 
   arc_apart : (i : ℕ) → i < arc_count g → is_outside g i ≡ true
       → off i * entering_of g (target_of g i) ≤ 2 * x.grain * entering_of g (target_of g i) + (arc_at g i).count * component_off (target_of g i)
@@ -152,9 +146,7 @@ module _ (g : GraphValue) (shares : List ℕ) (is : IsGraph g) (t : FlowValue) (
       m = arc_count g
 
       each : (i : ℕ) → i < arc_count g → enters g d i ≡ true → off i * entering_of g d ≤ 2 * x.grain * entering_of g d + (arc_at g i).count * component_off d
-      each i below taken =
-          let both = and_parts (is_outside g i) (target_of g i == d) taken in
-          subst (λ (e : ℕ). off i * entering_of g e ≤ 2 * x.grain * entering_of g e + (arc_at g i).count * component_off e) (eqb-true (target_of g i) d both.1) (arc_apart i below both.0)
+      each i below taken = grind (arith, arc_apart)
 
       all : 0 < entering_of g d → sum_below m (λ i. when (enters g d i) (off i)) * entering_of g d ≤ (sum_below m (λ i. when (enters g d i) (2 * x.grain)) + component_off d) * entering_of g d
       all some =
@@ -177,9 +169,7 @@ module _ (g : GraphValue) (shares : List ℕ) (is : IsGraph g) (t : FlowValue) (
       rw (scaled, is_a) (omega arith)
     where
       one : (s k p q : ℕ) → abs_diff ((s + k) * x.grain) (p + q) ≤ abs_diff (s * x.grain) p + abs_diff (k * x.grain) q
-      one s k p q =
-          let parts : (s + k) * x.grain ≡ s * x.grain + k * x.grain = omega arith in
-          rw parts (abs_add (s * x.grain) (k * x.grain) p q)
+      one s k p q = grind arith
 
   component_apart : (c : ℕ) → c < component_count g → component_off c ≤ sum_below (arc_count g) (λ i. when (leaves g c i) (off i))
   component_apart c below = brought_apart (leaves g c) (slice_index t.child c) (x.child c) (flow.child c below) (exact.child c below)
@@ -217,26 +207,14 @@ module _ (g : GraphValue) (shares : List ℕ) (is : IsGraph g) (t : FlowValue) (
       omega arith
     where
       comes_in : (i : ℕ) → i < arc_count g → leaves g c i ≡ true → (not (ltb (source_of g i) c) && ltb (target_of g i) c) ≡ true
-      comes_in i below taken =
-          let both = and_parts (is_outside g i) (source_of g i == c) taken in
-          let down = goes_down g is i below both.0 in
-          let at : source_of g i ≡ c = eqb-true _ _ both.1 in
-          rw (le-ltb (source_of g i) c (omega arith), lt-ltb (target_of g i) c (omega arith)) refl
+      comes_in i below taken = grind (arith, goes_down)
 
       closed : IsClosed g (λ d. ltb d c)
-      closed i h inside =
-          let from : source_of g i < c = ltb-true _ _ inside in
-          ⊎_elim
-          (λ (out : is_outside g i ≡ true). let down = goes_down g is i h out in lt-ltb _ _ (omega arith))
-          (λ (within : is_outside g i ≡ false). let same = one_component g i within in lt-ltb _ _ (omega arith))
-          (cases_Bool (is_outside g i))
+      closed i h inside = grind (arith, goes_down)
 
   arc_near : (i : ℕ) → i < arc_count g → is_outside g i ≡ true → off i ≤ 2 * outside_count g * x.grain
   arc_near i below out =
-      let one = term_le_sum (arc_count g) (λ j. when (leaves g (source_of g i) j) (off j)) i below in
-      let this : when (leaves g (source_of g i) i) (off i) ≡ off i = rw (out, eq-eqb (source_of g i) (source_of g i) refl) refl in
-      let all = leaving_apart (source_of g i) in
-      omega arith
+      grind (arith, term_le_sum (arc_count g) (λ j. when (leaves g (source_of g i) j) (off j)) i below, leaving_apart (source_of g i))
 
   member_near : (f : ℕ) → f < g.functions → IsNear g x (slice_index t.member_child f) (x.member_child f)
   member_near f below =

@@ -1,10 +1,10 @@
 -- What arcs carry, beside the exact parts.
-use Rattle.std.proofs.Common.{◌≡◌, ◌≢◌, ◌≤◌, ◌<◌, ℕ, suc, ◌+◌, ◌-◌, ◌*◌, ◌/◌, not, Bool, true, List, refl, ap, sym, ◌∙◌, subst, arith}
-use Rattle.std.specs.Prelude.{◌==◌, slice_index}
+use Rattle.std.proofs.Common.{◌≡◌, ◌≢◌, ◌≤◌, ◌<◌, ℕ, ◌+◌, ◌-◌, ◌*◌, ◌/◌, not, Bool, true, List, ap, sym, ◌∙◌, subst, arith}
+use Rattle.std.specs.Prelude.{slice_index}
 use Rattle.std.proofs.Math.Nat.{mul-div-le, lt-div-mul-add, mul-le-mul_left}
-use Rattle.std.proofs.lemmas.Bool.{eq-eqb, ne_eqb, and_from}
+use Rattle.std.proofs.lemmas.Bool.{eq-eqb, ne_eqb}
 use Rattle.call_cycles.specs.Sums.{when}
-use Rattle.call_cycles.specs.Graph.{GraphValue, IsGraph, arc_at, arc_count, enters, entering_of, calls_into, is_outside, target_of}
+use Rattle.call_cycles.specs.Graph.{GraphValue, IsGraph, arc_at, arc_count, enters, entering_of, is_outside, target_of}
 use Rattle.call_cycles.specs.Flow.{FlowValue, IsFlow, part_of}
 use Rattle.call_cycles.proofs.SumLemmas.{sum_ext}
 use Rattle.propagate.specs.Proportion.{IsInProportion, carried_to}
@@ -39,15 +39,7 @@ cut_near time before calls all some = near (time * (before + calls) / all) (time
             (omega arith, omega arith)
 
 part_near : (g : GraphValue) → IsGraph g → (time : ℕ → ℕ) (i : ℕ) → i < arc_count g → is_outside g i ≡ true → IsInProportion (part_of g time i) (time (target_of g i)) (arc_at g i).count (entering_of g (target_of g i))
-part_near g is time i low out =
-    let d = target_of g i in
-    let enter : enters g d i ≡ true = and_from (is_outside g i) (target_of g i == d) out (eq-eqb (target_of g i) d refl) in
-    let more : calls_into g d (suc i) ≡ calls_into g d i + (arc_at g i).count = ap (λ (b : Bool). calls_into g d i + when b (arc_at g i).count) enter in
-    let part : part_of g time i ≡ time d * (calls_into g d i + (arc_at g i).count) / entering_of g d - time d * calls_into g d i / entering_of g d =
-    ap (λ (b : Bool). when b (time d * calls_into g d (suc i) / entering_of g d - time d * calls_into g d i / entering_of g d)) out
-    ∙ ap (λ (k : ℕ). time d * k / entering_of g d - time d * calls_into g d i / entering_of g d) more in
-    subst (λ (p : ℕ). IsInProportion p (time d) (arc_at g i).count (entering_of g d)) (sym part)
-    (cut_near (time d) (calls_into g d i) (arc_at g i).count (entering_of g d) (entered g is i low out))
+part_near g is time i low out = grind (arith, eq-eqb, cut_near, entered)
 
 module _ (g : GraphValue) (shares : List ℕ) (t : FlowValue) (is : IsGraph g) (flow : IsFlow g shares t) where
   pub parts_near : (i : ℕ) → i < arc_count g → is_outside g i ≡ true

@@ -3,7 +3,7 @@ use Rattle.std.proofs.Common.{◌≡◌, ◌<◌, ℕ, zero, suc, ◌+◌, List,
 use Rattle.std.specs.Prelude.{slice_index}
 use Rattle.std.proofs.lemmas.List.FromFn.{length-map-range_with_len}
 use Rattle.call_cycles.specs.Sums.{when, list_of}
-use Rattle.call_cycles.specs.Graph.{GraphValue, IsGraph, arc_count, component_count, target_of, leaves}
+use Rattle.call_cycles.specs.Graph.{GraphValue, IsGraph, arc_count, component_count, leaves}
 use Rattle.call_cycles.specs.Flow.{IsFlow, part_of, carried_from, leaves_function, self_in}
 use Rattle.propagate.specs.Solution.{child_after, child_in, carried_in, flow_in}
 use Rattle.call_cycles.proofs.SumLemmas.{sum_ext}
@@ -46,9 +46,7 @@ solution g shares is = record {
     n = component_count g
 
     arc_part : (time : ℕ → ℕ) (i : ℕ) → i < arc_count g → slice_index (list_of (arc_count g) (part_of g time)) i ≡ part_of g (slice_index (list_of (component_count g) time)) i
-    arc_part time i h =
-        at_list_of (arc_count g) (part_of g time) i h
-        ∙ part_same g time (slice_index (list_of (component_count g) time)) i (sym (at_list_of (component_count g) time (target_of g i) (target_within g is i h)))
+    arc_part time i h = search (at_list_of, part_same, target_within)
 
     both : (i : ℕ) → i < arc_count g
         → part_of g (self_in g shares) i + part_of g (child_in g shares) i

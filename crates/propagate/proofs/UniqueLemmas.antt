@@ -1,11 +1,10 @@
 -- The equations of the flow have one solution.
-use Rattle.std.proofs.Common.{◌≡◌, ◌<◌, ℕ, zero, suc, ◌+◌, ◌-◌, ◌*◌, ◌/◌, Bool, true, false, List, refl, ap, sym, ◌∙◌, arith}
-use Rattle.std.specs.Prelude.{◌==◌, slice_index}
-use Rattle.std.proofs.lemmas.Bool.{eqb-true, and_parts}
+use Rattle.std.proofs.Common.{◌≡◌, ◌<◌, ℕ, zero, suc, ◌+◌, Bool, true, false, List, refl, ap, sym, ◌∙◌, arith}
+use Rattle.std.specs.Prelude.{slice_index}
 use Rattle.std.proofs.lemmas.Grind.{same_number_lists}
 use Rattle.call_cycles.specs.Sums.{when}
-use Rattle.call_cycles.specs.Graph.{GraphValue, IsGraph, arc_count, component_count, is_outside, leaves, source_of, target_of, calls_into, entering_of}
-use Rattle.call_cycles.specs.Flow.{FlowValue, IsFlow, part_of, carried_by, carried_from, leaves_function, self_in}
+use Rattle.call_cycles.specs.Graph.{GraphValue, IsGraph, arc_count, component_count, leaves, target_of}
+use Rattle.call_cycles.specs.Flow.{FlowValue, IsFlow, part_of, carried_by, carried_from, self_in}
 use Rattle.call_cycles.proofs.SumLemmas.{sum_ext}
 use Rattle.call_cycles.proofs.NumberingLemmas.{target_within, goes_down}
 use Rattle.propagate.specs.Solution.{carried_in}
@@ -15,9 +14,7 @@ when_ext true x y same = same refl
 when_ext false x y same = refl
 
 pub part_same : (g : GraphValue) (time other : ℕ → ℕ) (i : ℕ) → time (target_of g i) ≡ other (target_of g i) → part_of g time i ≡ part_of g other i
-part_same g time other i same =
-    let t = target_of g i in
-    ap (λ (x : ℕ). when (is_outside g i) (x * calls_into g t (suc i) / entering_of g t - x * calls_into g t i / entering_of g t)) same
+part_same g time other i same = grind arith
 
 -- what a component's arcs carry is known from the components before it
 pub carried_same : (g : GraphValue) (is : IsGraph g) (shares : List ℕ) (child other : ℕ → ℕ) (c : ℕ)
@@ -27,11 +24,7 @@ carried_same g is shares child other c before =
     sum_ext (arc_count g) _ _ (λ i below. when_ext (leaves g c i) _ _ (λ taken. ap (λ (x : ℕ). part_of g (self_in g shares) i + x) (part_same g child other i (there i below taken))))
   where
     there : (i : ℕ) → i < arc_count g → leaves g c i ≡ true → child (target_of g i) ≡ other (target_of g i)
-    there i below taken =
-        let both = and_parts (is_outside g i) (source_of g i == c) taken in
-        let down = goes_down g is i below both.0 in
-        let at : source_of g i ≡ c = eqb-true _ _ both.1 in
-        before (target_of g i) (omega arith)
+    there i below taken = grind (arith, goes_down)
 
 module _ (g : GraphValue) (shares : List ℕ) (is : IsGraph g) where
   -- the equation of the child times alone
@@ -68,20 +61,8 @@ module _ (g : GraphValue) (shares : List ℕ) (is : IsGraph g) where
     same_carried : (i : ℕ) → i < arc_count g → carried_by t i ≡ carried_by u i
     same_carried i below = omega (arith, same_arc_self i below, same_arc_child i below)
 
-    same_member : (f : ℕ) → f < g.functions → slice_index t.member_child f ≡ slice_index u.member_child f
-    same_member f below =
-        one.member_child f below
-        ∙ sum_ext (arc_count g) _ _ (λ i h. ap (when (leaves_function g f i)) (same_carried i h))
-        ∙ sym (two.member_child f below)
-
     same_value : t.self ≡ u.self → t.child ≡ u.child → t.arc_self ≡ u.arc_self → t.arc_child ≡ u.arc_child → t.member_child ≡ u.member_child → t ≡ u
     same_value p q r s m = λ i. record { self = p i; child = q i; arc_self = r i; arc_child = s i; member_child = m i }
 
     pub one_flow : t ≡ u
-    one_flow =
-        same_value
-        (same_number_lists t.self u.self (one.selves ∙ sym two.selves) (λ c h. same_self c (omega (arith, one.selves))))
-        (same_number_lists t.child u.child (one.children ∙ sym two.children) (λ c h. same_child c (omega (arith, one.children))))
-        (same_number_lists t.arc_self u.arc_self (one.arc_selves ∙ sym two.arc_selves) (λ i h. same_arc_self i (omega (arith, one.arc_selves))))
-        (same_number_lists t.arc_child u.arc_child (one.arc_children ∙ sym two.arc_children) (λ i h. same_arc_child i (omega (arith, one.arc_children))))
-        (same_number_lists t.member_child u.member_child (one.member_children ∙ sym two.member_children) (λ f h. same_member f (omega (arith, one.member_children))))
+    one_flow = grind (arith, same_value, same_number_lists, same_self, same_child, same_arc_self)

@@ -25,6 +25,7 @@ pub fn conservation()
 {}
 
 /// Nothing has more than all shares together: no component, and no function with what it gets over its arcs.
+#[tactic(auto, using(crate::proofs::BoundLemmas::within_all, crate::proofs::BoundLemmas::function_within))]
 pub fn no_more_than_all()
     ensures components { (g : GraphValue) (shares : List ℕ) (t : FlowValue) (c : ℕ) → IsGraph g
         → length shares ≡ g.functions → IsFlow g shares t → c < component_count g
@@ -36,6 +37,7 @@ pub fn no_more_than_all()
 
 /// The equations of exact times have a solution, all solutions have the same times, and in each the roots
 /// have all shares.
+#[tactic(auto, using(crate::proofs::ExactLemmas::exact_solution, crate::proofs::ExactRootLemmas::exact_roots))]
 pub fn exact_times()
     ensures solved { (g : GraphValue) (shares : List ℕ) → IsGraph g
         → IsExactFlow g shares (exact_in g shares) }

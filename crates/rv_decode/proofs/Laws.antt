@@ -1,9 +1,9 @@
 -- What the table as a whole says.
-use Rattle.std.proofs.Common.{◌≡◌, ℕ, zero, suc, ◌<◌, Bool, true, not, ◌&&◌, ◌==◌, List, [], ◌∷◌, Option, Some, None, bit_and, length, get_or, refl, sym, ap, ◌∙◌, arith, All, AllPairs, Contains, MatchOption}
+use Rattle.std.proofs.Common.{◌≡◌, ℕ, zero, suc, ◌<◌, Bool, true, not, ◌&&◌, ◌==◌, List, [], ◌∷◌, Option, Some, None, bit_and, length, get_or, refl, arith, All, AllPairs, Contains, MatchOption}
 use Rattle.std.specs.List.{list_all}
 use Rattle.std.proofs.lemmas.Nat.{and_assoc, and_comm}
 use Rattle.std.proofs.lemmas.List.Sums.{AllPass-from_list_all}
-use Rattle.std.proofs.lemmas.Bool.{and_parts, eqb-true, eqb-false, not-true}
+use Rattle.std.proofs.lemmas.Bool.{and_parts, eqb-false}
 use Rattle.gp_base.proofs.Searching.{find_none, find_some}
 use Rattle.rv_decode.specs.Table.{Row, table, row_of, Matches}
 
@@ -25,15 +25,10 @@ apart_at (r ∷ rs) h zero zero d p q = absurd (omega arith)
 apart_at (r ∷ rs) h zero (suc j) d p q =
     AllPass-from_list_all (apart r) rs (and_parts (list_all (apart r) rs) (all_apart rs) h).0 j d (omega arith)
 apart_at (r ∷ rs) h (suc i) zero d p q = absurd (omega arith)
-apart_at (r ∷ rs) h (suc i) (suc j) d p q =
-    apart_at rs (and_parts (list_all (apart r) rs) (all_apart rs) h).1 i j d (omega arith) (omega arith)
+apart_at (r ∷ rs) h (suc i) (suc j) d p q = grind (arith, apart_at rs)
 
 not_both : (w : ℕ) (r s : Row) → apart r s ≡ true → ¬ (Matches w r × Matches w s)
-not_both w r s h m =
-    let left : bit_and r.bits s.mask ≡ bit_and w (bit_and r.mask s.mask) = ap (λ n. bit_and n s.mask) (sym m.0) ∙ and_assoc s.mask w r.mask in
-    let right : bit_and s.bits r.mask ≡ bit_and w (bit_and s.mask r.mask) = ap (λ n. bit_and n r.mask) (sym m.1) ∙ and_assoc r.mask w s.mask in
-    let same : bit_and r.bits s.mask ≡ bit_and s.bits r.mask = left ∙ ap (λ n. bit_and w n) (and_comm r.mask s.mask) ∙ sym right in
-    eqb-false _ _ (not-true _ h) same
+not_both w r s h m = grind (arith, and_assoc, and_comm)
 
 -- no word matches two rows
 pub one_row : (w : ℕ) → AllPairs (λ r s. ¬ (Matches w r × Matches w s)) table
@@ -43,8 +38,7 @@ one_row w i j d p q = not_both w (get_or table i d) (get_or table j d) (apart_at
 tells : (w : ℕ) (o : Option Row) → row_of w ≡ o → MatchOption o (All (λ r. ¬ (Matches w r)) table) (λ r. Contains table r × Matches w r)
 unfolding row_of
 tells w None e = λ k d l. eqb-false _ _ (find_none (λ r. bit_and w r.mask == r.bits) table e k d l)
-tells w (Some r) e =
-    let found = find_some (λ r. bit_and w r.mask == r.bits) table r e in (found.0, eqb-true _ _ found.1)
+tells w (Some r) e = grind (arith, find_some)
 
 -- the row of a word is one that it matches, and there is none only where it matches none
 pub row_tells : (w : ℕ) → MatchOption (row_of w) (All (λ r. ¬ (Matches w r)) table) (λ r. Contains table r × Matches w r)

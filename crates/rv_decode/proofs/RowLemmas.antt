@@ -1,14 +1,12 @@
 -- The row of a word by its opcode, funct3 and funct7.
-use Rattle.std.proofs.Common.{◌≡◌, ℕ, ◌+◌, ◌*◌, ◌/◌, ◌%◌, ◌^◌, ◌<◌, Bool, true, false, ◌&&◌, ◌==◌, cond, List, [], ◌∷◌, Option, Some, None, bit_and, option_map, find, refl, sym, ap, ◌∙◌, arith, lit<, subst, inl, inr, ◌≢◌}
+use Rattle.std.proofs.Common.{◌≡◌, ℕ, ◌+◌, ◌*◌, ◌/◌, ◌%◌, ◌^◌, ◌<◌, Bool, true, false, ◌&&◌, ◌==◌, cond, List, [], ◌∷◌, Option, Some, None, bit_and, option_map, find, refl, sym, ap, ◌∙◌, arith, lit<, ◌≢◌}
 use Rattle.std.specs.List.{list_all}
 use Rattle.std.proofs.lemmas.Nat.{and_mask, and_block}
-use Rattle.std.proofs.lemmas.Bool.{and_parts, eqb-true, ne_eqb, cases_Bool}
+use Rattle.std.proofs.lemmas.Bool.{and_parts, eqb-true, ne_eqb}
 use Rattle.std.proofs.lemmas.Bool.Decides.{nat_tests}
 use Rattle.rv_decode.specs.Fields.{field}
 use Rattle.rv_decode.specs.declared.instruction.Instr.{Instr}
-use Rattle.rv_decode.specs.Table.{Row, table, row_of, instr_of, instr_in, operand_form, row}
-use Rattle.rv_decode.specs.declared.instruction.Op.TheVariants.{Lui}
-use Rattle.rv_decode.specs.declared.forms.Form.TheVariants.{Upper}
+use Rattle.rv_decode.specs.Table.{Row, table, row_of, instr_of, instr_in, operand_form}
 
 -- a word under each of the masks
 masked_funct3 : (w : ℕ) → bit_and w 0x0000707F ≡ field w 12 3 * 4096 + w % 128
@@ -72,24 +70,8 @@ by_funct3 w b s = let e = masked_funct3 w in grind (arith, nat_tests)
 by_funct7 : (w b : ℕ) → b ≡ b / 33554432 * 33554432 + (b / 4096 % 8 * 4096 + b % 128) → (bit_and w 0xFE00707F == b) ≡ ((w % 128 == b % 128) && ((field w 12 3 == b / 4096 % 8) && (field w 25 7 == b / 33554432)))
 by_funct7 w b s = let e = masked_funct7 w in grind (arith, nat_tests)
 
-abbrev fits_under : ℕ → ℕ → ℕ → Type 0
-fits_under w b m =
-    let r = row Lui Upper [] m b in sound r ≡ true → (bit_and w m == b) ≡ fits w (w % 128) (field w 12 3) (field w 25 7) r
-
 fits_is : (w : ℕ) → w < 2 ^ 32 → (r : Row) → sound r ≡ true → (bit_and w r.mask == r.bits) ≡ fits w (w % 128) (field w 12 3) (field w 25 7) r
-fits_is w h r s =
-    elim (cases_Bool (r.mask == 0x0000007F)) [
-      | inl t ↦ subst (fits_under w r.bits) (sym (eqb-true r.mask _ t)) (λ s. by_opcode w r.bits (eqb-true _ _ s)) s
-      | inr no7 ↦ elim (cases_Bool (r.mask == 0xFFFFFFFF)) [
-        | inl t ↦ subst (fits_under w r.bits) (sym (eqb-true r.mask _ t)) (λ s. by_word w r.bits h) s
-        | inr no32 ↦ elim (cases_Bool (r.mask == 0x0000707F)) [
-          | inl t ↦ subst (fits_under w r.bits) (sym (eqb-true r.mask _ t)) (λ s. by_funct3 w r.bits (eqb-true _ _ s)) s
-          | inr no10 ↦
-              let last = rw (no7, no32, no10) at s in
-              subst (fits_under w r.bits) (sym (eqb-true r.mask _ (and_parts _ _ last).0)) (λ s. by_funct7 w r.bits (eqb-true _ _ s)) s
-        ]
-      ]
-    ]
+fits_is w h r s = grind (arith, eqb-true, by_opcode, by_word, by_funct3, by_funct7)
 
 pub instr_of_fields : (w o f g : ℕ) → w < 2 ^ 32 → bit_and w 127 ≡ o → field w 12 3 ≡ f → field w 25 7 ≡ g → instr_of w ≡ instr_at w o f g
 unfolding instr_of row_of
@@ -112,27 +94,6 @@ and_false : (x : Bool) → (x && false) ≡ false
 and_false true = refl
 and_false false = refl
 
-pub no_load : (w f g : ℕ) → f ≢ 0 → f ≢ 1 → f ≢ 2 → f ≢ 4 → f ≢ 5 → instr_at w 0x03 f g ≡ None
-unfolding table
-no_load w f g n0 n1 n2 n4 n5 = rw (ne_eqb f 0 n0, ne_eqb f 1 n1, ne_eqb f 2 n2, ne_eqb f 4 n4, ne_eqb f 5 n5) refl
-
-pub no_store : (w f g : ℕ) → f ≢ 0 → f ≢ 1 → f ≢ 2 → instr_at w 0x23 f g ≡ None
-unfolding table
-no_store w f g n0 n1 n2 = rw (ne_eqb f 0 n0, ne_eqb f 1 n1, ne_eqb f 2 n2) refl
-
-pub no_branch : (w f g : ℕ) → f ≢ 0 → f ≢ 1 → f ≢ 4 → f ≢ 5 → f ≢ 6 → f ≢ 7 → instr_at w 0x63 f g ≡ None
-unfolding table
-no_branch w f g n0 n1 n4 n5 n6 n7 =
-    rw (ne_eqb f 0 n0, ne_eqb f 1 n1, ne_eqb f 4 n4, ne_eqb f 5 n5, ne_eqb f 6 n6, ne_eqb f 7 n7) refl
-
-pub no_jump : (w f g : ℕ) → f ≢ 0 → instr_at w 0x67 f g ≡ None
-unfolding table
-no_jump w f g n0 = rw (ne_eqb f 0 n0) refl
-
-pub no_fence : (w f g : ℕ) → f ≢ 0 → f ≢ 1 → instr_at w 0x0F f g ≡ None
-unfolding table
-no_fence w f g n0 n1 = rw (ne_eqb f 0 n0, ne_eqb f 1 n1) refl
-
 pub no_left_shift : (w g : ℕ) → g ≢ 0x00 → instr_at w 0x13 1 g ≡ None
 unfolding table
 no_left_shift w g n = rw (ne_eqb g 0x00 n) refl
@@ -145,15 +106,10 @@ pub no_funct7 : (w f g : ℕ) → g ≢ 0x00 → g ≢ 0x20 → g ≢ 0x01 → i
 unfolding table
 no_funct7 w f g n0 n32 n1 = simp (ne_eqb g 0x00 n0, ne_eqb g 0x20 n32, ne_eqb g 0x01 n1, and_false) refl
 
-pub no_difference : (w f : ℕ) → f ≢ 0 → f ≢ 5 → instr_at w 0x33 f 0x20 ≡ None
-unfolding table
-no_difference w f n0 n5 = simp (ne_eqb f 0 n0, ne_eqb f 5 n5, and_false) refl
-
 pub no_system : (w f g : ℕ) → w ≢ 0x00000073 → w ≢ 0x00100073 → instr_at w 0x73 f g ≡ None
 unfolding table
 no_system w f g n0 n1 = rw (ne_eqb w 0x00000073 n0, ne_eqb w 0x00100073 n1) refl
 
 pub no_opcode : (w o f g : ℕ) → o ≢ 0x03 → o ≢ 0x0F → o ≢ 0x13 → o ≢ 0x17 → o ≢ 0x23 → o ≢ 0x33 → o ≢ 0x37 → o ≢ 0x63 → o ≢ 0x67 → o ≢ 0x6F → o ≢ 0x73 → instr_at w o f g ≡ None
 unfolding table
-no_opcode w o f g n3 n15 n19 n23 n35 n51 n55 n99 n103 n111 n115 =
-    rw (ne_eqb o 0x03 n3, ne_eqb o 0x0F n15, ne_eqb o 0x13 n19, ne_eqb o 0x17 n23, ne_eqb o 0x23 n35, ne_eqb o 0x33 n51, ne_eqb o 0x37 n55, ne_eqb o 0x63 n99, ne_eqb o 0x67 n103, ne_eqb o 0x6F n111, ne_eqb o 0x73 n115) refl
+no_opcode w o f g n3 n15 n19 n23 n35 n51 n55 n99 n103 n111 n115 = search ne_eqb

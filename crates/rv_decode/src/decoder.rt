@@ -31,6 +31,7 @@ pub fn decode(word: u32) -> Option<Instr>
 }
 
 #[inline(always)]
+#[tactic(auto, using(crate::proofs::RowLemmas::at_funct3), unfolding(crate::specs::Table::table))]
 fn load(word: u32) -> Option<Instr>
     requires { bit_and word 0x7F ≡ 0x03 }
     ensures { result ≡ instr_of word }
@@ -46,6 +47,7 @@ fn load(word: u32) -> Option<Instr>
 }
 
 #[inline(always)]
+#[tactic(auto, using(crate::proofs::RowLemmas::at_funct3), unfolding(crate::specs::Table::table))]
 fn stores(word: u32) -> Option<Instr>
     requires { bit_and word 0x7F ≡ 0x23 }
     ensures { result ≡ instr_of word }
@@ -59,6 +61,7 @@ fn stores(word: u32) -> Option<Instr>
 }
 
 #[inline(always)]
+#[tactic(auto, using(crate::proofs::RowLemmas::at_funct3), unfolding(crate::specs::Table::table))]
 fn branches(word: u32) -> Option<Instr>
     requires { bit_and word 0x7F ≡ 0x63 }
     ensures { result ≡ instr_of word }
@@ -75,6 +78,7 @@ fn branches(word: u32) -> Option<Instr>
 }
 
 #[inline(always)]
+#[tactic(auto, using(crate::proofs::RowLemmas::at_funct3), unfolding(crate::specs::Table::table))]
 fn jump_to_register(word: u32) -> Option<Instr>
     requires { bit_and word 0x7F ≡ 0x67 }
     ensures { result ≡ instr_of word }
@@ -86,6 +90,7 @@ fn jump_to_register(word: u32) -> Option<Instr>
 }
 
 #[inline(always)]
+#[tactic(auto, using(crate::proofs::RowLemmas::at_funct7, crate::proofs::RowLemmas::no_left_shift, crate::proofs::RowLemmas::no_right_shift), unfolding(crate::specs::Table::table))]
 fn with_immediate(word: u32) -> Option<Instr>
     requires { bit_and word 0x7F ≡ 0x13 }
     ensures { result ≡ instr_of word }
@@ -123,6 +128,7 @@ fn with_registers(word: u32) -> Option<Instr>
 }
 
 #[inline(always)]
+#[tactic(auto, using(crate::proofs::RowLemmas::at_funct7), unfolding(crate::specs::Table::table))]
 fn with_registers_00(word: u32) -> Option<Instr>
     requires opcode { bit_and word 0x7F ≡ 0x33 }
     requires funct7 { field word 25 7 ≡ 0x00 }
@@ -141,6 +147,7 @@ fn with_registers_00(word: u32) -> Option<Instr>
 }
 
 #[inline(always)]
+#[tactic(auto, using(crate::proofs::RowLemmas::at_funct7), unfolding(crate::specs::Table::table))]
 fn with_registers_20(word: u32) -> Option<Instr>
     requires opcode { bit_and word 0x7F ≡ 0x33 }
     requires funct7 { field word 25 7 ≡ 0x20 }
@@ -154,6 +161,7 @@ fn with_registers_20(word: u32) -> Option<Instr>
 }
 
 #[inline(always)]
+#[tactic(auto, using(crate::proofs::RowLemmas::at_funct7), unfolding(crate::specs::Table::table))]
 fn with_registers_01(word: u32) -> Option<Instr>
     requires opcode { bit_and word 0x7F ≡ 0x33 }
     requires funct7 { field word 25 7 ≡ 0x01 }
@@ -172,6 +180,7 @@ fn with_registers_01(word: u32) -> Option<Instr>
 }
 
 #[inline(always)]
+#[tactic(auto, using(crate::proofs::RowLemmas::at_funct3), unfolding(crate::specs::Table::table))]
 fn fence(word: u32) -> Option<Instr>
     requires { bit_and word 0x7F ≡ 0x0F }
     ensures { result ≡ instr_of word }
@@ -184,6 +193,7 @@ fn fence(word: u32) -> Option<Instr>
 }
 
 #[inline(always)]
+#[tactic(auto, unfolding(crate::specs::Table::table, crate::specs::Table::row_of, crate::specs::Table::instr_of))]
 fn system(word: u32) -> Option<Instr>
     requires { bit_and word 0x7F ≡ 0x73 }
     ensures { result ≡ instr_of word }

@@ -6,6 +6,7 @@ ghost use Rattle.rv_decode.specs.Table.{Matches, row_of, table};
 
 /// No word matches two lines of the table; the row of a word is a line that it matches, and there is
 /// none only where it matches no line.
+#[tactic(auto, using(crate::proofs::Laws::one_row, crate::proofs::Laws::row_tells))]
 pub fn instruction_table()
     ensures one_row { (w : ℕ) → AllPairs (λ r s. ¬ (Matches w r × Matches w s)) table }
     ensures row { (w : ℕ) → MatchOption (row_of w)

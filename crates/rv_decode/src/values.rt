@@ -20,6 +20,7 @@ pub fn copied_ops(a: &Op) -> Result<Op, AllocError>
 }
 
 /// Whether two instructions are the same.
+#[tactic(auto, using(crate::proofs::InstrLemmas::instr_decides))]
 pub fn same_instrs(a: &Instr, b: &Instr) -> bool
     ensures { IsTrue result ↔ (a.now ≡ b.now) }
 {

@@ -1,5 +1,5 @@
 -- What a step keeps.
-use Rattle.std.proofs.Common.{◌≡◌, ℕ, ◌%◌, ◌⊎◌, inl, inr, Bool, true, false, cond, eqb, List, refl, arith, not}
+use Rattle.std.proofs.Common.{◌≡◌, ℕ, ◌%◌, ◌⊎◌, inl, inr, Bool, true, false, cond, eqb, List, refl, arith}
 use Rattle.std.proofs.lemmas.Bool.Decides.{nat_tests}
 use Rattle.rv_decode.specs.declared.instruction.Op.{Op}
 use Rattle.rv_decode.specs.declared.instruction.Op.TheVariants.{Lui, Auipc, Jal, Jalr, Beq, Bne, Blt, Bge, Bltu, Bgeu, Lb, Lh, Lw, Lbu, Lhu, Sb, Sh, Sw, Addi, Slti, Sltiu, Xori, Ori, Andi, Slli, Srli, Srai, Add, Sub, Sll, Slt, Sltu, Xor, Srl, Sra, Or, And, Fence, FenceI, Ecall, Ebreak, Mul, Mulh, Mulhsu, Mulhu, Div, Divu, Rem, Remu}
@@ -7,11 +7,10 @@ use Rattle.rv_decode.specs.declared.instruction.Instr.{Instr}
 use Rattle.rv_decode.specs.Fields.{jump_target}
 use Rattle.rv_step.specs.declared.stepped.Stepped.{Stepped}
 use Rattle.rv_step.specs.declared.stepped.Stepped.TheVariants.{Retired, Trap, Ecall as EnvironmentCall}
-use Rattle.rv_step.specs.declared.stepped.TrapKind.TheVariants.{Breakpoint, JumpMisaligned, LoadMisaligned, LoadOutside, StoreMisaligned, StoreOutside}
-use Rattle.rv_step.specs.Alu.{taken_of, load_width, store_width}
-use Rattle.rv_step.specs.Memory.{Memory, is_inside}
-use Rattle.rv_step.specs.Registers.{Registers, register, with_register}
-use Rattle.rv_step.specs.Step.{Outcome, stop_at, trap_at, next_of, retirement, address_of, register_target, jumps, branches, loads, stores, computes, computes_with, multiplies, outcome_of}
+use Rattle.rv_step.specs.declared.stepped.TrapKind.TheVariants.{Breakpoint, JumpMisaligned}
+use Rattle.rv_step.specs.Memory.{Memory}
+use Rattle.rv_step.specs.Registers.{Registers, with_register}
+use Rattle.rv_step.specs.Step.{Outcome, stop_at, trap_at, next_of, retirement, register_target, jumps, branches, loads, stores, computes, computes_with, multiplies, outcome_of}
 
 -- an outcome after these registers and this memory: only a retired instruction changes them, and pc stays a multiple of 4
 pub record Keeps (s : Registers) (m : Memory) (o : Outcome) : Type 0 where
@@ -41,29 +40,15 @@ keeps_jumps i target s m = keeps_target (eqb (target % 4) 0) s m (with_register 
 
 keeps_branches : (i : Instr) (s : Registers) (m : Memory) → Keeps s m (branches i s m)
 unfolding branches
-keeps_branches i s m =
-    let target = jump_target s.pc i.imm in
-    keeps_if (taken_of i.op (register s i.rs1) (register s i.rs2)) s m _ _
-    (keeps_target (eqb (target % 4) 0) s m s.x target (is_multiple target))
-    (keeps_next s m m s.x)
+keeps_branches i s m = search (keeps_if, keeps_target, eqb, is_multiple, keeps_next)
 
 keeps_loads : (i : Instr) (s : Registers) (m : Memory) → Keeps s m (loads i s m)
 unfolding loads
-keeps_loads i s m =
-    keeps_if (not (eqb (address_of i s % load_width i.op) 0)) s m _ _
-    (keeps_stopped (Trap LoadMisaligned) s m)
-    (keeps_if (not (is_inside m (address_of i s) (load_width i.op))) s m _ _
-    (keeps_stopped (Trap LoadOutside) s m)
-    (keeps_next s m m _))
+keeps_loads i s m = search (keeps_if, eqb, keeps_stopped, keeps_next)
 
 keeps_stores : (i : Instr) (s : Registers) (m : Memory) → Keeps s m (stores i s m)
 unfolding stores
-keeps_stores i s m =
-    keeps_if (not (eqb (address_of i s % store_width i.op) 0)) s m _ _
-    (keeps_stopped (Trap StoreMisaligned) s m)
-    (keeps_if (not (is_inside m (address_of i s) (store_width i.op))) s m _ _
-    (keeps_stopped (Trap StoreOutside) s m)
-    (keeps_next s m _ s.x))
+keeps_stores i s m = search (keeps_if, eqb, keeps_stopped, keeps_next)
 
 keeps_computes : (i : Instr) (s : Registers) (m : Memory) → Keeps s m (computes i s m)
 unfolding computes

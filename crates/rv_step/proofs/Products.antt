@@ -1,5 +1,5 @@
 -- Products of signed numbers.
-use Rattle.std.proofs.Common.{◌≡◌, ◌^◌, ◌≤◌, ℤ, pos, negsuc, ◌*ℤ◌, ap, ◌∙◌, arith, lit<}
+use Rattle.std.proofs.Common.{◌≡◌, ◌^◌, ◌≤◌, ℤ, pos, negsuc, ◌*ℤ◌, arith, lit<}
 use Rattle.std.specs.Int.{w32, w64, cast_signed, cast_unsigned}
 use Rattle.std.specs.Int.RustNames.{FitsSigned, unsigned_abs}
 use Rattle.std.proofs.lemmas.Int.{to_z-of_z, fits_signed_mul}
@@ -14,7 +14,4 @@ abs_below (negsuc n) h = omega (arith, h.sfits)
 
 -- a product of numbers of 32 bits keeps its value in 64
 pub high_half_wide : (x y : ℤ) → FitsSigned w64 x → FitsSigned w64 y → unsigned_abs x ≤ 2 ^ 31 → unsigned_abs y ≤ 2 ^ 31 → high_half (wide (wide x *ℤ wide y)) ≡ high_half (x *ℤ y)
-high_half_wide x y x_fits y_fits x_below y_below =
-    ap (λ (z : ℤ). high_half (wide (z *ℤ wide y))) (to_z-of_z w64 x x_fits)
-    ∙ ap (λ (z : ℤ). high_half (wide (x *ℤ z))) (to_z-of_z w64 y y_fits)
-    ∙ ap high_half (to_z-of_z w64 (x *ℤ y) (fits_signed_mul w64 x y (2 ^ 31) (2 ^ 31) x_below y_below (lit< tt)))
+high_half_wide x y x_fits y_fits x_below y_below = search (to_z-of_z, fits_signed_mul, lit<)

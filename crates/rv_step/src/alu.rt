@@ -26,7 +26,7 @@ pub(crate) fn computed(op: Op, a: u32, b: u32) -> u32
 }
 
 /// The result of an operation of M.
-#[tactic(auto, unfolding(crate::specs::Alu::mul_div_of))]
+#[tactic(auto, using(crate::proofs::Products::abs_below, crate::proofs::Products::high_half_wide), unfolding(crate::specs::Alu::mul_div_of))]
 pub(crate) fn multiplied(op: Op, a: u32, b: u32) -> u32
     ensures { result ≡ mul_div_of op a b }
 {

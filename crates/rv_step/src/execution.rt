@@ -17,6 +17,7 @@ use rv_decode::{Instr, Op};
 
 /// Executes an instruction. Each has an arm of its own, so that it is told by one jump.
 #[inline(always)]
+#[tactic(auto, using(crate::proofs::OperationLemmas::passes_is), unfolding(crate::specs::Step::outcome_of))]
 pub(crate) fn execute(instr: &Instr, regs: &mut Regs, ram: &mut Ram) -> Stepped
     ensures outcome { outcome result regs.new ram.new ≡ outcome_of instr.now.op
         instr.now regs.old ram.old }

@@ -104,6 +104,7 @@ impl Ram {
     }
 
     /// The number in the two bytes at a place.
+    #[tactic(auto, using(crate::proofs::Places::value_is))]
     pub(crate) fn half(&self, at: usize) -> u16
         requires { at + 2 ≤ length self.now.bytes }
         ensures { result ≡ value_at self.now (self.now.base + at) 2 }
@@ -112,6 +113,7 @@ impl Ram {
     }
 
     /// The number in the four bytes at a place.
+    #[tactic(auto, using(crate::proofs::Places::value_is))]
     pub(crate) fn word(&self, at: usize) -> u32
         requires { at + 4 ≤ length self.now.bytes }
         ensures { result ≡ value_at self.now (self.now.base + at) 4 }

@@ -12,6 +12,7 @@ use rv_decode::decode;
 /// Executes the instruction at pc, as the RISC-V unprivileged manual describes RV32I, M and Zifencei.
 /// After Ecall and Trap registers, pc and memory are as before. Takes no memory.
 #[inline(always)]
+#[tactic(auto, using(crate::proofs::StepEnds::not_fetched, crate::proofs::StepEnds::not_decoded, crate::proofs::StepEnds::decoded, crate::proofs::KeptByStep::keeps_executed))]
 pub fn step(regs: &mut Regs, ram: &mut Ram) -> Stepped
     ensures answer { result ≡ (step_of regs.old ram.old).answer }
     ensures registers { regs.new ≡ (step_of regs.old ram.old).registers }

@@ -26,8 +26,7 @@ module _ (contents : ℕ → List ℕ) where
 
   have_spans : (words : List ℕ) → AllByRecursion (λ word. IsBytes (contents word)) words → AllByRecursion (λ word. file_refusal (contents word) ≡ None) words → HaveSpans words
   have_spans [] bytes accepted = tt
-  have_spans (word ∷ words) bytes accepted =
-      (recursion_from_All HasSpan (records_of (contents word)) (spans_of_file (contents word) bytes.0 accepted.0), have_spans words bytes.1 accepted.1)
+  have_spans (word ∷ words) bytes accepted = search (recursion_from_All, spans_of_file, have_spans words bytes.1 accepted.1)
 
   -- their records have no conflict, and spans
   record AreJoined (words : List ℕ) : Type 0 where

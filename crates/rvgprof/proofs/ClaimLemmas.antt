@@ -1,5 +1,5 @@
 -- How many instructions the clock has counted, for each way in which a run ends.
-use Rattle.std.proofs.Common.{◌≡◌, ◌<◌, ◌≤◌, ◌-◌, ◌/◌, ℕ, Option, Some, None, refl, sym, ap, ◌∙◌, arith}
+use Rattle.std.proofs.Common.{◌≡◌, ◌<◌, ◌≤◌, ◌-◌, ◌/◌, ℕ, Option, Some, None, refl, arith}
 use Rattle.rv_step.specs.declared.stepped.TrapKind.{TrapKind}
 use Rattle.prof_machine.specs.declared.summary.End.{End}
 use Rattle.prof_machine.specs.declared.summary.End.TheVariants.{Budget, Exit, Trap}
@@ -16,15 +16,7 @@ pub clocked : (w : World) (samples every budget : ℕ)
 clocked w samples every budget going used exited trapped = by w.ending refl
   where
     by : (e : Option End) → w.ending ≡ e → (samples ≡ ticked_of w.ending w.retired / every) × IsWithinBudget budget w
-    by None is =
-        let now = going is in
-        (now.0 ∙ ap (λ (e : Option End). ticked_of e w.retired / every) (sym is), record { most = omega (arith, now.1); going = λ _. now.1; ended = λ other. absurd cc })
-    by (Some Budget) is =
-        let now = used is in
-        (now.0 ∙ ap (λ (e : Option End). ticked_of e w.retired / every) (sym is), record { most = omega (arith, now.1); going = λ other. absurd cc; ended = λ _. now.1 })
-    by (Some (Exit status)) is =
-        let now = exited status is in
-        (now.0 ∙ ap (λ (e : Option End). ticked_of e w.retired / every) (sym is), record { most = now.1; going = λ other. absurd cc; ended = λ other. absurd cc })
-    by (Some (Trap kind pc)) is =
-        let now = trapped kind pc is in
-        (now.0 ∙ ap (λ (e : Option End). ticked_of e w.retired / every) (sym is), record { most = now.1; going = λ other. absurd cc; ended = λ other. absurd cc })
+    by None is = grind arith
+    by (Some Budget) is = grind arith
+    by (Some (Exit status)) is = grind arith
+    by (Some (Trap kind pc)) is = grind arith

@@ -1,5 +1,5 @@
 -- Where no call on the host failed, all that is due was done; and where memory ran out, a prefix of it.
-use Rattle.std.proofs.Common.{◌≡◌, ℕ, ◌≤◌, Bool, false, true≢false, cond, List, [], ◌∷◌, ◌++◌, append_assoc, length, Option, Result, Ok, Err, ◌⊎◌, inl, inr, refl, sym, ap, subst, ◌∙◌, arith}
+use Rattle.std.proofs.Common.{◌≡◌, ℕ, ◌≤◌, Bool, cond, List, [], ◌∷◌, ◌++◌, append_assoc, length, Result, Ok, Err, ◌⊎◌, inl, inr, refl, sym, ap, subst, ◌∙◌, arith}
 use Rattle.std.specs.List.{AllByRecursion}
 use Rattle.std.proofs.lemmas.Bool.{le-ltb}
 use Rattle.host_port.specs.Act.{Act}
@@ -10,28 +10,21 @@ use Rattle.host_port.proofs.Laws.{Did-then}
 use Rattle.courses.specs.declared.outcome.Done.{Done}
 use Rattle.courses.specs.declared.outcome.Fault.{Fault}
 use Rattle.courses.specs.declared.outcome.Fault.TheVariants.{Usage, BadElf, BadProfile, Unlike, TooWide, ProgramTooLarge, EntryOutside, ReadFault, WriteFault, OutOfMemory, TooLarge}
-use Rattle.command_words.specs.declared.words.Command.{Command}
 use Rattle.rvgprof.specs.Texts.{last_line}
-use Rattle.courses.specs.Course.{Course, Ends, Input, Does, Knows, Reply, reply_to, inputs_of, AllKnown, MayStop}
-use Rattle.courses.specs.Answer.{command_course, course_of, contents_of}
+use Rattle.courses.specs.Course.{Course, Ends, Input, Does, Knows, reply_to, inputs_of, MayStop}
+use Rattle.courses.specs.Answer.{course_of, contents_of}
 use Rattle.courses.specs.Contract.{IsReply, LineEnds, LineIsPrinted, Owes, WhereTold}
 use Rattle.rvgprof.specs.Headline.{Answered}
 use Rattle.courses.proofs.Standing.{further}
-use Rattle.rvgprof.specs.Completeness.{Stayed, is_complaint, IsSilent, NoneFailed, Complete}
+use Rattle.rvgprof.specs.Completeness.{Stayed, IsSilent, NoneFailed, Complete}
 
 -- a count that stayed didn't rise on the way
 not_risen : (before mid now : ℕ) → Stayed before now → Rose before mid → mid ≤ now → ⊥
-not_risen before mid now stayed rose within =
-    let same = stayed.same in
-    let below = stayed.below in
-    let more = rose.more in
-    omega arith
+not_risen before mid now stayed rose within = grind arith
 
 -- how often complaining had failed is no more afterwards
 line_counts : (line whole : List ℕ) (before after : ℕ) → LineEnds line whole before after → before ≤ after
-line_counts line whole before after (inl h) =
-    let same = h.1 in
-    omega arith
+line_counts line whole before after (inl h) = grind arith
 line_counts line whole before after (inr h) = h.1.kept
 
 -- where complaining didn't fail, the last line was printed as a whole
@@ -58,8 +51,7 @@ module _ (words : List (List ℕ)) (contents : ℕ → List ℕ) (old mid new : 
   no_complaint_failed : (bytes : List ℕ) (done : List Act) → IsTold → FailedAt (Complain bytes) done due → Rose old.err_faults mid.err_faults → mid.err_faults ≤ new.err_faults
       → Stayed old.err_faults new.err_faults ⊎ IsSilent words old new → ⊥
   no_complaint_failed bytes done told failed rose within (inl stayed) = not_risen old.err_faults mid.err_faults new.err_faults stayed rose within
-  no_complaint_failed bytes done told failed rose within (inr silent) =
-      true≢false (failed_too (λ (act : Act). is_complaint act ≡ false) (Complain bytes) done due failed (silent contents told))
+  no_complaint_failed bytes done told failed rose within (inr silent) = grind (arith, failed_too)
 
   no_act_failed : (act : Act) (done : List Act) → IsTold → NoneFailed words old new → FailedAt act done due → ActFailed act old mid → new.write_faults ≡ mid.write_faults → mid.err_faults ≤ new.err_faults → ⊥
   no_act_failed (Complain bytes) done told none failed at same within = no_complaint_failed bytes done told failed at.own.0 within none.complain
@@ -82,24 +74,13 @@ module _ (words : List (List ℕ)) (contents : ℕ → List ℕ) (old mid new : 
 
   -- words without a reading have nothing due
   nothing_due : (opens : ℕ) (done : List Act) → Owes words contents old mid opens done (Err Usage) → IsReply words contents old mid opens done (Err Usage)
-  nothing_due opens done owes =
-      let reply : reply_to contents (course_of words) ≡ record { ending = Err Usage; acts = [] } = ap (λ (o : Option Command). reply_to contents (command_course words o)) owes.0 in
-      let none_read : inputs_of contents (course_of words) ≡ 0 = ap (λ (o : Option Command). inputs_of contents (command_course words o)) owes.0 in
-      record {
-        ending = ap (λ (r : Reply). r.ending) (sym reply);
-        acts = owes.1 ∙ ap (λ (r : Reply). r.acts) (sym reply);
-        counts = owes.2;
-        inputs = owes.3 ∙ sym none_read;
-        known = subst (λ (o : Option Command). AllKnown contents (command_course words o)) (sym owes.0) tt;
-      }
+  nothing_due opens done owes = grind arith
 
   complete_by : (opens : ℕ) (done : List Act) (result : Result Done Fault) (last : LineIsPrinted (last_line words result) mid new) → IsTold → Did done (with_openings opens old) mid → NoneFailed words old new
       → Owes words contents old mid opens done result → (result ≡ Err OutOfMemory) ⊎ Complete words old new result
   complete_by opens done (Err Usage) last told did none owes = inr (all_done opens done (Err Usage) last told did (nothing_due opens done owes))
-  complete_by opens done (Err (ReadFault word)) last told did none owes =
-      absurd (not_risen old.read_faults mid.read_faults new.read_faults none.read owes.2.read (omega (arith, last.read)))
-  complete_by opens done (Err WriteFault) last told did none owes =
-      absurd (no_act_failed owes.0 done told none owes.1 owes.2 last.write (line_counts last.line (last_line words (Err WriteFault)) mid.err_faults new.err_faults last.ends))
+  complete_by opens done (Err (ReadFault word)) last told did none owes = grind arith
+  complete_by opens done (Err WriteFault) last told did none owes = search (no_act_failed, line_counts)
   complete_by opens done (Err OutOfMemory) last told did none owes = inl refl
   complete_by opens done (Ok carried) last told did none owes = inr (all_done opens done (Ok carried) last told did owes)
   complete_by opens done (Err (BadElf refusal)) last told did none owes = inr (all_done opens done (Err (BadElf refusal)) last told did owes)

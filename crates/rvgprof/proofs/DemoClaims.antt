@@ -1,11 +1,6 @@
 -- What the images of the demo program and of the program that is written out have.
-use Rattle.std.proofs.Common.{◌≡◌, ◌<◌, ◌≤◌, ℕ, ◌+◌, ◌*◌, Bool, true, false, ◌||◌, [], ◌∷◌, ⊎_elim, ◌∙◌, codes, None, Some, ap, subst, sym, arith}
-use Rattle.std.specs.List.{list_any}
-use Rattle.std.proofs.lemmas.Bool.{cases_lt}
-use Rattle.std.proofs.lemmas.Bool.Decides.{nat_tests}
+use Rattle.std.proofs.Common.{◌≡◌, ◌≤◌, ℕ, ◌+◌, ◌*◌, [], ◌∷◌, codes, None, Some, ap, arith}
 use Rattle.elf32_syms.specs.declared.image.Image.{Image}
-use Rattle.elf32_syms.specs.declared.image.Symbol.{Symbol}
-use Rattle.elf32_syms.specs.Owners.{owns}
 use Rattle.gmon_data.specs.declared.hist.Hist.{Hist}
 use Rattle.symbol_shares.specs.Parts.{IsCovered}
 use Rattle.demo_laws.specs.Laws.{demo_image}
@@ -35,23 +30,6 @@ pub witness_image_is : (image : Image) → image ≡ witness_image → image ≡
 unfolding witness_image
 witness_image_is image is = is
 
--- each address of its text lies in one of the two symbols
-abbrev start_symbol : Symbol
-start_symbol = record { addr = 0x10000; end = 0x1000c; name = codes "_start" }
-
-abbrev hook_symbol : Symbol
-hook_symbol = record { addr = 0x1000c; end = 0x10010; name = codes "_mcount" }
-
-owned : (x : ℕ) → 0x10000 ≤ x → x < 0x10010 → list_any (owns x) (start_symbol ∷ hook_symbol ∷ []) ≡ true
-owned x from below = ⊎_elim
-    (λ (front : x < 0x1000c). let here : owns x start_symbol ≡ true = grind (arith, nat_tests, front, from) in ap (λ (b : Bool). b || list_any (owns x) (hook_symbol ∷ [])) here)
-    (λ (behind : 0x1000c ≤ x).
-    let other : owns x start_symbol ≡ false = grind (arith, nat_tests, behind) in
-    let here : owns x hook_symbol ≡ true = grind (arith, nat_tests, behind, below) in
-    ap (λ (b : Bool). b || list_any (owns x) (hook_symbol ∷ [])) other ∙ ap (λ (b : Bool). b || false) here)
-    (cases_lt x 0x1000c)
-
 pub witness_covers : (image : Image) → image ≡ witness_image → (h : Hist) → 0x10000 ≤ h.low → h.high ≤ 0x10010 → IsCovered image.symbols h
 unfolding witness_image
-witness_covers image is h low high x from below =
-    subst (λ (i : Image). list_any (owns x) i.symbols ≡ true) (sym is) (owned x (omega (arith, low, from)) (omega (arith, high, below)))
+witness_covers image is h low high x from below = grind arith

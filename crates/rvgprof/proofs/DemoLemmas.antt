@@ -1,6 +1,6 @@
 -- The numbers of a demo's summary.
-use Rattle.std.proofs.Common.{◌≡◌, ◌≢◌, ◌<◌, ◌≤◌, ◌+◌, ℕ, suc, Bool, true, false, cond, List, [], ◌∷◌, ◌++◌, slice_index, sym, ap, ◌∙◌, arith, add-one}
-use Rattle.std.proofs.lemmas.Bool.{eq-eqb, ne_eqb}
+use Rattle.std.proofs.Common.{◌≡◌, ◌<◌, ◌≤◌, ◌+◌, ℕ, suc, Bool, true, false, cond, List, [], ◌∷◌, ◌++◌, slice_index, sym, ap, ◌∙◌, arith, add-one}
+use Rattle.std.proofs.lemmas.Bool.{eq-eqb}
 use Rattle.std.specs.List.{count_by}
 use Rattle.std.proofs.lemmas.List.{map-id}
 use Rattle.std.proofs.lemmas.List.Sums.{sum_by_push}
@@ -11,7 +11,6 @@ use Rattle.call_cycles.specs.Sums.{numbers_below, sum_below, when}
 use Rattle.call_cycles.proofs.SumLemmas.{sum_front_le}
 use Rattle.elf32_syms.specs.declared.image.Image.{Image}
 use Rattle.gmon_data.specs.Content.{Content}
-use Rattle.flat_report.specs.Sources.{Sources}
 use Rattle.mcount_arcs.specs.declared.sizes.Sizes.{Sizes}
 use Rattle.mcount_arcs.specs.Log.{distinct_count, kept_calls}
 use Rattle.prof_machine.specs.Value.{RunValue, StandsFor, summary_of}
@@ -52,14 +51,6 @@ module _ (g : GraphValue) (t : FlowValue) (c grains entering : ℕ) (so_far : gr
   root : entering ≡ 0 → is_root g c ≡ true
   root none = eq-eqb (entering_of g c) 0 (sym calls ∙ none)
 
-  pub a_root : (self child : ℕ) → entering ≡ 0 → self ≡ slice_index t.self c → child ≡ slice_index t.child c → grains + (self + child) ≡ sum_below (c + 1) part
-  a_root self child none is_self is_child = let here : part c ≡ time_of t c = ap (λ (b : Bool). when b (time_of t c)) (root none) in omega (arith, one_more, here, so_far, is_self, is_child)
-
-  pub no_root : entering ≢ 0 → grains ≡ sum_below (c + 1) part
-  no_root some =
-      let here : part c ≡ 0 = ap (λ (b : Bool). when b (time_of t c)) (ne_eqb (entering_of g c) 0 (λ none. some (calls ∙ none))) in
-      omega (arith, one_more, here, so_far)
-
   pub grains_fit : (self child : ℕ) → c < component_count g → entering ≡ 0 → self ≡ slice_index t.self c → child ≡ slice_index t.child c → grains + (self + child) ≤ time_of_roots g t
   grains_fit self child below none is_self is_child = omega (arith, so_far, is_self, is_child, root_fits g t c below (root none))
 
@@ -67,7 +58,4 @@ module _ (g : GraphValue) (t : FlowValue) (c grains entering : ℕ) (so_far : gr
 pub summary_due : (functions : ℕ) (image : Image) (run : RunValue) (s : Findings) (total : Content) (rate : ℕ) (line : List ℕ) (z : Sizes) (w : World) → AreFindings image total s → SumsUp functions run s line → StandsFor w run → run.machine.sizes ≡ z
     → total ≡ logged_profile z w.log rate
     → (let due = profile_sources image (logged_profile z w.log rate) in line ≡ demo_summary functions (distinct_count (kept_calls z w.log)) due.graph due.flow due.shares (summary_of z w))
-summary_due functions image run s total rate line z w are sums stands same written =
-    sums w stands
-    ∙ ap (λ (y : Sizes). demo_summary functions (distinct_count (kept_calls y w.log)) s.graph s.flow s.shares (summary_of y w)) same
-    ∙ ap (λ (x : Sources). demo_summary functions (distinct_count (kept_calls z w.log)) x.graph x.flow x.shares (summary_of z w)) (are.value ∙ ap (profile_sources image) written)
+summary_due functions image run s total rate line z w are sums stands same written = grind arith

@@ -36,19 +36,12 @@ more_later name bytes f fs e = ap (λ (b : Bool). cond b ((f.0, f.1 ++ bytes) �
 
 -- the file that was made empty and then written
 whole : (name text : List ℕ) (files : List File) → file_content name (with_more name text (with_file name [] files)) ≡ text
-whole name text [] =
-    let same = same_name name in
-    ap (file_content name) (more_first name text (name, []) [] same) ∙ content_first name (name, text) [] same
+whole name text [] = search (same_name, more_first, content_first)
 whole name text (f ∷ fs) = by (whole name text fs) (bytes_eq f.0 name) refl
   where
     by : file_content name (with_more name text (with_file name [] fs)) ≡ text → (b : Bool) → bytes_eq f.0 name ≡ b → file_content name (with_more name text (with_file name [] (f ∷ fs))) ≡ text
-    by rest true e =
-        ap (λ (files : List File). file_content name (with_more name text files)) (put_first name [] f fs e) ∙ ap (file_content name) (more_first name text (f.0, []) fs e)
-        ∙ content_first name (f.0, text) fs e
-    by rest false e =
-        let others = with_file name [] fs in
-        ap (λ (files : List File). file_content name (with_more name text files)) (put_later name [] f fs e) ∙ ap (file_content name) (more_later name text f others e)
-        ∙ content_later name f (with_more name text others) e ∙ rest
+    by rest true e = search (put_first, more_first, content_first)
+    by rest false e = search (put_later, more_later, content_later)
 
 -- the other files stay
 module _ (name other : List ℕ) (apart : other ≢ name) where
@@ -57,9 +50,7 @@ module _ (name other : List ℕ) (apart : other ≢ name) where
   stays_put bytes (f ∷ fs) = by (stays_put bytes fs) (bytes_eq f.0 other) refl
     where
       by : file_content name (with_file other bytes fs) ≡ file_content name fs → (b : Bool) → bytes_eq f.0 other ≡ b → file_content name (with_file other bytes (f ∷ fs)) ≡ file_content name (f ∷ fs)
-      by rest true e =
-          let not_it = not_both f.0 other name e apart in
-          ap (file_content name) (put_first other bytes f fs e) ∙ content_later name (f.0, bytes) fs not_it ∙ sym (content_later name f fs not_it)
+      by rest true e = search (not_both, put_first, content_later)
       by rest false e = ap (file_content name) (put_later other bytes f fs e) ∙ ap (λ (c : List ℕ). cond (bytes_eq f.0 name) f.1 c) rest
 
   stays_more : (bytes : List ℕ) (files : List File) → file_content name (with_more other bytes files) ≡ file_content name files
@@ -67,9 +58,7 @@ module _ (name other : List ℕ) (apart : other ≢ name) where
   stays_more bytes (f ∷ fs) = by (stays_more bytes fs) (bytes_eq f.0 other) refl
     where
       by : file_content name (with_more other bytes fs) ≡ file_content name fs → (b : Bool) → bytes_eq f.0 other ≡ b → file_content name (with_more other bytes (f ∷ fs)) ≡ file_content name (f ∷ fs)
-      by rest true e =
-          let not_it = not_both f.0 other name e apart in
-          ap (file_content name) (more_first other bytes f fs e) ∙ content_later name (f.0, f.1 ++ bytes) fs not_it ∙ sym (content_later name f fs not_it)
+      by rest true e = search (not_both, more_first, content_later)
       by rest false e = ap (file_content name) (more_later other bytes f fs e) ∙ ap (λ (c : List ℕ). cond (bytes_eq f.0 name) f.1 c) rest
 
 pub file_written : (name text : List ℕ) (d : Disk) → file_content name (disk_after (file_acts name text) d).files ≡ text

@@ -13,11 +13,11 @@ use Rattle.folded.specs.declared.refusal.FoldRefusal.TheVariants as folds
 use Rattle.host_port.specs.Act.{Act, writes_after}
 use Rattle.host_port.specs.Outside.{Outside}
 use Rattle.prof_machine.specs.Plan.{after_drive, world_at}
-use Rattle.prof_machine.specs.Start.{final_world, start_of, start_refusal}
+use Rattle.prof_machine.specs.Start.{final_world, start_of}
 use Rattle.prof_machine.specs.Value.{RunValue, StandsFor}
 use Rattle.prof_machine.specs.World.{World}
 use Rattle.prof_machine.proofs.PrintLemmas.{prints_driven}
-use Rattle.courses.specs.Answer.{fold_fault_of, fold_program, stacks_told, start_fault_of}
+use Rattle.courses.specs.Answer.{fold_fault_of, fold_program, stacks_told}
 use Rattle.courses.specs.Contract.{Acted}
 use Rattle.courses.specs.Course.{one_by_one}
 use Rattle.courses.specs.FoldedReport.{folded_report, run_stacks}
@@ -33,15 +33,12 @@ pub may_stop_stacks : (inclusive : Bool) (image : Image) (bytes : List ℕ) (set
 may_stop_stacks inclusive image bytes setup contents = (inl refl, refl)
 
 pub may_stop_folding : (inclusive : Bool) (image : Image) (bytes : List ℕ) (setup : Setup) (contents : ℕ → List ℕ) → MayStopHere contents (one_by_one (final_world image bytes setup).prints (stacks_told inclusive image bytes setup))
-may_stop_folding inclusive image bytes setup contents =
-    one_by_one_stop contents (final_world image bytes setup).prints (stacks_told inclusive image bytes setup) (may_stop_stacks inclusive image bytes setup contents)
+may_stop_folding inclusive image bytes setup contents = search (one_by_one_stop, may_stop_stacks)
 
 module _ (words : List (List ℕ)) (start mid new : Outside) (below : ℕ) (done : List Act) (inclusive : Bool) (image : Image) (bytes : List ℕ) (setup : Setup) (v : RunValue)
     (s : Stands words start mid below done (fold_program inclusive setup bytes image)) (started : IsStarted image bytes setup v) where
   here : Stands words start mid below done (one_by_one (final_world image bytes setup).prints (stacks_told inclusive image bytes setup))
-  here =
-      goes_on words start mid below done start_fault_of (start_refusal image setup) (one_by_one (final_world image bytes setup).prints (stacks_told inclusive image bytes setup)) s
-      started.starts
+  here = search goes_on
 
   abbrev first : World
   first = start_of image bytes setup

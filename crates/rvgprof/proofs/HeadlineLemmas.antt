@@ -1,26 +1,22 @@
 -- What the commands leave that write or report a profile, where they are carried out.
 use Rattle.std.proofs.Common.{arith, ◌≡◌, ◌+◌, ◌*◌, ℕ, Bool, true, false, cond, ltb, ◌-◌, List, [], ◌∷◌, ◌++◌, append-nil, append_assoc, length, Option, Some, None, Result, Ok, Err, refl, sym, ap, subst, ◌∙◌}
 use Rattle.settings.specs.declared.setup.Setup.{Setup}
-use Rattle.mcount_arcs.proofs.SizeLemmas.{AreSizes-of}
-use Rattle.mcount_arcs.specs.Sizes.{IsText}
-use Rattle.std.proofs.lemmas.Bool.Decides.{nat_tests}
 use Rattle.std.specs.List.{list_all, All}
-use Rattle.mcount_arcs.specs.Arcs.{CallFits, arcs_of}
-use Rattle.std.proofs.lemmas.List.Elements.{All-nil, All-cons}
+use Rattle.mcount_arcs.specs.Arcs.{CallFits}
+use Rattle.std.proofs.lemmas.List.Elements.{All-nil}
 use Rattle.gp_base.specs.declared.records.RawArc.{RawArc}
-use Rattle.std.specs.Prelude.{nat_lt, ◌&&◌, codes, is_ok, option_map, IfSome, MatchOption, ⊤}
+use Rattle.std.specs.Prelude.{nat_lt, ◌&&◌, is_ok, option_map, IfSome, MatchOption, ⊤}
 use Rattle.std.specs.Result.{IsOk}
 use Rattle.std.proofs.lemmas.List.{length-map}
 use Rattle.gp_base.specs.declared.records.Form.{Form}
 use Rattle.gp_base.specs.declared.records.Records.{Records}
-use Rattle.gp_base.specs.declared.limits.TheConstants.{MAX_ELF_BYTES, MAX_PROFILE_BYTES}
+use Rattle.gp_base.specs.declared.limits.TheConstants.{MAX_PROFILE_BYTES}
 use Rattle.elf32_syms.specs.declared.image.Image.{Image}
 use Rattle.elf32_syms.specs.Refusals.{elf_refusal}
 use Rattle.elf32_syms.specs.Image.{image_of}
 use Rattle.elf32_syms.specs.Owners.{IsAscending}
 use Rattle.elf32_syms.proofs.OrderLemmas.{accepted_within}
-use Rattle.gmon_block.specs.Layout.{layout_of}
-use Rattle.gmon_data.specs.Content.{Content, IsProfile, WideRec, conflict_of, empty_content, runs_at, wide_records}
+use Rattle.gmon_data.specs.Content.{Content, IsProfile, conflict_of, empty_content, wide_records}
 use Rattle.gmon_data.specs.Content.{content_of}
 use Rattle.gmon_data.specs.Hists.{samples_of}
 use Rattle.gmon_data.specs.declared.refusal.Unlike.{Unlike as Difference}
@@ -33,48 +29,43 @@ use Rattle.annotate.proofs.CellLemmas.{listing-cells}
 use Rattle.host_port.specs.Act.{print_of as prints_of, Err as Complain}
 use Rattle.host_port.specs.Outside.{Outside, Becomes, Did, with_openings}
 use Rattle.host_port.proofs.Laws.{Becomes-by, Did-then, complained-append, disk_after-append, printed-append}
-use Rattle.symbol_shares.specs.Shares.{attributed_of, share_of, shares_of}
+use Rattle.symbol_shares.specs.Shares.{attributed_of, shares_of}
 use Rattle.symbol_shares.proofs.SumLemmas.{all-shared}
 use Rattle.call_cycles.specs.Graph.{IsGraph}
 use Rattle.call_cycles.specs.Flow.{IsFlow, time_of_roots}
 use Rattle.call_cycles.specs.Values.{profile_graph}
 use Rattle.call_cycles.proofs.ValueLemmas.{profile_is_graph}
-use Rattle.propagate.specs.Solution.{flow_in}
 use Rattle.propagate.proofs.SolutionLemmas.{solution}
 use Rattle.propagate.proofs.BoundLemmas.{roots_have_all}
 use Rattle.propagate.proofs.ProportionLemmas.{parts_all, parts_near}
 use Rattle.graph_report.proofs.RootLemmas.{root_entries}
-use Rattle.mcount_arcs.specs.Image.{block_image}
 use Rattle.prof_machine.specs.Start.{start_refusal}
-use Rattle.prof_machine.specs.declared.summary.RunSummary.{RunSummary}
 use Rattle.prof_machine.specs.Value.{summary_of}
 use Rattle.courses.specs.declared.outcome.Done.{Done}
 use Rattle.courses.specs.declared.outcome.Fault.{Fault}
-use Rattle.courses.specs.declared.outcome.Fault.TheVariants.{BadElf, BadProfile, TooLarge, Unlike}
+use Rattle.courses.specs.declared.outcome.Fault.TheVariants.{BadProfile, TooLarge, Unlike}
 use Rattle.command_words.specs.declared.words.Command.{Command}
 use Rattle.command_words.specs.declared.words.Command.TheVariants.{Show, Syms, Run, Sum, Report, Profile, Demo, Annotate, Folded, Help, Version}
 use Rattle.arc_filter.specs.Cuts.{without_cuts}
-use Rattle.exact_flow.specs.Solution.{exact_flow_in}
 use Rattle.flat_report.specs.Sources.{AreOfOne, Sources}
-use Rattle.graph_report.specs.ExactText.{exact_text}
 use Rattle.command_words.specs.declared.words.Selection.{Selection}
 use Rattle.command_words.specs.declared.words.Shown.{Shown}
 use Rattle.command_words.specs.declared.words.Shown.TheVariants as shows
 use Rattle.command_words.specs.Items.{nth_word}
 use Rattle.command_words.specs.Words.{IsRunSetup, command_of}
-use Rattle.courses.specs.Course.{AllKnown, Course, Ends, Input, Does, Knows, Reply, one_by_one, unless, behind, reply_to}
+use Rattle.courses.specs.Course.{AllKnown, Course, Ends, Input, Does, Reply, one_by_one, unless, behind, reply_to}
 use Rattle.gmon_files.specs.Forms.{file_records, file_refusal}
-use Rattle.courses.specs.Answer.{Chosen, RunFiles, all_reports, call_fits, calls_fit, annotate_course, chosen_by, chosen_sources, command_course, contents_of, demo_course, demo_lines, end_course, exact_report, file_acts, files_named, fold_program, folded_course, given_file_acts, list_profiles, print_reports, profile_in, profiles, program, report_course, report_profiles, report_run, run_acts, run_program, show_course, show_lines, shown_reports, stacks_told, start_fault_of, sum_file, sums_up, syms_lines, too_wide, wide_step}
+use Rattle.courses.specs.Answer.{Chosen, RunFiles, all_reports, call_fits, annotate_course, chosen_by, chosen_sources, command_course, contents_of, demo_course, demo_lines, end_course, exact_report, file_acts, files_named, fold_program, folded_course, given_file_acts, list_profiles, print_reports, profile_in, profiles, program, report_course, report_profiles, report_run, run_acts, run_program, show_course, show_lines, shown_reports, stacks_told, start_fault_of, sum_file, sums_up, syms_lines, too_wide, wide_step}
 use Rattle.demo_elf.specs.Elf.{demo_program}
 use Rattle.courses.specs.Reports.{profile_sources}
-use Rattle.courses.specs.Contract.{Acted, LineEnds, LineIsPrinted, WhereTold}
+use Rattle.courses.specs.Contract.{Acted, LineIsPrinted, WhereTold}
 use Rattle.courses.specs.FoldedReport.{folded_report}
 use Rattle.courses.specs.Help.{help_text, version_text}
 use Rattle.rvgprof.specs.Texts.{last_line}
 use Rattle.gmon_gnu.specs.ProfileText.{profile_text}
 use Rattle.text_lines.specs.Lines.{image_text, show_text}
 use Rattle.rvgprof.specs.Acceptance.{IsProgramFile, Starts, IsAccepted}
-use Rattle.command_inputs.specs.Totals.{records_of, total_of}
+use Rattle.command_inputs.specs.Totals.{total_of}
 use Rattle.rvgprof.specs.Headline.{Answered, DemoLeaves, ExecutionsAreListed, FoldedLeaves, ProfileLeaves, Holds, NamesDiffer, IsPrinted, Leaves, AnnotateLeaves, ReportLeaves, RunIsSummedUp, RunIsWritten, RunLeaves, ShowLeaves, SumLeaves, SymsLeaves, TimeIsShared, demo_printed, exact_section, printed_text, run_sources, sum_sources, reports_text}
 use Rattle.rvgprof.specs.Fitting.{FileFits, SumIsProfile}
 use Rattle.rvgprof.specs.RunFile.{FitsFile, SaysProfile, SaysRun, gmon_text, memory_text, reported_profile, text_sizes, end_world}
@@ -98,11 +89,7 @@ module _ (image : Image) (total : Content) where
 
   all_attributed : time_of_roots (profile_sources image total).graph (profile_sources image total).flow ≡ attributed_of (profile_sources image total).shares
   unfolding profile_sources
-  all_attributed =
-      let g = profile_graph total.arcs image.symbols in
-      let shares = (shares_of total.hists image.symbols).of in
-      let is = profile_is_graph total.arcs image.symbols in
-      roots_have_all g shares is (length-map image.symbols (share_of total.hists)) (flow_in g shares) (solution g shares is)
+  all_attributed = search (profile_is_graph, roots_have_all, length-map, solution)
 
   -- the samples of functions and those outside
   all_samples : IsAscending image.symbols → attributed_of (profile_sources image total).shares + (profile_sources image total).shares.outside ≡ 1000000 * samples_of total.hists
@@ -112,12 +99,7 @@ module _ (image : Image) (total : Content) where
   -- its parts are of one program
   of_one : AreOfOne (profile_sources image total)
   unfolding profile_sources
-  of_one = record {
-    functions = refl;
-    each = length-map image.symbols (share_of total.hists);
-    graph = profile_is_graph total.arcs image.symbols;
-    flow = solution (profile_graph total.arcs image.symbols) (shares_of total.hists image.symbols).of (profile_is_graph total.arcs image.symbols);
-  }
+  of_one = search (length-map, profile_is_graph, solution)
 
 -- ---- the acts
 
@@ -142,16 +124,11 @@ module _ (contents : ℕ → List ℕ) where
   unless_goes fault (Some r) next done = absurd cc
 
   program_goes : (word : ℕ) (next : List ℕ → Image → Course) → IsDone (program word next) → reply_to contents (program word next) ≡ reply_to contents (next (contents word) (image_of (contents word)))
-  program_goes word next done =
-      let bytes = contents word in
-      let judged : List ℕ → Course = λ b. unless BadElf (elf_refusal b) (next b (image_of b)) in
-      let read = input_goes word MAX_ELF_BYTES judged done in
-      read ∙ unless_goes BadElf (elf_refusal bytes) (next bytes (image_of bytes)) (still_done (program word next) (judged bytes) read done)
+  program_goes word next done = grind arith
 
   profiles_go : (earlier words : List ℕ) (left : ℕ) (total : Content) (next : Content → Course) → total ≡ content_of (all_records contents earlier)
       → IsDone (profiles words left total next) → reply_to contents (profiles words left total next) ≡ reply_to contents (next (content_of (all_records contents (earlier ++ words))))
-  profiles_go earlier [] left total next is done =
-      ap (λ (t : Content). reply_to contents (next t)) (is ∙ ap (λ (ws : List ℕ). content_of (all_records contents ws)) (sym (append-nil earlier)))
+  profiles_go earlier [] left total next is done = grind (arith, append-nil)
   profiles_go earlier (word ∷ words) left total next is done =
       let bytes = contents word in
       let records = file_records bytes in
@@ -184,16 +161,11 @@ module _ (contents : ℕ → List ℕ) (s : Sources) where
   shown_print : (shown : Shown) (hidden : List (List ℕ)) (next : Course) (behind_it : List Act) → prints_of (acts_along (shown_reports shown hidden s next) ++ behind_it) ≡ reports_text shown hidden s ++ prints_of (acts_along next ++ behind_it)
   shown_print shows.Flat hidden next behind_it = refl
   shown_print shows.Graph hidden next behind_it = refl
-  shown_print shows.Both hidden next behind_it =
-      let flat = reports_text shows.Flat hidden s in
-      let graph = reports_text shows.Graph hidden s in
-      let rest = prints_of (acts_along next ++ behind_it) in
-      ap (λ (text : List ℕ). flat ++ text) (sym (append_assoc (codes "\n") graph rest)) ∙ sym (append_assoc flat (codes "\n" ++ graph) rest)
+  shown_print shows.Both hidden next behind_it = search append_assoc
 
   exact_print : (exact : Bool) (done : Done) (line : List ℕ) → prints_of (acts_along (exact_report exact s (Ends (Ok done))) ++ Complain line ∷ []) ≡ exact_section exact s
   exact_print false done line = refl
-  exact_print true done line =
-      ap (λ (text : List ℕ). codes "\n" ++ text) (append-nil (exact_text s.symbols s.graph (exact_flow_in s.graph s.shares.of) (attributed_of s.shares)))
+  exact_print true done line = search append-nil
 
   shown_end : (shown : Shown) (hidden : List (List ℕ)) (next : Course) → (reply_to contents (shown_reports shown hidden s next)).ending ≡ (reply_to contents next).ending
   shown_end shows.Flat hidden next = refl
@@ -213,15 +185,6 @@ module _ (contents : ℕ → List ℕ) (s : Sources) where
   exact_complain false done line = append-nil line
   exact_complain true done line = append-nil line
 
-  shown_keep : (shown : Shown) (hidden : List (List ℕ)) (next : Course) (behind_it : List Act) (d : Disk) → disk_after (acts_along (shown_reports shown hidden s next) ++ behind_it) d ≡ disk_after (acts_along next ++ behind_it) d
-  shown_keep shows.Flat hidden next behind_it d = refl
-  shown_keep shows.Graph hidden next behind_it d = refl
-  shown_keep shows.Both hidden next behind_it d = refl
-
-  exact_keep : (exact : Bool) (done : Done) (line : List ℕ) (d : Disk) → disk_after (acts_along (exact_report exact s (Ends (Ok done))) ++ Complain line ∷ []) d ≡ d
-  exact_keep false done line d = refl
-  exact_keep true done line d = refl
-
 no_prints : (name : Option (List ℕ)) (bytes : List ℕ) → prints_of (given_file_acts name bytes) ≡ []
 no_prints None bytes = refl
 no_prints (Some name) bytes = refl
@@ -232,52 +195,30 @@ no_complaints (Some name) bytes = refl
 
 -- what is printed of a demo, behind the file of its program
 demo_prints : (name : Option (List ℕ)) (bytes : List ℕ) (prints : List Act) (text line : List ℕ) → prints_of ((given_file_acts name bytes ++ (prints ++ Out text ∷ [])) ++ Complain line ∷ []) ≡ prints_of prints ++ text
-demo_prints name bytes prints text line =
-    let run : List Act = prints ++ Out text ∷ [] in
-    printed-append (given_file_acts name bytes ++ run) (Complain line ∷ []) ∙ append-nil (prints_of (given_file_acts name bytes ++ run)) ∙ printed-append (given_file_acts name bytes) run
-    ∙ ap (λ (t : List ℕ). t ++ prints_of run) (no_prints name bytes) ∙ printed-append prints (Out text ∷ []) ∙ ap (λ (t : List ℕ). prints_of prints ++ t) (append-nil text)
+demo_prints name bytes prints text line = search (printed-append, append-nil, no_prints)
 
 demo_complains : (name : Option (List ℕ)) (bytes : List ℕ) (prints : List Act) (text line : List ℕ) → complaint_of ((given_file_acts name bytes ++ (prints ++ Out text ∷ [])) ++ Complain line ∷ []) ≡ complaint_of prints ++ line
-demo_complains name bytes prints text line =
-    let run : List Act = prints ++ Out text ∷ [] in
-    let own : complaint_of (given_file_acts name bytes ++ run) ≡ complaint_of prints =
-    complained-append (given_file_acts name bytes) run ∙ ap (λ (t : List ℕ). t ++ complaint_of run) (no_complaints name bytes) ∙ complained-append prints (Out text ∷ []) ∙ append-nil (complaint_of prints) in
-    complained-append (given_file_acts name bytes ++ run) (Complain line ∷ []) ∙ ap (λ (t : List ℕ). complaint_of (given_file_acts name bytes ++ run) ++ t) (append-nil line) ∙ ap (λ (t : List ℕ). t ++ line) own
+demo_complains name bytes prints text line = search (complained-append, no_complaints, append-nil)
 
 -- the file of a demo's program, behind which none is written
 demo_file : (words : List (List ℕ)) (elf : Option ℕ) (word : ℕ) (bytes : List ℕ) (prints : List Act) (text line : List ℕ) (d : Disk)
     → ((x : Disk) → disk_after prints x ≡ x) → elf ≡ Some word
     → file_content (nth_word words word) (disk_after ((given_file_acts (option_map (nth_word words) elf) bytes ++ (prints ++ Out text ∷ [])) ++ Complain line ∷ []) d).files ≡ bytes
-demo_file words elf word bytes prints text line d keeps is =
-    let name = nth_word words word in
-    let content = λ (x : Disk). file_content name x.files in
-    let file = given_file_acts (option_map (nth_word words) elf) bytes in
-    let run : List Act = prints ++ Out text ∷ [] in
-    let behind_file = disk_after file d in
-    ap content (disk_after-append (file ++ run) (Complain line ∷ []) d ∙ disk_after-append file run d ∙ disk_after-append prints (Out text ∷ []) behind_file ∙ keeps behind_file)
-    ∙ ap (λ (o : Option ℕ). content (disk_after (given_file_acts (option_map (nth_word words) o) bytes) d)) is
-    ∙ file_written name bytes d
+demo_file words elf word bytes prints text line d keeps is = grind (arith, disk_after-append, file_written)
 
 told_file : (old new : Option Disk) (f : Disk → Disk) (name text : List ℕ) → Becomes f old new → ((d : Disk) → file_content name (f d).files ≡ text) → IfSome new (λ d. file_content name d.files ≡ text)
 told_file old None f name text same holds = tt
 told_file None (Some new) f name text same holds = absurd cc
-told_file (Some old) (Some new) f name text same holds =
-    let is : f old ≡ new = cc in
-    subst (λ (d : Disk). file_content name d.files ≡ text) is (holds old)
+told_file (Some old) (Some new) f name text same holds = grind arith
 
 -- ---- a run
-
-unless_known : {R : Type 0} (contents : ℕ → List ℕ) (fault : R → Fault) (due : Option R) (next : Course) → due ≡ None → AllKnown contents (unless fault due next) → AllKnown contents next
-unless_known {R} contents fault due next is = subst (λ (o : Option R). AllKnown contents (unless fault o next)) is
 
 all_fit : (arcs : List RawArc) → list_all call_fits arcs ≡ true → All CallFits arcs
 all_fit [] fit = All-nil CallFits
 all_fit (arc ∷ arcs) fit = by (nat_lt arc.to 4294967296) (nat_lt arc.count 4294967296) refl refl (λ rest. all_fit arcs rest) fit
   where
     by : (to count : Bool) → nat_lt arc.to 4294967296 ≡ to → nat_lt arc.count 4294967296 ≡ count → (list_all call_fits arcs ≡ true → All CallFits arcs) → ((to && count) && list_all call_fits arcs) ≡ true → All CallFits (arc ∷ arcs)
-    by true true to count later rest =
-        let fits : CallFits arc = record { to = grind (arith, nat_tests, to); count = grind (arith, nat_tests, count) } in
-        All-cons CallFits arc arcs fits (later rest)
+    by true true to count later rest = grind arith
     by true false to count later rest = absurd cc
     by false count a b later rest = absurd cc
 
@@ -294,49 +235,17 @@ module _ (words : List (List ℕ)) (contents : ℕ → List ℕ) (elf gmon : ℕ
   -- it is carried out up to its end, and goes on
   run_goes : (next : Image → Sizes → World → Course) → IsDone contents (program elf (λ b i. run_program (run_acts files setup) setup (next i) b i))
       → reply_to contents (program elf (λ b i. run_program (run_acts files setup) setup (next i) b i)) ≡ behind due (reply_to contents (next (image_of bytes) (text_sizes bytes setup) (end_world bytes setup)))
-  run_goes next done =
-      let started : List ℕ → Image → Course = λ b i. run_program (run_acts files setup) setup (next i) b i in
-      let read = program_goes contents elf started done in
-      read
-      ∙ unless_goes contents start_fault_of (start_refusal (image_of bytes) setup) (Does due (Knows (calls_fit (text_sizes bytes setup) (end_world bytes setup)) (next (image_of bytes) (text_sizes bytes setup) (end_world bytes setup))))
-      (still_done contents (program elf started) (started bytes (image_of bytes)) read done)
+  run_goes next done = grind arith
 
   -- what it has logged fits its file
   run_fits : (next : Image → Sizes → World → Course) → IsProgramFile bytes → Starts bytes setup → IsRunSetup form setup
       → AllKnown contents (program elf (λ b i. run_program (run_acts files setup) setup (next i) b i)) → FitsFile form bytes setup
-  run_fits next accepted starts within known =
-      let image = image_of bytes in
-      let z = text_sizes bytes setup in
-      let w = end_world bytes setup in
-      let started : Course = run_program (run_acts files setup) setup (next image) bytes image in
-      let goes = unless_known contents BadElf (elf_refusal bytes) started accepted.accepted (known accepted.limit) in
-      let ran = unless_known contents start_fault_of (start_refusal image setup) (Does due (Knows (calls_fit z w) (next image z w))) starts goes in
-      let limits = accepted_within bytes accepted.accepted in
-      let text : IsText image.text = record { some = limits.text; size = limits.text_bytes; end = limits.text_end } in
-      record {
-        within = within;
-        sizes = AreSizes-of image.text setup.hist setup.hash text within.0.hist within.0.hash;
-        calls = all_fit (arcs_of z w.log) ran.0;
-      }
+  run_fits next accepted starts within known = grind (arith, accepted_within, all_fit)
 
   -- the file that is left, where no file is written behind the run's own
   file_holds : (rest : List Act) (d : Disk) → ((x : Disk) → disk_after rest x ≡ x) → NamesDiffer words gmon memory
       → file_content (nth_word words gmon) (disk_after (due ++ rest) d).files ≡ gmon_text form bytes setup
-  file_holds rest d keeps apart =
-      let prints = (end_world bytes setup).prints in
-      let text = gmon_text form bytes setup in
-      let one = file_acts (nth_word words gmon) text in
-      let held = layout_of (block_image (text_sizes bytes setup) (end_world bytes setup).log) in
-      let two = given_file_acts (option_map (nth_word words) memory) held in
-      let content = λ (x : Disk). file_content (nth_word words gmon) x.files in
-      let behind_prints = disk_after prints d in
-      let behind_file = disk_after one behind_prints in
-      let behind_memory = disk_after two behind_file in
-      ap content (disk_after-append (prints ++ (one ++ two)) rest d)
-      ∙ ap (λ (x : Disk). content (disk_after rest x)) (disk_after-append prints (one ++ two) d ∙ disk_after-append one two behind_prints)
-      ∙ ap content (keeps behind_memory)
-      ∙ file_stays (nth_word words gmon) held (option_map (nth_word words) memory) behind_file apart
-      ∙ file_written (nth_word words gmon) text behind_prints
+  file_holds rest d keeps apart = grind (arith, disk_after-append, file_stays, file_written)
 
   -- the file of the runtime's memory, which is written last
   memory_holds : (rest : List Act) (d : Disk) (place : ℕ) → ((x : Disk) → disk_after rest x ≡ x) → memory ≡ Some place
@@ -357,25 +266,11 @@ module _ (words : List (List ℕ)) (contents : ℕ → List ℕ) (elf gmon : ℕ
 
   -- what is printed on the error output
   run_complains : (rest : List Act) → complaint_of (due ++ rest) ≡ complaint_of (end_world bytes setup).prints ++ complaint_of rest
-  run_complains rest =
-      let prints = (end_world bytes setup).prints in
-      let one = file_acts (nth_word words gmon) (gmon_text form bytes setup) in
-      let held = memory_text bytes setup in
-      let two = given_file_acts (option_map (nth_word words) memory) held in
-      let run : complaint_of (prints ++ (one ++ two)) ≡ complaint_of prints =
-      complained-append prints (one ++ two) ∙ ap (λ (text : List ℕ). complaint_of prints ++ text) (no_complaints (option_map (nth_word words) memory) held) ∙ append-nil (complaint_of prints) in
-      complained-append (prints ++ (one ++ two)) rest ∙ ap (λ (text : List ℕ). text ++ complaint_of rest) run
+  run_complains rest = search (complained-append, no_complaints, append-nil)
 
   -- what is printed
   run_prints : (rest : List Act) → prints_of (due ++ rest) ≡ prints_of (end_world bytes setup).prints ++ prints_of rest
-  run_prints rest =
-      let prints = (end_world bytes setup).prints in
-      let one = file_acts (nth_word words gmon) (gmon_text form bytes setup) in
-      let held = layout_of (block_image (text_sizes bytes setup) (end_world bytes setup).log) in
-      let two = given_file_acts (option_map (nth_word words) memory) held in
-      let files_print : prints_of (one ++ two) ≡ [] = no_prints (option_map (nth_word words) memory) held in
-      let run : prints_of (prints ++ (one ++ two)) ≡ prints_of prints = printed-append prints (one ++ two) ∙ ap (λ (text : List ℕ). prints_of prints ++ text) files_print ∙ append-nil (prints_of prints) in
-      printed-append (prints ++ (one ++ two)) rest ∙ ap (λ (text : List ℕ). text ++ prints_of rest) run
+  run_prints rest = search (no_prints, printed-append, append-nil)
 
 -- acts that are done one by one are done
 each_done : (contents : ℕ → List ℕ) (acts : List Act) (next : Course) → reply_to contents (one_by_one acts next) ≡ behind acts (reply_to contents next)
@@ -390,15 +285,7 @@ module _ (contents : ℕ → List ℕ) (functions : ℕ) (elf : Option (List ℕ
       → reply_to contents (demo_course functions elf setup)
       ≡ behind (given_file_acts elf (demo_program functions)) (behind (end_world (demo_program functions) setup).prints
       (reply_to contents (demo_lines functions setup.rate (image_of (demo_program functions)) (text_sizes (demo_program functions) setup) (end_world (demo_program functions) setup))))
-  demo_goes done =
-      let bytes = demo_program functions in
-      let image = image_of bytes in
-      let lines : Course = Knows (calls_fit (text_sizes bytes setup) (end_world bytes setup)) (demo_lines functions setup.rate image (text_sizes bytes setup) (end_world bytes setup)) in
-      let started : Course = unless start_fault_of (start_refusal image setup) (Does (end_world bytes setup).prints lines) in
-      let writes : Course = Does (given_file_acts elf bytes) started in
-      let read = unless_goes contents BadElf (elf_refusal bytes) writes done in
-      let goes = still_done contents (demo_course functions elf setup) writes read done in
-      read ∙ ap (behind (given_file_acts elf bytes)) (unless_goes contents start_fault_of (start_refusal image setup) (Does (end_world bytes setup).prints lines) goes)
+  demo_goes done = grind arith
 
 -- ---- reports
 
@@ -413,8 +300,7 @@ module _ (contents : ℕ → List ℕ) (chosen : Chosen) (s : Sources) (done : D
   reports_end = shown_end contents s chosen.shown chosen.hidden (exact_report chosen.exact s (Ends (Ok done))) ∙ exact_end contents s chosen.exact done
 
   reports_keep : (line : List ℕ) (d : Disk) → disk_after ((reply_to contents reports).acts ++ Complain line ∷ []) d ≡ d
-  reports_keep line d =
-      shown_keep contents s chosen.shown chosen.hidden (exact_report chosen.exact s (Ends (Ok done))) (Complain line ∷ []) d ∙ exact_keep contents s chosen.exact done line d
+  reports_keep line d = grind arith
 
   reports_print : (line : List ℕ) → prints_of ((reply_to contents reports).acts ++ Complain line ∷ []) ≡ printed_text chosen s
   reports_print line =
@@ -455,10 +341,6 @@ in_order program accepted = (accepted_within program accepted).ascending
 abbrev ended_with : List ℕ → Setup → Result Done Fault
 ended_with program setup = Ok (record { run = summary_of (text_sizes program setup) (end_world program setup) })
 
-abbrev run_in : Result Done Fault → Option RunSummary
-run_in (Ok done) = done.run
-run_in (Err fault) = None
-
 -- where the file is told
 says_run : (words : List (List ℕ)) (program : List ℕ) (gmon : ℕ) (form : Form) (setup : Setup) (c : Option Disk) → SaysRun form program setup (gmon_text form program setup)
     → IfSome c (λ d. file_content (nth_word words gmon) d.files ≡ gmon_text form program setup) → IfSome c (λ d. SaysRun form program setup (file_content (nth_word words gmon) d.files))
@@ -473,9 +355,7 @@ says_sum : (words : List (List ℕ)) (contents : ℕ → List ℕ) (gmons : List
     → Becomes f a c → IfSome c (λ d. SaysProfile (total_of contents gmons) (file_content (nth_word words out) d.files))
 says_sum words contents gmons out f a None is_told fits file same = tt
 says_sum words contents gmons out f None (Some z) is_told fits file same = absurd cc
-says_sum words contents gmons out f (Some x) (Some z) is_told fits file same =
-    subst (SaysProfile (total_of contents gmons)) (sym file)
-    (profile_files_read_back (total_of contents gmons) (subst (λ (c : ℕ → List ℕ). IsProfile (total_of c gmons)) (sym is_told) fits))
+says_sum words contents gmons out f (Some x) (Some z) is_told fits file same = grind (arith, profile_files_read_back)
 
 module _ (words : List (List ℕ)) (old mid new : Outside) (done : Done) (acted : Acted words old mid (Ok done)) (last : LineIsPrinted (last_line words (Ok done)) mid new) where
   abbrev contents : ℕ → List ℕ
@@ -530,12 +410,7 @@ module _ (words : List (List ℕ)) (old mid new : Outside) (done : Done) (acted 
   -- a run, of which the acts that follow print nothing on the error output but the last line
   run_is_summed_up : (program : List ℕ) (setup : Setup) (acts : List Act) → Ok done ≡ ended_with program setup → complaint_of acts ≡ complaint_of (end_world program setup).prints ++ last.line
       → Did acts (with_openings acted.opens old) new → RunIsSummedUp words old new done setup program
-  run_is_summed_up program setup acts ending is did = record {
-    summary = ap run_in ending;
-    line = last.line;
-    ends = subst (λ (n : ℕ). LineEnds last.line (last_line words (Ok done)) n new.err_faults) acted.owed.owes.counts.err last.ends;
-    errors = Becomes-by _ _ old.err new.err (λ b. ap (λ (t : List ℕ). b ++ t) is) did.err;
-  }
+  run_is_summed_up program setup acts ending is did = grind arith
 
   run_leaves : (elf gmon : ℕ) (form : Form) (memory : Option ℕ) (setup : Setup) → command_of words ≡ Some (Run elf gmon form memory setup) → IsRunSetup form setup
       → RunLeaves words contents old new done elf gmon form memory setup
@@ -604,7 +479,6 @@ module _ (words : List (List ℕ)) (old mid new : Outside) (done : Done) (acted 
       let command = Some (Profile elf gmon form memory setup selection) in
       let chosen = chosen_by words selection in
       let program = contents elf in
-      let z = text_sizes program setup in
       let w = end_world program setup in
       let acts = due words contents elf gmon form memory setup in
       let line = Complain last.line ∷ [] in
@@ -719,9 +593,7 @@ module _ (words : List (List ℕ)) (old mid new : Outside) (done : Done) (acted 
   leaves_by (Some Version) said fits = text_leaves Version version_text said refl
 
 pub executions_listed : ExecutionsAreListed
-executions_listed program setup contents gmon i says counts below =
-    let at = (text_sizes program setup).low + 4 * i in
-    ap (λ (recs : List WideRec). runs_at at (content_of recs).blocks) (append-nil (records_of (contents gmon))) ∙ says.executions counts i below
+executions_listed program setup contents gmon i says counts below = grind (arith, append-nil)
 
 -- what a command leaves, once the last line was printed behind what it did
 pub carried_out : (words : List (List ℕ)) (old mid new : Outside) (done : Done) → Acted words old mid (Ok done) → LineIsPrinted (last_line words (Ok done)) mid new → FileFits words old new (command_of words)
@@ -732,6 +604,3 @@ carried_out words old mid new done acted last fits = record {
   line = last;
   leaves = leaves_by words old mid new done acted last (command_of words) refl fits;
 }
-
-pub ended_badly : (words : List (List ℕ)) (old mid new : Outside) (fault : Fault) → Acted words old mid (Err fault) → LineIsPrinted (last_line words (Err fault)) mid new → Answered words old new (Err fault)
-ended_badly words old mid new fault acted last = record { before = mid; acted = acted; line = last; leaves = tt }

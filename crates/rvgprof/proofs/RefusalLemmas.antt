@@ -1,14 +1,14 @@
 -- No file is refused for want of memory.
 use Rattle.std.proofs.Common.{ℕ, zero, suc, ◌-◌, Bool, true, false, ◌||◌, ◌&&◌, List, [], ◌∷◌, drop, length, Option, Some, None, Result, Ok, Err, if◌then◌else◌}
-use Rattle.std.specs.Prelude.{not, nat_lt, nat_le, ◌==◌, ◌+◌, ◌*◌, ◌%◌, slice_get, slice_index, take, ⊤}
+use Rattle.std.specs.Prelude.{not, nat_lt, nat_le, ◌==◌, ◌+◌, ◌*◌, ◌%◌, slice_get, ⊤}
 use Rattle.std.specs.Option.{option_and_then, option_map, option_or}
 use Rattle.elf32_syms.specs.declared.refusal.ElfRefusal.{ElfRefusal}
 use Rattle.elf32_syms.specs.declared.refusal.ElfRefusal.TheVariants as elf
-use Rattle.elf32_syms.specs.Header.{has_flag, has_magic, header_of}
-use Rattle.gp_base.specs.declared.limits.TheConstants.{MAX_PROGRAM_HEADERS, MAX_SYMBOLS}
+use Rattle.elf32_syms.specs.Header.{has_flag}
+use Rattle.gp_base.specs.declared.limits.TheConstants.{MAX_PROGRAM_HEADERS}
 use Rattle.gp_base.specs.Bytes.{word_at}
-use Rattle.elf32_syms.specs.Refusals.{count_refusal, elf_refusal, header_refusal, is_too_far, kind_refusal, link_refusal, names_refusal, place_refusal, segments_refusal, symbols_refusal, table_refusal, tables_refusal, text_refusal}
-use Rattle.elf32_syms.specs.Sections.{sections_of, executables, text_low, text_high, symbol_table, table_of, strings_of}
+use Rattle.elf32_syms.specs.Refusals.{count_refusal, elf_refusal, header_refusal, kind_refusal, link_refusal, names_refusal, place_refusal, segments_refusal, symbols_refusal, table_refusal, tables_refusal, text_refusal}
+use Rattle.elf32_syms.specs.Sections.{symbol_table}
 use Rattle.gp_base.specs.declared.records.Form.{Form}
 use Rattle.gp_base.specs.declared.records.Form.TheVariants.{Bsd, Gnu}
 use Rattle.gp_base.specs.declared.records.Rec.{Rec}
@@ -16,7 +16,6 @@ use Rattle.gp_base.specs.declared.refusal.GmonRefusal.{GmonRefusal}
 use Rattle.gp_base.specs.declared.refusal.GmonRefusal.TheVariants as gmons
 use Rattle.gmon_bsd.specs.Reading.{whole_arcs, bsd_refusal, counter_count, high_of, low_of, size_of, version_of}
 use Rattle.gmon_bsd.specs.Fields.{bsd_version}
-use Rattle.gmon_gnu.specs.Fields.{gnu_version}
 use Rattle.gmon_gnu.specs.Reading.{Front, Refused, Found, after_front, behind_records, body_front, gnu_refusal, hist_of_fields, pairs_front, recs_from, refusal_read as found_in}
 use Rattle.gmon_files.specs.Forms.{file_refusal, form_of, refusal_in}
 
@@ -69,10 +68,7 @@ tables_named len h =
 
 header_named : (bs : List ℕ) → ElfIs (header_refusal bs)
 unfolding header_refusal
-header_named bs =
-    either (nat_lt (length bs) 52) (Some (elf.Short (length bs))) _ (record { named = tt {0} })
-    (either (not (has_magic bs)) (Some elf.Magic) _ (record { named = tt {0} })
-    (or_else (kind_refusal (header_of bs)) (tables_refusal (length bs) (header_of bs)) (kind_named (header_of bs)) (tables_named (length bs) (header_of bs))))
+header_named bs = search (either, or_else, kind_named, tables_named)
 
 segments_named : (bs : List ℕ) → ElfIs (segments_refusal bs)
 unfolding segments_refusal
@@ -80,12 +76,10 @@ segments_named bs = of_each (λ s. elf.OutOfFile s.offset) (λ s. (record { name
 
 text_named : (sections : _) → ElfIs (text_refusal sections)
 unfolding text_refusal
-text_named sections =
-    either ((length (executables sections) == 0) || is_too_far (text_low sections) (text_high sections)) (Some (elf.TextRange (text_low sections) (text_high sections))) _ (record { named = tt {0} }) (record { named = tt {0} })
+text_named sections = search either
 
 place_named : (len : ℕ) (s : _) → ElfIs (place_refusal len s)
-place_named len s =
-    either (nat_lt len (s.offset + s.size)) (Some (elf.OutOfFile s.offset)) _ (record { named = tt {0} }) (record { named = tt {0} })
+place_named len s = search either
 
 link_named : (len : ℕ) (t : _) (o : _) → ElfIs (link_refusal len t o)
 link_named len t None = record { named = tt {0} }
@@ -105,8 +99,7 @@ names_named strings entries = of_each (λ e. elf.Link e.number) (λ e. (record {
 
 count_named : (kept : _) → ElfIs (count_refusal kept)
 unfolding count_refusal
-count_named kept =
-    either (nat_lt MAX_SYMBOLS (length kept)) (Some (elf.TooManySymbols (length kept))) _ (record { named = tt {0} }) (record { named = tt {0} })
+count_named kept = search either
 
 symbols_named : (sections : _) (table strings : List ℕ) → ElfIs (symbols_refusal sections table strings)
 unfolding symbols_refusal
@@ -114,10 +107,7 @@ symbols_named sections table strings = or_else _ _ (names_named strings _) (coun
 
 elf_is : (bs : List ℕ) → ElfIs (elf_refusal bs)
 unfolding elf_refusal
-elf_is bs =
-    let sections = sections_of bs in
-    or_else (header_refusal bs) _ (header_named bs) (or_else (segments_refusal bs) _ (segments_named bs) (or_else (text_refusal sections) _ (text_named sections)
-    (or_else (table_refusal (length bs) sections) (symbols_refusal sections (table_of bs sections) (strings_of bs sections)) (table_named (length bs) sections) (symbols_named sections (table_of bs sections) (strings_of bs sections)))))
+elf_is bs = search (or_else, header_named, segments_named, text_named, table_named, symbols_named)
 
 pub elf_never : (bs : List ℕ) → ElfNamed (elf_refusal bs)
 elf_never bs = (elf_is bs).named
@@ -149,16 +139,13 @@ front_of true x y p q = p
 front_of false x y p q = q
 
 hist_named : (len at low high count rate : ℕ) (dim : List ℕ) (short : ℕ) (more : List ℕ) → FrontIs (hist_of_fields len at low high count rate dim short more)
-hist_named len at low high count rate dim short more =
-    front_of (nat_lt 0 count && nat_le high low) (Refused (gmons.Range at low high)) _ (record { named = tt {0} }) (front_of (nat_lt (length more) (count * 2)) (Refused (gmons.Short len)) _ (record { named = tt {0} }) (record { named = tt {0} }))
+hist_named len at low high count rate dim short more = search front_of
 
 pairs_named : (len count : ℕ) (more : List ℕ) → FrontIs (pairs_front len count more)
 pairs_named len count more = front_of (nat_lt (length more) (count * 8)) (Refused (gmons.Short len)) _ (record { named = tt {0} }) (record { named = tt {0} })
 
 body_named : (len at tag : ℕ) (body : List ℕ) → FrontIs (body_front len at tag body)
-body_named len at zero body =
-    front_of (nat_lt (length body) 32) (Refused (gmons.Short len)) _ (record { named = tt {0} })
-    (hist_named len at (word_at body 0) (word_at body 4) (word_at body 8) (word_at body 12) (take 15 (drop 16 body)) (slice_index (drop 15 (drop 16 body)) 0) (drop 1 (drop 15 (drop 16 body))))
+body_named len at zero body = search (front_of, hist_named)
 body_named len at (suc zero) body = front_of (nat_lt (length body) 12) (Refused (gmons.Short len)) _ (record { named = tt {0} }) (record { named = tt {0} })
 body_named len at (suc (suc zero)) body = front_of (nat_lt (length body) 4) (Refused (gmons.Short len)) _ (record { named = tt {0} }) (pairs_named len (word_at body 0) (drop 4 body))
 body_named len at (suc (suc (suc tag))) body = record { named = tt {0} }
@@ -174,14 +161,10 @@ front_named more (Found rec rest) here later = behind_named (rec ∷ []) (more r
 recs_named : (len most : ℕ) (text : List ℕ) → GmonIs (found_in (recs_from len most text))
 recs_named len most [] = record { named = tt {0} }
 recs_named len zero (tag ∷ body) = record { named = tt {0} }
-recs_named len (suc most) (tag ∷ body) =
-    front_named (λ rest. recs_from len most rest) (body_front len (len - length (tag ∷ body)) tag body) (body_named len (len - length (tag ∷ body)) tag body) (recs_named len most)
+recs_named len (suc most) (tag ∷ body) = search (front_named, body_named, recs_named len most)
 
 gnu_never : (bytes : List ℕ) → GmonIs (gnu_refusal bytes)
-gnu_never bytes =
-    one_of (nat_lt (length bytes) 20) (Some (gmons.Short (length bytes))) _ (record { named = tt {0} })
-    (one_of (not (word_at bytes 4 == gnu_version)) (Some (gmons.Version (word_at bytes 4))) _ (record { named = tt {0} })
-    (recs_named (length bytes) (length bytes) (drop 20 bytes)))
+gnu_never bytes = search (one_of, recs_named)
 
 pub file_never : (bytes : List ℕ) → GmonNamed (file_refusal bytes)
 file_never bytes = by (form_of bytes)

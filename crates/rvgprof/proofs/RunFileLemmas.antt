@@ -78,10 +78,7 @@ few_retired program setup within =
 
 retired_here : (program : List ℕ) (setup : Setup) → length (end_world program setup).ran ≡ (end_world program setup).retired
 unfolding after_drive
-retired_here program setup =
-    let image = image_of program in
-    let m = machine_of image setup in
-    as_many image program setup (plan_of m.setup (most_turns m.setup))
+retired_here program setup = search as_many
 
 each_below : (most : ℕ) (xs : List ℕ) → AllByRecursion (λ n. n < most) xs → 0 < most → (i : ℕ) → slice_index xs i < most
 each_below most [] all some i = some
@@ -94,11 +91,7 @@ module _ (program : List ℕ) (setup : Setup) (within : IsSetup setup) where
   ran = (end_world program setup).ran
 
   count_fits : (pc : ℕ) → executions_at ran pc < 2 ^ 32
-  count_fits pc =
-      let most = few_retired program setup within in
-      let many = retired_here program setup in
-      let few = count_by-le-length (λ x. eqb x pc) ran in
-      omega arith
+  count_fits pc = grind (arith, few_retired, retired_here, count_by-le-length)
 
   all_fit : (low : ℕ) (is : List ℕ) → AllByRecursion (λ n. n < 2 ^ 32) (map (λ i. executions_at ran (low + 4 * i)) is)
   all_fit low [] = tt
@@ -151,8 +144,7 @@ module _ (front : List Rec) (bs : List RawBlock) where
 
   -- what is found of some kind in the front is all that is there of it
   found : {T : Type 0} (kind : WideRec → Option T) (there : List T) → filter_map kind (map wide_block bs) ≡ there → filter_map kind (wide_records (front ++ block_recs bs)) ≡ filter_map kind (wide_records front) ++ there
-  found {T} kind there is =
-      ap (filter_map kind) wide_more ∙ filter_map-append kind (wide_records front) (map wide_block bs) ∙ ap (λ (ts : List T). filter_map kind (wide_records front) ++ ts) is
+  found {T} kind there is = grind (arith, wide_more, filter_map-append)
 
 -- ---- the executions at an address
 
@@ -173,14 +165,9 @@ runs_in_tally addr other n (e ∷ es) = by (eqb addr e.0) (eqb other e.0) (eqb a
     by true true true p q r more = ap (λ (b : Bool). unwrap_or (cond b (Some (e.1 + n)) (lookup (nat_eq addr) es)) 0) p
     by true true false p q r more = absurd (true≢false (sym (eq-eqb addr other (eqb-true addr e.0 p ∙ sym (eqb-true other e.0 q))) ∙ r))
     by true false true p q r more = absurd (true≢false (sym (eq-eqb other e.0 (sym (eqb-true addr other r) ∙ eqb-true addr e.0 p)) ∙ q))
-    by true false false p q r more =
-        let here : unwrap_or (cond (eqb addr e.0) (Some e.1) (lookup (nat_eq addr) (tally nat_eq other n es))) 0 ≡ e.1 = ap (λ (b : Bool). unwrap_or (cond b (Some e.1) (lookup (nat_eq addr) (tally nat_eq other n es))) 0) p in
-        let same : e.1 ≡ e.1 + 0 = omega arith in
-        here ∙ same
+    by true false false p q r more = grind arith
     by false true true p q r more = absurd (true≢false (sym (eq-eqb addr e.0 (eqb-true addr other r ∙ eqb-true other e.0 q)) ∙ p))
-    by false true false p q r more =
-        let same : runs_at addr es ≡ runs_at addr es + 0 = omega arith in
-        ap (λ (b : Bool). unwrap_or (cond b (Some (e.1 + n)) (lookup (nat_eq addr) es)) 0) p ∙ same
+    by false true false p q r more = grind arith
     by false false c p q r more = ap (λ (b : Bool). unwrap_or (cond b (Some e.1) (lookup (nat_eq addr) (tally nat_eq other n es))) 0) p ∙ more
 
 abbrev adding : List (ℕ × ℕ) → ℕ × ℕ → List (ℕ × ℕ)
@@ -223,9 +210,6 @@ module _ (low : ℕ) (counts : List ℕ) where
   elsewhere : (i j : ℕ) → i < j → eqb (at i) (at j) ≡ false
   elsewhere i j less = grind (arith, nat_tests, less)
 
-  elsewhere_too : (i j : ℕ) → j < i → eqb (at i) (at j) ≡ false
-  elsewhere_too i j less = grind (arith, nat_tests, less)
-
   -- those before the first of the pairs stay
   before_pairs : (i start n : ℕ) (es : List (ℕ × ℕ)) → i < start → runs_at (at i) (fold adding es (pairs start n)) ≡ runs_at (at i) es
   before_pairs i start zero es less = refl
@@ -242,15 +226,8 @@ module _ (low : ℕ) (counts : List ℕ) where
     where
       by : (b : Bool) → eqb start i ≡ b → (start + 1 ≤ i → runs_at (at i) (fold adding (after start es) (pairs (start + 1) n)) ≡ runs_at (at i) (after start es) + slice_index counts i)
           → runs_at (at i) (fold adding (after start es) (pairs (start + 1) n)) ≡ runs_at (at i) es + slice_index counts i
-      by true is later =
-          let same : start ≡ i = eqb-true start i is in
-          before_pairs i (start + 1) n (after start es) (omega (arith, same)) ∙ after_runs i start es
-          ∙ ap (λ (b : Bool). runs_at (at i) es + (if b then slice_index counts start else 0)) (eq-eqb (at i) (at start) (ap at (sym same))) ∙ ap (λ (j : ℕ). runs_at (at i) es + slice_index counts j) same
-      by false is later =
-          let other : start < i = grind (arith, nat_tests, is, from) in
-          let same : runs_at (at i) es + 0 + slice_index counts i ≡ runs_at (at i) es + slice_index counts i = omega arith in
-          later (omega (arith, other))
-          ∙ ap (λ (m : ℕ). m + slice_index counts i) (after_runs i start es ∙ ap (λ (b : Bool). runs_at (at i) es + (if b then slice_index counts start else 0)) (elsewhere_too i start other)) ∙ same
+      by true is later = grind (arith, before_pairs, after_runs)
+      by false is later = grind (arith, after_runs)
 
   runs_counted : (i : ℕ) → i < length counts → runs_at (at i) (sums_by_key nat_eq (map pair_of (executed_blocks low counts))) ≡ slice_index counts i
   runs_counted i below =

@@ -11,7 +11,7 @@ use Rattle.settings.specs.declared.setup.Setup.{Setup}
 use Rattle.settings.specs.Setup.{IsSetup}
 use Rattle.gmon_data.specs.Content.{Content, conflict_of, empty_content, wide_records}
 use Rattle.gmon_data.specs.declared.refusal.Unlike.{Unlike as Difference}
-use Rattle.gp_base.specs.declared.limits.TheConstants.{MAX_PROFILE_BYTES, MAX_ELF_BYTES}
+use Rattle.gp_base.specs.declared.limits.TheConstants.{MAX_PROFILE_BYTES}
 use Rattle.profile_sum.specs.Sum.{sum_of, clash_of}
 use Rattle.demo_elf.specs.Elf.{demo_program}
 use Rattle.mcount_arcs.specs.declared.sizes.Sizes.{Sizes}
@@ -28,13 +28,13 @@ use Rattle.command_words.specs.declared.words.Command.TheVariants.{Show, Syms, R
 use Rattle.command_words.specs.declared.words.Shown.{Shown}
 use Rattle.command_words.specs.declared.words.Shown.TheVariants as shows
 use Rattle.command_words.specs.Words.{command_of, IsCommandOf}
-use Rattle.courses.specs.Course.{Course, Input, Does, Knows, one_by_one, unless, reply_to}
+use Rattle.courses.specs.Course.{Course, Input, Does, one_by_one, unless, reply_to}
 use Rattle.command_words.specs.Items.{nth_word}
 use Rattle.annotate.specs.Listing.{annotated_text}
 use Rattle.flat_report.specs.Sources.{Sources}
 use Rattle.host_port.specs.Act.{Act, Out}
-use Rattle.gmon_files.specs.Forms.{file_refusal, file_records}
-use Rattle.courses.specs.Answer.{Chosen, RunActs, calls_fit, chosen_by, chosen_sources, command_course, course_of, demo_lines, end_course, exact_report, files_named, fold_program, given_file_acts, list_profiles, print_reports, profile_file, profile_in, profiles, program, report_profiles, report_run, run_acts, run_program, show_lines, shown_reports, stacks_told, start_fault_of, sum_file, syms_lines, sums_up, too_wide, wide_step, logged_profile}
+use Rattle.gmon_files.specs.Forms.{file_refusal}
+use Rattle.courses.specs.Answer.{Chosen, RunActs, chosen_by, command_course, course_of, demo_lines, end_course, exact_report, files_named, fold_program, given_file_acts, list_profiles, print_reports, profile_file, profile_in, profiles, program, report_profiles, report_run, run_acts, run_program, show_lines, shown_reports, stacks_told, start_fault_of, sum_file, syms_lines, sums_up, logged_profile}
 use Rattle.elf32_syms.specs.declared.refusal.ElfRefusal.{ElfRefusal}
 use Rattle.elf32_syms.specs.declared.refusal.ElfRefusal.TheVariants as elf
 use Rattle.gp_base.specs.declared.refusal.GmonRefusal.{GmonRefusal}
@@ -77,13 +77,10 @@ module _ (contents : ℕ → List ℕ) (some : Bool) where
       by false = tells (contents word)
 
   tells_program : (word : ℕ) (next : List ℕ → Image → Course) → ((bytes : List ℕ) (image : Image) → Tells (next bytes image)) → Tells (program word next)
-  tells_program word next tells =
-      tells_input word MAX_ELF_BYTES (λ bytes. unless BadElf (elf_refusal bytes) (next bytes (image_of bytes))) (λ bytes. tells_unless BadElf (elf_refusal bytes) (next bytes (image_of bytes)) (elf_named bytes) (tells bytes (image_of bytes)))
+  tells_program word next tells = search (tells_input, tells_unless, elf_named)
 
   tells_file : (word limit : ℕ) (next : ℕ → Records → Course) → ((len : ℕ) (records : Records) → Tells (next len records)) → Tells (profile_file word limit next)
-  tells_file word limit next tells =
-      tells_input word limit (λ bytes. unless (λ refusal. BadProfile refusal word) (file_refusal bytes) (next (length bytes) (file_records bytes)))
-      (λ bytes. tells_unless (λ refusal. BadProfile refusal word) (file_refusal bytes) (next (length bytes) (file_records bytes)) (profile_named bytes word) (tells (length bytes) (file_records bytes)))
+  tells_file word limit next tells = search (tells_input, tells_unless, profile_named)
 
   tells_profiles : (words : List ℕ) (left : ℕ) (total : Content) (next : Content → Course) → ((t : Content) → Tells (next t)) → Tells (profiles words left total next)
   tells_profiles [] left total next tells = tells total
@@ -105,10 +102,7 @@ module _ (contents : ℕ → List ℕ) (some : Bool) where
   tells_shown shows.Both hidden s next tells = tells
 
   tells_reports : (chosen : Chosen) (image : Image) (total : Content) (next : Course) → Tells next → Tells (print_reports chosen image total next)
-  tells_reports chosen image total next tells =
-      let s = chosen_sources chosen image total in
-      tells_unless too_wide (wide_step chosen.exact s) (shown_reports chosen.shown chosen.hidden s (exact_report chosen.exact s next)) (λ r is. tt)
-      (tells_shown chosen.shown chosen.hidden s (exact_report chosen.exact s next) (tells_exact chosen.exact s next tells))
+  tells_reports chosen image total next tells = search (tells_unless, tells_shown, tells_exact)
 
   tells_one_by_one : (acts : List Act) (next : Course) → Tells next → Tells (one_by_one acts next)
   tells_one_by_one [] next tells = tells
@@ -118,10 +112,7 @@ module _ (contents : ℕ → List ℕ) (some : Bool) where
   tells_start image setup next tells = tells_unless start_fault_of (start_refusal image setup) next (λ r is. start_named r) tells
 
   tells_run : (acts : RunActs) (setup : Setup) (next : Sizes → World → Course) (bytes : List ℕ) (image : Image) → Tells (next (sizes_of image.text setup.hist setup.hash) (final_world image bytes setup)) → Tells (run_program acts setup next bytes image)
-  tells_run acts setup next bytes image tells =
-      let z = sizes_of image.text setup.hist setup.hash in
-      let w = final_world image bytes setup in
-      tells_start image setup (Does (acts z w) (Knows (calls_fit z w) (next z w))) tells
+  tells_run acts setup next bytes image tells = search tells_start
 
 -- a run that ended has a summary
 told_of : {A : Type 0} (f : End → A) (ending : Option End) → IsSome ending → is_some (option_map f ending) ≡ true

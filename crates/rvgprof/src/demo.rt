@@ -93,6 +93,7 @@ fn made_program(alloc: Global, functions: u32) -> Result<(Vec<u8>, Image), Fault
 }
 
 /// Writes the program to the file that a word names, where one does.
+#[tactic(auto)]
 fn write_program<H: Host>(
     words: &Words<'_>,
     elf: Option<u32>,
@@ -129,7 +130,7 @@ fn tell_demo<H: Host>(
 }
 
 /// The two lines of a demo's summary: how its run went, and how its samples were attributed.
-#[tactic(auto, using(text_cols::proofs::Lengths::lengths))]
+#[tactic(auto, using(propagate::proofs::BoundLemmas::roots_have_all))]
 fn summary_of(functions: u32, run: &Run, findings: &Findings) -> Line
     requires ended { IsSome run.now.ending }
     requires few { length findings.now.shares.of ≡ findings.now.graph.functions }

@@ -29,6 +29,7 @@ pub fn files_read_back()
 
 /// In the profile of one file of a run that counted executions, those at an instruction's address are how often it
 /// retired in that run. A cell of the listing shows them.
+#[tactic(auto, using(crate::proofs::HeadlineLemmas::executions_listed))]
 pub fn executions_are_listed()
     ensures { ExecutionsAreListed }
 {}
@@ -48,6 +49,7 @@ pub fn completeness()
 /// The definition's ending is that the command was carried out exactly where all is accepted: the words
 /// have a reading, each input file is within its limit and not refused, the profiles are alike, no exact
 /// time that is asked for is too wide, and a run can start.
+#[tactic(auto, using(crate::proofs::AcceptanceLemmas::accepted))]
 pub fn acceptance()
     ensures { (words : List (List ℕ)) (contents : ℕ → List ℕ)
         → IsOk (reply_to contents (course_of words)).ending
@@ -81,6 +83,7 @@ pub fn demo_is_done()
 
 /// Where memory ran out, what was done is a prefix of what is due, and nothing for the commands that do
 /// all at once.
+#[tactic(auto, using(crate::proofs::AcceptanceLemmas::idle, crate::proofs::CompletenessLemmas::memory_leaves))]
 pub fn what_memory_leaves()
     ensures prefix { (contents : ℕ → List ℕ) (course : Course) (acts : List Act)
         → MayStop contents course acts → (rest : List Act)
@@ -92,12 +95,14 @@ pub fn what_memory_leaves()
 
 /// Files that are each alike with those before them have no conflict among all their records, so that the histograms of
 /// what they add up to have ranges and counters, and are apart.
+#[tactic(auto, using(crate::proofs::AlikeLemmas::alike_files))]
 pub fn alike_files_have_no_conflict()
     ensures { AlikeFilesHaveNoConflict }
 {}
 
 /// A profile file of each form that is written out byte by byte is accepted, and read as its records; and words of each
 /// command say it.
+#[tactic(auto, using(crate::proofs::ExampleLemmas::files_read))]
 pub fn examples_are_read()
     ensures files { FileExamples }
     ensures words { WordExamples }

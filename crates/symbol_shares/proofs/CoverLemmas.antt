@@ -44,9 +44,7 @@ owned-first x s symbols from below owned = by (owns x s) refl
   where
     by : (b : Bool) → owns x s ≡ b → s.addr ≤ x
     by true is = grind (arith, nat_tests)
-    by false is =
-        let later = owned-from s.end x symbols from (sym (ap (λ b. b || list_any (owns x) symbols) is) ∙ owned) in
-        absurd (omega (arith, later, below))
+    by false is = grind (arith, owned-from)
 
 behind-from : (low : ℕ) (symbols : List Symbol) → IsAscending symbols → ((d : Symbol) → 0 < length symbols → low ≤ (get_or symbols 0 d).addr) → AreFrom low symbols
 behind-from low [] ascending from = tt
@@ -118,30 +116,24 @@ buckets-covered h zero symbols kept ascending covered le = let none = sums-of-no
 buckets-covered h (suc m) symbols kept ascending covered le =
     let one : m + 1 ≡ suc m = omega arith in
     let front = buckets-covered h m symbols kept ascending covered (omega arith) in
-    let last = bucket-covered h m symbols kept ascending covered (omega arith) in
     let shares = rw one at (sums-added (share_of_buckets h m) (share_of_bucket h m) (share_of_buckets h (m + 1)) symbols (buckets-more h m)) in
     let counts = rw one at (sum_by_more (λ (n : ℕ). n) h.counters m 0 (omega arith)) in
-    omega (arith, front, last, shares, counts)
+    omega (arith, front, bucket-covered h m symbols kept ascending covered (omega arith), shares, counts)
 
 hist-covered : (h : Hist) (symbols : List Symbol) → IsKept h → IsAscending symbols → IsCovered symbols h → sum_by (share_in_hist h) symbols ≡ 1000000 * sum h.counters
 hist-covered h symbols kept ascending covered =
-    let all = buckets-covered h (length h.counters) symbols kept ascending covered (omega arith) in
     let whole = ap sum (take_all (length h.counters) h.counters (omega arith)) in
-    omega (arith, all, whole)
+    omega (arith, buckets-covered h (length h.counters) symbols kept ascending covered (omega arith), whole)
 
 hists-covered : (hists : List Hist) (symbols : List Symbol) → AllByRecursion IsKept hists → IsAscending symbols → AllByRecursion (IsCovered symbols) hists → sum_by (share_of hists) symbols ≡ 1000000 * samples_of hists
 hists-covered [] symbols kept ascending covered = let none = sums-of-none (share_of []) symbols (λ s. refl) in omega (arith, none)
 hists-covered (h ∷ hists) symbols kept ascending covered =
-    let first = hist-covered h symbols kept.0 ascending covered.0 in
     let rest = hists-covered hists symbols kept.1 ascending covered.1 in
     let shares = sums-added (share_in_hist h) (share_of hists) (share_of (h ∷ hists)) symbols (λ s. sum_by-cons (λ h. share_in_hist h s) h hists) in
-    let samples = sum_by-cons (λ (h : Hist). sum h.counters) h hists in
-    omega (arith, first, rest, shares, samples)
+    omega (arith, hist-covered h symbols kept.0 ascending covered.0, rest, shares, sum_by-cons (λ (h : Hist). sum h.counters) h hists)
 
 pub covered-attributed : (hists : List Hist) (symbols : List Symbol) → AllByRecursion IsKept hists → IsAscending symbols → AllByRecursion (IsCovered symbols) hists → attributed_of (shares_of hists symbols) ≡ 1000000 * samples_of hists
 covered-attributed hists symbols kept ascending covered = sum-map (share_of hists) symbols ∙ hists-covered hists symbols kept ascending covered
 
 pub covered-outside : (hists : List Hist) (symbols : List Symbol) → AllByRecursion IsKept hists → IsAscending symbols → AllByRecursion (IsCovered symbols) hists → (shares_of hists symbols).outside ≡ 0
-covered-outside hists symbols kept ascending covered =
-    let all = covered-attributed hists symbols kept ascending covered in
-    omega (arith, all)
+covered-outside hists symbols kept ascending covered = grind (arith, covered-attributed)

@@ -37,7 +37,5 @@ hist-at P (h ∷ hists) (suc j) k a at = hist-at P hists j k a.1 at
 pub hists-apart : (hists : List Hist) (i j : ℕ) (h k : Hist) → IsApart hists → i < j → slice_get hists i ≡ Some h → slice_get hists j ≡ Some k → h.high ≤ k.low
 hists-apart [] i j h k apart less at at' = absurd cc
 hists-apart (g ∷ hists) i zero h k apart less at at' = absurd (omega arith)
-hists-apart (g ∷ hists) zero (suc j) h k apart less at at' =
-    let same : g ≡ h = cc in
-    subst (λ (g : Hist). g.high ≤ k.low) same (hist-at (λ k. g.high ≤ k.low) hists j k apart.0 at')
+hists-apart (g ∷ hists) zero (suc j) h k apart less at at' = grind (arith, hist-at)
 hists-apart (g ∷ hists) (suc i) (suc j) h k apart less at at' = hists-apart hists i j h k apart.1 (omega arith) at at'

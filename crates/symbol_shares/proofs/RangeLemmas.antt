@@ -1,6 +1,6 @@
 -- What a range of addresses gets: nothing of buckets that it doesn't touch.
 use Rattle.std.proofs.Common.{◌≡◌, ℕ, zero, suc, ◌+◌, ◌-◌, ◌*◌, ◌<◌, ◌≤◌, List, [], ◌∷◌, length, take, sum, get_or, Some, slice_get, refl, sym, ap, ◌∙◌, arith, ⊎_elim}
-use Rattle.std.specs.List.{AllByRecursion, range_with_len, sum_by}
+use Rattle.std.specs.List.{AllByRecursion}
 use Rattle.std.proofs.Math.Nat.{mul-le-mul_right}
 use Rattle.std.proofs.lemmas.Bool.{cases_lt}
 use Rattle.std.proofs.lemmas.List.{take_all}
@@ -18,16 +18,11 @@ use Rattle.symbol_shares.proofs.WalkLemmas.{at-place}
 
 -- one that ends at or below the range gives nothing
 pub ended-bucket : (h : Hist) (low high i : ℕ) → h.low < h.high → low ≤ high → bucket_begin h (i + 1) ≤ low * length h.counters → grains_of_bucket h low high i ≡ 0
-ended-bucket h low high i range order le =
-    let more = mul-le-mul_right (length h.counters) order in
-    let a = grains-all h i low range le in
-    let e = grains-all h i high range (omega (arith, more, le)) in
-    omega (arith, a, e)
+ended-bucket h low high i range order le = grind (arith, grains-all)
 
 -- and one that begins at or above its end
 pub later-bucket : (h : Hist) (low high i : ℕ) → high * length h.counters ≤ bucket_begin h i → grains_of_bucket h low high i ≡ 0
-later-bucket h low high i le =
-    let e = grains-none h i high le in omega (arith, e)
+later-bucket h low high i le = grind (arith, grains-none)
 
 pub bucket-most : (h : Hist) (low high i : ℕ) → grains_of_bucket h low high i ≤ get_or h.counters i 0 * 1000000
 bucket-most h low high i = let e = grains-within h i high in omega (arith, e)
@@ -35,18 +30,16 @@ bucket-most h low high i = let e = grains-within h i high in omega (arith, e)
 -- ---- the first buckets
 
 pub one-more : (h : Hist) (low high m : ℕ) → grains_of_buckets h low high (m + 1) ≡ grains_of_buckets h low high m + grains_of_bucket h low high m
-one-more h low high m =
-    ap (sum_by (grains_of_bucket h low high)) (range-more m) ∙ sum_by_push (grains_of_bucket h low high) (range_with_len 0 m) m
+one-more h low high m = grind (arith, range-more, sum_by_push)
 
 pub buckets-most : (h : Hist) (low high m : ℕ) → m ≤ length h.counters → grains_of_buckets h low high m ≤ 1000000 * sum (take m h.counters)
 buckets-most h low high zero le = omega arith
 buckets-most h low high (suc m) le =
     let one : m + 1 ≡ suc m = omega arith in
     let front = buckets-most h low high m (omega arith) in
-    let last = bucket-most h low high m in
     let grains = rw one at (one-more h low high m) in
     let counts = rw one at (sum_by_more (λ (n : ℕ). n) h.counters m 0 (omega arith)) in
-    omega (arith, front, last, grains, counts)
+    omega (arith, front, bucket-most h low high m, grains, counts)
 
 -- buckets that give nothing
 pub idle-buckets : (h : Hist) (low high a n : ℕ) → ((i : ℕ) → a ≤ i → i < a + n → grains_of_bucket h low high i ≡ 0) → grains_of_buckets h low high (a + n) ≡ grains_of_buckets h low high a
@@ -88,25 +81,16 @@ last-buckets h low high m le begin =
     later i from = let rows = mul-le-mul_right (h.high - h.low) from in omega (arith, rows, begin)
 
 pub buckets-fit : (h : Hist) (low high i most : ℕ) → i < length h.counters → 1000000 * sum h.counters < most → grains_of_buckets h low high i + grains_of_bucket h low high i < most
-buckets-fit h low high i most below fits =
-    let front = buckets-most h low high i (omega (arith, below)) in
-    let last = bucket-most h low high i in
-    let counts = sum_by_more_le (λ (n : ℕ). n) h.counters i 0 below in
-    omega (arith, front, last, counts, fits)
+buckets-fit h low high i most below fits = grind (arith, buckets-most, bucket-most, sum_by_more_le)
 
 -- ---- a histogram
 
 pub hist-most : (h : Hist) (low high : ℕ) → grains_in_hist low high h ≤ 1000000 * sum h.counters
-hist-most h low high =
-    let all = buckets-most h low high (length h.counters) (omega arith) in
-    let whole = ap sum (take_all (length h.counters) h.counters (omega arith)) in
-    omega (arith, all, whole)
+hist-most h low high = grind (arith, buckets-most, take_all)
 
 -- one that ends at or below the range gives nothing
 ended-hist : (h : Hist) (low high : ℕ) → h.low < h.high → low ≤ high → h.high ≤ low → grains_in_hist low high h ≡ 0
-ended-hist h low high range order le =
-    let rows : (h.high - h.low) * length h.counters ≤ (low - h.low) * length h.counters = mul-le-mul_right (length h.counters) (let e : h.high - h.low ≤ low - h.low = omega (arith, le) in e) in
-    first-buckets h low high (length h.counters) range order (omega (arith, rows))
+ended-hist h low high range order le = grind (arith, first-buckets)
 
 -- and one that begins at or above its end
 later-hist : (h : Hist) (low high : ℕ) → high ≤ h.low → grains_in_hist low high h ≡ 0
@@ -126,8 +110,7 @@ ended-hists (h ∷ hists) low high (suc k) kept order ended =
 
 later-hists : (hists : List Hist) (low high : ℕ) → AllByRecursion (λ (h : Hist). high ≤ h.low) hists → grains_of_range hists low high ≡ 0
 later-hists [] low high later = refl
-later-hists (h ∷ hists) low high later =
-    omega (arith, later-hist h low high later.0, later-hists hists low high later.1, sum_by-cons (grains_in_hist low high) h hists)
+later-hists (h ∷ hists) low high later = search (later-hist, sum_by-cons, later-hists hists low high later.1)
 
 later-from : (n high : ℕ) (hists : List Hist) → high ≤ n → AllByRecursion (λ (h : Hist). n ≤ h.low) hists → AllByRecursion (λ (h : Hist). high ≤ h.low) hists
 later-from n high [] le later = tt
@@ -141,9 +124,7 @@ last-hists (g ∷ hists) low high zero h kept apart at le =
     let first : high ≤ g.low = omega (arith, same, le) in
     let above : high ≤ g.high = let r = kept.0.range in omega (arith, first, r) in
     later-hists (g ∷ hists) low high (first, later-from g.high high hists above apart.0)
-last-hists (g ∷ hists) low high (suc k) h kept apart at le =
-    let rest = last-hists hists low high k h kept.1 apart.1 at le in
-    omega (arith, rest, sum_by-cons (grains_in_hist low high) g hists, sum_by-cons (grains_in_hist low high) g (take k hists))
+last-hists (g ∷ hists) low high (suc k) h kept apart at le = search (sum_by-cons, last-hists hists low high k h kept.1 apart.1 at le)
 
 pub hist-more : (hists : List Hist) (low high k : ℕ) (h : Hist) → slice_get hists k ≡ Some h → k < length hists → grains_of_range (take (k + 1) hists) low high ≡ grains_of_range (take k hists) low high + grains_in_hist low high h
 hist-more hists low high k h at below =
@@ -163,18 +144,13 @@ front-most (h ∷ hists) low high (suc k) =
 
 pub hist-samples : (hists : List Hist) (k : ℕ) (h : Hist) → slice_get hists k ≡ Some h → sum h.counters ≤ samples_of hists
 hist-samples hists k h at =
-    let one = get_or-le-sum_by (λ (h : Hist). sum h.counters) hists k h (slice_get_within hists k h at) in
     let same : sum h.counters ≡ sum (get_or hists k h).counters = ap (λ (h : Hist). sum h.counters) (at-place hists k h at) in
-    omega (arith, one, same)
+    omega (arith, get_or-le-sum_by (λ (h : Hist). sum h.counters) hists k h (slice_get_within hists k h at), same)
 
 -- ---- ranges that follow one another
 
 hist-follows : (a b c : ℕ) (h : Hist) → a ≤ b → b ≤ c → grains_in_hist a c h ≡ grains_in_hist a b h + grains_in_hist b c h
-hist-follows a b c h ab bc =
-    sums-added (grains_of_bucket h a b) (grains_of_bucket h b c) (grains_of_bucket h a c) (range_with_len 0 (length h.counters)) (λ i.
-    let one = grains-ascend h i a b ab in
-    let two = grains-ascend h i b c bc in
-    let e : grains_of_bucket h a c i ≡ grains_of_bucket h a b i + grains_of_bucket h b c i = omega (arith, one, two) in e)
+hist-follows a b c h ab bc = grind (arith, sums-added, grains-ascend)
 
 pub ranges-follow : (hists : List Hist) (a b c : ℕ) → a ≤ b → b ≤ c → grains_of_range hists a b + grains_of_range hists b c ≡ grains_of_range hists a c
 ranges-follow [] a b c ab bc = refl

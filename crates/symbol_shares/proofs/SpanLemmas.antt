@@ -1,6 +1,6 @@
 -- Buckets that follow one another.
-use Rattle.std.proofs.Common.{◌≡◌, ◌≢◌, ℕ, zero, suc, ◌+◌, ◌-◌, ◌*◌, ◌<◌, ◌≤◌, List, [], ◌∷◌, length, drop, get_or, map, set, take, sum, sym, ap, subst, ◌∙◌, add-one, ⊎_elim, arith}
-use Rattle.std.specs.List.{All, sum_by}
+use Rattle.std.proofs.Common.{◌≡◌, ◌≢◌, ℕ, zero, suc, ◌+◌, ◌-◌, ◌*◌, ◌<◌, ◌≤◌, List, [], ◌∷◌, length, drop, get_or, map, set, take, sum, sym, ap, subst, ◌∙◌, ⊎_elim, arith}
+use Rattle.std.specs.List.{All}
 use Rattle.std.proofs.Math.Nat.{mul-le-mul_right}
 use Rattle.std.proofs.lemmas.Bool.{cases_lt}
 use Rattle.std.proofs.lemmas.List.{get_or-drop, get_or-take, length-drop, length-take}
@@ -43,10 +43,7 @@ begin-rises h i m le = let product = mul-le-mul_right (h.high - h.low) le in ome
 -- in a symbol as a whole they give it all of their samples
 pub span-whole : (h : Hist) (i n : ℕ) (s : Symbol) → IsKept h → i + n ≤ length h.counters → ((m : ℕ) → i ≤ m → m < i + n → IsInside h m s)
     → share_of_buckets h (i + n) s ≡ share_of_buckets h i s + 1000000 * sum (take n (drop i h.counters))
-span-whole h i zero s kept within whole =
-    let here : i + 0 ≡ i = omega arith in
-    let none : share_of_buckets h i s ≡ share_of_buckets h i s + 1000000 * 0 = omega arith in
-    ap (λ m. share_of_buckets h m s) here ∙ none
+span-whole h i zero s kept within whole = grind arith
 span-whole h i (suc n) s kept within whole =
     let next : i + suc n ≡ i + n + 1 = omega arith in
     let one : n + 1 ≡ suc n = omega arith in
@@ -60,8 +57,7 @@ span-whole h i (suc n) s kept within whole =
 
 -- a symbol in which none of them lies gets nothing of them
 pub span-none : (h : Hist) (i n : ℕ) (s : Symbol) → ((m : ℕ) → i ≤ m → m < i + n → share_of_bucket h m s ≡ 0) → share_of_buckets h (i + n) s ≡ share_of_buckets h i s
-span-none h i zero s none =
-    let here : i + 0 ≡ i = omega arith in ap (λ m. share_of_buckets h m s) here
+span-none h i zero s none = grind arith
 span-none h i (suc n) s none =
     let next : i + suc n ≡ i + n + 1 = omega arith in
     let front = span-none h i n s (λ m from below. none m from (omega arith)) in
@@ -70,9 +66,7 @@ span-none h i (suc n) s none =
     ap (λ m. share_of_buckets h m s) next ∙ omega (arith, front, last, more)
 
 pub buckets-rise : (h : Hist) (i n : ℕ) (s : Symbol) → share_of_buckets h i s ≤ share_of_buckets h (i + n) s
-buckets-rise h i zero s =
-    let here : i + 0 ≡ i = omega arith in
-    let same = ap (λ m. share_of_buckets h m s) here in omega (arith, same)
+buckets-rise h i zero s = grind arith
 buckets-rise h i (suc n) s =
     let next : i + suc n ≡ i + n + 1 = omega arith in
     let same = ap (λ m. share_of_buckets h m s) next in
@@ -86,17 +80,11 @@ between-added h i j s le =
 
 pub spans-added : (h : Hist) (i j : ℕ) (symbols : List Symbol) (ns of new : List ℕ) → i ≤ j → of ≡ pointwise_sum ns (map (share_of_buckets h i) symbols)
     → new ≡ pointwise_sum of (map (share_between h i j) symbols) → new ≡ pointwise_sum ns (map (share_of_buckets h j) symbols)
-spans-added h i j symbols ns of new le before added =
-    added
-    ∙ ap (λ l. pointwise_sum l (map (share_between h i j) symbols)) before
-    ∙ added-twice ns (share_of_buckets h i) (share_between h i j) (share_of_buckets h j) symbols (λ s. between-added h i j s le)
+spans-added h i j symbols ns of new le before added = grind (arith, added-twice, between-added)
 
 pub bucket-added : (h : Hist) (i : ℕ) (symbols : List Symbol) (ns of new : List ℕ) → of ≡ pointwise_sum ns (map (share_of_buckets h i) symbols)
     → new ≡ pointwise_sum of (map (share_of_bucket h i) symbols) → new ≡ pointwise_sum ns (map (share_of_buckets h (i + 1)) symbols)
-bucket-added h i symbols ns of new before added =
-    added
-    ∙ ap (λ l. pointwise_sum l (map (share_of_bucket h i) symbols)) before
-    ∙ added-twice ns (share_of_buckets h i) (share_of_bucket h i) (share_of_buckets h (i + 1)) symbols (buckets-more h i)
+bucket-added h i symbols ns of new before added = grind (arith, added-twice, buckets-more)
 
 -- no bucket gives nothing
 pub nothing-between : (h : Hist) (i : ℕ) (symbols : List Symbol) (ns : List ℕ) → length ns ≡ length symbols → ns ≡ pointwise_sum ns (map (share_between h i i) symbols)
@@ -144,17 +132,9 @@ pub span-within : (counters : List ℕ) (i n : ℕ) → sum (take n (drop i coun
 span-within counters i n = let parts = sum_by-take-drop (λ (n : ℕ). n) (drop i counters) n in omega (arith, parts)
 
 pub span-fits : (counters of : List ℕ) (i k n most : ℕ) → k < length of → sum of + 1000000 * sum (drop i counters) < most → get_or of k 0 + 1000000 * sum (take n (drop i counters)) < most
-span-fits counters of i k n most below fits =
-    let one = get_or-le-sum_by (λ (n : ℕ). n) of k 0 below in
-    let part = span-within counters i n in
-    omega (arith, one, part, fits)
+span-fits counters of i k n most below fits = grind (arith, get_or-le-sum_by, span-within)
 
 -- what is left of a histogram fits, where all of it did
 pub left-fits : (h : Hist) (i : ℕ) (symbols : List Symbol) (ns of : List ℕ) (most : ℕ) → h.low < h.high → IsAscending symbols → i ≤ length h.counters → of ≡ pointwise_sum ns (map (share_of_buckets h i) symbols)
     → sum ns + 1000000 * sum h.counters < most → sum of + 1000000 * sum (drop i h.counters) < most
-left-fits h i symbols ns of most range ascending within added fits =
-    let total : sum of ≡ sum ns + sum (map (share_of_buckets h i) symbols) = ap sum added ∙ sum-pointwise ns (map (share_of_buckets h i) symbols) in
-    let shares = sum-map (share_of_buckets h i) symbols in
-    let front = buckets-within h i symbols ascending within in
-    let counts = sum_by-take-drop (λ (n : ℕ). n) h.counters i in
-    omega (arith, total, shares, front, counts, fits)
+left-fits h i symbols ns of most range ascending within added fits = grind (arith, sum-pointwise, sum-map, buckets-within, sum_by-take-drop)

@@ -1,6 +1,6 @@
 -- Sums of shares over symbols, buckets and histograms.
 use Rattle.std.proofs.Common.{◌≡◌, ℕ, zero, suc, ◌+◌, ◌-◌, ◌*◌, ◌<◌, ◌≤◌, List, [], ◌∷◌, ◌++◌, length, map, take, sum, get_or, replicate, refl, sym, ap, ◌∙◌, arith}
-use Rattle.std.specs.List.{All, AllByRecursion, sum_by, range_with_len}
+use Rattle.std.specs.List.{All, sum_by, range_with_len}
 use Rattle.std.proofs.lemmas.List.{map-id, take_all}
 use Rattle.std.proofs.lemmas.List.FromFn.{map-range_with_len_more}
 use Rattle.std.proofs.lemmas.List.Sums.{sum_by-cons, sum_by_push, sum_by_more, sum-map}
@@ -48,9 +48,7 @@ maps-added f g h (x ∷ xs) each = ap (λ m. m ∷ pointwise_sum (map f xs) (map
 pub added-twice : {X : Type 0} (ns : List ℕ) (f g h : X → ℕ) (xs : List X) → ((x : X) → h x ≡ f x + g x) → pointwise_sum (pointwise_sum ns (map f xs)) (map g xs) ≡ pointwise_sum ns (map h xs)
 added-twice [] f g h xs each = maps-added f g h xs each
 added-twice (n ∷ ns) f g h [] each = refl
-added-twice (n ∷ ns) f g h (x ∷ xs) each =
-    let total : n + f x + g x ≡ n + h x = omega (arith, each x) in
-    ap (λ m. m ∷ pointwise_sum (pointwise_sum ns (map f xs)) (map g xs)) total ∙ ap (λ l. (n + h x) ∷ l) (added-twice ns f g h xs each)
+added-twice (n ∷ ns) f g h (x ∷ xs) each = grind (arith, added-twice ns f g h xs each)
 
 pub zeros : {X : Type 0} (f : X → ℕ) (xs : List X) → ((x : X) → f x ≡ 0) → replicate (length xs) 0 ≡ map f xs
 zeros f [] each = refl
@@ -62,8 +60,7 @@ zeros-added f ns xs same each = sym (none-behind f ns xs 0 same (λ j d from bel
 
 pub sums-added : {X : Type 0} (f g h : X → ℕ) (xs : List X) → ((x : X) → h x ≡ f x + g x) → sum_by h xs ≡ sum_by f xs + sum_by g xs
 sums-added f g h [] each = refl
-sums-added f g h (x ∷ xs) each =
-    omega (arith, sum_by-cons f x xs, sum_by-cons g x xs, sum_by-cons h x xs, each x, sums-added f g h xs each)
+sums-added f g h (x ∷ xs) each = grind (arith, sum_by-cons, sums-added f g h xs each)
 
 pub sums-of-none : {X : Type 0} (f : X → ℕ) (xs : List X) → ((x : X) → f x ≡ 0) → sum_by f xs ≡ 0
 sums-of-none f [] each = refl
@@ -76,12 +73,10 @@ range-more m =
     sym (map-id (range_with_len 0 (m + 1))) ∙ map-range_with_len_more (λ (i : ℕ). i) 0 m m (omega arith) ∙ ap (λ l. l ++ m ∷ []) (map-id (range_with_len 0 m))
 
 pub buckets-more : (h : Hist) (m : ℕ) (s : Symbol) → share_of_buckets h (m + 1) s ≡ share_of_buckets h m s + share_of_bucket h m s
-buckets-more h m s =
-    ap (sum_by (λ i. share_of_bucket h i s)) (range-more m) ∙ sum_by_push (λ i. share_of_bucket h i s) (range_with_len 0 m) m
+buckets-more h m s = grind (arith, range-more, sum_by_push)
 
 pub hists-more : (hists : List Hist) (k : ℕ) (h : Hist) (s : Symbol) → k < length hists → h ≡ get_or hists k h → share_of (take (k + 1) hists) s ≡ share_of (take k hists) s + share_in_hist h s
-hists-more hists k h s below is =
-    sum_by_more (λ h. share_in_hist h s) hists k h below ∙ ap (λ (h : Hist). share_of (take k hists) s + share_in_hist h s) (sym is)
+hists-more hists k h s below is = grind (arith, sum_by_more)
 
 -- ---- no grain goes to two symbols
 
@@ -104,28 +99,22 @@ buckets-within h zero symbols ascending le = let none = sums-of-none (share_of_b
 buckets-within h (suc m) symbols ascending le =
     let one : m + 1 ≡ suc m = omega arith in
     let front = buckets-within h m symbols ascending (omega arith) in
-    let last = bucket-within h m symbols ascending in
     let shares = rw one at (sums-added (share_of_buckets h m) (share_of_bucket h m) (share_of_buckets h (m + 1)) symbols (buckets-more h m)) in
     let counts = rw one at (sum_by_more (λ (n : ℕ). n) h.counters m 0 (omega arith)) in
-    omega (arith, front, last, shares, counts)
+    omega (arith, front, bucket-within h m symbols ascending, shares, counts)
 
 pub hist-within : (h : Hist) (symbols : List Symbol) → IsAscending symbols → sum_by (share_in_hist h) symbols ≤ 1000000 * sum h.counters
 hist-within h symbols ascending =
-    let all = buckets-within h (length h.counters) symbols ascending (omega arith) in
     let whole = ap sum (take_all (length h.counters) h.counters (omega arith)) in
-    omega (arith, all, whole)
+    omega (arith, buckets-within h (length h.counters) symbols ascending (omega arith), whole)
 
 pub hists-within : (hists : List Hist) (symbols : List Symbol) → IsAscending symbols → sum_by (share_of hists) symbols ≤ 1000000 * samples_of hists
 hists-within [] symbols ascending = let none = sums-of-none (share_of []) symbols (λ s. refl) in omega (arith, none)
 hists-within (h ∷ hists) symbols ascending =
-    let first = hist-within h symbols ascending in
     let rest = hists-within hists symbols ascending in
     let shares = sums-added (share_in_hist h) (share_of hists) (share_of (h ∷ hists)) symbols (λ s. sum_by-cons (λ h. share_in_hist h s) h hists) in
-    let samples = sum_by-cons (λ (h : Hist). sum h.counters) h hists in
-    omega (arith, first, rest, shares, samples)
+    omega (arith, hist-within h symbols ascending, rest, shares, sum_by-cons (λ (h : Hist). sum h.counters) h hists)
 
 -- what symbols get and what none gets is all
 pub all-shared : (hists : List Hist) (symbols : List Symbol) → IsAscending symbols → attributed_of (shares_of hists symbols) + (shares_of hists symbols).outside ≡ 1000000 * samples_of hists
-all-shared hists symbols ascending =
-    let most = hists-within hists symbols ascending in
-    omega (arith, most, sum-map (share_of hists) symbols)
+all-shared hists symbols ascending = grind (arith, hists-within, sum-map)

@@ -1,5 +1,5 @@
 -- One bucket's walk over the symbols.
-use Rattle.std.proofs.Common.{◌≡◌, ℕ, zero, suc, ◌+◌, ◌-◌, ◌*◌, ◌<◌, ◌≤◌, List, [], ◌∷◌, ◌++◌, Some, slice_get, length, drop, get_or, map, set, take, sum, sym, ap, ◌∙◌, add-one, subst, arith}
+use Rattle.std.proofs.Common.{◌≡◌, ℕ, ◌+◌, ◌*◌, ◌<◌, ◌≤◌, List, ◌++◌, Some, slice_get, length, drop, get_or, map, set, take, sum, sym, ap, ◌∙◌, subst, arith}
 use Rattle.std.specs.List.{All, sum_by}
 use Rattle.std.proofs.Math.Nat.{mul-le-mul_right, le_of_mul-le-mul_left}
 use Rattle.std.proofs.lemmas.List.{get_or-map, length-map, get_or_read, take_at}
@@ -30,15 +30,7 @@ module _ (h : Hist) (i : ℕ) (symbols : List Symbol) (ns : List ℕ) (same : le
 
   pub more-added : (k n : ℕ) (s : Symbol) (of : List ℕ) → k < length symbols → s ≡ get_or symbols k s → of ≡ pointwise_sum ns (take k (map (share_of_bucket h i) symbols)) → n ≡ share_of_bucket h i s
       → set of k (get_or of k 0 + n) ≡ pointwise_sum ns (take (k + 1) (map (share_of_bucket h i) symbols))
-  more-added k n s of below is added share =
-      let parts = map (share_of_bucket h i) symbols in
-      let long : length parts ≡ length symbols = length-map symbols (share_of_bucket h i) in
-      let old : get_or of k 0 ≡ get_or ns k 0 = ap (λ l. get_or l k 0) added ∙ pointwise-at ns parts k in
-      let part : get_or parts k 0 ≡ share_of_bucket h i s = get_or-map (share_of_bucket h i) symbols k s 0 below ∙ ap (share_of_bucket h i) (sym is) in
-      let total : get_or of k 0 + n ≡ get_or ns k 0 + get_or parts k 0 = omega (arith, old, part, share) in
-      ap (λ l. set l k (get_or of k 0 + n)) added
-      ∙ pointwise-set ns parts k (get_or of k 0 + n) (omega (arith, long, same)) (omega (arith, long, below)) total
-      ∙ ap (λ m. pointwise_sum ns (take m parts)) (sym (add-one k))
+  more-added k n s of below is added share = grind (arith, length-map, pointwise-at, get_or-map, pointwise-set)
 
   -- the walk may stop at a symbol that ends above the bucket
   pub ended-added : (k : ℕ) (s : Symbol) → k < length symbols → s ≡ get_or symbols k s → bucket_begin h (i + 1) < s.end * length h.counters
@@ -52,11 +44,7 @@ module _ (h : Hist) (i : ℕ) (symbols : List Symbol) (ns : List ℕ) (same : le
       share-above h i (get_or symbols j d) (ascending.each j d within) range (omega (arith, product, above)))
 
 pub fits-more : (h : Hist) (i k n : ℕ) (s : Symbol) (parts ns of : List ℕ) (most : ℕ) → k < length ns → of ≡ pointwise_sum ns (take k parts) → n ≡ share_of_bucket h i s → sum ns + 1000000 * get_or h.counters i 0 < most → get_or of k 0 + n < most
-fits-more h i k n s parts ns of most below added share fits =
-    let old : get_or of k 0 ≡ get_or ns k 0 = ap (λ l. get_or l k 0) added ∙ pointwise-at ns parts k in
-    let one = get_or-le-sum_by (λ (n : ℕ). n) ns k 0 below in
-    let part = share-within h i s in
-    omega (arith, old, one, part, share, fits)
+fits-more h i k n s parts ns of most below added share fits = grind (arith, pointwise-at, get_or-le-sum_by, share-within)
 
 pub ended-more : (symbols : List Symbol) (k n place : ℕ) (s : Symbol) → k < length symbols → s ≡ get_or symbols k s → HaveEnded symbols k n place → s.end * n ≤ place → HaveEnded symbols (k + 1) n place
 ended-more symbols k n place s below is ended here =
@@ -68,62 +56,37 @@ ended-later symbols k n place later rise ended j d below = omega (arith, ended j
 
 -- ---- one histogram
 
-pub hist-begun : (h : Hist) (symbols : List Symbol) (k : ℕ) → All (λ (s : Symbol). s.end ≤ h.low) (take k symbols) → HaveEnded symbols k (length h.counters) (bucket_begin h 0)
-hist-begun h symbols k ended j d below =
-    let product = mul-le-mul_right (length h.counters) (ended j d below) in
-    omega (arith, product)
-
 pub hist-ended : (h : Hist) (symbols : List Symbol) (k n : ℕ) → h.low < h.high → 0 < length h.counters → n ≡ length h.counters → HaveEnded symbols k (length h.counters) (bucket_begin h n) → All (λ (s : Symbol). s.end ≤ h.high) (take k symbols)
-hist-ended h symbols k n range some is ended j d below =
-    let place : h.high ≡ h.low + (h.high - h.low) = omega arith in
-    let product : h.high * length h.counters ≡ (h.low + (h.high - h.low)) * length h.counters = ap (λ x. x * length h.counters) place in
-    let begin : bucket_begin h n ≡ bucket_begin h (length h.counters) = ap (bucket_begin h) is in
-    let least : length h.counters * (get_or (take k symbols) j d).end ≤ length h.counters * h.high = omega (arith, product, begin, ended j d below) in
-    le_of_mul-le-mul_left least some
+hist-ended h symbols k n range some is ended j d below = grind (arith, le_of_mul-le-mul_left)
 
 pub bucket-fits : (h : Hist) (i : ℕ) (symbols : List Symbol) (ns of : List ℕ) (most : ℕ) → h.low < h.high → IsAscending symbols → i < length h.counters → of ≡ pointwise_sum ns (map (share_of_buckets h i) symbols)
     → sum ns + 1000000 * sum h.counters < most → sum of + 1000000 * get_or h.counters i 0 < most
-bucket-fits h i symbols ns of most range ascending below added fits =
-    let total : sum of ≡ sum ns + sum (map (share_of_buckets h i) symbols) = ap sum added ∙ sum-pointwise ns (map (share_of_buckets h i) symbols) in
-    let shares = sum-map (share_of_buckets h i) symbols in
-    let front = buckets-within h i symbols ascending (omega (arith, below)) in
-    let counts = sum_by_more_le (λ (n : ℕ). n) h.counters i 0 below in
-    omega (arith, total, shares, front, counts, fits)
+bucket-fits h i symbols ns of most range ascending below added fits = grind (arith, sum-pointwise, sum-map, buckets-within, sum_by_more_le)
 
 -- ---- all histograms
 
 pub at-place : (hists : List Hist) (k : ℕ) (h : Hist) → slice_get hists k ≡ Some h → h ≡ get_or hists k h
-at-place hists k h at =
-    let same : Some h ≡ Some (get_or hists k h) = sym at ∙ slice_get-get_or hists k h (slice_get_within hists k h at) in
-    cc
+at-place hists k h at = grind (arith, slice_get-get_or, slice_get_within)
 
 pub hist-few : (hists : List Hist) (k most : ℕ) (h : Hist) → slice_get hists k ≡ Some h → sum_by (λ (h : Hist). length h.counters) hists < most → length h.counters < most
 hist-few hists k most h at few =
-    let one = get_or-le-sum_by (λ (h : Hist). length h.counters) hists k h (slice_get_within hists k h at) in
     let same : length h.counters ≡ length (get_or hists k h).counters = ap (λ (h : Hist). length h.counters) (at-place hists k h at) in
-    omega (arith, one, same, few)
+    omega (arith, get_or-le-sum_by (λ (h : Hist). length h.counters) hists k h (slice_get_within hists k h at), same, few)
 
 pub hist-fits : (hists : List Hist) (k : ℕ) (h : Hist) (symbols : List Symbol) (of : List ℕ) → IsAscending symbols → slice_get hists k ≡ Some h → of ≡ map (share_of (take k hists)) symbols → sum of + 1000000 * sum h.counters ≤ 1000000 * samples_of hists
 hist-fits hists k h symbols of ascending at added =
     let below = slice_get_within hists k h at in
     let total : sum of ≡ sum_by (share_of (take k hists)) symbols = ap sum added ∙ sum-map (share_of (take k hists)) symbols in
-    let front = hists-within (take k hists) symbols ascending in
-    let counts = sum_by_more_le (λ (h : Hist). sum h.counters) hists k h below in
     let same : sum h.counters ≡ sum (get_or hists k h).counters = ap (λ (h : Hist). sum h.counters) (at-place hists k h at) in
-    omega (arith, total, front, counts, same)
+    omega (arith, total, hists-within (take k hists) symbols ascending, sum_by_more_le (λ (h : Hist). sum h.counters) hists k h below, same)
 
 -- the shares of one histogram more
 pub hist-added : (hists : List Hist) (k : ℕ) (h : Hist) (symbols : List Symbol) (of new : List ℕ) → slice_get hists k ≡ Some h → of ≡ map (share_of (take k hists)) symbols → new ≡ pointwise_sum of (map (share_in_hist h) symbols) → new ≡ map (share_of (take (k + 1) hists)) symbols
-hist-added hists k h symbols of new at added more =
-    more
-    ∙ ap (λ l. pointwise_sum l (map (share_in_hist h) symbols)) added
-    ∙ maps-added (share_of (take k hists)) (share_in_hist h) (share_of (take (k + 1) hists)) symbols (λ s. hists-more hists k h s (slice_get_within hists k h at) (at-place hists k h at))
+hist-added hists k h symbols of new at added more = grind (arith, maps-added, hists-more, slice_get_within, at-place)
 
 -- the symbols before the next histogram
 pub hist-passed : (hists : List Hist) (symbols : List Symbol) (i j k : ℕ) (h next : Hist) → IsApart hists → i < j → slice_get hists i ≡ Some h → slice_get hists j ≡ Some next → All (λ (s : Symbol). s.end ≤ h.high) (take k symbols) → All (λ (s : Symbol). s.end ≤ next.low) (take k symbols)
-hist-passed hists symbols i j k h next apart less at at' ended m d below =
-    let rise = hists-apart hists i j h next apart less at at' in
-    omega (arith, ended m d below, rise)
+hist-passed hists symbols i j k h next apart less at at' ended m d below = grind (arith, hists-apart)
 
 -- the whole of a vector is written back
 pub written-back : (new items : List ℕ) (n : ℕ) → length new ≡ n → take n (new ++ drop (length new) items) ≡ new

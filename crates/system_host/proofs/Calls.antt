@@ -3,7 +3,7 @@ use Rattle.std.proofs.Common.{◌≡◌, ℕ, ◌<◌, ◌≤◌, Bool, true, fa
 use Rattle.std.specs.Prelude.{◌==◌, option_map, is_some, IfSome, if◌then◌else◌, bytes_eq, ⊤}
 use Rattle.std.proofs.lemmas.List.{append-nil}
 use Rattle.host_port.specs.declared.host.Failed.{Failed}
-use Rattle.host_port.specs.Act.{Create, Write, Disk, File, disk_after, files_with, with_file, with_more, next_count}
+use Rattle.host_port.specs.Act.{Create, Write, Disk, File, disk_after, files_with, with_more, next_count}
 use Rattle.host_port.specs.Outside.{Becomes}
 use Rattle.host_port.specs.Host.{Came, Moves, Creates, Takes}
 use Rattle.host_port.proofs.Laws.{Did-nothing, Becomes-same}
@@ -40,8 +40,7 @@ grown : (disk : Option Disk) (old new : Option (List ℕ)) (bytes : List ℕ) �
 grown None old new bytes same writes told = tt
 grown (Some d) None new bytes same writes told = absurd cc
 grown (Some d) (Some held) None bytes same writes told = absurd cc
-grown (Some d) (Some held) (Some now) bytes same writes told =
-    ap (λ (files : List File). Some (record { files = files; writing = d.writing })) (written-twice held bytes d.writing d.files ∙ ap (λ (v : List ℕ). files_with v d.writing d.files) (sym told))
+grown (Some d) (Some held) (Some now) bytes same writes told = grind (arith, written-twice)
 
 still_writes : (disk : Option Disk) (old new : Option (List ℕ)) → is_some new ≡ is_some old → writes_with new disk ≡ writes_with old disk
 still_writes None old new same = same
@@ -146,23 +145,11 @@ moves_none before after s input faults last failed told =
 
 -- ---- a call that creates a file
 
-nothing_held : (held : List ℕ) (writing : Option (List ℕ)) (files : List File) → is_some writing ≡ false → files_with held writing files ≡ files
-nothing_held held None files none = refl
-nothing_held held (Some name) files none = absurd cc
-
-not_writing : (output : Option (List ℕ)) (d : Disk) → is_some (disk_with output d).writing ≡ false → (disk_with output d).files ≡ d.files
-not_writing None d none = refl
-not_writing (Some held) d none = nothing_held held d.writing d.files none
-
 created : (name : List ℕ) (disk now : Option Disk) (output : Option (List ℕ)) (bytes : List ℕ) → writes_with output disk ≡ false → Becomes (disk_after (Create name ∷ [])) disk now → IfSome now (λ _. bytes ≡ [])
     → Becomes (disk_after (Create name ∷ [])) (option_map (disk_with output) disk) (option_map (disk_with (Some bytes)) now)
 created name disk None output bytes none is empty = tt
 created name None (Some n) output bytes none is empty = absurd cc
-created name (Some d) (Some n) output bytes none is empty =
-    let files : with_file name [] (disk_with output d).files ≡ with_more name bytes (with_file name [] d.files) =
-    ap (with_file name []) (not_writing output d none) ∙ sym (with_more-none name (with_file name [] d.files)) ∙ ap (λ (v : List ℕ). with_more name v (with_file name [] d.files)) (sym empty) in
-    subst (λ (o : Option Disk). Becomes (disk_after (Create name ∷ [])) (Some (disk_with output d)) (option_map (disk_with (Some bytes)) o)) is
-    (ap (λ (fs : List File). Some (record { files = fs; writing = Some name })) files)
+created name (Some d) (Some n) output bytes none is empty = grind (arith, with_more-none)
 
 begins : (name : List ℕ) (disk now : Option Disk) (bytes : List ℕ) → Becomes (disk_after (Create name ∷ [])) disk now → writes_with (Some bytes) now ≡ true
 begins name disk None bytes is = refl

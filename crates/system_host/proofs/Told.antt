@@ -1,5 +1,5 @@
 -- What calls on an input and an output do to bytes that are told.
-use Rattle.std.proofs.Common.{◌≡◌, ℕ, ◌+◌, ◌<◌, ◌≤◌, Bool, true, List, [], ◌∷◌, ◌++◌, length, take, drop, Option, Some, None, refl, sym, ap, ◌∙◌, arith}
+use Rattle.std.proofs.Common.{◌≡◌, ℕ, ◌<◌, ◌≤◌, Bool, true, List, [], ◌∷◌, ◌++◌, length, take, drop, Option, Some, None, refl, ap, ◌∙◌, arith}
 use Rattle.std.specs.Prelude.{option_map, is_some, IfSome, ⊤}
 use Rattle.std.proofs.lemmas.List.{take_at, drop_at, length-take-le, length-append}
 use Rattle.std.specs.Io.KnownBytes.{Appends, Keeps}
@@ -61,14 +61,7 @@ no_bytes [] back e = refl
 no_bytes (b ∷ front) back e = absurd cc
 
 pub came : (buf rest left : List ℕ) (n : ℕ) → n ≤ length buf → 0 < length buf → rest ≡ take n buf ++ left → (n ≡ 0 → 0 < length buf → left ≡ []) → Came n rest buf
-came buf rest left n fits room is ended =
-    let len = length-take-le n buf fits in
-    let all : length rest ≡ n + length left = ap length is ∙ length-append (take n buf) left ∙ ap (λ (k : ℕ). k + length left) len in
-    record {
-      available = omega (arith, all);
-      bytes = sym (ap (take n) is ∙ take_at (take n buf) left n len);
-      ended = (λ none. is ∙ ap (λ (k : ℕ). take k buf ++ left) none ∙ ended none room, λ none. sym len ∙ ap length (no_bytes (take n buf) left (sym is ∙ none)));
-    }
+came buf rest left n fits room is ended = grind (arith, length-take-le, length-append, take_at)
 
 pub left_of : (buf rest left : List ℕ) (n : ℕ) → n ≤ length buf → rest ≡ take n buf ++ left → drop n rest ≡ left
 left_of buf rest left n fits is = ap (drop n) is ∙ drop_at (take n buf) left n (length-take-le n buf fits)

@@ -1,7 +1,6 @@
 -- How many bytes a column or a number takes.
 use Rattle.std.proofs.Common.{◌≡◌, ℕ, ◌+◌, ◌-◌, ◌*◌, ◌/◌, ◌^◌, ◌%◌, ◌<◌, ◌≤◌, max, ◌∷◌, ◌++◌, List, length, decimal, ap, refl, arith, length-append}
 use Rattle.std.proofs.lemmas.List.{length-replicate}
-use Rattle.std.proofs.Math.Nat.{div-le_self}
 use Rattle.std.proofs.lemmas.Fmt.{length-decimal-le_wide}
 use Rattle.text_cols.specs.Columns.{left_of, right_of, spaces, hex8_of, hundredths_of, rounded_quotient, two_digits}
 
@@ -11,14 +10,11 @@ length-spaces n = length-replicate n 32
 -- a column takes its width, or what the text needs
 pub length-left_of : (text : List ℕ) (width : ℕ) → length (left_of text width) ≡ max width (length text)
 unfolding left_of
-length-left_of text width =
-    omega (arith, length-append text (spaces (width - length text)), length-spaces (width - length text))
+length-left_of text width = grind (arith, length-append, length-spaces)
 
 pub length-right_of : (text : List ℕ) (width : ℕ) → length (right_of text width) ≡ max width (length text + 1)
 unfolding right_of
-length-right_of text width =
-    let n = max (width - length text) 1 in
-    omega (arith, length-append (spaces (max (width - length text) 1)) text, length-spaces (max (width - length text) 1))
+length-right_of text width = grind (arith, length-append, length-spaces)
 
 pub length-hex8_of : (n : ℕ) → length (hex8_of n) ≡ 8
 unfolding hex8_of
@@ -45,8 +41,7 @@ length-hundredths_of num den = length-append (decimal (rounded_quotient num den 
 -- what stands at the right of its column: spaces, the whole ones, a point and two digits
 pub right_of-hundredths : (num den width : ℕ) → right_of (hundredths_of num den) width ≡ spaces (max (width - (length (decimal (rounded_quotient num den / 100)) + 3)) 1) ++ (decimal (rounded_quotient num den / 100) ++ 46 ∷ two_digits (rounded_quotient num den % 100))
 unfolding right_of hundredths_of
-right_of-hundredths num den width =
-    ap (λ (n : ℕ). spaces (max (width - n) 1) ++ hundredths_of num den) (length-hundredths_of num den)
+right_of-hundredths num den width = search (max, length-hundredths_of)
 
 -- two numbers with a sign between them at the right of their column
 pub right_of-pair : (first second : List ℕ) (sign width : ℕ) → right_of (first ++ sign ∷ second) width ≡ spaces (max (width - (length first + length second + 1)) 1) ++ (first ++ sign ∷ second)
@@ -59,9 +54,7 @@ right_of-pair first second sign width =
 
 -- what a quotient that meets the conditions of `hundredths` takes at most
 pub length-hundredths_of-le : (num den : ℕ) → 200 * num + den < 2 ^ 128 → length (hundredths_of num den) ≤ 42
-length-hundredths_of-le num den h =
-    let small : rounded_quotient num den / 100 < 2 ^ 128 = omega (arith, div-le_self (200 * num + den) (2 * den)) in
-    omega (arith, length-hundredths_of num den, length-decimal_128 (rounded_quotient num den / 100) small)
+length-hundredths_of-le num den h = grind (arith, length-hundredths_of, length-decimal_128)
 
 -- what the calls of a line ask of its room
 pub ruleset lengths = (length-left_of, length-right_of, length-hex8_of, length-decimal_16, length-decimal_32, length-decimal_64, length-decimal_128, length-hundredths_of-le)

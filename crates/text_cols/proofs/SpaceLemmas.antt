@@ -17,6 +17,4 @@ take-put_mid_front a k xs ys n ha hn =
 
 -- the spaces among them
 pub put_spaces_front : (a k : ℕ) (xs ys : List ℕ) (n m : ℕ) → a ≤ length xs → n ≤ m → ys ≡ spaces m → length ys ≡ m → take (a + n) (put_mid a k xs ys) ≡ take a xs ++ spaces n
-put_spaces_front a k xs ys n m ha hn e len =
-    take-put_mid_front a k xs ys n ha (omega arith)
-    ∙ ap (λ (s : List ℕ). take a xs ++ s) (ap (take n) e ∙ take-replicate n m 32 hn)
+put_spaces_front a k xs ys n m ha hn e len = grind (arith, take-put_mid_front, take-replicate)

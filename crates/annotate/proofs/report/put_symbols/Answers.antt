@@ -17,5 +17,4 @@ loop-symbol-preserved g c =
     adds_more Output (symbol_listing c.args.segments.now c.args.bytes.now c.args.profile.now) c.args.symbols.now c.loop-symbol.symbol-index c.symbol-item.result _ _ _ _ _ _ _ _ c.loop-symbol-test.true c.symbol-item.is c.loop-symbol.invariant c.in_ok-put_symbol.ensures
 
 pub returns : goal.returns
-returns g c =
-    adds_all Output (symbol_listing c.args.segments.now c.args.bytes.now c.args.profile.now) c.args.symbols.now c.loop-symbol.symbol-index _ _ _ _ _ c.loop-symbol-test.false c.loop-symbol.invariant
+returns g c = search adds_all

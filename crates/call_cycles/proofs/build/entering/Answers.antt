@@ -8,17 +8,7 @@ use Rattle.call_cycles.proofs.build.entering.Goals as goal
 use Rattle.call_cycles.proofs.build.entering.Goals.{then-c-d, else-c-d}
 
 pub overflow_add-index_mut : goal.overflow_add-index_mut
-overflow_add-index_mut c =
-    let g = headless_graph c.args.component.now c.args.arcs.now in
-    let d = target_of g c.loop-a.a-index in
-    let few = c.requires.few in
-    let fits = arcs_fit c.args.component.now c.args.arcs.now d c.loop-a.a-index c.loop-a-test.true in
-    let low = c.requires.components (get_or c.args.arcs.now c.loop-a.a-index no_arc).callee (c.requires.within c.loop-a.a-index c.loop-a-test.true).1 in
-    let at = c.loop-a.invariant.each d low in
-    let len = c.loop-a.invariant.len in
-    let inside : d < length c.loop-a.calls.items = omega arith in
-    let read : c.index_mut.result.now ≡ slice_index c.loop-a.calls.items d = c.index_mut.ensures.value ∙ get_or_default_zero _ _ _ inside in
-    omega arith
+overflow_add-index_mut c = grind (arith, arcs_fit, get_or_default_zero)
 
 pub loop-a-preserved : goal.loop-a-preserved
 loop-a-preserved c =

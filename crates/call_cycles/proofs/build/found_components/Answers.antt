@@ -19,7 +19,6 @@ levels-requires c =
     let len : length c.deref-4.result.now ≡ n = ap length same ∙ least.len in
     let led : AreLeaders n arcs leaders = are_leaders n arcs ranks leaders c.in_ok-ranking.ensures.ranks least in
     let first : AreFirst n arcs c.deref-3.result.now = subst (AreFirst n arcs) (sym c.deref-3.ensures.value) c.in_ok-first.ensures.first in
-    let fits = c.ranges.functions.fits in
     record {
       functions = omega arith;
       within = subst (λ (k : ℕ). AreWithin k arcs) (sym len) c.requires.within;

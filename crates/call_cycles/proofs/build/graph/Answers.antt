@@ -42,11 +42,7 @@ pub returns-clause-self_calls : goal.returns-clause-self_calls
 returns-clause-self_calls c = IfOk-weaker c.graph_of.result _ _ (λ g is. is ∙ c.in_ok-found.ensures.calls.own) c.graph_of.ensures.self_calls
 
 pub returns-clause-few : goal.returns-clause-few
-returns-clause-few c =
-    let arcs = made_function_arcs c.args.profile.now.arcs c.args.symbols.now c.in_ok-found.found.between.items c.in_ok-found.found.own.items c.in_ok-found.ensures.calls c.merged-arcs.result.items c.merged-arcs.ensures.merged in
-    let few = made_few c.args.profile.now.arcs c.args.symbols.now c.merged-arcs.result.items c.symbol_count-functions.result c.in_ok-found.found.own.items arcs c.symbol_count-functions.ensures c.in_ok-found.ensures.calls.own in
-    let total = c.in_ok-found.ensures.all in
-    IfOk-weaker c.graph_of.result _ _ (λ g is. omega arith) c.graph_of.ensures.calls
+returns-clause-few c = grind (arith, few)
 
 pub returns-clause-value : goal.returns-clause-value
 returns-clause-value c =

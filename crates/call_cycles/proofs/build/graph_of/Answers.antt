@@ -24,22 +24,15 @@ entering-requires-clause-within c =
 pub entering-requires-clause-components : goal.entering-requires-clause-components
 entering-requires-clause-components c =
     let are = c.in_ok-found.ensures.components [] in
-    let len : c.len.result ≡ length c.in_ok-found.found.heads.items = c.len.ensures ∙ c.in_ok-found.found.heads.ok.0 in
-    let n : length c.deref-2.result.now ≡ c.args.functions = ap length c.deref-2.ensures.value ∙ are.each in
     let inside : (f : ℕ) → f < length c.deref-2.result.now → slice_index c.in_ok-found.found.component.items f < c.len.result = λ f below. (let w = are.within f (omega arith) in omega arith) in
     subst (λ (xs : List ℕ). (f : ℕ) → f < length c.deref-2.result.now → slice_index xs f < c.len.result) (sym c.deref-2.ensures.value) inside
 
 pub member_counts-requires-clause-functions : goal.member_counts-requires-clause-functions
-member_counts-requires-clause-functions c =
-    let are = c.in_ok-found.ensures.components [] in
-    let n : length c.deref-4.result.now ≡ c.args.functions = ap length c.deref-4.ensures.value ∙ are.each in
-    omega arith
+member_counts-requires-clause-functions c = omega (arith, c.in_ok-found.ensures.components [])
 
 pub member_counts-requires-clause-within : goal.member_counts-requires-clause-within
 member_counts-requires-clause-within c =
     let are = c.in_ok-found.ensures.components [] in
-    let len : c.len-2.result ≡ length c.in_ok-found.found.heads.items = c.len-2.ensures ∙ c.in_ok-found.found.heads.ok.0 in
-    let n : length c.deref-4.result.now ≡ c.args.functions = ap length c.deref-4.ensures.value ∙ are.each in
     let inside : (f : ℕ) → f < length c.deref-4.result.now → slice_index c.in_ok-found.found.component.items f < c.len-2.result = λ f below. (let w = are.within f (omega arith) in omega arith) in
     subst (λ (xs : List ℕ). (f : ℕ) → f < length c.deref-4.result.now → slice_index xs f < c.len-2.result) (sym c.deref-4.ensures.value) inside
 

@@ -1,18 +1,10 @@
-use Rattle.std.proofs.Common.{◌<◌, length, get_or, take, ap, ◌∙◌, arith}
-use Rattle.call_cycles.specs.declared.graphs.FunArc.{FunArc}
+use Rattle.std.proofs.Common.{◌<◌, length, get_or, take, ◌∙◌, arith}
 use Rattle.call_cycles.specs.Graph.{no_arc}
 use Rattle.call_cycles.proofs.MergeLemmas.{front_calls_fit, merged_more}
 use Rattle.call_cycles.proofs.calls.merge_neighbours.Goals as goal
 
 pub merge_arc-n-requires-clause-fits : goal.merge_arc-n-requires-clause-fits
-merge_arc-n-requires-clause-fits c = λ f g.
-    let i = c.loop-i.i in
-    let below : i < length c.args.arcs.now = omega arith in
-    let fit = front_calls_fit c.args.arcs.now i f g below in
-    let same = c.loop-i.invariant.merged.calls f g in
-    let at = ap (λ (a : FunArc). a.count) (c.loop-i.invariant.rest i (omega arith)) in
-    let few = c.requires.few in
-    omega arith
+merge_arc-n-requires-clause-fits c = grind (arith, front_calls_fit)
 
 pub loop-i-preserved : goal.loop-i-preserved
 loop-i-preserved c =

@@ -1,22 +1,9 @@
-use Rattle.std.proofs.Common.{◌≡◌, List, length, take, ap, sym, subst, ◌∙◌, arith}
-use Rattle.std.specs.List.Sorted.{IsSorted}
-use Rattle.std.proofs.lemmas.List.Sorted.{sum_by-IsPermutation}
+use Rattle.std.proofs.Common.{◌≡◌, List, length, take, ap, sym, subst, ◌∙◌}
 use Rattle.call_cycles.specs.declared.graphs.FunArc.{FunArc}
-use Rattle.call_cycles.specs.Calls.{by_ends, count_of}
 use Rattle.call_cycles.specs.Merging.{AreMerged}
 use Rattle.call_cycles.proofs.ListLemmas.{whole_back}
 use Rattle.call_cycles.proofs.MergeLemmas.{all_merged}
 use Rattle.call_cycles.proofs.calls.merged.Goals as goal
-
-pub merge_neighbours-count-requires-clause-sorted : goal.merge_neighbours-count-requires-clause-sorted
-merge_neighbours-count-requires-clause-sorted c = subst (IsSorted by_ends) (sym c.deref_mut.ensures.value) c.in_order-sorted.ensures.sorted
-
-pub merge_neighbours-count-requires-clause-few : goal.merge_neighbours-count-requires-clause-few
-merge_neighbours-count-requires-clause-few c =
-    let few = c.requires.few in
-    let same = ap count_of c.deref_mut.ensures.value in
-    let moved = sum_by-IsPermutation (λ (a : FunArc). a.count) _ _ c.in_order-sorted.ensures.permutation in
-    omega arith
 
 pub returns : goal.returns
 returns c =

@@ -30,7 +30,6 @@ returns c =
     let i = c.args.i in
     let callee = callee_at arcs i in
     let to = (c.requires.within i c.requires.arc).1 in
-    let len = c.requires.pass.ranks in
     let placed : c.index-place.result.now ≡ place_in p callee = get_or_read p.places callee _ to c.index-place.ensures 0 in
     let inside : callee < length p.ranks = omega arith in
     let ranked : c.index.result.now ≡ rank_in p callee = get_or_read p.ranks callee _ inside c.index.ensures 0 in

@@ -1,4 +1,4 @@
-use Rattle.std.proofs.Common.{◌≡◌, ◌≢◌, ◌-◌, ◌<◌, length, get_or, ap, sym, ◌∙◌, subst, arith}
+use Rattle.std.proofs.Common.{◌≡◌, ◌≢◌, ◌-◌, ◌<◌, get_or, ap, sym, ◌∙◌, subst, arith}
 use Rattle.std.specs.Prelude.{filter, nat_le}
 use Rattle.std.specs.List.{AllPairs}
 use Rattle.std.proofs.lemmas.Bool.{eqb-false}
@@ -10,7 +10,6 @@ pub loop-parts-preserved : goal.loop-parts-preserved
 loop-parts-preserved c =
     let old = c.loop-parts.parts.items in
     let k = c.loop-parts.parts.len - 1 in
-    let len : c.loop-parts.parts.len ≡ length old = c.loop-parts.parts.ok.0 in
     let some : c.loop-parts.parts.len ≢ 0 = eqb-false _ _ (sym c.is_empty.ensures ∙ c.loop-parts-test.true) in
     let at : c.len.result - 1 ≡ k = ap (λ x. x - 1) c.len.ensures in
     let read : c.index.result.now ≡ get_or old k 0 = c.index.ensures ∙ ap (λ x. get_or old x c.index.result.now) at ∙ get_or_default old k _ 0 (omega arith) in
@@ -23,7 +22,6 @@ pub returns-else-index-place : goal.returns-else-index-place
 returns-else-index-place c =
     let old = c.loop-parts.parts.items in
     let k = c.loop-parts.parts.len - 1 in
-    let len : c.loop-parts.parts.len ≡ length old = c.loop-parts.parts.ok.0 in
     let some : c.loop-parts.parts.len ≢ 0 = eqb-false _ _ (sym c.is_empty.ensures ∙ c.loop-parts-test.true) in
     let at : c.len.result - 1 ≡ k = ap (λ x. x - 1) c.len.ensures in
     let read : c.index.result.now ≡ get_or old k 0 = c.index.ensures ∙ ap (λ x. get_or old x c.index.result.now) at ∙ get_or_default old k _ 0 (omega arith) in

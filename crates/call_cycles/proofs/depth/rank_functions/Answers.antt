@@ -10,7 +10,6 @@ run-requires-clause-pass c =
     let arcs = c.args.arcs.now in
     let f = c.loop-f.f in
     let p : PassValue = pass_of c.loop-f.pass in
-    let len = c.loop-f.invariant.pass.places in
     let low : f < length p.places = omega arith in
     let new : c.index.result.now ≡ place_in p f = get_or_read p.places f _ low c.index.ensures 0 in
     let pass = subst (IsPass n arcs) (sym c.in_ok-see.ensures.seen) (started n arcs p c.loop-f.invariant.pass c.loop-f.invariant.ended f (omega arith) (sym new ∙ c.if-index-eq0.true)) in

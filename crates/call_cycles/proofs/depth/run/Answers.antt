@@ -1,27 +1,10 @@
 use Rattle.std.proofs.Common.{◌≡◌, ◌<◌, ◌-◌, ◌&&◌, ℕ, List, length, Some, slice_index, sym, ap, ◌∙◌, subst, arith}
 use Rattle.std.specs.Prelude.{◌==◌, nat_lt, slice_get}
-use Rattle.std.proofs.lemmas.Bool.{and_parts, eqb-true}
 use Rattle.std.proofs.lemmas.List.{get_or_read}
-use Rattle.call_cycles.specs.Passes.{PassValue, IsNext, EndsIn, pass_of, caller_at}
-use Rattle.call_cycles.proofs.PassLemmas.{last_of, last_call_within, can_leave, left_next, all_followed}
+use Rattle.call_cycles.specs.Passes.{PassValue, IsNext, pass_of, caller_at}
+use Rattle.call_cycles.proofs.PassLemmas.{last_of, last_call_within, left_next, all_followed}
 use Rattle.call_cycles.proofs.depth.run.Goals as goal
 use Rattle.call_cycles.proofs.depth.run.Goals.{In_ok-leave}
-
-pub follow-requires-clause-last : goal.follow-requires-clause-last
-follow-requires-clause-last c =
-    let calls = c.loop-f.pass.calls.items in
-    let last : slice_get calls (length calls - 1) ≡ Some c.in-Some.f = ap (λ (xs : List ℕ). slice_get xs (length xs - 1)) (sym c.deref.ensures.value) ∙ sym c.last.ensures.value ∙ sym c.in-Some.ensures in
-    let own = and_parts _ _ (sym c.is_arc_of.ensures ∙ c.if-is_arc_of.true) in
-    subst (EndsIn calls) (sym (eqb-true _ c.in-Some.f own.1)) (last_of calls c.in-Some.f last)
-
-pub leave-requires : goal.leave-requires
-leave-requires c =
-    let p : PassValue = pass_of c.loop-f.pass in
-    let calls = p.calls in
-    let last : slice_get calls (length calls - 1) ≡ Some c.in-Some.f = ap (λ (xs : List ℕ). slice_get xs (length xs - 1)) (sym c.deref.ensures.value) ∙ sym c.last.ensures.value ∙ sym c.in-Some.ensures in
-    record {
-      ready = can_leave (length c.args.pass.now.places.items) c.args.arcs.now p c.loop-f.invariant.pass c.requires.functions c.in-Some.f (last_of calls c.in-Some.f last);
-    }
 
 left_on : (c : In_ok-leave) → IsNext (length c.args.pass.now.places.items) c.args.arcs.now (pass_of c.loop-f.pass) (pass_of c.leave.new.pass)
 left_on c =
@@ -33,7 +16,6 @@ left_on c =
     let last : slice_get calls (length calls - 1) ≡ Some f = ap (λ (xs : List ℕ). slice_get xs (length xs - 1)) (sym c.deref.ensures.value) ∙ sym c.last.ensures.value ∙ sym c.in-Some.ensures in
     let ends = last_of calls f last in
     let low = last_call_within n arcs p c.loop-f.invariant.pass f ends in
-    let len = c.loop-f.invariant.pass.nexts in
     let inside : f < length p.next = omega arith in
     let next : c.index-i.result.now ≡ slice_index p.next f = get_or_read p.next f _ inside c.index-i.ensures 0 in
     let none = ap (λ (i : ℕ). nat_lt i (length arcs) && caller_at arcs i == f) (sym next) ∙ sym c.is_arc_of.ensures ∙ c.if-is_arc_of.false in
@@ -41,6 +23,4 @@ left_on c =
     subst (IsNext n arcs p) (sym c.in_ok-leave.ensures.left) (left_next n arcs p c.loop-f.invariant.pass f ends all)
 
 pub loop-f-preserved : goal.loop-f-preserved
-loop-f-preserved c =
-    let next = left_on c in
-    record { places = next.pass.places; pass = next.pass; seen = λ w some. next.seen w (c.loop-f.invariant.seen w some) }
+loop-f-preserved c = grind (arith, left_on)

@@ -10,7 +10,6 @@ loop-r-preserved c =
     let least = c.in_ok-least.least.items in
     let f : ℕ → ℕ = λ h. slice_index least (slice_index c.args.ranks.now h) in
     let k = c.loop-r.r-index in
-    let low = c.requires.within k (omega arith) in
     let len = c.in_ok-least.ensures.len in
     let read : c.index.result.now ≡ f k = get_or_read least (slice_index c.args.ranks.now k) _ (omega arith) c.index.ensures 0 in
     c.in_ok-push.ensures.items

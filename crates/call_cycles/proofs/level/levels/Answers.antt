@@ -35,7 +35,6 @@ loop-f-preserved c =
 pub returns : goal.returns
 returns c =
     let order = c.args.ranking.now.order.items in
-    let items : length c.deref-f-items.result.now ≡ length order = ap length c.deref-f-items.ensures.value in
     record {
       levels = all_levels (length c.args.leaders.now) c.args.arcs.now c.args.leaders.now c.args.ranking.now.ranks.items order c.requires.within c.requires.leaders c.requires.ranks c.requires.order c.loop-f.levels.items c.loop-f.f-index (omega arith) c.loop-f.invariant;
     }

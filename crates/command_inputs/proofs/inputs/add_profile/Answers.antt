@@ -1,9 +1,7 @@
-use Rattle.std.proofs.Common.{◌≡◌, ◌+◌, ◌-◌, ◌∙◌, sym, ap, subst, arith}
+use Rattle.std.proofs.Common.{◌+◌, ◌-◌, ◌∙◌, sym, ap, subst, arith}
 use Rattle.std.proofs.lemmas.Result.{err_from_is_err_and}
 use Rattle.gp_base.specs.declared.limits.TheConstants.{MAX_PROFILE_BYTES}
-use Rattle.gmon_data.specs.Content.{Content, content_of, empty_content}
-use Rattle.command_inputs.specs.Totals.{records_of}
-use Rattle.courses.specs.Answer.{contents_of}
+use Rattle.gmon_data.specs.Content.{Content, empty_content}
 use Rattle.gmon_data.specs.Sizes.{IsOfBytes}
 use Rattle.gmon_data.proofs.SizeLemmas.{within_limits}
 use Rattle.profile_sum.specs.Sum.{clash_of, sum_of}
@@ -66,21 +64,7 @@ returns-clause-adds g c = λ start below more next may later s.
     rw c.sum_fault.ensures (not_summed words start _ (word + 1) word c.args.left total more next c.in_ok-more.len c.in_ok-more.more may stands c.in-Err.refusal clash)
 
 pub returns-then-is_empty-clause-told : goal.returns-then-is_empty-clause-told
-returns-then-is_empty-clause-told g c =
-    let words = c.args.words.now in
-    let total = c.args.total.now in
-    let profile = c.in_ok-more.more in
-    let empty = c.is_empty.ensures c.if-is_empty.true in
-    let records = c.in_ok-more.ensures.records in
-    let sum : profile ≡ sum_of total profile = records.1 ∙ sym (first_sum records.0) ∙ ap (sum_of empty_content) (sym records.1) ∙ ap (λ (p : Content). sum_of p profile) (sym empty) in
-    read_weaker _ _ (λ files. profile ≡ content_of (records_of (contents_of words files c.args.word))) (λ files. profile ≡ sum_of total (content_of (records_of (contents_of words files c.args.word))))
-    (λ files is. sum ∙ ap (sum_of total) is) c.in_ok-more.ensures.told
+returns-then-is_empty-clause-told g c = grind (arith, first_sum)
 
 pub returns-in-Ok-clause-told : goal.returns-in-Ok-clause-told
-returns-in-Ok-clause-told g c =
-    let words = c.args.words.now in
-    let total = c.args.total.now in
-    let profile = c.in_ok-more.more in
-    let sum = rw c.replace-before.ensures.value at c.in-Ok.ensures.added in
-    read_weaker _ _ (λ files. profile ≡ content_of (records_of (contents_of words files c.args.word))) (λ files. c.in-Ok.sum ≡ sum_of total (content_of (records_of (contents_of words files c.args.word))))
-    (λ files is. sum ∙ ap (sum_of total) is) c.in_ok-more.ensures.told
+returns-in-Ok-clause-told g c = grind (arith, read_weaker)

@@ -2,7 +2,7 @@ use Rattle.std.proofs.Common.{◌≡◌, ℕ, ◌+◌, ◌-◌, ◌≤◌, List,
 use Rattle.std.proofs.lemmas.Result.{err_from_is_err_and}
 use Rattle.std.specs.List.{AllByRecursion}
 use Rattle.std.proofs.lemmas.List.{drop_more, drop_all, take_all, take_more}
-use Rattle.gmon_data.specs.Content.{Content, content_of}
+use Rattle.gmon_data.specs.Content.{content_of}
 use Rattle.profile_sum.specs.Sum.{sum_of}
 use Rattle.gp_base.specs.declared.limits.TheConstants.{MAX_PROFILE_BYTES}
 use Rattle.command_inputs.specs.Totals.{records_of, total_of}
@@ -10,23 +10,12 @@ use Rattle.courses.specs.Answer.{contents_of, profiles}
 use Rattle.gmon_data.specs.Sizes.{IsOfBytes}
 use Rattle.courses.specs.Standing.{Stands}
 use Rattle.command_words.specs.Words.{AreRising}
-use Rattle.gmon_data.proofs.SizeLemmas.{of_nothing}
 use Rattle.command_words.proofs.PlaceLemmas.{rising_drop}
-use Rattle.command_inputs.proofs.Summing.{all_behind, read_both, read_nothing, read_weaker, total_more}
+use Rattle.command_inputs.proofs.Summing.{all_behind, read_both, total_more}
 use Rattle.command_inputs.proofs.inputs.read_profiles.Goals as goal
 
 pub loop-i-init : goal.loop-i-init
-loop-i-init g c =
-    let words = c.args.words.now in
-    let gmons = c.args.gmons.now in
-    let host = g.H.Host.outside c.args.host.now in
-    record {
-      reads = λ start below next may all s. (below, all, subst (λ (t : Content). Stands words start host below [] (profiles gmons MAX_PROFILE_BYTES t next)) (sym c.new-total.ensures.content) s);
-      idle = c.requires.idle;
-      size = subst (λ (t : Content). IsOfBytes 0 t) (sym c.new-total.ensures.content) of_nothing;
-      limit = omega arith;
-      told = read_nothing host (λ files. c.new-total.result ≡ total_of (contents_of words files) (take 0 gmons)) (λ files. c.new-total.ensures.stands);
-    }
+loop-i-init g c = grind arith
 
 pub loop-i-preserved : goal.loop-i-preserved
 loop-i-preserved g c =
@@ -78,9 +67,4 @@ returns-clause-reads g c = λ start below next may all s.
     (before.0, subst (λ (ws : List ℕ). Stands words start (g.H.Host.outside c.loop-i.host) before.0 [] (profiles ws c.loop-i.left c.loop-i.total next)) none before.2)
 
 pub returns-clause-told : goal.returns-clause-told
-returns-clause-told g c =
-    let words = c.args.words.now in
-    let gmons = c.args.gmons.now in
-    let all : take c.loop-i.i gmons ≡ gmons = take_all c.loop-i.i gmons (omega (arith, c.loop-i-test.false)) in
-    read_weaker _ _ (λ files. c.loop-i.total ≡ total_of (contents_of words files) (take c.loop-i.i gmons)) (λ files. c.loop-i.total ≡ total_of (contents_of words files) gmons)
-    (λ files is. is ∙ ap (total_of (contents_of words files)) all) c.loop-i.invariant.told
+returns-clause-told g c = grind (arith, take_all)

@@ -1,7 +1,7 @@
 use Rattle.std.proofs.Common.{◌≡◌, ◌∙◌, ℕ, List, ap, subst, sym}
 use Rattle.std.specs.Prelude.{map, string_bytes, is_some}
 use Rattle.command_words.specs.Items.{words_at}
-use Rattle.courses.specs.Answer.{chosen_by, exact_report, print_reports, shown_reports}
+use Rattle.courses.specs.Answer.{chosen_by, exact_report, shown_reports}
 use Rattle.courses.specs.Standing.{Stands}
 use Rattle.command_reports.specs.Findings.{given_sources}
 use Rattle.command_reports.proofs.Reporting.{may_stop_reports, narrow, no_exact, of_findings}
@@ -9,14 +9,10 @@ use Rattle.courses.proofs.Standing.{no_memory}
 use Rattle.command_reports.proofs.report_text.print_reports.Goals as goal
 
 pub returns-in_default : goal.returns-in_default
-returns-in_default g c = λ words start below done next s.
-    let chosen = chosen_by c.args.words.now c.args.selection.now in
-    no_memory words start _ below done (print_reports chosen c.args.image.now c.args.total next) s (may_stop_reports chosen c.args.image.now c.args.total next)
+returns-in_default g c = search (no_memory, may_stop_reports)
 
 pub returns-in_default-chosen_findings : goal.returns-in_default-chosen_findings
-returns-in_default-chosen_findings g c = λ words start below done next s.
-    let chosen = chosen_by c.args.words.now c.args.selection.now in
-    no_memory words start _ below done (print_reports chosen c.args.image.now c.args.total next) s (may_stop_reports chosen c.args.image.now c.args.total next)
+returns-in_default-chosen_findings g c = search (no_memory, may_stop_reports)
 
 pub returns-in-Err : goal.returns-in-Err
 returns-in-Err g c = λ words start below done next s.

@@ -1,13 +1,10 @@
 use Rattle.std.proofs.Common.{ℕ, List, [], ◌∷◌, ◌++◌, take, get_or, sym, ◌∙◌, subst}
-use Rattle.std.proofs.lemmas.List.{take_more, take_all}
+use Rattle.std.proofs.lemmas.List.{take_more}
 use Rattle.std.specs.BTreeMap.{BTreeMap}
 use Rattle.elf32_syms.specs.declared.symbols.Entry.{Entry}
-use Rattle.elf32_syms.proofs.KeptLemmas.{HasFirst, first_none, first_stays, first_changes}
+use Rattle.elf32_syms.proofs.KeptLemmas.{HasFirst, first_stays, first_changes}
 use Rattle.elf32_syms.proofs.kept.first_at_each.Goals as goal
 use Rattle.elf32_syms.proofs.kept.first_at_each.Goals.{then-is_first+in_ok-insert, else-is_first}
-
-pub loop-entry-init : goal.loop-entry-init
-loop-entry-init c = first_none c.args.strings.now c.new-first.result c.new-first.ensures.empty
 
 pub loop-entry-preserved : goal.loop-entry-preserved
 loop-entry-preserved c =
@@ -24,8 +21,3 @@ loop-entry-preserved c =
       | else-is_first w ↦
           subst Q (sym w.first-is) (first_stays strings cs e c.loop-entry.first c.loop-entry.invariant (sym c.is_first.ensures ∙ w.if-is_first.false))
     ])
-
-pub returns : goal.returns
-returns c =
-    let P : List Entry → Type 0 = λ xs. HasFirst c.args.strings.now xs c.loop-entry.first in
-    subst P (take_all c.loop-entry.entry-index c.args.candidates.now c.loop-entry-test.false) c.loop-entry.invariant

@@ -1,4 +1,4 @@
-use Rattle.std.proofs.Common.{◌≡◌, ℕ, ◌+◌, ◌*◌, List, [], ◌∷◌, ◌++◌, map, sym, ap, ◌∙◌, arith}
+use Rattle.std.proofs.Common.{ℕ, ◌+◌, ◌*◌, List, [], ◌∷◌, ◌++◌, map, sym, ap, ◌∙◌, arith}
 use Rattle.std.specs.List.{range_with_len}
 use Rattle.std.proofs.lemmas.List.FromFn.{map-range_with_len_more}
 use Rattle.elf32_syms.specs.declared.sections.Section.{Section}
@@ -16,6 +16,4 @@ loop-index-preserved c =
 
 pub returns : goal.returns
 unfolding sections_of
-returns c =
-    let all : c.loop-index.index ≡ c.args.header.now.sections = omega (arith, c.from-index-end.ensures) in
-    rw (← c.requires.header, ← all) c.loop-index.invariant
+returns c = grind arith

@@ -1,4 +1,4 @@
-use Rattle.std.proofs.Common.{◌≡◌, ◌+◌, List, [], ◌∷◌, ◌++◌, map, sym, ap, ◌∙◌, arith, length, ◌/◌, cond, Bool}
+use Rattle.std.proofs.Common.{◌≡◌, ◌+◌, List, [], ◌∷◌, ◌++◌, map, sym, ap, ◌∙◌, arith, cond, Bool}
 use Rattle.std.specs.List.{range_with_len, filter}
 use Rattle.std.proofs.lemmas.List.{append-nil}
 use Rattle.std.proofs.lemmas.List.FromFn.{filter_of_map_range_with_len_more}
@@ -27,6 +27,4 @@ loop-number-preserved c =
 
 pub returns : goal.returns
 unfolding fitting_entries
-returns c =
-    let all : c.loop-number.number ≡ length c.args.table.now / 16 = omega arith in
-    rw (← all) c.loop-number.invariant
+returns c = grind arith

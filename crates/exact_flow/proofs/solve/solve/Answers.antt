@@ -41,12 +41,7 @@ returns-in-Ok-clause-sized c =
 
 pub returns-in-Ok-clause-value : goal.returns-in-Ok-clause-value
 unfolding exact_flow_in
-returns-in-Ok-clause-value c =
-    let g = c.args.graph.now in
-    let shares = c.args.shares.now.of in
-    let x = exact_in g shares in
-    let exact = exact_solution g shares c.holds.ensures.graph in
-    flow_is g shares c.holds.ensures.graph (made c.args.tables c.hand_all_on.new.children) c.requires.start.tables x exact (found c x exact)
+returns-in-Ok-clause-value c = search (exact_solution, flow_is, found)
 
 pub returns-in-Ok-clause-times : goal.returns-in-Ok-clause-times
 returns-in-Ok-clause-times c = λ x exact. flow_is c.args.graph.now c.args.shares.now.of c.holds.ensures.graph (made c.args.tables c.hand_all_on.new.children) c.requires.start.tables x exact (found c x exact)

@@ -1,4 +1,4 @@
-use Rattle.std.proofs.Common.{◌≤◌, length, map, string_bytes, refl, arith}
+use Rattle.std.proofs.Common.{map, string_bytes, refl, arith}
 use Rattle.std.specs.List.{enumerate_from}
 use Rattle.std.proofs.lemmas.Result.{err_from_is_err_and}
 use Rattle.host_port.specs.declared.side.Side.TheVariants.{Output}
@@ -50,8 +50,4 @@ loop-row-preserved g c =
     }
 
 pub returns : goal.returns
-returns g c =
-    let entries = entries_of_rows c.args.rows.now in
-    let all : length (enumerate_from 0 entries) ≤ c.loop-row.row-index = omega (arith, c.loop-row-test.false, numbered_long c.args.rows.now) in
-    let hidden = map string_bytes c.args.hidden.now in
-    put_shown c.args.total c.args.rate hidden entries _ _ _ _ _ (adds_all Output (shown_at c.args.total c.args.rate hidden entries) (enumerate_from 0 entries) c.loop-row.row-index _ _ _ _ _ all c.loop-row.invariant.lines)
+returns g c = search (numbered_long, string_bytes, put_shown, adds_all, shown_at)

@@ -6,10 +6,7 @@ use Rattle.flat_report.proofs.RowLemmas.{name_is, entry_is}
 use Rattle.flat_report.proofs.rows.row_of.Goals as goal
 
 pub overflow_add-result : goal.overflow_add-result
-overflow_add-result c =
-    let within = total_within (sources_of c.args.sources.now) c.args.f c.requires.of_one c.requires.inside in
-    let small = c.requires.small in
-    omega (arith, c.of-share.ensures.value, c.member_child.ensures)
+overflow_add-result c = grind (arith, total_within (sources_of c.args.sources.now) c.args.f c.requires.of_one c.requires.inside)
 
 pub bounds-calls-f : goal.bounds-calls-f
 bounds-calls-f c = omega (arith, list_long _ _ c.args.calls.now c.requires.calls, c.requires.inside)

@@ -1,10 +1,7 @@
-use Rattle.std.proofs.Common.{◌≡◌, List, sym, subst, rules}
-use Rattle.std.specs.List.{All}
+use Rattle.std.proofs.Common.{◌≡◌, rules}
 use Rattle.std.specs.Ordering.{is_lt}
 use Rattle.std.proofs.lemmas.List.Sorted.{answers_always}
-use Rattle.symbol_shares.specs.Shares.{attributed_of}
-use Rattle.flat_report.specs.Entries.{FlatEntry}
-use Rattle.flat_report.specs.Rows.{FitsIn, sources_of}
+use Rattle.flat_report.specs.Rows.{sources_of}
 use Rattle.flat_report.proofs.EntryOrder.{row_before, row_order, compared}
 use Rattle.flat_report.proofs.FunctionLemmas.{entries_fit}
 use Rattle.flat_report.proofs.RowLemmas.{rows_in_order}
@@ -17,6 +14,4 @@ returns-clause-entries c =
     c.sort_unstable_by.ensures.permutation (c.sort_unstable_by.ensures.sorted row_before row_order compares)
 
 pub returns-clause-fit : goal.returns-clause-fit
-returns-clause-fit c =
-    subst (λ (es : List FlatEntry). All (FitsIn (attributed_of c.args.sources.now.shares.now)) es) (sym (returns-clause-entries c))
-    (entries_fit (sources_of c.args.sources.now) c.requires.of_one c.requires.few)
+returns-clause-fit c = search (returns-clause-entries, entries_fit, rules)

@@ -19,9 +19,7 @@ use Rattle.folded.proofs.FoldLemmas.{few_at, first_follows, first_harts, first_r
 use Rattle.folded.proofs.folded_run.fold.Goals as goal
 
 pub returns-in_err-tracker-clause-stops : goal.returns-in_err-tracker-clause-stops
-returns-in_err-tracker-clause-stops g c =
-    let p = err_from_is_err_and c.from_residual.result c.from_residual.ensures.1 in
-    rw (p.1, p.2) (λ w st. stops_at_first c.args.run.now.machine w (g.H.Host.outside c.args.host.now))
+returns-in_err-tracker-clause-stops g c = grind (arith, stops_at_first)
 
 pub loop-tracker-init : goal.loop-tracker-init
 loop-tracker-init g c =
@@ -142,8 +140,7 @@ returns-in-Ended-clause-folds g c = λ w st.
     subst S c.as_slice-symbols.ensures (subst (λ (n : ℕ). Folds n (stacks_of symbols (run_samples m w)) c.in_ok-of-in-Ended.field-0) f.tracked.tree.functions told)
 
 pub returns-in-Ended-clause-functions : goal.returns-in-Ended-clause-functions
-returns-in-Ended-clause-functions g c =
-    c.in_ok-of-in-Ended.ensures.functions ∙ c.in_ok-follow.ensures.tracked.tree.functions ∙ ap (λ (x : List Symbol). length x) c.as_slice-symbols.ensures
+returns-in-Ended-clause-functions g c = grind arith
 
 pub returns-in_err-of-in-Ended-clause-stops : goal.returns-in_err-of-in-Ended-clause-stops
 returns-in_err-of-in-Ended-clause-stops g c =

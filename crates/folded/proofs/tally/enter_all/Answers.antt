@@ -3,8 +3,7 @@ use Rattle.folded.proofs.tally.enter_all.Goals as goal
 use Rattle.folded.proofs.tally.enter_all.Goals.{in-Some, in_default}
 
 pub enter-requires-clause-places : goal.enter-requires-clause-places
-enter-requires-clause-places c =
-    enters_few c.args.passed c.loop-i.i c.in-Some.f c.args.functions.now c.args.marks.now c.loop-i.marks c.loop-i-test.true c.requires.functions c.requires.few c.requires.places c.loop-i.invariant c.in-Some.is
+enter-requires-clause-places c = search enters_few
 
 pub loop-i-preserved : goal.loop-i-preserved
 loop-i-preserved c =

@@ -3,8 +3,7 @@ use Rattle.folded.proofs.tally.leave_all.Goals as goal
 use Rattle.folded.proofs.tally.leave_all.Goals.{in-Some, in_default}
 
 pub leave-requires-clause-places : goal.leave-requires-clause-places
-leave-requires-clause-places c =
-    leaves_some_place c.args.passed c.loop-i.i c.in-Some.f c.args.functions.now c.args.marks.now c.loop-i.marks c.loop-i-test.true c.requires.functions c.requires.places c.loop-i.invariant c.in-Some.is
+leave-requires-clause-places c = search leaves_some_place
 
 pub loop-i-preserved : goal.loop-i-preserved
 loop-i-preserved c =

@@ -3,7 +3,7 @@ use Rattle.std.specs.List.{All}
 use Rattle.std.proofs.lemmas.List.{get_or-map, length-map, with_items_is}
 use Rattle.folded.specs.Nodes.{any_stack, line_of_node, samples_of_lines}
 use Rattle.folded.specs.Paths.{functions_of}
-use Rattle.folded.specs.Stacks.{AreBelow, has_function}
+use Rattle.folded.specs.Stacks.{has_function}
 use Rattle.folded.specs.Tally.{AreOn, HaveMoved, counted_by, mark_at}
 use Rattle.folded.specs.declared.tally.Mark.{Mark}
 use Rattle.folded.proofs.MarkLemmas.{MarksOf, few_all, marks_all, marks_first, marks_next, marks_on, passed_few, path_below, since_all}
@@ -63,11 +63,7 @@ loop-i-preserved c =
     }
 
 pub leave_all-requires-clause-functions : goal.leave_all-requires-clause-functions
-leave_all-requires-clause-functions c =
-    let t = c.args.tree.now in
-    let long : length c.as_mut_slice-2.result.now ≡ t.functions = ap {B = ℕ} (λ (x : List Mark). length x) c.as_mut_slice-2.ensures.value ∙ c.loop-i.invariant.marks.long in
-    let below : AreBelow t.functions c.functions.result.now = subst (λ (s : Stack). AreBelow t.functions s) (sym c.functions.ensures) (path_below t c.loop-i.path c.loop-i.invariant.path) in
-    subst (λ (n : ℕ). AreBelow n c.functions.result.now) (sym long) below
+leave_all-requires-clause-functions c = grind (arith, path_below)
 
 pub leave_all-requires-clause-since : goal.leave_all-requires-clause-since
 leave_all-requires-clause-since c =

@@ -1,19 +1,15 @@
-use Rattle.std.proofs.Common.{◌≡◌, ◌∙◌, ◌-◌, ◌≤◌, [], ap, arith, drop, length, subst, sym, take}
+use Rattle.std.proofs.Common.{◌≡◌, ◌∙◌, [], ap, arith, drop, length, subst, sym, take}
 use Rattle.std.proofs.lemmas.List.{length-take, take-take}
 use Rattle.folded.specs.Paths.{functions_of}
-use Rattle.folded.specs.Tally.{HaveMoved, mark_at, places_in}
+use Rattle.folded.specs.Tally.{HaveMoved}
 use Rattle.folded.proofs.MarkLemmas.{Stack, few_all, moved_over, part_below, part_is, places_few, places_rest, since_all, since_moved}
 use Rattle.folded.proofs.tally.move_to.Goals as goal
 
 pub leave_all-requires-clause-functions : goal.leave_all-requires-clause-functions
-leave_all-requires-clause-functions c =
-    part_below c.args.tree.now c.args.path.now c.requires.path c.shared-shared.result (length c.args.marks.now) c.functions.result.now c.functions.ensures c.requires.functions
+leave_all-requires-clause-functions c = search part_below
 
 pub leave_all-requires-clause-places : goal.leave_all-requires-clause-places
-leave_all-requires-clause-places c = λ g below.
-    let stack = functions_of c.args.path.now in
-    let n = c.shared-shared.result in
-    subst (λ (s : Stack). places_in s g ≤ (mark_at c.args.marks.now g).places) (sym (part_is n stack c.functions.result.now c.functions.ensures)) (places_rest c.args.passed n stack c.args.marks.now c.requires.marks g below)
+leave_all-requires-clause-places c = grind (arith, part_is, places_rest)
 
 pub leave_all-requires-clause-since : goal.leave_all-requires-clause-since
 leave_all-requires-clause-since c = since_all c.args.passed (functions_of c.args.path.now) c.args.marks.now c.requires.marks
@@ -35,8 +31,7 @@ enter_all-requires-clause-places c =
     places_few c.args.passed n stack c.args.marks.now c.leave_all.new.marks c.requires.marks (omega (arith, length-take p.len p.functions, c.requires.path.few)) left
 
 pub enter_all-requires-clause-since : goal.enter_all-requires-clause-since
-enter_all-requires-clause-since c =
-    since_moved c.args.passed (take (length c.functions.result.now - c.shared-shared.result) (drop c.shared-shared.result c.functions.result.now)) [] c.args.marks.now c.leave_all.new.marks c.leave_all.ensures
+enter_all-requires-clause-since c = search since_moved
 
 pub returns-clause-moved : goal.returns-clause-moved
 returns-clause-moved c =

@@ -13,5 +13,4 @@ returns-in_err-put_stack g c =
 
 pub returns : goal.returns
 unfolding line_text
-returns g c =
-    adds_then Output (stack_text c.args.symbols.now (functions_of c.args.prefix.now.path)) (count_text c.args.count) _ _ _ _ _ _ _ _ c.in_ok-put_stack.ensures c.put_count.ensures
+returns g c = search (adds_then, c.in_ok-put_stack.ensures, c.put_count.ensures)

@@ -8,11 +8,7 @@ use Rattle.folded.proofs.PrefixLemmas.{lines_whole, node_line}
 use Rattle.folded.proofs.writer.put_lines.Goals as goal
 
 pub loop-node-init : goal.loop-node-init
-loop-node-init g c = record {
-  path = path_first c.nodes.result.0.now.nodes.items c.new-prefix.result.path c.new-prefix.ensures.path;
-  prefix = c.new-prefix.ensures.prefix c.args.symbols.now;
-  lines = adds_nothing Output _ _ tt;
-}
+loop-node-init g c = search (path_first, adds_nothing, c.new-prefix.result.path, c.new-prefix.ensures.path, c.new-prefix.ensures.prefix)
 
 pub returns-in_err-put_line : goal.returns-in_err-put_line
 returns-in_err-put_line g c =

@@ -3,8 +3,4 @@ use Rattle.gmon_bsd.proofs.SpellingLemmas.{accepted_where_spelled, only_where_sp
 use Rattle.gmon_bsd.proofs.laws.one_meaning.Goals as goal
 
 pub returns : goal.returns
-returns c = record {
-  spelled = spelled_of;
-  accepted = accepted_where_spelled;
-  only = only_where_spelled;
-}
+returns c = search (spelled_of, accepted_where_spelled, only_where_spelled)

@@ -1,8 +1,6 @@
-use Rattle.std.proofs.Common.{◌≡◌, ◌+◌, ◌∷◌, [], List, map, length, sym, ap, subst, ◌∙◌, arith}
+use Rattle.std.proofs.Common.{◌≡◌, ◌+◌, List, map, length, sym, subst, ◌∙◌, arith}
 use Rattle.gp_base.specs.declared.records.RawArc.{RawArc}
-use Rattle.gmon_data.specs.Content.{Content, IsWithin, WideHist, content_of, wide_arc, with_records}
-use Rattle.gp_base.specs.Fields.{seconds}
-use Rattle.gmon_bsd.specs.Profile.{runtime_hist}
+use Rattle.gmon_data.specs.Content.{Content, IsWithin, wide_arc, with_records}
 use Rattle.gmon_bsd.proofs.ProfileLemmas.{many_arcs, of_its_file, within_bounds}
 use Rattle.gmon_bsd.proofs.profile.run_profile.Goals as goal
 
@@ -15,14 +13,10 @@ add_arcs-requires c =
     subst (λ (xs : List RawArc). IsWithin (with_records (map wide_arc xs) c.expect_records.new.self)) (sym those) (subst (λ (p : Content). IsWithin (with_records (map wide_arc arcs) p)) (sym c.expect_records.ensures) few)
 
 pub returns-clause-records : goal.returns-clause-records
-returns-clause-records c =
-    let those : c.deref-2.result.now ≡ c.args.gmon.now.arcs = c.deref-2.ensures.value ∙ c.in_ok-arcs.ensures.those in
-    let front = WideHist (runtime_hist c.args.gmon.now) (seconds c.args.rate) in
-    c.in_ok-add_arcs.ensures.stands (front ∷ []) (c.expect_records.ensures ∙ c.in_ok-profile.ensures.hist) ∙ ap (λ (xs : List RawArc). content_of (front ∷ map wide_arc xs)) those
+returns-clause-records c = grind arith
 
 pub returns-clause-log : goal.returns-clause-log
-returns-clause-log c = λ log stands.
-    returns-clause-records c ∙ of_its_file c.args.gmon.now log c.args.rate c.in_ok-profile.ensures.sizes c.ranges.rate.fits c.in_ok-arcs.ensures.fits stands
+returns-clause-log c = search (returns-clause-records, of_its_file)
 
 pub returns-clause-fits : goal.returns-clause-fits
 returns-clause-fits c = (c.in_ok-profile.ensures.sizes, c.in_ok-arcs.ensures.fits)

@@ -1,6 +1,6 @@
-use Rattle.std.proofs.Common.{◌<◌, ◌≤◌, ◌++◌, length, take, drop, sym, ap, ◌∙◌, arith}
+use Rattle.std.proofs.Common.{◌≤◌, length, take, drop, ap, ◌∙◌, arith}
 use Rattle.std.proofs.lemmas.List.{append-nil}
-use Rattle.gmon_cells.proofs.CellLemmas.{div_less, cells_none, torn_whole, take_cell, take_torn, take_count}
+use Rattle.gmon_cells.proofs.CellLemmas.{cells_none, torn_whole, take_cell, take_torn, take_count}
 use Rattle.gmon_cells.proofs.column.push_whole.Goals as goal
 
 pub loop-rest-preserved : goal.loop-rest-preserved
@@ -24,23 +24,10 @@ loop-rest-preserved g c =
     }
 
 pub returns-clause-cells : goal.returns-clause-cells
-returns-clause-cells g c =
-    let w = g.T.Cell.width in
-    let was = c.loop-rest.invariant in
-    let short : length c.loop-rest.rest.now < w = omega (arith, c.loop-rest-test.false, was.width) in
-    sym (append-nil c.loop-rest.cells.items)
-    ∙ ap (λ v. c.loop-rest.cells.items ++ v) (sym (cells_none w g.T.Cell.cell c.loop-rest.rest.now short))
-    ∙ was.cells
+returns-clause-cells g c = grind (arith, append-nil, cells_none)
 
 pub returns-clause-rest : goal.returns-clause-rest
-returns-clause-rest g c =
-    let w = g.T.Cell.width in
-    let was = c.loop-rest.invariant in
-    let short : length c.loop-rest.rest.now < w = omega (arith, c.loop-rest-test.false, was.width) in
-    sym (torn_whole w c.loop-rest.rest.now short) ∙ was.torn
+returns-clause-rest g c = grind (arith, torn_whole)
 
 pub returns-clause-count : goal.returns-clause-count
-returns-clause-count g c =
-    let was = c.loop-rest.invariant in
-    let short : length c.loop-rest.rest.now < g.T.Cell.width = omega (arith, c.loop-rest-test.false, was.width) in
-    omega (arith, was.count, div_less (length c.loop-rest.rest.now) g.T.Cell.width short)
+returns-clause-count g c = grind arith

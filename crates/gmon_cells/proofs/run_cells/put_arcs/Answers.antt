@@ -7,11 +7,7 @@ use Rattle.gmon_cells.specs.FileText.{tagged_by}
 use Rattle.gmon_cells.proofs.run_cells.put_arcs.Goals as goal
 
 pub loop-arc-init : goal.loop-arc-init
-loop-arc-init g c = record {
-  left = c.into_iter-arc-iterator.ensures.into_iter_gives ∙ c.arcs-arc-items.ensures.value;
-  put = adds_nothing File _ _ (tt {0});
-  ready = c.requires;
-}
+loop-arc-init g c = search adds_nothing
 
 pub loop-arc-preserved : goal.loop-arc-preserved
 loop-arc-preserved g c =

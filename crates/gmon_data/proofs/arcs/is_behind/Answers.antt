@@ -9,13 +9,7 @@ abbrev no_arc : RawArc
 no_arc = record { from = 0; to = 0; count = 0 }
 
 pub returns-then-arc-pair : goal.returns-then-arc-pair
-returns-then-arc-pair c =
-    let arcs = c.args.arcs.now in
-    let i = c.loop-i.i - 1 in
-    let next : c.loop-i.i ≡ suc i = omega arith in
-    let inside : i < length arcs = omega arith in
-    λ by_site. λ t. behind_lower c.args.pair (entries_of arcs) i (entry_of (get_or arcs i no_arc)) by_site (entry_at arcs i no_arc inside) c.if-arc-pair.true
-    (subst (λ k. IsBehind c.args.pair (drop k (entries_of arcs))) next c.loop-i.invariant)
+returns-then-arc-pair c = grind (arith, behind_lower, entry_at)
 
 pub loop-i-preserved : goal.loop-i-preserved
 loop-i-preserved c =

@@ -1,5 +1,4 @@
-use Rattle.std.proofs.Common.{◌≡◌, ℕ, ◌-◌, ◌≤◌, suc, zero, List, length, nat_le, true, false, slice_get, Some, arith, rules}
-use Rattle.std.proofs.lemmas.Bool.{leb-true, leb-false}
+use Rattle.std.proofs.Common.{◌≡◌, ℕ, ◌-◌, ◌≤◌, List, length, nat_le, true, false, slice_get, Some, arith, rules}
 use Rattle.std.proofs.lemmas.Option.{get_or_from_slice_get, slice_get_within}
 use Rattle.std.specs.List.Sorted.{IsPartitionPoint}
 use Rattle.std.proofs.lemmas.List.Sorted.{IsPartitionPoint-from_clause, IsPartitionedBy-leb}
@@ -8,20 +7,10 @@ use Rattle.gmon_data.proofs.chunks.chunk_of.Goals as goal
 
 module _ (starts : List ℕ) (i : ℕ) (first : slice_get starts 0 ≡ Some 0) where
   some_start : (r : ℕ) → IsPartitionPoint (λ (s : ℕ). nat_le s i ≡ true) (λ (s : ℕ). nat_le s i ≡ false) starts r → 1 ≤ r
-  some_start zero point =
-      let none = point.1 0 0 (omega arith) (slice_get_within starts 0 0 first) in
-      let lt = leb-false _ i none in
-      absurd (omega (arith, lt, get_or_from_slice_get starts 0 0 0 first))
-  some_start (suc r) point = omega arith
+  some_start r point = grind (arith, slice_get_within, get_or_from_slice_get)
 
   last_start : (r : ℕ) → r ≤ length starts → IsPartitionPoint (λ (s : ℕ). nat_le s i ≡ true) (λ (s : ℕ). nat_le s i ≡ false) starts r → IsChunkOf starts i (r - 1)
-  last_start r bound point =
-      let some = some_start r point in
-      record {
-        inside = omega (arith, some, bound);
-        from = leb-true _ i (point.0 (r - 1) 0 (omega arith) (omega (arith, some)));
-        to = λ k above below. leb-false _ i (point.1 k 0 (omega (arith, above)) below);
-      }
+  last_start r bound point = grind (arith, some_start r point)
 
 pub overflow_sub-result : goal.overflow_sub-result
 overflow_sub-result c =

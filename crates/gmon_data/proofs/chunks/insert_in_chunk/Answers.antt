@@ -6,8 +6,7 @@ use Rattle.gmon_data.proofs.ChunkLemmas.{below_read, chunk_longer, chunked_same,
 use Rattle.gmon_data.proofs.chunks.insert_in_chunk.Goals as goal
 
 pub chunk_of-c-requires-clause-first : goal.chunk_of-c-requires-clause-first
-chunk_of-c-requires-clause-first g c =
-    first_start c.args.chunks.now.items c.as_slice.result.now c.args.i (c.as_slice.ensures.value ∙ c.requires.chunked.placed) c.requires.inside
+chunk_of-c-requires-clause-first g c = grind (arith, first_start)
 
 pub chunk_of-c-requires-clause-rising : goal.chunk_of-c-requires-clause-rising
 chunk_of-c-requires-clause-rising g c =

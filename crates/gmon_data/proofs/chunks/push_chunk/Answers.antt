@@ -4,7 +4,6 @@ use Rattle.gmon_data.proofs.chunks.push_chunk.Goals as goal
 
 pub returns-clause-chunked : goal.returns-clause-chunked
 returns-clause-chunked g c =
-    let T = g.row.T.Denot in
     let one : c.push.new.self.items ≡ c.args.item ∷ [] = rw (c.in_ok-push.ensures.items, c.new-chunk.ensures.items) refl in
     let chunks = c.in_ok-push-3.ensures.items in
     let before = c.in_ok-reserve.ensures.items in

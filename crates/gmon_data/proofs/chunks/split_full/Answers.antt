@@ -5,21 +5,13 @@ use Rattle.gmon_data.proofs.ChunkLemmas.{chunk_at, chunk_split, items_before, le
 use Rattle.gmon_data.proofs.chunks.split_full.Goals as goal
 
 pub index-requires-2 : goal.index-requires-2
-index-requires-2 g c =
-    omega (arith, c.requires.inside, ap length c.requires.chunked.placed, length-starts 0 c.args.chunks.now.items, c.args.starts.now.ok.0)
+index-requires-2 g c = grind (arith, length-starts)
 
 pub overflow_add-start : goal.overflow_add-start
-overflow_add-start g c =
-    let cs = c.args.chunks.now.items in
-    let w = c.index.result.now in
-    let start = start_read cs c.args.starts.now.items c.args.c c.index-2.result.now c.requires.chunked.placed c.requires.inside c.index-2.ensures in
-    let below = items_before cs c.args.c w c.requires.inside in
-    let long = ap (λ (v : Vec g.row.T.Denot). length v.items) c.index.ensures in
-    omega (arith, start, below, long, w.ok.0, c.len-len.ensures, c.requires.fits)
+overflow_add-start g c = grind (arith, start_read, items_before)
 
 pub insert-requires-2 : goal.insert-requires-2
-insert-requires-2 g c =
-    omega (arith, c.requires.inside, ap length c.requires.chunked.placed, length-starts 0 c.args.chunks.now.items, c.args.starts.now.ok.0, c.in_ok-reserve-2.ensures.len)
+insert-requires-2 g c = grind (arith, length-starts)
 
 pub returns-clause-chunked : goal.returns-clause-chunked
 returns-clause-chunked g c =

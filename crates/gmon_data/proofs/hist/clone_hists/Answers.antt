@@ -13,7 +13,4 @@ one_more hs copies i h copy is lt at same =
     ∙ ap (λ (x : Hist). take i hs ++ x ∷ []) (same ∙ sym at) ∙ sym (take_more hs i h lt)
 
 pub loop-i-preserved : goal.loop-i-preserved
-loop-i-preserved c =
-    let at = get_or_from_slice_get c.args.hists.now c.loop-i.i c.get.result.now c.get.result.now c.get.ensures in
-    let lt : c.loop-i.i < length c.args.hists.now = omega (arith, c.loop-i-test.true, c.len-i-end.ensures) in
-    c.in_ok-insert.ensures.added ∙ one_more c.args.hists.now c.loop-i.copies c.loop-i.i c.get.result.now c.in_ok-try_clone.field-0 c.loop-i.invariant lt at c.in_ok-try_clone.ensures
+loop-i-preserved c = grind (arith, get_or_from_slice_get, one_more)

@@ -1,15 +1,12 @@
-use Rattle.std.proofs.Common.{sum, ap, arith}
+use Rattle.std.proofs.Common.{arith}
 use Rattle.gmon_data.proofs.HistLemmas.{samples-drop}
 use Rattle.gmon_data.proofs.hist.samples.Goals as goal
 
 pub total-samples-requires : goal.total-samples-requires
-total-samples-requires c =
-    omega (arith, samples-drop c.args.hists.now c.loop-i.i c.get.result.now c.get.ensures, c.loop-i.invariant, c.requires, ap sum c.as_slice.ensures)
+total-samples-requires c = grind (arith, samples-drop)
 
 pub overflow_add-samples : goal.overflow_add-samples
-overflow_add-samples c =
-    omega (arith, samples-drop c.args.hists.now c.loop-i.i c.get.result.now c.get.ensures, c.loop-i.invariant, c.requires, ap sum c.as_slice.ensures, c.total-samples.ensures)
+overflow_add-samples c = grind (arith, samples-drop)
 
 pub loop-i-preserved : goal.loop-i-preserved
-loop-i-preserved c =
-    omega (arith, samples-drop c.args.hists.now c.loop-i.i c.get.result.now c.get.ensures, c.loop-i.invariant, ap sum c.as_slice.ensures, c.total-samples.ensures)
+loop-i-preserved c = grind (arith, samples-drop)

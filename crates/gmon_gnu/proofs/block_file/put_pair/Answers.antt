@@ -6,9 +6,7 @@ use Rattle.gmon_gnu.proofs.BlockTextLemmas.{pair_none, pair_some}
 use Rattle.gmon_gnu.proofs.block_file.put_pair.Goals as goal
 
 pub returns-then-count-eq0-clause-adds : goal.returns-then-count-eq0-clause-adds
-returns-then-count-eq0-clause-adds g c =
-    let none = pair_none c.args.addr c.args.count c.if-count-eq0.true in
-    rw (← none) (adds_nothing File _ _ (tt {0}))
+returns-then-count-eq0-clause-adds g c = search (pair_none, adds_nothing, c.if-count-eq0.true)
 
 pub returns-in_err-put-clause-adds : goal.returns-in_err-put-clause-adds
 returns-in_err-put-clause-adds g c =

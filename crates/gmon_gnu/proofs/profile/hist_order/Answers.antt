@@ -1,11 +1,10 @@
-use Rattle.std.proofs.Common.{◌<◌, Some, List, length, map, get_or, ap, subst, sym, ◌∙◌}
+use Rattle.std.proofs.Common.{◌<◌, List, length, get_or, ap, subst, sym, ◌∙◌}
 use Rattle.std.specs.List.{AllByRecursion}
 use Rattle.std.proofs.lemmas.List.{take_all, take_more}
 use Rattle.std.proofs.lemmas.Option.{slice_get-get_or}
 use Rattle.gmon_gnu.specs.declared.profile.Placed.{Placed}
-use Rattle.gmon_gnu.specs.declared.state.Entry.{Entry}
 use Rattle.gmon_gnu.specs.Held.{no_entry}
-use Rattle.gmon_gnu.specs.Making.{hists_among, place_of, placed_entries}
+use Rattle.gmon_gnu.specs.Making.{place_of, placed_entries}
 use Rattle.gmon_gnu.proofs.MakingLemmas.{all_joined, all_reordered, next_hist, order_of, places_below}
 use Rattle.gmon_gnu.proofs.profile.hist_order.Goals as goal
 
@@ -28,5 +27,4 @@ returns-clause-inside c =
 
 pub returns-clause-all : goal.returns-clause-all
 returns-clause-all c =
-    let entries = c.args.entries.now in
-    order_of entries _ _ c.sort_unstable_by_key.ensures.permutation (c.loop-i.invariant.all ∙ ap (λ (l : List Entry). map Some (hists_among l)) (take_all c.loop-i.i entries c.loop-i-test.false))
+    search (order_of, take_all, c.sort_unstable_by_key.ensures.permutation, c.loop-i.invariant.all, c.loop-i.i, c.loop-i-test.false)

@@ -1,17 +1,9 @@
-use Rattle.std.proofs.Common.{◌≡◌, Some, None, sym, ◌∙◌}
+use Rattle.std.proofs.Common.{◌≡◌, None, sym, ◌∙◌}
 use Rattle.host_port.specs.declared.side.Side.TheVariants.{File}
 use Rattle.host_port.proofs.BufferLemmas.{adds_nothing}
-use Rattle.gmon_gnu.proofs.ProfileTextLemmas.{hists_text}
 use Rattle.gmon_gnu.proofs.profile_file.put_hists.Goals as goal
 
 pub returns-in-None-clause-adds : goal.returns-in-None-clause-adds
 returns-in-None-clause-adds g c =
     let none : c.args.profile.now.«unit» ≡ None = sym c.unit.ensures.«unit» ∙ c.in-None.is in
     rw none (adds_nothing File _ _ (tt {0}))
-
-pub returns-in-Some-clause-adds : goal.returns-in-Some-clause-adds
-returns-in-Some-clause-adds g c =
-    let u = c.in-Some.«unit» in
-    let some : c.args.profile.now.«unit» ≡ Some u = sym c.unit.ensures.«unit» ∙ c.in-Some.is in
-    let text = hists_text u c.args.profile.now.hists in
-    rw (some, ← text) c.put_hists_in.ensures.adds

@@ -1,8 +1,7 @@
-use Rattle.std.proofs.Common.{◌≡◌, ◌+◌, ◌-◌, ℕ, List, length, take, refl, sym, ap, ◌∙◌, arith}
+use Rattle.std.proofs.Common.{◌≡◌, ◌+◌, ◌-◌, take, refl, arith}
 use Rattle.std.proofs.lemmas.List.FromFn.{length-range_with_len}
 use Rattle.std.proofs.lemmas.Result.{err_from_is_err_and}
 use Rattle.gmon_cells.proofs.PuttingLemmas.{counted, put_all, put_more, put_none, put_stop}
-use Rattle.gmon_gnu.specs.Pieces.{left_of}
 use Rattle.gmon_gnu.proofs.RoundLemmas.{kept_same, round_same, left_of_twice}
 use Rattle.gmon_gnu.proofs.rounds.put_few_rounds.Goals as goal
 
@@ -12,9 +11,7 @@ loop-j-init g c =
     record { put = rw none (put_none c.requires.ready); same = λ i le. refl; within = c.requires.listed }
 
 pub put_few-requires-clause-counted : goal.put_few-requires-clause-counted
-put_few-requires-clause-counted g c =
-    let kept = c.keep_left-left.ensures.kept in
-    ap length kept ∙ left_of_twice c.loop-j.j (take c.loop-j.left c.loop-j.few) ∙ ap (λ (l : List (ℕ × ℕ)). length (left_of c.loop-j.j l)) (sym kept)
+put_few-requires-clause-counted g c = grind (arith, left_of_twice)
 
 pub loop-j-preserved : goal.loop-j-preserved
 loop-j-preserved g c =

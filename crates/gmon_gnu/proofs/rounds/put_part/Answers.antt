@@ -1,8 +1,6 @@
 use Rattle.std.proofs.lemmas.Result.{err_from_is_err_and}
-use Rattle.host_port.specs.declared.side.Side.TheVariants.{File}
 use Rattle.host_port.proofs.BufferLemmas.{adds_nothing}
 use Rattle.gmon_cells.proofs.PuttingLemmas.{put_more, put_none, put_stop}
-use Rattle.gmon_gnu.specs.Pieces.{part_of}
 use Rattle.gmon_gnu.proofs.RoundLemmas.{no_bytes}
 use Rattle.gmon_gnu.proofs.rounds.put_part.Goals as goal
 
@@ -18,5 +16,4 @@ returns-in_err-put_block-clause-adds g c =
     rw p.1 (put_stop (rw c.start_of-start.ensures at c.part_block-addr.ensures.value) c.loop-k.invariant c.in_err-put_block.ensures.adds)
 
 pub returns-then-not-mark-clause-adds : goal.returns-then-not-mark-clause-adds
-returns-then-not-mark-clause-adds g c =
-    rw (no_bytes c.args.j (part_of c.args.size c.args.part c.args.profile.now.blocks) (c.requires.marked c.if-not-mark.true)) (adds_nothing File _ _ (tt {0}))
+returns-then-not-mark-clause-adds g c = search (no_bytes, adds_nothing, c.requires.marked, c.if-not-mark.true)

@@ -1,21 +1,8 @@
 use Rattle.std.proofs.Common.{List, ℕ, ◌++◌, ap, ◌∙◌}
 use Rattle.graph_report.specs.GraphText.{calls_of_all}
 use Rattle.graph_report.specs.Inputs.{sources_in}
-use Rattle.graph_report.proofs.TextLemmas.{inside_columns, is_outside_arc, outside_columns, timed_whole}
+use Rattle.graph_report.proofs.TextLemmas.{outside_columns, timed_whole}
 use Rattle.graph_report.proofs.columns.put_arc.Goals as goal
-
-pub returns-in-None-clause-text : goal.returns-in-None-clause-text
-returns-in-None-clause-text c =
-    let s = sources_in c.args.inputs.now in
-    c.put_untimed.ensures.text ∙ ap (λ (t : List ℕ). c.args.line.now ++ t) (inside_columns s c.args.times.now c.requires.times.entering c.in-None.is)
-
-pub put_times-requires-clause-own : goal.put_times-requires-clause-own
-put_times-requires-clause-own c =
-    (c.requires.times.small (is_outside_arc (sources_in c.args.inputs.now) c.args.times.now c.requires.times.entering c.in-Some.entering c.in-Some.is)).0
-
-pub put_times-requires-clause-child : goal.put_times-requires-clause-child
-put_times-requires-clause-child c =
-    (c.requires.times.small (is_outside_arc (sources_in c.args.inputs.now) c.args.times.now c.requires.times.entering c.in-Some.entering c.in-Some.is)).1
 
 pub returns-in-Some-clause-text : goal.returns-in-Some-clause-text
 returns-in-Some-clause-text c =

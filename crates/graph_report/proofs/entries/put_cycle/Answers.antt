@@ -2,7 +2,7 @@ use Rattle.std.proofs.Common.{ℕ, ◌<◌, List, sym, ap, subst, ◌∙◌}
 use Rattle.std.specs.Prelude.{◌==◌}
 use Rattle.std.specs.List.{All}
 use Rattle.std.proofs.lemmas.Result.{err_from_is_err_and}
-use Rattle.call_cycles.specs.Graph.{arc_count, component_of, enters}
+use Rattle.call_cycles.specs.Graph.{component_of}
 use Rattle.graph_report.specs.GraphText.{arcs_into, members_of}
 use Rattle.graph_report.specs.Inputs.{sources_in}
 use Rattle.graph_report.specs.Reports.{number_of}
@@ -11,9 +11,7 @@ use Rattle.graph_report.proofs.TextLemmas.{all_below, cycle_whole}
 use Rattle.graph_report.proofs.entries.put_cycle.Goals as goal
 
 pub put_callers-requires : goal.put_callers-requires
-put_callers-requires g c =
-    let graph = c.args.report.now.inputs.sources.graph.now in
-    record { arcs = subst (λ (is : List ℕ). All (λ (i : ℕ). i < arc_count graph) is) (sym c.arcs_into.ensures) (all_below (enters graph c.component-c.result) (arc_count graph)) }
+put_callers-requires g c = search (all_below, c.arcs_into.ensures)
 
 pub put_members-requires : goal.put_members-requires
 put_members-requires g c =

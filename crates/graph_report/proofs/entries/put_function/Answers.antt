@@ -1,8 +1,5 @@
-use Rattle.std.proofs.Common.{ℕ, ◌<◌, List, sym, subst}
-use Rattle.std.specs.Prelude.{◌==◌}
-use Rattle.std.specs.List.{All}
+use Rattle.std.proofs.Common.{sym}
 use Rattle.std.proofs.lemmas.Result.{err_from_is_err_and}
-use Rattle.call_cycles.specs.Graph.{arc_at, arc_count}
 use Rattle.graph_report.specs.Inputs.{sources_in}
 use Rattle.graph_report.specs.Reports.{number_of}
 use Rattle.graph_report.proofs.PrintLemmas.{first_of_four_fails, second_of_four_fails, third_of_four_fails, four_put}
@@ -10,9 +7,7 @@ use Rattle.graph_report.proofs.TextLemmas.{all_below, function_whole}
 use Rattle.graph_report.proofs.entries.put_function.Goals as goal
 
 pub put_callers-requires : goal.put_callers-requires
-put_callers-requires g c =
-    let graph = c.args.report.now.inputs.sources.graph.now in
-    record { arcs = subst (λ (is : List ℕ). All (λ (i : ℕ). i < arc_count graph) is) (sym c.arcs_to.ensures) (all_below (λ i. (arc_at graph i).callee == c.args.f) (arc_count graph)) }
+put_callers-requires g c = search (all_below, c.arcs_to.ensures)
 
 pub put_callees-requires : goal.put_callees-requires
 put_callees-requires g c = record { order = c.arcs_from-first.ensures.order; arcs = c.arcs_from-first.ensures.within }

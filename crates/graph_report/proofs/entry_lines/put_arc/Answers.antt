@@ -10,6 +10,4 @@ returns-in_err-put g c =
     rw p.1 (first_fails _ c.args.label.now _ refl _ _ _ _ _ front)
 
 pub returns : goal.returns
-returns g c =
-    let front = rw (c.bytes.ensures.bytes, c.arc_front.ensures) at c.in_ok-put.ensures.adds in
-    both_put _ _ _ refl _ _ _ _ _ _ _ _ front c.put-2.ensures.adds
+returns g c = search (both_put, c.bytes.ensures.bytes, c.arc_front.ensures, c.in_ok-put.ensures.adds, c.put-2.ensures.adds)

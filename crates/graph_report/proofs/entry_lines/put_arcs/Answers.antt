@@ -1,6 +1,5 @@
-use Rattle.std.proofs.Common.{◌≤◌, length, arith}
+use Rattle.std.proofs.Common.{◌≤◌, arith}
 use Rattle.std.proofs.lemmas.Result.{err_from_is_err_and}
-use Rattle.host_port.specs.declared.side.Side.TheVariants.{Output}
 use Rattle.host_port.proofs.BufferLemmas.{adds_all}
 use Rattle.graph_report.specs.ArcLines.{line_by}
 use Rattle.graph_report.specs.Inputs.{sources_in}
@@ -24,8 +23,4 @@ loop-start-preserved g c =
     )
 
 pub returns : goal.returns
-returns g c =
-    let r = c.args.report.now in
-    let xs = c.args.arcs.now in
-    let all : length xs ≤ c.loop-start.start = omega (arith, c.loop-start-test.false) in
-    adds_all Output (line_by c.args.end (sources_in r.inputs) (number_of r)) xs c.loop-start.start _ _ _ _ _ all c.loop-start.invariant.1
+returns g c = search adds_all

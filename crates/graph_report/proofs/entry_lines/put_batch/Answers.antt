@@ -1,4 +1,4 @@
-use Rattle.std.proofs.Common.{◌≡◌, ◌<◌, ◌≤◌, ℕ, List, get_or, length, take, length-take-le, sym, ap, subst, ◌∙◌, arith}
+use Rattle.std.proofs.Common.{◌≡◌, ◌<◌, ◌≤◌, ℕ, List, get_or, length, take, length-take-le, ap, ◌∙◌, arith}
 use Rattle.std.specs.List.{All}
 use Rattle.std.proofs.lemmas.List.{get_or_default, get_or-take}
 use Rattle.std.proofs.lemmas.Result.{err_from_is_err_and}
@@ -26,10 +26,7 @@ module _ (is : Inputs) (arcs : List ℕ) (batch front : List ArcTimes) (taken : 
   found k d low = ap (λ (ls : List ArcTimes). get_or ls k d) taken ∙ get_or-take (length arcs) batch k d low ∙ are k low d
 
   within : All (λ i. i < arc_count is.sources.graph.now) arcs → All (AreTimes (sources_in is)) front
-  within all k d low =
-      let inside : k < length arcs = omega (arith, low, long) in
-      let arc : get_or arcs k 0 < arc_count is.sources.graph.now = all k 0 inside in
-      subst (AreTimes (sources_in is)) (sym (found k d inside)) (times_small is (get_or arcs k 0) arc)
+  within all k d low = grind (arith, long, found, times_small)
 
 pub labels_of-labels-requires-clause-arcs : goal.labels_of-labels-requires-clause-arcs
 labels_of-labels-requires-clause-arcs g c =

@@ -1,7 +1,5 @@
-use Rattle.std.proofs.Common.{◌≡◌, ◌<◌, ℕ, sym, subst, arith}
-use Rattle.std.specs.List.{All}
+use Rattle.std.proofs.Common.{arith}
 use Rattle.std.proofs.lemmas.Result.{err_from_is_err_and}
-use Rattle.call_cycles.specs.Graph.{arc_count}
 use Rattle.graph_report.specs.GraphText.{callee_line}
 use Rattle.graph_report.specs.Inputs.{sources_in}
 use Rattle.graph_report.specs.Reports.{number_of}
@@ -10,9 +8,7 @@ use Rattle.graph_report.proofs.RangeLemmas.{run_below}
 use Rattle.graph_report.proofs.entry_lines.put_callees.Goals as goal
 
 pub put_batch-requires-clause-arcs : goal.put_batch-requires-clause-arcs
-put_batch-requires-clause-arcs g c =
-    let n = arc_count c.args.report.now.inputs.sources.graph.now in
-    subst (All (λ (i : ℕ). i < n)) (sym c.numbers_from.ensures) (run_below c.loop-start.start c.min-count.result n (omega (arith, c.min-count.ensures, c.requires.arcs)))
+put_batch-requires-clause-arcs g c = grind (arith, run_below)
 
 pub returns-in_err-put_batch : goal.returns-in_err-put_batch
 returns-in_err-put_batch g c =
@@ -31,6 +27,4 @@ loop-start-preserved g c =
     )
 
 pub returns : goal.returns
-returns g c =
-    let end : c.loop-start.start ≡ c.args.end = omega (arith, c.loop-start-test.false, c.loop-start.invariant.1) in
-    rw end at c.loop-start.invariant.2
+returns g c = grind arith

@@ -24,6 +24,5 @@ loop-arc-preserved g c =
     let arcs = c.args.arcs.now in
     let i = c.loop-arc.arc-index in
     let p = get_or arcs i 0 in
-    let at : p ≡ get_or arcs i p = get_or_default arcs i 0 p c.loop-arc-test.true in
     let line = rw (c.bytes.ensures.bytes, c.arc_line.ensures) at c.in_ok-put.ensures.adds in
-    adds_more Output (arc_text c.args.symbols.now c.args.graph.now c.args.exact.now) arcs i p _ _ _ _ _ _ _ _ c.loop-arc-test.true at c.loop-arc.invariant line
+    search (get_or_default, adds_more)

@@ -1,11 +1,10 @@
-use Rattle.std.proofs.Common.{◌≡◌, ◌<◌, ◌+◌, ◌-◌, ◌∙◌, length, get_or, sym, subst, arith}
-use Rattle.std.specs.List.{All}
+use Rattle.std.proofs.Common.{◌≡◌, ◌<◌, ◌+◌, ◌∙◌, length, get_or, sym, arith}
 use Rattle.std.proofs.lemmas.Result.{err_from_is_err_and}
 use Rattle.std.proofs.lemmas.List.FromFn.{length-range_with_len, get_or-range_with_len}
 use Rattle.host_port.specs.declared.side.Side.TheVariants.{Output}
 use Rattle.host_port.proofs.BufferLemmas.{adds_nothing, adds_more, adds_stop, adds_all}
 use Rattle.call_cycles.specs.Sums.{numbers_below}
-use Rattle.call_cycles.specs.Graph.{arc_count, component_count}
+use Rattle.call_cycles.specs.Graph.{component_count}
 use Rattle.graph_report.specs.ExactText.{component_text}
 use Rattle.graph_report.proofs.ExactLemmas.{all_arcs, all_low, taken, left}
 use Rattle.graph_report.proofs.exact_report.put_components.Goals as goal
@@ -14,14 +13,10 @@ pub loop-c-init : goal.loop-c-init
 loop-c-init g c = (adds_nothing Output _ _ tt, c.outside_arcs-rest.ensures ∙ c.requires.times.outside ∙ all_arcs c.args.graph.now)
 
 pub leaving-requires : goal.leaving-requires
-leaving-requires g c =
-    let graph = c.args.graph.now in
-    subst (All (λ i. i < arc_count graph)) (sym c.loop-c.invariant.1) (all_low graph c.loop-c.c (component_count graph - c.loop-c.c))
+leaving-requires g c = grind (arith, all_low)
 
 pub put_component-requires-clause-arcs : goal.put_component-requires-clause-arcs
-put_component-requires-clause-arcs g c =
-    let low : c.loop-c.c < component_count c.args.graph.now = omega arith in
-    c.split_at.ensures.front ∙ taken c.args.graph.now c.loop-c.c c.leaving.result c.loop-c.rest.now low c.loop-c.invariant.1 c.leaving.ensures.within c.leaving.ensures.those c.leaving.ensures.next
+put_component-requires-clause-arcs g c = grind (arith, taken)
 
 pub returns-in_err-put_component : goal.returns-in_err-put_component
 returns-in_err-put_component g c =

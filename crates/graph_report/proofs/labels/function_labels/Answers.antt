@@ -1,9 +1,9 @@
-use Rattle.std.proofs.Common.{◌≡◌, ℕ, ◌+◌, suc, List, ◌++◌, length, drop, ap, subst, ◌∙◌, arith}
+use Rattle.std.proofs.Common.{◌≡◌, ℕ, ◌+◌, suc, List, ◌++◌, length, ap, subst, ◌∙◌, arith}
 use Rattle.call_cycles.specs.Sums.{list_of}
 use Rattle.graph_report.specs.Entries.{number_in, graph_order}
 use Rattle.flat_report.specs.Sources.{name_of}
 use Rattle.graph_report.specs.Inputs.{sources_in}
-use Rattle.graph_report.specs.Labels.{AreShort, IsShort, label_of}
+use Rattle.graph_report.specs.Labels.{AreShort, label_of}
 use Rattle.graph_report.specs.Lists.{lists_below, start_of}
 use Rattle.graph_report.proofs.ListLemmas.{list_added, start_added}
 use Rattle.graph_report.proofs.LabelLemmas.{last_part, short_added}
@@ -18,17 +18,9 @@ loop-f-preserved c =
     let f = c.loop-f.f in
     let text = c.loop-f.text in
     let so = c.loop-f.invariant.text in
-    let len : c.len-start.result ≡ length text.items = omega (arith, c.len-start.ensures, text.ok.0) in
     let tail = c.bytes.ensures.bytes ∙ c.function_tail.ensures in
     let whole = ap (λ (t : List ℕ). t ++ c.bytes.result.now) c.name.ensures ∙ ap (λ (t : List ℕ). name_of s f ++ t) tail ∙ name_whole s number f in
-    let all = c.in_ok-extend_from_slice-2.ensures.items ∙ ap (λ (t : List ℕ). t ++ c.bytes.result.now) c.in_ok-extend_from_slice.ensures.items in
-    record {
-      text = all ∙ list_added of f text.items c.name.result.now c.bytes.result.now so whole;
-      starts = c.in_ok-push.ensures.items ∙ start_added of f c.len-start.result text.items c.loop-f.starts.items so c.loop-f.invariant.starts len;
-      short =
-          let part = c.split_at.ensures.back ∙ ap (drop c.len-start.result) (c.deref.ensures.value ∙ all) ∙ last_part text.items c.name.result.now c.bytes.result.now (of f) c.len-start.result len whole in
-          rw c.in_ok-push-2.ensures.items (short_added f of c.loop-f.short.items c.of.result c.loop-f.invariant.short (subst (λ (t : List ℕ). IsShort t c.of.result) part c.of.ensures));
-    }
+    grind (arith, name_whole, list_added, start_added, last_part, short_added)
 
 pub returns : goal.returns
 returns c =

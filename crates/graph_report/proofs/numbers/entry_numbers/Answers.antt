@@ -1,6 +1,5 @@
 use Rattle.std.proofs.Common.{◌≡◌, ◌<◌, ℕ, ◌+◌, ◌-◌, length, get_or, sym, ap, subst, ◌∙◌, arith, []}
 use Rattle.std.proofs.lemmas.List.{get_or_default, get_or-map, length-map}
-use Rattle.graph_report.specs.Inputs.{sources_in}
 use Rattle.graph_report.specs.Rows.{entries_of_rows, entry_of_row}
 use Rattle.graph_report.specs.declared.rows.Row.{Row}
 use Rattle.graph_report.specs.declared.subjects.Subject.TheVariants.{Cycle}
@@ -15,20 +14,18 @@ put_number-requires-clause-functions c =
     let k = c.loop-i.i - 1 in
     let rows = c.args.rows.now in
     let row = get_or rows k no_row in
-    let len = c.loop-i.invariant.function_count in
     let below : k < length rows = omega arith in
     let inside = row_inside c.args.inputs.now rows k row c.requires.rows below (get_or_default rows k no_row row below) in
-    omega arith
+    omega (arith, c.loop-i.invariant.function_count)
 
 pub put_number-requires-clause-cycles : goal.put_number-requires-clause-cycles
 put_number-requires-clause-cycles c =
     let k = c.loop-i.i - 1 in
     let rows = c.args.rows.now in
     let row = get_or rows k no_row in
-    let len = c.loop-i.invariant.cycle_count in
     let below : k < length rows = omega arith in
     let inside = row_inside c.args.inputs.now rows k row c.requires.rows below (get_or_default rows k no_row row below) in
-    omega arith
+    omega (arith, c.loop-i.invariant.cycle_count)
 
 pub loop-i-preserved : goal.loop-i-preserved
 loop-i-preserved c =
@@ -43,11 +40,7 @@ loop-i-preserved c =
     let inside : k < length entries = omega (arith, length-map rows entry_of_row) in
     let at : e ≡ get_or entries k e = ap entry_of_row (get_or_default rows k no_row row below) ∙ sym (get_or-map entry_of_row rows k row e below) in
     let are = subst (λ (i : ℕ). AreNumbersFrom entries n i c.loop-i.numbers) more c.loop-i.invariant in
-    let put = c.put_number.ensures in
-    number_put entries n k c.loop-i.numbers c.put_number.new.numbers e are inside at put.function_count put.cycle_count put.functions put.cycles
+    search number_put
 
 pub returns : goal.returns
-returns c =
-    let none : c.loop-i.i ≡ 0 = omega arith in
-    let are = subst (λ (i : ℕ). AreNumbersFrom (entries_of_rows c.args.rows.now) c.args.inputs.now.sources.graph.now.functions i c.loop-i.numbers) none c.loop-i.invariant in
-    all_numbers (sources_in c.args.inputs.now) (entries_of_rows c.args.rows.now) c.loop-i.numbers c.requires.rows are
+returns c = grind (arith, all_numbers)

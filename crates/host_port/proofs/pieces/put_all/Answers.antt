@@ -1,5 +1,5 @@
 use Rattle.std.proofs.lemmas.Grind.{common_steps}
-use Rattle.std.proofs.Common.{length, refl, ap, ◌∙◌, arith, length-append}
+use Rattle.std.proofs.Common.{length, ap, ◌∙◌, arith, length-append}
 use Rattle.std.proofs.lemmas.Result.{err_from_is_err_and}
 use Rattle.host_port.specs.Host.{act_of}
 use Rattle.host_port.proofs.Piecewise.{along_start, along_more, some_left}
@@ -8,11 +8,7 @@ use Rattle.host_port.proofs.Chains.{puts_fail}
 use Rattle.host_port.proofs.pieces.put_all.Goals as goal
 
 pub loop-rest-init : goal.loop-rest-init
-loop-rest-init g c = record {
-  far = along_start (act_of c.args.side) (side_piecewise c.args.side) _ _;
-  last = λ _. refl;
-  idle = λ _. refl;
-}
+loop-rest-init g c = search (along_start, side_piecewise)
 
 pub put_some-requires-clause-ready : goal.put_some-requires-clause-ready
 put_some-requires-clause-ready g c = still_ready c.args.side c.loop-rest.invariant.far.front _ _ c.loop-rest.invariant.far.did c.requires

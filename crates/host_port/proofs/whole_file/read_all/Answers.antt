@@ -1,20 +1,14 @@
-use Rattle.std.proofs.Common.{◌≡◌, ◌++◌, ◌∙◌, ℕ, false, List, length, take, length-take, length-append, [], refl, sym, subst, arith}
+use Rattle.std.proofs.Common.{◌≡◌, ◌++◌, ◌∙◌, ℕ, false, List, length, take, length-take, length-append, sym, subst, arith}
 use Rattle.std.proofs.lemmas.Bool.{ne_eqb}
 use Rattle.std.proofs.lemmas.Result.{err_from_is_err_and}
-use Rattle.host_port.proofs.LoadLemmas.{Loading, all_read, not_moved, not_opened, not_taken, opened, taken, too_large}
+use Rattle.host_port.proofs.LoadLemmas.{Loading, all_read, not_moved, not_taken, taken, too_large}
 use Rattle.host_port.proofs.whole_file.read_all.Goals as goal
 
 pub returns-in_err-open_input : goal.returns-in_err-open_input
-returns-in_err-open_input g c =
-    let p = err_from_is_err_and c.from_residual.result c.from_residual.ensures.1 in
-    rw (p.1, p.2) (not_opened c.args.name.now c.args.limit (g.H.Host.outside c.args.host.now) (g.H.Host.outside c.open_input.new.self) c.in_err-open_input.field-0.0 c.in_err-open_input.ensures.opens c.in_err-open_input.ensures.counts (g.met.H.Host.consistent c.open_input.new.self))
+returns-in_err-open_input g c = grind arith
 
 pub loop-n-init : goal.loop-n-init
-loop-n-init g c = record {
-  far = ([], opened c.args.name.now c.args.limit (g.H.Host.outside c.args.host.now) (g.H.Host.outside c.open_input.new.self) _ c.in_ok-open_input.ensures.opens c.in_ok-open_input.ensures.counts, c.requires.empty, refl);
-  within = omega arith;
-  room = refl;
-}
+loop-n-init g c = grind arith
 
 pub returns-in_err-n : goal.returns-in_err-n
 returns-in_err-n g c =
@@ -48,21 +42,10 @@ returns-then-n-left g c =
     front (g.met.H.Host.consistent c.read_front.new.host) (omega (arith, far.3, c.if-n-left.true, was.within)) (omega (arith, far.3, was.within, few, c.min.ensures)) (c.in_ok-n.ensures.moves.at_end ∙ ne_eqb n 0 c.if-n-eq0.false)
 
 pub take-requires : goal.take-requires
-take-requires g c =
-    let was = c.loop-n.invariant in
-    let far = was.far in
-    (far.0, far.2, omega (arith, far.3, was.within, c.if-n-left.false, c.split_at.ensures.front_len, c.ranges.limit.fits))
+take-requires g c = grind arith
 
 pub returns-in_err-taker : goal.returns-in_err-taker
-returns-in_err-taker g c =
-    let p = err_from_is_err_and c.from_residual-in_err-taker.result c.from_residual-in_err-taker.ensures.1 in
-    let was = c.loop-n.invariant in
-    let far = was.far in
-    let n = c.in_ok-n.n in
-    let buf = c.read_front.new.piece in
-    let front : length (take n buf) ≡ n = omega (arith, length-take n buf, c.in_ok-n.ensures.few, c.min.ensures, c.in_ok-n.ensures.room, was.room) in
-    rw (p.1, p.2) (not_taken c.args.name.now c.args.limit n far.0 c.loop-n.piece buf (g.H.Host.outside c.args.host.now) (g.H.Host.outside c.loop-n.host) (g.H.Host.outside c.read_front.new.host) far.1 c.in_ok-n.ensures.moves c.in_ok-n.ensures.counts
-    front (g.met.H.Host.consistent c.read_front.new.host) (omega (arith, far.3, c.if-n-left.false, was.within)) (c.in_ok-n.ensures.moves.at_end ∙ ne_eqb n 0 c.if-n-eq0.false))
+returns-in_err-taker g c = grind (arith, not_taken, ne_eqb)
 
 pub loop-n-preserved : goal.loop-n-preserved
 loop-n-preserved g c =

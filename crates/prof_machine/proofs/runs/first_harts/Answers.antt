@@ -5,8 +5,4 @@ use Rattle.prof_machine.proofs.runs.first_harts.Goals as goal
 
 pub loop-hart-preserved : goal.loop-hart-preserved
 loop-hart-preserved c =
-    let more = map-range_with_len_more (first_registers c.args.entry c.args.end c.args.harts) 0 c.loop-hart.hart c.loop-hart.hart (omega arith) in
-    let so_far = c.loop-hart.invariant in
-    let pushed = c.in_ok-push.ensures.items in
-    let new = c.first_registers.ensures in
-    cc
+    grind (arith, map-range_with_len_more (first_registers c.args.entry c.args.end c.args.harts) 0 c.loop-hart.hart c.loop-hart.hart (omega arith))

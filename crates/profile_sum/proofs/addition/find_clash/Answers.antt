@@ -10,9 +10,7 @@ pub loop-i-init : goal.loop-i-init
 loop-i-init c = clash_of_unit c.args.total.now c.args.more.now c.in_ok-unit.«unit» (sym c.in_ok-unit.ensures.«unit»)
 
 pub returns-then-is_some : goal.returns-then-is_some
-returns-then-is_some c =
-    let is = c.conflict-clash.ensures ∙ ap (λ r. conflict_with c.args.total.now.hists c.args.total.now.«unit» r (kept_unit c.in_ok-unit.«unit»)) c.range.ensures in
-    sym (c.loop-i.invariant ∙ clash_found c.args.total.now c.in_ok-unit.«unit» c.args.more.now.hists c.requires.hists c.loop-i.i c.hist.result.now c.hist.ensures c.conflict-clash.result is (sym c.is_some.ensures ∙ c.if-is_some.true))
+returns-then-is_some c = grind (arith, clash_found)
 
 pub loop-i-preserved : goal.loop-i-preserved
 loop-i-preserved c =
@@ -20,5 +18,4 @@ loop-i-preserved c =
     c.loop-i.invariant ∙ clash_passed c.args.total.now c.in_ok-unit.«unit» c.args.more.now.hists c.requires.hists c.loop-i.i c.hist.result.now c.hist.ensures c.conflict-clash.result is (sym c.is_some.ensures ∙ c.if-is_some.false)
 
 pub returns : goal.returns
-returns c =
-    sym (c.loop-i.invariant ∙ clash_ends c.args.total.now c.in_ok-unit.«unit» c.args.more.now.hists c.loop-i.i (omega (arith, c.loop-i-test.false, c.hist_count-i-end.ensures.value)))
+returns c = grind (arith, clash_ends)

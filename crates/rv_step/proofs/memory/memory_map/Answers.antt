@@ -2,8 +2,4 @@ use Rattle.rv_step.proofs.MemoryMap.{byte-read_at, byte-write_at, byte-write_at_
 use Rattle.rv_step.proofs.memory.memory_map.Goals as goal
 
 pub returns : goal.returns
-returns c = record {
-  read = byte-read_at;
-  written = byte-write_at;
-  kept = byte-write_at_other;
-}
+returns c = search (byte-read_at, byte-write_at, byte-write_at_other)

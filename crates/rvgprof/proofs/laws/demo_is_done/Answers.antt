@@ -18,5 +18,4 @@ pub returns-clause-accepted : goal.returns-clause-accepted
 returns-clause-accepted c = demo_taken c.demo_is_accepted.ensures c.demo_starts.ensures
 
 pub returns-clause-done : goal.returns-clause-done
-returns-clause-done c = λ words functions elf setup old new result is answered none.
-    done_where_accepted words old new result answered none (λ contents told. demo_taken c.demo_is_accepted.ensures c.demo_starts.ensures words contents functions elf setup is)
+returns-clause-done c = search (done_where_accepted, demo_taken)

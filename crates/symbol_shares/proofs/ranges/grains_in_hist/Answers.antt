@@ -1,6 +1,5 @@
-use Rattle.std.proofs.Common.{◌≡◌, ◌+◌, ◌*◌, ◌<◌, ◌≤◌, length, sym, ap, ◌∙◌, arith}
+use Rattle.std.proofs.Common.{◌+◌, ◌*◌, ◌<◌, ◌≤◌, length, sym, ap, arith}
 use Rattle.symbol_shares.specs.Shares.{bucket_begin}
-use Rattle.symbol_shares.specs.Ranges.{grains_of_buckets}
 use Rattle.symbol_shares.proofs.RangeLemmas.{first-buckets, one-more, last-buckets, buckets-fit}
 use Rattle.symbol_shares.proofs.ranges.grains_in_hist.Goals as goal
 
@@ -8,11 +7,7 @@ pub loop-i-init : goal.loop-i-init
 loop-i-init c = sym (first-buckets c.args.hist.now c.args.low c.args.high c.bucket_of-i.result c.requires.kept.range c.requires.order c.bucket_of-i.ensures.begin)
 
 pub overflow_add-grains : goal.overflow_add-grains
-overflow_add-grains c =
-    let h = c.args.hist.now in
-    let below : c.loop-i.i < length h.counters = omega (arith, c.loop-i-test.true, ap length c.as_slice-i-end.ensures) in
-    let fits = buckets-fit h c.args.low c.args.high c.loop-i.i _ below c.requires.fits in
-    omega (arith, fits, c.loop-i.invariant, c.grains_of_bucket-grains.ensures)
+overflow_add-grains c = grind (arith, buckets-fit)
 
 pub returns-then-not-is_above : goal.returns-then-not-is_above
 returns-then-not-is_above c =
@@ -25,12 +20,7 @@ returns-then-not-is_above c =
     omega (arith, more, rest, c.loop-i.invariant, c.grains_of_bucket-grains.ensures)
 
 pub loop-i-preserved : goal.loop-i-preserved
-loop-i-preserved c =
-    let more = one-more c.args.hist.now c.args.low c.args.high c.loop-i.i in
-    omega (arith, more, c.loop-i.invariant, c.grains_of_bucket-grains.ensures)
+loop-i-preserved c = grind (arith, one-more)
 
 pub returns : goal.returns
-returns c =
-    let h = c.args.hist.now in
-    let all : c.loop-i.i ≡ length h.counters = omega (arith, c.loop-i-test.false, c.loop-i.auto.i-end, ap length c.as_slice-i-end.ensures, c.bucket_of-i.ensures.inside) in
-    c.loop-i.invariant ∙ ap (grains_of_buckets h c.args.low c.args.high) all
+returns c = grind arith

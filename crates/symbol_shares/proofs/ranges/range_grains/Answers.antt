@@ -1,33 +1,22 @@
-use Rattle.std.proofs.Common.{◌≡◌, ◌+◌, ◌≤◌, List, length, get_or, sym, ap, ◌∙◌, arith}
-use Rattle.std.proofs.lemmas.Bool.{leb-true, leb-false}
+use Rattle.std.proofs.Common.{◌≡◌, ◌+◌, get_or, ap, arith}
+use Rattle.std.proofs.lemmas.Bool.{leb-false}
 use Rattle.std.proofs.lemmas.List.{take_all}
 use Rattle.std.proofs.lemmas.Option.{slice_get_within}
 use Rattle.gmon_data.specs.declared.hist.Hist.{Hist}
 use Rattle.gmon_data.specs.Hists.{IsKept}
-use Rattle.symbol_shares.specs.Ranges.{grains_of_range}
 use Rattle.symbol_shares.proofs.OrderLemmas.{hist-at}
 use Rattle.symbol_shares.proofs.WalkLemmas.{at-place, hist-few}
 use Rattle.symbol_shares.proofs.RangeLemmas.{ended-hists, last-hists, hist-more, range-most, front-most, hist-samples}
 use Rattle.symbol_shares.proofs.ranges.range_grains.Goals as goal
 
 pub loop-k-init : goal.loop-k-init
-loop-k-init c =
-    let hists = c.args.profile.now.hists in
-    let k = c.ended_hists-k.result in
-    sym (ended-hists hists c.args.low c.args.high k c.ended_hists-k.ensures.profile.hists c.requires (λ j d below inside.
-    leb-true (get_or hists j d).high c.args.low (c.ended_hists-k.ensures.point.0 j d (omega arith) below)))
+loop-k-init c = grind (arith, ended-hists)
 
 pub returns-then-high-hist-clause-grains : goal.returns-then-high-hist-clause-grains
-returns-then-high-hist-clause-grains c =
-    let hists = c.args.profile.now.hists in
-    let p = c.ended_hists-k.ensures.profile in
-    c.loop-k.invariant ∙ sym (last-hists hists c.args.low c.args.high c.loop-k.k c.hist-hist.result.now p.hists p.apart c.hist-hist.ensures c.if-high-hist.true)
+returns-then-high-hist-clause-grains c = grind (arith, last-hists)
 
 pub returns-then-high-hist-clause-within : goal.returns-then-high-hist-clause-within
-returns-then-high-hist-clause-within c =
-    let hists = c.args.profile.now.hists in
-    let p = c.ended_hists-k.ensures.profile in
-    omega (arith, c.loop-k.invariant, front-most hists c.args.low c.args.high c.loop-k.k, range-most hists c.args.low c.args.high, p.within.samples)
+returns-then-high-hist-clause-within c = grind (arith, front-most, range-most)
 
 pub grains_in_hist-grains-requires-clause-kept : goal.grains_in_hist-grains-requires-clause-kept
 grains_in_hist-grains-requires-clause-kept c = hist-at IsKept c.args.profile.now.hists c.loop-k.k c.hist-hist.result.now c.ended_hists-k.ensures.profile.hists c.hist-hist.ensures
@@ -36,8 +25,7 @@ pub grains_in_hist-grains-requires-clause-few : goal.grains_in_hist-grains-requi
 grains_in_hist-grains-requires-clause-few c = hist-few c.args.profile.now.hists c.loop-k.k _ c.hist-hist.result.now c.hist-hist.ensures c.ended_hists-k.ensures.profile.within.counters
 
 pub grains_in_hist-grains-requires-clause-fits : goal.grains_in_hist-grains-requires-clause-fits
-grains_in_hist-grains-requires-clause-fits c =
-    omega (arith, hist-samples c.args.profile.now.hists c.loop-k.k c.hist-hist.result.now c.hist-hist.ensures, c.ended_hists-k.ensures.profile.within.samples)
+grains_in_hist-grains-requires-clause-fits c = grind (arith, hist-samples)
 
 pub grains_in_hist-grains-requires-clause-below : goal.grains_in_hist-grains-requires-clause-below
 grains_in_hist-grains-requires-clause-below c =
@@ -59,21 +47,10 @@ overflow_add-grains c =
     omega (arith, c.loop-k.invariant, c.grains_in_hist-grains.ensures, more, front-most hists c.args.low c.args.high (k + 1), range-most hists c.args.low c.args.high, p.within.samples)
 
 pub loop-k-preserved : goal.loop-k-preserved
-loop-k-preserved c =
-    let hists = c.args.profile.now.hists in
-    let k = c.loop-k.k in
-    let inside = slice_get_within hists k c.hist-hist.result.now c.hist-hist.ensures in
-    let more = hist-more hists c.args.low c.args.high k c.hist-hist.result.now c.hist-hist.ensures inside in
-    omega (arith, more, c.loop-k.invariant, c.grains_in_hist-grains.ensures)
+loop-k-preserved c = grind (arith, hist-more)
 
 pub returns-clause-grains : goal.returns-clause-grains
-returns-clause-grains c =
-    let hists = c.args.profile.now.hists in
-    let le : length hists ≤ c.loop-k.k = omega (arith, c.loop-k-test.false, c.hist_count-k-end.ensures.value) in
-    c.loop-k.invariant ∙ ap (λ (hs : List Hist). grains_of_range hs c.args.low c.args.high) (take_all c.loop-k.k hists le)
+returns-clause-grains c = grind (arith, take_all)
 
 pub returns-clause-within : goal.returns-clause-within
-returns-clause-within c =
-    let hists = c.args.profile.now.hists in
-    let p = c.ended_hists-k.ensures.profile in
-    omega (arith, c.loop-k.invariant, front-most hists c.args.low c.args.high c.loop-k.k, range-most hists c.args.low c.args.high, p.within.samples)
+returns-clause-within c = grind (arith, front-most, range-most)

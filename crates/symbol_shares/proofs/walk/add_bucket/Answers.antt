@@ -1,22 +1,13 @@
-use Rattle.std.proofs.Common.{◌+◌, ◌*◌, ◌<◌, ◌≤◌, length, map, ◌∙◌, arith, rules}
-use Rattle.symbol_shares.specs.Shares.{bucket_begin, share_of_bucket}
+use Rattle.std.proofs.Common.{◌+◌, ◌*◌, ◌<◌, ◌≤◌, length, ◌∙◌, arith, rules}
+use Rattle.symbol_shares.specs.Shares.{bucket_begin}
 use Rattle.symbol_shares.proofs.WalkLemmas.{begun-added, more-added, ended-added, fits-more, ended-more, ended-later}
 use Rattle.symbol_shares.proofs.walk.add_bucket.Goals as goal
 
 pub loop-k-init : goal.loop-k-init
-loop-k-init c =
-    let h = c.args.hist.now in
-    record {
-      added = begun-added h c.args.i c.args.symbols.now c.args.of.now c.requires.same c.requires.ascending c.requires.kept.range c.args.from c.requires.ended;
-      ended = ended-later c.args.symbols.now c.args.from (length h.counters) (bucket_begin h c.args.i) (bucket_begin h (c.args.i + 1)) (omega arith) c.requires.ended;
-    }
+loop-k-init c = search (begun-added, ended-later, rules)
 
 pub overflow_add-of : goal.overflow_add-of
-overflow_add-of c =
-    let h = c.args.hist.now in
-    let below : c.loop-k.k < length c.args.of.now = omega (arith, c.loop-k-test.true, c.requires.same) in
-    let fits = fits-more h c.args.i c.loop-k.k c.share_of_bucket.result c.index-symbols-k.result (map (share_of_bucket h c.args.i) c.args.symbols.now) c.args.of.now c.loop-k.of _ below c.loop-k.invariant.added c.share_of_bucket.ensures c.requires.fits in
-    omega (arith, fits)
+overflow_add-of c = search (fits-more, rules)
 
 pub returns-then-is_above-clause-added : goal.returns-then-is_above-clause-added
 returns-then-is_above-clause-added c =

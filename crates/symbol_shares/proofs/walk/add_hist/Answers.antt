@@ -1,22 +1,11 @@
-use Rattle.std.proofs.Common.{◌≡◌, ◌<◌, ◌≤◌, ◌+◌, length, refl, ap, sym, arith}
-use Rattle.symbol_shares.specs.Shares.{bucket_begin, share_of_buckets}
+use Rattle.std.proofs.Common.{◌<◌, ◌≤◌, ◌+◌, length, ap, arith}
+use Rattle.symbol_shares.specs.Shares.{bucket_begin}
 use Rattle.symbol_shares.proofs.SpanLemmas.{begin-rises, bucket-added, left-fits, spans-added}
-use Rattle.symbol_shares.proofs.SumLemmas.{zeros-added}
-use Rattle.symbol_shares.proofs.WalkLemmas.{bucket-fits, ended-later, hist-begun, hist-ended}
+use Rattle.symbol_shares.proofs.WalkLemmas.{bucket-fits, ended-later, hist-ended}
 use Rattle.symbol_shares.proofs.walk.add_hist.Goals as goal
 
 pub loop-i-init : goal.loop-i-init
-loop-i-init c =
-    let h = c.args.hist.now in
-    let symbols = c.args.symbols.now in
-    let j = c.add_whole-i.result in
-    let none = sym (zeros-added (share_of_buckets h 0) c.args.of.now symbols c.requires.same (λ s. refl)) in
-    record {
-      inside = c.add_whole-i.ensures.inside (omega arith);
-      from = c.requires.from;
-      added = spans-added h 0 j symbols c.args.of.now c.args.of.now c.add_whole-i.new.of c.add_whole-i.ensures.rising none c.add_whole-i.ensures.added;
-      ended = ended-later symbols c.args.from (length h.counters) (bucket_begin h 0) (bucket_begin h j) (begin-rises h 0 j (omega arith)) (hist-begun h symbols c.args.from c.requires.ended);
-    }
+loop-i-init c = grind arith
 
 pub add_bucket-from-requires-clause-fits : goal.add_bucket-from-requires-clause-fits
 add_bucket-from-requires-clause-fits c =
@@ -48,7 +37,4 @@ loop-i-preserved c =
     }
 
 pub returns-clause-ended : goal.returns-clause-ended
-returns-clause-ended c =
-    let h = c.args.hist.now in
-    let all : c.loop-i.i ≡ length h.counters = omega (arith, c.loop-i-test.false, c.loop-i.invariant.inside, ap length c.as_slice-count.ensures) in
-    hist-ended h c.args.symbols.now c.loop-i.from c.loop-i.i c.requires.kept.range c.requires.kept.some all c.loop-i.invariant.ended
+returns-clause-ended c = grind (arith, hist-ended)

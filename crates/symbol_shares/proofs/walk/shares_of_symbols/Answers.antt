@@ -1,18 +1,12 @@
-use Rattle.std.proofs.Common.{◌≡◌, [], replicate, length, refl, ◌∙◌, arith, rules}
+use Rattle.std.proofs.Common.{replicate, ◌∙◌, arith, rules}
 use Rattle.gmon_data.specs.Hists.{IsKept}
-use Rattle.symbol_shares.specs.Shares.{share_of}
 use Rattle.symbol_shares.proofs.OrderLemmas.{hist-at}
 use Rattle.symbol_shares.proofs.SumLemmas.{zeros}
 use Rattle.symbol_shares.proofs.WalkLemmas.{hist-few, hist-fits, hist-added, hist-passed, written-back}
 use Rattle.symbol_shares.proofs.walk.shares_of_symbols.Goals as goal
 
 pub loop-k-init : goal.loop-k-init
-loop-k-init c =
-    record {
-      inside = omega arith;
-      added = (let items : c.in_ok-of.of.items ≡ replicate (length c.args.symbols.now) 0 = search rules in items) ∙ zeros (share_of []) c.args.symbols.now (λ s. refl);
-      ended = λ j h from at k d below. absurd (omega arith);
-    }
+loop-k-init c = search (replicate, zeros, rules)
 
 pub add_hist-from-requires-clause-kept : goal.add_hist-from-requires-clause-kept
 add_hist-from-requires-clause-kept c = hist-at IsKept c.args.profile.now.hists c.loop-k.k c.hist.result.now c.requires.profile.hists c.hist.ensures
@@ -21,9 +15,7 @@ pub add_hist-from-requires-clause-few : goal.add_hist-from-requires-clause-few
 add_hist-from-requires-clause-few c = hist-few c.args.profile.now.hists c.loop-k.k _ c.hist.result.now c.hist.ensures c.requires.profile.within.counters
 
 pub add_hist-from-requires-clause-fits : goal.add_hist-from-requires-clause-fits
-add_hist-from-requires-clause-fits c =
-    let fits = hist-fits c.args.profile.now.hists c.loop-k.k c.hist.result.now c.args.symbols.now c.as_mut_slice.result.now c.requires.ascending c.hist.ensures (c.as_mut_slice.ensures.value ∙ c.loop-k.invariant.added) in
-    omega (arith, fits, c.requires.profile.within.samples)
+add_hist-from-requires-clause-fits c = search (hist-fits, rules)
 
 pub loop-k-preserved : goal.loop-k-preserved
 loop-k-preserved c =

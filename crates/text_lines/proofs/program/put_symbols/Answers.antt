@@ -1,11 +1,8 @@
 use Rattle.std.proofs.lemmas.Result.{err_from_is_err_and}
 use Rattle.host_port.specs.declared.side.Side.TheVariants.{Output}
-use Rattle.host_port.proofs.BufferLemmas.{adds_nothing, adds_more, adds_stop, adds_all}
+use Rattle.host_port.proofs.BufferLemmas.{adds_more, adds_stop}
 use Rattle.text_lines.specs.Lines.{symbol_line}
 use Rattle.text_lines.proofs.program.put_symbols.Goals as goal
-
-pub loop-symbol-init : goal.loop-symbol-init
-loop-symbol-init g c = adds_nothing Output _ _ tt
 
 pub returns-in_err-put_symbol : goal.returns-in_err-put_symbol
 returns-in_err-put_symbol g c =
@@ -15,6 +12,3 @@ returns-in_err-put_symbol g c =
 pub loop-symbol-preserved : goal.loop-symbol-preserved
 loop-symbol-preserved g c =
     adds_more Output symbol_line c.args.symbols.now c.loop-symbol.symbol-index c.symbol-item.result _ _ _ _ _ _ _ _ c.loop-symbol-test.true c.symbol-item.is c.loop-symbol.invariant c.in_ok-put_symbol.ensures
-
-pub returns : goal.returns
-returns g c = adds_all Output symbol_line c.args.symbols.now c.loop-symbol.symbol-index _ _ _ _ _ c.loop-symbol-test.false c.loop-symbol.invariant

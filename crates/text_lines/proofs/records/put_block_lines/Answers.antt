@@ -2,7 +2,7 @@ use Rattle.std.proofs.Common.{get_or}
 use Rattle.std.proofs.lemmas.Result.{err_from_is_err_and}
 use Rattle.std.proofs.lemmas.List.{get_or_default}
 use Rattle.host_port.specs.declared.side.Side.TheVariants.{Output}
-use Rattle.host_port.proofs.BufferLemmas.{adds_nothing, adds_more, adds_stop, adds_all}
+use Rattle.host_port.proofs.BufferLemmas.{adds_more, adds_stop}
 use Rattle.gp_base.specs.declared.records.RawBlock.{RawBlock}
 use Rattle.text_lines.specs.Lines.{block_line}
 use Rattle.text_lines.proofs.records.put_block_lines.Goals as goal
@@ -10,9 +10,6 @@ use Rattle.text_lines.proofs.records.put_block_lines.Goals as goal
 -- stands where there is no block
 abbrev none : RawBlock
 none = record { addr = 0; count = 0 }
-
-pub loop-block-init : goal.loop-block-init
-loop-block-init g c = adds_nothing Output _ _ tt
 
 pub returns-in_err-put_block_line : goal.returns-in_err-put_block_line
 returns-in_err-put_block_line g c =
@@ -22,6 +19,3 @@ returns-in_err-put_block_line g c =
 pub loop-block-preserved : goal.loop-block-preserved
 loop-block-preserved g c =
     adds_more Output block_line c.args.blocks.now c.loop-block.block-index (get_or c.args.blocks.now c.loop-block.block-index none) _ _ _ _ _ _ _ _ c.loop-block-test.true (get_or_default c.args.blocks.now c.loop-block.block-index none (get_or c.args.blocks.now c.loop-block.block-index none) c.loop-block-test.true) c.loop-block.invariant c.in_ok-put_block_line.ensures
-
-pub returns : goal.returns
-returns g c = adds_all Output block_line c.args.blocks.now c.loop-block.block-index _ _ _ _ _ c.loop-block-test.false c.loop-block.invariant

@@ -1,15 +1,12 @@
-use Rattle.std.proofs.Common.{◌≤◌, length, get_or, arith, refl}
+use Rattle.std.proofs.Common.{get_or, refl}
 use Rattle.std.specs.List.{enumerate_from}
 use Rattle.std.proofs.lemmas.Result.{err_from_is_err_and}
 use Rattle.std.proofs.lemmas.List.FromFn.{length-enumerate_from}
 use Rattle.host_port.specs.declared.side.Side.TheVariants.{Output}
-use Rattle.host_port.proofs.BufferLemmas.{adds_nothing, adds_more, adds_stop, adds_all}
+use Rattle.host_port.proofs.BufferLemmas.{adds_more, adds_stop, adds_all}
 use Rattle.text_lines.specs.Lines.{counter_text}
 use Rattle.text_lines.proofs.Numbered.{numbered, numbered_in_range}
 use Rattle.text_lines.proofs.records.put_counters.Goals as goal
-
-pub loop-i-init : goal.loop-i-init
-loop-i-init g c = adds_nothing Output _ _ tt
 
 pub returns-in_err-put_counter : goal.returns-in_err-put_counter
 returns-in_err-put_counter g c =
@@ -25,7 +22,4 @@ loop-i-preserved g c =
     adds_more Output (counter_text c.args.head) (enumerate_from 0 xs) i (i, get_or xs i 0) _ _ _ _ _ _ tt _ (numbered_in_range xs xs i refl c.loop-i-test.true) (numbered xs xs i refl c.loop-i-test.true) c.loop-i.invariant c.in_ok-put_counter.ensures
 
 pub returns : goal.returns
-returns g c =
-    let xs = c.args.counters.now in
-    let le : length (enumerate_from 0 xs) ≤ c.loop-i.i = omega (arith, c.loop-i-test.false, length-enumerate_from 0 xs) in
-    adds_all Output (counter_text c.args.head) (enumerate_from 0 xs) c.loop-i.i _ _ _ _ _ le c.loop-i.invariant
+returns g c = search (length-enumerate_from, adds_all)

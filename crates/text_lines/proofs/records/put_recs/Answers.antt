@@ -1,11 +1,8 @@
 use Rattle.std.proofs.lemmas.Result.{err_from_is_err_and}
 use Rattle.host_port.specs.declared.side.Side.TheVariants.{Output}
-use Rattle.host_port.proofs.BufferLemmas.{adds_nothing, adds_more, adds_stop, adds_all}
+use Rattle.host_port.proofs.BufferLemmas.{adds_more, adds_stop}
 use Rattle.text_lines.specs.Lines.{rec_text}
 use Rattle.text_lines.proofs.records.put_recs.Goals as goal
-
-pub loop-rec-init : goal.loop-rec-init
-loop-rec-init g c = adds_nothing Output _ _ tt
 
 pub returns-in_err-put_rec : goal.returns-in_err-put_rec
 returns-in_err-put_rec g c =
@@ -15,6 +12,3 @@ returns-in_err-put_rec g c =
 pub loop-rec-preserved : goal.loop-rec-preserved
 loop-rec-preserved g c =
     adds_more Output (rec_text c.args.form) c.args.recs.now c.loop-rec.rec-index c.rec-item.result _ _ _ _ _ _ _ _ c.loop-rec-test.true c.rec-item.is c.loop-rec.invariant c.in_ok-put_rec.ensures
-
-pub returns : goal.returns
-returns g c = adds_all Output (rec_text c.args.form) c.args.recs.now c.loop-rec.rec-index _ _ _ _ _ c.loop-rec-test.false c.loop-rec.invariant

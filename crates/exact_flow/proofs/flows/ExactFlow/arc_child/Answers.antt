@@ -9,27 +9,20 @@ use Rattle.exact_flow.proofs.PartLemmas.{part_read, fits_read, callee_read, chil
 use Rattle.exact_flow.proofs.flows.ExactFlow.arc_child.Goals as goal
 
 pub index-requires : goal.index-requires
-index-requires c =
-    let low = child_inside c.self.inside c.args.self.now c.self.view_is c.args.i c.requires in
-    let same = c.self.invariant.callees in
-    omega (arith, c.self.inside.callees.ok.0)
+index-requires c = grind (arith, child_inside c.self.inside c.args.self.now c.self.view_is c.args.i c.requires)
 
 pub index-requires-2 : goal.index-requires-2
 index-requires-2 c =
     let low = child_inside c.self.inside c.args.self.now c.self.view_is c.args.i c.requires in
-    let read = callee_read c.self.inside c.self.invariant c.args.i c.index.result.now low c.index.ensures in
-    omega (arith, c.self.inside.children.ok.0)
+    omega (arith, c.self.inside.children.ok.0, callee_read c.self.inside c.self.invariant c.args.i c.index.result.now low c.index.ensures)
 
 pub index-requires-3 : goal.index-requires-3
-index-requires-3 c =
-    let low = child_inside c.self.inside c.args.self.now c.self.view_is c.args.i c.requires in
-    omega (arith, c.self.inside.calls.ok.0)
+index-requires-3 c = grind (arith, child_inside c.self.inside c.args.self.now c.self.view_is c.args.i c.requires)
 
 pub index-requires-4 : goal.index-requires-4
 index-requires-4 c =
     let low = child_inside c.self.inside c.args.self.now c.self.view_is c.args.i c.requires in
-    let read = callee_read c.self.inside c.self.invariant c.args.i c.index.result.now low c.index.ensures in
-    omega (arith, c.self.inside.entering.ok.0)
+    omega (arith, c.self.inside.entering.ok.0, callee_read c.self.inside c.self.invariant c.args.i c.index.result.now low c.index.ensures)
 
 pub carried-requires : goal.carried-requires
 carried-requires c =

@@ -23,7 +23,4 @@ returns-then-self-node-clause-path t c =
     (path_down tree c.go_to.new.self c.args.node c.function.result some c.requires.node c.function.ensures c.go_to.ensures.path (c.go_to.ensures.stack ∙ ap (λ (n : ℕ). stack_of_node tree.nodes.items n) c.caller.ensures)).1
 
 pub returns-then-self-node-clause-stack : goal.returns-then-self-node-clause-stack
-returns-then-self-node-clause-stack t c =
-    let tree = c.args.tree.now in
-    let some : 0 < c.args.node = grind (arith, c.loop-self-test.false, c.if-self-node.true) in
-    (path_down tree c.go_to.new.self c.args.node c.function.result some c.requires.node c.function.ensures c.go_to.ensures.path (c.go_to.ensures.stack ∙ ap (λ (n : ℕ). stack_of_node tree.nodes.items n) c.caller.ensures)).2
+returns-then-self-node-clause-stack t c = grind (arith, path_down)

@@ -1,16 +1,9 @@
-use Rattle.std.proofs.Common.{◌<◌, ℕ, arith, subst, sym}
-use Rattle.folded.proofs.PathLemmas.{Begins, begins_up, shared_front}
+use Rattle.std.proofs.Common.{arith}
+use Rattle.folded.proofs.PathLemmas.{begins_up, shared_front}
 use Rattle.folded.proofs.path.Path.shared.Goals as goal
 
 pub loop-len-preserved : goal.loop-len-preserved
-loop-len-preserved c =
-    let t = c.args.tree.now in
-    let l = c.loop-len in
-    let some : 0 < l.node = grind (arith, c.if-self-len.false, c.loop-len-test.true) in
-    record {
-      len = l.invariant.len;
-      begins = subst (λ (n : ℕ). Begins t.nodes.items c.args.node n) (sym c.caller-node.ensures) (begins_up t c.args.node l.node some l.invariant.begins);
-    }
+loop-len-preserved c = grind (arith, begins_up)
 
 pub returns-clause-other : goal.returns-clause-other
 returns-clause-other c =

@@ -11,9 +11,7 @@ use Rattle.folded.proofs.tracker.Tracker.follow.Goals as goal
 
 -- the shadow of the hart is set twice, and no other
 twice_set : (h : ℕ) (xs ys zs : List Shadow) (s : Shadow) (f : Shadow → Shadow) → h < length xs → ys ≡ set xs h s → zs ≡ set ys h (f (shadow_of ys h)) → zs ≡ set xs h (f s)
-twice_set h xs ys zs s f inside once again =
-    let here : shadow_of ys h ≡ s = ap (λ (x : List Shadow). shadow_of x h) once ∙ get_or-set_same xs h s empty_shadow inside in
-    again ∙ ap (λ (x : Shadow). set ys h (f x)) here ∙ ap (λ (x : List Shadow). set x h (f s)) once ∙ set-set xs h s (f s)
+twice_set h xs ys zs s f inside once again = grind (arith, get_or-set_same, set-set)
 
 pub returns-clause-follows : goal.returns-clause-follows
 returns-clause-follows c = λ t st.

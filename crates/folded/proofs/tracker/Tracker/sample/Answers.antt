@@ -11,13 +11,7 @@ use Rattle.folded.proofs.TrackLemmas.{on_stays, tracked_next}
 use Rattle.folded.proofs.tracker.Tracker.sample.Goals as goal
 
 pub returns-in_default-owner_near-clause-samples : goal.returns-in_default-owner_near-clause-samples
-returns-in_default-owner_near-clause-samples c = λ samples have.
-    let symbols = c.args.symbols.now in
-    let frames = (shadow_of c.args.self.now.shadows.items c.args.hart).frames in
-    let none = sym c.owner_near.ensures ∙ c.in_default-owner_near.is in
-    let same : stacks_of symbols (samples ++ stack_samples c.args.pc frames) ≡ stacks_of symbols samples =
-    ap (λ (o : Option ℕ). stacks_of symbols (samples ++ stack_samples o frames)) c.in-Some.is ∙ stacks-none symbols samples frames c.in-Some.pc none in
-    subst (λ (x : List Stack). IsTreeOf x c.args.self.now.tree) (sym same) have
+returns-in_default-owner_near-clause-samples c = grind (arith, stacks-none)
 
 pub returns-clause-tracked : goal.returns-clause-tracked
 returns-clause-tracked c =

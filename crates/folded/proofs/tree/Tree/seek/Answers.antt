@@ -1,14 +1,10 @@
-use Rattle.std.proofs.Common.{◌≡◌, ◌/◌, ◌<◌, ℕ, Bool, false, true, arith, subst, sym}
+use Rattle.std.proofs.Common.{◌≡◌, ◌/◌, ◌<◌, Bool, false, true, arith, subst, sym}
 use Rattle.folded.specs.declared.links.Side.{Side}
-use Rattle.folded.specs.declared.links.Side.TheVariants.{Callees}
 use Rattle.folded.proofs.LinkLemmas.{Seeks, seek_first, seek_next}
 use Rattle.folded.proofs.tree.Tree.seek.Goals as goal
 
 pub nodes-init : goal.nodes-init
-nodes-init c =
-    let t = c.args.self.now in
-    let S : ℕ → Type 0 = λ bits. Seeks t.nodes.items t.links.items c.args.caller c.args.function c.args.caller Callees bits in
-    subst S (sym c.unwrap_or-bits.ensures) (seek_first t.nodes.items t.links.items c.args.caller c.args.function c.requires.caller)
+nodes-init c = search (seek_first, c.unwrap_or-bits.ensures)
 
 pub nodes-preserved : goal.nodes-preserved
 nodes-preserved c =

@@ -1,13 +1,10 @@
-use Rattle.std.proofs.Common.{ℕ, ◌<◌, List, length, slice_set, ap, ◌∙◌, arith}
-use Rattle.gmon_block.specs.Layout.{Parts}
+use Rattle.std.proofs.Common.{ℕ, ◌<◌, List, ap, ◌∙◌, arith}
 use Rattle.gp_base.specs.Bytes.{with_piece_at}
 use Rattle.gmon_block.proofs.Writes.{counted, with_slot}
 use Rattle.gmon_block.proofs.block.Block.set_froms.Goals as goal
 
 pub put-requires : goal.put-requires
-put-requires c =
-    let n = counted c.self.inside c.args.self.now c.self.view_is in
-    omega (arith, c.self.invariant.size, ap length c.le2.ensures, n.tos, n.counters, n.froms)
+put-requires c = grind (arith, counted)
 
 pub invariant_of-self : goal.invariant_of-self
 invariant_of-self c =
@@ -17,9 +14,4 @@ invariant_of-self c =
     (with_slot c.self.inside c.self.invariant c.args.i c.slot_at-at.result c.args.n c.put.new.self inside (omega (arith, n.tos, n.counters, n.froms)) c.ranges.n.fits wrote).held
 
 pub returns : goal.returns
-returns c =
-    let n = counted c.self.inside c.args.self.now c.self.view_is in
-    let inside : c.args.i < c.self.inside.froms = omega (arith, n.froms) in
-    let wrote = c.put.ensures ∙ ap (λ (bs : List ℕ). with_piece_at c.slot_at-at.result bs c.self.inside.raw) c.le2.ensures in
-    (with_slot c.self.inside c.self.invariant c.args.i c.slot_at-at.result c.args.n c.put.new.self inside (omega (arith, n.tos, n.counters, n.froms)) c.ranges.n.fits wrote).shows
-    ∙ ap (λ (p : Parts). record p { froms = slice_set p.froms c.args.i c.args.n }) c.self.view_is
+returns c = grind (arith, counted, with_slot)

@@ -45,29 +45,13 @@ loop-size-preserved g c =
     ]
 
 pub index-requires-2 : goal.index-requires-2
-index-requires-2 g c =
-    let cs = c.self.inside.chunks.items in
-    omega (arith, c.loop-size.invariant.0, c.loop-size.invariant.1, ap length c.self.invariant.placed, length-starts 0 cs, c.self.inside.starts.ok.0)
+index-requires-2 g c = grind (arith, length-starts)
 
 pub overflow_add-result : goal.overflow_add-result
-overflow_add-result g c =
-    let cs = c.self.inside.chunks.items in
-    let base = c.loop-size.base in
-    let w = c.index-chunk-2.result.now in
-    let lt : base < length cs = omega (arith, c.loop-size.invariant.0, c.loop-size.invariant.1) in
-    let start = start_read cs c.self.inside.starts.items base c.index-2.result.now c.self.invariant.placed lt c.index-2.ensures in
-    let all = chunk_within (λ (y : g.row.T.Denot). true) cs base w lt c.index-chunk-2.ensures in
-    omega (arith, start, all, c.partition_point.ensures.bound, ap length c.deref.ensures.value, c.self.invariant.counted)
+overflow_add-result g c = grind (arith, start_read, chunk_within)
 
 pub returns-clause-bound : goal.returns-clause-bound
-returns-clause-bound g c =
-    let cs = c.self.inside.chunks.items in
-    let base = c.loop-size.base in
-    let w = c.index-chunk-2.result.now in
-    let lt : base < length cs = omega (arith, c.loop-size.invariant.0, c.loop-size.invariant.1) in
-    let start = start_read cs c.self.inside.starts.items base c.index-2.result.now c.self.invariant.placed lt c.index-2.ensures in
-    let all = chunk_within (λ (y : g.row.T.Denot). true) cs base w lt c.index-chunk-2.ensures in
-    omega (arith, start, all, c.partition_point.ensures.bound, ap length c.deref.ensures.value, ap (λ (l : List g.row.T.Denot). length l) c.self.view_is)
+returns-clause-bound g c = grind (arith, start_read, chunk_within)
 
 pub returns-clause-partitioned : goal.returns-clause-partitioned
 returns-clause-partitioned g c = λ p h parted.

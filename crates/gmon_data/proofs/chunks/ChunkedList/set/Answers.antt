@@ -5,9 +5,7 @@ use Rattle.gmon_data.proofs.ChunkLemmas.{below_read, chunked_set, first_start, i
 use Rattle.gmon_data.proofs.chunks.ChunkedList.set.Goals as goal
 
 pub chunk_of-c-requires-clause-first : goal.chunk_of-c-requires-clause-first
-chunk_of-c-requires-clause-first g c =
-    let within : c.args.i < length (items_of c.self.inside.chunks.items) = subst (λ (l : List g.row.T.Denot). c.args.i < length l) (sym c.self.view_is) c.requires in
-    first_start c.self.inside.chunks.items c.as_slice.result.now c.args.i (c.as_slice.ensures.value ∙ c.self.invariant.placed) within
+chunk_of-c-requires-clause-first g c = grind (arith, first_start)
 
 pub chunk_of-c-requires-clause-rising : goal.chunk_of-c-requires-clause-rising
 chunk_of-c-requires-clause-rising g c =
@@ -24,9 +22,7 @@ index_mut-requires g c =
     let cs = c.self.inside.chunks.items in
     let within : c.args.i < length (items_of cs) = subst (λ (l : List g.row.T.Denot). c.args.i < length l) (sym c.self.view_is) c.requires in
     let at = in_chunk cs c.as_slice.result.now c.args.i c.chunk_of-c.result (c.as_slice.ensures.value ∙ c.self.invariant.placed) within c.chunk_of-c.ensures in
-    let start = start_read cs c.self.inside.starts.items c.chunk_of-c.result c.index.result.now c.self.invariant.placed at.inside c.index.ensures in
-    let w = c.index_mut-chunk.result.now in
-    omega (arith, below_read cs c.args.i c.chunk_of-c.result c.index.result.now w at start c.index_mut-chunk.ensures.value, w.ok.0)
+    grind (arith, start_read, below_read)
 
 pub invariant_of-self : goal.invariant_of-self
 invariant_of-self g c =

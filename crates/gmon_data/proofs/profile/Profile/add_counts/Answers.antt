@@ -1,15 +1,11 @@
-use Rattle.std.proofs.Common.{◌≡◌, length, refl, ap, ◌∙◌, arith}
-use Rattle.std.proofs.lemmas.Bool.{le-ltb}
+use Rattle.std.proofs.Common.{refl, ap, ◌∙◌, arith}
 use Rattle.gmon_data.specs.declared.hist.Hist.{Hist}
 use Rattle.gmon_data.specs.Content.{hist_over, with_hist}
-use Rattle.gmon_data.proofs.ContentLemmas.{hist_stands, with_none}
+use Rattle.gmon_data.proofs.ContentLemmas.{hist_stands}
 use Rattle.gmon_data.proofs.profile.Profile.add_counts.Goals as goal
 
 pub returns-then-is_empty-clause-stands : goal.returns-then-is_empty-clause-stands
-returns-then-is_empty-clause-stands c =
-    let none : length c.args.counts.now ≡ 0 = grind (arith, c.is_empty.ensures, c.if-is_empty.true) in
-    hist_stands (hist_over c.args.low c.args.high c.args.counts.now) c.args.«unit» c.args.self.now c.args.self.now c.args.self.now refl
-    (with_none (hist_over c.args.low c.args.high c.args.counts.now) c.args.«unit» c.args.self.now (le-ltb 0 (length c.args.counts.now) (omega (arith, none))))
+returns-then-is_empty-clause-stands c = grind (arith, hist_stands)
 
 pub returns-clause-stands : goal.returns-clause-stands
 returns-clause-stands c =

@@ -1,23 +1,8 @@
-use Rattle.std.proofs.Common.{◌≡◌, sym, subst, ◌∙◌, arith}
+use Rattle.std.proofs.Common.{◌≡◌, sym, subst, ◌∙◌}
 use Rattle.std.specs.List.{AllByRecursion}
-use Rattle.std.proofs.lemmas.Result.{err_from_is_err_and}
-use Rattle.gmon_data.proofs.TallyLemmas.{next_fit, next_fits, next_tallied, tallied_partly}
+use Rattle.gmon_data.proofs.TallyLemmas.{next_fit, next_tallied}
 use Rattle.gmon_data.proofs.tally.Tally.add_all.Goals as goal
 use Rattle.gmon_data.proofs.tally.Tally.add_all.Goals.{then-i-eq0, else-i-eq0}
-
-pub add-requires : goal.add-requires
-add-requires g c =
-    let looked : c.if-i-eq0.self ≡ c.loop-i.self = elim c.if-i-eq0.branch [ then-i-eq0 w ↦ w.self-is ∙ w.look_up.ensures | else-i-eq0 w ↦ w.self-is ] in
-    let fits = next_fits g.K.PartialEq.eq g.R.Counted.entry_of c.args.records.now c.args.self.now c.if-i-eq0.self c.loop-i.i (looked ∙ c.loop-i.invariant.added)
-    c.index-records-i.result c.entry-key.result c.loop-i-test.true c.index-records-i.is c.entry-key.ensures.entry in
-    omega (arith, fits, c.requires)
-
-pub returns-in_err-add-clause-stopped : goal.returns-in_err-add-clause-stopped
-returns-in_err-add-clause-stopped g c =
-    let looked : c.if-i-eq0.self ≡ c.loop-i.self = elim c.if-i-eq0.branch [ then-i-eq0 w ↦ w.self-is ∙ w.look_up.ensures | else-i-eq0 w ↦ w.self-is ] in
-    let p = err_from_is_err_and c.from_residual.result c.from_residual.ensures.1 in
-    rw p.1 (tallied_partly g.K.PartialEq.eq g.R.Counted.entry_of c.args.records.now c.args.self.now c.if-i-eq0.self c.loop-i.i (looked ∙ c.loop-i.invariant.added)
-    c.index-records-i.result c.entry-key.result c.loop-i-test.true c.index-records-i.is c.entry-key.ensures.entry _ c.in_err-add.ensures.unchanged)
 
 pub returns-in_err-add-clause-fit : goal.returns-in_err-add-clause-fit
 returns-in_err-add-clause-fit g c =

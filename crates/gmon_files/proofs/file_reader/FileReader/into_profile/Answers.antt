@@ -1,16 +1,14 @@
-use Rattle.std.proofs.Common.{◌≡◌, ℕ, List, ◌∷◌, None, Some, Result, Err, length, sym, ap, subst, ◌∙◌}
+use Rattle.std.proofs.Common.{◌≡◌, ℕ, List, None, Some, Result, Err, length, sym, ap, subst, ◌∙◌}
 use Rattle.std.specs.Prelude.{IfErr, IfOk, IfSome, OnOk}
 use Rattle.gp_base.specs.declared.records.Form.{Form}
 use Rattle.gp_base.specs.declared.records.Form.TheVariants.{Bsd}
-use Rattle.gp_base.specs.Fields.{seconds}
 use Rattle.gp_base.specs.declared.refusal.GmonRefusal.TheVariants.{Short}
 use Rattle.gmon_data.specs.declared.refusal.AddRefusal.TheVariants as answers
 use Rattle.gmon_data.specs.declared.refusal.ReadRefusal.{ReadRefusal}
 use Rattle.gmon_data.specs.declared.refusal.ReadRefusal.TheVariants.{Profile}
-use Rattle.gmon_data.specs.Content.{Content, WideRec, WideHist, conflict_of, content_of, empty_content, hist_over, wide_records}
+use Rattle.gmon_data.specs.Content.{Content, conflict_of, content_of, empty_content, wide_records}
 use Rattle.gmon_data.specs.Refusals.{IsReadRefusal}
 use Rattle.gmon_data.proofs.RecordLemmas.{arcs_widened}
-use Rattle.gmon_bsd.specs.Reading.{file_arcs, file_counters, high_of, low_of, rate_of}
 use Rattle.gmon_gnu.specs.FirstHists.{conflict_among_first}
 use Rattle.gmon_gnu.proofs.FirstHistsLemmas.{nothing_told, one_alone}
 use Rattle.gmon_files.specs.declared.file_reader.FileReader.{FileReader}
@@ -37,11 +35,7 @@ module _ (answer : Result Content ReadRefusal) (bytes : List ℕ) (f : Form) whe
 
 -- a file of the 4.4BSD form has one histogram
 none_told : (answer : Result Content ReadRefusal) (bytes : List ℕ) → Told answer bytes Bsd
-none_told answer bytes accepted =
-    let arcs = file_arcs bytes in
-    let h = hist_over (low_of bytes) (high_of bytes) (file_counters bytes) in
-    let none = ap (λ (l : List WideRec). conflict_of empty_content (WideHist h (seconds (rate_of bytes)) ∷ l)) (arcs_widened arcs) ∙ one_alone h (seconds (rate_of bytes)) arcs in
-    nothing_told 64 (wide_records (records_in Bsd bytes).recs) (λ u. answer ≡ Err (Profile (answers.Unlike u))) none
+none_told answer bytes accepted = search (arcs_widened, one_alone, nothing_told)
 
 pub returns-in-Front-clause-refusal : goal.returns-in-Front-clause-refusal
 returns-in-Front-clause-refusal c = λ bytes stands.

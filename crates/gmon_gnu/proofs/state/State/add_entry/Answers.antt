@@ -18,8 +18,7 @@ pub add_body-requires-clause-within : goal.add_body-requires-clause-within
 add_body-requires-clause-within c = more_within (wide_record (held_rec c.args.self.now c.args.entry.body)) c.args.profile.now (held_widened c.args.self.now c.args.entry) c.arcs_before.ensures c.in_ok-add_arcs.ensures.added c.requires.within
 
 pub returns-clause-added : goal.returns-clause-added
-returns-clause-added c =
-    on_ok c.add_body.result c.add_body.ensures.added (λ a. more_added (wide_record (held_rec c.args.self.now c.args.entry.body)) c.args.profile.now (held_widened c.args.self.now c.args.entry) c.arcs_before.ensures c.in_ok-add_arcs.ensures.added a)
+returns-clause-added c = search (on_ok, more_added, held_widened, c.add_body.ensures.added, c.arcs_before.ensures, c.in_ok-add_arcs.ensures.added)
 
 pub returns-clause-stopped : goal.returns-clause-stopped
 returns-clause-stopped c =

@@ -3,9 +3,7 @@ use Rattle.gmon_gnu.proofs.AddingLemmas.{entries_stopped, entries_within, last_a
 use Rattle.gmon_gnu.proofs.state.State.add_to.Goals as goal
 
 pub add_entries-requires-clause-within : goal.add_entries-requires-clause-within
-add_entries-requires-clause-within c =
-    let s = c.args.self.now in
-    entries_within s.fields.items s.counters.cells.items s.pairs.cells.items s.arcs.items s.entries.items s.run c.args.profile.now _ c.expect_records.ensures c.requires.within
+add_entries-requires-clause-within c = search entries_within
 
 pub returns-in_err-add_entries-clause-stopped : goal.returns-in_err-add_entries-clause-stopped
 returns-in_err-add_entries-clause-stopped c =

@@ -2,7 +2,7 @@ use Rattle.std.proofs.Common.{subst, arith}
 use Rattle.gmon_gnu.specs.declared.state.Begun.{Begun}
 use Rattle.gmon_gnu.specs.Begun.{Follows}
 use Rattle.gmon_gnu.specs.Held.{recs_of}
-use Rattle.gmon_gnu.proofs.StateLemmas.{begins_hist, begins_blocks, arc_came, goes_between}
+use Rattle.gmon_gnu.proofs.StateLemmas.{begins_hist, begins_blocks, arc_came}
 use Rattle.gmon_gnu.proofs.state.State.begin.Goals as goal
 
 pub returns-in-Hist-clause-goes : goal.returns-in-Hist-clause-goes
@@ -13,11 +13,7 @@ returns-in-Hist-clause-goes c = λ whole rest follows.
     (subst (λ (b : Begun). Follows whole (recs_of s) b rest) c.in-Hist.is follows))
 
 pub returns-in-Arc-clause-goes : goal.returns-in-Arc-clause-goes
-returns-in-Arc-clause-goes c = λ whole rest follows.
-    let s = c.args.self.now in
-    let on = arc_came whole s.fields.items s.counters.cells.items s.pairs.cells.items s.arcs.items c.push_reserved.new.self.items s.entries.items s.run c.in-Arc.arc s.torn rest
-    c.requires.front.spans c.requires.front.run c.push_reserved.ensures.items c.requires.front.torn (subst (λ (b : Begun). Follows whole (recs_of s) b rest) c.in-Arc.is follows) in
-    goes_between whole (record s { arcs = c.push_reserved.new.self }) rest c.requires.part on
+returns-in-Arc-clause-goes c = grind (arith, arc_came)
 
 pub returns-in-Blocks-clause-goes : goal.returns-in-Blocks-clause-goes
 returns-in-Blocks-clause-goes c = λ whole rest follows.

@@ -6,9 +6,7 @@ use Rattle.graph_report.specs.Tables.{arcs_into_cycle}
 use Rattle.graph_report.proofs.inputs.Inputs.arcs_into.Goals as goal
 
 pub of-requires : goal.of-requires
-of-requires c =
-    let g = c.args.self.now.sources.graph.now in
-    record { count = component_count g; of = arcs_into_cycle g; groups = c.args.self.now.found.into; below = c.requires.component }
+of-requires c = search c.requires.component
 
 pub returns : goal.returns
 returns c =

@@ -3,9 +3,7 @@ use Rattle.graph_report.specs.GraphText.{members_of}
 use Rattle.graph_report.proofs.inputs.Inputs.members.Goals as goal
 
 pub of-requires : goal.of-requires
-of-requires c =
-    let g = c.args.self.now.sources.graph.now in
-    record { count = component_count g; of = members_of g; groups = c.args.self.now.found.members; below = c.requires.component }
+of-requires c = search c.requires.component
 
 pub returns : goal.returns
 returns c =

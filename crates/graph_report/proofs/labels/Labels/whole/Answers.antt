@@ -1,42 +1,31 @@
-use Rattle.std.proofs.Common.{◌+◌, ◌-◌, suc, length, take, drop, ap, ◌∙◌, arith}
+use Rattle.std.proofs.Common.{◌+◌, ◌-◌, take, drop, ap, ◌∙◌, arith}
 use Rattle.call_cycles.proofs.ListLemmas.{list_long}
-use Rattle.graph_report.specs.Lists.{start_of}
 use Rattle.graph_report.proofs.ListLemmas.{list_there, start_read, start_rises, start_within}
 use Rattle.graph_report.proofs.labels.Labels.whole.Goals as goal
 
 pub index-start-requires : goal.index-start-requires
-index-start-requires c =
-    let has = c.requires in
-    let starts = c.args.self.now.starts in
-    omega (arith, list_long (suc has.count) (start_of has.of) starts.items has.labels.texts.each, starts.ok.0, has.below)
+index-start-requires c = search (arith, list_long)
 
 pub index-requires : goal.index-requires
-index-requires c =
-    let has = c.requires in
-    let starts = c.args.self.now.starts in
-    omega (arith, list_long (suc has.count) (start_of has.of) starts.items has.labels.texts.each, starts.ok.0, has.below)
+index-requires c = search (arith, list_long)
 
 pub overflow_sub-len : goal.overflow_sub-len
 overflow_sub-len c =
     let has = c.requires in
     let from = start_read has.of has.count c.args.f _ _ has.labels.texts.each (omega (arith, has.below)) c.index-start.ensures in
-    let to = start_read has.of has.count (c.args.f + 1) _ _ has.labels.texts.each (omega (arith, has.below)) c.index.ensures in
-    omega (arith, from, to, start_rises has.of c.args.f)
+    grind (arith, start_read, start_rises)
 
 pub split_at-requires : goal.split_at-requires
 split_at-requires c =
     let has = c.requires in
     let from = start_read has.of has.count c.args.f _ _ has.labels.texts.each (omega (arith, has.below)) c.index-start.ensures in
-    let all = ap length (c.deref.ensures.value ∙ has.labels.texts.whole) in
-    omega (arith, from, all, start_rises has.of c.args.f, start_within has.of c.args.f has.count has.below)
+    grind (arith, start_rises, start_within)
 
 pub split_at-requires-2 : goal.split_at-requires-2
 split_at-requires-2 c =
     let has = c.requires in
-    let from = start_read has.of has.count c.args.f _ _ has.labels.texts.each (omega (arith, has.below)) c.index-start.ensures in
     let to = start_read has.of has.count (c.args.f + 1) _ _ has.labels.texts.each (omega (arith, has.below)) c.index.ensures in
-    let all = ap length (c.deref.ensures.value ∙ has.labels.texts.whole) in
-    omega (arith, from, to, all, c.split_at.ensures.back_len, start_within has.of c.args.f has.count has.below)
+    grind (arith, start_within)
 
 pub returns : goal.returns
 returns c = λ count of labels low.

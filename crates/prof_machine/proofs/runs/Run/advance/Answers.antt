@@ -7,7 +7,6 @@ use Rattle.prof_machine.proofs.StandingLemmas.{with_live}
 use Rattle.prof_machine.proofs.TurnLemmas.{taken_instructed, turn_prints, turn_stands}
 use Rattle.prof_machine.proofs.NoteLemmas.{instructed_note, turn_noted}
 use Rattle.prof_machine.specs.declared.notes.TurnNote.{TurnNote}
-use Rattle.prof_machine.specs.Notes.{note_by, note_of}
 use Rattle.prof_machine.specs.Stages.{PrintsAs}
 use Rattle.prof_machine.specs.Turn.{after_close, after_ordinary_turn, after_look, turn_of}
 use Rattle.prof_machine.specs.Value.{RunValue, StandsFor, value_of}
@@ -34,13 +33,7 @@ returns-clause-stands g c = λ w st.
     (with_live _ (value_of c.self-2.inside) _ (subst V (sym c.self-2.view_is) (c.close.ensures.stands _ mid)))) c.requires.live st
 
 pub returns-in_err-note-clause-outside : goal.returns-in_err-note-clause-outside
-returns-in_err-note-clause-outside g c =
-    let a = c.self.inside in
-    let h = c.args.hart in
-    let v = c.args.self.now in
-    let p = err_from_is_err_and c.from_residual.result c.from_residual.ensures.1 in
-    let here = instructed_prints a v h c.self.view_is c.self.invariant.going c.requires.live (sym c.if-holds_walk.ensures) in
-    rw p.1 (fails_like (λ w. turn_of v.machine w h) (after_ordinary_turn a.machine h) v (value_of (record a { live = false })) _ _ _ _ (λ w st. (here w st).0) (λ w st. (here w st).1) c.in_err-note.ensures.outside)
+returns-in_err-note-clause-outside g c = search (err_from_is_err_and, instructed_prints, fails_like, rules)
 
 pub returns-clause-outside : goal.returns-clause-outside
 returns-clause-outside g c =
@@ -66,14 +59,4 @@ pub returns-clause-fewer : goal.returns-clause-fewer
 returns-clause-fewer g c = fewer_turns c.self.inside _ _ c.self.view_is c.self.invariant c.requires.live (search rules)
 
 pub returns-clause-note : goal.returns-clause-note
-returns-clause-note g c = λ w st.
-    let a = c.self.inside in
-    let h = c.args.hart in
-    let P : RunValue → Type 0 = λ v. v.live ≡ true → StandsFor w v → c.if-holds_walk.note ≡ note_of v.machine w h in
-    subst P c.self.view_is (λ live (s : StandsFor w (value_of a)).
-    let s' : StandsFor w (value_of (record a { live = false })) = with_live w (value_of a) false s in
-    let made : c.if-holds_walk.note ≡ note_by a.machine h (looks_of_hart w.left h) w = elim c.if-holds_walk.branch [
-      | then-holds_walk b ↦ b.note-is ∙ b.of_look-note.ensures ∙ b.look.ensures.note w s'
-      | else-holds_walk+in_ok-note b ↦ b.note-is ∙ b.in_ok-note.ensures.note w s' ∙ instructed_note a.machine h w (value_of (record a { live = false })) (sym b.if-holds_walk.ensures) s'
-    ] in
-    turn_noted a.machine h w (value_of a) _ (c.self.invariant.going live) s made) c.requires.live st
+returns-clause-note g c = search (with_live, then-holds_walk, else-holds_walk+in_ok-note, instructed_note, turn_noted, rules)

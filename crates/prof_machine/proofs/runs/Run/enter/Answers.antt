@@ -7,9 +7,6 @@ use Rattle.prof_machine.specs.World.{World, hart_of}
 use Rattle.prof_machine.specs.Value.{RunValue, StandsFor, value_of}
 use Rattle.prof_machine.proofs.HookLemmas.{called_as, ignored_stands, lost_stands, walking_stands}
 use Rattle.prof_machine.proofs.StandingLemmas.{hart_read, there}
-use Rattle.std.proofs.Common.{◌≡◌, ◌∙◌, None, ap}
-use Rattle.prof_machine.proofs.NoteLemmas.{call_return_as}
-use Rattle.prof_machine.specs.Notes.{return_from_call, return_of}
 use Rattle.prof_machine.proofs.runs.Run.enter.Goals as goal
 
 pub returns-in-Walking-clause-stands : goal.returns-in-Walking-clause-stands
@@ -49,31 +46,13 @@ returns-in-Ignored-clause-stands c = λ w st.
     (let R : RunValue → Type 0 = λ v. StandsFor (after_entering a.machine h c.get.result c.get-2.result Ignored w) v in subst R (sym c.return_from_hook-in-Ignored.ensures.run) (ignored_stands w (value_of a) c.enter.new.self h _ _ (c.in-Ignored.ensures.stands w.log s.gmon) s))) st
 
 pub returns-in-Walking-clause-note : goal.returns-in-Walking-clause-note
-returns-in-Walking-clause-note c = λ w st.
-    let a = c.self.inside in
-    let h = c.args.hart in
-    let read = hart_read a.harts.items h _ (there a c.args.self.now h c.self.invariant c.self.view_is c.requires.turn.hart) c.index-regs.ensures in
-    let P : RunValue → Type 0 = λ v. StandsFor w v → None ≡ return_from_call v.machine w.log (hart_of w.harts h) in
-    subst P c.self.view_is (λ (s : StandsFor w (value_of a)).
-    sym (call_return_as w (value_of a) h _ _ _ (Walking c.in-Walking.walk) read c.get.ensures.value c.get-2.ensures.value c.in-Walking.ensures.answer c.self.invariant.sizes s)) st
+returns-in-Walking-clause-note c = grind (arith, hart_read)
 
 pub returns-in-Lost-clause-note : goal.returns-in-Lost-clause-note
-returns-in-Lost-clause-note c = λ w st.
-    let a = c.self.inside in
-    let h = c.args.hart in
-    let read = hart_read a.harts.items h _ (there a c.args.self.now h c.self.invariant c.self.view_is c.requires.turn.hart) c.index-regs.ensures in
-    let P : RunValue → Type 0 = λ v. StandsFor w v → c.return_from_hook.result ≡ return_from_call v.machine w.log (hart_of w.harts h) in
-    subst P c.self.view_is (λ (s : StandsFor w (value_of a)).
-    c.return_from_hook.ensures.to ∙ ap return_of read ∙ sym (call_return_as w (value_of a) h _ _ _ Lost read c.get.ensures.value c.get-2.ensures.value c.in-Lost.ensures.answer c.self.invariant.sizes s)) st
+returns-in-Lost-clause-note c = grind arith
 
 pub returns-in-Ignored-clause-note : goal.returns-in-Ignored-clause-note
-returns-in-Ignored-clause-note c = λ w st.
-    let a = c.self.inside in
-    let h = c.args.hart in
-    let read = hart_read a.harts.items h _ (there a c.args.self.now h c.self.invariant c.self.view_is c.requires.turn.hart) c.index-regs.ensures in
-    let P : RunValue → Type 0 = λ v. StandsFor w v → c.return_from_hook-in-Ignored.result ≡ return_from_call v.machine w.log (hart_of w.harts h) in
-    subst P c.self.view_is (λ (s : StandsFor w (value_of a)).
-    c.return_from_hook-in-Ignored.ensures.to ∙ ap return_of read ∙ sym (call_return_as w (value_of a) h _ _ _ Ignored read c.get.ensures.value c.get-2.ensures.value c.in-Ignored.ensures.answer c.self.invariant.sizes s)) st
+returns-in-Ignored-clause-note c = grind (arith, hart_read)
 
 pub returns-in-Lost-clause-serves : goal.returns-in-Lost-clause-serves
 returns-in-Lost-clause-serves c = grind (arith, common_steps)

@@ -4,8 +4,7 @@ use Rattle.mcount_arcs.specs.Value.{StandsFor as RuntimeStandsFor, with_tick}
 use Rattle.prof_machine.specs.Turn.{after_sample, while_going}
 use Rattle.prof_machine.specs.Value.{IsHeld, RunValue, StandsFor, value_of}
 use Rattle.prof_machine.proofs.StandingLemmas.{hart_read, held_sampled, is_ended, is_none, sampled_stands, stands_ended, stands_going, there, unsampled_stands}
-use Rattle.prof_machine.proofs.NoteLemmas.{ended_part, going_part, sampled_note, then_some_is, unsampled_note}
-use Rattle.prof_machine.specs.Notes.{if_going, sample_in}
+use Rattle.prof_machine.proofs.NoteLemmas.{sampled_note, unsampled_note}
 use Rattle.prof_machine.proofs.runs.Run.sample.Goals as goal
 use Rattle.prof_machine.proofs.runs.Run.sample.Goals.{then-counts, else-counts}
 
@@ -56,24 +55,10 @@ invariant_of-self c =
     ]
 
 pub returns-then-is_some-clause-note : goal.returns-then-is_some-clause-note
-returns-then-is_some-clause-note c = λ w st.
-    let P : RunValue → Type 0 = λ v. StandsFor w v → None ≡ if_going (sample_in v.machine c.args.hart) w in
-    subst P c.self.view_is (λ (s : StandsFor w (value_of c.self.inside)). sym (ended_part (sample_in c.self.inside.machine c.args.hart) w (value_of c.self.inside) s (is_ended c.self.inside.ending (sym c.if-is_some.ensures)))) st
+returns-then-is_some-clause-note c = grind arith
 
 pub returns-then-self-ne0-clause-note : goal.returns-then-self-ne0-clause-note
-returns-then-self-ne0-clause-note c = λ w st.
-    let a = c.self.inside in
-    let P : RunValue → Type 0 = λ v. StandsFor w v → (v.ending ≡ None → v.due < v.machine.setup.every) → None ≡ if_going (sample_in v.machine c.args.hart) w in
-    subst P c.self.view_is (λ (s : StandsFor w (value_of a)) (most : a.ending ≡ None → a.due < a.machine.setup.every).
-    let going = is_none a.ending (sym c.if-is_some.ensures) in
-    sym (going_part (sample_in a.machine c.args.hart) w (value_of a) s going ∙ unsampled_note w a c.args.hart c.self.invariant c.if-self-ne0.true (most going) s)) st c.requires.due
+returns-then-self-ne0-clause-note c = grind (arith, unsampled_note)
 
 pub returns-clause-note : goal.returns-clause-note
-returns-clause-note c = λ w st.
-    let a = c.self.inside in
-    let h = c.args.hart in
-    let read = hart_read a.harts.items h _ (there a c.args.self.now h c.self.invariant c.self.view_is c.requires.turn.hart) c.index.ensures in
-    let P : RunValue → Type 0 = λ v. StandsFor w v → c.then_some.result ≡ if_going (sample_in v.machine h) w in
-    subst P c.self.view_is (λ (s : StandsFor w (value_of a)).
-    let going = is_none a.ending (sym c.if-is_some.ensures) in
-    c.then_some.ensures ∙ then_some_is _ _ ∙ sym (going_part (sample_in a.machine c.args.hart) w (value_of a) s going ∙ sampled_note w a h c.pc-pc.result _ _ c.self.invariant read c.pc-pc.ensures c.if-self-ne0.false c.counts-counts.ensures s)) st
+returns-clause-note c = grind (arith, hart_read, sampled_note)

@@ -11,6 +11,4 @@ returns c =
     let same : c.args.self.now.bytes ≡ bs = ap (λ (m : Memory). m.bytes) (sym c.self.view_is) in
     let here : c.args.at + 1 ≤ length bs = omega (arith, ap (λ (v : List ℕ). length v) same) in
     let within : c.args.at < length bs = omega arith in
-    let read = get_or_read bs c.args.at _ within c.index.ensures 0 in
-    let number = field_is 1 c.args.at bs here in
-    omega (arith, read, number, value_is c.args.self.now c.args.at 1 bs same)
+    omega (arith, get_or_read bs c.args.at _ within c.index.ensures 0, field_is 1 c.args.at bs here, value_is c.args.self.now c.args.at 1 bs same)

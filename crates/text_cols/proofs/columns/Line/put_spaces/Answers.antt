@@ -1,13 +1,10 @@
 use Rattle.std.proofs.Common.{ℕ, List, ◌++◌, ap, ◌∙◌, arith, rules}
 use Rattle.std.proofs.lemmas.List.{take-replicate}
-use Rattle.text_cols.specs.Columns.{spaces}
 use Rattle.text_cols.proofs.SpaceLemmas.{put_spaces_front}
 use Rattle.text_cols.proofs.columns.Line.put_spaces.Goals as goal
 
 pub returns-then-start-clause-bytes : goal.returns-then-start-clause-bytes
-returns-then-start-clause-bytes c =
-    put_spaces_front c.self.inside.len _ c.self.inside.buffer c.copy_from_slice.new.self c.args.n 32 (omega arith) (omega arith) (search rules) (search rules)
-    ∙ ap (λ (s : List ℕ). s ++ spaces c.args.n) c.self.view_is
+returns-then-start-clause-bytes c = search (put_spaces_front, rules)
 
 pub returns-else-n-le-SPAN-clause-bytes : goal.returns-else-n-le-SPAN-clause-bytes
 returns-else-n-le-SPAN-clause-bytes c = c.put.ensures.bytes ∙ ap (λ (s : List ℕ). c.args.self.now ++ s) (take-replicate c.args.n 256 32 (omega arith))

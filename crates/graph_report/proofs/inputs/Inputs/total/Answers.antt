@@ -1,8 +1,0 @@
-use Rattle.std.proofs.Common.{arith}
-use Rattle.graph_report.proofs.TimeLemmas.{total_small}
-use Rattle.graph_report.proofs.inputs.Inputs.total.Goals as goal
-
-pub returns-clause-within : goal.returns-clause-within
-returns-clause-within c =
-    let all = total_small c.args.self.now c.args.f c.requires.function in
-    omega (arith, c.share.ensures.value, c.child.ensures.value)
