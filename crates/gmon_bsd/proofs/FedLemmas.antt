@@ -1,9 +1,11 @@
 -- What a reader has kept, after one piece more.
-use Rattle.std.proofs.Common.{◌≡◌, ℕ, zero, suc, ◌-◌, ◌≤◌, Bool, true, false, cond, List, [], ◌∷◌, ◌++◌, length, take, drop, length-take, length-drop, refl, sym, ap, subst, ◌∙◌, inl, inr, arith}
-use Rattle.std.proofs.lemmas.Bool.{cases_lt}
-use Rattle.std.proofs.lemmas.List.{append-nil, take_all, drop_all, take-append-le, drop-append-le}
+use Rattle.std.proofs.Common.{◌≡◌, ℕ, zero, suc, ◌-◌, ◌≤◌, Bool, true, false, cond, min, Option, Some, None, List, [], ◌∷◌, ◌++◌, length, take, drop, length-take, length-drop, refl, sym, ap, subst, ◌∙◌, inl, inr, arith}
+use Rattle.std.proofs.lemmas.Bool.{cases_lt, le-leb}
+use Rattle.std.specs.Option.{is_some}
+use Rattle.std.proofs.lemmas.List.{append-nil, take_all, drop_all, take-append-le, drop-append-le, take_min, drop_min}
 use Rattle.gmon_cells.specs.Cells as columns
-use Rattle.gmon_bsd.specs.Reading.{size_of}
+use Rattle.gp_base.specs.declared.refusal.GmonRefusal.{GmonRefusal}
+use Rattle.gmon_bsd.specs.Reading.{size_of, header_refusal}
 use Rattle.gmon_bsd.specs.Fed.{is_kept, counter_part, arc_part}
 
 -- ---- a front and a rest of two lists, one after the other
@@ -108,3 +110,15 @@ pub column_on : {X : Type 0} (w : ℕ) (cell : List ℕ → X) (part more part1 
     → columns.StandsFor w cell part cells0 torn0 → cells1 ≡ cells0 → torn1 ≡ torn0 → more ≡ part1 → part ++ part1 ≡ whole
     → ((bytes : List ℕ) → columns.StandsFor w cell bytes cells1 torn1 → columns.StandsFor w cell (bytes ++ more) cells2 torn2) → columns.StandsFor w cell whole cells2 torn2
 column_on {X} w cell part more part1 whole cells0 cells1 torn0 torn1 cells2 torn2 s cells_are torn_is more_is whole_is fed = grind arith
+
+-- ---- the parts, by the number of bytes that are due to the counters
+
+pub kept_without_fault : (header : List ℕ) (fault : Option GmonRefusal) → 32 ≤ length header → fault ≡ header_refusal header → false ≡ is_some fault → is_kept header ≡ true
+kept_without_fault header (Some _) whole is none = absurd cc
+kept_without_fault header None whole is _ = rw (sym is, le-leb 32 (length header) whole) refl
+
+pub counters_due : (header : List ℕ) (at n : ℕ) (body : List ℕ) → is_kept header ≡ true → n ≡ min (size_of header - at) (length body) → take n body ≡ counter_part header at body
+counters_due header at n body kept n_is = rw (kept, n_is) (take_min (size_of header - at) body)
+
+pub arcs_due : (header : List ℕ) (at n : ℕ) (body : List ℕ) → is_kept header ≡ true → n ≡ min (size_of header - at) (length body) → drop n body ≡ arc_part header at body
+arcs_due header at n body kept n_is = rw (kept, n_is) (drop_min (size_of header - at) body)
