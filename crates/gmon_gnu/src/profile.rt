@@ -1,6 +1,6 @@
 //! The profile of what was read of a file.
 
-ghost use Rattle.std.specs.Prelude.{◌≡◌, ◌<◌, ◌≤◌, ◌^◌, ◌++◌, length, take, Some, Err, IfErr, IfOk, IfSome, OnOk};
+ghost use Rattle.std.specs.Prelude.{◌≡◌, ◌<◌, ◌≤◌, ◌^◌, ◌++◌, true, length, take, Some, Err, IfErr, IfOk, IfSome, OnOk};
 ghost use Rattle.std.specs.List.{AllByRecursion, flat_map};
 ghost use Rattle.gp_base.specs.Spans.{HasRange};
 ghost use Rattle.gmon_data.specs.Content.{empty_content, conflict_of, wide_records, with_records, IsAdded, IsStopped, IsWithin as IsWithinLimits};
@@ -37,7 +37,7 @@ impl State {
         ensures told { IfSome (conflict_among_first 64 (wide_records (recs_of self.now)))
             (λ unlike. result ≡ Err (Unlike unlike)) }
     {
-        match self.in_address_order(alloc) {
+        match self.made_profile(alloc) {
             Ok(profile) => Ok(profile),
             Err(AddRefusal::Unlike(unlike)) => Err(AddRefusal::Unlike(unlike)),
             Err(AddRefusal::OutOfMemory) => Err(self.refusal_without_memory()),
@@ -59,39 +59,56 @@ impl State {
         }
     }
 
-    /// The profile of the records. The histograms before the first one that is unlike one before it are added in
-    /// ascending order of their low addresses, where each one takes its place behind those before it, and the others
-    /// in the order of the file: a profile is the same in whatever order they come. Where one of them can't be added,
-    /// the first one of the file that can't is told.
-    fn in_address_order(&self, alloc: Global) -> Result<Profile, AddRefusal>
+    /// The profile of the records.
+    fn made_profile(&self, alloc: Global) -> Result<Profile, AddRefusal>
         requires { CanBeAdded self.now empty_content }
         ensures made { IfOk result (IsProfileOf self.now) }
+        ensures refusal { IfErr result (IsConflictOf self.now) }
+    {
+        let mut profile = Profile::new(alloc);
+        match self.add_all(alloc, &mut profile) {
+            Ok(()) => Ok(profile),
+            Err(refusal) => Err(refusal),
+        }
+    }
+
+    /// Adds the records to an empty profile: in address order, or from the begin in the order of the file where a
+    /// histogram is unlike one before it, so that the first one of the file that can't be added is told.
+    fn add_all(&self, alloc: Global, profile: &mut Profile) -> Result<(), AddRefusal>
+        requires able { CanBeAdded self.now empty_content }
+        requires empty { profile.old ≡ empty_content }
+        ensures made { OnOk result (IsProfileOf self.now profile.new) }
+        ensures refusal { IfErr result (IsConflictOf self.now) }
+    {
+        if self.add_in_address_order(alloc, profile)? {
+            return Ok(());
+        }
+        *profile = Profile::new(alloc);
+        self.add_to(profile)
+    }
+
+    /// Adds the records to an empty profile, and says whether it went so far. The histograms before the first one that
+    /// is unlike one before it are added in ascending order of their low addresses, where each one takes its place
+    /// behind those before it, and the others in the order of the file: a profile is the same in whatever order they
+    /// come. It ends early where one of the first is unlike another after all.
+    fn add_in_address_order(&self, alloc: Global, profile: &mut Profile) -> Result<bool, AddRefusal>
+        requires able { CanBeAdded self.now empty_content }
+        requires empty { profile.old ≡ empty_content }
+        ensures made { IfOk result (λ all. all ≡ true → IsProfileOf self.now profile.new) }
         ensures refusal { IfErr result (IsConflictOf self.now) }
     {
         let entries = self.entries.as_slice();
         let (alike, order) = alike_in_order(alloc, self.fields.as_slice(), entries)?;
         let (first, later) = entries.split_at(alike);
-        let mut profile = Profile::new(alloc);
         profile.expect_records(self.arcs.as_slice(), self.pairs.cells.as_slice());
-        match self.add_placed(&mut profile, first, order.as_slice()) {
+        match self.add_placed(profile, first, order.as_slice()) {
             Ok(()) => {
-                self.add_behind(&mut profile, later)?;
-                Ok(profile)
+                self.add_behind(profile, later)?;
+                Ok(true)
             }
             Err(AddRefusal::OutOfMemory) => Err(AddRefusal::OutOfMemory),
-            Err(AddRefusal::Unlike(_)) => self.in_file_order(alloc),
+            Err(AddRefusal::Unlike(_)) => Ok(false),
         }
-    }
-
-    /// The profile of the records, added in the order of the file.
-    fn in_file_order(&self, alloc: Global) -> Result<Profile, AddRefusal>
-        requires { CanBeAdded self.now empty_content }
-        ensures made { IfOk result (IsProfileOf self.now) }
-        ensures refusal { IfErr result (IsConflictOf self.now) }
-    {
-        let mut profile = Profile::new(alloc);
-        self.add_to(&mut profile)?;
-        Ok(profile)
     }
 
     /// Adds the histograms with these places, in this order.
