@@ -14,7 +14,6 @@ pub mod laws;
 mod level;
 mod number;
 mod order;
-pub mod values;
 
 pub use build::graph;
 pub use graphs::{FunArc, Graph};

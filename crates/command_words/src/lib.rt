@@ -7,7 +7,6 @@ pub mod names;
 mod numbers;
 mod options;
 pub mod places;
-pub mod values;
 mod verbs;
 pub mod words;
 

@@ -3,6 +3,5 @@
 
 pub mod outcome;
 pub mod refusals;
-pub mod values;
 
 pub use outcome::{Done, Fault};

@@ -15,7 +15,6 @@ pub mod refusal;
 mod sections;
 mod segments;
 mod symbols;
-pub mod values;
 
 pub use image::{Image, Segment, SegmentList, Symbol, SymbolList, read};
 pub use owners::{owner, symbol_count};

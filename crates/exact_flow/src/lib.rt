@@ -11,7 +11,6 @@ pub mod refusal;
 pub mod solve;
 pub mod step;
 pub mod tables;
-pub mod values;
 
 pub use flows::ExactFlow;
 pub use refusal::ExactRefusal;

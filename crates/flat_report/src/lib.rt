@@ -11,7 +11,6 @@ pub mod refusal;
 pub mod report;
 mod rows;
 pub mod sources;
-pub mod values;
 
 pub use refusal::ReportRefusal;
 pub use report::write;

@@ -14,7 +14,6 @@ mod shadow;
 pub mod tally;
 mod tracker;
 mod tree;
-pub mod values;
 pub mod writer;
 
 pub use folded_run::fold;

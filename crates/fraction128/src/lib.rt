@@ -8,6 +8,5 @@ pub mod divisors;
 pub mod fracs;
 pub mod laws;
 pub mod order;
-pub mod values;
 
 pub use fracs::Frac;

@@ -4,7 +4,6 @@
 pub mod block;
 pub mod entry;
 mod raw;
-pub mod values;
 
 pub use block::Block;
 pub use entry::Tos;

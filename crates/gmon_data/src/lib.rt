@@ -10,7 +10,6 @@ pub mod laws;
 pub mod profile;
 pub mod refusal;
 mod tally;
-pub mod values;
 
 pub use hist::{Hist, HistRange};
 pub use hists::unlike;

@@ -8,7 +8,6 @@ pub mod limits;
 pub mod quotients;
 pub mod records;
 pub mod refusal;
-pub mod values;
 
 pub use bytes::{arc_text, half, le2, le4, word};
 pub use items::{BlockList, Counts, Items, Name, RecList, Totals};

@@ -10,7 +10,6 @@ pub mod mem_host;
 pub mod never_fails;
 pub mod pieces;
 pub mod side;
-pub mod values;
 pub mod whole_file;
 
 pub use buffers::{OutBuf, PrintBuf};

@@ -1,5 +1,5 @@
 -- How far a walk through a plan has come.
-use Rattle.std.specs.Prelude.{◌≡◌, ℕ, ◌-◌, ◌/◌, ◌%◌, ◌<◌, ◌≤◌}
+use Rattle.std.specs.Prelude.{◌≡◌, ◌≢◌, ℕ, ◌-◌, ◌/◌, ◌%◌, ◌<◌, ◌≤◌}
 use Rattle.settings.specs.declared.setup.Plan.{Plan}
 use Rattle.settings.specs.declared.setup.Plan.TheVariants.{RoundRobin, Seeded}
 use Rattle.settings.specs.declared.setup.Setup.{Setup}
@@ -29,11 +29,11 @@ abbrev pub IsDrawn : Plan → ℕ → PlanPlace → Type 0
 IsDrawn (RoundRobin quantum) n p = IsRound quantum n p
 IsDrawn (Seeded seed) n p = p.state ≡ state_after seed n
 
--- it has passed the first n turns of the plan: turn n is next
+-- it has passed the first n turns of the plan: turn n is next. One hart has every turn, so its walk keeps no count
 pub record Draws (setup : Setup) (n : ℕ) (p : PlanPlace) : Type 0 where
   pub plan : p.plan ≡ setup.plan
   pub harts : p.harts ≡ setup.harts
-  pub drawn : IsDrawn setup.plan n p
+  pub drawn : p.harts ≢ 1 → IsDrawn setup.plan n p
 
 -- what keeps its counters within their ranges
 pub record IsWithin (a : Inside) : Type 0 where

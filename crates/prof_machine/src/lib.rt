@@ -12,7 +12,6 @@ pub mod runs;
 pub mod schedule;
 mod stages;
 pub mod summary;
-pub mod values;
 
 pub use notes::{Ran, TurnNote};
 pub use runs::Run;

@@ -50,7 +50,7 @@ impl PlanWalk {
         }
     }
 
-    /// The hart that takes the next turn. Takes no memory.
+    /// The hart that takes the next turn. One hart takes every turn. Takes no memory.
     pub fn next_hart(&mut self) -> u32
         ensures taker { (setup : AnySetup) (n : ℕ) → Draws setup n self.old
             → result ≡ taker_of setup.plan setup.harts n }
@@ -59,6 +59,9 @@ impl PlanWalk {
         ensures below { result < self.old.harts }
         ensures harts { self.new.harts ≡ self.old.harts }
     {
+        if self.harts == 1 {
+            return 0;
+        }
         match self.plan {
             Plan::RoundRobin { quantum } => self.next_in_round(quantum),
             Plan::Seeded { seed: _ } => {

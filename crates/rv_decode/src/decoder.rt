@@ -205,7 +205,7 @@ fn system(word: u32) -> Option<Instr>
     }
 }
 
-#[inline(always)]
+#[inline]
 fn funct3(word: u32) -> u32
     ensures funct3 { result ≡ field word 12 3 }
     ensures below { result < 8 }
@@ -213,7 +213,7 @@ fn funct3(word: u32) -> u32
     bits(word, 12, 3)
 }
 
-#[inline(always)]
+#[inline]
 fn funct7(word: u32) -> u32
     ensures { result ≡ field word 25 7 }
 {

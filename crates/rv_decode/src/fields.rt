@@ -7,7 +7,7 @@ ghost use Rattle.rv_decode.specs.declared.forms.Form.TheVariants.{Branch, Immedi
 
 use crate::instruction::{Instr, Op};
 
-#[inline(always)]
+#[inline]
 pub fn upper(op: Op, word: u32) -> Instr
     ensures { result ≡ instr_in Upper op word }
 {
@@ -20,7 +20,7 @@ pub fn upper(op: Op, word: u32) -> Instr
     }
 }
 
-#[inline(always)]
+#[inline]
 pub fn jump(op: Op, word: u32) -> Instr
     ensures { result ≡ instr_in Jump op word }
 {
@@ -50,7 +50,7 @@ pub fn branch(op: Op, word: u32) -> Instr
     }
 }
 
-#[inline(always)]
+#[inline]
 pub fn immediate(op: Op, word: u32) -> Instr
     ensures { result ≡ instr_in Immediate op word }
 {
@@ -63,7 +63,7 @@ pub fn immediate(op: Op, word: u32) -> Instr
     }
 }
 
-#[inline(always)]
+#[inline]
 pub fn shift(op: Op, word: u32) -> Instr
     ensures { result ≡ instr_in Shift op word }
 {
@@ -76,7 +76,7 @@ pub fn shift(op: Op, word: u32) -> Instr
     }
 }
 
-#[inline(always)]
+#[inline]
 pub fn store(op: Op, word: u32) -> Instr
     ensures { result ≡ instr_in Store op word }
 {
@@ -89,7 +89,7 @@ pub fn store(op: Op, word: u32) -> Instr
     }
 }
 
-#[inline(always)]
+#[inline]
 pub fn register(op: Op, word: u32) -> Instr
     ensures { result ≡ instr_in Register op word }
 {
@@ -102,7 +102,7 @@ pub fn register(op: Op, word: u32) -> Instr
     }
 }
 
-#[inline(always)]
+#[inline]
 pub fn plain(op: Op, word: u32) -> Instr
     ensures { result ≡ instr_in Plain op word }
 {
@@ -115,21 +115,21 @@ pub fn plain(op: Op, word: u32) -> Instr
     }
 }
 
-#[inline(always)]
+#[inline]
 fn rd(word: u32) -> u32
     ensures { result ≡ field word 7 5 }
 {
     bits(word, 7, 5)
 }
 
-#[inline(always)]
+#[inline]
 fn rs1(word: u32) -> u32
     ensures { result ≡ field word 15 5 }
 {
     bits(word, 15, 5)
 }
 
-#[inline(always)]
+#[inline]
 fn rs2(word: u32) -> u32
     ensures { result ≡ field word 20 5 }
 {
@@ -137,7 +137,7 @@ fn rs2(word: u32) -> u32
 }
 
 /// The `count` bits of the word from bit `low` on.
-#[inline(always)]
+#[inline]
 pub fn bits(word: u32, low: u32, count: u32) -> u32
     requires low { low < 32 }
     requires count { count < 32 }
@@ -147,7 +147,7 @@ pub fn bits(word: u32, low: u32, count: u32) -> u32
 }
 
 /// The value in two's complement of bits whose highest counts `sign`.
-#[inline(always)]
+#[inline]
 fn signed(bits: u32, sign: u32) -> i32
     requires bits { bits < 2 * sign }
     requires sign { sign ≤ 2 ^ 31 }

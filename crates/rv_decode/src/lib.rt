@@ -7,7 +7,6 @@ mod forms;
 pub mod instruction;
 pub mod speller;
 pub mod table;
-pub mod values;
 
 pub use decoder::decode;
 pub use instruction::{Instr, Op};

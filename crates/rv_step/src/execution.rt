@@ -77,14 +77,14 @@ pub(crate) fn execute(instr: &Instr, regs: &mut Regs, ram: &mut Ram) -> Stepped
 }
 
 /// An address and a constant, modulo 2^32.
-#[inline(always)]
+#[inline]
 fn target(from: u32, imm: i32) -> u32
     ensures { result ≡ jump_target from imm }
 {
     from.wrapping_add(imm.cast_unsigned())
 }
 
-#[inline(always)]
+#[inline]
 fn pass(regs: &mut Regs) -> Stepped
     ensures { (m : Memory) → outcome result regs.new m ≡ outcome
         Stepped.Retired (at_next regs.old) m }
@@ -93,7 +93,7 @@ fn pass(regs: &mut Regs) -> Stepped
     Stepped::Retired
 }
 
-#[inline(always)]
+#[inline]
 fn give(rd: u32, value: u32, regs: &mut Regs) -> Stepped
     requires { rd < 32 }
     ensures { (m : Memory) → outcome result regs.new m ≡ outcome Stepped.Retired
@@ -104,7 +104,7 @@ fn give(rd: u32, value: u32, regs: &mut Regs) -> Stepped
 }
 
 #[tactic(auto, unfolding(crate::specs::Step::jumps))]
-#[inline(always)]
+#[inline]
 fn jump(instr: &Instr, to: u32, regs: &mut Regs) -> Stepped
     ensures { (m : Memory) → outcome result regs.new m ≡ jumps instr.now to regs.old m }
 {
@@ -116,7 +116,7 @@ fn jump(instr: &Instr, to: u32, regs: &mut Regs) -> Stepped
     Stepped::Retired
 }
 
-#[inline(always)]
+#[inline]
 fn jump_to_register(instr: &Instr, regs: &mut Regs) -> Stepped
     ensures { (m : Memory) → outcome result regs.new m ≡ jumps instr.now
         (register_target instr.now regs.old) regs.old m }
@@ -126,7 +126,7 @@ fn jump_to_register(instr: &Instr, regs: &mut Regs) -> Stepped
 }
 
 #[tactic(auto, unfolding(crate::specs::Step::branches))]
-#[inline(always)]
+#[inline]
 fn branch(op: Op, instr: &Instr, regs: &mut Regs) -> Stepped
     requires { instr.now.op ≡ op }
     ensures { (m : Memory) → outcome result regs.new m ≡ branches instr.now regs.old m }
@@ -143,7 +143,7 @@ fn branch(op: Op, instr: &Instr, regs: &mut Regs) -> Stepped
 }
 
 /// The address of a load or a store.
-#[inline(always)]
+#[inline]
 fn address(instr: &Instr, regs: &Regs) -> u32
     ensures { result ≡ address_of instr.now regs.now }
 {
@@ -152,7 +152,7 @@ fn address(instr: &Instr, regs: &Regs) -> u32
 
 /// How many bytes a load moves.
 #[tactic(auto, unfolding(crate::specs::Alu::load_width))]
-#[inline(always)]
+#[inline]
 fn load_width(op: Op) -> u32
     ensures width { result ≡ load_width op }
     ensures positive { 0 < result }
@@ -166,7 +166,7 @@ fn load_width(op: Op) -> u32
 
 /// How many bytes a store moves.
 #[tactic(auto, unfolding(crate::specs::Alu::store_width))]
-#[inline(always)]
+#[inline]
 fn store_width(op: Op) -> u32
     ensures width { result ≡ store_width op }
     ensures positive { 0 < result }
@@ -197,7 +197,7 @@ fn load(op: Op, instr: &Instr, regs: &mut Regs, ram: &Ram) -> Stepped
 
 /// What a load makes of the bytes at a place.
 #[tactic(auto, unfolding(crate::specs::Alu::extension_of, crate::specs::Alu::load_width))]
-#[inline(always)]
+#[inline]
 fn value(op: Op, ram: &Ram, at: usize) -> u32
     requires { at + load_width op ≤ length ram.now.bytes }
     ensures { result ≡ extension_of op (value_at ram.now (ram.now.base + at) (load_width op)) }
@@ -235,7 +235,7 @@ fn store(op: Op, instr: &Instr, regs: &mut Regs, ram: &mut Ram) -> Stepped
 
 /// Stores the low bytes of a number at a place.
 #[tactic(auto, unfolding(crate::specs::Alu::store_width))]
-#[inline(always)]
+#[inline]
 fn put(op: Op, at: usize, value: u32, ram: &mut Ram)
     requires { at + store_width op ≤ length ram.old.bytes }
     ensures stored { ram.new ≡ write_at ram.old (ram.old.base + at) (le value (store_width op)) }
@@ -250,7 +250,7 @@ fn put(op: Op, at: usize, value: u32, ram: &mut Ram)
 }
 
 #[tactic(auto, unfolding(crate::specs::Step::computes))]
-#[inline(always)]
+#[inline]
 fn compute(op: Op, instr: &Instr, regs: &mut Regs) -> Stepped
     requires { instr.now.op ≡ op }
     ensures { (m : Memory) → outcome result regs.new m ≡ computes instr.now regs.old m }
@@ -260,7 +260,7 @@ fn compute(op: Op, instr: &Instr, regs: &mut Regs) -> Stepped
 }
 
 #[tactic(auto, unfolding(crate::specs::Step::computes_with))]
-#[inline(always)]
+#[inline]
 fn compute_with(op: Op, instr: &Instr, regs: &mut Regs) -> Stepped
     requires { instr.now.op ≡ op }
     ensures { (m : Memory) → outcome result regs.new m ≡ computes_with instr.now regs.old m }

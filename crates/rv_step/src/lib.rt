@@ -7,7 +7,6 @@ pub mod memory;
 pub mod registers;
 pub mod stepped;
 pub mod stepper;
-pub mod values;
 
 pub use memory::Ram;
 pub use registers::Regs;

@@ -17,5 +17,5 @@ mod sum;
 mod syms;
 pub mod top;
 
-pub use courses::{Done, Fault, outcome, values};
+pub use courses::{Done, Fault, outcome};
 pub use top::rvgprof;

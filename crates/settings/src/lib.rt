@@ -3,7 +3,6 @@
 
 pub mod cut_words;
 pub mod setup;
-pub mod values;
 
 pub use cut_words::is_cut_word;
 pub use setup::{Plan, Setup};
