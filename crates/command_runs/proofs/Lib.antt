@@ -1,2 +1,3 @@
+pub mod Folding
 pub mod Performing
 pub mod Running

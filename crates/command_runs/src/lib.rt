@@ -2,7 +2,9 @@
 #![tactic(auto)]
 
 pub mod files;
+pub mod folds;
 pub mod runs;
 
 pub use files::write_file;
-pub use runs::{RunOutputs, run_alone, run_program, start_run};
+pub use folds::fold_program;
+pub use runs::{RunOutputs, run_alone, run_program};

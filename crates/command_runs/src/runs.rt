@@ -38,7 +38,12 @@ pub struct RunOutputs {
 }
 
 /// Starts a run of a program.
-pub fn start_run(alloc: Global, image: &Image, bytes: &[u8], setup: Setup) -> Result<Run, Fault>
+pub(crate) fn start_run(
+    alloc: Global,
+    image: &Image,
+    bytes: &[u8],
+    setup: Setup,
+) -> Result<Run, Fault>
     requires limits { IsWithinLimits (length bytes.now) image.now }
     requires setup { IsSetup setup }
     ensures started { IfOk result (IsStarted image.now bytes.now setup) }

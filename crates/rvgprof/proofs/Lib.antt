@@ -1,5 +1,5 @@
 pub mod ToldLemmas
-pub mod Folding
+pub mod FoldedText
 pub mod LastLine
 pub mod CompletenessLemmas
 pub mod AcceptanceLemmas

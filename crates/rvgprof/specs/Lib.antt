@@ -4,7 +4,6 @@ pub mod RunFile
 pub mod Acceptance
 pub mod Headline
 pub mod Fitting
-pub mod Folding
 pub mod Demonstrating
 pub mod Claims
 pub mod Examples

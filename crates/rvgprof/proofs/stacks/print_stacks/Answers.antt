@@ -7,7 +7,8 @@ use Rattle.prof_machine.specs.Start.{final_world}
 use Rattle.mcount_arcs.specs.Sizes.{sizes_of}
 use Rattle.courses.specs.Answer.{fold_program, sums_up}
 use Rattle.courses.specs.FoldedReport.{folded_report}
-use Rattle.rvgprof.proofs.Folding.{may_stop_folding, text_is}
+use Rattle.command_runs.proofs.Folding.{may_stop_folding}
+use Rattle.rvgprof.proofs.FoldedText.{text_is}
 use Rattle.command_runs.proofs.Running.{may_stop_start, run_told}
 use Rattle.courses.proofs.Standing.{does, fails}
 use Rattle.rvgprof.proofs.stacks.print_stacks.Goals as goal

@@ -1,5 +1,4 @@
 -- How a command goes on once the samples of a run were folded, or ends.
--- Only private functions speak of it.
 use Rattle.std.specs.Prelude.{ℕ, Bool, List, length, Result, Err, MatchResult}
 use Rattle.elf32_syms.specs.declared.image.Image.{Image}
 use Rattle.host_port.specs.Act.{Act}

@@ -15,10 +15,10 @@ use Rattle.folded.specs.Tally.{Folds}
 use Rattle.folded.specs.Trail.{run_samples}
 use Rattle.courses.specs.Answer.{stacks_told}
 use Rattle.courses.specs.Course.{one_by_one}
-use Rattle.rvgprof.proofs.Folding.{fold_done, fold_stops, may_stop_folding}
+use Rattle.command_runs.proofs.Folding.{fold_done, fold_stops, may_stop_folding}
 use Rattle.command_runs.proofs.Performing.{printed_performs}
 use Rattle.command_runs.proofs.Running.{last_is, not_started, performs_due, run_of}
-use Rattle.rvgprof.proofs.stacks.fold_program.Goals as goal
+use Rattle.command_runs.proofs.folds.fold_program.Goals as goal
 
 pub returns-in_err-run-clause-folds : goal.returns-in_err-run-clause-folds
 returns-in_err-run-clause-folds g c = λ words start below done inclusive s.

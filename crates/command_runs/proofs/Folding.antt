@@ -1,13 +1,8 @@
 -- A run whose samples were folded, as the words ask for it.
-use Rattle.std.proofs.Common.{◌≡◌, ℕ, suc, ◌+◌, ◌<◌, Bool, true, false, List, [], ◌∷◌, ◌++◌, length, map, Result, Ok, Err, inl, refl, sym, ap, subst, ◌∙◌, arith}
-use Rattle.std.specs.Prelude.{slice_index, if◌then◌else◌}
-use Rattle.std.specs.List.{range_with_len}
+use Rattle.std.proofs.Common.{◌≡◌, ℕ, ◌+◌, Bool, false, List, ◌++◌, Result, Ok, Err, inl, refl, sym, ap, subst, ◌∙◌}
 use Rattle.elf32_syms.specs.declared.image.Image.{Image}
 use Rattle.settings.specs.declared.setup.Setup.{Setup}
 use Rattle.folded.specs.Folding.{HasCause, StopsShort}
-use Rattle.folded.specs.Stacks.{inclusive_of}
-use Rattle.folded.specs.Tally.{Folds, FoldedValue}
-use Rattle.folded.specs.Text.{folded_text, functions_text, inclusive_text, lines_text}
 use Rattle.folded.specs.declared.refusal.FoldRefusal.{FoldRefusal}
 use Rattle.folded.specs.declared.refusal.FoldRefusal.TheVariants as folds
 use Rattle.host_port.specs.Act.{Act, writes_after}
@@ -20,7 +15,6 @@ use Rattle.prof_machine.proofs.PrintLemmas.{prints_driven}
 use Rattle.courses.specs.Answer.{fold_fault_of, fold_program, stacks_told}
 use Rattle.courses.specs.Contract.{Acted}
 use Rattle.courses.specs.Course.{one_by_one}
-use Rattle.courses.specs.FoldedReport.{folded_report, run_stacks}
 use Rattle.command_runs.specs.Running.{IsStarted}
 use Rattle.courses.specs.Standing.{MayStopHere, Stands}
 use Rattle.command_runs.proofs.Performing.{drive_fails, printed_performs}
@@ -71,22 +65,3 @@ module _ (words : List (List ℕ)) (start mid new : Outside) (below : ℕ) (done
       no_memory words start new below (done ++ front) (one_by_one rest.0 (stacks_told inclusive image bytes setup))
       (does_first {T = Unit {0}} {E = Unit {0}} words start mid new below done front rest.0 (stacks_told inclusive image bytes setup) tt parted performs shut)
       (λ contents. one_by_one_stop contents rest.0 (stacks_told inclusive image bytes setup) (may_stop_stacks inclusive image bytes setup contents))
-
--- the numbers of functions, one after the other
-all_inclusive : (xs : List ℕ) (f : ℕ → ℕ) (a : ℕ) → ((g : ℕ) → g < length xs → slice_index xs g ≡ f (a + g)) → xs ≡ map f (range_with_len a (length xs))
-all_inclusive [] f a each = refl
-all_inclusive (x ∷ xs) f a each =
-    let first : x ≡ f a = each 0 (omega arith) ∙ ap f (omega arith) in
-    let others = all_inclusive xs f (a + 1) (λ g less. each (suc g) (omega arith) ∙ ap f (omega arith)) in
-    ap (λ (y : ℕ). y ∷ xs) first ∙ ap (λ (ys : List ℕ). f a ∷ ys) others
-
--- the text of what was folded is that of the run's stacks
-pub text_is : (inclusive : Bool) (image : Image) (bytes : List ℕ) (setup : Setup) (f : FoldedValue) → Folds (length image.symbols) (run_stacks image bytes setup) f
-    → (if inclusive then inclusive_text image.symbols f else folded_text image.symbols f) ≡ folded_report inclusive image bytes setup
-unfolding folded_report
-text_is false image bytes setup f folds = ap (lines_text image.symbols) folds.lines
-text_is true image bytes setup f folds =
-    let stacks = run_stacks image bytes setup in
-    let each : (g : ℕ) → g < length f.inclusive → slice_index f.inclusive g ≡ inclusive_of stacks (0 + g) = λ g less. (let same : g ≡ 0 + g = omega arith in
-    folds.inclusive g (omega (arith, less, folds.functions_are)) ∙ ap (inclusive_of stacks) same) in
-    ap (functions_text image.symbols) (all_inclusive f.inclusive (inclusive_of stacks) 0 each ∙ ap (λ (n : ℕ). map (inclusive_of stacks) (range_with_len 0 n)) folds.functions_are)
