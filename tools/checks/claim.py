@@ -275,7 +275,7 @@ def laws_of(files, is_of):
     """The laws of some crates: functions of nothing."""
     return [(crate, module, name) for (crate, module), file in files.items() if isinstance(file, Source) and is_of(crate)
             for name, lines in file.blocks.items()
-            if lines and LAW.match(lines[0]) and file.kinds[name] == "fn" and (crate, name) not in COPIES]
+            if lines and LAW.match(lines[0]) and file.kinds[name] == "fn"]
 
 
 def contracts_in(files, crate, module, names=None):
@@ -291,8 +291,6 @@ def contracts_in(files, crate, module, names=None):
 ALONE = {"The contract", "The headline"}
 # The modules of std whose words its Prelude hands on.
 HANDED_ON = {"Bool", "Fmt", "List", "Option", "Result", "Str"}
-# Laws that say once more what others say.
-COPIES = {("rvgprof", "claims"), ("rvgprof_main", "written_out")}
 SYSTEM = ("system_host", "folder_system")
 
 

@@ -11,7 +11,7 @@ use Rattle.gmon_files.proofs.RecordLemmas.{spans_of_file}
 use Rattle.profile_sum.proofs.LikeLemmas.{alike_joined}
 use Rattle.rvgprof.specs.Acceptance.{AreProfileFiles}
 use Rattle.command_inputs.specs.Totals.{records_of}
-use Rattle.rvgprof.specs.Claims.{AlikeFilesHaveNoConflict}
+use Rattle.rvgprof.specs.Alike.{AlikeFilesHaveNoConflict}
 
 joined_all : (P : WideRec → Type 0) (a b : List WideRec) → AllByRecursion P a → AllByRecursion P b → AllByRecursion P (a ++ b)
 joined_all P [] b front back = back

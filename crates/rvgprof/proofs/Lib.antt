@@ -13,9 +13,6 @@ pub mod DemoLemmas
 pub mod LineLemmas
 pub mod Demonstrating
 pub mod DoneLemmas
-pub mod ClaimLemmas
-pub mod MeaningLemmas
 pub mod DemoWords
-pub mod DemoClaims
 pub mod ExampleLemmas
 pub mod AlikeLemmas

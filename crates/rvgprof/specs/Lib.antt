@@ -5,5 +5,5 @@ pub mod Acceptance
 pub mod Headline
 pub mod Fitting
 pub mod Demonstrating
-pub mod Claims
+pub mod Alike
 pub mod Examples

@@ -15,7 +15,7 @@ ghost use Rattle.courses.specs.Contract.{LineEnds, WhereTold};
 ghost use Rattle.rvgprof.specs.Completeness.{Stayed, NoneFailed, Complete};
 ghost use Rattle.rvgprof.specs.Acceptance.{IsAccepted, acts_at_once};
 ghost use Rattle.rvgprof.specs.Headline.{Answered, ExecutionsAreListed};
-ghost use Rattle.rvgprof.specs.Claims.{AlikeFilesHaveNoConflict, Claims};
+ghost use Rattle.rvgprof.specs.Alike.{AlikeFilesHaveNoConflict};
 ghost use Rattle.rvgprof.specs.Examples.{FileExamples, WordExamples};
 ghost use Rattle.rvgprof.specs.RunFile.{ProfileFilesAreReadBack, RunFilesAreReadBack};
 
@@ -107,92 +107,3 @@ pub fn examples_are_read()
     ensures files { FileExamples }
     ensures words { WordExamples }
 {}
-
-/// What the words of the headline rest on in the layers below, in one statement. Each claim is written out, and
-/// follows from the law of its layer that is called here, so that none of these laws can come to say less.
-pub fn claims()
-    ensures { Claims }
-{
-    command_words::laws::lines_are_short();
-    gp_base::bytes::little_endian();
-    host_port::acts::acts_follow();
-    gmon_bsd::laws::one_meaning();
-    gmon_bsd::laws::run_read_back();
-    gmon_gnu::laws::one_meaning();
-    gmon_gnu::laws::first_fault();
-    gmon_gnu::laws::run_read_back();
-    gmon_gnu::laws::counted_run_read_back();
-    gmon_gnu::laws::profile_read_back();
-    gmon_files::laws::run_read_back();
-    gmon_files::laws::records_have_spans();
-    profile_sum::laws::sum_of_contents();
-    profile_sum::laws::parts_have_sum();
-    profile_sum::laws::hists_are_kept();
-    profile_sum::laws::alike_are_joined();
-    gmon_data::laws::records_add_up();
-    gmon_data::laws::counters_add_up();
-    gmon_data::laws::executions_add_up();
-    gmon_data::laws::ranges_are_of_records();
-    arc_filter::laws::calls_that_stay();
-    arc_filter::laws::times_stay();
-    arc_filter::laws::profiles_stay();
-    elf32_syms::laws::first_at_an_address();
-    elf32_syms::laws::accepted_within_limits();
-    rv_decode::table::instruction_table();
-    rv_step::memory::memory_map();
-    prof_machine::laws::turns_follow();
-    prof_machine::laws::runs_end();
-    prof_machine::laws::clock();
-    prof_machine::laws::notes_tell();
-    prof_machine::laws::pairs_are_counts();
-    prof_machine::laws::prints_stay();
-    prof_machine::laws::none_ends_busy();
-    prof_machine::laws::logs_are_legal();
-    mcount_arcs::laws::samples_alone();
-    mcount_arcs::laws::one_sample_more();
-    mcount_arcs::laws::one_bucket();
-    mcount_arcs::laws::longest_front_is_kept();
-    mcount_arcs::laws::one_call_more();
-    mcount_arcs::laws::indices_stay();
-    mcount_arcs::laws::links_after_one_call_more();
-    mcount_arcs::laws::looks_stay();
-    symbol_shares::laws::all_samples_are_shared();
-    symbol_shares::laws::covered_ranges();
-    symbol_shares::laws::whole_buckets();
-    symbol_shares::laws::parts_of_buckets();
-    symbol_shares::laws::ranges_add_up();
-    annotate::laws::cells_add_up();
-    annotate::laws::addresses_have_one_cell();
-    call_cycles::laws::one_numbering();
-    call_cycles::laws::other_members();
-    call_cycles::laws::values_are_graphs();
-    propagate::laws::one_flow();
-    propagate::laws::conservation();
-    propagate::laws::no_more_than_all();
-    propagate::laws::time_in_proportion();
-    propagate::laws::exact_times();
-    propagate::laws::nearness();
-    exact_flow::laws::first_steps();
-    exact_flow::laws::one_exact_flow();
-    fraction128::laws::lowest_terms();
-    fraction128::laws::exact_values();
-    flat_report::laws::functions_in_order();
-    flat_report::laws::time_up_to_the_last_line();
-    flat_report::laws::calls_of_all_lines();
-    flat_report::laws::lines_that_are_shown();
-    graph_report::laws::entries_in_order();
-    graph_report::laws::names_have_entries();
-    graph_report::laws::entries_that_are_shown();
-    graph_report::laws::entries_of_roots();
-    graph_report::laws::callers_and_callees_rise();
-    folded::laws::stacks_end_where_sampled();
-    folded::laws::samples_are_counted();
-    folded::laws::lines_add_up();
-    folded::laws::lines_count();
-    folded::laws::lines_ascend();
-    demo_laws::laws::programs_are_read_back();
-    demo_laws::laws::demo_is_accepted();
-    demo_laws::laws::demo_has_image();
-    demo_laws::laws::demo_starts();
-    demo_laws::laws::witness_is_accepted();
-}

@@ -1,7 +1,6 @@
 //! The program: the words of the command line, the system as a host, and the exit status.
 #![tactic(auto)]
 
-pub mod laws;
 mod real_folder;
 
 ghost use Rattle.std.specs.Prelude.{◌≡◌, false, map, string_bytes};
