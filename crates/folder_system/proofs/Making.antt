@@ -1,24 +1,25 @@
 -- How a file is made beside the named one, or the named one is opened in place.
 use native.Mathlib.Omega.{arith}
 use Rattle.std.proofs.Common.{◌≡◌, inl, inr, ℕ, suc, ◌+◌, true, false, List, [], ◌∷◌, ◌++◌, Option, Some, None, Ok, Err, refl, sym, ap, subst, ◌∙◌}
-use Rattle.std.specs.Prelude.{Result, IfOk, IfSome, OnOk, OnErr, MatchOption, ⊤}
+use Rattle.std.specs.Result.{result_unwrap_or}
+use Rattle.std.specs.Prelude.{Bool, Result, IfOk, IfSome, OnOk, OnErr, MatchOption, ⊤, string_bytes, unwrap_or}
 use Rattle.std.specs.declared.io.Error.{Error}
 use Rattle.std.specs.declared.io.ErrorKind.{ErrorKind}
 use Rattle.host_port.specs.Act.{File, has_file}
 use Rattle.host_port.specs.Outside.{Becomes}
 use Rattle.folder_system.specs.declared.folder.Found.{Found}
-use Rattle.folder_system.specs.declared.folder.Found.TheVariants.{Nothing, File as RegularFile, Other}
 use Rattle.folder_system.specs.declared.folder.Attributes.{Attributes}
 use Rattle.folder_system.specs.declared.place.Place.{Place}
 use Rattle.folder_system.specs.declared.place.Place.TheVariants.{Beside as StandsBeside, In}
 use Rattle.folder_system.specs.Names.{numbered}
-use Rattle.folder_system.specs.Events.{Event, Looked, Tried, Made, Opened, Removed, History, Answer, after, Follows, files_after}
+use Rattle.folder_system.specs.Events.{Event, Looked, Made, LookedAt, Opened, Removed, History, Answer, after, Follows, files_after, found_by}
 use Rattle.std.specs.declared.io.ErrorKind.TheVariants.{AlreadyExists}
-use Rattle.folder_system.specs.Found.{bars_found, attributes_found}
+use Rattle.folder_system.specs.declared.folder.Found.TheVariants.{Other}
+use Rattle.folder_system.specs.Found.{bars_found, attributes_found, is_like}
 use Rattle.folder_system.specs.Kinds.{is_barring}
-use Rattle.folder_system.specs.Place.{AreTaken, IsQuiet, IsMade, IsUnmade, IsBegun, IsBarred, IsGivenUp, IsInstead, IsGiven, IsRefused, IsOpened, IsOverFound, IsIn, IsPlaced, IsStanding, finding, tries}
+use Rattle.folder_system.specs.Place.{AreTaken, IsQuiet, IsMade, IsUnmade, IsSeen, IsBegun, IsBarred, IsGivenUp, IsInstead, IsOpened, IsOverFound, IsIn, IsPlaced, IsStanding, mode_for, tries}
 use Rattle.folder_system.proofs.Follows.{then_calls, one_call, one_call_at, then_call, restate}
-use Rattle.folder_system.proofs.Calls.{quiet_quiet, quiet_given_up, given_up, not_made, tries_quiet, begun_given, refused_given_up, barred_quiet}
+use Rattle.folder_system.proofs.Calls.{quiet_quiet, quiet_given_up, given_up, not_made, tries_quiet, begun_seen, unlike_given_up, barred_quiet}
 
 plus_one : (n : ℕ) → suc n ≡ n + 1
 plus_one n = omega arith
@@ -48,15 +49,18 @@ module _ (name : List ℕ) where
       front (one_call_at (First own mode) (Made own mode None) b c (first own mode b fresh) done)
 
   pub barred_it : (own : List ℕ) (mode n : ℕ) (kind : ErrorKind) (a b c : Option History) → is_barring kind ≡ true → own ≡ numbered name n → Follows (AreTaken name mode n) a b → Becomes (after (Made own mode (Some kind))) b c → Follows (IsUnmade name mode) a c
-  barred_it own mode n kind a b c bars next = then_call (AreTaken name mode n) (IsUnmade name mode) (Made own mode (Some kind)) a b c (λ fs es is. record {
+  barred_it own mode n kind a b c bars next = then_call (AreTaken name mode n) (IsUnmade name mode) (Made own mode (Some kind)) a b c (λ fs es is. inl (record {
     number = n;
     kind = kind;
     is = ap (λ (l : List Event). l ++ Made own mode (Some kind) ∷ []) is ∙ (λ i. tries name mode n ++ Made (next i) mode (Some kind) ∷ []);
     bars = bars;
-  })
+  }))
 
-  pub all_taken : (mode n : ℕ) (a b : Option History) → Follows (AreTaken name mode n) a b → Follows (IsGivenUp name) a b
-  all_taken mode n a b = restate (AreTaken name mode n) (IsGivenUp name) a b (λ fs es is. given_up name fs es (subst (IsQuiet name fs) (sym is) (tries_quiet name mode n fs)))
+  pub all_taken : (mode n : ℕ) (a b : Option History) → n ≡ 1000 → Follows (AreTaken name mode n) a b → Follows (IsUnmade name mode) a b
+  all_taken mode n a b all = restate (AreTaken name mode n) (IsUnmade name mode) a b (λ fs es is. inr (is ∙ ap (tries name mode) all))
+
+  pub none_taken : (mode n : ℕ) (a b : Option History) → Follows (AreTaken name mode n) a b → Follows (IsGivenUp name) a b
+  none_taken mode n a b = restate (AreTaken name mode n) (IsGivenUp name) a b (λ fs es is. given_up name fs es (subst (IsQuiet name fs) (sym is) (tries_quiet name mode n fs)))
 
   pub gave_up : (a b : Option History) → Follows (IsQuiet name) a b → Follows (IsGivenUp name) a b
   gave_up a b = restate (IsQuiet name) (IsGivenUp name) a b (given_up name)
@@ -65,32 +69,41 @@ module _ (name : List ℕ) where
   gave_up_making own mode n kind a b c = then_call (AreTaken name mode n) (IsGivenUp name) (Made own mode (Some kind)) a b c
       (λ fs es is. given_up name fs (es ++ Made own mode (Some kind) ∷ []) (quiet_quiet name fs es (Made own mode (Some kind) ∷ []) (subst (IsQuiet name fs) (sym is) (tries_quiet name mode n fs)) (not_made name own mode kind (files_after es fs))))
 
-  -- ---- a file that is given what the old one has
+  pub barred_making : (old : Option Attributes) (a b : Option History) → Follows (IsUnmade name (mode_for old)) a b → Follows (IsBarred name old) a b
+  barred_making None a b did = did
+  barred_making (Some old) a b did = restate (IsUnmade name (mode_for (Some old))) (IsBarred name (Some old)) a b (λ fs es u. inl u) did
+
+  -- ---- a new file that is looked at
 
   module _ (own : List ℕ) (old : Attributes) where
-    pub liked : (a b c : Option History) → Follows (IsMade name own 384 []) a b → Follows (IsGiven old) b c → Follows (IsBegun name own (Some old)) a c
-    liked a b c = grind (arith, then_calls, begun_given)
+    seen : (alike : Bool) (found : Option Found) (b c : Option History) → is_like (unwrap_or found Other) old ≡ alike → Becomes (after (LookedAt found)) b c → Follows (λ fs es. IsSeen old alike es) b c
+    seen alike found b c is = one_call (λ fs es. IsSeen old alike es) (LookedAt found) b c (λ fs. (found, refl, is))
 
-    both : (kind : ErrorKind) → List File → List Event → Type 0
-    both kind fs es = (front : List Event) × (back : List Event) × (es ≡ front ++ back) × IsMade name own 384 [] fs front × IsRefused old kind (files_after front fs) back
+    pub liked : (found : Option Found) (a b c : Option History) → is_like (unwrap_or found Other) old ≡ true → Follows (IsMade name own (mode_for (Some old)) []) a b → Becomes (after (LookedAt found)) b c → Follows (IsBegun name own (Some old)) a c
+    liked found a b c is made looked =
+        then_calls (IsMade name own (mode_for (Some old)) []) (λ fs es. IsSeen old true es) (IsBegun name own (Some old)) a b c
+        (λ fs es gs p s. begun_seen name own old fs es gs p s) made (seen true found b c is looked)
 
-    joined : (kind : ErrorKind) (a b c : Option History) → Follows (IsMade name own 384 []) a b → Follows (IsRefused old kind) b c → Follows (both kind) a c
+    both : List File → List Event → Type 0
+    both fs es = (front : List Event) × (back : List Event) × (es ≡ front ++ back) × IsMade name own (mode_for (Some old)) [] fs front × IsSeen old false back
+
+    joined : (found : Option Found) (a b c : Option History) → is_like (unwrap_or found Other) old ≡ false → Follows (IsMade name own (mode_for (Some old)) []) a b → Becomes (after (LookedAt found)) b c → Follows both a c
     unfolding both
-    joined kind a b c = then_calls (IsMade name own 384 []) (IsRefused old kind) (both kind) a b c (λ fs es gs p r. (es, gs, refl, p, r))
+    joined found a b c is made looked = then_calls (IsMade name own (mode_for (Some old)) []) (λ fs es. IsSeen old false es) both a b c (λ fs es gs p s. (es, gs, refl, p, s)) made (seen false found b c is looked)
 
-    pub disliked : (kind : ErrorKind) (a b c d : Option History) → is_barring kind ≡ true → Follows (IsMade name own 384 []) a b → Follows (IsRefused old kind) b c → Becomes (after (Removed own None)) c d → Follows (IsBarred name (Some old)) a d
+    pub disliked : (found : Option Found) (a b c d : Option History) → is_like (unwrap_or found Other) old ≡ false → Follows (IsMade name own (mode_for (Some old)) []) a b → Becomes (after (LookedAt found)) b c → Becomes (after (Removed own None)) c d → Follows (IsBarred name (Some old)) a d
     unfolding both
-    disliked kind a b c d bars begun refused =
-        then_call (both kind) (IsBarred name (Some old)) (Removed own None) a c d
-        (λ fs es h. inr (record { own = own; front = h.0; made = h.3; kind = kind; gifts = h.1; refused = h.4; bars = bars; is = ap (λ (l : List Event). l ++ Removed own None ∷ []) h.2 }))
-        (joined kind a b c begun refused)
+    disliked found a b c d is made looked =
+        then_call both (IsBarred name (Some old)) (Removed own None) a c d
+        (λ fs es h. inr (record { own = own; front = h.0; made = h.3; looks = h.1; unlike = h.4; is = ap (λ (l : List Event). l ++ Removed own None ∷ []) h.2 }))
+        (joined found a b c is made looked)
 
-    pub dropped : (kind : ErrorKind) (answer : Answer) (a b c d : Option History) → Follows (IsMade name own 384 []) a b → Follows (IsRefused old kind) b c → Becomes (after (Removed own answer)) c d → Follows (IsGivenUp name) a d
+    pub dropped : (found : Option Found) (answer : Answer) (a b c d : Option History) → is_like (unwrap_or found Other) old ≡ false → Follows (IsMade name own (mode_for (Some old)) []) a b → Becomes (after (LookedAt found)) b c → Becomes (after (Removed own answer)) c d → Follows (IsGivenUp name) a d
     unfolding both
-    dropped kind answer a b c d begun refused =
-        then_call (both kind) (IsGivenUp name) (Removed own answer) a c d
-        (λ fs es h. subst (λ (l : List Event). IsGivenUp name fs (l ++ Removed own answer ∷ [])) (sym h.2) (refused_given_up name own old kind fs h.0 h.1 answer h.3 h.4))
-        (joined kind a b c begun refused)
+    dropped found answer a b c d is made looked =
+        then_call both (IsGivenUp name) (Removed own answer) a c d
+        (λ fs es h. subst (λ (l : List Event). IsGivenUp name fs (l ++ Removed own answer ∷ [])) (sym h.2) (unlike_given_up name own old fs h.0 h.1 answer h.3 h.4))
+        (joined found a b c is made looked)
 
   -- ---- in place
 
@@ -108,17 +121,15 @@ module _ (name : List ℕ) where
   found_in (StandsBeside beside) a c is did = absurd is
   found_in (In held) a c is did = restate (λ fs es. IsOverFound name es) (IsPlaced name (In held)) a c (λ fs es p. (is, inl p)) did
 
-  pub finding_none : (found : Found) (a b : Option History) → None ≡ attributes_found found → bars_found found ≡ false → Becomes (after (Looked name (Some found))) a b → Follows (λ fs es. es ≡ finding name found) a b
-  finding_none Nothing a b is clear = one_call (λ fs es. es ≡ finding name Nothing) (Looked name (Some Nothing)) a b (λ fs. refl)
-  finding_none (RegularFile attributes) a b is clear = absurd (let e : None ≡ Some attributes = is in cc)
-  finding_none Other a b is clear = absurd (let e : true ≡ false = clear in cc)
-
-  pub finding_some : (found : Found) (old : Attributes) (a b c : Option History) → Some old ≡ attributes_found found → Becomes (after (Looked name (Some found))) a b → Becomes (after (Tried name None)) b c → Follows (λ fs es. es ≡ finding name found) a c
-  finding_some Nothing old a b c is looked = absurd (let e : Some old ≡ None = is in cc)
-  finding_some (RegularFile attributes) old a b c is looked =
-      then_call (λ fs es. es ≡ Looked name (Some (RegularFile attributes)) ∷ []) (λ fs es. es ≡ finding name (RegularFile attributes)) (Tried name None) a b c (λ fs es is. ap (λ (l : List Event). l ++ Tried name None ∷ []) is)
-      (one_call (λ fs es. es ≡ Looked name (Some (RegularFile attributes)) ∷ []) (Looked name (Some (RegularFile attributes))) a b (λ fs. refl) looked)
-  finding_some Other old a b c is looked = absurd (let e : Some old ≡ None = is in cc)
+  placed_at : (found : Found) (place : Place) (a b c : Option History) → bars_found found ≡ false → Becomes (after (Looked name (Some found))) a b → Follows (IsStanding name (attributes_found found) place) b c → Follows (IsPlaced name place) a c
+  placed_at found (StandsBeside beside) a b c clear looked standing =
+      then_calls (λ fs es. es ≡ Looked name (Some found) ∷ []) (IsStanding name (attributes_found found) (StandsBeside beside)) (IsPlaced name (StandsBeside beside)) a b c
+      (λ fs es gs p s. (s.0, record { found = found; clear = clear; behind = gs; is = ap (λ (l : List Event). l ++ gs) p; so = (s.1, subst (λ (l : List Event). IsBegun name (string_bytes beside.own) (attributes_found found) (files_after l fs) gs) p s.2) }))
+      (one_call (λ fs es. es ≡ Looked name (Some found) ∷ []) (Looked name (Some found)) a b (λ fs. refl) looked) standing
+  placed_at found (In held) a b c clear looked standing =
+      then_calls (λ fs es. es ≡ Looked name (Some found) ∷ []) (IsStanding name (attributes_found found) (In held)) (IsPlaced name (In held)) a b c
+      (λ fs es gs p s. (s.0, inr (record { found = found; clear = clear; behind = gs; is = ap (λ (l : List Event). l ++ gs) p; so = subst (λ (l : List Event). IsInstead name (attributes_found found) (files_after l fs) gs) p s.1 })))
+      (one_call (λ fs es. es ≡ Looked name (Some found) ∷ []) (Looked name (Some found)) a b (λ fs. refl) looked) standing
 
   module _ {O : Type 0} where
     pub standing_ok : (old : Option Attributes) (r : Result (O × Place) Error) (a b c : Option History) → Follows (IsBarred name old) a b → OnOk r (Follows (IsOpened name) b c) → IfOk r (λ x. IsIn name x.1) → IfOk r (λ x. Follows (IsStanding name old x.1) a c)
@@ -145,23 +156,21 @@ module _ (name : List ℕ) where
     given_up_behind (Ok x) a b c quiet up = tt
     given_up_behind (Err e) a b c quiet up = then_calls (IsQuiet name) (IsGivenUp name) (IsGivenUp name) a b c (λ fs es gs q r. quiet_given_up name fs es gs q r) quiet up
 
-    placed_at : (found : Found) (r : Result (O × Place) Error) (a b c : Option History) → bars_found found ≡ false → Follows (λ fs es. es ≡ finding name found) a b → IfOk r (λ x. Follows (IsStanding name (attributes_found found) x.1) b c) → IfOk r (λ x. Follows (IsPlaced name x.1) a c)
-    placed_at found (Err e) a b c clear first standing = tt
-    placed_at found (Ok x) a b c clear first standing = grind (arith, then_calls)
-
-    pub placed_behind : (found : Found) (old : Option Attributes) (r : Result (O × Place) Error) (a b c : Option History) → old ≡ attributes_found found → bars_found found ≡ false → Follows (λ fs es. es ≡ finding name found) a b → IfOk r (λ x. Follows (IsStanding name old x.1) b c) → IfOk r (λ x. Follows (IsPlaced name x.1) a c)
-    placed_behind found old r a b c is clear first standing =
-        placed_at found r a b c clear first (subst (λ (o : Option Attributes). IfOk r (λ x. Follows (IsStanding name o x.1) b c)) is standing)
+    pub placed_behind : (found : Found) (old : Option Attributes) (r : Result (O × Place) Error) (a b c : Option History) → old ≡ attributes_found found → bars_found found ≡ false → Becomes (after (Looked name (Some found))) a b → IfOk r (λ x. Follows (IsStanding name old x.1) b c) → IfOk r (λ x. Follows (IsPlaced name x.1) a c)
+    placed_behind found old (Err e) a b c is clear looked standing = tt
+    placed_behind found old (Ok x) a b c is clear looked standing =
+        placed_at found x.1 a b c clear looked (subst (λ (o : Option Attributes). Follows (IsStanding name o x.1) b c) is standing)
 
   pub looked : (found : Found) (a b : Option History) → Becomes (after (Looked name (Some found))) a b → Follows (IsQuiet name) a b
   looked found a b = one_call (IsQuiet name) (Looked name (Some found)) a b (λ fs. record { spares = (refl, tt); files = refl })
 
-  pub tried : (answer : Answer) (a b c : Option History) → Follows (IsQuiet name) a b → Becomes (after (Tried name answer)) b c → Follows (IsQuiet name) a c
-  tried None a b c = then_call (IsQuiet name) (IsQuiet name) (Tried name None) a b c (λ fs es q. quiet_quiet name fs es (Tried name None ∷ []) q (record { spares = (refl, tt); files = refl }))
-  tried (Some k) a b c = then_call (IsQuiet name) (IsQuiet name) (Tried name (Some k)) a b c (λ fs es q. quiet_quiet name fs es (Tried name (Some k) ∷ []) q (record { spares = (refl, tt); files = refl }))
-
   pub opened : (a b : Option History) → Becomes (after (Opened name None)) a b → Follows (IsOpened name) a b
   opened a b = one_call (IsOpened name) (Opened name None) a b (λ fs. refl)
+
+-- what was seen, where a look that failed counts as one at something else
+pub seen_by : (r : Result Found Error) (old : Attributes) (f : Found) (b v : Bool) → f ≡ result_unwrap_or r Other → b ≡ is_like f old → b ≡ v → is_like (unwrap_or (found_by r) Other) old ≡ v
+seen_by (Ok found) old f b v seen is like = ap (λ (x : Found). is_like x old) (sym seen) ∙ sym is ∙ like
+seen_by (Err e) old f b v seen is like = ap (λ (x : Found). is_like x old) (sym seen) ∙ sym is ∙ like
 
 -- ---- at the arms of a match
 

@@ -14,7 +14,7 @@ use Rattle.host_port.specs.Outside.{Becomes}
 use Rattle.host_port.proofs.EntryLemmas.{found_at, missing}
 use Rattle.folder_system.specs.declared.mem_folder.MemFile.{MemFile}
 use Rattle.folder_system.specs.declared.mem_folder.Call.{Call}
-use Rattle.folder_system.specs.Events.{Event, Tried, NamesSynced, Answer, answer_of, after, files_after_event, without}
+use Rattle.folder_system.specs.Events.{Event, NamesSynced, Answer, answer_of, after, files_after_event, without}
 use Rattle.folder_system.specs.Memory.{file_of, files_of, event_of, told, Noted}
 
 -- ---- the files
@@ -128,10 +128,6 @@ by_answer e (Err x) before now fails ok err = err ∙ sym (fails (error_kind x))
 -- what a call does that changes nothing
 pub by_kept : {T : Type 0} (e : Answer → Event) (done : Result T Error) (before now : List File) → ((answer : Answer) → files_after_event (e answer) before ≡ before) → now ≡ before → now ≡ files_after_event (e (answer_of done)) before
 by_kept e done before now keeps same = same ∙ sym (keeps (answer_of done))
-
-pub tried_files : (name : List ℕ) (answer : Answer) (fs : List File) → files_after_event (Tried name answer) fs ≡ fs
-tried_files name None fs = refl
-tried_files name (Some kind) fs = refl
 
 pub names_files : (name : List ℕ) (answer : Answer) (fs : List File) → files_after_event (NamesSynced name answer) fs ≡ fs
 names_files name None fs = refl

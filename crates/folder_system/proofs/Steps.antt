@@ -1,11 +1,12 @@
 -- What calls leave at the named file, at every moment.
-use Rattle.std.proofs.Common.{◌≡◌, ◌⊎◌, inl, inr, ℕ, zero, suc, Bool, true, false, ◌||◌, List, [], ◌∷◌, ◌++◌, take, Some, None, refl, sym, ap, subst, ◌∙◌}
+use Rattle.std.proofs.Common.{◌≡◌, ◌⊎◌, inl, inr, ℕ, zero, suc, Bool, true, false, ◌||◌, List, [], ◌∷◌, ◌++◌, take, Option, Some, None, refl, sym, ap, subst, ◌∙◌}
 use Rattle.std.specs.Prelude.{bytes_eq, if◌then◌else◌}
 use Rattle.folder_system.specs.Names.{folder_of}
 use Rattle.folder_system.specs.Events.{Event, Made, Opened, Synced, Renamed, Removed, NamesSynced, Answer, is_stored}
 use Rattle.folder_system.specs.Entries.{FileState, Whole, Torn, Entry, Entries, entries_after_event, entries_after, touches, Spares, written, IsAmong, IsCareful, IsCarefulInCrash}
-use Rattle.std.specs.declared.io.ErrorKind.{ErrorKind}
-use Rattle.folder_system.specs.Place.{moving, refusing, copying, IsHalted}
+use Rattle.folder_system.specs.declared.folder.Attributes.{Attributes}
+use Rattle.folder_system.specs.declared.folder.Found.{Found}
+use Rattle.folder_system.specs.Place.{moving, refusing, copying, Refusal, Changed, Refused, IsHalted}
 use Rattle.folder_system.proofs.Files.{same_name}
 
 if_not : {T : Type 0} (b : Bool) (x y : T) → b ≡ false → (if b then x else y) ≡ y
@@ -82,17 +83,18 @@ module _ (own name bytes : List ℕ) (apart : bytes_eq name own ≡ false) (s : 
   third_now None w = ap (λ (e : Entry). e.now) (if_so (bytes_eq (folder_of name) (folder_of name)) (record { now = (second w name).now; stored = (second w name).stored; left = (second w name).stored ∷ [] }) (second w name) (same_name (folder_of name)))
   third_now (Some kind) w = refl
 
-  pub moved_careful : (t : Answer) → is_stored s ≡ true → IsCareful name bytes (moving own name bytes s t)
+  pub moved_careful : (f : Found) (t : Answer) → is_stored s ≡ true → IsCareful name bytes (moving own name bytes f s t)
   unfolding first second
-  moved_careful t stored w zero = inl refl
-  moved_careful t stored w (suc zero) = inl (ap (λ (e : Entry). e.now) (first_name w))
-  moved_careful t stored w (suc (suc zero)) = inr (second_now w stored)
-  moved_careful t stored w (suc (suc (suc k))) =
+  moved_careful f t stored w zero = inl refl
+  moved_careful f t stored w (suc zero) = inl (ap (λ (e : Entry). e.now) (first_name w))
+  moved_careful f t stored w (suc (suc zero)) = inl (ap (λ (e : Entry). e.now) (first_name w))
+  moved_careful f t stored w (suc (suc (suc zero))) = inr (second_now w stored)
+  moved_careful f t stored w (suc (suc (suc (suc k)))) =
       inr (ap (λ (v : Entries). (v name).now) (none_after k (entries_after_event (NamesSynced (folder_of name) t) (second w))) ∙ third_now t w ∙ second_now w stored)
 
-  pub moved_whole : (t : Answer) (w : Entries) → is_stored s ≡ true → (entries_after (moving own name bytes s t) w name).now ≡ Whole bytes
+  pub moved_whole : (f : Found) (t : Answer) (w : Entries) → is_stored s ≡ true → (entries_after (moving own name bytes f s t) w name).now ≡ Whole bytes
   unfolding first second
-  moved_whole t w stored = third_now t w ∙ second_now w stored
+  moved_whole f t w stored = third_now t w ∙ second_now w stored
 
 module _ (own name bytes : List ℕ) (apart : bytes_eq name own ≡ false) where
   -- the file was synced
@@ -100,12 +102,9 @@ module _ (own name bytes : List ℕ) (apart : bytes_eq name own ≡ false) where
   unfolding renamed
   synced_left w = ap (λ (e : Entry). e.left) (second_name own name bytes apart None w)
 
-  settled_left : (w : Entries) → (entries_after (moving own name bytes None None) w name).left ≡ Whole bytes ∷ []
+  pub moved_durable : (f : Found) (w : Entries) → (entries_after (moving own name bytes f None None) w name).left ≡ Whole bytes ∷ []
   unfolding first second renamed
-  settled_left w = search (if_so, same_name)
-
-  pub moved_durable : (w : Entries) → (entries_after (moving own name bytes None None) w name).left ≡ Whole bytes ∷ []
-  moved_durable w = settled_left w
+  moved_durable f w = search same_name
 
   Crash : List FileState → List FileState → Type 0
   Crash old new = (v : FileState) → IsAmong new v → IsAmong old v ⊎ (v ≡ Whole bytes)
@@ -119,17 +118,18 @@ module _ (own name bytes : List ℕ) (apart : bytes_eq name own ≡ false) where
   crash_settled old v (inl is) = inr is
   crash_settled old v (inr none) = absurd none
 
-  third_left : (t : Answer) (w : Entries) → Crash (w name).left (entries_after (moving own name bytes None t) w name).left
+  third_left : (f : Found) (t : Answer) (w : Entries) → Crash (w name).left (entries_after (moving own name bytes f None t) w name).left
   unfolding first second
-  third_left None w = subst (Crash (w name).left) (sym (settled_left w)) (crash_settled (w name).left)
-  third_left (Some kind) w = subst (Crash (w name).left) (sym (synced_left w)) (crash_grown (w name).left)
+  third_left f None w = subst (Crash (w name).left) (sym (moved_durable f w)) (crash_settled (w name).left)
+  third_left f (Some kind) w = subst (Crash (w name).left) (sym (synced_left w)) (crash_grown (w name).left)
 
-  pub moved_crash : (t : Answer) → IsCarefulInCrash name bytes (moving own name bytes None t)
+  pub moved_crash : (f : Found) (t : Answer) → IsCarefulInCrash name bytes (moving own name bytes f None t)
   unfolding first second Crash
-  moved_crash t w zero v is = inl is
-  moved_crash t w (suc zero) v is = inl (subst (λ (e : Entry). IsAmong e.left v) (first_name own name bytes apart None w) is)
-  moved_crash t w (suc (suc zero)) v is = among_append (w name).left (Whole bytes) v (subst (λ (l : List FileState). IsAmong l v) (synced_left w) is)
-  moved_crash t w (suc (suc (suc k))) v is = third_left t w v (subst (λ (u : Entries). IsAmong (u name).left v) (none_after k (entries_after (moving own name bytes None t) w)) is)
+  moved_crash f t w zero v is = inl is
+  moved_crash f t w (suc zero) v is = inl (subst (λ (e : Entry). IsAmong e.left v) (first_name own name bytes apart None w) is)
+  moved_crash f t w (suc (suc zero)) v is = inl (subst (λ (e : Entry). IsAmong e.left v) (first_name own name bytes apart None w) is)
+  moved_crash f t w (suc (suc (suc zero))) v is = among_append (w name).left (Whole bytes) v (subst (λ (l : List FileState). IsAmong l v) (synced_left w) is)
+  moved_crash f t w (suc (suc (suc (suc k)))) v is = third_left f t w v (subst (λ (u : Entries). IsAmong (u name).left v) (none_after k (entries_after (moving own name bytes f None t) w)) is)
 
 -- ---- a name that is held
 
@@ -137,14 +137,17 @@ pub removed_spares : (own name : List ℕ) (removed : Answer) → bytes_eq name 
 removed_spares own name None apart = (apart, tt)
 removed_spares own name (Some kind) apart = (refl, tt)
 
-pub refusing_spares : (own name bytes : List ℕ) (synced : Answer) (kind : ErrorKind) → bytes_eq name own ≡ false → Spares name (refusing own name bytes synced kind)
-refusing_spares own name bytes synced kind apart = (apart, (refl, tt))
+pub refusing_spares : (own name bytes : List ℕ) (synced : Answer) (why : Refusal) → bytes_eq name own ≡ false → Spares name (refusing own name bytes synced why)
+refusing_spares own name bytes synced (Changed seen) apart = (apart, (refl, tt))
+refusing_spares own name bytes synced (Refused seen kind) apart = (apart, (refl, (refl, tt)))
 
 pub copying_whole : (name bytes : List ℕ) (stored : Answer) (w : Entries) → is_stored stored ≡ true → (entries_after (copying name bytes stored) w name).now ≡ Whole bytes
 copying_whole name bytes stored w is = search (if_so, same_name, written_now)
 
-pub halted_spares : (own name bytes : List ℕ) (es : List Event) (removed : Answer) → bytes_eq name own ≡ false → IsHalted own name bytes [] es → Spares name (es ++ Removed own removed ∷ [])
-halted_spares own name bytes es removed apart (inl u) =
+pub halted_spares : (old : Option Attributes) (own name bytes : List ℕ) (es : List Event) (removed : Answer) → bytes_eq name own ≡ false → IsHalted old own name bytes [] es → Spares name (es ++ Removed own removed ∷ [])
+halted_spares old own name bytes es removed apart (inl u) =
     subst (λ (l : List Event). Spares name (l ++ Removed own removed ∷ [])) (sym u.is) (apart, removed_spares own name removed apart)
-halted_spares own name bytes es removed apart (inr u) =
+halted_spares old own name bytes es removed apart (inr (inl u)) =
     subst (λ (l : List Event). Spares name (l ++ Removed own removed ∷ [])) (sym u.is) (apart, (refl, removed_spares own name removed apart))
+halted_spares old own name bytes es removed apart (inr (inr u)) =
+    subst (λ (l : List Event). Spares name (l ++ Removed own removed ∷ [])) (sym u.is) (apart, (refl, (refl, removed_spares own name removed apart)))

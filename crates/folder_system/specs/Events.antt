@@ -22,16 +22,13 @@ found_by (Err e) = None
 pub data Event : Type 0 where
   -- what stands at a name was looked up
   Looked : List ℕ → Option Found → Event
-  -- a file was opened to be written, and left as it is
-  Tried : List ℕ → Answer → Event
   -- a new file was made with a mode, less what the process masks
   Made : List ℕ → ℕ → Answer → Event
-  -- an open file was given an owner and a group
-  GaveOwner : ℕ → ℕ → Answer → Event
-  GaveMode : ℕ → Answer → Event
+  -- an open file was looked at
+  LookedAt : Option Found → Event
   -- what stands at a name was made empty, or a new file, to be written in place
   Opened : List ℕ → Answer → Event
-  -- what was left of an input was written to an output
+  -- what was written to a new file was written to an output too
   Copied : Answer → Event
   -- the file that was opened by a name, to which these bytes were written, was synced
   Synced : List ℕ → List ℕ → Answer → Event

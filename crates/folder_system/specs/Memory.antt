@@ -5,7 +5,7 @@ use Rattle.host_port.specs.Act.{File}
 use Rattle.folder_system.specs.declared.mem_folder.MemFile.{MemFile}
 use Rattle.folder_system.specs.declared.mem_folder.Call.{Call}
 use Rattle.folder_system.specs.declared.mem_folder.Call.TheVariants as call
-use Rattle.folder_system.specs.Events.{Event, Looked, Tried, Made, GaveOwner, GaveMode, Opened, Copied, Synced, Renamed, Removed, NamesSynced, History}
+use Rattle.folder_system.specs.Events.{Event, Looked, Made, LookedAt, Opened, Copied, Synced, Renamed, Removed, NamesSynced, History}
 
 abbrev pub file_of : MemFile → File
 file_of file = (string_bytes file.name, file.bytes.items)
@@ -15,10 +15,8 @@ files_of files = map file_of files
 
 abbrev pub event_of : Call → Event
 event_of (call.Looked name found) = Looked (string_bytes name) found
-event_of (call.Tried name answer) = Tried (string_bytes name) answer
 event_of (call.Made name mode answer) = Made (string_bytes name) mode answer
-event_of (call.GaveOwner owner group answer) = GaveOwner owner group answer
-event_of (call.GaveMode mode answer) = GaveMode mode answer
+event_of (call.LookedAt found) = LookedAt found
 event_of (call.Opened name answer) = Opened (string_bytes name) answer
 event_of (call.Copied answer) = Copied answer
 event_of (call.Synced name bytes answer) = Synced (string_bytes name) bytes.items answer

@@ -1,10 +1,10 @@
 -- What an output does, by the calls on its folder.
-use Rattle.std.specs.Prelude.{◌≡◌, ◌⊎◌, ℕ, zero, suc, Bool, true, false, not, ◌||◌, List, [], ◌∷◌, ◌++◌, Option, Some, None, bit_and, string_bytes, ⊤}
+use Rattle.std.specs.Prelude.{◌≡◌, ◌⊎◌, ℕ, zero, suc, Bool, true, false, not, ◌||◌, List, [], ◌∷◌, ◌++◌, Option, Some, None, bit_and, unwrap_or, string_bytes, ⊤}
 use Rattle.std.specs.declared.io.ErrorKind.{ErrorKind}
 use Rattle.std.specs.declared.io.ErrorKind.TheVariants.{OutOfMemory, AlreadyExists}
-use Rattle.host_port.specs.Act.{File, with_file, has_file, file_content}
+use Rattle.host_port.specs.Act.{File, with_file, has_file}
 use Rattle.folder_system.specs.declared.folder.Found.{Found}
-use Rattle.folder_system.specs.declared.folder.Found.TheVariants.{Nothing, File as RegularFile, Other}
+use Rattle.folder_system.specs.declared.folder.Found.TheVariants.{Other}
 use Rattle.folder_system.specs.declared.folder.Attributes.{Attributes}
 use Rattle.folder_system.specs.declared.place.Place.{Place}
 use Rattle.folder_system.specs.declared.place.Place.TheVariants.{Beside as StandsBeside, In}
@@ -13,9 +13,9 @@ use Rattle.folder_system.specs.declared.beside.Naming.TheVariants.{Done, Held}
 use Rattle.folder_system.specs.declared.beside.Taken.{Taken}
 use Rattle.folder_system.specs.declared.beside.Taken.TheVariants.{ByName, ByCopy}
 use Rattle.folder_system.specs.Names.{folder_of, numbered}
-use Rattle.folder_system.specs.Found.{bars_found, attributes_found}
+use Rattle.folder_system.specs.Found.{bars_found, attributes_found, is_like, is_still}
 use Rattle.folder_system.specs.Kinds.{is_barring, is_taken, is_held, is_no_names_sync}
-use Rattle.folder_system.specs.Events.{Event, Looked, Tried, Made, GaveOwner, GaveMode, Opened, Copied, Synced, Renamed, Removed, NamesSynced, Answer, History, Follows, files_after, is_stored}
+use Rattle.folder_system.specs.Events.{Event, Looked, Made, LookedAt, Opened, Copied, Synced, Renamed, Removed, NamesSynced, Answer, History, Follows, files_after, is_stored}
 use Rattle.folder_system.specs.Entries.{Spares}
 
 abbrev pub failed_removal : Event → Bool
@@ -28,18 +28,14 @@ has_failed_removal (e ∷ es) = failed_removal e || has_failed_removal es
 
 -- ---- how an output is begun
 
--- the mode that it is made with: 0600 beside a file that was found, and else 0666, less what the process masks
+-- the mode that it is made with, less what the process masks: the permissions of the file that was found, or 0666
 abbrev pub mode_for : Option Attributes → ℕ
 mode_for None = 438
-mode_for (Some old) = 384
+mode_for (Some old) = bit_and old.mode 511
 
--- an old file's owner, its group and its bits of permission are given
-abbrev pub gifts_of : Attributes → Answer → List Event
-gifts_of old answer = GaveOwner old.owner old.group None ∷ GaveMode (bit_and old.mode 511) answer ∷ []
-
-abbrev pub gifts_for : Option Attributes → List Event
-gifts_for None = []
-gifts_for (Some old) = gifts_of old None
+-- a new file was looked at, and is like the one that was found or isn't
+abbrev pub IsSeen : Attributes → Bool → List Event → Type 0
+IsSeen old alike es = (seen : Option Found) × (es ≡ LookedAt seen ∷ []) × (is_like (unwrap_or seen Other) old ≡ alike)
 
 -- the first names beside were tried, as many, and each is taken
 abbrev pub tries : List ℕ → ℕ → ℕ → List Event
@@ -50,46 +46,41 @@ abbrev pub AreTaken : List ℕ → ℕ → ℕ → List File → List Event → 
 AreTaken name mode n fs es = es ≡ tries name mode n
 
 -- one new file was made, by the first name beside that isn't taken, and then these calls were made
-pub record IsMade (name own : List ℕ) (mode : ℕ) (gifts : List Event) (fs : List File) (es : List Event) : Type 0 where
+pub record IsMade (name own : List ℕ) (mode : ℕ) (looks : List Event) (fs : List File) (es : List Event) : Type 0 where
   pub number : ℕ
   pub next_to : own ≡ numbered name number
   pub fresh : has_file own fs ≡ false
-  pub is : es ≡ tries name mode number ++ Made own mode None ∷ gifts
+  pub is : es ≡ tries name mode number ++ Made own mode None ∷ looks
 
 -- making it is answered so that none can stand beside
-pub record IsUnmade (name : List ℕ) (mode : ℕ) (fs : List File) (es : List Event) : Type 0 where
+pub record IsRefused (name : List ℕ) (mode : ℕ) (es : List Event) : Type 0 where
   pub number : ℕ
   pub kind : ErrorKind
   pub is : es ≡ tries name mode number ++ Made (numbered name number) mode (Some kind) ∷ []
   pub bars : is_barring kind ≡ true
 
--- a new file stands beside an old one and has its owner, its group and its permissions, or stands beside none
+-- or a thousand names beside are taken
+abbrev pub IsUnmade : List ℕ → ℕ → List File → List Event → Type 0
+IsUnmade name mode fs es = IsRefused name mode es ⊎ (es ≡ tries name mode 1000)
+
+-- a new file stands beside an old one and is like it, or stands beside none
 abbrev pub IsBegun : List ℕ → List ℕ → Option Attributes → List File → List Event → Type 0
-IsBegun name own old fs es = IsMade name own (mode_for old) (gifts_for old) fs es
+IsBegun name own None fs es = IsMade name own 438 [] fs es
+IsBegun name own (Some old) fs es = (looks : List Event) × IsMade name own (mode_for (Some old)) looks fs es × IsSeen old true looks
 
--- a file was given what the old one has
-abbrev pub IsGiven : Attributes → List File → List Event → Type 0
-IsGiven old fs es = es ≡ gifts_of old None
-
--- one of them failed
-abbrev pub IsRefused : Attributes → ErrorKind → List File → List Event → Type 0
-IsRefused old kind fs es = (es ≡ GaveOwner old.owner old.group (Some kind) ∷ []) ⊎ (es ≡ gifts_of old (Some kind))
-
--- what the old file has can't be given to a new one, which was taken away again
+-- the new file isn't like the old one, and was taken away again
 pub record IsUnlike (name : List ℕ) (old : Attributes) (fs : List File) (es : List Event) : Type 0 where
   pub own : List ℕ
   pub front : List Event
-  pub made : IsMade name own 384 [] fs front
-  pub kind : ErrorKind
-  pub gifts : List Event
-  pub refused : IsRefused old kind (files_after front fs) gifts
-  pub bars : is_barring kind ≡ true
-  pub is : es ≡ (front ++ gifts) ++ Removed own None ∷ []
+  pub made : IsMade name own (mode_for (Some old)) [] fs front
+  pub looks : List Event
+  pub unlike : IsSeen old false looks
+  pub is : es ≡ (front ++ looks) ++ Removed own None ∷ []
 
 -- none can stand beside
 abbrev pub IsBarred : List ℕ → Option Attributes → List File → List Event → Type 0
 IsBarred name None fs es = IsUnmade name 438 fs es
-IsBarred name (Some old) fs es = IsUnmade name 384 fs es ⊎ IsUnlike name old fs es
+IsBarred name (Some old) fs es = IsUnmade name (mode_for (Some old)) fs es ⊎ IsUnlike name old fs es
 
 -- what stands at the name was opened to be written in place
 abbrev pub IsOpened : List ℕ → List File → List Event → Type 0
@@ -103,21 +94,15 @@ pub record IsInstead (name : List ℕ) (old : Option Attributes) (fs : List File
 
 -- beside an old file with these attributes or beside none, or in place
 abbrev pub IsStanding : List ℕ → Option Attributes → Place → List File → List Event → Type 0
-IsStanding name old (StandsBeside beside) fs es = (string_bytes beside.name ≡ name) × IsBegun name (string_bytes beside.own) old fs es
+IsStanding name old (StandsBeside beside) fs es = (string_bytes beside.name ≡ name) × (beside.old ≡ old) × IsBegun name (string_bytes beside.own) old fs es
 IsStanding name old (In held) fs es = (string_bytes held ≡ name) × IsInstead name old fs es
-
--- what was found at the name; a file that was found may be written
-abbrev pub finding : List ℕ → Found → List Event
-finding name Nothing = Looked name (Some Nothing) ∷ []
-finding name (RegularFile attributes) = Looked name (Some (RegularFile attributes)) ∷ Tried name None ∷ []
-finding name Other = Looked name (Some Other) ∷ []
 
 -- a file was found that one may stand beside, or none, and then this is so
 pub record IsBehindFinding (name : List ℕ) (P : Option Attributes → List File → List Event → Type 0) (fs : List File) (es : List Event) : Type 0 where
   pub found : Found
   pub clear : bars_found found ≡ false
   pub behind : List Event
-  pub is : es ≡ finding name found ++ behind
+  pub is : es ≡ Looked name (Some found) ∷ behind
   pub so : P (attributes_found found) fs behind
 
 -- what none may stand beside was found, and opened to be written in place
@@ -131,7 +116,7 @@ IsInPlace name fs es = IsOverFound name es ⊎ IsBehindFinding name (IsInstead n
 
 -- where an output of this name stands, and all calls that were made for it
 abbrev pub IsPlaced : List ℕ → Place → List File → List Event → Type 0
-IsPlaced name (StandsBeside beside) fs es = (string_bytes beside.name ≡ name) × IsBehindFinding name (IsBegun name (string_bytes beside.own)) fs es
+IsPlaced name (StandsBeside beside) fs es = (string_bytes beside.name ≡ name) × IsBehindFinding name (λ old fs es. (beside.old ≡ old) × IsBegun name (string_bytes beside.own) old fs es) fs es
 IsPlaced name (In held) fs es = (string_bytes held ≡ name) × IsInPlace name fs es
 
 abbrev pub IsIn : List ℕ → Place → Type 0
@@ -182,10 +167,7 @@ pub record IsGivenUp (name : List ℕ) (fs : List File) (es : List Event) : Type
 -- output from standing beside.
 abbrev pub fault_event : Event → Bool
 fault_event (Looked name None) = true
-fault_event (Tried name (Some kind)) = true
 fault_event (Made name mode (Some kind)) = not (is_barring kind || is_taken kind)
-fault_event (GaveOwner owner group (Some kind)) = not (is_barring kind)
-fault_event (GaveMode mode (Some kind)) = not (is_barring kind)
 fault_event (Opened name (Some kind)) = true
 fault_event (Removed name (Some kind)) = true
 fault_event _ = false
@@ -194,20 +176,12 @@ abbrev pub has_fault : List Event → Bool
 has_fault [] = false
 has_fault (e ∷ es) = fault_event e || has_fault es
 
--- a thousand names beside are taken
-pub record IsExhausted (name : List ℕ) (es : List Event) : Type 0 where
-  pub mode : ℕ
-  pub number : ℕ
-  pub all : number ≡ 1000
-  pub front : List Event
-  pub is : es ≡ front ++ tries name mode number
-
-abbrev pub HasFault : List ℕ → List File → List Event → Type 0
-HasFault name fs es = (has_fault es ≡ true) ⊎ IsExhausted name es
+abbrev pub HasFault : List File → List Event → Type 0
+HasFault fs es = has_fault es ≡ true
 
 -- an error is want of memory, or has one of these causes
-abbrev pub HasCause : List ℕ → ErrorKind → Option History → Option History → Type 0
-HasCause name kind old new = (kind ≡ OutOfMemory) ⊎ Follows (HasFault name) old new
+abbrev pub HasCause : ErrorKind → Option History → Option History → Type 0
+HasCause kind old new = (kind ≡ OutOfMemory) ⊎ Follows HasFault old new
 
 -- ---- the end of an output
 
@@ -226,44 +200,60 @@ is_settled (Some kind) = is_no_names_sync kind
 abbrev pub IsSettling : List ℕ → Bool → List File → List Event → Type 0
 IsSettling name ok fs es = (answer : Answer) × (es ≡ NamesSynced (folder_of name) answer ∷ []) × (is_settled answer ≡ ok)
 
--- the file beside was synced, given the name, and the folder was to be synced
-abbrev pub moving : List ℕ → List ℕ → List ℕ → Answer → Answer → List Event
-moving own name bytes synced settled = Synced own bytes synced ∷ Renamed own name None ∷ NamesSynced (folder_of name) settled ∷ []
+-- the file beside was synced, what stands at the name was looked at, the name was given, and the folder was to be
+-- synced
+abbrev pub moving : List ℕ → List ℕ → List ℕ → Found → Answer → Answer → List Event
+moving own name bytes seen synced settled = Synced own bytes synced ∷ Looked name (Some seen) ∷ Renamed own name None ∷ NamesSynced (folder_of name) settled ∷ []
 
--- the file beside was synced, and refused the name
-abbrev pub refusing : List ℕ → List ℕ → List ℕ → Answer → ErrorKind → List Event
-refusing own name bytes synced kind = Synced own bytes synced ∷ Renamed own name (Some kind) ∷ []
+-- why a file that was synced doesn't have the name
+pub data Refusal : Type 0 where
+  -- this stands there
+  Changed : Found → Refusal
+  -- this stands there, and the name was refused
+  Refused : Found → ErrorKind → Refusal
+
+-- the file beside was synced, and doesn't have the name
+abbrev pub refusing : List ℕ → List ℕ → List ℕ → Answer → Refusal → List Event
+refusing own name bytes synced (Changed seen) = Synced own bytes synced ∷ Looked name (Some seen) ∷ []
+refusing own name bytes synced (Refused seen kind) = Synced own bytes synced ∷ Looked name (Some seen) ∷ Renamed own name (Some kind) ∷ []
+
+-- another file stands there than was found before, or the same and no other can have the name
+abbrev pub IsHeld : Option Attributes → Refusal → Type 0
+IsHeld old (Changed seen) = is_still seen old ≡ false
+IsHeld old (Refused seen kind) = (is_still seen old ≡ true) × (is_held kind ≡ true)
 
 -- the named file was written in place with what was written beside
 abbrev pub copying : List ℕ → List ℕ → Answer → List Event
 copying name bytes stored = Opened name None ∷ Copied None ∷ Synced name bytes stored ∷ []
 
--- the file beside was synced and has the name, or the name is held
-abbrev pub IsPut : List ℕ → List ℕ → List ℕ → Naming → List File → List Event → Type 0
-IsPut own name bytes Done fs es = (synced : Answer) × (es ≡ Synced own bytes synced ∷ Renamed own name None ∷ []) × (is_stored synced ≡ true)
-IsPut own name bytes Held fs es = (synced : Answer) × (kind : ErrorKind) × (es ≡ refusing own name bytes synced kind) × (is_stored synced ≡ true) × (is_held kind ≡ true)
+-- the file beside was synced and has the name, in place of what was found before, or the name is held
+abbrev pub IsPut : Option Attributes → List ℕ → List ℕ → List ℕ → Naming → List File → List Event → Type 0
+IsPut old own name bytes Done fs es = (synced : Answer) × (seen : Found) × (es ≡ Synced own bytes synced ∷ Looked name (Some seen) ∷ Renamed own name None ∷ []) × (is_stored synced ≡ true) × (is_still seen old ≡ true)
+IsPut old own name bytes Held fs es = (synced : Answer) × (why : Refusal) × (es ≡ refusing own name bytes synced why) × (is_stored synced ≡ true) × IsHeld old why
 
-pub record IsMoved (own name bytes : List ℕ) (es : List Event) : Type 0 where
+pub record IsMoved (old : Option Attributes) (own name bytes : List ℕ) (es : List Event) : Type 0 where
+  pub seen : Found
   pub synced : Answer
   pub settled : Answer
-  pub is : es ≡ moving own name bytes synced settled
+  pub is : es ≡ moving own name bytes seen synced settled
   pub stored : is_stored synced ≡ true
+  pub still : is_still seen old ≡ true
   pub names : is_settled settled ≡ true
 
-pub record IsCopied (own name bytes : List ℕ) (es : List Event) : Type 0 where
+pub record IsCopied (old : Option Attributes) (own name bytes : List ℕ) (es : List Event) : Type 0 where
   pub synced : Answer
-  pub kind : ErrorKind
+  pub why : Refusal
   pub copied : Answer
   pub removed : Answer
-  pub is : es ≡ (refusing own name bytes synced kind ++ copying name bytes copied) ++ Removed own removed ∷ []
+  pub is : es ≡ (refusing own name bytes synced why ++ copying name bytes copied) ++ Removed own removed ∷ []
   pub stored : is_stored synced ≡ true
-  pub held : is_held kind ≡ true
+  pub held : IsHeld old why
   pub whole : is_stored copied ≡ true
 
 -- the named file has what was written
-abbrev pub IsTaken : List ℕ → List ℕ → List ℕ → Taken → List File → List Event → Type 0
-IsTaken own name bytes ByName fs es = IsMoved own name bytes es
-IsTaken own name bytes ByCopy fs es = IsCopied own name bytes es
+abbrev pub IsTaken : Option Attributes → List ℕ → List ℕ → List ℕ → Taken → List File → List Event → Type 0
+IsTaken old own name bytes ByName fs es = IsMoved old own name bytes es
+IsTaken old own name bytes ByCopy fs es = IsCopied old own name bytes es
 
 -- the file beside wasn't synced
 pub record IsUnsynced (own bytes : List ℕ) (es : List Event) : Type 0 where
@@ -271,65 +261,64 @@ pub record IsUnsynced (own bytes : List ℕ) (es : List Event) : Type 0 where
   pub is : es ≡ Synced own bytes synced ∷ []
   pub failed : is_stored synced ≡ false
 
--- it was refused a name that isn't held
-pub record IsUnnamed (own name bytes : List ℕ) (es : List Event) : Type 0 where
+-- what stands at the name can't be looked at
+pub record IsUnseen (own name bytes : List ℕ) (es : List Event) : Type 0 where
   pub synced : Answer
-  pub kind : ErrorKind
-  pub is : es ≡ refusing own name bytes synced kind
+  pub is : es ≡ Synced own bytes synced ∷ Looked name None ∷ []
   pub stored : is_stored synced ≡ true
+
+-- it was refused a name that isn't held
+pub record IsUnnamed (old : Option Attributes) (own name bytes : List ℕ) (es : List Event) : Type 0 where
+  pub synced : Answer
+  pub seen : Found
+  pub kind : ErrorKind
+  pub is : es ≡ refusing own name bytes synced (Refused seen kind)
+  pub stored : is_stored synced ≡ true
+  pub still : is_still seen old ≡ true
   pub free : is_held kind ≡ false
 
--- a folder answered an error where the file was opened to be read
-pub record IsUnread {F : Type 0} (answers : F → List ℕ → Answer → Type 0) (name : List ℕ) : Type 0 where
-  pub folder : F
-  pub kind : ErrorKind
-  pub failed : answers folder name (Some kind)
-
--- one call failed, the last: the file beside was opened to be read, the named file opened to be written, the one
--- copied into the other, or that one synced
-abbrev pub IsHalf : Type 0 → List ℕ → List ℕ → List Event → Type 0
-IsHalf unread name bytes es = (unread × (es ≡ []))
-    ⊎ ((kind : ErrorKind) × (es ≡ Opened name (Some kind) ∷ []))
+-- one call failed, the last: the named file was opened to be written, the one beside copied into it, or it was synced
+abbrev pub IsHalf : List ℕ → List ℕ → List File → List Event → Type 0
+IsHalf name bytes fs es = ((kind : ErrorKind) × (es ≡ Opened name (Some kind) ∷ []))
     ⊎ ((kind : ErrorKind) × (es ≡ Opened name None ∷ Copied (Some kind) ∷ []))
     ⊎ ((answer : Answer) × (es ≡ copying name bytes answer) × (is_stored answer ≡ false))
 
--- it was refused a name that is held, and writing in place failed
-pub record IsHalfCopied (unread : Type 0) (own name bytes : List ℕ) (es : List Event) : Type 0 where
+-- the name is held, and writing in place failed
+pub record IsHalfCopied (old : Option Attributes) (own name bytes : List ℕ) (es : List Event) : Type 0 where
   pub synced : Answer
-  pub kind : ErrorKind
+  pub why : Refusal
   pub behind : List Event
-  pub is : es ≡ refusing own name bytes synced kind ++ behind
+  pub is : es ≡ refusing own name bytes synced why ++ behind
   pub stored : is_stored synced ≡ true
-  pub held : is_held kind ≡ true
-  pub half : IsHalf unread name bytes behind
+  pub held : IsHeld old why
+  pub half : IsHalf name bytes [] behind
 
 -- the named file was written in place with what the other one has
 abbrev pub IsOver : List ℕ → List ℕ → List File → List Event → Type 0
-IsOver own name fs es = (answer : Answer) × (es ≡ copying name (file_content own fs) answer) × (is_stored answer ≡ true)
+IsOver name bytes fs es = (answer : Answer) × (es ≡ copying name bytes answer) × (is_stored answer ≡ true)
 
-abbrev pub IsNotOver : Type 0 → List ℕ → List ℕ → List File → List Event → Type 0
-IsNotOver unread own name fs es = IsHalf unread name (file_content own fs) es
-
-abbrev pub IsHalted : List ℕ → List ℕ → List ℕ → List File → List Event → Type 0
-IsHalted own name bytes fs es = IsUnsynced own bytes es ⊎ IsUnnamed own name bytes es
+abbrev pub IsHalted : Option Attributes → List ℕ → List ℕ → List ℕ → List File → List Event → Type 0
+IsHalted old own name bytes fs es = IsUnsynced own bytes es ⊎ IsUnseen own name bytes es ⊎ IsUnnamed old own name bytes es
 
 -- it was halted, and the file beside was to be taken away
-pub record IsWithdrawn (unread : Type 0) (own name bytes : List ℕ) (es : List Event) : Type 0 where
+pub record IsWithdrawn (old : Option Attributes) (own name bytes : List ℕ) (es : List Event) : Type 0 where
   pub front : List Event
-  pub halted : IsHalted own name bytes [] front ⊎ IsHalfCopied unread own name bytes front
+  pub halted : IsHalted old own name bytes [] front ⊎ IsHalfCopied old own name bytes front
   pub removed : Answer
   pub is : es ≡ front ++ Removed own removed ∷ []
 
 -- the named file has what was written, but the names of its folder could not be synced
-pub record IsUnsettled (own name bytes : List ℕ) (es : List Event) : Type 0 where
+pub record IsUnsettled (old : Option Attributes) (own name bytes : List ℕ) (es : List Event) : Type 0 where
+  pub seen : Found
   pub synced : Answer
   pub settled : Answer
-  pub is : es ≡ moving own name bytes synced settled
+  pub is : es ≡ moving own name bytes seen synced settled
   pub stored : is_stored synced ≡ true
+  pub still : is_still seen old ≡ true
   pub failed : is_settled settled ≡ false
 
-abbrev pub IsLost : Type 0 → List ℕ → List ℕ → List ℕ → List File → List Event → Type 0
-IsLost unread own name bytes fs es = IsWithdrawn unread own name bytes es ⊎ IsUnsettled own name bytes es
+abbrev pub IsLost : Option Attributes → List ℕ → List ℕ → List ℕ → List File → List Event → Type 0
+IsLost old own name bytes fs es = IsWithdrawn old own name bytes es ⊎ IsUnsettled old own name bytes es
 
 -- the file beside was to be taken away
 abbrev pub IsAway : List ℕ → List File → List Event → Type 0
@@ -355,12 +344,12 @@ IsAnyPlaced name None fs es = ⊥
 IsAnyPlaced name (Some place) fs es = IsPlaced name place fs es
 
 -- an output ended, or failed to
-abbrev pub IsEnded : (List ℕ → Type 0) → Option Place → List ℕ → Bool → List File → List Event → Type 0
-IsEnded unread None bytes ok fs es = (es ≡ []) × (ok ≡ true)
-IsEnded unread (Some (StandsBeside beside)) bytes true fs es = (taken : Taken) × IsTaken (string_bytes beside.own) (string_bytes beside.name) bytes taken fs es
-IsEnded unread (Some (StandsBeside beside)) bytes false fs es = IsLost (unread (string_bytes beside.own)) (string_bytes beside.own) (string_bytes beside.name) bytes fs es
-IsEnded unread (Some (In held)) bytes true fs es = IsStored (string_bytes held) bytes fs es
-IsEnded unread (Some (In held)) bytes false fs es = IsNotStored (string_bytes held) bytes fs es
+abbrev pub IsEnded : Option Place → List ℕ → Bool → List File → List Event → Type 0
+IsEnded None bytes ok fs es = (es ≡ []) × (ok ≡ true)
+IsEnded (Some (StandsBeside beside)) bytes true fs es = (taken : Taken) × IsTaken beside.old (string_bytes beside.own) (string_bytes beside.name) bytes taken fs es
+IsEnded (Some (StandsBeside beside)) bytes false fs es = IsLost beside.old (string_bytes beside.own) (string_bytes beside.name) bytes fs es
+IsEnded (Some (In held)) bytes true fs es = IsStored (string_bytes held) bytes fs es
+IsEnded (Some (In held)) bytes false fs es = IsNotStored (string_bytes held) bytes fs es
 
 -- ---- whether the files are still told
 

@@ -4,8 +4,8 @@ ghost use Rattle.std.specs.Prelude.{◌≡◌, ℕ, List, [], ◌∷◌, ◌++�
 ghost use Rattle.host_port.specs.Act.{file_content, has_file};
 ghost use Rattle.host_port.specs.Outside.{Becomes};
 ghost use Rattle.system_host.specs.Told.{bytes_of};
-ghost use Rattle.folder_system.specs.Found.{bars_found, attributes_found};
-ghost use Rattle.folder_system.specs.Events.{History, Answer, Looked, Tried, Made, GaveOwner, GaveMode, Opened, Copied, Synced, Renamed, Removed, NamesSynced, after, answer_of, found_by};
+ghost use Rattle.folder_system.specs.Found.{bars_found, attributes_found, is_like, is_still};
+ghost use Rattle.folder_system.specs.Events.{History, Answer, Looked, Made, LookedAt, Opened, Copied, Synced, Renamed, Removed, NamesSynced, after, answer_of, found_by};
 
 use std::io;
 use std::io::{Read, Write};
@@ -20,9 +20,11 @@ pub enum Found {
     Other,
 }
 
-/// What a file that takes another's place has of it, and how many names that has.
+/// Which file it is, and what a file that takes its place has to have too; and how many names it has.
 #[derive(Clone, Copy)]
 pub struct Attributes {
+    pub device: u64,
+    pub inode: u64,
     pub mode: u32,
     pub owner: u32,
     pub group: u32,
@@ -32,14 +34,21 @@ pub struct Attributes {
 /// The bits of a mode above those of permission: set-user-ID, set-group-ID and sticky.
 const SPECIAL_BITS: u32 = 0o7000;
 
+/// The bit of a mode by which the owner may write.
+const OWNER_WRITES: u32 = 0o200;
+
 /// Whether what was found bars an output from standing beside it: it is no regular file, or has several names
-/// or a special bit.
+/// or a special bit, or its owner mayn't write it.
 pub fn is_in_the_way(found: Found) -> bool
     ensures { result ≡ bars_found found }
 {
     match found {
         Found::Nothing => false,
-        Found::File(attributes) => { attributes.links > 1 || attributes.mode & SPECIAL_BITS > 0 }
+        Found::File(attributes) => {
+            attributes.links > 1
+                || attributes.mode & SPECIAL_BITS > 0
+                || attributes.mode & OWNER_WRITES == 0
+        }
         Found::Other => true,
     }
 }
@@ -51,6 +60,34 @@ pub fn attributes_of(found: Found) -> Option<Attributes>
     match found {
         Found::File(attributes) => Some(attributes),
         _ => None,
+    }
+}
+
+/// Whether a file has the owner, the group and the mode of the old one.
+pub fn is_like(seen: Found, old: Attributes) -> bool
+    ensures { result ≡ is_like seen old }
+{
+    match seen {
+        Found::File(new) => {
+            new.owner == old.owner && new.group == old.group && new.mode == old.mode
+        }
+        _ => false,
+    }
+}
+
+/// Whether there stands what was found before: the old file, as it was, or nothing.
+pub fn is_still(seen: Found, old: Option<Attributes>) -> bool
+    ensures { result ≡ is_still seen old }
+{
+    match (seen, old) {
+        (Found::Nothing, None) => true,
+        (Found::File(now), Some(old)) => {
+            now.device == old.device
+                && now.inode == old.inode
+                && now.links == old.links
+                && is_like(seen, old)
+        }
+        _ => false,
     }
 }
 
@@ -80,24 +117,17 @@ pub trait Folder {
     fn look(&mut self, name: &str) -> io::Result<Found>
         ensures { Becomes (after (Looked name.now (found_by result))) (history self.old) (history self.new) };
 
-    /// Opens the named file to be written and leaves it as it is: whether it may be written.
-    fn try_open(&mut self, name: &str) -> io::Result<()>
-        ensures { Becomes (after (Tried name.now (answer_of result))) (history self.old) (history self.new) };
-
-    /// Makes a new file with this mode, less what the process masks, and opens it to be written.
+    /// Makes a new file with this mode, less what the process masks, and opens it to be written, and to be read
+    /// again.
     fn create_new(&mut self, name: &str, mode: u32) -> io::Result<Self::Output>
         ensures done { Becomes (after (Made name.now mode (answer_of result))) (history self.old) (history self.new) }
         ensures fresh { OnOk result (IfSome (history self.old) (λ h. has_file name.now h.files ≡ false)) }
         ensures empty { IfOk result (λ output. IfSome (history self.new)
             (λ _. bytes_of (Self.Output.contents output) ≡ [])) };
 
-    /// Gives an open file an owner and a group.
-    fn set_owner(&mut self, output: &Self::Output, owner: u32, group: u32) -> io::Result<()>
-        ensures { Becomes (after (GaveOwner owner group (answer_of result))) (history self.old) (history self.new) };
-
-    /// Gives an open file a mode.
-    fn set_mode(&mut self, output: &Self::Output, mode: u32) -> io::Result<()>
-        ensures { Becomes (after (GaveMode mode (answer_of result))) (history self.old) (history self.new) };
+    /// Looks at an open file, by no name.
+    fn look_at(&mut self, output: &Self::Output) -> io::Result<Found>
+        ensures { Becomes (after (LookedAt (found_by result))) (history self.old) (history self.new) };
 
     /// Makes what stands at a name empty, or a new file, and opens it to be written.
     fn open_over(&mut self, name: &str) -> io::Result<Self::Output>
@@ -105,11 +135,12 @@ pub trait Folder {
         ensures empty { IfOk result (λ output. IfSome (history self.new)
             (λ _. bytes_of (Self.Output.contents output) ≡ [])) };
 
-    /// Writes what is left of an input to an output. How much of it was written before an error isn't said.
-    fn copy(&mut self, input: &mut Self::Input, output: &mut Self::Output) -> io::Result<()>
+    /// Writes to an output all that was written to a new file, which is read by no name. How much of it was
+    /// written before an error isn't said.
+    fn copy(&mut self, new: &Self::Output, output: &mut Self::Output) -> io::Result<()>
         ensures done { Becomes (after (Copied (answer_of result))) (history self.old) (history self.new) }
         ensures all { OnOk result (IfSome (history self.new) (λ _. bytes_of (Self.Output.contents output.new)
-            ≡ bytes_of (Self.Output.contents output.old) ++ bytes_of (Self.Input.remaining input.old))) };
+            ≡ bytes_of (Self.Output.contents output.old) ++ bytes_of (Self.Output.contents new.now))) };
 
     /// Puts on the disk what was written to the output that was opened by this name.
     fn sync(&mut self, name: &str, output: &Self::Output) -> io::Result<()>

@@ -1,9 +1,9 @@
 //! A folder in memory, which tells all that stands in it: each call can be made to fail.
 
-ghost use Rattle.std.specs.Prelude.{◌≡◌, ◌<◌, [], ◌++◌, drop, length, true, false, refl, string_bytes, if◌then◌else◌, IfOk, IfSome, MatchOption, OnErr, OnOk, ⊤};
+ghost use Rattle.std.specs.Prelude.{◌≡◌, ◌<◌, [], ◌++◌, length, true, false, refl, string_bytes, if◌then◌else◌, IfOk, IfSome, MatchOption, OnErr, OnOk, ⊤};
 ghost use Rattle.host_port.specs.Act.{file_content, has_file, with_file};
 ghost use Rattle.host_port.specs.Entries.{place_of, bytes_at};
-ghost use Rattle.folder_system.specs.Events.{Looked, Tried, Made, GaveOwner, GaveMode, Opened, Copied, Synced, Renamed, Removed, NamesSynced, answer_of, found_by, is_stored, without};
+ghost use Rattle.folder_system.specs.Events.{Looked, Made, LookedAt, Opened, Copied, Synced, Renamed, Removed, NamesSynced, answer_of, found_by, is_stored, without};
 ghost use Rattle.folder_system.specs.Memory.{event_of, files_of, told, Noted};
 
 use crate::folder::{Attributes, Folder, Found};
@@ -20,9 +20,11 @@ struct MemFile {
     attributes: Attributes,
 }
 
-/// What a file has that takes no other's place.
+/// What a new file has, beside its permissions.
 const NEW: Attributes = Attributes {
-    mode: 0o666,
+    device: 0,
+    inode: 0,
+    mode: 0o100000,
     owner: 0,
     group: 0,
     links: 1,
@@ -32,10 +34,8 @@ const NEW: Attributes = Attributes {
 #[derive(Drop)]
 enum Call {
     Looked(String, Option<Found>),
-    Tried(String, Option<ErrorKind>),
     Made(String, u32, Option<ErrorKind>),
-    GaveOwner(u32, u32, Option<ErrorKind>),
-    GaveMode(u32, Option<ErrorKind>),
+    LookedAt(Option<Found>),
     Opened(String, Option<ErrorKind>),
     Copied(Option<ErrorKind>),
     Synced(String, Vec<u8>, Option<ErrorKind>),
@@ -182,9 +182,25 @@ impl MemFolder {
         if find(self.files.as_slice(), name).is_some() {
             return Err(io::Error::from(ErrorKind::AlreadyExists));
         }
-        let file = mem_file(self.alloc, name, b"", Attributes { mode, ..NEW })?;
+        let attributes = Attributes {
+            mode: NEW.mode | mode,
+            ..NEW
+        };
+        let file = mem_file(self.alloc, name, b"", attributes)?;
         set(&mut self.files, file)?;
         Ok(Vec::new(self.alloc))
+    }
+
+    /// The attributes of the file that was made last.
+    fn last(&mut self) -> io::Result<Found>
+        ensures files { self.new.files ≡ self.old.files }
+        ensures same { self.new.trace ≡ self.old.trace }
+    {
+        self.call()?;
+        match self.files.last() {
+            Some(file) => Ok(Found::File(file.attributes)),
+            None => Ok(Found::Nothing),
+        }
     }
 
     fn opened(&mut self, name: &str) -> io::Result<Vec<u8>>
@@ -199,14 +215,13 @@ impl MemFolder {
         Ok(Vec::new(self.alloc))
     }
 
-    fn copied(&mut self, input: &mut Cursor<Vec<u8>>, output: &mut Vec<u8>) -> io::Result<()>
+    fn copied(&mut self, new: &Vec<u8>, output: &mut Vec<u8>) -> io::Result<()>
         ensures files { self.new.files ≡ self.old.files }
         ensures same { self.new.trace ≡ self.old.trace }
-        ensures all { OnOk result (output.new.items
-            ≡ output.old.items ++ drop input.old.pos input.old.inner.items) }
+        ensures all { OnOk result (output.new.items ≡ output.old.items ++ new.now.items) }
     {
         self.call()?;
-        io::copy(input, output)?;
+        output.extend_from_slice(new.as_slice())?;
         Ok(())
     }
 
@@ -365,12 +380,6 @@ impl Call {
         Ok(Call::Looked(String::from_str(alloc, name)?, found))
     }
 
-    fn tried(alloc: Global, name: &str, answer: Option<ErrorKind>) -> Result<Call, AllocError>
-        ensures { IfOk result (λ call. event_of call ≡ Tried name.now answer) }
-    {
-        Ok(Call::Tried(String::from_str(alloc, name)?, answer))
-    }
-
     fn made(
         alloc: Global,
         name: &str,
@@ -456,13 +465,6 @@ impl Folder for MemFolder {
         done
     }
 
-    fn try_open(&mut self, name: &str) -> io::Result<()> {
-        let done = self.call();
-        let call = Call::tried(self.alloc, name, answer_of(&done));
-        self.note(call);
-        done
-    }
-
     fn create_new(&mut self, name: &str, mode: u32) -> io::Result<Vec<u8>> {
         let done = self.made(name, mode);
         let call = Call::made(self.alloc, name, mode, answer_of(&done));
@@ -470,16 +472,9 @@ impl Folder for MemFolder {
         done
     }
 
-    fn set_owner(&mut self, _output: &Vec<u8>, owner: u32, group: u32) -> io::Result<()> {
-        let done = self.call();
-        let call = Call::GaveOwner(owner, group, answer_of(&done));
-        self.note(Ok(call));
-        done
-    }
-
-    fn set_mode(&mut self, _output: &Vec<u8>, mode: u32) -> io::Result<()> {
-        let done = self.call();
-        let call = Call::GaveMode(mode, answer_of(&done));
+    fn look_at(&mut self, _output: &Vec<u8>) -> io::Result<Found> {
+        let done = self.last();
+        let call = Call::LookedAt(found_by(&done));
         self.note(Ok(call));
         done
     }
@@ -491,8 +486,8 @@ impl Folder for MemFolder {
         done
     }
 
-    fn copy(&mut self, input: &mut Cursor<Vec<u8>>, output: &mut Vec<u8>) -> io::Result<()> {
-        let done = self.copied(input, output);
+    fn copy(&mut self, new: &Vec<u8>, output: &mut Vec<u8>) -> io::Result<()> {
+        let done = self.copied(new, output);
         let call = Call::Copied(answer_of(&done));
         self.note(Ok(call));
         done

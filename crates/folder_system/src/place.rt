@@ -4,24 +4,20 @@ ghost use Rattle.std.specs.Prelude.{◌≡◌, [], string_bytes, IfErr, IfOk, If
 ghost use Rattle.std.specs.IoError.{error_kind};
 ghost use Rattle.system_host.specs.Told.{bytes_of};
 ghost use Rattle.folder_system.specs.Events.{Follows};
-ghost use Rattle.folder_system.specs.Place.{IsQuiet, IsOpened, IsIn, IsMade, IsUnmade, IsBegun, IsBarred, IsGivenUp, IsGiven, IsRefused, IsPlaced, IsStanding, HasCause, is_beside};
+ghost use Rattle.folder_system.specs.Place.{IsQuiet, IsOpened, IsIn, IsMade, IsUnmade, IsBegun, IsBarred, IsGivenUp, IsPlaced, IsStanding, HasCause, is_beside, mode_for};
 
 use crate::beside::Beside;
-use crate::folder::{Attributes, Folder, attributes_of, is_in_the_way};
+use crate::folder::{Attributes, Folder, Found, attributes_of, is_in_the_way, is_like};
 use crate::kinds::{bars, is_taken};
 use crate::names::own_name;
 use std::alloc::Global;
 use std::io;
-use std::io::ErrorKind;
 
 /// How many names beside are tried.
 const TRIES: u32 = 1000;
 
 /// The mode of an output that takes no file's place, less what the process masks.
 const NEW_MODE: u32 = 0o666;
-
-/// The mode of an output until it has that of the file whose place it takes.
-const OWN_MODE: u32 = 0o600;
 
 /// The bits of permission of a mode.
 const PERMISSION_BITS: u32 = 0o777;
@@ -45,27 +41,21 @@ impl Place {
     }
 }
 
-/// Begins an output of this name. It stands beside a regular file that has one name and no special bit, or
-/// where there is none; and in place where something else stands there, or no file like that one can be made
-/// beside it.
+/// Begins an output of this name. It stands beside a regular file that its owner may write and that has one
+/// name and no special bit, or where there is none; and in place where something else stands there, or a new file
+/// can't be made beside it or isn't like it.
 pub fn begin<F: Folder>(alloc: Global, folder: &mut F, name: &str) -> io::Result<(F::Output, Place)>
     ensures placed { IfOk result (λ begun. Follows (IsPlaced name.now begun.1) (F.history folder.old) (F.history folder.new)) }
     ensures empty { IfOk result (λ begun. IfSome (F.history folder.new)
         (λ _. bytes_of (F.Output.contents begun.0) ≡ [])) }
     ensures given_up { OnErr result (Follows (IsGivenUp name.now) (F.history folder.old) (F.history folder.new)) }
-    ensures cause { IfErr result (λ e. HasCause name.now (error_kind e) (F.history folder.old) (F.history folder.new)) }
+    ensures cause { IfErr result (λ e. HasCause (error_kind e) (F.history folder.old) (F.history folder.new)) }
 {
     let found = folder.look(name)?;
     if is_in_the_way(found) {
         return begin_in_place(alloc, folder, name);
     }
-    match attributes_of(found) {
-        None => begin_beside(alloc, folder, name, None),
-        Some(old) => {
-            folder.try_open(name)?;
-            begin_beside(alloc, folder, name, Some(old))
-        }
-    }
+    begin_beside(alloc, folder, name, attributes_of(found))
 }
 
 fn begin_beside<F: Folder>(
@@ -78,11 +68,11 @@ fn begin_beside<F: Folder>(
     ensures empty { IfOk result (λ begun. IfSome (F.history folder.new)
         (λ _. bytes_of (F.Output.contents begun.0) ≡ [])) }
     ensures given_up { OnErr result (Follows (IsGivenUp name.now) (F.history folder.old) (F.history folder.new)) }
-    ensures cause { IfErr result (λ e. HasCause name.now (error_kind e) (F.history folder.old) (F.history folder.new)) }
+    ensures cause { IfErr result (λ e. HasCause (error_kind e) (F.history folder.old) (F.history folder.new)) }
 {
     let kept_name = String::from_str(alloc, name)?;
     match make_like(alloc, folder, name, old)? {
-        Some((output, own)) => Ok((output, Place::Beside(Beside::new(own, kept_name)))),
+        Some((output, own)) => Ok((output, Place::Beside(Beside::new(own, kept_name, old)))),
         None => begin_in_place(alloc, folder, name),
     }
 }
@@ -97,15 +87,15 @@ fn begin_in_place<F: Folder>(
     ensures empty { IfOk result (λ begun. IfSome (F.history folder.new)
         (λ _. bytes_of (F.Output.contents begun.0) ≡ [])) }
     ensures not_opened { OnErr result (Follows (IsQuiet name.now) (F.history folder.old) (F.history folder.new)) }
-    ensures cause { IfErr result (λ e. HasCause name.now (error_kind e) (F.history folder.old) (F.history folder.new)) }
+    ensures cause { IfErr result (λ e. HasCause (error_kind e) (F.history folder.old) (F.history folder.new)) }
 {
     let kept_name = String::from_str(alloc, name)?;
     let output = folder.open_over(name)?;
     Ok((output, Place::In(kept_name)))
 }
 
-/// Makes a file beside the named one, with the mode, the owner and the group of the old one. None where that
-/// is barred: then nothing is left.
+/// Makes a file beside the named one. None where that is barred, or the new file isn't like the old one: then
+/// nothing is left. It is given nothing but the mode that it is made with.
 fn make_like<F: Folder>(
     alloc: Global,
     folder: &mut F,
@@ -119,35 +109,33 @@ fn make_like<F: Folder>(
     ensures empty { IfOk result (λ made. IfSome made (λ m. IfSome (F.history folder.new)
         (λ _. bytes_of (F.Output.contents m.0) ≡ []))) }
     ensures given_up { OnErr result (Follows (IsGivenUp name.now) (F.history folder.old) (F.history folder.new)) }
-    ensures cause { IfErr result (λ e. HasCause name.now (error_kind e) (F.history folder.old) (F.history folder.new)) }
+    ensures cause { IfErr result (λ e. HasCause (error_kind e) (F.history folder.old) (F.history folder.new)) }
+{
+    let Some((output, own)) = make(alloc, folder, name, mode_for(old))? else {
+        return Ok(None);
+    };
+    let Some(old) = old else {
+        return Ok(Some((output, own)));
+    };
+    let seen = folder.look_at(&output).unwrap_or(Found::Other);
+    if is_like(seen, old) {
+        return Ok(Some((output, own)));
+    }
+    folder.remove(own.as_str())?;
+    Ok(None)
+}
+
+/// The mode that an output is made with: the permissions of the old file.
+fn mode_for(old: Option<Attributes>) -> u32
+    ensures { result ≡ mode_for old }
 {
     match old {
-        None => make(alloc, folder, name, NEW_MODE),
-        Some(old) => {
-            let Some((output, own)) = make(alloc, folder, name, OWN_MODE)? else {
-                return Ok(None);
-            };
-            match give(folder, &output, old) {
-                Ok(()) => Ok(Some((output, own))),
-                Err(e) => {
-                    folder.remove(own.as_str())?;
-                    if bars(e.kind()) { Ok(None) } else { Err(e) }
-                }
-            }
-        }
+        None => NEW_MODE,
+        Some(old) => old.mode & PERMISSION_BITS,
     }
 }
 
-/// Gives a file the owner, the group and the mode of the old one. Until it has the mode nobody else may open it.
-fn give<F: Folder>(folder: &mut F, output: &F::Output, old: Attributes) -> io::Result<()>
-    ensures given { OnOk result (Follows (IsGiven old) (F.history folder.old) (F.history folder.new)) }
-    ensures refused { IfErr result (λ e. Follows (IsRefused old (error_kind e)) (F.history folder.old) (F.history folder.new)) }
-{
-    folder.set_owner(output, old.owner, old.group)?;
-    folder.set_mode(output, old.mode & PERMISSION_BITS)
-}
-
-/// Makes a file beside the named one, by the first name that isn't taken.
+/// Makes a file beside the named one, by the first name that isn't taken. None where that is barred, or all are.
 fn make<F: Folder>(
     alloc: Global,
     folder: &mut F,
@@ -161,7 +149,7 @@ fn make<F: Folder>(
     ensures empty { IfOk result (λ made. IfSome made (λ m. IfSome (F.history folder.new)
         (λ _. bytes_of (F.Output.contents m.0) ≡ []))) }
     ensures given_up { OnErr result (Follows (IsGivenUp name.now) (F.history folder.old) (F.history folder.new)) }
-    ensures cause { IfErr result (λ e. HasCause name.now (error_kind e) (F.history folder.old) (F.history folder.new)) }
+    ensures cause { IfErr result (λ e. HasCause (error_kind e) (F.history folder.old) (F.history folder.new)) }
 {
     for n in 0..TRIES {
         let own = own_name(alloc, name, n)?;
@@ -172,5 +160,5 @@ fn make<F: Folder>(
             Err(e) => return Err(e),
         }
     }
-    Err(io::Error::from(ErrorKind::AlreadyExists))
+    Ok(None)
 }

@@ -8,7 +8,7 @@ ghost use Rattle.host_port.specs.Outside.{Becomes};
 ghost use Rattle.system_host.specs.Told.{bytes_of, Prints};
 ghost use Rattle.folder_system.specs.Disk.{shown, input_told};
 ghost use Rattle.folder_system.specs.Events.{Follows, answer_of};
-ghost use Rattle.folder_system.specs.Place.{HasCause, IsAfterLetGo, IsAnyPlaced, IsEnded, IsGivenUp, IsLetGo, IsUnread, IsWrittenInPlace, stands_beside};
+ghost use Rattle.folder_system.specs.Place.{HasCause, IsAfterLetGo, IsAnyPlaced, IsEnded, IsGivenUp, IsLetGo, IsWrittenInPlace, stands_beside};
 
 use crate::beside::{Taken, store};
 use crate::folder::Folder;
@@ -160,7 +160,7 @@ impl<F: Folder, P: Printer + Drop> System for FolderSystem<F, P> {
         ensures none { OnErr result (self.new.place ≡ None) }
         ensures tells { OnOk result (self.new.tells
             ≡ ((self.old.tells && is_none self.old.place) && stands_beside self.new.place)) }
-        ensures cause { IfErr result (λ e. HasCause name.now (error_kind e) (F.history self.old.folder) (F.history self.new.folder)) }
+        ensures cause { IfErr result (λ e. HasCause (error_kind e) (F.history self.old.folder) (F.history self.new.folder)) }
     {
         self.clear();
         match begin(self.alloc, &mut self.folder, name) {
@@ -183,8 +183,8 @@ impl<F: Folder, P: Printer + Drop> System for FolderSystem<F, P> {
             (shown F.history self.new.tells self.new.place self.new.folder) }
         ensures out { P.printed self.new.printer ≡ P.printed self.old.printer }
         ensures err { P.complained self.new.printer ≡ P.complained self.old.printer }
-        ensures ended { Follows (IsEnded (IsUnread F.answers) self.old.place (bytes_of (F.Output.contents output))
-            (is_ok result)) (F.history self.old.folder) (F.history self.new.folder) }
+        ensures ended { Follows (IsEnded self.old.place (bytes_of (F.Output.contents output)) (is_ok result))
+            (F.history self.old.folder) (F.history self.new.folder) }
         ensures none { self.new.place ≡ None }
         ensures tells { OnOk result ((self.new.tells ≡ self.old.tells)
             ⊎ Follows (IsWrittenInPlace self.old.place) (F.history self.old.folder) (F.history self.new.folder)) }

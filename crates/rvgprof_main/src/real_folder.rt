@@ -6,10 +6,9 @@ ghost use Rattle.std.specs.Io.{WritesAtMost};
 
 use folder_system::{Attributes, Folder, FolderSystem, Found, Printer};
 use std::alloc::AllocError;
-use std::fs::{File, Metadata, OpenOptions, Permissions};
-use std::io::{ErrorKind, Write};
-use std::os::fd::AsFd;
-use std::os::unix::fs::{MetadataExt, OpenOptionsExt, PermissionsExt, fchown};
+use std::fs::{File, Metadata, OpenOptions};
+use std::io::{ErrorKind, Seek, Write};
+use std::os::unix::fs::{MetadataExt, OpenOptionsExt};
 use std::{fs, io};
 
 /// The system.
@@ -52,25 +51,18 @@ impl Folder for RealFolder {
         }
     }
 
-    fn try_open(&mut self, name: &str) -> io::Result<()> {
-        File::options().write(true).open(&self.rt, name)?;
-        Ok(())
-    }
-
     fn create_new(&mut self, name: &str, mode: u32) -> io::Result<File> {
         OpenOptions::new()
+            .read(true)
             .write(true)
             .create_new(true)
             .mode(mode)
             .open(&self.rt, name)
     }
 
-    fn set_owner(&mut self, output: &File, owner: u32, group: u32) -> io::Result<()> {
-        fchown(output.as_fd(), Some(owner), Some(group))
-    }
-
-    fn set_mode(&mut self, output: &File, mode: u32) -> io::Result<()> {
-        output.set_permissions(Permissions::from_mode(mode))
+    #[inline(never)]
+    fn look_at(&mut self, output: &File) -> io::Result<Found> {
+        Ok(found(&output.metadata()?))
     }
 
     fn open_over(&mut self, name: &str) -> io::Result<File> {
@@ -78,8 +70,10 @@ impl Folder for RealFolder {
     }
 
     #[inline(never)]
-    fn copy(&mut self, input: &mut File, output: &mut File) -> io::Result<()> {
-        io::copy(input, output)?;
+    fn copy(&mut self, new: &File, output: &mut File) -> io::Result<()> {
+        let mut new = new;
+        new.rewind()?;
+        io::copy(&mut new, output)?;
         Ok(())
     }
 
@@ -97,8 +91,12 @@ impl Folder for RealFolder {
         fs::remove_file(&self.rt, name)
     }
 
+    /// A folder that can't be opened can't be synced.
     fn sync_names(&mut self, folder: &str) -> io::Result<()> {
-        fs::open(&self.rt, folder)?.sync_all()
+        match fs::open(&self.rt, folder) {
+            Ok(folder) => folder.sync_all(),
+            Err(_) => Err(io::Error::from(ErrorKind::Unsupported)),
+        }
     }
 }
 
@@ -108,6 +106,8 @@ fn found(data: &Metadata) -> Found {
         return Found::Other;
     }
     Found::File(Attributes {
+        device: data.dev(),
+        inode: data.ino(),
         mode: data.mode(),
         owner: data.uid(),
         group: data.gid(),

@@ -23,4 +23,4 @@ returns-in-None-clause-cause g c =
     let told = g.F.Folder.history in
     let name = c.args.name.now in
     let barred = barred_at c.in_ok-output.field-0 (Follows (IsBarred name c.args.old) (told c.args.folder.now) (told c.make_like.new.folder)) c.in-None.is c.in_ok-output.ensures.barred in
-    result_behind name (IsBarred name c.args.old) c.begin_in_place.result (told c.args.folder.now) (told c.make_like.new.folder) (told c.begin_in_place.new.folder) barred c.begin_in_place.ensures.cause
+    result_behind (IsBarred name c.args.old) c.begin_in_place.result (told c.args.folder.now) (told c.make_like.new.folder) (told c.begin_in_place.new.folder) barred c.begin_in_place.ensures.cause
