@@ -82,12 +82,16 @@ begun_alone name own (Some old) fs es b =
     record { spares = made_spares name own (mode_for (Some old)) b.0 fs es (i.spares name) b.1; fresh = b.1.fresh; files = made_files name own (mode_for (Some old)) b.0 fs es i.files b.1 }
 
 pub begun_seen : (name own : List ℕ) (old : Attributes) (fs : List File) (es looks : List Event) → IsMade name own (mode_for (Some old)) [] fs es → IsSeen old true looks → IsBegun name own (Some old) fs (es ++ looks)
-begun_seen name own old fs es looks m seen = (looks, record {
-  number = m.number;
-  next_to = m.next_to;
-  fresh = m.fresh;
-  is = ap (λ (l : List Event). l ++ looks) m.is ∙ append_assoc (tries name (mode_for (Some old)) m.number) (Made own (mode_for (Some old)) None ∷ []) looks;
-}, seen)
+begun_seen name own old fs es looks m seen = (
+  looks,
+  record {
+    number = m.number;
+    next_to = m.next_to;
+    fresh = m.fresh;
+    is = ap (λ (l : List Event). l ++ looks) m.is ∙ append_assoc (tries name (mode_for (Some old)) m.number) (Made own (mode_for (Some old)) None ∷ []) looks;
+  },
+  seen,
+)
 
 pub unmade_quiet : (name : List ℕ) (mode : ℕ) (fs : List File) (es : List Event) → IsUnmade name mode fs es → IsQuiet name fs es
 unmade_quiet name mode fs es (inl u) = subst (IsQuiet name fs) (sym u.is)

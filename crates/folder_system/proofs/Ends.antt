@@ -6,14 +6,15 @@ use Rattle.std.specs.declared.io.ErrorKind.{ErrorKind}
 use Rattle.host_port.specs.Act.{File}
 use Rattle.host_port.specs.Outside.{Becomes}
 use Rattle.folder_system.specs.declared.place.Place.{Place}
-use Rattle.folder_system.specs.declared.beside.Taken.TheVariants.{ByCopy}
+use Rattle.folder_system.specs.declared.beside.Taken.TheVariants.{ByName, ByCopy}
 use Rattle.folder_system.specs.declared.beside.Naming.TheVariants.{Done, Held}
 use Rattle.folder_system.specs.declared.folder.Attributes.{Attributes}
 use Rattle.folder_system.specs.declared.folder.Found.{Found}
+use Rattle.folder_system.specs.Names.{folder_of}
 use Rattle.folder_system.specs.Found.{is_still}
 use Rattle.folder_system.specs.Kinds.{is_held}
-use Rattle.folder_system.specs.Events.{Event, Looked, Opened, Copied, Synced, Renamed, Removed, History, Answer, after, Follows, is_stored}
-use Rattle.folder_system.specs.Place.{Refusal, Changed, Refused, IsStored, IsNotStored, IsSettling, IsHeld, refusing, copying, IsPut, IsHalted, IsHalf, IsOver, IsHalfCopied, IsTaken, IsLost, IsLetGo, IsAfterLetGo}
+use Rattle.folder_system.specs.Events.{Event, Looked, Opened, Copied, Synced, Renamed, Removed, NamesSynced, History, Answer, after, Follows, is_stored}
+use Rattle.folder_system.specs.Place.{Refusal, Changed, Refused, IsStored, IsNotStored, IsHeld, refusing, copying, IsPut, IsHalted, IsHalf, IsOver, IsHalfCopied, IsTaken, IsLost, IsLetGo, IsAfterLetGo}
 use Rattle.folder_system.proofs.Follows.{then_calls, one_call, then_call, restate}
 
 -- ---- the name
@@ -91,9 +92,9 @@ module _ (name bytes now : List ℕ) where
 -- ---- the whole
 
 module _ (old : Option Attributes) (own name bytes : List ℕ) where
-  pub unsettled : (a b c : Option History) → Follows (IsPut old own name bytes Done) a b → Follows (IsSettling name false) b c → Follows (IsLost old own name bytes) a c
-  unsettled a b c = then_calls (IsPut old own name bytes Done) (IsSettling name false) (IsLost old own name bytes) a b c
-      (λ fs es gs p h. inr (record { seen = p.1; synced = p.0; settled = h.0; is = λ i. p.2 i ++ h.1 i; stored = p.3; still = p.4; failed = h.2 }))
+  pub moved : (settled : Answer) (a b c : Option History) → Follows (IsPut old own name bytes Done) a b → Becomes (after (NamesSynced (folder_of name) settled)) b c → Follows (IsTaken old own name bytes ByName) a c
+  moved settled a b c = then_call (IsPut old own name bytes Done) (IsTaken old own name bytes ByName) (NamesSynced (folder_of name) settled) a b c
+      (λ fs es p. record { seen = p.1; synced = p.0; settled = settled; is = ap (λ (l : List Event). l ++ NamesSynced (folder_of name) settled ∷ []) p.2; stored = p.3; still = p.4 })
 
   Held_over : List File → List Event → Type 0
   Held_over fs es = (s : Answer) × (why : Refusal) × (copied : Answer) × (es ≡ refusing own name bytes s why ++ copying name bytes copied) × (is_stored s ≡ true) × IsHeld old why × (is_stored copied ≡ true)
@@ -107,12 +108,12 @@ module _ (old : Option Attributes) (own name bytes : List ℕ) where
 
   pub withdrawn : (answer : Answer) (a b c : Option History) → Follows (IsHalted old own name bytes) a b → Becomes (after (Removed own answer)) b c → Follows (IsLost old own name bytes) a c
   withdrawn answer a b c = then_call (IsHalted old own name bytes) (IsLost old own name bytes) (Removed own answer) a b c
-      (λ fs es h. inl (record { front = es; halted = inl h; removed = answer; is = refl }))
+      (λ fs es h. record { front = es; halted = inl h; removed = answer; is = refl })
 
   pub half_copied : (answer : Answer) (a b c d : Option History) → Follows (IsPut old own name bytes Held) a b → Follows (IsHalf name bytes) b c → Becomes (after (Removed own answer)) c d → Follows (IsLost old own name bytes) a d
   half_copied answer a b c d put not =
       then_call (λ fs es. IsHalfCopied old own name bytes es) (IsLost old own name bytes) (Removed own answer) a c d
-      (λ fs es h. inl (record { front = es; halted = inr h; removed = answer; is = refl }))
+      (λ fs es h. record { front = es; halted = inr h; removed = answer; is = refl })
       (then_calls (IsPut old own name bytes Held) (IsHalf name bytes) (λ fs es. IsHalfCopied old own name bytes es) a b c
       (λ fs es gs p h. record { synced = p.0; why = p.1; behind = gs; is = ap (λ (l : List Event). l ++ gs) p.2; stored = p.3; held = p.4; half = h }) put not)
 

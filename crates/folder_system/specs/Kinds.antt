@@ -23,13 +23,6 @@ is_no_sync InvalidInput = true
 is_no_sync Unsupported = true
 is_no_sync _ = false
 
--- the names of a folder can't be synced
-abbrev pub is_no_names_sync : ErrorKind → Bool
-is_no_names_sync PermissionDenied = true
-is_no_names_sync InvalidInput = true
-is_no_names_sync Unsupported = true
-is_no_names_sync _ = false
-
 -- No other file can have the name: a mount of its own stands there, or another's file in a folder of which
 -- each may take away only their own.
 abbrev pub is_held : ErrorKind → Bool

@@ -14,7 +14,7 @@ use Rattle.folder_system.specs.declared.beside.Taken.{Taken}
 use Rattle.folder_system.specs.declared.beside.Taken.TheVariants.{ByName, ByCopy}
 use Rattle.folder_system.specs.Names.{folder_of, numbered}
 use Rattle.folder_system.specs.Found.{bars_found, attributes_found, is_like, is_still}
-use Rattle.folder_system.specs.Kinds.{is_barring, is_taken, is_held, is_no_names_sync}
+use Rattle.folder_system.specs.Kinds.{is_barring, is_taken, is_held}
 use Rattle.folder_system.specs.Events.{Event, Looked, Made, LookedAt, Opened, Copied, Synced, Renamed, Removed, NamesSynced, Answer, History, Follows, files_after, is_stored}
 use Rattle.folder_system.specs.Entries.{Spares}
 
@@ -192,14 +192,6 @@ IsStored name bytes fs es = (answer : Answer) × (es ≡ Synced name bytes answe
 abbrev pub IsNotStored : List ℕ → List ℕ → List File → List Event → Type 0
 IsNotStored name bytes fs es = (answer : Answer) × (es ≡ Synced name bytes answer ∷ []) × (is_stored answer ≡ false)
 
--- the names of the folder are synced, or can't be
-abbrev pub is_settled : Answer → Bool
-is_settled None = true
-is_settled (Some kind) = is_no_names_sync kind
-
-abbrev pub IsSettling : List ℕ → Bool → List File → List Event → Type 0
-IsSettling name ok fs es = (answer : Answer) × (es ≡ NamesSynced (folder_of name) answer ∷ []) × (is_settled answer ≡ ok)
-
 -- the file beside was synced, what stands at the name was looked at, the name was given, and the folder was to be
 -- synced
 abbrev pub moving : List ℕ → List ℕ → List ℕ → Found → Answer → Answer → List Event
@@ -238,7 +230,6 @@ pub record IsMoved (old : Option Attributes) (own name bytes : List ℕ) (es : L
   pub is : es ≡ moving own name bytes seen synced settled
   pub stored : is_stored synced ≡ true
   pub still : is_still seen old ≡ true
-  pub names : is_settled settled ≡ true
 
 pub record IsCopied (old : Option Attributes) (own name bytes : List ℕ) (es : List Event) : Type 0 where
   pub synced : Answer
@@ -307,18 +298,8 @@ pub record IsWithdrawn (old : Option Attributes) (own name bytes : List ℕ) (es
   pub removed : Answer
   pub is : es ≡ front ++ Removed own removed ∷ []
 
--- the named file has what was written, but the names of its folder could not be synced
-pub record IsUnsettled (old : Option Attributes) (own name bytes : List ℕ) (es : List Event) : Type 0 where
-  pub seen : Found
-  pub synced : Answer
-  pub settled : Answer
-  pub is : es ≡ moving own name bytes seen synced settled
-  pub stored : is_stored synced ≡ true
-  pub still : is_still seen old ≡ true
-  pub failed : is_settled settled ≡ false
-
 abbrev pub IsLost : Option Attributes → List ℕ → List ℕ → List ℕ → List File → List Event → Type 0
-IsLost old own name bytes fs es = IsWithdrawn old own name bytes es ⊎ IsUnsettled old own name bytes es
+IsLost old own name bytes fs es = IsWithdrawn old own name bytes es
 
 -- the file beside was to be taken away
 abbrev pub IsAway : List ℕ → List File → List Event → Type 0

@@ -1,12 +1,12 @@
 //! An output that stands beside the file whose place it takes.
 
-ghost use Rattle.std.specs.Prelude.{◌≡◌, string_bytes, true, false, IfOk, OnErr, OnOk};
+ghost use Rattle.std.specs.Prelude.{◌≡◌, string_bytes, IfOk, OnErr, OnOk};
 ghost use Rattle.system_host.specs.Told.{bytes_of};
 ghost use Rattle.folder_system.specs.Events.{Follows};
-ghost use Rattle.folder_system.specs.Place.{IsAway, IsHalf, IsHalted, IsLost, IsNotStored, IsOver, IsPut, IsSettling, IsStored, IsTaken};
+ghost use Rattle.folder_system.specs.Place.{IsAway, IsHalf, IsHalted, IsLost, IsNotStored, IsOver, IsPut, IsStored, IsTaken};
 
 use crate::folder::{Attributes, Folder, is_still};
-use crate::kinds::{cannot_sync, cannot_sync_names, holds_name};
+use crate::kinds::{cannot_sync, holds_name};
 use crate::names::folder_of;
 use std::io;
 
@@ -46,8 +46,8 @@ impl Beside {
     }
 
     /// Takes the place of the file of its name. Where that is held, or not what was found before, what stands there
-    /// is written in place, once what was written stands on the disk. After an error nothing is left beside, unless
-    /// it can't be taken away.
+    /// is written in place, once what was written stands on the disk. After an error the file beside doesn't have the
+    /// name, and nothing is left beside, unless it can't be taken away.
     pub fn take_place<F: Folder>(self, folder: &mut F, output: &F::Output) -> io::Result<Taken>
         ensures taken { IfOk result (λ taken. Follows (IsTaken self.old (string_bytes self.own) (string_bytes self.name)
             (bytes_of (F.Output.contents output.now)) taken) (F.history folder.old) (F.history folder.new)) }
@@ -57,7 +57,8 @@ impl Beside {
         let Beside { own, name, old } = self;
         match put(folder, output, own.as_str(), name.as_str(), old) {
             Ok(Naming::Done) => {
-                settle(folder, name.as_str())?;
+                // Whether the folder can be synced or not, the file has the name.
+                let _ = folder.sync_names(folder_of(name.as_str()));
                 Ok(Taken::ByName)
             }
             Ok(Naming::Held) => match copy_over(folder, output, name.as_str()) {
@@ -137,18 +138,6 @@ pub fn store<F: Folder>(folder: &mut F, name: &str, output: &F::Output) -> io::R
     match folder.sync(name, output) {
         Ok(()) => Ok(()),
         Err(e) if cannot_sync(e.kind()) => Ok(()),
-        Err(e) => Err(e),
-    }
-}
-
-/// Puts on the disk that the file has the name, where that can be asked.
-fn settle<F: Folder>(folder: &mut F, name: &str) -> io::Result<()>
-    ensures settled { OnOk result (Follows (IsSettling name.now true) (F.history folder.old) (F.history folder.new)) }
-    ensures failed { OnErr result (Follows (IsSettling name.now false) (F.history folder.old) (F.history folder.new)) }
-{
-    match folder.sync_names(folder_of(name)) {
-        Ok(()) => Ok(()),
-        Err(e) if cannot_sync_names(e.kind()) => Ok(()),
         Err(e) => Err(e),
     }
 }

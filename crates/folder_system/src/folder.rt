@@ -137,7 +137,7 @@ pub trait Folder {
 
     /// Writes to an output all that was written to a new file, which is read by no name. How much of it was
     /// written before an error isn't said.
-    fn copy(&mut self, new: &Self::Output, output: &mut Self::Output) -> io::Result<()>
+    fn copy(&mut self, new: &Self::Output, output: &mut Self::Output) -> io::Result<u64>
         ensures done { Becomes (after (Copied (answer_of result))) (history self.old) (history self.new) }
         ensures all { OnOk result (IfSome (history self.new) (λ _. bytes_of (Self.Output.contents output.new)
             ≡ bytes_of (Self.Output.contents output.old) ++ bytes_of (Self.Output.contents new.now))) };

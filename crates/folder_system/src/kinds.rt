@@ -1,7 +1,7 @@
 //! What the kinds of errors say.
 
 ghost use Rattle.std.specs.Prelude.{◌≡◌};
-ghost use Rattle.folder_system.specs.Kinds.{is_barring, is_taken, is_no_sync, is_no_names_sync, is_held};
+ghost use Rattle.folder_system.specs.Kinds.{is_barring, is_taken, is_no_sync, is_held};
 
 use std::io::ErrorKind;
 
@@ -36,17 +36,6 @@ pub fn cannot_sync(kind: ErrorKind) -> bool
 {
     match kind {
         ErrorKind::InvalidInput | ErrorKind::Unsupported => true,
-        _ => false,
-    }
-}
-
-/// Whether an error of this kind says that the names of a folder can't be synced, as those of one that may not
-/// be read.
-pub fn cannot_sync_names(kind: ErrorKind) -> bool
-    ensures { result ≡ is_no_names_sync kind }
-{
-    match kind {
-        ErrorKind::PermissionDenied | ErrorKind::InvalidInput | ErrorKind::Unsupported => true,
         _ => false,
     }
 }

@@ -215,14 +215,14 @@ impl MemFolder {
         Ok(Vec::new(self.alloc))
     }
 
-    fn copied(&mut self, new: &Vec<u8>, output: &mut Vec<u8>) -> io::Result<()>
+    fn copied(&mut self, new: &Vec<u8>, output: &mut Vec<u8>) -> io::Result<u64>
         ensures files { self.new.files ≡ self.old.files }
         ensures same { self.new.trace ≡ self.old.trace }
         ensures all { OnOk result (output.new.items ≡ output.old.items ++ new.now.items) }
     {
         self.call()?;
         output.extend_from_slice(new.as_slice())?;
-        Ok(())
+        Ok(new.len() as u64)
     }
 
     /// What was written stands in the file, also where there is nothing to sync.
@@ -486,7 +486,7 @@ impl Folder for MemFolder {
         done
     }
 
-    fn copy(&mut self, new: &Vec<u8>, output: &mut Vec<u8>) -> io::Result<()> {
+    fn copy(&mut self, new: &Vec<u8>, output: &mut Vec<u8>) -> io::Result<u64> {
         let done = self.copied(new, output);
         let call = Call::Copied(answer_of(&done));
         self.note(Ok(call));

@@ -70,11 +70,10 @@ impl Folder for RealFolder {
     }
 
     #[inline(never)]
-    fn copy(&mut self, new: &File, output: &mut File) -> io::Result<()> {
+    fn copy(&mut self, new: &File, output: &mut File) -> io::Result<u64> {
         let mut new = new;
         new.rewind()?;
-        io::copy(&mut new, output)?;
-        Ok(())
+        io::copy(&mut new, output)
     }
 
     fn sync(&mut self, _name: &str, output: &File) -> io::Result<()> {
@@ -91,12 +90,8 @@ impl Folder for RealFolder {
         fs::remove_file(&self.rt, name)
     }
 
-    /// A folder that can't be opened can't be synced.
     fn sync_names(&mut self, folder: &str) -> io::Result<()> {
-        match fs::open(&self.rt, folder) {
-            Ok(folder) => folder.sync_all(),
-            Err(_) => Err(io::Error::from(ErrorKind::Unsupported)),
-        }
+        fs::open(&self.rt, folder)?.sync_all()
     }
 }
 

@@ -1,16 +1,16 @@
-use Rattle.std.proofs.Common.{List, ℕ, false, string_bytes, subst}
+use Rattle.std.proofs.Common.{◌≡◌, List, ℕ, string_bytes, ap, subst, ◌∙◌}
 use Rattle.host_port.specs.Outside.{Becomes}
 use Rattle.system_host.specs.Told.{bytes_of}
 use Rattle.folder_system.specs.declared.beside.Naming.{Naming}
 use Rattle.folder_system.specs.declared.beside.Naming.TheVariants.{Done, Held}
-use Rattle.folder_system.specs.Events.{Follows, Removed, after, answer_of}
-use Rattle.folder_system.specs.Place.{IsPut, IsHalf, IsHalted, IsLost, IsOver, IsSettling}
-use Rattle.folder_system.proofs.Ends.{unsettled, copied, half_copied, withdrawn}
-use Rattle.folder_system.proofs.Making.{on_err}
+use Rattle.folder_system.specs.Events.{Follows, Removed, NamesSynced, after, answer_of}
+use Rattle.folder_system.specs.Names.{folder_of}
+use Rattle.folder_system.specs.Place.{IsPut, IsHalf, IsHalted, IsOver}
+use Rattle.folder_system.proofs.Ends.{moved, copied, half_copied, withdrawn}
 use Rattle.folder_system.proofs.beside.Beside.take_place.Goals as goal
 
-pub returns-in_err-settle-in-Ok-Done-clause-lost : goal.returns-in_err-settle-in-Ok-Done-clause-lost
-returns-in_err-settle-in-Ok-Done-clause-lost g c =
+pub returns-in-Ok-Done-clause-taken : goal.returns-in-Ok-Done-clause-taken
+returns-in-Ok-Done-clause-taken g c =
     let told = g.F.Folder.history in
     let bytes = bytes_of (g.F.Output.Write.contents c.args.output.now) in
     let old = c.args.self.old in
@@ -19,9 +19,9 @@ returns-in_err-settle-in-Ok-Done-clause-lost g c =
     let put = subst (λ (n : List ℕ). Follows (IsPut old own n bytes Done) (told c.args.folder.now) (told c.put.new.folder)) c.as_str-2.ensures.value
     (subst (λ (o : List ℕ). Follows (IsPut old o c.as_str-2.result.now bytes Done) (told c.args.folder.now) (told c.put.new.folder)) c.as_str.ensures.value
     (subst (λ (v : Naming). Follows (IsPut old c.as_str.result.now c.as_str-2.result.now bytes v) (told c.args.folder.now) (told c.put.new.folder)) c.in-Ok-Done.field-0-is c.in-Ok-Done.ensures.put)) in
-    let failed = subst (λ (n : List ℕ). Follows (IsSettling n false) (told c.put.new.folder) (told c.settle.new.folder)) c.as_str-in-Ok-Done.ensures.value c.in_err-settle-in-Ok-Done.ensures.failed in
-    on_err c.from_residual.result (Follows (IsLost old own name bytes) (told c.args.folder.now) (told c.settle.new.folder))
-    (unsettled old own name bytes (told c.args.folder.now) (told c.put.new.folder) (told c.settle.new.folder) put failed)
+    let is : c.folder_of.result.now ≡ folder_of name = c.folder_of.ensures ∙ ap folder_of c.as_str-in-Ok-Done.ensures.value in
+    let synced = subst (λ (f : List ℕ). Becomes (after (NamesSynced f (answer_of c.sync_names.result))) (told c.put.new.folder) (told c.sync_names.new.self)) is c.sync_names.ensures in
+    moved old own name bytes (answer_of c.sync_names.result) (told c.args.folder.now) (told c.put.new.folder) (told c.sync_names.new.self) put synced
 
 pub returns-in-Ok-clause-taken : goal.returns-in-Ok-clause-taken
 returns-in-Ok-clause-taken g c =
