@@ -1,5 +1,5 @@
 -- What calls that follow one another do.
-use Rattle.std.proofs.Common.{◌≡◌, inl, inr, ℕ, zero, suc, Bool, true, false, ◌||◌, List, [], ◌∷◌, ◌++◌, Option, Some, None, refl, sym, ap, subst, ◌∙◌, append_assoc}
+use Rattle.std.proofs.Common.{◌≡◌, inl, inr, ℕ, zero, suc, Bool, true, false, ◌||◌, List, [], ◌∷◌, ◌++◌, Option, Some, None, Ok, refl, sym, ap, subst, ◌∙◌, append_assoc}
 use Rattle.std.specs.Prelude.{string_bytes}
 use Rattle.std.specs.declared.io.ErrorKind.{ErrorKind}
 use Rattle.host_port.specs.Act.{File, with_file, has_file}
@@ -9,9 +9,9 @@ use Rattle.folder_system.specs.declared.place.Place.{Place}
 use Rattle.folder_system.specs.declared.place.Place.TheVariants.{Beside as StandsBeside, In}
 use Rattle.folder_system.specs.Found.{attributes_found}
 use Rattle.folder_system.specs.Names.{numbered}
-use Rattle.folder_system.specs.Events.{Event, Looked, Made, Opened, Removed, Answer, files_after}
+use Rattle.folder_system.specs.Events.{Event, Looked, Made, LookedAt, Opened, Removed, Answer, Sight, files_after}
 use Rattle.folder_system.specs.Entries.{Spares}
-use Rattle.folder_system.specs.Place.{has_failed_removal, failed_removal, mode_for, tries, IsQuiet, IsAlone, IsInPlace, IsPlaced, BeginsCarefully, IsMade, IsUnmade, IsSeen, IsBegun, IsBarred, IsBehindFinding, IsTidy, IsGivenUp}
+use Rattle.folder_system.specs.Place.{has_failed_removal, failed_removal, mode_for, tries, IsQuiet, IsAlone, IsInPlace, IsPlaced, BeginsCarefully, IsMade, IsUnmade, IsBegun, IsBarred, IsBehindFinding, IsTidy, IsGivenUp}
 use Rattle.folder_system.proofs.Follows.{files_append}
 use Rattle.folder_system.proofs.Files.{made_and_removed}
 use Rattle.folder_system.proofs.NameLemmas.{apart}
@@ -67,31 +67,18 @@ module _ (name own : List ℕ) (mode : ℕ) (looks : List Event) (fs : List File
       ap (λ (l : List Event). files_after l fs) m.is ∙ files_append (tries name mode m.number) (Made own mode None ∷ looks) fs
       ∙ same (with_file own [] (files_after (tries name mode m.number) fs)) ∙ ap (with_file own []) (tries_quiet name mode m.number fs).files
 
--- a new file was looked at
-record IsIdle (es : List Event) : Type 0 where
-  pub spares : (name : List ℕ) → Spares name es
-  pub files : (fs : List File) → files_after es fs ≡ fs
+begun_alone : (name own : List ℕ) (old : Option Attributes) (takes : Bool) (fs : List File) (es : List Event) → IsBegun name own old takes fs es → IsAlone name own fs es
+begun_alone name own None takes fs es b = record { spares = made_spares name own 438 [] fs es tt b.0; fresh = b.0.fresh; files = made_files name own 438 [] fs es (λ gs. refl) b.0 }
+begun_alone name own (Some old) takes fs es b =
+    record { spares = made_spares name own (mode_for (Some old)) (LookedAt b.0 ∷ []) fs es (refl, tt) b.1; fresh = b.1.fresh; files = made_files name own (mode_for (Some old)) (LookedAt b.0 ∷ []) fs es (λ gs. refl) b.1 }
 
-idle : (old : Attributes) (alike : Bool) (es : List Event) → IsSeen old alike es → IsIdle es
-idle old alike es s = subst IsIdle (sym s.1) (record { spares = λ name. (refl, tt); files = λ fs. refl })
-
-begun_alone : (name own : List ℕ) (old : Option Attributes) (fs : List File) (es : List Event) → IsBegun name own old fs es → IsAlone name own fs es
-begun_alone name own None fs es m = record { spares = made_spares name own 438 [] fs es tt m; fresh = m.fresh; files = made_files name own 438 [] fs es (λ gs. refl) m }
-begun_alone name own (Some old) fs es b =
-    let i = idle old true b.0 b.2 in
-    record { spares = made_spares name own (mode_for (Some old)) b.0 fs es (i.spares name) b.1; fresh = b.1.fresh; files = made_files name own (mode_for (Some old)) b.0 fs es i.files b.1 }
-
-pub begun_seen : (name own : List ℕ) (old : Attributes) (fs : List File) (es looks : List Event) → IsMade name own (mode_for (Some old)) [] fs es → IsSeen old true looks → IsBegun name own (Some old) fs (es ++ looks)
-begun_seen name own old fs es looks m seen = (
-  looks,
-  record {
-    number = m.number;
-    next_to = m.next_to;
-    fresh = m.fresh;
-    is = ap (λ (l : List Event). l ++ looks) m.is ∙ append_assoc (tries name (mode_for (Some old)) m.number) (Made own (mode_for (Some old)) None ∷ []) looks;
-  },
-  seen,
-)
+pub made_seen : (name own : List ℕ) (mode : ℕ) (fs : List File) (es looks : List Event) → IsMade name own mode [] fs es → IsMade name own mode looks fs (es ++ looks)
+made_seen name own mode fs es looks m = record {
+  number = m.number;
+  next_to = m.next_to;
+  fresh = m.fresh;
+  is = ap (λ (l : List Event). l ++ looks) m.is ∙ append_assoc (tries name mode m.number) (Made own mode None ∷ []) looks;
+}
 
 pub unmade_quiet : (name : List ℕ) (mode : ℕ) (fs : List File) (es : List Event) → IsUnmade name mode fs es → IsQuiet name fs es
 unmade_quiet name mode fs es (inl u) = subst (IsQuiet name fs) (sym u.is)
@@ -101,49 +88,48 @@ unmade_quiet name mode fs es (inr all) = subst (IsQuiet name fs) (sym all) (trie
 removed_files : (own : List ℕ) (fs : List File) (es : List Event) → files_after es fs ≡ with_file own [] fs → has_file own fs ≡ false → files_after (es ++ Removed own None ∷ []) fs ≡ fs
 removed_files own fs es is fresh = files_append es (Removed own None ∷ []) fs ∙ ap (files_after (Removed own None ∷ [])) is ∙ made_and_removed own fs fresh
 
-module _ (name own : List ℕ) (old : Attributes) (fs : List File) (es gs : List Event) where
-  both_spare : (answer : Answer) → IsMade name own (mode_for (Some old)) [] fs es → IsIdle gs → Spares name ((es ++ gs) ++ Removed own answer ∷ [])
-  both_spare None m f = spares_append name (es ++ gs) (Removed own None ∷ []) (spares_append name es gs (made_spares name own (mode_for (Some old)) [] fs es tt m) (f.spares name)) (apart name m.number own m.next_to, tt)
-  both_spare (Some failure) m f = spares_append name (es ++ gs) (Removed own (Some failure) ∷ []) (spares_append name es gs (made_spares name own (mode_for (Some old)) [] fs es tt m) (f.spares name)) (refl, tt)
+module _ (name own : List ℕ) (old : Attributes) (fs : List File) (es : List Event) (seen : Sight) (m : IsMade name own (mode_for (Some old)) [] fs es) where
+  both_spare : Spares name (es ++ LookedAt seen ∷ [])
+  both_spare = spares_append name es (LookedAt seen ∷ []) (made_spares name own (mode_for (Some old)) [] fs es tt m) (refl, tt)
 
-  both_files : IsMade name own (mode_for (Some old)) [] fs es → IsIdle gs → files_after (es ++ gs) fs ≡ with_file own [] fs
-  both_files m f = files_append es gs fs ∙ f.files (files_after es fs) ∙ made_files name own (mode_for (Some old)) [] fs es (λ gs. refl) m
+  both_files : files_after (es ++ LookedAt seen ∷ []) fs ≡ with_file own [] fs
+  both_files = files_append es (LookedAt seen ∷ []) fs ∙ made_files name own (mode_for (Some old)) [] fs es (λ gs. refl) m
 
-  pub unlike_quiet : IsMade name own (mode_for (Some old)) [] fs es → IsSeen old false gs → IsQuiet name fs ((es ++ gs) ++ Removed own None ∷ [])
-  unlike_quiet m s =
-      let f = idle old false gs s in
-      record { spares = both_spare None m f; files = removed_files own fs (es ++ gs) (both_files m f) m.fresh }
+  removed_spare : (answer : Answer) → Spares name ((es ++ LookedAt seen ∷ []) ++ Removed own answer ∷ [])
+  removed_spare None = spares_append name (es ++ LookedAt seen ∷ []) (Removed own None ∷ []) both_spare (apart name m.number own m.next_to, tt)
+  removed_spare (Some failure) = spares_append name (es ++ LookedAt seen ∷ []) (Removed own (Some failure) ∷ []) both_spare (refl, tt)
 
-  tidy_removed : (answer : Answer) → IsMade name own (mode_for (Some old)) [] fs es → IsIdle gs → IsTidy name fs ((es ++ gs) ++ Removed own answer ∷ [])
-  tidy_removed None m f = inl (removed_files own fs (es ++ gs) (both_files m f) m.fresh)
-  tidy_removed (Some failure) m f = inr (record {
+  pub foreign_quiet : IsQuiet name fs ((es ++ LookedAt seen ∷ []) ++ Removed own None ∷ [])
+  foreign_quiet = record { spares = removed_spare None; files = removed_files own fs (es ++ LookedAt seen ∷ []) both_files m.fresh }
+
+  tidy_removed : (answer : Answer) → IsTidy name fs ((es ++ LookedAt seen ∷ []) ++ Removed own answer ∷ [])
+  tidy_removed None = inl (removed_files own fs (es ++ LookedAt seen ∷ []) both_files m.fresh)
+  tidy_removed (Some failure) = inr (record {
     own = own;
     next_to = (m.number, m.next_to);
     fresh = m.fresh;
-    failed = removal_behind (es ++ gs) (Removed own (Some failure) ∷ []) refl;
-    files = files_append (es ++ gs) (Removed own (Some failure) ∷ []) fs ∙ both_files m f;
+    failed = removal_behind (es ++ LookedAt seen ∷ []) (Removed own (Some failure) ∷ []) refl;
+    files = files_append (es ++ LookedAt seen ∷ []) (Removed own (Some failure) ∷ []) fs ∙ both_files;
   })
 
-  pub unlike_given_up : (answer : Answer) → IsMade name own (mode_for (Some old)) [] fs es → IsSeen old false gs → IsGivenUp name fs ((es ++ gs) ++ Removed own answer ∷ [])
-  unlike_given_up answer m s =
-      let f = idle old false gs s in
-      record { spares = both_spare answer m f; tidy = tidy_removed answer m f }
+  pub foreign_given_up : (answer : Answer) → IsGivenUp name fs ((es ++ LookedAt seen ∷ []) ++ Removed own answer ∷ [])
+  foreign_given_up answer = record { spares = removed_spare answer; tidy = tidy_removed answer }
 
 -- ---- none beside
 
 pub barred_quiet : (name : List ℕ) (old : Option Attributes) (fs : List File) (es : List Event) → IsBarred name old fs es → IsQuiet name fs es
 barred_quiet name None fs es u = unmade_quiet name 438 fs es u
 barred_quiet name (Some old) fs es (inl u) = unmade_quiet name (mode_for (Some old)) fs es u
-barred_quiet name (Some old) fs es (inr u) = subst (IsQuiet name fs) (sym u.is) (unlike_quiet name u.own old fs u.front u.looks u.made u.unlike)
+barred_quiet name (Some old) fs es (inr u) = subst (IsQuiet name fs) (sym u.is) (foreign_quiet name u.own old fs u.front u.seen u.made)
 
 -- ---- what was found, and then an output beside it
 
-found_quiet : (name : List ℕ) (found : Found) (fs : List File) → IsQuiet name fs (Looked name (Some found) ∷ [])
+found_quiet : (name : List ℕ) (found : Found) (fs : List File) → IsQuiet name fs (Looked name (Ok found) ∷ [])
 found_quiet name found fs = record { spares = (refl, tt); files = refl }
 
-pub beside_alone : (name own : List ℕ) (old : Option Attributes) (fs : List File) (es : List Event) → IsBehindFinding name (λ was fs es. (old ≡ was) × IsBegun name own was fs es) fs es → IsAlone name own fs es
-beside_alone name own old fs es b =
-    let begun = begun_alone name own (attributes_found b.found) fs b.behind b.so.1 in
+pub beside_alone : (name own : List ℕ) (old : Option Attributes) (takes : Bool) (fs : List File) (es : List Event) → IsBehindFinding name (λ was fs es. (old ≡ was) × IsBegun name own was takes fs es) fs es → IsAlone name own fs es
+beside_alone name own old takes fs es b =
+    let begun = begun_alone name own (attributes_found b.found) takes fs b.behind b.so.1 in
     subst (IsAlone name own fs) (sym b.is) (record { spares = (refl, begun.spares); fresh = begun.fresh; files = begun.files })
 
 Before : List ℕ → List File → List Event → Type 0
@@ -151,14 +137,14 @@ Before name fs es = (before : List Event) × (es ≡ before ++ Opened name None 
 
 in_place : (name : List ℕ) (fs : List File) (es : List Event) → IsInPlace name fs es → Before name fs es
 unfolding Before
-in_place name fs es (inl o) = (Looked name (Some o.found) ∷ [], o.is, found_quiet name o.found fs)
+in_place name fs es (inl o) = (Looked name (Ok o.found) ∷ [], o.is, found_quiet name o.found fs)
 in_place name fs es (inr b) = (
-  Looked name (Some b.found) ∷ b.so.front,
-  b.is ∙ ap (λ (l : List Event). Looked name (Some b.found) ∷ l) b.so.is,
-  quiet_quiet name fs (Looked name (Some b.found) ∷ []) b.so.front (found_quiet name b.found fs) (barred_quiet name (attributes_found b.found) fs b.so.front b.so.barred),
+  Looked name (Ok b.found) ∷ b.so.front,
+  b.is ∙ ap (λ (l : List Event). Looked name (Ok b.found) ∷ l) b.so.is,
+  quiet_quiet name fs (Looked name (Ok b.found) ∷ []) b.so.front (found_quiet name b.found fs) (barred_quiet name (attributes_found b.found) fs b.so.front b.so.barred),
 )
 
 pub careful : (name : List ℕ) (place : Place) (fs : List File) (es : List Event) → IsPlaced name place fs es → BeginsCarefully name place fs es
 unfolding Before
-careful name (StandsBeside beside) fs es p = beside_alone name (string_bytes beside.own) beside.old fs es p.1
+careful name (StandsBeside beside) fs es p = beside_alone name (string_bytes beside.own) beside.old beside.takes fs es p.1
 careful name (In held) fs es p = in_place name fs es p.1

@@ -1,48 +1,41 @@
--- An error comes from a call that failed, or from want of memory.
-use Rattle.std.proofs.Common.{◌≡◌, inl, inr, Bool, true, false, ◌||◌, List, [], ◌∷◌, ◌++◌, Option, Some, Ok, Err, refl, ap, ◌∙◌}
-use Rattle.std.specs.Prelude.{ℕ, not, Result, IfErr}
+-- An error comes from the last call, which failed, or from want of memory.
+use Rattle.std.proofs.Common.{◌≡◌, inl, inr, false, ◌||◌, List, [], ◌∷◌, ◌++◌, Option, Some, None, Ok, Err, refl, sym, ap, ◌∙◌, append_assoc}
+use Rattle.std.specs.Prelude.{ℕ, Result, IfErr, if◌then◌else◌}
 use Rattle.std.specs.IoError.{error_kind}
 use Rattle.std.specs.declared.io.Error.{Error}
 use Rattle.std.specs.declared.io.ErrorKind.{ErrorKind}
 use Rattle.host_port.specs.Act.{File}
 use Rattle.host_port.specs.Outside.{Becomes}
 use Rattle.folder_system.specs.Events.{Event, Made, History, after, files_after, Follows}
-use Rattle.folder_system.specs.Place.{fault_event, has_fault, HasFault, HasCause}
+use Rattle.folder_system.specs.Place.{fault_kind, HasFault, HasCause}
 use Rattle.folder_system.specs.Kinds.{is_barring, is_taken}
 use Rattle.folder_system.proofs.Follows.{then_calls, one_call}
 
-or_true : (b : Bool) → (b || true) ≡ true
-or_true true = refl
-or_true false = refl
-
-or_or : (a b c : Bool) → (a || (b || c)) ≡ ((a || b) || c)
-or_or true b c = refl
-or_or false b c = refl
-
-fault_append : (es gs : List Event) → has_fault (es ++ gs) ≡ (has_fault es || has_fault gs)
-fault_append [] gs = refl
-fault_append (e ∷ es) gs = ap (λ (b : Bool). fault_event e || b) (fault_append es gs) ∙ or_or (fault_event e) (has_fault es) (has_fault gs)
-
-fault_behind : (fs hs : List File) (es gs : List Event) → HasFault hs gs → HasFault fs (es ++ gs)
-fault_behind fs hs es gs is = fault_append es gs ∙ ap (λ (b : Bool). has_fault es || b) is ∙ or_true (has_fault es)
-
--- a call that failed
-at_fault : (e : Event) (a b : Option History) → fault_event e ≡ true → Becomes (after e) a b → Follows HasFault a b
-at_fault e a b is done = one_call HasFault e a b (λ fs. ap (λ (v : Bool). v || false) is) done
-
--- calls, and then a fault
-behind : (P : List File → List Event → Type 0) (a b c : Option History) → Follows P a b → Follows HasFault b c → Follows HasFault a c
-behind P a b c front failed = then_calls P HasFault HasFault a b c (λ fs es gs p h. fault_behind fs (files_after es fs) es gs h) front failed
-
--- calls, and then one that failed
-pub failed_then : (P : List File → List Event → Type 0) (e : Event) (a b c : Option History) → fault_event e ≡ true → Follows P a b → Becomes (after e) b c → Follows HasFault a c
-failed_then P e a b c is front done = behind P a b c front (at_fault e b c is done)
-
--- calls, then one, and then one that failed
-pub failed_behind : (P : List File → List Event → Type 0) (e f : Event) (a b c d : Option History) → fault_event f ≡ true → Follows P a b → Becomes (after e) b c → Becomes (after f) c d → Follows HasFault a d
-failed_behind P e f a b c d is front done failed = behind P a b d front (failed_then (λ fs es. Unit {0}) f b c d is (one_call (λ fs es. Unit {0}) e b c (λ fs. tt) done) failed)
-
 module _ (kind : ErrorKind) where
+  fault_behind : (fs hs : List File) (es gs : List Event) → HasFault kind hs gs → HasFault kind fs (es ++ gs)
+  fault_behind fs hs es gs h = record {
+    front = es ++ h.front;
+    last = h.last;
+    is = ap (λ (l : List Event). es ++ l) h.is ∙ sym (append_assoc es h.front (h.last ∷ []));
+    so = h.so;
+  }
+
+  -- a call that failed
+  pub at_fault : (e : Event) (a b : Option History) → fault_kind e ≡ Some kind → Becomes (after e) a b → Follows (HasFault kind) a b
+  at_fault e a b is done = one_call (HasFault kind) e a b (λ fs. record { front = []; last = e; is = refl; so = is }) done
+
+  -- calls, and then a fault
+  behind : (P : List File → List Event → Type 0) (a b c : Option History) → Follows P a b → Follows (HasFault kind) b c → Follows (HasFault kind) a c
+  behind P a b c front failed = then_calls P (HasFault kind) (HasFault kind) a b c (λ fs es gs p h. fault_behind fs (files_after es fs) es gs h) front failed
+
+  -- calls, and then one that failed
+  pub failed_then : (P : List File → List Event → Type 0) (e : Event) (a b c : Option History) → fault_kind e ≡ Some kind → Follows P a b → Becomes (after e) b c → Follows (HasFault kind) a c
+  failed_then P e a b c is front done = behind P a b c front (at_fault e b c is done)
+
+  -- calls, then one, and then one that failed
+  pub failed_behind : (P : List File → List Event → Type 0) (e f : Event) (a b c d : Option History) → fault_kind f ≡ Some kind → Follows P a b → Becomes (after e) b c → Becomes (after f) c d → Follows (HasFault kind) a d
+  failed_behind P e f a b c d is front done failed = behind P a b d front (failed_then (λ fs es. Unit {0}) f b c d is (one_call (λ fs es. Unit {0}) e b c (λ fs. tt) done) failed)
+
   -- calls, and then a cause
   pub cause_behind : (P : List File → List Event → Type 0) (a b c : Option History) → Follows P a b → HasCause kind b c → HasCause kind a c
   cause_behind P a b c front (inl memory) = inl memory
@@ -65,5 +58,5 @@ module _ {T : Type 0} where
   result_behind_call e (Err failed) a b c front cause = cause_behind_call (error_kind failed) e a b c front cause
 
 -- a name beside couldn't be tried
-pub untried : (name own : List ℕ) (mode : ℕ) (kind : ErrorKind) → is_barring kind ≡ false → is_taken kind ≡ false → fault_event (Made own mode (Some kind)) ≡ true
-untried name own mode kind clear other = (λ i. not (clear i || other i))
+pub untried : (own : List ℕ) (mode : ℕ) (kind : ErrorKind) → is_barring kind ≡ false → is_taken kind ≡ false → fault_kind (Made own mode (Some kind)) ≡ Some kind
+untried own mode kind clear other = (λ i. if clear i || other i then None else Some kind)

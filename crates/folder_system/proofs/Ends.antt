@@ -1,5 +1,5 @@
 -- How an output ends.
-use Rattle.std.proofs.Common.{◌≡◌, inl, inr, ℕ, true, false, List, [], ◌∷◌, ◌++◌, Option, Some, None, Ok, Err, refl, sym, ap, subst, ◌∙◌}
+use Rattle.std.proofs.Common.{◌≡◌, inl, inr, ℕ, Bool, true, false, List, [], ◌∷◌, ◌++◌, Option, Some, None, Ok, Err, refl, sym, ap, subst, ◌∙◌}
 use Rattle.std.specs.Prelude.{Result, IfSome, OnOk, OnErr}
 use Rattle.std.specs.declared.io.Error.{Error}
 use Rattle.std.specs.declared.io.ErrorKind.{ErrorKind}
@@ -13,45 +13,49 @@ use Rattle.folder_system.specs.declared.folder.Found.{Found}
 use Rattle.folder_system.specs.Names.{folder_of}
 use Rattle.folder_system.specs.Found.{is_still}
 use Rattle.folder_system.specs.Kinds.{is_held}
-use Rattle.folder_system.specs.Events.{Event, Looked, Opened, Copied, Synced, Renamed, Removed, NamesSynced, History, Answer, after, Follows, is_stored}
-use Rattle.folder_system.specs.Place.{Refusal, Changed, Refused, IsStored, IsNotStored, IsHeld, refusing, copying, IsPut, IsHalted, IsHalf, IsOver, IsHalfCopied, IsTaken, IsLost, IsLetGo, IsAfterLetGo}
+use Rattle.folder_system.specs.Events.{Event, Looked, Opened, Copied, Synced, Renamed, Removed, FolderOpened, NamesSynced, History, Answer, after, Follows, is_stored}
+use Rattle.folder_system.specs.Place.{Refusal, Unlike, Changed, Refused, Unopened, Settled, IsSettling, IsMoved, IsStored, IsNotStored, IsHeld, refusing, copying, IsPut, IsHalted, IsHalf, IsOver, IsHalfCopied, IsTaken, IsLost, IsLetGo, IsAfterLetGo}
 use Rattle.folder_system.proofs.Follows.{then_calls, one_call, then_call, restate}
 
 -- ---- the name
 
 module _ (old : Option Attributes) (own name bytes : List ℕ) where
-  pub put_unseen : (a b c : Option History) → Follows (IsStored own bytes) a b → Becomes (after (Looked name None)) b c → Follows (IsHalted old own name bytes) a c
-  put_unseen a b c = then_call (IsStored own bytes) (IsHalted old own name bytes) (Looked name None) a b c
-      (λ fs es h. inr (inl (record { synced = h.0; is = ap (λ (l : List Event). l ++ Looked name None ∷ []) h.1; stored = h.2 })))
+  pub put_unlike : (takes : Bool) (a b : Option History) → takes ≡ false → Follows (IsStored own bytes) a b → Follows (IsPut old takes own name bytes Held) a b
+  put_unlike takes a b unlike = restate (IsStored own bytes) (IsPut old takes own name bytes Held) a b (λ fs es h. (h.0, Unlike, h.1, h.2, unlike))
 
-  pub put_changed : (seen : Found) (a b c : Option History) → is_still seen old ≡ false → Follows (IsStored own bytes) a b → Becomes (after (Looked name (Some seen))) b c → Follows (IsPut old own name bytes Held) a c
-  put_changed seen a b c other = then_call (IsStored own bytes) (IsPut old own name bytes Held) (Looked name (Some seen)) a b c
-      (λ fs es h. (h.0, Changed seen, ap (λ (l : List Event). l ++ Looked name (Some seen) ∷ []) h.1, h.2, other))
+  module _ (takes : Bool) (alike : takes ≡ true) where
+    pub put_unseen : (kind : ErrorKind) (a b c : Option History) → Follows (IsStored own bytes) a b → Becomes (after (Looked name (Err kind))) b c → Follows (IsHalted old takes own name bytes) a c
+    put_unseen kind a b c = then_call (IsStored own bytes) (IsHalted old takes own name bytes) (Looked name (Err kind)) a b c
+        (λ fs es h. inr (inl (record { synced = h.0; kind = kind; is = ap (λ (l : List Event). l ++ Looked name (Err kind) ∷ []) h.1; stored = h.2; alike = alike })))
 
-  Still : Found → List File → List Event → Type 0
-  Still seen fs es = (synced : Answer) × (es ≡ Synced own bytes synced ∷ Looked name (Some seen) ∷ []) × (is_stored synced ≡ true)
+    pub put_changed : (seen : Found) (a b c : Option History) → is_still seen old ≡ false → Follows (IsStored own bytes) a b → Becomes (after (Looked name (Ok seen))) b c → Follows (IsPut old takes own name bytes Held) a c
+    put_changed seen a b c other = then_call (IsStored own bytes) (IsPut old takes own name bytes Held) (Looked name (Ok seen)) a b c
+        (λ fs es h. (h.0, Changed seen, ap (λ (l : List Event). l ++ Looked name (Ok seen) ∷ []) h.1, h.2, (alike, other)))
 
-  still : (seen : Found) (a b c : Option History) → Follows (IsStored own bytes) a b → Becomes (after (Looked name (Some seen))) b c → Follows (Still seen) a c
-  unfolding Still
-  still seen a b c = then_call (IsStored own bytes) (Still seen) (Looked name (Some seen)) a b c (λ fs es h. (h.0, ap (λ (l : List Event). l ++ Looked name (Some seen) ∷ []) h.1, h.2))
+    Still : Found → List File → List Event → Type 0
+    Still seen fs es = (synced : Answer) × (es ≡ Synced own bytes synced ∷ Looked name (Ok seen) ∷ []) × (is_stored synced ≡ true)
 
-  pub put_done : (seen : Found) (a b c d : Option History) → is_still seen old ≡ true → Follows (IsStored own bytes) a b → Becomes (after (Looked name (Some seen))) b c → Becomes (after (Renamed own name None)) c d → Follows (IsPut old own name bytes Done) a d
-  unfolding Still
-  put_done seen a b c d same stored looked = then_call (Still seen) (IsPut old own name bytes Done) (Renamed own name None) a c d
-      (λ fs es h. (h.0, seen, ap (λ (l : List Event). l ++ Renamed own name None ∷ []) h.1, h.2, same)) (still seen a b c stored looked)
+    still : (seen : Found) (a b c : Option History) → Follows (IsStored own bytes) a b → Becomes (after (Looked name (Ok seen))) b c → Follows (Still seen) a c
+    unfolding Still
+    still seen a b c = then_call (IsStored own bytes) (Still seen) (Looked name (Ok seen)) a b c (λ fs es h. (h.0, ap (λ (l : List Event). l ++ Looked name (Ok seen) ∷ []) h.1, h.2))
 
-  pub put_held : (seen : Found) (kind : ErrorKind) (a b c d : Option History) → is_still seen old ≡ true → is_held kind ≡ true → Follows (IsStored own bytes) a b → Becomes (after (Looked name (Some seen))) b c → Becomes (after (Renamed own name (Some kind))) c d
-      → Follows (IsPut old own name bytes Held) a d
-  unfolding Still
-  put_held seen kind a b c d same held stored looked = then_call (Still seen) (IsPut old own name bytes Held) (Renamed own name (Some kind)) a c d
-      (λ fs es h. (h.0, Refused seen kind, ap (λ (l : List Event). l ++ Renamed own name (Some kind) ∷ []) h.1, h.2, (same, held))) (still seen a b c stored looked)
+    pub put_done : (seen : Found) (a b c d : Option History) → is_still seen old ≡ true → Follows (IsStored own bytes) a b → Becomes (after (Looked name (Ok seen))) b c → Becomes (after (Renamed own name None)) c d → Follows (IsPut old takes own name bytes Done) a d
+    unfolding Still
+    put_done seen a b c d same stored looked = then_call (Still seen) (IsPut old takes own name bytes Done) (Renamed own name None) a c d
+        (λ fs es h. (h.0, seen, ap (λ (l : List Event). l ++ Renamed own name None ∷ []) h.1, h.2, same, alike)) (still seen a b c stored looked)
 
-  pub put_unnamed : (seen : Found) (kind : ErrorKind) (a b c d : Option History) → is_still seen old ≡ true → is_held kind ≡ false → Follows (IsStored own bytes) a b → Becomes (after (Looked name (Some seen))) b c → Becomes (after (Renamed own name (Some kind))) c d
-      → Follows (IsHalted old own name bytes) a d
-  unfolding Still
-  put_unnamed seen kind a b c d same free stored looked = then_call (Still seen) (IsHalted old own name bytes) (Renamed own name (Some kind)) a c d
-      (λ fs es h. inr (inr (record { synced = h.0; seen = seen; kind = kind; is = ap (λ (l : List Event). l ++ Renamed own name (Some kind) ∷ []) h.1; stored = h.2; still = same; free = free })))
-      (still seen a b c stored looked)
+    pub put_held : (seen : Found) (kind : ErrorKind) (a b c d : Option History) → is_still seen old ≡ true → is_held kind ≡ true → Follows (IsStored own bytes) a b → Becomes (after (Looked name (Ok seen))) b c → Becomes (after (Renamed own name (Some kind))) c d
+        → Follows (IsPut old takes own name bytes Held) a d
+    unfolding Still
+    put_held seen kind a b c d same held stored looked = then_call (Still seen) (IsPut old takes own name bytes Held) (Renamed own name (Some kind)) a c d
+        (λ fs es h. (h.0, Refused seen kind, ap (λ (l : List Event). l ++ Renamed own name (Some kind) ∷ []) h.1, h.2, (alike, same, held))) (still seen a b c stored looked)
+
+    pub put_unnamed : (seen : Found) (kind : ErrorKind) (a b c d : Option History) → is_still seen old ≡ true → is_held kind ≡ false → Follows (IsStored own bytes) a b → Becomes (after (Looked name (Ok seen))) b c → Becomes (after (Renamed own name (Some kind))) c d
+        → Follows (IsHalted old takes own name bytes) a d
+    unfolding Still
+    put_unnamed seen kind a b c d same free stored looked = then_call (Still seen) (IsHalted old takes own name bytes) (Renamed own name (Some kind)) a c d
+        (λ fs es h. inr (inr (record { synced = h.0; seen = seen; kind = kind; is = ap (λ (l : List Event). l ++ Renamed own name (Some kind) ∷ []) h.1; stored = h.2; alike = alike; still = same; free = free })))
+        (still seen a b c stored looked)
 
 -- ---- in place, with what was written beside
 
@@ -91,30 +95,45 @@ module _ (name bytes now : List ℕ) where
 
 -- ---- the whole
 
-module _ (old : Option Attributes) (own name bytes : List ℕ) where
-  pub moved : (settled : Answer) (a b c : Option History) → Follows (IsPut old own name bytes Done) a b → Becomes (after (NamesSynced (folder_of name) settled)) b c → Follows (IsTaken old own name bytes ByName) a c
-  moved settled a b c = then_call (IsPut old own name bytes Done) (IsTaken old own name bytes ByName) (NamesSynced (folder_of name) settled) a b c
-      (λ fs es p. record { seen = p.1; synced = p.0; settled = settled; is = ap (λ (l : List Event). l ++ NamesSynced (folder_of name) settled ∷ []) p.2; stored = p.3; still = p.4 })
+module _ (name : List ℕ) where
+  pub unopened : (kind : ErrorKind) (a b : Option History) → Becomes (after (FolderOpened (folder_of name) (Some kind))) a b → Follows (IsSettling name true) a b
+  unopened kind a b = one_call (IsSettling name true) (FolderOpened (folder_of name) (Some kind)) a b (λ fs. (Unopened kind, refl, refl))
+
+  pub settled : (answer : Answer) (ok : Bool) (a b c : Option History) → is_stored answer ≡ ok → Becomes (after (FolderOpened (folder_of name) None)) a b → Becomes (after (NamesSynced (folder_of name) answer)) b c → Follows (IsSettling name ok) a c
+  settled answer ok a b c is opened synced = then_call (λ fs es. es ≡ FolderOpened (folder_of name) None ∷ []) (IsSettling name ok) (NamesSynced (folder_of name) answer) a b c
+      (λ fs es p. (Settled answer, ap (λ (l : List Event). l ++ NamesSynced (folder_of name) answer ∷ []) p, is))
+      (one_call (λ fs es. es ≡ FolderOpened (folder_of name) None ∷ []) (FolderOpened (folder_of name) None) a b (λ fs. refl) opened) synced
+
+module _ (old : Option Attributes) (takes : Bool) (own name bytes : List ℕ) where
+  moving_on : (ok : Bool) (a b c : Option History) → Follows (IsPut old takes own name bytes Done) a b → Follows (IsSettling name ok) b c → Follows (λ fs es. IsMoved old takes own name bytes ok es) a c
+  moving_on ok a b c = then_calls (IsPut old takes own name bytes Done) (IsSettling name ok) (λ fs es. IsMoved old takes own name bytes ok es) a b c
+      (λ fs es gs p h. record { seen = p.1; synced = p.0; how = h.0; is = λ i. p.2 i ++ h.1 i; stored = p.3; still = p.4; alike = p.5; names = h.2 })
+
+  pub moved : (a b c : Option History) → Follows (IsPut old takes own name bytes Done) a b → Follows (IsSettling name true) b c → Follows (IsTaken old takes own name bytes ByName) a c
+  moved a b c = moving_on true a b c
+
+  pub unsettled : (a b c : Option History) → Follows (IsPut old takes own name bytes Done) a b → Follows (IsSettling name false) b c → Follows (IsLost old takes own name bytes) a c
+  unsettled a b c put failed = restate (λ fs es. IsMoved old takes own name bytes false es) (IsLost old takes own name bytes) a c (λ fs es m. inr m) (moving_on false a b c put failed)
 
   Held_over : List File → List Event → Type 0
-  Held_over fs es = (s : Answer) × (why : Refusal) × (copied : Answer) × (es ≡ refusing own name bytes s why ++ copying name bytes copied) × (is_stored s ≡ true) × IsHeld old why × (is_stored copied ≡ true)
+  Held_over fs es = (s : Answer) × (why : Refusal) × (copied : Answer) × (es ≡ refusing own name bytes s why ++ copying name bytes copied) × (is_stored s ≡ true) × IsHeld old takes why × (is_stored copied ≡ true)
 
-  pub copied : (answer : Answer) (a b c d : Option History) → Follows (IsPut old own name bytes Held) a b → Follows (IsOver name bytes) b c → Becomes (after (Removed own answer)) c d → Follows (IsTaken old own name bytes ByCopy) a d
+  pub copied : (answer : Answer) (a b c d : Option History) → Follows (IsPut old takes own name bytes Held) a b → Follows (IsOver name bytes) b c → Becomes (after (Removed own answer)) c d → Follows (IsTaken old takes own name bytes ByCopy) a d
   unfolding Held_over
   copied answer a b c d put over =
-      then_call Held_over (IsTaken old own name bytes ByCopy) (Removed own answer) a c d
+      then_call Held_over (IsTaken old takes own name bytes ByCopy) (Removed own answer) a c d
       (λ fs es h. record { synced = h.0; why = h.1; copied = h.2; removed = answer; is = ap (λ (l : List Event). l ++ Removed own answer ∷ []) h.3; stored = h.4; held = h.5; whole = h.6 })
-      (then_calls (IsPut old own name bytes Held) (IsOver name bytes) Held_over a b c (λ fs es gs p h. (p.0, p.1, h.0, (λ i. p.2 i ++ h.1 i), p.3, p.4, h.2)) put over)
+      (then_calls (IsPut old takes own name bytes Held) (IsOver name bytes) Held_over a b c (λ fs es gs p h. (p.0, p.1, h.0, (λ i. p.2 i ++ h.1 i), p.3, p.4, h.2)) put over)
 
-  pub withdrawn : (answer : Answer) (a b c : Option History) → Follows (IsHalted old own name bytes) a b → Becomes (after (Removed own answer)) b c → Follows (IsLost old own name bytes) a c
-  withdrawn answer a b c = then_call (IsHalted old own name bytes) (IsLost old own name bytes) (Removed own answer) a b c
-      (λ fs es h. record { front = es; halted = inl h; removed = answer; is = refl })
+  pub withdrawn : (answer : Answer) (a b c : Option History) → Follows (IsHalted old takes own name bytes) a b → Becomes (after (Removed own answer)) b c → Follows (IsLost old takes own name bytes) a c
+  withdrawn answer a b c = then_call (IsHalted old takes own name bytes) (IsLost old takes own name bytes) (Removed own answer) a b c
+      (λ fs es h. inl (record { front = es; halted = inl h; removed = answer; is = refl }))
 
-  pub half_copied : (answer : Answer) (a b c d : Option History) → Follows (IsPut old own name bytes Held) a b → Follows (IsHalf name bytes) b c → Becomes (after (Removed own answer)) c d → Follows (IsLost old own name bytes) a d
+  pub half_copied : (answer : Answer) (a b c d : Option History) → Follows (IsPut old takes own name bytes Held) a b → Follows (IsHalf name bytes) b c → Becomes (after (Removed own answer)) c d → Follows (IsLost old takes own name bytes) a d
   half_copied answer a b c d put not =
-      then_call (λ fs es. IsHalfCopied old own name bytes es) (IsLost old own name bytes) (Removed own answer) a c d
-      (λ fs es h. record { front = es; halted = inr h; removed = answer; is = refl })
-      (then_calls (IsPut old own name bytes Held) (IsHalf name bytes) (λ fs es. IsHalfCopied old own name bytes es) a b c
+      then_call (λ fs es. IsHalfCopied old takes own name bytes es) (IsLost old takes own name bytes) (Removed own answer) a c d
+      (λ fs es h. inl (record { front = es; halted = inr h; removed = answer; is = refl }))
+      (then_calls (IsPut old takes own name bytes Held) (IsHalf name bytes) (λ fs es. IsHalfCopied old takes own name bytes es) a b c
       (λ fs es gs p h. record { synced = p.0; why = p.1; behind = gs; is = ap (λ (l : List Event). l ++ gs) p.2; stored = p.3; held = p.4; half = h }) put not)
 
 -- ---- what stood before was let go

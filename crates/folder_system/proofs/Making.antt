@@ -2,7 +2,7 @@
 use native.Mathlib.Omega.{arith}
 use Rattle.std.proofs.Common.{◌≡◌, inl, inr, ℕ, suc, ◌+◌, true, false, List, [], ◌∷◌, ◌++◌, Option, Some, None, Ok, Err, refl, sym, ap, subst, ◌∙◌}
 use Rattle.std.specs.Result.{result_unwrap_or}
-use Rattle.std.specs.Prelude.{Bool, Result, IfOk, IfSome, OnOk, OnErr, MatchOption, ⊤, string_bytes, unwrap_or}
+use Rattle.std.specs.Prelude.{Result, IfOk, IfSome, OnOk, OnErr, MatchOption, ⊤, string_bytes}
 use Rattle.std.specs.declared.io.Error.{Error}
 use Rattle.std.specs.declared.io.ErrorKind.{ErrorKind}
 use Rattle.host_port.specs.Act.{File, has_file}
@@ -12,14 +12,14 @@ use Rattle.folder_system.specs.declared.folder.Attributes.{Attributes}
 use Rattle.folder_system.specs.declared.place.Place.{Place}
 use Rattle.folder_system.specs.declared.place.Place.TheVariants.{Beside as StandsBeside, In}
 use Rattle.folder_system.specs.Names.{numbered}
-use Rattle.folder_system.specs.Events.{Event, Looked, Made, LookedAt, Opened, Removed, History, Answer, after, Follows, files_after, found_by}
+use Rattle.folder_system.specs.Events.{Event, Looked, Made, LookedAt, Opened, Removed, History, Answer, Sight, after, Follows, files_after, found_by}
 use Rattle.std.specs.declared.io.ErrorKind.TheVariants.{AlreadyExists}
 use Rattle.folder_system.specs.declared.folder.Found.TheVariants.{Other}
-use Rattle.folder_system.specs.Found.{bars_found, attributes_found, is_like}
+use Rattle.folder_system.specs.Found.{bars_found, attributes_found, is_owned, is_like}
 use Rattle.folder_system.specs.Kinds.{is_barring}
-use Rattle.folder_system.specs.Place.{AreTaken, IsQuiet, IsMade, IsUnmade, IsSeen, IsBegun, IsBarred, IsGivenUp, IsInstead, IsOpened, IsOverFound, IsIn, IsPlaced, IsStanding, mode_for, tries}
+use Rattle.folder_system.specs.Place.{AreTaken, IsQuiet, IsMade, IsUnmade, IsBegun, IsBarred, IsGivenUp, IsInstead, IsOpened, IsOverFound, IsIn, IsPlaced, IsStanding, mode_for, seen_in, tries}
 use Rattle.folder_system.proofs.Follows.{then_calls, one_call, one_call_at, then_call, restate}
-use Rattle.folder_system.proofs.Calls.{quiet_quiet, quiet_given_up, given_up, not_made, tries_quiet, begun_seen, unlike_given_up, barred_quiet}
+use Rattle.folder_system.proofs.Calls.{quiet_quiet, quiet_given_up, given_up, not_made, tries_quiet, made_seen, foreign_given_up, barred_quiet}
 
 plus_one : (n : ℕ) → suc n ≡ n + 1
 plus_one n = omega arith
@@ -75,35 +75,34 @@ module _ (name : List ℕ) where
 
   -- ---- a new file that is looked at
 
-  module _ (own : List ℕ) (old : Attributes) where
-    seen : (alike : Bool) (found : Option Found) (b c : Option History) → is_like (unwrap_or found Other) old ≡ alike → Becomes (after (LookedAt found)) b c → Follows (λ fs es. IsSeen old alike es) b c
-    seen alike found b c is = one_call (λ fs es. IsSeen old alike es) (LookedAt found) b c (λ fs. (found, refl, is))
+  pub begun_new : (own : List ℕ) (a b : Option History) → Follows (IsMade name own (mode_for None) []) a b → Follows (IsBegun name own None true) a b
+  begun_new own a b = restate (IsMade name own (mode_for None) []) (IsBegun name own None true) a b (λ fs es m. (m, refl))
 
-    pub liked : (found : Option Found) (a b c : Option History) → is_like (unwrap_or found Other) old ≡ true → Follows (IsMade name own (mode_for (Some old)) []) a b → Becomes (after (LookedAt found)) b c → Follows (IsBegun name own (Some old)) a c
-    liked found a b c is made looked =
-        then_calls (IsMade name own (mode_for (Some old)) []) (λ fs es. IsSeen old true es) (IsBegun name own (Some old)) a b c
-        (λ fs es gs p s. begun_seen name own old fs es gs p s) made (seen true found b c is looked)
+  module _ (own : List ℕ) (old : Attributes) (seen : Sight) (a b c : Option History) (made : Follows (IsMade name own (mode_for (Some old)) []) a b) (looked : Becomes (after (LookedAt seen)) b c) where
+    pub owned : is_owned (seen_in seen) old ≡ true → Follows (IsBegun name own (Some old) (is_like (seen_in seen) old)) a c
+    owned is = then_call (IsMade name own (mode_for (Some old)) []) (IsBegun name own (Some old) (is_like (seen_in seen) old)) (LookedAt seen) a b c
+        (λ fs es m. (seen, made_seen name own (mode_for (Some old)) fs es (LookedAt seen ∷ []) m, is, refl)) made looked
 
     both : List File → List Event → Type 0
-    both fs es = (front : List Event) × (back : List Event) × (es ≡ front ++ back) × IsMade name own (mode_for (Some old)) [] fs front × IsSeen old false back
+    both fs es = (front : List Event) × (es ≡ front ++ LookedAt seen ∷ []) × IsMade name own (mode_for (Some old)) [] fs front
 
-    joined : (found : Option Found) (a b c : Option History) → is_like (unwrap_or found Other) old ≡ false → Follows (IsMade name own (mode_for (Some old)) []) a b → Becomes (after (LookedAt found)) b c → Follows both a c
+    joined : Follows both a c
     unfolding both
-    joined found a b c is made looked = then_calls (IsMade name own (mode_for (Some old)) []) (λ fs es. IsSeen old false es) both a b c (λ fs es gs p s. (es, gs, refl, p, s)) made (seen false found b c is looked)
+    joined = then_call (IsMade name own (mode_for (Some old)) []) both (LookedAt seen) a b c (λ fs es m. (es, refl, m)) made looked
 
-    pub disliked : (found : Option Found) (a b c d : Option History) → is_like (unwrap_or found Other) old ≡ false → Follows (IsMade name own (mode_for (Some old)) []) a b → Becomes (after (LookedAt found)) b c → Becomes (after (Removed own None)) c d → Follows (IsBarred name (Some old)) a d
+    pub foreign : (d : Option History) → is_owned (seen_in seen) old ≡ false → Becomes (after (Removed own None)) c d → Follows (IsBarred name (Some old)) a d
     unfolding both
-    disliked found a b c d is made looked =
+    foreign d is removed =
         then_call both (IsBarred name (Some old)) (Removed own None) a c d
-        (λ fs es h. inr (record { own = own; front = h.0; made = h.3; looks = h.1; unlike = h.4; is = ap (λ (l : List Event). l ++ Removed own None ∷ []) h.2 }))
-        (joined found a b c is made looked)
+        (λ fs es h. inr (record { own = own; front = h.0; made = h.2; seen = seen; other = is; is = ap (λ (l : List Event). l ++ Removed own None ∷ []) h.1 }))
+        joined removed
 
-    pub dropped : (found : Option Found) (answer : Answer) (a b c d : Option History) → is_like (unwrap_or found Other) old ≡ false → Follows (IsMade name own (mode_for (Some old)) []) a b → Becomes (after (LookedAt found)) b c → Becomes (after (Removed own answer)) c d → Follows (IsGivenUp name) a d
+    pub dropped : (d : Option History) (answer : Answer) → Becomes (after (Removed own answer)) c d → Follows (IsGivenUp name) a d
     unfolding both
-    dropped found answer a b c d is made looked =
+    dropped d answer removed =
         then_call both (IsGivenUp name) (Removed own answer) a c d
-        (λ fs es h. subst (λ (l : List Event). IsGivenUp name fs (l ++ Removed own answer ∷ [])) (sym h.2) (unlike_given_up name own old fs h.0 h.1 answer h.3 h.4))
-        (joined found a b c is made looked)
+        (λ fs es h. subst (λ (l : List Event). IsGivenUp name fs (l ++ Removed own answer ∷ [])) (sym h.1) (foreign_given_up name own old fs h.0 seen h.2 answer))
+        joined removed
 
   -- ---- in place
 
@@ -121,15 +120,15 @@ module _ (name : List ℕ) where
   found_in (StandsBeside beside) a c is did = absurd is
   found_in (In held) a c is did = restate (λ fs es. IsOverFound name es) (IsPlaced name (In held)) a c (λ fs es p. (is, inl p)) did
 
-  placed_at : (found : Found) (place : Place) (a b c : Option History) → bars_found found ≡ false → Becomes (after (Looked name (Some found))) a b → Follows (IsStanding name (attributes_found found) place) b c → Follows (IsPlaced name place) a c
+  placed_at : (found : Found) (place : Place) (a b c : Option History) → bars_found found ≡ false → Becomes (after (Looked name (Ok found))) a b → Follows (IsStanding name (attributes_found found) place) b c → Follows (IsPlaced name place) a c
   placed_at found (StandsBeside beside) a b c clear looked standing =
-      then_calls (λ fs es. es ≡ Looked name (Some found) ∷ []) (IsStanding name (attributes_found found) (StandsBeside beside)) (IsPlaced name (StandsBeside beside)) a b c
-      (λ fs es gs p s. (s.0, record { found = found; clear = clear; behind = gs; is = ap (λ (l : List Event). l ++ gs) p; so = (s.1, subst (λ (l : List Event). IsBegun name (string_bytes beside.own) (attributes_found found) (files_after l fs) gs) p s.2) }))
-      (one_call (λ fs es. es ≡ Looked name (Some found) ∷ []) (Looked name (Some found)) a b (λ fs. refl) looked) standing
+      then_calls (λ fs es. es ≡ Looked name (Ok found) ∷ []) (IsStanding name (attributes_found found) (StandsBeside beside)) (IsPlaced name (StandsBeside beside)) a b c
+      (λ fs es gs p s. (s.0, record { found = found; clear = clear; behind = gs; is = ap (λ (l : List Event). l ++ gs) p; so = (s.1, subst (λ (l : List Event). IsBegun name (string_bytes beside.own) (attributes_found found) beside.takes (files_after l fs) gs) p s.2) }))
+      (one_call (λ fs es. es ≡ Looked name (Ok found) ∷ []) (Looked name (Ok found)) a b (λ fs. refl) looked) standing
   placed_at found (In held) a b c clear looked standing =
-      then_calls (λ fs es. es ≡ Looked name (Some found) ∷ []) (IsStanding name (attributes_found found) (In held)) (IsPlaced name (In held)) a b c
+      then_calls (λ fs es. es ≡ Looked name (Ok found) ∷ []) (IsStanding name (attributes_found found) (In held)) (IsPlaced name (In held)) a b c
       (λ fs es gs p s. (s.0, inr (record { found = found; clear = clear; behind = gs; is = ap (λ (l : List Event). l ++ gs) p; so = subst (λ (l : List Event). IsInstead name (attributes_found found) (files_after l fs) gs) p s.1 })))
-      (one_call (λ fs es. es ≡ Looked name (Some found) ∷ []) (Looked name (Some found)) a b (λ fs. refl) looked) standing
+      (one_call (λ fs es. es ≡ Looked name (Ok found) ∷ []) (Looked name (Ok found)) a b (λ fs. refl) looked) standing
 
   module _ {O : Type 0} where
     pub standing_ok : (old : Option Attributes) (r : Result (O × Place) Error) (a b c : Option History) → Follows (IsBarred name old) a b → OnOk r (Follows (IsOpened name) b c) → IfOk r (λ x. IsIn name x.1) → IfOk r (λ x. Follows (IsStanding name old x.1) a c)
@@ -137,11 +136,11 @@ module _ (name : List ℕ) where
     standing_ok old (Err e) a b c barred opened is = tt
 
     -- what was found is in the way
-    pub over_ok : (found : Found) (r : Result (O × Place) Error) (a b c : Option History) → bars_found found ≡ true → Becomes (after (Looked name (Some found))) a b → OnOk r (Follows (IsOpened name) b c) → IfOk r (λ x. IsIn name x.1) → IfOk r (λ x. Follows (IsPlaced name x.1) a c)
+    pub over_ok : (found : Found) (r : Result (O × Place) Error) (a b c : Option History) → bars_found found ≡ true → Becomes (after (Looked name (Ok found))) a b → OnOk r (Follows (IsOpened name) b c) → IfOk r (λ x. IsIn name x.1) → IfOk r (λ x. Follows (IsPlaced name x.1) a c)
     over_ok found (Ok x) a b c bars looked opened is =
         found_in x.1 a c is
-        (then_calls (λ fs es. es ≡ Looked name (Some found) ∷ []) (IsOpened name) (λ fs es. IsOverFound name es) a b c
-        (λ fs es gs p q. record { found = found; bars = bars; is = λ i. p i ++ q i }) (one_call (λ fs es. es ≡ Looked name (Some found) ∷ []) (Looked name (Some found)) a b (λ fs. refl) looked) opened)
+        (then_calls (λ fs es. es ≡ Looked name (Ok found) ∷ []) (IsOpened name) (λ fs es. IsOverFound name es) a b c
+        (λ fs es gs p q. record { found = found; bars = bars; is = λ i. p i ++ q i }) (one_call (λ fs es. es ≡ Looked name (Ok found) ∷ []) (Looked name (Ok found)) a b (λ fs. refl) looked) opened)
     over_ok found (Err e) a b c bars looked opened is = tt
 
     pub instead_err : (old : Option Attributes) (r : Result (O × Place) Error) (a b c : Option History) → Follows (IsBarred name old) a b → OnErr r (Follows (IsQuiet name) b c) → OnErr r (Follows (IsGivenUp name) a c)
@@ -156,27 +155,26 @@ module _ (name : List ℕ) where
     given_up_behind (Ok x) a b c quiet up = tt
     given_up_behind (Err e) a b c quiet up = then_calls (IsQuiet name) (IsGivenUp name) (IsGivenUp name) a b c (λ fs es gs q r. quiet_given_up name fs es gs q r) quiet up
 
-    pub placed_behind : (found : Found) (old : Option Attributes) (r : Result (O × Place) Error) (a b c : Option History) → old ≡ attributes_found found → bars_found found ≡ false → Becomes (after (Looked name (Some found))) a b → IfOk r (λ x. Follows (IsStanding name old x.1) b c) → IfOk r (λ x. Follows (IsPlaced name x.1) a c)
+    pub placed_behind : (found : Found) (old : Option Attributes) (r : Result (O × Place) Error) (a b c : Option History) → old ≡ attributes_found found → bars_found found ≡ false → Becomes (after (Looked name (Ok found))) a b → IfOk r (λ x. Follows (IsStanding name old x.1) b c) → IfOk r (λ x. Follows (IsPlaced name x.1) a c)
     placed_behind found old (Err e) a b c is clear looked standing = tt
     placed_behind found old (Ok x) a b c is clear looked standing =
         placed_at found x.1 a b c clear looked (subst (λ (o : Option Attributes). Follows (IsStanding name o x.1) b c) is standing)
 
-  pub looked : (found : Found) (a b : Option History) → Becomes (after (Looked name (Some found))) a b → Follows (IsQuiet name) a b
-  looked found a b = one_call (IsQuiet name) (Looked name (Some found)) a b (λ fs. record { spares = (refl, tt); files = refl })
+  pub looked : (found : Found) (a b : Option History) → Becomes (after (Looked name (Ok found))) a b → Follows (IsQuiet name) a b
+  looked found a b = one_call (IsQuiet name) (Looked name (Ok found)) a b (λ fs. record { spares = (refl, tt); files = refl })
 
   pub opened : (a b : Option History) → Becomes (after (Opened name None)) a b → Follows (IsOpened name) a b
   opened a b = one_call (IsOpened name) (Opened name None) a b (λ fs. refl)
 
 -- what was seen, where a look that failed counts as one at something else
-pub seen_by : (r : Result Found Error) (old : Attributes) (f : Found) (b v : Bool) → f ≡ result_unwrap_or r Other → b ≡ is_like f old → b ≡ v → is_like (unwrap_or (found_by r) Other) old ≡ v
-seen_by (Ok found) old f b v seen is like = ap (λ (x : Found). is_like x old) (sym seen) ∙ sym is ∙ like
-seen_by (Err e) old f b v seen is like = ap (λ (x : Found). is_like x old) (sym seen) ∙ sym is ∙ like
+pub seen_by : (r : Result Found Error) (f : Found) → f ≡ result_unwrap_or r Other → f ≡ seen_in (found_by r)
+seen_by (Ok found) f is = is
+seen_by (Err e) f is = is
 
 -- ---- at the arms of a match
 
-module _ {O S : Type 0} (text : S → List ℕ) (made : Option (O × S)) (output : O) (own : S) (is : made ≡ Some (output, own)) where
-  pub made_at : (P : List ℕ → Type 0) → IfSome made (λ m. P (text m.1)) → P (text own)
-  made_at P h = subst (λ (m : Option (O × S)). IfSome m (λ m. P (text m.1))) is h
+pub made_at : {M : Type 0} (made : Option M) (m : M) → made ≡ Some m → (P : M → Type 0) → IfSome made P → P m
+made_at {M = M} made m is P h = subst (λ (o : Option M). IfSome o P) is h
 
 pub barred_at : {X : Type 0} (made : Option X) (P : Type 0) → made ≡ None → MatchOption made P (λ _. ⊤) → P
 barred_at None P is h = h

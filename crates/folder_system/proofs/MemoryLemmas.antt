@@ -1,6 +1,6 @@
 -- What a folder in memory tells, call by call.
 use Rattle.std.proofs.Common.{◌≡◌, ℕ, ◌<◌, Bool, true, false, cond, not, List, [], ◌∷◌, ◌++◌, length, map, get_or, Option, Some, None, Result, Ok, Err, refl, sym, ap, subst, ◌∙◌}
-use Rattle.std.specs.Prelude.{bytes_eq, filter, string_bytes, is_some, IfOk, OnOk, OnErr}
+use Rattle.std.specs.Prelude.{bytes_eq, filter, string_bytes, is_some, IfOk, IfSome, OnOk, OnErr}
 use Rattle.std.specs.Global.{Vec}
 use Rattle.std.specs.IoError.{error_kind}
 use Rattle.std.specs.declared.io.Error.{Error}
@@ -14,7 +14,7 @@ use Rattle.host_port.specs.Outside.{Becomes}
 use Rattle.host_port.proofs.EntryLemmas.{found_at, missing}
 use Rattle.folder_system.specs.declared.mem_folder.MemFile.{MemFile}
 use Rattle.folder_system.specs.declared.mem_folder.Call.{Call}
-use Rattle.folder_system.specs.Events.{Event, NamesSynced, Answer, answer_of, after, files_after_event, without}
+use Rattle.folder_system.specs.Events.{Event, FolderOpened, NamesSynced, History, Answer, answer_of, after, files_after_event, without}
 use Rattle.folder_system.specs.Memory.{file_of, files_of, event_of, told, Noted}
 
 -- ---- the files
@@ -113,11 +113,18 @@ told_at e before now (Some o) (Some n) (Ok c) is noted files =
     let events : map event_of n.items ≡ map event_of o.items ++ e ∷ [] = ap (map event_of) noted ∙ map_push event_of o.items c ∙ ap (λ (v : Event). map event_of o.items ++ v ∷ []) is in
     λ i. Some (record { files = sym files i; events = sym events i })
 
-pub told_after : {A E : Type 0} (e : A → Event) (given answer : A) (before now last : Vec MemFile) (old mid new : Option (Vec Call)) (one : Result Call E) → given ≡ answer → IfOk one (λ c. event_of c ≡ e given) → last ≡ now → mid ≡ old → Noted mid one new
+pub told_after : {A E : Type 0} (e : A → Event) (given answer : A) (before now last : Vec MemFile) (old mid new : Option (Vec Call)) (one : Result Call E) → given ≡ answer → IfOk one (λ c. event_of c ≡ e given) → IfSome new (λ _. last ≡ now) → mid ≡ old → Noted mid one new
     → files_of now.items ≡ files_after_event (e answer) (files_of before.items) → Becomes (after (e answer)) (told before.items old) (told last.items new)
-told_after {A = A} e given answer before now last old mid new one same is still kept noted files =
-    told_at (e answer) before.items last.items old new one (subst (λ (a : A). IfOk one (λ c. event_of c ≡ e a)) same is) (subst (λ (o : Option (Vec Call)). Noted o one new) kept noted)
+told_after {A = A} e given answer before now last old mid None one same is still kept noted files = tt
+told_after {A = A} e given answer before now last old mid (Some new) one same is still kept noted files =
+    told_at (e answer) before.items last.items old (Some new) one (subst (λ (a : A). IfOk one (λ c. event_of c ≡ e a)) same is) (subst (λ (o : Option (Vec Call)). Noted o one (Some new)) kept noted)
     (ap (λ (v : Vec MemFile). files_of v.items) still ∙ files)
+
+-- nothing is told any more
+pub untold : (f : History → History) (old : Option History) (files : List MemFile) (before now : Option (Vec Call)) (b : Bool) → is_some before ≡ not b → b ≡ true → now ≡ before → Becomes f old (told files now)
+untold f old files before None b is none same = tt
+untold f old files None (Some n) b is none same = absurd (let e : Some n ≡ None = same in cc)
+untold f old files (Some o) (Some n) b is none same = absurd (let e : true ≡ false = is ∙ ap not none in cc)
 
 -- what a call does that changes nothing where it fails
 pub by_answer : {T : Type 0} (e : Answer → Event) (done : Result T Error) (before now : List File) → ((kind : ErrorKind) → files_after_event (e (Some kind)) before ≡ before)
@@ -132,3 +139,7 @@ by_kept e done before now keeps same = same ∙ sym (keeps (answer_of done))
 pub names_files : (name : List ℕ) (answer : Answer) (fs : List File) → files_after_event (NamesSynced name answer) fs ≡ fs
 names_files name None fs = refl
 names_files name (Some kind) fs = refl
+
+pub folder_files : (name : List ℕ) (answer : Answer) (fs : List File) → files_after_event (FolderOpened name answer) fs ≡ fs
+folder_files name None fs = refl
+folder_files name (Some kind) fs = refl

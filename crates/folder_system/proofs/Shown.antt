@@ -9,7 +9,7 @@ use Rattle.folder_system.specs.declared.folder.Found.{Found}
 use Rattle.folder_system.specs.declared.place.Place.{Place}
 use Rattle.folder_system.specs.declared.place.Place.TheVariants.{Beside as StandsBeside, In}
 use Rattle.folder_system.specs.Events.{Event, History, Answer, Transition, Follows, without, files_after, is_stored}
-use Rattle.folder_system.specs.Place.{IsPlaced, IsTaken, moving, is_beside}
+use Rattle.folder_system.specs.Place.{IsPlaced, IsTaken, Settling, Unopened, Settled, moving, is_beside}
 use Rattle.folder_system.specs.Disk.{disk_shown}
 use Rattle.folder_system.proofs.Follows.{the_same}
 use Rattle.folder_system.proofs.Calls.{beside_alone}
@@ -30,7 +30,7 @@ shown_begun : (name : List ℕ) (old : Option History) (t : History) (b : Beside
 shown_begun name None t b ran = absurd (let e : None ≡ Some ran.was = ran.told in cc)
 shown_begun name (Some o) t b ran =
     let own = string_bytes b.own in
-    let begun = beside_alone name own b.old ran.was.files ran.calls ran.so.1 in
+    let begun = beside_alone name own b.old b.takes ran.was.files ran.calls ran.so.1 in
     let was : o ≡ ran.was = the_same o ran.was ran.told in
     let files : t.files ≡ with_file own [] o.files = ap (λ (v : History). v.files) ran.is ∙ begun.files ∙ ap (λ (v : History). with_file own [] v.files) (sym was) in
     let fresh : has_file own o.files ≡ false = ap (λ (v : History). has_file own v.files) was ∙ begun.fresh in
@@ -46,11 +46,12 @@ begun_shown name true old new (In held) did = tt
 
 -- ---- an output that took the place
 
-pub moved_files : (own name bytes : List ℕ) (f : Found) (s t : Answer) (fs : List File) → is_stored s ≡ true → files_after (moving own name bytes f s t) fs ≡ with_file name bytes (without own fs)
-moved_files own name bytes f s None fs stored = ap (λ (l : List File). with_file name (file_content own l) (without own l)) (if_same (is_stored s) (with_file own bytes fs) fs stored) ∙ (λ i. with_file name (content_of_new own bytes fs i) (without_new own bytes fs i))
-moved_files own name bytes f s (Some kind) fs stored = ap (λ (l : List File). with_file name (file_content own l) (without own l)) (if_same (is_stored s) (with_file own bytes fs) fs stored) ∙ (λ i. with_file name (content_of_new own bytes fs i) (without_new own bytes fs i))
+pub moved_files : (own name bytes : List ℕ) (f : Found) (s : Answer) (t : Settling) (fs : List File) → is_stored s ≡ true → files_after (moving own name bytes f s t) fs ≡ with_file name bytes (without own fs)
+moved_files own name bytes f s (Unopened kind) fs stored = ap (λ (l : List File). with_file name (file_content own l) (without own l)) (if_same (is_stored s) (with_file own bytes fs) fs stored) ∙ (λ i. with_file name (content_of_new own bytes fs i) (without_new own bytes fs i))
+moved_files own name bytes f s (Settled None) fs stored = ap (λ (l : List File). with_file name (file_content own l) (without own l)) (if_same (is_stored s) (with_file own bytes fs) fs stored) ∙ (λ i. with_file name (content_of_new own bytes fs i) (without_new own bytes fs i))
+moved_files own name bytes f s (Settled (Some kind)) fs stored = ap (λ (l : List File). with_file name (file_content own l) (without own l)) (if_same (is_stored s) (with_file own bytes fs) fs stored) ∙ (λ i. with_file name (content_of_new own bytes fs i) (without_new own bytes fs i))
 
-shown_taken : (bytes : List ℕ) (old : Option History) (t : History) (b : Beside) → Transition (IsTaken b.old (string_bytes b.own) (string_bytes b.name) bytes ByName) old t
+shown_taken : (bytes : List ℕ) (old : Option History) (t : History) (b : Beside) → Transition (IsTaken b.old b.takes (string_bytes b.own) (string_bytes b.name) bytes ByName) old t
     → Becomes (disk_after (Write bytes ∷ Close ∷ [])) (disk_shown (Some (StandsBeside b)) old) (disk_shown None (Some t))
 shown_taken bytes None t b ran = absurd (let e : None ≡ Some ran.was = ran.told in cc)
 shown_taken bytes (Some o) t b ran =
@@ -58,11 +59,11 @@ shown_taken bytes (Some o) t b ran =
     let name = string_bytes b.name in
     let was : o ≡ ran.was = the_same o ran.was ran.told in
     let files : t.files ≡ with_file name bytes (without own o.files) =
-    ap (λ (v : History). v.files) ran.is ∙ ap (λ (l : List Event). files_after l ran.was.files) ran.so.is ∙ moved_files own name bytes ran.so.seen ran.so.synced ran.so.settled ran.was.files ran.so.stored ∙ ap (λ (v : History). with_file name bytes (without own v.files)) (sym was) in
+    ap (λ (v : History). v.files) ran.is ∙ ap (λ (l : List Event). files_after l ran.was.files) ran.so.is ∙ moved_files own name bytes ran.so.seen ran.so.synced ran.so.how ran.was.files ran.so.stored ∙ ap (λ (v : History). with_file name bytes (without own v.files)) (sym was) in
     let grown : with_more name bytes (with_file name [] (without own o.files)) ≡ t.files = more_new name bytes (without own o.files) ∙ sym files in
     λ i. Some (record { files = grown i; writing = None })
 
-pub taken_shown : (bytes : List ℕ) (tells : Bool) (old new : Option History) (b : Beside) → Follows (IsTaken b.old (string_bytes b.own) (string_bytes b.name) bytes ByName) old new
+pub taken_shown : (bytes : List ℕ) (tells : Bool) (old new : Option History) (b : Beside) → Follows (IsTaken b.old b.takes (string_bytes b.own) (string_bytes b.name) bytes ByName) old new
     → Becomes (disk_after (Write bytes ∷ Close ∷ [])) (if tells then disk_shown (Some (StandsBeside b)) old else None) (if tells then disk_shown None new else None)
 taken_shown bytes false old new b did = tt
 taken_shown bytes true old None b did = tt

@@ -6,7 +6,7 @@ use Rattle.folder_system.specs.Events.{Event, Made, Opened, Synced, Renamed, Rem
 use Rattle.folder_system.specs.Entries.{FileState, Whole, Torn, Entry, Entries, entries_after_event, entries_after, touches, Spares, written, IsAmong, IsCareful, IsCarefulInCrash}
 use Rattle.folder_system.specs.declared.folder.Attributes.{Attributes}
 use Rattle.folder_system.specs.declared.folder.Found.{Found}
-use Rattle.folder_system.specs.Place.{moving, refusing, copying, Refusal, Changed, Refused, IsHalted}
+use Rattle.folder_system.specs.Place.{moving, refusing, copying, settling, Settling, Unopened, Settled, Refusal, Unlike, Changed, Refused, IsHalted}
 use Rattle.folder_system.proofs.Files.{same_name}
 
 if_not : {T : Type 0} (b : Bool) (x y : T) → b ≡ false → (if b then x else y) ≡ y
@@ -79,20 +79,26 @@ module _ (own name bytes : List ℕ) (apart : bytes_eq name own ≡ false) (s : 
   unfolding renamed
   second_now w stored = ap (λ (e : Entry). e.now) (second_name w) ∙ written_now bytes s (w own) stored
 
-  third_now : (t : Answer) (w : Entries) → (entries_after_event (NamesSynced (folder_of name) t) (second w) name).now ≡ (second w name).now
-  third_now None w = ap (λ (e : Entry). e.now) (if_so (bytes_eq (folder_of name) (folder_of name)) (record { now = (second w name).now; stored = (second w name).stored; left = (second w name).stored ∷ [] }) (second w name) (same_name (folder_of name)))
-  third_now (Some kind) w = refl
+  third_now : (t : Settling) (w : Entries) → (entries_after (settling name t) (second w) name).now ≡ (second w name).now
+  third_now (Unopened kind) w = refl
+  third_now (Settled (Some kind)) w = refl
+  third_now (Settled None) w = ap (λ (e : Entry). e.now) (if_so (bytes_eq (folder_of name) (folder_of name)) (record { now = (second w name).now; stored = (second w name).stored; left = (second w name).stored ∷ [] }) (second w name) (same_name (folder_of name)))
 
-  pub moved_careful : (f : Found) (t : Answer) → is_stored s ≡ true → IsCareful name bytes (moving own name bytes f s t)
+  -- after the first call of two, as after both
+  settling_now : (t : Settling) (w : Entries) (k : ℕ) → (entries_after (take k (settling name t)) (second w) name).now ≡ (second w name).now
+  settling_now t w zero = refl
+  settling_now (Unopened kind) w (suc k) = ap (λ (v : Entries). (v name).now) (none_after k (second w))
+  settling_now (Settled answer) w (suc zero) = refl
+  settling_now (Settled answer) w (suc (suc k)) = ap (λ (v : Entries). (v name).now) (none_after k (entries_after (settling name (Settled answer)) (second w))) ∙ third_now (Settled answer) w
+
+  pub moved_careful : (f : Found) (t : Settling) → is_stored s ≡ true → IsCareful name bytes (moving own name bytes f s t)
   unfolding first second
   moved_careful f t stored w zero = inl refl
   moved_careful f t stored w (suc zero) = inl (ap (λ (e : Entry). e.now) (first_name w))
   moved_careful f t stored w (suc (suc zero)) = inl (ap (λ (e : Entry). e.now) (first_name w))
-  moved_careful f t stored w (suc (suc (suc zero))) = inr (second_now w stored)
-  moved_careful f t stored w (suc (suc (suc (suc k)))) =
-      inr (ap (λ (v : Entries). (v name).now) (none_after k (entries_after_event (NamesSynced (folder_of name) t) (second w))) ∙ third_now t w ∙ second_now w stored)
+  moved_careful f t stored w (suc (suc (suc k))) = inr (settling_now t w k ∙ second_now w stored)
 
-  pub moved_whole : (f : Found) (t : Answer) (w : Entries) → is_stored s ≡ true → (entries_after (moving own name bytes f s t) w name).now ≡ Whole bytes
+  pub moved_whole : (f : Found) (t : Settling) (w : Entries) → is_stored s ≡ true → (entries_after (moving own name bytes f s t) w name).now ≡ Whole bytes
   unfolding first second
   moved_whole f t w stored = third_now t w ∙ second_now w stored
 
@@ -102,7 +108,7 @@ module _ (own name bytes : List ℕ) (apart : bytes_eq name own ≡ false) where
   unfolding renamed
   synced_left w = ap (λ (e : Entry). e.left) (second_name own name bytes apart None w)
 
-  pub moved_durable : (f : Found) (w : Entries) → (entries_after (moving own name bytes f None None) w name).left ≡ Whole bytes ∷ []
+  pub moved_durable : (f : Found) (w : Entries) → (entries_after (moving own name bytes f None (Settled None)) w name).left ≡ Whole bytes ∷ []
   unfolding first second renamed
   moved_durable f w = search same_name
 
@@ -118,18 +124,26 @@ module _ (own name bytes : List ℕ) (apart : bytes_eq name own ≡ false) where
   crash_settled old v (inl is) = inr is
   crash_settled old v (inr none) = absurd none
 
-  third_left : (f : Found) (t : Answer) (w : Entries) → Crash (w name).left (entries_after (moving own name bytes f None t) w name).left
-  unfolding first second
-  third_left f None w = subst (Crash (w name).left) (sym (moved_durable f w)) (crash_settled (w name).left)
-  third_left f (Some kind) w = subst (Crash (w name).left) (sym (synced_left w)) (crash_grown (w name).left)
+  crash_kept : (w : Entries) → Crash (w name).left (second own name bytes apart None w name).left
+  crash_kept w = subst (Crash (w name).left) (sym (synced_left w)) (crash_grown (w name).left)
 
-  pub moved_crash : (f : Found) (t : Answer) → IsCarefulInCrash name bytes (moving own name bytes f None t)
+  -- before, between and after the calls that sync the names
+  third_left : (f : Found) (t : Settling) (w : Entries) (k : ℕ) → Crash (w name).left (entries_after (take k (settling name t)) (second own name bytes apart None w) name).left
+  unfolding first second
+  third_left f t w zero = crash_kept w
+  third_left f (Unopened kind) w (suc k) = subst (λ (u : Entries). Crash (w name).left (u name).left) (sym (none_after k (second own name bytes apart None w))) (crash_kept w)
+  third_left f (Settled answer) w (suc zero) = crash_kept w
+  third_left f (Settled (Some kind)) w (suc (suc k)) = subst (λ (u : Entries). Crash (w name).left (u name).left) (sym (none_after k (second own name bytes apart None w))) (crash_kept w)
+  third_left f (Settled None) w (suc (suc k)) =
+      subst (λ (u : Entries). Crash (w name).left (u name).left) (sym (none_after k (entries_after (settling name (Settled None)) (second own name bytes apart None w))))
+      (subst (Crash (w name).left) (sym (moved_durable f w)) (crash_settled (w name).left))
+
+  pub moved_crash : (f : Found) (t : Settling) → IsCarefulInCrash name bytes (moving own name bytes f None t)
   unfolding first second Crash
   moved_crash f t w zero v is = inl is
   moved_crash f t w (suc zero) v is = inl (subst (λ (e : Entry). IsAmong e.left v) (first_name own name bytes apart None w) is)
   moved_crash f t w (suc (suc zero)) v is = inl (subst (λ (e : Entry). IsAmong e.left v) (first_name own name bytes apart None w) is)
-  moved_crash f t w (suc (suc (suc zero))) v is = among_append (w name).left (Whole bytes) v (subst (λ (l : List FileState). IsAmong l v) (synced_left w) is)
-  moved_crash f t w (suc (suc (suc (suc k)))) v is = third_left f t w v (subst (λ (u : Entries). IsAmong (u name).left v) (none_after k (entries_after (moving own name bytes f None t) w)) is)
+  moved_crash f t w (suc (suc (suc k))) v is = third_left f t w k v is
 
 -- ---- a name that is held
 
@@ -138,16 +152,17 @@ removed_spares own name None apart = (apart, tt)
 removed_spares own name (Some kind) apart = (refl, tt)
 
 pub refusing_spares : (own name bytes : List ℕ) (synced : Answer) (why : Refusal) → bytes_eq name own ≡ false → Spares name (refusing own name bytes synced why)
+refusing_spares own name bytes synced Unlike apart = (apart, tt)
 refusing_spares own name bytes synced (Changed seen) apart = (apart, (refl, tt))
 refusing_spares own name bytes synced (Refused seen kind) apart = (apart, (refl, (refl, tt)))
 
 pub copying_whole : (name bytes : List ℕ) (stored : Answer) (w : Entries) → is_stored stored ≡ true → (entries_after (copying name bytes stored) w name).now ≡ Whole bytes
 copying_whole name bytes stored w is = search (if_so, same_name, written_now)
 
-pub halted_spares : (old : Option Attributes) (own name bytes : List ℕ) (es : List Event) (removed : Answer) → bytes_eq name own ≡ false → IsHalted old own name bytes [] es → Spares name (es ++ Removed own removed ∷ [])
-halted_spares old own name bytes es removed apart (inl u) =
+pub halted_spares : (old : Option Attributes) (takes : Bool) (own name bytes : List ℕ) (es : List Event) (removed : Answer) → bytes_eq name own ≡ false → IsHalted old takes own name bytes [] es → Spares name (es ++ Removed own removed ∷ [])
+halted_spares old takes own name bytes es removed apart (inl u) =
     subst (λ (l : List Event). Spares name (l ++ Removed own removed ∷ [])) (sym u.is) (apart, removed_spares own name removed apart)
-halted_spares old own name bytes es removed apart (inr (inl u)) =
+halted_spares old takes own name bytes es removed apart (inr (inl u)) =
     subst (λ (l : List Event). Spares name (l ++ Removed own removed ∷ [])) (sym u.is) (apart, (refl, removed_spares own name removed apart))
-halted_spares old own name bytes es removed apart (inr (inr u)) =
+halted_spares old takes own name bytes es removed apart (inr (inr u)) =
     subst (λ (l : List Event). Spares name (l ++ Removed own removed ∷ [])) (sym u.is) (apart, (refl, (refl, removed_spares own name removed apart)))

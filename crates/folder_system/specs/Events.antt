@@ -15,17 +15,21 @@ abbrev pub answer_of : {T : Type 0} → Result T Error → Answer
 answer_of (Ok done) = None
 answer_of (Err e) = Some (error_kind e)
 
-abbrev pub found_by : Result Found Error → Option Found
-found_by (Ok found) = Some found
-found_by (Err e) = None
+-- what was found, or of which kind the error was
+abbrev pub Sight : Type 0
+Sight = Result Found ErrorKind
+
+abbrev pub found_by : Result Found Error → Sight
+found_by (Ok found) = Ok found
+found_by (Err e) = Err (error_kind e)
 
 pub data Event : Type 0 where
   -- what stands at a name was looked up
-  Looked : List ℕ → Option Found → Event
+  Looked : List ℕ → Sight → Event
   -- a new file was made with a mode, less what the process masks
   Made : List ℕ → ℕ → Answer → Event
   -- an open file was looked at
-  LookedAt : Option Found → Event
+  LookedAt : Sight → Event
   -- what stands at a name was made empty, or a new file, to be written in place
   Opened : List ℕ → Answer → Event
   -- what was written to a new file was written to an output too
@@ -35,6 +39,7 @@ pub data Event : Type 0 where
   -- a file was given another name
   Renamed : List ℕ → List ℕ → Answer → Event
   Removed : List ℕ → Answer → Event
+  FolderOpened : List ℕ → Answer → Event
   -- the names of a folder were synced
   NamesSynced : List ℕ → Answer → Event
 

@@ -5,7 +5,7 @@ use Rattle.host_port.specs.Act.{File}
 use Rattle.folder_system.specs.declared.mem_folder.MemFile.{MemFile}
 use Rattle.folder_system.specs.declared.mem_folder.Call.{Call}
 use Rattle.folder_system.specs.declared.mem_folder.Call.TheVariants as call
-use Rattle.folder_system.specs.Events.{Event, Looked, Made, LookedAt, Opened, Copied, Synced, Renamed, Removed, NamesSynced, History}
+use Rattle.folder_system.specs.Events.{Event, Looked, Made, LookedAt, Opened, Copied, Synced, Renamed, Removed, FolderOpened, NamesSynced, History}
 
 abbrev pub file_of : MemFile → File
 file_of file = (string_bytes file.name, file.bytes.items)
@@ -22,6 +22,7 @@ event_of (call.Copied answer) = Copied answer
 event_of (call.Synced name bytes answer) = Synced (string_bytes name) bytes.items answer
 event_of (call.Renamed from to answer) = Renamed (string_bytes from) (string_bytes to) answer
 event_of (call.Removed name answer) = Removed (string_bytes name) answer
+event_of (call.FolderOpened folder answer) = FolderOpened (string_bytes folder) answer
 event_of (call.NamesSynced folder answer) = NamesSynced (string_bytes folder) answer
 
 -- the files that stand there and the calls so far, where there was memory to note each

@@ -1,9 +1,9 @@
 //! An output that stands beside the file whose place it takes.
 
-ghost use Rattle.std.specs.Prelude.{◌≡◌, string_bytes, IfOk, OnErr, OnOk};
+ghost use Rattle.std.specs.Prelude.{◌≡◌, string_bytes, true, false, IfOk, OnErr, OnOk};
 ghost use Rattle.system_host.specs.Told.{bytes_of};
 ghost use Rattle.folder_system.specs.Events.{Follows};
-ghost use Rattle.folder_system.specs.Place.{IsAway, IsHalf, IsHalted, IsLost, IsNotStored, IsOver, IsPut, IsStored, IsTaken};
+ghost use Rattle.folder_system.specs.Place.{IsAway, IsHalf, IsHalted, IsLost, IsNotStored, IsOver, IsPut, IsSettling, IsStored, IsTaken};
 
 use crate::folder::{Attributes, Folder, is_still};
 use crate::kinds::{cannot_sync, holds_name};
@@ -17,6 +17,8 @@ pub struct Beside {
     name: String,
     // What stood at the name before.
     old: Option<Attributes>,
+    // Whether the output is like what stood there, or nothing did.
+    takes: bool,
 }
 
 /// How the named file came to have what was written.
@@ -32,33 +34,44 @@ pub enum Taken {
 #[derive(Clone, Copy)]
 enum Naming {
     Done,
-    /// No other file can have it, or what stands there isn't what was found before.
+    /// The file beside isn't like the old one, or what stands there isn't what was found before, or no other file can
+    /// have the name.
     Held,
 }
 
 impl Beside {
-    pub(crate) fn new(own: String, name: String, old: Option<Attributes>) -> Beside
+    pub(crate) fn new(own: String, name: String, old: Option<Attributes>, takes: bool) -> Beside
         ensures own { string_bytes result.own ≡ string_bytes own }
         ensures name { string_bytes result.name ≡ string_bytes name }
         ensures old { result.old ≡ old }
+        ensures takes { result.takes ≡ takes }
     {
-        Beside { own, name, old }
+        Beside {
+            own,
+            name,
+            old,
+            takes,
+        }
     }
 
-    /// Takes the place of the file of its name. Where that is held, or not what was found before, what stands there
-    /// is written in place, once what was written stands on the disk. After an error the file beside doesn't have the
-    /// name, and nothing is left beside, unless it can't be taken away.
+    /// Takes the place of the file of its name. Where that is held, or not what was found before, or unlike the file
+    /// beside, what stands there is written in place, once what was written stands on the disk. After an error nothing
+    /// is left beside, unless it can't be taken away.
     pub fn take_place<F: Folder>(self, folder: &mut F, output: &F::Output) -> io::Result<Taken>
-        ensures taken { IfOk result (λ taken. Follows (IsTaken self.old (string_bytes self.own) (string_bytes self.name)
+        ensures taken { IfOk result (λ taken. Follows (IsTaken self.old self.takes (string_bytes self.own) (string_bytes self.name)
             (bytes_of (F.Output.contents output.now)) taken) (F.history folder.old) (F.history folder.new)) }
-        ensures lost { OnErr result (Follows (IsLost self.old (string_bytes self.own) (string_bytes self.name)
+        ensures lost { OnErr result (Follows (IsLost self.old self.takes (string_bytes self.own) (string_bytes self.name)
             (bytes_of (F.Output.contents output.now))) (F.history folder.old) (F.history folder.new)) }
     {
-        let Beside { own, name, old } = self;
-        match put(folder, output, own.as_str(), name.as_str(), old) {
+        let Beside {
+            own,
+            name,
+            old,
+            takes,
+        } = self;
+        match put(folder, output, own.as_str(), name.as_str(), old, takes) {
             Ok(Naming::Done) => {
-                // Whether the folder can be synced or not, the file has the name.
-                let _ = folder.sync_names(folder_of(name.as_str()));
+                settle(folder, name.as_str())?;
                 Ok(Taken::ByName)
             }
             Ok(Naming::Held) => match copy_over(folder, output, name.as_str()) {
@@ -86,25 +99,30 @@ impl Beside {
             own,
             name: _name,
             old: _old,
+            takes: _takes,
         } = self;
         let _ = folder.remove(own.as_str());
     }
 }
 
-/// Stores the output and gives it the name, where there stands what was found before.
+/// Stores the output and gives it the name, if it takes the name and what was found before stands there.
 fn put<F: Folder>(
     folder: &mut F,
     output: &F::Output,
     own: &str,
     name: &str,
     old: Option<Attributes>,
+    takes: bool,
 ) -> io::Result<Naming>
-    ensures put { IfOk result (λ put. Follows (IsPut old own.now name.now
+    ensures put { IfOk result (λ put. Follows (IsPut old takes own.now name.now
         (bytes_of (F.Output.contents output.now)) put) (F.history folder.old) (F.history folder.new)) }
-    ensures halted { OnErr result (Follows (IsHalted old own.now name.now
+    ensures halted { OnErr result (Follows (IsHalted old takes own.now name.now
         (bytes_of (F.Output.contents output.now))) (F.history folder.old) (F.history folder.new)) }
 {
     store(folder, own, output)?;
+    if !takes {
+        return Ok(Naming::Held);
+    }
     let seen = folder.look(name)?;
     if !is_still(seen, old) {
         return Ok(Naming::Held);
@@ -139,5 +157,21 @@ pub fn store<F: Folder>(folder: &mut F, name: &str, output: &F::Output) -> io::R
         Ok(()) => Ok(()),
         Err(e) if cannot_sync(e.kind()) => Ok(()),
         Err(e) => Err(e),
+    }
+}
+
+/// Puts on the disk that the file has the name, where the folder can be opened and there is anything to sync.
+fn settle<F: Folder>(folder: &mut F, name: &str) -> io::Result<()>
+    ensures settled { OnOk result (Follows (IsSettling name.now true) (F.history folder.old) (F.history folder.new)) }
+    ensures failed { OnErr result (Follows (IsSettling name.now false) (F.history folder.old) (F.history folder.new)) }
+{
+    let names = folder_of(name);
+    match folder.open_folder(names) {
+        Ok(handle) => match folder.sync_names(names, &handle) {
+            Ok(()) => Ok(()),
+            Err(e) if cannot_sync(e.kind()) => Ok(()),
+            Err(e) => Err(e),
+        },
+        Err(_) => Ok(()),
     }
 }

@@ -4,11 +4,13 @@ ghost use Rattle.std.specs.Prelude.{◌≡◌, ℕ, List, [], ◌∷◌, ◌++�
 ghost use Rattle.host_port.specs.Act.{file_content, has_file};
 ghost use Rattle.host_port.specs.Outside.{Becomes};
 ghost use Rattle.system_host.specs.Told.{bytes_of};
-ghost use Rattle.folder_system.specs.Found.{bars_found, attributes_found, is_like, is_still};
-ghost use Rattle.folder_system.specs.Events.{History, Answer, Looked, Made, LookedAt, Opened, Copied, Synced, Renamed, Removed, NamesSynced, after, answer_of, found_by};
+ghost use Rattle.folder_system.specs.Found.{bars_found, attributes_found, is_owned, is_like, is_still, IsFoundFrom, IsFoundIn};
+ghost use Rattle.folder_system.specs.Events.{History, Answer, Looked, Made, LookedAt, Opened, Copied, Synced, Renamed, Removed, FolderOpened, NamesSynced, after, answer_of, found_by};
 
+use std::fs::Metadata;
 use std::io;
-use std::io::{Read, Write};
+use std::io::{ErrorKind, Read, Write};
+use std::os::unix::fs::MetadataExt;
 
 /// What stands at a name.
 #[derive(Clone, Copy)]
@@ -63,13 +65,26 @@ pub fn attributes_of(found: Found) -> Option<Attributes>
     }
 }
 
-/// Whether a file has the owner, the group and the mode of the old one.
+/// Whether a file has the owner of the old one.
+pub fn is_owned(seen: Found, old: Attributes) -> bool
+    ensures { result ≡ is_owned seen old }
+{
+    match seen {
+        Found::File(new) => new.owner == old.owner,
+        _ => false,
+    }
+}
+
+/// Whether a file has the device, the owner, the group and the mode of the old one.
 pub fn is_like(seen: Found, old: Attributes) -> bool
     ensures { result ≡ is_like seen old }
 {
     match seen {
         Found::File(new) => {
-            new.owner == old.owner && new.group == old.group && new.mode == old.mode
+            new.device == old.device
+                && new.owner == old.owner
+                && new.group == old.group
+                && new.mode == old.mode
         }
         _ => false,
     }
@@ -82,16 +97,56 @@ pub fn is_still(seen: Found, old: Option<Attributes>) -> bool
     match (seen, old) {
         (Found::Nothing, None) => true,
         (Found::File(now), Some(old)) => {
-            now.device == old.device
-                && now.inode == old.inode
-                && now.links == old.links
-                && is_like(seen, old)
+            now.inode == old.inode && now.links == old.links && is_like(seen, old)
         }
         _ => false,
     }
 }
 
+/// What a look found: where nothing stands, the system's error says so.
+pub fn found_from(looked: io::Result<Metadata>) -> io::Result<Found>
+    ensures { IsFoundFrom looked result }
+{
+    match looked {
+        Ok(known) => Ok(found_in(&known)),
+        Err(e) if e.kind() == ErrorKind::NotFound => Ok(Found::Nothing),
+        Err(e) => Err(e),
+    }
+}
+
+/// A regular file with what is known of it, or something else.
+fn found_in(known: &Metadata) -> Found
+    ensures { IsFoundIn known.now result }
+{
+    if !known.is_file() {
+        return Found::Other;
+    }
+    Found::File(Attributes {
+        device: known.dev(),
+        inode: known.ino(),
+        mode: known.mode(),
+        owner: known.uid(),
+        group: known.gid(),
+        links: known.nlink(),
+    })
+}
+
 /// A folder, as far as an output needs it.
+///
+/// Somebody else may be able to change the folder, and a name may mean another file at each call. Only an open
+/// file stays the same: `look_at`, `copy` and `sync` take one, and name none. `look`, `open`, `create_new`,
+/// `open_over`, `rename`, `remove` and `open_folder` take a name, since std has none of them for an open folder. So
+/// who may change the folder, or a folder above it, can have
+///
+/// - a file made or removed in another folder: an empty one under a name that wasn't taken, or one of the name
+///   `.NAME.rvgprof-N`;
+/// - what an `open_over` writes to another file, through a link or another folder, as `>` does;
+/// - a file renamed in another folder, over the file of the name there, if both the making and the renaming happen
+///   there and the look between them doesn't. The new file belongs to who runs the program and has the permissions
+///   of the file that was found, or of a new one, as the old file would have after `>` and none did stand there.
+///
+/// None of this gives a file to anybody: no call here takes an owner, a group, or the mode of a file that exists.
+/// And none of it reads: what an output gets is what was written to it.
 ///
 /// Contracts see what it tells: its regular files, and the calls so far with their answers. It may stop
 /// telling at any call, and then never tells again: where a call that failed may have changed a name, where
@@ -101,6 +156,9 @@ pub trait Folder {
     type Input: Read + Drop;
 
     type Output: Write + Drop;
+
+    /// An open folder.
+    type Handle: Drop;
 
     ghost history: { Self → Option History };
 
@@ -156,8 +214,12 @@ pub trait Folder {
     fn remove(&mut self, name: &str) -> io::Result<()>
         ensures { Becomes (after (Removed name.now (answer_of result))) (history self.old) (history self.new) };
 
-    /// Puts on the disk which names a folder has.
-    fn sync_names(&mut self, folder: &str) -> io::Result<()>
+    /// Opens a folder.
+    fn open_folder(&mut self, folder: &str) -> io::Result<Self::Handle>
+        ensures { Becomes (after (FolderOpened folder.now (answer_of result))) (history self.old) (history self.new) };
+
+    /// Puts on the disk which names the folder has that was opened by this name.
+    fn sync_names(&mut self, folder: &str, handle: &Self::Handle) -> io::Result<()>
         ensures { Becomes (after (NamesSynced folder.now (answer_of result))) (history self.old) (history self.new) };
 
     /// What is left of an input is told where the folder tells.

@@ -3,7 +3,7 @@
 ghost use Rattle.std.specs.Prelude.{◌≡◌, ◌<◌, [], ◌++◌, length, true, false, refl, string_bytes, if◌then◌else◌, IfOk, IfSome, MatchOption, OnErr, OnOk, ⊤};
 ghost use Rattle.host_port.specs.Act.{file_content, has_file, with_file};
 ghost use Rattle.host_port.specs.Entries.{place_of, bytes_at};
-ghost use Rattle.folder_system.specs.Events.{Looked, Made, LookedAt, Opened, Copied, Synced, Renamed, Removed, NamesSynced, answer_of, found_by, is_stored, without};
+ghost use Rattle.folder_system.specs.Events.{Looked, Made, LookedAt, Opened, Copied, Synced, Renamed, Removed, FolderOpened, NamesSynced, answer_of, found_by, is_stored, without};
 ghost use Rattle.folder_system.specs.Memory.{event_of, files_of, told, Noted};
 
 use crate::folder::{Attributes, Folder, Found};
@@ -30,27 +30,46 @@ const NEW: Attributes = Attributes {
     links: 1,
 };
 
+/// The mode of a regular file without its permissions is that of `NEW`; a file that is opened over nothing has these.
+const NEW_MODE: u32 = 0o666;
+
+/// Two names, or two folders with a slash behind them, that somebody else exchanges after so many calls.
+#[derive(Drop)]
+struct Exchange {
+    after: u64,
+    one: String,
+    other: String,
+}
+
+/// The file that was made or opened by a name, whatever its name is now.
+#[derive(Drop)]
+struct Handle {
+    name: String,
+    inode: u64,
+}
+
 /// A call with its answer.
 #[derive(Drop)]
 enum Call {
-    Looked(String, Option<Found>),
+    Looked(String, Result<Found, ErrorKind>),
     Made(String, u32, Option<ErrorKind>),
-    LookedAt(Option<Found>),
+    LookedAt(Result<Found, ErrorKind>),
     Opened(String, Option<ErrorKind>),
     Copied(Option<ErrorKind>),
     Synced(String, Vec<u8>, Option<ErrorKind>),
     Renamed(String, String, Option<ErrorKind>),
     Removed(String, Option<ErrorKind>),
+    FolderOpened(String, Option<ErrorKind>),
     NamesSynced(String, Option<ErrorKind>),
 }
 
 /// Regular files in memory. A call fails by its number; what is written to an output is in its file once it is
-/// synced. It tells its files and its calls, while there is memory to note them.
+/// synced. It tells its files and its calls, while there is memory to note them and nobody else changes a name.
 #[derive(Drop)]
 pub struct MemFolder {
     alloc: Global,
     files: Vec<MemFile>,
-    // The calls so far; none where there was no memory to note one.
+    // The calls so far; none where there was no memory to note one, or somebody else changed a name.
     trace: Option<Vec<Call>>,
     calls: u64,
     fail_from: u64,
@@ -58,6 +77,10 @@ pub struct MemFolder {
     kind: ErrorKind,
     // What a rename is answered where names are held.
     held: Option<ErrorKind>,
+    exchange: Option<Exchange>,
+    handles: Vec<Handle>,
+    // The number of the next file.
+    next: u64,
 }
 
 impl MemFolder {
@@ -75,6 +98,9 @@ impl MemFolder {
             fail_until: 0,
             kind: ErrorKind::Other,
             held: None,
+            exchange: None,
+            handles: Vec::new(alloc),
+            next: 1000,
         }
     }
 
@@ -102,6 +128,19 @@ impl MemFolder {
         self.held = Some(kind);
     }
 
+    /// After so many calls, counted from now, somebody else exchanges two names, or two folders with all that they
+    /// hold, which are named with a slash behind them.
+    pub fn exchange(&mut self, after: u64, one: &str, other: &str) -> Result<(), AllocError> {
+        self.calls = 0;
+        self.exchange = Some(Exchange {
+            after,
+            one: String::from_str(self.alloc, one)?,
+            other: String::from_str(self.alloc, other)?,
+        });
+        self.intrude();
+        Ok(())
+    }
+
     /// How many calls there were.
     pub fn calls(&self) -> u64 {
         self.calls
@@ -120,6 +159,12 @@ impl MemFolder {
     /// How many files there are.
     pub fn len(&self) -> usize {
         self.files.len()
+    }
+
+    /// What is known of the named file.
+    pub fn stands_at(&self, name: &str) -> Option<Attributes> {
+        let i = find(self.files.as_slice(), name)?;
+        Some(self.files[i].attributes)
     }
 
     /// The attributes of a file, or those of a new one.
@@ -152,12 +197,55 @@ impl MemFolder {
         }
     }
 
-    /// Notes a call.
+    /// Notes a call. Then somebody else may act, and no more is told.
     fn note(&mut self, call: Result<Call, AllocError>)
-        ensures files { self.new.files ≡ self.old.files }
+        ensures files { IfSome self.new.trace (λ _. self.new.files ≡ self.old.files) }
         ensures noted { Noted self.old.trace call self.new.trace }
     {
         self.trace = noted(self.trace.take(), call);
+        self.intrude();
+    }
+
+    /// Exchanges two names, if that is to be done now.
+    fn intrude(&mut self)
+        ensures { MatchOption self.new.trace ⊤ (λ trace. (self.old.trace ≡ Some trace) × (self.new.files ≡ self.old.files)) }
+    {
+        if let Some(exchange) = self.exchange.take() {
+            if exchange.after > self.calls {
+                self.exchange = Some(exchange);
+                return;
+            }
+            self.trace = None;
+            let Exchange {
+                after: _after,
+                one,
+                other,
+            } = exchange;
+            let _ = exchange_names(self.alloc, &mut self.files, one.as_str(), other.as_str());
+        }
+    }
+
+    /// Keeps which file was made or opened by a name.
+    fn keep(&mut self, name: &str, inode: u64) -> Result<(), AllocError>
+        ensures files { self.new.files ≡ self.old.files }
+        ensures same { self.new.trace ≡ self.old.trace }
+    {
+        let name = String::from_str(self.alloc, name)?;
+        self.handles.push(Handle { name, inode })?;
+        Ok(())
+    }
+
+    /// What a new file has, with these permissions.
+    fn fresh(&mut self, mode: u32) -> Attributes
+        ensures files { self.new.files ≡ self.old.files }
+        ensures same { self.new.trace ≡ self.old.trace }
+    {
+        self.next = self.next.saturating_add(1);
+        Attributes {
+            inode: self.next,
+            mode: NEW.mode | mode,
+            ..NEW
+        }
     }
 
     fn found(&mut self, name: &str) -> io::Result<Found>
@@ -182,23 +270,24 @@ impl MemFolder {
         if find(self.files.as_slice(), name).is_some() {
             return Err(io::Error::from(ErrorKind::AlreadyExists));
         }
-        let attributes = Attributes {
-            mode: NEW.mode | mode,
-            ..NEW
-        };
+        let attributes = self.fresh(mode);
+        self.keep(name, attributes.inode)?;
         let file = mem_file(self.alloc, name, b"", attributes)?;
         set(&mut self.files, file)?;
         Ok(Vec::new(self.alloc))
     }
 
-    /// The attributes of the file that was made last.
+    /// The attributes of the file that was made last, whatever its name is now.
     fn last(&mut self) -> io::Result<Found>
         ensures files { self.new.files ≡ self.old.files }
         ensures same { self.new.trace ≡ self.old.trace }
     {
         self.call()?;
-        match self.files.last() {
-            Some(file) => Ok(Found::File(file.attributes)),
+        match self.handles.last() {
+            Some(handle) => Ok(match find_inode(self.files.as_slice(), handle.inode) {
+                Some(i) => Found::File(self.files[i].attributes),
+                None => Found::Nothing,
+            }),
             None => Ok(Found::Nothing),
         }
     }
@@ -210,7 +299,12 @@ impl MemFolder {
         ensures same { self.new.trace ≡ self.old.trace }
     {
         self.call()?;
-        let file = mem_file(self.alloc, name, b"", self.attributes(name))?;
+        let attributes = match self.stands_at(name) {
+            Some(attributes) => attributes,
+            None => self.fresh(NEW_MODE),
+        };
+        self.keep(name, attributes.inode)?;
+        let file = mem_file(self.alloc, name, b"", attributes)?;
         set(&mut self.files, file)?;
         Ok(Vec::new(self.alloc))
     }
@@ -241,6 +335,21 @@ impl MemFolder {
                 Err(e)
             }
         }
+    }
+
+    /// Where nothing is told, as once somebody else has acted, the bytes go to the file that was opened, and not to what
+    /// stands at the name.
+    fn synced_opened(&mut self, name: &str, bytes: &[u8]) -> io::Result<()>
+        ensures same { self.new.trace ≡ self.old.trace }
+    {
+        self.call()?;
+        let Some(inode) = inode_of(self.handles.as_slice(), name) else {
+            return Ok(());
+        };
+        if let Some(i) = find_inode(self.files.as_slice(), inode) {
+            self.files[i].bytes = Vec::from_slice(self.alloc, bytes)?;
+        }
+        Ok(())
     }
 
     fn store(&mut self, name: &str, bytes: &[u8]) -> Result<(), AllocError>
@@ -338,6 +447,65 @@ fn forget(files: &mut Vec<MemFile>, name: &str)
     files.retain(|file| file.name.as_str() != name);
 }
 
+/// The number of the file of this inode.
+fn find_inode(files: &[MemFile], inode: u64) -> Option<usize>
+    ensures { IfSome result (λ i. i < length files.now) }
+{
+    for (i, file) in files.iter().enumerate() {
+        if file.attributes.inode == inode {
+            return Some(i);
+        }
+    }
+    None
+}
+
+/// The inode of the file that was made or opened last by this name.
+fn inode_of(handles: &[Handle], name: &str) -> Option<u64> {
+    let mut inode = None;
+    for handle in handles {
+        if handle.name.as_str() == name {
+            inode = Some(handle.inode);
+        }
+    }
+    inode
+}
+
+/// Names that begin with one of two begin with the other then.
+fn exchange_names(
+    alloc: Global,
+    files: &mut Vec<MemFile>,
+    one: &str,
+    other: &str,
+) -> Result<(), AllocError> {
+    for file in files.iter_mut() {
+        if let Some(name) = exchanged(alloc, file.name.as_str(), one, other)? {
+            file.name = name;
+        }
+    }
+    Ok(())
+}
+
+fn exchanged(
+    alloc: Global,
+    name: &str,
+    one: &str,
+    other: &str,
+) -> Result<Option<String>, AllocError> {
+    if let Some(rest) = name.strip_prefix(one) {
+        return Ok(Some(joined(alloc, other, rest)?));
+    }
+    if let Some(rest) = name.strip_prefix(other) {
+        return Ok(Some(joined(alloc, one, rest)?));
+    }
+    Ok(None)
+}
+
+fn joined(alloc: Global, front: &str, rest: &str) -> Result<String, AllocError> {
+    let mut name = String::from_str(alloc, front)?;
+    name.push_str(rest)?;
+    Ok(name)
+}
+
 // ---- the calls
 
 /// The calls with one more, where there is memory for it.
@@ -364,17 +532,21 @@ fn answer_of<T>(done: &io::Result<T>) -> Option<ErrorKind>
     }
 }
 
-fn found_by(found: &io::Result<Found>) -> Option<Found>
+fn found_by(found: &io::Result<Found>) -> Result<Found, ErrorKind>
     ensures { result ≡ found_by found.now }
 {
     match found {
-        Ok(found) => Some(*found),
-        Err(_) => None,
+        Ok(found) => Ok(*found),
+        Err(e) => Err(e.kind()),
     }
 }
 
 impl Call {
-    fn looked(alloc: Global, name: &str, found: Option<Found>) -> Result<Call, AllocError>
+    fn looked(
+        alloc: Global,
+        name: &str,
+        found: Result<Found, ErrorKind>,
+    ) -> Result<Call, AllocError>
         ensures { IfOk result (λ call. event_of call ≡ Looked name.now found) }
     {
         Ok(Call::Looked(String::from_str(alloc, name)?, found))
@@ -427,6 +599,16 @@ impl Call {
         Ok(Call::Removed(String::from_str(alloc, name)?, answer))
     }
 
+    fn folder_opened(
+        alloc: Global,
+        folder: &str,
+        answer: Option<ErrorKind>,
+    ) -> Result<Call, AllocError>
+        ensures { IfOk result (λ call. event_of call ≡ FolderOpened folder.now answer) }
+    {
+        Ok(Call::FolderOpened(String::from_str(alloc, folder)?, answer))
+    }
+
     fn names_synced(
         alloc: Global,
         folder: &str,
@@ -442,6 +624,8 @@ impl Folder for MemFolder {
     type Input = Cursor<Vec<u8>>;
 
     type Output = Vec<u8>;
+
+    type Handle = ();
 
     ghost history = { λ f. told f.files.items f.trace };
 
@@ -494,6 +678,9 @@ impl Folder for MemFolder {
     }
 
     fn sync(&mut self, name: &str, output: &Vec<u8>) -> io::Result<()> {
+        if self.trace.is_none() {
+            return self.synced_opened(name, output.as_slice());
+        }
         let done = self.synced(name, output.as_slice());
         let call = Call::synced(self.alloc, name, output.as_slice(), answer_of(&done));
         self.note(call);
@@ -514,7 +701,14 @@ impl Folder for MemFolder {
         done
     }
 
-    fn sync_names(&mut self, folder: &str) -> io::Result<()> {
+    fn open_folder(&mut self, folder: &str) -> io::Result<()> {
+        let done = self.call();
+        let call = Call::folder_opened(self.alloc, folder, answer_of(&done));
+        self.note(call);
+        done
+    }
+
+    fn sync_names(&mut self, folder: &str, _handle: &()) -> io::Result<()> {
         let done = self.call();
         let call = Call::names_synced(self.alloc, folder, answer_of(&done));
         self.note(call);

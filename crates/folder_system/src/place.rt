@@ -7,7 +7,7 @@ ghost use Rattle.folder_system.specs.Events.{Follows};
 ghost use Rattle.folder_system.specs.Place.{IsQuiet, IsOpened, IsIn, IsMade, IsUnmade, IsBegun, IsBarred, IsGivenUp, IsPlaced, IsStanding, HasCause, is_beside, mode_for};
 
 use crate::beside::Beside;
-use crate::folder::{Attributes, Folder, Found, attributes_of, is_in_the_way, is_like};
+use crate::folder::{Attributes, Folder, Found, attributes_of, is_in_the_way, is_like, is_owned};
 use crate::kinds::{bars, is_taken};
 use crate::names::own_name;
 use std::alloc::Global;
@@ -19,8 +19,15 @@ const TRIES: u32 = 1000;
 /// The mode of an output that takes no file's place, less what the process masks.
 const NEW_MODE: u32 = 0o666;
 
-/// The bits of permission of a mode.
+/// The mode of an output beside a file that may give one user or one group what it doesn't give others.
+const OWN_MODE: u32 = 0o600;
+
+/// The bits of permission of a mode, and those of the group and of the others.
 const PERMISSION_BITS: u32 = 0o777;
+
+const GROUP_BITS: u32 = 0o070;
+
+const OTHER_BITS: u32 = 0o007;
 
 /// Where an output stands.
 pub enum Place {
@@ -43,7 +50,7 @@ impl Place {
 
 /// Begins an output of this name. It stands beside a regular file that its owner may write and that has one
 /// name and no special bit, or where there is none; and in place where something else stands there, or a new file
-/// can't be made beside it or isn't like it.
+/// can't be made beside it or has another owner.
 pub fn begin<F: Folder>(alloc: Global, folder: &mut F, name: &str) -> io::Result<(F::Output, Place)>
     ensures placed { IfOk result (λ begun. Follows (IsPlaced name.now begun.1) (F.history folder.old) (F.history folder.new)) }
     ensures empty { IfOk result (λ begun. IfSome (F.history folder.new)
@@ -72,7 +79,12 @@ fn begin_beside<F: Folder>(
 {
     let kept_name = String::from_str(alloc, name)?;
     match make_like(alloc, folder, name, old)? {
-        Some((output, own)) => Ok((output, Place::Beside(Beside::new(own, kept_name, old)))),
+        Some((output, own, takes)) => {
+            Ok((
+                output,
+                Place::Beside(Beside::new(own, kept_name, old, takes)),
+            ))
+        }
         None => begin_in_place(alloc, folder, name),
     }
 }
@@ -94,18 +106,18 @@ fn begin_in_place<F: Folder>(
     Ok((output, Place::In(kept_name)))
 }
 
-/// Makes a file beside the named one. None where that is barred, or the new file isn't like the old one: then
-/// nothing is left. It is given nothing but the mode that it is made with.
+/// Makes a file beside the named one, and answers whether it is like the old one. None where that is barred, or the
+/// new file has another owner: then nothing is left. It is given nothing but the mode that it is made with.
 fn make_like<F: Folder>(
     alloc: Global,
     folder: &mut F,
     name: &str,
     old: Option<Attributes>,
-) -> io::Result<Option<(F::Output, String)>>
+) -> io::Result<Option<(F::Output, String, bool)>>
     ensures barred { IfOk result (λ made. MatchOption made
         (Follows (IsBarred name.now old) (F.history folder.old) (F.history folder.new)) (λ _. ⊤)) }
     ensures begun { IfOk result (λ made. IfSome made (λ m.
-        Follows (IsBegun name.now (string_bytes m.1) old) (F.history folder.old) (F.history folder.new))) }
+        Follows (IsBegun name.now (string_bytes m.1) old m.2) (F.history folder.old) (F.history folder.new))) }
     ensures empty { IfOk result (λ made. IfSome made (λ m. IfSome (F.history folder.new)
         (λ _. bytes_of (F.Output.contents m.0) ≡ []))) }
     ensures given_up { OnErr result (Follows (IsGivenUp name.now) (F.history folder.old) (F.history folder.new)) }
@@ -115,23 +127,30 @@ fn make_like<F: Folder>(
         return Ok(None);
     };
     let Some(old) = old else {
-        return Ok(Some((output, own)));
+        return Ok(Some((output, own, true)));
     };
     let seen = folder.look_at(&output).unwrap_or(Found::Other);
-    if is_like(seen, old) {
-        return Ok(Some((output, own)));
+    if is_owned(seen, old) {
+        return Ok(Some((output, own, is_like(seen, old))));
     }
     folder.remove(own.as_str())?;
     Ok(None)
 }
 
-/// The mode that an output is made with: the permissions of the old file.
+/// The mode that an output is made with. The bits of a group may be the mask of a list of users and groups, which the
+/// new file doesn't have: they are given where all others have them too.
 fn mode_for(old: Option<Attributes>) -> u32
     ensures { result ≡ mode_for old }
 {
     match old {
         None => NEW_MODE,
-        Some(old) => old.mode & PERMISSION_BITS,
+        Some(old) => {
+            if (old.mode & GROUP_BITS) / 8 == old.mode & OTHER_BITS {
+                old.mode & PERMISSION_BITS
+            } else {
+                OWN_MODE
+            }
+        }
     }
 }
 

@@ -1,4 +1,4 @@
-use Rattle.std.proofs.Common.{Some, sym, ◌∙◌}
+use Rattle.std.proofs.Common.{Ok, sym, ◌∙◌}
 use Rattle.folder_system.specs.Events.{Looked}
 use Rattle.folder_system.proofs.Causes.{result_behind_call}
 use Rattle.folder_system.proofs.Making.{looked, placed_behind, given_up_behind, over_ok, quiet_err}
@@ -17,7 +17,7 @@ returns-then-is_in_the_way-clause-given_up g c =
 pub returns-then-is_in_the_way-clause-cause : goal.returns-then-is_in_the_way-clause-cause
 returns-then-is_in_the_way-clause-cause g c =
     let told = g.F.Folder.history in
-    result_behind_call (Looked c.args.name.now (Some c.in_ok-found.found)) c.begin_in_place.result (told c.args.folder.now) (told c.look.new.self) (told c.begin_in_place.new.folder) c.in_ok-found.ensures c.begin_in_place.ensures.cause
+    result_behind_call (Looked c.args.name.now (Ok c.in_ok-found.found)) c.begin_in_place.result (told c.args.folder.now) (told c.look.new.self) (told c.begin_in_place.new.folder) c.in_ok-found.ensures c.begin_in_place.ensures.cause
 
 pub returns-clause-placed : goal.returns-clause-placed
 returns-clause-placed g c =
@@ -34,4 +34,4 @@ returns-clause-given_up g c =
 pub returns-clause-cause : goal.returns-clause-cause
 returns-clause-cause g c =
     let told = g.F.Folder.history in
-    result_behind_call (Looked c.args.name.now (Some c.in_ok-found.found)) c.begin_beside.result (told c.args.folder.now) (told c.look.new.self) (told c.begin_beside.new.folder) c.in_ok-found.ensures c.begin_beside.ensures.cause
+    result_behind_call (Looked c.args.name.now (Ok c.in_ok-found.found)) c.begin_beside.result (told c.args.folder.now) (told c.look.new.self) (told c.begin_beside.new.folder) c.in_ok-found.ensures c.begin_beside.ensures.cause

@@ -27,7 +27,7 @@ returns-in-Err-3-clause-cause g c =
     let own = c.as_str.result.now in
     let clear : is_barring kind ≡ false = ap is_barring (sym c.kind.ensures) ∙ sym c.bars.ensures ∙ c.if-bars.false in
     let other : is_taken kind ≡ false = ap is_taken (sym c.kind-in-Err-1.ensures) ∙ sym c.is_taken.ensures ∙ c.if-is_taken.false in
-    inr (failed_then (AreTaken c.args.name.now c.args.mode c.loop-n.n) (Made own c.args.mode (Some kind)) (told c.args.folder.now) (told c.loop-n.folder) (told c.create_new.new.self) (untried c.args.name.now own c.args.mode kind clear other) c.loop-n.invariant c.in-Err.ensures.done)
+    inr (failed_then kind (AreTaken c.args.name.now c.args.mode c.loop-n.n) (Made own c.args.mode (Some kind)) (told c.args.folder.now) (told c.loop-n.folder) (told c.create_new.new.self) (untried own c.args.mode kind clear other) c.loop-n.invariant c.in-Err.ensures.done)
 
 pub loop-n-preserved : goal.loop-n-preserved
 loop-n-preserved g c = grind (arith, one_more)

@@ -18,7 +18,7 @@ returns-in-Ok-ByName-clause-done g c =
     let beside = c.in-Some-Beside.beside in
     let bytes = bytes_of (g.F.Output.Write.contents c.args.output) in
     let place_is : self.place ≡ Some (StandsBeside beside) = cc (c.take.ensures.value, c.in-Some-Beside.is, c.in-Some-Beside.field-0-is) in
-    let did = subst (λ (t : Taken). Follows (IsTaken beside.old (string_bytes beside.own) (string_bytes beside.name) bytes t) (told self.folder) (told c.take_place.new.folder)) c.in-Ok-ByName.field-0-is c.in-Ok-ByName.ensures.taken in
+    let did = subst (λ (t : Taken). Follows (IsTaken beside.old beside.takes (string_bytes beside.own) (string_bytes beside.name) bytes t) (told self.folder) (told c.take_place.new.folder)) c.in-Ok-ByName.field-0-is c.in-Ok-ByName.ensures.taken in
     let taken = taken_shown bytes self.tells (told self.folder) (told c.take_place.new.folder) beside did in
     subst (λ (p : Option Place). Becomes (disk_after (Write bytes ∷ Close ∷ [])) (shown told self.tells p self.folder) (shown told self.tells c.take.new.self c.take_place.new.folder)) (sym place_is)
     (subst (λ (q : Option Place). Becomes (disk_after (Write bytes ∷ Close ∷ [])) (shown told self.tells (Some (StandsBeside beside)) self.folder) (shown told self.tells q c.take_place.new.folder)) (sym c.take.ensures.after) taken)
