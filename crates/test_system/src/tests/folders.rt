@@ -9,11 +9,11 @@ use std::process::Abort;
 use std::test::Fail;
 use system_host::System;
 
-/// What an old file has: the owner and the group of new ones.
+/// What an old file has: the device, the owner and the group of new ones.
 const OLD: Attributes = Attributes {
-    device: 7,
+    device: 0,
     inode: 8,
-    mode: 0o100640,
+    mode: 0o100644,
     owner: 0,
     group: 0,
     links: 1,
@@ -65,33 +65,33 @@ struct Case<'a> {
     calls: u64,
 }
 
-/// An output that is new, one over an old file, two that are new, and two over old files. A new one takes six
-/// calls: look, create_new, sync, look, rename and sync_names; an old one look_at too, the third.
+/// An output that is new, one over an old file, two that are new, and two over old files. A new one takes
+/// seven calls: look, create_new, sync, look, rename, open_folder and sync_names; an old one look_at too, the third.
 const CASES: [Case<'static>; 5] = [
     Case {
         old: &[],
         names: &["f"],
-        calls: 6,
+        calls: 7,
     },
     Case {
         old: &["f"],
         names: &["f"],
-        calls: 7,
+        calls: 8,
     },
     Case {
         old: &["d/f", "g"],
         names: &["d/f"],
-        calls: 7,
+        calls: 8,
     },
     Case {
         old: &[],
         names: &["f", "g"],
-        calls: 12,
+        calls: 14,
     },
     Case {
         old: &["f", "g"],
         names: &["f", "g"],
-        calls: 14,
+        calls: 16,
     },
 ];
 
@@ -126,12 +126,14 @@ fn expect(rt: &impl Abort, case: &Case<'_>, folder: &MemFolder, new: u64, call: 
     assert_eq!(rt; folder.len(), files, "{call}");
 }
 
-/// How many outputs are new where this call fails: the last of an output, sync_names, comes behind rename. Where a
-/// new file can't be looked at, the old one is written in place.
+/// How many outputs are new where this call fails. The last two of an output, open_folder and sync_names, come behind
+/// rename, and a folder that can't be opened is no fault. Where a new file can't be looked at, the old one is written in
+/// place.
 fn new_at(case: &Case<'_>, call: u64) -> u64 {
     let all = case.names.len() as u64;
     let each = (case.calls / all.max(1)).max(1);
-    if !case.old.is_empty() && call % each == 2 {
+    let at = call % each;
+    if !case.old.is_empty() && at == 2 || at + 2 == each {
         all
     } else {
         call.saturating_add(1) / each
@@ -168,24 +170,24 @@ fn fail_at(
 
 /// The kinds of errors, and at which of the calls of an output over an old file the output is done all the same.
 const KINDS: [(ErrorKind, &[u64]); 5] = [
-    (ErrorKind::OutOfMemory, &[2]),
-    (ErrorKind::QuotaExceeded, &[2]),
-    (ErrorKind::ResourceBusy, &[2, 5]),
+    (ErrorKind::OutOfMemory, &[2, 6]),
+    (ErrorKind::QuotaExceeded, &[2, 6]),
+    (ErrorKind::ResourceBusy, &[2, 5, 6]),
     (ErrorKind::PermissionDenied, &[1, 2, 5, 6]),
-    (ErrorKind::Unsupported, &[1, 2, 3, 6]),
+    (ErrorKind::Unsupported, &[1, 2, 3, 6, 7]),
 ];
 
 #[test]
 fn what_an_error_says_decides(rt: HostRuntime) -> Result<(), Fail> {
     let alloc = rt.alloc();
     for (kind, done) in &KINDS {
-        for call in 0..7 {
+        for call in 0..8 {
             let mut folder = folder_of(alloc, &["f"], OLD)?;
             folder.fail(call, call + 1, *kind);
             let (folder, closed) = outputs(alloc, folder, &["f"]);
             let is_done = done.contains(&call);
             assert_eq!(rt; closed, usize::from(is_done), "{kind:?} at {call}");
-            let bytes: &[u8] = if is_done || call == 6 { b"new" } else { b"old" };
+            let bytes: &[u8] = if is_done || call == 7 { b"new" } else { b"old" };
             assert_eq!(rt; folder.bytes("f"), Some(bytes), "{kind:?} at {call}");
             assert_eq!(rt; folder.len(), 1, "{kind:?} at {call}");
         }
@@ -221,7 +223,7 @@ fn what_stands_there_decides(rt: HostRuntime) -> Result<(), Fail> {
     let alloc = rt.alloc();
     let mode = 0o104755;
     let locked = 0o100440;
-    // Look, open_over and sync; and create_new, look_at and remove too.
+    // Look, open_over and sync; create_new, look_at and remove too, or, once it is whole, a copy.
     let in_place = [
         (Attributes { links: 2, ..OLD }, 3),
         (Attributes { mode, ..OLD }, 3),
@@ -233,7 +235,15 @@ fn what_stands_there_decides(rt: HostRuntime) -> Result<(), Fail> {
             3,
         ),
         (Attributes { owner: 7, ..OLD }, 6),
-        (Attributes { group: 8, ..OLD }, 6),
+        (Attributes { group: 8, ..OLD }, 8),
+        (Attributes { device: 7, ..OLD }, 8),
+        (
+            Attributes {
+                mode: 0o100640,
+                ..OLD
+            },
+            8,
+        ),
     ];
     for (attributes, calls) in in_place {
         let (folder, closed) = outputs(alloc, folder_of(alloc, &["f"], attributes)?, &["f"]);
@@ -299,6 +309,107 @@ fn taken_names_are_no_fault(rt: HostRuntime) -> Result<(), Fail> {
     assert_eq!(rt; closed, 1);
     assert_eq!(rt; folder.bytes("f"), Some(b"new".as_slice()));
     assert_eq!(rt; folder.len(), 1001);
+    Ok(())
+}
+
+/// Bytes that only their owner may read.
+const SECRET: Attributes = Attributes {
+    device: 0,
+    inode: 5,
+    mode: 0o100600,
+    owner: 0,
+    group: 0,
+    links: 1,
+};
+
+/// Somebody may change the folder d, and the program writes d/f there. The folder e isn't theirs, and e/f and e/g are
+/// secret.
+fn shared(alloc: Global, owner: u32) -> Result<MemFolder, AllocError> {
+    let mut folder = MemFolder::new(alloc);
+    folder.put("d/f", b"old", Attributes { owner, ..OLD })?;
+    folder.put("e/f", b"secret", SECRET)?;
+    folder.put("e/g", b"secret", Attributes { inode: 6, ..SECRET })?;
+    Ok(folder)
+}
+
+/// What somebody exchanges while the program writes: the folder, the file that is found, the file beside, or both.
+const EXCHANGES: [(&str, &str); 5] = [
+    ("d/", "e/"),
+    ("d/f", "d/mine"),
+    ("d/f", "e/g"),
+    ("d/.f.rvgprof-0", "d/mine"),
+    ("d/.f.rvgprof-0", "e/g"),
+];
+
+/// The names that anything may stand at.
+const NAMES: [&str; 8] = [
+    "d/f",
+    "d/g",
+    "d/mine",
+    "d/.f.rvgprof-0",
+    "e/f",
+    "e/g",
+    "e/mine",
+    "e/.f.rvgprof-0",
+];
+
+/// Each file has the owner and the rights that it had, and its old bytes, or what was written, or none, as `>` leaves it
+/// before and after a write. A new file is root's, has what was written or nothing, and the rights of a file that stood
+/// at the name. In the folder that isn't theirs, f is root's alone, as it was.
+fn expect_safe(rt: &impl Abort, folder: &MemFolder, owner: u32, what: &str, call: u64) {
+    for name in NAMES {
+        if let Some(file) = folder.stands_at(name) {
+            let bytes = folder.bytes(name).unwrap_or(b"");
+            let (old, mode, user): (&[u8], u32, u32) = match file.inode {
+                5 | 6 => (b"secret", 0o100600, 0),
+                8 => (b"old", 0o100644, owner),
+                _ => (b"", file.mode, 0),
+            };
+            let is_known = bytes == old || bytes == b"new".as_slice() || bytes.is_empty();
+            assert!(rt; is_known, "bytes of {name}: {what} at {call}");
+            assert_eq!(rt; file.mode, mode, "mode of {name}: {what} at {call}");
+            assert_eq!(rt; file.owner, user, "owner of {name}: {what} at {call}");
+        }
+    }
+    let exchanged = folder.stands_at("d/g").is_some();
+    let kept = folder.stands_at(if exchanged { "d/f" } else { "e/f" });
+    let own = kept.map(|file| (file.mode, file.owner));
+    assert_eq!(rt; own, Some((0o100600, 0)), "the other f: {what} at {call}");
+}
+
+/// Tries one exchange behind so many calls.
+fn exchanged_at(
+    rt: &impl Abort,
+    alloc: Global,
+    owner: u32,
+    (one, other): (&str, &str),
+    call: u64,
+) -> Result<(), AllocError> {
+    let mut folder = shared(alloc, owner)?;
+    folder.exchange(call, one, other)?;
+    let (folder, closed) = outputs(alloc, folder, &["d/f"]);
+    expect_safe(rt, &folder, owner, one, call);
+    let mut whole = 0usize;
+    for name in NAMES {
+        if folder.bytes(name) == Some(b"new".as_slice()) {
+            whole = whole.saturating_add(1);
+        }
+    }
+    if closed == 1 {
+        assert!(rt; whole > 0, "what was written: {one} at {call}");
+    }
+    Ok(())
+}
+
+#[test]
+fn exchanged_names_give_nothing_away(rt: HostRuntime) -> Result<(), Fail> {
+    for exchange in EXCHANGES {
+        for owner in [0u32, 7] {
+            for call in 0..14 {
+                exchanged_at(&rt, rt.alloc(), owner, exchange, call)?;
+            }
+        }
+    }
     Ok(())
 }
 
