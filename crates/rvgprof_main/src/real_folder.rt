@@ -1,14 +1,15 @@
-//! The folders and the outputs of the system: each method is one call of std. Where std keeps names or what it copies in
-//! the frame, it isn't inlined.
+//! The folders and the outputs of the system: each method is one call of std, but `copy`, which begins at the file's
+//! beginning. Where std keeps names or what it copies in the frame, it isn't inlined.
 
 ghost use Rattle.std.specs.Prelude.{None, ⊤};
 ghost use Rattle.std.specs.Io.{WritesAtMost};
 
-use folder_system::{Attributes, Folder, FolderSystem, Found, Printer};
+use folder_system::folder::found_from;
+use folder_system::{Folder, FolderSystem, Found, Printer};
 use std::alloc::AllocError;
-use std::fs::{File, Metadata, OpenOptions};
-use std::io::{ErrorKind, Seek, Write};
-use std::os::unix::fs::{MetadataExt, OpenOptionsExt};
+use std::fs::{File, OpenOptions};
+use std::io::{Seek, Write};
+use std::os::unix::fs::OpenOptionsExt;
 use std::{fs, io};
 
 /// The system.
@@ -30,6 +31,8 @@ impl Folder for RealFolder {
 
     type Output = File;
 
+    type Handle = File;
+
     ghost history = { λ _. None };
 
     ghost answers = { λ _ _ _. ⊤ };
@@ -44,11 +47,7 @@ impl Folder for RealFolder {
 
     #[inline(never)]
     fn look(&mut self, name: &str) -> io::Result<Found> {
-        match fs::symlink_metadata(&self.rt, name) {
-            Ok(data) => Ok(found(&data)),
-            Err(e) if e.kind() == ErrorKind::NotFound => Ok(Found::Nothing),
-            Err(e) => Err(e),
-        }
+        found_from(fs::symlink_metadata(&self.rt, name))
     }
 
     fn create_new(&mut self, name: &str, mode: u32) -> io::Result<File> {
@@ -62,7 +61,7 @@ impl Folder for RealFolder {
 
     #[inline(never)]
     fn look_at(&mut self, output: &File) -> io::Result<Found> {
-        Ok(found(&output.metadata()?))
+        found_from(output.metadata())
     }
 
     fn open_over(&mut self, name: &str) -> io::Result<File> {
@@ -90,24 +89,13 @@ impl Folder for RealFolder {
         fs::remove_file(&self.rt, name)
     }
 
-    fn sync_names(&mut self, folder: &str) -> io::Result<()> {
-        fs::open(&self.rt, folder)?.sync_all()
+    fn open_folder(&mut self, folder: &str) -> io::Result<File> {
+        fs::open(&self.rt, folder)
     }
-}
 
-/// What stands where these data are.
-fn found(data: &Metadata) -> Found {
-    if !data.is_file() {
-        return Found::Other;
+    fn sync_names(&mut self, _folder: &str, handle: &File) -> io::Result<()> {
+        handle.sync_all()
     }
-    Found::File(Attributes {
-        device: data.dev(),
-        inode: data.ino(),
-        mode: data.mode(),
-        owner: data.uid(),
-        group: data.gid(),
-        links: data.nlink(),
-    })
 }
 
 /// Both outputs of the system. It tells nothing.
