@@ -133,20 +133,21 @@ fn found_in(known: &Metadata) -> Found
 
 /// A folder, as far as an output needs it.
 ///
-/// Somebody else may be able to change the folder, and a name may mean another file at each call. Only an open
-/// file stays the same: `look_at`, `copy` and `sync` take one, and name none. `look`, `open`, `create_new`,
-/// `open_over`, `rename`, `remove` and `open_folder` take a name, since std has none of them for an open folder. So
-/// who may change the folder, or a folder above it, can have
+/// Somebody else may be able to change the folder, or one above it, so that a name means another file at each call. Only
+/// an open file stays the same one: `look_at`, `copy` and `sync` take it, and no name. The other calls take names, since
+/// std has none of them for an open folder. What they allow somebody who changes names between them:
 ///
-/// - a file made or removed in another folder: an empty one under a name that wasn't taken, or one of the name
-///   `.NAME.rvgprof-N`;
-/// - what an `open_over` writes to another file, through a link or another folder, as `>` does;
-/// - a file renamed in another folder, over the file of the name there, if both the making and the renaming happen
-///   there and the look between them doesn't. The new file belongs to who runs the program and has the permissions
-///   of the file that was found, or of a new one, as the old file would have after `>` and none did stand there.
+/// - `open_over` may write to another file, through a link or another folder. So does `>`.
+/// - `create_new` may make an empty file in another folder, and `remove` take one away there, but only by the name
+///   `.NAME.rvgprof-N`. A file that is made belongs to the user who runs the program, and `>` makes files there too.
+/// - `rename` may act in another folder, if `create_new` did and the look between them doesn't see it: the names are
+///   exchanged three times, each time between two calls. Then what was written stands at the name there, as after
+///   `>`, but in a new file of the same user. Its permissions are then those of the file that was found, or of a new
+///   one, where `>` leaves those of the file that it writes over.
+/// - `open` may read another file, as any program's does.
 ///
-/// None of this gives a file to anybody: no call here takes an owner, a group, or the mode of a file that exists.
-/// And none of it reads: what an output gets is what was written to it.
+/// No call takes an owner or a group, or the mode of a file that exists, so none can give a file or rights to a file
+/// away. And no output gets other bytes than those that were written to it.
 ///
 /// Contracts see what it tells: its regular files, and the calls so far with their answers. It may stop
 /// telling at any call, and then never tells again: where a call that failed may have changed a name, where
