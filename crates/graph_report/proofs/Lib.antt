@@ -3,7 +3,6 @@ pub mod PlacingLemmas
 pub mod CycleLemmas
 pub mod TableLemmas
 pub mod TimeLemmas
-pub mod LabelLemmas
 pub mod EntryOrder
 pub mod RowLemmas
 pub mod NumberLemmas

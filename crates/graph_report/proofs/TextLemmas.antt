@@ -10,11 +10,12 @@ use Rattle.call_cycles.specs.declared.graphs.FunArc.{FunArc}
 use Rattle.call_cycles.specs.Graph.{GraphValue, arc_at, component_of, entering_of}
 use Rattle.flat_report.specs.FlatText.{seconds_of}
 use Rattle.flat_report.specs.Sources.{Sources, name_of}
-use Rattle.graph_report.specs.ArcLines.{arc_text, function_at_end, label_at, line_by}
-use Rattle.graph_report.specs.ArcTimes.{arc_times, entering_calls, times_columns}
+use Rattle.graph_report.specs.ArcLines.{function_at_end, line_by}
+use Rattle.graph_report.specs.ArcTimes.{AreTimes, arc_times, entering_calls, times_columns}
 use Rattle.graph_report.specs.GraphText.{arc_columns, arcs_from, arcs_into, arcs_to, bracket_text, callee_line, caller_line, callers_text, calls_of_all, cycle_mark, cycle_text, front_columns, function_columns, function_name, function_text, member_line, members_of, other_line, rule, primary_line, timed_columns, untimed_columns}
+use Rattle.graph_report.specs.Labels.{label_of}
 use Rattle.graph_report.specs.Subjects.{cycle_line, function_line}
-use Rattle.graph_report.specs.declared.batch.ArcEnd.{ArcEnd}
+use Rattle.graph_report.specs.declared.arc_ends.ArcEnd.{ArcEnd}
 use Rattle.graph_report.specs.declared.inputs.ArcTimes.{ArcTimes}
 use Rattle.graph_report.specs.declared.subjects.Subject.{Subject}
 use Rattle.graph_report.specs.declared.subjects.Subject.TheVariants.{Function}
@@ -54,16 +55,20 @@ callee_whole : (s : Sources) (number : Subject → ℕ) (i : ℕ) → other_line
 unfolding callee_line
 callee_whole s number i = refl
 
--- what an arc of the graph carries makes its line
-pub arc_line_is : (s : Sources) (number : Subject → ℕ) (end : ArcEnd) (i : ℕ) (t : ArcTimes) (label : List ℕ) → t ≡ arc_times s i → label ≡ label_at s number end t.arc → arc_text s t label ≡ line_by end s number i
-arc_line_is s number end i t label is named =
-    ap (arc_text s t) named
-    ∙ ap (λ (u : ArcTimes). arc_text s u (label_at s number end u.arc)) is
+-- what an arc of the graph carries, and a label, make its line
+pub arc_line_is : (s : Sources) (number : Subject → ℕ) (end : ArcEnd) (i : ℕ) (t : ArcTimes) → t ≡ arc_times s i
+    → (spaces 15 ++ times_columns s t ++ spaces 6) ++ label_of s number (function_at_end end t.arc) ≡ line_by end s number i
+arc_line_is s number end i t is =
+    ap (λ (u : ArcTimes). (spaces 15 ++ times_columns s u ++ spaces 6) ++ label_of s number (function_at_end end u.arc)) is
     ∙ other_whole (times_columns s (arc_times s i)) (function_name s number (function_at_end end (arc_at s.graph i)))
     ∙ by end
   where
     by : (e : ArcEnd) → other_line (times_columns s (arc_times s i)) (function_name s number (function_at_end e (arc_at s.graph i))) ≡ line_by e s number i
     by e = grind (arith, caller_whole, callee_whole)
+
+-- an arc's ends are functions of the graph
+pub end_within : (s : Sources) (end : ArcEnd) (t : ArcTimes) → AreTimes s t → function_at_end end t.arc < s.graph.functions
+end_within s end t are = grind (arith, are)
 
 pub member_whole : (s : Sources) (number : Subject → ℕ) (f : ℕ) → (spaces 15 ++ function_columns s f ++ spaces 6) ++ (function_name s number f ++ codes "\n") ≡ member_line s number f
 unfolding member_line

@@ -6,13 +6,13 @@ ghost use Rattle.host_port.specs.Buffered.{Adds};
 ghost use Rattle.host_port.specs.declared.side.Side.TheVariants.{Output};
 ghost use Rattle.text_cols.specs.Columns.{spaces};
 ghost use Rattle.call_cycles.specs.Graph.{arc_count};
-ghost use Rattle.graph_report.specs.ArcLines.{arc_text, line_by};
+ghost use Rattle.graph_report.specs.ArcLines.{line_by};
 ghost use Rattle.graph_report.specs.ArcTimes.{AreTimes, times_columns};
 ghost use Rattle.graph_report.specs.GraphText.{callee_line, callers_text, function_columns, member_line, other_line};
 ghost use Rattle.graph_report.specs.Inputs.{sources_in};
 ghost use Rattle.graph_report.specs.Reports.{number_of};
 
-use crate::batch::{ArcEnd, BATCH, labels_of, numbers_from, times_of};
+use crate::arc_ends::{ArcEnd, function_at};
 use crate::columns;
 use crate::inputs::{ArcTimes, Inputs};
 use crate::prepared::Report;
@@ -40,22 +40,23 @@ fn arc_front(line: &mut Line, inputs: &Inputs<'_>, times: &ArcTimes)
     line.put(BEHIND);
 }
 
-/// Puts the line of an arc, given the label of the function that it names.
+/// Puts the line of an arc, by the function at this end.
 fn put_arc<H: Host>(
-    inputs: &Inputs<'_>,
-    times: &ArcTimes,
-    label: &[u8],
+    report: &Report<'_>,
+    i: usize,
+    end: ArcEnd,
     line: &mut Line,
     lines: &mut PrintBuf,
     host: &mut H,
 ) -> Result<(), Failed>
-    requires { AreTimes (sources_in inputs.now) times.now }
-    ensures { Adds Output (arc_text (sources_in inputs.now) times.now label.now) lines.old
-        lines.new (H.outside host.old) (H.outside host.new) result }
+    requires { i < arc_count report.now.inputs.sources.graph.now }
+    ensures { Adds Output (line_by end (sources_in report.now.inputs) (number_of report.now) i)
+        lines.old lines.new (H.outside host.old) (H.outside host.new) result }
 {
-    arc_front(line, inputs, times);
+    let times = report.inputs.arc(i);
+    arc_front(line, &report.inputs, &times);
     lines.put(host, line.bytes())?;
-    lines.put(host, label)
+    lines.put(host, report.labels.of(function_at(times.arc, end)))
 }
 
 /// Makes a line of what stands in front of a function's name: the columns of a member of a cycle.
@@ -102,30 +103,6 @@ fn put_spontaneous<H: Host>(lines: &mut PrintBuf, host: &mut H) -> Result<(), Fa
     lines.put(host, SPONTANEOUS)
 }
 
-/// Puts the lines of these arcs, which are few.
-fn put_batch<H: Host>(
-    report: &Report<'_>,
-    arcs: &[usize],
-    end: ArcEnd,
-    line: &mut Line,
-    lines: &mut PrintBuf,
-    host: &mut H,
-) -> Result<(), Failed>
-    requires arcs { All (λ i. i < arc_count report.now.inputs.sources.graph.now) arcs.now }
-    requires few { length arcs.now ≤ 16 }
-    ensures { Adds Output (flat_map
-        (line_by end (sources_in report.now.inputs) (number_of report.now)) arcs.now) lines.old
-        lines.new (H.outside host.old) (H.outside host.new) result }
-{
-    let batch = times_of(&report.inputs, arcs);
-    let times = batch.split_at(arcs.len()).0;
-    let labels = labels_of(report, times, end);
-    for k in 0..arcs.len() {
-        put_arc(&report.inputs, &times[k], labels[k], line, lines, host)?;
-    }
-    Ok(())
-}
-
 /// Puts the lines of these arcs, each by the function at this end.
 fn put_arcs<H: Host>(
     report: &Report<'_>,
@@ -140,11 +117,8 @@ fn put_arcs<H: Host>(
         lines.new (H.outside host.old) (H.outside host.new) result }
 {
     let mut line = Line::new();
-    let mut start = 0;
-    while start < arcs.len() {
-        let next = arcs.len().min(start + BATCH);
-        put_batch(report, &arcs[start..next], end, &mut line, lines, host)?;
-        start = next;
+    for i in arcs {
+        put_arc(report, *i, end, &mut line, lines, host)?;
     }
     Ok(())
 }
@@ -182,12 +156,8 @@ pub(crate) fn put_callees<H: Host>(
         lines.new (H.outside host.old) (H.outside host.new) result }
 {
     let mut line = Line::new();
-    let mut start = first;
-    while start < end {
-        let count = BATCH.min(end - start);
-        let arcs = &numbers_from(start, count)[..count];
-        put_batch(report, arcs, ArcEnd::Callee, &mut line, lines, host)?;
-        start += count;
+    for i in first..end {
+        put_arc(report, i, ArcEnd::Callee, &mut line, lines, host)?;
     }
     Ok(())
 }

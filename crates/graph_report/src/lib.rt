@@ -4,8 +4,8 @@
 //! below, and each cycle as a whole. How they are laid out is this project's own choice.
 #![tactic(auto)]
 
+mod arc_ends;
 mod arc_key;
-mod batch;
 mod columns;
 mod cycles;
 mod entries;

@@ -1,4 +1,4 @@
-use Rattle.std.proofs.Common.{◌≤◌, ◌-◌, Ok}
+use Rattle.std.proofs.Common.{◌-◌, take, Ok}
 use Rattle.std.specs.List.{flat_map, range_with_len}
 use Rattle.host_port.specs.Buffered.{Adds}
 use Rattle.host_port.specs.declared.side.Side.TheVariants.{Output}
@@ -9,9 +9,5 @@ use Rattle.graph_report.specs.Reports.{number_of}
 use Rattle.graph_report.proofs.entry_lines.put_callees.Given as goal
 
 -- the lines so far are put
-abbrev pub invariant-loop-start : goal.invariant-loop-start
-invariant-loop-start g l = (l.first ≤ l.start) × (l.start ≤ l.end)
-    × Adds {E = Failed} Output (flat_map (callee_line (sources_in l.report.inputs) (number_of l.report)) (range_with_len l.first (l.start - l.first))) l.initial.lines l.lines (g.H.Host.outside l.initial.host) (g.H.Host.outside l.host) (Ok (tt {0}))
-
-abbrev pub decreases-loop-start : goal.decreases-loop-start
-decreases-loop-start g l = l.end - l.start
+abbrev pub invariant-loop-i : goal.invariant-loop-i
+invariant-loop-i g l = Adds {E = Failed} Output (flat_map (callee_line (sources_in l.report.inputs) (number_of l.report)) (take (l.i - l.first) (range_with_len l.first (l.end - l.first)))) l.initial.lines l.lines (g.H.Host.outside l.initial.host) (g.H.Host.outside l.host) (Ok (tt {0}))

@@ -2,7 +2,7 @@ use Rattle.std.proofs.Common.{◌≡◌}
 use Rattle.call_cycles.specs.Sums.{list_of}
 use Rattle.graph_report.specs.Entries.{number_in, graph_order}
 use Rattle.graph_report.specs.Inputs.{sources_in}
-use Rattle.graph_report.specs.Labels.{AreShort, label_of}
+use Rattle.graph_report.specs.Labels.{label_of}
 use Rattle.graph_report.specs.Lists.{lists_below, start_of}
 use Rattle.graph_report.proofs.labels.function_labels.Given as goal
 
@@ -13,5 +13,4 @@ invariant-loop-f l =
     record {
       text : l.text.items ≡ lists_below of l.f;
       starts : l.starts.items ≡ list_of l.f (start_of of);
-      short : AreShort l.f of l.short.items;
     }
